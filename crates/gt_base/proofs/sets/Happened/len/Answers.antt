@@ -1,0 +1,7 @@
+use Rattle.std.proofs.Common.{◌∙◌}
+use Rattle.gt_base.specs.Orders.{prioritised_cmp}
+use Rattle.gt_base.proofs.SetLaws.{members-set_of_rising}
+use Rattle.gt_base.proofs.sets.Happened.len.Goals as goal
+
+pub returns : goal.returns
+returns c = rw (← c.self.view_is, members-set_of_rising prioritised_cmp _ c.self.invariant.0) (c.len.ensures ∙ c.self.inside.events.ok.0)

@@ -1,0 +1,7 @@
+use Rattle.std.proofs.Common.{◌∙◌}
+use Rattle.gt_base.specs.Orders.{signal_cmp}
+use Rattle.gt_base.proofs.SetLaws.{members-set_of_rising}
+use Rattle.gt_base.proofs.sets.Happened.signal_len.Goals as goal
+
+pub returns : goal.returns
+returns c = rw (← c.self.view_is, members-set_of_rising signal_cmp _ c.self.invariant.1) (c.len.ensures ∙ c.self.inside.signals.ok.0)

@@ -1,0 +1,11 @@
+pub mod Bounds
+pub mod Events
+pub mod Happening
+pub mod Held
+pub mod Machines
+pub mod Names
+pub mod Orders
+pub mod Roomy
+pub mod SetWords
+pub mod Sets
+pub mod Stored

@@ -1,0 +1,86 @@
+//! Civil minutes and priorities.
+ghost use Rattle.std.specs.Prelude.{◌≡◌, ◌↔◌, ◌≤◌, ◌<◌, IsNone, IfSome};
+ghost use Rattle.gt_base.specs.Bounds.{last_minute};
+
+use std::marker::Model;
+
+/// A civil minute of the years 2000 to 2099, seen as its number.
+#[derive(Clone, Copy, PartialEq, Eq, PartialOrd, Ord, Hash, Debug)]
+pub struct Instant {
+    minute: u32,
+}
+
+impl Model for Instant {
+    ghost use Rattle.std.specs.Prelude.{ℕ, ◌≤◌};
+    ghost use Rattle.gt_base.specs.Bounds.{last_minute};
+
+    ghost Value = { ℕ };
+
+    ghost view = { λ t. t.minute };
+
+    ghost invariant = { λ t. t.minute ≤ last_minute };
+
+    ghost inverse = { λ t. record { minute = t } };
+}
+
+impl Instant {
+    /// The minute of this number, counted from 2000-01-01T00:00; none exactly past 2099-12-31T23:59.
+    pub fn new(m: u32) -> Option<Instant>
+        ensures none { IsNone result ↔ (last_minute < m) }
+        ensures some { IfSome result (λ t. t ≡ m) }
+    {
+        if m <= 52_595_999 {
+            Some(Instant { minute: m })
+        } else {
+            None
+        }
+    }
+
+    /// Its number, from 0 at 2000-01-01T00:00 to 52,595,999.
+    pub fn minute(self) -> u32
+        ensures value { result ≡ self }
+        ensures bound { result ≤ last_minute }
+    {
+        self.minute
+    }
+}
+
+/// A priority, 0 to 100, seen as its number.
+#[derive(Clone, Copy, PartialEq, Eq, PartialOrd, Ord, Hash, Debug)]
+pub struct Prio {
+    level: u8,
+}
+
+impl Model for Prio {
+    ghost use Rattle.std.specs.Prelude.{ℕ, ◌≤◌};
+
+    ghost Value = { ℕ };
+
+    ghost view = { λ p. p.level };
+
+    ghost invariant = { λ p. p.level ≤ 100 };
+
+    ghost inverse = { λ p. record { level = p } };
+}
+
+impl Prio {
+    /// The priority of this number; none exactly above 100.
+    pub fn new(p: u8) -> Option<Prio>
+        ensures none { IsNone result ↔ (100 < p) }
+        ensures some { IfSome result (λ q. q ≡ p) }
+    {
+        if p <= 100 {
+            Some(Prio { level: p })
+        } else {
+            None
+        }
+    }
+
+    /// Its number, 0 to 100.
+    pub fn get(self) -> u8
+        ensures value { result ≡ self }
+        ensures bound { result ≤ 100 }
+    {
+        self.level
+    }
+}

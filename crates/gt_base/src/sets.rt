@@ -1,0 +1,282 @@
+//! Sets of events, signals and fluents, kept as rising rows whose room is taken ahead.
+ghost use Rattle.std.specs.Prelude.{◌≡◌, ◌≤◌, ◌+◌, ◌<◌, if◌then◌else◌, length, slice_get, Some, OnOk, IfOk};
+ghost use Rattle.gt_base.specs.Sets.{has, members, none, with_member, without};
+ghost use Rattle.gt_base.specs.Happening.{nothing};
+
+use crate::events::{Event, Fluent, Prioritised, Signal};
+use crate::lists::Memory;
+use crate::rows::{is_in, put, take_out};
+use std::alloc::Global;
+use std::marker::Model;
+
+/// A set of events, seen as the set and the number of further events that it has room for.
+#[derive(Drop)]
+pub struct EventSet {
+    events: Vec<Event>,
+}
+
+impl Model for EventSet {
+    ghost use Rattle.std.specs.Prelude.{◌-◌, vec_capacity, vec_len};
+    ghost use Rattle.gt_base.specs.Orders.{event_cmp};
+    ghost use Rattle.gt_base.specs.Sets.{set_of_rising, Rises};
+    ghost use Rattle.gt_base.specs.Happening.{Events, Roomier, events_code, roomier_code};
+
+    ghost Value = { Roomier Events };
+
+    ghost coded = { roomier_code events_code };
+
+    ghost view = { λ s. record { set = set_of_rising s.events.items; spare = vec_capacity s.events - vec_len s.events } };
+
+    ghost invariant = { λ s. Rises event_cmp s.events.items };
+}
+
+impl EventSet {
+    /// The empty set, which takes no memory yet.
+    #[tactic(auto, using(crate::proofs::Rising::set_of_nothing))]
+    pub fn new(alloc: Global) -> EventSet
+        ensures { result.set ≡ none }
+    {
+        EventSet {
+            events: Vec::new(alloc),
+        }
+    }
+
+    /// Makes room for n more events. After a refusal the set is as it was.
+    pub fn reserve(&mut self, n: usize) -> Result<(), Memory>
+        ensures set { self.new.set ≡ self.old.set }
+        ensures spare { self.old.spare ≤ self.new.spare }
+        ensures room { OnOk result (n ≤ self.new.spare) }
+    {
+        self.events.reserve(n)
+    }
+
+    /// An equal set.
+    pub fn copied(&self) -> Result<EventSet, Memory>
+        ensures { IfOk result (λ copy. copy.set ≡ self.now.set) }
+    {
+        Ok(EventSet {
+            events: Vec::from_slice(*self.events.allocator(), &self.events)?,
+        })
+    }
+
+    /// How many events it has.
+    pub fn len(&self) -> usize
+        ensures { result ≡ length (members self.now.set) }
+    {
+        self.events.len()
+    }
+
+    /// The event at a place; each event stands at just one, in ascending order.
+    pub fn at(&self, i: usize) -> Event
+        requires { i < length (members self.now.set) }
+        ensures { slice_get (members self.now.set) i ≡ Some result }
+    {
+        self.events[i]
+    }
+
+    /// Whether it has the event.
+    pub fn has(&self, e: Event) -> bool
+        ensures { result ≡ has self.now.set e }
+    {
+        is_in(&self.events, &e)
+    }
+
+    /// Adds the event, into room that was made before.
+    pub fn add(&mut self, e: Event)
+        requires { 1 ≤ self.old.spare }
+        ensures set { self.new.set ≡ with_member self.old.set e }
+        ensures spare { self.old.spare ≤ self.new.spare + 1 }
+    {
+        put(&mut self.events, e);
+    }
+}
+
+/// What happens at an instant: a set of prioritised events and a set of signals, seen with the number of further
+/// events, and as well of signals, that it has room for.
+#[derive(Drop)]
+pub struct Happened {
+    events: Vec<Prioritised>,
+    signals: Vec<Signal>,
+}
+
+impl Model for Happened {
+    ghost use Rattle.std.specs.Prelude.{◌-◌, min, vec_capacity, vec_len};
+    ghost use Rattle.gt_base.specs.Orders.{prioritised_cmp, signal_cmp};
+    ghost use Rattle.gt_base.specs.Sets.{set_of_rising, Rises};
+    ghost use Rattle.gt_base.specs.Happening.{Happening, Roomier, happening_code, roomier_code};
+
+    ghost Value = { Roomier Happening };
+
+    ghost coded = { roomier_code happening_code };
+
+    ghost view = { λ h. record { set = record { events = set_of_rising h.events.items; signals = set_of_rising h.signals.items }; spare = min (vec_capacity h.events - vec_len h.events) (vec_capacity h.signals - vec_len h.signals) } };
+
+    ghost invariant = { λ h. Rises prioritised_cmp h.events.items × Rises signal_cmp h.signals.items };
+}
+
+impl Happened {
+    /// The empty sets, which take no memory yet.
+    #[tactic(auto, using(crate::proofs::Rising::set_of_nothing))]
+    pub fn new(alloc: Global) -> Happened
+        ensures { result.set ≡ nothing }
+    {
+        Happened {
+            events: Vec::new(alloc),
+            signals: Vec::new(alloc),
+        }
+    }
+
+    /// Makes room for n more events and n more signals. After a refusal the sets are as they were.
+    pub fn reserve(&mut self, n: usize) -> Result<(), Memory>
+        ensures set { self.new.set ≡ self.old.set }
+        ensures spare { self.old.spare ≤ self.new.spare }
+        ensures room { OnOk result (n ≤ self.new.spare) }
+    {
+        self.events.reserve(n)?;
+        self.signals.reserve(n)
+    }
+
+    /// Equal sets.
+    pub fn copied(&self) -> Result<Happened, Memory>
+        ensures { IfOk result (λ copy. copy.set ≡ self.now.set) }
+    {
+        let events = Vec::from_slice(*self.events.allocator(), &self.events)?;
+        let signals = Vec::from_slice(*self.signals.allocator(), &self.signals)?;
+        Ok(Happened { events, signals })
+    }
+
+    /// How many events it has, one event at two priorities counted twice.
+    pub fn len(&self) -> usize
+        ensures { result ≡ length (members self.now.set.events) }
+    {
+        self.events.len()
+    }
+
+    /// How many signals it has.
+    pub fn signal_len(&self) -> usize
+        ensures { result ≡ length (members self.now.set.signals) }
+    {
+        self.signals.len()
+    }
+
+    /// The event at a place; each stands at just one, in ascending order.
+    pub fn at(&self, i: usize) -> Prioritised
+        requires { i < length (members self.now.set.events) }
+        ensures { slice_get (members self.now.set.events) i ≡ Some result }
+    {
+        self.events[i]
+    }
+
+    /// The signal at a place; each stands at just one, in ascending order.
+    pub fn signal_at(&self, i: usize) -> Signal
+        requires { i < length (members self.now.set.signals) }
+        ensures { slice_get (members self.now.set.signals) i ≡ Some result }
+    {
+        self.signals[i]
+    }
+
+    /// Whether it has the event at this priority.
+    pub fn has(&self, p: Prioritised) -> bool
+        ensures { result ≡ has self.now.set.events p }
+    {
+        is_in(&self.events, &p)
+    }
+
+    /// Whether it has the signal.
+    pub fn signalled(&self, s: Signal) -> bool
+        ensures { result ≡ has self.now.set.signals s }
+    {
+        is_in(&self.signals, &s)
+    }
+
+    /// Adds an event, into room that was made before.
+    pub fn add(&mut self, p: Prioritised)
+        requires { 1 ≤ self.old.spare }
+        ensures events { self.new.set.events ≡ with_member self.old.set.events p }
+        ensures signals { self.new.set.signals ≡ self.old.set.signals }
+        ensures spare { self.old.spare ≤ self.new.spare + 1 }
+    {
+        put(&mut self.events, p);
+    }
+
+    /// Adds a signal, into room that was made before.
+    pub fn add_signal(&mut self, s: Signal)
+        requires { 1 ≤ self.old.spare }
+        ensures events { self.new.set.events ≡ self.old.set.events }
+        ensures signals { self.new.set.signals ≡ with_member self.old.set.signals s }
+        ensures spare { self.old.spare ≤ self.new.spare + 1 }
+    {
+        put(&mut self.signals, s);
+    }
+}
+
+/// Which fluents are on, seen as their set and the number of further fluents that it has room for.
+#[derive(Drop)]
+pub struct Status {
+    fluents: Vec<Fluent>,
+}
+
+impl Model for Status {
+    ghost use Rattle.std.specs.Prelude.{◌-◌, vec_capacity, vec_len};
+    ghost use Rattle.gt_base.specs.Orders.{fluent_cmp};
+    ghost use Rattle.gt_base.specs.Sets.{set_of_rising, Rises};
+    ghost use Rattle.gt_base.specs.Happening.{Fluents, Roomier, fluents_code, roomier_code};
+
+    ghost Value = { Roomier Fluents };
+
+    ghost coded = { roomier_code fluents_code };
+
+    ghost view = { λ s. record { set = set_of_rising s.fluents.items; spare = vec_capacity s.fluents - vec_len s.fluents } };
+
+    ghost invariant = { λ s. Rises fluent_cmp s.fluents.items };
+}
+
+impl Status {
+    /// The status in which all is off, which takes no memory yet.
+    #[tactic(auto, using(crate::proofs::Rising::set_of_nothing))]
+    pub fn new(alloc: Global) -> Status
+        ensures { result.set ≡ none }
+    {
+        Status {
+            fluents: Vec::new(alloc),
+        }
+    }
+
+    /// Makes room for n more fluents. After a refusal the status is as it was.
+    pub fn reserve(&mut self, n: usize) -> Result<(), Memory>
+        ensures set { self.new.set ≡ self.old.set }
+        ensures spare { self.old.spare ≤ self.new.spare }
+        ensures room { OnOk result (n ≤ self.new.spare) }
+    {
+        self.fluents.reserve(n)
+    }
+
+    /// An equal status.
+    pub fn copied(&self) -> Result<Status, Memory>
+        ensures { IfOk result (λ copy. copy.set ≡ self.now.set) }
+    {
+        Ok(Status {
+            fluents: Vec::from_slice(*self.fluents.allocator(), &self.fluents)?,
+        })
+    }
+
+    /// Whether the fluent is on.
+    pub fn is_on(&self, f: Fluent) -> bool
+        ensures { result ≡ has self.now.set f }
+    {
+        is_in(&self.fluents, &f)
+    }
+
+    /// Sets the fluent on or off, into room that was made before.
+    pub fn set(&mut self, f: Fluent, on: bool)
+        requires { 1 ≤ self.old.spare }
+        ensures set { self.new.set ≡ (if on then with_member self.old.set f else without self.old.set f) }
+        ensures spare { self.old.spare ≤ self.new.spare + 1 }
+    {
+        if on {
+            put(&mut self.fluents, f);
+        } else {
+            take_out(&mut self.fluents, f);
+        }
+    }
+}

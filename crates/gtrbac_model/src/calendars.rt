@@ -1,0 +1,13 @@
+//! The calendars.
+
+/// A calendar, from the coarsest to the finest. Years hold months, months and weeks hold days, days hold hours, hours hold
+/// minutes; weeks stand beside years and months.
+#[derive(Clone, Copy, PartialEq, Eq, Debug)]
+pub enum Calendar {
+    Years,
+    Months,
+    Weeks,
+    Days,
+    Hours,
+    Minutes,
+}

@@ -1,0 +1,12 @@
+//! What the server's words mean: periods, conflict, settled instants, execution models, sessions and legal histories.
+#![tactic(auto)]
+
+mod calendars;
+mod examples;
+mod laws;
+
+pub use calendars::Calendar;
+pub use examples::{chain_settles, quarrel_has_cycle};
+pub use laws::{
+    levels_are_safe, levels_give_one_model, levels_give_only_model, levels_settle_once,
+};
