@@ -1,0 +1,15 @@
+use Rattle.std.proofs.Common.{◌≤◌, ◌+◌, ◌-◌, vec_len}
+use Rattle.std.specs.Io.KnownBytes.{Consumes}
+use Rattle.gt_io.proofs.source.read_all.Given as goal
+
+abbrev pub invariant-loop-bytes : goal.invariant-loop-bytes
+invariant-loop-bytes g l =
+    let source = g.S.Source in
+    record {
+      taken : Consumes (source.left l.fn.source) (source.left l.source) l.bytes.items;
+      within : vec_len l.bytes ≤ l.limit;
+      later : source.faults l.fn.source ≤ source.faults l.source;
+    }
+
+abbrev pub decreases-loop-bytes : goal.decreases-loop-bytes
+decreases-loop-bytes g l = l.limit + 1 - vec_len l.bytes

@@ -1,0 +1,18 @@
+use Rattle.std.proofs.Common.{arith, ◌+◌}
+use Rattle.std.proofs.lemmas.Grind.{common_steps}
+use Rattle.std.proofs.lemmas.List.{drop-drop}
+use Rattle.std.proofs.Math.Seq.{take-add}
+use Rattle.std.proofs.KnownBytes.{Appends-trans}
+use Rattle.gt_io.proofs.source.write_all.Goals as goal
+
+pub loop-rest-preserved : goal.loop-rest-preserved
+loop-rest-preserved g c =
+    let inv = c.loop-rest.invariant in
+    let sink = g.K.Sink in
+    record {
+      n = inv.n + c.in_ok-n.n;
+      left = grind (arith, common_steps, drop-drop, inv.left);
+      within = grind (arith, common_steps, inv.left);
+      written = rw (take-add inv.n c.in_ok-n.n c.args.text.now) (rw (← inv.left) (Appends-trans _ _ _ _ _ inv.written c.in_ok-n.ensures.bytes));
+      later = omega arith;
+    }

@@ -1,0 +1,55 @@
+//! The words of a line.
+ghost use Rattle.std.specs.Prelude.{◌≡◌, List, ℕ, [], ◌∷◌, MatchOption};
+ghost use Rattle.std.specs.Iterator.{YieldsFirstRef, item_count};
+ghost use Rattle.gt_text.specs.Words.{words_of, blank_cut};
+
+use crate::lines::without_return;
+use bstr::ByteSlice;
+use std::marker::Model;
+
+/// The words of a line that are left: what stands between spaces and tabs.
+#[derive(Drop)]
+pub struct Words<'a> {
+    rest: &'a [u8],
+}
+
+impl<'a> Model for Words<'a> {
+    ghost Value = { List (List ℕ) };
+
+    ghost view = { λ s. blank_cut s.rest.now };
+}
+
+impl<'a> Words<'a> {
+    /// The words of a line, without a carriage return at its end.
+    pub fn new(line: &'a [u8]) -> Words<'a>
+        ensures { result ≡ words_of line.now }
+    {
+        Words {
+            rest: without_return(line),
+        }
+    }
+}
+
+impl<'a> Iterator for Words<'a> {
+    type Item = &'a [u8];
+
+    ghost next_gives = { YieldsFirstRef (λ rest. rest) };
+
+    ghost remaining = { item_count (λ rest. rest) };
+
+    fn next(&mut self) -> Option<&'a [u8]> {
+        let (word, rest) = first_word(self.rest)?;
+        self.rest = rest;
+        Some(word)
+    }
+}
+
+// The first word and the line after it.
+fn first_word(line: &[u8]) -> Option<(&[u8], &[u8])>
+    ensures { MatchOption result (blank_cut line.now ≡ []) (λ cut. blank_cut line.now ≡ cut.0.now ∷ blank_cut cut.1.now) }
+{
+    let start = line.find_not_byteset(b" \t")?;
+    let (_, text) = line.split_at(start);
+    let end = text.find_byteset(b" \t").unwrap_or(text.len());
+    Some(text.split_at(end))
+}
