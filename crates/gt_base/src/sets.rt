@@ -74,6 +74,13 @@ impl EventSet {
         self.events[i]
     }
 
+    /// The events, ascending.
+    pub fn as_slice(&self) -> &[Event]
+        ensures { result.now ≡ members self.now.set }
+    {
+        &self.events
+    }
+
     /// Whether it has the event.
     pub fn has(&self, e: Event) -> bool
         ensures { result ≡ has self.now.set e }
@@ -173,6 +180,20 @@ impl Happened {
         ensures { slice_get (members self.now.set.signals) i ≡ Some result }
     {
         self.signals[i]
+    }
+
+    /// The events with their priorities, ascending.
+    pub fn events(&self) -> &[Prioritised]
+        ensures { result.now ≡ members self.now.set.events }
+    {
+        &self.events
+    }
+
+    /// The signals, ascending.
+    pub fn signals(&self) -> &[Signal]
+        ensures { result.now ≡ members self.now.set.signals }
+    {
+        &self.signals
     }
 
     /// Whether it has the event at this priority.

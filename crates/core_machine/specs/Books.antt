@@ -1,0 +1,123 @@
+-- Books: a history that is legal, with its trace.
+use Rattle.std.specs.Prelude.{◌≡◌, ℕ, ◌<◌, ◌≤◌, List, [], ◌∷◌, ◌++◌, refl, MatchBool, nat_le, All, ◌⊎◌}
+use Rattle.std.specs.Coded.{Coded, code_by, coded×, coded_ℕ, coded_list}
+use Rattle.std.proofs.Common.{sym, ◌∙◌, subst, ap}
+use Rattle.gt_base.specs.Happening.{Happening}
+use Rattle.gt_base.specs.Machines.{ticked, asked}
+use Rattle.gt_base.specs.declared.requests.Who.{Who}
+use Rattle.gt_base.specs.declared.requests.Entry.{Entry}
+use Rattle.gt_base.specs.declared.requests.Step.{Step}
+use Rattle.gt_base.specs.declared.requests.Step.TheVariants.{Tick, Ask}
+use Rattle.gt_base.specs.declared.requests.Actor.{Actor}
+use Rattle.gt_base.specs.declared.requests.Actor.TheVariants.{Operator}
+use Rattle.gt_base.specs.declared.requests.Request.{Request}
+use Rattle.gt_base.specs.declared.requests.Request.TheVariants.{Status, Raise}
+use Rattle.gt_base.specs.declared.requests.Reply.{Reply}
+use Rattle.gt_base.specs.declared.events.Fluent.{Fluent}
+use Rattle.gt_base.specs.declared.events.Fluent.TheVariants.{Enabled}
+use Rattle.gt_base.specs.contracts.requests.Entry as entry
+use Rattle.gtrbac_model.specs.Policy.{Policy, policy_code}
+use Rattle.gtrbac_model.specs.Reply.{reply_of}
+use Rattle.gtrbac_model.specs.History.{Legal, IsNextStop, stirs, now_of, point_after, IsNamedWish, tick, ask}
+use Rattle.core_machine.specs.Trace.{ClosedSet, closed_set_code, model_of}
+
+-- what a clause sees of a book
+pub record BookView : Type 0 where
+  pub policy : Policy
+  pub birth : ℕ
+  pub entries : List Entry
+  pub trace : List ClosedSet
+
+abbrev pub book_code : Coded BookView
+book_code =
+    code_by (Policy × (ℕ × (List Entry × List ClosedSet))) (coded× policy_code (coded× coded_ℕ (coded× (coded_list entry.the_row.coded) (coded_list closed_set_code))))
+    (λ b. (b.policy, (b.birth, (b.entries, b.trace)))) (λ (p, (t, (h, m))). record { policy = p; birth = t; entries = h; trace = m }) (λ _. refl)
+
+abbrev pub now_in : BookView → ℕ
+now_in b = now_of b.birth b.entries
+
+-- the book's history is legal, with its trace as the execution model
+abbrev pub IsLegalBook : BookView → Type 0
+IsLegalBook b = Legal b.policy b.birth b.entries (model_of b.trace)
+
+-- the numbers of an entry are numbers of the policy, and within the limits
+abbrev pub IsNamedStep : Policy → Step → Type 0
+IsNamedStep p (Tick upto to) = IsNamedWish p (tick upto)
+IsNamedStep p (Ask actor request reply) = IsNamedWish p (ask actor request)
+
+abbrev pub AreNamed : Policy → List Entry → Type 0
+AreNamed p h = All (λ e. IsNamedStep p e.what) h
+
+-- an entry more; policy and birth stay
+pub record Gains (old new : BookView) (e : Entry) : Type 0 where
+  pub policy : new.policy ≡ old.policy
+  pub birth : new.birth ≡ old.birth
+  pub entries : new.entries ≡ old.entries ++ e ∷ []
+
+-- the trace goes on, and the tick went to the next instant that stirs, or to its bound
+pub record GoesOn (old new : BookView) (who : Who) (upto to : ℕ) : Type 0 where
+  pub gains : Gains old new (ticked who upto to)
+  pub further : List ClosedSet
+  pub trace : new.trace ≡ old.trace ++ further
+  pub stop : IsNextStop (stirs old.policy old.birth (model_of new.trace) old.entries) (now_in old) upto to
+  pub now : now_in new ≡ to
+
+-- a tick with a bound after now stands in the history with where it stopped; any other changes nothing
+abbrev pub Ticks : BookView → Who → ℕ → ℕ → BookView → Type 0
+Ticks old who upto to new = (upto ≤ now_in old) × (to ≡ now_in old) × (new ≡ old) ⊎ (now_in old < upto) × GoesOn old new who upto to
+
+-- the request stands in the history with its reply, which is the definition's, and no set changes
+pub record Asks (old : BookView) (who : Who) (actor : Actor) (request : Request) (reply : Reply) (new : BookView) : Type 0 where
+  pub gains : Gains old new (asked who actor request reply)
+  pub trace : new.trace ≡ old.trace
+  pub reply_is : reply ≡ reply_of old.policy (point_after old.policy old.birth (model_of old.trace) old.entries) actor request
+
+-- of the same policy and birth
+abbrev pub SameRoot : BookView → BookView → Type 0
+SameRoot a b = (a.policy ≡ b.policy) × (a.birth ≡ b.birth)
+
+pub SameRoot-refl : (a : BookView) → SameRoot a a
+SameRoot-refl a = (refl, refl)
+
+pub SameRoot-sym : (a b : BookView) → SameRoot a b → SameRoot b a
+SameRoot-sym a b h = (sym h.0, sym h.1)
+
+pub SameRoot-trans : (a b c : BookView) → SameRoot a b → SameRoot b c → SameRoot a c
+SameRoot-trans a b c h k = (h.0 ∙ k.0, h.1 ∙ k.1)
+
+abbrev pub now_after : BookView → List Entry → ℕ
+now_after b h = now_of b.birth h
+
+-- some model makes the history legal for the book's policy and birth
+pub record IsLegalFor (b : BookView) (h : List Entry) : Type 0 where
+  pub model : ℕ → Happening
+  pub legal : Legal b.policy b.birth h model
+
+pub IsLegalFor-by_root : (a b : BookView) (h : List Entry) → SameRoot a b → IsLegalFor a h → IsLegalFor b h
+IsLegalFor-by_root a b h s l =
+    record { model = l.model; legal = subst (λ p. Legal p b.birth h l.model) s.0 (subst (λ t. Legal a.policy t h l.model) s.1 l.legal) }
+
+-- what is played so far: of the operator, the status of a role, or an event on a role without a delay
+
+abbrev pub IsOfRole : Fluent → Type 0
+IsOfRole (Enabled r) = Unit {0}
+IsOfRole _ = ⊥
+
+abbrev pub IsEarlyRequest : Request → Type 0
+IsEarlyRequest (Status c) = IsOfRole c.fluent
+IsEarlyRequest (Raise head delay) = IsOfRole head.event.fluent × (delay ≡ 0)
+IsEarlyRequest _ = ⊥
+
+pub record IsEarly (p : Policy) (actor : Actor) (request : Request) : Type 0 where
+  pub operator : actor ≡ Operator
+  pub request : IsEarlyRequest request
+  pub named : IsNamedWish p (ask actor request)
+
+abbrev pub IsEarlyFor : BookView → Actor → Request → Type 0
+IsEarlyFor b actor request = IsEarly b.policy actor request
+
+pub IsEarlyFor-by_root : (a b : BookView) (actor : Actor) (request : Request) → SameRoot a b → IsEarlyFor a actor request → IsEarlyFor b actor request
+IsEarlyFor-by_root a b actor request s h = subst (λ p. IsEarly p actor request) s.0 h
+
+pub now_after-by_root : (a b : BookView) (h : List Entry) → SameRoot a b → now_after a h ≡ now_after b h
+now_after-by_root a b h s = ap (λ t. now_of t h) s.1

@@ -1,0 +1,4 @@
+pub mod Books
+pub mod Kept
+pub mod Plain
+pub mod Trace

@@ -1,0 +1,71 @@
+//! Blocked events, winners and the status after a set.
+ghost use Rattle.std.specs.Prelude.{◌≡◌, ◌≤◌, ◌+◌, ◌&&◌, ◌||◌, not, true, false, cond, length, IfOk};
+ghost use Rattle.gt_base.specs.declared.events.Event.{Event};
+ghost use Rattle.gt_base.specs.declared.events.Fluent.{Fluent};
+ghost use Rattle.gt_base.specs.Events.{converse};
+ghost use Rattle.gt_base.specs.Sets.{has, members};
+ghost use Rattle.gtrbac_model.specs.Conflict.{beats as beats_at, blocked as is_blocked, won};
+ghost use Rattle.gtrbac_model.specs.Same.{same_event};
+ghost use Rattle.priority_conflict.specs.Winning.{on_event, off_event, IsApart};
+
+use gt_base::{Event, EventSet, Happened, Memory, Prioritised, Status};
+use std::alloc::Global;
+
+/// Whether the converse at priority q blocks an event that sets its fluent on or off at priority p.
+fn beats(on: bool, q: u8, p: u8) -> bool
+    ensures { result ≡ beats_at on q p }
+{
+    if on { p <= q } else { p < q }
+}
+
+/// Whether `o` blocks `p`, whose converse is given.
+fn blocks(o: Prioritised, converse: Event, p: Prioritised) -> bool
+    ensures { result ≡ (same_event o.event converse && beats_at p.event.on o.prio p.prio) }
+{
+    o.event.cmp(&converse).is_eq() && beats(p.event.on, o.prio.get(), p.prio.get())
+}
+
+/// Whether the event, at its priority, is blocked in the set: an on event by its converse at its own priority or a higher
+/// one, an off event by its converse at a higher one. It takes no memory.
+pub fn blocked(x: &Happened, p: Prioritised) -> bool
+    ensures { result ≡ is_blocked x.now.set p }
+{
+    let converse = p.event.converse();
+    x.events().iter().any(|o| blocks(*o, converse, p))
+}
+
+/// The events that stand in the set at some priority at which they are not blocked.
+pub fn winners(alloc: Global, x: &Happened) -> Result<EventSet, Memory>
+    ensures { IfOk result (λ w. (e : Event) → has w.set e ≡ won x.now.set e) }
+{
+    let mut won = EventSet::new(alloc);
+    won.reserve(x.len())?;
+    for p in x.events() {
+        note(&mut won, x, *p);
+    }
+    Ok(won)
+}
+
+/// Adds the event if it is not blocked in the set.
+fn note(won: &mut EventSet, x: &Happened, p: Prioritised)
+    requires { 1 ≤ won.old.spare }
+    ensures won { (e : Event) → has won.new.set e ≡ (has won.old.set e || (same_event p.event e && not (is_blocked x.now.set p))) }
+    ensures spare { won.old.spare ≤ won.new.spare + 1 }
+{
+    let event = p.event;
+    if !blocked(x, p) {
+        won.add(event);
+    }
+}
+
+/// Sets each fluent as its winner says; the others stay. It takes no memory.
+pub fn next_status(s: &mut Status, won: &EventSet)
+    requires room { length (members won.now.set) ≤ s.old.spare }
+    requires apart { IsApart won.now.set }
+    ensures status { (f : Fluent) → has s.new.set f ≡ cond (has won.now.set (on_event f)) true (cond (has won.now.set (off_event f)) false (has s.old.set f)) }
+    ensures spare { s.old.spare ≤ s.new.spare + length (members won.now.set) }
+{
+    for e in won.as_slice() {
+        s.set(e.fluent, e.on);
+    }
+}
