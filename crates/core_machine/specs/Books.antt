@@ -1,5 +1,5 @@
 -- Books: a history that is legal, with its trace.
-use Rattle.std.specs.Prelude.{◌≡◌, ℕ, ◌<◌, ◌≤◌, List, [], ◌∷◌, ◌++◌, refl, MatchBool, nat_le, All, ◌⊎◌}
+use Rattle.std.specs.Prelude.{◌≡◌, ℕ, ◌<◌, ◌≤◌, List, [], ◌∷◌, ◌++◌, refl, ◌⊎◌}
 use Rattle.std.specs.Coded.{Coded, code_by, coded×, coded_ℕ, coded_list}
 use Rattle.std.proofs.Common.{sym, ◌∙◌, subst, ap}
 use Rattle.gt_base.specs.Happening.{Happening}
@@ -46,7 +46,8 @@ IsNamedStep p (Tick upto to) = IsNamedWish p (tick upto)
 IsNamedStep p (Ask actor request reply) = IsNamedWish p (ask actor request)
 
 abbrev pub AreNamed : Policy → List Entry → Type 0
-AreNamed p h = All (λ e. IsNamedStep p e.what) h
+AreNamed p [] = Unit {0}
+AreNamed p (e ∷ h) = IsNamedStep p e.what × AreNamed p h
 
 -- an entry more; policy and birth stay
 pub record Gains (old new : BookView) (e : Entry) : Type 0 where
@@ -109,8 +110,8 @@ IsEarlyRequest (Raise head delay) = IsOfRole head.event.fluent × (delay ≡ 0)
 IsEarlyRequest _ = ⊥
 
 pub record IsEarly (p : Policy) (actor : Actor) (request : Request) : Type 0 where
-  pub operator : actor ≡ Operator
-  pub request : IsEarlyRequest request
+  pub by_operator : actor ≡ Operator
+  pub on_role : IsEarlyRequest request
   pub named : IsNamedWish p (ask actor request)
 
 abbrev pub IsEarlyFor : BookView → Actor → Request → Type 0

@@ -1,4 +1,5 @@
 pub mod Books
 pub mod Kept
 pub mod Plain
+pub mod Policies
 pub mod Trace

@@ -1,19 +1,12 @@
 -- What a step of a machine owes so that its history stays legal: a tick over settled minutes to the next stop, and an answered request.
-use Rattle.std.proofs.Common.{◌≡◌, ℕ, ◌-◌, ◌<◌, ◌≤◌, true, false, nat_le, List, [], ◌∷◌, ◌++◌, refl, sym, ap, subst, arith}
+use Rattle.std.proofs.Common.{ℕ, ◌-◌, ◌<◌, ◌≤◌, nat_le, [], ◌∷◌, refl, sym, subst, arith}
 use Rattle.std.proofs.lemmas.Bool.{leb-true, leb-false}
-use Rattle.gt_base.specs.Happening.{Happening}
-use Rattle.gt_base.specs.Machines.{ticked, asked}
-use Rattle.gt_base.specs.declared.requests.Who.{Who}
-use Rattle.gt_base.specs.declared.requests.Actor.{Actor}
-use Rattle.gt_base.specs.declared.requests.Request.{Request}
-use Rattle.gt_base.specs.declared.requests.Entry.{Entry}
-use Rattle.gtrbac_model.specs.Policy.{Policy}
+use Rattle.gt_base.specs.Machines.{ticked}
 use Rattle.gtrbac_model.specs.Instant.{Settled}
-use Rattle.gtrbac_model.specs.Status.{Model}
 use Rattle.gtrbac_model.specs.Sessions.{empty_table}
 use Rattle.gtrbac_model.specs.Base.{status, base_at}
 use Rattle.gtrbac_model.specs.Reply.{reply_of}
-use Rattle.gtrbac_model.specs.History.{Legal, IsNextStop, stirs, now_of, point_after}
+use Rattle.gtrbac_model.specs.History.{now_of, point_after}
 use Rattle.gtrbac_model.specs.Steps.{TickKeeps, AskKeeps}
 use Rattle.gtrbac_model.specs.Theorems.{SameUpTo}
 use Rattle.gtrbac_model.proofs.Elements.{split}

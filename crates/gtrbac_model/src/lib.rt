@@ -9,5 +9,5 @@ pub use calendars::Calendar;
 pub use examples::{chain_settles, quarrel_has_cycle};
 pub use laws::{
     levels_are_safe, levels_give_one_model, levels_give_only_model, levels_settle_once,
-    steps_keep_legal,
+    never_both_ways, steps_keep_legal,
 };

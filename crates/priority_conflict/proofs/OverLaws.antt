@@ -1,5 +1,5 @@
 -- Winners one by one, and what they make of a status.
-use Rattle.std.proofs.Common.{◌≡◌, ℕ, zero, ◌+◌, ◌<◌, ◌≤◌, suc, Bool, true, false, cond, not, ◌&&◌, ◌||◌, List, [], ◌∷◌, ◌++◌, length, take, get_or, refl, sym, ◌∙◌, ap, subst, arith, if◌then◌else◌}
+use Rattle.std.proofs.Common.{◌≡◌, ℕ, zero, ◌+◌, ◌<◌, ◌≤◌, suc, Bool, true, false, cond, not, ◌&&◌, ◌||◌, List, [], ◌∷◌, ◌++◌, length, take, get_or, refl, sym, ◌∙◌, ap, subst, if◌then◌else◌}
 use Rattle.std.specs.List.{list_any}
 use Rattle.std.proofs.lemmas.List.Folds.{list_any-append, list_any_at}
 use Rattle.std.proofs.lemmas.List.{take_all, take_more}
@@ -11,10 +11,9 @@ use Rattle.gt_base.specs.Orders.{event_cmp, fluent_cmp}
 use Rattle.gt_base.specs.Events.{converse}
 use Rattle.gt_base.specs.Happening.{Events, Fluents}
 use Rattle.gt_base.specs.Sets.{has, members, with_member, without}
-use Rattle.gt_base.proofs.SetLaws.{has-with_member, has-members, has-those}
+use Rattle.gt_base.proofs.SetLaws.{has-with_member, has-members}
 use Rattle.gt_base.proofs.SetSteps.{event_cmp_total, fluent_cmp_total}
 use Rattle.gt_base.proofs.OrderLaws.{fluent_cmp-IsAntisymmetric}
-use Rattle.gt_base.specs.SetWords.{AreSets}
 use Rattle.gt_base.proofs.SetsAreSets.{fluents_are_sets}
 use Rattle.gtrbac_model.specs.Same.{same_event}
 use Rattle.priority_conflict.specs.Winning.{on_event, off_event, IsApart}

@@ -1,4 +1,4 @@
-use Rattle.std.proofs.Common.{◌≡◌, arith, ◌∙◌}
+use Rattle.std.proofs.Common.{arith, ◌∙◌}
 use Rattle.priority_conflict.proofs.OverLaws.{over_step, over_all}
 use Rattle.priority_conflict.proofs.conflicts.next_status.Goals as goal
 

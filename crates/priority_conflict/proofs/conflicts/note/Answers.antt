@@ -1,4 +1,4 @@
-use Rattle.std.proofs.Common.{◌≡◌, ◌||◌, ◌&&◌, not, ap, sym, ◌∙◌}
+use Rattle.std.proofs.Common.{◌||◌, ◌&&◌, not, ap, sym, ◌∙◌}
 use Rattle.gt_base.specs.Sets.{has}
 use Rattle.gtrbac_model.specs.Same.{same_event}
 use Rattle.priority_conflict.proofs.OverLaws.{added, kept}

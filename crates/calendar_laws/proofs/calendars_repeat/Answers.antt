@@ -1,0 +1,7 @@
+use Rattle.std.proofs.Common.{refl}
+use Rattle.calendar_laws.proofs.Years.{year_cycle}
+use Rattle.calendar_laws.proofs.Months.{month_cycle}
+use Rattle.calendar_laws.proofs.calendars_repeat.Goals as goal
+
+pub returns : goal.returns
+returns c = record { years = year_cycle; months = month_cycle; weeks = refl }

@@ -1,0 +1,3 @@
+pub mod Minutes
+pub mod Text
+pub mod Laws

@@ -1,0 +1,4 @@
+pub mod Answering
+pub mod KeptSteps
+pub mod PlainBase
+pub mod TraceLaws

@@ -1,0 +1,5 @@
+pub mod Policies
+pub mod Script
+pub mod Told
+pub mod Tool
+pub mod Turns
