@@ -1,3 +1,4 @@
+pub mod Built
 pub mod Policies
 pub mod Script
 pub mod Told

@@ -3,38 +3,37 @@ use Rattle.std.specs.Prelude.{ℕ, ◌+◌, Bool, true, false, ◌&&◌, not, Li
 use Rattle.gt_base.specs.Names.{is_name, place_of}
 use Rattle.gt_base.specs.Happening.{Fluents}
 use Rattle.gt_base.specs.Sets.{none, with_member}
-use Rattle.gt_base.specs.declared.events.Fluent.TheVariants.{Enabled}
+use Rattle.gt_base.specs.declared.events.Fluent.TheVariants as fluents
 use Rattle.gt_text.specs.Lines.{lines_of, is_longer}
 use Rattle.gt_text.specs.Words.{words_of, are_silent}
 use Rattle.name_table.specs.Tables.{lists_name, with_name}
 use Rattle.gtrbac_model.specs.Policy.{Policy}
 use Rattle.core_machine.specs.Plain.{plain_policy}
+use Rattle.gtrbac_tool.specs.declared.policies.Said.{Said}
+use Rattle.gtrbac_tool.specs.declared.policies.Said.TheVariants.{Nothing, Role, Enabled}
 use Rattle.gtrbac_tool.specs.Told.{Told, unbuilt_policy, too_long}
 
--- what a line says: nothing, a role, or that a role is enabled at first
-pub data Saying : Type 0 where
-  nothing : Saying
-  role : List ℕ → Saying
-  enabled : List ℕ → Saying
-
-abbrev pub said_by : List ℕ → List ℕ → Option Saying
+-- a role, or that a role is enabled at first
+abbrev pub said_by : List ℕ → List ℕ → Option Said
 said_by verb name =
     elim (is_name name) [
-      | true ↦ elim (bytes_eq verb (codes "role")) [ true ↦ Some (role name) | false ↦ elim (bytes_eq verb (codes "enabled")) [ true ↦ Some (enabled name) | false ↦ None ] ]
+      | true ↦ elim (bytes_eq verb (codes "role")) [ true ↦ Some (Role name) | false ↦ elim (bytes_eq verb (codes "enabled")) [ true ↦ Some (Enabled name) | false ↦ None ] ]
       | false ↦ None
     ]
 
-abbrev pub said_in : List (List ℕ) → Option Saying
+abbrev pub said_in : List (List ℕ) → Option Said
 said_in (verb ∷ name ∷ []) = said_by verb name
 said_in _ = None
 
--- a line of more than 4,096 bytes says nothing that is played
-abbrev pub saying_of : List ℕ → Option Saying
-saying_of line =
-    elim (is_longer 4096 line) [ true ↦ None | false ↦ elim (are_silent (words_of line)) [ true ↦ Some nothing | false ↦ said_in (words_of line) ] ]
+abbrev pub saying_by : List (List ℕ) → Option Said
+saying_by words = elim (are_silent words) [ true ↦ Some Nothing | false ↦ said_in words ]
 
-abbrev pub declaring : List (List ℕ) → Option Saying → List (List ℕ)
-declaring names (Some (role n)) = with_name names n
+-- a line of more than 4,096 bytes says nothing that is played
+abbrev pub saying_of : List ℕ → Option Said
+saying_of line = elim (is_longer 4096 line) [ true ↦ None | false ↦ saying_by (words_of line) ]
+
+abbrev pub declaring : List (List ℕ) → Option Said → List (List ℕ)
+declaring names (Some (Role n)) = with_name names n
 declaring names _ = names
 
 -- the roles that lines declare, each once, in the order of the lines, after those before
@@ -43,11 +42,11 @@ roles_in names [] = names
 roles_in names (line ∷ lines) = roles_in (declaring names (saying_of line)) lines
 
 -- a role is played once, up to the thousandth; a role that is enabled must be one of all
-abbrev pub is_played : List (List ℕ) → List (List ℕ) → Option Saying → Bool
+abbrev pub is_played : List (List ℕ) → List (List ℕ) → Option Said → Bool
 is_played all before None = false
-is_played all before (Some nothing) = true
-is_played all before (Some (role n)) = not (lists_name before n) && nat_lt (length before) 1000
-is_played all before (Some (enabled n)) = lists_name all n
+is_played all before (Some Nothing) = true
+is_played all before (Some (Role n)) = not (lists_name before n) && nat_lt (length before) 1000
+is_played all before (Some (Enabled n)) = lists_name all n
 
 -- the number of the first line that is not played
 abbrev pub first_unplayed : List (List ℕ) → List (List ℕ) → ℕ → List (List ℕ) → Option ℕ
@@ -56,11 +55,11 @@ first_unplayed all before n (line ∷ lines) =
     elim (is_played all before (saying_of line)) [ true ↦ first_unplayed all (declaring before (saying_of line)) (n + 1) lines | false ↦ Some n ]
 
 abbrev pub enabling : Option ℕ → Fluents → Fluents
-enabling (Some k) on = with_member on (Enabled (record { 0 = k }))
+enabling (Some k) on = with_member on (fluents.Enabled (record { 0 = k }))
 enabling None on = on
 
-abbrev pub opening_by : List (List ℕ) → Fluents → Option Saying → Fluents
-opening_by all on (Some (enabled n)) = enabling (place_of all n) on
+abbrev pub opening_by : List (List ℕ) → Fluents → Option Said → Fluents
+opening_by all on (Some (Enabled n)) = enabling (place_of all n) on
 opening_by all on _ = on
 
 -- what the lines put on at first

@@ -1,7 +1,7 @@
 -- The script lines that are played so far: a minute, the status of a role, and a request for an event on a role.
-use Rattle.std.specs.Prelude.{ℕ, zero, suc, Bool, true, false, ◌&&◌, List, [], ◌∷◌, codes, decimal, bytes_eq, Option, Some, None}
+use Rattle.std.specs.Prelude.{ℕ, zero, suc, Bool, true, false, ◌==◌, List, [], ◌∷◌, codes, decimal, bytes_eq, Option, Some, None}
 use Rattle.std.specs.List.{before_first, after_first}
-use Rattle.gt_base.specs.Names.{place_of}
+use Rattle.gt_base.specs.Names.{is_name, place_of}
 use Rattle.gt_base.specs.declared.events.Event.{Event}
 use Rattle.gt_base.specs.declared.events.Cond.{Cond}
 use Rattle.gt_base.specs.declared.events.Fluent.TheVariants.{Enabled}
@@ -23,7 +23,11 @@ abbrev pub one_of : List ℕ → List ℕ → List ℕ → Option Bool
 one_of first second word = elim (bytes_eq word first) [ true ↦ Some true | false ↦ elim (bytes_eq word second) [ true ↦ Some false | false ↦ None ] ]
 
 abbrev pub is_colon : ℕ → Bool
-is_colon b = bytes_eq (b ∷ []) (codes ":")
+is_colon b = b == 58
+
+-- the number of a role, where the word is a name that is declared
+abbrev pub role_number : List (List ℕ) → List ℕ → Option ℕ
+role_number roles word = elim (is_name word) [ true ↦ place_of roles word | false ↦ None ]
 
 -- a minute
 abbrev pub go_to : Option ℕ → Turn
@@ -41,12 +45,12 @@ ask_event (Some p) (Some on) (Some k) = Put (Raise (record { prio = p; event = r
 ask_event _ _ _ = Stop
 
 abbrev pub status_turn : List (List ℕ) → List ℕ → List ℕ → Turn
-status_turn roles cond role = ask_status (one_of (codes "enabled") (codes "disabled") cond) (place_of roles role)
+status_turn roles cond role = ask_status (one_of (codes "enabled") (codes "disabled") cond) (role_number roles role)
 
 -- `PRIO:enable` or `PRIO:disable`, with a priority up to 100
 abbrev pub request_turn : List (List ℕ) → List ℕ → List ℕ → Turn
 request_turn roles head role =
-    ask_event (number_below 101 (before_first is_colon head)) (one_of (codes "enable") (codes "disable") (after_first is_colon head)) (place_of roles role)
+    ask_event (number_below 101 (before_first is_colon head)) (one_of (codes "enable") (codes "disable") (after_first is_colon head)) (role_number roles role)
 
 abbrev pub two_words : List ℕ → List ℕ → Turn
 two_words verb when = elim (bytes_eq verb (codes "@")) [ true ↦ go_to (civil_in when) | false ↦ Stop ]
@@ -63,7 +67,9 @@ turn_by roles (verb ∷ when ∷ []) = two_words verb when
 turn_by roles (verb ∷ what ∷ role ∷ []) = three_words roles verb what role
 turn_by roles _ = Stop
 
+abbrev pub by_words : List (List ℕ) → List (List ℕ) → Turn
+by_words roles words = elim (are_silent words) [ true ↦ Pass | false ↦ turn_by roles words ]
+
 -- what a line makes a run do; a line of more than 512 bytes is not played
 abbrev pub turn_of : List (List ℕ) → List ℕ → Turn
-turn_of roles line =
-    elim (is_longer 512 line) [ true ↦ Stop | false ↦ elim (are_silent (words_of line)) [ true ↦ Pass | false ↦ turn_by roles (words_of line) ] ]
+turn_of roles line = elim (is_longer 512 line) [ true ↦ Stop | false ↦ by_words roles (words_of line) ]

@@ -50,6 +50,13 @@ impl Table {
         Ok(fresh)
     }
 
+    /// Whether the name is declared. It takes no memory.
+    pub fn has(&self, name: &Name) -> bool
+        ensures { result ≡ lists_name self.now name.now }
+    {
+        self.names.get_index_of(name).is_some()
+    }
+
     /// The number of a name, none exactly where it is not declared. It takes no memory.
     pub fn number(&self, name: &Name) -> Option<usize>
         ensures { result ≡ place_of self.now name.now }

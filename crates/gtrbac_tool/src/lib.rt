@@ -1,0 +1,5 @@
+//! The program `gtrbac`: its commands over a shelf of texts, an input and an output.
+#![tactic(auto)]
+
+mod policies;
+mod turns;

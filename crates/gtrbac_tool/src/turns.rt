@@ -1,0 +1,175 @@
+//! The lines of a script.
+ghost use Rattle.std.specs.Prelude.{◌≡◌, ◌<◌, ◌^◌, length};
+ghost use Rattle.civil_time.specs.Text.{civil_in};
+ghost use Rattle.gt_text.specs.Words.{begins_with};
+ghost use Rattle.gtrbac_tool.specs.Turns.{number_below, role_number, one_of, ask_event, status_turn, request_turn, two_words as two_words_turn, three_words as three_words_turn, by_words as by_words_turn, turn_of};
+
+use bstr::ByteSlice;
+use civil_time::read_civil;
+use gt_base::{Cond, Event, Fluent, Instant, Name, Prio, Prioritised, Request, RoleId};
+use gt_text::{Words, read_up_to};
+use name_table::Table;
+
+/// What a line makes a run do: nothing, go to a minute, ask for something, or stop, since the line is not played.
+#[derive(Clone, Copy)]
+pub(crate) enum Turn {
+    Pass,
+    Go(Instant),
+    Put(Request),
+    Stop,
+}
+
+/// What a line makes a run do.
+pub(crate) fn read_turn(roles: &Table, line: &[u8]) -> Turn
+    requires { length roles.now < 2 ^ 32 }
+    ensures { result ≡ turn_of roles.now line.now }
+{
+    if line.len() > 512 {
+        return Turn::Stop;
+    }
+    by_words(roles, Words::new(line))
+}
+
+/// What the words of a line make a run do.
+fn by_words(roles: &Table, mut words: Words<'_>) -> Turn
+    requires { length roles.now < 2 ^ 32 }
+    ensures { result ≡ by_words_turn roles.now words.entry }
+{
+    let Some(verb) = words.next() else {
+        return Turn::Pass;
+    };
+    if is_comment(verb) {
+        return Turn::Pass;
+    }
+    let Some(second) = words.next() else {
+        return Turn::Stop;
+    };
+    let Some(third) = words.next() else {
+        return two_words(verb, second);
+    };
+    if words.next().is_some() {
+        return Turn::Stop;
+    }
+    three_words(roles, verb, second, third)
+}
+
+/// Whether a word begins a comment.
+pub(crate) fn is_comment(word: &[u8]) -> bool
+    ensures { result ≡ begins_with 35 word.now }
+{
+    match word {
+        [] => false,
+        [first, ..] => *first == b'#',
+    }
+}
+
+fn two_words(verb: &[u8], when: &[u8]) -> Turn
+    ensures { result ≡ two_words_turn verb.now when.now }
+{
+    if verb == b"@".as_slice() {
+        match civil(when) {
+            Some(t) => Turn::Go(t),
+            None => Turn::Stop,
+        }
+    } else {
+        Turn::Stop
+    }
+}
+
+fn three_words(roles: &Table, verb: &[u8], what: &[u8], role: &[u8]) -> Turn
+    requires { length roles.now < 2 ^ 32 }
+    ensures { result ≡ three_words_turn roles.now verb.now what.now role.now }
+{
+    if verb == b"status".as_slice() {
+        status(roles, what, role)
+    } else if verb == b"request".as_slice() {
+        request(roles, what, role)
+    } else {
+        Turn::Stop
+    }
+}
+
+fn status(roles: &Table, cond: &[u8], role: &[u8]) -> Turn
+    requires { length roles.now < 2 ^ 32 }
+    ensures { result ≡ status_turn roles.now cond.now role.now }
+{
+    match (is_first(b"enabled", b"disabled", cond), number(roles, role)) {
+        (Some(on), Some(k)) => Turn::Put(Request::Status(Cond {
+            on,
+            fluent: Fluent::Enabled(RoleId(k)),
+        })),
+        _ => Turn::Stop,
+    }
+}
+
+/// Whether the word is the first of two, none where it is neither.
+fn is_first(first: &[u8], second: &[u8], word: &[u8]) -> Option<bool>
+    ensures { result ≡ one_of first.now second.now word.now }
+{
+    if word == first {
+        Some(true)
+    } else if word == second {
+        Some(false)
+    } else {
+        None
+    }
+}
+
+/// The number of a role, none where no line declares the name.
+pub(crate) fn number(roles: &Table, role: &[u8]) -> Option<u32>
+    requires { length roles.now < 2 ^ 32 }
+    ensures { result ≡ role_number roles.now role.now }
+{
+    let name = Name::new(role)?;
+    match roles.number(&name) {
+        Some(k) => Some(k as u32),
+        None => None,
+    }
+}
+
+/// The minute that the word writes.
+fn civil(word: &[u8]) -> Option<Instant>
+    ensures { result ≡ civil_in word.now }
+{
+    read_civil(word)
+}
+
+/// The priority that the word writes.
+fn priority(word: &[u8]) -> Option<Prio>
+    ensures { result ≡ number_below 101 word.now }
+{
+    let n = read_up_to(word, 100)?;
+    Prio::new(n as u8)
+}
+
+/// `PRIO:enable` or `PRIO:disable` of a role.
+fn request(roles: &Table, head: &[u8], role: &[u8]) -> Turn
+    requires { length roles.now < 2 ^ 32 }
+    ensures { result ≡ request_turn roles.now head.now role.now }
+{
+    let Some(colon) = head.find_byte(b':') else {
+        return Turn::Stop;
+    };
+    let (front, rest) = head.split_at(colon);
+    let (_, verb) = rest.split_at(1);
+    let on = is_first(b"enable", b"disable", verb);
+    event(priority(front), on, number(roles, role))
+}
+
+fn event(prio: Option<Prio>, on: Option<bool>, role: Option<u32>) -> Turn
+    ensures { result ≡ ask_event prio on role }
+{
+    match (prio, on, role) {
+        (Some(prio), Some(on), Some(k)) => Turn::Put(Request::Raise {
+            head: Prioritised {
+                prio,
+                event: Event {
+                    on,
+                    fluent: Fluent::Enabled(RoleId(k)),
+                },
+            },
+            delay: 0,
+        }),
+        _ => Turn::Stop,
+    }
+}
