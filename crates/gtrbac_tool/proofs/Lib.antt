@@ -1,1 +1,3 @@
+pub mod EarlyRequests
 pub mod Reading
+pub mod Steps

@@ -1,4 +1,7 @@
 pub mod Built
+pub mod Early
+pub mod End
+pub mod Going
 pub mod Policies
 pub mod Script
 pub mod Told

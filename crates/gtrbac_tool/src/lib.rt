@@ -1,5 +1,7 @@
 //! The program `gtrbac`: its commands over a shelf of texts, an input and an output.
 #![tactic(auto)]
 
+mod faults;
 mod policies;
+mod script;
 mod turns;

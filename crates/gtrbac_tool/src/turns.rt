@@ -1,5 +1,6 @@
 //! The lines of a script.
-ghost use Rattle.std.specs.Prelude.{◌≡◌, ◌<◌, ◌^◌, length};
+ghost use Rattle.std.specs.Prelude.{◌≡◌, ◌<◌, ◌^◌, ℕ, length, Some, IfSome};
+ghost use Rattle.gtrbac_tool.specs.Early.{IsEarlyTurn};
 ghost use Rattle.civil_time.specs.Text.{civil_in};
 ghost use Rattle.gt_text.specs.Words.{begins_with};
 ghost use Rattle.gtrbac_tool.specs.Turns.{number_below, role_number, one_of, ask_event, status_turn, request_turn, two_words as two_words_turn, three_words as three_words_turn, by_words as by_words_turn, turn_of};
@@ -22,7 +23,8 @@ pub(crate) enum Turn {
 /// What a line makes a run do.
 pub(crate) fn read_turn(roles: &Table, line: &[u8]) -> Turn
     requires { length roles.now < 2 ^ 32 }
-    ensures { result ≡ turn_of roles.now line.now }
+    ensures turn { result ≡ turn_of roles.now line.now }
+    ensures early { IsEarlyTurn (length roles.now) result }
 {
     if line.len() > 512 {
         return Turn::Stop;
@@ -33,7 +35,8 @@ pub(crate) fn read_turn(roles: &Table, line: &[u8]) -> Turn
 /// What the words of a line make a run do.
 fn by_words(roles: &Table, mut words: Words<'_>) -> Turn
     requires { length roles.now < 2 ^ 32 }
-    ensures { result ≡ by_words_turn roles.now words.entry }
+    ensures turn { result ≡ by_words_turn roles.now words.entry }
+    ensures early { IsEarlyTurn (length roles.now) result }
 {
     let Some(verb) = words.next() else {
         return Turn::Pass;
@@ -64,7 +67,8 @@ pub(crate) fn is_comment(word: &[u8]) -> bool
 }
 
 fn two_words(verb: &[u8], when: &[u8]) -> Turn
-    ensures { result ≡ two_words_turn verb.now when.now }
+    ensures turn { result ≡ two_words_turn verb.now when.now }
+    ensures early { (n : ℕ) → IsEarlyTurn n result }
 {
     if verb == b"@".as_slice() {
         match civil(when) {
@@ -78,7 +82,8 @@ fn two_words(verb: &[u8], when: &[u8]) -> Turn
 
 fn three_words(roles: &Table, verb: &[u8], what: &[u8], role: &[u8]) -> Turn
     requires { length roles.now < 2 ^ 32 }
-    ensures { result ≡ three_words_turn roles.now verb.now what.now role.now }
+    ensures turn { result ≡ three_words_turn roles.now verb.now what.now role.now }
+    ensures early { IsEarlyTurn (length roles.now) result }
 {
     if verb == b"status".as_slice() {
         status(roles, what, role)
@@ -91,7 +96,8 @@ fn three_words(roles: &Table, verb: &[u8], what: &[u8], role: &[u8]) -> Turn
 
 fn status(roles: &Table, cond: &[u8], role: &[u8]) -> Turn
     requires { length roles.now < 2 ^ 32 }
-    ensures { result ≡ status_turn roles.now cond.now role.now }
+    ensures turn { result ≡ status_turn roles.now cond.now role.now }
+    ensures early { IsEarlyTurn (length roles.now) result }
 {
     match (is_first(b"enabled", b"disabled", cond), number(roles, role)) {
         (Some(on), Some(k)) => Turn::Put(Request::Status(Cond {
@@ -118,7 +124,8 @@ fn is_first(first: &[u8], second: &[u8], word: &[u8]) -> Option<bool>
 /// The number of a role, none where no line declares the name.
 pub(crate) fn number(roles: &Table, role: &[u8]) -> Option<u32>
     requires { length roles.now < 2 ^ 32 }
-    ensures { result ≡ role_number roles.now role.now }
+    ensures number { result ≡ role_number roles.now role.now }
+    ensures bound { IfSome result (λ k. k < length roles.now) }
 {
     let name = Name::new(role)?;
     match roles.number(&name) {
@@ -145,7 +152,8 @@ fn priority(word: &[u8]) -> Option<Prio>
 /// `PRIO:enable` or `PRIO:disable` of a role.
 fn request(roles: &Table, head: &[u8], role: &[u8]) -> Turn
     requires { length roles.now < 2 ^ 32 }
-    ensures { result ≡ request_turn roles.now head.now role.now }
+    ensures turn { result ≡ request_turn roles.now head.now role.now }
+    ensures early { IsEarlyTurn (length roles.now) result }
 {
     let Some(colon) = head.find_byte(b':') else {
         return Turn::Stop;
@@ -157,19 +165,28 @@ fn request(roles: &Table, head: &[u8], role: &[u8]) -> Turn
 }
 
 fn event(prio: Option<Prio>, on: Option<bool>, role: Option<u32>) -> Turn
-    ensures { result ≡ ask_event prio on role }
+    ensures turn { result ≡ ask_event prio on role }
+    ensures early { (n : ℕ) → IfSome role (λ k. k < n) → IsEarlyTurn n result }
 {
     match (prio, on, role) {
-        (Some(prio), Some(on), Some(k)) => Turn::Put(Request::Raise {
-            head: Prioritised {
-                prio,
-                event: Event {
-                    on,
-                    fluent: Fluent::Enabled(RoleId(k)),
-                },
-            },
-            delay: 0,
-        }),
+        (Some(prio), Some(on), Some(k)) => raise(prio, on, k),
         _ => Turn::Stop,
     }
+}
+
+fn raise(prio: Prio, on: bool, k: u32) -> Turn
+    ensures turn { result ≡ ask_event (Some prio) (Some on) (Some k) }
+    ensures early { (n : ℕ) → k < n → IsEarlyTurn n result }
+{
+    let _level = prio.get();
+    Turn::Put(Request::Raise {
+        head: Prioritised {
+            prio,
+            event: Event {
+                on,
+                fluent: Fluent::Enabled(RoleId(k)),
+            },
+        },
+        delay: 0,
+    })
 }
