@@ -42,3 +42,10 @@ WantsMemory status old new = (status ≡ 8) × Keeps old new
 abbrev pub Answers : List (List ℕ) → Option (List ℕ → Option (List ℕ)) → Option (List ℕ) → Type 0 → ℕ → Option (List ℕ) → Option (List ℕ) → Type 0 → Type 0
 Answers words contents input read_failed status old new write_failed =
     WantsMemory status old new ⊎ ((end : Told) × MayEnd words contents input read_failed end × IsPrinted status end old new write_failed)
+
+-- the statuses of a script that was run, and of a policy or script that was read
+abbrev pub IsRunStatus : ℕ → Type 0
+IsRunStatus s = (s ≡ 0) ⊎ (s ≡ 9) ⊎ (s ≡ 12)
+
+abbrev pub IsReadStatus : ℕ → Type 0
+IsReadStatus s = IsRunStatus s ⊎ (s ≡ 6)

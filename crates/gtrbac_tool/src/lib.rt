@@ -4,4 +4,7 @@
 mod faults;
 mod policies;
 mod script;
+mod top;
 mod turns;
+
+pub use top::tool;

@@ -1,5 +1,5 @@
 //! The lines of a policy.
-ghost use Rattle.std.specs.Prelude.{◌≡◌, ◌<◌, ◌≤◌, ◌^◌, [], length, OnOk, IfOk};
+ghost use Rattle.std.specs.Prelude.{◌≡◌, ◌<◌, ◌≤◌, ◌^◌, ◌+◌, [], length, OnOk, IfOk};
 ghost use Rattle.gt_base.specs.Sets.{none};
 ghost use Rattle.gt_text.specs.Lines.{lines_of};
 ghost use Rattle.gtrbac_tool.specs.Policies.{said_by as said_by_words, saying_by, saying_of, declaring, roles_in, is_played as is_played_line, opening_by};
@@ -60,7 +60,8 @@ fn said_by(verb: &[u8], name: &[u8]) -> Option<Said>
 
 /// Declares the role of a line, if the line is one of a role.
 fn declare(roles: &mut Table, said: &Option<Said>) -> Result<(), Memory>
-    ensures { OnOk result (roles.new ≡ declaring roles.old said.now) }
+    ensures names { OnOk result (roles.new ≡ declaring roles.old said.now) }
+    ensures one { OnOk result (length roles.new ≤ length roles.old + 1) }
 {
     if let Some(Said::Role(name)) = said {
         roles.declare(*name)?;
@@ -70,7 +71,8 @@ fn declare(roles: &mut Table, said: &Option<Said>) -> Result<(), Memory>
 
 /// The roles that the lines of a policy declare.
 pub(crate) fn read_roles(alloc: Global, text: &[u8]) -> Result<Table, Memory>
-    ensures { IfOk result (λ roles. roles ≡ roles_in [] (lines_of text.now)) }
+    ensures roles { IfOk result (λ roles. roles ≡ roles_in [] (lines_of text.now)) }
+    ensures few { IfOk result (λ roles. length roles ≤ length text.now) }
 {
     let mut roles = Table::new(alloc);
     let mut lines = Lines::new(text);

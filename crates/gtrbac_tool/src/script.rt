@@ -6,6 +6,7 @@ ghost use Rattle.gt_text.specs.Lines.{lines_of};
 ghost use Rattle.gtrbac_tool.specs.Told.{behind, unbuilt_script, steps_full};
 ghost use Rattle.gtrbac_tool.specs.Script.{reply_text, Run, EndsFrom, start_of};
 ghost use Rattle.gtrbac_tool.specs.End.{seen_end};
+ghost use Rattle.gtrbac_tool.specs.Tool.{IsRunStatus};
 ghost use Rattle.gtrbac_tool.specs.Going.{GoesTo, Answered, WasFull, Acts, PlaysOut};
 
 use crate::faults::NoMemory;
@@ -171,7 +172,8 @@ pub(crate) fn push_numbered(
 
 /// The end at a line that is not played, behind the text so far.
 fn unplayed(mut text: Vec<u8>, number: u32) -> Result<End, NoMemory>
-    ensures { IfOk result (λ end. seen_end end ≡ behind text.items (unbuilt_script number)) }
+    ensures end { IfOk result (λ end. seen_end end ≡ behind text.items (unbuilt_script number)) }
+    ensures status { IfOk result (λ end. IsRunStatus end.status) }
 {
     push_numbered(&mut text, b"unbuilt script ", number, b"\n")?;
     Ok(End { status: 12, text })
@@ -179,7 +181,8 @@ fn unplayed(mut text: Vec<u8>, number: u32) -> Result<End, NoMemory>
 
 /// The end at a step that finds the history full, behind the text so far.
 fn full(mut text: Vec<u8>, number: u32) -> Result<End, NoMemory>
-    ensures { IfOk result (λ end. seen_end end ≡ behind text.items (steps_full number)) }
+    ensures end { IfOk result (λ end. seen_end end ≡ behind text.items (steps_full number)) }
+    ensures status { IfOk result (λ end. IsRunStatus end.status) }
 {
     push_numbered(&mut text, b"script ", number, b": steps full\n")?;
     Ok(End { status: 9, text })
@@ -195,7 +198,8 @@ fn play_out(
 ) -> Result<End, NoMemory>
     requires roles { (length roles.now < 2 ^ 32) × (book.old.policy.roles ≡ length roles.now) }
     requires count { number + length lines < 2 ^ 32 }
-    ensures { IfOk result (λ end. PlaysOut roles.now (number + 1) lines.entry book.old book.new (seen_end end)) }
+    ensures end { IfOk result (λ end. PlaysOut roles.now (number + 1) lines.entry book.old book.new (seen_end end)) }
+    ensures status { IfOk result (λ end. IsRunStatus end.status) }
 {
     let mut text = Vec::new(alloc);
     while let Some(line) = lines.next() {
@@ -227,7 +231,8 @@ fn run(
 ) -> Result<End, NoMemory>
     requires roles { (length roles.now < 2 ^ 32) × (policy.roles ≡ length roles.now) }
     requires count { number + length lines < 2 ^ 32 }
-    ensures { IfOk result (λ end. Run (record { roles = roles.now; policy = policy }) birth (number + 1) lines.entry (seen_end end)) }
+    ensures end { IfOk result (λ end. Run (record { roles = roles.now; policy = policy }) birth (number + 1) lines.entry (seen_end end)) }
+    ensures status { IfOk result (λ end. IsRunStatus end.status) }
 {
     let Ok(safe) = Safe::admit(alloc, policy) else {
         return Err(NoMemory);
@@ -247,7 +252,8 @@ pub(crate) fn play(
 ) -> Result<End, NoMemory>
     requires roles { (length roles.now < 2 ^ 32) × (policy.roles ≡ length roles.now) }
     requires script { length script.now < 2 ^ 32 }
-    ensures { IfOk result (λ end. EndsFrom (record { roles = roles.now; policy = policy }) (start_of roles.now 1 (lines_of script.now)) (seen_end end)) }
+    ensures end { IfOk result (λ end. EndsFrom (record { roles = roles.now; policy = policy }) (start_of roles.now 1 (lines_of script.now)) (seen_end end)) }
+    ensures status { IfOk result (λ end. IsRunStatus end.status) }
 {
     let mut lines = Lines::new(script);
     let mut number: u32 = 0;
