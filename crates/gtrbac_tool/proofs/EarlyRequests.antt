@@ -1,14 +1,12 @@
 -- A request of a line is one that the book takes.
-use Rattle.std.proofs.Common.{◌≡◌, ℕ, ◌<◌, ◌≤◌, refl, subst, sym, arith}
+use Rattle.std.proofs.Common.{ℕ, ◌≤◌, refl, subst, sym, arith}
 use Rattle.gt_base.specs.declared.events.Fluent.{Fluent}
 use Rattle.gt_base.specs.declared.events.Fluent.TheVariants.{Enabled}
-use Rattle.gt_base.specs.declared.events.Prioritised.{Prioritised}
 use Rattle.gt_base.specs.declared.requests.Actor.TheVariants.{Operator}
 use Rattle.gt_base.specs.declared.requests.Request.{Request}
 use Rattle.gt_base.specs.declared.requests.Request.TheVariants.{Status, Raise}
 use Rattle.gtrbac_model.specs.Policy.{Policy}
-use Rattle.gtrbac_model.specs.History.{IsNamedWish, ask}
-use Rattle.core_machine.specs.Books.{IsEarly, IsOfRole}
+use Rattle.core_machine.specs.Books.{IsEarly}
 use Rattle.gtrbac_tool.specs.Early.{IsRoleBelow, IsEarlyPut}
 
 role_status : (p : Policy) (on : _) (f : Fluent) → IsRoleBelow p.roles f → IsEarly p Operator (Status (record { on = on; fluent = f }))

@@ -2,10 +2,7 @@
 use Rattle.std.specs.Prelude.{ℕ, zero, suc, Bool, true, false, ◌==◌, List, [], ◌∷◌, codes, decimal, bytes_eq, Option, Some, None}
 use Rattle.std.specs.List.{before_first, after_first}
 use Rattle.gt_base.specs.Names.{is_name, place_of}
-use Rattle.gt_base.specs.declared.events.Event.{Event}
-use Rattle.gt_base.specs.declared.events.Cond.{Cond}
 use Rattle.gt_base.specs.declared.events.Fluent.TheVariants.{Enabled}
-use Rattle.gt_base.specs.declared.requests.Request.{Request}
 use Rattle.gt_base.specs.declared.requests.Request.TheVariants.{Status, Raise}
 use Rattle.gt_text.specs.Lines.{is_longer}
 use Rattle.gt_text.specs.Words.{words_of, are_silent}

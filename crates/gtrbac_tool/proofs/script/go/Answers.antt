@@ -1,7 +1,6 @@
-use Rattle.std.proofs.Common.{◌≡◌, ◌<◌, ◌≤◌, ◌⊎◌, inl, inr, length, arith, sym, ◌∙◌, ap, subst}
+use Rattle.std.proofs.Common.{◌<◌, inl, inr, length, arith, sym, subst}
 use Rattle.gt_base.specs.Bounds.{max_steps}
-use Rattle.core_machine.specs.Books.{BookView, now_in, GoesOn}
-use Rattle.gtrbac_tool.specs.Script.{scripts_who}
+use Rattle.core_machine.specs.Books.{BookView, now_in}
 use Rattle.gtrbac_tool.specs.Going.{GoesTo}
 use Rattle.gtrbac_tool.proofs.Steps.{tick_more}
 use Rattle.gtrbac_tool.proofs.script.go.Goals as goal

@@ -1,4 +1,4 @@
-use Rattle.std.proofs.Common.{◌≡◌, ◌+◌, subst}
+use Rattle.std.proofs.Common.{◌+◌, subst}
 use Rattle.gtrbac_tool.specs.declared.script.Act.{Act}
 use Rattle.gtrbac_tool.specs.Told.{Told, behind, steps_full, unbuilt_script}
 use Rattle.gtrbac_tool.specs.Going.{Acts, PlaysOut}

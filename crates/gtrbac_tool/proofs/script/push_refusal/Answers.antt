@@ -1,4 +1,4 @@
-use Rattle.std.proofs.Common.{◌≡◌, List, ◌++◌, ap, sym, ◌∙◌, append_assoc, decimal}
+use Rattle.std.proofs.Common.{◌++◌, ap, sym, ◌∙◌, append_assoc, decimal}
 use Rattle.std.specs.Prelude.{codes}
 use Rattle.gt_base.specs.declared.requests.Reply.TheVariants.{Refused}
 use Rattle.gt_base.specs.declared.requests.Refusal.{Refusal}

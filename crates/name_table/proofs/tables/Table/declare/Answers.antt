@@ -1,5 +1,4 @@
-use Rattle.std.proofs.Common.{◌≡◌, ℕ, Bool, not, cond, List, [], ◌∷◌, ◌++◌, ap, ◌∙◌}
-use Rattle.std.specs.List.{list_any}
+use Rattle.std.proofs.Common.{not, cond, [], ◌∷◌, ◌++◌, ap, ◌∙◌}
 use Rattle.name_table.proofs.SameNames.{same_names, any_same}
 use Rattle.name_table.proofs.tables.Table.declare.Goals as goal
 
