@@ -1,5 +1,5 @@
 //! Policies, and those that are safe.
-ghost use Rattle.std.specs.Prelude.{◌≡◌, IfOk, IfErr, OnOk};
+ghost use Rattle.std.specs.Prelude.{◌≡◌, IfOk, IfErr, OnOk, OnErr};
 ghost use Rattle.gtrbac_model.specs.Safety.{IsSafe};
 ghost use Rattle.gtrbac_model.specs.Theorems.{HasOneModel};
 ghost use Rattle.core_machine.specs.Plain.{plain_policy, IsPlain};
@@ -76,13 +76,14 @@ pub enum AdmitFault {
 }
 
 impl Safe {
-    /// Admits a policy that is safe, as each policy without triggers is. For each birth and each list of at most 1,000,000
-    /// named moves it has exactly one history with one execution model.
+    /// Admits a policy that is safe, as each policy without triggers is: it needs no memory for that, and refuses none. For
+    /// each birth and each list of at most 1,000,000 named moves it has exactly one history with one execution model.
     pub fn admit(_alloc: Global, policy: Policy) -> Result<Safe, AdmitFault>
         ensures same { IfOk result (λ s. s ≡ policy) }
         ensures safe { OnOk result (IsSafe policy.triggers) }
         ensures one { OnOk result (HasOneModel policy) }
         ensures handed_back { IfErr result (λ e. refused e ≡ policy) }
+        ensures admitted { OnErr result ⊥ }
     {
         let _ = &policy.roles;
         Ok(Safe { policy })

@@ -7,7 +7,7 @@ ghost use Rattle.gt_io.specs.declared.source.ReadFault.TheVariants.{Memory, Fail
 
 use std::alloc::{AllocError, Global};
 
-/// The outside failed.
+/// The outside failed: a file is missing, or a read or a write went wrong.
 #[derive(Clone, Copy, Debug, PartialEq, Eq)]
 pub struct Failed;
 
@@ -43,10 +43,14 @@ pub trait Sink {
         ensures cause { HasCause (faults self.old) (faults self.new) result };
 }
 
+/// Why a text was not read whole.
 #[derive(Clone, Copy, Debug, PartialEq, Eq)]
 pub enum ReadFault {
+    /// There was no memory for it.
     Memory,
+    /// The outside failed.
     Failed,
+    /// It has more bytes than the limit.
     TooLong,
 }
 
