@@ -5,12 +5,14 @@ use gt_host::{HostShelf, Reading, Writing};
 use gtrbac_tool::tool;
 use std::alloc::AllocError;
 use std::env;
+use std::io::ErrorKind;
 use std::process::ExitCode;
 
-/// The words after the program's name; none where they are no text, which are no command.
+/// The words after the program's name; none, which are no command, where they are no text.
 fn words(rt: &HostRuntime) -> Result<Vec<String>, AllocError> {
     match env::args(rt) {
         Ok(args) => args.skip(1).collect(rt.alloc()),
+        Err(fault) if fault.kind() == ErrorKind::OutOfMemory => Err(AllocError),
         Err(_) => Ok(Vec::new(rt.alloc())),
     }
 }
