@@ -1,22 +1,13 @@
 -- `begins` is Begin.
-use Rattle.std.proofs.Common.{◌≡◌, ℕ, ◌+◌, ◌-◌, ◌<◌, ◌≤◌, Bool, true, false, not, ◌&&◌, List, [], ◌∷◌, refl, arith, ap, sym, ◌∙◌, nat_le, nat_eq, is_some}
+use Rattle.std.proofs.Common.{◌≡◌, ℕ, ◌+◌, ◌<◌, ◌≤◌, true, not, ◌&&◌, ◌||◌, List, [], ◌∷◌, arith, ap, sym, ◌∙◌, nat_le, is_some}
 use Rattle.std.proofs.lemmas.Bool.{false≢true, and_parts, and_from, eqb-true, eq-eqb, leb-true}
 use Rattle.gtrbac_model.specs.declared.calendars.Calendar.{Calendar}
 use Rattle.gtrbac_model.specs.Calendar.{first_minute, interval_of, number_within}
-use Rattle.gtrbac_model.specs.Period.{Part, Expr, picks, begins, IsNumber, LeadsTo, BeginBy, Begin}
-use Rattle.calendar_laws.specs.Valid.{is_set, is_below, goes_down, from_all, is_expr}
-use Rattle.calendar_laws.specs.Meanings.{last_of}
-use Rattle.calendar_laws.proofs.Covers.{begun, goes_on, only, at_first, one_first, before_first, not_falling, rising}
-use Rattle.calendar_laws.proofs.Nested.{nested, aligned, is_number}
-
--- the parts after the first at a minute, and all of them, as `begins` computes them
-abbrev pub selects : Calendar → List Part → ℕ → Bool
-selects c [] m = nat_eq (first_minute c (interval_of c m)) m
-selects c (p ∷ ps) m = picks p.set (number_within c p.calendar m) && selects p.calendar ps m
-
-abbrev pub begins_by : List Part → ℕ → Bool
-begins_by [] m = false
-begins_by (p ∷ ps) m = selects p.calendar ps m
+use Rattle.gtrbac_model.specs.Period.{Part, Expr, picks, begins, IsNumber, LeadsTo, BeginBy, Begin, selects, begins_by}
+use Rattle.calendar_laws.specs.Valid.{is_set, is_same, is_below, goes_down, from_all, is_expr}
+use Rattle.calendar_laws.specs.Selects.{last_of, last_by, last_calendar}
+use Rattle.calendar_laws.proofs.Covers.{only, at_first, before_first, not_falling, rising}
+use Rattle.calendar_laws.proofs.Nested.{nested, is_number, aligned_unit}
 
 pub record Lower (above : Calendar) (p : Part) (ps : List Part) (unit : Calendar) : Type 0 where
   pub set : is_set p.set ≡ true
@@ -106,5 +97,22 @@ at_last : (c : Calendar) (ps : List Part) (m : ℕ) → selects c ps m ≡ true 
 at_last c [] m s = eqb-true (first_minute c (interval_of c m)) m s
 at_last c (p ∷ ps) m s = at_last p.calendar ps m (and_parts (picks p.set (number_within c p.calendar m)) (selects p.calendar ps m) s).1
 
-pub begins_at_firsts : (e : Expr) (p : Part) (ps : List Part) (m : ℕ) → e.parts ≡ p ∷ ps → begins e m ≡ true → first_minute (last_of p.calendar ps) (interval_of (last_of p.calendar ps) m) ≡ m
-begins_at_firsts e p ps m parts b = at_last p.calendar ps m (sym (ap (λ qs. begins_by qs m) parts) ∙ b)
+at_last_by : (ps : List Part) (m : ℕ) → begins_by ps m ≡ true → first_minute (last_by ps) (interval_of (last_by ps) m) ≡ m
+at_last_by [] m b = absurd (false≢true b)
+at_last_by (p ∷ ps) m b = at_last p.calendar ps m b
+
+pub begins_at_firsts : (e : Expr) (m : ℕ) → begins e m ≡ true → first_minute (last_calendar e) (interval_of (last_calendar e) m) ≡ m
+begins_at_firsts e m b = at_last_by e.parts m b
+
+-- the unit of the length is the last calendar or stands below it
+pub goes_to_unit : (c : Calendar) (ps : List Part) (u : Calendar) → goes_down c ps u ≡ true → (is_same (last_of c ps) u || is_below (last_of c ps) u) ≡ true
+goes_to_unit c [] u h = h
+goes_to_unit c (p ∷ ps) u h = goes_to_unit p.calendar ps u (lower c p ps u h).more
+
+unit_of : (ps : List Part) (u : Calendar) → from_all ps u ≡ true → (is_same (last_by ps) u || is_below (last_by ps) u) ≡ true
+unit_of [] u h = absurd (false≢true h)
+unit_of (p ∷ ps) u h = goes_to_unit p.calendar ps u (and_parts (not (is_some p.set)) (goes_down p.calendar ps u) h).1
+
+-- so each interval of the last calendar begins with one of the unit
+pub unit_aligned : (e : Expr) (i : ℕ) → is_expr e ≡ true → first_minute e.unit (interval_of e.unit (first_minute (last_calendar e) i)) ≡ first_minute (last_calendar e) i
+unit_aligned e i h = aligned_unit (last_calendar e) e.unit i (unit_of e.parts e.unit (valid e h).parts)

@@ -1,5 +1,5 @@
 -- Each minute lies in just one interval of each calendar.
-use Rattle.std.proofs.Common.{◌≡◌, ℕ, zero, suc, ◌+◌, ◌-◌, ◌*◌, ◌/◌, ◌%◌, ◌<◌, ◌≤◌, Bool, true, false, cond, nat_lt, nat_le, refl, arith, ap, sym, ◌∙◌, inl, inr}
+use Rattle.std.proofs.Common.{◌≡◌, ℕ, zero, suc, ◌+◌, ◌-◌, ◌*◌, ◌/◌, ◌<◌, ◌≤◌, nat_lt, nat_le, refl, arith, ap, sym, ◌∙◌, inl, inr}
 use Rattle.std.proofs.lemmas.Bool.{cases_order, cases_lt}
 use Rattle.gtrbac_model.specs.declared.calendars.Calendar.{Calendar}
 use Rattle.gtrbac_model.specs.declared.calendars.Calendar.TheVariants.{Years, Months, Weeks, Days, Hours, Minutes}
@@ -67,7 +67,7 @@ covered Days m h = tt
 covered Hours m h = tt
 covered Minutes m h = tt
 
-covered_after : (c : Calendar) (m k : ℕ) → k < interval_of c m → IsCovered c m
+pub covered_after : (c : Calendar) (m k : ℕ) → k < interval_of c m → IsCovered c m
 covered_after Years m k h = tt
 covered_after Months m k h = tt
 covered_after Weeks m k h = omega arith

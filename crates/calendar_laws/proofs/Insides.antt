@@ -1,5 +1,5 @@
 -- `inside` is In.
-use Rattle.std.proofs.Common.{◌≡◌, ◌↔◌, ℕ, zero, suc, ◌+◌, ◌-◌, ◌<◌, ◌≤◌, Bool, true, false, ◌&&◌, ◌||◌, List, [], ◌∷◌, refl, arith, ap, sym, ◌∙◌, inl, inr, IsTrue}
+use Rattle.std.proofs.Common.{◌≡◌, ◌↔◌, ℕ, zero, suc, ◌+◌, ◌-◌, ◌<◌, ◌≤◌, true, refl, arith, ap, sym, ◌∙◌, inl, inr, IsTrue}
 use Rattle.std.proofs.lemmas.Bool.{false≢true, and_parts, and_from, or_cases, or_left, or_right, cases_eq}
 use Rattle.gtrbac_model.specs.declared.calendars.Calendar.{Calendar}
 use Rattle.gtrbac_model.specs.declared.calendars.Calendar.TheVariants.{Years, Months, Weeks, Days, Hours, Minutes}
@@ -8,7 +8,7 @@ use Rattle.gtrbac_model.specs.Period.{Expr, Period, begins, begun_within, in_bou
 use Rattle.calendar_laws.specs.Valid.{is_expr}
 use Rattle.calendar_laws.specs.Meanings.{Start}
 use Rattle.calendar_laws.proofs.Covers.{begun, goes_on, before_first, one_first, not_falling}
-use Rattle.calendar_laws.proofs.Begins.{Valid, valid, begins_means, begin_counts}
+use Rattle.calendar_laws.proofs.Begins.{valid, begins_means, begin_counts}
 
 -- one of the n intervals up to number k begins where the expression does
 pub record Found (e : Expr) (n k : ℕ) : Type 0 where
@@ -38,7 +38,7 @@ finds e (suc n) k j low high b =
     ]
 
 -- an interval that begins before instant 0, and a thousand of them before it
-abbrev early : Calendar → ℕ
+abbrev pub early : Calendar → ℕ
 early Minutes = 5000
 early _ = 2000
 
@@ -58,7 +58,7 @@ early_enough Days = omega arith
 early_enough Hours = omega arith
 early_enough Minutes = omega arith
 
-thousand : (c : Calendar) → 1000 ≤ early c
+pub thousand : (c : Calendar) → 1000 ≤ early c
 thousand Years = omega arith
 thousand Months = omega arith
 thousand Weeks = omega arith

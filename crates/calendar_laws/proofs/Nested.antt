@@ -1,5 +1,5 @@
 -- Intervals of a lower calendar fill those of a higher one.
-use Rattle.std.proofs.Common.{◌≡◌, ℕ, ◌+◌, ◌-◌, ◌*◌, ◌<◌, ◌≤◌, Bool, true, false, ◌||◌, refl, arith, ap, sym, ◌∙◌, inl, inr}
+use Rattle.std.proofs.Common.{◌≡◌, ℕ, ◌+◌, ◌*◌, ◌<◌, ◌≤◌, true, ◌||◌, refl, arith, ap, sym, ◌∙◌, inl, inr}
 use Rattle.std.proofs.lemmas.Bool.{false≢true, or_cases}
 use Rattle.gtrbac_model.specs.declared.calendars.Calendar.{Calendar}
 use Rattle.gtrbac_model.specs.declared.calendars.Calendar.TheVariants.{Years, Months, Weeks, Days, Hours, Minutes}
@@ -7,7 +7,7 @@ use Rattle.gtrbac_model.specs.Calendar.{day_of_year, day_of_month, first_minute,
 use Rattle.gtrbac_model.specs.Period.{IsNumber}
 use Rattle.calendar_laws.specs.Valid.{is_below, is_same}
 use Rattle.calendar_laws.proofs.Months.{january}
-use Rattle.calendar_laws.proofs.Covers.{begun, goes_on, only, at_first, before_first}
+use Rattle.calendar_laws.proofs.Covers.{begun, goes_on, at_first, before_first}
 
 -- each interval of the higher calendar begins with one of the lower
 pub nested : (o i : Calendar) (k : ℕ) → is_below o i ≡ true → (j : ℕ) × (first_minute i j ≡ first_minute o k)
@@ -41,7 +41,7 @@ is_number o i m h late =
     let le : from < interval_of i m + 1 = before_first i from (interval_of i m + 1) (omega arith) in
     record { first = from; aligned = e; counted = omega arith; positive = omega arith; below = omega (arith, begun i m late, goes_on o m) }
 
-same_unit : (c u : Calendar) → is_same c u ≡ true → c ≡ u
+pub same_unit : (c u : Calendar) → is_same c u ≡ true → c ≡ u
 same_unit Years Years h = refl
 same_unit Months Months h = refl
 same_unit Weeks Weeks h = refl

@@ -1,3 +1,4 @@
 pub mod Intervals
 pub mod Valid
+pub mod Selects
 pub mod Meanings

@@ -1,10 +1,10 @@
 -- The computed definitions of periodic times against the relations.
-use Rattle.std.specs.Prelude.{◌≡◌, ◌↔◌, ℕ, ◌+◌, ◌*◌, ◌/◌, ◌%◌, ◌≤◌, List, [], ◌∷◌, IsTrue}
-use Rattle.gtrbac_model.specs.declared.calendars.Calendar.{Calendar}
+use Rattle.std.specs.Prelude.{◌≡◌, ◌↔◌, ℕ, ◌+◌, ◌*◌, ◌/◌, ◌%◌, ◌≤◌, IsTrue}
 use Rattle.gtrbac_model.specs.Calendar.{minute_of, day_of, first_minute, interval_of, day_of_year}
 use Rattle.gtrbac_model.specs.Calendar.{day_of_month}
-use Rattle.gtrbac_model.specs.Period.{Part, Expr, Period, begins, starts, inside, in_bounds, Begin, End, In}
+use Rattle.gtrbac_model.specs.Period.{Expr, Period, begins, starts, inside, in_bounds, Begin, End, In}
 use Rattle.calendar_laws.specs.Valid.{is_expr}
+use Rattle.calendar_laws.specs.Selects.{last_calendar}
 
 -- the instant is within the bounds, and the expression begins at its minute
 abbrev pub Start : Period → ℕ → Type 0
@@ -20,16 +20,9 @@ pub record PeriodsMean : Type 0 where
 abbrev pub EndsDoNotCross : Type 0
 EndsDoNotCross = (e : Expr) (s s' m m' : ℕ) → End e s m → End e s' m' → s ≤ s' → m ≤ m'
 
--- the calendar of the last part
-abbrev pub last_of : Calendar → List Part → Calendar
-last_of c [] = c
-last_of c (p ∷ ps) = last_of p.calendar ps
-
 -- an expression begins at first minutes of its last calendar alone
 abbrev pub BeginsAtFirsts : Type 0
-BeginsAtFirsts =
-    (e : Expr) (p : Part) (ps : List Part) (m : ℕ) → e.parts ≡ p ∷ ps → IsTrue (begins e m)
-    → first_minute (last_of p.calendar ps) (interval_of (last_of p.calendar ps) m) ≡ m
+BeginsAtFirsts = (e : Expr) (m : ℕ) → IsTrue (begins e m) → first_minute (last_calendar e) (interval_of (last_calendar e) m) ≡ m
 
 -- the calendars come back after 400 years: 146,097 days, 4,800 months, 20,871 weeks
 pub record CalendarsRepeat : Type 0 where

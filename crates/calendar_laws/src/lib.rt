@@ -1,5 +1,6 @@
 //! What holds of the calendars and of periodic times: the laws that tie the computed definitions to the relations.
 #![tactic(auto)]
+
 ghost use Rattle.calendar_laws.specs.Intervals.{IntervalsCover};
 ghost use Rattle.calendar_laws.specs.Meanings.{PeriodsMean, EndsDoNotCross, BeginsAtFirsts, CalendarsRepeat, MinutesOfDays};
 

@@ -1,9 +1,8 @@
 -- The dates of the model's calendars are those of jiff.
-use Rattle.std.proofs.Common.{◌≡◌, ℕ, zero, suc, ◌+◌, ◌-◌, ◌*◌, ◌/◌, ◌%◌, ◌<◌, ◌≤◌, Bool, true, false, cond, ◌&&◌, nat_lt, get_or, [], ◌∷◌, refl, ap, ◌∙◌, arith, pos, ℤ, inl, inr}
+use Rattle.std.proofs.Common.{◌≡◌, ℕ, zero, suc, ◌+◌, ◌-◌, ◌/◌, ◌%◌, ◌<◌, ◌≤◌, Bool, true, false, cond, ◌&&◌, nat_lt, get_or, [], ◌∷◌, refl, ap, ◌∙◌, arith, pos, inl, inr}
 use Rattle.std.proofs.lemmas.Bool.{cases_lt}
 use Rattle.std.proofs.lemmas.Bool.Decides.{nat_tests}
 use Rattle.jiff_core.specs.Calendar.{days_of_years, days_of_months, day_count, days_from_civil, days_in_month}
-use Rattle.jiff_core.specs.March.{march_days}
 use Rattle.jiff_core.proofs.SignedLemmas.{signed_arith}
 use Rattle.jiff_core.proofs.MarchLemmas.{leap_day, days_in_year-leap_day, days_of_years-suc, days_of_years-march_days}
 use Rattle.jiff_core.proofs.CalendarLemmas.{days_of_months_table, days_of_months_more, days_of_months_all, days_from_civil-day_count}

@@ -1,12 +1,11 @@
 -- The civil minute of an instant stands for it.
-use Rattle.std.proofs.Common.{◌≡◌, ℕ, ◌+◌, ◌-◌, ◌*◌, ◌/◌, ◌%◌, ◌<◌, ◌≤◌, refl, ap, sym, ◌∙◌, arith, pos}
+use Rattle.std.proofs.Common.{◌≡◌, ℕ, ◌+◌, ◌-◌, ◌*◌, ◌/◌, ◌%◌, ◌<◌, ◌≤◌, refl, ap, sym, ◌∙◌, arith}
 use Rattle.gt_base.specs.Bounds.{last_minute}
 use Rattle.gtrbac_model.specs.declared.calendars.Calendar.TheVariants.{Years, Months, Days}
-use Rattle.gtrbac_model.specs.Calendar.{minute_of, day_of, day_of_year, day_of_month, first_minute, interval_of, number_within}
+use Rattle.gtrbac_model.specs.Calendar.{minute_of, day_of_month, first_minute, interval_of, number_within}
 use Rattle.calendar_laws.proofs.Months.{january}
 use Rattle.calendar_laws.proofs.Covers.{begun, goes_on, at_first, before_first}
-use Rattle.civil_time.specs.declared.civil.Civil.{Civil}
-use Rattle.civil_time.specs.Minutes.{civil_at, IsMinute, StandsFor}
+use Rattle.civil_time.specs.Minutes.{civil_at, StandsFor}
 use Rattle.civil_time.proofs.Dates.{month_length, date_is}
 
 -- the year and the month at a minute

@@ -1,15 +1,14 @@
 -- Each instant has one text, which gives it back.
-use Rattle.std.proofs.Common.{◌≡◌, ◌≢◌, ◌↔◌, ℕ, ◌+◌, ◌-◌, ◌*◌, ◌/◌, ◌%◌, ◌<◌, ◌≤◌, Bool, true, false, ◌&&◌, List, length, bytes_eq, nat_eq, nat_le, slice_index, Option, Some, None, IfNone, refl, ap, subst, sym, ◌∙◌, arith, pos}
-use Rattle.std.proofs.lemmas.Bool.{and_parts, and_from, eqb-true, eq-eqb, leb-true, le-leb}
+use Rattle.std.proofs.Common.{◌≡◌, ◌≢◌, ◌↔◌, ℕ, ◌+◌, ◌-◌, ◌*◌, ◌/◌, ◌%◌, ◌<◌, ◌≤◌, Bool, true, false, ◌&&◌, List, length, bytes_eq, nat_eq, nat_le, Option, Some, None, IfNone, refl, ap, subst, sym, ◌∙◌, arith, pos}
+use Rattle.std.proofs.lemmas.Bool.{and_parts, and_from, eq-eqb, leb-true, le-leb}
 use Rattle.std.proofs.lemmas.Slice.Eq.{bytes_eq-Decides}
 use Rattle.jiff_core.proofs.CalendarLemmas.{days_in_month_bounds}
 use Rattle.gt_base.specs.Bounds.{last_minute}
 use Rattle.gtrbac_model.specs.Calendar.{minute_of, day_of_month}
 use Rattle.civil_time.specs.declared.civil.Civil.{Civil}
-use Rattle.civil_time.specs.Minutes.{civil_at, IsMinute, StandsFor}
-use Rattle.civil_time.specs.Text.{two_digits, text_of, civil_text, IsCivil, IsPrintable, two_at, candidate, civil_in}
+use Rattle.civil_time.specs.Minutes.{civil_at, IsMinute}
+use Rattle.civil_time.specs.Text.{text_of, civil_text, IsCivil, IsPrintable, two_at, candidate, civil_in}
 use Rattle.civil_time.proofs.Stands.{stands, from_parts}
-use Rattle.civil_time.proofs.OneCivil.{one_instant}
 
 pub no_text : (text : List ℕ) → ((c : Civil) → IsMinute c → text ≢ text_of c) → (t : ℕ) → t ≤ last_minute → text ≢ civil_text t
 no_text text h t le e = h (civil_at t) (stands t le).real e

@@ -2,7 +2,7 @@
 use Rattle.std.specs.Prelude.{◌≡◌, ◌↔◌, ℕ, ◌≤◌, List, Some}
 use Rattle.gt_base.specs.Bounds.{last_minute}
 use Rattle.civil_time.specs.declared.civil.Civil.{Civil}
-use Rattle.civil_time.specs.Minutes.{civil_at, IsMinute, StandsFor}
+use Rattle.civil_time.specs.Minutes.{civil_at, StandsFor}
 use Rattle.civil_time.specs.Text.{civil_text, civil_in, IsCivil}
 
 -- the calendars of the model and those of jiff have the same dates, and each way there is just one

@@ -38,12 +38,12 @@ picks None n = true
 picks (Some ns) n = list_any (nat_eq n) ns
 
 -- each further part picks the number of its interval at the minute, within the interval of the part before
-abbrev selects : Calendar → List Part → ℕ → Bool
+abbrev pub selects : Calendar → List Part → ℕ → Bool
 selects c [] m = nat_eq (first_minute c (interval_of c m)) m
 selects c (p ∷ ps) m = picks p.set (number_within c p.calendar m) && selects p.calendar ps m
 
 -- the minute is the first of a selected interval of the last part
-abbrev begins_by : List Part → ℕ → Bool
+abbrev pub begins_by : List Part → ℕ → Bool
 begins_by [] m = false
 begins_by (p ∷ ps) m = selects p.calendar ps m
 

@@ -1,14 +1,14 @@
-//! Blocked events, winners and the status after a set.
+//! Blocked events, winners, what is seen of an event, and the status after a set.
 ghost use Rattle.std.specs.Prelude.{◌≡◌, ◌≤◌, ◌+◌, ◌&&◌, ◌||◌, not, true, false, cond, length, IfOk};
 ghost use Rattle.gt_base.specs.declared.events.Event.{Event};
 ghost use Rattle.gt_base.specs.declared.events.Fluent.{Fluent};
 ghost use Rattle.gt_base.specs.Events.{converse};
 ghost use Rattle.gt_base.specs.Sets.{has, members};
-ghost use Rattle.gtrbac_model.specs.Conflict.{beats as beats_at, blocked as is_blocked, won};
+ghost use Rattle.gtrbac_model.specs.Conflict.{beats as beats_at, blocked as is_blocked, won, won_at, stands_at, greatest_below, seen as seen_in};
 ghost use Rattle.gtrbac_model.specs.Same.{same_event};
 ghost use Rattle.priority_conflict.specs.Winning.{on_event, off_event, IsApart};
 
-use gt_base::{Event, EventSet, Happened, Memory, Prioritised, Status};
+use gt_base::{Event, EventSet, Happened, Memory, Prio, Prioritised, Seen, Status};
 use std::alloc::Global;
 
 /// Whether the converse at priority q blocks an event that sets its fluent on or off at priority p.
@@ -67,5 +67,58 @@ pub fn next_status(s: &mut Status, won: &EventSet)
 {
     for e in won.as_slice() {
         s.set(e.fluent, e.on);
+    }
+}
+
+/// Whether the event stands in the set at the priority and is not blocked there.
+fn is_free(x: &Happened, e: Event, prio: Prio) -> bool
+    ensures { result ≡ won_at x.now.set e prio }
+{
+    x.has(Prioritised { prio, event: e }) && !blocked(x, Prioritised { prio, event: e })
+}
+
+/// The greatest priority below a number at which the event stands in the set unblocked.
+fn greatest_free(x: &Happened, e: Event, below: u8) -> Option<Prio>
+    requires { below ≤ 101 }
+    ensures { result ≡ greatest_below (won_at x.now.set e) below }
+{
+    let mut above = below;
+    while above > 0 {
+        above -= 1;
+        let prio = Prio::new(above).unwrap();
+        if is_free(x, e, prio) {
+            return Some(prio);
+        }
+    }
+    None
+}
+
+/// The greatest priority below a number at which the event stands in the set.
+fn greatest(x: &Happened, e: Event, below: u8) -> Option<Prio>
+    requires { below ≤ 101 }
+    ensures { result ≡ greatest_below (stands_at x.now.set e) below }
+{
+    let mut above = below;
+    while above > 0 {
+        above -= 1;
+        let prio = Prio::new(above).unwrap();
+        if x.has(Prioritised { prio, event: e }) {
+            return Some(prio);
+        }
+    }
+    None
+}
+
+/// The greatest priority below a number at which the event stands in the set unblocked, else the greatest at which it stands there blocked,
+/// else that it is absent. It takes no memory.
+pub fn seen(x: &Happened, e: Event) -> Seen
+    ensures { result ≡ seen_in x.now.set e }
+{
+    if let Some(p) = greatest_free(x, e, 101) {
+        return Seen::Unblocked(p);
+    }
+    match greatest(x, e, 101) {
+        Some(p) => Seen::Blocked(p),
+        None => Seen::Absent,
     }
 }

@@ -1,0 +1,4 @@
+pub mod Bounds
+pub mod Latest
+pub mod Moves
+pub mod Edges

@@ -1,0 +1,165 @@
+//! The next start, the next instant inside, and the next edge.
+ghost use Rattle.std.specs.Prelude.{◌≡◌, ◌<◌, ◌≤◌, ◌+◌, true, max, IfSome, IfNone, IsTrue, ◌-◌};
+ghost use Rattle.gt_base.specs.Bounds.{last_minute};
+ghost use Rattle.gtrbac_model.specs.Calendar.{minute_of as minute_at, interval_of as interval_at};
+ghost use Rattle.gtrbac_model.specs.Period.{starts as started, inside as insides};
+ghost use Rattle.calendar_laws.specs.Valid.{is_expr};
+ghost use Rattle.calendar_laws.specs.Selects.{last_calendar as last_in};
+ghost use Rattle.calendar_match.specs.Reach.{unit_first, IsFirstBegin, HasNoFurther};
+ghost use Rattle.calendar_match.specs.Next.{IsLeast, IsNever, IsNext, HasNone, turns, outside as outsides};
+
+use crate::periods::{inside, minute_of};
+use crate::reach::{first_begin, last_at, unit_at, unit_start};
+use gt_base::Instant;
+use periodic_expr::{Expr, Period};
+
+// The minute of instant 0, counted from 0000-01-01T00:00.
+const FIRST_MINUTE: u64 = 1_051_898_400;
+
+// The instant of a minute.
+fn instant_of(m: u64) -> Instant
+    requires low { 1_051_898_400 ≤ m }
+    requires high { m ≤ 1_104_494_399 }
+    ensures { minute_at result ≡ m }
+{
+    Instant::new((m - FIRST_MINUTE) as u32).unwrap()
+}
+
+// The later of the minute and the period's first instant.
+fn within(p: &Period, from: u32) -> u32
+    requires { from ≤ last_minute + 1 }
+    ensures start { result ≡ max from p.now.first }
+    ensures bound { result ≤ last_minute + 1 }
+{
+    let first = p.first.minute();
+    if from < first { first } else { from }
+}
+
+// The minute of the period's last instant.
+fn end_of(p: &Period) -> u64
+    ensures minute { result ≡ minute_at p.now.last }
+    ensures bound { result ≤ 1_104_494_399 }
+{
+    minute_of(p.last)
+}
+
+// The interval of the length's calendar at the minute.
+fn unit_of(p: &Period, m: u64) -> u64
+    requires { m ≤ 1_104_494_399 }
+    ensures unit { result ≡ interval_at p.now.expr.unit m }
+    ensures bound { result < 2_147_483_648 }
+{
+    unit_at(&p.expr, m)
+}
+
+fn unit_start_of(p: &Period, k: u64) -> u64
+    requires { k ≤ 2_147_483_648 }
+    ensures { result ≡ unit_first p.now.expr k }
+{
+    unit_start(&p.expr, k)
+}
+
+// The minute of the first begin from this minute on and not after the end.
+fn begin_from(e: &Expr, start: u64, end: u64) -> Option<u64>
+    requires start_low { 1_051_898_400 ≤ start }
+    requires start_high { start ≤ 1_104_494_400 }
+    requires end_in { end ≤ 1_104_494_399 }
+    ensures some { IfSome result (λ m. IsFirstBegin e.now (interval_at (last_in e.now) (start - 1) + 1) end m) }
+    ensures none { IfNone result (HasNoFurther e.now (interval_at (last_in e.now) (start - 1) + 1) end) }
+    ensures valid { IsTrue (is_expr e.now) }
+{
+    first_begin(e, last_at(e, start - 1) + 1, end)
+}
+
+// The same for a period.
+fn first_begin_of(p: &Period, start: u32) -> Option<u64>
+    requires { start ≤ last_minute + 1 }
+    ensures some { IfSome result (λ m. IsFirstBegin p.now.expr (interval_at (last_in p.now.expr) (minute_at start - 1) + 1) (minute_at p.now.last) m) }
+    ensures none { IfNone result (HasNoFurther p.now.expr (interval_at (last_in p.now.expr) (minute_at start - 1) + 1) (minute_at p.now.last)) }
+    ensures valid { IsTrue (is_expr p.now.expr) }
+    ensures bound { p.now.last ≤ last_minute }
+{
+    begin_from(&p.expr, FIRST_MINUTE + u64::from(start), minute_of(p.last))
+}
+
+// The least instant from this minute on at which the period starts.
+#[tactic(auto, using(crate::proofs::Moves::start_found, crate::proofs::Moves::start_missing, crate::proofs::Moves::found_low))]
+fn start_from(p: &Period, from: u32) -> Option<Instant>
+    requires { from ≤ last_minute + 1 }
+    ensures some { IfSome result (λ t. IsLeast (started p.now) from t) }
+    ensures none { IfNone result (IsNever (started p.now) from) }
+    ensures valid { IsTrue (is_expr p.now.expr) }
+{
+    match first_begin_of(p, within(p, from)) {
+        Some(m) => Some(instant_of(m)),
+        None => None,
+    }
+}
+
+/// The least instant after this one at which the period starts, none exactly where there is none.
+pub fn next_start(p: &Period, after: Instant) -> Option<Instant>
+    ensures some { IfSome result (λ t. IsNext (started p.now) after t) }
+    ensures none { IfNone result (HasNone (started p.now) after) }
+{
+    start_from(p, after.minute() + 1)
+}
+
+// The least instant from this minute on that is inside.
+#[tactic(auto, using(crate::proofs::Moves::inside_here, crate::proofs::Moves::inside_by_start, crate::proofs::Moves::inside_never))]
+fn inside_from(p: &Period, from: u32) -> Option<Instant>
+    requires { from ≤ last_minute + 1 }
+    ensures some { IfSome result (λ t. IsLeast (insides p.now) from t) }
+    ensures none { IfNone result (IsNever (insides p.now) from) }
+{
+    let start = within(p, from);
+    let Some(here) = Instant::new(start) else {
+        return None;
+    };
+    if inside(p, here) {
+        return Some(here);
+    }
+    start_from(p, start + 1)
+}
+
+/// The least instant after this one that is inside, none exactly where there is none.
+pub fn next_inside(p: &Period, after: Instant) -> Option<Instant>
+    ensures some { IfSome result (λ t. IsNext (insides p.now) after t) }
+    ensures none { IfNone result (HasNone (insides p.now) after) }
+{
+    inside_from(p, after.minute() + 1)
+}
+
+// The least instant after one inside that is outside. Goes over the intervals of the length's calendar, within each of
+// which nothing changes.
+#[tactic(auto, using(crate::proofs::Moves::stays_first, crate::proofs::Moves::stays_more, crate::proofs::Moves::out_found, crate::proofs::Moves::out_past, crate::proofs::Moves::out_never, crate::proofs::Moves::unit_low, crate::proofs::Moves::unit_later))]
+fn outside_after(p: &Period, after: Instant) -> Option<Instant>
+    requires { insides p.now after ≡ true }
+    ensures some { IfSome result (λ t. IsNext (outsides p.now) after t) }
+    ensures none { IfNone result (HasNone (outsides p.now) after) }
+{
+    let end = end_of(p);
+    let mut k = unit_of(p, minute_of(after)) + 1;
+    let mut m = unit_start_of(p, k);
+    'units: while m <= end {
+        let t = instant_of(m);
+        if !inside(p, t) {
+            return Some(t);
+        }
+        k += 1;
+        m = unit_start_of(p, k);
+    }
+    Instant::new((end - FIRST_MINUTE) as u32 + 1)
+}
+
+/// The least instant after this one at which being inside differs from the minute before, none exactly where there is
+/// none.
+#[tactic(auto, using(crate::proofs::Edges::edge_in, crate::proofs::Edges::never_in, crate::proofs::Edges::edge_out, crate::proofs::Edges::never_out))]
+pub fn next_edge(p: &Period, after: Instant) -> Option<Instant>
+    ensures some { IfSome result (λ t. IsNext (turns p.now) after t) }
+    ensures none { IfNone result (HasNone (turns p.now) after) }
+{
+    if inside(p, after) {
+        return outside_after(p, after);
+    }
+    next_inside(p, after)
+}

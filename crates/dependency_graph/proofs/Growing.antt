@@ -1,0 +1,108 @@
+-- The edges grow as the dependencies are listed.
+use Rattle.std.proofs.Common.{◌≡◌, ℕ, zero, suc, ◌+◌, Bool, true, false, cond, nat_eq, ◌||◌, ◌&&◌, List, [], ◌∷◌, ◌++◌, length, drop, Some, refl, sym, ◌∙◌, ap, arith, append_assoc, append-nil}
+use Rattle.std.proofs.lemmas.Bool.{ne_eqb}
+use Rattle.gt_base.specs.Held.{Rule}
+use Rattle.gt_base.specs.declared.events.Event.{Event}
+use Rattle.gtrbac_model.specs.Graph.{item_at}
+use Rattle.gtrbac_model.specs.Same.{lists, same_event}
+use Rattle.gtrbac_model.specs.Trigger.{immediate}
+use Rattle.gtrbac_model.specs.Safety.{Dependency, is_node, edge_if_node, of_body, of_triggers}
+use Rattle.gtrbac_model.proofs.Uniqueness.{same_event_of}
+use Rattle.least_walk.specs.declared.graphs.GraphEdge.{GraphEdge}
+use Rattle.dependency_graph.specs.Nets.{dependency, read_off, event_at}
+use Rattle.dependency_graph.specs.Making.{AreNodes, Adds, edge_in, of_trigger}
+
+pub read_off_push : (events : List Event) (es : List GraphEdge) (ps : List (ℕ × ℕ)) (e : GraphEdge) (p : ℕ × ℕ) → length ps ≡ length es → read_off events (es ++ e ∷ []) (ps ++ p ∷ []) ≡ read_off events es ps ++ dependency events e p ∷ []
+read_off_push events [] [] e p h = refl
+read_off_push events [] (q ∷ ps) e p h = absurd (omega arith)
+read_off_push events (x ∷ es) [] e p h = absurd (omega arith)
+read_off_push events (x ∷ es) (q ∷ ps) e p h = ap (λ ds. dependency events x q ∷ ds) (read_off_push events es ps e p (omega arith))
+
+same_edges : (triggers : List Rule) (events : List Event) → AreNodes triggers events → (d : Dependency) → edge_if_node triggers d ≡ edge_in events d
+same_edges triggers events nodes d = ap (λ b. cond b (d ∷ []) []) (sym (nodes d.source))
+
+is_listed : (xs : List Event) (n : ℕ) (e : Event) → item_at xs n ≡ Some e → lists same_event xs e ≡ true
+is_listed [] n e p = cc
+is_listed (x ∷ xs) zero e p = let q : x ≡ e = cc in ap (λ b. b || lists same_event xs e) (same_event_of e x (sym q))
+is_listed (x ∷ xs) (suc n) e p = right (same_event e x) _ (is_listed xs n e p)
+  where
+    right : (a b : Bool) → b ≡ true → (a || b) ≡ true
+    right true b h = refl
+    right false b h = h
+
+event_of : (xs : List Event) (n : ℕ) (e : Event) → item_at xs n ≡ Some e → event_at xs n ≡ e
+event_of [] n e p = cc
+event_of (x ∷ xs) zero e p = cc
+event_of (x ∷ xs) (suc n) e p = event_of xs n e p
+
+-- an edge from an event that is a node
+pub edge_added : (events : List Event) (es : List GraphEdge) (ps : List (ℕ × ℕ)) (from to : ℕ) (marked : Bool) (source : Event) (p : ℕ × ℕ) (es' : List GraphEdge) (ps' : List (ℕ × ℕ))
+    → item_at events from ≡ Some source → length ps ≡ length es → es' ≡ es ++ record { from = from; to = to; marked = marked } ∷ [] → ps' ≡ ps ++ p ∷ []
+    → read_off events es' ps' ≡ read_off events es ps ++ edge_in events (record { source = source; target = event_at events to; conflict = marked; trigger = p.0; place = p.1 })
+edge_added events es ps from to marked source p es' ps' is size qe qp =
+    ap (λ xs. read_off events xs ps') qe ∙ ap (λ xs. read_off events (es ++ record { from = from; to = to; marked = marked } ∷ []) xs) qp
+    ∙ read_off_push events es ps (record { from = from; to = to; marked = marked }) p size
+    ∙ ap (λ z. read_off events es ps ++ (record { source = z; target = event_at events to; conflict = marked; trigger = p.0; place = p.1 }) ∷ []) (event_of events from source is)
+    ∙ ap (λ b. read_off events es ps ++ cond b ((record { source = source; target = event_at events to; conflict = marked; trigger = p.0; place = p.1 }) ∷ []) []) (sym (is_listed events from source is))
+
+-- the edges of an immediate trigger whose head is this node
+pub trigger_of_body : (events : List Event) (head t : ℕ) (r : Rule) (body : List Event) (old new : List Dependency) → item_at events head ≡ Some r.head.event → r.delay ≡ 0 → body ≡ r.events
+    → Adds events old new (λ triggers. of_body triggers (event_at events head) t 0 body) → Adds events old new (λ triggers. of_trigger triggers t r)
+trigger_of_body events head t r body old new is now same adds triggers nodes =
+    adds triggers nodes
+    ∙ ap (λ e. old ++ of_body triggers e t 0 body) (event_of events head r.head.event is)
+    ∙ ap (λ b. old ++ of_body triggers r.head.event t 0 b) same
+    ∙ ap (λ d. old ++ cond (nat_eq d 0) (of_body triggers r.head.event t 0 r.events) []) (sym now)
+
+-- a delayed trigger has none
+pub delayed_none : (events : List Event) (t : ℕ) (r : Rule) (ds : List Dependency) → (r.delay ≡ 0 → ⊥) → Adds events ds ds (λ triggers. of_trigger triggers t r)
+delayed_none events t r ds late triggers nodes =
+    sym (append-nil ds) ∙ ap (λ b. ds ++ cond b (of_body triggers r.head.event t 0 r.events) []) (sym (ne_eqb r.delay 0 late))
+
+dropped : {A : Type 0} (xs : List A) (n : ℕ) (x : A) → item_at xs n ≡ Some x → drop n xs ≡ x ∷ drop (n + 1) xs
+dropped [] n x is = cc
+dropped (y ∷ ys) zero x is = let e : y ≡ x = cc in ap (λ z. z ∷ ys) e
+dropped (y ∷ ys) (suc n) x is = dropped ys n x is ∙ ap (λ m. x ∷ drop m (y ∷ ys)) (shift n)
+  where
+    shift : (n : ℕ) → suc (n + 1) ≡ suc n + 1
+    shift n = omega arith
+
+-- one trigger more
+pub trigger_step : (triggers : List Rule) (events : List Event) (t : ℕ) (r : Rule) (whole old new : List Dependency) → AreNodes triggers events → item_at triggers t ≡ Some r
+    → Adds events old new (λ rules. of_trigger rules t r) → old ++ of_triggers triggers t (drop t triggers) ≡ whole → new ++ of_triggers triggers (t + 1) (drop (t + 1) triggers) ≡ whole
+trigger_step triggers events t r whole old new nodes is adds h =
+    ap (λ ds. ds ++ of_triggers triggers (t + 1) (drop (t + 1) triggers)) (adds triggers nodes)
+    ∙ append_assoc old (of_trigger triggers t r) (of_triggers triggers (t + 1) (drop (t + 1) triggers))
+    ∙ ap (λ rs. old ++ of_triggers triggers t rs) (sym (dropped triggers t r is))
+    ∙ h
+
+-- the head of an immediate trigger is a node
+pub head_listed : (triggers : List Rule) (events : List Event) (t : ℕ) (r : Rule) → AreNodes triggers events → item_at triggers t ≡ Some r → immediate r ≡ true → lists same_event events r.head.event ≡ true
+head_listed triggers events t r nodes is now = nodes r.head.event ∙ found triggers t is
+  where
+    right : (a b : Bool) → b ≡ true → (a || b) ≡ true
+    right true b h = refl
+    right false b h = h
+
+    found : (rs : List Rule) (n : ℕ) → item_at rs n ≡ Some r → is_node rs r.head.event ≡ true
+    found [] n p = cc
+    found (q ∷ rs) zero p =
+        let e : q ≡ r = cc in
+        ap (λ z. (immediate z && same_event z.head.event r.head.event) || is_node rs r.head.event) e
+        ∙ ap (λ b. (b && same_event r.head.event r.head.event) || is_node rs r.head.event) now
+        ∙ ap (λ b. b || is_node rs r.head.event) (same_event_of r.head.event r.head.event refl)
+    found (q ∷ rs) (suc n) p = right (immediate q && same_event q.head.event r.head.event) (is_node rs r.head.event) (found rs n p)
+
+-- heads, one trigger more
+pub head_step : (triggers : List Rule) (t : ℕ) (r : Rule) (xs : List Event) (e : Event) (old : Bool) → item_at triggers t ≡ Some r
+    → (lists same_event xs e || is_node (drop t triggers) e) ≡ old → (new : List Event) → lists same_event new e ≡ (lists same_event xs e || (immediate r && same_event r.head.event e))
+    → (lists same_event new e || is_node (drop (t + 1) triggers) e) ≡ old
+head_step triggers t r xs e old is h new one =
+    ap (λ b. b || is_node (drop (t + 1) triggers) e) one
+    ∙ or_assoc (lists same_event xs e) (immediate r && same_event r.head.event e) (is_node (drop (t + 1) triggers) e)
+    ∙ ap (λ rs. lists same_event xs e || is_node rs e) (sym (dropped triggers t r is))
+    ∙ h
+  where
+    or_assoc : (a b c : Bool) → ((a || b) || c) ≡ (a || (b || c))
+    or_assoc true b c = refl
+    or_assoc false b c = refl

@@ -1,0 +1,47 @@
+-- Worked rows of the hierarchy: walks that allow an activation, and decisions.
+use Rattle.std.specs.Prelude.{◌≡◌, ℕ, Bool, true, false, cond, not, nat_eq, List, [], ◌∷◌, Some, None}
+use Rattle.gt_base.specs.declared.events.Fluent.TheVariants.{Enabled, Assigned, Granted, Limit}
+use Rattle.gt_base.specs.declared.policies.HierEdge.{HierEdge}
+use Rattle.gt_base.specs.declared.requests.Decision.TheVariants.{Permit, NoActive, NoGrant, Shut}
+use Rattle.gt_base.specs.Held.{RoleWalk}
+use Rattle.gtrbac_model.specs.Conflict.{Status}
+use Rattle.gtrbac_model.specs.Hierarchy.{activation_walk}
+use Rattle.gtrbac_model.specs.Decision.{decide}
+use Rattle.gtrbac_model.specs.ConflictRows.{role, user, perm}
+
+-- Hierarchy: s, j, t, k are 0 to 3; user 0 is assigned to s and t; permission 0 is granted to j and 1 to k.
+abbrev pub edge : ℕ → ℕ → Bool → Bool → HierEdge
+edge a b inherits strong = record { senior = role a; junior = role b; inherits = inherits; activates = not inherits; strong = strong }
+
+abbrev pub fork : Bool → List HierEdge
+fork strong = edge 0 1 true false ∷ edge 2 3 false strong ∷ []
+
+abbrev pub fork_status : Bool → Status
+fork_status t (Enabled r) = cond (nat_eq r.0 2) t true
+fork_status t (Assigned u r) = cond (nat_eq r.0 0) true (nat_eq r.0 2)
+fork_status t (Granted p r) = nat_eq (r.0) (cond (nat_eq p.0 0) 1 3)
+fork_status t (Limit l) = false
+
+abbrev pub walk : ℕ → List ℕ → RoleWalk
+walk r es = record { start = role r; edges = es }
+
+-- Diamond: chief, doctor, nurse, aide are 0 to 3.
+abbrev pub diamond : List HierEdge
+diamond = edge 0 1 true false ∷ edge 0 2 true false ∷ edge 1 3 true false ∷ edge 2 3 true false ∷ []
+
+abbrev pub diamond_status : Bool → Bool → Status
+diamond_status doctor nurse (Enabled r) = cond (nat_eq r.0 1) doctor (cond (nat_eq r.0 2) nurse true)
+diamond_status doctor nurse (Granted p r) = nat_eq r.0 3
+diamond_status doctor nurse _ = false
+
+pub record AreWalkRows : Type 0 where
+  pub j_not_allowed : activation_walk (fork false) (fork_status true) (user 0) (role 1) ≡ None
+  pub k_allowed : activation_walk (fork false) (fork_status true) (user 0) (role 3) ≡ Some (walk 2 (1 ∷ []))
+  pub k_still_allowed : activation_walk (fork false) (fork_status false) (user 0) (role 3) ≡ Some (walk 2 (1 ∷ []))
+  pub k_not_allowed : activation_walk (fork true) (fork_status false) (user 0) (role 3) ≡ None
+  pub pj_by_s : decide (fork false) (fork_status true) (role 0 ∷ []) (perm 0) ≡ Permit (walk 0 (0 ∷ []))
+  pub pk_by_t : decide (fork false) (fork_status true) (role 2 ∷ []) (perm 1) ≡ NoGrant
+  pub by_doctor : decide diamond (diamond_status true true) (role 0 ∷ []) (perm 0) ≡ Permit (walk 0 (0 ∷ 2 ∷ []))
+  pub by_nurse : decide diamond (diamond_status false true) (role 0 ∷ []) (perm 0) ≡ Permit (walk 0 (1 ∷ 3 ∷ []))
+  pub shut : decide diamond (diamond_status false false) (role 0 ∷ []) (perm 0) ≡ Shut 2
+  pub no_active : decide diamond (diamond_status true true) [] (perm 0) ≡ NoActive

@@ -1,0 +1,5 @@
+pub mod Items
+pub mod Spreading
+pub mod Stepping
+pub mod Descending
+pub mod Reachable

@@ -1,0 +1,15 @@
+use Rattle.std.proofs.Common.{◌<◌, ℕ, List, ◌++◌, length, slice_index}
+use Rattle.least_walk.specs.Distances.{far}
+use Rattle.least_walk.specs.Walks.{Descends}
+use Rattle.least_walk.proofs.walking.follow.Given as goal
+
+abbrev pub invariant-loop-at : goal.invariant-loop-at
+invariant-loop-at l =
+    record {
+      inside : l.at < length l.dist;
+      reached : slice_index l.dist l.at < far;
+      whole : (rest : List ℕ) → Descends l.edges l.dist l.at rest → Descends l.edges l.dist l.start (l.numbers ++ rest);
+    }
+
+abbrev pub decreases-loop-at : goal.decreases-loop-at
+decreases-loop-at l = slice_index l.dist l.at

@@ -1,0 +1,15 @@
+pub mod Sets
+pub mod Chains
+pub mod Keeping
+pub mod Steps
+pub mod Tokens
+pub mod Lying
+pub mod Trees
+pub mod Findings
+pub mod Meant
+pub mod Canonical
+pub mod Again
+pub mod Tails
+pub mod Sound
+pub mod Accepted
+pub mod Stops

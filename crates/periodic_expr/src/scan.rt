@@ -1,0 +1,281 @@
+//! How far a text can be continued to an expression: a scan that takes a byte a step.
+ghost use Rattle.std.specs.Prelude.{◌≡◌, ◌<◌, ◌≤◌, Some, None, length, IfSome};
+ghost use Rattle.periodic_expr.specs.Scan.{is_blank as blank, calendar_word as letters_of, moved as moves, part_start as starts_part, calendar_start as starts_calendar, calendar_end as ends_calendar, letters as in_letters, number_start as starts_number, after_index as after_indexed, after_number as after_digits, digits as in_number, after_part as after_whole, on_blank as on_blanks, on as on_byte, set_first as first_in_set, IsSized, IsSmall, IsFitting};
+
+use gtrbac_model::Calendar;
+
+/// Where a scan stands: what may come next.
+#[derive(Clone, Copy, PartialEq, Eq, Debug)]
+pub(crate) enum Place {
+    /// Nothing yet.
+    Start,
+    /// After `+`.
+    PartNext,
+    /// Within `all`, after one letter.
+    OneLetter,
+    /// After two.
+    TwoLetters,
+    /// After `all` or a set.
+    DotNext,
+    /// After the point of a part.
+    CalendarNext,
+    /// Within a calendar, of a part or of the length, after so many letters.
+    Letters(bool, Calendar, usize),
+    /// Directly after a part.
+    PartDone,
+    /// After blanks behind a part.
+    PartPast,
+    /// After the brace of a set.
+    SetFirst,
+    /// Within a number, of a set or of the length, of this value so far.
+    Digits(bool, u32),
+    /// After blanks behind a number of a set.
+    NumberPast,
+    /// After a comma.
+    SetNext,
+    /// After `>`.
+    LengthNext,
+    /// After blanks behind the length's number.
+    LengthDot,
+    /// After the point of the length.
+    UnitNext,
+    /// After the length's calendar.
+    Finished,
+}
+
+/// What a step of the scan tells.
+#[derive(Clone, Copy, PartialEq, Eq, Debug)]
+pub(crate) enum Act {
+    Nothing,
+    /// A set begins here.
+    Open,
+    /// A number or a calendar begins here.
+    Begin,
+    /// A number of a set has ended.
+    Index(u32),
+    /// The length's number has ended.
+    Length(u32),
+    /// A part has ended with its calendar.
+    Part(Calendar),
+    /// The length has ended with its calendar.
+    Unit(Calendar),
+}
+
+/// A step: where the scan stands then, and what it tells.
+#[derive(Clone, Copy, PartialEq, Eq, Debug)]
+pub(crate) struct Move {
+    pub place: Place,
+    pub act: Act,
+}
+
+pub(crate) fn name_of(c: Calendar) -> &'static [u8]
+    ensures { result.now ≡ letters_of c }
+{
+    match c {
+        Calendar::Years => b"Years",
+        Calendar::Months => b"Months",
+        Calendar::Weeks => b"Weeks",
+        Calendar::Days => b"Days",
+        Calendar::Hours => b"Hours",
+        Calendar::Minutes => b"Minutes",
+    }
+}
+
+fn is_blank(b: u8) -> bool
+    ensures { result ≡ blank b }
+{
+    b == b' ' || b == b'\t'
+}
+
+fn to(place: Place, act: Act) -> Option<Move>
+    ensures { result ≡ Some (record { place = place; act = act }) }
+{
+    Some(Move { place, act })
+}
+
+fn part_start(b: u8) -> Option<Move>
+    ensures goes { result ≡ starts_part b }
+    ensures fits { IfSome result IsFitting }
+{
+    match b {
+        b'a' => to(Place::OneLetter, Act::Nothing),
+        b'{' => to(Place::SetFirst, Act::Open),
+        _ => None,
+    }
+}
+
+fn calendar_start(unit: bool, b: u8) -> Option<Move>
+    ensures goes { result ≡ starts_calendar unit b }
+    ensures fits { IfSome result IsFitting }
+{
+    let calendar = match b {
+        b'Y' => Calendar::Years,
+        b'M' => Calendar::Months,
+        b'W' => Calendar::Weeks,
+        b'D' => Calendar::Days,
+        b'H' => Calendar::Hours,
+        _ => return None,
+    };
+    to(Place::Letters(unit, calendar, 1), Act::Begin)
+}
+
+fn calendar_end(unit: bool, c: Calendar) -> Option<Move>
+    ensures goes { result ≡ ends_calendar unit c }
+    ensures fits { IfSome result IsFitting }
+{
+    if unit {
+        to(Place::Finished, Act::Unit(c))
+    } else {
+        to(Place::PartDone, Act::Part(c))
+    }
+}
+
+// Within a calendar after k letters; Months and Minutes part at the second.
+fn letters(unit: bool, c: Calendar, k: usize, b: u8) -> Option<Move>
+    requires { k < length (letters_of c) }
+    ensures goes { result ≡ in_letters unit c k b }
+    ensures fits { IfSome result IsFitting }
+{
+    let name = name_of(c);
+    if b == name[k] {
+        if k + 1 == name.len() {
+            calendar_end(unit, c)
+        } else {
+            to(Place::Letters(unit, c, k + 1), Act::Nothing)
+        }
+    } else if c == Calendar::Months && k == 1 && b == b'i' {
+        to(Place::Letters(unit, Calendar::Minutes, 2), Act::Nothing)
+    } else {
+        None
+    }
+}
+
+fn number_start(span: bool, b: u8) -> Option<Move>
+    ensures goes { result ≡ starts_number span b }
+    ensures fits { IfSome result IsFitting }
+{
+    if b.is_ascii_digit() {
+        to(Place::Digits(span, u32::from(b - b'0')), Act::Begin)
+    } else {
+        None
+    }
+}
+
+// What may stand after a number of a set.
+fn after_index(act: Act, b: u8) -> Option<Move>
+    requires { IsSmall act }
+    ensures goes { result ≡ after_indexed act b }
+    ensures fits { IfSome result IsFitting }
+{
+    match b {
+        b',' => to(Place::SetNext, act),
+        b'}' => to(Place::DotNext, act),
+        _ => None,
+    }
+}
+
+fn after_number(span: bool, v: u32, b: u8) -> Option<Move>
+    requires { v ≤ 999_999_999 }
+    ensures goes { result ≡ after_digits span v b }
+    ensures fits { IfSome result IsFitting }
+{
+    match (span, b) {
+        (true, b' ' | b'\t') => to(Place::LengthDot, Act::Length(v)),
+        (true, b'.') => to(Place::UnitNext, Act::Length(v)),
+        (true, _) => None,
+        (false, b' ' | b'\t') => to(Place::NumberPast, Act::Index(v)),
+        (false, _) => after_index(Act::Index(v), b),
+    }
+}
+
+// Within a number: no digit after a leading 0, and none after nine.
+fn digits(span: bool, v: u32, b: u8) -> Option<Move>
+    requires { v ≤ 999_999_999 }
+    ensures goes { result ≡ in_number span v b }
+    ensures fits { IfSome result IsFitting }
+{
+    if !b.is_ascii_digit() {
+        return after_number(span, v, b);
+    }
+    if v >= 1 && v <= 99_999_999 {
+        to(
+            Place::Digits(span, 10 * v + u32::from(b - b'0')),
+            Act::Nothing,
+        )
+    } else {
+        None
+    }
+}
+
+fn after_part(b: u8) -> Option<Move>
+    ensures goes { result ≡ after_whole b }
+    ensures fits { IfSome result IsFitting }
+{
+    match b {
+        b'+' => to(Place::PartNext, Act::Nothing),
+        b'>' => to(Place::LengthNext, Act::Nothing),
+        _ => None,
+    }
+}
+
+// A blank leaves the scan at the place, any other byte is as told.
+fn or_blank(b: u8, place: Place, other: Option<Move>) -> Option<Move>
+    requires place_in { IsSized place }
+    requires other_in { IfSome other IsFitting }
+    ensures goes { result ≡ on_blanks b place other }
+    ensures fits { IfSome result IsFitting }
+{
+    if is_blank(b) {
+        to(place, Act::Nothing)
+    } else {
+        other
+    }
+}
+
+// One byte alone leads on, to the place.
+fn only(b: u8, byte: u8, place: Place, act: Act) -> Option<Move>
+    requires place_in { IsSized place }
+    requires act_in { IsSmall act }
+    ensures goes { result ≡ on_byte b byte (Some (record { place = place; act = act })) None }
+    ensures fits { IfSome result IsFitting }
+{
+    if b == byte { to(place, act) } else { None }
+}
+
+// After the brace of a set.
+fn set_first(b: u8) -> Option<Move>
+    ensures goes { result ≡ first_in_set b }
+    ensures fits { IfSome result IsFitting }
+{
+    if b == b'}' {
+        to(Place::DotNext, Act::Nothing)
+    } else {
+        number_start(false, b)
+    }
+}
+
+/// Where a byte leads, none where no expression goes on so.
+pub(crate) fn moved(place: Place, b: u8) -> Option<Move>
+    requires { IsSized place }
+    ensures goes { result ≡ moves place b }
+    ensures fits { IfSome result IsFitting }
+{
+    match place {
+        Place::Start => part_start(b),
+        Place::PartNext => or_blank(b, place, part_start(b)),
+        Place::OneLetter => only(b, b'l', Place::TwoLetters, Act::Nothing),
+        Place::TwoLetters => only(b, b'l', Place::DotNext, Act::Nothing),
+        Place::DotNext => or_blank(b, place, only(b, b'.', Place::CalendarNext, Act::Nothing)),
+        Place::CalendarNext => or_blank(b, place, calendar_start(false, b)),
+        Place::Letters(unit, c, k) => letters(unit, c, k, b),
+        Place::PartDone | Place::PartPast => or_blank(b, Place::PartPast, after_part(b)),
+        Place::SetFirst => or_blank(b, place, set_first(b)),
+        Place::Digits(span, v) => digits(span, v, b),
+        Place::NumberPast => or_blank(b, place, after_index(Act::Nothing, b)),
+        Place::SetNext => or_blank(b, place, number_start(false, b)),
+        Place::LengthNext => or_blank(b, place, number_start(true, b)),
+        Place::LengthDot => or_blank(b, place, only(b, b'.', Place::UnitNext, Act::Nothing)),
+        Place::UnitNext => or_blank(b, place, calendar_start(true, b)),
+        Place::Finished => None,
+    }
+}

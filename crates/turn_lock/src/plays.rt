@@ -1,0 +1,52 @@
+//! What each step on the table tells.
+ghost use Rattle.turn_lock.specs.Turns.{drawn, looked, added, passed, joined, spent_view, split_left, split_right};
+
+use crate::view::{Spot, View};
+use atomic_table::{Join, Play, Split};
+use gt_base::Keeps;
+
+/// Draws a ticket.
+pub struct Draw;
+
+impl<M> Play<Spot<M>, View<M>> for Draw {
+    ghost then = { drawn };
+}
+
+/// Looks whether the ticket is served.
+pub struct Look;
+
+impl<M: Keeps> Play<Spot<M>, View<M>> for Look {
+    ghost then = { looked M.list M.same_root };
+}
+
+/// Counts the entry by which the value grew.
+pub struct Add;
+
+impl<M: Keeps> Play<Spot<M>, View<M>> for Add {
+    ghost then = { added M.list };
+}
+
+/// Serves the next ticket.
+pub struct PassOn;
+
+impl<M: Keeps> Play<Spot<M>, View<M>> for PassOn {
+    ghost then = { passed M.list };
+}
+
+/// Gives the next number to a new seat.
+pub struct Cut;
+
+impl<M> Split<View<M>> for Cut {
+    ghost left = { split_left };
+
+    ghost right = { split_right };
+}
+
+/// Puts the accounts of another seat beside its own.
+pub struct Glue;
+
+impl<M> Join<View<M>> for Glue {
+    ghost both = { joined };
+
+    ghost spent = { spent_view };
+}

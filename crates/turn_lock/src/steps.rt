@@ -1,0 +1,103 @@
+//! The steps of one seat.
+ghost use Rattle.std.specs.Prelude.{◌≡◌, ◌+◌, ◌^◌, ◌<◌, ◌++◌, [], ◌∷◌, length, drop};
+ghost use mathlib.Core.List.{IsPrefix};
+ghost use Rattle.gt_base.specs.declared.requests.Entry.{Entry};
+ghost use Rattle.turn_lock.specs.declared.view.Stage.TheVariants.{Idle, Waits, Holds};
+ghost use Rattle.turn_lock.specs.declared.view.Spot.TheVariants.{Away};
+ghost use Rattle.turn_lock.specs.Turns.{known_in, ticket_in, part};
+ghost use Rattle.turn_lock.specs.Seats.{IsSized, IsAt, IsSameSeat, mine};
+
+use crate::plays::{Add, Draw, Look, PassOn};
+use crate::rule::{Place, Turns};
+use crate::view::{Origin, Spot, View};
+use atomic_table::Shared;
+use gt_base::Keeps;
+use std::snapshot::Snapshot;
+use std::sync::Wait;
+use std::thread;
+
+/// What all seats share of the table.
+pub type Tabletop<M> = Shared<Spot<M>, View<M>, Origin<M>, Turns<M>>;
+
+/// Draws a ticket.
+pub fn draw<M: Keeps>(top: &Tabletop<M>, seat: &mut Place<M>) -> u64
+    requires fits { (seat.old.table_id ≡ top.now.table_id) × IsSized top.now.table_id }
+    requires idle { IsAt top.now.key.value.value (mine seat.old) Idle [] seat.old }
+    requires left { (mine seat.old).draws < 2 ^ 40 }
+    ensures seat { IsSameSeat seat.old seat.new }
+    ensures ticket { IsAt top.now.key.value.value (record (mine seat.old) { draws = (mine seat.old).draws + 1 }) (Waits result) [] seat.new }
+{
+    top.fetch_add::<Draw>(seat, 1, 1)
+}
+
+/// How often a seat looks whether its ticket is served before it sleeps.
+const LOOKS: u32 = 100;
+
+// Lets other threads go on, or sleeps where it has looked often, until `serving` moves on.
+fn pause<M: Keeps, R: Wait>(rt: &R, top: &Tabletop<M>, serving: u64, looks: u32)
+    requires { top.now.table_id.words ≡ 3 }
+{
+    if looks < LOOKS {
+        thread::yield_now();
+    } else {
+        top.park(rt, 2, (serving & 0xffff_ffff) as u32);
+    }
+}
+
+/// Waits until the ticket is served, and takes the value out.
+pub fn take<M: Keeps, R: Wait>(rt: &R, top: &Tabletop<M>, seat: &mut Place<M>, ticket: u64) -> M
+    requires fits { (seat.old.table_id ≡ top.now.table_id) × IsSized top.now.table_id }
+    requires waits { IsAt top.now.key.value.value (mine seat.old) (Waits ticket) [] seat.old }
+    ensures seat { IsSameSeat seat.old seat.new }
+    ensures turn { IsAt top.now.key.value.value (mine seat.old) (Holds ticket (M.list result)) ((0, Away) ∷ []) seat.new }
+    ensures seen { IsPrefix (mine seat.old).seen (M.list result) }
+    ensures root { M.same_root top.now.key.value.value result }
+{
+    let mut looks = 0u32;
+    for _ in rt.forever() {
+        let serving = top.load::<Look>(seat, 2);
+        if serving == ticket {
+            let found = top.exchange(seat, 0, Spot::Away);
+            let Spot::Home(value) = found else {
+                unreachable!()
+            };
+            return value;
+        }
+        pause(rt, top, serving, looks);
+        looks = looks.saturating_add(1);
+    }
+    unreachable!()
+}
+
+/// Records the one entry by which the value grew.
+pub fn append<M: Keeps>(top: &Tabletop<M>, seat: &mut Place<M>, value: &M)
+    requires fits { (seat.old.table_id ≡ top.now.table_id) × IsSized top.now.table_id }
+    requires turn { IsAt top.now.key.value.value (mine seat.old) (Holds (ticket_in seat.old.me.0.stage) (known_in seat.old.me.0.stage)) ((0, Away) ∷ []) seat.old }
+    requires grown { (e : Entry) × (M.list value.now ≡ known_in seat.old.me.0.stage ++ e ∷ []) × (e.who.worker ≡ (mine seat.old).number) }
+    ensures seat { IsSameSeat seat.old seat.new }
+    ensures turn { (e : Entry) → M.list value.now ≡ known_in seat.old.me.0.stage ++ e ∷ [] → IsAt top.now.key.value.value (record (mine seat.old) { seen = M.list value.now; own = (mine seat.old).own ++ e ∷ [] }) (Holds (ticket_in seat.old.me.0.stage) (M.list value.now)) ((0, Away) ∷ []) seat.new }
+{
+    // The length of the list fits a word.
+    let _ = value.kept();
+    let away = top.exchange(seat, 0, Spot::Told(Snapshot::of(value)));
+    let Spot::Away = away else { unreachable!() };
+    top.fetch_add::<Add>(seat, 0, 1);
+    let told = top.exchange(seat, 0, Spot::Away);
+    let Spot::Told(_) = told else { unreachable!() };
+}
+
+/// Gives the value and the turn back.
+pub fn give_back<M: Keeps>(top: &Tabletop<M>, seat: &mut Place<M>, value: M)
+    requires fits { (seat.old.table_id ≡ top.now.table_id) × IsSized top.now.table_id }
+    requires turn { IsAt top.now.key.value.value (mine seat.old) (Holds (ticket_in seat.old.me.0.stage) (M.list value)) ((0, Away) ∷ []) seat.old }
+    requires root { M.same_root top.now.key.value.value value }
+    ensures seat { IsSameSeat seat.old seat.new }
+    ensures idle { IsAt top.now.key.value.value (record (mine seat.old) { seen = M.list value }) Idle [] seat.new }
+    ensures first { IsPrefix (M.list top.now.key.value.value) (M.list value) }
+    ensures own { (mine seat.old).own ≡ part (mine seat.old).number (drop (length (M.list top.now.key.value.value)) (M.list value)) }
+{
+    let away = top.exchange(seat, 0, Spot::Home(value));
+    let Spot::Away = away else { unreachable!() };
+    top.fetch_add::<PassOn>(seat, 2, 1);
+    top.wake_all(2);
+}

@@ -1,0 +1,5 @@
+use Rattle.walk_laws.proofs.Orders as orders
+use Rattle.walk_laws.proofs.laws.one_least_walk.Goals as goal
+
+pub returns : goal.returns
+returns c = record { numbers = orders.one_least_walk; roles = orders.one_least_walk; events = orders.one_least_walk }

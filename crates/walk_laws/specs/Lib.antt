@@ -1,0 +1,3 @@
+pub mod Cycles
+pub mod Laws
+pub mod Rivals
