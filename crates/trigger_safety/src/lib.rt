@@ -26,4 +26,6 @@ pub fn levels(alloc: Global, triggers: &List<Trigger>) -> Result<(EventGraph, St
 }
 
 #[cfg(test)]
+mod random_graphs;
+#[cfg(test)]
 mod tests;
