@@ -1,0 +1,40 @@
+-- A set on its way to the one that its base settles to, level by level.
+use Rattle.std.specs.Prelude.{◌≡◌, ℕ, ◌+◌, ◌<◌, Bool, true, cond, not, ◌&&◌, nat_eq, List, [], ◌∷◌, Option, Some, None}
+use Rattle.gt_base.specs.declared.events.Event.{Event}
+use Rattle.gt_base.specs.declared.events.Prioritised.{Prioritised}
+use Rattle.gt_base.specs.Held.{Rule}
+use Rattle.gt_base.specs.Happening.{Happening}
+use Rattle.gt_base.specs.Sets.{has}
+use Rattle.gtrbac_model.specs.Conflict.{Status}
+use Rattle.gtrbac_model.specs.Trigger.{met, immediate}
+use Rattle.gtrbac_model.specs.Instant.{Settled}
+use Rattle.gtrbac_model.specs.Safety.{is_node}
+
+-- it has the base and the signals of the base, nothing that a settled set has not, and all that one has of the levels below n
+pub record IsSettledBelow (rules : List Rule) (base : Happening) (s : Status) (level : Event → ℕ) (n : ℕ) (x : Happening) : Type 0 where
+  pub has_base : (o : Prioritised) → has base.events o ≡ true → has x.events o ≡ true
+  pub within : (y : Happening) → Settled rules base s y → (o : Prioritised) → has x.events o ≡ true → has y.events o ≡ true
+  pub full : (y : Happening) → Settled rules base s y → (o : Prioritised) → is_node rules o.event ≡ true → level o.event < n → has y.events o ≡ true → has x.events o ≡ true
+  pub signals : x.signals ≡ base.signals
+
+-- from whichever base the one set comes, the other comes from it too
+abbrev pub Keeps : List Rule → Status → (Event → ℕ) → ℕ → Happening → ℕ → Happening → Type 0
+Keeps rules s level n x m y = (base : Happening) → IsSettledBelow rules base s level n x → IsSettledBelow rules base s level m y
+
+-- the trigger is of this level, it is met, and its head is not there yet
+abbrev pub fires : Status → (Event → ℕ) → ℕ → Happening → Rule → Bool
+fires s level n x r = immediate r && nat_eq (level r.head.event) n && met r x s && not (has x.events r.head)
+
+-- the head of the trigger, if it fires
+abbrev pub head_of : Status → (Event → ℕ) → ℕ → Happening → Rule → Option Prioritised
+head_of s level n x r = cond (fires s level n x r) (Some r.head) None
+
+-- the heads of the triggers that fire, in the triggers' order
+abbrev pub firing : Status → (Event → ℕ) → ℕ → Happening → List Rule → List Prioritised
+firing s level n x [] = []
+firing s level n x (r ∷ rs) = cond (fires s level n x r) (r.head ∷ firing s level n x rs) (firing s level n x rs)
+
+-- how many triggers have a head that is not there
+abbrev pub missing : List Rule → Happening → ℕ
+missing [] x = 0
+missing (r ∷ rs) x = cond (has x.events r.head) 0 1 + missing rs x

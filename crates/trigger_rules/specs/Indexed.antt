@@ -1,0 +1,34 @@
+-- The numbers of the triggers that have an item in their bodies.
+use Rattle.std.specs.Prelude.{ℕ, ◌+◌, Bool, cond, List, [], ◌∷◌}
+use Rattle.gt_base.specs.declared.events.Event.{Event}
+use Rattle.gt_base.specs.declared.events.Signal.{Signal}
+use Rattle.gt_base.specs.Held.{Rule}
+use Rattle.gt_base.specs.contracts.events.EventPartialEq.TheImpl as event_equality
+use Rattle.gt_base.specs.contracts.events.SignalPartialEq.TheImpl as signal_equality
+use Rattle.gtrbac_model.specs.Same.{lists, same_event, same_signal}
+
+-- the numbers, ascending from n, of the triggers that pass
+abbrev pub numbers : (Rule → Bool) → ℕ → List Rule → List ℕ
+numbers p n [] = []
+numbers p n (r ∷ rs) = cond (p r) (n ∷ numbers p (n + 1) rs) (numbers p (n + 1) rs)
+
+abbrev pub has_event : Event → Rule → Bool
+has_event e r = lists same_event r.events e
+
+abbrev pub has_signal : Signal → Rule → Bool
+has_signal s r = lists same_signal r.signals s
+
+-- the triggers with the event in their bodies
+abbrev pub with_event : List Rule → Event → List ℕ
+with_event rules e = numbers (has_event e) 0 rules
+
+-- the triggers with the signal in their bodies
+abbrev pub with_signal : List Rule → Signal → List ℕ
+with_signal rules s = numbers (has_signal s) 0 rules
+
+-- what `==` answers
+abbrev pub event_eq : Event → Event → Bool
+event_eq = event_equality.ghosts.eq
+
+abbrev pub signal_eq : Signal → Signal → Bool
+signal_eq = signal_equality.ghosts.eq

@@ -1,0 +1,151 @@
+//! Triggers that are kept, and when the body of one is met.
+ghost use Rattle.std.specs.Prelude.{◌≡◌, ◌<◌, ◌≤◌, ◌&&◌, length, Some, IfOk};
+ghost use Rattle.std.specs.List.{list_all};
+ghost use Rattle.gt_base.specs.declared.events.Event.{Event};
+ghost use Rattle.gt_base.specs.Held.{Rule};
+ghost use Rattle.gt_base.specs.Sets.{has};
+ghost use Rattle.gtrbac_model.specs.Conflict.{won as is_won};
+ghost use Rattle.gtrbac_model.specs.Graph.{item_at};
+ghost use Rattle.gtrbac_model.specs.Trigger.{met as is_met, holds as holds_in};
+ghost use Rattle.trigger_rules.specs.Indexed.{with_event, with_signal};
+
+use crate::event_index::event_index;
+use crate::signal_index::signal_index;
+use gt_base::{Cond, Event, EventSet, Happened, List, Memory, Signal, Status, Trigger};
+use indexmap::IndexMap;
+use std::alloc::Global;
+use std::marker::Model;
+
+/// The triggers of a policy in their order, numbered from 0.
+#[derive(Drop)]
+pub struct Rules {
+    triggers: List<Trigger>,
+    events: IndexMap<Event, Vec<u32>>,
+    signals: IndexMap<Signal, Vec<u32>>,
+}
+
+impl Model for Rules {
+    ghost use Rattle.std.specs.Prelude.{List, [], length, ◌≤◌, ◌≡◌, MatchOption};
+    ghost use Rattle.gt_base.specs.declared.events.Event.{Event};
+    ghost use Rattle.gt_base.specs.declared.events.Signal.{Signal};
+    ghost use Rattle.gt_base.specs.Held.{Rule};
+    ghost use Rattle.indexmap.specs.IndexMap.{get};
+    ghost use Rattle.trigger_rules.specs.Indexed.{event_eq, signal_eq, with_event, with_signal};
+
+    ghost Value = { List Rule };
+
+    ghost view = { λ r. r.triggers.items };
+
+    ghost invariant = { λ r. (length r.triggers.items ≤ 4_000)
+        × ((e : Event) → MatchOption (get event_eq r.events e) (with_event r.triggers.items e ≡ []) (λ v. v.items ≡ with_event r.triggers.items e))
+        × ((s : Signal) → MatchOption (get signal_eq r.signals s) (with_signal r.triggers.items s ≡ []) (λ v. v.items ≡ with_signal r.triggers.items s)) };
+}
+
+impl Rules {
+    /// Keeps equal triggers, which are at most 4,000.
+    pub fn new(alloc: Global, triggers: &List<Trigger>) -> Result<Rules, Memory>
+        requires { length triggers.now.items ≤ 4_000 }
+        ensures { IfOk result (λ r. r ≡ triggers.now.items) }
+    {
+        let triggers = copied(alloc, triggers)?;
+        let events = event_index(alloc, triggers.as_slice())?;
+        let signals = signal_index(alloc, triggers.as_slice())?;
+        Ok(Rules {
+            triggers,
+            events,
+            signals,
+        })
+    }
+
+    /// The triggers, in their order.
+    pub fn triggers(&self) -> &List<Trigger>
+        ensures triggers { result.now.items ≡ self.now }
+        ensures few { length self.now ≤ 4_000 }
+    {
+        &self.triggers
+    }
+
+    /// The numbers of the triggers that have the event in their bodies, ascending.
+    pub fn by_event(&self, e: Event) -> &[u32]
+        ensures { result.now ≡ with_event self.now e }
+    {
+        match self.events.get(&e) {
+            Some(numbers) => numbers.as_slice(),
+            None => &[],
+        }
+    }
+
+    /// The numbers of the triggers that have the signal in their bodies, ascending.
+    pub fn by_signal(&self, s: Signal) -> &[u32]
+        ensures { result.now ≡ with_signal self.now s }
+    {
+        match self.signals.get(&s) {
+            Some(numbers) => numbers.as_slice(),
+            None => &[],
+        }
+    }
+}
+
+/// Equal triggers.
+fn copied(alloc: Global, triggers: &List<Trigger>) -> Result<List<Trigger>, Memory>
+    ensures { IfOk result (λ copy. copy.items ≡ triggers.now.items) }
+{
+    let mut copy = List::new(alloc);
+    copy.reserve(triggers.len())?;
+    for t in triggers.as_slice() {
+        copy.push(t.copied()?);
+    }
+    Ok(copy)
+}
+
+/// Whether the body of the trigger of this number is met at the instant: each of its events is among the winners, each of its
+/// signals is there, and each of its conditions held before the instant. It takes no memory.
+pub fn met(r: &Rules, n: u32, won: &EventSet, x: &Happened, before: &Status) -> bool
+    requires trigger { n < length r.now }
+    requires won { (e : Event) → has won.now.set e ≡ is_won x.now.set e }
+    ensures { (t : Rule) → item_at r.now n ≡ Some t → result ≡ is_met t x.now.set (has before.now.set) }
+{
+    body_met(&r.triggers.as_slice()[n as usize], won, x, before)
+}
+
+/// Whether the body is met, by the winners.
+fn body_met(t: &Trigger, won: &EventSet, x: &Happened, before: &Status) -> bool
+    ensures { result ≡ (list_all (has won.now.set) t.now.events && list_all (has x.now.set.signals) t.now.signals && list_all (holds_in (has before.now.set)) t.now.conds) }
+{
+    if !all_won(t.events.as_slice(), won) {
+        return false;
+    }
+    if !all_there(t.signals.as_slice(), x) {
+        return false;
+    }
+    all_held(t.conds.as_slice(), before)
+}
+
+/// Whether each of the events is among the winners.
+fn all_won(events: &[Event], won: &EventSet) -> bool
+    ensures { result ≡ list_all (has won.now.set) events.now }
+{
+    events.iter().all(|e| won.has(*e))
+}
+
+/// Whether each of the signals is there.
+fn all_there(signals: &[Signal], x: &Happened) -> bool
+    ensures { result ≡ list_all (has x.now.set.signals) signals.now }
+{
+    signals.iter().all(|s| x.signalled(*s))
+}
+
+/// Whether each of the conditions holds.
+fn all_held(conds: &[Cond], before: &Status) -> bool
+    ensures { result ≡ list_all (holds_in (has before.now.set)) conds.now }
+{
+    conds.iter().all(|c| holds(*c, before))
+}
+
+/// Whether the condition holds.
+fn holds(c: Cond, before: &Status) -> bool
+    ensures { result ≡ holds_in (has before.now.set) c }
+{
+    let is_on = before.is_on(c.fluent);
+    if c.on { is_on } else { !is_on }
+}
