@@ -1,0 +1,16 @@
+pub mod Blocking
+pub mod Lasting
+pub mod Refusing
+pub mod Members
+pub mod Reading
+pub mod Applying
+pub mod InOrder
+pub mod Telling
+pub mod Quieting
+pub mod Lying
+pub mod Continuing
+pub mod Charging
+pub mod OnItsWay
+pub mod SmallOne
+pub mod Leaving
+pub mod AddingOne
