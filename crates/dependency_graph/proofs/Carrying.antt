@@ -36,7 +36,8 @@ event_here [] n h = absurd (omega arith)
 event_here (x ∷ xs) zero h = refl
 event_here (x ∷ xs) (suc n) h = event_here xs n (omega arith)
 
-place_here : (xs : List Event) (n : ℕ) (e : Event) → item_at xs n ≡ Some e → item_at xs (place_of xs e) ≡ Some e
+-- an event that stands somewhere stands at its place
+pub place_here : (xs : List Event) (n : ℕ) (e : Event) → item_at xs n ≡ Some e → item_at xs (place_of xs e) ≡ Some e
 place_here [] n e h = cc
 place_here (x ∷ xs) zero e h = go (same_event e x) refl
   where

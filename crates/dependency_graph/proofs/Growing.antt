@@ -59,7 +59,8 @@ pub delayed_none : (events : List Event) (t : ℕ) (r : Rule) (ds : List Depende
 delayed_none events t r ds late triggers nodes =
     sym (append-nil ds) ∙ ap (λ b. ds ++ cond b (of_body triggers r.head.event t 0 r.events) []) (sym (ne_eqb r.delay 0 late))
 
-dropped : {A : Type 0} (xs : List A) (n : ℕ) (x : A) → item_at xs n ≡ Some x → drop n xs ≡ x ∷ drop (n + 1) xs
+-- behind the item at a number stand those from the next number on
+pub dropped : {A : Type 0} (xs : List A) (n : ℕ) (x : A) → item_at xs n ≡ Some x → drop n xs ≡ x ∷ drop (n + 1) xs
 dropped [] n x is = cc
 dropped (y ∷ ys) zero x is = let e : y ≡ x = cc in ap (λ z. z ∷ ys) e
 dropped (y ∷ ys) (suc n) x is = dropped ys n x is ∙ ap (λ m. x ∷ drop m (y ∷ ys)) (shift n)

@@ -1,21 +1,18 @@
 -- What is on its way is what is raised, since a trigger with a cause is met at no instant at which nothing happens.
-use Rattle.std.proofs.Common.{◌≡◌, ℕ, zero, suc, ◌+◌, ◌-◌, ◌<◌, ◌≤◌, Bool, true, false, nat_eq, nat_le, nat_lt, ◌&&◌, ◌||◌, inl, inr, List, [], ◌∷◌, ◌++◌, flat_map, refl, sym, ◌∙◌, ap, arith, append_assoc}
-use Rattle.std.specs.List.{list_all}
+use Rattle.std.proofs.Common.{◌≡◌, ℕ, zero, suc, ◌+◌, ◌-◌, ◌<◌, ◌≤◌, Bool, true, false, nat_eq, nat_le, nat_lt, ◌&&◌, inl, inr, List, [], ◌∷◌, ◌++◌, flat_map, refl, sym, ◌∙◌, ap, arith, append_assoc}
 use Rattle.std.proofs.lemmas.Bool.{ltb-true, ltb-false, leb-true, leb-false, lt-ltb, eqb-true, eq-eqb}
 use Rattle.gt_base.specs.Held.{Rule}
 use Rattle.gt_base.specs.Happening.{nothing}
-use Rattle.gt_base.specs.Sets.{members, has, none}
-use Rattle.gt_base.specs.declared.events.Event.{Event}
-use Rattle.gt_base.specs.declared.events.Signal.{Signal}
+use Rattle.gt_base.specs.Sets.{none}
 use Rattle.gt_base.specs.declared.events.Prioritised.{Prioritised}
 use Rattle.gtrbac_model.specs.Policy.{Policy}
-use Rattle.gtrbac_model.specs.Conflict.{won}
-use Rattle.gtrbac_model.specs.Trigger.{met, holds}
+use Rattle.gtrbac_model.specs.Trigger.{met}
 use Rattle.gtrbac_model.specs.Status.{Model, since}
 use Rattle.gtrbac_model.specs.Base.{status, requested, periodic, limited, when, delayed}
-use Rattle.gtrbac_model.specs.History.{is_some_item, now_of}
+use Rattle.gtrbac_model.specs.History.{now_of}
 use Rattle.gtrbac_model.proofs.Append.{now-append}
 use Rattle.gtrbac_model.proofs.Elements.{Elem, both_true, split, all_elim}
+use Rattle.gtrbac_model.proofs.Quiet.{not_met}
 use Rattle.history_laws.proofs.Members.{clash}
 use Rattle.history_laws.specs.Policies.{has_cause, IsQuiet}
 use Rattle.history_laws.specs.Pending.{StretchStays, known_head, PendingIsRaised, PendingAfterAsk, HeadsAfterTick}
@@ -35,28 +32,11 @@ stretch_stays p birth m from (suc k) le none =
     before : (n k : ℕ) → n + suc k - 1 ≡ n + k
     before n k = omega arith
 
-no_event : (es : List Event) → is_some_item es ≡ true → list_all (won nothing) es ≡ false
-unfolding members none
-no_event [] h = cc
-no_event (e ∷ es) h = refl
-
-no_signal : (ss : List Signal) → is_some_item ss ≡ true → list_all (has nothing.signals) ss ≡ false
-unfolding has none
-no_signal [] h = cc
-no_signal (s ∷ ss) h = refl
-
-never : (a b c x y : Bool) → (a ≡ true → x ≡ false) → (b ≡ true → y ≡ false) → (a || b) ≡ true → (x && y && c) ≡ false
-never true b c true y f g h = cc (f refl)
-never true b c false y f g h = refl
-never false b c true true f g h = cc (g h)
-never false b c true false f g h = refl
-never false b c false y f g h = refl
-
 -- where nothing happens a trigger with a cause raises nothing
 raises_nothing : (p : Policy) (birth : ℕ) (m : Model) (r : Rule) (u : ℕ) → has_cause r ≡ true → m u ≡ nothing → when (met r (m u) (status p birth m (u - 1))) r.head ≡ []
 raises_nothing p birth m r u cause empty =
     ap (λ x. when (met r x (status p birth m (u - 1))) r.head) empty
-    ∙ ap (λ b. when b r.head) (never (is_some_item r.events) (is_some_item r.signals) (list_all (holds (status p birth m (u - 1))) r.conds) _ _ (no_event r.events) (no_signal r.signals) cause)
+    ∙ ap (λ b. when b r.head) (not_met r (status p birth m (u - 1)) cause)
 
 -- a further test changes nothing where it fails only on nothing
 also_if : {A : Type 0} (a c : Bool) (xs : List A) → (a ≡ true → c ≡ false → xs ≡ []) → ◌≡◌ {A = List A} (elim a [ true ↦ xs | false ↦ [] ]) (elim (a && c) [ true ↦ xs | false ↦ [] ])

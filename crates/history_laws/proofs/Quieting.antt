@@ -18,7 +18,7 @@ use Rattle.gtrbac_model.specs.Status.{Model, status_after, changed_by, differ}
 use Rattle.gtrbac_model.specs.Sessions.{empty_table}
 use Rattle.gtrbac_model.specs.Base.{status, base_at, raised_at, signals_at, drops_at}
 use Rattle.gtrbac_model.specs.History.{AreLegalAfter, stirs, is_some_item, now_of}
-use Rattle.gtrbac_model.proofs.Elements.{both_true, either_true, any_elim, all_elim, all_intro}
+use Rattle.gtrbac_model.proofs.Elements.{both_true, either_true, any_elim, all_elim}
 use Rattle.gtrbac_model.proofs.Quiet as quiet
 use Rattle.gtrbac_model.proofs.Playing.{now_snoc, goes_on, later_requests, tick_not_read, base_of_prefix}
 use Rattle.history_laws.specs.Policies.{has_cause, SettlesNothing, QuietSettles, IsQuiet, EmptyIsQuiet, PassedAreQuiet}
@@ -74,16 +74,9 @@ module _ (rules : List Rule) (causes : list_all has_cause rules ≡ true) (s : S
       let events : x.events ≡ nothing.events = is.grounding.lists ∙ ap set_of (no_order x is.signals is.order is.grounding.grounds) in
       λ i. record { events = events i; signals = is.signals i }
 
-  caused : list_all quiet.has_cause rules ≡ true
-  caused = all_intro quiet.has_cause rules (λ r m. (λ i. some_same r.events i || some_same r.signals i) ∙ all_elim has_cause rules r causes m)
-    where
-      some_same : {A : Type 0} (xs : List A) → quiet.some_item xs ≡ is_some_item xs
-      some_same [] = refl
-      some_same (x ∷ xs) = refl
-
   pub settles_nothing : SettlesNothing rules s
   unfolding members none
-  settles_nothing = record { settled = quiet.quiet_settles rules s caused; only = only_nothing; stays = refl }
+  settles_nothing = record { settled = quiet.quiet_settles rules s causes; only = only_nothing; stays = refl }
 
 pub quiet_settles : QuietSettles
 quiet_settles p is s = settles_nothing p.triggers is.causes s

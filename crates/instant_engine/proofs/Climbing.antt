@@ -1,6 +1,6 @@
 -- A set that is full below a level, and in which no trigger of the level fires, is full at the level; full at all levels it is the
 -- settled set.
-use Rattle.std.proofs.Common.{◌≡◌, ℕ, ◌+◌, ◌<◌, ◌≤◌, true, false, not, nat_le, nat_lt, ◌&&◌, ◌||◌, ◌⊎◌, inl, inr, List, [], ◌∷◌, refl, sym, ◌∙◌, ap, subst, arith}
+use Rattle.std.proofs.Common.{◌≡◌, ℕ, ◌+◌, ◌<◌, ◌≤◌, true, false, not, nat_le, nat_lt, ◌&&◌, ◌||◌, inl, inr, List, [], ◌∷◌, refl, sym, ◌∙◌, ap, subst, arith}
 use Rattle.std.specs.List.{list_all}
 use Rattle.std.specs.Cmp.{both_ways}
 use Rattle.std.proofs.lemmas.Bool.{ltb-true, ltb-false, leb-true}
@@ -15,13 +15,13 @@ use Rattle.gt_base.specs.declared.events.Prioritised.{Prioritised}
 use Rattle.gt_base.proofs.SetLaws.{same_sets, has-set_of}
 use Rattle.gt_base.proofs.SetSteps.{prioritised_cmp_total}
 use Rattle.gt_base.proofs.OrderLaws.{prioritised_cmp-IsAntisymmetric}
-use Rattle.gtrbac_model.specs.Same.{same_event, same_prioritised}
+use Rattle.gtrbac_model.specs.Same.{same_event}
 use Rattle.gtrbac_model.specs.Conflict.{Status, blocked, won}
 use Rattle.gtrbac_model.specs.Trigger.{met, immediate, holds}
 use Rattle.gtrbac_model.specs.Instant.{stands, supported, grounded_after, Settled}
 use Rattle.gtrbac_model.specs.Safety.{is_node, is_levelled, are_levels}
-use Rattle.gtrbac_model.proofs.Elements.{Elem, both_true, and_true, either_true, implied, split, any_elim, any_intro, all_elim, all_intro, elem_of_set_of, tied}
-use Rattle.gtrbac_model.proofs.Uniqueness.{In, elem, of_elem, Goes, blocked_alike, is_same_event, same_event_of, is_same_prioritised}
+use Rattle.gtrbac_model.proofs.Elements.{Elem, both_true, and_true, implied, split, any_elim, any_intro, all_elim, all_intro, tied}
+use Rattle.gtrbac_model.proofs.Uniqueness.{In, elem, of_elem, Goes, blocked_alike, is_same_event, head_node, support, only_base_along, in_order, from_base}
 use Rattle.gtrbac_model.proofs.Existence.{settled_set}
 use Rattle.instant_engine.specs.OnTheWay.{IsSettledBelow}
 
@@ -50,53 +50,15 @@ module _ (rules : List Rule) (base : Happening) (s : Status) (level : Event → 
   abbrev Below : ℕ → Happening → Type 0
   Below = IsSettledBelow rules base s level
 
-  head_node : (r : Rule) → Elem rules r → immediate r ≡ true → is_node rules r.head.event ≡ true
-  head_node r m i = any_intro (λ q. immediate q && same_event q.head.event r.head.event) rules r m (and_true _ _ i (same_event_of r.head.event r.head.event refl))
-
-  -- what a trigger that supports an event is
-  abbrev Supporter : Happening → List Prioritised → Prioritised → Rule → Type 0
-  Supporter y earlier e r =
-      Elem rules r × (immediate r ≡ true) × (r.head ≡ e) × (met r y s ≡ true) × (list_all (stands y earlier) r.events ≡ true)
-
-  support : (y : Happening) (earlier : List Prioritised) (e : Prioritised) → supported rules base s y earlier e ≡ true → In base e ⊎ ((r : Rule) × Supporter y earlier e r)
-  support y earlier e h =
-      elim (either_true (has base.events e) _ h) [
-        | inl b ↦ inl b
-        | inr a ↦
-            let (r, m, t) = any_elim (λ r. immediate r && same_prioritised r.head e && met r y s && list_all (stands y earlier) r.events) rules a in
-            let u : ((immediate r && same_prioritised r.head e && met r y s) ≡ true) × (list_all (stands y earlier) r.events ≡ true) = both_true _ _ t in
-            let v : ((immediate r && same_prioritised r.head e) ≡ true) × (met r y s ≡ true) = both_true _ _ u.0 in
-            let w : (immediate r ≡ true) × (same_prioritised r.head e ≡ true) = both_true _ _ v.0 in
-            inr (r, (m, w.0, is_same_prioritised _ _ w.1, v.1, u.1))
-      ]
-
-  only_base_along : (y : Happening) (earlier rest : List Prioritised) → grounded_after rules base s y earlier rest ≡ true → (o : Prioritised) → Elem rest o → is_node rules o.event ≡ false → In base o
-  only_base_along y earlier [] g o m n = elim m [ ]
-  only_base_along y earlier (e ∷ es) g o (inl q) n =
-      elim (support y earlier e (both_true _ _ g).0) [
-        | inl b ↦ subst (In base) (sym q) b
-        | inr r ↦
-            let yes_node : is_node rules o.event ≡ true = subst (λ f. is_node rules f ≡ true) (ap (λ p. p.event) (r.1.2 ∙ sym q)) (head_node r.0 r.1.0 r.1.1) in
-            cc
-      ]
-  only_base_along y earlier (e ∷ es) g o (inr m) n = only_base_along y (e ∷ earlier) es (both_true _ _ g).1 o m n
-
-  in_order : (y : Happening) (is : IsSettled y) (o : Prioritised) → In y o → Elem is.order o
-  in_order y is o h =
-      elem_of_set_of prioritised_cmp_total prioritised_cmp-IsAntisymmetric is.order o (subst (λ z. has z o ≡ true) is.grounding.lists h)
-
   -- of an event that heads no immediate trigger a settled set has what the base has
   of_base : (y : Happening) → IsSettled y → (o : Prioritised) → is_node rules o.event ≡ false → In y o → In base o
-  of_base y is o n h = only_base_along y [] is.order is.grounding.grounds o (in_order y is o h) n
-
-  from_base : (y : Happening) → IsSettled y → (o : Prioritised) → In base o → In y o
-  from_base y is o h = all_elim (has y.events) (members base.events) o (both_true _ _ is.is_closed).0 (elem base o h)
+  of_base y is o n h = only_base_along rules base s level levelled y [] is.order is.grounding.grounds o (in_order rules base s level levelled y is o h) n
 
   pub at_first : Below 0 base
   at_first =
       record {
         has_base = λ o h. h;
-        within = λ y is o h. from_base y is o h;
+        within = λ y is o h. from_base rules base s level levelled y is o h;
         full = λ y is o node low h. absurd (nothing_below (level o.event) low);
         signals = refl;
       }
@@ -171,10 +133,10 @@ module _ (rules : List Rule) (base : Happening) (s : Status) (level : Event → 
 
       here : (earlier : List Prioritised) → ((o : Prioritised) → Elem earlier o → Low o → In x o) → (e : Prioritised) → supported rules base s y earlier e ≡ true → In y e → Low e → In x e
       here earlier known e sup there low =
-          elim (support y earlier e sup) [
+          elim (support rules base s level levelled y earlier e sup) [
             | inl b ↦ so_far.has_base e b
             | inr r ↦
-                let node : is_node rules e.event ≡ true = subst (λ p. is_node rules p.event ≡ true) r.1.2 (head_node r.0 r.1.0 r.1.1) in
+                let node : is_node rules e.event ≡ true = subst (λ p. is_node rules p.event ≡ true) r.1.2 (head_node rules base s level levelled r.0 r.1.0 r.1.1) in
                 let top : level r.0.head.event ≤ n = subst (λ p. level p.event ≤ n) (sym r.1.2) (low node) in
                 split (nat_lt (level e.event) n)
                 (λ t. so_far.full y is e node (ltb-true _ _ t) there)
@@ -198,7 +160,7 @@ module _ (rules : List Rule) (base : Happening) (s : Status) (level : Event → 
       of_order o m = subst (λ z. has z o ≡ true) (sym is.grounding.lists) (has_in_set is.order o m)
 
       pub full_at : (o : Prioritised) → is_node rules o.event ≡ true → level o.event < n + 1 → In y o → In x o
-      full_at o node low h = along [] is.order is.grounding.grounds of_order (λ p m. elim m [ ]) o (in_order y is o h) (λ t. at_most (level o.event) n low)
+      full_at o node low h = along [] is.order is.grounding.grounds of_order (λ p m. elim m [ ]) o (in_order rules base s level levelled y is o h) (λ t. at_most (level o.event) n low)
 
   -- where no trigger of the level fires, the next level is reached
   pub next_level : (x : Happening) (n : ℕ) → Below n x → ((r : Rule) → Elem rules r → immediate r ≡ true → level r.head.event ≡ n → met r x s ≡ true → In x r.head) → Below (n + 1) x

@@ -16,6 +16,7 @@ use Rattle.gtrbac_model.proofs.Elements.{Elem, both_true, and_true, either_true,
 use Rattle.gtrbac_model.proofs.Uniqueness.{In, is_same_prioritised}
 use Rattle.gt_base.proofs.SetSteps.{prioritised_cmp_total}
 use Rattle.gt_base.proofs.OrderLaws.{prioritised_cmp-IsAntisymmetric}
+use Rattle.dependency_graph.proofs.Growing.{dropped}
 use Rattle.instant_engine.specs.OnTheWay.{Keeps, fires, head_of, firing, missing}
 use Rattle.instant_engine.proofs.Climbing.{supports, next_level}
 
@@ -75,14 +76,6 @@ pub item_there : {A : Type 0} (xs : List A) (t : ℕ) → t < length xs → (y :
 item_there [] t h = absurd (omega arith)
 item_there (y ∷ ys) zero h = (y, refl)
 item_there (y ∷ ys) (suc t) h = item_there ys t (omega arith)
-
-dropped : {A : Type 0} (xs : List A) (t : ℕ) (y : A) → item_at xs t ≡ Some y → drop t xs ≡ y ∷ drop (t + 1) xs
-dropped [] t y is = cc
-dropped (z ∷ zs) zero y is = let e : z ≡ y = cc in ap (λ w. w ∷ zs) e
-dropped (z ∷ zs) (suc t) y is = dropped zs t y is ∙ ap (λ m. y ∷ drop m (z ∷ zs)) (shift t)
-  where
-    shift : (m : ℕ) → suc (m + 1) ≡ suc m + 1
-    shift m = omega arith
 
 pub nil_of : {A : Type 0} (xs : List A) → length xs ≡ 0 → xs ≡ []
 nil_of [] h = refl

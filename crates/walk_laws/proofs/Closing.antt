@@ -5,7 +5,7 @@ use Rattle.gt_base.specs.declared.events.Event.{Event}
 use Rattle.gt_base.specs.Held.{Rule}
 use Rattle.gtrbac_model.specs.Same.{same_event}
 use Rattle.gtrbac_model.specs.Graph.{Arc, Path, least_walk, LeadsAlong, IsWalk, NotAfter, IsLeastWalk, item_at}
-use Rattle.gtrbac_model.specs.Safety.{Dependency, dependencies, arcs_of, IsSafe, the_cycle}
+use Rattle.gtrbac_model.specs.Safety.{closing, first_closing, Dependency, dependencies, arcs_of, IsSafe, the_cycle}
 use Rattle.gtrbac_model.specs.Theorems.{CycleTells}
 use Rattle.gtrbac_model.proofs.Uniqueness.{is_same_event, same_event_of}
 use Rattle.walk_laws.specs.Cycles.{Closes, HasNoCycle, NotLonger, IsLeastCycle, is_conflict}
@@ -32,17 +32,6 @@ conflict_at ds n d h = ap (λ o. elim o [ Some e ↦ e.conflict | None ↦ false
 module _ (ds : List Dependency) where
   abbrev pub Closing : ℕ → List ℕ → Type 0
   Closing n back = Closes (arcs_of ds) (is_conflict ds) n back
-
-  abbrev closing : ℕ → Dependency → Option (List ℕ)
-  closing n d =
-      elim d.conflict [
-        | true ↦ elim (least_walk same_event (arcs_of ds) (same_event d.source) (d.target ∷ [])) [ Some p ↦ Some (n ∷ p.arcs) | None ↦ None ]
-        | false ↦ None
-      ]
-
-  abbrev first_closing : ℕ → List Dependency → Option (List ℕ)
-  first_closing n [] = None
-  first_closing n (d ∷ rest) = elim (closing n d) [ Some c ↦ Some c | None ↦ first_closing (n + 1) rest ]
 
   -- the least cycle that begins with this edge, or none
   record Least (n : ℕ) (c : List ℕ) : Type 0 where
@@ -98,7 +87,7 @@ module _ (ds : List Dependency) where
     of_mark true q = with_walk q _ (least_walk_is same_event (is_same_event, same_event_of) (arcs_of ds) (same_event d.source) (d.target ∷ []))
     of_mark false q = λ back c. false≢true (sym (conflict_at ds n d is ∙ q) ∙ c.is_marked)
 
-    closes_with : ClosesWith n (closing n d)
+    closes_with : ClosesWith n (closing ds n d)
     closes_with = of_mark d.conflict refl
 
   -- from number n on: no edge closes a cycle, or the first that does
@@ -152,7 +141,7 @@ module _ (ds : List Dependency) where
   item_within (x ∷ xs) zero e h = omega arith
   item_within (x ∷ xs) (suc n) e h = let k : n < length xs = item_within xs n e h in omega arith
 
-  any_from : (n : ℕ) (rest : List Dependency) → ((i : ℕ) → item_at rest i ≡ item_at ds (n + i)) → AnyFrom n (first_closing n rest)
+  any_from : (n : ℕ) (rest : List Dependency) → ((i : ℕ) → item_at rest i ≡ item_at ds (n + i)) → AnyFrom n (first_closing ds n rest)
   any_from n [] same = λ m back le c.
       let (d, is, _) = arc_at ds m c.arc c.is in
       let e : n + (m - n) ≡ m = whole m le in
@@ -164,7 +153,7 @@ module _ (ds : List Dependency) where
       nothing : {d : Dependency} → None ≡ Some d → ⊥
       nothing h = cc
   any_from n (d ∷ rest) same =
-      next n (closing n d) (first_closing (n + 1) rest) (closes_with n d (ap (item_at ds) (sym (add-zero n)) ∙ sym (same 0)))
+      next n (closing ds n d) (first_closing ds (n + 1) rest) (closes_with n d (ap (item_at ds) (sym (add-zero n)) ∙ sym (same 0)))
       (any_from (n + 1) rest (λ i. same (suc i) ∙ ap (item_at ds) (shift i)))
     where
       shift : (i : ℕ) → n + suc i ≡ (n + 1) + i
@@ -182,8 +171,8 @@ module _ (ds : List Dependency) where
       least : (n : ℕ) → 0 ≤ n
       least n = omega arith
 
-  pub whole : MatchOption (first_closing 0 ds) (HasNoCycle (arcs_of ds) (is_conflict ds)) (IsLeastCycle (arcs_of ds) (is_conflict ds))
-  whole = whole_of (first_closing 0 ds) (any_from 0 ds (λ i. ap (item_at ds) (sym (none i))))
+  pub whole : MatchOption (first_closing ds 0 ds) (HasNoCycle (arcs_of ds) (is_conflict ds)) (IsLeastCycle (arcs_of ds) (is_conflict ds))
+  whole = whole_of (first_closing ds 0 ds) (any_from 0 ds (λ i. ap (item_at ds) (sym (none i))))
     where
       none : (i : ℕ) → 0 + i ≡ i
       none i = omega arith

@@ -7,14 +7,9 @@ use Rattle.std.specs.Cmp.{nat_cmp_is}
 use Rattle.std.specs.Cmp.Lexicographic.{slice_cmp}
 use Rattle.std.specs.declared.cmp.Ordering.TheVariants.{Less, Equal}
 use Rattle.std.proofs.lemmas.Bool.{cases_lt, and_parts, and_from, false≢true}
-use Rattle.gtrbac_model.specs.Graph.{Arc, walks_from, LeadsAlong, item_at}
+use Rattle.gtrbac_model.specs.Graph.{Arc, first_ending, walks_from, LeadsAlong, item_at}
 use Rattle.walk_laws.specs.Laws.{TellsApart}
 use Rattle.walk_laws.proofs.Orders.{one_item}
-
--- the first walk that ends at a goal
-abbrev pub first_ending : {N : Type 0} → (N → Bool) → List (List ℕ × N) → Option (List ℕ)
-first_ending goal [] = None
-first_ending goal (w ∷ ws) = elim (goal w.1) [ true ↦ Some w.0 | false ↦ first_ending goal ws ]
 
 abbrev or_else : {A : Type 0} → Option A → Option A → Option A
 or_else (Some x) o = Some x

@@ -3,10 +3,10 @@ use Rattle.std.proofs.Common.{◌≡◌, ℕ, zero, suc, ◌+◌, ◌<◌, ◌�
 use Rattle.std.specs.Ordering.{nat_cmp, is_le}
 use Rattle.std.specs.Cmp.Lexicographic.{slice_cmp}
 use Rattle.std.proofs.lemmas.Bool.{cases_lt}
-use Rattle.gtrbac_model.specs.Graph.{Arc, Path, walks_from, least_of_length, least_walk, LeadsAlong, IsWalk, NotAfter, IsLeastWalk, item_at}
+use Rattle.gtrbac_model.specs.Graph.{shortest, first_ending, Arc, Path, walks_from, least_of_length, least_walk, LeadsAlong, IsWalk, NotAfter, IsLeastWalk, item_at}
 use Rattle.walk_laws.specs.Laws.{TellsApart}
 use Rattle.walk_laws.proofs.Orders.{one_item}
-use Rattle.walk_laws.proofs.Listing.{first_ending, HasNone, Best, Answers, answers}
+use Rattle.walk_laws.proofs.Listing.{HasNone, Best, Answers, answers}
 
 module _ {N : Type 0} (same : N → N → Bool) (apart : TellsApart same) (arcs : List (Arc N)) (goal : N → Bool) where
   -- of the starts, none has a walk of n arcs, or the first that has one has its least
@@ -46,11 +46,6 @@ module _ {N : Type 0} (same : N → N → Bool) (apart : TellsApart same) (arcs 
   any_start : (n : ℕ) (starts : List N) → AnyStart n starts (least_of_length same arcs goal n starts)
   any_start n [] = λ j s is. cc
   any_start n (a ∷ starts) = one_start n a starts (first_ending goal (walks_from same arcs n a)) (answers same apart arcs goal n a) (any_start n starts)
-
-  abbrev shortest : List N → ℕ → ℕ → Option (Path N)
-  shortest starts n zero = None
-  shortest starts n (suc k) =
-      elim (least_of_length same arcs goal n starts) [ Some p ↦ Some p | None ↦ shortest starts (n + 1) k ]
 
   -- no walk of so many arcs from any start
   abbrev pub NoneOf : List N → ℕ → Type 0
@@ -98,9 +93,9 @@ module _ {N : Type 0} (same : N → N → Bool) (apart : TellsApart same) (arcs 
       both : (i : ℕ) → n ≤ i → i ≤ n → n ≡ i
       both i p q = omega arith
 
-  one_length : (starts : List N) (n k : ℕ) (o : Option (Path N)) → AnyStart n starts o → AnyLength starts (n + 1) k (shortest starts (n + 1) k)
-      → AnyLength starts n (suc k) (elim o [ Some p ↦ Some p | None ↦ shortest starts (n + 1) k ])
-  one_length starts n k None none h = longer starts n k (shortest starts (n + 1) k) none h
+  one_length : (starts : List N) (n k : ℕ) (o : Option (Path N)) → AnyStart n starts o → AnyLength starts (n + 1) k (shortest same arcs goal starts (n + 1) k)
+      → AnyLength starts n (suc k) (elim o [ Some p ↦ Some p | None ↦ shortest same arcs goal starts (n + 1) k ])
+  one_length starts n k None none h = longer starts n k (shortest same arcs goal starts (n + 1) k) none h
   one_length starts n k (Some p) first h =
       record {
         first = subst (λ m. Starts m starts p) (sym first.best.size) first;
@@ -114,7 +109,7 @@ module _ {N : Type 0} (same : N → N → Bool) (apart : TellsApart same) (arcs 
       never : (i m : ℕ) → n ≤ i → i < m → m ≡ n → ⊥
       never i m p q e = omega arith
 
-  any_length : (starts : List N) (n k : ℕ) → AnyLength starts n k (shortest starts n k)
+  any_length : (starts : List N) (n k : ℕ) → AnyLength starts n k (shortest same arcs goal starts n k)
   any_length starts n zero = λ i low high. absurd (never i low high)
     where
       never : (i : ℕ) → n ≤ i → i < n + 0 → ⊥
