@@ -18,6 +18,10 @@ saturdays = of (record { parts = record { calendar = Weeks; set = None } ∷ rec
 abbrev pub leap_days : Period
 leap_days = of (record { parts = record { calendar = Years; set = None } ∷ record { calendar = Months; set = Some (2 ∷ []) } ∷ record { calendar = Days; set = Some (29 ∷ []) } ∷ []; count = 1000; unit = Days })
 
+-- `all.Days + {9}.Hours > 8.Hours` from noon on: the begin at 08:00 lies before the bound
+abbrev pub from_noon : Period
+from_noon = record { first = 13_682_160; last = 52_595_999; expr = record { parts = record { calendar = Days; set = None } ∷ record { calendar = Hours; set = Some (9 ∷ []) } ∷ []; count = 8; unit = Hours } }
+
 pub record AreDateRows : Type 0 where
   pub in_april : inside spring 13_848_479 ≡ true
   pub not_in_may : inside spring 13_848_480 ≡ false
@@ -28,3 +32,5 @@ pub record AreDateRows : Type 0 where
   pub next_saturday : starts saturdays 10_080 ≡ true
   pub inside_still : inside leap_days 52_017_119 ≡ true
   pub inside_no_more : inside leap_days 52_017_120 ≡ false
+  pub inside_at_noon : inside from_noon 13_682_160 ≡ true
+  pub no_start_at_noon : starts from_noon 13_682_160 ≡ false
