@@ -1,8 +1,5 @@
-//! Tests that cross crates: whole runs of the program in memory, and a desk over a book.
+//! Tests of whole runs of the program, over a shelf, an input and an output in memory.
 #![tactic(auto)]
 
-mod books;
 #[cfg(test)]
 mod tests;
-
-pub use books::{book_of_a_role, role_status};

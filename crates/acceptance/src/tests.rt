@@ -1,8 +1,6 @@
-use super::*;
-use gt_base::{Actor, Instant, Keeps, List, Reply};
+use gt_base::List;
 use gt_io::{MemFile, MemShelf, MemSink, MemSource};
 use gtrbac_tool::tool;
-use locked_history::Desk;
 use std::alloc::{AllocError, Global};
 use std::test::Fail;
 
@@ -80,48 +78,4 @@ fn faults_of_the_outside_are_told(rt: HostRuntime) -> Result<(), Fail> {
     assert_eq!(rt; status, 5);
     assert_eq!(rt; text.as_slice(), b"unbuilt p".as_slice());
     Ok(())
-}
-
-/// Whether the reply is that the condition does not hold.
-fn is_no(reply: &Reply) -> bool {
-    match reply {
-        Reply::Truth(truth) => !*truth,
-        _ => false,
-    }
-}
-
-#[test]
-fn two_passes_share_a_book(rt: HostRuntime) {
-    let ten = Instant::new(13_689_240).expect(&rt, "2026-01-05T10:00");
-    let later = Instant::new(13_689_245).expect(&rt, "five minutes later");
-    let Ok(book) = book_of_a_role(rt.alloc(), ten) else {
-        panic!(&rt; "memory");
-    };
-    let Ok((desk, mut passes)) = Desk::new(rt.alloc(), book, 2) else {
-        panic!(&rt; "memory");
-    };
-    let mut one = passes.take().expect(&rt, "a pass");
-    let mut zero = passes.take().expect(&rt, "a pass");
-    let Ok(told) = desk.ask(&rt, &mut zero, 1, Actor::Operator, role_status()) else {
-        panic!(&rt; "refused");
-    };
-    assert!(&rt; is_no(&told.reply));
-    assert!(&rt; told.front.len() == 1);
-    let Ok(ticked) = desk.tick(&rt, &mut one, 1, later) else {
-        panic!(&rt; "refused");
-    };
-    assert!(&rt; ticked.now.minute() == later.minute());
-    assert!(&rt; ticked.front.len() == 2);
-    let Ok(told) = desk.ask(&rt, &mut zero, 1, Actor::Operator, role_status()) else {
-        panic!(&rt; "refused");
-    };
-    assert!(&rt; is_no(&told.reply));
-    assert!(&rt; told.at.minute() == later.minute());
-    let Ok(idle) = desk.tick(&rt, &mut zero, 1, later) else {
-        panic!(&rt; "refused");
-    };
-    assert!(&rt; idle.front.len() == 3);
-    passes.put(zero);
-    passes.put(one);
-    assert!(&rt; desk.close(passes).kept() == 3);
 }
