@@ -1,0 +1,213 @@
+-- What a line of a policy says, or its fault, by reading its words.
+use Rattle.std.specs.Prelude.{ℕ, zero, suc, ◌+◌, Bool, true, false, ◌&&◌, List, [], ◌∷◌, length, codes, bytes_eq, nat_lt, Option, Some, None, Result, Ok, Err}
+use Rattle.gt_base.specs.Bounds.{last_minute}
+use Rattle.gt_base.specs.Names.{name_in, number_from}
+use Rattle.gt_base.specs.declared.policies.Form.{Form}
+use Rattle.gt_base.specs.declared.policies.Form.TheVariants.{Each, Start, Span}
+use Rattle.gtrbac_model.specs.Period.{Expr}
+use Rattle.gt_text.specs.Lines.{without_return, is_longer}
+use Rattle.gt_text.specs.Words.{words_of, are_silent}
+use Rattle.civil_time.specs.Text.{civil_in}
+use Rattle.periodic_expr.specs.declared.faults.ExprFault.{ExprFault}
+use Rattle.periodic_expr.specs.Reading.{read_expr}
+use Rattle.policy_words.specs.declared.faults.TextKind.{TextKind}
+use Rattle.policy_words.specs.declared.faults.TextKind.TheVariants as faults
+use Rattle.policy_words.specs.declared.parts.NamedCond.{NamedCond}
+use Rattle.policy_words.specs.declared.parts.Item.{Item}
+use Rattle.policy_words.specs.declared.sayings.EdgeKind.TheVariants.{I, A, Ia}
+use Rattle.policy_words.specs.declared.sayings.CapKind.TheVariants as caps
+use Rattle.policy_words.specs.Rests.{rest_after, trimmed}
+use Rattle.policy_words.specs.Wording.{◌>>=◌, Read, cond_at, head_at, item_at, at_end, by_verb, delay_in}
+use Rattle.policy_words.specs.Sayings.{Saying, version, role, user, perm, period, limit, edge, cap, admin, opening, entry, trigger, kind_word, strength_word, cap_word, is_body}
+
+abbrev pub formed : Option Saying → Result Saying TextKind
+formed None = Err faults.Form
+formed (Some s) = Ok s
+
+abbrev pub one_name : (List ℕ → Saying) → List (List ℕ) → Option Saying
+one_name build [] = None
+one_name build (w ∷ ws) = do
+  n ← name_in w
+  at_end (build n) ws
+
+abbrev pub first_in : List ℕ → Option ℕ
+first_in w = elim (bytes_eq w (codes "*")) [ true ↦ Some 0 | false ↦ civil_in w ]
+
+abbrev pub last_in : List ℕ → Option ℕ
+last_in w = elim (bytes_eq w (codes "*")) [ true ↦ Some last_minute | false ↦ civil_in w ]
+
+-- the words of a period before its expression
+pub record Bounds : Type 0 where
+  pub name : List ℕ
+  pub first : ℕ
+  pub last : ℕ
+
+abbrev pub bounds_in : List (List ℕ) → Option Bounds
+bounds_in (n ∷ f ∷ l ∷ ws) = do
+  name ← name_in n
+  first ← first_in f
+  last ← last_in l
+  Some (record { name = name; first = first; last = last })
+bounds_in _ = None
+
+abbrev pub with_expr : Bounds → Result Expr ExprFault → Result Saying TextKind
+with_expr b (Ok e) = Ok (period b.name b.first b.last e)
+with_expr b (Err f) = Err (faults.Expr f)
+
+-- the expression of a period line: the rest after four words, without the blanks round it
+abbrev pub expr_of_line : List ℕ → List ℕ
+expr_of_line line = trimmed (rest_after 4 (without_return line))
+
+-- the words before the expression, then the bounds, then the expression
+abbrev pub period_by : List ℕ → Option Bounds → Result Saying TextKind
+period_by line None = Err faults.Form
+period_by line (Some b) = elim (nat_lt b.last b.first) [ true ↦ Err faults.Bounds | false ↦ with_expr b (read_expr (expr_of_line line)) ]
+
+abbrev pub during_in : List (List ℕ) → Option (Option (List ℕ))
+during_in [] = Some None
+during_in (w ∷ p ∷ []) = elim (bytes_eq w (codes "during")) [ true ↦ (do n ← name_in p; Some (Some n)) | false ↦ None ]
+during_in _ = None
+
+-- `max MOST`, and the rest
+abbrev pub most_at : Read ℕ
+most_at (w ∷ n ∷ ws) = elim (bytes_eq w (codes "max")) [ true ↦ (do m ← number_from 1 1_000_000 n; Some (m, ws)) | false ↦ None ]
+most_at _ = None
+
+abbrev pub limit_in : List (List ℕ) → Option Saying
+limit_in (n ∷ p ∷ ws) = do
+  name ← name_in n
+  prio ← number_from 0 99 p
+  c ← cond_at ws
+  most ← most_at c.1
+  during ← during_in most.1
+  Some (limit name prio c.0 most.0 during)
+limit_in _ = None
+
+abbrev pub spelled_so : {A : Type 0} → (A → List ℕ) → List A → List ℕ → Option A
+spelled_so spell [] w = None
+spelled_so spell (a ∷ more) w = elim (bytes_eq (spell a) w) [ true ↦ Some a | false ↦ spelled_so spell more w ]
+
+abbrev pub edge_in : List (List ℕ) → Option Saying
+edge_in (k ∷ st ∷ s ∷ j ∷ []) = do
+  kind ← spelled_so kind_word (I ∷ A ∷ Ia ∷ []) k
+  strong ← spelled_so strength_word (true ∷ false ∷ []) st
+  senior ← name_in s
+  junior ← name_in j
+  Some (edge kind strong senior junior)
+edge_in _ = None
+
+abbrev pub cap_in : List (List ℕ) → Option Saying
+cap_in (k ∷ r ∷ n ∷ []) = do
+  kind ← spelled_so cap_word (caps.Total ∷ caps.User ∷ caps.Length ∷ caps.Day ∷ []) k
+  name ← name_in r
+  most ← number_from 1 1_000_000 n
+  Some (cap kind name most)
+cap_in _ = None
+
+abbrev pub opening_by : Option (NamedCond × List (List ℕ)) → Option Saying
+opening_by None = None
+opening_by (Some c) = at_end (opening c.0.fluent) c.1
+
+abbrev pub entry_in : Form → List (List ℕ) → Option Saying
+entry_in f [] = None
+entry_in f (p ∷ ws) = do
+  name ← name_in p
+  h ← head_at 99 ws
+  at_end (entry f name h.0) h.1
+
+-- items with `and` between them, up to `then`; with so many words left there are no more items
+abbrev pub items_at : ℕ → Read (List Item)
+items_at zero ws = None
+items_at (suc k) ws = do
+  i ← item_at ws
+  elim i.1 [
+    | [] ↦ None
+    | w ∷ more ↦
+        elim (bytes_eq w (codes "and")) [
+          | true ↦ (do rest ← items_at k more; Some (i.0 ∷ rest.0, rest.1))
+          | false ↦ elim (bytes_eq w (codes "then")) [ true ↦ Some (i.0 ∷ [], more) | false ↦ None ]
+        ]
+  ]
+
+abbrev pub trigger_in : List (List ℕ) → Option Saying
+trigger_in ws = do
+  items ← items_at (length ws) ws
+  h ← head_at 99 items.1
+  d ← delay_in h.1
+  Some (trigger items.0 h.0 d)
+
+abbrev pub with_body : Saying → Result Saying TextKind
+with_body (trigger items h d) = elim (is_body items) [ true ↦ Ok (trigger items h d) | false ↦ Err faults.Body ]
+with_body s = Ok s
+
+abbrev pub trigger_by : Option Saying → Result Saying TextKind
+trigger_by None = Err faults.Form
+trigger_by (Some s) = with_body s
+
+abbrev pub is_one : List (List ℕ) → Bool
+is_one (w ∷ []) = bytes_eq w (codes "1")
+is_one _ = false
+
+abbrev pub version_by : Bool → Result Saying TextKind
+version_by true = Ok (version 1)
+version_by false = Err faults.Version
+
+-- what follows each first word; the whole line is at hand for the rest after some words
+abbrev pub verbs : Bool → List ℕ → List (List ℕ × (List (List ℕ) → Option (Result Saying TextKind)))
+verbs first line =
+    (codes "policy", λ ws. Some (version_by (first && is_one ws)))
+    ∷ (codes "role", λ ws. Some (formed (one_name (λ n. role n) ws)))
+    ∷ (codes "user", λ ws. Some (formed (one_name (λ n. user n) ws)))
+    ∷ (codes "perm", λ ws. Some (formed (one_name (λ n. perm n) ws)))
+    ∷ (codes "period", λ ws. Some (period_by line (bounds_in ws)))
+    ∷ (codes "limit", λ ws. Some (formed (limit_in ws)))
+    ∷ (codes "edge", λ ws. Some (formed (edge_in ws)))
+    ∷ (codes "cap", λ ws. Some (formed (cap_in ws)))
+    ∷ (codes "admin", λ ws. Some (formed (one_name (λ n. admin n) ws)))
+    ∷ (codes "enabled", λ ws. Some (formed (opening_by (cond_at (codes "enabled" ∷ ws)))))
+    ∷ (codes "assigned", λ ws. Some (formed (opening_by (cond_at (codes "assigned" ∷ ws)))))
+    ∷ (codes "granted", λ ws. Some (formed (opening_by (cond_at (codes "granted" ∷ ws)))))
+    ∷ (codes "armed", λ ws. Some (formed (opening_by (cond_at (codes "armed" ∷ ws)))))
+    ∷ (codes "each", λ ws. Some (formed (entry_in Each ws)))
+    ∷ (codes "start", λ ws. Some (formed (entry_in Start ws)))
+    ∷ (codes "span", λ ws. Some (formed (entry_in Span ws)))
+    ∷ (codes "when", λ ws. Some (trigger_by (trigger_in ws)))
+    ∷ []
+
+abbrev pub said_by : Option (Result Saying TextKind) → Result Saying TextKind
+said_by None = Err faults.Word
+said_by (Some r) = r
+
+abbrev pub said_of : Bool → List ℕ → List (List ℕ) → Result Saying TextKind
+said_of first line [] = Err faults.Word
+said_of first line (w ∷ ws) = said_by (do reads ← by_verb (verbs first line) w; reads ws)
+
+abbrev pub some_said : Result Saying TextKind → Result (Option Saying) TextKind
+some_said (Ok s) = Ok (Some s)
+some_said (Err t) = Err t
+
+-- what a line says, nothing where it is silent; `first` where only silent lines stand before it
+abbrev pub read_said : Bool → List ℕ → Result (Option Saying) TextKind
+read_said first line =
+    elim (is_longer 4096 line) [
+      | true ↦ Err faults.Long
+      | false ↦ elim (are_silent (words_of line)) [ true ↦ Ok None | false ↦ some_said (said_of first line (words_of line)) ]
+    ]
+
+-- the lines that say something, with their numbers; or the first fault, with the number of its line
+
+pub record Numbered (A : Type 0) : Type 0 where
+  pub line : ℕ
+  pub it : A
+
+abbrev pub and_then : {A : Type 0} → Numbered A → Result (List (Numbered A)) (Numbered TextKind) → Result (List (Numbered A)) (Numbered TextKind)
+and_then s (Ok more) = Ok (s ∷ more)
+and_then s (Err t) = Err t
+
+abbrev pub read_lines : Bool → ℕ → List (List ℕ) → Result (List (Numbered Saying)) (Numbered TextKind)
+read_lines first n [] = Ok []
+read_lines first n (l ∷ ls) =
+    elim (read_said first l) [
+      | Err t ↦ Err (record { line = n; it = t })
+      | Ok said ↦ elim said [ None ↦ read_lines first (n + 1) ls | Some s ↦ and_then (record { line = n; it = s }) (read_lines false (n + 1) ls) ]
+    ]

@@ -1,0 +1,144 @@
+-- What a line of a policy says, the words that spell it, and which sayings are in range.
+use Rattle.std.specs.Prelude.{ℕ, Bool, true, false, ◌&&◌, List, [], ◌∷◌, ◌++◌, length, codes, decimal, nat_eq, nat_le, Option, Some, None}
+use Rattle.std.specs.List.{list_all, list_any}
+use Rattle.gt_base.specs.Bounds.{last_minute}
+use Rattle.gt_base.specs.Names.{is_name}
+use Rattle.gt_base.specs.declared.policies.Form.{Form}
+use Rattle.gt_base.specs.declared.policies.Form.TheVariants.{Each, Start, Span}
+use Rattle.gtrbac_model.specs.Period.{Expr}
+use Rattle.calendar_laws.specs.Valid.{is_expr}
+use Rattle.civil_time.specs.Text.{civil_text}
+use Rattle.periodic_expr.specs.Printed.{expr_text}
+use Rattle.policy_words.specs.declared.parts.NamedFluent.{NamedFluent}
+use Rattle.policy_words.specs.declared.parts.NamedCond.{NamedCond}
+use Rattle.policy_words.specs.declared.parts.NamedHead.{NamedHead}
+use Rattle.policy_words.specs.declared.parts.Item.{Item}
+use Rattle.policy_words.specs.declared.parts.Item.TheVariants.{Event, Signal, Cond}
+use Rattle.policy_words.specs.declared.sayings.EdgeKind.{EdgeKind}
+use Rattle.policy_words.specs.declared.sayings.EdgeKind.TheVariants.{I, A, Ia}
+use Rattle.policy_words.specs.declared.sayings.CapKind.{CapKind}
+use Rattle.policy_words.specs.declared.sayings.CapKind.TheVariants as caps
+use Rattle.policy_words.specs.Wording.{cond_words, head_words, item_words, fluent_names, sort_of, cond_verb, delay_words}
+
+-- what a line that is not silent says
+pub data Saying : Type 0 where
+  version : ℕ → Saying
+  role : List ℕ → Saying
+  user : List ℕ → Saying
+  perm : List ℕ → Saying
+  period : List ℕ → ℕ → ℕ → Expr → Saying
+  limit : List ℕ → ℕ → NamedCond → ℕ → Option (List ℕ) → Saying
+  edge : EdgeKind → Bool → List ℕ → List ℕ → Saying
+  cap : CapKind → List ℕ → ℕ → Saying
+  admin : List ℕ → Saying
+  opening : NamedFluent → Saying
+  entry : Form → List ℕ → NamedHead → Saying
+  trigger : List Item → NamedHead → ℕ → Saying
+
+-- the words of a line
+
+abbrev pub kind_word : EdgeKind → List ℕ
+kind_word I = codes "i"
+kind_word A = codes "a"
+kind_word Ia = codes "ia"
+
+abbrev pub strength_word : Bool → List ℕ
+strength_word true = codes "strong"
+strength_word false = codes "weak"
+
+abbrev pub cap_word : CapKind → List ℕ
+cap_word caps.Total = codes "total"
+cap_word caps.User = codes "user"
+cap_word caps.Length = codes "length"
+cap_word caps.Day = codes "day"
+
+abbrev pub form_word : Form → List ℕ
+form_word Each = codes "each"
+form_word Start = codes "start"
+form_word Span = codes "span"
+
+abbrev pub during_words : Option (List ℕ) → List (List ℕ)
+during_words None = []
+during_words (Some p) = codes "during" ∷ p ∷ []
+
+abbrev pub and_items : List Item → List (List ℕ)
+and_items [] = []
+and_items (i ∷ []) = item_words i
+and_items (i ∷ j ∷ is) = item_words i ++ codes "and" ∷ and_items (j ∷ is)
+
+-- an expression stands as one word of its own, though it has spaces
+abbrev pub said_words : Saying → List (List ℕ)
+said_words (version n) = codes "policy" ∷ decimal n ∷ []
+said_words (role n) = codes "role" ∷ n ∷ []
+said_words (user n) = codes "user" ∷ n ∷ []
+said_words (perm n) = codes "perm" ∷ n ∷ []
+said_words (period n first last e) = codes "period" ∷ n ∷ civil_text first ∷ civil_text last ∷ expr_text e ∷ []
+said_words (limit n prio c most during) = codes "limit" ∷ n ∷ decimal prio ∷ cond_words c ++ codes "max" ∷ decimal most ∷ during_words during
+said_words (edge kind strong s j) = codes "edge" ∷ kind_word kind ∷ strength_word strong ∷ s ∷ j ∷ []
+said_words (cap kind r n) = codes "cap" ∷ cap_word kind ∷ r ∷ decimal n ∷ []
+said_words (admin u) = codes "admin" ∷ u ∷ []
+said_words (opening f) = cond_verb true (sort_of f) ∷ fluent_names f
+said_words (entry f p h) = form_word f ∷ p ∷ head_words h
+said_words (trigger items h d) = codes "when" ∷ and_items items ++ codes "then" ∷ head_words h ++ delay_words d
+
+-- names that are names, and numbers in range
+
+abbrev pub are_names : List (List ℕ) → Bool
+are_names ns = list_all is_name ns
+
+abbrev pub is_head : NamedHead → Bool
+is_head h = nat_le h.prio 99 && are_names (fluent_names h.event.fluent)
+
+abbrev pub is_item : Item → Bool
+is_item (Event e) = are_names (fluent_names e.fluent)
+is_item (Signal s) = is_name s.user && is_name s.role
+is_item (Cond c) = are_names (fluent_names c.fluent)
+
+abbrev pub is_period_name : Option (List ℕ) → Bool
+is_period_name None = true
+is_period_name (Some p) = is_name p
+
+abbrev pub is_count : ℕ → Bool
+is_count n = nat_le 1 n && nat_le n 1_000_000
+
+abbrev pub is_some_item : List Item → Bool
+is_some_item [] = false
+is_some_item (i ∷ is) = true
+
+abbrev pub is_cause : Item → Bool
+is_cause (Event e) = true
+is_cause (Signal s) = true
+is_cause (Cond c) = false
+
+-- at most 16 items, of which one is an event or a signal
+abbrev pub is_body : List Item → Bool
+is_body items = nat_le (length items) 16 && list_any is_cause items
+
+-- the names and numbers of a saying; bounds and bodies are not asked
+abbrev pub is_formed : Saying → Bool
+is_formed (version n) = nat_eq n 1
+is_formed (role n) = is_name n
+is_formed (user n) = is_name n
+is_formed (perm n) = is_name n
+is_formed (period n first last e) = is_name n && nat_le first last_minute && nat_le last last_minute && is_expr e
+is_formed (limit n prio c most during) = is_name n && nat_le prio 99 && are_names (fluent_names c.fluent) && is_count most && is_period_name during
+is_formed (edge kind strong s j) = is_name s && is_name j
+is_formed (cap kind r n) = is_name r && is_count n
+is_formed (admin u) = is_name u
+is_formed (opening f) = are_names (fluent_names f)
+is_formed (entry f p h) = is_name p && is_head h
+is_formed (trigger items h d) = is_some_item items && list_all is_item items && is_head h && nat_le d last_minute
+
+-- a period's first instant is not after its last
+abbrev pub is_bounded : Saying → Bool
+is_bounded (period n first last e) = nat_le first last
+is_bounded _ = true
+
+-- a trigger keeps the rule on bodies
+abbrev pub is_bodied : Saying → Bool
+is_bodied (trigger items h d) = is_body items
+is_bodied _ = true
+
+-- what a line may say
+abbrev pub is_saying : Saying → Bool
+is_saying s = is_formed s && is_bounded s && is_bodied s

@@ -1,0 +1,86 @@
+-- What a line of a policy says, as a relation: by the words that spell it, and not by reading.
+use Rattle.std.specs.Prelude.{◌≡◌, ◌≢◌, ◌⊎◌, ℕ, zero, ◌≤◌, ◌<◌, Bool, true, false, List, [], ◌∷◌, ◌++◌, length, take, codes, Option, Some, None, Result, Ok, Err, IsTrue, Contains}
+use Rattle.gt_base.specs.Bounds.{last_minute}
+use Rattle.gt_base.specs.Names.{is_name}
+use Rattle.gtrbac_model.specs.Period.{Expr}
+use Rattle.gt_text.specs.Words.{words_of, are_silent}
+use Rattle.civil_time.specs.Text.{civil_text}
+use Rattle.periodic_expr.specs.declared.faults.ExprFault.{ExprFault}
+use Rattle.periodic_expr.specs.declared.faults.ExprKind.TheVariants.{Syntax}
+use Rattle.periodic_expr.specs.Grammar.{Says, HasFault, IsSyntaxFault}
+use Rattle.policy_words.specs.declared.faults.TextKind.{TextKind}
+use Rattle.policy_words.specs.declared.faults.TextKind.TheVariants as faults
+use Rattle.policy_words.specs.Wording.{head_words}
+use Rattle.policy_words.specs.Sayings.{Saying, version, period, trigger, said_words, and_items, is_formed, is_bodied}
+use Rattle.policy_words.specs.Reading.{expr_of_line}
+
+-- a line that is looked at past its length, and is not silent
+pub record IsLoud (most : ℕ) (line : List ℕ) : Type 0 where
+  pub short : length line ≤ most
+  pub loud : are_silent (words_of line) ≡ false
+
+pub record IsSilent (most : ℕ) (line : List ℕ) : Type 0 where
+  pub short : length line ≤ most
+  pub silent : are_silent (words_of line) ≡ true
+
+-- the words before the expression: `*` is instant 0 as the first, and the last instant as the last
+abbrev pub IsBound : ℕ → List ℕ → ℕ → Type 0
+IsBound open_end w t = ((w ≡ codes "*") × (t ≡ open_end)) ⊎ ((t ≤ last_minute) × (w ≡ civil_text t))
+
+pub record HasBounds (line : List ℕ) (n : List ℕ) (first last : ℕ) : Type 0 where
+  pub name : IsTrue (is_name n)
+  pub first_word : List ℕ
+  pub last_word : List ℕ
+  pub words : take 4 (words_of line) ≡ codes "period" ∷ n ∷ first_word ∷ last_word ∷ []
+  pub is_first : IsBound 0 first_word first
+  pub is_last : IsBound last_minute last_word last
+
+abbrev pub SpellsPeriod : List ℕ → List ℕ → ℕ → ℕ → Expr → Type 0
+SpellsPeriod line n first last e = HasBounds line n first last × (first ≤ last) × Says (expr_of_line line) e
+
+-- the line is spelled so; a delay of 0 may be written or left out
+abbrev pub Spells : Saying → List ℕ → Type 0
+Spells (period n first last e) line = SpellsPeriod line n first last e
+Spells (trigger items h zero) line =
+    (words_of line ≡ said_words (trigger items h 0)) ⊎ (words_of line ≡ codes "when" ∷ and_items items ++ codes "then" ∷ head_words h ++ codes "after" ∷ codes "0" ∷ [])
+Spells said line = words_of line ≡ said_words said
+
+-- the words that begin a line
+abbrev pub first_words : List (List ℕ)
+first_words =
+    codes "policy" ∷ codes "role" ∷ codes "user" ∷ codes "perm" ∷ codes "period" ∷ codes "limit" ∷ codes "edge" ∷ codes "cap" ∷ codes "admin" ∷ codes "enabled" ∷ codes "assigned"
+    ∷ codes "granted" ∷ codes "armed" ∷ codes "each" ∷ codes "start" ∷ codes "span" ∷ codes "when" ∷ []
+
+abbrev pub BeginsWith : List ℕ → List ℕ → Type 0
+BeginsWith line w = (ws : List (List ℕ)) × (words_of line ≡ w ∷ ws)
+
+abbrev pub IsVersion : Saying → Type 0
+IsVersion (version n) = Unit {0}
+IsVersion _ = ⊥
+
+-- the version stands as the first line that is not silent
+abbrev pub IsPlaced : Bool → Saying → Type 0
+IsPlaced true said = Unit {0}
+IsPlaced false said = IsVersion said → ⊥
+
+abbrev pub ExprFails : List ℕ → ExprFault → Type 0
+ExprFails text f = ((f.kind ≡ Syntax) × IsSyntaxFault text f.at) ⊎ ((f.kind ≢ Syntax) × HasFault text f)
+
+-- no form of its first word: no saying, and no bounds of a period
+pub record HasNoForm (line : List ℕ) : Type 0 where
+  pub verb : (w : List ℕ) × BeginsWith line w × Contains first_words w × (w ≢ codes "policy")
+  pub says_nothing : (said : Saying) → IsTrue (is_formed said) → Spells said line → ⊥
+  pub no_bounds : (n : List ℕ) (first last : ℕ) → HasBounds line n first last → ⊥
+
+-- what reading a line answers: nothing, a saying, or why not
+abbrev pub IsSaid : Bool → List ℕ → Result (Option Saying) TextKind → Type 0
+IsSaid first line (Ok None) = IsSilent 4096 line
+IsSaid first line (Ok (Some said)) = IsLoud 4096 line × IsTrue (is_formed said) × Spells said line × IsTrue (is_bodied said) × IsPlaced first said
+IsSaid first line (Err faults.Long) = 4096 < length line
+IsSaid first line (Err faults.Version) = IsLoud 4096 line × BeginsWith line (codes "policy") × (IsTrue first → words_of line ≢ said_words (version 1))
+IsSaid first line (Err faults.Word) = IsLoud 4096 line × ((w : List ℕ) → Contains first_words w → BeginsWith line w → ⊥)
+IsSaid first line (Err faults.Form) = IsLoud 4096 line × HasNoForm line
+IsSaid first line (Err faults.Body) = IsLoud 4096 line × ((said : Saying) × IsTrue (is_formed said) × Spells said line × (is_bodied said ≡ false))
+IsSaid first line (Err faults.Bounds) = IsLoud 4096 line × ((n : List ℕ) × (f : ℕ) × (l : ℕ) × HasBounds line n f l × (l < f))
+IsSaid first line (Err (faults.Expr t)) = IsLoud 4096 line × ((n : List ℕ) × (f : ℕ) × (l : ℕ) × HasBounds line n f l × (f ≤ l) × ExprFails (expr_of_line line) t)
+IsSaid first line (Err faults.Memory) = ⊥
