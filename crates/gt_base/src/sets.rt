@@ -281,6 +281,13 @@ impl Status {
         })
     }
 
+    /// The fluents that are on, ascending: by sort, then by their numbers.
+    pub fn as_slice(&self) -> &[Fluent]
+        ensures { result.now ≡ members self.now.set }
+    {
+        &self.fluents
+    }
+
     /// Whether the fluent is on.
     pub fn is_on(&self, f: Fluent) -> bool
         ensures { result ≡ has self.now.set f }

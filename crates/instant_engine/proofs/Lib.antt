@@ -1,3 +1,3 @@
 pub mod Climbing
 pub mod Places
-pub mod Rounds
+pub mod Steps

@@ -1,14 +1,15 @@
 -- A set on its way to the one that its base settles to, level by level.
-use Rattle.std.specs.Prelude.{◌≡◌, ℕ, ◌+◌, ◌<◌, Bool, true, cond, not, ◌&&◌, nat_eq, List, [], ◌∷◌, Option, Some, None}
+use Rattle.std.specs.Prelude.{◌≡◌, ℕ, ◌+◌, ◌<◌, Bool, true, false, cond, not, ◌&&◌, nat_eq, List, [], ◌∷◌, ◌++◌, Option, Some, None}
 use Rattle.gt_base.specs.declared.events.Event.{Event}
 use Rattle.gt_base.specs.declared.events.Prioritised.{Prioritised}
 use Rattle.gt_base.specs.Held.{Rule}
 use Rattle.gt_base.specs.Happening.{Happening}
-use Rattle.gt_base.specs.Sets.{has}
+use Rattle.gt_base.specs.Sets.{has, with_member}
 use Rattle.gtrbac_model.specs.Conflict.{Status}
 use Rattle.gtrbac_model.specs.Trigger.{met, immediate}
 use Rattle.gtrbac_model.specs.Instant.{Settled}
 use Rattle.gtrbac_model.specs.Safety.{is_node}
+use Rattle.trigger_rules.specs.Indexed.{with_event}
 
 -- it has the base and the signals of the base, nothing that a settled set has not, and all that one has of the levels below n
 pub record IsSettledBelow (rules : List Rule) (base : Happening) (s : Status) (level : Event → ℕ) (n : ℕ) (x : Happening) : Type 0 where
@@ -21,18 +22,33 @@ pub record IsSettledBelow (rules : List Rule) (base : Happening) (s : Status) (l
 abbrev pub Keeps : List Rule → Status → (Event → ℕ) → ℕ → Happening → ℕ → Happening → Type 0
 Keeps rules s level n x m y = (base : Happening) → IsSettledBelow rules base s level n x → IsSettledBelow rules base s level m y
 
+-- the trigger is immediate, and its head is of this level
+abbrev pub is_due : (Event → ℕ) → ℕ → Rule → Bool
+is_due level n r = immediate r && nat_eq (level r.head.event) n
+
+-- whether there is a level, and it is this one
+abbrev pub is_level : Option ℕ → ℕ → Bool
+is_level None n = false
+is_level (Some l) n = nat_eq l n
+
 -- the trigger is of this level, it is met, and its head is not there yet
 abbrev pub fires : Status → (Event → ℕ) → ℕ → Happening → Rule → Bool
-fires s level n x r = immediate r && nat_eq (level r.head.event) n && met r x s && not (has x.events r.head)
+fires s level n x r = is_due level n r && met r x s && not (has x.events r.head)
 
--- the head of the trigger, if it fires
-abbrev pub head_of : Status → (Event → ℕ) → ℕ → Happening → Rule → Option Prioritised
-head_of s level n x r = cond (fires s level n x r) (Some r.head) None
+-- the head of the trigger, if there is one and it fires
+abbrev pub head_at : Status → (Event → ℕ) → ℕ → Happening → Option Rule → Option Prioritised
+head_at s level n x None = None
+head_at s level n x (Some r) = cond (fires s level n x r) (Some r.head) None
 
--- the heads of the triggers that fire, in the triggers' order
-abbrev pub firing : Status → (Event → ℕ) → ℕ → Happening → List Rule → List Prioritised
-firing s level n x [] = []
-firing s level n x (r ∷ rs) = cond (fires s level n x r) (r.head ∷ firing s level n x rs) (firing s level n x rs)
+-- the set with the head
+abbrev pub joined : Happening → Option Prioritised → Happening
+joined x None = x
+joined x (Some h) = record { events = with_member x.events h; signals = x.signals }
+
+-- with the triggers that have the head in their bodies
+abbrev pub waiting : List Rule → List ℕ → Option Prioritised → List ℕ
+waiting rules ts None = ts
+waiting rules ts (Some h) = ts ++ with_event rules h.event
 
 -- how many triggers have a head that is not there
 abbrev pub missing : List Rule → Happening → ℕ

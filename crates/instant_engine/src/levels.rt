@@ -1,22 +1,97 @@
-//! Levels of events, by the nodes that stand for them.
-ghost use Rattle.std.specs.Prelude.{◌≡◌, ℕ, ◌<◌, true, nat_eq, length, slice_index};
+//! Levels of events, by the nodes that stand for them, and the triggers of each level.
+ghost use Rattle.std.specs.Prelude.{◌≡◌, ℕ, ◌<◌, ◌++◌, [], ◌∷◌, cond, true, nat_eq, length, slice_index, Some, None, IfOk, OnOk};
 ghost use Rattle.gtrbac_model.specs.Same.{lists, same_event};
+ghost use Rattle.gtrbac_model.specs.Trigger.{immediate};
+ghost use Rattle.indexmap.specs.IndexMap.{get};
 ghost use Rattle.dependency_graph.specs.Nets.{IsEventNet};
 ghost use Rattle.dependency_graph.specs.Carried.{level_in};
+ghost use Rattle.trigger_rules.specs.Indexed.{numbers, under};
+ghost use Rattle.trigger_safety.specs.Levelled.{IsLevelled};
+ghost use Rattle.instant_engine.specs.OnTheWay.{is_due as is_due_at, is_level};
 
 use dependency_graph::EventGraph;
-use gt_base::Event;
+use gt_base::{Event, Memory, Trigger};
+use indexmap::IndexMap;
 use safety_cycle::Strata;
+use std::alloc::Global;
+use trigger_rules::Rules;
 
-/// Whether a node stands for the event and is of this level.
-pub(crate) fn is_at(e: Event, g: &EventGraph, s: &Strata, n: u64) -> bool
+/// The numbers of the triggers, by the levels of their heads; a delayed trigger is at none.
+pub(crate) fn by_level(
+    alloc: Global,
+    r: &Rules,
+    g: &EventGraph,
+    s: &Strata,
+) -> Result<IndexMap<u64, Vec<u32>>, Memory>
+    requires { IsLevelled r.now g.now s.now }
+    ensures { IfOk result (λ m. (n : ℕ) → under (get nat_eq m n) (λ v. v.items) ≡ numbers (is_due_at (level_in g.now.events s.now) n) 0 r.now) }
+{
+    let mut index = IndexMap::new(alloc);
+    let triggers = r.triggers().as_slice();
+    for t in 0..triggers.len() {
+        put(alloc, &mut index, due_level(&triggers[t], g, s), t as u32)?;
+    }
+    Ok(index)
+}
+
+/// Puts a number last at its level, if it has one.
+fn put(
+    alloc: Global,
+    index: &mut IndexMap<u64, Vec<u32>>,
+    level: Option<u64>,
+    t: u32,
+) -> Result<(), Memory>
+    ensures { OnOk result ((n : ℕ) → under (get nat_eq index.new n) (λ v. v.items) ≡ under (get nat_eq index.old n) (λ v. v.items) ++ cond (is_level level n) (t ∷ []) []) }
+{
+    if let Some(level) = level {
+        index.entry(level)?.or_insert(Vec::new(alloc)).push(t)?;
+    }
+    Ok(())
+}
+
+/// The numbers at a level.
+pub(crate) fn of_level(index: &IndexMap<u64, Vec<u32>>, n: u64) -> &[u32]
+    ensures { result.now ≡ under (get nat_eq index.now n) (λ v. v.items) }
+{
+    match index.get(&n) {
+        Some(numbers) => numbers.as_slice(),
+        None => &[],
+    }
+}
+
+/// The level of the head of an immediate trigger.
+fn due_level(trigger: &Trigger, g: &EventGraph, s: &Strata) -> Option<u64>
     requires net { IsEventNet g.now }
     requires size { length s.now ≡ length g.now.events }
-    ensures { lists same_event g.now.events e ≡ true → result ≡ nat_eq (level_in g.now.events s.now e) n }
+    requires node { immediate trigger.now ≡ true → lists same_event g.now.events trigger.now.head.event ≡ true }
+    ensures { result ≡ cond (immediate trigger.now) (Some (level_in g.now.events s.now trigger.now.head.event)) None }
+{
+    if trigger.delay == 0 {
+        level_of(trigger.head.event, g, s)
+    } else {
+        None
+    }
+}
+
+/// Whether the trigger is immediate and its head is of this level.
+pub(crate) fn is_due(trigger: &Trigger, g: &EventGraph, s: &Strata, n: u64) -> bool
+    requires net { IsEventNet g.now }
+    requires size { length s.now ≡ length g.now.events }
+    requires node { immediate trigger.now ≡ true → lists same_event g.now.events trigger.now.head.event ≡ true }
+    ensures { result ≡ is_due_at (level_in g.now.events s.now) n trigger.now }
+{
+    due_level(trigger, g, s) == Some(n)
+}
+
+/// The level of an event for which a node stands.
+fn level_of(e: Event, g: &EventGraph, s: &Strata) -> Option<u64>
+    requires net { IsEventNet g.now }
+    requires size { length s.now ≡ length g.now.events }
+    ensures { lists same_event g.now.events e ≡ true → result ≡ Some (level_in g.now.events s.now e) }
 {
     match g.node(e) {
-        Some(node) => s.level(node) as u64 == n,
-        None => false,
+        Some(node) => Some(s.level(node) as u64),
+        None => None,
     }
 }
 

@@ -50,6 +50,15 @@ impl Table {
         Ok(fresh)
     }
 
+    /// An equal table.
+    pub fn copied(&self) -> Result<Table, Memory>
+        ensures { IfOk result (λ copy. copy ≡ self.now) }
+    {
+        Ok(Table {
+            names: self.names.clone()?,
+        })
+    }
+
     /// Whether the name is declared. It takes no memory.
     pub fn has(&self, name: &Name) -> bool
         ensures { result ≡ lists_name self.now name.now }

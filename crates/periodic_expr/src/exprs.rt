@@ -1,9 +1,10 @@
 //! Expressions that are valid by their type.
-ghost use Rattle.std.specs.Prelude.{◌≡◌, ◌≤◌, IsTrue};
+ghost use Rattle.std.specs.Prelude.{◌≡◌, ◌≤◌, IfOk, IsTrue, option_map};
 ghost use Rattle.calendar_laws.specs.Valid.{is_expr, is_period};
 
-use gt_base::{Instant, List};
+use gt_base::{Instant, List, Memory};
 use gtrbac_model::Calendar;
+use std::alloc::Global;
 use std::marker::Model;
 
 /// All intervals of a calendar, or those with these numbers, ascending without repeats. Seen without the room of its list.
@@ -22,6 +23,37 @@ impl Model for ExprPart {
     ghost coded = { part_code };
 
     ghost view = { λ p. record { calendar = p.calendar; set = option_map (λ l. l.items) p.set } };
+}
+
+fn copied_set(set: &Option<List<u32>>) -> Result<Option<List<u32>>, Memory>
+    ensures { IfOk result (λ copy. option_map (λ l. l.items) copy ≡ option_map (λ l. l.items) set.now) }
+{
+    match set {
+        Some(numbers) => Ok(Some(numbers.copied()?)),
+        None => Ok(None),
+    }
+}
+
+impl ExprPart {
+    /// An equal part.
+    pub fn copied(&self) -> Result<ExprPart, Memory>
+        ensures { IfOk result (λ copy. copy ≡ self.now) }
+    {
+        Ok(ExprPart {
+            calendar: self.calendar,
+            set: copied_set(&self.set)?,
+        })
+    }
+}
+
+fn copied_parts(alloc: Global, parts: &[ExprPart]) -> Result<Vec<ExprPart>, Memory>
+    ensures { IfOk result (λ copies. copies.items ≡ parts.now) }
+{
+    let mut copies = Vec::new(alloc);
+    for part in parts {
+        copies.push(part.copied()?)?;
+    }
+    Ok(copies)
 }
 
 /// A periodic expression: its parts, of which the first takes all, and its length. It is valid by its type, and seen as
@@ -58,6 +90,17 @@ impl Expr {
             count,
             unit,
         }
+    }
+
+    /// An equal expression.
+    pub fn copied(&self, alloc: Global) -> Result<Expr, Memory>
+        ensures { IfOk result (λ copy. copy ≡ self.now) }
+    {
+        Ok(Expr {
+            parts: List::from(copied_parts(alloc, self.parts.as_slice())?),
+            count: self.count,
+            unit: self.unit,
+        })
     }
 
     /// The parts, each of a calendar below the one before it.
@@ -100,6 +143,17 @@ impl Model for Period {
 }
 
 impl Period {
+    /// An equal period.
+    pub fn copied(&self, alloc: Global) -> Result<Period, Memory>
+        ensures { IfOk result (λ copy. copy ≡ self.now) }
+    {
+        Ok(Period {
+            first: self.first,
+            last: self.last,
+            expr: self.expr.copied(alloc)?,
+        })
+    }
+
     /// What every period keeps: bounds in order, within the instants, and a valid expression.
     pub fn valid(&self)
         ensures { IsTrue (is_period self.now) }

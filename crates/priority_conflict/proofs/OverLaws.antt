@@ -15,35 +15,17 @@ use Rattle.gt_base.proofs.SetLaws.{has-with_member, has-members}
 use Rattle.gt_base.proofs.SetSteps.{event_cmp_total, fluent_cmp_total}
 use Rattle.gt_base.proofs.OrderLaws.{fluent_cmp-IsAntisymmetric}
 use Rattle.gt_base.proofs.SetsAreSets.{fluents_are_sets}
-use Rattle.gtrbac_model.specs.Same.{same_event}
 use Rattle.priority_conflict.specs.Winning.{on_event, off_event, IsApart}
 
-or_comm : (a b : Bool) → (a || b) ≡ (b || a)
+pub or_comm : (a b : Bool) → (a || b) ≡ (b || a)
 or_comm true true = refl
 or_comm true false = refl
 or_comm false true = refl
 or_comm false false = refl
 
-and_true : (a : Bool) → (a && true) ≡ a
-and_true true = refl
-and_true false = refl
-
-and_false : (a : Bool) → (a && false) ≡ false
-and_false true = refl
-and_false false = refl
-
 or_false : (a : Bool) → (a || false) ≡ a
 or_false true = refl
 or_false false = refl
-
--- an event that is not blocked is added
-pub added : (s : Events) (k e : Event) → has (with_member s k) e ≡ (has s e || (same_event k e && true))
-added s k e =
-    has-with_member event_cmp_total s k e ∙ or_comm (eq_by_cmp event_cmp e k) (has s e)
-    ∙ ap (λ b. has s e || b) ((eq_by_cmp_equiv event_cmp_total).symm e k ∙ sym (and_true _))
-
-pub kept : (s : Events) (k e : Event) → has s e ≡ (has s e || (same_event k e && false))
-kept s k e = sym (ap (λ b. has s e || b) (and_false _) ∙ or_false _)
 
 pub any_more : {A : Type 0} (p : A → Bool) (xs : List A) (i : ℕ) (x : A) → take (i + 1) xs ≡ take i xs ++ x ∷ [] → list_any p (take (i + 1) xs) ≡ (list_any p (take i xs) || p x)
 any_more p xs i x e = ap (list_any p) e ∙ list_any-append p (take i xs) (x ∷ []) ∙ ap (λ b. list_any p (take i xs) || b) (or_false (p x))

@@ -1,10 +1,13 @@
--- Winners of a set.
-use Rattle.std.specs.Prelude.{◌≡◌, true, false}
+-- Winners of a set, and who leads a fluent in it.
+use Rattle.std.specs.Prelude.{◌≡◌, Bool, true, false, cond, ◌||◌, not, nat_le, nat_lt, Option, Some, None}
 use Rattle.gt_base.specs.declared.events.Event.{Event}
 use Rattle.gt_base.specs.declared.events.Fluent.{Fluent}
+use Rattle.gt_base.specs.declared.events.Prioritised.{Prioritised}
 use Rattle.gt_base.specs.Events.{converse}
 use Rattle.gt_base.specs.Happening.{Events}
 use Rattle.gt_base.specs.Sets.{has}
+use Rattle.gtrbac_model.specs.Conflict.{beats}
+use Rattle.gtrbac_model.specs.Same.{same_event}
 
 abbrev pub on_event : Fluent → Event
 on_event f = record { on = true; fluent = f }
@@ -15,3 +18,28 @@ off_event f = record { on = false; fluent = f }
 -- no event stands beside its converse, as winners never do
 abbrev pub IsApart : Events → Type 0
 IsApart s = (e : Event) → has s e ≡ true → has s (converse e) ≡ false
+
+-- of two events of one fluent the first is not above the second; at equal priority the off event is above the on event
+abbrev pub is_under : Prioritised → Prioritised → Bool
+is_under o q = cond (o.event.on || not q.event.on) (nat_le o.prio q.prio) (nat_lt o.prio q.prio)
+
+-- the event is one of those there and is of the fluent, and none of the fluent is above it
+pub record Leads (there : Prioritised → Bool) (f : Fluent) (q : Prioritised) : Type 0 where
+  pub stands : there q ≡ true
+  pub of_fluent : q.event.fluent ≡ f
+  pub top : (o : Prioritised) → o.event.fluent ≡ f → there o ≡ true → is_under o q ≡ true
+
+-- the leader of the fluent, if any event of it is there
+abbrev pub IsLeader : (Prioritised → Bool) → Fluent → Option Prioritised → Type 0
+IsLeader there f None = (o : Prioritised) → o.event.fluent ≡ f → there o ≡ false
+IsLeader there f (Some q) = Leads there f q
+
+-- who leads after one more event of the fluent: it, unless the leader stands against it
+abbrev pub leader_after : Option Prioritised → Prioritised → Prioritised
+leader_after None p = p
+leader_after (Some q) p = cond (beats q.event.on p.prio q.prio) p q
+
+-- whether the leader is the event
+abbrev pub led : Option Prioritised → Event → Bool
+led None e = false
+led (Some q) e = same_event q.event e

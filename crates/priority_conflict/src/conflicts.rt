@@ -1,4 +1,4 @@
-//! Blocked events, winners, what is seen of an event, and the status after a set.
+//! Blocked events, what is seen of an event, and the status after a set.
 ghost use Rattle.std.specs.Prelude.{◌≡◌, ◌≤◌, ◌+◌, ◌&&◌, ◌||◌, not, true, false, cond, length, IfOk};
 ghost use Rattle.gt_base.specs.declared.events.Event.{Event};
 ghost use Rattle.gt_base.specs.declared.events.Fluent.{Fluent};
@@ -8,11 +8,10 @@ ghost use Rattle.gtrbac_model.specs.Conflict.{beats as beats_at, blocked as is_b
 ghost use Rattle.gtrbac_model.specs.Same.{same_event};
 ghost use Rattle.priority_conflict.specs.Winning.{on_event, off_event, IsApart};
 
-use gt_base::{Event, EventSet, Happened, Memory, Prio, Prioritised, Seen, Status};
-use std::alloc::Global;
+use gt_base::{Event, EventSet, Happened, Prio, Prioritised, Seen, Status};
 
 /// Whether the converse at priority q blocks an event that sets its fluent on or off at priority p.
-fn beats(on: bool, q: u8, p: u8) -> bool
+pub(crate) fn beats(on: bool, q: u8, p: u8) -> bool
     ensures { result ≡ beats_at on q p }
 {
     if on { p <= q } else { p < q }
@@ -32,30 +31,6 @@ pub fn blocked(x: &Happened, p: Prioritised) -> bool
 {
     let converse = p.event.converse();
     x.events().iter().any(|o| blocks(*o, converse, p))
-}
-
-/// The events that stand in the set at some priority at which they are not blocked.
-pub fn winners(alloc: Global, x: &Happened) -> Result<EventSet, Memory>
-    ensures { IfOk result (λ w. (e : Event) → has w.set e ≡ won x.now.set e) }
-{
-    let mut won = EventSet::new(alloc);
-    won.reserve(x.len())?;
-    for p in x.events() {
-        note(&mut won, x, *p);
-    }
-    Ok(won)
-}
-
-/// Adds the event if it is not blocked in the set.
-fn note(won: &mut EventSet, x: &Happened, p: Prioritised)
-    requires { 1 ≤ won.old.spare }
-    ensures won { (e : Event) → has won.new.set e ≡ (has won.old.set e || (same_event p.event e && not (is_blocked x.now.set p))) }
-    ensures spare { won.old.spare ≤ won.new.spare + 1 }
-{
-    let event = p.event;
-    if !blocked(x, p) {
-        won.add(event);
-    }
 }
 
 /// Sets each fluent as its winner says; the others stay. It takes no memory.

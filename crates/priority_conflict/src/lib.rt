@@ -2,5 +2,9 @@
 #![tactic(auto)]
 
 mod conflicts;
+mod contests;
+mod leading;
 
-pub use conflicts::{blocked, next_status, seen, winners};
+pub use conflicts::{blocked, next_status, seen};
+pub use contests::Contest;
+pub use leading::winners;

@@ -1,5 +1,5 @@
 -- The numbers of the triggers that have an item in their bodies.
-use Rattle.std.specs.Prelude.{ℕ, ◌+◌, Bool, cond, List, [], ◌∷◌}
+use Rattle.std.specs.Prelude.{ℕ, ◌+◌, Bool, false, cond, nat_eq, List, [], ◌∷◌, ◌++◌, Option, Some, None}
 use Rattle.gt_base.specs.declared.events.Event.{Event}
 use Rattle.gt_base.specs.declared.events.Signal.{Signal}
 use Rattle.gt_base.specs.Held.{Rule}
@@ -32,3 +32,18 @@ event_eq = event_equality.ghosts.eq
 
 abbrev pub signal_eq : Signal → Signal → Bool
 signal_eq = signal_equality.ghosts.eq
+
+-- the numbers under a key, none where the key is absent
+abbrev pub under : {V : Type 0} → Option V → (V → List ℕ) → List ℕ
+under None items = []
+under (Some v) items = items v
+
+-- whether the list ends in the number
+abbrev pub ends_in : ℕ → List ℕ → Bool
+ends_in n [] = false
+ends_in n (m ∷ []) = nat_eq m n
+ends_in n (m ∷ k ∷ ks) = ends_in n (k ∷ ks)
+
+-- with the number at its end
+abbrev pub ended_by : ℕ → List ℕ → List ℕ
+ended_by n ks = cond (ends_in n ks) ks (ks ++ n ∷ [])

@@ -1,8 +1,7 @@
 //! The triggers of a policy, by their bodies, and when the body of one is met.
 #![tactic(auto)]
 
-mod event_index;
+mod index;
 mod rules;
-mod signal_index;
 
-pub use rules::{Rules, met};
+pub use rules::{Rules, met, met_in};

@@ -9,10 +9,10 @@ ghost use Rattle.gtrbac_model.specs.Graph.{item_at};
 ghost use Rattle.gtrbac_model.specs.Trigger.{met as is_met, holds as holds_in};
 ghost use Rattle.trigger_rules.specs.Indexed.{with_event, with_signal};
 
-use crate::event_index::event_index;
-use crate::signal_index::signal_index;
+use crate::index::{event_index, signal_index};
 use gt_base::{Cond, Event, EventSet, Happened, List, Memory, Signal, Status, Trigger};
 use indexmap::IndexMap;
+use priority_conflict::Contest;
 use std::alloc::Global;
 use std::marker::Model;
 
@@ -25,20 +25,20 @@ pub struct Rules {
 }
 
 impl Model for Rules {
-    ghost use Rattle.std.specs.Prelude.{List, [], length, ◌≤◌, ◌≡◌, MatchOption};
+    ghost use Rattle.std.specs.Prelude.{List, length, ◌≤◌, ◌≡◌};
     ghost use Rattle.gt_base.specs.declared.events.Event.{Event};
     ghost use Rattle.gt_base.specs.declared.events.Signal.{Signal};
     ghost use Rattle.gt_base.specs.Held.{Rule};
     ghost use Rattle.indexmap.specs.IndexMap.{get};
-    ghost use Rattle.trigger_rules.specs.Indexed.{event_eq, signal_eq, with_event, with_signal};
+    ghost use Rattle.trigger_rules.specs.Indexed.{event_eq, signal_eq, with_event, with_signal, under};
 
     ghost Value = { List Rule };
 
     ghost view = { λ r. r.triggers.items };
 
     ghost invariant = { λ r. (length r.triggers.items ≤ 4_000)
-        × ((e : Event) → MatchOption (get event_eq r.events e) (with_event r.triggers.items e ≡ []) (λ v. v.items ≡ with_event r.triggers.items e))
-        × ((s : Signal) → MatchOption (get signal_eq r.signals s) (with_signal r.triggers.items s ≡ []) (λ v. v.items ≡ with_signal r.triggers.items s)) };
+        × ((e : Event) → under (get event_eq r.events e) (λ v. v.items) ≡ with_event r.triggers.items e)
+        × ((s : Signal) → under (get signal_eq r.signals s) (λ v. v.items) ≡ with_signal r.triggers.items s) };
 }
 
 impl Rules {
@@ -119,6 +119,26 @@ fn body_met(t: &Trigger, won: &EventSet, x: &Happened, before: &Status) -> bool
         return false;
     }
     all_held(t.conds.as_slice(), before)
+}
+
+/// Whether the body of the trigger is met in the set, as `met` says it of a kept trigger. It takes no memory.
+pub fn met_in(t: &Trigger, x: &Contest, before: &Status) -> bool
+    ensures { result ≡ is_met t.now x.now (has before.now.set) }
+{
+    if !all_lead(t.events.as_slice(), x) {
+        return false;
+    }
+    if !all_there(t.signals.as_slice(), x.set()) {
+        return false;
+    }
+    all_held(t.conds.as_slice(), before)
+}
+
+/// Whether each of the events is won in the set.
+fn all_lead(events: &[Event], x: &Contest) -> bool
+    ensures { result ≡ list_all (is_won x.now) events.now }
+{
+    events.iter().all(|e| x.is_won(*e))
 }
 
 /// Whether each of the events is among the winners.

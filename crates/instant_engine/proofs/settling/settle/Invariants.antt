@@ -7,5 +7,5 @@ use Rattle.instant_engine.proofs.settling.settle.Given as goal
 abbrev pub invariant-loop-n : goal.invariant-loop-n
 invariant-loop-n l =
     record {
-      so_far : IsSettledBelow l.r l.base.set (has l.before.set) (level_in l.g.events l.s) l.n l.x.set;
+      so_far : IsSettledBelow l.r l.base.set (has l.before.set) (level_in l.g.events l.s) l.n l.x;
     }

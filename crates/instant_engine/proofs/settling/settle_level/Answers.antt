@@ -1,43 +1,55 @@
-use Rattle.std.proofs.Common.{◌≡◌, ◌||◌, length, ap, sym, ◌∙◌, arith}
-use Rattle.std.proofs.lemmas.Bool.{eqb-true, eq-eqb, false≢true}
-use Rattle.gt_base.specs.declared.events.Prioritised.{Prioritised}
+use Rattle.std.proofs.Common.{ℕ, ◌+◌, ◌*◌, ◌<◌, ◌++◌, ◌-◌, [], List, length, take, sym, ◌∙◌, ap, subst}
 use Rattle.gt_base.specs.Sets.{has}
-use Rattle.gtrbac_model.specs.Same.{lists, same_prioritised}
-use Rattle.dependency_graph.specs.Carried.{level_in}
+use Rattle.gtrbac_model.specs.Graph.{item_at}
 use Rattle.gtrbac_model.proofs.Levels.{by_trigger}
-use Rattle.instant_engine.proofs.Rounds.{missing_at_most, rests, complete, joins, fewer_missing, nil_of}
+use Rattle.dependency_graph.specs.Carried.{level_in}
+use Rattle.instant_engine.specs.OnTheWay.{Keeps, joined, waiting, missing}
+use Rattle.instant_engine.proofs.Steps.{Waits, first_wait, still_wait, keeps_on, less_left, done, elem_of}
 use Rattle.instant_engine.proofs.settling.settle_level.Goals as goal
 
-pub loop-init : goal.loop-init
-loop-init c = record { keeps = λ b h. h; missing = omega (arith, missing_at_most c.args.r.now c.args.x.now.set) }
-
-pub returns-then-is_empty : goal.returns-then-is_empty
-returns-then-is_empty c = λ base h.
+pub loop-t-init : goal.loop-t-init
+loop-t-init c =
     let s = has c.args.before.now.set in
     let level = level_in c.args.g.now.events c.args.s.now in
-    rests s level c.args.n c.loop.x.set c.args.r.now (by_trigger c.args.r.now level c.requires.levelling) (sym (c.as_slice-heads.ensures.value ∙ c.in_ok-found.ensures) ∙ nil_of c.as_slice-heads.result.now none) base (c.loop.invariant.keeps base h)
-  where
-    none : length c.as_slice-heads.result.now ≡ 0
-    none = eqb-true _ 0 (sym c.is_empty.ensures ∙ c.if-is_empty.true)
-
-pub loop-preserved : goal.loop-preserved
-loop-preserved c =
-    let s = has c.args.before.now.set in
-    let level = level_in c.args.g.now.events c.args.s.now in
-    let levelled = by_trigger c.args.r.now level c.requires.levelling in
-    let joined = λ (o : Prioritised).
-    c.join.ensures.events o ∙ ap (λ x. has x.events o || lists same_prioritised c.as_slice-heads.result.now o) c.in_ok-reserve.ensures.set
-    ∙ ap (λ hs. has c.loop.x.set.events o || lists same_prioritised hs o) (c.as_slice-heads.ensures.value ∙ c.in_ok-found.ensures) in
     record {
-      keeps = λ base h. joins s level c.args.n c.loop.x.set c.args.r.now levelled c.join.new.x.set joined (c.join.ensures.signals ∙ ap (λ x. x.signals) c.in_ok-reserve.ensures.set) base (c.loop.invariant.keeps base h);
-      missing = omega (arith, fewer_missing s level c.args.n c.loop.x.set c.args.r.now levelled c.join.new.x.set joined c.as_slice-heads.result.now (c.as_slice-heads.ensures.value ∙ c.in_ok-found.ensures) some, c.loop.invariant.missing);
+      keeps = λ base h. h;
+      waits = subst (Waits c.args.r.now s level c.args.n c.args.x.now) (sym (c.in_ok-pending.ensures.items ∙ c.requires.due)) (first_wait c.args.r.now s level c.args.n c.args.x.now);
     }
-  where
-    some : length c.as_slice-heads.result.now ≡ 0 → ⊥
-    some h = false≢true (sym c.if-is_empty.false ∙ c.is_empty.ensures ∙ eq-eqb _ 0 h)
+
+pub loop-t-smaller : goal.loop-t-smaller
+loop-t-smaller c =
+    let s = has c.args.before.now.set in
+    let level = level_in c.args.g.now.events c.args.s.now in
+    let rules = c.args.r.now in
+    let head = c.head_if_firing-head.result in
+    let most = missing rules c.loop-t.x * (length rules + 1) in
+    subst (λ y. missing rules y * (length rules + 1) + length c.join.new.pending.items < most + length c.loop-t.pending.items) (sym c.in_ok-join.ensures.set)
+    (subst (λ (ts : List ℕ). missing rules (joined c.loop-t.x head) * (length rules + 1) + length ts < most + length c.loop-t.pending.items) (sym c.in_ok-join.ensures.pending)
+    (subst (λ (ts : List ℕ). missing rules (joined c.loop-t.x head) * (length rules + 1) + length (waiting rules c.pop.new.self.items head) < most + length ts) (sym c.in-Some.ensures.items)
+    (less_left rules s level c.args.n c.loop-t.x c.pop.new.self.items c.in-Some.t head c.head_if_firing-head.ensures)))
+
+pub loop-t-preserved : goal.loop-t-preserved
+loop-t-preserved c =
+    let s = has c.args.before.now.set in
+    let level = level_in c.args.g.now.events c.args.s.now in
+    let rules = c.args.r.now in
+    record {
+      keeps = λ base h.
+          subst (Keeps rules s level c.args.n c.loop-t.x c.args.n) (sym c.in_ok-join.ensures.set)
+          (keeps_on rules s level c.args.n (by_trigger rules level c.requires.levels.levelling) c.loop-t.x c.head_if_firing-head.result (item_at rules c.in-Some.t) (λ q. elem_of rules c.in-Some.t q) c.head_if_firing-head.ensures)
+          base (c.loop-t.invariant.keeps base h);
+      waits = subst (λ y. Waits rules s level c.args.n y c.join.new.pending.items) (sym c.in_ok-join.ensures.set)
+          (subst (Waits rules s level c.args.n (joined c.loop-t.x c.head_if_firing-head.result)) (sym c.in_ok-join.ensures.pending)
+          (still_wait rules s level c.args.n c.loop-t.x c.pop.new.self.items c.in-Some.t c.head_if_firing-head.result c.head_if_firing-head.ensures
+          (subst (Waits rules s level c.args.n c.loop-t.x) c.in-Some.ensures.items c.loop-t.invariant.waits)));
+    }
 
 pub returns : goal.returns
-returns c = λ base h.
+returns c =
     let s = has c.args.before.now.set in
     let level = level_in c.args.g.now.events c.args.s.now in
-    complete s level c.args.n c.loop.x.set c.args.r.now (by_trigger c.args.r.now level c.requires.levelling) (omega (arith, ap length c.triggers.ensures.triggers, c.len-end.ensures, c.loop.invariant.missing)) base (c.loop.invariant.keeps base h)
+    let rules = c.args.r.now in
+    let left = c.in_default.ensures in
+    let empty = left.items ∙ ap (λ (ts : List ℕ). ts ++ []) (left.rest ∙ ap (λ k. take (k - 1) c.loop-t.pending.items) left.cases.0) in
+    let none = subst (Waits rules s level c.args.n c.loop-t.x) empty c.loop-t.invariant.waits in
+    λ base h. done rules s level c.args.n (by_trigger rules level c.requires.levels.levelling) c.loop-t.x none base (c.loop-t.invariant.keeps base h)

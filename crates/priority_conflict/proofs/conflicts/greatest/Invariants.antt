@@ -1,4 +1,4 @@
-use Rattle.std.proofs.Common.{◌≡◌, ◌≤◌, ℕ}
+use Rattle.std.proofs.Common.{◌≡◌, ◌≤◌}
 use Rattle.gtrbac_model.specs.Conflict.{greatest_below, stands_at}
 use Rattle.priority_conflict.proofs.conflicts.greatest.Given as goal
 

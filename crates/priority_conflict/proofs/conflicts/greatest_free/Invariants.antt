@@ -1,4 +1,4 @@
-use Rattle.std.proofs.Common.{◌≡◌, ◌≤◌, ℕ}
+use Rattle.std.proofs.Common.{◌≡◌, ◌≤◌}
 use Rattle.gtrbac_model.specs.Conflict.{greatest_below, won_at}
 use Rattle.priority_conflict.proofs.conflicts.greatest_free.Given as goal
 

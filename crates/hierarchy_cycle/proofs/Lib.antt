@@ -1,0 +1,4 @@
+pub mod Roles
+pub mod Closing
+pub mod Acyclic
+pub mod Carrying

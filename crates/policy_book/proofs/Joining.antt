@@ -1,0 +1,77 @@
+-- From the names, the faults and the draft of all lines to what they build.
+use Rattle.std.proofs.Common.{◌≡◌, ℕ, List, [], Option, Some, None, Ok, Err, sym, subst, ap, ◌∙◌}
+use Rattle.std.specs.Prelude.{option_map}
+use Rattle.std.proofs.lemmas.List.Sums.{AllPass-from_list_all}
+use Rattle.gt_base.specs.declared.events.UserId.{UserId}
+use Rattle.gt_base.specs.declared.policies.HierEdge.{HierEdge}
+use Rattle.gt_base.specs.Happening.{Fluents}
+use Rattle.hierarchy_cycle.specs.Cycles.{edge_cycle}
+use Rattle.policy_words.specs.Reading.{Numbered}
+use Rattle.policy_words.specs.Sayings.{Saying, is_saying}
+use Rattle.policy_forms.specs.Naming.{Names, NamedPolicy}
+use Rattle.policy_forms.specs.Making.{Draft as Making, names_of, fresh, drafted, named_policy, policy_of}
+use Rattle.policy_forms.specs.Book.{BookTrouble, unknown, twice, many, cycle, edges_at, said_in, first_trouble, without_cycle, without_trouble, build}
+use Rattle.policy_forms.specs.Valid.{IsWellFormed}
+use Rattle.policy_laws.specs.Laws.{BuildIsWellFormed}
+use Rattle.policy_book.specs.declared.faults.BookFault.{BookFault}
+use Rattle.policy_book.specs.declared.faults.BookFault.TheVariants.{Unknown, Twice, TooMany, HierarchyCycle, Memory}
+use Rattle.policy_book.specs.Said.{AreParts}
+use Rattle.policy_book.specs.Faults.{IsFault, IsLineFault, seniors}
+use Rattle.policy_book.specs.Drafts.{made_policy}
+use Rattle.policy_book.specs.Cycles.{IsCycleFault}
+
+module _ (ss : List (Numbered Saying)) where
+  abbrev all_names : Names
+  all_names = names_of (said_in ss)
+
+  -- the draft is of all lines
+  abbrev pub IsWhole : Names → Making → Type 0
+  IsWhole ns d = d ≡ drafted ns (fresh ns) (said_in ss)
+
+  whole_policy : (ns : Names) (d : Making) → ns ≡ all_names → IsWhole ns d → made_policy ns d ≡ named_policy (said_in ss)
+  whole_policy ns d named whole = ap (made_policy ns) whole ∙ ap (λ ms. made_policy ms (drafted ms (fresh ms) (said_in ss))) named
+
+  no_trouble : (ns : Names) → ns ≡ all_names → first_trouble ns [] ss ≡ None → build ss ≡ without_cycle (named_policy (said_in ss)) (edge_cycle (named_policy (said_in ss)).policy.edges)
+  no_trouble ns named none =
+      ap (λ o. without_trouble o (named_policy (said_in ss))) (ap (λ ms. first_trouble ms [] ss) (sym named) ∙ none)
+
+  pub built : (ns : Names) (d : Making) → ns ≡ all_names → first_trouble ns [] ss ≡ None → IsWhole ns d → edge_cycle d.edges ≡ None → build ss ≡ Ok (made_policy ns d)
+  built ns d named none whole open_ended =
+      let same = whole_policy ns d named whole in
+      no_trouble ns named none
+      ∙ ap (λ np. without_cycle np (edge_cycle np.policy.edges)) (sym same)
+      ∙ ap (without_cycle (made_policy ns d)) open_ended
+
+  of_trouble : (ns : Names) (t : BookTrouble) → ns ≡ all_names → first_trouble ns [] ss ≡ Some t → build ss ≡ Err t
+  of_trouble ns t named some = ap (λ o. without_trouble o (named_policy (said_in ss))) (ap (λ ms. first_trouble ms [] ss) (sym named) ∙ some)
+
+  pub line_fault : (ns : Names) (f : BookFault) → ns ≡ all_names → IsLineFault (first_trouble ns [] ss) f → IsFault ss f
+  line_fault ns (Unknown n) named is = of_trouble ns (unknown n) named is
+  line_fault ns (Twice n) named is = of_trouble ns (twice n) named is
+  line_fault ns (TooMany n k) named is = of_trouble ns (many n k) named is
+  line_fault ns (HierarchyCycle es names) named is = absurd is
+  line_fault ns Memory named is = tt
+
+  of_cycle : (np : NamedPolicy) (o : Option (List ℕ)) (es : List HierEdge) → option_map (edges_at np.policy.edges) o ≡ Some es → without_cycle np o ≡ Err (cycle es)
+  of_cycle np None es e = cc
+  of_cycle np (Some ns) es e = let same : edges_at np.policy.edges ns ≡ es = cc in ap (λ x. Err (cycle x)) same
+
+  pub cycle_fault : (ns : Names) (d : Making) (f : BookFault) → ns ≡ all_names → first_trouble ns [] ss ≡ None → IsWhole ns d → IsCycleFault ns d.edges f → IsFault ss f
+  cycle_fault ns d (HierarchyCycle es names) named none whole is = (
+    no_trouble ns named none
+        ∙ ap (λ np. without_cycle np (edge_cycle np.policy.edges)) (sym (whole_policy ns d named whole))
+        ∙ of_cycle (made_policy ns d) (edge_cycle d.edges) es.items is.0,
+    subst (λ ms. names.items ≡ seniors ms es.items) named is.1,
+  )
+  cycle_fault ns d Memory named none whole is = tt
+  cycle_fault ns d (Unknown n) named none whole is = absurd is
+  cycle_fault ns d (Twice n) named none whole is = absurd is
+  cycle_fault ns d (TooMany n k) named none whole is = absurd is
+
+pub is_well_formed : BuildIsWellFormed → (ss : List (Numbered Saying)) (np : NamedPolicy) → AreParts ss → build ss ≡ Ok np → IsWellFormed np
+is_well_formed law ss np parts is = law ss np (AllPass-from_list_all (λ s. is_saying s.it) ss parts.said) is
+
+-- the parts of a policy that are kept apart from the draft's
+pub same_policy : (ns : Names) (d : Making) (as' : List UserId) (on : Fluents) → as' ≡ (policy_of ns d).admins → on ≡ (policy_of ns d).opening
+    → ◌≡◌ {A = NamedPolicy} (record { names = ns; policy = record (policy_of ns d) { admins = as'; opening = on } }) (made_policy ns d)
+same_policy ns d as' on p q = λ i. record { names = ns; policy = record (policy_of ns d) { admins = p i; opening = q i } }

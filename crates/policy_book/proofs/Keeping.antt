@@ -1,0 +1,31 @@
+-- One more line after those that are kept.
+use Rattle.std.proofs.Common.{◌≡◌, ℕ, ◌+◌, ◌<◌, ◌≤◌, true, List, [], ◌∷◌, ◌++◌, length, length-append, refl, ◌∙◌, arith, le-leb, lt-ltb, ltb-true}
+use Rattle.std.proofs.lemmas.List.Folds.{list_all-append}
+use Rattle.policy_words.specs.Sayings.{Saying, is_saying}
+use Rattle.policy_words.specs.Reading.{Numbered}
+use Rattle.policy_book.specs.Said.{AreParts, are_before, rise_from}
+use Rattle.policy_book.proofs.Truth.{both, parted}
+
+rise_added : (n : ℕ) (ss : List (Numbered Saying)) (s : Numbered Saying) → rise_from n ss ≡ true → are_before s.line ss ≡ true → n ≤ s.line → rise_from n (ss ++ s ∷ []) ≡ true
+rise_added n [] s r b le = both _ _ (le-leb n s.line le) refl
+rise_added n (x ∷ ss) s r b le =
+    let rising = parted _ _ r in
+    let before = parted _ _ b in
+    both _ _ rising.0 (rise_added (x.line + 1) ss s rising.1 before.1 (let below = ltb-true x.line s.line before.0 in omega arith))
+
+pub one_more : (ss : List (Numbered Saying)) (s : Numbered Saying) → AreParts ss → is_saying s.it ≡ true → are_before s.line ss ≡ true → length ss < 4_294_967_295
+    → AreParts (ss ++ s ∷ [])
+one_more ss s keeps said before few =
+    record {
+      said = list_all-append (λ x. is_saying x.it) ss (s ∷ []) ∙ both _ _ keeps.said (both _ _ said refl);
+      rise = rise_added 0 ss s keeps.rise before (omega arith);
+      few = omega (arith, length-append ss (s ∷ []));
+    }
+
+-- the next number is above those so far
+pub before_added : (n : ℕ) (ss : List (Numbered Saying)) (s : Numbered Saying) → are_before n ss ≡ true → s.line ≡ n → are_before (n + 1) (ss ++ s ∷ []) ≡ true
+before_added n [] s before is = both _ _ (lt-ltb s.line (n + 1) (omega arith)) refl
+before_added n (x ∷ ss) s before is =
+    let parts = parted _ _ before in
+    let below = ltb-true x.line n parts.0 in
+    both _ _ (lt-ltb x.line (n + 1) (omega arith)) (before_added n ss s parts.1 is)

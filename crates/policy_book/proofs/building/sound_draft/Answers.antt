@@ -1,0 +1,28 @@
+use Rattle.std.proofs.Common.{length, refl, ap, sym, subst, ◌∙◌, arith}
+use Rattle.hierarchy_cycle.specs.Nets.{AreWithin}
+use Rattle.policy_forms.specs.Making.{fresh}
+use Rattle.policy_book.specs.Seen.{seen_names}
+use Rattle.policy_book.proofs.Fewness.{few_names, edges_within, edges_few}
+use Rattle.policy_book.proofs.building.sound_draft.Goals as goal
+
+pub check_lines-requires : goal.check_lines-requires
+check_lines-requires c = rw c.requires.named (few_names 4_294_967_295 c.args.parts.items c.requires.kept.few)
+
+pub draft_of-requires-clause-few : goal.draft_of-requires-clause-few
+draft_of-requires-clause-few c = rw c.requires.named (few_names 4_294_967_295 c.args.parts.items c.requires.kept.few)
+
+pub check_edges-requires-clause-few : goal.check_edges-requires-clause-few
+check_edges-requires-clause-few c = rw c.requires.named (few_names 4_294_967_295 c.args.parts.items c.requires.kept.few)
+
+pub check_edges-requires-clause-short : goal.check_edges-requires-clause-short
+check_edges-requires-clause-short c =
+    let ns = seen_names c.args.names.now in
+    let edges = c.deref-2.ensures.value ∙ ap (λ d. d.edges) c.in-Ok.ensures in
+    let few = edges_few ns (fresh ns) c.args.parts.items in
+    omega (arith, ap length edges, few, c.requires.kept.few)
+
+pub check_edges-requires-clause-within : goal.check_edges-requires-clause-within
+check_edges-requires-clause-within c =
+    let ns = seen_names c.args.names.now in
+    let edges = c.deref-2.ensures.value ∙ ap (λ d. d.edges) c.in-Ok.ensures in
+    subst (AreWithin (length ns.roles)) (sym edges) (edges_within ns (fresh ns) c.args.parts.items refl)

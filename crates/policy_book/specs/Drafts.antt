@@ -1,0 +1,20 @@
+-- What a contract sees of a policy in the making.
+use Rattle.policy_forms.specs.Naming.{Names, NamedPolicy}
+use Rattle.policy_forms.specs.Making.{Draft as Making, policy_of}
+use Rattle.policy_book.specs.declared.drafts.Draft.{Draft}
+
+abbrev pub seen_draft : Draft → Making
+seen_draft d = record {
+  periods = d.periods.items;
+  limits = d.limits.items;
+  edges = d.edges.items;
+  caps = d.caps.items;
+  admins = d.admins.keys;
+  on_at_first = d.on_at_first.keys;
+  entries = d.entries.items;
+  triggers = d.triggers.items;
+}
+
+-- the policy that a finished draft makes, with its names
+abbrev pub made_policy : Names → Making → NamedPolicy
+made_policy ns d = record { names = ns; policy = policy_of ns d }

@@ -1,0 +1,9 @@
+pub mod Said
+pub mod Seen
+pub mod Numbers
+pub mod Tallies
+pub mod Faults
+pub mod Drafts
+pub mod Cycles
+pub mod Sound
+pub mod Policies

@@ -1,0 +1,41 @@
+//! From lines to what they make, or their first fault.
+ghost use Rattle.std.specs.Prelude.{◌≡◌, IfOk, IfErr};
+ghost use Rattle.policy_forms.specs.Making.{names_of};
+ghost use Rattle.policy_forms.specs.Book.{said_in};
+ghost use Rattle.policy_book.specs.Said.{AreParts};
+ghost use Rattle.policy_book.specs.Seen.{seen_names};
+ghost use Rattle.policy_book.specs.Drafts.{seen_draft};
+ghost use Rattle.policy_book.specs.Faults.{IsFault};
+ghost use Rattle.policy_book.specs.Sound.{IsSound};
+
+use crate::cycles::check_edges;
+use crate::drafts::{Draft, draft_of};
+use crate::faults::BookFault;
+use crate::lines::Part;
+use crate::names::NameTables;
+use crate::troubles::check_lines;
+use std::alloc::Global;
+
+/// What all lines make, or the first fault of the lines together.
+pub(crate) fn sound_draft(
+    alloc: Global,
+    names: &NameTables,
+    parts: Vec<Part>,
+) -> Result<Draft, BookFault>
+    requires named { seen_names names.now ≡ names_of (said_in parts.items) }
+    requires kept { AreParts parts.items }
+    ensures ok { IfOk result (λ draft. IsSound parts.items (seen_names names.now) (seen_draft draft)) }
+    ensures fault { IfErr result (IsFault parts.items) }
+{
+    if let Err(fault) = check_lines(alloc, names, &parts) {
+        return Err(fault);
+    }
+    let draft = match draft_of(alloc, names, parts) {
+        Ok(draft) => draft,
+        Err(_) => return Err(BookFault::Memory),
+    };
+    if let Err(fault) = check_edges(alloc, names, &draft.edges) {
+        return Err(fault);
+    }
+    Ok(draft)
+}

@@ -1,0 +1,103 @@
+//! The least cycle of edges.
+ghost use Rattle.std.specs.Prelude.{◌≡◌, ◌≤◌, ◌<◌, ◌++◌, length, map, None, OnOk, IfOk, IfErr};
+ghost use Rattle.gtrbac_model.specs.Graph.{item_at};
+ghost use Rattle.hierarchy_cycle.specs.Cycles.{edge_cycle};
+ghost use Rattle.hierarchy_cycle.specs.Nets.{AreWithin};
+ghost use Rattle.policy_forms.specs.Naming.{role_name};
+ghost use Rattle.policy_forms.specs.Book.{edges_at};
+ghost use Rattle.policy_forms.specs.PolicyRead.{again};
+ghost use Rattle.policy_book.specs.Seen.{seen_names};
+ghost use Rattle.policy_book.specs.Numbers.{AreFew};
+ghost use Rattle.policy_book.specs.Faults.{seniors};
+ghost use Rattle.policy_book.specs.Cycles.{TellsEdges, IsCycleFault};
+
+use crate::faults::BookFault;
+use crate::names::NameTables;
+use gt_base::{HierEdge, List, Memory, Name};
+use hierarchy_cycle::cycle_of;
+use std::alloc::Global;
+
+#[tactic(auto, using(least_walk::proofs::Items::item_get))]
+fn edge_at(edges: &[HierEdge], number: u32) -> Option<HierEdge>
+    ensures { result ≡ item_at edges.now number }
+{
+    edges.get(number as usize).copied()
+}
+
+/// The edges of these numbers.
+fn edges_of(alloc: Global, edges: &[HierEdge], numbers: &[u32]) -> Result<Vec<HierEdge>, Memory>
+    ensures { IfOk result (λ found. found.items ≡ edges_at edges.now numbers.now) }
+{
+    let mut found = Vec::new(alloc);
+    for number in numbers {
+        if let Some(edge) = edge_at(edges, *number) {
+            found.push(edge)?;
+        }
+    }
+    Ok(found)
+}
+
+fn senior(names: &NameTables, edge: &HierEdge) -> Name
+    requires { edge.now.senior.0 < length names.now.roles }
+    ensures { result ≡ role_name (seen_names names.now) edge.now.senior }
+{
+    names.roles.name(edge.senior.0 as usize)
+}
+
+fn senior_names(alloc: Global, names: &NameTables, edges: &[HierEdge]) -> Result<Vec<Name>, Memory>
+    requires { AreWithin (length names.now.roles) edges.now }
+    ensures { IfOk result (λ found. found.items ≡ map (λ e. role_name (seen_names names.now) e.senior) edges.now) }
+{
+    let mut found = Vec::new(alloc);
+    for edge in edges {
+        found.push(senior(names, edge))?;
+    }
+    Ok(found)
+}
+
+/// The names of the edges' seniors, the first of them again at the end.
+fn names_round(alloc: Global, names: &NameTables, edges: &[HierEdge]) -> Result<Vec<Name>, Memory>
+    requires { AreWithin (length names.now.roles) edges.now }
+    ensures { IfOk result (λ found. found.items ≡ seniors (seen_names names.now) edges.now) }
+{
+    let mut found = senior_names(alloc, names, edges)?;
+    if let Some(first) = edges.first() {
+        found.push(senior(names, first))?;
+    }
+    Ok(found)
+}
+
+fn cycle_fault(
+    alloc: Global,
+    names: &NameTables,
+    edges: &[HierEdge],
+    numbers: &[u32],
+) -> Result<BookFault, Memory>
+    requires { AreWithin (length names.now.roles) edges.now }
+    ensures { IfOk result (TellsEdges (seen_names names.now) (edges_at edges.now numbers.now)) }
+{
+    let edges = edges_of(alloc, edges, numbers)?;
+    let names = names_round(alloc, names, &edges)?;
+    Ok(BookFault::HierarchyCycle {
+        edges: List::from(edges),
+        names: List::from(names),
+    })
+}
+
+/// Tells the least cycle of the edges.
+pub(crate) fn check_edges(
+    alloc: Global,
+    names: &NameTables,
+    edges: &[HierEdge],
+) -> Result<(), BookFault>
+    requires few { AreFew 4_294_967_295 (seen_names names.now) }
+    requires short { length edges.now ≤ 4_294_967_295 }
+    requires within { AreWithin (length names.now.roles) edges.now }
+    ensures ok { OnOk result (edge_cycle edges.now ≡ None) }
+    ensures fault { IfErr result (IsCycleFault (seen_names names.now) edges.now) }
+{
+    let Some(numbers) = cycle_of(alloc, names.roles.len() as u32, edges)? else {
+        return Ok(());
+    };
+    Err(cycle_fault(alloc, names, edges, numbers.as_slice())?)
+}

@@ -1,0 +1,183 @@
+//! The names that a policy declares.
+ghost use Rattle.std.specs.Prelude.{◌≡◌, ◌≤◌, IfOk, OnOk, length};
+ghost use Rattle.gt_base.specs.Names.{place_of};
+ghost use Rattle.policy_words.specs.Seen.{seen_said};
+ghost use Rattle.policy_forms.specs.Naming.{role_of, user_of, perm_of, period_of, limit_of, fluent_of, event_of, cond_of, signal_of, head_of};
+ghost use Rattle.policy_forms.specs.Making.{naming, no_names, names_of};
+ghost use Rattle.policy_forms.specs.Book.{said_in};
+ghost use Rattle.policy_book.specs.Seen.{seen_names};
+ghost use Rattle.policy_book.specs.Numbers.{AreFew};
+
+use crate::lines::Part;
+use gt_base::{
+    Cond, Event, Fluent, LimitId, Memory, Name, PeriodId, PermId, Prioritised, RoleId, Signal,
+    UserId,
+};
+use name_table::Table;
+use policy_words::{NamedCond, NamedEvent, NamedFluent, NamedHead, NamedSignal, Said};
+use std::alloc::Global;
+
+/// The names of each kind, each at its number.
+#[derive(Drop)]
+pub(crate) struct NameTables {
+    pub roles: Table,
+    pub users: Table,
+    pub perms: Table,
+    pub periods: Table,
+    pub limits: Table,
+}
+
+/// The number of a name in a table.
+fn number_in(table: &Table, name: &Name) -> Option<u32>
+    requires { length table.now ≤ 4_294_967_295 }
+    ensures { result ≡ place_of table.now name.now }
+{
+    match table.number(name) {
+        Some(k) => Some(k as u32),
+        None => None,
+    }
+}
+
+impl NameTables {
+    /// No names, which takes no memory yet.
+    fn new(alloc: Global) -> NameTables
+        ensures { seen_names result ≡ no_names }
+    {
+        NameTables {
+            roles: Table::new(alloc),
+            users: Table::new(alloc),
+            perms: Table::new(alloc),
+            periods: Table::new(alloc),
+            limits: Table::new(alloc),
+        }
+    }
+
+    /// Declares the name of a line that declares one.
+    fn declare(&mut self, said: &Said) -> Result<(), Memory>
+        ensures { OnOk result (seen_names self.new ≡ naming (seen_names self.old) (seen_said said.now)) }
+    {
+        match said {
+            Said::Role(name) => self.roles.declare(*name)?,
+            Said::User(name) => self.users.declare(*name)?,
+            Said::Perm(name) => self.perms.declare(*name)?,
+            Said::Period { name, .. } => self.periods.declare(*name)?,
+            Said::Limit { name, .. } => self.limits.declare(*name)?,
+            Said::Version(_)
+            | Said::Edge { .. }
+            | Said::Cap { .. }
+            | Said::Admin(_)
+            | Said::Opening(_)
+            | Said::Entry { .. }
+            | Said::When { .. } => false,
+        };
+        Ok(())
+    }
+
+    /// The number of a role, none exactly where no line declares the name.
+    pub(crate) fn role(&self, n: &Name) -> Option<RoleId>
+        requires { AreFew 4_294_967_295 (seen_names self.now) }
+        ensures { result ≡ role_of (seen_names self.now) n.now }
+    {
+        Some(RoleId(number_in(&self.roles, n)?))
+    }
+
+    /// The number of a user, none exactly where no line declares the name.
+    pub(crate) fn user(&self, n: &Name) -> Option<UserId>
+        requires { AreFew 4_294_967_295 (seen_names self.now) }
+        ensures { result ≡ user_of (seen_names self.now) n.now }
+    {
+        Some(UserId(number_in(&self.users, n)?))
+    }
+
+    /// The number of a permission, none exactly where no line declares the name.
+    pub(crate) fn perm(&self, n: &Name) -> Option<PermId>
+        requires { AreFew 4_294_967_295 (seen_names self.now) }
+        ensures { result ≡ perm_of (seen_names self.now) n.now }
+    {
+        Some(PermId(number_in(&self.perms, n)?))
+    }
+
+    /// The number of a period, none exactly where no line declares the name.
+    pub(crate) fn period(&self, n: &Name) -> Option<PeriodId>
+        requires { AreFew 4_294_967_295 (seen_names self.now) }
+        ensures { result ≡ period_of (seen_names self.now) n.now }
+    {
+        Some(PeriodId(number_in(&self.periods, n)?))
+    }
+
+    /// The number of a limit, none exactly where no line declares the name.
+    pub(crate) fn limit(&self, n: &Name) -> Option<LimitId>
+        requires { AreFew 4_294_967_295 (seen_names self.now) }
+        ensures { result ≡ limit_of (seen_names self.now) n.now }
+    {
+        Some(LimitId(number_in(&self.limits, n)?))
+    }
+
+    /// The fluent in numbers, none exactly where a name of it is not declared.
+    pub(crate) fn fluent(&self, f: &NamedFluent) -> Option<Fluent>
+        requires { AreFew 4_294_967_295 (seen_names self.now) }
+        ensures { result ≡ fluent_of (seen_names self.now) f.now }
+    {
+        match f {
+            NamedFluent::Enabled(r) => Some(Fluent::Enabled(self.role(r)?)),
+            NamedFluent::Assigned(u, r) => Some(Fluent::Assigned(self.user(u)?, self.role(r)?)),
+            NamedFluent::Granted(p, r) => Some(Fluent::Granted(self.perm(p)?, self.role(r)?)),
+            NamedFluent::Limit(l) => Some(Fluent::Limit(self.limit(l)?)),
+        }
+    }
+
+    /// The event in numbers, none exactly where a name of it is not declared.
+    pub(crate) fn event(&self, e: &NamedEvent) -> Option<Event>
+        requires { AreFew 4_294_967_295 (seen_names self.now) }
+        ensures { result ≡ event_of (seen_names self.now) e.now }
+    {
+        let fluent = self.fluent(&e.fluent)?;
+        Some(Event { on: e.on, fluent })
+    }
+
+    /// The condition in numbers, none exactly where a name of it is not declared.
+    pub(crate) fn cond(&self, c: &NamedCond) -> Option<Cond>
+        requires { AreFew 4_294_967_295 (seen_names self.now) }
+        ensures { result ≡ cond_of (seen_names self.now) c.now }
+    {
+        let fluent = self.fluent(&c.fluent)?;
+        Some(Cond { on: c.on, fluent })
+    }
+
+    /// The signal in numbers, none exactly where a name of it is not declared.
+    pub(crate) fn signal(&self, s: &NamedSignal) -> Option<Signal>
+        requires { AreFew 4_294_967_295 (seen_names self.now) }
+        ensures { result ≡ signal_of (seen_names self.now) s.now }
+    {
+        let user = self.user(&s.user)?;
+        let role = self.role(&s.role)?;
+        Some(Signal {
+            start: s.start,
+            user,
+            role,
+        })
+    }
+
+    /// The head in numbers, none exactly where a name of it is not declared.
+    pub(crate) fn head(&self, h: &NamedHead) -> Option<Prioritised>
+        requires { AreFew 4_294_967_295 (seen_names self.now) }
+        ensures { result ≡ head_of (seen_names self.now) h.now }
+    {
+        let event = self.event(&h.event)?;
+        Some(Prioritised {
+            prio: h.prio,
+            event,
+        })
+    }
+}
+
+/// The names that the lines declare, in the order of the lines.
+pub(crate) fn names_in(alloc: Global, parts: &[Part]) -> Result<NameTables, Memory>
+    ensures { IfOk result (λ names. seen_names names ≡ names_of (said_in parts.now)) }
+{
+    let mut names = NameTables::new(alloc);
+    for part in parts {
+        names.declare(&part.said)?;
+    }
+    Ok(names)
+}

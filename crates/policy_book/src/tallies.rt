@@ -1,0 +1,275 @@
+//! What is kept of the lines before a line, and what is wrong with the line beside them.
+ghost use Rattle.std.specs.Prelude.{◌≡◌, ◌<◌, None, OnOk};
+ghost use Rattle.gtrbac_model.specs.Same.{lists};
+ghost use Rattle.policy_words.specs.Seen.{seen_said};
+ghost use Rattle.policy_forms.specs.Making.{with_new};
+ghost use Rattle.policy_forms.specs.Book.{claim_of as claim_said, cap_claim as cap_claimed, fluent_claim as fluent_claimed, same_claim, may_be_again as may_again, kind_of as kind_said, fluent_kind as fluent_counted, most_of as most_allowed};
+ghost use Rattle.policy_book.specs.Seen.{seen_names};
+ghost use Rattle.policy_book.specs.Numbers.{AreFew};
+ghost use Rattle.policy_book.specs.Tallies.{seen_tally, count_in, one_more, no_counts, nothing_told, is_claimed as claimed_in, is_full as full, full_kind, trouble_in, with_count, tallied};
+
+use crate::known::is_known;
+use crate::names::NameTables;
+use gt_base::{Memory, Name};
+use indexmap::IndexSet;
+use policy_forms::Claim;
+use policy_words::{CapKind, Kind, NamedFluent, Said};
+use std::alloc::Global;
+
+/// What is wrong with a line beside the other lines.
+#[derive(Clone, Copy)]
+pub(crate) enum Trouble {
+    Unknown,
+    Twice,
+    TooMany(Kind),
+}
+
+/// How many lines of each kind there are.
+#[derive(Clone, Copy)]
+pub(crate) struct Counts {
+    roles: u32,
+    users: u32,
+    perms: u32,
+    periods: u32,
+    limits: u32,
+    edges: u32,
+    entries: u32,
+    triggers: u32,
+    assigned: u32,
+    granted: u32,
+}
+
+impl Counts {
+    fn none() -> Counts
+        ensures { result ≡ no_counts }
+    {
+        Counts {
+            roles: 0,
+            users: 0,
+            perms: 0,
+            periods: 0,
+            limits: 0,
+            edges: 0,
+            entries: 0,
+            triggers: 0,
+            assigned: 0,
+            granted: 0,
+        }
+    }
+
+    fn of(&self, kind: Kind) -> u32
+        ensures { result ≡ count_in self.now kind }
+    {
+        match kind {
+            Kind::Roles => self.roles,
+            Kind::Users => self.users,
+            Kind::Perms => self.perms,
+            Kind::Periods => self.periods,
+            Kind::Limits => self.limits,
+            Kind::Edges => self.edges,
+            Kind::Entries => self.entries,
+            Kind::Triggers => self.triggers,
+            Kind::Assigned => self.assigned,
+            Kind::Granted => self.granted,
+        }
+    }
+
+    /// Whether there are as many of the kind as may be.
+    fn is_full(&self, kind: Kind) -> bool
+        ensures { result ≡ full self.now kind }
+    {
+        most_of(kind) <= self.of(kind)
+    }
+
+    /// One more of the kind.
+    fn add(&mut self, kind: Kind)
+        requires { count_in self.old kind < 4_294_967_295 }
+        ensures { self.new ≡ one_more self.old kind }
+    {
+        match kind {
+            Kind::Roles => self.roles += 1,
+            Kind::Users => self.users += 1,
+            Kind::Perms => self.perms += 1,
+            Kind::Periods => self.periods += 1,
+            Kind::Limits => self.limits += 1,
+            Kind::Edges => self.edges += 1,
+            Kind::Entries => self.entries += 1,
+            Kind::Triggers => self.triggers += 1,
+            Kind::Assigned => self.assigned += 1,
+            Kind::Granted => self.granted += 1,
+        }
+    }
+}
+
+/// How many lines of the kind a policy may have.
+fn most_of(kind: Kind) -> u32
+    ensures { result ≡ most_allowed kind }
+{
+    match kind {
+        Kind::Roles | Kind::Periods | Kind::Limits => 1_000,
+        Kind::Users | Kind::Perms => 10_000,
+        Kind::Edges | Kind::Entries | Kind::Triggers => 4_000,
+        Kind::Assigned | Kind::Granted => 50_000,
+    }
+}
+
+fn cap_claim(kind: CapKind, role: Name) -> Claim
+    ensures { result ≡ cap_claimed kind role }
+{
+    match kind {
+        CapKind::Total => Claim::Total(role),
+        CapKind::User => Claim::PerUser(role),
+        CapKind::Length => Claim::Length(role),
+        CapKind::Day => Claim::Day(role),
+    }
+}
+
+fn fluent_claim(fluent: &NamedFluent) -> Option<Claim>
+    ensures { result ≡ fluent_claimed fluent.now }
+{
+    match fluent {
+        NamedFluent::Assigned(user, role) => Some(Claim::Assigned(*user, *role)),
+        NamedFluent::Granted(perm, role) => Some(Claim::Granted(*perm, *role)),
+        NamedFluent::Enabled(_) | NamedFluent::Limit(_) => None,
+    }
+}
+
+/// What a line claims.
+fn claim_of(said: &Said) -> Option<Claim>
+    ensures { result ≡ claim_said (seen_said said.now) }
+{
+    match said {
+        Said::Role(name) => Some(Claim::Role(*name)),
+        Said::User(name) => Some(Claim::User(*name)),
+        Said::Perm(name) => Some(Claim::Perm(*name)),
+        Said::Period { name, .. } => Some(Claim::Period(*name)),
+        Said::Limit { name, .. } => Some(Claim::Limit(*name)),
+        Said::Edge { senior, junior, .. } => Some(Claim::Edge(*senior, *junior)),
+        Said::Cap { kind, role, .. } => Some(cap_claim(*kind, *role)),
+        Said::Opening(fluent) => fluent_claim(fluent),
+        Said::Version(_) | Said::Admin(_) | Said::Entry { .. } | Said::When { .. } => None,
+    }
+}
+
+/// Whether another line may claim the same.
+fn may_be_again(said: &Said) -> bool
+    ensures { result ≡ may_again (seen_said said.now) }
+{
+    matches!(said, Said::Opening(_))
+}
+
+fn fluent_kind(fluent: &NamedFluent) -> Option<Kind>
+    ensures { result ≡ fluent_counted fluent.now }
+{
+    match fluent {
+        NamedFluent::Assigned(..) => Some(Kind::Assigned),
+        NamedFluent::Granted(..) => Some(Kind::Granted),
+        NamedFluent::Enabled(_) | NamedFluent::Limit(_) => None,
+    }
+}
+
+/// The kind that a line counts for.
+fn kind_of(said: &Said) -> Option<Kind>
+    ensures { result ≡ kind_said (seen_said said.now) }
+{
+    match said {
+        Said::Role(_) => Some(Kind::Roles),
+        Said::User(_) => Some(Kind::Users),
+        Said::Perm(_) => Some(Kind::Perms),
+        Said::Period { .. } => Some(Kind::Periods),
+        Said::Limit { .. } => Some(Kind::Limits),
+        Said::Edge { .. } => Some(Kind::Edges),
+        Said::Entry { .. } => Some(Kind::Entries),
+        Said::When { .. } => Some(Kind::Triggers),
+        Said::Opening(fluent) => fluent_kind(fluent),
+        Said::Version(_) | Said::Cap { .. } | Said::Admin(_) => None,
+    }
+}
+
+/// What the lines before claim, and how many of each kind they have.
+#[derive(Drop)]
+pub(crate) struct Tally {
+    claims: IndexSet<Claim>,
+    counts: Counts,
+}
+
+/// Whether one of the claims is this.
+#[tactic(auto, using(crate::proofs::SameClaims::found))]
+fn has(claims: &IndexSet<Claim>, claim: &Claim) -> bool
+    ensures { result ≡ lists same_claim claims.now.keys claim.now }
+{
+    claims.contains(claim)
+}
+
+/// Adds the claim of a line that claims something.
+fn put(claims: &mut IndexSet<Claim>, claim: Option<Claim>) -> Result<(), Memory>
+    ensures { OnOk result (claims.new.keys ≡ with_new same_claim claim claims.old.keys) }
+{
+    if let Some(claim) = claim {
+        claims.insert(claim)?;
+    }
+    Ok(())
+}
+
+impl Tally {
+    /// Of no line, which takes no memory yet.
+    pub(crate) fn new(alloc: Global) -> Tally
+        ensures { seen_tally result ≡ nothing_told }
+    {
+        Tally {
+            claims: IndexSet::new(alloc),
+            counts: Counts::none(),
+        }
+    }
+
+    /// Whether a line before claims the same.
+    fn is_claimed(&self, said: &Said) -> bool
+        ensures { result ≡ claimed_in (seen_tally self.now) (seen_said said.now) }
+    {
+        match claim_of(said) {
+            Some(claim) => has(&self.claims, &claim),
+            None => false,
+        }
+    }
+
+    /// The kind of the line, where there are as many before it as may be.
+    fn full_kind(&self, said: &Said) -> Option<Trouble>
+        ensures { result ≡ full_kind (seen_tally self.now) (seen_said said.now) (kind_said (seen_said said.now)) }
+    {
+        let kind = kind_of(said)?;
+        if !self.is_claimed(said) && self.counts.is_full(kind) {
+            Some(Trouble::TooMany(kind))
+        } else {
+            None
+        }
+    }
+
+    /// What is wrong with a line, if anything: a name is unknown, what it claims is claimed, or it is one too many.
+    pub(crate) fn trouble(&self, names: &NameTables, said: &Said) -> Option<Trouble>
+        requires { AreFew 4_294_967_295 (seen_names names.now) }
+        ensures { result ≡ trouble_in (seen_names names.now) (seen_tally self.now) (seen_said said.now) }
+    {
+        if !is_known(names, said) {
+            return Some(Trouble::Unknown);
+        }
+        if !may_be_again(said) && self.is_claimed(said) {
+            return Some(Trouble::Twice);
+        }
+        self.full_kind(said)
+    }
+
+    /// Adds a line with which nothing is wrong.
+    pub(crate) fn add(&mut self, said: &Said) -> Result<(), Memory>
+        requires { full_kind (seen_tally self.old) (seen_said said.now) (kind_said (seen_said said.now)) ≡ None }
+        ensures { OnOk result (seen_tally self.new ≡ tallied (seen_tally self.old) (seen_said said.now)) }
+    {
+        if self.is_claimed(said) {
+            return Ok(());
+        }
+        put(&mut self.claims, claim_of(said))?;
+        if let Some(kind) = kind_of(said) {
+            self.counts.add(kind);
+        }
+        Ok(())
+    }
+}

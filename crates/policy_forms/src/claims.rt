@@ -1,0 +1,20 @@
+//! What lines claim.
+use gt_base::Name;
+
+/// What a line claims for itself: a name that it declares, the ordered pair of an edge, or the kind and role of a cap, which
+/// no other line may claim; or the pair of an assignment or a grant, which counts once.
+#[derive(Clone, Copy, PartialEq, Eq, Hash, Debug)]
+pub enum Claim {
+    Role(Name),
+    User(Name),
+    Perm(Name),
+    Period(Name),
+    Limit(Name),
+    Edge(Name, Name),
+    Total(Name),
+    PerUser(Name),
+    Length(Name),
+    Day(Name),
+    Assigned(Name, Name),
+    Granted(Name, Name),
+}

@@ -1,0 +1,30 @@
+-- Tests, and what they say.
+use Rattle.std.proofs.Common.{◌≡◌, ◌⊎◌, inl, inr, Bool, true, false, ◌&&◌, Option, Some, None, refl}
+
+pub not_true : (b : Bool) → (b ≡ true → ⊥) → b ≡ false
+not_true true h = absurd (h refl)
+not_true false h = refl
+
+pub both : (a b : Bool) → (a && b) ≡ true → (a ≡ true) × (b ≡ true)
+both true b h = (refl, h)
+both false b h = cc
+
+pub and_true : (a b : Bool) → a ≡ true → b ≡ true → (a && b) ≡ true
+and_true true b h k = k
+and_true false b h k = h
+
+pub some_is : {A : Type 0} {a b : A} → Some a ≡ Some b → a ≡ b
+some_is e = cc
+
+pub none_some : {A : Type 0} {a : A} → None ≡ Some a → ⊥
+none_some e = cc
+
+-- what is there only where a test holds
+pub where_true : {A : Type 0} (b : Bool) (a x : A) → elim b as (λ _. Option A) [ true ↦ Some a | false ↦ None ] ≡ Some x → (b ≡ true) × (a ≡ x)
+where_true true a x e = (refl, some_is e)
+where_true false a x e = absurd (none_some e)
+
+-- what a test chose
+pub chosen : {A : Type 0} (t : Bool) (x y r : A) → elim t as (λ _. A) [ true ↦ x | false ↦ y ] ≡ r → ((t ≡ true) × (x ≡ r)) ⊎ ((t ≡ false) × (y ≡ r))
+chosen true x y r e = inl (refl, e)
+chosen false x y r e = inr (refl, e)

@@ -1,0 +1,38 @@
+-- Words that are read from the front, beside those of the wording.
+use Rattle.std.specs.Prelude.{ℕ, Bool, true, false, List, [], ◌∷◌, ◌++◌, codes, bytes_eq, length, Option, Some, None}
+use Rattle.gt_base.specs.Names.{name_in}
+use Rattle.policy_words.specs.declared.parts.Item.{Item}
+use Rattle.policy_words.specs.declared.parts.Item.TheVariants.{Event, Signal, Cond}
+use Rattle.policy_words.specs.Wording.{◌>>=◌, Read, Sort, fluent_at, signal_at, cond_at, or_else}
+use Rattle.policy_words.specs.Reading.{items_at}
+
+-- a name
+abbrev pub name_at : Read (List ℕ)
+name_at [] = None
+name_at (w ∷ ws) = do
+  n ← name_in w
+  Some (n, ws)
+
+-- a signal or a condition
+abbrev pub other_item_at : Read Item
+other_item_at ws = or_else (do s ← signal_at ws; Some (Signal s.0, s.1)) (do c ← cond_at ws; Some (Cond c.0, c.1))
+
+-- the event of a verb whose names are to come
+abbrev pub item_for : Bool × Sort → Read Item
+item_for v ws = do
+  f ← fluent_at v.1 ws
+  Some (Event (record { on = v.0; fluent = f.0 }), f.1)
+
+-- `and`, or `then`, which ends the items
+abbrev pub link_at : Read Bool
+link_at [] = None
+link_at (w ∷ ws) = elim (bytes_eq w (codes "and")) [ true ↦ Some (false, ws) | false ↦ elim (bytes_eq w (codes "then")) [ true ↦ Some (true, ws) | false ↦ None ] ]
+
+-- the items up to `then`
+unfoldable pub items_of : Read (List Item)
+items_of ws = items_at (length ws) ws
+
+-- these items, and then those that are read
+abbrev pub onto : List Item → Option (List Item × List (List ℕ)) → Option (List Item × List (List ℕ))
+onto front None = None
+onto front (Some r) = Some (front ++ r.0, r.1)

@@ -1,0 +1,6 @@
+pub mod Cursors
+pub mod Verbs
+pub mod Answered
+pub mod Spaces
+pub mod Plain
+pub mod Laws

@@ -1,0 +1,252 @@
+//! Lines that say nothing of an expression: their words after the first.
+ghost use Rattle.std.specs.Prelude.{◌≡◌, ◌&&◌, ◌∷◌, [], List, ℕ, Bool, true, false, option_map};
+ghost use Rattle.std.specs.List.{list_any};
+ghost use Rattle.policy_words.specs.Wording.{cond_at, head_at};
+ghost use Rattle.policy_words.specs.Sayings.{Saying, role, user, perm, admin, kind_word, strength_word, cap_word, is_cause as causes, is_body as body};
+ghost use Rattle.policy_words.specs.Seen.{seen_said};
+ghost use Rattle.policy_words.specs.Reading.{formed as formed_by, one_name as named, most_at, during_in, limit_in, spelled_so, edge_in, cap_in, opening_by, entry_in, trigger_in, trigger_by, is_one as one_alone, version_by};
+ghost use Rattle.policy_lines.specs.Answered.{Answers};
+
+use crate::items::read_items;
+use crate::parts::{cond_of, next_cond, next_head, read_delay, read_prio};
+use crate::units::{next_name, number_from, read_name};
+use gt_base::{Form, Name};
+use gt_text::Words;
+use policy_words::{CapKind, EdgeKind, Item, Said, TextKind};
+use std::alloc::Global;
+
+/// A saying, or that the words have no form.
+pub(crate) fn formed(said: Option<Said>) -> Result<Said, TextKind>
+    ensures { Answers result (formed_by (option_map seen_said said)) }
+{
+    match said {
+        Some(said) => Ok(said),
+        None => Err(TextKind::Form),
+    }
+}
+
+fn is_one(mut words: Words<'_>) -> bool
+    ensures { result ≡ one_alone words.entry }
+{
+    match words.next() {
+        None => false,
+        Some(word) => words.next().is_none() && word == b"1".as_slice(),
+    }
+}
+
+/// What a line of a version says.
+pub(crate) fn version(first: bool, words: Words<'_>) -> Result<Said, TextKind>
+    ensures { Answers result (version_by (first && one_alone words.entry)) }
+{
+    if first && is_one(words) {
+        Ok(Said::Version(1))
+    } else {
+        Err(TextKind::Version)
+    }
+}
+
+/// The one name of a line.
+pub(crate) fn one_name(mut words: Words<'_>) -> Option<Name>
+    ensures { (build : List ℕ → Saying) → option_map build result ≡ named build words.entry }
+{
+    let name = next_name(&mut words)?;
+    if words.next().is_some() {
+        return None;
+    }
+    Some(name)
+}
+
+/// `max` and the most minutes.
+fn next_most(words: &mut Words<'_>) -> Option<u32>
+    ensures { option_map (λ m. (m, words.new)) result ≡ most_at words.old }
+{
+    let max = words.next()?;
+    let most = words.next()?;
+    if max != b"max".as_slice() {
+        return None;
+    }
+    number_from(1, 1_000_000, most)
+}
+
+/// `during` and a period, or nothing.
+fn read_during(mut words: Words<'_>) -> Option<Option<Name>>
+    ensures { result ≡ during_in words.entry }
+{
+    let Some(during) = words.next() else {
+        return Some(None);
+    };
+    let period = words.next()?;
+    if words.next().is_some() || during != b"during".as_slice() {
+        return None;
+    }
+    Some(Some(read_name(period)?))
+}
+
+/// What a line of a limit says.
+pub(crate) fn limit(mut words: Words<'_>) -> Option<Said>
+    ensures { option_map seen_said result ≡ limit_in words.entry }
+{
+    let name = words.next()?;
+    let prio = words.next()?;
+    let name = read_name(name)?;
+    let prio = read_prio(99, prio)?;
+    let cond = next_cond(&mut words)?;
+    let most = next_most(&mut words)?;
+    let period = read_during(words)?;
+    Some(Said::Limit {
+        name,
+        prio,
+        cond,
+        most,
+        period,
+    })
+}
+
+fn edge_kind(word: &[u8]) -> Option<EdgeKind>
+    ensures { result ≡ spelled_so kind_word (EdgeKind.I ∷ EdgeKind.A ∷ EdgeKind.Ia ∷ []) word.now }
+{
+    if b"i".as_slice() == word {
+        Some(EdgeKind::I)
+    } else if b"a".as_slice() == word {
+        Some(EdgeKind::A)
+    } else if b"ia".as_slice() == word {
+        Some(EdgeKind::Ia)
+    } else {
+        None
+    }
+}
+
+fn strength(word: &[u8]) -> Option<bool>
+    ensures { result ≡ spelled_so strength_word (true ∷ false ∷ []) word.now }
+{
+    if b"strong".as_slice() == word {
+        Some(true)
+    } else if b"weak".as_slice() == word {
+        Some(false)
+    } else {
+        None
+    }
+}
+
+/// What a line of an edge says.
+pub(crate) fn edge(mut words: Words<'_>) -> Option<Said>
+    ensures { option_map seen_said result ≡ edge_in words.entry }
+{
+    let kind = words.next()?;
+    let strong = words.next()?;
+    let senior = words.next()?;
+    let junior = words.next()?;
+    if words.next().is_some() {
+        return None;
+    }
+    let kind = edge_kind(kind)?;
+    let strong = strength(strong)?;
+    let senior = read_name(senior)?;
+    let junior = read_name(junior)?;
+    Some(Said::Edge {
+        kind,
+        strong,
+        senior,
+        junior,
+    })
+}
+
+fn cap_kind(word: &[u8]) -> Option<CapKind>
+    ensures { result ≡ spelled_so cap_word (CapKind.Total ∷ CapKind.User ∷ CapKind.Length ∷ CapKind.Day ∷ []) word.now }
+{
+    if b"total".as_slice() == word {
+        Some(CapKind::Total)
+    } else if b"user".as_slice() == word {
+        Some(CapKind::User)
+    } else if b"length".as_slice() == word {
+        Some(CapKind::Length)
+    } else if b"day".as_slice() == word {
+        Some(CapKind::Day)
+    } else {
+        None
+    }
+}
+
+/// What a line of a cap says.
+pub(crate) fn cap(mut words: Words<'_>) -> Option<Said>
+    ensures { option_map seen_said result ≡ cap_in words.entry }
+{
+    let kind = words.next()?;
+    let role = words.next()?;
+    let n = words.next()?;
+    if words.next().is_some() {
+        return None;
+    }
+    let kind = cap_kind(kind)?;
+    let role = read_name(role)?;
+    let n = number_from(1, 1_000_000, n)?;
+    Some(Said::Cap { kind, role, n })
+}
+
+/// What a line of opening status says.
+pub(crate) fn opening(verb: &[u8], mut words: Words<'_>) -> Option<Said>
+    ensures { option_map seen_said result ≡ opening_by (cond_at (verb.now ∷ words.entry)) }
+{
+    let cond = cond_of(verb, &mut words)?;
+    if words.next().is_some() {
+        return None;
+    }
+    Some(Said::Opening(cond.fluent))
+}
+
+/// What a line of a periodic entry says.
+pub(crate) fn entry(form: Form, mut words: Words<'_>) -> Option<Said>
+    ensures { option_map seen_said result ≡ entry_in form words.entry }
+{
+    let period = words.next()?;
+    let period = read_name(period)?;
+    let head = next_head(99, &mut words)?;
+    if words.next().is_some() {
+        return None;
+    }
+    Some(Said::Entry { form, period, head })
+}
+
+fn is_cause(item: &Item) -> bool
+    ensures { result ≡ causes item.now }
+{
+    match item {
+        Item::Event(_) | Item::Signal(_) => true,
+        Item::Cond(_) => false,
+    }
+}
+
+fn has_cause(items: &[Item]) -> bool
+    ensures { result ≡ list_any causes items.now }
+{
+    items.iter().any(|item| is_cause(item))
+}
+
+/// At most 16 items, of which one is an event or a signal.
+fn is_body(items: &[Item]) -> bool
+    ensures { result ≡ body items.now }
+{
+    items.len() <= 16 && has_cause(items)
+}
+
+/// What a line of a trigger says.
+#[tactic(auto, unfolding(crate::specs::Cursors::items_of))]
+pub(crate) fn trigger(alloc: Global, mut words: Words<'_>) -> Result<Said, TextKind>
+    ensures { Answers result (trigger_by (trigger_in words.entry)) }
+{
+    let items = match read_items(alloc, &mut words) {
+        Err(_) => return Err(TextKind::Memory),
+        Ok(None) => return Err(TextKind::Form),
+        Ok(Some(items)) => items,
+    };
+    let Some(head) = next_head(99, &mut words) else {
+        return Err(TextKind::Form);
+    };
+    let Some(delay) = read_delay(words) else {
+        return Err(TextKind::Form);
+    };
+    if !is_body(items.as_slice()) {
+        return Err(TextKind::Body);
+    }
+    Ok(Said::When { items, head, delay })
+}

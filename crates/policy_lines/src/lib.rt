@@ -1,0 +1,22 @@
+//! One line of a policy, read and written.
+#![tactic(auto)]
+
+mod forms;
+mod items;
+mod laws;
+mod part_texts;
+mod parts;
+mod periods;
+mod reading;
+mod rests;
+mod units;
+mod verbs;
+mod writing;
+
+pub use laws::{lines_are_cut, numbers_are_decimal, sayings_are_read, written_is_read};
+pub use part_texts::{push_cond, push_delay, push_event, push_head, push_signal};
+pub use reading::read_said;
+pub use writing::{push_period, push_said};
+
+#[cfg(test)]
+mod tests;

@@ -1,0 +1,213 @@
+//! Events, conditions, signals, heads and items, written.
+ghost use Rattle.std.specs.Prelude.{◌≡◌, ◌∷◌, ◌++◌, [], decimal, flat_map, OnOk};
+ghost use Rattle.gt_text.specs.Words.{spaced};
+ghost use Rattle.policy_words.specs.Wording.{fluent_names, event_words, cond_words, signal_words, head_words, item_words, delay_words, event_verb as event_text, cond_verb as cond_text, sort_of};
+ghost use Rattle.policy_words.specs.Sayings.{and_items};
+ghost use Rattle.policy_lines.specs.Spaces.{later, led, linked_item};
+
+use gt_base::{Memory, Name};
+use gt_text::push_number;
+use policy_words::{Item, NamedCond, NamedEvent, NamedFluent, NamedHead, NamedSignal};
+
+/// Adds a word with a space before it.
+pub(crate) fn add_word(text: &mut Vec<u8>, word: &[u8]) -> Result<(), Memory>
+    ensures { OnOk result (text.new.items ≡ text.old.items ++ later (word.now ∷ [])) }
+{
+    text.extend_from_slice(b" ")?;
+    text.extend_from_slice(word)
+}
+
+pub(crate) fn add_name(text: &mut Vec<u8>, name: &Name) -> Result<(), Memory>
+    ensures { OnOk result (text.new.items ≡ text.old.items ++ later (name.now ∷ [])) }
+{
+    add_word(text, name.bytes())
+}
+
+pub(crate) fn add_number(text: &mut Vec<u8>, n: u32) -> Result<(), Memory>
+    ensures { OnOk result (text.new.items ≡ text.old.items ++ later (decimal n ∷ [])) }
+{
+    text.extend_from_slice(b" ")?;
+    push_number(text, u64::from(n))
+}
+
+/// Adds the names of a fluent, each with a space before it.
+pub(crate) fn add_names(text: &mut Vec<u8>, fluent: &NamedFluent) -> Result<(), Memory>
+    ensures { OnOk result (text.new.items ≡ text.old.items ++ later (fluent_names fluent.now)) }
+{
+    match fluent {
+        NamedFluent::Enabled(role) => add_name(text, role),
+        NamedFluent::Assigned(user, role) => {
+            add_name(text, user)?;
+            add_name(text, role)
+        }
+        NamedFluent::Granted(perm, role) => {
+            add_name(text, perm)?;
+            add_name(text, role)
+        }
+        NamedFluent::Limit(limit) => add_name(text, limit),
+    }
+}
+
+fn event_verb(on: bool, fluent: &NamedFluent) -> &'static [u8]
+    ensures { result.now ≡ event_text on (sort_of fluent.now) }
+{
+    match (on, fluent) {
+        (true, NamedFluent::Enabled(_)) => b"enable",
+        (false, NamedFluent::Enabled(_)) => b"disable",
+        (true, NamedFluent::Assigned(_, _)) => b"assign",
+        (false, NamedFluent::Assigned(_, _)) => b"deassign",
+        (true, NamedFluent::Granted(_, _)) => b"grant",
+        (false, NamedFluent::Granted(_, _)) => b"revoke",
+        (true, NamedFluent::Limit(_)) => b"arm",
+        (false, NamedFluent::Limit(_)) => b"disarm",
+    }
+}
+
+pub(crate) fn cond_verb(on: bool, fluent: &NamedFluent) -> &'static [u8]
+    ensures { result.now ≡ cond_text on (sort_of fluent.now) }
+{
+    match (on, fluent) {
+        (true, NamedFluent::Enabled(_)) => b"enabled",
+        (false, NamedFluent::Enabled(_)) => b"disabled",
+        (true, NamedFluent::Assigned(_, _)) => b"assigned",
+        (false, NamedFluent::Assigned(_, _)) => b"deassigned",
+        (true, NamedFluent::Granted(_, _)) => b"granted",
+        (false, NamedFluent::Granted(_, _)) => b"revoked",
+        (true, NamedFluent::Limit(_)) => b"armed",
+        (false, NamedFluent::Limit(_)) => b"disarmed",
+    }
+}
+
+fn write_event(text: &mut Vec<u8>, event: &NamedEvent) -> Result<(), Memory>
+    ensures { OnOk result (text.new.items ≡ text.old.items ++ led (event_words event.now)) }
+{
+    text.extend_from_slice(event_verb(event.on, &event.fluent))?;
+    add_names(text, &event.fluent)
+}
+
+fn write_cond(text: &mut Vec<u8>, cond: &NamedCond) -> Result<(), Memory>
+    ensures { OnOk result (text.new.items ≡ text.old.items ++ led (cond_words cond.now)) }
+{
+    text.extend_from_slice(cond_verb(cond.on, &cond.fluent))?;
+    add_names(text, &cond.fluent)
+}
+
+fn write_signal(text: &mut Vec<u8>, signal: &NamedSignal) -> Result<(), Memory>
+    ensures { OnOk result (text.new.items ≡ text.old.items ++ led (signal_words signal.now)) }
+{
+    if signal.start {
+        text.extend_from_slice(b"activate")?;
+    } else {
+        text.extend_from_slice(b"deactivate")?;
+    }
+    add_name(text, &signal.user)?;
+    add_name(text, &signal.role)
+}
+
+fn write_head(text: &mut Vec<u8>, head: &NamedHead) -> Result<(), Memory>
+    ensures { OnOk result (text.new.items ≡ text.old.items ++ led (head_words head.now)) }
+{
+    push_number(text, u64::from(head.prio.get()))?;
+    text.extend_from_slice(b":")?;
+    text.extend_from_slice(event_verb(head.event.on, &head.event.fluent))?;
+    add_names(text, &head.event.fluent)
+}
+
+fn write_item(text: &mut Vec<u8>, item: &Item) -> Result<(), Memory>
+    ensures { OnOk result (text.new.items ≡ text.old.items ++ led (item_words item.now)) }
+{
+    match item {
+        Item::Event(event) => write_event(text, event),
+        Item::Signal(signal) => write_signal(text, signal),
+        Item::Cond(cond) => write_cond(text, cond),
+    }
+}
+
+/// Adds `after` and a delay, each with a space before it, nothing for 0.
+pub fn push_delay(text: &mut Vec<u8>, delay: u32) -> Result<(), Memory>
+    ensures { OnOk result (text.new.items ≡ text.old.items ++ later (delay_words delay)) }
+{
+    if delay == 0 {
+        return Ok(());
+    }
+    add_word(text, b"after")?;
+    add_number(text, delay)
+}
+
+pub(crate) fn add_cond(text: &mut Vec<u8>, cond: &NamedCond) -> Result<(), Memory>
+    ensures { OnOk result (text.new.items ≡ text.old.items ++ later (cond_words cond.now)) }
+{
+    text.extend_from_slice(b" ")?;
+    write_cond(text, cond)
+}
+
+pub(crate) fn add_head(text: &mut Vec<u8>, head: &NamedHead) -> Result<(), Memory>
+    ensures { OnOk result (text.new.items ≡ text.old.items ++ later (head_words head.now)) }
+{
+    text.extend_from_slice(b" ")?;
+    write_head(text, head)
+}
+
+fn add_item(text: &mut Vec<u8>, item: &Item) -> Result<(), Memory>
+    ensures { OnOk result (text.new.items ≡ text.old.items ++ later (item_words item.now)) }
+{
+    text.extend_from_slice(b" ")?;
+    write_item(text, item)
+}
+
+fn add_linked(text: &mut Vec<u8>, item: &Item) -> Result<(), Memory>
+    ensures { OnOk result (text.new.items ≡ text.old.items ++ linked_item item.now) }
+{
+    add_word(text, b"and")?;
+    add_item(text, item)
+}
+
+fn add_more(text: &mut Vec<u8>, items: &[Item]) -> Result<(), Memory>
+    ensures { OnOk result (text.new.items ≡ text.old.items ++ flat_map linked_item items.now) }
+{
+    for item in items {
+        add_linked(text, item)?;
+    }
+    Ok(())
+}
+
+/// Adds items with `and` between them and a space before each word.
+pub(crate) fn add_items(text: &mut Vec<u8>, items: &[Item]) -> Result<(), Memory>
+    ensures { OnOk result (text.new.items ≡ text.old.items ++ later (and_items items.now)) }
+{
+    match items {
+        [] => Ok(()),
+        [first, more @ ..] => {
+            add_item(text, first)?;
+            add_more(text, more)
+        }
+    }
+}
+
+/// Adds an event, words with one space between them.
+pub fn push_event(text: &mut Vec<u8>, event: &NamedEvent) -> Result<(), Memory>
+    ensures { OnOk result (text.new.items ≡ text.old.items ++ spaced (event_words event.now)) }
+{
+    write_event(text, event)
+}
+
+/// Adds a condition, words with one space between them.
+pub fn push_cond(text: &mut Vec<u8>, cond: &NamedCond) -> Result<(), Memory>
+    ensures { OnOk result (text.new.items ≡ text.old.items ++ spaced (cond_words cond.now)) }
+{
+    write_cond(text, cond)
+}
+
+/// Adds a signal, words with one space between them.
+pub fn push_signal(text: &mut Vec<u8>, signal: &NamedSignal) -> Result<(), Memory>
+    ensures { OnOk result (text.new.items ≡ text.old.items ++ spaced (signal_words signal.now)) }
+{
+    write_signal(text, signal)
+}
+
+/// Adds a prioritised event, words with one space between them.
+pub fn push_head(text: &mut Vec<u8>, head: &NamedHead) -> Result<(), Memory>
+    ensures { OnOk result (text.new.items ≡ text.old.items ++ spaced (head_words head.now)) }
+{
+    write_head(text, head)
+}

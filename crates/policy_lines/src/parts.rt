@@ -1,0 +1,152 @@
+//! Fluents, events, conditions, signals, heads and items, read from the front of the words.
+ghost use Rattle.std.specs.Prelude.{◌≡◌, ◌∷◌, ◌≤◌, [], MatchOption, option_map, Some};
+ghost use Rattle.std.specs.List.{before_first, after_first};
+ghost use Rattle.gt_base.specs.Names.{number_from as number_between};
+ghost use Rattle.policy_words.specs.Wording.{fluent_at, verb_in, event_verb as event_word, event_at, cond_at, signal_of, head_at, item_at, is_colon, delay_in};
+ghost use Rattle.policy_lines.specs.Verbs.{sort_by, seen_verb};
+ghost use Rattle.policy_lines.specs.Cursors.{other_item_at};
+
+use crate::units::{next_name, number_from};
+use crate::verbs::{FluentKind, Verb, cond_verb, event_verb};
+use bstr::ByteSlice;
+use gt_base::Prio;
+use gt_text::Words;
+use policy_words::{Item, NamedCond, NamedEvent, NamedFluent, NamedHead, NamedSignal};
+
+/// The fluent whose names stand at the front.
+fn fluent(kind: FluentKind, words: &mut Words<'_>) -> Option<NamedFluent>
+    ensures { option_map (λ f. (f, words.new)) result ≡ fluent_at (sort_by kind) words.old }
+{
+    let first = next_name(words)?;
+    match kind {
+        FluentKind::Role => Some(NamedFluent::Enabled(first)),
+        FluentKind::Assignment => Some(NamedFluent::Assigned(first, next_name(words)?)),
+        FluentKind::Grant => Some(NamedFluent::Granted(first, next_name(words)?)),
+        FluentKind::Limit => Some(NamedFluent::Limit(first)),
+    }
+}
+
+/// The event of a verb and the names after it.
+fn event_of(verb: &[u8], words: &mut Words<'_>) -> Option<NamedEvent>
+    ensures { option_map (λ e. (e, words.new)) result ≡ event_at (verb.now ∷ words.old) }
+{
+    let verb = event_verb(verb)?;
+    let fluent = fluent(verb.kind, words)?;
+    Some(NamedEvent {
+        on: verb.on,
+        fluent,
+    })
+}
+
+/// The condition of a verb and the names after it.
+pub(crate) fn cond_of(verb: &[u8], words: &mut Words<'_>) -> Option<NamedCond>
+    ensures { option_map (λ c. (c, words.new)) result ≡ cond_at (verb.now ∷ words.old) }
+{
+    let verb = cond_verb(verb)?;
+    let fluent = fluent(verb.kind, words)?;
+    Some(NamedCond {
+        on: verb.on,
+        fluent,
+    })
+}
+
+/// The condition at the front.
+pub(crate) fn next_cond(words: &mut Words<'_>) -> Option<NamedCond>
+    ensures { option_map (λ c. (c, words.new)) result ≡ cond_at words.old }
+{
+    let verb = words.next()?;
+    cond_of(verb, words)
+}
+
+/// The signal whose names stand at the front.
+fn signal(start: bool, words: &mut Words<'_>) -> Option<NamedSignal>
+    ensures { option_map (λ s. (s, words.new)) result ≡ signal_of start words.old }
+{
+    let user = next_name(words)?;
+    let role = next_name(words)?;
+    Some(NamedSignal { start, user, role })
+}
+
+/// The signal or the condition of a verb and the names after it.
+fn other_item(verb: &[u8], words: &mut Words<'_>) -> Option<Item>
+    ensures { option_map (λ i. (i, words.new)) result ≡ other_item_at (verb.now ∷ words.old) }
+{
+    if verb == b"activate".as_slice() {
+        return Some(Item::Signal(signal(true, words)?));
+    }
+    if verb == b"deactivate".as_slice() {
+        return Some(Item::Signal(signal(false, words)?));
+    }
+    Some(Item::Cond(cond_of(verb, words)?))
+}
+
+/// The event of a verb whose names stand at the front.
+fn event_item(word: &[u8], verb: Verb, words: &mut Words<'_>) -> Option<Item>
+    requires { verb_in event_word word.now ≡ Some (seen_verb verb) }
+    ensures { option_map (λ i. (i, words.new)) result ≡ item_at (word.now ∷ words.old) }
+{
+    let Some(fluent) = fluent(verb.kind, words) else {
+        return None;
+    };
+    Some(Item::Event(NamedEvent {
+        on: verb.on,
+        fluent,
+    }))
+}
+
+/// The item at the front.
+pub(crate) fn next_item(words: &mut Words<'_>) -> Option<Item>
+    ensures { option_map (λ i. (i, words.new)) result ≡ item_at words.old }
+{
+    let word = words.next()?;
+    match event_verb(word) {
+        Some(verb) => event_item(word, verb, words),
+        None => other_item(word, words),
+    }
+}
+
+/// What stands before and after the first colon.
+fn at_colon(word: &[u8]) -> Option<(&[u8], &[u8])>
+    ensures { MatchOption result (after_first is_colon word.now ≡ [])
+        (λ cut. (cut.0.now ≡ before_first is_colon word.now) × (cut.1.now ≡ after_first is_colon word.now)) }
+{
+    let colon = word.find_byte(b':')?;
+    let (front, rest) = word.split_at(colon);
+    let (_, back) = rest.split_at(1);
+    Some((front, back))
+}
+
+/// The priority up to `most` that a word is.
+pub(crate) fn read_prio(most: u32, word: &[u8]) -> Option<Prio>
+    requires { most ≤ 100 }
+    ensures { result ≡ number_between 0 most word.now }
+{
+    let n = number_from(0, most, word)?;
+    Prio::new(n as u8)
+}
+
+/// The prioritised event at the front, with a priority up to `most`.
+pub(crate) fn next_head(most: u32, words: &mut Words<'_>) -> Option<NamedHead>
+    requires { most ≤ 100 }
+    ensures { option_map (λ h. (h, words.new)) result ≡ head_at most words.old }
+{
+    let word = words.next()?;
+    let (prio, verb) = at_colon(word)?;
+    let prio = read_prio(most, prio)?;
+    let event = event_of(verb, words)?;
+    Some(NamedHead { prio, event })
+}
+
+/// The delay at the end of a line, 0 where no words are left.
+pub(crate) fn read_delay(mut words: Words<'_>) -> Option<u32>
+    ensures { result ≡ delay_in words.entry }
+{
+    let Some(after) = words.next() else {
+        return Some(0);
+    };
+    let delay = words.next()?;
+    if words.next().is_some() || after != b"after".as_slice() {
+        return None;
+    }
+    number_from(0, 52_595_999, delay)
+}

@@ -1,0 +1,177 @@
+//! What a line of a policy says.
+ghost use Rattle.std.specs.Prelude.{◌≡◌, ◌≤◌, ◌∷◌, ◌⊎◌, ℕ, Bool, List, length, option_map, IsTrue, IfOk, IfErr, IfSome, Ok, Err, drop};
+ghost use Rattle.gt_text.specs.Words.{begins_with};
+ghost use Rattle.policy_words.specs.Sayings.{role as role_said, user as user_said, perm as perm_said, admin as admin_said, is_saying};
+ghost use Rattle.policy_words.specs.Seen.{seen_said};
+ghost use Rattle.policy_words.specs.Reading.{verbs, one_name as named, formed as formed_by, said_of as said_by_words, read_said as said_by_line};
+ghost use Rattle.policy_lines.specs.Answered.{Answers, said_among};
+
+use crate::forms::{cap, edge, entry, formed, limit, one_name, opening, trigger, version};
+use crate::periods::period;
+use gt_base::Form;
+use gt_text::Words;
+use policy_words::{Said, TextKind};
+use std::alloc::Global;
+
+fn role(words: Words<'_>) -> Result<Said, TextKind>
+    ensures { Answers result (formed_by (named (λ n. role_said n) words.entry)) }
+{
+    match one_name(words) {
+        Some(name) => Ok(Said::Role(name)),
+        None => Err(TextKind::Form),
+    }
+}
+
+fn user(words: Words<'_>) -> Result<Said, TextKind>
+    ensures { Answers result (formed_by (named (λ n. user_said n) words.entry)) }
+{
+    match one_name(words) {
+        Some(name) => Ok(Said::User(name)),
+        None => Err(TextKind::Form),
+    }
+}
+
+fn perm(words: Words<'_>) -> Result<Said, TextKind>
+    ensures { Answers result (formed_by (named (λ n. perm_said n) words.entry)) }
+{
+    match one_name(words) {
+        Some(name) => Ok(Said::Perm(name)),
+        None => Err(TextKind::Form),
+    }
+}
+
+fn admin(words: Words<'_>) -> Result<Said, TextKind>
+    ensures { Answers result (formed_by (named (λ n. admin_said n) words.entry)) }
+{
+    match one_name(words) {
+        Some(name) => Ok(Said::Admin(name)),
+        None => Err(TextKind::Form),
+    }
+}
+
+/// What a line of an entry or of a trigger says; another first word begins no line.
+fn caused(alloc: Global, verb: &[u8], words: Words<'_>) -> Result<Said, TextKind>
+    ensures { (first : Bool) (line : List ℕ) → Answers result (said_among (drop 13 (verbs first line)) verb.now words.entry) }
+{
+    if b"each".as_slice() == verb {
+        return formed(entry(Form::Each, words));
+    }
+    if b"start".as_slice() == verb {
+        return formed(entry(Form::Start, words));
+    }
+    if b"span".as_slice() == verb {
+        return formed(entry(Form::Span, words));
+    }
+    if b"when".as_slice() == verb {
+        return trigger(alloc, words);
+    }
+    Err(TextKind::Word)
+}
+
+/// What a line of opening status says, or one of the lines above.
+fn opened(alloc: Global, verb: &[u8], words: Words<'_>) -> Result<Said, TextKind>
+    ensures { (first : Bool) (line : List ℕ) → Answers result (said_among (drop 9 (verbs first line)) verb.now words.entry) }
+{
+    if b"enabled".as_slice() == verb {
+        return formed(opening(b"enabled", words));
+    }
+    if b"assigned".as_slice() == verb {
+        return formed(opening(b"assigned", words));
+    }
+    if b"granted".as_slice() == verb {
+        return formed(opening(b"granted", words));
+    }
+    if b"armed".as_slice() == verb {
+        return formed(opening(b"armed", words));
+    }
+    caused(alloc, verb, words)
+}
+
+/// What a line of a period, a limit, an edge, a cap or an administrator says, or one of the lines above.
+fn ruled(alloc: Global, line: &[u8], verb: &[u8], words: Words<'_>) -> Result<Said, TextKind>
+    requires { length line.now ≤ 4096 }
+    ensures { (first : Bool) → Answers result (said_among (drop 4 (verbs first line.now)) verb.now words.entry) }
+{
+    if b"period".as_slice() == verb {
+        return period(alloc, line, words);
+    }
+    if b"limit".as_slice() == verb {
+        return formed(limit(words));
+    }
+    if b"edge".as_slice() == verb {
+        return formed(edge(words));
+    }
+    if b"cap".as_slice() == verb {
+        return formed(cap(words));
+    }
+    if b"admin".as_slice() == verb {
+        return admin(words);
+    }
+    opened(alloc, verb, words)
+}
+
+/// What a line says that is not silent, by its first word and the words after it.
+fn said_of(
+    alloc: Global,
+    first: bool,
+    line: &[u8],
+    verb: &[u8],
+    words: Words<'_>,
+) -> Result<Said, TextKind>
+    requires { length line.now ≤ 4096 }
+    ensures { Answers result (said_by_words first line.now (verb.now ∷ words.entry)) }
+{
+    if b"policy".as_slice() == verb {
+        return version(first, words);
+    }
+    if b"role".as_slice() == verb {
+        return role(words);
+    }
+    if b"user".as_slice() == verb {
+        return user(words);
+    }
+    if b"perm".as_slice() == verb {
+        return perm(words);
+    }
+    ruled(alloc, line, verb, words)
+}
+
+/// Whether a word begins a comment.
+fn is_comment(word: &[u8]) -> bool
+    ensures { result ≡ begins_with 35 word.now }
+{
+    match word {
+        [] => false,
+        [first, ..] => *first == b'#',
+    }
+}
+
+fn read_line(alloc: Global, first: bool, line: &[u8]) -> Result<Option<Said>, TextKind>
+    ensures ok { IfOk result (λ said. said_by_line first line.now ≡ Ok (option_map seen_said said)) }
+    ensures fault { IfErr result (λ f. (f ≡ TextKind.Memory) ⊎ (said_by_line first line.now ≡ Err f)) }
+{
+    if line.len() > 4096 {
+        return Err(TextKind::Long);
+    }
+    let mut words = Words::new(line);
+    let Some(verb) = words.next() else {
+        return Ok(None);
+    };
+    if is_comment(verb) {
+        return Ok(None);
+    }
+    match said_of(alloc, first, line, verb, words) {
+        Ok(said) => Ok(Some(said)),
+        Err(fault) => Err(fault),
+    }
+}
+
+/// What a line of a policy says, nothing where it is silent, or why it says nothing. `first` is whether only silent lines
+/// stand before it. Want of memory is `TextKind::Memory`, also where the expression of a period wants it.
+pub fn read_said(alloc: Global, first: bool, line: &[u8]) -> Result<Option<Said>, TextKind>
+    ensures ok { IfOk result (λ said. said_by_line first line.now ≡ Ok (option_map seen_said said)) }
+    ensures fault { IfErr result (λ f. (f ≡ TextKind.Memory) ⊎ (said_by_line first line.now ≡ Err f)) }
+    ensures saying { IfOk result (λ said. IfSome said (λ s. IsTrue (is_saying (seen_said s)))) }
+{
+    read_line(alloc, first, line)
+}

@@ -1,0 +1,61 @@
+//! Why a policy is not safe.
+ghost use Rattle.std.specs.Prelude.{◌≡◌, ◌<◌, length, map, IfOk, OnOk};
+ghost use Rattle.dependency_graph.specs.Nets.{IsWithinLimits};
+ghost use Rattle.policy_safety.specs.Cycles.{seen_edge, dependencies_at, AreTold, AddsTold, IsTold};
+
+use crate::admitting::CycleEdge;
+use dependency_graph::{EventGraph, graph};
+use gt_base::{List, Memory, Trigger};
+use least_walk::EdgeList;
+use std::alloc::Global;
+
+/// The dependencies of the triggers that have these numbers.
+pub(crate) fn cause(
+    alloc: Global,
+    triggers: &List<Trigger>,
+    numbers: &EdgeList,
+) -> Result<List<CycleEdge>, Memory>
+    requires { IsWithinLimits triggers.now.items }
+    ensures { IfOk result (λ edges. map seen_edge edges.items ≡ dependencies_at triggers.now.items numbers.now) }
+{
+    let made = graph(alloc, triggers)?;
+    told(alloc, &made, numbers.as_slice())
+}
+
+/// The edges of a graph that have these numbers, as dependencies.
+fn told(alloc: Global, g: &EventGraph, numbers: &[u32]) -> Result<List<CycleEdge>, Memory>
+    ensures { IfOk result (λ edges. AreTold g.now edges.items numbers.now) }
+{
+    let mut edges = Vec::new(alloc);
+    for n in numbers {
+        tell(&mut edges, g, *n)?;
+    }
+    Ok(List::from(edges))
+}
+
+/// Adds the edge of this number, where there is one.
+fn tell(edges: &mut Vec<CycleEdge>, g: &EventGraph, n: u32) -> Result<(), Memory>
+    ensures { OnOk result (AddsTold g.now edges.old.items n edges.new.items) }
+{
+    if n < g.graph().len() {
+        edges.push(edge_of(g, n))?;
+    }
+    Ok(())
+}
+
+/// The edge of this number, as a dependency.
+fn edge_of(g: &EventGraph, n: u32) -> CycleEdge
+    requires { n < length g.now.net.edges }
+    ensures { IsTold g.now result n }
+{
+    let _ends = g.graph().edges();
+    let e = g.graph().edge(n);
+    let (trigger, place) = g.place(n);
+    CycleEdge {
+        conflict: e.marked,
+        trigger,
+        place,
+        source: g.event(e.from),
+        target: g.event(e.to),
+    }
+}

@@ -1,0 +1,7 @@
+//! Policies that are safe: a policy is admitted exactly where it is, and else its cycle is told.
+#![tactic(auto)]
+
+mod admitting;
+mod causes;
+
+pub use admitting::{AdmitFault, CycleEdge, Safe};

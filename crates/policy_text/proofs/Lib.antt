@@ -1,0 +1,3 @@
+pub mod Joining
+pub mod LineByLine
+pub mod CanonicalText

@@ -1,0 +1,63 @@
+use Rattle.std.proofs.Common.{◌≡◌, ◌+◌, true, List, Option, refl, ap, sym, subst, ◌∙◌, arith, inl, inr, length}
+use Rattle.std.specs.Prelude.{Result, Ok, IfSome, IsTrue, option_map}
+use Rattle.policy_words.specs.declared.sayings.Said.{Said}
+use Rattle.policy_words.specs.declared.faults.TextKind.{TextKind}
+use Rattle.policy_text.specs.Faults.{is_memory}
+use Rattle.policy_words.specs.Seen.{seen_said}
+use Rattle.policy_words.specs.Sayings.{Saying, is_saying}
+use Rattle.policy_words.specs.Reading.{Numbered, read_lines}
+use Rattle.policy_book.specs.Said.{are_before}
+use Rattle.policy_text.specs.Lines.{behind}
+use Rattle.policy_text.proofs.LineByLine.{behind_more, behind_fault, behind_all, silent_line, said_line, faulty_line, fault_told, before_later, before_with}
+use Rattle.policy_text.proofs.reading.read_policy.Goals as goal
+
+said_as : (o r : Option Said) → o ≡ r → ◌≡◌ {A = Result (Option Saying) TextKind} (Ok (option_map seen_said o)) (Ok (option_map seen_said r))
+said_as o r e = ap (λ (x : Option Said). Ok (option_map seen_said x)) e
+
+pub loop-line-preserved-in-Ok-None : goal.loop-line-preserved-in-Ok-None
+loop-line-preserved-in-Ok-None c =
+    let inv = c.loop-line.invariant in
+    let n = c.loop-line.number + 1 in
+    record {
+      read = ap (behind c.loop-line.parts) (sym (silent_line c.loop-line.first n c.in-Some.line.now c.next.new.self (c.in-Ok-None.ensures.ok ∙ said_as _ _ c.in-Ok-None.field-0-is)))
+          ∙ ap (λ (ls : List (List _)). behind c.loop-line.parts (read_lines c.loop-line.first n ls)) (sym c.in-Some.ensures.steps) ∙ inv.read;
+      before = before_later n c.loop-line.parts inv.before;
+      count = omega (arith, inv.count, ap length c.in-Some.ensures.steps);
+    }
+
+pub add-requires-clause-said : goal.add-requires-clause-said
+add-requires-clause-said c = subst (λ (o : Option Said). IfSome o (λ s. IsTrue (is_saying (seen_said s)))) c.in-Ok-Some.field-0-is c.in-Ok-Some.ensures.saying
+
+pub loop-line-preserved : goal.loop-line-preserved
+loop-line-preserved c =
+    let inv = c.loop-line.invariant in
+    let n = c.loop-line.number + 1 in
+    let s : Saying = seen_said c.in-Ok-Some.said in
+    let added = c.in_ok-add-in-Ok-Some.ensures.ok in
+    record {
+      read = ap (λ (ss : List (Numbered Saying)). behind ss (read_lines _ (n + 1) c.next.new.self)) added
+          ∙ behind_more c.loop-line.parts (record { line = n; it = s }) (read_lines _ (n + 1) c.next.new.self)
+          ∙ ap (behind c.loop-line.parts) (sym (said_line c.loop-line.first n c.in-Some.line.now c.next.new.self s (c.in-Ok-Some.ensures.ok ∙ said_as _ _ c.in-Ok-Some.field-0-is)))
+          ∙ ap (λ (ls : List (List _)). behind c.loop-line.parts (read_lines c.loop-line.first n ls)) (sym c.in-Some.ensures.steps) ∙ inv.read;
+      before = subst (λ (ss : List (Numbered Saying)). are_before (n + 1) ss ≡ true) (sym added) (before_with n c.loop-line.parts s inv.before);
+      count = omega (arith, inv.count, ap length c.in-Some.ensures.steps);
+    }
+
+pub returns-in-Err-clause-fault : goal.returns-in-Err-clause-fault
+returns-in-Err-clause-fault c =
+    let inv = c.loop-line.invariant in
+    let n = c.loop-line.number + 1 in
+    fault_told c.in-Err.kind c.fault.result n _ (is_memory c.in-Err.kind) refl c.fault.ensures
+    (elim c.in-Err.ensures.fault [
+      | inl m ↦ inl m
+      | inr e ↦
+          inr (sym inv.read
+          ∙ ap (λ (ls : List (List _)). behind c.loop-line.parts (read_lines c.loop-line.first n ls)) c.in-Some.ensures.steps
+          ∙ ap (behind c.loop-line.parts) (faulty_line c.loop-line.first n c.in-Some.line.now c.next.new.self c.in-Err.kind e)
+          ∙ behind_fault c.loop-line.parts (record { line = n; it = c.in-Err.kind }))
+    ])
+
+pub returns-clause-ok : goal.returns-clause-ok
+returns-clause-ok c =
+    let inv = c.loop-line.invariant in
+    sym inv.read ∙ ap (λ (ls : List (List _)). behind c.loop-line.parts (read_lines c.loop-line.first (c.loop-line.number + 1) ls)) c.in_default.ensures.steps.0 ∙ behind_all c.loop-line.parts

@@ -1,0 +1,11 @@
+-- What holds of canonical texts.
+use Rattle.std.specs.Prelude.{◌≡◌, ◌≤◌, length, All, Ok}
+use Rattle.gt_text.specs.Lines.{lines_of}
+use Rattle.policy_forms.specs.Naming.{NamedPolicy}
+use Rattle.policy_forms.specs.Canonical.{canonical_text}
+use Rattle.policy_forms.specs.PolicyRead.{policy_read}
+use Rattle.policy_forms.specs.Valid.{IsWellFormed}
+
+-- the canonical text of a well-formed policy stands for it, where no line of it has more than 4,096 bytes
+abbrev pub CanonicalIsRead : Type 0
+CanonicalIsRead = (np : NamedPolicy) → IsWellFormed np → All (λ line. length line ≤ 4_096) (lines_of (canonical_text np)) → policy_read (canonical_text np) ≡ Ok np

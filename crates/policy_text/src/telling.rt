@@ -1,0 +1,154 @@
+//! The texts of faults.
+ghost use Rattle.std.specs.Prelude.{◌≡◌, ◌++◌, codes, decimal, flat_map, OnOk};
+ghost use Rattle.policy_forms.specs.PolicyRead.{at_line, trouble_text, expr_kind_word, kind_word};
+ghost use Rattle.policy_text.specs.Told.{with_bar, joined, cycle_of_names, text_of_book};
+
+use crate::faults::TextFault;
+use gt_base::{Memory, Name};
+use gt_text::push_number;
+use periodic_expr::{ExprFault, ExprKind};
+use policy_book::BookFault;
+use policy_words::{Kind, TextKind};
+
+/// The word of an expression's fault.
+fn expr_word(kind: ExprKind) -> &'static [u8]
+    ensures { result.now ≡ expr_kind_word kind }
+{
+    match kind {
+        ExprKind::Syntax => b"syntax",
+        ExprKind::FirstNotAll => b"first-not-all",
+        ExprKind::NotFiner => b"not-finer",
+        ExprKind::ZeroIndex => b"zero-index",
+        ExprKind::EmptySet => b"empty-set",
+        ExprKind::BadLength => b"bad-length",
+        ExprKind::Memory => b"",
+    }
+}
+
+fn push_expr_fault(text: &mut Vec<u8>, fault: ExprFault) -> Result<(), Memory>
+    ensures { OnOk result (text.new.items ≡ text.old.items ++ (codes "expr " ++ expr_kind_word fault.kind ++ codes " at " ++ decimal fault.at)) }
+{
+    text.extend_from_slice(b"expr ")?;
+    text.extend_from_slice(expr_word(fault.kind))?;
+    text.extend_from_slice(b" at ")?;
+    push_number(text, u64::from(fault.at))
+}
+
+fn push_trouble(text: &mut Vec<u8>, kind: TextKind) -> Result<(), Memory>
+    ensures { OnOk result (text.new.items ≡ text.old.items ++ trouble_text kind) }
+{
+    match kind {
+        TextKind::Long => text.extend_from_slice(b"long"),
+        TextKind::Version => text.extend_from_slice(b"version"),
+        TextKind::Word => text.extend_from_slice(b"word"),
+        TextKind::Form => text.extend_from_slice(b"form"),
+        TextKind::Body => text.extend_from_slice(b"body"),
+        TextKind::Bounds => text.extend_from_slice(b"bounds"),
+        TextKind::Expr(fault) => push_expr_fault(text, fault),
+        TextKind::Memory => Ok(()),
+    }
+}
+
+/// `policy LINE: ` and what is at fault there, with a line feed.
+fn push_line_head(text: &mut Vec<u8>, line: u32) -> Result<(), Memory>
+    ensures { OnOk result (text.new.items ≡ text.old.items ++ (codes "policy " ++ decimal line ++ codes ": ")) }
+{
+    text.extend_from_slice(b"policy ")?;
+    push_number(text, u64::from(line))?;
+    text.extend_from_slice(b": ")
+}
+
+/// Adds the text of a fault of a line.
+pub fn push_text_fault(text: &mut Vec<u8>, fault: TextFault) -> Result<(), Memory>
+    ensures { OnOk result (text.new.items ≡ text.old.items ++ at_line fault.line (trouble_text fault.kind)) }
+{
+    push_line_head(text, fault.line)?;
+    push_trouble(text, fault.kind)?;
+    text.extend_from_slice(b"\n")
+}
+
+/// The word of a kind.
+fn many_word(kind: Kind) -> &'static [u8]
+    ensures { result.now ≡ kind_word kind }
+{
+    match kind {
+        Kind::Roles => b"roles",
+        Kind::Users => b"users",
+        Kind::Perms => b"perms",
+        Kind::Periods => b"periods",
+        Kind::Limits => b"limits",
+        Kind::Edges => b"edges",
+        Kind::Entries => b"entries",
+        Kind::Triggers => b"triggers",
+        Kind::Assigned => b"assigned",
+        Kind::Granted => b"granted",
+    }
+}
+
+fn push_many(text: &mut Vec<u8>, line: u32, what: Kind) -> Result<(), Memory>
+    ensures { OnOk result (text.new.items ≡ text.old.items ++ at_line line (codes "many " ++ kind_word what)) }
+{
+    push_line_head(text, line)?;
+    text.extend_from_slice(b"many ")?;
+    text.extend_from_slice(many_word(what))?;
+    text.extend_from_slice(b"\n")
+}
+
+fn push_at_line(text: &mut Vec<u8>, line: u32, what: &[u8]) -> Result<(), Memory>
+    ensures { OnOk result (text.new.items ≡ text.old.items ++ at_line line what.now) }
+{
+    push_line_head(text, line)?;
+    text.extend_from_slice(what)?;
+    text.extend_from_slice(b"\n")
+}
+
+/// Adds names with `>` between them.
+fn push_joined(text: &mut Vec<u8>, names: &[Name]) -> Result<(), Memory>
+    ensures { OnOk result (text.new.items ≡ text.old.items ++ joined names.now) }
+{
+    match names {
+        [] => Ok(()),
+        [first, more @ ..] => {
+            text.extend_from_slice(first.bytes())?;
+            push_more(text, more)
+        }
+    }
+}
+
+fn push_more(text: &mut Vec<u8>, names: &[Name]) -> Result<(), Memory>
+    ensures { OnOk result (text.new.items ≡ text.old.items ++ flat_map with_bar names.now) }
+{
+    for name in names {
+        push_with_bar(text, name)?;
+    }
+    Ok(())
+}
+
+fn push_with_bar(text: &mut Vec<u8>, name: &Name) -> Result<(), Memory>
+    ensures { OnOk result (text.new.items ≡ text.old.items ++ with_bar name.now) }
+{
+    text.extend_from_slice(b">")?;
+    text.extend_from_slice(name.bytes())
+}
+
+/// `policy: cycle ` and the names along it, with a line feed.
+fn push_cycle(text: &mut Vec<u8>, names: &[Name]) -> Result<(), Memory>
+    ensures { OnOk result (text.new.items ≡ text.old.items ++ cycle_of_names names.now) }
+{
+    text.extend_from_slice(b"policy: cycle ")?;
+    push_joined(text, names)?;
+    text.extend_from_slice(b"\n")
+}
+
+/// Adds the text of a fault of the lines together; of want of memory nothing.
+pub fn push_book_fault(text: &mut Vec<u8>, fault: &BookFault) -> Result<(), Memory>
+    ensures { OnOk result (text.new.items ≡ text.old.items ++ text_of_book fault.now) }
+{
+    match fault {
+        BookFault::Unknown { line } => push_at_line(text, *line, b"unknown"),
+        BookFault::Twice { line } => push_at_line(text, *line, b"twice"),
+        BookFault::TooMany { line, what } => push_many(text, *line, *what),
+        BookFault::HierarchyCycle { edges: _, names } => push_cycle(text, names.as_slice()),
+        BookFault::Memory => Ok(()),
+    }
+}

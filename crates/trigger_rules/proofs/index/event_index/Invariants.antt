@@ -1,0 +1,9 @@
+use Rattle.std.proofs.Common.{◌≡◌, take}
+use Rattle.gt_base.specs.declared.events.Event.{Event}
+use Rattle.indexmap.specs.IndexMap.{get}
+use Rattle.trigger_rules.specs.Indexed.{event_eq, with_event, under}
+use Rattle.trigger_rules.proofs.index.event_index.Given as goal
+
+-- the triggers so far are there
+abbrev pub invariant-loop-n : goal.invariant-loop-n
+invariant-loop-n l = (e : Event) → under (get event_eq l.index e) (λ v. v.items) ≡ with_event (take l.n l.triggers) e
