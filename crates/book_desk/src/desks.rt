@@ -1,5 +1,5 @@
 //! What a pass does at a desk over a book.
-ghost use Rattle.std.specs.Prelude.{◌≡◌, None};
+ghost use Rattle.std.specs.Prelude.{◌≡◌, ◌≤◌, [], None};
 ghost use Rattle.gt_base.specs.declared.requests.Actor.TheVariants.{Operator};
 ghost use Rattle.turn_lock.specs.Holders.{site_of};
 ghost use Rattle.core_machine.specs.Books.{IsEarlyFor};
@@ -7,10 +7,10 @@ ghost use Rattle.book_desk.specs.Requests.{first_role_status};
 
 use crate::books::role_status;
 use core_machine::Book;
-use gt_base::{Actor, Instant, Reply};
+use gt_base::{Actor, Instant, Keeps, Reply};
 use locked_history::Desk;
 use std::sync::Wait;
-use turn_lock::Pass;
+use turn_lock::{Pass, Passes};
 
 /// Whether the reply is that the condition does not hold.
 fn is_no(reply: &Reply) -> bool {
@@ -53,4 +53,21 @@ pub fn go<R: Wait>(rt: &R, desk: &Desk<Book>, pass: &mut Pass<Book>, to: Instant
         }
         Err(_) => None,
     }
+}
+
+/// Closes a desk of two passes, whose numbers are 0 and 1; how many entries its book holds.
+pub fn close_two(
+    desk: Desk<Book>,
+    mut passes: Passes<Book>,
+    zero: Pass<Book>,
+    one: Pass<Book>,
+) -> u64
+    requires two { desk.passes ≡ 2 }
+    requires taken { (passes.items ≡ []) × (2 ≤ passes.spare) }
+    requires zero { (zero.site ≡ site_of desk) × (zero.turn ≡ None) × (zero.number ≡ 0) }
+    requires one { (one.site ≡ site_of desk) × (one.turn ≡ None) × (one.number ≡ 1) }
+{
+    passes.put(zero);
+    passes.put(one);
+    desk.close(passes).kept()
 }

@@ -7,4 +7,4 @@ mod desks;
 mod tests;
 
 pub use books::{book_of_a_role, role_status};
-pub use desks::{go, hear_no};
+pub use desks::{close_two, go, hear_no};

@@ -1,5 +1,5 @@
 use super::*;
-use gt_base::{Instant, Keeps};
+use gt_base::Instant;
 use locked_history::Desk;
 
 #[test]
@@ -18,7 +18,5 @@ fn two_passes_share_a_book(rt: HostRuntime) {
     assert!(&rt; go(&rt, &desk, &mut one, later) == Some(2));
     assert!(&rt; hear_no(&rt, &desk, &mut zero) == Some(3));
     assert!(&rt; go(&rt, &desk, &mut zero, later) == Some(3));
-    passes.put(zero);
-    passes.put(one);
-    assert!(&rt; desk.close(passes).kept() == 3);
+    assert!(&rt; close_two(desk, passes, zero, one) == 3);
 }

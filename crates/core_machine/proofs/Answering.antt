@@ -22,6 +22,7 @@ use Rattle.gt_base.proofs.SetLaws.{same_sets, has-set_of, has-with_member}
 use Rattle.gt_base.proofs.SetSteps.{prioritised_cmp_total}
 use Rattle.gt_base.proofs.OrderLaws.{prioritised_cmp-IsAntisymmetric}
 use Rattle.gtrbac_model.specs.Policy.{Policy}
+use Rattle.policy_forms.specs.Naming.{NamedPolicy}
 use Rattle.gtrbac_model.specs.Trigger.{holds}
 use Rattle.gtrbac_model.specs.Status.{status_at}
 use Rattle.gtrbac_model.specs.Base.{requested, when}
@@ -61,8 +62,8 @@ module _ (p : Policy) (birth now : ℕ) (st : Fluents) (q : Happening) (h : List
         kept_asked p birth now st q h tr k who Operator (AskStatus c) (Truth b) room refl named told_is q
         (queued_still (asked who Operator (AskStatus c) (Truth b)) refl) (λ t lt. refl) (λ t le. refl)
 
-    pub asks_told : Asks (record { policy = p; birth = birth; entries = h; trace = tr }) who Operator (AskStatus c) (Truth b) (record { policy = p; birth = birth; entries = h ++ asked who Operator (AskStatus c) (Truth b) ∷ []; trace = tr })
-    asks_told = asks_so p birth now st q h tr k who Operator (AskStatus c) (Truth b) room refl named told_is
+    pub asks_told : (np : NamedPolicy) → np.policy ≡ p → Asks (record { named = np; birth = birth; entries = h; trace = tr }) who Operator (AskStatus c) (Truth b) (record { named = np; birth = birth; entries = h ++ asked who Operator (AskStatus c) (Truth b) ∷ []; trace = tr })
+    asks_told np of = asks_so p birth now st q h tr k who Operator (AskStatus c) (Truth b) room refl named told_is np of
 
   module _ (head : Prioritised) (named : IsNamedWish p (ask Operator (Raise head 0))) where
     -- the answer to an event that would be due at this minute
@@ -103,8 +104,8 @@ module _ (p : Policy) (birth now : ℕ) (st : Fluents) (q : Happening) (h : List
           kept_asked p birth now st q h tr k who Operator (Raise head 0) (Queued due) room refl named queued_is _
           with_head (λ t lt. unasked t (λ e. omega arith)) (λ t le. unasked t (λ e. omega arith))
 
-      pub asks_raised : Asks (record { policy = p; birth = birth; entries = h; trace = tr }) who Operator (Raise head 0) (Queued due) (record { policy = p; birth = birth; entries = h ++ raised ∷ []; trace = tr })
-      asks_raised = asks_so p birth now st q h tr k who Operator (Raise head 0) (Queued due) room refl named queued_is
+      pub asks_raised : (np : NamedPolicy) → np.policy ≡ p → Asks (record { named = np; birth = birth; entries = h; trace = tr }) who Operator (Raise head 0) (Queued due) (record { named = np; birth = birth; entries = h ++ raised ∷ []; trace = tr })
+      asks_raised np of = asks_so p birth now st q h tr k who Operator (Raise head 0) (Queued due) room refl named queued_is np of
 
     module _ (late : last_minute < now + 1) where
       refused_is : Refused (Beyond (now + 1)) ≡ reply_of p (point_after p birth (model_of tr) h) Operator (Raise head 0)
@@ -117,5 +118,5 @@ module _ (p : Policy) (birth now : ℕ) (st : Fluents) (q : Happening) (h : List
           kept_asked p birth now st q h tr k who Operator (Raise head 0) (Refused (Beyond (now + 1))) room refl named refused_is q
           (queued_still (asked who Operator (Raise head 0) (Refused (Beyond (now + 1)))) refl) (λ t lt. refl) (λ t le. refl)
 
-      pub asks_refused : Asks (record { policy = p; birth = birth; entries = h; trace = tr }) who Operator (Raise head 0) (Refused (Beyond (now + 1))) (record { policy = p; birth = birth; entries = h ++ asked who Operator (Raise head 0) (Refused (Beyond (now + 1))) ∷ []; trace = tr })
-      asks_refused = asks_so p birth now st q h tr k who Operator (Raise head 0) (Refused (Beyond (now + 1))) room refl named refused_is
+      pub asks_refused : (np : NamedPolicy) → np.policy ≡ p → Asks (record { named = np; birth = birth; entries = h; trace = tr }) who Operator (Raise head 0) (Refused (Beyond (now + 1))) (record { named = np; birth = birth; entries = h ++ asked who Operator (Raise head 0) (Refused (Beyond (now + 1))) ∷ []; trace = tr })
+      asks_refused np of = asks_so p birth now st q h tr k who Operator (Raise head 0) (Refused (Beyond (now + 1))) room refl named refused_is np of

@@ -19,6 +19,7 @@ use Rattle.gt_base.specs.declared.requests.Entry.{Entry}
 use Rattle.gt_base.proofs.SetLaws.{has-set_of, has-members}
 use Rattle.gt_base.proofs.SetSteps.{prioritised_cmp_total}
 use Rattle.gtrbac_model.specs.Policy.{Policy}
+use Rattle.policy_forms.specs.Naming.{NamedPolicy}
 use Rattle.gtrbac_model.specs.Conflict.{Status, after, won}
 use Rattle.gtrbac_model.specs.Status.{Model, status_after, status_at}
 use Rattle.gtrbac_model.specs.Base.{base_at, requested}
@@ -149,13 +150,14 @@ module _ (p : Policy) (birth now : ℕ) (st : Fluents) (q : Happening) (h : List
             short = one_more (ticked who upto upto) refl room;
           }
 
-      pub goes_quietly : GoesOn (record { policy = p; birth = birth; entries = h; trace = tr }) (record { policy = p; birth = birth; entries = h ++ ticked who upto upto ∷ []; trace = tr }) who upto upto
-      goes_quietly =
+      pub goes_quietly : (np : NamedPolicy) → np.policy ≡ p
+          → GoesOn (record { named = np; birth = birth; entries = h; trace = tr }) (record { named = np; birth = birth; entries = h ++ ticked who upto upto ∷ []; trace = tr }) who upto upto
+      goes_quietly np of =
           record {
-            gains = record { policy = refl; birth = refl; entries = refl };
+            gains = record { named = refl; birth = refl; entries = refl };
             further = [];
             trace = sym (append-nil tr);
-            stop = quiet_stop;
+            stop = subst (λ r. IsNextStop (stirs r birth m h) (now_of birth h) upto upto) (sym of) quiet_stop;
             now = now_snoc birth h (ticked who upto upto);
           }
 
@@ -232,13 +234,14 @@ module _ (p : Policy) (birth now : ℕ) (st : Fluents) (q : Happening) (h : List
             add tr (bases_move tick refl n (λ t le. refl) tr k.ends k.bases)
             (k.queued_is ∙ ap of_requests requests_same ∙ sym (base_is p birth n (h ++ tick ∷ []) k.plain (still tick refl) (now + 1)))
 
-    pub goes_next : GoesOn (record { policy = p; birth = birth; entries = h; trace = tr }) (record { policy = p; birth = birth; entries = h ++ tick ∷ []; trace = tr ++ closed ∷ [] }) who upto (now + 1)
-    goes_next =
+    pub goes_next : (np : NamedPolicy) → np.policy ≡ p
+        → GoesOn (record { named = np; birth = birth; entries = h; trace = tr }) (record { named = np; birth = birth; entries = h ++ tick ∷ []; trace = tr ++ closed ∷ [] }) who upto (now + 1)
+    goes_next np of =
         record {
-          gains = record { policy = refl; birth = refl; entries = refl };
+          gains = record { named = refl; birth = refl; entries = refl };
           further = closed ∷ [];
           trace = refl;
-          stop = next_stop;
+          stop = subst (λ r. IsNextStop (stirs r birth n h) (now_of birth h) upto (now + 1)) (sym of) next_stop;
           now = now_snoc birth h tick;
         }
 
@@ -266,5 +269,11 @@ module _ (p : Policy) (birth now : ℕ) (st : Fluents) (q : Happening) (h : List
           short = one_more entry plainly room;
         }
 
-    pub asks_so : Asks (record { policy = p; birth = birth; entries = h; trace = tr }) who actor request reply (record { policy = p; birth = birth; entries = h ++ entry ∷ []; trace = tr })
-    asks_so = record { gains = record { policy = refl; birth = refl; entries = refl }; trace = refl; reply_is = is }
+    pub asks_so : (np : NamedPolicy) → np.policy ≡ p
+        → Asks (record { named = np; birth = birth; entries = h; trace = tr }) who actor request reply (record { named = np; birth = birth; entries = h ++ entry ∷ []; trace = tr })
+    asks_so np of =
+        record {
+          gains = record { named = refl; birth = refl; entries = refl };
+          trace = refl;
+          reply_is = subst (λ r. reply ≡ reply_of r (point_after r birth (model_of tr) h) actor request) (sym of) is;
+        }

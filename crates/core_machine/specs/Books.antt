@@ -16,29 +16,30 @@ use Rattle.gt_base.specs.declared.requests.Reply.{Reply}
 use Rattle.gt_base.specs.declared.events.Fluent.{Fluent}
 use Rattle.gt_base.specs.declared.events.Fluent.TheVariants.{Enabled}
 use Rattle.gt_base.specs.contracts.requests.Entry as entry
-use Rattle.gtrbac_model.specs.Policy.{Policy, policy_code}
+use Rattle.gtrbac_model.specs.Policy.{Policy}
+use Rattle.policy_forms.specs.Naming.{NamedPolicy, named_policy_code}
 use Rattle.gtrbac_model.specs.Reply.{reply_of}
 use Rattle.gtrbac_model.specs.History.{Legal, IsNextStop, stirs, now_of, point_after, IsNamedWish, tick, ask}
 use Rattle.core_machine.specs.Trace.{ClosedSet, closed_set_code, model_of}
 
 -- what a clause sees of a book
 pub record BookView : Type 0 where
-  pub policy : Policy
+  pub named : NamedPolicy
   pub birth : ℕ
   pub entries : List Entry
   pub trace : List ClosedSet
 
 abbrev pub book_code : Coded BookView
 book_code =
-    code_by (Policy × (ℕ × (List Entry × List ClosedSet))) (coded× policy_code (coded× coded_ℕ (coded× (coded_list entry.the_row.coded) (coded_list closed_set_code))))
-    (λ b. (b.policy, (b.birth, (b.entries, b.trace)))) (λ (p, (t, (h, m))). record { policy = p; birth = t; entries = h; trace = m }) (λ _. refl)
+    code_by (NamedPolicy × (ℕ × (List Entry × List ClosedSet))) (coded× named_policy_code (coded× coded_ℕ (coded× (coded_list entry.the_row.coded) (coded_list closed_set_code))))
+    (λ b. (b.named, (b.birth, (b.entries, b.trace)))) (λ (p, (t, (h, m))). record { named = p; birth = t; entries = h; trace = m }) (λ _. refl)
 
 abbrev pub now_in : BookView → ℕ
 now_in b = now_of b.birth b.entries
 
 -- the book's history is legal, with its trace as the execution model
 abbrev pub IsLegalBook : BookView → Type 0
-IsLegalBook b = Legal b.policy b.birth b.entries (model_of b.trace)
+IsLegalBook b = Legal b.named.policy b.birth b.entries (model_of b.trace)
 
 -- the numbers of an entry are numbers of the policy, and within the limits
 abbrev pub IsNamedStep : Policy → Step → Type 0
@@ -51,7 +52,7 @@ AreNamed p (e ∷ h) = IsNamedStep p e.what × AreNamed p h
 
 -- an entry more; policy and birth stay
 pub record Gains (old new : BookView) (e : Entry) : Type 0 where
-  pub policy : new.policy ≡ old.policy
+  pub named : new.named ≡ old.named
   pub birth : new.birth ≡ old.birth
   pub entries : new.entries ≡ old.entries ++ e ∷ []
 
@@ -60,7 +61,7 @@ pub record GoesOn (old new : BookView) (who : Who) (upto to : ℕ) : Type 0 wher
   pub gains : Gains old new (ticked who upto to)
   pub further : List ClosedSet
   pub trace : new.trace ≡ old.trace ++ further
-  pub stop : IsNextStop (stirs old.policy old.birth (model_of new.trace) old.entries) (now_in old) upto to
+  pub stop : IsNextStop (stirs old.named.policy old.birth (model_of new.trace) old.entries) (now_in old) upto to
   pub now : now_in new ≡ to
 
 -- a tick with a bound after now stands in the history with where it stopped; any other changes nothing
@@ -71,11 +72,11 @@ Ticks old who upto to new = (upto ≤ now_in old) × (to ≡ now_in old) × (new
 pub record Asks (old : BookView) (who : Who) (actor : Actor) (request : Request) (reply : Reply) (new : BookView) : Type 0 where
   pub gains : Gains old new (asked who actor request reply)
   pub trace : new.trace ≡ old.trace
-  pub reply_is : reply ≡ reply_of old.policy (point_after old.policy old.birth (model_of old.trace) old.entries) actor request
+  pub reply_is : reply ≡ reply_of old.named.policy (point_after old.named.policy old.birth (model_of old.trace) old.entries) actor request
 
--- of the same policy and birth
+-- of the same policy with its names, and of the same birth
 abbrev pub SameRoot : BookView → BookView → Type 0
-SameRoot a b = (a.policy ≡ b.policy) × (a.birth ≡ b.birth)
+SameRoot a b = (a.named ≡ b.named) × (a.birth ≡ b.birth)
 
 pub SameRoot-refl : (a : BookView) → SameRoot a a
 SameRoot-refl a = (refl, refl)
@@ -92,11 +93,11 @@ now_after b h = now_of b.birth h
 -- some model makes the history legal for the book's policy and birth
 pub record IsLegalFor (b : BookView) (h : List Entry) : Type 0 where
   pub model : ℕ → Happening
-  pub legal : Legal b.policy b.birth h model
+  pub legal : Legal b.named.policy b.birth h model
 
 pub IsLegalFor-by_root : (a b : BookView) (h : List Entry) → SameRoot a b → IsLegalFor a h → IsLegalFor b h
 IsLegalFor-by_root a b h s l =
-    record { model = l.model; legal = subst (λ p. Legal p b.birth h l.model) s.0 (subst (λ t. Legal a.policy t h l.model) s.1 l.legal) }
+    record { model = l.model; legal = subst (λ p. Legal p.policy b.birth h l.model) s.0 (subst (λ t. Legal a.named.policy t h l.model) s.1 l.legal) }
 
 -- what is played so far: of the operator, the status of a role, or an event on a role without a delay
 
@@ -115,10 +116,10 @@ pub record IsEarly (p : Policy) (actor : Actor) (request : Request) : Type 0 whe
   pub named : IsNamedWish p (ask actor request)
 
 abbrev pub IsEarlyFor : BookView → Actor → Request → Type 0
-IsEarlyFor b actor request = IsEarly b.policy actor request
+IsEarlyFor b actor request = IsEarly b.named.policy actor request
 
 pub IsEarlyFor-by_root : (a b : BookView) (actor : Actor) (request : Request) → SameRoot a b → IsEarlyFor a actor request → IsEarlyFor b actor request
-IsEarlyFor-by_root a b actor request s h = subst (λ p. IsEarly p actor request) s.0 h
+IsEarlyFor-by_root a b actor request s h = subst (λ p. IsEarly p.policy actor request) s.0 h
 
 pub now_after-by_root : (a b : BookView) (h : List Entry) → SameRoot a b → now_after a h ≡ now_after b h
 now_after-by_root a b h s = ap (λ t. now_of t h) s.1

@@ -56,7 +56,7 @@ pub record Kept (p : Policy) (birth present : ℕ) (status : Fluents) (queued : 
   pub short : length h ≤ max_steps
 
 abbrev pub IsKept : State → Type 0
-IsKept s = Kept s.safe s.birth s.present s.status.set s.queued.set s.entries.items s.trace.items
+IsKept s = Kept s.safe.policy s.birth s.present s.status.set s.queued.set s.entries.items s.trace.items
 
 abbrev pub view_of : State → BookView
-view_of s = record { policy = s.safe; birth = s.birth; entries = s.entries.items; trace = s.trace.items }
+view_of s = record { named = s.safe; birth = s.birth; entries = s.entries.items; trace = s.trace.items }

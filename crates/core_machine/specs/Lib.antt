@@ -1,5 +1,4 @@
 pub mod Books
 pub mod Kept
 pub mod Plain
-pub mod Policies
 pub mod Trace

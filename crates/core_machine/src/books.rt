@@ -1,12 +1,14 @@
 //! Books.
 ghost use Rattle.std.specs.Prelude.{◌≡◌, ◌<◌, ◌≤◌, ◌⊎◌, OnErr, IfOk, IfErr, OnOk, [], Ok, Err, length};
 ghost use Rattle.gt_base.specs.Bounds.{max_steps};
+ghost use Rattle.core_machine.specs.Plain.{IsPlain};
 ghost use Rattle.core_machine.specs.Books.{now_in, IsLegalBook, AreNamed, Ticks, Asks, IsEarlyFor};
 
-use crate::policies::{Policy, Safe};
 use crate::states::{State, close_next, pass, raise, tell};
 use crate::traces::Trace;
 use gt_base::{Actor, Entry, Happened, Instant, List, Memory, Reply, Request, StepFault, Who};
+use policy_book::Policy;
+use policy_safety::Safe;
 use std::alloc::Global;
 use std::marker::Model;
 
@@ -16,11 +18,16 @@ pub struct BookMemory {
     pub safe: Safe,
 }
 
-/// A history of a policy since its birth. It is seen as the policy, the birth, the entries and the trace; in each book the
+/// A history of a policy since its birth. It is seen as the policy with its names, the birth, the entries and the trace; in each book the
 /// history is legal with the trace as its execution model.
-#[derive(Drop)]
 pub struct Book {
     state: State,
+}
+
+impl Drop for Book {
+    fn drop(self) {
+        let Book { state: _ } = self;
+    }
 }
 
 impl Model for Book {
@@ -38,13 +45,13 @@ impl Model for Book {
 }
 
 impl Book {
-    /// The book of a policy at its birth, with nothing in its history.
+    /// The book of a policy at its birth, with nothing in its history. So far the policy has no entry, limit or trigger.
     pub fn new(alloc: Global, safe: Safe, birth: Instant) -> Result<Book, BookMemory>
-        ensures root { IfOk result (λ b. (b.policy ≡ safe) × (b.birth ≡ birth)) }
+        requires { IsPlain safe.policy }
+        ensures root { IfOk result (λ b. (b.named ≡ safe) × (b.birth ≡ birth)) }
         ensures empty { IfOk result (λ b. (b.entries ≡ []) × (b.trace ≡ [])) }
         ensures handed_back { IfErr result (λ e. e.safe ≡ safe) }
     {
-        safe.show_plain();
         let Ok(status) = safe.policy().opening().copied() else {
             return Err(BookMemory { safe });
         };
@@ -77,7 +84,7 @@ impl Book {
 
     /// The policy.
     pub fn policy(&self) -> &Policy
-        ensures { result.now ≡ self.now.policy }
+        ensures { result.now ≡ self.now.named }
     {
         self.state.safe.policy()
     }
@@ -86,7 +93,7 @@ impl Book {
     pub fn entries(&self) -> &List<Entry>
         ensures value { result.now.items ≡ self.now.entries }
         ensures legal { IsLegalBook self.now }
-        ensures named { AreNamed self.now.policy self.now.entries }
+        ensures named { AreNamed self.now.named.policy self.now.entries }
         ensures short { length self.now.entries ≤ max_steps }
     {
         &self.state.entries

@@ -3,10 +3,9 @@
 
 mod books;
 mod machine_book;
-mod policies;
 mod states;
 mod traces;
 
 pub use books::{Book, BookMemory};
-pub use policies::{AdmitFault, Policy, Safe};
+pub use policy_safety::{AdmitFault, CycleEdge, Safe};
 pub use traces::{Closed, Trace};

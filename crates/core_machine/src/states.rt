@@ -6,12 +6,12 @@ ghost use Rattle.gtrbac_model.specs.Trigger.{holds as is_met};
 ghost use Rattle.core_machine.specs.Books.{GoesOn, Asks, IsEarly};
 ghost use Rattle.core_machine.specs.Kept.{IsKept, view_of};
 
-use crate::policies::Safe;
 use crate::traces::{Closed, Trace};
 use gt_base::{
     Actor, Cond, Entry, Happened, Instant, List, Memory, Prioritised, Refusal, Reply, Request,
     Status, Step, Who,
 };
+use policy_safety::Safe;
 use priority_conflict::{next_status, winners};
 use std::alloc::Global;
 use std::mem;
@@ -92,7 +92,7 @@ fn minute_after(present: Instant, upto: Instant) -> Instant
 /// Tells the operator whether a condition on a role holds.
 pub(crate) fn tell(s: &mut State, who: Who, cond: Cond) -> Result<Reply, Memory>
     requires kept { IsKept s.old }
-    requires early { IsEarly s.old.safe Actor.Operator (Request.Status cond) }
+    requires early { IsEarly s.old.safe.policy Actor.Operator (Request.Status cond) }
     requires room { length s.old.entries.items < max_steps }
     ensures kept { IsKept s.new }
     ensures ok { IfOk result (λ reply. Asks (view_of s.old) who Actor.Operator (Request.Status cond) reply (view_of s.new)) }
@@ -120,7 +120,7 @@ fn holds(status: &Status, cond: Cond) -> bool
 /// Queues an event of the operator for the next minute.
 pub(crate) fn raise(s: &mut State, who: Who, head: Prioritised) -> Result<Reply, Memory>
     requires kept { IsKept s.old }
-    requires early { IsEarly s.old.safe Actor.Operator (Request.Raise head 0) }
+    requires early { IsEarly s.old.safe.policy Actor.Operator (Request.Raise head 0) }
     requires room { length s.old.entries.items < max_steps }
     ensures kept { IsKept s.new }
     ensures ok { IfOk result (λ reply. Asks (view_of s.old) who Actor.Operator (Request.Raise head 0) reply (view_of s.new)) }
@@ -137,7 +137,7 @@ pub(crate) fn raise(s: &mut State, who: Who, head: Prioritised) -> Result<Reply,
 /// Queues the event, into room that was made before.
 fn queue(s: &mut State, who: Who, head: Prioritised, due: Instant) -> Reply
     requires kept { IsKept s.old }
-    requires early { IsEarly s.old.safe Actor.Operator (Request.Raise head 0) }
+    requires early { IsEarly s.old.safe.policy Actor.Operator (Request.Raise head 0) }
     requires room { length s.old.entries.items < max_steps }
     requires next { (due ≡ s.old.present + 1) × (due ≤ last_minute) }
     requires spare { (1 ≤ s.old.entries.spare) × (1 ≤ s.old.queued.spare) }
@@ -160,7 +160,7 @@ fn queue(s: &mut State, who: Who, head: Prioritised, due: Instant) -> Reply
 /// Refuses an event that would be due after the last minute.
 fn refuse(s: &mut State, who: Who, head: Prioritised) -> Reply
     requires kept { IsKept s.old }
-    requires early { IsEarly s.old.safe Actor.Operator (Request.Raise head 0) }
+    requires early { IsEarly s.old.safe.policy Actor.Operator (Request.Raise head 0) }
     requires room { length s.old.entries.items < max_steps }
     requires late { last_minute < s.old.present + 1 }
     requires spare { 1 ≤ s.old.entries.spare }

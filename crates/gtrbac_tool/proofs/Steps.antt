@@ -9,18 +9,19 @@ use Rattle.gt_base.specs.declared.requests.Request.{Request}
 use Rattle.gt_base.specs.declared.requests.Actor.TheVariants.{Operator}
 use Rattle.gt_base.specs.Machines.{ticked, asked}
 use Rattle.std.specs.Prelude.{Result, Ok, Err, IfOk}
-use Rattle.gtrbac_model.specs.Policy.{Policy}
+use Rattle.policy_forms.specs.Naming.{NamedPolicy}
 use Rattle.gtrbac_model.specs.History.{now_of, Legal}
 use Rattle.core_machine.specs.Trace.{model_of}
-use Rattle.gtrbac_tool.specs.declared.script.End.{End}
+use Rattle.policy_commands.specs.declared.ends.End.{End}
 use Rattle.gtrbac_tool.specs.declared.faults.NoMemory.{NoMemory}
-use Rattle.gtrbac_tool.specs.End.{seen_end}
+use Rattle.policy_commands.specs.Ends.{seen_end}
 use Rattle.gtrbac_model.proofs.Append.{append-nil}
 use Rattle.gtrbac_model.proofs.Playing.{now_snoc}
 use Rattle.core_machine.specs.Books.{BookView, now_in, SameRoot, SameRoot-refl, SameRoot-trans, IsLegalBook, GoesOn as BookGoesOn, Asks}
 use Rattle.gtrbac_tool.specs.declared.turns.Turn.{Turn}
 use Rattle.gtrbac_tool.specs.declared.turns.Turn.TheVariants.{Pass, Go, Put, Stop}
-use Rattle.gtrbac_tool.specs.Told.{Told, told, behind, steps_full, unbuilt_script}
+use Rattle.policy_commands.specs.Ends.{Told, told}
+use Rattle.gtrbac_tool.specs.Told.{behind, steps_full, unbuilt_script}
 use Rattle.gtrbac_tool.specs.Turns.{turn_of}
 use Rattle.gtrbac_tool.specs.Script.{Going, scripts_who, TicksTo, Takes, Plays, Run, reply_text}
 use Rattle.gtrbac_tool.specs.Going.{going_of, GoesTo, GoesOn, EndsAt, Answered, PlaysOut}
@@ -37,7 +38,7 @@ no_way roles t b = record { root = SameRoot-refl b; added = []; entries = sym (a
 pub tick_more : (roles : List (List ℕ)) (t to : ℕ) (b b' b'' : BookView) → GoesTo roles t b b' → now_in b' < t → length b'.entries < max_steps → BookGoesOn b' b'' scripts_who t to → GoesTo roles t b b''
 tick_more roles t to b b' b'' way early room step =
     record {
-      root = SameRoot-trans b b' b'' way.root (sym step.gains.policy, sym step.gains.birth);
+      root = SameRoot-trans b b' b'' way.root (sym step.gains.named, sym step.gains.birth);
       added = way.added ++ ticked scripts_who t to ∷ [];
       entries = step.gains.entries ∙ ap (λ es. es ++ ticked scripts_who t to ∷ []) way.entries ∙ append_assoc b.entries way.added (ticked scripts_who t to ∷ []);
       ticks = λ n lines text end more h.
@@ -100,7 +101,7 @@ pub asks : (roles : List (List ℕ)) (line : List ℕ) (request : Request) (repl
     → Asks b scripts_who Operator request reply b' → now_in b' ≡ now_in b → GoesOn roles line b text b' (text ++ reply_text reply ++ codes "\n")
 asks roles line request reply b b' text e room step now =
     record {
-      root = (sym step.gains.policy, sym step.gains.birth);
+      root = (sym step.gains.named, sym step.gains.birth);
       added = asked scripts_who Operator request reply ∷ [];
       entries = step.gains.entries;
       plays = λ n lines end more h.
@@ -175,15 +176,15 @@ with_end P Q (Ok e) h f = f (seen_end e) h
 with_end P Q (Err e) h f = tt
 
 -- lines that were played out from the birth are a run
-pub runs : (roles : List (List ℕ)) (p : Policy) (birth n : ℕ) (lines : List (List ℕ)) (old new : BookView) (end : Told) → old.policy ≡ p → old.birth ≡ birth → old.entries ≡ [] → PlaysOut roles n lines old new end
-    → Run (record { roles = roles; policy = p }) birth n lines end
-runs roles p birth n lines old new end policy at none out =
+pub runs : (np : NamedPolicy) (birth n : ℕ) (lines : List (List ℕ)) (old new : BookView) (end : Told) → old.named ≡ np → old.birth ≡ birth → old.entries ≡ [] → PlaysOut old.named.names.roles n lines old new end → Run np birth n lines end
+runs np birth n lines old new end named at none out =
     record {
       history = new.entries;
       model = model_of new.trace;
-      legal = subst (λ q. Legal q birth new.entries (model_of new.trace)) (sym out.root.0 ∙ policy) (subst (λ t. Legal new.policy t new.entries (model_of new.trace)) (sym out.root.1 ∙ at) out.legal);
-      plays = subst (λ es. Plays roles n lines [] end (record { now = birth; held = 0 }) es) (sym (out.entries ∙ ap (λ es. es ++ out.added) none))
-          (subst (λ g. Plays roles n lines [] end g out.added) born out.plays);
+      legal = subst (λ (q : NamedPolicy). Legal q.policy birth new.entries (model_of new.trace)) (sym out.root.0 ∙ named) (subst (λ t. Legal new.named.policy t new.entries (model_of new.trace)) (sym out.root.1 ∙ at) out.legal);
+      plays = subst (λ (q : NamedPolicy). Plays q.names.roles n lines [] end (record { now = birth; held = 0 }) new.entries) named
+          (subst (λ es. Plays old.named.names.roles n lines [] end (record { now = birth; held = 0 }) es) (sym (out.entries ∙ ap (λ es. es ++ out.added) none))
+          (subst (λ g. Plays old.named.names.roles n lines [] end g out.added) born out.plays));
     }
   where
     born : ◌≡◌ {A = Going} (going_of old) (record { now = birth; held = 0 })

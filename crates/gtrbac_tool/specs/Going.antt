@@ -8,7 +8,8 @@ use Rattle.gt_base.specs.declared.requests.Reply.{Reply}
 use Rattle.core_machine.specs.Books.{BookView, now_in, SameRoot, IsLegalBook, Asks}
 use Rattle.gtrbac_tool.specs.declared.script.Act.{Act}
 use Rattle.gtrbac_tool.specs.declared.script.Act.TheVariants.{On, Full, Unplayed}
-use Rattle.gtrbac_tool.specs.Told.{Told, behind, steps_full, unbuilt_script}
+use Rattle.policy_commands.specs.Ends.{Told}
+use Rattle.gtrbac_tool.specs.Told.{behind, steps_full, unbuilt_script}
 use Rattle.gtrbac_tool.specs.Script.{Going, TicksTo, Plays, scripts_who, reply_text}
 
 abbrev pub going_of : BookView → Going

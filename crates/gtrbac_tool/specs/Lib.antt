@@ -1,9 +1,9 @@
-pub mod Built
-pub mod Early
-pub mod End
-pub mod Going
-pub mod Policies
-pub mod Script
 pub mod Told
-pub mod Tool
 pub mod Turns
+pub mod Early
+pub mod Script
+pub mod Begun
+pub mod Going
+pub mod Tool
+pub mod Causes
+pub mod Commands

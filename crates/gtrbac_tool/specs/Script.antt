@@ -15,8 +15,9 @@ use Rattle.gtrbac_model.specs.Status.{Model}
 use Rattle.gtrbac_model.specs.History.{Legal}
 use Rattle.gtrbac_tool.specs.declared.turns.Turn.{Turn}
 use Rattle.gtrbac_tool.specs.declared.turns.Turn.TheVariants.{Pass, Go, Put, Stop}
-use Rattle.gtrbac_tool.specs.Told.{Told, told, behind, unbuilt_script, steps_full, too_long}
-use Rattle.gtrbac_tool.specs.Policies.{NamedPolicy}
+use Rattle.policy_commands.specs.Ends.{Told, told}
+use Rattle.gtrbac_tool.specs.Told.{behind, unbuilt_script, steps_full, too_long}
+use Rattle.policy_forms.specs.Naming.{NamedPolicy}
 use Rattle.gtrbac_tool.specs.Turns.{turn_of}
 
 -- the texts of the replies, without a line feed; no request that is played so far is answered by another
@@ -85,7 +86,7 @@ pub record Run (np : NamedPolicy) (birth n : ℕ) (lines : List (List ℕ)) (end
   pub history : List Entry
   pub model : Model
   pub legal : Legal np.policy birth history model
-  pub plays : Plays np.roles n lines [] end (record { now = birth; held = 0 }) history
+  pub plays : Plays np.names.roles n lines [] end (record { now = birth; held = 0 }) history
 
 abbrev pub EndsFrom : NamedPolicy → Start → Told → Type 0
 EndsFrom np never end = end ≡ told 0 []
@@ -97,7 +98,7 @@ max_script = 16_777_216
 
 abbrev pub EndsIf : Bool → NamedPolicy → List ℕ → Told → Type 0
 EndsIf true np script end = end ≡ too_long (codes "script")
-EndsIf false np script end = EndsFrom np (start_of np.roles 1 (lines_of script)) end
+EndsIf false np script end = EndsFrom np (start_of np.names.roles 1 (lines_of script)) end
 
 -- the script ends so
 abbrev pub Ends : NamedPolicy → List ℕ → Told → Type 0

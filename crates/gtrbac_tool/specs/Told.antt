@@ -1,12 +1,6 @@
 -- What a call of the program prints, and its status.
 use Rattle.std.specs.Prelude.{ℕ, List, ◌++◌, codes, decimal}
-
-pub record Told : Type 0 where
-  pub status : ℕ
-  pub text : List ℕ
-
-abbrev pub told : ℕ → List ℕ → Told
-told s t = record { status = s; text = t }
+use Rattle.policy_commands.specs.Ends.{Told, told}
 
 -- with this text before it
 abbrev pub behind : List ℕ → Told → Told

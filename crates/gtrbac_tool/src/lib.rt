@@ -1,8 +1,8 @@
 //! The program `gtrbac`: its commands over a shelf of texts, an input and an output.
 #![tactic(auto)]
 
+mod commands;
 mod faults;
-mod policies;
 mod script;
 mod top;
 mod turns;

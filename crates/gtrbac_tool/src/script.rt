@@ -2,20 +2,25 @@
 ghost use Rattle.std.specs.Prelude.{◌≡◌, ℕ, List, ◌<◌, ◌≤◌, ◌+◌, ◌^◌, ◌++◌, codes, decimal, length, OnOk, IfOk, MatchBool};
 ghost use Rattle.gt_base.specs.Bounds.{max_steps};
 ghost use Rattle.core_machine.specs.Books.{now_in, IsEarlyFor};
+ghost use Rattle.core_machine.specs.Plain.{IsPlain};
 ghost use Rattle.gt_text.specs.Lines.{lines_of};
 ghost use Rattle.gtrbac_tool.specs.Told.{behind, unbuilt_script, steps_full};
 ghost use Rattle.gtrbac_tool.specs.Script.{reply_text, Run, EndsFrom, start_of};
-ghost use Rattle.gtrbac_tool.specs.End.{seen_end};
+ghost use Rattle.policy_commands.specs.Ends.{seen_end};
+ghost use Rattle.gtrbac_tool.specs.Early.{IsEarlyTurn};
+ghost use Rattle.gtrbac_tool.specs.Turns.{turn_of};
 ghost use Rattle.gtrbac_tool.specs.Tool.{IsRunStatus};
+ghost use Rattle.gtrbac_tool.specs.Begun.{Begins};
 ghost use Rattle.gtrbac_tool.specs.Going.{GoesTo, Answered, WasFull, Acts, PlaysOut};
 
 use crate::faults::NoMemory;
 use crate::turns::{Turn, read_turn};
 use civil_time::write_civil;
-use core_machine::{Book, Policy, Safe};
+use core_machine::{Book, Safe};
 use gt_base::{Actor, Instant, Refusal, Reply, Request, StepFault, Who};
 use gt_text::{Lines, push_number};
-use name_table::Table;
+use policy_book::Policy;
+use policy_commands::End;
 use std::alloc::Global;
 
 /// The one worker and the one connection of a script.
@@ -118,17 +123,20 @@ fn put(book: &mut Book, text: &mut Vec<u8>, request: Request) -> Result<bool, No
     }
 }
 
-/// Plays a line.
-fn play_line(
-    book: &mut Book,
-    text: &mut Vec<u8>,
-    roles: &Table,
-    line: &[u8],
-) -> Result<Act, NoMemory>
-    requires roles { (length roles.now < 2 ^ 32) × (book.old.policy.roles ≡ length roles.now) }
-    ensures { IfOk result (λ act. Acts roles.now line.now act book.old text.old.items book.new text.new.items) }
+/// What a line makes a run over a book do.
+fn turn(book: &Book, line: &[u8]) -> Turn
+    ensures turn { result ≡ turn_of book.now.named.names.roles line.now }
+    ensures early { IsEarlyTurn book.now.named.policy.roles result }
 {
-    match read_turn(roles, line) {
+    let _roles = book.policy().role_count();
+    read_turn(book.policy(), line)
+}
+
+/// Plays a line.
+fn play_line(book: &mut Book, text: &mut Vec<u8>, line: &[u8]) -> Result<Act, NoMemory>
+    ensures { IfOk result (λ act. Acts book.old.named.names.roles line.now act book.old text.old.items book.new text.new.items) }
+{
+    match turn(book, line) {
         Turn::Pass => Ok(Act::On),
         Turn::Stop => Ok(Act::Unplayed),
         Turn::Go(t) => {
@@ -146,13 +154,6 @@ fn play_line(
             }
         }
     }
-}
-
-/// What is printed at the end, with its status.
-#[derive(Drop)]
-pub(crate) struct End {
-    pub status: u8,
-    pub text: Vec<u8>,
 }
 
 /// Adds words with a number between them.
@@ -192,19 +193,17 @@ fn full(mut text: Vec<u8>, number: u32) -> Result<End, NoMemory>
 fn play_out(
     alloc: Global,
     book: &mut Book,
-    roles: &Table,
     mut lines: Lines<'_>,
     mut number: u32,
 ) -> Result<End, NoMemory>
-    requires roles { (length roles.now < 2 ^ 32) × (book.old.policy.roles ≡ length roles.now) }
     requires count { number + length lines < 2 ^ 32 }
-    ensures end { IfOk result (λ end. PlaysOut roles.now (number + 1) lines.entry book.old book.new (seen_end end)) }
+    ensures end { IfOk result (λ end. PlaysOut book.old.named.names.roles (number + 1) lines.entry book.old book.new (seen_end end)) }
     ensures status { IfOk result (λ end. IsRunStatus end.status) }
 {
     let mut text = Vec::new(alloc);
     while let Some(line) = lines.next() {
         number += 1;
-        match play_line(book, &mut text, roles, line)? {
+        match play_line(book, &mut text, line)? {
             Act::On => {}
             Act::Full => {
                 let _legal = book.entries();
@@ -223,50 +222,62 @@ fn play_out(
 /// Runs a script from its birth.
 fn run(
     alloc: Global,
-    roles: &Table,
-    policy: Policy,
+    safe: Safe,
     birth: Instant,
     lines: Lines<'_>,
     number: u32,
 ) -> Result<End, NoMemory>
-    requires roles { (length roles.now < 2 ^ 32) × (policy.roles ≡ length roles.now) }
+    requires plain { IsPlain safe.policy }
     requires count { number + length lines < 2 ^ 32 }
-    ensures end { IfOk result (λ end. Run (record { roles = roles.now; policy = policy }) birth (number + 1) lines.entry (seen_end end)) }
+    ensures end { IfOk result (λ end. Run safe birth (number + 1) lines.entry (seen_end end)) }
     ensures status { IfOk result (λ end. IsRunStatus end.status) }
 {
-    let Ok(safe) = Safe::admit(alloc, policy) else {
-        return Err(NoMemory);
-    };
     let Ok(mut book) = Book::new(alloc, safe, birth) else {
         return Err(NoMemory);
     };
-    play_out(alloc, &mut book, roles, lines, number)
+    play_out(alloc, &mut book, lines, number)
 }
 
-/// Plays a script over a policy with the names of its roles.
-pub(crate) fn play(
-    alloc: Global,
-    roles: &Table,
-    policy: Policy,
-    script: &[u8],
-) -> Result<End, NoMemory>
-    requires roles { (length roles.now < 2 ^ 32) × (policy.roles ≡ length roles.now) }
-    requires script { length script.now < 2 ^ 32 }
-    ensures end { IfOk result (λ end. EndsFrom (record { roles = roles.now; policy = policy }) (start_of roles.now 1 (lines_of script.now)) (seen_end end)) }
-    ensures status { IfOk result (λ end. IsRunStatus end.status) }
+/// Where a run begins: at no line, at a birth instant told by the line of this number, or nowhere, since that line is not
+/// played.
+#[derive(Clone, Copy, Debug, PartialEq, Eq)]
+pub(crate) enum Begin {
+    Never,
+    Born { birth: Instant, number: u32 },
+    Failed { number: u32 },
+}
+
+/// Where a run begins, with the lines after it left.
+fn find_birth(policy: &Policy, lines: &mut Lines<'_>) -> Begin
+    requires { length lines.old < 2 ^ 32 }
+    ensures { Begins policy.now.names.roles lines.old result lines.new }
 {
-    let mut lines = Lines::new(script);
     let mut number: u32 = 0;
     while let Some(line) = lines.next() {
         number += 1;
-        match read_turn(roles, line) {
+        match read_turn(policy, line) {
             Turn::Pass => {}
-            Turn::Go(birth) => return run(alloc, roles, policy, birth, lines, number),
-            Turn::Put(_) | Turn::Stop => return unplayed(Vec::new(alloc), number),
+            Turn::Go(birth) => return Begin::Born { birth, number },
+            Turn::Put(_) | Turn::Stop => return Begin::Failed { number },
         }
     }
-    Ok(End {
-        status: 0,
-        text: Vec::new(alloc),
-    })
+    Begin::Never
+}
+
+/// Plays a script over a safe policy.
+pub(crate) fn play(alloc: Global, safe: Safe, script: &[u8]) -> Result<End, NoMemory>
+    requires plain { IsPlain safe.policy }
+    requires script { length script.now < 2 ^ 32 }
+    ensures end { IfOk result (λ end. EndsFrom safe (start_of safe.names.roles 1 (lines_of script.now)) (seen_end end)) }
+    ensures status { IfOk result (λ end. IsRunStatus end.status) }
+{
+    let mut lines = Lines::new(script);
+    match find_birth(safe.policy(), &mut lines) {
+        Begin::Never => Ok(End {
+            status: 0,
+            text: Vec::new(alloc),
+        }),
+        Begin::Born { birth, number } => run(alloc, safe, birth, lines, number),
+        Begin::Failed { number } => unplayed(Vec::new(alloc), number),
+    }
 }

@@ -1,5 +1,5 @@
 //! The lines of a script.
-ghost use Rattle.std.specs.Prelude.{◌≡◌, ◌<◌, ◌^◌, ℕ, length, Some, IfSome};
+ghost use Rattle.std.specs.Prelude.{◌≡◌, ◌<◌, ℕ, length, Some, IfSome};
 ghost use Rattle.gtrbac_tool.specs.Early.{IsEarlyTurn};
 ghost use Rattle.civil_time.specs.Text.{civil_in};
 ghost use Rattle.gt_text.specs.Words.{begins_with};
@@ -9,7 +9,7 @@ use bstr::ByteSlice;
 use civil_time::read_civil;
 use gt_base::{Cond, Event, Fluent, Instant, Name, Prio, Prioritised, Request, RoleId};
 use gt_text::{Words, read_up_to};
-use name_table::Table;
+use policy_book::Policy;
 
 /// What a line makes a run do: nothing, go to a minute, ask for something, or stop, since the line is not played.
 #[derive(Clone, Copy)]
@@ -21,22 +21,20 @@ pub(crate) enum Turn {
 }
 
 /// What a line makes a run do.
-pub(crate) fn read_turn(roles: &Table, line: &[u8]) -> Turn
-    requires { length roles.now < 2 ^ 32 }
-    ensures turn { result ≡ turn_of roles.now line.now }
-    ensures early { IsEarlyTurn (length roles.now) result }
+pub(crate) fn read_turn(policy: &Policy, line: &[u8]) -> Turn
+    ensures turn { result ≡ turn_of policy.now.names.roles line.now }
+    ensures early { IsEarlyTurn (length policy.now.names.roles) result }
 {
     if line.len() > 512 {
         return Turn::Stop;
     }
-    by_words(roles, Words::new(line))
+    by_words(policy, Words::new(line))
 }
 
 /// What the words of a line make a run do.
-fn by_words(roles: &Table, mut words: Words<'_>) -> Turn
-    requires { length roles.now < 2 ^ 32 }
-    ensures turn { result ≡ by_words_turn roles.now words.entry }
-    ensures early { IsEarlyTurn (length roles.now) result }
+fn by_words(policy: &Policy, mut words: Words<'_>) -> Turn
+    ensures turn { result ≡ by_words_turn policy.now.names.roles words.entry }
+    ensures early { IsEarlyTurn (length policy.now.names.roles) result }
 {
     let Some(verb) = words.next() else {
         return Turn::Pass;
@@ -53,7 +51,7 @@ fn by_words(roles: &Table, mut words: Words<'_>) -> Turn
     if words.next().is_some() {
         return Turn::Stop;
     }
-    three_words(roles, verb, second, third)
+    three_words(policy, verb, second, third)
 }
 
 /// Whether a word begins a comment.
@@ -80,26 +78,27 @@ fn two_words(verb: &[u8], when: &[u8]) -> Turn
     }
 }
 
-fn three_words(roles: &Table, verb: &[u8], what: &[u8], role: &[u8]) -> Turn
-    requires { length roles.now < 2 ^ 32 }
-    ensures turn { result ≡ three_words_turn roles.now verb.now what.now role.now }
-    ensures early { IsEarlyTurn (length roles.now) result }
+fn three_words(policy: &Policy, verb: &[u8], what: &[u8], role: &[u8]) -> Turn
+    ensures turn { result ≡ three_words_turn policy.now.names.roles verb.now what.now role.now }
+    ensures early { IsEarlyTurn (length policy.now.names.roles) result }
 {
     if verb == b"status".as_slice() {
-        status(roles, what, role)
+        status(policy, what, role)
     } else if verb == b"request".as_slice() {
-        request(roles, what, role)
+        request(policy, what, role)
     } else {
         Turn::Stop
     }
 }
 
-fn status(roles: &Table, cond: &[u8], role: &[u8]) -> Turn
-    requires { length roles.now < 2 ^ 32 }
-    ensures turn { result ≡ status_turn roles.now cond.now role.now }
-    ensures early { IsEarlyTurn (length roles.now) result }
+fn status(policy: &Policy, cond: &[u8], role: &[u8]) -> Turn
+    ensures turn { result ≡ status_turn policy.now.names.roles cond.now role.now }
+    ensures early { IsEarlyTurn (length policy.now.names.roles) result }
 {
-    match (is_first(b"enabled", b"disabled", cond), number(roles, role)) {
+    match (
+        is_first(b"enabled", b"disabled", cond),
+        number(policy, role),
+    ) {
         (Some(on), Some(k)) => Turn::Put(Request::Status(Cond {
             on,
             fluent: Fluent::Enabled(RoleId(k)),
@@ -122,16 +121,13 @@ fn is_first(first: &[u8], second: &[u8], word: &[u8]) -> Option<bool>
 }
 
 /// The number of a role, none where no line declares the name.
-pub(crate) fn number(roles: &Table, role: &[u8]) -> Option<u32>
-    requires { length roles.now < 2 ^ 32 }
-    ensures number { result ≡ role_number roles.now role.now }
-    ensures bound { IfSome result (λ k. k < length roles.now) }
+pub(crate) fn number(policy: &Policy, role: &[u8]) -> Option<u32>
+    ensures number { result ≡ role_number policy.now.names.roles role.now }
+    ensures bound { IfSome result (λ k. k < length policy.now.names.roles) }
 {
     let name = Name::new(role)?;
-    match roles.number(&name) {
-        Some(k) => Some(k as u32),
-        None => None,
-    }
+    let RoleId(k) = policy.role(&name)?;
+    Some(k)
 }
 
 /// The minute that the word writes.
@@ -150,10 +146,9 @@ fn priority(word: &[u8]) -> Option<Prio>
 }
 
 /// `PRIO:enable` or `PRIO:disable` of a role.
-fn request(roles: &Table, head: &[u8], role: &[u8]) -> Turn
-    requires { length roles.now < 2 ^ 32 }
-    ensures turn { result ≡ request_turn roles.now head.now role.now }
-    ensures early { IsEarlyTurn (length roles.now) result }
+fn request(policy: &Policy, head: &[u8], role: &[u8]) -> Turn
+    ensures turn { result ≡ request_turn policy.now.names.roles head.now role.now }
+    ensures early { IsEarlyTurn (length policy.now.names.roles) result }
 {
     let Some(colon) = head.find_byte(b':') else {
         return Turn::Stop;
@@ -161,7 +156,7 @@ fn request(roles: &Table, head: &[u8], role: &[u8]) -> Turn
     let (front, rest) = head.split_at(colon);
     let (_, verb) = rest.split_at(1);
     let on = is_first(b"enable", b"disable", verb);
-    event(priority(front), on, number(roles, role))
+    event(priority(front), on, number(policy, role))
 }
 
 fn event(prio: Option<Prio>, on: Option<bool>, role: Option<u32>) -> Turn

@@ -23,7 +23,6 @@ use std::marker::Model;
 /// A policy with the names that its lines declare, each at its number, from 0 in the order of the lines. It is seen as its
 /// names and the model's policy, and keeps what every policy keeps: numbers in range, lists within their limits, valid
 /// periods, no two edges of one ordered pair and no cycle of edges, and a record of caps for each role.
-#[derive(Drop)]
 pub struct Policy {
     pub(crate) alloc: Global,
     pub(crate) names: NameTables,
@@ -50,6 +49,23 @@ impl Model for Policy {
     ghost view = { seen_policy };
 
     ghost invariant = { λ p. IsWellFormed (seen_policy p) };
+}
+
+impl Drop for Policy {
+    fn drop(self) {
+        let Policy {
+            alloc: _,
+            names: _,
+            periods: _,
+            limits: _,
+            edges: _,
+            caps: _,
+            admins: _,
+            opening: _,
+            entries: _,
+            triggers: _,
+        } = self;
+    }
 }
 
 impl Policy {

@@ -14,9 +14,14 @@ use std::marker::Model;
 use trigger_safety::levels;
 
 /// A safe policy, seen as the policy with its names.
-#[derive(Drop)]
 pub struct Safe {
     policy: Policy,
+}
+
+impl Drop for Safe {
+    fn drop(self) {
+        let Safe { policy: _ } = self;
+    }
 }
 
 impl Model for Safe {

@@ -1,4 +1,4 @@
-use Rattle.std.proofs.Common.{◌≡◌, ◌+◌, List, [], ◌∷◌, ◌++◌, true, false, cond, ◌∙◌, sym, subst}
+use Rattle.std.proofs.Common.{◌≡◌, refl, ◌+◌, List, [], ◌∷◌, ◌++◌, true, false, cond, ◌∙◌, sym, subst}
 use Rattle.gt_base.specs.declared.events.Fluent.{Fluent}
 use Rattle.gt_base.specs.declared.requests.Entry.{Entry}
 use Rattle.gt_base.specs.Machines.{ticked}
@@ -36,17 +36,17 @@ queued_is c = (λ i. (c.replace-set.ensures.after i).set) ∙ c.new.ensures
 pub returns-clause-kept : goal.returns-clause-kept
 returns-clause-kept c =
     let s = c.args.s.now in
-    let kept = kept_next s.safe s.birth s.present s.status.set s.queued.set s.entries.items s.trace.items c.requires.kept c.args.who c.args.upto c.requires.later c.minute_after-next.ensures.bound c.requires.room c.requires.some c.next_status.new.s.set (turned c) in
-    subst (λ (now : _). Kept s.safe s.birth now c.next_status.new.s.set c.replace-set.new.dest.set c.push-2.new.self.items c.push.new.self.items) (sym c.minute_after-next.ensures.next)
-    (subst (λ (q : Happening). Kept s.safe s.birth (s.present + 1) c.next_status.new.s.set q c.push-2.new.self.items c.push.new.self.items) (sym (queued_is c))
-    (subst (λ (h : List Entry). Kept s.safe s.birth (s.present + 1) c.next_status.new.s.set nothing h c.push.new.self.items) (sym (entries_is c))
-    (subst (λ (cs : List ClosedSet). Kept s.safe s.birth (s.present + 1) c.next_status.new.s.set nothing (s.entries.items ++ ticked c.args.who c.args.upto (s.present + 1) ∷ []) cs) (sym (closed_is c)) kept)))
+    let kept = kept_next s.safe.policy s.birth s.present s.status.set s.queued.set s.entries.items s.trace.items c.requires.kept c.args.who c.args.upto c.requires.later c.minute_after-next.ensures.bound c.requires.room c.requires.some c.next_status.new.s.set (turned c) in
+    subst (λ (now : _). Kept s.safe.policy s.birth now c.next_status.new.s.set c.replace-set.new.dest.set c.push-2.new.self.items c.push.new.self.items) (sym c.minute_after-next.ensures.next)
+    (subst (λ (q : Happening). Kept s.safe.policy s.birth (s.present + 1) c.next_status.new.s.set q c.push-2.new.self.items c.push.new.self.items) (sym (queued_is c))
+    (subst (λ (h : List Entry). Kept s.safe.policy s.birth (s.present + 1) c.next_status.new.s.set nothing h c.push.new.self.items) (sym (entries_is c))
+    (subst (λ (cs : List ClosedSet). Kept s.safe.policy s.birth (s.present + 1) c.next_status.new.s.set nothing (s.entries.items ++ ticked c.args.who c.args.upto (s.present + 1) ∷ []) cs) (sym (closed_is c)) kept)))
 
 pub returns-clause-ok : goal.returns-clause-ok
 returns-clause-ok c =
     let s = c.args.s.now in
-    let goes = goes_next s.safe s.birth s.present s.status.set s.queued.set s.entries.items s.trace.items c.requires.kept c.args.who c.args.upto c.requires.later c.minute_after-next.ensures.bound c.requires.room c.requires.some c.next_status.new.s.set (turned c) in
-    subst (λ (to : _). GoesOn (record { policy = s.safe; birth = s.birth; entries = s.entries.items; trace = s.trace.items }) (record { policy = s.safe; birth = s.birth; entries = c.push-2.new.self.items; trace = c.push.new.self.items }) c.args.who c.args.upto to)
+    let goes = goes_next s.safe.policy s.birth s.present s.status.set s.queued.set s.entries.items s.trace.items c.requires.kept c.args.who c.args.upto c.requires.later c.minute_after-next.ensures.bound c.requires.room c.requires.some c.next_status.new.s.set (turned c) s.safe refl in
+    subst (λ (to : _). GoesOn (record { named = s.safe; birth = s.birth; entries = s.entries.items; trace = s.trace.items }) (record { named = s.safe; birth = s.birth; entries = c.push-2.new.self.items; trace = c.push.new.self.items }) c.args.who c.args.upto to)
     (sym c.minute_after-next.ensures.next)
-    (subst (λ (h : List Entry). GoesOn (record { policy = s.safe; birth = s.birth; entries = s.entries.items; trace = s.trace.items }) (record { policy = s.safe; birth = s.birth; entries = h; trace = c.push.new.self.items }) c.args.who c.args.upto (s.present + 1)) (sym (entries_is c))
-    (subst (λ (cs : List ClosedSet). GoesOn (record { policy = s.safe; birth = s.birth; entries = s.entries.items; trace = s.trace.items }) (record { policy = s.safe; birth = s.birth; entries = s.entries.items ++ ticked c.args.who c.args.upto (s.present + 1) ∷ []; trace = cs }) c.args.who c.args.upto (s.present + 1)) (sym (closed_is c)) goes))
+    (subst (λ (h : List Entry). GoesOn (record { named = s.safe; birth = s.birth; entries = s.entries.items; trace = s.trace.items }) (record { named = s.safe; birth = s.birth; entries = h; trace = c.push.new.self.items }) c.args.who c.args.upto (s.present + 1)) (sym (entries_is c))
+    (subst (λ (cs : List ClosedSet). GoesOn (record { named = s.safe; birth = s.birth; entries = s.entries.items; trace = s.trace.items }) (record { named = s.safe; birth = s.birth; entries = s.entries.items ++ ticked c.args.who c.args.upto (s.present + 1) ∷ []; trace = cs }) c.args.who c.args.upto (s.present + 1)) (sym (closed_is c)) goes))

@@ -15,5 +15,5 @@ returns-clause-kept c =
     let due : c.minute.result + 1 ≡ s.present + 1 = omega arith in
     let is : c.push.new.self.items ≡ s.entries.items ++ asked c.args.who Operator (Raise c.args.head 0) (Refused (Beyond (s.present + 1))) ∷ [] =
     c.push.ensures.items ∙ ap (λ n. s.entries.items ++ asked c.args.who Operator (Raise c.args.head 0) (Refused (Beyond n)) ∷ []) due in
-    subst (λ (xs : List Entry). Kept s.safe s.birth s.present s.status.set s.queued.set xs s.trace.items) (sym is)
-    (kept_refused s.safe s.birth s.present s.status.set s.queued.set s.entries.items s.trace.items c.requires.kept c.args.who c.requires.room c.args.head c.requires.early.named c.requires.late)
+    subst (λ (xs : List Entry). Kept s.safe.policy s.birth s.present s.status.set s.queued.set xs s.trace.items) (sym is)
+    (kept_refused s.safe.policy s.birth s.present s.status.set s.queued.set s.entries.items s.trace.items c.requires.kept c.args.who c.requires.room c.args.head c.requires.early.named c.requires.late)

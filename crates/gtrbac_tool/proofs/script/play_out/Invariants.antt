@@ -1,7 +1,7 @@
 use Rattle.std.proofs.Common.{◌≡◌, ◌+◌, ◌<◌, ◌^◌, List, [], ◌++◌, length}
 use Rattle.gt_base.specs.declared.requests.Entry.{Entry}
 use Rattle.core_machine.specs.Books.{SameRoot}
-use Rattle.gtrbac_tool.specs.Told.{Told}
+use Rattle.policy_commands.specs.Ends.{Told}
 use Rattle.gtrbac_tool.specs.Script.{Plays}
 use Rattle.gtrbac_tool.specs.Going.{going_of}
 use Rattle.gtrbac_tool.proofs.script.play_out.Given as goal
@@ -13,8 +13,8 @@ invariant-loop-line l =
       root : SameRoot l.initial.book l.book;
       added : List Entry;
       entries : l.book.entries ≡ l.initial.book.entries ++ added;
-      plays : (end : Told) (more : List Entry) → Plays l.roles (l.number + 1) l.lines l.text.items end (going_of l.book) more
-          → Plays l.roles (l.initial.number + 1) l.initial.lines [] end (going_of l.initial.book) (added ++ more);
+      plays : (end : Told) (more : List Entry) → Plays l.initial.book.named.names.roles (l.number + 1) l.lines l.text.items end (going_of l.book) more
+          → Plays l.initial.book.named.names.roles (l.initial.number + 1) l.initial.lines [] end (going_of l.initial.book) (added ++ more);
       count : l.number + length l.lines < 2 ^ 32;
     }
 

@@ -5,7 +5,7 @@ use Rattle.gtrbac_tool.proofs.Reading.{no_request, front_is, back_is}
 use Rattle.gtrbac_tool.proofs.turns.request.Goals as goal
 
 pub returns-in_default-clause-turn : goal.returns-in_default-clause-turn
-returns-in_default-clause-turn c = no_request c.args.roles.now c.args.head.now c.args.role.now c.in_default.ensures
+returns-in_default-clause-turn c = no_request c.args.policy.now.names.roles c.args.head.now c.args.role.now c.in_default.ensures
 
 pub returns-clause-turn : goal.returns-clause-turn
 returns-clause-turn c =

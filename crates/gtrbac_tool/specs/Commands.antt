@@ -1,0 +1,9 @@
+-- A command as it is seen.
+use Rattle.gtrbac_tool.specs.declared.commands.Command as declared
+use Rattle.gtrbac_tool.specs.declared.commands.Command.TheVariants.{Check, Fmt, Run}
+use Rattle.gtrbac_tool.specs.Tool.{Command, check, fmt, run}
+
+abbrev pub seen_command : declared.Command → Command
+seen_command (Check name) = check name.now
+seen_command (Fmt name) = fmt name.now
+seen_command (Run name) = run name.now

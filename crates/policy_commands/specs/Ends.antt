@@ -1,0 +1,13 @@
+-- What a command prints, and its status.
+use Rattle.std.specs.Prelude.{ℕ, List}
+use Rattle.policy_commands.specs.declared.ends.End.{End}
+
+pub record Told : Type 0 where
+  pub status : ℕ
+  pub text : List ℕ
+
+abbrev pub told : ℕ → List ℕ → Told
+told s t = record { status = s; text = t }
+
+abbrev pub seen_end : End → Told
+seen_end e = told e.status e.text.items

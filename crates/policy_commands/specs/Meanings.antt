@@ -1,0 +1,33 @@
+-- What the answers of `check` and `fmt` mean.
+use Rattle.std.specs.Prelude.{◌≡◌, ◌≤◌, ◌↔◌, ℕ, List, length, codes, All, Ok}
+use Rattle.gt_text.specs.Lines.{lines_of}
+use Rattle.gtrbac_model.specs.Safety.{IsSafe}
+use Rattle.gtrbac_model.specs.Theorems.{HasOneModel}
+use Rattle.policy_forms.specs.Naming.{NamedPolicy}
+use Rattle.policy_forms.specs.PolicyRead.{policy_read}
+use Rattle.policy_commands.specs.Ends.{told}
+use Rattle.policy_commands.specs.Policies.{HasFault, IsUnsafeText}
+use Rattle.policy_commands.specs.Commands.{fmt_end, check_end}
+
+-- the text is of a policy that is safe, and so has exactly one execution model
+pub record IsSafeText (text : List ℕ) : Type 0 where
+  pub policy : NamedPolicy
+  pub is : policy_read text ≡ Ok policy
+  pub safe : IsSafe policy.policy.triggers
+  pub one : HasOneModel policy.policy
+
+abbrev pub SafeMeans : Type 0
+SafeMeans = (text : List ℕ) → (check_end text ≡ told 0 (codes "safe\n")) ↔ IsSafeText text
+
+abbrev pub UnsafeMeans : Type 0
+UnsafeMeans = (text : List ℕ) → ((check_end text).status ≡ 3) ↔ IsUnsafeText text
+
+abbrev pub FaultMeans : Type 0
+FaultMeans = (text : List ℕ) → ((check_end text).status ≡ 2) ↔ HasFault text
+
+abbrev pub FmtFaultMeans : Type 0
+FmtFaultMeans = (text : List ℕ) → ((fmt_end text).status ≡ 2) ↔ HasFault text
+
+-- what was written stands for the same policy and is written again
+abbrev pub FmtKeeps : Type 0
+FmtKeeps = (text out : List ℕ) → fmt_end text ≡ told 0 out → All (λ line. length line ≤ 4_096) (lines_of out) → (policy_read out ≡ policy_read text) × (fmt_end out ≡ told 0 out)

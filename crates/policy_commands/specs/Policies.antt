@@ -1,0 +1,41 @@
+-- The policy of a text, or how a command ends over the text.
+use Rattle.std.specs.Prelude.{◌≡◌, ℕ, List, Option, Some, None, Result, Ok, Err}
+use Rattle.gtrbac_model.specs.Safety.{the_cycle, IsSafe}
+use Rattle.policy_forms.specs.Naming.{NamedPolicy}
+use Rattle.policy_forms.specs.PolicyRead.{PolicyFault, policy_read, fault_text, unsafe_text}
+use Rattle.policy_commands.specs.Ends.{Told, told}
+
+abbrev pub read_or_told : Result NamedPolicy PolicyFault → Result NamedPolicy Told
+read_or_told (Ok np) = Ok np
+read_or_told (Err f) = Err (told 2 (fault_text f))
+
+-- the policy, or its fault with status 2
+unfoldable pub policy_in : List ℕ → Result NamedPolicy Told
+policy_in text = read_or_told (policy_read text)
+
+abbrev pub safe_or_told : NamedPolicy → Option (List ℕ) → Result NamedPolicy Told
+safe_or_told np None = Ok np
+safe_or_told np (Some edges) = Err (told 3 (unsafe_text np edges))
+
+-- the policy where it is safe, or its least conflict cycle with status 3
+unfoldable pub judged : NamedPolicy → Result NamedPolicy Told
+judged np = safe_or_told np (the_cycle np.policy.triggers)
+
+abbrev pub judged_or_told : Result NamedPolicy Told → Result NamedPolicy Told
+judged_or_told (Ok np) = judged np
+judged_or_told (Err t) = Err t
+
+-- the safe policy of a text, or else the end: a fault first, then the cycle
+unfoldable pub safe_in : List ℕ → Result NamedPolicy Told
+safe_in text = judged_or_told (policy_in text)
+
+-- the text has a fault
+pub record HasFault (text : List ℕ) : Type 0 where
+  pub fault : PolicyFault
+  pub is : policy_read text ≡ Err fault
+
+-- the text is of a policy that is not safe
+pub record IsUnsafeText (text : List ℕ) : Type 0 where
+  pub policy : NamedPolicy
+  pub is : policy_read text ≡ Ok policy
+  pub unsafe : IsSafe policy.policy.triggers → ⊥

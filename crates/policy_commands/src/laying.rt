@@ -1,0 +1,40 @@
+//! A policy in its canonical form.
+ghost use Rattle.std.specs.Prelude.{◌≡◌, ◌<◌, ◌^◌, ◌⊎◌, length, IfOk};
+ghost use Rattle.policy_commands.specs.Ends.{seen_end};
+ghost use Rattle.policy_commands.specs.Policies.{HasFault};
+ghost use Rattle.policy_commands.specs.Commands.{fmt_end, IsLaid};
+
+use crate::ends::End;
+use gt_base::Memory;
+use policy_book::Policy;
+use policy_reading::{PolicyText, policy_of};
+use policy_writer::write_policy;
+use std::alloc::Global;
+
+/// The end at a policy that has this canonical form.
+fn laid(alloc: Global, policy: &Policy) -> Result<End, Memory>
+    ensures { IfOk result (IsLaid policy.now) }
+{
+    let lines = write_policy(alloc, policy)?;
+    Ok(End {
+        status: 0,
+        text: lines.as_slice().to_vec(alloc)?,
+    })
+}
+
+/// The canonical text of the policy that the bytes stand for, with status 0, or the text of their fault, with status 2.
+/// Whether the policy is safe is not judged. The text has fewer than 4,294,967,296 bytes. Only want of memory is free.
+pub fn lay_out(alloc: Global, text: &[u8]) -> Result<End, Memory>
+    requires { length text.now < 2 ^ 32 }
+    ensures end { IfOk result (λ end. seen_end end ≡ fmt_end text.now) }
+    ensures status { IfOk result (λ end. (end.status ≡ 0) ⊎ (end.status ≡ 2)) }
+    ensures fault { IfOk result (λ end. end.status ≡ 2 → HasFault text.now) }
+{
+    match policy_of(alloc, text)? {
+        PolicyText::Policy(policy) => laid(alloc, &policy),
+        PolicyText::Fault(told) => Ok(End {
+            status: 2,
+            text: told,
+        }),
+    }
+}
