@@ -1,12 +1,13 @@
 #!/bin/sh
-# Refuses the allocations of a run one at a time: bench/fail_alloc.sh [POLICY SCRIPT]
+# Refuses the allocations of a command one at a time: bench/fail_alloc.sh [POLICY SCRIPT [check|fmt|run]]
 # The built program is run once for each of its calls of malloc and realloc, and this one call fails (needs cc and
-# LD_PRELOAD). Each run must end with status 0 or 8 and write a prefix of the text of a run in which none fails.
+# LD_PRELOAD). Each run must end with the status of a run in which none fails, or with 8, and write a prefix of its text.
 set -eu
 top=$(cd "$(dirname "$0")/.." && pwd)
 program="$top/crates/gtrbac/out/gtrbac"
 policy=$(realpath "${1:-$top/examples/first.policy}")
 script=$(realpath "${2:-$top/examples/first.script}")
+verb=${3:-run}
 work=$(mktemp -d)
 cd "$work"
 cat > shim.c <<'C'
@@ -37,19 +38,20 @@ __attribute__((destructor)) static void tell(void) {
 }
 C
 cc -shared -fPIC -O1 -o shim.so shim.c -ldl
-"$program" run "$policy" < "$script" > whole
-wanted=$(LD_PRELOAD=./shim.so COUNT_FILE=count "$program" run "$policy" < "$script" > again; cat count)
+ends=0
+"$program" "$verb" "$policy" < "$script" > whole || ends=$?
+wanted=$(LD_PRELOAD=./shim.so COUNT_FILE=count "$program" "$verb" "$policy" < "$script" > again || true; cat count)
 cmp whole again
 n=1; done=0; short=0
 while [ "$n" -le "$wanted" ]; do
     status=0
-    LD_PRELOAD=./shim.so FAIL_ALLOC=$n "$program" run "$policy" < "$script" > text || status=$?
+    LD_PRELOAD=./shim.so FAIL_ALLOC=$n "$program" "$verb" "$policy" < "$script" > text || status=$?
     case $status in
-        0) done=$((done + 1)); cmp text whole ;;
+        "$ends") done=$((done + 1)); cmp text whole ;;
         8) short=$((short + 1)); head -c "$(wc -c < text)" whole | cmp - text ;;
         *) echo "allocation $n: status $status"; exit 1 ;;
     esac
     n=$((n + 1))
 done
-echo "$wanted allocations, each refused once: $short runs ended with 8 and a prefix of the text, $done with 0 and all of it"
+echo "$wanted allocations, each refused once: $short runs ended with 8 and a prefix of the text, $done with $ends and all of it"
 rm -r "$work"
