@@ -37,156 +37,152 @@ fn outcome(
     Ok((status, out.written().as_slice().to_vec(alloc)?))
 }
 
-/// Whether a command ends with this status and text, where nothing fails.
-fn ends(
-    alloc: Global,
-    verb: &str,
-    policy: &[u8],
-    script: &[u8],
+/// A command over a policy and a script, and how it is to end.
+#[derive(Clone, Copy)]
+struct Row<'a> {
+    verb: &'a str,
+    policy: &'a [u8],
+    script: &'a [u8],
     status: u8,
-    text: &[u8],
-) -> Result<bool, AllocError> {
-    let (ended, told) = outcome(alloc, verb, policy, script, Failing { shelf: 0, out: 0 })?;
-    Ok(ended == status && told.as_slice() == text)
+    text: &'a [u8],
+}
+
+/// Whether a command ends as it is to, where nothing fails.
+fn ends(alloc: Global, row: &Row<'_>) -> Result<bool, AllocError> {
+    let nothing = Failing { shelf: 0, out: 0 };
+    let (status, text) = outcome(alloc, row.verb, row.policy, row.script, nothing)?;
+    Ok(status == row.status && text.as_slice() == row.text)
+}
+
+/// The place of the first row that ends otherwise.
+fn first_wrong(alloc: Global, rows: &[Row<'_>]) -> Result<Option<usize>, AllocError> {
+    for (place, row) in rows.iter().enumerate() {
+        if !ends(alloc, row)? {
+            return Ok(Some(place));
+        }
+    }
+    Ok(None)
 }
 
 #[test]
 fn scripts_are_run(rt: HostRuntime) -> Result<(), Fail> {
-    let alloc = rt.alloc();
-    assert!(&rt;
-        ends(
-            alloc,
-            "run",
-            b"role a\nuser u\nrole b\nassigned u a\nenabled b\n",
-            b"@ 2026-01-05T08:00\nrequest 50:enable a\nrequest 50:disable b\n@ 2026-01-05T08:01\nstatus enabled a\nstatus enabled b\n",
-            0,
-            b"queued 2026-01-05T08:01\nqueued 2026-01-05T08:01\nyes\nno\n",
-        )?
-    );
-    assert!(&rt;
-        ends(
-            alloc,
-            "run",
-            b"role a\nadmin u\nuser u\n",
-            b"",
-            12,
-            b"unbuilt policy 2\n"
-        )?
-    );
-    assert!(&rt;
-        ends(
-            alloc,
-            "run",
-            b"role a\n",
-            b"@ 2026-01-05T08:00\nstatus enabled a\nnow\n",
-            12,
-            b"no\nunbuilt script 3\n",
-        )?
-    );
-    assert!(&rt;
-        ends(
-            alloc,
-            "run",
-            b"role a\n",
-            b"@ 2099-12-31T23:59\nrequest 1:enable a\n",
-            0,
-            b"refused beyond 52596000\n",
-        )?
-    );
-    assert!(&rt;
-        ends(
-            alloc,
-            "run",
-            b"role a\nadmin u\nuser u\nenabled b\n",
-            b"now\n",
-            2,
-            b"policy 4: unknown\n",
-        )?
-    );
+    let rows = [
+        Row {
+            verb: "run",
+            policy: b"role a\nuser u\nrole b\nassigned u a\nenabled b\n",
+            script: b"@ 2026-01-05T08:00\nrequest 50:enable a\nrequest 50:disable b\n@ 2026-01-05T08:01\nstatus enabled a\nstatus enabled b\n",
+            status: 0,
+            text: b"queued 2026-01-05T08:01\nqueued 2026-01-05T08:01\nyes\nno\n",
+        },
+        Row {
+            verb: "run",
+            policy: b"role a\nadmin u\nuser u\n",
+            script: b"",
+            status: 12,
+            text: b"unbuilt policy 2\n",
+        },
+        Row {
+            verb: "run",
+            policy: b"role a\n",
+            script: b"@ 2026-01-05T08:00\nstatus enabled a\nnow\n",
+            status: 12,
+            text: b"no\nunbuilt script 3\n",
+        },
+        Row {
+            verb: "run",
+            policy: b"role a\n",
+            script: b"@ 2099-12-31T23:59\nrequest 1:enable a\n",
+            status: 0,
+            text: b"refused beyond 52596000\n",
+        },
+        Row {
+            verb: "run",
+            policy: b"role a\nadmin u\nuser u\nenabled b\n",
+            script: b"now\n",
+            status: 2,
+            text: b"policy 4: unknown\n",
+        },
+        Row {
+            verb: "run",
+            policy: b"role a\nwhen disable a then 50:enable a\n",
+            script: b"now\n",
+            status: 3,
+            text: b"unsafe\nconflict 1.1 enable a > enable a\n",
+        },
+    ];
+    assert!(&rt; first_wrong(rt.alloc(), &rows)?.is_none());
     Ok(())
 }
 
 #[test]
 fn policies_are_laid_out(rt: HostRuntime) -> Result<(), Fail> {
-    let alloc = rt.alloc();
-    assert!(&rt;
-        ends(
-            alloc,
-            "fmt",
-            b"each p 7:enable b\nrole b\nperiod p * 2000-01-01T00:05 all.Days+{2,1,2}.Hours\n",
-            b"",
-            0,
-            b"policy 1\nrole b\nperiod p 2000-01-01T00:00 2000-01-01T00:05 all.Days + {1,2}.Hours > 1.Hours\neach p 7:enable b\n",
-        )?
-    );
-    assert!(&rt;
-        ends(
-            alloc,
-            "fmt",
-            b"role b\neach p 7:enable b after 3\n",
-            b"",
-            2,
-            b"policy 2: form\n",
-        )?
-    );
-    assert!(&rt;
-        ends(
-            alloc,
-            "fmt",
-            b"role a\nrole b\nedge i weak a b\nedge a weak b a\n",
-            b"",
-            2,
-            b"policy: cycle a>b>a\n",
-        )?
-    );
-    assert!(&rt;
-        ends(
-            alloc,
-            "fmt",
-            b"role a\nwhen disable a then 50:enable a after 0\n",
-            b"",
-            0,
-            b"policy 1\nrole a\nwhen disable a then 50:enable a\n",
-        )?
-    );
-    assert!(&rt; ends(alloc, "fmt", b"", b"", 0, b"policy 1\n")?);
+    let rows = [
+        Row {
+            verb: "fmt",
+            policy: b"each p 7:enable b\nrole b\nperiod p * 2000-01-01T00:05 all.Days+{2,1,2}.Hours\n",
+            script: b"",
+            status: 0,
+            text: b"policy 1\nrole b\nperiod p 2000-01-01T00:00 2000-01-01T00:05 all.Days + {1,2}.Hours > 1.Hours\neach p 7:enable b\n",
+        },
+        Row {
+            verb: "fmt",
+            policy: b"role b\neach p 7:enable b after 3\n",
+            script: b"",
+            status: 2,
+            text: b"policy 2: form\n",
+        },
+        Row {
+            verb: "fmt",
+            policy: b"role a\nrole b\nedge i weak a b\nedge a weak b a\n",
+            script: b"",
+            status: 2,
+            text: b"policy: cycle a>b>a\n",
+        },
+        Row {
+            verb: "fmt",
+            policy: b"role a\nwhen disable a then 50:enable a after 0\n",
+            script: b"",
+            status: 0,
+            text: b"policy 1\nrole a\nwhen disable a then 50:enable a\n",
+        },
+        Row {
+            verb: "fmt",
+            policy: b"",
+            script: b"",
+            status: 0,
+            text: b"policy 1\n",
+        },
+    ];
+    assert!(&rt; first_wrong(rt.alloc(), &rows)?.is_none());
     Ok(())
 }
 
 #[test]
 fn policies_are_checked(rt: HostRuntime) -> Result<(), Fail> {
-    let alloc = rt.alloc();
-    assert!(&rt;
-        ends(
-            alloc,
-            "check",
-            b"role a\nrole b\nwhen enable b then 50:enable a\nwhen enable a then 50:disable b\n",
-            b"",
-            3,
-            b"unsafe\nconflict 1.1 disable b > enable a\nplain 2.1 enable a > disable b\n",
-        )?
-    );
-    assert!(&rt;
-        ends(
-            alloc,
-            "check",
-            b"role a\nwhen disable a then 50:enable a\n",
-            b"",
-            3,
-            b"unsafe\nconflict 1.1 enable a > enable a\n",
-        )?
-    );
-    assert!(&rt;
-        ends(
-            alloc,
-            "check",
-            b"role a\nwhen disable a then 50:enable a after 1\n",
-            b"",
-            0,
-            b"safe\n",
-        )?
-    );
-    assert!(&rt; ends(alloc, "check", b"frob\n", b"", 2, b"policy 1: word\n")?);
+    let rows = [
+        Row {
+            verb: "check",
+            policy: b"role a\nrole b\nwhen enable b then 50:enable a\nwhen enable a then 50:disable b\n",
+            script: b"",
+            status: 3,
+            text: b"unsafe\nconflict 1.1 disable b > enable a\nplain 2.1 enable a > disable b\n",
+        },
+        Row {
+            verb: "check",
+            policy: b"role a\nwhen disable a then 50:enable a after 1\n",
+            script: b"",
+            status: 0,
+            text: b"safe\n",
+        },
+        Row {
+            verb: "check",
+            policy: b"frob\n",
+            script: b"",
+            status: 2,
+            text: b"policy 1: word\n",
+        },
+    ];
+    assert!(&rt; first_wrong(rt.alloc(), &rows)?.is_none());
     Ok(())
 }
 

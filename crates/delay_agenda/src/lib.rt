@@ -1,0 +1,14 @@
+//! Events that are due at later instants.
+#![tactic(auto)]
+
+mod agendas;
+mod laws;
+mod pairs;
+mod rows;
+
+pub use agendas::Agenda;
+pub use laws::agendas_are_sets;
+pub use pairs::Pending;
+
+#[cfg(test)]
+mod tests;
