@@ -1,8 +1,7 @@
 //! A book of one role, and what the operator may ask it.
 ghost use Rattle.std.specs.Prelude.{◌≡◌, ◌<◌, [], true, IfOk, IfSome};
 ghost use Rattle.gt_base.specs.declared.requests.Actor.TheVariants.{Operator};
-ghost use Rattle.core_machine.specs.Books.{IsEarlyFor};
-ghost use Rattle.core_machine.specs.Plain.{IsPlain};
+ghost use Rattle.core_machine.specs.Books.{IsNamedFor};
 ghost use Rattle.book_desk.specs.Requests.{first_role_status};
 
 use core_machine::{Book, Safe};
@@ -20,15 +19,11 @@ pub fn role_status() -> Request
     })
 }
 
-/// Whether a policy has a role, and no entry, limit or trigger.
-fn is_of_roles(policy: &Policy) -> bool
-    ensures plain { result ≡ true → IsPlain policy.now.policy }
+/// Whether a policy has a role.
+fn has_a_role(policy: &Policy) -> bool
     ensures role { result ≡ true → 0 < policy.now.policy.roles }
 {
     policy.role_count() > 0
-        && policy.entries().len() == 0
-        && policy.limits().len() == 0
-        && policy.triggers().len() == 0
 }
 
 /// The lines of a policy: one role.
@@ -41,14 +36,13 @@ fn one_role(alloc: Global, name: Name) -> Result<Parts, Memory> {
 
 /// A safe policy of one role.
 fn role_policy(alloc: Global) -> Option<Safe>
-    ensures plain { IfSome result (λ safe. IsPlain safe.policy) }
     ensures role { IfSome result (λ safe. 0 < safe.policy.roles) }
 {
     let name = Name::new(b"duty")?;
     let parts = one_role(alloc, name).ok()?;
     let policy = Policy::build(alloc, parts).ok()?;
     let safe = Safe::admit(alloc, policy).ok()?;
-    if is_of_roles(safe.policy()) {
+    if has_a_role(safe.policy()) {
         Some(safe)
     } else {
         None
@@ -58,7 +52,7 @@ fn role_policy(alloc: Global) -> Option<Safe>
 /// A book of one role, which is disabled at the birth.
 pub fn book_of_a_role(alloc: Global, birth: Instant) -> Result<Book, Memory>
     ensures empty { IfOk result (λ b. b.entries ≡ []) }
-    ensures early { IfOk result (λ b. IsEarlyFor b Operator first_role_status) }
+    ensures named { IfOk result (λ b. IsNamedFor b Operator first_role_status) }
 {
     let Some(safe) = role_policy(alloc) else {
         return Err(AllocError);

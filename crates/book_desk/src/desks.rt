@@ -2,7 +2,7 @@
 ghost use Rattle.std.specs.Prelude.{◌≡◌, ◌≤◌, [], None};
 ghost use Rattle.gt_base.specs.declared.requests.Actor.TheVariants.{Operator};
 ghost use Rattle.turn_lock.specs.Holders.{site_of};
-ghost use Rattle.core_machine.specs.Books.{IsEarlyFor};
+ghost use Rattle.core_machine.specs.Books.{IsNamedFor};
 ghost use Rattle.book_desk.specs.Requests.{first_role_status};
 
 use crate::books::role_status;
@@ -23,7 +23,7 @@ fn is_no(reply: &Reply) -> bool {
 /// Asks whether role 0 is enabled; the number of entries up to this ask where the reply is no, else none.
 pub fn hear_no<R: Wait>(rt: &R, desk: &Desk<Book>, pass: &mut Pass<Book>) -> Option<u64>
     requires pass { (pass.old.site ≡ site_of desk.now) × (pass.old.turn ≡ None) }
-    requires early { IsEarlyFor desk.now.root Operator first_role_status }
+    requires named { IsNamedFor desk.now.root Operator first_role_status }
     ensures pass { (pass.new.site ≡ pass.old.site) × (pass.new.turn ≡ None) × (pass.new.number ≡ pass.old.number) }
 {
     match desk.ask(rt, pass, 1, Actor::Operator, role_status()) {

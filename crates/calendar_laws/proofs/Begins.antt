@@ -4,21 +4,11 @@ use Rattle.std.proofs.lemmas.Bool.{false≢true, and_parts, and_from, eqb-true, 
 use Rattle.gtrbac_model.specs.declared.calendars.Calendar.{Calendar}
 use Rattle.gtrbac_model.specs.Calendar.{first_minute, interval_of, number_within}
 use Rattle.gtrbac_model.specs.Period.{Part, Expr, picks, begins, IsNumber, LeadsTo, BeginBy, Begin, selects, begins_by}
-use Rattle.calendar_laws.specs.Valid.{is_set, is_same, is_below, goes_down, from_all, is_expr}
-use Rattle.calendar_laws.specs.Selects.{last_of, last_by, last_calendar}
-use Rattle.calendar_laws.proofs.Covers.{only, at_first, before_first, not_falling, rising}
+use Rattle.gtrbac_model.specs.Valid.{is_set, is_same, is_below, goes_down, from_all, is_expr}
+use Rattle.gtrbac_model.specs.Selects.{last_of, last_by, last_calendar}
+use Rattle.gtrbac_model.proofs.Covers.{only, at_first, before_first, not_falling, rising}
+use Rattle.gtrbac_model.proofs.Downward.{Lower, lower, goes_to_unit}
 use Rattle.calendar_laws.proofs.Nested.{nested, is_number, aligned_unit}
-
-pub record Lower (above : Calendar) (p : Part) (ps : List Part) (unit : Calendar) : Type 0 where
-  pub set : is_set p.set ≡ true
-  pub below : is_below above p.calendar ≡ true
-  pub more : goes_down p.calendar ps unit ≡ true
-
-pub lower : (above : Calendar) (p : Part) (ps : List Part) (unit : Calendar) → goes_down above (p ∷ ps) unit ≡ true → Lower above p ps unit
-lower above p ps unit h =
-    let a = and_parts (is_set p.set && is_below above p.calendar) (goes_down p.calendar ps unit) h in
-    let b = and_parts (is_set p.set) (is_below above p.calendar) a.0 in
-    record { set = b.0; below = b.1; more = a.1 }
 
 leads : (c : Calendar) (ps : List Part) (unit : Calendar) (m : ℕ) → goes_down c ps unit ≡ true → 2880 ≤ m → selects c ps m ≡ true → LeadsTo c (interval_of c m) ps m
 leads c [] unit m h late s = eqb-true (first_minute c (interval_of c m)) m s
@@ -105,10 +95,6 @@ pub begins_at_firsts : (e : Expr) (m : ℕ) → begins e m ≡ true → first_mi
 begins_at_firsts e m b = at_last_by e.parts m b
 
 -- the unit of the length is the last calendar or stands below it
-pub goes_to_unit : (c : Calendar) (ps : List Part) (u : Calendar) → goes_down c ps u ≡ true → (is_same (last_of c ps) u || is_below (last_of c ps) u) ≡ true
-goes_to_unit c [] u h = h
-goes_to_unit c (p ∷ ps) u h = goes_to_unit p.calendar ps u (lower c p ps u h).more
-
 unit_of : (ps : List Part) (u : Calendar) → from_all ps u ≡ true → (is_same (last_by ps) u || is_below (last_by ps) u) ≡ true
 unit_of [] u h = absurd (false≢true h)
 unit_of (p ∷ ps) u h = goes_to_unit p.calendar ps u (and_parts (not (is_some p.set)) (goes_down p.calendar ps u) h).1

@@ -5,9 +5,9 @@ use Rattle.gtrbac_model.specs.declared.calendars.Calendar.{Calendar}
 use Rattle.gtrbac_model.specs.declared.calendars.Calendar.TheVariants.{Years, Months, Weeks, Days, Hours, Minutes}
 use Rattle.gtrbac_model.specs.Calendar.{minute_of, first_minute, interval_of}
 use Rattle.gtrbac_model.specs.Period.{Expr, Period, begins, begun_within, in_bounds, starts, inside, Begin, End, In}
-use Rattle.calendar_laws.specs.Valid.{is_expr}
+use Rattle.gtrbac_model.specs.Valid.{is_expr}
 use Rattle.calendar_laws.specs.Meanings.{Start}
-use Rattle.calendar_laws.proofs.Covers.{begun, goes_on, before_first, one_first, not_falling}
+use Rattle.gtrbac_model.proofs.Covers.{begun, goes_on, before_first, one_first, not_falling}
 use Rattle.calendar_laws.proofs.Begins.{valid, begins_means, begin_counts}
 
 -- one of the n intervals up to number k begins where the expression does

@@ -5,9 +5,10 @@ use Rattle.gtrbac_model.specs.declared.calendars.Calendar.{Calendar}
 use Rattle.gtrbac_model.specs.declared.calendars.Calendar.TheVariants.{Years, Months, Weeks, Days, Hours, Minutes}
 use Rattle.gtrbac_model.specs.Calendar.{day_of_year, day_of_month, first_minute, interval_of, number_within}
 use Rattle.gtrbac_model.specs.Period.{IsNumber}
-use Rattle.calendar_laws.specs.Valid.{is_below, is_same}
-use Rattle.calendar_laws.proofs.Months.{january}
-use Rattle.calendar_laws.proofs.Covers.{begun, goes_on, at_first, before_first}
+use Rattle.gtrbac_model.specs.Valid.{is_below, is_same}
+use Rattle.gtrbac_model.proofs.Months.{january}
+use Rattle.gtrbac_model.proofs.Downward.{same_unit}
+use Rattle.gtrbac_model.proofs.Covers.{begun, goes_on, at_first, before_first}
 
 -- each interval of the higher calendar begins with one of the lower
 pub nested : (o i : Calendar) (k : ℕ) → is_below o i ≡ true → (j : ℕ) × (first_minute i j ≡ first_minute o k)
@@ -40,15 +41,6 @@ is_number o i m h late =
     let high = goes_on i m in
     let le : from < interval_of i m + 1 = before_first i from (interval_of i m + 1) (omega arith) in
     record { first = from; aligned = e; counted = omega arith; positive = omega arith; below = omega (arith, begun i m late, goes_on o m) }
-
-pub same_unit : (c u : Calendar) → is_same c u ≡ true → c ≡ u
-same_unit Years Years h = refl
-same_unit Months Months h = refl
-same_unit Weeks Weeks h = refl
-same_unit Days Days h = refl
-same_unit Hours Hours h = refl
-same_unit Minutes Minutes h = refl
-same_unit _ _ h = absurd (false≢true h)
 
 -- and so with the same calendar
 pub aligned_unit : (c u : Calendar) (k : ℕ) → (is_same c u || is_below c u) ≡ true → first_minute u (interval_of u (first_minute c k)) ≡ first_minute c k

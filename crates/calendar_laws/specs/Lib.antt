@@ -1,4 +1,2 @@
 pub mod Intervals
-pub mod Valid
-pub mod Selects
 pub mod Meanings

@@ -3,8 +3,8 @@ use Rattle.std.specs.Prelude.{◌≡◌, ◌↔◌, ℕ, ◌+◌, ◌*◌, ◌/�
 use Rattle.gtrbac_model.specs.Calendar.{minute_of, day_of, first_minute, interval_of, day_of_year}
 use Rattle.gtrbac_model.specs.Calendar.{day_of_month}
 use Rattle.gtrbac_model.specs.Period.{Expr, Period, begins, starts, inside, in_bounds, Begin, End, In}
-use Rattle.calendar_laws.specs.Valid.{is_expr}
-use Rattle.calendar_laws.specs.Selects.{last_calendar}
+use Rattle.gtrbac_model.specs.Valid.{is_expr}
+use Rattle.gtrbac_model.specs.Selects.{last_calendar}
 
 -- the instant is within the bounds, and the expression begins at its minute
 abbrev pub Start : Period → ℕ → Type 0

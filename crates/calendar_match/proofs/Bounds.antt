@@ -4,9 +4,9 @@ use Rattle.std.proofs.lemmas.Bool.{cases_lt}
 use Rattle.gtrbac_model.specs.declared.calendars.Calendar.{Calendar}
 use Rattle.gtrbac_model.specs.declared.calendars.Calendar.TheVariants.{Years, Months, Weeks, Days, Hours, Minutes}
 use Rattle.gtrbac_model.specs.Calendar.{first_minute, interval_of}
-use Rattle.calendar_laws.proofs.Years.{year_bounds}
-use Rattle.calendar_laws.proofs.Months.{month_bounds}
-use Rattle.calendar_laws.proofs.Covers.{begun_if, covered_after, goes_on, not_falling}
+use Rattle.gtrbac_model.proofs.Years.{year_bounds}
+use Rattle.gtrbac_model.proofs.Months.{month_bounds}
+use Rattle.gtrbac_model.proofs.Covers.{begun_if, covered_after, goes_on, not_falling}
 
 pub starts_in : (c : Calendar) (m : ℕ) → m < 2_147_483_648 → first_minute c (interval_of c m) < 2_147_483_648
 starts_in Years m h = omega (arith, begun_if Years m tt)

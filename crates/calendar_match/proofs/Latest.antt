@@ -1,79 +1,127 @@
--- The search back finds whether the period is inside.
-use Rattle.std.proofs.Common.{◌≡◌, ℕ, ◌+◌, ◌-◌, ◌<◌, ◌≤◌, Bool, true, false, arith, ap, sym, ◌∙◌, inl, inr}
-use Rattle.std.proofs.lemmas.Bool.{false_from_ne_true, false≢true, cases_lt, cases_eq}
-use Rattle.gtrbac_model.specs.Calendar.{minute_of, first_minute, interval_of}
-use Rattle.gtrbac_model.specs.Period.{Expr, begins, begun_within}
-use Rattle.calendar_laws.specs.Valid.{is_expr}
-use Rattle.calendar_laws.specs.Selects.{last_calendar}
-use Rattle.calendar_laws.proofs.Covers.{begun, at_first, not_falling, before_first}
+-- What the searches for begins have seen, and what the last begin covers.
+use Rattle.std.proofs.Common.{◌≡◌, ℕ, ◌+◌, ◌-◌, ◌<◌, ◌≤◌, Bool, true, false, not, ◌&&◌, ◌||◌, nat_eq, nat_le, List, [], ◌∷◌, Option, Some, None, is_some, refl, arith, ap, sym, ◌∙◌, inl, inr}
+use Rattle.std.specs.List.{list_any}
+use Rattle.std.proofs.lemmas.Bool.{false_from_ne_true, false≢true, cases_lt, and_parts, and_cases, and_left, and_right, or_parts, or_from, ne_eqb, eq-eqb, leb-true, leb-false}
+use Rattle.gtrbac_model.specs.declared.calendars.Calendar.{Calendar}
+use Rattle.gtrbac_model.specs.declared.calendars.Calendar.TheVariants.{Years, Months, Weeks, Days, Hours, Minutes}
+use Rattle.gtrbac_model.specs.Calendar.{minute_of, first_minute, interval_of, number_within}
+use Rattle.gtrbac_model.specs.Period.{Part, Expr, picks, selects, begins_by, begins, begun_within}
+use Rattle.gtrbac_model.specs.Valid.{is_same, is_below, goes_down, from_all, is_expr}
+use Rattle.gtrbac_model.specs.Selects.{last_of, last_by, last_calendar}
+use Rattle.gtrbac_model.proofs.Covers.{begun, goes_on, at_first, rising, not_falling, before_first}
 use Rattle.calendar_laws.proofs.Begins.{valid, begins_at_firsts, unit_aligned}
-use Rattle.calendar_laws.proofs.Insides.{found, finds, late, thousand}
-use Rattle.calendar_match.specs.Reach.{start_of, HasReach, EndsBefore, IsReached, HasNoBegin, HasNoFurther}
-use Rattle.calendar_match.proofs.Bounds.{interval_not_falling, number_low, starts_in}
+use Rattle.calendar_laws.proofs.Insides.{found, finds, late, thousand, early}
+use Rattle.gtrbac_model.proofs.Downward.{goes_to_unit, lower}
+use Rattle.calendar_match.specs.Reach.{unit_first, IsFirstBegin, IsLastBegin, HasNoBegin, IsCovered}
+use Rattle.calendar_match.specs.Steps.{IsAhead, IsBehind, most_in, has_upto, can_select, can_begin_by, can_begin, take_all, fills}
+use Rattle.calendar_match.proofs.Bounds.{interval_not_falling, number_low}
+use Rattle.calendar_match.proofs.Spans.{number_most, number_most_unit}
 
--- an interval that begins too early ends the search back
-pub early_ends : (e : Expr) (low from k : ℕ) → 0 < low → interval_of e.unit (start_of e (low - 1)) + e.count ≤ k → EndsBefore e low from k → EndsBefore e 0 from k
-early_ends e low from k some h later j zero high b =
-    elim (cases_lt j low) [
-      | inl lt ↦ omega (arith, interval_not_falling e.unit (start_of e j) (start_of e (low - 1)) (not_falling (last_calendar e) j (low - 1) (omega arith)))
-      | inr ge ↦ later j ge high b
+-- the searches
+
+pub search_more : (e : Expr) (from m r : ℕ) → HasNoBegin e from m → IsAhead (begins e) m r → HasNoBegin e from r
+search_more e from m r seen a u low lt =
+    elim (cases_lt u m) [ inl before ↦ seen u low before | inr ge ↦ a.passed u ge lt ]
+
+pub search_less : (e : Expr) (m r end : ℕ) → HasNoBegin e (m + 1) end → IsBehind (begins e) m r → HasNoBegin e (r + 1) end
+search_less e m r end seen a u low lt =
+    elim (cases_lt m u) [ inl after ↦ seen u (omega arith) lt | inr le ↦ a.passed u (omega arith) le ]
+
+-- a set without numbers up to n picks none of them
+has_none : (most n : ℕ) (ns : List ℕ) → n ≤ most → list_any (λ m. nat_le m most) ns ≡ false → picks (Some ns) n ≡ false
+has_none most n [] le h = refl
+has_none most n (m ∷ ms) le h =
+    let b = or_parts (nat_le m most) (list_any (λ x. nat_le x most) ms) h in
+    let gt = leb-false m most b.0 in
+    or_from (nat_eq n m) (list_any (nat_eq n) ms) (ne_eqb n m (λ e. omega arith)) (has_none most n ms le b.1)
+
+picks_none : (most n : ℕ) (set : Option (List ℕ)) → n ≤ most → has_upto most set ≡ false → picks set n ≡ false
+picks_none most n None le h = absurd (false≢true (sym h))
+picks_none most n (Some ns) le h = has_none most n ns le h
+
+selects_none : (c : Calendar) (ps : List Part) (u : Calendar) (m : ℕ) → goes_down c ps u ≡ true → 2880 ≤ m → can_select c ps ≡ false → selects c ps m ≡ false
+selects_none c [] u m h low none = absurd (false≢true (sym none))
+selects_none c (p ∷ ps) u m h low none =
+    let d = lower c p ps u h in
+    let n = number_within c p.calendar m in
+    elim (and_cases (has_upto (most_in c p.calendar) p.set) (can_select p.calendar ps) none) [
+      | inl a ↦ and_left (picks p.set n) (selects p.calendar ps m) (picks_none (most_in c p.calendar) n p.set (number_most c p.calendar m d.below low) a)
+      | inr b ↦ and_right (picks p.set n) (selects p.calendar ps m) (selects_none p.calendar ps u m d.more low b)
     ]
 
--- one more interval that is no begin
-pub one_less : (e : Expr) (low from k : ℕ) → 0 < low → begins e (start_of e (low - 1)) ≡ false → EndsBefore e low from k → EndsBefore e (low - 1) from k
-one_less e low from k some none later j before high b =
-    elim (cases_eq (low - 1) j) [
-      | inl same ↦ absurd (false≢true (sym none ∙ ap (λ x. begins e (start_of e x)) same ∙ b))
-      | inr ne ↦ later j (omega arith) high b
-    ]
+begins_none_by : (ps : List Part) (u : Calendar) (m : ℕ) → from_all ps u ≡ true → 2880 ≤ m → can_begin_by ps ≡ false → begins_by ps m ≡ false
+begins_none_by [] u m h low none = refl
+begins_none_by (p ∷ ps) u m h low none =
+    selects_none p.calendar ps u m (and_parts (not (is_some p.set)) (goes_down p.calendar ps u) h).1 low none
 
--- the same for the search forward
-pub one_more : (e : Expr) (from i : ℕ) → begins e (start_of e i) ≡ false → HasNoBegin e from i → HasNoBegin e from (i + 1)
-one_more e from i none before j low high =
-    elim (cases_eq i j) [
-      | inl same ↦ ap (λ x. begins e (start_of e x)) (sym same) ∙ none
-      | inr ne ↦ before j low (omega arith)
-    ]
+-- where no set has a number that can come, nothing begins
+pub begins_none : (e : Expr) (from end : ℕ) → is_expr e ≡ true → 2880 ≤ from → can_begin e ≡ false → HasNoBegin e from end
+begins_none e from end h low none u le lt = begins_none_by e.parts e.unit u (valid e h).parts (omega arith) none
 
-pub no_further : (e : Expr) (from i upto : ℕ) → upto < start_of e i → HasNoBegin e from i → HasNoFurther e from upto
-no_further e from i upto late before j low within =
-    before j low (before_first (last_calendar e) j i (omega arith))
+-- what a begin covers
 
-pub number_start : (e : Expr) (i : ℕ) → i ≤ start_of e i
-number_start e i = number_low (last_calendar e) i
+-- the unit that begins with a begin
+pub unit_begin : (e : Expr) (m : ℕ) → is_expr e ≡ true → begins e m ≡ true → first_minute e.unit (interval_of e.unit m) ≡ m
+unit_begin e m h b =
+    let i = interval_of (last_calendar e) m in
+    let is = begins_at_firsts e m b in
+    ap (λ x. first_minute e.unit (interval_of e.unit x)) (sym is) ∙ unit_aligned e i h ∙ is
 
-yes : (e : Expr) (m : ℕ) → is_expr e ≡ true → 2880 ≤ m → HasReach e (interval_of (last_calendar e) m) (interval_of e.unit m) → begun_within e e.count (interval_of e.unit m) ≡ true
-yes e m h low r =
-    let k = interval_of e.unit m in
-    let s = start_of e r.at in
-    let j = interval_of e.unit s in
-    let before : s ≤ m = omega (arith, not_falling (last_calendar e) r.at (interval_of (last_calendar e) m) r.low, begun (last_calendar e) m low) in
-    finds e e.count k j (interval_not_falling e.unit s m before) r.reach (ap (begins e) (unit_aligned e r.at h) ∙ r.begin)
+pub covered : (e : Expr) (k m : ℕ) → is_expr e ≡ true → IsLastBegin e (unit_first e (k + 1 - e.count)) (unit_first e k) m → IsCovered e k (interval_of e.unit m + e.count)
+covered e k m h f =
+    let at = interval_of e.unit m in
+    let most = (valid e h).most in
+    let here = unit_begin e m h f.begin in
+    let high : at < k + 1 = before_first e.unit at (k + 1) (omega (arith, here, f.within, rising e.unit k (k + 1) (omega arith))) in
+    let low : k + 1 - e.count < at + 1 = before_first e.unit (k + 1 - e.count) (at + 1) (omega (arith, here, f.low, goes_on e.unit m)) in
+    record {
+      later = omega arith;
+      near = omega arith;
+      within = λ j le lt. finds e e.count j at (omega arith) lt (ap (begins e) here ∙ f.begin);
+    }
 
-no : (e : Expr) (m : ℕ) → e.count ≤ interval_of e.unit m → 2880 ≤ m → EndsBefore e 0 (interval_of (last_calendar e) m) (interval_of e.unit m) → begun_within e e.count (interval_of e.unit m) ≡ true → ⊥
-no e m count low ends w =
-    let k = interval_of e.unit m in
-    let f = found e e.count k count w in
-    let s = first_minute e.unit f.at in
-    let i = interval_of (last_calendar e) s in
-    let here : start_of e i ≡ s = begins_at_firsts e s f.begin in
-    let before : s ≤ m = omega (arith, not_falling e.unit f.at k f.high, begun e.unit m low) in
-    let reached = ends i (omega arith) (interval_not_falling (last_calendar e) s m before) (ap (begins e) here ∙ f.begin) in
-    let unit : interval_of e.unit (start_of e i) ≡ f.at = ap (interval_of e.unit) here ∙ at_first e.unit f.at in
-    let reach = f.low in
+pub uncovered : (e : Expr) (k : ℕ) → e.count ≤ k → HasNoBegin e (unit_first e (k + 1 - e.count)) (unit_first e k + 1) → begun_within e e.count k ≡ false
+uncovered e k most none =
+    false_from_ne_true (begun_within e e.count k) (λ w.
+    let f = found e e.count k most w in
+    let low = f.low in
+    let high = f.high in
+    false≢true (sym (none (first_minute e.unit f.at) (not_falling e.unit (k + 1 - e.count) f.at (omega arith)) (omega (arith, not_falling e.unit f.at k high))) ∙ f.begin))
+
+-- an interval that lasts beyond instant 0 is late enough
+
+early_first : (c : Calendar) → first_minute c (early c) ≤ 1_051_898_400
+early_first Years = omega arith
+early_first Months = omega arith
+early_first Weeks = omega arith
+early_first Days = omega arith
+early_first Hours = omega arith
+early_first Minutes = omega arith
+
+pub early_enough : (c : Calendar) → 2880 ≤ first_minute c (early c - 1000)
+early_enough Years = omega arith
+early_enough Months = omega arith
+early_enough Weeks = omega arith
+early_enough Days = omega arith
+early_enough Hours = omega arith
+early_enough Minutes = omega arith
+
+late_unit : (c : Calendar) (k : ℕ) → 1_051_898_400 < first_minute c (k + 1) → early c ≤ k
+late_unit c k h =
+    let lt : early c < k + 1 = before_first c (early c) (k + 1) (omega (arith, early_first c)) in
     omega arith
 
-pub count_low : (e : Expr) (t : ℕ) → is_expr e ≡ true → e.count ≤ interval_of e.unit (minute_of t)
-count_low e t h =
+pub count_low : (e : Expr) (k : ℕ) → is_expr e ≡ true → 1_051_898_400 < unit_first e (k + 1) → e.count ≤ k
+count_low e k h late =
     let most = (valid e h).most in
-    omega (arith, late e.unit t, thousand e.unit)
+    omega (arith, late_unit e.unit k late, thousand e.unit)
 
-pub reached_is : (e : Expr) (t : ℕ) (r : Bool) → is_expr e ≡ true → IsReached e (interval_of (last_calendar e) (minute_of t)) (interval_of e.unit (minute_of t)) r → r ≡ begun_within e e.count (interval_of e.unit (minute_of t))
-reached_is e t true h reach = sym (yes e (minute_of t) h (omega arith) reach)
-reached_is e t false h ends = sym (false_from_ne_true (begun_within e e.count (interval_of e.unit (minute_of t))) (no e (minute_of t) (count_low e t h) (omega arith) ends))
+pub count_late : (e : Expr) (k : ℕ) → is_expr e ≡ true → 1_051_898_400 < unit_first e (k + 1) → 2880 ≤ unit_first e (k + 1 - e.count)
+count_late e k h late =
+    let most = (valid e h).most in
+    let low = late_unit e.unit k late in
+    let base = thousand e.unit in
+    omega (arith, early_enough e.unit, not_falling e.unit (early e.unit - 1000) (k + 1 - e.count) (omega arith))
 
-pub start_in : (e : Expr) (i from : ℕ) → i ≤ from → start_of e from < 2_147_483_648 → start_of e i < 2_147_483_648
-start_in e i from h b = omega (arith, not_falling (last_calendar e) i from h)
-
-pub last_start_in : (e : Expr) (m : ℕ) → m < 2_147_483_648 → start_of e (interval_of (last_calendar e) m) < 2_147_483_648
-last_start_in e m h = starts_in (last_calendar e) m h
+pub unit_low : (e : Expr) (k : ℕ) → k ≤ unit_first e k
+unit_low e k = number_low e.unit k

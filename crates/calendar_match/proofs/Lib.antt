@@ -1,4 +1,10 @@
 pub mod Bounds
+pub mod Numbers
+pub mod Passing
+pub mod Spans
+pub mod Sets
 pub mod Latest
+pub mod Filled
 pub mod Moves
+pub mod Weeks
 pub mod Edges

@@ -1,18 +1,17 @@
 -- How starts and insides follow one another.
 use Rattle.std.proofs.Common.{◌≡◌, ℕ, zero, suc, ◌+◌, ◌-◌, ◌<◌, ◌≤◌, Bool, true, false, not, ◌&&◌, nat_le, arith, ap, sym, ◌∙◌, inl, inr, max, Option, Some, None, IfSome, IfNone}
-use Rattle.std.proofs.lemmas.Bool.{false≢true, and_parts, and_from, leb-true, le-leb, cases_lt, false_from_ne_true}
+use Rattle.std.proofs.lemmas.Bool.{false≢true, and_parts, and_from, and_right, leb-true, le-leb, cases_lt, false_from_ne_true}
 use Rattle.gt_base.specs.Bounds.{last_minute}
 use Rattle.gtrbac_model.specs.Calendar.{minute_of, first_minute, interval_of}
 use Rattle.gtrbac_model.specs.Period.{Expr, Period, begins, begun_within, in_bounds, starts, inside}
-use Rattle.calendar_laws.specs.Valid.{is_expr}
-use Rattle.calendar_laws.specs.Selects.{last_calendar}
-use Rattle.calendar_laws.proofs.Covers.{begun, goes_on, only, at_first, not_falling, before_first}
-use Rattle.calendar_laws.proofs.Begins.{valid, begins_at_firsts, unit_aligned}
+use Rattle.gtrbac_model.specs.Valid.{is_expr}
+use Rattle.gtrbac_model.proofs.Covers.{begun, goes_on, only, at_first, not_falling, before_first}
+use Rattle.calendar_laws.proofs.Begins.{valid}
 use Rattle.calendar_laws.proofs.Insides.{found, finds}
-use Rattle.calendar_match.specs.Reach.{start_of, unit_first, IsFirstBegin, HasNoFurther}
-use Rattle.calendar_match.specs.Next.{IsLeast, IsNever, outside, StaysIn}
-use Rattle.calendar_match.proofs.Bounds.{interval_not_falling, number_low}
-use Rattle.calendar_match.proofs.Latest.{count_low}
+use Rattle.calendar_match.specs.Reach.{unit_first, IsFirstBegin, HasNoBegin, IsCovered}
+use Rattle.calendar_match.specs.Next.{IsLeast, IsNever, outside, StaysIn, StaysAll}
+use Rattle.calendar_match.proofs.Bounds.{interval_not_falling}
+use Rattle.calendar_match.proofs.Latest.{count_low, unit_begin}
 
 -- within the bounds, and a begin
 
@@ -33,66 +32,44 @@ bounded p t low high = and_from (nat_le p.first t) (nat_le t p.last) (le-leb p.f
 begin_starts : (p : Period) (t : ℕ) → p.first ≤ t → t ≤ p.last → begins p.expr (minute_of t) ≡ true → starts p t ≡ true
 begin_starts p t low high b = and_from (in_bounds p t) (begins p.expr (minute_of t)) (bounded p t low high) b
 
--- the begins from an instant on lie at the intervals from this number on
-from_number : (e : Expr) (start u : ℕ) → start ≤ u → begins e (minute_of u) ≡ true → interval_of (last_calendar e) (minute_of start - 1) + 1 ≤ interval_of (last_calendar e) (minute_of u)
-from_number e start u h b =
-    let last = last_calendar e in
-    let i = interval_of last (minute_of start - 1) in
-    let y = interval_of last (minute_of u) in
-    let lt : i < y = before_first last i y (omega (arith, begins_at_firsts e (minute_of u) b, begun last (minute_of start - 1) (omega arith))) in
-    omega arith
-
-no_start : (p : Period) (u : ℕ) → begins p.expr (start_of p.expr (interval_of (last_calendar p.expr) (minute_of u))) ≡ false → starts p u ≡ true → ⊥
-no_start p u none s =
-    let b = (started p u s).begin in
-    false≢true (sym none ∙ ap (begins p.expr) (begins_at_firsts p.expr (minute_of u) b) ∙ b)
-
-pub start_found : (p : Period) (from start m t : ℕ) → start ≡ max from p.first → IsFirstBegin p.expr (interval_of (last_calendar p.expr) (minute_of start - 1) + 1) (minute_of p.last) m → minute_of t ≡ m → IsLeast (starts p) from t
+pub start_found : (p : Period) (from start m t : ℕ) → start ≡ max from p.first → IsFirstBegin p.expr (minute_of start) (minute_of p.last) m → minute_of t ≡ m → IsLeast (starts p) from t
 start_found p from start m t e f here =
-    let last = last_calendar p.expr in
-    let i = interval_of last (minute_of start - 1) + 1 in
-    let at = f.starts in
+    let low = f.low in
     let within = f.within in
-    let late : minute_of start ≤ minute_of t = omega (arith, goes_on last (minute_of start - 1), not_falling last i f.at f.low) in
     record {
       later = omega arith;
       passes = begin_starts p t (omega arith) (omega arith) (ap (begins p.expr) here ∙ f.begin);
-      least = λ u low lt. false_from_ne_true (starts p u) (λ s.
+      least = λ u le lt. false_from_ne_true (starts p u) (λ s.
           let v = started p u s in
           let first = v.low in
-          let y = interval_of last (minute_of u) in
-          let is : start_of p.expr y ≡ minute_of u = begins_at_firsts p.expr (minute_of u) v.begin in
-          let before : y < f.at = before_first last y f.at (omega arith) in
-          no_start p u (f.before y (from_number p.expr start u (omega arith) v.begin) before) s);
+          false≢true (sym (f.before (minute_of u) (omega arith) (omega arith)) ∙ v.begin));
     }
 
-pub start_missing : (p : Period) (from start : ℕ) → start ≡ max from p.first → HasNoFurther p.expr (interval_of (last_calendar p.expr) (minute_of start - 1) + 1) (minute_of p.last) → IsNever (starts p) from
-start_missing p from start e f u low high =
+pub start_missing : (p : Period) (from start : ℕ) → start ≡ max from p.first → HasNoBegin p.expr (minute_of start) (minute_of p.last + 1) → IsNever (starts p) from
+start_missing p from start e none u low high =
     false_from_ne_true (starts p u) (λ s.
     let v = started p u s in
     let first = v.low in
     let end = v.high in
-    let y = interval_of (last_calendar p.expr) (minute_of u) in
-    let is : start_of p.expr y ≡ minute_of u = begins_at_firsts p.expr (minute_of u) v.begin in
-    no_start p u (f y (from_number p.expr start u (omega arith) v.begin) (omega arith)) s)
+    false≢true (sym (none (minute_of u) (omega arith) (omega arith)) ∙ v.begin))
 
 -- within the bounds, and within the length of a begin
 
-abbrev lasts : Period → ℕ → Bool
+abbrev pub lasts : Period → ℕ → Bool
 lasts p t = begun_within p.expr p.expr.count (interval_of p.expr.unit (minute_of t))
 
-record Within (p : Period) (t : ℕ) : Type 0 where
-  low : p.first ≤ t
-  high : t ≤ p.last
-  last : lasts p t ≡ true
+pub record Within (p : Period) (t : ℕ) : Type 0 where
+  pub low : p.first ≤ t
+  pub high : t ≤ p.last
+  pub last : lasts p t ≡ true
 
-within : (p : Period) (t : ℕ) → inside p t ≡ true → Within p t
+pub within : (p : Period) (t : ℕ) → inside p t ≡ true → Within p t
 within p t h =
     let a = and_parts (nat_le p.first t && nat_le t p.last) (lasts p t) h in
     let b = and_parts (nat_le p.first t) (nat_le t p.last) a.0 in
     record { low = leb-true p.first t b.0; high = leb-true t p.last b.1; last = a.1 }
 
-is_in : (p : Period) (t : ℕ) → p.first ≤ t → t ≤ p.last → lasts p t ≡ true → inside p t ≡ true
+pub is_in : (p : Period) (t : ℕ) → p.first ≤ t → t ≤ p.last → lasts p t ≡ true → inside p t ≡ true
 is_in p t low high b = and_from (in_bounds p t) (lasts p t) (bounded p t low high) b
 
 pub before_bounds : (p : Period) (t : ℕ) → t < p.first → inside p t ≡ false
@@ -107,11 +84,8 @@ start_inside p t h s =
     let e = p.expr in
     let v = started p t s in
     let k = interval_of e.unit (minute_of t) in
-    let i = interval_of (last_calendar e) (minute_of t) in
-    let is = begins_at_firsts e (minute_of t) v.begin in
-    let unit : first_minute e.unit k ≡ minute_of t = ap (λ m. first_minute e.unit (interval_of e.unit m)) (sym is) ∙ unit_aligned e i h ∙ is in
     let some = (valid e h).least in
-    is_in p t v.low v.high (finds e e.count k k (omega arith) (omega arith) (ap (begins e) unit ∙ v.begin))
+    is_in p t v.low v.high (finds e e.count k k (omega arith) (omega arith) (ap (begins e) (unit_begin e (minute_of t) h v.begin) ∙ v.begin))
 
 -- where being inside begins within the bounds, the period starts
 rises : (p : Period) (t : ℕ) → is_expr p.expr ≡ true → p.first ≤ t → inside p t ≡ false → inside p (t + 1) ≡ true → starts p (t + 1) ≡ true
@@ -122,7 +96,7 @@ rises p t h low none some =
     let high = w.high in
     let k = interval_of u (minute_of t) in
     let j = interval_of u (minute_of (t + 1)) in
-    let f = found e e.count j (count_low e (t + 1) h) w.last in
+    let f = found e e.count j (count_low e j h (omega (arith, goes_on u (minute_of (t + 1))))) w.last in
     let f_low = f.low in
     let f_high = f.high in
     let kj : k ≤ j = interval_not_falling u (minute_of t) (minute_of (t + 1)) (omega arith) in
@@ -188,38 +162,42 @@ same_unit p t u i le high h =
 pub stays_first : (p : Period) (after : ℕ) → inside p after ≡ true → StaysIn p after (interval_of p.expr.unit (minute_of after) + 1)
 stays_first p after i u low high h = same_unit p after u i low high h
 
-pub stays_more : (p : Period) (after k t : ℕ) → unit_first p.expr k ≡ minute_of t → inside p t ≡ true → StaysIn p after k → StaysIn p after (k + 1)
-stays_more p after k t here i stays u low high h =
-    let k_is : interval_of p.expr.unit (minute_of t) ≡ k = ap (interval_of p.expr.unit) (sym here) ∙ at_first p.expr.unit k in
+pub stays_to : (p : Period) (after k j : ℕ) → inside p after ≡ true → IsCovered p.expr k j → StaysIn p after k → StaysIn p after j
+stays_to p after k j i c stays u low high h =
+    let first = (within p after i).low in
+    let unit = p.expr.unit in
+    let i = interval_of unit (minute_of u) in
     elim (cases_lt (minute_of u) (unit_first p.expr k)) [
       | inl early ↦ stays u low high early
-      | inr ge ↦ same_unit p t u i (omega arith) high (rw k_is h)
+      | inr ge ↦
+          (let from : k < i + 1 = before_first unit k (i + 1) (omega (arith, goes_on unit (minute_of u))) in
+          let to : i < j = before_first unit i j (omega (arith, begun unit (minute_of u) (omega arith))) in
+          is_in p u (omega arith) high (c.within i (omega arith) to))
     ]
 
-pub out_found : (p : Period) (after k t : ℕ) → unit_first p.expr k ≡ minute_of t → interval_of p.expr.unit (minute_of after) < k → t ≤ p.last → inside p t ≡ false → StaysIn p after k → IsLeast (outside p) (after + 1) t
-out_found p after k t here later high out stays =
+pub out_found : (p : Period) (after k t : ℕ) → unit_first p.expr k ≡ minute_of t → interval_of p.expr.unit (minute_of after) < k → begun_within p.expr p.expr.count k ≡ false → StaysIn p after k → t ≤ p.last → IsLeast (outside p) (after + 1) t
+out_found p after k t here later none stays high =
     let unit = p.expr.unit in
     let lt : minute_of after < minute_of t = omega (arith, goes_on unit (minute_of after), not_falling unit (interval_of unit (minute_of after) + 1) k (omega arith)) in
-    record { later = omega arith; passes = ap not out; least = λ u low lt. ap not (stays u (omega arith) (omega arith) (omega arith)) }
+    let same : interval_of unit (minute_of t) ≡ k = ap (interval_of unit) (sym here) ∙ at_first unit k in
+    let out : lasts p t ≡ false = ap (begun_within p.expr p.expr.count) same ∙ none in
+    record {
+      later = omega arith;
+      passes = ap not (and_right (in_bounds p t) (lasts p t) out);
+      least = λ u low lt. ap not (stays u (omega arith) (omega arith) (omega arith));
+    }
 
-pub out_past : (p : Period) (after k t : ℕ) → after ≤ p.last → t ≡ p.last + 1 → minute_of p.last < unit_first p.expr k → StaysIn p after k → IsLeast (outside p) (after + 1) t
-out_past p after k t le e past stays = record {
-  later = omega arith;
-  passes = ap not (after_bounds p t (omega arith));
-  least = λ u low lt. ap not (stays u (omega arith) (omega arith) (omega arith));
-}
+pub out_past : (p : Period) (after t : ℕ) → inside p after ≡ true → t ≡ p.last + 1 → StaysAll p after → IsLeast (outside p) (after + 1) t
+out_past p after t i e stays =
+    let last = (within p after i).high in
+    record {
+      later = omega arith;
+      passes = ap not (after_bounds p t (omega arith));
+      least = λ u low lt. ap not (stays u (omega arith) (omega arith));
+    }
 
-pub out_never : (p : Period) (after k : ℕ) → last_minute ≤ p.last → minute_of p.last < unit_first p.expr k → StaysIn p after k → IsNever (outside p) (after + 1)
-out_never p after k le past stays u low high = ap not (stays u (omega arith) (omega arith) (omega arith))
-
-pub found_low : (e : Expr) (start upto m : ℕ) → 2880 < start → IsFirstBegin e (interval_of (last_calendar e) (start - 1) + 1) upto m → start ≤ m
-found_low e start upto m h f =
-    let last = last_calendar e in
-    let at = f.starts in
-    omega (arith, goes_on last (start - 1), not_falling last (interval_of last (start - 1) + 1) f.at f.low)
-
-pub unit_low : (e : Expr) (k : ℕ) → k ≤ unit_first e k
-unit_low e k = number_low e.unit k
+pub out_never : (p : Period) (after : ℕ) → last_minute ≤ p.last → StaysAll p after → IsNever (outside p) (after + 1)
+out_never p after le stays u low high = ap not (stays u (omega arith) (omega arith))
 
 pub unit_later : (e : Expr) (m k : ℕ) → interval_of e.unit m < k → m < unit_first e k
 unit_later e m k h = omega (arith, goes_on e.unit m, not_falling e.unit (interval_of e.unit m + 1) k (omega arith))

@@ -1,29 +1,15 @@
 //! Where an expression begins.
-ghost use Rattle.std.specs.Prelude.{◌≡◌, ◌<◌, ◌≤◌, ◌^◌, option_map, nat_eq, IsTrue};
-ghost use Rattle.std.specs.List.{list_any};
-ghost use Rattle.gtrbac_model.specs.Period.{picks as picked, begins as begun, selects as selected};
-ghost use Rattle.calendar_laws.specs.Valid.{is_expr};
-ghost use Rattle.calendar_laws.specs.Selects.{last_of as last_at, last_calendar as last_in};
+ghost use Rattle.std.specs.Prelude.{◌≡◌, ◌<◌, ◌≤◌, ◌^◌, IsTrue};
+ghost use Rattle.gtrbac_model.specs.Period.{begins as begun, selects as selected};
+ghost use Rattle.gtrbac_model.specs.Valid.{is_expr};
+ghost use Rattle.gtrbac_model.specs.Selects.{last_of as last_at, last_calendar as last_in};
+ghost use Rattle.calendar_match.specs.Steps.{take_all as takes_all, fills_by as fills_parts, fills as fills_by, is_fixed as has_minutes, repeats_from as repeated_from, repeats as repeated};
 
 use crate::calendars::{first_minute, interval_of, number_within};
-use gt_base::List;
+use crate::picks::{picks, picks_upto};
+use crate::steps::most_in;
 use gtrbac_model::Calendar;
 use periodic_expr::{Expr, ExprPart};
-
-fn has(numbers: &[u32], n: u64) -> bool
-    ensures { result ≡ list_any (nat_eq n) numbers.now }
-{
-    numbers.iter().any(|m| n == u64::from(*m))
-}
-
-fn picks(set: &Option<List<u32>>, n: u64) -> bool
-    ensures { result ≡ picked (option_map (λ l. l.items) set.now) n }
-{
-    match set {
-        None => true,
-        Some(numbers) => has(numbers.as_slice(), n),
-    }
-}
 
 // Whether the further parts pick their numbers at the minute, which is the first of an interval of the last part.
 fn selects(above: Calendar, parts: &[ExprPart], m: u64) -> bool
@@ -59,13 +45,75 @@ fn last_of(above: Calendar, parts: &[ExprPart]) -> Calendar
     }
 }
 
-/// The calendar of the last part.
-pub(crate) fn last_calendar(e: &Expr) -> Calendar
-    ensures last { result ≡ last_in e.now }
-    ensures valid { IsTrue (is_expr e.now) }
+// The calendar of the last part.
+fn last_calendar(e: &Expr) -> Calendar
+    ensures { result ≡ last_in e.now }
 {
     match e.parts().as_slice() {
         [] => Calendar::Minutes,
         [part, more @ ..] => last_of(part.calendar, more),
+    }
+}
+
+fn take_all(above: Calendar, parts: &[ExprPart]) -> bool
+    ensures { result ≡ takes_all above parts.now }
+{
+    match parts {
+        [] => true,
+        [part, more @ ..] => {
+            picks_upto(most_in(above, part.calendar), &part.set) && take_all(part.calendar, more)
+        }
+    }
+}
+
+// Whether each interval of the last calendar is a begin.
+fn always_begins(e: &Expr) -> bool
+    ensures { result ≡ fills_parts e.now.parts }
+{
+    match e.parts().as_slice() {
+        [] => false,
+        [part, more @ ..] => take_all(part.calendar, more),
+    }
+}
+
+/// Whether each interval of the last calendar is a begin that lasts to the next one.
+pub(crate) fn fills(e: &Expr) -> bool
+    ensures value { result ≡ fills_by e.now }
+    ensures valid { IsTrue (is_expr e.now) }
+{
+    let (count, unit) = e.length();
+    always_begins(e) && most_in(last_calendar(e), unit) <= u64::from(count)
+}
+
+fn is_fixed(c: Calendar) -> bool
+    ensures { result ≡ has_minutes c }
+{
+    match c {
+        Calendar::Years | Calendar::Months => false,
+        _ => true,
+    }
+}
+
+fn repeats_from(above: Calendar, parts: &[ExprPart]) -> bool
+    ensures { result ≡ repeated_from above parts.now }
+{
+    match parts {
+        [] => is_fixed(above),
+        [part, more @ ..] => {
+            is_fixed(above)
+                || (picks_upto(most_in(above, part.calendar), &part.set)
+                    && repeats_from(part.calendar, more))
+        }
+    }
+}
+
+/// Whether the begins come again each week.
+pub(crate) fn repeats(e: &Expr) -> bool
+    ensures value { result ≡ repeated e.now }
+    ensures valid { IsTrue (is_expr e.now) }
+{
+    match e.parts().as_slice() {
+        [] => false,
+        [part, more @ ..] => repeats_from(part.calendar, more),
     }
 }

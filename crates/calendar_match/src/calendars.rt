@@ -1,7 +1,7 @@
 //! The intervals of the calendars, by their first minutes. Minutes count from 0000-01-01T00:00.
 ghost use Rattle.std.specs.Prelude.{◌≡◌, ◌<◌, ◌≤◌, ◌+◌, ◌-◌, ◌^◌, nat_lt, nat_le};
 ghost use Rattle.gtrbac_model.specs.Calendar.{is_leap as leap_year, day_of_year as year_day, days_before_month as table, day_of_month as month_day, first_minute as first_at, interval_of as interval_at, number_within as number_at};
-ghost use Rattle.calendar_laws.proofs.Guess.{mended};
+ghost use Rattle.gtrbac_model.proofs.Guess.{mended};
 
 use gtrbac_model::Calendar;
 
@@ -18,7 +18,7 @@ fn is_leap(y: u64) -> bool
 
 // The day on which year y begins.
 fn day_of_year(y: u64) -> u64
-    requires { y ≤ 2 ^ 32 }
+    requires { y ≤ 2 ^ 33 }
     ensures { result ≡ year_day y }
 {
     365 * y + ((y + 3) / 4 - (y + 99) / 100 + (y + 399) / 400)
@@ -46,7 +46,7 @@ fn days_before_month(m: u64) -> u64
 
 // The day on which month k of all begins, twelve to a year.
 fn day_of_month(k: u64) -> u64
-    requires { k ≤ 2 ^ 32 }
+    requires { k ≤ 2 ^ 33 }
     ensures { result ≡ month_day k }
 {
     let year = k / 12;
@@ -57,7 +57,7 @@ fn day_of_month(k: u64) -> u64
 
 /// The first minute of an interval of a calendar.
 pub(crate) fn first_minute(c: Calendar, k: u64) -> u64
-    requires { k ≤ 2 ^ 32 }
+    requires { k ≤ 2 ^ 33 }
     ensures { result ≡ first_at c k }
 {
     match c {

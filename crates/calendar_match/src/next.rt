@@ -1,20 +1,24 @@
 //! The next start, the next instant inside, and the next edge.
-ghost use Rattle.std.specs.Prelude.{◌≡◌, ◌<◌, ◌≤◌, ◌+◌, true, max, IfSome, IfNone, IsTrue, ◌-◌};
+ghost use Rattle.std.specs.Prelude.{◌≡◌, ◌<◌, ◌≤◌, ◌+◌, true, false, max, IfSome, IfNone, IsTrue, ◌-◌};
 ghost use Rattle.gt_base.specs.Bounds.{last_minute};
 ghost use Rattle.gtrbac_model.specs.Calendar.{minute_of as minute_at, interval_of as interval_at};
-ghost use Rattle.gtrbac_model.specs.Period.{starts as started, inside as insides};
-ghost use Rattle.calendar_laws.specs.Valid.{is_expr};
-ghost use Rattle.calendar_laws.specs.Selects.{last_calendar as last_in};
-ghost use Rattle.calendar_match.specs.Reach.{unit_first, IsFirstBegin, HasNoFurther};
-ghost use Rattle.calendar_match.specs.Next.{IsLeast, IsNever, IsNext, HasNone, turns, outside as outsides};
+ghost use Rattle.gtrbac_model.specs.Period.{starts as started, inside as insides, begun_within};
+ghost use Rattle.gtrbac_model.specs.Valid.{is_expr};
+ghost use Rattle.calendar_match.specs.Reach.{unit_first, IsFirstBegin, HasNoBegin, IsCovered};
+ghost use Rattle.calendar_match.specs.Steps.{fills as fills_by, repeats as repeated};
+ghost use Rattle.calendar_match.specs.Next.{IsLeast, IsNever, IsNext, HasNone, IsHorizon, turns, outside as outsides};
 
+use crate::begins::{fills, repeats};
 use crate::periods::{inside, minute_of};
-use crate::reach::{first_begin, last_at, unit_at, unit_start};
+use crate::reach::{covered_to, first_begin, unit_at, unit_start};
 use gt_base::Instant;
-use periodic_expr::{Expr, Period};
+use periodic_expr::Period;
 
 // The minute of instant 0, counted from 0000-01-01T00:00.
 const FIRST_MINUTE: u64 = 1_051_898_400;
+
+// The minutes of a week.
+const WEEK: u64 = 10_080;
 
 // The instant of a minute.
 fn instant_of(m: u64) -> Instant
@@ -59,31 +63,19 @@ fn unit_start_of(p: &Period, k: u64) -> u64
     unit_start(&p.expr, k)
 }
 
-// The minute of the first begin from this minute on and not after the end.
-fn begin_from(e: &Expr, start: u64, end: u64) -> Option<u64>
-    requires start_low { 1_051_898_400 ≤ start }
-    requires start_high { start ≤ 1_104_494_400 }
-    requires end_in { end ≤ 1_104_494_399 }
-    ensures some { IfSome result (λ m. IsFirstBegin e.now (interval_at (last_in e.now) (start - 1) + 1) end m) }
-    ensures none { IfNone result (HasNoFurther e.now (interval_at (last_in e.now) (start - 1) + 1) end) }
-    ensures valid { IsTrue (is_expr e.now) }
-{
-    first_begin(e, last_at(e, start - 1) + 1, end)
-}
-
-// The same for a period.
+// The minute of the first begin of the period from this instant on, not after its last one.
 fn first_begin_of(p: &Period, start: u32) -> Option<u64>
     requires { start ≤ last_minute + 1 }
-    ensures some { IfSome result (λ m. IsFirstBegin p.now.expr (interval_at (last_in p.now.expr) (minute_at start - 1) + 1) (minute_at p.now.last) m) }
-    ensures none { IfNone result (HasNoFurther p.now.expr (interval_at (last_in p.now.expr) (minute_at start - 1) + 1) (minute_at p.now.last)) }
+    ensures some { IfSome result (λ m. IsFirstBegin p.now.expr (minute_at start) (minute_at p.now.last) m) }
+    ensures none { IfNone result (HasNoBegin p.now.expr (minute_at start) (minute_at p.now.last + 1)) }
     ensures valid { IsTrue (is_expr p.now.expr) }
     ensures bound { p.now.last ≤ last_minute }
 {
-    begin_from(&p.expr, FIRST_MINUTE + u64::from(start), minute_of(p.last))
+    first_begin(&p.expr, FIRST_MINUTE + u64::from(start), minute_of(p.last))
 }
 
 // The least instant from this minute on at which the period starts.
-#[tactic(auto, using(crate::proofs::Moves::start_found, crate::proofs::Moves::start_missing, crate::proofs::Moves::found_low))]
+#[tactic(auto, using(crate::proofs::Moves::start_found, crate::proofs::Moves::start_missing))]
 fn start_from(p: &Period, from: u32) -> Option<Instant>
     requires { from ≤ last_minute + 1 }
     ensures some { IfSome result (λ t. IsLeast (started p.now) from t) }
@@ -129,26 +121,75 @@ pub fn next_inside(p: &Period, after: Instant) -> Option<Instant>
     inside_from(p, after.minute() + 1)
 }
 
-// The least instant after one inside that is outside. Goes over the intervals of the length's calendar, within each of
-// which nothing changes.
-#[tactic(auto, using(crate::proofs::Moves::stays_first, crate::proofs::Moves::stays_more, crate::proofs::Moves::out_found, crate::proofs::Moves::out_past, crate::proofs::Moves::out_never, crate::proofs::Moves::unit_low, crate::proofs::Moves::unit_later))]
+// How far the last begin up to the unit k covers the units.
+fn covered_of(p: &Period, k: u64) -> Option<u64>
+    requires low { 1_051_898_400 < unit_first p.now.expr (k + 1) }
+    requires high { unit_first p.now.expr k < 2_147_483_648 }
+    ensures some { IfSome result (λ j. IsCovered p.now.expr k j) }
+    ensures none { IfNone result (begun_within p.now.expr p.now.expr.count k ≡ false) }
+{
+    covered_to(&p.expr, k)
+}
+
+// The instant after the period's last one.
+fn past(p: &Period) -> Option<Instant>
+    ensures some { IfSome result (λ t. t ≡ p.now.last + 1) }
+    ensures none { IfNone result (last_minute ≤ p.now.last) }
+{
+    Instant::new(p.last.minute() + 1)
+}
+
+// Whether the begins fill the time of the period.
+fn is_filled(p: &Period) -> bool
+    ensures value { result ≡ fills_by p.now.expr }
+    ensures valid { IsTrue (is_expr p.now.expr) }
+{
+    fills(&p.expr)
+}
+
+// Whether its begins come again each week.
+fn is_weekly(p: &Period) -> bool
+    ensures value { result ≡ repeated p.now.expr }
+    ensures valid { IsTrue (is_expr p.now.expr) }
+{
+    repeats(&p.expr)
+}
+
+// The minute beyond which what was inside from this instant on stays inside.
+fn horizon(p: &Period, after: Instant) -> u64
+    requires { insides p.now after ≡ true }
+    ensures horizon { IsHorizon p.now after result }
+    ensures within { result ≤ minute_at p.now.last }
+    ensures bound { result ≤ 1_104_494_399 }
+{
+    let end = end_of(p);
+    if is_filled(p) {
+        0
+    } else if is_weekly(p) {
+        end.min(minute_of(after) + WEEK)
+    } else {
+        end
+    }
+}
+
+// The least instant after one inside that is outside. Goes from one begin to the last one that its length reaches.
+#[tactic(auto, using(crate::proofs::Moves::stays_first, crate::proofs::Moves::stays_to, crate::proofs::Moves::out_found, crate::proofs::Moves::out_past, crate::proofs::Moves::out_never, crate::proofs::Moves::unit_later, crate::proofs::Latest::unit_low))]
 fn outside_after(p: &Period, after: Instant) -> Option<Instant>
     requires { insides p.now after ≡ true }
     ensures some { IfSome result (λ t. IsNext (outsides p.now) after t) }
     ensures none { IfNone result (HasNone (outsides p.now) after) }
 {
-    let end = end_of(p);
+    let stop = horizon(p, after);
     let mut k = unit_of(p, minute_of(after)) + 1;
     let mut m = unit_start_of(p, k);
-    'units: while m <= end {
-        let t = instant_of(m);
-        if !inside(p, t) {
-            return Some(t);
-        }
-        k += 1;
+    'units: while m <= stop {
+        let Some(j) = covered_of(p, k) else {
+            return Some(instant_of(m));
+        };
+        k = j;
         m = unit_start_of(p, k);
     }
-    Instant::new((end - FIRST_MINUTE) as u32 + 1)
+    past(p)
 }
 
 /// The least instant after this one at which being inside differs from the minute before, none exactly where there is

@@ -4,7 +4,7 @@ ghost use Rattle.gtrbac_model.specs.Calendar.{minute_of as minute_at, interval_o
 ghost use Rattle.gtrbac_model.specs.Period.{in_bounds as bounded, starts as started, inside as insides, begun_within};
 
 use crate::begins::begins;
-use crate::reach::{last_at, reaches, unit_at};
+use crate::reach::{covered_to, unit_at};
 use gt_base::Instant;
 use periodic_expr::{Expr, Period};
 
@@ -36,8 +36,7 @@ pub fn starts(p: &Period, t: Instant) -> bool
 fn lasts(e: &Expr, t: Instant) -> bool
     ensures { result ≡ begun_within e.now e.now.count (interval_at e.now.unit (minute_at t)) }
 {
-    let m = minute_of(t);
-    reaches(e, last_at(e, m), unit_at(e, m))
+    covered_to(e, unit_at(e, minute_of(t))).is_some()
 }
 
 /// Whether the instant is inside the period: within its bounds, and within the length of a begin, which may lie before

@@ -1,33 +1,13 @@
-//! Searches over the intervals of an expression's last calendar.
-ghost use Rattle.std.specs.Prelude.{◌≡◌, ◌<◌, ◌≤◌, ◌^◌, IfSome, IfNone, IsTrue};
+//! Searches for the begins of an expression.
+ghost use Rattle.std.specs.Prelude.{◌≡◌, ◌<◌, ◌≤◌, ◌+◌, ◌^◌, false, IfSome, IfNone, IsTrue};
 ghost use Rattle.gtrbac_model.specs.Calendar.{interval_of as interval_at};
-ghost use Rattle.calendar_laws.specs.Valid.{is_expr};
-ghost use Rattle.calendar_laws.specs.Selects.{last_calendar as last_in};
-ghost use Rattle.calendar_match.specs.Reach.{start_of, unit_first, IsReached, IsFirstBegin, HasNoFurther};
+ghost use Rattle.gtrbac_model.specs.Period.{begun_within};
+ghost use Rattle.gtrbac_model.specs.Valid.{is_expr};
+ghost use Rattle.calendar_match.specs.Reach.{unit_first, IsFirstBegin, IsLastBegin, HasNoBegin, IsCovered};
 
-use crate::begins::{begins, last_calendar};
 use crate::calendars::{first_minute, interval_of};
+use crate::steps::{can_begin, step_ahead, step_back};
 use periodic_expr::Expr;
-
-/// The first minute of an interval of the last calendar.
-pub(crate) fn start_at(e: &Expr, i: u64) -> u64
-    requires { i ≤ 2_147_483_648 }
-    ensures { result ≡ start_of e.now i }
-{
-    first_minute(last_calendar(e), i)
-}
-
-/// The interval of the last calendar that has the minute.
-#[tactic(auto, using(crate::proofs::Latest::last_start_in, crate::proofs::Latest::number_start))]
-pub(crate) fn last_at(e: &Expr, m: u64) -> u64
-    requires { m < 2_147_483_648 }
-    ensures interval { result ≡ interval_at (last_in e.now) m }
-    ensures bound { result < 2_147_483_648 }
-    ensures start { start_of e.now result < 2_147_483_648 }
-    ensures valid { IsTrue (is_expr e.now) }
-{
-    interval_of(last_calendar(e), m)
-}
 
 /// The first minute of an interval of the length's calendar.
 pub(crate) fn unit_start(e: &Expr, k: u64) -> u64
@@ -38,53 +18,69 @@ pub(crate) fn unit_start(e: &Expr, k: u64) -> u64
 }
 
 /// The interval of the length's calendar that has the minute.
+#[tactic(auto, using(gtrbac_model::proofs::Covers::begun, gtrbac_model::proofs::Covers::goes_on))]
 pub(crate) fn unit_at(e: &Expr, m: u64) -> u64
     requires { m < 2_147_483_648 }
     ensures interval { result ≡ interval_at e.now.unit m }
+    ensures begun { 2880 ≤ m → unit_first e.now result ≤ m }
+    ensures goes_on { m < unit_first e.now (result + 1) }
     ensures bound { result ≤ 2_147_483_648 }
 {
     interval_of(e.length().1, m)
 }
 
-/// Whether a begin up to the interval `from` of the last calendar reaches over the unit k. Goes back from the latest one,
-/// and ends where an interval begins too early.
-#[tactic(auto, using(crate::proofs::Latest::start_in, crate::proofs::Latest::early_ends, crate::proofs::Latest::one_less))]
-pub(crate) fn reaches(e: &Expr, from: u64, k: u64) -> bool
-    requires from_in { from < 2_147_483_648 }
-    requires start_in { start_of e.now from < 2_147_483_648 }
-    ensures { IsReached e.now from k result }
-{
-    let count = u64::from(e.length().0);
-    let mut low = from + 1;
-    'search: while low > 0 {
-        let m = start_at(e, low - 1);
-        if unit_at(e, m) + count <= k {
-            return false;
-        }
-        if begins(e, m) {
-            return true;
-        }
-        low -= 1;
-    }
-    false
-}
-
-/// The first begin from the interval `from` of the last calendar on that is not after the minute `upto`.
-#[tactic(auto, using(crate::proofs::Latest::number_start, crate::proofs::Latest::one_more, crate::proofs::Latest::no_further))]
+/// The first begin from this minute on that is not after the minute `upto`.
+#[tactic(auto, using(crate::proofs::Latest::search_more, crate::proofs::Latest::begins_none))]
 pub(crate) fn first_begin(e: &Expr, from: u64, upto: u64) -> Option<u64>
-    requires from_in { from ≤ 2_147_483_648 }
+    requires from_in { 2880 ≤ from }
     requires upto_in { upto < 2_147_483_648 }
     ensures some { IfSome result (λ m. IsFirstBegin e.now from upto m) }
-    ensures none { IfNone result (HasNoFurther e.now from upto) }
+    ensures none { IfNone result (HasNoBegin e.now from (upto + 1)) }
+    ensures valid { IsTrue (is_expr e.now) }
 {
-    let mut i = from;
-    let mut m = start_at(e, i);
+    if !can_begin(e) {
+        return None;
+    }
+    let mut m = from;
     'search: while m <= upto {
-        if begins(e, m) {
+        let next = step_ahead(e, m);
+        if next == m {
             return Some(m);
         }
-        i += 1;
-        m = start_at(e, i);
+        m = next;
     }
     None
+}
+
+// The last begin up to the minute `upto` that is not before this one.
+#[tactic(auto, using(crate::proofs::Latest::search_less))]
+fn last_begin(e: &Expr, from: u64, upto: u64) -> Option<u64>
+    requires from_in { 2880 ≤ from }
+    requires upto_in { upto < 2_147_483_648 }
+    ensures some { IfSome result (λ m. IsLastBegin e.now from upto m) }
+    ensures none { IfNone result (HasNoBegin e.now from (upto + 1)) }
+{
+    let mut m = upto;
+    'search: while from <= m {
+        let before = step_back(e, m);
+        if before == m {
+            return Some(m);
+        }
+        m = before;
+    }
+    None
+}
+
+/// How far the last begin up to the unit k covers the units, where it covers that one: to before this unit.
+#[tactic(auto, using(crate::proofs::Latest::count_low, crate::proofs::Latest::count_late, crate::proofs::Latest::unit_low, crate::proofs::Latest::covered, crate::proofs::Latest::uncovered))]
+pub(crate) fn covered_to(e: &Expr, k: u64) -> Option<u64>
+    requires low { 1_051_898_400 < unit_first e.now (k + 1) }
+    requires high { unit_first e.now k < 2_147_483_648 }
+    ensures some { IfSome result (λ j. IsCovered e.now k j) }
+    ensures none { IfNone result (begun_within e.now e.now.count k ≡ false) }
+    ensures valid { IsTrue (is_expr e.now) }
+{
+    let count = u64::from(e.length().0);
+    let m = last_begin(e, unit_start(e, k + 1 - count), unit_start(e, k))?;
+    Some(unit_at(e, m) + count)
 }

@@ -1,7 +1,11 @@
 //! Asks the calendar: for each line `FIRST LAST AFTER EXPR` on standard input, with `*` for the bounds of all instants,
 //! writes a line `INSIDE STARTS NEXT_START NEXT_INSIDE NEXT_EDGE` at AFTER, with `-` where there is none, or
-//! `fault KIND at N`.
+//! `fault KIND at N`. A line `N CALL FIRST LAST AFTER EXPR`, with `start`, `inside` or `edge` as the call, asks that call N
+//! times, each time after its last answer, or after AFTER again where there was none, and writes the last answer.
 #![tactic(auto)]
+
+#[cfg(test)]
+mod plain;
 
 use calendar_match::{inside, next_edge, next_inside, next_start, starts};
 use civil_time::{read_civil, write_civil};
@@ -69,6 +73,60 @@ fn put_answers(out: &mut Vec<u8>, p: &Period, after: Instant) -> Result<(), Allo
     put_instant(out, next_edge(p, after), b'\n')
 }
 
+#[derive(Clone, Copy)]
+enum Call {
+    Start,
+    Inside,
+    Edge,
+}
+
+fn call_of(word: &[u8]) -> Option<Call> {
+    match word {
+        b"start" => Some(Call::Start),
+        b"inside" => Some(Call::Inside),
+        b"edge" => Some(Call::Edge),
+        _ => None,
+    }
+}
+
+fn digit(b: u8) -> Option<u32> {
+    match b {
+        b'0'..=b'9' => Some(u32::from(b - b'0')),
+        _ => None,
+    }
+}
+
+fn number(word: &[u8]) -> Option<u32> {
+    let mut n: u32 = 0;
+    for b in word {
+        n = n.saturating_mul(10).saturating_add(digit(*b)?);
+    }
+    Some(n)
+}
+
+// How often to ask which call, and the rest of the line.
+fn repeated(line: &[u8]) -> Option<(u32, Call, &[u8])> {
+    let (times, line) = cut(line)?;
+    let (word, line) = cut(line)?;
+    Some((number(times)?, call_of(word)?, line))
+}
+
+fn asked(call: Call, p: &Period, after: Instant) -> Option<Instant> {
+    match call {
+        Call::Start => next_start(p, after),
+        Call::Inside => next_inside(p, after),
+        Call::Edge => next_edge(p, after),
+    }
+}
+
+fn asked_often(times: u32, call: Call, p: &Period, after: Instant) -> Option<Instant> {
+    let mut last = None;
+    for _ in 0..times {
+        last = asked(call, p, last.unwrap_or(after));
+    }
+    last
+}
+
 // The bounds, the instant and the text of the expression of a line.
 fn parted(line: &[u8]) -> Option<(Instant, Instant, Instant, &[u8])> {
     let (first, line) = cut(line)?;
@@ -80,15 +138,23 @@ fn parted(line: &[u8]) -> Option<(Instant, Instant, Instant, &[u8])> {
 }
 
 fn answer(alloc: Global, out: &mut Vec<u8>, line: &[u8]) -> Result<(), AllocError> {
+    let (repeat, line) = match repeated(line) {
+        Some((times, call, line)) => (Some((times, call)), line),
+        None => (None, line),
+    };
     let Some((first, last, after, text)) = parted(line) else {
         return out.extend_from_slice(b"no line\n");
     };
     if first.minute() > last.minute() || text.len() >= 4_294_967_296 {
         return out.extend_from_slice(b"no line\n");
     }
-    match parse_expr(alloc, text) {
-        Ok(expr) => put_answers(out, &Period { first, last, expr }, after),
-        Err(fault) => put_fault(alloc, out, fault),
+    let p = match parse_expr(alloc, text) {
+        Ok(expr) => Period { first, last, expr },
+        Err(fault) => return put_fault(alloc, out, fault),
+    };
+    match repeat {
+        Some((times, call)) => put_instant(out, asked_often(times, call, &p, after), b'\n'),
+        None => put_answers(out, &p, after),
     }
 }
 

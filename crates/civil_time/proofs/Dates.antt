@@ -7,8 +7,8 @@ use Rattle.jiff_core.proofs.SignedLemmas.{signed_arith}
 use Rattle.jiff_core.proofs.MarchLemmas.{leap_day, days_in_year-leap_day, days_of_years-suc, days_of_years-march_days}
 use Rattle.jiff_core.proofs.CalendarLemmas.{days_of_months_table, days_of_months_more, days_of_months_all, days_from_civil-day_count}
 use Rattle.gtrbac_model.specs.Calendar.{is_leap, day_of_year, day_of_month, days_before_month}
-use Rattle.calendar_laws.proofs.Years.{leap, next_year}
-use Rattle.calendar_laws.proofs.Months.{month_days, month_days-zero, month_parts}
+use Rattle.gtrbac_model.proofs.Years.{leap, next_year}
+use Rattle.gtrbac_model.proofs.Months.{month_days, month_days-zero, month_parts}
 
 leap_same : (y : ℕ) → leap_day (pos (y + 10_000)) ≡ leap y
 leap_same y = grind (arith, nat_tests)

@@ -3,8 +3,8 @@ use Rattle.std.proofs.Common.{◌≡◌, ℕ, ◌+◌, ◌-◌, ◌*◌, ◌/◌
 use Rattle.gt_base.specs.Bounds.{last_minute}
 use Rattle.gtrbac_model.specs.declared.calendars.Calendar.TheVariants.{Years, Months, Days}
 use Rattle.gtrbac_model.specs.Calendar.{minute_of, day_of_month, first_minute, interval_of, number_within}
-use Rattle.calendar_laws.proofs.Months.{january}
-use Rattle.calendar_laws.proofs.Covers.{begun, goes_on, at_first, before_first}
+use Rattle.gtrbac_model.proofs.Months.{january}
+use Rattle.gtrbac_model.proofs.Covers.{begun, goes_on, at_first, before_first}
 use Rattle.civil_time.specs.Minutes.{civil_at, StandsFor}
 use Rattle.civil_time.proofs.Dates.{month_length, date_is}
 

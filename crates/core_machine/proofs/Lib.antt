@@ -1,5 +1,9 @@
-pub mod Answering
-pub mod Born
-pub mod KeptSteps
-pub mod PlainBase
-pub mod TraceLaws
+pub mod Growing
+pub mod Ticks
+pub mod Asks
+pub mod Walks
+pub mod Sames
+pub mod Raising
+pub mod Hierarchies
+pub mod Stops
+pub mod Births

@@ -1,26 +1,29 @@
 -- Books: a history that is legal, with its trace.
-use Rattle.std.specs.Prelude.{◌≡◌, ℕ, ◌<◌, ◌≤◌, List, [], ◌∷◌, ◌++◌, refl, ◌⊎◌}
+use Rattle.std.specs.Prelude.{◌≡◌, ℕ, ◌<◌, ◌≤◌, List, [], ◌∷◌, ◌++◌, length, refl, ◌⊎◌}
 use Rattle.std.specs.Coded.{Coded, code_by, coded×, coded_ℕ, coded_list}
 use Rattle.std.proofs.Common.{sym, ◌∙◌, subst, ap}
 use Rattle.gt_base.specs.Happening.{Happening}
+use Rattle.gt_base.specs.Bounds.{last_minute, max_steps}
 use Rattle.gt_base.specs.Machines.{ticked, asked}
 use Rattle.gt_base.specs.declared.requests.Who.{Who}
 use Rattle.gt_base.specs.declared.requests.Entry.{Entry}
 use Rattle.gt_base.specs.declared.requests.Step.{Step}
 use Rattle.gt_base.specs.declared.requests.Step.TheVariants.{Tick, Ask}
 use Rattle.gt_base.specs.declared.requests.Actor.{Actor}
-use Rattle.gt_base.specs.declared.requests.Actor.TheVariants.{Operator}
 use Rattle.gt_base.specs.declared.requests.Request.{Request}
-use Rattle.gt_base.specs.declared.requests.Request.TheVariants.{Status, Raise}
 use Rattle.gt_base.specs.declared.requests.Reply.{Reply}
-use Rattle.gt_base.specs.declared.events.Fluent.{Fluent}
-use Rattle.gt_base.specs.declared.events.Fluent.TheVariants.{Enabled}
 use Rattle.gt_base.specs.contracts.requests.Entry as entry
+use Rattle.policy_words.specs.Valid.{IsWellFormed}
 use Rattle.gtrbac_model.specs.Policy.{Policy}
-use Rattle.policy_forms.specs.Naming.{NamedPolicy, named_policy_code}
-use Rattle.gtrbac_model.specs.Reply.{reply_of}
+use Rattle.gtrbac_model.specs.Base.{base_at}
+use Rattle.gtrbac_model.specs.Reply.{Point, reply_of}
 use Rattle.gtrbac_model.specs.History.{Legal, IsNextStop, stirs, now_of, point_after, IsNamedWish, tick, ask}
-use Rattle.core_machine.specs.Trace.{ClosedSet, closed_set_code, model_of}
+use Rattle.gtrbac_model.specs.Sessions.{Table}
+use Rattle.gtrbac_model.specs.Status.{Model}
+use Rattle.gtrbac_model.specs.Theorems.{IsOnlyModel}
+use Rattle.policy_words.specs.Naming.{NamedPolicy, named_policy_code}
+use Rattle.instant_bases.specs.Timelines.{ClosedSet, closed_set_code}
+use Rattle.time_engine.specs.Traces.{model_of}
 
 -- what a clause sees of a book
 pub record BookView : Type 0 where
@@ -37,9 +40,34 @@ book_code =
 abbrev pub now_in : BookView → ℕ
 now_in b = now_of b.birth b.entries
 
+-- what happened at each instant
+abbrev pub model_in : BookView → Model
+model_in b = model_of b.trace
+
+-- what the book's next request is answered from
+abbrev pub point_in : BookView → Point
+point_in b = point_after b.named.policy b.birth (model_in b) b.entries
+
+-- the model's reply to a request at now
+abbrev pub reply_in : BookView → Actor → Request → Reply
+reply_in b actor request = reply_of b.named.policy (point_in b) actor request
+
 -- the book's history is legal, with its trace as the execution model
 abbrev pub IsLegalBook : BookView → Type 0
-IsLegalBook b = Legal b.named.policy b.birth b.entries (model_of b.trace)
+IsLegalBook b = Legal b.named.policy b.birth b.entries (model_in b)
+
+-- the table is that of the history at now, the signals that wait left out
+abbrev pub IsTableIn : BookView → Table → Type 0
+IsTableIn b tb = record tb { signals = (point_in b).table.signals } ≡ (point_in b).table
+
+-- every other list of sets that is a model of the entries agrees with the trace at every instant
+abbrev pub HasOnlyModel : BookView → Type 0
+HasOnlyModel b = IsOnlyModel b.named.policy b.birth b.entries (model_in b)
+
+-- the base of each set is that of the definitions
+abbrev pub HasBases : Policy → ℕ → Model → List Entry → List ClosedSet → Type 0
+HasBases p birth m h [] = Unit {0}
+HasBases p birth m h (c ∷ cs) = (c.base ≡ base_at p birth m h c.at) × HasBases p birth m h cs
 
 -- the numbers of an entry are numbers of the policy, and within the limits
 abbrev pub IsNamedStep : Policy → Step → Type 0
@@ -61,7 +89,7 @@ pub record GoesOn (old new : BookView) (who : Who) (upto to : ℕ) : Type 0 wher
   pub gains : Gains old new (ticked who upto to)
   pub further : List ClosedSet
   pub trace : new.trace ≡ old.trace ++ further
-  pub stop : IsNextStop (stirs old.named.policy old.birth (model_of new.trace) old.entries) (now_in old) upto to
+  pub stop : IsNextStop (stirs old.named.policy old.birth (model_in new) old.entries) (now_in old) upto to
   pub now : now_in new ≡ to
 
 -- a tick with a bound after now stands in the history with where it stopped; any other changes nothing
@@ -72,7 +100,15 @@ Ticks old who upto to new = (upto ≤ now_in old) × (to ≡ now_in old) × (new
 pub record Asks (old : BookView) (who : Who) (actor : Actor) (request : Request) (reply : Reply) (new : BookView) : Type 0 where
   pub gains : Gains old new (asked who actor request reply)
   pub trace : new.trace ≡ old.trace
-  pub reply_is : reply ≡ reply_of old.named.policy (point_after old.named.policy old.birth (model_of old.trace) old.entries) actor request
+  pub reply_is : reply ≡ reply_in old actor request
+
+-- what each book keeps: its history is legal and named, its policy well formed, its birth a minute
+pub record IsBook (b : BookView) : Type 0 where
+  pub legal : IsLegalBook b
+  pub named : AreNamed b.named.policy b.entries
+  pub well : IsWellFormed b.named
+  pub birth : b.birth ≤ last_minute
+  pub short : length b.entries ≤ max_steps
 
 -- of the same policy with its names, and of the same birth
 abbrev pub SameRoot : BookView → BookView → Type 0
@@ -99,27 +135,12 @@ pub IsLegalFor-by_root : (a b : BookView) (h : List Entry) → SameRoot a b → 
 IsLegalFor-by_root a b h s l =
     record { model = l.model; legal = subst (λ p. Legal p.policy b.birth h l.model) s.0 (subst (λ t. Legal a.named.policy t h l.model) s.1 l.legal) }
 
--- what is played so far: of the operator, the status of a role, or an event on a role without a delay
+-- actor and request are named for the book's policy
+abbrev pub IsNamedFor : BookView → Actor → Request → Type 0
+IsNamedFor b actor request = IsNamedWish b.named.policy (ask actor request)
 
-abbrev pub IsOfRole : Fluent → Type 0
-IsOfRole (Enabled r) = Unit {0}
-IsOfRole _ = ⊥
-
-abbrev pub IsEarlyRequest : Request → Type 0
-IsEarlyRequest (Status c) = IsOfRole c.fluent
-IsEarlyRequest (Raise head delay) = IsOfRole head.event.fluent × (delay ≡ 0)
-IsEarlyRequest _ = ⊥
-
-pub record IsEarly (p : Policy) (actor : Actor) (request : Request) : Type 0 where
-  pub by_operator : actor ≡ Operator
-  pub on_role : IsEarlyRequest request
-  pub named : IsNamedWish p (ask actor request)
-
-abbrev pub IsEarlyFor : BookView → Actor → Request → Type 0
-IsEarlyFor b actor request = IsEarly b.named.policy actor request
-
-pub IsEarlyFor-by_root : (a b : BookView) (actor : Actor) (request : Request) → SameRoot a b → IsEarlyFor a actor request → IsEarlyFor b actor request
-IsEarlyFor-by_root a b actor request s h = subst (λ p. IsEarly p.policy actor request) s.0 h
+pub IsNamedFor-by_root : (a b : BookView) (actor : Actor) (request : Request) → SameRoot a b → IsNamedFor a actor request → IsNamedFor b actor request
+IsNamedFor-by_root a b actor request s h = subst (λ p. IsNamedWish p.policy (ask actor request)) s.0 h
 
 pub now_after-by_root : (a b : BookView) (h : List Entry) → SameRoot a b → now_after a h ≡ now_after b h
 now_after-by_root a b h s = ap (λ t. now_of t h) s.1

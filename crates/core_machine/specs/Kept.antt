@@ -1,62 +1,70 @@
 -- What holds between the parts of a book.
-use Rattle.std.specs.Prelude.{◌≡◌, ℕ, ◌+◌, ◌<◌, ◌≤◌, Bool, true, false, List, [], ◌∷◌, length}
-use Rattle.std.specs.List.{list_all}
-use Rattle.gt_base.specs.Bounds.{max_steps}
-use Rattle.gt_base.specs.Happening.{Happening, Fluents}
-use Rattle.gt_base.specs.Sets.{has, none, set_of}
-use Rattle.gt_base.specs.declared.events.Fluent.{Fluent}
-use Rattle.gt_base.specs.declared.requests.Entry.{Entry}
+use Rattle.std.specs.Prelude.{◌≡◌, ℕ, ◌<◌, ◌≤◌, List, length, Option}
+use Rattle.std.specs.List.{list_any}
+use Rattle.std.specs.Ordering.{eq_by_cmp}
+use Rattle.gt_base.specs.Bounds.{last_minute, max_steps}
+use Rattle.gt_base.specs.Orders.{signal_cmp}
+use Rattle.gt_base.specs.Sets.{has}
+use Rattle.gt_base.specs.declared.events.Signal.{Signal}
+use Rattle.gt_base.specs.declared.requests.Actor.{Actor}
 use Rattle.gt_base.specs.declared.requests.Request.{Request}
-use Rattle.gt_base.specs.declared.requests.Request.TheVariants.{Status, Raise}
-use Rattle.gt_base.specs.declared.requests.Step.{Step}
-use Rattle.gt_base.specs.declared.requests.Step.TheVariants.{Tick, Ask}
+use Rattle.gt_base.specs.declared.requests.Reply.{Reply}
+use Rattle.gt_base.specs.declared.requests.Entry.{Entry}
 use Rattle.gtrbac_model.specs.Policy.{Policy}
-use Rattle.gtrbac_model.specs.Status.{status_at}
-use Rattle.gtrbac_model.specs.Base.{requested, base_at}
-use Rattle.gtrbac_model.specs.History.{Legal, now_of}
-use Rattle.core_machine.specs.Trace.{ClosedSet, model_of, Ascends}
-use Rattle.core_machine.specs.Plain.{IsPlain}
-use Rattle.core_machine.specs.Books.{AreNamed, BookView}
+use Rattle.gtrbac_model.specs.Base.{table_at}
+use Rattle.gtrbac_model.specs.History.{Legal, IsNamedWish, ask}
+use Rattle.gtrbac_model.specs.Reply.{Point, answer}
+use Rattle.gtrbac_model.specs.Safety.{IsSafe}
+use Rattle.gtrbac_model.specs.Sessions.{Table}
+use Rattle.gtrbac_model.specs.WholePolicy.{IsPolicy}
+use Rattle.instant_bases.specs.Timelines.{TimelineView}
+use Rattle.session_table.specs.Tables.{NotBefore, table_of}
+use Rattle.time_engine.specs.Histories.{Follows}
+use Rattle.time_engine.specs.Traces.{model_of}
+use Rattle.core_machine.specs.Books.{AreNamed, BookView, HasBases}
 use Rattle.core_machine.specs.declared.states.State.{State}
 
--- no set is later than this instant
-abbrev pub EndsBy : ℕ → List ClosedSet → Type 0
-EndsBy top [] = Unit {0}
-EndsBy top (c ∷ cs) = (c.at ≤ top) × EndsBy top cs
-
--- the base of each set is that of the definitions
-abbrev pub HasBases : Policy → ℕ → (ℕ → Happening) → List Entry → List ClosedSet → Type 0
-HasBases p birth m h [] = Unit {0}
-HasBases p birth m h (c ∷ cs) = (c.base ≡ base_at p birth m h c.at) × HasBases p birth m h cs
-
--- the request opens, closes or changes no session
-abbrev pub asks_no_session : Request → Bool
-asks_no_session (Status c) = true
-asks_no_session (Raise head delay) = true
-asks_no_session _ = false
-
-abbrev pub has_no_session : Step → Bool
-has_no_session (Tick upto to) = true
-has_no_session (Ask actor request reply) = asks_no_session request
-
--- the policy, the birth and the instant now, the status and what is queued for the next minute, the entries and the trace
-pub record Kept (p : Policy) (birth present : ℕ) (status : Fluents) (queued : Happening) (h : List Entry) (trace : List ClosedSet) : Type 0 where
-  pub plain : IsPlain p
-  pub present_is : present ≡ now_of birth h
-  pub since_birth : birth ≤ present
-  pub legal : Legal p birth h (model_of trace)
-  pub ascends : Ascends birth trace
-  pub ends : EndsBy present trace
-  pub bases : HasBases p birth (model_of trace) h trace
-  pub status_is : (f : Fluent) → has status f ≡ status_at p birth (model_of trace) present f
-  pub queued_is : queued ≡ record { events = set_of (requested h (present + 1)); signals = none }
-  pub none_later : (t : ℕ) → present + 1 < t → requested h t ≡ []
-  pub sessionless : list_all (λ e. has_no_session e.what) h ≡ true
+-- the timeline follows the history, of which its sets are the model; the table is that of the history at now, with the signals that wait,
+-- which the timeline has for the next minute
+pub record Kept (p : Policy) (birth : ℕ) (h : List Entry) (v : TimelineView) (tb : Table) (charged_to : Option ℕ) : Type 0 where
+  pub is_policy : IsPolicy p
+  pub safe : IsSafe p.triggers
+  pub legal : Legal p birth h (model_of v.trace)
+  pub follows : Follows p birth h (model_of v.trace) v
+  pub waiting : List Signal
+  pub table : record tb { signals = waiting } ≡ table_at p birth (model_of v.trace) h v.now
+  pub signals : v.now < last_minute → (x : Signal) → list_any (eq_by_cmp signal_cmp x) waiting ≡ has v.signals x
+  pub charged : NotBefore charged_to v.now
+  pub few : tb.begun ≤ length h
+  pub bases : HasBases p birth (model_of v.trace) h v.trace
   pub named : AreNamed p h
   pub short : length h ≤ max_steps
 
 abbrev pub IsKept : State → Type 0
-IsKept s = Kept s.safe.policy s.birth s.present s.status.set s.queued.set s.entries.items s.trace.items
+IsKept s = Kept s.ground.policy s.birth s.entries.items s.line.line (table_of s.table) s.table.charged_to
 
 abbrev pub view_of : State → BookView
-view_of s = record { named = s.safe; birth = s.birth; entries = s.entries.items; trace = s.trace.items }
+view_of s = record { named = s.ground; birth = s.birth; entries = s.entries.items; trace = s.line.line.trace }
+
+-- the same but for the room
+pub record Same (s t : State) : Type 0 where
+  pub ground : t.ground ≡ s.ground
+  pub birth : t.birth ≡ s.birth
+  pub line : t.line.line ≡ s.line.line
+  pub table : table_of t.table ≡ table_of s.table
+  pub charged_to : t.table.charged_to ≡ s.table.charged_to
+  pub entries : t.entries.items ≡ s.entries.items
+
+-- one entry more may be added for the request
+pub record IsReady (s : State) (actor : Actor) (request : Request) : Type 0 where
+  pub kept : IsKept s
+  pub room : length s.entries.items < max_steps
+  pub named : IsNamedWish s.ground.policy (ask actor request)
+
+-- what the timeline and the table say of now
+abbrev pub point_of : TimelineView → Table → Point
+point_of v tb = record { now = v.now; status = has v.status; set = model_of v.trace v.now; table = tb }
+
+-- somebody's request is answered so from them
+pub record IsAnswer (s : State) (actor : Actor) (request : Request) (reply : Reply) : Type 0 where
+  pub is : answer s.ground.policy (point_of s.line.line (table_of s.table)) actor request ≡ reply

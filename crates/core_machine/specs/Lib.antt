@@ -1,4 +1,3 @@
 pub mod Books
 pub mod Kept
-pub mod Plain
-pub mod Trace
+pub mod Steps

@@ -1,16 +1,24 @@
 //! Books.
 ghost use Rattle.std.specs.Prelude.{◌≡◌, ◌<◌, ◌≤◌, ◌⊎◌, OnErr, IfOk, IfErr, OnOk, [], Ok, Err, length};
 ghost use Rattle.gt_base.specs.Bounds.{max_steps};
-ghost use Rattle.core_machine.specs.Plain.{IsPlain};
-ghost use Rattle.core_machine.specs.Books.{now_in, IsLegalBook, AreNamed, Ticks, Asks, IsEarlyFor};
+ghost use Rattle.dependency_graph.specs.Levelled.{IsLevelled};
+ghost use Rattle.gtrbac_model.specs.Safety.{IsSafe};
+ghost use Rattle.session_table.specs.Tables.{table_of};
+ghost use Rattle.time_engine.specs.Histories.{Follows};
+ghost use Rattle.time_engine.specs.Traces.{AreSome, Ascends};
+ghost use Rattle.core_machine.specs.Books.{IsBook, now_in, model_in, reply_in, HasBases, HasOnlyModel, IsLegalBook, AreNamed, IsNamedFor, IsTableIn, Ticks, Asks};
+ghost use Rattle.core_machine.specs.Steps.{as_step};
 
-use crate::states::{State, close_next, pass, raise, tell};
-use crate::traces::Trace;
-use gt_base::{Actor, Entry, Happened, Instant, List, Memory, Reply, Request, StepFault, Who};
+use crate::asking::answer;
+use crate::states::State;
+use crate::ticking::go_on;
+use gt_base::{Actor, Entry, Instant, List, Memory, Reply, Request, StepFault, Who};
 use policy_book::Policy;
 use policy_safety::Safe;
+use session_table::Sessions;
 use std::alloc::Global;
 use std::marker::Model;
+use time_engine::{Ground, GroundFault, Timeline, Trace};
 
 /// Want of memory for a book, with the policy handed back.
 #[derive(Drop)]
@@ -45,25 +53,40 @@ impl Model for Book {
 }
 
 impl Book {
-    /// The book of a policy at its birth, with nothing in its history. So far the policy has no entry, limit or trigger.
+    /// The book of a policy at its birth, with nothing in its history. A refusal, for want of memory alone, hands the policy
+    /// back.
     pub fn new(alloc: Global, safe: Safe, birth: Instant) -> Result<Book, BookMemory>
-        requires { IsPlain safe.policy }
         ensures root { IfOk result (λ b. (b.named ≡ safe) × (b.birth ≡ birth)) }
         ensures empty { IfOk result (λ b. (b.entries ≡ []) × (b.trace ≡ [])) }
         ensures handed_back { IfErr result (λ e. e.safe ≡ safe) }
     {
-        let Ok(status) = safe.policy().opening().copied() else {
-            return Err(BookMemory { safe });
+        let _policy = safe.policy();
+        match grounded(alloc, safe) {
+            Ok(ground) => Book::on(alloc, ground, birth),
+            Err(safe) => Err(BookMemory { safe }),
+        }
+    }
+
+    /// The book of a safe policy by its ground.
+    fn on(alloc: Global, ground: Ground, birth: Instant) -> Result<Book, BookMemory>
+        requires { IsSafe ground.policy.triggers }
+        ensures root { IfOk result (λ b. (b.named ≡ ground) × (b.birth ≡ birth)) }
+        ensures empty { IfOk result (λ b. (b.entries ≡ []) × (b.trace ≡ [])) }
+        ensures handed_back { IfErr result (λ e. e.safe ≡ ground) }
+    {
+        ground.policy().keeps();
+        let Ok(line) = Timeline::new(alloc, &ground, birth) else {
+            return Err(BookMemory {
+                safe: safe_again(ground),
+            });
         };
         let state = State {
             alloc,
-            safe,
+            ground,
             birth,
-            present: birth,
-            status,
-            queued: Happened::new(alloc),
+            line,
+            table: Sessions::new(alloc),
             entries: List::new(alloc),
-            trace: List::new(alloc),
         };
         Ok(Book { state })
     }
@@ -72,7 +95,7 @@ impl Book {
     pub fn now(&self) -> Instant
         ensures { result ≡ now_in self.now }
     {
-        self.state.present
+        self.state.line.now()
     }
 
     /// The birth instant.
@@ -84,32 +107,68 @@ impl Book {
 
     /// The policy.
     pub fn policy(&self) -> &Policy
-        ensures { result.now ≡ self.now.named }
+        ensures value { result.now ≡ self.now.named }
+        ensures kept { IsBook self.now }
     {
-        self.state.safe.policy()
+        // what the types of the policy and of the birth keep
+        let policy = self.state.ground.policy();
+        policy.keeps();
+        let _birth = self.state.birth.minute();
+        policy
     }
 
-    /// The entries, each named for the policy, at most 1,000,000 of them. They are legal, with the trace as their model.
+    /// The entries, each named for the policy, at most 1,000,000 of them. They are legal, with the trace as their model, and no
+    /// other list of sets is one.
     pub fn entries(&self) -> &List<Entry>
         ensures value { result.now.items ≡ self.now.entries }
         ensures legal { IsLegalBook self.now }
+        ensures only { HasOnlyModel self.now }
         ensures named { AreNamed self.now.named.policy self.now.entries }
         ensures short { length self.now.entries ≤ max_steps }
     {
         &self.state.entries
     }
 
-    /// The nonempty sets of the run, each with its instant and its base.
+    /// The nonempty sets of the run by ascending instant, each with its instant and the base of that instant. At each other
+    /// minute nothing happened.
     pub fn trace(&self) -> &Trace
         ensures value { result.now.items ≡ self.now.trace }
         ensures legal { IsLegalBook self.now }
+        ensures only { HasOnlyModel self.now }
+        ensures bases { HasBases self.now.named.policy self.now.birth (model_in self.now) self.now.entries self.now.trace }
+        ensures ascends { Ascends self.now.birth self.now.trace }
+        ensures some { AreSome self.now.trace }
     {
-        &self.state.trace
+        self.state.line.keeps();
+        self.state.line.trace()
     }
 
-    /// Goes on to the least instant after now and up to the bound at which something is raised, or to the bound where there
-    /// is none, and adds one entry. A bound that is not after now changes nothing. It takes its memory first: a refused tick
-    /// leaves the book as it was.
+    /// The policy with what was made of it for its timelines.
+    pub fn ground(&self) -> &Ground
+        ensures { result.now ≡ self.now.named }
+    {
+        &self.state.ground
+    }
+
+    /// The timeline of now, which follows the history.
+    pub fn timeline(&self) -> &Timeline
+        ensures trace { result.now.line.trace ≡ self.now.trace }
+        ensures follows { Follows self.now.named.policy self.now.birth self.now.entries (model_in self.now) result.now.line }
+    {
+        &self.state.line
+    }
+
+    /// The sessions of now.
+    pub fn sessions(&self) -> &Sessions
+        ensures { IsTableIn self.now (table_of result.now) }
+    {
+        &self.state.table
+    }
+
+    /// Goes on to the least instant after now and up to the bound at which something is raised or an activation ends, or to
+    /// the bound where there is none, and adds one entry. A bound that is not after now changes nothing. It takes its memory
+    /// first: a refused tick leaves the book as it was. `StepsFull` comes exactly where the bound is after now and 1,000,000
+    /// entries are held.
     pub fn tick(&mut self, who: Who, upto: Instant) -> Result<Instant, StepFault>
         ensures ok { IfOk result (λ to. Ticks self.old who upto to self.new) }
         ensures legal { IsLegalBook self.new }
@@ -117,29 +176,20 @@ impl Book {
         ensures full { result ≡ Err StepFault.StepsFull → (now_in self.old < upto) × (length self.old.entries ≡ max_steps) }
         ensures room { OnOk result ((upto ≤ now_in self.old) ⊎ (length self.old.entries < max_steps)) }
     {
-        if upto <= self.state.present {
-            return Ok(self.state.present);
+        let now = self.state.line.now();
+        if upto <= now {
+            return Ok(now);
         }
         if self.state.entries.len() >= 1_000_000 {
             return Err(StepFault::StepsFull);
         }
-        if self.state.queued.len() == 0 {
-            match pass(&mut self.state, who, upto) {
-                Ok(()) => Ok(upto),
-                Err(_) => Err(StepFault::Memory),
-            }
-        } else {
-            match close_next(&mut self.state, who, upto) {
-                Ok(to) => Ok(to),
-                Err(_) => Err(StepFault::Memory),
-            }
-        }
+        or_memory(go_on(&mut self.state, who, upto))
     }
 
-    /// Answers a request of the operator at now, and adds one entry: whether a role is enabled or disabled, or an event on
-    /// a role that is queued for the next minute. It takes its memory first: a refused request leaves the book as it was.
+    /// Answers a request at now, and adds one entry with the reply. It takes its memory first: a refused step leaves the book
+    /// as it was. `StepsFull` comes exactly where 1,000,000 entries are held.
     pub fn ask(&mut self, who: Who, actor: Actor, request: Request) -> Result<Reply, StepFault>
-        requires { IsEarlyFor self.old actor request }
+        requires { IsNamedFor self.old actor request }
         ensures ok { IfOk result (λ reply. Asks self.old who actor request reply self.new) }
         ensures legal { IsLegalBook self.new }
         ensures err { OnErr result (self.new ≡ self.old) }
@@ -149,23 +199,49 @@ impl Book {
         if self.state.entries.len() >= 1_000_000 {
             return Err(StepFault::StepsFull);
         }
-        match (actor, request) {
-            (Actor::Operator, Request::Status(cond)) => or_memory(tell(&mut self.state, who, cond)),
-            (Actor::Operator, Request::Raise { head, delay: 0 }) => {
-                or_memory(raise(&mut self.state, who, head))
-            }
-            _ => unreachable!(),
-        }
+        or_memory(answer(&mut self.state, who, actor, request))
     }
 }
 
+/// The ground of a safe policy, or the policy for want of memory.
+fn grounded(alloc: Global, safe: Safe) -> Result<Ground, Safe>
+    ensures ok { IfOk result (λ g. g ≡ safe) }
+    ensures err { IfErr result (λ s. s ≡ safe) }
+{
+    let (policy, graph, strata) = safe.into_parts();
+    match Ground::new(alloc, policy, graph, strata) {
+        Ok(ground) => Ok(ground),
+        Err(fault) => Err(safe_of(fault)),
+    }
+}
+
+/// The safe policy of a ground that was not made.
+fn safe_of(fault: GroundFault) -> Safe
+    requires { IsLevelled fault.policy.policy.triggers fault.graph fault.strata }
+    ensures { result ≡ fault.policy }
+{
+    let GroundFault {
+        policy,
+        graph,
+        strata,
+    } = fault;
+    Safe::from_parts(policy, graph, strata)
+}
+
+/// The safe policy of a ground.
+fn safe_again(ground: Ground) -> Safe
+    ensures { result ≡ ground }
+{
+    let (policy, graph, strata) = ground.into_parts();
+    Safe::from_parts(policy, graph, strata)
+}
+
 /// Want of memory as the fault of a step.
-fn or_memory(answer: Result<Reply, Memory>) -> Result<Reply, StepFault>
-    ensures ok { IfOk answer (λ reply. result ≡ Ok reply) }
-    ensures err { OnErr answer (result ≡ Err StepFault.Memory) }
+fn or_memory<T>(answer: Result<T, Memory>) -> Result<T, StepFault>
+    ensures { result ≡ as_step answer }
 {
     match answer {
-        Ok(reply) => Ok(reply),
+        Ok(value) => Ok(value),
         Err(_) => Err(StepFault::Memory),
     }
 }

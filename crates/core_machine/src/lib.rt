@@ -1,11 +1,15 @@
 //! The book: one thread's history of a policy, each entry of it legal, with the execution model that makes it so.
 #![tactic(auto)]
 
+mod asking;
 mod books;
+mod entering;
 mod machine_book;
+mod sessions;
 mod states;
-mod traces;
+mod telling;
+mod ticking;
 
 pub use books::{Book, BookMemory};
 pub use policy_safety::{AdmitFault, CycleEdge, Safe};
-pub use traces::{Closed, Trace};
+pub use time_engine::{Closed, Trace};

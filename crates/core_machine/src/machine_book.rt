@@ -23,17 +23,17 @@ impl Keeps for Book {
 }
 
 impl Machine for Book {
-    ghost use Rattle.core_machine.specs.Books.{now_after, IsLegalFor, IsEarlyFor, IsLegalFor-by_root, IsEarlyFor-by_root, now_after-by_root};
+    ghost use Rattle.core_machine.specs.Books.{now_after, IsLegalFor, IsNamedFor, IsLegalFor-by_root, IsNamedFor-by_root, now_after-by_root};
 
     ghost legal = { IsLegalFor };
 
-    ghost named = { IsEarlyFor };
+    ghost named = { IsNamedFor };
 
     ghost now_of = { now_after };
 
     ghost legal_root = { λ a b h s. IsLegalFor-by_root a b h s };
 
-    ghost named_root = { IsEarlyFor-by_root };
+    ghost named_root = { IsNamedFor-by_root };
 
     ghost now_root = { now_after-by_root };
 

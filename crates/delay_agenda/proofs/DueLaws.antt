@@ -54,7 +54,7 @@ dues_fall (x ∷ xs) h (suc i) zero d le lt = absurd (omega (arith, le))
 dues_fall (x ∷ xs) h (suc i) (suc j) d le lt = dues_fall xs (right_of (below_all pending_cmp x (pairs xs)) _ h) i j d (omega (arith, le)) (omega (arith, lt))
 
 -- a pair is the event at the instant exactly where it is due then and its event is the event
-tied_at : (t : ℕ) (e : Prioritised) (k : Pending) → (is_due_at t k && eq_by_cmp prioritised_cmp e k.event) ≡ eq_by_cmp pending_cmp (pending_at t e) k
+pub tied_at : (t : ℕ) (e : Prioritised) (k : Pending) → (is_due_at t k && eq_by_cmp prioritised_cmp e k.event) ≡ eq_by_cmp pending_cmp (pending_at t e) k
 tied_at t e k = both_tied _ _ (nat_cmp k.due t) (prioritised_cmp e k.event) (unsigned_ties k.due t) refl
 
 -- those that are due after an instant stand first

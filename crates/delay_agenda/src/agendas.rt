@@ -5,7 +5,7 @@ ghost use Rattle.gt_base.specs.Sets.{has, members, none, those, with_member};
 ghost use Rattle.delay_agenda.specs.Due.{pending_at, is_due_at, count_due as count_in, IsLeastDue};
 
 use crate::pairs::Pending;
-use crate::rows::{count_due, last_due, put, take_due};
+use crate::rows::{count_due, forget_due, last_due, put, take_due, tell_due};
 use gt_base::{Happened, Instant, Memory, Prioritised};
 use std::alloc::Global;
 use std::marker::Model;
@@ -95,6 +95,24 @@ impl Agenda {
         ensures { result ≡ count_in self.now.set t }
     {
         count_due(&self.pairs, t)
+    }
+
+    /// Adds the events that are due at the instant to a set of an instant, where room was made before. The agenda keeps them.
+    pub fn tell(&self, t: Instant, into: &mut Happened)
+        requires { count_in self.now.set t ≤ into.old.spare }
+        ensures events { (e : Prioritised) → has into.new.set.events e ≡ (has into.old.set.events e || has self.now.set (pending_at t e)) }
+        ensures signals { into.new.set.signals ≡ into.old.set.signals }
+        ensures spare { into.old.spare ≤ into.new.spare + count_in self.now.set t }
+    {
+        tell_due(&self.pairs, t, into);
+    }
+
+    /// Takes out the pairs that are due at the instant, and keeps the others.
+    pub fn forget(&mut self, t: Instant)
+        ensures set { self.new.set ≡ those self.old.set (λ p. not (is_due_at t p)) }
+        ensures spare { self.old.spare ≤ self.new.spare }
+    {
+        forget_due(&mut self.pairs, t);
     }
 
     /// Moves the events that are due at the instant into a set of an instant, where room was made before. The agenda keeps the

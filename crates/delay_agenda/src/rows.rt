@@ -109,6 +109,31 @@ pub(crate) fn count_due(items: &[Pending], t: Instant) -> usize
     end - start
 }
 
+/// Adds the events that are due at the instant to the set, where room was made before.
+pub(crate) fn tell_due(items: &[Pending], t: Instant, into: &mut Happened)
+    requires rises { Rises pending_cmp items.now }
+    requires room { count_in (set_of_rising items.now) t ≤ into.old.spare }
+    ensures events { (e : Prioritised) → has into.new.set.events e ≡ (has into.old.set.events e || has (set_of_rising {R = pending_cmp} items.now) (pending_at t e)) }
+    ensures signals { into.new.set.signals ≡ into.old.set.signals }
+    ensures spare { into.old.spare ≤ into.new.spare + count_in (set_of_rising items.now) t }
+{
+    let (start, end) = due_range(items, t);
+    join(into, &items[start..end]);
+}
+
+/// Takes out the pairs that are due at the instant.
+pub(crate) fn forget_due(items: &mut Vec<Pending>, t: Instant)
+    requires rises { Rises pending_cmp items.old.items }
+    ensures rises { Rises pending_cmp items.new.items }
+    ensures set { set_of_rising {R = pending_cmp} items.new.items ≡ those (set_of_rising items.old.items) (λ p. not (is_due_at t p)) }
+    ensures capacity { vec_capacity items.new ≡ vec_capacity items.old }
+    ensures len { vec_len items.new ≤ vec_len items.old }
+{
+    let row = items.as_slice();
+    let (start, end) = due_range(row, t);
+    cut(items, start, end);
+}
+
 /// Moves the events that are due at the instant into the set, where room was made before, and keeps the other pairs.
 pub(crate) fn take_due(items: &mut Vec<Pending>, t: Instant, into: &mut Happened)
     requires rises { Rises pending_cmp items.old.items }
@@ -121,8 +146,6 @@ pub(crate) fn take_due(items: &mut Vec<Pending>, t: Instant, into: &mut Happened
     ensures capacity { vec_capacity items.new ≡ vec_capacity items.old }
     ensures len { vec_len items.new ≤ vec_len items.old }
 {
-    let row = items.as_slice();
-    let (start, end) = due_range(row, t);
-    join(into, &row[start..end]);
-    cut(items, start, end);
+    tell_due(items.as_slice(), t, into);
+    forget_due(items, t);
 }

@@ -12,7 +12,7 @@ use Rattle.gtrbac_model.proofs.Uniqueness.{is_same_event, same_event_of}
 use Rattle.least_walk.specs.declared.graphs.GraphEdge.{GraphEdge}
 use Rattle.least_walk.specs.Net.{arc_of, arcs_of, is_marked}
 use Rattle.least_walk.proofs.Items.{item_map, item_of_map}
-use Rattle.walk_laws.specs.Cycles.{Closes, IsLeastCycle, AreLevels, is_conflict}
+use Rattle.gtrbac_model.specs.Cycles.{Closes, IsLeastCycle, AreLevels, is_conflict}
 use Rattle.walk_laws.proofs.Closing as closing
 use Rattle.walk_laws.proofs.Orders.{one_least_cycle}
 use Rattle.dependency_graph.specs.Nets.{EventNet, IsGraphOf, event_at, dependency, read_off}

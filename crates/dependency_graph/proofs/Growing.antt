@@ -2,15 +2,16 @@
 use Rattle.std.proofs.Common.{◌≡◌, ℕ, zero, suc, ◌+◌, Bool, true, false, cond, nat_eq, ◌||◌, ◌&&◌, List, [], ◌∷◌, ◌++◌, length, drop, Some, refl, sym, ◌∙◌, ap, arith, append_assoc, append-nil}
 use Rattle.std.proofs.lemmas.Bool.{ne_eqb}
 use Rattle.gt_base.specs.Held.{Rule}
+use Rattle.gt_base.specs.declared.events.Cond.{Cond}
 use Rattle.gt_base.specs.declared.events.Event.{Event}
 use Rattle.gtrbac_model.specs.Graph.{item_at}
 use Rattle.gtrbac_model.specs.Same.{lists, same_event}
 use Rattle.gtrbac_model.specs.Trigger.{immediate}
-use Rattle.gtrbac_model.specs.Safety.{Dependency, is_node, edge_if_node, of_body, of_triggers}
+use Rattle.gtrbac_model.specs.Safety.{Dependency, is_node, edge_if_node, of_body, of_settled, of_trigger, of_triggers}
 use Rattle.gtrbac_model.proofs.Uniqueness.{same_event_of}
 use Rattle.least_walk.specs.declared.graphs.GraphEdge.{GraphEdge}
 use Rattle.dependency_graph.specs.Nets.{dependency, read_off, event_at}
-use Rattle.dependency_graph.specs.Making.{AreNodes, Adds, edge_in, of_trigger}
+use Rattle.dependency_graph.specs.Making.{AreNodes, Adds, edge_in}
 
 pub read_off_push : (events : List Event) (es : List GraphEdge) (ps : List (ℕ × ℕ)) (e : GraphEdge) (p : ℕ × ℕ) → length ps ≡ length es → read_off events (es ++ e ∷ []) (ps ++ p ∷ []) ≡ read_off events es ps ++ dependency events e p ∷ []
 read_off_push events [] [] e p h = refl
@@ -45,19 +46,22 @@ edge_added events es ps from to marked source p es' ps' is size qe qp =
     ∙ ap (λ z. read_off events es ps ++ (record { source = z; target = event_at events to; conflict = marked; trigger = p.0; place = p.1 }) ∷ []) (event_of events from source is)
     ∙ ap (λ b. read_off events es ps ++ cond b ((record { source = source; target = event_at events to; conflict = marked; trigger = p.0; place = p.1 }) ∷ []) []) (sym (is_listed events from source is))
 
--- the edges of an immediate trigger whose head is this node
-pub trigger_of_body : (events : List Event) (head t : ℕ) (r : Rule) (body : List Event) (old new : List Dependency) → item_at events head ≡ Some r.head.event → r.delay ≡ 0 → body ≡ r.events
-    → Adds events old new (λ triggers. of_body triggers (event_at events head) t 0 body) → Adds events old new (λ triggers. of_trigger triggers t r)
-trigger_of_body events head t r body old new is now same adds triggers nodes =
-    adds triggers nodes
-    ∙ ap (λ e. old ++ of_body triggers e t 0 body) (event_of events head r.head.event is)
-    ∙ ap (λ b. old ++ of_body triggers r.head.event t 0 b) same
-    ∙ ap (λ d. old ++ cond (nat_eq d 0) (of_body triggers r.head.event t 0 r.events) []) (sym now)
+-- the edges of an immediate trigger whose head is this node: those of its body events, then those of its settled conditions
+pub trigger_of_parts : (events : List Event) (head t first : ℕ) (r : Rule) (body : List Event) (conds : List Cond) (old mid new : List Dependency)
+    → item_at events head ≡ Some r.head.event → r.delay ≡ 0 → body ≡ r.events → first ≡ length r.events → conds ≡ r.settled
+    → Adds events old mid (λ triggers. of_body triggers (event_at events head) t 0 body) → Adds events mid new (λ triggers. of_settled triggers (event_at events head) t first conds)
+    → Adds events old new (λ triggers. of_trigger triggers t r)
+trigger_of_parts events head t first r body conds old mid new is now same behind alike bodies settled triggers nodes =
+    settled triggers nodes
+    ∙ ap (λ ds. ds ++ of_settled triggers (event_at events head) t first conds) (bodies triggers nodes)
+    ∙ append_assoc old (of_body triggers (event_at events head) t 0 body) (of_settled triggers (event_at events head) t first conds)
+    ∙ (λ i. old ++ (of_body triggers (event_of events head r.head.event is i) t 0 (same i) ++ of_settled triggers (event_of events head r.head.event is i) t (behind i) (alike i)))
+    ∙ ap (λ d. old ++ cond (nat_eq d 0) (of_body triggers r.head.event t 0 r.events ++ of_settled triggers r.head.event t (length r.events) r.settled) []) (sym now)
 
 -- a delayed trigger has none
 pub delayed_none : (events : List Event) (t : ℕ) (r : Rule) (ds : List Dependency) → (r.delay ≡ 0 → ⊥) → Adds events ds ds (λ triggers. of_trigger triggers t r)
 delayed_none events t r ds late triggers nodes =
-    sym (append-nil ds) ∙ ap (λ b. ds ++ cond b (of_body triggers r.head.event t 0 r.events) []) (sym (ne_eqb r.delay 0 late))
+    sym (append-nil ds) ∙ ap (λ b. ds ++ cond b (of_body triggers r.head.event t 0 r.events ++ of_settled triggers r.head.event t (length r.events) r.settled) []) (sym (ne_eqb r.delay 0 late))
 
 -- behind the item at a number stand those from the next number on
 pub dropped : {A : Type 0} (xs : List A) (n : ℕ) (x : A) → item_at xs n ≡ Some x → drop n xs ≡ x ∷ drop (n + 1) xs

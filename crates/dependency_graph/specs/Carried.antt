@@ -5,7 +5,7 @@ use Rattle.gt_base.specs.Held.{Rule}
 use Rattle.gtrbac_model.specs.Same.{same_event}
 use Rattle.gtrbac_model.specs.Safety.{IsLevelling, the_cycle}
 use Rattle.least_walk.specs.Net.{arcs_of, is_marked}
-use Rattle.walk_laws.specs.Cycles.{IsLeastCycle, AreLevels}
+use Rattle.gtrbac_model.specs.Cycles.{IsLeastCycle, AreLevels}
 use Rattle.dependency_graph.specs.Nets.{EventNet, IsGraphOf}
 
 -- the place of an event among events, or their number

@@ -1,3 +1,4 @@
 pub mod Nets
 pub mod Making
 pub mod Carried
+pub mod Levelled

@@ -4,8 +4,7 @@ use Rattle.gt_base.specs.declared.events.Event.{Event}
 use Rattle.gt_base.specs.Held.{Rule}
 use Rattle.gtrbac_model.specs.Graph.{item_at}
 use Rattle.gtrbac_model.specs.Same.{lists, same_event}
-use Rattle.gtrbac_model.specs.Trigger.{immediate}
-use Rattle.gtrbac_model.specs.Safety.{Dependency, is_node, of_body}
+use Rattle.gtrbac_model.specs.Safety.{Dependency, is_node}
 
 -- each event stands at one place
 abbrev pub AreApart : List Event → Type 0
@@ -18,10 +17,6 @@ AreNodes triggers events = (e : Event) → lists same_event events e ≡ is_node
 -- the dependency where its source is among the events
 abbrev pub edge_in : List Event → Dependency → List Dependency
 edge_in events d = cond (lists same_event events d.source) (d ∷ []) []
-
--- the dependencies of one trigger, of this number
-abbrev pub of_trigger : List Rule → ℕ → Rule → List Dependency
-of_trigger triggers t r = cond (immediate r) (of_body triggers r.head.event t 0 r.events) []
 
 -- where the events are the nodes of any triggers, the list has grown by what these triggers give
 abbrev pub Adds : List Event → List Dependency → List Dependency → (List Rule → List Dependency) → Type 0

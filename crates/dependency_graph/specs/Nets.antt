@@ -1,5 +1,5 @@
 -- What a graph over events is seen as, and that it is the dependency graph.
-use Rattle.std.specs.Prelude.{◌≡◌, ℕ, ◌≤◌, false, List, [], ◌∷◌, length, Some}
+use Rattle.std.specs.Prelude.{◌≡◌, ℕ, ◌+◌, ◌≤◌, false, List, [], ◌∷◌, length, Some}
 use Rattle.std.specs.List.{slice_index_or}
 use Rattle.gt_base.specs.declared.events.Event.{Event}
 use Rattle.gt_base.specs.declared.events.Fluent.TheVariants.{Enabled}
@@ -10,7 +10,7 @@ use Rattle.gtrbac_model.specs.Graph.{item_at}
 use Rattle.gtrbac_model.specs.Same.{lists, same_event}
 use Rattle.gtrbac_model.specs.Safety.{Dependency, is_node, dependencies}
 
--- the event of each node, the numbered edges, and the trigger and the place of the body event of each edge
+-- the event of each node, the numbered edges, and the trigger and the place of each edge
 pub record EventNet : Type 0 where
   pub events : List Event
   pub net : Net
@@ -44,7 +44,7 @@ pub record IsGraphOf (triggers : List Rule) (g : EventNet) : Type 0 where
   pub nodes : (e : Event) → lists same_event g.events e ≡ is_node triggers e
   pub edges : read_off g.events g.net.edges g.places ≡ dependencies triggers
 
--- the limits of a policy: at most 4,000 triggers, of at most 16 body events each
+-- the limits of a policy: at most 4,000 triggers, each of at most 16 body events and settled conditions
 pub record IsWithinLimits (triggers : List Rule) : Type 0 where
   pub few : length triggers ≤ 4_000
-  pub short : (n : ℕ) (r : Rule) → item_at triggers n ≡ Some r → length r.events ≤ 16
+  pub short : (n : ℕ) (r : Rule) → item_at triggers n ≡ Some r → length r.events + length r.settled ≤ 16

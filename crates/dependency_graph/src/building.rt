@@ -1,22 +1,23 @@
 //! The graph made from triggers.
-ghost use Rattle.std.specs.Prelude.{◌≡◌, ℕ, ◌+◌, ◌≤◌, ◌<◌, ◌++◌, length, true, false, Some, IfOk, OnOk, MatchOption};
+ghost use Rattle.std.specs.Prelude.{◌≡◌, ℕ, ◌+◌, ◌*◌, ◌≤◌, ◌<◌, ◌++◌, length, true, false, Some, IfOk, OnOk, MatchOption};
 ghost use Rattle.gtrbac_model.specs.Graph.{item_at};
 ghost use Rattle.gtrbac_model.specs.Same.{lists, same_event};
 ghost use Rattle.gtrbac_model.specs.Trigger.{immediate};
-ghost use Rattle.gtrbac_model.specs.Safety.{of_body, dependencies};
+ghost use Rattle.gtrbac_model.specs.Safety.{of_body, of_settled, of_trigger, dependencies};
 ghost use Rattle.least_walk.specs.Net.{IsNet};
 ghost use Rattle.dependency_graph.specs.Nets.{IsGraphOf, IsWithinLimits, read_off, event_at};
-ghost use Rattle.dependency_graph.specs.Making.{AreApart, AreNodes, Adds, edge_in, of_trigger};
+ghost use Rattle.dependency_graph.specs.Making.{AreApart, AreNodes, Adds, edge_in};
 
 use crate::event_graphs::EventGraph;
-use gt_base::{Event, List, Trigger};
+use gt_base::{Cond, Event, List, Trigger};
 use indexmap::IndexSet;
 use least_walk::{Graph, GraphEdge};
 use std::alloc::{AllocError, Global};
 
 /// The dependency graph: its nodes are the events that head an immediate trigger. Each body event of an immediate trigger gives a plain
-/// edge from it to the head, and a conflict edge from its converse to the head, where they begin at a node. Edges are numbered by
-/// trigger, then by the place of the body event, plain before conflict.
+/// edge from it to the head, and a conflict edge from its converse to the head, and each settled condition conflict edges to the head
+/// from the events that turn its fluent on and off, where they begin at a node. Edges are numbered by trigger, then by place, body
+/// events before settled conditions, plain before conflict, and on before off.
 pub fn graph(alloc: Global, triggers: &List<Trigger>) -> Result<EventGraph, AllocError>
     requires { IsWithinLimits triggers.now.items }
     ensures { IfOk result (IsGraphOf triggers.now.items) }
@@ -92,7 +93,7 @@ fn add_trigger(
     requires few { length events.now.keys ≤ 4_294_967_295 }
     requires head { immediate trigger.now ≡ true → lists same_event events.now.keys trigger.now.head.event ≡ true }
     requires sizes { length places.old.items ≡ length graph.old.edges }
-    requires short { length trigger.now.events ≤ 16 }
+    requires short { length trigger.now.events + length trigger.now.settled ≤ 16 }
     requires room { length graph.old.edges + 32 ≤ 4_294_967_295 }
     ensures nodes { OnOk result (graph.new.nodes ≡ graph.old.nodes) }
     ensures sizes { OnOk result (length places.new.items ≡ length graph.new.edges) }
@@ -107,7 +108,17 @@ fn add_trigger(
     let Some(head) = find(events, trigger.head.event) else {
         return Ok(());
     };
-    add_body(trigger.events.as_slice(), t, head, events, graph, places)
+    add_body(trigger.events.as_slice(), t, head, events, graph, places)?;
+    let first = trigger.events.len() as u32;
+    add_settled(
+        trigger.settled.as_slice(),
+        t,
+        first,
+        head,
+        events,
+        graph,
+        places,
+    )
 }
 
 /// Adds the edges from the events of a body, and from their converses, to the head.
@@ -124,10 +135,10 @@ fn add_body(
     requires end { head < length events.now.keys }
     requires sizes { length places.old.items ≡ length graph.old.edges }
     requires short { length body.now ≤ 16 }
-    requires room { length graph.old.edges + 32 ≤ 4_294_967_295 }
+    requires room { length graph.old.edges + 2 * length body.now ≤ 4_294_967_295 }
     ensures nodes { OnOk result (graph.new.nodes ≡ graph.old.nodes) }
     ensures sizes { OnOk result (length places.new.items ≡ length graph.new.edges) }
-    ensures room { OnOk result (length graph.new.edges ≤ length graph.old.edges + 32) }
+    ensures room { OnOk result (length graph.new.edges ≤ length graph.old.edges + 2 * length body.now) }
     ensures edges { OnOk result (Adds events.now.keys
         (read_off events.now.keys graph.old.edges places.old.items) (read_off events.now.keys graph.new.edges places.new.items)
         (λ triggers. of_body triggers (event_at events.now.keys head) t 0 body.now)) }
@@ -136,6 +147,42 @@ fn add_body(
         let place = (t, p as u32);
         add_edge(body[p], head, false, place, events, graph, places)?;
         add_edge(body[p].converse(), head, true, place, events, graph, places)?;
+    }
+    Ok(())
+}
+
+/// Adds the edges to the head from both events of the fluents of settled conditions, which stand from this place on.
+fn add_settled(
+    conds: &[Cond],
+    t: u32,
+    first: u32,
+    head: u32,
+    events: &IndexSet<Event>,
+    graph: &mut Graph,
+    places: &mut Vec<(u32, u32)>,
+) -> Result<(), AllocError>
+    requires nodes { graph.old.nodes ≡ length events.now.keys }
+    requires few { length events.now.keys ≤ 4_294_967_295 }
+    requires end { head < length events.now.keys }
+    requires sizes { length places.old.items ≡ length graph.old.edges }
+    requires short { first + length conds.now ≤ 16 }
+    requires room { length graph.old.edges + 2 * length conds.now ≤ 4_294_967_295 }
+    ensures nodes { OnOk result (graph.new.nodes ≡ graph.old.nodes) }
+    ensures sizes { OnOk result (length places.new.items ≡ length graph.new.edges) }
+    ensures room { OnOk result (length graph.new.edges ≤ length graph.old.edges + 2 * length conds.now) }
+    ensures edges { OnOk result (Adds events.now.keys
+        (read_off events.now.keys graph.old.edges places.old.items) (read_off events.now.keys graph.new.edges places.new.items)
+        (λ triggers. of_settled triggers (event_at events.now.keys head) t first conds.now)) }
+{
+    let mut p = first;
+    for cond in conds {
+        let on = Event {
+            on: true,
+            fluent: cond.fluent,
+        };
+        add_edge(on, head, true, (t, p), events, graph, places)?;
+        add_edge(on.converse(), head, true, (t, p), events, graph, places)?;
+        p += 1;
     }
     Ok(())
 }

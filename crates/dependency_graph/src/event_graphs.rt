@@ -9,7 +9,7 @@ use indexmap::IndexSet;
 use least_walk::Graph;
 use std::marker::Model;
 
-/// Events by their nodes, and edges by their triggers and the places of the body events there.
+/// Events by their nodes, and edges by their triggers and their places there.
 #[derive(Drop)]
 pub struct EventGraph {
     pub(crate) events: IndexSet<Event>,
@@ -50,7 +50,7 @@ impl EventGraph {
         find(&self.events, e)
     }
 
-    /// The trigger of an edge and the place of the body event there, both from 0.
+    /// The trigger of an edge and its place there, both from 0: body events come first, then settled conditions.
     pub fn place(&self, edge: u32) -> (u32, u32)
         requires { edge < length self.now.net.edges }
         ensures { item_at self.now.places edge ≡ Some result }

@@ -1,5 +1,5 @@
 //! Ages of fluents.
-ghost use Rattle.std.specs.Prelude.{◌≡◌, ℕ, ◌≤◌, ◌+◌, ◌-◌, cond, IfOk, OnOk};
+ghost use Rattle.std.specs.Prelude.{◌≡◌, ℕ, ◌≤◌, ◌+◌, ◌-◌, cond, [], IfOk, OnOk};
 ghost use Rattle.gt_base.specs.declared.events.Fluent.{Fluent};
 ghost use Rattle.gt_base.specs.Bounds.{last_minute};
 ghost use Rattle.gt_base.specs.Sets.{has};
@@ -42,6 +42,7 @@ impl Ages {
     /// The ages at the birth, when no fluent has changed. It takes no memory yet.
     pub fn new(alloc: Global, birth: Instant) -> Ages
         ensures birth { result.birth ≡ birth }
+        ensures rows { result.rows ≡ [] }
         ensures since { (f : Fluent) → since_in result f ≡ birth }
     {
         Ages {
@@ -60,6 +61,7 @@ impl Ages {
     /// Makes room for n more fluents. After a refusal each fluent has what it had, and no room is lost.
     pub fn reserve(&mut self, n: usize) -> Result<(), Memory>
         ensures birth { self.new.birth ≡ self.old.birth }
+        ensures rows { self.new.rows ≡ self.old.rows }
         ensures since { (f : Fluent) → since_in self.new f ≡ since_in self.old f }
         ensures spare { self.old.spare ≤ self.new.spare }
         ensures room { OnOk result (n ≤ self.new.spare) }
@@ -70,6 +72,7 @@ impl Ages {
     /// Ages that say the same of each fluent. The room of the copy may differ.
     pub fn copied(&self) -> Result<Ages, Memory>
         ensures birth { IfOk result (λ copy. copy.birth ≡ self.now.birth) }
+        ensures rows { IfOk result (λ copy. copy.rows ≡ self.now.rows) }
         ensures since { IfOk result (λ copy. (f : Fluent) → since_in copy f ≡ since_in self.now f) }
     {
         Ok(Ages {

@@ -1,6 +1,9 @@
+pub mod Crossing
 pub mod OrderLaws
 pub mod Rising
 pub mod SetLaws
 pub mod SetSteps
 pub mod SetsAreSets
 pub mod Storing
+pub mod WordLaws
+pub mod WordLists

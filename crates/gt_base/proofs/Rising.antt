@@ -11,16 +11,16 @@ use Rattle.std.specs.FinMap.Entries.{put, is_sorted, below_all, where_key, by_or
 use Rattle.gt_base.specs.Sets.{same_entries_set, pairs, set_of_rising, checked, with_member, those, has, Rises, GoesIn, none}
 use Rattle.gt_base.proofs.SetLaws.{entries-checked, has-members, members-set_of_rising}
 
-less_of : (r : Ordering) → T (is_lt r) → r ≡ Less
+pub less_of : (r : Ordering) → T (is_lt r) → r ≡ Less
 less_of Less h = refl
 less_of Equal h = absurd h
 less_of Greater h = absurd h
 
-left_of : (a b : Bool) → T (a && b) → T a
+pub left_of : (a b : Bool) → T (a && b) → T a
 left_of true b h = tt
 left_of false b h = absurd h
 
-right_of : (a b : Bool) → T (a && b) → T b
+pub right_of : (a b : Bool) → T (a && b) → T b
 right_of true b h = h
 right_of false b h = absurd h
 
@@ -30,14 +30,14 @@ at_most_two Equal = omega arith
 at_most_two Greater = omega arith
 
 module _ {K : Type 0} {R : K → K → Ordering} (o : IsTotalOrder R) where
-  turned : (x y : K) (r : Ordering) → R x y ≡ r → R y x ≡ ordering_reverse r
+  pub turned : (x y : K) (r : Ordering) → R x y ≡ r → R y x ≡ ordering_reverse r
   turned x y r e = o.antisymm y x ∙ ap ordering_reverse e
 
   -- what is below an item is below what ties with it
   below_tied : (x y k : K) → R x y ≡ Less → R y k ≡ Equal → R x k ≡ Less
   below_tied x y k lt e = turned k x Greater (sym (o.congr y k x e) ∙ turned x y Less lt)
 
-  below_at : (x : K) (ks : List K) → T (below_all R x (pairs ks)) → (i : ℕ) (d : K) → i < length ks → R x (get_or ks i d) ≡ Less
+  pub below_at : (x : K) (ks : List K) → T (below_all R x (pairs ks)) → (i : ℕ) (d : K) → i < length ks → R x (get_or ks i d) ≡ Less
   below_at x [] h i d lt = absurd (omega (arith, lt))
   below_at x (y ∷ ys) h zero d lt = less_of _ (left_of (is_lt (R x y)) _ h)
   below_at x (y ∷ ys) h (suc i) d lt = below_at x ys (right_of (is_lt (R x y)) _ h) i d (omega (arith, lt))

@@ -9,3 +9,4 @@ pub mod Roomy
 pub mod SetWords
 pub mod Sets
 pub mod Stored
+pub mod Words

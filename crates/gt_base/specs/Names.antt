@@ -1,6 +1,6 @@
 -- Names and numbers as words.
-use Rattle.std.specs.Prelude.{◌≡◌, ℕ, ◌+◌, ◌-◌, ◌*◌, Bool, true, false, ◌&&◌, ◌||◌, ◌==◌, List, [], ◌∷◌, length, take, drop, replicate, nat_le, nat_lt, bytes_eq, Option, Some, None, position}
-use Rattle.std.specs.List.{list_all}
+use Rattle.std.specs.Prelude.{◌≡◌, ℕ, ◌+◌, ◌-◌, ◌*◌, Bool, true, false, cond, ◌&&◌, ◌||◌, ◌==◌, List, [], ◌∷◌, ◌++◌, length, take, drop, replicate, nat_le, nat_lt, bytes_eq, Option, Some, None, position}
+use Rattle.std.specs.List.{list_all, list_any}
 
 abbrev pub is_letter : ℕ → Bool
 is_letter b = (nat_le 65 b && nat_le b 90) || (nat_le 97 b && nat_le b 122)
@@ -50,3 +50,12 @@ pub record IsStored (bytes : List ℕ) (len : ℕ) : Type 0 where
   pub name : is_name (take len bytes) ≡ true
   pub zeros : drop len bytes ≡ replicate (32 - len) 0
   pub count : length (take len bytes) ≡ len
+
+-- lists of names
+
+abbrev pub lists_name : List (List ℕ) → List ℕ → Bool
+lists_name names name = list_any (bytes_eq name) names
+
+-- the names with this one at the end, unless they have it
+abbrev pub with_name : List (List ℕ) → List ℕ → List (List ℕ)
+with_name names name = cond (lists_name names name) names (names ++ name ∷ [])

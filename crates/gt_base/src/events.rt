@@ -39,6 +39,8 @@ pub enum Fluent {
     Granted(PermId, RoleId),
     /// The duration limit is armed.
     Limit(LimitId),
+    /// The edge of the role hierarchy with this number is linked.
+    Edge(u32),
 }
 
 /// It sets one fluent on or off.

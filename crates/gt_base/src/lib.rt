@@ -12,6 +12,7 @@ mod policies;
 mod requests;
 mod rows;
 mod sets;
+mod words;
 
 pub use events::{
     Cond, Event, Fluent, LimitId, PeriodId, PermId, Prioritised, RoleId, SessionId, Signal, UserId,

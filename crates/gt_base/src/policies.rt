@@ -7,12 +7,14 @@ use crate::lists::{List, Memory};
 use std::marker::Model;
 
 /// A trigger: at an instant at which its body is met its head follows after the delay, in minutes; at once where the
-/// delay is 0. Triggers are seen without the room of their lists.
+/// delay is 0. Its conditions are asked of the status before the instant, its settled conditions of the status after it.
+/// Triggers are seen without the room of their lists.
 #[derive(Drop)]
 pub struct Trigger {
     pub events: List<Event>,
     pub signals: List<Signal>,
     pub conds: List<Cond>,
+    pub settled: List<Cond>,
     pub head: Prioritised,
     pub delay: u32,
 }
@@ -22,7 +24,7 @@ impl Model for Trigger {
 
     ghost Value = { Rule };
 
-    ghost view = { λ t. record { events = t.events.items; signals = t.signals.items; conds = t.conds.items; head = t.head; delay = t.delay } };
+    ghost view = { λ t. record { events = t.events.items; signals = t.signals.items; conds = t.conds.items; settled = t.settled.items; head = t.head; delay = t.delay } };
 }
 
 /// When a periodic entry raises its event: at each instant of its period, where the period starts, or where a span of it
@@ -52,7 +54,8 @@ pub struct LimitRule {
 }
 
 /// An edge of the role hierarchy. It lends the junior's permissions to the senior where it inherits, and lets who may
-/// activate the senior activate the junior where it activates; a strong edge needs both roles enabled.
+/// activate the senior activate the junior where it activates; it does so while it is linked, and a strong edge needs both
+/// roles enabled.
 #[derive(Clone, Copy, PartialEq, Eq, Debug)]
 pub struct HierEdge {
     pub senior: RoleId,
@@ -96,6 +99,7 @@ impl Trigger {
             events: self.events.copied()?,
             signals: self.signals.copied()?,
             conds: self.conds.copied()?,
+            settled: self.settled.copied()?,
             head: self.head,
             delay: self.delay,
         })

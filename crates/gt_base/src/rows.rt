@@ -1,7 +1,6 @@
 //! Rising rows of distinct items, searched by halves.
-ghost use Rattle.std.specs.Prelude.{◌≡◌, ◌≤◌, ◌<◌, ◌+◌, true, false, not, length, IfOk, IfErr, vec_capacity, vec_len};
-ghost use Rattle.std.specs.Ordering.{eq_by_cmp};
-ghost use Rattle.gt_base.specs.Sets.{Rises, set_of_rising, has, with_member, those, GoesIn};
+ghost use Rattle.std.specs.Prelude.{◌≡◌, ◌≤◌, ◌<◌, ◌+◌, true, length, IfOk, IfErr, vec_capacity, vec_len};
+ghost use Rattle.gt_base.specs.Sets.{Rises, set_of_rising, has, with_member, GoesIn};
 
 /// Where the item stands, or where it goes in.
 fn find<K: Ord>(items: &[K], k: &K) -> Result<usize, usize>
@@ -39,19 +38,4 @@ pub(crate) fn put<K: Ord + Copy>(items: &mut Vec<K>, k: K)
             Err(_) => unreachable!(),
         }
     }
-}
-
-/// Takes the item out, if it is there.
-pub(crate) fn take_out<K: Ord + Copy + Drop>(items: &mut Vec<K>, k: K)
-    requires { Rises K.cmp items.old.items }
-    ensures rises { Rises K.cmp items.new.items }
-    ensures set { set_of_rising {R = K.cmp} items.new.items ≡ those (set_of_rising items.old.items) (λ x. not (eq_by_cmp K.cmp k x)) }
-    ensures capacity { vec_capacity items.new ≡ vec_capacity items.old }
-    ensures len { vec_len items.new ≤ vec_len items.old }
-{
-    items.retain(
-        |x: &K| -> bool
-            ensures { result ≡ not (eq_by_cmp K.cmp k x.now) }
-        { !k.cmp(x).is_eq() },
-    );
 }

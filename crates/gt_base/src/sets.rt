@@ -1,11 +1,12 @@
-//! Sets of events, signals and fluents, kept as rising rows whose room is taken ahead.
+//! Sets of events, signals and fluents, whose room is taken ahead: events and signals as rising rows, fluents as words.
 ghost use Rattle.std.specs.Prelude.{◌≡◌, ◌≤◌, ◌+◌, ◌<◌, if◌then◌else◌, length, slice_get, Some, OnOk, IfOk};
 ghost use Rattle.gt_base.specs.Sets.{has, members, none, with_member, without};
 ghost use Rattle.gt_base.specs.Happening.{nothing};
 
 use crate::events::{Event, Fluent, Prioritised, Signal};
-use crate::lists::Memory;
-use crate::rows::{is_in, put, take_out};
+use crate::lists::{List, Memory};
+use crate::rows::{is_in, put};
+use crate::words::{Word, all_on, is_on, turn_off, turn_on};
 use std::alloc::Global;
 use std::marker::Model;
 
@@ -231,45 +232,45 @@ impl Happened {
     }
 }
 
-/// Which fluents are on, seen as their set and the number of further fluents that it has room for.
+/// Which fluents are on, seen as their set and the number of further words that it has room for. A word is of 64 fluents
+/// that stand side by side, and to set one fluent on takes one further word at most.
 #[derive(Drop)]
 pub struct Status {
-    fluents: Vec<Fluent>,
+    words: Vec<Word>,
 }
 
 impl Model for Status {
     ghost use Rattle.std.specs.Prelude.{◌-◌, vec_capacity, vec_len};
-    ghost use Rattle.gt_base.specs.Orders.{fluent_cmp};
-    ghost use Rattle.gt_base.specs.Sets.{set_of_rising, Rises};
     ghost use Rattle.gt_base.specs.Happening.{Fluents, Roomier, fluents_code, roomier_code};
+    ghost use Rattle.gt_base.specs.Words.{set_of_words, AreWords};
 
     ghost Value = { Roomier Fluents };
 
     ghost coded = { roomier_code fluents_code };
 
-    ghost view = { λ s. record { set = set_of_rising s.fluents.items; spare = vec_capacity s.fluents - vec_len s.fluents } };
+    ghost view = { λ s. record { set = set_of_words s.words.items; spare = vec_capacity s.words - vec_len s.words } };
 
-    ghost invariant = { λ s. Rises fluent_cmp s.fluents.items };
+    ghost invariant = { λ s. AreWords s.words.items };
 }
 
 impl Status {
     /// The status in which all is off, which takes no memory yet.
-    #[tactic(auto, using(crate::proofs::Rising::set_of_nothing))]
+    #[tactic(auto, using(crate::proofs::WordLists::set_of_no_words))]
     pub fn new(alloc: Global) -> Status
         ensures { result.set ≡ none }
     {
         Status {
-            fluents: Vec::new(alloc),
+            words: Vec::new(alloc),
         }
     }
 
-    /// Makes room for n more fluents. After a refusal the status is as it was.
+    /// Makes room for n more words, and so for n more fluents. After a refusal the status is as it was.
     pub fn reserve(&mut self, n: usize) -> Result<(), Memory>
         ensures set { self.new.set ≡ self.old.set }
         ensures spare { self.old.spare ≤ self.new.spare }
         ensures room { OnOk result (n ≤ self.new.spare) }
     {
-        self.fluents.reserve(n)
+        self.words.reserve(n)
     }
 
     /// An equal status.
@@ -277,22 +278,22 @@ impl Status {
         ensures { IfOk result (λ copy. copy.set ≡ self.now.set) }
     {
         Ok(Status {
-            fluents: Vec::from_slice(*self.fluents.allocator(), &self.fluents)?,
+            words: Vec::from_slice(*self.words.allocator(), &self.words)?,
         })
     }
 
     /// The fluents that are on, ascending: by sort, then by their numbers.
-    pub fn as_slice(&self) -> &[Fluent]
-        ensures { result.now ≡ members self.now.set }
+    pub fn fluents(&self) -> Result<List<Fluent>, Memory>
+        ensures { IfOk result (λ fluents. fluents.items ≡ members self.now.set) }
     {
-        &self.fluents
+        Ok(List::from(all_on(&self.words, *self.words.allocator())?))
     }
 
     /// Whether the fluent is on.
     pub fn is_on(&self, f: Fluent) -> bool
         ensures { result ≡ has self.now.set f }
     {
-        is_in(&self.fluents, &f)
+        is_on(&self.words, f)
     }
 
     /// Sets the fluent on or off, into room that was made before.
@@ -302,9 +303,9 @@ impl Status {
         ensures spare { self.old.spare ≤ self.new.spare + 1 }
     {
         if on {
-            put(&mut self.fluents, f);
+            turn_on(&mut self.words, f);
         } else {
-            take_out(&mut self.fluents, f);
+            turn_off(&mut self.words, f);
         }
     }
 }

@@ -3,8 +3,8 @@ use Rattle.std.proofs.Common.{◌≡◌, ◌<◌, ◌≤◌, ℕ, zero, suc, tru
 use Rattle.std.proofs.Math.Seq.{drop-cons}
 use Rattle.std.specs.Prelude.{if◌then◌else◌}
 use Rattle.std.specs.Str.{bytes_eq}
-use Rattle.gt_io.specs.declared.shelf.MemFile.{MemFile}
-use Rattle.gt_io.specs.Shelf.{text_of, bytes_at}
+use Rattle.gt_io.specs.declared.memory_shelf.MemFile.{MemFile}
+use Rattle.gt_io.specs.MemoryShelf.{text_of, bytes_at}
 
 pub bytes_at-get_or : (files : List MemFile) (i : ℕ) (d : MemFile) → i < length files → bytes_at files i ≡ (get_or files i d).bytes.items
 bytes_at-get_or [] i d h = absurd (omega arith)

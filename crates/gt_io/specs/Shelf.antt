@@ -1,16 +1,32 @@
--- Texts by their names.
-use Rattle.std.specs.Prelude.{ℕ, zero, suc, List, [], ◌∷◌, Some, None, if◌then◌else◌}
-use Rattle.std.specs.Str.{bytes_eq}
+-- Texts by their names, and why one was not found.
+use Rattle.std.specs.Prelude.{◌≡◌, ◌⊎◌, ℕ, List, None, IsSomeAnd, MatchResult}
 use Rattle.std.specs.declared.option.Option.{Option}
-use Rattle.gt_io.specs.declared.shelf.MemFile.{MemFile}
+use Rattle.std.specs.declared.result.Result.{Result}
+use Rattle.gt_io.specs.Causes.{Rose}
+use Rattle.gt_io.specs.declared.source.ReadFault.{ReadFault}
+use Rattle.gt_io.specs.declared.source.ReadFault.TheVariants.{Memory, Failed, TooLong}
 
--- the text of the first file of this name
-abbrev pub text_of : List MemFile → List ℕ → Option (List ℕ)
-text_of [] name = None
-text_of (file ∷ files) name = if bytes_eq file.name.items name then Some file.bytes.items else text_of files name
+-- the text of each name, where a shelf tells it
+abbrev pub Contents : Type 0
+Contents = Option (List ℕ → Option (List ℕ))
 
--- the bytes of the file at a place, none where there is no such file
-abbrev pub bytes_at : List MemFile → ℕ → List ℕ
-bytes_at [] i = []
-bytes_at (file ∷ files) zero = file.bytes.items
-bytes_at (file ∷ files) (suc i) = bytes_at files i
+-- the shelf tells that it has no text of the name
+abbrev pub Lacks : Contents → List ℕ → Type 0
+Lacks contents name = IsSomeAnd contents (λ text_of. text_of name ≡ None)
+
+-- why a text was not found: the shelf failed, which its count of hard faults shows, or it tells that it has none
+abbrev pub IsNotFound : Contents → List ℕ → ℕ → ℕ → Type 0
+IsNotFound contents name before now = Rose before now ⊎ (Lacks contents name × (now ≡ before))
+
+-- a search by name raises the count of hard faults where the shelf failed, and only there
+abbrev pub HasFindCause : {T E : Type 0} → Contents → List ℕ → ℕ → ℕ → Result T E → Type 0
+HasFindCause contents name before now result = MatchResult result (λ _. now ≡ before) (λ _. IsNotFound contents name before now)
+
+abbrev pub TextFaultCause : Contents → List ℕ → ℕ → ℕ → ReadFault → Type 0
+TextFaultCause contents name before now Memory = now ≡ before
+TextFaultCause contents name before now Failed = IsNotFound contents name before now
+TextFaultCause contents name before now TooLong = now ≡ before
+
+-- the same of a text that was to be found and read whole
+abbrev pub HasTextCause : {T : Type 0} → Contents → List ℕ → ℕ → ℕ → Result T ReadFault → Type 0
+HasTextCause contents name before now result = MatchResult result (λ _. now ≡ before) (TextFaultCause contents name before now)

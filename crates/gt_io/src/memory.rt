@@ -1,89 +1,112 @@
 //! Sources and sinks in memory, which fail at the calls that they are told.
-ghost use Rattle.std.specs.Prelude.{◌≡◌, ◌<◌, ◌≤◌, ◌+◌, ◌-◌, ℕ, List, [], length, take, drop, Some, IfOk};
+ghost use Rattle.std.specs.Prelude.{◌≡◌, ◌<◌, ◌≤◌, ◌+◌, ◌++◌, [], length, take, drop, min, Some, IfOk};
+ghost use Rattle.std.specs.Io.{ReadsAtMost};
+ghost use Rattle.std.specs.Io.KnownBytes.{ReadConsumes, WriteAppends};
+ghost use Rattle.gt_io.specs.Causes.{HasCause};
+ghost use Rattle.gt_io.specs.Memory.{supply_of, store_of, GivesPiece, TakesPiece};
 
+use crate::calls::Calls;
 use crate::source::{Failed, Sink, Source};
 use gt_base::{List, Memory};
 use std::alloc::Global;
+use std::marker::Model;
 
-// Copies the front of `rest`, at most `piece` bytes, and answers how many.
-pub(crate) fn give(rest: &[u8], buf: &mut [u8], piece: usize) -> usize
-    requires { 0 < piece }
-    ensures bound { result ≤ length buf.new }
-    ensures within { result ≤ length rest.now }
-    ensures front { take result buf.new ≡ take result rest.now }
-    ensures none { result ≡ 0 → 0 < length buf.old → rest.now ≡ [] }
+// Copies the bytes from place `at` on, at most `piece` of them, and answers how many.
+pub(crate) fn give(bytes: &[u8], at: usize, buf: &mut [u8], piece: usize) -> usize
+    requires at { at ≤ length bytes.now }
+    requires piece { 0 < piece }
+    ensures number { result ≡ min (length (drop at bytes.now)) (min (length buf.new) piece) }
+    ensures given { drop at bytes.now ≡ take result buf.new ++ drop (at + result) bytes.now }
+    ensures taken { take (at + result) bytes.now ≡ take at bytes.now ++ take result (drop at bytes.now) }
+    ensures left { drop (at + result) bytes.now ≡ drop result (drop at bytes.now) }
+    ensures end { result ≡ 0 → 0 < length buf.new → drop (at + result) bytes.now ≡ [] }
 {
-    let n = rest.len().min(buf.len()).min(piece);
-    buf[..n].copy_from_slice(&rest[..n]);
+    let (_, rest) = bytes.split_at(at);
+    let n = rest.len().min(buf.len().min(piece));
+    let (front, _) = rest.split_at(n);
+    buf[..n].copy_from_slice(front);
     n
 }
 
-/// Bytes to read, of which one call gives a piece at most.
+/// Bytes to read, of which one call gives a piece at most. It is seen as the bytes taken, those left, the piece and the calls.
 #[derive(Drop)]
 pub struct MemSource {
     bytes: List<u8>,
     at: usize,
     piece: usize,
-    failing: List<u64>,
-    calls: u64,
-    faults: u64,
-    ghost within: { at ≤ length bytes.items },
-    ghost some: { 0 < piece },
+    calls: Calls,
+}
+
+impl Model for MemSource {
+    ghost use Rattle.std.specs.Prelude.{◌<◌, ◌≤◌, length, take, drop};
+    ghost use Rattle.gt_io.specs.Memory.{Supply};
+
+    ghost Value = { Supply };
+
+    ghost view = { λ s. record { taken = take s.at s.bytes.items; left = drop s.at s.bytes.items; piece = s.piece; calls = s.calls } };
+
+    ghost invariant = { λ s. (0 < s.piece) × (s.at ≤ length s.bytes.items) };
 }
 
 impl MemSource {
-    /// Calls are numbered from 1, and those of `failing` fail.
+    /// Calls are numbered from 1, and those of `failing` fail. A piece is the most that one call gives.
     pub fn new(bytes: List<u8>, piece: usize, failing: List<u64>) -> MemSource
         requires { 0 < piece }
-        ensures left { ⟦<MemSource as Source>⟧.left result ≡ Some bytes.items }
-        ensures faults { ⟦<MemSource as Source>⟧.faults result ≡ 0 }
+        ensures { result ≡ supply_of bytes.items piece failing.items }
     {
         MemSource {
             bytes,
             at: 0,
             piece,
-            failing,
-            calls: 0,
-            faults: 0,
+            calls: Calls::new(failing),
         }
     }
 }
 
 impl Source for MemSource {
-    ghost left = { λ s. Some (drop s.at s.bytes.items) };
+    ghost left = { λ s. Some s.left };
 
-    ghost faults = { λ s. s.faults };
+    ghost faults = { λ s. s.calls.faults };
 
-    fn read(&mut self, buf: &mut [u8]) -> Result<usize, Failed> {
-        self.calls = self.calls.saturating_add(1);
-        if self.failing.as_slice().contains(&self.calls) {
-            self.faults = self.faults.saturating_add(1);
+    fn read(&mut self, buf: &mut [u8]) -> Result<usize, Failed>
+        requires { 0 < length buf.old }
+        ensures bound { ReadsAtMost result buf.new }
+        ensures bytes { ReadConsumes (Some self.old.left) (Some self.new.left) result buf.new }
+        ensures cause { HasCause self.old.calls.faults self.new.calls.faults result }
+        ensures piece { GivesPiece self.old self.new (length buf.old) result }
+    {
+        if self.calls.begin() {
             return Err(Failed);
         }
-        let n = give(&self.bytes.as_slice()[self.at..], buf, self.piece);
+        let n = give(self.bytes.as_slice(), self.at, buf, self.piece);
         self.at += n;
         Ok(n)
     }
 }
 
-/// Takes what is written, a piece at most in one call, up to its room. A write where no room is left fails.
+/// Takes what is written, a piece at most in one call, up to its room. A write where no room is left fails. It is seen as the bytes written, the
+/// room, the piece and the calls.
 #[derive(Drop)]
 pub struct MemSink {
     taken: List<u8>,
     room: usize,
     piece: usize,
-    failing: List<u64>,
-    calls: u64,
-    faults: u64,
-    ghost within: { length taken.items ≤ room },
-    ghost reserved: { room ≤ length taken.items + taken.spare },
-    ghost some: { 0 < piece },
+    calls: Calls,
+}
+
+impl Model for MemSink {
+    ghost use Rattle.std.specs.Prelude.{◌<◌, ◌≤◌, ◌+◌, length};
+    ghost use Rattle.gt_io.specs.Memory.{Store};
+
+    ghost Value = { Store };
+
+    ghost view = { λ s. record { written = s.taken.items; room = s.room; piece = s.piece; calls = s.calls } };
+
+    ghost invariant = { λ s. (0 < s.piece) × (length s.taken.items ≤ s.room) × (s.room ≤ length s.taken.items + s.taken.spare) };
 }
 
 impl MemSink {
-    ghost use Rattle.gt_io.specs.Memory.{room_of};
-
-    /// Takes its room at once. Calls are numbered from 1, and those of `failing` fail.
+    /// Takes its room at once. Calls are numbered from 1, and those of `failing` fail. A piece is the most that one call takes.
     pub fn new(
         alloc: Global,
         room: usize,
@@ -91,9 +114,7 @@ impl MemSink {
         failing: List<u64>,
     ) -> Result<MemSink, Memory>
         requires { 0 < piece }
-        ensures written { IfOk result (λ s. ⟦<MemSink as Sink>⟧.written s ≡ Some []) }
-        ensures faults { IfOk result (λ s. ⟦<MemSink as Sink>⟧.faults s ≡ 0) }
-        ensures room { IfOk result (λ s. room_of s ≡ room) }
+        ensures { IfOk result (λ s. s ≡ store_of room piece failing.items) }
     {
         let mut taken = List::new(alloc);
         taken.reserve(room)?;
@@ -101,33 +122,38 @@ impl MemSink {
             taken,
             room,
             piece,
-            failing,
-            calls: 0,
-            faults: 0,
+            calls: Calls::new(failing),
         })
     }
 
     /// What was written so far.
     pub fn written(&self) -> &List<u8>
-        ensures { ⟦<MemSink as Sink>⟧.written self.now ≡ Some result.now.items }
+        ensures { result.now.items ≡ self.now.written }
     {
         &self.taken
     }
 }
 
 impl Sink for MemSink {
-    ghost written = { λ s. Some s.taken.items };
+    ghost written = { λ s. Some s.written };
 
-    ghost faults = { λ s. s.faults };
+    ghost faults = { λ s. s.calls.faults };
 
-    fn write(&mut self, piece: &[u8]) -> Result<usize, Failed> {
-        self.calls = self.calls.saturating_add(1);
+    fn write(&mut self, piece: &[u8]) -> Result<usize, Failed>
+        requires { 0 < length piece.now }
+        ensures bound { IfOk result (λ n. (0 < n) × (n ≤ length piece.now)) }
+        ensures bytes { WriteAppends (Some self.old.written) (Some self.new.written) result piece.now }
+        ensures cause { HasCause self.old.calls.faults self.new.calls.faults result }
+        ensures piece { TakesPiece self.old self.new piece.now result }
+    {
+        if self.calls.begin() {
+            return Err(Failed);
+        }
         let n = piece
             .len()
-            .min(self.piece)
-            .min(self.room - self.taken.len());
-        if n == 0 || self.failing.as_slice().contains(&self.calls) {
-            self.faults = self.faults.saturating_add(1);
+            .min(self.piece.min(self.room - self.taken.len()));
+        if n == 0 {
+            self.calls.fail();
             return Err(Failed);
         }
         self.taken.extend_from_slice(&piece[..n]);

@@ -1,13 +1,14 @@
-ghost use Rattle.std.specs.Prelude.{◌≡◌, ◌^◌, ◌<◌, ◌≤◌, ℕ, List, length, take, vec_len, OnOk, OnErr, IfOk, IfErr, IfSome, IsErrOf};
+//! Where bytes come from and where they go, read or written whole.
+ghost use Rattle.std.specs.Prelude.{◌≡◌, ◌+◌, ◌++◌, ◌<◌, ◌≤◌, ℕ, List, length, vec_len, OnOk, OnErr, IfOk, IfErr, IfSome, IsErrOf};
 ghost use Rattle.std.specs.declared.option.Option.{Option};
-ghost use Rattle.std.specs.Io.{ReadsAtMost, WritesAtMost};
-ghost use Rattle.std.specs.Io.KnownBytes.{ReadConsumes, WriteAppends, Appends, Consumes, IsAtEnd};
-ghost use Rattle.gt_io.specs.Causes.{Rose, HasCause, AppendsFront};
+ghost use Rattle.std.specs.Io.{ReadsAtMost};
+ghost use Rattle.std.specs.Io.KnownBytes.{ReadConsumes, WriteAppends, Appends, IsAtEnd};
+ghost use Rattle.gt_io.specs.Causes.{HasCause, HasReadCause, TakesFront, AppendsPart, IsNoRoom};
 ghost use Rattle.gt_io.specs.declared.source.ReadFault.TheVariants.{Memory, Failed as ReadFailed};
 
 use std::alloc::{AllocError, Global};
 
-/// The outside failed: a file is missing, or a read or a write went wrong.
+/// The outside failed: a file is missing, or a read or a write went wrong. A call that answers it, and no other, raises the count of its object.
 #[derive(Clone, Copy, Debug, PartialEq, Eq)]
 pub struct Failed;
 
@@ -48,7 +49,7 @@ pub trait Sink {
 pub enum ReadFault {
     /// There was no memory for it.
     Memory,
-    /// The outside failed.
+    /// The outside failed, or has no text of the name asked for.
     Failed,
     /// It has more bytes than the limit.
     TooLong,
@@ -70,7 +71,22 @@ impl From<Failed> for ReadFault {
     }
 }
 
-/// All that is left, if it is at most `limit` bytes.
+// Adds a piece to what was read, where that is at most `limit` bytes with it.
+pub(crate) fn add_piece(bytes: &mut Vec<u8>, piece: &[u8], limit: usize) -> Result<(), ReadFault>
+    requires { vec_len bytes.old ≤ limit }
+    ensures added { OnOk result (bytes.new.items ≡ bytes.old.items ++ piece.now) }
+    ensures within { OnOk result (vec_len bytes.new ≤ limit) }
+    ensures more { OnOk result (vec_len bytes.new ≡ vec_len bytes.old + length piece.now) }
+    ensures fault { IfErr result (IsNoRoom limit (vec_len bytes.old + length piece.now)) }
+{
+    if piece.len() > limit - bytes.len() {
+        return Err(ReadFault::TooLong);
+    }
+    bytes.extend_from_slice(piece)?;
+    Ok(())
+}
+
+/// All that is left, if it is at most `limit` bytes. After a fault a front of it was taken.
 pub fn read_all<S: Source>(
     alloc: Global,
     source: &mut S,
@@ -80,8 +96,8 @@ pub fn read_all<S: Source>(
     ensures end { OnOk result (IsAtEnd (S.left source.new)) }
     ensures within { IfOk result (λ bytes. vec_len bytes ≤ limit) }
     ensures long { IsErrOf result ReadFault.TooLong → IfSome (S.left source.old) (λ xs. limit < length xs) }
-    ensures failed { IsErrOf result ReadFault.Failed → Rose (S.faults source.old) (S.faults source.new) }
-    ensures later { S.faults source.old ≤ S.faults source.new }
+    ensures front { TakesFront (S.left source.old) (S.left source.new) }
+    ensures cause { HasReadCause (S.faults source.old) (S.faults source.new) result }
 {
     let mut bytes = Vec::new(alloc);
     let mut buf = [0u8; 4096];
@@ -90,17 +106,14 @@ pub fn read_all<S: Source>(
         if n == 0 {
             return Ok(bytes);
         }
-        if n > limit - bytes.len() {
-            return Err(ReadFault::TooLong);
-        }
-        bytes.extend_from_slice(&buf[..n])?;
+        add_piece(&mut bytes, &buf[..n], limit)?;
     }
 }
 
 /// Writes the whole text, or up to the first failure.
 pub fn write_all<K: Sink>(sink: &mut K, text: &[u8]) -> Result<(), Failed>
     ensures all { OnOk result (Appends (K.written sink.old) (K.written sink.new) text.now) }
-    ensures front { AppendsFront (K.written sink.old) (K.written sink.new) text.now }
+    ensures part { OnErr result (AppendsPart (K.written sink.old) (K.written sink.new) text.now) }
     ensures cause { HasCause (K.faults sink.old) (K.faults sink.new) result }
 {
     let mut rest = text;

@@ -1,5 +1,6 @@
 use super::*;
-use gt_base::List;
+use gt_base::{Instant, List};
+use std::collections::VecDeque;
 use std::test::Fail;
 
 #[test]
@@ -49,5 +50,71 @@ fn a_text_is_found_by_its_name(rt: HostRuntime) -> Result<(), Fail> {
     );
     let text = find_all(alloc, &mut shelf, "note", 9)?;
     assert_eq!(rt; text.as_slice(), b"text".as_slice());
+    Ok(())
+}
+
+#[test]
+fn a_link_is_read_and_written_in_pieces(rt: HostRuntime) -> Result<(), Fail> {
+    let alloc = rt.alloc();
+    let bytes = b"hello".to_vec(alloc)?.into();
+    let bad_writes = vec![in alloc; 3]?.into();
+    let mut link = MemLink::new(alloc, bytes, 9, 3, 2, vec![in alloc; 2]?.into(), bad_writes)?;
+    let mut buf = [0u8; 8];
+    assert_eq!(rt; link.read(&mut buf), Ok(3));
+    assert_eq!(rt; link.read(&mut buf), Err(Failed));
+    assert_eq!(rt; link.read(&mut buf), Ok(2));
+    assert_eq!(rt; &buf[..2], b"lo".as_slice());
+    assert_eq!(rt; link.read(&mut buf), Ok(0));
+    assert_eq!(rt; send_all(&mut link, b"ok"), Ok(()));
+    assert_eq!(rt; send_all(&mut link, b"yes"), Err(Failed));
+    link.finish();
+    assert_eq!(rt; link.given().as_slice(), b"okye".as_slice());
+    Ok(())
+}
+
+#[test]
+fn a_door_gives_its_links_in_order(rt: HostRuntime) -> Result<(), Fail> {
+    let alloc = rt.alloc();
+    let mut links = VecDeque::new(alloc);
+    let none = List::new(alloc);
+    links.push_back(MemLink::new(alloc, List::new(alloc), 1, 1, 1, none, List::new(alloc))?)?;
+    let mut door = MemDoor::new(links, vec![in alloc; 2]?.into());
+    assert!(rt; matches!(door.next(), Ok(Some(_))));
+    assert!(rt; matches!(door.next(), Err(Failed)));
+    assert!(rt; matches!(door.next(), Ok(None)));
+    Ok(())
+}
+
+#[test]
+fn a_clock_repeats_its_last_reading(rt: HostRuntime) -> Result<(), Fail> {
+    let alloc = rt.alloc();
+    let five = Instant::new(5).expect(&rt, "an instant");
+    let four = Instant::new(4).expect(&rt, "an instant");
+    let mut readings = List::from(vec![in alloc; five]?);
+    readings.reserve(1)?;
+    readings.push(four);
+    let mut clock = MemClock::new(readings);
+    assert_eq!(rt; clock.now(), five);
+    assert_eq!(rt; clock.now(), four);
+    assert_eq!(rt; clock.now(), four);
+    OpenGate.pass(0, 1);
+    Ok(())
+}
+
+#[test]
+fn a_framer_tells_lines_apart(rt: HostRuntime) -> Result<(), Fail> {
+    let mut framer = Framer::new();
+    for _ in 0..512 {
+        assert_eq!(rt; framer.push(32), Framed::More);
+    }
+    assert_eq!(rt; framer.push(10), Framed::Whole);
+    assert_eq!(rt; framer.line().len(), 512);
+    for _ in 0..513 {
+        assert_eq!(rt; framer.push(32), Framed::More);
+    }
+    assert_eq!(rt; framer.push(10), Framed::Long);
+    assert_eq!(rt; framer.push(97), Framed::More);
+    assert_eq!(rt; framer.push(10), Framed::Whole);
+    assert_eq!(rt; framer.line(), b"a".as_slice());
     Ok(())
 }

@@ -33,7 +33,7 @@ abbrev pub at : ℕ → Event → Prioritised
 at p e = record { prio = p; event = e }
 
 abbrev pub when : Event → Prioritised → Rule
-when b h = record { events = b ∷ []; signals = []; conds = []; head = h; delay = 0 }
+when b h = record { events = b ∷ []; signals = []; conds = []; settled = []; head = h; delay = 0 }
 
 abbrev pub events : List Prioritised → Happening
 events es = record { events = set_of es; signals = none }
@@ -77,4 +77,4 @@ pub record AreConflictRows : Type 0 where
   pub tie_seen : seen (events (at 50 (on 0) ∷ at 50 (off 0) ∷ [])) (on 0) ≡ Blocked 50
   pub cycle_edges : dependencies unsafe ≡ record { source = off 1; target = on 0; conflict = true; trigger = 0; place = 0 } ∷ record { source = on 0; target = off 1; conflict = false; trigger = 1; place = 0 } ∷ []
   pub the_cycle_is : the_cycle unsafe ≡ Some (0 ∷ 1 ∷ [])
-  pub delayed_is_safe : the_cycle (when (on 1) (at 50 (on 0)) ∷ record { events = on 0 ∷ []; signals = []; conds = []; head = at 50 (off 1); delay = 1 } ∷ []) ≡ None
+  pub delayed_is_safe : the_cycle (when (on 1) (at 50 (on 0)) ∷ record { events = on 0 ∷ []; signals = []; conds = []; settled = []; head = at 50 (off 1); delay = 1 } ∷ []) ≡ None

@@ -1,14 +1,16 @@
 -- Worked rows of whole histories: bases, signals, drops, charges and replies.
-use Rattle.std.specs.Prelude.{◌≡◌, ℕ, true, false, cond, nat_eq, List, [], ◌∷◌, Some, None, length, nat_le}
+use Rattle.std.specs.Prelude.{◌≡◌, ℕ, Bool, true, false, cond, not, nat_eq, List, [], ◌∷◌, Some, None, length, nat_le}
 use Rattle.gt_base.specs.declared.events.SessionId.{SessionId}
-use Rattle.gt_base.specs.declared.events.Fluent.TheVariants.{Enabled, Assigned, Limit}
+use Rattle.gt_base.specs.declared.events.Fluent.TheVariants.{Enabled, Assigned, Granted, Limit, Edge}
+use Rattle.gt_base.specs.declared.events.Prioritised.{Prioritised}
 use Rattle.gt_base.specs.declared.policies.Form.TheVariants.{Each, Span}
 use Rattle.gt_base.specs.declared.requests.Actor.{Actor}
 use Rattle.gt_base.specs.declared.requests.Actor.TheVariants.{Operator, User}
 use Rattle.gt_base.specs.declared.requests.Request.{Request}
-use Rattle.gt_base.specs.declared.requests.Request.TheVariants.{Status as AskStatus, Seen as AskSeen, Raise, OpenSession, Activate, Active as AskActive}
+use Rattle.gt_base.specs.declared.requests.Request.TheVariants.{Status as AskStatus, Seen as AskSeen, Raise, OpenSession, Activate, Active as AskActive, Check}
 use Rattle.gt_base.specs.declared.requests.Reply.{Reply}
-use Rattle.gt_base.specs.declared.requests.Reply.TheVariants.{Truth, Event as Saw, Queued, Session, Active, Refused}
+use Rattle.gt_base.specs.declared.requests.Reply.TheVariants.{Truth, Event as Saw, Queued, Session, Active, Decided, Refused}
+use Rattle.gt_base.specs.declared.requests.Decision.TheVariants.{Permit, Shut}
 use Rattle.gt_base.specs.declared.requests.Refusal.TheVariants.{DaySpent}
 use Rattle.gt_base.specs.declared.requests.Seen.TheVariants.{Blocked}
 use Rattle.gt_base.specs.declared.requests.Step.TheVariants.{Tick, Ask}
@@ -23,7 +25,7 @@ use Rattle.gtrbac_model.specs.Status.{Model, status_at}
 use Rattle.gtrbac_model.specs.Base.{base_at, raised_at, drops_at, signals_at, table_at}
 use Rattle.gtrbac_model.specs.Reply.{reply_of}
 use Rattle.gtrbac_model.specs.History.{point_after, stirs}
-use Rattle.gtrbac_model.specs.ConflictRows.{role, user, on, off, at, events}
+use Rattle.gtrbac_model.specs.ConflictRows.{role, user, perm, on, off, at, events}
 
 abbrev pub plain : Policy
 plain = record { roles = 1; users = 0; perms = 0; periods = []; limits = []; edges = []; caps = []; admins = []; opening = none; entries = []; triggers = [] }
@@ -121,6 +123,54 @@ next_day =
     ∷ ticked 13_682_880 13_682_880
     ∷ []
 
+-- when enable a and settled enabled b then 50:enable c after 2
+abbrev pub waiting : Policy
+waiting = record { roles = 3; users = 0; perms = 0; periods = []; limits = []; edges = []; caps = []; admins = []; opening = none; entries = []; triggers = record { events = on 0 ∷ []; signals = []; conds = []; settled = record { on = true; fluent = Enabled (role 1) } ∷ []; head = at 50 (on 2); delay = 2 } ∷ [] }
+
+-- at 08:01 a and b are enabled, and b is disabled too at this priority
+abbrev pub with_disable : ℕ → Model
+with_disable p t = cond (nat_eq t 13_681_921) (events (at 50 (on 0) ∷ at 50 (on 1) ∷ at p (off 1) ∷ [])) nothing
+
+-- one edge from role 0 to role 1, which is on at first and is unlinked at 08:01; user 0 is assigned to role 0, permission 0 is
+-- granted to role 1
+abbrev pub joined : Bool → Policy
+joined inherits =
+    record { roles = 2; users = 1; perms = 1; periods = []; limits = []; edges = record { senior = role 0; junior = role 1; inherits = inherits; activates = not inherits; strong = false } ∷ []; caps = []; admins = []; opening = set_of (Enabled (role 0) ∷ Enabled (role 1) ∷ Assigned (user 0) (role 0) ∷ Granted (perm 0) (role 1) ∷ Edge 0 ∷ []); entries = []; triggers = [] }
+
+abbrev pub unlink : Prioritised
+unlink = at 50 (record { on = false; fluent = Edge 0 })
+
+-- at that minute also the activation of a role starts
+abbrev pub unlinking : ℕ → Model
+unlinking r t = cond (nat_eq t 13_681_921) (record { events = set_of (unlink ∷ []); signals = set_of (record { start = true; user = user 0; role = role r } ∷ []) }) nothing
+
+abbrev pub by_edge : RoleWalk
+by_edge = record { start = role 0; edges = 0 ∷ [] }
+
+abbrev pub opened : List Entry
+opened = asked (User (user 0)) OpenSession (Session s1) ∷ []
+
+-- role 1 is activated over the edge
+abbrev pub junior_active : List Entry
+junior_active =
+    asked (User (user 0)) OpenSession (Session s1)
+    ∷ asked (User (user 0)) (Activate s1 (role 1)) (Active by_edge)
+    ∷ asked Operator (Raise unlink 0) (Queued 13_681_921)
+    ∷ ticked 13_681_921 13_681_921
+    ∷ []
+
+-- role 0 is active, and is lent the permission over the edge
+abbrev pub senior_active : List Entry
+senior_active = asked (User (user 0)) OpenSession (Session s1) ∷ asked (User (user 0)) (Activate s1 (role 0)) (Active by_d) ∷ []
+
+abbrev pub senior_later : List Entry
+senior_later =
+    asked (User (user 0)) OpenSession (Session s1)
+    ∷ asked (User (user 0)) (Activate s1 (role 0)) (Active by_d)
+    ∷ asked Operator (Raise unlink 0) (Queued 13_681_921)
+    ∷ ticked 13_681_921 13_681_921
+    ∷ []
+
 pub record AreRunRows : Type 0 where
   pub first_base : base_at plain born ties_model ties 13_681_921 ≡ ties_model 13_681_921
   pub second_base : base_at plain born ties_model ties 13_681_922 ≡ ties_model 13_681_922
@@ -142,3 +192,13 @@ pub record AreRunRows : Type 0 where
   pub on_at_19 : status_at limited 13_681_919 busy_model 13_681_939 (Enabled (role 0)) ≡ true
   pub active_again : reply_of capped (point_after capped born silent next_day) (User (user 0)) (Activate s1 (role 0)) ≡ Active by_d
   pub stirs_at_02 : stirs capped born silent both_active 13_681_922 ≡ true
+  -- the unlinked edge no longer allows the activation, and lends nothing
+  pub unlink_is_raised : base_at (joined false) born (unlinking 1) junior_active 13_681_921 ≡ unlinking 1 13_681_921
+  pub activates_over_edge : reply_of (joined false) (point_after (joined false) born (unlinking 1) opened) (User (user 0)) (Activate s1 (role 1)) ≡ Active by_edge
+  pub unlinked_is_dropped : reply_of (joined false) (point_after (joined false) born (unlinking 1) junior_active) (User (user 0)) (AskActive s1 (role 1)) ≡ Truth false
+  pub lends_over_edge : reply_of (joined true) (point_after (joined true) born (unlinking 0) senior_active) (User (user 0)) (Check s1 (perm 0)) ≡ Decided (Permit by_edge)
+  pub unlinked_is_shut : reply_of (joined true) (point_after (joined true) born (unlinking 0) senior_later) (User (user 0)) (Check s1 (perm 0)) ≡ Decided (Shut 0)
+  pub unlinked_is_off : reply_of (joined true) (point_after (joined true) born (unlinking 0) senior_later) Operator (AskStatus (record { on = true; fluent = Edge 0 })) ≡ Truth false
+  -- a delayed trigger asks its settled condition of the status after the minute at which it was met
+  pub met_after_its_minute : raised_at waiting born (with_disable 40) [] 13_681_923 ≡ at 50 (on 2) ∷ []
+  pub not_met_after_its_minute : raised_at waiting born (with_disable 50) [] 13_681_923 ≡ []

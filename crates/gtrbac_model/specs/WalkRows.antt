@@ -1,9 +1,12 @@
 -- Worked rows of the hierarchy: walks that allow an activation, and decisions.
 use Rattle.std.specs.Prelude.{◌≡◌, ℕ, Bool, true, false, cond, not, nat_eq, List, [], ◌∷◌, Some, None}
-use Rattle.gt_base.specs.declared.events.Fluent.TheVariants.{Enabled, Assigned, Granted, Limit}
+use Rattle.std.specs.declared.cmp.Ordering.TheVariants.{Less}
+use Rattle.gt_base.specs.declared.events.LimitId.{LimitId}
+use Rattle.gt_base.specs.declared.events.Fluent.TheVariants.{Enabled, Assigned, Granted, Limit, Edge}
 use Rattle.gt_base.specs.declared.policies.HierEdge.{HierEdge}
 use Rattle.gt_base.specs.declared.requests.Decision.TheVariants.{Permit, NoActive, NoGrant, Shut}
 use Rattle.gt_base.specs.Held.{RoleWalk}
+use Rattle.gt_base.specs.Orders.{fluent_cmp}
 use Rattle.gtrbac_model.specs.Conflict.{Status}
 use Rattle.gtrbac_model.specs.Hierarchy.{activation_walk}
 use Rattle.gtrbac_model.specs.Decision.{decide}
@@ -21,6 +24,7 @@ fork_status t (Enabled r) = cond (nat_eq r.0 2) t true
 fork_status t (Assigned u r) = cond (nat_eq r.0 0) true (nat_eq r.0 2)
 fork_status t (Granted p r) = nat_eq (r.0) (cond (nat_eq p.0 0) 1 3)
 fork_status t (Limit l) = false
+fork_status t (Edge n) = true
 
 abbrev pub walk : ℕ → List ℕ → RoleWalk
 walk r es = record { start = role r; edges = es }
@@ -32,7 +36,16 @@ diamond = edge 0 1 true false ∷ edge 0 2 true false ∷ edge 1 3 true false �
 abbrev pub diamond_status : Bool → Bool → Status
 diamond_status doctor nurse (Enabled r) = cond (nat_eq r.0 1) doctor (cond (nat_eq r.0 2) nurse true)
 diamond_status doctor nurse (Granted p r) = nat_eq r.0 3
+diamond_status doctor nurse (Edge n) = true
 diamond_status doctor nurse _ = false
+
+-- All roles are enabled, and one edge is off: user 0 is assigned to role 0, and permission 0 is granted to this role.
+abbrev pub without_edge : ℕ → ℕ → Status
+without_edge granted n (Enabled r) = true
+without_edge granted n (Assigned u r) = nat_eq r.0 0
+without_edge granted n (Granted p r) = nat_eq r.0 granted
+without_edge granted n (Limit l) = false
+without_edge granted n (Edge e) = not (nat_eq e n)
 
 pub record AreWalkRows : Type 0 where
   pub j_not_allowed : activation_walk (fork false) (fork_status true) (user 0) (role 1) ≡ None
@@ -45,3 +58,15 @@ pub record AreWalkRows : Type 0 where
   pub by_nurse : decide diamond (diamond_status false true) (role 0 ∷ []) (perm 0) ≡ Permit (walk 0 (1 ∷ 3 ∷ []))
   pub shut : decide diamond (diamond_status false false) (role 0 ∷ []) (perm 0) ≡ Shut 2
   pub no_active : decide diamond (diamond_status true true) [] (perm 0) ≡ NoActive
+  -- one edge from role 0 to role 1, while edge 1, which is none of them, is off, and while it is off itself
+  pub lent_while_on : decide (edge 0 1 true false ∷ []) (without_edge 1 1) (role 0 ∷ []) (perm 0) ≡ Permit (walk 0 (0 ∷ []))
+  pub shut_while_off : decide (edge 0 1 true false ∷ []) (without_edge 1 0) (role 0 ∷ []) (perm 0) ≡ Shut 0
+  pub allowed_while_on : activation_walk (edge 0 1 false false ∷ []) (without_edge 1 1) (user 0) (role 1) ≡ Some (walk 0 (0 ∷ []))
+  pub not_allowed_while_off : activation_walk (edge 0 1 false false ∷ []) (without_edge 1 0) (user 0) (role 1) ≡ None
+  -- the walk goes round an edge that is off, and a strong edge is shut by it as well
+  pub round_it : decide diamond (without_edge 3 0) (role 0 ∷ []) (perm 0) ≡ Permit (walk 0 (1 ∷ 3 ∷ []))
+  pub strong_is_shut : decide (edge 0 1 true true ∷ []) (without_edge 1 0) (role 0 ∷ []) (perm 0) ≡ Shut 0
+  pub none_is_no_grant : decide (edge 0 1 false false ∷ []) (without_edge 1 0) (role 0 ∷ []) (perm 0) ≡ NoGrant
+  -- edges come last in the order of fluents, by their numbers
+  pub edges_come_last : (l : LimitId) (n : ℕ) → fluent_cmp (Limit l) (Edge n) ≡ Less
+  pub edges_by_number : fluent_cmp (Edge 3) (Edge 10) ≡ Less

@@ -1,5 +1,5 @@
 pub mod Causing
-pub mod EarlyRequests
-pub mod Policied
-pub mod Reading
+pub mod Ran
+pub mod Spoken
 pub mod Steps
+pub mod Tallying

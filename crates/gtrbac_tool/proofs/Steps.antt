@@ -1,191 +1,158 @@
--- The steps of a run, each completed by what is to come.
-use Rattle.std.proofs.Common.{◌≡◌, ℕ, ◌+◌, ◌<◌, ◌≤◌, true, false, List, [], ◌∷◌, ◌++◌, length, refl, sym, ◌∙◌, ap, subst, arith, append_assoc, length-append}
-use Rattle.std.specs.Prelude.{nat_le, nat_lt, IsTrue, MatchBool, codes}
-use Rattle.std.proofs.lemmas.Bool.{lt-ltb, le-leb, lt-leb}
+-- The steps of a run.
+use Rattle.std.proofs.Common.{◌≡◌, ℕ, ◌+◌, ◌<◌, ◌≤◌, true, false, List, [], ◌∷◌, ◌++◌, length, inl, inr, refl, sym, ◌∙◌, ap, subst, arith, append_assoc, length-append}
+use Rattle.std.specs.Prelude.{Bool, MatchBool, Result, Ok, Err, IfOk, codes}
 use Rattle.gt_base.specs.Bounds.{max_steps}
+use Rattle.gt_base.specs.Machines.{ticked, asked}
+use Rattle.gt_base.specs.declared.requests.Actor.{Actor}
 use Rattle.gt_base.specs.declared.requests.Entry.{Entry}
 use Rattle.gt_base.specs.declared.requests.Reply.{Reply}
 use Rattle.gt_base.specs.declared.requests.Request.{Request}
-use Rattle.gt_base.specs.declared.requests.Actor.TheVariants.{Operator}
-use Rattle.gt_base.specs.Machines.{ticked, asked}
-use Rattle.std.specs.Prelude.{Result, Ok, Err, IfOk}
-use Rattle.policy_forms.specs.Naming.{NamedPolicy}
-use Rattle.gtrbac_model.specs.History.{now_of, Legal}
-use Rattle.core_machine.specs.Trace.{model_of}
-use Rattle.policy_commands.specs.declared.ends.End.{End}
-use Rattle.gtrbac_tool.specs.declared.faults.NoMemory.{NoMemory}
-use Rattle.policy_commands.specs.Ends.{seen_end}
+use Rattle.gt_base.specs.declared.requests.Step.{Step}
+use Rattle.gt_base.specs.declared.requests.Step.TheVariants.{Tick, Ask as AskStep}
 use Rattle.gtrbac_model.proofs.Append.{append-nil}
-use Rattle.gtrbac_model.proofs.Playing.{now_snoc}
-use Rattle.core_machine.specs.Books.{BookView, now_in, SameRoot, SameRoot-refl, SameRoot-trans, IsLegalBook, GoesOn as BookGoesOn, Asks}
-use Rattle.gtrbac_tool.specs.declared.turns.Turn.{Turn}
-use Rattle.gtrbac_tool.specs.declared.turns.Turn.TheVariants.{Pass, Go, Put, Stop}
-use Rattle.policy_commands.specs.Ends.{Told, told}
-use Rattle.gtrbac_tool.specs.Told.{behind, steps_full, unbuilt_script}
-use Rattle.gtrbac_tool.specs.Turns.{turn_of}
-use Rattle.gtrbac_tool.specs.Script.{Going, scripts_who, TicksTo, Takes, Plays, Run, reply_text}
-use Rattle.gtrbac_tool.specs.Going.{going_of, GoesTo, GoesOn, EndsAt, Answered, PlaysOut}
+use Rattle.gtrbac_model.specs.History.{Legal, now_of}
+use Rattle.gtrbac_model.specs.Policy.{Policy}
+use Rattle.history_laws.specs.Named.{IsNamedStep as IsNamedStepOf, AreNamed as AreNamedOf}
+use Rattle.history_laws.proofs.NamedPoints.{points_are_named}
+use Rattle.policy_words.specs.Naming.{NamedPolicy}
+use Rattle.gtrbac_tool.specs.declared.script.Outcome.{Outcome}
+use Rattle.policy_commands.specs.Ends.{Told, told, seen_end}
+use Rattle.core_machine.specs.Books.{BookView, IsBook, IsLegalBook, IsNamedStep, AreNamed, SameRoot, SameRoot-refl, SameRoot-trans, GoesOn, Asks, now_in, model_in, point_in, reply_in}
+use Rattle.request_text.specs.Laws.{CanBeWritten}
+use Rattle.request_text.specs.Replies.{reply_line}
+use Rattle.request_text.specs.declared.lines.Line.{Line}
+use Rattle.request_text.specs.declared.lines.Line.TheVariants.{At, Ask}
+use Rattle.request_text.specs.declared.lines.LineFault.{LineFault}
+use Rattle.request_text.proofs.BriefWalks.{brief_reply}
+use Rattle.request_text.proofs.SoundReplies.{reply_sounds}
+use Rattle.gtrbac_tool.specs.declared.script.Played.{Played}
+use Rattle.gtrbac_tool.specs.declared.script.Played.TheVariants.{On, Full, Bad}
+use Rattle.gtrbac_tool.specs.Told.{behind}
+use Rattle.gtrbac_tool.specs.Script.{Going, AreTicks, Arrives, IsFilled, Moves, Plays, Stops, RunOver, said, scripts_who, at_birth}
+use Rattle.gtrbac_tool.specs.Going.{going_of, played_as, PlaysAs, Ticked, IsOutcome}
 
--- one more entry is held
-going_more : (b b' : BookView) (e : Entry) (to : ℕ) → b'.entries ≡ b.entries ++ e ∷ [] → now_in b' ≡ to → ◌≡◌ {A = Going} (record { now = to; held = length b.entries + 1 }) (going_of b')
-going_more b b' e to entries now = λ i. record { now = sym now i; held = sym (ap length entries ∙ length-append b.entries (e ∷ [])) i }
+-- ticks on the way
 
--- nothing was added yet
-pub no_way : (roles : List (List ℕ)) (t : ℕ) (b : BookView) → GoesTo roles t b b
-no_way roles t b = record { root = SameRoot-refl b; added = []; entries = sym (append-nil b.entries); ticks = λ n lines text end more h. h }
+pub no_ticks : (bound : ℕ) (b : BookView) → Ticked bound b b
+no_ticks bound b = record { root = SameRoot-refl b; ticks = []; added = sym (append-nil b.entries); are_ticks = tt }
 
--- a tick on the way, after those so far
-pub tick_more : (roles : List (List ℕ)) (t to : ℕ) (b b' b'' : BookView) → GoesTo roles t b b' → now_in b' < t → length b'.entries < max_steps → BookGoesOn b' b'' scripts_who t to → GoesTo roles t b b''
-tick_more roles t to b b' b'' way early room step =
+are_more : (bound to : ℕ) (ts : List Entry) → AreTicks bound ts → AreTicks bound (ts ++ ticked scripts_who bound to ∷ [])
+are_more bound to [] h = ((to, refl), tt)
+are_more bound to (e ∷ es) h = (h.0, are_more bound to es h.1)
+
+pub tick_more : (bound to : ℕ) (b b' b'' : BookView) → Ticked bound b b' → GoesOn b' b'' scripts_who bound to → Ticked bound b b''
+tick_more bound to b b' b'' way step =
+    let last : List Entry = ticked scripts_who bound to ∷ [] in
     record {
       root = SameRoot-trans b b' b'' way.root (sym step.gains.named, sym step.gains.birth);
-      added = way.added ++ ticked scripts_who t to ∷ [];
-      entries = step.gains.entries ∙ ap (λ es. es ++ ticked scripts_who t to ∷ []) way.entries ∙ append_assoc b.entries way.added (ticked scripts_who t to ∷ []);
-      ticks = λ n lines text end more h.
-          let Next : Going → List Entry → Type 0 = λ s h. Plays roles (n + 1) lines text end s h in
-          let Filled : Type 0 = end ≡ behind text (steps_full n) in
-          let here : TicksTo t Filled Next (record { now = to; held = length b'.entries + 1 }) more = subst (λ g. TicksTo t Filled Next g more) (sym (going_more b' b'' (ticked scripts_who t to) to step.gains.entries step.now)) h in
-          let one : TicksTo t Filled Next (going_of b') (ticked scripts_who t to ∷ more) =
-          subst (λ x. MatchBool x (Next (going_of b') (ticked scripts_who t to ∷ more))
-          (IsTrue (nat_lt (length b'.entries) max_steps) × ((to' : ℕ) × (ticked scripts_who t to ≡ ticked scripts_who t to') × TicksTo t Filled Next (record { now = to'; held = length b'.entries + 1 }) more)))
-          (sym (lt-leb t (now_in b') early)) (lt-ltb (length b'.entries) max_steps room, (to, refl, here)) in
-          subst (λ es. TicksTo t Filled Next (going_of b) es) (sym (append_assoc way.added (ticked scripts_who t to ∷ []) more)) (way.ticks n lines text end (ticked scripts_who t to ∷ more) one);
+      ticks = way.ticks ++ last;
+      added = step.gains.entries ∙ ap (λ (es : List Entry). es ++ last) way.added ∙ append_assoc b.entries way.ticks last;
+      are_ticks = are_more bound to way.ticks way.are_ticks;
     }
 
--- the turn of a line decides how it is played
-turned : (roles : List (List ℕ)) (line : List ℕ) (turn : Turn) → turn ≡ turn_of roles line → (n : ℕ) (lines : List (List ℕ)) (text : List ℕ) (end : Told) (s : Going) (h : List Entry)
-    → Takes turn n text end (λ text' s' h'. Plays roles (n + 1) lines text' end s' h') s h → Plays roles n (line ∷ lines) text end s h
-turned roles line turn e n lines text end s h go = subst (λ u. Takes u n text end (λ text' s' h'. Plays roles (n + 1) lines text' end s' h') s h) e go
+pub arrives : (minute : ℕ) (b b' : BookView) → Ticked minute b b' → minute ≤ now_in b' → length b'.entries ≤ max_steps → Arrives b.birth minute b.entries b'.entries
+arrives minute b b' way le room =
+    record { ticks = way.ticks; added = way.added; are_ticks = way.are_ticks; there = subst (λ (t : ℕ). minute ≤ now_of t b'.entries) (sym way.root.1) le; room = room }
 
-arrived : (bound : ℕ) (filled : Type 0) (next : Going → List Entry → Type 0) (s : Going) (h : List Entry) → nat_le bound s.now ≡ true → next s h → TicksTo bound filled next s h
-arrived bound filled next s [] e go = subst (λ b. MatchBool b (next s []) (IsTrue (nat_le max_steps s.held) × filled)) (sym e) go
-arrived bound filled next s (x ∷ xs) e go =
-    subst (λ b. MatchBool b (next s (x ∷ xs)) (IsTrue (nat_lt s.held max_steps) × ((to : ℕ) × (x ≡ ticked scripts_who bound to) × TicksTo bound filled next (record { now = to; held = s.held + 1 }) xs))) (sym e) go
+pub fills : (minute : ℕ) (b b' : BookView) → Ticked minute b b' → now_in b' < minute → length b'.entries ≡ max_steps → IsFilled b.birth minute b.entries b'.entries
+fills minute b b' way early full =
+    record { ticks = way.ticks; added = way.added; are_ticks = way.are_ticks; before = subst (λ (t : ℕ). now_of t b'.entries < minute) (sym way.root.1) early; full = full }
 
-filled_up : (bound : ℕ) (filled : Type 0) (next : Going → List Entry → Type 0) (s : Going) → nat_le bound s.now ≡ false → nat_le max_steps s.held ≡ true → filled → TicksTo bound filled next s []
-filled_up bound filled next s e full f = subst (λ b. MatchBool b (next s []) (IsTrue (nat_le max_steps s.held) × filled)) (sym e) (full, f)
+-- a reply of a book can be written
 
--- a silent line
-pub passes : (roles : List (List ℕ)) (line : List ℕ) (b : BookView) (text : List ℕ) → Pass ≡ turn_of roles line → GoesOn roles line b text b text
-passes roles line b text e =
-    record { root = SameRoot-refl b; added = []; entries = sym (append-nil b.entries); plays = λ n lines end more h. turned roles line Pass e n lines text end (going_of b) more h }
+same_step : (p : Policy) (s : Step) → IsNamedStep p s → IsNamedStepOf p s
+same_step p (Tick upto to) h = h
+same_step p (AskStep actor request reply) h = h
 
--- an `@` line whose minute is reached
-pub goes : (roles : List (List ℕ)) (line : List ℕ) (t : ℕ) (b b' : BookView) (text : List ℕ) → Go t ≡ turn_of roles line → GoesTo roles t b b' → t ≤ now_in b' → GoesOn roles line b text b' text
-goes roles line t b b' text e way le =
+same_named : (p : Policy) (h : List Entry) → AreNamed p h → AreNamedOf p h
+same_named p [] n = tt
+same_named p (e ∷ h) n = (same_step p e.what n.0, same_named p h n.1)
+
+pub can_write : (b : BookView) → IsBook b → (actor : Actor) (request : Request) → CanBeWritten b.named (reply_in b actor request)
+can_write b book actor request =
+    let p : Policy = b.named.policy in
+    let named : AreNamedOf p (b.entries ++ []) = subst (λ (h : List Entry). AreNamedOf p h) (sym (append-nil b.entries)) (same_named p b.entries book.named) in
+    let legal : Legal p b.birth (b.entries ++ []) (model_in b) = subst (λ (h : List Entry). Legal p b.birth h (model_in b)) (sym (append-nil b.entries)) book.legal in
+    let is = reply_sounds p (point_in b) (points_are_named p b.birth b.entries [] (model_in b) book.well.policy book.birth named legal) actor request in
+    record { named = is.named; sound = is.sound; brief = brief_reply b.named book.well _ is.named is.sound }
+
+-- how a line is played
+
+pub went : (b b' : BookView) (actor : Actor) (text : List ℕ) (minute : ℕ) (there : Bool)
+    → MatchBool there (Arrives b.birth minute b.entries b'.entries) (IsFilled b.birth minute b.entries b'.entries)
+    → PlaysAs b.named b.birth (Ok (At minute)) (played_as there) (going_of b actor text) (going_of b' actor text)
+went b b' actor text minute true h = (b'.entries, h, refl)
+went b b' actor text minute false h = (refl, λ n. (h, refl))
+
+pub was_asked : (b b' : BookView) (actor : Actor) (request : Request) (reply : Reply) (text text' line : List ℕ) → length b.entries < max_steps
+    → Asks b scripts_who actor request reply b' → line ≡ reply_line b'.named reply → text' ≡ text ++ line
+    → PlaysAs b.named b.birth (Ok (Ask request)) On (going_of b actor text) (going_of b' actor text')
+was_asked b b' actor request reply text text' line room step line_is text_is =
+    let all : text' ≡ text ++ reply_line b.named reply = text_is ∙ ap (λ (l : List ℕ). text ++ l) (line_is ∙ ap (λ (np : NamedPolicy). reply_line np reply) step.gains.named) in
+    (reply, room, λ i. record { actor = actor; history = step.gains.entries i; text = all i })
+
+pub was_full : (b b' : BookView) (actor : Actor) (request : Request) (text : List ℕ) → b' ≡ b → length b.entries ≡ max_steps
+    → PlaysAs b.named b.birth (Ok (Ask request)) Full (going_of b actor text) (going_of b' actor text)
+was_full b b' actor request text same full = (refl, λ n. (full, ap (λ (x : BookView). x.entries) same, refl))
+
+pub by_line : (np : NamedPolicy) (birth : ℕ) (line said : Result Line LineFault) (how : Played) (s t : Going) → line ≡ said → PlaysAs np birth line how s t → PlaysAs np birth said how s t
+by_line np birth line said how s t is h = subst (λ (l : Result Line LineFault). PlaysAs np birth l how s t) is h
+
+-- lines one after another
+
+pub plays_more : (np : NamedPolicy) (birth : ℕ) (front : List (List ℕ)) (line : List ℕ) (s m t : Going) → Plays np birth front s m → Moves np birth (said np line) m t → Plays np birth (front ++ line ∷ []) s t
+plays_more np birth [] line s m t plays moves = (t, subst (λ (g : Going). Moves np birth (said np line) g t) plays moves, refl)
+plays_more np birth (l ∷ ls) line s m t plays moves = (plays.0, plays.1, plays_more np birth ls line plays.0 m t plays.2 moves)
+
+-- of the book that a run begins with
+pub rooted : (b0 b : BookView) (line : List ℕ) (how : Played) (s t : Going) → SameRoot b0 b → PlaysAs b.named b.birth (said b.named line) how s t → PlaysAs b0.named b0.birth (said b0.named line) how s t
+rooted b0 b line how s t root h =
+    subst (λ (np : NamedPolicy). PlaysAs np b0.birth (said np line) how s t) (sym root.0) (subst (λ (birth : ℕ). PlaysAs b.named birth (said b.named line) how s t) (sym root.1) h)
+
+legal_from : (b0 b : BookView) → SameRoot b0 b → IsLegalBook b → Legal b0.named.policy b0.birth b.entries (model_in b)
+legal_from b0 b root legal =
+    subst (λ (np : NamedPolicy). Legal np.policy b0.birth b.entries (model_in b)) (sym root.0) (subst (λ (birth : ℕ). Legal b.named.policy birth b.entries (model_in b)) (sym root.1) legal)
+
+-- a line that ends the run
+pub stop_out : (b0 b : BookView) (before : Going) (text : List ℕ) (number at : ℕ) (lines later rest front : List (List ℕ)) (line : List ℕ) (kind : ℕ → Told) (end : Told)
+    → SameRoot b0 b → IsLegalBook b → lines ≡ front ++ later → later ≡ line ∷ rest → Plays b0.named b0.birth front (at_birth b0.named b0.birth) before → at ≡ number + length front
+    → text ≡ before.text → ((n : ℕ) → Stops b0.named b0.birth (said b0.named line) n before b.entries (behind before.text (kind n))) → end ≡ behind text (kind (at + 1))
+    → RunOver b0.named b0.birth (number + 1) lines b.entries end
+stop_out b0 b before text number at lines later rest front line kind end root legal parts steps plays count same stops is =
+    let n : at + 1 ≡ (number + 1) + length front = omega (arith, count) in
+    let end_is : behind before.text (kind ((number + 1) + length front)) ≡ end = (λ i. behind (sym same i) (kind (sym n i))) ∙ sym is in
     record {
-      root = way.root;
-      added = way.added;
-      entries = way.entries;
-      plays = λ n lines end more h.
-          turned roles line (Go t) e n lines text end (going_of b) (way.added ++ more)
-          (way.ticks n lines text end more (arrived t (end ≡ behind text (steps_full n)) (λ s h. Plays roles (n + 1) lines text end s h) (going_of b') more (le-leb t (now_in b') le) h));
+      model = model_in b;
+      legal = legal_from b0 b root legal;
+      ends = inr (record {
+        front = front;
+        line = line;
+        rest = rest;
+        parts = parts ∙ ap (λ (ls : List (List ℕ)). front ++ ls) steps;
+        before = before;
+        plays = plays;
+        stops = subst (λ (t : Told). Stops b0.named b0.birth (said b0.named line) ((number + 1) + length front) before b.entries t) end_is (stops ((number + 1) + length front));
+      });
     }
 
--- an `@` line on whose way the history is full
-pub goes_full : (roles : List (List ℕ)) (line : List ℕ) (t : ℕ) (b b' : BookView) (text : List ℕ) → Go t ≡ turn_of roles line → GoesTo roles t b b' → now_in b' < t → length b'.entries ≡ max_steps → EndsAt roles line steps_full b text b'
-goes_full roles line t b b' text e way early full =
+-- behind the last line
+pub last_out : (b0 b : BookView) (actor : Actor) (text : List ℕ) (number : ℕ) (lines later front : List (List ℕ)) (end : Told)
+    → SameRoot b0 b → IsLegalBook b → lines ≡ front ++ later → later ≡ [] → Plays b0.named b0.birth front (at_birth b0.named b0.birth) (going_of b actor text) → end ≡ told 0 text
+    → RunOver b0.named b0.birth (number + 1) lines b.entries end
+last_out b0 b actor text number lines later front end root legal parts none plays is =
+    let all : front ≡ lines = sym (parts ∙ ap (λ (ls : List (List ℕ)). front ++ ls) none ∙ append-nil front) in
     record {
-      root = way.root;
-      added = way.added;
-      entries = way.entries;
-      plays = λ n lines.
-          let End : Told = behind text (steps_full n) in
-          turned roles line (Go t) e n lines text End (going_of b) way.added
-          (subst (λ es. TicksTo t (End ≡ End) (λ s h. Plays roles (n + 1) lines text End s h) (going_of b) es) (append-nil way.added)
-          (way.ticks n lines text End [] (filled_up t (End ≡ End) (λ s h. Plays roles (n + 1) lines text End s h) (going_of b') (lt-leb t (now_in b') early) (le-leb max_steps (length b'.entries) (omega (arith, full))) refl)));
+      model = model_in b;
+      legal = legal_from b0 b root legal;
+      ends = inl (record { last = going_of b actor text; plays = subst (λ (ls : List (List ℕ)). Plays b0.named b0.birth ls (at_birth b0.named b0.birth) (going_of b actor text)) all plays; history = refl; end_is = is });
     }
 
--- a request, and its reply behind the text
-pub asks : (roles : List (List ℕ)) (line : List ℕ) (request : Request) (reply : Reply) (b b' : BookView) (text : List ℕ) → Put request ≡ turn_of roles line → length b.entries < max_steps
-    → Asks b scripts_who Operator request reply b' → now_in b' ≡ now_in b → GoesOn roles line b text b' (text ++ reply_text reply ++ codes "\n")
-asks roles line request reply b b' text e room step now =
-    record {
-      root = (sym step.gains.named, sym step.gains.birth);
-      added = asked scripts_who Operator request reply ∷ [];
-      entries = step.gains.entries;
-      plays = λ n lines end more h.
-          turned roles line (Put request) e n lines text end (going_of b) (asked scripts_who Operator request reply ∷ more) (
-            lt-ltb (length b.entries) max_steps room,
-            (reply, refl, subst (λ g. Plays roles (n + 1) lines (text ++ reply_text reply ++ codes "\n") end g more) (sym (going_more b b' (asked scripts_who Operator request reply) (now_in b) step.gains.entries now)) h),
-          );
-    }
+-- the outcome of a run that left this book
+pub outcome : (b0 b : BookView) (n : ℕ) (lines : List (List ℕ)) (end : Told) → SameRoot b0 b → RunOver b0.named b0.birth n lines b.entries end → IsOutcome b0.named b0.birth n lines b end
+outcome b0 b n lines end root run = record { of_policy = sym root.0; of_birth = sym root.1; run = run }
 
--- a request that finds the history full
-pub asks_full : (roles : List (List ℕ)) (line : List ℕ) (request : Request) (b : BookView) (text : List ℕ) → Put request ≡ turn_of roles line → length b.entries ≡ max_steps → EndsAt roles line steps_full b text b
-asks_full roles line request b text e full =
-    record {
-      root = SameRoot-refl b;
-      added = [];
-      entries = sym (append-nil b.entries);
-      plays = λ n lines. turned roles line (Put request) e n lines text (behind text (steps_full n)) (going_of b) [] (le-leb max_steps (length b.entries) (omega (arith, full)), refl);
-    }
-
--- a line that is not played
-pub stops : (roles : List (List ℕ)) (line : List ℕ) (b : BookView) (text : List ℕ) → Stop ≡ turn_of roles line → EndsAt roles line unbuilt_script b text b
-stops roles line b text e =
-    record {
-      root = SameRoot-refl b;
-      added = [];
-      entries = sym (append-nil b.entries);
-      plays = λ n lines. turned roles line Stop e n lines text (behind text (unbuilt_script n)) (going_of b) [] (refl, refl);
-    }
-
--- an answered request
-pub answered : (roles : List (List ℕ)) (line : List ℕ) (request : Request) (b b' : BookView) (text text' : List ℕ) → Put request ≡ turn_of roles line → Answered request b text b' text' → GoesOn roles line b text b' text'
-answered roles line request b b' text text' e a =
-    let now : now_in b' ≡ now_in b =
-    (λ i. now_of (a.asks.gains.birth i) (a.asks.gains.entries i)) ∙ now_snoc b.birth b.entries (asked scripts_who Operator request a.reply) in
-    subst (λ t. GoesOn roles line b text b' t) (sym a.text_is) (asks roles line request a.reply b b' text e a.room a.asks now)
-
--- a line that ends the run ends all lines
-pub ends_out : (roles : List (List ℕ)) (n0 n : ℕ) (lines0 lines rest : List (List ℕ)) (line : List ℕ) (b0 b b' : BookView) (added : List Entry) (text text' : List ℕ) (tail : ℕ → Told)
-    → SameRoot b0 b → b.entries ≡ b0.entries ++ added → ((end : Told) (more : List Entry) → Plays roles n lines text end (going_of b) more → Plays roles n0 lines0 [] end (going_of b0) (added ++ more))
-    → lines ≡ line ∷ rest → EndsAt roles line tail b text b' → text' ≡ text → IsLegalBook b' → PlaysOut roles n0 lines0 b0 b' (behind text' (tail n))
-ends_out roles n0 n lines0 lines rest line b0 b b' added text text' tail root entries plays steps at same legal =
-    subst (λ t. PlaysOut roles n0 lines0 b0 b' (behind t (tail n))) (sym same)
-    (record {
-      root = SameRoot-trans b0 b b' root at.root;
-      legal = legal;
-      added = added ++ at.added;
-      entries = at.entries ∙ ap (λ es. es ++ at.added) entries ∙ append_assoc b0.entries added at.added;
-      plays = plays (behind text (tail n)) at.added (subst (λ ls. Plays roles n ls text (behind text (tail n)) (going_of b) at.added) (sym steps) (at.plays n rest));
-    })
-
--- behind the last line nothing is to come
-pub last_out : (roles : List (List ℕ)) (n0 n : ℕ) (lines0 lines : List (List ℕ)) (b0 b : BookView) (added : List Entry) (text : List ℕ)
-    → SameRoot b0 b → b.entries ≡ b0.entries ++ added → ((end : Told) (more : List Entry) → Plays roles n lines text end (going_of b) more → Plays roles n0 lines0 [] end (going_of b0) (added ++ more))
-    → lines ≡ [] → IsLegalBook b → PlaysOut roles n0 lines0 b0 b (told 0 text)
-last_out roles n0 n lines0 lines b0 b added text root entries plays steps legal =
-    record {
-      root = root;
-      legal = legal;
-      added = added;
-      entries = entries;
-      plays = subst (λ es. Plays roles n0 lines0 [] (told 0 text) (going_of b0) es) (append-nil added)
-          (plays (told 0 text) [] (subst (λ ls. Plays roles n ls text (told 0 text) (going_of b) []) (sym steps) (refl, refl)));
-    }
-
--- what holds of the end that is told holds of the one that is answered
-pub of_end : (P : Told → Type 0) (r : Result End NoMemory) (x : Told) → IfOk r (λ e. seen_end e ≡ x) → P x → IfOk r (λ e. P (seen_end e))
-of_end P (Ok e) x is h = subst P (sym is) h
-of_end P (Err f) x is h = tt
-
-pub with_end : (P Q : Told → Type 0) (r : Result End NoMemory) → IfOk r (λ e. P (seen_end e)) → ((x : Told) → P x → Q x) → IfOk r (λ e. Q (seen_end e))
-with_end P Q (Ok e) h f = f (seen_end e) h
-with_end P Q (Err e) h f = tt
-
--- lines that were played out from the birth are a run
-pub runs : (np : NamedPolicy) (birth n : ℕ) (lines : List (List ℕ)) (old new : BookView) (end : Told) → old.named ≡ np → old.birth ≡ birth → old.entries ≡ [] → PlaysOut old.named.names.roles n lines old new end → Run np birth n lines end
-runs np birth n lines old new end named at none out =
-    record {
-      history = new.entries;
-      model = model_of new.trace;
-      legal = subst (λ (q : NamedPolicy). Legal q.policy birth new.entries (model_of new.trace)) (sym out.root.0 ∙ named) (subst (λ t. Legal new.named.policy t new.entries (model_of new.trace)) (sym out.root.1 ∙ at) out.legal);
-      plays = subst (λ (q : NamedPolicy). Plays q.names.roles n lines [] end (record { now = birth; held = 0 }) new.entries) named
-          (subst (λ es. Plays old.named.names.roles n lines [] end (record { now = birth; held = 0 }) es) (sym (out.entries ∙ ap (λ es. es ++ out.added) none))
-          (subst (λ g. Plays old.named.names.roles n lines [] end g out.added) born out.plays));
-    }
-  where
-    born : ◌≡◌ {A = Going} (going_of old) (record { now = birth; held = 0 })
-    born = λ i. record { now = (ap (λ es. now_of old.birth es) none ∙ at) i; held = ap length none i }
+-- what holds of the book and of the end that is told holds of the outcome that is answered
+pub of_outcome : (P : BookView → Told → Type 0) {E : Type 0} (r : Result Outcome E) (b : BookView) (x : Told) → IfOk r (λ o. (o.book ≡ b) × (seen_end o.end ≡ x)) → ((y : Told) → y ≡ x → P b y)
+    → IfOk r (λ o. P o.book (seen_end o.end))
+of_outcome P (Ok o) b x is h = subst (λ (b' : BookView). P b' (seen_end o.end)) (sym is.0) (h (seen_end o.end) is.1)
+of_outcome P (Err f) b x is h = tt

@@ -1,9 +1,9 @@
 pub mod Told
-pub mod Turns
-pub mod Early
 pub mod Script
-pub mod Begun
 pub mod Going
+pub mod Started
+pub mod Summary
+pub mod Counted
 pub mod Tool
-pub mod Causes
 pub mod Commands
+pub mod Causes

@@ -1,92 +1,131 @@
--- The run of a script: its history and model, and what is printed.
-use Rattle.std.specs.Prelude.{◌≡◌, ℕ, ◌+◌, Bool, true, false, List, [], ◌∷◌, ◌++◌, codes, nat_le, nat_lt, decimal, IsTrue, MatchBool}
+-- The run of a script: the replies of its lines, over a history that is legal with its execution model.
+use Rattle.std.specs.Prelude.{◌≡◌, ℕ, ◌+◌, ◌<◌, ◌≤◌, ◌⊎◌, Bool, true, false, List, [], ◌∷◌, ◌++◌, length, codes, decimal, Result, Ok, Err}
 use Rattle.gt_base.specs.Bounds.{max_steps}
-use Rattle.gt_base.specs.declared.requests.Who.{Who}
-use Rattle.gt_base.specs.declared.requests.Actor.TheVariants.{Operator}
-use Rattle.gt_base.specs.declared.requests.Request.{Request}
-use Rattle.gt_base.specs.declared.requests.Reply.{Reply}
-use Rattle.gt_base.specs.declared.requests.Reply.TheVariants.{Truth, Queued, Refused}
-use Rattle.gt_base.specs.declared.requests.Refusal.TheVariants.{Beyond}
-use Rattle.gt_base.specs.declared.requests.Entry.{Entry}
 use Rattle.gt_base.specs.Machines.{ticked, asked}
-use Rattle.gt_text.specs.Lines.{lines_of, is_longer}
-use Rattle.civil_time.specs.Text.{civil_text}
+use Rattle.gt_base.specs.declared.requests.Who.{Who}
+use Rattle.gt_base.specs.declared.requests.Entry.{Entry}
+use Rattle.gt_base.specs.declared.requests.Actor.{Actor}
+use Rattle.gt_base.specs.declared.requests.Actor.TheVariants.{Operator}
+use Rattle.gt_base.specs.declared.requests.Reply.{Reply}
 use Rattle.gtrbac_model.specs.Status.{Model}
-use Rattle.gtrbac_model.specs.History.{Legal}
-use Rattle.gtrbac_tool.specs.declared.turns.Turn.{Turn}
-use Rattle.gtrbac_tool.specs.declared.turns.Turn.TheVariants.{Pass, Go, Put, Stop}
+use Rattle.gtrbac_model.specs.History.{Legal, now_of}
+use Rattle.gt_text.specs.Lines.{lines_of, is_longer}
+use Rattle.policy_words.specs.Naming.{NamedPolicy}
 use Rattle.policy_commands.specs.Ends.{Told, told}
-use Rattle.gtrbac_tool.specs.Told.{behind, unbuilt_script, steps_full, too_long}
-use Rattle.policy_forms.specs.Naming.{NamedPolicy}
-use Rattle.gtrbac_tool.specs.Turns.{turn_of}
-
--- the texts of the replies, without a line feed; no request that is played so far is answered by another
-abbrev pub reply_text : Reply → List ℕ
-reply_text (Truth true) = codes "yes"
-reply_text (Truth false) = codes "no"
-reply_text (Queued t) = codes "queued " ++ civil_text t
-reply_text (Refused (Beyond due)) = codes "refused beyond " ++ decimal due
-reply_text _ = []
+use Rattle.request_text.specs.declared.lines.Line.{Line}
+use Rattle.request_text.specs.declared.lines.Line.TheVariants.{Silent, At, Be, Ask}
+use Rattle.request_text.specs.declared.lines.LineFault.{LineFault}
+use Rattle.request_text.specs.Phrases.{read_line}
+use Rattle.request_text.specs.Replies.{reply_line, fault_word}
+use Rattle.gtrbac_tool.specs.Told.{behind, script_fault, steps_full, too_long}
 
 -- a script has one worker and one connection
 abbrev pub scripts_who : Who
 scripts_who = record { worker = 0; conn = 1 }
 
--- the instant now, and how many entries there are
+-- where a run stands: who acts, the entries so far, and the text of their replies
 pub record Going : Type 0 where
-  pub now : ℕ
-  pub held : ℕ
+  pub actor : Actor
+  pub history : List Entry
+  pub text : List ℕ
 
-abbrev pub stepped : Going → ℕ → Going
-stepped s to = record { now = to; held = s.held + 1 }
+-- what a line of a script says; its opening actor is the operator
+abbrev pub said : NamedPolicy → List ℕ → Result Line LineFault
+said np line = read_line np Operator true line
 
--- the entries begin with ticks of this bound until now is at least the bound, and then go on so; or the history is full before, and the run ends so
-abbrev pub TicksTo : ℕ → Type 0 → (Going → List Entry → Type 0) → Going → List Entry → Type 0
-TicksTo bound filled next s [] = MatchBool (nat_le bound s.now) (next s []) (IsTrue (nat_le max_steps s.held) × filled)
-TicksTo bound filled next s (e ∷ es) =
-    MatchBool (nat_le bound s.now) (next s (e ∷ es))
-    (IsTrue (nat_lt s.held max_steps) × ((to : ℕ) × (e ≡ ticked scripts_who bound to) × TicksTo bound filled next (stepped s to) es))
+-- ticks of the script with this bound
+abbrev pub AreTicks : ℕ → List Entry → Type 0
+AreTicks bound [] = Unit {0}
+AreTicks bound (e ∷ es) = ((to : ℕ) × (e ≡ ticked scripts_who bound to)) × AreTicks bound es
 
--- the entries begin with this request of the operator, and go on so after its reply; or the history is full, and the run ends so
-abbrev pub AsksFor : Request → Type 0 → (Reply → Going → List Entry → Type 0) → Going → List Entry → Type 0
-AsksFor request filled next s [] = IsTrue (nat_le max_steps s.held) × filled
-AsksFor request filled next s (e ∷ es) =
-    IsTrue (nat_lt s.held max_steps) × ((reply : Reply) × (e ≡ asked scripts_who Operator request reply) × next reply (stepped s s.now) es)
+-- ticks bring time to the minute, within the steps that a history may have
+pub record Arrives (birth minute : ℕ) (old new : List Entry) : Type 0 where
+  pub ticks : List Entry
+  pub added : new ≡ old ++ ticks
+  pub are_ticks : AreTicks minute ticks
+  pub there : minute ≤ now_of birth new
+  pub room : length new ≤ max_steps
 
--- where a run begins: no line but silent ones, the birth with the number and the lines after it, or a line that ends the run
+-- ticks fill the history before time comes to the minute
+pub record IsFilled (birth minute : ℕ) (old new : List Entry) : Type 0 where
+  pub ticks : List Entry
+  pub added : new ≡ old ++ ticks
+  pub are_ticks : AreTicks minute ticks
+  pub before : now_of birth new < minute
+  pub full : length new ≡ max_steps
+
+module _ (np : NamedPolicy) (birth : ℕ) where
+  -- how a line moves a run that goes on behind it
+  abbrev pub Moves : Result Line LineFault → Going → Going → Type 0
+  Moves (Ok Silent) s t = t ≡ s
+  Moves (Ok (Be actor)) s t = t ≡ record { actor = actor; history = s.history; text = s.text ++ codes "ok\n" }
+  Moves (Ok (At minute)) s t = (h : List Entry) × Arrives birth minute s.history h × (t ≡ record { actor = s.actor; history = h; text = s.text })
+  Moves (Ok (Ask request)) s t =
+      (reply : Reply) × (length s.history < max_steps)
+      × (t ≡ record { actor = s.actor; history = s.history ++ asked scripts_who s.actor request reply ∷ []; text = s.text ++ reply_line np reply })
+  Moves (Err fault) s t = ⊥
+
+  -- lines move a run one after another
+  abbrev pub Plays : List (List ℕ) → Going → Going → Type 0
+  Plays [] s t = t ≡ s
+  Plays (line ∷ lines) s t = (m : Going) × Moves (said np line) s m × Plays lines m t
+
+  -- how a line, with its number, ends a run: a line with a fault, or a step asked for with a full history
+  abbrev pub Stops : Result Line LineFault → ℕ → Going → List Entry → Told → Type 0
+  Stops (Ok Silent) n s h end = ⊥
+  Stops (Ok (Be actor)) n s h end = ⊥
+  Stops (Ok (At minute)) n s h end = IsFilled birth minute s.history h × (end ≡ behind s.text (steps_full n))
+  Stops (Ok (Ask request)) n s h end = (length s.history ≡ max_steps) × (h ≡ s.history) × (end ≡ behind s.text (steps_full n))
+  Stops (Err fault) n s h end = (h ≡ s.history) × (end ≡ behind s.text (script_fault n (fault_word fault)))
+
+  abbrev pub at_birth : Going
+  at_birth = record { actor = Operator; history = []; text = [] }
+
+  -- all lines were played, with status 0
+  pub record PlayedOut (lines : List (List ℕ)) (h : List Entry) (end : Told) : Type 0 where
+    pub last : Going
+    pub plays : Plays lines at_birth last
+    pub history : h ≡ last.history
+    pub end_is : end ≡ told 0 last.text
+
+  -- a line ended the run; the lines are numbered from n
+  pub record StoppedAt (n : ℕ) (lines : List (List ℕ)) (h : List Entry) (end : Told) : Type 0 where
+    pub front : List (List ℕ)
+    pub line : List ℕ
+    pub rest : List (List ℕ)
+    pub parts : lines ≡ front ++ line ∷ rest
+    pub before : Going
+    pub plays : Plays front at_birth before
+    pub stops : Stops (said np line) (n + length front) before h end
+
+-- a run from its birth, with the lines behind the birth's numbered from n, over a history that is legal, with its execution model
+pub record RunOver (np : NamedPolicy) (birth n : ℕ) (lines : List (List ℕ)) (history : List Entry) (end : Told) : Type 0 where
+  pub model : Model
+  pub legal : Legal np.policy birth history model
+  pub ends : PlayedOut np birth lines history end ⊎ StoppedAt np birth n lines history end
+
+-- a run over some history
+abbrev pub Run : NamedPolicy → ℕ → ℕ → List (List ℕ) → Told → Type 0
+Run np birth n lines end = (history : List Entry) × RunOver np birth n lines history end
+
+-- where a run begins: only silent lines; the birth, with the number of the line behind it and the lines from there; or the end at a
+-- first line that is no minute
 pub data Start : Type 0 where
   never : Start
   born : ℕ → ℕ → List (List ℕ) → Start
   failed : Told → Start
 
--- what a turn adds to the entries and to the text
-abbrev pub Takes : Turn → ℕ → List ℕ → Told → (List ℕ → Going → List Entry → Type 0) → Going → List Entry → Type 0
-Takes Pass n text end next s h = next text s h
-Takes (Go t) n text end next s h = TicksTo t (end ≡ behind text (steps_full n)) (next text) s h
-Takes (Put r) n text end next s h = AsksFor r (end ≡ behind text (steps_full n)) (λ reply. next (text ++ reply_text reply ++ codes "\n")) s h
-Takes Stop n text end next s h = (h ≡ []) × (end ≡ behind text (unbuilt_script n))
+module _ (np : NamedPolicy) where
+  abbrev pub begun : Result Line LineFault → ℕ → List (List ℕ) → Start → Start
+  begun (Ok Silent) n lines later = later
+  begun (Ok (At minute)) n lines later = born minute (n + 1) lines
+  begun (Ok (Be actor)) n lines later = failed (script_fault n (codes "birth"))
+  begun (Ok (Ask request)) n lines later = failed (script_fault n (codes "birth"))
+  begun (Err fault) n lines later = failed (script_fault n (fault_word fault))
 
--- the lines, numbered from n, make these entries, and end so after the text so far
-abbrev pub Plays : List (List ℕ) → ℕ → List (List ℕ) → List ℕ → Told → Going → List Entry → Type 0
-Plays roles n [] text end s h = (h ≡ []) × (end ≡ told 0 text)
-Plays roles n (line ∷ lines) text end s h = Takes (turn_of roles line) n text end (λ text' s' h'. Plays roles (n + 1) lines text' end s' h') s h
-
-abbrev pub begun : Turn → ℕ → List (List ℕ) → Start → Start
-begun Pass n lines later = later
-begun (Go t) n lines later = born t (n + 1) lines
-begun (Put r) n lines later = failed (unbuilt_script n)
-begun Stop n lines later = failed (unbuilt_script n)
-
-abbrev pub start_of : List (List ℕ) → ℕ → List (List ℕ) → Start
-start_of roles n [] = never
-start_of roles n (line ∷ lines) = begun (turn_of roles line) n lines (start_of roles (n + 1) lines)
-
--- a run from its birth: a legal history with its execution model that the lines make, and how it ends
-pub record Run (np : NamedPolicy) (birth n : ℕ) (lines : List (List ℕ)) (end : Told) : Type 0 where
-  pub history : List Entry
-  pub model : Model
-  pub legal : Legal np.policy birth history model
-  pub plays : Plays np.names.roles n lines [] end (record { now = birth; held = 0 }) history
+  abbrev pub start_of : ℕ → List (List ℕ) → Start
+  start_of n [] = never
+  start_of n (line ∷ lines) = begun (said np line) n lines (start_of (n + 1) lines)
 
 abbrev pub EndsFrom : NamedPolicy → Start → Told → Type 0
 EndsFrom np never end = end ≡ told 0 []
@@ -98,8 +137,8 @@ max_script = 16_777_216
 
 abbrev pub EndsIf : Bool → NamedPolicy → List ℕ → Told → Type 0
 EndsIf true np script end = end ≡ too_long (codes "script")
-EndsIf false np script end = EndsFrom np (start_of np.names.roles 1 (lines_of script)) end
+EndsIf false np script end = EndsFrom np (start_of np 1 (lines_of script)) end
 
--- the script ends so
+-- the script ends so over the policy
 abbrev pub Ends : NamedPolicy → List ℕ → Told → Type 0
 Ends np script end = EndsIf (is_longer max_script script) np script end

@@ -6,18 +6,16 @@ use Rattle.policy_commands.specs.Ends.{Told, told}
 abbrev pub behind : List ℕ → Told → Told
 behind front t = record { status = t.status; text = front ++ t.text }
 
--- a line of the policy or of the script that is not played yet
-abbrev pub unbuilt : List ℕ → ℕ → Told
-unbuilt what n = told 12 (codes "unbuilt " ++ what ++ codes " " ++ decimal n ++ codes "\n")
+abbrev pub script_line : ℕ → List ℕ → List ℕ
+script_line n what = codes "script " ++ decimal n ++ codes ": " ++ what ++ codes "\n"
 
-abbrev pub unbuilt_policy : ℕ → Told
-unbuilt_policy n = unbuilt (codes "policy") n
+-- a line that is no script line
+abbrev pub script_fault : ℕ → List ℕ → Told
+script_fault n what = told 7 (script_line n what)
 
-abbrev pub unbuilt_script : ℕ → Told
-unbuilt_script n = unbuilt (codes "script") n
-
+-- a step was asked for with a full history
 abbrev pub steps_full : ℕ → Told
-steps_full n = told 9 (codes "script " ++ decimal n ++ codes ": steps full\n")
+steps_full n = told 9 (script_line n (codes "steps full"))
 
 abbrev pub too_long : List ℕ → Told
 too_long what = told 6 (codes "too long: " ++ what ++ codes "\n")

@@ -1,16 +1,17 @@
 -- What the program prints, and its status.
 use Rattle.std.specs.Prelude.{◌≡◌, ◌⊎◌, ℕ, true, false, List, [], ◌∷◌, codes, bytes_eq, Option, Some, None, Result, Ok, Err, IfSome, MatchBool}
 use Rattle.std.specs.Io.KnownBytes.{Appends, Keeps}
-use Rattle.gt_io.specs.Causes.{AppendsFront}
+use Rattle.gt_io.specs.Causes.{Rose, AppendsPart}
+use Rattle.gt_io.specs.Shelf.{Contents}
 use Rattle.gt_text.specs.Lines.{is_longer}
 use Rattle.gt_text.specs.Words.{begins_with}
-use Rattle.policy_forms.specs.Naming.{NamedPolicy}
+use Rattle.policy_words.specs.Naming.{NamedPolicy}
 use Rattle.policy_commands.specs.Ends.{Told}
 use Rattle.policy_commands.specs.Policies.{safe_in}
 use Rattle.policy_commands.specs.Commands.{fmt_end, check_end}
-use Rattle.policy_commands.specs.Played.{unplayed_line}
-use Rattle.gtrbac_tool.specs.Told.{usage, read_fault, unbuilt_policy, too_long}
+use Rattle.gtrbac_tool.specs.Told.{usage, read_fault, too_long}
 use Rattle.gtrbac_tool.specs.Script.{Ends}
+use Rattle.gtrbac_tool.specs.Summary.{Gen, IsGen, IsNoGen, GenEnds}
 
 -- a command, with the name of a policy
 pub data Command : Type 0 where
@@ -38,58 +39,76 @@ command_of _ = None
 abbrev pub max_policy : ℕ
 max_policy = 4_194_304
 
--- a line that is not played ends the run; the script is read only where all are played
-abbrev pub PlayedEnds : Option ℕ → NamedPolicy → Option (List ℕ) → Told → Type 0
-PlayedEnds (Some n) np input end = end ≡ unbuilt_policy n
-PlayedEnds None np input end = IfSome input (λ script. Ends np script end)
+-- the input failed; or what the script determines, where the input tells it
+abbrev pub ScriptEnds : Type 0 → NamedPolicy → Option (List ℕ) → Told → Type 0
+ScriptEnds failed np input end = ((end ≡ read_fault) × failed) ⊎ IfSome input (λ script. Ends np script end)
 
-abbrev pub SafeEnds : Result NamedPolicy Told → Option ℕ → Option (List ℕ) → Told → Type 0
-SafeEnds (Err t) line input end = end ≡ t
-SafeEnds (Ok np) line input end = PlayedEnds line np input end
+-- a fault of the policy comes first, then its cycle; the script is read only where the policy is safe
+abbrev pub SafeEnds : Type 0 → Result NamedPolicy Told → Option (List ℕ) → Told → Type 0
+SafeEnds failed (Err t) input end = end ≡ t
+SafeEnds failed (Ok np) input end = ScriptEnds failed np input end
 
--- how a run ends: at a fault of the policy, at its cycle, at its first line that is not played, or as the script does
-abbrev pub RunEnds : List ℕ → Option (List ℕ) → Told → Type 0
-RunEnds text input end = SafeEnds (safe_in text) (unplayed_line text) input end
-
--- what a command ends with over the text of its policy and the input
-abbrev pub TextEnds : Command → List ℕ → Option (List ℕ) → Told → Type 0
-TextEnds (check name) text input end = end ≡ check_end text
-TextEnds (fmt name) text input end = end ≡ fmt_end text
-TextEnds (run name) text input end = RunEnds text input end
+-- what a command ends with over the text of its policy and the input; `failed` says that the input failed
+abbrev pub TextEnds : Type 0 → Command → List ℕ → Option (List ℕ) → Told → Type 0
+TextEnds failed (check name) text input end = end ≡ check_end text
+TextEnds failed (fmt name) text input end = end ≡ fmt_end text
+TextEnds failed (run name) text input end = SafeEnds failed (safe_in text) input end
 
 -- a text of more than 4,194,304 bytes is told so
-abbrev pub LimitedEnds : Command → List ℕ → Option (List ℕ) → Told → Type 0
-LimitedEnds command text input end = MatchBool (is_longer max_policy text) (end ≡ too_long (codes "policy")) (TextEnds command text input end)
+abbrev pub LimitedEnds : Type 0 → Command → List ℕ → Option (List ℕ) → Told → Type 0
+LimitedEnds failed command text input end = MatchBool (is_longer max_policy text) (end ≡ too_long (codes "policy")) (TextEnds failed command text input end)
 
 -- a policy whose name the shelf does not have is a read fault
-abbrev pub FoundEnds : Command → Option (List ℕ) → Option (List ℕ) → Told → Type 0
-FoundEnds command None input end = end ≡ read_fault
-FoundEnds command (Some text) input end = LimitedEnds command text input end
+abbrev pub NamedEnds : Type 0 → Command → Option (List ℕ) → Option (List ℕ) → Told → Type 0
+NamedEnds failed command None input end = end ≡ read_fault
+NamedEnds failed command (Some text) input end = LimitedEnds failed command text input end
 
-abbrev pub SpokenEnds : Option Command → Option (List ℕ → Option (List ℕ)) → Option (List ℕ) → Told → Type 0
-SpokenEnds None contents input end = end ≡ usage
-SpokenEnds (Some command) contents input end = IfSome contents (λ text_of. FoundEnds command (text_of (named_by command)) input end)
+-- the shelf failed otherwise than by a missing name; or what the text of the name determines, where the shelf tells it
+abbrev pub FoundEnds : Type 0 → Type 0 → Command → Contents → Option (List ℕ) → Told → Type 0
+FoundEnds hard failed command contents input end =
+    ((end ≡ read_fault) × hard) ⊎ IfSome contents (λ text_of. NamedEnds failed command (text_of (named_by command)) input end)
 
--- the read fault where something failed; else what the words, the texts by their names and the input determine, where these are told
-abbrev pub MayEnd : List (List ℕ) → Option (List ℕ → Option (List ℕ)) → Option (List ℕ) → Type 0 → Told → Type 0
-MayEnd words contents input fault end = ((end ≡ read_fault) × fault) ⊎ SpokenEnds (command_of words) contents input end
+-- the words come first
+abbrev pub SpokenEnds : Type 0 → Type 0 → Option Command → Contents → Option (List ℕ) → Told → Type 0
+SpokenEnds hard failed None contents input end = end ≡ usage
+SpokenEnds hard failed (Some command) contents input end = FoundEnds hard failed command contents input end
 
--- the end was printed whole, or the sink failed and a front of its text was written
-abbrev pub IsPrinted : ℕ → Told → Option (List ℕ) → Option (List ℕ) → Type 0 → Type 0
-IsPrinted status end old new failed = ((status ≡ end.status) × Appends old new end.text) ⊎ ((status ≡ 5) × failed × AppendsFront old new end.text)
+-- the end was printed whole by an output that failed nowhere; or the output failed, and a proper front of the text was written
+abbrev pub IsPrinted : ℕ → Told → Option (List ℕ) → Option (List ℕ) → ℕ → ℕ → Type 0
+IsPrinted status end old new before now =
+    ((status ≡ end.status) × Appends old new end.text × (now ≡ before)) ⊎ ((status ≡ 5) × Rose before now × AppendsPart old new end.text)
 
 -- for want of memory nothing was written
-abbrev pub WantsMemory : ℕ → Option (List ℕ) → Option (List ℕ) → Type 0
-WantsMemory status old new = (status ≡ 8) × Keeps old new
+abbrev pub WantsMemory : ℕ → Option (List ℕ) → Option (List ℕ) → ℕ → ℕ → Type 0
+WantsMemory status old new before now = (status ≡ 8) × Keeps old new × (now ≡ before)
 
--- a call over words, contents and input, with what was written before and after
-abbrev pub Answers : List (List ℕ) → Option (List ℕ → Option (List ℕ)) → Option (List ℕ) → Type 0 → ℕ → Option (List ℕ) → Option (List ℕ) → Type 0 → Type 0
-Answers words contents input read_failed status old new write_failed =
-    WantsMemory status old new ⊎ ((end : Told) × MayEnd words contents input read_failed end × IsPrinted status end old new write_failed)
+-- what is seen of the outside before and after a call: contents and hard faults of the shelf, the input and its faults, what was written and its faults
+pub record Seen : Type 0 where
+  pub contents : Contents
+  pub hard : ℕ
+  pub input : Option (List ℕ)
+  pub input_faults : ℕ
+  pub written : Option (List ℕ)
+  pub written_faults : ℕ
 
--- the statuses of a script that was run, and of what was read
-abbrev pub IsRunStatus : ℕ → Type 0
-IsRunStatus s = (s ≡ 0) ⊎ (s ≡ 9) ⊎ (s ≡ 12)
+abbrev pub seen : Contents → ℕ → Option (List ℕ) → ℕ → Option (List ℕ) → ℕ → Seen
+seen contents hard input input_faults written written_faults =
+    record { contents = contents; hard = hard; input = input; input_faults = input_faults; written = written; written_faults = written_faults }
 
-abbrev pub IsReadStatus : ℕ → Type 0
-IsReadStatus s = IsRunStatus s ⊎ (s ≡ 2) ⊎ (s ≡ 3) ⊎ (s ≡ 6)
+-- what the words end with: those of `gen` by what it makes, and others by the command that they are
+abbrev pub WordsEnd : Type 0 → Type 0 → List (List ℕ) → Contents → Option (List ℕ) → Told → Type 0
+WordsEnd hard failed words contents input end = ((g : Gen) × IsGen words g × GenEnds g end) ⊎ (IsNoGen words × SpokenEnds hard failed (command_of words) contents input end)
+
+-- a call that prints what it ends with
+abbrev pub Prints : (Told → Type 0) → ℕ → Option (List ℕ) → Option (List ℕ) → ℕ → ℕ → Type 0
+Prints Ends status old new before now = WantsMemory status old new before now ⊎ ((end : Told) × Ends end × IsPrinted status end old new before now)
+
+-- a call over words that are a command with the name of a policy, or no command
+abbrev pub AnswersCommand : List (List ℕ) → ℕ → Seen → Seen → Type 0
+AnswersCommand words status a b =
+    Prints (SpokenEnds (Rose a.hard b.hard) (Rose a.input_faults b.input_faults) (command_of words) a.contents a.input) status a.written b.written a.written_faults b.written_faults
+
+-- a call over the words
+abbrev pub Answers : List (List ℕ) → ℕ → Seen → Seen → Type 0
+Answers words status a b =
+    Prints (WordsEnd (Rose a.hard b.hard) (Rose a.input_faults b.input_faults) words a.contents a.input) status a.written b.written a.written_faults b.written_faults

@@ -2,9 +2,9 @@
 #![tactic(auto)]
 
 mod commands;
-mod faults;
 mod script;
+mod starting;
+mod summing;
 mod top;
-mod turns;
 
 pub use top::tool;

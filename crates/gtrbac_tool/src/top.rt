@@ -1,22 +1,22 @@
 //! The top call.
-ghost use Rattle.std.specs.Prelude.{◌≡◌, ◌⊎◌, ◌≤◌, None, Ok, map, string_bytes, length, IfOk, IfSome};
+ghost use Rattle.std.specs.Prelude.{◌≡◌, ◌⊎◌, ◌≤◌, None, map, string_bytes, length, IfOk};
 ghost use Rattle.gt_io.specs.Causes.{Rose};
-ghost use Rattle.core_machine.specs.Plain.{IsPlain};
 ghost use Rattle.policy_commands.specs.Ends.{seen_end, told};
-ghost use Rattle.policy_commands.specs.Policies.{HasFault, IsUnsafeText};
-ghost use Rattle.gtrbac_tool.specs.Told.{read_fault, unbuilt_policy};
-ghost use Rattle.gtrbac_tool.specs.Script.{Ends};
+ghost use Rattle.policy_commands.specs.Policies.{HasFault, IsUnsafeText, safe_in};
 ghost use Rattle.gtrbac_tool.specs.Commands.{seen_command};
-ghost use Rattle.gtrbac_tool.specs.Causes.{IsCaused, IsScriptCaused, IsCausedIn, IfTold, IsLongPolicy, IsLongScript};
-ghost use Rattle.gtrbac_tool.specs.Tool.{command_of, RunEnds, PlayedEnds, TextEnds, FoundEnds, named_by, Answers, IsPrinted};
+ghost use Rattle.gtrbac_tool.specs.Causes.{IsScriptCaused, IsCaused, IsCausedIn, IfTold, IsMissing, IsMade, IsGenCaused, IsLongPolicy, IsLongScript};
+ghost use Rattle.gtrbac_tool.specs.Summary.{Gen, IsGen, IsNoGen, GenEnds};
+ghost use Rattle.gtrbac_tool.specs.Counted.{seen_recipe};
+ghost use Rattle.gtrbac_tool.specs.Tool.{command_of, named_by, ScriptEnds, SafeEnds, TextEnds, FoundEnds, Answers, AnswersCommand, Prints, IsPrinted, seen};
 
 use crate::commands::{Command, spoken};
-use crate::faults::NoMemory;
-use crate::script::{play, push_numbered};
-use core_machine::Safe;
+use crate::starting::play;
+use crate::summing::{Recipe, generate, recipe_of};
+use gt_base::{List, Memory};
 use gt_io::{ReadFault, Shelf, Sink, Source, find_all, read_all, write_all};
-use policy_commands::{Admitted, End, admit, check, lay_out, unplayed};
-use std::alloc::Global;
+use policy_commands::{Admitted, End, admit, check, lay_out};
+use policy_safety::Safe;
+use std::alloc::{AllocError, Global};
 
 /// The most bytes of a policy.
 const MAX_POLICY: usize = 4_194_304;
@@ -25,66 +25,36 @@ const MAX_POLICY: usize = 4_194_304;
 const MAX_SCRIPT: usize = 16_777_216;
 
 /// An end with this text.
-fn say(alloc: Global, status: u8, text: &[u8]) -> Result<End, NoMemory>
-    ensures end { IfOk result (λ end. seen_end end ≡ told status text.now) }
-    ensures status { IfOk result (λ end. end.status ≡ status) }
+fn say(alloc: Global, status: u8, text: &[u8]) -> Result<End, Memory>
+    ensures { IfOk result (λ end. seen_end end ≡ told status text.now) }
 {
     Ok(End {
         status,
-        text: text.to_vec(alloc)?,
+        text: List::from(text.to_vec(alloc)?),
     })
 }
 
-/// The end at a policy line that is not played.
-fn unplayed_policy(alloc: Global, line: u32) -> Result<End, NoMemory>
-    ensures end { IfOk result (λ end. seen_end end ≡ unbuilt_policy line) }
-    ensures status { IfOk result (λ end. end.status ≡ 12) }
-{
-    let mut text = Vec::new(alloc);
-    push_numbered(&mut text, b"unbuilt policy ", line, b"\n")?;
-    Ok(End { status: 12, text })
-}
-
 /// Reads the script and runs it.
-fn run_script<I: Source>(alloc: Global, safe: Safe, input: &mut I) -> Result<End, NoMemory>
-    requires { IsPlain safe.policy }
-    ensures end { IfOk result (λ end. ((seen_end end ≡ read_fault) × Rose (I.faults input.old) (I.faults input.new))
-        ⊎ (IfSome (I.left input.old) (λ script. Ends safe script (seen_end end)) × IsScriptCaused (I.left input.old) end.status)) }
+fn run_script<I: Source>(alloc: Global, safe: Safe, input: &mut I) -> Result<End, Memory>
+    ensures end { IfOk result (λ end. ScriptEnds (Rose (I.faults input.old) (I.faults input.new)) safe (I.left input.old) (seen_end end)) }
+    ensures caused { IfOk result (λ end. IsScriptCaused (Rose (I.faults input.old) (I.faults input.new)) (I.left input.old) end.status) }
 {
     match read_all(alloc, input, MAX_SCRIPT) {
         Ok(script) => play(alloc, safe, &script),
-        Err(ReadFault::Memory) => Err(NoMemory),
+        Err(ReadFault::Memory) => Err(AllocError),
         Err(ReadFault::Failed) => say(alloc, 4, b"read fault\n"),
         Err(ReadFault::TooLong) => say(alloc, 6, b"too long: script\n"),
     }
 }
 
-/// Runs the script over a safe policy, unless a line of the policy is not played.
-fn run_safe<I: Source>(
-    alloc: Global,
-    safe: Safe,
-    unplayed: Option<u32>,
-    input: &mut I,
-) -> Result<End, NoMemory>
-    requires { unplayed ≡ None → IsPlain safe.policy }
-    ensures end { IfOk result (λ end. ((seen_end end ≡ read_fault) × Rose (I.faults input.old) (I.faults input.new))
-        ⊎ (PlayedEnds unplayed safe (I.left input.old) (seen_end end) × IsScriptCaused (I.left input.old) end.status)) }
-{
-    match unplayed {
-        Some(line) => unplayed_policy(alloc, line),
-        None => run_script(alloc, safe, input),
-    }
-}
-
 /// Runs the script over the policy of a text.
-fn run<I: Source>(alloc: Global, text: &[u8], input: &mut I) -> Result<End, NoMemory>
+fn run<I: Source>(alloc: Global, text: &[u8], input: &mut I) -> Result<End, Memory>
     requires { length text.now ≤ 4_194_304 }
-    ensures end { IfOk result (λ end. ((seen_end end ≡ read_fault) × Rose (I.faults input.old) (I.faults input.new))
-        ⊎ (RunEnds text.now (I.left input.old) (seen_end end) × IsCaused text.now (I.left input.old) end.status)) }
+    ensures end { IfOk result (λ end. SafeEnds (Rose (I.faults input.old) (I.faults input.new)) (safe_in text.now) (I.left input.old) (seen_end end)) }
+    ensures caused { IfOk result (λ end. IsCaused (Rose (I.faults input.old) (I.faults input.new)) text.now (I.left input.old) end.status) }
 {
-    let unplayed = unplayed(alloc, text)?;
     match admit(alloc, text)? {
-        Admitted::Safe(safe) => run_safe(alloc, safe, unplayed, input),
+        Admitted::Safe(safe) => run_script(alloc, safe, input),
         Admitted::Ended(end) => Ok(end),
     }
 }
@@ -95,14 +65,14 @@ fn answer_text<I: Source>(
     command: Command<'_>,
     text: &[u8],
     input: &mut I,
-) -> Result<End, NoMemory>
+) -> Result<End, Memory>
     requires { length text.now ≤ 4_194_304 }
-    ensures end { IfOk result (λ end. ((seen_end end ≡ read_fault) × Rose (I.faults input.old) (I.faults input.new))
-        ⊎ (TextEnds (seen_command command.entry) text.now (I.left input.old) (seen_end end) × IsCaused text.now (I.left input.old) end.status)) }
+    ensures end { IfOk result (λ end. TextEnds (Rose (I.faults input.old) (I.faults input.new)) (seen_command command.entry) text.now (I.left input.old) (seen_end end)) }
+    ensures caused { IfOk result (λ end. IsCaused (Rose (I.faults input.old) (I.faults input.new)) text.now (I.left input.old) end.status) }
 {
     match command {
-        Command::Check(_) => Ok(check(alloc, text)?),
-        Command::Fmt(_) => Ok(lay_out(alloc, text)?),
+        Command::Check(_) => check(alloc, text),
+        Command::Fmt(_) => lay_out(alloc, text),
         Command::Run(_) => run(alloc, text, input),
     }
 }
@@ -113,14 +83,16 @@ fn answer<S: Shelf, I: Source>(
     command: Command<'_>,
     shelf: &mut S,
     input: &mut I,
-) -> Result<End, NoMemory>
-    ensures end { IfOk result (λ end. ((seen_end end ≡ read_fault) × (Rose (S.faults shelf.old) (S.faults shelf.new) ⊎ Rose (I.faults input.old) (I.faults input.new)))
-        ⊎ (IfSome (S.contents shelf.old) (λ text_of. FoundEnds (seen_command command.entry) (text_of (named_by (seen_command command.entry))) (I.left input.old) (seen_end end))
-        × IsCausedIn (S.contents shelf.old) (named_by (seen_command command.entry)) (I.left input.old) end.status)) }
+) -> Result<End, Memory>
+    ensures end { IfOk result (λ end. FoundEnds (Rose (S.hard_faults shelf.old) (S.hard_faults shelf.new)) (Rose (I.faults input.old) (I.faults input.new))
+        (seen_command command.entry) (S.contents shelf.old) (I.left input.old) (seen_end end)) }
+    ensures caused { IfOk result (λ end. IsCausedIn (Rose (S.hard_faults shelf.old) (S.hard_faults shelf.new)) (Rose (I.faults input.old) (I.faults input.new))
+        (S.contents shelf.old) (named_by (seen_command command.entry)) (I.left input.old) end.status) }
+    ensures same { S.contents shelf.new ≡ S.contents shelf.old }
 {
     match find_all(alloc, shelf, command.name(), MAX_POLICY) {
         Ok(text) => answer_text(alloc, command, &text, input),
-        Err(ReadFault::Memory) => Err(NoMemory),
+        Err(ReadFault::Memory) => Err(AllocError),
         Err(ReadFault::Failed) => say(alloc, 4, b"read fault\n"),
         Err(ReadFault::TooLong) => say(alloc, 6, b"too long: policy\n"),
     }
@@ -128,7 +100,7 @@ fn answer<S: Shelf, I: Source>(
 
 /// Prints a text; a sink that fails has status 5.
 fn print<K: Sink>(out: &mut K, status: u8, text: &[u8]) -> u8
-    ensures { IsPrinted result (told status text.now) (K.written out.old) (K.written out.new) (Rose (K.faults out.old) (K.faults out.new)) }
+    ensures { IsPrinted result (told status text.now) (K.written out.old) (K.written out.new) (K.faults out.old) (K.faults out.new) }
 {
     match write_all(out, text) {
         Ok(()) => status,
@@ -136,39 +108,27 @@ fn print<K: Sink>(out: &mut K, status: u8, text: &[u8]) -> u8
     }
 }
 
-/// Runs the command that the words are, over a shelf of texts by name and an input, and prints to `out`. The commands so
-/// far are `check POLICY`, which says whether a policy is safe, `fmt POLICY`, which lays it out, and `run POLICY`, which
-/// reads a script from the input to its end and prints its replies; the policy is found on the shelf. It answers the exit
-/// status:
-///
-/// - 0: the policy is safe, or was laid out, or the script was run to its end;
-/// - 1: the words are no command, and the usage line was printed;
-/// - 2: a line of the policy has a fault, or its lines have one together, which was printed;
-/// - 3: the policy is not safe, and its least conflict cycle was printed; `fmt` does not judge this;
-/// - 4: the shelf or the input failed;
-/// - 5: the output failed, with a front of the text written;
-/// - 6: the policy has more than 4,194,304 bytes or the script more than 16,777,216;
-/// - 8: there was no memory, and nothing was written;
-/// - 9: a step was asked for with 1,000,000 entries in the history;
-/// - 12: a line of the policy or of the script is not played yet.
-pub fn tool<S: Shelf, I: Source, K: Sink>(
+/// Runs the command over a policy that the words are, and prints to `out`; the usage line where they are none.
+fn run_command<S: Shelf, I: Source, K: Sink>(
     alloc: Global,
     words: &[String],
     shelf: &mut S,
     input: &mut I,
     out: &mut K,
 ) -> u8
-    ensures answers { Answers (map string_bytes words.now) (S.contents shelf.old) (I.left input.old)
-        (Rose (S.faults shelf.old) (S.faults shelf.new) ⊎ Rose (I.faults input.old) (I.faults input.new))
-        result (K.written out.old) (K.written out.new) (Rose (K.faults out.old) (K.faults out.new)) }
+    ensures answers { AnswersCommand (map string_bytes words.now) result
+        (seen (S.contents shelf.old) (S.hard_faults shelf.old) (I.left input.old) (I.faults input.old) (K.written out.old) (K.faults out.old))
+        (seen (S.contents shelf.new) (S.hard_faults shelf.new) (I.left input.new) (I.faults input.new) (K.written out.new) (K.faults out.new)) }
     ensures usage { command_of (map string_bytes words.now) ≡ None → (result ≡ 1) ⊎ (result ≡ 5) }
     ensures used { result ≡ 1 → command_of (map string_bytes words.now) ≡ None }
     ensures fault { result ≡ 2 → IfTold (map string_bytes words.now) (S.contents shelf.old) HasFault }
     ensures cycle { result ≡ 3 → IfTold (map string_bytes words.now) (S.contents shelf.old) IsUnsafeText }
     ensures read_fault { result ≡ 4
-        → Rose (S.faults shelf.old) (S.faults shelf.new) ⊎ Rose (I.faults input.old) (I.faults input.new) }
+        → Rose (S.hard_faults shelf.old) (S.hard_faults shelf.new) ⊎ Rose (I.faults input.old) (I.faults input.new) ⊎ IsMissing (map string_bytes words.now) (S.contents shelf.old) }
     ensures write_fault { result ≡ 5 → Rose (K.faults out.old) (K.faults out.new) }
+    ensures written { (result ≡ 5 → ⊥) → K.faults out.new ≡ K.faults out.old }
     ensures long { result ≡ 6 → IfTold (map string_bytes words.now) (S.contents shelf.old) (λ text. IsLongPolicy text ⊎ IsLongScript (I.left input.old)) }
+    ensures same { S.contents shelf.new ≡ S.contents shelf.old }
 {
     let Some(command) = spoken(words) else {
         return print(
@@ -178,7 +138,64 @@ pub fn tool<S: Shelf, I: Source, K: Sink>(
         );
     };
     match answer(alloc, command, shelf, input) {
-        Ok(end) => print(out, end.status, &end.text),
+        Ok(end) => print(out, end.status, end.text.as_slice()),
         Err(_) => 8,
+    }
+}
+
+/// Runs `gen` and prints to `out`.
+fn run_gen<K: Sink>(alloc: Global, recipe: Recipe, out: &mut K) -> u8
+    requires { (1 ≤ recipe.size) × (recipe.size ≤ 100_000) }
+    ensures answers { Prints (GenEnds (seen_recipe recipe)) result (K.written out.old) (K.written out.new) (K.faults out.old) (K.faults out.new) }
+    ensures caused { (result ≡ 5) ⊎ (result ≡ 8) ⊎ IsGenCaused recipe.size result }
+    ensures write_fault { result ≡ 5 → Rose (K.faults out.old) (K.faults out.new) }
+    ensures written { (result ≡ 5 → ⊥) → K.faults out.new ≡ K.faults out.old }
+{
+    match generate(alloc, recipe) {
+        Ok(end) => print(out, end.status, end.text.as_slice()),
+        Err(_) => 8,
+    }
+}
+
+/// Runs the command that the words are, over a shelf of texts by name and an input, and prints to `out`. The commands are
+/// `check POLICY`, which says whether a policy is safe, `fmt POLICY`, which lays it out, and `run POLICY`, which reads a
+/// script from the input to its end and prints its replies; the policy is found on the shelf. `gen SEED SIZE` makes a policy
+/// and a script, plays them and prints a summary; it reads neither shelf nor input. It answers the exit status:
+///
+/// - 0: the policy is safe, or was laid out, or the script was run to its end;
+/// - 1: the words are no command, and the usage line was printed;
+/// - 2: a line of the policy has a fault, or its lines have one together, which was printed;
+/// - 3: the policy is not safe, and its least conflict cycle was printed; `fmt` does not judge this;
+/// - 4: the shelf or the input failed, or the shelf has no such policy;
+/// - 5: the output failed, with a front of the text written;
+/// - 6: the policy has more than 4,194,304 bytes or the script more than 16,777,216;
+/// - 7: a line of the script is no script line, and the replies before it were printed;
+/// - 8: there was no memory, and nothing was written;
+/// - 9: a step was asked for with 1,000,000 entries in the history.
+pub fn tool<S: Shelf, I: Source, K: Sink>(
+    alloc: Global,
+    words: &[String],
+    shelf: &mut S,
+    input: &mut I,
+    out: &mut K,
+) -> u8
+    ensures answers { Answers (map string_bytes words.now) result
+        (seen (S.contents shelf.old) (S.hard_faults shelf.old) (I.left input.old) (I.faults input.old) (K.written out.old) (K.faults out.old))
+        (seen (S.contents shelf.new) (S.hard_faults shelf.new) (I.left input.new) (I.faults input.new) (K.written out.new) (K.faults out.new)) }
+    ensures usage { command_of (map string_bytes words.now) ≡ None → IsNoGen (map string_bytes words.now) → (result ≡ 1) ⊎ (result ≡ 5) }
+    ensures used { result ≡ 1 → (command_of (map string_bytes words.now) ≡ None) × IsNoGen (map string_bytes words.now) }
+    ensures fault { result ≡ 2 → IfTold (map string_bytes words.now) (S.contents shelf.old) HasFault ⊎ IsMade (map string_bytes words.now) HasFault }
+    ensures cycle { result ≡ 3 → IfTold (map string_bytes words.now) (S.contents shelf.old) IsUnsafeText ⊎ IsMade (map string_bytes words.now) IsUnsafeText }
+    ensures read_fault { result ≡ 4
+        → Rose (S.hard_faults shelf.old) (S.hard_faults shelf.new) ⊎ Rose (I.faults input.old) (I.faults input.new) ⊎ IsMissing (map string_bytes words.now) (S.contents shelf.old) }
+    ensures write_fault { result ≡ 5 → Rose (K.faults out.old) (K.faults out.new) }
+    ensures written { (result ≡ 5 → ⊥) → K.faults out.new ≡ K.faults out.old }
+    ensures long { result ≡ 6 → IfTold (map string_bytes words.now) (S.contents shelf.old) (λ text. IsLongPolicy text ⊎ IsLongScript (I.left input.old)) }
+    ensures same { S.contents shelf.new ≡ S.contents shelf.old }
+    ensures unread { (g : Gen) → IsGen (map string_bytes words.now) g → (shelf.new ≡ shelf.old) × (input.new ≡ input.old) }
+{
+    match recipe_of(words) {
+        Some(recipe) => run_gen(alloc, recipe, out),
+        None => run_command(alloc, words, shelf, input, out),
     }
 }

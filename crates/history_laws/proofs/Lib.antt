@@ -8,9 +8,12 @@ pub mod InOrder
 pub mod Telling
 pub mod Quieting
 pub mod Lying
+pub mod Wavering
 pub mod Continuing
 pub mod Charging
 pub mod OnItsWay
 pub mod SmallOne
 pub mod Leaving
 pub mod AddingOne
+pub mod Naming
+pub mod NamedPoints

@@ -26,9 +26,9 @@ middle true true false d e = cc
 middle true false c d e = cc
 middle false b c d e = cc
 
-first_of : (a b c : Bool) → (a && b && c) ≡ true → a ≡ true
-first_of true b c e = refl
-first_of false b c e = cc
+first_of : (a b c d : Bool) → (a && b && c && d) ≡ true → a ≡ true
+first_of true b c d e = refl
+first_of false b c d e = cc
 
 base_has : has one_disabled.events (at 50 (disable 0)) ≡ true
 unfolding has none checked with_member
@@ -47,7 +47,7 @@ module _ (s : Status) (x : Happening) (is : Settled liar one_disabled s x) where
       → Known o
   fired earlier o h =
       let (same, is_met) = middle true (same_prioritised (at 60 (enable 0)) o) (met (when (disable 0) (at 60 (enable 0))) x s) (list_all (stands x earlier) (disable 0 ∷ [])) h in
-      inr (sym (is_same_prioritised (at 60 (enable 0)) o same), (both_true (won x (disable 0)) true (first_of (list_all (won x) (disable 0 ∷ [])) true true is_met)).0)
+      inr (sym (is_same_prioritised (at 60 (enable 0)) o same), (both_true (won x (disable 0)) true (first_of (list_all (won x) (disable 0 ∷ [])) true true true is_met)).0)
 
   known_first : (earlier : List Prioritised) (o : Prioritised) → supported liar one_disabled s x earlier o ≡ true → Known o
   known_first earlier o h =
@@ -70,7 +70,7 @@ module _ (s : Status) (x : Happening) (is : Settled liar one_disabled s x) where
   cause_there = all_elim (has x.events) (members one_disabled.events) (at 50 (disable 0)) (both_true _ _ is.is_closed).0 (elem one_disabled (at 50 (disable 0)) base_has)
 
   is_met : won x (disable 0) ≡ true → met (when (disable 0) (at 60 (enable 0))) x s ≡ true
-  is_met w = ap (λ b. b && true && true && true) w
+  is_met w = ap (λ b. b && true && true && true && true) w
 
   effect_there : won x (disable 0) ≡ true → has x.events (at 60 (enable 0)) ≡ true
   effect_there w =

@@ -14,7 +14,8 @@ use Rattle.gtrbac_model.proofs.Append.{now-append}
 use Rattle.gtrbac_model.proofs.Elements.{Elem, both_true, split, all_elim}
 use Rattle.gtrbac_model.proofs.Quiet.{not_met}
 use Rattle.history_laws.proofs.Members.{clash}
-use Rattle.history_laws.specs.Policies.{has_cause, IsQuiet}
+use Rattle.gtrbac_model.specs.WholePolicy.{has_cause}
+use Rattle.history_laws.specs.Policies.{IsQuiet}
 use Rattle.history_laws.specs.Pending.{StretchStays, known_head, PendingIsRaised, PendingAfterAsk, HeadsAfterTick}
 use Rattle.history_laws.proofs.Continuing.{queue_goes_on}
 use Rattle.history_laws.proofs.Quieting.{quiet_at}

@@ -11,7 +11,7 @@ use Rattle.gt_base.specs.declared.events.Prioritised.{Prioritised}
 use Rattle.gt_base.specs.declared.requests.Entry.{Entry}
 use Rattle.gtrbac_model.specs.Policy.{Policy}
 use Rattle.gtrbac_model.specs.Conflict.{Status, after}
-use Rattle.gtrbac_model.specs.Trigger.{met, immediate, holds}
+use Rattle.gtrbac_model.specs.Trigger.{met, immediate}
 use Rattle.gtrbac_model.specs.Same.{same_prioritised}
 use Rattle.gtrbac_model.specs.Instant.{Settled, supported, stands, grounded_after}
 use Rattle.gtrbac_model.specs.Status.{Model, status_after, changed_by, differ}
@@ -19,9 +19,11 @@ use Rattle.gtrbac_model.specs.Sessions.{empty_table}
 use Rattle.gtrbac_model.specs.Base.{status, base_at, raised_at, signals_at, drops_at}
 use Rattle.gtrbac_model.specs.History.{AreLegalAfter, stirs, is_some_item, now_of}
 use Rattle.gtrbac_model.proofs.Elements.{both_true, either_true, any_elim, all_elim}
+use Rattle.gtrbac_model.proofs.Meeting.{parts_met}
 use Rattle.gtrbac_model.proofs.Quiet as quiet
 use Rattle.gtrbac_model.proofs.Playing.{now_snoc, goes_on, later_requests, tick_not_read, base_of_prefix}
-use Rattle.history_laws.specs.Policies.{has_cause, SettlesNothing, QuietSettles, IsQuiet, EmptyIsQuiet, PassedAreQuiet}
+use Rattle.gtrbac_model.specs.WholePolicy.{has_cause}
+use Rattle.history_laws.specs.Policies.{SettlesNothing, QuietSettles, IsQuiet, EmptyIsQuiet, PassedAreQuiet}
 use Rattle.history_laws.proofs.Lasting.{steps_after, front_steps}
 
 -- nothing stands before the first
@@ -40,11 +42,6 @@ last_two true true false d e = cc
 last_two true false c d e = cc
 last_two false b c d e = cc
 
-second : (a b c : Bool) → (a && b && c) ≡ true → b ≡ true
-second true true c e = refl
-second true false c e = cc
-second false b c e = cc
-
 neither : (a b : Bool) → a ≡ false → b ≡ false → (a || b) ≡ true → ⊥
 neither false false p q e = cc
 neither true b p q e = cc
@@ -61,7 +58,7 @@ module _ (rules : List Rule) (causes : list_all has_cause rules ≡ true) (s : S
             let (r, of_rules, fires) = any_elim (λ r. immediate r && same_prioritised r.head e && met r x s && list_all (stands x []) r.events) rules k in
             let (is_met, all_stand) = last_two (immediate r) (same_prioritised r.head e) (met r x s) (list_all (stands x []) r.events) fires in
             neither (is_some_item r.events) (is_some_item r.signals) (no_event x r.events all_stand)
-            (no_signal r.signals (ap (λ z. list_all (has z) r.signals) (sym silent) ∙ second _ (list_all (has x.signals) r.signals) (list_all (holds s) r.conds) is_met))
+            (no_signal r.signals (ap (λ z. list_all (has z) r.signals) (sym silent) ∙ (parts_met r x s is_met).signals))
             (all_elim has_cause rules r causes of_rules)
       ]
 

@@ -2,7 +2,7 @@
 use Rattle.std.proofs.Common.{◌≡◌, zero, suc, [], ◌∷◌, refl, sym, ◌∙◌, ap, arith}
 use Rattle.std.specs.Option.{unwrap_or}
 use Rattle.gt_base.specs.Sets.{members, has, none, checked, with_member}
-use Rattle.history_laws.specs.Policies.{IsPolicy, HasNoRing}
+use Rattle.gtrbac_model.specs.WholePolicy.{IsPolicy, HasNoRing}
 use Rattle.history_laws.specs.Small.{small}
 
 -- its one edge leads from role 0 to role 1 and no further

@@ -6,3 +6,4 @@ pub mod Tables
 pub mod Pending
 pub mod Small
 pub mod Ticking
+pub mod Named

@@ -15,7 +15,7 @@ use Rattle.gtrbac_model.specs.Trigger.{met}
 use Rattle.gtrbac_model.specs.Status.{Model, since}
 use Rattle.gtrbac_model.specs.Base.{status, raised_at, requested, queued_at, periodic, limited, when}
 use Rattle.gtrbac_model.specs.History.{now_of}
-use Rattle.history_laws.specs.Policies.{IsPolicy, has_cause}
+use Rattle.gtrbac_model.specs.WholePolicy.{IsPolicy, has_cause}
 
 -- nothing happens after the first instant and before the other
 abbrev pub NothingBetween : Model → ℕ → ℕ → Type 0

@@ -9,7 +9,7 @@ use Rattle.gtrbac_model.specs.Instant.{Settled}
 use Rattle.gtrbac_model.specs.Status.{Model}
 use Rattle.gtrbac_model.specs.Base.{status, base_at}
 use Rattle.gtrbac_model.specs.History.{Legal, IsNextStop, stirs, now_of}
-use Rattle.history_laws.specs.Policies.{IsPolicy}
+use Rattle.gtrbac_model.specs.WholePolicy.{IsPolicy}
 
 -- the model up to now, and after it one set more, at `to`
 abbrev pub with_set : Model → ℕ → ℕ → Happening → Model

@@ -1,5 +1,6 @@
 //! What follows from what every policy keeps.
-ghost use Rattle.history_laws.specs.Policies.{IsPolicy, QuietSettles, EmptyIsQuiet, PassedAreQuiet};
+ghost use Rattle.gtrbac_model.specs.WholePolicy.{IsPolicy};
+ghost use Rattle.history_laws.specs.Policies.{QuietSettles, EmptyIsQuiet, PassedAreQuiet};
 ghost use Rattle.history_laws.specs.Small.{small};
 
 /// Over an empty base only the empty set is settled, and it leaves the status; so the minutes with an empty base, and

@@ -10,18 +10,20 @@ use Rattle.gt_base.specs.Events.{converse}
 use Rattle.gt_base.specs.Held.{Rule}
 use Rattle.gt_base.specs.Happening.{Happening}
 use Rattle.gt_base.specs.Sets.{members, has, set_of}
+use Rattle.gt_base.specs.declared.events.Cond.{Cond}
 use Rattle.gt_base.specs.declared.events.Event.{Event}
 use Rattle.gt_base.specs.declared.events.Prioritised.{Prioritised}
 use Rattle.gt_base.proofs.SetLaws.{same_sets, has-set_of}
 use Rattle.gt_base.proofs.SetSteps.{prioritised_cmp_total}
 use Rattle.gt_base.proofs.OrderLaws.{prioritised_cmp-IsAntisymmetric}
 use Rattle.gtrbac_model.specs.Same.{same_event}
-use Rattle.gtrbac_model.specs.Conflict.{Status, blocked, won}
+use Rattle.gtrbac_model.specs.Conflict.{Status, blocked, won, after, turns_on, turns_off}
 use Rattle.gtrbac_model.specs.Trigger.{met, immediate, holds}
 use Rattle.gtrbac_model.specs.Instant.{stands, supported, grounded_after, Settled}
-use Rattle.gtrbac_model.specs.Safety.{is_node, is_levelled, are_levels}
+use Rattle.gtrbac_model.specs.Safety.{is_node, is_levelled, is_decided, are_levels}
 use Rattle.gtrbac_model.proofs.Elements.{Elem, both_true, and_true, implied, split, any_elim, any_intro, all_elim, all_intro, tied}
-use Rattle.gtrbac_model.proofs.Uniqueness.{In, elem, of_elem, Goes, blocked_alike, is_same_event, head_node, support, only_base_along, in_order, from_base}
+use Rattle.gtrbac_model.proofs.Meeting.{IsMet, parts_met, met_by}
+use Rattle.gtrbac_model.proofs.Uniqueness.{In, elem, of_elem, Goes, blocked_alike, holds_alike, is_same_event, head_node, support, only_base_along, in_order, from_base}
 use Rattle.gtrbac_model.proofs.Existence.{settled_set}
 use Rattle.instant_engine.specs.OnTheWay.{IsSettledBelow}
 
@@ -72,7 +74,17 @@ module _ (rules : List Rule) (base : Happening) (s : Status) (level : Event → 
 
     levels_of : (r : Rule) → Elem rules r → immediate r ≡ true → (b : Event) → Elem r.events b
         → ((not (is_node rules b) || nat_le (level b) (level r.head.event)) ≡ true) × ((not (is_node rules (converse b)) || nat_lt (level (converse b)) (level r.head.event)) ≡ true)
-    levels_of r m i b mb = both_true _ _ (all_elim (is_levelled rules level r) r.events b (implied _ _ (all_elim _ rules r levelled m) i) mb)
+    levels_of r m i b mb = both_true _ _ (all_elim (is_levelled rules level r) r.events b (both_true _ _ (implied _ _ (all_elim _ rules r levelled m) i)).0 mb)
+
+    -- a settled condition of a trigger of the level holds after both alike
+    decided_alike : (r : Rule) → Elem rules r → immediate r ≡ true → level r.head.event ≤ n → (c : Cond) → Elem r.settled c → holds (after x s) c ≡ holds (after y s) c
+    decided_alike r m i top c mc =
+        let decided = all_elim (is_decided rules level r) r.settled c (both_true _ _ (implied _ _ (all_elim _ rules r levelled m) i)).1 mc in
+        let lv = both_true (not (is_node rules (turns_on c.fluent)) || nat_lt (level (turns_on c.fluent)) (level r.head.event)) (not (is_node rules (turns_off c.fluent)) || nat_lt (level (turns_off c.fluent)) (level r.head.event)) decided in
+        holds_alike x y s c ((λ p q h. so_far.within y is p h), low (turns_on c.fluent) lv.0) ((λ p q h. so_far.within y is p h), low (turns_off c.fluent) lv.1)
+      where
+        low : (f : Event) → (not (is_node rules f) || nat_lt (level f) (level r.head.event)) ≡ true → Goes y x f
+        low f h = back f (λ node. lower (level f) (level r.head.event) n (ltb-true _ _ (implied _ _ h node)) top)
 
     -- the two block a body event of a trigger of the level alike
     alike : (r : Rule) → Elem rules r → immediate r ≡ true → level r.head.event ≤ n → (b : Event) → Elem r.events b → (o : Prioritised) → o.event ≡ b → blocked x o ≡ blocked y o
@@ -92,13 +104,14 @@ module _ (rules : List Rule) (base : Happening) (s : Status) (level : Event → 
 
     met_on : (r : Rule) → Elem rules r → immediate r ≡ true → level r.head.event ≤ n → met r x s ≡ true → met r y s ≡ true
     met_on r m i top h =
-        let u : ((list_all (won x) r.events && list_all (has x.signals) r.signals) ≡ true) × (list_all (holds s) r.conds ≡ true) = both_true _ _ h in
-        let v : (list_all (won x) r.events ≡ true) × (list_all (has x.signals) r.signals ≡ true) = both_true _ _ u.0 in
-        and_true _ _
-        (and_true _ _
-        (all_intro (won y) r.events (λ b mb. won_on r m i top b mb (all_elim (won x) r.events b v.0 mb)))
-        (subst (λ g. list_all (has g) r.signals ≡ true) (so_far.signals ∙ sym is.signals) v.1))
-        u.1
+        let u : IsMet r x s = parts_met r x s h in
+        met_by r y s
+        (record {
+          events = all_intro (won y) r.events (λ b mb. won_on r m i top b mb (all_elim (won x) r.events b u.events mb));
+          signals = subst (λ g. list_all (has g) r.signals ≡ true) (so_far.signals ∙ sym is.signals) u.signals;
+          conds = u.conds;
+          settled = all_intro (holds (after y s)) r.settled (λ c mc. sym (decided_alike r m i top c mc) ∙ all_elim (holds (after x s)) r.settled c u.settled mc);
+        })
 
     -- the head of a trigger that is met here stands in the settled set
     pub supports : (r : Rule) → Elem rules r → immediate r ≡ true → level r.head.event ≤ n → met r x s ≡ true → In y r.head
@@ -123,13 +136,14 @@ module _ (rules : List Rule) (base : Happening) (s : Status) (level : Event → 
       met_too : (earlier : List Prioritised) → ((o : Prioritised) → Elem earlier o → Low o → In x o)
           → (r : Rule) → Elem rules r → immediate r ≡ true → level r.head.event ≤ n → met r y s ≡ true → list_all (stands y earlier) r.events ≡ true → met r x s ≡ true
       met_too earlier known r m i top mt st =
-          let u : ((list_all (won y) r.events && list_all (has y.signals) r.signals) ≡ true) × (list_all (holds s) r.conds ≡ true) = both_true _ _ mt in
-          let v : (list_all (won y) r.events ≡ true) × (list_all (has y.signals) r.signals ≡ true) = both_true _ _ u.0 in
-          and_true _ _
-          (and_true _ _
-          (all_intro (won x) r.events (λ b mb. wins earlier known r m i top b mb (all_elim (stands y earlier) r.events b st mb)))
-          (subst (λ g. list_all (has g) r.signals ≡ true) (is.signals ∙ sym so_far.signals) v.1))
-          u.1
+          let u : IsMet r y s = parts_met r y s mt in
+          met_by r x s
+          (record {
+            events = all_intro (won x) r.events (λ b mb. wins earlier known r m i top b mb (all_elim (stands y earlier) r.events b st mb));
+            signals = subst (λ g. list_all (has g) r.signals ≡ true) (is.signals ∙ sym so_far.signals) u.signals;
+            conds = u.conds;
+            settled = all_intro (holds (after x s)) r.settled (λ c mc. decided_alike r m i top c mc ∙ all_elim (holds (after y s)) r.settled c u.settled mc);
+          })
 
       here : (earlier : List Prioritised) → ((o : Prioritised) → Elem earlier o → Low o → In x o) → (e : Prioritised) → supported rules base s y earlier e ≡ true → In y e → Low e → In x e
       here earlier known e sup there low =

@@ -1,3 +1,4 @@
 pub mod Climbing
 pub mod Places
 pub mod Steps
+pub mod Prompting

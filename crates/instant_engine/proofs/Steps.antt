@@ -1,13 +1,14 @@
 -- One trigger looked at: what its head makes of a set, and which triggers may fire then.
-use Rattle.std.proofs.Common.{◌≡◌, ℕ, zero, suc, ◌+◌, ◌*◌, ◌<◌, ◌≤◌, Bool, true, false, cond, not, nat_eq, ◌&&◌, ◌||◌, inl, inr, List, [], ◌∷◌, ◌++◌, length, length-append, take, get_or, slice_get, Option, Some, None, refl, sym, ◌∙◌, ap, subst, arith}
+use Rattle.std.proofs.Common.{◌≡◌, ℕ, zero, suc, ◌+◌, ◌*◌, ◌<◌, ◌≤◌, Bool, true, false, cond, not, nat_eq, nat_lt, ◌&&◌, ◌||◌, inl, inr, List, [], ◌∷◌, ◌++◌, length, length-append, take, get_or, slice_get, Option, Some, None, refl, sym, ◌∙◌, ap, subst, arith}
 use Rattle.std.specs.List.{list_all}
-use Rattle.std.proofs.lemmas.Bool.{eqb-true, eq-eqb, not-true, false≢true}
+use Rattle.std.proofs.lemmas.Bool.{eqb-true, eq-eqb, ltb-true, not-true, false≢true}
 use Rattle.std.proofs.lemmas.List.{take_more, length-take-le}
 use Rattle.std.proofs.lemmas.List.Folds.{list_any-append}
 use Rattle.std.proofs.Math.Nat.{mul-le-mul_right, suc-mul}
 use Rattle.gt_base.specs.Held.{Rule}
 use Rattle.gt_base.specs.Happening.{Happening}
 use Rattle.gt_base.specs.Sets.{has, members}
+use Rattle.gt_base.specs.declared.events.Cond.{Cond}
 use Rattle.gt_base.specs.declared.events.Event.{Event}
 use Rattle.gt_base.specs.declared.events.Prioritised.{Prioritised}
 use Rattle.gt_base.proofs.SetLaws.{has-with_member}
@@ -15,11 +16,12 @@ use Rattle.gt_base.proofs.SetSteps.{prioritised_cmp_total}
 use Rattle.gt_base.proofs.OrderLaws.{prioritised_cmp-IsAntisymmetric}
 use Rattle.gtrbac_model.specs.Graph.{item_at}
 use Rattle.gtrbac_model.specs.Same.{same_prioritised, same_event, lists}
-use Rattle.gtrbac_model.specs.Conflict.{Status, blocked, won}
+use Rattle.gtrbac_model.specs.Conflict.{Status, blocked, won, after, turns_on, turns_off}
 use Rattle.gtrbac_model.specs.Trigger.{met, immediate, holds}
-use Rattle.gtrbac_model.specs.Safety.{are_levels, is_node}
-use Rattle.gtrbac_model.proofs.Elements.{Elem, both_true, and_true, either_true, left_true, right_true, split, any_elim, any_intro, all_elim, tied}
-use Rattle.gtrbac_model.proofs.Uniqueness.{In, elem, of_elem, blocked_goes, is_same_event, same_event_of, is_same_prioritised}
+use Rattle.gtrbac_model.specs.Safety.{are_levels, is_node, is_decided}
+use Rattle.gtrbac_model.proofs.Elements.{Elem, both_true, and_true, either_true, left_true, right_true, implied, split, any_elim, any_intro, all_elim, all_intro, tied}
+use Rattle.gtrbac_model.proofs.Meeting.{IsMet, parts_met, met_by}
+use Rattle.gtrbac_model.proofs.Uniqueness.{In, elem, of_elem, Agrees, blocked_goes, holds_alike, is_same_event, same_event_of, is_same_prioritised}
 use Rattle.trigger_rules.specs.Indexed.{numbers, has_event, with_event}
 use Rattle.trigger_rules.proofs.Keys.{numbers_push}
 use Rattle.instant_engine.specs.OnTheWay.{Keeps, is_due, is_level, fires, head_at, joined, waiting, missing}
@@ -147,16 +149,24 @@ module _ (x : Happening) (h : Prioritised) where
       absurd (false≢true (ap not (sym (blocked_goes x more o (λ p e i. grows p i) hit)) ∙ t.1)))
 
   module _ (s : Status) where
-    -- a trigger that a head makes met has the head in its body
-    newly_met : (r : Rule) → met r more s ≡ true → met r x s ≡ false → has_event h.event r ≡ true
-    newly_met r k lost =
-        let u : ((list_all (won more) r.events && list_all (has x.signals) r.signals) ≡ true) × (list_all (holds s) r.conds ≡ true) = both_true _ _ k in
-        let v : (list_all (won more) r.events ≡ true) × (list_all (has x.signals) r.signals ≡ true) = both_true _ _ u.0 in
+    -- a condition holds after the set with the head as before it, where the head is no event of its fluent
+    settled_stays : (c : Cond) → (h.event ≡ turns_on c.fluent → ⊥) → (h.event ≡ turns_off c.fluent → ⊥) → holds (after more s) c ≡ holds (after x s) c
+    settled_stays c not_on not_off = holds_alike more x s c (agrees (turns_on c.fluent) not_on) (agrees (turns_off c.fluent) not_off)
+      where
+        agrees : (f : Event) → (h.event ≡ f → ⊥) → Agrees more x f
+        agrees f other = (λ o e k. either_of o k (λ i. absurd (other (ap (λ z. z.event) (sym i) ∙ e))) (λ m. m), λ o e k. grows o k)
+
+    -- a trigger that a head makes met, though not by a settled condition, has the head in its body
+    newly_met : (r : Rule) → ((c : Cond) → Elem r.settled c → holds (after more s) c ≡ holds (after x s) c) → met r more s ≡ true → met r x s ≡ false → has_event h.event r ≡ true
+    newly_met r stay k lost =
+        let u : IsMet r more s = parts_met r more s k in
         split (list_all (won x) r.events)
-        (λ a. absurd (false≢true (sym lost ∙ and_true _ _ (and_true _ _ a v.1) u.1)))
+        (λ a.
+        let settled : list_all (holds (after x s)) r.settled ≡ true = all_intro (holds (after x s)) r.settled (λ c mc. sym (stay c mc) ∙ all_elim (holds (after more s)) r.settled c u.settled mc) in
+        absurd (false≢true (sym lost ∙ met_by r x s (record { events = a; signals = u.signals; conds = u.conds; settled = settled }))))
         (λ f.
         let (b, m, none) = some_fails (won x) r.events f in
-        any_intro (same_event h.event) r.events b m (same_event_of h.event b (sym (newly_won b (all_elim (won more) r.events b v.0 m) none))))
+        any_intro (same_event h.event) r.events b m (same_event_of h.event b (sym (newly_won b (all_elim (won more) r.events b u.events m) none))))
 
 module _ (rules : List Rule) (s : Status) (level : Event → ℕ) (n : ℕ) where
   -- each trigger that fires is among the numbers
@@ -203,28 +213,6 @@ module _ (rules : List Rule) (s : Status) (level : Event → ℕ) (n : ℕ) wher
   one_item : (t : ℕ) (q w : Rule) → item_at rules t ≡ Some q → item_at rules t ≡ Some w → w ≡ q
   one_item t q w a b = cc
 
-  -- with the last number looked at, those that fire still wait
-  pub still_wait : (x : Happening) (ts : List ℕ) (t : ℕ) (head : Option Prioritised) → head ≡ head_at s level n x (item_at rules t) → Waits x (ts ++ t ∷ []) → Waits (joined x head) (waiting rules ts head)
-  still_wait x ts t None e wait u w at f =
-      last_or ts t u (wait u w at f) (λ m. m)
-      (λ is.
-      let here : item_at rules t ≡ Some w = subst (λ k. item_at rules k ≡ Some w) is at in
-      let none : None ≡ cond (fires s level n x w) (Some w.head) None = e ∙ ap (head_at s level n x) here in
-      let some : None ≡ Some w.head = none ∙ ap (λ b. cond b (Some w.head) None) f in
-      cc)
-  still_wait x ts t (Some h) e wait u w at f =
-      let (q, here, is_head, own) = found x h (item_at rules t) e in
-      let k : Fires (joined x (Some h)) w = fired (joined x (Some h)) w f in
-      let absent : has x.events w.head ≡ false = split (has x.events w.head) (λ i. absurd (false≢true (sym k.3 ∙ grows x h w.head i))) (λ z. z) in
-      list_any-append (nat_eq u) ts (with_event rules h.event)
-      ∙ split (met w x s)
-      (λ m.
-      last_or ts t u (wait u w at (does_fire x w (k.0, k.1, m, absent))) (λ i. left_true (lists nat_eq ts u) _ i)
-      (λ is.
-      let same : w ≡ q = one_item t q w here (subst (λ z. item_at rules z ≡ Some w) is at) in
-      absurd (false≢true (sym k.3 ∙ subst (λ z. has (joined x (Some h)).events z ≡ true) (is_head ∙ ap (λ r. r.head) (sym same)) (there x h)))))
-      (λ m. right_true (lists nat_eq ts u) _ (numbered (has_event h.event) 0 rules u u w (omega arith) at (newly_met x h s w k.2 m)))
-
   product : (a b m p k ps ts : ℕ) → a < b → k + 1 ≤ m → ps ≡ p + k → ts ≡ p + 1 → a * m + ps < b * m + ts
   product a b m p k ps ts lt le e f =
       let u : suc a * m ≤ b * m = mul-le-mul_right m lt in
@@ -243,6 +231,45 @@ module _ (rules : List Rule) (s : Status) (level : Event → ℕ) (n : ℕ) wher
   module _ (levelled : are_levels rules level ≡ true) where
     of_equal : (a b : ℕ) → a ≡ b → a ≤ b
     of_equal a b e = omega arith
+
+    -- a head of the level turns no fluent of a settled condition of a trigger of the level
+    settled_still : (x : Happening) (h : Prioritised) (q : Rule) → Elem rules q → immediate q ≡ true → level q.head.event ≡ n → h ≡ q.head
+        → (w : Rule) → Elem rules w → immediate w ≡ true → level w.head.event ≡ n → (c : Cond) → Elem w.settled c → holds (after (joined x (Some h)) s) c ≡ holds (after x s) c
+    settled_still x h q mq iq eq is w mw iw ew c mc =
+        let decided = all_elim (is_decided rules level w) w.settled c (both_true _ _ (implied _ _ (all_elim _ rules w levelled mw) iw)).1 mc in
+        let lv = both_true (not (is_node rules (turns_on c.fluent)) || nat_lt (level (turns_on c.fluent)) (level w.head.event)) (not (is_node rules (turns_off c.fluent)) || nat_lt (level (turns_off c.fluent)) (level w.head.event)) decided in
+        settled_stays x h s c (apart (turns_on c.fluent) lv.0) (apart (turns_off c.fluent) lv.1)
+      where
+        too_low : (f t l : ℕ) → f < t → t ≡ n → l ≡ n → l ≡ f → ⊥
+        too_low f t l a b c d = omega arith
+
+        apart : (f : Event) → (not (is_node rules f) || nat_lt (level f) (level w.head.event)) ≡ true → h.event ≡ f → ⊥
+        apart f low e =
+            let is_f : q.head.event ≡ f = ap (λ z. z.event) (sym is) ∙ e in
+            let node : is_node rules f ≡ true = subst (λ z. is_node rules z ≡ true) is_f (node_of rules q mq iq) in
+            too_low (level f) (level w.head.event) (level q.head.event) (ltb-true _ _ (implied _ _ low node)) ew eq (ap level is_f)
+
+    -- with the last number looked at, those that fire still wait
+    pub still_wait : (x : Happening) (ts : List ℕ) (t : ℕ) (head : Option Prioritised) → head ≡ head_at s level n x (item_at rules t) → Waits x (ts ++ t ∷ []) → Waits (joined x head) (waiting rules ts head)
+    still_wait x ts t None e wait u w at f =
+        last_or ts t u (wait u w at f) (λ m. m)
+        (λ is.
+        let here : item_at rules t ≡ Some w = subst (λ k. item_at rules k ≡ Some w) is at in
+        let none : None ≡ cond (fires s level n x w) (Some w.head) None = e ∙ ap (head_at s level n x) here in
+        let some : None ≡ Some w.head = none ∙ ap (λ b. cond b (Some w.head) None) f in
+        cc)
+    still_wait x ts t (Some h) e wait u w at f =
+        let (q, here, is_head, own) = found x h (item_at rules t) e in
+        let k : Fires (joined x (Some h)) w = fired (joined x (Some h)) w f in
+        let absent : has x.events w.head ≡ false = split (has x.events w.head) (λ i. absurd (false≢true (sym k.3 ∙ grows x h w.head i))) (λ z. z) in
+        list_any-append (nat_eq u) ts (with_event rules h.event)
+        ∙ split (met w x s)
+        (λ m.
+        last_or ts t u (wait u w at (does_fire x w (k.0, k.1, m, absent))) (λ i. left_true (lists nat_eq ts u) _ i)
+        (λ is.
+        let same : w ≡ q = one_item t q w here (subst (λ z. item_at rules z ≡ Some w) is at) in
+        absurd (false≢true (sym k.3 ∙ subst (λ z. has (joined x (Some h)).events z ≡ true) (is_head ∙ ap (λ r. r.head) (sym same)) (there x h)))))
+        (λ m. right_true (lists nat_eq ts u) _ (numbered (has_event h.event) 0 rules u u w (omega arith) at (newly_met x h s w (settled_still x h q (elem_of rules t q here) own.0 own.1 is_head w (elem_of rules u w at) k.0 k.1) k.2 m)))
 
     -- a head that fires keeps the set on its way
     pub keeps_on : (x : Happening) (head : Option Prioritised) (o : Option Rule) → ((q : Rule) → o ≡ Some q → Elem rules q) → head ≡ head_at s level n x o → Keeps rules s level n x n (joined x head)

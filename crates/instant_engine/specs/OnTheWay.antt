@@ -1,15 +1,15 @@
 -- A set on its way to the one that its base settles to, level by level.
-use Rattle.std.specs.Prelude.{◌≡◌, ℕ, ◌+◌, ◌<◌, Bool, true, false, cond, not, ◌&&◌, nat_eq, List, [], ◌∷◌, ◌++◌, Option, Some, None}
+use Rattle.std.specs.Prelude.{◌≡◌, ℕ, ◌+◌, ◌<◌, Bool, true, false, cond, not, ◌&&◌, nat_eq, List, [], ◌∷◌, ◌++◌, flat_map, Option, Some, None}
 use Rattle.gt_base.specs.declared.events.Event.{Event}
 use Rattle.gt_base.specs.declared.events.Prioritised.{Prioritised}
 use Rattle.gt_base.specs.Held.{Rule}
 use Rattle.gt_base.specs.Happening.{Happening}
-use Rattle.gt_base.specs.Sets.{has, with_member}
+use Rattle.gt_base.specs.Sets.{has, members, with_member}
 use Rattle.gtrbac_model.specs.Conflict.{Status}
 use Rattle.gtrbac_model.specs.Trigger.{met, immediate}
 use Rattle.gtrbac_model.specs.Instant.{Settled}
 use Rattle.gtrbac_model.specs.Safety.{is_node}
-use Rattle.trigger_rules.specs.Indexed.{with_event}
+use Rattle.trigger_rules.specs.Indexed.{with_event, with_signal}
 
 -- it has the base and the signals of the base, nothing that a settled set has not, and all that one has of the levels below n
 pub record IsSettledBelow (rules : List Rule) (base : Happening) (s : Status) (level : Event → ℕ) (n : ℕ) (x : Happening) : Type 0 where
@@ -49,6 +49,10 @@ joined x (Some h) = record { events = with_member x.events h; signals = x.signal
 abbrev pub waiting : List Rule → List ℕ → Option Prioritised → List ℕ
 waiting rules ts None = ts
 waiting rules ts (Some h) = ts ++ with_event rules h.event
+
+-- the triggers that have an event or a signal of the set in their bodies
+abbrev pub prompted : List Rule → Happening → List ℕ
+prompted rules x = flat_map (λ o. with_event rules o.event) (members x.events) ++ flat_map (with_signal rules) (members x.signals)
 
 -- how many triggers have a head that is not there
 abbrev pub missing : List Rule → Happening → ℕ

@@ -1,12 +1,16 @@
 //! Levels of events, by the nodes that stand for them, and the triggers of each level.
 ghost use Rattle.std.specs.Prelude.{◌≡◌, ℕ, ◌<◌, ◌++◌, [], ◌∷◌, cond, true, nat_eq, length, slice_index, Some, None, IfOk, OnOk};
+ghost use Rattle.std.specs.List.{list_all};
+ghost use Rattle.gtrbac_model.specs.History.{is_some_item};
+ghost use Rattle.gtrbac_model.specs.WholePolicy.{has_cause};
 ghost use Rattle.gtrbac_model.specs.Same.{lists, same_event};
 ghost use Rattle.gtrbac_model.specs.Trigger.{immediate};
 ghost use Rattle.indexmap.specs.IndexMap.{get};
 ghost use Rattle.dependency_graph.specs.Nets.{IsEventNet};
 ghost use Rattle.dependency_graph.specs.Carried.{level_in};
 ghost use Rattle.trigger_rules.specs.Indexed.{numbers, under};
-ghost use Rattle.trigger_safety.specs.Levelled.{IsLevelled};
+ghost use Rattle.instant_engine.specs.TriggerLevels.{AreLevels};
+ghost use Rattle.dependency_graph.specs.Levelled.{IsLevelled};
 ghost use Rattle.instant_engine.specs.OnTheWay.{is_due as is_due_at, is_level};
 
 use dependency_graph::EventGraph;
@@ -16,8 +20,74 @@ use safety_cycle::Strata;
 use std::alloc::Global;
 use trigger_rules::Rules;
 
+/// The numbers of the triggers by the levels of their heads, found once for all instants.
+#[derive(Drop)]
+pub struct TriggerLevels {
+    index: IndexMap<u64, Vec<u32>>,
+    count: u64,
+    caused: bool,
+}
+
+impl TriggerLevels {
+    /// Those of the rules, whose graph and levels these are. For want of memory it may refuse.
+    pub fn new(
+        alloc: Global,
+        r: &Rules,
+        g: &EventGraph,
+        s: &Strata,
+    ) -> Result<TriggerLevels, Memory>
+        requires { IsLevelled r.now g.now s.now }
+        ensures { IfOk result (AreLevels r.now g.now s.now) }
+    {
+        Ok(TriggerLevels {
+            index: by_level(alloc, r, g, s)?,
+            count: count(g, s),
+            caused: are_caused(r.triggers().as_slice()),
+        })
+    }
+
+    /// A number above each level.
+    pub(crate) fn count(&self) -> u64
+        ensures { result ≡ self.now.count }
+    {
+        self.count
+    }
+
+    /// Whether each trigger has an event or a signal in its body.
+    pub(crate) fn caused(&self) -> bool
+        ensures { result ≡ self.now.caused }
+    {
+        self.caused
+    }
+
+    /// The triggers of a level.
+    pub(crate) fn of(&self, n: u64) -> &[u32]
+        ensures { result.now ≡ under (get nat_eq self.now.index n) (λ v. v.items) }
+    {
+        of_level(&self.index, n)
+    }
+}
+
+fn are_caused(triggers: &[Trigger]) -> bool
+    ensures { result ≡ list_all has_cause triggers.now }
+{
+    triggers.iter().all(is_caused)
+}
+
+fn is_caused(trigger: &Trigger) -> bool
+    ensures { result ≡ has_cause trigger.now }
+{
+    has_item(trigger.events.as_slice()) || has_item(trigger.signals.as_slice())
+}
+
+fn has_item<T>(items: &[T]) -> bool
+    ensures { result ≡ is_some_item items.now }
+{
+    !items.is_empty()
+}
+
 /// The numbers of the triggers, by the levels of their heads; a delayed trigger is at none.
-pub(crate) fn by_level(
+fn by_level(
     alloc: Global,
     r: &Rules,
     g: &EventGraph,
@@ -50,7 +120,7 @@ fn put(
 }
 
 /// The numbers at a level.
-pub(crate) fn of_level(index: &IndexMap<u64, Vec<u32>>, n: u64) -> &[u32]
+fn of_level(index: &IndexMap<u64, Vec<u32>>, n: u64) -> &[u32]
     ensures { result.now ≡ under (get nat_eq index.now n) (λ v. v.items) }
 {
     match index.get(&n) {
@@ -96,7 +166,7 @@ fn level_of(e: Event, g: &EventGraph, s: &Strata) -> Option<u64>
 }
 
 /// A number above the level of each node.
-pub(crate) fn count(g: &EventGraph, s: &Strata) -> u64
+fn count(g: &EventGraph, s: &Strata) -> u64
     requires { length s.now ≡ g.now.net.nodes }
     ensures { (v : ℕ) → slice_index s.now v < result }
 {

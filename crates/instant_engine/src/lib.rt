@@ -4,4 +4,5 @@
 mod levels;
 mod settling;
 
-pub use settling::settle;
+pub use levels::TriggerLevels;
+pub use settling::{settle, settled_contest};

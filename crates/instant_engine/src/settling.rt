@@ -1,17 +1,18 @@
 //! Level by level, the triggers that wait to be looked at.
-ghost use Rattle.std.specs.Prelude.{◌≡◌, ◌+◌, length, cond, IfOk, OnOk};
+ghost use Rattle.std.specs.Prelude.{◌≡◌, ◌+◌, ◌++◌, ◌⊎◌, true, flat_map, length, cond, IfOk, OnOk};
 ghost use Rattle.gt_base.specs.Happening.{Happening};
 ghost use Rattle.gt_base.specs.Sets.{has};
 ghost use Rattle.gtrbac_model.specs.Graph.{item_at};
 ghost use Rattle.gtrbac_model.specs.Instant.{Settled};
 ghost use Rattle.dependency_graph.specs.Carried.{level_in};
-ghost use Rattle.trigger_safety.specs.Levelled.{IsLevelled};
-ghost use Rattle.trigger_rules.specs.Indexed.{numbers};
-ghost use Rattle.instant_engine.specs.OnTheWay.{Keeps, is_due as is_due_at, head_at, joined, waiting};
+ghost use Rattle.dependency_graph.specs.Levelled.{IsLevelled};
+ghost use Rattle.trigger_rules.specs.Indexed.{with_event, with_signal};
+ghost use Rattle.instant_engine.specs.TriggerLevels.{AreLevels};
+ghost use Rattle.instant_engine.specs.OnTheWay.{Keeps, head_at, joined, prompted, waiting};
 
-use crate::levels::{by_level, count, is_due, of_level};
+use crate::levels::{TriggerLevels, is_due};
 use dependency_graph::EventGraph;
-use gt_base::{Happened, Memory, Prioritised, Status};
+use gt_base::{Happened, Memory, Prioritised, Signal, Status};
 use priority_conflict::Contest;
 use safety_cycle::Strata;
 use std::alloc::Global;
@@ -31,12 +32,31 @@ pub fn settle(
     ensures settled { IfOk result (λ x. Settled r.now base.now.set (has before.now.set) x.set) }
     ensures only { IfOk result (λ x. (y : Happening) → Settled r.now base.now.set (has before.now.set) y → y ≡ x.set) }
 {
-    let triggers = by_level(alloc, r, g, s)?;
-    let mut x = Contest::new(alloc, base)?;
-    for n in 0..count(g, s) {
-        settle_level(alloc, r, g, s, n, of_level(&triggers, n), &mut x, before)?;
-    }
+    let levels = TriggerLevels::new(alloc, r, g, s)?;
+    let x = settled_contest(alloc, r, g, s, &levels, base, before)?;
     Ok(x.into_set())
+}
+
+/// The same set as a contest, where the triggers of each level were found before.
+pub fn settled_contest(
+    alloc: Global,
+    r: &Rules,
+    g: &EventGraph,
+    s: &Strata,
+    levels: &TriggerLevels,
+    base: &Happened,
+    before: &Status,
+) -> Result<Contest, Memory>
+    requires levelled { IsLevelled r.now g.now s.now }
+    requires levels { AreLevels r.now g.now s.now levels.now }
+    ensures settled { IfOk result (λ x. Settled r.now base.now.set (has before.now.set) x) }
+    ensures only { IfOk result (λ x. (y : Happening) → Settled r.now base.now.set (has before.now.set) y → y ≡ x) }
+{
+    let mut x = Contest::new(alloc, base)?;
+    for n in 0..levels.count() {
+        settle_level(alloc, r, g, s, levels, n, &mut x, before)?;
+    }
+    Ok(x)
 }
 
 /// Adds the heads of the triggers of a level that are met, until none is left to add. A trigger is looked at first, and again
@@ -46,19 +66,74 @@ fn settle_level(
     r: &Rules,
     g: &EventGraph,
     s: &Strata,
+    levels: &TriggerLevels,
     n: u64,
-    due: &[u32],
     x: &mut Contest,
     before: &Status,
 ) -> Result<(), Memory>
     requires levels { IsLevelled r.now g.now s.now }
-    requires due { due.now ≡ numbers (is_due_at (level_in g.now.events s.now) n) 0 r.now }
+    requires due { AreLevels r.now g.now s.now levels.now }
     ensures { OnOk result (Keeps r.now (has before.now.set) (level_in g.now.events s.now) n x.old (n + 1) x.new) }
 {
-    let mut pending = Vec::from_slice(alloc, due)?;
+    let mut pending = first_waiting(alloc, r, levels.caused(), levels.of(n), x)?;
     while let Some(t) = pending.pop() {
         let head = head_if_firing(r, t, g, s, n, x, before);
         join(r, x, &mut pending, head)?;
+    }
+    Ok(())
+}
+
+/// The triggers to look at first: those that have an event or a signal of the set in their bodies, where each trigger has one or
+/// the other and these are fewer than those of the level.
+fn first_waiting(
+    alloc: Global,
+    r: &Rules,
+    caused: bool,
+    due: &[u32],
+    x: &Contest,
+) -> Result<Vec<u32>, Memory>
+    ensures { IfOk result (λ ts. (ts.items ≡ due.now) ⊎ ((caused ≡ true) × (ts.items ≡ prompted r.now x.now))) }
+{
+    if caused {
+        if are_fewer(x.set(), due.len()) {
+            let prompted = prompted_by(alloc, r, x.set())?;
+            return Ok(prompted);
+        }
+    }
+    Vec::from_slice(alloc, due)
+}
+
+/// Whether the set has fewer events and signals than this.
+fn are_fewer(x: &Happened, count: usize) -> bool {
+    x.len() < count && x.signal_len() < count - x.len()
+}
+
+/// The triggers that have an event or a signal of the set in their bodies.
+fn prompted_by(alloc: Global, r: &Rules, x: &Happened) -> Result<Vec<u32>, Memory>
+    ensures { IfOk result (λ ts. ts.items ≡ prompted r.now x.now.set) }
+{
+    let mut waiting = Vec::new(alloc);
+    add_by_events(&mut waiting, r, x.events())?;
+    add_by_signals(&mut waiting, r, x.signals())?;
+    Ok(waiting)
+}
+
+/// Adds the triggers that have one of the events in their bodies.
+fn add_by_events(waiting: &mut Vec<u32>, r: &Rules, events: &[Prioritised]) -> Result<(), Memory>
+    ensures { OnOk result (waiting.new.items ≡ waiting.old.items ++ flat_map (λ o. with_event r.now o.event) events.now) }
+{
+    for o in events {
+        waiting.extend_from_slice(r.by_event(o.event))?;
+    }
+    Ok(())
+}
+
+/// Adds the triggers that have one of the signals in their bodies.
+fn add_by_signals(waiting: &mut Vec<u32>, r: &Rules, signals: &[Signal]) -> Result<(), Memory>
+    ensures { OnOk result (waiting.new.items ≡ waiting.old.items ++ flat_map (with_signal r.now) signals.now) }
+{
+    for s in signals {
+        waiting.extend_from_slice(r.by_signal(*s))?;
     }
     Ok(())
 }
@@ -77,13 +152,13 @@ fn head_if_firing(
     ensures { result ≡ head_at (has before.now.set) (level_in g.now.events s.now) n x.now (item_at r.now t) }
 {
     let trigger = r.triggers().get(t as usize)?;
-    if !is_due(trigger, g, s, n) {
+    if !met_in(trigger, x, before) {
         return None;
     }
     if x.set().has(trigger.head) {
         return None;
     }
-    if met_in(trigger, x, before) {
+    if is_due(trigger, g, s, n) {
         return Some(trigger.head);
     }
     None

@@ -1,7 +1,7 @@
 -- Items of a list by their numbers.
-use Rattle.std.proofs.Common.{◌≡◌, ℕ, zero, suc, ◌<◌, List, [], ◌∷◌, length, map, Some, None, refl, sym, ◌∙◌, ap, arith}
+use Rattle.std.proofs.Common.{◌≡◌, ℕ, zero, suc, ◌+◌, ◌<◌, ◌⊎◌, inl, inr, List, [], ◌∷◌, ◌++◌, length, map, Some, None, refl, sym, ◌∙◌, ap, arith}
 use Rattle.std.specs.List.{slice_get}
-use Rattle.std.specs.List.{slice_index_or}
+use Rattle.std.specs.List.{slice_index_or, enumerate_from}
 use Rattle.gtrbac_model.specs.Graph.{item_at}
 
 pub item_within : {A : Type 0} (xs : List A) (n : ℕ) (x : A) → item_at xs n ≡ Some x → n < length xs
@@ -31,3 +31,38 @@ item_of_map f (y ∷ xs) (suc n) x h = item_of_map f xs n x h
 
 pub one_item : {A : Type 0} (xs : List A) (n : ℕ) (x y : A) → item_at xs n ≡ Some x → item_at xs n ≡ Some y → x ≡ y
 one_item xs n x y p q = let e : Some x ≡ Some y = sym p ∙ q in cc
+
+-- a list that has grown by an item
+
+pub item_front : {A : Type 0} (xs ys : List A) (n : ℕ) (x : A) → item_at xs n ≡ Some x → item_at (xs ++ ys) n ≡ Some x
+item_front [] ys n x h = cc
+item_front (y ∷ xs) ys zero x h = h
+item_front (y ∷ xs) ys (suc n) x h = item_front xs ys n x h
+
+pub item_last : {A : Type 0} (xs : List A) (y : A) → item_at (xs ++ y ∷ []) (length xs) ≡ Some y
+item_last [] y = refl
+item_last (x ∷ xs) y = item_last xs y
+
+pub item_pushed : {A : Type 0} (xs : List A) (y : A) (n : ℕ) (x : A) → item_at (xs ++ y ∷ []) n ≡ Some x → (item_at xs n ≡ Some x) ⊎ ((n ≡ length xs) × (y ≡ x))
+item_pushed [] y zero x h = inr (refl, cc)
+item_pushed [] y (suc n) x h = cc
+item_pushed (z ∷ xs) y zero x h = inl h
+item_pushed (z ∷ xs) y (suc n) x h = elim (item_pushed xs y n x h) [ inl k ↦ inl k | inr k ↦ inr (ap suc k.0, k.1) ]
+
+-- an item with its number
+
+pub item_numbered : {A B : Type 0} (f : ℕ × A → B) (k : ℕ) (xs : List A) (n : ℕ) (y : B) → item_at (map f (enumerate_from k xs)) n ≡ Some y → (x : A) × (item_at xs n ≡ Some x) × (y ≡ f (k + n, x))
+item_numbered f k [] n y h = cc
+item_numbered f k (x ∷ xs) zero y h = let e : k ≡ k + 0 = omega arith in let s : f (k, x) ≡ y = cc in (x, refl, sym s ∙ ap (λ m. f (m, x)) e)
+item_numbered f k (x ∷ xs) (suc n) y h = let (z, is, same) = item_numbered f (k + 1) xs n y h in let e : k + 1 + n ≡ k + suc n = omega arith in (z, is, same ∙ ap (λ m. f (m, z)) e)
+
+pub item_of_numbered : {A B : Type 0} (f : ℕ × A → B) (k : ℕ) (xs : List A) (n : ℕ) (x : A) → item_at xs n ≡ Some x → item_at (map f (enumerate_from k xs)) n ≡ Some (f (k + n, x))
+item_of_numbered f k [] n x h = cc
+item_of_numbered f k (y ∷ xs) zero x h = let e : k ≡ k + 0 = omega arith in let s : y ≡ x = cc in ap Some (ap (λ z. f (k, z)) s ∙ ap (λ m. f (m, x)) e)
+item_of_numbered f k (y ∷ xs) (suc n) x h = let e : k + 1 + n ≡ k + suc n = omega arith in item_of_numbered f (k + 1) xs n x h ∙ ap (λ m. Some (f (m, x))) e
+
+-- within the list the default is not read
+pub any_default : {A : Type 0} (xs : List A) (n : ℕ) (d e : A) → n < length xs → slice_index_or xs n d ≡ slice_index_or xs n e
+any_default [] n d e h = absurd (omega arith)
+any_default (x ∷ xs) zero d e h = refl
+any_default (x ∷ xs) (suc n) d e h = any_default xs n d e (omega arith)

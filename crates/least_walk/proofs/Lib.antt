@@ -3,3 +3,4 @@ pub mod Spreading
 pub mod Stepping
 pub mod Descending
 pub mod Reachable
+pub mod Chaining

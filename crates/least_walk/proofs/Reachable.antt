@@ -2,7 +2,7 @@
 use Rattle.std.proofs.Common.{◌≡◌, ℕ, zero, suc, ◌+◌, ◌<◌, ◌≤◌, Bool, true, not, List, [], ◌∷◌, length, map, slice_index, refl, sym, ◌∙◌, ap, subst, arith}
 use Rattle.std.proofs.lemmas.Bool.{ne_eqb, eq-eqb, false≢true}
 use Rattle.least_walk.specs.declared.graphs.GraphEdge.{GraphEdge}
-use Rattle.least_walk.specs.Net.{EndsIn, arc_of, arcs_of}
+use Rattle.least_walk.specs.Net.{EndsIn, arc_of, arcs_of, every}
 use Rattle.least_walk.specs.Distances.{far, is_far, HasStep, AreDistances}
 use Rattle.least_walk.specs.Walks.{is_goal, IsReach}
 use Rattle.least_walk.proofs.Items.{item_of_map}
@@ -22,7 +22,7 @@ far_marked [] v h n = absurd (omega arith)
 far_marked (d ∷ ds) zero h n = ap not (ne_eqb d far n)
 far_marked (d ∷ ds) (suc v) h n = far_marked ds v (omega arith) n
 
-module _ (edges : List GraphEdge) (goal : List Bool) (ds : List ℕ) (ends : EndsIn (length goal) edges) (dist : AreDistances edges goal ds) where
+module _ (edges : List GraphEdge) (goal : List Bool) (ds : List ℕ) (ends : EndsIn (length goal) edges) (dist : AreDistances every edges goal ds) where
   walk_at : (k v : ℕ) → slice_index ds v ≡ k → k < far → v < length ds → (ms : List ℕ) × (end : ℕ) × LeadsAlong (arcs_of edges) v ms end × (is_goal goal end ≡ true)
   walk_at zero v q lt inside = ([], v, refl, goal_read goal v ((dist.goals v (subst (λ n. v < n) dist.size inside)).0 q))
   walk_at (suc k) v q lt inside =
@@ -40,7 +40,7 @@ module _ (edges : List GraphEdge) (goal : List Bool) (ds : List ℕ) (ends : End
       closer : (a b : ℕ) → a + 1 ≡ b → b ≡ suc k → a ≡ k
       closer a b p h = omega arith
 
-      to_inside : (s : HasStep edges ds v) → slice_index ds s.edge.to ≡ k → s.edge.to < length ds
+      to_inside : (s : HasStep every edges ds v) → slice_index ds s.edge.to ≡ k → s.edge.to < length ds
       to_inside s c = subst (λ n. s.edge.to < n) (sym dist.size) (ends s.number s.edge s.is).to_in
 
   pub are_reached : IsReach edges (is_goal goal) (marks ds)
@@ -51,7 +51,7 @@ module _ (edges : List GraphEdge) (goal : List Bool) (ds : List ℕ) (ends : End
             far_marked ds v (subst (λ n. v < n) (sym dist.size) inside) (λ q. zero_far _ ((dist.goals v inside).1 is) q);
         closed = λ n e is h.
             let (inside, near) = marked_far ds e.to h in
-            let k = dist.nearby n e is (below _ (dist.bound e.to) near) in
+            let k = dist.nearby n e is refl (below _ (dist.bound e.to) near) in
             far_marked ds e.from (subst (λ n. e.from < n) (sym dist.size) (ends n e is).from_in) (λ q. less_far _ k.reached q);
         walks = λ v h.
             let (inside, near) = marked_far ds v h in

@@ -1,11 +1,14 @@
 -- The nearest start, and the first step of each node.
-use Rattle.std.proofs.Common.{◌≡◌, ◌≢◌, ℕ, zero, suc, ◌+◌, ◌<◌, ◌≤◌, ◌⊎◌, inl, inr, Bool, List, [], ◌∷◌, map, length, Option, Some, None, slice_index, slice_set, refl, sym, ◌∙◌, ap, subst, arith}
+use Rattle.std.proofs.Common.{◌≡◌, ◌≢◌, ℕ, zero, suc, ◌+◌, ◌<◌, ◌≤◌, ◌⊎◌, inl, inr, Bool, true, List, [], ◌∷◌, map, length, Option, Some, None, slice_index, slice_set, refl, sym, ◌∙◌, ap, subst, arith}
 use Rattle.std.proofs.lemmas.List.{get_or-set_same, get_or-set_other, length-set, length-map}
 use Rattle.std.proofs.lemmas.Bool.{cases_eq, cases_lt}
 use Rattle.least_walk.specs.declared.graphs.GraphEdge.{GraphEdge}
-use Rattle.least_walk.specs.Distances.{far, HasStep, AreDistances}
-use Rattle.least_walk.specs.Walks.{no_edge, IsFirstStep, AreSteps, IsNearest, AllFar}
-use Rattle.least_walk.proofs.Items.{item_within, one_item}
+use Rattle.least_walk.specs.Distances.{far, AreDistances}
+use Rattle.least_walk.specs.Net.{no_edge}
+use Rattle.least_walk.specs.Chains.{IsLast, begins}
+use Rattle.least_walk.specs.Walks.{IsFirstStep, IsNearest, AllFar}
+use Rattle.least_walk.proofs.Items.{item_within, item_of_map, one_item}
+use Rattle.least_walk.proofs.Chaining.{IsLink, none_above}
 use Rattle.gtrbac_model.specs.Graph.{item_at}
 
 -- the best of the first i starts
@@ -123,131 +126,125 @@ best_some starts ds least i s le w =
     less : (a b c : ℕ) → a ≡ b → b < c → a < c
     less a b c p q = omega arith
 
--- of the first i edges: none leads closer from the node, or the first that does is kept
-abbrev pub StepOf : List GraphEdge → List ℕ → ℕ → ℕ → ℕ → Type 0
-StepOf edges ds i v n =
-    ((n ≡ no_edge) × ((m : ℕ) (e : GraphEdge) → m < i → item_at edges m ≡ Some e → e.from ≡ v → slice_index ds e.to + 1 ≡ slice_index ds v → ⊥))
-    ⊎ ((n < i) × IsFirstStep edges ds v n)
+-- of the open edges of the node above n: none leads closer, or the least that does is kept
+pub record BestStep (ok : ℕ → Bool) (edges : List GraphEdge) (ds : List ℕ) (at n best : ℕ) : Type 0 where
+  pub edge : GraphEdge
+  pub is : item_at edges best ≡ Some edge
+  pub may : ok best ≡ true
+  pub leaves : edge.from ≡ at
+  pub closer : slice_index ds edge.to + 1 ≡ slice_index ds at
+  pub least : (m : ℕ) (e : GraphEdge) → item_at edges m ≡ Some e → ok m ≡ true → e.from ≡ at → slice_index ds e.to + 1 ≡ slice_index ds at → (n ≡ no_edge) ⊎ (n < m) → best ≤ m
 
-pub record Stepped (edges : List GraphEdge) (ds steps : List ℕ) (i : ℕ) : Type 0 where
-  pub size : length steps ≡ length ds
-  pub each : (v : ℕ) → v < length ds → StepOf edges ds i v (slice_index steps v)
+abbrev pub NoStep : (ℕ → Bool) → List GraphEdge → List ℕ → ℕ → ℕ → Type 0
+NoStep ok edges ds at n = (m : ℕ) (e : GraphEdge) → item_at edges m ≡ Some e → ok m ≡ true → e.from ≡ at → slice_index ds e.to + 1 ≡ slice_index ds at → (n ≡ no_edge) ⊎ (n < m) → ⊥
 
--- an edge that is not the first of its begin to lead closer
-pub stepped_skip : (edges : List GraphEdge) (ds steps : List ℕ) (i : ℕ) (e : GraphEdge) → item_at edges i ≡ Some e → (slice_index steps e.from ≡ no_edge → slice_index ds e.to + 1 ≡ slice_index ds e.from → ⊥) → Stepped edges ds steps i → Stepped edges ds steps (i + 1)
-stepped_skip edges ds steps i e is other s =
-    record { size = s.size; each = λ v h. go v (s.each v h) }
-  where
-    more : (a n : ℕ) → a < n → a < n + 1
-    more a n p = omega arith
+pub record Stepped (ok : ℕ → Bool) (edges : List GraphEdge) (ds : List ℕ) (at n best : ℕ) : Type 0 where
+  pub link : IsLink (begins edges) at n
+  pub kept : ((best ≡ no_edge) × NoStep ok edges ds at n) ⊎ BestStep ok edges ds at n best
 
-    go : (v : ℕ) → StepOf edges ds i v (slice_index steps v) → StepOf edges ds (i + 1) v (slice_index steps v)
-    go v (inr w) = inr (more _ _ w.0, w.1)
-    go v (inl w) =
-        inl (
-          w.0,
-          λ m f h isf leaves closer. elim (next_or_before m i h) [
-            | inl k ↦ w.1 m f k isf leaves closer
-            | inr k ↦
-                let q : f ≡ e = one_item edges i f e (ap (item_at edges) (sym k) ∙ isf) is in
-                let from : e.from ≡ v = ap (λ g. g.from) (sym q) ∙ leaves in
-                other (ap (slice_index steps) from ∙ w.0) (ap (λ g. slice_index ds g.to + 1) (sym q) ∙ closer ∙ ap (slice_index ds) (sym from))
-          ],
-        )
+pub length_begins : (edges : List GraphEdge) → length (begins edges) ≡ length edges
+length_begins edges = length-map edges (λ e. e.from)
 
-module _ (edges : List GraphEdge) (ds steps : List ℕ) (i : ℕ) (e : GraphEdge) (is : item_at edges i ≡ Some e) (inside : e.from < length ds) (vacant : slice_index steps e.from ≡ no_edge) (few : i < no_edge) (closer : slice_index ds e.to + 1 ≡ slice_index ds e.from) (s : Stepped edges ds steps i) where
-  abbrev after : List ℕ
-  after = slice_set steps e.from i
+begin_at : (edges : List GraphEdge) (m : ℕ) (e : GraphEdge) (at : ℕ) → item_at edges m ≡ Some e → e.from ≡ at → item_at (begins edges) m ≡ Some at
+begin_at edges m e at is from = item_of_map (λ e. e.from) edges m e is ∙ ap Some from
 
-  here : slice_index after e.from ≡ i
-  here = get_or-set_same steps e.from i 0 (same_size _ _ _ s.size inside)
+pub stepped_start : (ok : ℕ → Bool) (edges : List GraphEdge) (ds : List ℕ) (at n : ℕ) → IsLast (begins edges) at (length (begins edges)) n → IsLink (begins edges) at n → length edges ≤ no_edge → Stepped ok edges ds at n no_edge
+stepped_start ok edges ds at n last link few = record {
+  link = link;
+  kept = inl (
+    refl,
+    λ m e is on from closer above.
+        none_above (begins edges) at (length (begins edges)) n last (subst (λ k. k ≤ no_edge) (sym (length_begins edges)) few) m (subst (λ k. m < k) (sym (length_begins edges)) (item_within edges m e is)) (begin_at edges m e at is from) above,
+  );
+}
+
+module _ (ok : ℕ → Bool) (edges : List GraphEdge) (ds : List ℕ) (at n n' : ℕ) (few : length edges ≤ no_edge) (e : GraphEdge) (is : item_at edges n ≡ Some e) (last : IsLast (begins edges) at n n') (link : IsLink (begins edges) at n') where
+  below : n ≤ no_edge
+  below = omega (arith, item_within edges n e is, few)
+
+  which : (m : ℕ) → (m < n) ⊎ ((m ≡ n) ⊎ (n < m))
+  which m = elim (cases_lt m n) [ inl k ↦ inl k | inr k ↦ elim (cases_lt n m) [ inl h ↦ inr (inr h) | inr h ↦ inr (inl (omega arith)) ] ]
+
+  low_none : (m : ℕ) (f : GraphEdge) → m < n → item_at edges m ≡ Some f → f.from ≡ at → (n' ≡ no_edge) ⊎ (n' < m) → ⊥
+  low_none m f low isf from above = none_above (begins edges) at n n' last below m low (begin_at edges m f at isf from) above
+
+  -- an edge that does not lead closer
+  pub stepped_skip : (best : ℕ) → (ok n ≡ true → slice_index ds e.to + 1 ≡ slice_index ds at → ⊥) → Stepped ok edges ds at n best → Stepped ok edges ds at n' best
+  stepped_skip best other s = record { link = link; kept = on_with s.kept }
     where
-      same_size : (a b c : ℕ) → a ≡ b → c < b → c < a
-      same_size a b c p q = omega arith
+      not_this : (m : ℕ) (f : GraphEdge) → m ≡ n → item_at edges m ≡ Some f → ok m ≡ true → slice_index ds f.to + 1 ≡ slice_index ds at → ⊥
+      not_this m f q isf on closer =
+          let same : e ≡ f = one_item edges m e f (ap (item_at edges) q ∙ is) isf in
+          other (subst (λ k. ok k ≡ true) q on) (ap (λ g. slice_index ds g.to + 1) same ∙ closer)
 
-  earlier : StepOf edges ds i e.from (slice_index steps e.from) → (m : ℕ) (f : GraphEdge) → m < i → item_at edges m ≡ Some f → f.from ≡ e.from → slice_index ds f.to + 1 ≡ slice_index ds e.from → ⊥
-  earlier (inl w) = w.1
-  earlier (inr w) = λ m f h isf leaves c. not_vacant _ w.0 vacant
-    where
-      not_vacant : (a : ℕ) → a < i → a ≡ no_edge → ⊥
-      not_vacant a p q = omega arith
-
-  own_step : IsFirstStep edges ds e.from i
-  own_step =
-      record {
-        edge = e;
-        is = is;
-        leaves = refl;
-        closer = closer;
-        least = λ m f isf leaves c. at_least m (λ k. earlier (s.each e.from inside) m f k isf leaves c);
-      }
-    where
-      at_least : (m : ℕ) → (m < i → ⊥) → i ≤ m
-      at_least m h = elim (cases_lt m i) [ inl k ↦ absurd (h k) | inr k ↦ k ]
-
-  own : StepOf edges ds (i + 1) e.from (slice_index after e.from)
-  own = subst (λ k. StepOf edges ds (i + 1) e.from k) (sym here) (inr (more_one i, own_step))
-    where
-      more_one : (n : ℕ) → n < n + 1
-      more_one n = omega arith
-
-  others : (v : ℕ) → v ≢ e.from → StepOf edges ds i v (slice_index steps v) → StepOf edges ds (i + 1) v (slice_index steps v)
-  others v n (inr w) = inr (more _ w.0, w.1)
-    where
-      more : (a : ℕ) → a < i → a < i + 1
-      more a p = omega arith
-  others v n (inl w) =
-      inl (
-        w.0,
-        λ m f h isf leaves c. elim (next_or_before m i h) [
-          | inl k ↦ w.1 m f k isf leaves c
-          | inr k ↦
-              let q : f ≡ e = one_item edges i f e (ap (item_at edges) (sym k) ∙ isf) is in
-              n (sym leaves ∙ ap (λ g. g.from) q)
+      on_with : ((best ≡ no_edge) × NoStep ok edges ds at n) ⊎ BestStep ok edges ds at n best → ((best ≡ no_edge) × NoStep ok edges ds at n') ⊎ BestStep ok edges ds at n' best
+      on_with (inl (vacant, none)) = inl (
+        vacant,
+        λ m f isf on from closer above. elim (which m) [
+          | inl low ↦ low_none m f low isf from above
+          | inr (inl q) ↦ not_this m f q isf on closer
+          | inr (inr h) ↦ none m f isf on from closer (inr h)
         ],
       )
-
-  pub stepped_found : Stepped edges ds after (i + 1)
-  stepped_found =
-      record {
-        size = length-set steps e.from i ∙ s.size;
-        each = λ v h. elim (cases_eq v e.from) [
-          | inl q ↦ subst (λ u. StepOf edges ds (i + 1) u (slice_index after u)) (sym q) own
-          | inr n ↦ subst (λ k. StepOf edges ds (i + 1) v k) (sym (get_or-set_other steps e.from v i 0 n)) (others v n (s.each v h))
+      on_with (inr b) = inr (record {
+        edge = b.edge;
+        is = b.is;
+        may = b.may;
+        leaves = b.leaves;
+        closer = b.closer;
+        least = λ m f isf on from closer above. elim (which m) [
+          | inl low ↦ absurd (low_none m f low isf from above)
+          | inr (inl q) ↦ absurd (not_this m f q isf on closer)
+          | inr (inr h) ↦ b.least m f isf on from closer (inr h)
         ];
-      }
+      })
 
--- a node at a distance has a step, so it has a first one
-pub stepped_all : (edges : List GraphEdge) (goal : List Bool) (ds steps : List ℕ) (i : ℕ) → length edges ≤ i → AreDistances edges goal ds → Stepped edges ds steps i → AreSteps edges ds steps
-stepped_all edges goal ds steps i le dist s v some h =
-    go (dist.steps v some h) (s.each v (inside v some))
+  -- one that does
+  pub stepped_found : (best : ℕ) → ok n ≡ true → e.from ≡ at → slice_index ds e.to + 1 ≡ slice_index ds at → Stepped ok edges ds at n best → Stepped ok edges ds at n' n
+  stepped_found best on from closer s = record {
+    link = link;
+    kept = inr (record {
+      edge = e;
+      is = is;
+      may = on;
+      leaves = from;
+      closer = closer;
+      least = λ m f isf on_m from_m closer_m above. elim (which m) [
+        | inl low ↦ absurd (low_none m f low isf from_m above)
+        | inr (inl q) ↦ at_most m q
+        | inr (inr h) ↦ up m h
+      ];
+    });
+  }
+    where
+      at_most : (m : ℕ) → m ≡ n → n ≤ m
+      at_most m q = omega arith
+
+      up : (m : ℕ) → n < m → n ≤ m
+      up m h = omega arith
+
+-- a node at a distance has a step, so the least is found
+pub stepped_all : (ok : ℕ → Bool) (edges : List GraphEdge) (goal : List Bool) (ds : List ℕ) (at n best : ℕ) → n ≡ no_edge → 0 < slice_index ds at → slice_index ds at < far → AreDistances ok edges goal ds → Stepped ok edges ds at n best → IsFirstStep ok edges ds at best
+stepped_all ok edges goal ds at n best none some h dist s = go s.kept
   where
-    zero_past : (xs : List ℕ) (v : ℕ) → length xs ≤ v → 0 < slice_index xs v → ⊥
-    zero_past [] v k p = omega arith
-    zero_past (x ∷ xs) zero k p = omega arith
-    zero_past (x ∷ xs) (suc v) k p = zero_past xs v (omega arith) p
-
-    inside : (v : ℕ) → 0 < slice_index ds v → v < length ds
-    inside v p = elim (cases_lt v (length ds)) [ inl k ↦ k | inr k ↦ absurd (zero_past ds v k p) ]
-
-    lt : (a b c : ℕ) → a < b → b ≤ c → a < c
-    lt a b c p q = omega arith
-
-    go : HasStep edges ds v → StepOf edges ds i v (slice_index steps v) → IsFirstStep edges ds v (slice_index steps v)
-    go t (inr w) = w.1
-    go t (inl w) = absurd (w.1 t.number t.edge (lt _ _ _ (item_within edges t.number t.edge t.is) le) t.is t.leaves t.closer)
-
-pub stepped_start : (edges : List GraphEdge) (ds : List ℕ) → Stepped edges ds (map (λ d. no_edge) ds) 0
-stepped_start edges ds =
-    record {
-      size = length-map ds (λ d. no_edge);
-      each = λ v h. inl (none ds v h, λ m e lt. absurd (below m lt));
+    go : ((best ≡ no_edge) × NoStep ok edges ds at n) ⊎ BestStep ok edges ds at n best → IsFirstStep ok edges ds at best
+    go (inl (vacant, nothing)) = let t = dist.steps at some h in absurd (nothing t.number t.edge t.is t.may t.leaves t.closer (inl none))
+    go (inr b) = record {
+      edge = b.edge;
+      is = b.is;
+      may = b.may;
+      leaves = b.leaves;
+      closer = b.closer;
+      least = λ m e is on from closer. b.least m e is on from closer (inl none);
     }
-  where
-    below : (m : ℕ) → m < 0 → ⊥
-    below m h = omega arith
 
-    none : (ds : List ℕ) (v : ℕ) → v < length ds → slice_index (map (λ d. no_edge) ds) v ≡ no_edge
-    none [] v h = absurd (below v h)
-    none (d ∷ ds) zero h = refl
-    none (d ∷ ds) (suc v) h = none ds v (omega arith)
+-- of whole distances, an open edge to a nearer node leads just one step closer
+pub one_closer : (ok : ℕ → Bool) (edges : List GraphEdge) (goal : List Bool) (ds : List ℕ) (n at : ℕ) (e : GraphEdge) → AreDistances ok edges goal ds → item_at edges n ≡ Some e → ok n ≡ true → e.from ≡ at → slice_index ds e.to < slice_index ds at → slice_index ds e.to + 1 ≡ slice_index ds at
+one_closer ok edges goal ds n at e dist is on from lt =
+    exact _ _ _ (dist.nearby n e is on (near _ _ lt (dist.bound at))).near (ap (slice_index ds) from) lt
+  where
+    near : (a b : ℕ) → a < b → b ≤ far → a < far
+    near a b p q = omega arith
+
+    exact : (a b c : ℕ) → a ≤ b + 1 → a ≡ c → b < c → b + 1 ≡ c
+    exact a b c p q r = omega arith

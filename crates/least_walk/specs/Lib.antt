@@ -1,3 +1,4 @@
 pub mod Net
 pub mod Distances
 pub mod Walks
+pub mod Chains

@@ -1,5 +1,6 @@
 -- What a graph is seen as.
 use Rattle.std.specs.Prelude.{◌≡◌, ℕ, ◌<◌, ◌≤◌, Bool, true, false, List, length, map, Some, None}
+use Rattle.std.specs.List.{enumerate_from}
 use Rattle.least_walk.specs.declared.graphs.GraphEdge.{GraphEdge}
 use Rattle.gtrbac_model.specs.Graph.{Arc, item_at}
 
@@ -27,6 +28,18 @@ arc_of e = record { from = e.from; to = e.to; is_open = true }
 -- the edges as arcs, all of them open
 abbrev pub arcs_of : List GraphEdge → List (Arc ℕ)
 arcs_of edges = map arc_of edges
+
+-- what stands for no edge
+abbrev pub no_edge : ℕ
+no_edge = 4_294_967_295
+
+-- the edges as arcs, open where the test passes their number
+abbrev pub arcs_by : (ℕ → Bool) → List GraphEdge → List (Arc ℕ)
+arcs_by ok edges = map (λ e. record { from = e.1.from; to = e.1.to; is_open = ok e.0 }) (enumerate_from 0 edges)
+
+-- each edge is open
+abbrev pub every : ℕ → Bool
+every n = true
 
 -- whether the edge of this number is marked
 abbrev pub is_marked : List GraphEdge → ℕ → Bool

@@ -6,10 +6,6 @@ use Rattle.least_walk.specs.Distances.{far}
 use Rattle.gtrbac_model.specs.Graph.{Arc, Path, LeadsAlong, IsWalk, item_at}
 use Rattle.least_walk.specs.Net.{arcs_of}
 
--- what stands for no edge
-abbrev pub no_edge : ℕ
-no_edge = 4_294_967_295
-
 -- whether the node is a goal
 abbrev pub is_goal : List Bool → ℕ → Bool
 is_goal goal v = slice_index_or goal v false
@@ -18,22 +14,19 @@ is_goal goal v = slice_index_or goal v false
 abbrev pub HasNoWalk : List (Arc ℕ) → (ℕ → Bool) → List ℕ → Type 0
 HasNoWalk arcs goal starts = (place : ℕ) (p : Path ℕ) → IsWalk arcs goal starts place p → ⊥
 
--- the least edge that leads from the node one step closer
-pub record IsFirstStep (edges : List GraphEdge) (ds : List ℕ) (v n : ℕ) : Type 0 where
+-- the least open edge that leads from the node one step closer
+pub record IsFirstStep (ok : ℕ → Bool) (edges : List GraphEdge) (ds : List ℕ) (v n : ℕ) : Type 0 where
   pub edge : GraphEdge
   pub is : item_at edges n ≡ Some edge
+  pub may : ok n ≡ true
   pub leaves : edge.from ≡ v
   pub closer : slice_index ds edge.to + 1 ≡ slice_index ds v
-  pub least : (m : ℕ) (e : GraphEdge) → item_at edges m ≡ Some e → e.from ≡ v → slice_index ds e.to + 1 ≡ slice_index ds v → n ≤ m
-
--- each node at a distance has its first step
-abbrev pub AreSteps : List GraphEdge → List ℕ → List ℕ → Type 0
-AreSteps edges ds steps = (v : ℕ) → 0 < slice_index ds v → slice_index ds v < far → IsFirstStep edges ds v (slice_index steps v)
+  pub least : (m : ℕ) (e : GraphEdge) → item_at edges m ≡ Some e → ok m ≡ true → e.from ≡ v → slice_index ds e.to + 1 ≡ slice_index ds v → n ≤ m
 
 -- first steps, one after the other, down to distance 0
-abbrev pub Descends : List GraphEdge → List ℕ → ℕ → List ℕ → Type 0
-Descends edges ds v [] = slice_index ds v ≡ 0
-Descends edges ds v (n ∷ ns) = (step : IsFirstStep edges ds v n) × Descends edges ds step.edge.to ns
+abbrev pub Descends : (ℕ → Bool) → List GraphEdge → List ℕ → ℕ → List ℕ → Type 0
+Descends ok edges ds v [] = slice_index ds v ≡ 0
+Descends ok edges ds v (n ∷ ns) = (step : IsFirstStep ok edges ds v n) × Descends ok edges ds step.edge.to ns
 
 -- of the starts at a distance, the nearest, and of these the earliest
 pub record IsNearest (starts : List ℕ) (ds : List ℕ) (s : ℕ) : Type 0 where

@@ -1,28 +1,39 @@
 //! How far each node is from the goals.
-ghost use Rattle.std.specs.Prelude.{◌≡◌, ◌+◌, ◌<◌, ◌^◌, map, length, IfOk, true, false};
-ghost use Rattle.least_walk.specs.Net.{EndsIn};
+ghost use Rattle.std.specs.Prelude.{◌≡◌, ◌+◌, ◌<◌, ◌≤◌, ◌^◌, map, filter, length, IfOk, OnOk, true, false};
+ghost use Rattle.std.specs.List.{range_with_len};
+ghost use Rattle.least_walk.specs.Net.{EndsIn, no_edge};
+ghost use Rattle.least_walk.specs.Chains.{AreChains, ends};
 ghost use Rattle.least_walk.specs.Distances.{unreached, start_of, AreDistances, Spread};
+ghost use Rattle.least_walk.specs.Walks.{is_goal};
 
+use crate::chains::{Chains, NONE, last_of};
 use crate::graphs::GraphEdge;
+use crate::passing::Passable;
 use std::alloc::{AllocError, Global};
 
 /// Stands for the distance of a node from which no walk leads to a goal.
 pub(crate) const FAR: usize = usize::MAX;
 
-/// How many edges the shortest walk from each node to a goal has.
-pub(crate) fn distances(
+/// How many edges the shortest walk over open edges from each node to a goal has: breadth first, so that each edge is looked at once.
+pub(crate) fn distances<P: Passable>(
     alloc: Global,
     edges: &[GraphEdge],
+    into: &Chains,
+    by: &P,
     goal: &[bool],
 ) -> Result<Vec<usize>, AllocError>
     requires ends { EndsIn (length goal.now) edges.now }
     requires few { length goal.now < 2 ^ 32 }
-    ensures { IfOk result (λ ds. AreDistances edges.now goal.now ds.items) }
+    requires edges { length edges.now ≤ no_edge }
+    requires chains { AreChains (ends edges.now) into.now.last.items into.now.before.items }
+    ensures { IfOk result (λ ds. AreDistances (P.passes by.now) edges.now goal.now ds.items) }
 {
     let mut dist = goals_at_zero(alloc, goal)?;
-    let mut near = 0;
-    while widen(edges, goal, &mut dist, near) {
-        near += 1;
+    let mut found = goals_listed(alloc, goal)?;
+    let mut head = 0;
+    while head < found.len() {
+        widen(edges, into, by, goal, head, &mut dist, &mut found)?;
+        head += 1;
     }
     Ok(dist)
 }
@@ -36,21 +47,54 @@ fn goals_at_zero(alloc: Global, goal: &[bool]) -> Result<Vec<usize>, AllocError>
         .collect(alloc)
 }
 
-/// Gives the distance `near + 1` to each node without a distance that has an edge to a node at `near`, and says whether there was one.
-fn widen(edges: &[GraphEdge], goal: &[bool], dist: &mut [usize], near: usize) -> bool
-    requires ends { EndsIn (length goal.now) edges.now }
-    requires few { near + unreached dist.old < 2 ^ 32 }
-    requires spread { Spread edges.now goal.now dist.old near }
-    ensures wider { result ≡ true → Spread edges.now goal.now dist.new (near + 1) }
-    ensures fewer { result ≡ true → unreached dist.new < unreached dist.old }
-    ensures whole { result ≡ false → AreDistances edges.now goal.now dist.new }
+/// The goals, ascending.
+fn goals_listed(alloc: Global, goal: &[bool]) -> Result<Vec<u32>, AllocError>
+    requires { length goal.now < 2 ^ 32 }
+    ensures { IfOk result (λ found. found.items ≡ filter (is_goal goal.now) (range_with_len 0 (length goal.now))) }
 {
-    let mut found = false;
-    for e in edges {
-        if dist[e.to as usize] == near && dist[e.from as usize] == FAR {
-            dist[e.from as usize] = near + 1;
-            found = true;
-        }
+    (0..goal.len() as u32)
+        .filter(|v| is_marked(goal, *v))
+        .collect(alloc)
+}
+
+/// Whether the node is a goal.
+fn is_marked(goal: &[bool], v: u32) -> bool
+    ensures { result ≡ is_goal goal.now v }
+{
+    match goal.get(v as usize) {
+        Some(is) => *is,
+        None => false,
     }
-    found
+}
+
+/// Gives each node without a distance that has an open edge to the one at the head a distance one greater, and adds it to those found.
+fn widen<P: Passable>(
+    edges: &[GraphEdge],
+    into: &Chains,
+    by: &P,
+    goal: &[bool],
+    head: usize,
+    dist: &mut [usize],
+    found: &mut Vec<u32>,
+) -> Result<(), AllocError>
+    requires ends { EndsIn (length goal.now) edges.now }
+    requires few { length goal.now < 2 ^ 32 }
+    requires edges { length edges.now ≤ no_edge }
+    requires chains { AreChains (ends edges.now) into.now.last.items into.now.before.items }
+    requires head { head < length found.old.items }
+    requires spread { Spread (P.passes by.now) edges.now goal.now dist.old found.old.items head }
+    ensures spread { OnOk result (Spread (P.passes by.now) edges.now goal.now dist.new found.new.items (head + 1)) }
+    ensures fewer { OnOk result (length found.new.items + unreached dist.new ≤ length found.old.items + unreached dist.old) }
+{
+    let at = found[head];
+    let mut n = last_of(into, at);
+    while n != NONE {
+        let from = edges[n as usize].from;
+        if dist[from as usize] == FAR && by.may_pass(n) {
+            dist[from as usize] = dist[at as usize] + 1;
+            found.push(from)?;
+        }
+        n = into.before[n as usize];
+    }
+    Ok(())
 }

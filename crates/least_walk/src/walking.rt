@@ -1,17 +1,17 @@
 //! The least walk from one of several starts to a goal.
 ghost use Rattle.std.specs.Prelude.{◌≡◌, ℕ, ◌<◌, ◌≤◌, ◌^◌, Bool, List, map, not, length, IfOk, IfSome, IfNone, MatchOption, Some, slice_index};
 ghost use Rattle.gtrbac_model.specs.Graph.{IsLeastWalk, item_at};
-ghost use Rattle.least_walk.specs.Net.{EndsIn, arcs_of};
+ghost use Rattle.least_walk.specs.Net.{EndsIn, no_edge, arcs_of, arcs_by};
+ghost use Rattle.least_walk.specs.Chains.{AreChains, IsAdjacency, begins};
 ghost use Rattle.least_walk.specs.Distances.{far, is_far, AreDistances};
-ghost use Rattle.least_walk.specs.Walks.{no_edge, IsReach, is_goal, HasNoWalk, AreSteps, Descends, IsNearest, AllFar};
+ghost use Rattle.least_walk.specs.Walks.{IsReach, is_goal, HasNoWalk, IsFirstStep, Descends, IsNearest, AllFar};
 
+use crate::chains::{Adjacency, Chains, NONE, last_of};
 use crate::distances::{FAR, distances};
 use crate::graphs::{Graph, GraphEdge};
+use crate::passing::{Everywhere, Passable};
 use crate::paths::{EdgeList, Path};
 use std::alloc::{AllocError, Global};
-
-/// Stands for no edge.
-const NONE: u32 = u32::MAX;
 
 /// The least walk from one of the starts to a goal: by the number of its edges, then by the place of its start in `from`, then by the
 /// numbers of its edges. None where no walk leads from a start to a goal.
@@ -27,14 +27,34 @@ pub fn least_walk(
         IsLeastWalk (arcs_of g.now.edges) (is_goal goal.now) from.now (record { start = p.start; arcs = p.edges }))) }
     ensures none { IfOk result (λ found. IfNone found (HasNoWalk (arcs_of g.now.edges) (is_goal goal.now) from.now)) }
 {
-    let _nodes = g.nodes();
     let edges = g.edges();
-    let dist = distances(alloc, edges, goal)?;
+    let sides = Adjacency::new(alloc, g.nodes(), edges)?;
+    least_open_walk(alloc, edges, &sides, &Everywhere, from, goal)
+}
+
+/// The least walk over the open edges, by the same order. The adjacency is that of the edges; it may be used again while they stay.
+pub fn least_open_walk<P: Passable>(
+    alloc: Global,
+    edges: &[GraphEdge],
+    sides: &Adjacency,
+    by: &P,
+    from: &[u32],
+    goal: &[bool],
+) -> Result<Option<Path>, AllocError>
+    requires sides { IsAdjacency edges.now sides.now }
+    requires edges { length edges.now ≤ no_edge }
+    requires ends { EndsIn (length goal.now) edges.now }
+    requires few { length goal.now < 2 ^ 32 }
+    requires starts { (i s : ℕ) → item_at from.now i ≡ Some s → s < length goal.now }
+    ensures some { IfOk result (λ found. IfSome found (λ p.
+        IsLeastWalk (arcs_by (P.passes by.now) edges.now) (is_goal goal.now) from.now (record { start = p.start; arcs = p.edges }))) }
+    ensures none { IfOk result (λ found. IfNone found (HasNoWalk (arcs_by (P.passes by.now) edges.now) (is_goal goal.now) from.now)) }
+{
+    let dist = distances(alloc, edges, &sides.into, by, goal)?;
     let Some(start) = nearest(from, &dist) else {
         return Ok(None);
     };
-    let steps = first_steps(alloc, edges, &dist)?;
-    let numbers = follow(alloc, edges, &dist, &steps, start)?;
+    let numbers = follow(alloc, edges, &sides.out, by, goal, &dist, start)?;
     Ok(Some(Path {
         start,
         edges: numbers,
@@ -57,61 +77,57 @@ fn nearest(from: &[u32], dist: &[usize]) -> Option<u32>
     best
 }
 
-/// For each node the least edge that leads one step closer to a goal.
-fn first_steps(alloc: Global, edges: &[GraphEdge], dist: &[usize]) -> Result<Vec<u32>, AllocError>
-    requires ends { EndsIn (length dist.now) edges.now }
-    requires few { length edges.now ≤ no_edge }
-    requires dist { (goal : List Bool) × AreDistances edges.now goal dist.now }
-    ensures steps { IfOk result (λ steps. AreSteps edges.now dist.now steps.items) }
-    ensures size { IfOk result (λ steps. length steps.items ≡ length dist.now) }
+/// The least open edge that leads from the node one step closer to a goal.
+fn first_step<P: Passable>(
+    edges: &[GraphEdge],
+    out: &Chains,
+    by: &P,
+    goal: &[bool],
+    dist: &[usize],
+    at: u32,
+) -> u32
+    requires ends { EndsIn (length goal.now) edges.now }
+    requires edges { length edges.now ≤ no_edge }
+    requires chains { AreChains (begins edges.now) out.now.last.items out.now.before.items }
+    requires dist { AreDistances (P.passes by.now) edges.now goal.now dist.now }
+    requires inside { at < length dist.now }
+    requires some { 0 < slice_index dist.now at }
+    requires reached { slice_index dist.now at < far }
+    ensures { IsFirstStep (P.passes by.now) edges.now dist.now at result }
 {
-    let mut steps = no_steps(alloc, dist)?;
-    keep_first(edges, dist, &mut steps);
-    Ok(steps)
-}
-
-/// No step for any node.
-fn no_steps(alloc: Global, dist: &[usize]) -> Result<Vec<u32>, AllocError>
-    ensures { IfOk result (λ steps. steps.items ≡ map (λ d. no_edge) dist.now) }
-{
-    dist.iter().map(|_| NONE).collect(alloc)
-}
-
-/// Keeps for each node the first edge that leads one step closer to a goal.
-fn keep_first(edges: &[GraphEdge], dist: &[usize], steps: &mut [u32])
-    requires ends { EndsIn (length dist.now) edges.now }
-    requires few { length edges.now ≤ no_edge }
-    requires dist { (goal : List Bool) × AreDistances edges.now goal dist.now }
-    requires fresh { steps.old ≡ map (λ d. no_edge) dist.now }
-    ensures { AreSteps edges.now dist.now steps.new }
-{
-    for (n, e) in edges.iter().enumerate() {
-        let from = e.from as usize;
-        if steps[from] == NONE && dist[e.to as usize] < dist[from] {
-            steps[from] = n as u32;
+    let mut best = NONE;
+    let mut n = last_of(out, at);
+    while n != NONE {
+        if dist[edges[n as usize].to as usize] < dist[at as usize] && by.may_pass(n) {
+            best = n;
         }
+        n = out.before[n as usize];
     }
+    best
 }
 
-/// Goes along the steps from the start until a goal.
-fn follow(
+/// Goes along first steps from the start until a goal.
+fn follow<P: Passable>(
     alloc: Global,
     edges: &[GraphEdge],
+    out: &Chains,
+    by: &P,
+    goal: &[bool],
     dist: &[usize],
-    steps: &[u32],
     start: u32,
 ) -> Result<EdgeList, AllocError>
-    requires ends { EndsIn (length dist.now) edges.now }
-    requires size { length steps.now ≡ length dist.now }
+    requires ends { EndsIn (length goal.now) edges.now }
+    requires edges { length edges.now ≤ no_edge }
+    requires chains { AreChains (begins edges.now) out.now.last.items out.now.before.items }
+    requires dist { AreDistances (P.passes by.now) edges.now goal.now dist.now }
     requires inside { start < length dist.now }
     requires reached { slice_index dist.now start < far }
-    requires steps { AreSteps edges.now dist.now steps.now }
-    ensures { IfOk result (λ numbers. Descends edges.now dist.now start numbers) }
+    ensures { IfOk result (λ numbers. Descends (P.passes by.now) edges.now dist.now start numbers) }
 {
     let mut numbers = EdgeList::new(alloc);
     let mut at = start;
     while dist[at as usize] > 0 {
-        let n = steps[at as usize];
+        let n = first_step(edges, out, by, goal, dist, at);
         numbers.push(n)?;
         at = edges[n as usize].to;
     }
@@ -124,8 +140,9 @@ pub fn reaching(alloc: Global, g: &Graph, goal: &[bool]) -> Result<Vec<bool>, Al
     ensures size { IfOk result (λ reach. length reach.items ≡ g.now.nodes) }
     ensures reach { IfOk result (λ reach. IsReach g.now.edges (is_goal goal.now) reach.items) }
 {
-    let _nodes = g.nodes();
-    let dist = distances(alloc, g.edges(), goal)?;
+    let edges = g.edges();
+    let sides = Adjacency::new(alloc, g.nodes(), edges)?;
+    let dist = distances(alloc, edges, &sides.into, &Everywhere, goal)?;
     reached(alloc, &dist)
 }
 

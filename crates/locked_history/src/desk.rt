@@ -155,6 +155,20 @@ impl<M: Keeps> Drop for Ticked<M> {
     }
 }
 
+impl<M: Keeps> Asked<M> {
+    /// The reply alone.
+    pub fn into_reply(self) -> Reply
+        ensures { result ≡ self.reply }
+    {
+        let Self {
+            reply,
+            at: _,
+            front: _,
+        } = self;
+        reply
+    }
+}
+
 impl<M: Keeps> Drop for Asked<M> {
     fn drop(self) {
         let Self {

@@ -3,7 +3,7 @@ use Rattle.std.proofs.Common.{◌≡◌, ◌≢◌, ◌↔◌, ℕ, ◌+◌, Boo
 use Rattle.std.proofs.lemmas.Bool.{false≢true, cases_Bool}
 use Rattle.gtrbac_model.specs.declared.calendars.Calendar.{Calendar}
 use Rattle.gtrbac_model.specs.Period.{Expr}
-use Rattle.calendar_laws.specs.Valid.{is_below, is_same}
+use Rattle.gtrbac_model.specs.Valid.{is_below, is_same}
 use Rattle.periodic_expr.specs.declared.faults.ExprFault.{ExprFault}
 use Rattle.periodic_expr.specs.declared.faults.ExprKind.{ExprKind}
 use Rattle.periodic_expr.specs.declared.faults.ExprKind.TheVariants.{Syntax, FirstNotAll, NotFiner, ZeroIndex, EmptySet, BadLength}

@@ -1,7 +1,7 @@
 -- The canonical text is read as the expression.
 use Rattle.std.proofs.Common.{◌≡◌, Ok, ap, ◌∙◌, IsTrue}
 use Rattle.gtrbac_model.specs.Period.{Expr}
-use Rattle.calendar_laws.specs.Valid.{is_expr}
+use Rattle.gtrbac_model.specs.Valid.{is_expr}
 use Rattle.periodic_expr.specs.Printed.{expr_text}
 use Rattle.periodic_expr.specs.Reading.{read_expr}
 use Rattle.periodic_expr.proofs.Meant.{said}

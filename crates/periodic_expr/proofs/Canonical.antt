@@ -4,9 +4,9 @@ use Rattle.std.specs.List.{list_any, list_all}
 use Rattle.std.proofs.lemmas.Bool.{false≢true, and_parts, and_from, ltb-true, lt-ltb, leb-true, le-leb, or_from, ne_eqb}
 use Rattle.gtrbac_model.specs.declared.calendars.Calendar.{Calendar}
 use Rattle.gtrbac_model.specs.Period.{Part, Expr}
-use Rattle.calendar_laws.specs.Valid.{is_below, is_same, is_set, rises_above, goes_down, from_all, is_expr}
-use Rattle.calendar_laws.specs.Selects.{last_of}
-use Rattle.calendar_laws.proofs.Begins.{lower, goes_to_unit}
+use Rattle.gtrbac_model.specs.Valid.{is_below, is_same, is_set, rises_above, goes_down, from_all, is_expr}
+use Rattle.gtrbac_model.specs.Selects.{last_of}
+use Rattle.gtrbac_model.proofs.Downward.{lower, goes_to_unit}
 use Rattle.periodic_expr.specs.declared.faults.ExprKind.TheVariants.{ZeroIndex, NotFiner, BadLength}
 use Rattle.periodic_expr.specs.Scan.{is_blank, calendar_word}
 use Rattle.periodic_expr.specs.Sketch.{put_in}

@@ -4,10 +4,10 @@ use Rattle.std.proofs.lemmas.Bool.{and_parts, and_from, or_left}
 use Rattle.gtrbac_model.specs.declared.calendars.Calendar.{Calendar}
 use Rattle.gtrbac_model.specs.declared.calendars.Calendar.TheVariants.{Years, Months, Weeks, Days, Hours, Minutes}
 use Rattle.gtrbac_model.specs.Period.{Part}
-use Rattle.calendar_laws.specs.Valid.{is_below, is_same, is_set, goes_down, from_all}
-use Rattle.calendar_laws.specs.Selects.{last_of, last_by}
-use Rattle.calendar_laws.proofs.Nested.{same_unit}
-use Rattle.calendar_laws.proofs.Begins.{lower}
+use Rattle.gtrbac_model.specs.Valid.{is_below, is_same, is_set, goes_down, from_all}
+use Rattle.gtrbac_model.specs.Selects.{last_of, last_by}
+use Rattle.gtrbac_model.proofs.Downward.{same_unit}
+use Rattle.gtrbac_model.proofs.Downward.{lower}
 
 pub same_itself : (c : Calendar) → is_same c c ≡ true
 same_itself Years = refl

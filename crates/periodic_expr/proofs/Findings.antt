@@ -4,7 +4,7 @@ use Rattle.std.specs.List.{list_any, insert, take_while}
 use Rattle.std.proofs.lemmas.Bool.{false≢true}
 use Rattle.gtrbac_model.specs.declared.calendars.Calendar.{Calendar}
 use Rattle.gtrbac_model.specs.Period.{Part, Expr}
-use Rattle.calendar_laws.specs.Valid.{is_below, is_same}
+use Rattle.gtrbac_model.specs.Valid.{is_below, is_same}
 use Rattle.periodic_expr.specs.declared.faults.ExprFault.{ExprFault}
 use Rattle.periodic_expr.specs.declared.faults.ExprKind.{ExprKind}
 use Rattle.periodic_expr.specs.declared.faults.ExprKind.TheVariants.{FirstNotAll, NotFiner, ZeroIndex, EmptySet, BadLength}

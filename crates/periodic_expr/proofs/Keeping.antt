@@ -3,8 +3,8 @@ use Rattle.std.proofs.Common.{◌≡◌, ℕ, ◌≤◌, Bool, true, false, not,
 use Rattle.std.proofs.lemmas.Bool.{false≢true, and_parts, and_from, or_left, or_right, leb-true, le-leb}
 use Rattle.gtrbac_model.specs.declared.calendars.Calendar.{Calendar}
 use Rattle.gtrbac_model.specs.Period.{Part}
-use Rattle.calendar_laws.specs.Valid.{is_below, is_same, is_set, from_all, is_expr}
-use Rattle.calendar_laws.specs.Selects.{last_by}
+use Rattle.gtrbac_model.specs.Valid.{is_below, is_same, is_set, from_all, is_expr}
+use Rattle.gtrbac_model.specs.Selects.{last_by}
 use Rattle.periodic_expr.specs.declared.faults.ExprFault.{ExprFault}
 use Rattle.periodic_expr.specs.declared.faults.ExprKind.{ExprKind}
 use Rattle.periodic_expr.specs.declared.faults.ExprKind.TheVariants.{FirstNotAll, NotFiner, ZeroIndex, EmptySet, BadLength}

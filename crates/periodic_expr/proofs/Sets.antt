@@ -3,7 +3,7 @@ use Rattle.std.proofs.Common.{◌≡◌, ℕ, zero, suc, ◌<◌, ◌≤◌, ◌
 use Rattle.std.proofs.lemmas.Bool.{and_parts, and_from, or_parts, ltb-true, ltb-false, lt-ltb, le-leb, eqb-false, cases_Bool}
 use Rattle.std.specs.List.{list_any, list_all, take_while, insert, prefix_len}
 use Rattle.std.proofs.lemmas.List.Folds.{length-prefix_len}
-use Rattle.calendar_laws.specs.Valid.{rises_above}
+use Rattle.gtrbac_model.specs.Valid.{rises_above}
 use Rattle.periodic_expr.specs.Sketch.{put_in}
 
 abbrev pub below : ℕ → ℕ → Bool

@@ -6,7 +6,7 @@ use Rattle.periodic_expr.specs.declared.faults.ExprKind.TheVariants.{Syntax}
 use Rattle.periodic_expr.specs.Grammar.{Says, HasFault, IsSyntaxFault}
 use Rattle.periodic_expr.specs.Reading.{read_expr}
 use Rattle.periodic_expr.specs.Printed.{expr_text}
-use Rattle.calendar_laws.specs.Valid.{is_expr}
+use Rattle.gtrbac_model.specs.Valid.{is_expr}
 
 -- expressions are read by the grammar: what they mean, where they are none, and their fault of the least place
 pub record ExprsAreRead : Type 0 where

@@ -4,8 +4,8 @@ use Rattle.std.specs.List.{list_any, list_all, take_while, insert}
 use Rattle.gtrbac_model.specs.declared.calendars.Calendar.{Calendar}
 use Rattle.gtrbac_model.specs.declared.calendars.Calendar.TheVariants.{Years}
 use Rattle.gtrbac_model.specs.Period.{Part}
-use Rattle.calendar_laws.specs.Valid.{is_below, is_same, rises_above, from_all}
-use Rattle.calendar_laws.specs.Selects.{last_by}
+use Rattle.gtrbac_model.specs.Valid.{is_below, is_same, rises_above, from_all}
+use Rattle.gtrbac_model.specs.Selects.{last_by}
 use Rattle.periodic_expr.specs.declared.faults.ExprFault.{ExprFault}
 use Rattle.periodic_expr.specs.declared.faults.ExprKind.{ExprKind}
 use Rattle.periodic_expr.specs.declared.faults.ExprKind.TheVariants.{FirstNotAll, NotFiner, ZeroIndex, EmptySet, BadLength}

@@ -1,7 +1,7 @@
 //! What a scan has found of an expression.
 ghost use Rattle.std.specs.Prelude.{◌≡◌, ◌≤◌, ◌&&◌, ◌||◌, not, nat_eq, nat_le, nat_lt, length, option_map, IfOk, is_some, [], Some, None};
 ghost use Rattle.std.specs.List.{list_any, take_while};
-ghost use Rattle.calendar_laws.specs.Valid.{is_below as stands_below, is_same as is_one};
+ghost use Rattle.gtrbac_model.specs.Valid.{is_below as stands_below, is_same as is_one};
 ghost use Rattle.periodic_expr.specs.Sketch.{empty, noted as noted_by, put_in, put_into as puts_into, acted as acts, has_number as numbered, Keeps};
 ghost use Rattle.periodic_expr.specs.Drafts.{seen};
 

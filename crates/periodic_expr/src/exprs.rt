@@ -1,6 +1,6 @@
 //! Expressions that are valid by their type.
 ghost use Rattle.std.specs.Prelude.{◌≡◌, ◌≤◌, IfOk, IsTrue, option_map};
-ghost use Rattle.calendar_laws.specs.Valid.{is_expr, is_period};
+ghost use Rattle.gtrbac_model.specs.Valid.{is_expr, is_period};
 
 use gt_base::{Instant, List, Memory};
 use gtrbac_model::Calendar;
@@ -68,7 +68,7 @@ pub struct Expr {
 impl Model for Expr {
     ghost use Rattle.std.specs.Prelude.{IsTrue};
     ghost use Rattle.gtrbac_model.specs.Period.{Expr as ExprParts, expr_code};
-    ghost use Rattle.calendar_laws.specs.Valid.{is_expr};
+    ghost use Rattle.gtrbac_model.specs.Valid.{is_expr};
 
     ghost Value = { ExprParts };
 

@@ -7,8 +7,8 @@ use Rattle.gt_base.specs.declared.events.Fluent.{Fluent}
 use Rattle.gt_base.specs.contracts.events.FluentOrd.TheImpl.Laws as fluent_laws
 use Rattle.gtrbac_model.specs.Same.{lists, same_fluent}
 use Rattle.indexmap.specs.IndexSet.{insert_key}
-use Rattle.name_table.proofs.SameNames.{any_same}
-use Rattle.policy_forms.specs.Making.{Draft, changed_at, with_new}
+use Rattle.policy_book.proofs.SameNames.{any_same}
+use Rattle.policy_words.specs.Making.{Draft, changed_at, with_new}
 
 -- drafts with the same parts are equal
 pub same_draft : {a b : Draft} → a.periods ≡ b.periods → a.limits ≡ b.limits → a.edges ≡ b.edges → a.caps ≡ b.caps → a.admins ≡ b.admins → a.on_at_first ≡ b.on_at_first

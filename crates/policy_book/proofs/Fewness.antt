@@ -5,39 +5,40 @@ use Rattle.std.proofs.lemmas.List.Quantifiers.{position-Some}
 use Rattle.gt_base.specs.Names.{place_of}
 use Rattle.gt_base.specs.declared.policies.HierEdge.{HierEdge}
 use Rattle.gtrbac_model.specs.Graph.{item_at}
-use Rattle.hierarchy_cycle.specs.Nets.{HasRoles, AreWithin}
-use Rattle.name_table.specs.Tables.{lists_name, with_name}
+use Rattle.policy_book.specs.Nets.{HasRoles, AreWithin}
+use Rattle.gt_base.specs.Names.{lists_name, with_name}
 use Rattle.policy_words.specs.Sayings.{Saying, version, role, user, perm, period, limit, edge, cap, admin, opening, entry, trigger}
 use Rattle.policy_words.specs.Reading.{Numbered}
-use Rattle.policy_forms.specs.Naming.{Names}
-use Rattle.policy_forms.specs.Making.{Draft, naming, names_in, names_of, no_names, with_item, edge_said, adding, drafted}
-use Rattle.policy_forms.specs.Book.{said_in, edges_at}
-use Rattle.std.specs.List.{cons_option}
+use Rattle.policy_words.specs.Naming.{Names, same_pair}
+use Rattle.policy_words.specs.Making.{Draft, naming, names_in, names_of, no_names, with_item, edge_said, adding, drafted}
+use Rattle.policy_words.specs.Book.{said_in, edges_at}
+use Rattle.std.specs.List.{cons_option, list_any}
 use Rattle.policy_book.specs.Numbers.{AreFew}
 
 -- names
 
+with_one_few : {A : Type 0} (b : Bool) (xs : List A) (x : A) (most : ℕ) → length xs ≤ most → length (cond b xs (xs ++ x ∷ [])) ≤ most + 1
+with_one_few true xs x most h = omega arith
+with_one_few false xs x most h = omega (arith, length-append xs (x ∷ []))
+
 with_name_few : (ns : List (List ℕ)) (n : List ℕ) (most : ℕ) → length ns ≤ most → length (with_name ns n) ≤ most + 1
-with_name_few ns n most h = go (lists_name ns n)
-  where
-    go : (b : Bool) → length (cond b ns (ns ++ n ∷ [])) ≤ most + 1
-    go true = omega arith
-    go false = omega (arith, length-append ns (n ∷ []))
+with_name_few ns n most h = with_one_few (lists_name ns n) ns n most h
 
 up : {a b : ℕ} → a ≤ b → a ≤ b + 1
 up h = omega arith
 
 wider : {most : ℕ} {ns : Names} → AreFew most ns → AreFew (most + 1) ns
-wider few = record { roles = up few.roles; users = up few.users; perms = up few.perms; periods = up few.periods; limits = up few.limits }
+wider few = record { roles = up few.roles; users = up few.users; perms = up few.perms; periods = up few.periods; limits = up few.limits; edges = up few.edges }
 
 naming_few : (most : ℕ) (ns : Names) (s : Saying) → AreFew most ns → AreFew (most + 1) (naming ns s)
-naming_few most ns (role n) few = record { roles = with_name_few ns.roles n most few.roles; users = up few.users; perms = up few.perms; periods = up few.periods; limits = up few.limits }
-naming_few most ns (user n) few = record { roles = up few.roles; users = with_name_few ns.users n most few.users; perms = up few.perms; periods = up few.periods; limits = up few.limits }
-naming_few most ns (perm n) few = record { roles = up few.roles; users = up few.users; perms = with_name_few ns.perms n most few.perms; periods = up few.periods; limits = up few.limits }
-naming_few most ns (period n first last e) few = record { roles = up few.roles; users = up few.users; perms = up few.perms; periods = with_name_few ns.periods n most few.periods; limits = up few.limits }
-naming_few most ns (limit n prio c longest during) few = record { roles = up few.roles; users = up few.users; perms = up few.perms; periods = up few.periods; limits = with_name_few ns.limits n most few.limits }
+naming_few most ns (role n) few = record { roles = with_name_few ns.roles n most few.roles; users = up few.users; perms = up few.perms; periods = up few.periods; limits = up few.limits; edges = up few.edges }
+naming_few most ns (user n) few = record { roles = up few.roles; users = with_name_few ns.users n most few.users; perms = up few.perms; periods = up few.periods; limits = up few.limits; edges = up few.edges }
+naming_few most ns (perm n) few = record { roles = up few.roles; users = up few.users; perms = with_name_few ns.perms n most few.perms; periods = up few.periods; limits = up few.limits; edges = up few.edges }
+naming_few most ns (period n first last e) few = record { roles = up few.roles; users = up few.users; perms = up few.perms; periods = with_name_few ns.periods n most few.periods; limits = up few.limits; edges = up few.edges }
+naming_few most ns (limit n prio c longest during) few = record { roles = up few.roles; users = up few.users; perms = up few.perms; periods = up few.periods; limits = with_name_few ns.limits n most few.limits; edges = up few.edges }
 naming_few most ns (version n) few = wider few
-naming_few most ns (edge kind strong s j) few = wider few
+naming_few most ns (edge kind strong s j) few =
+    record { roles = up few.roles; users = up few.users; perms = up few.perms; periods = up few.periods; limits = up few.limits; edges = with_one_few (list_any (same_pair (s, j)) ns.edges) ns.edges (s, j) most few.edges }
 naming_few most ns (cap kind r n) few = wider few
 naming_few most ns (admin u) few = wider few
 naming_few most ns (opening f) few = wider few
@@ -46,14 +47,14 @@ naming_few most ns (trigger items h d) few = wider few
 
 names_few : (n most : ℕ) (ns : Names) (ss : List (Numbered Saying)) → AreFew n ns → n + length ss ≤ most → AreFew most (names_in ns (said_in ss))
 names_few n most ns [] few h =
-    record { roles = far few.roles; users = far few.users; perms = far few.perms; periods = far few.periods; limits = far few.limits }
+    record { roles = far few.roles; users = far few.users; perms = far few.perms; periods = far few.periods; limits = far few.limits; edges = far few.edges }
   where
     far : {a : ℕ} → a ≤ n → a ≤ most
     far k = omega (arith, h)
 names_few n most ns (s ∷ ss) few h = names_few (n + 1) most (naming ns s.it) ss (naming_few n ns s.it few) (omega arith)
 
 pub few_names : (most : ℕ) (ss : List (Numbered Saying)) → length ss ≤ most → AreFew most (names_of (said_in ss))
-few_names most ss h = names_few 0 most no_names ss (record { roles = omega arith; users = omega arith; perms = omega arith; periods = omega arith; limits = omega arith }) (omega (arith, h))
+few_names most ss h = names_few 0 most no_names ss (record { roles = omega arith; users = omega arith; perms = omega arith; periods = omega arith; limits = omega arith; edges = omega arith }) (omega (arith, h))
 
 -- edges
 

@@ -1,18 +1,18 @@
 -- From the names, the faults and the draft of all lines to what they build.
-use Rattle.std.proofs.Common.{◌≡◌, ℕ, List, [], Option, Some, None, Ok, Err, sym, subst, ap, ◌∙◌}
+use Rattle.std.proofs.Common.{◌≡◌, ℕ, Bool, List, [], Option, Some, None, Ok, Err, sym, subst, ap, ◌∙◌}
 use Rattle.std.specs.Prelude.{option_map}
 use Rattle.std.proofs.lemmas.List.Sums.{AllPass-from_list_all}
 use Rattle.gt_base.specs.declared.events.UserId.{UserId}
 use Rattle.gt_base.specs.declared.policies.HierEdge.{HierEdge}
 use Rattle.gt_base.specs.Happening.{Fluents}
-use Rattle.hierarchy_cycle.specs.Cycles.{edge_cycle}
+use Rattle.gtrbac_model.specs.EdgeCycles.{edge_cycle}
 use Rattle.policy_words.specs.Reading.{Numbered}
 use Rattle.policy_words.specs.Sayings.{Saying, is_saying}
-use Rattle.policy_forms.specs.Naming.{Names, NamedPolicy}
-use Rattle.policy_forms.specs.Making.{Draft as Making, names_of, fresh, drafted, named_policy, policy_of}
-use Rattle.policy_forms.specs.Book.{BookTrouble, unknown, twice, many, cycle, edges_at, said_in, first_trouble, without_cycle, without_trouble, build}
-use Rattle.policy_forms.specs.Valid.{IsWellFormed}
-use Rattle.policy_laws.specs.Laws.{BuildIsWellFormed}
+use Rattle.policy_words.specs.Naming.{Names, NamedPolicy}
+use Rattle.policy_words.specs.Making.{Draft as Making, names_of, fresh, drafted, are_second, named_policy, policy_of}
+use Rattle.policy_words.specs.Book.{BookTrouble, unknown, twice, many, cycle, edges_at, said_in, first_trouble, without_cycle, without_trouble, build}
+use Rattle.policy_words.specs.Valid.{IsWellFormed}
+use Rattle.policy_book.specs.Laws.{BuildIsWellFormed}
 use Rattle.policy_book.specs.declared.faults.BookFault.{BookFault}
 use Rattle.policy_book.specs.declared.faults.BookFault.TheVariants.{Unknown, Twice, TooMany, HierarchyCycle, Memory}
 use Rattle.policy_book.specs.Said.{AreParts}
@@ -28,19 +28,23 @@ module _ (ss : List (Numbered Saying)) where
   abbrev pub IsWhole : Names → Making → Type 0
   IsWhole ns d = d ≡ drafted ns (fresh ns) (said_in ss)
 
-  whole_policy : (ns : Names) (d : Making) → ns ≡ all_names → IsWhole ns d → made_policy ns d ≡ named_policy (said_in ss)
-  whole_policy ns d named whole = ap (made_policy ns) whole ∙ ap (λ ms. made_policy ms (drafted ms (fresh ms) (said_in ss))) named
+  -- they have version 2, or else 1
+  abbrev second : Bool
+  second = are_second (said_in ss)
+
+  whole_policy : (ns : Names) (d : Making) → ns ≡ all_names → IsWhole ns d → made_policy ns second d ≡ named_policy (said_in ss)
+  whole_policy ns d named whole = ap (made_policy ns second) whole ∙ ap (λ ms. made_policy ms second (drafted ms (fresh ms) (said_in ss))) named
 
   no_trouble : (ns : Names) → ns ≡ all_names → first_trouble ns [] ss ≡ None → build ss ≡ without_cycle (named_policy (said_in ss)) (edge_cycle (named_policy (said_in ss)).policy.edges)
   no_trouble ns named none =
       ap (λ o. without_trouble o (named_policy (said_in ss))) (ap (λ ms. first_trouble ms [] ss) (sym named) ∙ none)
 
-  pub built : (ns : Names) (d : Making) → ns ≡ all_names → first_trouble ns [] ss ≡ None → IsWhole ns d → edge_cycle d.edges ≡ None → build ss ≡ Ok (made_policy ns d)
+  pub built : (ns : Names) (d : Making) → ns ≡ all_names → first_trouble ns [] ss ≡ None → IsWhole ns d → edge_cycle d.edges ≡ None → build ss ≡ Ok (made_policy ns (are_second (said_in ss)) d)
   built ns d named none whole open_ended =
       let same = whole_policy ns d named whole in
       no_trouble ns named none
       ∙ ap (λ np. without_cycle np (edge_cycle np.policy.edges)) (sym same)
-      ∙ ap (without_cycle (made_policy ns d)) open_ended
+      ∙ ap (without_cycle (made_policy ns second d)) open_ended
 
   of_trouble : (ns : Names) (t : BookTrouble) → ns ≡ all_names → first_trouble ns [] ss ≡ Some t → build ss ≡ Err t
   of_trouble ns t named some = ap (λ o. without_trouble o (named_policy (said_in ss))) (ap (λ ms. first_trouble ms [] ss) (sym named) ∙ some)
@@ -60,7 +64,7 @@ module _ (ss : List (Numbered Saying)) where
   cycle_fault ns d (HierarchyCycle es names) named none whole is = (
     no_trouble ns named none
         ∙ ap (λ np. without_cycle np (edge_cycle np.policy.edges)) (sym (whole_policy ns d named whole))
-        ∙ of_cycle (made_policy ns d) (edge_cycle d.edges) es.items is.0,
+        ∙ of_cycle (made_policy ns second d) (edge_cycle d.edges) es.items is.0,
     subst (λ ms. names.items ≡ seniors ms es.items) named is.1,
   )
   cycle_fault ns d Memory named none whole is = tt
@@ -72,6 +76,6 @@ pub is_well_formed : BuildIsWellFormed → (ss : List (Numbered Saying)) (np : N
 is_well_formed law ss np parts is = law ss np (AllPass-from_list_all (λ s. is_saying s.it) ss parts.said) is
 
 -- the parts of a policy that are kept apart from the draft's
-pub same_policy : (ns : Names) (d : Making) (as' : List UserId) (on : Fluents) → as' ≡ (policy_of ns d).admins → on ≡ (policy_of ns d).opening
-    → ◌≡◌ {A = NamedPolicy} (record { names = ns; policy = record (policy_of ns d) { admins = as'; opening = on } }) (made_policy ns d)
-same_policy ns d as' on p q = λ i. record { names = ns; policy = record (policy_of ns d) { admins = p i; opening = q i } }
+pub same_policy : (ns : Names) (second : Bool) (d : Making) (as' : List UserId) (on : Fluents) → as' ≡ (policy_of ns second d).admins → on ≡ (policy_of ns second d).opening
+    → ◌≡◌ {A = NamedPolicy} (record { names = ns; policy = record (policy_of ns second d) { admins = as'; opening = on } }) (made_policy ns second d)
+same_policy ns second d as' on p q = λ i. record { names = ns; policy = record (policy_of ns second d) { admins = p i; opening = q i } }

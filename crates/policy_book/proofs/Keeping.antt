@@ -3,7 +3,7 @@ use Rattle.std.proofs.Common.{◌≡◌, ℕ, ◌+◌, ◌<◌, ◌≤◌, true,
 use Rattle.std.proofs.lemmas.List.Folds.{list_all-append}
 use Rattle.policy_words.specs.Sayings.{Saying, is_saying}
 use Rattle.policy_words.specs.Reading.{Numbered}
-use Rattle.policy_book.specs.Said.{AreParts, are_before, rise_from}
+use Rattle.policy_book.specs.Said.{AreParts, are_before, rise_from, follows, is_placed, are_placed}
 use Rattle.policy_book.proofs.Truth.{both, parted}
 
 rise_added : (n : ℕ) (ss : List (Numbered Saying)) (s : Numbered Saying) → rise_from n ss ≡ true → are_before s.line ss ≡ true → n ≤ s.line → rise_from n (ss ++ s ∷ []) ≡ true
@@ -13,12 +13,19 @@ rise_added n (x ∷ ss) s r b le =
     let before = parted _ _ b in
     both _ _ rising.0 (rise_added (x.line + 1) ss s rising.1 before.1 (let below = ltb-true x.line s.line before.0 in omega arith))
 
-pub one_more : (ss : List (Numbered Saying)) (s : Numbered Saying) → AreParts ss → is_saying s.it ≡ true → are_before s.line ss ≡ true → length ss < 4_294_967_295
+placed_added : (ss : List (Numbered Saying)) (s : Numbered Saying) → are_placed ss ≡ true → is_placed ss s.it ≡ true → are_placed (ss ++ s ∷ []) ≡ true
+placed_added [] s all this = both _ _ this refl
+placed_added (first ∷ more) s all this =
+    let parts = parted _ _ all in
+    both _ _ parts.0 (list_all-append (λ x. follows first.it x.it) more (s ∷ []) ∙ both _ _ parts.1 (both _ _ this refl))
+
+pub one_more : (ss : List (Numbered Saying)) (s : Numbered Saying) → AreParts ss → is_saying s.it ≡ true → are_before s.line ss ≡ true → is_placed ss s.it ≡ true → length ss < 4_294_967_295
     → AreParts (ss ++ s ∷ [])
-one_more ss s keeps said before few =
+one_more ss s keeps said before placed few =
     record {
       said = list_all-append (λ x. is_saying x.it) ss (s ∷ []) ∙ both _ _ keeps.said (both _ _ said refl);
       rise = rise_added 0 ss s keeps.rise before (omega arith);
+      placed = placed_added ss s keeps.placed placed;
       few = omega (arith, length-append ss (s ∷ []));
     }
 

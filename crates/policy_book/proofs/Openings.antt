@@ -10,8 +10,10 @@ use Rattle.gt_base.specs.contracts.events.FluentOrd.TheImpl.Laws as fluent_laws
 use Rattle.gt_base.proofs.SetLaws.{has-none, has-with_member, has-set_of}
 use Rattle.gt_base.proofs.SetSteps.{fluent_cmp_total}
 use Rattle.gt_base.proofs.SetsAreSets.{fluents_are_sets}
-use Rattle.name_table.proofs.SameNames.{any_same}
-use Rattle.policy_forms.specs.Making.{users_from}
+use Rattle.policy_book.proofs.SameNames.{any_same}
+use Rattle.policy_words.specs.Making.{users_from, edges_from}
+use Rattle.gt_base.specs.declared.events.Fluent.TheVariants as fluents
+use Rattle.std.proofs.lemmas.List.Folds.{list_any-append}
 
 -- administrators
 
@@ -58,19 +60,30 @@ has-with_all s (f ∷ fs) x =
     ∙ ap (λ b. list_any (eq_by_cmp fluent_cmp x) fs || b) (has-with_member fluent_cmp_total s f x)
     ∙ or_turned (list_any (eq_by_cmp fluent_cmp x) fs) (eq_by_cmp fluent_cmp x f) (has s x)
 
--- to add them one after the other is to take their set
-pub all_are_set : (fs : List Fluent) → with_all none fs ≡ set_of fs
-all_are_set fs =
+-- to add them one after the other, and then others, is to take their set
+pub all_are_set : (fs es : List Fluent) → with_all (with_all none fs) es ≡ set_of (es ++ fs)
+all_are_set fs es =
     fluents_are_sets.same _ _ (λ x.
-    has-with_all none fs x
-    ∙ ap (λ b. list_any (eq_by_cmp fluent_cmp x) fs || b) (has-none fluent_cmp x)
-    ∙ or_false (list_any (eq_by_cmp fluent_cmp x) fs)
-    ∙ sym (has-set_of fluent_cmp_total fs x))
+    has-with_all (with_all none fs) es x
+    ∙ ap (λ b. list_any (eq_by_cmp fluent_cmp x) es || b)
+    (has-with_all none fs x ∙ ap (λ b. list_any (eq_by_cmp fluent_cmp x) fs || b) (has-none fluent_cmp x) ∙ or_false (list_any (eq_by_cmp fluent_cmp x) fs))
+    ∙ sym (list_any-append (eq_by_cmp fluent_cmp x) es fs)
+    ∙ sym (has-set_of fluent_cmp_total (es ++ fs) x))
+
+-- one edge more is linked
+pub edges_step : (n edges : ℕ) → n < edges → edges_from n (edges - n) ≡ fluents.Edge n ∷ edges_from (n + 1) (edges - (n + 1))
+edges_step n edges h = subst (λ k. edges_from n k ≡ fluents.Edge n ∷ edges_from (n + 1) (edges - (n + 1))) (sym one_less) refl
+  where
+    one_less : edges - n ≡ suc (edges - (n + 1))
+    one_less = omega (arith, h)
 
 by_order : (x : Fluent) (fs : List Fluent) → list_any (fluent_eq x) fs ≡ list_any (eq_by_cmp fluent_cmp x) fs
 by_order x fs = any_same _ _ (λ g. fluent_laws.matches_eq-law x g) fs
 
--- in another order their set is the same
-pub reordered_set : (fs gs : List Fluent) → ((x : Fluent) → list_any (fluent_eq x) gs ≡ list_any (fluent_eq x) fs) → ◌≡◌ {A = SetOf fluent_cmp} (set_of gs) (set_of fs)
-reordered_set fs gs same =
-    fluents_are_sets.same _ _ (λ x. has-set_of fluent_cmp_total gs x ∙ sym (by_order x gs) ∙ same x ∙ by_order x fs ∙ sym (has-set_of fluent_cmp_total fs x))
+has-after : (es fs : List Fluent) (x : Fluent) → has (set_of {R = fluent_cmp} (es ++ fs)) x ≡ (list_any (fluent_eq x) es || list_any (fluent_eq x) fs)
+has-after es fs x = has-set_of fluent_cmp_total (es ++ fs) x ∙ sym (by_order x (es ++ fs)) ∙ list_any-append (fluent_eq x) es fs
+
+-- in another order their set, after others, is the same
+pub reordered_set : (es fs gs : List Fluent) → ((x : Fluent) → list_any (fluent_eq x) gs ≡ list_any (fluent_eq x) fs) → ◌≡◌ {A = SetOf fluent_cmp} (set_of (es ++ gs)) (set_of (es ++ fs))
+reordered_set es fs gs same =
+    fluents_are_sets.same _ _ (λ x. has-after es gs x ∙ ap (λ b. list_any (fluent_eq x) es || b) (same x) ∙ sym (has-after es fs x))

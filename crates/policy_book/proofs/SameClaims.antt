@@ -2,13 +2,13 @@
 use Rattle.std.proofs.Common.{◌≡◌, Some, cond, Bool, ◌&&◌, List, [], ◌∷◌, ◌++◌, refl, ap}
 use Rattle.std.specs.List.{list_any}
 use Rattle.gtrbac_model.specs.Same.{lists}
-use Rattle.name_table.proofs.SameNames.{same_names, any_same}
-use Rattle.policy_forms.specs.declared.claims.Claim.{Claim}
-use Rattle.policy_forms.specs.declared.claims.Claim.TheVariants as claims
-use Rattle.policy_forms.specs.Making.{with_new}
-use Rattle.policy_forms.specs.Book.{same_claim}
+use Rattle.policy_book.proofs.SameNames.{same_names, any_same}
+use Rattle.policy_words.specs.declared.claims.Claim.{Claim}
+use Rattle.policy_words.specs.declared.claims.Claim.TheVariants as claims
+use Rattle.policy_words.specs.Making.{with_new}
+use Rattle.policy_words.specs.Book.{same_claim}
 use Rattle.indexmap.specs.IndexSet.{insert_key}
-use Rattle.policy_forms.specs.contracts.claims.ClaimPartialEq.TheImpl.{eq-value}
+use Rattle.policy_words.specs.contracts.claims.ClaimPartialEq.TheImpl.{eq-value}
 
 -- what the derived `==` computes
 abbrev pub claim_eq : Claim → Claim → Bool

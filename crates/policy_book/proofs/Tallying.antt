@@ -4,16 +4,16 @@ use Rattle.std.specs.Prelude.{option_map, bytes_eq, nat_le}
 use Rattle.std.specs.List.{list_any}
 use Rattle.std.proofs.lemmas.List.Folds.{list_any-append}
 use Rattle.gtrbac_model.specs.Same.{lists}
-use Rattle.name_table.proofs.SameNames.{one_name, same_names}
+use Rattle.policy_book.proofs.SameNames.{one_name, same_names}
 use Rattle.policy_words.specs.declared.sayings.Kind.{Kind}
 use Rattle.policy_words.specs.declared.sayings.Kind.TheVariants as kinds
 use Rattle.policy_words.specs.Sayings.{Saying}
 use Rattle.policy_words.specs.Reading.{Numbered}
-use Rattle.policy_forms.specs.declared.claims.Claim.{Claim}
-use Rattle.policy_forms.specs.declared.claims.Claim.TheVariants as claims
-use Rattle.policy_forms.specs.Naming.{Names}
-use Rattle.policy_forms.specs.Making.{with_new}
-use Rattle.policy_forms.specs.Book.{BookTrouble, unknown, twice, is_known, claim_of, same_claim, is_claimed_by, is_claimed_again, may_be_again, kind_of, most_of, same_kind, count_of, many_of, many_at, line_trouble, first_trouble}
+use Rattle.policy_words.specs.declared.claims.Claim.{Claim}
+use Rattle.policy_words.specs.declared.claims.Claim.TheVariants as claims
+use Rattle.policy_words.specs.Naming.{Names}
+use Rattle.policy_words.specs.Making.{with_new}
+use Rattle.policy_words.specs.Book.{BookTrouble, unknown, twice, is_known, claim_of, same_claim, is_claimed_by, is_claimed_again, may_be_again, kind_of, most_of, same_kind, count_of, many_of, many_at, line_trouble, first_trouble}
 use Rattle.policy_book.specs.declared.tallies.Counts.{Counts}
 use Rattle.policy_book.specs.declared.tallies.Trouble.{Trouble}
 use Rattle.policy_book.specs.declared.tallies.Trouble.TheVariants.{Unknown, Twice, TooMany}
@@ -82,7 +82,7 @@ claims_step cs (Some d) c = go (lists same_claim cs d) refl
 
 -- counts
 
-same_itself : (k : Kind) → same_kind k k ≡ true
+pub same_itself : (k : Kind) → same_kind k k ≡ true
 same_itself kinds.Roles = refl
 same_itself kinds.Users = refl
 same_itself kinds.Perms = refl

@@ -1,9 +1,9 @@
 -- The cycle of edges that lines give, with its names.
 use Rattle.std.specs.Prelude.{◌≡◌, List, Option, Some, option_map}
 use Rattle.gt_base.specs.declared.policies.HierEdge.{HierEdge}
-use Rattle.hierarchy_cycle.specs.Cycles.{edge_cycle}
-use Rattle.policy_forms.specs.Naming.{Names}
-use Rattle.policy_forms.specs.Book.{edges_at}
+use Rattle.gtrbac_model.specs.EdgeCycles.{edge_cycle}
+use Rattle.policy_words.specs.Naming.{Names}
+use Rattle.policy_words.specs.Book.{edges_at}
 use Rattle.policy_book.specs.declared.faults.BookFault.{BookFault}
 use Rattle.policy_book.specs.declared.faults.BookFault.TheVariants.{HierarchyCycle, Memory}
 use Rattle.policy_book.specs.Faults.{seniors}

@@ -1,6 +1,7 @@
 -- What a contract sees of a policy in the making.
-use Rattle.policy_forms.specs.Naming.{Names, NamedPolicy}
-use Rattle.policy_forms.specs.Making.{Draft as Making, policy_of}
+use Rattle.std.specs.Prelude.{Bool}
+use Rattle.policy_words.specs.Naming.{Names, NamedPolicy}
+use Rattle.policy_words.specs.Making.{Draft as Making, policy_of}
 use Rattle.policy_book.specs.declared.drafts.Draft.{Draft}
 
 abbrev pub seen_draft : Draft → Making
@@ -15,6 +16,6 @@ seen_draft d = record {
   triggers = d.triggers.items;
 }
 
--- the policy that a finished draft makes, with its names
-abbrev pub made_policy : Names → Making → NamedPolicy
-made_policy ns d = record { names = ns; policy = policy_of ns d }
+-- the policy that a finished draft makes in version 2, or else 1, with its names
+abbrev pub made_policy : Names → Bool → Making → NamedPolicy
+made_policy ns second d = record { names = ns; policy = policy_of ns second d }

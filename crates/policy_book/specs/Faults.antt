@@ -3,10 +3,10 @@ use Rattle.std.specs.Prelude.{◌≡◌, ℕ, List, ◌++◌, map, Option, Some,
 use Rattle.policy_words.specs.Sayings.{Saying}
 use Rattle.policy_words.specs.Reading.{Numbered}
 use Rattle.gt_base.specs.declared.policies.HierEdge.{HierEdge}
-use Rattle.policy_forms.specs.Naming.{Names, role_name}
-use Rattle.policy_forms.specs.Making.{names_of}
-use Rattle.policy_forms.specs.Book.{BookTrouble, unknown, twice, many, cycle, said_in, build}
-use Rattle.policy_forms.specs.PolicyRead.{again}
+use Rattle.policy_words.specs.Naming.{Names, role_name}
+use Rattle.policy_words.specs.Making.{names_of}
+use Rattle.policy_words.specs.Book.{BookTrouble, unknown, twice, many, cycle, said_in, build}
+use Rattle.policy_words.specs.PolicyRead.{again}
 use Rattle.policy_book.specs.declared.faults.BookFault.{BookFault}
 use Rattle.policy_book.specs.declared.faults.BookFault.TheVariants.{Unknown, Twice, TooMany, HierarchyCycle, Memory}
 

@@ -7,3 +7,7 @@ pub mod Drafts
 pub mod Cycles
 pub mod Sound
 pub mod Policies
+pub mod Laws
+pub mod Nets
+pub mod Pairs
+pub mod FirstFaults

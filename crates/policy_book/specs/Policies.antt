@@ -1,6 +1,6 @@
 -- What a contract sees of a policy, and what each policy keeps.
 use Rattle.std.specs.Prelude.{length}
-use Rattle.policy_forms.specs.Naming.{NamedPolicy}
+use Rattle.policy_words.specs.Naming.{NamedPolicy}
 use Rattle.policy_book.specs.Seen.{seen_names}
 use Rattle.policy_book.specs.declared.books.Policy.TheInside.{Inside}
 

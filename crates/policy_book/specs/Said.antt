@@ -1,12 +1,14 @@
 -- The lines of a policy that say something, as they are kept.
-use Rattle.std.specs.Prelude.{◌≡◌, ℕ, ◌+◌, Bool, true, ◌&&◌, List, [], ◌∷◌, length, nat_le, nat_lt, ◌≤◌, IsTrue, refl}
+use Rattle.std.specs.Prelude.{◌≡◌, ℕ, ◌+◌, Bool, true, false, not, ◌&&◌, List, [], ◌∷◌, length, nat_le, nat_lt, ◌≤◌, IsTrue, refl}
 use Rattle.std.specs.List.{list_all}
 use Rattle.std.specs.Coded.{Coded, code_by, coded×, coded_ℕ}
 use Rattle.policy_words.specs.contracts.sayings.Said as said
 use Rattle.policy_words.specs.declared.sayings.Said.{Said}
 use Rattle.policy_words.specs.declared.sayings.Said.TheVariants.{Version, Role, User, Perm, Period, Limit, Edge, Cap, Admin, Opening, Entry, When}
-use Rattle.policy_words.specs.Sayings.{Saying, version, role, user, perm, period, limit, edge, cap, admin, opening, entry, trigger, is_saying}
+use Rattle.policy_words.specs.Sayings.{Saying, version, role, user, perm, period, limit, edge, cap, admin, opening, entry, trigger, is_saying, names_edge}
 use Rattle.policy_words.specs.Reading.{Numbered}
+use Rattle.policy_words.specs.Versions.{is_allowed}
+use Rattle.policy_words.specs.Making.{is_second}
 use Rattle.policy_words.specs.Seen.{seen_said}
 
 -- a saying is stored as a line's, whose list has no room
@@ -56,8 +58,26 @@ rise_from n (s ∷ ss) = nat_le n s.line && rise_from (s.line + 1) ss
 abbrev pub are_sayings : List (Numbered Saying) → Bool
 are_sayings ss = list_all (λ s. is_saying s.it) ss
 
+abbrev pub is_version : Saying → Bool
+is_version (version n) = true
+is_version _ = false
+
+-- a line after the first has no version, and names an edge only where the first has version 2
+abbrev pub follows : Saying → Saying → Bool
+follows first s = not (is_version s) && is_allowed (is_second first) s
+
+-- the saying may stand after these
+abbrev pub is_placed : List (Numbered Saying) → Saying → Bool
+is_placed [] s = not (names_edge s)
+is_placed (first ∷ more) s = follows first.it s
+
+abbrev pub are_placed : List (Numbered Saying) → Bool
+are_placed [] = true
+are_placed (first ∷ more) = not (names_edge first.it) && list_all (λ s. follows first.it s.it) more
+
 -- what the lines kept for a policy keep
 pub record AreParts (ss : List (Numbered Saying)) : Type 0 where
   pub said : IsTrue (are_sayings ss)
   pub rise : IsTrue (rise_from 0 ss)
+  pub placed : IsTrue (are_placed ss)
   pub few : length ss ≤ 4_294_967_295

@@ -5,10 +5,10 @@ use Rattle.policy_words.specs.declared.sayings.Kind.{Kind}
 use Rattle.policy_words.specs.declared.sayings.Kind.TheVariants as kinds
 use Rattle.policy_words.specs.Sayings.{Saying}
 use Rattle.policy_words.specs.Reading.{Numbered}
-use Rattle.policy_forms.specs.declared.claims.Claim.{Claim}
-use Rattle.policy_forms.specs.Naming.{Names}
-use Rattle.policy_forms.specs.Making.{with_new}
-use Rattle.policy_forms.specs.Book.{BookTrouble, unknown, twice, many, is_known, claim_of, same_claim, may_be_again, kind_of, most_of}
+use Rattle.policy_words.specs.declared.claims.Claim.{Claim}
+use Rattle.policy_words.specs.Naming.{Names}
+use Rattle.policy_words.specs.Making.{with_new}
+use Rattle.policy_words.specs.Book.{BookTrouble, unknown, twice, many, is_known, claim_of, same_claim, may_be_again, kind_of, most_of}
 use Rattle.policy_book.specs.declared.tallies.Counts.{Counts}
 use Rattle.policy_book.specs.declared.tallies.Tally.{Tally}
 use Rattle.policy_book.specs.declared.tallies.Trouble.{Trouble}

@@ -1,22 +1,24 @@
 //! Policies.
-ghost use Rattle.std.specs.Prelude.{◌≡◌, ◌<◌, length, slice_get, Some, Ok, IfOk, IfErr};
-ghost use Rattle.policy_forms.specs.Naming.{role_of, user_of, perm_of, period_of, limit_of};
-ghost use Rattle.policy_forms.specs.Valid.{IsWellFormed};
-ghost use Rattle.policy_forms.specs.Book.{build};
+ghost use Rattle.std.specs.Prelude.{◌≡◌, ◌<◌, ◌≤◌, length, position, slice_get, Some, Ok, IfOk, IfErr};
+ghost use Rattle.policy_words.specs.Naming.{role_of, user_of, perm_of, period_of, limit_of, event_of, cond_of, head_of};
+ghost use Rattle.policy_words.specs.Valid.{IsWellFormed};
+ghost use Rattle.policy_words.specs.Book.{build};
 ghost use Rattle.policy_book.specs.Faults.{IsFault};
+ghost use Rattle.policy_book.specs.Pairs.{joins_pair};
 ghost use Rattle.gtrbac_model.specs.Same.{lists, same_user};
 
-use crate::building::sound_draft;
+use crate::building::{are_second, sound_draft};
 use crate::copying::{copied_periods, copied_triggers};
 use crate::faults::BookFault;
 use crate::finishing::finished;
 use crate::lines::Parts;
 use crate::names::{NameTables, names_in};
 use gt_base::{
-    Caps, HierEdge, LimitId, LimitRule, List, Memory, Name, PeriodId, PeriodicEntry, PermId,
-    RoleId, Status, Trigger, UserId,
+    Caps, Cond, Event, HierEdge, LimitId, LimitRule, List, Memory, Name, PeriodId, PeriodicEntry,
+    PermId, Prioritised, RoleId, Status, Trigger, UserId,
 };
 use periodic_expr::Period;
+use policy_words::{NamedCond, NamedEvent, NamedHead};
 use std::alloc::Global;
 use std::marker::Model;
 
@@ -37,13 +39,13 @@ pub struct Policy {
 }
 
 impl Model for Policy {
-    ghost use Rattle.policy_forms.specs.Naming.{NamedPolicy, named_policy_code};
+    ghost use Rattle.policy_words.specs.Naming.{NamedPolicy, named_policy_code};
 
     ghost Value = { NamedPolicy };
 
     ghost coded = { named_policy_code };
 
-    ghost use Rattle.policy_forms.specs.Valid.{IsWellFormed};
+    ghost use Rattle.policy_words.specs.Valid.{IsWellFormed};
     ghost use Rattle.policy_book.specs.Policies.{seen_policy};
 
     ghost view = { seen_policy };
@@ -76,8 +78,9 @@ impl Policy {
     {
         let parts = parts.parts;
         let names = names_in(alloc, &parts)?;
+        let second = are_second(&parts);
         match sound_draft(alloc, &names, parts) {
-            Ok(draft) => Ok(finished(alloc, names, draft)?),
+            Ok(draft) => Ok(finished(alloc, names, second, draft)?),
             Err(fault) => Err(fault),
         }
     }
@@ -144,6 +147,27 @@ impl Policy {
         self.names.limit(n)
     }
 
+    /// The event in numbers, none exactly where no line declares a name of it.
+    pub fn event(&self, e: &NamedEvent) -> Option<Event>
+        ensures { result ≡ event_of self.now.names e.now }
+    {
+        self.names.event(e)
+    }
+
+    /// The condition in numbers, none exactly where no line declares a name of it.
+    pub fn cond(&self, c: &NamedCond) -> Option<Cond>
+        ensures { result ≡ cond_of self.now.names c.now }
+    {
+        self.names.cond(c)
+    }
+
+    /// The prioritised event in numbers, none exactly where no line declares a name of it.
+    pub fn head(&self, h: &NamedHead) -> Option<Prioritised>
+        ensures { result ≡ head_of self.now.names h.now }
+    {
+        self.names.head(h)
+    }
+
     /// The name of a role of the policy.
     pub fn role_name(&self, r: RoleId) -> Name
         requires { r.0 < length self.now.names.roles }
@@ -190,6 +214,20 @@ impl Policy {
         ensures { slice_get self.now.policy.periods p.0 ≡ Some result.now }
     {
         &self.periods.as_slice()[p.0 as usize]
+    }
+
+    /// The periods, by number.
+    pub fn periods(&self) -> &List<Period>
+        ensures { result.now.items ≡ self.now.policy.periods }
+    {
+        &self.periods
+    }
+
+    /// The number of the edge from a senior to a junior, none exactly where no edge has that ordered pair.
+    pub fn edge_between(&self, senior: RoleId, junior: RoleId) -> Option<u32>
+        ensures { result ≡ position (joins_pair senior junior) self.now.policy.edges }
+    {
+        number_between(self.edges.as_slice(), senior, junior)
     }
 
     /// The periodic entries, in the order of their lines.
@@ -295,4 +333,29 @@ fn is_same(a: UserId, u: UserId) -> bool
     ensures { result ≡ same_user u a }
 {
     a.0 == u.0
+}
+
+/// Whether the edge is from the senior to the junior.
+fn joins(edge: &HierEdge, senior: RoleId, junior: RoleId) -> bool
+    ensures { result ≡ joins_pair senior junior edge.now }
+{
+    edge.senior.0 == senior.0 && edge.junior.0 == junior.0
+}
+
+/// The place of the first edge from the senior to the junior.
+fn place_between(edges: &[HierEdge], senior: RoleId, junior: RoleId) -> Option<usize>
+    ensures { result ≡ position (joins_pair senior junior) edges.now }
+{
+    edges.iter().position(|edge| joins(edge, senior, junior))
+}
+
+/// The number of the first edge from the senior to the junior.
+fn number_between(edges: &[HierEdge], senior: RoleId, junior: RoleId) -> Option<u32>
+    requires { length edges.now ≤ 4_294_967_295 }
+    ensures { result ≡ position (joins_pair senior junior) edges.now }
+{
+    match place_between(edges, senior, junior) {
+        Some(number) => Some(number as u32),
+        None => None,
+    }
 }

@@ -1,7 +1,8 @@
 //! From lines to what they make, or their first fault.
 ghost use Rattle.std.specs.Prelude.{◌≡◌, IfOk, IfErr};
-ghost use Rattle.policy_forms.specs.Making.{names_of};
-ghost use Rattle.policy_forms.specs.Book.{said_in};
+ghost use Rattle.policy_words.specs.Making.{names_of, is_second as second, are_second as have_second};
+ghost use Rattle.policy_words.specs.Seen.{seen_said};
+ghost use Rattle.policy_words.specs.Book.{said_in};
 ghost use Rattle.policy_book.specs.Said.{AreParts};
 ghost use Rattle.policy_book.specs.Seen.{seen_names};
 ghost use Rattle.policy_book.specs.Drafts.{seen_draft};
@@ -14,7 +15,27 @@ use crate::faults::BookFault;
 use crate::lines::Part;
 use crate::names::NameTables;
 use crate::troubles::check_lines;
+use policy_words::Said;
 use std::alloc::Global;
+
+/// Whether the line tells version 2.
+fn is_second(said: &Said) -> bool
+    ensures { result ≡ second (seen_said said.now) }
+{
+    matches!(said, Said::Version(2))
+}
+
+/// Whether the lines have version 2.
+pub(crate) fn are_second(parts: &[Part]) -> bool
+    ensures { result ≡ have_second (said_in parts.now) }
+{
+    for part in parts {
+        if is_second(&part.said) {
+            return true;
+        }
+    }
+    false
+}
 
 /// What all lines make, or the first fault of the lines together.
 pub(crate) fn sound_draft(

@@ -18,6 +18,7 @@ impl NameTables {
             perms: self.perms.copied()?,
             periods: self.periods.copied()?,
             limits: self.limits.copied()?,
+            edges: self.edges.copied()?,
         })
     }
 }

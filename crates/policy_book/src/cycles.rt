@@ -1,20 +1,20 @@
 //! The least cycle of edges.
 ghost use Rattle.std.specs.Prelude.{◌≡◌, ◌≤◌, ◌<◌, ◌++◌, length, map, None, OnOk, IfOk, IfErr};
 ghost use Rattle.gtrbac_model.specs.Graph.{item_at};
-ghost use Rattle.hierarchy_cycle.specs.Cycles.{edge_cycle};
-ghost use Rattle.hierarchy_cycle.specs.Nets.{AreWithin};
-ghost use Rattle.policy_forms.specs.Naming.{role_name};
-ghost use Rattle.policy_forms.specs.Book.{edges_at};
-ghost use Rattle.policy_forms.specs.PolicyRead.{again};
+ghost use Rattle.gtrbac_model.specs.EdgeCycles.{edge_cycle};
+ghost use Rattle.policy_book.specs.Nets.{AreWithin};
+ghost use Rattle.policy_words.specs.Naming.{role_name};
+ghost use Rattle.policy_words.specs.Book.{edges_at};
+ghost use Rattle.policy_words.specs.PolicyRead.{again};
 ghost use Rattle.policy_book.specs.Seen.{seen_names};
 ghost use Rattle.policy_book.specs.Numbers.{AreFew};
 ghost use Rattle.policy_book.specs.Faults.{seniors};
 ghost use Rattle.policy_book.specs.Cycles.{TellsEdges, IsCycleFault};
 
+use crate::cycle_of;
 use crate::faults::BookFault;
 use crate::names::NameTables;
 use gt_base::{HierEdge, List, Memory, Name};
-use hierarchy_cycle::cycle_of;
 use std::alloc::Global;
 
 #[tactic(auto, using(least_walk::proofs::Items::item_get))]

@@ -3,8 +3,8 @@ ghost use Rattle.std.specs.Prelude.{◌≡◌, ◌<◌, [], length, replicate, O
 ghost use Rattle.gtrbac_model.specs.Same.{same_user, same_fluent};
 ghost use Rattle.policy_words.specs.Sayings.{is_saying};
 ghost use Rattle.policy_words.specs.Seen.{seen_said};
-ghost use Rattle.policy_forms.specs.Making.{no_caps, with_cap as capped_by, changed_at, with_item, with_new, with_caps_said, fresh, adding, drafted};
-ghost use Rattle.policy_forms.specs.Book.{said_in};
+ghost use Rattle.policy_words.specs.Making.{no_caps, with_cap as capped_by, changed_at, with_item, with_new, with_caps_said, fresh, adding, drafted};
+ghost use Rattle.policy_words.specs.Book.{said_in};
 ghost use Rattle.policy_book.specs.Said.{are_sayings};
 ghost use Rattle.policy_book.specs.Seen.{seen_names};
 ghost use Rattle.policy_book.specs.Numbers.{AreFew};

@@ -1,9 +1,9 @@
 //! From what the lines make to the policy.
-ghost use Rattle.std.specs.Prelude.{◌≡◌, ◌≤◌, filter, length, IfOk};
+ghost use Rattle.std.specs.Prelude.{◌≡◌, ◌≤◌, ◌++◌, filter, length, IfOk};
 ghost use Rattle.gt_base.specs.Sets.{set_of};
 ghost use Rattle.gtrbac_model.specs.Same.{lists, same_user};
-ghost use Rattle.policy_forms.specs.Making.{users_from};
-ghost use Rattle.policy_forms.specs.Valid.{IsWellFormed};
+ghost use Rattle.policy_words.specs.Making.{users_from, edges_from, linked_at_first};
+ghost use Rattle.policy_words.specs.Valid.{IsWellFormed};
 ghost use Rattle.policy_book.specs.Seen.{seen_names};
 ghost use Rattle.policy_book.specs.Numbers.{AreFew};
 ghost use Rattle.policy_book.specs.Drafts.{seen_draft, made_policy};
@@ -11,7 +11,7 @@ ghost use Rattle.policy_book.specs.Drafts.{seen_draft, made_policy};
 use crate::books::Policy;
 use crate::drafts::Draft;
 use crate::names::NameTables;
-use gt_base::{Fluent, List, Memory, Status, UserId};
+use gt_base::{Fluent, HierEdge, List, Memory, Status, UserId};
 use indexmap::IndexSet;
 use std::alloc::Global;
 
@@ -35,36 +35,64 @@ fn admins_of(alloc: Global, users: u32, admins: &IndexSet<UserId>) -> Result<Vec
     Ok(found)
 }
 
-/// The status in which these fluents are on, which rise so that each goes in at the end.
-#[tactic(auto, using(crate::proofs::Openings::all_are_set))]
-fn status_of(alloc: Global, fluents: &[Fluent]) -> Result<Status, Memory>
-    ensures { IfOk result (λ status. status.set ≡ set_of fluents.now) }
+/// The status in which these fluents and the first so many edges are on.
+fn status_of(alloc: Global, fluents: &[Fluent], linked: u32) -> Result<Status, Memory>
+    ensures { IfOk result (λ status. status.set ≡ set_of (edges_from 0 linked ++ fluents.now)) }
 {
     let mut status = Status::new(alloc);
-    status.reserve(fluents.len())?;
+    status.reserve(fluents.len() + linked as usize)?;
     for fluent in fluents {
         status.set(*fluent, true);
+    }
+    for edge in 0..linked {
+        status.set(Fluent::Edge(edge), true);
     }
     Ok(status)
 }
 
-/// The status in which these fluents are on.
-fn opening_of(alloc: Global, mut fluents: IndexSet<Fluent>) -> Result<Status, Memory>
-    ensures { IfOk result (λ status. status.set ≡ set_of fluents.keys) }
+/// By what fluents are sorted so that a status takes each at its end: their sort, their role where they have another name
+/// beside it, and their first name.
+fn place(fluent: Fluent) -> (u8, u32, u32) {
+    match fluent {
+        Fluent::Enabled(role) => (0, 0, role.0),
+        Fluent::Assigned(user, role) => (1, role.0, user.0),
+        Fluent::Granted(perm, role) => (2, role.0, perm.0),
+        Fluent::Limit(limit) => (3, 0, limit.0),
+        Fluent::Edge(edge) => (4, 0, edge),
+    }
+}
+
+/// The status in which these fluents and the first so many edges are on, in time n log n.
+fn opening_of(alloc: Global, mut fluents: IndexSet<Fluent>, linked: u32) -> Result<Status, Memory>
+    ensures { IfOk result (λ status. status.set ≡ set_of (edges_from 0 linked ++ fluents.keys)) }
 {
-    fluents.sort()?;
-    let status = status_of(alloc, fluents.as_slice())?;
+    fluents.sort_by_key(|fluent| place(*fluent))?;
+    let status = status_of(alloc, fluents.as_slice(), linked)?;
     Ok(status)
 }
 
-/// The policy of a draft, with its names.
-pub(crate) fn finished(alloc: Global, names: NameTables, draft: Draft) -> Result<Policy, Memory>
+/// How many edges are linked at first, from number 0 on: in version 1 all, and in version 2 none but by lines.
+fn linked_count(second: bool, edges: &[HierEdge]) -> u32
+    requires { length edges.now ≤ 4_294_967_295 }
+    ensures { edges_from 0 result ≡ linked_at_first second edges.now }
+{
+    if second { 0 } else { edges.len() as u32 }
+}
+
+/// The policy of a draft in version 2, or else 1, with its names.
+pub(crate) fn finished(
+    alloc: Global,
+    names: NameTables,
+    second: bool,
+    draft: Draft,
+) -> Result<Policy, Memory>
     requires few { AreFew 4_294_967_295 (seen_names names) }
-    requires well_formed { IsWellFormed (made_policy (seen_names names) (seen_draft draft)) }
-    ensures { IfOk result (λ policy. policy ≡ made_policy (seen_names names) (seen_draft draft)) }
+    requires well_formed { IsWellFormed (made_policy (seen_names names) second (seen_draft draft)) }
+    ensures { IfOk result (λ policy. policy ≡ made_policy (seen_names names) second (seen_draft draft)) }
 {
     let admins = admins_of(alloc, names.users.len() as u32, &draft.admins)?;
-    let opening = opening_of(alloc, draft.on_at_first)?;
+    let linked = linked_count(second, &draft.edges);
+    let opening = opening_of(alloc, draft.on_at_first, linked)?;
     Ok(Policy {
         alloc,
         names,

@@ -2,7 +2,7 @@
 ghost use Rattle.std.specs.Prelude.{◌≡◌};
 ghost use Rattle.std.specs.List.{list_all};
 ghost use Rattle.policy_words.specs.Seen.{seen_said};
-ghost use Rattle.policy_forms.specs.Book.{is_known_item as item_known, is_known_period as period_known, is_known as known};
+ghost use Rattle.policy_words.specs.Book.{is_known_item as item_known, is_known_period as period_known, is_known as known};
 ghost use Rattle.policy_book.specs.Seen.{seen_names};
 ghost use Rattle.policy_book.specs.Numbers.{AreFew};
 
@@ -17,7 +17,7 @@ fn is_known_item(names: &NameTables, item: &Item) -> bool
     match item {
         Item::Event(event) => names.event(event).is_some(),
         Item::Signal(signal) => names.signal(signal).is_some(),
-        Item::Cond(cond) => names.cond(cond).is_some(),
+        Item::Cond(cond) | Item::Settled(cond) => names.cond(cond).is_some(),
     }
 }
 
@@ -43,7 +43,7 @@ fn is_known_period(names: &NameTables, period: &Option<Name>) -> bool
     }
 }
 
-/// Whether each name of the line is declared by some line.
+/// Whether each name of the line is declared by some line, and each pair of an edge that it switches is an edge's.
 pub(crate) fn is_known(names: &NameTables, said: &Said) -> bool
     requires { AreFew 4_294_967_295 (seen_names names.now) }
     ensures { result ≡ known (seen_names names.now) (seen_said said.now) }

@@ -4,23 +4,27 @@
 mod books;
 mod building;
 mod copying;
+mod cycle_laws;
 mod cycles;
 mod drafts;
 mod faults;
+mod finding;
 mod finishing;
 mod known;
+mod laws;
 mod lines;
 mod names;
 mod rules;
+mod tables;
 mod tallies;
 mod troubles;
 
 pub use books::Policy;
+pub use cycle_laws::{computed_cycle_is_least, no_cycle_is_acyclic};
 pub use faults::BookFault;
+pub use finding::cycle_of;
+pub use laws::{build_is_well_formed, faults_are_first};
 pub use lines::{Part, Parts};
 pub use policy_words::{
     CapKind, EdgeKind, Item, Kind, NamedCond, NamedEvent, NamedFluent, NamedHead, NamedSignal, Said,
 };
-
-#[cfg(test)]
-mod tests;

@@ -2,7 +2,7 @@
 ghost use Rattle.std.specs.Prelude.{◌≡◌, [], ◌∷◌, ◌++◌, OnOk, OnErr, IsTrue};
 ghost use Rattle.policy_words.specs.Sayings.{is_saying};
 ghost use Rattle.policy_words.specs.Seen.{seen_said};
-ghost use Rattle.policy_book.specs.Said.{AreParts, are_before};
+ghost use Rattle.policy_book.specs.Said.{AreParts, are_before, is_placed};
 
 use gt_base::Memory;
 use policy_words::Said;
@@ -31,7 +31,7 @@ impl Model for Part {
 }
 
 /// The lines of a policy that say something, in their order. They are seen as the list of their numbers and sayings: each
-/// saying is in range, and the numbers rise.
+/// saying is in range, the numbers rise, a version stands first, and an edge is named only where the first has version 2.
 #[derive(Drop)]
 pub struct Parts {
     pub(crate) parts: Vec<Part>,
@@ -70,11 +70,12 @@ impl Parts {
         let _ = &self.parts;
     }
 
-    /// Adds what a line says, whose number is above those of the lines before. There is no room for more than
-    /// 4,294,967,295 lines. After a refusal the parts are as they were.
+    /// Adds what a line says, whose number is above those of the lines before. A version is added first, and what names an
+    /// edge only where version 2 was. There is no room for more than 4,294,967,295 lines. After a refusal the parts are as they were.
     pub fn add(&mut self, line: u32, said: Said) -> Result<(), Memory>
         requires said { IsTrue (is_saying (seen_said said)) }
         requires later { IsTrue (are_before line self.old) }
+        requires placed { IsTrue (is_placed self.old (seen_said said)) }
         ensures ok { OnOk result (self.new ≡ self.old ++ record { line = line; it = seen_said said } ∷ []) }
         ensures err { OnErr result (self.new ≡ self.old) }
     {

@@ -1,23 +1,23 @@
 //! The names that a policy declares.
-ghost use Rattle.std.specs.Prelude.{◌≡◌, ◌≤◌, IfOk, OnOk, length};
+ghost use Rattle.std.specs.Prelude.{◌≡◌, ◌≤◌, IfOk, OnOk, length, position};
 ghost use Rattle.gt_base.specs.Names.{place_of};
 ghost use Rattle.policy_words.specs.Seen.{seen_said};
-ghost use Rattle.policy_forms.specs.Naming.{role_of, user_of, perm_of, period_of, limit_of, fluent_of, event_of, cond_of, signal_of, head_of};
-ghost use Rattle.policy_forms.specs.Making.{naming, no_names, names_of};
-ghost use Rattle.policy_forms.specs.Book.{said_in};
+ghost use Rattle.policy_words.specs.Naming.{same_pair, role_of, user_of, perm_of, period_of, limit_of, fluent_of, event_of, cond_of, signal_of, head_of};
+ghost use Rattle.policy_words.specs.Making.{naming, no_names, names_of};
+ghost use Rattle.policy_words.specs.Book.{said_in};
 ghost use Rattle.policy_book.specs.Seen.{seen_names};
-ghost use Rattle.policy_book.specs.Numbers.{AreFew};
+ghost use Rattle.policy_book.specs.Numbers.{AreFew, edge_number};
 
 use crate::lines::Part;
+use crate::tables::{PairTable, Table};
 use gt_base::{
     Cond, Event, Fluent, LimitId, Memory, Name, PeriodId, PermId, Prioritised, RoleId, Signal,
     UserId,
 };
-use name_table::Table;
 use policy_words::{NamedCond, NamedEvent, NamedFluent, NamedHead, NamedSignal, Said};
 use std::alloc::Global;
 
-/// The names of each kind, each at its number.
+/// The names of each kind, each at its number, and the pairs of the edges.
 #[derive(Drop)]
 pub(crate) struct NameTables {
     pub roles: Table,
@@ -25,6 +25,7 @@ pub(crate) struct NameTables {
     pub perms: Table,
     pub periods: Table,
     pub limits: Table,
+    pub edges: PairTable,
 }
 
 /// The number of a name in a table.
@@ -33,6 +34,17 @@ fn number_in(table: &Table, name: &Name) -> Option<u32>
     ensures { result ≡ place_of table.now name.now }
 {
     match table.number(name) {
+        Some(k) => Some(k as u32),
+        None => None,
+    }
+}
+
+/// The number of a pair in a table.
+fn pair_number_in(table: &PairTable, senior: &Name, junior: &Name) -> Option<u32>
+    requires { length table.now ≤ 4_294_967_295 }
+    ensures { result ≡ position (same_pair (senior.now, junior.now)) table.now }
+{
+    match table.number(senior, junior) {
         Some(k) => Some(k as u32),
         None => None,
     }
@@ -49,10 +61,11 @@ impl NameTables {
             perms: Table::new(alloc),
             periods: Table::new(alloc),
             limits: Table::new(alloc),
+            edges: PairTable::new(alloc),
         }
     }
 
-    /// Declares the name of a line that declares one.
+    /// Declares the name of a line that declares one, or the pair of an edge.
     fn declare(&mut self, said: &Said) -> Result<(), Memory>
         ensures { OnOk result (seen_names self.new ≡ naming (seen_names self.old) (seen_said said.now)) }
     {
@@ -62,8 +75,8 @@ impl NameTables {
             Said::Perm(name) => self.perms.declare(*name)?,
             Said::Period { name, .. } => self.periods.declare(*name)?,
             Said::Limit { name, .. } => self.limits.declare(*name)?,
+            Said::Edge { senior, junior, .. } => self.edges.declare(*senior, *junior)?,
             Said::Version(_)
-            | Said::Edge { .. }
             | Said::Cap { .. }
             | Said::Admin(_)
             | Said::Opening(_)
@@ -113,7 +126,17 @@ impl NameTables {
         Some(LimitId(number_in(&self.limits, n)?))
     }
 
-    /// The fluent in numbers, none exactly where a name of it is not declared.
+    /// The number of the edge from a senior to a junior, none exactly where no line declares a name or no edge joins the two.
+    fn edge(&self, senior: &Name, junior: &Name) -> Option<u32>
+        requires { AreFew 4_294_967_295 (seen_names self.now) }
+        ensures { result ≡ edge_number (seen_names self.now) senior.now junior.now }
+    {
+        self.role(senior)?;
+        self.role(junior)?;
+        pair_number_in(&self.edges, senior, junior)
+    }
+
+    /// The fluent in numbers, none exactly where a name of it is not declared, or no edge has its pair.
     pub(crate) fn fluent(&self, f: &NamedFluent) -> Option<Fluent>
         requires { AreFew 4_294_967_295 (seen_names self.now) }
         ensures { result ≡ fluent_of (seen_names self.now) f.now }
@@ -123,6 +146,7 @@ impl NameTables {
             NamedFluent::Assigned(u, r) => Some(Fluent::Assigned(self.user(u)?, self.role(r)?)),
             NamedFluent::Granted(p, r) => Some(Fluent::Granted(self.perm(p)?, self.role(r)?)),
             NamedFluent::Limit(l) => Some(Fluent::Limit(self.limit(l)?)),
+            NamedFluent::Edge(s, j) => Some(Fluent::Edge(self.edge(s, j)?)),
         }
     }
 

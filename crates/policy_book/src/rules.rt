@@ -3,8 +3,8 @@ ghost use Rattle.std.specs.Prelude.{◌≡◌, IfOk, IsTrue};
 ghost use Rattle.std.specs.List.{filter_map};
 ghost use Rattle.policy_words.specs.Sayings.{is_saying};
 ghost use Rattle.policy_words.specs.Seen.{seen_said};
-ghost use Rattle.policy_forms.specs.Naming.{Names};
-ghost use Rattle.policy_forms.specs.Making.{inherits as does_inherit, activates as does_activate, period_said, during_of, limit_said, edge_said, admin_said, opening_said, entry_said, event_in as event_said, signal_in as signal_said, cond_in as cond_said, rule_said};
+ghost use Rattle.policy_words.specs.Naming.{Names};
+ghost use Rattle.policy_words.specs.Making.{inherits as does_inherit, activates as does_activate, period_said, during_of, limit_said, edge_said, admin_said, opening_said, entry_said, event_in as event_said, signal_in as signal_said, cond_in as cond_said, settled_in as settled_said, rule_said};
 ghost use Rattle.policy_book.specs.Seen.{seen_names};
 ghost use Rattle.policy_book.specs.Numbers.{AreFew};
 
@@ -156,7 +156,7 @@ fn event_in(names: &NameTables, item: &Item) -> Option<Event>
 {
     match item {
         Item::Event(event) => names.event(event),
-        Item::Signal(_) | Item::Cond(_) => None,
+        Item::Signal(_) | Item::Cond(_) | Item::Settled(_) => None,
     }
 }
 
@@ -166,7 +166,7 @@ fn signal_in(names: &NameTables, item: &Item) -> Option<Signal>
 {
     match item {
         Item::Signal(signal) => names.signal(signal),
-        Item::Event(_) | Item::Cond(_) => None,
+        Item::Event(_) | Item::Cond(_) | Item::Settled(_) => None,
     }
 }
 
@@ -176,7 +176,17 @@ fn cond_in(names: &NameTables, item: &Item) -> Option<Cond>
 {
     match item {
         Item::Cond(cond) => names.cond(cond),
-        Item::Event(_) | Item::Signal(_) => None,
+        Item::Event(_) | Item::Signal(_) | Item::Settled(_) => None,
+    }
+}
+
+fn settled_in(names: &NameTables, item: &Item) -> Option<Cond>
+    requires { AreFew 4_294_967_295 (seen_names names.now) }
+    ensures { result ≡ settled_said (seen_names names.now) item.now }
+{
+    match item {
+        Item::Settled(cond) => names.cond(cond),
+        Item::Event(_) | Item::Signal(_) | Item::Cond(_) => None,
     }
 }
 
@@ -222,6 +232,20 @@ fn conds_in(alloc: Global, names: &NameTables, items: &[Item]) -> Result<Vec<Con
     Ok(conds)
 }
 
+/// The settled conditions of a body, in the order of the line.
+fn settled_conds_in(alloc: Global, names: &NameTables, items: &[Item]) -> Result<Vec<Cond>, Memory>
+    requires { AreFew 4_294_967_295 (seen_names names.now) }
+    ensures { IfOk result (λ conds. conds.items ≡ filter_map (settled_said (seen_names names.now)) items.now) }
+{
+    let mut conds = Vec::new(alloc);
+    for item in items {
+        if let Some(cond) = settled_in(names, item) {
+            conds.push(cond)?;
+        }
+    }
+    Ok(conds)
+}
+
 /// The trigger that a line gives.
 pub(crate) fn trigger_in(
     alloc: Global,
@@ -242,6 +266,7 @@ pub(crate) fn trigger_in(
         events: List::from(events_in(alloc, names, items)?),
         signals: List::from(signals_in(alloc, names, items)?),
         conds: List::from(conds_in(alloc, names, items)?),
+        settled: List::from(settled_conds_in(alloc, names, items)?),
         head,
         delay: *delay,
     }))

@@ -2,8 +2,8 @@
 ghost use Rattle.std.specs.Prelude.{◌≡◌, ◌<◌, None, OnOk};
 ghost use Rattle.gtrbac_model.specs.Same.{lists};
 ghost use Rattle.policy_words.specs.Seen.{seen_said};
-ghost use Rattle.policy_forms.specs.Making.{with_new};
-ghost use Rattle.policy_forms.specs.Book.{claim_of as claim_said, cap_claim as cap_claimed, fluent_claim as fluent_claimed, same_claim, may_be_again as may_again, kind_of as kind_said, fluent_kind as fluent_counted, most_of as most_allowed};
+ghost use Rattle.policy_words.specs.Making.{with_new};
+ghost use Rattle.policy_words.specs.Book.{claim_of as claim_said, cap_claim as cap_claimed, fluent_claim as fluent_claimed, same_claim, may_be_again as may_again, kind_of as kind_said, fluent_kind as fluent_counted, most_of as most_allowed};
 ghost use Rattle.policy_book.specs.Seen.{seen_names};
 ghost use Rattle.policy_book.specs.Numbers.{AreFew};
 ghost use Rattle.policy_book.specs.Tallies.{seen_tally, count_in, one_more, no_counts, nothing_told, is_claimed as claimed_in, is_full as full, full_kind, trouble_in, with_count, tallied};
@@ -12,8 +12,7 @@ use crate::known::is_known;
 use crate::names::NameTables;
 use gt_base::{Memory, Name};
 use indexmap::IndexSet;
-use policy_forms::Claim;
-use policy_words::{CapKind, Kind, NamedFluent, Said};
+use policy_words::{CapKind, Claim, Kind, NamedFluent, Said};
 use std::alloc::Global;
 
 /// What is wrong with a line beside the other lines.
@@ -130,7 +129,7 @@ fn fluent_claim(fluent: &NamedFluent) -> Option<Claim>
     match fluent {
         NamedFluent::Assigned(user, role) => Some(Claim::Assigned(*user, *role)),
         NamedFluent::Granted(perm, role) => Some(Claim::Granted(*perm, *role)),
-        NamedFluent::Enabled(_) | NamedFluent::Limit(_) => None,
+        NamedFluent::Enabled(_) | NamedFluent::Limit(_) | NamedFluent::Edge(..) => None,
     }
 }
 
@@ -164,7 +163,7 @@ fn fluent_kind(fluent: &NamedFluent) -> Option<Kind>
     match fluent {
         NamedFluent::Assigned(..) => Some(Kind::Assigned),
         NamedFluent::Granted(..) => Some(Kind::Granted),
-        NamedFluent::Enabled(_) | NamedFluent::Limit(_) => None,
+        NamedFluent::Enabled(_) | NamedFluent::Limit(_) | NamedFluent::Edge(..) => None,
     }
 }
 

@@ -1,6 +1,6 @@
 //! The first fault of a line.
 ghost use Rattle.std.specs.Prelude.{◌≡◌, [], Some, None, OnOk, IfErr};
-ghost use Rattle.policy_forms.specs.Book.{first_trouble};
+ghost use Rattle.policy_words.specs.Book.{first_trouble};
 ghost use Rattle.policy_book.specs.Seen.{seen_names};
 ghost use Rattle.policy_book.specs.Numbers.{AreFew};
 ghost use Rattle.policy_book.specs.Tallies.{told_at};

@@ -11,16 +11,19 @@ use Rattle.gtrbac_model.proofs.Playing.{levels_give_one_model}
 use Rattle.walk_laws.proofs.Climbing.{safe_is_levelled}
 use Rattle.walk_laws.proofs.Closing.{tells}
 use Rattle.policy_words.specs.declared.faults.TextKind.{TextKind}
+use Rattle.policy_words.specs.declared.versions.TextVersion.{TextVersion}
+use Rattle.policy_words.specs.declared.versions.TextVersion.TheVariants.{Open}
+use Rattle.policy_words.specs.Versions.{version_after}
 use Rattle.policy_words.specs.Sayings.{Saying, is_saying}
 use Rattle.policy_words.specs.Reading.{Numbered, read_said, and_then, read_lines}
 use Rattle.policy_lines.proofs.SaidBySpelling.{read_in_range}
-use Rattle.policy_forms.specs.Naming.{NamedPolicy}
-use Rattle.policy_forms.specs.Making.{names_of}
-use Rattle.policy_forms.specs.Book.{BookTrouble, said_in, build}
-use Rattle.policy_forms.specs.Canonical.{canonical_text}
-use Rattle.policy_forms.specs.PolicyRead.{PolicyFault, built, by_lines, policy_read}
-use Rattle.policy_forms.specs.Valid.{IsWellFormed}
-use Rattle.policy_laws.proofs.WellFormed.{build_is_well_formed}
+use Rattle.policy_words.specs.Naming.{NamedPolicy}
+use Rattle.policy_words.specs.Making.{names_of}
+use Rattle.policy_words.specs.Book.{BookTrouble, said_in, build}
+use Rattle.policy_words.specs.Canonical.{canonical_text}
+use Rattle.policy_words.specs.PolicyRead.{PolicyFault, built, by_lines, policy_read}
+use Rattle.policy_words.specs.Valid.{IsWellFormed}
+use Rattle.policy_book.proofs.WellFormed.{build_is_well_formed}
 use Rattle.policy_text.proofs.CanonicalText.{canonical_is_read}
 use Rattle.policy_commands.specs.Ends.{Told, told}
 use Rattle.policy_commands.specs.Policies.{read_or_told, policy_in, safe_or_told, judged, judged_or_told, safe_in, HasFault, IsUnsafeText}
@@ -112,17 +115,17 @@ with_first : (s : Numbered Saying) → is_saying s.it ≡ true → (r : Result (
 with_first s h (Ok ss) all = (h, all)
 with_first s h (Err t) all = tt
 
-in_range : (first : Bool) (n : ℕ) (lines : List (List ℕ)) → IfOk (read_lines first n lines) InRange
-in_range first n [] = tt
-in_range first n (l ∷ ls) = by (read_said first l) refl (in_range first (n + 1) ls) (in_range false (n + 1) ls)
+in_range : (v : TextVersion) (n : ℕ) (lines : List (List ℕ)) → IfOk (read_lines v n lines) InRange
+in_range v n [] = tt
+in_range v n (l ∷ ls) = by (read_said v l) refl (in_range v (n + 1) ls) (λ s. in_range (version_after v s) (n + 1) ls)
   where
-    by : (r : Result (Option Saying) TextKind) → read_said first l ≡ r → IfOk (read_lines first (n + 1) ls) InRange → IfOk (read_lines false (n + 1) ls) InRange
+    by : (r : Result (Option Saying) TextKind) → read_said v l ≡ r → IfOk (read_lines v (n + 1) ls) InRange → ((s : Saying) → IfOk (read_lines (version_after v s) (n + 1) ls) InRange)
         → IfOk (elim r [
           | Err t ↦ Err (record { line = n; it = t })
-          | Ok said ↦ elim said [ None ↦ read_lines first (n + 1) ls | Some s ↦ and_then (record { line = n; it = s }) (read_lines false (n + 1) ls) ]
+          | Ok said ↦ elim said [ None ↦ read_lines v (n + 1) ls | Some s ↦ and_then (record { line = n; it = s }) (read_lines (version_after v s) (n + 1) ls) ]
         ]) InRange
     by (Ok None) e same later = same
-    by (Ok (Some s)) e same later = with_first (record { line = n; it = s }) (read_in_range first l s e) (read_lines false (n + 1) ls) later
+    by (Ok (Some s)) e same later = with_first (record { line = n; it = s }) (read_in_range v l s e) (read_lines (version_after v s) (n + 1) ls) (later s)
     by (Err t) e same later = tt
 
 module _ (text : List ℕ) (np : NamedPolicy) where
@@ -136,7 +139,7 @@ module _ (text : List ℕ) (np : NamedPolicy) where
   of_lines (Err t) all e = absurd (cc e)
 
   well_formed : policy_read text ≡ Ok np → IsWellFormed np
-  well_formed e = of_lines (read_lines true 1 (lines_of text)) (in_range true 1 (lines_of text)) e
+  well_formed e = of_lines (read_lines Open 1 (lines_of text)) (in_range Open 1 (lines_of text)) e
 
 pub fmt_keeps : FmtKeeps
 fmt_keeps text out h short = by (policy_read text) refl

@@ -4,8 +4,8 @@ use Rattle.std.specs.Prelude.{Ok, Err, codes, flat_map}
 use Rattle.gtrbac_model.specs.Graph.{item_at}
 use Rattle.gtrbac_model.specs.Safety.{Dependency, dependencies, IsSafe}
 use Rattle.walk_laws.proofs.Closing.{tells}
-use Rattle.policy_forms.specs.Naming.{NamedPolicy}
-use Rattle.policy_forms.specs.PolicyRead.{edge_text, numbered_edge}
+use Rattle.policy_words.specs.Naming.{NamedPolicy}
+use Rattle.policy_words.specs.PolicyRead.{edge_text, numbered_edge}
 use Rattle.policy_safety.specs.declared.admitting.CycleEdge.{CycleEdge}
 use Rattle.policy_safety.specs.Cycles.{seen_edge, dependencies_at, IsCycleOf}
 use Rattle.policy_commands.specs.Ends.{told}

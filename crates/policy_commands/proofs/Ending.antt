@@ -2,9 +2,9 @@
 use Rattle.std.proofs.Common.{◌≡◌, ℕ, List, Option, Some, None, ◌⊎◌, inl, inr, sym, ap, ◌∙◌}
 use Rattle.std.specs.Prelude.{Result, Ok, Err, IfOk, codes}
 use Rattle.gtrbac_model.specs.Safety.{the_cycle}
-use Rattle.policy_forms.specs.Naming.{NamedPolicy}
-use Rattle.policy_forms.specs.PolicyRead.{PolicyFault, policy_read}
-use Rattle.policy_reading.specs.Texts.{IsToldFault}
+use Rattle.policy_words.specs.Naming.{NamedPolicy}
+use Rattle.policy_words.specs.PolicyRead.{PolicyFault, policy_read}
+use Rattle.policy_text.specs.Texts.{IsToldFault}
 use Rattle.policy_commands.specs.declared.ends.End.{End}
 use Rattle.policy_commands.specs.declared.judging.Admitted.{Admitted}
 use Rattle.policy_commands.specs.declared.judging.Admitted.TheVariants.{Safe, Ended}

@@ -1,4 +1,4 @@
 pub mod Cycles
 pub mod Ending
-pub mod Unplaying
 pub mod Answered
+pub mod EdgeNames

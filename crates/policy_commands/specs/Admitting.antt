@@ -1,7 +1,7 @@
 -- What is told of a policy that was judged.
 use Rattle.std.specs.Prelude.{◌≡◌, ◌⊎◌, ℕ, List, Ok, Err}
 use Rattle.gtrbac_model.specs.Safety.{IsSafe}
-use Rattle.policy_forms.specs.Naming.{NamedPolicy}
+use Rattle.policy_words.specs.Naming.{NamedPolicy}
 use Rattle.policy_commands.specs.declared.ends.End.{End}
 use Rattle.policy_commands.specs.declared.judging.Admitted.{Admitted}
 use Rattle.policy_commands.specs.declared.judging.Admitted.TheVariants.{Safe, Ended}

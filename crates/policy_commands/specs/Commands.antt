@@ -1,7 +1,7 @@
 -- How `fmt` and `check` end over a text.
 use Rattle.std.specs.Prelude.{◌≡◌, List, ℕ, codes, Result, Ok, Err}
-use Rattle.policy_forms.specs.Naming.{NamedPolicy}
-use Rattle.policy_forms.specs.Canonical.{canonical_text}
+use Rattle.policy_words.specs.Naming.{NamedPolicy}
+use Rattle.policy_words.specs.Canonical.{canonical_text}
 use Rattle.policy_commands.specs.declared.ends.End.{End}
 use Rattle.policy_commands.specs.Ends.{Told, told}
 use Rattle.policy_commands.specs.Policies.{policy_in, safe_in}

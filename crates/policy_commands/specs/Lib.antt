@@ -2,5 +2,5 @@ pub mod Ends
 pub mod Policies
 pub mod Commands
 pub mod Admitting
-pub mod Played
 pub mod Meanings
+pub mod Unsafety

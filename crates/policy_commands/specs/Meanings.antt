@@ -3,8 +3,8 @@ use Rattle.std.specs.Prelude.{◌≡◌, ◌≤◌, ◌↔◌, ℕ, List, length
 use Rattle.gt_text.specs.Lines.{lines_of}
 use Rattle.gtrbac_model.specs.Safety.{IsSafe}
 use Rattle.gtrbac_model.specs.Theorems.{HasOneModel}
-use Rattle.policy_forms.specs.Naming.{NamedPolicy}
-use Rattle.policy_forms.specs.PolicyRead.{policy_read}
+use Rattle.policy_words.specs.Naming.{NamedPolicy}
+use Rattle.policy_words.specs.PolicyRead.{policy_read}
 use Rattle.policy_commands.specs.Ends.{told}
 use Rattle.policy_commands.specs.Policies.{HasFault, IsUnsafeText}
 use Rattle.policy_commands.specs.Commands.{fmt_end, check_end}

@@ -1,8 +1,8 @@
 -- The policy of a text, or how a command ends over the text.
 use Rattle.std.specs.Prelude.{◌≡◌, ℕ, List, Option, Some, None, Result, Ok, Err}
 use Rattle.gtrbac_model.specs.Safety.{the_cycle, IsSafe}
-use Rattle.policy_forms.specs.Naming.{NamedPolicy}
-use Rattle.policy_forms.specs.PolicyRead.{PolicyFault, policy_read, fault_text, unsafe_text}
+use Rattle.policy_words.specs.Naming.{NamedPolicy}
+use Rattle.policy_words.specs.PolicyRead.{PolicyFault, policy_read, fault_text, unsafe_text}
 use Rattle.policy_commands.specs.Ends.{Told, told}
 
 abbrev pub read_or_told : Result NamedPolicy PolicyFault → Result NamedPolicy Told

@@ -1,8 +1,9 @@
 //! How a command ends.
+use gt_base::List;
 
 /// What a command prints, and its exit status.
 #[derive(Drop)]
 pub struct End {
     pub status: u8,
-    pub text: Vec<u8>,
+    pub text: List<u8>,
 }

@@ -6,13 +6,13 @@ ghost use Rattle.policy_commands.specs.Policies.{HasFault, IsUnsafeText};
 ghost use Rattle.policy_commands.specs.Commands.{check_end};
 ghost use Rattle.policy_commands.specs.Admitting.{IsAdmitted, IsJudged, IsUnsafeEnd};
 
+use crate::cycle_text::push_unsafe;
 use crate::ends::End;
-use gt_base::Memory;
+use gt_base::{List, Memory};
 use policy_book::Policy;
-use policy_reading::{PolicyText, policy_of};
 use policy_safety::{AdmitFault, CycleEdge, Safe};
+use policy_text::{PolicyText, policy_of};
 use std::alloc::{AllocError, Global};
-use unsafe_text::push_unsafe;
 
 /// A safe policy, or how a command ends at one that has a fault or is not safe.
 #[derive(Drop)]
@@ -28,7 +28,10 @@ fn unsafe_end(alloc: Global, policy: &Policy, edges: &[CycleEdge]) -> Result<End
 {
     let mut text = Vec::new(alloc);
     push_unsafe(&mut text, policy, edges)?;
-    Ok(End { status: 3, text })
+    Ok(End {
+        status: 3,
+        text: List::from(text),
+    })
 }
 
 /// The policy where it is safe, or the end.
@@ -54,7 +57,7 @@ pub fn admit(alloc: Global, text: &[u8]) -> Result<Admitted, Memory>
         PolicyText::Policy(policy) => judge(alloc, policy),
         PolicyText::Fault(told) => Ok(Admitted::Ended(End {
             status: 2,
-            text: told,
+            text: List::from(told),
         })),
     }
 }
@@ -65,7 +68,7 @@ fn safe_end(alloc: Global) -> Result<End, Memory>
 {
     Ok(End {
         status: 0,
-        text: b"safe\n".to_vec(alloc)?,
+        text: List::from(b"safe\n".to_vec(alloc)?),
     })
 }
 

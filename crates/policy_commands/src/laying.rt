@@ -5,20 +5,18 @@ ghost use Rattle.policy_commands.specs.Policies.{HasFault};
 ghost use Rattle.policy_commands.specs.Commands.{fmt_end, IsLaid};
 
 use crate::ends::End;
-use gt_base::Memory;
+use gt_base::{List, Memory};
 use policy_book::Policy;
-use policy_reading::{PolicyText, policy_of};
-use policy_writer::write_policy;
+use policy_text::{PolicyText, policy_of, write_policy};
 use std::alloc::Global;
 
 /// The end at a policy that has this canonical form.
 fn laid(alloc: Global, policy: &Policy) -> Result<End, Memory>
     ensures { IfOk result (IsLaid policy.now) }
 {
-    let lines = write_policy(alloc, policy)?;
     Ok(End {
         status: 0,
-        text: lines.as_slice().to_vec(alloc)?,
+        text: write_policy(alloc, policy)?,
     })
 }
 
@@ -34,7 +32,7 @@ pub fn lay_out(alloc: Global, text: &[u8]) -> Result<End, Memory>
         PolicyText::Policy(policy) => laid(alloc, &policy),
         PolicyText::Fault(told) => Ok(End {
             status: 2,
-            text: told,
+            text: List::from(told),
         }),
     }
 }

@@ -11,7 +11,7 @@ use Rattle.gt_text.specs.Lines.{lines_of, is_feed, but_empty_last}
 use Rattle.gt_text.specs.Words.{spaced, as_text}
 use Rattle.gt_base.specs.Bounds.{last_minute}
 use Rattle.gt_base.specs.Names.{is_name}
-use Rattle.calendar_laws.specs.Valid.{is_expr}
+use Rattle.gtrbac_model.specs.Valid.{is_expr}
 use Rattle.policy_words.specs.Sayings.{Saying, version, role, user, perm, period, limit, edge, cap, admin, opening, entry, trigger, said_words, is_formed, is_bounded, is_bodied, is_saying}
 use Rattle.policy_lines.specs.Laws.{has_no_feed}
 use Rattle.policy_lines.specs.Plain.{is_plain}

@@ -1,5 +1,5 @@
 -- What is read from words in a form is in range, and the words spell it.
-use Rattle.std.proofs.Common.{◌≡◌, inl, inr, ℕ, suc, ◌+◌, ◌<◌, ◌≤◌, Bool, true, false, ◌&&◌, ◌||◌, List, [], ◌∷◌, ◌++◌, length, get_or, take, drop, Option, Some, None, refl, sym, ◌∙◌, ap, subst, arith, decimal, append-nil, length-drop}
+use Rattle.std.proofs.Common.{◌≡◌, inl, inr, ℕ, suc, ◌+◌, ◌<◌, ◌≤◌, ◌^◌, Bool, true, false, ◌&&◌, ◌||◌, List, [], ◌∷◌, ◌++◌, length, get_or, take, drop, Option, Some, None, refl, sym, ◌∙◌, ap, subst, arith, decimal, append-nil, length-drop}
 use Rattle.std.specs.Prelude.{codes, bytes_eq, nat_le}
 use Rattle.std.specs.List.{before_first, after_first, position_or_len}
 use Rattle.std.proofs.lemmas.List.{take-append-drop}
@@ -17,9 +17,11 @@ use Rattle.policy_words.specs.declared.parts.NamedHead.{NamedHead}
 use Rattle.policy_words.specs.declared.sayings.EdgeKind.TheVariants.{I, A, Ia}
 use Rattle.policy_words.specs.declared.sayings.CapKind.{CapKind}
 use Rattle.policy_words.specs.declared.sayings.CapKind.TheVariants as caps
-use Rattle.policy_words.specs.Wording.{◌>>=◌, Sort, enabling, assigning, granting, arming, event_verb, cond_verb, at_end, sort_of, fluent_names, cond_words, head_words, cond_at, head_at, event_at, is_colon}
-use Rattle.policy_words.specs.Sayings.{Saying, limit, opening, entry, said_words, during_words, kind_word, strength_word, cap_word, is_formed, are_names, is_count, is_period_name, is_head}
-use Rattle.policy_words.specs.Reading.{one_name, most_at, during_in, limit_in, spelled_so, edge_in, cap_in, opening_by, entry_in, is_one}
+use Rattle.policy_words.specs.declared.parts.Sort.{Sort}
+use Rattle.policy_words.specs.declared.parts.Sort.TheVariants.{Enabling, Assigning, Granting, Arming, Linking}
+use Rattle.policy_words.specs.Wording.{◌>>=◌, event_verb, cond_verb, at_end, sort_of, fluent_names, cond_words, head_words, cond_at, head_at, event_at, is_colon}
+use Rattle.policy_words.specs.Sayings.{Saying, version, limit, opening, entry, said_words, during_words, kind_word, strength_word, cap_word, is_formed, are_names, is_count, is_period_name, is_head}
+use Rattle.policy_words.specs.Reading.{one_name, most_at, during_in, limit_in, spelled_so, edge_in, cap_in, opening_by, entry_in, version_in}
 use Rattle.policy_lines.proofs.Truths.{and_true, some_is, none_some, where_true, chosen}
 use Rattle.policy_lines.proofs.Numbers.{number_from_is}
 use Rattle.policy_lines.proofs.FrontWords.{event_at_is, cond_at_is}
@@ -55,11 +57,6 @@ one_name_is build (w ∷ ws) s e =
     let end = at_end_is (build c.it) s ws c.then in
     record { it = c.it; name = n.0; words = ap (λ w. w ∷ ws) n.1 ∙ ap (λ ws. c.it ∷ ws) end.1; built = end.0 }
 
-pub one_is : (ws : List (List ℕ)) → is_one ws ≡ true → ws ≡ decimal 1 ∷ []
-one_is [] h = absurd (false≢true h)
-one_is (w ∷ []) h = ap (λ w. w ∷ []) ((bytes_eq-Decides w (codes "1")).0 h ∙ sym (decimal_digit 1 (omega arith)))
-one_is (w ∷ v ∷ ws) h = absurd (false≢true h)
-
 -- numbers in range
 
 count_is : (n : ℕ) → 1 ≤ n → n ≤ 1_000_000 → is_count n ≡ true
@@ -92,6 +89,22 @@ during_is (w ∷ p ∷ v ∷ ws) d e = absurd (none_some e)
 pub record Formed (first : List ℕ) (ws : List (List ℕ)) (s : Saying) : Type 0 where
   pub formed : is_formed s ≡ true
   pub words : first ∷ ws ≡ said_words s
+
+as_version : (w : List ℕ) (k n : ℕ) → is_formed (version k) ≡ true → w ≡ decimal k → k ≡ n → Formed (codes "policy") (w ∷ []) (version n)
+as_version w k n formed is e =
+    subst (λ n. Formed (codes "policy") (w ∷ []) (version n)) e (record { formed = formed; words = ap (λ w. codes "policy" ∷ w ∷ []) is })
+
+pub version_is : (ws : List (List ℕ)) (n : ℕ) → version_in ws ≡ Some n → Formed (codes "policy") ws (version n)
+version_is [] n e = absurd (none_some e)
+version_is (w ∷ []) n e =
+    elim (chosen (bytes_eq w (codes "1")) _ _ (Some n) e) [
+      | inl (t, is) ↦ as_version w 1 n refl ((bytes_eq-Decides w (codes "1")).0 t ∙ sym (decimal_digit 1 (omega arith))) (some_is is)
+      | inr (f, go) ↦ elim (chosen (bytes_eq w (codes "2")) _ _ (Some n) go) [
+        | inl (t, is) ↦ as_version w 2 n refl ((bytes_eq-Decides w (codes "2")).0 t ∙ sym (decimal_digit 2 (omega arith))) (some_is is)
+        | inr (g, end) ↦ absurd (none_some end)
+      ]
+    ]
+version_is (w ∷ v ∷ ws) n e = absurd (none_some e)
 
 limit_parts : (n : List ℕ) (prio : ℕ) (c : NamedCond) (most : ℕ) (during : Option (List ℕ)) → is_name n ≡ true → prio ≤ 99 → are_names (fluent_names c.fluent) ≡ true → is_count most ≡ true
     → is_period_name during ≡ true → is_formed (limit n prio c most during) ≡ true
@@ -176,15 +189,16 @@ cap_is (k ∷ r ∷ n ∷ v ∷ ws) s e = absurd (none_some e)
 -- opening status: its verb is one of conditions that hold
 
 is_opening : List ℕ → Bool
-is_opening w = bytes_eq w (codes "enabled") || bytes_eq w (codes "assigned") || bytes_eq w (codes "granted") || bytes_eq w (codes "armed")
+is_opening w = bytes_eq w (codes "enabled") || bytes_eq w (codes "assigned") || bytes_eq w (codes "granted") || bytes_eq w (codes "armed") || bytes_eq w (codes "linked")
 
 is_on : (on : Bool) (s : Sort) → is_opening (cond_verb on s) ≡ true → on ≡ true
 unfolding is_opening
 is_on true s h = refl
-is_on false enabling h = absurd (false≢true h)
-is_on false assigning h = absurd (false≢true h)
-is_on false granting h = absurd (false≢true h)
-is_on false arming h = absurd (false≢true h)
+is_on false Enabling h = absurd (false≢true h)
+is_on false Assigning h = absurd (false≢true h)
+is_on false Granting h = absurd (false≢true h)
+is_on false Arming h = absurd (false≢true h)
+is_on false Linking h = absurd (false≢true h)
 
 head_is : (w v : List ℕ) (ws vs : List (List ℕ)) → w ∷ ws ≡ v ∷ vs → w ≡ v
 head_is w v ws vs e = cc
@@ -221,17 +235,23 @@ pub armed_is : (ws : List (List ℕ)) (s : Saying) → opening_by (cond_at (code
 unfolding is_opening
 armed_is ws s e = by_opening (codes "armed") ws s refl e
 
+pub linked_is : (ws : List (List ℕ)) (s : Saying) → opening_by (cond_at (codes "linked" ∷ ws)) ≡ Some s → Formed (codes "linked") ws s
+unfolding is_opening
+linked_is ws s e = by_opening (codes "linked") ws s refl e
+
 -- heads
 
 some_verb : (on : Bool) (s : Sort) → 0 < length (event_verb on s)
-some_verb true enabling = omega arith
-some_verb false enabling = omega arith
-some_verb true assigning = omega arith
-some_verb false assigning = omega arith
-some_verb true granting = omega arith
-some_verb false granting = omega arith
-some_verb true arming = omega arith
-some_verb false arming = omega arith
+some_verb true Enabling = omega arith
+some_verb false Enabling = omega arith
+some_verb true Assigning = omega arith
+some_verb false Assigning = omega arith
+some_verb true Granting = omega arith
+some_verb false Granting = omega arith
+some_verb true Arming = omega arith
+some_verb false Arming = omega arith
+some_verb true Linking = omega arith
+some_verb false Linking = omega arith
 
 -- a word with something behind its first colon
 at_colon : (w : List ℕ) → 0 < length (after_first is_colon w) → w ≡ before_first is_colon w ++ 58 ∷ after_first is_colon w
@@ -242,16 +262,17 @@ at_colon w some =
     let next : suc k ≡ k + 1 = omega arith in
     sym (take-append-drop k w) ∙ ap (λ t. take k w ++ t) (drop-cons w k 0 within ∙ ap (λ b. b ∷ drop (suc k) w) colon ∙ ap (λ n. 58 ∷ drop n w) next)
 
-pub record HeadAt (ws : List (List ℕ)) (h : NamedHead × List (List ℕ)) : Type 0 where
-  pub head : is_head h.0 ≡ true
+pub record HeadUpTo (most : ℕ) (ws : List (List ℕ)) (h : NamedHead × List (List ℕ)) : Type 0 where
+  pub prio : h.0.prio ≤ most
+  pub names : are_names (fluent_names h.0.event.fluent) ≡ true
   pub words : ws ≡ head_words h.0 ++ h.1
 
-pub head_at_is : (ws : List (List ℕ)) (h : NamedHead × List (List ℕ)) → head_at 99 ws ≡ Some h → HeadAt ws h
-head_at_is [] h e = absurd (none_some e)
-head_at_is (w ∷ ws) h e =
-    let prio = came (number_from 0 99 (before_first is_colon w)) _ h e in
+pub head_up_to_is : (most : ℕ) (ws : List (List ℕ)) (h : NamedHead × List (List ℕ)) → most < 2 ^ 64 → head_at most ws ≡ Some h → HeadUpTo most ws h
+head_up_to_is most [] h small e = absurd (none_some e)
+head_up_to_is most (w ∷ ws) h small e =
+    let prio = came (number_from 0 most (before_first is_colon w)) _ h e in
     let event = came (event_at (after_first is_colon w ∷ ws)) _ h prio.then in
-    let p_is = number_from_is 0 99 (before_first is_colon w) prio.it (omega arith) prio.was in
+    let p_is = number_from_is 0 most (before_first is_colon w) prio.it small prio.was in
     let e_is = event_at_is (after_first is_colon w ∷ ws) event.it event.was in
     let verb = event_verb event.it.0.on (sort_of event.it.0.fluent) in
     let word : after_first is_colon w ≡ verb = head_is (after_first is_colon w) verb ws (fluent_names event.it.0.fluent ++ event.it.1) e_is.words in
@@ -259,14 +280,24 @@ head_at_is (w ∷ ws) h e =
     let some : 0 < length (after_first is_colon w) = omega (arith, ap (λ w. length w) word, some_verb event.it.0.on (sort_of event.it.0.fluent)) in
     let whole : w ≡ decimal prio.it ++ 58 ∷ verb =
     at_colon w some ∙ ap (λ front. front ++ 58 ∷ after_first is_colon w) p_is.2 ∙ ap (λ back. decimal prio.it ++ 58 ∷ back) word in
-    subst (HeadAt (w ∷ ws)) (some_is event.then)
+    subst (HeadUpTo most (w ∷ ws)) (some_is event.then)
     (record {
-      head = and_true (nat_le prio.it 99) (are_names (fluent_names event.it.0.fluent)) (le-leb prio.it 99 p_is.1) e_is.names;
+      prio = p_is.1;
+      names = e_is.names;
       words = ap (λ w. w ∷ ws) whole ∙ ap (λ ws. (decimal prio.it ++ 58 ∷ verb) ∷ ws) rest;
     })
   where
     tail_is : (w v : List ℕ) (ws vs : List (List ℕ)) → w ∷ ws ≡ v ∷ vs → ws ≡ vs
     tail_is w v ws vs e = cc
+
+pub record HeadAt (ws : List (List ℕ)) (h : NamedHead × List (List ℕ)) : Type 0 where
+  pub head : is_head h.0 ≡ true
+  pub words : ws ≡ head_words h.0 ++ h.1
+
+pub head_at_is : (ws : List (List ℕ)) (h : NamedHead × List (List ℕ)) → head_at 99 ws ≡ Some h → HeadAt ws h
+head_at_is ws h e =
+    let is = head_up_to_is 99 ws h (omega arith) e in
+    record { head = and_true (nat_le h.0.prio 99) (are_names (fluent_names h.0.event.fluent)) (le-leb h.0.prio 99 is.prio) is.names; words = is.words }
 
 pub entry_is : (f : Form) (first : List ℕ) (ws : List (List ℕ)) (s : Saying) → ((p : List ℕ) (h : NamedHead) → first ∷ p ∷ head_words h ≡ said_words (entry f p h)) → entry_in f ws ≡ Some s
     → Formed first ws s

@@ -1,17 +1,19 @@
 -- What is read from the front of words stands there by its spelling.
 use Rattle.std.proofs.Common.{◌≡◌, ℕ, ◌<◌, Bool, true, false, ◌&&◌, List, [], ◌∷◌, ◌++◌, length, Option, Some, None, refl, sym, ◌∙◌, ap, subst, arith, length-append}
-use Rattle.std.specs.Prelude.{bytes_eq}
+use Rattle.std.specs.Prelude.{bytes_eq, codes}
 use Rattle.std.proofs.lemmas.Slice.Eq.{bytes_eq-Decides}
 use Rattle.gtrbac_model.proofs.Elements.{split}
 use Rattle.gt_base.specs.Names.{is_name}
 use Rattle.policy_words.specs.declared.parts.NamedFluent.{NamedFluent}
-use Rattle.policy_words.specs.declared.parts.NamedFluent.TheVariants.{Enabled, Assigned, Granted, Limit}
+use Rattle.policy_words.specs.declared.parts.NamedFluent.TheVariants.{Enabled, Assigned, Granted, Limit, Edge}
 use Rattle.policy_words.specs.declared.parts.NamedEvent.{NamedEvent}
 use Rattle.policy_words.specs.declared.parts.NamedCond.{NamedCond}
 use Rattle.policy_words.specs.declared.parts.NamedSignal.{NamedSignal}
 use Rattle.policy_words.specs.declared.parts.Item.{Item}
-use Rattle.policy_words.specs.declared.parts.Item.TheVariants.{Event, Signal, Cond}
-use Rattle.policy_words.specs.Wording.{◌>>=◌, Sort, enabling, assigning, granting, arming, event_verb, cond_verb, signal_verb, verb_in, sort_of, fluent_names, event_words, cond_words, signal_words, item_words, fluent_at, verb_at, event_at, cond_at, signal_of, signal_at, item_at}
+use Rattle.policy_words.specs.declared.parts.Item.TheVariants.{Event, Signal, Cond, Settled}
+use Rattle.policy_words.specs.declared.parts.Sort.{Sort}
+use Rattle.policy_words.specs.declared.parts.Sort.TheVariants.{Enabling, Assigning, Granting, Arming, Linking}
+use Rattle.policy_words.specs.Wording.{◌>>=◌, event_verb, cond_verb, signal_verb, verb_in, sort_of, fluent_names, event_words, cond_words, signal_words, item_words, fluent_at, verb_at, event_at, cond_at, signal_of, signal_at, settled_at, item_at}
 use Rattle.policy_words.specs.Sayings.{are_names, is_item}
 use Rattle.policy_lines.proofs.Truths.{both, and_true, some_is, none_some, where_true}
 use Rattle.policy_lines.proofs.ItemVerbs.{spelled}
@@ -25,24 +27,29 @@ two_true : (a b : List ℕ) → (is_name a && is_name b) ≡ true → are_names 
 two_true a b h = let parts = both (is_name a) (is_name b) h in and_true (is_name a) (is_name b && true) parts.0 (and_true (is_name b) true parts.1 refl)
 
 pub fluent_at_is : (s : Sort) (ws : List (List ℕ)) (f : NamedFluent × List (List ℕ)) → fluent_at s ws ≡ Some f → FluentAt s ws f
-fluent_at_is enabling [] f e = absurd (none_some e)
-fluent_at_is enabling (a ∷ ws) f e =
+fluent_at_is Enabling [] f e = absurd (none_some e)
+fluent_at_is Enabling (a ∷ ws) f e =
     let is = where_true (is_name a) (Enabled a, ws) f e in
-    subst (FluentAt enabling (a ∷ ws)) is.1 (record { sort = refl; names = and_true (is_name a) true is.0 refl; words = refl })
-fluent_at_is assigning [] f e = absurd (none_some e)
-fluent_at_is assigning (a ∷ []) f e = absurd (none_some e)
-fluent_at_is assigning (a ∷ b ∷ ws) f e =
+    subst (FluentAt Enabling (a ∷ ws)) is.1 (record { sort = refl; names = and_true (is_name a) true is.0 refl; words = refl })
+fluent_at_is Assigning [] f e = absurd (none_some e)
+fluent_at_is Assigning (a ∷ []) f e = absurd (none_some e)
+fluent_at_is Assigning (a ∷ b ∷ ws) f e =
     let is = where_true (is_name a && is_name b) (Assigned a b, ws) f e in
-    subst (FluentAt assigning (a ∷ b ∷ ws)) is.1 (record { sort = refl; names = two_true a b is.0; words = refl })
-fluent_at_is granting [] f e = absurd (none_some e)
-fluent_at_is granting (a ∷ []) f e = absurd (none_some e)
-fluent_at_is granting (a ∷ b ∷ ws) f e =
+    subst (FluentAt Assigning (a ∷ b ∷ ws)) is.1 (record { sort = refl; names = two_true a b is.0; words = refl })
+fluent_at_is Granting [] f e = absurd (none_some e)
+fluent_at_is Granting (a ∷ []) f e = absurd (none_some e)
+fluent_at_is Granting (a ∷ b ∷ ws) f e =
     let is = where_true (is_name a && is_name b) (Granted a b, ws) f e in
-    subst (FluentAt granting (a ∷ b ∷ ws)) is.1 (record { sort = refl; names = two_true a b is.0; words = refl })
-fluent_at_is arming [] f e = absurd (none_some e)
-fluent_at_is arming (a ∷ ws) f e =
+    subst (FluentAt Granting (a ∷ b ∷ ws)) is.1 (record { sort = refl; names = two_true a b is.0; words = refl })
+fluent_at_is Arming [] f e = absurd (none_some e)
+fluent_at_is Arming (a ∷ ws) f e =
     let is = where_true (is_name a) (Limit a, ws) f e in
-    subst (FluentAt arming (a ∷ ws)) is.1 (record { sort = refl; names = and_true (is_name a) true is.0 refl; words = refl })
+    subst (FluentAt Arming (a ∷ ws)) is.1 (record { sort = refl; names = and_true (is_name a) true is.0 refl; words = refl })
+fluent_at_is Linking [] f e = absurd (none_some e)
+fluent_at_is Linking (a ∷ []) f e = absurd (none_some e)
+fluent_at_is Linking (a ∷ b ∷ ws) f e =
+    let is = where_true (is_name a && is_name b) (Edge a b, ws) f e in
+    subst (FluentAt Linking (a ∷ b ∷ ws)) is.1 (record { sort = refl; names = two_true a b is.0; words = refl })
 
 -- the verb and the fluent behind it
 pub record VerbAt (verb : Bool → Sort → List ℕ) (ws : List (List ℕ)) (v : (Bool × NamedFluent) × List (List ℕ)) : Type 0 where
@@ -111,19 +118,36 @@ pub record ItemAt (ws : List (List ℕ)) (i : Item × List (List ℕ)) : Type 0 
   pub names : is_item i.0 ≡ true
   pub words : ws ≡ item_words i.0 ++ i.1
 
+pub record SettledAt (ws : List (List ℕ)) (c : NamedCond × List (List ℕ)) : Type 0 where
+  pub names : are_names (fluent_names c.0.fluent) ≡ true
+  pub words : ws ≡ (codes "settled" ∷ cond_words c.0) ++ c.1
+
+settled_at_is : (ws : List (List ℕ)) (c : NamedCond × List (List ℕ)) → settled_at ws ≡ Some c → SettledAt ws c
+settled_at_is [] c e = absurd (none_some e)
+settled_at_is (w ∷ ws) c e =
+    split (bytes_eq w (codes "settled"))
+    (λ t.
+    let c_is = cond_at_is ws c (rw (t, settled_at) at e) in
+    record { names = c_is.names; words = ap (λ w. w ∷ ws) ((bytes_eq-Decides w (codes "settled")).0 t) ∙ ap (λ ws. codes "settled" ∷ ws) c_is.words })
+    (λ n. absurd (none_some (rw (n, settled_at) at e)))
+
 pub item_at_is : (ws : List (List ℕ)) (i : Item × List (List ℕ)) → item_at ws ≡ Some i → ItemAt ws i
-item_at_is ws i is = by (event_at ws) refl (signal_at ws) refl (cond_at ws) refl
+item_at_is ws i is = by (event_at ws) refl (signal_at ws) refl (cond_at ws) refl (settled_at ws) refl
   where
-    by : (e : Option (NamedEvent × List (List ℕ))) → event_at ws ≡ e → (s : Option (NamedSignal × List (List ℕ))) → signal_at ws ≡ s → (c : Option (NamedCond × List (List ℕ))) → cond_at ws ≡ c → ItemAt ws i
-    by (Some e) at s s_at c c_at = let e_is = event_at_is ws e at in subst (ItemAt ws) (some_is (rw at at is)) (record { names = e_is.names; words = e_is.words })
-    by None at (Some s) s_at c c_at = let s_is = signal_at_is ws s s_at in subst (ItemAt ws) (some_is (rw (at, s_at) at is)) (record { names = s_is.names; words = s_is.words })
-    by None at None s_at (Some c) c_at = let c_is = cond_at_is ws c c_at in subst (ItemAt ws) (some_is (rw (at, s_at, c_at) at is)) (record { names = c_is.names; words = c_is.words })
-    by None at None s_at None c_at = absurd (none_some (rw (at, s_at, c_at) at is))
+    by : (e : Option (NamedEvent × List (List ℕ))) → event_at ws ≡ e → (s : Option (NamedSignal × List (List ℕ))) → signal_at ws ≡ s → (c : Option (NamedCond × List (List ℕ))) → cond_at ws ≡ c
+        → (d : Option (NamedCond × List (List ℕ))) → settled_at ws ≡ d → ItemAt ws i
+    by (Some e) at s s_at c c_at d d_at = let e_is = event_at_is ws e at in subst (ItemAt ws) (some_is (rw at at is)) (record { names = e_is.names; words = e_is.words })
+    by None at (Some s) s_at c c_at d d_at = let s_is = signal_at_is ws s s_at in subst (ItemAt ws) (some_is (rw (at, s_at) at is)) (record { names = s_is.names; words = s_is.words })
+    by None at None s_at (Some c) c_at d d_at = let c_is = cond_at_is ws c c_at in subst (ItemAt ws) (some_is (rw (at, s_at, c_at) at is)) (record { names = c_is.names; words = c_is.words })
+    by None at None s_at None c_at (Some c) d_at =
+        let c_is = settled_at_is ws c d_at in subst (ItemAt ws) (some_is (rw (at, s_at, c_at, d_at) at is)) (record { names = c_is.names; words = c_is.words })
+    by None at None s_at None c_at None d_at = absurd (none_some (rw (at, s_at, c_at, d_at) at is))
 
 some_words : (i : Item) → 0 < length (item_words i)
 some_words (Event e) = omega arith
 some_words (Signal s) = omega arith
 some_words (Cond c) = omega arith
+some_words (Settled c) = omega arith
 
 pub item_shorter : (ws : List (List ℕ)) (i : Item × List (List ℕ)) → item_at ws ≡ Some i → length i.1 < length ws
 item_shorter ws i is = let at = item_at_is ws i is in omega (arith, ap length at.words, length-append (item_words i.0) i.1, some_words i.0)

@@ -61,9 +61,12 @@ first_of (suc n) small long = first_decimal (suc n) (omega arith) small
 pub is_number-decimal : (n : ℕ) → n < 2 ^ 64 → is_number (decimal n) ≡ true
 is_number-decimal n small = number_of_digits (decimal n) (digits_decimal own n small) (decimal_nonempty n small) (first_of n small)
 
+pub counted_decimal : (n : ℕ) → n < 2 ^ 64 → counted 0 (decimal n) ≡ n
+counted_decimal n small = digits_value-decimal own n small
+
 pub number_in-decimal : (n : ℕ) → n < 2 ^ 64 → number_in (decimal n) ≡ Some n
 number_in-decimal n small =
-    ap (λ b. elim b [ true ↦ Some (counted 0 (decimal n)) | false ↦ None ]) (is_number-decimal n small) ∙ ap (λ k. Some k) (digits_value-decimal own n small)
+    ap (λ b. elim b [ true ↦ Some (counted 0 (decimal n)) | false ↦ None ]) (is_number-decimal n small) ∙ ap (λ k. Some k) (counted_decimal n small)
 
 pub numbers_are_decimal : (word : List ℕ) (n : ℕ) → n < 2 ^ 64 → (number_in word ≡ Some n) ↔ (word ≡ decimal n)
 numbers_are_decimal word n small = (number_text word n small, λ e. ap number_in e ∙ number_in-decimal n small)

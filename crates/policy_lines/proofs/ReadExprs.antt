@@ -5,7 +5,7 @@ use Rattle.std.specs.List.{list_all, list_any, insert, take_while}
 use Rattle.std.proofs.lemmas.Bool.{and_parts, and_from, leb-true, ltb-true, false≢true}
 use Rattle.gtrbac_model.specs.declared.calendars.Calendar.{Calendar}
 use Rattle.gtrbac_model.specs.Period.{Part, Expr}
-use Rattle.calendar_laws.specs.Valid.{is_same, is_below, is_set, rises_above, goes_down, from_all, is_expr}
+use Rattle.gtrbac_model.specs.Valid.{is_same, is_below, is_set, rises_above, goes_down, from_all, is_expr}
 use Rattle.periodic_expr.specs.declared.faults.ExprKind.{ExprKind}
 use Rattle.periodic_expr.specs.Sketch.{put_in}
 use Rattle.periodic_expr.specs.Grammar.{Number, RawPart, RawLength, RawExpr, is_short, short_set, short_span, where_not, zero_faults, set_faults, first_faults, span_faults, later_faults, faults_of, gathered, set_of, part_of, last_calendar, with_span, expr_of}

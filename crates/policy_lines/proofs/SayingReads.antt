@@ -1,12 +1,13 @@
 -- A line that is spelled by a saying reads as it.
-use Rattle.std.proofs.Common.{◌≡◌, inl, inr, ℕ, ◌≤◌, Bool, true, false, ◌&&◌, List, [], ◌∷◌, ◌++◌, length, take, Option, Some, None, Result, Ok, refl, sym, ◌∙◌, ap, arith, decimal, append_assoc, append-nil}
-use Rattle.std.specs.Prelude.{codes, bytes_eq, nat_le}
+use Rattle.std.proofs.Common.{◌≡◌, inl, inr, ℕ, ◌≤◌, Bool, true, false, ◌&&◌, List, [], ◌∷◌, ◌++◌, length, take, Option, Some, None, Result, Ok, Err, refl, sym, ◌∙◌, ap, arith, decimal, append_assoc, append-nil}
+use Rattle.std.specs.Prelude.{codes, bytes_eq, nat_le, nat_eq}
 use Rattle.std.specs.List.{list_all}
 use Rattle.std.proofs.lemmas.Fmt.{decimal_digit}
 use Rattle.std.proofs.lemmas.Slice.Eq.{bytes_eq-Decides}
 use Rattle.std.proofs.lemmas.Bool.{false≢true}
 use Rattle.std.proofs.lemmas.Bool.Decides.{Decides-eqb}
 use borrow.Author.Tests.{leb-true}
+use Rattle.gtrbac_model.proofs.Elements.{either_true}
 use Rattle.gt_base.specs.Bounds.{last_minute}
 use Rattle.gt_base.specs.Names.{is_name, name_in, number_from}
 use Rattle.gt_base.specs.declared.policies.Form.{Form}
@@ -15,8 +16,10 @@ use Rattle.gt_text.specs.Words.{words_of}
 use Rattle.civil_time.specs.Text.{civil_text, civil_in}
 use Rattle.civil_time.proofs.Texts.{texts_are_read}
 use Rattle.policy_words.specs.declared.faults.TextKind.{TextKind}
+use Rattle.policy_words.specs.declared.faults.TextKind.TheVariants as faults
+use Rattle.policy_words.specs.declared.versions.TextVersion.{TextVersion}
 use Rattle.policy_words.specs.declared.parts.NamedFluent.{NamedFluent}
-use Rattle.policy_words.specs.declared.parts.NamedFluent.TheVariants.{Enabled, Assigned, Granted, Limit}
+use Rattle.policy_words.specs.declared.parts.NamedFluent.TheVariants.{Enabled, Assigned, Granted, Limit, Edge}
 use Rattle.policy_words.specs.declared.parts.NamedCond.{NamedCond}
 use Rattle.policy_words.specs.declared.parts.NamedHead.{NamedHead}
 use Rattle.policy_words.specs.declared.parts.Item.{Item}
@@ -26,7 +29,8 @@ use Rattle.policy_words.specs.declared.sayings.CapKind.{CapKind}
 use Rattle.policy_words.specs.declared.sayings.CapKind.TheVariants as caps
 use Rattle.policy_words.specs.Wording.{fluent_names, cond_words, head_words, cond_at, head_at, delay_in, delay_words}
 use Rattle.policy_words.specs.Sayings.{Saying, version, role, user, perm, period, limit, edge, cap, admin, opening, entry, trigger, said_words, and_items, during_words, is_formed, are_names, is_count, is_period_name, is_head, is_item, is_some_item}
-use Rattle.policy_words.specs.Reading.{said_of, one_name, first_in, last_in, period_by, during_in, most_at, limit_in, entry_in, trigger_in, trigger_by, with_body, version_by, is_one, formed}
+use Rattle.policy_words.specs.Reading.{said_of, one_name, first_in, last_in, period_by, during_in, most_at, limit_in, linked_by, entry_in, trigger_in, trigger_by, version_in, version_by, formed, formed_in}
+use Rattle.policy_words.specs.Versions.{is_open, has_edges, is_allowed}
 use Rattle.policy_words.specs.Spelling.{IsBound, HasBounds}
 use Rattle.policy_lines.specs.Cursors.{items_of}
 use Rattle.policy_lines.proofs.Truths.{both, not_true}
@@ -34,10 +38,11 @@ use Rattle.policy_lines.proofs.Numbers.{number_from-decimal}
 use Rattle.policy_lines.proofs.SpelledReads.{cond_reads, head_reads, items_read, delay_reads}
 
 -- what is answered where a saying is read that is no period
-abbrev pub judged : Bool → Saying → Result Saying TextKind
-judged first (version n) = version_by first
-judged first (trigger items h d) = with_body (trigger items h d)
-judged first said = Ok said
+abbrev pub judged : TextVersion → Saying → Result Saying TextKind
+judged v (version n) = version_by (is_open v) (Some n)
+judged v (opening f) = elim (is_allowed (has_edges v) (opening f)) [ true ↦ Ok (opening f) | false ↦ Err faults.Word ]
+judged v (trigger items h d) = trigger_by (has_edges v) (Some (trigger items h d))
+judged v said = formed_in (has_edges v) (Some said)
 
 abbrev pub is_no_period : Saying → Bool
 is_no_period (period n first last e) = false
@@ -49,12 +54,11 @@ name_is n h = ap (λ b. elim b as (λ _. Option (List ℕ)) [ true ↦ Some n | 
 pub one_name_reads : (build : List ℕ → Saying) (n : List ℕ) → is_name n ≡ true → one_name build (n ∷ []) ≡ Some (build n)
 one_name_reads build n h = rw (name_is n h) refl
 
-one_reads : (first : Bool) → version_by (first && is_one (decimal 1 ∷ [])) ≡ version_by first
-one_reads first = ap (λ w. version_by (first && bytes_eq w (codes "1"))) (decimal_digit 1 (omega arith)) ∙ ap version_by (by first)
-  where
-    by : (b : Bool) → (b && true) ≡ b
-    by true = refl
-    by false = refl
+pub version_reads : (n : ℕ) → is_formed (version n) ≡ true → version_in (decimal n ∷ []) ≡ Some n
+version_reads n h = elim (either_true (nat_eq n 1) (nat_eq n 2) h) [
+  | inl one ↦ ap (λ n. version_in (decimal n ∷ [])) ((Decides-eqb n 1).0 one) ∙ ap (λ w. version_in (w ∷ [])) (decimal_digit 1 (omega arith)) ∙ ap (λ n. Some n) (sym ((Decides-eqb n 1).0 one))
+  | inr two ↦ ap (λ n. version_in (decimal n ∷ [])) ((Decides-eqb n 2).0 two) ∙ ap (λ w. version_in (w ∷ [])) (decimal_digit 2 (omega arith)) ∙ ap (λ n. Some n) (sym ((Decides-eqb n 2).0 two))
+]
 
 -- numbers in range
 
@@ -85,30 +89,35 @@ limit_reads n prio c most during h =
 
 -- sayings of each kind, behind their first word
 
-edge_reads : (first : Bool) (line : List ℕ) (kind : EdgeKind) (strong : Bool) (s j : List ℕ) → is_formed (edge kind strong s j) ≡ true
-    → said_of first line (said_words (edge kind strong s j)) ≡ Ok (edge kind strong s j)
-edge_reads first line I true s j h = let names = both (is_name s) (is_name j) h in rw (name_is s names.0, name_is j names.1) refl
-edge_reads first line I false s j h = let names = both (is_name s) (is_name j) h in rw (name_is s names.0, name_is j names.1) refl
-edge_reads first line A true s j h = let names = both (is_name s) (is_name j) h in rw (name_is s names.0, name_is j names.1) refl
-edge_reads first line A false s j h = let names = both (is_name s) (is_name j) h in rw (name_is s names.0, name_is j names.1) refl
-edge_reads first line Ia true s j h = let names = both (is_name s) (is_name j) h in rw (name_is s names.0, name_is j names.1) refl
-edge_reads first line Ia false s j h = let names = both (is_name s) (is_name j) h in rw (name_is s names.0, name_is j names.1) refl
+edge_reads : (v : TextVersion) (line : List ℕ) (kind : EdgeKind) (strong : Bool) (s j : List ℕ) → is_formed (edge kind strong s j) ≡ true
+    → said_of v line (said_words (edge kind strong s j)) ≡ Ok (edge kind strong s j)
+edge_reads v line I true s j h = let names = both (is_name s) (is_name j) h in rw (name_is s names.0, name_is j names.1) refl
+edge_reads v line I false s j h = let names = both (is_name s) (is_name j) h in rw (name_is s names.0, name_is j names.1) refl
+edge_reads v line A true s j h = let names = both (is_name s) (is_name j) h in rw (name_is s names.0, name_is j names.1) refl
+edge_reads v line A false s j h = let names = both (is_name s) (is_name j) h in rw (name_is s names.0, name_is j names.1) refl
+edge_reads v line Ia true s j h = let names = both (is_name s) (is_name j) h in rw (name_is s names.0, name_is j names.1) refl
+edge_reads v line Ia false s j h = let names = both (is_name s) (is_name j) h in rw (name_is s names.0, name_is j names.1) refl
 
-cap_reads : (first : Bool) (line : List ℕ) (kind : CapKind) (r : List ℕ) (n : ℕ) → is_formed (cap kind r n) ≡ true
-    → said_of first line (said_words (cap kind r n)) ≡ Ok (cap kind r n)
-cap_reads first line caps.Total r n h = let parts = both (is_name r) (is_count n) h in rw (name_is r parts.0, count_reads n parts.1) refl
-cap_reads first line caps.User r n h = let parts = both (is_name r) (is_count n) h in rw (name_is r parts.0, count_reads n parts.1) refl
-cap_reads first line caps.Length r n h = let parts = both (is_name r) (is_count n) h in rw (name_is r parts.0, count_reads n parts.1) refl
-cap_reads first line caps.Day r n h = let parts = both (is_name r) (is_count n) h in rw (name_is r parts.0, count_reads n parts.1) refl
+cap_reads : (v : TextVersion) (line : List ℕ) (kind : CapKind) (r : List ℕ) (n : ℕ) → is_formed (cap kind r n) ≡ true
+    → said_of v line (said_words (cap kind r n)) ≡ Ok (cap kind r n)
+cap_reads v line caps.Total r n h = let parts = both (is_name r) (is_count n) h in rw (name_is r parts.0, count_reads n parts.1) refl
+cap_reads v line caps.User r n h = let parts = both (is_name r) (is_count n) h in rw (name_is r parts.0, count_reads n parts.1) refl
+cap_reads v line caps.Length r n h = let parts = both (is_name r) (is_count n) h in rw (name_is r parts.0, count_reads n parts.1) refl
+cap_reads v line caps.Day r n h = let parts = both (is_name r) (is_count n) h in rw (name_is r parts.0, count_reads n parts.1) refl
 
 status_reads : (f : NamedFluent) → are_names (fluent_names f) ≡ true → cond_at (cond_words (record { on = true; fluent = f })) ≡ Some (record { on = true; fluent = f }, [])
 status_reads f h = ap cond_at (sym (append-nil (cond_words (record { on = true; fluent = f })))) ∙ cond_reads (record { on = true; fluent = f }) [] h
 
-opening_reads : (first : Bool) (line : List ℕ) (f : NamedFluent) → is_formed (opening f) ≡ true → said_of first line (said_words (opening f)) ≡ Ok (opening f)
-opening_reads first line (Enabled r) h = rw (status_reads (Enabled r) h) refl
-opening_reads first line (Assigned u r) h = rw (status_reads (Assigned u r) h) refl
-opening_reads first line (Granted q r) h = rw (status_reads (Granted q r) h) refl
-opening_reads first line (Limit l) h = rw (status_reads (Limit l) h) refl
+opening_reads : (v : TextVersion) (line : List ℕ) (f : NamedFluent) → is_formed (opening f) ≡ true → said_of v line (said_words (opening f)) ≡ judged v (opening f)
+opening_reads v line (Enabled r) h = rw (status_reads (Enabled r) h) refl
+opening_reads v line (Assigned u r) h = rw (status_reads (Assigned u r) h) refl
+opening_reads v line (Granted q r) h = rw (status_reads (Granted q r) h) refl
+opening_reads v line (Limit l) h = rw (status_reads (Limit l) h) refl
+opening_reads v line (Edge s j) h = rw (status_reads (Edge s j) h) (by (has_edges v))
+  where
+    by : (edges : Bool) → linked_by edges (Some (opening (Edge s j))) ≡ elim edges as (λ _. Result Saying TextKind) [ true ↦ Ok (opening (Edge s j)) | false ↦ Err faults.Word ]
+    by true = refl
+    by false = refl
 
 entry_words : (f : Form) (p : List ℕ) (h : NamedHead) → is_formed (entry f p h) ≡ true → entry_in f (p ∷ head_words h) ≡ Some (entry f p h)
 entry_words f p h is =
@@ -116,10 +125,10 @@ entry_words f p h is =
     let head : head_at 99 (head_words h) ≡ Some (h, []) = ap (head_at 99) (sym (append-nil (head_words h))) ∙ head_reads h [] parts.1 in
     rw (name_is p parts.0, head) refl
 
-entry_reads : (first : Bool) (line : List ℕ) (f : Form) (p : List ℕ) (h : NamedHead) → is_formed (entry f p h) ≡ true → said_of first line (said_words (entry f p h)) ≡ Ok (entry f p h)
-entry_reads first line Each p h is = ap formed (entry_words Each p h is)
-entry_reads first line Start p h is = ap formed (entry_words Start p h is)
-entry_reads first line Span p h is = ap formed (entry_words Span p h is)
+entry_reads : (v : TextVersion) (line : List ℕ) (f : Form) (p : List ℕ) (h : NamedHead) → is_formed (entry f p h) ≡ true → said_of v line (said_words (entry f p h)) ≡ judged v (entry f p h)
+entry_reads v line Each p h is = ap (formed_in (has_edges v)) (entry_words Each p h is)
+entry_reads v line Start p h is = ap (formed_in (has_edges v)) (entry_words Start p h is)
+entry_reads v line Span p h is = ap (formed_in (has_edges v)) (entry_words Span p h is)
 
 -- a trigger, whose delay may be spelled in any way that is read so
 pub trigger_reads : (items : List Item) (h : NamedHead) (d : ℕ) (ws : List (List ℕ)) → is_formed (trigger items h d) ≡ true → delay_in ws ≡ Some d
@@ -134,21 +143,21 @@ trigger_reads items h d ws is delay =
     let body : items_of ((and_items items ++ codes "then" ∷ head_words h) ++ ws) ≡ Some (items, head_words h ++ ws) = ap items_of whole ∙ items_read items (head_words h ++ ws) p1.0 p1.1 in
     rw (body, head_reads h ws p2.1, delay) refl
 
-pub saying_reads : (first : Bool) (line : List ℕ) (said : Saying) → is_formed said ≡ true → is_no_period said ≡ true → said_of first line (said_words said) ≡ judged first said
-saying_reads first line (version n) h np = ap (λ n. said_of first line (said_words (version n))) ((Decides-eqb n 1).0 h) ∙ one_reads first
-saying_reads first line (role n) h np = ap formed (one_name_reads (λ n. role n) n h)
-saying_reads first line (user n) h np = ap formed (one_name_reads (λ n. user n) n h)
-saying_reads first line (perm n) h np = ap formed (one_name_reads (λ n. perm n) n h)
-saying_reads first line (period n f l e) h np = absurd (false≢true np)
-saying_reads first line (limit n prio c most during) h np = ap formed (limit_reads n prio c most during h)
-saying_reads first line (edge kind strong s j) h np = edge_reads first line kind strong s j h
-saying_reads first line (cap kind r n) h np = cap_reads first line kind r n h
-saying_reads first line (admin u) h np = ap formed (one_name_reads (λ n. admin n) u h)
-saying_reads first line (opening f) h np = opening_reads first line f h
-saying_reads first line (entry f p h) is np = entry_reads first line f p h is
-saying_reads first line (trigger items h d) is np =
+pub saying_reads : (v : TextVersion) (line : List ℕ) (said : Saying) → is_formed said ≡ true → is_no_period said ≡ true → said_of v line (said_words said) ≡ judged v said
+saying_reads v line (version n) h np = ap (version_by (is_open v)) (version_reads n h)
+saying_reads v line (role n) h np = ap formed (one_name_reads (λ n. role n) n h)
+saying_reads v line (user n) h np = ap formed (one_name_reads (λ n. user n) n h)
+saying_reads v line (perm n) h np = ap formed (one_name_reads (λ n. perm n) n h)
+saying_reads v line (period n f l e) h np = absurd (false≢true np)
+saying_reads v line (limit n prio c most during) h np = ap (formed_in (has_edges v)) (limit_reads n prio c most during h)
+saying_reads v line (edge kind strong s j) h np = edge_reads v line kind strong s j h
+saying_reads v line (cap kind r n) h np = cap_reads v line kind r n h
+saying_reads v line (admin u) h np = ap formed (one_name_reads (λ n. admin n) u h)
+saying_reads v line (opening f) h np = opening_reads v line f h
+saying_reads v line (entry f p h) is np = entry_reads v line f p h is
+saying_reads v line (trigger items h d) is np =
     let le : d ≤ last_minute = leb-true d last_minute (both (is_some_item items && list_all is_item items && is_head h) (nat_le d last_minute) is).1 in
-    ap trigger_by (trigger_reads items h d (delay_words d) is (delay_reads d le))
+    ap (trigger_by (has_edges v)) (trigger_reads items h d (delay_words d) is (delay_reads d le))
 
 -- a period by its bounds
 
@@ -176,7 +185,7 @@ four (v ∷ w ∷ x ∷ y ∷ more) a b c d e = (more, joined v w x y more e)
     joined : (v w x y : List ℕ) (more : List (List ℕ)) → v ∷ w ∷ x ∷ y ∷ [] ≡ a ∷ b ∷ c ∷ d ∷ [] → v ∷ w ∷ x ∷ y ∷ more ≡ a ∷ b ∷ c ∷ d ∷ more
     joined v w x y more e = cc
 
-pub bounds_read : (first : Bool) (line n : List ℕ) (f l : ℕ) → HasBounds line n f l → said_of first line (words_of line) ≡ period_by line (Some (record { name = n; first = f; last = l }))
-bounds_read first line n f l h =
+pub bounds_read : (v : TextVersion) (line n : List ℕ) (f l : ℕ) → HasBounds line n f l → said_of v line (words_of line) ≡ period_by line (Some (record { name = n; first = f; last = l }))
+bounds_read v line n f l h =
     let words = four (words_of line) (codes "period") n h.first_word h.last_word h.words in
-    ap (said_of first line) words.1 ∙ rw (name_is n h.name, first_reads h.first_word f h.is_first, last_reads h.last_word l h.is_last) refl
+    ap (said_of v line) words.1 ∙ rw (name_is n h.name, first_reads h.first_word f h.is_first, last_reads h.last_word l h.is_last) refl

@@ -15,14 +15,16 @@ use Rattle.civil_time.specs.Text.{civil_text, text_of}
 use Rattle.policy_words.specs.declared.parts.NamedCond.{NamedCond}
 use Rattle.policy_words.specs.declared.parts.NamedHead.{NamedHead}
 use Rattle.policy_words.specs.declared.parts.Item.{Item}
-use Rattle.policy_words.specs.declared.parts.Item.TheVariants.{Event, Signal, Cond}
+use Rattle.policy_words.specs.declared.parts.Item.TheVariants.{Event, Signal, Cond, Settled}
 use Rattle.policy_words.specs.declared.sayings.EdgeKind.{EdgeKind}
 use Rattle.policy_words.specs.declared.sayings.EdgeKind.TheVariants.{I, A, Ia}
 use Rattle.policy_words.specs.declared.sayings.CapKind.{CapKind}
 use Rattle.policy_words.specs.declared.sayings.CapKind.TheVariants as caps
 use Rattle.gt_base.specs.declared.policies.Form.{Form}
 use Rattle.gt_base.specs.declared.policies.Form.TheVariants.{Each, Start, Span}
-use Rattle.policy_words.specs.Wording.{Sort, enabling, assigning, granting, arming, event_verb, cond_verb, signal_verb, sort_of, fluent_names, cond_words, item_words, head_words, delay_words}
+use Rattle.policy_words.specs.declared.parts.Sort.{Sort}
+use Rattle.policy_words.specs.declared.parts.Sort.TheVariants.{Enabling, Assigning, Granting, Arming, Linking}
+use Rattle.policy_words.specs.Wording.{event_verb, cond_verb, signal_verb, sort_of, fluent_names, cond_words, item_words, head_words, delay_words}
 use Rattle.policy_words.specs.Sayings.{Saying, version, role, user, perm, period, limit, edge, cap, admin, opening, entry, trigger, said_words, and_items, during_words, kind_word, strength_word, cap_word, form_word, is_formed, are_names, is_count, is_period_name, is_head, is_item, is_some_item}
 use Rattle.policy_lines.specs.Plain.{is_solid, is_word}
 use Rattle.policy_lines.proofs.Truths.{both, and_true}
@@ -87,35 +89,39 @@ solid_civil c = two_on (c.year / 100) _ (two_on (c.year % 100) _ (two_on c.month
 pub word_civil : (t : ℕ) → is_word (civil_text t) ≡ true
 word_civil t = solid_civil (civil_at t)
 
-words_names : (ns : List (List ℕ)) → are_names ns ≡ true → list_all is_word ns ≡ true
+pub words_names : (ns : List (List ℕ)) → are_names ns ≡ true → list_all is_word ns ≡ true
 words_names [] h = refl
 words_names (n ∷ ns) h = let parts = both (is_name n) (are_names ns) h in and_true (is_word n) (list_all is_word ns) (word_name n parts.0) (words_names ns parts.1)
 
-word_event_verb : (on : Bool) (s : Sort) → is_word (event_verb on s) ≡ true
-word_event_verb true enabling = refl
-word_event_verb false enabling = refl
-word_event_verb true assigning = refl
-word_event_verb false assigning = refl
-word_event_verb true granting = refl
-word_event_verb false granting = refl
-word_event_verb true arming = refl
-word_event_verb false arming = refl
+pub word_event_verb : (on : Bool) (s : Sort) → is_word (event_verb on s) ≡ true
+word_event_verb true Enabling = refl
+word_event_verb false Enabling = refl
+word_event_verb true Assigning = refl
+word_event_verb false Assigning = refl
+word_event_verb true Granting = refl
+word_event_verb false Granting = refl
+word_event_verb true Arming = refl
+word_event_verb false Arming = refl
+word_event_verb true Linking = refl
+word_event_verb false Linking = refl
 
-word_cond_verb : (on : Bool) (s : Sort) → is_word (cond_verb on s) ≡ true
-word_cond_verb true enabling = refl
-word_cond_verb false enabling = refl
-word_cond_verb true assigning = refl
-word_cond_verb false assigning = refl
-word_cond_verb true granting = refl
-word_cond_verb false granting = refl
-word_cond_verb true arming = refl
-word_cond_verb false arming = refl
+pub word_cond_verb : (on : Bool) (s : Sort) → is_word (cond_verb on s) ≡ true
+word_cond_verb true Enabling = refl
+word_cond_verb false Enabling = refl
+word_cond_verb true Assigning = refl
+word_cond_verb false Assigning = refl
+word_cond_verb true Granting = refl
+word_cond_verb false Granting = refl
+word_cond_verb true Arming = refl
+word_cond_verb false Arming = refl
+word_cond_verb true Linking = refl
+word_cond_verb false Linking = refl
 
 word_signal_verb : (start : Bool) → is_word (signal_verb start) ≡ true
 word_signal_verb true = refl
 word_signal_verb false = refl
 
-behind : (w : List ℕ) (ws : List (List ℕ)) → is_word w ≡ true → list_all is_word ws ≡ true → list_all is_word (w ∷ ws) ≡ true
+pub behind : (w : List ℕ) (ws : List (List ℕ)) → is_word w ≡ true → list_all is_word ws ≡ true → list_all is_word (w ∷ ws) ≡ true
 behind w ws h k = and_true (is_word w) (list_all is_word ws) h k
 
 words_cond : (c : NamedCond) → are_names (fluent_names c.fluent) ≡ true → list_all is_word (cond_words c) ≡ true
@@ -127,9 +133,10 @@ words_item (Signal s) h =
     let parts = both (is_name s.user) (is_name s.role) h in
     behind (signal_verb s.start) (s.user ∷ s.role ∷ []) (word_signal_verb s.start) (behind s.user (s.role ∷ []) (word_name s.user parts.0) (behind s.role [] (word_name s.role parts.1) refl))
 words_item (Cond c) h = words_cond c h
+words_item (Settled c) h = behind (codes "settled") (cond_words c) refl (words_cond c h)
 
 -- a word that goes on is a word
-word_on : (a b : List ℕ) → is_word a ≡ true → list_all is_solid b ≡ true → is_word (a ++ b) ≡ true
+pub word_on : (a b : List ℕ) → is_word a ≡ true → list_all is_solid b ≡ true → is_word (a ++ b) ≡ true
 word_on [] b h k = absurd (false≢true h)
 word_on (x ∷ a) b h k =
     and_true (nat_lt 0 (length (x ∷ a ++ b))) (list_all is_solid (x ∷ a ++ b)) (lt-ltb 0 (length (x ∷ a ++ b)) (omega arith))
@@ -151,7 +158,7 @@ words_items (i ∷ j ∷ is) h =
     let parts = both (is_item i) (list_all is_item (j ∷ is)) h in
     all_append is_word (item_words i) (codes "and" ∷ and_items (j ∷ is)) (words_item i parts.0) (behind (codes "and") (and_items (j ∷ is)) refl (words_items (j ∷ is) parts.1))
 
-words_delay : (d : ℕ) → d ≤ last_minute → list_all is_word (delay_words d) ≡ true
+pub words_delay : (d : ℕ) → d ≤ last_minute → list_all is_word (delay_words d) ≡ true
 words_delay d le = split (nat_eq d 0) (λ t. rw (t, delay_words) refl) (λ f. rw (f, delay_words) (behind (decimal d) [] (word_decimal d (omega (arith, le))) refl))
 
 word_count : (n : ℕ) → is_count n ≡ true → is_word (decimal n) ≡ true
@@ -182,7 +189,10 @@ word_form Start = refl
 word_form Span = refl
 
 pub solid_words : (said : Saying) → is_formed said ≡ true → is_no_period said ≡ true → list_all is_word (said_words said) ≡ true
-solid_words (version n) h np = let one : n ≡ 1 = (Decides-eqb n 1).0 h in behind (decimal n) [] (word_decimal n (omega (arith, one))) refl
+solid_words (version n) h np = behind (decimal n) [] (elim (either_true (nat_eq n 1) (nat_eq n 2) h) [
+  | inl one ↦ word_decimal n (omega (arith, (Decides-eqb n 1).0 one))
+  | inr two ↦ word_decimal n (omega (arith, (Decides-eqb n 2).0 two))
+]) refl
 solid_words (role n) h np = behind n [] (word_name n h) refl
 solid_words (user n) h np = behind n [] (word_name n h) refl
 solid_words (perm n) h np = behind n [] (word_name n h) refl

@@ -1,5 +1,5 @@
 -- What is spelled by words is read from them.
-use Rattle.std.proofs.Common.{◌≡◌, ℕ, zero, suc, ◌+◌, ◌<◌, ◌≤◌, Bool, true, false, ◌&&◌, List, [], ◌∷◌, ◌++◌, length, get_or, take, drop, Option, Some, None, refl, sym, ◌∙◌, ap, arith, decimal, append_assoc, length-append}
+use Rattle.std.proofs.Common.{◌≡◌, ℕ, zero, suc, ◌+◌, ◌<◌, ◌≤◌, ◌^◌, Bool, true, false, ◌&&◌, List, [], ◌∷◌, ◌++◌, length, get_or, take, drop, Option, Some, None, refl, sym, ◌∙◌, ap, arith, decimal, append_assoc, length-append}
 use Rattle.std.specs.Prelude.{codes, nat_le, nat_eq}
 use Rattle.std.specs.List.{list_all, before_first, after_first, position_or_len}
 use Rattle.std.proofs.lemmas.List.Sums.{position_or_len_is}
@@ -10,14 +10,16 @@ use borrow.Author.Tests.{leb-true}
 use Rattle.gtrbac_model.proofs.Elements.{split}
 use Rattle.gt_base.specs.Names.{is_name, is_digit, number_from}
 use Rattle.policy_words.specs.declared.parts.NamedFluent.{NamedFluent}
-use Rattle.policy_words.specs.declared.parts.NamedFluent.TheVariants.{Enabled, Assigned, Granted, Limit}
+use Rattle.policy_words.specs.declared.parts.NamedFluent.TheVariants.{Enabled, Assigned, Granted, Limit, Edge}
 use Rattle.policy_words.specs.declared.parts.NamedEvent.{NamedEvent}
 use Rattle.policy_words.specs.declared.parts.NamedCond.{NamedCond}
 use Rattle.policy_words.specs.declared.parts.NamedSignal.{NamedSignal}
 use Rattle.policy_words.specs.declared.parts.NamedHead.{NamedHead}
 use Rattle.policy_words.specs.declared.parts.Item.{Item}
-use Rattle.policy_words.specs.declared.parts.Item.TheVariants.{Event, Signal, Cond}
-use Rattle.policy_words.specs.Wording.{◌>>=◌, Sort, enabling, assigning, granting, arming, event_verb, cond_verb, signal_verb, verb_in, or_else, sort_of, fluent_names, event_words, cond_words, signal_words, item_words, head_words, delay_words, fluent_at, verb_at, event_at, cond_at, signal_of, signal_at, item_at, head_at, is_colon, delay_in}
+use Rattle.policy_words.specs.declared.parts.Item.TheVariants.{Event, Signal, Cond, Settled}
+use Rattle.policy_words.specs.declared.parts.Sort.{Sort}
+use Rattle.policy_words.specs.declared.parts.Sort.TheVariants.{Enabling, Assigning, Granting, Arming, Linking}
+use Rattle.policy_words.specs.Wording.{◌>>=◌, event_verb, cond_verb, signal_verb, verb_in, or_else, sort_of, fluent_names, event_words, cond_words, signal_words, item_words, head_words, delay_words, fluent_at, verb_at, event_at, cond_at, signal_of, signal_at, settled_at, item_at, head_at, is_colon, delay_in}
 use Rattle.policy_words.specs.Sayings.{are_names, is_item, is_head, and_items, is_some_item}
 use Rattle.policy_lines.specs.Cursors.{items_of, onto}
 use Rattle.policy_lines.proofs.Truths.{both, and_true}
@@ -35,26 +37,31 @@ fluent_reads (Enabled a) rest h = ap (λ b. elim b as (λ _. Option (NamedFluent
 fluent_reads (Assigned a b) rest h = ap (λ t. elim t as (λ _. Option (NamedFluent × List (List ℕ))) [ true ↦ Some (Assigned a b, rest) | false ↦ None ]) (pair_true a b h)
 fluent_reads (Granted a b) rest h = ap (λ t. elim t as (λ _. Option (NamedFluent × List (List ℕ))) [ true ↦ Some (Granted a b, rest) | false ↦ None ]) (pair_true a b h)
 fluent_reads (Limit a) rest h = ap (λ b. elim b as (λ _. Option (NamedFluent × List (List ℕ))) [ true ↦ Some (Limit a, rest) | false ↦ None ]) (one_true a h)
+fluent_reads (Edge a b) rest h = ap (λ t. elim t as (λ _. Option (NamedFluent × List (List ℕ))) [ true ↦ Some (Edge a b, rest) | false ↦ None ]) (pair_true a b h)
 
 event_found : (on : Bool) (s : Sort) → verb_in event_verb (event_verb on s) ≡ Some (on, s)
-event_found true enabling = refl
-event_found false enabling = refl
-event_found true assigning = refl
-event_found false assigning = refl
-event_found true granting = refl
-event_found false granting = refl
-event_found true arming = refl
-event_found false arming = refl
+event_found true Enabling = refl
+event_found false Enabling = refl
+event_found true Assigning = refl
+event_found false Assigning = refl
+event_found true Granting = refl
+event_found false Granting = refl
+event_found true Arming = refl
+event_found false Arming = refl
+event_found true Linking = refl
+event_found false Linking = refl
 
 cond_found : (on : Bool) (s : Sort) → verb_in cond_verb (cond_verb on s) ≡ Some (on, s)
-cond_found true enabling = refl
-cond_found false enabling = refl
-cond_found true assigning = refl
-cond_found false assigning = refl
-cond_found true granting = refl
-cond_found false granting = refl
-cond_found true arming = refl
-cond_found false arming = refl
+cond_found true Enabling = refl
+cond_found false Enabling = refl
+cond_found true Assigning = refl
+cond_found false Assigning = refl
+cond_found true Granting = refl
+cond_found false Granting = refl
+cond_found true Arming = refl
+cond_found false Arming = refl
+cond_found true Linking = refl
+cond_found false Linking = refl
 
 verb_reads : (verb : Bool → Sort → List ℕ) (on : Bool) (f : NamedFluent) (rest : List (List ℕ)) → verb_in verb (verb on (sort_of f)) ≡ Some (on, sort_of f) → are_names (fluent_names f) ≡ true
     → verb_at verb (verb on (sort_of f) ∷ fluent_names f ++ rest) ≡ Some ((on, f), rest)
@@ -82,30 +89,36 @@ no_event true ws = refl
 no_event false ws = refl
 
 cond_alone : (on : Bool) (s : Sort) (ws : List (List ℕ)) → (event_at (cond_verb on s ∷ ws) ≡ None) × (signal_at (cond_verb on s ∷ ws) ≡ None)
-cond_alone true enabling ws = (refl, refl)
-cond_alone false enabling ws = (refl, refl)
-cond_alone true assigning ws = (refl, refl)
-cond_alone false assigning ws = (refl, refl)
-cond_alone true granting ws = (refl, refl)
-cond_alone false granting ws = (refl, refl)
-cond_alone true arming ws = (refl, refl)
-cond_alone false arming ws = (refl, refl)
+cond_alone true Enabling ws = (refl, refl)
+cond_alone false Enabling ws = (refl, refl)
+cond_alone true Assigning ws = (refl, refl)
+cond_alone false Assigning ws = (refl, refl)
+cond_alone true Granting ws = (refl, refl)
+cond_alone false Granting ws = (refl, refl)
+cond_alone true Arming ws = (refl, refl)
+cond_alone false Arming ws = (refl, refl)
+cond_alone true Linking ws = (refl, refl)
+cond_alone false Linking ws = (refl, refl)
 
-by_parts : Option (NamedEvent × List (List ℕ)) → Option (NamedSignal × List (List ℕ)) → Option (NamedCond × List (List ℕ)) → Option (Item × List (List ℕ))
-by_parts e s c = or_else (do e ← e; Some (Event e.0, e.1)) (or_else (do s ← s; Some (Signal s.0, s.1)) (do c ← c; Some (Cond c.0, c.1)))
+by_parts : Option (NamedEvent × List (List ℕ)) → Option (NamedSignal × List (List ℕ)) → Option (NamedCond × List (List ℕ)) → Option (NamedCond × List (List ℕ)) → Option (Item × List (List ℕ))
+by_parts e s c d = or_else (do e ← e; Some (Event e.0, e.1)) (or_else (do s ← s; Some (Signal s.0, s.1)) (or_else (do c ← c; Some (Cond c.0, c.1)) (do d ← d; Some (Settled d.0, d.1))))
 
 pub item_reads : (i : Item) (rest : List (List ℕ)) → is_item i ≡ true → item_at (item_words i ++ rest) ≡ Some (i, rest)
 unfolding by_parts
 item_reads (Event e) rest h =
-    ap (λ (r : Option (NamedEvent × List (List ℕ))). by_parts r (signal_at (event_words e ++ rest)) (cond_at (event_words e ++ rest))) (event_reads e rest h)
+    let ws = event_words e ++ rest in
+    ap (λ (r : Option (NamedEvent × List (List ℕ))). by_parts r (signal_at ws) (cond_at ws) (settled_at ws)) (event_reads e rest h)
 item_reads (Signal s) rest h =
-    ap (λ (r : Option (NamedEvent × List (List ℕ))). by_parts r (signal_at (signal_words s ++ rest)) (cond_at (signal_words s ++ rest))) (no_event s.start (s.user ∷ s.role ∷ rest))
-    ∙ ap (λ (r : Option (NamedSignal × List (List ℕ))). by_parts None r (cond_at (signal_words s ++ rest))) (signal_reads s rest h)
+    let ws = signal_words s ++ rest in
+    ap (λ (r : Option (NamedEvent × List (List ℕ))). by_parts r (signal_at ws) (cond_at ws) (settled_at ws)) (no_event s.start (s.user ∷ s.role ∷ rest))
+    ∙ ap (λ (r : Option (NamedSignal × List (List ℕ))). by_parts None r (cond_at ws) (settled_at ws)) (signal_reads s rest h)
 item_reads (Cond c) rest h =
+    let ws = cond_words c ++ rest in
     let alone = cond_alone c.on (sort_of c.fluent) (fluent_names c.fluent ++ rest) in
-    ap (λ (r : Option (NamedEvent × List (List ℕ))). by_parts r (signal_at (cond_words c ++ rest)) (cond_at (cond_words c ++ rest))) alone.0
-    ∙ ap (λ (r : Option (NamedSignal × List (List ℕ))). by_parts None r (cond_at (cond_words c ++ rest))) alone.1
-    ∙ ap (λ (r : Option (NamedCond × List (List ℕ))). by_parts None None r) (cond_reads c rest h)
+    ap (λ (r : Option (NamedEvent × List (List ℕ))). by_parts r (signal_at ws) (cond_at ws) (settled_at ws)) alone.0
+    ∙ ap (λ (r : Option (NamedSignal × List (List ℕ))). by_parts None r (cond_at ws) (settled_at ws)) alone.1
+    ∙ ap (λ (r : Option (NamedCond × List (List ℕ))). by_parts None None r (settled_at ws)) (cond_reads c rest h)
+item_reads (Settled c) rest h = ap (λ (r : Option (NamedCond × List (List ℕ))). by_parts None None None r) (cond_reads c rest h)
 
 -- a head: its number has no colon
 
@@ -138,17 +151,20 @@ behind ds rest = sym (drop-drop 1 (length ds) (ds ++ 58 ∷ rest) ∙ ap (λ n. 
 after_colon : (ds rest : List ℕ) → list_all is_digit ds ≡ true → after_first is_colon (ds ++ 58 ∷ rest) ≡ rest
 after_colon ds rest h = ap (λ n. drop (n + 1) (ds ++ 58 ∷ rest)) (colon_place ds rest h) ∙ behind ds rest
 
+pub head_reads_to : (most : ℕ) (h : NamedHead) (rest : List (List ℕ)) → most < 2 ^ 64 → h.prio ≤ most → are_names (fluent_names h.event.fluent) ≡ true → head_at most (head_words h ++ rest) ≡ Some (h, rest)
+head_reads_to most h rest small low names =
+    let digits = all_digits h.prio (omega arith) in
+    let verb = event_verb h.event.on (sort_of h.event.fluent) in
+    let prio : number_from 0 most (before_first is_colon (decimal h.prio ++ 58 ∷ verb)) ≡ Some h.prio =
+    ap (number_from 0 most) (before_colon (decimal h.prio) verb digits) ∙ number_from-decimal 0 most h.prio (omega arith) low small in
+    let event : event_at (after_first is_colon (decimal h.prio ++ 58 ∷ verb) ∷ fluent_names h.event.fluent ++ rest) ≡ Some (h.event, rest) =
+    ap (λ w. event_at (w ∷ fluent_names h.event.fluent ++ rest)) (after_colon (decimal h.prio) verb digits) ∙ event_reads h.event rest names in
+    rw (prio, event) refl
+
 pub head_reads : (h : NamedHead) (rest : List (List ℕ)) → is_head h ≡ true → head_at 99 (head_words h ++ rest) ≡ Some (h, rest)
 head_reads h rest is =
     let parts = both (nat_le h.prio 99) (are_names (fluent_names h.event.fluent)) is in
-    let low : h.prio ≤ 99 = leb-true h.prio 99 parts.0 in
-    let digits = all_digits h.prio (omega arith) in
-    let verb = event_verb h.event.on (sort_of h.event.fluent) in
-    let prio : number_from 0 99 (before_first is_colon (decimal h.prio ++ 58 ∷ verb)) ≡ Some h.prio =
-    ap (number_from 0 99) (before_colon (decimal h.prio) verb digits) ∙ number_from-decimal 0 99 h.prio (omega arith) low (omega arith) in
-    let event : event_at (after_first is_colon (decimal h.prio ++ 58 ∷ verb) ∷ fluent_names h.event.fluent ++ rest) ≡ Some (h.event, rest) =
-    ap (λ w. event_at (w ∷ fluent_names h.event.fluent ++ rest)) (after_colon (decimal h.prio) verb digits) ∙ event_reads h.event rest parts.1 in
-    rw (prio, event) refl
+    head_reads_to 99 h rest (omega arith) (leb-true h.prio 99 parts.0) parts.1
 
 -- items
 

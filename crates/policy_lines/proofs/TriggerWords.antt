@@ -64,7 +64,7 @@ items_at_is (suc k) ws r e =
 
 -- a delay of 0 is spelled in two ways
 
-abbrev SpellsDelay : ℕ → List (List ℕ) → Type 0
+abbrev pub SpellsDelay : ℕ → List (List ℕ) → Type 0
 SpellsDelay d ws = (ws ≡ delay_words d) ⊎ ((d ≡ 0) × (ws ≡ codes "after" ∷ codes "0" ∷ []))
 
 delay_of : (d : ℕ) (n : List ℕ) → n ≡ decimal d → SpellsDelay d (codes "after" ∷ n ∷ [])
@@ -73,7 +73,7 @@ delay_of d n e = split (nat_eq d 0)
     let is : d ≡ 0 = (Decides-eqb d 0).0 t in inr (is, ap (λ n. codes "after" ∷ n ∷ []) (e ∙ ap decimal is ∙ decimal_digit 0 (omega arith))))
     (λ f. inl (ap (λ n. codes "after" ∷ n ∷ []) e ∙ sym (ap (λ b. elim b as (λ _. List (List ℕ)) [ true ↦ [] | false ↦ codes "after" ∷ decimal d ∷ [] ]) f)))
 
-delay_is : (ws : List (List ℕ)) (d : ℕ) → delay_in ws ≡ Some d → (d ≤ last_minute) × SpellsDelay d ws
+pub delay_is : (ws : List (List ℕ)) (d : ℕ) → delay_in ws ≡ Some d → (d ≤ last_minute) × SpellsDelay d ws
 delay_is [] d e = let none : 0 ≡ d = some_is e in (omega (arith, none), inl (sym (ap delay_words (sym none))))
 delay_is (w ∷ []) d e = absurd (none_some e)
 delay_is (w ∷ n ∷ []) d e =

@@ -1,16 +1,15 @@
 -- A saying is read from the line that it writes.
-use Rattle.std.proofs.Common.{◌≡◌, inr, ℕ, ◌<◌, ◌≤◌, ◌^◌, Bool, true, false, not, ◌&&◌, List, [], ◌∷◌, ◌++◌, length, Option, Some, None, Result, Ok, Err, refl, sym, ◌∙◌, ap, arith, decimal, ltb}
+use Rattle.std.proofs.Common.{◌≡◌, inr, ℕ, ◌<◌, ◌≤◌, ◌^◌, true, false, not, ◌&&◌, List, [], ◌∷◌, ◌++◌, length, Option, Some, None, Result, Ok, Err, refl, sym, ◌∙◌, ap, arith, decimal, ltb}
 use Rattle.std.specs.Prelude.{codes, nat_le, nat_lt, flat_map, is_some, take}
 use Rattle.std.specs.List.{list_all}
 use Rattle.std.proofs.lemmas.Bool.{false≢true}
-use Rattle.std.proofs.lemmas.Bool.Decides.{Decides-eqb}
 use borrow.Author.Tests.{leb-true, ltb-true}
 use Rattle.gt_base.specs.Bounds.{last_minute}
 use Rattle.gt_base.specs.Names.{is_name}
 use Rattle.gtrbac_model.specs.declared.calendars.Calendar.{Calendar}
 use Rattle.gtrbac_model.specs.declared.calendars.Calendar.TheVariants.{Years, Months, Weeks, Days, Hours, Minutes}
 use Rattle.gtrbac_model.specs.Period.{Part, Expr}
-use Rattle.calendar_laws.specs.Valid.{is_expr, from_all, goes_down, is_set, is_below, rises_above}
+use Rattle.gtrbac_model.specs.Valid.{is_expr, from_all, goes_down, is_set, is_below, rises_above}
 use Rattle.gt_text.specs.Lines.{is_longer}
 use Rattle.gt_text.specs.Words.{words_of, spaced, are_silent, blank_cut}
 use Rattle.civil_time.specs.Text.{civil_text}
@@ -21,10 +20,16 @@ use Rattle.periodic_expr.proofs.Again.{printed_is_read}
 use Rattle.policy_words.specs.declared.faults.TextKind.{TextKind}
 use Rattle.policy_words.specs.declared.faults.TextKind.TheVariants as faults
 use Rattle.policy_words.specs.Rests.{unindented, trimmed, rest_after}
-use Rattle.policy_words.specs.declared.parts.NamedFluent.TheVariants.{Enabled, Assigned, Granted, Limit}
+use Rattle.policy_words.specs.declared.parts.NamedFluent.{NamedFluent}
+use Rattle.policy_words.specs.declared.parts.NamedFluent.TheVariants.{Enabled, Assigned, Granted, Limit, Edge}
+use Rattle.policy_words.specs.declared.parts.NamedHead.{NamedHead}
+use Rattle.policy_words.specs.declared.parts.Item.{Item}
+use Rattle.policy_words.specs.declared.versions.TextVersion.{TextVersion}
+use Rattle.policy_words.specs.declared.versions.TextVersion.TheVariants.{Open, One, Two}
 use Rattle.gt_base.specs.declared.policies.Form.TheVariants.{Each, Start, Span}
 use Rattle.policy_words.specs.Sayings.{Saying, version, role, user, perm, period, limit, edge, cap, admin, opening, entry, trigger, said_words, is_formed, is_bounded, is_bodied, is_saying}
-use Rattle.policy_words.specs.Reading.{said_of, some_said, read_said, with_expr, expr_of_line}
+use Rattle.policy_words.specs.Reading.{said_of, some_said, read_said, formed_in, trigger_by, with_body, with_expr, expr_of_line}
+use Rattle.policy_words.specs.Versions.{has_edges, is_allowed}
 use Rattle.policy_words.specs.Spelling.{HasBounds, IsPlaced}
 use Rattle.policy_lines.specs.Plain.{is_solid, is_word, is_plain}
 use Rattle.policy_lines.proofs.Truths.{both, and_true, not_true}
@@ -167,9 +172,9 @@ module _ (n : List ℕ) (f l : ℕ) (e : Expr) (name : is_name n ≡ true) (expr
     is_last = inr (high, refl);
   }
 
-  pub period_said : (first : Bool) → f ≤ last_minute → l ≤ last_minute → f ≤ l → said_of first line (words_of line) ≡ Ok (period n f l e)
-  period_said first low high order =
-      bounds_read first line n f l (period_bounds low high)
+  pub period_said : (v : TextVersion) → f ≤ last_minute → l ≤ last_minute → f ≤ l → said_of v line (words_of line) ≡ Ok (period n f l e)
+  period_said v low high order =
+      bounds_read v line n f l (period_bounds low high)
       ∙ ap (λ b. elim b as (λ _. Result Saying TextKind) [ true ↦ Err faults.Bounds | false ↦ with_expr (record { name = n; first = f; last = l }) (read_expr (expr_of_line line)) ])
       (not_true (ltb l f) (λ t. absurd (omega (arith, order, ltb-true l f t))))
       ∙ ap (λ text. with_expr (record { name = n; first = f; last = l }) (read_expr text)) period_expr
@@ -191,69 +196,82 @@ loud_words (opening (Enabled r)) = refl
 loud_words (opening (Assigned u r)) = refl
 loud_words (opening (Granted q r)) = refl
 loud_words (opening (Limit l)) = refl
+loud_words (opening (Edge s j)) = refl
 loud_words (entry Each p h) = refl
 loud_words (entry Start p h) = refl
 loud_words (entry Span p h) = refl
 loud_words (trigger items h d) = refl
 
-pub read_loud : (first : Bool) (line : List ℕ) → length line ≤ 4_096 → are_silent (words_of line) ≡ false → read_said first line ≡ some_said (said_of first line (words_of line))
-read_loud first line short loud =
+pub read_loud : (v : TextVersion) (line : List ℕ) → length line ≤ 4_096 → are_silent (words_of line) ≡ false → read_said v line ≡ some_said (said_of v line (words_of line))
+read_loud v line short loud =
     ap (λ b. elim b as (λ _. Result (Option Saying) TextKind) [
       | true ↦ Err faults.Long
-      | false ↦ elim (are_silent (words_of line)) [ true ↦ Ok None | false ↦ some_said (said_of first line (words_of line)) ]
+      | false ↦ elim (are_silent (words_of line)) [ true ↦ Ok None | false ↦ some_said (said_of v line (words_of line)) ]
     ]) (not_true (is_longer 4_096 line) (λ t. absurd (omega (arith, short, ltb-true 4_096 (length line) t))))
-    ∙ ap (λ b. elim b as (λ _. Result (Option Saying) TextKind) [ true ↦ Ok None | false ↦ some_said (said_of first line (words_of line)) ]) loud
+    ∙ ap (λ b. elim b as (λ _. Result (Option Saying) TextKind) [ true ↦ Ok None | false ↦ some_said (said_of v line (words_of line)) ]) loud
 
-pub judged_ok : (first : Bool) (said : Saying) → is_formed said ≡ true → is_bodied said ≡ true → IsPlaced first said → judged first said ≡ Ok said
-judged_ok true (version n) h b placed = ap (λ n. Ok (version n)) (sym ((Decides-eqb n 1).0 h))
-judged_ok false (version n) h b placed = absurd (placed tt)
-judged_ok first (role n) h b placed = refl
-judged_ok first (user n) h b placed = refl
-judged_ok first (perm n) h b placed = refl
-judged_ok first (period n f l e) h b placed = refl
-judged_ok first (limit n prio c most during) h b placed = refl
-judged_ok first (edge kind strong s j) h b placed = refl
-judged_ok first (cap kind r n) h b placed = refl
-judged_ok first (admin u) h b placed = refl
-judged_ok first (opening f) h b placed = refl
-judged_ok first (entry f p hd) h b placed = refl
-judged_ok first (trigger items hd d) h b placed = ap (λ t. elim t as (λ _. Result Saying TextKind) [ true ↦ Ok (trigger items hd d) | false ↦ Err faults.Body ]) b
+pub allowed_ok : (v : TextVersion) (said : Saying) → is_allowed (has_edges v) said ≡ true → formed_in (has_edges v) (Some said) ≡ Ok said
+allowed_ok v said h = ap (λ b. elim b as (λ _. Result Saying TextKind) [ true ↦ Ok said | false ↦ Err faults.Form ]) h
 
-written_words : (said : Saying) (first : Bool) → is_no_period said ≡ true → is_formed said ≡ true → is_bodied said ≡ true → IsPlaced first said → length (spaced (said_words said)) ≤ 4_096
-    → read_said first (spaced (said_words said)) ≡ Ok (Some said)
-written_words said first np h b placed short =
+pub opening_ok : (v : TextVersion) (f : NamedFluent) → is_allowed (has_edges v) (opening f) ≡ true → judged v (opening f) ≡ Ok (opening f)
+opening_ok v f h = ap (λ b. elim b as (λ _. Result Saying TextKind) [ true ↦ Ok (opening f) | false ↦ Err faults.Word ]) h
+
+pub trigger_ok : (v : TextVersion) (items : List Item) (h : NamedHead) (d : ℕ) → is_allowed (has_edges v) (trigger items h d) ≡ true
+    → trigger_by (has_edges v) (Some (trigger items h d)) ≡ with_body (trigger items h d)
+trigger_ok v items h d allowed = ap (λ b. elim b as (λ _. Result Saying TextKind) [ true ↦ with_body (trigger items h d) | false ↦ Err faults.Form ]) allowed
+
+pub judged_ok : (v : TextVersion) (said : Saying) → is_formed said ≡ true → is_bodied said ≡ true → IsPlaced v said → judged v said ≡ Ok said
+judged_ok Open (version n) h b placed = refl
+judged_ok One (version n) h b placed = absurd (placed.0 tt)
+judged_ok Two (version n) h b placed = absurd (placed.0 tt)
+judged_ok v (role n) h b placed = refl
+judged_ok v (user n) h b placed = refl
+judged_ok v (perm n) h b placed = refl
+judged_ok v (period n f l e) h b placed = refl
+judged_ok v (limit n prio c most during) h b placed = allowed_ok v (limit n prio c most during) placed.1
+judged_ok v (edge kind strong s j) h b placed = refl
+judged_ok v (cap kind r n) h b placed = refl
+judged_ok v (admin u) h b placed = refl
+judged_ok v (opening f) h b placed = opening_ok v f placed.1
+judged_ok v (entry f p hd) h b placed = allowed_ok v (entry f p hd) placed.1
+judged_ok v (trigger items hd d) h b placed =
+    trigger_ok v items hd d placed.1 ∙ ap (λ t. elim t as (λ _. Result Saying TextKind) [ true ↦ Ok (trigger items hd d) | false ↦ Err faults.Body ]) b
+
+written_words : (said : Saying) (v : TextVersion) → is_no_period said ≡ true → is_formed said ≡ true → is_bodied said ≡ true → IsPlaced v said → length (spaced (said_words said)) ≤ 4_096
+    → read_said v (spaced (said_words said)) ≡ Ok (Some said)
+written_words said v np h b placed short =
     let line = spaced (said_words said) in
     let words : words_of line ≡ said_words said = words_of_spaced (said_words said) (solid_words said h np) in
-    read_loud first line short (ap are_silent words ∙ loud_words said)
-    ∙ ap some_said (ap (said_of first line) words ∙ saying_reads first line said h np ∙ judged_ok first said h b placed)
+    read_loud v line short (ap are_silent words ∙ loud_words said)
+    ∙ ap some_said (ap (said_of v line) words ∙ saying_reads v line said h np ∙ judged_ok v said h b placed)
 
-written_period : (n : List ℕ) (f l : ℕ) (e : Expr) (first : Bool) → is_formed (period n f l e) ≡ true → f ≤ l → length (spaced (said_words (period n f l e))) ≤ 4_096
-    → read_said first (spaced (said_words (period n f l e))) ≡ Ok (Some (period n f l e))
-written_period n f l e first h order short =
+written_period : (n : List ℕ) (f l : ℕ) (e : Expr) (v : TextVersion) → is_formed (period n f l e) ≡ true → f ≤ l → length (spaced (said_words (period n f l e))) ≤ 4_096
+    → read_said v (spaced (said_words (period n f l e))) ≡ Ok (Some (period n f l e))
+written_period n f l e v h order short =
     let h3 = both (is_name n && nat_le f last_minute && nat_le l last_minute) (is_expr e) h in
     let h2 = both (is_name n && nat_le f last_minute) (nat_le l last_minute) h3.0 in
     let h1 = both (is_name n) (nat_le f last_minute) h2.0 in
-    read_loud first (spaced (said_words (period n f l e))) short (ap are_silent (period_words n f l e h1.0 h3.1))
-    ∙ ap some_said (period_said n f l e h1.0 h3.1 first (leb-true f last_minute h1.1) (leb-true l last_minute h2.1) order)
+    read_loud v (spaced (said_words (period n f l e))) short (ap are_silent (period_words n f l e h1.0 h3.1))
+    ∙ ap some_said (period_said n f l e h1.0 h3.1 v (leb-true f last_minute h1.1) (leb-true l last_minute h2.1) order)
 
-pub written_is_read : (said : Saying) (first : Bool) → is_saying said ≡ true → IsPlaced first said → length (spaced (said_words said)) ≤ 4_096
-    → read_said first (spaced (said_words said)) ≡ Ok (Some said)
-written_is_read said first h placed short =
+pub written_is_read : (said : Saying) (v : TextVersion) → is_saying said ≡ true → IsPlaced v said → length (spaced (said_words said)) ≤ 4_096
+    → read_said v (spaced (said_words said)) ≡ Ok (Some said)
+written_is_read said v h placed short =
     let h2 = both (is_formed said && is_bounded said) (is_bodied said) h in
     let h1 = both (is_formed said) (is_bounded said) h2.0 in
     by said h1.0 h1.1 h2.1 placed short
   where
-    by : (said : Saying) → is_formed said ≡ true → is_bounded said ≡ true → is_bodied said ≡ true → IsPlaced first said → length (spaced (said_words said)) ≤ 4_096
-        → read_said first (spaced (said_words said)) ≡ Ok (Some said)
-    by (version n) h bounded b placed short = written_words (version n) first refl h b placed short
-    by (role n) h bounded b placed short = written_words (role n) first refl h b placed short
-    by (user n) h bounded b placed short = written_words (user n) first refl h b placed short
-    by (perm n) h bounded b placed short = written_words (perm n) first refl h b placed short
-    by (period n f l e) h bounded b placed short = written_period n f l e first h (leb-true f l bounded) short
-    by (limit n prio c most during) h bounded b placed short = written_words (limit n prio c most during) first refl h b placed short
-    by (edge kind strong s j) h bounded b placed short = written_words (edge kind strong s j) first refl h b placed short
-    by (cap kind r n) h bounded b placed short = written_words (cap kind r n) first refl h b placed short
-    by (admin u) h bounded b placed short = written_words (admin u) first refl h b placed short
-    by (opening f) h bounded b placed short = written_words (opening f) first refl h b placed short
-    by (entry f p hd) h bounded b placed short = written_words (entry f p hd) first refl h b placed short
-    by (trigger items hd d) h bounded b placed short = written_words (trigger items hd d) first refl h b placed short
+    by : (said : Saying) → is_formed said ≡ true → is_bounded said ≡ true → is_bodied said ≡ true → IsPlaced v said → length (spaced (said_words said)) ≤ 4_096
+        → read_said v (spaced (said_words said)) ≡ Ok (Some said)
+    by (version n) h bounded b placed short = written_words (version n) v refl h b placed short
+    by (role n) h bounded b placed short = written_words (role n) v refl h b placed short
+    by (user n) h bounded b placed short = written_words (user n) v refl h b placed short
+    by (perm n) h bounded b placed short = written_words (perm n) v refl h b placed short
+    by (period n f l e) h bounded b placed short = written_period n f l e v h (leb-true f l bounded) short
+    by (limit n prio c most during) h bounded b placed short = written_words (limit n prio c most during) v refl h b placed short
+    by (edge kind strong s j) h bounded b placed short = written_words (edge kind strong s j) v refl h b placed short
+    by (cap kind r n) h bounded b placed short = written_words (cap kind r n) v refl h b placed short
+    by (admin u) h bounded b placed short = written_words (admin u) v refl h b placed short
+    by (opening f) h bounded b placed short = written_words (opening f) v refl h b placed short
+    by (entry f p hd) h bounded b placed short = written_words (entry f p hd) v refl h b placed short
+    by (trigger items hd d) h bounded b placed short = written_words (trigger items hd d) v refl h b placed short

@@ -2,8 +2,9 @@
 use Rattle.std.specs.Prelude.{ℕ, Bool, true, false, List, [], ◌∷◌, ◌++◌, codes, bytes_eq, length, Option, Some, None}
 use Rattle.gt_base.specs.Names.{name_in}
 use Rattle.policy_words.specs.declared.parts.Item.{Item}
-use Rattle.policy_words.specs.declared.parts.Item.TheVariants.{Event, Signal, Cond}
-use Rattle.policy_words.specs.Wording.{◌>>=◌, Read, Sort, fluent_at, signal_at, cond_at, or_else}
+use Rattle.policy_words.specs.declared.parts.Item.TheVariants.{Event, Signal, Cond, Settled}
+use Rattle.policy_words.specs.declared.parts.Sort.{Sort}
+use Rattle.policy_words.specs.Wording.{◌>>=◌, Read, fluent_at, signal_at, cond_at, settled_at, or_else}
 use Rattle.policy_words.specs.Reading.{items_at}
 
 -- a name
@@ -13,9 +14,9 @@ name_at (w ∷ ws) = do
   n ← name_in w
   Some (n, ws)
 
--- a signal or a condition
+-- a signal, a condition or a settled condition
 abbrev pub other_item_at : Read Item
-other_item_at ws = or_else (do s ← signal_at ws; Some (Signal s.0, s.1)) (do c ← cond_at ws; Some (Cond c.0, c.1))
+other_item_at ws = or_else (do s ← signal_at ws; Some (Signal s.0, s.1)) (or_else (do c ← cond_at ws; Some (Cond c.0, c.1)) (do c ← settled_at ws; Some (Settled c.0, c.1)))
 
 -- the event of a verb whose names are to come
 abbrev pub item_for : Bool × Sort → Read Item

@@ -5,6 +5,7 @@ use Rattle.gt_base.specs.Names.{number_in}
 use Rattle.gt_text.specs.Lines.{lines_of, is_feed}
 use Rattle.gt_text.specs.Words.{spaced, as_text}
 use Rattle.policy_words.specs.declared.faults.TextKind.{TextKind}
+use Rattle.policy_words.specs.declared.versions.TextVersion.{TextVersion}
 use Rattle.policy_words.specs.Sayings.{Saying, said_words, is_saying}
 use Rattle.policy_words.specs.Reading.{read_said}
 use Rattle.policy_words.specs.Spelling.{IsPlaced, IsSaid}
@@ -15,13 +16,13 @@ NumbersAreDecimal = (word : List ℕ) (n : ℕ) → n < 2 ^ 64 → (number_in wo
 
 -- reading a line by its words is what the spellings of sayings and the table of faults say of it
 abbrev pub SayingsAreRead : Type 0
-SayingsAreRead = (first : Bool) (line : List ℕ) (r : Result (Option Saying) TextKind) → (read_said first line ≡ r) ↔ IsSaid first line r
+SayingsAreRead = (v : TextVersion) (line : List ℕ) (r : Result (Option Saying) TextKind) → (read_said v line ≡ r) ↔ IsSaid v line r
 
 -- a saying in range is read from the line that it writes
 abbrev pub WrittenIsRead : Type 0
 WrittenIsRead =
-    (said : Saying) (first : Bool) → IsTrue (is_saying said) → IsPlaced first said → length (spaced (said_words said)) ≤ 4_096
-    → read_said first (spaced (said_words said)) ≡ Ok (Some said)
+    (said : Saying) (v : TextVersion) → IsTrue (is_saying said) → IsPlaced v said → length (spaced (said_words said)) ≤ 4_096
+    → read_said v (spaced (said_words said)) ≡ Ok (Some said)
 
 abbrev pub has_no_feed : List ℕ → Bool
 has_no_feed line = not (list_any is_feed line)

@@ -1,5 +1,4 @@
 pub mod Cursors
-pub mod Verbs
 pub mod Answered
 pub mod Spaces
 pub mod Plain

@@ -1,19 +1,16 @@
 //! Lines that say nothing of an expression: their words after the first.
-ghost use Rattle.std.specs.Prelude.{◌≡◌, ◌&&◌, ◌∷◌, [], List, ℕ, Bool, true, false, option_map};
-ghost use Rattle.std.specs.List.{list_any};
+ghost use Rattle.std.specs.Prelude.{◌≡◌, ◌∷◌, [], List, ℕ, true, false, codes, option_map};
 ghost use Rattle.policy_words.specs.Wording.{cond_at, head_at};
-ghost use Rattle.policy_words.specs.Sayings.{Saying, role, user, perm, admin, kind_word, strength_word, cap_word, is_cause as causes, is_body as body};
+ghost use Rattle.policy_words.specs.Sayings.{Saying, kind_word, strength_word, cap_word};
 ghost use Rattle.policy_words.specs.Seen.{seen_said};
-ghost use Rattle.policy_words.specs.Reading.{formed as formed_by, one_name as named, most_at, during_in, limit_in, spelled_so, edge_in, cap_in, opening_by, entry_in, trigger_in, trigger_by, is_one as one_alone, version_by};
+ghost use Rattle.policy_words.specs.Reading.{formed as formed_by, one_name as named, most_at, during_in, limit_in, spelled_so, edge_in, cap_in, opening_by, linked_by, entry_in, version_in, version_by};
 ghost use Rattle.policy_lines.specs.Answered.{Answers};
 
-use crate::items::read_items;
-use crate::parts::{cond_of, next_cond, next_head, read_delay, read_prio};
+use crate::parts::{cond_of, next_cond, next_head, read_prio};
 use crate::units::{next_name, number_from, read_name};
 use gt_base::{Form, Name};
 use gt_text::Words;
-use policy_words::{CapKind, EdgeKind, Item, Said, TextKind};
-use std::alloc::Global;
+use policy_words::{CapKind, EdgeKind, Said, TextKind};
 
 /// A saying, or that the words have no form.
 pub(crate) fn formed(said: Option<Said>) -> Result<Said, TextKind>
@@ -25,23 +22,30 @@ pub(crate) fn formed(said: Option<Said>) -> Result<Said, TextKind>
     }
 }
 
-fn is_one(mut words: Words<'_>) -> bool
-    ensures { result ≡ one_alone words.entry }
+/// The version that the words are.
+fn version_number(mut words: Words<'_>) -> Option<u32>
+    ensures { result ≡ version_in words.entry }
 {
-    match words.next() {
-        None => false,
-        Some(word) => words.next().is_none() && word == b"1".as_slice(),
+    let word = words.next()?;
+    if words.next().is_some() {
+        return None;
+    }
+    if word == b"1".as_slice() {
+        Some(1)
+    } else if word == b"2".as_slice() {
+        Some(2)
+    } else {
+        None
     }
 }
 
-/// What a line of a version says.
-pub(crate) fn version(first: bool, words: Words<'_>) -> Result<Said, TextKind>
-    ensures { Answers result (version_by (first && one_alone words.entry)) }
+/// What a line of a version says; `opens` is whether only silent lines stand before.
+pub(crate) fn version(opens: bool, words: Words<'_>) -> Result<Said, TextKind>
+    ensures { Answers result (version_by opens (version_in words.entry)) }
 {
-    if first && is_one(words) {
-        Ok(Said::Version(1))
-    } else {
-        Err(TextKind::Version)
+    match version_number(words) {
+        Some(n) if opens => Ok(Said::Version(n)),
+        _ => Err(TextKind::Version),
     }
 }
 
@@ -194,6 +198,17 @@ pub(crate) fn opening(verb: &[u8], mut words: Words<'_>) -> Option<Said>
     Some(Said::Opening(cond.fluent))
 }
 
+/// What a line of an edge that is linked at first says, which version 2 alone has.
+pub(crate) fn linked(edges: bool, words: Words<'_>) -> Result<Said, TextKind>
+    ensures { Answers result (linked_by edges (opening_by (cond_at (codes "linked" ∷ words.entry)))) }
+{
+    if edges {
+        formed(opening(b"linked", words))
+    } else {
+        Err(TextKind::Word)
+    }
+}
+
 /// What a line of a periodic entry says.
 pub(crate) fn entry(form: Form, mut words: Words<'_>) -> Option<Said>
     ensures { option_map seen_said result ≡ entry_in form words.entry }
@@ -205,48 +220,4 @@ pub(crate) fn entry(form: Form, mut words: Words<'_>) -> Option<Said>
         return None;
     }
     Some(Said::Entry { form, period, head })
-}
-
-fn is_cause(item: &Item) -> bool
-    ensures { result ≡ causes item.now }
-{
-    match item {
-        Item::Event(_) | Item::Signal(_) => true,
-        Item::Cond(_) => false,
-    }
-}
-
-fn has_cause(items: &[Item]) -> bool
-    ensures { result ≡ list_any causes items.now }
-{
-    items.iter().any(|item| is_cause(item))
-}
-
-/// At most 16 items, of which one is an event or a signal.
-fn is_body(items: &[Item]) -> bool
-    ensures { result ≡ body items.now }
-{
-    items.len() <= 16 && has_cause(items)
-}
-
-/// What a line of a trigger says.
-#[tactic(auto, unfolding(crate::specs::Cursors::items_of))]
-pub(crate) fn trigger(alloc: Global, mut words: Words<'_>) -> Result<Said, TextKind>
-    ensures { Answers result (trigger_by (trigger_in words.entry)) }
-{
-    let items = match read_items(alloc, &mut words) {
-        Err(_) => return Err(TextKind::Memory),
-        Ok(None) => return Err(TextKind::Form),
-        Ok(Some(items)) => items,
-    };
-    let Some(head) = next_head(99, &mut words) else {
-        return Err(TextKind::Form);
-    };
-    let Some(delay) = read_delay(words) else {
-        return Err(TextKind::Form);
-    };
-    if !is_body(items.as_slice()) {
-        return Err(TextKind::Body);
-    }
-    Ok(Said::When { items, head, delay })
 }

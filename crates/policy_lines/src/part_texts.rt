@@ -1,10 +1,11 @@
 //! Events, conditions, signals, heads and items, written.
 ghost use Rattle.std.specs.Prelude.{◌≡◌, ◌∷◌, ◌++◌, [], decimal, flat_map, OnOk};
 ghost use Rattle.gt_text.specs.Words.{spaced};
-ghost use Rattle.policy_words.specs.Wording.{fluent_names, event_words, cond_words, signal_words, head_words, item_words, delay_words, event_verb as event_text, cond_verb as cond_text, sort_of};
+ghost use Rattle.policy_words.specs.Wording.{fluent_names, event_words, cond_words, signal_words, head_words, item_words, delay_words};
 ghost use Rattle.policy_words.specs.Sayings.{and_items};
 ghost use Rattle.policy_lines.specs.Spaces.{later, led, linked_item};
 
+use crate::verbs::{cond_text, event_text, sort_of};
 use gt_base::{Memory, Name};
 use gt_text::push_number;
 use policy_words::{Item, NamedCond, NamedEvent, NamedFluent, NamedHead, NamedSignal};
@@ -45,50 +46,24 @@ pub(crate) fn add_names(text: &mut Vec<u8>, fluent: &NamedFluent) -> Result<(), 
             add_name(text, role)
         }
         NamedFluent::Limit(limit) => add_name(text, limit),
-    }
-}
-
-fn event_verb(on: bool, fluent: &NamedFluent) -> &'static [u8]
-    ensures { result.now ≡ event_text on (sort_of fluent.now) }
-{
-    match (on, fluent) {
-        (true, NamedFluent::Enabled(_)) => b"enable",
-        (false, NamedFluent::Enabled(_)) => b"disable",
-        (true, NamedFluent::Assigned(_, _)) => b"assign",
-        (false, NamedFluent::Assigned(_, _)) => b"deassign",
-        (true, NamedFluent::Granted(_, _)) => b"grant",
-        (false, NamedFluent::Granted(_, _)) => b"revoke",
-        (true, NamedFluent::Limit(_)) => b"arm",
-        (false, NamedFluent::Limit(_)) => b"disarm",
-    }
-}
-
-pub(crate) fn cond_verb(on: bool, fluent: &NamedFluent) -> &'static [u8]
-    ensures { result.now ≡ cond_text on (sort_of fluent.now) }
-{
-    match (on, fluent) {
-        (true, NamedFluent::Enabled(_)) => b"enabled",
-        (false, NamedFluent::Enabled(_)) => b"disabled",
-        (true, NamedFluent::Assigned(_, _)) => b"assigned",
-        (false, NamedFluent::Assigned(_, _)) => b"deassigned",
-        (true, NamedFluent::Granted(_, _)) => b"granted",
-        (false, NamedFluent::Granted(_, _)) => b"revoked",
-        (true, NamedFluent::Limit(_)) => b"armed",
-        (false, NamedFluent::Limit(_)) => b"disarmed",
+        NamedFluent::Edge(senior, junior) => {
+            add_name(text, senior)?;
+            add_name(text, junior)
+        }
     }
 }
 
 fn write_event(text: &mut Vec<u8>, event: &NamedEvent) -> Result<(), Memory>
     ensures { OnOk result (text.new.items ≡ text.old.items ++ led (event_words event.now)) }
 {
-    text.extend_from_slice(event_verb(event.on, &event.fluent))?;
+    text.extend_from_slice(event_text(event.on, sort_of(&event.fluent)))?;
     add_names(text, &event.fluent)
 }
 
 fn write_cond(text: &mut Vec<u8>, cond: &NamedCond) -> Result<(), Memory>
     ensures { OnOk result (text.new.items ≡ text.old.items ++ led (cond_words cond.now)) }
 {
-    text.extend_from_slice(cond_verb(cond.on, &cond.fluent))?;
+    text.extend_from_slice(cond_text(cond.on, sort_of(&cond.fluent)))?;
     add_names(text, &cond.fluent)
 }
 
@@ -109,7 +84,7 @@ fn write_head(text: &mut Vec<u8>, head: &NamedHead) -> Result<(), Memory>
 {
     push_number(text, u64::from(head.prio.get()))?;
     text.extend_from_slice(b":")?;
-    text.extend_from_slice(event_verb(head.event.on, &head.event.fluent))?;
+    text.extend_from_slice(event_text(head.event.on, sort_of(&head.event.fluent)))?;
     add_names(text, &head.event.fluent)
 }
 
@@ -120,6 +95,10 @@ fn write_item(text: &mut Vec<u8>, item: &Item) -> Result<(), Memory>
         Item::Event(event) => write_event(text, event),
         Item::Signal(signal) => write_signal(text, signal),
         Item::Cond(cond) => write_cond(text, cond),
+        Item::Settled(cond) => {
+            text.extend_from_slice(b"settled")?;
+            add_cond(text, cond)
+        }
     }
 }
 

@@ -3,26 +3,26 @@ ghost use Rattle.std.specs.Prelude.{◌≡◌, ◌∷◌, ◌≤◌, [], MatchOp
 ghost use Rattle.std.specs.List.{before_first, after_first};
 ghost use Rattle.gt_base.specs.Names.{number_from as number_between};
 ghost use Rattle.policy_words.specs.Wording.{fluent_at, verb_in, event_verb as event_word, event_at, cond_at, signal_of, head_at, item_at, is_colon, delay_in};
-ghost use Rattle.policy_lines.specs.Verbs.{sort_by, seen_verb};
 ghost use Rattle.policy_lines.specs.Cursors.{other_item_at};
 
 use crate::units::{next_name, number_from};
-use crate::verbs::{FluentKind, Verb, cond_verb, event_verb};
+use crate::verbs::{cond_verb, event_verb};
 use bstr::ByteSlice;
 use gt_base::Prio;
 use gt_text::Words;
-use policy_words::{Item, NamedCond, NamedEvent, NamedFluent, NamedHead, NamedSignal};
+use policy_words::{Item, NamedCond, NamedEvent, NamedFluent, NamedHead, NamedSignal, Sort};
 
 /// The fluent whose names stand at the front.
-fn fluent(kind: FluentKind, words: &mut Words<'_>) -> Option<NamedFluent>
-    ensures { option_map (λ f. (f, words.new)) result ≡ fluent_at (sort_by kind) words.old }
+fn fluent(sort: Sort, words: &mut Words<'_>) -> Option<NamedFluent>
+    ensures { option_map (λ f. (f, words.new)) result ≡ fluent_at sort words.old }
 {
     let first = next_name(words)?;
-    match kind {
-        FluentKind::Role => Some(NamedFluent::Enabled(first)),
-        FluentKind::Assignment => Some(NamedFluent::Assigned(first, next_name(words)?)),
-        FluentKind::Grant => Some(NamedFluent::Granted(first, next_name(words)?)),
-        FluentKind::Limit => Some(NamedFluent::Limit(first)),
+    match sort {
+        Sort::Enabling => Some(NamedFluent::Enabled(first)),
+        Sort::Assigning => Some(NamedFluent::Assigned(first, next_name(words)?)),
+        Sort::Granting => Some(NamedFluent::Granted(first, next_name(words)?)),
+        Sort::Arming => Some(NamedFluent::Limit(first)),
+        Sort::Linking => Some(NamedFluent::Edge(first, next_name(words)?)),
     }
 }
 
@@ -30,28 +30,30 @@ fn fluent(kind: FluentKind, words: &mut Words<'_>) -> Option<NamedFluent>
 fn event_of(verb: &[u8], words: &mut Words<'_>) -> Option<NamedEvent>
     ensures { option_map (λ e. (e, words.new)) result ≡ event_at (verb.now ∷ words.old) }
 {
-    let verb = event_verb(verb)?;
-    let fluent = fluent(verb.kind, words)?;
-    Some(NamedEvent {
-        on: verb.on,
-        fluent,
-    })
+    let (on, sort) = event_verb(verb)?;
+    let fluent = fluent(sort, words)?;
+    Some(NamedEvent { on, fluent })
 }
 
 /// The condition of a verb and the names after it.
 pub(crate) fn cond_of(verb: &[u8], words: &mut Words<'_>) -> Option<NamedCond>
     ensures { option_map (λ c. (c, words.new)) result ≡ cond_at (verb.now ∷ words.old) }
 {
-    let verb = cond_verb(verb)?;
-    let fluent = fluent(verb.kind, words)?;
-    Some(NamedCond {
-        on: verb.on,
-        fluent,
-    })
+    let (on, sort) = cond_verb(verb)?;
+    let fluent = fluent(sort, words)?;
+    Some(NamedCond { on, fluent })
+}
+
+/// The event at the front.
+pub fn next_event(words: &mut Words<'_>) -> Option<NamedEvent>
+    ensures { option_map (λ e. (e, words.new)) result ≡ event_at words.old }
+{
+    let verb = words.next()?;
+    event_of(verb, words)
 }
 
 /// The condition at the front.
-pub(crate) fn next_cond(words: &mut Words<'_>) -> Option<NamedCond>
+pub fn next_cond(words: &mut Words<'_>) -> Option<NamedCond>
     ensures { option_map (λ c. (c, words.new)) result ≡ cond_at words.old }
 {
     let verb = words.next()?;
@@ -67,7 +69,7 @@ fn signal(start: bool, words: &mut Words<'_>) -> Option<NamedSignal>
     Some(NamedSignal { start, user, role })
 }
 
-/// The signal or the condition of a verb and the names after it.
+/// The signal, the condition or the settled condition of a first word and the words after it.
 fn other_item(verb: &[u8], words: &mut Words<'_>) -> Option<Item>
     ensures { option_map (λ i. (i, words.new)) result ≡ other_item_at (verb.now ∷ words.old) }
 {
@@ -77,21 +79,22 @@ fn other_item(verb: &[u8], words: &mut Words<'_>) -> Option<Item>
     if verb == b"deactivate".as_slice() {
         return Some(Item::Signal(signal(false, words)?));
     }
+    if verb == b"settled".as_slice() {
+        return Some(Item::Settled(next_cond(words)?));
+    }
     Some(Item::Cond(cond_of(verb, words)?))
 }
 
 /// The event of a verb whose names stand at the front.
-fn event_item(word: &[u8], verb: Verb, words: &mut Words<'_>) -> Option<Item>
-    requires { verb_in event_word word.now ≡ Some (seen_verb verb) }
+fn event_item(word: &[u8], verb: (bool, Sort), words: &mut Words<'_>) -> Option<Item>
+    requires { verb_in event_word word.now ≡ Some verb }
     ensures { option_map (λ i. (i, words.new)) result ≡ item_at (word.now ∷ words.old) }
 {
-    let Some(fluent) = fluent(verb.kind, words) else {
+    let (on, sort) = verb;
+    let Some(fluent) = fluent(sort, words) else {
         return None;
     };
-    Some(Item::Event(NamedEvent {
-        on: verb.on,
-        fluent,
-    }))
+    Some(Item::Event(NamedEvent { on, fluent }))
 }
 
 /// The item at the front.
@@ -126,7 +129,7 @@ pub(crate) fn read_prio(most: u32, word: &[u8]) -> Option<Prio>
 }
 
 /// The prioritised event at the front, with a priority up to `most`.
-pub(crate) fn next_head(most: u32, words: &mut Words<'_>) -> Option<NamedHead>
+pub fn next_head(most: u32, words: &mut Words<'_>) -> Option<NamedHead>
     requires { most ≤ 100 }
     ensures { option_map (λ h. (h, words.new)) result ≡ head_at most words.old }
 {
@@ -138,7 +141,7 @@ pub(crate) fn next_head(most: u32, words: &mut Words<'_>) -> Option<NamedHead>
 }
 
 /// The delay at the end of a line, 0 where no words are left.
-pub(crate) fn read_delay(mut words: Words<'_>) -> Option<u32>
+pub fn read_delay(mut words: Words<'_>) -> Option<u32>
     ensures { result ≡ delay_in words.entry }
 {
     let Some(after) = words.next() else {

@@ -1,17 +1,39 @@
 //! What a line of a policy says.
-ghost use Rattle.std.specs.Prelude.{◌≡◌, ◌≤◌, ◌∷◌, ◌⊎◌, ℕ, Bool, List, length, option_map, IsTrue, IfOk, IfErr, IfSome, Ok, Err, drop};
-ghost use Rattle.gt_text.specs.Words.{begins_with};
+ghost use Rattle.std.specs.Prelude.{◌≡◌, ◌≤◌, ◌∷◌, ◌⊎◌, ℕ, List, length, option_map, IsTrue, IfOk, IfErr, IfSome, Ok, Err, drop};
 ghost use Rattle.policy_words.specs.Sayings.{role as role_said, user as user_said, perm as perm_said, admin as admin_said, is_saying};
 ghost use Rattle.policy_words.specs.Seen.{seen_said};
+ghost use Rattle.policy_words.specs.Versions.{is_open as is_open_text, has_edges as edges_in};
 ghost use Rattle.policy_words.specs.Reading.{verbs, one_name as named, formed as formed_by, said_of as said_by_words, read_said as said_by_line};
 ghost use Rattle.policy_lines.specs.Answered.{Answers, said_among};
 
-use crate::forms::{cap, edge, entry, formed, limit, one_name, opening, trigger, version};
+use crate::edges::formed_in;
+use crate::forms::{cap, edge, entry, formed, limit, linked, one_name, opening, version};
 use crate::periods::period;
+use crate::triggers::trigger;
+use crate::units::is_comment;
 use gt_base::Form;
 use gt_text::Words;
-use policy_words::{Said, TextKind};
+use policy_words::{Said, TextKind, TextVersion};
 use std::alloc::Global;
+
+fn is_open(version: TextVersion) -> bool
+    ensures { result ≡ is_open_text version }
+{
+    match version {
+        TextVersion::Open => true,
+        TextVersion::One | TextVersion::Two => false,
+    }
+}
+
+/// Whether the text has words for edges that are linked and unlinked.
+fn has_edges(version: TextVersion) -> bool
+    ensures { result ≡ edges_in version }
+{
+    match version {
+        TextVersion::Open | TextVersion::One => false,
+        TextVersion::Two => true,
+    }
+}
 
 fn role(words: Words<'_>) -> Result<Said, TextKind>
     ensures { Answers result (formed_by (named (λ n. role_said n) words.entry)) }
@@ -50,27 +72,37 @@ fn admin(words: Words<'_>) -> Result<Said, TextKind>
 }
 
 /// What a line of an entry or of a trigger says; another first word begins no line.
-fn caused(alloc: Global, verb: &[u8], words: Words<'_>) -> Result<Said, TextKind>
-    ensures { (first : Bool) (line : List ℕ) → Answers result (said_among (drop 13 (verbs first line)) verb.now words.entry) }
+fn caused(
+    alloc: Global,
+    version: TextVersion,
+    verb: &[u8],
+    words: Words<'_>,
+) -> Result<Said, TextKind>
+    ensures { (line : List ℕ) → Answers result (said_among (drop 14 (verbs version line)) verb.now words.entry) }
 {
     if b"each".as_slice() == verb {
-        return formed(entry(Form::Each, words));
+        return formed_in(has_edges(version), entry(Form::Each, words));
     }
     if b"start".as_slice() == verb {
-        return formed(entry(Form::Start, words));
+        return formed_in(has_edges(version), entry(Form::Start, words));
     }
     if b"span".as_slice() == verb {
-        return formed(entry(Form::Span, words));
+        return formed_in(has_edges(version), entry(Form::Span, words));
     }
     if b"when".as_slice() == verb {
-        return trigger(alloc, words);
+        return trigger(alloc, has_edges(version), words);
     }
     Err(TextKind::Word)
 }
 
 /// What a line of opening status says, or one of the lines above.
-fn opened(alloc: Global, verb: &[u8], words: Words<'_>) -> Result<Said, TextKind>
-    ensures { (first : Bool) (line : List ℕ) → Answers result (said_among (drop 9 (verbs first line)) verb.now words.entry) }
+fn opened(
+    alloc: Global,
+    version: TextVersion,
+    verb: &[u8],
+    words: Words<'_>,
+) -> Result<Said, TextKind>
+    ensures { (line : List ℕ) → Answers result (said_among (drop 9 (verbs version line)) verb.now words.entry) }
 {
     if b"enabled".as_slice() == verb {
         return formed(opening(b"enabled", words));
@@ -84,19 +116,28 @@ fn opened(alloc: Global, verb: &[u8], words: Words<'_>) -> Result<Said, TextKind
     if b"armed".as_slice() == verb {
         return formed(opening(b"armed", words));
     }
-    caused(alloc, verb, words)
+    if b"linked".as_slice() == verb {
+        return linked(has_edges(version), words);
+    }
+    caused(alloc, version, verb, words)
 }
 
 /// What a line of a period, a limit, an edge, a cap or an administrator says, or one of the lines above.
-fn ruled(alloc: Global, line: &[u8], verb: &[u8], words: Words<'_>) -> Result<Said, TextKind>
+fn ruled(
+    alloc: Global,
+    version: TextVersion,
+    line: &[u8],
+    verb: &[u8],
+    words: Words<'_>,
+) -> Result<Said, TextKind>
     requires { length line.now ≤ 4096 }
-    ensures { (first : Bool) → Answers result (said_among (drop 4 (verbs first line.now)) verb.now words.entry) }
+    ensures { Answers result (said_among (drop 4 (verbs version line.now)) verb.now words.entry) }
 {
     if b"period".as_slice() == verb {
         return period(alloc, line, words);
     }
     if b"limit".as_slice() == verb {
-        return formed(limit(words));
+        return formed_in(has_edges(version), limit(words));
     }
     if b"edge".as_slice() == verb {
         return formed(edge(words));
@@ -107,22 +148,22 @@ fn ruled(alloc: Global, line: &[u8], verb: &[u8], words: Words<'_>) -> Result<Sa
     if b"admin".as_slice() == verb {
         return admin(words);
     }
-    opened(alloc, verb, words)
+    opened(alloc, version, verb, words)
 }
 
 /// What a line says that is not silent, by its first word and the words after it.
 fn said_of(
     alloc: Global,
-    first: bool,
+    text_version: TextVersion,
     line: &[u8],
     verb: &[u8],
     words: Words<'_>,
 ) -> Result<Said, TextKind>
     requires { length line.now ≤ 4096 }
-    ensures { Answers result (said_by_words first line.now (verb.now ∷ words.entry)) }
+    ensures { Answers result (said_by_words text_version line.now (verb.now ∷ words.entry)) }
 {
     if b"policy".as_slice() == verb {
-        return version(first, words);
+        return version(is_open(text_version), words);
     }
     if b"role".as_slice() == verb {
         return role(words);
@@ -133,22 +174,12 @@ fn said_of(
     if b"perm".as_slice() == verb {
         return perm(words);
     }
-    ruled(alloc, line, verb, words)
+    ruled(alloc, text_version, line, verb, words)
 }
 
-/// Whether a word begins a comment.
-fn is_comment(word: &[u8]) -> bool
-    ensures { result ≡ begins_with 35 word.now }
-{
-    match word {
-        [] => false,
-        [first, ..] => *first == b'#',
-    }
-}
-
-fn read_line(alloc: Global, first: bool, line: &[u8]) -> Result<Option<Said>, TextKind>
-    ensures ok { IfOk result (λ said. said_by_line first line.now ≡ Ok (option_map seen_said said)) }
-    ensures fault { IfErr result (λ f. (f ≡ TextKind.Memory) ⊎ (said_by_line first line.now ≡ Err f)) }
+fn read_line(alloc: Global, version: TextVersion, line: &[u8]) -> Result<Option<Said>, TextKind>
+    ensures ok { IfOk result (λ said. said_by_line version line.now ≡ Ok (option_map seen_said said)) }
+    ensures fault { IfErr result (λ f. (f ≡ TextKind.Memory) ⊎ (said_by_line version line.now ≡ Err f)) }
 {
     if line.len() > 4096 {
         return Err(TextKind::Long);
@@ -160,18 +191,18 @@ fn read_line(alloc: Global, first: bool, line: &[u8]) -> Result<Option<Said>, Te
     if is_comment(verb) {
         return Ok(None);
     }
-    match said_of(alloc, first, line, verb, words) {
+    match said_of(alloc, version, line, verb, words) {
         Ok(said) => Ok(Some(said)),
         Err(fault) => Err(fault),
     }
 }
 
-/// What a line of a policy says, nothing where it is silent, or why it says nothing. `first` is whether only silent lines
-/// stand before it. Want of memory is `TextKind::Memory`, also where the expression of a period wants it.
-pub fn read_said(alloc: Global, first: bool, line: &[u8]) -> Result<Option<Said>, TextKind>
-    ensures ok { IfOk result (λ said. said_by_line first line.now ≡ Ok (option_map seen_said said)) }
-    ensures fault { IfErr result (λ f. (f ≡ TextKind.Memory) ⊎ (said_by_line first line.now ≡ Err f)) }
+/// What a line of a policy says, nothing where it is silent, or why it says nothing, in a text whose lines before it tell
+/// this version. Want of memory is `TextKind::Memory`, also where the expression of a period wants it.
+pub fn read_said(alloc: Global, version: TextVersion, line: &[u8]) -> Result<Option<Said>, TextKind>
+    ensures ok { IfOk result (λ said. said_by_line version line.now ≡ Ok (option_map seen_said said)) }
+    ensures fault { IfErr result (λ f. (f ≡ TextKind.Memory) ⊎ (said_by_line version line.now ≡ Err f)) }
     ensures saying { IfOk result (λ said. IfSome said (λ s. IsTrue (is_saying (seen_said s)))) }
 {
-    read_line(alloc, first, line)
+    read_line(alloc, version, line)
 }

@@ -1,88 +1,105 @@
-//! Verbs of events, conditions and signals.
-ghost use Rattle.std.specs.Prelude.{◌≡◌, option_map};
-ghost use Rattle.policy_words.specs.Wording.{verb_in, event_verb as event_word, cond_verb as cond_word};
-ghost use Rattle.policy_lines.specs.Verbs.{seen_verb};
+//! The verbs of events and conditions: the words of each, and the verb that a word is.
+ghost use Rattle.std.specs.Prelude.{◌≡◌, bytes_eq, find};
+ghost use Rattle.policy_words.specs.Wording.{verb_in, event_verb as event_word, cond_verb as cond_word, sort_of as sort_by_name};
 
-/// What kind of fluent a verb sets, and so how many names stand after it.
-#[derive(Clone, Copy)]
-pub(crate) enum FluentKind {
-    Role,
-    Assignment,
-    Grant,
-    Limit,
-}
+use policy_words::{NamedFluent, Sort};
 
-/// A verb of an event or a condition.
-#[derive(Clone, Copy)]
-pub(crate) struct Verb {
-    pub(crate) on: bool,
-    pub(crate) kind: FluentKind,
-}
+/// All verbs: whether each sets on, and the sort of its fluents.
+const VERBS: [(bool, Sort); 10] = [
+    (true, Sort::Enabling),
+    (false, Sort::Enabling),
+    (true, Sort::Assigning),
+    (false, Sort::Assigning),
+    (true, Sort::Granting),
+    (false, Sort::Granting),
+    (true, Sort::Arming),
+    (false, Sort::Arming),
+    (true, Sort::Linking),
+    (false, Sort::Linking),
+];
 
-fn some_verb(on: bool, kind: FluentKind) -> Option<Verb>
-    ensures { result ≡ Some (record { on = on; kind = kind }) }
+pub(crate) fn sort_of(fluent: &NamedFluent) -> Sort
+    ensures { result ≡ sort_by_name fluent.now }
 {
-    Some(Verb { on, kind })
+    match fluent {
+        NamedFluent::Enabled(_) => Sort::Enabling,
+        NamedFluent::Assigned(_, _) => Sort::Assigning,
+        NamedFluent::Granted(_, _) => Sort::Granting,
+        NamedFluent::Limit(_) => Sort::Arming,
+        NamedFluent::Edge(_, _) => Sort::Linking,
+    }
+}
+
+/// The word of an event's verb.
+pub(crate) fn event_text(on: bool, sort: Sort) -> &'static [u8]
+    ensures { result.now ≡ event_word on sort }
+{
+    match (on, sort) {
+        (true, Sort::Enabling) => b"enable",
+        (false, Sort::Enabling) => b"disable",
+        (true, Sort::Assigning) => b"assign",
+        (false, Sort::Assigning) => b"deassign",
+        (true, Sort::Granting) => b"grant",
+        (false, Sort::Granting) => b"revoke",
+        (true, Sort::Arming) => b"arm",
+        (false, Sort::Arming) => b"disarm",
+        (true, Sort::Linking) => b"link",
+        (false, Sort::Linking) => b"unlink",
+    }
+}
+
+/// The word of a condition's verb.
+pub(crate) fn cond_text(on: bool, sort: Sort) -> &'static [u8]
+    ensures { result.now ≡ cond_word on sort }
+{
+    match (on, sort) {
+        (true, Sort::Enabling) => b"enabled",
+        (false, Sort::Enabling) => b"disabled",
+        (true, Sort::Assigning) => b"assigned",
+        (false, Sort::Assigning) => b"deassigned",
+        (true, Sort::Granting) => b"granted",
+        (false, Sort::Granting) => b"revoked",
+        (true, Sort::Arming) => b"armed",
+        (false, Sort::Arming) => b"disarmed",
+        (true, Sort::Linking) => b"linked",
+        (false, Sort::Linking) => b"unlinked",
+    }
+}
+
+fn event_among(mut verbs: &[(bool, Sort)], word: &[u8]) -> Option<(bool, Sort)>
+    ensures { result ≡ find (λ v. bytes_eq (event_word v.0 v.1) word.now) verbs.now }
+{
+    while let [(on, sort), rest @ ..] = verbs {
+        if event_text(*on, *sort) == word {
+            return Some((*on, *sort));
+        }
+        verbs = rest;
+    }
+    None
+}
+
+fn cond_among(mut verbs: &[(bool, Sort)], word: &[u8]) -> Option<(bool, Sort)>
+    ensures { result ≡ find (λ v. bytes_eq (cond_word v.0 v.1) word.now) verbs.now }
+{
+    while let [(on, sort), rest @ ..] = verbs {
+        if cond_text(*on, *sort) == word {
+            return Some((*on, *sort));
+        }
+        verbs = rest;
+    }
+    None
 }
 
 /// The verb of an event that a word is.
-pub(crate) fn event_verb(word: &[u8]) -> Option<Verb>
-    ensures { option_map seen_verb result ≡ verb_in event_word word.now }
+pub(crate) fn event_verb(word: &[u8]) -> Option<(bool, Sort)>
+    ensures { result ≡ verb_in event_word word.now }
 {
-    if b"enable".as_slice() == word {
-        return some_verb(true, FluentKind::Role);
-    }
-    if b"disable".as_slice() == word {
-        return some_verb(false, FluentKind::Role);
-    }
-    if b"assign".as_slice() == word {
-        return some_verb(true, FluentKind::Assignment);
-    }
-    if b"deassign".as_slice() == word {
-        return some_verb(false, FluentKind::Assignment);
-    }
-    if b"grant".as_slice() == word {
-        return some_verb(true, FluentKind::Grant);
-    }
-    if b"revoke".as_slice() == word {
-        return some_verb(false, FluentKind::Grant);
-    }
-    if b"arm".as_slice() == word {
-        return some_verb(true, FluentKind::Limit);
-    }
-    if b"disarm".as_slice() == word {
-        return some_verb(false, FluentKind::Limit);
-    }
-    None
+    event_among(&VERBS, word)
 }
 
 /// The verb of a condition that a word is.
-pub(crate) fn cond_verb(word: &[u8]) -> Option<Verb>
-    ensures { option_map seen_verb result ≡ verb_in cond_word word.now }
+pub(crate) fn cond_verb(word: &[u8]) -> Option<(bool, Sort)>
+    ensures { result ≡ verb_in cond_word word.now }
 {
-    if b"enabled".as_slice() == word {
-        return some_verb(true, FluentKind::Role);
-    }
-    if b"disabled".as_slice() == word {
-        return some_verb(false, FluentKind::Role);
-    }
-    if b"assigned".as_slice() == word {
-        return some_verb(true, FluentKind::Assignment);
-    }
-    if b"deassigned".as_slice() == word {
-        return some_verb(false, FluentKind::Assignment);
-    }
-    if b"granted".as_slice() == word {
-        return some_verb(true, FluentKind::Grant);
-    }
-    if b"revoked".as_slice() == word {
-        return some_verb(false, FluentKind::Grant);
-    }
-    if b"armed".as_slice() == word {
-        return some_verb(true, FluentKind::Limit);
-    }
-    if b"disarmed".as_slice() == word {
-        return some_verb(false, FluentKind::Limit);
-    }
-    None
+    cond_among(&VERBS, word)
 }

@@ -9,8 +9,9 @@ ghost use Rattle.policy_words.specs.Seen.{seen_said};
 ghost use Rattle.policy_lines.specs.Spaces.{later, led};
 
 use crate::part_texts::{
-    add_cond, add_head, add_items, add_name, add_names, add_number, add_word, cond_verb, push_delay,
+    add_cond, add_head, add_items, add_name, add_names, add_number, add_word, push_delay,
 };
+use crate::verbs::{cond_text, sort_of};
 use civil_time::write_civil;
 use gt_base::{Form, Instant, Memory, Name, Prio};
 use periodic_expr::{Expr, print_expr};
@@ -165,7 +166,7 @@ fn write_cap(text: &mut Vec<u8>, kind: CapKind, role: &Name, n: u32) -> Result<(
 fn write_opening(text: &mut Vec<u8>, fluent: &NamedFluent) -> Result<(), Memory>
     ensures { OnOk result (text.new.items ≡ text.old.items ++ led (said_words (opening fluent.now))) }
 {
-    text.extend_from_slice(cond_verb(true, fluent))?;
+    text.extend_from_slice(cond_text(true, sort_of(fluent)))?;
     add_names(text, fluent)
 }
 

@@ -4,7 +4,7 @@ use Rattle.gt_base.specs.Held.{Rule}
 use Rattle.gtrbac_model.specs.Graph.{item_at}
 use Rattle.gtrbac_model.specs.Safety.{Dependency, dependencies, the_cycle, IsSafe}
 use Rattle.dependency_graph.specs.Nets.{EventNet, IsGraphOf}
-use Rattle.policy_forms.specs.Naming.{NamedPolicy}
+use Rattle.policy_words.specs.Naming.{NamedPolicy}
 use Rattle.policy_safety.specs.declared.admitting.AdmitFault.{AdmitFault}
 use Rattle.policy_safety.specs.declared.admitting.AdmitFault.TheVariants.{Unsafe, Memory}
 use Rattle.policy_safety.specs.declared.admitting.CycleEdge.{CycleEdge}

@@ -2,31 +2,40 @@
 ghost use Rattle.std.specs.Prelude.{◌≡◌, IfOk, IfErr, OnOk, Some};
 ghost use Rattle.gtrbac_model.specs.Safety.{IsSafe, the_cycle};
 ghost use Rattle.gtrbac_model.specs.Theorems.{HasOneModel};
+ghost use Rattle.dependency_graph.specs.Nets.{IsGraphOf};
+ghost use Rattle.dependency_graph.specs.Levelled.{IsLevelled};
 ghost use Rattle.policy_safety.specs.Cycles.{IsRefused};
 
-use crate::causes::cause;
+use crate::causes::told;
+use crate::levelling::{NoLevels, levels};
+use dependency_graph::EventGraph;
 use gt_base::{Event, List};
-use least_walk::EdgeList;
 use policy_book::Policy;
-use safety_cycle::Verdict;
+use safety_cycle::Strata;
 use std::alloc::Global;
 use std::marker::Model;
-use trigger_safety::levels;
 
-/// A safe policy, seen as the policy with its names.
+/// A safe policy with its dependency graph and levels of the graph's nodes, which show that it is safe. It is seen as the
+/// policy with its names.
 pub struct Safe {
     policy: Policy,
+    graph: EventGraph,
+    strata: Strata,
 }
 
 impl Drop for Safe {
     fn drop(self) {
-        let Safe { policy: _ } = self;
+        let Safe {
+            policy: _,
+            graph: _,
+            strata: _,
+        } = self;
     }
 }
 
 impl Model for Safe {
-    ghost use Rattle.policy_forms.specs.Naming.{NamedPolicy, named_policy_code};
-    ghost use Rattle.gtrbac_model.specs.Safety.{IsSafe};
+    ghost use Rattle.policy_words.specs.Naming.{NamedPolicy, named_policy_code};
+    ghost use Rattle.dependency_graph.specs.Levelled.{IsLevelled};
 
     ghost Value = { NamedPolicy };
 
@@ -34,7 +43,7 @@ impl Model for Safe {
 
     ghost view = { λ s. s.policy };
 
-    ghost invariant = { λ s. IsSafe s.policy.policy.triggers };
+    ghost invariant = { λ s. IsLevelled s.policy.policy.triggers s.graph s.strata };
 }
 
 /// An edge of the cycle that makes a policy unsafe: whether it is a conflict, its trigger and the place of the body event
@@ -73,9 +82,43 @@ impl Safe {
     {
         policy.keeps();
         match levels(alloc, policy.triggers()) {
-            Ok(_) => Ok(Safe { policy }),
-            Err(Verdict::Cycle { edges }) => Err(refused(alloc, policy, &edges)),
-            Err(Verdict::Memory) => Err(AdmitFault::Memory { policy }),
+            Ok((graph, strata)) => Ok(Safe {
+                policy,
+                graph,
+                strata,
+            }),
+            Err(NoLevels::Cycle { graph, edges }) => Err(refused(
+                alloc,
+                policy,
+                &graph,
+                edges.as_slice(),
+            )),
+            Err(NoLevels::Memory) => Err(AdmitFault::Memory { policy }),
+        }
+    }
+
+    /// The policy with its dependency graph and levels of the graph's nodes, as admission made them.
+    pub fn into_parts(self) -> (Policy, EventGraph, Strata)
+        ensures policy { result.0 ≡ self }
+        ensures levelled { IsLevelled result.0.policy.triggers result.1 result.2 }
+    {
+        let Safe {
+            policy,
+            graph,
+            strata,
+        } = self;
+        (policy, graph, strata)
+    }
+
+    /// The safe policy whose dependency graph and levels these are.
+    pub fn from_parts(policy: Policy, graph: EventGraph, strata: Strata) -> Safe
+        requires { IsLevelled policy.policy.triggers graph strata }
+        ensures { result ≡ policy }
+    {
+        Safe {
+            policy,
+            graph,
+            strata,
         }
     }
 
@@ -88,13 +131,13 @@ impl Safe {
     }
 }
 
-/// The policy with the edges of its cycle.
-fn refused(alloc: Global, policy: Policy, edges: &EdgeList) -> AdmitFault
-    requires cycle { the_cycle policy.policy.triggers ≡ Some edges.now }
+/// The policy with the edges of its cycle, which have these numbers in its graph.
+fn refused(alloc: Global, policy: Policy, graph: &EventGraph, numbers: &[u32]) -> AdmitFault
+    requires graph { IsGraphOf policy.policy.triggers graph.now }
+    requires cycle { the_cycle policy.policy.triggers ≡ Some numbers.now }
     ensures { IsRefused policy result }
 {
-    policy.keeps();
-    match cause(alloc, policy.triggers(), edges) {
+    match told(alloc, graph, numbers) {
         Ok(edges) => AdmitFault::Unsafe { policy, edges },
         Err(_) => AdmitFault::Memory { policy },
     }

@@ -1,29 +1,18 @@
 //! Why a policy is not safe.
-ghost use Rattle.std.specs.Prelude.{◌≡◌, ◌<◌, length, map, IfOk, OnOk};
-ghost use Rattle.dependency_graph.specs.Nets.{IsWithinLimits};
-ghost use Rattle.policy_safety.specs.Cycles.{seen_edge, dependencies_at, AreTold, AddsTold, IsTold};
+ghost use Rattle.std.specs.Prelude.{◌<◌, length, IfOk, OnOk};
+ghost use Rattle.policy_safety.specs.Cycles.{AreTold, AddsTold, IsTold};
 
 use crate::admitting::CycleEdge;
-use dependency_graph::{EventGraph, graph};
-use gt_base::{List, Memory, Trigger};
-use least_walk::EdgeList;
+use dependency_graph::EventGraph;
+use gt_base::{List, Memory};
 use std::alloc::Global;
 
-/// The dependencies of the triggers that have these numbers.
-pub(crate) fn cause(
-    alloc: Global,
-    triggers: &List<Trigger>,
-    numbers: &EdgeList,
-) -> Result<List<CycleEdge>, Memory>
-    requires { IsWithinLimits triggers.now.items }
-    ensures { IfOk result (λ edges. map seen_edge edges.items ≡ dependencies_at triggers.now.items numbers.now) }
-{
-    let made = graph(alloc, triggers)?;
-    told(alloc, &made, numbers.as_slice())
-}
-
 /// The edges of a graph that have these numbers, as dependencies.
-fn told(alloc: Global, g: &EventGraph, numbers: &[u32]) -> Result<List<CycleEdge>, Memory>
+pub(crate) fn told(
+    alloc: Global,
+    g: &EventGraph,
+    numbers: &[u32],
+) -> Result<List<CycleEdge>, Memory>
     ensures { IfOk result (λ edges. AreTold g.now edges.items numbers.now) }
 {
     let mut edges = Vec::new(alloc);

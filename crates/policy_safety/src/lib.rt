@@ -3,5 +3,7 @@
 
 mod admitting;
 mod causes;
+mod levelling;
 
 pub use admitting::{AdmitFault, CycleEdge, Safe};
+pub use levelling::{NoLevels, levels};

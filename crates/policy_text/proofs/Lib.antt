@@ -1,3 +1,16 @@
 pub mod Joining
 pub mod LineByLine
+pub mod Mapped
+pub mod Sections
+pub mod NoTrouble
+pub mod Back
+pub mod CanonicalCaps
+pub mod CanonicalMembers
+pub mod CanonicalSections
+pub mod Canonical
+pub mod Runs
+pub mod Whole
+pub mod ToldTexts
+pub mod CanonicalEdges
 pub mod CanonicalText
+pub mod EdgesFrom

@@ -1,10 +1,10 @@
 -- What holds of canonical texts.
 use Rattle.std.specs.Prelude.{◌≡◌, ◌≤◌, length, All, Ok}
 use Rattle.gt_text.specs.Lines.{lines_of}
-use Rattle.policy_forms.specs.Naming.{NamedPolicy}
-use Rattle.policy_forms.specs.Canonical.{canonical_text}
-use Rattle.policy_forms.specs.PolicyRead.{policy_read}
-use Rattle.policy_forms.specs.Valid.{IsWellFormed}
+use Rattle.policy_words.specs.Naming.{NamedPolicy}
+use Rattle.policy_words.specs.Canonical.{canonical_text}
+use Rattle.policy_words.specs.PolicyRead.{policy_read}
+use Rattle.policy_words.specs.Valid.{IsWellFormed}
 
 -- the canonical text of a well-formed policy stands for it, where no line of it has more than 4,096 bytes
 abbrev pub CanonicalIsRead : Type 0

@@ -1,6 +1,6 @@
 -- The texts of faults of the lines together.
 use Rattle.std.specs.Prelude.{ℕ, List, [], ◌∷◌, ◌++◌, flat_map, codes}
-use Rattle.policy_forms.specs.PolicyRead.{at_line, kind_word}
+use Rattle.policy_words.specs.PolicyRead.{at_line, kind_word}
 use Rattle.policy_book.specs.declared.faults.BookFault.{BookFault}
 use Rattle.policy_book.specs.declared.faults.BookFault.TheVariants.{Unknown, Twice, TooMany, HierarchyCycle, Memory}
 

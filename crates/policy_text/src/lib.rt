@@ -1,14 +1,25 @@
-//! Texts of policies: reading them line by line, writing the canonical text, and the texts of their faults.
+//! Texts of policies: reading them line by line to the policy or to the text of its fault, and writing the canonical text.
 #![tactic(auto)]
 
 mod faults;
 mod laws;
+mod named;
+mod naming;
+mod opened;
+mod policies;
+mod ranked;
 mod reading;
+mod ruled;
 mod telling;
+mod timed;
+mod versions;
+mod writing;
 
 pub use faults::TextFault;
-pub use laws::canonical_is_read;
+pub use laws::{canonical_are_sayings, canonical_is_built, canonical_is_read};
+pub use naming::{named_cond, named_event, named_fluent, named_head, named_signal};
+pub use policies::{PolicyText, policy_of};
 pub use policy_words::TextKind;
-pub use policy_writer::write_policy;
 pub use reading::read_policy;
 pub use telling::{push_book_fault, push_text_fault};
+pub use writing::write_policy;

@@ -2,16 +2,17 @@
 ghost use Rattle.std.specs.Prelude.{◌≡◌, ◌<◌, ◌^◌, ◌++◌, [], ◌∷◌, true, length, IfOk, IfErr, OnOk, Ok, IsTrue, MatchBool};
 ghost use Rattle.gt_text.specs.Lines.{lines_of};
 ghost use Rattle.policy_words.specs.Reading.{read_lines};
+ghost use Rattle.policy_words.specs.declared.versions.TextVersion.TheVariants.{Open};
 ghost use Rattle.policy_words.specs.Sayings.{is_saying};
 ghost use Rattle.policy_words.specs.Seen.{seen_said};
-ghost use Rattle.policy_book.specs.Said.{are_before};
+ghost use Rattle.policy_book.specs.Said.{are_before, is_placed};
 ghost use Rattle.policy_text.specs.Faults.{IsTextFault, want_of_memory, is_memory};
 
 use crate::faults::TextFault;
 use gt_text::Lines;
 use policy_book::Parts;
 use policy_lines::read_said;
-use policy_words::{Said, TextKind};
+use policy_words::{Said, TextKind, TextVersion};
 use std::alloc::Global;
 
 /// Want of memory.
@@ -23,20 +24,21 @@ const MEMORY: TextFault = TextFault {
 /// What the lines of a policy say, or the fault of the least line that has one. The text has fewer than 4,294,967,296 bytes.
 pub fn read_policy(alloc: Global, text: &[u8]) -> Result<Parts, TextFault>
     requires { length text.now < 2 ^ 32 }
-    ensures ok { IfOk result (λ parts. read_lines true 1 (lines_of text.now) ≡ Ok parts) }
-    ensures fault { IfErr result (IsTextFault (read_lines true 1 (lines_of text.now))) }
+    ensures ok { IfOk result (λ parts. read_lines Open 1 (lines_of text.now) ≡ Ok parts) }
+    ensures fault { IfErr result (IsTextFault (read_lines Open 1 (lines_of text.now))) }
 {
     let mut parts = Parts::new(alloc);
     let mut lines = Lines::new(text);
     let mut number: u32 = 0;
-    let mut first = true;
+    let mut version = TextVersion::Open;
     while let Some(line) = lines.next() {
         number += 1;
-        match read_said(alloc, first, line) {
+        match read_said(alloc, version, line) {
             Ok(None) => {}
             Ok(Some(said)) => {
+                let next = version.after(&said);
                 add(&mut parts, number, said)?;
-                first = false;
+                version = next;
             }
             Err(kind) => return Err(fault(number, kind)),
         }
@@ -48,6 +50,7 @@ pub fn read_policy(alloc: Global, text: &[u8]) -> Result<Parts, TextFault>
 fn add(parts: &mut Parts, line: u32, said: Said) -> Result<(), TextFault>
     requires said { IsTrue (is_saying (seen_said said)) }
     requires later { IsTrue (are_before line parts.old) }
+    requires placed { IsTrue (is_placed parts.old (seen_said said)) }
     ensures ok { OnOk result (parts.new ≡ parts.old ++ record { line = line; it = seen_said said } ∷ []) }
     ensures err { IfErr result (λ f. f ≡ want_of_memory) }
 {

@@ -1,6 +1,13 @@
 pub mod Rests
 pub mod Wording
 pub mod Sayings
+pub mod Versions
 pub mod Seen
 pub mod Reading
 pub mod Spelling
+pub mod Book
+pub mod Canonical
+pub mod Making
+pub mod Naming
+pub mod PolicyRead
+pub mod Valid

@@ -13,16 +13,23 @@ use Rattle.periodic_expr.specs.Reading.{read_expr}
 use Rattle.policy_words.specs.declared.faults.TextKind.{TextKind}
 use Rattle.policy_words.specs.declared.faults.TextKind.TheVariants as faults
 use Rattle.policy_words.specs.declared.parts.NamedCond.{NamedCond}
+use Rattle.policy_words.specs.declared.versions.TextVersion.{TextVersion}
 use Rattle.policy_words.specs.declared.parts.Item.{Item}
 use Rattle.policy_words.specs.declared.sayings.EdgeKind.TheVariants.{I, A, Ia}
 use Rattle.policy_words.specs.declared.sayings.CapKind.TheVariants as caps
 use Rattle.policy_words.specs.Rests.{rest_after, trimmed}
 use Rattle.policy_words.specs.Wording.{◌>>=◌, Read, cond_at, head_at, item_at, at_end, by_verb, delay_in}
 use Rattle.policy_words.specs.Sayings.{Saying, version, role, user, perm, period, limit, edge, cap, admin, opening, entry, trigger, kind_word, strength_word, cap_word, is_body}
+use Rattle.policy_words.specs.Versions.{is_open, has_edges, version_after, is_allowed}
 
 abbrev pub formed : Option Saying → Result Saying TextKind
 formed None = Err faults.Form
 formed (Some s) = Ok s
+
+-- version 1 has no form that names an edge
+abbrev pub formed_in : Bool → Option Saying → Result Saying TextKind
+formed_in edges None = Err faults.Form
+formed_in edges (Some s) = elim (is_allowed edges s) [ true ↦ Ok s | false ↦ Err faults.Form ]
 
 abbrev pub one_name : (List ℕ → Saying) → List (List ℕ) → Option Saying
 one_name build [] = None
@@ -108,6 +115,11 @@ abbrev pub opening_by : Option (NamedCond × List (List ℕ)) → Option Saying
 opening_by None = None
 opening_by (Some c) = at_end (opening c.0.fluent) c.1
 
+-- `linked` begins a line of version 2 alone
+abbrev pub linked_by : Bool → Option Saying → Result Saying TextKind
+linked_by false said = Err faults.Word
+linked_by true said = formed said
+
 abbrev pub entry_in : Form → List (List ℕ) → Option Saying
 entry_in f [] = None
 entry_in f (p ∷ ws) = do
@@ -140,27 +152,28 @@ abbrev pub with_body : Saying → Result Saying TextKind
 with_body (trigger items h d) = elim (is_body items) [ true ↦ Ok (trigger items h d) | false ↦ Err faults.Body ]
 with_body s = Ok s
 
-abbrev pub trigger_by : Option Saying → Result Saying TextKind
-trigger_by None = Err faults.Form
-trigger_by (Some s) = with_body s
+abbrev pub trigger_by : Bool → Option Saying → Result Saying TextKind
+trigger_by edges None = Err faults.Form
+trigger_by edges (Some s) = elim (is_allowed edges s) [ true ↦ with_body s | false ↦ Err faults.Form ]
 
-abbrev pub is_one : List (List ℕ) → Bool
-is_one (w ∷ []) = bytes_eq w (codes "1")
-is_one _ = false
+abbrev pub version_in : List (List ℕ) → Option ℕ
+version_in (w ∷ []) = elim (bytes_eq w (codes "1")) [ true ↦ Some 1 | false ↦ elim (bytes_eq w (codes "2")) [ true ↦ Some 2 | false ↦ None ] ]
+version_in _ = None
 
-abbrev pub version_by : Bool → Result Saying TextKind
-version_by true = Ok (version 1)
-version_by false = Err faults.Version
+-- a version stands before all lines that are not silent
+abbrev pub version_by : Bool → Option ℕ → Result Saying TextKind
+version_by true (Some n) = Ok (version n)
+version_by _ _ = Err faults.Version
 
 -- what follows each first word; the whole line is at hand for the rest after some words
-abbrev pub verbs : Bool → List ℕ → List (List ℕ × (List (List ℕ) → Option (Result Saying TextKind)))
-verbs first line =
-    (codes "policy", λ ws. Some (version_by (first && is_one ws)))
+abbrev pub verbs : TextVersion → List ℕ → List (List ℕ × (List (List ℕ) → Option (Result Saying TextKind)))
+verbs v line =
+    (codes "policy", λ ws. Some (version_by (is_open v) (version_in ws)))
     ∷ (codes "role", λ ws. Some (formed (one_name (λ n. role n) ws)))
     ∷ (codes "user", λ ws. Some (formed (one_name (λ n. user n) ws)))
     ∷ (codes "perm", λ ws. Some (formed (one_name (λ n. perm n) ws)))
     ∷ (codes "period", λ ws. Some (period_by line (bounds_in ws)))
-    ∷ (codes "limit", λ ws. Some (formed (limit_in ws)))
+    ∷ (codes "limit", λ ws. Some (formed_in (has_edges v) (limit_in ws)))
     ∷ (codes "edge", λ ws. Some (formed (edge_in ws)))
     ∷ (codes "cap", λ ws. Some (formed (cap_in ws)))
     ∷ (codes "admin", λ ws. Some (formed (one_name (λ n. admin n) ws)))
@@ -168,30 +181,31 @@ verbs first line =
     ∷ (codes "assigned", λ ws. Some (formed (opening_by (cond_at (codes "assigned" ∷ ws)))))
     ∷ (codes "granted", λ ws. Some (formed (opening_by (cond_at (codes "granted" ∷ ws)))))
     ∷ (codes "armed", λ ws. Some (formed (opening_by (cond_at (codes "armed" ∷ ws)))))
-    ∷ (codes "each", λ ws. Some (formed (entry_in Each ws)))
-    ∷ (codes "start", λ ws. Some (formed (entry_in Start ws)))
-    ∷ (codes "span", λ ws. Some (formed (entry_in Span ws)))
-    ∷ (codes "when", λ ws. Some (trigger_by (trigger_in ws)))
+    ∷ (codes "linked", λ ws. Some (linked_by (has_edges v) (opening_by (cond_at (codes "linked" ∷ ws)))))
+    ∷ (codes "each", λ ws. Some (formed_in (has_edges v) (entry_in Each ws)))
+    ∷ (codes "start", λ ws. Some (formed_in (has_edges v) (entry_in Start ws)))
+    ∷ (codes "span", λ ws. Some (formed_in (has_edges v) (entry_in Span ws)))
+    ∷ (codes "when", λ ws. Some (trigger_by (has_edges v) (trigger_in ws)))
     ∷ []
 
 abbrev pub said_by : Option (Result Saying TextKind) → Result Saying TextKind
 said_by None = Err faults.Word
 said_by (Some r) = r
 
-abbrev pub said_of : Bool → List ℕ → List (List ℕ) → Result Saying TextKind
-said_of first line [] = Err faults.Word
-said_of first line (w ∷ ws) = said_by (do reads ← by_verb (verbs first line) w; reads ws)
+abbrev pub said_of : TextVersion → List ℕ → List (List ℕ) → Result Saying TextKind
+said_of v line [] = Err faults.Word
+said_of v line (w ∷ ws) = said_by (do reads ← by_verb (verbs v line) w; reads ws)
 
 abbrev pub some_said : Result Saying TextKind → Result (Option Saying) TextKind
 some_said (Ok s) = Ok (Some s)
 some_said (Err t) = Err t
 
--- what a line says, nothing where it is silent; `first` where only silent lines stand before it
-abbrev pub read_said : Bool → List ℕ → Result (Option Saying) TextKind
-read_said first line =
+-- what a line says, nothing where it is silent, in a text whose lines before it tell this version
+abbrev pub read_said : TextVersion → List ℕ → Result (Option Saying) TextKind
+read_said v line =
     elim (is_longer 4096 line) [
       | true ↦ Err faults.Long
-      | false ↦ elim (are_silent (words_of line)) [ true ↦ Ok None | false ↦ some_said (said_of first line (words_of line)) ]
+      | false ↦ elim (are_silent (words_of line)) [ true ↦ Ok None | false ↦ some_said (said_of v line (words_of line)) ]
     ]
 
 -- the lines that say something, with their numbers; or the first fault, with the number of its line
@@ -204,10 +218,11 @@ abbrev pub and_then : {A : Type 0} → Numbered A → Result (List (Numbered A))
 and_then s (Ok more) = Ok (s ∷ more)
 and_then s (Err t) = Err t
 
-abbrev pub read_lines : Bool → ℕ → List (List ℕ) → Result (List (Numbered Saying)) (Numbered TextKind)
-read_lines first n [] = Ok []
-read_lines first n (l ∷ ls) =
-    elim (read_said first l) [
+abbrev pub read_lines : TextVersion → ℕ → List (List ℕ) → Result (List (Numbered Saying)) (Numbered TextKind)
+read_lines v n [] = Ok []
+read_lines v n (l ∷ ls) =
+    elim (read_said v l) [
       | Err t ↦ Err (record { line = n; it = t })
-      | Ok said ↦ elim said [ None ↦ read_lines first (n + 1) ls | Some s ↦ and_then (record { line = n; it = s }) (read_lines false (n + 1) ls) ]
+      | Ok said ↦
+          elim said [ None ↦ read_lines v (n + 1) ls | Some s ↦ and_then (record { line = n; it = s }) (read_lines (version_after v s) (n + 1) ls) ]
     ]

@@ -1,19 +1,20 @@
 -- What a line of a policy says, the words that spell it, and which sayings are in range.
-use Rattle.std.specs.Prelude.{ℕ, Bool, true, false, ◌&&◌, List, [], ◌∷◌, ◌++◌, length, codes, decimal, nat_eq, nat_le, Option, Some, None}
+use Rattle.std.specs.Prelude.{ℕ, Bool, true, false, ◌&&◌, ◌||◌, List, [], ◌∷◌, ◌++◌, length, codes, decimal, nat_eq, nat_le, Option, Some, None}
 use Rattle.std.specs.List.{list_all, list_any}
 use Rattle.gt_base.specs.Bounds.{last_minute}
 use Rattle.gt_base.specs.Names.{is_name}
 use Rattle.gt_base.specs.declared.policies.Form.{Form}
 use Rattle.gt_base.specs.declared.policies.Form.TheVariants.{Each, Start, Span}
 use Rattle.gtrbac_model.specs.Period.{Expr}
-use Rattle.calendar_laws.specs.Valid.{is_expr}
+use Rattle.gtrbac_model.specs.Valid.{is_expr}
 use Rattle.civil_time.specs.Text.{civil_text}
 use Rattle.periodic_expr.specs.Printed.{expr_text}
 use Rattle.policy_words.specs.declared.parts.NamedFluent.{NamedFluent}
+use Rattle.policy_words.specs.declared.parts.NamedFluent.TheVariants as fluents
 use Rattle.policy_words.specs.declared.parts.NamedCond.{NamedCond}
 use Rattle.policy_words.specs.declared.parts.NamedHead.{NamedHead}
 use Rattle.policy_words.specs.declared.parts.Item.{Item}
-use Rattle.policy_words.specs.declared.parts.Item.TheVariants.{Event, Signal, Cond}
+use Rattle.policy_words.specs.declared.parts.Item.TheVariants.{Event, Signal, Cond, Settled}
 use Rattle.policy_words.specs.declared.sayings.EdgeKind.{EdgeKind}
 use Rattle.policy_words.specs.declared.sayings.EdgeKind.TheVariants.{I, A, Ia}
 use Rattle.policy_words.specs.declared.sayings.CapKind.{CapKind}
@@ -93,6 +94,7 @@ abbrev pub is_item : Item → Bool
 is_item (Event e) = are_names (fluent_names e.fluent)
 is_item (Signal s) = is_name s.user && is_name s.role
 is_item (Cond c) = are_names (fluent_names c.fluent)
+is_item (Settled c) = are_names (fluent_names c.fluent)
 
 abbrev pub is_period_name : Option (List ℕ) → Bool
 is_period_name None = true
@@ -109,6 +111,7 @@ abbrev pub is_cause : Item → Bool
 is_cause (Event e) = true
 is_cause (Signal s) = true
 is_cause (Cond c) = false
+is_cause (Settled c) = false
 
 -- at most 16 items, of which one is an event or a signal
 abbrev pub is_body : List Item → Bool
@@ -116,7 +119,7 @@ is_body items = nat_le (length items) 16 && list_any is_cause items
 
 -- the names and numbers of a saying; bounds and bodies are not asked
 abbrev pub is_formed : Saying → Bool
-is_formed (version n) = nat_eq n 1
+is_formed (version n) = nat_eq n 1 || nat_eq n 2
 is_formed (role n) = is_name n
 is_formed (user n) = is_name n
 is_formed (perm n) = is_name n
@@ -142,3 +145,23 @@ is_bodied _ = true
 -- what a line may say
 abbrev pub is_saying : Saying → Bool
 is_saying s = is_formed s && is_bounded s && is_bodied s
+
+-- what names an edge of the hierarchy: version 1 has no words for it
+
+abbrev pub is_edge : NamedFluent → Bool
+is_edge (fluents.Edge s j) = true
+is_edge _ = false
+
+abbrev pub item_names_edge : Item → Bool
+item_names_edge (Event e) = is_edge e.fluent
+item_names_edge (Signal s) = false
+item_names_edge (Cond c) = is_edge c.fluent
+item_names_edge (Settled c) = is_edge c.fluent
+
+-- an event, a condition or an opening line of an edge
+abbrev pub names_edge : Saying → Bool
+names_edge (limit n prio c most during) = is_edge c.fluent
+names_edge (opening f) = is_edge f
+names_edge (entry f p h) = is_edge h.event.fluent
+names_edge (trigger items h d) = list_any item_names_edge items || is_edge h.event.fluent
+names_edge _ = false

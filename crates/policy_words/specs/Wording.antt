@@ -2,13 +2,15 @@
 use Rattle.std.specs.Prelude.{ℕ, Bool, true, false, ◌&&◌, List, [], ◌∷◌, ◌++◌, codes, decimal, bytes_eq, nat_eq, Option, Some, None, find}
 use Rattle.std.specs.List.{before_first, after_first}
 use Rattle.policy_words.specs.declared.parts.NamedFluent.{NamedFluent}
-use Rattle.policy_words.specs.declared.parts.NamedFluent.TheVariants.{Enabled, Assigned, Granted, Limit}
+use Rattle.policy_words.specs.declared.parts.NamedFluent.TheVariants.{Enabled, Assigned, Granted, Limit, Edge}
+use Rattle.policy_words.specs.declared.parts.Sort.{Sort}
+use Rattle.policy_words.specs.declared.parts.Sort.TheVariants.{Enabling, Assigning, Granting, Arming, Linking}
 use Rattle.policy_words.specs.declared.parts.NamedEvent.{NamedEvent}
 use Rattle.policy_words.specs.declared.parts.NamedCond.{NamedCond}
 use Rattle.policy_words.specs.declared.parts.NamedSignal.{NamedSignal}
 use Rattle.policy_words.specs.declared.parts.NamedHead.{NamedHead}
 use Rattle.policy_words.specs.declared.parts.Item.{Item}
-use Rattle.policy_words.specs.declared.parts.Item.TheVariants.{Event, Signal, Cond}
+use Rattle.policy_words.specs.declared.parts.Item.TheVariants.{Event, Signal, Cond, Settled}
 use Rattle.gt_base.specs.Names.{is_name, number_from}
 
 infixl 10 ◌>>=◌
@@ -20,32 +22,29 @@ None >>= f = None
 abbrev pub Read : Type 0 → Type 0
 Read A = List (List ℕ) → Option (A × List (List ℕ))
 
--- what a verb sets: a fluent of this sort
-pub data Sort : Type 0 where
-  enabling : Sort
-  assigning : Sort
-  granting : Sort
-  arming : Sort
-
 abbrev pub event_verb : Bool → Sort → List ℕ
-event_verb true enabling = codes "enable"
-event_verb false enabling = codes "disable"
-event_verb true assigning = codes "assign"
-event_verb false assigning = codes "deassign"
-event_verb true granting = codes "grant"
-event_verb false granting = codes "revoke"
-event_verb true arming = codes "arm"
-event_verb false arming = codes "disarm"
+event_verb true Enabling = codes "enable"
+event_verb false Enabling = codes "disable"
+event_verb true Assigning = codes "assign"
+event_verb false Assigning = codes "deassign"
+event_verb true Granting = codes "grant"
+event_verb false Granting = codes "revoke"
+event_verb true Arming = codes "arm"
+event_verb false Arming = codes "disarm"
+event_verb true Linking = codes "link"
+event_verb false Linking = codes "unlink"
 
 abbrev pub cond_verb : Bool → Sort → List ℕ
-cond_verb true enabling = codes "enabled"
-cond_verb false enabling = codes "disabled"
-cond_verb true assigning = codes "assigned"
-cond_verb false assigning = codes "deassigned"
-cond_verb true granting = codes "granted"
-cond_verb false granting = codes "revoked"
-cond_verb true arming = codes "armed"
-cond_verb false arming = codes "disarmed"
+cond_verb true Enabling = codes "enabled"
+cond_verb false Enabling = codes "disabled"
+cond_verb true Assigning = codes "assigned"
+cond_verb false Assigning = codes "deassigned"
+cond_verb true Granting = codes "granted"
+cond_verb false Granting = codes "revoked"
+cond_verb true Arming = codes "armed"
+cond_verb false Arming = codes "disarmed"
+cond_verb true Linking = codes "linked"
+cond_verb false Linking = codes "unlinked"
 
 abbrev pub signal_verb : Bool → List ℕ
 signal_verb true = codes "activate"
@@ -54,16 +53,18 @@ signal_verb false = codes "deactivate"
 -- writing
 
 abbrev pub sort_of : NamedFluent → Sort
-sort_of (Enabled r) = enabling
-sort_of (Assigned u r) = assigning
-sort_of (Granted q r) = granting
-sort_of (Limit l) = arming
+sort_of (Enabled r) = Enabling
+sort_of (Assigned u r) = Assigning
+sort_of (Granted q r) = Granting
+sort_of (Limit l) = Arming
+sort_of (Edge s j) = Linking
 
 abbrev pub fluent_names : NamedFluent → List (List ℕ)
 fluent_names (Enabled r) = r ∷ []
 fluent_names (Assigned u r) = u ∷ r ∷ []
 fluent_names (Granted q r) = q ∷ r ∷ []
 fluent_names (Limit l) = l ∷ []
+fluent_names (Edge s j) = s ∷ j ∷ []
 
 abbrev pub event_words : NamedEvent → List (List ℕ)
 event_words e = event_verb e.on (sort_of e.fluent) ∷ fluent_names e.fluent
@@ -82,11 +83,14 @@ abbrev pub item_words : Item → List (List ℕ)
 item_words (Event e) = event_words e
 item_words (Signal s) = signal_words s
 item_words (Cond c) = cond_words c
+item_words (Settled c) = codes "settled" ∷ cond_words c
 
 -- reading
 
 abbrev pub all_verbs : List (Bool × Sort)
-all_verbs = (true, enabling) ∷ (false, enabling) ∷ (true, assigning) ∷ (false, assigning) ∷ (true, granting) ∷ (false, granting) ∷ (true, arming) ∷ (false, arming) ∷ []
+all_verbs =
+    (true, Enabling) ∷ (false, Enabling) ∷ (true, Assigning) ∷ (false, Assigning) ∷ (true, Granting) ∷ (false, Granting) ∷ (true, Arming) ∷ (false, Arming) ∷ (true, Linking)
+    ∷ (false, Linking) ∷ []
 
 abbrev pub verb_in : (Bool → Sort → List ℕ) → List ℕ → Option (Bool × Sort)
 verb_in verb word = find (λ v. bytes_eq (verb v.0 v.1) word) all_verbs
@@ -101,10 +105,11 @@ two_names build (a ∷ []) = None
 two_names build (a ∷ b ∷ ws) = elim (is_name a && is_name b) [ true ↦ Some (build a b, ws) | false ↦ None ]
 
 abbrev pub fluent_at : Sort → Read NamedFluent
-fluent_at enabling ws = one_name (λ r. Enabled r) ws
-fluent_at assigning ws = two_names (λ u r. Assigned u r) ws
-fluent_at granting ws = two_names (λ q r. Granted q r) ws
-fluent_at arming ws = one_name (λ l. Limit l) ws
+fluent_at Enabling ws = one_name (λ r. Enabled r) ws
+fluent_at Assigning ws = two_names (λ u r. Assigned u r) ws
+fluent_at Granting ws = two_names (λ q r. Granted q r) ws
+fluent_at Arming ws = one_name (λ l. Limit l) ws
+fluent_at Linking ws = two_names (λ s j. Edge s j) ws
 
 -- a verb of these with its names, whether it is on, and its fluent
 abbrev pub verb_at : (Bool → Sort → List ℕ) → Read (Bool × NamedFluent)
@@ -152,10 +157,16 @@ abbrev pub or_else : {A : Type 0} → Option A → Option A → Option A
 or_else (Some a) b = Some a
 or_else None b = b
 
--- an event, a signal or a condition; no verb is of two of them
+-- `settled COND`
+abbrev pub settled_at : Read NamedCond
+settled_at [] = None
+settled_at (w ∷ ws) = elim (bytes_eq w (codes "settled")) [ true ↦ cond_at ws | false ↦ None ]
+
+-- an event, a signal, a condition or a settled condition; no first word is of two of them
 abbrev pub item_at : Read Item
 item_at ws =
-    or_else (do e ← event_at ws; Some (Event e.0, e.1)) (or_else (do s ← signal_at ws; Some (Signal s.0, s.1)) (do c ← cond_at ws; Some (Cond c.0, c.1)))
+    or_else (do e ← event_at ws; Some (Event e.0, e.1))
+    (or_else (do s ← signal_at ws; Some (Signal s.0, s.1)) (or_else (do c ← cond_at ws; Some (Cond c.0, c.1)) (do c ← settled_at ws; Some (Settled c.0, c.1))))
 
 -- what is said where no words are left
 abbrev pub at_end : {A : Type 0} → A → List (List ℕ) → Option A

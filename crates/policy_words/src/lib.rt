@@ -1,10 +1,15 @@
-//! What the lines of a policy say, by names: types, and the words that spell them.
+//! What the lines of a policy say, by names: types, the words that spell them, what the lines stand for together, and the
+//! canonical text.
 #![tactic(auto)]
 
+mod claims;
 mod faults;
 mod parts;
 mod sayings;
+mod versions;
 
+pub use claims::Claim;
 pub use faults::TextKind;
-pub use parts::{Item, NamedCond, NamedEvent, NamedFluent, NamedHead, NamedSignal};
+pub use parts::{Item, NamedCond, NamedEvent, NamedFluent, NamedHead, NamedSignal, Sort};
 pub use sayings::{CapKind, EdgeKind, Kind, Said};
+pub use versions::TextVersion;

@@ -12,6 +12,18 @@ pub enum NamedFluent {
     Granted(Name, Name),
     /// The duration limit is armed.
     Limit(Name),
+    /// The edge from the senior role, which stands first, to the junior role is linked.
+    Edge(Name, Name),
+}
+
+/// The sorts of fluents.
+#[derive(Clone, Copy, PartialEq, Eq, Debug)]
+pub enum Sort {
+    Enabling,
+    Assigning,
+    Granting,
+    Arming,
+    Linking,
 }
 
 /// It sets one fluent on or off.
@@ -48,5 +60,8 @@ pub struct NamedHead {
 pub enum Item {
     Event(NamedEvent),
     Signal(NamedSignal),
+    /// A condition on the status before the instant.
     Cond(NamedCond),
+    /// A condition on the status after the instant.
+    Settled(NamedCond),
 }

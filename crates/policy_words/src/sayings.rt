@@ -39,7 +39,7 @@ pub enum Kind {
 /// What a line that is not silent says, by names.
 #[derive(Drop)]
 pub enum Said {
-    /// The version, 1.
+    /// The version, 1 or 2.
     Version(u32),
     Role(Name),
     User(Name),

@@ -15,7 +15,8 @@ use Rattle.gt_base.proofs.SetLaws.{has-with_member, has-members}
 use Rattle.gt_base.proofs.SetSteps.{event_cmp_total, fluent_cmp_total}
 use Rattle.gt_base.proofs.OrderLaws.{fluent_cmp-IsAntisymmetric}
 use Rattle.gt_base.proofs.SetsAreSets.{fluents_are_sets}
-use Rattle.priority_conflict.specs.Winning.{on_event, off_event, IsApart}
+use Rattle.gtrbac_model.specs.Conflict.{turns_on, turns_off}
+use Rattle.priority_conflict.specs.Winning.{IsApart}
 
 pub or_comm : (a b : Bool) → (a || b) ≡ (b || a)
 or_comm true true = refl
@@ -39,24 +40,24 @@ lists_event es e = list_any (eq_by_cmp event_cmp e) es
 
 -- the status that these events make of one
 abbrev pub over : List Event → Fluent → Bool → Bool
-over es f b = cond (lists_event es (on_event f)) true (cond (lists_event es (off_event f)) false b)
+over es f b = cond (lists_event es (turns_on f)) true (cond (lists_event es (turns_off f)) false b)
 
-turns_on : (a q c b : Bool) → (q || cond a true (cond c false b)) ≡ cond (a || q) true (cond (c || false) false b)
-turns_on true true c b = refl
-turns_on true false c b = refl
-turns_on false true c b = refl
-turns_on false false true b = refl
-turns_on false false false b = refl
+one_on : (a q c b : Bool) → (q || cond a true (cond c false b)) ≡ cond (a || q) true (cond (c || false) false b)
+one_on true true c b = refl
+one_on true false c b = refl
+one_on false true c b = refl
+one_on false false true b = refl
+one_on false false false b = refl
 
-turns_off : (a q c b : Bool) → (q ≡ true → a ≡ false) → (cond a true (cond c false b) && not q) ≡ cond (a || false) true (cond (c || q) false b)
-turns_off true true c b h = cc (h refl)
-turns_off true false c b h = refl
-turns_off false true true b h = refl
-turns_off false true false true h = refl
-turns_off false true false false h = refl
-turns_off false false true b h = refl
-turns_off false false false true h = refl
-turns_off false false false false h = refl
+one_off : (a q c b : Bool) → (q ≡ true → a ≡ false) → (cond a true (cond c false b) && not q) ≡ cond (a || false) true (cond (c || q) false b)
+one_off true true c b h = cc (h refl)
+one_off true false c b h = refl
+one_off false true true b h = refl
+one_off false true false true h = refl
+one_off false true false false h = refl
+one_off false false true b h = refl
+one_off false false false true h = refl
+one_off false false false false h = refl
 
 part_none : (p : Event → Bool) (es : List Event) (i : ℕ) → list_any p es ≡ false → list_any p (take i es) ≡ false
 part_none p es zero h = refl
@@ -74,10 +75,10 @@ pub over_next : (won : Events) (s : Fluents) (e : Event) (i : ℕ) (f : Fluent) 
 over_next won s e i f b apart there more is = by e.on refl
   where
     a : Bool
-    a = lists_event (take i (members won)) (on_event f)
+    a = lists_event (take i (members won)) (turns_on f)
 
     c : Bool
-    c = lists_event (take i (members won)) (off_event f)
+    c = lists_event (take i (members won)) (turns_off f)
 
     same : Bool
     same = eq_by_cmp fluent_cmp f e.fluent
@@ -85,25 +86,25 @@ over_next won s e i f b apart there more is = by e.on refl
     event : (on : Bool) → e.on ≡ on → e ≡ record { on = on; fluent = e.fluent }
     event on q = λ j. record { on = q j; fluent = e.fluent }
 
-    ons : (on : Bool) → e.on ≡ on → lists_event (take (i + 1) (members won)) (on_event f) ≡ (a || eq_by_cmp event_cmp (on_event f) (record { on = on; fluent = e.fluent }))
-    ons on q = any_more (eq_by_cmp event_cmp (on_event f)) (members won) i e more ∙ ap (λ x. a || eq_by_cmp event_cmp (on_event f) x) (event on q)
+    ons : (on : Bool) → e.on ≡ on → lists_event (take (i + 1) (members won)) (turns_on f) ≡ (a || eq_by_cmp event_cmp (turns_on f) (record { on = on; fluent = e.fluent }))
+    ons on q = any_more (eq_by_cmp event_cmp (turns_on f)) (members won) i e more ∙ ap (λ x. a || eq_by_cmp event_cmp (turns_on f) x) (event on q)
 
-    offs : (on : Bool) → e.on ≡ on → lists_event (take (i + 1) (members won)) (off_event f) ≡ (c || eq_by_cmp event_cmp (off_event f) (record { on = on; fluent = e.fluent }))
-    offs on q = any_more (eq_by_cmp event_cmp (off_event f)) (members won) i e more ∙ ap (λ x. c || eq_by_cmp event_cmp (off_event f) x) (event on q)
+    offs : (on : Bool) → e.on ≡ on → lists_event (take (i + 1) (members won)) (turns_off f) ≡ (c || eq_by_cmp event_cmp (turns_off f) (record { on = on; fluent = e.fluent }))
+    offs on q = any_more (eq_by_cmp event_cmp (turns_off f)) (members won) i e more ∙ ap (λ x. c || eq_by_cmp event_cmp (turns_off f) x) (event on q)
 
     -- where the event sets this fluent off, none of the others sets it on
     alone : e.on ≡ false → same ≡ true → a ≡ false
     alone q t =
         let is : f ≡ e.fluent = fluent_cmp-IsAntisymmetric f e.fluent ((Equal-is (fluent_cmp f e.fluent)).0 t) in
-        let other : converse e ≡ on_event f = λ j. record { on = not (q j); fluent = sym is j } in
-        part_none _ (members won) i (sym (has-members won (on_event f)) ∙ ap (has won) (sym other) ∙ apart e there)
+        let other : converse e ≡ turns_on f = λ j. record { on = not (q j); fluent = sym is j } in
+        part_none _ (members won) i (sym (has-members won (turns_on f)) ∙ ap (has won) (sym other) ∙ apart e there)
 
     by : (on : Bool) → e.on ≡ on → has (if on then with_member s e.fluent else without s e.fluent) f ≡ over (take (i + 1) (members won)) f b
     by true q =
-        has-with_member fluent_cmp_total s e.fluent f ∙ ap (λ x. same || x) is ∙ turns_on a same c b
+        has-with_member fluent_cmp_total s e.fluent f ∙ ap (λ x. same || x) is ∙ one_on a same c b
         ∙ sym (λ j. cond (ons true q j) true (cond (offs true q j) false b))
     by false q =
-        fluents_are_sets.taken_out s e.fluent f ∙ (λ j. is j && not ((eq_by_cmp_equiv fluent_cmp_total).symm e.fluent f j)) ∙ turns_off a same c b (alone q)
+        fluents_are_sets.taken_out s e.fluent f ∙ (λ j. is j && not ((eq_by_cmp_equiv fluent_cmp_total).symm e.fluent f j)) ∙ one_off a same c b (alone q)
         ∙ sym (λ j. cond (ons false q j) true (cond (offs false q j) false b))
 
 -- the winner at a place
@@ -121,7 +122,7 @@ over_step won es s t i d f b e apart lt is kept =
     lt kept
 
 -- all winners together
-pub over_all : (won : Events) (es : List Event) (n : ℕ) (f : Fluent) (b : Bool) → es ≡ members won → length es ≤ n → over (take n es) f b ≡ cond (has won (on_event f)) true (cond (has won (off_event f)) false b)
+pub over_all : (won : Events) (es : List Event) (n : ℕ) (f : Fluent) (b : Bool) → es ≡ members won → length es ≤ n → over (take n es) f b ≡ cond (has won (turns_on f)) true (cond (has won (turns_off f)) false b)
 over_all won es n f b e le =
     let whole : take n es ≡ members won = take_all n es le ∙ e in
-    λ j. cond ((ap (λ es. lists_event es (on_event f)) whole ∙ sym (has-members won (on_event f))) j) true (cond ((ap (λ es. lists_event es (off_event f)) whole ∙ sym (has-members won (off_event f))) j) false b)
+    λ j. cond ((ap (λ es. lists_event es (turns_on f)) whole ∙ sym (has-members won (turns_on f))) j) true (cond ((ap (λ es. lists_event es (turns_off f)) whole ∙ sym (has-members won (turns_off f))) j) false b)

@@ -20,7 +20,7 @@ use Rattle.gt_base.proofs.SetLaws.{has-members, has-with_member}
 use Rattle.gt_base.proofs.OrderLaws.{fluent_cmp-IsAntisymmetric}
 use Rattle.gt_base.proofs.SetSteps.{fluent_cmp_total, event_cmp_total, prioritised_cmp_total}
 use Rattle.gt_base.proofs.OrderLaws.{prioritised_cmp-IsAntisymmetric}
-use Rattle.gtrbac_model.specs.Conflict.{beats, blocked, won}
+use Rattle.gtrbac_model.specs.Conflict.{Status, beats, blocked, won, after, turns_on, turns_off}
 use Rattle.gtrbac_model.specs.Same.{lists, same_event, same_prioritised}
 use Rattle.gtrbac_model.proofs.Elements.{Elem, both_true, and_true, either_true, left_true, right_true, split, any_elim, any_intro, equal_by, tied}
 use Rattle.gtrbac_model.proofs.Uniqueness.{elem, of_elem, is_same_event, same_event_of, is_same_prioritised}
@@ -187,6 +187,27 @@ module _ (x : Happening) (e : Event) where
           let (o, m, k) = any_elim (λ o. same_event o.event e && not (blocked x o)) (members x.events) w in
           let is : o.event ≡ e = is_same_event _ _ (both_true _ _ k).0 in
           false≢true (sym (h o (ap (λ z. z.fluent) is)) ∙ of_elem x o m)
+
+-- the leader of a fluent decides whether it is on; where none leads, it stays
+abbrev pub on_by : Option Prioritised → Bool → Bool
+on_by None before = before
+on_by (Some q) before = q.event.on
+
+-- so it is after the set
+pub after_by : (x : Happening) (s : Status) (f : Fluent) (lead : Option Prioritised) → IsLeader (has x.events) f lead → after x s f ≡ on_by lead (s f)
+after_by x s f lead is =
+    (λ i. cond (won_by x (turns_on f) lead is i) true (cond (won_by x (turns_off f) lead is i) false (s f))) ∙ decides lead is
+  where
+    by : (q : Prioritised) (b : Bool) → q.event.on ≡ b → q.event.fluent ≡ f → ◌≡◌ {A = Bool} (cond (same_event q.event (turns_on f)) true (cond (same_event q.event (turns_off f)) false (s f))) b
+    by q true on of = ap (λ b. cond b true (cond (same_event q.event (turns_off f)) false (s f))) (same_event_of q.event (turns_on f) (event_of _ _ on of))
+    by q false on of =
+        let is : q.event ≡ turns_off f = event_of _ _ on of in
+        (λ i. cond (same_event (is i) (turns_on f)) true (cond (same_event (is i) (turns_off f)) false (s f)))
+        ∙ ap (λ b. cond b false (s f)) (same_event_of (turns_off f) (turns_off f) refl)
+
+    decides : (lead : Option Prioritised) → IsLeader (has x.events) f lead → cond (led lead (turns_on f)) true (cond (led lead (turns_off f)) false (s f)) ≡ on_by lead (s f)
+    decides None h = refl
+    decides (Some q) h = by q q.event.on refl h.of_fluent
 
 contains_of : {A : Type 0} (xs : List A) (x : A) → Elem xs x → Contains xs x
 contains_of [] x m = elim m [ ]

@@ -6,14 +6,12 @@ use Rattle.gt_base.specs.declared.events.Prioritised.{Prioritised}
 use Rattle.gt_base.specs.Events.{converse}
 use Rattle.gt_base.specs.Happening.{Events}
 use Rattle.gt_base.specs.Sets.{has}
-use Rattle.gtrbac_model.specs.Conflict.{beats}
+use Rattle.gtrbac_model.specs.Conflict.{Status, beats, turns_on, turns_off}
 use Rattle.gtrbac_model.specs.Same.{same_event}
 
-abbrev pub on_event : Fluent → Event
-on_event f = record { on = true; fluent = f }
-
-abbrev pub off_event : Fluent → Event
-off_event f = record { on = false; fluent = f }
+-- the status that winners make of one
+abbrev pub turned_by : (Event → Bool) → Status → Status
+turned_by wins before f = cond (wins (turns_on f)) true (cond (wins (turns_off f)) false (before f))
 
 -- no event stands beside its converse, as winners never do
 abbrev pub IsApart : Events → Type 0

@@ -6,7 +6,7 @@ ghost use Rattle.gt_base.specs.Events.{converse};
 ghost use Rattle.gt_base.specs.Sets.{has, members};
 ghost use Rattle.gtrbac_model.specs.Conflict.{beats as beats_at, blocked as is_blocked, won, won_at, stands_at, greatest_below, seen as seen_in};
 ghost use Rattle.gtrbac_model.specs.Same.{same_event};
-ghost use Rattle.priority_conflict.specs.Winning.{on_event, off_event, IsApart};
+ghost use Rattle.priority_conflict.specs.Winning.{IsApart, turned_by};
 
 use gt_base::{Event, EventSet, Happened, Prio, Prioritised, Seen, Status};
 
@@ -37,7 +37,7 @@ pub fn blocked(x: &Happened, p: Prioritised) -> bool
 pub fn next_status(s: &mut Status, won: &EventSet)
     requires room { length (members won.now.set) ≤ s.old.spare }
     requires apart { IsApart won.now.set }
-    ensures status { (f : Fluent) → has s.new.set f ≡ cond (has won.now.set (on_event f)) true (cond (has won.now.set (off_event f)) false (has s.old.set f)) }
+    ensures status { (f : Fluent) → has s.new.set f ≡ turned_by (has won.now.set) (has s.old.set) f }
     ensures spare { s.old.spare ≤ s.new.spare + length (members won.now.set) }
 {
     for e in won.as_slice() {

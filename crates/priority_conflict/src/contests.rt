@@ -1,11 +1,11 @@
 //! A set of an instant with the leader of each fluent, so that a winner is known at once while the set grows.
 ghost use Rattle.std.specs.Prelude.{◌≡◌, IfOk, OnOk, OnErr};
-ghost use Rattle.gt_base.specs.Sets.{with_member};
-ghost use Rattle.gtrbac_model.specs.Conflict.{won};
+ghost use Rattle.gt_base.specs.Sets.{has, with_member};
+ghost use Rattle.gtrbac_model.specs.Conflict.{won, after};
 ghost use Rattle.priority_conflict.specs.Winning.{led};
 
 use crate::leading::{leaders, note};
-use gt_base::{Event, Fluent, Happened, Memory, Prioritised};
+use gt_base::{Event, Fluent, Happened, Memory, Prioritised, Status};
 use indexmap::IndexMap;
 use std::alloc::Global;
 use std::marker::Model;
@@ -56,6 +56,16 @@ impl Contest {
         ensures { result ≡ won self.now e }
     {
         leads(self.leaders.get(&e.fluent).copied(), e)
+    }
+
+    /// Whether the fluent is on in the status after the set, given the status before it. It takes no memory.
+    pub fn is_on_after(&self, f: Fluent, before: &Status) -> bool
+        ensures { result ≡ after self.now (has before.now.set) f }
+    {
+        match self.leaders.get(&f) {
+            Some(leader) => leader.event.on,
+            None => before.is_on(f),
+        }
     }
 
     /// Adds an event. After a refusal the set is as it was.

@@ -8,7 +8,7 @@ use Rattle.least_walk.specs.Net.{Net, EndsIn, arc_of, arcs_of, is_marked}
 use Rattle.least_walk.specs.Walks.{is_goal, IsReach, HasNoWalk}
 use Rattle.least_walk.proofs.Items.{item_within, item_map, item_of_map, one_item}
 use Rattle.least_walk.proofs.Descending.{goal_get}
-use Rattle.walk_laws.specs.Cycles.{Closes, NotLonger, IsLeastCycle, Climbs, AreLevels}
+use Rattle.gtrbac_model.specs.Cycles.{Closes, NotLonger, IsLeastCycle, Climbs, AreLevels}
 use Rattle.walk_laws.proofs.Levels.{along, levels_leave_no_cycle}
 use Rattle.safety_cycle.specs.Judged.{IsStratified}
 use Rattle.safety_cycle.specs.Ranks.{AreRanks, IsLevelMark, lifted}

@@ -1,7 +1,7 @@
 -- What the judge's answers mean.
 use Rattle.std.specs.Prelude.{◌≡◌, ℕ, List, length, slice_index}
 use Rattle.least_walk.specs.Net.{Net, arcs_of, is_marked}
-use Rattle.walk_laws.specs.Cycles.{HasNoCycle, IsLeastCycle, AreLevels}
+use Rattle.gtrbac_model.specs.Cycles.{HasNoCycle, IsLeastCycle, AreLevels}
 use Rattle.safety_cycle.specs.declared.strata.Verdict.{Verdict}
 use Rattle.safety_cycle.specs.declared.strata.Verdict.TheVariants.{Cycle, Memory}
 

@@ -1,13 +1,14 @@
 //! Triggers, bases and what they settle to.
-ghost use Rattle.std.specs.Prelude.{◌≤◌, length, IfOk};
+ghost use Rattle.std.specs.Prelude.{◌≤◌, ◌+◌, length, IfOk};
 ghost use Rattle.dependency_graph.specs.Nets.{IsWithinLimits};
 
-use gt_base::{Event, Fluent, Happened, List, Memory, Prio, Prioritised, RoleId, Status, Trigger};
+use gt_base::{
+    Cond, Event, Fluent, Happened, List, Memory, Prio, Prioritised, RoleId, Status, Trigger,
+};
 use instant_engine::settle;
-use safety_cycle::Verdict;
+use policy_safety::{NoLevels, levels};
 use std::alloc::{AllocError, Global};
 use trigger_rules::Rules;
-use trigger_safety::levels;
 
 /// Two priorities, the higher one last.
 #[derive(Clone, Copy)]
@@ -51,7 +52,7 @@ pub(crate) fn when(
     head: Prioritised,
     delay: u32,
 ) -> Result<Trigger, Memory>
-    ensures { IfOk result (λ t. length t.events ≤ 16) }
+    ensures { IfOk result (λ t. length t.events + length t.settled ≤ 16) }
 {
     let mut events = List::new(alloc);
     events.reserve(1)?;
@@ -60,8 +61,37 @@ pub(crate) fn when(
         events,
         signals: List::new(alloc),
         conds: List::new(alloc),
+        settled: List::new(alloc),
         head,
         delay,
+    })
+}
+
+/// The immediate trigger with one settled condition as well, that the role is enabled.
+pub(crate) fn when_settled(
+    alloc: Global,
+    body: Event,
+    role: u32,
+    head: Prioritised,
+) -> Result<Trigger, Memory>
+    ensures { IfOk result (λ t. length t.events + length t.settled ≤ 16) }
+{
+    let mut events = List::new(alloc);
+    events.reserve(1)?;
+    events.push(body);
+    let mut settled = List::new(alloc);
+    settled.reserve(1)?;
+    settled.push(Cond {
+        on: true,
+        fluent: Fluent::Enabled(RoleId(role)),
+    });
+    Ok(Trigger {
+        events,
+        signals: List::new(alloc),
+        conds: List::new(alloc),
+        settled,
+        head,
+        delay: 0,
     })
 }
 
@@ -72,9 +102,9 @@ pub(crate) fn three(
     b: Trigger,
     c: Trigger,
 ) -> Result<List<Trigger>, Memory>
-    requires a { length a.events ≤ 16 }
-    requires b { length b.events ≤ 16 }
-    requires c { length c.events ≤ 16 }
+    requires a { length a.events + length a.settled ≤ 16 }
+    requires b { length b.events + length b.settled ≤ 16 }
+    requires c { length c.events + length c.settled ≤ 16 }
     ensures { IfOk result (λ list. IsWithinLimits list.items) }
 {
     let mut list = List::new(alloc);
@@ -107,7 +137,7 @@ pub(crate) fn settled(
     let rules = Rules::new(alloc, triggers)?;
     match levels(alloc, triggers) {
         Ok((graph, strata)) => Ok(Some(settle(alloc, &rules, &graph, &strata, base, before)?)),
-        Err(Verdict::Cycle { .. }) => Ok(None),
-        Err(Verdict::Memory) => Err(AllocError),
+        Err(NoLevels::Cycle { .. }) => Ok(None),
+        Err(NoLevels::Memory) => Err(AllocError),
     }
 }

@@ -2,7 +2,9 @@
 ghost use Rattle.std.specs.Prelude.{IfOk};
 ghost use Rattle.dependency_graph.specs.Nets.{IsWithinLimits};
 
-use crate::building::{Prios, base_of, disable, enable, set, settled, three, two_prios, when};
+use crate::building::{
+    Prios, base_of, disable, enable, set, settled, three, two_prios, when, when_settled,
+};
 use gt_base::{List, Memory, Prio, Prioritised, Status, Trigger};
 use std::alloc::Global;
 use std::test::Fail;
@@ -28,6 +30,18 @@ fn circle(alloc: Global, low: Prio) -> Result<List<Trigger>, Memory>
         when(alloc, set(true, 0), enable(low, 1), 0)?,
         when(alloc, set(true, 1), enable(low, 0), 0)?,
         when(alloc, set(true, 0), enable(low, 2), 5)?,
+    )
+}
+
+/// When enable 0 and settled enabled 1 then 50:enable 2, when enable 3 then 60:disable 1, when enable 2 then 50:enable 4.
+fn guarded(alloc: Global, low: Prio, high: Prio) -> Result<List<Trigger>, Memory>
+    ensures { IfOk result (λ list. IsWithinLimits list.items) }
+{
+    three(
+        alloc,
+        when_settled(alloc, set(true, 0), 1, enable(low, 2))?,
+        when(alloc, set(true, 3), disable(high, 1), 0)?,
+        when(alloc, set(true, 2), enable(low, 4), 0)?,
     )
 }
 
@@ -113,5 +127,43 @@ fn a_circle_is_met_and_a_delay_waits(rt: HostRuntime) -> Result<(), Fail> {
             &[enable(low, 0), enable(low, 1)]
         )?
     );
+    Ok(())
+}
+
+#[test]
+fn a_settled_condition_sees_its_own_minute(rt: HostRuntime) -> Result<(), Fail> {
+    let alloc = rt.alloc();
+    let Prios { low, high } = two_prios().ok_or("no priorities")?;
+    let base = [enable(low, 0), enable(low, 1)];
+    let wanted = [
+        enable(low, 0),
+        enable(low, 1),
+        enable(low, 2),
+        enable(low, 4),
+    ];
+    assert!(rt; gives(alloc, &guarded(alloc, low, high)?, &base, &wanted)?);
+    assert!(rt;
+        gives(
+            alloc,
+            &guarded(alloc, low, high)?,
+            &[enable(low, 0)],
+            &[enable(low, 0)]
+        )?
+    );
+    Ok(())
+}
+
+#[test]
+fn a_higher_disable_overrules_a_settled_condition(rt: HostRuntime) -> Result<(), Fail> {
+    let alloc = rt.alloc();
+    let Prios { low, high } = two_prios().ok_or("no priorities")?;
+    let base = [enable(low, 0), enable(low, 1), enable(low, 3)];
+    let wanted = [
+        enable(low, 0),
+        enable(low, 1),
+        enable(low, 3),
+        disable(high, 1),
+    ];
+    assert!(rt; gives(alloc, &guarded(alloc, low, high)?, &base, &wanted)?);
     Ok(())
 }

@@ -1,5 +1,5 @@
 //! Settling against a search over all sets, on thousands of small random rules.
-ghost use Rattle.std.specs.Prelude.{◌<◌, ◌≤◌, length, IfOk};
+ghost use Rattle.std.specs.Prelude.{◌<◌, ◌≤◌, ◌+◌, length, IfOk};
 ghost use Rattle.dependency_graph.specs.Nets.{IsWithinLimits};
 
 use crate::building::{Prios, set, settled, two_prios};
@@ -14,6 +14,7 @@ struct Drawn {
     body: u32,
     other: Option<u32>,
     cond: Option<u32>,
+    settled: Option<u32>,
     head: u32,
     delay: u32,
 }
@@ -67,6 +68,7 @@ fn draw_rule(state: &mut u64) -> Drawn {
         body: draw(state, 8),
         other: draw_maybe(state),
         cond: draw_maybe(state),
+        settled: draw_maybe(state),
         head: draw(state, 16),
         delay: if draw(state, 6) == 0 { 5 } else { 0 },
     }
@@ -114,9 +116,18 @@ fn stands(set: u32, earlier: u32, event: u32) -> bool {
         || contains(earlier, high) && !is_blocked(set, high)
 }
 
+/// Whether the role is enabled after the set.
+fn is_on_after(set: u32, before: u32, role: u32) -> bool {
+    let off = role % 4 * 2;
+    stands(set, set, off ^ 1) || contains(before, role) && !stands(set, set, off)
+}
+
 fn is_met(rule: Drawn, set: u32, earlier: u32, before: u32) -> bool {
     let cond = match rule.cond {
         Some(c) => contains(before, c / 2) == (c % 2 == 1),
+        None => true,
+    } && match rule.settled {
+        Some(c) => is_on_after(set, before, c / 2) == (c % 2 == 1),
         None => true,
     };
     let other = match rule.other {
@@ -193,8 +204,23 @@ fn prioritised(prios: &Prios, n: u32) -> Prioritised {
     }
 }
 
+/// A list of the condition, if there is one.
+fn conditions(alloc: Global, cond: Option<u32>) -> Result<List<Cond>, Memory>
+    ensures { IfOk result (λ conds. length conds.items ≤ 1) }
+{
+    let mut conds = List::new(alloc);
+    conds.reserve(1)?;
+    if let Some(c) = cond {
+        conds.push(Cond {
+            on: c % 2 == 1,
+            fluent: Fluent::Enabled(RoleId(c / 2)),
+        });
+    }
+    Ok(conds)
+}
+
 fn trigger(alloc: Global, prios: &Prios, rule: Drawn) -> Result<Trigger, Memory>
-    ensures { IfOk result (λ t. length t.events ≤ 16) }
+    ensures { IfOk result (λ t. length t.events + length t.settled ≤ 16) }
 {
     let mut events = List::new(alloc);
     events.reserve(2)?;
@@ -202,18 +228,11 @@ fn trigger(alloc: Global, prios: &Prios, rule: Drawn) -> Result<Trigger, Memory>
     if let Some(other) = rule.other {
         events.push(event(other));
     }
-    let mut conds = List::new(alloc);
-    conds.reserve(1)?;
-    if let Some(c) = rule.cond {
-        conds.push(Cond {
-            on: c % 2 == 1,
-            fluent: Fluent::Enabled(RoleId(c / 2)),
-        });
-    }
     Ok(Trigger {
         events,
         signals: List::new(alloc),
-        conds,
+        conds: conditions(alloc, rule.cond)?,
+        settled: conditions(alloc, rule.settled)?,
         head: prioritised(prios, rule.head),
         delay: rule.delay,
     })
@@ -226,10 +245,10 @@ fn four(
     c: Trigger,
     d: Trigger,
 ) -> Result<List<Trigger>, Memory>
-    requires a { length a.events ≤ 16 }
-    requires b { length b.events ≤ 16 }
-    requires c { length c.events ≤ 16 }
-    requires d { length d.events ≤ 16 }
+    requires a { length a.events + length a.settled ≤ 16 }
+    requires b { length b.events + length b.settled ≤ 16 }
+    requires c { length c.events + length c.settled ≤ 16 }
+    requires d { length d.events + length d.settled ≤ 16 }
     ensures { IfOk result (λ list. IsWithinLimits list.items) }
 {
     let mut list = List::new(alloc);
@@ -322,6 +341,6 @@ fn settles_as_searched(rt: HostRuntime) -> Result<(), Fail> {
     let alloc = rt.alloc();
     let prios = &two_prios().ok_or("no priorities")?;
     let count = agreed(alloc, prios)?.ok_or("a set that the search does not give")?;
-    assert!(rt; count >= 3_000, "only {count} cases were safe");
+    assert!(rt; count >= 2_000, "only {count} cases were safe");
     Ok(())
 }

@@ -8,7 +8,7 @@ use Rattle.gtrbac_model.specs.Graph.{Arc, Path, least_walk, LeadsAlong, IsWalk, 
 use Rattle.gtrbac_model.specs.Safety.{closing, first_closing, Dependency, dependencies, arcs_of, IsSafe, the_cycle}
 use Rattle.gtrbac_model.specs.Theorems.{CycleTells}
 use Rattle.gtrbac_model.proofs.Uniqueness.{is_same_event, same_event_of}
-use Rattle.walk_laws.specs.Cycles.{Closes, HasNoCycle, NotLonger, IsLeastCycle, is_conflict}
+use Rattle.gtrbac_model.specs.Cycles.{Closes, HasNoCycle, NotLonger, IsLeastCycle, is_conflict}
 use Rattle.walk_laws.specs.Laws.{HasNoWalk}
 use Rattle.walk_laws.proofs.Orders.{one_item}
 use Rattle.walk_laws.proofs.Computing.{least_walk_is}

@@ -6,3 +6,6 @@ pub mod Cutting
 pub mod Computing
 pub mod Closing
 pub mod Climbing
+pub mod Bodies
+pub mod Depending
+pub mod Linked

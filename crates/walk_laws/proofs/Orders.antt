@@ -6,7 +6,7 @@ use Rattle.std.specs.Cmp.Lexicographic.{slice_cmp}
 use Rattle.std.specs.declared.cmp.Ordering.TheVariants.{Equal, Greater}
 use Rattle.std.proofs.lemmas.Bool.{cases_order}
 use Rattle.gtrbac_model.specs.Graph.{Path, NotAfter, item_at}
-use Rattle.walk_laws.specs.Cycles.{Closes, NotLonger}
+use Rattle.gtrbac_model.specs.Cycles.{Closes, NotLonger}
 use Rattle.walk_laws.specs.Laws.{OneLeastWalk, OneLeastCycle}
 
 -- not after each other: the same numbers

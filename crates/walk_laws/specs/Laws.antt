@@ -9,7 +9,7 @@ use Rattle.gtrbac_model.specs.Status.{Model}
 use Rattle.gtrbac_model.specs.History.{IsExecutionModel}
 use Rattle.gtrbac_model.specs.Theorems.{HasOneModel, IsOnlyModel}
 use Rattle.gtrbac_model.specs.Safety.{dependencies, arcs_of, IsSafe, IsLevelling, the_cycle}
-use Rattle.walk_laws.specs.Cycles.{is_conflict, IsLeastCycle, HasNoCycle, AreLevels}
+use Rattle.gtrbac_model.specs.Cycles.{is_conflict, IsLeastCycle, HasNoCycle, AreLevels}
 
 -- the test answers true just of equal nodes
 abbrev pub TellsApart : {N : Type 0} → (N → N → Bool) → Type 0

@@ -1,3 +1,4 @@
-pub mod Cycles
+pub mod Bare
+pub mod Depending
 pub mod Laws
 pub mod Rivals

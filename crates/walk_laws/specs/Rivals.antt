@@ -20,7 +20,7 @@ abbrev pub at : ℕ → Event → Prioritised
 at p e = record { prio = p; event = e }
 
 abbrev pub when : Event → Prioritised → Rule
-when b h = record { events = b ∷ []; signals = []; conds = []; head = h; delay = 0 }
+when b h = record { events = b ∷ []; signals = []; conds = []; settled = []; head = h; delay = 0 }
 
 abbrev pub of : List Prioritised → Happening
 of es = record { events = set_of es; signals = none }

@@ -1,6 +1,6 @@
 use Rattle.std.proofs.Common.{refl}
-use Rattle.calendar_laws.proofs.Years.{year_cycle}
-use Rattle.calendar_laws.proofs.Months.{month_cycle}
+use Rattle.gtrbac_model.proofs.Years.{year_cycle}
+use Rattle.gtrbac_model.proofs.Months.{month_cycle}
 use Rattle.calendar_laws.proofs.calendars_repeat.Goals as goal
 
 pub returns : goal.returns

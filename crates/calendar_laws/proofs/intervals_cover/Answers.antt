@@ -1,4 +1,4 @@
-use Rattle.calendar_laws.proofs.Covers.{rising, begun, goes_on, only}
+use Rattle.gtrbac_model.proofs.Covers.{rising, begun, goes_on, only}
 use Rattle.calendar_laws.proofs.intervals_cover.Goals as goal
 
 pub returns : goal.returns

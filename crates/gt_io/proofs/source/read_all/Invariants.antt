@@ -1,4 +1,4 @@
-use Rattle.std.proofs.Common.{◌≤◌, ◌+◌, ◌-◌, vec_len}
+use Rattle.std.proofs.Common.{◌≡◌, ◌≤◌, ◌+◌, ◌-◌, vec_len}
 use Rattle.std.specs.Io.KnownBytes.{Consumes}
 use Rattle.gt_io.proofs.source.read_all.Given as goal
 
@@ -8,7 +8,7 @@ invariant-loop-bytes g l =
     record {
       taken : Consumes (source.left l.fn.source) (source.left l.source) l.bytes.items;
       within : vec_len l.bytes ≤ l.limit;
-      later : source.faults l.fn.source ≤ source.faults l.source;
+      kept : source.faults l.source ≡ source.faults l.fn.source;
     }
 
 abbrev pub decreases-loop-bytes : goal.decreases-loop-bytes

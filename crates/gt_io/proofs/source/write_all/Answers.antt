@@ -1,4 +1,4 @@
-use Rattle.std.proofs.Common.{arith, ◌+◌}
+use Rattle.std.proofs.Common.{arith, ◌+◌, ◌∙◌}
 use Rattle.std.proofs.lemmas.Grind.{common_steps}
 use Rattle.std.proofs.lemmas.List.{drop-drop}
 use Rattle.std.proofs.Math.Seq.{take-add}
@@ -14,5 +14,5 @@ loop-rest-preserved g c =
       left = grind (arith, common_steps, drop-drop, inv.left);
       within = grind (arith, common_steps, inv.left);
       written = rw (take-add inv.n c.in_ok-n.n c.args.text.now) (rw (← inv.left) (Appends-trans _ _ _ _ _ inv.written c.in_ok-n.ensures.bytes));
-      later = omega arith;
+      kept = c.in_ok-n.ensures.cause.kept ∙ inv.kept;
     }

@@ -10,7 +10,7 @@ invariant-loop-rest g l =
       left : l.rest ≡ drop n l.text;
       within : n ≤ length l.text;
       written : Appends (sink.written l.fn.sink) (sink.written l.sink) (take n l.text);
-      later : sink.faults l.fn.sink ≤ sink.faults l.sink;
+      kept : sink.faults l.sink ≡ sink.faults l.fn.sink;
     }
 
 abbrev pub decreases-loop-rest : goal.decreases-loop-rest

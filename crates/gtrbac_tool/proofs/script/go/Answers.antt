@@ -1,18 +1,31 @@
-use Rattle.std.proofs.Common.{◌<◌, inl, inr, length, arith, sym, subst}
-use Rattle.gt_base.specs.Bounds.{max_steps}
-use Rattle.core_machine.specs.Books.{BookView, now_in}
-use Rattle.gtrbac_tool.specs.Going.{GoesTo}
-use Rattle.gtrbac_tool.proofs.Steps.{tick_more}
+use Rattle.std.proofs.Common.{◌<◌, Err, inl, inr, sym, ap, subst, arith}
+use Rattle.core_machine.specs.Books.{BookView, SameRoot, now_in}
+use Rattle.gtrbac_tool.specs.Script.{IsFilled}
+use Rattle.gtrbac_tool.proofs.Steps.{no_ticks, tick_more, fills, arrives}
 use Rattle.gtrbac_tool.proofs.script.go.Goals as goal
 
-pub loop-t-preserved : goal.loop-t-preserved
-loop-t-preserved c = λ roles.
-    let early : now_in c.loop-t.book < c.args.t = omega arith in
-    let room : length c.loop-t.book.entries < max_steps = elim c.in-Ok.ensures.room [ inl le ↦ absurd (omega (arith, le, early)) | inr lt ↦ lt ] in
+pub loop-minute-init : goal.loop-minute-init
+loop-minute-init c = no_ticks c.args.minute c.args.book.now
+
+pub loop-minute-preserved : goal.loop-minute-preserved
+loop-minute-preserved c =
+    let early : now_in c.loop-minute.book < c.args.minute = omega arith in
     elim c.in-Ok.ensures.ok [
       | inl idle ↦ absurd (omega (arith, idle.0, early))
-      | inr step ↦ tick_more roles c.args.t c.in-Ok.field-0 c.args.book.now c.loop-t.book c.tick.new.self (c.loop-t.invariant roles) early room step.1
+      | inr step ↦ tick_more c.args.minute c.in-Ok.field-0 c.args.book.now c.loop-minute.book c.tick.new.self c.loop-minute.invariant step.1
     ]
 
+pub returns-in-Err-StepsFull-clause-root : goal.returns-in-Err-StepsFull-clause-root
+returns-in-Err-StepsFull-clause-root c = subst (λ (b : BookView). SameRoot c.args.book.now b) (sym c.in-Err-StepsFull.ensures.err) c.loop-minute.invariant.root
+
 pub returns-in-Err-StepsFull-clause-way : goal.returns-in-Err-StepsFull-clause-way
-returns-in-Err-StepsFull-clause-way c = λ roles. subst (λ (b : BookView). GoesTo roles c.args.t c.args.book.now b) (sym c.in-Err-StepsFull.ensures.err) (c.loop-t.invariant roles)
+returns-in-Err-StepsFull-clause-way c =
+    let full = c.in-Err-StepsFull.ensures.full (ap Err c.in-Err-StepsFull.field-0-is) in
+    subst (λ (b : BookView). IsFilled c.args.book.now.birth c.args.minute c.args.book.now.entries b.entries) (sym c.in-Err-StepsFull.ensures.err)
+    (fills c.args.minute c.args.book.now c.loop-minute.book c.loop-minute.invariant full.0 full.1)
+
+pub returns-clause-root : goal.returns-clause-root
+returns-clause-root c = c.loop-minute.invariant.root
+
+pub returns-clause-way : goal.returns-clause-way
+returns-clause-way c = arrives c.args.minute c.args.book.now c.loop-minute.book c.loop-minute.invariant (omega arith) c.entries-entries.ensures.short

@@ -1,30 +1,89 @@
-use Rattle.std.proofs.Common.{◌+◌, subst, sym}
-use Rattle.policy_forms.specs.Naming.{NamedPolicy}
-use Rattle.gtrbac_tool.specs.declared.script.Act.{Act}
-use Rattle.gtrbac_tool.specs.declared.script.Act.TheVariants.{Full, Unplayed}
-use Rattle.policy_commands.specs.Ends.{Told}
-use Rattle.gtrbac_tool.specs.Told.{behind, steps_full, unbuilt_script}
-use Rattle.gtrbac_tool.specs.Going.{Acts, PlaysOut}
-use Rattle.gtrbac_tool.proofs.Steps.{ends_out, last_out, of_end}
+use Rattle.std.proofs.Common.{ℕ, ◌+◌, List, [], ◌∷◌, ◌++◌, length, refl, sym, ◌∙◌, ap, subst, arith, append_assoc, length-append}
+use Rattle.gt_base.specs.declared.requests.Actor.{Actor}
+use Rattle.core_machine.specs.Books.{BookView, SameRoot-refl, SameRoot-trans}
+use Rattle.policy_commands.specs.Ends.{Told, told}
+use Rattle.request_text.specs.Replies.{fault_word}
+use Rattle.gtrbac_tool.specs.declared.script.Played.{Played}
+use Rattle.gtrbac_tool.specs.declared.script.Played.TheVariants.{On, Full, Bad}
+use Rattle.gtrbac_tool.specs.Told.{behind, script_fault, steps_full}
+use Rattle.gtrbac_tool.specs.Script.{said, at_birth}
+use Rattle.gtrbac_tool.specs.Going.{going_of, IsActorOf, PlaysAs, IsOutcome}
+use Rattle.gtrbac_tool.proofs.Steps.{plays_more, rooted, stop_out, last_out, outcome, of_outcome}
 use Rattle.gtrbac_tool.proofs.script.play_out.Goals as goal
 
-pub returns-in-Full-clause-end : goal.returns-in-Full-clause-end
-returns-in-Full-clause-end c =
-    let inv = c.loop-line.invariant in
-    let acts = subst (λ (q : NamedPolicy). Acts q.names.roles c.in-Some.line.now Full c.loop-line.book c.loop-line.text.items c.play_line.new.book c.play_line.new.text.items) (sym inv.root.0) (subst (λ (a : Act). Acts c.loop-line.book.named.names.roles c.in-Some.line.now a c.loop-line.book c.loop-line.text.items c.play_line.new.book c.play_line.new.text.items) c.in-Full.is c.in_ok-play_line.ensures) in
-    of_end (λ (end : Told). PlaysOut c.args.book.now.named.names.roles (c.args.number + 1) c.args.lines c.args.book.now c.play_line.new.book end) c.full.result (behind c.play_line.new.text.items (steps_full (c.loop-line.number + 1))) c.full.ensures.end
-    (ends_out c.args.book.now.named.names.roles (c.args.number + 1) (c.loop-line.number + 1) c.args.lines c.loop-line.lines c.next.new.self c.in-Some.line.now c.args.book.now c.loop-line.book c.play_line.new.book inv.added c.loop-line.text.items c.play_line.new.text.items
-    steps_full inv.root inv.entries inv.plays c.in-Some.ensures.steps acts.0 acts.1 c.entries-legal.ensures.legal)
+pub loop-line-init : goal.loop-line-init
+loop-line-init c =
+    record {
+      root = SameRoot-refl c.args.run.book;
+      actor = subst (λ (a : Actor). IsActorOf c.args.run.book a) (sym c.requires.actor) (tt, tt);
+      front = [];
+      parts = refl;
+      plays = λ i. record { actor = c.requires.actor i; history = c.requires.empty.0 i; text = c.requires.empty.1 i };
+      at = omega arith;
+      count = c.requires.count;
+    }
 
-pub returns-in-Unplayed-clause-end : goal.returns-in-Unplayed-clause-end
-returns-in-Unplayed-clause-end c =
+pub loop-line-preserved : goal.loop-line-preserved
+loop-line-preserved c =
     let inv = c.loop-line.invariant in
-    let acts = subst (λ (q : NamedPolicy). Acts q.names.roles c.in-Some.line.now Unplayed c.loop-line.book c.loop-line.text.items c.play_line.new.book c.play_line.new.text.items) (sym inv.root.0) (subst (λ (a : Act). Acts c.loop-line.book.named.names.roles c.in-Some.line.now a c.loop-line.book c.loop-line.text.items c.play_line.new.book c.play_line.new.text.items) c.in-Unplayed.is c.in_ok-play_line.ensures) in
-    of_end (λ (end : Told). PlaysOut c.args.book.now.named.names.roles (c.args.number + 1) c.args.lines c.args.book.now c.play_line.new.book end) c.unplayed.result (behind c.play_line.new.text.items (unbuilt_script (c.loop-line.number + 1))) c.unplayed.ensures.end
-    (ends_out c.args.book.now.named.names.roles (c.args.number + 1) (c.loop-line.number + 1) c.args.lines c.loop-line.lines c.next.new.self c.in-Some.line.now c.args.book.now c.loop-line.book c.play_line.new.book inv.added c.loop-line.text.items c.play_line.new.text.items
-    unbuilt_script inv.root inv.entries inv.plays c.in-Some.ensures.steps acts.0 acts.1 c.entries-legal-in-Unplayed.ensures.legal)
+    let b0 = c.args.run.book in
+    let old = c.loop-line.run in
+    let new = c.play_line.new.run in
+    let line : List ℕ = c.in-Some.line.now in
+    let s = going_of old.book old.actor old.text.items in
+    let t = going_of new.book new.actor new.text.items in
+    let did = subst (λ (how : Played). PlaysAs old.book.named old.book.birth (said old.book.named line) how s t) c.in-On.is c.in_ok-play_line.ensures.did in
+    record {
+      root = SameRoot-trans b0 old.book new.book inv.root c.in_ok-play_line.ensures.root;
+      actor = c.in_ok-play_line.ensures.actor;
+      front = inv.front ++ line ∷ [];
+      parts = inv.parts ∙ ap (λ (ls : List (List ℕ)). inv.front ++ ls) c.in-Some.ensures.steps ∙ sym (append_assoc inv.front (line ∷ []) c.next.new.self);
+      plays = plays_more b0.named b0.birth inv.front line (at_birth b0.named b0.birth) s t inv.plays (rooted b0 old.book line On s t inv.root did);
+      at = omega (arith, inv.at, length-append inv.front (line ∷ []));
+      count = omega (arith, inv.count, ap length c.in-Some.ensures.steps);
+    }
 
-pub returns-clause-end : goal.returns-clause-end
-returns-clause-end c =
+pub returns-in-Full : goal.returns-in-Full
+returns-in-Full c =
     let inv = c.loop-line.invariant in
-    last_out c.args.book.now.named.names.roles (c.args.number + 1) (c.loop-line.number + 1) c.args.lines c.loop-line.lines c.args.book.now c.loop-line.book inv.added c.loop-line.text.items inv.root inv.entries inv.plays c.in_default.ensures.steps.0 c.entries-legal-2.ensures.legal
+    let b0 = c.args.run.book in
+    let old = c.loop-line.run in
+    let new = c.play_line.new.run in
+    let line : List ℕ = c.in-Some.line.now in
+    let s = going_of old.book old.actor old.text.items in
+    let t = going_of new.book new.actor new.text.items in
+    let root = SameRoot-trans b0 old.book new.book inv.root c.in_ok-play_line.ensures.root in
+    let did = rooted b0 old.book line Full s t inv.root
+    (subst (λ (how : Played). PlaysAs old.book.named old.book.birth (said old.book.named line) how s t) c.in-Full.is c.in_ok-play_line.ensures.did) in
+    of_outcome (λ (b : BookView) (end : Told). IsOutcome b0.named b0.birth (c.args.before + 1) c.args.lines b end) c.ended.result new.book (behind new.text.items (steps_full (c.loop-line.number + 1))) c.ended.ensures
+    (λ (y : Told) is. outcome b0 new.book (c.args.before + 1) c.args.lines y root
+    (stop_out b0 new.book s new.text.items c.args.before c.loop-line.number c.args.lines c.loop-line.lines c.next.new.self inv.front line steps_full y
+    root c.entries-entries.ensures.legal inv.parts c.in-Some.ensures.steps inv.plays inv.at did.0 did.1 is))
+
+pub returns-in-Bad : goal.returns-in-Bad
+returns-in-Bad c =
+    let inv = c.loop-line.invariant in
+    let b0 = c.args.run.book in
+    let old = c.loop-line.run in
+    let new = c.play_line.new.run in
+    let line : List ℕ = c.in-Some.line.now in
+    let s = going_of old.book old.actor old.text.items in
+    let t = going_of new.book new.actor new.text.items in
+    let root = SameRoot-trans b0 old.book new.book inv.root c.in_ok-play_line.ensures.root in
+    let did = rooted b0 old.book line (Bad c.in-Bad.fault) s t inv.root
+    (subst (λ (how : Played). PlaysAs old.book.named old.book.birth (said old.book.named line) how s t) c.in-Bad.is c.in_ok-play_line.ensures.did) in
+    let kind : ℕ → Told = λ n. script_fault n (fault_word c.in-Bad.fault) in
+    of_outcome (λ (b : BookView) (end : Told). IsOutcome b0.named b0.birth (c.args.before + 1) c.args.lines b end) c.ended-in-Bad.result new.book
+    (behind new.text.items (script_fault (c.loop-line.number + 1) c.fault_word.result.now)) c.ended-in-Bad.ensures
+    (λ (y : Told) is. outcome b0 new.book (c.args.before + 1) c.args.lines y root
+    (stop_out b0 new.book s new.text.items c.args.before c.loop-line.number c.args.lines c.loop-line.lines c.next.new.self inv.front line kind y
+    root c.entries-entries-in-Bad.ensures.legal inv.parts c.in-Some.ensures.steps inv.plays inv.at did.0 did.1
+    (is ∙ ap (λ (w : List ℕ). behind new.text.items (script_fault (c.loop-line.number + 1) w)) c.fault_word.ensures)))
+
+pub returns : goal.returns
+returns c =
+    let inv = c.loop-line.invariant in
+    let run = c.loop-line.run in
+    outcome c.args.run.book run.book (c.args.before + 1) c.args.lines (told 0 c.from.result.items) inv.root
+    (last_out c.args.run.book run.book run.actor run.text.items c.args.before c.args.lines c.loop-line.lines inv.front (told 0 c.from.result.items) inv.root c.entries-entries-2.ensures.legal inv.parts c.in_default.ensures.steps.0
+    inv.plays (ap (λ (ts : List ℕ). told 0 ts) c.from.ensures))

@@ -1,20 +1,19 @@
-use Rattle.std.proofs.Common.{◌≡◌, ◌+◌, ◌<◌, ◌^◌, List, [], ◌++◌, length}
-use Rattle.gt_base.specs.declared.requests.Entry.{Entry}
+use Rattle.std.proofs.Common.{◌≡◌, ◌+◌, ◌<◌, ◌^◌, List, ◌++◌, length, ℕ}
 use Rattle.core_machine.specs.Books.{SameRoot}
-use Rattle.policy_commands.specs.Ends.{Told}
-use Rattle.gtrbac_tool.specs.Script.{Plays}
-use Rattle.gtrbac_tool.specs.Going.{going_of}
+use Rattle.gtrbac_tool.specs.Script.{Plays, at_birth}
+use Rattle.gtrbac_tool.specs.Going.{going_of, IsActorOf}
 use Rattle.gtrbac_tool.proofs.script.play_out.Given as goal
 
--- what completes the lines to come completes all
+-- the lines so far were played
 abbrev pub invariant-loop-line : goal.invariant-loop-line
 invariant-loop-line l =
     record {
-      root : SameRoot l.initial.book l.book;
-      added : List Entry;
-      entries : l.book.entries ≡ l.initial.book.entries ++ added;
-      plays : (end : Told) (more : List Entry) → Plays l.initial.book.named.names.roles (l.number + 1) l.lines l.text.items end (going_of l.book) more
-          → Plays l.initial.book.named.names.roles (l.initial.number + 1) l.initial.lines [] end (going_of l.initial.book) (added ++ more);
+      root : SameRoot l.initial.run.book l.run.book;
+      actor : IsActorOf l.run.book l.run.actor;
+      front : List (List ℕ);
+      parts : l.initial.lines ≡ front ++ l.lines;
+      plays : Plays l.initial.run.book.named l.initial.run.book.birth front (at_birth l.initial.run.book.named l.initial.run.book.birth) (going_of l.run.book l.run.actor l.run.text.items);
+      at : l.number ≡ l.before + length front;
       count : l.number + length l.lines < 2 ^ 32;
     }
 

@@ -1,10 +1,11 @@
-use Rattle.std.proofs.Common.{ℕ, ◌+◌, ◌*◌, ◌<◌, ◌++◌, ◌-◌, [], List, length, take, sym, ◌∙◌, ap, subst}
+use Rattle.std.proofs.Common.{inl, inr, ℕ, ◌+◌, ◌*◌, ◌<◌, ◌++◌, ◌-◌, [], List, length, take, sym, ◌∙◌, ap, subst}
 use Rattle.gt_base.specs.Sets.{has}
 use Rattle.gtrbac_model.specs.Graph.{item_at}
 use Rattle.gtrbac_model.proofs.Levels.{by_trigger}
 use Rattle.dependency_graph.specs.Carried.{level_in}
 use Rattle.instant_engine.specs.OnTheWay.{Keeps, joined, waiting, missing}
 use Rattle.instant_engine.proofs.Steps.{Waits, first_wait, still_wait, keeps_on, less_left, done, elem_of}
+use Rattle.instant_engine.proofs.Prompting.{prompted_wait}
 use Rattle.instant_engine.proofs.settling.settle_level.Goals as goal
 
 pub loop-t-init : goal.loop-t-init
@@ -13,7 +14,10 @@ loop-t-init c =
     let level = level_in c.args.g.now.events c.args.s.now in
     record {
       keeps = λ base h. h;
-      waits = subst (Waits c.args.r.now s level c.args.n c.args.x.now) (sym (c.in_ok-pending.ensures.items ∙ c.requires.due)) (first_wait c.args.r.now s level c.args.n c.args.x.now);
+      waits = elim c.in_ok-pending.ensures [
+        | inl all ↦ subst (Waits c.args.r.now s level c.args.n c.args.x.now) (sym (all ∙ c.of.ensures ∙ c.requires.due.due c.args.n)) (first_wait c.args.r.now s level c.args.n c.args.x.now)
+        | inr by ↦ subst (Waits c.args.r.now s level c.args.n c.args.x.now) (sym by.1) (prompted_wait c.args.r.now s level c.args.n c.args.x.now (sym c.requires.due.caused ∙ sym c.caused.ensures ∙ by.0))
+      ];
     }
 
 pub loop-t-smaller : goal.loop-t-smaller
@@ -40,7 +44,7 @@ loop-t-preserved c =
           base (c.loop-t.invariant.keeps base h);
       waits = subst (λ y. Waits rules s level c.args.n y c.join.new.pending.items) (sym c.in_ok-join.ensures.set)
           (subst (Waits rules s level c.args.n (joined c.loop-t.x c.head_if_firing-head.result)) (sym c.in_ok-join.ensures.pending)
-          (still_wait rules s level c.args.n c.loop-t.x c.pop.new.self.items c.in-Some.t c.head_if_firing-head.result c.head_if_firing-head.ensures
+          (still_wait rules s level c.args.n (by_trigger rules level c.requires.levels.levelling) c.loop-t.x c.pop.new.self.items c.in-Some.t c.head_if_firing-head.result c.head_if_firing-head.ensures
           (subst (Waits rules s level c.args.n c.loop-t.x) c.in-Some.ensures.items c.loop-t.invariant.waits)));
     }
 

@@ -4,12 +4,12 @@ use Rattle.least_walk.specs.Walks.{Descends}
 use Rattle.least_walk.proofs.walking.follow.Given as goal
 
 abbrev pub invariant-loop-at : goal.invariant-loop-at
-invariant-loop-at l =
+invariant-loop-at g l =
     record {
       inside : l.at < length l.dist;
       reached : slice_index l.dist l.at < far;
-      whole : (rest : List ℕ) → Descends l.edges l.dist l.at rest → Descends l.edges l.dist l.start (l.numbers ++ rest);
+      whole : (rest : List ℕ) → Descends (g.P.Passable.passes l.by) l.edges l.dist l.at rest → Descends (g.P.Passable.passes l.by) l.edges l.dist l.start (l.numbers ++ rest);
     }
 
 abbrev pub decreases-loop-at : goal.decreases-loop-at
-decreases-loop-at l = slice_index l.dist l.at
+decreases-loop-at g l = slice_index l.dist l.at

@@ -1,6 +1,6 @@
 use Rattle.std.proofs.Common.{length, refl, ap, sym, subst, ◌∙◌, arith}
-use Rattle.hierarchy_cycle.specs.Nets.{AreWithin}
-use Rattle.policy_forms.specs.Making.{fresh}
+use Rattle.policy_book.specs.Nets.{AreWithin}
+use Rattle.policy_words.specs.Making.{fresh}
 use Rattle.policy_book.specs.Seen.{seen_names}
 use Rattle.policy_book.proofs.Fewness.{few_names, edges_within, edges_few}
 use Rattle.policy_book.proofs.building.sound_draft.Goals as goal

@@ -1,5 +1,5 @@
 use Rattle.std.proofs.Common.{◌≡◌, map, take}
-use Rattle.policy_forms.specs.Naming.{role_name}
+use Rattle.policy_words.specs.Naming.{role_name}
 use Rattle.policy_book.specs.Seen.{seen_names}
 use Rattle.policy_book.proofs.cycles.senior_names.Given as goal
 

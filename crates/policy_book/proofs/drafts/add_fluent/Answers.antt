@@ -1,6 +1,6 @@
 use Rattle.std.proofs.Common.{ap, sym, ◌∙◌}
 use Rattle.gtrbac_model.specs.Same.{same_fluent}
-use Rattle.policy_forms.specs.Making.{with_new}
+use Rattle.policy_words.specs.Making.{with_new}
 use Rattle.policy_book.proofs.Drafting.{fluent_added}
 use Rattle.policy_book.proofs.drafts.add_fluent.Goals as goal
 

@@ -1,6 +1,6 @@
 use Rattle.std.proofs.Common.{ap, ◌∙◌, arith}
 use Rattle.std.specs.Prelude.{slice_set}
-use Rattle.policy_forms.specs.Making.{with_cap}
+use Rattle.policy_words.specs.Making.{with_cap}
 use Rattle.policy_book.proofs.Drafting.{changed_in, changed_out}
 use Rattle.policy_book.proofs.drafts.change.Goals as goal
 

@@ -1,6 +1,6 @@
 use Rattle.std.proofs.Common.{◌≡◌, ◌-◌, ◌++◌, filter}
 use Rattle.gtrbac_model.specs.Same.{lists, same_user}
-use Rattle.policy_forms.specs.Making.{users_from}
+use Rattle.policy_words.specs.Making.{users_from}
 use Rattle.policy_book.proofs.finishing.admins_of.Given as goal
 
 abbrev pub invariant-loop-n : goal.invariant-loop-n

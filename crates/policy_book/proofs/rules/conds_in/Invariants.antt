@@ -1,6 +1,6 @@
 use Rattle.std.proofs.Common.{◌≡◌, ◌++◌, drop}
 use Rattle.std.specs.List.{filter_map}
-use Rattle.policy_forms.specs.Making.{cond_in as cond_said}
+use Rattle.policy_words.specs.Making.{cond_in as cond_said}
 use Rattle.policy_book.specs.Seen.{seen_names}
 use Rattle.policy_book.proofs.rules.conds_in.Given as goal
 

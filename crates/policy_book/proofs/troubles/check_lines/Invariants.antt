@@ -1,5 +1,5 @@
 use Rattle.std.proofs.Common.{◌≡◌, [], drop}
-use Rattle.policy_forms.specs.Book.{first_trouble}
+use Rattle.policy_words.specs.Book.{first_trouble}
 use Rattle.policy_book.specs.Seen.{seen_names}
 use Rattle.policy_book.specs.Tallies.{seen_tally, first_told}
 use Rattle.policy_book.proofs.troubles.check_lines.Given as goal

@@ -1,9 +1,10 @@
-use Rattle.std.proofs.Common.{ap, ◌∙◌}
-use Rattle.policy_forms.specs.Making.{names_of}
-use Rattle.policy_forms.specs.Book.{said_in}
-use Rattle.policy_laws.proofs.WellFormed.{build_is_well_formed}
+use Rattle.std.proofs.Common.{◌≡◌, ap, sym, subst, ◌∙◌}
+use Rattle.policy_words.specs.Making.{names_of, are_second}
+use Rattle.policy_words.specs.Book.{said_in}
+use Rattle.policy_book.proofs.WellFormed.{build_is_well_formed}
 use Rattle.policy_book.specs.Seen.{seen_names}
-use Rattle.policy_book.specs.Drafts.{seen_draft}
+use Rattle.policy_words.specs.Valid.{IsWellFormed}
+use Rattle.policy_book.specs.Drafts.{seen_draft, made_policy}
 use Rattle.policy_book.proofs.Fewness.{few_names}
 use Rattle.policy_book.proofs.Joining.{built, is_well_formed}
 use Rattle.policy_book.proofs.books.Policy.build.Goals as goal
@@ -16,4 +17,6 @@ finished-requires-clause-well_formed c =
     let ss = c.parts.inside.parts.items in
     let ns = seen_names c.in_ok-names.names in
     let sound = c.in-Ok.ensures.ok in
-    is_well_formed build_is_well_formed ss _ c.parts.invariant (built ss ns (seen_draft c.in-Ok.draft) (c.in_ok-names.ensures ∙ ap (λ xs. names_of (said_in xs)) c.deref.ensures.value) sound.free sound.whole sound.open_ended)
+    let second : c.are_second-second.result ≡ are_second (said_in ss) = c.are_second-second.ensures ∙ ap (λ xs. are_second (said_in xs)) c.deref-2.ensures.value in
+    subst (λ b. IsWellFormed (made_policy ns b (seen_draft c.in-Ok.draft))) (sym second)
+    (is_well_formed build_is_well_formed ss _ c.parts.invariant (built ss ns (seen_draft c.in-Ok.draft) (c.in_ok-names.ensures ∙ ap (λ xs. names_of (said_in xs)) c.deref.ensures.value) sound.free sound.whole sound.open_ended))

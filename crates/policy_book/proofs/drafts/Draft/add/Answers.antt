@@ -7,7 +7,7 @@ use Rattle.gt_base.specs.declared.policies.LimitRule.{LimitRule}
 use Rattle.gt_base.specs.declared.policies.HierEdge.{HierEdge}
 use Rattle.gtrbac_model.specs.Period.{Period}
 use Rattle.gtrbac_model.specs.Same.{same_user, same_fluent}
-use Rattle.policy_forms.specs.Making.{with_item, with_new}
+use Rattle.policy_words.specs.Making.{with_item, with_new}
 use Rattle.policy_book.specs.Seen.{seen_names}
 use Rattle.policy_book.proofs.Drafting.{same_draft}
 use Rattle.policy_book.proofs.drafts.Draft.add.Goals as goal

@@ -1,0 +1,259 @@
+//! Cases of runs, as they stand in a file of text.
+//!
+//! A case begins with a line `case NAME`, and these lines say more of it, in any order:
+//!
+//! - `words WORD ..`: the words of the command, `run P` where they are left out; `''` is an empty word;
+//! - `status N`: the status that is wanted, 0 where it is left out;
+//! - `policy`, `script`, `replies`: the lines behind belong to the policy with the name `P`, to the script, or to the text that
+//!   is wanted; each is empty where it is left out;
+//! - a line that begins with four spaces: a line of that text;
+//! - `lines FROM TO TEXT`: a line of that text for each number from FROM to TO, up or down, with the number in place of `{i}`,
+//!   and so much more or less in place of `{i+1}` to `{i+9}` and `{i-1}` to `{i-9}`;
+//! - `joined FROM TO TEXT`: the same without line ends; `text TEXT`: the text of number 1 alone, without a line end;
+//! - `room N`: the output takes N bytes; `shelf fails N`, `input fails N`, `output fails N`: its call number N fails.
+//!
+//! In these texts a backslash names a byte (`texts.rt`). Lines that are empty or begin with `#` say nothing.
+
+use crate::texts::{Repeated, add_repeated, add_text};
+use gt_text::{Words, read_up_to};
+use std::alloc::{AllocError, Global};
+
+/// A line says nothing of a case, or there was no memory.
+#[derive(Clone, Copy, Debug)]
+pub(crate) enum Fault {
+    Memory,
+    Line,
+}
+
+impl From<AllocError> for Fault {
+    fn from(_: AllocError) -> Fault {
+        Fault::Memory
+    }
+}
+
+/// The text of a case to which lines are added.
+#[derive(Clone, Copy)]
+pub(crate) enum Part {
+    Policy,
+    Script,
+    Replies,
+}
+
+/// An object whose call is to fail.
+#[derive(Clone, Copy)]
+pub(crate) enum Failing {
+    Shelf,
+    Input,
+    Output,
+}
+
+/// What a line says.
+#[derive(Clone, Copy)]
+pub(crate) enum Said<'a> {
+    Nothing,
+    Unread,
+    Case(&'a [u8]),
+    Words(&'a [u8]),
+    Status(u8),
+    Of(Part),
+    Text(&'a [u8]),
+    Repeated(Repeated<'a>),
+    Room(u32),
+    Fails(Failing, u32),
+}
+
+/// A run of the program and how it is to end.
+#[derive(Drop)]
+pub struct Case {
+    pub name: Vec<u8>,
+    pub words: Vec<String>,
+    pub policy: Vec<u8>,
+    pub script: Vec<u8>,
+    pub replies: Vec<u8>,
+    pub status: u8,
+    pub room: u32,
+    pub shelf_fails: u32,
+    pub input_fails: u32,
+    pub output_fails: u32,
+    part: Part,
+}
+
+/// The room of an output where none is said.
+const ROOM: u32 = 4_194_304;
+
+impl Case {
+    /// A run over empty texts, which is to end without a text.
+    pub fn new(alloc: Global, name: &[u8]) -> Result<Case, AllocError> {
+        let words = vec![in alloc;
+            String::from_str(alloc, "run")?,
+            String::from_str(alloc, "P")?,
+        ]?;
+        Ok(Case {
+            name: name.to_vec(alloc)?,
+            words,
+            policy: Vec::new(alloc),
+            script: Vec::new(alloc),
+            replies: Vec::new(alloc),
+            status: 0,
+            room: ROOM,
+            shelf_fails: 0,
+            input_fails: 0,
+            output_fails: 0,
+            part: Part::Policy,
+        })
+    }
+}
+
+/// The bytes before the first space and those behind it; all of them and none where there is no space.
+fn cut(line: &[u8]) -> (&[u8], &[u8]) {
+    let Some(at) = line.iter().position(|b| *b == b' ') else {
+        return (line, &[]);
+    };
+    let (word, rest) = line.split_at(at);
+    match rest {
+        [_, more @ ..] => (word, more),
+        [] => (word, &[]),
+    }
+}
+
+fn read_status(text: &[u8]) -> Said<'_> {
+    match read_up_to(text, 255) {
+        Some(n) => Said::Status(n as u8),
+        None => Said::Unread,
+    }
+}
+
+fn read_repeated<'a>(text: &'a [u8], end: &'a [u8]) -> Said<'a> {
+    let (from, rest) = cut(text);
+    let (to, text) = cut(rest);
+    match (read_up_to(from, 20_000_000), read_up_to(to, 20_000_000)) {
+        (Some(from), Some(to)) => Said::Repeated(Repeated {
+            from,
+            to,
+            text,
+            end,
+        }),
+        _ => Said::Unread,
+    }
+}
+
+fn read_fails(failing: Failing, text: &[u8]) -> Said<'_> {
+    match cut(text) {
+        (b"fails", number) => match read_up_to(number, 20_000_000) {
+            Some(n) => Said::Fails(failing, n),
+            None => Said::Unread,
+        },
+        _ => Said::Unread,
+    }
+}
+
+fn read_room(text: &[u8]) -> Said<'_> {
+    match read_up_to(text, ROOM) {
+        Some(n) => Said::Room(n),
+        None => Said::Unread,
+    }
+}
+
+fn read_part(part: Part, rest: &[u8]) -> Said<'_> {
+    if rest.is_empty() {
+        Said::Of(part)
+    } else {
+        Said::Unread
+    }
+}
+
+/// What a line with a first word says.
+fn read_words<'a>(word: &'a [u8], rest: &'a [u8]) -> Said<'a> {
+    match word {
+        b"case" => Said::Case(rest),
+        b"words" => Said::Words(rest),
+        b"status" => read_status(rest),
+        b"policy" => read_part(Part::Policy, rest),
+        b"script" => read_part(Part::Script, rest),
+        b"replies" => read_part(Part::Replies, rest),
+        b"lines" => read_repeated(rest, b"\n"),
+        b"joined" => read_repeated(rest, b""),
+        b"text" => Said::Repeated(Repeated {
+            from: 1,
+            to: 1,
+            text: rest,
+            end: b"",
+        }),
+        b"room" => read_room(rest),
+        b"shelf" => read_fails(Failing::Shelf, rest),
+        b"input" => read_fails(Failing::Input, rest),
+        b"output" => read_fails(Failing::Output, rest),
+        _ => Said::Unread,
+    }
+}
+
+/// What a line says.
+pub(crate) fn read_line(line: &[u8]) -> Said<'_> {
+    match line {
+        [] | [b'#', ..] => Said::Nothing,
+        [b' ', b' ', b' ', b' ', text @ ..] => Said::Text(text),
+        _ => {
+            let (word, rest) = cut(line);
+            read_words(word, rest)
+        }
+    }
+}
+
+impl Case {
+    fn text(&mut self) -> &mut Vec<u8> {
+        match self.part {
+            Part::Policy => &mut self.policy,
+            Part::Script => &mut self.script,
+            Part::Replies => &mut self.replies,
+        }
+    }
+
+    fn fail(&mut self, failing: Failing, call: u32) {
+        match failing {
+            Failing::Shelf => self.shelf_fails = call,
+            Failing::Input => self.input_fails = call,
+            Failing::Output => self.output_fails = call,
+        }
+    }
+}
+
+fn add_word(words: &mut Vec<String>, word: String) -> Result<(), AllocError> {
+    words.push(word)?;
+    Ok(())
+}
+
+/// The words of a command.
+fn words_of(alloc: Global, text: &[u8]) -> Result<Vec<String>, Fault> {
+    let mut words = Vec::new(alloc);
+    for word in Words::new(text) {
+        let bytes = if word == b"''".as_slice() {
+            Vec::new(alloc)
+        } else {
+            word.to_vec(alloc)?
+        };
+        let Ok(word) = String::from_utf8(bytes) else {
+            return Err(Fault::Line);
+        };
+        add_word(&mut words, word)?;
+    }
+    Ok(words)
+}
+
+/// Takes in what a line says of a case.
+pub(crate) fn take_in(case: &mut Case, said: Said<'_>) -> Result<(), Fault> {
+    match said {
+        Said::Nothing => {}
+        Said::Unread | Said::Case(_) => return Err(Fault::Line),
+        Said::Words(text) => case.words = words_of(*case.name.allocator(), text)?,
+        Said::Status(n) => case.status = n,
+        Said::Of(part) => case.part = part,
+        Said::Text(text) => {
+            add_text(case.text(), text)?;
+            case.text().extend_from_slice(b"\n")?;
+        }
+        Said::Repeated(repeated) => add_repeated(case.text(), &repeated)?,
+        Said::Room(n) => case.room = n,
+        Said::Fails(failing, call) => case.fail(failing, call),
+    }
+    Ok(())
+}

@@ -1,0 +1,5 @@
+pub mod Cuts
+pub mod Connection
+pub mod Fits
+pub mod Desks
+pub mod Front

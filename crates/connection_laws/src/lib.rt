@@ -1,0 +1,9 @@
+//! What a connection is told: its acted lines, its part of the history and its text; and the laws by which a server adds one line behind
+//! another.
+#![tactic(auto)]
+
+mod ends;
+mod laws;
+
+pub use ends::{LinkEnd, Report};
+pub use laws::connections_are_told;

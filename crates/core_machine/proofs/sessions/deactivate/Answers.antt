@@ -1,0 +1,18 @@
+use Rattle.gt_base.specs.declared.requests.Request.TheVariants.{CloseSession, Activate, Deactivate}
+use Rattle.core_machine.proofs.Sames.{on_err, same_kept, same_view, same_ready, same_answered, same_refused}
+use Rattle.core_machine.proofs.sessions.deactivate.Goals as goal
+
+pub returns-in_err-make_room-clause-kept : goal.returns-in_err-make_room-clause-kept
+returns-in_err-make_room-clause-kept c = same_kept c.args.s.now c.make_room.new.s c.in_err-make_room.ensures.same c.requires.ready.kept
+
+pub returns-in_err-make_room-clause-err : goal.returns-in_err-make_room-clause-err
+returns-in_err-make_room-clause-err c = on_err _ (same_view c.args.s.now c.make_room.new.s c.in_err-make_room.ensures.same)
+
+pub end_role-requires-clause-ready : goal.end_role-requires-clause-ready
+end_role-requires-clause-ready c = same_ready c.args.s.now c.make_room.new.s c.args.actor (Deactivate c.args.session c.args.role) c.in_ok-make_room.ensures.same c.requires.ready
+
+pub returns-clause-ok : goal.returns-clause-ok
+returns-clause-ok c = same_answered _ c.args.s.now c.make_room.new.s _ _ _ _ c.in_ok-make_room.ensures.same c.end_role.ensures.ok
+
+pub returns-clause-err : goal.returns-clause-err
+returns-clause-err c = same_refused _ c.args.s.now c.make_room.new.s _ c.in_ok-make_room.ensures.same c.end_role.ensures.err

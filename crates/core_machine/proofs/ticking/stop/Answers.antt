@@ -1,0 +1,25 @@
+use Rattle.std.proofs.Common.{◌≡◌, ℕ, Bool, List, refl, sym, ap, subst, ◌∙◌}
+use Rattle.gt_base.specs.declared.policies.Caps.{Caps}
+use Rattle.gtrbac_model.specs.History.{IsNextStop}
+use Rattle.instant_bases.specs.Timelines.{stirs_in}
+use Rattle.session_table.specs.NextDrops.{IsFirstOrNone, is_any_capped}
+use Rattle.session_table.specs.Tables.{NotBefore, table_of}
+use Rattle.policy_words.specs.Naming.{NamedPolicy}
+use Rattle.core_machine.specs.Steps.{moves}
+use Rattle.core_machine.proofs.Stops.{both_stop}
+use Rattle.core_machine.proofs.ticking.stop.Goals as goal
+
+pub next_drop-requires : goal.next_drop-requires
+next_drop-requires c = subst (λ (t : ℕ). NotBefore c.args.s.now.table.charged_to t) (sym c.now.ensures) c.requires.kept.charged
+
+pub returns : goal.returns
+returns c =
+    let s = c.args.s.now in
+    let caps : c.caps.result.now.items ≡ s.ground.policy.caps = c.caps.ensures ∙ ap (λ (g : NamedPolicy). g.policy.caps) c.policy.ensures in
+    let raised : IsNextStop (stirs_in s.ground.policy s.line.line) s.line.line.now c.args.upto c.next_raised-raised.result =
+    c.next_raised-raised.ensures (stirs_in s.ground.policy s.line.line) s.line.line.now c.due.ensures c.requires.later in
+    let capped : IsFirstOrNone (is_any_capped s.ground.policy.caps s.line.line.now (table_of s.table)) s.line.line.now c.next_drop.result =
+    subst (λ (t : ℕ). IsFirstOrNone (is_any_capped s.ground.policy.caps t (table_of s.table)) t c.next_drop.result) c.now.ensures
+    (subst (λ (cs : List Caps). IsFirstOrNone (is_any_capped cs c.now.result (table_of s.table)) c.now.result c.next_drop.result) caps c.next_drop.ensures) in
+    both_stop (stirs_in s.ground.policy s.line.line) (is_any_capped s.ground.policy.caps s.line.line.now (table_of s.table)) s.line.line.now c.args.upto c.next_raised-raised.result c.next_drop-2.result raised
+    (c.next_drop-2.ensures (is_any_capped s.ground.policy.caps s.line.line.now (table_of s.table)) s.line.line.now capped raised.later)

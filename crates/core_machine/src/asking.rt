@@ -1,0 +1,59 @@
+//! Requests and their answers.
+ghost use Rattle.std.specs.Prelude.{◌≡◌, ◌<◌, ◌≤◌, false, length, IfOk, OnErr};
+ghost use Rattle.gt_base.specs.declared.requests.Request.TheVariants.{Now as AskNow, Status as AskStatus, Seen as AskSeen, Raise, OpenSession, CloseSession, Activate, Deactivate, Active as AskActive, Check};
+ghost use Rattle.core_machine.specs.Books.{Asks};
+ghost use Rattle.core_machine.specs.Kept.{IsKept, IsReady, view_of};
+ghost use Rattle.core_machine.specs.Steps.{is_nobody as is_no_user};
+
+use crate::entering::{enter, raise};
+use crate::sessions::{activate, close_session, deactivate, open_session};
+use crate::states::State;
+use crate::telling::{tell_active, tell_decision, tell_now, tell_seen, tell_status};
+use gt_base::{Actor, Memory, Refusal, Reply, Request, Who};
+
+/// Answers a request at now, and adds its entry. For want of memory it may refuse; the book is then as it was.
+pub(crate) fn answer(
+    s: &mut State,
+    who: Who,
+    actor: Actor,
+    request: Request,
+) -> Result<Reply, Memory>
+    requires { IsReady s.old actor request }
+    ensures kept { IsKept s.new }
+    ensures ok { IfOk result (λ reply. Asks (view_of s.old) who actor request reply (view_of s.new)) }
+    ensures err { OnErr result (view_of s.new ≡ view_of s.old) }
+{
+    if is_nobody(actor) {
+        enter(s, who, actor, request, Reply::Refused(Refusal::NoUser))
+    } else {
+        answer_somebody(s, who, actor, request)
+    }
+}
+
+fn is_nobody(actor: Actor) -> bool
+    ensures { result ≡ is_no_user actor }
+{
+    matches!(actor, Actor::Nobody)
+}
+
+/// Answers a request of a user or the operator.
+fn answer_somebody(s: &mut State, who: Who, actor: Actor, request: Request) -> Result<Reply, Memory>
+    requires ready { IsReady s.old actor request }
+    requires somebody { is_no_user actor ≡ false }
+    ensures kept { IsKept s.new }
+    ensures ok { IfOk result (λ reply. Asks (view_of s.old) who actor request reply (view_of s.new)) }
+    ensures err { OnErr result (view_of s.new ≡ view_of s.old) }
+{
+    match request {
+        Request::Now => tell_now(s, who, actor),
+        Request::Status(cond) => tell_status(s, who, actor, cond),
+        Request::Seen(event) => tell_seen(s, who, actor, event),
+        Request::Raise { head, delay } => raise(s, who, actor, head, delay),
+        Request::OpenSession => open_session(s, who, actor),
+        Request::CloseSession(session) => close_session(s, who, actor, session),
+        Request::Activate(session, role) => activate(s, who, actor, session, role),
+        Request::Deactivate(session, role) => deactivate(s, who, actor, session, role),
+        Request::Active(session, role) => tell_active(s, who, actor, session, role),
+        Request::Check(session, perm) => tell_decision(s, who, actor, session, perm),
+    }
+}

@@ -1,0 +1,140 @@
+//! Answers that change nothing.
+ghost use Rattle.std.specs.Prelude.{◌≡◌, false, IfOk, OnErr};
+ghost use Rattle.gt_base.specs.Sets.{has};
+ghost use Rattle.gt_base.specs.declared.requests.Request.TheVariants.{Now as AskNow, Status as AskStatus, Seen as AskSeen, Active as AskActive, Check};
+ghost use Rattle.gtrbac_model.specs.Same.{same_role, lists};
+ghost use Rattle.gtrbac_model.specs.Trigger.{holds as is_met};
+ghost use Rattle.session_table.specs.Replies.{Answers};
+ghost use Rattle.session_table.specs.Tables.{table_of};
+ghost use Rattle.core_machine.specs.Books.{Asks};
+ghost use Rattle.core_machine.specs.Kept.{IsAnswer, IsKept, IsReady, view_of};
+ghost use Rattle.core_machine.specs.Steps.{is_nobody};
+
+use crate::entering::tell;
+use crate::states::State;
+use decision_reason::decide;
+use gt_base::{Actor, Cond, Event, Memory, PermId, Reply, Request, RoleId, SessionId, Status, Who};
+use priority_conflict::seen;
+use session_table::Sessions;
+
+/// Tells the instant now.
+pub(crate) fn tell_now(s: &mut State, who: Who, actor: Actor) -> Result<Reply, Memory>
+    requires ready { IsReady s.old actor AskNow }
+    requires somebody { is_nobody actor ≡ false }
+    ensures kept { IsKept s.new }
+    ensures ok { IfOk result (λ reply. Asks (view_of s.old) who actor AskNow reply (view_of s.new)) }
+    ensures err { OnErr result (view_of s.new ≡ view_of s.old) }
+{
+    let reply = Reply::Now(s.line.now());
+    tell(s, who, actor, Request::Now, reply)
+}
+
+/// Tells whether a condition holds at now.
+pub(crate) fn tell_status(
+    s: &mut State,
+    who: Who,
+    actor: Actor,
+    cond: Cond,
+) -> Result<Reply, Memory>
+    requires ready { IsReady s.old actor (AskStatus cond) }
+    requires somebody { is_nobody actor ≡ false }
+    ensures kept { IsKept s.new }
+    ensures ok { IfOk result (λ reply. Asks (view_of s.old) who actor (AskStatus cond) reply (view_of s.new)) }
+    ensures err { OnErr result (view_of s.new ≡ view_of s.old) }
+{
+    let reply = Reply::Truth(holds(s.line.status(), cond));
+    tell(s, who, actor, Request::Status(cond), reply)
+}
+
+/// Whether the condition holds in the status.
+fn holds(status: &Status, cond: Cond) -> bool
+    ensures { result ≡ is_met (has status.now.set) cond }
+{
+    let on = status.is_on(cond.fluent);
+    if cond.on { on } else { !on }
+}
+
+/// Tells what an event was in the set of now.
+pub(crate) fn tell_seen(
+    s: &mut State,
+    who: Who,
+    actor: Actor,
+    event: Event,
+) -> Result<Reply, Memory>
+    requires ready { IsReady s.old actor (AskSeen event) }
+    requires somebody { is_nobody actor ≡ false }
+    ensures kept { IsKept s.new }
+    ensures ok { IfOk result (λ reply. Asks (view_of s.old) who actor (AskSeen event) reply (view_of s.new)) }
+    ensures err { OnErr result (view_of s.new ≡ view_of s.old) }
+{
+    let reply = Reply::Event(seen(s.line.happened(), event));
+    tell(s, who, actor, Request::Seen(event), reply)
+}
+
+/// Tells whether the role is active in the session.
+pub(crate) fn tell_active(
+    s: &mut State,
+    who: Who,
+    actor: Actor,
+    session: SessionId,
+    role: RoleId,
+) -> Result<Reply, Memory>
+    requires ready { IsReady s.old actor (AskActive session role) }
+    requires somebody { is_nobody actor ≡ false }
+    ensures kept { IsKept s.new }
+    ensures ok { IfOk result (λ reply. Asks (view_of s.old) who actor (AskActive session role) reply (view_of s.new)) }
+    ensures err { OnErr result (view_of s.new ≡ view_of s.old) }
+{
+    let reply = is_active(&s.table, actor, session, role);
+    tell(s, who, actor, Request::Active(session, role), reply)
+}
+
+/// Whether the role is active in the session, or why the actor may not know.
+fn is_active(table: &Sessions, actor: Actor, session: SessionId, role: RoleId) -> Reply
+    ensures { Answers (table_of table.now) actor (AskActive session role) result }
+{
+    match table.active(actor, session) {
+        Ok(roles) => Reply::Truth(is_among(roles, role)),
+        Err(refusal) => Reply::Refused(refusal),
+    }
+}
+
+/// Whether the role is one of these.
+fn is_among(roles: &[RoleId], role: RoleId) -> bool
+    ensures { result ≡ lists same_role roles.now role }
+{
+    roles.iter().any(|r| role.0 == r.0)
+}
+
+/// Tells whether the session has the permission, and why.
+pub(crate) fn tell_decision(
+    s: &mut State,
+    who: Who,
+    actor: Actor,
+    session: SessionId,
+    perm: PermId,
+) -> Result<Reply, Memory>
+    requires ready { IsReady s.old actor (Check session perm) }
+    requires somebody { is_nobody actor ≡ false }
+    ensures kept { IsKept s.new }
+    ensures ok { IfOk result (λ reply. Asks (view_of s.old) who actor (Check session perm) reply (view_of s.new)) }
+    ensures err { OnErr result (view_of s.new ≡ view_of s.old) }
+{
+    let reply = decision(s, actor, session, perm)?;
+    tell(s, who, actor, Request::Check(session, perm), reply)
+}
+
+/// The decision on the permission, or why the actor may not know.
+fn decision(s: &State, actor: Actor, session: SessionId, perm: PermId) -> Result<Reply, Memory>
+    ensures { IfOk result (λ reply. IsAnswer s.now actor (Check session perm) reply) }
+{
+    match s.table.active(actor, session) {
+        Ok(roles) => {
+            let policy = s.ground.policy();
+            policy.keeps();
+            let answer = decide(s.alloc, policy.edges(), s.line.status(), roles, perm)?;
+            Ok(Reply::Decided(answer))
+        }
+        Err(refusal) => Ok(Reply::Refused(refusal)),
+    }
+}

@@ -1,0 +1,116 @@
+//! Ticks.
+ghost use Rattle.std.specs.Prelude.{◌≡◌, ℕ, ◌<◌, ◌≤◌, Bool, length, IfOk, OnOk, OnErr};
+ghost use Rattle.gt_base.specs.Bounds.{last_minute, max_steps};
+ghost use Rattle.gt_base.specs.Sets.{has};
+ghost use Rattle.gtrbac_model.specs.History.{IsNextStop};
+ghost use Rattle.instant_bases.specs.Nexts.{IsNextOf};
+ghost use Rattle.session_table.specs.NextDrops.{IsFirstOrNone};
+ghost use Rattle.session_table.specs.Plans.{IsPlan as IsPlanOfDrops, need_of};
+ghost use Rattle.session_table.specs.Tables.{table_of};
+ghost use Rattle.time_engine.specs.Plans.{Fits, IsPlan, NoneStirs};
+ghost use Rattle.core_machine.specs.Books.{GoesOn};
+ghost use Rattle.core_machine.specs.Kept.{IsKept, Same, view_of};
+ghost use Rattle.core_machine.specs.Steps.{IsClosing, moves};
+
+use crate::entering::{add_signals, make_room};
+use crate::states::State;
+use gt_base::{Entry, Instant, Memory, Step, Who};
+use session_table::Drops;
+use time_engine::Plan;
+
+/// Goes on to the least instant after now and up to the bound at which something is raised or an activation ends, or to the
+/// bound, and adds one entry. It takes its memory first: a refused tick leaves the book as it was.
+pub(crate) fn go_on(s: &mut State, who: Who, upto: Instant) -> Result<Instant, Memory>
+    requires kept { IsKept s.old }
+    requires later { s.old.line.line.now < upto }
+    requires room { length s.old.entries.items < max_steps }
+    ensures kept { IsKept s.new }
+    ensures ok { IfOk result (λ to. GoesOn (view_of s.old) (view_of s.new) who upto to) }
+    ensures err { OnErr result (view_of s.new ≡ view_of s.old) }
+{
+    let to = stop(s, upto);
+    let (plan, drops) = planned(s, to)?;
+    make_room(s, drops.signals().len())?;
+    close(s, who, upto, plan, drops);
+    Ok(to)
+}
+
+/// The plans of the timeline and of the end of its minutes, for an instant that is not after the next one at which something is
+/// raised, with the room for them made.
+fn planned(s: &mut State, to: Instant) -> Result<(Plan, Drops), Memory>
+    requires kept { IsKept s.old }
+    requires later { s.old.line.line.now < to }
+    requires skipped { NoneStirs s.old.ground.policy s.old.line.line to }
+    ensures same { Same s.old s.new }
+    ensures at { IfOk result (λ r. r.0.at ≡ to) }
+    ensures plan { IfOk result (λ r. IsPlan s.old.ground.policy s.old.line.line r.0) }
+    ensures fits { IfOk result (λ r. Fits s.old.line.line r.0) }
+    ensures plan_room { IfOk result (λ r. r.0.need ≤ s.new.line.room) }
+    ensures drops { IfOk result (λ r. IsPlanOfDrops s.old.ground.policy.edges s.old.ground.policy.caps (has r.0.status) s.old.line.line.now to (table_of s.old.table) r.1) }
+    ensures drops_room { OnOk result (need_of s.old.line.line.now to s.new.table ≤ s.new.table.room) }
+{
+    let plan = s.line.plan(&s.ground, to)?;
+    let policy = s.ground.policy();
+    let now = s.line.now();
+    let drops = s
+        .table
+        .plan_end(policy.edges(), policy.caps(), now, to, plan.status())?;
+    Ok((plan, drops))
+}
+
+/// Where a tick with this bound stops.
+fn stop(s: &State, upto: Instant) -> Instant
+    requires kept { IsKept s.now }
+    requires later { s.now.line.line.now < upto }
+    ensures { IsNextStop (moves s.now.ground.policy s.now.line.line (table_of s.now.table)) s.now.line.line.now upto result }
+{
+    let raised = next_raised(s.line.due(&s.ground), upto);
+    next_drop(
+        s.table.next_drop(s.ground.policy().caps(), s.line.now()),
+        raised,
+    )
+}
+
+/// The next instant, where it is before the bound, else the bound.
+fn next_raised(next: Option<Instant>, upto: Instant) -> Instant
+    ensures { (test : ℕ → Bool) (now : ℕ) → IsNextOf test now next → now < upto → IsNextStop test now upto result }
+{
+    let _bound = upto.minute();
+    match next {
+        Some(t) if t < upto => t,
+        _ => upto,
+    }
+}
+
+/// The same of a drop.
+fn next_drop(next: Option<Instant>, upto: Instant) -> Instant
+    ensures { (test : ℕ → Bool) (now : ℕ) → IsFirstOrNone test now next → now < upto → IsNextStop test now upto result }
+{
+    let _bound = upto.minute();
+    match next {
+        Some(t) if t < upto => t,
+        _ => upto,
+    }
+}
+
+/// Goes to the stop by the plans, into room that was made before.
+fn close(s: &mut State, who: Who, upto: Instant, plan: Plan, drops: Drops)
+    requires kept { IsKept s.old }
+    requires room { length s.old.entries.items < max_steps }
+    requires closing { IsClosing s.old.ground.policy s.old.line.line (table_of s.old.table) upto plan drops }
+    requires plan_room { plan.need ≤ s.old.line.room }
+    requires drops_room { need_of s.old.line.line.now plan.at s.old.table ≤ s.old.table.room }
+    requires signals_room { length drops.signals ≤ s.old.line.spare }
+    requires entry_room { 1 ≤ s.old.entries.spare }
+    ensures kept { IsKept s.new }
+    ensures ok { GoesOn (view_of s.old) (view_of s.new) who upto plan.at }
+{
+    s.line.keeps();
+    let _bound = upto.minute();
+    let to = plan.at();
+    s.line.commit(plan);
+    add_signals(&mut s.line, drops.signals().as_slice());
+    s.table.commit_end(drops);
+    let what = Step::Tick { upto, to };
+    s.entries.push(Entry { who, what });
+}

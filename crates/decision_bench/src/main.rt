@@ -1,0 +1,166 @@
+//! Decides on a permission in a hierarchy so many times, and prints the decision, so that a script can time it.
+#![tactic(auto)]
+
+mod hierarchies;
+
+ghost use Rattle.std.specs.Prelude.{◌≡◌, true};
+ghost use Rattle.hybrid_hierarchy.specs.Nets.{IsHierarchy, AreWithin};
+
+use crate::hierarchies::{Case, Shape, made};
+use decision_reason::decide;
+use gt_base::{Decision, HierEdge, PermId, RoleId, UserId};
+use hybrid_hierarchy::may_activate;
+use std::alloc::{AllocError, Global};
+use std::process::ExitCode;
+use std::{env, io};
+
+// What was answered.
+#[derive(Clone, Copy)]
+enum Answer {
+    Walk(usize),
+    ShutAt(u32),
+    NoGrant,
+    Nothing,
+}
+
+// Why there is no answer.
+#[derive(Clone, Copy)]
+enum Refused {
+    Usage,
+    Memory,
+}
+
+impl From<AllocError> for Refused {
+    fn from(_e: AllocError) -> Refused {
+        Refused::Memory
+    }
+}
+
+// The words after the program's name, none where they are no text.
+fn words(rt: &HostRuntime) -> Result<Vec<String>, AllocError> {
+    match env::args(rt) {
+        Ok(args) => args.skip(1).collect(rt.alloc()),
+        Err(_) => Ok(Vec::new(rt.alloc())),
+    }
+}
+
+// Whether there are few edges, among roles below 1,000.
+fn is_hierarchy(edges: &[HierEdge]) -> bool
+    ensures { result ≡ true → IsHierarchy edges.now }
+{
+    edges.len() <= 4_000 && are_within(edges)
+}
+
+fn are_within(edges: &[HierEdge]) -> bool
+    ensures { result ≡ true → AreWithin 1_000 edges.now }
+{
+    for e in edges {
+        if e.senior.0 >= 1_000 || e.junior.0 >= 1_000 {
+            return false;
+        }
+    }
+    true
+}
+
+fn answer_of(decision: &Decision) -> Answer {
+    match decision {
+        Decision::Permit { walk } => Answer::Walk(walk.edges.len()),
+        Decision::Shut { edge } => Answer::ShutAt(*edge),
+        Decision::NoGrant => Answer::NoGrant,
+        _ => Answer::Nothing,
+    }
+}
+
+// Whether the role that is active has the permission.
+fn decided(alloc: Global, case: &Case, first: u32) -> Result<Answer, Refused>
+    requires { IsHierarchy case.now.edges.items }
+{
+    let decision = decide(
+        alloc,
+        &case.edges,
+        &case.status,
+        &[RoleId(first)],
+        PermId(0),
+    )?;
+    Ok(answer_of(&decision))
+}
+
+// Whether the user, who is assigned to the role, may activate the last one.
+fn allowed(alloc: Global, case: &Case, last: u32) -> Result<Answer, Refused>
+    requires { IsHierarchy case.now.edges.items }
+{
+    let found = may_activate(alloc, &case.edges, &case.status, UserId(0), RoleId(last))?;
+    match found {
+        Some(walk) => Ok(Answer::Walk(walk.edges.len())),
+        None => Ok(Answer::Nothing),
+    }
+}
+
+fn one(alloc: Global, kind: &[u8], case: &Case) -> Result<Answer, Refused>
+    requires { IsHierarchy case.now.edges.items }
+{
+    match kind {
+        b"decide" => decided(alloc, case, case.first),
+        b"none" => decided(alloc, case, case.last),
+        b"activate" => allowed(alloc, case, case.last),
+        _ => Err(Refused::Usage),
+    }
+}
+
+fn often(alloc: Global, kind: &[u8], case: &Case, times: u32) -> Result<Answer, Refused>
+    requires { IsHierarchy case.now.edges.items }
+{
+    for _ in 1..times {
+        one(alloc, kind, case)?;
+    }
+    one(alloc, kind, case)
+}
+
+// Does what the words say: the kind of question, the shape of the hierarchy, its number of roles, and how often.
+fn answered(alloc: Global, words: &[String]) -> Result<Answer, Refused> {
+    let [kind, shape, roles, times] = words else {
+        return Err(Refused::Usage);
+    };
+    let shape = match shape.as_str() {
+        "chain" => Shape::Chain,
+        "random" => Shape::Random,
+        _ => return Err(Refused::Usage),
+    };
+    let Ok(roles) = roles.as_str().parse::<u32>() else {
+        return Err(Refused::Usage);
+    };
+    let Ok(times) = times.as_str().parse::<u32>() else {
+        return Err(Refused::Usage);
+    };
+    if roles < 2 || roles > 1_000 {
+        return Err(Refused::Usage);
+    }
+    let case = made(alloc, shape, roles)?;
+    if !is_hierarchy(case.edges.as_slice()) {
+        return Err(Refused::Usage);
+    }
+    often(alloc, kind.as_bytes(), &case, times)
+}
+
+fn tell(rt: &HostRuntime, answer: Answer) -> io::Result<()> {
+    match answer {
+        Answer::Walk(edges) => println!(rt; "walk of {edges}"),
+        Answer::ShutAt(edge) => println!(rt; "shut at {edge}"),
+        Answer::NoGrant => println!(rt; "no grant"),
+        Answer::Nothing => println!(rt; "no"),
+    }
+}
+
+fn main(rt: HostRuntime) -> ExitCode {
+    let Ok(words) = words(&rt) else {
+        return ExitCode::from(8);
+    };
+    match answered(rt.alloc(), &words) {
+        Ok(answer) => match tell(&rt, answer) {
+            Ok(()) => ExitCode::SUCCESS,
+            Err(_) => ExitCode::from(5),
+        },
+        Err(Refused::Usage) => ExitCode::from(1),
+        Err(Refused::Memory) => ExitCode::from(8),
+    }
+}

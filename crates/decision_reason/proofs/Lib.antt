@@ -1,0 +1,2 @@
+pub mod ByWalks
+pub mod OfMembers

@@ -1,0 +1,67 @@
+//! Files.
+ghost use Rattle.std.specs.Prelude.{◌≡◌, None};
+
+use gt_io::{Failed, Shelf};
+use std::fs::File;
+use std::io::Read;
+use std::rt::Files;
+
+/// Files by their paths, from the folder that the program runs in. It tells nothing, so that a missing file is a hard fault as others are.
+#[derive(Drop)]
+pub struct HostShelf<'a, R> {
+    rt: &'a R,
+    file: Option<File>,
+    faults: u64,
+}
+
+impl<'a, R: Files<File = File>> HostShelf<'a, R> {
+    /// A shelf with no file open.
+    pub fn new(rt: &'a R) -> Self
+        ensures contents { ⟦<HostShelf<'a, R> as Shelf>⟧.contents result ≡ None }
+        ensures left { ⟦<HostShelf<'a, R> as Shelf>⟧.left result ≡ None }
+        ensures faults { ⟦<HostShelf<'a, R> as Shelf>⟧.faults result ≡ 0 }
+        ensures hard_faults { ⟦<HostShelf<'a, R> as Shelf>⟧.hard_faults result ≡ 0 }
+    {
+        HostShelf {
+            rt,
+            file: None,
+            faults: 0,
+        }
+    }
+}
+
+impl<'a, R: Files<File = File>> Shelf for HostShelf<'a, R> {
+    ghost contents = { λ _. None };
+
+    ghost left = { λ _. None };
+
+    ghost faults = { λ s. s.faults };
+
+    ghost hard_faults = { λ s. s.faults };
+
+    fn find(&mut self, name: &str) -> Result<(), Failed> {
+        match File::open(self.rt, name) {
+            Ok(file) => {
+                self.file = Some(file);
+                Ok(())
+            }
+            Err(_) => {
+                self.faults = self.faults.saturating_add(1);
+                Err(Failed)
+            }
+        }
+    }
+
+    fn read(&mut self, buf: &mut [u8]) -> Result<usize, Failed> {
+        let Some(file) = &mut self.file else {
+            return Ok(0);
+        };
+        match file.read(buf) {
+            Ok(count) => Ok(count),
+            Err(_) => {
+                self.faults = self.faults.saturating_add(1);
+                Err(Failed)
+            }
+        }
+    }
+}

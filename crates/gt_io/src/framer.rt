@@ -1,0 +1,102 @@
+//! Cutting bytes into lines.
+ghost use Rattle.std.specs.Prelude.{◌≡◌, ◌+◌, ◌≤◌, ◌++◌, ◌∷◌, [], length, take, min};
+ghost use Rattle.gt_io.specs.Frames.{blank_frame, begun, pushed, framed};
+
+use std::marker::Model;
+
+/// The longest line, without its line feed.
+const LONGEST: usize = 512;
+
+/// What a byte did to the line.
+#[derive(Clone, Copy, PartialEq, Eq, Debug)]
+pub enum Framed {
+    /// The line goes on.
+    More,
+    /// The line has ended, and has at most 512 bytes.
+    Whole,
+    /// The line has ended, and has more than 512 bytes.
+    Long,
+}
+
+/// Takes the bytes of a connection one by one and keeps the line that it is in, up to 512 bytes. It is seen as the number of the line's bytes,
+/// kept up to 513, the first 512 of them, and whether its line feed has come.
+#[derive(Drop)]
+pub struct Framer {
+    line: [u8; 512],
+    number: usize,
+    ended: bool,
+}
+
+impl Model for Framer {
+    ghost use Rattle.gt_io.specs.Frames.{Frame};
+
+    ghost Value = { Frame };
+
+    ghost use Rattle.std.specs.Prelude.{◌≤◌, take};
+
+    ghost view = { λ f. record { number = f.number; bytes = take f.number f.line; ended = f.ended } };
+
+    ghost invariant = { λ f. f.number ≤ 513 };
+}
+
+// Puts a byte behind the first `number` ones, where there is room, and answers how many there are now, up to 513.
+fn put(line: &mut [u8], number: usize, b: u8) -> usize
+    requires number { number ≤ 513 }
+    requires room { length line.old ≡ 512 }
+    ensures number { result ≡ min (number + 1) 513 }
+    ensures bytes { take result line.new ≡ take 512 (take number line.old ++ b ∷ []) }
+{
+    if number < LONGEST {
+        line[number] = b;
+        return number + 1;
+    }
+    LONGEST + 1
+}
+
+impl Framer {
+    /// A framer before the first byte.
+    pub fn new() -> Framer
+        ensures { result ≡ blank_frame }
+    {
+        Framer {
+            line: [0; 512],
+            number: 0,
+            ended: false,
+        }
+    }
+
+    // Where a line feed has come, a new line begins.
+    fn begin(&mut self)
+        ensures { self.new ≡ begun self.old }
+    {
+        if self.ended {
+            self.number = 0;
+            self.ended = false;
+        }
+    }
+
+    /// Takes one more byte. Where a line feed has come before, it begins a new line.
+    pub fn push(&mut self, b: u8) -> Framed
+        ensures frame { self.new ≡ pushed self.old b }
+        ensures answer { result ≡ framed self.old b }
+    {
+        self.begin();
+        if b != b'\n' {
+            self.number = put(&mut self.line, self.number, b);
+            return Framed::More;
+        }
+        self.ended = true;
+        if self.number <= LONGEST {
+            Framed::Whole
+        } else {
+            Framed::Long
+        }
+    }
+
+    /// The bytes of the line so far, without its line feed, the first 512 of them.
+    pub fn line(&self) -> &[u8]
+        ensures { result.now ≡ self.now.bytes }
+    {
+        &self.line[..self.number.min(LONGEST)]
+    }
+}

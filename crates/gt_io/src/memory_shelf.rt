@@ -1,0 +1,148 @@
+//! A shelf in memory.
+ghost use Rattle.std.specs.Prelude.{◌≡◌, ◌<◌, ◌≤◌, if◌then◌else◌, length, None, Some, IsSome, IfNone, IfSome, OnOk};
+ghost use Rattle.std.specs.Io.{ReadsAtMost};
+ghost use Rattle.std.specs.Io.KnownBytes.{ReadConsumes};
+ghost use Rattle.gt_io.specs.Causes.{HasCause};
+ghost use Rattle.gt_io.specs.Shelf.{HasFindCause};
+ghost use Rattle.gt_io.specs.Memory.{fails_next};
+ghost use Rattle.gt_io.specs.MemoryShelf.{broken, begun, text_of, bytes_at, texts_of, FindsText, ReadsText};
+
+use crate::calls::Calls;
+use crate::memory::give;
+use crate::shelf::Shelf;
+use crate::source::Failed;
+use gt_base::List;
+use std::marker::Model;
+
+/// A text and its name.
+#[derive(Drop)]
+pub struct MemFile {
+    pub name: List<u8>,
+    pub bytes: List<u8>,
+}
+
+// The place of the first file of a name.
+#[tactic(auto, using(crate::proofs::Files::files))]
+fn place_of(files: &[MemFile], name: &[u8]) -> Option<usize>
+    ensures place { IfSome result (λ i. text_of files.now name.now ≡ Some (bytes_at files.now i)) }
+    ensures none { IfNone result (text_of files.now name.now ≡ None) }
+{
+    for (i, file) in files.iter().enumerate() {
+        if file.name.as_slice() == name {
+            return Some(i);
+        }
+    }
+    None
+}
+
+#[tactic(auto, using(crate::proofs::Files::files))]
+fn bytes_of(files: &[MemFile], place: usize) -> &[u8]
+    ensures { result.now ≡ bytes_at files.now place }
+{
+    match files.get(place) {
+        Some(file) => file.bytes.as_slice(),
+        None => &[],
+    }
+}
+
+/// Texts in memory, which fail at the calls that they are told. It is seen as the files, the text that was found last, with the calls, and the
+/// number of hard faults.
+#[derive(Drop)]
+pub struct MemShelf {
+    files: List<MemFile>,
+    place: usize,
+    at: usize,
+    piece: usize,
+    calls: Calls,
+    hard_faults: u64,
+}
+
+impl Model for MemShelf {
+    ghost use Rattle.std.specs.Prelude.{◌<◌, ◌≤◌, length, take, drop};
+    ghost use Rattle.gt_io.specs.MemoryShelf.{Texts, bytes_at};
+
+    ghost Value = { Texts };
+
+    ghost view = { λ s. record { files = s.files.items; text = record { taken = take s.at (bytes_at s.files.items s.place); left = drop s.at (bytes_at s.files.items s.place); piece = s.piece; calls = s.calls }; hard_faults = s.hard_faults } };
+
+    ghost invariant = { λ s. (0 < s.piece) × (s.at ≤ length (bytes_at s.files.items s.place)) };
+}
+
+impl MemShelf {
+    /// Calls are numbered from 1, `find` and `read` together, and those of `failing` fail. A piece is the most that one read gives. Where two
+    /// files have one name, the first is found.
+    #[tactic(auto, using(crate::proofs::Files::files))]
+    pub fn new(files: List<MemFile>, piece: usize, failing: List<u64>) -> MemShelf
+        requires { 0 < piece }
+        ensures { result ≡ texts_of files.items piece failing.items }
+    {
+        MemShelf {
+            place: files.len(),
+            files,
+            at: 0,
+            piece,
+            calls: Calls::new(failing),
+            hard_faults: 0,
+        }
+    }
+
+    // Counts one more call; where it is to fail, that is a hard fault.
+    fn begin(&mut self) -> bool
+        ensures listed { result ≡ fails_next self.old.text.calls }
+        ensures made { self.new ≡ (if result then broken self.old else begun self.old) }
+        ensures later { (self.old.text.calls.faults ≤ self.new.text.calls.faults) × (self.old.hard_faults ≤ self.new.hard_faults) }
+    {
+        if self.calls.begin() {
+            self.hard_faults = self.hard_faults.saturating_add(1);
+            return true;
+        }
+        false
+    }
+}
+
+impl Shelf for MemShelf {
+    ghost contents = { λ s. Some (text_of s.files) };
+
+    ghost left = { λ s. Some s.text.left };
+
+    ghost faults = { λ s. s.text.calls.faults };
+
+    ghost hard_faults = { λ s. s.hard_faults };
+
+    fn find(&mut self, name: &str) -> Result<(), Failed>
+        ensures found { OnOk result (IsSome (text_of self.old.files name.now) × (Some self.new.text.left ≡ text_of self.old.files name.now)) }
+        ensures same { self.new.files ≡ self.old.files }
+        ensures cause { HasCause self.old.text.calls.faults self.new.text.calls.faults result }
+        ensures hard_cause { HasFindCause (Some (text_of self.old.files)) name.now self.old.hard_faults self.new.hard_faults result }
+        ensures finds { FindsText self.old self.new name.now result }
+    {
+        if self.begin() {
+            return Err(Failed);
+        }
+        let Some(place) = place_of(self.files.as_slice(), name.as_bytes()) else {
+            self.calls.fail();
+            return Err(Failed);
+        };
+        self.at = 0;
+        self.place = place;
+        Ok(())
+    }
+
+    fn read(&mut self, buf: &mut [u8]) -> Result<usize, Failed>
+        requires { 0 < length buf.old }
+        ensures bound { ReadsAtMost result buf.new }
+        ensures bytes { ReadConsumes (Some self.old.text.left) (Some self.new.text.left) result buf.new }
+        ensures same { self.new.files ≡ self.old.files }
+        ensures cause { HasCause self.old.text.calls.faults self.new.text.calls.faults result }
+        ensures hard_cause { HasCause self.old.hard_faults self.new.hard_faults result }
+        ensures reads { ReadsText self.old self.new (length buf.old) result }
+    {
+        if self.begin() {
+            return Err(Failed);
+        }
+        let bytes = bytes_of(self.files.as_slice(), self.place);
+        let n = give(bytes, self.at, buf, self.piece);
+        self.at += n;
+        Ok(n)
+    }
+}

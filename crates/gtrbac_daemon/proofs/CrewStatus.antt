@@ -1,0 +1,153 @@
+-- What the status of a crew says of its workers.
+use Rattle.std.proofs.Common.{◌≡◌, ◌⊎◌, ℕ, ◌+◌, Bool, true, false, List, [], ◌∷◌, inl, inr, refl, sym, ap, ◌∙◌, map, eq-eqb, Option}
+use Rattle.std.specs.Prelude.{◌==◌, ◌||◌}
+use Rattle.std.specs.List.{list_any}
+use Rattle.gt_base.specs.declared.requests.Entry.{Entry}
+use Rattle.gt_io.specs.Causes.{Rose}
+use Rattle.gt_io.specs.Links.{Traffic}
+use Rattle.policy_words.specs.Naming.{NamedPolicy}
+use Rattle.line_server.specs.declared.ended.Served.{Served}
+use Rattle.line_server.specs.declared.ended.WorkEnd.{WorkEnd}
+use Rattle.line_server.specs.declared.ended.WorkEnd.TheVariants.{Fresh, Done, DoorFault, Enough, Worn, Memory}
+use Rattle.line_server.specs.declared.workers.Worker.{Worker}
+use Rattle.line_server.specs.Working.{WorksTo}
+use Rattle.gtrbac_daemon.specs.Crew.{Crewman, crewman, crewmen, is_memory, is_door_fault, is_spent, status_by, status_of, status_among, ends_of, SomeOf, EachOf, HasFailed, IsSpent, IsUnharmed, IsDone, IsSound}
+use Rattle.gtrbac_daemon.specs.Headline.{HaveWorked}
+
+-- a number is not two
+pub apart : (s m n : ℕ) → (m == n) ≡ false → s ≡ m → s ≡ n → ⊥
+apart s m n d a b = let t : (m == n) ≡ true = eq-eqb m n (sym a ∙ b) in let no : true ≡ false = sym t ∙ d in absurd (cc no)
+
+abbrev pub IsDue : ℕ → Type 0
+IsDue s = (s ≡ 0) ⊎ (s ≡ 8) ⊎ (s ≡ 10) ⊎ (s ≡ 11)
+
+pub due_is : (s : ℕ) (m d p : Bool) → s ≡ status_by m d p → IsDue s
+due_is s true d p e = inr (inl e)
+due_is s false true p e = inr (inr (inl e))
+due_is s false false true e = inr (inr (inr e))
+due_is s false false false e = inl e
+
+pub due_not : (s n : ℕ) → (0 == n) ≡ false → (8 == n) ≡ false → (10 == n) ≡ false → (11 == n) ≡ false → IsDue s → s ≡ n → ⊥
+due_not s n a b c d (inl e) is = apart s 0 n a e is
+due_not s n a b c d (inr (inl e)) is = apart s 8 n b e is
+due_not s n a b c d (inr (inr (inl e))) is = apart s 10 n c e is
+due_not s n a b c d (inr (inr (inr e))) is = apart s 11 n d e is
+
+pub zero_says : (s : ℕ) (m d p : Bool) → s ≡ status_by m d p → s ≡ 0 → (m ≡ false) × (d ≡ false) × (p ≡ false)
+zero_says s true d p e is = absurd (apart s 8 0 refl e is)
+zero_says s false true p e is = absurd (apart s 10 0 refl e is)
+zero_says s false false true e is = absurd (apart s 11 0 refl e is)
+zero_says s false false false e is = (refl, refl, refl)
+
+pub ten_says : (s : ℕ) (m d p : Bool) → s ≡ status_by m d p → s ≡ 10 → d ≡ true
+ten_says s true d p e is = absurd (apart s 8 10 refl e is)
+ten_says s false true p e is = refl
+ten_says s false false true e is = absurd (apart s 11 10 refl e is)
+ten_says s false false false e is = absurd (apart s 0 10 refl e is)
+
+pub eleven_says : (s : ℕ) (m d p : Bool) → s ≡ status_by m d p → s ≡ 11 → (d ≡ false) × (p ≡ true)
+eleven_says s true d p e is = absurd (apart s 8 11 refl e is)
+eleven_says s false true p e is = absurd (apart s 10 11 refl e is)
+eleven_says s false false true e is = (refl, refl)
+eleven_says s false false false e is = absurd (apart s 0 11 refl e is)
+
+pub well_says : (s : ℕ) (m d p : Bool) → s ≡ status_by m d p → d ≡ false → p ≡ false → (s ≡ 0) ⊎ (s ≡ 8)
+well_says s true d p e a b = inr e
+well_says s false true p e a b = absurd (cc a)
+well_says s false false true e a b = absurd (cc b)
+well_says s false false false e a b = inl e
+
+both_off : (a b : Bool) → (a || b) ≡ false → (a ≡ false) × (b ≡ false)
+both_off true b e = absurd (cc e)
+both_off false b e = (refl, e)
+
+one_on : (a b : Bool) → (a || b) ≡ true → (a ≡ true) ⊎ (b ≡ true)
+one_on true b e = inl refl
+one_on false b e = inr e
+
+none_on : (a b : Bool) → a ≡ false → b ≡ false → (a || b) ≡ false
+none_on true b a c = absurd (cc a)
+none_on false b a c = c
+
+any_map : {A B : Type 0} (p : B → Bool) (f : A → B) (xs : List A) → list_any p (map f xs) ≡ list_any (λ x. p (f x)) xs
+any_map p f [] = refl
+any_map p f (x ∷ xs) = ap (λ (b : Bool). p (f x) || b) (any_map p f xs)
+
+-- the status of workers is that of what is seen of them
+pub same_status : {D C G L : Type 0} (readings : C → Option (ℕ → ℕ)) (links : D → Option (List L)) (faults : D → ℕ) (ws : List (Worker D C G L))
+    → status_among ws ≡ status_of (ends_of (crewmen readings links faults ws))
+same_status {D} {C} {G} {L} readings links faults ws =
+    let one : (p : WorkEnd → Bool) → list_any p (ends_of (crewmen readings links faults ws)) ≡ list_any (λ (w : Worker D C G L). p w.outcome) ws =
+    λ p. any_map p (λ (k : Crewman L). k.outcome) (crewmen readings links faults ws) ∙ any_map (λ (k : Crewman L). p k.outcome) (crewman readings links faults) ws in
+    λ i. status_by (sym (one is_memory) i) (sym (one is_door_fault) i) (sym (one is_spent) i)
+
+module _ {L : Type 0} (links : Option (List L)) (f f' draws : ℕ) (served : List (Served L)) where
+  done_one : (end : WorkEnd) → WorksTo links f f' draws served end → is_memory end ≡ false → is_door_fault end ≡ false → is_spent end ≡ false → end ≡ Done
+  done_one Fresh k m d p = absurd k
+  done_one Done k m d p = refl
+  done_one DoorFault k m d p = absurd (cc d)
+  done_one Enough k m d p = absurd (cc p)
+  done_one (Worn n) k m d p = absurd (cc p)
+  done_one Memory k m d p = absurd (cc m)
+
+  failed_one : (end : WorkEnd) → WorksTo links f f' draws served end → is_door_fault end ≡ true → (end ≡ DoorFault) × Rose f f'
+  failed_one Fresh k d = absurd k
+  failed_one Done k d = absurd (cc d)
+  failed_one DoorFault k d = (refl, k.2)
+  failed_one Enough k d = absurd (cc d)
+  failed_one (Worn n) k d = absurd (cc d)
+  failed_one Memory k d = absurd (cc d)
+
+  sound_one : (end : WorkEnd) → WorksTo links f f' draws served end → (Rose f f' → ⊥) → is_door_fault end ≡ false
+  sound_one Fresh k sound = refl
+  sound_one Done k sound = refl
+  sound_one DoorFault k sound = absurd (sound k.2)
+  sound_one Enough k sound = refl
+  sound_one (Worn n) k sound = refl
+  sound_one Memory k sound = refl
+
+module _ {L : Type 0} (traffic : L → Traffic) (np : NamedPolicy) (birth : ℕ) (h : List Entry) where
+  pub done_all : (w : ℕ) (js ks : List (Crewman L)) → HaveWorked traffic np birth h w js ks
+      → list_any is_memory (ends_of ks) ≡ false → list_any is_door_fault (ends_of ks) ≡ false → list_any is_spent (ends_of ks) ≡ false → EachOf IsDone js ks
+  done_all w [] [] all m d p = tt
+  done_all w [] (k ∷ ks) all m d p = absurd all
+  done_all w (j ∷ js) [] all m d p = absurd all
+  done_all w (j ∷ js) (k ∷ ks) all m d p =
+      let m' = both_off (is_memory k.outcome) (list_any is_memory (ends_of ks)) m in
+      let d' = both_off (is_door_fault k.outcome) (list_any is_door_fault (ends_of ks)) d in
+      let p' = both_off (is_spent k.outcome) (list_any is_spent (ends_of ks)) p in
+      (done_one k.door j.faults k.faults all.0.draws k.served k.outcome all.0.cause m'.0 d'.0 p'.0, done_all (w + 1) js ks all.1 m'.1 d'.1 p'.1)
+
+  pub failed_some : (w : ℕ) (js ks : List (Crewman L)) → HaveWorked traffic np birth h w js ks → list_any is_door_fault (ends_of ks) ≡ true → SomeOf HasFailed js ks
+  failed_some w [] [] all d = absurd (cc d)
+  failed_some w [] (k ∷ ks) all d = absurd all
+  failed_some w (j ∷ js) [] all d = absurd all
+  failed_some w (j ∷ js) (k ∷ ks) all d =
+      elim (one_on (is_door_fault k.outcome) (list_any is_door_fault (ends_of ks)) d) [
+        | inl one ↦ inl (failed_one k.door j.faults k.faults all.0.draws k.served k.outcome all.0.cause one)
+        | inr more ↦ inr (failed_some (w + 1) js ks all.1 more)
+      ]
+
+  pub spent_some : (w : ℕ) (js ks : List (Crewman L)) → HaveWorked traffic np birth h w js ks → list_any is_spent (ends_of ks) ≡ true → SomeOf IsSpent js ks
+  spent_some w [] [] all p = absurd (cc p)
+  spent_some w [] (k ∷ ks) all p = absurd all
+  spent_some w (j ∷ js) [] all p = absurd all
+  spent_some w (j ∷ js) (k ∷ ks) all p =
+      elim (one_on (is_spent k.outcome) (list_any is_spent (ends_of ks)) p) [ inl one ↦ inl one | inr more ↦ inr (spent_some (w + 1) js ks all.1 more) ]
+
+  pub sound_all : (w : ℕ) (js ks : List (Crewman L)) → HaveWorked traffic np birth h w js ks → list_any is_door_fault (ends_of ks) ≡ false → EachOf IsSound js ks
+  sound_all w [] [] all d = tt
+  sound_all w [] (k ∷ ks) all d = absurd all
+  sound_all w (j ∷ js) [] all d = absurd all
+  sound_all w (j ∷ js) (k ∷ ks) all d = let d' = both_off (is_door_fault k.outcome) (list_any is_door_fault (ends_of ks)) d in (d'.0, sound_all (w + 1) js ks all.1 d'.1)
+
+  pub unharmed : (w : ℕ) (js ks : List (Crewman L)) → HaveWorked traffic np birth h w js ks → EachOf IsUnharmed js ks
+      → (list_any is_door_fault (ends_of ks) ≡ false) × (list_any is_spent (ends_of ks) ≡ false)
+  unharmed w [] [] all fine = (refl, refl)
+  unharmed w [] (k ∷ ks) all fine = absurd all
+  unharmed w (j ∷ js) [] all fine = absurd all
+  unharmed w (j ∷ js) (k ∷ ks) all fine =
+      let more = unharmed (w + 1) js ks all.1 fine.1 in (
+        none_on (is_door_fault k.outcome) (list_any is_door_fault (ends_of ks)) (sound_one k.door j.faults k.faults all.0.draws k.served k.outcome all.0.cause fine.0.0) more.0,
+        none_on (is_spent k.outcome) (list_any is_spent (ends_of ks)) fine.0.1 more.1,
+      )

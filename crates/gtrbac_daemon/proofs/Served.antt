@@ -1,0 +1,94 @@
+-- What a service comes to.
+use Rattle.std.proofs.Common.{◌≡◌, ◌⊎◌, ℕ, suc, ◌≤◌, List, [], ◌∷◌, length, map, Option, Some, None, inl, inr, refl, sym, ap, subst, ◌∙◌}
+use Rattle.std.specs.Io.KnownBytes.{Keeps}
+use Rattle.std.proofs.KnownBytes.{Keeps-refl}
+use Rattle.gt_base.specs.declared.requests.Entry.{Entry}
+use Rattle.gt_io.specs.Causes.{Rose}
+use Rattle.gt_io.specs.Links.{Traffic, Reads}
+use Rattle.gt_io.specs.Shelf.{Contents}
+use Rattle.gtrbac_model.specs.Safety.{IsSafe}
+use Rattle.gtrbac_model.proofs.Levels.{by_trigger}
+use Rattle.gtrbac_model.proofs.Playing.{levels_give_one_model}
+use Rattle.gtrbac_model.specs.Theorems.{HasOneModel}
+use Rattle.gtrbac_model.specs.Policy.{Policy}
+use Rattle.walk_laws.proofs.Climbing.{safe_is_levelled}
+use Rattle.turn_lock.specs.Turns.{part}
+use Rattle.policy_words.specs.Naming.{NamedPolicy}
+use Rattle.policy_commands.specs.Ends.{Told}
+use Rattle.core_machine.specs.Books.{BookView, SameRoot, IsBook, HasOnlyModel, model_in}
+use Rattle.request_text.specs.Replies.{log_text}
+use Rattle.line_server.specs.declared.workers.Worker.{Worker}
+use Rattle.gtrbac_daemon.specs.Ends.{IsPrinted, WantsMemory}
+use Rattle.gtrbac_daemon.specs.Words.{policy_named, Refuses, Admits}
+use Rattle.gtrbac_daemon.specs.Crew.{Crewman, crewmen, status_of, ends_of}
+use Rattle.gtrbac_daemon.specs.Headline.{HaveWorked, Headline}
+use Rattle.gtrbac_daemon.specs.Daemon.{Scene, IsWritten, HasServed, Starves, Serves, IsKept, Answers}
+
+pub as_long : {D C G L : Type 0} (readings : C → Option (ℕ → ℕ)) (links : D → Option (List L)) (faults : D → ℕ) (ws : List (Worker D C G L)) → length (crewmen readings links faults ws) ≡ length ws
+as_long readings links faults [] = refl
+as_long readings links faults (w ∷ ws) = ap suc (as_long readings links faults ws)
+
+-- the log of the book b, which is l
+pub written_of : (due s : ℕ) (slice text : List ℕ) (p : NamedPolicy) (t : ℕ) (es : List Entry) (b l : BookView) (old new : Option (List ℕ)) (before now : ℕ) → slice ≡ text → text ≡ log_text p t es → p ≡ b.named → t ≡ b.birth
+    → es ≡ b.entries → b ≡ l → IsWritten due slice s old new before now → IsWritten due (log_text l.named l.birth l.entries) s old new before now
+written_of due s slice text p t es b l old new before now e is named born entries same written =
+    subst (λ (x : List ℕ). IsWritten due x s old new before now) (e ∙ is ∙ (λ i. log_text (named i) (born i) (entries i)) ∙ ap (λ (c : BookView). log_text c.named c.birth c.entries) same) written
+
+one_model : (p : Policy) → IsSafe p.triggers → HasOneModel p
+one_model p safe = let levels = safe_is_levelled p.triggers safe in levels_give_one_model p levels.0 (by_trigger p.triggers levels.0 levels.1)
+
+module _ {L : Type 0} (traffic : L → Traffic) where
+  headline_at : (crew crew' : List (Crewman L)) (b : BookView) → IsSafe b.named.policy.triggers → IsBook b → HasOnlyModel b → HaveWorked traffic b.named b.birth b.entries 0 crew crew'
+      → ((n : ℕ) → length crew ≤ n → part n b.entries ≡ []) → Headline traffic b.named b.birth crew crew' b.entries
+  headline_at crew crew' b safe book only worked others =
+      record {
+        safe = safe;
+        one = one_model b.named.policy safe;
+        minute = book.birth;
+        model = model_in b;
+        legal = book.legal;
+        only = only;
+        named = book.named;
+        bounded = book.short;
+        worked = worked;
+        others = others;
+      }
+
+  -- of a ledger l and the book b that it has become
+  pub headline_of : (np : NamedPolicy) (birth : ℕ) (crew crew' : List (Crewman L)) (l b : BookView) → IsSafe np.policy.triggers → l.named ≡ np → l.birth ≡ birth → SameRoot l b → IsBook b → HasOnlyModel b
+      → HaveWorked traffic l.named l.birth b.entries 0 crew crew' → ((n : ℕ) → length crew ≤ n → part n b.entries ≡ []) → Headline traffic np birth crew crew' b.entries
+  headline_of np birth crew crew' l b safe named born same book only worked others =
+      let to : b.named ≡ np = sym same.0 ∙ named in
+      let at : b.birth ≡ birth = sym same.1 ∙ born in
+      let worked' : HaveWorked traffic b.named b.birth b.entries 0 crew crew' =
+      subst (λ (p : NamedPolicy). HaveWorked traffic p b.birth b.entries 0 crew crew') same.0 (subst (λ (t : ℕ). HaveWorked traffic l.named t b.entries 0 crew crew') same.1 worked) in
+      subst (λ (p : NamedPolicy). Headline traffic p birth crew crew' b.entries) to
+      (subst (λ (t : ℕ). Headline traffic b.named t crew crew' b.entries) at (headline_at crew crew' b (subst (λ (p : NamedPolicy). IsSafe p.policy.triggers) (sym to) safe) book only worked' others))
+
+  -- the log of the book b
+  pub has_served : (np : NamedPolicy) (birth : ℕ) (s due : ℕ) (a c : Scene L) (b : BookView) → b.named ≡ np → b.birth ≡ birth → Headline traffic np birth a.crew c.crew b.entries → due ≡ status_of (ends_of c.crew)
+      → IsWritten due (log_text b.named b.birth b.entries) s a.written c.written a.faults c.faults → HasServed traffic np birth s a c
+  has_served np birth s due a c b named born headline is written =
+      record {
+        history = b.entries;
+        headline = headline;
+        written =
+            subst (λ (d : ℕ). IsWritten d (log_text np birth b.entries) s a.written c.written a.faults c.faults) is
+            (subst (λ (p : NamedPolicy). IsWritten due (log_text p birth b.entries) s a.written c.written a.faults c.faults) named
+            (subst (λ (t : ℕ). IsWritten due (log_text b.named t b.entries) s a.written c.written a.faults c.faults) born written));
+      }
+
+  module _ (words : List (List ℕ)) (hard : Type 0) (contents : Contents) (s : ℕ) (a b : Scene L) where
+    pub kept_by : (name : Option (List ℕ)) (t : Told) → policy_named words ≡ name → Refuses hard contents name t → IsPrinted s t a.written b.written a.faults b.faults → b.clock ≡ a.clock → b.crew ≡ a.crew
+        → Answers traffic words hard contents s a b
+    kept_by name t is cause printed clock crew =
+        record { ends = inr (inl (record { told = t; cause = subst (λ (n : Option (List ℕ)). Refuses hard contents n t) (sym is) cause; printed = printed; clock = clock; crew = crew })) }
+
+    pub served_by : (name : List ℕ) (np : NamedPolicy) → policy_named words ≡ Some name → Admits contents (Some name) np → Serves traffic np s a b → Answers traffic words hard contents s a b
+    served_by name np is admits serves = record { ends = inl (np, subst (λ (n : Option (List ℕ)). Admits contents n np) (sym is) admits, serves) }
+
+    pub starved : s ≡ 8 → b.written ≡ a.written → b.faults ≡ a.faults → b.crew ≡ a.crew → b.clock ≡ a.clock → Answers traffic words hard contents s a b
+    starved eight written faults crew clock = record { ends = inr (inr (((eight, subst (λ (w : Option (List ℕ)). Keeps a.written w) (sym written) (Keeps-refl a.written), faults), crew), clock)) }
+
+pub some_not_none : {A : Type 0} (o : Option A) (x : A) → Some x ≡ o → o ≡ None → ⊥
+some_not_none o x e n = let no : Some x ≡ None = e ∙ n in absurd (cc no)

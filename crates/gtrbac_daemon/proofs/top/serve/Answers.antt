@@ -1,0 +1,29 @@
+use Rattle.std.proofs.Common.{◌≡◌, ℕ, List, refl, sym, ap, subst, ◌∙◌, inl, inr}
+use Rattle.std.proofs.KnownBytes.{Keeps-refl}
+use Rattle.line_server.specs.declared.workers.Worker.{Worker}
+use Rattle.gtrbac_daemon.specs.Crew.{crewmen, status_among}
+use Rattle.gtrbac_daemon.specs.Daemon.{scene}
+use Rattle.gtrbac_daemon.proofs.CrewStatus.{same_status}
+use Rattle.gtrbac_daemon.proofs.Served.{has_served}
+use Rattle.gtrbac_daemon.proofs.top.serve.Goals as goal
+
+pub returns-in-Ok : goal.returns-in-Ok
+returns-in-Ok g c =
+    let k = g.C.Clock in
+    let d = g.D.Door in
+    let K = crewmen k.readings d.links d.faults in
+    let o = g.K.Sink in (
+      c.now-minute.result,
+      c.now-minute.ensures,
+      inl (has_served g.D.L.Link.traffic c.args.safe c.now-minute.result c.write_up.result c.crew_status-due.result
+          (scene (g.B.Clock.readings c.args.birth.now) (K c.args.crew.now.items) (o.written c.args.out.now) (o.faults c.args.out.now))
+          (scene (g.B.Clock.readings c.now-minute.new.self) (K c.serve_from.new.crew.items) (o.written c.write_up.new.out) (o.faults c.write_up.new.out))
+          c.in-Ok.closed c.in-Ok.ensures.root.0 c.in-Ok.ensures.root.1 c.in-Ok.ensures.headline
+          (c.crew_status-due.ensures ∙ (ap (λ (ws : List (Worker g.row.D.Denot g.row.C.Denot g.row.G.Denot g.row.D-L.Denot)). status_among ws) c.as_slice.ensures.value ∙ same_status k.readings d.links d.faults c.serve_from.new.crew.items))
+          c.write_up.ensures),
+    )
+
+pub returns-in-Err : goal.returns-in-Err
+returns-in-Err g c =
+    let K = crewmen g.C.Clock.readings g.D.Door.links g.D.Door.faults in
+    (c.now-minute.result, c.now-minute.ensures, inr ((refl, Keeps-refl (g.K.Sink.written c.args.out.now), refl), λ i. K (c.in-Err.ensures.err i).items))

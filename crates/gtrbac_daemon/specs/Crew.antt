@@ -1,0 +1,89 @@
+-- Workers before and after a service, and the status of a crew.
+use Rattle.std.specs.Prelude.{◌≡◌, ◌⊎◌, ℕ, Bool, true, false, List, [], ◌∷◌, map}
+use Rattle.std.specs.List.{list_any}
+use Rattle.std.specs.declared.option.Option.{Option}
+use Rattle.gt_io.specs.Causes.{Rose}
+use Rattle.line_server.specs.declared.ended.Served.{Served}
+use Rattle.line_server.specs.declared.ended.WorkEnd.{WorkEnd}
+use Rattle.line_server.specs.declared.ended.WorkEnd.TheVariants.{Fresh, Done, DoorFault, Enough, Worn, Memory}
+use Rattle.line_server.specs.declared.workers.Worker.{Worker}
+
+-- a worker as it is seen: the readings of its clock and the links of its door that are to come, where they are told, how often its door
+-- failed, its served links, and how it ended
+pub record Crewman (L : Type 0) : Type 0 where
+  pub clock : Option (ℕ → ℕ)
+  pub door : Option (List L)
+  pub faults : ℕ
+  pub served : List (Served L)
+  pub outcome : WorkEnd
+
+module _ {D C G L : Type 0} (readings : C → Option (ℕ → ℕ)) (links : D → Option (List L)) (faults : D → ℕ) where
+  abbrev pub crewman : Worker D C G L → Crewman L
+  crewman w = record { clock = readings w.clock; door = links w.door; faults = faults w.door; served = w.served.items; outcome = w.outcome }
+
+  abbrev pub crewmen : List (Worker D C G L) → List (Crewman L)
+  crewmen ws = map crewman ws
+
+-- it has not begun, and has served nothing
+abbrev pub IsNew : {D C G L : Type 0} → Worker D C G L → Type 0
+IsNew w = (w.outcome ≡ Fresh) × (w.served.items ≡ [])
+
+abbrev pub is_memory : WorkEnd → Bool
+is_memory Memory = true
+is_memory _ = false
+
+abbrev pub is_door_fault : WorkEnd → Bool
+is_door_fault DoorFault = true
+is_door_fault _ = false
+
+-- it has served as many links as a worker may, or its pass is worn
+abbrev pub is_spent : WorkEnd → Bool
+is_spent Enough = true
+is_spent (Worn n) = true
+is_spent _ = false
+
+-- the status by whether a worker lacked memory, whether a door failed, and whether a worker is spent
+abbrev pub status_by : Bool → Bool → Bool → ℕ
+status_by true failed spent = 8
+status_by false true spent = 10
+status_by false false true = 11
+status_by false false false = 0
+
+abbrev pub status_of : List WorkEnd → ℕ
+status_of ends = status_by (list_any is_memory ends) (list_any is_door_fault ends) (list_any is_spent ends)
+
+-- the same of the workers themselves
+abbrev pub status_among : {D C G L : Type 0} → List (Worker D C G L) → ℕ
+status_among ws = status_by (list_any (λ w. is_memory w.outcome) ws) (list_any (λ w. is_door_fault w.outcome) ws) (list_any (λ w. is_spent w.outcome) ws)
+
+module _ {L : Type 0} where
+  abbrev pub ends_of : List (Crewman L) → List WorkEnd
+  ends_of crew = map (λ (k : Crewman L). k.outcome) crew
+
+  -- of some worker, before and after
+  abbrev pub SomeOf : (Crewman L → Crewman L → Type 0) → List (Crewman L) → List (Crewman L) → Type 0
+  SomeOf P (j ∷ js) (k ∷ ks) = P j k ⊎ SomeOf P js ks
+  SomeOf P _ _ = ⊥
+
+  -- of each worker, before and after
+  abbrev pub EachOf : (Crewman L → Crewman L → Type 0) → List (Crewman L) → List (Crewman L) → Type 0
+  EachOf P [] [] = Unit {0}
+  EachOf P (j ∷ js) (k ∷ ks) = P j k × EachOf P js ks
+  EachOf P _ _ = ⊥
+
+  abbrev pub HasFailed : Crewman L → Crewman L → Type 0
+  HasFailed j k = (k.outcome ≡ DoorFault) × Rose j.faults k.faults
+
+  abbrev pub IsSpent : Crewman L → Crewman L → Type 0
+  IsSpent j k = is_spent k.outcome ≡ true
+
+  -- neither its door failed nor is it spent
+  abbrev pub IsUnharmed : Crewman L → Crewman L → Type 0
+  IsUnharmed j k = (Rose j.faults k.faults → ⊥) × (is_spent k.outcome ≡ false)
+
+  -- its door was read to its end
+  abbrev pub IsDone : Crewman L → Crewman L → Type 0
+  IsDone j k = k.outcome ≡ Done
+
+  abbrev pub IsSound : Crewman L → Crewman L → Type 0
+  IsSound j k = is_door_fault k.outcome ≡ false

@@ -1,0 +1,50 @@
+-- What the words of the server say, and what keeps it from serving.
+use Rattle.std.specs.Prelude.{◌≡◌, ◌⊎◌, ◌≤◌, ℕ, true, false, List, [], ◌∷◌, length, Option, Some, None, Result, Ok, Err, IfSome, IsSomeAnd}
+use Rattle.gt_io.specs.Shelf.{Contents, Lacks}
+use Rattle.gt_text.specs.Words.{begins_with}
+use Rattle.policy_words.specs.Naming.{NamedPolicy}
+use Rattle.policy_commands.specs.declared.judging.Admitted.{Admitted}
+use Rattle.policy_commands.specs.declared.judging.Admitted.TheVariants.{Safe, Ended}
+use Rattle.policy_commands.specs.Ends.{Told, seen_end}
+use Rattle.policy_commands.specs.Policies.{safe_in, HasFault, IsUnsafeText}
+use Rattle.gtrbac_daemon.specs.Ends.{usage, read_fault, too_long, max_policy, IsLongPolicy}
+
+-- the words are one, the name of a policy, which does not begin with `-`
+abbrev pub policy_named : List (List ℕ) → Option (List ℕ)
+policy_named (name ∷ []) = elim (begins_with 45 name) [ true ↦ None | false ↦ Some name ]
+policy_named _ = None
+
+-- the text of the name, where the shelf tells it, which is not too long
+pub record IsPolicyText (contents : Contents) (name text : List ℕ) : Type 0 where
+  pub found : IfSome contents (λ text_of. text_of name ≡ Some text)
+  pub short : length text ≤ max_policy
+
+-- the text has a fault, with status 2, or is of a policy that is not safe, with status 3
+pub record IsRefused (text : List ℕ) (t : Told) : Type 0 where
+  pub told_is : safe_in text ≡ Err t
+  pub cause : ((t.status ≡ 2) × HasFault text) ⊎ ((t.status ≡ 3) × IsUnsafeText text)
+
+-- the shelf failed or has no such text; the text is too long; it is refused
+abbrev pub RefusesText : Type 0 → Contents → List ℕ → Told → Type 0
+RefusesText hard contents name t =
+    ((t ≡ read_fault) × (hard ⊎ Lacks contents name))
+    ⊎ ((t ≡ too_long) × IfSome contents (λ text_of. IsSomeAnd (text_of name) IsLongPolicy))
+    ⊎ ((text : List ℕ) × IsPolicyText contents name text × IsRefused text t)
+
+-- what keeps the server from serving: the words come first
+abbrev pub Refuses : Type 0 → Contents → Option (List ℕ) → Told → Type 0
+Refuses hard contents None t = t ≡ usage
+Refuses hard contents (Some name) t = RefusesText hard contents name t
+
+-- the text of the name is of a safe policy
+abbrev pub AdmitsText : Contents → List ℕ → NamedPolicy → Type 0
+AdmitsText contents name np = (text : List ℕ) × IsPolicyText contents name text × (safe_in text ≡ Ok np)
+
+abbrev pub Admits : Contents → Option (List ℕ) → NamedPolicy → Type 0
+Admits contents None np = ⊥
+Admits contents (Some name) np = AdmitsText contents name np
+
+-- what is found by a name
+abbrev pub IsFound : Type 0 → Contents → List ℕ → Admitted → Type 0
+IsFound hard contents name (Safe np) = AdmitsText contents name np
+IsFound hard contents name (Ended end) = RefusesText hard contents name (seen_end end)

@@ -1,0 +1,157 @@
+-- The counted replies by their texts, and how `gen` ends.
+use Rattle.std.proofs.Common.{◌≡◌, ℕ, List, ◌++◌, true, false, inl, inr, refl, sym, ap, ◌∙◌, subst}
+use Rattle.std.specs.Prelude.{Bool, nat_eq, codes, decimal, Result, Ok as Fine, Err, IfOk}
+use Rattle.std.specs.List.{count_by}
+use Rattle.std.proofs.lemmas.Bool.{ne_eqb}
+use Rattle.gt_base.specs.declared.requests.Decision.{Decision}
+use Rattle.gt_base.specs.declared.requests.Decision.TheVariants.{Permit as Permits, NoActive, NoGrant, Shut}
+use Rattle.gt_base.specs.declared.requests.Seen.TheVariants.{Unblocked, Blocked, Absent}
+use Rattle.gt_base.specs.declared.requests.Reply.{Reply}
+use Rattle.gt_base.specs.declared.requests.Reply.TheVariants.{Now, Truth, Event, Queued, Session, Done, Active, Decided, Refused as IsRefused}
+use Rattle.gt_base.specs.declared.requests.Step.{Step}
+use Rattle.gt_base.specs.declared.requests.Step.TheVariants.{Tick, Ask}
+use Rattle.gt_base.specs.declared.requests.Entry.{Entry}
+use Rattle.policy_words.specs.Naming.{NamedPolicy}
+use Rattle.policy_commands.specs.declared.ends.End.{End}
+use Rattle.policy_commands.specs.Ends.{Told, told, seen_end}
+use Rattle.request_text.specs.Replies.{reply_text}
+use Rattle.gtrbac_tool.specs.declared.summing.Word.{Word}
+use Rattle.gtrbac_tool.specs.declared.summing.Word.TheVariants.{Ok, Permit, Deny, Refused}
+use Rattle.gtrbac_tool.specs.Script.{Start, never, born, failed, start_of}
+use Rattle.gtrbac_tool.specs.Summary.{Gen, begins, is_answered, count_line, summary, summed, Summed, SummedFrom, SummedOver, GenEnds, gen_line, steps_line, end_line}
+use Rattle.gtrbac_tool.specs.Counted.{word_text, replies, counts, tally_line, tally}
+use Rattle.gt_text.specs.Lines.{lines_of}
+use Rattle.policy_commands.specs.Policies.{safe_in, HasFault, IsUnsafeText}
+use Rattle.policy_commands.specs.Admitting.{IsEnded}
+use Rattle.policy_gen.specs.Texts.{policy_text, script_text}
+use Rattle.gtrbac_tool.specs.Causes.{IsRunStatus, IsGenCaused}
+use Rattle.gtrbac_tool.proofs.Causing.{FailsWith, starts, run_status, status_of}
+
+replies_begin : (np : NamedPolicy) (w : Word) (r : Reply) → replies w r ≡ begins (word_text w) (reply_text np r)
+replies_begin np Ok (Now t) = refl
+replies_begin np Ok (Truth true) = refl
+replies_begin np Ok (Truth false) = refl
+replies_begin np Ok (Event (Unblocked p)) = refl
+replies_begin np Ok (Event (Blocked p)) = refl
+replies_begin np Ok (Event Absent) = refl
+replies_begin np Ok (Queued t) = refl
+replies_begin np Ok (Session s) = refl
+replies_begin np Ok Done = refl
+replies_begin np Ok (Active w) = refl
+replies_begin np Ok (Decided (Permits w)) = refl
+replies_begin np Ok (Decided NoActive) = refl
+replies_begin np Ok (Decided NoGrant) = refl
+replies_begin np Ok (Decided (Shut n)) = refl
+replies_begin np Ok (IsRefused f) = refl
+replies_begin np Permit (Now t) = refl
+replies_begin np Permit (Truth true) = refl
+replies_begin np Permit (Truth false) = refl
+replies_begin np Permit (Event (Unblocked p)) = refl
+replies_begin np Permit (Event (Blocked p)) = refl
+replies_begin np Permit (Event Absent) = refl
+replies_begin np Permit (Queued t) = refl
+replies_begin np Permit (Session s) = refl
+replies_begin np Permit Done = refl
+replies_begin np Permit (Active v) = refl
+replies_begin np Permit (Decided (Permits v)) = refl
+replies_begin np Permit (Decided NoActive) = refl
+replies_begin np Permit (Decided NoGrant) = refl
+replies_begin np Permit (Decided (Shut n)) = refl
+replies_begin np Permit (IsRefused f) = refl
+replies_begin np Deny (Now t) = refl
+replies_begin np Deny (Truth true) = refl
+replies_begin np Deny (Truth false) = refl
+replies_begin np Deny (Event (Unblocked p)) = refl
+replies_begin np Deny (Event (Blocked p)) = refl
+replies_begin np Deny (Event Absent) = refl
+replies_begin np Deny (Queued t) = refl
+replies_begin np Deny (Session s) = refl
+replies_begin np Deny Done = refl
+replies_begin np Deny (Active v) = refl
+replies_begin np Deny (Decided (Permits v)) = refl
+replies_begin np Deny (Decided NoActive) = refl
+replies_begin np Deny (Decided NoGrant) = refl
+replies_begin np Deny (Decided (Shut n)) = refl
+replies_begin np Deny (IsRefused f) = refl
+replies_begin np Refused (Now t) = refl
+replies_begin np Refused (Truth true) = refl
+replies_begin np Refused (Truth false) = refl
+replies_begin np Refused (Event (Unblocked p)) = refl
+replies_begin np Refused (Event (Blocked p)) = refl
+replies_begin np Refused (Event Absent) = refl
+replies_begin np Refused (Queued t) = refl
+replies_begin np Refused (Session s) = refl
+replies_begin np Refused Done = refl
+replies_begin np Refused (Active v) = refl
+replies_begin np Refused (Decided (Permits v)) = refl
+replies_begin np Refused (Decided NoActive) = refl
+replies_begin np Refused (Decided NoGrant) = refl
+replies_begin np Refused (Decided (Shut n)) = refl
+replies_begin np Refused (IsRefused f) = refl
+
+counts_begin : (np : NamedPolicy) (w : Word) (s : Step) → counts w s ≡ is_answered np (word_text w) s
+counts_begin np w (Tick upto to) = refl
+counts_begin np w (Ask actor request reply) = replies_begin np w reply
+
+line_is : (np : NamedPolicy) (w : Word) (h : List Entry) → tally_line w h ≡ count_line np (word_text w) h
+line_is np w h = λ i. word_text w ++ codes " " ++ decimal (count_by (λ (e : Entry). counts_begin np w e.what i) h) ++ codes "\n"
+
+tally_is : (np : NamedPolicy) (g : Gen) (birth : ℕ) (h : List Entry) → tally g birth h ≡ summary np g birth h
+tally_is np g birth h = λ i. gen_line g ++ steps_line h ++ line_is np Ok h i ++ line_is np Permit h i ++ line_is np Deny h i ++ line_is np Refused h i ++ end_line birth h
+
+-- the run's own end
+pub sums_otherwise : (np : NamedPolicy) (g : Gen) (birth : ℕ) (h : List Entry) (ran : Told) → nat_eq ran.status 0 ≡ false → ran ≡ summed np g birth h ran
+sums_otherwise np g birth h ran off = sym (ap (λ (b : Bool). elim b as (λ _. Told) [ true ↦ told 0 (summary np g birth h) | false ↦ ran ]) off)
+
+-- the summary in its place
+pub sums : (np : NamedPolicy) (g : Gen) (birth : ℕ) (h : List Entry) (ran : Told) (text : List ℕ) → nat_eq ran.status 0 ≡ true → text ≡ tally g birth h → told 0 text ≡ summed np g birth h ran
+sums np g birth h ran text on is =
+    ap (λ (t : List ℕ). told 0 t) (is ∙ tally_is np g birth h) ∙ sym (ap (λ (b : Bool). elim b as (λ _. Told) [ true ↦ told 0 (summary np g birth h) | false ↦ ran ]) on)
+
+pub other_status : (s : ℕ) → (s ≡ 0 → ⊥) → nat_eq s 0 ≡ false
+other_status s h = ne_eqb s 0 h
+
+pub zero_status : (s : ℕ) → s ≡ 0 → nat_eq s 0 ≡ true
+zero_status s h = ap (λ (x : ℕ). nat_eq x 0) h
+
+-- how `gen` ends over a safe policy
+
+summed_status : (b : Bool) (full ran : Told) → full.status ≡ 0 → IsRunStatus ran.status → IsRunStatus (elim b as (λ _. Told) [ true ↦ full | false ↦ ran ]).status
+summed_status true full ran is h = inl is
+summed_status false full ran is h = h
+
+from_status : (np : NamedPolicy) (g : Gen) (start : Start) (end : Told) → FailsWith start → SummedFrom np g start end → IsRunStatus end.status
+from_status np g never end fails is = inl (status_of end _ is)
+from_status np g (born birth n lines) end fails h =
+    subst (λ (t : Told). IsRunStatus t.status) (sym h.end_is)
+    (summed_status (nat_eq h.ran.status 0) (told 0 (summary np g birth h.history)) h.ran refl (run_status np birth n lines h.ran (h.history, h.run)))
+from_status np g (failed t) end fails is = inr (inl (status_of end t is ∙ fails))
+
+pub sum_status : {E : Type 0} (np : NamedPolicy) (g : Gen) (lines : List (List ℕ)) (r : Result End E) → IfOk r (λ e. SummedFrom np g (start_of np 1 lines) (seen_end e)) → IfOk r (λ e. IsRunStatus e.status)
+sum_status np g lines (Fine e) h = from_status np g (start_of np 1 lines) (seen_end e) (starts np 1 lines) h
+sum_status np g lines (Err f) h = tt
+
+-- what `gen` makes
+
+pub gen_safe : {E : Type 0} (g : Gen) (np : NamedPolicy) (policy script : List ℕ) (r : Result End E) → safe_in policy ≡ Fine np → policy ≡ policy_text g.size → script ≡ script_text g.seed g.size
+    → IfOk r (λ e. SummedFrom np g (start_of np 1 (lines_of script)) (seen_end e)) → IfOk r (λ e. GenEnds g (seen_end e))
+gen_safe g np policy script (Fine e) safe p s h =
+    let admitted : safe_in (policy_text g.size) ≡ Fine np = ap safe_in (sym p) ∙ safe in
+    subst (λ (o : Result NamedPolicy Told). SummedOver g o (seen_end e)) (sym admitted) (subst (λ (t : List ℕ). SummedFrom np g (start_of np 1 (lines_of t)) (seen_end e)) s h)
+gen_safe g np policy script (Err f) safe p s h = tt
+
+pub gen_ended : (g : Gen) (policy : List ℕ) (end : End) → IsEnded policy end → policy ≡ policy_text g.size → GenEnds g (seen_end end)
+gen_ended g policy end is p =
+    let refused : safe_in (policy_text g.size) ≡ Err (seen_end end) = ap safe_in (sym p) ∙ is.told in
+    subst (λ (o : Result NamedPolicy Told). SummedOver g o (seen_end end)) (sym refused) refl
+
+pub safe_caused : {E : Type 0} (np : NamedPolicy) (g : Gen) (lines : List (List ℕ)) (size : ℕ) (r : Result End E) → IfOk r (λ e. SummedFrom np g (start_of np 1 lines) (seen_end e)) → IfOk r (λ e. IsGenCaused size e.status)
+safe_caused np g lines size (Fine e) h = inr (inr (from_status np g (start_of np 1 lines) (seen_end e) (starts np 1 lines) h))
+safe_caused np g lines size (Err f) h = tt
+
+pub ended_caused : (size : ℕ) (policy : List ℕ) (end : End) → IsEnded policy end → policy ≡ policy_text size → IsGenCaused size end.status
+ended_caused size policy end is p =
+    elim is.cause [
+      | inl h ↦ inl (h.0, subst HasFault p h.1)
+      | inr h ↦ inr (inl (h.0, subst IsUnsafeText p h.1))
+    ]

@@ -1,0 +1,219 @@
+//! The command `gen`.
+ghost use Rattle.std.specs.Prelude.{◌≡◌, ◌≢◌, ◌^◌, ◌<◌, ◌≤◌, ◌++◌, ◌∷◌, [], ℕ, codes, length, IfOk, IfSome, IfNone, OnOk, map, string_bytes};
+ghost use Rattle.std.specs.List.{count_by};
+ghost use Rattle.gt_text.specs.Lines.{lines_of};
+ghost use Rattle.policy_commands.specs.Ends.{seen_end};
+ghost use Rattle.gtrbac_tool.specs.Causes.{IsGenCaused};
+ghost use Rattle.gtrbac_tool.specs.Script.{start_of};
+ghost use Rattle.gtrbac_tool.specs.Summary.{IsGen, IsNoGen, GenEnds, SummedFrom, summed, gen_line, steps_line, end_line};
+ghost use Rattle.policy_words.specs.Naming.{NamedPolicy};
+ghost use Rattle.gtrbac_tool.specs.Counted.{seen_recipe, word_text, permits as decision_permits, replies, counts as counts_step, tally_line, tally as tally_of};
+
+use crate::script::Outcome;
+use crate::starting::{Ran, begin};
+use civil_time::write_civil;
+use core_machine::Book;
+use gt_base::{Decision, Entry, List, Memory, Reply, Step};
+use gt_text::{push_number, read_number, read_up_to};
+use policy_commands::{Admitted, End, admit};
+use policy_gen::make;
+use policy_safety::Safe;
+use std::alloc::Global;
+
+/// What `gen` is asked: a seed, and a size from 1 to 100,000.
+#[derive(Clone, Copy)]
+pub(crate) struct Recipe {
+    pub(crate) seed: u64,
+    pub(crate) size: u32,
+}
+
+/// The word that a reply begins with, where it is counted.
+#[derive(Clone, Copy)]
+pub(crate) enum Word {
+    Ok,
+    Permit,
+    Deny,
+    Refused,
+}
+
+/// The recipe that two words write in digits.
+fn recipe_in(seed: &str, size: &str) -> Option<Recipe>
+    ensures some { IfSome result (λ r. IsGen (codes "gen" ∷ seed.now ∷ size.now ∷ []) (seen_recipe r)) }
+    ensures none { IfNone result (IsNoGen (codes "gen" ∷ seed.now ∷ size.now ∷ [])) }
+{
+    let seed = read_number(seed.as_bytes())?;
+    let size = read_up_to(size.as_bytes(), 100_000)?;
+    if size == 0 {
+        None
+    } else {
+        Some(Recipe { seed, size })
+    }
+}
+
+/// The recipe that the words are, none where they are no `gen`.
+pub(crate) fn recipe_of(words: &[String]) -> Option<Recipe>
+    ensures some { IfSome result (λ r. IsGen (map string_bytes words.now) (seen_recipe r)) }
+    ensures none { IfNone result (IsNoGen (map string_bytes words.now)) }
+{
+    match words {
+        [verb, seed, size] => {
+            if verb.as_str() == "gen" {
+                recipe_in(seed.as_str(), size.as_str())
+            } else {
+                None
+            }
+        }
+        _ => None,
+    }
+}
+
+fn text_of(word: Word) -> &'static [u8]
+    ensures { result.now ≡ word_text word }
+{
+    match word {
+        Word::Ok => b"ok",
+        Word::Permit => b"permit",
+        Word::Deny => b"deny",
+        Word::Refused => b"refused",
+    }
+}
+
+fn permits(decision: &Decision) -> bool
+    ensures { result ≡ decision_permits decision.now }
+{
+    match decision {
+        Decision::Permit { walk: _ } => true,
+        Decision::NoActive | Decision::NoGrant | Decision::Shut { edge: _ } => false,
+    }
+}
+
+/// Whether a reply begins with the word.
+fn begins(word: Word, reply: &Reply) -> bool
+    ensures { result ≡ replies word reply.now }
+{
+    match (word, reply) {
+        (Word::Ok, Reply::Done | Reply::Active(_)) => true,
+        (Word::Permit, Reply::Decided(decision)) => permits(decision),
+        (Word::Deny, Reply::Decided(decision)) => !permits(decision),
+        (Word::Refused, Reply::Refused(_)) => true,
+        _ => false,
+    }
+}
+
+/// Whether a step is a request whose reply begins with the word.
+fn counts(word: Word, step: &Step) -> bool
+    ensures { result ≡ counts_step word step.now }
+{
+    match step {
+        Step::Tick { upto: _, to: _ } => false,
+        Step::Ask {
+            actor: _,
+            request: _,
+            reply,
+        } => begins(word, reply),
+    }
+}
+
+/// How many requests have a reply that begins with the word.
+fn count(entries: &[Entry], word: Word) -> usize
+    ensures { result ≡ count_by (λ e. counts_step word e.what) entries.now }
+{
+    entries
+        .iter()
+        .filter(|entry| counts(word, &entry.what))
+        .count()
+}
+
+/// Adds the line of a word, with how many replies begin with it.
+fn push_count(text: &mut Vec<u8>, entries: &[Entry], word: Word) -> Result<(), Memory>
+    ensures { OnOk result (text.new.items ≡ text.old.items ++ tally_line word entries.now) }
+{
+    text.extend_from_slice(text_of(word))?;
+    text.extend_from_slice(b" ")?;
+    push_number(text, count(entries, word) as u64)?;
+    text.extend_from_slice(b"\n")
+}
+
+fn push_recipe(text: &mut Vec<u8>, recipe: Recipe) -> Result<(), Memory>
+    ensures { OnOk result (text.new.items ≡ text.old.items ++ gen_line (seen_recipe recipe)) }
+{
+    text.extend_from_slice(b"gen ")?;
+    push_number(text, recipe.seed)?;
+    text.extend_from_slice(b" ")?;
+    push_number(text, u64::from(recipe.size))?;
+    text.extend_from_slice(b"\n")
+}
+
+fn push_steps(text: &mut Vec<u8>, entries: &[Entry]) -> Result<(), Memory>
+    ensures { OnOk result (text.new.items ≡ text.old.items ++ steps_line entries.now) }
+{
+    text.extend_from_slice(b"steps ")?;
+    push_number(text, entries.len() as u64)?;
+    text.extend_from_slice(b"\n")
+}
+
+fn push_now(text: &mut Vec<u8>, book: &Book) -> Result<(), Memory>
+    ensures { OnOk result (text.new.items ≡ text.old.items ++ end_line book.now.birth book.now.entries) }
+{
+    text.extend_from_slice(b"end ")?;
+    text.extend_from_slice(&write_civil(book.now()))?;
+    text.extend_from_slice(b"\n")
+}
+
+/// The summary of a book: the recipe, the length of the history, how many replies begin with each of the four words, and the
+/// instant now.
+fn tally(alloc: Global, recipe: Recipe, book: &Book) -> Result<Vec<u8>, Memory>
+    ensures { IfOk result (λ text. text.items ≡ tally_of (seen_recipe recipe) book.now.birth book.now.entries) }
+{
+    let entries = book.entries().as_slice();
+    let mut text = Vec::new(alloc);
+    push_recipe(&mut text, recipe)?;
+    push_steps(&mut text, entries)?;
+    push_count(&mut text, entries, Word::Ok)?;
+    push_count(&mut text, entries, Word::Permit)?;
+    push_count(&mut text, entries, Word::Deny)?;
+    push_count(&mut text, entries, Word::Refused)?;
+    push_now(&mut text, book)?;
+    Ok(text)
+}
+
+/// The summary in place of the replies where the script was played to its end, and else the run's own end.
+fn sum_up(alloc: Global, recipe: Recipe, outcome: Outcome) -> Result<End, Memory>
+    ensures { IfOk result (λ end. (np : NamedPolicy) → seen_end end ≡ summed np (seen_recipe recipe) outcome.book.birth outcome.book.entries (seen_end outcome.end)) }
+{
+    if outcome.end.status != 0 {
+        return Ok(outcome.end);
+    }
+    Ok(End {
+        status: 0,
+        text: List::from(tally(alloc, recipe, &outcome.book)?),
+    })
+}
+
+/// Plays the script and sums it up. The script has fewer than 4,294,967,296 bytes.
+fn play_and_sum(alloc: Global, recipe: Recipe, safe: Safe, script: &[u8]) -> Result<End, Memory>
+    requires { length script.now < 2 ^ 32 }
+    ensures { IfOk result (λ end. SummedFrom safe (seen_recipe recipe) (start_of safe 1 (lines_of script.now)) (seen_end end)) }
+{
+    match begin(alloc, safe, script) {
+        Ok(ran) => match ran {
+            Ran::Unborn(end) => Ok(end),
+            Ran::Born(outcome) => sum_up(alloc, recipe, outcome),
+        },
+        Err(fault) => Err(fault),
+    }
+}
+
+/// Makes the policy and the script of a recipe, plays them, and sums up. It reads nothing.
+#[tactic(auto, using(crate::proofs::Tallying::gen_safe, crate::proofs::Tallying::gen_ended, crate::proofs::Tallying::safe_caused, crate::proofs::Tallying::ended_caused))]
+pub(crate) fn generate(alloc: Global, recipe: Recipe) -> Result<End, Memory>
+    requires { (1 ≤ recipe.size) × (recipe.size ≤ 100_000) }
+    ensures end { IfOk result (λ end. GenEnds (seen_recipe recipe) (seen_end end)) }
+    ensures caused { IfOk result (λ end. IsGenCaused recipe.size end.status) }
+{
+    let made = make(alloc, recipe.seed, recipe.size)?;
+    match admit(alloc, made.policy.as_slice())? {
+        Admitted::Safe(safe) => play_and_sum(alloc, recipe, safe, made.script.as_slice()),
+        Admitted::Ended(end) => Ok(end),
+    }
+}

@@ -1,4 +1,0 @@
-pub mod Roles
-pub mod Closing
-pub mod Acyclic
-pub mod Carrying

@@ -1,0 +1,9 @@
+pub mod Roles
+pub mod Walking
+pub mod Standing
+pub mod Ranks
+pub mod Seeking
+pub mod Leading
+pub mod Following
+pub mod Tracing
+pub mod Linking

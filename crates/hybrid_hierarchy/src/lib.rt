@@ -1,0 +1,13 @@
+//! The hybrid hierarchy of roles: which edges are usable in a status, and the least walks over them.
+#![tactic(auto)]
+
+mod hierarchies;
+mod outgoing;
+mod questions;
+mod searching;
+#[cfg(test)]
+mod tests;
+mod walks;
+
+pub use hierarchies::Hierarchy;
+pub use walks::{may_activate, reaches, reaches_any, usable};

@@ -1,0 +1,99 @@
+//! What is asked of a hierarchy in a status.
+ghost use Rattle.std.specs.Prelude.{◌≡◌, ℕ, Bool};
+
+use crate::walks::usable;
+use gt_base::{Fluent, HierEdge, PermId, RoleId, Status};
+
+/// Tells which edges are open, by their numbers, and which roles are goals.
+pub(crate) trait Question {
+    ghost use Rattle.gt_base.specs.declared.events.RoleId.{RoleId};
+    ghost use Rattle.gt_base.specs.declared.policies.HierEdge.{HierEdge};
+
+    ghost passes: { Self → ℕ → HierEdge → Bool };
+
+    ghost goals: { Self → RoleId → Bool };
+
+    /// Whether the edge of this number is open.
+    fn may_pass(&self, n: u32, e: &HierEdge) -> bool
+        ensures { result ≡ passes self.now n e.now };
+
+    /// Whether the role is a goal.
+    fn is_goal(&self, role: RoleId) -> bool
+        ensures { result ≡ goals self.now role };
+}
+
+/// By which walk the role may be activated.
+#[derive(Clone, Copy)]
+pub(crate) struct Activating<'a> {
+    pub(crate) status: &'a Status,
+    pub(crate) role: RoleId,
+}
+
+impl<'a> Question for Activating<'a> {
+    ghost use Rattle.std.specs.Prelude.{false};
+    ghost use Rattle.gt_base.specs.Sets.{has};
+    ghost use Rattle.gtrbac_model.specs.Same.{same_role};
+    ghost use Rattle.gtrbac_model.specs.Hierarchy.{usable};
+
+    ghost passes = { λ q. usable (has q.status.now.set) false };
+
+    ghost goals = { λ q. same_role q.role };
+
+    fn may_pass(&self, n: u32, e: &HierEdge) -> bool {
+        usable(n, e, self.status, false)
+    }
+
+    fn is_goal(&self, role: RoleId) -> bool {
+        self.role.0 == role.0
+    }
+}
+
+/// By which walk of usable edges the permission is lent.
+#[derive(Clone, Copy)]
+pub(crate) struct Lending<'a> {
+    pub(crate) status: &'a Status,
+    pub(crate) perm: PermId,
+}
+
+impl<'a> Question for Lending<'a> {
+    ghost use Rattle.std.specs.Prelude.{true};
+    ghost use Rattle.gt_base.specs.Sets.{has};
+    ghost use Rattle.gt_base.specs.declared.events.Fluent.TheVariants.{Granted};
+    ghost use Rattle.gtrbac_model.specs.Hierarchy.{usable};
+
+    ghost passes = { λ q. usable (has q.status.now.set) true };
+
+    ghost goals = { λ q r. has q.status.now.set (Granted q.perm r) };
+
+    fn may_pass(&self, n: u32, e: &HierEdge) -> bool {
+        usable(n, e, self.status, true)
+    }
+
+    fn is_goal(&self, role: RoleId) -> bool {
+        self.status.is_on(Fluent::Granted(self.perm, role))
+    }
+}
+
+/// By which walk the permission would be lent if each edge that lends permissions were usable.
+#[derive(Clone, Copy)]
+pub(crate) struct LendingByAny<'a> {
+    pub(crate) status: &'a Status,
+    pub(crate) perm: PermId,
+}
+
+impl<'a> Question for LendingByAny<'a> {
+    ghost use Rattle.gt_base.specs.Sets.{has};
+    ghost use Rattle.gt_base.specs.declared.events.Fluent.TheVariants.{Granted};
+
+    ghost passes = { λ q n e. e.inherits };
+
+    ghost goals = { λ q r. has q.status.now.set (Granted q.perm r) };
+
+    fn may_pass(&self, _n: u32, e: &HierEdge) -> bool {
+        e.inherits
+    }
+
+    fn is_goal(&self, role: RoleId) -> bool {
+        self.status.is_on(Fluent::Granted(self.perm, role))
+    }
+}

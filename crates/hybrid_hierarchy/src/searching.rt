@@ -1,0 +1,136 @@
+//! The least walk by a search from its starts outward, which asks of no edge and no role more than it needs.
+ghost use Rattle.std.specs.Prelude.{◌≡◌, ℕ, Bool, ◌+◌, ◌<◌, ◌≤◌, ◌⊎◌, [], ◌∷◌, ◌++◌, true, false, replicate, not, length, count_by, IfOk, OnOk, MatchOption, Some};
+ghost use Rattle.gtrbac_model.specs.Graph.{IsLeastWalk, item_at};
+ghost use Rattle.gtrbac_model.specs.Hierarchy.{role_arcs};
+ghost use Rattle.walk_laws.specs.Laws.{HasNoWalk};
+ghost use Rattle.hybrid_hierarchy.specs.Nets.{AreWithin, IsHierarchy};
+ghost use Rattle.hybrid_hierarchy.specs.Searches.{no_edge, IsOutgoing, HasStops, IsWalkTo, HasSearched, is_seen, roles_of};
+
+use crate::outgoing::{NONE, Outgoing, first_of};
+use crate::questions::Question;
+use gt_base::{HierEdge, List, Memory, RoleId, Walk};
+use std::alloc::Global;
+
+/// A role that was found: by the edge of this number from what was found at the place before, or, where that is no edge, as the start
+/// of this place.
+#[derive(Clone, Copy)]
+pub(crate) struct Found {
+    pub(crate) role: u32,
+    pub(crate) by: u32,
+    pub(crate) before: usize,
+}
+
+/// The least walk over open edges from one of the starts to a goal: by the number of its edges, then by the place of its start, then by
+/// the numbers of its edges.
+pub(crate) fn least<Q: Question>(
+    alloc: Global,
+    edges: &[HierEdge],
+    out: &Outgoing,
+    from: &[u32],
+    asked: &Q,
+) -> Result<Option<Walk>, Memory>
+    requires hierarchy { IsHierarchy edges.now }
+    requires outgoing { IsOutgoing edges.now out.now.first.items out.now.next.items }
+    requires starts { (i s : ℕ) → item_at from.now i ≡ Some s → s < 1_000 }
+    ensures { IfOk result (λ found. MatchOption found
+        (HasNoWalk (role_arcs (Q.passes asked.now) edges.now) (Q.goals asked.now) (roles_of from.now))
+        (λ walk. IsLeastWalk (role_arcs (Q.passes asked.now) edges.now) (Q.goals asked.now) (roles_of from.now) (record { start = walk.start; arcs = walk.edges }))) }
+{
+    let mut seen = unmarked(alloc)?;
+    let mut queue = begun(alloc, edges, asked, from, &mut seen)?;
+    let mut head = 0;
+    while head < queue.len() {
+        if asked.is_goal(RoleId(queue[head].role)) {
+            return Ok(Some(walk_to(alloc, &queue, head)?));
+        }
+        follow(edges, out, from, asked, head, &mut seen, &mut queue)?;
+        head += 1;
+    }
+    Ok(None)
+}
+
+/// A mark for each role, none of them set.
+fn unmarked(alloc: Global) -> Result<Vec<bool>, Memory>
+    ensures { IfOk result (λ marks. marks.items ≡ replicate 1_000 false) }
+{
+    vec![in alloc; false; 1_000]
+}
+
+/// The starts, each of them marked.
+fn begun<Q: Question>(
+    alloc: Global,
+    edges: &[HierEdge],
+    asked: &Q,
+    from: &[u32],
+    seen: &mut [bool],
+) -> Result<Vec<Found>, Memory>
+    requires unmarked { (v : ℕ) → is_seen seen.old v ≡ true → ⊥ }
+    requires starts { (i s : ℕ) → item_at from.now i ≡ Some s → s < length seen.old }
+    ensures size { length seen.new ≡ length seen.old }
+    ensures searched { IfOk result (λ queue. HasSearched (Q.passes asked.now) (Q.goals asked.now) edges.now from.now (length from.now) seen.new queue.items 0 0 0) }
+{
+    let mut queue = Vec::new(alloc);
+    for (place, role) in from.iter().enumerate() {
+        seen[*role as usize] = true;
+        queue.push(Found {
+            role: *role,
+            by: NONE,
+            before: place,
+        })?;
+    }
+    Ok(queue)
+}
+
+/// Follows the open edges of what was found at the head to each role that was not seen.
+fn follow<Q: Question>(
+    edges: &[HierEdge],
+    out: &Outgoing,
+    from: &[u32],
+    asked: &Q,
+    head: usize,
+    seen: &mut [bool],
+    queue: &mut Vec<Found>,
+) -> Result<(), Memory>
+    requires hierarchy { (length edges.now ≤ 4_000) × AreWithin (length seen.old) edges.now }
+    requires outgoing { IsOutgoing edges.now out.now.first.items out.now.next.items }
+    requires head { head < length queue.old.items }
+    requires searched { HasSearched (Q.passes asked.now) (Q.goals asked.now) edges.now from.now (length from.now) seen.old queue.old.items (head + 1) head 0 }
+    ensures size { OnOk result (length seen.new ≡ length seen.old) }
+    ensures fewer { OnOk result (length queue.new.items + count_by not seen.new ≤ length queue.old.items + count_by not seen.old) }
+    ensures searched { OnOk result (HasSearched (Q.passes asked.now) (Q.goals asked.now) edges.now from.now (length from.now) seen.new queue.new.items (head + 1) (head + 1) 0) }
+{
+    let mut n = first_of(out, queue[head].role);
+    while n != NONE {
+        let e = &edges[n as usize];
+        let junior = e.junior.0;
+        if !seen[junior as usize] && asked.may_pass(n, e) {
+            seen[junior as usize] = true;
+            queue.push(Found {
+                role: junior,
+                by: n,
+                before: head,
+            })?;
+        }
+        n = out.next[n as usize];
+    }
+    Ok(())
+}
+
+/// The walk by which the role at this place was found.
+fn walk_to(alloc: Global, queue: &[Found], at: usize) -> Result<Walk, Memory>
+    requires inside { at < length queue.now }
+    requires tells { HasStops queue.now }
+    ensures { IfOk result (λ walk. IsWalkTo queue.now at walk.start.0 walk.edges) }
+{
+    let mut numbers = Vec::new(alloc);
+    let mut i = at;
+    while queue[i].by != NONE {
+        numbers.push(queue[i].by)?;
+        i = queue[i].before;
+    }
+    numbers.reverse();
+    Ok(Walk {
+        start: RoleId(queue[i].role),
+        edges: List::from(numbers),
+    })
+}

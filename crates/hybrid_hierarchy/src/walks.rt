@@ -1,0 +1,191 @@
+//! Usable edges, and the walks that allow an activation or lend a permission.
+ghost use Rattle.std.specs.Prelude.{◌≡◌, ◌&&◌, [], nat_lt, cond, filter, IfOk};
+ghost use Rattle.std.specs.List.{range_with_len};
+ghost use Rattle.gt_base.specs.declared.events.Fluent.TheVariants.{Enabled, Assigned, Granted, Edge};
+ghost use Rattle.gt_base.specs.Sets.{has};
+ghost use Rattle.gtrbac_model.specs.Same.{same_role, lists};
+ghost use Rattle.gtrbac_model.specs.Hierarchy.{usable, activation_walk, permission_walk, permission_walk_of_any};
+ghost use Rattle.hybrid_hierarchy.specs.Nets.{IsHierarchy};
+ghost use Rattle.hybrid_hierarchy.specs.Searches.{IsOutgoing};
+
+use crate::outgoing::{Outgoing, outgoing_of};
+use crate::questions::{Activating, Lending, LendingByAny};
+use crate::searching::least;
+use gt_base::{Fluent, HierEdge, List, Memory, PermId, RoleId, Status, UserId, Walk};
+use std::alloc::Global;
+
+/// One more than the greatest number of a role.
+const ROLES: u32 = 1_000;
+
+/// Whether edge n is on and usable in the status: to lend permissions where `inherits`, else to allow activation. A weak edge that lends needs its
+/// senior enabled, a weak one that allows activation its junior, and a strong edge both. An edge that does not do what is asked is not usable.
+/// It takes no memory.
+pub fn usable(n: u32, e: &HierEdge, status: &Status, inherits: bool) -> bool
+    ensures { result ≡ usable (has status.now.set) inherits n e.now }
+{
+    if inherits {
+        e.inherits && is_passable(n, e, status, e.senior)
+    } else {
+        e.activates && is_passable(n, e, status, e.junior)
+    }
+}
+
+/// Whether edge n is on, and the role that a weak edge asks for is enabled, or both are where it is strong.
+fn is_passable(n: u32, e: &HierEdge, status: &Status, weak: RoleId) -> bool
+    ensures { result ≡ has status.now.set (Edge n) && cond e.now.strong (has status.now.set (Enabled e.now.senior) && has status.now.set (Enabled e.now.junior)) (has status.now.set (Enabled weak)) }
+{
+    if !status.is_on(Fluent::Edge(n)) {
+        false
+    } else if e.strong {
+        status.is_on(Fluent::Enabled(e.senior)) && status.is_on(Fluent::Enabled(e.junior))
+    } else {
+        status.is_on(Fluent::Enabled(weak))
+    }
+}
+
+/// The roles to which the user is assigned, ascending.
+fn assigned_roles(alloc: Global, status: &Status, user: UserId) -> Result<Vec<u32>, Memory>
+    ensures { IfOk result (λ roles. roles.items ≡ filter (λ r. has status.now.set (Assigned user (record { 0 = r }))) (range_with_len 0 1_000)) }
+{
+    (0..ROLES)
+        .filter(|r| status.is_on(Fluent::Assigned(user, RoleId(*r))))
+        .collect(alloc)
+}
+
+/// Whether the role is among these.
+fn is_listed(roles: &[RoleId], role: RoleId) -> bool
+    ensures { result ≡ lists same_role roles.now role }
+{
+    roles.iter().any(|r| role.0 == r.0)
+}
+
+/// The roles of the list, ascending and each once.
+fn listed_roles(alloc: Global, roles: &[RoleId]) -> Result<Vec<u32>, Memory>
+    ensures { IfOk result (λ listed. listed.items ≡ filter (λ r. lists same_role roles.now (record { 0 = r })) (range_with_len 0 1_000)) }
+{
+    (0..ROLES)
+        .filter(|r| is_listed(roles, RoleId(*r)))
+        .collect(alloc)
+}
+
+/// Whether the user is assigned to the role itself.
+pub(crate) fn is_assigned(status: &Status, user: UserId, role: RoleId) -> bool
+    ensures { result ≡ (nat_lt role.0 1_000 && has status.now.set (Assigned user role)) }
+{
+    role.0 < ROLES && status.is_on(Fluent::Assigned(user, role))
+}
+
+/// The walk that stays where it begins.
+pub(crate) fn standing(alloc: Global, role: RoleId) -> Walk
+    ensures { result ≡ record { start = role; edges = [] } }
+{
+    Walk {
+        start: role,
+        edges: List::new(alloc),
+    }
+}
+
+/// The least walk by which the user may activate the role, over edges that were indexed.
+pub(crate) fn activation(
+    alloc: Global,
+    edges: &[HierEdge],
+    out: &Outgoing,
+    status: &Status,
+    user: UserId,
+    role: RoleId,
+) -> Result<Option<Walk>, Memory>
+    requires hierarchy { IsHierarchy edges.now }
+    requires outgoing { IsOutgoing edges.now out.now.first.items out.now.next.items }
+    ensures { IfOk result (λ walk. walk ≡ activation_walk edges.now (has status.now.set) user role) }
+{
+    let from = assigned_roles(alloc, status, user)?;
+    least(alloc, edges, out, &from, &Activating { status, role })
+}
+
+/// The least walk of usable edges by which one of the active roles is lent the permission, over edges that were indexed.
+pub(crate) fn lending(
+    alloc: Global,
+    edges: &[HierEdge],
+    out: &Outgoing,
+    status: &Status,
+    active: &[RoleId],
+    perm: PermId,
+) -> Result<Option<Walk>, Memory>
+    requires hierarchy { IsHierarchy edges.now }
+    requires outgoing { IsOutgoing edges.now out.now.first.items out.now.next.items }
+    ensures { IfOk result (λ walk. walk ≡ permission_walk edges.now (has status.now.set) active.now perm) }
+{
+    let from = listed_roles(alloc, active)?;
+    least(alloc, edges, out, &from, &Lending { status, perm })
+}
+
+/// The same walk where all edges that lend permissions are taken.
+pub(crate) fn lending_by_any(
+    alloc: Global,
+    edges: &[HierEdge],
+    out: &Outgoing,
+    status: &Status,
+    active: &[RoleId],
+    perm: PermId,
+) -> Result<Option<Walk>, Memory>
+    requires hierarchy { IsHierarchy edges.now }
+    requires outgoing { IsOutgoing edges.now out.now.first.items out.now.next.items }
+    ensures { IfOk result (λ walk. walk ≡ permission_walk_of_any edges.now (has status.now.set) active.now perm) }
+{
+    let from = listed_roles(alloc, active)?;
+    least(alloc, edges, out, &from, &LendingByAny { status, perm })
+}
+
+/// By which walk of usable edges the user may activate the role: the least by the number of its edges, then by the number of the assigned
+/// role where it begins, then by the numbers of its edges. None exactly where there is none. For want of memory it may refuse.
+pub fn may_activate(
+    alloc: Global,
+    edges: &List<HierEdge>,
+    status: &Status,
+    user: UserId,
+    role: RoleId,
+) -> Result<Option<Walk>, Memory>
+    requires { IsHierarchy edges.now.items }
+    ensures { IfOk result (λ walk. walk ≡ activation_walk edges.now.items (has status.now.set) user role) }
+{
+    if is_assigned(status, user, role) {
+        return Ok(Some(standing(alloc, role)));
+    }
+    let edges = edges.as_slice();
+    let out = outgoing_of(alloc, edges)?;
+    activation(alloc, edges, &out, status, user, role)
+}
+
+/// By which walk of usable edges one of the active roles is lent the permission: the least by the number of its edges, then by the number of
+/// the active role, then by the numbers of its edges. None exactly where there is none. For want of memory it may refuse.
+pub fn reaches(
+    alloc: Global,
+    edges: &List<HierEdge>,
+    status: &Status,
+    active: &[RoleId],
+    perm: PermId,
+) -> Result<Option<Walk>, Memory>
+    requires { IsHierarchy edges.now.items }
+    ensures { IfOk result (λ walk. walk ≡ permission_walk edges.now.items (has status.now.set) active.now perm) }
+{
+    let edges = edges.as_slice();
+    let out = outgoing_of(alloc, edges)?;
+    lending(alloc, edges, &out, status, active, perm)
+}
+
+/// The same walk where it is not asked which edges are usable: all that lend permissions are taken. None exactly where there is none. For
+/// want of memory it may refuse.
+pub fn reaches_any(
+    alloc: Global,
+    edges: &List<HierEdge>,
+    status: &Status,
+    active: &[RoleId],
+    perm: PermId,
+) -> Result<Option<Walk>, Memory>
+    requires { IsHierarchy edges.now.items }
+    ensures { IfOk result (λ walk. walk ≡ permission_walk_of_any edges.now.items (has status.now.set) active.now perm) }
+{
+    let edges = edges.as_slice();
+    let out = outgoing_of(alloc, edges)?;
+    lending_by_any(alloc, edges, &out, status, active, perm)
+}

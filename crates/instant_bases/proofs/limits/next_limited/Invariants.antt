@@ -1,0 +1,11 @@
+use Rattle.std.proofs.Common.{take}
+use Rattle.gt_base.specs.Sets.{has}
+use Rattle.gtrbac_model.specs.Base.{limited_from}
+use Rattle.gtrbac_model.specs.History.{is_some_item}
+use Rattle.duration_limits.specs.Since.{since_in}
+use Rattle.instant_bases.specs.Nexts.{IsNextOf}
+use Rattle.instant_bases.proofs.limits.next_limited.Given as goal
+
+-- the least instant of the limits so far
+abbrev pub invariant-loop-n : goal.invariant-loop-n
+invariant-loop-n l = IsNextOf (λ t. is_some_item (limited_from l.periods (has l.status.set) (since_in l.ages) 0 (take l.n l.limits) t)) l.now l.next

@@ -1,0 +1,10 @@
+-- Answers that are kept.
+use Rattle.std.specs.Prelude.{ℕ, Bool}
+use Rattle.instant_bases.specs.Nexts.{IsNextOf}
+use Rattle.instant_bases.specs.declared.kept.Kept.{Kept}
+use Rattle.instant_bases.specs.declared.kept.Kept.TheVariants.{Unasked, Next}
+
+-- what was asked is the next instant after this one that passes the test
+abbrev pub IsKept : (ℕ → Bool) → ℕ → Kept → Type 0
+IsKept test at Unasked = Unit {0}
+IsKept test at (Next t) = IsNextOf test at t

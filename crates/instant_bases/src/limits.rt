@@ -1,0 +1,133 @@
+//! What the duration limits raise at an instant, and when they raise something next.
+ghost use Rattle.std.specs.Prelude.{◌≡◌, ℕ, ◌<◌, ◌≤◌, ◌+◌, ◌-◌, ◌++◌, max, length, OnOk, IfSome};
+ghost use Rattle.gt_base.specs.Bounds.{last_minute};
+ghost use Rattle.gt_base.specs.declared.events.Fluent.{Fluent};
+ghost use Rattle.gt_base.specs.declared.policies.LimitRule.{LimitRule as LimitRuleOf};
+ghost use Rattle.gt_base.specs.Sets.{has};
+ghost use Rattle.gtrbac_model.specs.Base.{limited_from, is_ripe as ripe_at};
+ghost use Rattle.gtrbac_model.specs.History.{is_some_item};
+ghost use Rattle.duration_limits.specs.Since.{since_in};
+ghost use Rattle.duration_limits.specs.Following.{in_period as within};
+ghost use Rattle.instant_bases.specs.Nexts.{IsNextOf, ending};
+
+use crate::least::{earlier, known, minute_after, minute_before};
+use crate::periods::{is_inside, next_within};
+use crate::raising::push_if;
+use crate::watches::Watch;
+use duration_limits::Ages;
+use gt_base::{Event, Instant, LimitId, LimitRule, Memory, PeriodId, Prioritised, Status};
+
+/// Adds what the duration limits raise at t, on the status before it, in their order.
+pub fn push_limited(
+    raised: &mut Vec<Prioritised>,
+    periods: &[Watch],
+    limits: &[LimitRule],
+    status: &Status,
+    ages: &Ages,
+    t: Instant,
+) -> Result<(), Memory>
+    requires { length limits.now ≤ 1_000 }
+    ensures { OnOk result (raised.new.items ≡ raised.old.items ++ limited_from periods.now (has status.now.set) (since_in ages.now) 0 limits.now t) }
+{
+    for n in 0..limits.len() {
+        let limit = &limits[n];
+        let ripe = is_ripe(periods, LimitId(n as u32), limit, status, ages, t);
+        push_if(raised, ripe, ended(limit))?;
+    }
+    Ok(())
+}
+
+/// Whether the limit of this number ends its condition at t.
+fn is_ripe(
+    periods: &[Watch],
+    id: LimitId,
+    limit: &LimitRule,
+    status: &Status,
+    ages: &Ages,
+    t: Instant,
+) -> bool
+    ensures { result ≡ ripe_at periods.now (has status.now.set) (since_in ages.now) id.0 limit.now t }
+{
+    ages.ripe(id, limit, status, t) && is_there(periods, limit.period, t)
+}
+
+/// Whether the instant is in the period, if there is one.
+fn is_there(periods: &[Watch], period: Option<PeriodId>, t: Instant) -> bool
+    ensures { (l : LimitRuleOf) → l.period ≡ period → result ≡ within periods.now l t }
+{
+    match period {
+        Some(id) => is_inside(periods, id, t),
+        None => true,
+    }
+}
+
+/// The converse of the limit's condition, at its priority.
+fn ended(limit: &LimitRule) -> Prioritised
+    ensures { result ≡ ending limit.now }
+{
+    let event = Event {
+        on: limit.cond.on,
+        fluent: limit.cond.fluent,
+    };
+    Prioritised {
+        prio: limit.prio,
+        event: event.converse(),
+    }
+}
+
+/// The least instant after now at which one of the duration limits ends its condition while the status stays, none exactly
+/// where there is none. It takes no memory.
+pub fn next_limited(
+    periods: &[Watch],
+    limits: &[LimitRule],
+    status: &Status,
+    ages: &Ages,
+    now: Instant,
+) -> Option<Instant>
+    requires few { length limits.now ≤ 1_000 }
+    requires past { (f : Fluent) → since_in ages.now f ≤ now }
+    ensures { IsNextOf (λ t. is_some_item (limited_from periods.now (has status.now.set) (since_in ages.now) 0 limits.now t)) now result }
+{
+    let mut next = None;
+    for n in 0..limits.len() {
+        let id = LimitId(n as u32);
+        next = earlier(next, next_ripe(periods, id, &limits[n], status, ages, now));
+    }
+    next
+}
+
+/// The least instant after now at which the limit of this number ends its condition.
+fn next_ripe(
+    periods: &[Watch],
+    id: LimitId,
+    limit: &LimitRule,
+    status: &Status,
+    ages: &Ages,
+    now: Instant,
+) -> Option<Instant>
+    requires { since_in ages.now limit.now.cond.fluent ≤ now }
+    ensures { IsNextOf (ripe_at periods.now (has status.now.set) (since_in ages.now) id.0 limit.now) now result }
+{
+    match ages.ripe_from(id, limit, status) {
+        Some(from) => next_there(periods, limit.period, later_start(from, now)),
+        None => None,
+    }
+}
+
+/// Now, or the minute before the other instant where that is after now.
+fn later_start(from: Instant, now: Instant) -> Instant
+    ensures { result ≡ max (from - 1) now }
+{
+    if now < from { minute_before(from) } else { now }
+}
+
+/// The least instant after this one that is in the period, if there is one.
+fn next_there(periods: &[Watch], period: Option<PeriodId>, after: Instant) -> Option<Instant>
+    ensures next { (l : LimitRuleOf) → l.period ≡ period → IsNextOf (within periods.now l) after result }
+    ensures bound { IfSome result (λ t. t ≤ last_minute) }
+{
+    match period {
+        Some(id) => known(next_within(periods, id, after)),
+        None => known(minute_after(after)),
+    }
+}

@@ -1,0 +1,66 @@
+//! The periods of a policy, by number.
+ghost use Rattle.std.specs.Prelude.{◌≡◌, ◌-◌, MatchOption, None, Some, true};
+ghost use Rattle.gtrbac_model.specs.Base.{period_test};
+ghost use Rattle.gtrbac_model.specs.Graph.{item_at};
+ghost use Rattle.gtrbac_model.specs.Period.{inside as insides, starts as started};
+ghost use Rattle.instant_bases.specs.Nexts.{IsNextOf};
+
+use crate::watches::Watch;
+use gt_base::{Instant, PeriodId};
+
+/// The period of this number, if there is one.
+pub(crate) fn period_at(periods: &[Watch], id: PeriodId) -> Option<&Watch>
+    ensures { MatchOption result (item_at periods.now id.0 ≡ None) (λ p. item_at periods.now id.0 ≡ Some p.now) }
+{
+    periods.get(id.0 as usize)
+}
+
+/// Whether the period of this number is there at the instant.
+pub(crate) fn is_inside(periods: &[Watch], id: PeriodId, t: Instant) -> bool
+    ensures { result ≡ period_test insides periods.now id t }
+{
+    match period_at(periods, id) {
+        Some(p) => p.inside(t),
+        None => false,
+    }
+}
+
+/// Whether the period of this number starts at the instant.
+pub(crate) fn is_start(periods: &[Watch], id: PeriodId, t: Instant) -> bool
+    ensures { result ≡ period_test started periods.now id t }
+{
+    match period_at(periods, id) {
+        Some(p) => p.starts(t),
+        None => false,
+    }
+}
+
+/// Whether it is known that the period of this number is there exactly where it is the minute before.
+pub(crate) fn keeps_on(periods: &[Watch], id: PeriodId, t: Instant) -> bool
+    ensures { result ≡ true → period_test insides periods.now id t ≡ period_test insides periods.now id (t - 1) }
+{
+    match period_at(periods, id) {
+        Some(p) => p.keeps_on(t),
+        None => true,
+    }
+}
+
+/// The least instant after this one that is in the period of this number.
+pub(crate) fn next_within(periods: &[Watch], id: PeriodId, after: Instant) -> Option<Instant>
+    ensures { IsNextOf (period_test insides periods.now id) after result }
+{
+    match period_at(periods, id) {
+        Some(p) => p.next_inside(after),
+        None => None,
+    }
+}
+
+/// The least instant after this one at which the period of this number starts.
+pub(crate) fn next_begin(periods: &[Watch], id: PeriodId, after: Instant) -> Option<Instant>
+    ensures { IsNextOf (period_test started periods.now id) after result }
+{
+    match period_at(periods, id) {
+        Some(p) => p.next_start(after),
+        None => None,
+    }
+}

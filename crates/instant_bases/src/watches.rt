@@ -1,0 +1,253 @@
+//! Periods that remember what was asked of them.
+ghost use Rattle.std.specs.Prelude.{◌≡◌, true, false, IfOk};
+ghost use Rattle.calendar_match.specs.Next.{turns as turned};
+ghost use Rattle.gtrbac_model.specs.Period.{inside as insides, starts as started};
+ghost use Rattle.instant_bases.specs.Kept.{IsKept};
+ghost use Rattle.instant_bases.specs.Nexts.{IsNextOf};
+
+use crate::kept::{Kept, recalled, told};
+use calendar_match::{inside, next_edge, next_inside, next_start, starts};
+use gt_base::{Form, Instant, LimitRule, Memory, PeriodId, PeriodicEntry};
+use periodic_expr::Period;
+use std::alloc::Global;
+use std::marker::Model;
+
+/// A period with the next instants that were asked of it, each kept until it is past. It is seen as the period.
+pub struct Watch {
+    period: Period,
+    at: Instant,
+    inside: Kept,
+    start: Kept,
+    edge: Kept,
+}
+
+impl Model for Watch {
+    ghost use Rattle.calendar_match.specs.Next.{turns as turned};
+    ghost use Rattle.gtrbac_model.specs.Period.{Period as Bounded, period_code, inside as insides, starts as started};
+    ghost use Rattle.instant_bases.specs.Kept.{IsKept};
+
+    ghost Value = { Bounded };
+
+    ghost coded = { period_code };
+
+    ghost view = { λ w. w.period };
+
+    ghost invariant = { λ w. IsKept (insides w.period) w.at w.inside × IsKept (started w.period) w.at w.start × IsKept (turned w.period) w.at w.edge };
+}
+
+impl Drop for Watch {
+    fn drop(self) {
+        let Watch {
+            period: _,
+            at: _,
+            inside: _,
+            start: _,
+            edge: _,
+        } = self;
+    }
+}
+
+impl Watch {
+    /// The period, of which nothing was asked.
+    fn new(period: Period, at: Instant) -> Watch
+        ensures { result ≡ period }
+    {
+        Watch {
+            period,
+            at,
+            inside: Kept::Unasked,
+            start: Kept::Unasked,
+            edge: Kept::Unasked,
+        }
+    }
+
+    /// An equal period, with what was asked of it.
+    fn copied(&self, alloc: Global) -> Result<Watch, Memory>
+        ensures { IfOk result (λ copy. copy ≡ self.now) }
+    {
+        Ok(Watch {
+            period: self.period.copied(alloc)?,
+            at: self.at,
+            inside: self.inside,
+            start: self.start,
+            edge: self.edge,
+        })
+    }
+
+    /// The least instant after this one that is inside.
+    pub(crate) fn next_inside(&self, after: Instant) -> Option<Instant>
+        ensures { IsNextOf (insides self.now) after result }
+    {
+        match recalled(self.inside, self.at, after) {
+            Kept::Next(t) => t,
+            Kept::Unasked => next_inside(&self.period, after),
+        }
+    }
+
+    /// The least instant after this one at which the period starts.
+    pub(crate) fn next_start(&self, after: Instant) -> Option<Instant>
+        ensures { IsNextOf (started self.now) after result }
+    {
+        match recalled(self.start, self.at, after) {
+            Kept::Next(t) => t,
+            Kept::Unasked => next_start(&self.period, after),
+        }
+    }
+
+    /// The least instant after this one that is inside where the minute before is not, or the other way round.
+    pub(crate) fn next_edge(&self, after: Instant) -> Option<Instant>
+        ensures { IsNextOf (turned self.now) after result }
+    {
+        match recalled(self.edge, self.at, after) {
+            Kept::Next(t) => t,
+            Kept::Unasked => next_edge(&self.period, after),
+        }
+    }
+
+    /// Whether the instant is inside.
+    pub(crate) fn inside(&self, t: Instant) -> bool
+        ensures { result ≡ insides self.now t }
+    {
+        match told(self.inside, self.at, t) {
+            Some(holds) => holds,
+            None => inside(&self.period, t),
+        }
+    }
+
+    /// Whether the period starts at the instant.
+    pub(crate) fn starts(&self, t: Instant) -> bool
+        ensures { result ≡ started self.now t }
+    {
+        match told(self.start, self.at, t) {
+            Some(holds) => holds,
+            None => starts(&self.period, t),
+        }
+    }
+
+    /// Whether it is known that the instant is inside exactly where the minute before is.
+    pub(crate) fn keeps_on(&self, t: Instant) -> bool
+        ensures { result ≡ true → turned self.now t ≡ false }
+    {
+        match told(self.edge, self.at, t) {
+            Some(turns) => !turns,
+            None => false,
+        }
+    }
+
+    /// Asks what an entry of this form wants to know, unless it was asked.
+    fn ask(&mut self, form: Form)
+        ensures { self.new ≡ self.old }
+    {
+        match form {
+            Form::Each => self.inside = Kept::Next(self.next_inside(self.at)),
+            Form::Start => self.start = Kept::Next(self.next_start(self.at)),
+            Form::Span => self.edge = Kept::Next(self.next_edge(self.at)),
+        }
+    }
+
+    fn inside_from(&self, now: Instant) -> Kept
+        ensures { IsKept (insides self.now) now result }
+    {
+        match self.inside {
+            Kept::Next(_) => Kept::Next(self.next_inside(now)),
+            Kept::Unasked => Kept::Unasked,
+        }
+    }
+
+    fn start_from(&self, now: Instant) -> Kept
+        ensures { IsKept (started self.now) now result }
+    {
+        match self.start {
+            Kept::Next(_) => Kept::Next(self.next_start(now)),
+            Kept::Unasked => Kept::Unasked,
+        }
+    }
+
+    fn edge_from(&self, now: Instant) -> Kept
+        ensures { IsKept (turned self.now) now result }
+    {
+        match self.edge {
+            Kept::Next(_) => Kept::Next(self.next_edge(now)),
+            Kept::Unasked => Kept::Unasked,
+        }
+    }
+
+    /// Asks again what is past at the instant.
+    fn pass(&mut self, now: Instant)
+        ensures { self.new ≡ self.old }
+    {
+        let inside = self.inside_from(now);
+        let start = self.start_from(now);
+        let edge = self.edge_from(now);
+        self.inside = inside;
+        self.start = start;
+        self.edge = edge;
+        self.at = now;
+    }
+}
+
+/// Copies of the periods, of which nothing was asked.
+pub fn watch_all(alloc: Global, periods: &[Period], at: Instant) -> Result<Vec<Watch>, Memory>
+    ensures { IfOk result (λ watches. watches.items ≡ periods.now) }
+{
+    let mut watches = Vec::new(alloc);
+    for p in periods {
+        watches.push(Watch::new(p.copied(alloc)?, at))?;
+    }
+    Ok(watches)
+}
+
+/// Equal periods, with what was asked of them.
+pub fn copied_watches(alloc: Global, watches: &[Watch]) -> Result<Vec<Watch>, Memory>
+    ensures { IfOk result (λ copies. copies.items ≡ watches.now) }
+{
+    let mut copies = Vec::new(alloc);
+    for w in watches {
+        copies.push(w.copied(alloc)?)?;
+    }
+    Ok(copies)
+}
+
+/// Asks what the entries and the limits want to know of their periods, once of each. It takes no memory.
+pub fn ask_all(watches: &mut [Watch], entries: &[PeriodicEntry], limits: &[LimitRule])
+    ensures { watches.new ≡ watches.old }
+{
+    ask_entries(watches, entries);
+    ask_limits(watches, limits);
+}
+
+fn ask_entries(watches: &mut [Watch], entries: &[PeriodicEntry])
+    ensures { watches.new ≡ watches.old }
+{
+    for e in entries {
+        ask_one(watches, e.period, e.form);
+    }
+}
+
+fn ask_limits(watches: &mut [Watch], limits: &[LimitRule])
+    ensures { watches.new ≡ watches.old }
+{
+    for limit in limits {
+        if let Some(id) = limit.period {
+            ask_one(watches, id, Form::Each);
+        }
+    }
+}
+
+fn ask_one(watches: &mut [Watch], id: PeriodId, form: Form)
+    ensures { watches.new ≡ watches.old }
+{
+    let n = id.0 as usize;
+    if n < watches.len() {
+        watches[n].ask(form);
+    }
+}
+
+/// Asks again what is past at the instant. It takes no memory.
+pub fn pass_all(watches: &mut Vec<Watch>, now: Instant)
+    ensures { watches.new.items ≡ watches.old.items }
+{
+    for w in watches.iter_mut() {
+        w.pass(now);
+    }
+}

@@ -1,0 +1,69 @@
+-- What the closed desk tells of a worker: its links over the whole history, and their parts of it one after the other.
+use Rattle.std.proofs.Common.{◌≡◌, ◌≢◌, ℕ, ◌+◌, ◌<◌, ◌≤◌, List, [], ◌∷◌, ◌++◌, length, drop, refl, sym, ap, subst, ◌∙◌, arith, append-nil, length-append, Option, Some, None, IfSome}
+use mathlib.Core.List.{IsPrefix}
+use Rattle.gt_base.specs.declared.requests.Entry.{Entry}
+use Rattle.gt_io.specs.Links.{Traffic}
+use Rattle.turn_lock.specs.Turns.{part}
+use Rattle.turn_lock.specs.Holders.{Holder, IsTold}
+use Rattle.locked_history.specs.Fronts.{by}
+use Rattle.policy_words.specs.Naming.{NamedPolicy}
+use Rattle.connection_laws.specs.Connection.{part_of}
+use Rattle.connection_laws.proofs.Places.{part_of-append, part_of-part, all_mine}
+use Rattle.line_server.specs.declared.ended.Served.{Served}
+use Rattle.line_server.specs.declared.ended.WorkEnd.{WorkEnd}
+use Rattle.line_server.specs.Working.{Tale, begun_of, owns_of, Gives, Spot, AreServed, Works, AreParts, IsTellingOfWorkers}
+use Rattle.line_server.proofs.Links.{none_mine, served_longer}
+
+module _ {L : Type 0} (traffic : L → Traffic) (np : NamedPolicy) (first : List Entry) (legal : List Entry → Type 0) (now : List Entry → ℕ) (w : ℕ) where
+  later_none : (h own : List Entry) (c k : ℕ) (ss : List (Served L)) (xs : List (Tale L)) → k < c → AreServed traffic np first legal now w h own c ss xs → part_of (by w k) (owns_of xs) ≡ []
+  later_none h own c k [] [] far all = refl
+  later_none h own c k [] (x ∷ xs) far all = absurd all
+  later_none h own c k (s ∷ ss) [] far all = absurd all
+  later_none h own c k (s ∷ ss) (x ∷ xs) far all =
+      part_of-append (by w k) x.own (owns_of xs)
+      ∙ ap (λ (es : List Entry). es ++ part_of (by w k) (owns_of xs)) (none_mine w c k x.own (λ same. absurd (omega (arith, same, far))) all.0.mine)
+      ∙ later_none h own (c + 1) k ss xs (omega (arith, far)) all.1
+
+  parts_from : (es h own : List Entry) (c : ℕ) (ss : List (Served L)) (xs : List (Tale L)) → AreServed traffic np first legal now w h own c ss xs
+      → ((k : ℕ) → c ≤ k → part_of (by w k) es ≡ part_of (by w k) (owns_of xs)) → AreParts es w c xs
+  parts_from es h own c [] [] all same = tt
+  parts_from es h own c [] (x ∷ xs) all same = absurd all
+  parts_from es h own c (s ∷ ss) [] all same = absurd all
+  parts_from es h own c (s ∷ ss) (x ∷ xs) all same = (
+    same c (omega arith) ∙ part_of-append (by w c) x.own (owns_of xs)
+        ∙ ap (λ (l : List Entry). l ++ part_of (by w c) (owns_of xs)) (all_mine (by w c) x.own all.0.mine)
+        ∙ ap (λ (l : List Entry). x.own ++ l) (later_none h own (c + 1) c ss xs (omega arith) all.1) ∙ append-nil x.own,
+    parts_from es h own (c + 1) ss xs all.1 (λ k far. same k (omega (arith, far)) ∙ part_of-append (by w k) x.own (owns_of xs)
+        ∙ ap (λ (l : List Entry). l ++ part_of (by w k) (owns_of xs)) (none_mine w c k x.own (λ e. absurd (omega (arith, e, far))) all.0.mine)),
+  )
+
+module _ {M L : Type 0} (traffic : L → Traffic) (np : NamedPolicy) (first : List Entry) (legal : List Entry → Type 0) (now : List Entry → ℕ) where
+  -- the final history h, of a worker whose pass had no entry before
+  pub worker_told : IsTellingOfWorkers M traffic np first legal now
+  worker_told w o p f f' served end h fresh number k told =
+      let t = k.tales in
+      let own_is : p.pass.own ≡ owns_of t = ap (λ (q : Holder M). q.own) k.worked.grows.after_is ∙ ap (λ (es : List Entry). es ++ owns_of t) fresh in
+      let whole : part w (drop (length first) h) ≡ owns_of t = ap (λ (n : ℕ). part n (drop (length first) h)) (sym number) ∙ sym told.1 ∙ own_is in
+      let links = subst (λ (own : List Entry). AreServed traffic np first legal now w h own 1 served t) fresh (served_longer traffic np first legal now w p.pass.seen h o.pass.own 1 served t told.0 k.worked.links) in (
+        t,
+        links,
+        whole,
+        parts_from traffic np first legal now w (drop (length first) h) h [] 1 served t links (λ j far. sym (part_of-part (by w j) (drop (length first) h)) ∙ ap (part_of (by w j)) whole),
+        k.worked.door,
+      )
+
+same_some : {A : Type 0} (x y : A) → Some x ≡ Some y → x ≡ y
+same_some x y e = cc
+
+begun_long : {L : Type 0} (tales : List (Tale L)) → length (begun_of tales) ≡ length tales
+begun_long [] = refl
+begun_long (x ∷ xs) = let e = begun_long xs in omega (arith, e)
+
+-- served and remaining links add up to those that the door had
+pub links_add_up : {L : Type 0} (had left : List L) (door : Option (List L)) (tales : List (Tale L)) → Gives (Some had) door (begun_of tales) → door ≡ Some left → length tales + length left ≡ length had
+links_add_up {L} had left door tales g is =
+    let same : g.0 ≡ left = same_some g.0 left (sym g.2 ∙ is) in
+    let all = ap (λ (ls : List L). length ls) (g.1 ∙ ap (λ (ls : List L). begun_of tales ++ ls) same) in
+    let both = length-append (begun_of tales) left in
+    let count = begun_long tales in
+    omega (arith, all, both, count)

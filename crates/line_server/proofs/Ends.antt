@@ -1,0 +1,120 @@
+-- How a service begins and ends.
+use Rattle.std.proofs.Common.{◌≡◌, ℕ, ◌+◌, ◌*◌, ◌≤◌, ◌^◌, List, [], ◌∷◌, ◌++◌, length, refl, sym, ap, subst, ◌∙◌, arith, append_assoc, add-zero, Option}
+use Rattle.std.specs.Io.KnownBytes.{Appends, Consumes, IsAtEnd}
+use Rattle.std.proofs.KnownBytes.{Appends-nil, Appends-kept}
+use mathlib.Core.List.{IsPrefix}
+use Rattle.gt_base.specs.declared.requests.Who.{Who}
+use Rattle.gt_base.specs.declared.requests.Actor.{Actor}
+use Rattle.gt_base.specs.declared.requests.Entry.{Entry}
+use Rattle.gt_io.specs.Causes.{Rose}
+use Rattle.gt_io.specs.Frames.{Frame, blank_frame}
+use Rattle.gt_io.specs.Links.{Traffic, ReadsNothing, WritesNothing}
+use Rattle.gt_io.proofs.Readings.{Reads-nil}
+use Rattle.turn_lock.specs.Holders.{Holder}
+use Rattle.policy_words.specs.Naming.{NamedPolicy}
+use Rattle.connection_laws.specs.Desks.{IsNamedActor}
+use Rattle.connection_laws.specs.declared.ends.LinkEnd.{LinkEnd}
+use Rattle.connection_laws.specs.declared.ends.LinkEnd.TheVariants.{Ended, ReadFault, WriteFault, Spent, Worn}
+use Rattle.connection_laws.specs.declared.ends.Report.{Report}
+use Rattle.connection_laws.specs.Cuts.{whole_lines}
+use Rattle.connection_laws.specs.Connection.{Acted, lines_of, readings_of, entries_of, IsGiven}
+use Rattle.connection_laws.proofs.Cutting.{lines_more}
+use Rattle.line_server.specs.declared.talk.Talk.{Talk}
+use Rattle.line_server.specs.Serving.{Point, IsStart, HaltsBy, EndsBy, Going, Serving, Halted, Converses, Serves, most_bytes}
+use Rattle.line_server.proofs.Growing.{grown_none}
+use Rattle.line_server.proofs.LineDone.{point}
+
+given_same : (np : NamedPolicy) (xs ys text : List ℕ) (acted : List Acted) (f f' draws : ℕ) (end : LinkEnd) → HaltsBy f f' draws end → IsGiven np xs text acted end → IsGiven np ys text acted end
+given_same np xs ys text acted f f' draws WriteFault h g = g
+given_same np xs ys text acted f f' draws (Worn n) h g = g
+given_same np xs ys text acted f f' draws Ended h g = absurd h
+given_same np xs ys text acted f f' draws ReadFault h g = absurd h
+given_same np xs ys text acted f f' draws Spent h g = absurd h
+
+cause_of : (a b : Traffic) (taken : List ℕ) (f draws : ℕ) (end : LinkEnd) → a.write_faults ≤ f → HaltsBy f b.write_faults draws end → EndsBy a b draws taken end
+cause_of a b taken f draws WriteFault low h = omega arith
+cause_of a b taken f draws (Worn n) low h = h
+cause_of a b taken f draws Ended low h = absurd h
+cause_of a b taken f draws ReadFault low h = absurd h
+cause_of a b taken f draws Spent low h = absurd h
+
+-- what follows the last call changes nothing
+cause_kept : (a b c : Traffic) (taken : List ℕ) (draws : ℕ) (end : LinkEnd) → ReadsNothing b c → WritesNothing b c → EndsBy a b draws taken end → EndsBy a c draws taken end
+cause_kept a b c taken draws Ended r w h = (subst IsAtEnd (sym r.left_kept) h.0, h.1)
+cause_kept a b c taken draws ReadFault r w h = let e = r.read_faults_are in let rose = h.0 in (omega (arith, e, rose), h.1)
+cause_kept a b c taken draws WriteFault r w h = let e = w.write_faults_are in omega (arith, e)
+cause_kept a b c taken draws Spent r w h = h
+cause_kept a b c taken draws (Worn n) r w h = h
+
+module _ {M : Type 0} (np : NamedPolicy) (first : List Entry) (legal : List Entry → Type 0) (now : List Entry → ℕ) (who : Who) where
+  pub begins : (pass : Holder M) (talk : Talk) (clock : Option (ℕ → ℕ)) (given : Option (List ℕ)) (frame : Frame) → IsStart talk → frame ≡ blank_frame
+      → Serving np first legal now who (point pass talk clock given) (point pass talk clock given) frame [] []
+  begins pass talk clock given frame start is =
+      subst (λ (f : Frame). Serving np first legal now who (point pass talk clock given) (point pass talk clock given) f [] []) (sym is)
+      (record {
+        going = record {
+          grows = grown_none pass;
+          fits = λ birth timed. tt;
+          mine = tt;
+          actor = start.0;
+          named = subst (λ (y : Actor). IsNamedActor np y) (sym start.0) (tt, tt);
+          asked = start.1;
+          denied = start.2;
+          calls = sym (add-zero talk.calls);
+          reads = Reads-nil clock;
+        };
+        frame_fits = refl;
+        lines = refl;
+        unworn = tt;
+        given = Appends-nil given;
+      })
+
+  pub cut_off : (o p : Point M) (a b : Traffic) (f : ℕ) (fed part chunk : List ℕ) (acted : List Acted) (end : LinkEnd) → Halted np first legal now who o p (fed ++ part) acted f b.write_faults end → IsPrefix part chunk
+      → a.write_faults ≤ f → Appends a.taken b.taken (fed ++ chunk) → Consumes a.left b.left (fed ++ chunk) → length (fed ++ chunk) ≤ most_bytes → Converses np first legal now who o p a b end
+  cut_off o p a b f fed part chunk acted end h within low taken left few =
+      let whole : (fed ++ part) ++ within.0 ≡ fed ++ chunk = append_assoc fed part within.0 ∙ ap (λ (l : List ℕ). fed ++ l) within.1 in
+      let more = lines_more (fed ++ part) within.0 in
+      record {
+        taken = fed ++ chunk;
+        acted = acted;
+        going = h.going;
+        lines = (more.0, ap (λ (ls : List (List ℕ)). ls ++ more.0) h.lines ∙ more.1 ∙ ap whole_lines whole);
+        text = h.text;
+        given = h.given;
+        given_is = given_same np (fed ++ part) (fed ++ chunk) h.text acted f b.write_faults p.pass.draws end h.cause h.given_is;
+        taken_is = taken;
+        left_is = left;
+        bounded = few;
+        cause = cause_of a b (fed ++ chunk) f p.pass.draws end low h.cause;
+      }
+
+  -- what is given to the link is kept by a read
+  pub serving_kept : (o : Point M) (pass : Holder M) (talk : Talk) (clock : Option (ℕ → ℕ)) (given given' : Option (List ℕ)) (frame : Frame) (fed : List ℕ) (acted : List Acted) → given' ≡ given
+      → Serving np first legal now who o (point pass talk clock given) frame fed acted → Serving np first legal now who o (point pass talk clock given') frame fed acted
+  serving_kept o pass talk clock given given' frame fed acted same s =
+      subst (λ (x : Option (List ℕ)). Serving np first legal now who o (point pass talk clock x) frame fed acted) (sym same) s
+
+  -- the report of a service
+  pub reported : (before after : Holder M) (talk talk' : Talk) (clock clock' : Option (ℕ → ℕ)) (a b c : Traffic) (end : LinkEnd) → IsStart talk
+      → Converses np first legal now who (point before talk clock a.given) (point after talk' clock' b.given) a b end → ReadsNothing b c → WritesNothing b c
+      → Serves np first legal now who before after talk.calls talk'.calls clock clock' a c (record { asked = talk'.asked; denied = talk'.denied; outcome = end })
+  reported before after talk talk' clock clock' a b c end start x r w =
+      record {
+        taken = x.taken;
+        given = x.text;
+        readings = readings_of x.acted;
+        own = entries_of x.acted;
+        acted = x.acted;
+        conn = λ birth timed. record { lines = x.lines; readings_are = refl; own_are = refl; fit = x.going.fits birth timed; given_is = x.given_is };
+        grows = x.going.grows;
+        mine = x.going.mine;
+        asked = x.going.asked;
+        denied = x.going.denied;
+        calls_are = x.going.calls;
+        taken_is = subst (λ (y : Option (List ℕ)). Appends a.taken y x.taken) (sym r.taken_kept) x.taken_is;
+        left_is = subst (λ (y : Option (List ℕ)). Consumes a.left y x.taken) (sym r.left_kept) x.left_is;
+        given_is = subst (λ (y : Option (List ℕ)). Appends a.given y x.text) (sym w.given_kept) x.given;
+        reads = x.going.reads;
+        bounded = x.bounded;
+        cause = cause_kept a b c x.taken after.draws end r w x.cause;
+      }

@@ -1,0 +1,11 @@
+pub mod Growing
+pub mod Asking
+pub mod Deciding
+pub mod Acting
+pub mod NoMinutes
+pub mod LineDone
+pub mod Chunks
+pub mod Ends
+pub mod Links
+pub mod Crossing
+pub mod Crew

@@ -1,0 +1,193 @@
+-- A link behind those that were served.
+use Rattle.std.proofs.Common.{◌≡◌, ◌≢◌, ℕ, ◌+◌, ◌*◌, ◌^◌, ◌<◌, ◌≤◌, Bool, true, false, cond, ◌==◌, ◌&&◌, List, [], ◌∷◌, ◌++◌, length, refl, sym, ap, subst, ◌∙◌, arith, append-nil, append_assoc, length-append, ne_eqb, Option, Some, None, IfSome, MatchOption}
+use Rattle.std.proofs.lemmas.Bool.{eqb-true}
+use Rattle.std.specs.Io.KnownBytes.{Appends, Consumes}
+use mathlib.Core.List.{IsPrefix}
+use Rattle.gt_base.specs.declared.requests.Who.{Who}
+use Rattle.gt_base.specs.declared.requests.Entry.{Entry}
+use Rattle.gt_io.specs.Links.{Traffic, IsFresh, GivesFirst, Reads}
+use Rattle.gt_io.proofs.Readings.{Reads-trans, Reads-nil}
+use Rattle.turn_lock.specs.Turns.{Each}
+use Rattle.turn_lock.specs.Holders.{Holder}
+use Rattle.turn_lock.proofs.Totals.{each-append}
+use Rattle.locked_history.specs.Fronts.{by}
+use Rattle.policy_words.specs.Naming.{NamedPolicy}
+use Rattle.connection_laws.specs.declared.ends.LinkEnd.{LinkEnd}
+use Rattle.connection_laws.specs.declared.ends.LinkEnd.TheVariants.{Worn as LinkWorn}
+use Rattle.connection_laws.specs.Connection.{is_who, part_of, IsTimed, placed, Conn}
+use Rattle.connection_laws.proofs.Longer.{conn_longer}
+use Rattle.connection_laws.proofs.Places.{part_of-append}
+use Rattle.line_server.specs.declared.ended.Served.{Served}
+use Rattle.line_server.specs.declared.ended.WorkEnd.{WorkEnd}
+use Rattle.line_server.specs.declared.ended.WorkEnd.TheVariants.{Fresh, Done, DoorFault, Enough, Worn, Memory}
+use Rattle.line_server.specs.Turns.{AreMine}
+use Rattle.line_server.specs.Serving.{Serves}
+use Rattle.line_server.specs.Working.{Tale, begun_of, hours_of, owns_of, is_worn_out, AllUnworn, Gives, Spot, WorksTo, IsServed, AreServed, Worked, WorksOn, Works}
+use Rattle.line_server.proofs.Growing.{grown_none, grown_twice}
+
+right_is : (a b : Bool) → (a && b) ≡ true → b ≡ true
+right_is true b e = e
+right_is false b e = absurd (cc)
+
+never_both : (a : Bool) → (a && false) ≡ false
+never_both true = refl
+never_both false = refl
+
+-- entries of another connection are none of this one
+pub none_mine : (n c k : ℕ) (es : List Entry) → c ≢ k → AreMine (by n c) es → part_of (by n k) es ≡ []
+none_mine n c k [] other mine = refl
+none_mine n c k (e ∷ es) other mine =
+    let at : e.who.conn ≡ c = eqb-true e.who.conn c (right_is (e.who.worker == n) (e.who.conn == c) mine.0) in
+    let away : (e.who.conn == k) ≡ false = ne_eqb e.who.conn k (λ same. other (sym at ∙ same)) in
+    let no : is_who (by n k) e ≡ false = ap (λ b. (e.who.worker == n) && b) away ∙ never_both (e.who.worker == n) in
+    ap (λ b. cond b (e ∷ part_of (by n k) es) (part_of (by n k) es)) no ∙ none_mine n c k es other mine.1
+
+module _ {L : Type 0} where
+  pub begun_push : (xs : List (Tale L)) (x : Tale L) → begun_of (xs ++ x ∷ []) ≡ begun_of xs ++ x.begun ∷ []
+  begun_push [] x = refl
+  begun_push (y ∷ ys) x = ap (λ (ls : List L). y.begun ∷ ls) (begun_push ys x)
+
+  pub hours_push : (xs : List (Tale L)) (x : Tale L) → hours_of (xs ++ x ∷ []) ≡ hours_of xs ++ x.readings
+  hours_push [] x = append-nil x.readings
+  hours_push (y ∷ ys) x = ap (λ (rs : List ℕ). y.readings ++ rs) (hours_push ys x) ∙ sym (append_assoc y.readings (hours_of ys) x.readings)
+
+  pub owns_push : (xs : List (Tale L)) (x : Tale L) → owns_of (xs ++ x ∷ []) ≡ owns_of xs ++ x.own
+  owns_push [] x = append-nil x.own
+  owns_push (y ∷ ys) x = ap (λ (es : List Entry). y.own ++ es) (owns_push ys x) ∙ sym (append_assoc y.own (owns_of ys) x.own)
+
+  gives_more : (old mid new : Option (List L)) (xs : List L) (x : L) → Gives old mid xs → GivesFirst mid new x → Gives old new (xs ++ x ∷ [])
+  gives_more None mid new xs x g f = tt
+  gives_more (Some ls) mid new xs x g f =
+      let f' : IfSome (Some g.0) (λ ys. (rest : List L) × (ys ≡ x ∷ rest) × (new ≡ Some rest)) = subst (λ (m : Option (List L)). IfSome m (λ ys. (rest : List L) × (ys ≡ x ∷ rest) × (new ≡ Some rest))) g.2 f in
+      (f'.0, g.1 ∙ ap (λ (l : List L). xs ++ l) f'.1 ∙ sym (append_assoc xs (x ∷ []) f'.0), f'.2)
+
+  module _ (traffic : L → Traffic) (np : NamedPolicy) (first : List Entry) (legal : List Entry → Type 0) (now : List Entry → ℕ) (number : ℕ) where
+    abbrev Is : List Entry → List Entry → ℕ → Served L → Tale L → Type 0
+    Is h own c s x = IsServed traffic np first legal now number h own c s x
+
+    abbrev Are : List Entry → List Entry → ℕ → List (Served L) → List (Tale L) → Type 0
+    Are h own c ss xs = AreServed traffic np first legal now number h own c ss xs
+
+    pub served_longer : (h h' own : List Entry) (c : ℕ) (ss : List (Served L)) (xs : List (Tale L)) → IsPrefix h h' → Are h own c ss xs → Are h' own c ss xs
+    served_longer h h' own c [] [] more all = tt
+    served_longer h h' own c [] (x ∷ xs) more all = absurd all
+    served_longer h h' own c (s ∷ ss) [] more all = absurd all
+    served_longer h h' own c (s ∷ ss) (x ∷ xs) more all =
+        let i = all.0 in (
+          record {
+            fresh = i.fresh;
+            conn = λ birth timed. conn_longer np birth (by number c) h h' more (placed (by number c) first own) x.taken x.readings x.own x.given x.acted s.report.outcome (i.conn birth timed);
+            mine = i.mine;
+            asked = i.asked;
+            denied = i.denied;
+            taken_is = i.taken_is;
+            left_is = i.left_is;
+            given_is = i.given_is;
+            bounded = i.bounded;
+            cause = i.cause;
+          },
+          served_longer h h' own (c + 1) ss xs more all.1,
+        )
+
+    served_push : (h own : List Entry) (c k : ℕ) (ss : List (Served L)) (xs : List (Tale L)) (s : Served L) (x : Tale L) → k ≡ c + length ss → Are h own c ss xs → Is h own k s x → Are h own c (ss ++ s ∷ []) (xs ++ x ∷ [])
+    served_push h own c k [] [] s x at all one = (subst (λ (n : ℕ). Is h own n s x) (let e : k ≡ c = omega (arith, at) in e) one, tt)
+    served_push h own c k [] (y ∷ ys) s x at all one = absurd all
+    served_push h own c k (t ∷ ts) [] s x at all one = absurd all
+    served_push h own c k (t ∷ ts) (y ∷ ys) s x at all one = (all.0, served_push h own (c + 1) k ts ys s x (omega (arith, at)) all.1 one)
+
+    others_none : (h own : List Entry) (c k : ℕ) (ss : List (Served L)) (xs : List (Tale L)) → c + length ss ≤ k → Are h own c ss xs → part_of (by number k) (owns_of xs) ≡ []
+    others_none h own c k [] [] far all = refl
+    others_none h own c k [] (x ∷ xs) far all = absurd all
+    others_none h own c k (s ∷ ss) [] far all = absurd all
+    others_none h own c k (s ∷ ss) (x ∷ xs) far all =
+        part_of-append (by number k) x.own (owns_of xs)
+        ∙ ap (λ (es : List Entry). es ++ part_of (by number k) (owns_of xs)) (none_mine number c k x.own (λ same. absurd (omega (arith, same, far))) all.0.mine)
+        ∙ others_none h own (c + 1) k ss xs (omega (arith, far)) all.1
+
+module _ {M L : Type 0} (traffic : L → Traffic) (np : NamedPolicy) (first : List Entry) (legal : List Entry → Type 0) (now : List Entry → ℕ) (number : ℕ) where
+  -- one more link was served
+  pub link_done : (o p p' : Spot M L) (served : List (Served L)) (tales : List (Tale L)) (s : Served L) (begun : L) (conn calls calls' : ℕ) → Worked traffic np first legal now number o p served tales
+      → Serves np first legal now (by number conn) p.pass p'.pass calls calls' p.clock p'.clock (traffic begun) (traffic s.link) s.report → conn ≡ 1 + length served → GivesFirst p.door p'.door begun → IsFresh (traffic begun)
+      → (tales' : List (Tale L)) × Worked traffic np first legal now number o p' (served ++ s ∷ []) tales'
+  link_done o p p' served tales s begun conn calls calls' w v at door fresh =
+      let x : Tale L = record { begun = begun; taken = v.taken; given = v.given; readings = v.readings; own = v.own; acted = v.acted; draws = p'.pass.draws } in
+      let own_is : p.pass.own ≡ o.pass.own ++ owns_of tales = ap (λ (q : Holder M). q.own) w.grows.after_is in
+      let none = others_none traffic np first legal now number p.pass.seen o.pass.own 1 conn served tales (omega (arith, at)) w.links in
+      let same : placed (by number conn) first p.pass.own ≡ placed (by number conn) first o.pass.own =
+      ap (placed (by number conn) first) own_is ∙ ap (λ (es : List Entry). length (part_of (by number conn) first) + length es) (part_of-append (by number conn) o.pass.own (owns_of tales) ∙ ap (λ (es : List Entry). part_of (by number conn) o.pass.own ++ es) none ∙ append-nil (part_of (by number conn) o.pass.own)) in
+      let one : IsServed traffic np first legal now number p'.pass.seen o.pass.own conn s x =
+      record {
+        fresh = fresh;
+        conn = λ birth timed. subst (λ (older : ℕ). Conn np birth (by number conn) p'.pass.seen older v.taken v.readings v.own v.given v.acted s.report.outcome) same (v.conn birth timed);
+        mine = v.mine;
+        asked = v.asked;
+        denied = v.denied;
+        taken_is = v.taken_is;
+        left_is = v.left_is;
+        given_is = v.given_is;
+        bounded = v.bounded;
+        cause = v.cause;
+      } in
+      let g = grown_twice o.pass p.pass p'.pass (owns_of tales) v.own (2 * length (hours_of tales)) (2 * length v.readings) w.grows v.grows in
+      let hours = hours_push tales x in
+      let hours_long = ap (λ (l : List ℕ). length l) hours in
+      let hours_both = length-append (hours_of tales) v.readings in
+      let owns = owns_push tales x in (
+        tales ++ x ∷ [],
+        record {
+          links = served_push traffic np first legal now number p'.pass.seen o.pass.own 1 conn served tales s x at (served_longer traffic np first legal now number p.pass.seen p'.pass.seen o.pass.own 1 served tales v.grows.seen w.links) one;
+          grows = record {
+            seen = g.seen;
+            after_is = g.after_is ∙ ap (λ (es : List Entry). record o.pass { draws = p'.pass.draws; seen = p'.pass.seen; own = o.pass.own ++ es }) (sym owns);
+            draws_low = g.draws_low;
+            draws_high = let d = g.draws_high in let e = ap (λ (es : List Entry). length es) owns in omega (arith, d, e, hours_long, hours_both);
+          };
+          reads = subst (λ (rs : List ℕ). Reads o.clock p'.clock rs) (sym hours) (Reads-trans o.clock p.clock p'.clock (hours_of tales) v.readings w.reads v.reads);
+          door = subst (λ (ls : List L). Gives o.door p'.door ls) (sym (begun_push tales x)) (gives_more o.door p.door p'.door (begun_of tales) begun w.door door);
+        },
+      )
+
+all_push : {L : Type 0} (ss : List (Served L)) (s : Served L) → AllUnworn ss → is_worn_out s.report.outcome ≡ false → AllUnworn (ss ++ s ∷ [])
+all_push {L} ss s all one = each-append (λ (t : Served L). is_worn_out t.report.outcome ≡ false) ss (s ∷ []) all (one, tt)
+
+-- how a worker goes on behind one more link
+pub ends_of : {L : Type 0} (links : Option (List L)) (f f' draws : ℕ) (ss served : List (Served L)) (s : Served L) (result : Option WorkEnd) → served ≡ ss ++ s ∷ [] → AllUnworn ss → ((n : ℕ) → s.report.outcome ≡ LinkWorn n → (n ≡ 2 ^ 40) × (draws ≡ 2 ^ 40))
+    → MatchOption result (is_worn_out s.report.outcome ≡ false) (λ worn. (n : ℕ) × (s.report.outcome ≡ LinkWorn n) × (worn ≡ Worn n)) → MatchOption result (AllUnworn served) (λ end. WorksTo links f f' draws served end)
+ends_of {L} links f f' draws ss served s None is all wears w = subst (λ (l : List (Served L)). AllUnworn l) (sym is) (all_push ss s all w)
+ends_of {L} links f f' draws ss served s (Some end) is all wears w =
+    let facts = wears w.0 w.1 in
+    subst (λ (e : WorkEnd). WorksTo links f f' draws served e) (sym w.2) (ss, s, is, all, w.1, facts.0, facts.1)
+
+works_earlier : {L : Type 0} (links : Option (List L)) (f f' f'' draws : ℕ) (served : List (Served L)) (end : WorkEnd) → f ≤ f' → WorksTo links f' f'' draws served end → WorksTo links f f'' draws served end
+works_earlier links f f' f'' draws served DoorFault low w = (w.0, w.1, let rose = w.2 in omega (arith, rose, low))
+works_earlier links f f' f'' draws served Done low w = w
+works_earlier links f f' f'' draws served Enough low w = w
+works_earlier links f f' f'' draws served (Worn n) low w = w
+works_earlier links f f' f'' draws served Memory low w = w
+works_earlier links f f' f'' draws served Fresh low w = w
+
+gives_none : {L : Type 0} (d : Option (List L)) → Gives d d []
+gives_none None = tt
+gives_none (Some ls) = (ls, refl, refl)
+
+module _ {M L : Type 0} (traffic : L → Traffic) (np : NamedPolicy) (first : List Entry) (legal : List Entry → Type 0) (now : List Entry → ℕ) where
+  pub no_links : (number : ℕ) (o : Spot M L) (served : List (Served L)) → served ≡ [] → Worked traffic np first legal now number o o served []
+  no_links number o served is =
+      subst (λ (ss : List (Served L)). Worked traffic np first legal now number o o ss []) (sym is)
+      (record { links = tt; grows = grown_none o.pass; reads = Reads-nil o.clock; door = gives_none o.door })
+
+  -- the next link, told from the begin of the work
+  pub next_done : (number number' : ℕ) (o p p' : Spot M L) (f f' f'' : ℕ) (items items' served : List (Served L)) (tales : List (Tale L)) (end : WorkEnd) → number' ≡ number → items' ≡ items → f ≤ f'
+      → Worked traffic np first legal now number o p items tales → AllUnworn items → WorksOn traffic np first legal now number' p p' f' f'' items' served (Some end)
+      → Works traffic np first legal now number o p' f f'' served end
+  next_done number number' o p p' f f' f'' items items' served tales end same kept low w u on =
+      let on' = subst (λ (n : ℕ). WorksOn traffic np first legal now n p p' f' f'' items' served (Some end)) same on in
+      let d = on' o tales (subst (λ (ss : List (Served L)). Worked traffic np first legal now number o p ss tales) (sym kept) w) (subst (λ (ss : List (Served L)). AllUnworn ss) (sym kept) u) in
+      record { tales = d.0; worked = d.1; cause = works_earlier p'.door f f' f'' p'.pass.draws served end low d.2 }
+
+  pub goes_on : (number number' : ℕ) (o p p' : Spot M L) (f' f'' : ℕ) (items items' served : List (Served L)) (tales : List (Tale L)) → number' ≡ number → items' ≡ items
+      → Worked traffic np first legal now number o p items tales → AllUnworn items → WorksOn traffic np first legal now number' p p' f' f'' items' served None
+      → (tales' : List (Tale L)) × Worked traffic np first legal now number o p' served tales' × AllUnworn served
+  goes_on number number' o p p' f' f'' items items' served tales same kept w u on =
+      let on' = subst (λ (n : ℕ). WorksOn traffic np first legal now n p p' f' f'' items' served None) same on in
+      on' o tales (subst (λ (ss : List (Served L)). Worked traffic np first legal now number o p ss tales) (sym kept) w) (subst (λ (ss : List (Served L)). AllUnworn ss) (sym kept) u)

@@ -1,0 +1,22 @@
+use Rattle.std.proofs.Common.{◌≡◌, ◌≤◌, length, ◌∙◌, arith, ap, Err}
+use Rattle.turn_lock.specs.Holders.{Holder}
+use Rattle.line_server.proofs.Asking.{is_accepted, is_refused}
+use Rattle.line_server.proofs.asks.ask_at.Goals as goal
+
+pub returns-in-Ok : goal.returns-in-Ok
+returns-in-Ok g c =
+    let r = c.in_default.ensures in
+    let a = c.in-Ok.ensures in
+    let m = g.M.Machine in
+    let t = is_accepted (g.M.Keeps.list c.args.desk.now.root) (m.legal c.args.desk.now.root) (m.now_of c.args.desk.now.root) c.args.conn c.args.reading c.args.actor c.args.request
+    c.args.pass.now c.reach.new.pass c.ask.new.pass r.ticks c.in-Ok.asked.reply c.in-Ok.asked.front a.last.0 r.each r.grows r.reached.0 r.reached.1 a.ok a.last.1 a.legal.0 in
+    rw c.into_reply.ensures t
+
+pub returns-in-Err-ask : goal.returns-in-Err-ask
+returns-in-Err-ask g c =
+    let r = c.in_default.ensures in
+    let a = c.in-Err-ask.ensures in
+    let m = g.M.Machine in
+    is_refused (g.M.Keeps.list c.args.desk.now.root) (m.legal c.args.desk.now.root) (m.now_of c.args.desk.now.root) c.args.conn c.args.reading c.args.actor c.args.request
+    c.args.pass.now c.reach.new.pass c.ask.new.pass r.ticks c.in-Err-ask.fault r.each r.grows a.refused
+    (λ is. let f = a.full (ap Err is) in omega (arith, f.0)) (λ n is. let w = a.worn n (ap Err is) in (w.0, ap (λ (p : Holder g.row.M.Denot). p.draws) w.2 ∙ w.1))

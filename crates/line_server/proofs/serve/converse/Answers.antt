@@ -1,0 +1,117 @@
+use Rattle.std.proofs.Common.{◌≡◌, ◌≤◌, ◌+◌, ℕ, List, [], ◌++◌, length, take, refl, subst, sym, ◌∙◌, arith, Option, Ok, Err, length-append}
+use Rattle.std.proofs.lemmas.List.{length-take-le}
+use Rattle.std.specs.Io.KnownBytes.{Appends, Consumes}
+use Rattle.std.proofs.KnownBytes.{Appends-nil, Consumes-nil, Appends-trans, Consumes-trans}
+use Rattle.connection_laws.specs.Desks.{IsNamedActor}
+use Rattle.locked_history.specs.Fronts.{by}
+use Rattle.line_server.specs.Serving.{Goes}
+use Rattle.line_server.proofs.LineDone.{point}
+use Rattle.line_server.proofs.Ends.{begins, cut_off, serving_kept}
+use Rattle.line_server.proofs.serve.converse.Goals as goal
+
+pub loop-left-init : goal.loop-left-init
+loop-left-init g c =
+    let m = g.M.Machine in
+    let root = c.args.desk.now.root in
+    let t = g.L.Link.traffic c.args.link.now in
+    let s = begins c.args.policy.now (g.M.Keeps.list root) (m.legal root) (m.now_of root) (by c.args.pass.now.number c.args.conn) c.args.pass.now c.args.talk.now (g.C.Clock.readings c.args.clock.now) t.given c.new-framer.result c.requires.start c.new-framer.ensures in
+    record {
+      fed = [];
+      acted = [];
+      serving = s;
+      taken = Appends-nil t.taken;
+      consumed = Consumes-nil t.left;
+      counted = refl;
+      idle = c.requires.idle;
+      number = refl;
+      actor = s.going.named;
+      counts = (omega arith, omega arith, omega arith);
+      reads = omega arith;
+      writes = omega arith;
+    }
+
+pub loop-left-preserved : goal.loop-left-preserved
+loop-left-preserved g c =
+    let m = g.M.Machine in
+    let k = g.C.Clock in
+    let t = g.L.Link in
+    let root = c.args.desk.now.root in
+    let inv = c.loop-left.invariant in
+    let r = c.in-Ok.ensures in
+    let after = c.take_chunk.ensures in
+    let buf = c.read_some.new.buf in
+    let n = c.in-Ok.n in
+    let chunk : List ℕ = take n buf in
+    let start = t.traffic c.args.link.now in
+    let old = t.traffic c.loop-left.link in
+    let mid = t.traffic c.read_some.new.link in
+    let end = t.traffic c.take_chunk.new.link in
+    let origin = point c.args.pass.now c.args.talk.now (k.readings c.args.clock.now) start.given in
+    let s = serving_kept c.args.policy.now (g.M.Keeps.list root) (m.legal root) (m.now_of root) (by c.args.pass.now.number c.args.conn) origin c.loop-left.pass c.loop-left.talk (k.readings c.loop-left.clock) old.given mid.given
+    c.loop-left.framer inv.fed inv.acted r.writes.given_kept inv.serving in
+    let goes = subst (λ (j : ℕ). Goes c.args.policy.now (g.M.Keeps.list root) (m.legal root) (m.now_of root) (by j c.args.conn)
+    (point c.loop-left.pass c.loop-left.talk (k.readings c.loop-left.clock) mid.given) (point c.take_chunk.new.pass c.take_chunk.new.talk (k.readings c.take_chunk.new.clock) end.given)
+    c.loop-left.framer c.take_chunk.new.framer chunk mid.write_faults end.write_faults {T = Unit {0}} (Ok c.in_default-take_chunk.field-0)) inv.number c.in_default-take_chunk.ensures.goes in
+    let y = goes origin inv.fed inv.acted s in
+    let long : length chunk ≡ n = length-take-le n buf r.bound.1 in
+    let both = length-append inv.fed chunk in
+    let counted = inv.counted in
+    let low = r.bound.0 in
+    let up = inv.counts in
+    let up' = after.counts in
+    let reads = inv.reads in
+    let cause = r.cause.later in
+    let kept = after.reads.read_faults_are in
+    let writes = inv.writes in
+    let wrote = r.writes.write_faults_are in
+    let faults = after.faults in
+    record {
+      fed = inv.fed ++ chunk;
+      acted = y.0;
+      serving = y.1;
+      taken = subst (λ (x : Option (List ℕ)). Appends start.taken x (inv.fed ++ chunk)) (sym after.reads.taken_kept) (Appends-trans start.taken old.taken mid.taken inv.fed chunk inv.taken r.taken);
+      consumed = subst (λ (x : Option (List ℕ)). Consumes start.left x (inv.fed ++ chunk)) (sym after.reads.left_kept) (Consumes-trans start.left old.left mid.left inv.fed chunk inv.consumed r.bytes.0);
+      counted = omega (arith, both, long, counted, low);
+      idle = after.pass.0;
+      number = after.pass.1 ∙ inv.number;
+      actor = after.actor;
+      counts = (omega (arith, up, up', both), omega (arith, up, up', both), omega (arith, up, up', both));
+      reads = omega (arith, reads, cause, kept);
+      writes = omega (arith, writes, wrote, faults);
+    }
+
+pub returns-in-Err-clause-goes : goal.returns-in-Err-clause-goes
+returns-in-Err-clause-goes g c =
+    let m = g.M.Machine in
+    let k = g.C.Clock in
+    let t = g.L.Link in
+    let root = c.args.desk.now.root in
+    let inv = c.loop-left.invariant in
+    let r = c.in-Ok.ensures in
+    let after = c.take_chunk.ensures in
+    let buf = c.read_some.new.buf in
+    let n = c.in-Ok.n in
+    let chunk : List ℕ = take n buf in
+    let start = t.traffic c.args.link.now in
+    let old = t.traffic c.loop-left.link in
+    let mid = t.traffic c.read_some.new.link in
+    let end = t.traffic c.take_chunk.new.link in
+    let origin = point c.args.pass.now c.args.talk.now (k.readings c.args.clock.now) start.given in
+    let s = serving_kept c.args.policy.now (g.M.Keeps.list root) (m.legal root) (m.now_of root) (by c.args.pass.now.number c.args.conn) origin c.loop-left.pass c.loop-left.talk (k.readings c.loop-left.clock) old.given mid.given
+    c.loop-left.framer inv.fed inv.acted r.writes.given_kept inv.serving in
+    let last = point c.take_chunk.new.pass c.take_chunk.new.talk (k.readings c.take_chunk.new.clock) end.given in
+    let goes = subst (λ (j : ℕ). Goes c.args.policy.now (g.M.Keeps.list root) (m.legal root) (m.now_of root) (by j c.args.conn)
+    (point c.loop-left.pass c.loop-left.talk (k.readings c.loop-left.clock) mid.given) last
+    c.loop-left.framer c.take_chunk.new.framer chunk mid.write_faults end.write_faults {T = Unit {0}} (Err c.in-Err.end)) inv.number c.in-Err.ensures.goes in
+    let y = goes origin inv.fed inv.acted s in
+    let long : length chunk ≡ n = length-take-le n buf r.bound.1 in
+    let both = length-append inv.fed chunk in
+    let counted = inv.counted in
+    let low = r.bound.0 in
+    let writes = inv.writes in
+    let wrote = r.writes.write_faults_are in
+    cut_off c.args.policy.now (g.M.Keeps.list root) (m.legal root) (m.now_of root) (by c.args.pass.now.number c.args.conn) origin last start end mid.write_faults inv.fed y.0 chunk y.2.0 c.in-Err.end y.2.1 y.1
+    (omega (arith, writes, wrote))
+    (subst (λ (x : Option (List ℕ)). Appends start.taken x (inv.fed ++ chunk)) (sym after.reads.taken_kept) (Appends-trans start.taken old.taken mid.taken inv.fed chunk inv.taken r.taken))
+    (subst (λ (x : Option (List ℕ)). Consumes start.left x (inv.fed ++ chunk)) (sym after.reads.left_kept) (Consumes-trans start.left old.left mid.left inv.fed chunk inv.consumed r.bytes.0))
+    (omega (arith, both, long, counted, low))

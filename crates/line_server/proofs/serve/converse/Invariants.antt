@@ -1,0 +1,37 @@
+use Rattle.std.proofs.Common.{◌≡◌, ◌≤◌, ◌+◌, ℕ, List, length}
+use Rattle.std.specs.Io.KnownBytes.{Appends, Consumes}
+use Rattle.turn_lock.specs.Holders.{site_of}
+use Rattle.locked_history.specs.Fronts.{by}
+use Rattle.connection_laws.specs.Desks.{IsNamedActor}
+use Rattle.connection_laws.specs.Connection.{Acted}
+use Rattle.line_server.specs.Turns.{IsIdle}
+use Rattle.line_server.specs.Serving.{CountsUp, Serving}
+use Rattle.line_server.proofs.LineDone.{point}
+use Rattle.line_server.proofs.serve.converse.Given as goal
+
+abbrev pub invariant-loop-left : goal.invariant-loop-left
+invariant-loop-left g l =
+    let root = l.desk.root in
+    let m = g.M.Machine in
+    let k = g.C.Clock in
+    let t = g.L.Link in
+    let a = t.traffic l.fn.link in
+    let b = t.traffic l.link in
+    record {
+      fed : List ℕ;
+      acted : List Acted;
+      serving : Serving l.policy (g.M.Keeps.list root) (m.legal root) (m.now_of root) (by l.fn.pass.number l.conn)
+          (point l.fn.pass l.fn.talk (k.readings l.fn.clock) a.given) (point l.pass l.talk (k.readings l.clock) b.given) l.framer fed acted;
+      taken : Appends a.taken b.taken fed;
+      consumed : Consumes a.left b.left fed;
+      counted : length fed + l.left ≡ 67_108_864;
+      idle : IsIdle (site_of l.desk) l.pass;
+      number : l.pass.number ≡ l.fn.pass.number;
+      actor : IsNamedActor l.policy l.talk.actor;
+      counts : CountsUp l.fn.talk l.talk (length fed);
+      reads : a.read_faults ≤ b.read_faults;
+      writes : a.write_faults ≤ b.write_faults;
+    }
+
+abbrev pub decreases-loop-left : goal.decreases-loop-left
+decreases-loop-left g l = l.left

@@ -1,0 +1,27 @@
+use Rattle.std.proofs.Common.{◌≡◌, ◌≤◌, take, Ok}
+use Rattle.gt_io.specs.Links.{ReadsNothing}
+use Rattle.turn_lock.specs.Holders.{site_of}
+use Rattle.locked_history.specs.Fronts.{by}
+use Rattle.connection_laws.specs.Desks.{IsNamedActor}
+use Rattle.line_server.specs.Turns.{IsIdle}
+use Rattle.line_server.specs.Serving.{CountsUp, Goes}
+use Rattle.line_server.proofs.LineDone.{point}
+use Rattle.line_server.proofs.serve.take_chunk.Given as goal
+
+abbrev pub invariant-loop-byte : goal.invariant-loop-byte
+invariant-loop-byte g l =
+    let root = l.desk.root in
+    let m = g.M.Machine in
+    let k = g.C.Clock in
+    let t = g.L.Link in
+    record {
+      goes : Goes l.policy (g.M.Keeps.list root) (m.legal root) (m.now_of root) (by l.fn.pass.number l.conn)
+          (point l.fn.pass l.fn.talk (k.readings l.fn.clock) (t.traffic l.fn.link).given) (point l.pass l.talk (k.readings l.clock) (t.traffic l.link).given)
+          l.fn.framer l.framer (take l.byte-index l.chunk) 0 0 {T = Unit {0}} (Ok tt);
+      idle : IsIdle (site_of l.desk) l.pass;
+      number : l.pass.number ≡ l.fn.pass.number;
+      actor : IsNamedActor l.policy l.talk.actor;
+      counts : CountsUp l.fn.talk l.talk l.byte-index;
+      reads : ReadsNothing (t.traffic l.fn.link) (t.traffic l.link);
+      faults : (t.traffic l.fn.link).write_faults ≤ (t.traffic l.link).write_faults;
+    }

@@ -1,0 +1,69 @@
+use Rattle.std.proofs.Common.{◌≡◌, ◌≤◌, ◌+◌, ◌*◌, List, [], length, sym, ap, subst, ◌∙◌, refl, arith}
+use Rattle.line_server.specs.declared.ended.Served.{Served}
+use Rattle.line_server.specs.Working.{Spot, AllUnworn}
+use Rattle.line_server.proofs.Links.{no_links, next_done, goes_on}
+use Rattle.line_server.proofs.workers.work_on.Goals as goal
+
+pub loop-alloc-init : goal.loop-alloc-init
+loop-alloc-init g c =
+    let m = g.M.Machine in
+    let root = c.args.desk.now.root in
+    let empty = c.requires.empty in
+    let none = ap (λ (ss : List (Served g.row.D-L.Denot)). length ss) empty in
+    let o : Spot g.row.M.Denot g.row.D-L.Denot = record { pass = c.args.pass.now; clock = g.C.Clock.readings c.args.clock.now; door = g.D.Door.links c.args.door.now } in
+    record {
+      tales = [];
+      worked = no_links g.D.L.Link.traffic c.args.policy.now (g.M.Keeps.list root) (m.legal root) (m.now_of root) c.args.pass.now.number o c.args.served.now.items empty;
+      unworn = subst (λ (ss : List (Served g.row.D-L.Denot)). AllUnworn ss) (sym empty) tt;
+      idle = c.requires.idle;
+      number = refl;
+      calls = omega arith;
+      few = omega (arith, none);
+      faults = omega arith;
+    }
+
+pub returns-in-Some-clause-works : goal.returns-in-Some-clause-works
+returns-in-Some-clause-works g c =
+    let m = g.M.Machine in
+    let root = c.args.desk.now.root in
+    let inv = c.loop-alloc.invariant in
+    let k = g.C.Clock in
+    let d = g.D.Door in
+    let o : Spot g.row.M.Denot g.row.D-L.Denot = record { pass = c.args.pass.now; clock = k.readings c.args.clock.now; door = d.links c.args.door.now } in
+    let p : Spot g.row.M.Denot g.row.D-L.Denot = record { pass = c.loop-alloc.pass; clock = k.readings c.loop-alloc.clock; door = d.links c.loop-alloc.door } in
+    let p' : Spot g.row.M.Denot g.row.D-L.Denot = record { pass = c.serve_next.new.pass; clock = k.readings c.serve_next.new.clock; door = d.links c.serve_next.new.door } in
+    next_done g.D.L.Link.traffic c.args.policy.now (g.M.Keeps.list root) (m.legal root) (m.now_of root) c.args.pass.now.number c.loop-alloc.pass.number o p p'
+    (d.faults c.args.door.now) (d.faults c.loop-alloc.door) (d.faults c.serve_next.new.door) c.loop-alloc.served.items c.reserve.new.self.items c.serve_next.new.served.items inv.tales c.in-Some.end
+    inv.number c.reserve.ensures.items inv.faults inv.worked inv.unworn c.in-Some.ensures.works
+
+pub loop-alloc-preserved : goal.loop-alloc-preserved
+loop-alloc-preserved g c =
+    let m = g.M.Machine in
+    let root = c.args.desk.now.root in
+    let inv = c.loop-alloc.invariant in
+    let k = g.C.Clock in
+    let d = g.D.Door in
+    let o : Spot g.row.M.Denot g.row.D-L.Denot = record { pass = c.args.pass.now; clock = k.readings c.args.clock.now; door = d.links c.args.door.now } in
+    let p : Spot g.row.M.Denot g.row.D-L.Denot = record { pass = c.loop-alloc.pass; clock = k.readings c.loop-alloc.clock; door = d.links c.loop-alloc.door } in
+    let p' : Spot g.row.M.Denot g.row.D-L.Denot = record { pass = c.serve_next.new.pass; clock = k.readings c.serve_next.new.clock; door = d.links c.serve_next.new.door } in
+    let y = goes_on g.D.L.Link.traffic c.args.policy.now (g.M.Keeps.list root) (m.legal root) (m.now_of root) c.args.pass.now.number c.loop-alloc.pass.number o p p'
+    (d.faults c.loop-alloc.door) (d.faults c.serve_next.new.door) c.loop-alloc.served.items c.reserve.new.self.items c.serve_next.new.served.items inv.tales
+    inv.number c.reserve.ensures.items inv.worked inv.unworn c.in_default.ensures.works in
+    let one = c.in_default.ensures.one refl in
+    let kept = ap (λ (ss : List (Served g.row.D-L.Denot)). length ss) c.reserve.ensures.items in
+    let calls = inv.calls in
+    let more = c.in_default.ensures.calls in
+    let count = c.len.ensures in
+    let low = c.loop-alloc-test.true in
+    let faults = inv.faults in
+    let faults' = c.in_default.ensures.faults in
+    record {
+      tales = y.0;
+      worked = y.1;
+      unworn = y.2;
+      idle = c.in_default.ensures.pass.0;
+      number = c.in_default.ensures.pass.1 ∙ inv.number;
+      calls = omega (arith, one, kept, calls, more);
+      few = omega (arith, one, kept, count, low);
+      faults = omega (arith, faults, faults');
+    }

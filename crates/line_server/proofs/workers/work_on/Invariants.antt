@@ -1,0 +1,26 @@
+use Rattle.std.proofs.Common.{◌≡◌, ◌≤◌, ◌+◌, ◌-◌, ◌*◌, ℕ, List, length}
+use Rattle.turn_lock.specs.Holders.{site_of}
+use Rattle.line_server.specs.Turns.{IsIdle}
+use Rattle.line_server.specs.Working.{Spot, Tale, Worked, AllUnworn, most_links}
+use Rattle.line_server.proofs.workers.work_on.Given as goal
+
+abbrev pub invariant-loop-alloc : goal.invariant-loop-alloc
+invariant-loop-alloc g l =
+    let root = l.desk.root in
+    let m = g.M.Machine in
+    let k = g.C.Clock in
+    let d = g.D.Door in
+    record {
+      tales : List (Tale g.row.D-L.Denot);
+      worked : Worked g.D.L.Link.traffic l.policy (g.M.Keeps.list root) (m.legal root) (m.now_of root) l.fn.pass.number
+          (record { pass = l.fn.pass; clock = k.readings l.fn.clock; door = d.links l.fn.door }) (record { pass = l.pass; clock = k.readings l.clock; door = d.links l.door }) l.served.items tales;
+      unworn : AllUnworn l.served.items;
+      idle : IsIdle (site_of l.desk) l.pass;
+      number : l.pass.number ≡ l.fn.pass.number;
+      calls : l.calls ≤ 67_108_864 * length l.served.items;
+      few : length l.served.items ≤ most_links;
+      faults : d.faults l.fn.door ≤ d.faults l.door;
+    }
+
+abbrev pub decreases-loop-alloc : goal.decreases-loop-alloc
+decreases-loop-alloc g l = most_links - length l.served.items

@@ -1,0 +1,57 @@
+//! One request at the desk.
+ghost use Rattle.std.specs.Prelude.{◌≡◌};
+ghost use Rattle.turn_lock.specs.Holders.{site_of};
+ghost use Rattle.locked_history.specs.Fronts.{by};
+ghost use Rattle.line_server.specs.Turns.{IsIdle, Reaches, Asked as AskedBy};
+
+use gt_base::{Actor, Instant, Machine, Reply, Request};
+use locked_history::{Desk, DeskFault};
+use std::sync::Wait;
+use turn_lock::Pass;
+
+/// Ticks until now is at least the reading.
+pub(crate) fn reach<M: Machine, R: Wait>(
+    rt: &R,
+    desk: &Desk<M>,
+    pass: &mut Pass<M>,
+    conn: u32,
+    reading: Instant,
+) -> Result<(), DeskFault>
+    requires { IsIdle (site_of desk.now) pass.old }
+    ensures { Reaches (M.list desk.now.root) (M.legal desk.now.root) (M.now_of desk.now.root) (by pass.old.number conn) reading pass.old pass.new result }
+{
+    for _ in rt.forever() {
+        match desk.tick(rt, pass, conn, reading) {
+            Ok(ticked) => {
+                if reading.minute() <= ticked.now.minute() {
+                    return Ok(());
+                }
+            }
+            Err(fault) => return Err(fault),
+        }
+    }
+    unreachable!()
+}
+
+/// Ticks until now is at least the reading, and then asks.
+pub(crate) fn ask_at<M: Machine, R: Wait>(
+    rt: &R,
+    desk: &Desk<M>,
+    pass: &mut Pass<M>,
+    conn: u32,
+    reading: Instant,
+    actor: Actor,
+    request: Request,
+) -> Result<Reply, DeskFault>
+    requires idle { IsIdle (site_of desk.now) pass.old }
+    requires named { M.named desk.now.root actor request }
+    ensures { AskedBy (M.list desk.now.root) (M.legal desk.now.root) (M.now_of desk.now.root) (by pass.old.number conn) reading actor request pass.old pass.new result }
+{
+    if let Err(fault) = reach(rt, desk, pass, conn, reading) {
+        return Err(fault);
+    }
+    match desk.ask(rt, pass, conn, actor, request) {
+        Ok(asked) => Ok(asked.into_reply()),
+        Err(fault) => Err(fault),
+    }
+}

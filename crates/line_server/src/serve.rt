@@ -1,0 +1,168 @@
+//! A link, from its first byte to its end.
+ghost use Rattle.std.specs.Prelude.{◌≡◌, ◌+◌, ◌<◌, ◌≤◌, ◌^◌, length, IfOk};
+ghost use Rattle.std.specs.Io.KnownBytes.{ReadConsumes, WriteAppends};
+ghost use Rattle.gt_base.specs.declared.requests.Actor.TheVariants.{Nobody};
+ghost use Rattle.gt_io.specs.Causes.{HasCause};
+ghost use Rattle.gt_io.specs.Links.{ReadsNothing, WritesNothing};
+ghost use Rattle.turn_lock.specs.Holders.{site_of};
+ghost use Rattle.locked_history.specs.Fronts.{by};
+ghost use Rattle.connection_laws.specs.Desks.{IsNamedActor, AreNamed, RepliesCanBeTold};
+ghost use Rattle.line_server.specs.Turns.{IsIdle};
+ghost use Rattle.line_server.specs.Serving.{HasRoom, CountsUp, Goes, IsStart, Converses, Serves, most_bytes};
+
+use crate::lines::take_byte;
+use crate::talk::Talk;
+use connection_laws::{LinkEnd, Report};
+use gt_base::{Actor, Machine};
+use gt_io::{Clock, Failed, Framer, Gate, Link};
+use locked_history::Desk;
+use policy_book::Policy;
+use std::alloc::Global;
+use std::sync::Wait;
+use turn_lock::Pass;
+
+/// How many bytes are taken from one link at most.
+const MOST_BYTES: usize = 67_108_864;
+
+// Takes on a piece of bytes, up to the line in which the service is cut off.
+fn take_chunk<M: Machine, R: Wait, L: Link, C: Clock, G: Gate>(
+    rt: &R,
+    alloc: Global,
+    desk: &Desk<M>,
+    policy: &Policy,
+    pass: &mut Pass<M>,
+    conn: u32,
+    link: &mut L,
+    clock: &mut C,
+    gate: &G,
+    framer: &mut Framer,
+    talk: &mut Talk,
+    chunk: &[u8],
+) -> Result<(), LinkEnd>
+    requires idle { IsIdle (site_of desk.now) pass.old }
+    requires named { AreNamed policy.now (M.named desk.now.root) }
+    requires replies { RepliesCanBeTold policy.now (M.legal desk.now.root) }
+    requires actor { IsNamedActor policy.now talk.old.actor }
+    requires room { HasRoom talk.old (length chunk.now) }
+    ensures goes { Goes policy.now (M.list desk.now.root) (M.legal desk.now.root) (M.now_of desk.now.root) (by pass.old.number conn) (record { pass = pass.old; talk = talk.old; clock = C.readings clock.old; given = (L.traffic link.old).given }) (record { pass = pass.new; talk = talk.new; clock = C.readings clock.new; given = (L.traffic link.new).given }) framer.old framer.new chunk.now (L.traffic link.old).write_faults (L.traffic link.new).write_faults result }
+    ensures pass { IsIdle (site_of desk.now) pass.new × (pass.new.number ≡ pass.old.number) }
+    ensures actor { IsNamedActor policy.now talk.new.actor }
+    ensures counts { CountsUp talk.old talk.new (length chunk.now) }
+    ensures reads { ReadsNothing (L.traffic link.old) (L.traffic link.new) }
+    ensures faults { (L.traffic link.old).write_faults ≤ (L.traffic link.new).write_faults }
+{
+    for byte in chunk {
+        if let Err(end) = take_byte(
+            rt, alloc, desk, policy, pass, conn, link, clock, gate, framer, talk, *byte,
+        ) {
+            return Err(end);
+        }
+    }
+    Ok(())
+}
+
+// Reads some bytes, `left` at most.
+fn read_some<L: Link>(link: &mut L, buf: &mut [u8], left: usize) -> Result<usize, Failed>
+    requires buf { 0 < length buf.old }
+    requires left { 0 < left }
+    ensures bound { IfOk result (λ n. (n ≤ left) × (n ≤ length buf.new)) }
+    ensures bytes { ReadConsumes (L.traffic link.old).left (L.traffic link.new).left result buf.new }
+    ensures taken { WriteAppends (L.traffic link.old).taken (L.traffic link.new).taken result buf.new }
+    ensures cause { HasCause (L.traffic link.old).read_faults (L.traffic link.new).read_faults result }
+    ensures writes { WritesNothing (L.traffic link.old) (L.traffic link.new) }
+{
+    let room = left.min(buf.len());
+    link.read(&mut buf[..room])
+}
+
+// Serves a link to its end.
+fn converse<M: Machine, R: Wait, L: Link, C: Clock, G: Gate>(
+    rt: &R,
+    alloc: Global,
+    desk: &Desk<M>,
+    policy: &Policy,
+    pass: &mut Pass<M>,
+    conn: u32,
+    link: &mut L,
+    clock: &mut C,
+    gate: &G,
+    talk: &mut Talk,
+) -> LinkEnd
+    requires idle { IsIdle (site_of desk.now) pass.old }
+    requires named { AreNamed policy.now (M.named desk.now.root) }
+    requires replies { RepliesCanBeTold policy.now (M.legal desk.now.root) }
+    requires start { IsStart talk.old }
+    ensures goes { Converses policy.now (M.list desk.now.root) (M.legal desk.now.root) (M.now_of desk.now.root) (by pass.old.number conn) (record { pass = pass.old; talk = talk.old; clock = C.readings clock.old; given = (L.traffic link.old).given }) (record { pass = pass.new; talk = talk.new; clock = C.readings clock.new; given = (L.traffic link.new).given }) (L.traffic link.old) (L.traffic link.new) result }
+    ensures pass { IsIdle (site_of desk.now) pass.new × (pass.new.number ≡ pass.old.number) }
+    ensures calls { talk.new.calls ≤ talk.old.calls + most_bytes }
+{
+    let mut framer = Framer::new();
+    let mut buf = [0u8; 512];
+    let mut left = MOST_BYTES;
+    while left > 0 {
+        let Ok(n) = read_some(link, &mut buf, left) else {
+            return LinkEnd::ReadFault;
+        };
+        if n == 0 {
+            return LinkEnd::Ended;
+        }
+        left -= n;
+        if let Err(end) = take_chunk(
+            rt,
+            alloc,
+            desk,
+            policy,
+            pass,
+            conn,
+            link,
+            clock,
+            gate,
+            &mut framer,
+            talk,
+            &buf[..n],
+        ) {
+            return end;
+        }
+    }
+    LinkEnd::Spent
+}
+
+/// Serves one link of a connection, whose number is `conn`: line by line it passes the gate, reads the clock, brings the history to that
+/// minute and asks. `calls` counts the request lines of the worker. Want of memory shows in the reply to a line.
+pub fn serve_link<M: Machine, R: Wait, L: Link, C: Clock, G: Gate>(
+    rt: &R,
+    alloc: Global,
+    desk: &Desk<M>,
+    policy: &Policy,
+    pass: &mut Pass<M>,
+    conn: u32,
+    link: &mut L,
+    clock: &mut C,
+    gate: &G,
+    calls: &mut u64,
+) -> Report
+    requires idle { IsIdle (site_of desk.now) pass.old }
+    requires named { AreNamed policy.now (M.named desk.now.root) }
+    requires replies { RepliesCanBeTold policy.now (M.legal desk.now.root) }
+    requires calls { calls.old < 2 ^ 63 }
+    ensures serves { Serves policy.now (M.list desk.now.root) (M.legal desk.now.root) (M.now_of desk.now.root) (by pass.old.number conn) pass.old pass.new calls.old calls.new (C.readings clock.old) (C.readings clock.new) (L.traffic link.old) (L.traffic link.new) result }
+    ensures pass { IsIdle (site_of desk.now) pass.new × (pass.new.number ≡ pass.old.number) }
+    ensures few { calls.new ≤ calls.old + most_bytes }
+{
+    let mut talk = Talk {
+        actor: Actor::Nobody,
+        asked: 0,
+        denied: 0,
+        calls: *calls,
+    };
+    let outcome = converse(
+        rt, alloc, desk, policy, pass, conn, link, clock, gate, &mut talk,
+    );
+    link.finish();
+    *calls = talk.calls;
+    Report {
+        asked: talk.asked,
+        denied: talk.denied,
+        outcome,
+    }
+}

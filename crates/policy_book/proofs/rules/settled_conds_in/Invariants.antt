@@ -1,0 +1,8 @@
+use Rattle.std.proofs.Common.{◌≡◌, ◌++◌, drop}
+use Rattle.std.specs.List.{filter_map}
+use Rattle.policy_words.specs.Making.{settled_in as settled_said}
+use Rattle.policy_book.specs.Seen.{seen_names}
+use Rattle.policy_book.proofs.rules.settled_conds_in.Given as goal
+
+abbrev pub invariant-loop-item : goal.invariant-loop-item
+invariant-loop-item l = l.conds.items ++ filter_map (settled_said (seen_names l.names)) (drop l.item-index l.items) ≡ filter_map (settled_said (seen_names l.names)) l.items

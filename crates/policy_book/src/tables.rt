@@ -1,0 +1,139 @@
+//! Tables of names, and of pairs of names.
+ghost use Rattle.std.specs.Prelude.{◌≡◌, ◌<◌, not, [], length, position, slice_get, Some, IfOk, OnErr};
+ghost use Rattle.std.specs.List.{list_any};
+ghost use Rattle.gt_base.specs.Names.{place_of, lists_name, with_name};
+ghost use Rattle.policy_words.specs.Naming.{same_pair};
+ghost use Rattle.policy_words.specs.Making.{with_pair};
+
+use gt_base::{Memory, Name};
+use indexmap::IndexSet;
+use std::alloc::Global;
+use std::marker::Model;
+
+/// Declared names, seen as their list. The number of a name is its place, from 0.
+#[derive(Drop)]
+pub struct Table {
+    names: IndexSet<Name>,
+}
+
+impl Model for Table {
+    ghost use Rattle.std.specs.Prelude.{List, ℕ};
+
+    ghost Value = { List (List ℕ) };
+
+    ghost view = { λ s. s.names.keys };
+}
+
+impl Table {
+    /// No names, which takes no memory yet.
+    pub fn new(alloc: Global) -> Table
+        ensures { result ≡ [] }
+    {
+        Table {
+            names: IndexSet::new(alloc),
+        }
+    }
+
+    /// How many names are declared.
+    pub fn len(&self) -> usize
+        ensures { result ≡ length self.now }
+    {
+        self.names.len()
+    }
+
+    /// Declares a name, and says whether it is new; a name that was declared before keeps its number. After a refusal the
+    /// table is as it was.
+    pub fn declare(&mut self, name: Name) -> Result<bool, Memory>
+        ensures fresh { IfOk result (λ fresh. fresh ≡ not (lists_name self.old name)) }
+        ensures names { IfOk result (λ _. self.new ≡ with_name self.old name) }
+        ensures err { OnErr result (self.new ≡ self.old) }
+    {
+        let (_number, fresh) = self.names.insert_full(name)?;
+        Ok(fresh)
+    }
+
+    /// An equal table.
+    pub fn copied(&self) -> Result<Table, Memory>
+        ensures { IfOk result (λ copy. copy ≡ self.now) }
+    {
+        Ok(Table {
+            names: self.names.clone()?,
+        })
+    }
+
+    /// Whether the name is declared. It takes no memory.
+    pub fn has(&self, name: &Name) -> bool
+        ensures { result ≡ lists_name self.now name.now }
+    {
+        self.names.get_index_of(name).is_some()
+    }
+
+    /// The number of a name, none exactly where it is not declared. It takes no memory.
+    pub fn number(&self, name: &Name) -> Option<usize>
+        ensures { result ≡ place_of self.now name.now }
+    {
+        self.names.get_index_of(name)
+    }
+
+    /// The name of a number. It takes no memory.
+    pub fn name(&self, number: usize) -> Name
+        requires { number < length self.now }
+        ensures { slice_get self.now number ≡ Some result }
+    {
+        *self.names.get_index(number).unwrap()
+    }
+}
+
+/// Ordered pairs of names, seen as their list. The number of a pair is its place, from 0.
+#[derive(Drop)]
+pub(crate) struct PairTable {
+    pairs: IndexSet<(Name, Name)>,
+}
+
+impl Model for PairTable {
+    ghost use Rattle.std.specs.Prelude.{List};
+    ghost use Rattle.policy_words.specs.Naming.{NamePair, pair_list_code};
+
+    ghost Value = { List NamePair };
+
+    ghost coded = { pair_list_code };
+
+    ghost view = { λ s. s.pairs.keys };
+}
+
+impl PairTable {
+    /// No pairs, which takes no memory yet.
+    pub(crate) fn new(alloc: Global) -> PairTable
+        ensures { result ≡ [] }
+    {
+        PairTable {
+            pairs: IndexSet::new(alloc),
+        }
+    }
+
+    /// Declares a pair, and says whether it is new; a pair that was declared before keeps its number.
+    pub(crate) fn declare(&mut self, first: Name, second: Name) -> Result<bool, Memory>
+        ensures fresh { IfOk result (λ fresh. fresh ≡ not (list_any (same_pair (first, second)) self.old)) }
+        ensures pairs { IfOk result (λ _. self.new ≡ with_pair self.old (first, second)) }
+        ensures err { OnErr result (self.new ≡ self.old) }
+    {
+        let (_number, fresh) = self.pairs.insert_full((first, second))?;
+        Ok(fresh)
+    }
+
+    /// An equal table.
+    pub(crate) fn copied(&self) -> Result<PairTable, Memory>
+        ensures { IfOk result (λ copy. copy ≡ self.now) }
+    {
+        Ok(PairTable {
+            pairs: self.pairs.clone()?,
+        })
+    }
+
+    /// The number of a pair, none exactly where it is not declared. It takes no memory.
+    pub(crate) fn number(&self, first: &Name, second: &Name) -> Option<usize>
+        ensures { result ≡ position (same_pair (first.now, second.now)) self.now }
+    {
+        self.pairs.get_index_of(&(*first, *second))
+    }
+}

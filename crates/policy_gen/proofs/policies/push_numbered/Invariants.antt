@@ -1,0 +1,7 @@
+use Rattle.std.proofs.Common.{◌≡◌, ◌++◌}
+use Rattle.gt_text.specs.Words.{as_text}
+use Rattle.policy_gen.specs.Texts.{one, for_each}
+use Rattle.policy_gen.proofs.policies.push_numbered.Given as goal
+
+abbrev pub invariant-loop-n : goal.invariant-loop-n
+invariant-loop-n l = l.text.items ≡ l.fn.text.items ++ as_text (for_each (one l.piece) l.n)

@@ -1,0 +1,7 @@
+use Rattle.std.proofs.Common.{◌+◌, arith}
+use Rattle.policy_gen.specs.Texts.{opening}
+use Rattle.policy_gen.proofs.Growing.{lines_further}
+use Rattle.policy_gen.proofs.scripts.push_openings.Goals as goal
+
+pub loop-n-preserved : goal.loop-n-preserved
+loop-n-preserved c = lines_further opening 1 c.loop-n.n (c.loop-n.n + 1) _ _ _ (omega arith) c.loop-n.invariant c.in_ok-push_opening.ensures

@@ -1,0 +1,12 @@
+//! The generator: a policy and a script that a seed and a size make.
+#![tactic(auto)]
+
+mod draws;
+mod made;
+mod policies;
+mod scripts;
+
+pub use made::{Made, make};
+
+#[cfg(test)]
+mod tests;

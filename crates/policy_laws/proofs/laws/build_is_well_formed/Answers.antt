@@ -1,5 +1,0 @@
-use Rattle.policy_laws.proofs.WellFormed.{build_is_well_formed}
-use Rattle.policy_laws.proofs.laws.build_is_well_formed.Goals as goal
-
-pub returns : goal.returns
-returns c = build_is_well_formed

@@ -1,5 +1,0 @@
-use Rattle.policy_laws.proofs.Canonical.{canonical_is_built}
-use Rattle.policy_laws.proofs.laws.canonical_is_built.Goals as goal
-
-pub returns : goal.returns
-returns c = canonical_is_built

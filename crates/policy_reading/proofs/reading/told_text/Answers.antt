@@ -1,6 +1,0 @@
-use Rattle.std.proofs.Common.{sym, ◌∙◌}
-use Rattle.policy_reading.proofs.Telling.{line_fault}
-use Rattle.policy_reading.proofs.reading.told_text.Goals as goal
-
-pub returns : goal.returns
-returns c = line_fault c.args.text.now c.args.fault _ (sym c.is_wanting.ensures ∙ c.if-is_wanting.false) c.requires c.in_ok-line_fault.ensures

@@ -1,0 +1,78 @@
+-- The canonical text is its sections one after another.
+use Rattle.std.proofs.Common.{◌≡◌, ℕ, Bool, true, false, cond, List, [], ◌∷◌, ◌++◌, map, filter, flat_map, refl, ap, ◌∙◌, append_assoc}
+use Rattle.std.proofs.lemmas.Grind.{flat_map-append}
+use Rattle.std.proofs.lemmas.List.Folds.{flat_map-map}
+use Rattle.gt_base.specs.Sets.{members}
+use Rattle.gt_base.specs.declared.events.Fluent.{Fluent}
+use Rattle.gt_base.specs.declared.policies.Caps.{Caps}
+use Rattle.gt_text.specs.Words.{spaced}
+use Rattle.policy_words.specs.declared.sayings.CapKind.TheVariants as caps
+use Rattle.policy_words.specs.Sayings.{Saying, version, role, user, perm, said_words}
+use Rattle.policy_words.specs.Naming.{Names, NamedPolicy, role_name}
+use Rattle.policy_words.specs.Canonical.{canonical_lines, canonical_text, period_line, limit_line, edge_line, cap_line, cap_lines, opening_lines, is_enabled, is_assigned, is_granted, is_armed, is_linked, is_version_one, version_of}
+use Rattle.policy_text.specs.Sections.{line_text, written, lines_by, numbered, caps_text, admin_line, opening_line, opening_text, entry_line, trigger_line, named_text, timed_text, ranked_text, opened_text, ruled_text}
+
+joined : (a b : List Saying) (s t : List ℕ) → written a ≡ s → written b ≡ t → written (a ++ b) ≡ s ++ t
+joined a b s t e f = flat_map-append line_text a b ∙ (λ i. e i ++ f i)
+
+by_line : {A : Type 0} (f : A → Saying) (xs : List A) → written (map f xs) ≡ lines_by f xs
+by_line f xs = flat_map-map line_text f xs
+
+caps_of : (ns : Names) (n : ℕ) (c : Caps) → written (cap_lines ns (n, c)) ≡ caps_text ns (n, c)
+caps_of ns n c =
+    let r : List ℕ = role_name ns (record { 0 = n }) in
+    let total : List Saying = cap_line ns caps.Total r c.total in
+    let user : List Saying = cap_line ns caps.User r c.user in
+    let length : List Saying = cap_line ns caps.Length r c.length in
+    let day : List Saying = cap_line ns caps.Day r c.day in
+    joined (total ++ user ++ length) day _ _ (joined (total ++ user) length _ _ (joined total user _ _ refl refl) refl) refl
+
+all_caps : (ns : Names) (xs : List (ℕ × Caps)) → written (flat_map (cap_lines ns) xs) ≡ flat_map (caps_text ns) xs
+all_caps ns [] = refl
+all_caps ns ((n, c) ∷ xs) = joined (cap_lines ns (n, c)) (flat_map (cap_lines ns) xs) _ _ (caps_of ns n c) (all_caps ns xs)
+
+module _ (ns : Names) where
+  one_more : (b : Bool) (f : Fluent) (fs : List Fluent) (t : List ℕ) → written (map (opening_line ns) fs) ≡ t
+      → written (map (opening_line ns) (cond b (f ∷ fs) fs)) ≡ elim b as (λ _. List ℕ) [ true ↦ line_text (opening_line ns f) | false ↦ [] ] ++ t
+  one_more true f fs t e = ap (λ s. line_text (opening_line ns f) ++ s) e
+  one_more false f fs t e = e
+
+  opened : (p : Fluent → Bool) (fs : List Fluent) → written (opening_lines ns p fs) ≡ flat_map (opening_text ns p) fs
+  opened p [] = refl
+  opened p (f ∷ fs) = one_more (p f) f (filter p fs) _ (opened p fs)
+
+linked : (one : Bool) (ss : List Saying) (t : List ℕ) → written ss ≡ t → written (cond one [] ss) ≡ cond one [] t
+linked true ss t e = refl
+linked false ss t e = e
+
+grouped : (v r u q p l e c a o1 o2 o3 o4 o5 n t : List ℕ)
+    → v ++ (r ++ u ++ q ++ p ++ l ++ e ++ c ++ a ++ o1 ++ o2 ++ o3 ++ o4 ++ o5 ++ n ++ t)
+    ≡ (v ++ r ++ u ++ q) ++ (p ++ l) ++ (e ++ c ++ a) ++ (o1 ++ o2 ++ o3 ++ o4 ++ o5) ++ (n ++ t)
+grouped v r u q p l e c a o1 o2 o3 o4 o5 n t = simp append_assoc
+
+pub in_sections : (np : NamedPolicy) → canonical_text np ≡ named_text np ++ timed_text np ++ ranked_text np ++ opened_text np ++ ruled_text np
+in_sections np =
+    let ns : Names = np.names in
+    let fs : List Fluent = members np.policy.opening in
+    flat_map-map (λ line. line ++ 10 ∷ []) (λ s. spaced (said_words s)) (canonical_lines np)
+    ∙ ap (λ t. line_text (version (version_of np.policy)) ++ t)
+    (joined _ _ _ _ (joined _ _ _ _ (joined _ _ _ _ (joined _ _ _ _ (joined _ _ _ _ (joined _ _ _ _ (joined _ _ _ _ (joined _ _ _ _ (joined _ _ _ _ (joined _ _ _ _ (joined _ _ _ _ (joined _ _ _ _ (joined _ _ _ _ (joined _ _ _ _ (by_line (λ n. role n) ns.roles)
+    (by_line (λ n. user n) ns.users))
+    (by_line (λ n. perm n) ns.perms))
+    (by_line (period_line ns) (numbered np.policy.periods)))
+    (by_line (limit_line ns) (numbered np.policy.limits)))
+    (by_line (edge_line ns) np.policy.edges))
+    (all_caps ns (numbered np.policy.caps)))
+    (by_line (admin_line ns) np.policy.admins))
+    (opened ns is_enabled fs))
+    (opened ns is_assigned fs))
+    (opened ns is_granted fs))
+    (opened ns is_armed fs))
+    (linked (is_version_one np.policy) (opening_lines ns is_linked fs) _ (opened ns is_linked fs)))
+    (by_line (entry_line ns) np.policy.entries))
+    (by_line (trigger_line ns) np.policy.triggers))
+    ∙ grouped (line_text (version (version_of np.policy))) _ _ _ _ _ _ _ _ _ _ _ _ _ _ _
+
+pub five : (t0 t1 t2 t3 t4 t5 a b c d e : List ℕ) → t0 ≡ [] → t1 ≡ t0 ++ a → t2 ≡ t1 ++ b → t3 ≡ t2 ++ c → t4 ≡ t3 ++ d → t5 ≡ t4 ++ e → t5 ≡ a ++ b ++ c ++ d ++ e
+five t0 t1 t2 t3 t4 t5 a b c d e e0 e1 e2 e3 e4 e5 =
+    e5 ∙ ap (λ t. t ++ e) (e4 ∙ ap (λ t. t ++ d) (e3 ∙ ap (λ t. t ++ c) (e2 ∙ ap (λ t. t ++ b) (e1 ∙ ap (λ t. t ++ a) e0)))) ∙ simp append_assoc

@@ -1,0 +1,84 @@
+//! The lines of what is on at first, a sort after another.
+ghost use Rattle.std.specs.Prelude.{◌≡◌, ◌++◌, OnOk, IsTrue};
+ghost use Rattle.std.specs.List.{list_all};
+ghost use Rattle.gtrbac_model.specs.WholePolicy.{is_fluent};
+ghost use Rattle.policy_text.specs.Sections.{line_text, opening_line, opening_text, opened_by, opened_of, opened_text};
+ghost use Rattle.policy_text.specs.Sorts.{of_sort};
+
+use crate::named::push_line;
+use crate::naming::named_fluent;
+use crate::versions::is_version_one;
+use gt_base::{Fluent, Memory};
+use policy_book::Policy;
+use policy_words::Said;
+
+/// The sorts of fluents.
+#[derive(Clone, Copy)]
+enum Sort {
+    Enabled,
+    Assigned,
+    Granted,
+    Armed,
+    Linked,
+}
+
+fn is_of(sort: Sort, f: Fluent) -> bool
+    ensures { result ≡ of_sort sort f }
+{
+    match (sort, f) {
+        (Sort::Enabled, Fluent::Enabled(_)) => true,
+        (Sort::Assigned, Fluent::Assigned(_, _)) => true,
+        (Sort::Granted, Fluent::Granted(_, _)) => true,
+        (Sort::Armed, Fluent::Limit(_)) => true,
+        (Sort::Linked, Fluent::Edge(_)) => true,
+        _ => false,
+    }
+}
+
+fn push_opening(text: &mut Vec<u8>, p: &Policy, f: Fluent) -> Result<(), Memory>
+    requires { IsTrue (is_fluent p.now.policy f) }
+    ensures { OnOk result (text.new.items ≡ text.old.items ++ line_text (opening_line p.now.names f)) }
+{
+    push_line(text, &Said::Opening(named_fluent(p, f)))
+}
+
+/// Adds the line of a fluent, if it is of the sort.
+fn push_of(text: &mut Vec<u8>, p: &Policy, sort: Sort, f: Fluent) -> Result<(), Memory>
+    requires { IsTrue (is_fluent p.now.policy f) }
+    ensures { OnOk result (text.new.items ≡ text.old.items ++ opening_text p.now.names (of_sort sort) f) }
+{
+    if is_of(sort, f) {
+        push_opening(text, p, f)
+    } else {
+        Ok(())
+    }
+}
+
+/// Adds those of the fluents that are of the sort.
+fn push_sort(text: &mut Vec<u8>, p: &Policy, sort: Sort, fluents: &[Fluent]) -> Result<(), Memory>
+    requires { IsTrue (list_all (is_fluent p.now.policy) fluents.now) }
+    ensures { OnOk result (text.new.items ≡ text.old.items ++ opened_by p.now.names (of_sort sort) fluents.now) }
+{
+    for f in fluents {
+        push_of(text, p, sort, *f)?;
+    }
+    Ok(())
+}
+
+/// Adds what is on at first: the roles that are enabled, the assignments, the grants, the limits that are armed, and in version 2
+/// the edges that are linked.
+pub(crate) fn push_opened(text: &mut Vec<u8>, p: &Policy) -> Result<(), Memory>
+    ensures { OnOk result (text.new.items ≡ text.old.items ++ opened_text p.now) }
+{
+    p.keeps();
+    let opening = p.opening().fluents()?;
+    let fluents = opening.as_slice();
+    push_sort(text, p, Sort::Enabled, fluents)?;
+    push_sort(text, p, Sort::Assigned, fluents)?;
+    push_sort(text, p, Sort::Granted, fluents)?;
+    push_sort(text, p, Sort::Armed, fluents)?;
+    if is_version_one(p) {
+        return Ok(());
+    }
+    push_sort(text, p, Sort::Linked, fluents)
+}

@@ -1,0 +1,25 @@
+//! The canonical text.
+ghost use Rattle.std.specs.Prelude.{◌≡◌, IfOk};
+ghost use Rattle.policy_words.specs.Canonical.{canonical_text};
+
+use crate::named::push_named;
+use crate::opened::push_opened;
+use crate::ranked::push_ranked;
+use crate::ruled::push_ruled;
+use crate::timed::push_timed;
+use gt_base::{List, Memory};
+use policy_book::Policy;
+use std::alloc::Global;
+
+/// The canonical text of a policy: its lines in a fixed order, words with one space between them, each line with a line feed.
+pub fn write_policy(alloc: Global, p: &Policy) -> Result<List<u8>, Memory>
+    ensures { IfOk result (λ text. text.items ≡ canonical_text p.now) }
+{
+    let mut text = Vec::new(alloc);
+    push_named(&mut text, p)?;
+    push_timed(&mut text, p)?;
+    push_ranked(&mut text, p)?;
+    push_opened(&mut text, p)?;
+    push_ruled(&mut text, p)?;
+    Ok(List::from(text))
+}

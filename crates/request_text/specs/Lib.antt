@@ -1,0 +1,10 @@
+pub mod Phrases
+pub mod Spelling
+pub mod Lines
+pub mod Replies
+pub mod Named
+pub mod Walks
+pub mod Sizes
+pub mod Kinds
+pub mod Tellable
+pub mod Laws

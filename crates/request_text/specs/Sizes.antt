@@ -1,0 +1,81 @@
+-- How long a reply can be.
+use Rattle.std.specs.Prelude.{◌≤◌, ◌<◌, ◌^◌, length}
+use Rattle.gt_base.specs.declared.requests.Seen.{Seen}
+use Rattle.gt_base.specs.declared.requests.Seen.TheVariants.{Unblocked, Blocked, Absent}
+use Rattle.gt_base.specs.declared.requests.Decision.{Decision}
+use Rattle.gt_base.specs.declared.requests.Decision.TheVariants.{Permit, NoActive, NoGrant, Shut}
+use Rattle.gt_base.specs.declared.requests.Refusal.{Refusal}
+use Rattle.gt_base.specs.declared.requests.Refusal.TheVariants.{NoUser, NotAdmin, Beyond, SessionsFull, NoSession, NotYours, NotActive, Already, Disabled, NotAssigned, RoleFull, UserFull, DaySpent}
+use Rattle.gt_base.specs.declared.requests.Reply.{Reply}
+use Rattle.gt_base.specs.declared.requests.Reply.TheVariants.{Now, Truth, Event, Queued, Session, Done, Active, Decided, Refused}
+
+-- numbers are those that the types hold: of 32 bits, and priorities of at most 100
+
+abbrev pub IsSmallSeen : Seen → Type 0
+IsSmallSeen (Unblocked p) = p ≤ 100
+IsSmallSeen (Blocked p) = p ≤ 100
+IsSmallSeen Absent = Unit {0}
+
+abbrev pub IsSmallRefusal : Refusal → Type 0
+IsSmallRefusal (Beyond due) = due < 2 ^ 32
+IsSmallRefusal (RoleFull n) = n < 2 ^ 32
+IsSmallRefusal (UserFull n) = n < 2 ^ 32
+IsSmallRefusal (DaySpent n) = n < 2 ^ 32
+IsSmallRefusal NoUser = Unit {0}
+IsSmallRefusal NotAdmin = Unit {0}
+IsSmallRefusal SessionsFull = Unit {0}
+IsSmallRefusal NoSession = Unit {0}
+IsSmallRefusal NotYours = Unit {0}
+IsSmallRefusal NotActive = Unit {0}
+IsSmallRefusal Already = Unit {0}
+IsSmallRefusal Disabled = Unit {0}
+IsSmallRefusal NotAssigned = Unit {0}
+
+abbrev pub IsSmall : Reply → Type 0
+IsSmall (Event s) = IsSmallSeen s
+IsSmall (Session s) = s.0 < 2 ^ 32
+IsSmall (Refused r) = IsSmallRefusal r
+IsSmall (Now t) = Unit {0}
+IsSmall (Truth b) = Unit {0}
+IsSmall (Queued t) = Unit {0}
+IsSmall Done = Unit {0}
+IsSmall (Active w) = Unit {0}
+IsSmall (Decided d) = Unit {0}
+
+-- a walk of a policy without a ring has at most 999 edges
+
+abbrev pub IsBriefDecision : Decision → Type 0
+IsBriefDecision (Permit w) = length w.edges ≤ 999
+IsBriefDecision NoActive = Unit {0}
+IsBriefDecision NoGrant = Unit {0}
+IsBriefDecision (Shut n) = Unit {0}
+
+abbrev pub IsBrief : Reply → Type 0
+IsBrief (Active w) = length w.edges ≤ 999
+IsBrief (Decided d) = IsBriefDecision d
+IsBrief (Now t) = Unit {0}
+IsBrief (Truth b) = Unit {0}
+IsBrief (Event s) = Unit {0}
+IsBrief (Queued t) = Unit {0}
+IsBrief (Session s) = Unit {0}
+IsBrief Done = Unit {0}
+IsBrief (Refused r) = Unit {0}
+
+-- it has no walk
+
+abbrev pub IsWalklessDecision : Decision → Type 0
+IsWalklessDecision (Permit w) = ⊥
+IsWalklessDecision NoActive = Unit {0}
+IsWalklessDecision NoGrant = Unit {0}
+IsWalklessDecision (Shut n) = Unit {0}
+
+abbrev pub IsWalkless : Reply → Type 0
+IsWalkless (Active w) = ⊥
+IsWalkless (Decided d) = IsWalklessDecision d
+IsWalkless (Now t) = Unit {0}
+IsWalkless (Truth b) = Unit {0}
+IsWalkless (Event s) = Unit {0}
+IsWalkless (Queued t) = Unit {0}
+IsWalkless (Session s) = Unit {0}
+IsWalkless Done = Unit {0}
+IsWalkless (Refused r) = Unit {0}

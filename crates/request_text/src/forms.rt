@@ -1,0 +1,178 @@
+//! Phrases, read from the words of a line.
+ghost use Rattle.std.specs.Prelude.{◌≡◌, option_map};
+ghost use Rattle.policy_words.specs.Wording.{at_end};
+ghost use Rattle.request_text.specs.Phrases.{session_at, session_in, session_name_in, raise_in, cond_in, event_in, request_by, request_in, actor_in, minute_in, phrase_by};
+
+use crate::phrases::{NamedRequest, Phrase};
+use crate::verbs::{RequestVerb, request_verb};
+use gt_base::{Instant, Name, SessionId};
+use gt_text::Words;
+use policy_lines::{
+    next_cond, next_event, next_head, next_name, number_from, read_delay, read_instant, read_name,
+};
+
+/// The session at the front.
+fn next_session(words: &mut Words<'_>) -> Option<SessionId>
+    ensures { option_map (λ s. (s, words.new)) result ≡ session_at words.old }
+{
+    let word = words.next()?;
+    Some(SessionId(number_from(0, 4_294_967_295, word)?))
+}
+
+/// The session alone.
+fn session(mut words: Words<'_>) -> Option<SessionId>
+    ensures { result ≡ session_in words.entry }
+{
+    let session = next_session(&mut words)?;
+    if words.next().is_some() {
+        return None;
+    }
+    Some(session)
+}
+
+/// A session and a name.
+fn session_name(mut words: Words<'_>) -> Option<(SessionId, Name)>
+    ensures { result ≡ session_name_in words.entry }
+{
+    let session = next_session(&mut words)?;
+    let name = next_name(&mut words)?;
+    if words.next().is_some() {
+        return None;
+    }
+    Some((session, name))
+}
+
+fn status(mut words: Words<'_>) -> Option<NamedRequest>
+    ensures { result ≡ cond_in words.entry }
+{
+    let cond = next_cond(&mut words)?;
+    if words.next().is_some() {
+        return None;
+    }
+    Some(NamedRequest::Status(cond))
+}
+
+fn seen(mut words: Words<'_>) -> Option<NamedRequest>
+    ensures { result ≡ event_in words.entry }
+{
+    let event = next_event(&mut words)?;
+    if words.next().is_some() {
+        return None;
+    }
+    Some(NamedRequest::Seen(event))
+}
+
+fn raise(mut words: Words<'_>) -> Option<NamedRequest>
+    ensures { result ≡ raise_in words.entry }
+{
+    let head = next_head(100, &mut words)?;
+    let delay = read_delay(words)?;
+    Some(NamedRequest::Raise { head, delay })
+}
+
+/// A request without further words.
+fn alone(request: NamedRequest, mut words: Words<'_>) -> Option<NamedRequest>
+    ensures { result ≡ at_end request words.entry }
+{
+    if words.next().is_some() {
+        return None;
+    }
+    Some(request)
+}
+
+fn close(words: Words<'_>) -> Option<NamedRequest>
+    ensures { result ≡ request_by RequestVerb.Close words.entry }
+{
+    Some(NamedRequest::CloseSession(session(words)?))
+}
+
+fn activate(words: Words<'_>) -> Option<NamedRequest>
+    ensures { result ≡ request_by RequestVerb.Activate words.entry }
+{
+    let (session, role) = session_name(words)?;
+    Some(NamedRequest::Activate(session, role))
+}
+
+fn deactivate(words: Words<'_>) -> Option<NamedRequest>
+    ensures { result ≡ request_by RequestVerb.Deactivate words.entry }
+{
+    let (session, role) = session_name(words)?;
+    Some(NamedRequest::Deactivate(session, role))
+}
+
+fn active(words: Words<'_>) -> Option<NamedRequest>
+    ensures { result ≡ request_by RequestVerb.Active words.entry }
+{
+    let (session, role) = session_name(words)?;
+    Some(NamedRequest::Active(session, role))
+}
+
+fn check(words: Words<'_>) -> Option<NamedRequest>
+    ensures { result ≡ request_by RequestVerb.Check words.entry }
+{
+    let (session, perm) = session_name(words)?;
+    Some(NamedRequest::Check(session, perm))
+}
+
+/// What the words after the first word of a request ask.
+fn request_after(verb: RequestVerb, words: Words<'_>) -> Option<NamedRequest>
+    ensures { result ≡ request_by verb words.entry }
+{
+    match verb {
+        RequestVerb::Now => alone(NamedRequest::Now, words),
+        RequestVerb::Status => status(words),
+        RequestVerb::Event => seen(words),
+        RequestVerb::Request => raise(words),
+        RequestVerb::Open => alone(NamedRequest::OpenSession, words),
+        RequestVerb::Close => close(words),
+        RequestVerb::Activate => activate(words),
+        RequestVerb::Deactivate => deactivate(words),
+        RequestVerb::Active => active(words),
+        RequestVerb::Check => check(words),
+    }
+}
+
+/// What a first word and the words after it ask.
+fn request(word: &[u8], words: Words<'_>) -> Option<NamedRequest>
+    ensures { result ≡ request_in word.now words.entry }
+{
+    let verb = request_verb(word)?;
+    request_after(verb, words)
+}
+
+/// The name of an actor, where `-` is none.
+fn actor(mut words: Words<'_>) -> Option<Option<Name>>
+    ensures { result ≡ actor_in words.entry }
+{
+    let word = words.next()?;
+    if words.next().is_some() {
+        return None;
+    }
+    if word == b"-".as_slice() {
+        return Some(None);
+    }
+    Some(Some(read_name(word)?))
+}
+
+fn minute(mut words: Words<'_>) -> Option<Instant>
+    ensures { result ≡ minute_in words.entry }
+{
+    let word = words.next()?;
+    if words.next().is_some() {
+        return None;
+    }
+    read_instant(word)
+}
+
+/// What a first word and the words after it say.
+pub(crate) fn phrase(script: bool, word: &[u8], words: Words<'_>) -> Option<Phrase>
+    ensures { result ≡ phrase_by script word.now words.entry }
+{
+    if script && word == b"@".as_slice() {
+        return Some(Phrase::At(minute(words)?));
+    }
+    if word == b"as".as_slice() {
+        return Some(Phrase::Be(actor(words)?));
+    }
+    Some(Phrase::Ask(request(word, words)?))
+}

@@ -1,0 +1,94 @@
+//! Lines, read over a policy.
+ghost use Rattle.std.specs.Prelude.{◌≡◌, IfOk};
+ghost use Rattle.request_text.specs.Phrases.{request_of, actor_of, line_of, said as said_by, read_line as read};
+ghost use Rattle.request_text.specs.Lines.{IsOpening, IsNamedLine};
+
+use crate::forms::phrase;
+use crate::lines::{Line, LineFault};
+use crate::phrases::{NamedRequest, Phrase};
+use gt_base::{Actor, Name, Request};
+use gt_text::Words;
+use policy_book::Policy;
+use policy_lines::is_comment;
+
+/// The request in numbers of the policy, none exactly where a name of it is not declared.
+fn numbered(p: &Policy, request: NamedRequest) -> Option<Request>
+    ensures { result ≡ request_of p.now request }
+{
+    match request {
+        NamedRequest::Now => Some(Request::Now),
+        NamedRequest::Status(c) => Some(Request::Status(p.cond(&c)?)),
+        NamedRequest::Seen(e) => Some(Request::Seen(p.event(&e)?)),
+        NamedRequest::Raise { head, delay } => Some(Request::Raise {
+            head: p.head(&head)?,
+            delay,
+        }),
+        NamedRequest::OpenSession => Some(Request::OpenSession),
+        NamedRequest::CloseSession(s) => Some(Request::CloseSession(s)),
+        NamedRequest::Activate(s, r) => Some(Request::Activate(s, p.role(&r)?)),
+        NamedRequest::Deactivate(s, r) => Some(Request::Deactivate(s, p.role(&r)?)),
+        NamedRequest::Active(s, r) => Some(Request::Active(s, p.role(&r)?)),
+        NamedRequest::Check(s, q) => Some(Request::Check(s, p.perm(&q)?)),
+    }
+}
+
+/// The actor of a name, the opening one where there is none; nobody is it exactly where the name is not declared.
+fn actor(p: &Policy, opening: Actor, user: Option<Name>) -> Option<Actor>
+    ensures { result ≡ actor_of p.now opening user }
+{
+    match user {
+        None => Some(opening),
+        Some(name) => Some(Actor::User(p.user(&name)?)),
+    }
+}
+
+/// What a phrase says over a policy, none exactly where a name of it is not declared.
+fn line_by(p: &Policy, opening: Actor, phrase: Phrase) -> Option<Line>
+    ensures { result ≡ line_of p.now opening phrase }
+{
+    match phrase {
+        Phrase::At(t) => Some(Line::At(t)),
+        Phrase::Be(user) => Some(Line::Be(actor(p, opening, user)?)),
+        Phrase::Ask(request) => Some(Line::Ask(numbered(p, request)?)),
+    }
+}
+
+fn said(p: &Policy, opening: Actor, phrase: Option<Phrase>) -> Result<Line, LineFault>
+    ensures { result ≡ said_by p.now opening phrase }
+{
+    let Some(phrase) = phrase else {
+        return Err(LineFault::Syntax);
+    };
+    match line_by(p, opening, phrase) {
+        Some(line) => Ok(line),
+        None => Err(LineFault::Name),
+    }
+}
+
+/// What a line says over a policy, or its fault.
+fn line_said(p: &Policy, opening: Actor, script: bool, line: &[u8]) -> Result<Line, LineFault>
+    ensures { result ≡ read p.now opening script line.now }
+{
+    if line.len() > 512 {
+        return Err(LineFault::Long);
+    }
+    let mut words = Words::new(line);
+    let Some(word) = words.next() else {
+        return Ok(Line::Silent);
+    };
+    if is_comment(word) {
+        return Ok(Line::Silent);
+    }
+    said(p, opening, phrase(script, word, words))
+}
+
+/// What a line of a script, or of a connection, says over a policy, or its fault. `opening` is the actor that `as -` stands
+/// for: the operator in a script, nobody on a connection.
+pub fn read_line(p: &Policy, opening: Actor, script: bool, line: &[u8]) -> Result<Line, LineFault>
+    requires { IsOpening opening }
+    ensures value { result ≡ read p.now opening script line.now }
+    ensures named { IfOk result (λ l. IsNamedLine p.now.policy l) }
+{
+    p.keeps();
+    line_said(p, opening, script, line)
+}

@@ -1,0 +1,212 @@
+//! Replies, written into room that was taken before.
+ghost use Rattle.std.specs.Prelude.{◌≡◌, ◌≤◌, ◌<◌, ◌+◌, ◌++◌, length, codes, decimal, flat_map, slice_get, IsTrue, Some};
+ghost use Rattle.std.specs.List.{list_all};
+ghost use Rattle.civil_time.specs.Text.{civil_text};
+ghost use Rattle.policy_words.specs.Naming.{role_name};
+ghost use Rattle.request_text.specs.Replies.{yes_or_no, seen_text, refusal_text, junior_text, edge_text, walk_text, decision_text, reply_text, reply_line};
+ghost use Rattle.request_text.specs.Named.{has_edge, has_walk, has_decision, has_reply};
+ghost use Rattle.request_text.specs.Walks.{step_name};
+
+use civil_time::write_civil;
+use gt_base::{Decision, HierEdge, Instant, List, Name, Refusal, Reply, RoleId, Seen, Walk};
+use itoa::Buffer;
+use policy_book::Policy;
+
+/// Adds a piece and a number.
+fn put_number(into: &mut List<u8>, piece: &[u8], n: u32)
+    requires { length (piece.now ++ decimal n) ≤ into.old.spare }
+    ensures items { into.new.items ≡ into.old.items ++ (piece.now ++ decimal n) }
+    ensures spare { into.old.spare ≤ into.new.spare + length (piece.now ++ decimal n) }
+{
+    let mut buffer = Buffer::new();
+    into.extend_from_slice(piece);
+    into.extend_from_slice(buffer.format(n).as_bytes());
+}
+
+/// Adds a piece and an instant.
+fn put_instant(into: &mut List<u8>, piece: &[u8], t: Instant)
+    requires { length (piece.now ++ civil_text t) ≤ into.old.spare }
+    ensures items { into.new.items ≡ into.old.items ++ (piece.now ++ civil_text t) }
+    ensures spare { into.old.spare ≤ into.new.spare + length (piece.now ++ civil_text t) }
+{
+    into.extend_from_slice(piece);
+    into.extend_from_slice(&write_civil(t));
+}
+
+fn put_seen(into: &mut List<u8>, seen: Seen)
+    requires { length (seen_text seen) ≤ into.old.spare }
+    ensures items { into.new.items ≡ into.old.items ++ seen_text seen }
+    ensures spare { into.old.spare ≤ into.new.spare + length (seen_text seen) }
+{
+    match seen {
+        Seen::Unblocked(prio) => put_number(into, b"yes ", u32::from(prio.get())),
+        Seen::Blocked(prio) => put_number(into, b"blocked ", u32::from(prio.get())),
+        Seen::Absent => into.extend_from_slice(b"no"),
+    }
+}
+
+fn put_refusal(into: &mut List<u8>, refusal: Refusal)
+    requires { length (refusal_text refusal) ≤ into.old.spare }
+    ensures items { into.new.items ≡ into.old.items ++ refusal_text refusal }
+    ensures spare { into.old.spare ≤ into.new.spare + length (refusal_text refusal) }
+{
+    match refusal {
+        Refusal::NoUser => into.extend_from_slice(b"no-user"),
+        Refusal::NotAdmin => into.extend_from_slice(b"not-admin"),
+        Refusal::Beyond { due } => put_number(into, b"beyond ", due),
+        Refusal::SessionsFull => into.extend_from_slice(b"sessions-full"),
+        Refusal::NoSession => into.extend_from_slice(b"no-session"),
+        Refusal::NotYours => into.extend_from_slice(b"not-yours"),
+        Refusal::NotActive => into.extend_from_slice(b"not-active"),
+        Refusal::Already => into.extend_from_slice(b"already"),
+        Refusal::Disabled => into.extend_from_slice(b"disabled"),
+        Refusal::NotAssigned => into.extend_from_slice(b"not-assigned"),
+        Refusal::RoleFull { n } => put_number(into, b"role-full ", n),
+        Refusal::UserFull { n } => put_number(into, b"user-full ", n),
+        Refusal::DaySpent { minutes } => put_number(into, b"day-spent ", minutes),
+    }
+}
+
+/// The edge of a number.
+fn edge(p: &Policy, n: u32) -> HierEdge
+    requires { IsTrue (has_edge p.now.policy n) }
+    ensures edge { slice_get p.now.policy.edges n ≡ Some result }
+    ensures senior { result.senior.0 < length p.now.names.roles }
+    ensures junior { result.junior.0 < length p.now.names.roles }
+{
+    p.keeps();
+    p.edges().as_slice()[n as usize]
+}
+
+/// The name of the junior of an edge.
+pub(crate) fn junior_of(p: &Policy, n: u32) -> Name
+    requires { IsTrue (has_edge p.now.policy n) }
+    ensures { result ≡ junior_text p.now n }
+{
+    p.role_name(edge(p, n).junior)
+}
+
+/// Adds the sign between two roles and the junior of an edge.
+fn put_junior(into: &mut List<u8>, p: &Policy, n: u32)
+    requires edge { IsTrue (has_edge p.now.policy n) }
+    requires room { length (step_name p.now n) ≤ into.old.spare }
+    ensures items { into.new.items ≡ into.old.items ++ step_name p.now n }
+    ensures spare { into.old.spare ≤ into.new.spare + length (step_name p.now n) }
+{
+    into.extend_from_slice(b">");
+    into.extend_from_slice(junior_of(p, n).bytes());
+}
+
+/// Adds a piece and the role where a walk begins.
+fn put_start(into: &mut List<u8>, p: &Policy, piece: &[u8], start: RoleId)
+    requires role { start.0 < length p.now.names.roles }
+    requires room { length (piece.now ++ role_name p.now.names start) ≤ into.old.spare }
+    ensures items { into.new.items ≡ into.old.items ++ (piece.now ++ role_name p.now.names start) }
+    ensures spare { into.old.spare ≤ into.new.spare + length (piece.now ++ role_name p.now.names start) }
+{
+    into.extend_from_slice(piece);
+    into.extend_from_slice(p.role_name(start).bytes());
+}
+
+fn put_juniors(into: &mut List<u8>, p: &Policy, edges: &[u32])
+    requires edges { IsTrue (list_all (has_edge p.now.policy) edges.now) }
+    requires room { length (flat_map (step_name p.now) edges.now) ≤ into.old.spare }
+    ensures items { into.new.items ≡ into.old.items ++ flat_map (step_name p.now) edges.now }
+    ensures spare { into.old.spare ≤ into.new.spare + length (flat_map (step_name p.now) edges.now) }
+{
+    for n in edges {
+        put_junior(into, p, *n);
+    }
+}
+
+/// Adds a piece and the names of a walk's roles.
+fn put_walk(into: &mut List<u8>, p: &Policy, piece: &[u8], walk: &Walk)
+    requires walk { IsTrue (has_walk p.now.policy walk.now) }
+    requires room { length (piece.now ++ walk_text p.now walk.now) ≤ into.old.spare }
+    ensures items { into.new.items ≡ into.old.items ++ (piece.now ++ walk_text p.now walk.now) }
+    ensures spare { into.old.spare ≤ into.new.spare + length (piece.now ++ walk_text p.now walk.now) }
+{
+    p.keeps();
+    put_start(into, p, piece, walk.start);
+    put_juniors(into, p, walk.edges.as_slice());
+}
+
+fn put_shut(into: &mut List<u8>, p: &Policy, n: u32)
+    requires edge { IsTrue (has_edge p.now.policy n) }
+    requires room { length (codes "deny shut " ++ edge_text p.now n) ≤ into.old.spare }
+    ensures items { into.new.items ≡ into.old.items ++ (codes "deny shut " ++ edge_text p.now n) }
+    ensures spare { into.old.spare ≤ into.new.spare + length (codes "deny shut " ++ edge_text p.now n) }
+{
+    let edge = edge(p, n);
+    into.extend_from_slice(b"deny shut ");
+    into.extend_from_slice(p.role_name(edge.senior).bytes());
+    into.extend_from_slice(b">");
+    into.extend_from_slice(p.role_name(edge.junior).bytes());
+}
+
+fn put_decision(into: &mut List<u8>, p: &Policy, decision: &Decision)
+    requires named { IsTrue (has_decision p.now.policy decision.now) }
+    requires room { length (decision_text p.now decision.now) ≤ into.old.spare }
+    ensures items { into.new.items ≡ into.old.items ++ decision_text p.now decision.now }
+    ensures spare { into.old.spare ≤ into.new.spare + length (decision_text p.now decision.now) }
+{
+    match decision {
+        Decision::Permit { walk } => put_walk(into, p, b"permit by ", walk),
+        Decision::NoActive => into.extend_from_slice(b"deny no-active"),
+        Decision::NoGrant => into.extend_from_slice(b"deny no-grant"),
+        Decision::Shut { edge } => put_shut(into, p, *edge),
+    }
+}
+
+fn put_truth(into: &mut List<u8>, truth: bool)
+    requires { length (yes_or_no truth) ≤ into.old.spare }
+    ensures items { into.new.items ≡ into.old.items ++ yes_or_no truth }
+    ensures spare { into.old.spare ≤ into.new.spare + length (yes_or_no truth) }
+{
+    if truth {
+        into.extend_from_slice(b"yes");
+    } else {
+        into.extend_from_slice(b"no");
+    }
+}
+
+fn put_refused(into: &mut List<u8>, refusal: Refusal)
+    requires { length (codes "refused " ++ refusal_text refusal) ≤ into.old.spare }
+    ensures items { into.new.items ≡ into.old.items ++ (codes "refused " ++ refusal_text refusal) }
+    ensures spare { into.old.spare ≤ into.new.spare + length (codes "refused " ++ refusal_text refusal) }
+{
+    into.extend_from_slice(b"refused ");
+    put_refusal(into, refusal);
+}
+
+/// Adds the text of a reply, without a line feed.
+pub(crate) fn put_text(into: &mut List<u8>, p: &Policy, reply: &Reply)
+    requires named { IsTrue (has_reply p.now.policy reply.now) }
+    requires room { length (reply_text p.now reply.now) ≤ into.old.spare }
+    ensures items { into.new.items ≡ into.old.items ++ reply_text p.now reply.now }
+    ensures spare { into.old.spare ≤ into.new.spare + length (reply_text p.now reply.now) }
+{
+    match reply {
+        Reply::Now(t) => put_instant(into, b"now ", *t),
+        Reply::Truth(truth) => put_truth(into, *truth),
+        Reply::Event(seen) => put_seen(into, *seen),
+        Reply::Queued(t) => put_instant(into, b"queued ", *t),
+        Reply::Session(session) => put_number(into, b"session ", session.0),
+        Reply::Done => into.extend_from_slice(b"ok"),
+        Reply::Active(walk) => put_walk(into, p, b"ok by ", walk),
+        Reply::Decided(decision) => put_decision(into, p, decision),
+        Reply::Refused(refusal) => put_refused(into, *refusal),
+    }
+}
+
+/// Adds the line of a reply, with its line feed, into room that was taken before: at most `LONGEST_REPLY` bytes where a
+/// walk has no more than 999 edges. It takes no memory.
+pub fn put_reply(p: &Policy, r: &Reply, into: &mut List<u8>)
+    requires named { IsTrue (has_reply p.now.policy r.now) }
+    requires room { length (reply_line p.now r.now) ≤ into.old.spare }
+    ensures items { into.new.items ≡ into.old.items ++ reply_line p.now r.now }
+    ensures spare { into.old.spare ≤ into.new.spare + length (reply_line p.now r.now) }
+{
+    put_text(into, p, r);
+    into.extend_from_slice(b"\n");
+}

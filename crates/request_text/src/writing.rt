@@ -1,0 +1,238 @@
+//! Replies, entries and the log.
+ghost use Rattle.std.specs.Prelude.{◌≡◌, ◌++◌, codes, decimal, flat_map, IsTrue, OnOk, IfOk, MatchOption, length, ◌<◌, ◌≤◌};
+ghost use Rattle.std.specs.List.{list_all};
+ghost use Rattle.civil_time.specs.Text.{civil_text};
+ghost use Rattle.policy_words.specs.Naming.{role_name};
+ghost use Rattle.request_text.specs.Replies.{walk_text, reply_text, reply_line, actor_text, request_text as text_of_request, who_text, step_text, entry_text, entry_line, log_text};
+ghost use Rattle.request_text.specs.Named.{has_edge, has_walk, has_reply, has_actor, has_request, has_entry};
+ghost use Rattle.request_text.specs.Sizes.{IsWalkless};
+ghost use Rattle.request_text.specs.Walks.{step_name, tick_text, asked_text};
+
+use crate::asked::write_request;
+use crate::replies::{junior_of, put_text};
+use crate::sizes::{SHORT_REPLY, small, walk_of};
+use civil_time::write_civil;
+use gt_base::{Actor, Entry, Instant, List, Memory, Reply, Request, RoleId, Step, Walk, Who};
+use itoa::Buffer;
+use policy_book::Policy;
+use std::alloc::Global;
+
+/// Adds a piece at the end.
+fn push(into: &mut List<u8>, piece: &[u8]) -> Result<(), Memory>
+    ensures { OnOk result (into.new.items ≡ into.old.items ++ piece.now) }
+{
+    into.reserve(piece.len())?;
+    into.extend_from_slice(piece);
+    Ok(())
+}
+
+fn push_number(into: &mut List<u8>, n: u32) -> Result<(), Memory>
+    ensures { OnOk result (into.new.items ≡ into.old.items ++ decimal n) }
+{
+    let mut buffer = Buffer::new();
+    push(into, buffer.format(n).as_bytes())
+}
+
+/// Adds the sign between two roles and the junior of an edge.
+fn push_junior(into: &mut List<u8>, p: &Policy, n: u32) -> Result<(), Memory>
+    requires { IsTrue (has_edge p.now.policy n) }
+    ensures { OnOk result (into.new.items ≡ into.old.items ++ step_name p.now n) }
+{
+    push(into, b">")?;
+    push(into, junior_of(p, n).bytes())
+}
+
+fn push_juniors(into: &mut List<u8>, p: &Policy, edges: &[u32]) -> Result<(), Memory>
+    requires { IsTrue (list_all (has_edge p.now.policy) edges.now) }
+    ensures { OnOk result (into.new.items ≡ into.old.items ++ flat_map (step_name p.now) edges.now) }
+{
+    for n in edges {
+        push_junior(into, p, *n)?;
+    }
+    Ok(())
+}
+
+/// Adds a piece and the role where a walk begins.
+fn push_start(into: &mut List<u8>, p: &Policy, piece: &[u8], start: RoleId) -> Result<(), Memory>
+    requires { start.0 < length p.now.names.roles }
+    ensures { OnOk result (into.new.items ≡ into.old.items ++ (piece.now ++ role_name p.now.names start)) }
+{
+    push(into, piece)?;
+    push(into, p.role_name(start).bytes())
+}
+
+/// Adds a piece and the names of a walk's roles.
+fn push_walk(into: &mut List<u8>, p: &Policy, piece: &[u8], walk: &Walk) -> Result<(), Memory>
+    requires { IsTrue (has_walk p.now.policy walk.now) }
+    ensures { OnOk result (into.new.items ≡ into.old.items ++ (piece.now ++ walk_text p.now walk.now)) }
+{
+    p.keeps();
+    push_start(into, p, piece, walk.start)?;
+    push_juniors(into, p, walk.edges.as_slice())
+}
+
+/// Adds the text of a reply without a walk.
+fn push_short(into: &mut List<u8>, p: &Policy, reply: &Reply) -> Result<(), Memory>
+    requires named { IsTrue (has_reply p.now.policy reply.now) }
+    requires walkless { IsWalkless reply.now }
+    ensures { OnOk result (into.new.items ≡ into.old.items ++ reply_text p.now reply.now) }
+{
+    p.keeps();
+    small(reply);
+    into.reserve(SHORT_REPLY)?;
+    put_text(into, p, reply);
+    Ok(())
+}
+
+/// Adds the text of a reply, without a line feed.
+fn push_text(into: &mut List<u8>, p: &Policy, reply: &Reply) -> Result<(), Memory>
+    requires { IsTrue (has_reply p.now.policy reply.now) }
+    ensures { OnOk result (into.new.items ≡ into.old.items ++ reply_text p.now reply.now) }
+{
+    match walk_of(reply) {
+        Some((piece, walk)) => push_walk(into, p, piece, walk),
+        None => push_short(into, p, reply),
+    }
+}
+
+/// The line of a reply, with its line feed.
+pub fn write_reply(alloc: Global, p: &Policy, r: &Reply) -> Result<List<u8>, Memory>
+    requires { IsTrue (has_reply p.now.policy r.now) }
+    ensures { IfOk result (λ text. text.items ≡ reply_line p.now r.now) }
+{
+    let mut text = List::new(alloc);
+    push_text(&mut text, p, r)?;
+    push(&mut text, b"\n")?;
+    Ok(text)
+}
+
+fn push_who(into: &mut List<u8>, who: Who) -> Result<(), Memory>
+    ensures { OnOk result (into.new.items ≡ into.old.items ++ who_text who) }
+{
+    push_number(into, who.worker)?;
+    push(into, b".")?;
+    push_number(into, who.conn)
+}
+
+fn push_actor(into: &mut List<u8>, p: &Policy, actor: Actor) -> Result<(), Memory>
+    requires { IsTrue (has_actor p.now.policy actor) }
+    ensures { OnOk result (into.new.items ≡ into.old.items ++ actor_text p.now actor) }
+{
+    match actor {
+        Actor::Operator | Actor::Nobody => push(into, b"-"),
+        Actor::User(u) => {
+            p.keeps();
+            push(into, p.user_name(u).bytes())
+        }
+    }
+}
+
+/// Adds a piece and an instant.
+fn push_instant(into: &mut List<u8>, piece: &[u8], t: Instant) -> Result<(), Memory>
+    ensures { OnOk result (into.new.items ≡ into.old.items ++ (piece.now ++ civil_text t)) }
+{
+    push(into, piece)?;
+    push(into, &write_civil(t))
+}
+
+fn push_tick(into: &mut List<u8>, who: Who, to: Instant, upto: Instant) -> Result<(), Memory>
+    ensures { OnOk result (into.new.items ≡ into.old.items ++ tick_text who to upto) }
+{
+    push(into, b"tick ")?;
+    push_who(into, who)?;
+    push_instant(into, b" to ", to)?;
+    push_instant(into, b" bound ", upto)
+}
+
+/// Adds who asked what, up to the reply.
+fn push_asked(
+    alloc: Global,
+    into: &mut List<u8>,
+    p: &Policy,
+    who: Who,
+    actor: Actor,
+    request: Request,
+) -> Result<(), Memory>
+    requires actor { IsTrue (has_actor p.now.policy actor) }
+    requires request { IsTrue (has_request p.now.policy request) }
+    ensures { OnOk result (into.new.items ≡ into.old.items ++ asked_text p.now who actor request) }
+{
+    let request = write_request(alloc, p, request)?;
+    push(into, b"ask ")?;
+    push_who(into, who)?;
+    push(into, b" ")?;
+    push_actor(into, p, actor)?;
+    push(into, b" ")?;
+    push(into, request.as_slice())?;
+    push(into, b" = ")
+}
+
+/// Adds the text of an entry, without a line feed.
+fn push_entry(alloc: Global, into: &mut List<u8>, p: &Policy, e: &Entry) -> Result<(), Memory>
+    requires { IsTrue (has_entry p.now.policy e.now) }
+    ensures { OnOk result (into.new.items ≡ into.old.items ++ entry_text p.now e.now) }
+{
+    match &e.what {
+        Step::Tick { upto, to } => push_tick(into, e.who, *to, *upto),
+        Step::Ask {
+            actor,
+            request,
+            reply,
+        } => {
+            push_asked(alloc, into, p, e.who, *actor, *request)?;
+            push_text(into, p, reply)
+        }
+    }
+}
+
+/// The text of an entry, without a line feed.
+pub fn write_entry(alloc: Global, p: &Policy, e: &Entry) -> Result<List<u8>, Memory>
+    requires { IsTrue (has_entry p.now.policy e.now) }
+    ensures { IfOk result (λ text. text.items ≡ entry_text p.now e.now) }
+{
+    let mut text = List::new(alloc);
+    push_entry(alloc, &mut text, p, e)?;
+    Ok(text)
+}
+
+/// Adds the line of an entry.
+fn push_line(alloc: Global, into: &mut List<u8>, p: &Policy, e: &Entry) -> Result<(), Memory>
+    requires { IsTrue (has_entry p.now.policy e.now) }
+    ensures { OnOk result (into.new.items ≡ into.old.items ++ entry_line p.now e.now) }
+{
+    push_entry(alloc, into, p, e)?;
+    push(into, b"\n")
+}
+
+fn push_entries(
+    alloc: Global,
+    into: &mut List<u8>,
+    p: &Policy,
+    entries: &[Entry],
+) -> Result<(), Memory>
+    requires { IsTrue (list_all (has_entry p.now.policy) entries.now) }
+    ensures { OnOk result (into.new.items ≡ into.old.items ++ flat_map (entry_line p.now) entries.now) }
+{
+    for e in entries {
+        push_line(alloc, into, p, e)?;
+    }
+    Ok(())
+}
+
+/// The log of a history: the line of its birth, then a line for each entry.
+pub fn write_log(
+    alloc: Global,
+    p: &Policy,
+    birth: Instant,
+    h: &List<Entry>,
+) -> Result<List<u8>, Memory>
+    requires { IsTrue (list_all (has_entry p.now.policy) h.now.items) }
+    ensures { IfOk result (λ text. text.items ≡ log_text p.now birth h.now.items) }
+{
+    let mut text = List::new(alloc);
+    push(&mut text, b"born ")?;
+    push(&mut text, &write_civil(birth))?;
+    push(&mut text, b"\n")?;
+    push_entries(alloc, &mut text, p, h.as_slice())?;
+    Ok(text)
+}

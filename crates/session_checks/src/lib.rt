@@ -1,0 +1,9 @@
+//! Checks of the hierarchy, decisions and the table of sessions on small policies.
+#![tactic(auto)]
+
+#[cfg(test)]
+mod building;
+#[cfg(test)]
+mod decisions;
+#[cfg(test)]
+mod spent_day;

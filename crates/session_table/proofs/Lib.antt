@@ -1,0 +1,11 @@
+pub mod RoleOrder
+pub mod Charging
+pub mod Finding
+pub mod Indexing
+pub mod Keeping
+pub mod Answering
+pub mod Telling
+pub mod Entering
+pub mod Committing
+pub mod Closing
+pub mod Capped

@@ -1,0 +1,196 @@
+use Rattle.std.proofs.Common.{◌≡◌, false, set, [], ◌∷◌, ◌++◌, map, count_by, Some, None, IfSome, refl, sym, ap, subst, ◌∙◌, arith}
+use Rattle.std.specs.List.{slice_get, list_any}
+use Rattle.gt_base.specs.Sets.{has, with_member}
+use Rattle.gt_base.specs.declared.events.RoleId.{RoleId}
+use Rattle.gt_base.specs.declared.events.UserId.{UserId}
+use Rattle.gt_base.specs.declared.events.SessionId.{SessionId}
+use Rattle.gtrbac_model.specs.Same.{same_role}
+use Rattle.gtrbac_model.specs.Calendar.{day_of}
+use Rattle.gtrbac_model.specs.Conflict.{Status}
+use Rattle.gtrbac_model.specs.Sessions.{Table, caps_of, is_of, is_active_in, owner_of}
+use Rattle.gtrbac_model.specs.Reply.{session_causes}
+use Rattle.session_table.specs.declared.opened.Open.{Open}
+use Rattle.session_table.specs.Opened.{opened}
+use Rattle.session_table.specs.Causes.{first_cause, StandsAt, early_causes, late_causes}
+use Rattle.session_table.specs.Charges.{charged_in}
+use Rattle.session_table.specs.Tables.{table_of}
+use Rattle.session_table.proofs.Answering.{refused_session, refused_early, refused_walk, refused_late, allowed, early_none}
+use Rattle.session_table.proofs.Keeping.{entered, few_of, few_of_role}
+use Rattle.session_table.proofs.Entering.{activation, entered_is}
+use Rattle.session_table.proofs.Indexing.{kept_opened}
+use Rattle.session_table.proofs.Finding.{inside}
+use Rattle.session_table.proofs.Telling.{same_table, causes, owner, active_at}
+use Rattle.session_table.proofs.tables.Sessions.activate.Goals as goal
+
+pub returns-in-Err-clause-refused : goal.returns-in-Err-clause-refused
+returns-in-Err-clause-refused c =
+    let s : Status = has c.args.status.now.set in
+    refused_session c.args.edges.now.items c.args.caps.now.items s c.args.now (table_of c.args.self.now) c.args.actor c.args.session c.args.role c.in-Err.refusal
+    (causes c.args.self.now c.deref.result.now (ap (map opened) c.deref.ensures.value ∙ ap (λ v. v.sessions) c.self.view_is) c.args.actor c.args.session (Some c.in-Err.refusal) c.in-Err.ensures.err)
+
+pub returns-in-Some-clause-refused : goal.returns-in-Some-clause-refused
+returns-in-Some-clause-refused c =
+    let n : SessionId = c.args.session in
+    let r : RoleId = c.args.role in
+    let u : UserId = c.owner_at-user.result in
+    let s : Status = has c.args.status.now.set in
+    let tv : Table = table_of c.args.self.now in
+    let stands : StandsAt c.self.inside.sessions.items n c.in-Ok.at = subst (λ os. StandsAt os n c.in-Ok.at) c.deref.ensures.value c.in-Ok.ensures.place in
+    let may : first_cause (session_causes tv c.args.actor n) ≡ None =
+    causes c.args.self.now c.deref.result.now (ap (map opened) c.deref.ensures.value ∙ ap (λ v. v.sessions) c.self.view_is) c.args.actor n None c.in-Ok.ensures.ok in
+    let own : owner_of tv n ≡ Some u =
+    owner c.args.self.now c.self.inside.sessions.items (ap (λ v. v.sessions) c.self.view_is) n c.in-Ok.at u stands
+    (subst (λ os. IfSome (slice_get os c.in-Ok.at) (λ o. u ≡ o.owner)) c.deref-2.ensures.value c.owner_at-user.ensures) in
+    let there : c.has_role-is_active.result ≡ list_any (is_active_in n r) c.self.inside.active.items =
+    active_at c.self.inside.sessions.items c.self.inside.active.items c.self.inside.charges.entries c.self.inside.charged_to c.self.invariant n c.in-Ok.at stands r c.has_role-is_active.result
+    (subst (λ os. IfSome (slice_get os c.in-Ok.at) (λ o. c.has_role-is_active.result ≡ has o.roles r)) c.deref-3.ensures.value c.has_role-is_active.ensures) in
+    let early_is : c.early_refusal.result ≡ first_cause (early_causes s (list_any (is_active_in n r) tv.active) r) =
+    c.early_refusal.ensures ∙ ap (λ b. first_cause (early_causes s b r)) (there ∙ ap (λ v. list_any (is_active_in n r) v.active) c.self.view_is) in
+    refused_early c.args.edges.now.items c.args.caps.now.items s c.args.now tv c.args.actor n r u own may c.in-Some.refusal (sym early_is ∙ c.in-Some.is)
+
+pub returns-in_default-2-clause-refused : goal.returns-in_default-2-clause-refused
+returns-in_default-2-clause-refused c =
+    let n : SessionId = c.args.session in
+    let r : RoleId = c.args.role in
+    let u : UserId = c.owner_at-user.result in
+    let s : Status = has c.args.status.now.set in
+    let tv : Table = table_of c.args.self.now in
+    let stands : StandsAt c.self.inside.sessions.items n c.in-Ok.at = subst (λ os. StandsAt os n c.in-Ok.at) c.deref.ensures.value c.in-Ok.ensures.place in
+    let may : first_cause (session_causes tv c.args.actor n) ≡ None =
+    causes c.args.self.now c.deref.result.now (ap (map opened) c.deref.ensures.value ∙ ap (λ v. v.sessions) c.self.view_is) c.args.actor n None c.in-Ok.ensures.ok in
+    let own : owner_of tv n ≡ Some u =
+    owner c.args.self.now c.self.inside.sessions.items (ap (λ v. v.sessions) c.self.view_is) n c.in-Ok.at u stands
+    (subst (λ os. IfSome (slice_get os c.in-Ok.at) (λ o. u ≡ o.owner)) c.deref-2.ensures.value c.owner_at-user.ensures) in
+    let there : c.has_role-is_active.result ≡ list_any (is_active_in n r) c.self.inside.active.items =
+    active_at c.self.inside.sessions.items c.self.inside.active.items c.self.inside.charges.entries c.self.inside.charged_to c.self.invariant n c.in-Ok.at stands r c.has_role-is_active.result
+    (subst (λ os. IfSome (slice_get os c.in-Ok.at) (λ o. c.has_role-is_active.result ≡ has o.roles r)) c.deref-3.ensures.value c.has_role-is_active.ensures) in
+    let early_is : c.early_refusal.result ≡ first_cause (early_causes s (list_any (is_active_in n r) tv.active) r) =
+    c.early_refusal.ensures ∙ ap (λ b. first_cause (early_causes s b r)) (there ∙ ap (λ v. list_any (is_active_in n r) v.active) c.self.view_is) in
+    refused_walk c.args.edges.now.items c.args.caps.now.items s c.args.now tv c.args.actor n r u own may (sym early_is ∙ c.in_default.is) (sym c.in_ok-walk.ensures ∙ c.in_default-2.is)
+
+pub overflow_cast-all : goal.overflow_cast-all
+overflow_cast-all c =
+    let few = few_of_role c.self.inside.sessions.items c.self.inside.active.items c.self.inside.charges.entries c.self.inside.charged_to c.self.invariant c.args.role in
+    let is : c.count_role-all.result ≡ count_by (λ a. same_role a.role c.args.role) c.self.inside.active.items = c.count_role-all.ensures ∙ ap (count_by (λ a. same_role a.role c.args.role)) c.deref-4.ensures.value in
+    omega (arith, few, is)
+
+pub overflow_cast-own : goal.overflow_cast-own
+overflow_cast-own c =
+    let few = few_of c.self.inside.sessions.items c.self.inside.active.items c.self.inside.charges.entries c.self.inside.charged_to c.self.invariant c.owner_at-user.result c.args.role in
+    let is : c.count_of-own.result ≡ count_by (is_of c.owner_at-user.result c.args.role) c.self.inside.active.items = c.count_of-own.ensures ∙ ap (count_by (is_of c.owner_at-user.result c.args.role)) c.deref-5.ensures.value in
+    omega (arith, few, is)
+
+pub returns-in-Some-late_refusal-clause-refused : goal.returns-in-Some-late_refusal-clause-refused
+returns-in-Some-late_refusal-clause-refused c =
+    let n : SessionId = c.args.session in
+    let r : RoleId = c.args.role in
+    let u : UserId = c.owner_at-user.result in
+    let s : Status = has c.args.status.now.set in
+    let tv : Table = table_of c.args.self.now in
+    let stands : StandsAt c.self.inside.sessions.items n c.in-Ok.at = subst (λ os. StandsAt os n c.in-Ok.at) c.deref.ensures.value c.in-Ok.ensures.place in
+    let may : first_cause (session_causes tv c.args.actor n) ≡ None =
+    causes c.args.self.now c.deref.result.now (ap (map opened) c.deref.ensures.value ∙ ap (λ v. v.sessions) c.self.view_is) c.args.actor n None c.in-Ok.ensures.ok in
+    let own : owner_of tv n ≡ Some u =
+    owner c.args.self.now c.self.inside.sessions.items (ap (λ v. v.sessions) c.self.view_is) n c.in-Ok.at u stands
+    (subst (λ os. IfSome (slice_get os c.in-Ok.at) (λ o. u ≡ o.owner)) c.deref-2.ensures.value c.owner_at-user.ensures) in
+    let there : c.has_role-is_active.result ≡ list_any (is_active_in n r) c.self.inside.active.items =
+    active_at c.self.inside.sessions.items c.self.inside.active.items c.self.inside.charges.entries c.self.inside.charged_to c.self.invariant n c.in-Ok.at stands r c.has_role-is_active.result
+    (subst (λ os. IfSome (slice_get os c.in-Ok.at) (λ o. c.has_role-is_active.result ≡ has o.roles r)) c.deref-3.ensures.value c.has_role-is_active.ensures) in
+    let early_is : c.early_refusal.result ≡ first_cause (early_causes s (list_any (is_active_in n r) tv.active) r) =
+    c.early_refusal.ensures ∙ ap (λ b. first_cause (early_causes s b r)) (there ∙ ap (λ v. list_any (is_active_in n r) v.active) c.self.view_is) in
+    let late_is : c.late_refusal.result ≡ first_cause (late_causes (caps_of c.args.caps.now.items r) (count_by (λ a. same_role a.role r) tv.active) (count_by (is_of u r) tv.active) (tv.charged u r (day_of c.args.now))) =
+    c.late_refusal.ensures
+    ∙ ap (λ x. first_cause (late_causes x c.count_role-all.result c.count_of-own.result c.charged-spent.result)) (c.caps_of.ensures ∙ ap (λ xs. caps_of xs r) c.as_slice.ensures)
+    ∙ ap (λ x. first_cause (late_causes (caps_of c.args.caps.now.items r) x c.count_of-own.result c.charged-spent.result))
+    (c.count_role-all.ensures ∙ ap (count_by (λ a. same_role a.role r)) c.deref-4.ensures.value ∙ ap (λ v. count_by (λ a. same_role a.role r) v.active) c.self.view_is)
+    ∙ ap (λ x. first_cause (late_causes (caps_of c.args.caps.now.items r) (count_by (λ a. same_role a.role r) tv.active) x c.charged-spent.result))
+    (c.count_of-own.ensures ∙ ap (count_by (is_of u r)) c.deref-5.ensures.value ∙ ap (λ v. count_by (is_of u r) v.active) c.self.view_is)
+    ∙ ap (λ x. first_cause (late_causes (caps_of c.args.caps.now.items r) (count_by (λ a. same_role a.role r) tv.active) (count_by (is_of u r) tv.active) x))
+    (c.charged-spent.ensures ∙ ap (charged_in c.self.inside.charges.entries u r) c.day.ensures ∙ ap (λ v. charged_in v.charges u r (day_of c.args.now)) c.self.view_is) in
+    refused_late c.args.edges.now.items c.args.caps.now.items s c.args.now tv c.args.actor n r u own may (sym early_is ∙ c.in_default.is) c.in-Some-2.walk (sym c.in_ok-walk.ensures ∙ c.in-Some-2.is) c.in-Some-late_refusal.refusal (sym late_is ∙ c.in-Some-late_refusal.is)
+
+pub invariant_of-self-2 : goal.invariant_of-self-2
+invariant_of-self-2 c =
+    let n : SessionId = c.args.session in
+    let r : RoleId = c.args.role in
+    let u : UserId = c.owner_at-user.result in
+    let s : Status = has c.args.status.now.set in
+    let tv : Table = table_of c.args.self.now in
+    let stands : StandsAt c.self.inside.sessions.items n c.in-Ok.at = subst (λ os. StandsAt os n c.in-Ok.at) c.deref.ensures.value c.in-Ok.ensures.place in
+    let may : first_cause (session_causes tv c.args.actor n) ≡ None =
+    causes c.args.self.now c.deref.result.now (ap (map opened) c.deref.ensures.value ∙ ap (λ v. v.sessions) c.self.view_is) c.args.actor n None c.in-Ok.ensures.ok in
+    let own : owner_of tv n ≡ Some u =
+    owner c.args.self.now c.self.inside.sessions.items (ap (λ v. v.sessions) c.self.view_is) n c.in-Ok.at u stands
+    (subst (λ os. IfSome (slice_get os c.in-Ok.at) (λ o. u ≡ o.owner)) c.deref-2.ensures.value c.owner_at-user.ensures) in
+    let there : c.has_role-is_active.result ≡ list_any (is_active_in n r) c.self.inside.active.items =
+    active_at c.self.inside.sessions.items c.self.inside.active.items c.self.inside.charges.entries c.self.inside.charged_to c.self.invariant n c.in-Ok.at stands r c.has_role-is_active.result
+    (subst (λ os. IfSome (slice_get os c.in-Ok.at) (λ o. c.has_role-is_active.result ≡ has o.roles r)) c.deref-3.ensures.value c.has_role-is_active.ensures) in
+    let early_is : c.early_refusal.result ≡ first_cause (early_causes s (list_any (is_active_in n r) tv.active) r) =
+    c.early_refusal.ensures ∙ ap (λ b. first_cause (early_causes s b r)) (there ∙ ap (λ v. list_any (is_active_in n r) v.active) c.self.view_is) in
+    let (o, at) = inside c.self.inside.sessions.items c.in-Ok.at stands.inside in
+    let new : c.add_role.new.sessions.items ≡ set c.self.inside.sessions.items c.in-Ok.at (record o { roles = with_member o.roles r }) =
+    subst (λ x. IfSome x (λ (o : Open). c.add_role.new.sessions.items ≡ set c.self.inside.sessions.items c.in-Ok.at (record o { roles = with_member o.roles r }))) at c.in_ok-add_role.ensures.ok in
+    let joined : c.put.new.active.items ≡ c.self.inside.active.items ++ activation n u r c.args.now ∷ [] =
+    c.put.ensures ∙ ap (λ xs. xs ++ activation n u r c.args.now ∷ []) c.in_ok-reserve.ensures.items in
+    let fresh : list_any (is_active_in n r) c.self.inside.active.items ≡ false = sym there ∙ early_none s c.has_role-is_active.result r (sym c.early_refusal.ensures ∙ c.in_default.is) in
+    rw (new, joined) (entered c.self.inside.sessions.items c.self.inside.active.items c.self.inside.charges.entries c.self.inside.charged_to c.self.invariant n c.in-Ok.at stands o at r u c.args.now fresh)
+
+pub returns-clause-answer : goal.returns-clause-answer
+returns-clause-answer c =
+    let n : SessionId = c.args.session in
+    let r : RoleId = c.args.role in
+    let u : UserId = c.owner_at-user.result in
+    let s : Status = has c.args.status.now.set in
+    let tv : Table = table_of c.args.self.now in
+    let stands : StandsAt c.self.inside.sessions.items n c.in-Ok.at = subst (λ os. StandsAt os n c.in-Ok.at) c.deref.ensures.value c.in-Ok.ensures.place in
+    let may : first_cause (session_causes tv c.args.actor n) ≡ None =
+    causes c.args.self.now c.deref.result.now (ap (map opened) c.deref.ensures.value ∙ ap (λ v. v.sessions) c.self.view_is) c.args.actor n None c.in-Ok.ensures.ok in
+    let own : owner_of tv n ≡ Some u =
+    owner c.args.self.now c.self.inside.sessions.items (ap (λ v. v.sessions) c.self.view_is) n c.in-Ok.at u stands
+    (subst (λ os. IfSome (slice_get os c.in-Ok.at) (λ o. u ≡ o.owner)) c.deref-2.ensures.value c.owner_at-user.ensures) in
+    let there : c.has_role-is_active.result ≡ list_any (is_active_in n r) c.self.inside.active.items =
+    active_at c.self.inside.sessions.items c.self.inside.active.items c.self.inside.charges.entries c.self.inside.charged_to c.self.invariant n c.in-Ok.at stands r c.has_role-is_active.result
+    (subst (λ os. IfSome (slice_get os c.in-Ok.at) (λ o. c.has_role-is_active.result ≡ has o.roles r)) c.deref-3.ensures.value c.has_role-is_active.ensures) in
+    let early_is : c.early_refusal.result ≡ first_cause (early_causes s (list_any (is_active_in n r) tv.active) r) =
+    c.early_refusal.ensures ∙ ap (λ b. first_cause (early_causes s b r)) (there ∙ ap (λ v. list_any (is_active_in n r) v.active) c.self.view_is) in
+    let late_is : c.late_refusal.result ≡ first_cause (late_causes (caps_of c.args.caps.now.items r) (count_by (λ a. same_role a.role r) tv.active) (count_by (is_of u r) tv.active) (tv.charged u r (day_of c.args.now))) =
+    c.late_refusal.ensures
+    ∙ ap (λ x. first_cause (late_causes x c.count_role-all.result c.count_of-own.result c.charged-spent.result)) (c.caps_of.ensures ∙ ap (λ xs. caps_of xs r) c.as_slice.ensures)
+    ∙ ap (λ x. first_cause (late_causes (caps_of c.args.caps.now.items r) x c.count_of-own.result c.charged-spent.result))
+    (c.count_role-all.ensures ∙ ap (count_by (λ a. same_role a.role r)) c.deref-4.ensures.value ∙ ap (λ v. count_by (λ a. same_role a.role r) v.active) c.self.view_is)
+    ∙ ap (λ x. first_cause (late_causes (caps_of c.args.caps.now.items r) (count_by (λ a. same_role a.role r) tv.active) x c.charged-spent.result))
+    (c.count_of-own.ensures ∙ ap (count_by (is_of u r)) c.deref-5.ensures.value ∙ ap (λ v. count_by (is_of u r) v.active) c.self.view_is)
+    ∙ ap (λ x. first_cause (late_causes (caps_of c.args.caps.now.items r) (count_by (λ a. same_role a.role r) tv.active) (count_by (is_of u r) tv.active) x))
+    (c.charged-spent.ensures ∙ ap (charged_in c.self.inside.charges.entries u r) c.day.ensures ∙ ap (λ v. charged_in v.charges u r (day_of c.args.now)) c.self.view_is) in
+    allowed c.args.edges.now.items c.args.caps.now.items s c.args.now tv c.args.actor n r u own may (sym early_is ∙ c.in_default.is) c.in-Some-2.walk (sym c.in_ok-walk.ensures ∙ c.in-Some-2.is) (sym late_is ∙ c.in_default-late_refusal.is)
+
+pub returns-clause-table : goal.returns-clause-table
+returns-clause-table c =
+    let n : SessionId = c.args.session in
+    let r : RoleId = c.args.role in
+    let u : UserId = c.owner_at-user.result in
+    let s : Status = has c.args.status.now.set in
+    let tv : Table = table_of c.args.self.now in
+    let stands : StandsAt c.self.inside.sessions.items n c.in-Ok.at = subst (λ os. StandsAt os n c.in-Ok.at) c.deref.ensures.value c.in-Ok.ensures.place in
+    let may : first_cause (session_causes tv c.args.actor n) ≡ None =
+    causes c.args.self.now c.deref.result.now (ap (map opened) c.deref.ensures.value ∙ ap (λ v. v.sessions) c.self.view_is) c.args.actor n None c.in-Ok.ensures.ok in
+    let own : owner_of tv n ≡ Some u =
+    owner c.args.self.now c.self.inside.sessions.items (ap (λ v. v.sessions) c.self.view_is) n c.in-Ok.at u stands
+    (subst (λ os. IfSome (slice_get os c.in-Ok.at) (λ o. u ≡ o.owner)) c.deref-2.ensures.value c.owner_at-user.ensures) in
+    let there : c.has_role-is_active.result ≡ list_any (is_active_in n r) c.self.inside.active.items =
+    active_at c.self.inside.sessions.items c.self.inside.active.items c.self.inside.charges.entries c.self.inside.charged_to c.self.invariant n c.in-Ok.at stands r c.has_role-is_active.result
+    (subst (λ os. IfSome (slice_get os c.in-Ok.at) (λ o. c.has_role-is_active.result ≡ has o.roles r)) c.deref-3.ensures.value c.has_role-is_active.ensures) in
+    let early_is : c.early_refusal.result ≡ first_cause (early_causes s (list_any (is_active_in n r) tv.active) r) =
+    c.early_refusal.ensures ∙ ap (λ b. first_cause (early_causes s b r)) (there ∙ ap (λ v. list_any (is_active_in n r) v.active) c.self.view_is) in
+    let (o, at) = inside c.self.inside.sessions.items c.in-Ok.at stands.inside in
+    let new : c.add_role.new.sessions.items ≡ set c.self.inside.sessions.items c.in-Ok.at (record o { roles = with_member o.roles r }) =
+    subst (λ x. IfSome x (λ (o : Open). c.add_role.new.sessions.items ≡ set c.self.inside.sessions.items c.in-Ok.at (record o { roles = with_member o.roles r }))) at c.in_ok-add_role.ensures.ok in
+    let joined : c.put.new.active.items ≡ c.self.inside.active.items ++ activation n u r c.args.now ∷ [] =
+    c.put.ensures ∙ ap (λ xs. xs ++ activation n u r c.args.now ∷ []) c.in_ok-reserve.ensures.items in
+    entered_is c.args.now n r tv c.args.actor c.in-Some-2.walk u own
+    ∙ same_table _ _
+    (ap (λ v. v.sessions) (sym c.self.view_is) ∙ sym (kept_opened c.self.inside.sessions.items c.in-Ok.at o (record o { roles = with_member o.roles r }) at refl) ∙ ap (map opened) (sym new))
+    (ap (λ v. v.active ++ activation n u r c.args.now ∷ []) (sym c.self.view_is) ∙ sym joined)
+    (ap (λ v. charged_in v.charges) (sym c.self.view_is))
+    (ap (λ v. v.begun) (sym c.self.view_is))
+    (ap (λ x. x ∷ []) (sym c.signal_of.ensures))

@@ -1,0 +1,26 @@
+-- What the close of an instant drops, in the words of the rows.
+use Rattle.std.specs.Prelude.{ℕ, ◌+◌, ◌-◌, ◌*◌, Bool, ◌||◌, not, List, count_by, is_none}
+use Rattle.gt_base.specs.declared.events.RoleId.{RoleId}
+use Rattle.gt_base.specs.declared.events.UserId.{UserId}
+use Rattle.gt_base.specs.declared.events.Fluent.TheVariants.{Enabled}
+use Rattle.gt_base.specs.declared.policies.Caps.{Caps}
+use Rattle.gt_base.specs.declared.policies.HierEdge.{HierEdge}
+use Rattle.gtrbac_model.specs.Calendar.{day_of}
+use Rattle.gtrbac_model.specs.Conflict.{Status}
+use Rattle.gtrbac_model.specs.Hierarchy.{activation_walk}
+use Rattle.gtrbac_model.specs.Sessions.{Activation, caps_of, reached, is_of}
+use Rattle.history_laws.specs.Tables.{minutes_of_day}
+use Rattle.session_table.specs.declared.charges.Charge.{Charge}
+use Rattle.session_table.specs.Charges.{charged_in}
+
+-- what is charged on the civil day of `to`, where the minutes after now are charged to each activation
+abbrev pub spent_by : List (Charge × ℕ) → List Activation → ℕ → ℕ → UserId → RoleId → ℕ
+spent_by rows active now to u r = charged_in rows u r (day_of to) + minutes_of_day now (to - now) (day_of to) * count_by (is_of u r) active
+
+-- whether the close of `to` drops the activation
+abbrev pub is_dropped : List HierEdge → List Caps → Status → List (Charge × ℕ) → List Activation → ℕ → ℕ → Activation → Bool
+is_dropped edges caps s rows active now to a =
+    not (s (Enabled a.role))
+    || is_none (activation_walk edges s a.user a.role)
+    || reached (caps_of caps a.role).length (to - a.begun)
+    || reached (caps_of caps a.role).day (spent_by rows active now to a.user a.role)

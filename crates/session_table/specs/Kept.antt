@@ -1,0 +1,24 @@
+-- What every table keeps.
+use Rattle.std.specs.Prelude.{◌≡◌, ℕ, ◌+◌, ◌-◌, ◌*◌, ◌≤◌, min, List, length, count_by, Option, Some, None}
+use Rattle.std.specs.List.{list_any}
+use Rattle.gt_base.specs.declared.events.RoleId.{RoleId}
+use Rattle.gt_base.specs.declared.events.UserId.{UserId}
+use Rattle.gt_base.specs.declared.events.SessionId.{SessionId}
+use Rattle.gtrbac_model.specs.Sessions.{Activation, is_active_in}
+use Rattle.session_table.specs.declared.opened.Open.{Open}
+use Rattle.session_table.specs.declared.charges.Charge.{Charge}
+use Rattle.session_table.specs.Opened.{role_in}
+use Rattle.session_table.specs.Charges.{charged_in}
+
+-- how many minutes of a civil day have passed at the close of an instant
+abbrev pub minutes_until : Option ℕ → ℕ → ℕ
+minutes_until None d = 0
+minutes_until (Some t) d = min (t + 1) (1440 * d + 1440) - 1440 * d
+
+-- at most 10,000 sessions; a session's roles are those of its activations, each role once; and what is charged on a day is no more than
+-- 10,000 activations can be charged
+pub record IsKept (os : List Open) (active : List Activation) (charges : List (Charge × ℕ)) (to : Option ℕ) : Type 0 where
+  pub few : length os ≤ 10_000
+  pub index : (n : SessionId) (r : RoleId) → role_in os n r ≡ list_any (is_active_in n r) active
+  pub once : (n : SessionId) (r : RoleId) → count_by (is_active_in n r) active ≤ 1
+  pub bounded : (u : UserId) (r : RoleId) (d : ℕ) → charged_in charges u r d ≤ 10_000 * minutes_until to d

@@ -1,0 +1,12 @@
+pub mod RoleSets
+pub mod Opened
+pub mod Charges
+pub mod Tables
+pub mod Replies
+pub mod Causes
+pub mod Kept
+pub mod Plans
+pub mod Dropping
+pub mod NextDrops
+pub mod Stretches
+pub mod Laws

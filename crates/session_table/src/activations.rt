@@ -1,0 +1,145 @@
+//! Activations, in the order in which they were made.
+ghost use Rattle.std.specs.Prelude.{◌≡◌, ◌<◌, [], ◌∷◌, ◌++◌, not, map, filter, find, count_by, false, IfOk, vec_len, vec_capacity};
+ghost use Rattle.std.specs.List.{list_any};
+ghost use Rattle.gtrbac_model.specs.Same.{same_role};
+ghost use Rattle.gtrbac_model.specs.Sessions.{is_of, is_active_in, signal_of};
+ghost use Rattle.session_table.specs.Opened.{in_session};
+
+use gt_base::{Instant, List, Memory, RoleId, SessionId, Signal, UserId};
+use std::alloc::Global;
+use std::marker::Model;
+
+/// A role that is active in a session, for the user who opened it, since the instant at which it was activated.
+#[derive(Clone, Copy)]
+pub(crate) struct Activation {
+    pub(crate) session: SessionId,
+    pub(crate) user: UserId,
+    pub(crate) role: RoleId,
+    pub(crate) begun: Instant,
+}
+
+impl Model for Activation {
+    ghost use Rattle.gtrbac_model.specs.Sessions.{Activation};
+
+    ghost Value = { Activation };
+
+    ghost view = { λ a. record { session = a.session; user = a.user; role = a.role; begun = a.begun } };
+
+    ghost inverse = { λ a. record { session = a.session; user = a.user; role = a.role; begun = a.begun } };
+}
+
+/// Whether it is of this role in this session.
+pub(crate) fn is_active_in(a: &Activation, session: SessionId, role: RoleId) -> bool
+    ensures { result ≡ is_active_in session role a.now }
+{
+    a.session.0 == session.0 && a.role.0 == role.0
+}
+
+/// Whether it is of this session.
+pub(crate) fn is_in_session(a: &Activation, session: SessionId) -> bool
+    ensures { result ≡ in_session session a.now }
+{
+    a.session.0 == session.0
+}
+
+/// Whether it is of this user and role.
+pub(crate) fn is_of(a: &Activation, user: UserId, role: RoleId) -> bool
+    ensures { result ≡ is_of user role a.now }
+{
+    a.user.0 == user.0 && a.role.0 == role.0
+}
+
+/// The signal of its start or its end.
+pub(crate) fn signal_of(start: bool, a: &Activation) -> Signal
+    ensures { result ≡ signal_of start a.now }
+{
+    Signal {
+        start,
+        user: a.user,
+        role: a.role,
+    }
+}
+
+/// How many are of the role.
+pub(crate) fn count_role(active: &[Activation], role: RoleId) -> usize
+    ensures { result ≡ count_by (λ a. same_role a.role role) active.now }
+{
+    active.iter().filter(|a| a.role.0 == role.0).count()
+}
+
+/// How many are of the user and the role.
+pub(crate) fn count_of(active: &[Activation], user: UserId, role: RoleId) -> usize
+    ensures { result ≡ count_by (is_of user role) active.now }
+{
+    active.iter().filter(|a| is_of(a, user, role)).count()
+}
+
+/// How many are of the session.
+pub(crate) fn count_in(active: &[Activation], session: SessionId) -> usize
+    ensures { result ≡ count_by (in_session session) active.now }
+{
+    active.iter().filter(|a| is_in_session(a, session)).count()
+}
+
+/// The end signals of a session's activations.
+pub(crate) fn end_signals(
+    alloc: Global,
+    active: &[Activation],
+    session: SessionId,
+) -> Result<List<Signal>, Memory>
+    ensures { IfOk result (λ signals. signals.items ≡ map (signal_of false) (filter (in_session session) active.now)) }
+{
+    Ok(List::from(ended_in(alloc, active, session)?))
+}
+
+/// The end signals of a session's activations, as a row.
+fn ended_in(alloc: Global, active: &[Activation], session: SessionId) -> Result<Vec<Signal>, Memory>
+    ensures { IfOk result (λ signals. signals.items ≡ map (signal_of false) (filter (in_session session) active.now)) }
+{
+    active
+        .iter()
+        .filter(|a| is_in_session(a, session))
+        .map(|a| signal_of(false, a))
+        .collect(alloc)
+}
+
+/// Takes out the activation of the role in the session.
+pub(crate) fn end_role(active: &mut Vec<Activation>, session: SessionId, role: RoleId)
+    ensures { active.new.items ≡ filter (λ a. not (is_active_in session role a)) active.old.items }
+{
+    active.retain(|a| !is_active_in(a, session, role));
+}
+
+/// Takes out the activations of the session.
+pub(crate) fn end_session(active: &mut Vec<Activation>, session: SessionId)
+    ensures { active.new.items ≡ filter (λ a. not (in_session session a)) active.old.items }
+{
+    active.retain(|a| !is_in_session(a, session));
+}
+
+/// The activation of the role in the session.
+pub(crate) fn find_active(
+    active: &[Activation],
+    session: SessionId,
+    role: RoleId,
+) -> Option<Activation>
+    ensures { result ≡ find (is_active_in session role) active.now }
+{
+    for a in active {
+        if is_active_in(a, session, role) {
+            return Some(*a);
+        }
+    }
+    None
+}
+
+/// Adds an activation, into room that was made before.
+pub(crate) fn put(active: &mut Vec<Activation>, a: Activation)
+    requires { vec_len active.old < vec_capacity active.old }
+    ensures { active.new.items ≡ active.old.items ++ a ∷ [] }
+{
+    match active.push(a) {
+        Ok(()) => {}
+        Err(_) => unreachable!(),
+    }
+}

@@ -1,0 +1,98 @@
+//! Causes of refusals, in their order.
+ghost use Rattle.std.specs.Prelude.{◌≡◌, ◌<◌, ◌^◌, [], ◌∷◌, not, map, length, count_by, Some, None, IfOk, IfErr, IfSome, slice_get, slice_index};
+ghost use Rattle.gt_base.specs.Sets.{has};
+ghost use Rattle.gt_base.specs.declared.requests.Refusal.TheVariants.{Already, Disabled, RoleFull, UserFull, DaySpent};
+ghost use Rattle.gt_base.specs.declared.events.Fluent.TheVariants.{Enabled};
+ghost use Rattle.gtrbac_model.specs.Same.{same_role};
+ghost use Rattle.gtrbac_model.specs.Calendar.{day_of};
+ghost use Rattle.gtrbac_model.specs.Sessions.{Table, caps_of, reached, is_of};
+ghost use Rattle.gtrbac_model.specs.Reply.{session_causes};
+ghost use Rattle.session_table.specs.Opened.{opened};
+ghost use Rattle.session_table.specs.Charges.{charged_in};
+ghost use Rattle.session_table.specs.Causes.{first_cause, is_foreign, StandsAt, with_sessions, early_causes, late_causes};
+
+use crate::activations::{Activation, count_of, count_role};
+use crate::charges::{Charge, charged};
+use crate::opened::{Open, owner_at, place};
+use civil_time::day;
+use gt_base::{Actor, Caps, Fluent, Instant, Refusal, RoleId, SessionId, Status, UserId};
+use indexmap::IndexMap;
+
+/// Where the actor finds the session, or why it may not use it.
+pub(crate) fn owned(sessions: &[Open], actor: Actor, session: SessionId) -> Result<usize, Refusal>
+    ensures place { IfOk result (StandsAt sessions.now session) }
+    ensures ok { IfOk result (λ _. (tb : Table) → first_cause (session_causes (with_sessions sessions.now tb) actor session) ≡ None) }
+    ensures err { IfErr result (λ r. (tb : Table) → first_cause (session_causes (with_sessions sessions.now tb) actor session) ≡ Some r) }
+{
+    let Some(at) = place(sessions, session) else {
+        return Err(Refusal::NoSession);
+    };
+    if is_foreign(owner_at(sessions, at), actor) {
+        return Err(Refusal::NotYours);
+    }
+    Ok(at)
+}
+
+/// Whether the actor is a user other than the owner.
+fn is_foreign(owner: UserId, actor: Actor) -> bool
+    ensures { result ≡ is_foreign owner actor }
+{
+    match actor {
+        Actor::User(user) => owner.0 != user.0,
+        _ => false,
+    }
+}
+
+/// What refuses an activation before a walk is asked.
+pub(crate) fn early_refusal(is_active: bool, status: &Status, role: RoleId) -> Option<Refusal>
+    ensures { result ≡ first_cause (early_causes (has status.now.set) is_active role) }
+{
+    if is_active {
+        return Some(Refusal::Already);
+    }
+    if !status.is_on(Fluent::Enabled(role)) {
+        return Some(Refusal::Disabled);
+    }
+    None
+}
+
+/// Whether the cap, if there is one, is reached.
+pub(crate) fn is_reached(cap: Option<u32>, n: u32) -> bool
+    ensures { result ≡ reached cap n }
+{
+    match cap {
+        Some(most) => most <= n,
+        None => false,
+    }
+}
+
+/// The caps of the role; a role that the list does not name has none.
+pub(crate) fn caps_of(caps: &[Caps], role: RoleId) -> Caps
+    ensures { result ≡ caps_of caps.now role }
+{
+    match caps.get(role.0 as usize) {
+        Some(caps) => *caps,
+        None => Caps {
+            total: None,
+            user: None,
+            length: None,
+            day: None,
+        },
+    }
+}
+
+/// Which cap refuses an activation of the role by the user at the instant.
+pub(crate) fn late_refusal(caps: Caps, all: u32, own: u32, spent: u32) -> Option<Refusal>
+    ensures { result ≡ first_cause (late_causes caps all own spent) }
+{
+    if is_reached(caps.total, all) {
+        return Some(Refusal::RoleFull { n: all });
+    }
+    if is_reached(caps.user, own) {
+        return Some(Refusal::UserFull { n: own });
+    }
+    if is_reached(caps.day, spent) {
+        return Some(Refusal::DaySpent { minutes: spent });
+    }
+    None
+}

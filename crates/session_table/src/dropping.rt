@@ -1,0 +1,227 @@
+//! Which activations the close of an instant drops, and how they are taken out.
+ghost use Rattle.std.specs.Prelude.{◌≡◌, ◌+◌, ◌-◌, ◌*◌, ◌<◌, ◌≤◌, ◌&&◌, ◌||◌, [], ◌∷◌, ◌++◌, if◌then◌else◌, OnOk, not, false, map, filter, length, count_by, is_none, IfOk};
+ghost use Rattle.std.specs.List.{list_any};
+ghost use Rattle.gt_base.specs.Sets.{has};
+ghost use Rattle.gt_base.specs.declared.events.RoleId.{RoleId};
+ghost use Rattle.gt_base.specs.declared.events.UserId.{UserId};
+ghost use Rattle.gt_base.specs.declared.events.SessionId.{SessionId};
+ghost use Rattle.gt_base.specs.declared.events.Fluent.TheVariants.{Enabled};
+ghost use Rattle.gtrbac_model.specs.Same.{same_role, same_session};
+ghost use Rattle.gtrbac_model.specs.Calendar.{day_of};
+ghost use Rattle.gtrbac_model.specs.Hierarchy.{activation_walk};
+ghost use Rattle.gtrbac_model.specs.Sessions.{caps_of, reached, is_of, is_active_in, signal_of};
+ghost use Rattle.history_laws.specs.Tables.{minutes_of_day};
+ghost use Rattle.hybrid_hierarchy.specs.Nets.{IsHierarchy};
+ghost use Rattle.session_table.specs.Charges.{charged_in};
+ghost use Rattle.session_table.specs.Opened.{opened, role_in};
+ghost use Rattle.session_table.specs.Dropping.{spent_by, is_dropped};
+
+use crate::activations::{Activation, count_of, signal_of};
+use crate::charges::{Charge, charged, minutes_on};
+use crate::checks::{caps_of, is_reached};
+use crate::opened::{Open, has_role, place, remove_role};
+use civil_time::day;
+use gt_base::{
+    Caps, Fluent, HierEdge, Instant, List, Memory, RoleId, SessionId, Signal, Status, UserId,
+};
+use hybrid_hierarchy::may_activate;
+use indexmap::IndexMap;
+use std::alloc::Global;
+
+/// How many minutes are charged to the user's role on the civil day of `to`, where the minutes after `now` are charged to each activation.
+pub(crate) fn spent_by(
+    charges: &IndexMap<Charge, u32>,
+    active: &[Activation],
+    now: Instant,
+    to: Instant,
+    user: UserId,
+    role: RoleId,
+) -> u64
+    requires { count_by (is_of user role) active.now ≤ 10_000 }
+    ensures { result ≡ spent_by charges.now.entries active.now now to user role }
+{
+    let today = day(to);
+    let before = u64::from(charged(charges, user, role, today));
+    let minutes = u64::from(minutes_on(now, to, today));
+    before + minutes * count_of(active, user, role) as u64
+}
+
+/// Whether the cap on the minutes of a day, if there is one, is reached at the close of `to`.
+fn is_day_spent(
+    cap: Option<u32>,
+    charges: &IndexMap<Charge, u32>,
+    active: &[Activation],
+    now: Instant,
+    to: Instant,
+    user: UserId,
+    role: RoleId,
+) -> bool
+    requires { count_by (is_of user role) active.now ≤ 10_000 }
+    ensures { result ≡ reached cap (spent_by charges.now.entries active.now now to user role) }
+{
+    match cap {
+        Some(most) => u64::from(most) <= spent_by(charges, active, now, to, user, role),
+        None => false,
+    }
+}
+
+/// Whether the cap on the minutes of one activation, if there is one, is reached at the close of `to`.
+fn is_too_long(cap: Option<u32>, a: &Activation, to: Instant) -> bool
+    ensures { result ≡ reached cap (to - a.now.begun) }
+{
+    is_reached(cap, age(a, to))
+}
+
+/// The minutes from its begin to the instant, 0 where the begin is after it.
+fn age(a: &Activation, to: Instant) -> u32
+    ensures { result ≡ to - a.now.begun }
+{
+    let begun = a.begun;
+    to.minute().saturating_sub(begun.minute())
+}
+
+/// Whether no walk of usable edges lets the user activate the role.
+fn is_barred(
+    alloc: Global,
+    edges: &List<HierEdge>,
+    status: &Status,
+    user: UserId,
+    role: RoleId,
+) -> Result<bool, Memory>
+    requires { IsHierarchy edges.now.items }
+    ensures { IfOk result (λ b. b ≡ is_none (activation_walk edges.now.items (has status.now.set) user role)) }
+{
+    match may_activate(alloc, edges, status, user, role)? {
+        Some(_) => Ok(false),
+        None => Ok(true),
+    }
+}
+
+/// Whether a cap of its role ends the activation at the close of `to`.
+fn is_capped(
+    a: &Activation,
+    caps: Caps,
+    charges: &IndexMap<Charge, u32>,
+    active: &[Activation],
+    now: Instant,
+    to: Instant,
+) -> bool
+    requires { (u : UserId) (r : RoleId) → count_by (is_of u r) active.now ≤ 10_000 }
+    ensures { result ≡ (reached caps.length (to - a.now.begun) || reached caps.day (spent_by charges.now.entries active.now now to a.now.user a.now.role)) }
+{
+    is_too_long(caps.length, a, to)
+        || is_day_spent(caps.day, charges, active, now, to, a.user, a.role)
+}
+
+/// Whether the close of `to` drops the activation. For want of memory it may refuse.
+fn is_dropped(
+    alloc: Global,
+    a: &Activation,
+    edges: &List<HierEdge>,
+    caps: &List<Caps>,
+    status: &Status,
+    charges: &IndexMap<Charge, u32>,
+    active: &[Activation],
+    now: Instant,
+    to: Instant,
+) -> Result<bool, Memory>
+    requires edges { IsHierarchy edges.now.items }
+    requires few { (u : UserId) (r : RoleId) → count_by (is_of u r) active.now ≤ 10_000 }
+    ensures { IfOk result (λ b. b ≡ is_dropped edges.now.items caps.now.items (has status.now.set) charges.now.entries active.now now to a.now) }
+{
+    let role = a.role;
+    if !status.is_on(Fluent::Enabled(role)) {
+        return Ok(true);
+    }
+    if is_capped(a, caps_of(caps.as_slice(), role), charges, active, now, to) {
+        return Ok(true);
+    }
+    is_barred(alloc, edges, status, a.user, role)
+}
+
+/// Adds the activation, if it is gone.
+fn push_if(gone: &mut Vec<Activation>, a: &Activation, is_gone: bool) -> Result<(), Memory>
+    ensures { OnOk result (gone.new.items ≡ gone.old.items ++ (if is_gone then a.now ∷ [] else [])) }
+{
+    if is_gone {
+        gone.push(*a)?;
+    }
+    Ok(())
+}
+
+/// The activations that the close of `to` drops. For want of memory it may refuse.
+pub(crate) fn dropped(
+    alloc: Global,
+    edges: &List<HierEdge>,
+    caps: &List<Caps>,
+    status: &Status,
+    charges: &IndexMap<Charge, u32>,
+    active: &[Activation],
+    now: Instant,
+    to: Instant,
+) -> Result<Vec<Activation>, Memory>
+    requires edges { IsHierarchy edges.now.items }
+    requires few { (u : UserId) (r : RoleId) → count_by (is_of u r) active.now ≤ 10_000 }
+    ensures { IfOk result (λ gone. gone.items ≡ filter (is_dropped edges.now.items caps.now.items (has status.now.set) charges.now.entries active.now now to) active.now) }
+{
+    let mut gone = Vec::new(alloc);
+    for a in active {
+        let is_gone = is_dropped(alloc, a, edges, caps, status, charges, active, now, to)?;
+        push_if(&mut gone, a, is_gone)?;
+    }
+    Ok(gone)
+}
+
+/// Takes the role out of the session of this number, if it is there.
+fn forget_one(sessions: &mut Vec<Open>, session: SessionId, role: RoleId)
+    ensures opened { map opened sessions.new.items ≡ map opened sessions.old.items }
+    ensures roles { (n : SessionId) (r : RoleId) → role_in sessions.new.items n r ≡ (not (same_session session n && same_role role r) && role_in sessions.old.items n r) }
+    ensures len { length sessions.new.items ≡ length sessions.old.items }
+{
+    if let Some(at) = place(sessions, session) {
+        remove_role(sessions, at, role);
+    }
+}
+
+/// Takes the roles of these activations out of their sessions.
+pub(crate) fn forget(sessions: &mut Vec<Open>, gone: &[Activation])
+    ensures opened { map opened sessions.new.items ≡ map opened sessions.old.items }
+    ensures roles { (n : SessionId) (r : RoleId) → role_in sessions.new.items n r ≡ (not (list_any (is_active_in n r) gone.now) && role_in sessions.old.items n r) }
+    ensures len { length sessions.new.items ≡ length sessions.old.items }
+{
+    for a in gone {
+        forget_one(sessions, a.session, a.role);
+    }
+}
+
+/// Whether its role still stands in its session.
+fn is_listed(sessions: &[Open], a: &Activation) -> bool
+    ensures { result ≡ role_in sessions.now a.now.session a.now.role }
+{
+    let role = a.role;
+    match place(sessions, a.session) {
+        Some(at) => has_role(sessions, at, role),
+        None => false,
+    }
+}
+
+/// Keeps the activations whose roles still stand in their sessions.
+pub(crate) fn keep_listed(active: &mut Vec<Activation>, sessions: &[Open])
+    ensures { active.new.items ≡ filter (λ a. role_in sessions.now a.session a.role) active.old.items }
+{
+    active.retain(|a| is_listed(sessions, a));
+}
+
+/// The end signals of these activations.
+pub(crate) fn signals_of(alloc: Global, gone: &[Activation]) -> Result<List<Signal>, Memory>
+    ensures { IfOk result (λ signals. signals.items ≡ map (signal_of false) gone.now) }
+{
+    Ok(List::from(ended(alloc, gone)?))
+}
+
+/// The same as a row.
+fn ended(alloc: Global, gone: &[Activation]) -> Result<Vec<Signal>, Memory>
+    ensures { IfOk result (λ signals. signals.items ≡ map (signal_of false) gone.now) }
+{
+    gone.iter().map(|a| signal_of(false, a)).collect(alloc)
+}

@@ -1,0 +1,20 @@
+//! The table of sessions: which are open, which roles are active in them since when, and which minutes of a day are charged.
+#![tactic(auto)]
+
+mod activations;
+mod charges;
+mod checks;
+mod dropping;
+mod faults;
+mod laws;
+mod nearing;
+mod opened;
+mod plans;
+mod roles;
+mod rows;
+mod tables;
+
+pub use faults::SessionFault;
+pub use laws::{caps_stay, close_leaves, firm_ends_nothing, stretches_close};
+pub use plans::Drops;
+pub use tables::Sessions;

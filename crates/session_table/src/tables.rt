@@ -1,0 +1,345 @@
+//! The table of sessions.
+ghost use Rattle.std.specs.Prelude.{◌≡◌, ℕ, ◌+◌, ◌-◌, ◌*◌, ◌<◌, ◌≤◌, ◌↔◌, [], ◌∷◌, true, false, not, map, filter, length, count_by, find, slice_get, Some, None, OnOk, OnErr, IfOk, IfErr, IfSome, IfNone};
+ghost use Rattle.std.specs.List.{list_any};
+ghost use Rattle.gt_base.specs.Bounds.{last_minute};
+ghost use Rattle.gt_base.specs.Sets.{has, Rises};
+ghost use Rattle.gtrbac_model.specs.Same.{same_role, lists};
+ghost use Rattle.session_table.specs.RoleSets.{role_cmp};
+ghost use Rattle.gt_base.specs.declared.events.PermId.{PermId};
+ghost use Rattle.gt_base.specs.declared.events.RoleId.{RoleId};
+ghost use Rattle.gt_base.specs.declared.requests.Actor.TheVariants.{User};
+ghost use Rattle.gt_base.specs.declared.requests.Request.TheVariants.{OpenSession, CloseSession, Activate, Deactivate, Active as AskActive, Check};
+ghost use Rattle.gt_base.specs.declared.requests.Reply.TheVariants.{Session, Done, Active, Truth, Refused as IsRefused};
+ghost use Rattle.gtrbac_model.specs.Sessions.{applied, empty_table, is_active_in, signal_of};
+ghost use Rattle.hybrid_hierarchy.specs.Nets.{IsHierarchy};
+ghost use Rattle.session_table.specs.Opened.{in_session, numbered, opened, role_in};
+ghost use Rattle.session_table.specs.Tables.{table_of, NotBefore, closed_at};
+ghost use Rattle.session_table.specs.NextDrops.{IsFirstOrNone, is_any_capped};
+ghost use Rattle.session_table.specs.Plans.{need_of, IsPlan, IsPlanned, Closes};
+ghost use Rattle.session_table.specs.Replies.{Answers, AnswersAt, OrRefused, IsRefusal, ChecksBy};
+
+use crate::activations::{
+    Activation, count_in, count_of, count_role, end_role, end_session, end_signals, find_active,
+    put, signal_of,
+};
+use crate::charges::{Charge, charge_stretch, charged, copied as copied_charges, reserve_charges};
+use crate::checks::{caps_of, early_refusal, late_refusal, owned};
+use crate::dropping::{dropped, forget, keep_listed, signals_of};
+use crate::faults::SessionFault;
+use crate::nearing::next_capped;
+use crate::opened::{
+    Open, add_role, copied as copied_sessions, has_role, owner_at, push, remove_role, roles_at,
+    shut,
+};
+use crate::plans::Drops;
+use crate::roles::Roles;
+use civil_time::day;
+use gt_base::{
+    Actor, Caps, HierEdge, Instant, List, Memory, Refusal, RoleId, SessionId, Signal, Status,
+    UserId, Walk,
+};
+use hybrid_hierarchy::may_activate;
+use indexmap::IndexMap;
+use std::alloc::Global;
+use std::marker::Model;
+
+/// So many sessions may be open at once.
+const MOST_SESSIONS: usize = 10_000;
+
+/// The open sessions with their owners, the roles that are active in them since when, and the minutes that are charged to users, roles and
+/// civil days. It is seen as these, with the number of sessions begun, the instant up to which minutes were charged, if any were, and how many
+/// further rows of charges there is room for.
+pub struct Sessions {
+    alloc: Global,
+    sessions: Vec<Open>,
+    active: Vec<Activation>,
+    charges: IndexMap<Charge, u32>,
+    begun: u32,
+    charged_to: Option<Instant>,
+}
+
+impl Model for Sessions {
+    ghost use Rattle.std.specs.Prelude.{map};
+    ghost use Rattle.indexmap.specs.IndexMap.{spare};
+    ghost use Rattle.session_table.specs.Opened.{opened};
+    ghost use Rattle.session_table.specs.Kept.{IsKept};
+    ghost use Rattle.session_table.specs.Tables.{TableView};
+
+    ghost Value = { TableView };
+
+    ghost view = { λ s. record { sessions = map opened s.sessions.items; active = s.active.items; charges = s.charges.entries; begun = s.begun; charged_to = s.charged_to; room = spare s.charges } };
+
+    ghost invariant = { λ s. IsKept s.sessions.items s.active.items s.charges.entries s.charged_to };
+}
+
+impl Drop for Sessions {
+    fn drop(self) {
+        let Sessions {
+            alloc: _,
+            sessions: _,
+            active: _,
+            charges: _,
+            begun: _,
+            charged_to: _,
+        } = self;
+    }
+}
+
+impl Sessions {
+    /// A table with no session, of which none was begun and nothing charged. It takes no memory yet.
+    pub fn new(alloc: Global) -> Sessions
+        ensures table { table_of result ≡ empty_table }
+        ensures charged_to { result.charged_to ≡ None }
+    {
+        Sessions {
+            alloc,
+            sessions: Vec::new(alloc),
+            active: Vec::new(alloc),
+            charges: IndexMap::new(alloc),
+            begun: 0,
+            charged_to: None,
+        }
+    }
+
+    /// A table that is seen as this one, but for its room. For want of memory it may refuse.
+    pub fn copied(&self) -> Result<Sessions, Memory>
+        ensures table { IfOk result (λ copy. table_of copy ≡ table_of self.now) }
+        ensures charged_to { IfOk result (λ copy. copy.charged_to ≡ self.now.charged_to) }
+    {
+        let sessions = copied_sessions(self.alloc, &self.sessions)?;
+        let active = Vec::from_slice(self.alloc, &self.active)?;
+        let charges = copied_charges(&self.charges)?;
+        Ok(Sessions {
+            alloc: self.alloc,
+            sessions,
+            active,
+            charges,
+            begun: self.begun,
+            charged_to: self.charged_to,
+        })
+    }
+
+    /// Opens a session for the user and answers its number: the number of sessions begun before, and one. No number is used again. Refused with
+    /// `SessionsFull` exactly where 10,000 sessions are open, or for want of memory; the table is then as it was.
+    pub fn begin(&mut self, user: UserId) -> Result<SessionId, SessionFault>
+        requires { self.old.begun < 4_294_967_295 }
+        ensures answer { IfOk result (λ n. Answers (table_of self.old) (User user) OpenSession (Session n)) }
+        ensures table { IfOk result (λ n. table_of self.new ≡ applied 0 (User user) OpenSession (Session n) (table_of self.old)) }
+        ensures charged_to { self.new.charged_to ≡ self.old.charged_to }
+        ensures refused { IfErr result (λ fault. OrRefused fault (Answers (table_of self.old) (User user) OpenSession)) }
+        ensures same { OnErr result (table_of self.new ≡ table_of self.old) }
+    {
+        if self.sessions.len() >= MOST_SESSIONS {
+            return Err(SessionFault::Refused(Refusal::SessionsFull));
+        }
+        let number = SessionId(self.begun + 1);
+        let session = Open {
+            number,
+            owner: user,
+            roles: Roles::new(self.alloc),
+        };
+        push(&mut self.sessions, session)?;
+        self.begun += 1;
+        Ok(number)
+    }
+
+    /// Ends the session and its activations, and answers the end signal of each. Refused with `NoSession` where no session of this number is
+    /// open, `NotYours` where the actor is a user other than its owner, or for want of memory; the table is then as it was.
+    pub fn finish(&mut self, actor: Actor, session: SessionId) -> Result<List<Signal>, SessionFault>
+        ensures answer { OnOk result (Answers (table_of self.old) actor (CloseSession session) Done) }
+        ensures table { IfOk result (λ signals. applied 0 actor (CloseSession session) Done (table_of self.old) ≡ record (table_of self.new) { signals = signals.items }) }
+        ensures charged_to { self.new.charged_to ≡ self.old.charged_to }
+        ensures refused { IfErr result (λ fault. OrRefused fault (Answers (table_of self.old) actor (CloseSession session))) }
+        ensures same { OnErr result (table_of self.new ≡ table_of self.old) }
+    {
+        if let Err(refusal) = owned(&self.sessions, actor, session) {
+            return Err(SessionFault::Refused(refusal));
+        }
+        let signals = end_signals(self.alloc, &self.active, session)?;
+        shut(&mut self.sessions, session);
+        end_session(&mut self.active, session);
+        Ok(signals)
+    }
+
+    /// Ends the activation of the role in the session, and answers its end signal. It takes no memory. Refused with `NoSession`, `NotYours`, or
+    /// `NotActive` where the role is not active in the session; the table is then as it was.
+    pub fn deactivate(
+        &mut self,
+        actor: Actor,
+        session: SessionId,
+        role: RoleId,
+    ) -> Result<Signal, SessionFault>
+        ensures answer { OnOk result (Answers (table_of self.old) actor (Deactivate session role) Done) }
+        ensures table { IfOk result (λ signal. applied 0 actor (Deactivate session role) Done (table_of self.old) ≡ record (table_of self.new) { signals = signal ∷ [] }) }
+        ensures charged_to { self.new.charged_to ≡ self.old.charged_to }
+        ensures refused { IfErr result (λ fault. IsRefusal fault (Answers (table_of self.old) actor (Deactivate session role))) }
+        ensures same { OnErr result (table_of self.new ≡ table_of self.old) }
+    {
+        let at = match owned(&self.sessions, actor, session) {
+            Ok(at) => at,
+            Err(refusal) => return Err(SessionFault::Refused(refusal)),
+        };
+        let Some(activation) = find_active(&self.active, session, role) else {
+            return Err(SessionFault::Refused(Refusal::NotActive));
+        };
+        remove_role(&mut self.sessions, at, role);
+        end_role(&mut self.active, session, role);
+        Ok(signal_of(false, &activation))
+    }
+
+    /// How many activations stand in the session. It takes no memory.
+    pub fn count_in(&self, session: SessionId) -> usize
+        ensures { result ≡ count_by (in_session session) self.now.active }
+    {
+        count_in(&self.active, session)
+    }
+
+    /// The roles that are active in the session, ascending. It takes no memory. Refused with `NoSession` or `NotYours`.
+    pub fn active(&self, actor: Actor, session: SessionId) -> Result<&[RoleId], Refusal>
+        ensures roles { IfOk result (λ roles. (r : RoleId) → Answers (table_of self.now) actor (AskActive session r) (Truth (lists same_role roles.now r))) }
+        ensures check { IfOk result (λ roles. (perm : PermId) → ChecksBy (table_of self.now) actor session perm roles.now) }
+        ensures rises { IfOk result (λ roles. Rises role_cmp roles.now) }
+        ensures refused { IfErr result (λ refusal. (r : RoleId) → Answers (table_of self.now) actor (AskActive session r) (IsRefused refusal)) }
+        ensures refused_check { IfErr result (λ refusal. (perm : PermId) → Answers (table_of self.now) actor (Check session perm) (IsRefused refusal)) }
+    {
+        match owned(&self.sessions, actor, session) {
+            Ok(at) => Ok(roles_at(&self.sessions, at)),
+            Err(refusal) => Err(refusal),
+        }
+    }
+
+    /// Activates the role in the session for its owner, and answers the walk that allows it and the start signal. Refused, in this order, with
+    /// `NoSession`, `NotYours`, `Already` where the role is active in the session, `Disabled` where it is off, `NotAssigned` where no walk of
+    /// usable edges allows it, `RoleFull` where as many activations of the role stand as its cap `total` allows, `UserFull` where as many of the
+    /// owner's stand as its cap `user` allows, `DaySpent` where as many minutes are charged on the civil day of now as its cap `day` allows, or
+    /// for want of memory; the table is then as it was.
+    pub fn activate(
+        &mut self,
+        edges: &List<HierEdge>,
+        caps: &List<Caps>,
+        status: &Status,
+        now: Instant,
+        actor: Actor,
+        session: SessionId,
+        role: RoleId,
+    ) -> Result<(Walk, Signal), SessionFault>
+        requires { IsHierarchy edges.now.items }
+        ensures answer { IfOk result (λ r. AnswersAt edges.now.items caps.now.items (has status.now.set) now (table_of self.old) actor (Activate session role) (Active r.0)) }
+        ensures table { IfOk result (λ r. applied now actor (Activate session role) (Active r.0) (table_of self.old) ≡ record (table_of self.new) { signals = r.1 ∷ [] }) }
+        ensures charged_to { self.new.charged_to ≡ self.old.charged_to }
+        ensures refused { IfErr result (λ fault. OrRefused fault (AnswersAt edges.now.items caps.now.items (has status.now.set) now (table_of self.old) actor (Activate session role))) }
+        ensures same { OnErr result (table_of self.new ≡ table_of self.old) }
+    {
+        let at = match owned(&self.sessions, actor, session) {
+            Ok(at) => at,
+            Err(refusal) => return Err(SessionFault::Refused(refusal)),
+        };
+        let user = owner_at(&self.sessions, at);
+        let is_active = has_role(&self.sessions, at, role);
+        if let Some(refusal) = early_refusal(is_active, status, role) {
+            return Err(SessionFault::Refused(refusal));
+        }
+        let Some(walk) = may_activate(self.alloc, edges, status, user, role)? else {
+            return Err(SessionFault::Refused(Refusal::NotAssigned));
+        };
+        let all = count_role(&self.active, role) as u32;
+        let own = count_of(&self.active, user, role) as u32;
+        let spent = charged(&self.charges, user, role, day(now));
+        if let Some(refusal) = late_refusal(caps_of(caps.as_slice(), role), all, own, spent) {
+            return Err(SessionFault::Refused(refusal));
+        }
+        self.active.reserve(1)?;
+        add_role(&mut self.sessions, at, role)?;
+        let activation = Activation {
+            session,
+            user,
+            role,
+            begun: now,
+        };
+        put(&mut self.active, activation);
+        Ok((walk, signal_of(true, &activation)))
+    }
+
+    /// Plans the end of the minutes after `now`, up to `to`: what is dropped at `to`, under the status there, and the room that charging needs.
+    /// The table stays as it is seen; for want of memory it may refuse, and then its room stays too or grows. Times are civil minutes.
+    pub fn plan_end(
+        &mut self,
+        edges: &List<HierEdge>,
+        caps: &List<Caps>,
+        now: Instant,
+        to: Instant,
+        status: &Status,
+    ) -> Result<Drops, Memory>
+        requires edges { IsHierarchy edges.now.items }
+        requires order { now < to }
+        ensures same { table_of self.new ≡ table_of self.old }
+        ensures charged_to { self.new.charged_to ≡ self.old.charged_to }
+        ensures room { OnOk result (need_of now to self.new ≤ self.new.room) }
+        ensures plan { IfOk result (IsPlan edges.now.items caps.now.items (has status.now.set) now to (table_of self.old)) }
+    {
+        let gone = dropped(
+            self.alloc,
+            edges,
+            caps,
+            status,
+            &self.charges,
+            &self.active,
+            now,
+            to,
+        )?;
+        let signals = signals_of(self.alloc, &gone)?;
+        reserve_charges(&mut self.charges, self.active.len(), now, to)?;
+        Ok(Drops {
+            after: now,
+            to,
+            gone,
+            signals,
+        })
+    }
+
+    /// Ends the minutes as planned: each minute after its `now`, up to its `to`, is charged to each activation, and then those that the plan names
+    /// are dropped. The sessions stay open. It takes no memory.
+    pub fn commit_end(&mut self, d: Drops)
+        requires { IsPlanned self.old d }
+        ensures table { Closes self.old d self.new }
+        ensures charged_to { self.new.charged_to ≡ Some d.to }
+    {
+        charge_stretch(&mut self.charges, &self.active, d.after, d.to);
+        forget(&mut self.sessions, &d.gone);
+        keep_listed(&mut self.active, &self.sessions);
+        self.charged_to = Some(d.to);
+    }
+
+    /// Ends the minutes after `now`, up to `to`, under the status at `to`: charges each of them to each activation, drops at `to` what the status,
+    /// the hierarchy or a cap ends there, and answers an end signal for each drop. For want of memory it may refuse; the table is then as it was.
+    pub fn end_instants(
+        &mut self,
+        edges: &List<HierEdge>,
+        caps: &List<Caps>,
+        now: Instant,
+        to: Instant,
+        status: &Status,
+    ) -> Result<List<Signal>, Memory>
+        requires edges { IsHierarchy edges.now.items }
+        requires order { now < to }
+        requires not_before { NotBefore self.old.charged_to now }
+        ensures table { IfOk result (λ signals. record (table_of self.new) { signals = signals.items } ≡ closed_at edges.now.items caps.now.items (has status.now.set) now to (table_of self.old)) }
+        ensures charged_to { OnOk result (self.new.charged_to ≡ Some to) }
+        ensures same { OnErr result (table_of self.new ≡ table_of self.old) }
+        ensures charged_as_before { OnErr result (self.new.charged_to ≡ self.old.charged_to) }
+    {
+        let d = self.plan_end(edges, caps, now, to, status)?;
+        let signals = d.signals().copied()?;
+        self.commit_end(d);
+        Ok(signals)
+    }
+
+    /// The first instant after `now` at whose close a cap drops an activation, as long as nothing else ends or begins one: computed from begins,
+    /// caps and charges. None exactly where there is none up to 2099-12-31T23:59. It takes no memory.
+    pub fn next_drop(&self, caps: &List<Caps>, now: Instant) -> Option<Instant>
+        requires { NotBefore self.now.charged_to now }
+        ensures { IsFirstOrNone (is_any_capped caps.now.items now (table_of self.now)) now result }
+    {
+        next_capped(&self.charges, &self.active, caps.as_slice(), now)
+    }
+}

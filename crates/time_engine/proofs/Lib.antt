@@ -1,0 +1,10 @@
+pub mod Booleans
+pub mod DueEvents
+pub mod SignalSets
+pub mod Bases
+pub mod Changing
+pub mod Following
+pub mod TraceLaws
+pub mod FollowSteps
+pub mod HistoryLaws
+pub mod WaitingLaws
