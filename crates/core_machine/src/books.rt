@@ -10,6 +10,7 @@ ghost use Rattle.core_machine.specs.Books.{IsBook, now_in, model_in, reply_in, H
 ghost use Rattle.core_machine.specs.Steps.{as_step};
 
 use crate::asking::answer;
+use crate::prepared::Prepared;
 use crate::states::State;
 use crate::ticking::go_on;
 use gt_base::{Actor, Entry, Instant, List, Memory, Reply, Request, StepFault, Who};
@@ -80,15 +81,21 @@ impl Book {
                 safe: safe_again(ground),
             });
         };
-        let state = State {
-            alloc,
-            ground,
-            birth,
-            line,
-            table: Sessions::new(alloc),
-            entries: List::new(alloc),
-        };
-        Ok(Book { state })
+        match Prepared::new(alloc, ground) {
+            Ok(ground) => Ok(Book {
+                state: State {
+                    alloc,
+                    ground,
+                    birth,
+                    line,
+                    table: Sessions::new(alloc),
+                    entries: List::new(alloc),
+                },
+            }),
+            Err(ground) => Err(BookMemory {
+                safe: safe_again(ground),
+            }),
+        }
     }
 
     /// The instant of the history: where its last tick went, or the birth.
@@ -147,7 +154,7 @@ impl Book {
     pub fn ground(&self) -> &Ground
         ensures { result.now ≡ self.now.named }
     {
-        &self.state.ground
+        self.state.ground.ground()
     }
 
     /// The timeline of now, which follows the history.
