@@ -1,0 +1,4 @@
+pub mod Exprs
+pub mod Cutting
+pub mod Others
+pub mod Periods
