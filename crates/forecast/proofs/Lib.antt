@@ -1,0 +1,5 @@
+pub mod Horizons
+pub mod Existing
+pub mod Answering
+pub mod Stepping
+pub mod Agreeing

@@ -1,0 +1,28 @@
+use Rattle.std.proofs.Common.{◌≡◌, ℕ, Option, sym, ap, subst, ◌∙◌}
+use Rattle.gtrbac_model.specs.Sessions.{Table}
+use Rattle.instant_bases.specs.Timelines.{TimelineView}
+use Rattle.session_table.specs.Tables.{NotBefore}
+use Rattle.time_engine.specs.Histories.{Follows}
+use Rattle.core_machine.specs.Books.{HasWaiting, IsTableIn, model_in, now_in}
+use Rattle.forecast.proofs.Agreeing.{begins}
+use Rattle.forecast.proofs.Existing.{ahead_is_one}
+use Rattle.forecast.proofs.changes.first_change.Goals as goal
+
+pub returns-in_err-line-clause-one : goal.returns-in_err-line-clause-one
+returns-in_err-line-clause-one c = let b = c.args.book.now in ahead_is_one b.named.policy c.ground-ground.ensures.safe b.birth b.entries c.args.upto
+
+pub returns-in_err-table-clause-one : goal.returns-in_err-table-clause-one
+returns-in_err-table-clause-one c = let b = c.args.book.now in ahead_is_one b.named.policy c.ground-ground.ensures.safe b.birth b.entries c.args.upto
+
+pub walk-requires-clause-way : goal.walk-requires-clause-way
+walk-requires-clause-way c =
+    let b = c.args.book.now in
+    begins b c.in_ok-line.line.line c.in_ok-table.table (ap (λ (v : TimelineView). v.trace) c.in_ok-line.ensures ∙ c.timeline.ensures.trace)
+    (subst (λ (v : TimelineView). Follows b.named.policy b.birth b.entries (model_in b) v) (sym c.in_ok-line.ensures) c.timeline.ensures.follows)
+    (subst (λ (v : TimelineView). HasWaiting b v) (sym c.in_ok-line.ensures) c.timeline.ensures.waiting)
+    (subst (λ (t : Table). IsTableIn b t) (sym c.in_ok-table.ensures.table) c.sessions.ensures.table)
+    (subst (λ (o : Option ℕ). NotBefore o (now_in b)) (sym c.in_ok-table.ensures.charged_to) c.sessions.ensures.charged)
+    c.entries-entries.ensures.legal
+
+pub returns-clause-one : goal.returns-clause-one
+returns-clause-one c = let b = c.args.book.now in ahead_is_one b.named.policy c.ground-ground.ensures.safe b.birth b.entries c.args.upto

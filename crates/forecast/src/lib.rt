@@ -1,0 +1,9 @@
+//! What lies ahead of a book, if no request comes any more.
+#![tactic(auto)]
+
+mod changes;
+mod laws;
+mod walking;
+
+pub use changes::{Change, first_change};
+pub use laws::ahead_is_one;

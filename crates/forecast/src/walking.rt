@@ -1,0 +1,74 @@
+//! Steps of a walk ahead of a book.
+ghost use Rattle.std.specs.Prelude.{◌≡◌, ℕ, ◌<◌, ◌≤◌, Bool, length, OnOk};
+ghost use Rattle.gtrbac_model.specs.History.{IsNextStop};
+ghost use Rattle.instant_bases.specs.Nexts.{IsNextOf};
+ghost use Rattle.instant_bases.specs.Timelines.{StandsFor};
+ghost use Rattle.session_table.specs.NextDrops.{IsFirstOrNone};
+ghost use Rattle.session_table.specs.Tables.{NotBefore, table_of};
+ghost use Rattle.core_machine.specs.Steps.{moves, with_signals};
+ghost use Rattle.forecast.specs.Going.{IsOnWay, StepsTo};
+
+use core_machine::Book;
+use gt_base::{Instant, Memory, Signal};
+use session_table::Sessions;
+use time_engine::{Ground, Timeline};
+
+/// Goes on to the least instant after now and up to the horizon at which something is raised or a cap ends an activation, or to
+/// the horizon.
+pub(crate) fn go_on(
+    book: &Book,
+    line: &mut Timeline,
+    table: &mut Sessions,
+    upto: Instant,
+) -> Result<(), Memory>
+    requires way { IsOnWay book.now line.old.line table.old }
+    requires later { line.old.line.now < upto }
+    ensures way { OnOk result (IsOnWay book.now line.new.line table.new) }
+    ensures step { OnOk result (StepsTo line.old.line line.new.line upto) }
+{
+    line.keeps();
+    let _bound = upto.minute();
+    let now = line.now();
+    let ground = book.ground();
+    let policy = ground.policy();
+    policy.keeps();
+    let to = stop(ground, line, table, upto);
+    line.close(ground, to)?;
+    let signals = table.end_instants(policy.edges(), policy.caps(), now, to, line.status())?;
+    line.reserve(signals.len())?;
+    add_signals(line, signals.as_slice());
+    Ok(())
+}
+
+/// Where the next step of the walk stops.
+fn stop(ground: &Ground, line: &Timeline, table: &Sessions, upto: Instant) -> Instant
+    requires stands { StandsFor ground.now.policy line.now.line }
+    requires charged { NotBefore table.now.charged_to line.now.line.now }
+    requires later { line.now.line.now < upto }
+    ensures { IsNextStop (moves ground.now.policy line.now.line (table_of table.now)) line.now.line.now upto result }
+{
+    let raised = earlier(line.due(ground), upto);
+    earlier(table.next_drop(ground.policy().caps(), line.now()), raised)
+}
+
+/// The next instant, where it is before the bound, else the bound.
+fn earlier(next: Option<Instant>, bound: Instant) -> Instant
+    ensures raised { (test : ℕ → Bool) (now : ℕ) → IsNextOf test now next → now < bound → IsNextStop test now bound result }
+    ensures dropped { (test : ℕ → Bool) (now : ℕ) → IsFirstOrNone test now next → now < bound → IsNextStop test now bound result }
+{
+    let _bound = bound.minute();
+    match next {
+        Some(t) if t < bound => t,
+        _ => bound,
+    }
+}
+
+/// Adds the signals, into room that was made before.
+fn add_signals(line: &mut Timeline, signals: &[Signal])
+    requires { length signals.now ≤ line.old.spare }
+    ensures { line.new.line ≡ with_signals line.old.line signals.now }
+{
+    for x in signals {
+        line.signal(*x);
+    }
+}
