@@ -227,3 +227,10 @@ pub table_is : (p : Policy) (birth : ℕ) (h : List Entry) (v : TimelineView) (t
 table_is p birth h v tb charged k =
     let now : record tb { signals = k.waiting } ≡ table_at p birth (model_of v.trace) h (now_of birth h) = k.table ∙ ap (table_at p birth (model_of v.trace) h) k.follows.now in
     (λ i. record tb { signals = (sym now i).signals }) ∙ now
+
+-- the signals of the table at now are those that wait in the timeline
+pub waiting_is : (p : Policy) (birth : ℕ) (h : List Entry) (v : TimelineView) (tb : Table) (charged : Option ℕ) (k : Kept p birth h v tb charged)
+    → now_of birth h < last_minute → (x : Signal) → list_any (eq_by_cmp signal_cmp x) (table_at p birth (model_of v.trace) h (now_of birth h)).signals ≡ has v.signals x
+waiting_is p birth h v tb charged k lt x =
+    ap (λ (t : Table). list_any (eq_by_cmp signal_cmp x) t.signals) (sym (k.table ∙ ap (table_at p birth (model_of v.trace) h) k.follows.now))
+    ∙ k.signals (omega (arith, lt, k.follows.now)) x

@@ -1,10 +1,15 @@
 -- Books: a history that is legal, with its trace.
 use Rattle.std.specs.Prelude.{◌≡◌, ℕ, ◌<◌, ◌≤◌, List, [], ◌∷◌, ◌++◌, length, refl, ◌⊎◌}
+use Rattle.std.specs.List.{list_any}
+use Rattle.std.specs.Ordering.{eq_by_cmp}
 use Rattle.std.specs.Coded.{Coded, code_by, coded×, coded_ℕ, coded_list}
 use Rattle.std.proofs.Common.{sym, ◌∙◌, subst, ap}
 use Rattle.gt_base.specs.Happening.{Happening}
 use Rattle.gt_base.specs.Bounds.{last_minute, max_steps}
 use Rattle.gt_base.specs.Machines.{ticked, asked}
+use Rattle.gt_base.specs.Orders.{signal_cmp}
+use Rattle.gt_base.specs.Sets.{has}
+use Rattle.gt_base.specs.declared.events.Signal.{Signal}
 use Rattle.gt_base.specs.declared.requests.Who.{Who}
 use Rattle.gt_base.specs.declared.requests.Entry.{Entry}
 use Rattle.gt_base.specs.declared.requests.Step.{Step}
@@ -22,7 +27,7 @@ use Rattle.gtrbac_model.specs.Sessions.{Table}
 use Rattle.gtrbac_model.specs.Status.{Model}
 use Rattle.gtrbac_model.specs.Theorems.{IsOnlyModel}
 use Rattle.policy_words.specs.Naming.{NamedPolicy, named_policy_code}
-use Rattle.instant_bases.specs.Timelines.{ClosedSet, closed_set_code}
+use Rattle.instant_bases.specs.Timelines.{ClosedSet, closed_set_code, TimelineView}
 use Rattle.time_engine.specs.Traces.{model_of}
 
 -- what a clause sees of a book
@@ -59,6 +64,10 @@ IsLegalBook b = Legal b.named.policy b.birth b.entries (model_in b)
 -- the table is that of the history at now, the signals that wait left out
 abbrev pub IsTableIn : BookView → Table → Type 0
 IsTableIn b tb = record tb { signals = (point_in b).table.signals } ≡ (point_in b).table
+
+-- the timeline has the signals of that table, which wait for the minute after now; after the last instant there is none
+abbrev pub HasWaiting : BookView → TimelineView → Type 0
+HasWaiting b v = now_in b < last_minute → (x : Signal) → list_any (eq_by_cmp signal_cmp x) (point_in b).table.signals ≡ has v.signals x
 
 -- every other list of sets that is a model of the entries agrees with the trace at every instant
 abbrev pub HasOnlyModel : BookView → Type 0

@@ -3,13 +3,14 @@ ghost use Rattle.std.specs.Prelude.{◌≡◌, ◌<◌, ◌≤◌, ◌⊎◌, On
 ghost use Rattle.gt_base.specs.Bounds.{max_steps};
 ghost use Rattle.dependency_graph.specs.Levelled.{IsLevelled};
 ghost use Rattle.gtrbac_model.specs.Safety.{IsSafe};
-ghost use Rattle.session_table.specs.Tables.{table_of};
+ghost use Rattle.session_table.specs.Tables.{NotBefore, table_of};
 ghost use Rattle.time_engine.specs.Histories.{Follows};
 ghost use Rattle.time_engine.specs.Traces.{AreSome, Ascends};
-ghost use Rattle.core_machine.specs.Books.{IsBook, now_in, model_in, reply_in, HasBases, HasOnlyModel, IsLegalBook, AreNamed, IsNamedFor, IsTableIn, Ticks, Asks};
+ghost use Rattle.core_machine.specs.Books.{IsBook, now_in, model_in, reply_in, HasBases, HasOnlyModel, IsLegalBook, AreNamed, HasWaiting, IsNamedFor, IsTableIn, Ticks, Asks};
 ghost use Rattle.core_machine.specs.Steps.{as_step};
 
 use crate::asking::answer;
+use crate::prepared::Prepared;
 use crate::states::State;
 use crate::ticking::go_on;
 use gt_base::{Actor, Entry, Instant, List, Memory, Reply, Request, StepFault, Who};
@@ -80,15 +81,21 @@ impl Book {
                 safe: safe_again(ground),
             });
         };
-        let state = State {
-            alloc,
-            ground,
-            birth,
-            line,
-            table: Sessions::new(alloc),
-            entries: List::new(alloc),
-        };
-        Ok(Book { state })
+        match Prepared::new(alloc, ground) {
+            Ok(ground) => Ok(Book {
+                state: State {
+                    alloc,
+                    ground,
+                    birth,
+                    line,
+                    table: Sessions::new(alloc),
+                    entries: List::new(alloc),
+                },
+            }),
+            Err(ground) => Err(BookMemory {
+                safe: safe_again(ground),
+            }),
+        }
     }
 
     /// The instant of the history: where its last tick went, or the birth.
@@ -143,24 +150,27 @@ impl Book {
         self.state.line.trace()
     }
 
-    /// The policy with what was made of it for its timelines.
+    /// The policy with what was made of it for its timelines. It is safe.
     pub fn ground(&self) -> &Ground
-        ensures { result.now ≡ self.now.named }
+        ensures value { result.now ≡ self.now.named }
+        ensures safe { IsSafe self.now.named.policy.triggers }
     {
-        &self.state.ground
+        self.state.ground.ground()
     }
 
-    /// The timeline of now, which follows the history.
+    /// The timeline of now, which follows the history, with the signals that wait for the next minute.
     pub fn timeline(&self) -> &Timeline
         ensures trace { result.now.line.trace ≡ self.now.trace }
         ensures follows { Follows self.now.named.policy self.now.birth self.now.entries (model_in self.now) result.now.line }
+        ensures waiting { HasWaiting self.now result.now.line }
     {
         &self.state.line
     }
 
-    /// The sessions of now.
+    /// The sessions of now, charged up to no later instant.
     pub fn sessions(&self) -> &Sessions
-        ensures { IsTableIn self.now (table_of result.now) }
+        ensures table { IsTableIn self.now (table_of result.now) }
+        ensures charged { NotBefore result.now.charged_to (now_in self.now) }
     {
         &self.state.table
     }

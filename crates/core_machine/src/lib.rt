@@ -5,6 +5,7 @@ mod asking;
 mod books;
 mod entering;
 mod machine_book;
+mod prepared;
 mod sessions;
 mod states;
 mod telling;

@@ -5,7 +5,6 @@ ghost use Rattle.gt_base.specs.declared.requests.Request.TheVariants.{OpenSessio
 ghost use Rattle.gt_base.specs.declared.requests.Reply.TheVariants.{Active};
 ghost use Rattle.gtrbac_model.specs.Reply.{answer};
 ghost use Rattle.gtrbac_model.specs.Sessions.{applied};
-ghost use Rattle.gtrbac_model.specs.WholePolicy.{IsPolicy};
 ghost use Rattle.session_table.specs.Opened.{in_session};
 ghost use Rattle.session_table.specs.Replies.{OrRefused};
 ghost use Rattle.session_table.specs.Tables.{table_of};
@@ -14,6 +13,7 @@ ghost use Rattle.core_machine.specs.Kept.{IsKept, IsReady, point_of, view_of};
 ghost use Rattle.core_machine.specs.Steps.{is_nobody};
 
 use crate::entering::{add_signals, make_room, tell};
+use crate::prepared::Prepared;
 use crate::states::State;
 use gt_base::{
     Actor, Entry, List, Memory, Refusal, Reply, Request, RoleId, SessionId, Signal, Step, UserId,
@@ -21,7 +21,7 @@ use gt_base::{
 };
 use session_table::{SessionFault, Sessions};
 use std::alloc::AllocError;
-use time_engine::{Ground, Timeline};
+use time_engine::Timeline;
 
 /// Opens a session for the user.
 pub(crate) fn open_session(s: &mut State, who: Who, actor: Actor) -> Result<Reply, Memory>
@@ -181,13 +181,12 @@ fn begin_role(
 /// Activates the role under the policy, in the status of now.
 fn start(
     table: &mut Sessions,
-    ground: &Ground,
+    ground: &Prepared,
     line: &Timeline,
     actor: Actor,
     session: SessionId,
     role: RoleId,
 ) -> Result<(Walk, Signal), SessionFault>
-    requires { IsPolicy ground.now.policy }
     ensures answer { IfOk result (λ r. answer ground.now.policy (point_of line.now.line (table_of table.old)) actor (Activate session role) ≡ Active r.0) }
     ensures table { IfOk result (λ r. applied line.now.line.now actor (Activate session role) (Active r.0) (table_of table.old) ≡ record (table_of table.new) { signals = r.1 ∷ [] }) }
     ensures charged_to { table.new.charged_to ≡ table.old.charged_to }
@@ -197,8 +196,8 @@ fn start(
     let policy = ground.policy();
     let status = line.status();
     let now = line.now();
-    table.activate(
-        policy.edges(),
+    table.activate_over(
+        ground.hierarchy(),
         policy.caps(),
         status,
         now,

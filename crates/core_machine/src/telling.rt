@@ -12,7 +12,7 @@ ghost use Rattle.core_machine.specs.Steps.{is_nobody};
 
 use crate::entering::tell;
 use crate::states::State;
-use decision_reason::decide;
+use decision_reason::decide_over;
 use gt_base::{Actor, Cond, Event, Memory, PermId, Reply, Request, RoleId, SessionId, Status, Who};
 use priority_conflict::seen;
 use session_table::Sessions;
@@ -130,9 +130,8 @@ fn decision(s: &State, actor: Actor, session: SessionId, perm: PermId) -> Result
 {
     match s.table.active(actor, session) {
         Ok(roles) => {
-            let policy = s.ground.policy();
-            policy.keeps();
-            let answer = decide(s.alloc, policy.edges(), s.line.status(), roles, perm)?;
+            let hierarchy = s.ground.hierarchy();
+            let answer = decide_over(s.alloc, hierarchy, s.line.status(), roles, perm)?;
             Ok(Reply::Decided(answer))
         }
         Err(refusal) => Ok(Reply::Refused(refusal)),

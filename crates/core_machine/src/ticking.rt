@@ -49,12 +49,13 @@ fn planned(s: &mut State, to: Instant) -> Result<(Plan, Drops), Memory>
     ensures drops { IfOk result (λ r. IsPlanOfDrops s.old.ground.policy.edges s.old.ground.policy.caps (has r.0.status) s.old.line.line.now to (table_of s.old.table) r.1) }
     ensures drops_room { OnOk result (need_of s.old.line.line.now to s.new.table ≤ s.new.table.room) }
 {
-    let plan = s.line.plan(&s.ground, to)?;
+    let plan = s.line.plan(s.ground.ground(), to)?;
     let policy = s.ground.policy();
     let now = s.line.now();
+    let hierarchy = s.ground.hierarchy();
     let drops = s
         .table
-        .plan_end(policy.edges(), policy.caps(), now, to, plan.status())?;
+        .plan_end_over(hierarchy, policy.caps(), now, to, plan.status())?;
     Ok((plan, drops))
 }
 
@@ -64,7 +65,7 @@ fn stop(s: &State, upto: Instant) -> Instant
     requires later { s.now.line.line.now < upto }
     ensures { IsNextStop (moves s.now.ground.policy s.now.line.line (table_of s.now.table)) s.now.line.line.now upto result }
 {
-    let raised = next_raised(s.line.due(&s.ground), upto);
+    let raised = next_raised(s.line.due(s.ground.ground()), upto);
     next_drop(
         s.table.next_drop(s.ground.policy().caps(), s.line.now()),
         raised,

@@ -7,7 +7,7 @@ ghost use Rattle.hybrid_hierarchy.specs.Nets.{IsHierarchy};
 ghost use Rattle.decision_reason.specs.Shut.{is_usable_edge, first_unusable, denied_by, by_walks};
 
 use gt_base::{Decision, HierEdge, List, Memory, PermId, RoleId, Status, Walk};
-use hybrid_hierarchy::{reaches, reaches_any, usable};
+use hybrid_hierarchy::{Hierarchy, usable};
 use std::alloc::Global;
 
 /// Whether a session in which these roles are active has the permission in this status, and why not. `Permit` names the least walk of usable
@@ -27,42 +27,59 @@ pub fn decide(
 {
     match active {
         [] => Ok(Decision::NoActive),
-        _ => by_walks(alloc, edges, status, active, perm),
+        _ => {
+            let hierarchy = Hierarchy::new(alloc, edges)?;
+            decide_over(alloc, &hierarchy, status, active, perm)
+        }
+    }
+}
+
+/// The same decision over a hierarchy that was made for many questions.
+pub fn decide_over(
+    alloc: Global,
+    hierarchy: &Hierarchy,
+    status: &Status,
+    active: &[RoleId],
+    perm: PermId,
+) -> Result<Decision, Memory>
+    ensures { IfOk result (λ decision. decision ≡ decide hierarchy.now (has status.now.set) active.now perm) }
+{
+    match active {
+        [] => Ok(Decision::NoActive),
+        _ => by_walks(alloc, hierarchy, status, active, perm),
     }
 }
 
 /// The decision where some role is active: a permit by the least walk of usable edges, or why there is none.
 fn by_walks(
     alloc: Global,
-    edges: &List<HierEdge>,
+    hierarchy: &Hierarchy,
     status: &Status,
     active: &[RoleId],
     perm: PermId,
 ) -> Result<Decision, Memory>
-    requires { IsHierarchy edges.now.items }
-    ensures { IfOk result (λ decision. decision ≡ by_walks (has status.now.set) edges.now.items
-        (permission_walk edges.now.items (has status.now.set) active.now perm)
-        (permission_walk_of_any edges.now.items (has status.now.set) active.now perm)) }
+    ensures { IfOk result (λ decision. decision ≡ by_walks (has status.now.set) hierarchy.now
+        (permission_walk hierarchy.now (has status.now.set) active.now perm)
+        (permission_walk_of_any hierarchy.now (has status.now.set) active.now perm)) }
 {
-    match reaches(alloc, edges, status, active, perm)? {
+    match hierarchy.reaches(alloc, status, active, perm)? {
         Some(walk) => Ok(Decision::Permit { walk }),
-        None => denied(alloc, edges, status, active, perm),
+        None => denied(alloc, hierarchy, status, active, perm),
     }
 }
 
 /// Why no walk of usable edges leads to the permission.
 fn denied(
     alloc: Global,
-    edges: &List<HierEdge>,
+    hierarchy: &Hierarchy,
     status: &Status,
     active: &[RoleId],
     perm: PermId,
 ) -> Result<Decision, Memory>
-    requires { IsHierarchy edges.now.items }
-    ensures { IfOk result (λ decision. decision ≡ denied_by (has status.now.set) edges.now.items (permission_walk_of_any edges.now.items (has status.now.set) active.now perm)) }
+    ensures { IfOk result (λ decision. decision ≡ denied_by (has status.now.set) hierarchy.now (permission_walk_of_any hierarchy.now (has status.now.set) active.now perm)) }
 {
-    match reaches_any(alloc, edges, status, active, perm)? {
-        Some(walk) => Ok(shut_at(edges.as_slice(), status, &walk)),
+    match hierarchy.reaches_any(alloc, status, active, perm)? {
+        Some(walk) => Ok(shut_at(hierarchy.edges(), status, &walk)),
         None => Ok(Decision::NoGrant),
     }
 }

@@ -4,5 +4,5 @@
 mod deciding;
 mod laws;
 
-pub use deciding::decide;
+pub use deciding::{decide, decide_over};
 pub use laws::roles_decide;

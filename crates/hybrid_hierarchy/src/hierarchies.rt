@@ -42,6 +42,14 @@ impl Hierarchy {
         Ok(Hierarchy { edges, out })
     }
 
+    /// The edges: at most 4,000 of them, among roles below 1,000.
+    pub fn edges(&self) -> &[HierEdge]
+        ensures value { result.now ≡ self.now }
+        ensures hierarchy { IsHierarchy self.now }
+    {
+        &self.edges
+    }
+
     /// By which walk of usable edges the user may activate the role, as `may_activate` over the list. For want of memory it may refuse.
     pub fn may_activate(
         &self,

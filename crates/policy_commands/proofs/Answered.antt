@@ -1,5 +1,5 @@
 -- What the answers of `check` and `fmt` mean.
-use Rattle.std.proofs.Common.{◌≡◌, ◌≤◌, ℕ, ◌+◌, Bool, true, false, List, [], ◌∷◌, length, Option, Some, None, refl, sym, ap, ◌∙◌, subst}
+use Rattle.std.proofs.Common.{◌≡◌, ◌≤◌, ℕ, ◌+◌, true, List, [], ◌∷◌, length, Option, Some, None, refl, sym, ap, ◌∙◌, subst}
 use Rattle.std.specs.Prelude.{Result, Ok, Err, IsTrue, IfOk, All, codes}
 use Rattle.std.proofs.lemmas.List.Elements.{All-from_recursion}
 use Rattle.gt_text.specs.Lines.{lines_of}
@@ -45,7 +45,7 @@ module _ (text : List ℕ) where
   unfolding judged
   check_read np c read e = check_is (Ok np) read ∙ ap (λ x. safe_or_end (safe_or_told np x)) e
 
-  fmt_is : (r : Result NamedPolicy PolicyFault) → policy_read text ≡ r → fmt_end text ≡ laid_or_told (read_or_told r)
+  pub fmt_is : (r : Result NamedPolicy PolicyFault) → policy_read text ≡ r → fmt_end text ≡ laid_or_told (read_or_told r)
   unfolding fmt_end policy_in
   fmt_is r e = ap (λ x. laid_or_told (read_or_told x)) e
 
@@ -138,7 +138,7 @@ module _ (text : List ℕ) (np : NamedPolicy) where
   of_lines (Ok ss) all e = of_built ss all (build ss) refl e
   of_lines (Err t) all e = absurd (cc e)
 
-  well_formed : policy_read text ≡ Ok np → IsWellFormed np
+  pub well_formed : policy_read text ≡ Ok np → IsWellFormed np
   well_formed e = of_lines (read_lines Open 1 (lines_of text)) (in_range Open 1 (lines_of text)) e
 
 pub fmt_keeps : FmtKeeps

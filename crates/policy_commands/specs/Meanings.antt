@@ -3,8 +3,10 @@ use Rattle.std.specs.Prelude.{◌≡◌, ◌≤◌, ◌↔◌, ℕ, List, length
 use Rattle.gt_text.specs.Lines.{lines_of}
 use Rattle.gtrbac_model.specs.Safety.{IsSafe}
 use Rattle.gtrbac_model.specs.Theorems.{HasOneModel}
+use Rattle.policy_words.specs.Canonical.{canonical_text}
 use Rattle.policy_words.specs.Naming.{NamedPolicy}
 use Rattle.policy_words.specs.PolicyRead.{policy_read}
+use Rattle.policy_words.specs.Spelling.{BeginsWith}
 use Rattle.policy_commands.specs.Ends.{told}
 use Rattle.policy_commands.specs.Policies.{HasFault, IsUnsafeText}
 use Rattle.policy_commands.specs.Commands.{fmt_end, check_end}
@@ -31,3 +33,16 @@ FmtFaultMeans = (text : List ℕ) → ((fmt_end text).status ≡ 2) ↔ HasFault
 -- what was written stands for the same policy and is written again
 abbrev pub FmtKeeps : Type 0
 FmtKeeps = (text out : List ℕ) → fmt_end text ≡ told 0 out → All (λ line. length line ≤ 4_096) (lines_of out) → (policy_read out ≡ policy_read text) × (fmt_end out ≡ told 0 out)
+
+-- each period line has at most 4,040 bytes
+abbrev pub HasBriefPeriods : List ℕ → Type 0
+HasBriefPeriods text = All (λ line. BeginsWith line (codes "period") → length line ≤ 4_040) (lines_of text)
+
+-- then no line of the canonical text has more than 4,096
+abbrev pub CanonicalLinesFit : Type 0
+CanonicalLinesFit =
+    (text : List ℕ) (np : NamedPolicy) → policy_read text ≡ Ok np → HasBriefPeriods text → All (λ line. length line ≤ 4_096) (lines_of (canonical_text np))
+
+-- and so what was written stands for the same policy and is written again
+abbrev pub FmtKeepsBrief : Type 0
+FmtKeepsBrief = (text out : List ℕ) → fmt_end text ≡ told 0 out → HasBriefPeriods text → (policy_read out ≡ policy_read text) × (fmt_end out ≡ told 0 out)

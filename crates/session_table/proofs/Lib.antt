@@ -4,6 +4,7 @@ pub mod Finding
 pub mod Indexing
 pub mod Keeping
 pub mod Answering
+pub mod Fullness
 pub mod Telling
 pub mod Entering
 pub mod Committing

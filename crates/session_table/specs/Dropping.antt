@@ -1,5 +1,6 @@
 -- What the close of an instant drops, in the words of the rows.
-use Rattle.std.specs.Prelude.{ℕ, ◌+◌, ◌-◌, ◌*◌, Bool, ◌||◌, not, List, count_by, is_none}
+use Rattle.std.specs.Prelude.{◌≡◌, ℕ, ◌+◌, ◌-◌, ◌*◌, Bool, ◌||◌, not, List, count_by, is_none, IfSome}
+use Rattle.std.specs.Map.{lookup}
 use Rattle.gt_base.specs.declared.events.RoleId.{RoleId}
 use Rattle.gt_base.specs.declared.events.UserId.{UserId}
 use Rattle.gt_base.specs.declared.events.Fluent.TheVariants.{Enabled}
@@ -12,6 +13,8 @@ use Rattle.gtrbac_model.specs.Sessions.{Activation, caps_of, reached, is_of}
 use Rattle.history_laws.specs.Tables.{minutes_of_day}
 use Rattle.session_table.specs.declared.charges.Charge.{Charge}
 use Rattle.session_table.specs.Charges.{charged_in}
+use Rattle.session_table.specs.declared.dropping.Asked.{Asked}
+use Rattle.session_table.specs.contracts.dropping.AskedPartialEq.TheImpl as asked_equality
 
 -- what is charged on the civil day of `to`, where the minutes after now are charged to each activation
 abbrev pub spent_by : List (Charge × ℕ) → List Activation → ℕ → ℕ → UserId → RoleId → ℕ
@@ -24,3 +27,10 @@ is_dropped edges caps s rows active now to a =
     || is_none (activation_walk edges s a.user a.role)
     || reached (caps_of caps a.role).length (to - a.begun)
     || reached (caps_of caps a.role).day (spent_by rows active now to a.user a.role)
+
+abbrev pub asked_eq : Asked → Asked → Bool
+asked_eq = asked_equality.ghosts.eq
+
+-- what the rows say of a user and a role is whether no walk of usable edges lets the one activate the other
+abbrev pub AreBarred : List HierEdge → Status → List (Asked × Bool) → Type 0
+AreBarred edges s rows = (u : UserId) (r : RoleId) → IfSome (lookup (asked_eq (record { user = u; role = r })) rows) (λ b. b ≡ is_none (activation_walk edges s u r))

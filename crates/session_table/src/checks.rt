@@ -1,5 +1,5 @@
 //! Causes of refusals, in their order.
-ghost use Rattle.std.specs.Prelude.{◌≡◌, ◌<◌, ◌^◌, [], ◌∷◌, not, map, length, count_by, Some, None, IfOk, IfErr, IfSome, slice_get, slice_index};
+ghost use Rattle.std.specs.Prelude.{◌≡◌, ◌<◌, ◌≤◌, ◌^◌, [], ◌∷◌, not, map, length, count_by, Some, None, IfOk, IfErr, IfSome, slice_get, slice_index};
 ghost use Rattle.gt_base.specs.Sets.{has};
 ghost use Rattle.gt_base.specs.declared.requests.Refusal.TheVariants.{Already, Disabled, RoleFull, UserFull, DaySpent};
 ghost use Rattle.gt_base.specs.declared.events.Fluent.TheVariants.{Enabled};
@@ -9,7 +9,7 @@ ghost use Rattle.gtrbac_model.specs.Sessions.{Table, caps_of, reached, is_of};
 ghost use Rattle.gtrbac_model.specs.Reply.{session_causes};
 ghost use Rattle.session_table.specs.Opened.{opened};
 ghost use Rattle.session_table.specs.Charges.{charged_in};
-ghost use Rattle.session_table.specs.Causes.{first_cause, is_foreign, StandsAt, with_sessions, early_causes, late_causes};
+ghost use Rattle.session_table.specs.Causes.{first_cause, is_foreign, StandsAt, with_sessions, early_causes, late_causes, full_at};
 
 use crate::activations::{Activation, count_of, count_role};
 use crate::charges::{Charge, charged};
@@ -81,18 +81,72 @@ pub(crate) fn caps_of(caps: &[Caps], role: RoleId) -> Caps
     }
 }
 
-/// Which cap refuses an activation of the role by the user at the instant.
-pub(crate) fn late_refusal(caps: Caps, all: u32, own: u32, spent: u32) -> Option<Refusal>
-    ensures { result ≡ first_cause (late_causes caps all own spent) }
+/// Which cap refuses an activation of the role by the user on the civil day. What no cap asks for is not counted.
+pub(crate) fn late_refusal(
+    caps: Caps,
+    active: &[Activation],
+    charges: &IndexMap<Charge, u32>,
+    user: UserId,
+    role: RoleId,
+    today: u32,
+) -> Option<Refusal>
+    requires all { count_by (λ a. same_role a.role role) active.now ≤ 10_000 }
+    requires own { count_by (is_of user role) active.now ≤ 10_000 }
+    ensures { result ≡ first_cause (late_causes caps (count_by (λ a. same_role a.role role) active.now) (count_by (is_of user role) active.now) (charged_in charges.now.entries user role today)) }
 {
-    if is_reached(caps.total, all) {
-        return Some(Refusal::RoleFull { n: all });
+    if let Some(n) = full_role(caps.total, active, role) {
+        return Some(Refusal::RoleFull { n });
     }
-    if is_reached(caps.user, own) {
-        return Some(Refusal::UserFull { n: own });
+    if let Some(n) = full_user(caps.user, active, user, role) {
+        return Some(Refusal::UserFull { n });
     }
-    if is_reached(caps.day, spent) {
-        return Some(Refusal::DaySpent { minutes: spent });
+    match spent_day(caps.day, charges, user, role, today) {
+        Some(minutes) => Some(Refusal::DaySpent { minutes }),
+        None => None,
     }
-    None
+}
+
+/// How many activations of the role stand, if they are as many as the cap allows.
+fn full_role(cap: Option<u32>, active: &[Activation], role: RoleId) -> Option<u32>
+    requires { count_by (λ a. same_role a.role role) active.now ≤ 10_000 }
+    ensures { result ≡ full_at cap (count_by (λ a. same_role a.role role) active.now) }
+{
+    match cap {
+        Some(_) => if_reached(cap, count_role(active, role) as u32),
+        None => None,
+    }
+}
+
+/// How many activations of the user and the role stand, if they are as many as the cap allows.
+fn full_user(cap: Option<u32>, active: &[Activation], user: UserId, role: RoleId) -> Option<u32>
+    requires { count_by (is_of user role) active.now ≤ 10_000 }
+    ensures { result ≡ full_at cap (count_by (is_of user role) active.now) }
+{
+    match cap {
+        Some(_) => if_reached(cap, count_of(active, user, role) as u32),
+        None => None,
+    }
+}
+
+/// How many minutes are charged to the user's role on the day, if they are as many as the cap allows.
+fn spent_day(
+    cap: Option<u32>,
+    charges: &IndexMap<Charge, u32>,
+    user: UserId,
+    role: RoleId,
+    today: u32,
+) -> Option<u32>
+    ensures { result ≡ full_at cap (charged_in charges.now.entries user role today) }
+{
+    match cap {
+        Some(_) => if_reached(cap, charged(charges, user, role, today)),
+        None => None,
+    }
+}
+
+/// The number, if the cap is reached by it.
+fn if_reached(cap: Option<u32>, n: u32) -> Option<u32>
+    ensures { result ≡ full_at cap n }
+{
+    if is_reached(cap, n) { Some(n) } else { None }
 }

@@ -1,32 +1,36 @@
 //! Which activations the close of an instant drops, and how they are taken out.
-ghost use Rattle.std.specs.Prelude.{◌≡◌, ◌+◌, ◌-◌, ◌*◌, ◌<◌, ◌≤◌, ◌&&◌, ◌||◌, [], ◌∷◌, ◌++◌, if◌then◌else◌, OnOk, not, false, map, filter, length, count_by, is_none, IfOk};
+ghost use Rattle.std.specs.Prelude.{◌≡◌, ◌+◌, ◌-◌, ◌*◌, ◌<◌, ◌≤◌, ◌&&◌, ◌||◌, [], ◌∷◌, ◌++◌, if◌then◌else◌, OnOk, not, false, map, filter, length, count_by, is_none, nat_lt, IfOk};
 ghost use Rattle.std.specs.List.{list_any};
 ghost use Rattle.gt_base.specs.Sets.{has};
 ghost use Rattle.gt_base.specs.declared.events.RoleId.{RoleId};
 ghost use Rattle.gt_base.specs.declared.events.UserId.{UserId};
 ghost use Rattle.gt_base.specs.declared.events.SessionId.{SessionId};
-ghost use Rattle.gt_base.specs.declared.events.Fluent.TheVariants.{Enabled};
+ghost use Rattle.gt_base.specs.declared.events.Fluent.TheVariants.{Enabled, Assigned};
 ghost use Rattle.gtrbac_model.specs.Same.{same_role, same_session};
 ghost use Rattle.gtrbac_model.specs.Calendar.{day_of};
 ghost use Rattle.gtrbac_model.specs.Hierarchy.{activation_walk};
 ghost use Rattle.gtrbac_model.specs.Sessions.{caps_of, reached, is_of, is_active_in, signal_of};
 ghost use Rattle.history_laws.specs.Tables.{minutes_of_day};
-ghost use Rattle.hybrid_hierarchy.specs.Nets.{IsHierarchy};
 ghost use Rattle.session_table.specs.Charges.{charged_in};
 ghost use Rattle.session_table.specs.Opened.{opened, role_in};
-ghost use Rattle.session_table.specs.Dropping.{spent_by, is_dropped};
+ghost use Rattle.session_table.specs.Dropping.{spent_by, is_dropped, AreBarred};
 
 use crate::activations::{Activation, count_of, signal_of};
 use crate::charges::{Charge, charged, minutes_on};
 use crate::checks::{caps_of, is_reached};
 use crate::opened::{Open, has_role, place, remove_role};
 use civil_time::day;
-use gt_base::{
-    Caps, Fluent, HierEdge, Instant, List, Memory, RoleId, SessionId, Signal, Status, UserId,
-};
-use hybrid_hierarchy::may_activate;
+use gt_base::{Caps, Fluent, Instant, List, Memory, RoleId, SessionId, Signal, Status, UserId};
+use hybrid_hierarchy::Hierarchy;
 use indexmap::IndexMap;
 use std::alloc::Global;
+
+/// A user and a role of which it is asked whether a walk lets the one activate the other.
+#[derive(Clone, Copy, PartialEq, Eq, Hash, Debug)]
+pub(crate) struct Asked {
+    pub(crate) user: UserId,
+    pub(crate) role: RoleId,
+}
 
 /// How many minutes are charged to the user's role on the civil day of `to`, where the minutes after `now` are charged to each activation.
 pub(crate) fn spent_by(
@@ -80,21 +84,36 @@ fn age(a: &Activation, to: Instant) -> u32
     to.minute().saturating_sub(begun.minute())
 }
 
-/// Whether no walk of usable edges lets the user activate the role.
+/// Whether the user is assigned to the role itself.
+fn is_assigned(status: &Status, user: UserId, role: RoleId) -> bool
+    ensures { result ≡ (nat_lt role.0 1_000 && has status.now.set (Assigned user role)) }
+{
+    role.0 < 1_000 && status.is_on(Fluent::Assigned(user, role))
+}
+
+/// Whether no walk of usable edges lets the user activate the role. What is known is not asked again. For want of memory it may refuse.
 fn is_barred(
     alloc: Global,
-    edges: &List<HierEdge>,
+    known: &mut IndexMap<Asked, bool>,
+    hierarchy: &Hierarchy,
     status: &Status,
     user: UserId,
     role: RoleId,
 ) -> Result<bool, Memory>
-    requires { IsHierarchy edges.now.items }
-    ensures { IfOk result (λ b. b ≡ is_none (activation_walk edges.now.items (has status.now.set) user role)) }
+    requires { AreBarred hierarchy.now (has status.now.set) known.old.entries }
+    ensures known { OnOk result (AreBarred hierarchy.now (has status.now.set) known.new.entries) }
+    ensures barred { IfOk result (λ b. b ≡ is_none (activation_walk hierarchy.now (has status.now.set) user role)) }
 {
-    match may_activate(alloc, edges, status, user, role)? {
-        Some(_) => Ok(false),
-        None => Ok(true),
+    if is_assigned(status, user, role) {
+        return Ok(false);
     }
+    let asked = Asked { user, role };
+    if let Some(barred) = known.get(&asked).copied() {
+        return Ok(barred);
+    }
+    let barred = hierarchy.may_activate(alloc, status, user, role)?.is_none();
+    known.insert(asked, barred)?;
+    Ok(barred)
 }
 
 /// Whether a cap of its role ends the activation at the close of `to`.
@@ -116,8 +135,9 @@ fn is_capped(
 /// Whether the close of `to` drops the activation. For want of memory it may refuse.
 fn is_dropped(
     alloc: Global,
+    known: &mut IndexMap<Asked, bool>,
     a: &Activation,
-    edges: &List<HierEdge>,
+    hierarchy: &Hierarchy,
     caps: &List<Caps>,
     status: &Status,
     charges: &IndexMap<Charge, u32>,
@@ -125,9 +145,10 @@ fn is_dropped(
     now: Instant,
     to: Instant,
 ) -> Result<bool, Memory>
-    requires edges { IsHierarchy edges.now.items }
+    requires known { AreBarred hierarchy.now (has status.now.set) known.old.entries }
     requires few { (u : UserId) (r : RoleId) → count_by (is_of u r) active.now ≤ 10_000 }
-    ensures { IfOk result (λ b. b ≡ is_dropped edges.now.items caps.now.items (has status.now.set) charges.now.entries active.now now to a.now) }
+    ensures known { OnOk result (AreBarred hierarchy.now (has status.now.set) known.new.entries) }
+    ensures dropped { IfOk result (λ b. b ≡ is_dropped hierarchy.now caps.now.items (has status.now.set) charges.now.entries active.now now to a.now) }
 {
     let role = a.role;
     if !status.is_on(Fluent::Enabled(role)) {
@@ -136,7 +157,7 @@ fn is_dropped(
     if is_capped(a, caps_of(caps.as_slice(), role), charges, active, now, to) {
         return Ok(true);
     }
-    is_barred(alloc, edges, status, a.user, role)
+    is_barred(alloc, known, hierarchy, status, a.user, role)
 }
 
 /// Adds the activation, if it is gone.
@@ -149,10 +170,10 @@ fn push_if(gone: &mut Vec<Activation>, a: &Activation, is_gone: bool) -> Result<
     Ok(())
 }
 
-/// The activations that the close of `to` drops. For want of memory it may refuse.
+/// The activations that the close of `to` drops. No user and role is asked of the hierarchy twice. For want of memory it may refuse.
 pub(crate) fn dropped(
     alloc: Global,
-    edges: &List<HierEdge>,
+    hierarchy: &Hierarchy,
     caps: &List<Caps>,
     status: &Status,
     charges: &IndexMap<Charge, u32>,
@@ -160,13 +181,15 @@ pub(crate) fn dropped(
     now: Instant,
     to: Instant,
 ) -> Result<Vec<Activation>, Memory>
-    requires edges { IsHierarchy edges.now.items }
-    requires few { (u : UserId) (r : RoleId) → count_by (is_of u r) active.now ≤ 10_000 }
-    ensures { IfOk result (λ gone. gone.items ≡ filter (is_dropped edges.now.items caps.now.items (has status.now.set) charges.now.entries active.now now to) active.now) }
+    requires { (u : UserId) (r : RoleId) → count_by (is_of u r) active.now ≤ 10_000 }
+    ensures { IfOk result (λ gone. gone.items ≡ filter (is_dropped hierarchy.now caps.now.items (has status.now.set) charges.now.entries active.now now to) active.now) }
 {
+    let mut known = IndexMap::new(alloc);
     let mut gone = Vec::new(alloc);
     for a in active {
-        let is_gone = is_dropped(alloc, a, edges, caps, status, charges, active, now, to)?;
+        let is_gone = is_dropped(
+            alloc, &mut known, a, hierarchy, caps, status, charges, active, now, to,
+        )?;
         push_if(&mut gone, a, is_gone)?;
     }
     Ok(gone)

@@ -82,19 +82,6 @@ fn rounds(x: u64, n: u64) -> u64
 
 /// The first instant after `now` at which the cap on the minutes of a civil day is reached, where each minute charges n, so many are charged on
 /// the day of the next minute, and none on later days.
-pub(crate) fn next_spent(cap: Option<u32>, spent: u32, n: u64, now: Instant) -> Option<Instant>
-    requires some { 1 ≤ n }
-    requires few { n ≤ 10_000 }
-    ensures { (charge : ℕ → ℕ) → charge (day_of (now + 1)) ≡ spent → ((d : ℕ) → day_of (now + 1) < d → charge d ≡ 0)
-        → IsFirstOrNone (λ t. reached cap (charge (day_of t) + minutes_of_day now (t - now) (day_of t) * n)) now result }
-{
-    match cap {
-        Some(most) => next_reached(most, spent, n, now),
-        None => None,
-    }
-}
-
-/// The same where there is a cap.
 fn next_reached(most: u32, spent: u32, n: u64, now: Instant) -> Option<Instant>
     requires some { 1 ≤ n }
     requires few { n ≤ 10_000 }
@@ -130,12 +117,35 @@ fn next_for(
     ensures { IsFirstOrNone (λ t. reached caps.length (t - begun)
         || reached caps.day (charged_in charges.now.entries user role (day_of t) + minutes_of_day now (t - now) (day_of t) * count_by (is_of user role) active.now)) now result }
 {
-    let today = (now.minute() + 1) / 1_440;
-    let spent = charged(charges, user, role, today);
-    let n = count_of(active, user, role) as u64;
     let long = next_too_long(caps.length, begun, now);
-    let full = next_spent(caps.day, spent, n, now);
+    let full = next_spent(caps.day, user, role, charges, active, now);
     earlier(long, full)
+}
+
+/// The first instant after `now` at which the cap on the minutes of a civil day is reached, where each minute after `now` is charged to each
+/// activation. Where there is no cap, nothing is counted.
+fn next_spent(
+    cap: Option<u32>,
+    user: UserId,
+    role: RoleId,
+    charges: &IndexMap<Charge, u32>,
+    active: &[Activation],
+    now: Instant,
+) -> Option<Instant>
+    requires some { 1 ≤ count_by (is_of user role) active.now }
+    requires few { count_by (is_of user role) active.now ≤ 10_000 }
+    requires later { (d : ℕ) → day_of (now + 1) < d → charged_in charges.now.entries user role d ≡ 0 }
+    ensures { IsFirstOrNone (λ t. reached cap (charged_in charges.now.entries user role (day_of t) + minutes_of_day now (t - now) (day_of t) * count_by (is_of user role) active.now)) now result }
+{
+    match cap {
+        Some(most) => {
+            let today = (now.minute() + 1) / 1_440;
+            let spent = charged(charges, user, role, today);
+            let n = count_of(active, user, role) as u64;
+            next_reached(most, spent, n, now)
+        }
+        None => None,
+    }
 }
 
 /// When a cap next ends one of the activations.

@@ -19,10 +19,9 @@ ghost use Rattle.session_table.specs.Plans.{need_of, IsPlan, IsPlanned, Closes};
 ghost use Rattle.session_table.specs.Replies.{Answers, AnswersAt, OrRefused, IsRefusal, ChecksBy};
 
 use crate::activations::{
-    Activation, count_in, count_of, count_role, end_role, end_session, end_signals, find_active,
-    put, signal_of,
+    Activation, count_in, end_role, end_session, end_signals, find_active, put, signal_of,
 };
-use crate::charges::{Charge, charge_stretch, charged, copied as copied_charges, reserve_charges};
+use crate::charges::{Charge, charge_stretch, copied as copied_charges, reserve_charges};
 use crate::checks::{caps_of, early_refusal, late_refusal, owned};
 use crate::dropping::{dropped, forget, keep_listed, signals_of};
 use crate::faults::SessionFault;
@@ -38,7 +37,7 @@ use gt_base::{
     Actor, Caps, HierEdge, Instant, List, Memory, Refusal, RoleId, SessionId, Signal, Status,
     UserId, Walk,
 };
-use hybrid_hierarchy::may_activate;
+use hybrid_hierarchy::Hierarchy;
 use indexmap::IndexMap;
 use std::alloc::Global;
 use std::marker::Model;
@@ -230,6 +229,27 @@ impl Sessions {
         ensures refused { IfErr result (λ fault. OrRefused fault (AnswersAt edges.now.items caps.now.items (has status.now.set) now (table_of self.old) actor (Activate session role))) }
         ensures same { OnErr result (table_of self.new ≡ table_of self.old) }
     {
+        let hierarchy = Hierarchy::new(self.alloc, edges)?;
+        self.activate_over(&hierarchy, caps, status, now, actor, session, role)
+    }
+
+    /// Activates the role in the session for its owner, as `activate` with the edges of the hierarchy, which was made for many questions.
+    pub fn activate_over(
+        &mut self,
+        hierarchy: &Hierarchy,
+        caps: &List<Caps>,
+        status: &Status,
+        now: Instant,
+        actor: Actor,
+        session: SessionId,
+        role: RoleId,
+    ) -> Result<(Walk, Signal), SessionFault>
+        ensures answer { IfOk result (λ r. AnswersAt hierarchy.now caps.now.items (has status.now.set) now (table_of self.old) actor (Activate session role) (Active r.0)) }
+        ensures table { IfOk result (λ r. applied now actor (Activate session role) (Active r.0) (table_of self.old) ≡ record (table_of self.new) { signals = r.1 ∷ [] }) }
+        ensures charged_to { self.new.charged_to ≡ self.old.charged_to }
+        ensures refused { IfErr result (λ fault. OrRefused fault (AnswersAt hierarchy.now caps.now.items (has status.now.set) now (table_of self.old) actor (Activate session role))) }
+        ensures same { OnErr result (table_of self.new ≡ table_of self.old) }
+    {
         let at = match owned(&self.sessions, actor, session) {
             Ok(at) => at,
             Err(refusal) => return Err(SessionFault::Refused(refusal)),
@@ -239,13 +259,19 @@ impl Sessions {
         if let Some(refusal) = early_refusal(is_active, status, role) {
             return Err(SessionFault::Refused(refusal));
         }
-        let Some(walk) = may_activate(self.alloc, edges, status, user, role)? else {
+        let Some(walk) = hierarchy.may_activate(self.alloc, status, user, role)? else {
             return Err(SessionFault::Refused(Refusal::NotAssigned));
         };
-        let all = count_role(&self.active, role) as u32;
-        let own = count_of(&self.active, user, role) as u32;
-        let spent = charged(&self.charges, user, role, day(now));
-        if let Some(refusal) = late_refusal(caps_of(caps.as_slice(), role), all, own, spent) {
+        let of_role = caps_of(caps.as_slice(), role);
+        let today = day(now);
+        if let Some(refusal) = late_refusal(
+            of_role,
+            &self.active,
+            &self.charges,
+            user,
+            role,
+            today,
+        ) {
             return Err(SessionFault::Refused(refusal));
         }
         self.active.reserve(1)?;
@@ -277,9 +303,28 @@ impl Sessions {
         ensures room { OnOk result (need_of now to self.new ≤ self.new.room) }
         ensures plan { IfOk result (IsPlan edges.now.items caps.now.items (has status.now.set) now to (table_of self.old)) }
     {
+        let hierarchy = Hierarchy::new(self.alloc, edges)?;
+        self.plan_end_over(&hierarchy, caps, now, to, status)
+    }
+
+    /// Plans the end of the minutes after `now`, up to `to`, as `plan_end` with the edges of the hierarchy, which was made for many questions.
+    pub fn plan_end_over(
+        &mut self,
+        hierarchy: &Hierarchy,
+        caps: &List<Caps>,
+        now: Instant,
+        to: Instant,
+        status: &Status,
+    ) -> Result<Drops, Memory>
+        requires { now < to }
+        ensures same { table_of self.new ≡ table_of self.old }
+        ensures charged_to { self.new.charged_to ≡ self.old.charged_to }
+        ensures room { OnOk result (need_of now to self.new ≤ self.new.room) }
+        ensures plan { IfOk result (IsPlan hierarchy.now caps.now.items (has status.now.set) now to (table_of self.old)) }
+    {
         let gone = dropped(
             self.alloc,
-            edges,
+            hierarchy,
             caps,
             status,
             &self.charges,

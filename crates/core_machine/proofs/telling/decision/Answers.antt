@@ -1,21 +1,14 @@
 use Rattle.std.proofs.Common.{◌≡◌, List, refl, sym, ap, subst, ◌∙◌}
 use Rattle.gt_base.specs.Happening.{Happening, Fluents}
 use Rattle.gt_base.specs.Sets.{has}
-use Rattle.gt_base.specs.declared.policies.HierEdge.{HierEdge}
 use Rattle.gt_base.specs.declared.requests.Decision.{Decision}
 use Rattle.gt_base.specs.declared.requests.Reply.TheVariants.{Now, Truth, Event, Decided}
 use Rattle.gtrbac_model.specs.Conflict.{seen}
 use Rattle.gtrbac_model.specs.Decision.{decide}
 use Rattle.gtrbac_model.specs.Trigger.{holds}
-use Rattle.hybrid_hierarchy.specs.Nets.{IsHierarchy}
 use Rattle.session_table.specs.Tables.{table_of}
-use Rattle.policy_words.specs.Naming.{NamedPolicy}
 use Rattle.core_machine.specs.Kept.{point_of}
-use Rattle.core_machine.proofs.Hierarchies.{hierarchy_of}
 use Rattle.core_machine.proofs.telling.decision.Goals as goal
-
-pub decide-requires : goal.decide-requires
-decide-requires c = subst (λ (es : List HierEdge). IsHierarchy es) (sym c.edges.ensures) (hierarchy_of c.policy-policy.result.now.policy c.keeps.ensures.policy)
 
 pub returns-in_ok-answer-in-Ok : goal.returns-in_ok-answer-in-Ok
 returns-in_ok-answer-in-Ok c =
@@ -24,7 +17,7 @@ returns-in_ok-answer-in-Ok c =
       is = c.in-Ok.ensures.check c.args.perm s.ground.policy (point_of s.line.line (table_of s.table))
           ∙ ap (λ (d : Decision). Decided d)
           (sym (c.in_ok-answer-in-Ok.ensures
-          ∙ (λ i. decide ((c.edges.ensures ∙ ap (λ (g : NamedPolicy). g.policy.edges) c.policy-policy.ensures) i) (has (c.status.ensures i)) c.in-Ok.roles.now c.args.perm)));
+          ∙ (λ i. decide (c.hierarchy-hierarchy.ensures i) (has (c.status.ensures i)) c.in-Ok.roles.now c.args.perm)));
     }
 
 pub returns-in-Err : goal.returns-in-Err

@@ -2,6 +2,7 @@ use Rattle.std.proofs.Common.{◌≡◌, ℕ, Bool, List, refl, sym, ap, subst, 
 use Rattle.gt_base.specs.declared.policies.Caps.{Caps}
 use Rattle.gtrbac_model.specs.History.{IsNextStop}
 use Rattle.instant_bases.specs.Timelines.{stirs_in}
+use Rattle.instant_bases.specs.Nexts.{IsNextOf}
 use Rattle.session_table.specs.NextDrops.{IsFirstOrNone, is_any_capped}
 use Rattle.session_table.specs.Tables.{NotBefore, table_of}
 use Rattle.policy_words.specs.Naming.{NamedPolicy}
@@ -17,7 +18,8 @@ returns c =
     let s = c.args.s.now in
     let caps : c.caps.result.now.items ≡ s.ground.policy.caps = c.caps.ensures ∙ ap (λ (g : NamedPolicy). g.policy.caps) c.policy.ensures in
     let raised : IsNextStop (stirs_in s.ground.policy s.line.line) s.line.line.now c.args.upto c.next_raised-raised.result =
-    c.next_raised-raised.ensures (stirs_in s.ground.policy s.line.line) s.line.line.now c.due.ensures c.requires.later in
+    c.next_raised-raised.ensures (stirs_in s.ground.policy s.line.line) s.line.line.now
+    (subst (λ (g : NamedPolicy). IsNextOf (stirs_in g.policy s.line.line) s.line.line.now c.due.result) c.ground.ensures c.due.ensures) c.requires.later in
     let capped : IsFirstOrNone (is_any_capped s.ground.policy.caps s.line.line.now (table_of s.table)) s.line.line.now c.next_drop.result =
     subst (λ (t : ℕ). IsFirstOrNone (is_any_capped s.ground.policy.caps t (table_of s.table)) t c.next_drop.result) c.now.ensures
     (subst (λ (cs : List Caps). IsFirstOrNone (is_any_capped cs c.now.result (table_of s.table)) c.now.result c.next_drop.result) caps c.next_drop.ensures) in

@@ -1,4 +1,4 @@
-use Rattle.std.proofs.Common.{ℕ, List, sym, ◌∙◌, ap, subst}
+use Rattle.std.proofs.Common.{ℕ, List, ◌∙◌, ap, subst}
 use Rattle.policy_commands.specs.Ends.{told}
 use Rattle.policy_text.specs.Texts.{IsPolicyText}
 use Rattle.policy_commands.proofs.Ending.{laid_end, laid_status, laid_fault, told_end, has_fault}

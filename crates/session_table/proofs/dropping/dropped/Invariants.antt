@@ -1,7 +1,11 @@
 use Rattle.std.proofs.Common.{◌≡◌, filter, take}
 use Rattle.gt_base.specs.Sets.{has}
-use Rattle.session_table.specs.Dropping.{is_dropped}
+use Rattle.session_table.specs.Dropping.{AreBarred, is_dropped}
 use Rattle.session_table.proofs.dropping.dropped.Given as goal
 
 abbrev pub invariant-loop-a : goal.invariant-loop-a
-invariant-loop-a l = l.gone.items ≡ filter (is_dropped l.edges.items l.caps.items (has l.status.set) l.charges.entries l.active l.now l.to) (take l.a-index l.active)
+invariant-loop-a l =
+    record {
+      gone : l.gone.items ≡ filter (is_dropped l.hierarchy l.caps.items (has l.status.set) l.charges.entries l.active l.now l.to) (take l.a-index l.active);
+      known : AreBarred l.hierarchy (has l.status.set) l.known.entries;
+    }

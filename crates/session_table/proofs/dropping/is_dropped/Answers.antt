@@ -8,8 +8,8 @@ use Rattle.session_table.specs.Dropping.{spent_by}
 use Rattle.session_table.proofs.Telling.{or_caps, barred_is}
 use Rattle.session_table.proofs.dropping.is_dropped.Goals as goal
 
-pub returns-then-is_capped : goal.returns-then-is_capped
-returns-then-is_capped c =
+pub returns-then-is_capped-clause-dropped : goal.returns-then-is_capped-clause-dropped
+returns-then-is_capped-clause-dropped c =
     let s : Status = has c.args.status.now.set in
     let a : Activation = c.args.a.now in
     let caps_is : c.caps_of.result ≡ caps_of c.args.caps.now.items a.role =
@@ -18,7 +18,7 @@ returns-then-is_capped c =
     || reached (caps_of c.args.caps.now.items a.role).day (spent_by c.args.charges.now.entries c.args.active.now c.args.now c.args.to a.user a.role)) ≡ c.is_capped.result =
     sym (c.is_capped.ensures
     ∙ ap (λ k. reached k.length (c.args.to - a.begun) || reached k.day (spent_by c.args.charges.now.entries c.args.active.now c.args.now c.args.to a.user a.role)) caps_is) in
-    or_caps (not (s (Enabled a.role))) (is_none (activation_walk c.args.edges.now.items s a.user a.role)) (reached (caps_of c.args.caps.now.items a.role).length (c.args.to - a.begun)) (reached (caps_of c.args.caps.now.items a.role).day (spent_by c.args.charges.now.entries c.args.active.now c.args.now c.args.to a.user a.role)) (capped ∙ c.if-is_capped.true)
+    or_caps (not (s (Enabled a.role))) (is_none (activation_walk c.args.hierarchy.now s a.user a.role)) (reached (caps_of c.args.caps.now.items a.role).length (c.args.to - a.begun)) (reached (caps_of c.args.caps.now.items a.role).day (spent_by c.args.charges.now.entries c.args.active.now c.args.now c.args.to a.user a.role)) (capped ∙ c.if-is_capped.true)
 
 pub returns : goal.returns
 returns c =
@@ -32,5 +32,5 @@ returns c =
     ∙ ap (λ k. reached k.length (c.args.to - a.begun) || reached k.day (spent_by c.args.charges.now.entries c.args.active.now c.args.now c.args.to a.user a.role)) caps_is) in
     let on : not (s (Enabled a.role)) ≡ false =
     ap (λ (b : Activation). not (s (Enabled b.role))) (sym c.a.view_is) ∙ ap not (sym c.is_on.ensures) ∙ ap not c.if-not-is_on.false in
-    let told = ap (λ (b : Activation). is_none (activation_walk c.args.edges.now.items s b.user b.role)) c.a.view_is in
-    barred_is c.is_barred.result (not (s (Enabled a.role))) (reached (caps_of c.args.caps.now.items a.role).length (c.args.to - a.begun)) (reached (caps_of c.args.caps.now.items a.role).day (spent_by c.args.charges.now.entries c.args.active.now c.args.now c.args.to a.user a.role)) (is_none (activation_walk c.args.edges.now.items s a.user a.role)) (rw (← told) c.is_barred.ensures) on (capped ∙ c.if-is_capped.false)
+    let told = ap (λ (b : Activation). is_none (activation_walk c.args.hierarchy.now s b.user b.role)) c.a.view_is in
+    record { known = c.is_barred.ensures.known; dropped = barred_is c.is_barred.result (not (s (Enabled a.role))) (reached (caps_of c.args.caps.now.items a.role).length (c.args.to - a.begun)) (reached (caps_of c.args.caps.now.items a.role).day (spent_by c.args.charges.now.entries c.args.active.now c.args.now c.args.to a.user a.role)) (is_none (activation_walk c.args.hierarchy.now s a.user a.role)) (rw (← told) c.is_barred.ensures.barred) on (capped ∙ c.if-is_capped.false) }

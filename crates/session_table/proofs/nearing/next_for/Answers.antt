@@ -1,18 +1,12 @@
-use Rattle.std.proofs.Common.{◌≡◌, ℕ, ◌+◌, ◌-◌, ◌*◌, ◌/◌, count_by, sym, ap, subst, ◌∙◌}
+use Rattle.std.proofs.Common.{◌≡◌, ℕ, ◌+◌, ◌-◌, ◌*◌, count_by}
 use Rattle.gtrbac_model.specs.Calendar.{day_of}
 use Rattle.gtrbac_model.specs.Sessions.{reached, is_of}
 use Rattle.history_laws.specs.Tables.{minutes_of_day}
 use Rattle.session_table.specs.Charges.{charged_in}
-use Rattle.session_table.specs.NextDrops.{IsFirstOrNone}
 use Rattle.session_table.proofs.nearing.next_for.Goals as goal
 
 pub returns : goal.returns
 returns c =
-    let charge : ℕ → ℕ = charged_in c.args.charges.now.entries c.args.user c.args.role in
-    let spent : charge (day_of (c.args.now + 1)) ≡ c.charged-spent.result = ap (λ m. charge ((m + 1) / 1440)) (sym c.minute.ensures.value) ∙ sym c.charged-spent.ensures in
-    let full : IsFirstOrNone (λ t. reached c.args.caps.day (charge (day_of t) + minutes_of_day c.args.now (t - c.args.now) (day_of t) * count_by (is_of c.args.user c.args.role) c.args.active.now)) c.args.now c.next_spent-full.result =
-    subst (λ n. IsFirstOrNone (λ t. reached c.args.caps.day (charge (day_of t) + minutes_of_day c.args.now (t - c.args.now) (day_of t) * n)) c.args.now c.next_spent-full.result) c.count_of-n.ensures
-    (c.next_spent-full.ensures charge spent c.requires.later) in
     c.earlier.ensures (λ t. reached c.args.caps.length (t - c.args.begun))
-    (λ t. reached c.args.caps.day (charge (day_of t) + minutes_of_day c.args.now (t - c.args.now) (day_of t) * count_by (is_of c.args.user c.args.role) c.args.active.now))
-    c.args.now c.next_too_long-long.ensures full
+    (λ t. reached c.args.caps.day (charged_in c.args.charges.now.entries c.args.user c.args.role (day_of t) + minutes_of_day c.args.now (t - c.args.now) (day_of t) * count_by (is_of c.args.user c.args.role) c.args.active.now))
+    c.args.now c.next_too_long-long.ensures c.next_spent-full.ensures

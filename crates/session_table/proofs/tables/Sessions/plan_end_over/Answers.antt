@@ -5,10 +5,10 @@ use Rattle.gtrbac_model.specs.Sessions.{signal_of}
 use Rattle.session_table.specs.Dropping.{is_dropped}
 use Rattle.session_table.specs.Tables.{table_of, dropped_at}
 use Rattle.session_table.proofs.Keeping.{few_of}
-use Rattle.session_table.proofs.tables.Sessions.plan_end.Goals as goal
+use Rattle.session_table.proofs.tables.Sessions.plan_end_over.Goals as goal
 
-pub dropped-requires-clause-few : goal.dropped-requires-clause-few
-dropped-requires-clause-few c = λ u r.
+pub dropped-requires : goal.dropped-requires
+dropped-requires c = λ u r.
     rw c.deref.ensures.value (few_of c.self.inside.sessions.items c.self.inside.active.items c.self.inside.charges.entries c.self.inside.charged_to c.self.invariant u r)
 
 pub returns-clause-plan : goal.returns-clause-plan
@@ -18,7 +18,7 @@ returns-clause-plan c =
       from = refl;
       upto = refl;
       gone = c.in_ok-gone.ensures
-          ∙ ap (λ xs. filter (is_dropped c.args.edges.now.items c.args.caps.now.items s c.self.inside.charges.entries xs c.args.now c.args.to) xs) c.deref.ensures.value
-          ∙ ap (λ v. dropped_at c.args.edges.now.items c.args.caps.now.items s c.args.now c.args.to (table_of v)) c.self.view_is;
+          ∙ ap (λ xs. filter (is_dropped c.args.hierarchy.now c.args.caps.now.items s c.self.inside.charges.entries xs c.args.now c.args.to) xs) c.deref.ensures.value
+          ∙ ap (λ v. dropped_at c.args.hierarchy.now c.args.caps.now.items s c.args.now c.args.to (table_of v)) c.self.view_is;
       signals = c.in_ok-signals.ensures ∙ ap (map (signal_of false)) c.deref-2.ensures.value;
     }

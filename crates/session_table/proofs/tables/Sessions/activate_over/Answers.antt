@@ -20,12 +20,12 @@ use Rattle.session_table.proofs.Entering.{activation, entered_is}
 use Rattle.session_table.proofs.Indexing.{kept_opened}
 use Rattle.session_table.proofs.Finding.{inside}
 use Rattle.session_table.proofs.Telling.{same_table, causes, owner, active_at}
-use Rattle.session_table.proofs.tables.Sessions.activate.Goals as goal
+use Rattle.session_table.proofs.tables.Sessions.activate_over.Goals as goal
 
 pub returns-in-Err-clause-refused : goal.returns-in-Err-clause-refused
 returns-in-Err-clause-refused c =
     let s : Status = has c.args.status.now.set in
-    refused_session c.args.edges.now.items c.args.caps.now.items s c.args.now (table_of c.args.self.now) c.args.actor c.args.session c.args.role c.in-Err.refusal
+    refused_session c.args.hierarchy.now c.args.caps.now.items s c.args.now (table_of c.args.self.now) c.args.actor c.args.session c.args.role c.in-Err.refusal
     (causes c.args.self.now c.deref.result.now (ap (map opened) c.deref.ensures.value ∙ ap (λ v. v.sessions) c.self.view_is) c.args.actor c.args.session (Some c.in-Err.refusal) c.in-Err.ensures.err)
 
 pub returns-in-Some-clause-refused : goal.returns-in-Some-clause-refused
@@ -46,7 +46,7 @@ returns-in-Some-clause-refused c =
     (subst (λ os. IfSome (slice_get os c.in-Ok.at) (λ o. c.has_role-is_active.result ≡ has o.roles r)) c.deref-3.ensures.value c.has_role-is_active.ensures) in
     let early_is : c.early_refusal.result ≡ first_cause (early_causes s (list_any (is_active_in n r) tv.active) r) =
     c.early_refusal.ensures ∙ ap (λ b. first_cause (early_causes s b r)) (there ∙ ap (λ v. list_any (is_active_in n r) v.active) c.self.view_is) in
-    refused_early c.args.edges.now.items c.args.caps.now.items s c.args.now tv c.args.actor n r u own may c.in-Some.refusal (sym early_is ∙ c.in-Some.is)
+    refused_early c.args.hierarchy.now c.args.caps.now.items s c.args.now tv c.args.actor n r u own may c.in-Some.refusal (sym early_is ∙ c.in-Some.is)
 
 pub returns-in_default-2-clause-refused : goal.returns-in_default-2-clause-refused
 returns-in_default-2-clause-refused c =
@@ -66,19 +66,15 @@ returns-in_default-2-clause-refused c =
     (subst (λ os. IfSome (slice_get os c.in-Ok.at) (λ o. c.has_role-is_active.result ≡ has o.roles r)) c.deref-3.ensures.value c.has_role-is_active.ensures) in
     let early_is : c.early_refusal.result ≡ first_cause (early_causes s (list_any (is_active_in n r) tv.active) r) =
     c.early_refusal.ensures ∙ ap (λ b. first_cause (early_causes s b r)) (there ∙ ap (λ v. list_any (is_active_in n r) v.active) c.self.view_is) in
-    refused_walk c.args.edges.now.items c.args.caps.now.items s c.args.now tv c.args.actor n r u own may (sym early_is ∙ c.in_default.is) (sym c.in_ok-walk.ensures ∙ c.in_default-2.is)
+    refused_walk c.args.hierarchy.now c.args.caps.now.items s c.args.now tv c.args.actor n r u own may (sym early_is ∙ c.in_default.is) (sym c.in_ok-walk.ensures ∙ c.in_default-2.is)
 
-pub overflow_cast-all : goal.overflow_cast-all
-overflow_cast-all c =
-    let few = few_of_role c.self.inside.sessions.items c.self.inside.active.items c.self.inside.charges.entries c.self.inside.charged_to c.self.invariant c.args.role in
-    let is : c.count_role-all.result ≡ count_by (λ a. same_role a.role c.args.role) c.self.inside.active.items = c.count_role-all.ensures ∙ ap (count_by (λ a. same_role a.role c.args.role)) c.deref-4.ensures.value in
-    omega (arith, few, is)
+pub late_refusal-requires-clause-all : goal.late_refusal-requires-clause-all
+late_refusal-requires-clause-all c =
+    rw c.deref-4.ensures.value (few_of_role c.self.inside.sessions.items c.self.inside.active.items c.self.inside.charges.entries c.self.inside.charged_to c.self.invariant c.args.role)
 
-pub overflow_cast-own : goal.overflow_cast-own
-overflow_cast-own c =
-    let few = few_of c.self.inside.sessions.items c.self.inside.active.items c.self.inside.charges.entries c.self.inside.charged_to c.self.invariant c.owner_at-user.result c.args.role in
-    let is : c.count_of-own.result ≡ count_by (is_of c.owner_at-user.result c.args.role) c.self.inside.active.items = c.count_of-own.ensures ∙ ap (count_by (is_of c.owner_at-user.result c.args.role)) c.deref-5.ensures.value in
-    omega (arith, few, is)
+pub late_refusal-requires-clause-own : goal.late_refusal-requires-clause-own
+late_refusal-requires-clause-own c =
+    rw c.deref-4.ensures.value (few_of c.self.inside.sessions.items c.self.inside.active.items c.self.inside.charges.entries c.self.inside.charged_to c.self.invariant c.owner_at-user.result c.args.role)
 
 pub returns-in-Some-late_refusal-clause-refused : goal.returns-in-Some-late_refusal-clause-refused
 returns-in-Some-late_refusal-clause-refused c =
@@ -100,14 +96,13 @@ returns-in-Some-late_refusal-clause-refused c =
     c.early_refusal.ensures ∙ ap (λ b. first_cause (early_causes s b r)) (there ∙ ap (λ v. list_any (is_active_in n r) v.active) c.self.view_is) in
     let late_is : c.late_refusal.result ≡ first_cause (late_causes (caps_of c.args.caps.now.items r) (count_by (λ a. same_role a.role r) tv.active) (count_by (is_of u r) tv.active) (tv.charged u r (day_of c.args.now))) =
     c.late_refusal.ensures
-    ∙ ap (λ x. first_cause (late_causes x c.count_role-all.result c.count_of-own.result c.charged-spent.result)) (c.caps_of.ensures ∙ ap (λ xs. caps_of xs r) c.as_slice.ensures)
-    ∙ ap (λ x. first_cause (late_causes (caps_of c.args.caps.now.items r) x c.count_of-own.result c.charged-spent.result))
-    (c.count_role-all.ensures ∙ ap (count_by (λ a. same_role a.role r)) c.deref-4.ensures.value ∙ ap (λ v. count_by (λ a. same_role a.role r) v.active) c.self.view_is)
-    ∙ ap (λ x. first_cause (late_causes (caps_of c.args.caps.now.items r) (count_by (λ a. same_role a.role r) tv.active) x c.charged-spent.result))
-    (c.count_of-own.ensures ∙ ap (count_by (is_of u r)) c.deref-5.ensures.value ∙ ap (λ v. count_by (is_of u r) v.active) c.self.view_is)
+    ∙ ap (λ x. first_cause (late_causes x (count_by (λ a. same_role a.role r) c.deref-4.result.now) (count_by (is_of u r) c.deref-4.result.now) (charged_in c.self.inside.charges.entries u r c.day-today.result)))
+    (c.caps_of-of_role.ensures ∙ ap (λ xs. caps_of xs r) c.as_slice.ensures)
+    ∙ ap (λ xs. first_cause (late_causes (caps_of c.args.caps.now.items r) (count_by (λ a. same_role a.role r) xs) (count_by (is_of u r) xs) (charged_in c.self.inside.charges.entries u r c.day-today.result)))
+    (c.deref-4.ensures.value ∙ ap (λ v. v.active) c.self.view_is)
     ∙ ap (λ x. first_cause (late_causes (caps_of c.args.caps.now.items r) (count_by (λ a. same_role a.role r) tv.active) (count_by (is_of u r) tv.active) x))
-    (c.charged-spent.ensures ∙ ap (charged_in c.self.inside.charges.entries u r) c.day.ensures ∙ ap (λ v. charged_in v.charges u r (day_of c.args.now)) c.self.view_is) in
-    refused_late c.args.edges.now.items c.args.caps.now.items s c.args.now tv c.args.actor n r u own may (sym early_is ∙ c.in_default.is) c.in-Some-2.walk (sym c.in_ok-walk.ensures ∙ c.in-Some-2.is) c.in-Some-late_refusal.refusal (sym late_is ∙ c.in-Some-late_refusal.is)
+    (ap (charged_in c.self.inside.charges.entries u r) c.day-today.ensures ∙ ap (λ v. charged_in v.charges u r (day_of c.args.now)) c.self.view_is) in
+    refused_late c.args.hierarchy.now c.args.caps.now.items s c.args.now tv c.args.actor n r u own may (sym early_is ∙ c.in_default.is) c.in-Some-2.walk (sym c.in_ok-walk.ensures ∙ c.in-Some-2.is) c.in-Some-late_refusal.refusal (sym late_is ∙ c.in-Some-late_refusal.is)
 
 pub invariant_of-self-2 : goal.invariant_of-self-2
 invariant_of-self-2 c =
@@ -155,14 +150,13 @@ returns-clause-answer c =
     c.early_refusal.ensures ∙ ap (λ b. first_cause (early_causes s b r)) (there ∙ ap (λ v. list_any (is_active_in n r) v.active) c.self.view_is) in
     let late_is : c.late_refusal.result ≡ first_cause (late_causes (caps_of c.args.caps.now.items r) (count_by (λ a. same_role a.role r) tv.active) (count_by (is_of u r) tv.active) (tv.charged u r (day_of c.args.now))) =
     c.late_refusal.ensures
-    ∙ ap (λ x. first_cause (late_causes x c.count_role-all.result c.count_of-own.result c.charged-spent.result)) (c.caps_of.ensures ∙ ap (λ xs. caps_of xs r) c.as_slice.ensures)
-    ∙ ap (λ x. first_cause (late_causes (caps_of c.args.caps.now.items r) x c.count_of-own.result c.charged-spent.result))
-    (c.count_role-all.ensures ∙ ap (count_by (λ a. same_role a.role r)) c.deref-4.ensures.value ∙ ap (λ v. count_by (λ a. same_role a.role r) v.active) c.self.view_is)
-    ∙ ap (λ x. first_cause (late_causes (caps_of c.args.caps.now.items r) (count_by (λ a. same_role a.role r) tv.active) x c.charged-spent.result))
-    (c.count_of-own.ensures ∙ ap (count_by (is_of u r)) c.deref-5.ensures.value ∙ ap (λ v. count_by (is_of u r) v.active) c.self.view_is)
+    ∙ ap (λ x. first_cause (late_causes x (count_by (λ a. same_role a.role r) c.deref-4.result.now) (count_by (is_of u r) c.deref-4.result.now) (charged_in c.self.inside.charges.entries u r c.day-today.result)))
+    (c.caps_of-of_role.ensures ∙ ap (λ xs. caps_of xs r) c.as_slice.ensures)
+    ∙ ap (λ xs. first_cause (late_causes (caps_of c.args.caps.now.items r) (count_by (λ a. same_role a.role r) xs) (count_by (is_of u r) xs) (charged_in c.self.inside.charges.entries u r c.day-today.result)))
+    (c.deref-4.ensures.value ∙ ap (λ v. v.active) c.self.view_is)
     ∙ ap (λ x. first_cause (late_causes (caps_of c.args.caps.now.items r) (count_by (λ a. same_role a.role r) tv.active) (count_by (is_of u r) tv.active) x))
-    (c.charged-spent.ensures ∙ ap (charged_in c.self.inside.charges.entries u r) c.day.ensures ∙ ap (λ v. charged_in v.charges u r (day_of c.args.now)) c.self.view_is) in
-    allowed c.args.edges.now.items c.args.caps.now.items s c.args.now tv c.args.actor n r u own may (sym early_is ∙ c.in_default.is) c.in-Some-2.walk (sym c.in_ok-walk.ensures ∙ c.in-Some-2.is) (sym late_is ∙ c.in_default-late_refusal.is)
+    (ap (charged_in c.self.inside.charges.entries u r) c.day-today.ensures ∙ ap (λ v. charged_in v.charges u r (day_of c.args.now)) c.self.view_is) in
+    allowed c.args.hierarchy.now c.args.caps.now.items s c.args.now tv c.args.actor n r u own may (sym early_is ∙ c.in_default.is) c.in-Some-2.walk (sym c.in_ok-walk.ensures ∙ c.in-Some-2.is) (sym late_is ∙ c.in_default-late_refusal.is)
 
 pub returns-clause-table : goal.returns-clause-table
 returns-clause-table c =

@@ -1,0 +1,5 @@
+pub mod Alike
+pub mod Bodies
+pub mod Dependencies
+pub mod Minutes
+pub mod Walks

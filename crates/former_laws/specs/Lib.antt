@@ -1,0 +1,4 @@
+pub mod Bodies
+pub mod Dependencies
+pub mod Minutes
+pub mod Walks

@@ -1,0 +1,14 @@
+pub mod Ranges
+pub mod Names
+pub mod Opened
+pub mod Rings
+pub mod Levels
+pub mod WellFormed
+pub mod Spelled
+pub mod Lines
+pub mod Kept
+pub mod Sections
+pub mod ReadPolicy
+pub mod Heard
+pub mod Rounds
+pub mod Script

@@ -1,0 +1,40 @@
+-- What holds of the texts that a seed and a size make.
+use Rattle.std.specs.Prelude.{◌≡◌, ℕ, ◌≤◌, true, List, ◌∷◌, map, Ok, All, IsOk}
+use Rattle.gt_base.specs.declared.requests.Actor.TheVariants.{Operator}
+use Rattle.gtrbac_model.specs.Safety.{IsSafe}
+use Rattle.gt_text.specs.Lines.{lines_of}
+use Rattle.policy_words.specs.PolicyRead.{policy_read}
+use Rattle.policy_words.specs.Valid.{IsWellFormed}
+use Rattle.policy_gen.specs.Draws.{first_minute}
+use Rattle.policy_gen.specs.Texts.{time_line, policy_text, script_text}
+use Rattle.request_text.specs.declared.lines.Line.TheVariants.{At}
+use Rattle.request_text.specs.Phrases.{read_line}
+use Rattle.gen_laws.specs.Made.{made_policy}
+use Rattle.gen_laws.specs.Played.{script_said}
+
+-- the text of the policy has no fault: it stands for this policy
+abbrev pub PolicyIsRead : Type 0
+PolicyIsRead = (size : ℕ) → 1 ≤ size → policy_read (policy_text size) ≡ Ok (made_policy size)
+
+abbrev pub PolicyIsWellFormed : Type 0
+PolicyIsWellFormed = (size : ℕ) → 1 ≤ size → IsWellFormed (made_policy size)
+
+-- its dependencies have no conflict cycle
+abbrev pub PolicyIsSafe : Type 0
+PolicyIsSafe = (size : ℕ) → IsSafe (made_policy size).policy.triggers
+
+-- over this policy each line of the script says its move, and so none has a fault
+abbrev pub ScriptIsSaid : Type 0
+ScriptIsSaid =
+    (seed size : ℕ) → 1 ≤ size → size ≤ 100_000
+    → map (read_line (made_policy size) Operator true) (lines_of (script_text seed size)) ≡ map (λ l. Ok l) (script_said seed size)
+
+-- the first line gives the birth, and no line behind it has a fault
+pub record IsBorn (seed size : ℕ) : Type 0 where
+  pub behind : List (List ℕ)
+  pub lines_are : lines_of (script_text seed size) ≡ time_line first_minute ∷ behind
+  pub birth : read_line (made_policy size) Operator true (time_line first_minute) ≡ Ok (At first_minute)
+  pub no_fault : All (λ line. IsOk (read_line (made_policy size) Operator true line)) behind
+
+abbrev pub ScriptIsBorn : Type 0
+ScriptIsBorn = (seed size : ℕ) → 1 ≤ size → size ≤ 100_000 → IsBorn seed size

@@ -1,0 +1,6 @@
+pub mod Exprs
+pub mod Cutting
+pub mod Others
+pub mod Periods
+pub mod Texts
+pub mod Made

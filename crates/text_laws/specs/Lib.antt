@@ -1,0 +1,4 @@
+pub mod Rests
+pub mod Lengths
+pub mod Texts
+pub mod Made
