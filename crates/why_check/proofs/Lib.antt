@@ -1,0 +1,10 @@
+pub mod Uniqueness
+pub mod Ascending
+pub mod Shown
+pub mod Stopping
+pub mod Answering
+pub mod Applying
+pub mod Hierarchies
+pub mod Beginning
+pub mod Reaching
+pub mod Deciding

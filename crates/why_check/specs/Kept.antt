@@ -1,0 +1,108 @@
+-- The running state of the checker, and what it says of a history.
+use Rattle.std.specs.Prelude.{◌≡◌, ℕ, ◌+◌, ◌<◌, ◌≤◌, true, false, cond, ◌&&◌, nat_eq, nat_lt, List, [], ◌++◌, flat_map, length, Option, Some, None, IsTrue}
+use Rattle.std.specs.List.{list_any}
+use Rattle.std.specs.Ordering.{eq_by_cmp}
+use Rattle.gt_base.specs.Bounds.{last_minute}
+use Rattle.gt_base.specs.Held.{Rule}
+use Rattle.gt_base.specs.Happening.{Happening}
+use Rattle.gt_base.specs.Orders.{prioritised_cmp}
+use Rattle.gt_base.specs.Sets.{has, set_of}
+use Rattle.gt_base.specs.declared.events.Fluent.{Fluent}
+use Rattle.gt_base.specs.declared.events.Prioritised.{Prioritised}
+use Rattle.gt_base.specs.declared.events.Signal.{Signal}
+use Rattle.gt_base.specs.declared.requests.Actor.{Actor}
+use Rattle.gt_base.specs.declared.requests.Request.{Request}
+use Rattle.gt_base.specs.declared.requests.Reply.{Reply}
+use Rattle.gt_base.specs.declared.requests.Entry.{Entry}
+use Rattle.gtrbac_model.specs.Policy.{Policy}
+use Rattle.gtrbac_model.specs.Base.{status, table_at, periodic, limited, queued_at, when}
+use Rattle.gtrbac_model.specs.Conflict.{Status, after}
+use Rattle.gtrbac_model.specs.History.{now_of}
+use Rattle.gtrbac_model.specs.Sessions.{Table, applied, empty_table}
+use Rattle.gtrbac_model.specs.Status.{Model, since, differ}
+use Rattle.gtrbac_model.specs.Trigger.{met}
+use Rattle.history_laws.specs.Pending.{pending}
+use Rattle.duration_limits.specs.Since.{since_in}
+use Rattle.indexmap.specs.IndexMap.{get}
+use Rattle.session_table.specs.Tables.{NotBefore, table_of, closed_at}
+use Rattle.why_check.specs.Certificates.{Listed, says_something, IsShown}
+use Rattle.why_check.specs.declared.replays.Replay.{Replay}
+
+-- the events under a minute, none where it is not there
+abbrev pub under : {V : Type 0} → Option V → (V → List Prioritised) → List Prioritised
+under None items = []
+under (Some v) items = items v
+
+abbrev pub due_in : Replay → ℕ → List Prioritised
+due_in s t = under (get nat_eq s.due t) (λ v. v.items)
+
+-- signals stand in the base of the next minute alone
+abbrev pub waiting_for : ℕ → List Signal → ℕ → List Signal
+waiting_for now waiting t = elim (nat_eq t (now + 1)) [ true ↦ waiting | false ↦ [] ]
+
+-- the base of a later instant before which nothing happens
+abbrev pub raised_in : Policy → Replay → ℕ → List Prioritised
+raised_in p s t = (periodic p s.ages.birth t ++ due_in s t) ++ limited p (has s.status.set) (since_in s.ages) t
+
+abbrev pub base_in : Policy → Replay → ℕ → Happening
+base_in p s t = record { events = set_of (raised_in p s t); signals = set_of (waiting_for s.present s.waiting.items t) }
+
+-- the table with the signals that wait
+abbrev pub table_in : Replay → Table
+table_in s = record (table_of s.table) { signals = s.waiting.items }
+
+-- what the state says is what the model says at the now of these entries
+pub record IsReplay (p : Policy) (birth : ℕ) (g : List Entry) (m : Model) (s : Replay) : Type 0 where
+  pub now : s.present ≡ now_of birth g
+  pub born : s.ages.birth ≡ birth
+  pub status : (f : Fluent) → has s.status.set f ≡ status p birth m s.present f
+  pub since : (f : Fluent) → since_in s.ages f ≡ since p birth m f s.present
+  pub due : (t : ℕ) (e : Prioritised) → s.present < t → t ≤ last_minute → list_any (eq_by_cmp prioritised_cmp e) (due_in s t) ≡ list_any (eq_by_cmp prioritised_cmp e) (pending p birth m g t)
+  pub table : table_in s ≡ table_at p birth m g s.present
+  pub charged : NotBefore s.table.charged_to s.present
+  pub few : s.table.begun ≤ length g
+
+-- the state at the birth
+pub record IsBegun (p : Policy) (birth : ℕ) (s : Replay) : Type 0 where
+  pub now : s.present ≡ birth
+  pub born : s.ages.birth ≡ birth
+  pub status : s.status.set ≡ p.opening
+  pub since : (f : Fluent) → since_in s.ages f ≡ birth
+  pub due : (t : ℕ) → due_in s t ≡ []
+  pub table : table_in s ≡ empty_table
+  pub charged : s.table.charged_to ≡ None
+
+-- the head of a delayed trigger that is met at an instant is due at t
+abbrev pub joins_at : Status → Happening → ℕ → ℕ → Rule → List Prioritised
+joins_at before x at t r = when (nat_lt 0 r.delay && nat_eq (at + r.delay) t && met r x before) r.head
+
+-- the state after an instant is closed with its set
+pub record IsClosed (p : Policy) (s : Replay) (x : Happening) (to : ℕ) (s' : Replay) : Type 0 where
+  pub now : s'.present ≡ to
+  pub born : s'.ages.birth ≡ s.ages.birth
+  pub status : (f : Fluent) → has s'.status.set f ≡ after x (has s.status.set) f
+  pub since : (f : Fluent) → since_in s'.ages f ≡ cond (differ (has s'.status.set f) (has s.status.set f)) to (since_in s.ages f)
+  pub due : (t : ℕ) → t ≤ last_minute → due_in s' t ≡ due_in s t ++ flat_map (joins_at (has s.status.set) x to t) p.triggers
+  pub table : table_in s' ≡ closed_at p.edges p.caps (has s'.status.set) s.present to (table_of s.table)
+  pub charged : s'.table.charged_to ≡ Some to
+
+-- the state after an answered request
+pub record IsAsked (s : Replay) (actor : Actor) (request : Request) (reply : Reply) (s' : Replay) : Type 0 where
+  pub now : s'.present ≡ s.present
+  pub ages : s'.ages ≡ s.ages
+  pub status : s'.status ≡ s.status
+  pub due : (t : ℕ) → due_in s' t ≡ due_in s t ++ queued_at t request reply
+  pub table : table_in s' ≡ applied s.present actor request reply (table_in s)
+  pub charged : s'.table.charged_to ≡ s.table.charged_to
+  pub begun : s'.table.begun ≤ s.table.begun + 1
+
+-- the listing is of the instant, says something and is shown there
+pub record IsGood (p : Policy) (base : Happening) (s : Status) (to : ℕ) (l : Listed) : Type 0 where
+  pub at : l.at ≡ to
+  pub says : IsTrue (says_something l)
+  pub shown : IsShown p.triggers base s l
+
+-- the next listing, if there is one, is of a later instant
+abbrev pub IsLater : ℕ → Option Listed → Type 0
+IsLater to None = Unit {0}
+IsLater to (Some l) = to < l.at

@@ -1,0 +1,187 @@
+//! Checking a certificate: the entries are played once, and at each instant at which a tick stopped the listed set is held
+//! against the definitions.
+ghost use Rattle.std.specs.Prelude.{◌≡◌, ◌≢◌, ◌<◌, ◌≤◌, ◌↔◌, IsTrue, length, slice_get, IfOk};
+ghost use Rattle.gt_base.specs.Bounds.{max_steps};
+ghost use Rattle.gt_base.specs.Sets.{has};
+ghost use Rattle.gt_base.specs.Happening.{nothing};
+ghost use Rattle.gtrbac_model.specs.Safety.{IsSafe};
+ghost use Rattle.session_table.specs.Tables.{NotBefore};
+ghost use Rattle.why_check.specs.Certificates.{Accepts, IsLegal, says_something as says};
+ghost use Rattle.why_check.specs.Kept.{IsBegun, IsClosed, IsGood};
+ghost use Rattle.why_check.specs.Steps.{IsReady, IsHeld, IsPlayed, counted};
+
+use crate::bases::base;
+use crate::certificates::{Cert, Listing};
+use crate::closing::{ask, close};
+use crate::replays::Replay;
+use crate::showing::{has_item, is_empty, is_shown, set_of_lists};
+use duration_limits::Ages;
+use gt_base::{Entry, Happened, Instant, List, Memory, Step};
+use indexmap::IndexMap;
+use policy_book::Policy;
+use session_table::Sessions;
+use std::alloc::Global;
+
+/// What a step has to do with the next listing: it is of the instant that the step closed, or it is not looked at, or the
+/// certificate is wrong.
+#[derive(Clone, Copy, PartialEq, Eq)]
+pub(crate) enum Held {
+    Listed,
+    Passed,
+    Wrong,
+}
+
+/// Whether the certificate is one of the history with these entries, by the definitions of conflict, triggers, base and
+/// settled sets alone. The entries are a legal history of the policy since its birth, at most 1,000,000 of them, and the
+/// policy is safe. Only want of memory is free.
+pub fn accept(
+    policy: &Policy,
+    birth: Instant,
+    entries: &List<Entry>,
+    cert: &Cert,
+) -> Result<bool, Memory>
+    requires legal { IsLegal policy.now.policy birth entries.now.items }
+    requires safe { IsSafe policy.now.policy.triggers }
+    requires few { length entries.now.items ≤ max_steps }
+    ensures { IfOk result (λ yes. IsTrue yes ↔ Accepts policy.now.policy birth entries.now.items cert.now) }
+{
+    policy.keeps();
+    let mut replay = begin(cert.alloc, policy, birth)?;
+    let many = cert.len();
+    let mut place = 0;
+    for entry in entries.as_slice() {
+        let held = step(&mut replay, policy, entry, cert, place)?;
+        if is_wrong(held) {
+            return Ok(false);
+        }
+        place += count(held);
+    }
+    Ok(place == many)
+}
+
+/// Whether the certificate is wrong.
+fn is_wrong(held: Held) -> bool
+    ensures { IsTrue result ↔ (held ≡ Held.Wrong) }
+{
+    matches!(held, Held::Wrong)
+}
+
+/// How many listings were held against the step.
+fn count(held: Held) -> usize
+    ensures { result ≡ counted held }
+{
+    match held {
+        Held::Listed => 1,
+        Held::Passed | Held::Wrong => 0,
+    }
+}
+
+/// The state at the birth.
+fn begin(alloc: Global, policy: &Policy, birth: Instant) -> Result<Replay, Memory>
+    ensures { IfOk result (IsBegun policy.now.policy birth) }
+{
+    Ok(Replay {
+        alloc,
+        present: birth,
+        status: policy.opening().copied()?,
+        ages: Ages::new(alloc, birth),
+        due: IndexMap::new(alloc),
+        table: Sessions::new(alloc),
+        waiting: Vec::new(alloc),
+    })
+}
+
+/// Plays one entry.
+fn step(
+    s: &mut Replay,
+    policy: &Policy,
+    entry: &Entry,
+    cert: &Cert,
+    place: usize,
+) -> Result<Held, Memory>
+    requires { IsReady s.old entry.now.what }
+    ensures { IfOk result (λ held. IsPlayed policy.now.policy s.old entry.now.what (slice_get cert.now place) held s.new) }
+{
+    match &entry.what {
+        Step::Tick { upto: _, to } => {
+            let _bound = to.minute();
+            tick(s, policy, *to, cert, place)
+        }
+        Step::Ask {
+            actor,
+            request,
+            reply,
+        } => {
+            ask(s, policy, *actor, request, reply)?;
+            Ok(Held::Passed)
+        }
+    }
+}
+
+/// Goes on to the instant at which a tick stopped, and holds the next listing against it.
+fn tick(
+    s: &mut Replay,
+    policy: &Policy,
+    to: Instant,
+    cert: &Cert,
+    place: usize,
+) -> Result<Held, Memory>
+    requires later { s.old.present < to }
+    requires born { s.old.ages.birth < to }
+    requires charged { NotBefore s.old.table.charged_to s.old.present }
+    ensures { IfOk result (λ held. IsHeld policy.now.policy s.old to (slice_get cert.now place) held s.new) }
+{
+    let base = base(s, policy, to)?;
+    let Some(listing) = cert.listings.get(place) else {
+        return pass(s, policy, to, &base);
+    };
+    if listing.at < to {
+        return Ok(Held::Wrong);
+    }
+    if listing.at > to {
+        return pass(s, policy, to, &base);
+    }
+    if is_good(s, policy, &base, listing)? {
+        let set = set_of_lists(
+            s.alloc,
+            listing.events.as_slice(),
+            listing.signals.as_slice(),
+        )?;
+        close(s, policy, to, &set)?;
+        Ok(Held::Listed)
+    } else {
+        Ok(Held::Wrong)
+    }
+}
+
+/// Whether the listing, which is of the instant of this base, says something and is shown.
+fn is_good(s: &Replay, policy: &Policy, base: &Happened, listing: &Listing) -> Result<bool, Memory>
+    ensures { IfOk result (λ yes. IsTrue yes ↔ IsGood policy.now.policy base.now.set (has s.now.status.set) listing.now.at listing.now) }
+{
+    if !says_something(listing) {
+        return Ok(false);
+    }
+    let rules = policy.triggers().as_slice();
+    is_shown(s.alloc, rules, base, &s.status, listing)
+}
+
+/// Whether the listing has an event or a signal.
+fn says_something(listing: &Listing) -> bool
+    ensures { result ≡ says listing.now }
+{
+    has_item(listing.events.as_slice()) || has_item(listing.signals.as_slice())
+}
+
+/// Goes on to an instant that is not listed, unless its base has something.
+fn pass(s: &mut Replay, policy: &Policy, to: Instant, base: &Happened) -> Result<Held, Memory>
+    requires later { s.old.present < to }
+    requires charged { NotBefore s.old.table.charged_to s.old.present }
+    ensures passed { IfOk result (λ held. held ≡ Held.Passed → (base.now.set ≡ nothing) × IsClosed policy.now.policy s.old nothing to s.new) }
+    ensures other { IfOk result (λ held. held ≢ Held.Passed → (held ≡ Held.Wrong) × (base.now.set ≢ nothing)) }
+{
+    if !is_empty(base) {
+        return Ok(Held::Wrong);
+    }
+    close(s, policy, to, base)?;
+    Ok(Held::Passed)
+}

@@ -1,0 +1,17 @@
+//! Certificates of what happened in a history, and a checker of them by the definitions alone: it knows no levels and no
+//! work lists.
+#![tactic(auto)]
+
+mod bases;
+mod certificates;
+mod checking;
+mod closing;
+mod laws;
+mod periods;
+mod replays;
+mod sessions;
+mod showing;
+
+pub use certificates::{Cert, Listing};
+pub use checking::accept;
+pub use laws::accepted_is_the_model;

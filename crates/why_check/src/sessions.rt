@@ -1,0 +1,180 @@
+//! The table of sessions after an answered request.
+ghost use Rattle.std.specs.Prelude.{◌≡◌, ◌<◌, ◌≤◌, ◌+◌, ◌-◌, ◌^◌, [], ◌∷◌, OnOk, IfOk};
+ghost use Rattle.gt_base.specs.Held.{RoleWalk};
+ghost use Rattle.gt_base.specs.declared.requests.Actor.TheVariants.{User};
+ghost use Rattle.gt_base.specs.declared.requests.Reply.TheVariants.{Active, Session};
+ghost use Rattle.gt_base.specs.declared.requests.Request.TheVariants.{OpenSession, CloseSession, Activate as IsActivate, Deactivate as IsDeactivate};
+ghost use Rattle.gtrbac_model.specs.Sessions.{applied};
+ghost use Rattle.hybrid_hierarchy.specs.Nets.{IsHierarchy};
+ghost use Rattle.session_table.specs.Tables.{table_of};
+
+use gt_base::{
+    Actor, Caps, HierEdge, Instant, List, Memory, Reply, Request, RoleId, SessionId, Signal,
+    Status, UserId,
+};
+use session_table::Sessions;
+use std::alloc::AllocError;
+
+/// Does to the table what the answered request did, and adds the signals that it left. Of a legal history no request that was
+/// answered is refused here.
+pub(crate) fn apply(
+    table: &mut Sessions,
+    waiting: &mut Vec<Signal>,
+    edges: &List<HierEdge>,
+    caps: &List<Caps>,
+    status: &Status,
+    now: Instant,
+    actor: Actor,
+    request: Request,
+    reply: &Reply,
+) -> Result<(), Memory>
+    requires hierarchy { IsHierarchy edges.now.items }
+    requires few { table.old.begun < 2 ^ 32 - 1 }
+    ensures table { OnOk result (record (table_of table.new) { signals = waiting.new.items } ≡ applied now actor request reply.now (record (table_of table.old) { signals = waiting.old.items })) }
+    ensures charged_to { OnOk result (table.new.charged_to ≡ table.old.charged_to) }
+    ensures begun { OnOk result (table.new.begun ≤ table.old.begun + 1) }
+{
+    match request {
+        Request::OpenSession => open(table, waiting, now, actor, reply),
+        Request::CloseSession(n) => close(table, waiting, now, actor, n, reply),
+        Request::Activate(n, r) => activate(
+            table, waiting, edges, caps, status, now, actor, n, r, reply,
+        ),
+        Request::Deactivate(n, r) => deactivate(table, waiting, now, actor, n, r, reply),
+        Request::Now
+        | Request::Status(_)
+        | Request::Seen(_)
+        | Request::Raise { .. }
+        | Request::Active(_, _)
+        | Request::Check(_, _) => Ok(()),
+    }
+}
+
+/// Opens the session that was opened.
+fn open(
+    table: &mut Sessions,
+    waiting: &mut Vec<Signal>,
+    now: Instant,
+    actor: Actor,
+    reply: &Reply,
+) -> Result<(), Memory>
+    requires few { table.old.begun < 2 ^ 32 - 1 }
+    ensures table { OnOk result (record (table_of table.new) { signals = waiting.new.items } ≡ applied now actor OpenSession reply.now (record (table_of table.old) { signals = waiting.old.items })) }
+    ensures charged_to { OnOk result (table.new.charged_to ≡ table.old.charged_to) }
+    ensures begun { OnOk result (table.new.begun ≤ table.old.begun + 1) }
+{
+    let Reply::Session(number) = reply else {
+        return Ok(());
+    };
+    match actor {
+        Actor::User(user) => begin(table, user, *number),
+        Actor::Operator | Actor::Nobody => Ok(()),
+    }
+}
+
+/// Begins the session of this number.
+fn begin(table: &mut Sessions, user: UserId, number: SessionId) -> Result<(), Memory>
+    requires few { table.old.begun < 2 ^ 32 - 1 }
+    ensures table { OnOk result (table_of table.new ≡ applied 0 (User user) OpenSession (Session number) (table_of table.old)) }
+    ensures charged_to { OnOk result (table.new.charged_to ≡ table.old.charged_to) }
+{
+    match table.begin(user) {
+        Ok(n) if n == number => Ok(()),
+        _ => Err(AllocError),
+    }
+}
+
+/// Closes the session that was closed.
+fn close(
+    table: &mut Sessions,
+    waiting: &mut Vec<Signal>,
+    now: Instant,
+    actor: Actor,
+    session: SessionId,
+    reply: &Reply,
+) -> Result<(), Memory>
+    ensures table { OnOk result (record (table_of table.new) { signals = waiting.new.items } ≡ applied now actor (CloseSession session) reply.now (record (table_of table.old) { signals = waiting.old.items })) }
+    ensures charged_to { OnOk result (table.new.charged_to ≡ table.old.charged_to) }
+    ensures begun { OnOk result (table.new.begun ≤ table.old.begun + 1) }
+{
+    let Reply::Done = reply else {
+        return Ok(());
+    };
+    match table.finish(actor, session) {
+        Ok(signals) => waiting.extend_from_slice(signals.as_slice()),
+        Err(_) => Err(AllocError),
+    }
+}
+
+/// Activates the role that was activated.
+fn activate(
+    table: &mut Sessions,
+    waiting: &mut Vec<Signal>,
+    edges: &List<HierEdge>,
+    caps: &List<Caps>,
+    status: &Status,
+    now: Instant,
+    actor: Actor,
+    session: SessionId,
+    role: RoleId,
+    reply: &Reply,
+) -> Result<(), Memory>
+    requires { IsHierarchy edges.now.items }
+    ensures table { OnOk result (record (table_of table.new) { signals = waiting.new.items } ≡ applied now actor (IsActivate session role) reply.now (record (table_of table.old) { signals = waiting.old.items })) }
+    ensures charged_to { OnOk result (table.new.charged_to ≡ table.old.charged_to) }
+    ensures begun { OnOk result (table.new.begun ≤ table.old.begun + 1) }
+{
+    let Reply::Active(_) = reply else {
+        return Ok(());
+    };
+    let signal = start(table, edges, caps, status, now, actor, session, role)?;
+    waiting.push(signal)?;
+    Ok(())
+}
+
+/// Activates the role, and answers the start signal.
+fn start(
+    table: &mut Sessions,
+    edges: &List<HierEdge>,
+    caps: &List<Caps>,
+    status: &Status,
+    now: Instant,
+    actor: Actor,
+    session: SessionId,
+    role: RoleId,
+) -> Result<Signal, Memory>
+    requires { IsHierarchy edges.now.items }
+    ensures table { IfOk result (λ x. (w : RoleWalk) → applied now actor (IsActivate session role) (Active w) (table_of table.old) ≡ record (table_of table.new) { signals = x ∷ [] }) }
+    ensures charged_to { OnOk result (table.new.charged_to ≡ table.old.charged_to) }
+{
+    let Ok(started) = table.activate(edges, caps, status, now, actor, session, role) else {
+        return Err(AllocError);
+    };
+    Ok(started.1)
+}
+
+/// Ends the activation that was ended.
+fn deactivate(
+    table: &mut Sessions,
+    waiting: &mut Vec<Signal>,
+    now: Instant,
+    actor: Actor,
+    session: SessionId,
+    role: RoleId,
+    reply: &Reply,
+) -> Result<(), Memory>
+    ensures table { OnOk result (record (table_of table.new) { signals = waiting.new.items } ≡ applied now actor (IsDeactivate session role) reply.now (record (table_of table.old) { signals = waiting.old.items })) }
+    ensures charged_to { OnOk result (table.new.charged_to ≡ table.old.charged_to) }
+    ensures begun { OnOk result (table.new.begun ≤ table.old.begun + 1) }
+{
+    let Reply::Done = reply else {
+        return Ok(());
+    };
+    match table.deactivate(actor, session, role) {
+        Ok(signal) => {
+            waiting.push(signal)?;
+            Ok(())
+        }
+        Err(_) => Err(AllocError),
+    }
+}

@@ -1,0 +1,233 @@
+//! Whether the set that a certificate lists at an instant is closed and in an order that supports it.
+ghost use Rattle.std.specs.Prelude.{◌≡◌, ◌≤◌, ◌+◌, ◌&&◌, ◌||◌, not, [], length, IsTrue, ◌↔◌, IfOk, OnOk};
+ghost use Rattle.std.specs.List.{list_all, list_any};
+ghost use Rattle.std.specs.Ordering.{eq_by_cmp};
+ghost use Rattle.gt_base.specs.Happening.{nothing};
+ghost use Rattle.gt_base.specs.Orders.{prioritised_cmp, signal_cmp};
+ghost use Rattle.gt_base.specs.Sets.{has, members, set_of};
+ghost use Rattle.gt_base.specs.declared.events.Event.{Event as EventOf};
+ghost use Rattle.gt_base.specs.declared.events.Prioritised.{Prioritised as PrioritisedOf};
+ghost use Rattle.gt_base.specs.declared.events.Signal.{Signal as SignalOf};
+ghost use Rattle.gtrbac_model.specs.Conflict.{blocked as is_blocked};
+ghost use Rattle.gtrbac_model.specs.History.{is_some_item};
+ghost use Rattle.gtrbac_model.specs.Instant.{closed, grounded_after};
+ghost use Rattle.gtrbac_model.specs.Same.{same_event, same_prioritised};
+ghost use Rattle.gtrbac_model.specs.Trigger.{met as is_met, immediate};
+ghost use Rattle.time_engine.specs.Traces.{is_something};
+ghost use Rattle.why_check.specs.Certificates.{IsShown};
+
+use crate::certificates::Listing;
+use gt_base::{Event, EventSet, Happened, Memory, Prioritised, Signal, Status, Trigger};
+use priority_conflict::{Contest, blocked};
+use std::alloc::Global;
+use trigger_rules::met_in;
+
+/// The set of the events and signals.
+pub(crate) fn set_of_lists(
+    alloc: Global,
+    events: &[Prioritised],
+    signals: &[Signal],
+) -> Result<Happened, Memory>
+    ensures events { IfOk result (λ x. x.set.events ≡ set_of events.now) }
+    ensures signals { IfOk result (λ x. x.set.signals ≡ set_of signals.now) }
+{
+    let mut set = Happened::new(alloc);
+    set.reserve(events.len())?;
+    add_events(&mut set, events);
+    set.reserve(signals.len())?;
+    add_signals(&mut set, signals);
+    Ok(set)
+}
+
+/// Adds the events, into room that was made before.
+fn add_events(into: &mut Happened, events: &[Prioritised])
+    requires { length events.now ≤ into.old.spare }
+    ensures events { (e : PrioritisedOf) → has into.new.set.events e ≡ (has into.old.set.events e || list_any (eq_by_cmp prioritised_cmp e) events.now) }
+    ensures signals { into.new.set.signals ≡ into.old.set.signals }
+{
+    for e in events {
+        into.add(*e);
+    }
+}
+
+/// Adds the signals, into room that was made before.
+fn add_signals(into: &mut Happened, signals: &[Signal])
+    requires { length signals.now ≤ into.old.spare }
+    ensures events { into.new.set.events ≡ into.old.set.events }
+    ensures signals { (x : SignalOf) → has into.new.set.signals x ≡ (has into.old.set.signals x || list_any (eq_by_cmp signal_cmp x) signals.now) }
+{
+    for x in signals {
+        into.add_signal(*x);
+    }
+}
+
+/// Whether the set of the listing is closed over the base and the status before it, has the signals of the base, and is
+/// listed in an order that supports it.
+pub(crate) fn is_shown(
+    alloc: Global,
+    rules: &[Trigger],
+    base: &Happened,
+    before: &Status,
+    listing: &Listing,
+) -> Result<bool, Memory>
+    ensures { IfOk result (λ yes. IsTrue yes ↔ IsShown rules.now base.now.set (has before.now.set) listing.now) }
+{
+    let order = listing.events.as_slice();
+    let set = set_of_lists(alloc, order, listing.signals.as_slice())?;
+    let x = Contest::new(alloc, &set)?;
+    if !same_signals(&set, base) {
+        return Ok(false);
+    }
+    if !is_closed(rules, base, before, &x) {
+        return Ok(false);
+    }
+    Ok(is_supported(alloc, rules, base, before, &x, order)?)
+}
+
+/// Whether the two have the same signals.
+fn same_signals(x: &Happened, base: &Happened) -> bool
+    ensures { IsTrue result ↔ (x.now.set.signals ≡ base.now.set.signals) }
+{
+    all_signalled(base, x.signals()) && all_signalled(x, base.signals())
+}
+
+/// Whether all of the signals are there.
+fn all_signalled(x: &Happened, signals: &[Signal]) -> bool
+    ensures { result ≡ list_all (has x.now.set.signals) signals.now }
+{
+    signals.iter().all(|s| x.signalled(*s))
+}
+
+/// Whether the set has the base and the head of each immediate trigger that is met in it.
+fn is_closed(rules: &[Trigger], base: &Happened, before: &Status, x: &Contest) -> bool
+    ensures { result ≡ closed rules.now base.now.set (has before.now.set) x.now }
+{
+    has_all(x.set(), base.events()) && has_heads(rules, before, x)
+}
+
+/// Whether the set has the head of each immediate trigger that is met in it.
+fn has_heads(rules: &[Trigger], before: &Status, x: &Contest) -> bool
+    ensures { result ≡ list_all (λ r. not (immediate r && is_met r x.now (has before.now.set)) || has x.now.events r.head) rules.now }
+{
+    rules.iter().all(|r| has_head(r, before, x))
+}
+
+/// Whether the set has the head of the trigger, if that is immediate and met in it.
+fn has_head(r: &Trigger, before: &Status, x: &Contest) -> bool
+    ensures { result ≡ (not (immediate r.now && is_met r.now x.now (has before.now.set)) || has x.now.events r.now.head) }
+{
+    !fires(r, x, before) || x.set().has(r.head)
+}
+
+/// Whether the set has all of the events.
+fn has_all(x: &Happened, events: &[Prioritised]) -> bool
+    ensures { result ≡ list_all (has x.now.set.events) events.now }
+{
+    events.iter().all(|e| x.has(*e))
+}
+
+/// Whether the trigger is immediate and met in the set.
+fn fires(r: &Trigger, x: &Contest, before: &Status) -> bool
+    ensures { result ≡ (immediate r.now && is_met r.now x.now (has before.now.set)) }
+{
+    r.delay == 0 && met_in(r, x, before)
+}
+
+/// Whether each of the events is supported by those before it.
+fn is_supported(
+    alloc: Global,
+    rules: &[Trigger],
+    base: &Happened,
+    before: &Status,
+    x: &Contest,
+    order: &[Prioritised],
+) -> Result<bool, Memory>
+    ensures { IfOk result (λ yes. yes ≡ grounded_after rules.now base.now.set (has before.now.set) x.now [] order.now) }
+{
+    let mut standing = EventSet::new(alloc);
+    standing.reserve(order.len())?;
+    for e in order {
+        if !has_support(rules, base, before, x, &standing, e) {
+            return Ok(false);
+        }
+        note(&mut standing, x, e);
+    }
+    Ok(true)
+}
+
+/// Adds the event, into room that was made before, where it is not blocked at its priority.
+fn note(standing: &mut EventSet, x: &Contest, e: &Prioritised)
+    requires { 1 ≤ standing.old.spare }
+    ensures events { (f : EventOf) → has standing.new.set f ≡ ((same_event e.now.event f && not (is_blocked x.now e.now)) || has standing.old.set f) }
+    ensures spare { standing.old.spare ≤ standing.new.spare + 1 }
+{
+    if !blocked(x.set(), *e) {
+        standing.add(e.event);
+    }
+}
+
+/// Whether the event is in the base, or the head of an immediate trigger that is met in the set and whose body events stand
+/// already.
+fn has_support(
+    rules: &[Trigger],
+    base: &Happened,
+    before: &Status,
+    x: &Contest,
+    standing: &EventSet,
+    e: &Prioritised,
+) -> bool
+    ensures { result ≡ (has base.now.set.events e.now || list_any (λ r. immediate r && same_prioritised r.head e.now && is_met r x.now (has before.now.set) && list_all (has standing.now.set) r.events) rules.now) }
+{
+    base.has(*e) || is_head(rules, before, x, standing, e)
+}
+
+/// Whether the event is the head of such a trigger.
+fn is_head(
+    rules: &[Trigger],
+    before: &Status,
+    x: &Contest,
+    standing: &EventSet,
+    e: &Prioritised,
+) -> bool
+    ensures { result ≡ list_any (λ r. immediate r && same_prioritised r.head e.now && is_met r x.now (has before.now.set) && list_all (has standing.now.set) r.events) rules.now }
+{
+    rules.iter().any(|r| supports(r, before, x, standing, *e))
+}
+
+/// Whether the trigger supports the event.
+fn supports(r: &Trigger, before: &Status, x: &Contest, standing: &EventSet, e: Prioritised) -> bool
+    ensures { result ≡ (immediate r.now && same_prioritised r.now.head e && is_met r.now x.now (has before.now.set) && list_all (has standing.now.set) r.now.events) }
+{
+    if r.delay != 0 || !r.head.cmp(&e).is_eq() {
+        return false;
+    }
+    met_in(r, x, before) && all_stand(r.events.as_slice(), standing)
+}
+
+/// Whether each of the events is there.
+fn all_stand(events: &[Event], standing: &EventSet) -> bool
+    ensures { result ≡ list_all (has standing.now.set) events.now }
+{
+    events.iter().all(|e| standing.has(*e))
+}
+
+/// Whether the base has neither an event nor a signal.
+pub(crate) fn is_empty(base: &Happened) -> bool
+    ensures { IsTrue result ↔ (base.now.set ≡ nothing) }
+{
+    !has_something(base)
+}
+
+/// Whether the set has an event or a signal.
+fn has_something(x: &Happened) -> bool
+    ensures { result ≡ is_something x.now.set }
+{
+    has_item(x.events()) || has_item(x.signals())
+}
+
+/// Whether there is an item.
+pub(crate) fn has_item<T>(items: &[T]) -> bool
+    ensures { result ≡ is_some_item items.now }
+{
+    !items.is_empty()
+}
