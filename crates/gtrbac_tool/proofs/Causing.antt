@@ -1,8 +1,7 @@
 -- The causes of a status, as the words name them.
-use Rattle.std.proofs.Common.{◌≡◌, ℕ, List, [], ◌∷◌, Option, Some, None, ◌⊎◌, inl, inr, refl, sym, ap, ◌∙◌, subst}
-use Rattle.std.specs.Prelude.{◌+◌, ◌<◌, length, codes, Result, Ok, Err, IfOk, IfSome, IsSomeAnd}
-use Rattle.gt_io.specs.Causes.{Rose}
-use Rattle.gt_io.specs.Shelf.{Contents, Lacks}
+use Rattle.std.proofs.Common.{◌≡◌, ℕ, List, [], ◌∷◌, Option, Some, None, ◌⊎◌, inl, inr, refl, ap, ◌∙◌}
+use Rattle.std.specs.Prelude.{◌+◌, length, Result, Ok, Err, IfOk, IfSome, IsSomeAnd}
+use Rattle.gt_io.specs.Shelf.{Contents}
 use Rattle.gt_base.specs.declared.requests.Entry.{Entry}
 use Rattle.policy_words.specs.Naming.{NamedPolicy}
 use Rattle.policy_commands.specs.declared.ends.End.{End}
@@ -12,9 +11,9 @@ use Rattle.request_text.specs.declared.lines.Line.{Line}
 use Rattle.request_text.specs.declared.lines.Line.TheVariants.{Silent, At, Be, Ask}
 use Rattle.request_text.specs.declared.lines.LineFault.{LineFault}
 use Rattle.gtrbac_tool.specs.Script.{Going, Start, never, born, failed, begun, start_of, EndsFrom, Stops, Run, said}
-use Rattle.gtrbac_tool.specs.Tool.{Command, named_by, command_of, IsPrinted, Seen, Prints, AnswersCommand, Answers}
+use Rattle.gtrbac_tool.specs.Tool.{Command, named_by, command_of, Seen, Prints, AnswersCommand, Answers}
 use Rattle.gtrbac_tool.specs.Summary.{Gen, IsGen, IsNoGen, GenEnds}
-use Rattle.gtrbac_tool.specs.Causes.{IsNamed, IfTold, IsMissing, IsLongPolicy, IsLongScript, IsRunStatus, IsScriptCaused, IsCaused, IsTextCaused, IsCausedIn, IsMade, IsGenCaused}
+use Rattle.gtrbac_tool.specs.Causes.{IsNamed, IfTold, IsMissing, IsLongPolicy, IsLongScript, IsRunStatus, IsScriptCaused, IsCaused, IsCausedIn, IsMade, IsGenCaused}
 
 -- how the run of a script ends
 
@@ -54,7 +53,7 @@ of_start np never end h is = inl (status_of end _ is)
 of_start np (born birth n lines) end h run = run_status np birth n lines end run
 of_start np (failed t) end h is = inr (inl (status_of end t is ∙ h))
 
-played_status : (np : NamedPolicy) (lines : List (List ℕ)) (end : Told) → EndsFrom np (start_of np 1 lines) end → IsRunStatus end.status
+pub played_status : (np : NamedPolicy) (lines : List (List ℕ)) (end : Told) → EndsFrom np (start_of np 1 lines) end → IsRunStatus end.status
 played_status np lines end is = of_start np (start_of np 1 lines) end (starts np 1 lines) is
 
 pub script_caused : {E : Type 0} (np : NamedPolicy) (lines : List (List ℕ)) (lost : Type 0) (input : Option (List ℕ)) (r : Result End E)

@@ -1,4 +1,8 @@
 pub mod Causing
+pub mod OneHistory
+pub mod OneEnd
+pub mod OnePlay
+pub mod Exactness
 pub mod Ran
 pub mod Spoken
 pub mod Steps

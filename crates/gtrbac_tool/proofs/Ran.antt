@@ -1,15 +1,14 @@
 -- How a script was run, as the end is told and summed up.
-use Rattle.std.proofs.Common.{◌≡◌, ℕ, List, subst}
+use Rattle.std.proofs.Common.{◌≡◌, ℕ, subst}
 use Rattle.std.specs.Prelude.{Result, Ok, Err, IfOk}
 use Rattle.policy_commands.specs.declared.ends.End.{End}
 use Rattle.policy_commands.specs.Ends.{Told, seen_end}
 use Rattle.policy_words.specs.Naming.{NamedPolicy}
 use Rattle.gtrbac_tool.specs.declared.script.Outcome.{Outcome}
 use Rattle.gtrbac_tool.specs.declared.starting.Ran.TheVariants.{Unborn, Born}
-use Rattle.gtrbac_tool.specs.Script.{Start, never, born, failed, EndsFrom, Run, RunOver}
+use Rattle.gtrbac_tool.specs.Script.{Start, never, born, failed, EndsFrom}
 use Rattle.gtrbac_tool.specs.Started.{RanFrom}
-use Rattle.gtrbac_tool.specs.Going.{IsOutcome}
-use Rattle.gtrbac_tool.specs.Summary.{Gen, SummedFrom, Summed, summed}
+use Rattle.gtrbac_tool.specs.Summary.{Gen, SummedFrom, summed}
 
 pub unborn_ends : (np : NamedPolicy) (start : Start) (end : End) → RanFrom np start (Unborn end) → EndsFrom np start (seen_end end)
 unborn_ends np never end h = h

@@ -1,8 +1,8 @@
 -- The steps of a run.
-use Rattle.std.proofs.Common.{◌≡◌, ℕ, ◌+◌, ◌<◌, ◌≤◌, true, false, List, [], ◌∷◌, ◌++◌, length, inl, inr, refl, sym, ◌∙◌, ap, subst, arith, append_assoc, length-append}
-use Rattle.std.specs.Prelude.{Bool, MatchBool, Result, Ok, Err, IfOk, codes}
+use Rattle.std.proofs.Common.{◌≡◌, ℕ, ◌+◌, ◌<◌, ◌≤◌, true, false, List, [], ◌∷◌, ◌++◌, length, inl, inr, refl, sym, ◌∙◌, ap, subst, arith, append_assoc}
+use Rattle.std.specs.Prelude.{Bool, MatchBool, Result, Ok, Err, IfOk}
 use Rattle.gt_base.specs.Bounds.{max_steps}
-use Rattle.gt_base.specs.Machines.{ticked, asked}
+use Rattle.gt_base.specs.Machines.{ticked}
 use Rattle.gt_base.specs.declared.requests.Actor.{Actor}
 use Rattle.gt_base.specs.declared.requests.Entry.{Entry}
 use Rattle.gt_base.specs.declared.requests.Reply.{Reply}
@@ -26,7 +26,7 @@ use Rattle.request_text.specs.declared.lines.LineFault.{LineFault}
 use Rattle.request_text.proofs.BriefWalks.{brief_reply}
 use Rattle.request_text.proofs.SoundReplies.{reply_sounds}
 use Rattle.gtrbac_tool.specs.declared.script.Played.{Played}
-use Rattle.gtrbac_tool.specs.declared.script.Played.TheVariants.{On, Full, Bad}
+use Rattle.gtrbac_tool.specs.declared.script.Played.TheVariants.{On, Full}
 use Rattle.gtrbac_tool.specs.Told.{behind}
 use Rattle.gtrbac_tool.specs.Script.{Going, AreTicks, Arrives, IsFilled, Moves, Plays, Stops, RunOver, said, scripts_who, at_birth}
 use Rattle.gtrbac_tool.specs.Going.{going_of, played_as, PlaysAs, Ticked, IsOutcome}

@@ -3,7 +3,6 @@ use Rattle.std.proofs.Common.{◌≡◌, ℕ, List, ◌++◌, true, false, inl, 
 use Rattle.std.specs.Prelude.{Bool, nat_eq, codes, decimal, Result, Ok as Fine, Err, IfOk}
 use Rattle.std.specs.List.{count_by}
 use Rattle.std.proofs.lemmas.Bool.{ne_eqb}
-use Rattle.gt_base.specs.declared.requests.Decision.{Decision}
 use Rattle.gt_base.specs.declared.requests.Decision.TheVariants.{Permit as Permits, NoActive, NoGrant, Shut}
 use Rattle.gt_base.specs.declared.requests.Seen.TheVariants.{Unblocked, Blocked, Absent}
 use Rattle.gt_base.specs.declared.requests.Reply.{Reply}
@@ -18,7 +17,7 @@ use Rattle.request_text.specs.Replies.{reply_text}
 use Rattle.gtrbac_tool.specs.declared.summing.Word.{Word}
 use Rattle.gtrbac_tool.specs.declared.summing.Word.TheVariants.{Ok, Permit, Deny, Refused}
 use Rattle.gtrbac_tool.specs.Script.{Start, never, born, failed, start_of}
-use Rattle.gtrbac_tool.specs.Summary.{Gen, begins, is_answered, count_line, summary, summed, Summed, SummedFrom, SummedOver, GenEnds, gen_line, steps_line, end_line}
+use Rattle.gtrbac_tool.specs.Summary.{Gen, begins, is_answered, count_line, summary, summed, SummedFrom, SummedOver, GenEnds, gen_line, steps_line, end_line}
 use Rattle.gtrbac_tool.specs.Counted.{word_text, replies, counts, tally_line, tally}
 use Rattle.gt_text.specs.Lines.{lines_of}
 use Rattle.policy_commands.specs.Policies.{safe_in, HasFault, IsUnsafeText}

@@ -7,3 +7,5 @@ pub mod Counted
 pub mod Tool
 pub mod Commands
 pub mod Causes
+pub mod Meanings
+pub mod Exact

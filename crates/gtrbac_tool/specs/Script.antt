@@ -1,5 +1,5 @@
 -- The run of a script: the replies of its lines, over a history that is legal with its execution model.
-use Rattle.std.specs.Prelude.{◌≡◌, ℕ, ◌+◌, ◌<◌, ◌≤◌, ◌⊎◌, Bool, true, false, List, [], ◌∷◌, ◌++◌, length, codes, decimal, Result, Ok, Err}
+use Rattle.std.specs.Prelude.{◌≡◌, ℕ, ◌+◌, ◌<◌, ◌≤◌, ◌⊎◌, Bool, true, false, List, [], ◌∷◌, ◌++◌, length, codes, Result, Ok, Err}
 use Rattle.gt_base.specs.Bounds.{max_steps}
 use Rattle.gt_base.specs.Machines.{ticked, asked}
 use Rattle.gt_base.specs.declared.requests.Who.{Who}

@@ -1,5 +1,5 @@
 -- What the program prints, and its status.
-use Rattle.std.specs.Prelude.{◌≡◌, ◌⊎◌, ℕ, true, false, List, [], ◌∷◌, codes, bytes_eq, Option, Some, None, Result, Ok, Err, IfSome, MatchBool}
+use Rattle.std.specs.Prelude.{◌≡◌, ◌⊎◌, ℕ, Bool, true, false, List, [], ◌∷◌, codes, bytes_eq, Option, Some, None, Result, Ok, Err, IfSome, MatchBool}
 use Rattle.std.specs.Io.KnownBytes.{Appends, Keeps}
 use Rattle.gt_io.specs.Causes.{Rose, AppendsPart}
 use Rattle.gt_io.specs.Shelf.{Contents}
@@ -23,6 +23,12 @@ abbrev pub named_by : Command → List ℕ
 named_by (check name) = name
 named_by (fmt name) = name
 named_by (run name) = name
+
+-- whether it plays a script from the input
+abbrev pub plays_script : Command → Bool
+plays_script (check name) = false
+plays_script (fmt name) = false
+plays_script (run name) = true
 
 abbrev pub command_by : List ℕ → List ℕ → Option Command
 command_by verb name =

@@ -2,9 +2,11 @@
 #![tactic(auto)]
 
 mod commands;
+mod laws;
 mod script;
 mod starting;
 mod summing;
 mod top;
 
+pub use laws::run_means;
 pub use top::tool;

@@ -1,13 +1,16 @@
 //! The top call.
-ghost use Rattle.std.specs.Prelude.{◌≡◌, ◌⊎◌, ◌≤◌, None, map, string_bytes, length, IfOk};
+ghost use Rattle.std.specs.Prelude.{◌≡◌, ◌⊎◌, ◌≤◌, None, map, string_bytes, length, IfOk, IsTrue};
+ghost use Rattle.std.specs.Io.KnownBytes.{IsAtEnd};
 ghost use Rattle.gt_io.specs.Causes.{Rose};
 ghost use Rattle.policy_commands.specs.Ends.{seen_end, told};
 ghost use Rattle.policy_commands.specs.Policies.{HasFault, IsUnsafeText, safe_in};
+ghost use Rattle.policy_commands.specs.Meanings.{IsSafeText};
 ghost use Rattle.gtrbac_tool.specs.Commands.{seen_command};
-ghost use Rattle.gtrbac_tool.specs.Causes.{IsScriptCaused, IsCaused, IsCausedIn, IfTold, IsMissing, IsMade, IsGenCaused, IsLongPolicy, IsLongScript};
+ghost use Rattle.gtrbac_tool.specs.Causes.{IsRunStatus, IsScriptCaused, IsCaused, IsCausedIn, IfTold, IsMissing, IsMade, IsGenCaused, IsLongPolicy, IsLongScript};
 ghost use Rattle.gtrbac_tool.specs.Summary.{Gen, IsGen, IsNoGen, GenEnds};
 ghost use Rattle.gtrbac_tool.specs.Counted.{seen_recipe};
-ghost use Rattle.gtrbac_tool.specs.Tool.{command_of, named_by, ScriptEnds, SafeEnds, TextEnds, FoundEnds, Answers, AnswersCommand, Prints, IsPrinted, seen};
+ghost use Rattle.gtrbac_tool.specs.Exact.{Exact, Caused, Complete, IsScriptDue, ReadsScript, IsReadOut};
+ghost use Rattle.gtrbac_tool.specs.Tool.{command_of, named_by, plays_script, ScriptEnds, SafeEnds, TextEnds, FoundEnds, Answers, AnswersCommand, Prints, IsPrinted, seen};
 
 use crate::commands::{Command, spoken};
 use crate::starting::play;
@@ -38,6 +41,7 @@ fn say(alloc: Global, status: u8, text: &[u8]) -> Result<End, Memory>
 fn run_script<I: Source>(alloc: Global, safe: Safe, input: &mut I) -> Result<End, Memory>
     ensures end { IfOk result (λ end. ScriptEnds (Rose (I.faults input.old) (I.faults input.new)) safe (I.left input.old) (seen_end end)) }
     ensures caused { IfOk result (λ end. IsScriptCaused (Rose (I.faults input.old) (I.faults input.new)) (I.left input.old) end.status) }
+    ensures read { IfOk result (λ end. IsRunStatus end.status → IsAtEnd (I.left input.new)) }
 {
     match read_all(alloc, input, MAX_SCRIPT) {
         Ok(script) => play(alloc, safe, &script),
@@ -52,6 +56,8 @@ fn run<I: Source>(alloc: Global, text: &[u8], input: &mut I) -> Result<End, Memo
     requires { length text.now ≤ 4_194_304 }
     ensures end { IfOk result (λ end. SafeEnds (Rose (I.faults input.old) (I.faults input.new)) (safe_in text.now) (I.left input.old) (seen_end end)) }
     ensures caused { IfOk result (λ end. IsCaused (Rose (I.faults input.old) (I.faults input.new)) text.now (I.left input.old) end.status) }
+    ensures read { IfOk result (λ end. IsRunStatus end.status → IsAtEnd (I.left input.new)) }
+    ensures kept { (input.new ≡ input.old) ⊎ IsSafeText text.now }
 {
     match admit(alloc, text)? {
         Admitted::Safe(safe) => run_script(alloc, safe, input),
@@ -69,6 +75,8 @@ fn answer_text<I: Source>(
     requires { length text.now ≤ 4_194_304 }
     ensures end { IfOk result (λ end. TextEnds (Rose (I.faults input.old) (I.faults input.new)) (seen_command command.entry) text.now (I.left input.old) (seen_end end)) }
     ensures caused { IfOk result (λ end. IsCaused (Rose (I.faults input.old) (I.faults input.new)) text.now (I.left input.old) end.status) }
+    ensures read { IfOk result (λ end. IsTrue (plays_script (seen_command command.entry)) → IsRunStatus end.status → IsAtEnd (I.left input.new)) }
+    ensures kept { (input.new ≡ input.old) ⊎ (IsTrue (plays_script (seen_command command.entry)) × IsSafeText text.now) }
 {
     match command {
         Command::Check(_) => check(alloc, text),
@@ -89,6 +97,8 @@ fn answer<S: Shelf, I: Source>(
     ensures caused { IfOk result (λ end. IsCausedIn (Rose (S.hard_faults shelf.old) (S.hard_faults shelf.new)) (Rose (I.faults input.old) (I.faults input.new))
         (S.contents shelf.old) (named_by (seen_command command.entry)) (I.left input.old) end.status) }
     ensures same { S.contents shelf.new ≡ S.contents shelf.old }
+    ensures read { IfOk result (λ end. IsTrue (plays_script (seen_command command.entry)) → IsRunStatus end.status → IsAtEnd (I.left input.new)) }
+    ensures kept { (input.new ≡ input.old) ⊎ IsScriptDue (seen_command command.entry) (S.contents shelf.old) }
 {
     match find_all(alloc, shelf, command.name(), MAX_POLICY) {
         Ok(text) => answer_text(alloc, command, &text, input),
@@ -129,6 +139,9 @@ fn run_command<S: Shelf, I: Source, K: Sink>(
     ensures written { (result ≡ 5 → ⊥) → K.faults out.new ≡ K.faults out.old }
     ensures long { result ≡ 6 → IfTold (map string_bytes words.now) (S.contents shelf.old) (λ text. IsLongPolicy text ⊎ IsLongScript (I.left input.old)) }
     ensures same { S.contents shelf.new ≡ S.contents shelf.old }
+    ensures read { IsReadOut (map string_bytes words.now) result (I.left input.new) }
+    ensures kept { (input.new ≡ input.old) ⊎ ReadsScript (map string_bytes words.now) (S.contents shelf.old) }
+    ensures unread { command_of (map string_bytes words.now) ≡ None → (shelf.new ≡ shelf.old) × (input.new ≡ input.old) }
 {
     let Some(command) = spoken(words) else {
         return print(
@@ -191,8 +204,20 @@ pub fn tool<S: Shelf, I: Source, K: Sink>(
     ensures write_fault { result ≡ 5 → Rose (K.faults out.old) (K.faults out.new) }
     ensures written { (result ≡ 5 → ⊥) → K.faults out.new ≡ K.faults out.old }
     ensures long { result ≡ 6 → IfTold (map string_bytes words.now) (S.contents shelf.old) (λ text. IsLongPolicy text ⊎ IsLongScript (I.left input.old)) }
+    ensures exact { Exact (map string_bytes words.now) result
+        (seen (S.contents shelf.old) (S.hard_faults shelf.old) (I.left input.old) (I.faults input.old) (K.written out.old) (K.faults out.old))
+        (seen (S.contents shelf.new) (S.hard_faults shelf.new) (I.left input.new) (I.faults input.new) (K.written out.new) (K.faults out.new)) }
+    ensures caused { Caused (map string_bytes words.now) result
+        (seen (S.contents shelf.old) (S.hard_faults shelf.old) (I.left input.old) (I.faults input.old) (K.written out.old) (K.faults out.old))
+        (seen (S.contents shelf.new) (S.hard_faults shelf.new) (I.left input.new) (I.faults input.new) (K.written out.new) (K.faults out.new)) }
+    ensures complete { Complete (map string_bytes words.now) result
+        (seen (S.contents shelf.old) (S.hard_faults shelf.old) (I.left input.old) (I.faults input.old) (K.written out.old) (K.faults out.old))
+        (seen (S.contents shelf.new) (S.hard_faults shelf.new) (I.left input.new) (I.faults input.new) (K.written out.new) (K.faults out.new)) }
+    ensures generated { IsNoGen (map string_bytes words.now) ⊎ (result ≡ 5) ⊎ (result ≡ 8) ⊎ ((g : Gen) × IsGen (map string_bytes words.now) g × IsGenCaused g.size result) }
     ensures same { S.contents shelf.new ≡ S.contents shelf.old }
-    ensures unread { (g : Gen) → IsGen (map string_bytes words.now) g → (shelf.new ≡ shelf.old) × (input.new ≡ input.old) }
+    ensures read { IsReadOut (map string_bytes words.now) result (I.left input.new) }
+    ensures kept { (input.new ≡ input.old) ⊎ ReadsScript (map string_bytes words.now) (S.contents shelf.old) }
+    ensures unread { command_of (map string_bytes words.now) ≡ None → (shelf.new ≡ shelf.old) × (input.new ≡ input.old) }
 {
     match recipe_of(words) {
         Some(recipe) => run_gen(alloc, recipe, out),

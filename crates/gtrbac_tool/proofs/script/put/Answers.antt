@@ -4,7 +4,7 @@ use Rattle.gt_base.specs.declared.requests.Reply.{Reply}
 use Rattle.policy_words.specs.Naming.{NamedPolicy}
 use Rattle.core_machine.specs.Books.{reply_in}
 use Rattle.request_text.specs.Named.{has_reply}
-use Rattle.gtrbac_tool.proofs.Steps.{can_write, was_asked, was_full}
+use Rattle.gtrbac_tool.proofs.Steps.{can_write}
 use Rattle.gtrbac_tool.proofs.script.put.Goals as goal
 
 pub write_reply-requires : goal.write_reply-requires
