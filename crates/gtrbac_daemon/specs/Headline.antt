@@ -14,7 +14,7 @@ use Rattle.policy_words.specs.Naming.{NamedPolicy}
 use Rattle.core_machine.specs.Books.{AreNamed}
 use Rattle.connection_laws.specs.Connection.{asked_in, denied_in, part_of, Conn}
 use Rattle.line_server.specs.declared.ended.Served.{Served}
-use Rattle.line_server.specs.Serving.{EndsBy, most_bytes}
+use Rattle.line_server.specs.Serving.{EndsBy, IsUnhindered, IsComplete, most_bytes}
 use Rattle.line_server.specs.Working.{Tale, begun_of, hours_of, Gives, WorksTo}
 use Rattle.gtrbac_daemon.specs.Crew.{Crewman}
 
@@ -37,6 +37,7 @@ module _ {L : Type 0} (traffic : L → Traffic) (np : NamedPolicy) (birth : ℕ)
     pub given_is : Appends (traffic x.begun).given (traffic s.link).given x.given
     pub bounded : length x.taken ≤ most_bytes
     pub cause : EndsBy (traffic x.begun) (traffic s.link) x.draws x.taken s.report.outcome
+    pub complete : IsUnhindered (traffic x.begun) (traffic s.link) x.draws x.taken → IsComplete np h x.taken x.acted s.report.outcome
 
   -- the links from number c on
   abbrev pub AreServed : ℕ → List (Served L) → List (Tale L) → Type 0

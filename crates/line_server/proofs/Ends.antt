@@ -17,10 +17,11 @@ use Rattle.connection_laws.specs.declared.ends.LinkEnd.{LinkEnd}
 use Rattle.connection_laws.specs.declared.ends.LinkEnd.TheVariants.{Ended, ReadFault, WriteFault, Spent, Worn}
 use Rattle.connection_laws.specs.declared.ends.Report.{Report}
 use Rattle.connection_laws.specs.Cuts.{whole_lines}
-use Rattle.connection_laws.specs.Connection.{Acted, lines_of, readings_of, entries_of, IsGiven}
+use Rattle.connection_laws.specs.Connection.{Acted, lines_of, readings_of, entries_of, IsGiven, IsTimed, placed, Conn}
 use Rattle.connection_laws.proofs.Cutting.{lines_more}
 use Rattle.line_server.specs.declared.talk.Talk.{Talk}
 use Rattle.line_server.specs.Serving.{Point, IsStart, HaltsBy, EndsBy, Going, Serving, Halted, Converses, Serves, most_bytes}
+use Rattle.line_server.proofs.Completing.{complete_by}
 use Rattle.line_server.proofs.Growing.{grown_none}
 use Rattle.line_server.proofs.LineDone.{point}
 
@@ -99,13 +100,16 @@ module _ {M : Type 0} (np : NamedPolicy) (first : List Entry) (legal : List Entr
       → Converses np first legal now who (point before talk clock a.given) (point after talk' clock' b.given) a b end → ReadsNothing b c → WritesNothing b c
       → Serves np first legal now who before after talk.calls talk'.calls clock clock' a c (record { asked = talk'.asked; denied = talk'.denied; outcome = end })
   reported before after talk talk' clock clock' a b c end start x r w =
+      let connected : (birth : ℕ) → IsTimed birth legal now → Conn np birth who after.seen (placed who first before.own) x.taken (readings_of x.acted) (entries_of x.acted) x.text x.acted end =
+      λ birth timed. record { lines = x.lines; readings_are = refl; own_are = refl; fit = x.going.fits birth timed; given_is = x.given_is } in
+      let ends = cause_kept a b c x.taken after.draws end r w x.cause in
       record {
         taken = x.taken;
         given = x.text;
         readings = readings_of x.acted;
         own = entries_of x.acted;
         acted = x.acted;
-        conn = λ birth timed. record { lines = x.lines; readings_are = refl; own_are = refl; fit = x.going.fits birth timed; given_is = x.given_is };
+        conn = connected;
         grows = x.going.grows;
         mine = x.going.mine;
         asked = x.going.asked;
@@ -116,5 +120,7 @@ module _ {M : Type 0} (np : NamedPolicy) (first : List Entry) (legal : List Entr
         given_is = subst (λ (y : Option (List ℕ)). Appends a.given y x.text) (sym w.given_kept) x.given;
         reads = x.going.reads;
         bounded = x.bounded;
-        cause = cause_kept a b c x.taken after.draws end r w x.cause;
+        cause = ends;
+        complete = λ birth timed free.
+            complete_by np birth who after.seen (placed who first before.own) x.taken (readings_of x.acted) (entries_of x.acted) x.text x.acted end a c after.draws (connected birth timed) ends free;
       }

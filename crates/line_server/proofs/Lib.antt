@@ -5,6 +5,7 @@ pub mod Acting
 pub mod NoMinutes
 pub mod LineDone
 pub mod Chunks
+pub mod Completing
 pub mod Ends
 pub mod Links
 pub mod Crossing

@@ -1,8 +1,9 @@
 -- What a server keeps from line to line.
-use Rattle.std.specs.Prelude.{◌≡◌, ◌⊎◌, ℕ, ◌+◌, ◌*◌, ◌^◌, ◌<◌, ◌≤◌, true, false, List, [], ◌∷◌, ◌++◌, length, OnOk, MatchResult, Result, Ok, Err}
+use Rattle.std.specs.Prelude.{◌≡◌, ◌⊎◌, ℕ, ◌+◌, ◌*◌, ◌^◌, ◌<◌, ◌≤◌, true, false, ⊤, List, [], ◌∷◌, ◌++◌, length, OnOk, MatchResult, Result, Ok, Err}
 use Rattle.std.specs.declared.option.Option.{Option}
 use Rattle.std.specs.Io.KnownBytes.{Appends, Consumes, Keeps, IsAtEnd}
 use mathlib.Core.List.{IsPrefix}
+use Rattle.gt_base.specs.Bounds.{max_steps}
 use Rattle.gt_base.specs.declared.requests.Who.{Who}
 use Rattle.gt_base.specs.declared.requests.Actor.TheVariants.{Nobody}
 use Rattle.gt_base.specs.declared.requests.Reply.{Reply}
@@ -12,8 +13,10 @@ use Rattle.gt_base.specs.declared.requests.Entry.{Entry}
 use Rattle.gt_io.specs.Causes.{Rose, AppendsPart}
 use Rattle.gt_io.specs.Frames.{Frame}
 use Rattle.gt_io.specs.Links.{Traffic, ReadsNothing, Reads}
+use Rattle.turn_lock.specs.Turns.{Each}
 use Rattle.turn_lock.specs.Holders.{Holder}
 use Rattle.policy_words.specs.Naming.{NamedPolicy}
+use Rattle.request_text.specs.declared.lines.Line.TheVariants.{Ask}
 use Rattle.request_text.specs.Phrases.{read_line}
 use Rattle.connection_laws.specs.declared.ends.LinkEnd.{LinkEnd}
 use Rattle.connection_laws.specs.declared.ends.Report.{Report}
@@ -88,6 +91,26 @@ EndsBy a b draws taken ReadFault = Rose a.read_faults b.read_faults × (length t
 EndsBy a b draws taken WriteFault = Rose a.write_faults b.write_faults
 EndsBy a b draws taken Spent = length taken ≡ most_bytes
 EndsBy a b draws taken (Worn n) = (n ≡ 2 ^ 40) × (draws ≡ 2 ^ 40)
+
+-- no read and no write failed, fewer bytes were taken than a link may send, and the pass is not worn
+pub record IsUnhindered (a b : Traffic) (draws : ℕ) (taken : List ℕ) : Type 0 where
+  pub reads : Rose a.read_faults b.read_faults → ⊥
+  pub writes : Rose a.write_faults b.write_faults → ⊥
+  pub few : length taken < most_bytes
+  pub unworn : draws < 2 ^ 40
+
+-- a request is accepted, or there was no memory, or the history is full
+abbrev pub IsAnswered : List Entry → Answer → Type 0
+IsAnswered h (accepted reply) = ⊤
+IsAnswered h no_memory = ⊤
+IsAnswered h no_steps = max_steps ≤ length h
+IsAnswered h _ = ⊥
+
+-- the link was read to its end, each of its whole lines was acted on, and each request among them is answered
+pub record IsComplete (np : NamedPolicy) (h : List Entry) (taken : List ℕ) (acted : List Acted) (end : LinkEnd) : Type 0 where
+  pub ended : end ≡ Ended
+  pub lines : lines_of acted ≡ whole_lines taken
+  pub answered : Each (λ (a : Acted). (request : Request) → read_line np Nobody false a.line ≡ Ok (Ask request) → IsAnswered h a.answer) acted
 
 module _ {M : Type 0} (np : NamedPolicy) (first : List Entry) (legal : List Entry → Type 0) (now : List Entry → ℕ) (who : Who) where
   -- what the desk gives to a request line
@@ -187,3 +210,4 @@ module _ {M : Type 0} (np : NamedPolicy) (first : List Entry) (legal : List Entr
     pub reads : Reads clock clock' readings
     pub bounded : length taken ≤ most_bytes
     pub cause : EndsBy a b after.draws taken report.outcome
+    pub complete : (birth : ℕ) → IsTimed birth legal now → IsUnhindered a b after.draws taken → IsComplete np after.seen taken acted report.outcome
