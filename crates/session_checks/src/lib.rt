@@ -6,4 +6,6 @@ mod building;
 #[cfg(test)]
 mod decisions;
 #[cfg(test)]
+mod full_table;
+#[cfg(test)]
 mod spent_day;
