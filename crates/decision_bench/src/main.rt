@@ -7,9 +7,9 @@ ghost use Rattle.std.specs.Prelude.{◌≡◌, true};
 ghost use Rattle.hybrid_hierarchy.specs.Nets.{IsHierarchy, AreWithin};
 
 use crate::hierarchies::{Case, Shape, made};
-use decision_reason::decide;
-use gt_base::{Decision, HierEdge, PermId, RoleId, UserId};
-use hybrid_hierarchy::may_activate;
+use decision_reason::{decide, decide_over};
+use gt_base::{Decision, HierEdge, PermId, RoleId, UserId, Walk};
+use hybrid_hierarchy::{Hierarchy, may_activate};
 use std::alloc::{AllocError, Global};
 use std::process::ExitCode;
 use std::{env, io};
@@ -71,7 +71,25 @@ fn answer_of(decision: &Decision) -> Answer {
     }
 }
 
-// Whether the role that is active has the permission.
+fn answer_by(found: Option<Walk>) -> Answer {
+    match found {
+        Some(walk) => Answer::Walk(walk.edges.len()),
+        None => Answer::Nothing,
+    }
+}
+
+// Whether the role that is active has the permission, over the hierarchy that was made once.
+fn decided_over(
+    alloc: Global,
+    hierarchy: &Hierarchy,
+    case: &Case,
+    first: u32,
+) -> Result<Answer, Refused> {
+    let decision = decide_over(alloc, hierarchy, &case.status, &[RoleId(first)], PermId(0))?;
+    Ok(answer_of(&decision))
+}
+
+// The same over the list of edges.
 fn decided(alloc: Global, case: &Case, first: u32) -> Result<Answer, Refused>
     requires { IsHierarchy case.now.edges.items }
 {
@@ -85,24 +103,36 @@ fn decided(alloc: Global, case: &Case, first: u32) -> Result<Answer, Refused>
     Ok(answer_of(&decision))
 }
 
-// Whether the user, who is assigned to the role, may activate the last one.
-fn allowed(alloc: Global, case: &Case, last: u32) -> Result<Answer, Refused>
-    requires { IsHierarchy case.now.edges.items }
-{
-    let found = may_activate(alloc, &case.edges, &case.status, UserId(0), RoleId(last))?;
-    match found {
-        Some(walk) => Ok(Answer::Walk(walk.edges.len())),
-        None => Ok(Answer::Nothing),
-    }
+// Whether the user, who is assigned to the first role, may activate the last one, over the hierarchy that was made once.
+fn allowed_over(alloc: Global, hierarchy: &Hierarchy, case: &Case) -> Result<Answer, Refused> {
+    let found = hierarchy.may_activate(alloc, &case.status, UserId(0), RoleId(case.last))?;
+    Ok(answer_by(found))
 }
 
-fn one(alloc: Global, kind: &[u8], case: &Case) -> Result<Answer, Refused>
+// The same over the list of edges.
+fn allowed(alloc: Global, case: &Case) -> Result<Answer, Refused>
+    requires { IsHierarchy case.now.edges.items }
+{
+    let found = may_activate(
+        alloc,
+        &case.edges,
+        &case.status,
+        UserId(0),
+        RoleId(case.last),
+    )?;
+    Ok(answer_by(found))
+}
+
+fn one(alloc: Global, kind: &[u8], hierarchy: &Hierarchy, case: &Case) -> Result<Answer, Refused>
     requires { IsHierarchy case.now.edges.items }
 {
     match kind {
-        b"decide" => decided(alloc, case, case.first),
-        b"none" => decided(alloc, case, case.last),
-        b"activate" => allowed(alloc, case, case.last),
+        b"decide" => decided_over(alloc, hierarchy, case, case.first),
+        b"none" => decided_over(alloc, hierarchy, case, case.last),
+        b"activate" => allowed_over(alloc, hierarchy, case),
+        b"decide-list" => decided(alloc, case, case.first),
+        b"none-list" => decided(alloc, case, case.last),
+        b"activate-list" => allowed(alloc, case),
         _ => Err(Refused::Usage),
     }
 }
@@ -110,10 +140,11 @@ fn one(alloc: Global, kind: &[u8], case: &Case) -> Result<Answer, Refused>
 fn often(alloc: Global, kind: &[u8], case: &Case, times: u32) -> Result<Answer, Refused>
     requires { IsHierarchy case.now.edges.items }
 {
+    let hierarchy = Hierarchy::new(alloc, &case.edges)?;
     for _ in 1..times {
-        one(alloc, kind, case)?;
+        one(alloc, kind, &hierarchy, case)?;
     }
-    one(alloc, kind, case)
+    one(alloc, kind, &hierarchy, case)
 }
 
 // Does what the words say: the kind of question, the shape of the hierarchy, its number of roles, and how often.

@@ -7,3 +7,4 @@ pub mod Leading
 pub mod Following
 pub mod Tracing
 pub mod Linking
+pub mod Listing

@@ -1,10 +1,11 @@
 -- A search through a hierarchy from its starts outward: what was found so far, and by which walks.
-use Rattle.std.specs.Prelude.{◌≡◌, ℕ, ◌+◌, ◌<◌, ◌≤◌, ◌⊎◌, Bool, true, false, List, [], ◌∷◌, ◌++◌, length, map, Some}
-use Rattle.std.specs.List.{slice_index_or}
+use Rattle.std.specs.Prelude.{◌≡◌, ℕ, ◌+◌, ◌-◌, ◌<◌, ◌≤◌, ◌⊎◌, Bool, true, false, List, [], ◌∷◌, ◌++◌, length, map, filter, Some}
+use Rattle.std.specs.List.{slice_index_or, range_with_len}
 use Rattle.gt_base.specs.declared.events.RoleId.{RoleId}
 use Rattle.gt_base.specs.declared.policies.HierEdge.{HierEdge}
 use Rattle.gtrbac_model.specs.Graph.{LeadsAlong, item_at}
 use Rattle.gtrbac_model.specs.Hierarchy.{role_arcs}
+use Rattle.gtrbac_model.specs.Same.{same_role, lists}
 use Rattle.hybrid_hierarchy.specs.declared.searching.Found.{Found}
 
 -- stands for no edge
@@ -104,3 +105,7 @@ pub record Following (ok : ℕ → HierEdge → Bool) (goal : RoleId → Bool) (
   pub here : item_at walks head ≡ Some stop
   pub link : (n ≡ no_edge) ⊎ ((e : HierEdge) × (item_at es n ≡ Some e) × (e.senior.0 ≡ stop.node))
   pub searched : Searched ok goal es starts (length starts) seen queue walks (head + 1) head n
+
+-- the roles of the list from number low on, ascending and each once
+unfoldable pub listed_from : List RoleId → ℕ → List ℕ
+listed_from roles low = filter (λ n. lists same_role roles (record { 0 = n })) (range_with_len low (1_000 - low))

@@ -1,12 +1,12 @@
 //! Usable edges, and the walks that allow an activation or lend a permission.
-ghost use Rattle.std.specs.Prelude.{◌≡◌, ◌&&◌, [], nat_lt, cond, filter, IfOk};
+ghost use Rattle.std.specs.Prelude.{◌≡◌, ◌+◌, ◌<◌, ◌≤◌, ◌&&◌, [], ◌∷◌, nat_lt, nat_le, cond, filter, IfOk, MatchOption};
 ghost use Rattle.std.specs.List.{range_with_len};
 ghost use Rattle.gt_base.specs.declared.events.Fluent.TheVariants.{Enabled, Assigned, Granted, Edge};
 ghost use Rattle.gt_base.specs.Sets.{has};
 ghost use Rattle.gtrbac_model.specs.Same.{same_role, lists};
 ghost use Rattle.gtrbac_model.specs.Hierarchy.{usable, activation_walk, permission_walk, permission_walk_of_any};
 ghost use Rattle.hybrid_hierarchy.specs.Nets.{IsHierarchy};
-ghost use Rattle.hybrid_hierarchy.specs.Searches.{IsOutgoing};
+ghost use Rattle.hybrid_hierarchy.specs.Searches.{IsOutgoing, listed_from};
 
 use crate::outgoing::{Outgoing, outgoing_of};
 use crate::questions::{Activating, Lending, LendingByAny};
@@ -52,20 +52,43 @@ fn assigned_roles(alloc: Global, status: &Status, user: UserId) -> Result<Vec<u3
         .collect(alloc)
 }
 
-/// Whether the role is among these.
-fn is_listed(roles: &[RoleId], role: RoleId) -> bool
-    ensures { result ≡ lists same_role roles.now role }
-{
-    roles.iter().any(|r| role.0 == r.0)
-}
-
 /// The roles of the list, ascending and each once.
 fn listed_roles(alloc: Global, roles: &[RoleId]) -> Result<Vec<u32>, Memory>
     ensures { IfOk result (λ listed. listed.items ≡ filter (λ r. lists same_role roles.now (record { 0 = r })) (range_with_len 0 1_000)) }
 {
-    (0..ROLES)
-        .filter(|r| is_listed(roles, RoleId(*r)))
-        .collect(alloc)
+    let mut listed = Vec::new(alloc);
+    let mut low = 0;
+    while let Some(role) = next_listed(roles, low) {
+        listed.push(role)?;
+        low = role + 1;
+    }
+    Ok(listed)
+}
+
+/// The least role of the list from `low` on.
+fn next_listed(roles: &[RoleId], low: u32) -> Option<u32>
+    requires { low ≤ 1_000 }
+    ensures { MatchOption result (listed_from roles.now low ≡ []) (λ r. (low ≤ r) × (r < 1_000) × (listed_from roles.now low ≡ r ∷ listed_from roles.now (r + 1))) }
+{
+    let mut next = ROLES;
+    for r in roles {
+        next = nearer(low, next, r);
+    }
+    if next >= ROLES {
+        return None;
+    }
+    Some(next)
+}
+
+/// The role, if it lies between the two, else the upper one.
+fn nearer(low: u32, next: u32, role: &RoleId) -> u32
+    ensures { result ≡ cond (nat_le low role.now.0 && nat_lt role.now.0 next) role.now.0 next }
+{
+    if low <= role.0 && role.0 < next {
+        role.0
+    } else {
+        next
+    }
 }
 
 /// Whether the user is assigned to the role itself.
