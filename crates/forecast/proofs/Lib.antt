@@ -3,3 +3,4 @@ pub mod Existing
 pub mod Answering
 pub mod Stepping
 pub mod Agreeing
+pub mod Unraised

@@ -4,6 +4,7 @@ ghost use Rattle.core_machine.specs.Books.{now_in};
 ghost use Rattle.forecast.specs.Ahead.{HasOneAhead, IsFirstChange};
 ghost use Rattle.forecast.specs.Going.{IsOnWay};
 
+use crate::raised::is_raised;
 use crate::walking::go_on;
 use core_machine::Book;
 use gt_base::{Fluent, Instant, Memory};
@@ -28,6 +29,10 @@ pub fn first_change(book: &Book, f: Fluent, upto: Instant) -> Result<Option<Chan
     // what a book keeps
     let _entries = book.entries();
     let _ground = book.ground();
+    book.policy().keeps();
+    if !is_raised(book, f) {
+        return Ok(None);
+    }
     let mut line = book.timeline().copied()?;
     let mut table = book.sessions().copied()?;
     walk(book, &mut line, &mut table, f, upto)

@@ -3,6 +3,7 @@
 
 mod changes;
 mod laws;
+mod raised;
 mod walking;
 
 pub use changes::{Change, first_change};

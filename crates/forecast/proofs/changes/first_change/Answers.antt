@@ -1,11 +1,15 @@
-use Rattle.std.proofs.Common.{◌≡◌, ℕ, Option, sym, ap, subst, ◌∙◌}
+use Rattle.std.proofs.Common.{◌≡◌, ℕ, ◌≤◌, List, [], Option, refl, sym, ap, subst, ◌∙◌, arith}
 use Rattle.gtrbac_model.specs.Sessions.{Table}
+use Rattle.gtrbac_model.specs.WholePolicy.{IsPolicy}
+use Rattle.history_laws.proofs.Reading.{legal_onward, reaches}
+use Rattle.policy_words.specs.Naming.{NamedPolicy}
 use Rattle.instant_bases.specs.Timelines.{TimelineView}
 use Rattle.session_table.specs.Tables.{NotBefore}
 use Rattle.time_engine.specs.Histories.{Follows}
 use Rattle.core_machine.specs.Books.{HasWaiting, IsTableIn, model_in, now_in}
 use Rattle.forecast.proofs.Agreeing.{begins}
 use Rattle.forecast.proofs.Existing.{ahead_is_one}
+use Rattle.forecast.proofs.Unraised.{unraised_stays}
 use Rattle.forecast.proofs.changes.first_change.Goals as goal
 
 pub returns-in_err-line-clause-one : goal.returns-in_err-line-clause-one
@@ -26,3 +30,13 @@ walk-requires-clause-way c =
 
 pub returns-clause-one : goal.returns-clause-one
 returns-clause-one c = let b = c.args.book.now in ahead_is_one b.named.policy c.ground-ground.ensures.safe b.birth b.entries c.args.upto
+
+pub returns-then-not-is_raised-clause-first : goal.returns-then-not-is_raised-clause-first
+returns-then-not-is_raised-clause-first c =
+    let b = c.args.book.now in
+    unraised_stays b.named.policy c.ground-ground.ensures.safe (subst (λ (g : NamedPolicy). IsPolicy g.policy) c.policy.ensures.value c.keeps.ensures.policy) b.birth b.entries c.args.f c.args.upto
+    (reaches b.birth b.entries (legal_onward b.named.policy b.birth (model_in b) [] b.entries c.entries-entries.ensures.legal.steps)) c.requires
+    (sym c.is_raised.ensures ∙ c.if-not-is_raised.true)
+
+pub returns-then-not-is_raised-clause-one : goal.returns-then-not-is_raised-clause-one
+returns-then-not-is_raised-clause-one c = let b = c.args.book.now in ahead_is_one b.named.policy c.ground-ground.ensures.safe b.birth b.entries c.args.upto
