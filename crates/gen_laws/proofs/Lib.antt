@@ -12,3 +12,7 @@ pub mod ReadPolicy
 pub mod Heard
 pub mod Rounds
 pub mod Script
+pub mod Weights
+pub mod Stirring
+pub mod Counting
+pub mod Short

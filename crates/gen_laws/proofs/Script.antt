@@ -54,7 +54,7 @@ heard_fine np [] (l ∷ ls) h = absurd h
 heard_fine np (t ∷ ts) [] h = absurd h
 
 -- no round goes on more than an hour
-minute_low : (seed k n : ℕ) → minute_after seed k n ≤ 13_681_920 + 60 * n
+pub minute_low : (seed k n : ℕ) → minute_after seed k n ≤ 13_681_920 + 60 * n
 minute_low seed k zero = omega arith
 minute_low seed k (suc n) =
     let before : minute_after seed k n ≤ 13_681_920 + 60 * n = minute_low seed k n in

@@ -1,3 +1,4 @@
 pub mod Made
 pub mod Played
 pub mod Laws
+pub mod Following
