@@ -92,7 +92,7 @@ DecidedAsBefore =
     (edges : List HierEdge) (s : Status) (active : List RoleId) (perm : PermId) → AreLinked s edges
     → decide edges s active perm ≡ former_decision edges s active perm
 
--- where every edge was on, each stays on through the minutes in which no event turns one off
+-- where every edge is on at the birth and no event that turns one off is ever won, every edge is on after each minute
 abbrev pub StayLinked : Type 0
 StayLinked =
     (p : Policy) (birth : ℕ) (m : Model) → AreLinked (status_after p birth m 0) p.edges

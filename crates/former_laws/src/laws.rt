@@ -34,7 +34,7 @@ pub fn walks_as_before()
     ensures decided { DecidedAsBefore }
 {}
 
-/// An edge that is on stays on through each minute in which no event turns it off.
+/// Where every edge is on at the birth and no minute turns one off, every edge is on after each minute.
 pub fn linked_stay_linked()
     ensures { StayLinked }
 {}
