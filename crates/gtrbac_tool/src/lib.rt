@@ -2,9 +2,11 @@
 #![tactic(auto)]
 
 mod commands;
+mod explaining;
 mod script;
 mod starting;
 mod summing;
 mod top;
 
+pub use explaining::explain;
 pub use top::tool;
