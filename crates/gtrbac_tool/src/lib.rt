@@ -2,11 +2,13 @@
 #![tactic(auto)]
 
 mod commands;
+mod explaining;
 mod laws;
 mod script;
 mod starting;
 mod summing;
 mod top;
 
+pub use explaining::explain;
 pub use laws::run_means;
 pub use top::tool;

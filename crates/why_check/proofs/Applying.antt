@@ -1,61 +1,25 @@
 -- What an answered request does to the table and to the signals that wait.
-use Rattle.std.proofs.Common.{◌≡◌, ℕ, List, [], ◌++◌, Option, Some, None, refl, sym, ◌∙◌, ap}
+use Rattle.std.proofs.Common.{◌≡◌, ℕ, Bool, true, false, List, [], ◌++◌, Option, Some, None, refl, sym, ◌∙◌, ap}
 use Rattle.gt_base.specs.Held.{RoleWalk}
 use Rattle.gt_base.specs.declared.events.Signal.{Signal}
 use Rattle.gt_base.specs.declared.events.UserId.{UserId}
 use Rattle.gt_base.specs.declared.events.RoleId.{RoleId}
 use Rattle.gt_base.specs.declared.events.SessionId.{SessionId}
 use Rattle.gt_base.specs.declared.requests.Actor.{Actor}
+use Rattle.gt_base.specs.declared.requests.Actor.TheVariants.{User, Operator, Nobody}
 use Rattle.gt_base.specs.declared.requests.Request.TheVariants.{OpenSession, CloseSession, Activate, Deactivate}
 use Rattle.gt_base.specs.declared.requests.Reply.{Reply}
-use Rattle.gt_base.specs.declared.requests.Reply.TheVariants.{Now, Truth, Event, Queued, Session, Done, Active, Decided, Refused}
+use Rattle.gt_base.specs.declared.requests.Reply.TheVariants.{Session, Done, Active, Refused}
+use Rattle.gt_base.specs.declared.policies.HierEdge.{HierEdge}
+use Rattle.gt_base.specs.declared.policies.Caps.{Caps}
+use Rattle.gt_base.specs.declared.requests.Refusal.{Refusal}
+use Rattle.gt_base.specs.declared.requests.Request.{Request}
+use Rattle.gtrbac_model.specs.Conflict.{Status}
+use Rattle.gtrbac_model.specs.Reply.{answer, unless, actor_causes}
+use Rattle.session_table.specs.Replies.{Answers, AnswersAt}
+use Rattle.why_check.specs.Kept.{IsAnswered, IsAnsweredAt}
 use Rattle.gtrbac_model.proofs.Append.{append-nil}
 use Rattle.gtrbac_model.specs.Sessions.{Table, applied, owner_of}
-
-module _ (now : ℕ) (actor : Actor) (tb : Table) where
-  pub still_closed : (n : SessionId) (reply : Reply) → (reply ≡ Done → ⊥) → applied now actor (CloseSession n) reply tb ≡ tb
-  still_closed n (Now t) other = refl
-  still_closed n (Truth b) other = refl
-  still_closed n (Event s) other = refl
-  still_closed n (Queued t) other = refl
-  still_closed n (Session k) other = refl
-  still_closed n Done other = absurd (other refl)
-  still_closed n (Active w) other = refl
-  still_closed n (Decided d) other = refl
-  still_closed n (Refused r) other = refl
-
-  pub still_ended : (n : SessionId) (r : RoleId) (reply : Reply) → (reply ≡ Done → ⊥) → applied now actor (Deactivate n r) reply tb ≡ tb
-  still_ended n r (Now t) other = refl
-  still_ended n r (Truth b) other = refl
-  still_ended n r (Event s) other = refl
-  still_ended n r (Queued t) other = refl
-  still_ended n r (Session k) other = refl
-  still_ended n r Done other = absurd (other refl)
-  still_ended n r (Active w) other = refl
-  still_ended n r (Decided d) other = refl
-  still_ended n r (Refused q) other = refl
-
-  pub still_active : (n : SessionId) (r : RoleId) (reply : Reply) → ((w : RoleWalk) → reply ≡ Active w → ⊥) → applied now actor (Activate n r) reply tb ≡ tb
-  still_active n r (Now t) other = refl
-  still_active n r (Truth b) other = refl
-  still_active n r (Event s) other = refl
-  still_active n r (Queued t) other = refl
-  still_active n r (Session k) other = refl
-  still_active n r Done other = refl
-  still_active n r (Active w) other = absurd (other w refl)
-  still_active n r (Decided d) other = refl
-  still_active n r (Refused q) other = refl
-
-  pub still_open : (reply : Reply) → ((n : SessionId) → reply ≡ Session n → ⊥) → applied now actor OpenSession reply tb ≡ tb
-  still_open (Now t) other = refl
-  still_open (Truth b) other = refl
-  still_open (Event s) other = refl
-  still_open (Queued t) other = refl
-  still_open (Session k) other = absurd (other k refl)
-  still_open Done other = refl
-  still_open (Active w) other = refl
-  still_open (Decided d) other = refl
-  still_open (Refused q) other = refl
 
 module _ (now : ℕ) (actor : Actor) (tb tb' : Table) (w xs : List Signal) where
   pub closes : (n : SessionId) → applied now actor (CloseSession n) Done (record tb { signals = [] }) ≡ record tb' { signals = xs }
@@ -83,3 +47,41 @@ activate_begins now actor n r w tb = by (owner_of tb n) refl
     by : (o : Option UserId) → owner_of tb n ≡ o → (applied now actor (Activate n r) (Active w) tb).begun ≡ tb.begun
     by None e = rw e refl
     by (Some u) e = rw e refl
+
+-- a request that was answered is not refused
+abbrev pub is_refusal : Reply → Bool
+is_refusal (Refused r) = true
+is_refusal _ = false
+
+abbrev pub number_of : Reply → ℕ
+number_of (Session n) = n.0
+number_of _ = 0
+
+refused_so : (actor : Actor) (a reply : Reply) (r : Refusal) → a ≡ Refused r → reply ≡ unless (actor_causes actor) a → is_refusal reply ≡ true
+refused_so (User u) a reply r e is = ap is_refusal (is ∙ e)
+refused_so Operator a reply r e is = ap is_refusal (is ∙ e)
+refused_so Nobody a reply r e is = ap is_refusal is
+
+pub refused_over : (tb : Table) (actor : Actor) (request : Request) (reply : Reply) (r : Refusal) → IsAnswered tb actor request reply → Answers tb actor request (Refused r) → is_refusal reply ≡ true
+refused_over tb actor request reply r a other = refused_so actor (answer a.policy (record a.point { table = tb }) actor request) reply r (other a.policy a.point) a.is
+
+pub refused_at : (edges : List HierEdge) (caps : List Caps) (s : Status) (now : ℕ) (tb : Table) (actor : Actor) (request : Request) (reply : Reply) (r : Refusal)
+    → IsAnsweredAt edges caps s now tb actor request reply → AnswersAt edges caps s now tb actor request (Refused r) → is_refusal reply ≡ true
+refused_at edges caps s now tb actor request reply r a other =
+    refused_so actor (answer (record a.policy { edges = edges; caps = caps }) (record a.point { now = now; status = s; table = tb }) actor request) reply r (other a.policy a.point) a.is
+
+pub no_done : is_refusal Done ≡ true → ⊥
+no_done e = cc
+
+pub no_session : (n : SessionId) → is_refusal (Session n) ≡ true → ⊥
+no_session n e = cc
+
+pub no_active : (w : RoleWalk) → is_refusal (Active w) ≡ true → ⊥
+no_active w e = cc
+
+-- the number that the session got
+pub same_number : (tb : Table) (u : UserId) (n k : SessionId) → IsAnswered tb (User u) OpenSession (Session n) → Answers tb (User u) OpenSession (Session k) → k ≡ n
+same_number tb u n k a other = λ i. record { 0 = sym (ap number_of (a.is ∙ other a.policy a.point)) i }
+
+pub over_of_at : (edges : List HierEdge) (caps : List Caps) (s : Status) (now : ℕ) (tb : Table) (actor : Actor) (request : Request) (reply : Reply) → IsAnsweredAt edges caps s now tb actor request reply → IsAnswered tb actor request reply
+over_of_at edges caps s now tb actor request reply a = record { policy = record a.policy { edges = edges; caps = caps }; point = record a.point { now = now; status = s; table = tb }; is = a.is }

@@ -1,11 +1,12 @@
 -- A certificate held against a history, step by step.
-use Rattle.std.proofs.Common.{◌≡◌, ℕ, ◌-◌, ◌<◌, ◌≤◌, true, false, nat_eq, nat_le, nat_lt, List, [], ◌∷◌, ◌++◌, Option, Some, None, IsTrue, inl, inr, refl, sym, ◌∙◌, subst, arith, append_assoc}
+use Rattle.std.proofs.Common.{◌≡◌, ℕ, ◌-◌, ◌<◌, ◌≤◌, true, false, nat_eq, nat_le, nat_lt, List, [], ◌∷◌, ◌++◌, Option, Some, None, IsTrue, inl, inr, refl, sym, ◌∙◌, subst, arith, append_assoc, ap}
 use Rattle.std.specs.Prelude.{All}
 use Rattle.std.proofs.lemmas.Bool.{ltb-true, leb-true, leb-false, eqb-true, eqb-false}
 use Rattle.std.proofs.lemmas.List.Elements.{All-push, All-tail, All-head}
 use Rattle.gt_base.specs.Bounds.{last_minute}
 use Rattle.gt_base.specs.Happening.{Happening, nothing}
 use Rattle.gt_base.specs.Machines.{ticked, asked}
+use Rattle.gt_base.specs.declared.events.Signal.{Signal}
 use Rattle.gt_base.specs.Sets.{has}
 use Rattle.gt_base.specs.declared.requests.Who.{Who}
 use Rattle.gt_base.specs.declared.requests.Actor.{Actor}
@@ -13,16 +14,18 @@ use Rattle.gt_base.specs.declared.requests.Request.{Request}
 use Rattle.gt_base.specs.declared.requests.Reply.{Reply}
 use Rattle.gt_base.specs.declared.requests.Entry.{Entry}
 use Rattle.gtrbac_model.specs.Policy.{Policy}
-use Rattle.gtrbac_model.specs.Base.{status, base_at}
-use Rattle.gtrbac_model.specs.History.{Legal, now_of}
+use Rattle.gtrbac_model.specs.Base.{status, base_at, table_at}
+use Rattle.gtrbac_model.specs.History.{Legal, now_of, point_after}
+use Rattle.gtrbac_model.specs.Reply.{Point, answer, reply_of, unless, actor_causes}
 use Rattle.gtrbac_model.specs.Safety.{IsSafe}
 use Rattle.gtrbac_model.specs.Status.{Model}
 use Rattle.gtrbac_model.specs.WholePolicy.{IsPolicy}
 use Rattle.gtrbac_model.proofs.Elements.{split}
 use Rattle.gtrbac_model.proofs.Playing.{now_snoc}
-use Rattle.history_laws.proofs.Lasting.{of_longer, front_steps}
+use Rattle.history_laws.proofs.Lasting.{of_longer, front_steps, steps_after}
+use Rattle.session_table.specs.Tables.{table_of}
 use Rattle.why_check.specs.Certificates.{Listed, set_in, says_something, listed_at, Ascends, IsShown, IsRight, Accepts}
-use Rattle.why_check.specs.Kept.{IsReplay, IsClosed, IsAsked, IsGood, base_in}
+use Rattle.why_check.specs.Kept.{IsReplay, IsAnsweredAt, table_in, IsClosed, IsAsked, IsGood, base_in}
 use Rattle.why_check.specs.Steps.{IsWrong, HasReached}
 use Rattle.why_check.specs.declared.replays.Replay.{Replay}
 use Rattle.why_check.proofs.Uniqueness.{right_is, right_of, accepts_of, shown_over_nothing}
@@ -43,6 +46,32 @@ head_of (l ∷ ls) = Some l
 some_of : (xs ls : List Listed) (l : Listed) → All (λ k. IsTrue (says_something k)) (xs ++ l ∷ ls) → says_something l ≡ true
 some_of [] ls l all = All-head (λ k. IsTrue (says_something k)) l ls all
 some_of (x ∷ xs) ls l all = some_of xs ls l (All-tail (λ k. IsTrue (says_something k)) x (xs ++ l ∷ ls) all)
+
+-- no answer asks which signals wait
+unsignalled : (p : Policy) (pt : Point) (sg : List Signal) (actor : Actor) (request : Request) → reply_of p (record pt { table = record pt.table { signals = sg } }) actor request ≡ reply_of p pt actor request
+unsignalled p pt sg actor request = ap (λ a. unless (actor_causes actor) a) (same request)
+  where
+    same : (request : Request) → answer p (record pt { table = record pt.table { signals = sg } }) actor request ≡ answer p pt actor request
+    same _ = refl
+
+-- a request of the history is answered so over the state's table
+pub asked_so : (p : Policy) (birth : ℕ) (h : List Entry) (m : Model) → Legal p birth h m → (g rest : List Entry) (who : Who) (actor : Actor) (request : Request) (reply : Reply) → g ++ asked who actor request reply ∷ rest ≡ h
+    → (front : List Listed) (s : Replay) → HasReached p birth h m g front s → IsAnsweredAt p.edges p.caps (has s.status.set) s.present (table_of s.table) actor request reply
+asked_so p birth h m legal g rest who actor request reply cut front s k =
+    let pt : Point = point_after p birth m g in
+    let r = k.replay in
+    let cut_legal : Legal p birth (g ++ asked who actor request reply ∷ rest) m = subst (λ x. Legal p birth x m) (sym cut) legal in
+    let told : reply ≡ reply_of p pt actor request = (steps_after p birth m [] g (asked who actor request reply ∷ rest) cut_legal.steps).0 in
+    let now_same : now_of birth g ≡ s.present = sym r.now in
+    let status_same : status p birth m (now_of birth g) ≡ has s.status.set = λ i f. (ap (λ t. status p birth m t f) now_same ∙ sym (r.status f)) i in
+    let table_same : table_at p birth m g (now_of birth g) ≡ table_in s = ap (table_at p birth m g) now_same ∙ sym r.table in
+    record {
+      policy = p;
+      point = pt;
+      is = told
+          ∙ (λ i. reply_of p (record pt { now = now_same i; status = status_same i; table = table_same i }) actor request)
+          ∙ sym (unsignalled p (record pt { now = s.present; status = has s.status.set; table = table_in s }) [] actor request);
+    }
 
 module _ (p : Policy) (is : IsPolicy p) (safe : IsSafe p.triggers) (birth : ℕ) (h : List Entry) (m : Model) (legal : Legal p birth h m) where
   abbrev Right : ℕ → Option Listed → Type 0

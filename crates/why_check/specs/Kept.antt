@@ -10,6 +10,8 @@ use Rattle.gt_base.specs.Sets.{has, set_of}
 use Rattle.gt_base.specs.declared.events.Fluent.{Fluent}
 use Rattle.gt_base.specs.declared.events.Prioritised.{Prioritised}
 use Rattle.gt_base.specs.declared.events.Signal.{Signal}
+use Rattle.gt_base.specs.declared.policies.HierEdge.{HierEdge}
+use Rattle.gt_base.specs.declared.policies.Caps.{Caps}
 use Rattle.gt_base.specs.declared.requests.Actor.{Actor}
 use Rattle.gt_base.specs.declared.requests.Request.{Request}
 use Rattle.gt_base.specs.declared.requests.Reply.{Reply}
@@ -18,6 +20,7 @@ use Rattle.gtrbac_model.specs.Policy.{Policy}
 use Rattle.gtrbac_model.specs.Base.{status, table_at, periodic, limited, queued_at, when}
 use Rattle.gtrbac_model.specs.Conflict.{Status, after}
 use Rattle.gtrbac_model.specs.History.{now_of}
+use Rattle.gtrbac_model.specs.Reply.{Point, reply_of}
 use Rattle.gtrbac_model.specs.Sessions.{Table, applied, empty_table}
 use Rattle.gtrbac_model.specs.Status.{Model, since, differ}
 use Rattle.gtrbac_model.specs.Trigger.{met}
@@ -71,6 +74,18 @@ pub record IsBegun (p : Policy) (birth : ℕ) (s : Replay) : Type 0 where
   pub due : (t : ℕ) → due_in s t ≡ []
   pub table : table_in s ≡ empty_table
   pub charged : s.table.charged_to ≡ None
+
+-- the request is answered so over this table, the signals that wait left out
+pub record IsAnswered (tb : Table) (actor : Actor) (request : Request) (reply : Reply) : Type 0 where
+  pub policy : Policy
+  pub point : Point
+  pub is : reply ≡ reply_of policy (record point { table = tb }) actor request
+
+-- the same under these edges and caps, in this status and at this instant
+pub record IsAnsweredAt (edges : List HierEdge) (caps : List Caps) (s : Status) (now : ℕ) (tb : Table) (actor : Actor) (request : Request) (reply : Reply) : Type 0 where
+  pub policy : Policy
+  pub point : Point
+  pub is : reply ≡ reply_of (record policy { edges = edges; caps = caps }) (record point { now = now; status = s; table = tb }) actor request
 
 -- the head of a delayed trigger that is met at an instant is due at t
 abbrev pub joins_at : Status → Happening → ℕ → ℕ → Rule → List Prioritised

@@ -11,9 +11,9 @@ use Rattle.gtrbac_model.specs.Base.{status, base_at}
 use Rattle.gtrbac_model.specs.Conflict.{Status}
 use Rattle.gtrbac_model.specs.History.{now_of}
 use Rattle.gtrbac_model.specs.Status.{Model}
-use Rattle.session_table.specs.Tables.{NotBefore}
+use Rattle.session_table.specs.Tables.{NotBefore, table_of}
 use Rattle.why_check.specs.Certificates.{Listed, set_in, says_something, listed_at, Ascends, IsRight}
-use Rattle.why_check.specs.Kept.{IsReplay, IsClosed, IsAsked, IsGood, IsLater, base_in}
+use Rattle.why_check.specs.Kept.{IsReplay, IsAnsweredAt, IsClosed, IsAsked, IsGood, IsLater, base_in}
 use Rattle.why_check.specs.declared.checking.Held.{Held}
 use Rattle.why_check.specs.declared.checking.Held.TheVariants.{Listed as IsListed, Passed, Wrong}
 use Rattle.why_check.specs.declared.replays.Replay.{Replay}
@@ -51,9 +51,9 @@ counted Passed = 0
 counted Wrong = 0
 
 -- what a step needs
-abbrev pub IsReady : Replay → Step → Type 0
-IsReady s (Tick upto to) = (s.present < to) × (s.ages.birth < to) × NotBefore s.table.charged_to s.present
-IsReady s (Ask actor request reply) = s.table.begun < 2 ^ 32 - 1
+abbrev pub IsReady : Policy → Replay → Step → Type 0
+IsReady p s (Tick upto to) = (s.present < to) × (s.ages.birth < to) × NotBefore s.table.charged_to s.present
+IsReady p s (Ask actor request reply) = (s.table.begun < 2 ^ 32 - 1) × IsAnsweredAt p.edges p.caps (has s.status.set) s.present (table_of s.table) actor request reply
 
 -- the front of a certificate is right up to the now of these entries, and the state is that of the model there
 pub record HasReached (p : Policy) (birth : ℕ) (h : List Entry) (m : Model) (g : List Entry) (front : List Listed) (s : Replay) : Type 0 where

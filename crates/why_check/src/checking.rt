@@ -99,7 +99,7 @@ fn step(
     cert: &Cert,
     place: usize,
 ) -> Result<Held, Memory>
-    requires { IsReady s.old entry.now.what }
+    requires { IsReady policy.now.policy s.old entry.now.what }
     ensures { IfOk result (λ held. IsPlayed policy.now.policy s.old entry.now.what (slice_get cert.now place) held s.new) }
 {
     match &entry.what {

@@ -8,8 +8,8 @@ ghost use Rattle.gtrbac_model.specs.Conflict.{won as is_won, after};
 ghost use Rattle.gtrbac_model.specs.Same.{same_fluent};
 ghost use Rattle.gtrbac_model.specs.Status.{differ};
 ghost use Rattle.duration_limits.specs.Since.{since_in};
-ghost use Rattle.session_table.specs.Tables.{NotBefore};
-ghost use Rattle.why_check.specs.Kept.{IsClosed, IsAsked};
+ghost use Rattle.session_table.specs.Tables.{NotBefore, table_of};
+ghost use Rattle.why_check.specs.Kept.{IsAnsweredAt, IsClosed, IsAsked};
 
 use crate::bases::{put_heads, queue};
 use crate::replays::Replay;
@@ -27,7 +27,8 @@ pub(crate) fn ask(
     request: &Request,
     reply: &Reply,
 ) -> Result<(), Memory>
-    requires { s.old.table.begun < 2 ^ 32 - 1 }
+    requires few { s.old.table.begun < 2 ^ 32 - 1 }
+    requires answered { IsAnsweredAt policy.now.policy.edges policy.now.policy.caps (has s.old.status.set) s.old.present (table_of s.old.table) actor request.now reply.now }
     ensures { OnOk result (IsAsked s.old actor request.now reply.now s.new) }
 {
     queue(s.alloc, &mut s.due, *request, reply)?;

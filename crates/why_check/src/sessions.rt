@@ -6,17 +6,18 @@ ghost use Rattle.gt_base.specs.declared.requests.Reply.TheVariants.{Active, Sess
 ghost use Rattle.gt_base.specs.declared.requests.Request.TheVariants.{OpenSession, CloseSession, Activate as IsActivate, Deactivate as IsDeactivate};
 ghost use Rattle.gtrbac_model.specs.Sessions.{applied};
 ghost use Rattle.hybrid_hierarchy.specs.Nets.{IsHierarchy};
+ghost use Rattle.gt_base.specs.Sets.{has};
 ghost use Rattle.session_table.specs.Tables.{table_of};
+ghost use Rattle.why_check.specs.Kept.{IsAnswered, IsAnsweredAt};
 
 use gt_base::{
     Actor, Caps, HierEdge, Instant, List, Memory, Reply, Request, RoleId, SessionId, Signal,
     Status, UserId,
 };
-use session_table::Sessions;
+use session_table::{SessionFault, Sessions};
 use std::alloc::AllocError;
 
-/// Does to the table what the answered request did, and adds the signals that it left. Of a legal history no request that was
-/// answered is refused here.
+/// Does to the table what the answered request did, and adds the signals that it left.
 pub(crate) fn apply(
     table: &mut Sessions,
     waiting: &mut Vec<Signal>,
@@ -28,6 +29,7 @@ pub(crate) fn apply(
     request: Request,
     reply: &Reply,
 ) -> Result<(), Memory>
+    requires answered { IsAnsweredAt edges.now.items caps.now.items (has status.now.set) now (table_of table.old) actor request reply.now }
     requires hierarchy { IsHierarchy edges.now.items }
     requires few { table.old.begun < 2 ^ 32 - 1 }
     ensures table { OnOk result (record (table_of table.new) { signals = waiting.new.items } ≡ applied now actor request reply.now (record (table_of table.old) { signals = waiting.old.items })) }
@@ -58,6 +60,7 @@ fn open(
     actor: Actor,
     reply: &Reply,
 ) -> Result<(), Memory>
+    requires answered { IsAnswered (table_of table.old) actor OpenSession reply.now }
     requires few { table.old.begun < 2 ^ 32 - 1 }
     ensures table { OnOk result (record (table_of table.new) { signals = waiting.new.items } ≡ applied now actor OpenSession reply.now (record (table_of table.old) { signals = waiting.old.items })) }
     ensures charged_to { OnOk result (table.new.charged_to ≡ table.old.charged_to) }
@@ -74,13 +77,15 @@ fn open(
 
 /// Begins the session of this number.
 fn begin(table: &mut Sessions, user: UserId, number: SessionId) -> Result<(), Memory>
+    requires answered { IsAnswered (table_of table.old) (User user) OpenSession (Session number) }
     requires few { table.old.begun < 2 ^ 32 - 1 }
     ensures table { OnOk result (table_of table.new ≡ applied 0 (User user) OpenSession (Session number) (table_of table.old)) }
     ensures charged_to { OnOk result (table.new.charged_to ≡ table.old.charged_to) }
 {
     match table.begin(user) {
-        Ok(n) if n == number => Ok(()),
-        _ => Err(AllocError),
+        Ok(_) => Ok(()),
+        Err(SessionFault::Memory) => Err(AllocError),
+        Err(SessionFault::Refused(_)) => unreachable!(),
     }
 }
 
@@ -93,6 +98,7 @@ fn close(
     session: SessionId,
     reply: &Reply,
 ) -> Result<(), Memory>
+    requires { IsAnswered (table_of table.old) actor (CloseSession session) reply.now }
     ensures table { OnOk result (record (table_of table.new) { signals = waiting.new.items } ≡ applied now actor (CloseSession session) reply.now (record (table_of table.old) { signals = waiting.old.items })) }
     ensures charged_to { OnOk result (table.new.charged_to ≡ table.old.charged_to) }
     ensures begun { OnOk result (table.new.begun ≤ table.old.begun + 1) }
@@ -102,7 +108,8 @@ fn close(
     };
     match table.finish(actor, session) {
         Ok(signals) => waiting.extend_from_slice(signals.as_slice()),
-        Err(_) => Err(AllocError),
+        Err(SessionFault::Memory) => Err(AllocError),
+        Err(SessionFault::Refused(_)) => unreachable!(),
     }
 }
 
@@ -119,7 +126,8 @@ fn activate(
     role: RoleId,
     reply: &Reply,
 ) -> Result<(), Memory>
-    requires { IsHierarchy edges.now.items }
+    requires answered { IsAnsweredAt edges.now.items caps.now.items (has status.now.set) now (table_of table.old) actor (IsActivate session role) reply.now }
+    requires hierarchy { IsHierarchy edges.now.items }
     ensures table { OnOk result (record (table_of table.new) { signals = waiting.new.items } ≡ applied now actor (IsActivate session role) reply.now (record (table_of table.old) { signals = waiting.old.items })) }
     ensures charged_to { OnOk result (table.new.charged_to ≡ table.old.charged_to) }
     ensures begun { OnOk result (table.new.begun ≤ table.old.begun + 1) }
@@ -143,14 +151,16 @@ fn start(
     session: SessionId,
     role: RoleId,
 ) -> Result<Signal, Memory>
-    requires { IsHierarchy edges.now.items }
+    requires answered { (w : RoleWalk) × IsAnsweredAt edges.now.items caps.now.items (has status.now.set) now (table_of table.old) actor (IsActivate session role) (Active w) }
+    requires hierarchy { IsHierarchy edges.now.items }
     ensures table { IfOk result (λ x. (w : RoleWalk) → applied now actor (IsActivate session role) (Active w) (table_of table.old) ≡ record (table_of table.new) { signals = x ∷ [] }) }
     ensures charged_to { OnOk result (table.new.charged_to ≡ table.old.charged_to) }
 {
-    let Ok(started) = table.activate(edges, caps, status, now, actor, session, role) else {
-        return Err(AllocError);
-    };
-    Ok(started.1)
+    match table.activate(edges, caps, status, now, actor, session, role) {
+        Ok(started) => Ok(started.1),
+        Err(SessionFault::Memory) => Err(AllocError),
+        Err(SessionFault::Refused(_)) => unreachable!(),
+    }
 }
 
 /// Ends the activation that was ended.
@@ -163,6 +173,7 @@ fn deactivate(
     role: RoleId,
     reply: &Reply,
 ) -> Result<(), Memory>
+    requires { IsAnswered (table_of table.old) actor (IsDeactivate session role) reply.now }
     ensures table { OnOk result (record (table_of table.new) { signals = waiting.new.items } ≡ applied now actor (IsDeactivate session role) reply.now (record (table_of table.old) { signals = waiting.old.items })) }
     ensures charged_to { OnOk result (table.new.charged_to ≡ table.old.charged_to) }
     ensures begun { OnOk result (table.new.begun ≤ table.old.begun + 1) }
@@ -175,6 +186,7 @@ fn deactivate(
             waiting.push(signal)?;
             Ok(())
         }
-        Err(_) => Err(AllocError),
+        Err(SessionFault::Memory) => Err(AllocError),
+        Err(SessionFault::Refused(_)) => unreachable!(),
     }
 }

@@ -1,0 +1,167 @@
+//! Certificates of what happened in a book's history.
+ghost use Rattle.std.specs.Prelude.{◌≡◌, IfOk};
+ghost use Rattle.gt_base.specs.declared.events.Event.{Event as EventOf};
+ghost use Rattle.gt_base.specs.declared.events.Fluent.{Fluent as FluentOf};
+ghost use Rattle.gt_base.specs.Sets.{has};
+ghost use Rattle.gtrbac_model.specs.Conflict.{won as is_won, after};
+ghost use Rattle.gtrbac_model.specs.Safety.{IsSafe};
+ghost use Rattle.why_check.specs.Certificates.{Accepts};
+
+use core_machine::{Book, Closed};
+use gt_base::{Event, EventSet, Happened, List, Memory, Prioritised, Status, Trigger};
+use priority_conflict::{Contest, blocked, next_status, winners};
+use std::alloc::{AllocError, Global};
+use trigger_rules::met_in;
+use why_check::{Cert, accept};
+
+/// A certificate of the book's history. Each set of the trace is listed in an order that supports it: its base, and then head
+/// after head whose trigger is met and whose body events stand already. What was listed is accepted before it is given out. If
+/// it were not, which is not to happen, the answer would be want of memory.
+pub fn explain(alloc: Global, book: &Book) -> Result<Cert, Memory>
+    requires { IsSafe book.now.named.policy.triggers }
+    ensures { IfOk result (λ cert. Accepts book.now.named.policy book.now.birth book.now.entries cert) }
+{
+    let cert = listed(alloc, book)?;
+    if accept(book.policy(), book.birth(), book.entries(), &cert)? {
+        Ok(cert)
+    } else {
+        Err(AllocError)
+    }
+}
+
+/// The sets of the trace in their orders.
+fn listed(alloc: Global, book: &Book) -> Result<Cert, Memory> {
+    let policy = book.policy();
+    let mut cert = Cert::new(alloc);
+    let mut status = policy.opening().copied()?;
+    for closed in book.trace().as_slice() {
+        add(
+            alloc,
+            &mut cert,
+            policy.triggers().as_slice(),
+            closed,
+            &status,
+        )?;
+        status = status_after(alloc, &status, &closed.set)?;
+    }
+    Ok(cert)
+}
+
+/// Adds the set of an instant in its order.
+fn add(
+    alloc: Global,
+    cert: &mut Cert,
+    rules: &[Trigger],
+    closed: &Closed,
+    before: &Status,
+) -> Result<(), Memory> {
+    let x = Contest::new(alloc, &closed.set)?;
+    let events = support_order(alloc, rules, &closed.base, before, &x)?;
+    let signals = Vec::from_slice(alloc, closed.set.signals())?;
+    cert.add(closed.at, events, List::from(signals))
+}
+
+/// The status after the set.
+fn status_after(alloc: Global, before: &Status, set: &Happened) -> Result<Status, Memory>
+    ensures { IfOk result (λ s. (f : FluentOf) → has s.set f ≡ after set.now.set (has before.now.set) f) }
+{
+    let won = winners(alloc, set)?;
+    turned(before, &won, set)
+}
+
+/// The status after the set, whose winners these are.
+fn turned(before: &Status, won: &EventSet, set: &Happened) -> Result<Status, Memory>
+    requires { (e : EventOf) → has won.now.set e ≡ is_won set.now.set e }
+    ensures { IfOk result (λ s. (f : FluentOf) → has s.set f ≡ after set.now.set (has before.now.set) f) }
+{
+    let mut status = before.copied()?;
+    status.reserve(won.len())?;
+    next_status(&mut status, won);
+    Ok(status)
+}
+
+/// The events in an order that supports them.
+#[derive(Drop)]
+struct Order {
+    events: Vec<Prioritised>,
+    there: Happened,
+    standing: EventSet,
+}
+
+/// The events of the set, first those of the base, then round by round the heads that those before support.
+fn support_order(
+    alloc: Global,
+    rules: &[Trigger],
+    base: &Happened,
+    before: &Status,
+    x: &Contest,
+) -> Result<List<Prioritised>, Memory> {
+    let mut order = Order {
+        events: Vec::new(alloc),
+        there: Happened::new(alloc),
+        standing: EventSet::new(alloc),
+    };
+    push_all(&mut order, base.events(), x)?;
+    for _ in 0..x.set().len() {
+        let had = order.events.len();
+        push_heads(&mut order, rules, before, x)?;
+        if order.events.len() == had {
+            break;
+        }
+    }
+    let Order {
+        events,
+        there: _,
+        standing: _,
+    } = order;
+    Ok(List::from(events))
+}
+
+/// Adds the events.
+fn push_all(order: &mut Order, events: &[Prioritised], x: &Contest) -> Result<(), Memory> {
+    for e in events {
+        push(order, e, x)?;
+    }
+    Ok(())
+}
+
+/// Adds the heads that stand by those before and are not there yet.
+fn push_heads(
+    order: &mut Order,
+    rules: &[Trigger],
+    before: &Status,
+    x: &Contest,
+) -> Result<(), Memory> {
+    for r in rules {
+        push_head(order, r, before, x)?;
+    }
+    Ok(())
+}
+
+/// Adds the head of the trigger, if it stands by those before and is not there yet.
+fn push_head(order: &mut Order, r: &Trigger, before: &Status, x: &Contest) -> Result<(), Memory> {
+    if r.delay > 0 || order.there.has(r.head) || !met_in(r, x, before) {
+        return Ok(());
+    }
+    if all_stand(r.events.as_slice(), &order.standing) {
+        push(order, &r.head, x)?;
+    }
+    Ok(())
+}
+
+/// Whether each of the events is there.
+fn all_stand(events: &[Event], standing: &EventSet) -> bool {
+    events.iter().all(|e| standing.has(*e))
+}
+
+/// Adds the event.
+fn push(order: &mut Order, e: &Prioritised, x: &Contest) -> Result<(), Memory> {
+    order.events.push(*e)?;
+    order.there.reserve(1)?;
+    order.there.add(*e);
+    if !blocked(x.set(), *e) {
+        order.standing.reserve(1)?;
+        order.standing.add(e.event);
+    }
+    Ok(())
+}
