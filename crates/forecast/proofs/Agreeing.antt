@@ -1,5 +1,5 @@
 -- What a walk ahead has found is what lies ahead.
-use Rattle.std.proofs.Common.{◌≡◌, ◌≢◌, ℕ, ◌+◌, ◌-◌, ◌<◌, ◌≤◌, Bool, true, false, nat_lt, List, [], ◌∷◌, ◌++◌, Option, Some, None, refl, sym, ◌∙◌, ap, subst, arith}
+use Rattle.std.proofs.Common.{◌≡◌, ◌≢◌, ℕ, ◌+◌, ◌-◌, ◌<◌, ◌≤◌, Bool, nat_lt, List, [], Option, Some, None, refl, sym, ◌∙◌, ap, subst, arith}
 use Rattle.std.proofs.lemmas.Bool.{ltb-true, ltb-false}
 use Rattle.gt_base.specs.Happening.{Happening}
 use Rattle.gt_base.specs.Machines.{ticked}
@@ -7,8 +7,8 @@ use Rattle.gt_base.specs.Sets.{has}
 use Rattle.gt_base.specs.declared.events.Fluent.{Fluent}
 use Rattle.gt_base.specs.declared.requests.Entry.{Entry}
 use Rattle.gtrbac_model.specs.Policy.{Policy}
-use Rattle.gtrbac_model.specs.Base.{status, base_at, table_at}
-use Rattle.gtrbac_model.specs.History.{Legal, IsExecutionModel, now_of}
+use Rattle.gtrbac_model.specs.Base.{status, table_at}
+use Rattle.gtrbac_model.specs.History.{Legal, now_of}
 use Rattle.gtrbac_model.specs.Instant.{Settled}
 use Rattle.gtrbac_model.specs.Safety.{IsSafe}
 use Rattle.gtrbac_model.specs.Sessions.{Table}

@@ -1,16 +1,14 @@
 -- A fluent has just one first change in what lies ahead.
-use Rattle.std.proofs.Common.{◌≡◌, ◌≢◌, ℕ, ◌-◌, ◌<◌, ◌≤◌, Bool, true, false, nat_lt, List, [], ◌∷◌, ◌++◌, Option, Some, None, refl, sym, ◌∙◌, ap, subst, arith}
+use Rattle.std.proofs.Common.{◌≡◌, ℕ, ◌<◌, ◌≤◌, nat_lt, Option, Some, None, refl, sym, ◌∙◌, ap, arith}
 use Rattle.std.proofs.lemmas.Bool.{ltb-true, ltb-false}
 use Rattle.gt_base.specs.declared.events.Fluent.{Fluent}
-use Rattle.gt_base.specs.declared.requests.Entry.{Entry}
 use Rattle.gtrbac_model.specs.Policy.{Policy}
-use Rattle.gtrbac_model.specs.Safety.{IsSafe}
 use Rattle.gtrbac_model.specs.Status.{Model, status_at}
 use Rattle.gtrbac_model.specs.History.{now_of}
 use Rattle.gtrbac_model.specs.Theorems.{SameUpTo}
 use Rattle.gtrbac_model.proofs.Elements.{split}
 use Rattle.gtrbac_model.proofs.OneModel.{status_same}
-use Rattle.forecast.specs.Ahead.{HasOneAhead, IsChange, Stays, IsFirstIn, IsFirstChange, ChangeIsOne}
+use Rattle.forecast.specs.Ahead.{HasOneAhead, IsChange, Stays, IsFirstIn, ChangeIsOne}
 use Rattle.forecast.specs.declared.changes.Change.{Change}
 use Rattle.forecast.proofs.Existing.{ahead_is_one}
 

@@ -1,5 +1,5 @@
 -- Each list of entries has an execution model, where the policy is safe, and no other.
-use Rattle.std.proofs.Common.{◌≡◌, ℕ, zero, suc, ◌+◌, ◌-◌, ◌<◌, ◌≤◌, Bool, true, false, nat_eq, nat_le, List, [], ◌∷◌, ◌++◌, refl, sym, ◌∙◌, ap, subst, arith}
+use Rattle.std.proofs.Common.{◌≡◌, ℕ, zero, suc, ◌+◌, ◌-◌, ◌<◌, ◌≤◌, true, false, nat_eq, nat_le, List, sym, subst, arith}
 use Rattle.std.proofs.lemmas.Bool.{leb-true, leb-false, ne_eqb, eq-eqb}
 use Rattle.gt_base.specs.Happening.{Happening, nothing}
 use Rattle.gt_base.specs.Machines.{ticked}
@@ -7,7 +7,7 @@ use Rattle.gt_base.specs.declared.events.Event.{Event}
 use Rattle.gt_base.specs.declared.requests.Entry.{Entry}
 use Rattle.gtrbac_model.specs.Policy.{Policy}
 use Rattle.gtrbac_model.specs.Instant.{Settled}
-use Rattle.gtrbac_model.specs.Safety.{IsSafe, are_levels}
+use Rattle.gtrbac_model.specs.Safety.{are_levels}
 use Rattle.gtrbac_model.specs.Status.{Model}
 use Rattle.gtrbac_model.specs.Base.{status, base_at}
 use Rattle.gtrbac_model.specs.History.{IsExecutionModel, now_of}
@@ -17,7 +17,7 @@ use Rattle.gtrbac_model.proofs.Levels.{by_trigger}
 use Rattle.gtrbac_model.proofs.OneModel.{Agree, status_same, base_same, only_model}
 use Rattle.gtrbac_model.proofs.Playing.{now_snoc}
 use Rattle.walk_laws.proofs.Climbing.{safe_is_levelled}
-use Rattle.forecast.specs.Ahead.{to_horizon, nobody_asks, HasOneAhead, AheadIsOne}
+use Rattle.forecast.specs.Ahead.{to_horizon, nobody_asks, AheadIsOne}
 
 module _ (p : Policy) (birth : ℕ) (h : List Entry) (level : Event → ℕ) (levelled : are_levels p.triggers level ≡ true) where
   -- the sets of the first k minutes are settled over the bases

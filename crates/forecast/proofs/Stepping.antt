@@ -1,5 +1,5 @@
 -- A step of a walk ahead.
-use Rattle.std.proofs.Common.{◌≡◌, ℕ, suc, ◌+◌, ◌-◌, ◌<◌, ◌≤◌, Bool, true, false, not, ◌||◌, List, [], ◌∷◌, ◌++◌, Option, Some, None, is_some, is_none, inl, inr, refl, sym, ◌∙◌, ap, subst, arith}
+use Rattle.std.proofs.Common.{◌≡◌, ℕ, suc, ◌+◌, ◌-◌, ◌<◌, ◌≤◌, Bool, true, false, not, ◌||◌, List, [], ◌∷◌, ◌++◌, Option, Some, is_some, is_none, inl, inr, refl, sym, ◌∙◌, ap, subst, arith}
 use Rattle.std.specs.List.{list_any}
 use Rattle.std.specs.Ordering.{eq_by_cmp}
 use Rattle.gt_base.specs.Bounds.{last_minute}
@@ -11,7 +11,7 @@ use Rattle.gt_base.specs.declared.events.Signal.{Signal}
 use Rattle.gt_base.specs.declared.requests.Entry.{Entry}
 use Rattle.gt_base.proofs.SetLaws.{has-none}
 use Rattle.gtrbac_model.specs.Policy.{Policy}
-use Rattle.gtrbac_model.specs.Base.{status, base_at, drops_at, table_at}
+use Rattle.gtrbac_model.specs.Base.{status, drops_at, table_at}
 use Rattle.gtrbac_model.specs.Calendar.{day_of}
 use Rattle.gtrbac_model.specs.Conflict.{Status}
 use Rattle.gtrbac_model.specs.Graph.{item_at}
@@ -29,7 +29,7 @@ use Rattle.history_laws.specs.Ticking.{with_set}
 use Rattle.history_laws.proofs.Continuing.{tables_go_on}
 use Rattle.history_laws.proofs.InOrder.{active_in_order}
 use Rattle.history_laws.proofs.OnItsWay.{stretch_stays}
-use Rattle.history_laws.proofs.Reading.{Onward, legal_onward, reaches}
+use Rattle.history_laws.proofs.Reading.{Onward, legal_onward}
 use Rattle.instant_bases.specs.Timelines.{TimelineView, Signals, stirs_in}
 use Rattle.session_table.specs.NextDrops.{is_any_capped}
 use Rattle.session_table.specs.Stretches.{StandsFirm, StretchCloses}

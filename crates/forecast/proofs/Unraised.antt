@@ -1,5 +1,5 @@
 -- A fluent of which nothing raises an event stays as at the birth.
-use Rattle.std.proofs.Common.{◌≡◌, ◌≢◌, ℕ, zero, suc, ◌+◌, ◌-◌, ◌<◌, ◌≤◌, Bool, true, false, ◌&&◌, ◌||◌, ◌⊎◌, inl, inr, List, [], ◌∷◌, ◌++◌, flat_map, Option, Some, None, refl, sym, ◌∙◌, ap, subst, arith, not, nat_eq, nat_lt}
+use Rattle.std.proofs.Common.{◌≡◌, ◌≢◌, ℕ, zero, suc, ◌+◌, ◌-◌, ◌≤◌, Bool, true, false, ◌&&◌, ◌||◌, inl, inr, List, [], ◌∷◌, ◌++◌, flat_map, None, refl, sym, ◌∙◌, ap, subst, arith, not, nat_eq, nat_lt}
 use Rattle.std.specs.List.{list_any}
 use Rattle.gt_base.specs.Happening.{Happening, nothing}
 use Rattle.gt_base.specs.Held.{Rule}
@@ -8,7 +8,6 @@ use Rattle.gt_base.specs.Orders.{prioritised_cmp}
 use Rattle.gt_base.specs.Sets.{has}
 use Rattle.gt_base.specs.declared.events.Event.{Event}
 use Rattle.gt_base.specs.declared.events.Fluent.{Fluent}
-use Rattle.gt_base.specs.declared.events.PeriodId.{PeriodId}
 use Rattle.gt_base.specs.declared.events.Prioritised.{Prioritised}
 use Rattle.gt_base.specs.declared.policies.Form.{Form}
 use Rattle.gt_base.specs.declared.policies.Form.TheVariants.{Each, Start, Span}
@@ -42,7 +41,7 @@ use Rattle.gtrbac_model.proofs.Uniqueness.{In, Goes, after_alike, in_order, is_s
 use Rattle.history_laws.proofs.Members.{clash, of_join}
 use Rattle.history_laws.proofs.Quieting.{quiet_settles}
 use Rattle.walk_laws.proofs.Climbing.{safe_is_levelled}
-use Rattle.forecast.specs.Ahead.{HasOneAhead, IsFirstChange, Stays, nobody_asks, to_horizon}
+use Rattle.forecast.specs.Ahead.{HasOneAhead, IsFirstChange, nobody_asks, to_horizon}
 use Rattle.forecast.specs.Raised.{asked_by, asks_for, in_entries, in_history, in_limits, in_triggers, is_raised}
 use Rattle.forecast.proofs.Existing.{ahead_is_one}
 

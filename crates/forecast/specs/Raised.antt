@@ -1,5 +1,5 @@
 -- Fluents of which nothing raises an event.
-use Rattle.std.specs.Prelude.{ℕ, Bool, false, ◌||◌, List}
+use Rattle.std.specs.Prelude.{Bool, false, ◌||◌, List}
 use Rattle.std.specs.List.{list_any}
 use Rattle.gt_base.specs.declared.events.Fluent.{Fluent}
 use Rattle.gt_base.specs.declared.policies.LimitRule.{LimitRule}

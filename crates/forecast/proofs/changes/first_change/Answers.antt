@@ -1,4 +1,4 @@
-use Rattle.std.proofs.Common.{◌≡◌, ℕ, ◌≤◌, List, [], Option, refl, sym, ap, subst, ◌∙◌, arith}
+use Rattle.std.proofs.Common.{ℕ, [], Option, sym, ap, subst, ◌∙◌}
 use Rattle.gtrbac_model.specs.Sessions.{Table}
 use Rattle.gtrbac_model.specs.WholePolicy.{IsPolicy}
 use Rattle.history_laws.proofs.Reading.{legal_onward, reaches}

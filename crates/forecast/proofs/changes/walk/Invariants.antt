@@ -1,4 +1,4 @@
-use Rattle.std.proofs.Common.{◌≡◌, ◌-◌}
+use Rattle.std.proofs.Common.{◌-◌}
 use Rattle.forecast.specs.Going.{IsOnWay, StayedSo}
 use Rattle.forecast.proofs.changes.walk.Given as goal
 

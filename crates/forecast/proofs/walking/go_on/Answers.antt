@@ -1,4 +1,4 @@
-use Rattle.std.proofs.Common.{◌≡◌, ℕ, ◌≤◌, List, refl, sym, ap, subst, ◌∙◌, arith}
+use Rattle.std.proofs.Common.{◌≡◌, List, sym, ap, subst, ◌∙◌, arith}
 use Rattle.gt_base.specs.Sets.{has}
 use Rattle.gt_base.specs.declared.policies.HierEdge.{HierEdge}
 use Rattle.gtrbac_model.specs.WholePolicy.{IsPolicy}

@@ -1,4 +1,4 @@
-use Rattle.std.proofs.Common.{◌≡◌, ℕ, Bool, List, refl, sym, ap, subst, ◌∙◌}
+use Rattle.std.proofs.Common.{◌≡◌, ℕ, List, ap, subst, ◌∙◌}
 use Rattle.gt_base.specs.declared.policies.Caps.{Caps}
 use Rattle.gtrbac_model.specs.History.{IsNextStop}
 use Rattle.instant_bases.specs.Timelines.{stirs_in}
