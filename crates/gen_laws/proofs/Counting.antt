@@ -187,8 +187,7 @@ module _ (k birth most : ℕ) (limit : most ≤ last_minute) (m : Model) where
       by : (j : ℕ) → to ≡ now_of birth g + suc j → IsNextStop (stirs p birth m g) (now_of birth g) upto to → IsPaid (g ++ ticked who upto to ∷ []) (n + 1) × (to < upto → IsPaid (g ++ ticked who upto to ∷ []) n)
       by j is step =
           let exact : IsNextStop (stirs p birth m g) (now_of birth g) upto (now_of birth g + suc j) = subst (IsNextStop (stirs p birth m g) (now_of birth g) upto) is step in
-          subst (λ (u : ℕ). IsPaid (g ++ ticked who upto u ∷ []) (n + 1) × (u < upto → IsPaid (g ++ ticked who upto u ∷ []) n)) (sym is)
-          (
+          subst (λ (u : ℕ). IsPaid (g ++ ticked who upto u ∷ []) (n + 1) × (u < upto → IsPaid (g ++ ticked who upto u ∷ []) n)) (sym is) (
             tick_one g n i who upto j exact high,
             λ lt. elim exact.stop [
               | inl stirred ↦ tick_stirred g n i who upto j exact high stirred

@@ -44,7 +44,7 @@ asks_calmly r t reply = by (nat_eq r.choice 0) (nat_eq r.choice 1) (nat_eq r.cho
   where
     by : (a b c : Bool)
         → queued_at t (if a then requests.Activate (record { 0 = r.user }) (role_at (r.user - 1)) else if b then requests.Check (record { 0 = r.user }) (record { 0 = r.other - 1 })
-            else if c then requests.Deactivate (record { 0 = r.user }) (role_at (r.user - 1)) else requests.Status (is_enabled r.other)) reply ≡ []
+        else if c then requests.Deactivate (record { 0 = r.user }) (role_at (r.user - 1)) else requests.Status (is_enabled r.other)) reply ≡ []
     by true b c = refl
     by false true c = refl
     by false false true = refl
