@@ -1,6 +1,7 @@
 -- The causes of a status, as the words name them.
 use Rattle.std.proofs.Common.{◌≡◌, ℕ, List, [], ◌∷◌, Option, Some, None, ◌⊎◌, inl, inr, refl, ap, ◌∙◌}
-use Rattle.std.specs.Prelude.{◌+◌, length, Result, Ok, Err, IfOk, IfSome, IsSomeAnd}
+use Rattle.std.specs.Prelude.{◌+◌, Bool, true, false, length, decimal, Result, Ok, Err, IfOk, IfSome, IsSomeAnd}
+use Rattle.gt_text.specs.Words.{begins_with}
 use Rattle.gt_io.specs.Shelf.{Contents}
 use Rattle.gt_base.specs.declared.requests.Entry.{Entry}
 use Rattle.policy_words.specs.Naming.{NamedPolicy}
@@ -77,7 +78,8 @@ module _ (words : List (List ℕ)) (contents : Contents) (command : Command) (in
   caused_other : (text : List ℕ) → IsCaused failed text input s → (s ≡ 1 → ⊥) × (s ≡ 5 → ⊥)
   caused_other text (inl h) = (λ e. cc (h.0, e), λ e. cc (h.0, e))
   caused_other text (inr (inl h)) = (λ e. cc (h.0, e), λ e. cc (h.0, e))
-  caused_other text (inr (inr c)) = let no = script_other c in (no.0, no.3)
+  caused_other text (inr (inr (inl h))) = (λ e. cc (h.0, e), λ e. cc (h.0, e))
+  caused_other text (inr (inr (inr c))) = let no = script_other c in (no.0, no.3)
 
   -- neither 1 nor 5 is the status of an end
   pub no_other : IsCausedIn hard failed contents (named_by command) input s → (s ≡ 1 → ⊥) × (s ≡ 5 → ⊥)
@@ -96,7 +98,11 @@ module _ (words : List (List ℕ)) (contents : Contents) (command : Command) (in
       where
         three_two : s ≡ 3 → s ≡ 2 → ⊥
         three_two a b = cc (a, b)
-    fault_in text found (inr (inr c)) is = absurd ((script_other c).1 is)
+    fault_in text found (inr (inr (inl h))) is = absurd (thirteen_two h.0 is)
+      where
+        thirteen_two : s ≡ 13 → s ≡ 2 → ⊥
+        thirteen_two a b = cc (a, b)
+    fault_in text found (inr (inr (inr c))) is = absurd ((script_other c).1 is)
 
     pub fault_told : IsCausedIn hard failed contents (named_by command) input s → s ≡ 2 → IfTold words contents HasFault
     fault_told (inl h) is = absurd (four_two h.0 is)
@@ -115,7 +121,11 @@ module _ (words : List (List ℕ)) (contents : Contents) (command : Command) (in
         two_three : s ≡ 2 → s ≡ 3 → ⊥
         two_three a b = cc (a, b)
     cycle_in text found (inr (inl h)) is = told_in contents text IsUnsafeText found h.1
-    cycle_in text found (inr (inr c)) is = absurd ((script_other c).2 is)
+    cycle_in text found (inr (inr (inl h))) is = absurd (thirteen_three h.0 is)
+      where
+        thirteen_three : s ≡ 13 → s ≡ 3 → ⊥
+        thirteen_three a b = cc (a, b)
+    cycle_in text found (inr (inr (inr c))) is = absurd ((script_other c).2 is)
 
     pub cycle_told : IsCausedIn hard failed contents (named_by command) input s → s ≡ 3 → IfTold words contents IsUnsafeText
     cycle_told (inl h) is = absurd (four_three h.0 is)
@@ -145,7 +155,11 @@ module _ (words : List (List ℕ)) (contents : Contents) (command : Command) (in
       where
         three_four : s ≡ 3 → s ≡ 4 → ⊥
         three_four a b = cc (a, b)
-    four_in text (inr (inr c)) is = script_four c is
+    four_in text (inr (inr (inl h))) is = absurd (thirteen_four h.0 is)
+      where
+        thirteen_four : s ≡ 13 → s ≡ 4 → ⊥
+        thirteen_four a b = cc (a, b)
+    four_in text (inr (inr (inr c))) is = script_four c is
 
     pub read_told : IsCausedIn hard failed contents (named_by command) input s → s ≡ 4 → hard ⊎ failed ⊎ IsMissing words contents
     read_told (inl h) is = elim h.1 [ inl r ↦ inl r | inr l ↦ inr (inr (command, spoken, l)) ]
@@ -172,7 +186,11 @@ module _ (words : List (List ℕ)) (contents : Contents) (command : Command) (in
       where
         three_six : s ≡ 3 → s ≡ 6 → ⊥
         three_six a b = cc (a, b)
-    six_in text (inr (inr c)) is = script_six c is
+    six_in text (inr (inr (inl h))) is = absurd (thirteen_six h.0 is)
+      where
+        thirteen_six : s ≡ 13 → s ≡ 6 → ⊥
+        thirteen_six a b = cc (a, b)
+    six_in text (inr (inr (inr c))) is = script_six c is
 
     long_here : (text_of : List ℕ → Option (List ℕ)) (o : Option (List ℕ)) → text_of (named_by command) ≡ o → IsSomeAnd o IsLongPolicy → IsNamed words text_of (λ text. IsLongPolicy text ⊎ IsLongScript input)
     long_here text_of (Some text) e long = record { command = command; spoken = spoken; text = text; found = e; holds = inl long }
@@ -242,4 +260,8 @@ gen_other size s (inr (inr (inr (inr h)))) = let no = run_other s h in (no.0, no
 
 -- words of `gen` are no command over a policy
 pub gen_no_command : (words : List (List ℕ)) (g : Gen) → IsGen words g → command_of words ≡ None
-gen_no_command words g is = ap command_of is.words_are
+gen_no_command words g is = ap command_of is.words_are ∙ neither (begins_with 45 (decimal g.seed))
+  where
+    neither : (b : Bool) → elim b as (λ _. Option Command) [ true ↦ None | false ↦ None ] ≡ None
+    neither true = refl
+    neither false = refl

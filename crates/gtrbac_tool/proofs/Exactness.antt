@@ -13,13 +13,17 @@ use Rattle.policy_commands.specs.Policies.{read_or_told, policy_in, safe_or_told
 use Rattle.policy_commands.specs.Commands.{laid_or_told, fmt_end, safe_or_end, check_end}
 use Rattle.policy_commands.specs.Meanings.{IsSafeText}
 use Rattle.policy_commands.proofs.Answered.{safe_means, unsafe_means, fault_means, fmt_fault_means}
+use Rattle.gtrbac_tool.specs.declared.questions.Question.{Question}
+use Rattle.gtrbac_tool.specs.declared.ahead.Asked.{Asked}
+use Rattle.gtrbac_tool.specs.Late.{asked_of, AnswersIf}
 use Rattle.gtrbac_tool.specs.Told.{too_long}
 use Rattle.gtrbac_tool.specs.Script.{start_of, EndsFrom, EndsIf, max_script}
 use Rattle.gtrbac_tool.specs.Meanings.{MeetsFault, MeetsFull, RunMeans}
 use Rattle.gtrbac_tool.specs.Causes.{IsRunStatus}
-use Rattle.gtrbac_tool.specs.Tool.{Command, check, fmt, run, named_by, command_of, max_policy, ScriptEnds, SafeEnds, TextEnds, NamedEnds, SpokenEnds, IsPrinted, Seen, AnswersCommand}
-use Rattle.gtrbac_tool.specs.Exact.{IsPlayCause, IsScriptCause, IsSafeOf, IsPolicyCause, IsTextCause, IsNamedCause, IsCause, IsUnread, IsOutside, Exact, Caused, Complete}
+use Rattle.gtrbac_tool.specs.Tool.{Command, check, fmt, run, ask, AskedEnds, AskEnds, named_by, command_of, max_policy, ScriptEnds, SafeEnds, TextEnds, NamedEnds, SpokenEnds, IsPrinted, Seen, AnswersCommand}
+use Rattle.gtrbac_tool.specs.Exact.{IsAskCause, IsPlayCause, IsScriptCause, IsSafeOf, IsPolicyCause, IsTextCause, IsNamedCause, IsCause, IsUnread, IsOutside, Exact, Caused, Complete}
 use Rattle.gtrbac_tool.proofs.Causing.{played_status, status_of}
+use Rattle.gtrbac_tool.proofs.Asking.{ran_of}
 use Rattle.gtrbac_tool.proofs.OneEnd.{means_so}
 
 -- a policy that is refused ends with this status
@@ -132,6 +136,24 @@ module _ (hard failed : Type 0) where
       → IsSomeAnd input (λ script. IsScriptCause np script s) → Fits Lost s end
   safe_fits np r safe e input end s is cause = input_fits np safe input end s (subst (λ (x : Result NamedPolicy Told). SafeEnds failed x input end) e is) cause
 
+  answers_fits : (np : NamedPolicy) → IsSafe np.policy.triggers → (asked : Asked) (script : List ℕ) (b : Bool) (end : Told) (s : ℕ) → AnswersIf b np asked script end → MatchBool b (s ≡ 6) (IsPlayCause np script s) → end.status ≡ s
+  answers_fits np safe asked script true end s is cause = status_of end _ is ∙ sym cause
+  answers_fits np safe asked script false end s is cause = let ran = ran_of np asked (start_of np 1 (lines_of script)) end is in ran.2 ∙ play_fits np safe script ran.0 s ran.1 cause
+
+  asked_fits : (np : NamedPolicy) → IsSafe np.policy.triggers → (asked : Option Asked) (input : Option (List ℕ)) (end : Told) (s : ℕ) → AskedEnds failed np asked input end → IsAskCause np asked input s → Fits Lost s end
+  asked_fits np safe None input end s is cause = inl (status_of end _ is ∙ sym cause)
+  asked_fits np safe (Some asked) None end s is cause = absurd cause
+  asked_fits np safe (Some asked) (Some script) end s (inl lost) cause = inr (status_of end _ lost.0, inr lost.1)
+  asked_fits np safe (Some asked) (Some script) end s (inr is) cause = inl (answers_fits np safe asked script (is_longer max_script script) end s is cause)
+
+  unasked_fits : (question : Question) (r : Result NamedPolicy Told) (input : Option (List ℕ)) (end : Told) (s t : ℕ) → EndsWith t r → s ≡ t → AskEnds failed question r input end → end.status ≡ s
+  unasked_fits question (Ok np) input end s t ends same is = absurd ends
+  unasked_fits question (Err refused) input end s t ends same is = status_of end refused is ∙ ends ∙ sym same
+
+  ask_fits : (np : NamedPolicy) (question : Question) (r : Result NamedPolicy Told) → IsSafe np.policy.triggers → r ≡ Ok np → (input : Option (List ℕ)) (end : Told) (s : ℕ) → AskEnds failed question r input end
+      → IsAskCause np (asked_of np question) input s → Fits Lost s end
+  ask_fits np question r safe e input end s is cause = asked_fits np safe (asked_of np question) input end s (subst (λ (x : Result NamedPolicy Told). AskEnds failed question x input end) e is) cause
+
   text_fits : (command : Command) (text : List ℕ) (input : Option (List ℕ)) (end : Told) (s : ℕ) → TextEnds failed command text input end → IsTextCause command text input s → Fits Lost s end
   text_fits (check name) text input end s is (inl (inl c)) = inl (status_of end _ is ∙ (fault_means text).1 c.1 ∙ sym c.0)
   text_fits (check name) text input end s is (inl (inr c)) = inl (status_of end _ is ∙ (unsafe_means text).1 c.1 ∙ sym c.0)
@@ -141,6 +163,9 @@ module _ (hard failed : Type 0) where
   text_fits (run name) text input end s is (inl (inl c)) = inl (refused_fits (safe_in text) input end s 2 (fault_found text c.1) c.0 is)
   text_fits (run name) text input end s is (inl (inr c)) = inl (refused_fits (safe_in text) input end s 3 (cycle_found text c.1) c.0 is)
   text_fits (run name) text input end s is (inr c) = safe_fits c.0 (safe_in text) c.1.safe (safe_found text c.0 c.1) input end s is c.2
+  text_fits (ask name question) text input end s is (inl (inl c)) = inl (unasked_fits question (safe_in text) input end s 2 (fault_found text c.1) c.0 is)
+  text_fits (ask name question) text input end s is (inl (inr c)) = inl (unasked_fits question (safe_in text) input end s 3 (cycle_found text c.1) c.0 is)
+  text_fits (ask name question) text input end s is (inr c) = ask_fits c.0 question (safe_in text) c.1.safe (safe_found text c.0 c.1) input end s is c.2
 
   limited_fits : (b : Bool) (command : Command) (text : List ℕ) (input : Option (List ℕ)) (end : Told) (s : ℕ) → MatchBool b (end ≡ too_long (codes "policy")) (TextEnds failed command text input end)
       → MatchBool b (s ≡ 6) (IsTextCause command text input s) → Fits Lost s end
@@ -171,6 +196,21 @@ module _ (hard failed : Type 0) where
       → Finds (λ s. IsPolicyCause text s ⊎ ((q : NamedPolicy) × IsSafeOf text q × IsSomeAnd input (λ script. IsScriptCause q script s))) end
   run_finds text np input end of there is = elim (input_finds np of.safe input end there is) [ inl lost ↦ inl lost | inr c ↦ inr (c.0, inr (np, of, c.1)) ]
 
+  answers_caused : (np : NamedPolicy) (safe : IsSafe np.policy.triggers) (asked : Asked) (script : List ℕ) (b : Bool) (end : Told) → AnswersIf b np asked script end → MatchBool b (end.status ≡ 6) (IsPlayCause np script end.status)
+  answers_caused np safe asked script true end is = status_of end _ is
+  answers_caused np safe asked script false end is =
+      let ran = ran_of np asked (start_of np 1 (lines_of script)) end is in subst (λ (s : ℕ). IsPlayCause np script s) (sym ran.2) (play_caused np safe script ran.0 ran.1)
+
+  asked_finds : (np : NamedPolicy) → IsSafe np.policy.triggers → (asked : Option Asked) (input : Option (List ℕ)) (end : Told) → IsSome input → AskedEnds failed np asked input end → Finds (IsAskCause np asked input) end
+  asked_finds np safe None input end there is = inr (13, refl)
+  asked_finds np safe (Some asked) None end there is = absurd (cc (there))
+  asked_finds np safe (Some asked) (Some script) end there (inl lost) = inl (status_of end _ lost.0, inr lost.1)
+  asked_finds np safe (Some asked) (Some script) end there (inr is) = inr (end.status, answers_caused np safe asked script (is_longer max_script script) end is)
+
+  ask_finds : (text : List ℕ) (np : NamedPolicy) (question : Question) (input : Option (List ℕ)) (end : Told) → IsSafeOf text np → IsSome input → AskedEnds failed np (asked_of np question) input end
+      → Finds (λ s. IsPolicyCause text s ⊎ ((q : NamedPolicy) × IsSafeOf text q × IsAskCause q (asked_of q question) input s)) end
+  ask_finds text np question input end of there is = elim (asked_finds np of.safe (asked_of np question) input end there is) [ inl lost ↦ inl lost | inr c ↦ inr (c.0, inr (np, of, c.1)) ]
+
   text_finds : (command : Command) (text : List ℕ) (input : Option (List ℕ)) (end : Told) → IsSome input → TextEnds failed command text input end → Finds (IsTextCause command text input) end
   text_finds (check name) text input end there is =
       elim (sort text) [
@@ -188,6 +228,14 @@ module _ (hard failed : Type 0) where
         | inr rest ↦ elim rest [
           | inl u ↦ inr (3, inl (inr (refl, u)))
           | inr s ↦ run_finds text s.0 input end s.1 there (subst (λ (x : Result NamedPolicy Told). SafeEnds failed x input end) (safe_found text s.0 s.1) is)
+        ]
+      ]
+  text_finds (ask name question) text input end there is =
+      elim (sort text) [
+        | inl f ↦ inr (2, inl (inl (refl, f)))
+        | inr rest ↦ elim rest [
+          | inl u ↦ inr (3, inl (inr (refl, u)))
+          | inr s ↦ ask_finds text s.0 question input end s.1 there (subst (λ (x : Result NamedPolicy Told). AskEnds failed question x input end) (safe_found text s.0 s.1) is)
         ]
       ]
 

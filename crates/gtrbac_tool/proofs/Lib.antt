@@ -2,6 +2,7 @@ pub mod Causing
 pub mod OneHistory
 pub mod OneEnd
 pub mod OnePlay
+pub mod Asking
 pub mod Exactness
 pub mod Ran
 pub mod Spoken

@@ -1,8 +1,9 @@
 -- Words that are no `gen`.
-use Rattle.std.proofs.Common.{◌≡◌, ℕ, ◌≤◌, List, [], ◌∷◌, codes, length, get_or, sym, ◌∙◌, arith}
+use Rattle.std.proofs.Common.{◌≡◌, ℕ, ◌≤◌, ◌<◌, map, refl, Option, None, List, [], ◌∷◌, codes, length, get_or, sym, ◌∙◌, arith}
 use Rattle.std.specs.Prelude.{decimal}
 use Rattle.std.proofs.lemmas.Fmt.{decimal_injective}
 use Rattle.gtrbac_tool.specs.Summary.{IsNoGen}
+use Rattle.gtrbac_tool.specs.Tool.{Command, command_of}
 
 last_same : (a b c d e f : List ℕ) → a ∷ b ∷ c ∷ [] ≡ d ∷ e ∷ f ∷ [] → c ≡ f
 last_same a b c d e f h = cc
@@ -21,3 +22,9 @@ three_items (p ∷ []) a b c len x y z = absurd (omega (arith, len))
 three_items (p ∷ q ∷ []) a b c len x y z = absurd (omega (arith, len))
 three_items (p ∷ q ∷ r ∷ []) a b c len x y z = λ i. x i ∷ y i ∷ z i ∷ []
 three_items (p ∷ q ∷ r ∷ s ∷ xs) a b c len x y z = absurd (omega (arith, len))
+
+-- fewer than two words are no command
+pub few_words : {A : Type 0} (f : A → List ℕ) (ws : List A) → length ws < 2 → ◌≡◌ {A = Option Command} None (command_of (map f ws))
+few_words f [] h = refl
+few_words f (v ∷ []) h = refl
+few_words f (v ∷ n ∷ ws) h = absurd (omega (arith, h))

@@ -1,7 +1,10 @@
 -- What a status tells of the texts.
-use Rattle.std.specs.Prelude.{◌≡◌, ◌⊎◌, ◌<◌, ℕ, List, length, Option, Some, IfSome, IsSomeAnd}
+use Rattle.std.specs.Prelude.{◌≡◌, ◌⊎◌, ◌<◌, ℕ, List, length, Option, Some, None, Ok, IfSome, IsSomeAnd}
 use Rattle.gt_io.specs.Shelf.{Contents, Lacks}
-use Rattle.policy_commands.specs.Policies.{HasFault, IsUnsafeText}
+use Rattle.policy_commands.specs.Policies.{HasFault, IsUnsafeText, safe_in}
+use Rattle.policy_words.specs.Naming.{NamedPolicy}
+use Rattle.gtrbac_tool.specs.declared.questions.Question.{Question}
+use Rattle.gtrbac_tool.specs.Late.{asked_of}
 use Rattle.gtrbac_tool.specs.Script.{max_script}
 use Rattle.policy_gen.specs.Texts.{policy_text}
 use Rattle.gtrbac_tool.specs.Summary.{Gen, IsGen}
@@ -36,9 +39,13 @@ IsRunStatus s = (s ≡ 0) ⊎ (s ≡ 7) ⊎ (s ≡ 9)
 abbrev pub IsScriptCaused : Type 0 → Option (List ℕ) → ℕ → Type 0
 IsScriptCaused failed input s = IsRunStatus s ⊎ ((s ≡ 4) × failed) ⊎ ((s ≡ 6) × IsLongScript input)
 
--- 2 at a fault, 3 at a policy that is not safe, and else what the script causes
+-- a policy without a fault, of which a question asks what it does not name
+abbrev pub IsUnknown : List ℕ → Type 0
+IsUnknown text = (np : NamedPolicy) × (safe_in text ≡ Ok np) × ((question : Question) × (asked_of np question ≡ None))
+
+-- 2 at a fault, 3 at a policy that is not safe, 13 at an unknown name, and else what the script causes
 abbrev pub IsCaused : Type 0 → List ℕ → Option (List ℕ) → ℕ → Type 0
-IsCaused failed text input s = ((s ≡ 2) × HasFault text) ⊎ ((s ≡ 3) × IsUnsafeText text) ⊎ IsScriptCaused failed input s
+IsCaused failed text input s = ((s ≡ 2) × HasFault text) ⊎ ((s ≡ 3) × IsUnsafeText text) ⊎ ((s ≡ 13) × IsUnknown text) ⊎ IsScriptCaused failed input s
 
 -- the text of the name, where the shelf tells it, and the input are the cause
 pub record IsTextCaused (failed : Type 0) (contents : Contents) (name : List ℕ) (input : Option (List ℕ)) (s : ℕ) : Type 0 where

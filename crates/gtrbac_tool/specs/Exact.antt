@@ -10,10 +10,13 @@ use Rattle.policy_words.specs.PolicyRead.{policy_read}
 use Rattle.policy_commands.specs.Policies.{HasFault, IsUnsafeText}
 use Rattle.policy_commands.specs.Meanings.{IsSafeText}
 use Rattle.gtrbac_tool.specs.Script.{max_script}
+use Rattle.gtrbac_tool.specs.declared.questions.Question.{Question}
+use Rattle.gtrbac_tool.specs.declared.ahead.Asked.{Asked}
+use Rattle.gtrbac_tool.specs.Late.{asked_of}
 use Rattle.gtrbac_tool.specs.Meanings.{MeetsFault, MeetsFull}
 use Rattle.gtrbac_tool.specs.Causes.{IsRunStatus}
 use Rattle.gtrbac_tool.specs.Summary.{IsNoGen}
-use Rattle.gtrbac_tool.specs.Tool.{Command, check, fmt, run, named_by, command_of, plays_script, max_policy, Seen}
+use Rattle.gtrbac_tool.specs.Tool.{Command, check, fmt, run, ask, named_by, command_of, plays_script, max_policy, Seen}
 
 -- 7 where the first fault of the script comes before a full history, 9 where a step is asked for with a full history before a fault, else 0
 abbrev pub IsPlayCause : NamedPolicy → List ℕ → ℕ → Type 0
@@ -32,9 +35,15 @@ pub record IsSafeOf (text : List ℕ) (np : NamedPolicy) : Type 0 where
 abbrev pub IsPolicyCause : List ℕ → ℕ → Type 0
 IsPolicyCause text s = ((s ≡ 2) × HasFault text) ⊎ ((s ≡ 3) × IsUnsafeText text)
 
+-- 13 where a name of the question is unknown, and else what the script causes
+abbrev pub IsAskCause : NamedPolicy → Option Asked → Option (List ℕ) → ℕ → Type 0
+IsAskCause np None input s = s ≡ 13
+IsAskCause np (Some asked) input s = IsSomeAnd input (λ script. IsScriptCause np script s)
+
 abbrev pub IsTextCause : Command → List ℕ → Option (List ℕ) → ℕ → Type 0
 IsTextCause (check name) text input s = IsPolicyCause text s ⊎ ((s ≡ 0) × IsSafeText text)
 IsTextCause (fmt name) text input s = ((s ≡ 2) × HasFault text) ⊎ ((s ≡ 0) × ((np : NamedPolicy) × (policy_read text ≡ Ok np)))
+IsTextCause (ask name question) text input s = IsPolicyCause text s ⊎ ((np : NamedPolicy) × IsSafeOf text np × IsAskCause np (asked_of np question) input s)
 IsTextCause (run name) text input s = IsPolicyCause text s ⊎ ((np : NamedPolicy) × IsSafeOf text np × IsSomeAnd input (λ script. IsScriptCause np script s))
 
 -- 4 where the shelf has no policy of the name, and 6 where the policy is too long

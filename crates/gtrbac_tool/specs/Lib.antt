@@ -4,6 +4,7 @@ pub mod Going
 pub mod Started
 pub mod Summary
 pub mod Counted
+pub mod Late
 pub mod Tool
 pub mod Commands
 pub mod Causes

@@ -21,7 +21,15 @@ abbrev pub too_long : List ℕ → Told
 too_long what = told 6 (codes "too long: " ++ what ++ codes "\n")
 
 abbrev pub usage : Told
-usage = told 1 (codes "usage: gtrbac check POLICY | fmt POLICY | run POLICY | gen SEED SIZE\n")
+usage = told 1 (codes "usage: gtrbac check POLICY | fmt POLICY | run POLICY | gen SEED SIZE | forecast POLICY DAYS COND\n")
 
 abbrev pub read_fault : Told
 read_fault = told 4 (codes "read fault\n")
+
+-- a question with a name that the policy does not declare, or with two roles that no edge joins
+abbrev pub unknown_name : Told
+unknown_name = told 13 (codes "unknown name\n")
+
+-- a question behind a script in which no line says anything
+abbrev pub no_birth : Told
+no_birth = told 0 (codes "no birth\n")

@@ -1,5 +1,5 @@
 -- What the program prints, and its status.
-use Rattle.std.specs.Prelude.{◌≡◌, ◌⊎◌, ℕ, Bool, true, false, List, [], ◌∷◌, codes, bytes_eq, Option, Some, None, Result, Ok, Err, IfSome, MatchBool}
+use Rattle.std.specs.Prelude.{◌≡◌, ◌⊎◌, ℕ, Bool, true, false, List, [], ◌∷◌, codes, bytes_eq, Option, Some, None, option_map, Result, Ok, Err, IfSome, MatchBool}
 use Rattle.std.specs.Io.KnownBytes.{Appends, Keeps}
 use Rattle.gt_io.specs.Causes.{Rose, AppendsPart}
 use Rattle.gt_io.specs.Shelf.{Contents}
@@ -9,8 +9,11 @@ use Rattle.policy_words.specs.Naming.{NamedPolicy}
 use Rattle.policy_commands.specs.Ends.{Told}
 use Rattle.policy_commands.specs.Policies.{safe_in}
 use Rattle.policy_commands.specs.Commands.{fmt_end, check_end}
-use Rattle.gtrbac_tool.specs.Told.{usage, read_fault, too_long}
+use Rattle.gtrbac_tool.specs.Told.{usage, read_fault, too_long, unknown_name}
 use Rattle.gtrbac_tool.specs.Script.{Ends}
+use Rattle.gtrbac_tool.specs.declared.questions.Question.{Question}
+use Rattle.gtrbac_tool.specs.declared.ahead.Asked.{Asked}
+use Rattle.gtrbac_tool.specs.Late.{forecast_in, asked_of, AnswersScript}
 use Rattle.gtrbac_tool.specs.Summary.{Gen, IsGen, IsNoGen, GenEnds}
 
 -- a command, with the name of a policy
@@ -18,17 +21,20 @@ pub data Command : Type 0 where
   check : List ℕ → Command
   fmt : List ℕ → Command
   run : List ℕ → Command
+  ask : List ℕ → Question → Command
 
 abbrev pub named_by : Command → List ℕ
 named_by (check name) = name
 named_by (fmt name) = name
 named_by (run name) = name
+named_by (ask name question) = name
 
 -- whether it plays a script from the input
 abbrev pub plays_script : Command → Bool
 plays_script (check name) = false
 plays_script (fmt name) = false
 plays_script (run name) = true
+plays_script (ask name question) = true
 
 abbrev pub command_by : List ℕ → List ℕ → Option Command
 command_by verb name =
@@ -37,8 +43,13 @@ command_by verb name =
       | false ↦ elim (bytes_eq verb (codes "fmt")) [ true ↦ Some (fmt name) | false ↦ elim (bytes_eq verb (codes "run")) [ true ↦ Some (run name) | false ↦ None ] ]
     ]
 
--- the command that the words are: a verb and the name of a policy, which does not begin with `-`
+-- what is asked by the words behind the name
+abbrev pub question_by : List ℕ → List (List ℕ) → Option Question
+question_by verb words = elim (bytes_eq verb (codes "forecast")) [ true ↦ forecast_in words | false ↦ None ]
+
+-- the command that the words are: a verb and the name of a policy, which does not begin with `-`, and what is asked behind them
 abbrev pub command_of : List (List ℕ) → Option Command
+command_of (verb ∷ name ∷ word ∷ words) = elim (begins_with 45 name) [ true ↦ None | false ↦ option_map (ask name) (question_by verb (word ∷ words)) ]
 command_of (verb ∷ name ∷ []) = elim (begins_with 45 name) [ true ↦ None | false ↦ command_by verb name ]
 command_of _ = None
 
@@ -54,11 +65,22 @@ abbrev pub SafeEnds : Type 0 → Result NamedPolicy Told → Option (List ℕ) �
 SafeEnds failed (Err t) input end = end ≡ t
 SafeEnds failed (Ok np) input end = ScriptEnds failed np input end
 
+-- the input failed; or what the script and the question determine, where the input tells the script
+abbrev pub AskedEnds : Type 0 → NamedPolicy → Option Asked → Option (List ℕ) → Told → Type 0
+AskedEnds failed np None input end = end ≡ unknown_name
+AskedEnds failed np (Some asked) input end = ((end ≡ read_fault) × failed) ⊎ IfSome input (λ script. AnswersScript np asked script end)
+
+-- a name that is unknown is told before the script is read
+abbrev pub AskEnds : Type 0 → Question → Result NamedPolicy Told → Option (List ℕ) → Told → Type 0
+AskEnds failed question (Err t) input end = end ≡ t
+AskEnds failed question (Ok np) input end = AskedEnds failed np (asked_of np question) input end
+
 -- what a command ends with over the text of its policy and the input; `failed` says that the input failed
 abbrev pub TextEnds : Type 0 → Command → List ℕ → Option (List ℕ) → Told → Type 0
 TextEnds failed (check name) text input end = end ≡ check_end text
 TextEnds failed (fmt name) text input end = end ≡ fmt_end text
 TextEnds failed (run name) text input end = SafeEnds failed (safe_in text) input end
+TextEnds failed (ask name question) text input end = AskEnds failed question (safe_in text) input end
 
 -- a text of more than 4,194,304 bytes is told so
 abbrev pub LimitedEnds : Type 0 → Command → List ℕ → Option (List ℕ) → Told → Type 0

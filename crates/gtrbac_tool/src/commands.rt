@@ -1,8 +1,10 @@
 //! The commands.
 ghost use Rattle.std.specs.Prelude.{◌≡◌, map, option_map, string_bytes};
 ghost use Rattle.gt_text.specs.Words.{begins_with};
-ghost use Rattle.gtrbac_tool.specs.Tool.{command_by, command_of, named_by};
+ghost use Rattle.gtrbac_tool.specs.Tool.{question_by, command_by, command_of, named_by};
 ghost use Rattle.gtrbac_tool.specs.Commands.{seen_command};
+
+use crate::questions::{Question, forecast};
 
 /// A command, with the name of a policy.
 #[derive(Clone, Copy)]
@@ -10,6 +12,7 @@ pub(crate) enum Command<'a> {
     Check(&'a str),
     Fmt(&'a str),
     Run(&'a str),
+    Ask(&'a str, Question),
 }
 
 impl Command<'_> {
@@ -18,7 +21,10 @@ impl Command<'_> {
         ensures { result.now ≡ named_by (seen_command self.now) }
     {
         match self {
-            Command::Check(name) | Command::Fmt(name) | Command::Run(name) => name,
+            Command::Check(name)
+            | Command::Fmt(name)
+            | Command::Run(name)
+            | Command::Ask(name, _) => name,
         }
     }
 }
@@ -47,6 +53,17 @@ fn by_verb<'a>(verb: &str, name: &'a str) -> Option<Command<'a>>
     }
 }
 
+/// What is asked by the words behind the name.
+fn question(verb: &str, words: &[String]) -> Option<Question>
+    ensures { result ≡ question_by verb.now (map string_bytes words.now) }
+{
+    if verb == "forecast" {
+        forecast(words)
+    } else {
+        None
+    }
+}
+
 /// The command that the words are, none where they are no command.
 pub(crate) fn spoken(words: &[String]) -> Option<Command<'_>>
     ensures { option_map seen_command result ≡ command_of (map string_bytes words.now) }
@@ -57,6 +74,14 @@ pub(crate) fn spoken(words: &[String]) -> Option<Command<'_>>
                 None
             } else {
                 by_verb(verb.as_str(), name.as_str())
+            }
+        }
+        [verb, name, more @ ..] => {
+            if is_dashed(name.as_str()) {
+                None
+            } else {
+                let question = question(verb.as_str(), more)?;
+                Some(Command::Ask(name.as_str(), question))
             }
         }
         _ => None,

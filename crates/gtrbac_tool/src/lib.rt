@@ -1,9 +1,11 @@
 //! The program `gtrbac`: its commands over a shelf of texts, an input and an output.
 #![tactic(auto)]
 
+mod ahead;
 mod commands;
 mod explaining;
 mod laws;
+mod questions;
 mod script;
 mod starting;
 mod summing;

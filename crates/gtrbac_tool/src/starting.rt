@@ -3,8 +3,11 @@ ghost use Rattle.std.specs.Prelude.{◌≡◌, ◌+◌, ◌^◌, ◌<◌, ◌≤
 ghost use Rattle.gt_text.specs.Lines.{lines_of};
 ghost use Rattle.policy_commands.specs.Ends.{seen_end};
 ghost use Rattle.gtrbac_tool.specs.Script.{EndsFrom, start_of};
-ghost use Rattle.gtrbac_tool.specs.Started.{started_so, number_of, RanFrom};
+ghost use Rattle.gtrbac_tool.specs.Late.{AnswersFrom};
+ghost use Rattle.gtrbac_tool.specs.Told.{no_birth as born_never};
+ghost use Rattle.gtrbac_tool.specs.Started.{IsUnborn, started_so, number_of, RanFrom};
 
+use crate::ahead::{Asked, answered};
 use crate::script::{Outcome, fault_word, from_birth, stopped};
 use gt_base::{Actor, Instant, List, Memory};
 use gt_text::Lines;
@@ -83,6 +86,46 @@ pub(crate) fn play(alloc: Global, safe: Safe, script: &[u8]) -> Result<End, Memo
         Ok(ran) => match ran {
             Ran::Unborn(end) => Ok(end),
             Ran::Born(outcome) => Ok(outcome.end),
+        },
+        Err(fault) => Err(fault),
+    }
+}
+
+/// The end at a script in which no line says anything.
+fn no_birth(alloc: Global) -> Result<End, Memory>
+    ensures { IfOk result (λ end. seen_end end ≡ born_never) }
+{
+    Ok(End {
+        status: 0,
+        text: List::from(b"no birth\n".to_vec(alloc)?),
+    })
+}
+
+/// The end of a script that ended before a birth, of which something is asked.
+fn unborn(alloc: Global, end: End) -> Result<End, Memory>
+    ensures { IfOk result (λ told. IsUnborn (seen_end end) (seen_end told)) }
+{
+    if end.status == 0 {
+        no_birth(alloc)
+    } else {
+        Ok(end)
+    }
+}
+
+/// The end of a script over a safe policy, with what is asked behind it. The script has fewer than 4,294,967,296 bytes.
+pub(crate) fn play_and_answer(
+    alloc: Global,
+    safe: Safe,
+    asked: Asked,
+    script: &[u8],
+) -> Result<End, Memory>
+    requires { length script.now < 2 ^ 32 }
+    ensures { IfOk result (λ end. AnswersFrom safe asked (start_of safe 1 (lines_of script.now)) (seen_end end)) }
+{
+    match begin(alloc, safe, script) {
+        Ok(ran) => match ran {
+            Ran::Unborn(end) => unborn(alloc, end),
+            Ran::Born(outcome) => answered(alloc, outcome, asked),
         },
         Err(fault) => Err(fault),
     }

@@ -1,5 +1,5 @@
 //! The top call.
-ghost use Rattle.std.specs.Prelude.{◌≡◌, ◌⊎◌, ◌≤◌, None, map, string_bytes, length, IfOk, IsTrue};
+ghost use Rattle.std.specs.Prelude.{◌≡◌, ◌⊎◌, ◌≤◌, None, Some, map, string_bytes, length, IfOk, IsTrue};
 ghost use Rattle.std.specs.Io.KnownBytes.{IsAtEnd};
 ghost use Rattle.gt_io.specs.Causes.{Rose};
 ghost use Rattle.policy_commands.specs.Ends.{seen_end, told};
@@ -7,13 +7,16 @@ ghost use Rattle.policy_commands.specs.Policies.{HasFault, IsUnsafeText, safe_in
 ghost use Rattle.policy_commands.specs.Meanings.{IsSafeText};
 ghost use Rattle.gtrbac_tool.specs.Commands.{seen_command};
 ghost use Rattle.gtrbac_tool.specs.Causes.{IsRunStatus, IsScriptCaused, IsCaused, IsCausedIn, IfTold, IsMissing, IsMade, IsGenCaused, IsLongPolicy, IsLongScript};
+ghost use Rattle.gtrbac_tool.specs.Late.{asked_of as asked_by};
 ghost use Rattle.gtrbac_tool.specs.Summary.{Gen, IsGen, IsNoGen, GenEnds};
 ghost use Rattle.gtrbac_tool.specs.Counted.{seen_recipe};
 ghost use Rattle.gtrbac_tool.specs.Exact.{Exact, Caused, Complete, IsScriptDue, ReadsScript, IsReadOut};
-ghost use Rattle.gtrbac_tool.specs.Tool.{command_of, named_by, plays_script, ScriptEnds, SafeEnds, TextEnds, FoundEnds, Answers, AnswersCommand, Prints, IsPrinted, seen};
+ghost use Rattle.gtrbac_tool.specs.Tool.{command_of, named_by, plays_script, ScriptEnds, SafeEnds, AskedEnds, AskEnds, TextEnds, FoundEnds, Answers, AnswersCommand, Prints, IsPrinted, seen};
 
+use crate::ahead::{Asked, asked_of};
 use crate::commands::{Command, spoken};
-use crate::starting::play;
+use crate::questions::Question;
+use crate::starting::{play, play_and_answer};
 use crate::summing::{Recipe, generate, recipe_of};
 use gt_base::{List, Memory};
 use gt_io::{ReadFault, Shelf, Sink, Source, find_all, read_all, write_all};
@@ -65,40 +68,96 @@ fn run<I: Source>(alloc: Global, text: &[u8], input: &mut I) -> Result<End, Memo
     }
 }
 
+/// Reads the script, runs it, and tells what is asked behind it.
+fn ask_script<I: Source>(
+    alloc: Global,
+    safe: Safe,
+    asked: Asked,
+    input: &mut I,
+) -> Result<End, Memory>
+    ensures end { IfOk result (λ end. AskedEnds (Rose (I.faults input.old) (I.faults input.new)) safe (Some asked) (I.left input.old) (seen_end end)) }
+    ensures caused { IfOk result (λ end. IsScriptCaused (Rose (I.faults input.old) (I.faults input.new)) (I.left input.old) end.status) }
+    ensures read { IfOk result (λ end. IsRunStatus end.status → IsAtEnd (I.left input.new)) }
+{
+    match read_all(alloc, input, MAX_SCRIPT) {
+        Ok(script) => play_and_answer(alloc, safe, asked, &script),
+        Err(ReadFault::Memory) => Err(AllocError),
+        Err(ReadFault::Failed) => say(alloc, 4, b"read fault\n"),
+        Err(ReadFault::TooLong) => say(alloc, 6, b"too long: script\n"),
+    }
+}
+
+/// Tells what is asked behind the script over a safe policy, where the policy has all the names.
+fn ask_safe<I: Source>(
+    alloc: Global,
+    safe: Safe,
+    question: Question,
+    input: &mut I,
+) -> Result<End, Memory>
+    ensures end { IfOk result (λ end. AskedEnds (Rose (I.faults input.old) (I.faults input.new)) safe (asked_by safe question) (I.left input.old) (seen_end end)) }
+    ensures caused { IfOk result (λ end. ((end.status ≡ 13) × (asked_by safe question ≡ None)) ⊎ IsScriptCaused (Rose (I.faults input.old) (I.faults input.new)) (I.left input.old) end.status) }
+    ensures read { IfOk result (λ end. IsRunStatus end.status → IsAtEnd (I.left input.new)) }
+{
+    match asked_of(safe.policy(), question) {
+        Some(asked) => ask_script(alloc, safe, asked, input),
+        None => say(alloc, 13, b"unknown name\n"),
+    }
+}
+
+/// Tells what is asked behind the script over the policy of a text.
+fn ask<I: Source>(
+    alloc: Global,
+    text: &[u8],
+    question: Question,
+    input: &mut I,
+) -> Result<End, Memory>
+    requires { length text.now ≤ 4_194_304 }
+    ensures end { IfOk result (λ end. AskEnds (Rose (I.faults input.old) (I.faults input.new)) question (safe_in text.now) (I.left input.old) (seen_end end)) }
+    ensures caused { IfOk result (λ end. IsCaused (Rose (I.faults input.old) (I.faults input.new)) text.now (I.left input.old) end.status) }
+    ensures read { IfOk result (λ end. IsRunStatus end.status → IsAtEnd (I.left input.new)) }
+    ensures kept { (input.new ≡ input.old) ⊎ IsSafeText text.now }
+{
+    match admit(alloc, text)? {
+        Admitted::Safe(safe) => ask_safe(alloc, safe, question, input),
+        Admitted::Ended(told) => Ok(told),
+    }
+}
+
 /// Answers a command over the text of its policy and the input.
 fn answer_text<I: Source>(
     alloc: Global,
-    command: Command<'_>,
+    command: &Command<'_>,
     text: &[u8],
     input: &mut I,
 ) -> Result<End, Memory>
     requires { length text.now ≤ 4_194_304 }
-    ensures end { IfOk result (λ end. TextEnds (Rose (I.faults input.old) (I.faults input.new)) (seen_command command.entry) text.now (I.left input.old) (seen_end end)) }
+    ensures end { IfOk result (λ end. TextEnds (Rose (I.faults input.old) (I.faults input.new)) (seen_command command.now) text.now (I.left input.old) (seen_end end)) }
     ensures caused { IfOk result (λ end. IsCaused (Rose (I.faults input.old) (I.faults input.new)) text.now (I.left input.old) end.status) }
-    ensures read { IfOk result (λ end. IsTrue (plays_script (seen_command command.entry)) → IsRunStatus end.status → IsAtEnd (I.left input.new)) }
-    ensures kept { (input.new ≡ input.old) ⊎ (IsTrue (plays_script (seen_command command.entry)) × IsSafeText text.now) }
+    ensures read { IfOk result (λ end. IsTrue (plays_script (seen_command command.now)) → IsRunStatus end.status → IsAtEnd (I.left input.new)) }
+    ensures kept { (input.new ≡ input.old) ⊎ (IsTrue (plays_script (seen_command command.now)) × IsSafeText text.now) }
 {
     match command {
         Command::Check(_) => check(alloc, text),
         Command::Fmt(_) => lay_out(alloc, text),
         Command::Run(_) => run(alloc, text, input),
+        Command::Ask(_, question) => ask(alloc, text, *question, input),
     }
 }
 
 /// Answers a command over the texts by their names and the input.
 fn answer<S: Shelf, I: Source>(
     alloc: Global,
-    command: Command<'_>,
+    command: &Command<'_>,
     shelf: &mut S,
     input: &mut I,
 ) -> Result<End, Memory>
     ensures end { IfOk result (λ end. FoundEnds (Rose (S.hard_faults shelf.old) (S.hard_faults shelf.new)) (Rose (I.faults input.old) (I.faults input.new))
-        (seen_command command.entry) (S.contents shelf.old) (I.left input.old) (seen_end end)) }
+        (seen_command command.now) (S.contents shelf.old) (I.left input.old) (seen_end end)) }
     ensures caused { IfOk result (λ end. IsCausedIn (Rose (S.hard_faults shelf.old) (S.hard_faults shelf.new)) (Rose (I.faults input.old) (I.faults input.new))
-        (S.contents shelf.old) (named_by (seen_command command.entry)) (I.left input.old) end.status) }
+        (S.contents shelf.old) (named_by (seen_command command.now)) (I.left input.old) end.status) }
     ensures same { S.contents shelf.new ≡ S.contents shelf.old }
-    ensures read { IfOk result (λ end. IsTrue (plays_script (seen_command command.entry)) → IsRunStatus end.status → IsAtEnd (I.left input.new)) }
-    ensures kept { (input.new ≡ input.old) ⊎ IsScriptDue (seen_command command.entry) (S.contents shelf.old) }
+    ensures read { IfOk result (λ end. IsTrue (plays_script (seen_command command.now)) → IsRunStatus end.status → IsAtEnd (I.left input.new)) }
+    ensures kept { (input.new ≡ input.old) ⊎ IsScriptDue (seen_command command.now) (S.contents shelf.old) }
 {
     match find_all(alloc, shelf, command.name(), MAX_POLICY) {
         Ok(text) => answer_text(alloc, command, &text, input),
@@ -147,10 +206,10 @@ fn run_command<S: Shelf, I: Source, K: Sink>(
         return print(
             out,
             1,
-            b"usage: gtrbac check POLICY | fmt POLICY | run POLICY | gen SEED SIZE\n",
+            b"usage: gtrbac check POLICY | fmt POLICY | run POLICY | gen SEED SIZE | forecast POLICY DAYS COND\n",
         );
     };
-    match answer(alloc, command, shelf, input) {
+    match answer(alloc, &command, shelf, input) {
         Ok(end) => print(out, end.status, end.text.as_slice()),
         Err(_) => 8,
     }
@@ -171,8 +230,9 @@ fn run_gen<K: Sink>(alloc: Global, recipe: Recipe, out: &mut K) -> u8
 }
 
 /// Runs the command that the words are, over a shelf of texts by name and an input, and prints to `out`. The commands are
-/// `check POLICY`, which says whether a policy is safe, `fmt POLICY`, which lays it out, and `run POLICY`, which reads a
-/// script from the input to its end and prints its replies; the policy is found on the shelf. `gen SEED SIZE` makes a policy
+/// `check POLICY`, which says whether a policy is safe, `fmt POLICY`, which lays it out, `run POLICY`, which reads a
+/// script from the input to its end and prints its replies, and `forecast POLICY DAYS COND`, which prints behind these when
+/// the answer of the condition changes within so many days, if no request comes any more; the policy is found on the shelf. `gen SEED SIZE` makes a policy
 /// and a script, plays them and prints a summary; it reads neither shelf nor input. It answers the exit status:
 ///
 /// - 0: the policy is safe, or was laid out, or the script was run to its end;
@@ -184,7 +244,8 @@ fn run_gen<K: Sink>(alloc: Global, recipe: Recipe, out: &mut K) -> u8
 /// - 6: the policy has more than 4,194,304 bytes or the script more than 16,777,216;
 /// - 7: a line of the script is no script line, and the replies before it were printed;
 /// - 8: there was no memory, and nothing was written;
-/// - 9: a step was asked for with 1,000,000 entries in the history.
+/// - 9: a step was asked for with 1,000,000 entries in the history;
+/// - 13: the policy does not declare a name of the condition, or has no such edge.
 pub fn tool<S: Shelf, I: Source, K: Sink>(
     alloc: Global,
     words: &[String],

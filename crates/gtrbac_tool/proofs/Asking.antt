@@ -1,0 +1,79 @@
+-- What is asked behind a script, as it is told and caused.
+use Rattle.std.proofs.Common.{◌≡◌, ℕ, List, [], Option, Some, None, ◌⊎◌, inl, inr, refl, sym, ap, ◌∙◌, subst}
+use Rattle.std.specs.Prelude.{Result, Ok, Err, IfOk}
+use Rattle.gt_base.specs.declared.requests.Entry.{Entry}
+use Rattle.gtrbac_model.specs.Policy.{Policy}
+use Rattle.policy_words.specs.Naming.{NamedPolicy}
+use Rattle.policy_commands.specs.declared.ends.End.{End}
+use Rattle.policy_commands.specs.Ends.{Told, told, seen_end}
+use Rattle.policy_commands.specs.Policies.{safe_in}
+use Rattle.gtrbac_tool.specs.declared.ahead.Asked.{Asked}
+use Rattle.gtrbac_tool.specs.declared.questions.Question.{Question}
+use Rattle.gtrbac_tool.specs.declared.script.Outcome.{Outcome}
+use Rattle.gtrbac_tool.specs.declared.starting.Ran.TheVariants.{Unborn, Born}
+use Rattle.gtrbac_tool.specs.Told.{no_birth}
+use Rattle.gtrbac_tool.specs.Script.{Start, never, born, failed, start_of, EndsFrom}
+use Rattle.gtrbac_tool.specs.Started.{IsUnborn, RanFrom}
+use Rattle.gtrbac_tool.specs.Late.{asked_of, Follows, Answered, AnswersFrom}
+use Rattle.gtrbac_tool.specs.Causes.{IsRunStatus, IsScriptCaused, IsCaused}
+use Rattle.gtrbac_tool.proofs.Causing.{FailsWith, starts, played_status, status_of}
+
+-- the status is that of the run
+followed : (p : Policy) (asked : Asked) (birth : ℕ) (h : List Entry) (ran end : Told) → Follows p asked birth h ran end → end.status ≡ ran.status
+followed p asked birth h ran end (inl x) = status_of end _ x.1.2 ∙ sym x.0
+followed p asked birth h ran end (inr x) = status_of end ran x.1
+
+pub ran_of : (np : NamedPolicy) (asked : Asked) (start : Start) (end : Told) → AnswersFrom np asked start end → (ran : Told) × EndsFrom np start ran × (end.status ≡ ran.status)
+ran_of np asked never end is = (told 0 [], refl, status_of end no_birth is)
+ran_of np asked (born birth n lines) end a = (a.ran, (a.history, a.run), followed np.policy asked birth a.history a.ran end a.follows)
+ran_of np asked (failed t) end is = (t, refl, status_of end t is)
+
+run_so : (np : NamedPolicy) (asked : Asked) (lines : List (List ℕ)) (end : Told) → AnswersFrom np asked (start_of np 1 lines) end → IsRunStatus end.status
+run_so np asked lines end is = let ran = ran_of np asked (start_of np 1 lines) end is in subst IsRunStatus (sym ran.2) (played_status np lines ran.0 ran.1)
+
+pub answered_caused : {E : Type 0} (np : NamedPolicy) (asked : Asked) (lines : List (List ℕ)) (lost : Type 0) (input : Option (List ℕ)) (r : Result End E)
+    → IfOk r (λ e. AnswersFrom np asked (start_of np 1 lines) (seen_end e)) → IfOk r (λ e. IsScriptCaused lost input e.status)
+answered_caused np asked lines lost input (Ok e) h = inl (run_so np asked lines (seen_end e) h)
+answered_caused np asked lines lost input (Err f) h = tt
+
+pub ask_caused : {E : Type 0} (text : List ℕ) (np : NamedPolicy) (question : Question) (lost : Type 0) (input : Option (List ℕ)) (r : Result End E) → safe_in text ≡ Ok np
+    → IfOk r (λ e. ((e.status ≡ 13) × (asked_of np question ≡ None)) ⊎ IsScriptCaused lost input e.status) → IfOk r (λ e. IsCaused lost text input e.status)
+ask_caused text np question lost input (Ok e) safe (inl h) = inr (inr (inl (h.0, (np, safe, (question, h.1)))))
+ask_caused text np question lost input (Ok e) safe (inr h) = inr (inr (inr h))
+ask_caused text np question lost input (Err f) safe h = tt
+
+-- how a script was run, with what is asked behind it
+
+unborn_end : (np : NamedPolicy) (asked : Asked) (start : Start) (end : End) (other : Told) → FailsWith start → RanFrom np start (Unborn end) → IsUnborn (seen_end end) other → AnswersFrom np asked start other
+unborn_end np asked never end other fails ran (inl h) = h.1
+unborn_end np asked never end other fails ran (inr h) = absurd (h.0 (status_of (seen_end end) _ ran))
+unborn_end np asked (born birth n lines) end other fails ran is = absurd ran
+unborn_end np asked (failed t) end other fails ran (inl h) = absurd (clash (sym (h.0) ∙ status_of (seen_end end) t ran ∙ fails))
+  where
+    clash : ◌≡◌ {A = ℕ} 0 7 → ⊥
+    clash e = cc (e)
+unborn_end np asked (failed t) end other fails ran (inr h) = h.1 ∙ ran
+
+pub unborn_answers : {E : Type 0} (np : NamedPolicy) (asked : Asked) (lines : List (List ℕ)) (end : End) (r : Result End E) → RanFrom np (start_of np 1 lines) (Unborn end)
+    → IfOk r (λ e. IsUnborn (seen_end end) (seen_end e)) → IfOk r (λ e. AnswersFrom np asked (start_of np 1 lines) (seen_end e))
+unborn_answers np asked lines end (Ok e) ran is = unborn_end np asked (start_of np 1 lines) end (seen_end e) (starts np 1 lines) ran is
+unborn_answers np asked lines end (Err f) ran is = tt
+
+born_end : (np : NamedPolicy) (asked : Asked) (start : Start) (out : Outcome) (end : Told) → RanFrom np start (Born out)
+    → Follows out.book.named.policy asked out.book.birth out.book.entries (seen_end out.end) end → AnswersFrom np asked start end
+born_end np asked never out end ran is = absurd ran
+born_end np asked (born birth n lines) out end ran is =
+    record {
+      history = out.book.entries;
+      ran = seen_end out.end;
+      run = ran.run;
+      follows =
+          subst (λ (q : NamedPolicy). Follows q.policy asked birth out.book.entries (seen_end out.end) end) ran.of_policy
+          (subst (λ (t : ℕ). Follows out.book.named.policy asked t out.book.entries (seen_end out.end) end) ran.of_birth is);
+    }
+born_end np asked (failed t) out end ran is = absurd ran
+
+pub born_answers : {E : Type 0} (np : NamedPolicy) (asked : Asked) (start : Start) (out : Outcome) (r : Result End E) → RanFrom np start (Born out)
+    → IfOk r (λ e. Follows out.book.named.policy asked out.book.birth out.book.entries (seen_end out.end) (seen_end e)) → IfOk r (λ e. AnswersFrom np asked start (seen_end e))
+born_answers np asked start out (Ok e) ran is = born_end np asked start out (seen_end e) ran is
+born_answers np asked start out (Err f) ran is = tt
