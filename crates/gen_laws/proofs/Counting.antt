@@ -1,5 +1,5 @@
 -- How many entries a script's lines make over a made policy.
-use Rattle.std.proofs.Common.{◌≡◌, ◌⊎◌, inl, inr, ℕ, zero, suc, ◌+◌, ◌-◌, ◌*◌, ◌/◌, ◌≤◌, ◌<◌, true, false, List, [], ◌∷◌, ◌++◌, length, refl, sym, ap, ◌∙◌, subst, arith, append_assoc, append-nil, length-append}
+use Rattle.std.proofs.Common.{◌≡◌, inl, inr, ℕ, suc, ◌+◌, ◌-◌, ◌*◌, ◌≤◌, ◌<◌, true, List, [], ◌∷◌, ◌++◌, length, refl, sym, ap, ◌∙◌, subst, arith, append_assoc, append-nil, length-append}
 use Rattle.std.specs.List.{AllByRecursion}
 use Rattle.gt_base.specs.Bounds.{last_minute}
 use Rattle.gt_base.specs.Machines.{asked, ticked}
@@ -12,7 +12,7 @@ use Rattle.gt_base.specs.declared.requests.Step.TheVariants.{Tick, Ask as Asked}
 use Rattle.gt_base.specs.declared.requests.Entry.{Entry}
 use Rattle.gtrbac_model.specs.Policy.{Policy}
 use Rattle.gtrbac_model.specs.Status.{Model}
-use Rattle.gtrbac_model.specs.Sessions.{Table, applied, close_minutes, empty_table}
+use Rattle.gtrbac_model.specs.Sessions.{Table, close_minutes, empty_table}
 use Rattle.gtrbac_model.specs.Base.{requested, queued_at, status}
 use Rattle.gtrbac_model.specs.History.{AreLegalAfter, IsLegalStep, IsNextStop, stirs, now_of}
 use Rattle.gtrbac_model.proofs.Append.{steps_append}

@@ -1,5 +1,5 @@
 -- The history of a made script stays below the limit.
-use Rattle.std.proofs.Common.{◌≡◌, ℕ, zero, suc, ◌+◌, ◌-◌, ◌*◌, ◌/◌, ◌≤◌, ◌<◌, Bool, true, false, nat_eq, List, [], ◌∷◌, ◌++◌, flat_map, length, refl, sym, ap, ◌∙◌, subst, arith}
+use Rattle.std.proofs.Common.{◌≡◌, ℕ, zero, suc, ◌+◌, ◌-◌, ◌*◌, ◌≤◌, ◌<◌, Bool, true, false, nat_eq, List, [], ◌∷◌, ◌++◌, flat_map, length, refl, sym, ap, ◌∙◌, subst, arith}
 use Rattle.std.specs.Prelude.{if◌then◌else◌}
 use Rattle.std.specs.List.{range_with_len, AllByRecursion}
 use Rattle.gt_base.specs.Bounds.{last_minute, max_steps}
@@ -9,15 +9,15 @@ use Rattle.gt_base.specs.declared.requests.Entry.{Entry}
 use Rattle.gtrbac_model.specs.Status.{Model}
 use Rattle.gtrbac_model.specs.Base.{queued_at}
 use Rattle.gtrbac_model.specs.History.{Legal, now_of}
-use Rattle.policy_gen.specs.Draws.{first_minute, Round, round, minute_after}
+use Rattle.policy_gen.specs.Draws.{first_minute, Round, round}
 use Rattle.policy_gen.specs.Texts.{count_of}
 use Rattle.request_text.specs.declared.lines.Line.{Line}
 use Rattle.gen_laws.specs.Made.{role_at, made_policy}
 use Rattle.gen_laws.specs.Played.{is_enabled, opening_said, request_said, round_said, script_moves}
 use Rattle.gen_laws.specs.Following.{Follows}
-use Rattle.gen_laws.proofs.Counting.{cost, costs, IsCalm, IsPaid, follow, at_birth}
+use Rattle.gen_laws.proofs.Counting.{costs, IsCalm, IsPaid, follow, at_birth}
 use Rattle.gen_laws.proofs.Script.{minute_low}
-use Rattle.gen_laws.proofs.Stirring.{hours, hours_rise}
+use Rattle.gen_laws.proofs.Stirring.{hours_rise}
 
 -- the last minute that a made script can come to
 abbrev most : ℕ

@@ -1,19 +1,18 @@
 -- What an instant that stirs costs over a made policy: a signal, a dropped activation, or another hour.
-use Rattle.std.proofs.Common.{◌≡◌, ◌⊎◌, inl, inr, ℕ, zero, suc, ◌+◌, ◌-◌, ◌*◌, ◌/◌, ◌≤◌, ◌<◌, Bool, true, false, not, cond, nat_eq, nat_le, nat_lt, ◌&&◌, ◌||◌, List, [], ◌∷◌, ◌++◌, map, filter, flat_map, length, Option, Some, None, refl, sym, ap, ◌∙◌, subst, arith}
+use Rattle.std.proofs.Common.{◌≡◌, ◌⊎◌, inl, inr, ℕ, zero, suc, ◌+◌, ◌-◌, ◌/◌, ◌≤◌, ◌<◌, Bool, true, false, not, nat_eq, nat_lt, ◌&&◌, ◌||◌, List, [], ◌∷◌, ◌++◌, map, flat_map, length, refl, sym, ap, ◌∙◌, arith}
 use Rattle.std.specs.List.{range_with_len}
 use Rattle.std.proofs.lemmas.Bool.{eqb-true, eqb-false, le-leb, false≢true}
 use Rattle.gt_base.specs.Bounds.{last_minute}
 use Rattle.gt_base.specs.declared.events.Prioritised.{Prioritised}
-use Rattle.gt_base.specs.declared.events.Fluent.{Fluent}
 use Rattle.gt_base.specs.declared.requests.Entry.{Entry}
 use Rattle.gtrbac_model.proofs.Elements.{split}
 use Rattle.gtrbac_model.specs.Trigger.{met}
 use Rattle.gtrbac_model.specs.Calendar.{minute_of}
 use Rattle.gtrbac_model.specs.Period.{inside, begun_within}
 use Rattle.gtrbac_model.specs.Policy.{Policy}
-use Rattle.gtrbac_model.specs.Status.{Model, since}
-use Rattle.gtrbac_model.specs.Sessions.{Table, drops, signal_of, close_minute, close_minutes, empty_table}
-use Rattle.gtrbac_model.specs.Base.{when, turned, raised_by, periodic, requested, delayed, limited, raised_at, signals_at, drops_at, table_at, status}
+use Rattle.gtrbac_model.specs.Status.{Model}
+use Rattle.gtrbac_model.specs.Sessions.{Table, drops, signal_of, close_minutes, empty_table}
+use Rattle.gtrbac_model.specs.Base.{when, turned, raised_by, periodic, requested, delayed, raised_at, signals_at, drops_at, table_at, status}
 use Rattle.gtrbac_model.specs.History.{is_some_item, stirs, now_of}
 use Rattle.history_laws.proofs.Reading.{Onward, whole, read_whole}
 use Rattle.gen_laws.specs.Made.{office_hours, first_on, at_fifty, passed_both, policy_of_made}
