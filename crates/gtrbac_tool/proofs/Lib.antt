@@ -7,4 +7,5 @@ pub mod Exactness
 pub mod Ran
 pub mod Spoken
 pub mod Steps
+pub mod Succeeding
 pub mod Tallying

@@ -220,6 +220,7 @@ fn run_gen<K: Sink>(alloc: Global, recipe: Recipe, out: &mut K) -> u8
     requires { (1 ≤ recipe.size) × (recipe.size ≤ 100_000) }
     ensures answers { Prints (GenEnds (seen_recipe recipe)) result (K.written out.old) (K.written out.new) (K.faults out.old) (K.faults out.new) }
     ensures caused { (result ≡ 5) ⊎ (result ≡ 8) ⊎ IsGenCaused recipe.size result }
+    ensures succeeds { (result ≡ 0) ⊎ (result ≡ 5) ⊎ (result ≡ 8) }
     ensures write_fault { result ≡ 5 → Rose (K.faults out.old) (K.faults out.new) }
     ensures written { (result ≡ 5 → ⊥) → K.faults out.new ≡ K.faults out.old }
 {
@@ -274,7 +275,7 @@ pub fn tool<S: Shelf, I: Source, K: Sink>(
     ensures complete { Complete (map string_bytes words.now) result
         (seen (S.contents shelf.old) (S.hard_faults shelf.old) (I.left input.old) (I.faults input.old) (K.written out.old) (K.faults out.old))
         (seen (S.contents shelf.new) (S.hard_faults shelf.new) (I.left input.new) (I.faults input.new) (K.written out.new) (K.faults out.new)) }
-    ensures generated { IsNoGen (map string_bytes words.now) ⊎ (result ≡ 5) ⊎ (result ≡ 8) ⊎ ((g : Gen) × IsGen (map string_bytes words.now) g × IsGenCaused g.size result) }
+    ensures generated { IsNoGen (map string_bytes words.now) ⊎ (result ≡ 0) ⊎ (result ≡ 5) ⊎ (result ≡ 8) }
     ensures same { S.contents shelf.new ≡ S.contents shelf.old }
     ensures read { IsReadOut (map string_bytes words.now) result (I.left input.new) }
     ensures kept { (input.new ≡ input.old) ⊎ ReadsScript (map string_bytes words.now) (S.contents shelf.old) }

@@ -1,4 +1,4 @@
-use Rattle.std.proofs.Common.{inl, inr, map}
+use Rattle.std.proofs.Common.{inr, map}
 use Rattle.std.specs.Prelude.{string_bytes}
 use Rattle.gtrbac_tool.specs.Counted.{seen_recipe}
 use Rattle.gtrbac_tool.specs.Tool.{seen}
@@ -36,5 +36,4 @@ pub returns-in-Some-clause-complete : goal.returns-in-Some-clause-complete
 returns-in-Some-clause-complete g c = λ other. absurd (other (seen_recipe c.in-Some.recipe) c.in-Some.ensures.some)
 
 pub returns-in-Some-clause-generated : goal.returns-in-Some-clause-generated
-returns-in-Some-clause-generated g c =
-    inr (elim c.run_gen.ensures.caused [ inl a ↦ inl a | inr rest ↦ inr (elim rest [ inl b ↦ inl b | inr k ↦ inr (seen_recipe c.in-Some.recipe, c.in-Some.ensures.some, k) ]) ])
+returns-in-Some-clause-generated g c = inr c.run_gen.ensures.succeeds

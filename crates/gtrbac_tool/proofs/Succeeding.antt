@@ -1,0 +1,184 @@
+-- What `gen` makes is read, judged safe and played to its end.
+use Rattle.std.proofs.Common.{◌≡◌, ◌⊎◌, inl, inr, ℕ, ◌+◌, ◌≤◌, ◌<◌, true, false, nat_eq, List, [], ◌∷◌, ◌++◌, map, length, Option, None, Result, Ok, Err, refl, sym, ap, ◌∙◌, subst, arith, append_assoc, append-nil}
+use Rattle.gt_base.specs.Bounds.{max_steps}
+use Rattle.gt_base.specs.Machines.{ticked, asked}
+use Rattle.gt_base.specs.declared.requests.Actor.TheVariants.{Operator}
+use Rattle.gt_base.specs.declared.requests.Entry.{Entry}
+use Rattle.gtrbac_model.specs.Safety.{the_cycle}
+use Rattle.gtrbac_model.specs.Status.{Model}
+use Rattle.gtrbac_model.specs.History.{Legal}
+use Rattle.walk_laws.proofs.Closing.{tells}
+use Rattle.gt_text.specs.Lines.{lines_of}
+use Rattle.policy_words.specs.Naming.{NamedPolicy}
+use Rattle.policy_commands.specs.Ends.{Told, told}
+use Rattle.policy_commands.specs.Policies.{read_or_told, safe_or_told, judged, policy_in, judged_or_told, safe_in}
+use Rattle.policy_gen.specs.Draws.{first_minute}
+use Rattle.policy_gen.specs.Texts.{time_line, policy_text, script_text}
+use Rattle.request_text.specs.declared.lines.Line.{Line}
+use Rattle.request_text.specs.declared.lines.Line.TheVariants.{Silent, At, Be, Ask}
+use Rattle.request_text.specs.declared.lines.LineFault.{LineFault}
+use Rattle.request_text.specs.Phrases.{read_line}
+use Rattle.gen_laws.specs.Made.{made_policy}
+use Rattle.gen_laws.specs.Played.{script_said, script_moves}
+use Rattle.gen_laws.specs.Following.{IsTickTo, AreTicksTo, Follows}
+use Rattle.gen_laws.specs.Laws.{IsBorn}
+use Rattle.gen_laws.proofs.ReadPolicy.{policy_is_read, policy_is_safe}
+use Rattle.gen_laws.proofs.Script.{script_is_said, script_is_born}
+use Rattle.gen_laws.proofs.Short.{history_is_short}
+use Rattle.gtrbac_tool.specs.Script.{scripts_who, Going, AreTicks, Arrives, IsFilled, said, Moves, Plays, Stops, at_birth, StoppedAt, PlayedOut, RunOver, begun, born, start_of}
+use Rattle.gtrbac_tool.specs.Summary.{Gen, summary, summed, Summed, SummedFrom, SummedOver, GenEnds}
+
+-- the made policy is the safe one of its text
+safe_made : (size : ℕ) → 1 ≤ size → safe_in (policy_text size) ≡ Ok (made_policy size)
+unfolding safe_in policy_in judged
+safe_made size low =
+    ap (λ r. judged_or_told (read_or_told r)) (policy_is_read size low)
+    ∙ ap (safe_or_told (made_policy size)) ((tells (made_policy size).policy.triggers).0 (policy_is_safe size))
+
+-- a list of texts in two parts, of which each says its part
+
+pub record Parts (rd : List ℕ → Result Line LineFault) (ts us : List (List ℕ)) (ls : List Line) : Type 0 where
+  pub front : List Line
+  pub back : List Line
+  pub parts : ls ≡ front ++ back
+  pub of_front : map rd ts ≡ map (λ l. Ok l) front
+  pub of_back : map rd us ≡ map (λ l. Ok l) back
+
+head_same : {A : Type 0} (a b : A) (as' bs : List A) → ◌≡◌ {A = List A} (a ∷ as') (b ∷ bs) → a ≡ b
+head_same a b as' bs e = cc
+
+tail_same : {A : Type 0} (a b : A) (as' bs : List A) → ◌≡◌ {A = List A} (a ∷ as') (b ∷ bs) → as' ≡ bs
+tail_same a b as' bs e = cc
+
+in_parts : (rd : List ℕ → Result Line LineFault) (ts us : List (List ℕ)) (ls : List Line) → map rd (ts ++ us) ≡ map (λ l. Ok l) ls → Parts rd ts us ls
+in_parts rd [] us ls e = record { front = []; back = ls; parts = refl; of_front = refl; of_back = e }
+in_parts rd (t ∷ ts) us [] e = cc
+in_parts rd (t ∷ ts) us (l ∷ ls) e =
+    let rest = in_parts rd ts us ls (tail_same (rd t) (Ok l) (map rd (ts ++ us)) (map (λ l. Ok l) ls) e) in
+    record {
+      front = l ∷ rest.front;
+      back = rest.back;
+      parts = ap (λ (xs : List Line). l ∷ xs) rest.parts;
+      of_front = λ i. head_same (rd t) (Ok l) (map rd (ts ++ us)) (map (λ l. Ok l) ls) e i ∷ rest.of_front i;
+      of_back = rest.of_back;
+    }
+
+-- lines that follow one after another
+
+follows_both : (ls ms : List Line) (h g : List Entry) → Follows ls h → Follows ms g → Follows (ls ++ ms) (h ++ g)
+follows_both [] ms h g a b = subst (λ (x : List Entry). Follows ms (x ++ g)) (sym a) b
+follows_both (Silent ∷ ls) ms h g a b = follows_both ls ms h g a b
+follows_both (Be actor ∷ ls) ms h g a b = follows_both ls ms h g a b
+follows_both (At minute ∷ ls) ms h g a b = (a.0, a.1 ++ g, ap (λ (x : List Entry). x ++ g) a.2 ∙ append_assoc a.0 a.1 g, a.3, follows_both ls ms a.1 g a.4 b)
+follows_both (Ask request ∷ ls) ms h g a b = (a.0, a.1, a.2, a.3 ++ g, ap (λ (x : List Entry). x ++ g) a.4, follows_both ls ms a.3 g a.5 b)
+
+ticks_to : (bound : ℕ) (es : List Entry) → AreTicks bound es → AreTicksTo bound es
+ticks_to bound [] h = tt
+ticks_to bound (e ∷ es) h = (subst (λ (x : Entry). IsTickTo bound x.what) (sym h.0.1) refl, ticks_to bound es h.1)
+
+module _ (np : NamedPolicy) (birth : ℕ) where
+  -- what a run added, as the lines say
+  pub record Added (ls : List Line) (s t : Going) : Type 0 where
+    pub entries : List Entry
+    pub added : t.history ≡ s.history ++ entries
+    pub follows : Follows ls entries
+
+  one_move : (l : Line) (ls : List Line) (s m t : Going) → Moves np birth (Ok l) s m → Added ls m t → Added (l ∷ ls) s t
+  one_move Silent ls s m t move rest =
+      record { entries = rest.entries; added = rest.added ∙ ap (λ (x : Going). x.history ++ rest.entries) move; follows = rest.follows }
+  one_move (Be actor) ls s m t move rest =
+      record { entries = rest.entries; added = rest.added ∙ ap (λ (x : Going). x.history ++ rest.entries) move; follows = rest.follows }
+  one_move (At minute) ls s m t move rest =
+      let arrives : Arrives birth minute s.history move.0 = move.1 in
+      record {
+        entries = arrives.ticks ++ rest.entries;
+        added =
+            rest.added ∙ ap (λ (x : Going). x.history ++ rest.entries) move.2 ∙ ap (λ (x : List Entry). x ++ rest.entries) arrives.added ∙ append_assoc s.history arrives.ticks rest.entries;
+        follows = (arrives.ticks, rest.entries, refl, ticks_to minute arrives.ticks arrives.are_ticks, rest.follows);
+      }
+  one_move (Ask request) ls s m t move rest =
+      let e : Entry = asked scripts_who s.actor request move.0 in
+      record {
+        entries = e ∷ rest.entries;
+        added = rest.added ∙ ap (λ (x : Going). x.history ++ rest.entries) move.2 ∙ append_assoc s.history (e ∷ []) rest.entries;
+        follows = (scripts_who, s.actor, move.0, rest.entries, refl, rest.follows);
+      }
+
+  run_added : (ts : List (List ℕ)) (ls : List Line) (s t : Going) → map (said np) ts ≡ map (λ l. Ok l) ls → Plays np birth ts s t → Added ls s t
+  run_added [] [] s t e plays = record { entries = []; added = ap (λ (x : Going). x.history) plays ∙ sym (append-nil s.history); follows = refl }
+  run_added [] (l ∷ ls) s t e plays = cc
+  run_added (x ∷ ts) [] s t e plays = cc
+  run_added (x ∷ ts) (l ∷ ls) s t e plays =
+      one_move l ls s plays.0 t
+      (subst (λ (r : Result Line LineFault). Moves np birth r s plays.0) (head_same (said np x) (Ok l) (map (said np) ts) (map (λ l. Ok l) ls) e) plays.1)
+      (run_added ts ls plays.0 t (tail_same (said np x) (Ok l) (map (said np) ts) (map (λ l. Ok l) ls) e) plays.2)
+
+module _ (seed size : ℕ) (low : 1 ≤ size) (high : size ≤ 100_000) where
+  abbrev np : NamedPolicy
+  np = made_policy size
+
+  made : IsBorn seed size
+  made = script_is_born seed size low high
+
+  -- what the lines behind the birth say
+  moves : map (said np) made.behind ≡ map (λ l. Ok l) (script_moves seed size)
+  moves =
+      tail_same (said np (time_line first_minute)) (Ok (At first_minute)) (map (said np) made.behind) (map (λ l. Ok l) (script_moves seed size))
+      (ap (map (said np)) (sym made.lines_are) ∙ script_is_said seed size low high)
+
+  never_full : (h : List Entry) → length h < max_steps → length h ≡ max_steps → ⊥
+  never_full h lt e = omega (arith, lt, e)
+
+  -- no line stops the run
+  module _ (front : List (List ℕ)) (line : List ℕ) (rest : List (List ℕ)) (is : made.behind ≡ front ++ line ∷ rest) (before : Going) (plays : Plays np first_minute front (at_birth np first_minute) before)
+      (h : List Entry) (m : Model) (legal : Legal np.policy first_minute h m) where
+    cut : Parts (said np) front (line ∷ rest) (script_moves seed size)
+    cut = in_parts (said np) front (line ∷ rest) (script_moves seed size) (ap (map (said np)) (sym is) ∙ moves)
+
+    so_far : Added np first_minute cut.front (at_birth np first_minute) before
+    so_far = run_added np first_minute front cut.front (at_birth np first_minute) before cut.of_front plays
+
+    whole_front : before.history ≡ so_far.entries
+    whole_front = so_far.added
+
+    no_stop : (back : List Line) → cut.back ≡ back → map (said np) (line ∷ rest) ≡ map (λ l. Ok l) back → (n : ℕ) (end : Told) → Stops np first_minute (said np line) n before h end → ⊥
+    no_stop [] e of n end stops = cc
+    no_stop (l ∷ ls) e of n end stops = by l e (subst (λ (r : Result Line LineFault). Stops np first_minute r n before h end) (head_same (said np line) (Ok l) (map (said np) rest) (map (λ l. Ok l) ls) of) stops)
+      where
+        by : (l : Line) → cut.back ≡ l ∷ ls → Stops np first_minute (Ok l) n before h end → ⊥
+        by Silent e stops = stops
+        by (Be actor) e stops = stops
+        by (At minute) e stops =
+            let filled : IsFilled first_minute minute before.history h = stops.0 in
+            never_full h
+            (history_is_short seed size low high (cut.front ++ At minute ∷ []) ls (append_assoc cut.front (At minute ∷ []) ls ∙ ap (λ (x : List Line). cut.front ++ x) (sym e) ∙ sym cut.parts) h m
+            (subst (λ (x : List Entry). Follows (cut.front ++ At minute ∷ []) x) (ap (λ (x : List Entry). x ++ filled.ticks) (sym whole_front) ∙ sym filled.added)
+            (follows_both cut.front (At minute ∷ []) so_far.entries filled.ticks so_far.follows (filled.ticks, [], sym (append-nil filled.ticks), ticks_to minute filled.ticks filled.are_ticks, refl)))
+            legal)
+            filled.full
+        by (Ask request) e stops =
+            never_full before.history
+            (subst (λ (x : List Entry). length x < max_steps) stops.1
+            (history_is_short seed size low high cut.front (Ask request ∷ ls) (ap (λ (x : List Line). cut.front ++ x) (sym e) ∙ sym cut.parts) h m
+            (subst (λ (x : List Entry). Follows cut.front x) (sym (stops.1 ∙ whole_front)) so_far.follows) legal))
+            stops.0
+
+  sums : (g : Gen) (end : Told) → Summed np g first_minute 2 made.behind end → end.status ≡ 0
+  sums g end s = ap (λ (t : Told). t.status) s.end_is ∙ by s.run.ends
+    where
+      by : PlayedOut np first_minute made.behind s.history s.ran ⊎ StoppedAt np first_minute 2 made.behind s.history s.ran → (summed np g first_minute s.history s.ran).status ≡ 0
+      by (inl played) = ap (λ (t : Told). (summed np g first_minute s.history t).status) played.end_is
+      by (inr stopped) = absurd (no_stop stopped.front stopped.line stopped.rest stopped.parts stopped.before stopped.plays s.history s.run.model s.run.legal
+          (cut stopped.front stopped.line stopped.rest stopped.parts stopped.before stopped.plays s.history s.run.model s.run.legal).back refl
+          (cut stopped.front stopped.line stopped.rest stopped.parts stopped.before stopped.plays s.history s.run.model s.run.legal).of_back
+          (2 + length stopped.front) s.ran stopped.stops)
+
+-- `gen` ends with its summary
+pub gen_succeeds : (g : Gen) → 1 ≤ g.size → g.size ≤ 100_000 → (end : Told) → GenEnds g end → end.status ≡ 0
+gen_succeeds g low high end ends =
+    let np : NamedPolicy = made_policy g.size in
+    let born_so : IsBorn g.seed g.size = made g.seed g.size low high in
+    let read : SummedFrom np g (start_of np 1 (lines_of (script_text g.seed g.size))) end = subst (λ r. SummedOver g r end) (safe_made g.size low) ends in
+    let starts : start_of np 1 (lines_of (script_text g.seed g.size)) ≡ born first_minute 2 born_so.behind =
+    ap (start_of np 1) born_so.lines_are ∙ ap (λ r. begun np r 1 born_so.behind (start_of np 2 born_so.behind)) born_so.birth in
+    sums g.seed g.size low high g end (subst (λ s. SummedFrom np g s end) starts read)
