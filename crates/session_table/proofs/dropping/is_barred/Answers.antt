@@ -32,7 +32,7 @@ returns-clause-known c = λ u r.
     told _ _ (asked_eq (record { user = c.args.user; role = c.args.role }) (record { user = u; role = r })) c.is_none-barred.result (barred u r)
     (c.in_ok-insert.ensures.updates.0 (record { user = u; role = r })) (c.requires u r)
     (λ e.
-        let (p, q) = both_true (nat_eq c.args.user.0 u.0) (nat_eq c.args.role.0 r.0) e in
-        let a = eqb-true c.args.user.0 u.0 p in
-        let b = eqb-true c.args.role.0 r.0 q in
-        not_not c.is_none-barred.result ∙ ap not (sym c.is_none-barred.ensures) ∙ not_some c.in_ok-may_activate.field-0 ∙ ap is_none c.in_ok-may_activate.ensures ∙ (λ i. barred (record { 0 = a i }) (record { 0 = b i })))
+    let (p, q) = both_true (nat_eq c.args.user.0 u.0) (nat_eq c.args.role.0 r.0) e in
+    let a = eqb-true c.args.user.0 u.0 p in
+    let b = eqb-true c.args.role.0 r.0 q in
+    not_not c.is_none-barred.result ∙ ap not (sym c.is_none-barred.ensures) ∙ not_some c.in_ok-may_activate.field-0 ∙ ap is_none c.in_ok-may_activate.ensures ∙ (λ i. barred (record { 0 = a i }) (record { 0 = b i })))
