@@ -1,8 +1,9 @@
 /* Drives a server of lines: load SECONDS DEPTH LINE PORT.. [-- FIRST..]
  * One connection a PORT (a port may stand there more than once), each in a thread of its own: it sends the lines FIRST and
  * waits for their replies, and then, for so many seconds, sends DEPTH lines at once and waits for as many replies.
- * Writes the replies a second of all connections together, and the median and the 99th percentile of the time from a
- * batch's first byte sent to its last byte received. */
+ * Writes three numbers: the replies a second of all connections together, and the median and the 99th percentile of the
+ * microseconds from a batch's first byte sent to its last byte received. With DEPTH 0 it opens SECONDS connections to each
+ * port instead, one after the other, each for the one line, and writes the connections a second. */
 #include <arpa/inet.h>
 #include <netinet/tcp.h>
 #include <pthread.h>
@@ -53,18 +54,35 @@ static void wait_for(int s, int lines) {
     }
 }
 
-static void *drive(void *arg) {
-    struct client *c = arg;
-    struct sockaddr_in to = {.sin_family = AF_INET, .sin_port = htons(c->port)};
+static int open_to(int port) {
+    struct sockaddr_in to = {.sin_family = AF_INET, .sin_port = htons(port)};
     to.sin_addr.s_addr = htonl(INADDR_LOOPBACK);
     int s = socket(AF_INET, SOCK_STREAM, 0), yes = 1;
     if (connect(s, (struct sockaddr *)&to, sizeof to)) fail("connect");
     setsockopt(s, IPPROTO_TCP, TCP_NODELAY, &yes, sizeof yes);
-    for (int i = 0; i < firsts; i++) {
-        send_all(s, first[i], strlen(first[i]));
-        send_all(s, "\n", 1);
-        wait_for(s, 1);
+    return s;
+}
+
+static void ask(int s, const char *text) {
+    send_all(s, text, strlen(text));
+    send_all(s, "\n", 1);
+    wait_for(s, 1);
+}
+
+static void *knock(void *arg) {
+    struct client *c = arg;
+    for (; c->replies < (long)seconds; c->replies++) {
+        int s = open_to(c->port);
+        ask(s, line);
+        close(s);
     }
+    return NULL;
+}
+
+static void *drive(void *arg) {
+    struct client *c = arg;
+    int s = open_to(c->port);
+    for (int i = 0; i < firsts; i++) ask(s, first[i]);
     size_t n = strlen(line) + 1;
     char *batch = malloc(n * depth);
     for (int i = 0; i < depth; i++) {
@@ -107,7 +125,7 @@ int main(int argc, char **argv) {
     for (int i = 0; i < clients; i++) {
         c[i].port = atoi(argv[4 + i]);
         c[i].times = malloc(MOST * sizeof(float));
-        pthread_create(&t[i], NULL, drive, &c[i]);
+        pthread_create(&t[i], NULL, depth ? drive : knock, &c[i]);
     }
     long replies = 0, batches = 0;
     for (int i = 0; i < clients; i++) {
@@ -116,9 +134,13 @@ int main(int argc, char **argv) {
         batches += c[i].batches;
     }
     double took = now() - start;
+    if (depth == 0) {
+        printf("%.0f\n", replies / took);
+        return 0;
+    }
     float *all = malloc(batches * sizeof *all);
     for (long i = 0, k = 0; i < clients; k += c[i++].batches) memcpy(all + k, c[i].times, c[i].batches * sizeof *all);
     qsort(all, batches, sizeof *all, by_time);
-    printf("%10.0f replies a second, a batch %7.1f us (median), %8.1f us (99 of 100)\n", replies / took, all[batches / 2] * 1e6, all[batches * 99 / 100] * 1e6);
+    printf("%.0f %.1f %.1f\n", replies / took, all[batches / 2] * 1e6, all[batches * 99 / 100] * 1e6);
     return 0;
 }

@@ -222,9 +222,6 @@ timeline_inside_send = search (watch_send, status_send, ages_send, trace_send, a
 timeline_send : IsSend timeline.the_row
 timeline_send = view_send timeline_inside.the_row _ _ _ _ timeline_inside_send
 
-sessions_send : IsSend sessions.the_row
-sessions_send = search (sendable, crosses) depth 60
-
 walk_inside_send : IsSend walk_inside.the_row
 walk_inside_send =
     recorded_send walk_inside.the_field.row _ _ walk_inside.the_type.to_one
@@ -232,6 +229,9 @@ walk_inside_send =
 
 walk_send : IsSend walk.the_row
 walk_send = view_send walk_inside.the_row _ _ _ _ walk_inside_send
+
+sessions_send : IsSend sessions.the_row
+sessions_send = search (walk_send, sendable, crosses) depth 60 fits 20000
 
 decision_field_send : IsSend decision.the_field.row
 decision_field_send = search (walk_send, sendable) depth 60 fits 20000

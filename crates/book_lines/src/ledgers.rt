@@ -1,4 +1,4 @@
-//! Ledgers.
+//! A book as the machine that connections ask.
 ghost use Rattle.std.specs.Prelude.{◌≡◌};
 ghost use Rattle.book_lines.specs.Ledgers.{CanBeServed};
 

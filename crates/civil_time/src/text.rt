@@ -1,4 +1,4 @@
-//! The texts of instants.
+//! The one text of each instant, written and read.
 ghost use Rattle.std.specs.Prelude.{◌≡◌, ◌≢◌, ◌<◌, ◌+◌, ◌/◌, ◌%◌, ◌≤◌, ℕ, List, [], ◌∷◌, length, IfSome, IfNone};
 ghost use Rattle.gt_base.specs.Bounds.{last_minute};
 ghost use Rattle.civil_time.specs.declared.civil.Civil.{Civil};

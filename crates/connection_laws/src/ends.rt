@@ -1,4 +1,4 @@
-//! How connections end.
+//! How the service of a link ended, and what it came to.
 
 /// Why the service of a link ended.
 #[derive(Clone, Copy, PartialEq, Eq, Debug)]

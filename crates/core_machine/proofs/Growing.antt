@@ -3,7 +3,7 @@ use Rattle.std.proofs.Common.{◌≡◌, ℕ, ◌+◌, ◌-◌, ◌<◌, ◌≤�
 use Rattle.std.specs.List.{list_any}
 use Rattle.std.specs.Ordering.{eq_by_cmp}
 use Rattle.std.proofs.lemmas.Bool.{leb-true, leb-false, eqb-true, eqb-false, ltb-true, ltb-false}
-use Rattle.gt_base.specs.Happening.{Happening, nothing}
+use Rattle.gt_base.specs.Happening.{HappenedView, nothing}
 use Rattle.gt_base.specs.declared.requests.Entry.{Entry}
 use Rattle.gtrbac_model.specs.Policy.{Policy}
 use Rattle.gtrbac_model.specs.Base.{base_at, when, requested}
@@ -54,7 +54,7 @@ pub bases_more : (p : Policy) (birth : ℕ) (m : Model) (h : List Entry) (cs ds 
 bases_more p birth m h [] ds a b = b
 bases_more p birth m h (c ∷ cs) ds a b = (a.0, bases_more p birth m h cs ds a.1 b)
 
-pub bases_traced : (p : Policy) (birth : ℕ) (m : Model) (h : List Entry) (at : ℕ) (base set : Happening) → base ≡ base_at p birth m h at → HasBases p birth m h (traced at base set)
+pub bases_traced : (p : Policy) (birth : ℕ) (m : Model) (h : List Entry) (at : ℕ) (base set : HappenedView) → base ≡ base_at p birth m h at → HasBases p birth m h (traced at base set)
 bases_traced p birth m h at base set is = by (is_something set)
   where
     by : (b : Bool) → HasBases p birth m h (when b (record { at = at; base = base; set = set }))
@@ -79,7 +79,7 @@ none_at_birth low (c ∷ cs) t le rises =
     ap (λ b. elim b [ true ↦ c.set | false ↦ model_of cs t ]) apart ∙ none_at_birth c.at cs t (omega (arith, le, rises.0)) rises.1
 
 -- the trace after a close stands for the model with one set more
-pub model_grows : (cs : List ClosedSet) (now to : ℕ) (base x : Happening) → now < to → EndsBy now cs → with_set (model_of cs) now to x ≡ model_of (cs ++ traced to base x)
+pub model_grows : (cs : List ClosedSet) (now to : ℕ) (base x : HappenedView) → now < to → EndsBy now cs → with_set (model_of cs) now to x ≡ model_of (cs ++ traced to base x)
 model_grows cs now to base x lt ends = λ i t. at t i
   where
     d : ClosedSet

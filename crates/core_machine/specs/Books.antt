@@ -4,7 +4,7 @@ use Rattle.std.specs.List.{list_any}
 use Rattle.std.specs.Ordering.{eq_by_cmp}
 use Rattle.std.specs.Coded.{Coded, code_by, coded×, coded_ℕ, coded_list}
 use Rattle.std.proofs.Common.{sym, ◌∙◌, subst, ap}
-use Rattle.gt_base.specs.Happening.{Happening}
+use Rattle.gt_base.specs.Happening.{HappenedView}
 use Rattle.gt_base.specs.Bounds.{last_minute, max_steps}
 use Rattle.gt_base.specs.Machines.{ticked, asked}
 use Rattle.gt_base.specs.Orders.{signal_cmp}
@@ -137,7 +137,7 @@ now_after b h = now_of b.birth h
 
 -- some model makes the history legal for the book's policy and birth
 pub record IsLegalFor (b : BookView) (h : List Entry) : Type 0 where
-  pub model : ℕ → Happening
+  pub model : ℕ → HappenedView
   pub legal : Legal b.named.policy b.birth h model
 
 pub IsLegalFor-by_root : (a b : BookView) (h : List Entry) → SameRoot a b → IsLegalFor a h → IsLegalFor b h

@@ -1,4 +1,4 @@
-//! Requests and their answers.
+//! Answers a request by its kind; nobody is refused.
 ghost use Rattle.std.specs.Prelude.{◌≡◌, ◌<◌, ◌≤◌, false, length, IfOk, OnErr};
 ghost use Rattle.gt_base.specs.declared.requests.Request.TheVariants.{Now as AskNow, Status as AskStatus, Seen as AskSeen, Raise, OpenSession, CloseSession, Activate, Deactivate, Active as AskActive, Check};
 ghost use Rattle.core_machine.specs.Books.{Asks};

@@ -1,4 +1,4 @@
-//! Books.
+//! The book: a legal history of a safe policy with its execution model, and the calls that tick, ask and show it.
 ghost use Rattle.std.specs.Prelude.{◌≡◌, ◌<◌, ◌≤◌, ◌⊎◌, OnErr, IfOk, IfErr, OnOk, [], Ok, Err, length};
 ghost use Rattle.gt_base.specs.Bounds.{max_steps};
 ghost use Rattle.dependency_graph.specs.Levelled.{IsLevelled};

@@ -84,7 +84,7 @@ pub(crate) fn close_session(
     ensures ok { IfOk result (λ reply. Asks (view_of s.old) who actor (CloseSession session) reply (view_of s.new)) }
     ensures err { OnErr result (view_of s.new ≡ view_of s.old) }
 {
-    let ending = s.table.count_in(session);
+    let ending = s.table.most_in(session);
     make_room(s, ending)?;
     finish(s, who, actor, session)
 }

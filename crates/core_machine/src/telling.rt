@@ -1,4 +1,4 @@
-//! Answers that change nothing.
+//! Requests that only ask: the instant, a condition, an event of now, an active role, a permission.
 ghost use Rattle.std.specs.Prelude.{◌≡◌, false, IfOk, OnErr};
 ghost use Rattle.gt_base.specs.Sets.{has};
 ghost use Rattle.gt_base.specs.declared.requests.Request.TheVariants.{Now as AskNow, Status as AskStatus, Seen as AskSeen, Active as AskActive, Check};

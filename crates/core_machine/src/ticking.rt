@@ -1,4 +1,4 @@
-//! Ticks.
+//! A tick: where it stops, what it plans first, and the close by these plans.
 ghost use Rattle.std.specs.Prelude.{◌≡◌, ℕ, ◌<◌, ◌≤◌, Bool, length, IfOk, OnOk, OnErr};
 ghost use Rattle.gt_base.specs.Bounds.{last_minute, max_steps};
 ghost use Rattle.gt_base.specs.Sets.{has};

@@ -2,7 +2,7 @@
 use Rattle.std.proofs.Common.{◌≡◌, ℕ, zero, suc, ◌<◌, ◌≤◌, inl, inr, Bool, true, false, cond, nat_lt, nat_le, List, [], ◌∷◌, length, Option, Some, None, MatchOption, slice_index, refl, sym, ◌∙◌, ap, subst, arith}
 use Rattle.std.proofs.lemmas.Bool.{lt-ltb, le-leb, false≢true}
 use Rattle.gt_base.specs.declared.events.Event.{Event}
-use Rattle.gt_base.specs.Held.{Rule}
+use Rattle.gt_base.specs.Held.{TriggerView}
 use Rattle.gtrbac_model.specs.Same.{same_event}
 use Rattle.gtrbac_model.specs.Graph.{LeadsAlong, item_at}
 use Rattle.gtrbac_model.specs.Safety.{Dependency, dependencies, IsSafe, IsLevelling, rises, the_cycle}
@@ -53,7 +53,7 @@ place_here (x ∷ xs) (suc n) e h = go (same_event e x) refl (place_here xs n e 
     go true q k = ap Some (sym (is_same_event e x q))
     go false q k = k
 
-module _ (rules : List Rule) (g : EventNet) (is : IsGraphOf rules g) where
+module _ (rules : List TriggerView) (g : EventNet) (is : IsGraphOf rules g) where
   abbrev ds : List Dependency
   ds = dependencies rules
 

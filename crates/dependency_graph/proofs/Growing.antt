@@ -1,7 +1,7 @@
 -- The edges grow as the dependencies are listed.
 use Rattle.std.proofs.Common.{◌≡◌, ℕ, zero, suc, ◌+◌, Bool, true, false, cond, nat_eq, ◌||◌, ◌&&◌, List, [], ◌∷◌, ◌++◌, length, drop, Some, refl, sym, ◌∙◌, ap, arith, append_assoc, append-nil}
 use Rattle.std.proofs.lemmas.Bool.{ne_eqb}
-use Rattle.gt_base.specs.Held.{Rule}
+use Rattle.gt_base.specs.Held.{TriggerView}
 use Rattle.gt_base.specs.declared.events.Cond.{Cond}
 use Rattle.gt_base.specs.declared.events.Event.{Event}
 use Rattle.gtrbac_model.specs.Graph.{item_at}
@@ -19,7 +19,7 @@ read_off_push events [] (q ∷ ps) e p h = absurd (omega arith)
 read_off_push events (x ∷ es) [] e p h = absurd (omega arith)
 read_off_push events (x ∷ es) (q ∷ ps) e p h = ap (λ ds. dependency events x q ∷ ds) (read_off_push events es ps e p (omega arith))
 
-same_edges : (triggers : List Rule) (events : List Event) → AreNodes triggers events → (d : Dependency) → edge_if_node triggers d ≡ edge_in events d
+same_edges : (triggers : List TriggerView) (events : List Event) → AreNodes triggers events → (d : Dependency) → edge_if_node triggers d ≡ edge_in events d
 same_edges triggers events nodes d = ap (λ b. cond b (d ∷ []) []) (sym (nodes d.source))
 
 is_listed : (xs : List Event) (n : ℕ) (e : Event) → item_at xs n ≡ Some e → lists same_event xs e ≡ true
@@ -47,7 +47,7 @@ edge_added events es ps from to marked source p es' ps' is size qe qp =
     ∙ ap (λ b. read_off events es ps ++ cond b ((record { source = source; target = event_at events to; conflict = marked; trigger = p.0; place = p.1 }) ∷ []) []) (sym (is_listed events from source is))
 
 -- the edges of an immediate trigger whose head is this node: those of its body events, then those of its settled conditions
-pub trigger_of_parts : (events : List Event) (head t first : ℕ) (r : Rule) (body : List Event) (conds : List Cond) (old mid new : List Dependency)
+pub trigger_of_parts : (events : List Event) (head t first : ℕ) (r : TriggerView) (body : List Event) (conds : List Cond) (old mid new : List Dependency)
     → item_at events head ≡ Some r.head.event → r.delay ≡ 0 → body ≡ r.events → first ≡ length r.events → conds ≡ r.settled
     → Adds events old mid (λ triggers. of_body triggers (event_at events head) t 0 body) → Adds events mid new (λ triggers. of_settled triggers (event_at events head) t first conds)
     → Adds events old new (λ triggers. of_trigger triggers t r)
@@ -59,7 +59,7 @@ trigger_of_parts events head t first r body conds old mid new is now same behind
     ∙ ap (λ d. old ++ cond (nat_eq d 0) (of_body triggers r.head.event t 0 r.events ++ of_settled triggers r.head.event t (length r.events) r.settled) []) (sym now)
 
 -- a delayed trigger has none
-pub delayed_none : (events : List Event) (t : ℕ) (r : Rule) (ds : List Dependency) → (r.delay ≡ 0 → ⊥) → Adds events ds ds (λ triggers. of_trigger triggers t r)
+pub delayed_none : (events : List Event) (t : ℕ) (r : TriggerView) (ds : List Dependency) → (r.delay ≡ 0 → ⊥) → Adds events ds ds (λ triggers. of_trigger triggers t r)
 delayed_none events t r ds late triggers nodes =
     sym (append-nil ds) ∙ ap (λ b. ds ++ cond b (of_body triggers r.head.event t 0 r.events ++ of_settled triggers r.head.event t (length r.events) r.settled) []) (sym (ne_eqb r.delay 0 late))
 
@@ -73,7 +73,7 @@ dropped (y ∷ ys) (suc n) x is = dropped ys n x is ∙ ap (λ m. x ∷ drop m (
     shift n = omega arith
 
 -- one trigger more
-pub trigger_step : (triggers : List Rule) (events : List Event) (t : ℕ) (r : Rule) (whole old new : List Dependency) → AreNodes triggers events → item_at triggers t ≡ Some r
+pub trigger_step : (triggers : List TriggerView) (events : List Event) (t : ℕ) (r : TriggerView) (whole old new : List Dependency) → AreNodes triggers events → item_at triggers t ≡ Some r
     → Adds events old new (λ rules. of_trigger rules t r) → old ++ of_triggers triggers t (drop t triggers) ≡ whole → new ++ of_triggers triggers (t + 1) (drop (t + 1) triggers) ≡ whole
 trigger_step triggers events t r whole old new nodes is adds h =
     ap (λ ds. ds ++ of_triggers triggers (t + 1) (drop (t + 1) triggers)) (adds triggers nodes)
@@ -82,14 +82,14 @@ trigger_step triggers events t r whole old new nodes is adds h =
     ∙ h
 
 -- the head of an immediate trigger is a node
-pub head_listed : (triggers : List Rule) (events : List Event) (t : ℕ) (r : Rule) → AreNodes triggers events → item_at triggers t ≡ Some r → immediate r ≡ true → lists same_event events r.head.event ≡ true
+pub head_listed : (triggers : List TriggerView) (events : List Event) (t : ℕ) (r : TriggerView) → AreNodes triggers events → item_at triggers t ≡ Some r → immediate r ≡ true → lists same_event events r.head.event ≡ true
 head_listed triggers events t r nodes is now = nodes r.head.event ∙ found triggers t is
   where
     right : (a b : Bool) → b ≡ true → (a || b) ≡ true
     right true b h = refl
     right false b h = h
 
-    found : (rs : List Rule) (n : ℕ) → item_at rs n ≡ Some r → is_node rs r.head.event ≡ true
+    found : (rs : List TriggerView) (n : ℕ) → item_at rs n ≡ Some r → is_node rs r.head.event ≡ true
     found [] n p = cc
     found (q ∷ rs) zero p =
         let e : q ≡ r = cc in
@@ -99,7 +99,7 @@ head_listed triggers events t r nodes is now = nodes r.head.event ∙ found trig
     found (q ∷ rs) (suc n) p = right (immediate q && same_event q.head.event r.head.event) (is_node rs r.head.event) (found rs n p)
 
 -- heads, one trigger more
-pub head_step : (triggers : List Rule) (t : ℕ) (r : Rule) (xs : List Event) (e : Event) (old : Bool) → item_at triggers t ≡ Some r
+pub head_step : (triggers : List TriggerView) (t : ℕ) (r : TriggerView) (xs : List Event) (e : Event) (old : Bool) → item_at triggers t ≡ Some r
     → (lists same_event xs e || is_node (drop t triggers) e) ≡ old → (new : List Event) → lists same_event new e ≡ (lists same_event xs e || (immediate r && same_event r.head.event e))
     → (lists same_event new e || is_node (drop (t + 1) triggers) e) ≡ old
 head_step triggers t r xs e old is h new one =

@@ -1,7 +1,7 @@
 -- From the numbered graph to the triggers.
 use Rattle.std.specs.Prelude.{◌≡◌, ℕ, suc, true, false, List, [], ◌∷◌, slice_index, Some}
 use Rattle.gt_base.specs.declared.events.Event.{Event}
-use Rattle.gt_base.specs.Held.{Rule}
+use Rattle.gt_base.specs.Held.{TriggerView}
 use Rattle.gtrbac_model.specs.Same.{same_event}
 use Rattle.gtrbac_model.specs.Safety.{IsLevelling, the_cycle}
 use Rattle.least_walk.specs.Net.{arcs_of, is_marked}
@@ -20,9 +20,9 @@ level_in events levels e = slice_index levels (place_of events e)
 -- the least cycle of the numbered graph is the one that the definition computes of the triggers
 abbrev pub CyclesCarryOver : Type 0
 CyclesCarryOver =
-    (triggers : List Rule) (g : EventNet) → IsGraphOf triggers g → (edges : List ℕ) → IsLeastCycle (arcs_of g.net.edges) (is_marked g.net.edges) edges → the_cycle triggers ≡ Some edges
+    (triggers : List TriggerView) (g : EventNet) → IsGraphOf triggers g → (edges : List ℕ) → IsLeastCycle (arcs_of g.net.edges) (is_marked g.net.edges) edges → the_cycle triggers ≡ Some edges
 
 -- levels of the nodes are levels of the events
 abbrev pub LevelsCarryOver : Type 0
 LevelsCarryOver =
-    (triggers : List Rule) (g : EventNet) → IsGraphOf triggers g → (levels : List ℕ) → AreLevels (arcs_of g.net.edges) (is_marked g.net.edges) (slice_index levels) → IsLevelling triggers (level_in g.events levels)
+    (triggers : List TriggerView) (g : EventNet) → IsGraphOf triggers g → (levels : List ℕ) → AreLevels (arcs_of g.net.edges) (is_marked g.net.edges) (slice_index levels) → IsLevelling triggers (level_in g.events levels)

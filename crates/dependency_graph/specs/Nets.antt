@@ -3,7 +3,7 @@ use Rattle.std.specs.Prelude.{◌≡◌, ℕ, ◌+◌, ◌≤◌, false, List, [
 use Rattle.std.specs.List.{slice_index_or}
 use Rattle.gt_base.specs.declared.events.Event.{Event}
 use Rattle.gt_base.specs.declared.events.Fluent.TheVariants.{Enabled}
-use Rattle.gt_base.specs.Held.{Rule}
+use Rattle.gt_base.specs.Held.{TriggerView}
 use Rattle.least_walk.specs.declared.graphs.GraphEdge.{GraphEdge}
 use Rattle.least_walk.specs.Net.{Net, IsNet}
 use Rattle.gtrbac_model.specs.Graph.{item_at}
@@ -38,13 +38,13 @@ read_off events (e ∷ es) [] = []
 read_off events (e ∷ es) (p ∷ ps) = dependency events e p ∷ read_off events es ps
 
 -- the nodes are just the heads of immediate triggers, and the edges read off are the dependencies, in their order
-pub record IsGraphOf (triggers : List Rule) (g : EventNet) : Type 0 where
+pub record IsGraphOf (triggers : List TriggerView) (g : EventNet) : Type 0 where
   pub is_event_net : IsEventNet g
   pub is_net : IsNet g.net
   pub nodes : (e : Event) → lists same_event g.events e ≡ is_node triggers e
   pub edges : read_off g.events g.net.edges g.places ≡ dependencies triggers
 
 -- the limits of a policy: at most 4,000 triggers, each of at most 16 body events and settled conditions
-pub record IsWithinLimits (triggers : List Rule) : Type 0 where
+pub record IsWithinLimits (triggers : List TriggerView) : Type 0 where
   pub few : length triggers ≤ 4_000
-  pub short : (n : ℕ) (r : Rule) → item_at triggers n ≡ Some r → length r.events + length r.settled ≤ 16
+  pub short : (n : ℕ) (r : TriggerView) → item_at triggers n ≡ Some r → length r.events + length r.settled ≤ 16

@@ -1,4 +1,4 @@
-//! Ages of fluents.
+//! When each fluent last changed, and from when on a duration limit has run for long enough.
 ghost use Rattle.std.specs.Prelude.{◌≡◌, ℕ, ◌≤◌, ◌+◌, ◌-◌, cond, [], IfOk, OnOk};
 ghost use Rattle.gt_base.specs.declared.events.Fluent.{Fluent};
 ghost use Rattle.gt_base.specs.Bounds.{last_minute};

@@ -1,7 +1,7 @@
 -- What a walk ahead has found is what lies ahead.
 use Rattle.std.proofs.Common.{◌≡◌, ◌≢◌, ℕ, ◌+◌, ◌-◌, ◌<◌, ◌≤◌, Bool, nat_lt, List, [], Option, Some, None, refl, sym, ◌∙◌, ap, subst, arith}
 use Rattle.std.proofs.lemmas.Bool.{ltb-true, ltb-false}
-use Rattle.gt_base.specs.Happening.{Happening}
+use Rattle.gt_base.specs.Happening.{HappenedView}
 use Rattle.gt_base.specs.Machines.{ticked}
 use Rattle.gt_base.specs.Sets.{has}
 use Rattle.gt_base.specs.declared.events.Fluent.{Fluent}
@@ -56,7 +56,7 @@ module _ (p : Policy) (safe : IsSafe p.triggers) (birth : ℕ) (h : List Entry) 
       let levels = safe_is_levelled p.triggers safe in
       only_model p birth k.gone (model_of v.trace) levels.0 (by_trigger p.triggers levels.0 levels.1) k.legal.model n
       (λ u x y.
-      subst (λ (base : Happening). Settled p.triggers base (status p birth n (u - 1)) (n u)) (bases_stay p birth h o nobody_asks upto upto le n u ∙ sym (k.bases n u))
+      subst (λ (base : HappenedView). Settled p.triggers base (status p birth n (u - 1)) (n u)) (bases_stay p birth h o nobody_asks upto upto le n u ∙ sym (k.bases n u))
       (ahead u x (omega (arith, y, k.follows.now, within, now_snoc birth h (ticked nobody_asks upto upto)))))
       t a (omega (arith, b, k.follows.now))
 

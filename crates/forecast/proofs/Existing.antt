@@ -1,7 +1,7 @@
 -- Each list of entries has an execution model, where the policy is safe, and no other.
 use Rattle.std.proofs.Common.{◌≡◌, ℕ, zero, suc, ◌+◌, ◌-◌, ◌<◌, ◌≤◌, true, false, nat_eq, nat_le, List, sym, subst, arith}
 use Rattle.std.proofs.lemmas.Bool.{leb-true, leb-false, ne_eqb, eq-eqb}
-use Rattle.gt_base.specs.Happening.{Happening, nothing}
+use Rattle.gt_base.specs.Happening.{HappenedView, nothing}
 use Rattle.gt_base.specs.Machines.{ticked}
 use Rattle.gt_base.specs.declared.events.Event.{Event}
 use Rattle.gt_base.specs.declared.requests.Entry.{Entry}
@@ -25,20 +25,20 @@ module _ (p : Policy) (birth : ℕ) (h : List Entry) (level : Event → ℕ) (le
   SettledFor m k = (t : ℕ) → birth < t → t ≤ birth + k → Settled p.triggers (base_at p birth m h t) (status p birth m (t - 1)) (m t)
 
   -- settled over one model's base is settled over that of a model that agrees before
-  moved_to : (m n : Model) (t : ℕ) (y : Happening) → Agree p birth m n (t - 1)
+  moved_to : (m n : Model) (t : ℕ) (y : HappenedView) → Agree p birth m n (t - 1)
       → Settled p.triggers (base_at p birth m h t) (status p birth m (t - 1)) y → Settled p.triggers (base_at p birth n h t) (status p birth n (t - 1)) y
   moved_to m n t y same s =
       subst (λ b. Settled p.triggers b (status p birth n (t - 1)) y) (base_same p birth m n t h same)
       (subst (λ u. Settled p.triggers (base_at p birth m h t) u y) (status_same p birth m n (t - 1) (t - 1) same (omega arith)) s)
 
   -- the model with one set at the next minute
-  with_next : Model → ℕ → Happening → Model
+  with_next : Model → ℕ → HappenedView → Model
   with_next m to x t = elim (nat_eq t to) [ true ↦ x | false ↦ m t ]
 
   one_more : (m : Model) (k : ℕ) → SettledFor m k → (n : Model) × SettledFor n (suc k)
   one_more m k is =
       let to : ℕ = birth + suc k in
-      let x : (x : Happening) × Settled p.triggers (base_at p birth m h to) (status p birth m (to - 1)) x =
+      let x : (x : HappenedView) × Settled p.triggers (base_at p birth m h to) (status p birth m (to - 1)) x =
       settled_set p.triggers (base_at p birth m h to) (status p birth m (to - 1)) level levelled in
       let n : Model = λ t. elim (nat_eq t to) [ true ↦ x.0 | false ↦ m t ] in
       let same : (u : ℕ) → u < to → m u ≡ n u = λ u lt.

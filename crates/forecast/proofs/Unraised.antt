@@ -1,8 +1,8 @@
 -- A fluent of which nothing raises an event stays as at the birth.
 use Rattle.std.proofs.Common.{◌≡◌, ◌≢◌, ℕ, zero, suc, ◌+◌, ◌-◌, ◌≤◌, Bool, true, false, ◌&&◌, ◌||◌, inl, inr, List, [], ◌∷◌, ◌++◌, flat_map, None, refl, sym, ◌∙◌, ap, subst, arith, not, nat_eq, nat_lt}
 use Rattle.std.specs.List.{list_any}
-use Rattle.gt_base.specs.Happening.{Happening, nothing}
-use Rattle.gt_base.specs.Held.{Rule}
+use Rattle.gt_base.specs.Happening.{HappenedView, nothing}
+use Rattle.gt_base.specs.Held.{TriggerView}
 use Rattle.gt_base.specs.Machines.{ticked}
 use Rattle.gt_base.specs.Orders.{prioritised_cmp}
 use Rattle.gt_base.specs.Sets.{has}
@@ -123,13 +123,13 @@ module _ (f : Fluent) where
     no_trigger : in_triggers f p.triggers ≡ false
     no_trigger = (both_false (in_entries f p.entries) (in_triggers f p.triggers) heads).1
 
-    head_of_none : (r : Rule) → Elem p.triggers r → r.head.event.fluent ≢ f
+    head_of_none : (r : TriggerView) → Elem p.triggers r → r.head.event.fluent ≢ f
     head_of_none r at = other r.head.event.fluent (none_pass (λ q. same_fluent q.head.event.fluent f) p.triggers no_trigger r at)
 
     -- nothing that is raised at an instant is of the fluent
     raised_spares : (t : ℕ) → Spares (raised_at p birth m h t)
     raised_spares t =
-        let late : Rule → List Prioritised = λ r. elim (nat_lt 0 r.delay && nat_lt birth (t - r.delay)) [ true ↦ when (met r (m (t - r.delay)) (status p birth m (t - r.delay - 1))) r.head | false ↦ [] ] in
+        let late : TriggerView → List Prioritised = λ r. elim (nat_lt 0 r.delay && nat_lt birth (t - r.delay)) [ true ↦ when (met r (m (t - r.delay)) (status p birth m (t - r.delay - 1))) r.head | false ↦ [] ] in
         spares_join (periodic p birth t ++ requested h t ++ delayed p birth m t) (limited p (status p birth m (t - 1)) (λ g. since p birth m g (t - 1)) t)
         (spares_join (periodic p birth t ++ requested h t) (delayed p birth m t)
         (spares_join (periodic p birth t) (requested h t)
@@ -149,17 +149,17 @@ module _ (f : Fluent) where
 
     module _ (level : Event → ℕ) (levelled : are_levels p.triggers level ≡ true) (is : IsPolicy p) where
       -- so no settled set has an event of it
-      none_in : (t : ℕ) (s : Status) (x : Happening) → Settled p.triggers (base_at p birth m h t) s x → (o : Prioritised) → o.event.fluent ≡ f → In x o → ⊥
+      none_in : (t : ℕ) (s : Status) (x : HappenedView) → Settled p.triggers (base_at p birth m h t) s x → (o : Prioritised) → o.event.fluent ≡ f → In x o → ⊥
       none_in t s x settled o of_f there =
-          let base : Happening = base_at p birth m h t in
+          let base : HappenedView = base_at p birth m h t in
           let at_base : In base o =
           only_base_along p.triggers base s level levelled x [] settled.order settled.grounding.grounds o (in_order p.triggers base s level levelled x settled o there) (not_node o.event of_f) in
           raised_spares t o (elem_of_set_of prioritised_cmp_total prioritised_cmp-IsAntisymmetric (raised_at p birth m h t) o at_base) of_f
 
-      none_here : (e : Event) (x : Happening) → Goes nothing x e
+      none_here : (e : Event) (x : HappenedView) → Goes nothing x e
       none_here e x o at there = absurd (clash (has nothing.events o) there (has-none prioritised_cmp o))
 
-      stays_after : (t : ℕ) (s : Status) (x : Happening) → Settled p.triggers (base_at p birth m h t) s x → after x s f ≡ s f
+      stays_after : (t : ℕ) (s : Status) (x : HappenedView) → Settled p.triggers (base_at p birth m h t) s x → after x s f ≡ s f
       stays_after t s x settled =
           after_alike x nothing s f
           ((λ o at there. absurd (none_in t s x settled o (ap (λ (e : Event). e.fluent) at) there)), none_here (turns_on f) x)

@@ -9,7 +9,7 @@ use Rattle.gt_base.specs.declared.requests.Request.{Request}
 use Rattle.gt_base.specs.declared.requests.Request.TheVariants.{Raise}
 use Rattle.gt_base.specs.declared.requests.Step.{Step}
 use Rattle.gt_base.specs.declared.requests.Step.TheVariants.{Tick, Ask}
-use Rattle.gt_base.specs.Held.{Rule}
+use Rattle.gt_base.specs.Held.{TriggerView}
 use Rattle.gtrbac_model.specs.Policy.{Policy}
 use Rattle.gtrbac_model.specs.Same.{same_fluent}
 
@@ -25,7 +25,7 @@ asked_by f (Ask actor request reply) = asks_for f request
 abbrev pub in_entries : Fluent → List PeriodicEntry → Bool
 in_entries f = list_any (λ e. same_fluent e.head.event.fluent f)
 
-abbrev pub in_triggers : Fluent → List Rule → Bool
+abbrev pub in_triggers : Fluent → List TriggerView → Bool
 in_triggers f = list_any (λ r. same_fluent r.head.event.fluent f)
 
 abbrev pub in_limits : Fluent → List LimitRule → Bool

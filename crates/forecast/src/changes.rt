@@ -1,4 +1,4 @@
-//! First changes.
+//! When a fluent first changes, if no request comes any more.
 ghost use Rattle.std.specs.Prelude.{◌≡◌, ◌≤◌, IfOk};
 ghost use Rattle.core_machine.specs.Books.{now_in};
 ghost use Rattle.forecast.specs.Ahead.{HasOneAhead, IsFirstChange};

@@ -2,8 +2,8 @@
 use Rattle.std.proofs.Common.{◌≡◌, ◌↔◌, ℕ, ◌-◌, Bool, true, false, ◌&&◌, ◌||◌, not, nat_lt, List, [], ◌∷◌, refl, sym, ◌∙◌, ap}
 use Rattle.std.specs.List.{list_all}
 use Rattle.gt_base.specs.declared.events.Prioritised.{Prioritised}
-use Rattle.gt_base.specs.Held.{Rule}
-use Rattle.gt_base.specs.Happening.{Happening}
+use Rattle.gt_base.specs.Held.{TriggerView}
+use Rattle.gt_base.specs.Happening.{HappenedView}
 use Rattle.gt_base.specs.Sets.{has, members}
 use Rattle.gtrbac_model.specs.Same.{same_prioritised}
 use Rattle.gtrbac_model.specs.Conflict.{Status}
@@ -17,7 +17,7 @@ use Rattle.former_laws.specs.Minutes.{former_closed, former_supported, former_gr
 use Rattle.former_laws.proofs.Alike.{all_alike, any_alike, flat_alike}
 use Rattle.former_laws.proofs.Bodies.{met_as_before}
 
-module _ (rules : List Rule) (bare : AreBare rules) (base : Happening) (s : Status) (x : Happening) where
+module _ (rules : List TriggerView) (bare : AreBare rules) (base : HappenedView) (s : Status) (x : HappenedView) where
   closed_alike : closed rules base s x ≡ former_closed rules base s x
   closed_alike =
       ap (λ b. list_all (has x.events) (members base.events) && b)

@@ -2,13 +2,13 @@
 use Rattle.std.specs.Prelude.{◌≡◌, ◌↔◌, ℕ, ◌+◌, false, true, cond, List, [], ◌∷◌, ◌++◌, Option, Some, IsTrue}
 use Rattle.gt_base.specs.declared.events.Event.{Event}
 use Rattle.gt_base.specs.Events.{converse}
-use Rattle.gt_base.specs.Held.{Rule}
+use Rattle.gt_base.specs.Held.{TriggerView}
 use Rattle.gtrbac_model.specs.Trigger.{immediate}
 use Rattle.gtrbac_model.specs.Graph.{item_at, LeadsAlong}
 use Rattle.gtrbac_model.specs.Safety.{Dependency, edge_if_node, dependencies, arcs_of, IsSafe, first_closing, the_cycle}
 use Rattle.former_laws.specs.Bodies.{AreBare}
 
-module _ (triggers : List Rule) where
+module _ (triggers : List TriggerView) where
   -- a body event, plain; then its converse, in conflict
   abbrev pub from_events : Event → ℕ → ℕ → List Event → List Dependency
   from_events head t place [] = []
@@ -18,7 +18,7 @@ module _ (triggers : List Rule) where
       ++ from_events head t (place + 1) bs
 
   -- a delayed trigger gives none
-  abbrev pub from_triggers : ℕ → List Rule → List Dependency
+  abbrev pub from_triggers : ℕ → List TriggerView → List Dependency
   from_triggers t [] = []
   from_triggers t (r ∷ rs) = cond (immediate r) (from_events r.head.event t 0 r.events) [] ++ from_triggers (t + 1) rs
 
@@ -37,10 +37,10 @@ module _ (triggers : List Rule) where
   former_cycle = first_closing former_dependencies 0 former_dependencies
 
 abbrev pub DependenciesAsBefore : Type 0
-DependenciesAsBefore = (triggers : List Rule) → AreBare triggers → dependencies triggers ≡ former_dependencies triggers
+DependenciesAsBefore = (triggers : List TriggerView) → AreBare triggers → dependencies triggers ≡ former_dependencies triggers
 
 abbrev pub SafeAsBefore : Type 0
-SafeAsBefore = (triggers : List Rule) → AreBare triggers → IsSafe triggers ↔ FormerIsSafe triggers
+SafeAsBefore = (triggers : List TriggerView) → AreBare triggers → IsSafe triggers ↔ FormerIsSafe triggers
 
 abbrev pub CycleAsBefore : Type 0
-CycleAsBefore = (triggers : List Rule) → AreBare triggers → the_cycle triggers ≡ former_cycle triggers
+CycleAsBefore = (triggers : List TriggerView) → AreBare triggers → the_cycle triggers ≡ former_cycle triggers

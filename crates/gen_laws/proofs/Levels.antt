@@ -4,7 +4,7 @@ use Rattle.std.specs.List.{list_all, range_with_len, flat_map}
 use Rattle.std.proofs.lemmas.Bool.{le-leb, lt-ltb}
 use Rattle.std.proofs.lemmas.List.Folds.{list_all-append}
 use Rattle.gt_base.specs.Events.{converse}
-use Rattle.gt_base.specs.Held.{Rule}
+use Rattle.gt_base.specs.Held.{TriggerView}
 use Rattle.gt_base.specs.declared.events.Fluent.{Fluent}
 use Rattle.gt_base.specs.declared.events.Fluent.TheVariants.{Enabled}
 use Rattle.gt_base.specs.declared.events.Event.{Event}
@@ -20,7 +20,7 @@ fluent_level _ = 0
 abbrev level : Event → ℕ
 level e = fluent_level e.fluent
 
-module _ (rules : List Rule) where
+module _ (rules : List TriggerView) where
   one_edge : (d : Dependency) → rises level d ≡ true → list_all (rises level) (edge_if_node rules d) ≡ true
   one_edge d h = by (is_node rules d.source)
     where

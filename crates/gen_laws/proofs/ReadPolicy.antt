@@ -6,7 +6,7 @@ use Rattle.gtrbac_model.specs.Safety.{IsSafe}
 use Rattle.gt_text.specs.Lines.{lines_of}
 use Rattle.gt_text.specs.Words.{as_text}
 use Rattle.policy_words.specs.declared.versions.TextVersion.TheVariants.{Open}
-use Rattle.policy_words.specs.Sayings.{Saying, version}
+use Rattle.policy_words.specs.Sayings.{SaidView, version}
 use Rattle.policy_words.specs.Naming.{NamedPolicy}
 use Rattle.policy_words.specs.Making.{names_of}
 use Rattle.policy_words.specs.Reading.{and_then, read_lines}
@@ -34,7 +34,7 @@ module _ (k : ℕ) (low : 1 ≤ k) (few : k ≤ 200) where
   abbrev np : NamedPolicy
   np = made_of k
 
-  abbrev behind : List Saying
+  abbrev behind : List SaidView
   behind = joined (sections_behind np)
 
   cut : lines_of (as_text (policy_lines k)) ≡ codes "policy 1" ∷ body k
@@ -51,7 +51,7 @@ module _ (k : ℕ) (low : 1 ≤ k) (few : k ≤ 200) where
   same = canonical.lines_joined np ∙ ap (λ b. version (cond b 1 2) ∷ behind) (first_version k)
 
   made_again : build (numbered_from 1 (version 1 ∷ behind)) ≡ Ok np
-  made_again = subst (λ (ss : List Saying). build (numbered_from 1 ss) ≡ Ok np) same (canonical_is_built np (is_well_formed k low few))
+  made_again = subst (λ (ss : List SaidView). build (numbered_from 1 ss) ≡ Ok np) same (canonical_is_built np (is_well_formed k low few))
 
   pub is_read : policy_read (as_text (policy_lines k)) ≡ Ok np
   is_read =

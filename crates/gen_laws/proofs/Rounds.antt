@@ -12,7 +12,7 @@ use Rattle.policy_words.specs.declared.parts.NamedFluent.TheVariants as fluents
 use Rattle.policy_words.specs.Naming.{Names, NamedPolicy, role_of, user_of, perm_of}
 use Rattle.policy_words.specs.Valid.{IsWellFormed}
 use Rattle.policy_lines.proofs.SolidWords.{word_name, word_decimal, word_civil, behind}
-use Rattle.policy_text.proofs.Back.{role_back, user_back, perm_back}
+use Rattle.policy_book.proofs.Back.{role_back, user_back, perm_back}
 use Rattle.policy_gen.specs.Draws.{Round}
 use Rattle.policy_gen.specs.Texts.{one, two, request_line, time_line}
 use Rattle.request_text.specs.declared.lines.Line.TheVariants as lines

@@ -2,12 +2,12 @@
 use Rattle.std.proofs.Common.{◌≡◌, ℕ, zero, suc, ◌+◌, ◌-◌, ◌≤◌, ◌<◌, Bool, true, false, cond, List, [], ◌∷◌, ◌++◌, map, refl, sym, ap, subst, arith, codes, append_assoc}
 use Rattle.std.specs.List.{range_with_len, flat_map, enumerate_from}
 use Rattle.std.proofs.lemmas.List.{append-nil}
-use Rattle.gt_base.specs.Held.{Rule}
+use Rattle.gt_base.specs.Held.{TriggerView}
 use Rattle.gt_base.specs.Sets.{members}
 use Rattle.gt_base.specs.declared.events.Fluent.{Fluent}
 use Rattle.policy_words.specs.declared.parts.NamedFluent.TheVariants as fluents
 use Rattle.policy_words.specs.declared.sayings.EdgeKind.TheVariants.{Ia}
-use Rattle.policy_words.specs.Sayings.{Saying, role, user, perm, edge, admin, opening, trigger}
+use Rattle.policy_words.specs.Sayings.{SaidView, role, user, perm, edge, admin, opening, trigger}
 use Rattle.policy_words.specs.Naming.{Names, role_name, user_name, fluent_named, head_named}
 use Rattle.policy_words.specs.Making.{no_caps}
 use Rattle.policy_words.specs.Canonical.{is_enabled, is_assigned, is_granted, is_armed, is_linked, is_version_one, edge_line, cap_lines, items_of, opening_lines}
@@ -38,34 +38,34 @@ module _ (k : ℕ) (low : 1 ≤ k) (few : k ≤ 200) where
   edges_said : Lines (map (edge_line ns) (policy_of_made k).edges) (edge_lines (k - 1))
   edges_said =
       lines_up (edge_line ns) edge_down (λ i. two (codes "edge ia weak r") i (codes " r") (i + 1)) 0 (k - 1) (λ i above lt.
-      subst (λ (s : Saying). Says s (two (codes "edge ia weak r") (i + 1) (codes " r") (i + 1 + 1)))
+      subst (λ (s : SaidView). Says s (two (codes "edge ia weak r") (i + 1) (codes " r") (i + 1 + 1)))
       (sym (λ j. edge Ia false (role_name_of k i (omega (arith, lt)) j) (role_name_of k (i + 1) (omega (arith, lt)) j)))
       (says_edge (i + 1) (i + 1 + 1) (omega (arith, lt, few)) (omega (arith, lt, few))))
 
-  abbrev opened : Fluent → Saying
+  abbrev opened : Fluent → SaidView
   opened f = opening (fluent_named ns f)
 
   assigned_said : Lines (opening_lines ns is_assigned ms) (for_each (λ i. two (codes "assigned u") i (codes " r") i) k)
   assigned_said =
       subst (λ (xs : List Fluent). Lines (map opened xs) (for_each (λ i. two (codes "assigned u") i (codes " r") i) k)) (sym (kept_assigned k))
       (lines_up opened assigned_own (λ i. two (codes "assigned u") i (codes " r") i) 0 k (λ i above lt.
-      subst (λ (s : Saying). Says s (two (codes "assigned u") (i + 1) (codes " r") (i + 1)))
+      subst (λ (s : SaidView). Says s (two (codes "assigned u") (i + 1) (codes " r") (i + 1)))
       (sym (λ j. opening (fluents.Assigned (user_name_of k i (omega (arith, lt)) j) (role_name_of k i (omega (arith, lt)) j)))) (says_assigned (i + 1) (omega (arith, lt, few)))))
 
   granted_said : Lines (opening_lines ns is_granted ms) (for_each (λ i. two (codes "granted p") i (codes " r") i) k)
   granted_said =
       subst (λ (xs : List Fluent). Lines (map opened xs) (for_each (λ i. two (codes "granted p") i (codes " r") i) k)) (sym (kept_granted k))
       (lines_up opened granted_own (λ i. two (codes "granted p") i (codes " r") i) 0 k (λ i above lt.
-      subst (λ (s : Saying). Says s (two (codes "granted p") (i + 1) (codes " r") (i + 1)))
+      subst (λ (s : SaidView). Says s (two (codes "granted p") (i + 1) (codes " r") (i + 1)))
       (sym (λ j. opening (fluents.Granted (perm_name_of k i (omega (arith, lt)) j) (role_name_of k i (omega (arith, lt)) j)))) (says_granted (i + 1) (omega (arith, lt, few)))))
 
-  abbrev ruled : Rule → Saying
+  abbrev ruled : TriggerView → SaidView
   ruled r = trigger (items_of ns r) (head_named ns r.head) r.delay
 
   handed : (on : Bool) (i : ℕ) (line : List ℕ) → i < k - 1 → Says (handing on (role_named (i + 1)) (role_named (i + 1 + 1))) line
       → Says (handing on (role_name ns (role_at i)) (role_name ns (role_at (i + 1)))) line
   handed on i line lt h =
-      subst (λ (s : Saying). Says s line) (sym (λ j. handing on (role_name_of k i (omega (arith, lt)) j) (role_name_of k (i + 1) (omega (arith, lt)) j))) h
+      subst (λ (s : SaidView). Says s line) (sym (λ j. handing on (role_name_of k i (omega (arith, lt)) j) (role_name_of k (i + 1) (omega (arith, lt)) j))) h
 
   rules_said : (a n : ℕ) → a + n ≤ k - 1 → Lines (map ruled (flat_map passed_both (range_with_len a n))) (flat_map chain (range_with_len (a + 1) n))
   rules_said a zero le = tt
@@ -79,10 +79,10 @@ module _ (k : ℕ) (low : 1 ≤ k) (few : k ≤ 200) where
   no_cap_lines m a (suc n) = no_cap_lines (m + 1) (a + 1) n
 
   admin_said : Says (admin (user_name ns (record { 0 = 0 }))) (codes "admin u1")
-  admin_said = subst (λ (s : Saying). Says s (codes "admin u1")) (sym (λ j. admin (user_name_of k 0 (omega arith) j))) says_admin
+  admin_said = subst (λ (s : SaidView). Says s (codes "admin u1")) (sym (λ j. admin (user_name_of k 0 (omega arith) j))) says_admin
 
   entry_said : Says (hours_entry (role_name ns (role_at 0))) (codes "span hours 50:enable r1")
-  entry_said = subst (λ (s : Saying). Says s (codes "span hours 50:enable r1")) (sym (λ j. hours_entry (role_name_of k 0 (omega arith) j))) says_entry
+  entry_said = subst (λ (s : SaidView). Says s (codes "span hours 50:enable r1")) (sym (λ j. hours_entry (role_name_of k 0 (omega arith) j))) says_entry
 
   pub body_said : Lines (joined (sections_behind (made_of k))) (body k)
   body_said =

@@ -10,7 +10,7 @@ use Rattle.policy_words.specs.declared.parts.NamedFluent.TheVariants as fluents
 use Rattle.policy_words.specs.declared.parts.Item.TheVariants.{Event}
 use Rattle.policy_words.specs.declared.sayings.EdgeKind.TheVariants.{Ia}
 use Rattle.policy_words.specs.declared.versions.TextVersion.TheVariants.{Open, One}
-use Rattle.policy_words.specs.Sayings.{Saying, version, role, user, perm, period, edge, admin, opening, entry, trigger, said_words, is_saying}
+use Rattle.policy_words.specs.Sayings.{SaidView, version, role, user, perm, period, edge, admin, opening, entry, trigger, said_words, is_saying}
 use Rattle.policy_words.specs.Versions.{version_after}
 use Rattle.policy_words.specs.Spelling.{IsPlaced}
 use Rattle.policy_words.specs.Reading.{read_said}
@@ -23,15 +23,15 @@ use Rattle.gen_laws.specs.Made.{role_named, user_named, perm_named, office_hours
 use Rattle.gen_laws.proofs.Names.{named_name}
 
 -- in a text of version 1 the line says this, and does not change the version
-pub record Says (s : Saying) (line : List ℕ) : Type 0 where
+pub record Says (s : SaidView) (line : List ℕ) : Type 0 where
   pub read : read_said One line ≡ Ok (Some s)
   pub stays : version_after One s ≡ One
   pub no_feed : has_no_feed line ≡ true
 
-says_by : (s : Saying) → is_saying s ≡ true → IsPlaced One s → version_after One s ≡ One → length (spaced (said_words s)) ≤ 4_096 → Says s (spaced (said_words s))
+says_by : (s : SaidView) → is_saying s ≡ true → IsPlaced One s → version_after One s ≡ One → length (spaced (said_words s)) ≤ 4_096 → Says s (spaced (said_words s))
 says_by s is placed stays short = record { read = written_is_read s One is placed short; stays = stays; no_feed = one_line s is }
 
-says_line : (s : Saying) (line : List ℕ) → is_saying s ≡ true → IsPlaced One s → version_after One s ≡ One → spaced (said_words s) ≡ line → length line ≤ 4_096 → Says s line
+says_line : (s : SaidView) (line : List ℕ) → is_saying s ≡ true → IsPlaced One s → version_after One s ≡ One → spaced (said_words s) ≡ line → length line ≤ 4_096 → Says s line
 says_line s line is placed stays spelled short = subst (Says s) spelled (says_by s is placed stays (subst (λ (l : List ℕ). length l ≤ 4_096) (sym spelled) short))
 
 digits : (i : ℕ) → i < 1_000 → length (decimal i) ≤ 3
@@ -80,7 +80,7 @@ one_is : decimal 1 ≡ codes "1"
 one_is = sym (number_text (codes "1") 1 (omega arith) refl)
 
 -- what switches a role, and what it switches
-abbrev pub handing : Bool → List ℕ → List ℕ → Saying
+abbrev pub handing : Bool → List ℕ → List ℕ → SaidView
 handing on a b = trigger (Event (record { on = on; fluent = fluents.Enabled a }) ∷ []) (record { prio = 50; event = record { on = on; fluent = fluents.Enabled b } }) 0
 
 module _ (i j : ℕ) (lt_i : i < 1_000) (lt_j : j < 1_000) where
@@ -114,7 +114,7 @@ says_admin =
     says_line (admin (user_named 1)) (codes "admin u1") (and_true _ true (and_true _ true (named_name 117 refl 1 (omega arith)) refl) refl) ((λ v. v), refl) refl
     (ap (λ d. codes "admin u" ++ d) one_is) (omega arith)
 
-abbrev pub hours_entry : List ℕ → Saying
+abbrev pub hours_entry : List ℕ → SaidView
 hours_entry r = entry Span (codes "hours") (record { prio = 50; event = record { on = true; fluent = fluents.Enabled r } })
 
 pub says_entry : Says (hours_entry (role_named 1)) (codes "span hours 50:enable r1")

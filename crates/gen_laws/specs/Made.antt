@@ -2,7 +2,7 @@
 use Rattle.std.specs.Prelude.{ℕ, ◌+◌, ◌-◌, Bool, true, false, List, [], ◌∷◌, ◌++◌, map, flat_map, codes, Some, None}
 use Rattle.std.specs.List.{range_with_len}
 use Rattle.gt_base.specs.Bounds.{last_minute}
-use Rattle.gt_base.specs.Held.{Rule}
+use Rattle.gt_base.specs.Held.{TriggerView}
 use Rattle.gt_base.specs.Sets.{set_of_rising}
 use Rattle.gt_base.specs.declared.events.RoleId.{RoleId}
 use Rattle.gt_base.specs.declared.events.Fluent.{Fluent}
@@ -65,10 +65,10 @@ abbrev pub at_fifty : Bool → ℕ → Prioritised
 at_fifty on n = record { prio = 50; event = switched on n }
 
 -- what switches a role switches the next one so at once
-abbrev pub passed_on : Bool → ℕ → Rule
+abbrev pub passed_on : Bool → ℕ → TriggerView
 passed_on on n = record { events = switched on n ∷ []; signals = []; conds = []; settled = []; head = at_fifty on (n + 1); delay = 0 }
 
-abbrev pub passed_both : ℕ → List Rule
+abbrev pub passed_both : ℕ → List TriggerView
 passed_both n = passed_on true n ∷ passed_on false n ∷ []
 
 -- the first role is on within the hours

@@ -20,9 +20,9 @@ pub struct Trigger {
 }
 
 impl Model for Trigger {
-    ghost use Rattle.gt_base.specs.Held.{Rule};
+    ghost use Rattle.gt_base.specs.Held.{TriggerView};
 
-    ghost Value = { Rule };
+    ghost Value = { TriggerView };
 
     ghost view = { λ t. record { events = t.events.items; signals = t.signals.items; conds = t.conds.items; settled = t.settled.items; head = t.head; delay = t.delay } };
 }

@@ -111,9 +111,9 @@ impl Model for Happened {
     ghost use Rattle.std.specs.Prelude.{◌-◌, min, vec_capacity, vec_len};
     ghost use Rattle.gt_base.specs.Orders.{prioritised_cmp, signal_cmp};
     ghost use Rattle.gt_base.specs.Sets.{set_of_rising, Rises};
-    ghost use Rattle.gt_base.specs.Happening.{Happening, Roomier, happening_code, roomier_code};
+    ghost use Rattle.gt_base.specs.Happening.{HappenedView, Roomier, happening_code, roomier_code};
 
-    ghost Value = { Roomier Happening };
+    ghost Value = { Roomier HappenedView };
 
     ghost coded = { roomier_code happening_code };
 

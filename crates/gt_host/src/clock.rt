@@ -1,4 +1,4 @@
-//! The wall clock.
+//! The system's clock, read as the minute of an instant.
 ghost use Rattle.std.specs.Prelude.{◌≡◌, ◌-◌, ◌/◌, min, None};
 ghost use Rattle.gt_base.specs.Bounds.{last_minute};
 

@@ -1,4 +1,4 @@
-//! Files.
+//! A shelf whose texts are files of the folder that the program runs in.
 ghost use Rattle.std.specs.Prelude.{◌≡◌, None};
 
 use gt_io::{Failed, Shelf};

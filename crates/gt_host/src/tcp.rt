@@ -1,4 +1,4 @@
-//! Connections over TCP.
+//! Links and doors over TCP, on this machine alone.
 ghost use Rattle.std.specs.Prelude.{◌≡◌, None, Some};
 ghost use Rattle.gt_io.specs.Links.{ReadsNothing, WritesNothing};
 

@@ -1,12 +1,10 @@
 -- A text that is cut at its first feed, and a line at its first blank.
-use Rattle.std.proofs.Common.{◌≡◌, ◌<◌, ◌≤◌, ◌+◌, ℕ, zero, suc, Bool, true, false, cond, not, ◌||◌, Option, Some, None, unwrap_or, nat_lt, eqb, List, [], ◌∷◌, length, get_or, take, drop, refl, sym, ap, ◌∙◌, arith, add-one, add-zero, inl, inr}
+use Rattle.std.proofs.Common.{◌≡◌, ◌<◌, ◌≤◌, ◌+◌, ℕ, zero, suc, Bool, true, false, cond, nat_lt, eqb, List, [], ◌∷◌, length, get_or, take, drop, refl, sym, ap, ◌∙◌, arith, add-one, inl, inr}
 use Rattle.std.specs.List.{slice_split, onto_first, filter}
 use Rattle.std.proofs.lemmas.List.Splits.{slice_split-cons_yes, slice_split-cons_no}
 use Rattle.std.proofs.lemmas.Bool.{lt-ltb, cases_lt, false≢true}
-use Rattle.std.proofs.lemmas.List.{take_all, drop_all, length-take, length-drop, get_or-drop}
+use Rattle.std.proofs.lemmas.List.{take_all, drop_all, length-take}
 use Rattle.std.proofs.Math.Seq.{drop-cons}
-use Rattle.bstr.specs.Bytes.{is_in, not_in}
-use Rattle.bstr.specs.Find.{IsFirstByte}
 use Rattle.gt_text.specs.Lines.{is_feed, but_empty_last, lines_of}
 use Rattle.gt_text.specs.Words.{is_blank, blank_cut}
 
@@ -55,11 +53,6 @@ pub lines_nowhere : (text : List ℕ) → eqb (length text) 0 ≡ false → ((k 
 lines_nowhere text some nowhere =
     ap but_empty_last (cut_nowhere is_feed text (λ k l. not_true _ (nowhere k (omega arith) l))) ∙ ap (λ b. cond b [] (text ∷ [])) some
 
--- what bstr searches for is a blank
-pub blank_is : (b : ℕ) → is_in (32 ∷ 9 ∷ []) b ≡ is_blank b
-unfolding is_in
-blank_is b = ap (λ r. eqb b 32 || r) (elim (eqb b 9) as (λ r. (r || false) ≡ r) [ true ↦ refl | false ↦ refl ])
-
 abbrev is_some_word : List ℕ → Bool
 is_some_word word = nat_lt 0 (length word)
 
@@ -69,17 +62,8 @@ kept_word word words h = ap (λ b. cond b (word ∷ filter is_some_word words) (
 words_blank : (x : ℕ) (xs : List ℕ) → is_blank x ≡ true → blank_cut (x ∷ xs) ≡ blank_cut xs
 words_blank x xs t = ap (filter is_some_word) (slice_split-cons_yes is_blank x xs t)
 
--- blanks at the front are dropped
-pub words_skip : (line : List ℕ) (start : ℕ) → start ≤ length line → ((k : ℕ) → k < start → is_blank (get_or line k 0) ≡ true)
-    → blank_cut line ≡ blank_cut (drop start line)
-words_skip [] zero h b = refl
-words_skip [] (suc start) h b = absurd (omega arith)
-words_skip (x ∷ xs) zero h b = refl
-words_skip (x ∷ xs) (suc start) h b =
-    words_blank x xs (b 0 (omega arith)) ∙ words_skip xs start (omega arith) (λ k l. b (suc k) (omega arith))
-
 -- a line that begins with a word
-pub words_cut : (line : List ℕ) (end : ℕ) → 0 < end → end ≤ length line → ((k : ℕ) → k < end → is_blank (get_or line k 0) ≡ false)
+words_cut : (line : List ℕ) (end : ℕ) → 0 < end → end ≤ length line → ((k : ℕ) → k < end → is_blank (get_or line k 0) ≡ false)
     → (end < length line → is_blank (get_or line end 0) ≡ true) → blank_cut line ≡ take end line ∷ blank_cut (drop end line)
 words_cut line end some h before at =
     elim (cases_lt end (length line)) [
@@ -94,46 +78,12 @@ words_cut line end some h before at =
           ∙ sym (ap (λ word. word ∷ blank_cut (drop end line)) (take_all end line g) ∙ ap (λ rest. line ∷ blank_cut rest) (drop_all end line g))
     ]
 
-not_not : (b : Bool) → (not b ≡ true → ⊥) → b ≡ true
-not_not true h = refl
-not_not false h = absurd (h refl)
-
-is_not : (b : Bool) → not b ≡ true → b ≡ false
-is_not true h = cc
-is_not false h = refl
-
-abbrev blanks : List ℕ
-blanks = 32 ∷ 9 ∷ []
-
--- a line of blanks alone
-pub words_none : (line : List ℕ) → IsFirstByte (not_in blanks) line None → blank_cut line ≡ []
-words_none line none =
-    words_skip line (length line) (omega arith) (λ k l. sym (blank_is (get_or line k 0)) ∙ not_not _ (none k (omega arith) l))
-    ∙ ap blank_cut (drop_all (length line) line (omega arith))
-
-not_blank : (b : ℕ) → (is_in blanks b ≡ true → ⊥) → is_blank b ≡ false
-not_blank b h = sym (blank_is b) ∙ not_true _ h
-
 -- a line that begins with a word, up to the first blank or the end
-words_upto : (text : List ℕ) (blank : Option ℕ) → 0 < length text → is_blank (get_or text 0 0) ≡ false → IsFirstByte (is_in blanks) text blank
-    → blank_cut text ≡ take (unwrap_or blank (length text)) text ∷ blank_cut (drop (unwrap_or blank (length text)) text)
-words_upto text None some first next =
-    words_cut text (length text) some (omega arith) (λ k l. not_blank _ (next k (omega arith) l)) (λ l. absurd (omega arith))
-words_upto text (Some zero) some first next = absurd (false≢true (sym first ∙ sym (blank_is (get_or text 0 0)) ∙ next.1))
-words_upto text (Some (suc end)) some first next =
-    words_cut text (suc end) (omega arith) (omega (arith, next.0.high)) (λ k l. not_blank _ (next.0.before k (omega arith) l))
-    (λ l. sym (blank_is (get_or text (suc end) 0)) ∙ next.1)
-
--- the first byte that is no blank, and then the first blank behind it or the end
-pub words_first : (line text : List ℕ) (start : ℕ) (blank : Option ℕ) (end : ℕ) → IsFirstByte (not_in blanks) line (Some start)
-    → text ≡ drop start line → IsFirstByte (is_in blanks) text blank → end ≡ unwrap_or blank (length text)
-    → blank_cut line ≡ take end text ∷ blank_cut (drop end text)
-words_first line text start blank end first cut next is_end =
-    let skipped = words_skip line start (omega (arith, first.0.high)) (λ k l. sym (blank_is (get_or line k 0)) ∙ not_not _ (first.0.before k (omega arith) l)) in
-    let some : 0 < length text = rw cut (omega (arith, first.0.high, length-drop start line)) in
-    let letter : is_blank (get_or text 0 0) ≡ false =
-    rw (cut, get_or-drop, add-zero) (sym (blank_is (get_or line start 0)) ∙ is_not _ first.1) in
-    skipped ∙ ap blank_cut (sym cut) ∙ rw is_end (words_upto text blank some letter next)
+pub words_upto : (text : List ℕ) (end : ℕ) → 0 < length text → is_blank (get_or text 0 0) ≡ false → end ≤ length text
+    → ((k : ℕ) → k < end → is_blank (get_or text k 0) ≡ false) → (end < length text → is_blank (get_or text end 0) ≡ true)
+    → blank_cut text ≡ take end text ∷ blank_cut (drop end text)
+words_upto text zero some first high before at = absurd (false≢true (sym first ∙ at some))
+words_upto text (suc end) some first high before at = words_cut text (suc end) (omega arith) high before at
 
 one_at_most : (part : List ℕ) → length (but_empty_last (part ∷ [])) ≤ 1
 one_at_most part =

@@ -1,10 +1,9 @@
 //! The words of a line.
-ghost use Rattle.std.specs.Prelude.{◌≡◌, List, ℕ, [], ◌∷◌, MatchOption};
+ghost use Rattle.std.specs.Prelude.{◌≡◌, ◌<◌, ◌≤◌, List, ℕ, [], ◌∷◌, length, slice_index, true, false, MatchOption};
 ghost use Rattle.std.specs.Iterator.{YieldsFirstRef, item_count};
-ghost use Rattle.gt_text.specs.Words.{words_of, blank_cut};
+ghost use Rattle.gt_text.specs.Words.{words_of, blank_cut, is_blank as blank};
 
 use crate::lines::without_return;
-use bstr::ByteSlice;
 use std::marker::Model;
 
 /// The words of a line that are left: what stands between spaces and tabs.
@@ -44,12 +43,35 @@ impl<'a> Iterator for Words<'a> {
     }
 }
 
+fn is_blank(b: u8) -> bool
+    ensures { result ≡ blank b }
+{
+    b == b' ' || b == b'\t'
+}
+
+// How many bytes stand before the first blank.
+fn word_len(text: &[u8]) -> usize
+    ensures within { result ≤ length text.now }
+    ensures word { (k : ℕ) → k < result → blank (slice_index text.now k) ≡ false }
+    ensures end { result < length text.now → blank (slice_index text.now result) ≡ true }
+{
+    let mut n = 0;
+    while n < text.len() && !is_blank(text[n]) {
+        n += 1;
+    }
+    n
+}
+
 // The first word and the line after it.
 fn first_word(line: &[u8]) -> Option<(&[u8], &[u8])>
     ensures { MatchOption result (blank_cut line.now ≡ []) (λ cut. blank_cut line.now ≡ cut.0.now ∷ blank_cut cut.1.now) }
 {
-    let start = line.find_not_byteset(b" \t")?;
-    let (_, text) = line.split_at(start);
-    let end = text.find_byteset(b" \t").unwrap_or(text.len());
-    Some(text.split_at(end))
+    let mut text = line;
+    while let [first, rest @ ..] = text {
+        if !is_blank(*first) {
+            return Some(text.split_at(word_len(text)));
+        }
+        text = rest;
+    }
+    None
 }

@@ -1,4 +1,4 @@
-//! The top call.
+//! The one call of the server: from words, policy, clocks and links to the log and the exit status.
 ghost use Rattle.std.specs.Prelude.{◌≡◌, ◌⊎◌, ◌≤◌, [], ℕ, List, Some, None, map, string_bytes, length, All};
 ghost use Rattle.gt_io.specs.Causes.{Rose};
 ghost use Rattle.policy_commands.specs.Policies.{HasFault, IsUnsafeText};

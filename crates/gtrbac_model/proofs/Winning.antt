@@ -4,7 +4,7 @@ use Rattle.std.proofs.lemmas.Bool.{leb-false, ltb-false}
 use Rattle.gt_base.specs.declared.events.Event.{Event}
 use Rattle.gt_base.specs.declared.events.Prioritised.{Prioritised}
 use Rattle.gt_base.specs.Events.{converse}
-use Rattle.gt_base.specs.Happening.{Happening}
+use Rattle.gt_base.specs.Happening.{HappenedView}
 use Rattle.gt_base.specs.Sets.{members}
 use Rattle.gtrbac_model.specs.Same.{same_event}
 use Rattle.gtrbac_model.specs.Conflict.{beats, blocked}
@@ -30,7 +30,7 @@ one_beats true p q a b = omega (arith, leb-false p q a, ltb-false q p b)
 one_beats false p q a b = omega (arith, ltb-false p q a, leb-false q p b)
 
 -- an event that is not blocked is not beaten by its converse
-not_beaten : (x : Happening) (o c : Prioritised) → blocked x o ≡ false → Elem (members x.events) c → c.event ≡ converse o.event → beats o.event.on c.prio o.prio ≡ false
+not_beaten : (x : HappenedView) (o c : Prioritised) → blocked x o ≡ false → Elem (members x.events) c → c.event ≡ converse o.event → beats o.event.on c.prio o.prio ≡ false
 not_beaten x o c free there is =
     not_true _ (λ b. clash (blocked x o) (any_intro (λ d. same_event d.event (converse o.event) && beats o.event.on d.prio o.prio) (members x.events) c there (and_true _ _ (same_event_of c.event (converse o.event) is) b)) free)
 

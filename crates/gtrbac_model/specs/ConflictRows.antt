@@ -7,8 +7,8 @@ use Rattle.gt_base.specs.declared.events.Fluent.TheVariants.{Enabled}
 use Rattle.gt_base.specs.declared.events.Event.{Event}
 use Rattle.gt_base.specs.declared.events.Prioritised.{Prioritised}
 use Rattle.gt_base.specs.declared.requests.Seen.TheVariants.{Unblocked, Blocked, Absent}
-use Rattle.gt_base.specs.Held.{Rule}
-use Rattle.gt_base.specs.Happening.{Happening, nothing}
+use Rattle.gt_base.specs.Held.{TriggerView}
+use Rattle.gt_base.specs.Happening.{HappenedView, nothing}
 use Rattle.gt_base.specs.Sets.{none, set_of}
 use Rattle.gtrbac_model.specs.Conflict.{Status, blocked, after, seen}
 use Rattle.gtrbac_model.specs.Instant.{closed, grounded_after, Settled}
@@ -32,31 +32,31 @@ off n = record { on = false; fluent = Enabled (role n) }
 abbrev pub at : ℕ → Event → Prioritised
 at p e = record { prio = p; event = e }
 
-abbrev pub when : Event → Prioritised → Rule
+abbrev pub when : Event → Prioritised → TriggerView
 when b h = record { events = b ∷ []; signals = []; conds = []; settled = []; head = h; delay = 0 }
 
-abbrev pub events : List Prioritised → Happening
+abbrev pub events : List Prioritised → HappenedView
 events es = record { events = set_of es; signals = none }
 
 abbrev pub all_off : Status
 all_off f = false
 
 -- Three triggers in an order against their dependencies: roles a, b, c, d are 0 to 3.
-abbrev pub chain : List Rule
+abbrev pub chain : List TriggerView
 chain = when (on 2) (at 50 (on 3)) ∷ when (on 1) (at 60 (off 2)) ∷ when (on 0) (at 50 (on 1)) ∷ []
 
-abbrev pub chain_base : Happening
+abbrev pub chain_base : HappenedView
 chain_base = events (at 50 (on 0) ∷ at 50 (on 2) ∷ [])
 
 abbrev pub chain_order : List Prioritised
 chain_order = at 60 (off 2) ∷ at 50 (on 1) ∷ at 50 (on 0) ∷ at 50 (on 2) ∷ []
 
 -- two triggers that support each other: nothing stands without a base
-abbrev pub ring : List Rule
+abbrev pub ring : List TriggerView
 ring = when (on 0) (at 50 (on 1)) ∷ when (on 1) (at 50 (on 0)) ∷ []
 
 -- a conflict cycle
-abbrev pub unsafe : List Rule
+abbrev pub unsafe : List TriggerView
 unsafe = when (on 1) (at 50 (on 0)) ∷ when (on 0) (at 50 (off 1)) ∷ []
 
 pub record AreConflictRows : Type 0 where

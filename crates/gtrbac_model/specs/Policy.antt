@@ -1,7 +1,7 @@
 -- A policy: what it declares, its rules and its opening status.
 use Rattle.std.specs.Prelude.{ℕ, List, refl}
 use Rattle.std.specs.Coded.{Coded, code_by, coded×, coded_ℕ, coded_list}
-use Rattle.gt_base.specs.Held.{Rule}
+use Rattle.gt_base.specs.Held.{TriggerView}
 use Rattle.gt_base.specs.Happening.{Fluents, fluents_code}
 use Rattle.gt_base.specs.declared.events.UserId.{UserId}
 use Rattle.gt_base.specs.declared.policies.PeriodicEntry.{PeriodicEntry}
@@ -28,11 +28,11 @@ pub record Policy : Type 0 where
   pub admins : List UserId
   pub opening : Fluents
   pub entries : List PeriodicEntry
-  pub triggers : List Rule
+  pub triggers : List TriggerView
 
 -- a policy is stored as nested pairs of its parts
 abbrev Parts : Type 0
-Parts = ℕ × (ℕ × (ℕ × (List Period × (List LimitRule × (List HierEdge × (List Caps × (List UserId × (Fluents × (List PeriodicEntry × List Rule)))))))))
+Parts = ℕ × (ℕ × (ℕ × (List Period × (List LimitRule × (List HierEdge × (List Caps × (List UserId × (Fluents × (List PeriodicEntry × List TriggerView)))))))))
 
 abbrev parts_code : Coded Parts
 parts_code =

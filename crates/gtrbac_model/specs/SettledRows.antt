@@ -4,7 +4,7 @@ use Rattle.gt_base.specs.declared.events.Cond.{Cond}
 use Rattle.gt_base.specs.declared.events.Event.{Event}
 use Rattle.gt_base.specs.declared.events.Fluent.TheVariants.{Enabled}
 use Rattle.gt_base.specs.declared.events.Prioritised.{Prioritised}
-use Rattle.gt_base.specs.Held.{Rule}
+use Rattle.gt_base.specs.Held.{TriggerView}
 use Rattle.gtrbac_model.specs.Conflict.{after}
 use Rattle.gtrbac_model.specs.Instant.{closed, grounded_after, Settled}
 use Rattle.gtrbac_model.specs.Safety.{the_cycle, dependencies}
@@ -16,15 +16,15 @@ enabled n = record { on = true; fluent = Enabled (role n) }
 abbrev pub disabled : ℕ → Cond
 disabled n = record { on = false; fluent = Enabled (role n) }
 
-abbrev pub when_settled : Event → Cond → Prioritised → Rule
+abbrev pub when_settled : Event → Cond → Prioritised → TriggerView
 when_settled b c h = record { events = b ∷ []; signals = []; conds = []; settled = c ∷ []; head = h; delay = 0 }
 
 -- when enable a and settled enabled b then 50:enable c
-abbrev pub guarded : List Rule
+abbrev pub guarded : List TriggerView
 guarded = when_settled (on 0) (enabled 1) (at 50 (on 2)) ∷ []
 
 -- the same without the word `settled`
-abbrev pub guarded_before : List Rule
+abbrev pub guarded_before : List TriggerView
 guarded_before = record { events = on 0 ∷ []; signals = []; conds = enabled 1 ∷ []; settled = []; head = at 50 (on 2); delay = 0 } ∷ []
 
 -- b is enabled at the instant itself
@@ -36,18 +36,18 @@ abbrev pub overruled : List Prioritised
 overruled = at 60 (off 1) ∷ two_enabled
 
 -- when enable d then 60:disable b, after the trigger that asks for b
-abbrev pub decided_below : List Rule
+abbrev pub decided_below : List TriggerView
 decided_below = when_settled (on 0) (enabled 1) (at 50 (on 2)) ∷ when (on 3) (at 60 (off 1)) ∷ []
 
 abbrev pub three_enabled : List Prioritised
 three_enabled = at 50 (on 3) ∷ two_enabled
 
 -- when enable a and settled disabled b then 50:enable b
-abbrev pub undoes_itself : List Rule
+abbrev pub undoes_itself : List TriggerView
 undoes_itself = when_settled (on 0) (disabled 1) (at 50 (on 1)) ∷ []
 
 -- the events of a and of b are nodes
-abbrev pub all_nodes : List Rule
+abbrev pub all_nodes : List TriggerView
 all_nodes =
     when_settled (on 0) (enabled 1) (at 50 (on 2)) ∷ when (on 3) (at 50 (on 0)) ∷ when (on 3) (at 50 (off 0)) ∷ when (on 3) (at 50 (on 1)) ∷ when (on 3) (at 50 (off 1)) ∷ []
 

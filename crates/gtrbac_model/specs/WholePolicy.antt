@@ -2,8 +2,8 @@
 use Rattle.std.specs.Prelude.{◌≡◌, ℕ, ◌+◌, ◌-◌, ◌<◌, ◌≤◌, Bool, true, false, ◌&&◌, ◌||◌, not, List, [], ◌∷◌, ◌++◌, length, map, count_by, nat_le, nat_lt, Option, Some, None, IsTrue}
 use Rattle.std.specs.List.{list_all, list_any}
 use Rattle.gt_base.specs.Bounds.{last_minute}
-use Rattle.gt_base.specs.Held.{Rule}
-use Rattle.gt_base.specs.Happening.{Happening, nothing}
+use Rattle.gt_base.specs.Held.{TriggerView}
+use Rattle.gt_base.specs.Happening.{HappenedView, nothing}
 use Rattle.gt_base.specs.Machines.{ticked}
 use Rattle.gt_base.specs.Sets.{members}
 use Rattle.gt_base.specs.declared.events.RoleId.{RoleId}
@@ -57,13 +57,13 @@ module _ (p : Policy) where
   is_edge e = nat_lt e.senior.0 p.roles && nat_lt e.junior.0 p.roles && (e.inherits || e.activates)
 
   -- a body has at most 16 items
-  abbrev pub is_rule : Rule → Bool
+  abbrev pub is_rule : TriggerView → Bool
   is_rule r =
       list_all (λ e. is_fluent e.fluent) r.events && list_all is_signal r.signals && list_all (λ c. is_fluent c.fluent) r.conds && list_all (λ c. is_fluent c.fluent) r.settled && is_head r.head && nat_le r.delay last_minute
       && nat_le (length r.events + length r.signals + length r.conds + length r.settled) 16
 
 -- the body has an event or a signal
-abbrev pub has_cause : Rule → Bool
+abbrev pub has_cause : TriggerView → Bool
 has_cause r = is_some_item r.events || is_some_item r.signals
 
 abbrev pub joins_same : HierEdge → HierEdge → Bool

@@ -1,5 +1,5 @@
 -- What is asked behind a script, as it is told and caused.
-use Rattle.std.proofs.Common.{◌≡◌, ℕ, List, [], Option, Some, None, ◌⊎◌, inl, inr, refl, sym, ap, ◌∙◌, subst}
+use Rattle.std.proofs.Common.{◌≡◌, ℕ, List, [], Option, None, ◌⊎◌, inl, inr, refl, sym, ◌∙◌, subst}
 use Rattle.std.specs.Prelude.{Result, Ok, Err, IfOk}
 use Rattle.gt_base.specs.declared.requests.Entry.{Entry}
 use Rattle.gtrbac_model.specs.Policy.{Policy}
@@ -14,7 +14,7 @@ use Rattle.gtrbac_tool.specs.declared.starting.Ran.TheVariants.{Unborn, Born}
 use Rattle.gtrbac_tool.specs.Told.{no_birth}
 use Rattle.gtrbac_tool.specs.Script.{Start, never, born, failed, start_of, EndsFrom}
 use Rattle.gtrbac_tool.specs.Started.{IsUnborn, RanFrom}
-use Rattle.gtrbac_tool.specs.Late.{asked_of, Follows, Answered, AnswersFrom}
+use Rattle.gtrbac_tool.specs.Late.{asked_of, Follows, AnswersFrom}
 use Rattle.gtrbac_tool.specs.Causes.{IsRunStatus, IsScriptCaused, IsCaused}
 use Rattle.gtrbac_tool.proofs.Causing.{FailsWith, starts, played_status, status_of}
 

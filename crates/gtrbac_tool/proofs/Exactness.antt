@@ -78,6 +78,16 @@ module _ (text : List ℕ) where
   pub safe_text : (np : NamedPolicy) → safe_in text ≡ Ok np → IsSafeText text
   safe_text np e = (safe_means text).0 (check_safe np e)
 
+  ok_same : (np q : NamedPolicy) → ◌≡◌ {A = Result NamedPolicy Told} (Ok np) (Ok q) → np ≡ q
+  ok_same np q e = cc
+
+  -- and the text is of it
+  pub safe_of : (np : NamedPolicy) → safe_in text ≡ Ok np → IsSafeOf text np
+  safe_of np e =
+      let t : IsSafeText text = safe_text np e in
+      let there : IsSafeOf text t.policy = record { is = t.is; safe = t.safe } in
+      subst (IsSafeOf text) (ok_same t.policy np (sym (safe_found t.policy there) ∙ e)) there
+
 -- the end has the status that is caused, or the outside failed
 
 abbrev Fits : Type 0 → ℕ → Told → Type 0

@@ -1,4 +1,6 @@
 pub mod Causing
+pub mod ListingOrder
+pub mod ListingTrace
 pub mod OneHistory
 pub mod OneEnd
 pub mod OnePlay
@@ -6,6 +8,7 @@ pub mod Asking
 pub mod Exactness
 pub mod Ran
 pub mod Spoken
+pub mod LastInstant
 pub mod Steps
 pub mod Succeeding
 pub mod Tallying

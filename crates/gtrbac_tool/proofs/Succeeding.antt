@@ -1,32 +1,29 @@
 -- What `gen` makes is read, judged safe and played to its end.
-use Rattle.std.proofs.Common.{◌≡◌, ◌⊎◌, inl, inr, ℕ, ◌+◌, ◌≤◌, ◌<◌, true, false, nat_eq, List, [], ◌∷◌, ◌++◌, map, length, Option, None, Result, Ok, Err, refl, sym, ap, ◌∙◌, subst, arith, append_assoc, append-nil}
+use Rattle.std.proofs.Common.{◌≡◌, ◌⊎◌, inl, inr, ℕ, ◌+◌, ◌≤◌, ◌<◌, List, [], ◌∷◌, ◌++◌, map, length, Result, Ok, refl, sym, ap, ◌∙◌, subst, arith, append_assoc, append-nil}
 use Rattle.gt_base.specs.Bounds.{max_steps}
-use Rattle.gt_base.specs.Machines.{ticked, asked}
-use Rattle.gt_base.specs.declared.requests.Actor.TheVariants.{Operator}
+use Rattle.gt_base.specs.Machines.{asked}
 use Rattle.gt_base.specs.declared.requests.Entry.{Entry}
-use Rattle.gtrbac_model.specs.Safety.{the_cycle}
 use Rattle.gtrbac_model.specs.Status.{Model}
 use Rattle.gtrbac_model.specs.History.{Legal}
 use Rattle.walk_laws.proofs.Closing.{tells}
 use Rattle.gt_text.specs.Lines.{lines_of}
 use Rattle.policy_words.specs.Naming.{NamedPolicy}
-use Rattle.policy_commands.specs.Ends.{Told, told}
+use Rattle.policy_commands.specs.Ends.{Told}
 use Rattle.policy_commands.specs.Policies.{read_or_told, safe_or_told, judged, policy_in, judged_or_told, safe_in}
 use Rattle.policy_gen.specs.Draws.{first_minute}
 use Rattle.policy_gen.specs.Texts.{time_line, policy_text, script_text}
 use Rattle.request_text.specs.declared.lines.Line.{Line}
 use Rattle.request_text.specs.declared.lines.Line.TheVariants.{Silent, At, Be, Ask}
 use Rattle.request_text.specs.declared.lines.LineFault.{LineFault}
-use Rattle.request_text.specs.Phrases.{read_line}
 use Rattle.gen_laws.specs.Made.{made_policy}
-use Rattle.gen_laws.specs.Played.{script_said, script_moves}
+use Rattle.gen_laws.specs.Played.{script_moves}
 use Rattle.gen_laws.specs.Following.{IsTickTo, AreTicksTo, Follows}
 use Rattle.gen_laws.specs.Laws.{IsBorn}
 use Rattle.gen_laws.proofs.ReadPolicy.{policy_is_read, policy_is_safe}
 use Rattle.gen_laws.proofs.Script.{script_is_said, script_is_born}
 use Rattle.gen_laws.proofs.Short.{history_is_short}
-use Rattle.gtrbac_tool.specs.Script.{scripts_who, Going, AreTicks, Arrives, IsFilled, said, Moves, Plays, Stops, at_birth, StoppedAt, PlayedOut, RunOver, begun, born, start_of}
-use Rattle.gtrbac_tool.specs.Summary.{Gen, summary, summed, Summed, SummedFrom, SummedOver, GenEnds}
+use Rattle.gtrbac_tool.specs.Script.{scripts_who, Going, AreTicks, Arrives, IsFilled, said, Moves, Plays, Stops, at_birth, StoppedAt, PlayedOut, begun, born, start_of}
+use Rattle.gtrbac_tool.specs.Summary.{Gen, summed, Summed, SummedFrom, SummedOver, GenEnds}
 
 -- the made policy is the safe one of its text
 safe_made : (size : ℕ) → 1 ≤ size → safe_in (policy_text size) ≡ Ok (made_policy size)

@@ -80,13 +80,22 @@ abbrev pub Complete : List (List ℕ) → ℕ → Seen → Seen → Type 0
 Complete words status a b =
     IsNoGen words → IsCause (command_of words) a.contents a.input 0 → (IsUnread a b → ⊥) → (IsUnwritten a b → ⊥) → (status ≡ 0) ⊎ (status ≡ 8)
 
--- the policy is within its limit and safe
-abbrev pub IsPlayable : List ℕ → Type 0
-IsPlayable text = (length text ≤ max_policy) × IsSafeText text
+-- the text is of a safe policy that has each name of the question
+pub record IsAskable (text : List ℕ) (question : Question) : Type 0 where
+  pub policy : NamedPolicy
+  pub of : IsSafeOf text policy
+  pub asked : IsSome (asked_of policy question)
 
--- the words play a script, over a policy that is there, within its limit and safe, where the shelf tells its texts
+-- the script is asked for over the text: `run` over a safe policy, and a question over one that has its names
+abbrev pub IsPlayed : Command → List ℕ → Type 0
+IsPlayed (check name) text = ⊥
+IsPlayed (fmt name) text = ⊥
+IsPlayed (run name) text = IsSafeText text
+IsPlayed (ask name question) text = IsAskable text question
+
+-- the words play a script, over a policy that is there, within its limit and safe and has the names of a question, where the shelf tells its texts
 abbrev pub IsScriptDue : Command → Contents → Type 0
-IsScriptDue command contents = IsTrue (plays_script command) × IfSome contents (λ text_of. IsSomeAnd (text_of (named_by command)) IsPlayable)
+IsScriptDue command contents = IfSome contents (λ text_of. IsSomeAnd (text_of (named_by command)) (λ text. (length text ≤ max_policy) × IsPlayed command text))
 
 abbrev pub ReadsScript : List (List ℕ) → Contents → Type 0
 ReadsScript words contents = (command : Command) × (command_of words ≡ Some command) × IsScriptDue command contents

@@ -1,4 +1,4 @@
--- What may be asked behind a script: when the answer of a condition changes next.
+-- What may be asked behind a script: when the answer of a condition changes next, and why an event is in force or blocked.
 use Rattle.std.specs.Prelude.{◌≡◌, ◌⊎◌, ℕ, ◌+◌, ◌*◌, Bool, true, false, not, List, [], ◌∷◌, ◌++◌, codes, min, if◌then◌else◌, Option, Some, None}
 use Rattle.gt_base.specs.Bounds.{last_minute}
 use Rattle.gt_base.specs.Names.{number_from, name_in}
@@ -9,20 +9,22 @@ use Rattle.civil_time.specs.Text.{civil_text}
 use Rattle.gtrbac_model.specs.Policy.{Policy}
 use Rattle.gtrbac_model.specs.History.{now_of}
 use Rattle.policy_words.specs.declared.parts.NamedCond.{NamedCond}
+use Rattle.policy_words.specs.declared.parts.NamedEvent.{NamedEvent}
 use Rattle.policy_words.specs.declared.parts.NamedFluent.{NamedFluent}
 use Rattle.policy_words.specs.declared.parts.NamedFluent.TheVariants.{Enabled, Assigned, Granted, Limit, Edge}
 use Rattle.policy_words.specs.declared.parts.Sort.{Sort}
 use Rattle.policy_words.specs.declared.parts.Sort.TheVariants.{Enabling, Assigning, Granting, Arming, Linking}
-use Rattle.policy_words.specs.Wording.{◌>>=◌, verb_in, cond_verb}
-use Rattle.policy_words.specs.Naming.{NamedPolicy, cond_of}
+use Rattle.policy_words.specs.Wording.{◌>>=◌, verb_in, cond_verb, event_verb}
+use Rattle.policy_words.specs.Naming.{NamedPolicy, cond_of, event_of}
 use Rattle.policy_commands.specs.Ends.{Told, told}
 use Rattle.forecast.specs.Ahead.{IsFirstChange}
 use Rattle.forecast.specs.declared.changes.Change.{Change}
 use Rattle.gtrbac_tool.specs.declared.questions.Question.{Question}
-use Rattle.gtrbac_tool.specs.declared.questions.Question.TheVariants.{Forecast}
+use Rattle.gtrbac_tool.specs.declared.questions.Question.TheVariants.{Forecast, Why}
 use Rattle.gtrbac_tool.specs.declared.ahead.Asked.{Asked}
-use Rattle.gtrbac_tool.specs.declared.ahead.Asked.TheVariants.{Ahead}
+use Rattle.gtrbac_tool.specs.declared.ahead.Asked.TheVariants.{Ahead, Standing}
 use Rattle.gtrbac_tool.specs.Told.{no_birth, too_long}
+use Rattle.gtrbac_tool.specs.Standing.{TellsWhy}
 use Rattle.gtrbac_tool.specs.Script.{Start, never, born, failed, start_of, RunOver, max_script}
 
 -- the words are one name
@@ -72,11 +74,28 @@ forecast_in (days ∷ words) = do
   c ← cond_said words
   Some (Forecast n c)
 
+-- the words are those of one event
+abbrev pub event_said : List (List ℕ) → Option NamedEvent
+event_said [] = None
+event_said (verb ∷ names) = do
+  v ← verb_in event_verb verb
+  f ← fluent_said v.1 names
+  Some (record { on = v.0; fluent = f })
+
+-- an event, without a priority
+abbrev pub why_in : List (List ℕ) → Option Question
+why_in words = do
+  e ← event_said words
+  Some (Why e)
+
 -- the question in numbers of a policy: none where a name is not declared, or is no edge
 abbrev pub asked_of : NamedPolicy → Question → Option Asked
 asked_of np (Forecast days c) = do
   g ← cond_of np.names c
   Some (Ahead days g)
+asked_of np (Why e) = do
+  g ← event_of np.names e
+  Some (Standing e g)
 
 -- so many days after now, or the last instant where that is less
 abbrev pub horizon : ℕ → ℕ → ℕ
@@ -98,6 +117,7 @@ pub record TellsAhead (p : Policy) (birth : ℕ) (h : List Entry) (days : ℕ) (
 
 abbrev pub Tells : Policy → Asked → ℕ → List Entry → List ℕ → Type 0
 Tells p (Ahead days c) birth h text = TellsAhead p birth h days c text
+Tells p (Standing named e) birth h text = TellsWhy p birth h named e text
 
 -- behind the replies of a run that was played to its end stands what was asked; another run has its own end
 abbrev pub Follows : Policy → Asked → ℕ → List Entry → Told → Told → Type 0

@@ -4,6 +4,8 @@ pub mod Going
 pub mod Started
 pub mod Summary
 pub mod Counted
+pub mod Standing
+pub mod Listing
 pub mod Late
 pub mod Tool
 pub mod Commands

@@ -21,7 +21,7 @@ abbrev pub too_long : List ℕ → Told
 too_long what = told 6 (codes "too long: " ++ what ++ codes "\n")
 
 abbrev pub usage : Told
-usage = told 1 (codes "usage: gtrbac check POLICY | fmt POLICY | run POLICY | gen SEED SIZE | forecast POLICY DAYS COND\n")
+usage = told 1 (codes "usage: gtrbac check POLICY | fmt POLICY | run POLICY | gen SEED SIZE | forecast POLICY DAYS COND | why POLICY EVENT\n")
 
 abbrev pub read_fault : Told
 read_fault = told 4 (codes "read fault\n")

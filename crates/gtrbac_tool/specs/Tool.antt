@@ -13,7 +13,7 @@ use Rattle.gtrbac_tool.specs.Told.{usage, read_fault, too_long, unknown_name}
 use Rattle.gtrbac_tool.specs.Script.{Ends}
 use Rattle.gtrbac_tool.specs.declared.questions.Question.{Question}
 use Rattle.gtrbac_tool.specs.declared.ahead.Asked.{Asked}
-use Rattle.gtrbac_tool.specs.Late.{forecast_in, asked_of, AnswersScript}
+use Rattle.gtrbac_tool.specs.Late.{forecast_in, why_in, asked_of, AnswersScript}
 use Rattle.gtrbac_tool.specs.Summary.{Gen, IsGen, IsNoGen, GenEnds}
 
 -- a command, with the name of a policy
@@ -45,7 +45,8 @@ command_by verb name =
 
 -- what is asked by the words behind the name
 abbrev pub question_by : List ℕ → List (List ℕ) → Option Question
-question_by verb words = elim (bytes_eq verb (codes "forecast")) [ true ↦ forecast_in words | false ↦ None ]
+question_by verb words =
+    elim (bytes_eq verb (codes "forecast")) [ true ↦ forecast_in words | false ↦ elim (bytes_eq verb (codes "why")) [ true ↦ why_in words | false ↦ None ] ]
 
 -- the command that the words are: a verb and the name of a policy, which does not begin with `-`, and what is asked behind them
 abbrev pub command_of : List (List ℕ) → Option Command

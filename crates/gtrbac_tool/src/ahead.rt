@@ -1,4 +1,4 @@
-//! What lies ahead of a script's history, as it is told.
+//! What is asked behind a script, as it is told.
 ghost use Rattle.std.specs.Prelude.{◌≡◌, ◌≤◌, ◌++◌, codes, IfOk};
 ghost use Rattle.core_machine.specs.Books.{now_in};
 ghost use Rattle.policy_commands.specs.Ends.{seen_end, told};
@@ -6,12 +6,14 @@ ghost use Rattle.gtrbac_tool.specs.Late.{asked_of as asked_by, horizon as horizo
 
 use crate::questions::Question;
 use crate::script::Outcome;
+use crate::standing::standing_text;
 use civil_time::write_civil;
 use core_machine::Book;
 use forecast::{Change, first_change};
-use gt_base::{Cond, Instant, List, Memory};
+use gt_base::{Cond, Event, Instant, List, Memory};
 use policy_book::Policy;
 use policy_commands::End;
+use policy_words::NamedEvent;
 use std::alloc::Global;
 
 /// What is asked, in numbers of a policy.
@@ -19,6 +21,8 @@ use std::alloc::Global;
 pub(crate) enum Asked {
     /// When the answer of the condition changes, within so many days.
     Ahead(u32, Cond),
+    /// Why the event is in force, or blocked, with its names.
+    Standing(NamedEvent, Event),
 }
 
 /// The question in numbers of the policy, none where a name is not declared or is no edge.
@@ -27,6 +31,7 @@ pub(crate) fn asked_of(p: &Policy, question: Question) -> Option<Asked>
 {
     match question {
         Question::Forecast(days, cond) => Some(Asked::Ahead(days, p.cond(&cond)?)),
+        Question::Why(event) => Some(Asked::Standing(event, p.event(&event)?)),
     }
 }
 
@@ -91,6 +96,7 @@ fn asked_text(alloc: Global, book: &Book, asked: Asked) -> Result<Vec<u8>, Memor
 {
     match asked {
         Asked::Ahead(days, cond) => ahead_text(alloc, book, days, cond),
+        Asked::Standing(named, event) => standing_text(alloc, book, named, event),
     }
 }
 

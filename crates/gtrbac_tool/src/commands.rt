@@ -4,7 +4,7 @@ ghost use Rattle.gt_text.specs.Words.{begins_with};
 ghost use Rattle.gtrbac_tool.specs.Tool.{question_by, command_by, command_of, named_by};
 ghost use Rattle.gtrbac_tool.specs.Commands.{seen_command};
 
-use crate::questions::{Question, forecast};
+use crate::questions::{Question, forecast, why};
 
 /// A command, with the name of a policy.
 #[derive(Clone, Copy)]
@@ -59,6 +59,8 @@ fn question(verb: &str, words: &[String]) -> Option<Question>
 {
     if verb == "forecast" {
         forecast(words)
+    } else if verb == "why" {
+        why(words)
     } else {
         None
     }

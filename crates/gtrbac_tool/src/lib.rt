@@ -7,6 +7,7 @@ mod explaining;
 mod laws;
 mod questions;
 mod script;
+mod standing;
 mod starting;
 mod summing;
 mod top;

@@ -1,68 +1,18 @@
 //! What may be asked behind a script, read from words.
-ghost use Rattle.std.specs.Prelude.{◌≡◌, bytes_eq, find, map, string_bytes};
-ghost use Rattle.policy_words.specs.Wording.{verb_in, cond_verb as cond_word};
-ghost use Rattle.gtrbac_tool.specs.Late.{one_said, two_said, fluent_said, cond_said, forecast_in};
+ghost use Rattle.std.specs.Prelude.{◌≡◌, map, string_bytes};
+ghost use Rattle.gtrbac_tool.specs.Late.{one_said, two_said, fluent_said, cond_said, event_said, forecast_in, why_in};
 
 use gt_base::Name;
-use policy_lines::{number_from, read_name};
-use policy_words::{NamedCond, NamedFluent, Sort};
+use policy_lines::{cond_verb, event_verb, number_from, read_name};
+use policy_words::{NamedCond, NamedEvent, NamedFluent, Sort};
 
 /// What is asked, by names.
 #[derive(Clone, Copy)]
 pub(crate) enum Question {
     /// When the answer of the condition changes, within so many days, 1 to 36,525.
     Forecast(u32, NamedCond),
-}
-
-/// The words of conditions: whether each is on, and the sort of its fluent.
-const CONDS: [(bool, Sort); 10] = [
-    (true, Sort::Enabling),
-    (false, Sort::Enabling),
-    (true, Sort::Assigning),
-    (false, Sort::Assigning),
-    (true, Sort::Granting),
-    (false, Sort::Granting),
-    (true, Sort::Arming),
-    (false, Sort::Arming),
-    (true, Sort::Linking),
-    (false, Sort::Linking),
-];
-
-/// The word of a condition.
-fn cond_text(on: bool, sort: Sort) -> &'static [u8]
-    ensures { result.now ≡ cond_word on sort }
-{
-    match (on, sort) {
-        (true, Sort::Enabling) => b"enabled",
-        (false, Sort::Enabling) => b"disabled",
-        (true, Sort::Assigning) => b"assigned",
-        (false, Sort::Assigning) => b"deassigned",
-        (true, Sort::Granting) => b"granted",
-        (false, Sort::Granting) => b"revoked",
-        (true, Sort::Arming) => b"armed",
-        (false, Sort::Arming) => b"disarmed",
-        (true, Sort::Linking) => b"linked",
-        (false, Sort::Linking) => b"unlinked",
-    }
-}
-
-fn cond_among(mut conds: &[(bool, Sort)], word: &[u8]) -> Option<(bool, Sort)>
-    ensures { result ≡ find (λ v. bytes_eq (cond_word v.0 v.1) word.now) conds.now }
-{
-    while let [(on, sort), rest @ ..] = conds {
-        if cond_text(*on, *sort) == word {
-            return Some((*on, *sort));
-        }
-        conds = rest;
-    }
-    None
-}
-
-/// The first word of a condition that a word is.
-fn cond_verb(word: &[u8]) -> Option<(bool, Sort)>
-    ensures { result ≡ verb_in cond_word word.now }
-{
-    cond_among(&CONDS, word)
+    /// Why the event is in force, or blocked.
+    Why(NamedEvent),
 }
 
 /// The one name that the words are.
@@ -136,4 +86,25 @@ pub(crate) fn forecast(words: &[String]) -> Option<Question>
         }
         [] => None,
     }
+}
+
+/// The event that the words are.
+fn event(words: &[String]) -> Option<NamedEvent>
+    ensures { result ≡ event_said (map string_bytes words.now) }
+{
+    match words {
+        [verb, names @ ..] => {
+            let (on, sort) = event_verb(verb.as_bytes())?;
+            let fluent = fluent(sort, names)?;
+            Some(NamedEvent { on, fluent })
+        }
+        [] => None,
+    }
+}
+
+/// The event, without a priority, that the words are.
+pub(crate) fn why(words: &[String]) -> Option<Question>
+    ensures { result ≡ why_in (map string_bytes words.now) }
+{
+    Some(Question::Why(event(words)?))
 }

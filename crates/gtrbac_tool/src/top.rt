@@ -1,5 +1,5 @@
 //! The top call.
-ghost use Rattle.std.specs.Prelude.{◌≡◌, ◌⊎◌, ◌≤◌, None, Some, map, string_bytes, length, IfOk, IsTrue};
+ghost use Rattle.std.specs.Prelude.{◌≡◌, ◌⊎◌, ◌≤◌, None, Some, map, string_bytes, length, IfOk, IsSome, IsTrue};
 ghost use Rattle.std.specs.Io.KnownBytes.{IsAtEnd};
 ghost use Rattle.gt_io.specs.Causes.{Rose};
 ghost use Rattle.policy_commands.specs.Ends.{seen_end, told};
@@ -10,7 +10,7 @@ ghost use Rattle.gtrbac_tool.specs.Causes.{IsRunStatus, IsScriptCaused, IsCaused
 ghost use Rattle.gtrbac_tool.specs.Late.{asked_of as asked_by};
 ghost use Rattle.gtrbac_tool.specs.Summary.{Gen, IsGen, IsNoGen, GenEnds};
 ghost use Rattle.gtrbac_tool.specs.Counted.{seen_recipe};
-ghost use Rattle.gtrbac_tool.specs.Exact.{Exact, Caused, Complete, IsScriptDue, ReadsScript, IsReadOut};
+ghost use Rattle.gtrbac_tool.specs.Exact.{Exact, Caused, Complete, IsAskable, IsPlayed, IsScriptDue, ReadsScript, IsReadOut};
 ghost use Rattle.gtrbac_tool.specs.Tool.{command_of, named_by, plays_script, ScriptEnds, SafeEnds, AskedEnds, AskEnds, TextEnds, FoundEnds, Answers, AnswersCommand, Prints, IsPrinted, seen};
 
 use crate::ahead::{Asked, asked_of};
@@ -97,6 +97,7 @@ fn ask_safe<I: Source>(
     ensures end { IfOk result (λ end. AskedEnds (Rose (I.faults input.old) (I.faults input.new)) safe (asked_by safe question) (I.left input.old) (seen_end end)) }
     ensures caused { IfOk result (λ end. ((end.status ≡ 13) × (asked_by safe question ≡ None)) ⊎ IsScriptCaused (Rose (I.faults input.old) (I.faults input.new)) (I.left input.old) end.status) }
     ensures read { IfOk result (λ end. IsRunStatus end.status → IsAtEnd (I.left input.new)) }
+    ensures kept { (input.new ≡ input.old) ⊎ IsSome (asked_by safe question) }
 {
     match asked_of(safe.policy(), question) {
         Some(asked) => ask_script(alloc, safe, asked, input),
@@ -115,7 +116,7 @@ fn ask<I: Source>(
     ensures end { IfOk result (λ end. AskEnds (Rose (I.faults input.old) (I.faults input.new)) question (safe_in text.now) (I.left input.old) (seen_end end)) }
     ensures caused { IfOk result (λ end. IsCaused (Rose (I.faults input.old) (I.faults input.new)) text.now (I.left input.old) end.status) }
     ensures read { IfOk result (λ end. IsRunStatus end.status → IsAtEnd (I.left input.new)) }
-    ensures kept { (input.new ≡ input.old) ⊎ IsSafeText text.now }
+    ensures kept { (input.new ≡ input.old) ⊎ IsAskable text.now question }
 {
     match admit(alloc, text)? {
         Admitted::Safe(safe) => ask_safe(alloc, safe, question, input),
@@ -134,7 +135,7 @@ fn answer_text<I: Source>(
     ensures end { IfOk result (λ end. TextEnds (Rose (I.faults input.old) (I.faults input.new)) (seen_command command.now) text.now (I.left input.old) (seen_end end)) }
     ensures caused { IfOk result (λ end. IsCaused (Rose (I.faults input.old) (I.faults input.new)) text.now (I.left input.old) end.status) }
     ensures read { IfOk result (λ end. IsTrue (plays_script (seen_command command.now)) → IsRunStatus end.status → IsAtEnd (I.left input.new)) }
-    ensures kept { (input.new ≡ input.old) ⊎ (IsTrue (plays_script (seen_command command.now)) × IsSafeText text.now) }
+    ensures kept { (input.new ≡ input.old) ⊎ IsPlayed (seen_command command.now) text.now }
 {
     match command {
         Command::Check(_) => check(alloc, text),
@@ -206,7 +207,7 @@ fn run_command<S: Shelf, I: Source, K: Sink>(
         return print(
             out,
             1,
-            b"usage: gtrbac check POLICY | fmt POLICY | run POLICY | gen SEED SIZE | forecast POLICY DAYS COND\n",
+            b"usage: gtrbac check POLICY | fmt POLICY | run POLICY | gen SEED SIZE | forecast POLICY DAYS COND | why POLICY EVENT\n",
         );
     };
     match answer(alloc, &command, shelf, input) {
@@ -232,9 +233,11 @@ fn run_gen<K: Sink>(alloc: Global, recipe: Recipe, out: &mut K) -> u8
 
 /// Runs the command that the words are, over a shelf of texts by name and an input, and prints to `out`. The commands are
 /// `check POLICY`, which says whether a policy is safe, `fmt POLICY`, which lays it out, `run POLICY`, which reads a
-/// script from the input to its end and prints its replies, and `forecast POLICY DAYS COND`, which prints behind these when
-/// the answer of the condition changes within so many days, if no request comes any more; the policy is found on the shelf. `gen SEED SIZE` makes a policy
-/// and a script, plays them and prints a summary; it reads neither shelf nor input. It answers the exit status:
+/// script from the input to its end and prints its replies, `forecast POLICY DAYS COND`, which prints behind these when
+/// the answer of the condition changes within so many days, if no request comes any more, and `why POLICY EVENT`, which prints
+/// behind them how many instants a certificate of what happened has, and why the event is in force or blocked at the end; the
+/// policy is found on the shelf. `gen SEED SIZE` makes a policy and a script, plays them and prints a summary; it reads neither
+/// shelf nor input. It answers the exit status:
 ///
 /// - 0: the policy is safe, or was laid out, or the script was run to its end;
 /// - 1: the words are no command, and the usage line was printed;
@@ -246,7 +249,7 @@ fn run_gen<K: Sink>(alloc: Global, recipe: Recipe, out: &mut K) -> u8
 /// - 7: a line of the script is no script line, and the replies before it were printed;
 /// - 8: there was no memory, and nothing was written;
 /// - 9: a step was asked for with 1,000,000 entries in the history;
-/// - 13: the policy does not declare a name of the condition, or has no such edge.
+/// - 13: the policy does not declare a name of the condition or event, or has no such edge.
 pub fn tool<S: Shelf, I: Source, K: Sink>(
     alloc: Global,
     words: &[String],

@@ -1,7 +1,7 @@
 -- Between now and the stop nothing is settled but the empty set, so one set more makes the model of the longer history.
 use Rattle.std.proofs.Common.{◌≡◌, ℕ, ◌-◌, ◌<◌, ◌≤◌, Bool, true, false, nat_eq, nat_le, sym, subst, arith}
 use Rattle.std.proofs.lemmas.Bool.{leb-true, leb-false, eqb-true, eq-eqb}
-use Rattle.gt_base.specs.Happening.{Happening, nothing}
+use Rattle.gt_base.specs.Happening.{HappenedView, nothing}
 use Rattle.gtrbac_model.specs.Instant.{Settled}
 use Rattle.gtrbac_model.specs.Status.{Model}
 use Rattle.gtrbac_model.specs.Base.{status, base_at}
@@ -20,7 +20,7 @@ le_is a b le = split (nat_le a b) (λ q. q) (λ q. absurd (clash a b le (leb-fal
 le_is_not : (a b : ℕ) → b < a → nat_le a b ≡ false
 le_is_not a b lt = split (nat_le a b) (λ q. absurd (clash a b (leb-true a b q) lt)) (λ q. q)
 
-module _ (m : Model) (now to : ℕ) (x : Happening) where
+module _ (m : Model) (now to : ℕ) (x : HappenedView) where
   abbrev more : Model
   more = with_set m now to x
 

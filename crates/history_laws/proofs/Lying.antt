@@ -1,7 +1,7 @@
 -- The liar has no settled set: its head would be supported only where it is not met.
 use Rattle.std.proofs.Common.{◌≡◌, Bool, true, false, not, ◌&&◌, ◌||◌, ◌⊎◌, inl, inr, List, [], ◌∷◌, refl, sym, ◌∙◌, ap, subst}
 use Rattle.std.specs.List.{list_all}
-use Rattle.gt_base.specs.Happening.{Happening}
+use Rattle.gt_base.specs.Happening.{HappenedView}
 use Rattle.gt_base.specs.Sets.{members, has, none, checked, with_member}
 use Rattle.gt_base.specs.declared.events.Prioritised.{Prioritised}
 use Rattle.gt_base.proofs.SetSteps.{prioritised_cmp_total}
@@ -34,7 +34,7 @@ base_has : has one_disabled.events (at 50 (disable 0)) ≡ true
 unfolding has none checked with_member
 base_has = refl
 
-module _ (s : Status) (x : Happening) (is : Settled liar one_disabled s x) where
+module _ (s : Status) (x : HappenedView) (is : Settled liar one_disabled s x) where
   -- what stands in the set is the cause, or the effect of a win of the cause
   abbrev Known : Prioritised → Type 0
   Known o = (o ≡ at 50 (disable 0)) ⊎ ((o ≡ at 60 (enable 0)) × (won x (disable 0) ≡ true))

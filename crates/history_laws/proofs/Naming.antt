@@ -4,8 +4,8 @@ use Rattle.std.specs.Prelude.{flat_map, nat_eq, nat_lt}
 use Rattle.std.specs.List.{list_all}
 use Rattle.std.proofs.lemmas.Bool.{false≢true, lt-ltb}
 use Rattle.gt_base.specs.Sets.{has, members, set_of, some_member}
-use Rattle.gt_base.specs.Held.{Rule}
-use Rattle.gt_base.specs.Happening.{Happening}
+use Rattle.gt_base.specs.Held.{TriggerView}
+use Rattle.gt_base.specs.Happening.{HappenedView}
 use Rattle.gt_base.specs.declared.events.Fluent.{Fluent}
 use Rattle.gt_base.specs.declared.events.Fluent.TheVariants.{Enabled, Assigned, Granted, Limit, Edge}
 use Rattle.gt_base.specs.declared.events.Event.{Event}
@@ -114,7 +114,7 @@ module _ (p : Policy) (good : IsPolicy p) where
   requested_named (x ∷ xs) t e named m =
       elim (of_join (queued_by t x.what) (requested xs t) e m) [ inl k ↦ step_named x.what t e named.0 k | inr k ↦ requested_named xs t e named.1 k ]
 
-  rule_head : (r : Rule) → Elem p.triggers r → Named r.head
+  rule_head : (r : TriggerView) → Elem p.triggers r → Named r.head
   rule_head r there =
       let is : is_rule p r ≡ true = all_elim (is_rule p) p.triggers r (both_true _ _ good.triggers).1 there in
       let head : is_head p r.head ≡ true = (both_true _ (is_head p r.head) (both_true _ _ (both_true _ _ is).0).0).1 in
@@ -128,7 +128,7 @@ module _ (p : Policy) (good : IsPolicy p) where
       ]) p.triggers e there in
       by r (rule_head r in_list) (nat_lt 0 r.delay && nat_lt birth (t - r.delay)) raised
     where
-      by : (r : Rule) → Named r.head → (b : Bool) → Elem (elim b as (λ _. List Prioritised) [ true ↦ when (met r (m (t - r.delay)) (status p birth m (t - r.delay - 1))) r.head | false ↦ [] ]) e → Named e
+      by : (r : TriggerView) → Named r.head → (b : Bool) → Elem (elim b as (λ _. List Prioritised) [ true ↦ when (met r (m (t - r.delay)) (status p birth m (t - r.delay - 1))) r.head | false ↦ [] ]) e → Named e
       by r head true k = once _ r.head e head k
       by r head false k = elim k [ ]
 
@@ -161,7 +161,7 @@ module _ (p : Policy) (good : IsPolicy p) where
 
     -- what stands in a settled set
 
-    supported_named : (t : ℕ) (s : Status) (x : Happening) (earlier : List Prioritised) (e : Prioritised) → supported p.triggers (base_at p birth m h t) s x earlier e ≡ true → Named e
+    supported_named : (t : ℕ) (s : Status) (x : HappenedView) (earlier : List Prioritised) (e : Prioritised) → supported p.triggers (base_at p birth m h t) s x earlier e ≡ true → Named e
     supported_named t s x earlier e is =
         elim (either_true (has (base_at p birth m h t).events e) _ is) [
           | inl base ↦ base_named t e base
@@ -171,7 +171,7 @@ module _ (p : Policy) (good : IsPolicy p) where
               subst Named same (rule_head r there))
         ]
 
-    grounded_named : (t : ℕ) (s : Status) (x : Happening) (earlier order : List Prioritised) → grounded_after p.triggers (base_at p birth m h t) s x earlier order ≡ true
+    grounded_named : (t : ℕ) (s : Status) (x : HappenedView) (earlier order : List Prioritised) → grounded_after p.triggers (base_at p birth m h t) s x earlier order ≡ true
         → (e : Prioritised) → Elem order e → Named e
     grounded_named t s x earlier [] is e there = elim there [ ]
     grounded_named t s x earlier (o ∷ os) is e (inl same) =
@@ -179,7 +179,7 @@ module _ (p : Policy) (good : IsPolicy p) where
     grounded_named t s x earlier (o ∷ os) is e (inr there) =
         grounded_named t s x (o ∷ earlier) os (both_true (supported p.triggers (base_at p birth m h t) s x earlier o) _ is).1 e there
 
-    won_named : (t : ℕ) (s : Status) (x : Happening) → Settled p.triggers (base_at p birth m h t) s x → (ev : Event) → won x ev ≡ true → is_fluent p ev.fluent ≡ true
+    won_named : (t : ℕ) (s : Status) (x : HappenedView) → Settled p.triggers (base_at p birth m h t) s x → (ev : Event) → won x ev ≡ true → is_fluent p ev.fluent ≡ true
     won_named t s x settled ev is =
         let test = λ (o : Prioritised). same_event o.event ev && not (blocked x o) in
         let listed : some_member test (set_of {R = prioritised_cmp} settled.order) ≡ true = subst (λ es. some_member test es ≡ true) settled.grounding.lists is in

@@ -1,7 +1,7 @@
 -- What is on its way is what is raised, since a trigger with a cause is met at no instant at which nothing happens.
 use Rattle.std.proofs.Common.{◌≡◌, ℕ, zero, suc, ◌+◌, ◌-◌, ◌<◌, ◌≤◌, Bool, true, false, nat_eq, nat_le, nat_lt, ◌&&◌, inl, inr, List, [], ◌∷◌, ◌++◌, flat_map, refl, sym, ◌∙◌, ap, arith, append_assoc}
 use Rattle.std.proofs.lemmas.Bool.{ltb-true, ltb-false, leb-true, leb-false, lt-ltb, eqb-true, eq-eqb}
-use Rattle.gt_base.specs.Held.{Rule}
+use Rattle.gt_base.specs.Held.{TriggerView}
 use Rattle.gt_base.specs.Happening.{nothing}
 use Rattle.gt_base.specs.Sets.{none}
 use Rattle.gt_base.specs.declared.events.Prioritised.{Prioritised}
@@ -34,7 +34,7 @@ stretch_stays p birth m from (suc k) le none =
     before n k = omega arith
 
 -- where nothing happens a trigger with a cause raises nothing
-raises_nothing : (p : Policy) (birth : ℕ) (m : Model) (r : Rule) (u : ℕ) → has_cause r ≡ true → m u ≡ nothing → when (met r (m u) (status p birth m (u - 1))) r.head ≡ []
+raises_nothing : (p : Policy) (birth : ℕ) (m : Model) (r : TriggerView) (u : ℕ) → has_cause r ≡ true → m u ≡ nothing → when (met r (m u) (status p birth m (u - 1))) r.head ≡ []
 raises_nothing p birth m r u cause empty =
     ap (λ x. when (met r x (status p birth m (u - 1))) r.head) empty
     ∙ ap (λ b. when b r.head) (not_met r (status p birth m (u - 1)) cause)

@@ -1,8 +1,8 @@
 -- Over an empty base nothing but the empty set is grounded, so quiet minutes change nothing.
 use Rattle.std.proofs.Common.{◌≡◌, ℕ, suc, ◌+◌, ◌-◌, ◌<◌, ◌≤◌, Bool, true, false, ◌&&◌, ◌||◌, inl, inr, List, [], ◌∷◌, ◌++◌, refl, sym, ◌∙◌, ap, subst, arith, append_assoc}
 use Rattle.std.specs.List.{list_all}
-use Rattle.gt_base.specs.Held.{Rule}
-use Rattle.gt_base.specs.Happening.{Happening, nothing}
+use Rattle.gt_base.specs.Held.{TriggerView}
+use Rattle.gt_base.specs.Happening.{HappenedView, nothing}
 use Rattle.gt_base.specs.Sets.{members, has, none, set_of}
 use Rattle.gt_base.specs.Machines.{ticked}
 use Rattle.gt_base.specs.declared.events.Event.{Event}
@@ -27,7 +27,7 @@ use Rattle.history_laws.specs.Policies.{SettlesNothing, QuietSettles, IsQuiet, E
 use Rattle.history_laws.proofs.Lasting.{steps_after, front_steps}
 
 -- nothing stands before the first
-no_event : (x : Happening) (es : List Event) → list_all (stands x []) es ≡ true → is_some_item es ≡ false
+no_event : (x : HappenedView) (es : List Event) → list_all (stands x []) es ≡ true → is_some_item es ≡ false
 no_event x [] h = refl
 no_event x (e ∷ es) h = cc
 
@@ -47,9 +47,9 @@ neither false false p q e = cc
 neither true b p q e = cc
 neither false true p q e = cc
 
-module _ (rules : List Rule) (causes : list_all has_cause rules ≡ true) (s : Status) where
+module _ (rules : List TriggerView) (causes : list_all has_cause rules ≡ true) (s : Status) where
   -- no event is supported by nothing
-  unsupported : (x : Happening) → x.signals ≡ nothing.signals → (e : Prioritised) → supported rules nothing s x [] e ≡ true → ⊥
+  unsupported : (x : HappenedView) → x.signals ≡ nothing.signals → (e : Prioritised) → supported rules nothing s x [] e ≡ true → ⊥
   unfolding has none
   unsupported x silent e h =
       elim (either_true (has nothing.events e) _ h) [
@@ -62,11 +62,11 @@ module _ (rules : List Rule) (causes : list_all has_cause rules ≡ true) (s : S
             (all_elim has_cause rules r causes of_rules)
       ]
 
-  no_order : (x : Happening) → x.signals ≡ nothing.signals → (order : List Prioritised) → grounded_after rules nothing s x [] order ≡ true → order ≡ []
+  no_order : (x : HappenedView) → x.signals ≡ nothing.signals → (order : List Prioritised) → grounded_after rules nothing s x [] order ≡ true → order ≡ []
   no_order x silent [] h = refl
   no_order x silent (e ∷ es) h = absurd (unsupported x silent e (both_true _ _ h).0)
 
-  only_nothing : (x : Happening) → Settled rules nothing s x → x ≡ nothing
+  only_nothing : (x : HappenedView) → Settled rules nothing s x → x ≡ nothing
   only_nothing x is =
       let events : x.events ≡ nothing.events = is.grounding.lists ∙ ap set_of (no_order x is.signals is.order is.grounding.grounds) in
       λ i. record { events = events i; signals = is.signals i }

@@ -5,8 +5,8 @@ use Rattle.gt_base.specs.declared.events.Event.{Event}
 use Rattle.gt_base.specs.declared.events.Fluent.{Fluent}
 use Rattle.gt_base.specs.declared.events.Fluent.TheVariants.{Enabled}
 use Rattle.gt_base.specs.declared.events.Prioritised.{Prioritised}
-use Rattle.gt_base.specs.Held.{Rule}
-use Rattle.gt_base.specs.Happening.{Happening}
+use Rattle.gt_base.specs.Held.{TriggerView}
+use Rattle.gt_base.specs.Happening.{HappenedView}
 use Rattle.gt_base.specs.Sets.{members, has, none, checked, with_member}
 use Rattle.gt_base.proofs.SetSteps.{prioritised_cmp_total}
 use Rattle.gt_base.proofs.OrderLaws.{prioritised_cmp-IsAntisymmetric}
@@ -25,7 +25,7 @@ use Rattle.history_laws.specs.Liar.{waverer, one_enabled, WavererHasCycle, Waver
 pub waverer_has_cycle : WavererHasCycle
 waverer_has_cycle = refl
 
-abbrev rule : Rule
+abbrev rule : TriggerView
 rule = record { events = enable 0 ∷ []; signals = []; conds = []; settled = record { on = false; fluent = Enabled (record { 0 = 1 }) } ∷ []; head = at 50 (enable 1); delay = 0 }
 
 abbrev b : Fluent
@@ -50,7 +50,7 @@ on_then true l v p e = refl
 on_then false true v p e = cc
 on_then false false v p e = cc
 
-module _ (s : Status) (x : Happening) (was_off : s b ≡ false) (is : Settled waverer one_enabled s x) where
+module _ (s : Status) (x : HappenedView) (was_off : s b ≡ false) (is : Settled waverer one_enabled s x) where
   -- what stands in the set is the cause, or the head where the body is met
   abbrev Known : Prioritised → Type 0
   Known o = (o ≡ at 50 (enable 0)) ⊎ ((o ≡ at 50 (enable 1)) × (met rule x s ≡ true))

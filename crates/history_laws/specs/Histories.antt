@@ -9,7 +9,7 @@ use Rattle.gt_base.specs.declared.requests.Refusal.{Refusal}
 use Rattle.gt_base.specs.declared.requests.Reply.TheVariants.{Refused}
 use Rattle.gt_base.specs.declared.requests.Entry.{Entry}
 use Rattle.gt_base.specs.Events.{converse}
-use Rattle.gt_base.specs.Happening.{Happening}
+use Rattle.gt_base.specs.Happening.{HappenedView}
 use Rattle.gt_base.specs.Machines.{asked}
 use Rattle.gt_base.specs.Sets.{has, set_of, none}
 use Rattle.gtrbac_model.specs.Policy.{Policy}
@@ -21,14 +21,14 @@ use Rattle.gtrbac_model.specs.History.{Legal, now_of}
 use Rattle.gtrbac_model.specs.Theorems.{SameUpTo}
 
 -- the first stands in the set, and is the second's converse at a priority that beats it; nothing is asked of what blocks the first
-pub record Blocks (x : Happening) (o e : Prioritised) : Type 0 where
+pub record Blocks (x : HappenedView) (o e : Prioritised) : Type 0 where
   pub stands : IsTrue (has x.events o)
   pub against : o.event ≡ converse e.event
   pub stronger : IsTrue (beats e.event.on o.prio e.prio)
 
 -- an event is blocked exactly where one that stands in the set blocks it
 abbrev pub StandingBlocks : Type 0
-StandingBlocks = (x : Happening) (e : Prioritised) → IsTrue (blocked x e) ↔ ((o : Prioritised) × Blocks x o e)
+StandingBlocks = (x : HappenedView) (e : Prioritised) → IsTrue (blocked x e) ↔ ((o : Prioritised) × Blocks x o e)
 
 abbrev enable : ℕ → Prioritised
 enable p = record { prio = p; event = record { on = true; fluent = Enabled (record { 0 = 0 }) } }
@@ -36,7 +36,7 @@ enable p = record { prio = p; event = record { on = true; fluent = Enabled (reco
 abbrev disable : ℕ → Prioritised
 disable p = record { prio = p; event = converse (enable p).event }
 
-abbrev pub three_deep : Happening
+abbrev pub three_deep : HappenedView
 three_deep = record { events = set_of (enable 50 ∷ disable 60 ∷ enable 70 ∷ []); signals = none }
 
 -- an event at 60 is blocked by one at 70, and blocks one at 50 still

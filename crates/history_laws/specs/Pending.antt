@@ -1,6 +1,6 @@
 -- The events that are on their way to a later instant, and stretches in which nothing happens.
 use Rattle.std.specs.Prelude.{◌≡◌, ℕ, ◌+◌, ◌-◌, ◌<◌, ◌≤◌, true, false, nat_eq, nat_le, nat_lt, ◌&&◌, List, [], ◌∷◌, ◌++◌, flat_map}
-use Rattle.gt_base.specs.Held.{Rule}
+use Rattle.gt_base.specs.Held.{TriggerView}
 use Rattle.gt_base.specs.Happening.{nothing}
 use Rattle.gt_base.specs.Machines.{asked}
 use Rattle.gt_base.specs.declared.events.Fluent.{Fluent}
@@ -28,7 +28,7 @@ StretchStays =
     → (status p birth m (from + k) ≡ status p birth m from) × ((f : Fluent) → since p birth m f (from + k) ≡ since p birth m f from)
 
 -- what a delayed trigger raises at t, as far as it is known at `from`: its head, where it was met its delay before t
-abbrev pub known_head : Policy → ℕ → Model → ℕ → ℕ → Rule → List Prioritised
+abbrev pub known_head : Policy → ℕ → Model → ℕ → ℕ → TriggerView → List Prioritised
 known_head p birth m from t r =
     elim (nat_lt 0 r.delay && nat_lt birth (t - r.delay) && nat_le (t - r.delay) from) [
       | true ↦ when (met r (m (t - r.delay)) (status p birth m (t - r.delay - 1))) r.head
@@ -54,6 +54,6 @@ PendingAfterAsk =
 -- going on to an instant before which nothing happens puts on its way the heads of the delayed triggers met there
 abbrev pub HeadsAfterTick : Type 0
 HeadsAfterTick =
-    (p : Policy) (birth : ℕ) (m : Model) (now to t : ℕ) (r : Rule) → has_cause r ≡ true → birth ≤ now → now < to → NothingBetween m now to
+    (p : Policy) (birth : ℕ) (m : Model) (now to t : ℕ) (r : TriggerView) → has_cause r ≡ true → birth ≤ now → now < to → NothingBetween m now to
     → known_head p birth m to t r
     ≡ elim (nat_lt 0 r.delay && nat_eq (t - r.delay) to) [ true ↦ when (met r (m to) (status p birth m (to - 1))) r.head | false ↦ known_head p birth m now t r ]

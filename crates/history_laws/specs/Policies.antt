@@ -1,7 +1,7 @@
 -- What follows for quiet minutes from what every policy keeps.
 use Rattle.std.specs.Prelude.{◌≡◌, ℕ, ◌-◌, ◌<◌, ◌≤◌, List, ◌∷◌, ◌++◌}
-use Rattle.gt_base.specs.Held.{Rule}
-use Rattle.gt_base.specs.Happening.{Happening, nothing}
+use Rattle.gt_base.specs.Held.{TriggerView}
+use Rattle.gt_base.specs.Happening.{HappenedView, nothing}
 use Rattle.gt_base.specs.Machines.{ticked}
 use Rattle.gt_base.specs.declared.events.Fluent.{Fluent}
 use Rattle.gt_base.specs.declared.requests.Who.{Who}
@@ -15,9 +15,9 @@ use Rattle.gtrbac_model.specs.History.{Legal, IsExecutionModel, now_of}
 use Rattle.gtrbac_model.specs.WholePolicy.{IsPolicy}
 
 -- over an empty base only the empty set is settled, and it leaves the status
-pub record SettlesNothing (rules : List Rule) (s : Status) : Type 0 where
+pub record SettlesNothing (rules : List TriggerView) (s : Status) : Type 0 where
   pub settled : Settled rules nothing s nothing
-  pub only : (x : Happening) → Settled rules nothing s x → x ≡ nothing
+  pub only : (x : HappenedView) → Settled rules nothing s x → x ≡ nothing
   pub stays : after nothing s ≡ s
 
 abbrev pub QuietSettles : Type 0

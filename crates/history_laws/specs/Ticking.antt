@@ -1,6 +1,6 @@
 -- The law by which a tick adds one set to a history's model.
 use Rattle.std.specs.Prelude.{ℕ, ◌-◌, true, false, nat_eq, nat_le, List, [], ◌∷◌, ◌++◌}
-use Rattle.gt_base.specs.Happening.{Happening, nothing}
+use Rattle.gt_base.specs.Happening.{HappenedView, nothing}
 use Rattle.gt_base.specs.Machines.{ticked}
 use Rattle.gt_base.specs.declared.requests.Who.{Who}
 use Rattle.gt_base.specs.declared.requests.Entry.{Entry}
@@ -12,14 +12,14 @@ use Rattle.gtrbac_model.specs.History.{Legal, IsNextStop, stirs, now_of}
 use Rattle.gtrbac_model.specs.WholePolicy.{IsPolicy}
 
 -- the model up to now, and after it one set more, at `to`
-abbrev pub with_set : Model → ℕ → ℕ → Happening → Model
+abbrev pub with_set : Model → ℕ → ℕ → HappenedView → Model
 with_set m now to x t = elim (nat_le t now) [ true ↦ m t | false ↦ elim (nat_eq t to) [ true ↦ x | false ↦ nothing ] ]
 
 -- a tick to the next stop keeps a history legal with one set more, which is settled over the base of the stop
 abbrev pub TickAddsOneSet : Type 0
 TickAddsOneSet =
     (p : Policy) → IsPolicy p → (birth : ℕ) (h : List Entry) (m : Model) → Legal p birth h m
-    → (who : Who) (upto to : ℕ) (x : Happening)
+    → (who : Who) (upto to : ℕ) (x : HappenedView)
     → IsNextStop (stirs p birth (with_set m (now_of birth h) to x) h) (now_of birth h) upto to
     → Settled p.triggers (base_at p birth (with_set m (now_of birth h) to x) h to) (status p birth (with_set m (now_of birth h) to x) (to - 1)) x
     → Legal p birth (h ++ ticked who upto to ∷ []) (with_set m (now_of birth h) to x)

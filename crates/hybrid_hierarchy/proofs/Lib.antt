@@ -8,3 +8,4 @@ pub mod Following
 pub mod Tracing
 pub mod Linking
 pub mod Listing
+pub mod Leaving

@@ -1,5 +1,5 @@
 -- Where a start is the goal itself, the least walk stays there.
-use Rattle.std.proofs.Common.{◌≡◌, ℕ, zero, suc, ◌+◌, ◌<◌, ◌≤◌, ◌⊎◌, inl, inr, Bool, true, false, cond, ◌&&◌, nat_lt, List, [], ◌∷◌, map, filter, Option, Some, None, MatchOption, refl, sym, ◌∙◌, ap, arith}
+use Rattle.std.proofs.Common.{◌≡◌, ℕ, zero, suc, ◌+◌, ◌<◌, ◌≤◌, ◌⊎◌, inl, inr, Bool, true, false, cond, ◌&&◌, nat_lt, List, [], ◌∷◌, map, filter, Option, Some, None, is_none, MatchOption, refl, sym, ◌∙◌, ap, arith}
 use Rattle.std.specs.List.{range_with_len}
 use Rattle.std.proofs.lemmas.Bool.{ltb-true, ltb-false}
 use Rattle.gt_base.specs.declared.events.RoleId.{RoleId}
@@ -12,6 +12,8 @@ use Rattle.walk_laws.specs.Laws.{HasNoWalk as NoWalk}
 use Rattle.walk_laws.proofs.Computing.{least_walk_is}
 use Rattle.walk_laws.proofs.Orders.{one_least_walk}
 use Rattle.least_walk.proofs.Items.{item_map}
+use Rattle.hybrid_hierarchy.specs.Lasting.{leads_to}
+use Rattle.hybrid_hierarchy.proofs.Seeking.{open_arc}
 use Rattle.hybrid_hierarchy.proofs.Roles.{number, one_role, is_same_role, same_role_of, tells_apart}
 
 item_in_range : (a n i : ℕ) → i < n → item_at (range_with_len a n) i ≡ Some (a + i)
@@ -106,3 +108,47 @@ standing_walk es ok from r h = over all_roles refl (both (nat_lt r.0 1_000) (fro
     over rs e (low, on) =
         let (j, is) = kept from rs r.0 r (role_stands rs 1_000 e r (ltb-true _ _ low)) on in
         ap role_walk (is_here (role_arcs ok es) r (filter from rs) (first_place (filter from rs) r j is))
+
+both_on : (a b : Bool) → (a && b) ≡ true → (a ≡ true) × (b ≡ true)
+both_on true b e = (refl, e)
+both_on false b e = cc
+
+-- edges that lead on, one after the other
+module _ (ok : ℕ → HierEdge → Bool) (es : List HierEdge) where
+  abbrev after : List ℕ → RoleId → Option RoleId → Bool
+  after ns b (Some next) = leads_to ok es next ns b
+  after ns b None = false
+
+  abbrev stepped : RoleId → ℕ → Option HierEdge → Option RoleId
+  stepped a n (Some e) = cond (same_role e.senior a && ok n e) (Some e.junior) None
+  stepped a n None = None
+
+  leads : (a : RoleId) (ns : List ℕ) (b : RoleId) → leads_to ok es a ns b ≡ true → LeadsAlong (role_arcs ok es) a ns b
+  leads a [] b h = sym (is_same_role b a h)
+  leads a (n ∷ ns) b h = by (λ e. leads e.junior ns b) (item_at es n) refl h
+    where
+      step : ((e : HierEdge) → leads_to ok es e.junior ns b ≡ true → LeadsAlong (role_arcs ok es) e.junior ns b) → (e : HierEdge) → item_at es n ≡ Some e → (c : Bool) → (same_role e.senior a && ok n e) ≡ c → after ns b (cond c (Some e.junior) None) ≡ true → LeadsAlong (role_arcs ok es) a (n ∷ ns) b
+      step on_from e is true c h =
+          let (from, on) = both_on (same_role e.senior a) (ok n e) c in
+          (record { from = e.senior; to = e.junior; is_open = true }, open_arc ok es n e is on, refl, is_same_role e.senior a from, on_from e h)
+      step on_from e is false c h = cc
+
+      by : ((e : HierEdge) → leads_to ok es e.junior ns b ≡ true → LeadsAlong (role_arcs ok es) e.junior ns b) → (o : Option HierEdge) → item_at es n ≡ o
+          → after ns b (stepped a n o) ≡ true → LeadsAlong (role_arcs ok es) a (n ∷ ns) b
+      by on_from (Some e) is h = step on_from e is (same_role e.senior a && ok n e) refl h
+      by on_from None is h = cc
+
+-- where some walk leads to the role, there is a least one
+pub some_walk : (es : List HierEdge) (ok : ℕ → HierEdge → Bool) (from : RoleId → Bool) (a : RoleId) (ns : List ℕ) (r : RoleId) → (nat_lt a.0 1_000 && from a) ≡ true
+    → leads_to ok es a ns r ≡ true → is_none (least_role_walk es ok from (same_role r)) ≡ false
+some_walk es ok from a ns r h on = over all_roles refl (both_on (nat_lt a.0 1_000) (from a) h)
+  where
+    there : (starts : List RoleId) (j : ℕ) → item_at starts j ≡ Some a → (o : Option (Path RoleId)) → MatchOption o (NoWalk (role_arcs ok es) (same_role r) starts) (IsLeastWalk (role_arcs ok es) (same_role r) starts) → is_none (role_walk o) ≡ false
+    there starts j is (Some q) least = refl
+    there starts j is None none = absurd (none j (record { start = a; arcs = ns }) (record { end = r; from_start = is; leads = leads ok es a ns r on; reaches = same_role_of r r refl }))
+
+    over : (rs : List RoleId) → map number rs ≡ range_with_len 0 1_000 → (nat_lt a.0 1_000 ≡ true) × (from a ≡ true)
+        → is_none (role_walk (least_walk same_role (role_arcs ok es) (same_role r) (filter from rs))) ≡ false
+    over rs e (low, on) =
+        let (j, is) = kept from rs a.0 a (role_stands rs 1_000 e a (ltb-true _ _ low)) on in
+        there (filter from rs) j is _ (least_walk_is same_role tells_apart (role_arcs ok es) (same_role r) (filter from rs))

@@ -34,7 +34,7 @@ all_numbers = refl
 abbrev pub nodes_that : (RoleId → Bool) → List ℕ
 nodes_that test = filter (λ n. test (record { 0 = n })) (range_with_len 0 1_000)
 
-item_of_range : (a n i s : ℕ) → item_at (range_with_len a n) i ≡ Some s → s < a + n
+pub item_of_range : (a n i s : ℕ) → item_at (range_with_len a n) i ≡ Some s → s < a + n
 item_of_range a zero i s is = cc
 item_of_range a (suc n) zero s is = let e : a ≡ s = cc in omega arith
 item_of_range a (suc n) (suc i) s is = let rest = item_of_range (a + 1) n i s is in let r : s < a + 1 + n = rest in omega arith

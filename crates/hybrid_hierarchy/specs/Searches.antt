@@ -1,5 +1,5 @@
 -- A search through a hierarchy from its starts outward: what was found so far, and by which walks.
-use Rattle.std.specs.Prelude.{◌≡◌, ℕ, ◌+◌, ◌-◌, ◌<◌, ◌≤◌, ◌⊎◌, Bool, true, false, List, [], ◌∷◌, ◌++◌, length, map, filter, Some}
+use Rattle.std.specs.Prelude.{◌≡◌, ℕ, ◌+◌, ◌-◌, ◌<◌, ◌≤◌, ◌⊎◌, Bool, true, false, not, nat_eq, List, [], ◌∷◌, ◌++◌, length, map, filter, Some}
 use Rattle.std.specs.List.{slice_index_or, range_with_len}
 use Rattle.gt_base.specs.declared.events.RoleId.{RoleId}
 use Rattle.gt_base.specs.declared.policies.HierEdge.{HierEdge}
@@ -22,6 +22,10 @@ pub record IsOutgoing (es : List HierEdge) (first next : List ℕ) : Type 0 wher
   pub size : length next ≡ length es
   pub firsts : (v : ℕ) → IsFirst es v 0 (slice_index_or first v no_edge)
   pub nexts : (n : ℕ) (e : HierEdge) → item_at es n ≡ Some e → IsFirst es e.senior.0 (n + 1) (slice_index_or next n 0)
+
+-- whether an edge leads from the role
+abbrev pub leads_on : List ℕ → ℕ → Bool
+leads_on first v = not (nat_eq (slice_index_or first v no_edge) no_edge)
 
 -- a walk: where it ends and where it begins, the place of its begin among the starts, and the numbers of its edges
 pub record Stop : Type 0 where

@@ -1,9 +1,11 @@
 //! A hierarchy with its edges by roles, made once for many questions.
-ghost use Rattle.std.specs.Prelude.{◌≡◌, IfOk};
+ghost use Rattle.std.specs.Prelude.{◌≡◌, true, false, is_none, IfOk};
 ghost use Rattle.gt_base.specs.Sets.{has};
 ghost use Rattle.gtrbac_model.specs.Hierarchy.{activation_walk, permission_walk, permission_walk_of_any};
 ghost use Rattle.hybrid_hierarchy.specs.Nets.{IsHierarchy};
+ghost use Rattle.hybrid_hierarchy.specs.Lasting.{still_lets};
 
+use crate::lasting::still_lets;
 use crate::outgoing::{Outgoing, outgoing_of};
 use crate::walks::{activation, is_assigned, lending, lending_by_any, standing};
 use gt_base::{HierEdge, List, Memory, PermId, RoleId, Status, UserId, Walk};
@@ -64,6 +66,15 @@ impl Hierarchy {
             return Ok(Some(standing(alloc, role)));
         }
         activation(alloc, &self.edges, &self.out, status, user, role)
+    }
+
+    /// Whether the walk, found before, still lets the user activate the role: it begins at a role to which the user is assigned, and usable edges
+    /// of it lead to the role. Then some walk does. It takes no memory.
+    pub fn still_lets(&self, status: &Status, user: UserId, role: RoleId, walk: &Walk) -> bool
+        ensures walk { result ≡ still_lets self.now (has status.now.set) user role walk.now }
+        ensures some { result ≡ true → is_none (activation_walk self.now (has status.now.set) user role) ≡ false }
+    {
+        still_lets(&self.edges, status, user, role, walk)
     }
 
     /// By which walk of usable edges one of the active roles is lent the permission, as `reaches` over the list. For want of memory it may

@@ -2,6 +2,7 @@
 #![tactic(auto)]
 
 mod hierarchies;
+mod lasting;
 mod outgoing;
 mod questions;
 mod searching;

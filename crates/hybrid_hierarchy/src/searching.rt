@@ -11,6 +11,12 @@ use crate::questions::Question;
 use gt_base::{HierEdge, List, Memory, RoleId, Walk};
 use std::alloc::Global;
 
+/// Room for so many found roles is made at once: most searches end before they need more.
+const MANY: usize = 32;
+
+/// And for so many edges of a walk.
+const FEW: usize = 8;
+
 /// A role that was found: by the edge of this number from what was found at the place before, or, where that is no edge, as the start
 /// of this place.
 #[derive(Clone, Copy)]
@@ -69,7 +75,7 @@ fn begun<Q: Question>(
     ensures size { length seen.new ≡ length seen.old }
     ensures searched { IfOk result (λ queue. HasSearched (Q.passes asked.now) (Q.goals asked.now) edges.now from.now (length from.now) seen.new queue.items 0 0 0) }
 {
-    let mut queue = Vec::new(alloc);
+    let mut queue = Vec::with_capacity(alloc, MANY)?;
     for (place, role) in from.iter().enumerate() {
         seen[*role as usize] = true;
         queue.push(Found {
@@ -122,7 +128,7 @@ fn walk_to(alloc: Global, queue: &[Found], at: usize) -> Result<Walk, Memory>
     requires tells { HasStops queue.now }
     ensures { IfOk result (λ walk. IsWalkTo queue.now at walk.start.0 walk.edges) }
 {
-    let mut numbers = Vec::new(alloc);
+    let mut numbers = Vec::with_capacity(alloc, FEW)?;
     let mut i = at;
     while queue[i].by != NONE {
         numbers.push(queue[i].by)?;

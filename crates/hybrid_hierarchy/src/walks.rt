@@ -1,14 +1,14 @@
 //! Usable edges, and the walks that allow an activation or lend a permission.
-ghost use Rattle.std.specs.Prelude.{◌≡◌, ◌+◌, ◌<◌, ◌≤◌, ◌&&◌, [], ◌∷◌, nat_lt, nat_le, cond, filter, IfOk, MatchOption};
+ghost use Rattle.std.specs.Prelude.{◌≡◌, ◌+◌, ◌<◌, ◌≤◌, ◌&&◌, [], ◌∷◌, nat_lt, nat_le, false, cond, filter, IfOk, MatchOption};
 ghost use Rattle.std.specs.List.{range_with_len};
 ghost use Rattle.gt_base.specs.declared.events.Fluent.TheVariants.{Enabled, Assigned, Granted, Edge};
 ghost use Rattle.gt_base.specs.Sets.{has};
 ghost use Rattle.gtrbac_model.specs.Same.{same_role, lists};
 ghost use Rattle.gtrbac_model.specs.Hierarchy.{usable, activation_walk, permission_walk, permission_walk_of_any};
 ghost use Rattle.hybrid_hierarchy.specs.Nets.{IsHierarchy};
-ghost use Rattle.hybrid_hierarchy.specs.Searches.{IsOutgoing, listed_from};
+ghost use Rattle.hybrid_hierarchy.specs.Searches.{IsOutgoing, leads_on, listed_from};
 
-use crate::outgoing::{Outgoing, outgoing_of};
+use crate::outgoing::{NONE, Outgoing, first_of, outgoing_of};
 use crate::questions::{Activating, Lending, LendingByAny};
 use crate::searching::least;
 use gt_base::{Fluent, HierEdge, List, Memory, PermId, RoleId, Status, UserId, Walk};
@@ -43,12 +43,17 @@ fn is_passable(n: u32, e: &HierEdge, status: &Status, weak: RoleId) -> bool
     }
 }
 
-/// The roles to which the user is assigned, ascending.
-fn assigned_roles(alloc: Global, status: &Status, user: UserId) -> Result<Vec<u32>, Memory>
-    ensures { IfOk result (λ roles. roles.items ≡ filter (λ r. has status.now.set (Assigned user (record { 0 = r }))) (range_with_len 0 1_000)) }
+/// The roles to which the user is assigned and from which an edge leads, ascending. Of the others the status is not asked.
+fn assigned_roles(
+    alloc: Global,
+    out: &Outgoing,
+    status: &Status,
+    user: UserId,
+) -> Result<Vec<u32>, Memory>
+    ensures { IfOk result (λ roles. roles.items ≡ filter (λ r. leads_on out.now.first.items r && has status.now.set (Assigned user (record { 0 = r }))) (range_with_len 0 1_000)) }
 {
     (0..ROLES)
-        .filter(|r| status.is_on(Fluent::Assigned(user, RoleId(*r))))
+        .filter(|r| first_of(out, *r) != NONE && status.is_on(Fluent::Assigned(user, RoleId(*r))))
         .collect(alloc)
 }
 
@@ -108,7 +113,7 @@ pub(crate) fn standing(alloc: Global, role: RoleId) -> Walk
     }
 }
 
-/// The least walk by which the user may activate the role, over edges that were indexed.
+/// The least walk by which the user may activate a role to which it is not assigned itself, over edges that were indexed.
 pub(crate) fn activation(
     alloc: Global,
     edges: &[HierEdge],
@@ -119,9 +124,10 @@ pub(crate) fn activation(
 ) -> Result<Option<Walk>, Memory>
     requires hierarchy { IsHierarchy edges.now }
     requires outgoing { IsOutgoing edges.now out.now.first.items out.now.next.items }
+    requires elsewhere { (nat_lt role.0 1_000 && has status.now.set (Assigned user role)) ≡ false }
     ensures { IfOk result (λ walk. walk ≡ activation_walk edges.now (has status.now.set) user role) }
 {
-    let from = assigned_roles(alloc, status, user)?;
+    let from = assigned_roles(alloc, out, status, user)?;
     least(alloc, edges, out, &from, &Activating { status, role })
 }
 

@@ -7,7 +7,7 @@ use Rattle.gt_base.specs.declared.events.Signal.{Signal}
 use Rattle.gt_base.specs.contracts.events.Fluent as fluent
 use Rattle.gt_base.specs.contracts.events.Signal as signal
 use Rattle.gt_base.specs.Orders.{signal_cmp}
-use Rattle.gt_base.specs.Happening.{Happening, Fluents, fluents_code, happening_code}
+use Rattle.gt_base.specs.Happening.{HappenedView, Fluents, fluents_code, happening_code}
 use Rattle.gt_base.specs.Sets.{SetOf, set_code, has, members, set_of, those}
 use Rattle.gtrbac_model.specs.Period.{Period, period_code}
 use Rattle.gtrbac_model.specs.Policy.{Policy}
@@ -19,12 +19,12 @@ use Rattle.delay_agenda.specs.Due.{Pendings, pendings_code, is_due_at}
 -- a nonempty set with its instant and the base of that instant
 pub record ClosedSet : Type 0 where
   pub at : ℕ
-  pub base : Happening
-  pub set : Happening
+  pub base : HappenedView
+  pub set : HappenedView
 
 abbrev pub closed_set_code : Coded ClosedSet
 closed_set_code =
-    code_by (ℕ × (Happening × Happening)) (coded× coded_ℕ (coded× happening_code happening_code)) (λ c. (c.at, (c.base, c.set))) (λ (t, (b, s)). record { at = t; base = b; set = s }) (λ _. refl)
+    code_by (ℕ × (HappenedView × HappenedView)) (coded× coded_ℕ (coded× happening_code happening_code)) (λ c. (c.at, (c.base, c.set))) (λ (t, (b, s)). record { at = t; base = b; set = s }) (λ _. refl)
 
 abbrev pub Signals : Type 0
 Signals = SetOf signal_cmp
@@ -74,7 +74,7 @@ abbrev pub signals_in : TimelineView → ℕ → List Signal
 signals_in v t = signals_for v.now v.signals t
 
 -- the timeline's base at a later instant
-abbrev pub base_in : Policy → TimelineView → ℕ → Happening
+abbrev pub base_in : Policy → TimelineView → ℕ → HappenedView
 base_in p v t = record { events = set_of (raised_in p v t); signals = set_of (signals_in v t) }
 
 -- whether it has an event or a signal

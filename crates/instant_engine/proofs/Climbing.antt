@@ -7,8 +7,8 @@ use Rattle.std.proofs.lemmas.Bool.{ltb-true, ltb-false, leb-true}
 use Rattle.std.specs.Ordering.{eq_by_cmp}
 use Rattle.gt_base.specs.Orders.{prioritised_cmp}
 use Rattle.gt_base.specs.Events.{converse}
-use Rattle.gt_base.specs.Held.{Rule}
-use Rattle.gt_base.specs.Happening.{Happening}
+use Rattle.gt_base.specs.Held.{TriggerView}
+use Rattle.gt_base.specs.Happening.{HappenedView}
 use Rattle.gt_base.specs.Sets.{members, has, set_of}
 use Rattle.gt_base.specs.declared.events.Cond.{Cond}
 use Rattle.gt_base.specs.declared.events.Event.{Event}
@@ -45,15 +45,15 @@ nothing_below n h = omega arith
 has_in_set : (xs : List Prioritised) (o : Prioritised) → Elem xs o → has (set_of {R = prioritised_cmp} xs) o ≡ true
 has_in_set xs o m = has-set_of prioritised_cmp_total xs o ∙ any_intro (eq_by_cmp prioritised_cmp o) xs o m (tied prioritised_cmp_total prioritised_cmp-IsAntisymmetric o o refl)
 
-module _ (rules : List Rule) (base : Happening) (s : Status) (level : Event → ℕ) (levelled : are_levels rules level ≡ true) where
-  abbrev IsSettled : Happening → Type 0
+module _ (rules : List TriggerView) (base : HappenedView) (s : Status) (level : Event → ℕ) (levelled : are_levels rules level ≡ true) where
+  abbrev IsSettled : HappenedView → Type 0
   IsSettled = Settled rules base s
 
-  abbrev Below : ℕ → Happening → Type 0
+  abbrev Below : ℕ → HappenedView → Type 0
   Below = IsSettledBelow rules base s level
 
   -- of an event that heads no immediate trigger a settled set has what the base has
-  of_base : (y : Happening) → IsSettled y → (o : Prioritised) → is_node rules o.event ≡ false → In y o → In base o
+  of_base : (y : HappenedView) → IsSettled y → (o : Prioritised) → is_node rules o.event ≡ false → In y o → In base o
   of_base y is o n h = only_base_along rules base s level levelled y [] is.order is.grounding.grounds o (in_order rules base s level levelled y is o h) n
 
   pub at_first : Below 0 base
@@ -65,19 +65,19 @@ module _ (rules : List Rule) (base : Happening) (s : Status) (level : Event → 
         signals = refl;
       }
 
-  module _ (x : Happening) (n : ℕ) (so_far : Below n x) (y : Happening) (is : IsSettled y) where
+  module _ (x : HappenedView) (n : ℕ) (so_far : Below n x) (y : HappenedView) (is : IsSettled y) where
     back : (f : Event) → (is_node rules f ≡ true → level f < n) → Goes y x f
     back f low o e h =
         split (is_node rules o.event)
         (λ t. so_far.full y is o t (subst (λ z. level z < n) (sym e) (low (subst (λ z. is_node rules z ≡ true) e t))) h)
         (λ t. so_far.has_base o (of_base y is o t h))
 
-    levels_of : (r : Rule) → Elem rules r → immediate r ≡ true → (b : Event) → Elem r.events b
+    levels_of : (r : TriggerView) → Elem rules r → immediate r ≡ true → (b : Event) → Elem r.events b
         → ((not (is_node rules b) || nat_le (level b) (level r.head.event)) ≡ true) × ((not (is_node rules (converse b)) || nat_lt (level (converse b)) (level r.head.event)) ≡ true)
     levels_of r m i b mb = both_true _ _ (all_elim (is_levelled rules level r) r.events b (both_true _ _ (implied _ _ (all_elim _ rules r levelled m) i)).0 mb)
 
     -- a settled condition of a trigger of the level holds after both alike
-    decided_alike : (r : Rule) → Elem rules r → immediate r ≡ true → level r.head.event ≤ n → (c : Cond) → Elem r.settled c → holds (after x s) c ≡ holds (after y s) c
+    decided_alike : (r : TriggerView) → Elem rules r → immediate r ≡ true → level r.head.event ≤ n → (c : Cond) → Elem r.settled c → holds (after x s) c ≡ holds (after y s) c
     decided_alike r m i top c mc =
         let decided = all_elim (is_decided rules level r) r.settled c (both_true _ _ (implied _ _ (all_elim _ rules r levelled m) i)).1 mc in
         let lv = both_true (not (is_node rules (turns_on c.fluent)) || nat_lt (level (turns_on c.fluent)) (level r.head.event)) (not (is_node rules (turns_off c.fluent)) || nat_lt (level (turns_off c.fluent)) (level r.head.event)) decided in
@@ -87,7 +87,7 @@ module _ (rules : List Rule) (base : Happening) (s : Status) (level : Event → 
         low f h = back f (λ node. lower (level f) (level r.head.event) n (ltb-true _ _ (implied _ _ h node)) top)
 
     -- the two block a body event of a trigger of the level alike
-    alike : (r : Rule) → Elem rules r → immediate r ≡ true → level r.head.event ≤ n → (b : Event) → Elem r.events b → (o : Prioritised) → o.event ≡ b → blocked x o ≡ blocked y o
+    alike : (r : TriggerView) → Elem rules r → immediate r ≡ true → level r.head.event ≤ n → (b : Event) → Elem r.events b → (o : Prioritised) → o.event ≡ b → blocked x o ≡ blocked y o
     alike r m i top b mb o e =
         blocked_alike x y o (λ p q h. so_far.within y is p h)
         (back (converse o.event) (λ node.
@@ -95,14 +95,14 @@ module _ (rules : List Rule) (base : Happening) (s : Status) (level : Event → 
         (subst (λ z. level (converse z) < level r.head.event) (sym e) (ltb-true _ _ (implied _ _ (levels_of r m i b mb).1 (subst (λ z. is_node rules (converse z) ≡ true) e node))))
         top))
 
-    won_on : (r : Rule) → Elem rules r → immediate r ≡ true → level r.head.event ≤ n → (b : Event) → Elem r.events b → won x b ≡ true → won y b ≡ true
+    won_on : (r : TriggerView) → Elem rules r → immediate r ≡ true → level r.head.event ≤ n → (b : Event) → Elem r.events b → won x b ≡ true → won y b ≡ true
     won_on r m i top b mb w =
         let (o, k, h) = any_elim (λ o. same_event o.event b && not (blocked x o)) (members x.events) w in
         let t : (same_event o.event b ≡ true) × (not (blocked x o) ≡ true) = both_true _ _ h in
         any_intro _ (members y.events) o (elem y o (so_far.within y is o (of_elem x o k)))
         (and_true _ _ t.0 (ap not (sym (alike r m i top b mb o (is_same_event _ _ t.0))) ∙ t.1))
 
-    met_on : (r : Rule) → Elem rules r → immediate r ≡ true → level r.head.event ≤ n → met r x s ≡ true → met r y s ≡ true
+    met_on : (r : TriggerView) → Elem rules r → immediate r ≡ true → level r.head.event ≤ n → met r x s ≡ true → met r y s ≡ true
     met_on r m i top h =
         let u : IsMet r x s = parts_met r x s h in
         met_by r y s
@@ -114,16 +114,16 @@ module _ (rules : List Rule) (base : Happening) (s : Status) (level : Event → 
         })
 
     -- the head of a trigger that is met here stands in the settled set
-    pub supports : (r : Rule) → Elem rules r → immediate r ≡ true → level r.head.event ≤ n → met r x s ≡ true → In y r.head
+    pub supports : (r : TriggerView) → Elem rules r → immediate r ≡ true → level r.head.event ≤ n → met r x s ≡ true → In y r.head
     supports r m i top h = implied _ _ (all_elim (λ r. not (immediate r && met r y s) || has y.events r.head) rules r (both_true _ _ is.is_closed).1 m) (and_true _ _ i (met_on r m i top h))
 
-    module _ (quiet : (r : Rule) → Elem rules r → immediate r ≡ true → level r.head.event ≡ n → met r x s ≡ true → In x r.head) where
+    module _ (quiet : (r : TriggerView) → Elem rules r → immediate r ≡ true → level r.head.event ≡ n → met r x s ≡ true → In x r.head) where
       abbrev Low : Prioritised → Type 0
       Low o = is_node rules o.event ≡ true → level o.event ≤ n
 
       -- a body event that stands in the settled set is won here
       wins : (earlier : List Prioritised) → ((o : Prioritised) → Elem earlier o → Low o → In x o)
-          → (r : Rule) → Elem rules r → immediate r ≡ true → level r.head.event ≤ n → (b : Event) → Elem r.events b → stands y earlier b ≡ true → won x b ≡ true
+          → (r : TriggerView) → Elem rules r → immediate r ≡ true → level r.head.event ≤ n → (b : Event) → Elem r.events b → stands y earlier b ≡ true → won x b ≡ true
       wins earlier known r m i top b mb st =
           let (o, mo, h) = any_elim (λ o. same_event o.event b && not (blocked y o)) earlier st in
           let t : (same_event o.event b ≡ true) × (not (blocked y o) ≡ true) = both_true _ _ h in
@@ -134,7 +134,7 @@ module _ (rules : List Rule) (base : Happening) (s : Status) (level : Event → 
           any_intro _ (members x.events) o (elem x o (known o mo low)) (and_true _ _ t.0 (ap not (alike r m i top b mb o is_b) ∙ t.1))
 
       met_too : (earlier : List Prioritised) → ((o : Prioritised) → Elem earlier o → Low o → In x o)
-          → (r : Rule) → Elem rules r → immediate r ≡ true → level r.head.event ≤ n → met r y s ≡ true → list_all (stands y earlier) r.events ≡ true → met r x s ≡ true
+          → (r : TriggerView) → Elem rules r → immediate r ≡ true → level r.head.event ≤ n → met r y s ≡ true → list_all (stands y earlier) r.events ≡ true → met r x s ≡ true
       met_too earlier known r m i top mt st =
           let u : IsMet r y s = parts_met r y s mt in
           met_by r x s
@@ -177,7 +177,7 @@ module _ (rules : List Rule) (base : Happening) (s : Status) (level : Event → 
       full_at o node low h = along [] is.order is.grounding.grounds of_order (λ p m. elim m [ ]) o (in_order rules base s level levelled y is o h) (λ t. at_most (level o.event) n low)
 
   -- where no trigger of the level fires, the next level is reached
-  pub next_level : (x : Happening) (n : ℕ) → Below n x → ((r : Rule) → Elem rules r → immediate r ≡ true → level r.head.event ≡ n → met r x s ≡ true → In x r.head) → Below (n + 1) x
+  pub next_level : (x : HappenedView) (n : ℕ) → Below n x → ((r : TriggerView) → Elem rules r → immediate r ≡ true → level r.head.event ≡ n → met r x s ≡ true → In x r.head) → Below (n + 1) x
   next_level x n so_far quiet =
       record {
         has_base = so_far.has_base;
@@ -186,14 +186,14 @@ module _ (rules : List Rule) (base : Happening) (s : Status) (level : Event → 
         signals = so_far.signals;
       }
 
-  is_settled : (x : Happening) (n : ℕ) → Below n x → ((e : Event) → is_node rules e ≡ true → level e < n) → (y : Happening) → IsSettled y → y ≡ x
+  is_settled : (x : HappenedView) (n : ℕ) → Below n x → ((e : Event) → is_node rules e ≡ true → level e < n) → (y : HappenedView) → IsSettled y → y ≡ x
   is_settled x n so_far all y is =
       let events : y.events ≡ x.events = same_sets prioritised_cmp_total prioritised_cmp-IsAntisymmetric y.events x.events (λ o. both_ways _ _ (back x n so_far y is o.event (all o.event) o refl) (so_far.within y is o)) in
       let signals : y.signals ≡ x.signals = is.signals ∙ sym so_far.signals in
       λ i. record { events = events i; signals = signals i }
 
   -- full at all levels, it is the one settled set
-  pub settles : (x : Happening) (n : ℕ) → Below n x → ((e : Event) → is_node rules e ≡ true → level e < n) → IsSettled x × ((y : Happening) → IsSettled y → y ≡ x)
+  pub settles : (x : HappenedView) (n : ℕ) → Below n x → ((e : Event) → is_node rules e ≡ true → level e < n) → IsSettled x × ((y : HappenedView) → IsSettled y → y ≡ x)
   settles x n so_far all =
       let (y, is) = settled_set rules base s level levelled in
       (subst IsSettled (is_settled x n so_far all y is) is, is_settled x n so_far all)

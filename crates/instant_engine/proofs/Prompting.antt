@@ -2,8 +2,8 @@
 use Rattle.std.proofs.Common.{◌≡◌, ℕ, true, not, nat_eq, ◌&&◌, ◌||◌, ◌⊎◌, inl, inr, List, [], ◌∷◌, ◌++◌, flat_map, refl, sym, ◌∙◌, subst, arith}
 use Rattle.std.specs.List.{list_all}
 use Rattle.std.proofs.lemmas.List.Folds.{list_any-append}
-use Rattle.gt_base.specs.Held.{Rule}
-use Rattle.gt_base.specs.Happening.{Happening}
+use Rattle.gt_base.specs.Held.{TriggerView}
+use Rattle.gt_base.specs.Happening.{HappenedView}
 use Rattle.gt_base.specs.Sets.{has, members}
 use Rattle.gt_base.specs.declared.events.Event.{Event}
 use Rattle.gt_base.specs.declared.events.Prioritised.{Prioritised}
@@ -27,7 +27,7 @@ listed_by f [] x u m h = elim m [ ]
 listed_by f (y ∷ ys) x u (inl e) h = list_any-append (nat_eq u) (f y) (flat_map f ys) ∙ left_true (lists nat_eq (f y) u) _ (subst (λ z. lists nat_eq (f z) u ≡ true) e h)
 listed_by f (y ∷ ys) x u (inr m) h = list_any-append (nat_eq u) (f y) (flat_map f ys) ∙ right_true (lists nat_eq (f y) u) _ (listed_by f ys x u m h)
 
-module _ (x : Happening) where
+module _ (x : HappenedView) where
   abbrev ByEvent : List Event → Type 0
   ByEvent es = (o : Prioritised) × Elem (members x.events) o × (lists same_event es o.event ≡ true)
 
@@ -42,7 +42,7 @@ module _ (x : Happening) where
       inr (t, elem_of_has signal_cmp_total signal_cmp-IsAntisymmetric x.signals t (both_true (has x.signals t) _ there).0, left_true (same_signal t t) _ (tied signal_cmp_total signal_cmp-IsAntisymmetric t t refl))
   prompt [] [] some wins there = cc
 
-module _ (rules : List Rule) (s : Status) (level : Event → ℕ) (n : ℕ) (x : Happening) where
+module _ (rules : List TriggerView) (s : Status) (level : Event → ℕ) (n : ℕ) (x : HappenedView) where
   pub prompted_wait : list_all has_cause rules ≡ true → Waits rules s level n x (prompted rules x)
   prompted_wait caused u w at f =
       let is : IsMet w x s = parts_met w x s (both_true _ _ (both_true _ _ f).0).1 in

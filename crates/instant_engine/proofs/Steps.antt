@@ -5,8 +5,8 @@ use Rattle.std.proofs.lemmas.Bool.{eqb-true, eq-eqb, ltb-true, not-true, false�
 use Rattle.std.proofs.lemmas.List.{take_more, length-take-le}
 use Rattle.std.proofs.lemmas.List.Folds.{list_any-append}
 use Rattle.std.proofs.Math.Nat.{mul-le-mul_right, suc-mul}
-use Rattle.gt_base.specs.Held.{Rule}
-use Rattle.gt_base.specs.Happening.{Happening}
+use Rattle.gt_base.specs.Held.{TriggerView}
+use Rattle.gt_base.specs.Happening.{HappenedView}
 use Rattle.gt_base.specs.Sets.{has, members}
 use Rattle.gt_base.specs.declared.events.Cond.{Cond}
 use Rattle.gt_base.specs.declared.events.Event.{Event}
@@ -44,15 +44,15 @@ fewer_later true false u v f h = cc (f refl)
 fewer_later false true u v f h = omega arith
 fewer_later false false u v f h = omega arith
 
-abbrev Grows : Happening → Happening → Type 0
+abbrev Grows : HappenedView → HappenedView → Type 0
 Grows x y = (o : Prioritised) → In x o → In y o
 
-missing_falls : (rs : List Rule) (x y : Happening) → Grows x y → missing rs y ≤ missing rs x
+missing_falls : (rs : List TriggerView) (x y : HappenedView) → Grows x y → missing rs y ≤ missing rs x
 missing_falls [] x y g = omega arith
 missing_falls (r ∷ rs) x y g = fewer (has x.events r.head) (has y.events r.head) _ _ (g r.head) (missing_falls rs x y g)
 
 -- a head that joins is missing no more
-missing_drops : (rs : List Rule) (x y : Happening) → Grows x y → (r : Rule) → Elem rs r → has x.events r.head ≡ false → In y r.head → missing rs y < missing rs x
+missing_drops : (rs : List TriggerView) (x y : HappenedView) → Grows x y → (r : TriggerView) → Elem rs r → has x.events r.head ≡ false → In y r.head → missing rs y < missing rs x
 missing_drops [] x y g r m out there = elim m [ ]
 missing_drops (q ∷ rs) x y g r (inl e) out there =
     fewer_by_one (has x.events q.head) (has y.events q.head) _ _ (subst (λ z. has x.events z.head ≡ false) e out) (subst (λ z. has y.events z.head ≡ true) e there) (missing_falls rs x y g)
@@ -75,7 +75,7 @@ elem_got (y ∷ ys) zero x h = inl cc
 elem_got (y ∷ ys) (suc t) x h = inr (elem_got ys t x h)
 
 -- the head of an immediate trigger is a node
-pub node_of : (rules : List Rule) (r : Rule) → Elem rules r → immediate r ≡ true → is_node rules r.head.event ≡ true
+pub node_of : (rules : List TriggerView) (r : TriggerView) → Elem rules r → immediate r ≡ true → is_node rules r.head.event ≡ true
 node_of rules r m i = any_intro (λ q. immediate q && same_event q.head.event r.head.event) rules r m (and_true _ _ i (same_event_of r.head.event r.head.event refl))
 
 at_level : (b : Bool) (l n : ℕ) → is_level (cond b (Some l) None) n ≡ (b && nat_eq l n)
@@ -83,7 +83,7 @@ at_level true l n = refl
 at_level false l n = refl
 
 -- the triggers of a level so far, and the next trigger
-pub due_more : (level : Event → ℕ) (n : ℕ) (rules : List Rule) (t : ℕ) (q : Rule) (own : Option ℕ) (old new : List ℕ) → t < length rules → q ≡ get_or rules t q → own ≡ cond (immediate q) (Some (level q.head.event)) None
+pub due_more : (level : Event → ℕ) (n : ℕ) (rules : List TriggerView) (t : ℕ) (q : TriggerView) (own : Option ℕ) (old new : List ℕ) → t < length rules → q ≡ get_or rules t q → own ≡ cond (immediate q) (Some (level q.head.event)) None
     → new ≡ old ++ cond (is_level own n) (t ∷ []) [] → old ≡ numbers (is_due level n) 0 (take t rules) → new ≡ numbers (is_due level n) 0 (take (t + 1) rules)
 due_more level n rules t q own old new lt is_q is_own is so_far =
     is ∙ ap (λ xs. xs ++ cond (is_level own n) (t ∷ []) []) so_far
@@ -95,7 +95,7 @@ sum_more : (k t n : ℕ) → n ≡ k + suc t → n ≡ (k + 1) + t
 sum_more k t n e = omega arith
 
 -- the number of a trigger that passes is listed
-pub numbered : (p : Rule → Bool) (k : ℕ) (rs : List Rule) (t n : ℕ) (r : Rule) → n ≡ k + t → item_at rs t ≡ Some r → p r ≡ true → lists nat_eq (numbers p k rs) n ≡ true
+pub numbered : (p : TriggerView → Bool) (k : ℕ) (rs : List TriggerView) (t n : ℕ) (r : TriggerView) → n ≡ k + t → item_at rs t ≡ Some r → p r ≡ true → lists nat_eq (numbers p k rs) n ≡ true
 numbered p k [] t n r e h pass = cc
 numbered p k (q ∷ rs) zero n r e h pass = ap (λ b. lists nat_eq (cond b (k ∷ numbers p (k + 1) rs) (numbers p (k + 1) rs)) n) own ∙ left_true (nat_eq n k) _ (eq-eqb n k (omega arith))
   where
@@ -108,7 +108,7 @@ numbered p k (q ∷ rs) (suc t) n r e h pass = by (p q) (numbered p (k + 1) rs t
     by false h = h
 
 -- as many at most as there are triggers
-pub numbers_few : (p : Rule → Bool) (k : ℕ) (rs : List Rule) → length (numbers p k rs) ≤ length rs
+pub numbers_few : (p : TriggerView → Bool) (k : ℕ) (rs : List TriggerView) → length (numbers p k rs) ≤ length rs
 numbers_few p k [] = omega arith
 numbers_few p k (r ∷ rs) = by (p r) (numbers_few p (k + 1) rs)
   where
@@ -120,8 +120,8 @@ some_fails : {A : Type 0} (p : A → Bool) (xs : List A) → list_all p xs ≡ f
 some_fails p [] h = cc
 some_fails p (x ∷ xs) h = split (p x) (λ t. let (y, m, f) = some_fails p xs (ap (λ b. b && list_all p xs) (sym t) ∙ h) in (y, inr m, f)) (λ f. (x, inl refl, f))
 
-module _ (x : Happening) (h : Prioritised) where
-  abbrev more : Happening
+module _ (x : HappenedView) (h : Prioritised) where
+  abbrev more : HappenedView
   more = joined x (Some h)
 
   added : (o : Prioritised) → has more.events o ≡ (same_prioritised o h || has x.events o)
@@ -157,7 +157,7 @@ module _ (x : Happening) (h : Prioritised) where
         agrees f other = (λ o e k. either_of o k (λ i. absurd (other (ap (λ z. z.event) (sym i) ∙ e))) (λ m. m), λ o e k. grows o k)
 
     -- a trigger that a head makes met, though not by a settled condition, has the head in its body
-    newly_met : (r : Rule) → ((c : Cond) → Elem r.settled c → holds (after more s) c ≡ holds (after x s) c) → met r more s ≡ true → met r x s ≡ false → has_event h.event r ≡ true
+    newly_met : (r : TriggerView) → ((c : Cond) → Elem r.settled c → holds (after more s) c ≡ holds (after x s) c) → met r more s ≡ true → met r x s ≡ false → has_event h.event r ≡ true
     newly_met r stay k lost =
         let u : IsMet r more s = parts_met r more s k in
         split (list_all (won x) r.events)
@@ -168,36 +168,36 @@ module _ (x : Happening) (h : Prioritised) where
         let (b, m, none) = some_fails (won x) r.events f in
         any_intro (same_event h.event) r.events b m (same_event_of h.event b (sym (newly_won b (all_elim (won more) r.events b u.events m) none))))
 
-module _ (rules : List Rule) (s : Status) (level : Event → ℕ) (n : ℕ) where
+module _ (rules : List TriggerView) (s : Status) (level : Event → ℕ) (n : ℕ) where
   -- each trigger that fires is among the numbers
-  abbrev pub Waits : Happening → List ℕ → Type 0
-  Waits x ts = (u : ℕ) (w : Rule) → item_at rules u ≡ Some w → fires s level n x w ≡ true → lists nat_eq ts u ≡ true
+  abbrev pub Waits : HappenedView → List ℕ → Type 0
+  Waits x ts = (u : ℕ) (w : TriggerView) → item_at rules u ≡ Some w → fires s level n x w ≡ true → lists nat_eq ts u ≡ true
 
   -- what a trigger that fires is
-  abbrev Fires : Happening → Rule → Type 0
+  abbrev Fires : HappenedView → TriggerView → Type 0
   Fires x r = (immediate r ≡ true) × (level r.head.event ≡ n) × (met r x s ≡ true) × (has x.events r.head ≡ false)
 
-  fired : (x : Happening) (r : Rule) → fires s level n x r ≡ true → Fires x r
+  fired : (x : HappenedView) (r : TriggerView) → fires s level n x r ≡ true → Fires x r
   fired x r f =
       let a : ((immediate r && nat_eq (level r.head.event) n && met r x s) ≡ true) × (not (has x.events r.head) ≡ true) = both_true _ _ f in
       let b : ((immediate r && nat_eq (level r.head.event) n) ≡ true) × (met r x s ≡ true) = both_true _ _ a.0 in
       let c : (immediate r ≡ true) × (nat_eq (level r.head.event) n ≡ true) = both_true _ _ b.0 in
       (c.0, eqb-true _ _ c.1, b.1, not-true _ a.1)
 
-  does_fire : (x : Happening) (r : Rule) → Fires x r → fires s level n x r ≡ true
+  does_fire : (x : HappenedView) (r : TriggerView) → Fires x r → fires s level n x r ≡ true
   does_fire x r f = and_true _ _ (and_true _ _ (and_true _ _ f.0 (eq-eqb _ _ f.1)) f.2) (ap not f.3)
 
   -- the trigger whose head was found
-  found : (x : Happening) (h : Prioritised) (o : Option Rule) → Some h ≡ head_at s level n x o → (q : Rule) × (o ≡ Some q) × (h ≡ q.head) × Fires x q
+  found : (x : HappenedView) (h : Prioritised) (o : Option TriggerView) → Some h ≡ head_at s level n x o → (q : TriggerView) × (o ≡ Some q) × (h ≡ q.head) × Fires x q
   found x h None e = cc
   found x h (Some q) e = by (fires s level n x q) refl e
     where
-      by : (b : Bool) → fires s level n x q ≡ b → Some h ≡ cond b (Some q.head) None → (p : Rule) × (Some q ≡ Some p) × (h ≡ p.head) × Fires x p
+      by : (b : Bool) → fires s level n x q ≡ b → Some h ≡ cond b (Some q.head) None → (p : TriggerView) × (Some q ≡ Some p) × (h ≡ p.head) × Fires x p
       by true f e = (q, refl, cc, fired x q f)
       by false f e = cc
 
   -- at first the triggers of the level wait
-  pub first_wait : (x : Happening) → Waits x (numbers (is_due level n) 0 rules)
+  pub first_wait : (x : HappenedView) → Waits x (numbers (is_due level n) 0 rules)
   first_wait x u w at f =
       let k : Fires x w = fired x w f in
       numbered (is_due level n) 0 rules u u w (omega arith) at (and_true _ _ k.0 (eq-eqb _ _ k.1))
@@ -210,7 +210,7 @@ module _ (rules : List Rule) (s : Status) (level : Event → ℕ) (n : ℕ) wher
         | inr m ↦ elim (either_true (nat_eq u t) false m) [ inl e ↦ new (eqb-true u t e) | inr f ↦ absurd (false≢true f) ]
       ]
 
-  one_item : (t : ℕ) (q w : Rule) → item_at rules t ≡ Some q → item_at rules t ≡ Some w → w ≡ q
+  one_item : (t : ℕ) (q w : TriggerView) → item_at rules t ≡ Some q → item_at rules t ≡ Some w → w ≡ q
   one_item t q w a b = cc
 
   product : (a b m p k ps ts : ℕ) → a < b → k + 1 ≤ m → ps ≡ p + k → ts ≡ p + 1 → a * m + ps < b * m + ts
@@ -219,7 +219,7 @@ module _ (rules : List Rule) (s : Status) (level : Event → ℕ) (n : ℕ) wher
       omega (arith, suc-mul a m, u)
 
   -- with each look there is less to do
-  pub less_left : (x : Happening) (ts : List ℕ) (t : ℕ) (head : Option Prioritised) → head ≡ head_at s level n x (item_at rules t)
+  pub less_left : (x : HappenedView) (ts : List ℕ) (t : ℕ) (head : Option Prioritised) → head ≡ head_at s level n x (item_at rules t)
       → missing rules (joined x head) * (length rules + 1) + length (waiting rules ts head) < missing rules x * (length rules + 1) + length (ts ++ t ∷ [])
   less_left x ts t None e = omega (arith, length-append ts (t ∷ []))
   less_left x ts t (Some h) e =
@@ -233,8 +233,8 @@ module _ (rules : List Rule) (s : Status) (level : Event → ℕ) (n : ℕ) wher
     of_equal a b e = omega arith
 
     -- a head of the level turns no fluent of a settled condition of a trigger of the level
-    settled_still : (x : Happening) (h : Prioritised) (q : Rule) → Elem rules q → immediate q ≡ true → level q.head.event ≡ n → h ≡ q.head
-        → (w : Rule) → Elem rules w → immediate w ≡ true → level w.head.event ≡ n → (c : Cond) → Elem w.settled c → holds (after (joined x (Some h)) s) c ≡ holds (after x s) c
+    settled_still : (x : HappenedView) (h : Prioritised) (q : TriggerView) → Elem rules q → immediate q ≡ true → level q.head.event ≡ n → h ≡ q.head
+        → (w : TriggerView) → Elem rules w → immediate w ≡ true → level w.head.event ≡ n → (c : Cond) → Elem w.settled c → holds (after (joined x (Some h)) s) c ≡ holds (after x s) c
     settled_still x h q mq iq eq is w mw iw ew c mc =
         let decided = all_elim (is_decided rules level w) w.settled c (both_true _ _ (implied _ _ (all_elim _ rules w levelled mw) iw)).1 mc in
         let lv = both_true (not (is_node rules (turns_on c.fluent)) || nat_lt (level (turns_on c.fluent)) (level w.head.event)) (not (is_node rules (turns_off c.fluent)) || nat_lt (level (turns_off c.fluent)) (level w.head.event)) decided in
@@ -250,7 +250,7 @@ module _ (rules : List Rule) (s : Status) (level : Event → ℕ) (n : ℕ) wher
             too_low (level f) (level w.head.event) (level q.head.event) (ltb-true _ _ (implied _ _ low node)) ew eq (ap level is_f)
 
     -- with the last number looked at, those that fire still wait
-    pub still_wait : (x : Happening) (ts : List ℕ) (t : ℕ) (head : Option Prioritised) → head ≡ head_at s level n x (item_at rules t) → Waits x (ts ++ t ∷ []) → Waits (joined x head) (waiting rules ts head)
+    pub still_wait : (x : HappenedView) (ts : List ℕ) (t : ℕ) (head : Option Prioritised) → head ≡ head_at s level n x (item_at rules t) → Waits x (ts ++ t ∷ []) → Waits (joined x head) (waiting rules ts head)
     still_wait x ts t None e wait u w at f =
         last_or ts t u (wait u w at f) (λ m. m)
         (λ is.
@@ -272,7 +272,7 @@ module _ (rules : List Rule) (s : Status) (level : Event → ℕ) (n : ℕ) wher
         (λ m. right_true (lists nat_eq ts u) _ (numbered (has_event h.event) 0 rules u u w (omega arith) at (newly_met x h s w (settled_still x h q (elem_of rules t q here) own.0 own.1 is_head w (elem_of rules u w at) k.0 k.1) k.2 m)))
 
     -- a head that fires keeps the set on its way
-    pub keeps_on : (x : Happening) (head : Option Prioritised) (o : Option Rule) → ((q : Rule) → o ≡ Some q → Elem rules q) → head ≡ head_at s level n x o → Keeps rules s level n x n (joined x head)
+    pub keeps_on : (x : HappenedView) (head : Option Prioritised) (o : Option TriggerView) → ((q : TriggerView) → o ≡ Some q → Elem rules q) → head ≡ head_at s level n x o → Keeps rules s level n x n (joined x head)
     keeps_on x None o ours e base so_far = so_far
     keeps_on x (Some h) o ours e base so_far =
         let (q, here, is_head, own) = found x h o e in
@@ -285,10 +285,10 @@ module _ (rules : List Rule) (s : Status) (level : Event → ℕ) (n : ℕ) wher
         }
 
     -- where none waits, the level is done
-    pub done : (x : Happening) → Waits x [] → Keeps rules s level n x (n + 1) x
+    pub done : (x : HappenedView) → Waits x [] → Keeps rules s level n x (n + 1) x
     done x none base so_far = next_level rules base s level levelled x n so_far quiet
       where
-        quiet : (r : Rule) → Elem rules r → immediate r ≡ true → level r.head.event ≡ n → met r x s ≡ true → In x r.head
+        quiet : (r : TriggerView) → Elem rules r → immediate r ≡ true → level r.head.event ≡ n → met r x s ≡ true → In x r.head
         quiet r m i e k =
             split (has x.events r.head) (λ t. t)
             (λ f. let (u, at) = number_of rules r m in absurd (false≢true (none u r at (does_fire x r (i, e, k, f)))))

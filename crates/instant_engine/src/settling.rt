@@ -1,6 +1,6 @@
 //! Level by level, the triggers that wait to be looked at.
 ghost use Rattle.std.specs.Prelude.{◌≡◌, ◌+◌, ◌++◌, ◌⊎◌, true, flat_map, length, cond, IfOk, OnOk};
-ghost use Rattle.gt_base.specs.Happening.{Happening};
+ghost use Rattle.gt_base.specs.Happening.{HappenedView};
 ghost use Rattle.gt_base.specs.Sets.{has};
 ghost use Rattle.gtrbac_model.specs.Graph.{item_at};
 ghost use Rattle.gtrbac_model.specs.Instant.{Settled};
@@ -30,7 +30,7 @@ pub fn settle(
 ) -> Result<Happened, Memory>
     requires { IsLevelled r.now g.now s.now }
     ensures settled { IfOk result (λ x. Settled r.now base.now.set (has before.now.set) x.set) }
-    ensures only { IfOk result (λ x. (y : Happening) → Settled r.now base.now.set (has before.now.set) y → y ≡ x.set) }
+    ensures only { IfOk result (λ x. (y : HappenedView) → Settled r.now base.now.set (has before.now.set) y → y ≡ x.set) }
 {
     let levels = TriggerLevels::new(alloc, r, g, s)?;
     let x = settled_contest(alloc, r, g, s, &levels, base, before)?;
@@ -50,7 +50,7 @@ pub fn settled_contest(
     requires levelled { IsLevelled r.now g.now s.now }
     requires levels { AreLevels r.now g.now s.now levels.now }
     ensures settled { IfOk result (λ x. Settled r.now base.now.set (has before.now.set) x) }
-    ensures only { IfOk result (λ x. (y : Happening) → Settled r.now base.now.set (has before.now.set) y → y ≡ x) }
+    ensures only { IfOk result (λ x. (y : HappenedView) → Settled r.now base.now.set (has before.now.set) y → y ≡ x) }
 {
     let mut x = Contest::new(alloc, base)?;
     for n in 0..levels.count() {

@@ -1,4 +1,4 @@
-//! A small policy.
+//! The policy over which lines are timed.
 use gt_base::Memory;
 use policy_book::Policy;
 use policy_text::{PolicyText, policy_of};

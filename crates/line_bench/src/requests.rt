@@ -1,4 +1,4 @@
-//! Lines of 40 bytes.
+//! Reads many lines of 40 bytes, as on a connection.
 use gt_base::{Actor, Memory};
 use policy_book::Policy;
 use request_text::{Line, read_line};

@@ -1,4 +1,4 @@
-//! One line.
+//! What one line of a link comes to: it is read, acted on at the desk and answered.
 ghost use Rattle.std.specs.Prelude.{◌≡◌, ◌≤◌, ◌++◌, ℕ, [], ◌∷◌, Err, codes};
 ghost use Rattle.gt_io.specs.Links.{ReadsNothing};
 ghost use Rattle.turn_lock.specs.Holders.{site_of};

@@ -1,4 +1,4 @@
-//! The desk.
+//! The desk: many threads tick and ask one machine, each in a turn of its own.
 ghost use Rattle.std.specs.Prelude.{◌≡◌, ◌⊎◌, ◌+◌, ◌^◌, ◌<◌, ◌≤◌, ◌++◌, [], ◌∷◌, ℕ, List, length, drop, IfOk, IfErr, OnErr, None, Err};
 ghost use mathlib.Core.List.{IsPrefix};
 ghost use Rattle.gt_base.specs.Bounds.{max_steps};
@@ -105,6 +105,7 @@ impl<M: Machine> Desk<M> {
     ) -> Result<Ticked<M>, DeskFault>
         requires pass { (pass.old.site ≡ site_of self.now) × (pass.old.turn ≡ None) }
         ensures ok { IfOk result (λ t. ((upto ≤ t.now) × Lands (M.list self.now.root) pass.old pass.new t.front []) ⊎ Lands (M.list self.now.root) pass.old pass.new t.front (ticked (by pass.old.number conn) upto t.now ∷ [])) }
+        ensures last { IfOk result (λ t. ((upto ≤ t.now) × (pass.new.own ≡ pass.old.own)) ⊎ ((before : List Entry) × (t.front ≡ before ++ ticked (by pass.old.number conn) upto t.now ∷ []))) }
         ensures legal { IfOk result (λ t. M.legal self.now.root t.front × (length t.front ≤ max_steps) × (t.now ≡ M.now_of self.now.root t.front)) }
         ensures refused { OnErr result (Refuses pass.old pass.new) }
         ensures full { result ≡ Err DeskFault.StepsFull → (length pass.new.seen ≡ max_steps) × (M.now_of self.now.root pass.new.seen < upto) × (pass.old.draws < 2 ^ 40) × (pass.new.draws ≡ pass.old.draws + 1) }

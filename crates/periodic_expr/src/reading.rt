@@ -1,4 +1,4 @@
-//! Texts of expressions.
+//! A text read as an expression, or its fault with its place.
 ghost use Rattle.std.specs.Prelude.{◌≡◌, ◌<◌, ◌^◌, ℕ, length, IfOk, IfErr, Ok, Err, ◌⊎◌};
 ghost use Rattle.periodic_expr.specs.Sketch.{Keeps};
 ghost use Rattle.periodic_expr.specs.Drafts.{seen};

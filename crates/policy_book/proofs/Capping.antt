@@ -11,7 +11,7 @@ use Rattle.gtrbac_model.specs.WholePolicy.{is_most, are_caps, admins_rise}
 use Rattle.policy_words.specs.declared.sayings.CapKind.{CapKind}
 use Rattle.policy_words.specs.declared.sayings.CapKind.TheVariants as caps
 use Rattle.gt_base.specs.Names.{is_name}
-use Rattle.policy_words.specs.Sayings.{Saying, cap, is_saying, is_count}
+use Rattle.policy_words.specs.Sayings.{SaidView, cap, is_saying, is_count}
 use Rattle.policy_words.specs.Naming.{Names, role_of}
 use Rattle.policy_words.specs.Making.{Draft, adding, drafted, changed_at, with_cap, capped, with_caps_said, no_caps, users_from}
 use Rattle.policy_book.proofs.Naming.{formed}
@@ -49,7 +49,7 @@ cap_fine kind n counts c h = by kind (four (is_most c.total) (is_most c.user) (i
     by caps.Length (t, u, l, d) = all_four (is_most c.total) (is_most c.user) (is_count n) _ t u counts d
     by caps.Day (t, u, l, d) = all_four (is_most c.total) (is_most c.user) (is_most c.length) (is_count n) t u l counts
 
-step_length : (ns : Names) (x : Saying) (cs : List Caps) → length (with_caps_said ns x cs) ≡ length cs
+step_length : (ns : Names) (x : SaidView) (cs : List Caps) → length (with_caps_said ns x cs) ≡ length cs
 step_length ns (cap kind r n) cs = by (role_of ns r)
   where
     by : (o : Option RoleId) → length (capped ns kind n o cs) ≡ length cs
@@ -57,7 +57,7 @@ step_length ns (cap kind r n) cs = by (role_of ns r)
     by (Some r) = length-changed_at (with_cap kind n) r.0 cs
 step_length ns _ cs = refl
 
-step_fine : (ns : Names) (x : Saying) (cs : List Caps) → is_saying x ≡ true → list_all are_caps cs ≡ true → list_all are_caps (with_caps_said ns x cs) ≡ true
+step_fine : (ns : Names) (x : SaidView) (cs : List Caps) → is_saying x ≡ true → list_all are_caps cs ≡ true → list_all are_caps (with_caps_said ns x cs) ≡ true
 step_fine ns (cap kind r n) cs said h = by (role_of ns r)
   where
     by : (o : Option RoleId) → list_all are_caps (capped ns kind n o cs) ≡ true
@@ -65,11 +65,11 @@ step_fine ns (cap kind r n) cs said h = by (role_of ns r)
     by (Some q) = changed_all are_caps (with_cap kind n) (cap_fine kind n (both_true (is_name r) _ (formed (cap kind r n) said)).1) q.0 cs h
 step_fine ns _ cs said h = h
 
-pub caps_length : (ns : Names) (d : Draft) (xs : List Saying) → length (drafted ns d xs).caps ≡ length d.caps
+pub caps_length : (ns : Names) (d : Draft) (xs : List SaidView) → length (drafted ns d xs).caps ≡ length d.caps
 caps_length ns d [] = refl
 caps_length ns d (x ∷ xs) = caps_length ns (adding ns d x) xs ∙ step_length ns x d.caps
 
-pub caps_fine : (ns : Names) (d : Draft) (xs : List Saying) → list_all is_saying xs ≡ true → list_all are_caps d.caps ≡ true → list_all are_caps (drafted ns d xs).caps ≡ true
+pub caps_fine : (ns : Names) (d : Draft) (xs : List SaidView) → list_all is_saying xs ≡ true → list_all are_caps d.caps ≡ true → list_all are_caps (drafted ns d xs).caps ≡ true
 caps_fine ns d [] said h = h
 caps_fine ns d (x ∷ xs) said h = let parts = both_true (is_saying x) _ said in caps_fine ns (adding ns d x) xs parts.1 (step_fine ns x d.caps parts.0 h)
 

@@ -1,5 +1,5 @@
 -- The first fault of lines together, by the places of the lines.
-use Rattle.std.proofs.Common.{◌≡◌, ◌⊎◌, ℕ, zero, suc, ◌<◌, ◌≤◌, Bool, true, false, cond, not, ◌&&◌, ◌||◌, List, [], ◌∷◌, Option, Some, None, Result, Ok, Err, refl, sym, ap, ◌∙◌, subst, inl, inr, arith, nat_le}
+use Rattle.std.proofs.Common.{◌≡◌, ◌⊎◌, ℕ, zero, suc, ◌<◌, ◌≤◌, Bool, true, false, cond, not, ◌&&◌, ◌||◌, List, [], ◌∷◌, Option, Some, None, Result, Err, refl, sym, ap, ◌∙◌, subst, inl, inr, arith, nat_le}
 use Rattle.std.specs.List.{list_any}
 use Rattle.std.proofs.lemmas.Bool.{leb-true, le-leb, or_right}
 use Rattle.gtrbac_model.specs.Graph.{item_at}
@@ -8,29 +8,29 @@ use Rattle.gtrbac_model.proofs.Elements.{split}
 use Rattle.history_laws.proofs.Members.{clash}
 use Rattle.policy_words.specs.declared.sayings.Kind.{Kind}
 use Rattle.policy_words.specs.declared.claims.Claim.{Claim}
-use Rattle.policy_words.specs.Sayings.{Saying}
+use Rattle.policy_words.specs.Sayings.{SaidView}
 use Rattle.policy_words.specs.Reading.{Numbered}
 use Rattle.policy_words.specs.Naming.{Names, NamedPolicy}
 use Rattle.policy_words.specs.Making.{names_of, named_policy}
-use Rattle.policy_words.specs.Book.{BookTrouble, unknown, twice, many, cycle, is_known, claim_of, same_claim, is_claimed_by, is_claimed_again, may_be_again, kind_of, same_kind, is_of, most_of, count_of, many_at, line_trouble, first_trouble, said_in, edges_at, without_cycle, without_trouble, build}
-use Rattle.policy_book.specs.FirstFaults.{ClaimsAgain, before_place, HasFault, NoFaultBelow, IsFirstFault, NoFault, IsEdgeCycle, FaultsAreFirst}
+use Rattle.policy_words.specs.Book.{BookTrouble, unknown, twice, many, cycle, is_known, claim_of, same_claim, is_claimed_by, is_claimed_again, may_be_again, kind_of, same_kind, is_of, most_of, count_of, many_at, line_trouble, first_trouble, said_in, without_cycle, without_trouble, build}
+use Rattle.policy_book.specs.FirstFaults.{ClaimsAgain, before_place, HasFault, IsFirstFault, NoFault, IsEdgeCycle, FaultsAreFirst}
 use Rattle.policy_book.proofs.Lists.{some_same}
 use Rattle.policy_book.proofs.Tallying.{same_itself}
 
 -- claims at earlier places
 
 -- the claim is that of a line at a place below k
-record ClaimedBelow (ss : List (Numbered Saying)) (k : ℕ) (c : Claim) : Type 0 where
+record ClaimedBelow (ss : List (Numbered SaidView)) (k : ℕ) (c : Claim) : Type 0 where
   place : ℕ
   earlier : place < k
-  line : Numbered Saying
+  line : Numbered SaidView
   stands : item_at ss place ≡ Some line
   by_line : is_claimed_by c line.it ≡ true
 
-claimed_further : (s : Numbered Saying) (ss : List (Numbered Saying)) (k : ℕ) (c : Claim) → ClaimedBelow ss k c → ClaimedBelow (s ∷ ss) (suc k) c
+claimed_further : (s : Numbered SaidView) (ss : List (Numbered SaidView)) (k : ℕ) (c : Claim) → ClaimedBelow ss k c → ClaimedBelow (s ∷ ss) (suc k) c
 claimed_further s ss k c b = record { place = suc b.place; earlier = omega (arith, b.earlier); line = b.line; stands = b.stands; by_line = b.by_line }
 
-claimed_in : (c : Claim) (before : List Saying) (ss : List (Numbered Saying)) (k : ℕ) → list_any (is_claimed_by c) (before_place before ss k) ≡ true → (list_any (is_claimed_by c) before ≡ true) ⊎ ClaimedBelow ss k c
+claimed_in : (c : Claim) (before : List SaidView) (ss : List (Numbered SaidView)) (k : ℕ) → list_any (is_claimed_by c) (before_place before ss k) ≡ true → (list_any (is_claimed_by c) before ≡ true) ⊎ ClaimedBelow ss k c
 claimed_in c before ss zero h = inl h
 claimed_in c before [] (suc k) h = inl h
 claimed_in c before (s ∷ ss) (suc k) h = by (claimed_in c (s.it ∷ before) ss k h)
@@ -41,12 +41,12 @@ claimed_in c before (s ∷ ss) (suc k) h = by (claimed_in c (s.it ∷ before) ss
         split (is_claimed_by c s.it) (λ e. inr (record { place = 0; earlier = omega arith; line = s; stands = refl; by_line = e }))
         (λ e. inl (sym (ap (λ b. b || list_any (is_claimed_by c) before) e) ∙ q))
 
-claimed_grows : (c : Claim) (before : List Saying) (ss : List (Numbered Saying)) (k : ℕ) → list_any (is_claimed_by c) before ≡ true → list_any (is_claimed_by c) (before_place before ss k) ≡ true
+claimed_grows : (c : Claim) (before : List SaidView) (ss : List (Numbered SaidView)) (k : ℕ) → list_any (is_claimed_by c) before ≡ true → list_any (is_claimed_by c) (before_place before ss k) ≡ true
 claimed_grows c before ss zero h = h
 claimed_grows c before [] (suc k) h = h
 claimed_grows c before (s ∷ ss) (suc k) h = claimed_grows c (s.it ∷ before) ss k (or_right (is_claimed_by c s.it) _ h)
 
-claimed_from : (c : Claim) (before : List Saying) (ss : List (Numbered Saying)) (k j : ℕ) (y : Numbered Saying) → j < k → item_at ss j ≡ Some y → is_claimed_by c y.it ≡ true → list_any (is_claimed_by c) (before_place before ss k) ≡ true
+claimed_from : (c : Claim) (before : List SaidView) (ss : List (Numbered SaidView)) (k j : ℕ) (y : Numbered SaidView) → j < k → item_at ss j ≡ Some y → is_claimed_by c y.it ≡ true → list_any (is_claimed_by c) (before_place before ss k) ≡ true
 claimed_from c before ss zero j y lt e h = absurd (omega arith)
 claimed_from c before [] (suc k) j y lt e h = cc
 claimed_from c before (s ∷ ss) (suc k) zero y lt e h =
@@ -57,7 +57,7 @@ claimed_from c before (s ∷ ss) (suc k) (suc j) y lt e h = claimed_from c (s.it
 abbrev claimed_by : Claim → Option Claim → Bool
 claimed_by c o = elim o [ None ↦ false | Some d ↦ same_claim c d ]
 
-again_is : (ss : List (Numbered Saying)) (k : ℕ) (x : Saying) → is_claimed_again (before_place [] ss k) x ≡ true → ClaimsAgain ss k x
+again_is : (ss : List (Numbered SaidView)) (k : ℕ) (x : SaidView) → is_claimed_again (before_place [] ss k) x ≡ true → ClaimsAgain ss k x
 again_is ss k x h = by (claim_of x) refl h
   where
     told : (c : Claim) → claim_of x ≡ Some c → (b : ClaimedBelow ss k c) → (o : Option Claim) → claim_of b.line.it ≡ o → claimed_by c o ≡ true → ClaimsAgain ss k x
@@ -72,7 +72,7 @@ again_is ss k x h = by (claim_of x) refl h
     by None e h = cc
     by (Some c) e h = below c e (claimed_in c [] ss k h)
 
-again_from : (ss : List (Numbered Saying)) (k : ℕ) (x : Saying) → ClaimsAgain ss k x → is_claimed_again (before_place [] ss k) x ≡ true
+again_from : (ss : List (Numbered SaidView)) (k : ℕ) (x : SaidView) → ClaimsAgain ss k x → is_claimed_again (before_place [] ss k) x ≡ true
 again_from ss k x a =
     ap (λ o. elim o [ None ↦ false | Some c ↦ list_any (is_claimed_by c) (before_place [] ss k) ]) a.this
     ∙ claimed_from a.claim [] ss k a.place a.line a.earlier a.stands (ap (claimed_by a.claim) a.of_line ∙ a.same)
@@ -128,11 +128,11 @@ shape_told n k a m of o count is (many x l) (p, q, r, s, le) =
     by false = refl
 shape_told n k a m of o count is (cycle es) h = absurd h
 
-is_of_kind : (x : Saying) (l : Kind) → kind_of x ≡ Some l → is_of l x ≡ true
+is_of_kind : (x : SaidView) (l : Kind) → kind_of x ≡ Some l → is_of l x ≡ true
 is_of_kind x l e = ap (λ o. elim o [ None ↦ false | Some j ↦ same_kind l j ]) e ∙ same_itself l
 
 module _ (ns : Names) where
-  module _ (ss : List (Numbered Saying)) (k : ℕ) (s : Numbered Saying) where
+  module _ (ss : List (Numbered SaidView)) (k : ℕ) (s : Numbered SaidView) where
     abbrev counts : Kind → ℕ
     counts l = count_of l (before_place [] ss k)
 
@@ -173,21 +173,21 @@ module _ (ns : Names) where
 
   -- all lines
 
-  abbrev NoneBelow : List Saying → List (Numbered Saying) → ℕ → Type 0
-  NoneBelow before ss k = (j : ℕ) (r : Numbered Saying) → j < k → item_at ss j ≡ Some r → line_trouble ns (before_place before ss j) r ≡ None
+  abbrev NoneBelow : List SaidView → List (Numbered SaidView) → ℕ → Type 0
+  NoneBelow before ss k = (j : ℕ) (r : Numbered SaidView) → j < k → item_at ss j ≡ Some r → line_trouble ns (before_place before ss j) r ≡ None
 
-  none_further : (before : List Saying) (s : Numbered Saying) (ss : List (Numbered Saying)) (k : ℕ) → line_trouble ns before s ≡ None → NoneBelow (s.it ∷ before) ss k → NoneBelow before (s ∷ ss) (suc k)
+  none_further : (before : List SaidView) (s : Numbered SaidView) (ss : List (Numbered SaidView)) (k : ℕ) → line_trouble ns before s ≡ None → NoneBelow (s.it ∷ before) ss k → NoneBelow before (s ∷ ss) (suc k)
   none_further before s ss k here more zero r lt e = subst (λ z. line_trouble ns before z ≡ None) (some_same s r e) here
   none_further before s ss k here more (suc j) r lt e = more j r (omega arith) e
 
-  record FirstAt (before : List Saying) (ss : List (Numbered Saying)) (t : BookTrouble) : Type 0 where
+  record FirstAt (before : List SaidView) (ss : List (Numbered SaidView)) (t : BookTrouble) : Type 0 where
     place : ℕ
-    line : Numbered Saying
+    line : Numbered SaidView
     stands : item_at ss place ≡ Some line
     has : line_trouble ns (before_place before ss place) line ≡ Some t
     least : NoneBelow before ss place
 
-  first_at : (before : List Saying) (ss : List (Numbered Saying)) (t : BookTrouble) → first_trouble ns before ss ≡ Some t → FirstAt before ss t
+  first_at : (before : List SaidView) (ss : List (Numbered SaidView)) (t : BookTrouble) → first_trouble ns before ss ≡ Some t → FirstAt before ss t
   first_at before [] t e = cc
   first_at before (s ∷ ss) t e = by (line_trouble ns before s) refl e (first_at (s.it ∷ before) ss t)
     where
@@ -198,7 +198,7 @@ module _ (ns : Names) where
           let f = on e in
           record { place = suc f.place; line = f.line; stands = f.stands; has = f.has; least = none_further before s ss f.place p f.least }
 
-  first_from : (before : List Saying) (ss : List (Numbered Saying)) (t : BookTrouble) (k : ℕ) (s : Numbered Saying) → item_at ss k ≡ Some s → line_trouble ns (before_place before ss k) s ≡ Some t → NoneBelow before ss k → first_trouble ns before ss ≡ Some t
+  first_from : (before : List SaidView) (ss : List (Numbered SaidView)) (t : BookTrouble) (k : ℕ) (s : Numbered SaidView) → item_at ss k ≡ Some s → line_trouble ns (before_place before ss k) s ≡ Some t → NoneBelow before ss k → first_trouble ns before ss ≡ Some t
   first_from before [] t k s e h none = cc
   first_from before (x ∷ ss) t zero s e h none =
       ap (λ o. elim o [ Some u ↦ Some u | None ↦ first_trouble ns (x.it ∷ before) ss ]) (ap (λ z. line_trouble ns before z) (some_same x s e) ∙ h)
@@ -206,7 +206,7 @@ module _ (ns : Names) where
       ap (λ o. elim o [ Some u ↦ Some u | None ↦ first_trouble ns (x.it ∷ before) ss ]) (none 0 x (omega arith) refl)
       ∙ first_from (x.it ∷ before) ss t k s e h (λ j r lt q. none (suc j) r (omega arith) q)
 
-  none_at : (before : List Saying) (ss : List (Numbered Saying)) → first_trouble ns before ss ≡ None → (k : ℕ) → NoneBelow before ss k
+  none_at : (before : List SaidView) (ss : List (Numbered SaidView)) → first_trouble ns before ss ≡ None → (k : ℕ) → NoneBelow before ss k
   none_at before [] e k j r lt q = cc
   none_at before (s ∷ ss) e zero j r lt q = absurd (omega arith)
   none_at before (s ∷ ss) e (suc k) j r lt q = by (line_trouble ns before s) refl e (none_at (s.it ∷ before) ss) j r lt q
@@ -216,13 +216,13 @@ module _ (ns : Names) where
       by (Some u) p e on = cc
       by None p e on = none_further before s ss k p (on e k)
 
-  none_from : (before : List Saying) (ss : List (Numbered Saying)) → ((k : ℕ) → NoneBelow before ss k) → first_trouble ns before ss ≡ None
+  none_from : (before : List SaidView) (ss : List (Numbered SaidView)) → ((k : ℕ) → NoneBelow before ss k) → first_trouble ns before ss ≡ None
   none_from before [] none = refl
   none_from before (s ∷ ss) none =
       ap (λ o. elim o [ Some u ↦ Some u | None ↦ first_trouble ns (s.it ∷ before) ss ]) (none 1 0 s (omega arith) refl)
       ∙ none_from (s.it ∷ before) ss (λ k j r lt q. none (suc k) (suc j) r (omega arith) q)
 
-  module _ (ss : List (Numbered Saying)) where
+  module _ (ss : List (Numbered SaidView)) where
     first_told : (t : BookTrouble) → first_trouble ns [] ss ≡ Some t → IsFirstFault ns ss t
     first_told t e =
         let f = first_at [] ss t e in
@@ -248,7 +248,7 @@ module _ (ns : Names) where
 err_same : (a b : BookTrouble) → ◌≡◌ {A = Result NamedPolicy BookTrouble} (Err a) (Err b) → a ≡ b
 err_same a b e = cc
 
-module _ (ss : List (Numbered Saying)) (t : BookTrouble) where
+module _ (ss : List (Numbered SaidView)) (t : BookTrouble) where
   abbrev names : Names
   names = names_of (said_in ss)
 

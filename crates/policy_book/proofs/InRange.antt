@@ -5,7 +5,7 @@ use Rattle.std.specs.Prelude.{position}
 use Rattle.std.proofs.lemmas.List.Quantifiers.{position-Some}
 use Rattle.std.proofs.lemmas.Bool.{lt-ltb, leb-true, le-leb, eqb-true, or_right}
 use Rattle.gt_base.specs.Bounds.{last_minute}
-use Rattle.gt_base.specs.Held.{Rule}
+use Rattle.gt_base.specs.Held.{TriggerView}
 use Rattle.gt_base.specs.Names.{is_name, place_of}
 use Rattle.gt_base.specs.declared.events.RoleId.{RoleId}
 use Rattle.gt_base.specs.declared.events.UserId.{UserId}
@@ -40,7 +40,7 @@ use Rattle.policy_words.specs.declared.parts.Item.TheVariants.{Event, Signal, Co
 use Rattle.policy_words.specs.declared.sayings.EdgeKind.{EdgeKind}
 use Rattle.policy_words.specs.declared.sayings.EdgeKind.TheVariants.{I, A, Ia}
 use Rattle.policy_words.specs.Wording.{fluent_names}
-use Rattle.policy_words.specs.Sayings.{Saying, period, limit, edge, opening, entry, trigger, is_saying, is_formed, is_cause, is_head, is_item, is_some_item, is_count, are_names}
+use Rattle.policy_words.specs.Sayings.{SaidView, period, limit, edge, opening, entry, trigger, is_saying, is_formed, is_cause, is_head, is_item, is_some_item, is_count, are_names}
 use Rattle.policy_words.specs.declared.claims.Claim.TheVariants as claims
 use Rattle.policy_words.specs.Naming.{Names, same_pair, role_of, user_of, perm_of, period_of, limit_of, fluent_of, event_of, cond_of, signal_of, head_of}
 use Rattle.policy_words.specs.Making.{inherits, activates, period_said, during_of, limit_said, edge_said, entry_said, opening_said, event_in, signal_in, cond_in, settled_in, rule_said}
@@ -144,11 +144,11 @@ module _ (ns : Names) (p : Policy) (sized : IsSized ns p) where
       let (e, i, s) = bound (event_of ns h.event) _ g q in
       subst (λ z. policies.is_head p z ≡ true) (some_same _ _ s) (and_true _ _ le (event_fluent h.event e i))
 
-  pub opening_there : (x : Saying) (g : Fluent) → opening_said ns x ≡ Some g → is_fluent p g ≡ true
+  pub opening_there : (x : SaidView) (g : Fluent) → opening_said ns x ≡ Some g → is_fluent p g ≡ true
   opening_there (opening f) g e = fluent_in f g e
   opening_there _ g e = cc
 
-  pub edge_there : (x : Saying) (g : HierEdge) → edge_said ns x ≡ Some g → is_edge p g ≡ true
+  pub edge_there : (x : SaidView) (g : HierEdge) → edge_said ns x ≡ Some g → is_edge p g ≡ true
   edge_there (edge kind strong s j) g e =
       let (a, i, t) = bound (role_of ns s) _ g e in
       let (b, k, u) = bound (role_of ns j) _ g t in
@@ -160,7 +160,7 @@ module _ (ns : Names) (p : Policy) (sized : IsSized ns p) where
       either Ia = refl
   edge_there _ g e = cc
 
-  pub entry_there : (x : Saying) → is_saying x ≡ true → (g : PeriodicEntry) → entry_said ns x ≡ Some g → is_entry p g ≡ true
+  pub entry_there : (x : SaidView) → is_saying x ≡ true → (g : PeriodicEntry) → entry_said ns x ≡ Some g → is_entry p g ≡ true
   entry_there (entry f n h) said g e =
       let (a, i, t) = bound (period_of ns n) _ g e in
       let (b, k, u) = bound (head_of ns h) _ g t in
@@ -168,7 +168,7 @@ module _ (ns : Names) (p : Policy) (sized : IsSized ns p) where
       subst (λ z. is_entry p z ≡ true) (some_same _ _ u) (and_true _ _ (period_in n a i) (head_there h b k (both_true (nat_le h.prio 99) _ parts.1).0))
   entry_there _ said g e = cc
 
-  pub limit_there : (x : Saying) → is_saying x ≡ true → (g : LimitRule) → limit_said ns x ≡ Some g → is_limit p g ≡ true
+  pub limit_there : (x : SaidView) → is_saying x ≡ true → (g : LimitRule) → limit_said ns x ≡ Some g → is_limit p g ≡ true
   limit_there (limit n prio c most during) said g e =
       let (a, i, t) = bound (cond_of ns c) _ g e in
       let (b, k, u) = bound (during_of ns during) _ g t in
@@ -188,7 +188,7 @@ module _ (ns : Names) (p : Policy) (sized : IsSized ns p) where
           subst (λ z. elim z [ None ↦ true | Some q ↦ nat_lt q.0 (length p.periods) ] ≡ true) (some_same _ _ t) (period_in n q i)
   limit_there _ said g e = cc
 
-pub period_there : (ns : Names) (x : Saying) → is_saying x ≡ true → (g : Period) → period_said ns x ≡ Some g → is_period g ≡ true
+pub period_there : (ns : Names) (x : SaidView) → is_saying x ≡ true → (g : Period) → period_said ns x ≡ Some g → is_period g ≡ true
 period_there ns (period n first last ex) said g e =
     let parts = both_true (is_name n && nat_le first last_minute && nat_le last last_minute) _ (formed (period n first last ex) said) in
     let ends = both_true (is_name n && nat_le first last_minute) _ parts.0 in
@@ -198,7 +198,7 @@ period_there ns _ said g e = cc
 
 -- edges of one pair clash
 
-pub edge_claims : (ns : Names) (x : Saying) (g : HierEdge) → edge_said ns x ≡ Some g
+pub edge_claims : (ns : Names) (x : SaidView) (g : HierEdge) → edge_said ns x ≡ Some g
     → (s : List ℕ) × (j : List ℕ) × (role_of ns s ≡ Some g.senior) × (role_of ns j ≡ Some g.junior) × (claim_of x ≡ Some (claims.Edge s j))
 edge_claims ns (edge kind strong s j) g e =
     let (a, i, t) = bound (role_of ns s) _ g e in
@@ -206,22 +206,22 @@ edge_claims ns (edge kind strong s j) g e =
     (s, j, i ∙ ap (λ z. Some z.senior) (some_same _ _ u), k ∙ ap (λ z. Some z.junior) (some_same _ _ u), refl)
 edge_claims ns _ g e = cc
 
-edge_once : (ns : Names) (x : Saying) (g : HierEdge) → edge_said ns x ≡ Some g → (may_be_again x ≡ false) × (is_of kinds.Edges x ≡ true)
+edge_once : (ns : Names) (x : SaidView) (g : HierEdge) → edge_said ns x ≡ Some g → (may_be_again x ≡ false) × (is_of kinds.Edges x ≡ true)
 edge_once ns (edge kind strong s j) g e = (refl, refl)
 edge_once ns _ g e = cc
 
-pub edge_counts : (ns : Names) (x : Saying) (g : HierEdge) → edge_said ns x ≡ Some g → is_of kinds.Edges x ≡ true
+pub edge_counts : (ns : Names) (x : SaidView) (g : HierEdge) → edge_said ns x ≡ Some g → is_of kinds.Edges x ≡ true
 edge_counts ns x g e = (edge_once ns x g e).1
 
-pub entry_counts : (ns : Names) (x : Saying) (g : PeriodicEntry) → entry_said ns x ≡ Some g → is_of kinds.Entries x ≡ true
+pub entry_counts : (ns : Names) (x : SaidView) (g : PeriodicEntry) → entry_said ns x ≡ Some g → is_of kinds.Entries x ≡ true
 entry_counts ns (entry f n h) g e = refl
 entry_counts ns _ g e = cc
 
-pub rule_counts : (ns : Names) (x : Saying) (g : Rule) → rule_said ns x ≡ Some g → is_of kinds.Triggers x ≡ true
+pub rule_counts : (ns : Names) (x : SaidView) (g : TriggerView) → rule_said ns x ≡ Some g → is_of kinds.Triggers x ≡ true
 rule_counts ns (trigger items h d) g e = refl
 rule_counts ns _ g e = cc
 
-pub edges_clash : (ns : Names) (x y : Saying) (g h : HierEdge) → edge_said ns x ≡ Some g → edge_said ns y ≡ Some h → joins_same g h ≡ true → clashes x y ≡ true
+pub edges_clash : (ns : Names) (x y : SaidView) (g h : HierEdge) → edge_said ns x ≡ Some g → edge_said ns y ≡ Some h → joins_same g h ≡ true → clashes x y ≡ true
 edges_clash ns x y g h p q e =
     let (s, j, i, k, c) = edge_claims ns x g p in
     let (t, l, m, o, d) = edge_claims ns y h q in
@@ -283,7 +283,7 @@ module _ (ns : Names) (p : Policy) (sized : IsSized ns p) where
   no_longer (Cond c ∷ is) = omega (arith, at_most_one (cond_of ns c) (conds_of is), no_longer is)
   no_longer (Settled c ∷ is) = omega (arith, at_most_one (cond_of ns c) (settled_of is), no_longer is)
 
-  pub rule_there : (x : Saying) → is_saying x ≡ true → (g : Rule) → rule_said ns x ≡ Some g → is_rule p g ≡ true
+  pub rule_there : (x : SaidView) → is_saying x ≡ true → (g : TriggerView) → rule_said ns x ≡ Some g → is_rule p g ≡ true
   rule_there (trigger items h d) said g e =
       let (b, k, u) = bound (head_of ns h) _ g e in
       let parts = both_true (is_some_item items && list_all is_item items && is_head h) _ (formed (trigger items h d) said) in
@@ -318,7 +318,7 @@ module _ (ns : Names) (p : Policy) (sized : IsSized ns p) where
   caused (Cond i ∷ is) known e = caused is (both_true (is_some (cond_of ns i)) _ known).1 e
   caused (Settled i ∷ is) known e = caused is (both_true (is_some (cond_of ns i)) _ known).1 e
 
-  pub rule_caused : (x : Saying) → (is_saying x && is_known ns x) ≡ true → (g : Rule) → rule_said ns x ≡ Some g → has_cause g ≡ true
+  pub rule_caused : (x : SaidView) → (is_saying x && is_known ns x) ≡ true → (g : TriggerView) → rule_said ns x ≡ Some g → has_cause g ≡ true
   rule_caused (trigger items h d) ok g e =
       let (b, k, u) = bound (head_of ns h) _ g e in
       let (said, known) = both_true (is_saying (trigger items h d)) _ ok in

@@ -7,7 +7,7 @@ use Rattle.gt_base.specs.declared.policies.HierEdge.{HierEdge}
 use Rattle.gt_base.specs.Happening.{Fluents}
 use Rattle.gtrbac_model.specs.EdgeCycles.{edge_cycle}
 use Rattle.policy_words.specs.Reading.{Numbered}
-use Rattle.policy_words.specs.Sayings.{Saying, is_saying}
+use Rattle.policy_words.specs.Sayings.{SaidView, is_saying}
 use Rattle.policy_words.specs.Naming.{Names, NamedPolicy}
 use Rattle.policy_words.specs.Making.{Draft as Making, names_of, fresh, drafted, are_second, named_policy, policy_of}
 use Rattle.policy_words.specs.Book.{BookTrouble, unknown, twice, many, cycle, edges_at, said_in, first_trouble, without_cycle, without_trouble, build}
@@ -20,7 +20,7 @@ use Rattle.policy_book.specs.Faults.{IsFault, IsLineFault, seniors}
 use Rattle.policy_book.specs.Drafts.{made_policy}
 use Rattle.policy_book.specs.Cycles.{IsCycleFault}
 
-module _ (ss : List (Numbered Saying)) where
+module _ (ss : List (Numbered SaidView)) where
   abbrev all_names : Names
   all_names = names_of (said_in ss)
 
@@ -72,7 +72,7 @@ module _ (ss : List (Numbered Saying)) where
   cycle_fault ns d (Twice n) named none whole is = absurd is
   cycle_fault ns d (TooMany n k) named none whole is = absurd is
 
-pub is_well_formed : BuildIsWellFormed → (ss : List (Numbered Saying)) (np : NamedPolicy) → AreParts ss → build ss ≡ Ok np → IsWellFormed np
+pub is_well_formed : BuildIsWellFormed → (ss : List (Numbered SaidView)) (np : NamedPolicy) → AreParts ss → build ss ≡ Ok np → IsWellFormed np
 is_well_formed law ss np parts is = law ss np (AllPass-from_list_all (λ s. is_saying s.it) ss parts.said) is
 
 -- the parts of a policy that are kept apart from the draft's

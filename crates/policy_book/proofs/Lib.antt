@@ -22,3 +22,5 @@ pub mod Carrying
 pub mod Closing
 pub mod Roles
 pub mod FirstFaults
+pub mod Mapped
+pub mod Back

@@ -1,15 +1,12 @@
 -- The names that lines declare, where no line clashes with a later one.
-use Rattle.std.proofs.Common.{◌≡◌, ℕ, Bool, true, false, ◌||◌, ◌&&◌, List, [], ◌∷◌, ◌++◌, Option, Some, None, refl, sym, ap, ◌∙◌, subst, append_assoc, nat_le}
+use Rattle.std.proofs.Common.{◌≡◌, ℕ, Bool, true, false, ◌||◌, ◌&&◌, List, [], ◌∷◌, ◌++◌, Option, Some, None, refl, ap, ◌∙◌, subst, nat_le}
 use Rattle.std.specs.Prelude.{bytes_eq}
 use Rattle.std.specs.List.{list_any, filter_map, cons_option}
-use Rattle.std.proofs.lemmas.Bool.{cond-false}
-use Rattle.std.proofs.lemmas.List.{append-nil}
 use Rattle.gt_base.specs.Names.{is_name}
 use Rattle.gtrbac_model.proofs.Elements.{both_true, and_true}
-use Rattle.gt_base.specs.Names.{with_name, lists_name}
 use Rattle.policy_words.specs.declared.sayings.Kind.{Kind}
 use Rattle.policy_words.specs.declared.sayings.Kind.TheVariants as kinds
-use Rattle.policy_words.specs.Sayings.{Saying, role, user, perm, period, limit, edge, is_saying, is_formed, is_bounded, are_names, is_count}
+use Rattle.policy_words.specs.Sayings.{SaidView, role, user, perm, period, limit, edge, is_saying, is_formed, is_bounded, are_names, is_count}
 use Rattle.policy_words.specs.Wording.{fluent_names}
 use Rattle.gt_base.specs.Bounds.{last_minute}
 use Rattle.policy_words.specs.declared.claims.Claim.{Claim}
@@ -34,34 +31,34 @@ later_repeats (n ∷ ns) = ap (λ b. list_any (bytes_eq n) ns || b) (later_repea
 
 -- what a line declares of a kind, if anything
 
-abbrev pub role_in : Saying → Option (List ℕ)
+abbrev pub role_in : SaidView → Option (List ℕ)
 role_in (role n) = Some n
 role_in _ = None
 
-abbrev pub user_in : Saying → Option (List ℕ)
+abbrev pub user_in : SaidView → Option (List ℕ)
 user_in (user n) = Some n
 user_in _ = None
 
-abbrev pub perm_in : Saying → Option (List ℕ)
+abbrev pub perm_in : SaidView → Option (List ℕ)
 perm_in (perm n) = Some n
 perm_in _ = None
 
-abbrev pub period_in : Saying → Option (List ℕ)
+abbrev pub period_in : SaidView → Option (List ℕ)
 period_in (period n f l e) = Some n
 period_in _ = None
 
-abbrev pub limit_in : Saying → Option (List ℕ)
+abbrev pub limit_in : SaidView → Option (List ℕ)
 limit_in (limit n p c most d) = Some n
 limit_in _ = None
 
 -- the ordered pair of an edge
-abbrev pub pair_in : Saying → Option NamePair
+abbrev pub pair_in : SaidView → Option NamePair
 pair_in (edge kind strong s j) = Some (s, j)
 pair_in _ = None
 
 -- what is kept is what is declared
-module _ {A : Type 0} (same : A → A → Bool) (kept : Names → List A) (decl : Saying → Option A) (step : (ns : Names) (x : Saying) → kept (naming ns x) ≡ with_each same (kept ns) (cons_option (decl x) [])) where
-  pub names_kept : (ns : Names) (xs : List Saying) → kept (names_in ns xs) ≡ with_each same (kept ns) (filter_map decl xs)
+module _ {A : Type 0} (same : A → A → Bool) (kept : Names → List A) (decl : SaidView → Option A) (step : (ns : Names) (x : SaidView) → kept (naming ns x) ≡ with_each same (kept ns) (cons_option (decl x) [])) where
+  pub names_kept : (ns : Names) (xs : List SaidView) → kept (names_in ns xs) ≡ with_each same (kept ns) (filter_map decl xs)
   names_kept ns [] = refl
   names_kept ns (x ∷ xs) = names_kept (naming ns x) xs ∙ ap (λ z. with_each same z (filter_map decl xs)) (step ns x) ∙ by (decl x)
     where
@@ -69,77 +66,77 @@ module _ {A : Type 0} (same : A → A → Bool) (kept : Names → List A) (decl 
       by None = refl
       by (Some n) = refl
 
-role_step : (ns : Names) (x : Saying) → (naming ns x).roles ≡ with_names ns.roles (cons_option (role_in x) [])
+role_step : (ns : Names) (x : SaidView) → (naming ns x).roles ≡ with_names ns.roles (cons_option (role_in x) [])
 role_step ns (role n) = refl
 role_step ns _ = refl
 
-user_step : (ns : Names) (x : Saying) → (naming ns x).users ≡ with_names ns.users (cons_option (user_in x) [])
+user_step : (ns : Names) (x : SaidView) → (naming ns x).users ≡ with_names ns.users (cons_option (user_in x) [])
 user_step ns (user n) = refl
 user_step ns _ = refl
 
-perm_step : (ns : Names) (x : Saying) → (naming ns x).perms ≡ with_names ns.perms (cons_option (perm_in x) [])
+perm_step : (ns : Names) (x : SaidView) → (naming ns x).perms ≡ with_names ns.perms (cons_option (perm_in x) [])
 perm_step ns (perm n) = refl
 perm_step ns _ = refl
 
-period_step : (ns : Names) (x : Saying) → (naming ns x).periods ≡ with_names ns.periods (cons_option (period_in x) [])
+period_step : (ns : Names) (x : SaidView) → (naming ns x).periods ≡ with_names ns.periods (cons_option (period_in x) [])
 period_step ns (period n f l e) = refl
 period_step ns _ = refl
 
-limit_step : (ns : Names) (x : Saying) → (naming ns x).limits ≡ with_names ns.limits (cons_option (limit_in x) [])
+limit_step : (ns : Names) (x : SaidView) → (naming ns x).limits ≡ with_names ns.limits (cons_option (limit_in x) [])
 limit_step ns (limit n p c most d) = refl
 limit_step ns _ = refl
 
-pair_step : (ns : Names) (x : Saying) → (naming ns x).edges ≡ with_each same_pair ns.edges (cons_option (pair_in x) [])
+pair_step : (ns : Names) (x : SaidView) → (naming ns x).edges ≡ with_each same_pair ns.edges (cons_option (pair_in x) [])
 pair_step ns (edge kind strong s j) = refl
 pair_step ns _ = refl
 
-pub roles_kept : (ns : Names) (xs : List Saying) → (names_in ns xs).roles ≡ with_names ns.roles (filter_map role_in xs)
+pub roles_kept : (ns : Names) (xs : List SaidView) → (names_in ns xs).roles ≡ with_names ns.roles (filter_map role_in xs)
 roles_kept = names_kept bytes_eq (λ ns. ns.roles) role_in role_step
 
-pub users_kept : (ns : Names) (xs : List Saying) → (names_in ns xs).users ≡ with_names ns.users (filter_map user_in xs)
+pub users_kept : (ns : Names) (xs : List SaidView) → (names_in ns xs).users ≡ with_names ns.users (filter_map user_in xs)
 users_kept = names_kept bytes_eq (λ ns. ns.users) user_in user_step
 
-pub perms_kept : (ns : Names) (xs : List Saying) → (names_in ns xs).perms ≡ with_names ns.perms (filter_map perm_in xs)
+pub perms_kept : (ns : Names) (xs : List SaidView) → (names_in ns xs).perms ≡ with_names ns.perms (filter_map perm_in xs)
 perms_kept = names_kept bytes_eq (λ ns. ns.perms) perm_in perm_step
 
-pub periods_kept : (ns : Names) (xs : List Saying) → (names_in ns xs).periods ≡ with_names ns.periods (filter_map period_in xs)
+pub periods_kept : (ns : Names) (xs : List SaidView) → (names_in ns xs).periods ≡ with_names ns.periods (filter_map period_in xs)
 periods_kept = names_kept bytes_eq (λ ns. ns.periods) period_in period_step
 
-pub limits_kept : (ns : Names) (xs : List Saying) → (names_in ns xs).limits ≡ with_names ns.limits (filter_map limit_in xs)
+pub limits_kept : (ns : Names) (xs : List SaidView) → (names_in ns xs).limits ≡ with_names ns.limits (filter_map limit_in xs)
 limits_kept = names_kept bytes_eq (λ ns. ns.limits) limit_in limit_step
 
-pub pairs_kept : (ns : Names) (xs : List Saying) → (names_in ns xs).edges ≡ with_each same_pair ns.edges (filter_map pair_in xs)
+pub pairs_kept : (ns : Names) (xs : List SaidView) → (names_in ns xs).edges ≡ with_each same_pair ns.edges (filter_map pair_in xs)
 pairs_kept = names_kept same_pair (λ ns. ns.edges) pair_in pair_step
 
-pub formed : (x : Saying) → is_saying x ≡ true → is_formed x ≡ true
+pub formed : (x : SaidView) → is_saying x ≡ true → is_formed x ≡ true
 formed x h = (both_true (is_formed x) _ (both_true (is_formed x && is_bounded x) _ h).0).0
 
 -- a line that declares a name claims it, is of its kind, and the name is one
-pub record Declares (claimed : List ℕ → Claim) (kind : Kind) (x : Saying) (n : List ℕ) : Type 0 where
+pub record Declares (claimed : List ℕ → Claim) (kind : Kind) (x : SaidView) (n : List ℕ) : Type 0 where
   pub claims : claim_of x ≡ Some (claimed n)
   pub once : may_be_again x ≡ false
   pub of_kind : is_of kind x ≡ true
   pub named : is_saying x ≡ true → is_name n ≡ true
 
-pub role_declares : (x : Saying) (n : List ℕ) → role_in x ≡ Some n → Declares (λ m. claims.Role m) kinds.Roles x n
+pub role_declares : (x : SaidView) (n : List ℕ) → role_in x ≡ Some n → Declares (λ m. claims.Role m) kinds.Roles x n
 role_declares (role m) n e =
     let s : m ≡ n = some_same m n e in
     record { claims = ap (λ z. Some (claims.Role z)) s; once = refl; of_kind = refl; named = λ h. subst (λ z. is_name z ≡ true) s (formed (role m) h) }
 role_declares _ n e = cc
 
-pub user_declares : (x : Saying) (n : List ℕ) → user_in x ≡ Some n → Declares (λ m. claims.User m) kinds.Users x n
+pub user_declares : (x : SaidView) (n : List ℕ) → user_in x ≡ Some n → Declares (λ m. claims.User m) kinds.Users x n
 user_declares (user m) n e =
     let s : m ≡ n = some_same m n e in
     record { claims = ap (λ z. Some (claims.User z)) s; once = refl; of_kind = refl; named = λ h. subst (λ z. is_name z ≡ true) s (formed (user m) h) }
 user_declares _ n e = cc
 
-pub perm_declares : (x : Saying) (n : List ℕ) → perm_in x ≡ Some n → Declares (λ m. claims.Perm m) kinds.Perms x n
+pub perm_declares : (x : SaidView) (n : List ℕ) → perm_in x ≡ Some n → Declares (λ m. claims.Perm m) kinds.Perms x n
 perm_declares (perm m) n e =
     let s : m ≡ n = some_same m n e in
     record { claims = ap (λ z. Some (claims.Perm z)) s; once = refl; of_kind = refl; named = λ h. subst (λ z. is_name z ≡ true) s (formed (perm m) h) }
 perm_declares _ n e = cc
 
-pub period_declares : (x : Saying) (n : List ℕ) → period_in x ≡ Some n → Declares (λ m. claims.Period m) kinds.Periods x n
+pub period_declares : (x : SaidView) (n : List ℕ) → period_in x ≡ Some n → Declares (λ m. claims.Period m) kinds.Periods x n
 period_declares (period m f l ex) n e = record { claims = ap (λ z. Some (claims.Period z)) s; once = refl; of_kind = refl; named = λ h. subst (λ z. is_name z ≡ true) s (named h) }
   where
     s : m ≡ n
@@ -151,7 +148,7 @@ period_declares (period m f l ex) n e = record { claims = ap (λ z. Some (claims
         (both_true (is_name m) _ (both_true (is_name m && nat_le f last_minute) _ ends.0).0).0
 period_declares _ n e = cc
 
-pub limit_declares : (x : Saying) (n : List ℕ) → limit_in x ≡ Some n → Declares (λ m. claims.Limit m) kinds.Limits x n
+pub limit_declares : (x : SaidView) (n : List ℕ) → limit_in x ≡ Some n → Declares (λ m. claims.Limit m) kinds.Limits x n
 limit_declares (limit m p c most d) n e = record { claims = ap (λ z. Some (claims.Limit z)) s; once = refl; of_kind = refl; named = λ h. subst (λ z. is_name z ≡ true) s (named h) }
   where
     s : m ≡ n
@@ -165,14 +162,14 @@ limit_declares (limit m p c most d) n e = record { claims = ap (λ z. Some (clai
 limit_declares _ n e = cc
 
 -- where no line clashes with a later one no name is declared twice
-module _ (claimed : List ℕ → Claim) (kind : Kind) (decl : Saying → Option (List ℕ)) (same : (m n : List ℕ) → same_claim (claimed m) (claimed n) ≡ bytes_eq m n) (declares : (x : Saying) (n : List ℕ) → decl x ≡ Some n → Declares claimed kind x n) where
-  joined : (x y : Saying) (a b : List ℕ) → decl x ≡ Some a → decl y ≡ Some b → bytes_eq a b ≡ true → clashes x y ≡ true
+module _ (claimed : List ℕ → Claim) (kind : Kind) (decl : SaidView → Option (List ℕ)) (same : (m n : List ℕ) → same_claim (claimed m) (claimed n) ≡ bytes_eq m n) (declares : (x : SaidView) (n : List ℕ) → decl x ≡ Some n → Declares claimed kind x n) where
+  joined : (x y : SaidView) (a b : List ℕ) → decl x ≡ Some a → decl y ≡ Some b → bytes_eq a b ≡ true → clashes x y ≡ true
   joined x y a b p q e =
       let d = declares x a p in
       let f = declares y b q in
       clash_by x y (claimed a) (claimed b) d.claims f.claims f.once (same b a ∙ bytes_turned a b e)
 
-  pub names_once : (xs : List Saying) → repeats clashes xs ≡ false → repeats bytes_eq (filter_map decl xs) ≡ false
+  pub names_once : (xs : List SaidView) → repeats clashes xs ≡ false → repeats bytes_eq (filter_map decl xs) ≡ false
   names_once xs h = none_repeats decl clashes bytes_eq joined xs h
 
 -- pairs of edges
@@ -182,12 +179,12 @@ pair_turned p q e =
     let parts = both_true (bytes_eq p.0 q.0) _ e in
     and_true _ _ (bytes_turned p.0 q.0 parts.0) (bytes_turned p.1 q.1 parts.1)
 
-pairs_clash : (x y : Saying) (p q : NamePair) → pair_in x ≡ Some p → pair_in y ≡ Some q → same_pair p q ≡ true → clashes x y ≡ true
+pairs_clash : (x y : SaidView) (p q : NamePair) → pair_in x ≡ Some p → pair_in y ≡ Some q → same_pair p q ≡ true → clashes x y ≡ true
 pairs_clash (edge k st s j) (edge l su t i) p q e f h =
     let same : same_pair (s, j) (t, i) ≡ true = (λ z. same_pair (some_same _ _ e z) (some_same _ _ f z)) ∙ h in
     clash_by (edge k st s j) (edge l su t i) (claims.Edge s j) (claims.Edge t i) refl refl refl (pair_turned (s, j) (t, i) same)
 pairs_clash (edge k st s j) _ p q e f h = cc
 pairs_clash _ y p q e f h = cc
 
-pub pairs_once : (xs : List Saying) → repeats clashes xs ≡ false → repeats same_pair (filter_map pair_in xs) ≡ false
+pub pairs_once : (xs : List SaidView) → repeats clashes xs ≡ false → repeats same_pair (filter_map pair_in xs) ≡ false
 pairs_once xs h = none_repeats pair_in clashes same_pair pairs_clash xs h

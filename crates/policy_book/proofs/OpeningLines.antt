@@ -23,7 +23,7 @@ use Rattle.policy_words.specs.declared.parts.NamedFluent.TheVariants as fluents
 use Rattle.policy_words.specs.declared.sayings.CapKind.TheVariants as caps
 use Rattle.policy_words.specs.declared.sayings.Kind.{Kind}
 use Rattle.policy_words.specs.declared.sayings.Kind.TheVariants as kinds
-use Rattle.policy_words.specs.Sayings.{Saying, cap, opening}
+use Rattle.policy_words.specs.Sayings.{SaidView, cap, opening}
 use Rattle.policy_words.specs.declared.claims.Claim.{Claim}
 use Rattle.policy_words.specs.declared.claims.Claim.TheVariants as claims
 use Rattle.policy_words.specs.Naming.{Names, same_pair, role_of, user_of, perm_of, limit_of}
@@ -100,7 +100,7 @@ edges_none p off n (suc k) fs =
 -- opening lines
 
 -- what a line opens is listed
-pub listed : (ns : Names) (before : List Saying) (y : Saying) (f : Fluent) → Elem before y → opening_said ns y ≡ Some f → lists same_fluent (opened ns before) f ≡ true
+pub listed : (ns : Names) (before : List SaidView) (y : SaidView) (f : Fluent) → Elem before y → opening_said ns y ≡ Some f → lists same_fluent (opened ns before) f ≡ true
 listed ns [] y f m e = elim m [ ]
 listed ns (x ∷ before) y f (inl same) e = subst (λ o. lists same_fluent (with_new same_fluent o (opened ns before)) f ≡ true) (sym (ap (opening_said ns) (sym same) ∙ e)) (by (lists same_fluent (opened ns before) f) refl)
   where
@@ -121,7 +121,7 @@ listed ns (x ∷ before) y f (inr m) e = by (opening_said ns x) (listed ns befor
         new true = h
         new false = longer (opened ns before) g h
 
-pub opened_all : (ns : Names) (p : Fluent → Bool) → ((x : Saying) (f : Fluent) → opening_said ns x ≡ Some f → p f ≡ true) → (before : List Saying) → list_all p (opened ns before) ≡ true
+pub opened_all : (ns : Names) (p : Fluent → Bool) → ((x : SaidView) (f : Fluent) → opening_said ns x ≡ Some f → p f ≡ true) → (before : List SaidView) → list_all p (opened ns before) ≡ true
 opened_all ns p on [] = refl
 opened_all ns p on (x ∷ before) = by (opening_said ns x) refl (opened_all ns p on before)
   where
@@ -138,12 +138,12 @@ opened_all ns p on (x ∷ before) = by (opening_said ns x) refl (opened_all ns p
         new false = last (opened ns before) f h (on x f e)
 
 -- lines that open a fluent of this sort count for the kind, and once
-pub record CountsFor (ns : Names) (k : Kind) (test : Fluent → Bool) (x : Saying) (f : Fluent) : Type 0 where
+pub record CountsFor (ns : Names) (k : Kind) (test : Fluent → Bool) (x : SaidView) (f : Fluent) : Type 0 where
   pub counts : is_of k x ≡ true
-  pub again : (before : List Saying) → is_claimed_again before x ≡ true → lists same_fluent (opened ns before) f ≡ true
+  pub again : (before : List SaidView) → is_claimed_again before x ≡ true → lists same_fluent (opened ns before) f ≡ true
 
-module _ (ns : Names) (k : Kind) (test : Fluent → Bool) (sorted : (x : Saying) (f : Fluent) → opening_said ns x ≡ Some f → test f ≡ true → CountsFor ns k test x f) where
-  pub opened_count : (before : List Saying) → length (filter test (opened ns before)) ≤ count_of k before
+module _ (ns : Names) (k : Kind) (test : Fluent → Bool) (sorted : (x : SaidView) (f : Fluent) → opening_said ns x ≡ Some f → test f ≡ true → CountsFor ns k test x f) where
+  pub opened_count : (before : List SaidView) → length (filter test (opened ns before)) ≤ count_of k before
   opened_count [] = omega arith
   opened_count (x ∷ before) = by (opening_said ns x) refl (opened_count before)
     where
@@ -162,7 +162,7 @@ module _ (ns : Names) (k : Kind) (test : Fluent → Bool) (sorted : (x : Saying)
 
 -- assignments and grants
 
-assigned_by : (u r : List ℕ) (y : Saying) → is_claimed_by (claims.Assigned u r) y ≡ true → y ≡ opening (fluents.Assigned u r)
+assigned_by : (u r : List ℕ) (y : SaidView) → is_claimed_by (claims.Assigned u r) y ≡ true → y ≡ opening (fluents.Assigned u r)
 assigned_by u r (opening (fluents.Assigned v s)) e =
     let parts = both_true (bytes_eq u v) _ e in λ i. opening (fluents.Assigned (sym (bytes_same u v parts.0) i) (sym (bytes_same r s parts.1) i))
 assigned_by u r (opening (fluents.Granted v s)) e = cc
@@ -174,7 +174,7 @@ assigned_by u r (cap caps.Length s n) e = cc
 assigned_by u r (cap caps.Day s n) e = cc
 assigned_by u r _ e = cc
 
-granted_by : (q r : List ℕ) (y : Saying) → is_claimed_by (claims.Granted q r) y ≡ true → y ≡ opening (fluents.Granted q r)
+granted_by : (q r : List ℕ) (y : SaidView) → is_claimed_by (claims.Granted q r) y ≡ true → y ≡ opening (fluents.Granted q r)
 granted_by q r (opening (fluents.Granted v s)) e =
     let parts = both_true (bytes_eq q v) _ e in λ i. opening (fluents.Granted (sym (bytes_same q v parts.0) i) (sym (bytes_same r s parts.1) i))
 granted_by q r (opening (fluents.Assigned v s)) e = cc
@@ -186,8 +186,8 @@ granted_by q r (cap caps.Length s n) e = cc
 granted_by q r (cap caps.Day s n) e = cc
 granted_by q r _ e = cc
 
-listed_by : (ns : Names) (c : Claim) (x : Saying) (f : Fluent) → opening_said ns x ≡ Some f → ((y : Saying) → is_claimed_by c y ≡ true → y ≡ x)
-    → (before : List Saying) → list_any (is_claimed_by c) before ≡ true → lists same_fluent (opened ns before) f ≡ true
+listed_by : (ns : Names) (c : Claim) (x : SaidView) (f : Fluent) → opening_said ns x ≡ Some f → ((y : SaidView) → is_claimed_by c y ≡ true → y ≡ x)
+    → (before : List SaidView) → list_any (is_claimed_by c) before ≡ true → lists same_fluent (opened ns before) f ≡ true
 listed_by ns c x f e is before again =
     let (y, m, q) = any_elim (is_claimed_by c) before again in
     listed ns before y f m (ap (opening_said ns) (is y q) ∙ e)
@@ -202,7 +202,7 @@ edge_opened ns a b f e =
     let (k, _, r) = bound (position (same_pair (a, b)) ns.edges) _ f q in
     (k, r)
 
-pub assigned_counts : (ns : Names) (x : Saying) (f : Fluent) → opening_said ns x ≡ Some f → is_assignment f ≡ true → CountsFor ns kinds.Assigned is_assignment x f
+pub assigned_counts : (ns : Names) (x : SaidView) (f : Fluent) → opening_said ns x ≡ Some f → is_assignment f ≡ true → CountsFor ns kinds.Assigned is_assignment x f
 assigned_counts ns (opening (fluents.Assigned u r)) f e t =
     record { counts = refl; again = listed_by ns (claims.Assigned u r) (opening (fluents.Assigned u r)) f e (assigned_by u r) }
 assigned_counts ns (opening (fluents.Enabled r)) f e t = let (q, _, s) = bound (role_of ns r) _ f e in absurd (not_of is_assignment f (base.Enabled q) refl s t)
@@ -212,7 +212,7 @@ assigned_counts ns (opening (fluents.Limit l)) f e t = let (q, _, s) = bound (li
 assigned_counts ns (opening (fluents.Edge a b)) f e t = let (k, s) = edge_opened ns a b f e in absurd (not_of is_assignment f (base.Edge k) refl s t)
 assigned_counts ns _ f e t = cc
 
-pub granted_counts : (ns : Names) (x : Saying) (f : Fluent) → opening_said ns x ≡ Some f → is_grant f ≡ true → CountsFor ns kinds.Granted is_grant x f
+pub granted_counts : (ns : Names) (x : SaidView) (f : Fluent) → opening_said ns x ≡ Some f → is_grant f ≡ true → CountsFor ns kinds.Granted is_grant x f
 granted_counts ns (opening (fluents.Granted q r)) f e t =
     record { counts = refl; again = listed_by ns (claims.Granted q r) (opening (fluents.Granted q r)) f e (granted_by q r) }
 granted_counts ns (opening (fluents.Enabled r)) f e t = let (q, _, s) = bound (role_of ns r) _ f e in absurd (not_of is_grant f (base.Enabled q) refl s t)

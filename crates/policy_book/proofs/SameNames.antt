@@ -9,7 +9,6 @@ use Rattle.std.proofs.lemmas.Bool.{false≢true}
 use Rattle.std.proofs.lemmas.Bool.Decides.{Decides-eqb}
 use Rattle.std.proofs.lemmas.List.{take_at}
 use Rattle.std.proofs.lemmas.Slice.Eq.{slice_eq-Decides}
-use Rattle.policy_words.specs.Naming.{NamePair, same_pair}
 use Rattle.gt_base.specs.contracts.names.NamePartialEq.TheImpl.{eq-value}
 
 -- what the derived `==` computes
@@ -40,13 +39,6 @@ itself a b e =
 
 pub same_names : (a b : List ℕ) → name_eq a b ≡ bytes_eq a b
 same_names a b = both_ways _ _ (λ h. (bytes_decide a b).1 (one_name a b h)) (λ h. itself a b ((bytes_decide a b).0 h))
-
--- what the `==` of two pairs computes
-abbrev pub pair_eq : NamePair → NamePair → Bool
-pair_eq p q = name_eq p.0 q.0 && name_eq p.1 q.1
-
-pub same_pairs : (p q : NamePair) → pair_eq p q ≡ same_pair p q
-same_pairs p q = λ i. same_names p.0 q.0 i && same_names p.1 q.1 i
 
 pub any_same : {A : Type 0} (p q : A → Bool) → ((x : A) → p x ≡ q x) → (xs : List A) → list_any p xs ≡ list_any q xs
 any_same p q same [] = refl

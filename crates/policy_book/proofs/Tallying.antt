@@ -7,7 +7,7 @@ use Rattle.gtrbac_model.specs.Same.{lists}
 use Rattle.policy_book.proofs.SameNames.{one_name, same_names}
 use Rattle.policy_words.specs.declared.sayings.Kind.{Kind}
 use Rattle.policy_words.specs.declared.sayings.Kind.TheVariants as kinds
-use Rattle.policy_words.specs.Sayings.{Saying}
+use Rattle.policy_words.specs.Sayings.{SaidView}
 use Rattle.policy_words.specs.Reading.{Numbered}
 use Rattle.policy_words.specs.declared.claims.Claim.{Claim}
 use Rattle.policy_words.specs.declared.claims.Claim.TheVariants as claims
@@ -44,7 +44,7 @@ one_claim (claims.Granted s j) (claims.Granted s' j') h =
 one_claim _ _ h = cc
 
 -- the claims are those of the lines before, and the counts count them
-record Tells (t : Tallied) (before : List Saying) : Type 0 where
+record Tells (t : Tallied) (before : List SaidView) : Type 0 where
   claims : (c : Claim) → lists same_claim t.claims c ≡ list_any (is_claimed_by c) before
   counts : (k : Kind) → count_in t.counts k ≡ count_of k before
 
@@ -54,7 +54,7 @@ claimed_by c o = elim o [ None ↦ false | Some d ↦ same_claim c d ]
 abbrev claimed_in : List Claim → Option Claim → Bool
 claimed_in cs o = elim o [ None ↦ false | Some d ↦ lists same_claim cs d ]
 
-claimed_same : (t : Tallied) (before : List Saying) → Tells t before → (s : Saying) → is_claimed t s ≡ is_claimed_again before s
+claimed_same : (t : Tallied) (before : List SaidView) → Tells t before → (s : SaidView) → is_claimed t s ≡ is_claimed_again before s
 claimed_same t before tells s = go (claim_of s)
   where
     go : (o : Option Claim) → claimed_in t.claims o ≡ elim o [ None ↦ false | Some c ↦ list_any (is_claimed_by c) before ]
@@ -126,7 +126,7 @@ counts_step t claims (Some l) false k = more_counted t.counts l k ∙ some (same
     some false = refl
 
 -- one line more
-one_line : (t : Tallied) (before : List Saying) → Tells t before → (s : Saying) → Tells (tallied t s) (s ∷ before)
+one_line : (t : Tallied) (before : List SaidView) → Tells t before → (s : SaidView) → Tells (tallied t s) (s ∷ before)
 one_line t before tells s =
     record {
       claims = λ c. claims_of c ∙ ap (λ b. claimed_by c (claim_of s) || b) (tells.claims c);
@@ -147,7 +147,7 @@ one_line t before tells s =
 
 -- faults
 
-full_same : (t : Tallied) (before : List Saying) → Tells t before → (n : ℕ) (s : Saying) → option_map (told_at n) (full_kind t s (kind_of s)) ≡ many_at n (many_of before s)
+full_same : (t : Tallied) (before : List SaidView) → Tells t before → (n : ℕ) (s : SaidView) → option_map (told_at n) (full_kind t s (kind_of s)) ≡ many_at n (many_of before s)
 full_same t before tells n s = go (kind_of s) refl
   where
     one_way : (k : Kind) (x y : Bool) → x ≡ y → option_map (told_at n) (cond x (Some (TooMany k)) None) ≡ many_at n (cond y (Some k) None)
@@ -165,7 +165,7 @@ full_same t before tells n s = go (kind_of s) refl
         ∙ ap (λ m. not (is_claimed_again before s) && nat_le (most_of k) m) (tells.counts k)
         ∙ ap (λ b. (b && not (is_claimed_again before s)) && nat_le (most_of k) (count_of k before)) (sym (ap (kind_is k) e ∙ same_itself k)))
 
-trouble_same : (ns : Names) (t : Tallied) (before : List Saying) → Tells t before → (s : Numbered Saying) → option_map (told_at s.line) (trouble_in ns t s.it) ≡ line_trouble ns before s
+trouble_same : (ns : Names) (t : Tallied) (before : List SaidView) → Tells t before → (s : Numbered SaidView) → option_map (told_at s.line) (trouble_in ns t s.it) ≡ line_trouble ns before s
 trouble_same ns t before tells s =
     go (is_known ns s.it) (not (may_be_again s.it) && is_claimed t s.it) (full_kind t s.it (kind_of s.it)) _ (full_same t before tells s.line s.it)
     ∙ ap (λ b. elim (is_known ns s.it) [
@@ -187,7 +187,7 @@ one_by_one n (Some f) (Some g) a b e q = e
 one_by_one n None (Some g) a b e q = cc
 one_by_one n (Some f) None a b e q = cc
 
-told_after : (ns : Names) (t : Tallied) (before : List Saying) → Tells t before → (ss : List (Numbered Saying)) → first_told ns t ss ≡ first_trouble ns before ss
+told_after : (ns : Names) (t : Tallied) (before : List SaidView) → Tells t before → (ss : List (Numbered SaidView)) → first_told ns t ss ≡ first_trouble ns before ss
 told_after ns t before tells [] = refl
 told_after ns t before tells (s ∷ ss) =
     one_by_one s.line (trouble_in ns t s.it) (line_trouble ns before s) _ _ (trouble_same ns t before tells s)
@@ -205,5 +205,5 @@ none_counted kinds.Triggers = refl
 none_counted kinds.Assigned = refl
 none_counted kinds.Granted = refl
 
-pub told_first : (ns : Names) (ss : List (Numbered Saying)) → first_told ns nothing_told ss ≡ first_trouble ns [] ss
+pub told_first : (ns : Names) (ss : List (Numbered SaidView)) → first_told ns nothing_told ss ≡ first_trouble ns [] ss
 told_first ns ss = told_after ns nothing_told [] (record { claims = λ c. refl; counts = none_counted }) ss

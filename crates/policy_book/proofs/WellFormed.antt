@@ -1,5 +1,5 @@
 -- What lines in range without a fault make is well formed.
-use Rattle.std.proofs.Common.{◌≡◌, ℕ, ◌≤◌, ◌<◌, Bool, true, false, not, ◌||◌, ◌&&◌, List, [], ◌∷◌, ◌++◌, map, length, filter, Option, Some, None, Result, Ok, is_some, refl, sym, ap, ◌∙◌, subst, arith, nat_le}
+use Rattle.std.proofs.Common.{◌≡◌, ℕ, ◌≤◌, Bool, true, false, not, ◌||◌, ◌&&◌, List, [], ◌∷◌, ◌++◌, map, length, filter, Option, Some, None, Result, Ok, is_some, refl, sym, ap, ◌∙◌, subst, arith, nat_le}
 use Rattle.std.specs.Prelude.{bytes_eq, IsTrue, count_by, option_map, slice_get, unwrap_or}
 use Rattle.std.proofs.lemmas.List.Folds.{list_all-append}
 use Rattle.gt_base.specs.declared.events.Fluent.TheVariants as base
@@ -26,13 +26,13 @@ use Rattle.gtrbac_model.specs.EdgeCycles.{edge_cycle}
 use Rattle.policy_book.proofs.Acyclic.{none_is_acyclic}
 use Rattle.policy_words.specs.declared.sayings.Kind.{Kind}
 use Rattle.policy_words.specs.declared.sayings.Kind.TheVariants as kinds
-use Rattle.policy_words.specs.Sayings.{Saying, is_saying, limit, period, edge}
+use Rattle.policy_words.specs.Sayings.{SaidView, is_saying, limit, period, edge}
 use Rattle.policy_words.specs.Reading.{Numbered}
 use Rattle.policy_words.specs.Wording.{◌>>=◌}
 use Rattle.policy_words.specs.declared.claims.Claim.{Claim}
 use Rattle.policy_words.specs.declared.claims.Claim.TheVariants as claims
 use Rattle.policy_words.specs.Naming.{Names, NamedPolicy, NamePair, same_pair, cond_of, period_of, role_of}
-use Rattle.policy_words.specs.Making.{no_names, names_of, Draft, fresh, drafted, are_second, linked_at_first, edges_from, policy_of, named_policy, period_said, limit_said, edge_said, entry_said, rule_said, during_of}
+use Rattle.policy_words.specs.Making.{no_names, names_of, Draft, fresh, drafted, are_second, linked_at_first, policy_of, named_policy, period_said, limit_said, edge_said, entry_said, rule_said, during_of}
 use Rattle.policy_words.specs.Book.{BookTrouble, same_claim, is_known, is_known_period, is_of, most_of, count_of, said_in, first_trouble, without_cycle, without_trouble, build}
 use Rattle.policy_words.specs.Valid.{IsWellFormed, are_names, pair_of, repeats_later}
 use Rattle.policy_book.specs.Laws.{BuildIsWellFormed}
@@ -59,7 +59,7 @@ three false b c p q r = cc
 three true false c p q r = cc
 three true true false p q r = cc
 
-both_all : (p q : Saying → Bool) (xs : List Saying) → list_all p xs ≡ true → list_all q xs ≡ true → list_all (λ x. p x && q x) xs ≡ true
+both_all : (p q : SaidView → Bool) (xs : List SaidView) → list_all p xs ≡ true → list_all q xs ≡ true → list_all (λ x. p x && q x) xs ≡ true
 both_all p q [] h k = refl
 both_all p q (x ∷ xs) h k =
     let hs = both_true (p x) _ h in
@@ -67,7 +67,7 @@ both_all p q (x ∷ xs) h k =
     and_true _ _ (and_true _ _ hs.0 ks.0) (both_all p q xs hs.1 ks.1)
 
 -- a limit whose names are known is said
-limit_alike : (ns : Names) (x : Saying) → is_known ns x ≡ true → is_some (limit_said ns x) ≡ is_some (limit_in x)
+limit_alike : (ns : Names) (x : SaidView) → is_known ns x ≡ true → is_some (limit_said ns x) ≡ is_some (limit_in x)
 limit_alike ns (limit n p c most during) known = let parts = both_true (is_some (cond_of ns c)) _ known in by (cond_of ns c) (during_of ns during) parts.0 (within during parts.1)
   where
     found : {A B : Type 0} (o : Option A) (f : A → B) → is_some o ≡ true → is_some (o >>= λ a. Some (f a)) ≡ true
@@ -85,7 +85,7 @@ limit_alike ns (limit n p c most during) known = let parts = both_true (is_some 
     by (Some c) None e k = cc
 limit_alike ns _ known = refl
 
-period_alike : (ns : Names) (x : Saying) → is_some (period_said ns x) ≡ is_some (period_in x)
+period_alike : (ns : Names) (x : SaidView) → is_some (period_said ns x) ≡ is_some (period_in x)
 period_alike ns (period n f l e) = refl
 period_alike ns _ = refl
 
@@ -94,7 +94,7 @@ module _ (ns : Names) where
   name_back : (n : List ℕ) (k : ℕ) → place_of ns.roles n ≡ Some k → unwrap_or (slice_get ns.roles k) [] ≡ n
   name_back n k e = name_read ns.roles k ∙ sym (place_name ns.roles n k e)
 
-  pair_said : (x : Saying) → is_known ns x ≡ true → option_map (pair_of ns) (edge_said ns x) ≡ pair_in x
+  pair_said : (x : SaidView) → is_known ns x ≡ true → option_map (pair_of ns) (edge_said ns x) ≡ pair_in x
   pair_said (edge kind strong s j) known =
       let parts = both_true (is_some (role_of ns s)) _ known in
       go (place_of ns.roles s) (place_of ns.roles j) refl refl parts.0 parts.1
@@ -106,7 +106,7 @@ module _ (ns : Names) where
       go (Some a) None p q h k = absurd (clash (is_some (role_of ns j)) k (rw q refl))
   pair_said _ known = refl
 
-  pairs_said : (xs : List Saying) → list_all (is_known ns) xs ≡ true → map (pair_of ns) (filter_map (edge_said ns) xs) ≡ filter_map pair_in xs
+  pairs_said : (xs : List SaidView) → list_all (is_known ns) xs ≡ true → map (pair_of ns) (filter_map (edge_said ns) xs) ≡ filter_map pair_in xs
   pairs_said [] known = refl
   pairs_said (x ∷ xs) known =
       let parts = both_true (is_known ns x) _ known in
@@ -120,7 +120,7 @@ module _ (ns : Names) where
       go (Some g) None e more = cc
 
 -- lines in range without a fault, over the names that they declare
-module _ (xs : List Saying) (said : list_all is_saying xs ≡ true) (fine : AreFine (names_of xs) [] xs) where
+module _ (xs : List SaidView) (said : list_all is_saying xs ≡ true) (fine : AreFine (names_of xs) [] xs) where
   abbrev names : Names
   names = names_of xs
 
@@ -139,8 +139,8 @@ module _ (xs : List Saying) (said : list_all is_saying xs ≡ true) (fine : AreF
   few : (k : Kind) → is_plain k ≡ true → length (filter (is_of k) xs) ≤ most_of k
   few k p = few_lines k p names xs fine
 
-  module _ (claimed : List ℕ → Claim) (kind : Kind) (plain : is_plain kind ≡ true) (decl : Saying → Option (List ℕ))
-      (same : (m n : List ℕ) → same_claim (claimed m) (claimed n) ≡ bytes_eq m n) (declares : (x : Saying) (n : List ℕ) → decl x ≡ Some n → Declares claimed kind x n) where
+  module _ (claimed : List ℕ → Claim) (kind : Kind) (plain : is_plain kind ≡ true) (decl : SaidView → Option (List ℕ))
+      (same : (m n : List ℕ) → same_claim (claimed m) (claimed n) ≡ bytes_eq m n) (declares : (x : SaidView) (n : List ℕ) → decl x ≡ Some n → Declares claimed kind x n) where
     once : repeats bytes_eq (filter_map decl xs) ≡ false
     once = names_once claimed kind decl same declares xs apart
 
@@ -229,7 +229,7 @@ module _ (xs : List Saying) (said : list_all is_saying xs ≡ true) (fine : AreF
       and_true _ _ (le-leb _ _ (subst (λ n. n ≤ 1_000) (sym limit_count) (few_names 1_000 names.limits limit_names)))
       (ap (list_all (is_limit made)) limits_made ∙ all_kept (limit_said names) is_saying (is_limit made) (limit_there names made sized) xs said)
 
-  few_made : {A : Type 0} (k : Kind) → is_plain k ≡ true → (decl : Saying → Option A) → ((x : Saying) (g : A) → decl x ≡ Some g → is_of k x ≡ true) → nat_le (length (filter_map decl xs)) (most_of k) ≡ true
+  few_made : {A : Type 0} (k : Kind) → is_plain k ≡ true → (decl : SaidView → Option A) → ((x : SaidView) (g : A) → decl x ≡ Some g → is_of k x ≡ true) → nat_le (length (filter_map decl xs)) (most_of k) ≡ true
   few_made k plain decl counts =
       let within : length (filter_map decl xs) ≤ length (filter (is_of k) xs) = fewer_kept decl (is_of k) counts xs in
       let most : length (filter (is_of k) xs) ≤ most_of k = few k plain in
@@ -325,12 +325,12 @@ module _ (xs : List Saying) (said : list_all is_saying xs ≡ true) (fine : AreF
         policy = good_policy acyclic;
       }
 
-all_said : (ss : List (Numbered Saying)) → AllByRecursion (λ s. IsTrue (is_saying s.it)) ss → list_all is_saying (said_in ss) ≡ true
+all_said : (ss : List (Numbered SaidView)) → AllByRecursion (λ s. IsTrue (is_saying s.it)) ss → list_all is_saying (said_in ss) ≡ true
 all_said [] h = refl
 all_said (s ∷ ss) h = and_true _ _ h.0 (all_said ss h.1)
 
 -- what is built had no trouble
-pub was_built : (ss : List (Numbered Saying)) (np : NamedPolicy) → build ss ≡ Ok np
+pub was_built : (ss : List (Numbered SaidView)) (np : NamedPolicy) → build ss ≡ Ok np
     → (first_trouble (names_of (said_in ss)) [] ss ≡ None) × (edge_cycle (named_policy (said_in ss)).policy.edges ≡ None) × (named_policy (said_in ss) ≡ np)
 was_built ss np e = by (first_trouble (names_of (said_in ss)) [] ss) (edge_cycle (named_policy (said_in ss)).policy.edges) refl refl e
   where

@@ -1,6 +1,6 @@
 -- What a fault tells of the lines.
 use Rattle.std.specs.Prelude.{◌≡◌, ℕ, List, ◌++◌, map, Option, Some, Err}
-use Rattle.policy_words.specs.Sayings.{Saying}
+use Rattle.policy_words.specs.Sayings.{SaidView}
 use Rattle.policy_words.specs.Reading.{Numbered}
 use Rattle.gt_base.specs.declared.policies.HierEdge.{HierEdge}
 use Rattle.policy_words.specs.Naming.{Names, role_name}
@@ -15,7 +15,7 @@ abbrev pub seniors : Names → List HierEdge → List (List ℕ)
 seniors ns es = map (λ e. role_name ns e.senior) (es ++ again es)
 
 -- the fault is that of the lines; want of memory tells nothing of them
-abbrev pub IsFault : List (Numbered Saying) → BookFault → Type 0
+abbrev pub IsFault : List (Numbered SaidView) → BookFault → Type 0
 IsFault ss (Unknown n) = build ss ≡ Err (unknown n)
 IsFault ss (Twice n) = build ss ≡ Err (twice n)
 IsFault ss (TooMany n k) = build ss ≡ Err (many n k)

@@ -3,7 +3,7 @@ use Rattle.std.specs.Prelude.{ℕ, ◌+◌, Bool, true, false, ◌&&◌, not, co
 use Rattle.gtrbac_model.specs.Same.{lists}
 use Rattle.policy_words.specs.declared.sayings.Kind.{Kind}
 use Rattle.policy_words.specs.declared.sayings.Kind.TheVariants as kinds
-use Rattle.policy_words.specs.Sayings.{Saying}
+use Rattle.policy_words.specs.Sayings.{SaidView}
 use Rattle.policy_words.specs.Reading.{Numbered}
 use Rattle.policy_words.specs.declared.claims.Claim.{Claim}
 use Rattle.policy_words.specs.Naming.{Names}
@@ -48,18 +48,18 @@ one_more c kinds.Triggers = record c { triggers = c.triggers + 1 }
 one_more c kinds.Assigned = record c { assigned = c.assigned + 1 }
 one_more c kinds.Granted = record c { granted = c.granted + 1 }
 
-abbrev pub is_claimed : Tallied → Saying → Bool
+abbrev pub is_claimed : Tallied → SaidView → Bool
 is_claimed t s = elim (claim_of s) [ None ↦ false | Some c ↦ lists same_claim t.claims c ]
 
 abbrev pub is_full : Counts → Kind → Bool
 is_full c k = nat_le (most_of k) (count_in c k)
 
-abbrev pub full_kind : Tallied → Saying → Option Kind → Option Trouble
+abbrev pub full_kind : Tallied → SaidView → Option Kind → Option Trouble
 full_kind t s None = None
 full_kind t s (Some k) = cond (not (is_claimed t s) && is_full t.counts k) (Some (TooMany k)) None
 
 -- of one line: unknown, twice, too many
-abbrev pub trouble_in : Names → Tallied → Saying → Option Trouble
+abbrev pub trouble_in : Names → Tallied → SaidView → Option Trouble
 trouble_in ns t s =
     elim (is_known ns s) [
       | false ↦ Some Unknown
@@ -71,7 +71,7 @@ with_count None c = c
 with_count (Some k) c = one_more c k
 
 -- with one line more
-abbrev pub tallied : Tallied → Saying → Tallied
+abbrev pub tallied : Tallied → SaidView → Tallied
 tallied t s = cond (is_claimed t s) t (record { claims = with_new same_claim (claim_of s) t.claims; counts = with_count (kind_of s) t.counts })
 
 abbrev pub told_at : ℕ → Trouble → BookTrouble
@@ -80,7 +80,7 @@ told_at n Twice = twice n
 told_at n (TooMany k) = many n k
 
 -- of all lines, after those of the tally
-abbrev pub first_told : Names → Tallied → List (Numbered Saying) → Option BookTrouble
+abbrev pub first_told : Names → Tallied → List (Numbered SaidView) → Option BookTrouble
 first_told ns t [] = None
 first_told ns t (s ∷ ss) = elim (trouble_in ns t s.it) [ Some f ↦ Some (told_at s.line f) | None ↦ first_told ns (tallied t s.it) ss ]
 

@@ -1,4 +1,4 @@
-//! Policies.
+//! The policy: built from its lines, or their first fault, and what it answers.
 ghost use Rattle.std.specs.Prelude.{◌≡◌, ◌<◌, ◌≤◌, length, position, slice_get, Some, Ok, IfOk, IfErr};
 ghost use Rattle.policy_words.specs.Naming.{role_of, user_of, perm_of, period_of, limit_of, event_of, cond_of, head_of};
 ghost use Rattle.policy_words.specs.Valid.{IsWellFormed};

@@ -1,4 +1,4 @@
-//! Policies in the making.
+//! What the lines of a policy make, one after the other, before it is whole.
 ghost use Rattle.std.specs.Prelude.{◌≡◌, ◌<◌, [], length, replicate, OnOk, IfOk, IsTrue};
 ghost use Rattle.gtrbac_model.specs.Same.{same_user, same_fluent};
 ghost use Rattle.policy_words.specs.Sayings.{is_saying};

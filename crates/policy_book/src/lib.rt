@@ -10,9 +10,11 @@ mod drafts;
 mod faults;
 mod finding;
 mod finishing;
+mod keys;
 mod known;
 mod laws;
 mod lines;
+mod named;
 mod names;
 mod rules;
 mod tables;
@@ -25,6 +27,7 @@ pub use faults::BookFault;
 pub use finding::cycle_of;
 pub use laws::{build_is_well_formed, faults_are_first};
 pub use lines::{Part, Parts};
+pub use named::{named_cond, named_event, named_fluent, named_head, named_signal};
 pub use policy_words::{
     CapKind, EdgeKind, Item, Kind, NamedCond, NamedEvent, NamedFluent, NamedHead, NamedSignal, Said,
 };

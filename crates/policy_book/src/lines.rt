@@ -18,10 +18,10 @@ pub struct Part {
 
 impl Model for Part {
     ghost use Rattle.policy_words.specs.Reading.{Numbered};
-    ghost use Rattle.policy_words.specs.Sayings.{Saying};
+    ghost use Rattle.policy_words.specs.Sayings.{SaidView};
     ghost use Rattle.policy_book.specs.Said.{numbered_code};
 
-    ghost Value = { Numbered Saying };
+    ghost Value = { Numbered SaidView };
 
     ghost coded = { numbered_code };
 
@@ -41,10 +41,10 @@ impl Model for Parts {
     ghost use Rattle.std.specs.Prelude.{List};
     ghost use Rattle.std.specs.Coded.{coded_list};
     ghost use Rattle.policy_words.specs.Reading.{Numbered};
-    ghost use Rattle.policy_words.specs.Sayings.{Saying};
+    ghost use Rattle.policy_words.specs.Sayings.{SaidView};
     ghost use Rattle.policy_book.specs.Said.{numbered_code, AreParts};
 
-    ghost Value = { List (Numbered Saying) };
+    ghost Value = { List (Numbered SaidView) };
 
     ghost coded = { coded_list numbered_code };
 

@@ -5,6 +5,7 @@ ghost use Rattle.gt_base.specs.Names.{place_of, lists_name, with_name};
 ghost use Rattle.policy_words.specs.Naming.{same_pair};
 ghost use Rattle.policy_words.specs.Making.{with_pair};
 
+use crate::keys::Key;
 use gt_base::{Memory, Name};
 use indexmap::IndexSet;
 use std::alloc::Global;
@@ -13,7 +14,7 @@ use std::marker::Model;
 /// Declared names, seen as their list. The number of a name is its place, from 0.
 #[derive(Drop)]
 pub struct Table {
-    names: IndexSet<Name>,
+    names: IndexSet<Key>,
 }
 
 impl Model for Table {
@@ -48,7 +49,7 @@ impl Table {
         ensures names { IfOk result (λ _. self.new ≡ with_name self.old name) }
         ensures err { OnErr result (self.new ≡ self.old) }
     {
-        let (_number, fresh) = self.names.insert_full(name)?;
+        let (_number, fresh) = self.names.insert_full(Key { name })?;
         Ok(fresh)
     }
 
@@ -65,14 +66,14 @@ impl Table {
     pub fn has(&self, name: &Name) -> bool
         ensures { result ≡ lists_name self.now name.now }
     {
-        self.names.get_index_of(name).is_some()
+        self.names.get_index_of(&Key { name: *name }).is_some()
     }
 
     /// The number of a name, none exactly where it is not declared. It takes no memory.
     pub fn number(&self, name: &Name) -> Option<usize>
         ensures { result ≡ place_of self.now name.now }
     {
-        self.names.get_index_of(name)
+        self.names.get_index_of(&Key { name: *name })
     }
 
     /// The name of a number. It takes no memory.
@@ -80,14 +81,14 @@ impl Table {
         requires { number < length self.now }
         ensures { slice_get self.now number ≡ Some result }
     {
-        *self.names.get_index(number).unwrap()
+        self.names.get_index(number).unwrap().name
     }
 }
 
 /// Ordered pairs of names, seen as their list. The number of a pair is its place, from 0.
 #[derive(Drop)]
 pub(crate) struct PairTable {
-    pairs: IndexSet<(Name, Name)>,
+    pairs: IndexSet<(Key, Key)>,
 }
 
 impl Model for PairTable {
@@ -117,7 +118,9 @@ impl PairTable {
         ensures pairs { IfOk result (λ _. self.new ≡ with_pair self.old (first, second)) }
         ensures err { OnErr result (self.new ≡ self.old) }
     {
-        let (_number, fresh) = self.pairs.insert_full((first, second))?;
+        let (_number, fresh) = self
+            .pairs
+            .insert_full((Key { name: first }, Key { name: second }))?;
         Ok(fresh)
     }
 
@@ -134,6 +137,7 @@ impl PairTable {
     pub(crate) fn number(&self, first: &Name, second: &Name) -> Option<usize>
         ensures { result ≡ position (same_pair (first.now, second.now)) self.now }
     {
-        self.pairs.get_index_of(&(*first, *second))
+        self.pairs
+            .get_index_of(&(Key { name: *first }, Key { name: *second }))
     }
 }

@@ -1,4 +1,4 @@
-//! Tests of one line.
+//! Tests of one line of a policy: read, written again, and refused by its fault.
 use gt_base::{Memory, Name, Prio};
 use periodic_expr::{ExprFault, ExprKind};
 use policy_lines::{

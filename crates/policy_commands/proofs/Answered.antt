@@ -14,7 +14,7 @@ use Rattle.policy_words.specs.declared.faults.TextKind.{TextKind}
 use Rattle.policy_words.specs.declared.versions.TextVersion.{TextVersion}
 use Rattle.policy_words.specs.declared.versions.TextVersion.TheVariants.{Open}
 use Rattle.policy_words.specs.Versions.{version_after}
-use Rattle.policy_words.specs.Sayings.{Saying, is_saying}
+use Rattle.policy_words.specs.Sayings.{SaidView, is_saying}
 use Rattle.policy_words.specs.Reading.{Numbered, read_said, and_then, read_lines}
 use Rattle.policy_lines.proofs.SaidBySpelling.{read_in_range}
 use Rattle.policy_words.specs.Naming.{NamedPolicy}
@@ -107,11 +107,11 @@ fmt_fault_means text = (λ h. fmt_to_fault text h (policy_read text) refl, fmt_f
 
 -- what is read is in range, so the policy is well formed
 
-abbrev InRange : List (Numbered Saying) → Type 0
+abbrev InRange : List (Numbered SaidView) → Type 0
 InRange [] = Unit {0}
 InRange (s ∷ ss) = IsTrue (is_saying s.it) × InRange ss
 
-with_first : (s : Numbered Saying) → is_saying s.it ≡ true → (r : Result (List (Numbered Saying)) (Numbered TextKind)) → IfOk r InRange → IfOk (and_then s r) InRange
+with_first : (s : Numbered SaidView) → is_saying s.it ≡ true → (r : Result (List (Numbered SaidView)) (Numbered TextKind)) → IfOk r InRange → IfOk (and_then s r) InRange
 with_first s h (Ok ss) all = (h, all)
 with_first s h (Err t) all = tt
 
@@ -119,7 +119,7 @@ in_range : (v : TextVersion) (n : ℕ) (lines : List (List ℕ)) → IfOk (read_
 in_range v n [] = tt
 in_range v n (l ∷ ls) = by (read_said v l) refl (in_range v (n + 1) ls) (λ s. in_range (version_after v s) (n + 1) ls)
   where
-    by : (r : Result (Option Saying) TextKind) → read_said v l ≡ r → IfOk (read_lines v (n + 1) ls) InRange → ((s : Saying) → IfOk (read_lines (version_after v s) (n + 1) ls) InRange)
+    by : (r : Result (Option SaidView) TextKind) → read_said v l ≡ r → IfOk (read_lines v (n + 1) ls) InRange → ((s : SaidView) → IfOk (read_lines (version_after v s) (n + 1) ls) InRange)
         → IfOk (elim r [
           | Err t ↦ Err (record { line = n; it = t })
           | Ok said ↦ elim said [ None ↦ read_lines v (n + 1) ls | Some s ↦ and_then (record { line = n; it = s }) (read_lines (version_after v s) (n + 1) ls) ]
@@ -129,12 +129,12 @@ in_range v n (l ∷ ls) = by (read_said v l) refl (in_range v (n + 1) ls) (λ s.
     by (Err t) e same later = tt
 
 module _ (text : List ℕ) (np : NamedPolicy) where
-  of_built : (ss : List (Numbered Saying)) → InRange ss → (r : Result NamedPolicy BookTrouble) → build ss ≡ r → built (names_of (said_in ss)) r ≡ Ok np → IsWellFormed np
+  of_built : (ss : List (Numbered SaidView)) → InRange ss → (r : Result NamedPolicy BookTrouble) → build ss ≡ r → built (names_of (said_in ss)) r ≡ Ok np → IsWellFormed np
   of_built ss all (Ok q) b e =
       build_is_well_formed ss np (All-from_recursion (λ s. IsTrue (is_saying s.it)) ss all) (b ∙ ap (λ (x : Result NamedPolicy PolicyFault). elim x [ Ok p ↦ Ok p | Err f ↦ Ok q ]) e)
   of_built ss all (Err t) b e = absurd (cc e)
 
-  of_lines : (r : Result (List (Numbered Saying)) (Numbered TextKind)) → IfOk r InRange → by_lines r ≡ Ok np → IsWellFormed np
+  of_lines : (r : Result (List (Numbered SaidView)) (Numbered TextKind)) → IfOk r InRange → by_lines r ≡ Ok np → IsWellFormed np
   of_lines (Ok ss) all e = of_built ss all (build ss) refl e
   of_lines (Err t) all e = absurd (cc e)
 

@@ -13,7 +13,7 @@ use Rattle.policy_words.specs.declared.faults.TextKind.{TextKind}
 use Rattle.policy_words.specs.declared.versions.TextVersion.{TextVersion}
 use Rattle.policy_words.specs.declared.versions.TextVersion.TheVariants.{Open}
 use Rattle.policy_words.specs.Versions.{version_after}
-use Rattle.policy_words.specs.Sayings.{Saying, version, role, user, perm, period, limit, edge, cap, admin, opening, entry, trigger, said_words, is_saying}
+use Rattle.policy_words.specs.Sayings.{SaidView, version, role, user, perm, period, limit, edge, cap, admin, opening, entry, trigger, said_words, is_saying}
 use Rattle.policy_words.specs.Spelling.{IsSaid, BeginsWith}
 use Rattle.policy_words.specs.Reading.{Numbered, read_said, and_then, read_lines}
 use Rattle.policy_words.specs.Naming.{Names, NamedPolicy}
@@ -41,11 +41,11 @@ use Rattle.policy_commands.proofs.Answered.{well_formed, fmt_is, fmt_keeps}
 
 -- the sayings of period lines are told by the names and the periods of the policy that they make
 
-zipped : List (List ℕ) → List Period → List Saying
+zipped : List (List ℕ) → List Period → List SaidView
 zipped (n ∷ ns) (p ∷ ps) = period n p.first p.last p.expr ∷ zipped ns ps
 zipped _ _ = []
 
-told_apart : (ns : Names) (xs : List Saying) → filter is_period_line xs ≡ zipped (filter_map period_in xs) (filter_map (period_said ns) xs)
+told_apart : (ns : Names) (xs : List SaidView) → filter is_period_line xs ≡ zipped (filter_map period_in xs) (filter_map (period_said ns) xs)
 unfolding zipped
 told_apart ns [] = refl
 told_apart ns (version n ∷ xs) = told_apart ns xs
@@ -62,45 +62,45 @@ told_apart ns (entry f p h ∷ xs) = told_apart ns xs
 told_apart ns (trigger items h d ∷ xs) = told_apart ns xs
 
 -- of lines without a fault
-made_of : (xs : List Saying) → AreFine (names_of xs) [] xs → filter is_period_line xs ≡ zipped (named_policy xs).names.periods (named_policy xs).policy.periods
+made_of : (xs : List SaidView) → AreFine (names_of xs) [] xs → filter is_period_line xs ≡ zipped (named_policy xs).names.periods (named_policy xs).policy.periods
 made_of xs fine =
     let once : repeats bytes_eq (filter_map period_in xs) ≡ false = names_once (λ m. claims.Period m) kinds.Periods period_in (λ _ _. refl) period_declares xs (all_apart (names_of xs) [] xs fine) in
     let names : (names_of xs).periods ≡ filter_map period_in xs = periods_kept no_names xs ∙ all_new [] (filter_map period_in xs) once in
     let periods : (named_policy xs).policy.periods ≡ filter_map (period_said (names_of xs)) xs = drafted_periods (names_of xs) (fresh (names_of xs)) xs in
     told_apart (names_of xs) xs ∙ (λ i. zipped (sym names i) (sym periods i))
 
-of_built : (ss : List (Numbered Saying)) (np : NamedPolicy) → build ss ≡ Ok np → filter is_period_line (said_in ss) ≡ zipped np.names.periods np.policy.periods
+of_built : (ss : List (Numbered SaidView)) (np : NamedPolicy) → build ss ≡ Ok np → filter is_period_line (said_in ss) ≡ zipped np.names.periods np.policy.periods
 of_built ss np e =
     let (clear, acyclic, same) = was_built ss np e in
     made_of (said_in ss) (fine_lines (names_of (said_in ss)) [] ss clear) ∙ ap (λ (p : NamedPolicy). zipped p.names.periods p.policy.periods) same
 
-said_numbered : (n : ℕ) (xs : List Saying) → said_in (numbered_from n xs) ≡ xs
+said_numbered : (n : ℕ) (xs : List SaidView) → said_in (numbered_from n xs) ≡ xs
 said_numbered n [] = refl
 said_numbered n (x ∷ xs) = ap (λ zs. x ∷ zs) (said_numbered (n + 1) xs)
 
 -- the period lines that are written are those that were read
-same_periods : (ss : List (Numbered Saying)) (np : NamedPolicy) → build ss ≡ Ok np → IsWellFormed np → filter is_period_line (canonical_lines np) ≡ filter is_period_line (said_in ss)
+same_periods : (ss : List (Numbered SaidView)) (np : NamedPolicy) → build ss ≡ Ok np → IsWellFormed np → filter is_period_line (canonical_lines np) ≡ filter is_period_line (said_in ss)
 same_periods ss np e well =
     sym (ap (filter is_period_line) (said_numbered 1 (canonical_lines np))) ∙ of_built (numbered_from 1 (canonical_lines np)) np (canonical_is_built np well) ∙ sym (of_built ss np e)
 
 -- lengths
 
-abbrev line_of : Saying → List ℕ
+abbrev line_of : SaidView → List ℕ
 line_of s = spaced (said_words s)
 
-abbrev IsShort : Saying → Type 0
+abbrev IsShort : SaidView → Type 0
 IsShort s = length (line_of s) ≤ 4_096
 
-abbrev Fits : Saying → Type 0
+abbrev Fits : SaidView → Type 0
 Fits s = is_period_line s ≡ true → IsShort s
 
-abbrev AllFit : List (Numbered Saying) → Type 0
+abbrev AllFit : List (Numbered SaidView) → Type 0
 AllFit ss = AllByRecursion (λ s. Fits s.it) ss
 
 abbrev IsBrief : List ℕ → Type 0
 IsBrief line = BeginsWith line (codes "period") → length line ≤ 4_040
 
-spelled_fits : (v : TextVersion) (line : List ℕ) (s : Saying) → IsBrief line → IsSaid v line (Ok (Some s)) → Fits s
+spelled_fits : (v : TextVersion) (line : List ℕ) (s : SaidView) → IsBrief line → IsSaid v line (Ok (Some s)) → Fits s
 spelled_fits v line (period n f l e) brief (loud, formed, spells, bodied, placed) p =
     let begins : BeginsWith line (codes "period") = first_word (words_of line) (codes "period") (n ∷ spells.0.first_word ∷ spells.0.last_word ∷ []) spells.0.words in
     omega (arith, brief begins, periods_short line n f l e spells)
@@ -120,7 +120,7 @@ spelled_fits v line (opening f) brief said p = cc
 spelled_fits v line (entry f q h) brief said p = cc
 spelled_fits v line (trigger items h d) brief said p = cc
 
-with_first : (s : Numbered Saying) → Fits s.it → (r : Result (List (Numbered Saying)) (Numbered TextKind)) → IfOk r AllFit → IfOk (and_then s r) AllFit
+with_first : (s : Numbered SaidView) → Fits s.it → (r : Result (List (Numbered SaidView)) (Numbered TextKind)) → IfOk r AllFit → IfOk (and_then s r) AllFit
 with_first s h (Ok ss) all = (h, all)
 with_first s h (Err t) all = tt
 
@@ -128,7 +128,7 @@ read_fits : (v : TextVersion) (n : ℕ) (lines : List (List ℕ)) → AllByRecur
 read_fits v n [] brief = tt
 read_fits v n (l ∷ ls) brief = by (read_said v l) refl (read_fits v (n + 1) ls brief.1) (λ s. read_fits (version_after v s) (n + 1) ls brief.1)
   where
-    by : (r : Result (Option Saying) TextKind) → read_said v l ≡ r → IfOk (read_lines v (n + 1) ls) AllFit → ((s : Saying) → IfOk (read_lines (version_after v s) (n + 1) ls) AllFit)
+    by : (r : Result (Option SaidView) TextKind) → read_said v l ≡ r → IfOk (read_lines v (n + 1) ls) AllFit → ((s : SaidView) → IfOk (read_lines (version_after v s) (n + 1) ls) AllFit)
         → IfOk (elim r [
           | Err t ↦ Err (record { line = n; it = t })
           | Ok said ↦ elim said [ None ↦ read_lines v (n + 1) ls | Some s ↦ and_then (record { line = n; it = s }) (read_lines (version_after v s) (n + 1) ls) ]
@@ -139,7 +139,7 @@ read_fits v n (l ∷ ls) brief = by (read_said v l) refl (read_fits v (n + 1) ls
     by (Err t) e same later = tt
 
 -- the period lines of these sayings
-periods_fit : (ss : List (Numbered Saying)) → AllFit ss → AllByRecursion IsShort (filter is_period_line (said_in ss))
+periods_fit : (ss : List (Numbered SaidView)) → AllFit ss → AllByRecursion IsShort (filter is_period_line (said_in ss))
 periods_fit [] h = tt
 periods_fit (s ∷ ss) h = by (is_period_line s.it) refl (periods_fit ss h.1)
   where
@@ -149,7 +149,7 @@ periods_fit (s ∷ ss) h = by (is_period_line s.it) refl (periods_fit ss h.1)
     by false e more = more
 
 -- all lines, where those of periods are short
-all_fit : (xs : List Saying) → AllByRecursion (λ s. IsTrue (is_saying s)) xs → AllByRecursion IsShort (filter is_period_line xs) → AllByRecursion (λ (l : List ℕ). length l ≤ 4_096) (map line_of xs)
+all_fit : (xs : List SaidView) → AllByRecursion (λ s. IsTrue (is_saying s)) xs → AllByRecursion IsShort (filter is_period_line xs) → AllByRecursion (λ (l : List ℕ). length l ≤ 4_096) (map line_of xs)
 all_fit [] said short = tt
 all_fit (x ∷ xs) said short = by (is_period_line x) refl short (all_fit xs said.1)
   where
@@ -159,26 +159,26 @@ all_fit (x ∷ xs) said short = by (is_period_line x) refl short (all_fit xs sai
     by true e short more = (short.0, more short.1)
     by false e short more = (omega (arith, others_short x said.0 e), more short)
 
-feedless : (xs : List Saying) → AllByRecursion (λ s. IsTrue (is_saying s)) xs → list_all has_no_feed (map line_of xs) ≡ true
+feedless : (xs : List SaidView) → AllByRecursion (λ s. IsTrue (is_saying s)) xs → list_all has_no_feed (map line_of xs) ≡ true
 feedless [] h = refl
 feedless (x ∷ xs) h = and_true (has_no_feed (line_of x)) _ (one_line x h.0) (feedless xs h.1)
 
 module _ (text : List ℕ) (np : NamedPolicy) (well : IsWellFormed np) where
-  of_sayings : (ss : List (Numbered Saying)) → AllFit ss → build ss ≡ Ok np → All (λ line. length line ≤ 4_096) (lines_of (canonical_text np))
+  of_sayings : (ss : List (Numbered SaidView)) → AllFit ss → build ss ≡ Ok np → All (λ line. length line ≤ 4_096) (lines_of (canonical_text np))
   of_sayings ss fit e =
-      let xs : List Saying = canonical_lines np in
+      let xs : List SaidView = canonical_lines np in
       let sayings : AllByRecursion (λ s. IsTrue (is_saying s)) xs = recursion_from_All (λ s. IsTrue (is_saying s)) xs (canonical_are_sayings np well) in
       let short = subst (AllByRecursion IsShort) (sym (same_periods ss np e well)) (periods_fit ss fit) in
       let lines = All-from_recursion (λ (l : List ℕ). length l ≤ 4_096) (map line_of xs) (all_fit xs sayings short) in
       subst (λ (ls : List (List ℕ)). All (λ line. length line ≤ 4_096) ls) (sym (cut_lines (map line_of xs) (feedless xs sayings))) lines
 
-  of_built_sayings : (ss : List (Numbered Saying)) → AllFit ss → (r : Result NamedPolicy BookTrouble) → build ss ≡ r → built (names_of (said_in ss)) r ≡ Ok np
+  of_built_sayings : (ss : List (Numbered SaidView)) → AllFit ss → (r : Result NamedPolicy BookTrouble) → build ss ≡ r → built (names_of (said_in ss)) r ≡ Ok np
       → All (λ line. length line ≤ 4_096) (lines_of (canonical_text np))
   of_built_sayings ss fit (Ok q) b e =
       of_sayings ss fit (b ∙ ap (λ (x : Result NamedPolicy PolicyFault). elim x [ Ok p ↦ Ok p | Err f ↦ Ok q ]) e)
   of_built_sayings ss fit (Err t) b e = absurd (cc e)
 
-  of_lines : (r : Result (List (Numbered Saying)) (Numbered TextKind)) → IfOk r AllFit → by_lines r ≡ Ok np → All (λ line. length line ≤ 4_096) (lines_of (canonical_text np))
+  of_lines : (r : Result (List (Numbered SaidView)) (Numbered TextKind)) → IfOk r AllFit → by_lines r ≡ Ok np → All (λ line. length line ≤ 4_096) (lines_of (canonical_text np))
   of_lines (Ok ss) fit e = of_built_sayings ss fit (build ss) refl e
   of_lines (Err t) fit e = absurd (cc e)
 

@@ -1,4 +1,4 @@
-//! How a command ends.
+//! What a command prints, with its exit status.
 use gt_base::List;
 
 /// What a command prints, and its exit status.

@@ -1,4 +1,4 @@
-//! What the answers mean.
+//! What the answers of `check` and `fmt` mean.
 ghost use Rattle.policy_commands.specs.Meanings.{SafeMeans, UnsafeMeans, FaultMeans, FmtFaultMeans, FmtKeeps, CanonicalLinesFit, FmtKeepsBrief};
 
 /// `check` says safe exactly of the texts of safe policies, each of which has exactly one history with one execution model

@@ -1,4 +1,4 @@
-//! The texts together.
+//! The made policy and script, by their size and seed.
 ghost use Rattle.std.specs.Prelude.{◌≡◌, ◌≤◌, ◌<◌, length, IfOk};
 ghost use Rattle.policy_gen.specs.Texts.{policy_text, script_text};
 

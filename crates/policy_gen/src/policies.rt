@@ -1,4 +1,4 @@
-//! The policy.
+//! The text of the made policy.
 ghost use Rattle.std.specs.Prelude.{◌≡◌, ◌≤◌, ◌<◌, ◌+◌, ◌-◌, ◌++◌, ◌∷◌, [], codes, OnOk};
 ghost use Rattle.gt_text.specs.Words.{as_text};
 ghost use Rattle.policy_gen.specs.Texts.{one, two, for_each, all_for_each, name_lines, edge_lines, holding_lines, chain, policy_lines};

@@ -1,4 +1,4 @@
-//! The script.
+//! The text of the made script, by the numbers that are drawn.
 ghost use Rattle.std.specs.Prelude.{◌≡◌, ◌≤◌, ◌<◌, ◌+◌, ◌*◌, ◌++◌, ◌∷◌, [], codes, flat_map, OnOk};
 ghost use Rattle.gt_base.specs.Bounds.{last_minute};
 ghost use Rattle.gt_text.specs.Words.{as_text};

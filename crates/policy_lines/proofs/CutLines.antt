@@ -12,7 +12,7 @@ use Rattle.gt_text.specs.Words.{spaced, as_text}
 use Rattle.gt_base.specs.Bounds.{last_minute}
 use Rattle.gt_base.specs.Names.{is_name}
 use Rattle.gtrbac_model.specs.Valid.{is_expr}
-use Rattle.policy_words.specs.Sayings.{Saying, version, role, user, perm, period, limit, edge, cap, admin, opening, entry, trigger, said_words, is_formed, is_bounded, is_bodied, is_saying}
+use Rattle.policy_words.specs.Sayings.{SaidView, version, role, user, perm, period, limit, edge, cap, admin, opening, entry, trigger, said_words, is_formed, is_bounded, is_bodied, is_saying}
 use Rattle.policy_lines.specs.Laws.{has_no_feed}
 use Rattle.policy_lines.specs.Plain.{is_plain}
 use Rattle.policy_lines.proofs.Truths.{both, not_true}
@@ -52,7 +52,7 @@ plain_feed (b ∷ bs) h =
     let above : 32 ≤ b = leb-true 32 b parts.0 in
     ap (λ t. t || list_any is_feed bs) (not_true (is_feed b) (λ t. absurd (omega (arith, above, (Decides-eqb b 10).0 t)))) ∙ plain_feed bs parts.1
 
-plain_said : (said : Saying) → is_formed said ≡ true → is_plain (spaced (said_words said)) ≡ true
+plain_said : (said : SaidView) → is_formed said ≡ true → is_plain (spaced (said_words said)) ≡ true
 plain_said (version n) h = plain_spaced (said_words (version n)) (words_plain (said_words (version n)) (solid_words (version n) h refl))
 plain_said (role n) h = plain_spaced (said_words (role n)) (words_plain (said_words (role n)) (solid_words (role n) h refl))
 plain_said (user n) h = plain_spaced (said_words (user n)) (words_plain (said_words (user n)) (solid_words (user n) h refl))
@@ -70,5 +70,5 @@ plain_said (opening f) h = plain_spaced (said_words (opening f)) (words_plain (s
 plain_said (entry f p hd) h = plain_spaced (said_words (entry f p hd)) (words_plain (said_words (entry f p hd)) (solid_words (entry f p hd) h refl))
 plain_said (trigger items hd d) h = plain_spaced (said_words (trigger items hd d)) (words_plain (said_words (trigger items hd d)) (solid_words (trigger items hd d) h refl))
 
-pub one_line : (said : Saying) → is_saying said ≡ true → has_no_feed (spaced (said_words said)) ≡ true
+pub one_line : (said : SaidView) → is_saying said ≡ true → has_no_feed (spaced (said_words said)) ≡ true
 one_line said h = ap not (plain_feed (spaced (said_words said)) (plain_said said (both (is_formed said) (is_bounded said) (both (is_formed said && is_bounded said) (is_bodied said) h).0).0))

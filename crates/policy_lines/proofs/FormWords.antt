@@ -20,7 +20,7 @@ use Rattle.policy_words.specs.declared.sayings.CapKind.TheVariants as caps
 use Rattle.policy_words.specs.declared.parts.Sort.{Sort}
 use Rattle.policy_words.specs.declared.parts.Sort.TheVariants.{Enabling, Assigning, Granting, Arming, Linking}
 use Rattle.policy_words.specs.Wording.{◌>>=◌, event_verb, cond_verb, at_end, sort_of, fluent_names, cond_words, head_words, cond_at, head_at, event_at, is_colon}
-use Rattle.policy_words.specs.Sayings.{Saying, version, limit, opening, entry, said_words, during_words, kind_word, strength_word, cap_word, is_formed, are_names, is_count, is_period_name, is_head}
+use Rattle.policy_words.specs.Sayings.{SaidView, version, limit, opening, entry, said_words, during_words, kind_word, strength_word, cap_word, is_formed, are_names, is_count, is_period_name, is_head}
 use Rattle.policy_words.specs.Reading.{one_name, most_at, during_in, limit_in, spelled_so, edge_in, cap_in, opening_by, entry_in, version_in}
 use Rattle.policy_lines.proofs.Truths.{and_true, some_is, none_some, where_true, chosen}
 use Rattle.policy_lines.proofs.Numbers.{number_from_is}
@@ -43,13 +43,13 @@ pub at_end_is : {A : Type 0} (a b : A) (ws : List (List ℕ)) → at_end a ws �
 at_end_is a b [] e = (some_is e, refl)
 at_end_is a b (w ∷ ws) e = absurd (none_some e)
 
-pub record OneName (build : List ℕ → Saying) (ws : List (List ℕ)) (s : Saying) : Type 0 where
+pub record OneName (build : List ℕ → SaidView) (ws : List (List ℕ)) (s : SaidView) : Type 0 where
   pub it : List ℕ
   pub name : is_name it ≡ true
   pub words : ws ≡ it ∷ []
   pub built : build it ≡ s
 
-pub one_name_is : (build : List ℕ → Saying) (ws : List (List ℕ)) (s : Saying) → one_name build ws ≡ Some s → OneName build ws s
+pub one_name_is : (build : List ℕ → SaidView) (ws : List (List ℕ)) (s : SaidView) → one_name build ws ≡ Some s → OneName build ws s
 one_name_is build [] s e = absurd (none_some e)
 one_name_is build (w ∷ ws) s e =
     let c = came (name_in w) (λ n. at_end (build n) ws) s e in
@@ -86,7 +86,7 @@ during_is (w ∷ p ∷ []) d e = split (bytes_eq w (codes "during"))
 during_is (w ∷ p ∷ v ∷ ws) d e = absurd (none_some e)
 
 -- what a saying's words behind its first are, and that it is in range
-pub record Formed (first : List ℕ) (ws : List (List ℕ)) (s : Saying) : Type 0 where
+pub record Formed (first : List ℕ) (ws : List (List ℕ)) (s : SaidView) : Type 0 where
   pub formed : is_formed s ≡ true
   pub words : first ∷ ws ≡ said_words s
 
@@ -113,7 +113,7 @@ limit_parts n prio c most during name low names count during_in_range =
     (and_true (is_name n && nat_le prio 99 && are_names (fluent_names c.fluent)) (is_count most)
     (and_true (is_name n && nat_le prio 99) (are_names (fluent_names c.fluent)) (and_true (is_name n) (nat_le prio 99) name (le-leb prio 99 low)) names) count) during_in_range
 
-pub limit_is : (ws : List (List ℕ)) (s : Saying) → limit_in ws ≡ Some s → Formed (codes "limit") ws s
+pub limit_is : (ws : List (List ℕ)) (s : SaidView) → limit_in ws ≡ Some s → Formed (codes "limit") ws s
 limit_is [] s e = absurd (none_some e)
 limit_is (n ∷ []) s e = absurd (none_some e)
 limit_is (n ∷ p ∷ ws) s e =
@@ -143,7 +143,7 @@ spelled_is spell (b ∷ xs) w a e =
       | inr (f, more) ↦ spelled_is spell xs w a more
     ]
 
-pub edge_is : (ws : List (List ℕ)) (s : Saying) → edge_in ws ≡ Some s → Formed (codes "edge") ws s
+pub edge_is : (ws : List (List ℕ)) (s : SaidView) → edge_in ws ≡ Some s → Formed (codes "edge") ws s
 edge_is [] s e = absurd (none_some e)
 edge_is (k ∷ []) s e = absurd (none_some e)
 edge_is (k ∷ st ∷ []) s e = absurd (none_some e)
@@ -168,7 +168,7 @@ edge_is (k ∷ st ∷ a ∷ b ∷ v ∷ ws) s e = absurd (none_some e)
 abbrev caps_all : List CapKind
 caps_all = caps.Total ∷ caps.User ∷ caps.Length ∷ caps.Day ∷ []
 
-pub cap_is : (ws : List (List ℕ)) (s : Saying) → cap_in ws ≡ Some s → Formed (codes "cap") ws s
+pub cap_is : (ws : List (List ℕ)) (s : SaidView) → cap_in ws ≡ Some s → Formed (codes "cap") ws s
 cap_is [] s e = absurd (none_some e)
 cap_is (k ∷ []) s e = absurd (none_some e)
 cap_is (k ∷ r ∷ []) s e = absurd (none_some e)
@@ -203,7 +203,7 @@ is_on false Linking h = absurd (false≢true h)
 head_is : (w v : List ℕ) (ws vs : List (List ℕ)) → w ∷ ws ≡ v ∷ vs → w ≡ v
 head_is w v ws vs e = cc
 
-by_opening : (verb : List ℕ) (ws : List (List ℕ)) (s : Saying) → is_opening verb ≡ true → opening_by (cond_at (verb ∷ ws)) ≡ Some s → Formed verb ws s
+by_opening : (verb : List ℕ) (ws : List (List ℕ)) (s : SaidView) → is_opening verb ≡ true → opening_by (cond_at (verb ∷ ws)) ≡ Some s → Formed verb ws s
 by_opening verb ws s is e = by (cond_at (verb ∷ ws)) refl
   where
     by : (r : Option (NamedCond × List (List ℕ))) → cond_at (verb ∷ ws) ≡ r → Formed verb ws s
@@ -219,23 +219,23 @@ by_opening verb ws s is e = by (cond_at (verb ∷ ws)) refl
           words = c_is.words ∙ ap (λ ws. cond_words c.0 ++ ws) end.1 ∙ append-nil (cond_words c.0) ∙ ap (λ on. cond_verb on (sort_of c.0.fluent) ∷ fluent_names c.0.fluent) on;
         })
 
-pub enabled_is : (ws : List (List ℕ)) (s : Saying) → opening_by (cond_at (codes "enabled" ∷ ws)) ≡ Some s → Formed (codes "enabled") ws s
+pub enabled_is : (ws : List (List ℕ)) (s : SaidView) → opening_by (cond_at (codes "enabled" ∷ ws)) ≡ Some s → Formed (codes "enabled") ws s
 unfolding is_opening
 enabled_is ws s e = by_opening (codes "enabled") ws s refl e
 
-pub assigned_is : (ws : List (List ℕ)) (s : Saying) → opening_by (cond_at (codes "assigned" ∷ ws)) ≡ Some s → Formed (codes "assigned") ws s
+pub assigned_is : (ws : List (List ℕ)) (s : SaidView) → opening_by (cond_at (codes "assigned" ∷ ws)) ≡ Some s → Formed (codes "assigned") ws s
 unfolding is_opening
 assigned_is ws s e = by_opening (codes "assigned") ws s refl e
 
-pub granted_is : (ws : List (List ℕ)) (s : Saying) → opening_by (cond_at (codes "granted" ∷ ws)) ≡ Some s → Formed (codes "granted") ws s
+pub granted_is : (ws : List (List ℕ)) (s : SaidView) → opening_by (cond_at (codes "granted" ∷ ws)) ≡ Some s → Formed (codes "granted") ws s
 unfolding is_opening
 granted_is ws s e = by_opening (codes "granted") ws s refl e
 
-pub armed_is : (ws : List (List ℕ)) (s : Saying) → opening_by (cond_at (codes "armed" ∷ ws)) ≡ Some s → Formed (codes "armed") ws s
+pub armed_is : (ws : List (List ℕ)) (s : SaidView) → opening_by (cond_at (codes "armed" ∷ ws)) ≡ Some s → Formed (codes "armed") ws s
 unfolding is_opening
 armed_is ws s e = by_opening (codes "armed") ws s refl e
 
-pub linked_is : (ws : List (List ℕ)) (s : Saying) → opening_by (cond_at (codes "linked" ∷ ws)) ≡ Some s → Formed (codes "linked") ws s
+pub linked_is : (ws : List (List ℕ)) (s : SaidView) → opening_by (cond_at (codes "linked" ∷ ws)) ≡ Some s → Formed (codes "linked") ws s
 unfolding is_opening
 linked_is ws s e = by_opening (codes "linked") ws s refl e
 
@@ -299,7 +299,7 @@ head_at_is ws h e =
     let is = head_up_to_is 99 ws h (omega arith) e in
     record { head = and_true (nat_le h.0.prio 99) (are_names (fluent_names h.0.event.fluent)) (le-leb h.0.prio 99 is.prio) is.names; words = is.words }
 
-pub entry_is : (f : Form) (first : List ℕ) (ws : List (List ℕ)) (s : Saying) → ((p : List ℕ) (h : NamedHead) → first ∷ p ∷ head_words h ≡ said_words (entry f p h)) → entry_in f ws ≡ Some s
+pub entry_is : (f : Form) (first : List ℕ) (ws : List (List ℕ)) (s : SaidView) → ((p : List ℕ) (h : NamedHead) → first ∷ p ∷ head_words h ≡ said_words (entry f p h)) → entry_in f ws ≡ Some s
     → Formed first ws s
 entry_is f first [] s spells e = absurd (none_some e)
 entry_is f first (p ∷ ws) s spells e =

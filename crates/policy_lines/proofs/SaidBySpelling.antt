@@ -26,7 +26,7 @@ use Rattle.policy_words.specs.declared.faults.TextKind.TheVariants as faults
 use Rattle.policy_words.specs.declared.parts.NamedHead.{NamedHead}
 use Rattle.policy_words.specs.declared.parts.Item.{Item}
 use Rattle.policy_words.specs.Wording.{◌>>=◌, by_verb, cond_at, delay_in}
-use Rattle.policy_words.specs.Sayings.{Saying, version, role, user, perm, period, limit, edge, cap, admin, opening, entry, trigger, said_words, is_formed, is_bounded, is_bodied, is_body, is_saying, names_edge}
+use Rattle.policy_words.specs.Sayings.{SaidView, version, role, user, perm, period, limit, edge, cap, admin, opening, entry, trigger, said_words, is_formed, is_bounded, is_bodied, is_body, is_saying, names_edge}
 use Rattle.policy_words.specs.declared.sayings.Said.{Said}
 use Rattle.policy_words.specs.Seen.{seen_said}
 use Rattle.policy_words.specs.Reading.{Bounds, verbs, said_by, said_of, some_said, read_said, formed, one_name, first_in, last_in, bounds_in, period_by, with_expr, expr_of_line, limit_in, edge_in, cap_in, opening_by, entry_in, trigger_in, trigger_by, with_body, linked_by, formed_in, version_in, version_by}
@@ -48,7 +48,7 @@ zero_delay : delay_in (codes "after" ∷ codes "0" ∷ []) ≡ Some 0
 zero_delay = ap (number_from 0 52_595_999) (sym (decimal_digit 0 (omega arith))) ∙ number_from-decimal 0 52_595_999 0 (omega arith) (omega arith) (omega arith)
 
 module _ (v : TextVersion) (line : List ℕ) where
-  by_words : (said : Saying) → is_formed said ≡ true → is_no_period said ≡ true → words_of line ≡ said_words said → said_of v line (words_of line) ≡ judged v said
+  by_words : (said : SaidView) → is_formed said ≡ true → is_no_period said ≡ true → words_of line ≡ said_words said → said_of v line (words_of line) ≡ judged v said
   by_words said h np e = ap (said_of v line) e ∙ saying_reads v line said h np
 
   spelled_trigger : (items : List Item) (h : NamedHead) (d : ℕ) → is_formed (trigger items h d) ≡ true → Spells (trigger items h d) line
@@ -61,10 +61,10 @@ module _ (v : TextVersion) (line : List ℕ) where
       → said_of v line (words_of line) ≡ with_expr (record { name = n; first = f; last = l }) (read_expr (expr_of_line line))
   bounded_said n f l bounds le =
       bounds_read v line n f l bounds
-      ∙ ap (λ b. elim b as (λ _. Result Saying TextKind) [ true ↦ Err faults.Bounds | false ↦ with_expr (record { name = n; first = f; last = l }) (read_expr (expr_of_line line)) ])
+      ∙ ap (λ b. elim b as (λ _. Result SaidView TextKind) [ true ↦ Err faults.Bounds | false ↦ with_expr (record { name = n; first = f; last = l }) (read_expr (expr_of_line line)) ])
       (not_true (nat_lt l f) (λ t. absurd (omega (arith, le, ltb-true l f t))))
 
-  spelled_said : (said : Saying) → is_formed said ≡ true → Spells said line → is_bodied said ≡ true → IsPlaced v said → said_of v line (words_of line) ≡ Ok said
+  spelled_said : (said : SaidView) → is_formed said ≡ true → Spells said line → is_bodied said ≡ true → IsPlaced v said → said_of v line (words_of line) ≡ Ok said
   spelled_said (version n) h e b placed = by_words (version n) h refl e ∙ judged_ok v (version n) h b placed
   spelled_said (role n) h e b placed = by_words (role n) h refl e
   spelled_said (user n) h e b placed = by_words (user n) h refl e
@@ -81,7 +81,7 @@ module _ (v : TextVersion) (line : List ℕ) where
 
   -- no spelling is read as one without a form
 
-  ok_form : (s : Saying) → ◌≡◌ {A = Result Saying TextKind} (Ok s) (Err faults.Form) → ⊥
+  ok_form : (s : SaidView) → ◌≡◌ {A = Result SaidView TextKind} (Ok s) (Err faults.Form) → ⊥
   ok_form s e = cc
 
   version_form : (b : Bool) (n : ℕ) → version_by b (Some n) ≡ Err faults.Form → ⊥
@@ -101,7 +101,7 @@ module _ (v : TextVersion) (line : List ℕ) where
       elim (chosen (is_body items) (Ok (trigger items h d)) (Err faults.Body) (Err faults.Form) e) [ inl (t, is) ↦ ok_form (trigger items h d) is | inr (f, is) ↦ absurd (cc is) ]
 
   module _ (form : said_of v line (words_of line) ≡ Err faults.Form) where
-    spelled_form : (said : Saying) → is_formed said ≡ true → is_allowed (has_edges v) said ≡ true → Spells said line → ⊥
+    spelled_form : (said : SaidView) → is_formed said ≡ true → is_allowed (has_edges v) said ≡ true → Spells said line → ⊥
     spelled_form (version n) h a e = version_form (is_open v) n (sym (by_words (version n) h refl e) ∙ form)
     spelled_form (role n) h a e = ok_form (role n) (sym (by_words (role n) h refl e) ∙ form)
     spelled_form (user n) h a e = ok_form (user n) (sym (by_words (user n) h refl e) ∙ form)
@@ -140,7 +140,7 @@ is_free : List ℕ → Bool
 is_free w =
     not (bytes_eq w (codes "limit") || bytes_eq w (codes "linked") || bytes_eq w (codes "each") || bytes_eq w (codes "start") || bytes_eq w (codes "span") || bytes_eq w (codes "when"))
 
-allowed_by : (edges : Bool) (w : List ℕ) (ws : List (List ℕ)) (s : Saying) → is_free w ≡ true → w ∷ ws ≡ said_words s → is_allowed edges s ≡ true
+allowed_by : (edges : Bool) (w : List ℕ) (ws : List (List ℕ)) (s : SaidView) → is_free w ≡ true → w ∷ ws ≡ said_words s → is_allowed edges s ≡ true
 unfolding is_free
 allowed_by edges w ws (version n) free e = refl
 allowed_by edges w ws (role n) free e = refl
@@ -205,14 +205,14 @@ differ w (x ∷ xs) h = elim (bytes_eq x w) as (λ b. bytes_eq x w ≡ b → (b 
     itself w = (bytes_eq-Decides w w).1 refl
 
 module _ (v : TextVersion) (line : List ℕ) (loud : IsLoud 4_096 line) where
-  placed_as : (s : Saying) → (IsVersion s → ⊥) → is_allowed (has_edges v) s ≡ true → IsPlaced v s
+  placed_as : (s : SaidView) → (IsVersion s → ⊥) → is_allowed (has_edges v) s ≡ true → IsPlaced v s
   placed_as s none allowed = (by (is_open v), allowed)
     where
       by : (b : Bool) → IsFirst b s
       by true = tt
       by false = none
 
-  other_said : (w : List ℕ) (ws : List (List ℕ)) (s : Saying) → words_of line ≡ w ∷ ws → is_other w ≡ true → is_allowed (has_edges v) s ≡ true → is_formed s ≡ true → w ∷ ws ≡ said_words s
+  other_said : (w : List ℕ) (ws : List (List ℕ)) (s : SaidView) → words_of line ≡ w ∷ ws → is_other w ≡ true → is_allowed (has_edges v) s ≡ true → is_formed s ≡ true → w ∷ ws ≡ said_words s
       → IsSaid v line (Ok (Some s))
   unfolding is_other
   other_said w ws (version n) words other a h e = absurd (false≢true (sym (ap is_other (head_is w (codes "policy") ws (decimal n ∷ []) e)) ∙ other))
@@ -228,30 +228,30 @@ module _ (v : TextVersion) (line : List ℕ) (loud : IsLoud 4_096 line) where
   other_said w ws (entry f p hd) words other a h e = (loud, h, words ∙ e, refl, placed_as (entry f p hd) (λ v. v) a)
   other_said w ws (trigger items hd d) words other a h e = absurd (false≢true (sym (ap is_other (head_is w (codes "when") ws _ e)) ∙ other))
 
-  formed_as : (w : List ℕ) (ws : List (List ℕ)) (o : Option Saying) → words_of line ≡ w ∷ ws → is_other w ≡ true → Contains (words_that_begin (has_edges v)) w
-      → ((s : Saying) → o ≡ Some s → is_allowed (has_edges v) s ≡ true) → ((s : Saying) → o ≡ Some s → Formed w ws s) → said_of v line (w ∷ ws) ≡ formed o
+  formed_as : (w : List ℕ) (ws : List (List ℕ)) (o : Option SaidView) → words_of line ≡ w ∷ ws → is_other w ≡ true → Contains (words_that_begin (has_edges v)) w
+      → ((s : SaidView) → o ≡ Some s → is_allowed (has_edges v) s ≡ true) → ((s : SaidView) → o ≡ Some s → Formed w ws s) → said_of v line (w ∷ ws) ≡ formed o
       → IsSaid v line (some_said (formed o))
   formed_as w ws None words other known allowed spells reads =
       (loud, no_form v line (ap (said_of v line) words ∙ reads) w ws words known (not_policy w other))
   formed_as w ws (Some s) words other known allowed spells reads = let is = spells s refl in other_said w ws s words other (allowed s refl) is.formed is.words
 
   -- a form that names no edge
-  formed_right : (w : List ℕ) (ws : List (List ℕ)) (o : Option Saying) → words_of line ≡ w ∷ ws → is_other w ≡ true → is_free w ≡ true → Contains first_words w
-      → ((s : Saying) → o ≡ Some s → Formed w ws s) → said_of v line (w ∷ ws) ≡ formed o → IsSaid v line (some_said (formed o))
+  formed_right : (w : List ℕ) (ws : List (List ℕ)) (o : Option SaidView) → words_of line ≡ w ∷ ws → is_other w ≡ true → is_free w ≡ true → Contains first_words w
+      → ((s : SaidView) → o ≡ Some s → Formed w ws s) → said_of v line (w ∷ ws) ≡ formed o → IsSaid v line (some_said (formed o))
   formed_right w ws o words other free known spells reads =
       formed_as w ws o words other (known_in (has_edges v) w known) (λ s e. allowed_by (has_edges v) w ws s free (spells s e).words) spells reads
 
   -- a form that may name one
-  formed_in_right : (w : List ℕ) (ws : List (List ℕ)) (o : Option Saying) → words_of line ≡ w ∷ ws → is_other w ≡ true → Contains first_words w
-      → ((s : Saying) → o ≡ Some s → Formed w ws s) → said_of v line (w ∷ ws) ≡ formed_in (has_edges v) o → IsSaid v line (some_said (formed_in (has_edges v) o))
+  formed_in_right : (w : List ℕ) (ws : List (List ℕ)) (o : Option SaidView) → words_of line ≡ w ∷ ws → is_other w ≡ true → Contains first_words w
+      → ((s : SaidView) → o ≡ Some s → Formed w ws s) → said_of v line (w ∷ ws) ≡ formed_in (has_edges v) o → IsSaid v line (some_said (formed_in (has_edges v) o))
   formed_in_right w ws None words other known spells reads =
       (loud, no_form v line (ap (said_of v line) words ∙ reads) w ws words (known_in (has_edges v) w known) (not_policy w other))
   formed_in_right w ws (Some s) words other known spells reads = by (is_allowed (has_edges v) s) refl
     where
-      by : (b : Bool) → is_allowed (has_edges v) s ≡ b → IsSaid v line (some_said (elim b as (λ _. Result Saying TextKind) [ true ↦ Ok s | false ↦ Err faults.Form ]))
+      by : (b : Bool) → is_allowed (has_edges v) s ≡ b → IsSaid v line (some_said (elim b as (λ _. Result SaidView TextKind) [ true ↦ Ok s | false ↦ Err faults.Form ]))
       by true a = let is = spells s refl in other_said w ws s words other a is.formed is.words
       by false a =
-          (loud, no_form v line (ap (said_of v line) words ∙ reads ∙ ap (λ b. elim b as (λ _. Result Saying TextKind) [ true ↦ Ok s | false ↦ Err faults.Form ]) a) w ws words (known_in (has_edges v) w known) (not_policy w other))
+          (loud, no_form v line (ap (said_of v line) words ∙ reads ∙ ap (λ b. elim b as (λ _. Result SaidView TextKind) [ true ↦ Ok s | false ↦ Err faults.Form ]) a) w ws words (known_in (has_edges v) w known) (not_policy w other))
 
   -- an edge that is linked at first
 
@@ -259,7 +259,7 @@ module _ (v : TextVersion) (line : List ℕ) (loud : IsLoud 4_096 line) where
   unfolding is_other
   linked_right ws words = by (has_edges v) refl
     where
-      two : (b : Bool) (s : Saying) → has_edges v ≡ b → b ≡ true → is_allowed (has_edges v) s ≡ true
+      two : (b : Bool) (s : SaidView) → has_edges v ≡ b → b ≡ true → is_allowed (has_edges v) s ≡ true
       two b s is t = ap (λ b. not (names_edge s) || b) (is ∙ t) ∙ or_true (not (names_edge s))
         where
           or_true : (b : Bool) → (b || true) ≡ true
@@ -273,7 +273,7 @@ module _ (v : TextVersion) (line : List ℕ) (loud : IsLoud 4_096 line) where
       by false is =
           (loud, λ u known begins. apart first_words (codes "linked") (differ (codes "linked") first_words refl) u (subst (λ b. Contains (words_that_begin b) u) is known) (head_is u (codes "linked") begins.0 ws (sym begins.1 ∙ words)))
 
-  named_is : (verb : List ℕ) (build : List ℕ → Saying) (ws : List (List ℕ)) (s : Saying) → ((n : List ℕ) → is_name n ≡ true → is_formed (build n) ≡ true)
+  named_is : (verb : List ℕ) (build : List ℕ → SaidView) (ws : List (List ℕ)) (s : SaidView) → ((n : List ℕ) → is_name n ≡ true → is_formed (build n) ≡ true)
       → ((n : List ℕ) → verb ∷ n ∷ [] ≡ said_words (build n)) → one_name build ws ≡ Some s → Formed verb ws s
   named_is verb build ws s in_range spells e =
       let n = one_name_is build ws s e in
@@ -305,18 +305,18 @@ module _ (v : TextVersion) (line : List ℕ) (loud : IsLoud 4_096 line) where
 
       body : (items : List Item) (h : NamedHead) (d : ℕ) → is_formed (trigger items h d) ≡ true → is_allowed (has_edges v) (trigger items h d) ≡ true → Spells (trigger items h d) line
           → (b : Bool) → is_body items ≡ b
-          → IsSaid v line (some_said (elim b as (λ _. Result Saying TextKind) [ true ↦ Ok (trigger items h d) | false ↦ Err faults.Body ]))
+          → IsSaid v line (some_said (elim b as (λ _. Result SaidView TextKind) [ true ↦ Ok (trigger items h d) | false ↦ Err faults.Body ]))
       body items h d is a spells true e = (loud, is, spells, e, placed_as (trigger items h d) (λ v. v) a)
       body items h d is a spells false e = (loud, (trigger items h d, is, a, spells, e))
 
       allow : (items : List Item) (h : NamedHead) (d : ℕ) → trigger_in ws ≡ Some (trigger items h d) → is_formed (trigger items h d) ≡ true → Spells (trigger items h d) line
           → (a : Bool) → is_allowed (has_edges v) (trigger items h d) ≡ a
-          → IsSaid v line (some_said (elim a as (λ _. Result Saying TextKind) [ true ↦ with_body (trigger items h d) | false ↦ Err faults.Form ]))
+          → IsSaid v line (some_said (elim a as (λ _. Result SaidView TextKind) [ true ↦ with_body (trigger items h d) | false ↦ Err faults.Form ]))
       allow items h d read is spells true a = body items h d is a spells (is_body items) refl
       allow items h d read is spells false a =
-          no_trigger (ap (trigger_by (has_edges v)) read ∙ ap (λ a. elim a as (λ _. Result Saying TextKind) [ true ↦ with_body (trigger items h d) | false ↦ Err faults.Form ]) a)
+          no_trigger (ap (trigger_by (has_edges v)) read ∙ ap (λ a. elim a as (λ _. Result SaidView TextKind) [ true ↦ with_body (trigger items h d) | false ↦ Err faults.Form ]) a)
 
-      by : (o : Option Saying) → trigger_in ws ≡ o → IsSaid v line (some_said (trigger_by (has_edges v) o))
+      by : (o : Option SaidView) → trigger_in ws ≡ o → IsSaid v line (some_said (trigger_by (has_edges v) o))
       by None e = no_trigger (ap (trigger_by (has_edges v)) e)
       by (Some s) e =
           let t = trigger_is line ws s words e in
@@ -397,7 +397,7 @@ module _ (v : TextVersion) (line : List ℕ) (loud : IsLoud 4_096 line) where
       read b bounds le (Err t) e = (loud, (b.name, b.first, b.last, bounds, le, fails (expr_of_line line) t e))
 
       order : (b : Bounds) → HasBounds line b.name b.first b.last → (t : Bool) → nat_lt b.last b.first ≡ t
-          → IsSaid v line (some_said (elim t as (λ _. Result Saying TextKind) [ true ↦ Err faults.Bounds | false ↦ with_expr b (read_expr (expr_of_line line)) ]))
+          → IsSaid v line (some_said (elim t as (λ _. Result SaidView TextKind) [ true ↦ Err faults.Bounds | false ↦ with_expr b (read_expr (expr_of_line line)) ]))
       order b bounds true e = (loud, (b.name, b.first, b.last, bounds, ltb-true b.last b.first e))
       order b bounds false e = read b bounds (ltb-false b.last b.first e) (read_expr (expr_of_line line)) refl
 
@@ -408,7 +408,7 @@ module _ (v : TextVersion) (line : List ℕ) (loud : IsLoud 4_096 line) where
   -- any first word
 
   abbrev Verb : Type 0
-  Verb = List ℕ × (List (List ℕ) → Option (Result Saying TextKind))
+  Verb = List ℕ × (List (List ℕ) → Option (Result SaidView TextKind))
 
   abbrev Right : Verb → Type 0
   Right u = (ws : List (List ℕ)) → words_of line ≡ u.0 ∷ ws → IsSaid v line (some_said (said_by (u.1 ws)))
@@ -480,13 +480,13 @@ module _ (v : TextVersion) (line : List ℕ) (loud : IsLoud 4_096 line) where
   )
 
   among : (us : List Verb) (w : List ℕ) (ws : List (List ℕ)) → AllRight us → words_of line ≡ w ∷ ws → (Absent (map (λ u. u.0) us) w → IsSaid v line (Err faults.Word))
-      → IsSaid v line (some_said (said_by (◌>>=◌ {A = List (List ℕ) → Option (Result Saying TextKind)} (by_verb us w) (λ reads. reads ws))))
+      → IsSaid v line (some_said (said_by (◌>>=◌ {A = List (List ℕ) → Option (Result SaidView TextKind)} (by_verb us w) (λ reads. reads ws))))
   among [] w ws right words none = none tt
   among (u ∷ us) w ws right words none =
       by (λ e. among us w ws right.1 words (λ rest. none ((λ is. false≢true (sym e ∙ (bytes_eq-Decides u.0 w).1 is)), rest))) (bytes_eq u.0 w) refl
     where
-      by : (bytes_eq u.0 w ≡ false → IsSaid v line (some_said (said_by (◌>>=◌ {A = List (List ℕ) → Option (Result Saying TextKind)} (by_verb us w) (λ reads. reads ws))))) → (b : Bool) → bytes_eq u.0 w ≡ b
-          → IsSaid v line (some_said (said_by (◌>>=◌ {A = List (List ℕ) → Option (Result Saying TextKind)} (elim b as (λ _. Option (List (List ℕ) → Option (Result Saying TextKind))) [ true ↦ Some u.1 | false ↦ by_verb us w ]) (λ reads. reads ws))))
+      by : (bytes_eq u.0 w ≡ false → IsSaid v line (some_said (said_by (◌>>=◌ {A = List (List ℕ) → Option (Result SaidView TextKind)} (by_verb us w) (λ reads. reads ws))))) → (b : Bool) → bytes_eq u.0 w ≡ b
+          → IsSaid v line (some_said (said_by (◌>>=◌ {A = List (List ℕ) → Option (Result SaidView TextKind)} (elim b as (λ _. Option (List (List ℕ) → Option (Result SaidView TextKind))) [ true ↦ Some u.1 | false ↦ by_verb us w ]) (λ reads. reads ws))))
       by more true e = right.0 ws (words ∙ ap (λ w. w ∷ ws) (sym ((bytes_eq-Decides u.0 w).0 e)))
       by more false e = more e
 
@@ -498,7 +498,7 @@ module _ (v : TextVersion) (line : List ℕ) (loud : IsLoud 4_096 line) where
   none_among : (us : List Verb) (w : List ℕ) → Absent (map (λ u. u.0) us) w → by_verb us w ≡ None
   none_among [] w none = refl
   none_among (u ∷ us) w none =
-      ap (λ b. elim b as (λ _. Option (List (List ℕ) → Option (Result Saying TextKind))) [ true ↦ Some u.1 | false ↦ by_verb us w ])
+      ap (λ b. elim b as (λ _. Option (List (List ℕ) → Option (Result SaidView TextKind))) [ true ↦ Some u.1 | false ↦ by_verb us w ])
       (not_true (bytes_eq u.0 w) (λ t. none.0 ((bytes_eq-Decides u.0 w).0 t))) ∙ none_among us w none.1
 
   no_word : ((w : List ℕ) → Contains (words_that_begin (has_edges v)) w → BeginsWith line w → ⊥) → (w : List ℕ) (ws : List (List ℕ)) → words_of line ≡ w ∷ ws → said_of v line (w ∷ ws) ≡ Err faults.Word
@@ -513,7 +513,7 @@ module _ (v : TextVersion) (line : List ℕ) (loud : IsLoud 4_096 line) where
 
       other : (codes "linked" ≡ w → ⊥) → said_of v line (w ∷ ws) ≡ Err faults.Word
       other one =
-          ap (λ (o : Option (List (List ℕ) → Option (Result Saying TextKind))). said_by (◌>>=◌ {A = List (List ℕ) → Option (Result Saying TextKind)} o (λ reads. reads ws)))
+          ap (λ (o : Option (List (List ℕ) → Option (Result SaidView TextKind))). said_by (◌>>=◌ {A = List (List ℕ) → Option (Result SaidView TextKind)} o (λ reads. reads ws)))
           (none_among (verbs v line) w
           (absent_with 13 first_words (codes "linked") w one (absent_from first_words w (λ u known e. none u (known_in (has_edges v) u known) (begins u e)))))
 
@@ -526,12 +526,12 @@ sound v line = by_length (is_longer 4_096 line) refl
     by_words_of [] e loud = absurd (false≢true (sym loud.loud ∙ ap are_silent e))
     by_words_of (w ∷ ws) e loud = said_right v line loud w ws e
 
-    by_silence : is_longer 4_096 line ≡ false → (b : Bool) → are_silent (words_of line) ≡ b → IsSaid v line (elim b as (λ _. Result (Option Saying) TextKind) [ true ↦ Ok None | false ↦ some_said (said_of v line (words_of line)) ])
+    by_silence : is_longer 4_096 line ≡ false → (b : Bool) → are_silent (words_of line) ≡ b → IsSaid v line (elim b as (λ _. Result (Option SaidView) TextKind) [ true ↦ Ok None | false ↦ some_said (said_of v line (words_of line)) ])
     by_silence short true e = record { short = ltb-false 4_096 (length line) short; silent = e }
     by_silence short false e = by_words_of (words_of line) refl (record { short = ltb-false 4_096 (length line) short; loud = e })
 
     by_length : (b : Bool) → is_longer 4_096 line ≡ b
-        → IsSaid v line (elim b as (λ _. Result (Option Saying) TextKind) [ true ↦ Err faults.Long | false ↦ elim (are_silent (words_of line)) [ true ↦ Ok None | false ↦ some_said (said_of v line (words_of line)) ] ])
+        → IsSaid v line (elim b as (λ _. Result (Option SaidView) TextKind) [ true ↦ Err faults.Long | false ↦ elim (are_silent (words_of line)) [ true ↦ Ok None | false ↦ some_said (said_of v line (words_of line)) ] ])
     by_length true e = ltb-true 4_096 (length line) e
     by_length false e = by_silence e (are_silent (words_of line)) refl
 
@@ -543,7 +543,7 @@ form_read : (v : TextVersion) (line : List ℕ) → IsLoud 4_096 line → HasNoF
 form_read v line loud none =
     by (said_of v line (words_of line)) refl (subst (IsSaid v line) (loud_read v line loud) (sound v line))
   where
-    by : (r : Result Saying TextKind) → said_of v line (words_of line) ≡ r → IsSaid v line (some_said r) → said_of v line (words_of line) ≡ Err faults.Form
+    by : (r : Result SaidView TextKind) → said_of v line (words_of line) ≡ r → IsSaid v line (some_said r) → said_of v line (words_of line) ≡ Err faults.Form
     by (Ok s) e is = absurd (none.says_nothing s is.1 is.4.1 is.2)
     by (Err faults.Long) e is = absurd (omega (arith, loud.short, is))
     by (Err faults.Version) e is = absurd (none.verb.3 (head_is none.verb.0 (codes "policy") none.verb.1.0 is.1.0 (sym none.verb.1.1 ∙ is.1.1)))
@@ -556,15 +556,15 @@ form_read v line loud none =
 
 silent_read : (v : TextVersion) (line : List ℕ) → IsSilent 4_096 line → read_said v line ≡ Ok None
 silent_read v line is =
-    ap (λ b. elim b as (λ _. Result (Option Saying) TextKind) [
+    ap (λ b. elim b as (λ _. Result (Option SaidView) TextKind) [
       | true ↦ Err faults.Long
       | false ↦ elim (are_silent (words_of line)) [ true ↦ Ok None | false ↦ some_said (said_of v line (words_of line)) ]
     ]) (not_true (is_longer 4_096 line) (λ t. absurd (omega (arith, is.short, ltb-true 4_096 (length line) t))))
-    ∙ ap (λ b. elim b as (λ _. Result (Option Saying) TextKind) [ true ↦ Ok None | false ↦ some_said (said_of v line (words_of line)) ]) is.silent
+    ∙ ap (λ b. elim b as (λ _. Result (Option SaidView) TextKind) [ true ↦ Ok None | false ↦ some_said (said_of v line (words_of line)) ]) is.silent
 
 long_read : (v : TextVersion) (line : List ℕ) → 4_096 < length line → read_said v line ≡ Err faults.Long
 long_read v line long =
-    ap (λ b. elim b as (λ _. Result (Option Saying) TextKind) [
+    ap (λ b. elim b as (λ _. Result (Option SaidView) TextKind) [
       | true ↦ Err faults.Long
       | false ↦ elim (are_silent (words_of line)) [ true ↦ Ok None | false ↦ some_said (said_of v line (words_of line)) ]
     ]) (lt-ltb 4_096 (length line) long)
@@ -586,7 +586,7 @@ word_read v line loud none = by (words_of line) refl
     by [] e = absurd (false≢true (sym loud.loud ∙ ap are_silent e))
     by (w ∷ ws) e = ap (said_of v line) e ∙ no_word v line loud none w ws e
 
-body_read : (v : TextVersion) (line : List ℕ) (said : Saying) → is_formed said ≡ true → is_allowed (has_edges v) said ≡ true → Spells said line → is_bodied said ≡ false → said_of v line (words_of line) ≡ Err faults.Body
+body_read : (v : TextVersion) (line : List ℕ) (said : SaidView) → is_formed said ≡ true → is_allowed (has_edges v) said ≡ true → Spells said line → is_bodied said ≡ false → said_of v line (words_of line) ≡ Err faults.Body
 body_read v line (version n) h a e b = absurd (false≢true (sym b))
 body_read v line (role n) h a e b = absurd (false≢true (sym b))
 body_read v line (user n) h a e b = absurd (false≢true (sym b))
@@ -599,18 +599,18 @@ body_read v line (admin u) h a e b = absurd (false≢true (sym b))
 body_read v line (opening f) h a e b = absurd (false≢true (sym b))
 body_read v line (entry f p hd) h a e b = absurd (false≢true (sym b))
 body_read v line (trigger items hd d) h a e b =
-    spelled_trigger v line items hd d h e ∙ trigger_ok v items hd d a ∙ ap (λ t. elim t as (λ _. Result Saying TextKind) [ true ↦ Ok (trigger items hd d) | false ↦ Err faults.Body ]) b
+    spelled_trigger v line items hd d h e ∙ trigger_ok v items hd d a ∙ ap (λ t. elim t as (λ _. Result SaidView TextKind) [ true ↦ Ok (trigger items hd d) | false ↦ Err faults.Body ]) b
 
 bounds_fault : (v : TextVersion) (line n : List ℕ) (f l : ℕ) → HasBounds line n f l → l < f → said_of v line (words_of line) ≡ Err faults.Bounds
 bounds_fault v line n f l bounds lt =
     bounds_read v line n f l bounds
-    ∙ ap (λ b. elim b as (λ _. Result Saying TextKind) [ true ↦ Err faults.Bounds | false ↦ with_expr (record { name = n; first = f; last = l }) (read_expr (expr_of_line line)) ]) (lt-ltb l f lt)
+    ∙ ap (λ b. elim b as (λ _. Result SaidView TextKind) [ true ↦ Err faults.Bounds | false ↦ with_expr (record { name = n; first = f; last = l }) (read_expr (expr_of_line line)) ]) (lt-ltb l f lt)
 
 expr_fault : (text : List ℕ) (t : ExprFault) → ExprFails text t → read_expr text ≡ Err t
 expr_fault text t (inl (kind, is)) = (syntax_both text t.at).1 is ∙ ap (λ (k : ExprKind). Err (record { at = t.at; kind = k })) (sym kind)
 expr_fault text t (inr (other, is)) = (fault_both text t other).1 is
 
-complete : (v : TextVersion) (line : List ℕ) (r : Result (Option Saying) TextKind) → IsSaid v line r → read_said v line ≡ r
+complete : (v : TextVersion) (line : List ℕ) (r : Result (Option SaidView) TextKind) → IsSaid v line r → read_said v line ≡ r
 complete v line (Ok None) is = silent_read v line is
 complete v line (Ok (Some said)) (loud, h, spells, b, placed) = loud_read v line loud ∙ ap some_said (spelled_said v line said h spells b placed)
 complete v line (Err faults.Long) long = long_read v line long
@@ -625,12 +625,12 @@ complete v line (Err (faults.Expr t)) (loud, is) =
     (bounded_said v line is.0 is.1 is.2 is.3 is.4 ∙ ap (with_expr (record { name = is.0; first = is.1; last = is.2 })) (expr_fault (expr_of_line line) t is.5))
 complete v line (Err faults.Memory) is = absurd is
 
-pub sayings_are_read : (v : TextVersion) (line : List ℕ) (r : Result (Option Saying) TextKind) → (read_said v line ≡ r) ↔ IsSaid v line r
+pub sayings_are_read : (v : TextVersion) (line : List ℕ) (r : Result (Option SaidView) TextKind) → (read_said v line ≡ r) ↔ IsSaid v line r
 sayings_are_read v line r = ((λ e. subst (IsSaid v line) e (sound v line)), complete v line r)
 
 -- what a line says is in range
 
-bounded_by : (line : List ℕ) (said : Saying) → Spells said line → is_bounded said ≡ true
+bounded_by : (line : List ℕ) (said : SaidView) → Spells said line → is_bounded said ≡ true
 bounded_by line (version n) e = refl
 bounded_by line (role n) e = refl
 bounded_by line (user n) e = refl
@@ -644,7 +644,7 @@ bounded_by line (opening f) e = refl
 bounded_by line (entry f p hd) e = refl
 bounded_by line (trigger items hd d) e = refl
 
-pub read_in_range : (v : TextVersion) (line : List ℕ) (said : Saying) → read_said v line ≡ Ok (Some said) → is_saying said ≡ true
+pub read_in_range : (v : TextVersion) (line : List ℕ) (said : SaidView) → read_said v line ≡ Ok (Some said) → is_saying said ≡ true
 read_in_range v line said e =
     let is : IsSaid v line (Ok (Some said)) = subst (IsSaid v line) e (sound v line) in
     and_true (is_formed said && is_bounded said) (is_bodied said) (and_true (is_formed said) (is_bounded said) is.1 (bounded_by line said is.2)) is.3

@@ -28,7 +28,7 @@ use Rattle.policy_words.specs.declared.sayings.EdgeKind.TheVariants.{I, A, Ia}
 use Rattle.policy_words.specs.declared.sayings.CapKind.{CapKind}
 use Rattle.policy_words.specs.declared.sayings.CapKind.TheVariants as caps
 use Rattle.policy_words.specs.Wording.{fluent_names, cond_words, head_words, cond_at, head_at, delay_in, delay_words}
-use Rattle.policy_words.specs.Sayings.{Saying, version, role, user, perm, period, limit, edge, cap, admin, opening, entry, trigger, said_words, and_items, during_words, is_formed, are_names, is_count, is_period_name, is_head, is_item, is_some_item}
+use Rattle.policy_words.specs.Sayings.{SaidView, version, role, user, perm, period, limit, edge, cap, admin, opening, entry, trigger, said_words, and_items, during_words, is_formed, are_names, is_count, is_period_name, is_head, is_item, is_some_item}
 use Rattle.policy_words.specs.Reading.{said_of, one_name, first_in, last_in, period_by, during_in, most_at, limit_in, linked_by, entry_in, trigger_in, trigger_by, version_in, version_by, formed, formed_in}
 use Rattle.policy_words.specs.Versions.{is_open, has_edges, is_allowed}
 use Rattle.policy_words.specs.Spelling.{IsBound, HasBounds}
@@ -38,20 +38,20 @@ use Rattle.policy_lines.proofs.Numbers.{number_from-decimal}
 use Rattle.policy_lines.proofs.SpelledReads.{cond_reads, head_reads, items_read, delay_reads}
 
 -- what is answered where a saying is read that is no period
-abbrev pub judged : TextVersion → Saying → Result Saying TextKind
+abbrev pub judged : TextVersion → SaidView → Result SaidView TextKind
 judged v (version n) = version_by (is_open v) (Some n)
 judged v (opening f) = elim (is_allowed (has_edges v) (opening f)) [ true ↦ Ok (opening f) | false ↦ Err faults.Word ]
 judged v (trigger items h d) = trigger_by (has_edges v) (Some (trigger items h d))
 judged v said = formed_in (has_edges v) (Some said)
 
-abbrev pub is_no_period : Saying → Bool
+abbrev pub is_no_period : SaidView → Bool
 is_no_period (period n first last e) = false
 is_no_period said = true
 
 pub name_is : (n : List ℕ) → is_name n ≡ true → name_in n ≡ Some n
 name_is n h = ap (λ b. elim b as (λ _. Option (List ℕ)) [ true ↦ Some n | false ↦ None ]) h
 
-pub one_name_reads : (build : List ℕ → Saying) (n : List ℕ) → is_name n ≡ true → one_name build (n ∷ []) ≡ Some (build n)
+pub one_name_reads : (build : List ℕ → SaidView) (n : List ℕ) → is_name n ≡ true → one_name build (n ∷ []) ≡ Some (build n)
 one_name_reads build n h = rw (name_is n h) refl
 
 pub version_reads : (n : ℕ) → is_formed (version n) ≡ true → version_in (decimal n ∷ []) ≡ Some n
@@ -115,7 +115,7 @@ opening_reads v line (Granted q r) h = rw (status_reads (Granted q r) h) refl
 opening_reads v line (Limit l) h = rw (status_reads (Limit l) h) refl
 opening_reads v line (Edge s j) h = rw (status_reads (Edge s j) h) (by (has_edges v))
   where
-    by : (edges : Bool) → linked_by edges (Some (opening (Edge s j))) ≡ elim edges as (λ _. Result Saying TextKind) [ true ↦ Ok (opening (Edge s j)) | false ↦ Err faults.Word ]
+    by : (edges : Bool) → linked_by edges (Some (opening (Edge s j))) ≡ elim edges as (λ _. Result SaidView TextKind) [ true ↦ Ok (opening (Edge s j)) | false ↦ Err faults.Word ]
     by true = refl
     by false = refl
 
@@ -143,7 +143,7 @@ trigger_reads items h d ws is delay =
     let body : items_of ((and_items items ++ codes "then" ∷ head_words h) ++ ws) ≡ Some (items, head_words h ++ ws) = ap items_of whole ∙ items_read items (head_words h ++ ws) p1.0 p1.1 in
     rw (body, head_reads h ws p2.1, delay) refl
 
-pub saying_reads : (v : TextVersion) (line : List ℕ) (said : Saying) → is_formed said ≡ true → is_no_period said ≡ true → said_of v line (said_words said) ≡ judged v said
+pub saying_reads : (v : TextVersion) (line : List ℕ) (said : SaidView) → is_formed said ≡ true → is_no_period said ≡ true → said_of v line (said_words said) ≡ judged v said
 saying_reads v line (version n) h np = ap (version_by (is_open v)) (version_reads n h)
 saying_reads v line (role n) h np = ap formed (one_name_reads (λ n. role n) n h)
 saying_reads v line (user n) h np = ap formed (one_name_reads (λ n. user n) n h)

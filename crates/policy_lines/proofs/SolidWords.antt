@@ -25,7 +25,7 @@ use Rattle.gt_base.specs.declared.policies.Form.TheVariants.{Each, Start, Span}
 use Rattle.policy_words.specs.declared.parts.Sort.{Sort}
 use Rattle.policy_words.specs.declared.parts.Sort.TheVariants.{Enabling, Assigning, Granting, Arming, Linking}
 use Rattle.policy_words.specs.Wording.{event_verb, cond_verb, signal_verb, sort_of, fluent_names, cond_words, item_words, head_words, delay_words}
-use Rattle.policy_words.specs.Sayings.{Saying, version, role, user, perm, period, limit, edge, cap, admin, opening, entry, trigger, said_words, and_items, during_words, kind_word, strength_word, cap_word, form_word, is_formed, are_names, is_count, is_period_name, is_head, is_item, is_some_item}
+use Rattle.policy_words.specs.Sayings.{SaidView, version, role, user, perm, period, limit, edge, cap, admin, opening, entry, trigger, said_words, and_items, during_words, kind_word, strength_word, cap_word, form_word, is_formed, are_names, is_count, is_period_name, is_head, is_item, is_some_item}
 use Rattle.policy_lines.specs.Plain.{is_solid, is_word}
 use Rattle.policy_lines.proofs.Truths.{both, and_true}
 use Rattle.policy_lines.proofs.Numbers.{all_digits}
@@ -188,7 +188,7 @@ word_form Each = refl
 word_form Start = refl
 word_form Span = refl
 
-pub solid_words : (said : Saying) → is_formed said ≡ true → is_no_period said ≡ true → list_all is_word (said_words said) ≡ true
+pub solid_words : (said : SaidView) → is_formed said ≡ true → is_no_period said ≡ true → list_all is_word (said_words said) ≡ true
 solid_words (version n) h np = behind (decimal n) [] (elim (either_true (nat_eq n 1) (nat_eq n 2) h) [
   | inl one ↦ word_decimal n (omega (arith, (Decides-eqb n 1).0 one))
   | inr two ↦ word_decimal n (omega (arith, (Decides-eqb n 2).0 two))

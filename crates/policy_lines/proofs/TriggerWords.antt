@@ -13,7 +13,7 @@ use Rattle.gt_text.specs.Words.{words_of}
 use Rattle.policy_words.specs.declared.parts.NamedHead.{NamedHead}
 use Rattle.policy_words.specs.declared.parts.Item.{Item}
 use Rattle.policy_words.specs.Wording.{item_at, item_words, head_at, head_words, delay_in, delay_words}
-use Rattle.policy_words.specs.Sayings.{Saying, trigger, and_items, is_formed, is_item, is_some_item, is_head}
+use Rattle.policy_words.specs.Sayings.{SaidView, trigger, and_items, is_formed, is_item, is_some_item, is_head}
 use Rattle.policy_words.specs.Reading.{items_at, trigger_in}
 use Rattle.policy_words.specs.Spelling.{Spells}
 use Rattle.policy_lines.proofs.Truths.{and_true, some_is, none_some, chosen}
@@ -94,7 +94,7 @@ spells_trigger line items h zero ws words (inr e) = inr (words ∙ ap (λ ws. co
 spells_trigger line items h (suc d) ws words (inl e) = words ∙ ap (λ ws. codes "when" ∷ (and_items items ++ codes "then" ∷ head_words h) ++ ws) e
 spells_trigger line items h (suc d) ws words (inr e) = absurd (omega (arith, e.0))
 
-pub record TriggerAt (line : List ℕ) (s : Saying) : Type 0 where
+pub record TriggerAt (line : List ℕ) (s : SaidView) : Type 0 where
   pub items : List Item
   pub head : NamedHead
   pub delay : ℕ
@@ -102,7 +102,7 @@ pub record TriggerAt (line : List ℕ) (s : Saying) : Type 0 where
   pub formed : is_formed (trigger items head delay) ≡ true
   pub spelled : Spells (trigger items head delay) line
 
-pub trigger_is : (line : List ℕ) (ws : List (List ℕ)) (s : Saying) → words_of line ≡ codes "when" ∷ ws → trigger_in ws ≡ Some s → TriggerAt line s
+pub trigger_is : (line : List ℕ) (ws : List (List ℕ)) (s : SaidView) → words_of line ≡ codes "when" ∷ ws → trigger_in ws ≡ Some s → TriggerAt line s
 trigger_is line ws s words e =
     let items = came (items_at (length ws) ws) _ s e in
     let head = came (head_at 99 items.it.1) _ s items.then in

@@ -27,7 +27,7 @@ use Rattle.policy_words.specs.declared.parts.Item.{Item}
 use Rattle.policy_words.specs.declared.versions.TextVersion.{TextVersion}
 use Rattle.policy_words.specs.declared.versions.TextVersion.TheVariants.{Open, One, Two}
 use Rattle.gt_base.specs.declared.policies.Form.TheVariants.{Each, Start, Span}
-use Rattle.policy_words.specs.Sayings.{Saying, version, role, user, perm, period, limit, edge, cap, admin, opening, entry, trigger, said_words, is_formed, is_bounded, is_bodied, is_saying}
+use Rattle.policy_words.specs.Sayings.{SaidView, version, role, user, perm, period, limit, edge, cap, admin, opening, entry, trigger, said_words, is_formed, is_bounded, is_bodied, is_saying}
 use Rattle.policy_words.specs.Reading.{said_of, some_said, read_said, formed_in, trigger_by, with_body, with_expr, expr_of_line}
 use Rattle.policy_words.specs.Versions.{has_edges, is_allowed}
 use Rattle.policy_words.specs.Spelling.{HasBounds, IsPlaced}
@@ -175,14 +175,14 @@ module _ (n : List ℕ) (f l : ℕ) (e : Expr) (name : is_name n ≡ true) (expr
   pub period_said : (v : TextVersion) → f ≤ last_minute → l ≤ last_minute → f ≤ l → said_of v line (words_of line) ≡ Ok (period n f l e)
   period_said v low high order =
       bounds_read v line n f l (period_bounds low high)
-      ∙ ap (λ b. elim b as (λ _. Result Saying TextKind) [ true ↦ Err faults.Bounds | false ↦ with_expr (record { name = n; first = f; last = l }) (read_expr (expr_of_line line)) ])
+      ∙ ap (λ b. elim b as (λ _. Result SaidView TextKind) [ true ↦ Err faults.Bounds | false ↦ with_expr (record { name = n; first = f; last = l }) (read_expr (expr_of_line line)) ])
       (not_true (ltb l f) (λ t. absurd (omega (arith, order, ltb-true l f t))))
       ∙ ap (λ text. with_expr (record { name = n; first = f; last = l }) (read_expr text)) period_expr
       ∙ ap (with_expr (record { name = n; first = f; last = l })) (printed_is_read e expr)
 
 -- any saying
 
-pub loud_words : (said : Saying) → are_silent (said_words said) ≡ false
+pub loud_words : (said : SaidView) → are_silent (said_words said) ≡ false
 loud_words (version n) = refl
 loud_words (role n) = refl
 loud_words (user n) = refl
@@ -204,23 +204,23 @@ loud_words (trigger items h d) = refl
 
 pub read_loud : (v : TextVersion) (line : List ℕ) → length line ≤ 4_096 → are_silent (words_of line) ≡ false → read_said v line ≡ some_said (said_of v line (words_of line))
 read_loud v line short loud =
-    ap (λ b. elim b as (λ _. Result (Option Saying) TextKind) [
+    ap (λ b. elim b as (λ _. Result (Option SaidView) TextKind) [
       | true ↦ Err faults.Long
       | false ↦ elim (are_silent (words_of line)) [ true ↦ Ok None | false ↦ some_said (said_of v line (words_of line)) ]
     ]) (not_true (is_longer 4_096 line) (λ t. absurd (omega (arith, short, ltb-true 4_096 (length line) t))))
-    ∙ ap (λ b. elim b as (λ _. Result (Option Saying) TextKind) [ true ↦ Ok None | false ↦ some_said (said_of v line (words_of line)) ]) loud
+    ∙ ap (λ b. elim b as (λ _. Result (Option SaidView) TextKind) [ true ↦ Ok None | false ↦ some_said (said_of v line (words_of line)) ]) loud
 
-pub allowed_ok : (v : TextVersion) (said : Saying) → is_allowed (has_edges v) said ≡ true → formed_in (has_edges v) (Some said) ≡ Ok said
-allowed_ok v said h = ap (λ b. elim b as (λ _. Result Saying TextKind) [ true ↦ Ok said | false ↦ Err faults.Form ]) h
+pub allowed_ok : (v : TextVersion) (said : SaidView) → is_allowed (has_edges v) said ≡ true → formed_in (has_edges v) (Some said) ≡ Ok said
+allowed_ok v said h = ap (λ b. elim b as (λ _. Result SaidView TextKind) [ true ↦ Ok said | false ↦ Err faults.Form ]) h
 
 pub opening_ok : (v : TextVersion) (f : NamedFluent) → is_allowed (has_edges v) (opening f) ≡ true → judged v (opening f) ≡ Ok (opening f)
-opening_ok v f h = ap (λ b. elim b as (λ _. Result Saying TextKind) [ true ↦ Ok (opening f) | false ↦ Err faults.Word ]) h
+opening_ok v f h = ap (λ b. elim b as (λ _. Result SaidView TextKind) [ true ↦ Ok (opening f) | false ↦ Err faults.Word ]) h
 
 pub trigger_ok : (v : TextVersion) (items : List Item) (h : NamedHead) (d : ℕ) → is_allowed (has_edges v) (trigger items h d) ≡ true
     → trigger_by (has_edges v) (Some (trigger items h d)) ≡ with_body (trigger items h d)
-trigger_ok v items h d allowed = ap (λ b. elim b as (λ _. Result Saying TextKind) [ true ↦ with_body (trigger items h d) | false ↦ Err faults.Form ]) allowed
+trigger_ok v items h d allowed = ap (λ b. elim b as (λ _. Result SaidView TextKind) [ true ↦ with_body (trigger items h d) | false ↦ Err faults.Form ]) allowed
 
-pub judged_ok : (v : TextVersion) (said : Saying) → is_formed said ≡ true → is_bodied said ≡ true → IsPlaced v said → judged v said ≡ Ok said
+pub judged_ok : (v : TextVersion) (said : SaidView) → is_formed said ≡ true → is_bodied said ≡ true → IsPlaced v said → judged v said ≡ Ok said
 judged_ok Open (version n) h b placed = refl
 judged_ok One (version n) h b placed = absurd (placed.0 tt)
 judged_ok Two (version n) h b placed = absurd (placed.0 tt)
@@ -235,9 +235,9 @@ judged_ok v (admin u) h b placed = refl
 judged_ok v (opening f) h b placed = opening_ok v f placed.1
 judged_ok v (entry f p hd) h b placed = allowed_ok v (entry f p hd) placed.1
 judged_ok v (trigger items hd d) h b placed =
-    trigger_ok v items hd d placed.1 ∙ ap (λ t. elim t as (λ _. Result Saying TextKind) [ true ↦ Ok (trigger items hd d) | false ↦ Err faults.Body ]) b
+    trigger_ok v items hd d placed.1 ∙ ap (λ t. elim t as (λ _. Result SaidView TextKind) [ true ↦ Ok (trigger items hd d) | false ↦ Err faults.Body ]) b
 
-written_words : (said : Saying) (v : TextVersion) → is_no_period said ≡ true → is_formed said ≡ true → is_bodied said ≡ true → IsPlaced v said → length (spaced (said_words said)) ≤ 4_096
+written_words : (said : SaidView) (v : TextVersion) → is_no_period said ≡ true → is_formed said ≡ true → is_bodied said ≡ true → IsPlaced v said → length (spaced (said_words said)) ≤ 4_096
     → read_said v (spaced (said_words said)) ≡ Ok (Some said)
 written_words said v np h b placed short =
     let line = spaced (said_words said) in
@@ -254,14 +254,14 @@ written_period n f l e v h order short =
     read_loud v (spaced (said_words (period n f l e))) short (ap are_silent (period_words n f l e h1.0 h3.1))
     ∙ ap some_said (period_said n f l e h1.0 h3.1 v (leb-true f last_minute h1.1) (leb-true l last_minute h2.1) order)
 
-pub written_is_read : (said : Saying) (v : TextVersion) → is_saying said ≡ true → IsPlaced v said → length (spaced (said_words said)) ≤ 4_096
+pub written_is_read : (said : SaidView) (v : TextVersion) → is_saying said ≡ true → IsPlaced v said → length (spaced (said_words said)) ≤ 4_096
     → read_said v (spaced (said_words said)) ≡ Ok (Some said)
 written_is_read said v h placed short =
     let h2 = both (is_formed said && is_bounded said) (is_bodied said) h in
     let h1 = both (is_formed said) (is_bounded said) h2.0 in
     by said h1.0 h1.1 h2.1 placed short
   where
-    by : (said : Saying) → is_formed said ≡ true → is_bounded said ≡ true → is_bodied said ≡ true → IsPlaced v said → length (spaced (said_words said)) ≤ 4_096
+    by : (said : SaidView) → is_formed said ≡ true → is_bounded said ≡ true → is_bodied said ≡ true → IsPlaced v said → length (spaced (said_words said)) ≤ 4_096
         → read_said v (spaced (said_words said)) ≡ Ok (Some said)
     by (version n) h bounded b placed short = written_words (version n) v refl h b placed short
     by (role n) h bounded b placed short = written_words (role n) v refl h b placed short

@@ -2,9 +2,8 @@
 use Rattle.std.specs.Prelude.{ℕ, Bool, true, false, List, [], ◌∷◌, ◌++◌, codes, bytes_eq, length, Option, Some, None}
 use Rattle.gt_base.specs.Names.{name_in}
 use Rattle.policy_words.specs.declared.parts.Item.{Item}
-use Rattle.policy_words.specs.declared.parts.Item.TheVariants.{Event, Signal, Cond, Settled}
-use Rattle.policy_words.specs.declared.parts.Sort.{Sort}
-use Rattle.policy_words.specs.Wording.{◌>>=◌, Read, fluent_at, signal_at, cond_at, settled_at, or_else}
+use Rattle.policy_words.specs.declared.parts.Item.TheVariants.{Signal, Cond, Settled}
+use Rattle.policy_words.specs.Wording.{◌>>=◌, Read, signal_at, cond_at, settled_at, or_else}
 use Rattle.policy_words.specs.Reading.{items_at}
 
 -- a name
@@ -17,12 +16,6 @@ name_at (w ∷ ws) = do
 -- a signal, a condition or a settled condition
 abbrev pub other_item_at : Read Item
 other_item_at ws = or_else (do s ← signal_at ws; Some (Signal s.0, s.1)) (or_else (do c ← cond_at ws; Some (Cond c.0, c.1)) (do c ← settled_at ws; Some (Settled c.0, c.1)))
-
--- the event of a verb whose names are to come
-abbrev pub item_for : Bool × Sort → Read Item
-item_for v ws = do
-  f ← fluent_at v.1 ws
-  Some (Event (record { on = v.0; fluent = f.0 }), f.1)
 
 -- `and`, or `then`, which ends the items
 abbrev pub link_at : Read Bool

@@ -6,7 +6,7 @@ use Rattle.gt_text.specs.Lines.{lines_of, is_feed}
 use Rattle.gt_text.specs.Words.{spaced, as_text}
 use Rattle.policy_words.specs.declared.faults.TextKind.{TextKind}
 use Rattle.policy_words.specs.declared.versions.TextVersion.{TextVersion}
-use Rattle.policy_words.specs.Sayings.{Saying, said_words, is_saying}
+use Rattle.policy_words.specs.Sayings.{SaidView, said_words, is_saying}
 use Rattle.policy_words.specs.Reading.{read_said}
 use Rattle.policy_words.specs.Spelling.{IsPlaced, IsSaid}
 
@@ -16,12 +16,12 @@ NumbersAreDecimal = (word : List ℕ) (n : ℕ) → n < 2 ^ 64 → (number_in wo
 
 -- reading a line by its words is what the spellings of sayings and the table of faults say of it
 abbrev pub SayingsAreRead : Type 0
-SayingsAreRead = (v : TextVersion) (line : List ℕ) (r : Result (Option Saying) TextKind) → (read_said v line ≡ r) ↔ IsSaid v line r
+SayingsAreRead = (v : TextVersion) (line : List ℕ) (r : Result (Option SaidView) TextKind) → (read_said v line ≡ r) ↔ IsSaid v line r
 
 -- a saying in range is read from the line that it writes
 abbrev pub WrittenIsRead : Type 0
 WrittenIsRead =
-    (said : Saying) (v : TextVersion) → IsTrue (is_saying said) → IsPlaced v said → length (spaced (said_words said)) ≤ 4_096
+    (said : SaidView) (v : TextVersion) → IsTrue (is_saying said) → IsPlaced v said → length (spaced (said_words said)) ≤ 4_096
     → read_said v (spaced (said_words said)) ≡ Ok (Some said)
 
 abbrev pub has_no_feed : List ℕ → Bool
@@ -30,4 +30,4 @@ has_no_feed line = not (list_any is_feed line)
 -- lines that are written with their line feeds are the lines of the text that they make, and each saying is written in one
 pub record LinesAreCut : Type 0 where
   pub cut : (lines : List (List ℕ)) → IsTrue (list_all has_no_feed lines) → lines_of (as_text lines) ≡ lines
-  pub one_line : (said : Saying) → IsTrue (is_saying said) → IsTrue (has_no_feed (spaced (said_words said)))
+  pub one_line : (said : SaidView) → IsTrue (is_saying said) → IsTrue (has_no_feed (spaced (said_words said)))

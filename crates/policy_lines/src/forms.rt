@@ -1,7 +1,7 @@
 //! Lines that say nothing of an expression: their words after the first.
 ghost use Rattle.std.specs.Prelude.{◌≡◌, ◌∷◌, [], List, ℕ, true, false, codes, option_map};
 ghost use Rattle.policy_words.specs.Wording.{cond_at, head_at};
-ghost use Rattle.policy_words.specs.Sayings.{Saying, kind_word, strength_word, cap_word};
+ghost use Rattle.policy_words.specs.Sayings.{SaidView, kind_word, strength_word, cap_word};
 ghost use Rattle.policy_words.specs.Seen.{seen_said};
 ghost use Rattle.policy_words.specs.Reading.{formed as formed_by, one_name as named, most_at, during_in, limit_in, spelled_so, edge_in, cap_in, opening_by, linked_by, entry_in, version_in, version_by};
 ghost use Rattle.policy_lines.specs.Answered.{Answers};
@@ -51,7 +51,7 @@ pub(crate) fn version(opens: bool, words: Words<'_>) -> Result<Said, TextKind>
 
 /// The one name of a line.
 pub(crate) fn one_name(mut words: Words<'_>) -> Option<Name>
-    ensures { (build : List ℕ → Saying) → option_map build result ≡ named build words.entry }
+    ensures { (build : List ℕ → SaidView) → option_map build result ≡ named build words.entry }
 {
     let name = next_name(&mut words)?;
     if words.next().is_some() {

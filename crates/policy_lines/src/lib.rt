@@ -20,4 +20,5 @@ pub use part_texts::{push_cond, push_delay, push_event, push_head, push_signal};
 pub use parts::{next_cond, next_event, next_head, read_delay};
 pub use reading::read_said;
 pub use units::{is_comment, next_name, number_from, read_instant, read_name};
+pub use verbs::{cond_verb, event_verb};
 pub use writing::{push_period, push_said};

@@ -91,14 +91,14 @@ fn cond_among(mut verbs: &[(bool, Sort)], word: &[u8]) -> Option<(bool, Sort)>
 }
 
 /// The verb of an event that a word is.
-pub(crate) fn event_verb(word: &[u8]) -> Option<(bool, Sort)>
+pub fn event_verb(word: &[u8]) -> Option<(bool, Sort)>
     ensures { result ≡ verb_in event_word word.now }
 {
     event_among(&VERBS, word)
 }
 
 /// The verb of a condition that a word is.
-pub(crate) fn cond_verb(word: &[u8]) -> Option<(bool, Sort)>
+pub fn cond_verb(word: &[u8]) -> Option<(bool, Sort)>
     ensures { result ≡ verb_in cond_word word.now }
 {
     cond_among(&VERBS, word)

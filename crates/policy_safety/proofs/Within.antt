@@ -2,7 +2,7 @@
 use Rattle.std.proofs.Common.{◌≡◌, ℕ, zero, suc, ◌+◌, ◌≤◌, Bool, true, nat_le, List, [], ◌∷◌, length, Some, arith}
 use Rattle.std.specs.List.{list_all}
 use Rattle.std.proofs.lemmas.Bool.{leb-true}
-use Rattle.gt_base.specs.Held.{Rule}
+use Rattle.gt_base.specs.Held.{TriggerView}
 use Rattle.gtrbac_model.specs.Policy.{Policy}
 use Rattle.gtrbac_model.specs.Graph.{item_at}
 use Rattle.gtrbac_model.proofs.Elements.{both_true}
@@ -14,7 +14,7 @@ all_at p [] n x h e = cc
 all_at p (y ∷ ys) zero x h e = let both = both_true (p y) (list_all p ys) h in cc (both.0, e)
 all_at p (y ∷ ys) (suc n) x h e = all_at p ys n x (both_true (p y) (list_all p ys) h).1 e
 
-few_items : (p : Policy) (r : Rule) → is_rule p r ≡ true → length r.events + length r.settled ≤ 16
+few_items : (p : Policy) (r : TriggerView) → is_rule p r ≡ true → length r.events + length r.settled ≤ 16
 few_items p r h = omega (arith, leb-true (length r.events + length r.signals + length r.conds + length r.settled) 16 (both_true _ _ h).1)
 
 pub within : (p : Policy) → IsPolicy p → IsWithinLimits p.triggers

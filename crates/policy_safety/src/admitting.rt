@@ -1,4 +1,4 @@
-//! Policies that are safe.
+//! Admission: a policy with its graph and levels where it is safe, else its least conflict cycle.
 ghost use Rattle.std.specs.Prelude.{◌≡◌, IfOk, IfErr, OnOk, Some};
 ghost use Rattle.gtrbac_model.specs.Safety.{IsSafe, the_cycle};
 ghost use Rattle.gtrbac_model.specs.Theorems.{HasOneModel};

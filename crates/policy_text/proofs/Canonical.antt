@@ -5,7 +5,7 @@ use Rattle.std.specs.List.{list_all, list_any, filter_map, flat_map, enumerate_f
 use Rattle.std.proofs.lemmas.Bool.{or_from}
 use Rattle.std.proofs.lemmas.List.{append-nil, map-id}
 use Rattle.std.proofs.lemmas.List.Elements.{filter_map-append, All-from_recursion}
-use Rattle.gt_base.specs.Held.{Rule}
+use Rattle.gt_base.specs.Held.{TriggerView}
 use Rattle.gt_base.specs.Sets.{members, set_of}
 use Rattle.gt_base.specs.declared.events.PeriodId.{PeriodId}
 use Rattle.gt_base.specs.declared.events.UserId.{UserId}
@@ -24,7 +24,7 @@ use Rattle.policy_words.specs.declared.parts.NamedFluent.TheVariants as fluents
 use Rattle.policy_words.specs.declared.sayings.CapKind.{CapKind}
 use Rattle.policy_words.specs.Reading.{Numbered}
 use Rattle.policy_words.specs.Wording.{◌>>=◌}
-use Rattle.policy_words.specs.Sayings.{Saying, version, role, user, perm, period, limit, edge, cap, admin, opening, entry, trigger, is_saying}
+use Rattle.policy_words.specs.Sayings.{SaidView, version, role, user, perm, period, limit, edge, cap, admin, opening, entry, trigger, is_saying}
 use Rattle.policy_words.specs.Naming.{Names, NamedPolicy, same_pair, user_name, period_name, limit_name, role_name, fluent_named, head_named}
 use Rattle.policy_words.specs.Making.{no_names, names_of, Draft, fresh, drafted, policy_of, named_policy, inherits, activates, no_caps, period_said, during_of, limit_said, edge_said, entry_said, rule_said, admin_said, opening_said, users_from, is_second, are_second, linked_at_first}
 use Rattle.policy_words.specs.Book.{is_known, is_of, most_of, first_trouble, without_cycle, without_trouble, said_in, build}
@@ -38,70 +38,70 @@ use Rattle.policy_book.proofs.Clashes.{clashes}
 use Rattle.policy_book.proofs.Naming.{with_names, all_new, role_in, user_in, perm_in, period_in, limit_in, roles_kept, users_kept, perms_kept, periods_kept, limits_kept, pair_in, pairs_kept, pair_turned}
 use Rattle.policy_book.proofs.Places.{names_numbered}
 use Rattle.policy_book.proofs.DraftedLines.{drafted_periods, drafted_limits, drafted_edges, drafted_entries, drafted_triggers}
-use Rattle.policy_text.proofs.Mapped.{all_true, all_weaker, all_filter, all_map, all_flat_map, kept_map, items_of_numbered}
+use Rattle.policy_book.proofs.Mapped.{all_true, all_weaker, all_filter, all_map, all_flat_map, kept_map, items_of_numbered}
 use Rattle.policy_text.proofs.Sections.{section_of, joined, picked, kept_of, all_joined}
 use Rattle.policy_text.proofs.NoTrouble.{no_trouble}
-use Rattle.policy_text.proofs.Back.{good, pairs_once, role_back, user_back, period_back, fluent_back, cond_back, head_back, rule_back}
+use Rattle.policy_book.proofs.Back.{good, pairs_once, role_back, user_back, period_back, fluent_back, cond_back, head_back, rule_back}
 use Rattle.policy_text.proofs.CanonicalCaps.{caps_after, cap_in, drafted_caps, caps_kept, caps_back, lines_all}
 use Rattle.policy_text.proofs.CanonicalMembers.{with_all, drafted_admins, drafted_on, by_sort, opening_back, admins_back}
 use Rattle.policy_text.proofs.CanonicalSections.{sections, lines_joined, is_right, are_sections, all_right, all_apart, few_lines, numbered_limits, edges_in, edge_ends, entries_in, rules_in, admins_in, roles_found, caps_count}
 
 -- readings take nothing outside their sections
 
-no_role : (x : Saying) → nat_eq 1 (section_of x) ≡ false → role_in x ≡ None
+no_role : (x : SaidView) → nat_eq 1 (section_of x) ≡ false → role_in x ≡ None
 no_role (role n) e = cc
 no_role _ e = refl
 
-no_user : (x : Saying) → nat_eq 2 (section_of x) ≡ false → user_in x ≡ None
+no_user : (x : SaidView) → nat_eq 2 (section_of x) ≡ false → user_in x ≡ None
 no_user (user n) e = cc
 no_user _ e = refl
 
-no_perm : (x : Saying) → nat_eq 3 (section_of x) ≡ false → perm_in x ≡ None
+no_perm : (x : SaidView) → nat_eq 3 (section_of x) ≡ false → perm_in x ≡ None
 no_perm (perm n) e = cc
 no_perm _ e = refl
 
-no_period : (x : Saying) → nat_eq 4 (section_of x) ≡ false → period_in x ≡ None
+no_period : (x : SaidView) → nat_eq 4 (section_of x) ≡ false → period_in x ≡ None
 no_period (period n f l e) h = cc
 no_period _ h = refl
 
-no_limit : (x : Saying) → nat_eq 5 (section_of x) ≡ false → limit_in x ≡ None
+no_limit : (x : SaidView) → nat_eq 5 (section_of x) ≡ false → limit_in x ≡ None
 no_limit (limit n p c most d) h = cc
 no_limit _ h = refl
 
-no_cap : (x : Saying) → nat_eq 7 (section_of x) ≡ false → cap_in x ≡ None
+no_cap : (x : SaidView) → nat_eq 7 (section_of x) ≡ false → cap_in x ≡ None
 no_cap (cap k r n) h = cc
 no_cap _ h = refl
 
-no_pair : (x : Saying) → nat_eq 6 (section_of x) ≡ false → pair_in x ≡ None
+no_pair : (x : SaidView) → nat_eq 6 (section_of x) ≡ false → pair_in x ≡ None
 no_pair (edge k st s j) h = cc
 no_pair _ h = refl
 
 module _ (ns : Names) where
-  no_period_said : (x : Saying) → nat_eq 4 (section_of x) ≡ false → period_said ns x ≡ None
+  no_period_said : (x : SaidView) → nat_eq 4 (section_of x) ≡ false → period_said ns x ≡ None
   no_period_said (period n f l e) h = cc
   no_period_said _ h = refl
 
-  no_limit_said : (x : Saying) → nat_eq 5 (section_of x) ≡ false → limit_said ns x ≡ None
+  no_limit_said : (x : SaidView) → nat_eq 5 (section_of x) ≡ false → limit_said ns x ≡ None
   no_limit_said (limit n p c most d) h = cc
   no_limit_said _ h = refl
 
-  no_edge_said : (x : Saying) → nat_eq 6 (section_of x) ≡ false → edge_said ns x ≡ None
+  no_edge_said : (x : SaidView) → nat_eq 6 (section_of x) ≡ false → edge_said ns x ≡ None
   no_edge_said (edge k st s j) h = cc
   no_edge_said _ h = refl
 
-  no_admin_said : (x : Saying) → nat_eq 8 (section_of x) ≡ false → admin_said ns x ≡ None
+  no_admin_said : (x : SaidView) → nat_eq 8 (section_of x) ≡ false → admin_said ns x ≡ None
   no_admin_said (admin u) h = cc
   no_admin_said _ h = refl
 
-  no_entry_said : (x : Saying) → nat_eq 14 (section_of x) ≡ false → entry_said ns x ≡ None
+  no_entry_said : (x : SaidView) → nat_eq 14 (section_of x) ≡ false → entry_said ns x ≡ None
   no_entry_said (entry f p h) e = cc
   no_entry_said _ e = refl
 
-  no_rule_said : (x : Saying) → nat_eq 15 (section_of x) ≡ false → rule_said ns x ≡ None
+  no_rule_said : (x : SaidView) → nat_eq 15 (section_of x) ≡ false → rule_said ns x ≡ None
   no_rule_said (trigger is h d) e = cc
   no_rule_said _ e = refl
 
-  no_opening_said : (x : Saying) → (nat_le 9 (section_of x) && nat_le (section_of x) 13) ≡ false → opening_said ns x ≡ None
+  no_opening_said : (x : SaidView) → (nat_le 9 (section_of x) && nat_le (section_of x) 13) ≡ false → opening_said ns x ≡ None
   no_opening_said (opening (fluents.Enabled r)) e = cc
   no_opening_said (opening (fluents.Assigned u r)) e = cc
   no_opening_said (opening (fluents.Granted q r)) e = cc
@@ -110,7 +110,7 @@ module _ (ns : Names) where
   no_opening_said _ e = refl
 
 -- a reading of one section
-of_section : {A B : Type 0} (f : Saying → Option B) (g : A → Saying) (h : A → B) (q : A → Bool) → ((a : A) → q a ≡ true → f (g a) ≡ Some (h a)) → (xs : List A) → list_all q xs ≡ true → filter_map f (map g xs ++ []) ≡ map h xs
+of_section : {A B : Type 0} (f : SaidView → Option B) (g : A → SaidView) (h : A → B) (q : A → Bool) → ((a : A) → q a ≡ true → f (g a) ≡ Some (h a)) → (xs : List A) → list_all q xs ≡ true → filter_map f (map g xs ++ []) ≡ map h xs
 of_section f g h q on xs all = ap (filter_map f) (append-nil (map g xs)) ∙ kept_map g f h q on xs all
 
 kind_inherits : (a b : Bool) → (a || b) ≡ true → inherits (edge_kind a b) ≡ a
@@ -124,20 +124,20 @@ kind_activates true false e = refl
 kind_activates false true e = refl
 kind_activates false false e = cc
 
-said_numbered : (n : ℕ) (xs : List Saying) → said_in (numbered_from n xs) ≡ xs
+said_numbered : (n : ℕ) (xs : List SaidView) → said_in (numbered_from n xs) ≡ xs
 said_numbered n [] = refl
 said_numbered n (x ∷ xs) = ap (λ zs. x ∷ zs) (said_numbered (n + 1) xs)
 
 -- the version
 
-no_version : {A : Type 0} (g : A → Saying) → ((a : A) → is_version (g a) ≡ false) → (xs : List A) → list_all (λ x. not (is_version x)) (map g xs) ≡ true
+no_version : {A : Type 0} (g : A → SaidView) → ((a : A) → is_version (g a) ≡ false) → (xs : List A) → list_all (λ x. not (is_version x)) (map g xs) ≡ true
 no_version g on xs = all_map g (λ x. not (is_version x)) (λ _. true) (λ a _. ap not (on a)) xs (all_true xs)
 
-none_linked : (none : Bool) (xs : List Saying) → list_all (λ x. not (is_version x)) xs ≡ true → list_all (λ x. not (is_version x)) (cond none [] xs) ≡ true
+none_linked : (none : Bool) (xs : List SaidView) → list_all (λ x. not (is_version x)) xs ≡ true → list_all (λ x. not (is_version x)) (cond none [] xs) ≡ true
 none_linked true xs h = refl
 none_linked false xs h = h
 
-abbrev pub sections_behind : NamedPolicy → List (ℕ × List Saying)
+abbrev pub sections_behind : NamedPolicy → List (ℕ × List SaidView)
 sections_behind np = elim (sections np) [ [] ↦ [] | s ∷ ss ↦ ss ]
 
 pub no_versions : (np : NamedPolicy) → list_all (λ x. not (is_version x)) (joined (sections_behind np)) ≡ true
@@ -172,7 +172,7 @@ no_versions np =
                               none_linked (is_version_one np.policy) (opening_lines ns is_linked ms) (no_version (λ f. opening (fluent_named ns f)) (λ _. refl) (filter is_linked ms)),
                               (
                                 no_version (λ (e : PeriodicEntry). entry e.form (period_name ns e.period) (head_named ns e.head)) (λ _. refl) np.policy.entries,
-                                (no_version (λ (r : Rule). trigger (items_of ns r) (head_named ns r.head) r.delay) (λ _. refl) np.policy.triggers, tt),
+                                (no_version (λ (r : TriggerView). trigger (items_of ns r) (head_named ns r.head) r.delay) (λ _. refl) np.policy.triggers, tt),
                               ),
                             ),
                           ),
@@ -192,11 +192,11 @@ no_versions np =
     no_cap_version kind r None = refl
     no_cap_version kind r (Some n) = refl
 
-not_second : (x : Saying) → not (is_version x) ≡ true → is_second x ≡ false
+not_second : (x : SaidView) → not (is_version x) ≡ true → is_second x ≡ false
 not_second (version n) h = cc
 not_second _ h = refl
 
-no_second : (xs : List Saying) → list_all (λ x. not (is_version x)) xs ≡ true → list_any is_second xs ≡ false
+no_second : (xs : List SaidView) → list_all (λ x. not (is_version x)) xs ≡ true → list_any is_second xs ≡ false
 no_second [] h = refl
 no_second (x ∷ xs) h = let parts = both_true (not (is_version x)) _ h in or_from (is_second x) _ (not_second x parts.0) (no_second xs parts.1)
 
@@ -207,10 +207,10 @@ module _ (np : NamedPolicy) (is : IsWellFormed np) where
   abbrev p : Policy
   p = np.policy
 
-  abbrev lines : List Saying
+  abbrev lines : List SaidView
   lines = canonical_lines np
 
-  taken : {B : Type 0} (f : Saying → Option B) (t : ℕ → Bool) → ((x : Saying) → t (section_of x) ≡ false → f x ≡ None) → filter_map f lines ≡ filter_map f (picked t (sections np))
+  taken : {B : Type 0} (f : SaidView → Option B) (t : ℕ → Bool) → ((x : SaidView) → t (section_of x) ≡ false → f x ≡ None) → filter_map f lines ≡ filter_map f (picked t (sections np))
   taken f t off = ap (filter_map f) (lines_joined np) ∙ kept_of f t off (sections np) (are_sections np is)
 
   -- names
@@ -298,7 +298,7 @@ module _ (np : NamedPolicy) (is : IsWellFormed np) where
   read_rules : filter_map (rule_said ns) lines ≡ p.triggers
   read_rules =
       taken (rule_said ns) (nat_eq 15) (no_rule_said ns)
-      ∙ of_section (rule_said ns) (λ (r : Rule). trigger (items_of ns r) (head_named ns r.head) r.delay) (λ r. r) (is_rule p) (rule_back np is) p.triggers (rules_in np is) ∙ map-id p.triggers
+      ∙ of_section (rule_said ns) (λ (r : TriggerView). trigger (items_of ns r) (head_named ns r.head) r.delay) (λ r. r) (is_rule p) (rule_back np is) p.triggers (rules_in np is) ∙ map-id p.triggers
 
   read_admins : filter_map (admin_said ns) lines ≡ p.admins
   read_admins =
@@ -322,10 +322,10 @@ module _ (np : NamedPolicy) (is : IsWellFormed np) where
       (next is_assigned (opening_lines ns is_granted ms ++ (opening_lines ns is_armed ms ++ (linked ms one ++ [])))
       (next is_granted (opening_lines ns is_armed ms ++ (linked ms one ++ [])) (next is_armed (linked ms one ++ []) (last one))))
     where
-      linked : List Fluent → Bool → List Saying
+      linked : List Fluent → Bool → List SaidView
       linked ms b = cond b [] (opening_lines ns is_linked ms)
 
-      next : (of_sort : Fluent → Bool) (xs : List Saying) {fs : List Fluent} → filter_map (opening_said ns) xs ≡ fs
+      next : (of_sort : Fluent → Bool) (xs : List SaidView) {fs : List Fluent} → filter_map (opening_said ns) xs ≡ fs
           → filter_map (opening_said ns) (opening_lines ns of_sort (members p.opening) ++ xs) ≡ filter of_sort (members p.opening) ++ fs
       next of_sort xs e = filter_map-append (opening_said ns) (opening_lines ns of_sort (members p.opening)) xs ∙ (λ i. read_sort of_sort i ++ e i)
 
@@ -341,7 +341,7 @@ module _ (np : NamedPolicy) (is : IsWellFormed np) where
   caps_read : draft.caps ≡ p.caps
   caps_read =
       let blank : List Caps = map (λ _. no_caps) ns.roles in
-      let all : List Saying = flat_map (cap_lines ns) (enumerate_from 0 p.caps) in
+      let all : List SaidView = flat_map (cap_lines ns) (enumerate_from 0 p.caps) in
       drafted_caps ns (fresh ns) lines ∙ caps_kept ns lines blank
       ∙ ap (λ xs. caps_after ns xs blank) (taken cap_in (nat_eq 7) no_cap ∙ ap (filter_map cap_in) (append-nil all))
       ∙ sym (caps_kept ns all blank)
@@ -407,17 +407,17 @@ module _ (np : NamedPolicy) (is : IsWellFormed np) where
 
   pub canonical_built : build (numbered_from 1 lines) ≡ Ok np
   canonical_built =
-      let numbered : List (Numbered Saying) = numbered_from 1 lines in
+      let numbered : List (Numbered SaidView) = numbered_from 1 lines in
       (λ i. without_trouble (first_trouble (names_of (said_numbered 1 lines i)) [] numbered) (named_policy (said_numbered 1 lines i)))
       ∙ (λ i. without_trouble (first_trouble (names_read i) [] numbered) (policy_named i)) ∙ (λ i. without_trouble (clear i) np) ∙ (λ i. without_cycle np (acyclic i))
 
   pub canonical_said : list_all is_saying lines ≡ true
   canonical_said = all_weaker (is_right ns) is_saying (λ x h. (both_true (is_saying x) _ h).0) lines right
 
-by_places : (q : Saying → Bool) (xs : List Saying) → list_all q xs ≡ true → All (λ s. IsTrue (q s)) xs
+by_places : (q : SaidView → Bool) (xs : List SaidView) → list_all q xs ≡ true → All (λ s. IsTrue (q s)) xs
 by_places q xs h = All-from_recursion (λ s. IsTrue (q s)) xs (by xs h)
   where
-    by : (ys : List Saying) → list_all q ys ≡ true → AllByRecursion (λ s. IsTrue (q s)) ys
+    by : (ys : List SaidView) → list_all q ys ≡ true → AllByRecursion (λ s. IsTrue (q s)) ys
     by [] k = tt
     by (y ∷ ys) k = let parts = both_true (q y) _ k in (parts.0, by ys parts.1)
 

@@ -9,38 +9,38 @@ use Rattle.gt_base.specs.declared.policies.Caps.{Caps}
 use Rattle.gtrbac_model.proofs.Elements.{both_true, and_true, all_elim}
 use Rattle.policy_words.specs.declared.sayings.CapKind.{CapKind}
 use Rattle.policy_words.specs.declared.sayings.CapKind.TheVariants as kinds
-use Rattle.policy_words.specs.Sayings.{Saying, cap}
+use Rattle.policy_words.specs.Sayings.{SaidView, cap}
 use Rattle.policy_words.specs.Naming.{Names, role_of, role_name}
 use Rattle.policy_words.specs.Making.{Draft, adding, drafted, changed_at, with_cap, capped, with_caps_said, no_caps}
 use Rattle.policy_words.specs.Canonical.{cap_line, cap_lines}
 use Rattle.policy_book.proofs.Lists.{repeats, bytes_same, same_bytes, some_same}
 use Rattle.policy_book.proofs.Clashes.{clashes}
-use Rattle.policy_text.proofs.Mapped.{all_join}
+use Rattle.policy_book.proofs.Mapped.{all_join}
 use Rattle.policy_text.proofs.Sections.{apart_join}
 
 -- the caps after some lines
-abbrev pub caps_after : Names → List Saying → List Caps → List Caps
+abbrev pub caps_after : Names → List SaidView → List Caps → List Caps
 caps_after ns [] cs = cs
 caps_after ns (x ∷ xs) cs = caps_after ns xs (with_caps_said ns x cs)
 
-pub drafted_caps : (ns : Names) (d : Draft) (xs : List Saying) → (drafted ns d xs).caps ≡ caps_after ns xs d.caps
+pub drafted_caps : (ns : Names) (d : Draft) (xs : List SaidView) → (drafted ns d xs).caps ≡ caps_after ns xs d.caps
 drafted_caps ns d [] = refl
 drafted_caps ns d (x ∷ xs) = drafted_caps ns (adding ns d x) xs
 
-abbrev pub cap_in : Saying → Option Saying
+abbrev pub cap_in : SaidView → Option SaidView
 cap_in (cap kind r n) = Some (cap kind r n)
 cap_in _ = None
 
 -- only lines of caps change them
-pub caps_kept : (ns : Names) (xs : List Saying) (cs : List Caps) → caps_after ns xs cs ≡ caps_after ns (filter_map cap_in xs) cs
+pub caps_kept : (ns : Names) (xs : List SaidView) (cs : List Caps) → caps_after ns xs cs ≡ caps_after ns (filter_map cap_in xs) cs
 caps_kept ns [] cs = refl
 caps_kept ns (x ∷ xs) cs = caps_kept ns xs (with_caps_said ns x cs) ∙ by x
   where
-    by : (y : Saying) → caps_after ns (filter_map cap_in xs) (with_caps_said ns y cs) ≡ caps_after ns (cons_option (cap_in y) (filter_map cap_in xs)) cs
+    by : (y : SaidView) → caps_after ns (filter_map cap_in xs) (with_caps_said ns y cs) ≡ caps_after ns (cons_option (cap_in y) (filter_map cap_in xs)) cs
     by (cap kind r n) = refl
     by _ = refl
 
-after_join : (ns : Names) (xs ys : List Saying) (cs : List Caps) → caps_after ns (xs ++ ys) cs ≡ caps_after ns ys (caps_after ns xs cs)
+after_join : (ns : Names) (xs ys : List SaidView) (cs : List Caps) → caps_after ns (xs ++ ys) cs ≡ caps_after ns ys (caps_after ns xs cs)
 after_join ns [] ys cs = refl
 after_join ns (x ∷ xs) ys cs = after_join ns xs ys (with_caps_said ns x cs)
 
@@ -78,7 +78,7 @@ module _ (ns : Names) (r : List ℕ) (n : ℕ) (found : role_of ns r ≡ Some (r
   one_line kind None c = refl
   one_line kind (Some m) c = ap (λ q. capped ns kind m q (front ++ c ∷ rest)) found ∙ changed_end (with_cap kind m) front c rest n place
 
-  more_lines : (kind : CapKind) (o : Option ℕ) (xs : List Saying) (b c : Caps) → caps_after ns xs (front ++ b ∷ rest) ≡ front ++ c ∷ rest
+  more_lines : (kind : CapKind) (o : Option ℕ) (xs : List SaidView) (b c : Caps) → caps_after ns xs (front ++ b ∷ rest) ≡ front ++ c ∷ rest
       → caps_after ns (xs ++ cap_line ns kind r o) (front ++ b ∷ rest) ≡ front ++ with_some kind o c ∷ rest
   more_lines kind o xs b c e = after_join ns xs (cap_line ns kind r o) (front ++ b ∷ rest) ∙ ap (λ cs. caps_after ns (cap_line ns kind r o) cs) e ∙ one_line kind o c
 
@@ -124,15 +124,15 @@ block_apart ns r (Some t) (Some u) (Some l) None = refl
 block_apart ns r (Some t) (Some u) (Some l) (Some d) = refl
 
 -- a cap of this role, and of another
-abbrev is_cap_of : List ℕ → Saying → Bool
+abbrev is_cap_of : List ℕ → SaidView → Bool
 is_cap_of r (cap kind s n) = bytes_eq s r
 is_cap_of r _ = false
 
-abbrev is_cap_beside : List ℕ → Saying → Bool
+abbrev is_cap_beside : List ℕ → SaidView → Bool
 is_cap_beside r (cap kind s n) = not (bytes_eq s r)
 is_cap_beside r _ = false
 
-caps_apart : (r : List ℕ) (x y : Saying) → is_cap_of r x ≡ true → is_cap_beside r y ≡ true → clashes x y ≡ false
+caps_apart : (r : List ℕ) (x y : SaidView) → is_cap_of r x ≡ true → is_cap_beside r y ≡ true → clashes x y ≡ false
 caps_apart r (cap k s n) (cap l t m) e f = by k l
   where
     other : bytes_eq t s ≡ false
@@ -158,12 +158,12 @@ caps_apart r (cap k s n) (cap l t m) e f = by k l
 caps_apart r (cap k s n) _ e f = cc
 caps_apart r _ y e f = cc
 
-line_all : (ns : Names) (p : Saying → Bool) (kind : CapKind) (r : List ℕ) (o : Option ℕ) → ((n : ℕ) → o ≡ Some n → p (cap kind r n) ≡ true) → list_all p (cap_line ns kind r o) ≡ true
+line_all : (ns : Names) (p : SaidView → Bool) (kind : CapKind) (r : List ℕ) (o : Option ℕ) → ((n : ℕ) → o ≡ Some n → p (cap kind r n) ≡ true) → list_all p (cap_line ns kind r o) ≡ true
 line_all ns p kind r None on = refl
 line_all ns p kind r (Some n) on = and_true _ _ (on n refl) refl
 
 -- a test of all lines of a role
-pub lines_all : (ns : Names) (p : Saying → Bool) (n : ℕ) (c : Caps) → ((kind : CapKind) (o : Option ℕ) → list_all p (cap_line ns kind (role_name ns (record { 0 = n })) o) ≡ true) → list_all p (cap_lines ns (n, c)) ≡ true
+pub lines_all : (ns : Names) (p : SaidView → Bool) (n : ℕ) (c : Caps) → ((kind : CapKind) (o : Option ℕ) → list_all p (cap_line ns kind (role_name ns (record { 0 = n })) o) ≡ true) → list_all p (cap_lines ns (n, c)) ≡ true
 lines_all ns p n c on =
     let r : List ℕ = role_name ns (record { 0 = n }) in
     all_join p (cap_line ns kinds.Total r c.total ++ cap_line ns kinds.User r c.user ++ cap_line ns kinds.Length r c.length) (cap_line ns kinds.Day r c.day)
@@ -194,7 +194,7 @@ module _ (ns : Names) (found : (n : ℕ) → n < length ns.roles → role_of ns 
   of_role : (n : ℕ) (c : Caps) → list_all (is_cap_of (role_name ns (record { 0 = n }))) (cap_lines ns (n, c)) ≡ true
   of_role n c = lines_all ns (is_cap_of (role_name ns (record { 0 = n }))) n c (λ kind o. line_all ns (is_cap_of (role_name ns (record { 0 = n }))) kind (role_name ns (record { 0 = n })) o (λ v _. same_bytes (role_name ns (record { 0 = n })) (role_name ns (record { 0 = n })) refl))
 
-  none_beside : (r : List ℕ) (x : Saying) → is_cap_of r x ≡ true → (ys : List Saying) → list_all (is_cap_beside r) ys ≡ true → list_any (clashes x) ys ≡ false
+  none_beside : (r : List ℕ) (x : SaidView) → is_cap_of r x ≡ true → (ys : List SaidView) → list_all (is_cap_beside r) ys ≡ true → list_any (clashes x) ys ≡ false
   none_beside r x e [] h = refl
   none_beside r x e (y ∷ ys) h = let parts = both_true (is_cap_beside r y) _ h in or_from _ _ (caps_apart r x y e parts.0) (none_beside r x e ys parts.1)
 

@@ -3,7 +3,7 @@ use Rattle.std.proofs.Common.{◌≡◌, ℕ, ◌+◌, Bool, true, false, cond, 
 use Rattle.std.specs.List.{list_all, list_any, enumerate_from}
 use Rattle.std.proofs.lemmas.Bool.{or_parts, not-true}
 use Rattle.std.proofs.lemmas.List.Folds.{list_any-append}
-use Rattle.gt_base.specs.Held.{Rule}
+use Rattle.gt_base.specs.Held.{TriggerView}
 use Rattle.gt_base.specs.Sets.{members}
 use Rattle.gt_base.specs.declared.events.UserId.{UserId}
 use Rattle.gt_base.specs.declared.events.Fluent.{Fluent}
@@ -16,16 +16,16 @@ use Rattle.gtrbac_model.proofs.Elements.{both_true, and_true}
 use Rattle.policy_words.specs.declared.parts.Item.{Item}
 use Rattle.policy_words.specs.declared.parts.Item.TheVariants.{Event, Signal, Cond, Settled}
 use Rattle.policy_words.specs.declared.sayings.CapKind.{CapKind}
-use Rattle.policy_words.specs.Sayings.{Saying, role, user, perm, admin, opening, entry, trigger, is_edge, item_names_edge, names_edge}
+use Rattle.policy_words.specs.Sayings.{SaidView, role, user, perm, admin, opening, entry, trigger, is_edge, item_names_edge, names_edge}
 use Rattle.policy_words.specs.Naming.{Names, NamedPolicy, role_name, user_name, period_name, fluent_named, event_named, signal_named, cond_named, head_named}
 use Rattle.policy_words.specs.Making.{edges_from}
 use Rattle.policy_words.specs.Canonical.{is_enabled, is_assigned, is_granted, is_armed, is_linked, is_version_one, switches_edges, rule_names_edge, period_line, limit_line, edge_line, cap_line, cap_lines, items_of, opening_lines}
-use Rattle.policy_text.proofs.Mapped.{all_true, all_filter, all_map, all_flat_map}
+use Rattle.policy_book.proofs.Mapped.{all_true, all_filter, all_map, all_flat_map}
 use Rattle.policy_text.proofs.Sections.{joined, all_joined}
 use Rattle.policy_text.proofs.CanonicalCaps.{lines_all}
 use Rattle.policy_text.proofs.Canonical.{sections_behind}
 
-abbrev pub names_none : Saying → Bool
+abbrev pub names_none : SaidView → Bool
 names_none s = not (names_edge s)
 
 none_all : {A : Type 0} (f : A → Bool) (xs : List A) → list_any f xs ≡ false → list_all (λ x. not (f x)) xs ≡ true
@@ -56,7 +56,7 @@ module _ (ns : Names) where
   edge_named (base.Limit l) = refl
   edge_named (base.Edge n) = refl
 
-  rule_named : (r : Rule) → names_edge (trigger (items_of ns r) (head_named ns r.head) r.delay) ≡ rule_names_edge r
+  rule_named : (r : TriggerView) → names_edge (trigger (items_of ns r) (head_named ns r.head) r.delay) ≡ rule_names_edge r
   rule_named r =
       let events : List Item = map (λ e. Event (event_named ns e)) r.events in
       let signals : List Item = map (λ s. Signal (signal_named ns s)) r.signals in
@@ -134,7 +134,7 @@ no_edges np one =
                                 all_map (λ (e : PeriodicEntry). entry e.form (period_name ns e.period) (head_named ns e.head)) names_none (λ e. not (is_linked e.head.event.fluent))
                                     (λ e h. ap not (edge_named ns e.head.event.fluent) ∙ h) np.policy.entries (none_all (λ e. is_linked e.head.event.fluent) np.policy.entries three.1),
                                 (
-                                  all_map (λ (r : Rule). trigger (items_of ns r) (head_named ns r.head) r.delay) names_none (λ r. not (rule_names_edge r)) (λ r h. ap not (rule_named ns r) ∙ h)
+                                  all_map (λ (r : TriggerView). trigger (items_of ns r) (head_named ns r.head) r.delay) names_none (λ r. not (rule_names_edge r)) (λ r h. ap not (rule_named ns r) ∙ h)
                                       np.policy.triggers (none_all rule_names_edge np.policy.triggers two.1),
                                   tt,
                                 ),
@@ -153,5 +153,5 @@ no_edges np one =
       ),
     )
   where
-    plain : {A : Type 0} (g : A → Saying) → ((a : A) → names_edge (g a) ≡ false) → (xs : List A) → list_all names_none (map g xs) ≡ true
+    plain : {A : Type 0} (g : A → SaidView) → ((a : A) → names_edge (g a) ≡ false) → (xs : List A) → list_all names_none (map g xs) ≡ true
     plain g on xs = all_map g names_none (λ _. true) (λ a _. ap not (on a)) xs (all_true xs)

@@ -17,7 +17,7 @@ use Rattle.gtrbac_model.specs.Valid.{rises_above}
 use Rattle.gt_base.specs.declared.policies.HierEdge.{HierEdge}
 use Rattle.gtrbac_model.specs.Policy.{Policy}
 use Rattle.gtrbac_model.specs.WholePolicy.{admins_rise, is_fluent}
-use Rattle.policy_words.specs.Sayings.{Saying}
+use Rattle.policy_words.specs.Sayings.{SaidView}
 use Rattle.policy_words.specs.Naming.{Names}
 use Rattle.policy_words.specs.Making.{Draft, adding, drafted, with_new, admin_said, opening_said, users_from, edges_from, linked_at_first}
 use Rattle.policy_words.specs.Canonical.{is_enabled, is_assigned, is_granted, is_armed, is_linked}
@@ -27,8 +27,8 @@ abbrev pub with_all : {A : Type 0} → (A → A → Bool) → List A → List A 
 with_all same xs [] = xs
 with_all same xs (y ∷ ys) = with_all same (with_new same (Some y) xs) ys
 
-module _ (ns : Names) {A : Type 0} (same : A → A → Bool) (of : Draft → List A) (said : Saying → Option A) (step : (d : Draft) (x : Saying) → of (adding ns d x) ≡ with_new same (said x) (of d)) where
-  drafted_new : (d : Draft) (xs : List Saying) → of (drafted ns d xs) ≡ with_all same (of d) (filter_map said xs)
+module _ (ns : Names) {A : Type 0} (same : A → A → Bool) (of : Draft → List A) (said : SaidView → Option A) (step : (d : Draft) (x : SaidView) → of (adding ns d x) ≡ with_new same (said x) (of d)) where
+  drafted_new : (d : Draft) (xs : List SaidView) → of (drafted ns d xs) ≡ with_all same (of d) (filter_map said xs)
   drafted_new d [] = refl
   drafted_new d (x ∷ xs) = drafted_new (adding ns d x) xs ∙ ap (λ z. with_all same z (filter_map said xs)) (step d x) ∙ by (said x)
     where
@@ -36,10 +36,10 @@ module _ (ns : Names) {A : Type 0} (same : A → A → Bool) (of : Draft → Lis
       by None = refl
       by (Some a) = refl
 
-pub drafted_admins : (ns : Names) (d : Draft) (xs : List Saying) → (drafted ns d xs).admins ≡ with_all same_user d.admins (filter_map (admin_said ns) xs)
+pub drafted_admins : (ns : Names) (d : Draft) (xs : List SaidView) → (drafted ns d xs).admins ≡ with_all same_user d.admins (filter_map (admin_said ns) xs)
 drafted_admins ns d xs = drafted_new ns same_user (λ e. e.admins) (admin_said ns) (λ _ _. refl) d xs
 
-pub drafted_on : (ns : Names) (d : Draft) (xs : List Saying) → (drafted ns d xs).on_at_first ≡ with_all same_fluent d.on_at_first (filter_map (opening_said ns) xs)
+pub drafted_on : (ns : Names) (d : Draft) (xs : List SaidView) → (drafted ns d xs).on_at_first ≡ with_all same_fluent d.on_at_first (filter_map (opening_said ns) xs)
 drafted_on ns d xs = drafted_new ns same_fluent (λ e. e.on_at_first) (opening_said ns) (λ _ _. refl) d xs
 
 module _ {A : Type 0} (same : A → A → Bool) (tells : (a b : A) → same a b ≡ true → a ≡ b) where

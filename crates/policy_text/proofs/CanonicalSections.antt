@@ -8,7 +8,7 @@ use Rattle.std.proofs.lemmas.List.{append-nil, length-map, map-id}
 use Rattle.std.proofs.lemmas.List.Elements.{filter_agree}
 use Rattle.std.proofs.lemmas.List.Sums.{length-filter}
 use Rattle.gt_base.specs.Bounds.{last_minute}
-use Rattle.gt_base.specs.Held.{Rule}
+use Rattle.gt_base.specs.Held.{TriggerView}
 use Rattle.gt_base.specs.Names.{is_name}
 use Rattle.gt_base.specs.Sets.{members}
 use Rattle.gt_base.specs.declared.events.RoleId.{RoleId}
@@ -32,7 +32,7 @@ use Rattle.policy_words.specs.declared.sayings.CapKind.TheVariants as caps
 use Rattle.policy_words.specs.declared.sayings.Kind.{Kind}
 use Rattle.policy_words.specs.declared.sayings.Kind.TheVariants as kinds
 use Rattle.policy_words.specs.Wording.{fluent_names}
-use Rattle.policy_words.specs.Sayings.{Saying, version, role, user, perm, cap, admin, opening, entry, trigger, is_saying, is_formed, is_bounded, is_bodied, is_count, is_period_name, are_names}
+use Rattle.policy_words.specs.Sayings.{SaidView, version, role, user, perm, cap, admin, opening, entry, trigger, is_saying, is_formed, is_bounded, is_bodied, is_count, is_period_name, are_names}
 use Rattle.policy_words.specs.Naming.{Names, NamedPolicy, role_of, user_of, period_of, cond_of, fluent_of, role_name, user_name, period_name, limit_name, fluent_named, cond_named, head_named}
 use Rattle.policy_words.specs.Book.{is_known, is_known_period, is_of, most_of}
 use Rattle.policy_words.specs.Canonical.{is_enabled, is_assigned, is_granted, is_armed, is_linked, is_version_one, version_of, period_line, limit_line, edge_line, cap_line, cap_lines, items_of, opening_lines, canonical_lines}
@@ -41,13 +41,13 @@ use Rattle.policy_book.proofs.Lists.{repeats, bytes_same, bytes_turned, some_sam
 use Rattle.policy_book.proofs.Clashes.{clashes}
 use Rattle.policy_book.proofs.Places.{names_numbered}
 use Rattle.policy_book.proofs.WellFormed.{twice_joined}
-use Rattle.policy_text.proofs.Mapped.{all_true, all_join, all_filter, all_map, apart_map, all_flat_map, all_numbered}
+use Rattle.policy_book.proofs.Mapped.{all_true, all_join, all_filter, all_map, apart_map, all_flat_map, all_numbered}
 use Rattle.policy_text.proofs.Sections.{section_of_kind, kind_section, joined, picked, is_in, AreSections, few_of, all_joined, apart_joined}
-use Rattle.policy_text.proofs.Back.{good, role_back, user_back, period_back, role_named, user_named, period_named, limit_named, fluent_back, names_of_fluent, cond_back, head_back, head_said, rule_known, rule_is_said}
+use Rattle.policy_book.proofs.Back.{good, role_back, user_back, period_back, role_named, user_named, period_named, limit_named, fluent_back, names_of_fluent, cond_back, head_back, head_said, rule_known, rule_is_said}
 use Rattle.policy_text.proofs.CanonicalCaps.{all_caps_apart}
 
 -- the sections of the canonical lines
-abbrev pub sections : NamedPolicy → List (ℕ × List Saying)
+abbrev pub sections : NamedPolicy → List (ℕ × List SaidView)
 sections np =
     let ns : Names = np.names in
     let ms : List Fluent = members np.policy.opening in
@@ -57,7 +57,7 @@ sections np =
     ∷ (13, cond (is_version_one np.policy) [] (opening_lines ns is_linked ms))
     ∷ (14, map (λ e. entry e.form (period_name ns e.period) (head_named ns e.head)) np.policy.entries) ∷ (15, map (λ r. trigger (items_of ns r) (head_named ns r.head) r.delay) np.policy.triggers) ∷ []
 
-in_a_row : (v : Saying) (a b c d e f g h j k l m z n o : List Saying)
+in_a_row : (v : SaidView) (a b c d e f g h j k l m z n o : List SaidView)
     → v ∷ a ++ b ++ c ++ d ++ e ++ f ++ g ++ h ++ j ++ k ++ l ++ m ++ z ++ n ++ o
     ≡ v ∷ (a ++ (b ++ (c ++ (d ++ (e ++ (f ++ (g ++ (h ++ (j ++ (k ++ (l ++ (m ++ (z ++ (n ++ (o ++ [])))))))))))))))
 in_a_row v a b c d e f g h j k l m z n o = simp (append_assoc, append-nil)
@@ -74,22 +74,22 @@ lines_joined np =
 
 -- what holds of no line holds where none is written
 
-all_or_none : (test : Saying → Bool) (none : Bool) (xs : List Saying) → list_all test xs ≡ true → list_all test (cond none [] xs) ≡ true
+all_or_none : (test : SaidView → Bool) (none : Bool) (xs : List SaidView) → list_all test xs ≡ true → list_all test (cond none [] xs) ≡ true
 all_or_none test true xs h = refl
 all_or_none test false xs h = h
 
-apart_or_none : (none : Bool) (xs : List Saying) → repeats clashes xs ≡ false → repeats clashes (cond none [] xs) ≡ false
+apart_or_none : (none : Bool) (xs : List SaidView) → repeats clashes xs ≡ false → repeats clashes (cond none [] xs) ≡ false
 apart_or_none true xs h = refl
 apart_or_none false xs h = h
 
 -- a line in range, whose names are known
-abbrev pub is_right : Names → Saying → Bool
+abbrev pub is_right : Names → SaidView → Bool
 is_right ns x = is_saying x && is_known ns x
 
-said_by : (x : Saying) → is_formed x ≡ true → is_bounded x ≡ true → is_bodied x ≡ true → is_saying x ≡ true
+said_by : (x : SaidView) → is_formed x ≡ true → is_bounded x ≡ true → is_bodied x ≡ true → is_saying x ≡ true
 said_by x f b d = and_true (is_formed x && is_bounded x) _ (and_true (is_formed x) _ f b) d
 
-right_by : (ns : Names) (x : Saying) → is_saying x ≡ true → is_known ns x ≡ true → is_right ns x ≡ true
+right_by : (ns : Names) (x : SaidView) → is_saying x ≡ true → is_known ns x ≡ true → is_right ns x ≡ true
 right_by ns x s k = and_true _ _ s k
 
 known_by : {A : Type 0} (o : Option A) (a : A) → o ≡ Some a → is_some o ≡ true
@@ -107,11 +107,11 @@ length-enumerate : {A : Type 0} (n : ℕ) (xs : List A) → length (enumerate_fr
 length-enumerate n [] = refl
 length-enumerate n (x ∷ xs) = ap (λ k. suc k) (length-enumerate (n + 1) xs)
 
-all_in : {A : Type 0} (t : ℕ) (g : A → Saying) → ((a : A) → is_in t (g a) ≡ true) → (xs : List A) → list_all (is_in t) (map g xs) ≡ true
+all_in : {A : Type 0} (t : ℕ) (g : A → SaidView) → ((a : A) → is_in t (g a) ≡ true) → (xs : List A) → list_all (is_in t) (map g xs) ≡ true
 all_in t g on xs = all_map g (is_in t) (λ _. true) (λ a _. on a) xs (all_true xs)
 
 -- lines that claim nothing for themselves do not clash
-free : {A : Type 0} (g : A → Saying) → ((a b : A) → clashes (g a) (g b) ≡ true → false ≡ true) → (xs : List A) → repeats clashes (map g xs) ≡ false
+free : {A : Type 0} (g : A → SaidView) → ((a b : A) → clashes (g a) (g b) ≡ true → false ≡ true) → (xs : List A) → repeats clashes (map g xs) ≡ false
 free g on xs = apart_map g clashes (λ _ _. false) (λ a. a) (λ _. true) (λ a b _ _ e. on a b e) xs (all_true xs) (never_repeats (map (λ a. a) xs))
 
 module _ (np : NamedPolicy) (is : IsWellFormed np) where
@@ -167,11 +167,11 @@ module _ (np : NamedPolicy) (is : IsWellFormed np) where
   at_linked (base.Edge n) e = refl
   at_linked _ e = cc
 
-  cap_all : (test : Saying → Bool) (kind : CapKind) (r : List ℕ) (o : Option ℕ) → ((n : ℕ) → is_most (Some n) ≡ true → test (cap kind r n) ≡ true) → is_most o ≡ true → list_all test (cap_line ns kind r o) ≡ true
+  cap_all : (test : SaidView → Bool) (kind : CapKind) (r : List ℕ) (o : Option ℕ) → ((n : ℕ) → is_most (Some n) ≡ true → test (cap kind r n) ≡ true) → is_most o ≡ true → list_all test (cap_line ns kind r o) ≡ true
   cap_all test kind r None on e = refl
   cap_all test kind r (Some n) on e = and_true _ _ (on n e) refl
 
-  caps_all : (test : Saying → Bool) → ((r : RoleId) (kind : CapKind) (n : ℕ) → nat_lt r.0 np.policy.roles ≡ true → is_count n ≡ true → test (cap kind (role_name ns r) n) ≡ true)
+  caps_all : (test : SaidView → Bool) → ((r : RoleId) (kind : CapKind) (n : ℕ) → nat_lt r.0 np.policy.roles ≡ true → is_count n ≡ true → test (cap kind (role_name ns r) n) ≡ true)
       → list_all test (flat_map (cap_lines ns) (enumerate_from 0 np.policy.caps)) ≡ true
   caps_all test on = all_flat_map (cap_lines ns) test (λ e. nat_lt e.0 np.policy.roles && are_caps e.1) each (enumerate_from 0 np.policy.caps) numbered_caps
     where
@@ -220,7 +220,7 @@ module _ (np : NamedPolicy) (is : IsWellFormed np) where
                               all_or_none (is_in 13) (is_version_one np.policy) _ (all_map (λ f. opening (fluent_named ns f)) (is_in 13) (λ f. is_linked f && is_fluent np.policy f) at_linked (filter is_linked ms) (opened is_linked)),
                               (
                                 all_in 14 (λ (e : PeriodicEntry). entry e.form (period_name ns e.period) (head_named ns e.head)) (λ _. refl) np.policy.entries,
-                                (all_in 15 (λ (r : Rule). trigger (items_of ns r) (head_named ns r.head) r.delay) (λ _. refl) np.policy.triggers, tt),
+                                (all_in 15 (λ (r : TriggerView). trigger (items_of ns r) (head_named ns r.head) r.delay) (λ _. refl) np.policy.triggers, tt),
                               ),
                             ),
                           ),
@@ -314,14 +314,14 @@ module _ (np : NamedPolicy) (is : IsWellFormed np) where
   right_entry : (e : PeriodicEntry) → is_entry np.policy e ≡ true → is_right ns (entry e.form (period_name ns e.period) (head_named ns e.head)) ≡ true
   right_entry e h =
       let parts = both_true (nat_lt e.period.0 (length np.policy.periods)) _ h in
-      let x : Saying = entry e.form (period_name ns e.period) (head_named ns e.head) in
+      let x : SaidView = entry e.form (period_name ns e.period) (head_named ns e.head) in
       right_by ns x (said_by x (and_true (is_name (period_name ns e.period)) _ (period_named np is e.period parts.0) (head_said np is e.head parts.1)) refl refl)
       (and_true (is_some (period_of ns (period_name ns e.period))) _ (known_by _ e.period (period_back np is e.period parts.0)) (known_by _ e.head (head_back np is e.head parts.1)))
 
-  right_rule : (r : Rule) → (is_rule np.policy r && has_cause r) ≡ true → is_right ns (trigger (items_of ns r) (head_named ns r.head) r.delay) ≡ true
+  right_rule : (r : TriggerView) → (is_rule np.policy r && has_cause r) ≡ true → is_right ns (trigger (items_of ns r) (head_named ns r.head) r.delay) ≡ true
   right_rule r h = right_by ns (trigger (items_of ns r) (head_named ns r.head) r.delay) (rule_is_said np is r h) (rule_known np is r (both_true (is_rule np.policy r) _ h).0)
 
-  both_all : (rs : List Rule) → list_all (is_rule np.policy) rs ≡ true → list_all has_cause rs ≡ true → list_all (λ r. is_rule np.policy r && has_cause r) rs ≡ true
+  both_all : (rs : List TriggerView) → list_all (is_rule np.policy) rs ≡ true → list_all has_cause rs ≡ true → list_all (λ r. is_rule np.policy r && has_cause r) rs ≡ true
   both_all [] h k = refl
   both_all (r ∷ rs) h k =
       let hs = both_true (is_rule np.policy r) _ h in
@@ -379,11 +379,11 @@ module _ (np : NamedPolicy) (is : IsWellFormed np) where
 
   -- no line clashes with a later one
 
-  names_apart : (g : List ℕ → Saying) → ((a b : List ℕ) → clashes (g a) (g b) ≡ true → bytes_eq b a ≡ true) → (names : List (List ℕ)) → repeats bytes_eq names ≡ false → repeats clashes (map g names) ≡ false
+  names_apart : (g : List ℕ → SaidView) → ((a b : List ℕ) → clashes (g a) (g b) ≡ true → bytes_eq b a ≡ true) → (names : List (List ℕ)) → repeats bytes_eq names ≡ false → repeats clashes (map g names) ≡ false
   names_apart g on names once =
       apart_map g clashes bytes_eq (λ n. n) (λ _. true) (λ a b _ _ e. bytes_turned b a (on a b e)) names (all_true names) (ap (repeats bytes_eq) (map-id names) ∙ once)
 
-  numbered_apart : {A : Type 0} (g : ℕ × A → Saying) (names : List (List ℕ))
+  numbered_apart : {A : Type 0} (g : ℕ × A → SaidView) (names : List (List ℕ))
       → ((a b : ℕ × A) → clashes (g a) (g b) ≡ true → bytes_eq (unwrap_or (slice_get names b.0) []) (unwrap_or (slice_get names a.0) []) ≡ true)
       → repeats bytes_eq names ≡ false → (xs : List A) → length xs ≡ length names → repeats clashes (map g (enumerate_from 0 xs)) ≡ false
   numbered_apart g names on once xs e =
@@ -465,7 +465,7 @@ module _ (np : NamedPolicy) (is : IsWellFormed np) where
 
   -- no kind has too many
 
-  as_many : {A : Type 0} (g : A → Saying) (xs : List A) → length (map g xs ++ []) ≡ length xs
+  as_many : {A : Type 0} (g : A → SaidView) (xs : List A) → length (map g xs ++ []) ≡ length xs
   as_many g xs = ap length (append-nil (map g xs)) ∙ length-map xs g
 
   few_sorted : (of_sort test : Fluent → Bool) → ((f : Fluent) → of_sort f ≡ test f) → (most : ℕ) → count_by test ms ≤ most → length (opening_lines ns of_sort ms ++ []) ≤ most
@@ -483,10 +483,10 @@ module _ (np : NamedPolicy) (is : IsWellFormed np) where
   granted_alike (base.Granted q r) = refl
   granted_alike _ = refl
 
-  few_listed : {A : Type 0} (g : A → Saying) (xs : List A) (most : ℕ) → length xs ≤ most → length (map g xs ++ []) ≤ most
+  few_listed : {A : Type 0} (g : A → SaidView) (xs : List A) (most : ℕ) → length xs ≤ most → length (map g xs ++ []) ≤ most
   few_listed g xs most le = subst (λ n. n ≤ most) (sym (as_many g xs)) le
 
-  few_numbered : {A : Type 0} (g : ℕ × A → Saying) (xs : List A) (most : ℕ) → nat_le (length xs) most ≡ true → length (map g (enumerate_from 0 xs) ++ []) ≤ most
+  few_numbered : {A : Type 0} (g : ℕ × A → SaidView) (xs : List A) (most : ℕ) → nat_le (length xs) most ≡ true → length (map g (enumerate_from 0 xs) ++ []) ≤ most
   few_numbered g xs most le = subst (λ n. n ≤ most) (sym (as_many g (enumerate_from 0 xs) ∙ length-enumerate 0 xs)) (leb-true _ _ le)
 
   few_picked : (k : Kind) → length (picked (nat_eq (section_of_kind k)) (sections np)) ≤ most_of k

@@ -6,7 +6,7 @@ use Rattle.std.proofs.lemmas.List.Elements.{recursion_from_All}
 use Rattle.gtrbac_model.proofs.Elements.{and_true, both_true}
 use Rattle.gt_text.specs.Lines.{lines_of}
 use Rattle.gt_text.specs.Words.{spaced}
-use Rattle.policy_words.specs.Sayings.{Saying, version, role, user, perm, period, limit, edge, cap, admin, opening, entry, trigger, said_words, is_saying}
+use Rattle.policy_words.specs.Sayings.{SaidView, version, role, user, perm, period, limit, edge, cap, admin, opening, entry, trigger, said_words, is_saying}
 use Rattle.policy_words.specs.Reading.{and_then, read_lines}
 use Rattle.policy_words.specs.declared.versions.TextVersion.{TextVersion}
 use Rattle.policy_words.specs.declared.versions.TextVersion.TheVariants.{Open, One, Two}
@@ -29,11 +29,11 @@ use Rattle.policy_lines.proofs.CutLines.{cut_lines, one_line}
 use Rattle.policy_lines.proofs.WrittenLines.{written_is_read}
 use Rattle.policy_text.proofs.LineByLine.{said_line, plain_after}
 
-abbrev line_of : Saying → List ℕ
+abbrev line_of : SaidView → List ℕ
 line_of s = spaced (said_words s)
 
 -- a line that is no version may stand anywhere, where the version has words for it
-no_first : (s : Saying) → not (is_version s) ≡ true → (first : Bool) → IsFirst first s
+no_first : (s : SaidView) → not (is_version s) ≡ true → (first : Bool) → IsFirst first s
 no_first s h true = tt
 no_first (version n) h false = absurd (cc h)
 no_first (role n) h false = λ v. v
@@ -48,26 +48,26 @@ no_first (opening f) h false = λ v. v
 no_first (entry f p hd) h false = λ v. v
 no_first (trigger is hd d) h false = λ v. v
 
-placed : (s : Saying) → not (is_version s) ≡ true → (v : TextVersion) → is_allowed (has_edges v) s ≡ true → IsPlaced v s
+placed : (s : SaidView) → not (is_version s) ≡ true → (v : TextVersion) → is_allowed (has_edges v) s ≡ true → IsPlaced v s
 placed s h v allowed = (no_first s h (is_open v), allowed)
 
-abbrev AreSayings : List Saying → Type 0
+abbrev AreSayings : List SaidView → Type 0
 AreSayings ss = AllByRecursion (λ s. IsTrue (is_saying s)) ss
 
-abbrev AreNoVersions : List Saying → Type 0
+abbrev AreNoVersions : List SaidView → Type 0
 AreNoVersions ss = AllByRecursion (λ s. IsTrue (not (is_version s))) ss
 
 abbrev AreShort : List (List ℕ) → Type 0
 AreShort ls = AllByRecursion (λ l. length l ≤ 4_096) ls
 
-feedless : (ss : List Saying) → AreSayings ss → list_all has_no_feed (map line_of ss) ≡ true
+feedless : (ss : List SaidView) → AreSayings ss → list_all has_no_feed (map line_of ss) ≡ true
 feedless [] h = refl
 feedless (s ∷ ss) h = and_true (has_no_feed (line_of s)) _ (one_line s h.0) (feedless ss h.1)
 
-abbrev AreAllowed : Bool → List Saying → Type 0
+abbrev AreAllowed : Bool → List SaidView → Type 0
 AreAllowed edges ss = AllByRecursion (λ s. IsTrue (is_allowed edges s)) ss
 
-read_later : (ss : List Saying) (v : TextVersion) (n : ℕ) → settled_version v ≡ v → AreSayings ss → AreNoVersions ss → AreAllowed (has_edges v) ss → AreShort (map line_of ss)
+read_later : (ss : List SaidView) (v : TextVersion) (n : ℕ) → settled_version v ≡ v → AreSayings ss → AreNoVersions ss → AreAllowed (has_edges v) ss → AreShort (map line_of ss)
     → read_lines v n (map line_of ss) ≡ Ok (numbered_from n ss)
 read_later [] v n st a f w s = refl
 read_later (x ∷ ss) v n st a f w s =
@@ -86,7 +86,7 @@ told_settled k = by (nat_eq k 2)
     by true = refl
     by false = refl
 
-read_all : (k : ℕ) (rest : List Saying) → AreSayings (version k ∷ rest) → AreNoVersions rest → AreAllowed (has_edges (told k)) rest → AreShort (map line_of (version k ∷ rest))
+read_all : (k : ℕ) (rest : List SaidView) → AreSayings (version k ∷ rest) → AreNoVersions rest → AreAllowed (has_edges (told k)) rest → AreShort (map line_of (version k ∷ rest))
     → read_lines Open 1 (map line_of (version k ∷ rest)) ≡ Ok (numbered_from 1 (version k ∷ rest))
 read_all k rest a f w s =
     said_line Open 1 (line_of (version k)) (map line_of rest) (version k) (written_is_read (version k) Open a.0 (tt, refl) s.0)
@@ -100,7 +100,7 @@ or_false : (b : Bool) → b ≡ true → (b || false) ≡ true
 or_false true h = refl
 or_false false h = cc
 
-by_recursion : (q : Saying → Bool) (ss : List Saying) → list_all q ss ≡ true → AllByRecursion (λ s. IsTrue (q s)) ss
+by_recursion : (q : SaidView → Bool) (ss : List SaidView) → list_all q ss ≡ true → AllByRecursion (λ s. IsTrue (q s)) ss
 by_recursion q [] h = tt
 by_recursion q (s ∷ ss) h = let parts = both_true (q s) _ h in (parts.0, by_recursion q ss parts.1)
 
@@ -108,25 +108,25 @@ by_recursion q (s ∷ ss) h = let parts = both_true (q s) _ h in (parts.0, by_re
 all_allowed : (np : NamedPolicy) (one : Bool) → is_version_one np.policy ≡ one → AreAllowed (has_edges (told (cond one 1 2))) (joined (sections_behind np))
 all_allowed np true e = with (joined (sections_behind np)) (by_recursion names_none (joined (sections_behind np)) (no_edges np e))
   where
-    with : (ss : List Saying) → AllByRecursion (λ s. IsTrue (names_none s)) ss → AreAllowed false ss
+    with : (ss : List SaidView) → AllByRecursion (λ s. IsTrue (names_none s)) ss → AreAllowed false ss
     with [] h = tt
     with (s ∷ ss) h = (or_false (names_none s) h.0, with ss h.1)
 all_allowed np false e = any (joined (sections_behind np))
   where
-    any : (ss : List Saying) → AreAllowed true ss
+    any : (ss : List SaidView) → AreAllowed true ss
     any [] = tt
     any (s ∷ ss) = (or_true (names_none s), any ss)
 
 pub canonical_is_read : (np : NamedPolicy) → IsWellFormed np → All (λ line. length line ≤ 4_096) (lines_of (canonical_text np)) → policy_read (canonical_text np) ≡ Ok np
 canonical_is_read np well short =
-    let ss : List Saying = canonical_lines np in
+    let ss : List SaidView = canonical_lines np in
     let sayings : AreSayings ss = recursion_from_All (λ s. IsTrue (is_saying s)) ss (canonical_are_sayings np well) in
     let cut : lines_of (canonical_text np) ≡ map line_of ss = cut_lines (map line_of ss) (feedless ss sayings) in
     let lines : AreShort (map line_of ss) = recursion_from_All (λ (l : List ℕ). length l ≤ 4_096) (map line_of ss) (subst (λ (ls : List (List ℕ)). All (λ line. length line ≤ 4_096) ls) cut short) in
     let k : ℕ = version_of np.policy in
-    let rest : List Saying = joined (sections_behind np) in
+    let rest : List SaidView = joined (sections_behind np) in
     let is : ss ≡ version k ∷ rest = lines_joined np in
     let later : AreNoVersions rest = by_recursion (λ s. not (is_version s)) rest (no_versions np) in
-    let behind = read_all k rest (subst AreSayings is sayings) later (all_allowed np (is_version_one np.policy) refl) (subst (λ (xs : List Saying). AreShort (map line_of xs)) is lines) in
-    let read : read_lines Open 1 (map line_of ss) ≡ Ok (numbered_from 1 ss) = subst (λ (xs : List Saying). read_lines Open 1 (map line_of xs) ≡ Ok (numbered_from 1 xs)) (sym is) behind in
+    let behind = read_all k rest (subst AreSayings is sayings) later (all_allowed np (is_version_one np.policy) refl) (subst (λ (xs : List SaidView). AreShort (map line_of xs)) is lines) in
+    let read : read_lines Open 1 (map line_of ss) ≡ Ok (numbered_from 1 ss) = subst (λ (xs : List SaidView). read_lines Open 1 (map line_of xs) ≡ Ok (numbered_from 1 xs)) (sym is) behind in
     ap (λ (ls : List (List ℕ)). by_lines (read_lines Open 1 ls)) cut ∙ ap by_lines read ∙ ap (built (names_of (said_in (numbered_from 1 ss)))) (canonical_is_built np well)

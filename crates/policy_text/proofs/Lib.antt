@@ -1,9 +1,7 @@
 pub mod Joining
 pub mod LineByLine
-pub mod Mapped
 pub mod Sections
 pub mod NoTrouble
-pub mod Back
 pub mod CanonicalCaps
 pub mod CanonicalMembers
 pub mod CanonicalSections

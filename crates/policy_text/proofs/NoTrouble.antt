@@ -6,7 +6,7 @@ use Rattle.gtrbac_model.proofs.Elements.{Elem, both_true, any_elim}
 use Rattle.history_laws.proofs.Members.{clash}
 use Rattle.policy_words.specs.declared.sayings.Kind.{Kind}
 use Rattle.policy_words.specs.declared.sayings.Kind.TheVariants as kinds
-use Rattle.policy_words.specs.Sayings.{Saying}
+use Rattle.policy_words.specs.Sayings.{SaidView}
 use Rattle.policy_words.specs.Naming.{Names}
 use Rattle.policy_words.specs.Book.{unknown, twice, many_at, is_known, is_twice, many_of, is_claimed_again, kind_of, same_kind, is_of, counts_for, count_of, most_of, line_trouble, first_trouble}
 use Rattle.policy_book.specs.Laws.{numbered_from}
@@ -22,7 +22,7 @@ abbrev one_of : Bool → ℕ
 one_of b = cond b 1 0 + 0
 
 -- a line finds room where no kind has too many up to it
-room : (before : List Saying) (x : Saying) → ((k : Kind) → count_of k before + length (filter (is_of k) (x ∷ [])) ≤ most_of k) → many_of before x ≡ None
+room : (before : List SaidView) (x : SaidView) → ((k : Kind) → count_of k before + length (filter (is_of k) (x ∷ [])) ≤ most_of k) → many_of before x ≡ None
 room before x few = by (kind_of x) refl
   where
     not_many : (l : Kind) (c t : Bool) → t ≡ false → cond (c && t) (Some l) None ≡ None
@@ -36,7 +36,7 @@ room before x few = by (kind_of x) refl
         let one : length (filter (is_of k) (x ∷ [])) ≡ 1 = count_more (is_of k) x [] ∙ ap one_of of in
         not_many k _ _ (lt-leb (most_of k) (count_of k before) (omega (arith, few k, one)))
 
-no_more : (k : Kind) (before : List Saying) (x : Saying) → count_of k (x ∷ before) ≤ count_of k before + length (filter (is_of k) (x ∷ []))
+no_more : (k : Kind) (before : List SaidView) (x : SaidView) → count_of k (x ∷ before) ≤ count_of k before + length (filter (is_of k) (x ∷ []))
 no_more k before x = by (is_of k x) (is_claimed_again before x)
   where
     by : (o a : Bool) → count_of k before + cond (o && not a) 1 0 ≤ count_of k before + length (cond o (x ∷ []) [])
@@ -44,7 +44,7 @@ no_more k before x = by (is_of k x) (is_claimed_again before x)
     by true false = omega arith
     by false a = omega arith
 
-pub no_trouble : (ns : Names) (before xs : List Saying) (n : ℕ) → list_all (is_known ns) xs ≡ true → repeats clashes xs ≡ false → ((z : Saying) → Elem before z → list_any (clashes z) xs ≡ false)
+pub no_trouble : (ns : Names) (before xs : List SaidView) (n : ℕ) → list_all (is_known ns) xs ≡ true → repeats clashes xs ≡ false → ((z : SaidView) → Elem before z → list_any (clashes z) xs ≡ false)
     → ((k : Kind) → count_of k before + length (filter (is_of k) xs) ≤ most_of k) → first_trouble ns before (numbered_from n xs) ≡ None
 no_trouble ns before [] n known apart free few = refl
 no_trouble ns before (x ∷ xs) n known apart free few =
@@ -66,7 +66,7 @@ no_trouble ns before (x ∷ xs) n known apart free few =
           | true ↦ elim (once i) [ true ↦ Some (twice n) | false ↦ many_at n (room before x (λ k. omega (arith, few k, split_count k)) i) ]
         ]
 
-    still_free : (z : Saying) → Elem (x ∷ before) z → list_any (clashes z) xs ≡ false
+    still_free : (z : SaidView) → Elem (x ∷ before) z → list_any (clashes z) xs ≡ false
     still_free z (inl e) = subst (λ w. list_any (clashes w) xs ≡ false) (sym e) (or_parts (list_any (clashes x) xs) _ apart).0
     still_free z (inr m) = (or_parts (clashes z x) _ (free z m)).1
 

@@ -6,7 +6,7 @@ use Rattle.policy_text.specs.Faults.{IsTextFault, is_memory}
 use Rattle.std.specs.Prelude.{Ok, Err, codes}
 use Rattle.gt_text.specs.Lines.{lines_of}
 use Rattle.policy_words.specs.declared.faults.TextKind.{TextKind}
-use Rattle.policy_words.specs.Sayings.{Saying}
+use Rattle.policy_words.specs.Sayings.{SaidView}
 use Rattle.policy_words.specs.declared.versions.TextVersion.TheVariants.{Open}
 use Rattle.policy_words.specs.Reading.{Numbered, read_lines}
 use Rattle.policy_words.specs.Naming.{Names, NamedPolicy}
@@ -21,7 +21,7 @@ use Rattle.policy_text.proofs.Joining.{joined_is}
 use Rattle.policy_text.specs.Texts.{IsToldFault, IsBookFault, is_want}
 
 module _ (text : List ℕ) where
-  pub is_built : (ss : List (Numbered Saying)) (np : NamedPolicy) → read_lines Open 1 (lines_of text) ≡ Ok ss → build ss ≡ Ok np → policy_read text ≡ Ok np
+  pub is_built : (ss : List (Numbered SaidView)) (np : NamedPolicy) → read_lines Open 1 (lines_of text) ≡ Ok ss → build ss ≡ Ok np → policy_read text ≡ Ok np
   is_built ss np r b = ap by_lines r ∙ ap (built (names_of (said_in ss))) b
 
   pub text_fault : (t : Numbered TextKind) (told : List ℕ) → read_lines Open 1 (lines_of text) ≡ Err t → told ≡ at_line t.line (trouble_text t.it) → IsToldFault text told
@@ -31,7 +31,7 @@ module _ (text : List ℕ) where
   line_fault f told e (inl m) is = absurd (false≢true (sym e ∙ ap (λ (g : TextFault). is_memory g.kind) m))
   line_fault f told e (inr r) is = text_fault (record { line = f.line; it = f.kind }) told r is
 
-  module _ (ss : List (Numbered Saying)) (read : read_lines Open 1 (lines_of text) ≡ Ok ss) where
+  module _ (ss : List (Numbered SaidView)) (read : read_lines Open 1 (lines_of text) ≡ Ok ss) where
     troubled : (t : BookTrouble) (told : List ℕ) → build ss ≡ Err t → told ≡ book_text (names_of (said_in ss)) t → IsToldFault text told
     troubled t told b e = record { fault = of_book (names_of (said_in ss)) t; is = ap by_lines read ∙ ap (built (names_of (said_in ss))) b; told_so = e }
 

@@ -7,24 +7,24 @@ use Rattle.gt_base.specs.declared.events.Fluent.{Fluent}
 use Rattle.gt_base.specs.declared.policies.Caps.{Caps}
 use Rattle.gt_text.specs.Words.{spaced}
 use Rattle.policy_words.specs.declared.sayings.CapKind.TheVariants as caps
-use Rattle.policy_words.specs.Sayings.{Saying, version, role, user, perm, said_words}
+use Rattle.policy_words.specs.Sayings.{SaidView, version, role, user, perm, said_words}
 use Rattle.policy_words.specs.Naming.{Names, NamedPolicy, role_name}
 use Rattle.policy_words.specs.Canonical.{canonical_lines, canonical_text, period_line, limit_line, edge_line, cap_line, cap_lines, opening_lines, is_enabled, is_assigned, is_granted, is_armed, is_linked, is_version_one, version_of}
 use Rattle.policy_text.specs.Sections.{line_text, written, lines_by, numbered, caps_text, admin_line, opening_line, opening_text, entry_line, trigger_line, named_text, timed_text, ranked_text, opened_text, ruled_text}
 
-joined : (a b : List Saying) (s t : List ℕ) → written a ≡ s → written b ≡ t → written (a ++ b) ≡ s ++ t
+joined : (a b : List SaidView) (s t : List ℕ) → written a ≡ s → written b ≡ t → written (a ++ b) ≡ s ++ t
 joined a b s t e f = flat_map-append line_text a b ∙ (λ i. e i ++ f i)
 
-by_line : {A : Type 0} (f : A → Saying) (xs : List A) → written (map f xs) ≡ lines_by f xs
+by_line : {A : Type 0} (f : A → SaidView) (xs : List A) → written (map f xs) ≡ lines_by f xs
 by_line f xs = flat_map-map line_text f xs
 
 caps_of : (ns : Names) (n : ℕ) (c : Caps) → written (cap_lines ns (n, c)) ≡ caps_text ns (n, c)
 caps_of ns n c =
     let r : List ℕ = role_name ns (record { 0 = n }) in
-    let total : List Saying = cap_line ns caps.Total r c.total in
-    let user : List Saying = cap_line ns caps.User r c.user in
-    let length : List Saying = cap_line ns caps.Length r c.length in
-    let day : List Saying = cap_line ns caps.Day r c.day in
+    let total : List SaidView = cap_line ns caps.Total r c.total in
+    let user : List SaidView = cap_line ns caps.User r c.user in
+    let length : List SaidView = cap_line ns caps.Length r c.length in
+    let day : List SaidView = cap_line ns caps.Day r c.day in
     joined (total ++ user ++ length) day _ _ (joined (total ++ user) length _ _ (joined total user _ _ refl refl) refl) refl
 
 all_caps : (ns : Names) (xs : List (ℕ × Caps)) → written (flat_map (cap_lines ns) xs) ≡ flat_map (caps_text ns) xs
@@ -41,7 +41,7 @@ module _ (ns : Names) where
   opened p [] = refl
   opened p (f ∷ fs) = one_more (p f) f (filter p fs) _ (opened p fs)
 
-linked : (one : Bool) (ss : List Saying) (t : List ℕ) → written ss ≡ t → written (cond one [] ss) ≡ cond one [] t
+linked : (one : Bool) (ss : List SaidView) (t : List ℕ) → written ss ≡ t → written (cond one [] ss) ≡ cond one [] t
 linked true ss t e = refl
 linked false ss t e = e
 

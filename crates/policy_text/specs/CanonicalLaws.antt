@@ -1,6 +1,6 @@
 -- Laws of the canonical lines of a policy.
 use Rattle.std.specs.Prelude.{◌≡◌, ℕ, ◌+◌, Bool, true, false, not, List, [], ◌∷◌, All, Ok, IsTrue}
-use Rattle.policy_words.specs.Sayings.{Saying, version, is_saying}
+use Rattle.policy_words.specs.Sayings.{SaidView, version, is_saying}
 use Rattle.policy_words.specs.Reading.{Numbered}
 use Rattle.policy_words.specs.Naming.{NamedPolicy}
 use Rattle.policy_words.specs.Book.{build}
@@ -20,4 +20,4 @@ CanonicalAreSayings = (np : NamedPolicy) → IsWellFormed np → All (λ s. IsTr
 
 -- the first of them is the version, and no other
 abbrev pub VersionIsFirst : Type 0
-VersionIsFirst = (np : NamedPolicy) → (rest : List Saying) × (canonical_lines np ≡ version (version_of np.policy) ∷ rest) × All (λ s. IsTrue (not (is_version s))) rest
+VersionIsFirst = (np : NamedPolicy) → (rest : List SaidView) × (canonical_lines np ≡ version (version_of np.policy) ∷ rest) × All (λ s. IsTrue (not (is_version s))) rest

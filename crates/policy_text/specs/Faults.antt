@@ -2,7 +2,7 @@
 use Rattle.std.specs.Prelude.{◌≡◌, ◌⊎◌, Bool, true, false, List, Result, Err}
 use Rattle.policy_words.specs.declared.faults.TextKind.{TextKind}
 use Rattle.policy_words.specs.declared.faults.TextKind.TheVariants as faults
-use Rattle.policy_words.specs.Sayings.{Saying}
+use Rattle.policy_words.specs.Sayings.{SaidView}
 use Rattle.policy_words.specs.Reading.{Numbered}
 use Rattle.policy_text.specs.declared.faults.TextFault.{TextFault}
 
@@ -10,7 +10,7 @@ abbrev pub want_of_memory : TextFault
 want_of_memory = record { line = 0; kind = faults.Memory }
 
 -- it is the fault of the lines, or want of memory
-abbrev pub IsTextFault : Result (List (Numbered Saying)) (Numbered TextKind) → TextFault → Type 0
+abbrev pub IsTextFault : Result (List (Numbered SaidView)) (Numbered TextKind) → TextFault → Type 0
 IsTextFault read f = (f ≡ want_of_memory) ⊎ (read ≡ Err (record { line = f.line; it = f.kind }))
 
 abbrev pub is_memory : TextKind → Bool

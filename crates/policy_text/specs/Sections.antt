@@ -1,7 +1,7 @@
 -- The canonical text in its sections, as they are written.
 use Rattle.std.specs.Prelude.{ℕ, Bool, true, false, cond, List, [], ◌∷◌, ◌++◌, flat_map}
 use Rattle.std.specs.List.{enumerate_from}
-use Rattle.gt_base.specs.Held.{Rule}
+use Rattle.gt_base.specs.Held.{TriggerView}
 use Rattle.gt_base.specs.Sets.{members}
 use Rattle.gt_base.specs.declared.events.Fluent.{Fluent}
 use Rattle.gt_base.specs.declared.events.Event.{Event as BaseEvent}
@@ -14,19 +14,19 @@ use Rattle.gt_text.specs.Words.{spaced}
 use Rattle.policy_words.specs.declared.parts.Item.{Item}
 use Rattle.policy_words.specs.declared.parts.Item.TheVariants.{Event, Signal, Cond, Settled}
 use Rattle.policy_words.specs.declared.sayings.CapKind.TheVariants as caps
-use Rattle.policy_words.specs.Sayings.{Saying, version, role, user, perm, said_words, admin, opening, entry, trigger}
+use Rattle.policy_words.specs.Sayings.{SaidView, version, role, user, perm, said_words, admin, opening, entry, trigger}
 use Rattle.policy_words.specs.Naming.{Names, NamedPolicy, role_name, user_name, period_name, fluent_named, event_named, signal_named, cond_named, head_named}
 use Rattle.policy_words.specs.Canonical.{period_line, limit_line, edge_line, cap_line, is_enabled, is_assigned, is_granted, is_armed, is_linked, items_of, version_of, is_version_one}
 
 -- a line with its line feed
-abbrev pub line_text : Saying → List ℕ
+abbrev pub line_text : SaidView → List ℕ
 line_text s = spaced (said_words s) ++ 10 ∷ []
 
-abbrev pub written : List Saying → List ℕ
+abbrev pub written : List SaidView → List ℕ
 written ss = flat_map line_text ss
 
 -- a line for each
-abbrev pub lines_by : {A : Type 0} → (A → Saying) → List A → List ℕ
+abbrev pub lines_by : {A : Type 0} → (A → SaidView) → List A → List ℕ
 lines_by f xs = flat_map (λ x. line_text (f x)) xs
 
 -- each with its number
@@ -40,17 +40,17 @@ module _ (ns : Names) where
       let r : List ℕ = role_name ns (record { 0 = n }) in
       written (cap_line ns caps.Total r c.total) ++ written (cap_line ns caps.User r c.user) ++ written (cap_line ns caps.Length r c.length) ++ written (cap_line ns caps.Day r c.day)
 
-  abbrev pub admin_line : UserId → Saying
+  abbrev pub admin_line : UserId → SaidView
   admin_line u = admin (user_name ns u)
 
-  abbrev pub opening_line : Fluent → Saying
+  abbrev pub opening_line : Fluent → SaidView
   opening_line f = opening (fluent_named ns f)
 
   -- its line, if it is of the sort
   abbrev pub opening_text : (Fluent → Bool) → Fluent → List ℕ
   opening_text of_sort f = elim (of_sort f) [ true ↦ line_text (opening_line f) | false ↦ [] ]
 
-  abbrev pub entry_line : PeriodicEntry → Saying
+  abbrev pub entry_line : PeriodicEntry → SaidView
   entry_line e = entry e.form (period_name ns e.period) (head_named ns e.head)
 
   abbrev pub event_item : BaseEvent → Item
@@ -65,7 +65,7 @@ module _ (ns : Names) where
   abbrev pub settled_item : BaseCond → Item
   settled_item c = Settled (cond_named ns c)
 
-  abbrev pub trigger_line : Rule → Saying
+  abbrev pub trigger_line : TriggerView → SaidView
   trigger_line r = trigger (items_of ns r) (head_named ns r.head) r.delay
 
 abbrev pub named_text : NamedPolicy → List ℕ

@@ -1,7 +1,7 @@
 -- The policy of a text, or the text of its fault.
 use Rattle.std.specs.Prelude.{◌≡◌, ℕ, Bool, true, false, List, Ok, Err}
 use Rattle.gt_text.specs.Lines.{lines_of}
-use Rattle.policy_words.specs.Sayings.{Saying}
+use Rattle.policy_words.specs.Sayings.{SaidView}
 use Rattle.policy_words.specs.declared.versions.TextVersion.TheVariants.{Open}
 use Rattle.policy_words.specs.Reading.{Numbered, read_lines}
 use Rattle.policy_words.specs.PolicyRead.{PolicyFault, policy_read, fault_text}
@@ -30,6 +30,6 @@ is_want Memory = true
 
 -- a fault of what the lines of the text say together
 pub record IsBookFault (text : List ℕ) (f : BookFault) : Type 0 where
-  pub said : List (Numbered Saying)
+  pub said : List (Numbered SaidView)
   pub read : read_lines Open 1 (lines_of text) ≡ Ok said
   pub is_fault : IsFault said f

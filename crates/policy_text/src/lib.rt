@@ -4,7 +4,6 @@
 mod faults;
 mod laws;
 mod named;
-mod naming;
 mod opened;
 mod policies;
 mod ranked;
@@ -17,7 +16,6 @@ mod writing;
 
 pub use faults::TextFault;
 pub use laws::{canonical_are_sayings, canonical_is_built, canonical_is_read};
-pub use naming::{named_cond, named_event, named_fluent, named_head, named_signal};
 pub use policies::{PolicyText, policy_of};
 pub use policy_words::TextKind;
 pub use reading::read_policy;

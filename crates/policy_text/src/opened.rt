@@ -6,10 +6,9 @@ ghost use Rattle.policy_text.specs.Sections.{line_text, opening_line, opening_te
 ghost use Rattle.policy_text.specs.Sorts.{of_sort};
 
 use crate::named::push_line;
-use crate::naming::named_fluent;
 use crate::versions::is_version_one;
 use gt_base::{Fluent, Memory};
-use policy_book::Policy;
+use policy_book::{Policy, named_fluent};
 use policy_words::Said;
 
 /// The sorts of fluents.

@@ -1,4 +1,4 @@
-//! Policies by their texts.
+//! From the bytes of a text to its policy, or to the text of its fault.
 ghost use Rattle.std.specs.Prelude.{◌≡◌, ◌<◌, ◌^◌, ◌++◌, true, length, IfOk};
 ghost use Rattle.gt_text.specs.Lines.{lines_of};
 ghost use Rattle.policy_words.specs.Reading.{read_lines};

@@ -1,4 +1,4 @@
-//! Reading a policy.
+//! The text of a policy, read line by line up to the first line with a fault.
 ghost use Rattle.std.specs.Prelude.{◌≡◌, ◌<◌, ◌^◌, ◌++◌, [], ◌∷◌, true, length, IfOk, IfErr, OnOk, Ok, IsTrue, MatchBool};
 ghost use Rattle.gt_text.specs.Lines.{lines_of};
 ghost use Rattle.policy_words.specs.Reading.{read_lines};

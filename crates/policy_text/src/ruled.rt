@@ -6,9 +6,8 @@ ghost use Rattle.policy_words.specs.Canonical.{items_of as body_of};
 ghost use Rattle.policy_text.specs.Sections.{line_text, lines_by, event_item, signal_item, cond_item, settled_item, entry_line, trigger_line, ruled_text};
 
 use crate::named::push_line;
-use crate::naming::{named_cond, named_event, named_head, named_signal};
 use gt_base::{Cond, Event, List, Memory, PeriodicEntry, Signal, Trigger};
-use policy_book::Policy;
+use policy_book::{Policy, named_cond, named_event, named_head, named_signal};
 use policy_words::{Item, NamedCond, NamedEvent, NamedFluent, NamedSignal, Said};
 use std::alloc::Global;
 

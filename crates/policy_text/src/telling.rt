@@ -1,4 +1,4 @@
-//! The texts of faults.
+//! The texts by which the faults of policies are told.
 ghost use Rattle.std.specs.Prelude.{◌≡◌, ◌++◌, codes, decimal, flat_map, OnOk};
 ghost use Rattle.policy_words.specs.PolicyRead.{at_line, trouble_text, expr_kind_word, kind_word};
 ghost use Rattle.policy_text.specs.Told.{with_bar, joined, cycle_of_names, text_of_book};

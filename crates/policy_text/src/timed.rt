@@ -6,10 +6,9 @@ ghost use Rattle.policy_words.specs.Canonical.{period_line, limit_line};
 ghost use Rattle.policy_text.specs.Sections.{line_text, lines_by, timed_text, numbered};
 
 use crate::named::push_line;
-use crate::naming::named_cond;
 use gt_base::{LimitId, LimitRule, Memory, Name, PeriodId};
 use periodic_expr::Period;
-use policy_book::Policy;
+use policy_book::{Policy, named_cond};
 use policy_lines::push_period;
 use policy_words::Said;
 

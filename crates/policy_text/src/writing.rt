@@ -1,4 +1,4 @@
-//! The canonical text.
+//! The canonical text of a policy, written.
 ghost use Rattle.std.specs.Prelude.{◌≡◌, IfOk};
 ghost use Rattle.policy_words.specs.Canonical.{canonical_text};
 

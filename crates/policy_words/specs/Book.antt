@@ -12,7 +12,7 @@ use Rattle.policy_words.specs.declared.sayings.CapKind.{CapKind}
 use Rattle.policy_words.specs.declared.sayings.CapKind.TheVariants as caps
 use Rattle.policy_words.specs.declared.sayings.Kind.{Kind}
 use Rattle.policy_words.specs.declared.sayings.Kind.TheVariants as kinds
-use Rattle.policy_words.specs.Sayings.{Saying, role, user, perm, period, limit, edge, cap, admin, opening, entry, trigger}
+use Rattle.policy_words.specs.Sayings.{SaidView, role, user, perm, period, limit, edge, cap, admin, opening, entry, trigger}
 use Rattle.policy_words.specs.Reading.{Numbered}
 use Rattle.policy_words.specs.declared.claims.Claim.{Claim}
 use Rattle.policy_words.specs.declared.claims.Claim.TheVariants as claims
@@ -38,7 +38,7 @@ is_known_period ns None = true
 is_known_period ns (Some p) = is_some (period_of ns p)
 
 -- each name of the line is declared by some line, and each pair of an edge that is switched is that of an edge
-abbrev pub is_known : Names → Saying → Bool
+abbrev pub is_known : Names → SaidView → Bool
 is_known ns (limit n prio c most during) = is_some (cond_of ns c) && is_known_period ns during
 is_known ns (edge kind strong s j) = is_some (role_of ns s) && is_some (role_of ns j)
 is_known ns (cap kind r n) = is_some (role_of ns r)
@@ -64,7 +64,7 @@ fluent_claim (fluents.Limit l) = None
 fluent_claim (fluents.Edge s j) = None
 
 -- a declared name, the ordered pair of an edge, the kind and role of a cap; or the pair of an assignment or a grant
-abbrev pub claim_of : Saying → Option Claim
+abbrev pub claim_of : SaidView → Option Claim
 claim_of (role n) = Some (claims.Role n)
 claim_of (user n) = Some (claims.User n)
 claim_of (perm n) = Some (claims.Perm n)
@@ -90,19 +90,19 @@ same_claim (claims.Assigned u r) (claims.Assigned u' r') = bytes_eq u u' && byte
 same_claim (claims.Granted q r) (claims.Granted q' r') = bytes_eq q q' && bytes_eq r r'
 same_claim _ _ = false
 
-abbrev pub is_claimed_by : Claim → Saying → Bool
+abbrev pub is_claimed_by : Claim → SaidView → Bool
 is_claimed_by c s = elim (claim_of s) [ None ↦ false | Some d ↦ same_claim c d ]
 
 -- a line before claims the same
-abbrev pub is_claimed_again : List Saying → Saying → Bool
+abbrev pub is_claimed_again : List SaidView → SaidView → Bool
 is_claimed_again before s = elim (claim_of s) [ None ↦ false | Some c ↦ list_any (is_claimed_by c) before ]
 
 -- an assignment, a grant or what claims nothing may be said again
-abbrev pub may_be_again : Saying → Bool
+abbrev pub may_be_again : SaidView → Bool
 may_be_again (opening f) = true
 may_be_again _ = false
 
-abbrev pub is_twice : List Saying → Saying → Bool
+abbrev pub is_twice : List SaidView → SaidView → Bool
 is_twice before s = not (may_be_again s) && is_claimed_again before s
 
 -- too many of a kind
@@ -114,7 +114,7 @@ fluent_kind (fluents.Granted q r) = Some kinds.Granted
 fluent_kind (fluents.Limit l) = None
 fluent_kind (fluents.Edge s j) = None
 
-abbrev pub kind_of : Saying → Option Kind
+abbrev pub kind_of : SaidView → Option Kind
 kind_of (role n) = Some kinds.Roles
 kind_of (user n) = Some kinds.Users
 kind_of (perm n) = Some kinds.Perms
@@ -151,20 +151,20 @@ same_kind kinds.Assigned kinds.Assigned = true
 same_kind kinds.Granted kinds.Granted = true
 same_kind _ _ = false
 
-abbrev pub is_of : Kind → Saying → Bool
+abbrev pub is_of : Kind → SaidView → Bool
 is_of k s = elim (kind_of s) [ None ↦ false | Some l ↦ same_kind k l ]
 
 -- a line counts for its kind, unless a line before claims the same
-abbrev pub counts_for : Kind → List Saying → Saying → Bool
+abbrev pub counts_for : Kind → List SaidView → SaidView → Bool
 counts_for k before s = is_of k s && not (is_claimed_again before s)
 
 -- how many of the kind the lines have; the last line stands first
-abbrev pub count_of : Kind → List Saying → ℕ
+abbrev pub count_of : Kind → List SaidView → ℕ
 count_of k [] = 0
 count_of k (s ∷ before) = count_of k before + cond (counts_for k before s) 1 0
 
 -- the line is one more of its kind than are allowed
-abbrev pub many_of : List Saying → Saying → Option Kind
+abbrev pub many_of : List SaidView → SaidView → Option Kind
 many_of before s =
     elim (kind_of s) [ None ↦ None | Some k ↦ cond (counts_for k before s && nat_le (most_of k) (count_of k before)) (Some k) None ]
 
@@ -175,14 +175,14 @@ many_at n None = None
 many_at n (Some k) = Some (many n k)
 
 -- of one line, with the lines before it, over all names: unknown, twice, too many
-abbrev pub line_trouble : Names → List Saying → Numbered Saying → Option BookTrouble
+abbrev pub line_trouble : Names → List SaidView → Numbered SaidView → Option BookTrouble
 line_trouble ns before s =
     elim (is_known ns s.it) [
       | false ↦ Some (unknown s.line)
       | true ↦ elim (is_twice before s.it) [ true ↦ Some (twice s.line) | false ↦ many_at s.line (many_of before s.it) ]
     ]
 
-abbrev pub first_trouble : Names → List Saying → List (Numbered Saying) → Option BookTrouble
+abbrev pub first_trouble : Names → List SaidView → List (Numbered SaidView) → Option BookTrouble
 first_trouble ns before [] = None
 first_trouble ns before (s ∷ ss) = elim (line_trouble ns before s) [ Some t ↦ Some t | None ↦ first_trouble ns (s.it ∷ before) ss ]
 
@@ -198,9 +198,9 @@ abbrev pub without_trouble : Option BookTrouble → NamedPolicy → Result Named
 without_trouble (Some t) np = Err t
 without_trouble None np = without_cycle np (edge_cycle np.policy.edges)
 
-abbrev pub said_in : List (Numbered Saying) → List Saying
+abbrev pub said_in : List (Numbered SaidView) → List SaidView
 said_in ss = map (λ s. s.it) ss
 
 -- the policy that the lines make, or the first fault; where no line has one, the least cycle of edges
-abbrev pub build : List (Numbered Saying) → Result NamedPolicy BookTrouble
+abbrev pub build : List (Numbered SaidView) → Result NamedPolicy BookTrouble
 build ss = without_trouble (first_trouble (names_of (said_in ss)) [] ss) (named_policy (said_in ss))

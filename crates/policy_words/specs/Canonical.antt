@@ -1,7 +1,7 @@
 -- The canonical text of a policy.
 use Rattle.std.specs.Prelude.{ℕ, ◌+◌, Bool, true, false, cond, not, ◌&&◌, ◌||◌, List, [], ◌∷◌, ◌++◌, length, map, filter, flat_map, Option, Some, None, option_map}
 use Rattle.std.specs.List.{enumerate_from, list_all, list_any}
-use Rattle.gt_base.specs.Held.{Rule}
+use Rattle.gt_base.specs.Held.{TriggerView}
 use Rattle.gt_base.specs.Sets.{members, has}
 use Rattle.gt_base.specs.declared.events.Fluent.{Fluent}
 use Rattle.gt_base.specs.declared.events.Fluent.TheVariants as fluents
@@ -19,7 +19,7 @@ use Rattle.policy_words.specs.declared.sayings.CapKind.TheVariants as caps
 use Rattle.gt_text.specs.Words.{spaced, as_text}
 use Rattle.policy_words.specs.Making.{edges_from}
 use Rattle.policy_words.specs.Naming.{Names, NamedPolicy, role_name, user_name, period_name, limit_name, fluent_named, event_named, cond_named, signal_named, head_named}
-use Rattle.policy_words.specs.Sayings.{Saying, version, role, user, perm, period, limit, edge, cap, admin, opening, entry, trigger, said_words}
+use Rattle.policy_words.specs.Sayings.{SaidView, version, role, user, perm, period, limit, edge, cap, admin, opening, entry, trigger, said_words}
 
 abbrev pub edge_kind : Bool → Bool → EdgeKind
 edge_kind true true = Ia
@@ -48,7 +48,7 @@ is_linked _ = false
 
 -- which version a policy is written in: 1 where every edge is linked at first and nothing else names an edge
 
-abbrev pub rule_names_edge : Rule → Bool
+abbrev pub rule_names_edge : TriggerView → Bool
 rule_names_edge r =
     list_any (λ e. is_linked e.fluent) r.events || list_any (λ c. is_linked c.fluent) r.conds || list_any (λ c. is_linked c.fluent) r.settled || is_linked r.head.event.fluent
 
@@ -63,34 +63,34 @@ abbrev pub version_of : Policy → ℕ
 version_of p = cond (is_version_one p) 1 2
 
 module _ (ns : Names) where
-  abbrev pub period_line : (ℕ × Period) → Saying
+  abbrev pub period_line : (ℕ × Period) → SaidView
   period_line (n, p) = period (period_name ns (record { 0 = n })) p.first p.last p.expr
 
-  abbrev pub limit_line : (ℕ × LimitRule) → Saying
+  abbrev pub limit_line : (ℕ × LimitRule) → SaidView
   limit_line (n, l) = limit (limit_name ns (record { 0 = n })) l.prio (cond_named ns l.cond) l.most (option_map (period_name ns) l.period)
 
-  abbrev pub edge_line : HierEdge → Saying
+  abbrev pub edge_line : HierEdge → SaidView
   edge_line e = edge (edge_kind e.inherits e.activates) e.strong (role_name ns e.senior) (role_name ns e.junior)
 
-  abbrev pub cap_line : CapKind → List ℕ → Option ℕ → List Saying
+  abbrev pub cap_line : CapKind → List ℕ → Option ℕ → List SaidView
   cap_line kind r None = []
   cap_line kind r (Some n) = cap kind r n ∷ []
 
-  abbrev pub cap_lines : (ℕ × Caps) → List Saying
+  abbrev pub cap_lines : (ℕ × Caps) → List SaidView
   cap_lines (n, c) =
       let r : List ℕ = role_name ns (record { 0 = n }) in
       cap_line caps.Total r c.total ++ cap_line caps.User r c.user ++ cap_line caps.Length r c.length ++ cap_line caps.Day r c.day
 
-  abbrev pub items_of : Rule → List Item
+  abbrev pub items_of : TriggerView → List Item
   items_of r = map (λ e. Event (event_named ns e)) r.events ++ map (λ s. Signal (signal_named ns s)) r.signals ++ map (λ c. Cond (cond_named ns c)) r.conds
       ++ map (λ c. Settled (cond_named ns c)) r.settled
 
   -- the opening fluents of a sort; the set has them by sort, then by their numbers
-  abbrev pub opening_lines : (Fluent → Bool) → List Fluent → List Saying
+  abbrev pub opening_lines : (Fluent → Bool) → List Fluent → List SaidView
   opening_lines of_sort fs = map (λ f. opening (fluent_named ns f)) (filter of_sort fs)
 
 -- the lines in their order
-abbrev pub canonical_lines : NamedPolicy → List Saying
+abbrev pub canonical_lines : NamedPolicy → List SaidView
 canonical_lines np =
     let ns : Names = np.names in
     let opening : List Fluent = members np.policy.opening in

@@ -1,6 +1,6 @@
 -- The policy that lines make, in the order of the lines.
 use Rattle.std.specs.Prelude.{ℕ, zero, suc, ◌+◌, Bool, true, false, cond, not, nat_eq, List, [], ◌∷◌, ◌++◌, length, map, filter, filter_map, Option, Some, None}
-use Rattle.gt_base.specs.Held.{Rule}
+use Rattle.gt_base.specs.Held.{TriggerView}
 use Rattle.gt_base.specs.Sets.{set_of}
 use Rattle.gt_base.specs.declared.events.RoleId.{RoleId}
 use Rattle.gt_base.specs.declared.events.UserId.{UserId}
@@ -26,7 +26,7 @@ use Rattle.policy_words.specs.declared.sayings.EdgeKind.TheVariants.{I, A, Ia}
 use Rattle.policy_words.specs.declared.sayings.CapKind.{CapKind}
 use Rattle.policy_words.specs.declared.sayings.CapKind.TheVariants as caps
 use Rattle.policy_words.specs.Wording.{◌>>=◌}
-use Rattle.policy_words.specs.Sayings.{Saying, version, role, user, perm, period, limit, edge, cap, admin, opening, entry, trigger}
+use Rattle.policy_words.specs.Sayings.{SaidView, version, role, user, perm, period, limit, edge, cap, admin, opening, entry, trigger}
 use Rattle.policy_words.specs.Naming.{Names, NamedPolicy, NamePair, same_pair, role_of, user_of, period_of, fluent_of, event_of, cond_of, signal_of, head_of}
 
 -- names
@@ -39,7 +39,7 @@ abbrev pub with_pair : List NamePair → NamePair → List NamePair
 with_pair pairs p = cond (list_any (same_pair p) pairs) pairs (pairs ++ p ∷ [])
 
 -- a declared name, or the pair of an edge, goes to the end of its kind, unless it is there
-abbrev pub naming : Names → Saying → Names
+abbrev pub naming : Names → SaidView → Names
 naming ns (role n) = record { roles = with_name ns.roles n; users = ns.users; perms = ns.perms; periods = ns.periods; limits = ns.limits; edges = ns.edges }
 naming ns (user n) = record { roles = ns.roles; users = with_name ns.users n; perms = ns.perms; periods = ns.periods; limits = ns.limits; edges = ns.edges }
 naming ns (perm n) = record { roles = ns.roles; users = ns.users; perms = with_name ns.perms n; periods = ns.periods; limits = ns.limits; edges = ns.edges }
@@ -48,12 +48,12 @@ naming ns (limit n prio c most during) = record { roles = ns.roles; users = ns.u
 naming ns (edge kind strong s j) = record { roles = ns.roles; users = ns.users; perms = ns.perms; periods = ns.periods; limits = ns.limits; edges = with_pair ns.edges (s, j) }
 naming ns _ = ns
 
-abbrev pub names_in : Names → List Saying → Names
+abbrev pub names_in : Names → List SaidView → Names
 names_in ns [] = ns
 names_in ns (s ∷ ss) = names_in (naming ns s) ss
 
 -- the names that the lines declare, in the order of the lines
-abbrev pub names_of : List Saying → Names
+abbrev pub names_of : List SaidView → Names
 names_of ss = names_in no_names ss
 
 -- rules
@@ -93,7 +93,7 @@ with_new same None xs = xs
 with_new same (Some x) xs = cond (lists same xs x) xs (xs ++ x ∷ [])
 
 module _ (ns : Names) where
-  abbrev pub period_said : Saying → Option Period
+  abbrev pub period_said : SaidView → Option Period
   period_said (period n first last e) = Some (record { first = first; last = last; expr = e })
   period_said _ = None
 
@@ -103,14 +103,14 @@ module _ (ns : Names) where
     number ← period_of ns p
     Some (Some number)
 
-  abbrev pub limit_said : Saying → Option LimitRule
+  abbrev pub limit_said : SaidView → Option LimitRule
   limit_said (limit n prio c most during) = do
     watched ← cond_of ns c
     within ← during_of during
     Some (record { cond = watched; prio = prio; most = most; period = within })
   limit_said _ = None
 
-  abbrev pub edge_said : Saying → Option HierEdge
+  abbrev pub edge_said : SaidView → Option HierEdge
   edge_said (edge kind strong s j) = do
     senior ← role_of ns s
     junior ← role_of ns j
@@ -122,19 +122,19 @@ module _ (ns : Names) where
   capped kind n None cs = cs
   capped kind n (Some r) cs = changed_at (with_cap kind n) r.0 cs
 
-  abbrev pub with_caps_said : Saying → List Caps → List Caps
+  abbrev pub with_caps_said : SaidView → List Caps → List Caps
   with_caps_said (cap kind r n) cs = capped kind n (role_of ns r) cs
   with_caps_said _ cs = cs
 
-  abbrev pub admin_said : Saying → Option UserId
+  abbrev pub admin_said : SaidView → Option UserId
   admin_said (admin u) = user_of ns u
   admin_said _ = None
 
-  abbrev pub opening_said : Saying → Option Fluent
+  abbrev pub opening_said : SaidView → Option Fluent
   opening_said (opening f) = fluent_of ns f
   opening_said _ = None
 
-  abbrev pub entry_said : Saying → Option PeriodicEntry
+  abbrev pub entry_said : SaidView → Option PeriodicEntry
   entry_said (entry f p h) = do
     number ← period_of ns p
     head ← head_of ns h
@@ -158,7 +158,7 @@ module _ (ns : Names) where
   settled_in _ = None
 
   -- events, signals, conditions and settled conditions each in the order of the line
-  abbrev pub rule_said : Saying → Option Rule
+  abbrev pub rule_said : SaidView → Option TriggerView
   rule_said (trigger items h d) = do
     head ← head_of ns h
     Some (record { events = filter_map event_in items; signals = filter_map signal_in items; conds = filter_map cond_in items; settled = filter_map settled_in items; head = head; delay = d })
@@ -173,14 +173,14 @@ pub record Draft : Type 0 where
   pub admins : List UserId
   pub on_at_first : List Fluent
   pub entries : List PeriodicEntry
-  pub triggers : List Rule
+  pub triggers : List TriggerView
 
 -- no caps for each role, and nothing else
 abbrev pub fresh : Names → Draft
 fresh ns = record { periods = []; limits = []; edges = []; caps = map (λ _. no_caps) ns.roles; admins = []; on_at_first = []; entries = []; triggers = [] }
 
 -- with what a line says
-abbrev pub adding : Names → Draft → Saying → Draft
+abbrev pub adding : Names → Draft → SaidView → Draft
 adding ns d s =
     record {
       periods = with_item (period_said ns s) d.periods;
@@ -193,16 +193,16 @@ adding ns d s =
       triggers = with_item (rule_said ns s) d.triggers;
     }
 
-abbrev pub drafted : Names → Draft → List Saying → Draft
+abbrev pub drafted : Names → Draft → List SaidView → Draft
 drafted ns d [] = d
 drafted ns d (s ∷ ss) = drafted ns (adding ns d s) ss
 
 -- the lines have version 2
-abbrev pub is_second : Saying → Bool
+abbrev pub is_second : SaidView → Bool
 is_second (version n) = nat_eq n 2
 is_second _ = false
 
-abbrev pub are_second : List Saying → Bool
+abbrev pub are_second : List SaidView → Bool
 are_second ss = list_any is_second ss
 
 -- so many edges, by number
@@ -238,5 +238,5 @@ policy_of ns second d =
     }
 
 -- the policy that the lines make, numbers in place of names
-abbrev pub named_policy : List Saying → NamedPolicy
+abbrev pub named_policy : List SaidView → NamedPolicy
 named_policy ss = let ns : Names = names_of ss in record { names = ns; policy = policy_of ns (are_second ss) (drafted ns (fresh ns) ss) }

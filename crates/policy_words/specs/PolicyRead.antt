@@ -14,7 +14,7 @@ use Rattle.policy_words.specs.declared.versions.TextVersion.TheVariants.{Open}
 use Rattle.policy_words.specs.declared.sayings.Kind.{Kind}
 use Rattle.policy_words.specs.declared.sayings.Kind.TheVariants as kinds
 use Rattle.policy_words.specs.Wording.{event_words}
-use Rattle.policy_words.specs.Sayings.{Saying}
+use Rattle.policy_words.specs.Sayings.{SaidView}
 use Rattle.policy_words.specs.Reading.{Numbered, read_lines}
 use Rattle.policy_words.specs.Naming.{Names, NamedPolicy, role_name, event_named}
 use Rattle.policy_words.specs.Making.{names_of}
@@ -29,7 +29,7 @@ abbrev pub built : Names → Result NamedPolicy BookTrouble → Result NamedPoli
 built ns (Ok np) = Ok np
 built ns (Err t) = Err (of_book ns t)
 
-abbrev pub by_lines : Result (List (Numbered Saying)) (Numbered TextKind) → Result NamedPolicy PolicyFault
+abbrev pub by_lines : Result (List (Numbered SaidView)) (Numbered TextKind) → Result NamedPolicy PolicyFault
 by_lines (Err t) = Err (of_line t)
 by_lines (Ok ss) = built (names_of (said_in ss)) (build ss)
 

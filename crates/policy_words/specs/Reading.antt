@@ -19,19 +19,19 @@ use Rattle.policy_words.specs.declared.sayings.EdgeKind.TheVariants.{I, A, Ia}
 use Rattle.policy_words.specs.declared.sayings.CapKind.TheVariants as caps
 use Rattle.policy_words.specs.Rests.{rest_after, trimmed}
 use Rattle.policy_words.specs.Wording.{◌>>=◌, Read, cond_at, head_at, item_at, at_end, by_verb, delay_in}
-use Rattle.policy_words.specs.Sayings.{Saying, version, role, user, perm, period, limit, edge, cap, admin, opening, entry, trigger, kind_word, strength_word, cap_word, is_body}
+use Rattle.policy_words.specs.Sayings.{SaidView, version, role, user, perm, period, limit, edge, cap, admin, opening, entry, trigger, kind_word, strength_word, cap_word, is_body}
 use Rattle.policy_words.specs.Versions.{is_open, has_edges, version_after, is_allowed}
 
-abbrev pub formed : Option Saying → Result Saying TextKind
+abbrev pub formed : Option SaidView → Result SaidView TextKind
 formed None = Err faults.Form
 formed (Some s) = Ok s
 
 -- version 1 has no form that names an edge
-abbrev pub formed_in : Bool → Option Saying → Result Saying TextKind
+abbrev pub formed_in : Bool → Option SaidView → Result SaidView TextKind
 formed_in edges None = Err faults.Form
 formed_in edges (Some s) = elim (is_allowed edges s) [ true ↦ Ok s | false ↦ Err faults.Form ]
 
-abbrev pub one_name : (List ℕ → Saying) → List (List ℕ) → Option Saying
+abbrev pub one_name : (List ℕ → SaidView) → List (List ℕ) → Option SaidView
 one_name build [] = None
 one_name build (w ∷ ws) = do
   n ← name_in w
@@ -57,7 +57,7 @@ bounds_in (n ∷ f ∷ l ∷ ws) = do
   Some (record { name = name; first = first; last = last })
 bounds_in _ = None
 
-abbrev pub with_expr : Bounds → Result Expr ExprFault → Result Saying TextKind
+abbrev pub with_expr : Bounds → Result Expr ExprFault → Result SaidView TextKind
 with_expr b (Ok e) = Ok (period b.name b.first b.last e)
 with_expr b (Err f) = Err (faults.Expr f)
 
@@ -66,7 +66,7 @@ abbrev pub expr_of_line : List ℕ → List ℕ
 expr_of_line line = trimmed (rest_after 4 (without_return line))
 
 -- the words before the expression, then the bounds, then the expression
-abbrev pub period_by : List ℕ → Option Bounds → Result Saying TextKind
+abbrev pub period_by : List ℕ → Option Bounds → Result SaidView TextKind
 period_by line None = Err faults.Form
 period_by line (Some b) = elim (nat_lt b.last b.first) [ true ↦ Err faults.Bounds | false ↦ with_expr b (read_expr (expr_of_line line)) ]
 
@@ -80,7 +80,7 @@ abbrev pub most_at : Read ℕ
 most_at (w ∷ n ∷ ws) = elim (bytes_eq w (codes "max")) [ true ↦ (do m ← number_from 1 1_000_000 n; Some (m, ws)) | false ↦ None ]
 most_at _ = None
 
-abbrev pub limit_in : List (List ℕ) → Option Saying
+abbrev pub limit_in : List (List ℕ) → Option SaidView
 limit_in (n ∷ p ∷ ws) = do
   name ← name_in n
   prio ← number_from 0 99 p
@@ -94,7 +94,7 @@ abbrev pub spelled_so : {A : Type 0} → (A → List ℕ) → List A → List �
 spelled_so spell [] w = None
 spelled_so spell (a ∷ more) w = elim (bytes_eq (spell a) w) [ true ↦ Some a | false ↦ spelled_so spell more w ]
 
-abbrev pub edge_in : List (List ℕ) → Option Saying
+abbrev pub edge_in : List (List ℕ) → Option SaidView
 edge_in (k ∷ st ∷ s ∷ j ∷ []) = do
   kind ← spelled_so kind_word (I ∷ A ∷ Ia ∷ []) k
   strong ← spelled_so strength_word (true ∷ false ∷ []) st
@@ -103,7 +103,7 @@ edge_in (k ∷ st ∷ s ∷ j ∷ []) = do
   Some (edge kind strong senior junior)
 edge_in _ = None
 
-abbrev pub cap_in : List (List ℕ) → Option Saying
+abbrev pub cap_in : List (List ℕ) → Option SaidView
 cap_in (k ∷ r ∷ n ∷ []) = do
   kind ← spelled_so cap_word (caps.Total ∷ caps.User ∷ caps.Length ∷ caps.Day ∷ []) k
   name ← name_in r
@@ -111,16 +111,16 @@ cap_in (k ∷ r ∷ n ∷ []) = do
   Some (cap kind name most)
 cap_in _ = None
 
-abbrev pub opening_by : Option (NamedCond × List (List ℕ)) → Option Saying
+abbrev pub opening_by : Option (NamedCond × List (List ℕ)) → Option SaidView
 opening_by None = None
 opening_by (Some c) = at_end (opening c.0.fluent) c.1
 
 -- `linked` begins a line of version 2 alone
-abbrev pub linked_by : Bool → Option Saying → Result Saying TextKind
+abbrev pub linked_by : Bool → Option SaidView → Result SaidView TextKind
 linked_by false said = Err faults.Word
 linked_by true said = formed said
 
-abbrev pub entry_in : Form → List (List ℕ) → Option Saying
+abbrev pub entry_in : Form → List (List ℕ) → Option SaidView
 entry_in f [] = None
 entry_in f (p ∷ ws) = do
   name ← name_in p
@@ -141,18 +141,18 @@ items_at (suc k) ws = do
         ]
   ]
 
-abbrev pub trigger_in : List (List ℕ) → Option Saying
+abbrev pub trigger_in : List (List ℕ) → Option SaidView
 trigger_in ws = do
   items ← items_at (length ws) ws
   h ← head_at 99 items.1
   d ← delay_in h.1
   Some (trigger items.0 h.0 d)
 
-abbrev pub with_body : Saying → Result Saying TextKind
+abbrev pub with_body : SaidView → Result SaidView TextKind
 with_body (trigger items h d) = elim (is_body items) [ true ↦ Ok (trigger items h d) | false ↦ Err faults.Body ]
 with_body s = Ok s
 
-abbrev pub trigger_by : Bool → Option Saying → Result Saying TextKind
+abbrev pub trigger_by : Bool → Option SaidView → Result SaidView TextKind
 trigger_by edges None = Err faults.Form
 trigger_by edges (Some s) = elim (is_allowed edges s) [ true ↦ with_body s | false ↦ Err faults.Form ]
 
@@ -161,12 +161,12 @@ version_in (w ∷ []) = elim (bytes_eq w (codes "1")) [ true ↦ Some 1 | false 
 version_in _ = None
 
 -- a version stands before all lines that are not silent
-abbrev pub version_by : Bool → Option ℕ → Result Saying TextKind
+abbrev pub version_by : Bool → Option ℕ → Result SaidView TextKind
 version_by true (Some n) = Ok (version n)
 version_by _ _ = Err faults.Version
 
 -- what follows each first word; the whole line is at hand for the rest after some words
-abbrev pub verbs : TextVersion → List ℕ → List (List ℕ × (List (List ℕ) → Option (Result Saying TextKind)))
+abbrev pub verbs : TextVersion → List ℕ → List (List ℕ × (List (List ℕ) → Option (Result SaidView TextKind)))
 verbs v line =
     (codes "policy", λ ws. Some (version_by (is_open v) (version_in ws)))
     ∷ (codes "role", λ ws. Some (formed (one_name (λ n. role n) ws)))
@@ -188,20 +188,20 @@ verbs v line =
     ∷ (codes "when", λ ws. Some (trigger_by (has_edges v) (trigger_in ws)))
     ∷ []
 
-abbrev pub said_by : Option (Result Saying TextKind) → Result Saying TextKind
+abbrev pub said_by : Option (Result SaidView TextKind) → Result SaidView TextKind
 said_by None = Err faults.Word
 said_by (Some r) = r
 
-abbrev pub said_of : TextVersion → List ℕ → List (List ℕ) → Result Saying TextKind
+abbrev pub said_of : TextVersion → List ℕ → List (List ℕ) → Result SaidView TextKind
 said_of v line [] = Err faults.Word
 said_of v line (w ∷ ws) = said_by (do reads ← by_verb (verbs v line) w; reads ws)
 
-abbrev pub some_said : Result Saying TextKind → Result (Option Saying) TextKind
+abbrev pub some_said : Result SaidView TextKind → Result (Option SaidView) TextKind
 some_said (Ok s) = Ok (Some s)
 some_said (Err t) = Err t
 
 -- what a line says, nothing where it is silent, in a text whose lines before it tell this version
-abbrev pub read_said : TextVersion → List ℕ → Result (Option Saying) TextKind
+abbrev pub read_said : TextVersion → List ℕ → Result (Option SaidView) TextKind
 read_said v line =
     elim (is_longer 4096 line) [
       | true ↦ Err faults.Long
@@ -218,7 +218,7 @@ abbrev pub and_then : {A : Type 0} → Numbered A → Result (List (Numbered A))
 and_then s (Ok more) = Ok (s ∷ more)
 and_then s (Err t) = Err t
 
-abbrev pub read_lines : TextVersion → ℕ → List (List ℕ) → Result (List (Numbered Saying)) (Numbered TextKind)
+abbrev pub read_lines : TextVersion → ℕ → List (List ℕ) → Result (List (Numbered SaidView)) (Numbered TextKind)
 read_lines v n [] = Ok []
 read_lines v n (l ∷ ls) =
     elim (read_said v l) [

@@ -22,19 +22,19 @@ use Rattle.policy_words.specs.declared.sayings.CapKind.TheVariants as caps
 use Rattle.policy_words.specs.Wording.{cond_words, head_words, item_words, fluent_names, sort_of, cond_verb, delay_words}
 
 -- what a line that is not silent says
-pub data Saying : Type 0 where
-  version : ℕ → Saying
-  role : List ℕ → Saying
-  user : List ℕ → Saying
-  perm : List ℕ → Saying
-  period : List ℕ → ℕ → ℕ → Expr → Saying
-  limit : List ℕ → ℕ → NamedCond → ℕ → Option (List ℕ) → Saying
-  edge : EdgeKind → Bool → List ℕ → List ℕ → Saying
-  cap : CapKind → List ℕ → ℕ → Saying
-  admin : List ℕ → Saying
-  opening : NamedFluent → Saying
-  entry : Form → List ℕ → NamedHead → Saying
-  trigger : List Item → NamedHead → ℕ → Saying
+pub data SaidView : Type 0 where
+  version : ℕ → SaidView
+  role : List ℕ → SaidView
+  user : List ℕ → SaidView
+  perm : List ℕ → SaidView
+  period : List ℕ → ℕ → ℕ → Expr → SaidView
+  limit : List ℕ → ℕ → NamedCond → ℕ → Option (List ℕ) → SaidView
+  edge : EdgeKind → Bool → List ℕ → List ℕ → SaidView
+  cap : CapKind → List ℕ → ℕ → SaidView
+  admin : List ℕ → SaidView
+  opening : NamedFluent → SaidView
+  entry : Form → List ℕ → NamedHead → SaidView
+  trigger : List Item → NamedHead → ℕ → SaidView
 
 -- the words of a line
 
@@ -68,7 +68,7 @@ and_items (i ∷ []) = item_words i
 and_items (i ∷ j ∷ is) = item_words i ++ codes "and" ∷ and_items (j ∷ is)
 
 -- an expression stands as one word of its own, though it has spaces
-abbrev pub said_words : Saying → List (List ℕ)
+abbrev pub said_words : SaidView → List (List ℕ)
 said_words (version n) = codes "policy" ∷ decimal n ∷ []
 said_words (role n) = codes "role" ∷ n ∷ []
 said_words (user n) = codes "user" ∷ n ∷ []
@@ -118,7 +118,7 @@ abbrev pub is_body : List Item → Bool
 is_body items = nat_le (length items) 16 && list_any is_cause items
 
 -- the names and numbers of a saying; bounds and bodies are not asked
-abbrev pub is_formed : Saying → Bool
+abbrev pub is_formed : SaidView → Bool
 is_formed (version n) = nat_eq n 1 || nat_eq n 2
 is_formed (role n) = is_name n
 is_formed (user n) = is_name n
@@ -133,17 +133,17 @@ is_formed (entry f p h) = is_name p && is_head h
 is_formed (trigger items h d) = is_some_item items && list_all is_item items && is_head h && nat_le d last_minute
 
 -- a period's first instant is not after its last
-abbrev pub is_bounded : Saying → Bool
+abbrev pub is_bounded : SaidView → Bool
 is_bounded (period n first last e) = nat_le first last
 is_bounded _ = true
 
 -- a trigger keeps the rule on bodies
-abbrev pub is_bodied : Saying → Bool
+abbrev pub is_bodied : SaidView → Bool
 is_bodied (trigger items h d) = is_body items
 is_bodied _ = true
 
 -- what a line may say
-abbrev pub is_saying : Saying → Bool
+abbrev pub is_saying : SaidView → Bool
 is_saying s = is_formed s && is_bounded s && is_bodied s
 
 -- what names an edge of the hierarchy: version 1 has no words for it
@@ -159,7 +159,7 @@ item_names_edge (Cond c) = is_edge c.fluent
 item_names_edge (Settled c) = is_edge c.fluent
 
 -- an event, a condition or an opening line of an edge
-abbrev pub names_edge : Saying → Bool
+abbrev pub names_edge : SaidView → Bool
 names_edge (limit n prio c most during) = is_edge c.fluent
 names_edge (opening f) = is_edge f
 names_edge (entry f p h) = is_edge h.event.fluent

@@ -1,9 +1,9 @@
 -- What a contract sees of a line's saying: the room of its list is left out.
 use Rattle.policy_words.specs.declared.sayings.Said.{Said}
 use Rattle.policy_words.specs.declared.sayings.Said.TheVariants.{Version, Role, User, Perm, Period, Limit, Edge, Cap, Admin, Opening, Entry, When}
-use Rattle.policy_words.specs.Sayings.{Saying, version, role, user, perm, period, limit, edge, cap, admin, opening, entry, trigger}
+use Rattle.policy_words.specs.Sayings.{SaidView, version, role, user, perm, period, limit, edge, cap, admin, opening, entry, trigger}
 
-abbrev pub seen_said : Said → Saying
+abbrev pub seen_said : Said → SaidView
 seen_said (Version n) = version n
 seen_said (Role n) = role n
 seen_said (User n) = user n

@@ -12,7 +12,7 @@ use Rattle.policy_words.specs.declared.faults.TextKind.{TextKind}
 use Rattle.policy_words.specs.declared.faults.TextKind.TheVariants as faults
 use Rattle.policy_words.specs.declared.versions.TextVersion.{TextVersion}
 use Rattle.policy_words.specs.Wording.{head_words}
-use Rattle.policy_words.specs.Sayings.{Saying, version, period, trigger, said_words, and_items, is_formed, is_bodied}
+use Rattle.policy_words.specs.Sayings.{SaidView, version, period, trigger, said_words, and_items, is_formed, is_bodied}
 use Rattle.policy_words.specs.Versions.{is_open, has_edges, is_allowed}
 use Rattle.policy_words.specs.Reading.{expr_of_line}
 
@@ -41,7 +41,7 @@ abbrev pub SpellsPeriod : List ℕ → List ℕ → ℕ → ℕ → Expr → Typ
 SpellsPeriod line n first last e = HasBounds line n first last × (first ≤ last) × Says (expr_of_line line) e
 
 -- the line is spelled so; a delay of 0 may be written or left out
-abbrev pub Spells : Saying → List ℕ → Type 0
+abbrev pub Spells : SaidView → List ℕ → Type 0
 Spells (period n first last e) line = SpellsPeriod line n first last e
 Spells (trigger items h zero) line =
     (words_of line ≡ said_words (trigger items h 0)) ⊎ (words_of line ≡ codes "when" ∷ and_items items ++ codes "then" ∷ head_words h ++ codes "after" ∷ codes "0" ∷ [])
@@ -60,17 +60,17 @@ words_that_begin edges = cond edges (codes "linked" ∷ first_words) first_words
 abbrev pub BeginsWith : List ℕ → List ℕ → Type 0
 BeginsWith line w = (ws : List (List ℕ)) × (words_of line ≡ w ∷ ws)
 
-abbrev pub IsVersion : Saying → Type 0
+abbrev pub IsVersion : SaidView → Type 0
 IsVersion (version n) = Unit {0}
 IsVersion _ = ⊥
 
 -- the version stands as the first line that is not silent
-abbrev pub IsFirst : Bool → Saying → Type 0
+abbrev pub IsFirst : Bool → SaidView → Type 0
 IsFirst true said = Unit {0}
 IsFirst false said = IsVersion said → ⊥
 
 -- and in version 1 no line names an edge
-abbrev pub IsPlaced : TextVersion → Saying → Type 0
+abbrev pub IsPlaced : TextVersion → SaidView → Type 0
 IsPlaced v said = IsFirst (is_open v) said × IsTrue (is_allowed (has_edges v) said)
 
 abbrev pub ExprFails : List ℕ → ExprFault → Type 0
@@ -79,11 +79,11 @@ ExprFails text f = ((f.kind ≡ Syntax) × IsSyntaxFault text f.at) ⊎ ((f.kind
 -- no form of its first word: no saying that the version has words for, and no bounds of a period
 pub record HasNoForm (edges : Bool) (line : List ℕ) : Type 0 where
   pub verb : (w : List ℕ) × BeginsWith line w × Contains (words_that_begin edges) w × (w ≢ codes "policy")
-  pub says_nothing : (said : Saying) → IsTrue (is_formed said) → IsTrue (is_allowed edges said) → Spells said line → ⊥
+  pub says_nothing : (said : SaidView) → IsTrue (is_formed said) → IsTrue (is_allowed edges said) → Spells said line → ⊥
   pub no_bounds : (n : List ℕ) (first last : ℕ) → HasBounds line n first last → ⊥
 
 -- what reading a line answers in a text of this version: nothing, a saying, or why not
-abbrev pub IsSaid : TextVersion → List ℕ → Result (Option Saying) TextKind → Type 0
+abbrev pub IsSaid : TextVersion → List ℕ → Result (Option SaidView) TextKind → Type 0
 IsSaid v line (Ok None) = IsSilent 4096 line
 IsSaid v line (Ok (Some said)) = IsLoud 4096 line × IsTrue (is_formed said) × Spells said line × IsTrue (is_bodied said) × IsPlaced v said
 IsSaid v line (Err faults.Long) = 4096 < length line
@@ -92,7 +92,7 @@ IsSaid v line (Err faults.Version) =
 IsSaid v line (Err faults.Word) = IsLoud 4096 line × ((w : List ℕ) → Contains (words_that_begin (has_edges v)) w → BeginsWith line w → ⊥)
 IsSaid v line (Err faults.Form) = IsLoud 4096 line × HasNoForm (has_edges v) line
 IsSaid v line (Err faults.Body) =
-    IsLoud 4096 line × ((said : Saying) × IsTrue (is_formed said) × IsTrue (is_allowed (has_edges v) said) × Spells said line × (is_bodied said ≡ false))
+    IsLoud 4096 line × ((said : SaidView) × IsTrue (is_formed said) × IsTrue (is_allowed (has_edges v) said) × Spells said line × (is_bodied said ≡ false))
 IsSaid v line (Err faults.Bounds) = IsLoud 4096 line × ((n : List ℕ) × (f : ℕ) × (l : ℕ) × HasBounds line n f l × (l < f))
 IsSaid v line (Err (faults.Expr t)) = IsLoud 4096 line × ((n : List ℕ) × (f : ℕ) × (l : ℕ) × HasBounds line n f l × (f ≤ l) × ExprFails (expr_of_line line) t)
 IsSaid v line (Err faults.Memory) = ⊥

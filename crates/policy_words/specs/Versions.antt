@@ -2,7 +2,7 @@
 use Rattle.std.specs.Prelude.{ℕ, Bool, true, false, ◌||◌, not, nat_eq, cond}
 use Rattle.policy_words.specs.declared.versions.TextVersion.{TextVersion}
 use Rattle.policy_words.specs.declared.versions.TextVersion.TheVariants.{Open, One, Two}
-use Rattle.policy_words.specs.Sayings.{Saying, version, names_edge}
+use Rattle.policy_words.specs.Sayings.{SaidView, version, names_edge}
 
 abbrev pub is_open : TextVersion → Bool
 is_open Open = true
@@ -22,10 +22,10 @@ settled_version One = One
 settled_version Two = Two
 
 -- the version after a line
-abbrev pub version_after : TextVersion → Saying → TextVersion
+abbrev pub version_after : TextVersion → SaidView → TextVersion
 version_after v (version n) = cond (nat_eq n 2) Two One
 version_after v _ = settled_version v
 
 -- a line that names an edge stands in a text of version 2 alone
-abbrev pub is_allowed : Bool → Saying → Bool
+abbrev pub is_allowed : Bool → SaidView → Bool
 is_allowed edges s = not (names_edge s) || edges

@@ -1,4 +1,4 @@
-//! What lines claim.
+//! What a line claims for itself, so that no other line may have it.
 use gt_base::Name;
 
 /// What a line claims for itself: a name that it declares, the ordered pair of an edge, or the kind and role of a cap, which

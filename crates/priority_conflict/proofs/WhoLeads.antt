@@ -13,7 +13,7 @@ use Rattle.gt_base.specs.declared.events.Event.{Event}
 use Rattle.gt_base.specs.declared.events.Fluent.{Fluent}
 use Rattle.gt_base.specs.declared.events.Prioritised.{Prioritised}
 use Rattle.gt_base.specs.Events.{converse}
-use Rattle.gt_base.specs.Happening.{Happening, Events}
+use Rattle.gt_base.specs.Happening.{HappenedView, Events}
 use Rattle.gt_base.specs.Orders.{fluent_eq, prioritised_cmp}
 use Rattle.gt_base.specs.Sets.{SetOf, has, members, with_member}
 use Rattle.gt_base.proofs.SetLaws.{has-members, has-with_member}
@@ -144,7 +144,7 @@ other false false h = absurd (h refl)
 event_of : (a b : Event) → a.on ≡ b.on → a.fluent ≡ b.fluent → a ≡ b
 event_of a b p q = λ i. record { on = p i; fluent = q i }
 
-module _ (x : Happening) (e : Event) where
+module _ (x : HappenedView) (e : Event) where
   -- what is won leads
   won_leads : (q : Prioritised) → Leads (has x.events) e.fluent q → won x e ≡ true → same_event q.event e ≡ true
   won_leads q lead w =
@@ -194,7 +194,7 @@ on_by None before = before
 on_by (Some q) before = q.event.on
 
 -- so it is after the set
-pub after_by : (x : Happening) (s : Status) (f : Fluent) (lead : Option Prioritised) → IsLeader (has x.events) f lead → after x s f ≡ on_by lead (s f)
+pub after_by : (x : HappenedView) (s : Status) (f : Fluent) (lead : Option Prioritised) → IsLeader (has x.events) f lead → after x s f ≡ on_by lead (s f)
 after_by x s f lead is =
     (λ i. cond (won_by x (turns_on f) lead is i) true (cond (won_by x (turns_off f) lead is i) false (s f))) ∙ decides lead is
   where
@@ -229,7 +229,7 @@ in_map f [] x m = elim m [ ]
 in_map f (y ∷ ys) x (inl e) = inl (ap f e)
 in_map f (y ∷ ys) x (inr m) = inr (in_map f ys x m)
 
-module _ {S : Type 0} (m : IndexMap Fluent Prioritised S) (x : Happening) (unique : IsUnique fluent_eq m) (lead : (f : Fluent) → IsLeader (has x.events) f (get fluent_eq m f)) (e : Event) where
+module _ {S : Type 0} (m : IndexMap Fluent Prioritised S) (x : HappenedView) (unique : IsUnique fluent_eq m) (lead : (f : Fluent) → IsLeader (has x.events) f (get fluent_eq m f)) (e : Event) where
   abbrev events : List Event
   events = map (λ p. p.event) (values m)
 
@@ -259,7 +259,7 @@ module _ {S : Type 0} (m : IndexMap Fluent Prioritised S) (x : Happening) (uniqu
   winners_are = both_ways _ _ listed_leads leads_listed
 
 -- the leaders among the events of a set lead in it
-pub leads_in : (x : Happening) (es : List Prioritised) → es ≡ members x.events → (under : Fluent → Option Prioritised) → ((f : Fluent) → IsLeader (lists same_prioritised es) f (under f))
+pub leads_in : (x : HappenedView) (es : List Prioritised) → es ≡ members x.events → (under : Fluent → Option Prioritised) → ((f : Fluent) → IsLeader (lists same_prioritised es) f (under f))
     → (f : Fluent) → IsLeader (has x.events) f (under f)
 leads_in x es is under lead f = subst (λ there. IsLeader there f (under f)) (λ i o. (ap (λ xs. lists same_prioritised xs o) is ∙ sym (has-members x.events o)) i) (lead f)
 

@@ -68,8 +68,8 @@ fn greatest_free(x: &Happened, e: Event, below: u8) -> Option<Prio>
     None
 }
 
-/// The greatest priority below a number at which the event stands in the set.
-fn greatest(x: &Happened, e: Event, below: u8) -> Option<Prio>
+/// The greatest priority below a number at which the event stands in the set, blocked or not. It takes no memory.
+pub fn greatest(x: &Happened, e: Event, below: u8) -> Option<Prio>
     requires { below ≤ 101 }
     ensures { result ≡ greatest_below (stands_at x.now.set e) below }
 {

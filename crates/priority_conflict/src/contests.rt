@@ -19,13 +19,13 @@ pub struct Contest {
 
 impl Model for Contest {
     ghost use Rattle.gt_base.specs.declared.events.Fluent.{Fluent};
-    ghost use Rattle.gt_base.specs.Happening.{Happening, happening_code};
+    ghost use Rattle.gt_base.specs.Happening.{HappenedView, happening_code};
     ghost use Rattle.gt_base.specs.Orders.{fluent_eq};
     ghost use Rattle.gt_base.specs.Sets.{has};
     ghost use Rattle.indexmap.specs.IndexMap.{get};
     ghost use Rattle.priority_conflict.specs.Winning.{IsLeader};
 
-    ghost Value = { Happening };
+    ghost Value = { HappenedView };
 
     ghost coded = { happening_code };
 

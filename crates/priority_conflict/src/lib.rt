@@ -5,6 +5,6 @@ mod conflicts;
 mod contests;
 mod leading;
 
-pub use conflicts::{blocked, next_status, seen};
+pub use conflicts::{blocked, greatest, next_status, seen};
 pub use contests::Contest;
 pub use leading::winners;

@@ -1,4 +1,4 @@
-//! Policies, instants and walks.
+//! Makes the policies, instants, events and walks of the tests.
 use gt_base::{Event, Fluent, Instant, List, Memory, Prio, Prioritised, RoleId, Walk};
 use policy_book::Policy;
 use policy_text::{PolicyText, policy_of};

@@ -21,7 +21,7 @@ use Rattle.civil_time.proofs.Texts.{one_text}
 use Rattle.policy_lines.specs.Plain.{is_plain, is_solid}
 use Rattle.policy_lines.proofs.Truths.{both, some_is}
 use Rattle.policy_lines.proofs.SolidWords.{word_civil}
-use Rattle.policy_text.proofs.Back.{user_back, user_named}
+use Rattle.policy_book.proofs.Back.{user_back, user_named}
 use Rattle.policy_words.specs.Naming.{NamedPolicy, user_of, user_name}
 use Rattle.policy_words.specs.Valid.{IsWellFormed}
 use Rattle.request_text.specs.Replies.{who_text, actor_text, request_text, reply_text, step_text, entry_text, entry_line, log_text}

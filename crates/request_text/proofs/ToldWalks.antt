@@ -12,7 +12,7 @@ use Rattle.gt_base.specs.declared.policies.HierEdge.{HierEdge}
 use Rattle.gtrbac_model.specs.WholePolicy.{is_edge, joins_same, joined_twice}
 use Rattle.policy_lines.proofs.Truths.{both, and_true, some_is}
 use Rattle.policy_book.proofs.Places.{none_at, all_at}
-use Rattle.policy_text.proofs.Back.{role_back, role_named}
+use Rattle.policy_book.proofs.Back.{role_back, role_named}
 use Rattle.policy_words.specs.Naming.{NamedPolicy, role_of, role_name}
 use Rattle.policy_words.specs.Valid.{IsWellFormed}
 use Rattle.request_text.specs.Replies.{arrow, junior_text, junior_name, edge_text, walk_text}

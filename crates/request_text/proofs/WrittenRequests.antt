@@ -26,7 +26,7 @@ use Rattle.policy_lines.specs.Plain.{is_word, is_solid}
 use Rattle.policy_lines.proofs.Truths.{both, and_true, not_true, some_is}
 use Rattle.policy_lines.proofs.SpacedWords.{words_of_spaced, all_append}
 use Rattle.policy_lines.proofs.SolidWords.{word_name, word_decimal, words_names, word_event_verb, word_cond_verb, behind, word_on, words_delay}
-use Rattle.policy_text.proofs.Back.{role_back, perm_back, role_named, perm_named, names_of_fluent, cond_back, event_back}
+use Rattle.policy_book.proofs.Back.{role_back, perm_back, role_named, perm_named, names_of_fluent, cond_back, event_back}
 use Rattle.policy_words.specs.Naming.{NamedPolicy, head_of, head_named}
 use Rattle.policy_words.specs.Valid.{IsWellFormed}
 use Rattle.request_text.specs.declared.lines.Line.{Line}

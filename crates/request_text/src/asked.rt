@@ -9,9 +9,8 @@ ghost use Rattle.request_text.specs.Named.{has_request};
 
 use gt_base::{Cond, Event, Memory, Name, Prioritised, Request, SessionId};
 use gt_text::push_number;
-use policy_book::Policy;
+use policy_book::{Policy, named_cond, named_event, named_head};
 use policy_lines::{push_cond, push_delay, push_event, push_head};
-use policy_text::{named_cond, named_event, named_head};
 use std::alloc::Global;
 
 fn push_status(text: &mut Vec<u8>, p: &Policy, c: Cond) -> Result<(), Memory>

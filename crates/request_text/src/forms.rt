@@ -1,15 +1,16 @@
 //! Phrases, read from the words of a line.
 ghost use Rattle.std.specs.Prelude.{◌≡◌, option_map};
 ghost use Rattle.policy_words.specs.Wording.{at_end};
-ghost use Rattle.request_text.specs.Phrases.{session_at, session_in, session_name_in, raise_in, cond_in, event_in, request_by, request_in, actor_in, minute_in, phrase_by};
+ghost use Rattle.request_text.specs.Phrases.{session_at, session_in, session_name_in, raise_in, cond_in, event_in, request_by, actor_in, minute_in, at_minute, be_actor};
 
 use crate::phrases::{NamedRequest, Phrase};
-use crate::verbs::{RequestVerb, request_verb};
+use crate::verbs::RequestVerb;
 use gt_base::{Instant, Name, SessionId};
 use gt_text::Words;
 use policy_lines::{
     next_cond, next_event, next_head, next_name, number_from, read_delay, read_instant, read_name,
 };
+use policy_words::NamedHead;
 
 /// The session at the front.
 fn next_session(words: &mut Words<'_>) -> Option<SessionId>
@@ -62,11 +63,19 @@ fn seen(mut words: Words<'_>) -> Option<NamedRequest>
     Some(NamedRequest::Seen(event))
 }
 
-fn raise(mut words: Words<'_>) -> Option<NamedRequest>
-    ensures { result ≡ raise_in words.entry }
+/// The event that is requested, and its delay.
+pub(crate) fn raise(mut words: Words<'_>) -> Option<(NamedHead, u32)>
+    ensures { option_map (λ r. NamedRequest.Raise r.0 r.1) result ≡ raise_in words.entry }
 {
     let head = next_head(100, &mut words)?;
     let delay = read_delay(words)?;
+    Some((head, delay))
+}
+
+fn raised(words: Words<'_>) -> Option<NamedRequest>
+    ensures { result ≡ raise_in words.entry }
+{
+    let (head, delay) = raise(words)?;
     Some(NamedRequest::Raise { head, delay })
 }
 
@@ -115,14 +124,14 @@ fn check(words: Words<'_>) -> Option<NamedRequest>
 }
 
 /// What the words after the first word of a request ask.
-fn request_after(verb: RequestVerb, words: Words<'_>) -> Option<NamedRequest>
+pub(crate) fn request_after(verb: RequestVerb, words: Words<'_>) -> Option<NamedRequest>
     ensures { result ≡ request_by verb words.entry }
 {
     match verb {
         RequestVerb::Now => alone(NamedRequest::Now, words),
         RequestVerb::Status => status(words),
         RequestVerb::Event => seen(words),
-        RequestVerb::Request => raise(words),
+        RequestVerb::Request => raised(words),
         RequestVerb::Open => alone(NamedRequest::OpenSession, words),
         RequestVerb::Close => close(words),
         RequestVerb::Activate => activate(words),
@@ -130,14 +139,6 @@ fn request_after(verb: RequestVerb, words: Words<'_>) -> Option<NamedRequest>
         RequestVerb::Active => active(words),
         RequestVerb::Check => check(words),
     }
-}
-
-/// What a first word and the words after it ask.
-fn request(word: &[u8], words: Words<'_>) -> Option<NamedRequest>
-    ensures { result ≡ request_in word.now words.entry }
-{
-    let verb = request_verb(word)?;
-    request_after(verb, words)
 }
 
 /// The name of an actor, where `-` is none.
@@ -164,15 +165,16 @@ fn minute(mut words: Words<'_>) -> Option<Instant>
     read_instant(word)
 }
 
-/// What a first word and the words after it say.
-pub(crate) fn phrase(script: bool, word: &[u8], words: Words<'_>) -> Option<Phrase>
-    ensures { result ≡ phrase_by script word.now words.entry }
+/// The minute after `@`.
+pub(crate) fn at(words: Words<'_>) -> Option<Phrase>
+    ensures { result ≡ at_minute (minute_in words.entry) }
 {
-    if script && word == b"@".as_slice() {
-        return Some(Phrase::At(minute(words)?));
-    }
-    if word == b"as".as_slice() {
-        return Some(Phrase::Be(actor(words)?));
-    }
-    Some(Phrase::Ask(request(word, words)?))
+    Some(Phrase::At(minute(words)?))
+}
+
+/// The actor after `as`.
+pub(crate) fn be(words: Words<'_>) -> Option<Phrase>
+    ensures { result ≡ be_actor (actor_in words.entry) }
+{
+    Some(Phrase::Be(actor(words)?))
 }

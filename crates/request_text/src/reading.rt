@@ -1,11 +1,12 @@
 //! Lines, read over a policy.
-ghost use Rattle.std.specs.Prelude.{◌≡◌, IfOk};
-ghost use Rattle.request_text.specs.Phrases.{request_of, actor_of, line_of, said as said_by, read_line as read};
+ghost use Rattle.std.specs.Prelude.{◌≡◌, ◌&&◌, bytes_eq, codes, IfOk};
+ghost use Rattle.request_text.specs.Phrases.{request_of, actor_of, line_of, said as said_by, ask_request, raise_in, request_in, phrase_by, read_line as read};
 ghost use Rattle.request_text.specs.Lines.{IsOpening, IsNamedLine};
 
-use crate::forms::phrase;
+use crate::forms::{at, be, raise, request_after};
 use crate::lines::{Line, LineFault};
 use crate::phrases::{NamedRequest, Phrase};
+use crate::verbs::{RequestVerb, request_verb};
 use gt_base::{Actor, Name, Request};
 use gt_text::Words;
 use policy_book::Policy;
@@ -65,6 +66,69 @@ fn said(p: &Policy, opening: Actor, phrase: Option<Phrase>) -> Result<Line, Line
     }
 }
 
+/// What a request asks over a policy, or why it asks nothing.
+fn asked(p: &Policy, request: Option<NamedRequest>) -> Result<Line, LineFault>
+    ensures { (opening : Actor) → result ≡ said_by p.now opening (ask_request request) }
+{
+    let Some(request) = request else {
+        return Err(LineFault::Syntax);
+    };
+    let Some(request) = numbered(p, request) else {
+        return Err(LineFault::Name);
+    };
+    Ok(Line::Ask(request))
+}
+
+/// The same of the words after `request`: its names are looked up where they were read.
+fn asked_raise(p: &Policy, words: Words<'_>) -> Result<Line, LineFault>
+    ensures { (opening : Actor) → result ≡ said_by p.now opening (ask_request (raise_in words.entry)) }
+{
+    let Some((head, delay)) = raise(words) else {
+        return Err(LineFault::Syntax);
+    };
+    let Some(head) = p.head(&head) else {
+        return Err(LineFault::Name);
+    };
+    Ok(Line::Ask(Request::Raise { head, delay }))
+}
+
+/// What a first word and the words after it ask over a policy, or why they ask nothing.
+fn request_said(p: &Policy, word: &[u8], words: Words<'_>) -> Result<Line, LineFault>
+    ensures { (opening : Actor) → result ≡ said_by p.now opening (ask_request (request_in word.now words.entry)) }
+{
+    match request_verb(word) {
+        None => Err(LineFault::Syntax),
+        Some(RequestVerb::Request) => asked_raise(p, words),
+        Some(verb) => asked(p, request_after(verb, words)),
+    }
+}
+
+/// Whether the word is `@`, in a script.
+fn is_at(script: bool, word: &[u8]) -> bool
+    ensures { result ≡ (script && bytes_eq word.now (codes "@")) }
+{
+    script && word == b"@".as_slice()
+}
+
+/// What a first word and the words after it say over a policy, or their fault.
+fn words_said(
+    p: &Policy,
+    opening: Actor,
+    script: bool,
+    word: &[u8],
+    words: Words<'_>,
+) -> Result<Line, LineFault>
+    ensures { result ≡ said_by p.now opening (phrase_by script word.now words.entry) }
+{
+    if is_at(script, word) {
+        return said(p, opening, at(words));
+    }
+    if word == b"as".as_slice() {
+        return said(p, opening, be(words));
+    }
+    request_said(p, word, words)
+}
+
 /// What a line says over a policy, or its fault.
 fn line_said(p: &Policy, opening: Actor, script: bool, line: &[u8]) -> Result<Line, LineFault>
     ensures { result ≡ read p.now opening script line.now }
@@ -79,7 +143,7 @@ fn line_said(p: &Policy, opening: Actor, script: bool, line: &[u8]) -> Result<Li
     if is_comment(word) {
         return Ok(Line::Silent);
     }
-    said(p, opening, phrase(script, word, words))
+    words_said(p, opening, script, word, words)
 }
 
 /// What a line of a script, or of a connection, says over a policy, or its fault. `opening` is the actor that `as -` stands

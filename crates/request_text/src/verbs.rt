@@ -1,5 +1,5 @@
 //! The first words of requests.
-ghost use Rattle.std.specs.Prelude.{◌≡◌, bytes_eq, find};
+ghost use Rattle.std.specs.Prelude.{◌≡◌, bytes_eq};
 ghost use Rattle.request_text.specs.Phrases.{verb_word, verb_in};
 
 /// The first word of a request.
@@ -16,19 +16,6 @@ pub enum RequestVerb {
     Active,
     Check,
 }
-
-const VERBS: [RequestVerb; 10] = [
-    RequestVerb::Now,
-    RequestVerb::Status,
-    RequestVerb::Event,
-    RequestVerb::Request,
-    RequestVerb::Open,
-    RequestVerb::Close,
-    RequestVerb::Activate,
-    RequestVerb::Deactivate,
-    RequestVerb::Active,
-    RequestVerb::Check,
-];
 
 /// The word that a first word is written with.
 pub(crate) fn verb_text(verb: RequestVerb) -> &'static [u8]
@@ -48,21 +35,38 @@ pub(crate) fn verb_text(verb: RequestVerb) -> &'static [u8]
     }
 }
 
-fn among(mut verbs: &[RequestVerb], word: &[u8]) -> Option<RequestVerb>
-    ensures { result ≡ find (λ v. bytes_eq (verb_word v) word.now) verbs.now }
+/// Whether the word is that of the verb.
+fn is(word: &[u8], verb: RequestVerb) -> bool
+    ensures { result ≡ bytes_eq (verb_word verb) word.now }
 {
-    while let [verb, rest @ ..] = verbs {
-        if verb_text(*verb) == word {
-            return Some(*verb);
-        }
-        verbs = rest;
-    }
-    None
+    verb_text(verb) == word
 }
 
 /// The first word of a request that a word is.
 pub(crate) fn request_verb(word: &[u8]) -> Option<RequestVerb>
     ensures { result ≡ verb_in word.now }
 {
-    among(&VERBS, word)
+    if is(word, RequestVerb::Now) {
+        Some(RequestVerb::Now)
+    } else if is(word, RequestVerb::Status) {
+        Some(RequestVerb::Status)
+    } else if is(word, RequestVerb::Event) {
+        Some(RequestVerb::Event)
+    } else if is(word, RequestVerb::Request) {
+        Some(RequestVerb::Request)
+    } else if is(word, RequestVerb::Open) {
+        Some(RequestVerb::Open)
+    } else if is(word, RequestVerb::Close) {
+        Some(RequestVerb::Close)
+    } else if is(word, RequestVerb::Activate) {
+        Some(RequestVerb::Activate)
+    } else if is(word, RequestVerb::Deactivate) {
+        Some(RequestVerb::Deactivate)
+    } else if is(word, RequestVerb::Active) {
+        Some(RequestVerb::Active)
+    } else if is(word, RequestVerb::Check) {
+        Some(RequestVerb::Check)
+    } else {
+        None
+    }
 }

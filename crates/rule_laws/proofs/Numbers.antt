@@ -7,7 +7,7 @@ use Rattle.std.specs.Ordering.{eq_by_cmp}
 use Rattle.std.specs.declared.cmp.Ordering.{Ordering}
 use Rattle.gt_base.proofs.SetSteps.{event_cmp_total, signal_cmp_total}
 use Rattle.gt_base.proofs.OrderLaws.{event_cmp-IsAntisymmetric, signal_cmp-IsAntisymmetric}
-use Rattle.gt_base.specs.Held.{Rule}
+use Rattle.gt_base.specs.Held.{TriggerView}
 use Rattle.gtrbac_model.specs.Graph.{item_at}
 use Rattle.gtrbac_model.proofs.Elements.{either_true, left_true, right_true, equal_by, tied}
 use Rattle.trigger_rules.specs.Indexed.{numbers, has_event, has_signal, with_event, with_signal}
@@ -29,17 +29,17 @@ module _ {K : Type 0} {R : K → K → Ordering} (o : IsTotalOrder R) (same : Is
   listed (y ∷ ys) x (suc place) at = right_true (eq_by_cmp R x y) _ (listed ys x place at)
 
 -- a trigger that passes stands so many places on
-pub record Passes (p : Rule → Bool) (n : ℕ) (rules : List Rule) (m : ℕ) : Type 0 where
+pub record Passes (p : TriggerView → Bool) (n : ℕ) (rules : List TriggerView) (m : ℕ) : Type 0 where
   pub place : ℕ
   pub number : m ≡ n + place
-  pub rule : Rule
+  pub rule : TriggerView
   pub is : item_at rules place ≡ Some rule
   pub passes : p rule ≡ true
 
-further : (p : Rule → Bool) (n : ℕ) (r : Rule) (rs : List Rule) (m : ℕ) → Passes p (n + 1) rs m → Passes p n (r ∷ rs) m
+further : (p : TriggerView → Bool) (n : ℕ) (r : TriggerView) (rs : List TriggerView) (m : ℕ) → Passes p (n + 1) rs m → Passes p n (r ∷ rs) m
 further p n r rs m h = record { place = suc h.place; number = omega (arith, h.number); rule = h.rule; is = h.is; passes = h.passes }
 
-numbered : (p : Rule → Bool) (n : ℕ) (rs : List Rule) (m place : ℕ) → item_at (numbers p n rs) place ≡ Some m → Passes p n rs m
+numbered : (p : TriggerView → Bool) (n : ℕ) (rs : List TriggerView) (m place : ℕ) → item_at (numbers p n rs) place ≡ Some m → Passes p n rs m
 numbered p n [] m place at = cc
 numbered p n (r ∷ rs) m place at = by (p r) refl (numbered p (n + 1) rs m) place at
   where
@@ -49,7 +49,7 @@ numbered p n (r ∷ rs) m place at = by (p r) refl (numbered p (n + 1) rs m) pla
     by true e more (suc k) at = further p n r rs m (more k at)
     by false e more k at = further p n r rs m (more k at)
 
-counted : (p : Rule → Bool) (n : ℕ) (rs : List Rule) (k : ℕ) (r : Rule) → item_at rs k ≡ Some r → p r ≡ true → Stands (numbers p n rs) (n + k)
+counted : (p : TriggerView → Bool) (n : ℕ) (rs : List TriggerView) (k : ℕ) (r : TriggerView) → item_at rs k ≡ Some r → p r ≡ true → Stands (numbers p n rs) (n + k)
 counted p n [] k r is h = cc
 counted p n (q ∷ rs) zero r is h =
     let same : q ≡ r = cc in
@@ -61,7 +61,7 @@ counted p n (q ∷ rs) (suc k) r is h = by (p q) (counted p (n + 1) rs k r is h)
     by true (place, at) = (suc place, at ∙ ap (λ m. Some m) (omega arith))
     by false (place, at) = (place, at ∙ ap (λ m. Some m) (omega arith))
 
-ascends : (p : Rule → Bool) (n : ℕ) (rs : List Rule) → Ascend (numbers p n rs)
+ascends : (p : TriggerView → Bool) (n : ℕ) (rs : List TriggerView) → Ascend (numbers p n rs)
 ascends p n [] = λ i j m k lt at_i at_j. cc
 ascends p n (r ∷ rs) = by (p r) (ascends p (n + 1) rs) (numbered p (n + 1) rs)
   where

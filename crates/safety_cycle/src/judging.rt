@@ -1,4 +1,4 @@
-//! The judge.
+//! The judge: levels of the nodes of a graph, or the least cycle with a marked edge.
 ghost use Rattle.std.specs.Prelude.{◌≡◌, ℕ, ◌+◌, ◌<◌, ◌≤◌, true, ◌∷◌, length, slice_index, Some, IfOk, IfErr, OnOk, nat_eq};
 ghost use Rattle.least_walk.specs.Net.{EndsIn};
 ghost use Rattle.least_walk.specs.Walks.{is_goal};

@@ -1,4 +1,4 @@
-//! What the judge answers.
+//! What the judge answers: levels of the nodes, or why there are none.
 ghost use Rattle.std.specs.Prelude.{◌≡◌, ◌<◌, length, slice_index};
 
 use least_walk::EdgeList;

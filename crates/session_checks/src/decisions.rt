@@ -9,7 +9,7 @@ use std::alloc::Global;
 use std::test::Fail;
 
 /// Whether there are few edges, among roles below 1,000.
-fn is_hierarchy(edges: &[HierEdge]) -> bool
+pub(crate) fn is_hierarchy(edges: &[HierEdge]) -> bool
     ensures { result ≡ true → IsHierarchy edges.now }
 {
     edges.len() <= 4_000 && are_within(edges)

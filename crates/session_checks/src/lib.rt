@@ -8,4 +8,6 @@ mod decisions;
 #[cfg(test)]
 mod full_table;
 #[cfg(test)]
+mod kept_walks;
+#[cfg(test)]
 mod spent_day;

@@ -1,5 +1,5 @@
 -- What a close leaves, and that caps hold after each step.
-use Rattle.std.proofs.Common.{◌≡◌, ℕ, zero, suc, ◌+◌, ◌-◌, ◌<◌, ◌≤◌, Bool, true, false, cond, not, ◌&&◌, ◌||◌, nat_le, List, [], ◌∷◌, ◌++◌, filter, count_by, Option, Some, None, is_none, refl, sym, ap, subst, ◌∙◌, arith}
+use Rattle.std.proofs.Common.{◌≡◌, ℕ, zero, suc, ◌+◌, ◌-◌, ◌<◌, ◌≤◌, Bool, true, false, cond, not, ◌&&◌, ◌||◌, List, [], ◌∷◌, ◌++◌, filter, count_by, Option, Some, None, is_none, refl, sym, subst, arith}
 use Rattle.std.specs.List.{list_any}
 use Rattle.std.proofs.lemmas.Bool.{leb-false, eqb-true}
 use Rattle.gt_base.specs.declared.events.RoleId.{RoleId}
@@ -7,7 +7,6 @@ use Rattle.gt_base.specs.declared.events.UserId.{UserId}
 use Rattle.gt_base.specs.declared.events.SessionId.{SessionId}
 use Rattle.gt_base.specs.declared.events.Fluent.TheVariants.{Enabled}
 use Rattle.gt_base.specs.declared.policies.Caps.{Caps}
-use Rattle.gt_base.specs.declared.policies.HierEdge.{HierEdge}
 use Rattle.gt_base.specs.declared.requests.Actor.{Actor}
 use Rattle.gt_base.specs.declared.requests.Actor.TheVariants.{Operator, User, Nobody}
 use Rattle.gt_base.specs.declared.requests.Request.{Request}
@@ -18,15 +17,14 @@ use Rattle.gt_base.specs.declared.requests.Refusal.{Refusal}
 use Rattle.gt_base.specs.declared.requests.Refusal.TheVariants.{NoSession, NotAssigned, RoleFull, UserFull, DaySpent, Already, Disabled}
 use Rattle.gt_base.specs.Held.{RoleWalk}
 use Rattle.gtrbac_model.specs.Calendar.{day_of}
-use Rattle.gtrbac_model.specs.Conflict.{Status}
 use Rattle.gtrbac_model.specs.Graph.{item_at}
 use Rattle.gtrbac_model.specs.Hierarchy.{activation_walk}
 use Rattle.gtrbac_model.specs.Policy.{Policy}
 use Rattle.gtrbac_model.specs.Reply.{Point, unless, session_causes, answer}
 use Rattle.gtrbac_model.specs.Same.{same_role, same_user}
 use Rattle.gtrbac_model.specs.Sessions.{Table, Activation, caps_of, reached, is_of, is_active_in, is_dropped, owner_of, applied}
-use Rattle.session_table.specs.Tables.{charged_through, closed_at}
-use Rattle.session_table.specs.Laws.{Stays, CloseLeaves, WithinCaps, CapsHold, CapsStay}
+use Rattle.session_table.specs.Tables.{charged_through}
+use Rattle.session_table.specs.Laws.{CloseLeaves, WithinCaps, CapsStay}
 use Rattle.session_table.specs.Opened.{in_session}
 use Rattle.session_table.proofs.Entering.{activation, entered_is}
 use Rattle.session_table.proofs.Indexing.{count_kept, count_added}

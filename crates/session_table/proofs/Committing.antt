@@ -122,6 +122,14 @@ filter_by_items p q [] h = refl
 filter_by_items p q (x ∷ xs) h =
     (λ i. cond (h 0 x refl i) (x ∷ filter p xs) (filter p xs)) ∙ ap (λ ys. cond (q x) (x ∷ ys) ys) (filter_by_items p q xs (λ i. h (suc i)))
 
+all_kept : {A : Type 0} (xs : List A) → filter (λ x. true) xs ≡ xs
+all_kept [] = refl
+all_kept (x ∷ xs) = ap (λ ys. x ∷ ys) (all_kept xs)
+
+-- what all pass is kept whole
+pub each_kept : {A : Type 0} (p : A → Bool) (xs : List A) → ((i : ℕ) (a : A) → item_at xs i ≡ Some a → p a ≡ true) → xs ≡ filter p xs
+each_kept p xs h = sym (filter_by_items p (λ x. true) xs h ∙ all_kept xs)
+
 module _ (os : List Open) (active : List Activation) (charges : List (Charge × ℕ)) (until : Option ℕ) (h : IsKept os active charges until)
     (test : Activation → Bool) (gone : List Activation) (is_gone : gone ≡ filter test active)
     (os' : List Open) (roles : (n : SessionId) (r : RoleId) → role_in os' n r ≡ (not (list_any (is_active_in n r) gone) && role_in os n r)) where

@@ -59,7 +59,7 @@ module _ (os : List Open) (active : List Activation) (charges : List (Charge × 
 
 -- no more activations of a role than sessions
 
-sum_plus : {A : Type 0} (f g : A → ℕ) (xs : List A) → sum_by (λ x. f x + g x) xs ≡ sum_by f xs + sum_by g xs
+pub sum_plus : {A : Type 0} (f g : A → ℕ) (xs : List A) → sum_by (λ x. f x + g x) xs ≡ sum_by f xs + sum_by g xs
 sum_plus f g [] = refl
 sum_plus f g (x ∷ xs) =
     let a = sum_by-cons (λ x. f x + g x) x xs in
@@ -68,10 +68,10 @@ sum_plus f g (x ∷ xs) =
     let d = sum_plus f g xs in
     omega (arith, a, b, c, d)
 
-sum_same : {A : Type 0} (f g : A → ℕ) (xs : List A) → ((x : A) → f x ≡ g x) → sum_by f xs ≡ sum_by g xs
+pub sum_same : {A : Type 0} (f g : A → ℕ) (xs : List A) → ((x : A) → f x ≡ g x) → sum_by f xs ≡ sum_by g xs
 sum_same f g xs e = ap (λ k. sum_by k xs) (λ i x. e x i)
 
-at_most_one : {A : Type 0} (f : A → ℕ) (xs : List A) → ((x : A) → f x ≤ 1) → sum_by f xs ≤ length xs
+pub at_most_one : {A : Type 0} (f : A → ℕ) (xs : List A) → ((x : A) → f x ≤ 1) → sum_by f xs ≤ length xs
 at_most_one f [] h = omega arith
 at_most_one f (x ∷ xs) h =
     let a = sum_by-cons f x xs in

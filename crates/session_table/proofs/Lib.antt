@@ -1,12 +1,13 @@
 pub mod RoleOrder
+pub mod Numbering
 pub mod Charging
 pub mod Finding
 pub mod Indexing
 pub mod Keeping
 pub mod Answering
-pub mod Fullness
 pub mod Telling
 pub mod Entering
 pub mod Committing
 pub mod Closing
 pub mod Capped
+pub mod Ending

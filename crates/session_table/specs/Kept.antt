@@ -1,5 +1,5 @@
 -- What every table keeps.
-use Rattle.std.specs.Prelude.{◌≡◌, ℕ, ◌+◌, ◌-◌, ◌*◌, ◌≤◌, min, List, length, count_by, Option, Some, None}
+use Rattle.std.specs.Prelude.{◌≡◌, ℕ, ◌+◌, ◌-◌, ◌*◌, ◌≤◌, min, List, length, map, count_by, Option, Some, None}
 use Rattle.std.specs.List.{list_any}
 use Rattle.gt_base.specs.declared.events.RoleId.{RoleId}
 use Rattle.gt_base.specs.declared.events.UserId.{UserId}
@@ -7,7 +7,7 @@ use Rattle.gt_base.specs.declared.events.SessionId.{SessionId}
 use Rattle.gtrbac_model.specs.Sessions.{Activation, is_active_in}
 use Rattle.session_table.specs.declared.opened.Open.{Open}
 use Rattle.session_table.specs.declared.charges.Charge.{Charge}
-use Rattle.session_table.specs.Opened.{role_in}
+use Rattle.session_table.specs.Opened.{opened, role_in, Numbered}
 use Rattle.session_table.specs.Charges.{charged_in}
 
 -- how many minutes of a civil day have passed at the close of an instant
@@ -22,3 +22,8 @@ pub record IsKept (os : List Open) (active : List Activation) (charges : List (C
   pub index : (n : SessionId) (r : RoleId) → role_in os n r ≡ list_any (is_active_in n r) active
   pub once : (n : SessionId) (r : RoleId) → count_by (is_active_in n r) active ≤ 1
   pub bounded : (u : UserId) (r : RoleId) (d : ℕ) → charged_in charges u r d ≤ 10_000 * minutes_until to d
+
+-- and the numbers of the sessions rise, up to that of the last one begun
+pub record IsTable (os : List Open) (active : List Activation) (charges : List (Charge × ℕ)) (to : Option ℕ) (begun : ℕ) : Type 0 where
+  pub kept : IsKept os active charges to
+  pub numbered : Numbered 0 (map opened os) begun

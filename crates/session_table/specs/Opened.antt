@@ -1,5 +1,6 @@
 -- The sessions that are open, each with the roles that are active in it.
-use Rattle.std.specs.Prelude.{Bool, false, List, find, Some, None}
+use Rattle.std.specs.Prelude.{◌≡◌, ℕ, ◌<◌, ◌≤◌, Bool, false, List, [], ◌∷◌, length, find, Some, None}
+use Rattle.std.specs.List.{slice_get}
 use Rattle.gt_base.specs.declared.events.RoleId.{RoleId}
 use Rattle.gt_base.specs.declared.events.SessionId.{SessionId}
 use Rattle.gt_base.specs.Sets.{has}
@@ -21,3 +22,17 @@ opened o = record { number = o.number; owner = o.owner }
 -- whether the role stands among those of the session, if it is open
 abbrev pub role_in : List Open → SessionId → RoleId → Bool
 role_in os n r = elim (find (numbered n) os) [ Some o ↦ has o.roles r | None ↦ false ]
+
+-- the numbers rise from above b, none above top
+abbrev pub Numbered : ℕ → List OpenedSession → ℕ → Type 0
+Numbered b [] top = b ≤ top
+Numbered b (s ∷ ss) top = (b < s.number.0) × Numbered s.number.0 ss top
+
+abbrev pub AreNumbered : List OpenedSession → Type 0
+AreNumbered ss = (top : ℕ) × Numbered 0 ss top
+
+-- so many sessions have lesser numbers, and no later one has
+pub record IsFirstFrom (os : List Open) (n at : ℕ) : Type 0 where
+  pub inside : at ≤ length os
+  pub below : (i : ℕ) (o : Open) → i < at → slice_get os i ≡ Some o → o.number.0 < n
+  pub above : (i : ℕ) (o : Open) → at ≤ i → slice_get os i ≡ Some o → n ≤ o.number.0

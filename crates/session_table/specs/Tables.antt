@@ -1,5 +1,5 @@
 -- What a table of sessions is seen as, and what it stands for.
-use Rattle.std.specs.Prelude.{◌≡◌, ℕ, ◌+◌, ◌-◌, ◌*◌, ◌≤◌, Bool, false, ◌||◌, not, List, [], map, filter, count_by, Option, Some, None}
+use Rattle.std.specs.Prelude.{ℕ, ◌+◌, ◌-◌, ◌*◌, ◌≤◌, Bool, false, ◌||◌, not, List, [], map, filter, count_by, Option, Some, None}
 use Rattle.gt_base.specs.declared.policies.Caps.{Caps}
 use Rattle.gt_base.specs.declared.policies.HierEdge.{HierEdge}
 use Rattle.gtrbac_model.specs.Calendar.{day_of}
@@ -22,11 +22,6 @@ pub record TableView : Type 0 where
 -- the table that it stands for, no signals told
 abbrev pub table_of : TableView → Table
 table_of v = record { sessions = v.sessions; active = v.active; charged = charged_in v.charges; begun = v.begun; signals = [] }
-
--- the same but for the room
-pub record SameTable (a b : TableView) : Type 0 where
-  pub table : table_of a ≡ table_of b
-  pub charged_to : a.charged_to ≡ b.charged_to
 
 -- the instant is not before the one up to which minutes were charged
 abbrev pub NotBefore : Option ℕ → ℕ → Type 0

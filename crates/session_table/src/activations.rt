@@ -1,12 +1,11 @@
 //! Activations, in the order in which they were made.
-ghost use Rattle.std.specs.Prelude.{◌≡◌, ◌<◌, [], ◌∷◌, ◌++◌, not, map, filter, find, count_by, false, IfOk, vec_len, vec_capacity};
+ghost use Rattle.std.specs.Prelude.{◌≡◌, ◌+◌, ◌<◌, ◌≤◌, [], ◌∷◌, ◌++◌, not, map, filter, find, length, count_by, slice_get, false, Some, vec_len, vec_capacity};
 ghost use Rattle.std.specs.List.{list_any};
 ghost use Rattle.gtrbac_model.specs.Same.{same_role};
 ghost use Rattle.gtrbac_model.specs.Sessions.{is_of, is_active_in, signal_of};
 ghost use Rattle.session_table.specs.Opened.{in_session};
 
-use gt_base::{Instant, List, Memory, RoleId, SessionId, Signal, UserId};
-use std::alloc::Global;
+use gt_base::{Instant, RoleId, SessionId, Signal, UserId};
 use std::marker::Model;
 
 /// A role that is active in a session, for the user who opened it, since the instant at which it was activated.
@@ -81,28 +80,6 @@ pub(crate) fn count_in(active: &[Activation], session: SessionId) -> usize
     active.iter().filter(|a| is_in_session(a, session)).count()
 }
 
-/// The end signals of a session's activations.
-pub(crate) fn end_signals(
-    alloc: Global,
-    active: &[Activation],
-    session: SessionId,
-) -> Result<List<Signal>, Memory>
-    ensures { IfOk result (λ signals. signals.items ≡ map (signal_of false) (filter (in_session session) active.now)) }
-{
-    Ok(List::from(ended_in(alloc, active, session)?))
-}
-
-/// The end signals of a session's activations, as a row.
-fn ended_in(alloc: Global, active: &[Activation], session: SessionId) -> Result<Vec<Signal>, Memory>
-    ensures { IfOk result (λ signals. signals.items ≡ map (signal_of false) (filter (in_session session) active.now)) }
-{
-    active
-        .iter()
-        .filter(|a| is_in_session(a, session))
-        .map(|a| signal_of(false, a))
-        .collect(alloc)
-}
-
 /// Takes out the activation of the role in the session.
 pub(crate) fn end_role(active: &mut Vec<Activation>, session: SessionId, role: RoleId)
     ensures { active.new.items ≡ filter (λ a. not (is_active_in session role a)) active.old.items }
@@ -110,11 +87,55 @@ pub(crate) fn end_role(active: &mut Vec<Activation>, session: SessionId, role: R
     active.retain(|a| !is_active_in(a, session, role));
 }
 
-/// Takes out the activations of the session.
-pub(crate) fn end_session(active: &mut Vec<Activation>, session: SessionId)
-    ensures { active.new.items ≡ filter (λ a. not (in_session session a)) active.old.items }
+/// The activation at the place.
+fn activation_at(active: &[Activation], at: usize) -> Activation
+    requires { at < length active.now }
+    ensures { slice_get active.now at ≡ Some result }
 {
-    active.retain(|a| !is_in_session(a, session));
+    active[at]
+}
+
+/// Adds the end signal, into room that was made before.
+fn tell(signals: &mut Vec<Signal>, a: &Activation)
+    requires { vec_len signals.old < vec_capacity signals.old }
+    ensures items { signals.new.items ≡ signals.old.items ++ signal_of false a.now ∷ [] }
+    ensures len { vec_len signals.new ≡ vec_len signals.old + 1 }
+    ensures capacity { vec_capacity signals.old ≤ vec_capacity signals.new }
+{
+    match signals.push(signal_of(false, a)) {
+        Ok(()) => {}
+        Err(_) => unreachable!(),
+    }
+}
+
+/// Takes out the activations of the session, of which there are at most so many, and adds their end signals, into room that was made before.
+/// Where all are found, nothing further is looked at.
+pub(crate) fn end_session(
+    active: &mut Vec<Activation>,
+    session: SessionId,
+    most: usize,
+    signals: &mut Vec<Signal>,
+)
+    requires few { count_by (in_session session) active.old.items ≤ most }
+    requires room { vec_len signals.old + most ≤ vec_capacity signals.old }
+    ensures active { active.new.items ≡ filter (λ a. not (in_session session a)) active.old.items }
+    ensures signals { signals.new.items ≡ signals.old.items ++ map (signal_of false) (filter (in_session session) active.old.items) }
+{
+    let mut left = most;
+    let mut at = 0;
+    while at < active.len() {
+        if left == 0 {
+            return;
+        }
+        let a = activation_at(active, at);
+        if is_in_session(&a, session) {
+            active.remove(at);
+            tell(signals, &a);
+            left -= 1;
+        } else {
+            at += 1;
+        }
+    }
 }
 
 /// The activation of the role in the session.

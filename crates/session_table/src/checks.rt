@@ -7,7 +7,7 @@ ghost use Rattle.gtrbac_model.specs.Same.{same_role};
 ghost use Rattle.gtrbac_model.specs.Calendar.{day_of};
 ghost use Rattle.gtrbac_model.specs.Sessions.{Table, caps_of, reached, is_of};
 ghost use Rattle.gtrbac_model.specs.Reply.{session_causes};
-ghost use Rattle.session_table.specs.Opened.{opened};
+ghost use Rattle.session_table.specs.Opened.{opened, AreNumbered};
 ghost use Rattle.session_table.specs.Charges.{charged_in};
 ghost use Rattle.session_table.specs.Causes.{first_cause, is_foreign, StandsAt, with_sessions, early_causes, late_causes, full_at};
 
@@ -20,6 +20,7 @@ use indexmap::IndexMap;
 
 /// Where the actor finds the session, or why it may not use it.
 pub(crate) fn owned(sessions: &[Open], actor: Actor, session: SessionId) -> Result<usize, Refusal>
+    requires { AreNumbered (map opened sessions.now) }
     ensures place { IfOk result (StandsAt sessions.now session) }
     ensures ok { IfOk result (λ _. (tb : Table) → first_cause (session_causes (with_sessions sessions.now tb) actor session) ≡ None) }
     ensures err { IfErr result (λ r. (tb : Table) → first_cause (session_causes (with_sessions sessions.now tb) actor session) ≡ Some r) }

@@ -1,5 +1,5 @@
 //! Which activations the close of an instant drops, and how they are taken out.
-ghost use Rattle.std.specs.Prelude.{◌≡◌, ◌+◌, ◌-◌, ◌*◌, ◌<◌, ◌≤◌, ◌&&◌, ◌||◌, [], ◌∷◌, ◌++◌, if◌then◌else◌, OnOk, not, false, map, filter, length, count_by, is_none, nat_lt, IfOk};
+ghost use Rattle.std.specs.Prelude.{◌≡◌, ℕ, ◌+◌, ◌-◌, ◌*◌, ◌<◌, ◌≤◌, ◌&&◌, ◌||◌, [], ◌∷◌, ◌++◌, if◌then◌else◌, OnOk, not, true, false, Some, map, filter, length, count_by, is_none, nat_lt, IfOk};
 ghost use Rattle.std.specs.List.{list_any};
 ghost use Rattle.gt_base.specs.Sets.{has};
 ghost use Rattle.gt_base.specs.declared.events.RoleId.{RoleId};
@@ -8,11 +8,12 @@ ghost use Rattle.gt_base.specs.declared.events.SessionId.{SessionId};
 ghost use Rattle.gt_base.specs.declared.events.Fluent.TheVariants.{Enabled, Assigned};
 ghost use Rattle.gtrbac_model.specs.Same.{same_role, same_session};
 ghost use Rattle.gtrbac_model.specs.Calendar.{day_of};
+ghost use Rattle.gtrbac_model.specs.Graph.{item_at};
 ghost use Rattle.gtrbac_model.specs.Hierarchy.{activation_walk};
-ghost use Rattle.gtrbac_model.specs.Sessions.{caps_of, reached, is_of, is_active_in, signal_of};
+ghost use Rattle.gtrbac_model.specs.Sessions.{Activation as ActivationView, caps_of, reached, is_of, is_active_in, signal_of};
 ghost use Rattle.history_laws.specs.Tables.{minutes_of_day};
 ghost use Rattle.session_table.specs.Charges.{charged_in};
-ghost use Rattle.session_table.specs.Opened.{opened, role_in};
+ghost use Rattle.session_table.specs.Opened.{opened, role_in, AreNumbered};
 ghost use Rattle.session_table.specs.Dropping.{spent_by, is_dropped, AreBarred};
 
 use crate::activations::{Activation, count_of, signal_of};
@@ -20,7 +21,9 @@ use crate::charges::{Charge, charged, minutes_on};
 use crate::checks::{caps_of, is_reached};
 use crate::opened::{Open, has_role, place, remove_role};
 use civil_time::day;
-use gt_base::{Caps, Fluent, Instant, List, Memory, RoleId, SessionId, Signal, Status, UserId};
+use gt_base::{
+    Caps, Fluent, Instant, List, Memory, RoleId, SessionId, Signal, Status, UserId, Walk,
+};
 use hybrid_hierarchy::Hierarchy;
 use indexmap::IndexMap;
 use std::alloc::Global;
@@ -91,9 +94,61 @@ fn is_assigned(status: &Status, user: UserId, role: RoleId) -> bool
     role.0 < 1_000 && status.is_on(Fluent::Assigned(user, role))
 }
 
-/// Whether no walk of usable edges lets the user activate the role. What is known is not asked again. For want of memory it may refuse.
+/// Whether the walk that was found before, if there is one, still lets the user activate the role.
+fn has_stood(
+    walks: &IndexMap<Asked, Walk>,
+    hierarchy: &Hierarchy,
+    status: &Status,
+    asked: Asked,
+) -> bool
+    ensures { result ≡ true → is_none (activation_walk hierarchy.now (has status.now.set) asked.user asked.role) ≡ false }
+{
+    match walks.get(&asked) {
+        Some(walk) => hierarchy.still_lets(status, asked.user, asked.role, walk),
+        None => false,
+    }
+}
+
+/// Keeps the walk, if there is one, for the minutes that follow.
+fn keep(
+    walks: &mut IndexMap<Asked, Walk>,
+    asked: Asked,
+    found: Option<Walk>,
+) -> Result<(), Memory> {
+    if let Some(walk) = found {
+        walks.insert(asked, walk)?;
+    }
+    Ok(())
+}
+
+/// Keeps a copy of the walk, unless it only stays where it begins.
+pub(crate) fn remember(
+    walks: &mut IndexMap<Asked, Walk>,
+    asked: Asked,
+    walk: &Walk,
+) -> Result<(), Memory> {
+    if walk.edges.len() > 0 {
+        let copy = Walk {
+            start: walk.start,
+            edges: walk.edges.copied()?,
+        };
+        walks.insert(asked, copy)?;
+    }
+    Ok(())
+}
+
+/// Forgets the walks where they have become many more than so many activations.
+pub(crate) fn prune(walks: &mut IndexMap<Asked, Walk>, active: usize) {
+    if walks.len() / 2 > active {
+        walks.clear();
+    }
+}
+
+/// Whether no walk of usable edges lets the user activate the role. The hierarchy is asked where no walk that was found before still does, and
+/// what it told is not asked again. For want of memory it may refuse.
 fn is_barred(
     alloc: Global,
+    walks: &mut IndexMap<Asked, Walk>,
     known: &mut IndexMap<Asked, bool>,
     hierarchy: &Hierarchy,
     status: &Status,
@@ -108,10 +163,15 @@ fn is_barred(
         return Ok(false);
     }
     let asked = Asked { user, role };
+    if has_stood(walks, hierarchy, status, asked) {
+        return Ok(false);
+    }
     if let Some(barred) = known.get(&asked).copied() {
         return Ok(barred);
     }
-    let barred = hierarchy.may_activate(alloc, status, user, role)?.is_none();
+    let found = hierarchy.may_activate(alloc, status, user, role)?;
+    let barred = found.is_none();
+    keep(walks, asked, found)?;
     known.insert(asked, barred)?;
     Ok(barred)
 }
@@ -135,6 +195,7 @@ fn is_capped(
 /// Whether the close of `to` drops the activation. For want of memory it may refuse.
 fn is_dropped(
     alloc: Global,
+    walks: &mut IndexMap<Asked, Walk>,
     known: &mut IndexMap<Asked, bool>,
     a: &Activation,
     hierarchy: &Hierarchy,
@@ -157,7 +218,7 @@ fn is_dropped(
     if is_capped(a, caps_of(caps.as_slice(), role), charges, active, now, to) {
         return Ok(true);
     }
-    is_barred(alloc, known, hierarchy, status, a.user, role)
+    is_barred(alloc, walks, known, hierarchy, status, a.user, role)
 }
 
 /// Adds the activation, if it is gone.
@@ -170,9 +231,11 @@ fn push_if(gone: &mut Vec<Activation>, a: &Activation, is_gone: bool) -> Result<
     Ok(())
 }
 
-/// The activations that the close of `to` drops. No user and role is asked of the hierarchy twice. For want of memory it may refuse.
+/// The activations that the close of `to` drops. No user and role is asked of the hierarchy twice, and none where its walk of before stands. For
+/// want of memory it may refuse.
 pub(crate) fn dropped(
     alloc: Global,
+    walks: &mut IndexMap<Asked, Walk>,
     hierarchy: &Hierarchy,
     caps: &List<Caps>,
     status: &Status,
@@ -188,7 +251,7 @@ pub(crate) fn dropped(
     let mut gone = Vec::new(alloc);
     for a in active {
         let is_gone = is_dropped(
-            alloc, &mut known, a, hierarchy, caps, status, charges, active, now, to,
+            alloc, walks, &mut known, a, hierarchy, caps, status, charges, active, now, to,
         )?;
         push_if(&mut gone, a, is_gone)?;
     }
@@ -197,6 +260,7 @@ pub(crate) fn dropped(
 
 /// Takes the role out of the session of this number, if it is there.
 fn forget_one(sessions: &mut Vec<Open>, session: SessionId, role: RoleId)
+    requires { AreNumbered (map opened sessions.old.items) }
     ensures opened { map opened sessions.new.items ≡ map opened sessions.old.items }
     ensures roles { (n : SessionId) (r : RoleId) → role_in sessions.new.items n r ≡ (not (same_session session n && same_role role r) && role_in sessions.old.items n r) }
     ensures len { length sessions.new.items ≡ length sessions.old.items }
@@ -207,7 +271,8 @@ fn forget_one(sessions: &mut Vec<Open>, session: SessionId, role: RoleId)
 }
 
 /// Takes the roles of these activations out of their sessions.
-pub(crate) fn forget(sessions: &mut Vec<Open>, gone: &[Activation])
+fn forget(sessions: &mut Vec<Open>, gone: &[Activation])
+    requires { AreNumbered (map opened sessions.old.items) }
     ensures opened { map opened sessions.new.items ≡ map opened sessions.old.items }
     ensures roles { (n : SessionId) (r : RoleId) → role_in sessions.new.items n r ≡ (not (list_any (is_active_in n r) gone.now) && role_in sessions.old.items n r) }
     ensures len { length sessions.new.items ≡ length sessions.old.items }
@@ -219,6 +284,7 @@ pub(crate) fn forget(sessions: &mut Vec<Open>, gone: &[Activation])
 
 /// Whether its role still stands in its session.
 fn is_listed(sessions: &[Open], a: &Activation) -> bool
+    requires { AreNumbered (map opened sessions.now) }
     ensures { result ≡ role_in sessions.now a.now.session a.now.role }
 {
     let role = a.role;
@@ -229,10 +295,30 @@ fn is_listed(sessions: &[Open], a: &Activation) -> bool
 }
 
 /// Keeps the activations whose roles still stand in their sessions.
-pub(crate) fn keep_listed(active: &mut Vec<Activation>, sessions: &[Open])
+fn keep_listed(active: &mut Vec<Activation>, sessions: &[Open])
+    requires { AreNumbered (map opened sessions.now) }
     ensures { active.new.items ≡ filter (λ a. role_in sessions.now a.session a.role) active.old.items }
 {
     active.retain(|a| is_listed(sessions, a));
+}
+
+/// Takes the roles of these activations out of their sessions, and keeps the activations whose roles still stand there. Where there are none,
+/// nothing is looked at.
+pub(crate) fn take_out(sessions: &mut Vec<Open>, active: &mut Vec<Activation>, gone: &[Activation])
+    requires numbered { AreNumbered (map opened sessions.old.items) }
+    requires listed { (i : ℕ) (a : ActivationView) → item_at active.old.items i ≡ Some a → role_in sessions.old.items a.session a.role ≡ true }
+    ensures opened { map opened sessions.new.items ≡ map opened sessions.old.items }
+    ensures roles { (n : SessionId) (r : RoleId) → role_in sessions.new.items n r ≡ (not (list_any (is_active_in n r) gone.now) && role_in sessions.old.items n r) }
+    ensures len { length sessions.new.items ≡ length sessions.old.items }
+    ensures active { active.new.items ≡ filter (λ a. role_in sessions.new.items a.session a.role) active.old.items }
+{
+    match gone {
+        [] => {}
+        _ => {
+            forget(sessions, gone);
+            keep_listed(active, sessions);
+        }
+    }
 }
 
 /// The end signals of these activations.

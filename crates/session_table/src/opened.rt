@@ -1,11 +1,11 @@
 //! Open sessions, in the order of their numbers.
-ghost use Rattle.std.specs.Prelude.{◌≡◌, ◌<◌, [], ◌∷◌, ◌++◌, not, ◌&&◌, ◌||◌, length, filter, find, position, slice_get, slice_set, OnOk, OnErr, IfOk, IfSome, MatchOption, None};
+ghost use Rattle.std.specs.Prelude.{◌≡◌, ◌<◌, [], ◌∷◌, ◌++◌, not, ◌&&◌, ◌||◌, length, map, filter, find, slice_get, slice_set, OnOk, OnErr, IfOk, IfSome, MatchOption, None};
 ghost use Rattle.gt_base.specs.declared.events.RoleId.{RoleId};
 ghost use Rattle.gt_base.specs.declared.events.SessionId.{SessionId};
 ghost use Rattle.gt_base.specs.Sets.{has, members, with_member, without, Rises};
 ghost use Rattle.session_table.specs.RoleSets.{role_cmp};
 ghost use Rattle.gtrbac_model.specs.Same.{same_role, same_session};
-ghost use Rattle.session_table.specs.Opened.{numbered};
+ghost use Rattle.session_table.specs.Opened.{numbered, opened, AreNumbered, IsFirstFrom};
 ghost use Rattle.session_table.specs.Causes.{StandsAt};
 
 use crate::roles::Roles;
@@ -20,20 +20,47 @@ pub(crate) struct Open {
     pub(crate) roles: Roles,
 }
 
-/// Where the session stands.
+/// Where the session stands. It is searched for by halves, since the numbers rise.
 pub(crate) fn place(sessions: &[Open], number: SessionId) -> Option<usize>
+    requires { AreNumbered (map opened sessions.now) }
     ensures { MatchOption result (find (numbered number) sessions.now ≡ None) (StandsAt sessions.now number) }
 {
-    position(sessions, number)
+    let at = first_from(sessions, number.0);
+    if at >= sessions.len() {
+        return None;
+    }
+    if number_at(sessions, at) == number.0 {
+        Some(at)
+    } else {
+        None
+    }
 }
 
-/// The first place of a session of this number.
-fn position(sessions: &[Open], number: SessionId) -> Option<usize>
-    ensures { result ≡ position (numbered number) sessions.now }
+/// How many sessions have lesser numbers.
+fn first_from(sessions: &[Open], number: u32) -> usize
+    requires { AreNumbered (map opened sessions.now) }
+    ensures { IsFirstFrom sessions.now number result }
 {
-    sessions
-        .iter()
-        .position(|session| session.number.0 == number.0)
+    let mut low = 0;
+    let mut high = sessions.len();
+    while low < high {
+        let mid = low + (high - low) / 2;
+        if number_at(sessions, mid) < number {
+            low = mid + 1;
+        } else {
+            high = mid;
+        }
+    }
+    low
+}
+
+/// The number of the session at the place.
+fn number_at(sessions: &[Open], at: usize) -> u32
+    requires { at < length sessions.now }
+    ensures { IfSome (slice_get sessions.now at) (λ o. result ≡ o.number.0) }
+{
+    let session = &sessions[at];
+    session.number.0
 }
 
 /// The owner of the session at the place.
@@ -83,11 +110,13 @@ pub(crate) fn remove_role(sessions: &mut Vec<Open>, at: usize, role: RoleId)
     session.roles.remove(role);
 }
 
-/// Takes out the session of this number.
-pub(crate) fn shut(sessions: &mut Vec<Open>, number: SessionId)
-    ensures { sessions.new.items ≡ filter (λ o. not (numbered number o)) sessions.old.items }
+/// Takes out the session at the place.
+pub(crate) fn shut(sessions: &mut Vec<Open>, at: usize)
+    requires numbered { AreNumbered (map opened sessions.old.items) }
+    requires inside { at < length sessions.old.items }
+    ensures { (n : SessionId) → StandsAt sessions.old.items n at → sessions.new.items ≡ filter (λ o. not (numbered n o)) sessions.old.items }
 {
-    sessions.retain(|o| o.number.0 != number.0);
+    sessions.remove(at);
 }
 
 /// Adds a session at the end. After a refusal all is as it was.

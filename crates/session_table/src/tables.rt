@@ -19,16 +19,16 @@ ghost use Rattle.session_table.specs.Plans.{need_of, IsPlan, IsPlanned, Closes};
 ghost use Rattle.session_table.specs.Replies.{Answers, AnswersAt, OrRefused, IsRefusal, ChecksBy};
 
 use crate::activations::{
-    Activation, count_in, end_role, end_session, end_signals, find_active, put, signal_of,
+    Activation, count_in, end_role, end_session, find_active, put, signal_of,
 };
 use crate::charges::{Charge, charge_stretch, copied as copied_charges, reserve_charges};
 use crate::checks::{caps_of, early_refusal, late_refusal, owned};
-use crate::dropping::{dropped, forget, keep_listed, signals_of};
+use crate::dropping::{Asked, dropped, prune, remember, signals_of, take_out};
 use crate::faults::SessionFault;
 use crate::nearing::next_capped;
 use crate::opened::{
-    Open, add_role, copied as copied_sessions, has_role, owner_at, push, remove_role, roles_at,
-    shut,
+    Open, add_role, copied as copied_sessions, has_role, owner_at, place, push, remove_role,
+    roles_at, shut,
 };
 use crate::plans::Drops;
 use crate::roles::Roles;
@@ -47,7 +47,7 @@ const MOST_SESSIONS: usize = 10_000;
 
 /// The open sessions with their owners, the roles that are active in them since when, and the minutes that are charged to users, roles and
 /// civil days. It is seen as these, with the number of sessions begun, the instant up to which minutes were charged, if any were, and how many
-/// further rows of charges there is room for.
+/// further rows of charges there is room for. The walks that minutes found are kept beside them, to be looked at again.
 pub struct Sessions {
     alloc: Global,
     sessions: Vec<Open>,
@@ -55,20 +55,21 @@ pub struct Sessions {
     charges: IndexMap<Charge, u32>,
     begun: u32,
     charged_to: Option<Instant>,
+    walks: IndexMap<Asked, Walk>,
 }
 
 impl Model for Sessions {
     ghost use Rattle.std.specs.Prelude.{map};
     ghost use Rattle.indexmap.specs.IndexMap.{spare};
     ghost use Rattle.session_table.specs.Opened.{opened};
-    ghost use Rattle.session_table.specs.Kept.{IsKept};
+    ghost use Rattle.session_table.specs.Kept.{IsTable};
     ghost use Rattle.session_table.specs.Tables.{TableView};
 
     ghost Value = { TableView };
 
     ghost view = { λ s. record { sessions = map opened s.sessions.items; active = s.active.items; charges = s.charges.entries; begun = s.begun; charged_to = s.charged_to; room = spare s.charges } };
 
-    ghost invariant = { λ s. IsKept s.sessions.items s.active.items s.charges.entries s.charged_to };
+    ghost invariant = { λ s. IsTable s.sessions.items s.active.items s.charges.entries s.charged_to s.begun };
 }
 
 impl Drop for Sessions {
@@ -80,6 +81,7 @@ impl Drop for Sessions {
             charges: _,
             begun: _,
             charged_to: _,
+            walks: _,
         } = self;
     }
 }
@@ -97,6 +99,7 @@ impl Sessions {
             charges: IndexMap::new(alloc),
             begun: 0,
             charged_to: None,
+            walks: IndexMap::new(alloc),
         }
     }
 
@@ -115,6 +118,7 @@ impl Sessions {
             charges,
             begun: self.begun,
             charged_to: self.charged_to,
+            walks: IndexMap::new(self.alloc),
         })
     }
 
@@ -151,13 +155,15 @@ impl Sessions {
         ensures refused { IfErr result (λ fault. OrRefused fault (Answers (table_of self.old) actor (CloseSession session))) }
         ensures same { OnErr result (table_of self.new ≡ table_of self.old) }
     {
-        if let Err(refusal) = owned(&self.sessions, actor, session) {
-            return Err(SessionFault::Refused(refusal));
-        }
-        let signals = end_signals(self.alloc, &self.active, session)?;
-        shut(&mut self.sessions, session);
-        end_session(&mut self.active, session);
-        Ok(signals)
+        let at = match owned(&self.sessions, actor, session) {
+            Ok(at) => at,
+            Err(refusal) => return Err(SessionFault::Refused(refusal)),
+        };
+        let most = roles_at(&self.sessions, at).len();
+        let mut signals = Vec::with_capacity(self.alloc, most)?;
+        end_session(&mut self.active, session, most, &mut signals);
+        shut(&mut self.sessions, at);
+        Ok(List::from(signals))
     }
 
     /// Ends the activation of the role in the session, and answers its end signal. It takes no memory. Refused with `NoSession`, `NotYours`, or
@@ -191,6 +197,16 @@ impl Sessions {
         ensures { result ≡ count_by (in_session session) self.now.active }
     {
         count_in(&self.active, session)
+    }
+
+    /// As many as the activations that stand in the session, or more, told without a look at those of others. It takes no memory.
+    pub fn most_in(&self, session: SessionId) -> usize
+        ensures { count_by (in_session session) self.now.active ≤ result }
+    {
+        match place(&self.sessions, session) {
+            Some(at) => roles_at(&self.sessions, at).len(),
+            None => 0,
+        }
     }
 
     /// The roles that are active in the session, ascending. It takes no memory. Refused with `NoSession` or `NotYours`.
@@ -274,6 +290,7 @@ impl Sessions {
         ) {
             return Err(SessionFault::Refused(refusal));
         }
+        remember(&mut self.walks, Asked { user, role }, &walk)?;
         self.active.reserve(1)?;
         add_role(&mut self.sessions, at, role)?;
         let activation = Activation {
@@ -322,8 +339,10 @@ impl Sessions {
         ensures room { OnOk result (need_of now to self.new ≤ self.new.room) }
         ensures plan { IfOk result (IsPlan hierarchy.now caps.now.items (has status.now.set) now to (table_of self.old)) }
     {
+        prune(&mut self.walks, self.active.len());
         let gone = dropped(
             self.alloc,
+            &mut self.walks,
             hierarchy,
             caps,
             status,
@@ -350,8 +369,7 @@ impl Sessions {
         ensures charged_to { self.new.charged_to ≡ Some d.to }
     {
         charge_stretch(&mut self.charges, &self.active, d.after, d.to);
-        forget(&mut self.sessions, &d.gone);
-        keep_listed(&mut self.active, &self.sessions);
+        take_out(&mut self.sessions, &mut self.active, &d.gone);
         self.charged_to = Some(d.to);
     }
 

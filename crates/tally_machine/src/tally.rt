@@ -1,4 +1,4 @@
-//! The machine.
+//! A machine with which the desk is tried: its entries, its instant and how many users it has.
 ghost use Rattle.std.specs.Prelude.{◌≡◌, [], ◌≤◌};
 
 use crate::answers::answer;

@@ -23,7 +23,7 @@ use Rattle.policy_words.specs.declared.sayings.EdgeKind.TheVariants.{I, A, Ia}
 use Rattle.policy_words.specs.declared.sayings.CapKind.{CapKind}
 use Rattle.policy_words.specs.declared.sayings.CapKind.TheVariants as caps
 use Rattle.policy_words.specs.Wording.{event_verb, cond_verb, signal_verb, sort_of, fluent_names, cond_words, head_words, item_words, delay_words}
-use Rattle.policy_words.specs.Sayings.{Saying, version, role, user, perm, period, limit, edge, cap, admin, opening, entry, trigger, kind_word, strength_word, cap_word, form_word, during_words, and_items, said_words, are_names, is_head, is_item, is_period_name, is_count, is_some_item, is_cause, is_formed, is_bounded, is_bodied, is_saying}
+use Rattle.policy_words.specs.Sayings.{SaidView, version, role, user, perm, period, limit, edge, cap, admin, opening, entry, trigger, kind_word, strength_word, cap_word, form_word, during_words, and_items, said_words, are_names, is_head, is_item, is_period_name, is_count, is_some_item, is_cause, is_formed, is_bounded, is_bodied, is_saying}
 use Rattle.text_laws.specs.Lengths.{is_period_line}
 
 -- each word with a space
@@ -160,7 +160,7 @@ version_short n h =
     ]
 
 -- a line that is formed, and keeps the rule on bodies
-said_room : (said : Saying) → is_formed said ≡ true → is_bodied said ≡ true → is_period_line said ≡ false → room (said_words said) ≤ 2_000
+said_room : (said : SaidView) → is_formed said ≡ true → is_bodied said ≡ true → is_period_line said ≡ false → room (said_words said) ≤ 2_000
 said_room (version n) f b p = omega (arith, version_short n f)
 said_room (role n) f b p = omega (arith, short_name n f)
 said_room (user n) f b p = omega (arith, short_name n f)
@@ -195,7 +195,7 @@ said_room (trigger items h d) f b p =
       room-append (and_items items) (codes "then" ∷ head_words h),
     )
 
-pub others_short : (said : Saying) → is_saying said ≡ true → is_period_line said ≡ false → length (spaced (said_words said)) ≤ 2_000
+pub others_short : (said : SaidView) → is_saying said ≡ true → is_period_line said ≡ false → length (spaced (said_words said)) ≤ 2_000
 others_short said h p =
     let h2 = both_true (is_formed said && is_bounded said) (is_bodied said) h in
     omega (arith, spaced_within (said_words said), said_room said (both_true (is_formed said) (is_bounded said) h2.0).0 h2.1 p)

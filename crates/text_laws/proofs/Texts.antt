@@ -3,17 +3,17 @@ use Rattle.std.proofs.Common.{◌≡◌, inl, inr, ℕ, ◌+◌, List, [], ◌�
 use Rattle.policy_words.specs.declared.faults.TextKind.{TextKind}
 use Rattle.policy_words.specs.declared.versions.TextVersion.{TextVersion}
 use Rattle.policy_words.specs.Versions.{version_after}
-use Rattle.policy_words.specs.Sayings.{Saying}
+use Rattle.policy_words.specs.Sayings.{SaidView}
 use Rattle.policy_words.specs.Reading.{Numbered, read_said, and_then, read_lines}
 use Rattle.policy_words.specs.Spelling.{IsSaid}
 use Rattle.policy_lines.proofs.SaidBySpelling.{sayings_are_read}
 use Rattle.text_laws.specs.Texts.{Say, LeadTo, IsFirstFault, TextsSay, FirstFaultIsTold}
 
 abbrev Read : Type 0
-Read = Result (List (Numbered Saying)) (Numbered TextKind)
+Read = Result (List (Numbered SaidView)) (Numbered TextKind)
 
 abbrev SaidLine : Type 0
-SaidLine = Result (Option Saying) TextKind
+SaidLine = Result (Option SaidView) TextKind
 
 -- the lines read from one on, where the first of them says this
 abbrev after_line : TextVersion → ℕ → List (List ℕ) → SaidLine → Read
@@ -29,34 +29,34 @@ is_said v line r e = (sayings_are_read v line r).0 e
 of_said : (v : TextVersion) (line : List ℕ) (r : SaidLine) → IsSaid v line r → read_said v line ≡ r
 of_said v line r h = (sayings_are_read v line r).1 h
 
-ok_same : (a b : List (Numbered Saying)) → ◌≡◌ {A = Read} (Ok a) (Ok b) → a ≡ b
+ok_same : (a b : List (Numbered SaidView)) → ◌≡◌ {A = Read} (Ok a) (Ok b) → a ≡ b
 ok_same a b e = cc
 
 err_same : (a b : Numbered TextKind) → ◌≡◌ {A = Read} (Err a) (Err b) → a ≡ b
 err_same a b e = cc
 
 -- one saying more
-was_ok : (s : Numbered Saying) (r : Read) (said : List (Numbered Saying)) → and_then s r ≡ Ok said → (more : List (Numbered Saying)) × (r ≡ Ok more) × (said ≡ s ∷ more)
+was_ok : (s : Numbered SaidView) (r : Read) (said : List (Numbered SaidView)) → and_then s r ≡ Ok said → (more : List (Numbered SaidView)) × (r ≡ Ok more) × (said ≡ s ∷ more)
 was_ok s (Ok more) said e = (more, refl, sym (ok_same (s ∷ more) said e))
 was_ok s (Err t) said e = cc
 
-was_err : (s : Numbered Saying) (r : Read) (t : Numbered TextKind) → and_then s r ≡ Err t → r ≡ Err t
+was_err : (s : Numbered SaidView) (r : Read) (t : Numbered TextKind) → and_then s r ≡ Err t → r ≡ Err t
 was_err s (Ok more) t e = cc
 was_err s (Err u) t e = e
 
-to_say : (v : TextVersion) (n : ℕ) (lines : List (List ℕ)) (said : List (Numbered Saying)) → read_lines v n lines ≡ Ok said → Say v n lines said
+to_say : (v : TextVersion) (n : ℕ) (lines : List (List ℕ)) (said : List (Numbered SaidView)) → read_lines v n lines ≡ Ok said → Say v n lines said
 to_say v n [] said e = sym (ok_same [] said e)
 to_say v n (line ∷ lines) said e = by (read_said v line) refl e (to_say v (n + 1) lines said) (λ s. to_say (version_after v s) (n + 1) lines)
   where
     by : (r : SaidLine) → read_said v line ≡ r → after_line v n lines r ≡ Ok said → (read_lines v (n + 1) lines ≡ Ok said → Say v (n + 1) lines said)
-        → ((s : Saying) (more : List (Numbered Saying)) → read_lines (version_after v s) (n + 1) lines ≡ Ok more → Say (version_after v s) (n + 1) lines more) → Say v n (line ∷ lines) said
+        → ((s : SaidView) (more : List (Numbered SaidView)) → read_lines (version_after v s) (n + 1) lines ≡ Ok more → Say (version_after v s) (n + 1) lines more) → Say v n (line ∷ lines) said
     by (Err t) is e same later = cc
     by (Ok None) is e same later = inl (is_said v line (Ok None) is, same e)
     by (Ok (Some s)) is e same later =
         let (more, read, whole) = was_ok (record { line = n; it = s }) (read_lines (version_after v s) (n + 1) lines) said e in
         inr (s, more, whole, is_said v line (Ok (Some s)) is, later s more read)
 
-from_say : (v : TextVersion) (n : ℕ) (lines : List (List ℕ)) (said : List (Numbered Saying)) → Say v n lines said → read_lines v n lines ≡ Ok said
+from_say : (v : TextVersion) (n : ℕ) (lines : List (List ℕ)) (said : List (Numbered SaidView)) → Say v n lines said → read_lines v n lines ≡ Ok said
 from_say v n [] said h = ap (λ ss. Ok ss) (sym h)
 from_say v n (line ∷ lines) said (inl (silent, more)) = ap (after_line v n lines) (of_said v line (Ok None) silent) ∙ from_say v (n + 1) lines said more
 from_say v n (line ∷ lines) said (inr (s, rest, whole, says, more)) =
@@ -82,7 +82,7 @@ to_first v n [] t e = cc
 to_first v n (line ∷ lines) t e = by (read_said v line) refl e (to_first v (n + 1) lines t) (λ s. to_first (version_after v s) (n + 1) lines t)
   where
     by : (r : SaidLine) → read_said v line ≡ r → after_line v n lines r ≡ Err t → (read_lines v (n + 1) lines ≡ Err t → IsFirstFault v (n + 1) lines t)
-        → ((s : Saying) → read_lines (version_after v s) (n + 1) lines ≡ Err t → IsFirstFault (version_after v s) (n + 1) lines t) → IsFirstFault v n (line ∷ lines) t
+        → ((s : SaidView) → read_lines (version_after v s) (n + 1) lines ≡ Err t → IsFirstFault (version_after v s) (n + 1) lines t) → IsFirstFault v n (line ∷ lines) t
     by (Err kind) is e same later =
         let told : record { line = n; it = kind } ≡ t = err_same (record { line = n; it = kind }) t e in
         subst (IsFirstFault v n (line ∷ lines)) told

@@ -3,21 +3,21 @@ use Rattle.std.specs.Prelude.{◌≡◌, ◌↔◌, ◌⊎◌, ℕ, ◌+◌, Lis
 use Rattle.policy_words.specs.declared.faults.TextKind.{TextKind}
 use Rattle.policy_words.specs.declared.versions.TextVersion.{TextVersion}
 use Rattle.policy_words.specs.Versions.{version_after}
-use Rattle.policy_words.specs.Sayings.{Saying}
+use Rattle.policy_words.specs.Sayings.{SaidView}
 use Rattle.policy_words.specs.Reading.{Numbered, read_lines}
 use Rattle.policy_words.specs.Spelling.{IsSaid}
 
 -- lines that begin in this version say these things, the first line with this number
-abbrev pub Say : TextVersion → ℕ → List (List ℕ) → List (Numbered Saying) → Type 0
+abbrev pub Say : TextVersion → ℕ → List (List ℕ) → List (Numbered SaidView) → Type 0
 Say v n [] said = said ≡ []
 Say v n (line ∷ lines) said =
     (IsSaid v line (Ok None) × Say v (n + 1) lines said)
-    ⊎ ((s : Saying) × (more : List (Numbered Saying)) × (said ≡ record { line = n; it = s } ∷ more) × IsSaid v line (Ok (Some s)) × Say (version_after v s) (n + 1) lines more)
+    ⊎ ((s : SaidView) × (more : List (Numbered SaidView)) × (said ≡ record { line = n; it = s } ∷ more) × IsSaid v line (Ok (Some s)) × Say (version_after v s) (n + 1) lines more)
 
 -- lines without a fault, from one version to that of the line behind them
 abbrev pub LeadTo : TextVersion → List (List ℕ) → TextVersion → Type 0
 LeadTo v [] w = v ≡ w
-LeadTo v (line ∷ lines) w = (IsSaid v line (Ok None) × LeadTo v lines w) ⊎ ((s : Saying) × IsSaid v line (Ok (Some s)) × LeadTo (version_after v s) lines w)
+LeadTo v (line ∷ lines) w = (IsSaid v line (Ok None) × LeadTo v lines w) ⊎ ((s : SaidView) × IsSaid v line (Ok (Some s)) × LeadTo (version_after v s) lines w)
 
 -- the fault of a line behind lines without one, with its number
 pub record IsFirstFault (v : TextVersion) (n : ℕ) (lines : List (List ℕ)) (fault : Numbered TextKind) : Type 0 where
@@ -31,7 +31,7 @@ pub record IsFirstFault (v : TextVersion) (n : ℕ) (lines : List (List ℕ)) (f
   pub number : fault.line ≡ n + length front
 
 abbrev pub TextsSay : Type 0
-TextsSay = (v : TextVersion) (n : ℕ) (lines : List (List ℕ)) (said : List (Numbered Saying)) → (read_lines v n lines ≡ Ok said) ↔ Say v n lines said
+TextsSay = (v : TextVersion) (n : ℕ) (lines : List (List ℕ)) (said : List (Numbered SaidView)) → (read_lines v n lines ≡ Ok said) ↔ Say v n lines said
 
 abbrev pub FirstFaultIsTold : Type 0
 FirstFaultIsTold = (v : TextVersion) (n : ℕ) (lines : List (List ℕ)) (fault : Numbered TextKind) → (read_lines v n lines ≡ Err fault) ↔ IsFirstFault v n lines fault

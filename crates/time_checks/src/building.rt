@@ -1,4 +1,4 @@
-//! Grounds and instants.
+//! Makes the grounds, instants and priorities of the tests.
 ghost use Rattle.std.specs.Prelude.{◌≡◌, IfOk};
 
 use gt_base::{Instant, Memory, Prio};

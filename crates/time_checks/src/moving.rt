@@ -1,4 +1,4 @@
-//! Steps of a timeline.
+//! Goes on with a timeline, from one stirring instant to the next or minute after minute.
 ghost use Rattle.std.specs.Prelude.{◌≡◌, ℕ, ◌<◌, ◌≤◌, Bool, IfOk, OnErr};
 ghost use Rattle.gt_base.specs.Bounds.{last_minute};
 ghost use Rattle.gtrbac_model.specs.History.{IsNextStop};

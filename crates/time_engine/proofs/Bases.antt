@@ -2,7 +2,7 @@
 use Rattle.std.proofs.Common.{◌≡◌, ℕ, Bool, true, false, ◌||◌, List, ◌++◌, Option, refl, sym, ◌∙◌, ap}
 use Rattle.std.specs.List.{list_any}
 use Rattle.std.specs.Ordering.{eq_by_cmp}
-use Rattle.gt_base.specs.Happening.{Happening}
+use Rattle.gt_base.specs.Happening.{HappenedView}
 use Rattle.gt_base.specs.Orders.{prioritised_cmp, signal_cmp}
 use Rattle.gt_base.specs.Sets.{SetOf, has, set_of}
 use Rattle.gt_base.specs.declared.events.Fluent.{Fluent}
@@ -28,7 +28,7 @@ pub since_view : (a : AgesView) → (λ f. since_in (record { birth = a.birth; r
 since_view a = λ i f. since-same_rows (record { birth = a.birth; rows = a.rows; spare = 0 }) a refl refl f i
 
 -- the set of these events and signals is the base
-pub base_is : (p : Policy) (v : TimelineView) (t : ℕ) (b : Happening)
+pub base_is : (p : Policy) (v : TimelineView) (t : ℕ) (b : HappenedView)
     → ((e : Prioritised) → has b.events e ≡ (list_any (eq_by_cmp prioritised_cmp e) (periodic p v.birth t ++ limited p (has v.status) (since_of v) t) || has v.pending (pending_at t e)))
     → ((x : Signal) → has b.signals x ≡ list_any (eq_by_cmp signal_cmp x) (signals_in v t)) → b ≡ base_in p v t
 base_is p v t b events signals =

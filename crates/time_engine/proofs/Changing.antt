@@ -4,7 +4,7 @@ use Rattle.std.specs.List.{list_any}
 use Rattle.std.specs.Ordering.{eq_by_cmp}
 use Rattle.std.proofs.lemmas.List.Folds.{list_any_more}
 use Rattle.gt_base.specs.Events.{converse}
-use Rattle.gt_base.specs.Happening.{Happening, Events}
+use Rattle.gt_base.specs.Happening.{HappenedView, Events}
 use Rattle.gt_base.specs.Sets.{has, members}
 use Rattle.gt_base.specs.declared.events.Event.{Event}
 use Rattle.gt_base.specs.declared.events.Fluent.{Fluent}
@@ -56,7 +56,7 @@ noted_more before status es i at old now new d0 lt changed is_on was_on is on wa
     by false true e false any same = refl
 
 -- a fluent changes only where an event of it was won
-pub changed_won : (x : Happening) (s : Events) (before status : Fluent → Bool) (f : Fluent) → ((e : Event) → has s e ≡ won x e) → status f ≡ after x before f
+pub changed_won : (x : HappenedView) (s : Events) (before status : Fluent → Bool) (f : Fluent) → ((e : Event) → has s e ≡ won x e) → status f ≡ after x before f
     → (differ (status f) (before f) && list_any (λ e. same_fluent e.fluent f) (members s)) ≡ differ (status f) (before f)
 changed_won x s before status f wins is =
     ap (λ b. differ b (before f) && list_any (λ e. same_fluent e.fluent f) (members s)) is

@@ -4,8 +4,8 @@ use Rattle.std.specs.List.{list_any}
 use Rattle.std.specs.Ordering.{eq_by_cmp}
 use Rattle.std.proofs.lemmas.Bool.{ltb-true, ltb-false, leb-true, leb-false, lt-ltb, le-leb, lt-leb, eqb-true, eqb-false, eq-eqb, ne_eqb}
 use Rattle.gt_base.specs.Bounds.{last_minute}
-use Rattle.gt_base.specs.Held.{Rule}
-use Rattle.gt_base.specs.Happening.{Happening}
+use Rattle.gt_base.specs.Held.{TriggerView}
+use Rattle.gt_base.specs.Happening.{HappenedView}
 use Rattle.gt_base.specs.Orders.{prioritised_cmp}
 use Rattle.gt_base.specs.declared.events.Prioritised.{Prioritised}
 use Rattle.gtrbac_model.specs.Policy.{Policy}
@@ -24,7 +24,7 @@ use Rattle.time_engine.specs.Plans.{joins_of, joins}
 use Rattle.time_engine.proofs.Booleans.{any-append, both, is_false, clash}
 
 -- known heads read the model up to the instant from which they are known
-pub known_same : (p : Policy) (birth : ℕ) (m n : Model) (from t : ℕ) (r : Rule) → Agree p birth m n from → known_head p birth m from t r ≡ known_head p birth n from t r
+pub known_same : (p : Policy) (birth : ℕ) (m n : Model) (from t : ℕ) (r : TriggerView) → Agree p birth m n from → known_head p birth m from t r ≡ known_head p birth n from t r
 known_same p birth m n from t r same = by (nat_lt 0 r.delay && nat_lt birth (t - r.delay) && nat_le (t - r.delay) from) refl
   where
     u : ℕ
@@ -59,7 +59,7 @@ module _ (p : Policy) (birth : ℕ) (n : Model) (now to t : ℕ) (e : Prioritise
   lists_pair = list_any (eq_by_cmp pending_cmp (pending_at t e))
 
   -- what one trigger puts on its way at the stop is what joins, and the rest stays
-  pub one_joins : (r : Rule) (x : Happening) (before : Status) → n to ≡ x → status p birth n (to - 1) ≡ before
+  pub one_joins : (r : TriggerView) (x : HappenedView) (before : Status) → n to ≡ x → status p birth n (to - 1) ≡ before
       → known_head p birth n to t r ≡ elim (nat_lt 0 r.delay && nat_eq (t - r.delay) to) [ true ↦ when (met r (n to) (status p birth n (to - 1))) r.head | false ↦ known_head p birth n now t r ]
       → (lists_e (known_head p birth n now t r) || lists_pair (joins_of before x to r)) ≡ lists_e (known_head p birth n to t r)
   one_joins r x before set st heads =
@@ -111,8 +111,8 @@ module _ (p : Policy) (birth : ℕ) (n : Model) (now to t : ℕ) (e : Prioritise
               (λ j. ap (λ b. lists_pair (when b (pending_at (to + r.delay) r.head))) j)
 
   -- so it is of all triggers
-  pub all_join : (rules : List Rule) (x : Happening) (before : Status)
-      → ((r : Rule) → Elem rules r → (lists_e (known_head p birth n now t r) || lists_pair (joins_of before x to r)) ≡ lists_e (known_head p birth n to t r))
+  pub all_join : (rules : List TriggerView) (x : HappenedView) (before : Status)
+      → ((r : TriggerView) → Elem rules r → (lists_e (known_head p birth n now t r) || lists_pair (joins_of before x to r)) ≡ lists_e (known_head p birth n to t r))
       → (lists_e (flat_map (known_head p birth n now t) rules) || lists_pair (joins rules before x to)) ≡ lists_e (flat_map (known_head p birth n to t) rules)
   all_join [] x before each = refl
   all_join (r ∷ rs) x before each =

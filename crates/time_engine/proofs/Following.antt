@@ -4,8 +4,8 @@ use Rattle.std.specs.List.{list_any}
 use Rattle.std.specs.Ordering.{eq_by_cmp}
 use Rattle.std.proofs.lemmas.Bool.{ltb-true, ltb-false, leb-true, leb-false, eq-eqb}
 use Rattle.gt_base.specs.Bounds.{last_minute}
-use Rattle.gt_base.specs.Held.{Rule}
-use Rattle.gt_base.specs.Happening.{Happening}
+use Rattle.gt_base.specs.Held.{TriggerView}
+use Rattle.gt_base.specs.Happening.{HappenedView}
 use Rattle.gt_base.specs.Sets.{has}
 use Rattle.gt_base.proofs.SetLaws.{has-with_member}
 use Rattle.gt_base.specs.declared.events.Fluent.{Fluent}
@@ -37,7 +37,7 @@ due_stirs p v q there =
     (some-append (ps ++ ds) ls ∙ left_true (is_some_item (ps ++ ds)) _ (some-append ps ds ∙ right_true (is_some_item ps) _ (some_due v.pending q.due q there refl)))
 
 -- what joins is due later
-pub joins_later : (rules : List Rule) (before : Status) (x : Happening) (at : ℕ) (q : Pending) → list_any (eq_by_cmp pending_cmp q) (joins rules before x at) ≡ true → at < q.due
+pub joins_later : (rules : List TriggerView) (before : Status) (x : HappenedView) (at : ℕ) (q : Pending) → list_any (eq_by_cmp pending_cmp q) (joins rules before x at) ≡ true → at < q.due
 joins_later [] before x at q e = cc
 joins_later (r ∷ rules) before x at q e =
     elim (either_true _ _ (sym (any-append (eq_by_cmp pending_cmp q) (joins_of before x at r) (joins rules before x at)) ∙ e)) [

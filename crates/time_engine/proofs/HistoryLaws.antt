@@ -4,8 +4,8 @@ use Rattle.std.specs.List.{list_any}
 use Rattle.std.specs.Ordering.{eq_by_cmp}
 use Rattle.std.proofs.lemmas.Bool.{ltb-true, ltb-false, leb-true, leb-false, eqb-true, eqb-false, eq-eqb, ne_eqb}
 use Rattle.gt_base.specs.Bounds.{last_minute}
-use Rattle.gt_base.specs.Held.{Rule}
-use Rattle.gt_base.specs.Happening.{Happening, nothing}
+use Rattle.gt_base.specs.Held.{TriggerView}
+use Rattle.gt_base.specs.Happening.{HappenedView, nothing}
 use Rattle.gt_base.specs.Machines.{ticked, asked}
 use Rattle.gt_base.specs.Orders.{prioritised_cmp, signal_cmp}
 use Rattle.gt_base.specs.Sets.{SetOf, has, none, members, set_of, with_member}
@@ -125,7 +125,7 @@ pub raised_follows : RaisedFollows
 raised_follows p is birth h m v f t born later within quiet = raised_same p is birth h m v f t born later within quiet
 
 -- at the birth nothing is on its way
-no_heads : (p : Policy) (birth : ℕ) (m : Model) (t : ℕ) (r : Rule) → known_head p birth m birth t r ≡ []
+no_heads : (p : Policy) (birth : ℕ) (m : Model) (t : ℕ) (r : TriggerView) → known_head p birth m birth t r ≡ []
 no_heads p birth m t r = by (nat_lt 0 r.delay) (nat_lt birth (t - r.delay)) (nat_le (t - r.delay) birth) refl refl
   where
     by : (a b c : Bool) → nat_lt birth (t - r.delay) ≡ b → nat_le (t - r.delay) birth ≡ c
@@ -135,7 +135,7 @@ no_heads p birth m t r = by (nat_lt 0 r.delay) (nat_lt birth (t - r.delay)) (nat
     by true false c x y = refl
     by false b c x y = refl
 
-no_heads_all : (p : Policy) (birth : ℕ) (m : Model) (t : ℕ) (rs : List Rule) → flat_map (known_head p birth m birth t) rs ≡ []
+no_heads_all : (p : Policy) (birth : ℕ) (m : Model) (t : ℕ) (rs : List TriggerView) → flat_map (known_head p birth m birth t) rs ≡ []
 no_heads_all p birth m t [] = refl
 no_heads_all p birth m t (r ∷ rs) = λ i. no_heads p birth m t r i ++ no_heads_all p birth m t rs i
 
@@ -169,11 +169,11 @@ follows_same p birth h m n v same f = record {
       (each_rule p.triggers (λ r. known_same p birth m n (now_of birth h) t r (λ u a le. same u a (omega (arith, le, f.now)))));
 }
   where
-    each_rule : {B : Type 0} {g k : Rule → List B} (rs : List Rule) → ((r : Rule) → g r ≡ k r) → flat_map g rs ≡ flat_map k rs
+    each_rule : {B : Type 0} {g k : TriggerView → List B} (rs : List TriggerView) → ((r : TriggerView) → g r ≡ k r) → flat_map g rs ≡ flat_map k rs
     each_rule [] e = refl
     each_rule (r ∷ rs) e = λ i. e r i ++ each_rule rs e i
 
-module _ (m : Model) (now to : ℕ) (x : Happening) where
+module _ (m : Model) (now to : ℕ) (x : HappenedView) where
   abbrev pub more : Model
   more = with_set m now to x
 
@@ -196,10 +196,10 @@ module _ (m : Model) (now to : ℕ) (x : Happening) where
       λ i. elim (late i) [ true ↦ m t | false ↦ elim (apart i) [ true ↦ x | false ↦ nothing ] ]
 
 -- a timeline also follows the model with one set more
-pub follows_more : (p : Policy) (birth : ℕ) (h : List Entry) (m : Model) (v : TimelineView) (to : ℕ) (x : Happening) → Follows p birth h m v → Follows p birth h (with_set m (now_of birth h) to x) v
+pub follows_more : (p : Policy) (birth : ℕ) (h : List Entry) (m : Model) (v : TimelineView) (to : ℕ) (x : HappenedView) → Follows p birth h m v → Follows p birth h (with_set m (now_of birth h) to x) v
 follows_more p birth h m v to x f = follows_same p birth h m (with_set m (now_of birth h) to x) v (λ u a le. more_before m (now_of birth h) to x u (omega (arith, le, f.now))) f
 
-pub quiet_more : (birth : ℕ) (h : List Entry) (m : Model) (v : TimelineView) (to : ℕ) (x : Happening) → v.now ≡ now_of birth h → NothingBetween (with_set m (now_of birth h) to x) v.now to
+pub quiet_more : (birth : ℕ) (h : List Entry) (m : Model) (v : TimelineView) (to : ℕ) (x : HappenedView) → v.now ≡ now_of birth h → NothingBetween (with_set m (now_of birth h) to x) v.now to
 quiet_more birth h m v to x now u a b = more_between m (now_of birth h) to x u (omega (arith, a, now)) b
 
 pub close_is_legal : CloseIsLegal
@@ -228,7 +228,7 @@ close_is_legal p is birth h m v plan who upto legal kept f plans within signals 
     }
 
 -- a set in which nothing happens is empty
-pub nothing_there : (x : Happening) → is_something x ≡ false → x ≡ nothing
+pub nothing_there : (x : HappenedView) → is_something x ≡ false → x ≡ nothing
 nothing_there x e =
     let parts = both_false (is_some_item (members x.events)) (is_some_item (members x.signals)) e in
     let event_set : x.events ≡ none = same_sets prioritised_cmp_total prioritised_cmp-IsAntisymmetric _ _ (λ y. has-members x.events y ∙ nowhere (eq_by_cmp prioritised_cmp y) (members x.events) parts.0 ∙ sym (has-none prioritised_cmp y)) in
@@ -244,7 +244,7 @@ nothing_there x e =
     nowhere test (y ∷ ys) q = cc
 
 -- the trace after a close stands for the model with one set more
-traced_more : (cs : List ClosedSet) (m : Model) (birth now to : ℕ) (base x : Happening) → now < to → EndsBy now cs → ((t : ℕ) → birth < t → t ≤ now → model_of cs t ≡ m t)
+traced_more : (cs : List ClosedSet) (m : Model) (birth now to : ℕ) (base x : HappenedView) → now < to → EndsBy now cs → ((t : ℕ) → birth < t → t ≤ now → model_of cs t ≡ m t)
     → (t : ℕ) → birth < t → t ≤ to → model_of (cs ++ traced to base x) t ≡ with_set m now to x t
 traced_more cs m birth now to base x lt ends sets t a le =
     split (nat_le t now)

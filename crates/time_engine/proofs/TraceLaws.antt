@@ -3,7 +3,7 @@ use Rattle.std.proofs.Common.{◌≡◌, ℕ, zero, suc, ◌+◌, ◌<◌, ◌�
 use Rattle.std.proofs.lemmas.Bool.{ne_eqb, eq-eqb, eqb-true, eqb-false}
 use Rattle.std.proofs.lemmas.Option.{slice_get_within, get_or_from_slice_get}
 use Rattle.gtrbac_model.proofs.Elements.{split}
-use Rattle.gt_base.specs.Happening.{Happening, nothing}
+use Rattle.gt_base.specs.Happening.{HappenedView, nothing}
 use Rattle.instant_bases.specs.Timelines.{ClosedSet}
 use Rattle.time_engine.specs.Traces.{model_of, Ascends, EndsBy, AreSome, is_something, traced}
 use Rattle.gtrbac_model.specs.Base.{when}
@@ -48,7 +48,7 @@ append_nil [] = refl
 append_nil (x ∷ xs) = ap (λ ys. x ∷ ys) (append_nil xs)
 
 -- a trace goes on in order
-pub traced_ascends : (cs : List ClosedSet) (at : ℕ) (base set : Happening) (low top : ℕ) → low ≤ top → top < at → Ascends low cs → EndsBy top cs → Ascends low (cs ++ traced at base set)
+pub traced_ascends : (cs : List ClosedSet) (at : ℕ) (base set : HappenedView) (low top : ℕ) → low ≤ top → top < at → Ascends low cs → EndsBy top cs → Ascends low (cs ++ traced at base set)
 traced_ascends cs at base set low top le lt a h = by (is_something set)
   where
     d : ClosedSet
@@ -58,7 +58,7 @@ traced_ascends cs at base set low top le lt a h = by (is_something set)
     by true = ascends_with cs d low top le lt a h
     by false = subst (Ascends low) (sym (append_nil cs)) a
 
-pub traced_ends : (cs : List ClosedSet) (at : ℕ) (base set : Happening) (top : ℕ) → top < at → EndsBy top cs → EndsBy at (cs ++ traced at base set)
+pub traced_ends : (cs : List ClosedSet) (at : ℕ) (base set : HappenedView) (top : ℕ) → top < at → EndsBy top cs → EndsBy at (cs ++ traced at base set)
 traced_ends cs at base set top lt h = by (is_something set)
   where
     d : ClosedSet
@@ -73,7 +73,7 @@ some_with [] d e h = (e, tt)
 some_with (c ∷ cs) d e h = (h.0, some_with cs d e h.1)
 
 -- and has sets in which something happens alone
-pub traced_some : (cs : List ClosedSet) (at : ℕ) (base set : Happening) → AreSome cs → AreSome (cs ++ traced at base set)
+pub traced_some : (cs : List ClosedSet) (at : ℕ) (base set : HappenedView) → AreSome cs → AreSome (cs ++ traced at base set)
 traced_some cs at base set h =
     split (is_something set) (λ e. subst (λ b. AreSome (cs ++ when b d)) (sym e) (some_with cs d e h)) (λ e. subst (λ b. AreSome (cs ++ when b d)) (sym e) (subst AreSome (sym (append_nil cs)) h))
   where
@@ -105,7 +105,7 @@ last_before (x ∷ y ∷ ys) (suc i) low now c n is a h ne =
     (λ j. elim (apart j) [ true ↦ x.set | false ↦ model_of (y ∷ ys) now ]) ∙ last_before (y ∷ ys) i x.at now c (omega (arith, n)) is a.1 h.1 ne
 
 -- the last set, where it is that of now, and else nothing
-pub last_is : (cs : List ClosedSet) (low now : ℕ) (c : ClosedSet) (quiet : Happening) → slice_get cs (length cs - 1) ≡ Some c → Ascends low cs → EndsBy now cs → quiet ≡ nothing
+pub last_is : (cs : List ClosedSet) (low now : ℕ) (c : ClosedSet) (quiet : HappenedView) → slice_get cs (length cs - 1) ≡ Some c → Ascends low cs → EndsBy now cs → quiet ≡ nothing
     → cond (nat_eq c.at now) c.set quiet ≡ model_of cs now
 last_is cs low now c quiet e a h none =
     let lt : length cs - 1 < length cs = slice_get_within cs _ c e in

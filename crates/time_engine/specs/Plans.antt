@@ -4,8 +4,8 @@ use Rattle.std.specs.Coded.{Coded, code_by, coded×, coded_ℕ, coded_list}
 use Rattle.std.specs.List.{list_any}
 use Rattle.std.specs.Ordering.{eq_by_cmp}
 use Rattle.gt_base.specs.Bounds.{last_minute}
-use Rattle.gt_base.specs.Held.{Rule}
-use Rattle.gt_base.specs.Happening.{Happening, Fluents, happening_code, fluents_code}
+use Rattle.gt_base.specs.Held.{TriggerView}
+use Rattle.gt_base.specs.Happening.{HappenedView, Fluents, happening_code, fluents_code}
 use Rattle.gt_base.specs.Sets.{has, none, with_member}
 use Rattle.gt_base.specs.declared.events.Fluent.{Fluent}
 use Rattle.gt_base.specs.declared.events.Signal.{Signal}
@@ -23,24 +23,24 @@ use Rattle.instant_bases.specs.Timelines.{TimelineView, timeline_code, base_in, 
 use Rattle.time_engine.specs.Traces.{Ascends, EndsBy, AreSome, traced}
 
 -- the head of a delayed trigger that is met at the instant, with its due instant, where that is not after the last one
-abbrev pub joins_of : Status → Happening → ℕ → Rule → List Pending
+abbrev pub joins_of : Status → HappenedView → ℕ → TriggerView → List Pending
 joins_of before x at r = when (nat_lt 0 r.delay && nat_le (at + r.delay) last_minute && met r x before) (pending_at (at + r.delay) r.head)
 
-abbrev pub joins : List Rule → Status → Happening → ℕ → List Pending
+abbrev pub joins : List TriggerView → Status → HappenedView → ℕ → List Pending
 joins rules before x at = flat_map (joins_of before x at) rules
 
 -- a plan: its instant, the base and the set of it, the status after it, the pairs that join, and how much room it needs
 pub record PlanView : Type 0 where
   pub at : ℕ
-  pub base : Happening
-  pub set : Happening
+  pub base : HappenedView
+  pub set : HappenedView
   pub status : Fluents
   pub joining : List Pending
   pub need : ℕ
 
 abbrev pub plan_code : Coded PlanView
 plan_code =
-    code_by (ℕ × (Happening × (Happening × (Fluents × (List Pending × ℕ)))))
+    code_by (ℕ × (HappenedView × (HappenedView × (Fluents × (List Pending × ℕ)))))
     (coded× coded_ℕ (coded× happening_code (coded× happening_code (coded× fluents_code (coded× (coded_list pending.the_row.coded) coded_ℕ)))))
     (λ p. (p.at, (p.base, (p.set, (p.status, (p.joining, p.need)))))) (λ (t, (b, (x, (s, (j, n))))). record { at = t; base = b; set = x; status = s; joining = j; need = n }) (λ _. refl)
 
@@ -49,7 +49,7 @@ plan_code =
 pub record IsPlan (p : Policy) (v : TimelineView) (plan : PlanView) : Type 0 where
   pub base : plan.base ≡ base_in p v plan.at
   pub settled : Settled p.triggers plan.base (has v.status) plan.set
-  pub only : (y : Happening) → Settled p.triggers plan.base (has v.status) y → y ≡ plan.set
+  pub only : (y : HappenedView) → Settled p.triggers plan.base (has v.status) y → y ≡ plan.set
   pub status : (f : Fluent) → has plan.status f ≡ after plan.set (has v.status) f
   pub joining : plan.joining ≡ joins p.triggers (has v.status) plan.set plan.at
 

@@ -1,13 +1,13 @@
 -- Traces: the nonempty sets of a run, each with its instant and its base, and the model that they stand for.
 use Rattle.std.specs.Prelude.{◌≡◌, ℕ, ◌<◌, ◌≤◌, Bool, true, false, ◌||◌, nat_eq, List, [], ◌∷◌}
-use Rattle.gt_base.specs.Happening.{Happening, nothing}
+use Rattle.gt_base.specs.Happening.{HappenedView, nothing}
 use Rattle.gt_base.specs.Sets.{members}
 use Rattle.gtrbac_model.specs.Base.{when}
 use Rattle.gtrbac_model.specs.History.{is_some_item}
 use Rattle.instant_bases.specs.Timelines.{ClosedSet}
 
 -- the set of each instant: nothing where the trace has none
-abbrev pub model_of : List ClosedSet → ℕ → Happening
+abbrev pub model_of : List ClosedSet → ℕ → HappenedView
 model_of [] t = nothing
 model_of (c ∷ cs) t = elim (nat_eq c.at t) [ true ↦ c.set | false ↦ model_of cs t ]
 
@@ -22,7 +22,7 @@ EndsBy top [] = Unit {0}
 EndsBy top (c ∷ cs) = (c.at ≤ top) × EndsBy top cs
 
 -- whether something happens
-abbrev pub is_something : Happening → Bool
+abbrev pub is_something : HappenedView → Bool
 is_something x = is_some_item (members x.events) || is_some_item (members x.signals)
 
 -- something happens in each set
@@ -31,5 +31,5 @@ AreSome [] = Unit {0}
 AreSome (c ∷ cs) = (is_something c.set ≡ true) × AreSome cs
 
 -- a set is traced where something happens
-abbrev pub traced : ℕ → Happening → Happening → List ClosedSet
+abbrev pub traced : ℕ → HappenedView → HappenedView → List ClosedSet
 traced at base set = when (is_something set) (record { at = at; base = base; set = set })

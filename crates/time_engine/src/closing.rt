@@ -12,7 +12,7 @@ ghost use Rattle.delay_agenda.specs.Due.{pending_cmp};
 ghost use Rattle.delay_agenda.specs.declared.pairs.Pending.{Pending as Pair};
 ghost use Rattle.duration_limits.specs.Aged.{minute_after};
 ghost use Rattle.duration_limits.specs.Since.{since_in};
-ghost use Rattle.gt_base.specs.Happening.{Happening};
+ghost use Rattle.gt_base.specs.Happening.{HappenedView};
 ghost use Rattle.gtrbac_model.specs.Instant.{Settled};
 ghost use Rattle.instant_bases.specs.Timelines.{StandsFor, base_in};
 ghost use Rattle.time_engine.specs.Kept.{view_of, room_of};
@@ -63,7 +63,7 @@ fn planned_by(
 ) -> Result<Plan, Memory>
     requires base { base.set ≡ base_in g.now.policy (view_of s.now) to }
     requires settled { Settled g.now.policy.triggers base.set (has s.now.status.set) x.now }
-    requires only { (y : Happening) → Settled g.now.policy.triggers base.set (has s.now.status.set) y → y ≡ x.now }
+    requires only { (y : HappenedView) → Settled g.now.policy.triggers base.set (has s.now.status.set) y → y ≡ x.now }
     ensures at { IfOk result (λ plan. plan.at ≡ to) }
     ensures plan { IfOk result (IsPlan g.now.policy (view_of s.now)) }
 {

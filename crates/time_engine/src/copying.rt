@@ -1,4 +1,4 @@
-//! Copies of traces.
+//! Copies a trace, set by set.
 ghost use Rattle.std.specs.Prelude.{◌≡◌, IfOk};
 
 use crate::traces::{Closed, Trace};

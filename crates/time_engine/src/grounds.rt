@@ -1,6 +1,6 @@
 //! What timelines of a policy stand on.
 ghost use Rattle.std.specs.Prelude.{◌≡◌, IfOk, IfErr};
-ghost use Rattle.gt_base.specs.Happening.{Happening};
+ghost use Rattle.gt_base.specs.Happening.{HappenedView};
 ghost use Rattle.gt_base.specs.Sets.{has};
 ghost use Rattle.gtrbac_model.specs.Instant.{Settled};
 ghost use Rattle.dependency_graph.specs.Levelled.{IsLevelled};
@@ -126,7 +126,7 @@ impl Ground {
     /// The one set that the base settles to, under the status before the instant.
     pub(crate) fn settle(&self, base: &Happened, before: &Status) -> Result<Contest, Memory>
         ensures settled { IfOk result (λ x. Settled self.now.policy.triggers base.now.set (has before.now.set) x) }
-        ensures only { IfOk result (λ x. (y : Happening) → Settled self.now.policy.triggers base.now.set (has before.now.set) y → y ≡ x) }
+        ensures only { IfOk result (λ x. (y : HappenedView) → Settled self.now.policy.triggers base.now.set (has before.now.set) y → y ≡ x) }
     {
         settled_contest(
             self.alloc,

@@ -1,4 +1,4 @@
-//! Timelines.
+//! The timeline of a policy: closed from one instant that stirs to the next.
 ghost use Rattle.std.specs.Prelude.{◌≡◌, ℕ, ◌<◌, ◌≤◌, ◌+◌, nat_eq, cond, [], IfOk, IfErr, OnOk, OnErr};
 ghost use Rattle.gt_base.specs.Bounds.{last_minute};
 ghost use Rattle.gt_base.specs.declared.events.Fluent.{Fluent};

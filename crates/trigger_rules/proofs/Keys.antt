@@ -6,7 +6,7 @@ use Rattle.std.proofs.lemmas.Bool.{eq-eqb, ne_eqb}
 use Rattle.std.proofs.lemmas.List.{take_more, length-take-le}
 use Rattle.gt_base.specs.declared.events.Event.{Event}
 use Rattle.gt_base.specs.declared.events.Signal.{Signal}
-use Rattle.gt_base.specs.Held.{Rule}
+use Rattle.gt_base.specs.Held.{TriggerView}
 use Rattle.gt_base.specs.contracts.events.EventOrd.TheImpl.Laws as event_laws
 use Rattle.gt_base.specs.contracts.events.SignalOrd.TheImpl.Laws as signal_laws
 use Rattle.gtrbac_model.specs.Same.{same_event, same_signal}
@@ -33,7 +33,7 @@ ends_cons n m [] lt h = ne_eqb m n (omega arith)
 ends_cons n m (k ∷ ks) lt h = h
 
 -- the numbers of triggers lie below what comes after them
-pub below : (p : Rule → Bool) (k n : ℕ) (rs : List Rule) → k + length rs ≤ n → ends_in n (numbers p k rs) ≡ false
+pub below : (p : TriggerView → Bool) (k n : ℕ) (rs : List TriggerView) → k + length rs ≤ n → ends_in n (numbers p k rs) ≡ false
 below p k n [] h = refl
 below p k n (r ∷ rs) h = by (p r) (below p (k + 1) n rs (omega arith))
   where
@@ -42,7 +42,7 @@ below p k n (r ∷ rs) h = by (p r) (below p (k + 1) n rs (omega arith))
     by false rest = rest
 
 -- one trigger more
-pub numbers_push : (p : Rule → Bool) (k : ℕ) (rs : List Rule) (r : Rule) → numbers p k (rs ++ r ∷ []) ≡ numbers p k rs ++ cond (p r) ((k + length rs) ∷ []) []
+pub numbers_push : (p : TriggerView → Bool) (k : ℕ) (rs : List TriggerView) (r : TriggerView) → numbers p k (rs ++ r ∷ []) ≡ numbers p k rs ++ cond (p r) ((k + length rs) ∷ []) []
 numbers_push p k [] r = ap (λ m. cond (p r) (m ∷ []) []) (omega arith)
 numbers_push p k (q ∷ rs) r = by (p q) (numbers_push p (k + 1) rs r ∙ ap (λ m. numbers p (k + 1) rs ++ cond (p r) (m ∷ []) []) (omega arith))
   where
@@ -77,7 +77,7 @@ key_more {K} {eq} laws first old new n key k a is same none so_far =
     by false h = refl
 
 -- the triggers so far, and the next one, by what its body has
-pub trigger_more : {K : Type 0} (eq same : K → K → Bool) → ((a b : K) → eq a b ≡ same a b) → (keys : Rule → List K) (rules : List Rule) (n : ℕ) (t : Rule) (ks : List K) (k : K) (old new : List ℕ)
+pub trigger_more : {K : Type 0} (eq same : K → K → Bool) → ((a b : K) → eq a b ≡ same a b) → (keys : TriggerView → List K) (rules : List TriggerView) (n : ℕ) (t : TriggerView) (ks : List K) (k : K) (old new : List ℕ)
     → n < length rules → t ≡ get_or rules n t → ks ≡ keys t → new ≡ old ++ cond (list_any (eq k) ks) (n ∷ []) [] → old ≡ numbers (λ r. list_any (same k) (keys r)) 0 (take n rules)
     → new ≡ numbers (λ r. list_any (same k) (keys r)) 0 (take (n + 1) rules)
 trigger_more eq same law keys rules n t ks k old new lt is_t is_ks is so_far =
@@ -87,7 +87,7 @@ trigger_more eq same law keys rules n t ks k old new lt is_t is_ks is so_far =
     ∙ ap (λ m. numbers p 0 (take n rules) ++ cond (p t) (m ∷ []) []) (omega (arith, length-take-le n rules (omega arith)))
     ∙ sym (numbers_push p 0 (take n rules) t) ∙ ap (numbers p 0) (sym (take_more rules n t lt ∙ ap (λ r. take n rules ++ r ∷ []) (sym is_t)))
   where
-    p : Rule → Bool
+    p : TriggerView → Bool
     p r = list_any (same k) (keys r)
 
 -- what `==` answers is equality

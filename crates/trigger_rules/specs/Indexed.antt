@@ -2,28 +2,28 @@
 use Rattle.std.specs.Prelude.{ℕ, ◌+◌, Bool, false, cond, nat_eq, List, [], ◌∷◌, ◌++◌, Option, Some, None}
 use Rattle.gt_base.specs.declared.events.Event.{Event}
 use Rattle.gt_base.specs.declared.events.Signal.{Signal}
-use Rattle.gt_base.specs.Held.{Rule}
+use Rattle.gt_base.specs.Held.{TriggerView}
 use Rattle.gt_base.specs.contracts.events.EventPartialEq.TheImpl as event_equality
 use Rattle.gt_base.specs.contracts.events.SignalPartialEq.TheImpl as signal_equality
 use Rattle.gtrbac_model.specs.Same.{lists, same_event, same_signal}
 
 -- the numbers, ascending from n, of the triggers that pass
-abbrev pub numbers : (Rule → Bool) → ℕ → List Rule → List ℕ
+abbrev pub numbers : (TriggerView → Bool) → ℕ → List TriggerView → List ℕ
 numbers p n [] = []
 numbers p n (r ∷ rs) = cond (p r) (n ∷ numbers p (n + 1) rs) (numbers p (n + 1) rs)
 
-abbrev pub has_event : Event → Rule → Bool
+abbrev pub has_event : Event → TriggerView → Bool
 has_event e r = lists same_event r.events e
 
-abbrev pub has_signal : Signal → Rule → Bool
+abbrev pub has_signal : Signal → TriggerView → Bool
 has_signal s r = lists same_signal r.signals s
 
 -- the triggers with the event in their bodies
-abbrev pub with_event : List Rule → Event → List ℕ
+abbrev pub with_event : List TriggerView → Event → List ℕ
 with_event rules e = numbers (has_event e) 0 rules
 
 -- the triggers with the signal in their bodies
-abbrev pub with_signal : List Rule → Signal → List ℕ
+abbrev pub with_signal : List TriggerView → Signal → List ℕ
 with_signal rules s = numbers (has_signal s) 0 rules
 
 -- what `==` answers

@@ -2,7 +2,7 @@
 ghost use Rattle.std.specs.Prelude.{◌≡◌, ◌<◌, ◌≤◌, ◌&&◌, not, cond, length, Some, IfOk};
 ghost use Rattle.std.specs.List.{list_all};
 ghost use Rattle.gt_base.specs.declared.events.Event.{Event};
-ghost use Rattle.gt_base.specs.Held.{Rule};
+ghost use Rattle.gt_base.specs.Held.{TriggerView};
 ghost use Rattle.gt_base.specs.Sets.{has};
 ghost use Rattle.gtrbac_model.specs.Conflict.{won as is_won, after};
 ghost use Rattle.gtrbac_model.specs.Graph.{item_at};
@@ -29,11 +29,11 @@ impl Model for Rules {
     ghost use Rattle.std.specs.Prelude.{List, length, ◌≤◌, ◌≡◌};
     ghost use Rattle.gt_base.specs.declared.events.Event.{Event};
     ghost use Rattle.gt_base.specs.declared.events.Signal.{Signal};
-    ghost use Rattle.gt_base.specs.Held.{Rule};
+    ghost use Rattle.gt_base.specs.Held.{TriggerView};
     ghost use Rattle.indexmap.specs.IndexMap.{get};
     ghost use Rattle.trigger_rules.specs.Indexed.{event_eq, signal_eq, with_event, with_signal, under};
 
-    ghost Value = { List Rule };
+    ghost Value = { List TriggerView };
 
     ghost view = { λ r. r.triggers.items };
 
@@ -105,7 +105,7 @@ fn copied(alloc: Global, triggers: &List<Trigger>) -> Result<List<Trigger>, Memo
 pub fn met(r: &Rules, n: u32, won: &EventSet, x: &Happened, before: &Status) -> bool
     requires trigger { n < length r.now }
     requires won { (e : Event) → has won.now.set e ≡ is_won x.now.set e }
-    ensures { (t : Rule) → item_at r.now n ≡ Some t → result ≡ is_met t x.now.set (has before.now.set) }
+    ensures { (t : TriggerView) → item_at r.now n ≡ Some t → result ≡ is_met t x.now.set (has before.now.set) }
 {
     body_met(&r.triggers.as_slice()[n as usize], won, x, before)
 }

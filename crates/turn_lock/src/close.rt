@@ -1,4 +1,4 @@
-//! How a lock ends.
+//! The end of a lock: all passes are back, and the value is handed out.
 ghost use Rattle.std.specs.Prelude.{◌≡◌, ◌<◌, ◌≤◌, ◌++◌, [], ◌∷◌, ℕ, map, length, drop};
 ghost use mathlib.Core.List.{IsPrefix};
 ghost use Rattle.turn_lock.specs.Turns.{Each, Has, Ends, part};

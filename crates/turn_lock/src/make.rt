@@ -1,4 +1,4 @@
-//! How a lock begins.
+//! A new lock over a value, with its passes.
 ghost use Rattle.std.specs.Prelude.{◌≡◌, ◌+◌, ◌-◌, ◌<◌, ◌≤◌, [], ◌∷◌, vec_len, vec_capacity, IfOk, IfErr};
 ghost use Rattle.turn_lock.specs.declared.view.Stage.TheVariants.{Idle};
 ghost use Rattle.turn_lock.specs.Turns.{plain, account};

@@ -2,8 +2,8 @@
 use Rattle.std.proofs.Common.{◌≡◌, ◌↔◌, ℕ, ◌+◌, suc, Bool, true, false, cond, not, List, [], ◌∷◌, ◌++◌, length, All, append-nil, refl, sym, ◌∙◌, ap, subst, arith}
 use Rattle.std.proofs.lemmas.List.Sums.{AllPass-from_list_all, list_all-from_AllPass}
 use Rattle.std.specs.List.{list_all}
-use Rattle.gt_base.specs.Held.{Rule}
-use Rattle.gt_base.specs.Happening.{Happening}
+use Rattle.gt_base.specs.Held.{TriggerView}
+use Rattle.gt_base.specs.Happening.{HappenedView}
 use Rattle.gt_base.specs.Sets.{has}
 use Rattle.gtrbac_model.specs.Conflict.{Status, won, after}
 use Rattle.gtrbac_model.specs.Safety.{of_body, of_settled, of_triggers, dependencies}
@@ -24,7 +24,7 @@ so_holds true false e = cc
 so_holds false true e = cc
 so_holds false false e = refl
 
-pub bare_met : (r : Rule) (x : Happening) (s : Status) → r.settled ≡ [] → (met r x s ≡ true) ↔ IsBodyMet r x s
+pub bare_met : (r : TriggerView) (x : HappenedView) (s : Status) → r.settled ≡ [] → (met r x s ≡ true) ↔ IsBodyMet r x s
 bare_met r x s none = (
   λ h.
       let m = parts_met r x s h in
@@ -43,7 +43,7 @@ bare_met r x s none = (
       }),
 )
 
-bare_from : (triggers : List Rule) (t : ℕ) (rs : List Rule) → All (λ r. r.settled ≡ []) rs → of_triggers triggers t rs ≡ of_bodies triggers t rs
+bare_from : (triggers : List TriggerView) (t : ℕ) (rs : List TriggerView) → All (λ r. r.settled ≡ []) rs → of_triggers triggers t rs ≡ of_bodies triggers t rs
 bare_from triggers t [] none = refl
 bare_from triggers t (r ∷ rs) none =
     let bodies = of_body triggers r.head.event t 0 r.events in
@@ -52,5 +52,5 @@ bare_from triggers t (r ∷ rs) none =
     ap (λ ds. cond (immediate r) ds [] ++ of_triggers triggers (t + 1) rs) one
     ∙ ap (λ ds. cond (immediate r) bodies [] ++ ds) (bare_from triggers (t + 1) rs (λ k d lt. none (suc k) d (omega (arith, lt))))
 
-pub bare_dependencies : (triggers : List Rule) → All (λ r. r.settled ≡ []) triggers → dependencies triggers ≡ of_bodies triggers 0 triggers
+pub bare_dependencies : (triggers : List TriggerView) → All (λ r. r.settled ≡ []) triggers → dependencies triggers ≡ of_bodies triggers 0 triggers
 bare_dependencies triggers none = bare_from triggers 0 triggers none

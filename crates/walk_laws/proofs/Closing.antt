@@ -2,7 +2,7 @@
 use Rattle.std.proofs.Common.{◌≡◌, ℕ, zero, suc, ◌+◌, ◌-◌, ◌<◌, ◌≤◌, inl, inr, Bool, true, false, List, [], ◌∷◌, length, Option, Some, None, MatchOption, refl, sym, ◌∙◌, ap, subst, arith, IsTrue, add-zero}
 use Rattle.std.proofs.lemmas.Bool.{cases_lt, false≢true}
 use Rattle.gt_base.specs.declared.events.Event.{Event}
-use Rattle.gt_base.specs.Held.{Rule}
+use Rattle.gt_base.specs.Held.{TriggerView}
 use Rattle.gtrbac_model.specs.Same.{same_event}
 use Rattle.gtrbac_model.specs.Graph.{Arc, Path, least_walk, LeadsAlong, IsWalk, NotAfter, IsLeastWalk, item_at}
 use Rattle.gtrbac_model.specs.Safety.{closing, first_closing, Dependency, dependencies, arcs_of, IsSafe, the_cycle}
@@ -177,16 +177,16 @@ module _ (ds : List Dependency) where
       none : (i : ℕ) → 0 + i ≡ i
       none i = omega arith
 
-pub safe_of : (rules : List Rule) → HasNoCycle (arcs_of (dependencies rules)) (is_conflict (dependencies rules)) → IsSafe rules
+pub safe_of : (rules : List TriggerView) → HasNoCycle (arcs_of (dependencies rules)) (is_conflict (dependencies rules)) → IsSafe rules
 safe_of rules h n d is conflict walk w =
     h n walk (record { arc = arc_of d; is = arc_here (dependencies rules) n d is; is_marked = conflict_at (dependencies rules) n d is ∙ conflict; leads = w })
 
-pub no_cycle_of : (rules : List Rule) → IsSafe rules → HasNoCycle (arcs_of (dependencies rules)) (is_conflict (dependencies rules))
+pub no_cycle_of : (rules : List TriggerView) → IsSafe rules → HasNoCycle (arcs_of (dependencies rules)) (is_conflict (dependencies rules))
 no_cycle_of rules safe n back c =
     let (d, is, same) = arc_at (dependencies rules) n c.arc c.is in
     safe n d is (sym (conflict_at (dependencies rules) n d is) ∙ c.is_marked) back (subst (λ a. LeadsAlong (arcs_of (dependencies rules)) a.to back a.from) same c.leads)
 
-pub cycle_is : (rules : List Rule) → MatchOption (the_cycle rules) (IsSafe rules) (IsLeastCycle (arcs_of (dependencies rules)) (is_conflict (dependencies rules)))
+pub cycle_is : (rules : List TriggerView) → MatchOption (the_cycle rules) (IsSafe rules) (IsLeastCycle (arcs_of (dependencies rules)) (is_conflict (dependencies rules)))
 cycle_is rules = go (the_cycle rules) (whole (dependencies rules))
   where
     go : (o : Option (List ℕ)) → MatchOption o (HasNoCycle (arcs_of (dependencies rules)) (is_conflict (dependencies rules))) (IsLeastCycle (arcs_of (dependencies rules)) (is_conflict (dependencies rules)))
@@ -194,7 +194,7 @@ cycle_is rules = go (the_cycle rules) (whole (dependencies rules))
     go None h = safe_of rules h
     go (Some c) h = h
 
-pub tells : (rules : List Rule) → CycleTells rules
+pub tells : (rules : List TriggerView) → CycleTells rules
 tells rules = (λ safe. none (the_cycle rules) (cycle_is rules) safe, λ e. there (the_cycle rules) (cycle_is rules) e)
   where
     none : (o : Option (List ℕ)) → MatchOption o (IsSafe rules) (IsLeastCycle (arcs_of (dependencies rules)) (is_conflict (dependencies rules))) → IsSafe rules → o ≡ None

@@ -4,7 +4,7 @@ use Rattle.std.specs.Option.{unwrap_or}
 use Rattle.gt_base.specs.declared.events.Cond.{Cond}
 use Rattle.gt_base.specs.declared.events.Event.{Event}
 use Rattle.gt_base.specs.Events.{converse}
-use Rattle.gt_base.specs.Held.{Rule}
+use Rattle.gt_base.specs.Held.{TriggerView}
 use Rattle.gtrbac_model.specs.Conflict.{turns_on, turns_off}
 use Rattle.gtrbac_model.specs.Graph.{item_at}
 use Rattle.gtrbac_model.specs.Safety.{Dependency, is_node, edge_if_node, of_body, of_settled, of_trigger, of_triggers, dependencies}
@@ -47,7 +47,7 @@ plain head b t p = record { source = b; target = head; conflict = false; trigger
 abbrev rival : Event → Event → ℕ → ℕ → Dependency
 rival head b t p = record { source = b; target = head; conflict = true; trigger = t; place = p }
 
-module _ (triggers : List Rule) where
+module _ (triggers : List TriggerView) where
   an_edge : (d : Dependency) → is_node triggers d.source ≡ true → Elem (edge_if_node triggers d) d
   an_edge d n = subst (λ b. Elem (cond b (d ∷ []) []) d) (sym n) (inl refl)
 
@@ -92,7 +92,7 @@ module _ (triggers : List Rule) where
             (b, suc k, at, node, elim which [ inl e ↦ inl (e ∙ ap (rival head (turns_on b.fluent) t) later) | inr e ↦ inr (e ∙ ap (rival head (turns_off b.fluent) t) later) ])
       ]
 
-  of_rules : (t : ℕ) (rs : List Rule) (d : Dependency) → Elem (of_triggers triggers t rs) d → (r : Rule) × (k : ℕ) × (item_at rs k ≡ Some r) × Elem (of_trigger triggers (t + k) r) d
+  of_rules : (t : ℕ) (rs : List TriggerView) (d : Dependency) → Elem (of_triggers triggers t rs) d → (r : TriggerView) × (k : ℕ) × (item_at rs k ≡ Some r) × Elem (of_trigger triggers (t + k) r) d
   of_rules t [] d m = elim m [ ]
   of_rules t (r ∷ rs) d m =
       let here : t ≡ t + 0 = omega arith in
@@ -210,7 +210,7 @@ module _ (triggers : List Rule) where
       in_right (edge_if_node triggers (rival head (turns_on c.fluent) t p) ++ edge_if_node triggers (rival head (turns_off c.fluent) t p)) (of_settled triggers head t (p + 1) cs) (rival head (turns_off b.fluent) t q)
       (has_off head t (p + 1) cs k b q at node (omega (arith, e)))
 
-  has_rule : (t : ℕ) (rs : List Rule) (k : ℕ) (r : Rule) (q : ℕ) (d : Dependency) → item_at rs k ≡ Some r → t + k ≡ q → Elem (of_trigger triggers q r) d → Elem (of_triggers triggers t rs) d
+  has_rule : (t : ℕ) (rs : List TriggerView) (k : ℕ) (r : TriggerView) (q : ℕ) (d : Dependency) → item_at rs k ≡ Some r → t + k ≡ q → Elem (of_trigger triggers q r) d → Elem (of_triggers triggers t rs) d
   has_rule t [] k r q d at e m = cc
   has_rule t (s ∷ rs) zero r q d at e m =
       let same : r ≡ s = sym (item_is s r at) in
@@ -220,7 +220,7 @@ module _ (triggers : List Rule) where
 
   due : (d : Dependency) → IsDependency triggers d → Elem (dependencies triggers) d
   due d h =
-      let r : Rule = h.rule in
+      let r : TriggerView = h.rule in
       let head : Event = r.head.event in
       let bodies : List Dependency = of_body triggers head d.trigger 0 r.events in
       let conds : List Dependency = of_settled triggers head d.trigger (length r.events) r.settled in
@@ -243,5 +243,5 @@ module _ (triggers : List Rule) where
       let numbered : 0 + d.trigger ≡ d.trigger = omega arith in
       has_rule 0 triggers d.trigger r d.trigger d h.stands numbered (subst (λ b. Elem (cond b (bodies ++ conds) []) d) (sym h.immediate) edges)
 
-pub tells : (triggers : List Rule) (d : Dependency) → ((n : ℕ) × (item_at (dependencies triggers) n ≡ Some d)) ↔ IsDependency triggers d
+pub tells : (triggers : List TriggerView) (d : Dependency) → ((n : ℕ) × (item_at (dependencies triggers) n ≡ Some d)) ↔ IsDependency triggers d
 tells triggers d = (λ p. told triggers d (elem_at (dependencies triggers) p.0 d p.1), λ h. at_elem (dependencies triggers) d (due triggers d h))

@@ -4,8 +4,8 @@ use Rattle.std.specs.Prelude.{◌≡◌, ◌↔◌, ℕ, ◌+◌, ◌<◌, Bool,
 use Rattle.gt_base.specs.declared.events.RoleId.{RoleId}
 use Rattle.gt_base.specs.declared.events.Fluent.TheVariants.{Enabled, Edge}
 use Rattle.gt_base.specs.declared.policies.HierEdge.{HierEdge}
-use Rattle.gt_base.specs.Held.{Rule}
-use Rattle.gt_base.specs.Happening.{Happening}
+use Rattle.gt_base.specs.Held.{TriggerView}
+use Rattle.gt_base.specs.Happening.{HappenedView}
 use Rattle.gt_base.specs.Sets.{has}
 use Rattle.gtrbac_model.specs.Conflict.{Status, won}
 use Rattle.gtrbac_model.specs.Hierarchy.{usable, role_arcs}
@@ -14,23 +14,23 @@ use Rattle.gtrbac_model.specs.Trigger.{met, immediate}
 
 -- each body event stands in the set at a priority at which it is not blocked, each body signal is in the set, and each condition
 -- holds in the status before
-pub record IsBodyMet (r : Rule) (x : Happening) (s : Status) : Type 0 where
+pub record IsBodyMet (r : TriggerView) (x : HappenedView) (s : Status) : Type 0 where
   pub events : All (λ b. won x b ≡ true) r.events
   pub signals : All (λ g. has x.signals g ≡ true) r.signals
   pub conds : All (λ c. s c.fluent ≡ c.on) r.conds
 
 -- a trigger without settled conditions is met where these three are
 abbrev pub BareIsMetByBody : Type 0
-BareIsMetByBody = (r : Rule) (x : Happening) (s : Status) → r.settled ≡ [] → (met r x s ≡ true) ↔ IsBodyMet r x s
+BareIsMetByBody = (r : TriggerView) (x : HappenedView) (s : Status) → r.settled ≡ [] → (met r x s ≡ true) ↔ IsBodyMet r x s
 
 -- trigger by trigger the dependencies on its body events, and none of a delayed trigger
-abbrev pub of_bodies : List Rule → ℕ → List Rule → List Dependency
+abbrev pub of_bodies : List TriggerView → ℕ → List TriggerView → List Dependency
 of_bodies triggers t [] = []
 of_bodies triggers t (r ∷ rs) = cond (immediate r) (of_body triggers r.head.event t 0 r.events) [] ++ of_bodies triggers (t + 1) rs
 
 -- without settled conditions there are no others
 abbrev pub BareDependOnBodies : Type 0
-BareDependOnBodies = (triggers : List Rule) → All (λ r. r.settled ≡ []) triggers → dependencies triggers ≡ of_bodies triggers 0 triggers
+BareDependOnBodies = (triggers : List TriggerView) → All (λ r. r.settled ≡ []) triggers → dependencies triggers ≡ of_bodies triggers 0 triggers
 
 abbrev pub is_on : Status → RoleId → Type 0
 is_on s r = s (Enabled r) ≡ true

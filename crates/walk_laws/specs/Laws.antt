@@ -1,7 +1,7 @@
 -- What is proved of walks and closed walks.
 use Rattle.std.specs.Prelude.{◌≡◌, ◌↔◌, ℕ, Bool, true, List, MatchOption}
 use Rattle.gtrbac_model.specs.Graph.{Arc, Path, least_walk, IsWalk, IsLeastWalk}
-use Rattle.gt_base.specs.Held.{Rule}
+use Rattle.gt_base.specs.Held.{TriggerView}
 use Rattle.gt_base.specs.declared.events.Event.{Event}
 use Rattle.gt_base.specs.declared.requests.Entry.{Entry}
 use Rattle.gtrbac_model.specs.Policy.{Policy}
@@ -39,15 +39,15 @@ LeastWalkIsLeast N same =
 -- the cycle that is computed is the least with a conflict, and none is computed just where the triggers are safe
 abbrev pub CycleIsLeast : Type 0
 CycleIsLeast =
-    (triggers : List Rule) → MatchOption (the_cycle triggers) (IsSafe triggers) (IsLeastCycle (arcs_of (dependencies triggers)) (is_conflict (dependencies triggers)))
+    (triggers : List TriggerView) → MatchOption (the_cycle triggers) (IsSafe triggers) (IsLeastCycle (arcs_of (dependencies triggers)) (is_conflict (dependencies triggers)))
 
 -- safe is that no closed walk has a conflict
 abbrev pub SafeHasNoCycle : Type 0
-SafeHasNoCycle = (triggers : List Rule) → IsSafe triggers ↔ HasNoCycle (arcs_of (dependencies triggers)) (is_conflict (dependencies triggers))
+SafeHasNoCycle = (triggers : List TriggerView) → IsSafe triggers ↔ HasNoCycle (arcs_of (dependencies triggers)) (is_conflict (dependencies triggers))
 
 -- safe triggers have levels
 abbrev pub SafeIsLevelled : Type 0
-SafeIsLevelled = (triggers : List Rule) → IsSafe triggers → (level : Event → ℕ) × IsLevelling triggers level
+SafeIsLevelled = (triggers : List TriggerView) → IsSafe triggers → (level : Event → ℕ) × IsLevelling triggers level
 
 -- a policy with safe triggers has just one history and model for each birth and each list of moves
 abbrev pub SafeHasOneModel : Type 0

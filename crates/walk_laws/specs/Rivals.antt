@@ -3,8 +3,8 @@ use Rattle.std.specs.Prelude.{◌≡◌, ℕ, true, false, List, [], ◌∷◌, 
 use Rattle.gt_base.specs.declared.events.Event.{Event}
 use Rattle.gt_base.specs.declared.events.Fluent.TheVariants.{Enabled}
 use Rattle.gt_base.specs.declared.events.Prioritised.{Prioritised}
-use Rattle.gt_base.specs.Held.{Rule}
-use Rattle.gt_base.specs.Happening.{Happening}
+use Rattle.gt_base.specs.Held.{TriggerView}
+use Rattle.gt_base.specs.Happening.{HappenedView}
 use Rattle.gt_base.specs.Sets.{set_of, none}
 use Rattle.gtrbac_model.specs.Conflict.{Status}
 use Rattle.gtrbac_model.specs.Instant.{Settled}
@@ -19,24 +19,24 @@ disable n = record { on = false; fluent = Enabled (record { 0 = n }) }
 abbrev pub at : ℕ → Event → Prioritised
 at p e = record { prio = p; event = e }
 
-abbrev pub when : Event → Prioritised → Rule
+abbrev pub when : Event → Prioritised → TriggerView
 when b h = record { events = b ∷ []; signals = []; conds = []; settled = []; head = h; delay = 0 }
 
-abbrev pub of : List Prioritised → Happening
+abbrev pub of : List Prioritised → HappenedView
 of es = record { events = set_of es; signals = none }
 
 abbrev pub nothing_on : Status
 nothing_on f = false
 
 -- when enable a then 60:disable b; when enable b then 60:disable a
-abbrev pub rivals : List Rule
+abbrev pub rivals : List TriggerView
 rivals = when (enable 0) (at 60 (disable 1)) ∷ when (enable 1) (at 60 (disable 0)) ∷ []
 
-abbrev pub both_enabled : Happening
+abbrev pub both_enabled : HappenedView
 both_enabled = of (at 50 (enable 0) ∷ at 50 (enable 1) ∷ [])
 
 -- the set in which this one is disabled
-abbrev pub loses : ℕ → Happening
+abbrev pub loses : ℕ → HappenedView
 loses n = of (at 50 (enable 0) ∷ at 50 (enable 1) ∷ at 60 (disable n) ∷ [])
 
 -- the rivals are not safe: the conflict of the first closes a cycle with that of the second

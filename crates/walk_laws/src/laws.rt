@@ -3,7 +3,7 @@ ghost use Rattle.std.specs.Prelude.{ℕ, nat_eq, List};
 ghost use Rattle.gt_base.specs.declared.events.RoleId.{RoleId};
 ghost use Rattle.gt_base.specs.declared.events.Event.{Event};
 ghost use Rattle.gtrbac_model.specs.Same.{same_role, same_event};
-ghost use Rattle.gt_base.specs.Held.{Rule};
+ghost use Rattle.gt_base.specs.Held.{TriggerView};
 ghost use Rattle.gtrbac_model.specs.Theorems.{CycleTells, SafeSettleOnce};
 ghost use Rattle.walk_laws.specs.Laws.{LeastWalkIsLeast, CycleIsLeast, SafeHasNoCycle, SafeIsLevelled, SafeHasOneModel, SafeHasOnlyModel, OneLeastWalk, OneLeastCycle, LevelsLeaveNoCycle};
 
@@ -36,7 +36,7 @@ pub fn levels_leave_no_cycle()
 /// The cycle that the definition computes is the least with a conflict, and it computes none just where the triggers are safe.
 pub fn computed_cycle_is_least()
     ensures least { CycleIsLeast }
-    ensures tells { (triggers : List Rule) → CycleTells triggers }
+    ensures tells { (triggers : List TriggerView) → CycleTells triggers }
     ensures safe { SafeHasNoCycle }
 {}
 
@@ -47,7 +47,7 @@ pub fn safe_is_levelled()
 
 /// Safe triggers settle each base under each status to just one set.
 pub fn safe_settles_once()
-    ensures { (triggers : List Rule) → SafeSettleOnce triggers }
+    ensures { (triggers : List TriggerView) → SafeSettleOnce triggers }
 {}
 
 /// A policy with safe triggers has just one history and model for each birth and each list of moves.

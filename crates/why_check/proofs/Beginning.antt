@@ -4,7 +4,7 @@ use Rattle.std.specs.List.{list_any}
 use Rattle.std.specs.Ordering.{eq_by_cmp}
 use Rattle.std.proofs.lemmas.Bool.{ltb-true, leb-true}
 use Rattle.std.proofs.lemmas.List.Elements.{All-nil}
-use Rattle.gt_base.specs.Held.{Rule}
+use Rattle.gt_base.specs.Held.{TriggerView}
 use Rattle.gt_base.specs.Orders.{prioritised_cmp}
 use Rattle.gt_base.specs.Sets.{has}
 use Rattle.gt_base.specs.declared.events.Prioritised.{Prioritised}
@@ -22,7 +22,7 @@ use Rattle.why_check.specs.Kept.{IsBegun}
 use Rattle.why_check.specs.Steps.{HasReached}
 use Rattle.why_check.specs.declared.replays.Replay.{Replay}
 
-no_heads : (p : Policy) (birth : ℕ) (m : Model) (t : ℕ) (r : Rule) → known_head p birth m birth t r ≡ []
+no_heads : (p : Policy) (birth : ℕ) (m : Model) (t : ℕ) (r : TriggerView) → known_head p birth m birth t r ≡ []
 no_heads p birth m t r = by (nat_lt 0 r.delay) (nat_lt birth (t - r.delay)) (nat_le (t - r.delay) birth) refl refl
   where
     by : (a b c : Bool) → nat_lt birth (t - r.delay) ≡ b → nat_le (t - r.delay) birth ≡ c
@@ -32,7 +32,7 @@ no_heads p birth m t r = by (nat_lt 0 r.delay) (nat_lt birth (t - r.delay)) (nat
     by true false c x y = refl
     by false b c x y = refl
 
-no_heads_all : (p : Policy) (birth : ℕ) (m : Model) (t : ℕ) (rs : List Rule) → flat_map (known_head p birth m birth t) rs ≡ []
+no_heads_all : (p : Policy) (birth : ℕ) (m : Model) (t : ℕ) (rs : List TriggerView) → flat_map (known_head p birth m birth t) rs ≡ []
 no_heads_all p birth m t [] = refl
 no_heads_all p birth m t (r ∷ rs) = λ i. no_heads p birth m t r i ++ no_heads_all p birth m t rs i
 

@@ -4,7 +4,7 @@ use Rattle.std.specs.Prelude.{All}
 use Rattle.std.proofs.lemmas.Bool.{ltb-true, leb-true, leb-false, eqb-true, eqb-false}
 use Rattle.std.proofs.lemmas.List.Elements.{All-push, All-tail, All-head}
 use Rattle.gt_base.specs.Bounds.{last_minute}
-use Rattle.gt_base.specs.Happening.{Happening, nothing}
+use Rattle.gt_base.specs.Happening.{HappenedView, nothing}
 use Rattle.gt_base.specs.Machines.{ticked, asked}
 use Rattle.gt_base.specs.declared.events.Signal.{Signal}
 use Rattle.gt_base.specs.Sets.{has}
@@ -147,7 +147,7 @@ module _ (p : Policy) (is : IsPolicy p) (safe : IsSafe p.triggers) (birth : ℕ)
         not_less : (a b : ℕ) → nat_lt a b ≡ false → b ≤ a
         not_less a b q = grind (arith, q)
 
-    replay_more : (s' : Replay) (x : Happening) → x ≡ m to → IsClosed p s x to s' → IsReplay p birth (g ++ e ∷ []) m s'
+    replay_more : (s' : Replay) (x : HappenedView) → x ≡ m to → IsClosed p s x to s' → IsReplay p birth (g ++ e ∷ []) m s'
     replay_more s' x set c = stopping.replay_ticked p is birth m g rest who upto to legal_cut s k.replay s' x set c (legal_front p birth m g rest e legal_cut)
 
     module _ (within : to ≤ last_minute) where

@@ -3,8 +3,8 @@ use Rattle.std.proofs.Common.{◌≡◌, ◌↔◌, ℕ, ◌+◌, Bool, true, fa
 use Rattle.std.specs.List.{list_all, list_any}
 use Rattle.std.specs.Ordering.{eq_by_cmp}
 use Rattle.std.specs.Cmp.{eq_by_cmp_equiv}
-use Rattle.gt_base.specs.Held.{Rule}
-use Rattle.gt_base.specs.Happening.{Happening, nothing}
+use Rattle.gt_base.specs.Held.{TriggerView}
+use Rattle.gt_base.specs.Happening.{HappenedView, nothing}
 use Rattle.gt_base.specs.Orders.{event_cmp, prioritised_cmp, signal_cmp}
 use Rattle.gt_base.specs.Sets.{SetOf, has, members, none, set_of, with_member}
 use Rattle.gt_base.specs.declared.events.Event.{Event}
@@ -42,7 +42,7 @@ same_by_tests a b x y answer is ix iy = (to, from)
     from : a ≡ b → answer ≡ true
     from e = is ∙ and_true x y (ix ∙ subst (λ c. list_all (has c) (members a) ≡ true) e (all_there a)) (iy ∙ subst (λ c. list_all (has c) (members b) ≡ true) (sym e) (all_there b))
 
-pub empty_by_test : (x : Happening) (some answer : Bool) → answer ≡ not some → some ≡ is_something x → IsTrue answer ↔ (x ≡ nothing)
+pub empty_by_test : (x : HappenedView) (some answer : Bool) → answer ≡ not some → some ≡ is_something x → IsTrue answer ↔ (x ≡ nothing)
 unfolding members none
 empty_by_test x some answer is of = (to, from)
   where
@@ -75,19 +75,19 @@ pub noted : (same b there : Bool) → b ≡ false → (same || there) ≡ ((same
 noted true b there e = ap (λ c. not c || there) (sym e)
 noted false b there e = refl
 
-module _ (rules : List Rule) (base : Happening) (s : Status) (l : Listed) (x : Happening) (same : x ≡ set_in l) where
+module _ (rules : List TriggerView) (base : HappenedView) (s : Status) (l : Listed) (x : HappenedView) (same : x ≡ set_in l) where
   pub shown_by : x.signals ≡ base.signals → closed rules base s x ≡ true → (answer : Bool) → answer ≡ grounded_after rules base s x [] l.events → IsTrue answer ↔ IsShown rules base s l
   shown_by signals is_closed answer grounded = (
     λ t. record {
       is_closed = ap (closed rules base s) (sym same) ∙ is_closed;
-      signals = ap (λ (z : Happening). z.signals) (sym same) ∙ signals;
+      signals = ap (λ (z : HappenedView). z.signals) (sym same) ∙ signals;
       order = ap (λ z. grounded_after rules base s z [] l.events) (sym same) ∙ sym grounded ∙ t;
     },
     λ (k : IsShown rules base s l). grounded ∙ ap (λ z. grounded_after rules base s z [] l.events) same ∙ k.order,
   )
 
   pub not_by_signals : (x.signals ≡ base.signals → ⊥) → (answer : Bool) → answer ≡ false → IsTrue answer ↔ IsShown rules base s l
-  not_by_signals other answer none = (λ t. cc, λ (k : IsShown rules base s l). absurd (other (ap (λ (z : Happening). z.signals) same ∙ k.signals)))
+  not_by_signals other answer none = (λ t. cc, λ (k : IsShown rules base s l). absurd (other (ap (λ (z : HappenedView). z.signals) same ∙ k.signals)))
 
   pub not_by_closed : closed rules base s x ≡ false → (answer : Bool) → answer ≡ false → IsTrue answer ↔ IsShown rules base s l
   not_by_closed gap answer none = (λ t. cc, λ (k : IsShown rules base s l). absurd (clash (closed rules base s x) (ap (closed rules base s) same ∙ k.is_closed) gap))
@@ -97,7 +97,7 @@ module _ (rules : List Rule) (base : Happening) (s : Status) (l : Listed) (x : H
       clash false p q = cc
 
 -- the next event of an order, by whether it has support
-pub next_grounded : (rules : List Rule) (base : Happening) (s : Status) (x : Happening) (earlier order : List Prioritised) (i : ℕ) (e : Prioritised) (answer : Bool) → drop i order ≡ e ∷ drop (i + 1) order
+pub next_grounded : (rules : List TriggerView) (base : HappenedView) (s : Status) (x : HappenedView) (earlier order : List Prioritised) (i : ℕ) (e : Prioritised) (answer : Bool) → drop i order ≡ e ∷ drop (i + 1) order
     → answer ≡ supported rules base s x earlier e → grounded_after rules base s x earlier (drop i order) ≡ (answer && grounded_after rules base s x (e ∷ earlier) (drop (i + 1) order))
 next_grounded rules base s x earlier order i e answer cut is =
     ap (grounded_after rules base s x earlier) cut ∙ ap (λ b. b && grounded_after rules base s x (e ∷ earlier) (drop (i + 1) order)) (sym is)

@@ -4,8 +4,8 @@ use Rattle.std.specs.List.{list_any}
 use Rattle.std.specs.Ordering.{eq_by_cmp}
 use Rattle.std.proofs.lemmas.Bool.{leb-true, eqb-true, eqb-false, eq-eqb, ne_eqb}
 use Rattle.gt_base.specs.Bounds.{last_minute}
-use Rattle.gt_base.specs.Held.{Rule}
-use Rattle.gt_base.specs.Happening.{Happening, nothing}
+use Rattle.gt_base.specs.Held.{TriggerView}
+use Rattle.gt_base.specs.Happening.{HappenedView, nothing}
 use Rattle.gt_base.specs.Machines.{ticked}
 use Rattle.gt_base.specs.Orders.{prioritised_cmp}
 use Rattle.gt_base.specs.Sets.{has, set_of}
@@ -65,7 +65,7 @@ waiting_other now t w ne = λ i. elim (ne_eqb t (now + 1) ne i) [ true ↦ w | f
 
 -- the heads that one trigger has on their way to t after the stop, those before and the one that joins
 module _ (p : Policy) (birth : ℕ) (m : Model) (now to t : ℕ) (e : Prioritised) (lt : now < to) (past : to < t) (before : Status) (st : status p birth m (to - 1) ≡ before) where
-  one_joins : (r : Rule)
+  one_joins : (r : TriggerView)
       → known_head p birth m to t r ≡ elim (nat_lt 0 r.delay && nat_eq (t - r.delay) to) [ true ↦ when (met r (m to) (status p birth m (to - 1))) r.head | false ↦ known_head p birth m now t r ]
       → (any_of e (known_head p birth m now t r) || any_of e (joins_at before (m to) to t r)) ≡ any_of e (known_head p birth m to t r)
   one_joins r heads = by (nat_lt 0 r.delay && nat_eq (t - r.delay) to) refl ∙ ap (any_of e) (sym heads)
@@ -101,8 +101,8 @@ module _ (p : Policy) (birth : ℕ) (m : Model) (now to t : ℕ) (e : Prioritise
               let due : to + r.delay ≡ t = eqb-true (to + r.delay) t (both_true (nat_lt 0 r.delay) (nat_eq (to + r.delay) t) parts.0).1 in
               clash (nat_lt 0 r.delay && nat_eq u to) (λ i. d i && eq-eqb u to (omega (arith, due)) i) q)
 
-  all_join : (rules : List Rule)
-      → ((r : Rule) → Elem rules r → (any_of e (known_head p birth m now t r) || any_of e (joins_at before (m to) to t r)) ≡ any_of e (known_head p birth m to t r))
+  all_join : (rules : List TriggerView)
+      → ((r : TriggerView) → Elem rules r → (any_of e (known_head p birth m now t r) || any_of e (joins_at before (m to) to t r)) ≡ any_of e (known_head p birth m to t r))
       → (any_of e (flat_map (known_head p birth m now t) rules) || any_of e (flat_map (joins_at before (m to) to t) rules)) ≡ any_of e (flat_map (known_head p birth m to t) rules)
   all_join [] each = refl
   all_join (r ∷ rs) each =
@@ -233,7 +233,7 @@ module _ (p : Policy) (is : IsPolicy p) (birth : ℕ) (m : Model) (g rest : List
       (λ x. has-set_of prioritised_cmp_total (raised_at p birth m g to) x ∙ raised_listed within x ∙ sym (has-set_of prioritised_cmp_total (raised_in p s to) x)) in
       prefix_base to (omega arith) ∙ (λ i. record { events = events i; signals = set_of (signals_are i) })
 
-  module _ (s' : Replay) (x : Happening) (set : x ≡ m to) (c : IsClosed p s x to s') where
+  module _ (s' : Replay) (x : HappenedView) (set : x ≡ m to) (c : IsClosed p s x to s') where
     status_to : (f : Fluent) → status p birth m to f ≡ after x (has s.status.set) f
     status_to f =
         let j : ℕ = to - 1 - birth in
@@ -261,7 +261,7 @@ module _ (p : Policy) (is : IsPolicy p) (birth : ℕ) (m : Model) (g rest : List
         let n : ℕ = now_of birth g in
         let old : List Prioritised = flat_map (known_head p birth m n t) p.triggers in
         let joins : List Prioritised = flat_map (joins_at (has s.status.set) (m to) to t) p.triggers in
-        ap (any_of y) (c.due t within ∙ ap (λ (z : Happening). due_in s t ++ flat_map (joins_at (has s.status.set) z to t) p.triggers) set)
+        ap (any_of y) (c.due t within ∙ ap (λ (z : HappenedView). due_in s t ++ flat_map (joins_at (has s.status.set) z to t) p.triggers) set)
         ∙ any-append (eq_by_cmp prioritised_cmp y) (due_in s t) joins
         ∙ ap (λ b. b || any_of y joins) (r.due t y (omega (arith, past, later)) within ∙ any-append (eq_by_cmp prioritised_cmp y) (requested g t) old)
         ∙ or_assoc (any_of y (requested g t)) (any_of y old) (any_of y joins)

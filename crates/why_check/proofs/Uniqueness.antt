@@ -1,8 +1,8 @@
 -- A certificate of a history is its execution model.
 use Rattle.std.proofs.Common.{◌≡◌, ℕ, ◌-◌, ◌<◌, ◌≤◌, true, false, ◌||◌, List, [], ◌∷◌, Option, Some, None, IsTrue, inl, inr, refl, sym, ◌∙◌, ap, subst, arith}
 use Rattle.std.specs.Prelude.{All}
-use Rattle.gt_base.specs.Held.{Rule}
-use Rattle.gt_base.specs.Happening.{Happening, nothing}
+use Rattle.gt_base.specs.Held.{TriggerView}
+use Rattle.gt_base.specs.Happening.{HappenedView, nothing}
 use Rattle.gt_base.specs.Orders.{prioritised_cmp, signal_cmp}
 use Rattle.gt_base.specs.Sets.{has, none, set_of, with_member}
 use Rattle.gt_base.specs.declared.events.Prioritised.{Prioritised}
@@ -29,10 +29,10 @@ use Rattle.history_laws.proofs.Quieting.{settles_nothing}
 use Rattle.why_check.specs.Certificates.{Listed, set_in, set_at, says_something, listed_at, model_in, Ascends, IsShown, IsRight, Accepts}
 use Rattle.why_check.specs.Laws.{AcceptedIsModel, AcceptedIsTheModel, AcceptedTells}
 
-shown_settled : (rules : List Rule) (base : Happening) (s : Status) (l : Listed) → IsShown rules base s l → Settled rules base s (set_in l)
+shown_settled : (rules : List TriggerView) (base : HappenedView) (s : Status) (l : Listed) → IsShown rules base s l → Settled rules base s (set_in l)
 shown_settled rules base s l is = record { is_closed = is.is_closed; order = l.events; grounding = record { lists = refl; grounds = is.order }; signals = is.signals }
 
-right_settled : (p : Policy) → IsPolicy p → (base : Happening) (s : Status) (o : Option Listed) → IsRight p.triggers base s o → Settled p.triggers base s (set_at o)
+right_settled : (p : Policy) → IsPolicy p → (base : HappenedView) (s : Status) (o : Option Listed) → IsRight p.triggers base s o → Settled p.triggers base s (set_at o)
 right_settled p is base s None right = subst (λ b. Settled p.triggers b s nothing) (sym right) (quiet.quiet_settles p.triggers s is.causes)
 right_settled p is base s (Some l) right = shown_settled p.triggers base s l right
 
@@ -48,8 +48,8 @@ pub accepted_tells : AcceptedTells
 accepted_tells p is safe birth h cert m ok of_m t a b l at e =
     let same : set_in l ≡ m t = ap set_at (sym at) ∙ accepted_is_the_model p is safe birth h cert m ok of_m t a b in
     record {
-      there = λ k. ap (λ (x : Happening). has x.events e) (sym same) ∙ k;
-      blocked_there = λ k. ap (λ (x : Happening). blocked x e) (sym same) ∙ k;
+      there = λ k. ap (λ (x : HappenedView). has x.events e) (sym same) ∙ k;
+      blocked_there = λ k. ap (λ (x : HappenedView). blocked x e) (sym same) ∙ k;
     }
 
 -- a list with an item is no empty set
@@ -68,13 +68,13 @@ some_signal (x ∷ xs) some is =
     cc
 
 -- over an empty base nothing is shown
-pub shown_over_nothing : (p : Policy) → IsPolicy p → (base : Happening) (s : Status) (l : Listed) → base ≡ nothing → says_something l ≡ true → IsShown p.triggers base s l → ⊥
+pub shown_over_nothing : (p : Policy) → IsPolicy p → (base : HappenedView) (s : Status) (l : Listed) → base ≡ nothing → says_something l ≡ true → IsShown p.triggers base s l → ⊥
 shown_over_nothing p is base s l empty says shown =
     let settled : Settled p.triggers nothing s (set_in l) = subst (λ b. Settled p.triggers b s (set_in l)) empty (shown_settled p.triggers base s l shown) in
     let same : set_in l ≡ nothing = (settles_nothing p.triggers is.causes s).only (set_in l) settled in
     elim (either_true (is_some_item l.events) (is_some_item l.signals) says) [
-      | inl e ↦ some_event l.events e (ap (λ (x : Happening). x.events) same)
-      | inr e ↦ some_signal l.signals e (ap (λ (x : Happening). x.signals) same)
+      | inl e ↦ some_event l.events e (ap (λ (x : HappenedView). x.events) same)
+      | inr e ↦ some_signal l.signals e (ap (λ (x : HappenedView). x.signals) same)
     ]
 
 module _ (p : Policy) (is : IsPolicy p) (safe : IsSafe p.triggers) (birth : ℕ) (h : List Entry) (m : Model) (of_m : IsExecutionModel p birth h m) where

@@ -1,7 +1,7 @@
 -- Certificates: what is said to happen at each instant of a history, in an order that shows why.
 use Rattle.std.specs.Prelude.{◌≡◌, ℕ, ◌-◌, ◌<◌, ◌≤◌, Bool, true, false, ◌||◌, nat_eq, List, [], ◌∷◌, Option, Some, None, IsTrue, All}
-use Rattle.gt_base.specs.Held.{Rule}
-use Rattle.gt_base.specs.Happening.{Happening, nothing}
+use Rattle.gt_base.specs.Held.{TriggerView}
+use Rattle.gt_base.specs.Happening.{HappenedView, nothing}
 use Rattle.gt_base.specs.Sets.{set_of}
 use Rattle.gt_base.specs.declared.events.Prioritised.{Prioritised}
 use Rattle.gt_base.specs.declared.events.Signal.{Signal}
@@ -20,7 +20,7 @@ pub record Listed : Type 0 where
   pub signals : List Signal
 
 -- the same as a set
-abbrev pub set_in : Listed → Happening
+abbrev pub set_in : Listed → HappenedView
 set_in l = record { events = set_of l.events; signals = set_of l.signals }
 
 -- it has an event or a signal
@@ -33,7 +33,7 @@ listed_at [] t = None
 listed_at (l ∷ ls) t = elim (nat_eq l.at t) [ true ↦ Some l | false ↦ listed_at ls t ]
 
 -- the certificate as a model: nothing at an instant that it does not list
-abbrev pub set_at : Option Listed → Happening
+abbrev pub set_at : Option Listed → HappenedView
 set_at None = nothing
 set_at (Some l) = set_in l
 
@@ -46,13 +46,13 @@ Ascends first last [] = Unit {0}
 Ascends first last (l ∷ ls) = (first < l.at) × (l.at ≤ last) × Ascends l.at last ls
 
 -- the set is closed over the base, its signals are those of the base, and its order supports it
-pub record IsShown (rules : List Rule) (base : Happening) (s : Status) (l : Listed) : Type 0 where
+pub record IsShown (rules : List TriggerView) (base : HappenedView) (s : Status) (l : Listed) : Type 0 where
   pub is_closed : IsTrue (closed rules base s (set_in l))
   pub signals : (set_in l).signals ≡ base.signals
   pub order : IsTrue (grounded_after rules base s (set_in l) [] l.events)
 
 -- an instant that is not listed has an empty base
-abbrev pub IsRight : List Rule → Happening → Status → Option Listed → Type 0
+abbrev pub IsRight : List TriggerView → HappenedView → Status → Option Listed → Type 0
 IsRight rules base s None = base ≡ nothing
 IsRight rules base s (Some l) = IsShown rules base s l
 

@@ -3,8 +3,8 @@ use Rattle.std.specs.Prelude.{◌≡◌, ℕ, ◌+◌, ◌<◌, ◌≤◌, true,
 use Rattle.std.specs.List.{list_any}
 use Rattle.std.specs.Ordering.{eq_by_cmp}
 use Rattle.gt_base.specs.Bounds.{last_minute}
-use Rattle.gt_base.specs.Held.{Rule}
-use Rattle.gt_base.specs.Happening.{Happening}
+use Rattle.gt_base.specs.Held.{TriggerView}
+use Rattle.gt_base.specs.Happening.{HappenedView}
 use Rattle.gt_base.specs.Orders.{prioritised_cmp}
 use Rattle.gt_base.specs.Sets.{has, set_of}
 use Rattle.gt_base.specs.declared.events.Fluent.{Fluent}
@@ -47,7 +47,7 @@ waiting_for now waiting t = elim (nat_eq t (now + 1)) [ true ↦ waiting | false
 abbrev pub raised_in : Policy → Replay → ℕ → List Prioritised
 raised_in p s t = (periodic p s.ages.birth t ++ due_in s t) ++ limited p (has s.status.set) (since_in s.ages) t
 
-abbrev pub base_in : Policy → Replay → ℕ → Happening
+abbrev pub base_in : Policy → Replay → ℕ → HappenedView
 base_in p s t = record { events = set_of (raised_in p s t); signals = set_of (waiting_for s.present s.waiting.items t) }
 
 -- the table with the signals that wait
@@ -88,11 +88,11 @@ pub record IsAnsweredAt (edges : List HierEdge) (caps : List Caps) (s : Status) 
   pub is : reply ≡ reply_of (record policy { edges = edges; caps = caps }) (record point { now = now; status = s; table = tb }) actor request
 
 -- the head of a delayed trigger that is met at an instant is due at t
-abbrev pub joins_at : Status → Happening → ℕ → ℕ → Rule → List Prioritised
+abbrev pub joins_at : Status → HappenedView → ℕ → ℕ → TriggerView → List Prioritised
 joins_at before x at t r = when (nat_lt 0 r.delay && nat_eq (at + r.delay) t && met r x before) r.head
 
 -- the state after an instant is closed with its set
-pub record IsClosed (p : Policy) (s : Replay) (x : Happening) (to : ℕ) (s' : Replay) : Type 0 where
+pub record IsClosed (p : Policy) (s : Replay) (x : HappenedView) (to : ℕ) (s' : Replay) : Type 0 where
   pub now : s'.present ≡ to
   pub born : s'.ages.birth ≡ s.ages.birth
   pub status : (f : Fluent) → has s'.status.set f ≡ after x (has s.status.set) f
@@ -112,7 +112,7 @@ pub record IsAsked (s : Replay) (actor : Actor) (request : Request) (reply : Rep
   pub begun : s'.table.begun ≤ s.table.begun + 1
 
 -- the listing is of the instant, says something and is shown there
-pub record IsGood (p : Policy) (base : Happening) (s : Status) (to : ℕ) (l : Listed) : Type 0 where
+pub record IsGood (p : Policy) (base : HappenedView) (s : Status) (to : ℕ) (l : Listed) : Type 0 where
   pub at : l.at ≡ to
   pub says : IsTrue (says_something l)
   pub shown : IsShown p.triggers base s l

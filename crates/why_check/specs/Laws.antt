@@ -1,6 +1,6 @@
 -- What an accepted certificate says.
 use Rattle.std.specs.Prelude.{◌≡◌, ℕ, ◌<◌, ◌≤◌, List, Some, IsTrue}
-use Rattle.gt_base.specs.Happening.{Happening}
+use Rattle.gt_base.specs.Happening.{HappenedView}
 use Rattle.gt_base.specs.Sets.{has}
 use Rattle.gt_base.specs.declared.events.Prioritised.{Prioritised}
 use Rattle.gt_base.specs.declared.requests.Entry.{Entry}
@@ -24,7 +24,7 @@ AcceptedIsTheModel =
     → Accepts p birth h cert → IsExecutionModel p birth h m → SameUpTo birth (now_of birth h) (model_in cert) m
 
 -- an event that is listed is in the set, and blocked in the set where it is blocked among those listed
-pub record Tells (x : Happening) (l : Listed) (e : Prioritised) : Type 0 where
+pub record Tells (x : HappenedView) (l : Listed) (e : Prioritised) : Type 0 where
   pub there : IsTrue (has (set_in l).events e) → IsTrue (has x.events e)
   pub blocked_there : IsTrue (blocked (set_in l) e) → IsTrue (blocked x e)
 

@@ -1,7 +1,7 @@
 -- What a step has to do with the next listing of a certificate.
 use Rattle.std.specs.Prelude.{◌≡◌, ◌⊎◌, ℕ, ◌-◌, ◌<◌, ◌≤◌, ◌^◌, List, Option, Some, None, All, IsTrue}
 use Rattle.gt_base.specs.Bounds.{last_minute}
-use Rattle.gt_base.specs.Happening.{Happening, nothing}
+use Rattle.gt_base.specs.Happening.{HappenedView, nothing}
 use Rattle.gt_base.specs.Sets.{has}
 use Rattle.gt_base.specs.declared.requests.Step.{Step}
 use Rattle.gt_base.specs.declared.requests.Step.TheVariants.{Tick, Ask}
@@ -20,16 +20,16 @@ use Rattle.why_check.specs.declared.replays.Replay.{Replay}
 
 -- the certificate is wrong at the instant: the next listing is of an earlier one, or is of it and not good, or is of none so far while the
 -- base has something
-abbrev pub IsWrong : Policy → Happening → Status → ℕ → Option Listed → Type 0
+abbrev pub IsWrong : Policy → HappenedView → Status → ℕ → Option Listed → Type 0
 IsWrong p base s to None = base ≡ nothing → ⊥
 IsWrong p base s to (Some l) = (l.at < to) ⊎ (l.at ≡ to) × (IsGood p base s to l → ⊥) ⊎ (to < l.at) × (base ≡ nothing → ⊥)
 
-abbrev pub IsNext : Policy → Happening → Status → ℕ → Option Listed → Type 0
+abbrev pub IsNext : Policy → HappenedView → Status → ℕ → Option Listed → Type 0
 IsNext p base s to None = ⊥
 IsNext p base s to (Some l) = IsGood p base s to l
 
 -- the set that is listed next, or nothing
-abbrev pub set_next : Option Listed → Happening
+abbrev pub set_next : Option Listed → HappenedView
 set_next None = nothing
 set_next (Some l) = set_in l
 

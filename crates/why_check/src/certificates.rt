@@ -1,4 +1,4 @@
-//! Certificates.
+//! Certificates: what is claimed to have happened at each instant.
 ghost use Rattle.std.specs.Prelude.{◌≡◌, [], ◌∷◌, ◌++◌, length, OnOk, OnErr};
 
 use gt_base::{Instant, List, Memory, Prioritised, Signal};

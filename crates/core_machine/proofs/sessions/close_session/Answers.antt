@@ -22,4 +22,4 @@ returns-clause-err c = same_refused _ c.args.s.now c.make_room.new.s _ c.in_ok-m
 
 pub finish-requires-clause-spare : goal.finish-requires-clause-spare
 finish-requires-clause-spare c =
-    omega (arith, c.count_in-ending.ensures, c.in_ok-make_room.ensures.room.1, ap (λ (t : Table). count_by (in_session c.args.session) t.active) c.in_ok-make_room.ensures.same.table)
+    omega (arith, c.most_in-ending.ensures, c.in_ok-make_room.ensures.room.1, ap (λ (t : Table). count_by (in_session c.args.session) t.active) c.in_ok-make_room.ensures.same.table)

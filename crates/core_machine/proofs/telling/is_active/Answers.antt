@@ -1,5 +1,5 @@
 use Rattle.std.proofs.Common.{◌≡◌, refl, sym, ap, subst, ◌∙◌}
-use Rattle.gt_base.specs.Happening.{Happening, Fluents}
+use Rattle.gt_base.specs.Happening.{HappenedView, Fluents}
 use Rattle.gt_base.specs.Sets.{has}
 use Rattle.gt_base.specs.declared.policies.HierEdge.{HierEdge}
 use Rattle.gt_base.specs.declared.requests.Decision.{Decision}

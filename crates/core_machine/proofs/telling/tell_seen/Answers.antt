@@ -1,5 +1,5 @@
 use Rattle.std.proofs.Common.{◌≡◌, refl, sym, ap, subst, ◌∙◌}
-use Rattle.gt_base.specs.Happening.{Happening, Fluents}
+use Rattle.gt_base.specs.Happening.{HappenedView, Fluents}
 use Rattle.gt_base.specs.Sets.{has}
 use Rattle.gt_base.specs.declared.policies.HierEdge.{HierEdge}
 use Rattle.gt_base.specs.declared.requests.Decision.{Decision}
@@ -15,7 +15,7 @@ use Rattle.core_machine.proofs.Hierarchies.{hierarchy_of}
 use Rattle.core_machine.proofs.telling.tell_seen.Goals as goal
 
 pub tell-requires-clause-answer : goal.tell-requires-clause-answer
-tell-requires-clause-answer c = record { is = ap (λ b. Event b) (sym (c.seen.ensures ∙ ap (λ (x : Happening). seen x c.args.event) c.happened.ensures)) }
+tell-requires-clause-answer c = record { is = ap (λ b. Event b) (sym (c.seen.ensures ∙ ap (λ (x : HappenedView). seen x c.args.event) c.happened.ensures)) }
 
 pub tell-requires-clause-still : goal.tell-requires-clause-still
 tell-requires-clause-still c = record { queues = λ t. refl; leaves = λ now tb. refl }

@@ -2,7 +2,7 @@ use Rattle.std.proofs.Common.{◌≡◌, ℕ, ◌+◌, ◌≤◌, Bool, true, fa
 use Rattle.std.proofs.lemmas.Bool.{eq-eqb, ne_eqb}
 use Rattle.indexmap.specs.IndexSet.{insert_key}
 use Rattle.gt_base.specs.declared.events.Event.{Event}
-use Rattle.gt_base.specs.Held.{Rule}
+use Rattle.gt_base.specs.Held.{TriggerView}
 use Rattle.gtrbac_model.specs.Graph.{item_at}
 use Rattle.gtrbac_model.specs.Same.{lists, same_event}
 use Rattle.gtrbac_model.specs.Trigger.{immediate}
@@ -19,13 +19,13 @@ or_false true = refl
 or_false false = refl
 
 -- a delayed trigger gives no head
-kept : (triggers : List Rule) (t : ℕ) (r : Rule) (xs : List Event) (e : Event) (old : Bool) → item_at triggers t ≡ Some r → immediate r ≡ false
+kept : (triggers : List TriggerView) (t : ℕ) (r : TriggerView) (xs : List Event) (e : Event) (old : Bool) → item_at triggers t ≡ Some r → immediate r ≡ false
     → (lists same_event xs e || is_node (drop t triggers) e) ≡ old → (lists same_event xs e || is_node (drop (t + 1) triggers) e) ≡ old
 kept triggers t r xs e old is late h =
     head_step triggers t r xs e old is h xs (or_false (lists same_event xs e) ∙ ap (λ b. lists same_event xs e || (b && same_event r.head.event e)) (sym late))
 
 -- an immediate one gives its head
-joined : (triggers : List Rule) (t : ℕ) (r : Rule) (h : Event) (xs ys : List Event) (e : Event) (old : Bool) → item_at triggers t ≡ Some r → immediate r ≡ true → h ≡ r.head.event → ys ≡ insert_key event_eq xs h
+joined : (triggers : List TriggerView) (t : ℕ) (r : TriggerView) (h : Event) (xs ys : List Event) (e : Event) (old : Bool) → item_at triggers t ≡ Some r → immediate r ≡ true → h ≡ r.head.event → ys ≡ insert_key event_eq xs h
     → (lists same_event xs e || is_node (drop t triggers) e) ≡ old → (lists same_event ys e || is_node (drop (t + 1) triggers) e) ≡ old
 joined triggers t r h xs ys e old is now q keys k =
     head_step triggers t r xs e old is k ys

@@ -12,7 +12,7 @@ loop-place-init g c =
     let goals = g.Q.Question.goals c.args.asked.now in
     record {
       size = refl;
-      searched = ([], subst (λ q. Searched ok goals c.args.edges.now c.args.from.now 0 c.args.seen.now q [] 0 0 0) (sym c.new-queue.ensures.items) (search_nothing ok goals c.args.edges.now c.args.from.now c.args.seen.now c.requires.unmarked));
+      searched = ([], subst (λ q. Searched ok goals c.args.edges.now c.args.from.now 0 c.args.seen.now q [] 0 0 0) (sym c.in_ok-queue.ensures.items) (search_nothing ok goals c.args.edges.now c.args.from.now c.args.seen.now c.requires.unmarked));
     }
 
 pub bounds-seen-role : goal.bounds-seen-role

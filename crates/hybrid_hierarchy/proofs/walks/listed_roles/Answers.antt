@@ -1,4 +1,4 @@
-use Rattle.std.proofs.Common.{◌≡◌, ℕ, ◌+◌, ◌<◌, ◌≤◌, [], ◌∷◌, ◌++◌, List, sym, ap, ◌∙◌, append_assoc, arith}
+use Rattle.std.proofs.Common.{ℕ, ◌+◌, [], ◌∷◌, ◌++◌, List, sym, ap, ◌∙◌, append_assoc, arith}
 use Rattle.gt_base.specs.declared.events.RoleId.{RoleId}
 use Rattle.hybrid_hierarchy.specs.Searches.{listed_from}
 use Rattle.hybrid_hierarchy.proofs.Listing.{listed_all, ends}

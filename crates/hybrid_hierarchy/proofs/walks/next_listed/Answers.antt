@@ -1,4 +1,4 @@
-use Rattle.std.proofs.Common.{◌≡◌, ℕ, ◌+◌, ◌<◌, ◌≤◌, ◌&&◌, cond, nat_le, nat_lt, List, take, length, sym, ap, subst, ◌∙◌, arith}
+use Rattle.std.proofs.Common.{ℕ, ◌+◌, List, take, sym, subst}
 use Rattle.std.proofs.lemmas.List.{take_all}
 use Rattle.gt_base.specs.declared.events.RoleId.{RoleId}
 use Rattle.hybrid_hierarchy.proofs.Listing.{Nearest, nearest_start, nearest_more, listed_next, listed_no_more}

@@ -4,7 +4,7 @@ use Rattle.policy_words.specs.declared.sayings.Said.{Said}
 use Rattle.policy_words.specs.declared.faults.TextKind.{TextKind}
 use Rattle.policy_text.specs.Faults.{is_memory}
 use Rattle.policy_words.specs.Seen.{seen_said}
-use Rattle.policy_words.specs.Sayings.{Saying, is_saying}
+use Rattle.policy_words.specs.Sayings.{SaidView, is_saying}
 use Rattle.policy_words.specs.Reading.{Numbered, read_said, read_lines}
 use Rattle.policy_book.specs.Said.{are_before, is_placed}
 use Rattle.policy_words.specs.declared.versions.TextVersion.{TextVersion}
@@ -13,7 +13,7 @@ use Rattle.policy_text.specs.Lines.{behind, version_told}
 use Rattle.policy_text.proofs.LineByLine.{placed_there, told_more, behind_more, behind_fault, behind_all, silent_line, said_line, faulty_line, fault_told, before_later, before_with}
 use Rattle.policy_text.proofs.reading.read_policy.Goals as goal
 
-said_as : (o r : Option Said) → o ≡ r → ◌≡◌ {A = Result (Option Saying) TextKind} (Ok (option_map seen_said o)) (Ok (option_map seen_said r))
+said_as : (o r : Option Said) → o ≡ r → ◌≡◌ {A = Result (Option SaidView) TextKind} (Ok (option_map seen_said o)) (Ok (option_map seen_said r))
 said_as o r e = ap (λ (x : Option Said). Ok (option_map seen_said x)) e
 
 pub loop-line-preserved-in-Ok-None : goal.loop-line-preserved-in-Ok-None
@@ -31,7 +31,7 @@ loop-line-preserved-in-Ok-None c =
 pub add-requires-clause-said : goal.add-requires-clause-said
 add-requires-clause-said c = subst (λ (o : Option Said). IfSome o (λ s. IsTrue (is_saying (seen_said s)))) c.in-Ok-Some.field-0-is c.in-Ok-Some.ensures.saying
 
-placed_so : (ss : List (Numbered Saying)) (v : TextVersion) (line : List _) (o r : Option Said) → version_told ss ≡ v → read_said v line ≡ Ok (option_map seen_said o) → o ≡ r
+placed_so : (ss : List (Numbered SaidView)) (v : TextVersion) (line : List _) (o r : Option Said) → version_told ss ≡ v → read_said v line ≡ Ok (option_map seen_said o) → o ≡ r
     → IfSome r (λ s. IsTrue (is_placed ss (seen_said s)))
 placed_so ss v line o None told read e = tt
 placed_so ss v line o (Some s) told read e = placed_there ss v line (seen_said s) told (read ∙ said_as _ _ e)
@@ -44,7 +44,7 @@ pub loop-line-preserved : goal.loop-line-preserved
 loop-line-preserved c =
     let inv = c.loop-line.invariant in
     let n = c.loop-line.number + 1 in
-    let s : Saying = seen_said c.in-Ok-Some.said in
+    let s : SaidView = seen_said c.in-Ok-Some.said in
     let added = c.in_ok-add-in-Ok-Some.ensures.ok in
     let there = placed_so c.loop-line.parts c.loop-line.version c.in-Some.line.now _ (Some c.in-Ok-Some.said) inv.told c.in-Ok-Some.ensures.ok c.in-Ok-Some.field-0-is in
     let version = c.after-next.ensures in
@@ -54,7 +54,7 @@ loop-line-preserved c =
           ∙ ap (behind c.loop-line.parts) (sym (said_line c.loop-line.version n c.in-Some.line.now c.next.new.self s (c.in-Ok-Some.ensures.ok ∙ said_as _ _ c.in-Ok-Some.field-0-is)))
           ∙ ap (λ (ls : List (List _)). behind c.loop-line.parts (read_lines c.loop-line.version n ls)) (sym c.in-Some.ensures.steps) ∙ inv.read;
       told = ap version_told added ∙ told_more c.loop-line.parts (record { line = n; it = s }) there ∙ ap (λ v. version_after v s) inv.told ∙ sym version;
-      before = subst (λ (ss : List (Numbered Saying)). are_before (n + 1) ss ≡ true) (sym added) (before_with n c.loop-line.parts s inv.before);
+      before = subst (λ (ss : List (Numbered SaidView)). are_before (n + 1) ss ≡ true) (sym added) (before_with n c.loop-line.parts s inv.before);
       count = omega (arith, inv.count, ap length c.in-Some.ensures.steps);
     }
 

@@ -1,4 +1,4 @@
-use Rattle.std.proofs.Common.{◌≡◌, Bool, true, false, cond, ◌&&◌, nat_eq, Option, Some, None, is_some, is_none, not, IfSome, refl, sym, ap, subst, ◌∙◌}
+use Rattle.std.proofs.Common.{◌≡◌, Bool, true, false, cond, nat_eq, Option, Some, None, is_some, is_none, not, IfSome, refl, sym, ap, subst, ◌∙◌}
 use Rattle.std.proofs.lemmas.Bool.{eqb-true}
 use Rattle.gt_base.specs.declared.events.RoleId.{RoleId}
 use Rattle.gt_base.specs.declared.events.UserId.{UserId}
@@ -13,6 +13,9 @@ use Rattle.session_table.proofs.dropping.is_barred.Goals as goal
 pub returns-then-is_assigned-clause-barred : goal.returns-then-is_assigned-clause-barred
 returns-then-is_assigned-clause-barred c =
     ap is_none (sym (standing_walk c.args.hierarchy.now (usable (has c.args.status.now.set) false) (λ r. has c.args.status.now.set (Assigned c.args.user r)) c.args.role (sym c.is_assigned.ensures ∙ c.if-is_assigned.true)))
+
+pub returns-then-has_stood-clause-barred : goal.returns-then-has_stood-clause-barred
+returns-then-has_stood-clause-barred c = sym (c.has_stood.ensures c.if-has_stood.true)
 
 told : (o old : Option Bool) (e v want : Bool) → o ≡ cond e (Some v) old → IfSome old (λ b. b ≡ want) → (e ≡ true → v ≡ want) → IfSome o (λ b. b ≡ want)
 told o old true v want is h g = subst (λ x. IfSome x (λ b. b ≡ want)) (sym is) (g refl)
@@ -35,4 +38,4 @@ returns-clause-known c = λ u r.
     let (p, q) = both_true (nat_eq c.args.user.0 u.0) (nat_eq c.args.role.0 r.0) e in
     let a = eqb-true c.args.user.0 u.0 p in
     let b = eqb-true c.args.role.0 r.0 q in
-    not_not c.is_none-barred.result ∙ ap not (sym c.is_none-barred.ensures) ∙ not_some c.in_ok-may_activate.field-0 ∙ ap is_none c.in_ok-may_activate.ensures ∙ (λ i. barred (record { 0 = a i }) (record { 0 = b i })))
+    not_not c.is_none-barred.result ∙ ap not (sym c.is_none-barred.ensures) ∙ not_some c.in_ok-found.found ∙ ap is_none c.in_ok-found.ensures ∙ (λ i. barred (record { 0 = a i }) (record { 0 = b i })))

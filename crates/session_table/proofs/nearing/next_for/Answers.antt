@@ -1,4 +1,4 @@
-use Rattle.std.proofs.Common.{◌≡◌, ℕ, ◌+◌, ◌-◌, ◌*◌, count_by}
+use Rattle.std.proofs.Common.{◌+◌, ◌-◌, ◌*◌, count_by}
 use Rattle.gtrbac_model.specs.Calendar.{day_of}
 use Rattle.gtrbac_model.specs.Sessions.{reached, is_of}
 use Rattle.history_laws.specs.Tables.{minutes_of_day}

@@ -1,7 +1,6 @@
-use Rattle.std.proofs.Common.{rules, of_calls, not}
-use Rattle.std.proofs.lemmas.Fn.{filter_same}
-use Rattle.session_table.specs.Opened.{numbered}
+use Rattle.std.proofs.Common.{◌∙◌}
+use Rattle.session_table.proofs.Numbering.{cut_out}
 use Rattle.session_table.proofs.opened.shut.Goals as goal
 
 pub returns : goal.returns
-returns c = filter_same _ (λ o. not (numbered c.args.number o)) _ (λ x b f h. search (rules, of_calls)) _ _ c.retain.ensures.filtered
+returns c = λ n stands. c.remove.ensures.items ∙ cut_out c.args.sessions.now.items c.requires.numbered n c.args.at stands

@@ -1,5 +1,5 @@
 use Rattle.std.proofs.Common.{◌++◌, List, nat_eq, take, flat_map, append_assoc, sym, ◌∙◌, ap}
-use Rattle.gt_base.specs.Held.{Rule}
+use Rattle.gt_base.specs.Held.{TriggerView}
 use Rattle.gt_base.specs.declared.events.Prioritised.{Prioritised}
 use Rattle.gt_base.specs.Sets.{has}
 use Rattle.indexmap.specs.IndexMap.{get}
@@ -9,7 +9,7 @@ use Rattle.why_check.proofs.bases.put_heads.Goals as goal
 
 pub loop-r-preserved : goal.loop-r-preserved
 loop-r-preserved c = λ k within.
-    let f : Rule → List Prioritised = joins_at (has c.args.before.now.set) c.args.x.now c.args.at k in
+    let f : TriggerView → List Prioritised = joins_at (has c.args.before.now.set) c.args.x.now c.args.at k in
     let old : List Prioritised = under (get nat_eq c.args.due.now k) (λ v. v.items) in
     let front : List Prioritised = flat_map f (take c.loop-r.r-index c.args.rules.now) in
     c.in_ok-put_head.ensures k within

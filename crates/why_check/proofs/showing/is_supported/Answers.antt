@@ -1,7 +1,7 @@
 use Rattle.std.proofs.Common.{◌≡◌, ◌+◌, Bool, ◌&&◌, ◌||◌, not, List, [], ◌∷◌, drop, sym, refl, ◌∙◌, ap, arith}
 use Rattle.std.specs.List.{list_all, list_any}
 use Rattle.std.proofs.lemmas.List.{drop_more}
-use Rattle.gt_base.specs.Held.{Rule}
+use Rattle.gt_base.specs.Held.{TriggerView}
 use Rattle.gt_base.specs.Orders.{event_cmp}
 use Rattle.gt_base.specs.Sets.{has}
 use Rattle.gt_base.specs.declared.events.Event.{Event}
@@ -28,7 +28,7 @@ next : (c : After-has_support)
     → grounded_after c.args.rules.now c.args.base.now.set (has c.args.before.now.set) c.args.x.now [] c.args.order.now
     ≡ (c.has_support.result && grounded_after c.args.rules.now c.args.base.now.set (has c.args.before.now.set) c.args.x.now (c.e-item.result ∷ c.loop-e.invariant.earlier) (drop (c.loop-e.e-index + 1) c.args.order.now))
 next c =
-    let rules : List Rule = c.args.rules.now in
+    let rules : List TriggerView = c.args.rules.now in
     let st = has c.args.before.now.set in
     let x = c.args.x.now in
     let e : Prioritised = c.e-item.result in
@@ -37,7 +37,7 @@ next c =
     ∙ next_grounded rules c.args.base.now.set st x inv.earlier c.args.order.now c.loop-e.e-index e c.has_support.result
     (drop_more c.args.order.now c.loop-e.e-index e c.loop-e-test.true ∙ ap (λ y. y ∷ drop (c.loop-e.e-index + 1) c.args.order.now) (sym c.e-item.is))
     (c.has_support.ensures
-    ∙ ap (λ (there : Event → Bool). has c.args.base.now.set.events e || list_any (λ (r : Rule). immediate r && same_prioritised r.head e && met r x st && list_all there r.events) rules) (λ i f. inv.standing f i))
+    ∙ ap (λ (there : Event → Bool). has c.args.base.now.set.events e || list_any (λ (r : TriggerView). immediate r && same_prioritised r.head e && met r x st && list_all there r.events) rules) (λ i f. inv.standing f i))
 
 pub returns-then-not-has_support : goal.returns-then-not-has_support
 returns-then-not-has_support c =

@@ -1,5 +1,5 @@
 use Rattle.std.proofs.Common.{List, ap, ◌∙◌}
-use Rattle.gt_base.specs.Held.{Rule}
+use Rattle.gt_base.specs.Held.{TriggerView}
 use Rattle.gt_base.specs.declared.events.UserId.{UserId}
 use Rattle.gt_base.specs.declared.events.Fluent.{Fluent}
 use Rattle.gt_base.specs.declared.policies.PeriodicEntry.{PeriodicEntry}
@@ -22,4 +22,4 @@ returns c =
     (◌∙◌ {A = List UserId} c.in_ok-add_user.ensures (ap (λ o. with_new same_user o old.admins.keys) c.admin_in.ensures))
     (◌∙◌ {A = List Fluent} c.in_ok-add_fluent.ensures (ap (λ o. with_new same_fluent o old.on_at_first.keys) c.opening_in.ensures))
     (◌∙◌ {A = List PeriodicEntry} c.in_ok-add_item-3.ensures (ap (λ o. with_item o old.entries.items) c.entry_in.ensures))
-    (◌∙◌ {A = List Rule} c.in_ok-add_item-4.ensures (ap (λ o. with_item o old.triggers.items) c.in_ok-trigger_in.ensures))
+    (◌∙◌ {A = List TriggerView} c.in_ok-add_item-4.ensures (ap (λ o. with_item o old.triggers.items) c.in_ok-trigger_in.ensures))

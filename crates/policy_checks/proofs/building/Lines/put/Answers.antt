@@ -1,5 +1,5 @@
 use Rattle.std.proofs.Common.{◌≡◌, true, not, ◌&&◌, ◌||◌, ◌+◌, List, [], ◌∷◌, ap, refl, sym, subst}
-use Rattle.policy_words.specs.Sayings.{Saying}
+use Rattle.policy_words.specs.Sayings.{SaidView}
 use Rattle.policy_words.specs.Reading.{Numbered}
 use Rattle.policy_words.specs.Seen.{seen_said}
 use Rattle.policy_words.specs.Making.{is_second}
@@ -15,6 +15,6 @@ invariant_of-result c =
 pub add-requires-clause-placed : goal.add-requires-clause-placed
 add-requires-clause-placed c = by c.args.self.parts
   where
-    by : (ss : List (Numbered Saying)) → is_placed ss (seen_said c.args.said) ≡ true
+    by : (ss : List (Numbered SaidView)) → is_placed ss (seen_said c.args.said) ≡ true
     by [] = ap not c.requires.edge
     by (first ∷ more) = λ i. not (c.requires.version i) && (not (c.requires.edge i) || is_second first.it)

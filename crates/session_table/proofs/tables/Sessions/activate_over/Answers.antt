@@ -1,4 +1,4 @@
-use Rattle.std.proofs.Common.{◌≡◌, false, set, [], ◌∷◌, ◌++◌, map, count_by, Some, None, IfSome, refl, sym, ap, subst, ◌∙◌, arith}
+use Rattle.std.proofs.Common.{◌≡◌, false, set, [], ◌∷◌, ◌++◌, map, count_by, Some, None, IfSome, refl, sym, ap, subst, ◌∙◌}
 use Rattle.std.specs.List.{slice_get, list_any}
 use Rattle.gt_base.specs.Sets.{has, with_member}
 use Rattle.gt_base.specs.declared.events.RoleId.{RoleId}
@@ -10,7 +10,7 @@ use Rattle.gtrbac_model.specs.Conflict.{Status}
 use Rattle.gtrbac_model.specs.Sessions.{Table, caps_of, is_of, is_active_in, owner_of}
 use Rattle.gtrbac_model.specs.Reply.{session_causes}
 use Rattle.session_table.specs.declared.opened.Open.{Open}
-use Rattle.session_table.specs.Opened.{opened}
+use Rattle.session_table.specs.Opened.{opened, Numbered}
 use Rattle.session_table.specs.Causes.{first_cause, StandsAt, early_causes, late_causes}
 use Rattle.session_table.specs.Charges.{charged_in}
 use Rattle.session_table.specs.Tables.{table_of}
@@ -21,6 +21,9 @@ use Rattle.session_table.proofs.Indexing.{kept_opened}
 use Rattle.session_table.proofs.Finding.{inside}
 use Rattle.session_table.proofs.Telling.{same_table, causes, owner, active_at}
 use Rattle.session_table.proofs.tables.Sessions.activate_over.Goals as goal
+
+pub owned-requires : goal.owned-requires
+owned-requires c = rw c.deref.ensures.value (c.self.inside.begun, c.self.invariant.numbered)
 
 pub returns-in-Err-clause-refused : goal.returns-in-Err-clause-refused
 returns-in-Err-clause-refused c =
@@ -42,7 +45,7 @@ returns-in-Some-clause-refused c =
     owner c.args.self.now c.self.inside.sessions.items (ap (λ v. v.sessions) c.self.view_is) n c.in-Ok.at u stands
     (subst (λ os. IfSome (slice_get os c.in-Ok.at) (λ o. u ≡ o.owner)) c.deref-2.ensures.value c.owner_at-user.ensures) in
     let there : c.has_role-is_active.result ≡ list_any (is_active_in n r) c.self.inside.active.items =
-    active_at c.self.inside.sessions.items c.self.inside.active.items c.self.inside.charges.entries c.self.inside.charged_to c.self.invariant n c.in-Ok.at stands r c.has_role-is_active.result
+    active_at c.self.inside.sessions.items c.self.inside.active.items c.self.inside.charges.entries c.self.inside.charged_to c.self.invariant.kept n c.in-Ok.at stands r c.has_role-is_active.result
     (subst (λ os. IfSome (slice_get os c.in-Ok.at) (λ o. c.has_role-is_active.result ≡ has o.roles r)) c.deref-3.ensures.value c.has_role-is_active.ensures) in
     let early_is : c.early_refusal.result ≡ first_cause (early_causes s (list_any (is_active_in n r) tv.active) r) =
     c.early_refusal.ensures ∙ ap (λ b. first_cause (early_causes s b r)) (there ∙ ap (λ v. list_any (is_active_in n r) v.active) c.self.view_is) in
@@ -62,7 +65,7 @@ returns-in_default-2-clause-refused c =
     owner c.args.self.now c.self.inside.sessions.items (ap (λ v. v.sessions) c.self.view_is) n c.in-Ok.at u stands
     (subst (λ os. IfSome (slice_get os c.in-Ok.at) (λ o. u ≡ o.owner)) c.deref-2.ensures.value c.owner_at-user.ensures) in
     let there : c.has_role-is_active.result ≡ list_any (is_active_in n r) c.self.inside.active.items =
-    active_at c.self.inside.sessions.items c.self.inside.active.items c.self.inside.charges.entries c.self.inside.charged_to c.self.invariant n c.in-Ok.at stands r c.has_role-is_active.result
+    active_at c.self.inside.sessions.items c.self.inside.active.items c.self.inside.charges.entries c.self.inside.charged_to c.self.invariant.kept n c.in-Ok.at stands r c.has_role-is_active.result
     (subst (λ os. IfSome (slice_get os c.in-Ok.at) (λ o. c.has_role-is_active.result ≡ has o.roles r)) c.deref-3.ensures.value c.has_role-is_active.ensures) in
     let early_is : c.early_refusal.result ≡ first_cause (early_causes s (list_any (is_active_in n r) tv.active) r) =
     c.early_refusal.ensures ∙ ap (λ b. first_cause (early_causes s b r)) (there ∙ ap (λ v. list_any (is_active_in n r) v.active) c.self.view_is) in
@@ -70,11 +73,11 @@ returns-in_default-2-clause-refused c =
 
 pub late_refusal-requires-clause-all : goal.late_refusal-requires-clause-all
 late_refusal-requires-clause-all c =
-    rw c.deref-4.ensures.value (few_of_role c.self.inside.sessions.items c.self.inside.active.items c.self.inside.charges.entries c.self.inside.charged_to c.self.invariant c.args.role)
+    rw c.deref-4.ensures.value (few_of_role c.self.inside.sessions.items c.self.inside.active.items c.self.inside.charges.entries c.self.inside.charged_to c.self.invariant.kept c.args.role)
 
 pub late_refusal-requires-clause-own : goal.late_refusal-requires-clause-own
 late_refusal-requires-clause-own c =
-    rw c.deref-4.ensures.value (few_of c.self.inside.sessions.items c.self.inside.active.items c.self.inside.charges.entries c.self.inside.charged_to c.self.invariant c.owner_at-user.result c.args.role)
+    rw c.deref-4.ensures.value (few_of c.self.inside.sessions.items c.self.inside.active.items c.self.inside.charges.entries c.self.inside.charged_to c.self.invariant.kept c.owner_at-user.result c.args.role)
 
 pub returns-in-Some-late_refusal-clause-refused : goal.returns-in-Some-late_refusal-clause-refused
 returns-in-Some-late_refusal-clause-refused c =
@@ -90,7 +93,7 @@ returns-in-Some-late_refusal-clause-refused c =
     owner c.args.self.now c.self.inside.sessions.items (ap (λ v. v.sessions) c.self.view_is) n c.in-Ok.at u stands
     (subst (λ os. IfSome (slice_get os c.in-Ok.at) (λ o. u ≡ o.owner)) c.deref-2.ensures.value c.owner_at-user.ensures) in
     let there : c.has_role-is_active.result ≡ list_any (is_active_in n r) c.self.inside.active.items =
-    active_at c.self.inside.sessions.items c.self.inside.active.items c.self.inside.charges.entries c.self.inside.charged_to c.self.invariant n c.in-Ok.at stands r c.has_role-is_active.result
+    active_at c.self.inside.sessions.items c.self.inside.active.items c.self.inside.charges.entries c.self.inside.charged_to c.self.invariant.kept n c.in-Ok.at stands r c.has_role-is_active.result
     (subst (λ os. IfSome (slice_get os c.in-Ok.at) (λ o. c.has_role-is_active.result ≡ has o.roles r)) c.deref-3.ensures.value c.has_role-is_active.ensures) in
     let early_is : c.early_refusal.result ≡ first_cause (early_causes s (list_any (is_active_in n r) tv.active) r) =
     c.early_refusal.ensures ∙ ap (λ b. first_cause (early_causes s b r)) (there ∙ ap (λ v. list_any (is_active_in n r) v.active) c.self.view_is) in
@@ -118,7 +121,7 @@ invariant_of-self-2 c =
     owner c.args.self.now c.self.inside.sessions.items (ap (λ v. v.sessions) c.self.view_is) n c.in-Ok.at u stands
     (subst (λ os. IfSome (slice_get os c.in-Ok.at) (λ o. u ≡ o.owner)) c.deref-2.ensures.value c.owner_at-user.ensures) in
     let there : c.has_role-is_active.result ≡ list_any (is_active_in n r) c.self.inside.active.items =
-    active_at c.self.inside.sessions.items c.self.inside.active.items c.self.inside.charges.entries c.self.inside.charged_to c.self.invariant n c.in-Ok.at stands r c.has_role-is_active.result
+    active_at c.self.inside.sessions.items c.self.inside.active.items c.self.inside.charges.entries c.self.inside.charged_to c.self.invariant.kept n c.in-Ok.at stands r c.has_role-is_active.result
     (subst (λ os. IfSome (slice_get os c.in-Ok.at) (λ o. c.has_role-is_active.result ≡ has o.roles r)) c.deref-3.ensures.value c.has_role-is_active.ensures) in
     let early_is : c.early_refusal.result ≡ first_cause (early_causes s (list_any (is_active_in n r) tv.active) r) =
     c.early_refusal.ensures ∙ ap (λ b. first_cause (early_causes s b r)) (there ∙ ap (λ v. list_any (is_active_in n r) v.active) c.self.view_is) in
@@ -128,7 +131,11 @@ invariant_of-self-2 c =
     let joined : c.put.new.active.items ≡ c.self.inside.active.items ++ activation n u r c.args.now ∷ [] =
     c.put.ensures ∙ ap (λ xs. xs ++ activation n u r c.args.now ∷ []) c.in_ok-reserve.ensures.items in
     let fresh : list_any (is_active_in n r) c.self.inside.active.items ≡ false = sym there ∙ early_none s c.has_role-is_active.result r (sym c.early_refusal.ensures ∙ c.in_default.is) in
-    rw (new, joined) (entered c.self.inside.sessions.items c.self.inside.active.items c.self.inside.charges.entries c.self.inside.charged_to c.self.invariant n c.in-Ok.at stands o at r u c.args.now fresh)
+    record {
+      kept = rw (new, joined) (entered c.self.inside.sessions.items c.self.inside.active.items c.self.inside.charges.entries c.self.inside.charged_to c.self.invariant.kept n c.in-Ok.at stands o at r u c.args.now fresh);
+      numbered = subst (λ ss. Numbered 0 ss c.self.inside.begun)
+          (sym (ap (map opened) new ∙ kept_opened c.self.inside.sessions.items c.in-Ok.at o (record o { roles = with_member o.roles r }) at refl)) c.self.invariant.numbered;
+    }
 
 pub returns-clause-answer : goal.returns-clause-answer
 returns-clause-answer c =
@@ -144,7 +151,7 @@ returns-clause-answer c =
     owner c.args.self.now c.self.inside.sessions.items (ap (λ v. v.sessions) c.self.view_is) n c.in-Ok.at u stands
     (subst (λ os. IfSome (slice_get os c.in-Ok.at) (λ o. u ≡ o.owner)) c.deref-2.ensures.value c.owner_at-user.ensures) in
     let there : c.has_role-is_active.result ≡ list_any (is_active_in n r) c.self.inside.active.items =
-    active_at c.self.inside.sessions.items c.self.inside.active.items c.self.inside.charges.entries c.self.inside.charged_to c.self.invariant n c.in-Ok.at stands r c.has_role-is_active.result
+    active_at c.self.inside.sessions.items c.self.inside.active.items c.self.inside.charges.entries c.self.inside.charged_to c.self.invariant.kept n c.in-Ok.at stands r c.has_role-is_active.result
     (subst (λ os. IfSome (slice_get os c.in-Ok.at) (λ o. c.has_role-is_active.result ≡ has o.roles r)) c.deref-3.ensures.value c.has_role-is_active.ensures) in
     let early_is : c.early_refusal.result ≡ first_cause (early_causes s (list_any (is_active_in n r) tv.active) r) =
     c.early_refusal.ensures ∙ ap (λ b. first_cause (early_causes s b r)) (there ∙ ap (λ v. list_any (is_active_in n r) v.active) c.self.view_is) in
@@ -172,7 +179,7 @@ returns-clause-table c =
     owner c.args.self.now c.self.inside.sessions.items (ap (λ v. v.sessions) c.self.view_is) n c.in-Ok.at u stands
     (subst (λ os. IfSome (slice_get os c.in-Ok.at) (λ o. u ≡ o.owner)) c.deref-2.ensures.value c.owner_at-user.ensures) in
     let there : c.has_role-is_active.result ≡ list_any (is_active_in n r) c.self.inside.active.items =
-    active_at c.self.inside.sessions.items c.self.inside.active.items c.self.inside.charges.entries c.self.inside.charged_to c.self.invariant n c.in-Ok.at stands r c.has_role-is_active.result
+    active_at c.self.inside.sessions.items c.self.inside.active.items c.self.inside.charges.entries c.self.inside.charged_to c.self.invariant.kept n c.in-Ok.at stands r c.has_role-is_active.result
     (subst (λ os. IfSome (slice_get os c.in-Ok.at) (λ o. c.has_role-is_active.result ≡ has o.roles r)) c.deref-3.ensures.value c.has_role-is_active.ensures) in
     let early_is : c.early_refusal.result ≡ first_cause (early_causes s (list_any (is_active_in n r) tv.active) r) =
     c.early_refusal.ensures ∙ ap (λ b. first_cause (early_causes s b r)) (there ∙ ap (λ v. list_any (is_active_in n r) v.active) c.self.view_is) in

@@ -5,12 +5,13 @@ use Rattle.gtrbac_model.specs.Sessions.{Activation, is_of, is_dropped, signal_of
 use Rattle.history_laws.specs.Tables.{minutes_of_day}
 use Rattle.session_table.specs.declared.opened.Open.{Open}
 use Rattle.session_table.specs.declared.charges.Charge.{Charge}
-use Rattle.session_table.specs.Opened.{role_in}
+use Rattle.session_table.specs.Opened.{role_in, Numbered}
 use Rattle.session_table.specs.Charges.{charged_in}
 use Rattle.session_table.specs.Kept.{IsKept}
 use Rattle.session_table.specs.Plans.{DropsView}
 use Rattle.session_table.specs.Tables.{TableView, NotBefore, table_of, charged_through}
 use Rattle.session_table.proofs.Committing.{charges_fit, committed, survivors}
+use Rattle.session_table.proofs.Keeping.{listed}
 use Rattle.session_table.proofs.Telling.{same_table}
 use Rattle.session_table.proofs.tables.Sessions.commit_end.Goals as goal
 
@@ -24,7 +25,13 @@ charge_stretch-requires-clause-bound c = λ u r d.
     let order : c.d.inside.after < c.d.inside.to = omega (arith, now_is, to_is, c.requires.order) in
     let not_before : NotBefore c.self.inside.charged_to c.d.inside.after =
     subst (λ (v : TableView). NotBefore v.charged_to c.d.inside.after) (sym c.self.view_is) (subst (λ (d : DropsView). NotBefore c.args.self.now.charged_to d.after) (sym c.d.view_is) c.requires.not_before) in
-    rw c.deref.ensures.value (charges_fit os active rows c.self.inside.charged_to c.self.invariant c.d.inside.after c.d.inside.to order not_before u r d)
+    rw c.deref.ensures.value (charges_fit os active rows c.self.inside.charged_to c.self.invariant.kept c.d.inside.after c.d.inside.to order not_before u r d)
+
+pub take_out-requires-clause-numbered : goal.take_out-requires-clause-numbered
+take_out-requires-clause-numbered c = (c.self.inside.begun, c.self.invariant.numbered)
+
+pub take_out-requires-clause-listed : goal.take_out-requires-clause-listed
+take_out-requires-clause-listed c = λ i a is. c.self.invariant.kept.index a.session a.role ∙ listed c.self.inside.active.items i a is
 
 pub invariant_of-self : goal.invariant_of-self
 invariant_of-self c =
@@ -36,18 +43,20 @@ invariant_of-self c =
     let order : c.d.inside.after < c.d.inside.to = omega (arith, now_is, to_is, c.requires.order) in
     let not_before : NotBefore c.self.inside.charged_to c.d.inside.after =
     subst (λ (v : TableView). NotBefore v.charged_to c.d.inside.after) (sym c.self.view_is) (subst (λ (d : DropsView). NotBefore c.args.self.now.charged_to d.after) (sym c.d.view_is) c.requires.not_before) in
-    let os' : List Open = c.forget.new.sessions.items in
+    let os' : List Open = c.take_out.new.sessions.items in
     let charged : (u : UserId) (r : RoleId) (d : ℕ) → charged_in c.charge_stretch.new.charges.entries u r d
     ≡ charged_in rows u r d + minutes_of_day c.d.inside.after (c.d.inside.to - c.d.inside.after) d * count_by (is_of u r) active =
     λ u r d. c.charge_stretch.ensures.charged u r d
     ∙ ap (λ xs. charged_in rows u r d + minutes_of_day c.d.inside.after (c.d.inside.to - c.d.inside.after) d * count_by (is_of u r) xs) c.deref.ensures.value in
     let listed : c.deref-2.result.now ≡ c.args.d.gone = c.deref-2.ensures.value ∙ ap (λ (d : DropsView). d.gone) c.d.view_is in
-    let kept : c.keep_listed.new.active.items ≡ filter (λ a. role_in os' a.session a.role) active =
-    c.keep_listed.ensures ∙ ap (λ xs. filter (λ a. role_in xs a.session a.role) active) c.deref-3.ensures.value in
+    let kept : c.take_out.new.active.items ≡ filter (λ a. role_in os' a.session a.role) active = c.take_out.ensures.active in
     let gone : c.deref-2.result.now ≡ filter c.requires.test active = listed ∙ c.requires.gone ∙ ap (λ (v : TableView). filter c.requires.test v.active) (sym c.self.view_is) in
-    subst (λ xs. IsKept os' xs c.charge_stretch.new.charges.entries (Some c.d.inside.to)) (sym kept)
-    (committed os active rows c.self.inside.charged_to c.self.invariant c.requires.test c.deref-2.result.now gone os' c.forget.ensures.roles c.forget.ensures.len
-    c.charge_stretch.new.charges.entries c.d.inside.after c.d.inside.to order not_before charged)
+    record {
+      kept = subst (λ xs. IsKept os' xs c.charge_stretch.new.charges.entries (Some c.d.inside.to)) (sym kept)
+          (committed os active rows c.self.inside.charged_to c.self.invariant.kept c.requires.test c.deref-2.result.now gone os' c.take_out.ensures.roles c.take_out.ensures.len
+          c.charge_stretch.new.charges.entries c.d.inside.after c.d.inside.to order not_before charged);
+      numbered = subst (λ ss. Numbered 0 ss c.self.inside.begun) (sym c.take_out.ensures.opened) c.self.invariant.numbered;
+    }
 
 pub returns-clause-table : goal.returns-clause-table
 returns-clause-table c = λ edges caps s e.
@@ -59,19 +68,18 @@ returns-clause-table c = λ edges caps s e.
     let order : c.d.inside.after < c.d.inside.to = omega (arith, now_is, to_is, c.requires.order) in
     let not_before : NotBefore c.self.inside.charged_to c.d.inside.after =
     subst (λ (v : TableView). NotBefore v.charged_to c.d.inside.after) (sym c.self.view_is) (subst (λ (d : DropsView). NotBefore c.args.self.now.charged_to d.after) (sym c.d.view_is) c.requires.not_before) in
-    let os' : List Open = c.forget.new.sessions.items in
+    let os' : List Open = c.take_out.new.sessions.items in
     let charged : (u : UserId) (r : RoleId) (d : ℕ) → charged_in c.charge_stretch.new.charges.entries u r d
     ≡ charged_in rows u r d + minutes_of_day c.d.inside.after (c.d.inside.to - c.d.inside.after) d * count_by (is_of u r) active =
     λ u r d. c.charge_stretch.ensures.charged u r d
     ∙ ap (λ xs. charged_in rows u r d + minutes_of_day c.d.inside.after (c.d.inside.to - c.d.inside.after) d * count_by (is_of u r) xs) c.deref.ensures.value in
     let listed : c.deref-2.result.now ≡ c.args.d.gone = c.deref-2.ensures.value ∙ ap (λ (d : DropsView). d.gone) c.d.view_is in
-    let kept : c.keep_listed.new.active.items ≡ filter (λ a. role_in os' a.session a.role) active =
-    c.keep_listed.ensures ∙ ap (λ xs. filter (λ a. role_in xs a.session a.role) active) c.deref-3.ensures.value in
+    let kept : c.take_out.new.active.items ≡ filter (λ a. role_in os' a.session a.role) active = c.take_out.ensures.active in
     let test : Activation → Bool = is_dropped edges caps s c.args.d.to (charged_through c.args.d.after c.args.d.to (table_of c.args.self.now)) in
     let gone : c.deref-2.result.now ≡ filter test active = listed ∙ e ∙ ap (λ (v : TableView). filter test v.active) (sym c.self.view_is) in
     same_table _ _
-    (c.forget.ensures.opened ∙ ap (λ (v : TableView). v.sessions) c.self.view_is)
-    (kept ∙ survivors os active rows c.self.inside.charged_to c.self.invariant test c.deref-2.result.now gone os' c.forget.ensures.roles
+    (c.take_out.ensures.opened ∙ ap (λ (v : TableView). v.sessions) c.self.view_is)
+    (kept ∙ survivors os active rows c.self.inside.charged_to c.self.invariant.kept test c.deref-2.result.now gone os' c.take_out.ensures.roles
     ∙ ap (λ (v : TableView). filter (λ a. not (test a)) v.active) c.self.view_is)
     (λ i u r d. (charged u r d
     ∙ ap (λ (v : TableView). charged_in v.charges u r d + minutes_of_day c.d.inside.after (c.d.inside.to - c.d.inside.after) d * count_by (is_of u r) v.active) c.self.view_is

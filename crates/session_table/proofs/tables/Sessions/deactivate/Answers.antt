@@ -6,7 +6,7 @@ use Rattle.gt_base.specs.declared.requests.Refusal.TheVariants.{NotActive}
 use Rattle.gtrbac_model.specs.Sessions.{is_active_in, signal_of}
 use Rattle.gtrbac_model.specs.Reply.{session_causes, unless}
 use Rattle.session_table.specs.declared.opened.Open.{Open}
-use Rattle.session_table.specs.Opened.{opened}
+use Rattle.session_table.specs.Opened.{opened, Numbered}
 use Rattle.session_table.specs.Causes.{StandsAt}
 use Rattle.session_table.specs.Charges.{charged_in}
 use Rattle.session_table.specs.Tables.{table_of}
@@ -16,6 +16,9 @@ use Rattle.session_table.proofs.Indexing.{kept_opened}
 use Rattle.session_table.proofs.Finding.{inside}
 use Rattle.session_table.proofs.Telling.{same_table, causes, not_found, is_found, only_one}
 use Rattle.session_table.proofs.tables.Sessions.deactivate.Goals as goal
+
+pub owned-requires : goal.owned-requires
+owned-requires c = rw c.deref.ensures.value (c.self.inside.begun, c.self.invariant.numbered)
 
 pub returns-in-Err-clause-refused : goal.returns-in-Err-clause-refused
 returns-in-Err-clause-refused c = λ p pt.
@@ -40,7 +43,11 @@ invariant_of-self c =
     let (o, there) = inside c.self.inside.sessions.items c.in-Ok.at stands.inside in
     let new : c.remove_role.new.sessions.items ≡ set c.self.inside.sessions.items c.in-Ok.at (record o { roles = without o.roles c.args.role }) =
     subst (λ x. IfSome x (λ (o : Open). c.remove_role.new.sessions.items ≡ set c.self.inside.sessions.items c.in-Ok.at (record o { roles = without o.roles c.args.role }))) there c.remove_role.ensures in
-    rw (new, c.end_role.ensures) (ended c.self.inside.sessions.items c.self.inside.active.items c.self.inside.charges.entries c.self.inside.charged_to c.self.invariant c.args.session c.in-Ok.at stands o there c.args.role)
+    record {
+      kept = rw (new, c.end_role.ensures) (ended c.self.inside.sessions.items c.self.inside.active.items c.self.inside.charges.entries c.self.inside.charged_to c.self.invariant.kept c.args.session c.in-Ok.at stands o there c.args.role);
+      numbered = subst (λ ss. Numbered 0 ss c.self.inside.begun)
+          (sym (ap (map opened) new ∙ kept_opened c.self.inside.sessions.items c.in-Ok.at o (record o { roles = without o.roles c.args.role }) there refl)) c.self.invariant.numbered;
+    }
 
 pub returns-clause-answer : goal.returns-clause-answer
 returns-clause-answer c = λ p pt.
@@ -67,5 +74,5 @@ returns-clause-table c =
     (ap (λ v. charged_in v.charges) (sym c.self.view_is))
     (ap (λ v. v.begun) (sym c.self.view_is))
     (ap (λ v. map (signal_of false) (filter (is_active_in c.args.session c.args.role) v.active)) (sym c.self.view_is)
-    ∙ ap (map (signal_of false)) (only_one (is_active_in c.args.session c.args.role) c.self.inside.active.items c.in-Some.activation one (c.self.invariant.once c.args.session c.args.role))
+    ∙ ap (map (signal_of false)) (only_one (is_active_in c.args.session c.args.role) c.self.inside.active.items c.in-Some.activation one (c.self.invariant.kept.once c.args.session c.args.role))
     ∙ ap (λ s. s ∷ []) (sym c.signal_of.ensures))

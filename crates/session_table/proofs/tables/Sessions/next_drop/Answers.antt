@@ -7,7 +7,7 @@ use Rattle.session_table.proofs.tables.Sessions.next_drop.Goals as goal
 
 pub next_capped-requires-clause-few : goal.next_capped-requires-clause-few
 next_capped-requires-clause-few c = λ u r.
-    rw c.deref.ensures.value (few_of c.self.inside.sessions.items c.self.inside.active.items c.self.inside.charges.entries c.self.inside.charged_to c.self.invariant u r)
+    rw c.deref.ensures.value (few_of c.self.inside.sessions.items c.self.inside.active.items c.self.inside.charges.entries c.self.inside.charged_to c.self.invariant.kept u r)
 
 pub returns : goal.returns
 returns c =

@@ -9,7 +9,7 @@ use Rattle.session_table.proofs.tables.Sessions.plan_end_over.Goals as goal
 
 pub dropped-requires : goal.dropped-requires
 dropped-requires c = λ u r.
-    rw c.deref.ensures.value (few_of c.self.inside.sessions.items c.self.inside.active.items c.self.inside.charges.entries c.self.inside.charged_to c.self.invariant u r)
+    rw c.deref.ensures.value (few_of c.self.inside.sessions.items c.self.inside.active.items c.self.inside.charges.entries c.self.inside.charged_to c.self.invariant.kept u r)
 
 pub returns-clause-plan : goal.returns-clause-plan
 returns-clause-plan c =

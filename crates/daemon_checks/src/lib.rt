@@ -1,0 +1,10 @@
+//! Runs of the server over a shelf, links, doors and clocks in memory, each told as one text.
+#![tactic(auto)]
+
+mod crews;
+mod runs;
+#[cfg(test)]
+mod tests;
+
+pub use crews::{Man, Wire};
+pub use runs::{Run, play};

@@ -1,0 +1,212 @@
+//! Why an event is in force or blocked at the end of a script, as it is told.
+ghost use Rattle.std.specs.Prelude.{◌≡◌, ◌++◌, IfOk, OnOk, option_map};
+ghost use Rattle.gt_base.specs.Sets.{has};
+ghost use Rattle.gt_base.specs.declared.events.Fluent.{Fluent as FluentOf};
+ghost use Rattle.gtrbac_tool.specs.Standing.{raises as is_raised, first_raising, reason, by_word as by_words, standing_line, certificate_line, TellsWhy, closed_at as closed_in, made_before};
+
+use crate::explaining::{explain, status_after};
+use core_machine::{Book, Closed};
+use gt_base::{Event, Happened, Instant, Memory, Prio, Prioritised, Seen, Status, Trigger};
+use gt_text::push_number;
+use policy_lines::push_event;
+use policy_words::NamedEvent;
+use priority_conflict::{Contest, greatest, seen};
+use std::alloc::Global;
+use trigger_rules::met_in;
+use why_check::Cert;
+
+/// The instant of a set.
+fn at_of(closed: &Closed) -> Instant
+    ensures { result ≡ closed.now.at }
+{
+    closed.at
+}
+
+/// The base of a set.
+fn base_of(closed: &Closed) -> &Happened
+    ensures { result.now.set ≡ closed.now.base }
+{
+    &closed.base
+}
+
+/// What happened at an instant.
+fn set_of(closed: &Closed) -> &Happened
+    ensures { result.now.set ≡ closed.now.set }
+{
+    &closed.set
+}
+
+/// What the trace has at the instant.
+fn closed_at(mut trace: &[Closed], t: Instant) -> Option<&Closed>
+    ensures { option_map (λ c. c.now) result ≡ closed_in trace.now t }
+{
+    while let [first, rest @ ..] = trace {
+        if at_of(first) == t {
+            return Some(first);
+        }
+        trace = rest;
+    }
+    None
+}
+
+/// The status that the sets of the trace before the instant make of one.
+#[tactic(auto, using(crate::proofs::LastInstant::step_before, crate::proofs::LastInstant::past_all))]
+fn status_before(
+    alloc: Global,
+    opening: &Status,
+    mut trace: &[Closed],
+    t: Instant,
+) -> Result<Status, Memory>
+    ensures { IfOk result (λ s. (f : FluentOf) → has s.set f ≡ made_before t trace.now (has opening.now.set) f) }
+{
+    let mut status = opening.copied()?;
+    while let [first, rest @ ..] = trace {
+        if at_of(first) >= t {
+            break;
+        }
+        status = status_after(alloc, &status, set_of(first))?;
+        trace = rest;
+    }
+    Ok(status)
+}
+
+/// Whether the trigger is immediate, has the event as its head and is met in the set.
+fn raises(r: &Trigger, x: &Contest, before: &Status, e: &Prioritised) -> bool
+    ensures { result ≡ is_raised x.now (has before.now.set) e.now r.now }
+{
+    r.delay == 0 && r.head == *e && met_in(r, x, before)
+}
+
+/// The number, from 1, of the first trigger that raises the event.
+fn first_of(rules: &[Trigger], x: &Contest, before: &Status, e: &Prioritised) -> Option<u64>
+    ensures { result ≡ first_raising x.now (has before.now.set) e.now 1 rules.now }
+{
+    let mut number = 1;
+    let mut rest = rules;
+    while let [first, more @ ..] = rest {
+        if raises(first, x, before, e) {
+            return Some(number);
+        }
+        number += 1;
+        rest = more;
+    }
+    None
+}
+
+/// Adds what an event of the set is there by: the base, or else the first trigger that raises it.
+fn add_reason(
+    text: &mut Vec<u8>,
+    rules: &[Trigger],
+    base: &Happened,
+    before: &Status,
+    x: &Contest,
+    e: Prioritised,
+) -> Result<(), Memory>
+    ensures { OnOk result (text.new.items ≡ text.old.items ++ reason rules.now base.now.set (has before.now.set) x.now e) }
+{
+    if base.has(e) {
+        text.extend_from_slice(b"base")
+    } else {
+        match first_of(rules, x, before, &e) {
+            Some(n) => {
+                text.extend_from_slice(b"trigger ")?;
+                push_number(text, n)
+            }
+            None => Ok(()),
+        }
+    }
+}
+
+/// Adds the converse of the event with this priority.
+fn add_blocker(text: &mut Vec<u8>, named: &NamedEvent, prio: Option<Prio>) -> Result<(), Memory>
+    ensures { OnOk result (text.new.items ≡ text.old.items ++ by_words named.now prio) }
+{
+    match prio {
+        Some(q) => {
+            text.extend_from_slice(b" by ")?;
+            push_number(text, u64::from(q.get()))?;
+            text.extend_from_slice(b":")?;
+            let converse = NamedEvent {
+                on: !named.on,
+                fluent: named.fluent,
+            };
+            push_event(text, &converse)
+        }
+        None => Ok(()),
+    }
+}
+
+/// Adds how the event, of which this is seen in the set of an instant, stands there, with its reason, and with what blocks it.
+fn add_standing(
+    text: &mut Vec<u8>,
+    rules: &[Trigger],
+    base: &Happened,
+    before: &Status,
+    x: &Contest,
+    named: &NamedEvent,
+    e: Event,
+    seen: Seen,
+) -> Result<(), Memory>
+    ensures { OnOk result (text.new.items ≡ text.old.items ++ standing_line rules.now base.now.set (has before.now.set) x.now named.now e seen) }
+{
+    match seen {
+        Seen::Absent => text.extend_from_slice(b"absent\n"),
+        Seen::Unblocked(prio) => {
+            text.extend_from_slice(b"yes ")?;
+            push_number(text, u64::from(prio.get()))?;
+            text.extend_from_slice(b" ")?;
+            add_reason(text, rules, base, before, x, Prioritised { prio, event: e })?;
+            text.extend_from_slice(b"\n")
+        }
+        Seen::Blocked(prio) => {
+            text.extend_from_slice(b"blocked ")?;
+            push_number(text, u64::from(prio.get()))?;
+            text.extend_from_slice(b" ")?;
+            add_reason(text, rules, base, before, x, Prioritised { prio, event: e })?;
+            add_blocker(text, named, greatest(x.set(), e.converse(), 101))?;
+            text.extend_from_slice(b"\n")
+        }
+    }
+}
+
+/// The line that tells how many instants the certificate lists.
+fn certificate_text(alloc: Global, cert: &Cert) -> Result<Vec<u8>, Memory>
+    ensures { IfOk result (λ text. text.items ≡ certificate_line cert.now) }
+{
+    let mut text = Vec::new(alloc);
+    text.extend_from_slice(b"certificate ")?;
+    push_number(&mut text, cert.len() as u64)?;
+    text.extend_from_slice(b"\n")?;
+    Ok(text)
+}
+
+/// How many instants a certificate of the history lists, and how the event stands at the last instant of the history.
+pub(crate) fn standing_text(
+    alloc: Global,
+    book: &Book,
+    named: NamedEvent,
+    e: Event,
+) -> Result<Vec<u8>, Memory>
+    ensures { IfOk result (λ text. TellsWhy book.now.named.policy book.now.birth book.now.entries named e text.items) }
+{
+    let policy = book.ground().policy();
+    let cert = explain(alloc, book)?;
+    let mut text = certificate_text(alloc, &cert)?;
+    let trace = book.trace().as_slice();
+    let now = book.now();
+    match closed_at(trace, now) {
+        Some(closed) => {
+            let before = status_before(alloc, policy.opening(), trace, now)?;
+            let rules = policy.triggers().as_slice();
+            let x = Contest::new(alloc, set_of(closed))?;
+            let base = base_of(closed);
+            let seen = seen(x.set(), e);
+            add_standing(&mut text, rules, base, &before, &x, &named, e, seen)?;
+            Ok(text)
+        }
+        None => {
+            text.extend_from_slice(b"absent\n")?;
+            Ok(text)
+        }
+    }
+}
