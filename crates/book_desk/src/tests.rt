@@ -4,7 +4,7 @@ use locked_history::Desk;
 
 #[test]
 fn two_passes_share_a_book(rt: HostRuntime) {
-    let ten = Instant::new(13_689_240).expect(&rt, "2026-01-05T10:00");
+    let ten = Instant::new(13_689_240).expect(&rt, "2026-01-10T10:00");
     let later = Instant::new(13_689_245).expect(&rt, "five minutes later");
     let Ok(book) = book_of_a_role(rt.alloc(), ten) else {
         panic!(&rt; "memory");

@@ -28,7 +28,7 @@ fn is_now(reply: &Reply, now: Instant) -> bool {
 
 #[test]
 fn two_passes_in_one_thread(rt: HostRuntime) {
-    let ten = Instant::new(13_689_240).expect(&rt, "2026-01-05T10:00");
+    let ten = Instant::new(13_689_240).expect(&rt, "2026-01-10T10:00");
     let later = Instant::new(13_689_245).expect(&rt, "five minutes later");
     let u = Actor::User(UserId(0));
     let Ok((desk, mut passes)) = Desk::new(rt.alloc(), Tally::new(rt.alloc(), ten, 1), 2) else {
