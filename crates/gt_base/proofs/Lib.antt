@@ -1,4 +1,5 @@
 pub mod Crossing
+pub mod FlagLaws
 pub mod OrderLaws
 pub mod Rising
 pub mod SetLaws

@@ -98,7 +98,7 @@ module _ {K : Type 0} {R : K → K → Ordering} (o : IsTotalOrder R) where
       ap (λ r. by_order r (k ∷ x ∷ xs) (x ∷ xs) (x ∷ placed k xs)) (turned x k Less (front 0 x (omega arith) (omega arith)))
       ∙ ap (λ ys. x ∷ ys) (inserted_is_placed k xs i (omega (arith, le)) (λ j d low high. front (suc j) d (omega arith) (omega (arith, high))) (λ j d low high. back (suc j) d (omega (arith, low)) (omega (arith, high))))
 
-  none_tie : (k : K) (ks : List K) (i : ℕ) → i ≤ length ks → AllWithin (λ y. R y k ≡ Less) ks 0 i → AllWithin (λ y. R y k ≡ Greater) ks i (length ks) → list_any (eq_by_cmp R k) ks ≡ false
+  pub none_tie : (k : K) (ks : List K) (i : ℕ) → i ≤ length ks → AllWithin (λ y. R y k ≡ Less) ks 0 i → AllWithin (λ y. R y k ≡ Greater) ks i (length ks) → list_any (eq_by_cmp R k) ks ≡ false
   none_tie k [] i le front back = refl
   none_tie k (x ∷ xs) zero le front back =
       ap (λ r. is_eq r || list_any (eq_by_cmp R k) xs) (turned x k Greater (back 0 x (omega arith) (omega arith)))

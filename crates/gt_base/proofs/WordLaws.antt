@@ -173,7 +173,7 @@ bit_of-fluent_in p b lt = ap (λ n. n % 64) (first_of-fluent_in p.row _) ∙ mod
 bit_below : (f : Fluent) → first_of f % 64 < 64
 bit_below f = mod_below (first_of f) 64 (omega arith)
 
-tie_of : (a b : Fluent) → eq_by_cmp fluent_cmp a b ≡ true → a ≡ b
+pub tie_of : (a b : Fluent) → eq_by_cmp fluent_cmp a b ≡ true → a ≡ b
 tie_of a b e = fluent_cmp-IsAntisymmetric a b ((Equal-is (fluent_cmp a b)).0 e)
 
 place_tie_of : (a b : Place) → eq_by_cmp place_cmp a b ≡ true → a ≡ b

@@ -1,5 +1,6 @@
 pub mod Bounds
 pub mod Events
+pub mod Flags
 pub mod Happening
 pub mod Held
 pub mod Machines

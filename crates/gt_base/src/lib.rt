@@ -3,7 +3,9 @@
 #![tactic(auto)]
 
 mod events;
+mod flags;
 mod instants;
+mod known;
 mod laws;
 mod lists;
 mod machines;

@@ -1,12 +1,15 @@
-//! Sets of events, signals and fluents, whose room is taken ahead: events and signals as rising rows, fluents as words.
-ghost use Rattle.std.specs.Prelude.{◌≡◌, ◌≤◌, ◌+◌, ◌<◌, if◌then◌else◌, length, slice_get, Some, OnOk, IfOk};
+//! Sets of events, signals and fluents, whose room is taken ahead: events and signals as rising rows, fluents by flags and as words.
+ghost use Rattle.std.specs.Prelude.{◌≡◌, ◌≤◌, ◌+◌, ◌<◌, if◌then◌else◌, length, slice_get, Some, OnOk, IfOk, vec_capacity, vec_len};
 ghost use Rattle.gt_base.specs.Sets.{has, members, none, with_member, without};
 ghost use Rattle.gt_base.specs.Happening.{nothing};
+ghost use Rattle.gt_base.specs.Words.{AreWords};
+ghost use Rattle.gt_base.specs.Flags.{set_of_parts};
 
 use crate::events::{Event, Fluent, Prioritised, Signal};
+use crate::flags::{Flags, gathered, is_on_in};
 use crate::lists::{List, Memory};
 use crate::rows::{is_in, put};
-use crate::words::{Word, all_on, is_on, turn_off, turn_on};
+use crate::words::{Word, add_all, ascending, turn_off, turn_on};
 use std::alloc::Global;
 use std::marker::Model;
 
@@ -232,34 +235,43 @@ impl Happened {
     }
 }
 
-/// Which fluents are on, seen as their set and the number of further words that it has room for. A word is of 64 fluents
-/// that stand side by side, and to set one fluent on takes one further word at most.
-#[derive(Drop)]
+/// Which fluents are on, seen as their set and the number of further words that it has room for. Fluents that were on before have a flag
+/// each, in a row that copies share, so that a copy moves the flags alone. For the others there are words of 64 fluents that stand side by
+/// side, and to set one fluent on takes one further word at most.
 pub struct Status {
+    flags: Flags,
     words: Vec<Word>,
+}
+
+impl Drop for Status {
+    fn drop(self) {
+        let Status { flags: _, words: _ } = self;
+    }
 }
 
 impl Model for Status {
     ghost use Rattle.std.specs.Prelude.{◌-◌, vec_capacity, vec_len};
     ghost use Rattle.gt_base.specs.Happening.{Fluents, Roomier, fluents_code, roomier_code};
-    ghost use Rattle.gt_base.specs.Words.{set_of_words, AreWords};
+    ghost use Rattle.gt_base.specs.Words.{AreWords};
+    ghost use Rattle.gt_base.specs.Flags.{set_of_parts};
 
     ghost Value = { Roomier Fluents };
 
     ghost coded = { roomier_code fluents_code };
 
-    ghost view = { λ s. record { set = set_of_words s.words.items; spare = vec_capacity s.words - vec_len s.words } };
+    ghost view = { λ s. record { set = set_of_parts s.flags s.words.items; spare = vec_capacity s.words - vec_len s.words } };
 
     ghost invariant = { λ s. AreWords s.words.items };
 }
 
 impl Status {
     /// The status in which all is off, which takes no memory yet.
-    #[tactic(auto, using(crate::proofs::WordLists::set_of_no_words))]
+    #[tactic(auto, using(crate::proofs::FlagLaws::set_of_no_parts))]
     pub fn new(alloc: Global) -> Status
         ensures { result.set ≡ none }
     {
         Status {
+            flags: Flags::new(alloc),
             words: Vec::new(alloc),
         }
     }
@@ -270,6 +282,7 @@ impl Status {
         ensures spare { self.old.spare ≤ self.new.spare }
         ensures room { OnOk result (n ≤ self.new.spare) }
     {
+        self.gather()?;
         self.words.reserve(n)
     }
 
@@ -277,23 +290,40 @@ impl Status {
     pub fn copied(&self) -> Result<Status, Memory>
         ensures { IfOk result (λ copy. copy.set ≡ self.now.set) }
     {
-        Ok(Status {
+        let mut copy = Status {
+            flags: self.flags.copied()?,
             words: Vec::from_slice(*self.words.allocator(), &self.words)?,
-        })
+        };
+        copy.gather()?;
+        Ok(copy)
+    }
+
+    /// Gives each fluent of the words a flag, once they are many. After a refusal nothing is changed.
+    fn gather(&mut self) -> Result<(), Memory>
+        ensures set { self.new.set ≡ self.old.set }
+        ensures spare { self.old.spare ≤ self.new.spare }
+    {
+        if self.words.len() > self.flags.len() / 32 {
+            self.flags = gathered(*self.words.allocator(), &self.flags, &self.words)?;
+            self.words.clear();
+        }
+        Ok(())
     }
 
     /// The fluents that are on, ascending: by sort, then by their numbers.
     pub fn fluents(&self) -> Result<List<Fluent>, Memory>
         ensures { IfOk result (λ fluents. fluents.items ≡ members self.now.set) }
     {
-        Ok(List::from(all_on(&self.words, *self.words.allocator())?))
+        let mut fluents = self.flags.lit(*self.words.allocator())?;
+        add_all(&mut fluents, &self.words)?;
+        Ok(List::from(ascending(fluents)))
     }
 
     /// Whether the fluent is on.
     pub fn is_on(&self, f: Fluent) -> bool
         ensures { result ≡ has self.now.set f }
     {
-        is_on(&self.words, f)
+        is_on_in(&self.flags, &self.words, f)
     }
 
     /// Sets the fluent on or off, into room that was made before.
@@ -303,9 +333,35 @@ impl Status {
         ensures spare { self.old.spare ≤ self.new.spare + 1 }
     {
         if on {
-            turn_on(&mut self.words, f);
+            set_on(&mut self.flags, &mut self.words, f);
         } else {
-            turn_off(&mut self.words, f);
+            set_off(&mut self.flags, &mut self.words, f);
         }
     }
+}
+
+/// Sets the fluent on: by its flag, or, where it has none, by one further word at most.
+fn set_on(flags: &mut Flags, words: &mut Vec<Word>, f: Fluent)
+    requires words { AreWords words.old.items }
+    requires room { vec_len words.old < vec_capacity words.old }
+    ensures words { AreWords words.new.items }
+    ensures set { set_of_parts flags.new words.new.items ≡ with_member (set_of_parts flags.old words.old.items) f }
+    ensures capacity { vec_capacity words.old ≤ vec_capacity words.new }
+    ensures len { vec_len words.new ≤ vec_len words.old + 1 }
+{
+    if !flags.turn_on(f) {
+        turn_on(words, f);
+    }
+}
+
+/// Sets the fluent off, by its flag and by its word.
+fn set_off(flags: &mut Flags, words: &mut Vec<Word>, f: Fluent)
+    requires { AreWords words.old.items }
+    ensures words { AreWords words.new.items }
+    ensures set { set_of_parts flags.new words.new.items ≡ without (set_of_parts flags.old words.old.items) f }
+    ensures capacity { vec_capacity words.new ≡ vec_capacity words.old }
+    ensures len { vec_len words.new ≡ vec_len words.old }
+{
+    flags.turn_off(f);
+    turn_off(words, f);
 }

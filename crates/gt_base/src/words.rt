@@ -1,12 +1,11 @@
 //! Sets of fluents as ascending words of 64 bits, each of fluents that stand side by side in one row.
-ghost use Rattle.std.specs.Prelude.{◌≡◌, ◌≤◌, ◌+◌, ◌*◌, ◌^◌, ◌%◌, ◌<◌, ◌++◌, OnOk, IfOk, IfErr, vec_capacity, vec_len};
+ghost use Rattle.std.specs.Prelude.{◌≡◌, ◌≤◌, ◌+◌, ◌*◌, ◌^◌, ◌%◌, ◌<◌, ◌++◌, flat_map, OnOk, IfOk, IfErr, vec_capacity, vec_len};
 ghost use Rattle.gt_base.specs.Orders.{fluent_cmp};
 ghost use Rattle.gt_base.specs.Sets.{has, members, set_of, with_member, without};
 ghost use Rattle.gt_base.specs.Words.{row_of, first_of, place_of, fluent_in, fluents_of, set_of_words, AreWords, StandsAt, GoesAt};
 
 use crate::events::{Fluent, LimitId, PermId, RoleId, UserId};
 use crate::lists::Memory;
-use std::alloc::Global;
 
 /// A row: the fluents of one kind and, where they have two names, with the same second name.
 #[derive(Clone, Copy, PartialEq, Eq, PartialOrd, Ord)]
@@ -147,16 +146,15 @@ pub(crate) fn turn_off(words: &mut Vec<Word>, f: Fluent)
     }
 }
 
-/// The fluents that are on, in ascending order.
-pub(crate) fn all_on(words: &[Word], alloc: Global) -> Result<Vec<Fluent>, Memory>
+/// Adds the fluents of the words that are on.
+pub(crate) fn add_all(fluents: &mut Vec<Fluent>, words: &[Word]) -> Result<(), Memory>
     requires { AreWords words.now }
-    ensures { IfOk result (λ fluents. fluents.items ≡ members (set_of_words words.now)) }
+    ensures { OnOk result (fluents.new.items ≡ fluents.old.items ++ flat_map fluents_of words.now) }
 {
-    let mut fluents = Vec::new(alloc);
     for word in words {
-        add_fluents(&mut fluents, *word)?;
+        add_fluents(fluents, *word)?;
     }
-    Ok(ascending(fluents))
+    Ok(())
 }
 
 /// Adds the fluents of the word that are on.
@@ -173,7 +171,7 @@ fn add_fluents(fluents: &mut Vec<Fluent>, word: Word) -> Result<(), Memory>
 }
 
 /// The same fluents, each once, in ascending order.
-fn ascending(mut fluents: Vec<Fluent>) -> Vec<Fluent>
+pub(crate) fn ascending(mut fluents: Vec<Fluent>) -> Vec<Fluent>
     ensures { result.items ≡ members (set_of {R = fluent_cmp} fluents.items) }
 {
     fluents.sort_unstable();
