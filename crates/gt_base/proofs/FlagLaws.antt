@@ -1,6 +1,6 @@
 -- What flags and words together stand for.
-use Rattle.std.proofs.Common.{◌≡◌, ℕ, zero, suc, ◌+◌, ◌-◌, ◌<◌, ◌≤◌, Bool, true, false, cond, not, ◌&&◌, ◌||◌, T, List, [], ◌∷◌, ◌++◌, length, map, flat_map, take, set, get_or, ◌⊎◌, inl, inr, append_assoc, append-nil, refl, sym, ◌∙◌, ap, subst, arith}
-use Rattle.std.specs.List.{list_any, HoldsAt, AllWithin}
+use Rattle.std.proofs.Common.{◌≡◌, ℕ, zero, suc, ◌+◌, ◌-◌, ◌<◌, ◌≤◌, Bool, true, false, cond, not, ◌&&◌, ◌||◌, T, List, [], ◌∷◌, ◌++◌, length, map, flat_map, take, set, get_or, ◌⊎◌, inl, inr, refl, sym, ◌∙◌, ap, subst, arith}
+use Rattle.std.specs.List.{HoldsAt, AllWithin}
 use Rattle.std.specs.Cmp.{both_ways}
 use Rattle.std.specs.List.Sorted.{IsNonDecreasingBy, IsPartitionPoint}
 use Rattle.std.specs.Ordering.{eq_by_cmp, is_eq, ordering_index}
@@ -8,18 +8,17 @@ use Rattle.std.specs.declared.cmp.Ordering.{Ordering}
 use Rattle.std.specs.declared.cmp.Ordering.TheVariants.{Less, Equal, Greater}
 use Rattle.std.specs.FinMap.Entries.{below_all, is_sorted}
 use Rattle.std.proofs.lemmas.List.Folds.{list_any-append}
-use Rattle.std.proofs.lemmas.List.{length-map}
 use Rattle.gt_base.specs.declared.events.Fluent.{Fluent}
 use Rattle.gt_base.specs.declared.words.Word.{Word}
 use Rattle.gt_base.specs.Orders.{fluent_cmp}
 use Rattle.gt_base.specs.Sets.{SetOf, none, has, members, set_of, with_member, without, pairs, Rises}
-use Rattle.gt_base.specs.Words.{fluents_of, set_of_words, AreWords}
-use Rattle.gt_base.specs.Flags.{Flagged, flagged, is_among, is_lit, IsPlace, IsWith, IsWithout, set_of_parts}
+use Rattle.gt_base.specs.Words.{fluents_of, set_of_words}
+use Rattle.gt_base.specs.Flags.{Flagged, flagged, is_among, is_lit, IsWith, IsWithout, set_of_parts}
 use Rattle.gt_base.proofs.Rising.{answers_rise, none_tie, left_of, right_of, below_at, turned}
 use Rattle.gt_base.proofs.SetLaws.{eq_itself, has-none, has-set_of, has-members}
 use Rattle.gt_base.proofs.SetSteps.{fluent_cmp_total}
 use Rattle.gt_base.proofs.SetsAreSets.{fluents_are_sets}
-use Rattle.gt_base.proofs.WordLaws.{tie_of}
+use Rattle.gt_base.proofs.WordLaws.{tie_of, or_false, or_assoc, or_swap}
 use Rattle.gt_base.proofs.WordLists.{set_of_no_words}
 
 -- no flag and no word, no fluent
@@ -129,11 +128,6 @@ twice : (a b : Bool) → (a || b) ≡ (a || (a || b))
 twice true b = refl
 twice false b = refl
 
-swap : (a b c : Bool) → (a || (b || c)) ≡ (b || (a || c))
-swap true true c = refl
-swap true false c = refl
-swap false b c = refl
-
 -- a flag that is set lights its fluent too
 pub lit_with : (ks : List Fluent) (bs : List Bool) (f : Fluent) (i : ℕ) (x : Fluent) → length bs ≡ length ks → i < length ks → HoldsAt (λ k. k ≡ f) ks i
     → is_among (flagged ks (set bs i true)) x ≡ (eq_by_cmp fluent_cmp x f || is_among (flagged ks bs) x)
@@ -144,7 +138,7 @@ lit_with (k ∷ ks) (true ∷ bs) f zero x n lt at =
 lit_with (k ∷ ks) (false ∷ bs) f zero x n lt at = ap (λ y. eq_by_cmp fluent_cmp x y || is_among (flagged ks bs) x) (at k)
 lit_with (k ∷ ks) (true ∷ bs) f (suc i) x n lt at =
     ap (λ c. eq_by_cmp fluent_cmp x k || c) (lit_with ks bs f i x (omega (arith, n)) (omega (arith, lt)) (λ e. at e))
-    ∙ swap (eq_by_cmp fluent_cmp x k) (eq_by_cmp fluent_cmp x f) (is_among (flagged ks bs) x)
+    ∙ or_swap (eq_by_cmp fluent_cmp x k) (eq_by_cmp fluent_cmp x f) (is_among (flagged ks bs) x)
 lit_with (k ∷ ks) (false ∷ bs) f (suc i) x n lt at = lit_with ks bs f i x (omega (arith, n)) (omega (arith, lt)) (λ e. at e)
 
 -- what is off where the test holds stays as it is without it
@@ -200,16 +194,12 @@ module _ (s new : Flagged) (ws words : List Word) (f : Fluent) where
       fluents_are_sets.same _ _ (λ x.
       has_parts new ws x ∙ ap (λ b. b || has (set_of_words ws) x) (h x) ∙ or_assoc (eq_by_cmp fluent_cmp x f) (is_lit s x) (has (set_of_words ws) x)
       ∙ ap (λ b. eq_by_cmp fluent_cmp x f || b) (sym (has_parts s ws x)) ∙ sym (fluents_are_sets.added (set_of_parts s ws) f x))
-    where
-      or_assoc : (a b c : Bool) → ((a || b) || c) ≡ (a || (b || c))
-      or_assoc true b c = refl
-      or_assoc false b c = refl
 
   pub word_on : set_of_words words ≡ with_member (set_of_words ws) f → set_of_parts s words ≡ with_member (set_of_parts s ws) f
   word_on h =
       fluents_are_sets.same _ _ (λ x.
       has_parts s words x ∙ ap (λ t. is_lit s x || has t x) h ∙ ap (λ b. is_lit s x || b) (fluents_are_sets.added (set_of_words ws) f x)
-      ∙ swap (is_lit s x) (eq_by_cmp fluent_cmp x f) (has (set_of_words ws) x)
+      ∙ or_swap (is_lit s x) (eq_by_cmp fluent_cmp x f) (has (set_of_words ws) x)
       ∙ ap (λ b. eq_by_cmp fluent_cmp x f || b) (sym (has_parts s ws x)) ∙ sym (fluents_are_sets.added (set_of_parts s ws) f x))
 
   pub both_off_now : IsWithout f s new → set_of_words words ≡ without (set_of_words ws) f → set_of_parts new words ≡ without (set_of_parts s ws) f
@@ -255,10 +245,6 @@ all_lit s ws ks bs all on =
     ∙ or_false (is_among (flagged ks bs) x) ∙ ap (λ bs. is_among (flagged ks bs) x) on ∙ flagged_map (has (set_of_parts s ws)) ks x
     ∙ only (is_among ks x) (has (set_of_parts s ws) x) (λ e. has_parts s ws x ∙ none_there x (sym (among x) ∙ e)))
   where
-    or_false : (b : Bool) → (b || false) ≡ b
-    or_false true = refl
-    or_false false = refl
-
     only : (a b : Bool) → (a ≡ false → b ≡ false) → (a && b) ≡ b
     only true b h = refl
     only false b h = sym (h refl)

@@ -66,7 +66,7 @@ of_range p n b lt pb =
     list_any_at p (range_with_len 0 n) b 0 (subst (λ m. b < m) (sym (length-range_with_len 0 n)) lt)
     (subst (λ m. p m ≡ true) (let same : b ≡ get_or (range_with_len 0 n) b 0 = omega (arith, get_or-range_with_len 0 n b 0 lt) in same) pb)
 
-or_false : (b : Bool) → (b || false) ≡ b
+pub or_false : (b : Bool) → (b || false) ≡ b
 or_false true = refl
 or_false false = refl
 
@@ -82,11 +82,11 @@ and_or : (a b c : Bool) → (a && (b || c)) ≡ ((a && b) || (a && c))
 and_or true b c = refl
 and_or false b c = refl
 
-or_assoc : (a b c : Bool) → ((a || b) || c) ≡ (a || (b || c))
+pub or_assoc : (a b c : Bool) → ((a || b) || c) ≡ (a || (b || c))
 or_assoc true b c = refl
 or_assoc false b c = refl
 
-or_swap : (a b c : Bool) → (a || (b || c)) ≡ (b || (a || c))
+pub or_swap : (a b c : Bool) → (a || (b || c)) ≡ (b || (a || c))
 or_swap true true c = refl
 or_swap true false c = refl
 or_swap false b c = refl

@@ -1,5 +1,4 @@
 use Rattle.std.proofs.Common.{◌∙◌, ap}
-use Rattle.gt_base.specs.Sets.{with_member}
 use Rattle.gt_base.specs.Flags.{set_of_parts}
 use Rattle.gt_base.proofs.FlagLaws.{flag_on, word_on}
 use Rattle.gt_base.proofs.sets.set_on.Goals as goal
