@@ -88,10 +88,16 @@ fn serve(rt: &impl Abort, mut client: TcpStream, mut link: HostLink) -> Result<(
     let mut buf = [0u8; 8];
     assert_eq!(rt; link.read(&mut buf), Ok(3));
     assert_eq!(rt; &buf[..3], b"ask".as_slice());
-    assert_eq!(rt; send_all(&mut link, b"yes"), Ok(()));
-    link.finish();
+    assert_eq!(rt; send_all(&mut link, b"y"), Ok(()));
+    assert_eq!(rt; send_all(&mut link, b"es"), Ok(()));
+    client.write(b"more")?;
+    assert_eq!(rt; link.read(&mut buf), Ok(4));
     assert_eq!(rt; client.read(&mut buf)?, 3);
     assert_eq!(rt; &buf[..3], b"yes".as_slice());
+    assert_eq!(rt; send_all(&mut link, b"no"), Ok(()));
+    link.finish();
+    assert_eq!(rt; client.read(&mut buf)?, 2);
+    assert_eq!(rt; &buf[..2], b"no".as_slice());
     assert_eq!(rt; client.read(&mut buf)?, 0);
     assert_eq!(rt; link.read(&mut buf), Ok(0));
     assert_eq!(rt; send_all(&mut link, b"yes"), Err(Failed));
@@ -100,12 +106,12 @@ fn serve(rt: &impl Abort, mut client: TcpStream, mut link: HostLink) -> Result<(
 
 #[test]
 fn a_door_gives_connections_until_its_file_stands(rt: HostRuntime) -> Result<(), Fail> {
-    let mut door = HostDoor::new(&rt, 0);
+    let mut door = HostDoor::new(&rt, rt.alloc(), 0);
     let port = port_of(&door)?;
     let client = TcpStream::connect(&rt, (Ipv4Addr::LOCALHOST, port))?;
     let link = door.next()?.ok_or("no connection")?;
     serve(&rt, client, link)?;
-    let mut second = HostDoor::new(&rt, port);
+    let mut second = HostDoor::new(&rt, rt.alloc(), port);
     assert!(rt; matches!(second.next(), Err(Failed)));
     fs::write(&rt, "gtrbacd.stop", "")?;
     let first_closed = matches!(door.next(), Ok(None));

@@ -34,7 +34,7 @@ fn worker<'a>(rt: &'a HostRuntime, port: u16) -> Hired<'a>
     ensures { IsNew result }
 {
     Worker {
-        door: HostDoor::new(rt, port),
+        door: HostDoor::new(rt, rt.alloc(), port),
         clock: HostClock::new(rt),
         gate: OpenGate,
         served: List::new(rt.alloc()),
