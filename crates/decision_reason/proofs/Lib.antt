@@ -1,2 +1,3 @@
 pub mod ByWalks
 pub mod OfMembers
+pub mod Opening

@@ -17,6 +17,11 @@ abbrev pub first_unusable : Status → List HierEdge → List ℕ → ℕ
 first_unusable s edges [] = 0
 first_unusable s edges (n ∷ ns) = elim (is_usable_edge s edges n) [ true ↦ first_unusable s edges ns | false ↦ n ]
 
+-- the same, none where each is usable
+abbrev pub first_shut : Status → List HierEdge → List ℕ → Option ℕ
+first_shut s edges [] = None
+first_shut s edges (n ∷ ns) = elim (is_usable_edge s edges n) [ true ↦ first_shut s edges ns | false ↦ Some n ]
+
 -- where no walk of usable edges leads there: none at all, or one that is shut at an edge
 abbrev pub denied_by : Status → List HierEdge → Option RoleWalk → Decision
 denied_by s edges None = NoGrant

@@ -1,13 +1,16 @@
 //! The decision on a permission of a session.
-ghost use Rattle.std.specs.Prelude.{◌≡◌, IfOk, Some};
+ghost use Rattle.std.specs.Prelude.{◌≡◌, Bool, true, IfOk, IfSome, Some};
 ghost use Rattle.gt_base.specs.Sets.{has};
 ghost use Rattle.gtrbac_model.specs.Decision.{decide};
 ghost use Rattle.gtrbac_model.specs.Hierarchy.{permission_walk, permission_walk_of_any};
 ghost use Rattle.hybrid_hierarchy.specs.Nets.{IsHierarchy};
-ghost use Rattle.decision_reason.specs.Shut.{is_usable_edge, first_unusable, denied_by, by_walks};
+ghost use Rattle.gt_base.specs.declared.events.Fluent.{Fluent};
+ghost use Rattle.gt_base.specs.declared.events.Fluent.TheVariants.{Enabled};
+ghost use Rattle.gt_base.specs.declared.requests.Decision.TheVariants.{Shut};
+ghost use Rattle.decision_reason.specs.Shut.{is_usable_edge, first_shut, denied_by, by_walks};
 
-use gt_base::{Decision, HierEdge, List, Memory, PermId, RoleId, Status, Walk};
-use hybrid_hierarchy::{Hierarchy, usable};
+use gt_base::{Decision, Fluent, HierEdge, List, Memory, PermId, RoleId, Status, Walk};
+use hybrid_hierarchy::Hierarchy;
 use std::alloc::Global;
 
 /// Whether a session in which these roles are active has the permission in this status, and why not. `Permit` names the least walk of usable
@@ -50,7 +53,7 @@ pub fn decide_over(
     }
 }
 
-/// The decision where some role is active: a permit by the least walk of usable edges, or why there is none.
+/// The decision where some role is active: by the least walk, whichever edges are usable. Where there is none, there is none of usable edges.
 fn by_walks(
     alloc: Global,
     hierarchy: &Hierarchy,
@@ -62,55 +65,107 @@ fn by_walks(
         (permission_walk hierarchy.now (has status.now.set) active.now perm)
         (permission_walk_of_any hierarchy.now (has status.now.set) active.now perm)) }
 {
-    match hierarchy.reaches(alloc, status, active, perm)? {
-        Some(walk) => Ok(Decision::Permit { walk }),
-        None => denied(alloc, hierarchy, status, active, perm),
+    match hierarchy.reaches_any(alloc, status, active, perm)? {
+        Some(walk) => by_walk(alloc, hierarchy, status, active, perm, walk),
+        None => Ok(Decision::NoGrant),
     }
 }
 
-/// Why no walk of usable edges leads to the permission.
-fn denied(
+/// The decision where this is the least walk, whichever edges are usable: it permits, if each of its edges is.
+fn by_walk(
     alloc: Global,
     hierarchy: &Hierarchy,
     status: &Status,
     active: &[RoleId],
     perm: PermId,
+    walk: Walk,
 ) -> Result<Decision, Memory>
-    ensures { IfOk result (λ decision. decision ≡ denied_by (has status.now.set) hierarchy.now (permission_walk_of_any hierarchy.now (has status.now.set) active.now perm)) }
+    requires { permission_walk_of_any hierarchy.now (has status.now.set) active.now perm ≡ Some walk }
+    ensures { IfOk result (λ decision. decision ≡ by_walks (has status.now.set) hierarchy.now
+        (permission_walk hierarchy.now (has status.now.set) active.now perm)
+        (permission_walk_of_any hierarchy.now (has status.now.set) active.now perm)) }
 {
-    match hierarchy.reaches_any(alloc, status, active, perm)? {
-        Some(walk) => Ok(shut_at(hierarchy.edges(), status, &walk)),
-        None => Ok(Decision::NoGrant),
+    match shut_at(hierarchy.edges(), status, &walk) {
+        Some(edge) => past_shut(alloc, hierarchy, status, active, perm, edge),
+        None => Ok(Decision::Permit { walk }),
     }
 }
 
-/// The denial by a walk that is not usable.
-fn shut_at(edges: &[HierEdge], status: &Status, walk: &Walk) -> Decision
-    ensures { result ≡ denied_by (has status.now.set) edges.now (Some walk.now) }
+/// The decision where the least walk is shut at this edge: a permit by the least walk of usable edges, if there is one.
+fn past_shut(
+    alloc: Global,
+    hierarchy: &Hierarchy,
+    status: &Status,
+    active: &[RoleId],
+    perm: PermId,
+    edge: u32,
+) -> Result<Decision, Memory>
+    requires { denied_by (has status.now.set) hierarchy.now (permission_walk_of_any hierarchy.now (has status.now.set) active.now perm) ≡ Shut edge }
+    ensures { IfOk result (λ decision. decision ≡ by_walks (has status.now.set) hierarchy.now
+        (permission_walk hierarchy.now (has status.now.set) active.now perm)
+        (permission_walk_of_any hierarchy.now (has status.now.set) active.now perm)) }
 {
-    Decision::Shut {
-        edge: first_shut(edges, status, walk.edges.as_slice()),
+    match hierarchy.reaches(alloc, status, active, perm)? {
+        Some(walk) => Ok(Decision::Permit { walk }),
+        None => Ok(Decision::Shut { edge }),
     }
 }
 
-/// The first edge of the walk that lends nothing in the status; 0 where each lends.
-fn first_shut(edges: &[HierEdge], status: &Status, walk: &[u32]) -> u32
-    ensures { result ≡ first_unusable (has status.now.set) edges.now walk.now }
+/// The first edge of the walk that lends nothing in the status.
+fn shut_at(edges: &[HierEdge], status: &Status, walk: &Walk) -> Option<u32>
+    ensures { result ≡ first_shut (has status.now.set) edges.now walk.now.edges }
 {
+    first_shut(edges, status, walk.edges.as_slice())
+}
+
+/// The first of these edges that lends nothing in the status. What one edge asked of its junior role, the next one does not ask again of the
+/// same role as its senior.
+fn first_shut(edges: &[HierEdge], status: &Status, walk: &[u32]) -> Option<u32>
+    ensures { result ≡ first_shut (has status.now.set) edges.now walk.now }
+{
+    let mut enabled = None;
     for n in walk {
-        if !is_open(edges, status, *n) {
-            return *n;
+        if !is_open(edges, status, *n, enabled) {
+            return Some(*n);
         }
+        enabled = asked_junior(edges, *n);
     }
-    0
+    None
 }
 
-/// Whether the edge of this number lends permissions in the status.
-fn is_open(edges: &[HierEdge], status: &Status, number: u32) -> bool
+/// Whether the edge of this number lends permissions in the status, where this role, if any, is enabled.
+fn is_open(edges: &[HierEdge], status: &Status, number: u32, enabled: Option<RoleId>) -> bool
+    requires { IfSome enabled (λ role. has status.now.set (Enabled role) ≡ true) }
     ensures { result ≡ is_usable_edge (has status.now.set) edges.now number }
 {
     match edges.get(number as usize) {
-        Some(e) => usable(number, e, status, true),
+        Some(e) => {
+            e.inherits
+                && status.is_on(Fluent::Edge(number))
+                && is_enabled(status, e.senior, enabled)
+                && (!e.strong || status.is_on(Fluent::Enabled(e.junior)))
+        }
         None => false,
+    }
+}
+
+/// Whether the role is enabled, where this one, if any, is known to be.
+fn is_enabled(status: &Status, role: RoleId, enabled: Option<RoleId>) -> bool
+    requires { IfSome enabled (λ role. has status.now.set (Enabled role) ≡ true) }
+    ensures { result ≡ has status.now.set (Enabled role) }
+{
+    match enabled {
+        Some(known) if known.0 == role.0 => true,
+        _ => status.is_on(Fluent::Enabled(role)),
+    }
+}
+
+/// The junior role of the edge of this number, if the edge asks of it whether it is enabled.
+fn asked_junior(edges: &[HierEdge], number: u32) -> Option<RoleId>
+    ensures { (s : Fluent → Bool) → is_usable_edge s edges.now number ≡ true → IfSome result (λ role. s (Enabled role) ≡ true) }
+{
+    match edges.get(number as usize) {
+        Some(e) if e.strong => Some(e.junior),
+        _ => None,
     }
 }

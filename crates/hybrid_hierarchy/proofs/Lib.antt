@@ -9,3 +9,4 @@ pub mod Tracing
 pub mod Linking
 pub mod Listing
 pub mod Leaving
+pub mod Narrowing

@@ -1,5 +1,5 @@
 -- The roles of a list in ascending order, found one after another.
-use Rattle.std.proofs.Common.{◌≡◌, ℕ, zero, suc, ◌+◌, ◌-◌, ◌<◌, ◌≤◌, ◌⊎◌, inl, inr, Bool, true, false, ◌&&◌, ◌||◌, cond, nat_eq, nat_le, nat_lt, List, [], ◌∷◌, ◌++◌, length, take, get_or, filter, refl, ◌∙◌, ap, arith}
+use Rattle.std.proofs.Common.{◌≡◌, ℕ, zero, suc, ◌+◌, ◌-◌, ◌<◌, ◌≤◌, ◌⊎◌, inl, inr, Bool, true, false, ◌&&◌, ◌||◌, cond, nat_eq, nat_le, nat_lt, List, [], ◌∷◌, ◌++◌, length, take, get_or, filter, refl, sym, ◌∙◌, ap, arith}
 use Rattle.std.specs.List.{range_with_len}
 use Rattle.std.proofs.lemmas.Bool.{eqb-true, eq-eqb, leb-true, leb-false, ltb-true, ltb-false}
 use Rattle.std.proofs.lemmas.List.Folds.{list_any_more}
@@ -107,6 +107,32 @@ module _ (roles : List RoleId) (low next : ℕ) (h : Nearest roles low next) whe
 pub listed_all : (roles : List RoleId) → listed_from roles 0 ≡ filter (λ n. lists same_role roles (record { 0 = n })) (range_with_len 0 1_000)
 unfolding listed_from
 listed_all roles = refl
+
+-- one role alone
+pub listed_one : (r : RoleId) → r.0 < 1_000 → r.0 ∷ [] ≡ filter (λ n. lists same_role (r ∷ []) (record { 0 = n })) (range_with_len 0 1_000)
+listed_one r low =
+    ap (λ ns. r.0 ∷ ns) (sym (listed_no_more (r ∷ []) (r.0 + 1) 1_000 last (omega arith)))
+    ∙ sym (listed_next (r ∷ []) 0 r.0 first low) ∙ listed_all (r ∷ [])
+  where
+    other : (n : ℕ) → (n ≡ r.0 → ⊥) → lists same_role (r ∷ []) (role n) ≡ false
+    other n ne = ap (λ b. b || false) (apart n r.0 ne)
+
+    below : (n : ℕ) → n < r.0 → n ≡ r.0 → ⊥
+    below n h e = omega (arith, h, e)
+
+    above : (n : ℕ) → r.0 + 1 ≤ n → n ≡ r.0 → ⊥
+    above n h e = omega (arith, h, e)
+
+    first : Nearest (r ∷ []) 0 r.0
+    first = record { above = omega arith; within = omega (arith, low); none = λ n a b. other n (below n b); some = inr (ap (λ b. b || false) (eq-eqb r.0 r.0 refl)) }
+
+    last : Nearest (r ∷ []) (r.0 + 1) 1_000
+    last = record { above = omega (arith, low); within = omega arith; none = λ n a b. other n (above n a); some = inl refl }
+
+pub alone : (rs : List RoleId) (d : RoleId) → 1 ≤ length rs → length rs < 2 → get_or rs 0 d ∷ [] ≡ rs
+alone [] d some few = absurd (omega (arith, some))
+alone (r ∷ []) d some few = refl
+alone (r ∷ q ∷ rs) d some few = absurd (omega (arith, few))
 
 pub ends : (xs : List ℕ) → xs ++ [] ≡ xs
 ends [] = refl

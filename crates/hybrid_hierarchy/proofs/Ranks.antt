@@ -1,5 +1,5 @@
 -- The order of walks: by length, by start, by numbers.
-use Rattle.std.proofs.Common.{◌≡◌, ℕ, ◌+◌, ◌<◌, ◌⊎◌, inl, inr, true, List, [], ◌∷◌, ◌++◌, length, refl, sym, ◌∙◌, ap, subst, arith}
+use Rattle.std.proofs.Common.{◌≡◌, ℕ, ◌+◌, ◌<◌, ◌⊎◌, inl, inr, true, List, [], ◌∷◌, ◌++◌, length, refl, sym, ◌∙◌, ap, subst, arith, append-nil}
 use Rattle.std.specs.Ordering.{nat_cmp, is_le, ordering_then}
 use Rattle.std.specs.Cmp.{nat_cmp_is}
 use Rattle.std.specs.declared.cmp.Ordering.TheVariants.{Less, Equal}
@@ -78,6 +78,10 @@ longer (x ∷ xs) y ys = let k : length xs < length (xs ++ y ∷ ys) = longer xs
 -- a walk that goes on is later
 pub not_later_on : (i j : ℕ) (xs ys : List ℕ) (n : ℕ) (ns : List ℕ) → NotLater i xs j ys → NotLater i xs j (ys ++ n ∷ ns)
 not_later_on i j xs ys n ns h = not_later_through i j j xs ys (ys ++ n ∷ ns) h (inr (inl (longer ys n ns)))
+
+pub not_later_rest : (i j : ℕ) (xs ys ns : List ℕ) → NotLater i xs j ys → NotLater i xs j (ys ++ ns)
+not_later_rest i j xs ys [] h = subst (NotLater i xs j) (sym (append-nil ys)) h
+not_later_rest i j xs ys (n ∷ ns) h = not_later_on i j xs ys n ns h
 
 -- in the model's words
 pub in_order : (i j : ℕ) (xs ys : List ℕ) → NotLater i xs j ys → (length xs < length ys) ⊎ ((length xs ≡ length ys) × ((i < j) ⊎ ((i ≡ j) × (is_le (slice_cmp nat_cmp xs ys) ≡ true))))

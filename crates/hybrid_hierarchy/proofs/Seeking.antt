@@ -13,7 +13,7 @@ use Rattle.hybrid_hierarchy.proofs.Roles.{role}
 use Rattle.hybrid_hierarchy.proofs.Ranks.{before_push, before_own, before_more}
 
 -- a walk that goes on by an edge
-leads_on : (arcs : List (Arc RoleId)) (a b c : RoleId) (ns : List ℕ) (n : ℕ) → LeadsAlong arcs a ns b → item_at arcs n ≡ Some (record { from = b; to = c; is_open = true }) → LeadsAlong arcs a (ns ++ n ∷ []) c
+pub leads_on : (arcs : List (Arc RoleId)) (a b c : RoleId) (ns : List ℕ) (n : ℕ) → LeadsAlong arcs a ns b → item_at arcs n ≡ Some (record { from = b; to = c; is_open = true }) → LeadsAlong arcs a (ns ++ n ∷ []) c
 leads_on arcs a b c [] n w is = (record { from = b; to = c; is_open = true }, is, refl, sym w, refl)
 leads_on arcs a b c (m ∷ ns) n (arc, at, may, from, rest) is = (arc, at, may, from, leads_on arcs arc.to b c ns n rest is)
 
@@ -62,7 +62,7 @@ module _ (ok : ℕ → HierEdge → Bool) (goal : RoleId → Bool) (es : List Hi
   no_item i s h = cc
 
   -- nothing is found yet
-  pub search_nothing : (seen : List Bool) → ((v : ℕ) → is_seen seen v ≡ true → ⊥) → Searched ok goal es starts 0 seen [] [] 0 0 0
+  pub search_nothing : (seen : List Bool) → ((v : ℕ) → is_seen seen v ≡ true → ⊥) → Searched ok goal es starts 0 seen [] [] 0 0
   search_nothing seen unmarked = record {
     tells = record { size = refl; told = λ i f at. absurd (no_item i f at) };
     leads = λ i s at. absurd (no_item i s at);
@@ -73,13 +73,13 @@ module _ (ok : ℕ → HierEdge → Bool) (goal : RoleId → Bool) (es : List Hi
     begins = λ p v h is. absurd (below p h);
     older = λ k f at. absurd (no_item k f at);
     done = λ i n s e at is on from h. absurd (no_item i s at);
-    passed = λ i s at h. absurd (no_item i s at);
+    passed = λ i s at. absurd (no_item i s at);
   }
     where
       below : (p : ℕ) → p < 0 → ⊥
       below p h = omega (arith, h)
 
-  module _ (begun : ℕ) (seen : List Bool) (queue : List Found) (ws : List Stop) (v : ℕ) (is : item_at starts begun ≡ Some v) (low : v < length seen) (w : Searched ok goal es starts begun seen queue ws 0 0 0) where
+  module _ (begun : ℕ) (seen : List Bool) (queue : List Found) (ws : List Stop) (v : ℕ) (is : item_at starts begun ≡ Some v) (low : v < length seen) (off : goal (role v) ≡ false) (w : Searched ok goal es starts begun seen queue ws 0 0) where
     abbrev new : Stop
     new = record { node = v; start = v; place = begun; arcs = [] }
 
@@ -108,7 +108,7 @@ module _ (ok : ℕ → HierEdge → Bool) (goal : RoleId → Bool) (es : List Hi
         by f t (inr h) (inr e) = absurd (none_earlier f.before f.by e)
 
     -- a start more
-    pub search_start : Searched ok goal es starts (begun + 1) (slice_set seen v true) (queue ++ record { role = v; by = no_edge; before = begun } ∷ []) (ws ++ new ∷ []) 0 0 0
+    pub search_start : Searched ok goal es starts (begun + 1) (slice_set seen v true) (queue ++ record { role = v; by = no_edge; before = begun } ∷ []) (ws ++ new ∷ []) 0 0
     search_start = record {
       tells = tells_push queue ws (record { role = v; by = no_edge; before = begun }) new w.tells (refl, inl (refl, refl, refl, refl));
       leads = λ i s at. elim (item_pushed ws new i s at) [
@@ -143,12 +143,12 @@ module _ (ok : ℕ → HierEdge → Bool) (goal : RoleId → Bool) (es : List Hi
         | inr (last, same) ↦ inl (ap (λ g. g.by) (sym same))
       ];
       done = λ i n s e at ise on from h. absurd (none_earlier i n h);
-      passed = λ i s at h. absurd (below i h);
+      passed = λ i s at. elim (item_pushed ws new i s at) [
+        | inl k ↦ w.passed i s k
+        | inr (last, same) ↦ subst (λ z. goal (role z.node) ≡ false) same off
+      ];
     }
       where
-        below : (p : ℕ) → p < 0 → ⊥
-        below p h = omega (arith, h)
-
         up : (a b : ℕ) → a < b → a < b + 1
         up a b h = omega (arith, h)
 
@@ -177,7 +177,7 @@ module _ (ok : ℕ → HierEdge → Bool) (goal : RoleId → Bool) (es : List Hi
   -- the edge n of the head s
   module _ (begun : ℕ) (seen : List Bool) (queue : List Found) (ws : List Stop) (head n n' : ℕ) (s : Stop) (e : HierEdge)
       (few : length es ≤ 4_000) (here : item_at ws head ≡ Some s) (is : item_at es n ≡ Some e) (from : e.senior.0 ≡ s.node) (next : IsFirst es s.node (n + 1) n')
-      (w : Searched ok goal es starts begun seen queue ws (head + 1) head n) where
+      (w : Searched ok goal es starts begun seen queue ws head n) where
     low : n < 4_000
     low = omega (arith, item_within es n e is, few)
 
@@ -222,7 +222,7 @@ module _ (ok : ℕ → HierEdge → Bool) (goal : RoleId → Bool) (es : List Hi
     ]
 
     -- nothing new is found by the edge
-    pub search_skip : (ok n e ≡ true → is_seen seen e.junior.0 ≡ true) → Searched ok goal es starts begun seen queue ws (head + 1) head n'
+    pub search_skip : (ok n e ≡ true → is_seen seen e.junior.0 ≡ true) → Searched ok goal es starts begun seen queue ws head n'
     search_skip known = record {
       tells = w.tells;
       leads = w.leads;
@@ -259,8 +259,8 @@ module _ (ok : ℕ → HierEdge → Bool) (goal : RoleId → Bool) (es : List Hi
     reached = record { node = e.junior.0; start = s.start; place = s.place; arcs = s.arcs ++ n ∷ [] }
 
     -- a role is found by the edge
-    pub search_found : ok n e ≡ true → e.junior.0 < length seen → Searched ok goal es starts begun (slice_set seen e.junior.0 true) (queue ++ found ∷ []) (ws ++ reached ∷ []) (head + 1) head n'
-    search_found on inside = record {
+    pub search_found : ok n e ≡ true → e.junior.0 < length seen → goal e.junior ≡ false → Searched ok goal es starts begun (slice_set seen e.junior.0 true) (queue ++ found ∷ []) (ws ++ reached ∷ []) head n'
+    search_found on inside off = record {
       tells = tells_push queue ws found reached w.tells (refl, inr (s, omega (arith, low), subst (λ k. head < k) w.tells.size (item_within ws head s here), here, refl, refl, refl));
       leads = λ i t at. elim (item_pushed ws reached i t at) [
         | inl k ↦ w.leads i t k
@@ -306,9 +306,9 @@ module _ (ok : ℕ → HierEdge → Bool) (goal : RoleId → Bool) (es : List Hi
         ]
         | inr (last, same) ↦ absurd (too_late i m last h)
       ];
-      passed = λ i t at h. elim (item_pushed ws reached i t at) [
-        | inl k ↦ w.passed i t k h
-        | inr (last, same) ↦ absurd (not_past i last h)
+      passed = λ i t at. elim (item_pushed ws reached i t at) [
+        | inl k ↦ w.passed i t k
+        | inr (last, same) ↦ subst (λ z. goal (role z.node) ≡ false) same off
       ];
     }
       where
@@ -325,9 +325,6 @@ module _ (ok : ℕ → HierEdge → Bool) (goal : RoleId → Bool) (es : List Hi
         too_late i m q (inl h) = omega (arith, q, h, inside_head)
         too_late i m q (inr (p, h)) = omega (arith, q, p, inside_head)
 
-        not_past : (i : ℕ) → i ≡ length ws → i < head + 1 → ⊥
-        not_past i q h = omega (arith, q, h, inside_head)
-
         this : (m : ℕ) (f : HierEdge) (t : Stop) → t ≡ s → m ≡ n → item_at es m ≡ Some f → IsFound (ws ++ reached ∷ []) f.junior.0 t.place (t.arcs ++ m ∷ [])
         this m f t same k isf =
             let edge : e ≡ f = one_item es n e f is (ap (item_at es) (sym k) ∙ isf) in
@@ -336,8 +333,8 @@ module _ (ok : ℕ → HierEdge → Bool) (goal : RoleId → Bool) (es : List Hi
             (record { at = length ws; stop = reached; is = item_last ws reached; ends = ap (λ g. g.junior.0) edge; rank = inl (refl, refl) }))
 
   -- the edges of the head are followed
-  pub search_on : (begun : ℕ) (seen : List Bool) (queue : List Found) (ws : List Stop) (past head n : ℕ) → length es ≤ 4_000 → n ≡ no_edge → Searched ok goal es starts begun seen queue ws past head n → Searched ok goal es starts begun seen queue ws past (head + 1) 0
-  search_on begun seen queue ws past head n few whole w = record {
+  pub search_on : (begun : ℕ) (seen : List Bool) (queue : List Found) (ws : List Stop) (head n : ℕ) → length es ≤ 4_000 → n ≡ no_edge → Searched ok goal es starts begun seen queue ws head n → Searched ok goal es starts begun seen queue ws (head + 1) 0
+  search_on begun seen queue ws head n few whole w = record {
     tells = w.tells;
     leads = w.leads;
     within = w.within;
@@ -361,31 +358,11 @@ module _ (ok : ℕ → HierEdge → Bool) (goal : RoleId → Bool) (es : List Hi
       down i m k (inl h) = elim (cases_lt i head) [ inl q ↦ inl q | inr q ↦ inr (omega (arith, h, q), k) ]
       down i m k (inr (q, h)) = absurd (omega (arith, h))
 
-  -- the head is no goal
-  pub search_past : (begun : ℕ) (seen : List Bool) (queue : List Found) (ws : List Stop) (head lim : ℕ) (s : Stop) → item_at ws head ≡ Some s → goal (role s.node) ≡ false
-      → Searched ok goal es starts begun seen queue ws head head lim → Searched ok goal es starts begun seen queue ws (head + 1) head lim
-  search_past begun seen queue ws head lim s here no_goal w = record {
-    tells = w.tells;
-    leads = w.leads;
-    within = w.within;
-    places = w.places;
-    order = w.order;
-    marked = w.marked;
-    begins = w.begins;
-    older = w.older;
-    done = w.done;
-    passed = λ i t at h. elim (cases_lt i head) [
-      | inl k ↦ w.passed i t at k
-      | inr k ↦ this i t at (omega (arith, h, k))
-    ];
-  }
-    where
-      this : (i : ℕ) (t : Stop) → item_at ws i ≡ Some t → i ≡ head → goal (role t.node) ≡ false
-      this i t at q = ap (λ z. goal (role z.node)) (one_item ws head t s (ap (item_at ws) (sym q) ∙ at) here) ∙ no_goal
-
-  -- the edges of the head from its first one on
-  pub search_first : (begun : ℕ) (seen : List Bool) (queue : List Found) (ws : List Stop) (past head n : ℕ) (s : Stop) → item_at ws head ≡ Some s → IsFirst es s.node 0 n → Searched ok goal es starts begun seen queue ws past head 0 → Searched ok goal es starts begun seen queue ws past head n
-  search_first begun seen queue ws past head n s here first w = record {
+  -- no edge from the head is open up to the limit
+  pub search_shut : (begun : ℕ) (seen : List Bool) (queue : List Found) (ws : List Stop) (head n : ℕ) (s : Stop) → item_at ws head ≡ Some s
+      → ((m : ℕ) (e : HierEdge) → item_at es m ≡ Some e → e.senior.0 ≡ s.node → ok m e ≡ true → m < n → ⊥)
+      → Searched ok goal es starts begun seen queue ws head 0 → Searched ok goal es starts begun seen queue ws head n
+  search_shut begun seen queue ws head n s here shut w = record {
     tells = w.tells;
     leads = w.leads;
     within = w.within;
@@ -396,7 +373,7 @@ module _ (ok : ℕ → HierEdge → Bool) (goal : RoleId → Bool) (es : List Hi
     older = λ k f at. elim (w.older k f at) [ inl h ↦ inl h | inr h ↦ inr (up f.before f.by h) ];
     done = λ i m t e at is on from h. elim h [
       | inl h ↦ w.done i m t e at is on from (inl h)
-      | inr (q, h) ↦ absurd (first.nothing m e (low m) h is (from ∙ ap (λ z. z.node) (one_item ws head t s (ap (item_at ws) (sym q) ∙ at) here)))
+      | inr (q, h) ↦ absurd (shut m e is (from ∙ ap (λ z. z.node) (one_item ws head t s (ap (item_at ws) (sym q) ∙ at) here)) on h)
     ];
     passed = w.passed;
   }
@@ -405,5 +382,10 @@ module _ (ok : ℕ → HierEdge → Bool) (goal : RoleId → Bool) (es : List Hi
       up i m (inl h) = inl h
       up i m (inr (q, h)) = absurd (omega (arith, h))
 
+  -- the edges of the head from its first one on
+  pub search_first : (begun : ℕ) (seen : List Bool) (queue : List Found) (ws : List Stop) (head n : ℕ) (s : Stop) → item_at ws head ≡ Some s → IsFirst es s.node 0 n → Searched ok goal es starts begun seen queue ws head 0 → Searched ok goal es starts begun seen queue ws head n
+  search_first begun seen queue ws head n s here first w =
+      search_shut begun seen queue ws head n s here (λ m e is from on h. first.nothing m e (low m) h is from) w
+    where
       low : (m : ℕ) → 0 ≤ m
       low m = omega arith

@@ -3,7 +3,7 @@ use Rattle.std.specs.Prelude.{◌≡◌, ℕ, ◌+◌, ◌-◌, ◌<◌, ◌≤�
 use Rattle.std.specs.List.{slice_index_or, range_with_len}
 use Rattle.gt_base.specs.declared.events.RoleId.{RoleId}
 use Rattle.gt_base.specs.declared.policies.HierEdge.{HierEdge}
-use Rattle.gtrbac_model.specs.Graph.{LeadsAlong, item_at}
+use Rattle.gtrbac_model.specs.Graph.{LeadsAlong, IsLeastWalk, item_at}
 use Rattle.gtrbac_model.specs.Hierarchy.{role_arcs}
 use Rattle.gtrbac_model.specs.Same.{same_role, lists}
 use Rattle.hybrid_hierarchy.specs.declared.searching.Found.{Found}
@@ -62,9 +62,9 @@ pub record Tells (queue : List Found) (ws : List Stop) : Type 0 where
 abbrev pub HasStops : List Found → Type 0
 HasStops queue = (ws : List Stop) × Tells queue ws
 
--- the walk of what was found at this place
-abbrev pub IsWalkTo : List Found → ℕ → ℕ → List ℕ → Type 0
-IsWalkTo queue at start arcs = (ws : List Stop) (s : Stop) → Tells queue ws → item_at ws at ≡ Some s → (start ≡ s.start) × (arcs ≡ s.arcs)
+-- the walk of what was found at this place, and on by an edge
+abbrev pub IsWalkBy : List Found → ℕ → ℕ → ℕ → List ℕ → Type 0
+IsWalkBy queue at last start arcs = (ws : List Stop) (s : Stop) → Tells queue ws → item_at ws at ≡ Some s → (start ≡ s.start) × (arcs ≡ s.arcs ++ last ∷ [])
 
 -- found earlier than the head, or at the head and by a lesser edge
 abbrev pub Earlier : ℕ → ℕ → ℕ → ℕ → Type 0
@@ -81,9 +81,9 @@ pub record IsFound (ws : List Stop) (v place : ℕ) (arcs : List ℕ) : Type 0 w
 abbrev pub is_seen : List Bool → ℕ → Bool
 is_seen seen v = slice_index_or seen v false
 
--- what was found stands in the order of its walks; of what was found before the head the open edges are followed, and of the head those
--- below lim; none of the first so many is a goal
-pub record Searched (ok : ℕ → HierEdge → Bool) (goal : RoleId → Bool) (es : List HierEdge) (starts : List ℕ) (begun : ℕ) (seen : List Bool) (queue : List Found) (ws : List Stop) (past head lim : ℕ) : Type 0 where
+-- what was found stands in the order of its walks, and none of it is a goal; of what was found before the head the open edges are followed,
+-- and of the head those below lim
+pub record Searched (ok : ℕ → HierEdge → Bool) (goal : RoleId → Bool) (es : List HierEdge) (starts : List ℕ) (begun : ℕ) (seen : List Bool) (queue : List Found) (ws : List Stop) (head lim : ℕ) : Type 0 where
   pub tells : Tells queue ws
   pub leads : (i : ℕ) (s : Stop) → item_at ws i ≡ Some s → (item_at starts s.place ≡ Some s.start) × LeadsAlong (role_arcs ok es) (record { 0 = s.start }) s.arcs (record { 0 = s.node })
   pub within : (i : ℕ) (s : Stop) → item_at ws i ≡ Some s → s.node < length seen
@@ -93,22 +93,35 @@ pub record Searched (ok : ℕ → HierEdge → Bool) (goal : RoleId → Bool) (e
   pub begins : (p v : ℕ) → p < begun → item_at starts p ≡ Some v → IsFound ws v p []
   pub older : (k : ℕ) (f : Found) → item_at queue k ≡ Some f → (f.by ≡ no_edge) ⊎ Earlier f.before f.by head lim
   pub done : (i n : ℕ) (s : Stop) (e : HierEdge) → item_at ws i ≡ Some s → item_at es n ≡ Some e → ok n e ≡ true → e.senior.0 ≡ s.node → Earlier i n head lim → IsFound ws e.junior.0 s.place (s.arcs ++ n ∷ [])
-  pub passed : (i : ℕ) (s : Stop) → item_at ws i ≡ Some s → i < past → goal (record { 0 = s.node }) ≡ false
+  pub passed : (i : ℕ) (s : Stop) → item_at ws i ≡ Some s → goal (record { 0 = s.node }) ≡ false
 
-abbrev pub HasSearched : (ℕ → HierEdge → Bool) → (RoleId → Bool) → List HierEdge → List ℕ → ℕ → List Bool → List Found → ℕ → ℕ → ℕ → Type 0
-HasSearched ok goal es starts begun seen queue past head lim = (ws : List Stop) × Searched ok goal es starts begun seen queue ws past head lim
+abbrev pub HasSearched : (ℕ → HierEdge → Bool) → (RoleId → Bool) → List HierEdge → List ℕ → ℕ → List Bool → List Found → ℕ → ℕ → Type 0
+HasSearched ok goal es starts begun seen queue head lim = (ws : List Stop) × Searched ok goal es starts begun seen queue ws head lim
 
 -- the nodes by their numbers
 abbrev pub roles_of : List ℕ → List RoleId
 roles_of ns = map (λ n. record { 0 = n }) ns
 
--- the same while the edges of the head are followed, of which the next is n
-pub record Following (ok : ℕ → HierEdge → Bool) (goal : RoleId → Bool) (es : List HierEdge) (starts : List ℕ) (seen : List Bool) (queue : List Found) (head n : ℕ) : Type 0 where
+-- the same while the edges of the head are followed, which is role v, and of which the next is n
+pub record Following (ok : ℕ → HierEdge → Bool) (goal : RoleId → Bool) (es : List HierEdge) (starts : List ℕ) (seen : List Bool) (queue : List Found) (head v n : ℕ) : Type 0 where
   pub walks : List Stop
   pub stop : Stop
   pub here : item_at walks head ≡ Some stop
+  pub node : stop.node ≡ v
   pub link : (n ≡ no_edge) ⊎ ((e : HierEdge) × (item_at es n ≡ Some e) × (e.senior.0 ≡ stop.node))
-  pub searched : Searched ok goal es starts (length starts) seen queue walks (head + 1) head n
+  pub searched : Searched ok goal es starts (length starts) seen queue walks head n
+
+-- no start is a goal
+abbrev pub AreNoGoals : (RoleId → Bool) → List ℕ → Type 0
+AreNoGoals goal starts = (i s : ℕ) → item_at starts i ≡ Some s → goal (record { 0 = s }) ≡ false
+
+-- the walk of the head, and on by the edge n, is the least one to a goal
+pub record IsGoalBy (ok : ℕ → HierEdge → Bool) (goal : RoleId → Bool) (es : List HierEdge) (starts : List ℕ) (queue : List Found) (head n : ℕ) : Type 0 where
+  pub walks : List Stop
+  pub stop : Stop
+  pub tells : Tells queue walks
+  pub here : item_at walks head ≡ Some stop
+  pub least : IsLeastWalk (role_arcs ok es) goal (roles_of starts) (record { start = record { 0 = stop.start }; arcs = stop.arcs ++ n ∷ [] })
 
 -- the roles of the list from number low on, ascending and each once
 unfoldable pub listed_from : List RoleId → ℕ → List ℕ

@@ -1,5 +1,5 @@
 //! What is asked of a hierarchy in a status.
-ghost use Rattle.std.specs.Prelude.{◌≡◌, ℕ, Bool};
+ghost use Rattle.std.specs.Prelude.{◌≡◌, ℕ, Bool, true, false};
 
 use crate::walks::usable;
 use gt_base::{Fluent, HierEdge, PermId, RoleId, Status};
@@ -13,8 +13,16 @@ pub(crate) trait Question {
 
     ghost goals: { Self → RoleId → Bool };
 
-    /// Whether the edge of this number is open.
+    ghost leaves: { Self → RoleId → Bool };
+
+    /// Whether an edge from the role may be open: what all of them ask of it.
+    fn may_leave(&self, role: RoleId) -> bool
+        ensures asked { result ≡ leaves self.now role }
+        ensures shut { result ≡ false → (n : ℕ) (e : HierEdge) → e.senior ≡ role → passes self.now n e ≡ false };
+
+    /// Whether the edge of this number, from a role that edges may leave, is open.
     fn may_pass(&self, n: u32, e: &HierEdge) -> bool
+        requires { leaves self.now e.now.senior ≡ true }
         ensures { result ≡ passes self.now n e.now };
 
     /// Whether the role is a goal.
@@ -30,7 +38,7 @@ pub(crate) struct Activating<'a> {
 }
 
 impl<'a> Question for Activating<'a> {
-    ghost use Rattle.std.specs.Prelude.{false};
+    ghost use Rattle.std.specs.Prelude.{true, false};
     ghost use Rattle.gt_base.specs.Sets.{has};
     ghost use Rattle.gtrbac_model.specs.Same.{same_role};
     ghost use Rattle.gtrbac_model.specs.Hierarchy.{usable};
@@ -38,6 +46,12 @@ impl<'a> Question for Activating<'a> {
     ghost passes = { λ q. usable (has q.status.now.set) false };
 
     ghost goals = { λ q. same_role q.role };
+
+    ghost leaves = { λ q r. true };
+
+    fn may_leave(&self, _role: RoleId) -> bool {
+        true
+    }
 
     fn may_pass(&self, n: u32, e: &HierEdge) -> bool {
         usable(n, e, self.status, false)
@@ -58,15 +72,23 @@ pub(crate) struct Lending<'a> {
 impl<'a> Question for Lending<'a> {
     ghost use Rattle.std.specs.Prelude.{true};
     ghost use Rattle.gt_base.specs.Sets.{has};
-    ghost use Rattle.gt_base.specs.declared.events.Fluent.TheVariants.{Granted};
+    ghost use Rattle.gt_base.specs.declared.events.Fluent.TheVariants.{Enabled, Granted};
     ghost use Rattle.gtrbac_model.specs.Hierarchy.{usable};
 
     ghost passes = { λ q. usable (has q.status.now.set) true };
 
     ghost goals = { λ q r. has q.status.now.set (Granted q.perm r) };
 
+    ghost leaves = { λ q r. has q.status.now.set (Enabled r) };
+
+    fn may_leave(&self, role: RoleId) -> bool {
+        self.status.is_on(Fluent::Enabled(role))
+    }
+
     fn may_pass(&self, n: u32, e: &HierEdge) -> bool {
-        usable(n, e, self.status, true)
+        e.inherits
+            && self.status.is_on(Fluent::Edge(n))
+            && (!e.strong || self.status.is_on(Fluent::Enabled(e.junior)))
     }
 
     fn is_goal(&self, role: RoleId) -> bool {
@@ -82,12 +104,19 @@ pub(crate) struct LendingByAny<'a> {
 }
 
 impl<'a> Question for LendingByAny<'a> {
+    ghost use Rattle.std.specs.Prelude.{true};
     ghost use Rattle.gt_base.specs.Sets.{has};
     ghost use Rattle.gt_base.specs.declared.events.Fluent.TheVariants.{Granted};
 
     ghost passes = { λ q n e. e.inherits };
 
     ghost goals = { λ q r. has q.status.now.set (Granted q.perm r) };
+
+    ghost leaves = { λ q r. true };
+
+    fn may_leave(&self, _role: RoleId) -> bool {
+        true
+    }
 
     fn may_pass(&self, _n: u32, e: &HierEdge) -> bool {
         e.inherits

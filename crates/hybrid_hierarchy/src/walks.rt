@@ -4,12 +4,12 @@ ghost use Rattle.std.specs.List.{range_with_len};
 ghost use Rattle.gt_base.specs.declared.events.Fluent.TheVariants.{Enabled, Assigned, Granted, Edge};
 ghost use Rattle.gt_base.specs.Sets.{has};
 ghost use Rattle.gtrbac_model.specs.Same.{same_role, lists};
-ghost use Rattle.gtrbac_model.specs.Hierarchy.{usable, activation_walk, permission_walk, permission_walk_of_any};
+ghost use Rattle.gtrbac_model.specs.Hierarchy.{usable, least_role_walk, activation_walk, permission_walk, permission_walk_of_any};
 ghost use Rattle.hybrid_hierarchy.specs.Nets.{IsHierarchy};
 ghost use Rattle.hybrid_hierarchy.specs.Searches.{IsOutgoing, leads_on, listed_from};
 
 use crate::outgoing::{NONE, Outgoing, first_of, outgoing_of};
-use crate::questions::{Activating, Lending, LendingByAny};
+use crate::questions::{Activating, Lending, LendingByAny, Question};
 use crate::searching::least;
 use gt_base::{Fluent, HierEdge, List, Memory, PermId, RoleId, Status, UserId, Walk};
 use std::alloc::Global;
@@ -131,6 +131,27 @@ pub(crate) fn activation(
     least(alloc, edges, out, &from, &Activating { status, role })
 }
 
+/// The least walk over open edges from one of the roles to a goal. One role alone takes no memory to be listed.
+fn least_from<Q: Question>(
+    alloc: Global,
+    edges: &[HierEdge],
+    out: &Outgoing,
+    roles: &[RoleId],
+    asked: &Q,
+) -> Result<Option<Walk>, Memory>
+    requires hierarchy { IsHierarchy edges.now }
+    requires outgoing { IsOutgoing edges.now out.now.first.items out.now.next.items }
+    ensures { IfOk result (λ walk. walk ≡ least_role_walk edges.now (Q.passes asked.now) (lists same_role roles.now) (Q.goals asked.now)) }
+{
+    match roles {
+        [role] if role.0 < ROLES => least(alloc, edges, out, &[role.0], asked),
+        _ => {
+            let from = listed_roles(alloc, roles)?;
+            least(alloc, edges, out, &from, asked)
+        }
+    }
+}
+
 /// The least walk of usable edges by which one of the active roles is lent the permission, over edges that were indexed.
 pub(crate) fn lending(
     alloc: Global,
@@ -144,8 +165,7 @@ pub(crate) fn lending(
     requires outgoing { IsOutgoing edges.now out.now.first.items out.now.next.items }
     ensures { IfOk result (λ walk. walk ≡ permission_walk edges.now (has status.now.set) active.now perm) }
 {
-    let from = listed_roles(alloc, active)?;
-    least(alloc, edges, out, &from, &Lending { status, perm })
+    least_from(alloc, edges, out, active, &Lending { status, perm })
 }
 
 /// The same walk where all edges that lend permissions are taken.
@@ -161,8 +181,7 @@ pub(crate) fn lending_by_any(
     requires outgoing { IsOutgoing edges.now out.now.first.items out.now.next.items }
     ensures { IfOk result (λ walk. walk ≡ permission_walk_of_any edges.now (has status.now.set) active.now perm) }
 {
-    let from = listed_roles(alloc, active)?;
-    least(alloc, edges, out, &from, &LendingByAny { status, perm })
+    least_from(alloc, edges, out, active, &LendingByAny { status, perm })
 }
 
 /// By which walk of usable edges the user may activate the role: the least by the number of its edges, then by the number of the assigned

@@ -12,7 +12,7 @@ loop-place-init g c =
     let goals = g.Q.Question.goals c.args.asked.now in
     record {
       size = refl;
-      searched = ([], subst (λ q. Searched ok goals c.args.edges.now c.args.from.now 0 c.args.seen.now q [] 0 0 0) (sym c.in_ok-queue.ensures.items) (search_nothing ok goals c.args.edges.now c.args.from.now c.args.seen.now c.requires.unmarked));
+      searched = ([], subst (λ q. Searched ok goals c.args.edges.now c.args.from.now 0 c.args.seen.now q [] 0 0) (sym c.in_ok-queue.ensures.items) (search_nothing ok goals c.args.edges.now c.args.from.now c.args.seen.now c.requires.unmarked));
     }
 
 pub bounds-seen-role : goal.bounds-seen-role
@@ -32,7 +32,7 @@ loop-place-preserved g c =
       size = length-set c.loop-place.seen v true ∙ c.loop-place.invariant.size;
       searched = (
         ws ++ record { node = v; start = v; place = c.loop-place.place; arcs = [] } ∷ [],
-        subst (λ q. Searched ok goals c.args.edges.now c.args.from.now (c.loop-place.place + 1) (slice_set c.loop-place.seen v true) q (ws ++ record { node = v; start = v; place = c.loop-place.place; arcs = [] } ∷ []) 0 0 0)
-            (sym c.in_ok-push.ensures.items) (search_start ok goals c.args.edges.now c.args.from.now c.loop-place.place c.loop-place.seen c.loop-place.queue.items ws v is low w),
+        subst (λ q. Searched ok goals c.args.edges.now c.args.from.now (c.loop-place.place + 1) (slice_set c.loop-place.seen v true) q (ws ++ record { node = v; start = v; place = c.loop-place.place; arcs = [] } ∷ []) 0 0)
+            (sym c.in_ok-push.ensures.items) (search_start ok goals c.args.edges.now c.args.from.now c.loop-place.place c.loop-place.seen c.loop-place.queue.items ws v is low (c.requires.no_goals c.loop-place.place v is) w),
       );
     }

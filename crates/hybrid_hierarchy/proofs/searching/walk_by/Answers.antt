@@ -1,13 +1,19 @@
-use Rattle.std.proofs.Common.{ℕ, ◌<◌, [], ◌∷◌, ◌++◌, List, slice_index_or, sym, ◌∙◌, ap, arith, append_assoc}
+use Rattle.std.proofs.Common.{ℕ, ◌<◌, [], ◌∷◌, ◌++◌, List, slice_index_or, refl, sym, ◌∙◌, ap, arith, append_assoc}
 use Rattle.std.specs.Prelude.{reverse}
 use Rattle.std.proofs.lemmas.List.{reverse-append}
 use Rattle.least_walk.proofs.Items.{item_read}
 use Rattle.hybrid_hierarchy.specs.declared.searching.Found.{Found}
 use Rattle.hybrid_hierarchy.proofs.Tracing.{IsBack, back_step, back_start}
-use Rattle.hybrid_hierarchy.proofs.searching.walk_to.Goals as goal
+use Rattle.hybrid_hierarchy.proofs.searching.walk_by.Goals as goal
 
 abbrev found_at : List Found → ℕ → Found
 found_at queue i = slice_index_or queue i (record { role = 0; by = 0; before = 0 })
+
+pub loop-i-init : goal.loop-i-init
+loop-i-init c = record {
+  inside = c.requires.inside;
+  back = λ ws s w at. (s, at, refl, ap (λ xs. s.arcs ++ xs) (sym (ap reverse (c.in_ok-push.ensures.items ∙ ap (λ xs. xs ++ c.args.last ∷ []) c.in_ok-numbers.ensures.items))));
+}
 
 pub loop-i-preserved : goal.loop-i-preserved
 loop-i-preserved c =
@@ -27,7 +33,7 @@ loop-i-preserved c =
             back.is,
             start ∙ back.start,
             arcs ∙ ap (λ xs. xs ++ reverse c.loop-i.numbers.items) back.arcs ∙ append_assoc back.last.arcs (f.by ∷ []) (reverse c.loop-i.numbers.items)
-                ∙ ap (λ xs. back.last.arcs ++ xs) (sym (ap reverse c.in_ok-push.ensures.items ∙ reverse-append c.loop-i.numbers.items (f.by ∷ []))),
+                ∙ ap (λ xs. back.last.arcs ++ xs) (sym (ap reverse c.in_ok-push-2.ensures.items ∙ reverse-append c.loop-i.numbers.items (f.by ∷ []))),
           );
     }
   where
