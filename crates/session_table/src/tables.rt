@@ -27,8 +27,8 @@ use crate::dropping::{Asked, dropped, prune, remember, signals_of, take_out};
 use crate::faults::SessionFault;
 use crate::nearing::next_capped;
 use crate::opened::{
-    Open, add_role, copied as copied_sessions, has_role, owner_at, place, push, remove_role,
-    roles_at, shut,
+    Open, add_role, close_up, copied as copied_sessions, has_role, owner_at, place, push,
+    remove_role, roles_at, shut,
 };
 use crate::plans::Drops;
 use crate::roles::Roles;
@@ -51,6 +51,7 @@ const MOST_SESSIONS: usize = 10_000;
 pub struct Sessions {
     alloc: Global,
     sessions: Vec<Open>,
+    standing: usize,
     active: Vec<Activation>,
     charges: IndexMap<Charge, u32>,
     begun: u32,
@@ -61,15 +62,15 @@ pub struct Sessions {
 impl Model for Sessions {
     ghost use Rattle.std.specs.Prelude.{map};
     ghost use Rattle.indexmap.specs.IndexMap.{spare};
-    ghost use Rattle.session_table.specs.Opened.{opened};
+    ghost use Rattle.session_table.specs.Opened.{opened, still_open};
     ghost use Rattle.session_table.specs.Kept.{IsTable};
     ghost use Rattle.session_table.specs.Tables.{TableView};
 
     ghost Value = { TableView };
 
-    ghost view = { λ s. record { sessions = map opened s.sessions.items; active = s.active.items; charges = s.charges.entries; begun = s.begun; charged_to = s.charged_to; room = spare s.charges } };
+    ghost view = { λ s. record { sessions = map opened (still_open s.sessions.items); active = s.active.items; charges = s.charges.entries; begun = s.begun; charged_to = s.charged_to; room = spare s.charges } };
 
-    ghost invariant = { λ s. IsTable s.sessions.items s.active.items s.charges.entries s.charged_to s.begun };
+    ghost invariant = { λ s. IsTable s.sessions.items s.standing s.active.items s.charges.entries s.charged_to s.begun };
 }
 
 impl Drop for Sessions {
@@ -77,6 +78,7 @@ impl Drop for Sessions {
         let Sessions {
             alloc: _,
             sessions: _,
+            standing: _,
             active: _,
             charges: _,
             begun: _,
@@ -95,6 +97,7 @@ impl Sessions {
         Sessions {
             alloc,
             sessions: Vec::new(alloc),
+            standing: 0,
             active: Vec::new(alloc),
             charges: IndexMap::new(alloc),
             begun: 0,
@@ -114,6 +117,7 @@ impl Sessions {
         Ok(Sessions {
             alloc: self.alloc,
             sessions,
+            standing: self.standing,
             active,
             charges,
             begun: self.begun,
@@ -132,7 +136,7 @@ impl Sessions {
         ensures refused { IfErr result (λ fault. OrRefused fault (Answers (table_of self.old) (User user) OpenSession)) }
         ensures same { OnErr result (table_of self.new ≡ table_of self.old) }
     {
-        if self.sessions.len() >= MOST_SESSIONS {
+        if self.standing >= MOST_SESSIONS {
             return Err(SessionFault::Refused(Refusal::SessionsFull));
         }
         let number = SessionId(self.begun + 1);
@@ -140,8 +144,10 @@ impl Sessions {
             number,
             owner: user,
             roles: Roles::new(self.alloc),
+            is_open: true,
         };
         push(&mut self.sessions, session)?;
+        self.standing += 1;
         self.begun += 1;
         Ok(number)
     }
@@ -162,7 +168,9 @@ impl Sessions {
         let most = roles_at(&self.sessions, at).len();
         let mut signals = Vec::with_capacity(self.alloc, most)?;
         end_session(&mut self.active, session, most, &mut signals);
-        shut(&mut self.sessions, at);
+        shut(self.alloc, &mut self.sessions, at);
+        self.standing -= 1;
+        close_up(&mut self.sessions, self.standing);
         Ok(List::from(signals))
     }
 

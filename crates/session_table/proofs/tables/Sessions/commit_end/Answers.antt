@@ -53,8 +53,9 @@ invariant_of-self c =
     let gone : c.deref-2.result.now ≡ filter c.requires.test active = listed ∙ c.requires.gone ∙ ap (λ (v : TableView). filter c.requires.test v.active) (sym c.self.view_is) in
     record {
       kept = subst (λ xs. IsKept os' xs c.charge_stretch.new.charges.entries (Some c.d.inside.to)) (sym kept)
-          (committed os active rows c.self.inside.charged_to c.self.invariant.kept c.requires.test c.deref-2.result.now gone os' c.take_out.ensures.roles c.take_out.ensures.len
+          (committed os active rows c.self.inside.charged_to c.self.invariant.kept c.requires.test c.deref-2.result.now gone os' c.take_out.ensures.roles c.take_out.ensures.count
           c.charge_stretch.new.charges.entries c.d.inside.after c.d.inside.to order not_before charged);
+      counted = c.self.invariant.counted ∙ sym c.take_out.ensures.count;
       numbered = subst (λ ss. Numbered 0 ss c.self.inside.begun) (sym c.take_out.ensures.opened) c.self.invariant.numbered;
     }
 
@@ -78,7 +79,7 @@ returns-clause-table c = λ edges caps s e.
     let test : Activation → Bool = is_dropped edges caps s c.args.d.to (charged_through c.args.d.after c.args.d.to (table_of c.args.self.now)) in
     let gone : c.deref-2.result.now ≡ filter test active = listed ∙ e ∙ ap (λ (v : TableView). filter test v.active) (sym c.self.view_is) in
     same_table _ _
-    (c.take_out.ensures.opened ∙ ap (λ (v : TableView). v.sessions) c.self.view_is)
+    (c.take_out.ensures.standing ∙ ap (λ (v : TableView). v.sessions) c.self.view_is)
     (kept ∙ survivors os active rows c.self.inside.charged_to c.self.invariant.kept test c.deref-2.result.now gone os' c.take_out.ensures.roles
     ∙ ap (λ (v : TableView). filter (λ a. not (test a)) v.active) c.self.view_is)
     (λ i u r d. (charged u r d
