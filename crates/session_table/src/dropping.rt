@@ -17,6 +17,7 @@ ghost use Rattle.session_table.specs.Opened.{opened, still_open, role_in, AreNum
 ghost use Rattle.session_table.specs.Dropping.{spent_by, is_dropped, AreBarred};
 
 use crate::activations::{Activation, count_of, signal_of};
+use crate::active::ActiveRow;
 use crate::charges::{Charge, charged, minutes_on};
 use crate::checks::{caps_of, is_reached};
 use crate::opened::{Open, has_role, place, remove_role};
@@ -297,7 +298,7 @@ fn is_listed(sessions: &[Open], a: &Activation) -> bool
 }
 
 /// Keeps the activations whose roles still stand in their sessions.
-fn keep_listed(active: &mut Vec<Activation>, sessions: &[Open])
+pub(crate) fn keep_listed(active: &mut Vec<Activation>, sessions: &[Open])
     requires { AreNumbered (map opened sessions.now) }
     ensures { active.new.items ≡ filter (λ a. role_in sessions.now a.session a.role) active.old.items }
 {
@@ -306,7 +307,7 @@ fn keep_listed(active: &mut Vec<Activation>, sessions: &[Open])
 
 /// Takes the roles of these activations out of their sessions, and keeps the activations whose roles still stand there. Where there are none,
 /// nothing is looked at.
-pub(crate) fn take_out(sessions: &mut Vec<Open>, active: &mut Vec<Activation>, gone: &[Activation])
+pub(crate) fn take_out(sessions: &mut Vec<Open>, active: &mut ActiveRow, gone: &[Activation])
     requires numbered { AreNumbered (map opened sessions.old.items) }
     requires listed { (i : ℕ) (a : ActivationView) → item_at active.old.items i ≡ Some a → role_in sessions.old.items a.session a.role ≡ true }
     ensures opened { map opened sessions.new.items ≡ map opened sessions.old.items }
@@ -319,7 +320,7 @@ pub(crate) fn take_out(sessions: &mut Vec<Open>, active: &mut Vec<Activation>, g
         [] => {}
         _ => {
             forget(sessions, gone);
-            keep_listed(active, sessions);
+            active.keep_listed(sessions);
         }
     }
 }

@@ -18,9 +18,8 @@ ghost use Rattle.session_table.specs.NextDrops.{IsFirstOrNone, is_any_capped};
 ghost use Rattle.session_table.specs.Plans.{need_of, IsPlan, IsPlanned, Closes};
 ghost use Rattle.session_table.specs.Replies.{Answers, AnswersAt, OrRefused, IsRefusal, ChecksBy};
 
-use crate::activations::{
-    Activation, count_in, end_role, end_session, find_active, put, signal_of,
-};
+use crate::activations::{Activation, count_in, end_session, find_active, signal_of};
+use crate::active::ActiveRow;
 use crate::charges::{Charge, charge_stretch, copied as copied_charges, reserve_charges};
 use crate::checks::{caps_of, early_refusal, late_refusal, owned};
 use crate::dropping::{Asked, dropped, prune, remember, signals_of, take_out};
@@ -52,7 +51,7 @@ pub struct Sessions {
     alloc: Global,
     sessions: Vec<Open>,
     standing: usize,
-    active: Vec<Activation>,
+    active: ActiveRow,
     charges: IndexMap<Charge, u32>,
     begun: u32,
     charged_to: Option<Instant>,
@@ -98,7 +97,7 @@ impl Sessions {
             alloc,
             sessions: Vec::new(alloc),
             standing: 0,
-            active: Vec::new(alloc),
+            active: ActiveRow::new(alloc),
             charges: IndexMap::new(alloc),
             begun: 0,
             charged_to: None,
@@ -112,7 +111,7 @@ impl Sessions {
         ensures charged_to { IfOk result (λ copy. copy.charged_to ≡ self.now.charged_to) }
     {
         let sessions = copied_sessions(self.alloc, &self.sessions)?;
-        let active = Vec::from_slice(self.alloc, &self.active)?;
+        let active = self.active.copied(self.alloc)?;
         let charges = copied_charges(&self.charges)?;
         Ok(Sessions {
             alloc: self.alloc,
@@ -192,11 +191,11 @@ impl Sessions {
             Ok(at) => at,
             Err(refusal) => return Err(SessionFault::Refused(refusal)),
         };
-        let Some(activation) = find_active(&self.active, session, role) else {
+        let Some(activation) = find_active(self.active.as_slice(), session, role) else {
             return Err(SessionFault::Refused(Refusal::NotActive));
         };
         remove_role(&mut self.sessions, at, role);
-        end_role(&mut self.active, session, role);
+        self.active.end_role(session, role);
         Ok(signal_of(false, &activation))
     }
 
@@ -204,7 +203,7 @@ impl Sessions {
     pub fn count_in(&self, session: SessionId) -> usize
         ensures { result ≡ count_by (in_session session) self.now.active }
     {
-        count_in(&self.active, session)
+        count_in(self.active.as_slice(), session)
     }
 
     /// As many as the activations that stand in the session, or more, told without a look at those of others. It takes no memory.
@@ -290,7 +289,7 @@ impl Sessions {
         let today = day(now);
         if let Some(refusal) = late_refusal(
             of_role,
-            &self.active,
+            self.active.as_slice(),
             &self.charges,
             user,
             role,
@@ -299,7 +298,7 @@ impl Sessions {
             return Err(SessionFault::Refused(refusal));
         }
         remember(&mut self.walks, Asked { user, role }, &walk)?;
-        self.active.reserve(1)?;
+        self.active.reserve_one()?;
         add_role(&mut self.sessions, at, role)?;
         let activation = Activation {
             session,
@@ -307,7 +306,7 @@ impl Sessions {
             role,
             begun: now,
         };
-        put(&mut self.active, activation);
+        self.active.push(activation);
         Ok((walk, signal_of(true, &activation)))
     }
 
@@ -355,7 +354,7 @@ impl Sessions {
             caps,
             status,
             &self.charges,
-            &self.active,
+            self.active.as_slice(),
             now,
             to,
         )?;
@@ -376,7 +375,7 @@ impl Sessions {
         ensures table { Closes self.old d self.new }
         ensures charged_to { self.new.charged_to ≡ Some d.to }
     {
-        charge_stretch(&mut self.charges, &self.active, d.after, d.to);
+        charge_stretch(&mut self.charges, self.active.as_slice(), d.after, d.to);
         take_out(&mut self.sessions, &mut self.active, &d.gone);
         self.charged_to = Some(d.to);
     }
@@ -411,6 +410,6 @@ impl Sessions {
         requires { NotBefore self.now.charged_to now }
         ensures { IsFirstOrNone (is_any_capped caps.now.items now (table_of self.now)) now result }
     {
-        next_capped(&self.charges, &self.active, caps.as_slice(), now)
+        next_capped(&self.charges, self.active.as_slice(), caps.as_slice(), now)
     }
 }

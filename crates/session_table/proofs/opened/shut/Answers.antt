@@ -1,7 +1,7 @@
-use Rattle.std.proofs.Common.{◌≡◌, ◌+◌, false, not, List, set, map, filter, count_by, IfSome, refl, ap, sym, subst, ◌∙◌}
+use Rattle.std.proofs.Common.{◌≡◌, ◌+◌, false, List, set, map, count_by, IfSome, refl, ap, sym, subst, ◌∙◌}
 use Rattle.gt_base.specs.Sets.{none}
 use Rattle.session_table.specs.declared.opened.Open.{Open}
-use Rattle.session_table.specs.Opened.{numbered, opened, still_open}
+use Rattle.session_table.specs.Opened.{opened, still_open}
 use Rattle.session_table.proofs.Finding.{inside}
 use Rattle.session_table.proofs.Indexing.{kept_opened}
 use Rattle.session_table.proofs.Numbering.{gap_left, one_less_open}

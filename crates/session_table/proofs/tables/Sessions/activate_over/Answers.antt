@@ -73,11 +73,11 @@ returns-in_default-2-clause-refused c =
 
 pub late_refusal-requires-clause-all : goal.late_refusal-requires-clause-all
 late_refusal-requires-clause-all c =
-    rw c.deref-4.ensures.value (few_of_role c.self.inside.sessions.items c.self.inside.active.items c.self.inside.charges.entries c.self.inside.charged_to c.self.invariant.kept c.args.role)
+    rw c.as_slice-2.ensures (few_of_role c.self.inside.sessions.items c.self.inside.active.items c.self.inside.charges.entries c.self.inside.charged_to c.self.invariant.kept c.args.role)
 
 pub late_refusal-requires-clause-own : goal.late_refusal-requires-clause-own
 late_refusal-requires-clause-own c =
-    rw c.deref-4.ensures.value (few_of c.self.inside.sessions.items c.self.inside.active.items c.self.inside.charges.entries c.self.inside.charged_to c.self.invariant.kept c.owner_at-user.result c.args.role)
+    rw c.as_slice-2.ensures (few_of c.self.inside.sessions.items c.self.inside.active.items c.self.inside.charges.entries c.self.inside.charged_to c.self.invariant.kept c.owner_at-user.result c.args.role)
 
 pub returns-in-Some-late_refusal-clause-refused : goal.returns-in-Some-late_refusal-clause-refused
 returns-in-Some-late_refusal-clause-refused c =
@@ -99,10 +99,10 @@ returns-in-Some-late_refusal-clause-refused c =
     c.early_refusal.ensures ∙ ap (λ b. first_cause (early_causes s b r)) (there ∙ ap (λ v. list_any (is_active_in n r) v.active) c.self.view_is) in
     let late_is : c.late_refusal.result ≡ first_cause (late_causes (caps_of c.args.caps.now.items r) (count_by (λ a. same_role a.role r) tv.active) (count_by (is_of u r) tv.active) (tv.charged u r (day_of c.args.now))) =
     c.late_refusal.ensures
-    ∙ ap (λ x. first_cause (late_causes x (count_by (λ a. same_role a.role r) c.deref-4.result.now) (count_by (is_of u r) c.deref-4.result.now) (charged_in c.self.inside.charges.entries u r c.day-today.result)))
+    ∙ ap (λ x. first_cause (late_causes x (count_by (λ a. same_role a.role r) c.as_slice-2.result.now) (count_by (is_of u r) c.as_slice-2.result.now) (charged_in c.self.inside.charges.entries u r c.day-today.result)))
     (c.caps_of-of_role.ensures ∙ ap (λ xs. caps_of xs r) c.as_slice.ensures)
     ∙ ap (λ xs. first_cause (late_causes (caps_of c.args.caps.now.items r) (count_by (λ a. same_role a.role r) xs) (count_by (is_of u r) xs) (charged_in c.self.inside.charges.entries u r c.day-today.result)))
-    (c.deref-4.ensures.value ∙ ap (λ v. v.active) c.self.view_is)
+    (c.as_slice-2.ensures ∙ ap (λ v. v.active) c.self.view_is)
     ∙ ap (λ x. first_cause (late_causes (caps_of c.args.caps.now.items r) (count_by (λ a. same_role a.role r) tv.active) (count_by (is_of u r) tv.active) x))
     (ap (charged_in c.self.inside.charges.entries u r) c.day-today.ensures ∙ ap (λ v. charged_in v.charges u r (day_of c.args.now)) c.self.view_is) in
     refused_late c.args.hierarchy.now c.args.caps.now.items s c.args.now tv c.args.actor n r u own may (sym early_is ∙ c.in_default.is) c.in-Some-2.walk (sym c.in_ok-walk.ensures ∙ c.in-Some-2.is) c.in-Some-late_refusal.refusal (sym late_is ∙ c.in-Some-late_refusal.is)
@@ -128,8 +128,8 @@ invariant_of-self-2 c =
     let (o, at) = inside c.self.inside.sessions.items c.in-Ok.at stands.inside in
     let new : c.add_role.new.sessions.items ≡ set c.self.inside.sessions.items c.in-Ok.at (record o { roles = with_member o.roles r }) =
     subst (λ x. IfSome x (λ (o : Open). c.add_role.new.sessions.items ≡ set c.self.inside.sessions.items c.in-Ok.at (record o { roles = with_member o.roles r }))) at c.in_ok-add_role.ensures.ok in
-    let joined : c.put.new.active.items ≡ c.self.inside.active.items ++ activation n u r c.args.now ∷ [] =
-    c.put.ensures ∙ ap (λ xs. xs ++ activation n u r c.args.now ∷ []) c.in_ok-reserve.ensures.items in
+    let joined : c.push.new.self.items ≡ c.self.inside.active.items ++ activation n u r c.args.now ∷ [] =
+    c.push.ensures ∙ ap (λ xs. xs ++ activation n u r c.args.now ∷ []) c.in_ok-reserve_one.ensures.items in
     let fresh : list_any (is_active_in n r) c.self.inside.active.items ≡ false = sym there ∙ early_none s c.has_role-is_active.result r (sym c.early_refusal.ensures ∙ c.in_default.is) in
     record {
       kept = rw (new, joined) (entered c.self.inside.sessions.items c.self.inside.active.items c.self.inside.charges.entries c.self.inside.charged_to c.self.invariant.kept n c.in-Ok.at stands o at r u c.args.now fresh);
@@ -158,10 +158,10 @@ returns-clause-answer c =
     c.early_refusal.ensures ∙ ap (λ b. first_cause (early_causes s b r)) (there ∙ ap (λ v. list_any (is_active_in n r) v.active) c.self.view_is) in
     let late_is : c.late_refusal.result ≡ first_cause (late_causes (caps_of c.args.caps.now.items r) (count_by (λ a. same_role a.role r) tv.active) (count_by (is_of u r) tv.active) (tv.charged u r (day_of c.args.now))) =
     c.late_refusal.ensures
-    ∙ ap (λ x. first_cause (late_causes x (count_by (λ a. same_role a.role r) c.deref-4.result.now) (count_by (is_of u r) c.deref-4.result.now) (charged_in c.self.inside.charges.entries u r c.day-today.result)))
+    ∙ ap (λ x. first_cause (late_causes x (count_by (λ a. same_role a.role r) c.as_slice-2.result.now) (count_by (is_of u r) c.as_slice-2.result.now) (charged_in c.self.inside.charges.entries u r c.day-today.result)))
     (c.caps_of-of_role.ensures ∙ ap (λ xs. caps_of xs r) c.as_slice.ensures)
     ∙ ap (λ xs. first_cause (late_causes (caps_of c.args.caps.now.items r) (count_by (λ a. same_role a.role r) xs) (count_by (is_of u r) xs) (charged_in c.self.inside.charges.entries u r c.day-today.result)))
-    (c.deref-4.ensures.value ∙ ap (λ v. v.active) c.self.view_is)
+    (c.as_slice-2.ensures ∙ ap (λ v. v.active) c.self.view_is)
     ∙ ap (λ x. first_cause (late_causes (caps_of c.args.caps.now.items r) (count_by (λ a. same_role a.role r) tv.active) (count_by (is_of u r) tv.active) x))
     (ap (charged_in c.self.inside.charges.entries u r) c.day-today.ensures ∙ ap (λ v. charged_in v.charges u r (day_of c.args.now)) c.self.view_is) in
     allowed c.args.hierarchy.now c.args.caps.now.items s c.args.now tv c.args.actor n r u own may (sym early_is ∙ c.in_default.is) c.in-Some-2.walk (sym c.in_ok-walk.ensures ∙ c.in-Some-2.is) (sym late_is ∙ c.in_default-late_refusal.is)
@@ -187,8 +187,8 @@ returns-clause-table c =
     let (o, at) = inside c.self.inside.sessions.items c.in-Ok.at stands.inside in
     let new : c.add_role.new.sessions.items ≡ set c.self.inside.sessions.items c.in-Ok.at (record o { roles = with_member o.roles r }) =
     subst (λ x. IfSome x (λ (o : Open). c.add_role.new.sessions.items ≡ set c.self.inside.sessions.items c.in-Ok.at (record o { roles = with_member o.roles r }))) at c.in_ok-add_role.ensures.ok in
-    let joined : c.put.new.active.items ≡ c.self.inside.active.items ++ activation n u r c.args.now ∷ [] =
-    c.put.ensures ∙ ap (λ xs. xs ++ activation n u r c.args.now ∷ []) c.in_ok-reserve.ensures.items in
+    let joined : c.push.new.self.items ≡ c.self.inside.active.items ++ activation n u r c.args.now ∷ [] =
+    c.push.ensures ∙ ap (λ xs. xs ++ activation n u r c.args.now ∷ []) c.in_ok-reserve_one.ensures.items in
     entered_is c.args.now n r tv c.args.actor c.in-Some-2.walk u own
     ∙ same_table _ _
     (ap (λ v. v.sessions) (sym c.self.view_is) ∙ sym (kept_open c.self.inside.sessions.items c.in-Ok.at o (record o { roles = with_member o.roles r }) at refl refl) ∙ ap (λ os. map opened (still_open os)) (sym new))

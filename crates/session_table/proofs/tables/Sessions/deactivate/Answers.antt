@@ -31,7 +31,7 @@ returns-in_default-clause-refused c = λ p pt.
     let none : list_any (is_active_in c.args.session c.args.role) c.args.self.now.active ≡ false =
     not_found (is_active_in c.args.session c.args.role) c.args.self.now.active
     (ap (λ v. find (is_active_in c.args.session c.args.role) v.active) (sym c.self.view_is)
-    ∙ ap (find (is_active_in c.args.session c.args.role)) (sym c.deref-2.ensures.value) ∙ sym c.find_active.ensures ∙ c.in_default.is) in
+    ∙ ap (find (is_active_in c.args.session c.args.role)) (sym c.as_slice.ensures) ∙ sym c.find_active.ensures ∙ c.in_default.is) in
     front_none (session_causes (table_of c.args.self.now) c.args.actor c.args.session)
     ((not (list_any (is_active_in c.args.session c.args.role) c.args.self.now.active), NotActive) ∷ []) Done
     (causes c.args.self.now c.deref.result.now (ap (λ os. map opened (still_open os)) c.deref.ensures.value ∙ ap (λ v. v.sessions) c.self.view_is) c.args.actor c.args.session None c.in-Ok.ensures.ok)
@@ -55,7 +55,7 @@ returns-clause-answer c = λ p pt.
     let some : list_any (is_active_in c.args.session c.args.role) c.args.self.now.active ≡ true =
     is_found (is_active_in c.args.session c.args.role) c.args.self.now.active c.in-Some.activation
     (ap (λ v. find (is_active_in c.args.session c.args.role) v.active) (sym c.self.view_is)
-    ∙ ap (find (is_active_in c.args.session c.args.role)) (sym c.deref-2.ensures.value) ∙ sym c.find_active.ensures ∙ c.in-Some.is) in
+    ∙ ap (find (is_active_in c.args.session c.args.role)) (sym c.as_slice.ensures) ∙ sym c.find_active.ensures ∙ c.in-Some.is) in
     front_none (session_causes (table_of c.args.self.now) c.args.actor c.args.session)
     ((not (list_any (is_active_in c.args.session c.args.role) c.args.self.now.active), NotActive) ∷ []) Done
     (causes c.args.self.now c.deref.result.now (ap (λ os. map opened (still_open os)) c.deref.ensures.value ∙ ap (λ v. v.sessions) c.self.view_is) c.args.actor c.args.session None c.in-Ok.ensures.ok)
@@ -68,7 +68,7 @@ returns-clause-table c =
     let new : c.remove_role.new.sessions.items ≡ set c.self.inside.sessions.items c.in-Ok.at (record o { roles = without o.roles c.args.role }) =
     subst (λ x. IfSome x (λ (o : Open). c.remove_role.new.sessions.items ≡ set c.self.inside.sessions.items c.in-Ok.at (record o { roles = without o.roles c.args.role }))) there c.remove_role.ensures in
     let one : find (is_active_in c.args.session c.args.role) c.self.inside.active.items ≡ Some c.in-Some.activation =
-    ap (find (is_active_in c.args.session c.args.role)) (sym c.deref-2.ensures.value) ∙ sym c.find_active.ensures ∙ c.in-Some.is in
+    ap (find (is_active_in c.args.session c.args.role)) (sym c.as_slice.ensures) ∙ sym c.find_active.ensures ∙ c.in-Some.is in
     same_table _ _
     (ap (λ v. v.sessions) (sym c.self.view_is) ∙ sym (kept_open c.self.inside.sessions.items c.in-Ok.at o (record o { roles = without o.roles c.args.role }) there refl refl) ∙ ap (λ os. map opened (still_open os)) (sym new))
     (ap (λ v. filter (λ a. not (is_active_in c.args.session c.args.role a)) v.active) (sym c.self.view_is) ∙ sym c.end_role.ensures)
