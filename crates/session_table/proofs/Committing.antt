@@ -1,5 +1,5 @@
 -- The end of a stretch of minutes keeps what every table keeps.
-use Rattle.std.proofs.Common.{◌≡◌, ℕ, zero, suc, ◌+◌, ◌-◌, ◌*◌, ◌<◌, ◌≤◌, Bool, true, false, cond, not, ◌&&◌, ◌||◌, List, [], ◌∷◌, length, filter, count_by, Option, Some, None, refl, sym, ap, subst, ◌∙◌, arith}
+use Rattle.std.proofs.Common.{◌≡◌, ℕ, zero, suc, ◌+◌, ◌-◌, ◌*◌, ◌<◌, ◌≤◌, Bool, true, false, cond, not, ◌&&◌, ◌||◌, List, [], ◌∷◌, filter, count_by, Option, Some, None, refl, sym, ap, subst, ◌∙◌, arith}
 use Rattle.std.specs.List.{list_any}
 use Rattle.std.proofs.Math.Nat.{mul-le-mul_left}
 use Rattle.gt_base.specs.declared.events.RoleId.{RoleId}
@@ -151,7 +151,7 @@ module _ (os : List Open) (active : List Activation) (charges : List (Charge × 
   pub survivors : left ≡ filter (λ a. not (test a)) active
   survivors = filter_by_items (λ a. role_in os' a.session a.role) (λ a. not (test a)) active one_left
 
-  pub committed : length os' ≡ length os → (rows : List (Charge × ℕ)) (now to : ℕ) → now < to → NotBefore until now
+  pub committed : count_by (λ (o : Open). o.is_open) os' ≡ count_by (λ (o : Open). o.is_open) os → (rows : List (Charge × ℕ)) (now to : ℕ) → now < to → NotBefore until now
       → ((u : UserId) (r : RoleId) (d : ℕ) → charged_in rows u r d ≡ charged_in charges u r d + minutes_of_day now (to - now) d * count_by (is_of u r) active)
       → IsKept os' left rows (Some to)
   committed len rows now to order not_before charged = record {

@@ -2,6 +2,8 @@
 use Rattle.std.proofs.Common.{◌≡◌, ℕ, zero, suc, ◌+◌, ◌-◌, ◌≤◌, Bool, true, false, cond, not, ◌&&◌, List, [], ◌∷◌, ◌++◌, length, take, drop, map, filter, find, count_by, Option, Some, None, IfSome, refl, sym, ap, subst, ◌∙◌, append_assoc, arith}
 use Rattle.std.specs.List.{slice_get, list_any, remove, sum_by}
 use Rattle.std.proofs.lemmas.List.{take-append-drop, append-nil}
+use Rattle.std.proofs.lemmas.List.Elements.{filter-append}
+use Rattle.std.proofs.lemmas.List.Sums.{sum_by-take-drop}
 use Rattle.gt_base.specs.declared.events.RoleId.{RoleId}
 use Rattle.gt_base.specs.declared.events.SessionId.{SessionId}
 use Rattle.gt_base.specs.Sets.{has, members}
@@ -156,5 +158,18 @@ none_past p [] (suc i) h = omega arith
 none_past p (x ∷ xs) zero h = absurd (omega arith)
 none_past p (x ∷ xs) (suc i) h = none_past p xs i (omega arith)
 
-pub begins : {A B : Type 0} (p : A → Bool) (tell : A → B) (old : List A) (before : List B) (most : ℕ) → count_by p old ≤ most → Ends p tell old old before before 0 most
-begins p tell old before most few = record { front = refl; says = refl; few = few }
+pub begins : {A B : Type 0} (p : A → Bool) (tell : A → B) (old : List A) (before : List B) (at most : ℕ) → count_by p old ≤ most → count_by p (take at old) ≤ 0 → Ends p tell old old before before at most
+begins p tell old before at most few none = record {
+  front =
+      ap (filter (λ x. not (p x))) (sym (take-append-drop at old))
+      ∙ filter-append (λ x. not (p x)) (take at old) (drop at old)
+      ∙ ap (λ xs. xs ++ filter (λ x. not (p x)) (drop at old)) (sym (none_pass p (take at old) none).0);
+  says =
+      sym (ap (λ xs. before ++ map tell (filter p xs)) (sym (take-append-drop at old))
+      ∙ ap (λ xs. before ++ map tell xs) (filter-append p (take at old) (drop at old) ∙ ap (λ xs. xs ++ filter p (drop at old)) (none_pass p (take at old) none).1));
+  few = let s = sum_by-take-drop (λ x. cond (p x) 1 0) old at in omega (arith, s, few);
+}
+
+-- where so many are found from a place on, and there are no more, none stands before it
+pub none_before : {A : Type 0} (p : A → Bool) (xs : List A) (at most : ℕ) → count_by p xs ≤ most → most ≤ count_by p (drop at xs) → count_by p (take at xs) ≤ 0
+none_before p xs at most few all = let s = sum_by-take-drop (λ x. cond (p x) 1 0) xs at in omega (arith, s, few, all)

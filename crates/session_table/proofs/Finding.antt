@@ -1,5 +1,5 @@
 -- The place of a session, and the session of the model.
-use Rattle.std.proofs.Common.{◌≡◌, ℕ, zero, suc, ◌<◌, ◌≤◌, Bool, true, false, cond, not, nat_lt, List, [], ◌∷◌, length, map, find, Option, Some, None, is_none, MatchOption, IfSome, refl, sym, ap, subst, ◌∙◌, arith}
+use Rattle.std.proofs.Common.{◌≡◌, ℕ, zero, suc, ◌<◌, ◌≤◌, Bool, true, false, cond, not, ◌&&◌, nat_lt, List, [], ◌∷◌, length, map, find, Option, Some, None, is_none, MatchOption, IfSome, refl, sym, ap, subst, ◌∙◌, arith}
 use Rattle.std.specs.List.{slice_get, position, position_or_len}
 use Rattle.std.proofs.lemmas.Bool.{ltb-true, ltb-false}
 use Rattle.std.proofs.lemmas.List.Folds.{find_at}
@@ -13,7 +13,7 @@ use Rattle.gtrbac_model.specs.Same.{same_session, same_user}
 use Rattle.gtrbac_model.specs.Sessions.{Table, OpenedSession, owner_of}
 use Rattle.gtrbac_model.specs.Reply.{session_causes}
 use Rattle.session_table.specs.declared.opened.Open.{Open}
-use Rattle.session_table.specs.Opened.{numbered, opened}
+use Rattle.session_table.specs.Opened.{numbered, opened, still_open}
 use Rattle.session_table.specs.Causes.{first_cause, is_foreign, StandsAt, with_sessions}
 use Rattle.session_table.proofs.Charging.{split}
 
@@ -43,14 +43,19 @@ abbrev seen : Option Open → Option OpenedSession
 seen None = None
 seen (Some o) = Some (opened o)
 
-find_opened : (os : List Open) (n : SessionId) → find (λ o. same_session o.number n) (map opened os) ≡ seen (find (numbered n) os)
+find_opened : (os : List Open) (n : SessionId) → find (λ o. same_session o.number n) (map opened (still_open os)) ≡ seen (find (numbered n) os)
 find_opened [] n = refl
-find_opened (o ∷ os) n = by (same_session o.number n) (find_opened os n)
+find_opened (o ∷ os) n = by o.is_open refl (find_opened os n)
   where
-    by : (b : Bool) → find (λ o. same_session o.number n) (map opened os) ≡ seen (find (numbered n) os)
-        → cond b (Some (opened o)) (find (λ o. same_session o.number n) (map opened os)) ≡ seen (cond b (Some o) (find (numbered n) os))
-    by true e = refl
-    by false e = e
+    on : (b : Bool) → find (λ o. same_session o.number n) (map opened (still_open os)) ≡ seen (find (numbered n) os)
+        → cond b (Some (opened o)) (find (λ o. same_session o.number n) (map opened (still_open os))) ≡ seen (cond b (Some o) (find (numbered n) os))
+    on true e = refl
+    on false e = e
+
+    by : (b : Bool) → o.is_open ≡ b → find (λ o. same_session o.number n) (map opened (still_open os)) ≡ seen (find (numbered n) os)
+        → find (λ o. same_session o.number n) (map opened (cond b (o ∷ still_open os) (still_open os))) ≡ seen (cond (o.is_open && same_session o.number n) (Some o) (find (numbered n) os))
+    by true is e = on (same_session o.number n) e ∙ ap (λ b. seen (cond (b && same_session o.number n) (Some o) (find (numbered n) os))) (sym is)
+    by false is e = e ∙ ap (λ b. seen (cond (b && same_session o.number n) (Some o) (find (numbered n) os))) (sym is)
 
 abbrev owner : Option OpenedSession → Option UserId
 owner None = None

@@ -15,7 +15,7 @@ use Rattle.gtrbac_model.specs.Same.{same_role, same_session}
 use Rattle.gtrbac_model.specs.Sessions.{Activation, is_active_in}
 use Rattle.session_table.specs.declared.opened.Open.{Open}
 use Rattle.session_table.specs.RoleSets.{role_cmp, RoleSet}
-use Rattle.session_table.specs.Opened.{numbered, opened, role_in, in_session}
+use Rattle.session_table.specs.Opened.{numbered, opened, still_open, role_in, in_session}
 use Rattle.session_table.specs.Causes.{StandsAt}
 use Rattle.session_table.proofs.Charging.{split}
 use Rattle.session_table.proofs.RoleOrder.{role_cmp_total, tied_is_same}
@@ -39,9 +39,17 @@ eq_turned a b =
     clash : {x : Bool} → x ≡ true → x ≡ false → ⊥
     clash p q = let e : true ≡ false = sym p ∙ q in cc
 
-both_true : (a b : Bool) → (a && b) ≡ true → (a ≡ true) × (b ≡ true)
+pub both_true : (a b : Bool) → (a && b) ≡ true → (a ≡ true) × (b ≡ true)
 both_true true b h = (refl, h)
 both_true false b h = cc
+
+none_true : (a b : Bool) → b ≡ false → (a && b) ≡ false
+none_true true b h = h
+none_true false b h = refl
+
+-- the number of an open session
+pub number_is : (n : SessionId) (o : Open) → numbered n o ≡ true → o.number ≡ n
+number_is n o h = one_session o.number n (both_true o.is_open (same_session o.number n) h).1
 
 -- finding
 
@@ -106,22 +114,58 @@ shut os m n r =
     (λ e. ap (role_of r) (find_kept (numbered n) (λ o. not (numbered m o)) os (λ o h. other o h e)) ∙ sym (ap (λ b. not b && role_in os n r) e))
   where
     other : (o : Open) → numbered n o ≡ true → same_session n m ≡ false → not (numbered m o) ≡ true
-    other o h e = ap (λ k. not (same_session k m)) (one_session o.number n h) ∙ ap not e
+    other o h e = ap not (none_true o.is_open (same_session o.number m) (ap (λ k. same_session k m) (number_is n o h) ∙ e))
 
-pub shut_opened : (os : List Open) (m : SessionId) → map opened (filter (λ o. not (numbered m o)) os) ≡ filter (λ o. not (same_session o.number m)) (map opened os)
+pub shut_opened : (os : List Open) (m : SessionId) → map opened (filter (λ o. not (numbered m o)) (still_open os)) ≡ filter (λ o. not (same_session o.number m)) (map opened (still_open os))
 shut_opened [] m = refl
-shut_opened (x ∷ os) m = by (numbered m x) (shut_opened os m)
+shut_opened (x ∷ os) m = by x.is_open refl (shut_opened os m)
   where
-    by : (b : Bool) → map opened (filter (λ o. not (numbered m o)) os) ≡ filter (λ o. not (same_session o.number m)) (map opened os)
-        → map opened (cond (not b) (x ∷ filter (λ o. not (numbered m o)) os) (filter (λ o. not (numbered m o)) os))
-        ≡ cond (not b) (opened x ∷ filter (λ o. not (same_session o.number m)) (map opened os)) (filter (λ o. not (same_session o.number m)) (map opened os))
-    by true e = e
-    by false e = ap (λ z. opened x ∷ z) e
+    others : List Open
+    others = filter (λ o. not (numbered m o)) (still_open os)
+
+    on : (b : Bool) → map opened others ≡ filter (λ o. not (same_session o.number m)) (map opened (still_open os))
+        → map opened (cond (not b) (x ∷ others) others)
+        ≡ cond (not b) (opened x ∷ filter (λ o. not (same_session o.number m)) (map opened (still_open os))) (filter (λ o. not (same_session o.number m)) (map opened (still_open os)))
+    on true e = e
+    on false e = ap (λ z. opened x ∷ z) e
+
+    by : (b : Bool) → x.is_open ≡ b → map opened others ≡ filter (λ o. not (same_session o.number m)) (map opened (still_open os))
+        → map opened (filter (λ o. not (numbered m o)) (cond b (x ∷ still_open os) (still_open os)))
+        ≡ filter (λ o. not (same_session o.number m)) (map opened (cond b (x ∷ still_open os) (still_open os)))
+    by true is e = ap (λ b. map opened (cond (not (b && same_session x.number m)) (x ∷ others) others)) is ∙ on (same_session x.number m) e
+    by false is e = e
 
 pub kept_opened : (os : List Open) (i : ℕ) (o p : Open) → slice_get os i ≡ Some o → opened p ≡ opened o → map opened (set os i p) ≡ map opened os
 kept_opened [] i o p at e = cc
 kept_opened (x ∷ os) zero o p at e = let same : x ≡ o = cc in ap (λ z. z ∷ map opened os) (e ∙ ap opened (sym same))
 kept_opened (x ∷ os) (suc i) o p at e = ap (λ z. opened x ∷ z) (kept_opened os i o p at e)
+
+pub kept_open : (os : List Open) (i : ℕ) (o p : Open) → slice_get os i ≡ Some o → opened p ≡ opened o → p.is_open ≡ o.is_open → map opened (still_open (set os i p)) ≡ map opened (still_open os)
+kept_open [] i o p at e f = cc
+kept_open (x ∷ os) zero o p at e f =
+    let same : x ≡ o = cc in
+    (λ i. map opened (cond ((f ∙ ap (λ (y : Open). y.is_open) (sym same)) i) (p ∷ still_open os) (still_open os))) ∙ by x.is_open (e ∙ ap opened (sym same))
+  where
+    by : (b : Bool) → opened p ≡ opened x → map opened (cond b (p ∷ still_open os) (still_open os)) ≡ map opened (cond b (x ∷ still_open os) (still_open os))
+    by true e = ap (λ z. z ∷ map opened (still_open os)) e
+    by false e = refl
+kept_open (x ∷ os) (suc i) o p at e f = by x.is_open (kept_open os i o p at e f)
+  where
+    by : (b : Bool) → map opened (still_open (set os i p)) ≡ map opened (still_open os) → map opened (cond b (x ∷ still_open (set os i p)) (still_open (set os i p))) ≡ map opened (cond b (x ∷ still_open os) (still_open os))
+    by true e = ap (λ z. opened x ∷ z) e
+    by false e = e
+
+-- gaps say nothing of roles
+pub open_role : (os : List Open) (n : SessionId) (r : RoleId) → role_in (still_open os) n r ≡ role_in os n r
+open_role os n r = ap (role_of r) (find_kept (numbered n) (λ o. o.is_open) os (λ o h. (both_true o.is_open (same_session o.number n) h).0))
+
+pub open_again : (os : List Open) → still_open (still_open os) ≡ still_open os
+open_again [] = refl
+open_again (o ∷ os) = by o.is_open refl (open_again os)
+  where
+    by : (b : Bool) → o.is_open ≡ b → still_open (still_open os) ≡ still_open os → still_open (cond b (o ∷ still_open os) (still_open os)) ≡ cond b (o ∷ still_open os) (still_open os)
+    by true is e = ap (λ b. cond b (o ∷ still_open (still_open os)) (still_open (still_open os))) is ∙ ap (λ os. o ∷ os) e
+    by false is e = e
 
 module _ (os : List Open) (m : SessionId) (at : ℕ) (h : StandsAt os m at) (o : Open) (there : slice_get os at ≡ Some o) where
   found : find (numbered m) os ≡ Some o
@@ -138,7 +182,7 @@ module _ (os : List Open) (m : SessionId) (at : ℕ) (h : StandsAt os m at) (o :
       (find-set (numbered m) os at (record o { roles = s }) h.first h.inside is_numbered))
       ∙ sym (ap (λ b. cond b (has s r) (role_in os n r)) e))
       (λ e.
-      let off : numbered n o ≡ false = ap (λ k. same_session k n) (one_session o.number m is_numbered) ∙ e in
+      let off : numbered n o ≡ false = none_true o.is_open (same_session o.number n) (ap (λ k. same_session k n) (number_is m o is_numbered) ∙ e) in
       ap (role_of r) (find_other (numbered n) os at o (record o { roles = s }) there off off) ∙ sym (ap (λ b. cond b (has s r) (role_in os n r)) e))
 
   own : (n : SessionId) (r : RoleId) → same_session m n ≡ true → role_in os n r ≡ has o.roles r
@@ -259,3 +303,25 @@ once_more m n q r xs a s k fresh le =
     let z : count_by (is_active_in n r) xs ≡ 0 = none_counted (is_active_in n r) xs new in
     subst (λ b. count_by (is_active_in n r) xs + cond b 1 0 ≤ 1) (sym e) (omega arith))
     (λ e. subst (λ b. count_by (is_active_in n r) xs + cond b 1 0 ≤ 1) (sym e) (omega (arith, le))))
+
+pub count_set : {A : Type 0} (p : A → Bool) (xs : List A) (i : ℕ) (x y : A) → slice_get xs i ≡ Some x → count_by p xs + cond (p y) 1 0 ≡ count_by p (set xs i y) + cond (p x) 1 0
+count_set p [] i x y at = cc
+count_set p (z ∷ zs) zero x y at =
+    let same : z ≡ x = cc in
+    let a = count_cons p z zs in
+    let b = count_cons p y zs in
+    let c : ◌≡◌ {A = ℕ} (cond (p z) 1 0) (cond (p x) 1 0) = ap (λ v. cond (p v) 1 0) same in
+    omega (arith, a, b, c)
+count_set p (z ∷ zs) (suc i) x y at =
+    let a = count_cons p z zs in
+    let b = count_cons p z (set zs i y) in
+    let c = count_set p zs i x y at in
+    omega (arith, a, b, c)
+
+pub count_again : {A : Type 0} (p : A → Bool) (xs : List A) → count_by p xs ≤ count_by p (filter p xs)
+count_again p [] = omega arith
+count_again p (x ∷ xs) = rw (count_cons p x xs) (by (p x) refl (count_again p xs))
+  where
+    by : (b : Bool) → p x ≡ b → count_by p xs ≤ count_by p (filter p xs) → cond b 1 0 + count_by p xs ≤ count_by p (cond b (x ∷ filter p xs) (filter p xs))
+    by true e h = rw (count_cons p x (filter p xs)) (let c : ◌≡◌ {A = ℕ} (cond (p x) 1 0) 1 = ap (λ b. cond b 1 0) e in omega (arith, c, h))
+    by false e h = omega (arith, h)

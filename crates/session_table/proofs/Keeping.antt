@@ -1,7 +1,8 @@
 -- What every table keeps stays.
-use Rattle.std.proofs.Common.{◌≡◌, ℕ, zero, suc, ◌+◌, ◌<◌, ◌≤◌, Bool, true, false, cond, not, ◌&&◌, ◌||◌, List, [], ◌∷◌, ◌++◌, length, filter, find, set, count_by, Option, Some, None, refl, sym, ap, subst, ◌∙◌, arith, length-append, length-set}
+use Rattle.std.proofs.Common.{◌≡◌, ℕ, zero, suc, ◌+◌, ◌<◌, ◌≤◌, Bool, true, false, cond, not, ◌&&◌, ◌||◌, List, [], ◌∷◌, ◌++◌, length, map, filter, find, set, count_by, Option, Some, None, refl, sym, ap, subst, ◌∙◌, arith}
 use Rattle.std.specs.List.{slice_get, list_any, sum_by}
-use Rattle.std.proofs.lemmas.List.Sums.{sum_by-cons, length-filter, count_by-le-length}
+use Rattle.std.proofs.lemmas.List.{length-map}
+use Rattle.std.proofs.lemmas.List.Sums.{sum_by-cons, length-filter}
 use Rattle.gt_base.specs.declared.events.RoleId.{RoleId}
 use Rattle.gt_base.specs.declared.events.UserId.{UserId}
 use Rattle.gt_base.specs.declared.events.SessionId.{SessionId}
@@ -11,27 +12,46 @@ use Rattle.gtrbac_model.specs.Graph.{item_at}
 use Rattle.gtrbac_model.specs.Sessions.{Activation, is_active_in, is_of}
 use Rattle.session_table.specs.declared.opened.Open.{Open}
 use Rattle.session_table.specs.declared.charges.Charge.{Charge}
-use Rattle.session_table.specs.Opened.{numbered, role_in, in_session}
+use Rattle.session_table.specs.Opened.{numbered, opened, still_open, role_in, in_session}
 use Rattle.session_table.specs.Causes.{StandsAt}
 use Rattle.session_table.specs.Kept.{IsKept}
 use Rattle.session_table.proofs.Charging.{split}
-use Rattle.session_table.proofs.Indexing.{pushed, shut, added, removed, any_shut, any_ended, any_added, count_cons, count_kept, once_more, one_session, session_itself, role_itself}
+use Rattle.session_table.proofs.Indexing.{pushed, shut, added, removed, any_shut, any_ended, any_added, count_cons, count_kept, count_added, count_set, count_again, open_role, number_is, once_more, session_itself, role_itself}
 
-few_left : {A : Type 0} (p : A → Bool) (xs : List A) → length (filter p xs) ≤ length xs
-few_left p xs = subst (λ n. n ≤ length xs) (sym (length-filter p xs)) (count_by-le-length p xs)
+abbrev is_open : Open → Bool
+is_open o = o.is_open
+
+-- what is open stays so with other roles
+pub as_many_open : (os : List Open) (i : ℕ) (o p : Open) → slice_get os i ≡ Some o → p.is_open ≡ o.is_open → count_by is_open (set os i p) ≡ count_by is_open os
+as_many_open os i o p at e =
+    let a = count_set is_open os i o p at in
+    let b : ◌≡◌ {A = ℕ} (cond p.is_open 1 0) (cond o.is_open 1 0) = ap (λ b. cond b 1 0) e in
+    omega (arith, a, b)
 
 module _ (os : List Open) (active : List Activation) (charges : List (Charge × ℕ)) (to : Option ℕ) (h : IsKept os active charges to) where
-  pub begun : (o : Open) → o.roles ≡ none → length os < 10_000 → IsKept (os ++ o ∷ []) active charges to
+  pub begun : (o : Open) → o.roles ≡ none → count_by is_open os < 10_000 → IsKept (os ++ o ∷ []) active charges to
   begun o e few = record {
-    few = let n = length-append os (o ∷ []) in omega (arith, n);
+    few = let n = count_added is_open os o in let one = at_most o.is_open in omega (arith, n, one);
     index = λ n r. pushed os o e n r ∙ h.index n r;
+    once = h.once;
+    bounded = h.bounded;
+  }
+    where
+      at_most : (b : Bool) → cond b 1 0 ≤ 1
+      at_most true = omega arith
+      at_most false = omega arith
+
+  pub without_gaps : IsKept (still_open os) active charges to
+  without_gaps = record {
+    few = let n = count_kept is_open is_open os in omega (arith, n, h.few);
+    index = λ n r. open_role os n r ∙ h.index n r;
     once = h.once;
     bounded = h.bounded;
   }
 
   pub finished : (m : SessionId) → IsKept (filter (λ o. not (numbered m o)) os) (filter (λ a. not (in_session m a)) active) charges to
   finished m = record {
-    few = let n = few_left (λ o. not (numbered m o)) os in omega (arith, n, h.few);
+    few = let n = count_kept is_open (λ o. not (numbered m o)) os in omega (arith, n, h.few);
     index = λ n r. shut os m n r ∙ ap (λ b. not (same_session n m) && b) (h.index n r) ∙ sym (any_shut m n r active);
     once = λ n r. let le = count_kept (is_active_in n r) (λ a. not (in_session m a)) active in omega (arith, le, h.once n r);
     bounded = h.bounded;
@@ -40,7 +60,7 @@ module _ (os : List Open) (active : List Activation) (charges : List (Charge × 
   module _ (m : SessionId) (at : ℕ) (stands : StandsAt os m at) (o : Open) (there : slice_get os at ≡ Some o) (q : RoleId) where
     pub ended : IsKept (set os at (record o { roles = without o.roles q })) (filter (λ a. not (is_active_in m q a)) active) charges to
     ended = record {
-      few = subst (λ n. n ≤ 10_000) (sym (length-set os at (record o { roles = without o.roles q }))) h.few;
+      few = subst (λ n. n ≤ 10_000) (sym (as_many_open os at o (record o { roles = without o.roles q }) there refl)) h.few;
       index = λ n r. removed os m at stands o there q n r ∙ ap (λ b. not (same_session m n && same_role q r) && b) (h.index n r) ∙ sym (any_ended m n q r active);
       once = λ n r. let le = count_kept (is_active_in n r) (λ a. not (is_active_in m q a)) active in omega (arith, le, h.once n r);
       bounded = h.bounded;
@@ -51,11 +71,26 @@ module _ (os : List Open) (active : List Activation) (charges : List (Charge × 
     entered u t fresh =
         let a : Activation = record { session = m; user = u; role = q; begun = t } in
         record {
-          few = subst (λ n. n ≤ 10_000) (sym (length-set os at (record o { roles = with_member o.roles q }))) h.few;
+          few = subst (λ n. n ≤ 10_000) (sym (as_many_open os at o (record o { roles = with_member o.roles q }) there refl)) h.few;
           index = λ n r. added os m at stands o there q n r ∙ ap (λ b. b || (same_session m n && same_role q r)) (h.index n r) ∙ sym (any_added n r active a);
           once = λ n r. once_more m n q r active a refl refl fresh (h.once n r);
           bounded = h.bounded;
         }
+
+-- gaps among the sessions say nothing
+pub with_gaps : (os : List Open) (active : List Activation) (charges : List (Charge × ℕ)) (to : Option ℕ) → IsKept (still_open os) active charges to → IsKept os active charges to
+with_gaps os active charges to h = record {
+  few = let n = count_again is_open os in omega (arith, n, h.few);
+  index = λ n r. sym (open_role os n r) ∙ h.index n r;
+  once = h.once;
+  bounded = h.bounded;
+}
+
+pub sum_open : (os ps : List Open) → still_open os ≡ still_open ps → count_by is_open os ≡ count_by is_open ps
+sum_open os ps e = sym (length-filter is_open os) ∙ ap length e ∙ length-filter is_open ps
+
+pub opened_counted : (os : List Open) → length (map opened (still_open os)) ≡ count_by is_open os
+opened_counted os = length-map (still_open os) opened ∙ length-filter is_open os
 
 -- no more activations of a role than sessions
 
@@ -130,15 +165,16 @@ role_there (o ∷ os) n r e = by o os n r (numbered n o) refl e (role_there os n
   where
     by : (o : Open) (os : List Open) (n : SessionId) (r : RoleId) (b : Bool) → numbered n o ≡ b → (elim (cond b (Some o) (find (numbered n) os)) [ Some o ↦ has o.roles r | None ↦ false ]) ≡ true
         → (role_in os n r ≡ true → list_any (λ o. same_session n o.number) os ≡ true) → (same_session n o.number || list_any (λ o. same_session n o.number) os) ≡ true
-    by o os n r true is e h = ap (λ b. b || list_any (λ o. same_session n o.number) os) (ap (same_session n) (one_session o.number n is) ∙ session_itself n)
+    by o os n r true is e h = ap (λ b. b || list_any (λ o. same_session n o.number) os) (ap (same_session n) (number_is n o is) ∙ session_itself n)
     by o os n r false is e h = or_true (same_session n o.number) (h e)
 
 pub few_of_role : (os : List Open) (active : List Activation) (charges : List (Charge × ℕ)) (to : Option ℕ) → IsKept os active charges to
     → (r : RoleId) → count_by (λ a. same_role a.role r) active ≤ 10_000
 few_of_role os active charges to h r =
-    let a = covers os r active (λ i a is. role_there os a.session a.role (h.index a.session a.role ∙ listed active i a is)) in
-    let b = at_most_one (λ o. count_by (is_active_in o.number r) active) os (λ o. h.once o.number r) in
-    omega (arith, a, b, h.few)
+    let a = covers (still_open os) r active (λ i a is. role_there (still_open os) a.session a.role (open_role os a.session a.role ∙ h.index a.session a.role ∙ listed active i a is)) in
+    let b = at_most_one (λ o. count_by (is_active_in o.number r) active) (still_open os) (λ o. h.once o.number r) in
+    let c = length-filter is_open os in
+    omega (arith, a, b, c, h.few)
 
 less_of_both : (p q : Activation → Bool) (xs : List Activation) → count_by (λ a. p a && q a) xs ≤ count_by q xs
 less_of_both p q [] = omega arith

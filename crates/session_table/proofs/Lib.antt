@@ -2,6 +2,7 @@ pub mod RoleOrder
 pub mod Numbering
 pub mod Charging
 pub mod Finding
+pub mod Gaps
 pub mod Indexing
 pub mod Keeping
 pub mod Answering

@@ -14,7 +14,7 @@ use Rattle.gtrbac_model.specs.Sessions.{Table, Activation, owner_of, is_active_i
 use Rattle.gtrbac_model.specs.Reply.{session_causes, roles_of}
 use Rattle.session_table.specs.declared.opened.Open.{Open}
 use Rattle.session_table.specs.RoleSets.{role_cmp}
-use Rattle.session_table.specs.Opened.{opened, role_in}
+use Rattle.session_table.specs.Opened.{opened, still_open, role_in}
 use Rattle.session_table.specs.Causes.{first_cause, StandsAt, with_sessions}
 use Rattle.session_table.specs.Tables.{TableView, table_of}
 use Rattle.session_table.specs.declared.charges.Charge.{Charge}
@@ -26,7 +26,7 @@ use Rattle.session_table.proofs.Indexing.{count_cons, eq_turned}
 pub same_table : (a b : Table) → a.sessions ≡ b.sessions → a.active ≡ b.active → a.charged ≡ b.charged → a.begun ≡ b.begun → a.signals ≡ b.signals → a ≡ b
 same_table a b s t c g l = λ i. record { sessions = s i; active = t i; charged = c i; begun = g i; signals = l i }
 
-module _ (v : TableView) (os : List Open) (e : map opened os ≡ v.sessions) where
+module _ (v : TableView) (os : List Open) (e : map opened (still_open os) ≡ v.sessions) where
   pub causes : (actor : Actor) (n : SessionId) (x : Option Refusal) → ((tb : Table) → first_cause (session_causes (with_sessions os tb) actor n) ≡ x) → first_cause (session_causes (table_of v) actor n) ≡ x
   causes actor n x h = subst (λ ss. first_cause (session_causes (record (table_of v) { sessions = ss }) actor n) ≡ x) e (h (table_of v))
 

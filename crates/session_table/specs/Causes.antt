@@ -14,7 +14,7 @@ use Rattle.gtrbac_model.specs.Same.{same_user}
 use Rattle.gtrbac_model.specs.Conflict.{Status}
 use Rattle.gtrbac_model.specs.Sessions.{Table, reached}
 use Rattle.session_table.specs.declared.opened.Open.{Open}
-use Rattle.session_table.specs.Opened.{numbered, opened}
+use Rattle.session_table.specs.Opened.{numbered, opened, still_open}
 
 -- the first that is there
 abbrev pub first_cause : List (Bool × Refusal) → Option Refusal
@@ -33,7 +33,7 @@ is_foreign owner _ = false
 
 -- a table with these sessions
 abbrev pub with_sessions : List Open → Table → Table
-with_sessions os tb = record tb { sessions = map opened os }
+with_sessions os tb = record tb { sessions = map opened (still_open os) }
 
 -- what refuses an activation before a walk is asked
 abbrev pub early_causes : Status → Bool → RoleId → List (Bool × Refusal)

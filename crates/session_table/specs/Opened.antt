@@ -1,5 +1,5 @@
 -- The sessions that are open, each with the roles that are active in it.
-use Rattle.std.specs.Prelude.{◌≡◌, ℕ, ◌<◌, ◌≤◌, Bool, false, List, [], ◌∷◌, length, find, Some, None}
+use Rattle.std.specs.Prelude.{◌≡◌, ℕ, ◌<◌, ◌≤◌, Bool, false, ◌&&◌, List, [], ◌∷◌, length, filter, find, Some, None}
 use Rattle.std.specs.List.{slice_get}
 use Rattle.gt_base.specs.declared.events.RoleId.{RoleId}
 use Rattle.gt_base.specs.declared.events.SessionId.{SessionId}
@@ -12,8 +12,13 @@ use Rattle.session_table.specs.declared.opened.Open.{Open}
 abbrev pub in_session : SessionId → Activation → Bool
 in_session n a = same_session a.session n
 
+-- the open session of the number
 abbrev pub numbered : SessionId → Open → Bool
-numbered n o = same_session o.number n
+numbered n o = o.is_open && same_session o.number n
+
+-- the rows without the gaps that closed sessions left
+abbrev pub still_open : List Open → List Open
+still_open os = filter (λ o. o.is_open) os
 
 -- a session without its roles
 abbrev pub opened : Open → OpenedSession

@@ -1,10 +1,11 @@
 //! Activations, in the order in which they were made.
-ghost use Rattle.std.specs.Prelude.{◌≡◌, ◌+◌, ◌<◌, ◌≤◌, [], ◌∷◌, ◌++◌, not, map, filter, find, length, count_by, slice_get, false, Some, vec_len, vec_capacity};
+ghost use Rattle.std.specs.Prelude.{◌≡◌, ◌+◌, ◌<◌, ◌≤◌, [], ◌∷◌, ◌++◌, not, map, filter, find, length, count_by, slice_get, take, true, false, Some, vec_len, vec_capacity};
 ghost use Rattle.std.specs.List.{list_any};
 ghost use Rattle.gtrbac_model.specs.Same.{same_role};
 ghost use Rattle.gtrbac_model.specs.Sessions.{is_of, is_active_in, signal_of};
 ghost use Rattle.session_table.specs.Opened.{in_session};
 
+use crate::active::{ActiveRow, behind};
 use gt_base::{Instant, RoleId, SessionId, Signal, UserId};
 use std::marker::Model;
 
@@ -111,7 +112,7 @@ fn tell(signals: &mut Vec<Signal>, a: &Activation)
 /// Takes out the activations of the session, of which there are at most so many, and adds their end signals, into room that was made before.
 /// Where all are found, nothing further is looked at.
 pub(crate) fn end_session(
-    active: &mut Vec<Activation>,
+    active: &mut ActiveRow,
     session: SessionId,
     most: usize,
     signals: &mut Vec<Signal>,
@@ -122,12 +123,12 @@ pub(crate) fn end_session(
     ensures signals { signals.new.items ≡ signals.old.items ++ map (signal_of false) (filter (in_session session) active.old.items) }
 {
     let mut left = most;
-    let mut at = 0;
+    let mut at = start(active.as_slice(), session, most);
     while at < active.len() {
         if left == 0 {
             return;
         }
-        let a = activation_at(active, at);
+        let a = activation_at(active.as_slice(), at);
         if is_in_session(&a, session) {
             active.remove(at);
             tell(signals, &a);
@@ -136,6 +137,55 @@ pub(crate) fn end_session(
             at += 1;
         }
     }
+}
+
+/// A place before which none of the session stands, where at most so many stand in all: the first of its own where sessions were activated in
+/// the order of their numbers, else 0.
+fn start(active: &[Activation], session: SessionId, most: usize) -> usize
+    requires { count_by (in_session session) active.now ≤ most }
+    ensures { count_by (in_session session) (take result active.now) ≤ 0 }
+{
+    let at = first_from(active, session);
+    if at < active.len() && is_in_session(&activation_at(active, at), session) {
+        if has_all(behind(active, at), session, most) {
+            return at;
+        }
+    }
+    0
+}
+
+/// Where the activations of the session and of later ones begin, if they stand in the order of their sessions.
+fn first_from(active: &[Activation], session: SessionId) -> usize
+    ensures { result ≤ length active.now }
+{
+    let mut low = 0;
+    let mut high = active.len();
+    while low < high {
+        let mid = low + (high - low) / 2;
+        let a = activation_at(active, mid);
+        if a.session.0 < session.0 {
+            low = mid + 1;
+        } else {
+            high = mid;
+        }
+    }
+    high
+}
+
+/// Whether so many of the session are found.
+fn has_all(active: &[Activation], session: SessionId, most: usize) -> bool
+    ensures { result ≡ true → most ≤ count_by (in_session session) active.now }
+{
+    let mut found = 0;
+    for a in active {
+        if found >= most {
+            return true;
+        }
+        if is_in_session(a, session) {
+            found += 1;
+        }
+    }
+    found >= most
 }
 
 /// The activation of the role in the session.
@@ -152,15 +202,4 @@ pub(crate) fn find_active(
         }
     }
     None
-}
-
-/// Adds an activation, into room that was made before.
-pub(crate) fn put(active: &mut Vec<Activation>, a: Activation)
-    requires { vec_len active.old < vec_capacity active.old }
-    ensures { active.new.items ≡ active.old.items ++ a ∷ [] }
-{
-    match active.push(a) {
-        Ok(()) => {}
-        Err(_) => unreachable!(),
-    }
 }

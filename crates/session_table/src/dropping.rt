@@ -13,10 +13,11 @@ ghost use Rattle.gtrbac_model.specs.Hierarchy.{activation_walk};
 ghost use Rattle.gtrbac_model.specs.Sessions.{Activation as ActivationView, caps_of, reached, is_of, is_active_in, signal_of};
 ghost use Rattle.history_laws.specs.Tables.{minutes_of_day};
 ghost use Rattle.session_table.specs.Charges.{charged_in};
-ghost use Rattle.session_table.specs.Opened.{opened, role_in, AreNumbered};
+ghost use Rattle.session_table.specs.Opened.{opened, still_open, role_in, AreNumbered};
 ghost use Rattle.session_table.specs.Dropping.{spent_by, is_dropped, AreBarred};
 
 use crate::activations::{Activation, count_of, signal_of};
+use crate::active::ActiveRow;
 use crate::charges::{Charge, charged, minutes_on};
 use crate::checks::{caps_of, is_reached};
 use crate::opened::{Open, has_role, place, remove_role};
@@ -263,7 +264,8 @@ fn forget_one(sessions: &mut Vec<Open>, session: SessionId, role: RoleId)
     requires { AreNumbered (map opened sessions.old.items) }
     ensures opened { map opened sessions.new.items ≡ map opened sessions.old.items }
     ensures roles { (n : SessionId) (r : RoleId) → role_in sessions.new.items n r ≡ (not (same_session session n && same_role role r) && role_in sessions.old.items n r) }
-    ensures len { length sessions.new.items ≡ length sessions.old.items }
+    ensures standing { map opened (still_open sessions.new.items) ≡ map opened (still_open sessions.old.items) }
+    ensures count { count_by (λ o. o.is_open) sessions.new.items ≡ count_by (λ o. o.is_open) sessions.old.items }
 {
     if let Some(at) = place(sessions, session) {
         remove_role(sessions, at, role);
@@ -275,7 +277,8 @@ fn forget(sessions: &mut Vec<Open>, gone: &[Activation])
     requires { AreNumbered (map opened sessions.old.items) }
     ensures opened { map opened sessions.new.items ≡ map opened sessions.old.items }
     ensures roles { (n : SessionId) (r : RoleId) → role_in sessions.new.items n r ≡ (not (list_any (is_active_in n r) gone.now) && role_in sessions.old.items n r) }
-    ensures len { length sessions.new.items ≡ length sessions.old.items }
+    ensures standing { map opened (still_open sessions.new.items) ≡ map opened (still_open sessions.old.items) }
+    ensures count { count_by (λ o. o.is_open) sessions.new.items ≡ count_by (λ o. o.is_open) sessions.old.items }
 {
     for a in gone {
         forget_one(sessions, a.session, a.role);
@@ -295,7 +298,7 @@ fn is_listed(sessions: &[Open], a: &Activation) -> bool
 }
 
 /// Keeps the activations whose roles still stand in their sessions.
-fn keep_listed(active: &mut Vec<Activation>, sessions: &[Open])
+pub(crate) fn keep_listed(active: &mut Vec<Activation>, sessions: &[Open])
     requires { AreNumbered (map opened sessions.now) }
     ensures { active.new.items ≡ filter (λ a. role_in sessions.now a.session a.role) active.old.items }
 {
@@ -304,19 +307,20 @@ fn keep_listed(active: &mut Vec<Activation>, sessions: &[Open])
 
 /// Takes the roles of these activations out of their sessions, and keeps the activations whose roles still stand there. Where there are none,
 /// nothing is looked at.
-pub(crate) fn take_out(sessions: &mut Vec<Open>, active: &mut Vec<Activation>, gone: &[Activation])
+pub(crate) fn take_out(sessions: &mut Vec<Open>, active: &mut ActiveRow, gone: &[Activation])
     requires numbered { AreNumbered (map opened sessions.old.items) }
     requires listed { (i : ℕ) (a : ActivationView) → item_at active.old.items i ≡ Some a → role_in sessions.old.items a.session a.role ≡ true }
     ensures opened { map opened sessions.new.items ≡ map opened sessions.old.items }
     ensures roles { (n : SessionId) (r : RoleId) → role_in sessions.new.items n r ≡ (not (list_any (is_active_in n r) gone.now) && role_in sessions.old.items n r) }
-    ensures len { length sessions.new.items ≡ length sessions.old.items }
+    ensures standing { map opened (still_open sessions.new.items) ≡ map opened (still_open sessions.old.items) }
+    ensures count { count_by (λ o. o.is_open) sessions.new.items ≡ count_by (λ o. o.is_open) sessions.old.items }
     ensures active { active.new.items ≡ filter (λ a. role_in sessions.new.items a.session a.role) active.old.items }
 {
     match gone {
         [] => {}
         _ => {
             forget(sessions, gone);
-            keep_listed(active, sessions);
+            active.keep_listed(sessions);
         }
     }
 }

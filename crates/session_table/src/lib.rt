@@ -2,6 +2,7 @@
 #![tactic(auto)]
 
 mod activations;
+mod active;
 mod charges;
 mod checks;
 mod dropping;

@@ -1,26 +1,27 @@
-//! Open sessions, in the order of their numbers.
-ghost use Rattle.std.specs.Prelude.{◌≡◌, ◌<◌, [], ◌∷◌, ◌++◌, not, ◌&&◌, ◌||◌, length, map, filter, find, slice_get, slice_set, OnOk, OnErr, IfOk, IfSome, MatchOption, None};
+//! Open sessions, in the order of their numbers, with gaps where others were closed.
+ghost use Rattle.std.specs.Prelude.{◌≡◌, ℕ, ◌+◌, ◌<◌, [], ◌∷◌, ◌++◌, true, false, not, ◌&&◌, ◌||◌, length, map, filter, find, count_by, slice_get, slice_set, OnOk, OnErr, IfOk, IfSome, MatchOption, None};
 ghost use Rattle.gt_base.specs.declared.events.RoleId.{RoleId};
 ghost use Rattle.gt_base.specs.declared.events.SessionId.{SessionId};
-ghost use Rattle.gt_base.specs.Sets.{has, members, with_member, without, Rises};
+ghost use Rattle.gt_base.specs.Sets.{has, members, none, with_member, without, Rises};
 ghost use Rattle.session_table.specs.RoleSets.{role_cmp};
 ghost use Rattle.gtrbac_model.specs.Same.{same_role, same_session};
-ghost use Rattle.session_table.specs.Opened.{numbered, opened, AreNumbered, IsFirstFrom};
+ghost use Rattle.session_table.specs.Opened.{numbered, opened, still_open, Numbered, AreNumbered, IsFirstFrom};
 ghost use Rattle.session_table.specs.Causes.{StandsAt};
 
 use crate::roles::Roles;
 use gt_base::{Memory, RoleId, SessionId, UserId};
 use std::alloc::Global;
 
-/// An open session: its number, its owner, and the roles that are active in it.
+/// A session: its number, its owner, and the roles that are active in it. Where it is no longer open, it is a gap, and no role is.
 #[derive(Drop)]
 pub(crate) struct Open {
     pub(crate) number: SessionId,
     pub(crate) owner: UserId,
     pub(crate) roles: Roles,
+    pub(crate) is_open: bool,
 }
 
-/// Where the session stands. It is searched for by halves, since the numbers rise.
+/// Where the open session stands. It is searched for by halves, since the numbers rise, those of gaps too.
 pub(crate) fn place(sessions: &[Open], number: SessionId) -> Option<usize>
     requires { AreNumbered (map opened sessions.now) }
     ensures { MatchOption result (find (numbered number) sessions.now ≡ None) (StandsAt sessions.now number) }
@@ -29,14 +30,23 @@ pub(crate) fn place(sessions: &[Open], number: SessionId) -> Option<usize>
     if at >= sessions.len() {
         return None;
     }
-    if number_at(sessions, at) == number.0 {
+    if is_numbered(sessions, at, number) {
         Some(at)
     } else {
         None
     }
 }
 
-/// How many sessions have lesser numbers.
+/// Whether the session at the place is open and of the number.
+fn is_numbered(sessions: &[Open], at: usize, number: SessionId) -> bool
+    requires { at < length sessions.now }
+    ensures { IfSome (slice_get sessions.now at) (λ o. result ≡ numbered number o) }
+{
+    let session = &sessions[at];
+    session.is_open && session.number.0 == number.0
+}
+
+/// How many sessions and gaps have lesser numbers.
 fn first_from(sessions: &[Open], number: u32) -> usize
     requires { AreNumbered (map opened sessions.now) }
     ensures { IsFirstFrom sessions.now number result }
@@ -110,13 +120,46 @@ pub(crate) fn remove_role(sessions: &mut Vec<Open>, at: usize, role: RoleId)
     session.roles.remove(role);
 }
 
-/// Takes out the session at the place.
-pub(crate) fn shut(sessions: &mut Vec<Open>, at: usize)
+/// Leaves a gap in the place of the session there.
+pub(crate) fn shut(alloc: Global, sessions: &mut Vec<Open>, at: usize)
     requires numbered { AreNumbered (map opened sessions.old.items) }
     requires inside { at < length sessions.old.items }
-    ensures { (n : SessionId) → StandsAt sessions.old.items n at → sessions.new.items ≡ filter (λ o. not (numbered n o)) sessions.old.items }
+    ensures opened { map opened sessions.new.items ≡ map opened sessions.old.items }
+    ensures standing { (n : SessionId) → StandsAt sessions.old.items n at → still_open sessions.new.items ≡ filter (λ o. not (numbered n o)) (still_open sessions.old.items) }
+    ensures count { (n : SessionId) → StandsAt sessions.old.items n at → count_by (λ o. o.is_open) sessions.old.items ≡ count_by (λ o. o.is_open) sessions.new.items + 1 }
 {
-    sessions.remove(at);
+    leave_gap(alloc, sessions, at);
+}
+
+/// The same, whatever the numbers are.
+fn leave_gap(alloc: Global, sessions: &mut Vec<Open>, at: usize)
+    requires { at < length sessions.old.items }
+    ensures { IfSome (slice_get sessions.old.items at) (λ o. sessions.new.items ≡ slice_set sessions.old.items at (record o { roles = none; is_open = false })) }
+{
+    let session = &mut sessions[at];
+    session.roles = Roles::new(alloc);
+    session.is_open = false;
+}
+
+/// Takes the gaps out where they are more than the sessions, of which so many are open.
+pub(crate) fn close_up(sessions: &mut Vec<Open>, standing: usize)
+    ensures standing { still_open sessions.new.items ≡ still_open sessions.old.items }
+    ensures numbered { (top : ℕ) → Numbered 0 (map opened sessions.old.items) top → Numbered 0 (map opened sessions.new.items) top }
+{
+    if sessions.len() / 2 > standing {
+        keep_open(sessions);
+    }
+}
+
+/// Takes the gaps out.
+fn keep_open(sessions: &mut Vec<Open>)
+    ensures { sessions.new.items ≡ still_open sessions.old.items }
+{
+    sessions.retain(
+        |session: &Open| -> bool
+            ensures { result ≡ session.now.is_open }
+        { session.is_open },
+    );
 }
 
 /// Adds a session at the end. After a refusal all is as it was.
@@ -128,7 +171,7 @@ pub(crate) fn push(sessions: &mut Vec<Open>, session: Open) -> Result<(), Memory
     Ok(())
 }
 
-/// The same sessions.
+/// The same sessions and gaps.
 pub(crate) fn copied(alloc: Global, sessions: &[Open]) -> Result<Vec<Open>, Memory>
     ensures { IfOk result (λ copy. copy.items ≡ sessions.now) }
 {
@@ -138,6 +181,7 @@ pub(crate) fn copied(alloc: Global, sessions: &[Open]) -> Result<Vec<Open>, Memo
             number: session.number,
             owner: session.owner,
             roles: session.roles.copied()?,
+            is_open: session.is_open,
         })?;
     }
     Ok(copy)

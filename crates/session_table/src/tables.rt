@@ -18,17 +18,16 @@ ghost use Rattle.session_table.specs.NextDrops.{IsFirstOrNone, is_any_capped};
 ghost use Rattle.session_table.specs.Plans.{need_of, IsPlan, IsPlanned, Closes};
 ghost use Rattle.session_table.specs.Replies.{Answers, AnswersAt, OrRefused, IsRefusal, ChecksBy};
 
-use crate::activations::{
-    Activation, count_in, end_role, end_session, find_active, put, signal_of,
-};
+use crate::activations::{Activation, count_in, end_session, find_active, signal_of};
+use crate::active::ActiveRow;
 use crate::charges::{Charge, charge_stretch, copied as copied_charges, reserve_charges};
 use crate::checks::{caps_of, early_refusal, late_refusal, owned};
 use crate::dropping::{Asked, dropped, prune, remember, signals_of, take_out};
 use crate::faults::SessionFault;
 use crate::nearing::next_capped;
 use crate::opened::{
-    Open, add_role, copied as copied_sessions, has_role, owner_at, place, push, remove_role,
-    roles_at, shut,
+    Open, add_role, close_up, copied as copied_sessions, has_role, owner_at, place, push,
+    remove_role, roles_at, shut,
 };
 use crate::plans::Drops;
 use crate::roles::Roles;
@@ -51,7 +50,8 @@ const MOST_SESSIONS: usize = 10_000;
 pub struct Sessions {
     alloc: Global,
     sessions: Vec<Open>,
-    active: Vec<Activation>,
+    standing: usize,
+    active: ActiveRow,
     charges: IndexMap<Charge, u32>,
     begun: u32,
     charged_to: Option<Instant>,
@@ -61,15 +61,15 @@ pub struct Sessions {
 impl Model for Sessions {
     ghost use Rattle.std.specs.Prelude.{map};
     ghost use Rattle.indexmap.specs.IndexMap.{spare};
-    ghost use Rattle.session_table.specs.Opened.{opened};
+    ghost use Rattle.session_table.specs.Opened.{opened, still_open};
     ghost use Rattle.session_table.specs.Kept.{IsTable};
     ghost use Rattle.session_table.specs.Tables.{TableView};
 
     ghost Value = { TableView };
 
-    ghost view = { λ s. record { sessions = map opened s.sessions.items; active = s.active.items; charges = s.charges.entries; begun = s.begun; charged_to = s.charged_to; room = spare s.charges } };
+    ghost view = { λ s. record { sessions = map opened (still_open s.sessions.items); active = s.active.items; charges = s.charges.entries; begun = s.begun; charged_to = s.charged_to; room = spare s.charges } };
 
-    ghost invariant = { λ s. IsTable s.sessions.items s.active.items s.charges.entries s.charged_to s.begun };
+    ghost invariant = { λ s. IsTable s.sessions.items s.standing s.active.items s.charges.entries s.charged_to s.begun };
 }
 
 impl Drop for Sessions {
@@ -77,6 +77,7 @@ impl Drop for Sessions {
         let Sessions {
             alloc: _,
             sessions: _,
+            standing: _,
             active: _,
             charges: _,
             begun: _,
@@ -95,7 +96,8 @@ impl Sessions {
         Sessions {
             alloc,
             sessions: Vec::new(alloc),
-            active: Vec::new(alloc),
+            standing: 0,
+            active: ActiveRow::new(alloc),
             charges: IndexMap::new(alloc),
             begun: 0,
             charged_to: None,
@@ -109,11 +111,12 @@ impl Sessions {
         ensures charged_to { IfOk result (λ copy. copy.charged_to ≡ self.now.charged_to) }
     {
         let sessions = copied_sessions(self.alloc, &self.sessions)?;
-        let active = Vec::from_slice(self.alloc, &self.active)?;
+        let active = self.active.copied(self.alloc)?;
         let charges = copied_charges(&self.charges)?;
         Ok(Sessions {
             alloc: self.alloc,
             sessions,
+            standing: self.standing,
             active,
             charges,
             begun: self.begun,
@@ -132,7 +135,7 @@ impl Sessions {
         ensures refused { IfErr result (λ fault. OrRefused fault (Answers (table_of self.old) (User user) OpenSession)) }
         ensures same { OnErr result (table_of self.new ≡ table_of self.old) }
     {
-        if self.sessions.len() >= MOST_SESSIONS {
+        if self.standing >= MOST_SESSIONS {
             return Err(SessionFault::Refused(Refusal::SessionsFull));
         }
         let number = SessionId(self.begun + 1);
@@ -140,8 +143,10 @@ impl Sessions {
             number,
             owner: user,
             roles: Roles::new(self.alloc),
+            is_open: true,
         };
         push(&mut self.sessions, session)?;
+        self.standing += 1;
         self.begun += 1;
         Ok(number)
     }
@@ -162,7 +167,9 @@ impl Sessions {
         let most = roles_at(&self.sessions, at).len();
         let mut signals = Vec::with_capacity(self.alloc, most)?;
         end_session(&mut self.active, session, most, &mut signals);
-        shut(&mut self.sessions, at);
+        shut(self.alloc, &mut self.sessions, at);
+        self.standing -= 1;
+        close_up(&mut self.sessions, self.standing);
         Ok(List::from(signals))
     }
 
@@ -184,11 +191,11 @@ impl Sessions {
             Ok(at) => at,
             Err(refusal) => return Err(SessionFault::Refused(refusal)),
         };
-        let Some(activation) = find_active(&self.active, session, role) else {
+        let Some(activation) = find_active(self.active.as_slice(), session, role) else {
             return Err(SessionFault::Refused(Refusal::NotActive));
         };
         remove_role(&mut self.sessions, at, role);
-        end_role(&mut self.active, session, role);
+        self.active.end_role(session, role);
         Ok(signal_of(false, &activation))
     }
 
@@ -196,7 +203,7 @@ impl Sessions {
     pub fn count_in(&self, session: SessionId) -> usize
         ensures { result ≡ count_by (in_session session) self.now.active }
     {
-        count_in(&self.active, session)
+        count_in(self.active.as_slice(), session)
     }
 
     /// As many as the activations that stand in the session, or more, told without a look at those of others. It takes no memory.
@@ -282,7 +289,7 @@ impl Sessions {
         let today = day(now);
         if let Some(refusal) = late_refusal(
             of_role,
-            &self.active,
+            self.active.as_slice(),
             &self.charges,
             user,
             role,
@@ -291,7 +298,7 @@ impl Sessions {
             return Err(SessionFault::Refused(refusal));
         }
         remember(&mut self.walks, Asked { user, role }, &walk)?;
-        self.active.reserve(1)?;
+        self.active.reserve_one()?;
         add_role(&mut self.sessions, at, role)?;
         let activation = Activation {
             session,
@@ -299,7 +306,7 @@ impl Sessions {
             role,
             begun: now,
         };
-        put(&mut self.active, activation);
+        self.active.push(activation);
         Ok((walk, signal_of(true, &activation)))
     }
 
@@ -347,7 +354,7 @@ impl Sessions {
             caps,
             status,
             &self.charges,
-            &self.active,
+            self.active.as_slice(),
             now,
             to,
         )?;
@@ -368,7 +375,7 @@ impl Sessions {
         ensures table { Closes self.old d self.new }
         ensures charged_to { self.new.charged_to ≡ Some d.to }
     {
-        charge_stretch(&mut self.charges, &self.active, d.after, d.to);
+        charge_stretch(&mut self.charges, self.active.as_slice(), d.after, d.to);
         take_out(&mut self.sessions, &mut self.active, &d.gone);
         self.charged_to = Some(d.to);
     }
@@ -403,6 +410,6 @@ impl Sessions {
         requires { NotBefore self.now.charged_to now }
         ensures { IsFirstOrNone (is_any_capped caps.now.items now (table_of self.now)) now result }
     {
-        next_capped(&self.charges, &self.active, caps.as_slice(), now)
+        next_capped(&self.charges, self.active.as_slice(), caps.as_slice(), now)
     }
 }

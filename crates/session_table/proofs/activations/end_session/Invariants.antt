@@ -1,4 +1,4 @@
-use Rattle.std.proofs.Common.{◌+◌, ◌-◌, ◌≤◌, false, vec_len, vec_capacity}
+use Rattle.std.proofs.Common.{◌+◌, ◌-◌, ◌≤◌, false, length, vec_len, vec_capacity}
 use Rattle.gtrbac_model.specs.Sessions.{signal_of}
 use Rattle.session_table.specs.Opened.{in_session}
 use Rattle.session_table.proofs.Ending.{Ends}
@@ -11,4 +11,4 @@ invariant-loop-at l = record {
 }
 
 abbrev pub decreases-loop-at : goal.decreases-loop-at
-decreases-loop-at l = vec_len l.active - l.at
+decreases-loop-at l = length l.active.items - l.at

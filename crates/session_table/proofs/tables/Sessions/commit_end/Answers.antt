@@ -25,7 +25,7 @@ charge_stretch-requires-clause-bound c = λ u r d.
     let order : c.d.inside.after < c.d.inside.to = omega (arith, now_is, to_is, c.requires.order) in
     let not_before : NotBefore c.self.inside.charged_to c.d.inside.after =
     subst (λ (v : TableView). NotBefore v.charged_to c.d.inside.after) (sym c.self.view_is) (subst (λ (d : DropsView). NotBefore c.args.self.now.charged_to d.after) (sym c.d.view_is) c.requires.not_before) in
-    rw c.deref.ensures.value (charges_fit os active rows c.self.inside.charged_to c.self.invariant.kept c.d.inside.after c.d.inside.to order not_before u r d)
+    rw c.as_slice.ensures (charges_fit os active rows c.self.inside.charged_to c.self.invariant.kept c.d.inside.after c.d.inside.to order not_before u r d)
 
 pub take_out-requires-clause-numbered : goal.take_out-requires-clause-numbered
 take_out-requires-clause-numbered c = (c.self.inside.begun, c.self.invariant.numbered)
@@ -47,14 +47,15 @@ invariant_of-self c =
     let charged : (u : UserId) (r : RoleId) (d : ℕ) → charged_in c.charge_stretch.new.charges.entries u r d
     ≡ charged_in rows u r d + minutes_of_day c.d.inside.after (c.d.inside.to - c.d.inside.after) d * count_by (is_of u r) active =
     λ u r d. c.charge_stretch.ensures.charged u r d
-    ∙ ap (λ xs. charged_in rows u r d + minutes_of_day c.d.inside.after (c.d.inside.to - c.d.inside.after) d * count_by (is_of u r) xs) c.deref.ensures.value in
-    let listed : c.deref-2.result.now ≡ c.args.d.gone = c.deref-2.ensures.value ∙ ap (λ (d : DropsView). d.gone) c.d.view_is in
+    ∙ ap (λ xs. charged_in rows u r d + minutes_of_day c.d.inside.after (c.d.inside.to - c.d.inside.after) d * count_by (is_of u r) xs) c.as_slice.ensures in
+    let listed : c.deref.result.now ≡ c.args.d.gone = c.deref.ensures.value ∙ ap (λ (d : DropsView). d.gone) c.d.view_is in
     let kept : c.take_out.new.active.items ≡ filter (λ a. role_in os' a.session a.role) active = c.take_out.ensures.active in
-    let gone : c.deref-2.result.now ≡ filter c.requires.test active = listed ∙ c.requires.gone ∙ ap (λ (v : TableView). filter c.requires.test v.active) (sym c.self.view_is) in
+    let gone : c.deref.result.now ≡ filter c.requires.test active = listed ∙ c.requires.gone ∙ ap (λ (v : TableView). filter c.requires.test v.active) (sym c.self.view_is) in
     record {
       kept = subst (λ xs. IsKept os' xs c.charge_stretch.new.charges.entries (Some c.d.inside.to)) (sym kept)
-          (committed os active rows c.self.inside.charged_to c.self.invariant.kept c.requires.test c.deref-2.result.now gone os' c.take_out.ensures.roles c.take_out.ensures.len
+          (committed os active rows c.self.inside.charged_to c.self.invariant.kept c.requires.test c.deref.result.now gone os' c.take_out.ensures.roles c.take_out.ensures.count
           c.charge_stretch.new.charges.entries c.d.inside.after c.d.inside.to order not_before charged);
+      counted = c.self.invariant.counted ∙ sym c.take_out.ensures.count;
       numbered = subst (λ ss. Numbered 0 ss c.self.inside.begun) (sym c.take_out.ensures.opened) c.self.invariant.numbered;
     }
 
@@ -72,14 +73,14 @@ returns-clause-table c = λ edges caps s e.
     let charged : (u : UserId) (r : RoleId) (d : ℕ) → charged_in c.charge_stretch.new.charges.entries u r d
     ≡ charged_in rows u r d + minutes_of_day c.d.inside.after (c.d.inside.to - c.d.inside.after) d * count_by (is_of u r) active =
     λ u r d. c.charge_stretch.ensures.charged u r d
-    ∙ ap (λ xs. charged_in rows u r d + minutes_of_day c.d.inside.after (c.d.inside.to - c.d.inside.after) d * count_by (is_of u r) xs) c.deref.ensures.value in
-    let listed : c.deref-2.result.now ≡ c.args.d.gone = c.deref-2.ensures.value ∙ ap (λ (d : DropsView). d.gone) c.d.view_is in
+    ∙ ap (λ xs. charged_in rows u r d + minutes_of_day c.d.inside.after (c.d.inside.to - c.d.inside.after) d * count_by (is_of u r) xs) c.as_slice.ensures in
+    let listed : c.deref.result.now ≡ c.args.d.gone = c.deref.ensures.value ∙ ap (λ (d : DropsView). d.gone) c.d.view_is in
     let kept : c.take_out.new.active.items ≡ filter (λ a. role_in os' a.session a.role) active = c.take_out.ensures.active in
     let test : Activation → Bool = is_dropped edges caps s c.args.d.to (charged_through c.args.d.after c.args.d.to (table_of c.args.self.now)) in
-    let gone : c.deref-2.result.now ≡ filter test active = listed ∙ e ∙ ap (λ (v : TableView). filter test v.active) (sym c.self.view_is) in
+    let gone : c.deref.result.now ≡ filter test active = listed ∙ e ∙ ap (λ (v : TableView). filter test v.active) (sym c.self.view_is) in
     same_table _ _
-    (c.take_out.ensures.opened ∙ ap (λ (v : TableView). v.sessions) c.self.view_is)
-    (kept ∙ survivors os active rows c.self.inside.charged_to c.self.invariant.kept test c.deref-2.result.now gone os' c.take_out.ensures.roles
+    (c.take_out.ensures.standing ∙ ap (λ (v : TableView). v.sessions) c.self.view_is)
+    (kept ∙ survivors os active rows c.self.inside.charged_to c.self.invariant.kept test c.deref.result.now gone os' c.take_out.ensures.roles
     ∙ ap (λ (v : TableView). filter (λ a. not (test a)) v.active) c.self.view_is)
     (λ i u r d. (charged u r d
     ∙ ap (λ (v : TableView). charged_in v.charges u r d + minutes_of_day c.d.inside.after (c.d.inside.to - c.d.inside.after) d * count_by (is_of u r) v.active) c.self.view_is

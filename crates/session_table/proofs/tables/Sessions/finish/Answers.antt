@@ -1,4 +1,4 @@
-use Rattle.std.proofs.Common.{◌≡◌, ◌++◌, false, not, List, map, filter, Some, None, IfSome, sym, ap, subst, ◌∙◌}
+use Rattle.std.proofs.Common.{◌≡◌, ◌++◌, false, not, List, map, filter, Some, None, IfSome, sym, ap, subst, ◌∙◌, arith}
 use Rattle.std.specs.List.{slice_get}
 use Rattle.gt_base.specs.Sets.{members}
 use Rattle.gt_base.specs.declared.requests.Reply.TheVariants.{Done}
@@ -6,14 +6,13 @@ use Rattle.gtrbac_model.specs.Same.{same_session}
 use Rattle.gtrbac_model.specs.Sessions.{signal_of}
 use Rattle.gtrbac_model.specs.Reply.{session_causes}
 use Rattle.session_table.specs.declared.opened.Open.{Open}
-use Rattle.session_table.specs.Opened.{numbered, opened, in_session, Numbered}
+use Rattle.session_table.specs.Opened.{numbered, opened, still_open, in_session, Numbered}
 use Rattle.session_table.specs.Causes.{StandsAt}
 use Rattle.session_table.specs.Charges.{charged_in}
 use Rattle.session_table.specs.Tables.{table_of}
 use Rattle.session_table.proofs.Answering.{unless_none, unless_some}
 use Rattle.session_table.proofs.Ending.{few_in}
-use Rattle.session_table.proofs.Keeping.{finished}
-use Rattle.session_table.proofs.Numbering.{fewer}
+use Rattle.session_table.proofs.Keeping.{finished, without_gaps, with_gaps, sum_open}
 use Rattle.session_table.proofs.Indexing.{shut_opened}
 use Rattle.session_table.proofs.Telling.{same_table, causes}
 use Rattle.session_table.proofs.tables.Sessions.finish.Goals as goal
@@ -24,7 +23,7 @@ owned-requires c = rw c.deref.ensures.value (c.self.inside.begun, c.self.invaria
 pub returns-in-Err-clause-refused : goal.returns-in-Err-clause-refused
 returns-in-Err-clause-refused c = λ p pt.
     unless_some (session_causes (table_of c.args.self.now) c.args.actor c.args.session) Done c.in-Err.refusal
-    (causes c.args.self.now c.deref.result.now (ap (map opened) c.deref.ensures.value ∙ ap (λ v. v.sessions) c.self.view_is) c.args.actor c.args.session (Some c.in-Err.refusal) c.in-Err.ensures.err)
+    (causes c.args.self.now c.deref.result.now (ap (λ os. map opened (still_open os)) c.deref.ensures.value ∙ ap (λ v. v.sessions) c.self.view_is) c.args.actor c.args.session (Some c.in-Err.refusal) c.in-Err.ensures.err)
 
 pub end_session-requires-clause-few : goal.end_session-requires-clause-few
 end_session-requires-clause-few c =
@@ -40,23 +39,26 @@ pub invariant_of-self : goal.invariant_of-self
 invariant_of-self c =
     let os : List Open = c.self.inside.sessions.items in
     let stands : StandsAt os c.args.session c.in-Ok.at = subst (λ os. StandsAt os c.args.session c.in-Ok.at) c.deref.ensures.value c.in-Ok.ensures.place in
-    let left : c.shut.new.sessions.items ≡ filter (λ o. not (numbered c.args.session o)) os = c.shut.ensures c.args.session stands in
+    let left : still_open c.close_up.new.sessions.items ≡ filter (λ o. not (numbered c.args.session o)) (still_open os) = c.close_up.ensures.standing ∙ c.shut.ensures.standing c.args.session stands in
     record {
-      kept = rw (left, c.end_session.ensures.active) (finished _ _ _ _ c.self.invariant.kept c.args.session);
-      numbered = subst (λ ss. Numbered 0 ss c.self.inside.begun) (sym (ap (map opened) left ∙ shut_opened os c.args.session))
-          (fewer (λ o. not (same_session o.number c.args.session)) 0 c.self.inside.begun (map opened os) c.self.invariant.numbered);
+      kept = with_gaps c.close_up.new.sessions.items c.end_session.new.active.items c.self.inside.charges.entries c.self.inside.charged_to
+          (rw (left, c.end_session.ensures.active) (finished _ _ _ _ (without_gaps _ _ _ _ c.self.invariant.kept) c.args.session));
+      counted = let one = c.shut.ensures.count c.args.session stands in
+          let all = sum_open c.close_up.new.sessions.items c.shut.new.sessions.items c.close_up.ensures.standing in
+          omega (arith, one, all, c.self.invariant.counted);
+      numbered = c.close_up.ensures.numbered c.self.inside.begun (subst (λ ss. Numbered 0 ss c.self.inside.begun) (sym c.shut.ensures.opened) c.self.invariant.numbered);
     }
 
 pub returns-clause-answer : goal.returns-clause-answer
 returns-clause-answer c = λ p pt.
     unless_none (session_causes (table_of c.args.self.now) c.args.actor c.args.session) Done
-    (causes c.args.self.now c.deref.result.now (ap (map opened) c.deref.ensures.value ∙ ap (λ v. v.sessions) c.self.view_is) c.args.actor c.args.session None c.in-Ok.ensures.ok)
+    (causes c.args.self.now c.deref.result.now (ap (λ os. map opened (still_open os)) c.deref.ensures.value ∙ ap (λ v. v.sessions) c.self.view_is) c.args.actor c.args.session None c.in-Ok.ensures.ok)
 
 pub returns-clause-table : goal.returns-clause-table
 returns-clause-table c =
     let os : List Open = c.self.inside.sessions.items in
     let stands : StandsAt os c.args.session c.in-Ok.at = subst (λ os. StandsAt os c.args.session c.in-Ok.at) c.deref.ensures.value c.in-Ok.ensures.place in
-    let left : c.shut.new.sessions.items ≡ filter (λ o. not (numbered c.args.session o)) os = c.shut.ensures c.args.session stands in
+    let left : still_open c.close_up.new.sessions.items ≡ filter (λ o. not (numbered c.args.session o)) (still_open os) = c.close_up.ensures.standing ∙ c.shut.ensures.standing c.args.session stands in
     same_table _ _
     (ap (λ v. filter (λ o. not (same_session o.number c.args.session)) v.sessions) (sym c.self.view_is) ∙ sym (shut_opened os c.args.session) ∙ ap (map opened) (sym left))
     (ap (λ v. filter (λ a. not (in_session c.args.session a)) v.active) (sym c.self.view_is) ∙ sym c.end_session.ensures.active)
