@@ -1,5 +1,7 @@
 -- What a contract sees of a policy in the making.
-use Rattle.std.specs.Prelude.{Bool}
+use Rattle.std.specs.Prelude.{Bool, List, length}
+use Rattle.gt_base.specs.declared.events.UserId.{UserId}
+use Rattle.gt_base.specs.Happening.{Fluents}
 use Rattle.policy_words.specs.Naming.{Names, NamedPolicy}
 use Rattle.policy_words.specs.Making.{Draft as Making, policy_of}
 use Rattle.policy_book.specs.declared.drafts.Draft.{Draft}
@@ -19,3 +21,22 @@ seen_draft d = record {
 -- the policy that a finished draft makes in version 2, or else 1, with its names
 abbrev pub made_policy : Names → Bool → Making → NamedPolicy
 made_policy ns second d = record { names = ns; policy = policy_of ns second d }
+
+-- the policy of a draft's rules with these names, administrators and what is on at first
+abbrev pub policy_with : Names → Making → List UserId → Fluents → NamedPolicy
+policy_with ns d admins opening = record {
+  names = ns;
+  policy = record {
+    roles = length ns.roles;
+    users = length ns.users;
+    perms = length ns.perms;
+    periods = d.periods;
+    limits = d.limits;
+    edges = d.edges;
+    caps = d.caps;
+    admins = admins;
+    opening = opening;
+    entries = d.entries;
+    triggers = d.triggers;
+  };
+}

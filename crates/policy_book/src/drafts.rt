@@ -4,23 +4,26 @@ ghost use Rattle.gtrbac_model.specs.Same.{same_user, same_fluent};
 ghost use Rattle.policy_words.specs.Sayings.{is_saying};
 ghost use Rattle.policy_words.specs.Seen.{seen_said};
 ghost use Rattle.policy_words.specs.Making.{no_caps, with_cap as capped_by, changed_at, with_item, with_new, with_caps_said, fresh, adding, drafted};
+ghost use Rattle.policy_words.specs.Valid.{IsWellFormed};
 ghost use Rattle.policy_words.specs.Book.{said_in};
 ghost use Rattle.policy_book.specs.Said.{are_sayings};
 ghost use Rattle.policy_book.specs.Seen.{seen_names};
 ghost use Rattle.policy_book.specs.Numbers.{AreFew};
-ghost use Rattle.policy_book.specs.Drafts.{seen_draft};
+ghost use Rattle.policy_book.specs.Drafts.{seen_draft, policy_with};
 
+use crate::books::Policy;
 use crate::lines::Part;
 use crate::names::NameTables;
 use crate::rules::{admin_in, edge_in, entry_in, limit_in, opening_in, period_in, trigger_in};
-use gt_base::{Caps, Fluent, HierEdge, LimitRule, Memory, PeriodicEntry, Trigger, UserId};
+use gt_base::{
+    Caps, Fluent, HierEdge, LimitRule, List, Memory, PeriodicEntry, Status, Trigger, UserId,
+};
 use indexmap::IndexSet;
 use periodic_expr::Period;
 use policy_words::{CapKind, Said};
 use std::alloc::Global;
 
 /// What the lines so far make.
-#[derive(Drop)]
 pub(crate) struct Draft {
     pub periods: Vec<Period>,
     pub limits: Vec<LimitRule>,
@@ -30,6 +33,21 @@ pub(crate) struct Draft {
     pub on_at_first: IndexSet<Fluent>,
     pub entries: Vec<PeriodicEntry>,
     pub triggers: Vec<Trigger>,
+}
+
+impl Drop for Draft {
+    fn drop(self) {
+        let Draft {
+            periods: _,
+            limits: _,
+            edges: _,
+            caps: _,
+            admins: _,
+            on_at_first: _,
+            entries: _,
+            triggers: _,
+        } = self;
+    }
 }
 
 /// Adds an item at the end, if there is one.
@@ -155,6 +173,41 @@ impl Draft {
         add_item(&mut self.triggers, trigger_in(alloc, names, &said)?)?;
         add_item(&mut self.periods, period_in(said))?;
         Ok(())
+    }
+
+    /// The policy of the rules with its names, these administrators and what is on at first.
+    pub(crate) fn with(
+        self,
+        alloc: Global,
+        names: NameTables,
+        admins: Vec<UserId>,
+        opening: Status,
+    ) -> Policy
+        requires { IsWellFormed (policy_with (seen_names names) (seen_draft self) admins.items opening.set) }
+        ensures { result ≡ policy_with (seen_names names) (seen_draft self) admins.items opening.set }
+    {
+        let Draft {
+            periods,
+            limits,
+            edges,
+            caps,
+            admins: _,
+            on_at_first: _,
+            entries,
+            triggers,
+        } = self;
+        Policy {
+            alloc,
+            names,
+            periods: List::from(periods),
+            limits: List::from(limits),
+            edges: List::from(edges),
+            caps: List::from(caps),
+            admins: List::from(admins),
+            opening,
+            entries: List::from(entries),
+            triggers: List::from(triggers),
+        }
     }
 }
 

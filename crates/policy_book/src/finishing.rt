@@ -11,7 +11,7 @@ ghost use Rattle.policy_book.specs.Drafts.{seen_draft, made_policy};
 use crate::books::Policy;
 use crate::drafts::Draft;
 use crate::names::NameTables;
-use gt_base::{Fluent, HierEdge, List, Memory, Status, UserId};
+use gt_base::{Fluent, HierEdge, Memory, Status, UserId};
 use indexmap::IndexSet;
 use std::alloc::Global;
 
@@ -62,9 +62,9 @@ fn place(fluent: Fluent) -> (u8, u32, u32) {
     }
 }
 
-/// The status in which these fluents and the first so many edges are on, in time n log n.
-fn opening_of(alloc: Global, mut fluents: IndexSet<Fluent>, linked: u32) -> Result<Status, Memory>
-    ensures { IfOk result (λ status. status.set ≡ set_of (edges_from 0 linked ++ fluents.keys)) }
+/// The status in which these fluents and the first so many edges are on, in time n log n. It sorts the fluents.
+fn opening_of(alloc: Global, fluents: &mut IndexSet<Fluent>, linked: u32) -> Result<Status, Memory>
+    ensures { IfOk result (λ status. status.set ≡ set_of (edges_from 0 linked ++ fluents.old.keys)) }
 {
     fluents.sort_by_key(|fluent| place(*fluent))?;
     let status = status_of(alloc, fluents.as_slice(), linked)?;
@@ -84,7 +84,7 @@ pub(crate) fn finished(
     alloc: Global,
     names: NameTables,
     second: bool,
-    draft: Draft,
+    mut draft: Draft,
 ) -> Result<Policy, Memory>
     requires few { AreFew 4_294_967_295 (seen_names names) }
     requires well_formed { IsWellFormed (made_policy (seen_names names) second (seen_draft draft)) }
@@ -92,17 +92,6 @@ pub(crate) fn finished(
 {
     let admins = admins_of(alloc, names.users.len() as u32, &draft.admins)?;
     let linked = linked_count(second, &draft.edges);
-    let opening = opening_of(alloc, draft.on_at_first, linked)?;
-    Ok(Policy {
-        alloc,
-        names,
-        periods: List::from(draft.periods),
-        limits: List::from(draft.limits),
-        edges: List::from(draft.edges),
-        caps: List::from(draft.caps),
-        admins: List::from(admins),
-        opening,
-        entries: List::from(draft.entries),
-        triggers: List::from(draft.triggers),
-    })
+    let opening = opening_of(alloc, &mut draft.on_at_first, linked)?;
+    Ok(draft.with(alloc, names, admins, opening))
 }

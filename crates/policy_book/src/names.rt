@@ -18,7 +18,6 @@ use policy_words::{NamedCond, NamedEvent, NamedFluent, NamedHead, NamedSignal, S
 use std::alloc::Global;
 
 /// The names of each kind, each at its number, and the pairs of the edges.
-#[derive(Drop)]
 pub(crate) struct NameTables {
     pub roles: Table,
     pub users: Table,
@@ -26,6 +25,19 @@ pub(crate) struct NameTables {
     pub periods: Table,
     pub limits: Table,
     pub edges: PairTable,
+}
+
+impl Drop for NameTables {
+    fn drop(self) {
+        let NameTables {
+            roles: _,
+            users: _,
+            perms: _,
+            periods: _,
+            limits: _,
+            edges: _,
+        } = self;
+    }
 }
 
 /// The number of a name in a table.

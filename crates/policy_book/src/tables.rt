@@ -12,9 +12,14 @@ use std::alloc::Global;
 use std::marker::Model;
 
 /// Declared names, seen as their list. The number of a name is its place, from 0.
-#[derive(Drop)]
 pub struct Table {
     names: IndexSet<Key>,
+}
+
+impl Drop for Table {
+    fn drop(self) {
+        let Table { names: _ } = self;
+    }
 }
 
 impl Model for Table {
@@ -86,9 +91,14 @@ impl Table {
 }
 
 /// Ordered pairs of names, seen as their list. The number of a pair is its place, from 0.
-#[derive(Drop)]
 pub(crate) struct PairTable {
     pairs: IndexSet<(Key, Key)>,
+}
+
+impl Drop for PairTable {
+    fn drop(self) {
+        let PairTable { pairs: _ } = self;
+    }
 }
 
 impl Model for PairTable {

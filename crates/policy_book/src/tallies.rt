@@ -186,10 +186,18 @@ fn kind_of(said: &Said) -> Option<Kind>
 }
 
 /// What the lines before claim, and how many of each kind they have.
-#[derive(Drop)]
 pub(crate) struct Tally {
     claims: IndexSet<Claim>,
     counts: Counts,
+}
+
+impl Drop for Tally {
+    fn drop(self) {
+        let Tally {
+            claims: _,
+            counts: _,
+        } = self;
+    }
 }
 
 /// Whether one of the claims is this.

@@ -8,4 +8,4 @@ pub returns : goal.returns
 returns c =
     let linked = edges_from 0 c.args.linked in
     c.in_ok-status.ensures ∙ ap (λ fs. set_of (linked ++ fs)) c.as_slice.ensures.keys
-    ∙ reordered_set linked c.args.fluents.keys c.sort_by_key.new.self.keys c.sort_by_key.ensures.reordered.2
+    ∙ reordered_set linked c.args.fluents.now.keys c.sort_by_key.new.self.keys c.sort_by_key.ensures.reordered.2
