@@ -12,8 +12,8 @@ use Rattle.gt_base.specs.declared.events.Fluent.{Fluent}
 use Rattle.gt_base.specs.declared.words.Word.{Word}
 use Rattle.gt_base.specs.Orders.{fluent_cmp}
 use Rattle.gt_base.specs.Sets.{SetOf, none, has, members, set_of, with_member, without, pairs, Rises}
-use Rattle.gt_base.specs.Words.{fluents_of, set_of_words}
-use Rattle.gt_base.specs.Flags.{Flagged, flagged, is_among, is_lit, IsWith, IsWithout, set_of_parts}
+use Rattle.gt_base.specs.Words.{fluents_of, set_of_words, AreWords}
+use Rattle.gt_base.specs.Flags.{Flagged, flagged, is_among, is_lit, IsWith, IsWithout, AreApart, set_of_parts}
 use Rattle.gt_base.proofs.Rising.{answers_rise, none_tie, left_of, right_of, below_at, turned}
 use Rattle.gt_base.proofs.SetLaws.{eq_itself, has-none, has-set_of, has-members}
 use Rattle.gt_base.proofs.SetSteps.{fluent_cmp_total}
@@ -282,3 +282,44 @@ pub lit_more : (ks : List Fluent) (bs : List Bool) (i : ℕ) (d : Fluent) (e : B
 lit_more ks bs i d e lt ltb =
     let next : i + 1 ≡ suc i = omega arith in
     ap (λ n. flagged (take n ks) (take n bs)) next ∙ lit_next ks bs i d e lt ltb
+
+-- a fluent at a place of the list is among it
+pub among_at : (ks : List Fluent) (f : Fluent) (i : ℕ) → i < length ks → HoldsAt (λ k. k ≡ f) ks i → is_among ks f ≡ true
+among_at [] f i lt at = absurd (omega (arith, lt))
+among_at (k ∷ ks) f zero lt at = ap (λ b. b || is_among ks f) (subst (λ y. eq_by_cmp fluent_cmp f y ≡ true) (sym (at k)) (itself f))
+among_at (k ∷ ks) f (suc i) lt at = or_yes (eq_by_cmp fluent_cmp f k) _ (among_at ks f i (omega (arith, lt)) (λ e. at e))
+  where
+    or_yes : (a b : Bool) → b ≡ true → (a || b) ≡ true
+    or_yes true b e = refl
+    or_yes false b e = e
+
+-- ---- flags apart from words
+pub apart_from_none : (s : Flagged) → AreApart s []
+apart_from_none s x there = ap (λ t. has t x) set_of_no_words ∙ has-none fluent_cmp x
+
+-- no words, and so none that is apart
+pub none_apart : (s : Flagged) (ws : List Word) → ws ≡ [] → AreWords ws × AreApart s ws
+none_apart s ws e = subst (λ ws. AreWords ws × AreApart s ws) (sym e) (record { rising = tt; within = λ i d lt. absurd (omega (arith, lt)) }, apart_from_none s)
+
+pub apart_still : (s new : Flagged) (ws : List Word) → new.known ≡ s.known → AreApart s ws → AreApart new ws
+apart_still s new ws same h x there = h x (sym (ap (λ ks. is_among ks x) same) ∙ there)
+
+module _ (s : Flagged) (ws words : List Word) (f : Fluent) (h : AreApart s ws) where
+  pub apart_on : is_among s.known f ≡ false → set_of_words words ≡ with_member (set_of_words ws) f → AreApart s words
+  apart_on absent e x there =
+      ap (λ t. has t x) e ∙ fluents_are_sets.added (set_of_words ws) f x
+      ∙ both_off _ _ (other (eq_by_cmp fluent_cmp x f) (λ tie. sym there ∙ ap (is_among s.known) (tie_of x f tie) ∙ absent)) (h x there)
+    where
+      other : (b : Bool) → (b ≡ true → true ≡ false) → b ≡ false
+      other true g = g refl
+      other false g = refl
+
+  pub apart_off : set_of_words words ≡ without (set_of_words ws) f → AreApart s words
+  apart_off e x there = ap (λ t. has t x) e ∙ fluents_are_sets.taken_out (set_of_words ws) f x ∙ ap (λ b. b && not (eq_by_cmp fluent_cmp f x)) (h x there)
+
+  -- a fluent that has a flag is in no word, and so none is taken out
+  pub apart_stays : is_among s.known f ≡ true → set_of_words ws ≡ without (set_of_words ws) f
+  apart_stays there =
+      fluents_are_sets.same _ _ (λ x.
+      spared (has (set_of_words ws) x) (eq_by_cmp fluent_cmp f x) (λ tie. subst (λ y. has (set_of_words ws) y ≡ false) (tie_of f x tie) (h f there))
+      ∙ sym (fluents_are_sets.taken_out (set_of_words ws) f x))

@@ -1,12 +1,12 @@
 -- Fluents with a flag each, which tells whether the fluent is on.
-use Rattle.std.specs.Prelude.{◌≡◌, ℕ, ◌<◌, Bool, false, cond, not, ◌&&◌, ◌||◌, List, [], ◌∷◌, ◌++◌, length, Option, Some, None, MatchOption}
+use Rattle.std.specs.Prelude.{◌≡◌, ℕ, ◌<◌, Bool, true, false, cond, not, ◌&&◌, ◌||◌, List, [], ◌∷◌, ◌++◌, length, Option, Some, None, MatchOption}
 use Rattle.std.specs.List.{HoldsAt, flat_map, list_any}
 use Rattle.std.specs.Ordering.{eq_by_cmp}
 use Rattle.gt_base.specs.declared.events.Fluent.{Fluent}
 use Rattle.gt_base.specs.declared.words.Word.{Word}
 use Rattle.gt_base.specs.Orders.{fluent_cmp}
-use Rattle.gt_base.specs.Sets.{SetOf, set_of}
-use Rattle.gt_base.specs.Words.{fluents_of}
+use Rattle.gt_base.specs.Sets.{SetOf, has, set_of}
+use Rattle.gt_base.specs.Words.{fluents_of, set_of_words}
 
 -- the fluents that have a flag, and their flags
 pub record Flagged : Type 0 where
@@ -42,6 +42,10 @@ IsWith f old new = (x : Fluent) → is_lit new x ≡ (eq_by_cmp fluent_cmp x f |
 
 abbrev pub IsWithout : Fluent → Flagged → Flagged → Type 0
 IsWithout f old new = (x : Fluent) → is_lit new x ≡ (is_lit old x && not (eq_by_cmp fluent_cmp f x))
+
+-- no fluent that has a flag is on by a word
+abbrev pub AreApart : Flagged → List Word → Type 0
+AreApart s ws = (x : Fluent) → is_among s.known x ≡ true → has (set_of_words ws) x ≡ false
 
 -- the set of the fluents that are lit and of those that words stand for
 unfoldable pub set_of_parts : Flagged → List Word → SetOf fluent_cmp

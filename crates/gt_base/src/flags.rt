@@ -1,9 +1,9 @@
 //! Fluents with a flag each: the row of fluents is shared by copies, and the flags are each copy's own.
-ghost use Rattle.std.specs.Prelude.{◌≡◌, ◌<◌, [], ◌++◌, true, false, map, length, flat_map, slice_index_or, slice_set, IfOk};
+ghost use Rattle.std.specs.Prelude.{◌≡◌, ◌<◌, [], ◌++◌, true, false, map, length, flat_map, slice_index_or, slice_set, IfOk, MatchOption};
 ghost use Rattle.gt_base.specs.Orders.{fluent_cmp};
 ghost use Rattle.gt_base.specs.Sets.{has, members, set_of, Rises};
 ghost use Rattle.gt_base.specs.Words.{fluents_of, AreWords};
-ghost use Rattle.gt_base.specs.Flags.{flagged, is_lit, IsPlace, IsWith, IsWithout, set_of_parts};
+ghost use Rattle.gt_base.specs.Flags.{flagged, is_among, is_lit, IsPlace, IsWith, IsWithout, AreApart, set_of_parts};
 
 use crate::events::Fluent;
 use crate::known::Known;
@@ -86,20 +86,21 @@ impl Flags {
         }
     }
 
-    /// Whether the fluent has a flag that is set.
-    pub(crate) fn is_on(&self, f: Fluent) -> bool
-        ensures { result ≡ is_lit self.now f }
+    /// Whether the fluent is on by its flag, if it has one.
+    fn flag(&self, f: Fluent) -> Option<bool>
+        ensures { MatchOption result (is_among self.now.known f ≡ false) (λ flag. (is_among self.now.known f ≡ true) × (flag ≡ is_lit self.now f)) }
     {
         match self.place(f) {
-            Some(at) => flag_at(&self.on, at),
-            None => false,
+            Some(at) => Some(flag_at(&self.on, at)),
+            None => None,
         }
     }
 
     /// Sets the fluent's flag, if it has one, and tells whether it has.
     pub(crate) fn turn_on(&mut self, f: Fluent) -> bool
         ensures known { result ≡ true → IsWith f self.old self.new }
-        ensures unknown { result ≡ false → self.new ≡ self.old }
+        ensures unknown { result ≡ false → (self.new ≡ self.old) × (is_among self.old.known f ≡ false) }
+        ensures same { self.new.known ≡ self.old.known }
     {
         match self.place(f) {
             Some(at) => {
@@ -110,13 +111,18 @@ impl Flags {
         }
     }
 
-    /// Clears the fluent's flag, if it has one.
-    pub(crate) fn turn_off(&mut self, f: Fluent)
-        ensures { IsWithout f self.old self.new }
+    /// Clears the fluent's flag, if it has one, and tells whether it has.
+    pub(crate) fn turn_off(&mut self, f: Fluent) -> bool
+        ensures without { IsWithout f self.old self.new }
+        ensures known { result ≡ true → is_among self.old.known f ≡ true }
+        ensures same { self.new.known ≡ self.old.known }
     {
         match self.place(f) {
-            Some(at) => put_flag(&mut self.on, at, false),
-            None => {}
+            Some(at) => {
+                put_flag(&mut self.on, at, false);
+                true
+            }
+            None => false,
         }
     }
 
@@ -156,12 +162,16 @@ fn lit_of(alloc: Global, fluents: &[Fluent], on: &[bool]) -> Result<Vec<Fluent>,
     Ok(lit)
 }
 
-/// Whether the fluent is on by its flag or by a word.
+/// Whether the fluent is on: by its flag, or, if it has none, by a word.
 pub(crate) fn is_on_in(flags: &Flags, more: &[Word], f: Fluent) -> bool
-    requires { AreWords more.now }
+    requires words { AreWords more.now }
+    requires apart { AreApart flags.now more.now }
     ensures { result ≡ has (set_of_parts flags.now more.now) f }
 {
-    flags.is_on(f) || is_on(more, f)
+    match flags.flag(f) {
+        Some(flag) => flag,
+        None => is_on(more, f),
+    }
 }
 
 /// All fluents that have a flag or that a word stands for, ascending.
@@ -176,7 +186,8 @@ fn all_known(alloc: Global, flags: &Flags, more: &[Word]) -> Result<Vec<Fluent>,
 
 /// Flags for all fluents that have a flag or that a word stands for, each set where the fluent is on.
 pub(crate) fn gathered(alloc: Global, flags: &Flags, more: &[Word]) -> Result<Flags, Memory>
-    requires { AreWords more.now }
+    requires words { AreWords more.now }
+    requires apart { AreApart flags.now more.now }
     ensures { IfOk result (λ all. set_of_parts all [] ≡ set_of_parts flags.now more.now) }
 {
     let fluents = all_known(alloc, flags, more)?;
@@ -192,7 +203,8 @@ fn flags_for(
     flags: &Flags,
     more: &[Word],
 ) -> Result<Vec<bool>, Memory>
-    requires { AreWords more.now }
+    requires words { AreWords more.now }
+    requires apart { AreApart flags.now more.now }
     ensures { IfOk result (λ on. on.items ≡ map (has (set_of_parts flags.now more.now)) fluents.now) }
 {
     let mut on = Vec::with_capacity(alloc, fluents.len())?;

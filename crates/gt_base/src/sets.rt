@@ -3,7 +3,7 @@ ghost use Rattle.std.specs.Prelude.{◌≡◌, ◌≤◌, ◌+◌, ◌<◌, if�
 ghost use Rattle.gt_base.specs.Sets.{has, members, none, with_member, without};
 ghost use Rattle.gt_base.specs.Happening.{nothing};
 ghost use Rattle.gt_base.specs.Words.{AreWords};
-ghost use Rattle.gt_base.specs.Flags.{set_of_parts};
+ghost use Rattle.gt_base.specs.Flags.{AreApart, set_of_parts};
 
 use crate::events::{Event, Fluent, Prioritised, Signal};
 use crate::flags::{Flags, gathered, is_on_in};
@@ -253,7 +253,7 @@ impl Model for Status {
     ghost use Rattle.std.specs.Prelude.{◌-◌, vec_capacity, vec_len};
     ghost use Rattle.gt_base.specs.Happening.{Fluents, Roomier, fluents_code, roomier_code};
     ghost use Rattle.gt_base.specs.Words.{AreWords};
-    ghost use Rattle.gt_base.specs.Flags.{set_of_parts};
+    ghost use Rattle.gt_base.specs.Flags.{set_of_parts, AreApart};
 
     ghost Value = { Roomier Fluents };
 
@@ -261,7 +261,7 @@ impl Model for Status {
 
     ghost view = { λ s. record { set = set_of_parts s.flags s.words.items; spare = vec_capacity s.words - vec_len s.words } };
 
-    ghost invariant = { λ s. AreWords s.words.items };
+    ghost invariant = { λ s. AreWords s.words.items × AreApart s.flags s.words.items };
 }
 
 impl Status {
@@ -343,8 +343,10 @@ impl Status {
 /// Sets the fluent on: by its flag, or, where it has none, by one further word at most.
 fn set_on(flags: &mut Flags, words: &mut Vec<Word>, f: Fluent)
     requires words { AreWords words.old.items }
+    requires apart { AreApart flags.old words.old.items }
     requires room { vec_len words.old < vec_capacity words.old }
     ensures words { AreWords words.new.items }
+    ensures apart { AreApart flags.new words.new.items }
     ensures set { set_of_parts flags.new words.new.items ≡ with_member (set_of_parts flags.old words.old.items) f }
     ensures capacity { vec_capacity words.old ≤ vec_capacity words.new }
     ensures len { vec_len words.new ≤ vec_len words.old + 1 }
@@ -354,14 +356,17 @@ fn set_on(flags: &mut Flags, words: &mut Vec<Word>, f: Fluent)
     }
 }
 
-/// Sets the fluent off, by its flag and by its word.
+/// Sets the fluent off: by its flag, or, where it has none, by its word.
 fn set_off(flags: &mut Flags, words: &mut Vec<Word>, f: Fluent)
-    requires { AreWords words.old.items }
+    requires words { AreWords words.old.items }
+    requires apart { AreApart flags.old words.old.items }
     ensures words { AreWords words.new.items }
+    ensures apart { AreApart flags.new words.new.items }
     ensures set { set_of_parts flags.new words.new.items ≡ without (set_of_parts flags.old words.old.items) f }
     ensures capacity { vec_capacity words.new ≡ vec_capacity words.old }
     ensures len { vec_len words.new ≡ vec_len words.old }
 {
-    flags.turn_off(f);
-    turn_off(words, f);
+    if !flags.turn_off(f) {
+        turn_off(words, f);
+    }
 }
