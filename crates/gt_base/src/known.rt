@@ -85,7 +85,7 @@ impl Known {
         let low = start_at(&self.starts, slot);
         let high = start_at(&self.starts, slot.saturating_add(1));
         match self.seconds.get(low..high) {
-            Some(span) => low + span.partition_point(|s| *s < second),
+            Some(span) => low + place_in(span, second),
             None => low,
         }
     }
@@ -108,6 +108,19 @@ fn names_of(f: Fluent) -> (usize, u32, u32)
 fn slot_of(width: u32, f: Fluent) -> usize {
     let (sort, first, _) = names_of(f);
     sort * width as usize + first.min(width.saturating_sub(1)) as usize
+}
+
+/// Where the name stands among ascending ones, or where it would go in: looked for first where it stands if no name is left out before it.
+fn place_in(names: &[u32], name: u32) -> usize
+    ensures { result ≤ length names.now }
+{
+    if let Some(first) = names.first() {
+        let at = name.saturating_sub(*first) as usize;
+        if names.get(at).copied() == Some(name) {
+            return at;
+        }
+    }
+    names.partition_point(|n| *n < name)
 }
 
 fn start_at(starts: &[u32], slot: usize) -> usize {
