@@ -22,7 +22,7 @@ pub struct Case {
     pub last: u32,
 }
 
-/// A case of so many roles.
+/// A case of so many roles. Its status is a copy, as that of each instant is.
 pub fn made(alloc: Global, shape: Shape, roles: u32) -> Result<Case, Memory>
     requires few { (2 ≤ roles) × (roles ≤ 1_000) }
 {
@@ -43,7 +43,7 @@ pub fn made(alloc: Global, shape: Shape, roles: u32) -> Result<Case, Memory>
     }
     Ok(Case {
         edges,
-        status,
+        status: status.copied()?,
         first: 0,
         last,
     })

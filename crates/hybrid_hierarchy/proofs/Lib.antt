@@ -10,3 +10,4 @@ pub mod Linking
 pub mod Listing
 pub mod Leaving
 pub mod Narrowing
+pub mod Choosing

@@ -27,6 +27,10 @@ pub record IsOutgoing (es : List HierEdge) (first next : List ℕ) : Type 0 wher
 abbrev pub leads_on : List ℕ → ℕ → Bool
 leads_on first v = not (nat_eq (slice_index_or first v no_edge) no_edge)
 
+-- the roles from which an edge leads, ascending
+unfoldable pub seniors_in : List ℕ → List ℕ
+seniors_in first = filter (leads_on first) (range_with_len 0 1_000)
+
 -- a walk: where it ends and where it begins, the place of its begin among the starts, and the numbers of its edges
 pub record Stop : Type 0 where
   pub node : ℕ

@@ -2,7 +2,7 @@
 ghost use Rattle.std.specs.Prelude.{◌≡◌, ℕ, ◌<◌, ◌≤◌, replicate, length, IfOk};
 ghost use Rattle.std.specs.List.{slice_index_or};
 ghost use Rattle.hybrid_hierarchy.specs.Nets.{IsHierarchy};
-ghost use Rattle.hybrid_hierarchy.specs.Searches.{no_edge, IsOutgoing};
+ghost use Rattle.hybrid_hierarchy.specs.Searches.{no_edge, seniors_in, IsOutgoing};
 
 use gt_base::{HierEdge, Memory};
 use std::alloc::Global;
@@ -10,11 +10,13 @@ use std::alloc::Global;
 /// Stands for no edge.
 pub(crate) const NONE: u32 = u32::MAX;
 
-/// For each role the first of its edges, and for each edge the next one of the same senior role.
+/// For each role the first of its edges, for each edge the next one of the same senior role, and the roles that have edges, ascending.
 #[derive(Drop)]
 pub(crate) struct Outgoing {
     pub(crate) first: Vec<u32>,
     pub(crate) next: Vec<u32>,
+    pub(crate) seniors: Vec<u32>,
+    ghost listed: { seniors.items ≡ seniors_in first.items },
 }
 
 /// The edges by their senior roles.
@@ -31,7 +33,12 @@ pub(crate) fn outgoing_of(alloc: Global, edges: &[HierEdge]) -> Result<Outgoing,
         next[n] = first[senior];
         first[senior] = n as u32;
     }
-    Ok(Outgoing { first, next })
+    let seniors = seniors_of(alloc, &first)?;
+    Ok(Outgoing {
+        first,
+        next,
+        seniors,
+    })
 }
 
 /// No edge, so many times.
@@ -41,12 +48,29 @@ fn no_edges(alloc: Global, n: usize) -> Result<Vec<u32>, Memory>
     vec![in alloc; NONE; n]
 }
 
+/// The roles from which an edge leads, ascending.
+#[tactic(auto, unfolding(crate::specs::Searches::seniors_in))]
+fn seniors_of(alloc: Global, first: &[u32]) -> Result<Vec<u32>, Memory>
+    ensures { IfOk result (λ seniors. seniors.items ≡ seniors_in first.now) }
+{
+    (0..1_000)
+        .filter(|r| first_at(first, *r) != NONE)
+        .collect(alloc)
+}
+
+/// The first edge of the role in this row of them.
+fn first_at(first: &[u32], role: u32) -> u32
+    ensures { result ≡ slice_index_or first.now role no_edge }
+{
+    match first.get(role as usize) {
+        Some(n) => *n,
+        None => NONE,
+    }
+}
+
 /// The first edge of the role.
 pub(crate) fn first_of(out: &Outgoing, role: u32) -> u32
     ensures { result ≡ slice_index_or out.now.first.items role no_edge }
 {
-    match out.first.get(role as usize) {
-        Some(n) => *n,
-        None => NONE,
-    }
+    first_at(&out.first, role)
 }

@@ -8,7 +8,7 @@ ghost use Rattle.gtrbac_model.specs.Hierarchy.{usable, least_role_walk, activati
 ghost use Rattle.hybrid_hierarchy.specs.Nets.{IsHierarchy};
 ghost use Rattle.hybrid_hierarchy.specs.Searches.{IsOutgoing, leads_on, listed_from};
 
-use crate::outgoing::{NONE, Outgoing, first_of, outgoing_of};
+use crate::outgoing::{Outgoing, outgoing_of};
 use crate::questions::{Activating, Lending, LendingByAny, Question};
 use crate::searching::least;
 use gt_base::{Fluent, HierEdge, List, Memory, PermId, RoleId, Status, UserId, Walk};
@@ -52,8 +52,22 @@ fn assigned_roles(
 ) -> Result<Vec<u32>, Memory>
     ensures { IfOk result (λ roles. roles.items ≡ filter (λ r. leads_on out.now.first.items r && has status.now.set (Assigned user (record { 0 = r }))) (range_with_len 0 1_000)) }
 {
-    (0..ROLES)
-        .filter(|r| first_of(out, *r) != NONE && status.is_on(Fluent::Assigned(user, RoleId(*r))))
+    assigned_among(alloc, &out.seniors, status, user)
+}
+
+/// Those of the roles to which the user is assigned.
+fn assigned_among(
+    alloc: Global,
+    roles: &[u32],
+    status: &Status,
+    user: UserId,
+) -> Result<Vec<u32>, Memory>
+    ensures { IfOk result (λ assigned. assigned.items ≡ filter (λ r. has status.now.set (Assigned user (record { 0 = r }))) roles.now) }
+{
+    roles
+        .iter()
+        .copied()
+        .filter(|r| status.is_on(Fluent::Assigned(user, RoleId(*r))))
         .collect(alloc)
 }
 

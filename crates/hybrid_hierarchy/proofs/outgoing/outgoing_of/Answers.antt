@@ -1,5 +1,5 @@
-use Rattle.std.proofs.Common.{◌-◌, ◌<◌, length, replicate, sym, subst, arith}
-use Rattle.hybrid_hierarchy.specs.Searches.{no_edge}
+use Rattle.std.proofs.Common.{◌≡◌, ℕ, ◌-◌, ◌<◌, length, replicate, slice_index_or, sym, ◌∙◌, ap, subst, arith}
+use Rattle.hybrid_hierarchy.specs.Searches.{no_edge, seniors_in, IsFirst}
 use Rattle.hybrid_hierarchy.proofs.Linking.{Linked, linked_start, senior_low, linked_step}
 use Rattle.hybrid_hierarchy.proofs.outgoing.outgoing_of.Goals as goal
 
@@ -25,3 +25,15 @@ loop-n-preserved c =
     record { low = c.loop-n.invariant.low; nodes = c.loop-n.invariant.nodes; size = c.loop-n.invariant.size; firsts = c.loop-n.invariant.firsts; nexts = c.loop-n.invariant.nexts } in
     let w = linked_step c.args.edges.now c.loop-n.first.items c.loop-n.next.items c.loop-n.n c.requires.within c.loop-n-test.true old c.index.result.now c.index.ensures in
     record { low = w.low; nodes = w.nodes; size = w.size; firsts = w.firsts; nexts = w.nexts }
+
+pub invariant_of-result : goal.invariant_of-result
+invariant_of-result c = record { listed = c.in_ok-seniors.ensures ∙ ap seniors_in c.deref.ensures.value }
+
+pub returns : goal.returns
+returns c =
+    let none : c.loop-n.n ≡ 0 = omega (arith, c.loop-n-test.false) in
+    record {
+      size = c.loop-n.invariant.size;
+      firsts = subst (λ k. (v : ℕ) → IsFirst c.args.edges.now v k (slice_index_or c.loop-n.first.items v no_edge)) none c.loop-n.invariant.firsts;
+      nexts = λ m e is. c.loop-n.invariant.nexts m e (omega (arith, none)) is;
+    }
