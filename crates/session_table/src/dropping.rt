@@ -1,5 +1,5 @@
 //! Which activations the close of an instant drops, and how they are taken out.
-ghost use Rattle.std.specs.Prelude.{◌≡◌, ℕ, ◌+◌, ◌-◌, ◌*◌, ◌<◌, ◌≤◌, ◌&&◌, ◌||◌, [], ◌∷◌, ◌++◌, if◌then◌else◌, OnOk, not, true, false, Some, map, filter, length, count_by, is_none, nat_lt, IfOk};
+ghost use Rattle.std.specs.Prelude.{◌≡◌, ℕ, ◌+◌, ◌-◌, ◌*◌, ◌<◌, ◌≤◌, ◌&&◌, ◌||◌, [], ◌∷◌, ◌++◌, if◌then◌else◌, OnOk, not, true, false, Some, map, filter, length, count_by, is_none, nat_lt, IfOk, IfSome};
 ghost use Rattle.std.specs.List.{list_any};
 ghost use Rattle.gt_base.specs.Sets.{has};
 ghost use Rattle.gt_base.specs.declared.events.RoleId.{RoleId};
@@ -193,11 +193,30 @@ fn is_capped(
         || is_day_spent(caps.day, charges, active, now, to, a.user, a.role)
 }
 
-/// Whether the close of `to` drops the activation. For want of memory it may refuse.
+/// Whether the role is on. Where it is the one that was found on before, the status is not asked.
+fn is_on(status: &Status, before: Option<RoleId>, role: RoleId) -> bool
+    requires { IfSome before (λ r. has status.now.set (Enabled r) ≡ true) }
+    ensures { result ≡ has status.now.set (Enabled role) }
+{
+    match before {
+        Some(known) if known.0 == role.0 => true,
+        _ => status.is_on(Fluent::Enabled(role)),
+    }
+}
+
+/// The role of the activation where it stays, for it is on; else the one found before.
+fn found_on(before: Option<RoleId>, a: &Activation, is_gone: bool) -> Option<RoleId>
+    ensures { result ≡ (if is_gone then before else Some a.now.role) }
+{
+    if is_gone { before } else { Some(a.role) }
+}
+
+/// Whether the close of `to` drops the activation. For want of memory it may refuse. A role that was found on before is not asked again.
 fn is_dropped(
     alloc: Global,
     walks: &mut IndexMap<Asked, Walk>,
     known: &mut IndexMap<Asked, bool>,
+    before: Option<RoleId>,
     a: &Activation,
     hierarchy: &Hierarchy,
     caps: &List<Caps>,
@@ -208,12 +227,13 @@ fn is_dropped(
     to: Instant,
 ) -> Result<bool, Memory>
     requires known { AreBarred hierarchy.now (has status.now.set) known.old.entries }
+    requires before { IfSome before (λ r. has status.now.set (Enabled r) ≡ true) }
     requires few { (u : UserId) (r : RoleId) → count_by (is_of u r) active.now ≤ 10_000 }
     ensures known { OnOk result (AreBarred hierarchy.now (has status.now.set) known.new.entries) }
     ensures dropped { IfOk result (λ b. b ≡ is_dropped hierarchy.now caps.now.items (has status.now.set) charges.now.entries active.now now to a.now) }
 {
     let role = a.role;
-    if !status.is_on(Fluent::Enabled(role)) {
+    if !is_on(status, before, role) {
         return Ok(true);
     }
     if is_capped(a, caps_of(caps.as_slice(), role), charges, active, now, to) {
@@ -232,8 +252,8 @@ fn push_if(gone: &mut Vec<Activation>, a: &Activation, is_gone: bool) -> Result<
     Ok(())
 }
 
-/// The activations that the close of `to` drops. No user and role is asked of the hierarchy twice, and none where its walk of before stands. For
-/// want of memory it may refuse.
+/// The activations that the close of `to` drops. No user and role is asked of the hierarchy twice, and none where its walk of before stands; the
+/// status is not asked of a role again where the activation before was of it and stays. For want of memory it may refuse.
 pub(crate) fn dropped(
     alloc: Global,
     walks: &mut IndexMap<Asked, Walk>,
@@ -250,11 +270,13 @@ pub(crate) fn dropped(
 {
     let mut known = IndexMap::new(alloc);
     let mut gone = Vec::new(alloc);
+    let mut before = None;
     for a in active {
         let is_gone = is_dropped(
-            alloc, walks, &mut known, a, hierarchy, caps, status, charges, active, now, to,
+            alloc, walks, &mut known, before, a, hierarchy, caps, status, charges, active, now, to,
         )?;
         push_if(&mut gone, a, is_gone)?;
+        before = found_on(before, a, is_gone);
     }
     Ok(gone)
 }

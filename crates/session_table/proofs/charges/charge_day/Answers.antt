@@ -10,17 +10,17 @@ use Rattle.session_table.proofs.charges.charge_day.Goals as goal
 pub loop-a-preserved : goal.loop-a-preserved
 loop-a-preserved c = record {
   charged = λ u r d.
-      c.charge_one.ensures.charged u r d
+      c.charge_one-place.ensures.charged u r d
       ∙ ap (λ z. z + cond (is_of u r c.a-item.result && nat_eq c.args.day d) c.args.minutes 0) (c.loop-a.invariant.charged u r d)
       ∙ joined (charged_in c.args.charges.now.entries u r d) c.args.minutes (count_by (is_of u r) (take c.loop-a.a-index c.args.active.now)) (is_of u r c.a-item.result) (nat_eq c.args.day d)
       ∙ ap (λ n. charged_in c.args.charges.now.entries u r d + cond (nat_eq c.args.day d) (c.args.minutes * n) 0)
       (ap (λ a. count_by (is_of u r) (take c.loop-a.a-index c.args.active.now) + cond (is_of u r a) 1 0) c.a-item.is
       ∙ sym (count_more (is_of u r) c.args.active.now c.loop-a.a-index c.a-item.result c.loop-a-test.true));
-  room = omega (arith, c.charge_one.ensures.spare, c.loop-a.invariant.room);
+  room = omega (arith, c.charge_one-place.ensures.spare, c.loop-a.invariant.room);
 }
 
-pub charge_one-requires-clause-bound : goal.charge_one-requires-clause-bound
-charge_one-requires-clause-bound c =
+pub charge_one-place-requires-clause-bound : goal.charge_one-place-requires-clause-bound
+charge_one-place-requires-clause-bound c =
     let u : UserId = c.a-item.result.user in
     let r : RoleId = c.a-item.result.role in
     let own : is_of u r c.a-item.result ≡ true = (λ i. eq-eqb u.0 u.0 refl i && eq-eqb r.0 r.0 refl i) in

@@ -1,5 +1,6 @@
-use Rattle.std.proofs.Common.{◌≡◌, filter, take}
+use Rattle.std.proofs.Common.{◌≡◌, true, filter, take, IfSome}
 use Rattle.gt_base.specs.Sets.{has}
+use Rattle.gt_base.specs.declared.events.Fluent.TheVariants.{Enabled}
 use Rattle.session_table.specs.Dropping.{AreBarred, is_dropped}
 use Rattle.session_table.proofs.dropping.dropped.Given as goal
 
@@ -8,4 +9,5 @@ invariant-loop-a l =
     record {
       gone : l.gone.items ≡ filter (is_dropped l.hierarchy l.caps.items (has l.status.set) l.charges.entries l.active l.now l.to) (take l.a-index l.active);
       known : AreBarred l.hierarchy (has l.status.set) l.known.entries;
+      on : IfSome l.before (λ r. has l.status.set (Enabled r) ≡ true);
     }
