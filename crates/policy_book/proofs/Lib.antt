@@ -1,6 +1,7 @@
 pub mod Truth
 pub mod Keeping
 pub mod SameClaims
+pub mod Stepping
 pub mod Tallying
 pub mod Drafting
 pub mod Fewness

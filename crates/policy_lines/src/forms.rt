@@ -7,7 +7,7 @@ ghost use Rattle.policy_words.specs.Reading.{formed as formed_by, one_name as na
 ghost use Rattle.policy_lines.specs.Answered.{Answers};
 
 use crate::parts::{cond_of, next_cond, next_head, read_prio};
-use crate::units::{next_name, number_from, read_name};
+use crate::units::{next_name, number_from, read_name, same};
 use gt_base::{Form, Name};
 use gt_text::Words;
 use policy_words::{CapKind, EdgeKind, Said, TextKind};
@@ -109,11 +109,11 @@ pub(crate) fn limit(mut words: Words<'_>) -> Option<Said>
 fn edge_kind(word: &[u8]) -> Option<EdgeKind>
     ensures { result ≡ spelled_so kind_word (EdgeKind.I ∷ EdgeKind.A ∷ EdgeKind.Ia ∷ []) word.now }
 {
-    if b"i".as_slice() == word {
+    if same(b"i", word) {
         Some(EdgeKind::I)
-    } else if b"a".as_slice() == word {
+    } else if same(b"a", word) {
         Some(EdgeKind::A)
-    } else if b"ia".as_slice() == word {
+    } else if same(b"ia", word) {
         Some(EdgeKind::Ia)
     } else {
         None
@@ -123,9 +123,9 @@ fn edge_kind(word: &[u8]) -> Option<EdgeKind>
 fn strength(word: &[u8]) -> Option<bool>
     ensures { result ≡ spelled_so strength_word (true ∷ false ∷ []) word.now }
 {
-    if b"strong".as_slice() == word {
+    if same(b"strong", word) {
         Some(true)
-    } else if b"weak".as_slice() == word {
+    } else if same(b"weak", word) {
         Some(false)
     } else {
         None
@@ -158,13 +158,13 @@ pub(crate) fn edge(mut words: Words<'_>) -> Option<Said>
 fn cap_kind(word: &[u8]) -> Option<CapKind>
     ensures { result ≡ spelled_so cap_word (CapKind.Total ∷ CapKind.User ∷ CapKind.Length ∷ CapKind.Day ∷ []) word.now }
 {
-    if b"total".as_slice() == word {
+    if same(b"total", word) {
         Some(CapKind::Total)
-    } else if b"user".as_slice() == word {
+    } else if same(b"user", word) {
         Some(CapKind::User)
-    } else if b"length".as_slice() == word {
+    } else if same(b"length", word) {
         Some(CapKind::Length)
-    } else if b"day".as_slice() == word {
+    } else if same(b"day", word) {
         Some(CapKind::Day)
     } else {
         None

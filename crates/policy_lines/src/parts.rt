@@ -5,7 +5,7 @@ ghost use Rattle.gt_base.specs.Names.{number_from as number_between};
 ghost use Rattle.policy_words.specs.Wording.{fluent_at, verb_in, event_verb as event_word, event_at, cond_at, signal_of, head_at, item_at, is_colon, delay_in};
 ghost use Rattle.policy_lines.specs.Cursors.{other_item_at};
 
-use crate::units::{next_name, number_from};
+use crate::units::{next_name, number_from, same};
 use crate::verbs::{cond_verb, event_verb};
 use bstr::ByteSlice;
 use gt_base::Prio;
@@ -73,13 +73,13 @@ fn signal(start: bool, words: &mut Words<'_>) -> Option<NamedSignal>
 fn other_item(verb: &[u8], words: &mut Words<'_>) -> Option<Item>
     ensures { option_map (λ i. (i, words.new)) result ≡ other_item_at (verb.now ∷ words.old) }
 {
-    if verb == b"activate".as_slice() {
+    if same(verb, b"activate") {
         return Some(Item::Signal(signal(true, words)?));
     }
-    if verb == b"deactivate".as_slice() {
+    if same(verb, b"deactivate") {
         return Some(Item::Signal(signal(false, words)?));
     }
-    if verb == b"settled".as_slice() {
+    if same(verb, b"settled") {
         return Some(Item::Settled(next_cond(words)?));
     }
     Some(Item::Cond(cond_of(verb, words)?))

@@ -10,7 +10,7 @@ use crate::edges::formed_in;
 use crate::forms::{cap, edge, entry, formed, limit, linked, one_name, opening, version};
 use crate::periods::period;
 use crate::triggers::trigger;
-use crate::units::is_comment;
+use crate::units::{is_comment, same};
 use gt_base::Form;
 use gt_text::Words;
 use policy_words::{Said, TextKind, TextVersion};
@@ -80,16 +80,16 @@ fn caused(
 ) -> Result<Said, TextKind>
     ensures { (line : List ℕ) → Answers result (said_among (drop 14 (verbs version line)) verb.now words.entry) }
 {
-    if b"each".as_slice() == verb {
+    if same(b"each", verb) {
         return formed_in(has_edges(version), entry(Form::Each, words));
     }
-    if b"start".as_slice() == verb {
+    if same(b"start", verb) {
         return formed_in(has_edges(version), entry(Form::Start, words));
     }
-    if b"span".as_slice() == verb {
+    if same(b"span", verb) {
         return formed_in(has_edges(version), entry(Form::Span, words));
     }
-    if b"when".as_slice() == verb {
+    if same(b"when", verb) {
         return trigger(alloc, has_edges(version), words);
     }
     Err(TextKind::Word)
@@ -104,19 +104,19 @@ fn opened(
 ) -> Result<Said, TextKind>
     ensures { (line : List ℕ) → Answers result (said_among (drop 9 (verbs version line)) verb.now words.entry) }
 {
-    if b"enabled".as_slice() == verb {
+    if same(b"enabled", verb) {
         return formed(opening(b"enabled", words));
     }
-    if b"assigned".as_slice() == verb {
+    if same(b"assigned", verb) {
         return formed(opening(b"assigned", words));
     }
-    if b"granted".as_slice() == verb {
+    if same(b"granted", verb) {
         return formed(opening(b"granted", words));
     }
-    if b"armed".as_slice() == verb {
+    if same(b"armed", verb) {
         return formed(opening(b"armed", words));
     }
-    if b"linked".as_slice() == verb {
+    if same(b"linked", verb) {
         return linked(has_edges(version), words);
     }
     caused(alloc, version, verb, words)
@@ -133,19 +133,19 @@ fn ruled(
     requires { length line.now ≤ 4096 }
     ensures { Answers result (said_among (drop 4 (verbs version line.now)) verb.now words.entry) }
 {
-    if b"period".as_slice() == verb {
+    if same(b"period", verb) {
         return period(alloc, line, words);
     }
-    if b"limit".as_slice() == verb {
+    if same(b"limit", verb) {
         return formed_in(has_edges(version), limit(words));
     }
-    if b"edge".as_slice() == verb {
+    if same(b"edge", verb) {
         return formed(edge(words));
     }
-    if b"cap".as_slice() == verb {
+    if same(b"cap", verb) {
         return formed(cap(words));
     }
-    if b"admin".as_slice() == verb {
+    if same(b"admin", verb) {
         return admin(words);
     }
     opened(alloc, version, verb, words)
@@ -162,16 +162,16 @@ fn said_of(
     requires { length line.now ≤ 4096 }
     ensures { Answers result (said_by_words text_version line.now (verb.now ∷ words.entry)) }
 {
-    if b"policy".as_slice() == verb {
+    if same(b"policy", verb) {
         return version(is_open(text_version), words);
     }
-    if b"role".as_slice() == verb {
+    if same(b"role", verb) {
         return role(words);
     }
-    if b"user".as_slice() == verb {
+    if same(b"user", verb) {
         return user(words);
     }
-    if b"perm".as_slice() == verb {
+    if same(b"perm", verb) {
         return perm(words);
     }
     ruled(alloc, text_version, line, verb, words)

@@ -1,5 +1,5 @@
 //! Names, numbers, instants and comments as words.
-ghost use Rattle.std.specs.Prelude.{◌≡◌, ◌≤◌, option_map};
+ghost use Rattle.std.specs.Prelude.{◌≡◌, ◌≤◌, bytes_eq, option_map};
 ghost use Rattle.gt_base.specs.Names.{name_in, is_digit as digit, number_from as number_between};
 ghost use Rattle.gt_text.specs.Words.{begins_with};
 ghost use Rattle.civil_time.specs.Text.{civil_in};
@@ -9,6 +9,13 @@ ghost use Rattle.policy_lines.specs.Counting.{plain, count_to};
 use civil_time::read_civil;
 use gt_base::{Instant, Name};
 use gt_text::Words;
+
+/// Whether the two are one word.
+pub(crate) fn same(one: &[u8], other: &[u8]) -> bool
+    ensures { result ≡ bytes_eq one.now other.now }
+{
+    one == other
+}
 
 /// The name that a word is.
 pub fn read_name(word: &[u8]) -> Option<Name>

@@ -1,0 +1,20 @@
+use Rattle.std.proofs.Common.{sym, ap, ◌∙◌}
+use Rattle.policy_words.specs.Making.{signal_in}
+use Rattle.policy_book.specs.Seen.{seen_names}
+use Rattle.policy_book.proofs.Stepping.{kept_more, passed_over}
+use Rattle.policy_book.proofs.rules.signals_in.Goals as goal
+use Rattle.policy_book.proofs.rules.signals_in.Goals.{in-Some+in_ok-push, in_default}
+
+pub loop-item-preserved : goal.loop-item-preserved
+loop-item-preserved c =
+    let f = signal_in (seen_names c.args.names.now) in
+    let old = c.loop-item.signals.items in
+    let new = c.match-signal_in.signals.items in
+    elim c.match-signal_in.branch [
+      | in-Some+in_ok-push w ↦
+          kept_more f c.args.items.now c.loop-item.item-index c.item-item.result _ old new c.loop-item-test.true c.item-item.is w.in-Some.signal
+          (sym c.signal_in.ensures ∙ w.in-Some.is) (ap (λ v. v.items) w.signals-is ∙ w.in_ok-push.ensures.items) c.loop-item.invariant
+      | in_default w ↦
+          passed_over f c.args.items.now c.loop-item.item-index c.item-item.result _ old new c.loop-item-test.true c.item-item.is
+          (sym c.signal_in.ensures ∙ w.in_default.is) (ap (λ v. v.items) w.signals-is) c.loop-item.invariant
+    ]
