@@ -20,6 +20,11 @@ next_numbered xs i d lt =
 
 -- the item is read in an equal list
 
+pub next_listed : {A : Type 0} (xs ys : List A) (i : ℕ) (x : A) → xs ≡ ys → i < length xs → x ≡ get_or xs i x → take (i + 1) ys ≡ take i ys ++ x ∷ []
+next_listed xs ys i x same lt is =
+    let within : i < length ys = omega (arith, ap length same) in
+    (take_at_read ys i x within).1 ∙ ap (λ z. take i ys ++ z ∷ []) (ap (λ zs. get_or zs i x) (sym same) ∙ sym is)
+
 pub next_in : {A : Type 0} (xs ys : List A) (i : ℕ) (d : A) → xs ≡ ys → i < length xs → take (i + 1) (enumerate_from 0 ys) ≡ take i (enumerate_from 0 ys) ++ (i, get_or xs i d) ∷ []
 next_in xs ys i d same lt =
     let within : i < length ys = omega (arith, ap length same) in
