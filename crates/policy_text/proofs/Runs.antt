@@ -1,10 +1,10 @@
 -- A run over a list, an item further.
-use Rattle.std.proofs.Common.{◌≡◌, ℕ, ◌+◌, ◌<◌, ◌≤◌, Bool, true, List, [], ◌∷◌, ◌++◌, flat_map, take, length, get_or, Some, sym, ap, ◌∙◌, arith}
+use Rattle.std.proofs.Common.{◌≡◌, ℕ, ◌+◌, ◌<◌, ◌≤◌, Bool, true, List, [], ◌∷◌, ◌++◌, flat_map, map, take, length, get_or, Some, sym, ap, ◌∙◌, append_assoc, arith}
 use Rattle.std.specs.List.{list_all, enumerate_from, slice_get}
 use Rattle.std.specs.Option.{unwrap_or}
 use Rattle.std.proofs.lemmas.Grind.{take_at_read}
 use Rattle.std.proofs.lemmas.Option.{unwrap_or-slice_get, slice_get_within, get_or_from_slice_get}
-use Rattle.std.proofs.lemmas.List.{take_all, flat_map_more}
+use Rattle.std.proofs.lemmas.List.{take_all, flat_map_more, map-append}
 use Rattle.std.proofs.lemmas.List.FromFn.{length-enumerate_from, get_or-enumerate_from}
 use Rattle.policy_book.proofs.Places.{all_at}
 
@@ -19,6 +19,11 @@ next_numbered xs i d lt =
     ∙ ap (λ e. take i (enumerate_from 0 xs) ++ e ∷ []) (get_or-enumerate_from 0 xs i (0, d) lt ∙ ap (λ k. (k, get_or xs i d)) before)
 
 -- the item is read in an equal list
+
+pub next_listed : {A : Type 0} (xs ys : List A) (i : ℕ) (x : A) → xs ≡ ys → i < length xs → x ≡ get_or xs i x → take (i + 1) ys ≡ take i ys ++ x ∷ []
+next_listed xs ys i x same lt is =
+    let within : i < length ys = omega (arith, ap length same) in
+    (take_at_read ys i x within).1 ∙ ap (λ z. take i ys ++ z ∷ []) (ap (λ zs. get_or zs i x) (sym same) ∙ sym is)
 
 pub next_in : {A : Type 0} (xs ys : List A) (i : ℕ) (d : A) → xs ≡ ys → i < length xs → take (i + 1) (enumerate_from 0 ys) ≡ take i (enumerate_from 0 ys) ++ (i, get_or xs i d) ∷ []
 next_in xs ys i d same lt =
@@ -42,3 +47,10 @@ pub item_is : {A : Type 0} (p : A → Bool) (xs ys : List A) (k : ℕ) (x : A) �
 item_is p xs ys k x all same lt is =
     let within : k < length ys = omega (arith, ap length same) in
     ap p (is ∙ ap (λ zs. get_or zs k x) same) ∙ all_at p ys k x all within
+
+pub mapped_further : {A B : Type 0} (f : A → B) (xs : List A) (i : ℕ) (d : A) (y : B) (old before new : List B) → i < length xs → y ≡ f (get_or xs i d) → before ≡ old ++ map f (take i xs) → new ≡ before ++ y ∷ []
+    → new ≡ old ++ map f (take (i + 1) xs)
+mapped_further f xs i d y old before new lt is so_far added =
+    added ∙ ap (λ b. b ++ y ∷ []) so_far ∙ append_assoc old (map f (take i xs)) (y ∷ [])
+    ∙ ap (λ z. old ++ (map f (take i xs) ++ z ∷ [])) is
+    ∙ ap (λ m. old ++ m) (sym (map-append f (take i xs) (get_or xs i d ∷ [])) ∙ ap (map f) (sym (take_at_read xs i d lt).1))
