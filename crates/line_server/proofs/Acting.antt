@@ -22,17 +22,17 @@ use Rattle.line_server.specs.Turns.{Grows}
 use Rattle.line_server.specs.Serving.{IsTold, Decides, Acts}
 use Rattle.line_server.proofs.Growing.{grown_none}
 
-abbrev after_line : Talk → Result Line LineFault → ℕ → Talk
-after_line talk said n = record talk { actor = actor_by said talk.actor; calls = talk.calls + n }
+abbrev after_line : Talk → Result Line LineFault → ℕ → Option ℕ → Talk
+after_line talk said n reached = record talk { actor = actor_by said talk.actor; calls = talk.calls + n; reached = reached }
 
 abbrev one_line : List ℕ → Answer → Acted
 one_line line answer = record { line = line; answer = answer; readings = []; entries = [] }
 
 module _ {M : Type 0} (np : NamedPolicy) (first : List Entry) (legal : List Entry → Type 0) (now : List Entry → ℕ) (who : Who) (clock clock' : Option (ℕ → ℕ)) (line : List ℕ) (talk : Talk) where
-  pub acts_ask : (before after : Holder M) (reading : ℕ) (request : Request) (told : Told) → read_line np Nobody false line ≡ Ok (Ask request) → IsNamedActor np talk.actor → Reads clock clock' (reading ∷ [])
+  pub acts_ask : (before after : Holder M) (reading : ℕ) (request : Request) (reached : Option ℕ) (told : Told) → read_line np Nobody false line ≡ Ok (Ask request) → IsNamedActor np talk.actor → Reads clock clock' (reading ∷ [])
       → Decides np first legal now who reading talk.actor request before after told
-      → Acts np first legal now who before after talk (record talk { calls = talk.calls + 1 }) clock clock' line told
-  acts_ask before after reading request told said named reads d =
+      → Acts np first legal now who before after talk (record talk { calls = talk.calls + 1; reached = reached }) clock clock' line told
+  acts_ask before after reading request reached told said named reads d =
       let one : Acted = record { line = line; answer = d.answer; readings = reading ∷ []; entries = d.entries } in
       record {
         acted = one;
@@ -41,7 +41,7 @@ module _ {M : Type 0} (np : NamedPolicy) (first : List Entry) (legal : List Entr
         gets = λ birth timed. subst (λ (s : Result Line LineFault). Gets birth who after.seen s talk.actor (placed who first before.own) one) (sym said) (d.asks birth timed);
         mine = d.mine;
         grows = d.grows;
-        talk_is = ap (λ (s : Result Line LineFault). after_line talk s 1) (sym said);
+        talk_is = ap (λ (s : Result Line LineFault). after_line talk s 1 reached) (sym said);
         few = omega arith;
         named = named;
         reads = reads;
@@ -59,7 +59,7 @@ module _ {M : Type 0} (np : NamedPolicy) (first : List Entry) (legal : List Entr
         gets = λ birth timed. subst (λ (s : Result Line LineFault). Gets birth who p.seen s talk.actor (placed who first p.own) (one_line line answer)) (sym is) (gets birth (placed who first p.own));
         mine = tt;
         grows = grown_none p;
-        talk_is = ap (λ (n : ℕ). record talk { actor = actor_by said talk.actor; calls = n }) (sym (add-zero talk.calls)) ∙ ap (λ (s : Result Line LineFault). after_line talk s 0) (sym is);
+        talk_is = ap (λ (n : ℕ). record talk { actor = actor_by said talk.actor; calls = n }) (sym (add-zero talk.calls)) ∙ ap (λ (s : Result Line LineFault). after_line talk s 0 talk.reached) (sym is);
         few = omega arith;
         named = named;
         reads = Reads-nil clock;

@@ -1,5 +1,5 @@
 -- What a server keeps from line to line.
-use Rattle.std.specs.Prelude.{◌≡◌, ◌⊎◌, ℕ, ◌+◌, ◌*◌, ◌^◌, ◌<◌, ◌≤◌, true, false, ⊤, List, [], ◌∷◌, ◌++◌, length, OnOk, MatchResult, Result, Ok, Err}
+use Rattle.std.specs.Prelude.{◌≡◌, ◌⊎◌, ℕ, ◌+◌, ◌*◌, ◌^◌, ◌<◌, ◌≤◌, true, false, ⊤, List, [], ◌∷◌, ◌++◌, length, None, OnOk, MatchResult, Result, Ok, Err}
 use Rattle.std.specs.declared.option.Option.{Option}
 use Rattle.std.specs.Io.KnownBytes.{Appends, Consumes, Keeps, IsAtEnd}
 use mathlib.Core.List.{IsPrefix}
@@ -46,7 +46,7 @@ counted talk answer = record talk { asked = talk.asked + one_where (is_accepted 
 
 -- before the first line of a link
 abbrev pub IsStart : Talk → Type 0
-IsStart talk = (talk.actor ≡ Nobody) × (talk.asked ≡ 0) × (talk.denied ≡ 0) × (talk.calls < 2 ^ 63)
+IsStart talk = (talk.actor ≡ Nobody) × (talk.asked ≡ 0) × (talk.denied ≡ 0) × (talk.calls < 2 ^ 63) × (talk.reached ≡ None)
 
 abbrev pub CanCount : Talk → Type 0
 CanCount talk = (talk.asked + 1 < 2 ^ 63) × (talk.denied + 1 < 2 ^ 63)
@@ -131,7 +131,7 @@ module _ {M : Type 0} (np : NamedPolicy) (first : List Entry) (legal : List Entr
     pub gets : (birth : ℕ) → IsTimed birth legal now → Gets birth who after.seen (read_line np Nobody false line) talk.actor (placed who first before.own) acted
     pub mine : AreMine who acted.entries
     pub grows : Grows before after acted.entries (2 * length acted.readings)
-    pub talk_is : talk' ≡ record talk { actor = actor_by (read_line np Nobody false line) talk.actor; calls = talk.calls + length acted.readings }
+    pub talk_is : talk' ≡ record talk { actor = actor_by (read_line np Nobody false line) talk.actor; calls = talk.calls + length acted.readings; reached = talk'.reached }
     pub few : length acted.readings ≤ 1
     pub named : IsNamedActor np talk'.actor
     pub reads : Reads clock clock' acted.readings

@@ -1,5 +1,6 @@
 -- What the desk gives to one line.
-use Rattle.std.specs.Prelude.{◌≡◌, ℕ, ◌+◌, ◌^◌, ◌≤◌, true, List, [], ◌∷◌, ◌++◌, length, None, OnOk, Result, Ok, Err}
+use Rattle.std.specs.Prelude.{◌≡◌, ℕ, ◌+◌, ◌^◌, ◌≤◌, true, List, [], ◌∷◌, ◌++◌, length, None, IfSome, OnOk, Result, Ok, Err}
+use Rattle.std.specs.declared.option.Option.{Option}
 use mathlib.Core.List.{IsPrefix}
 use Rattle.gt_base.specs.Bounds.{max_steps}
 use Rattle.gt_base.specs.declared.requests.Who.{Who}
@@ -25,6 +26,10 @@ answer_of (Ok reply) = accepted reply
 answer_of (Err (Worn draws)) = worn
 answer_of (Err StepsFull) = no_steps
 answer_of (Err Memory) = no_memory
+
+-- the pass has seen a legal history that has come to this minute, where one is told
+abbrev pub IsReached : (List Entry → Type 0) → (List Entry → ℕ) → List Entry → Option ℕ → Type 0
+IsReached legal now seen reached = IfSome reached (λ t. legal seen × (t ≤ now seen))
 
 -- all entries are of this connection
 abbrev pub AreMine : Who → List Entry → Type 0

@@ -7,7 +7,7 @@ ghost use Rattle.policy_words.specs.Naming.{NamedPolicy};
 ghost use Rattle.request_text.specs.Replies.{fault_word};
 ghost use Rattle.connection_laws.specs.Connection.{Answer};
 ghost use Rattle.connection_laws.specs.Desks.{IsNamedActor, AreNamed, RepliesCanBeTold};
-ghost use Rattle.line_server.specs.Turns.{IsIdle};
+ghost use Rattle.line_server.specs.Turns.{IsIdle, IsReached};
 ghost use Rattle.line_server.specs.Serving.{IsTold, Decides, Acts, Sent, counted, CanCount, HasRoom, CountsUp, Goes};
 
 use crate::asks::ask_at;
@@ -76,17 +76,20 @@ fn decide<M: Machine, R: Wait>(
     reading: Instant,
     actor: Actor,
     request: Request,
+    reached: &mut Option<Instant>,
 ) -> Told
     requires idle { IsIdle (site_of desk.now) pass.old }
     requires named { M.named desk.now.root actor request }
     requires replies { RepliesCanBeTold policy.now (M.legal desk.now.root) }
-    ensures { Decides policy.now (M.list desk.now.root) (M.legal desk.now.root) (M.now_of desk.now.root) (by pass.old.number conn) reading actor request pass.old pass.new result }
+    requires reached { IsReached (M.legal desk.now.root) (M.now_of desk.now.root) pass.old.seen reached.old }
+    ensures reached { IsReached (M.legal desk.now.root) (M.now_of desk.now.root) pass.new.seen reached.new }
+    ensures decides { Decides policy.now (M.list desk.now.root) (M.legal desk.now.root) (M.now_of desk.now.root) (by pass.old.number conn) reading actor request pass.old pass.new result }
 {
     let mut text = List::new(alloc);
     if text.reserve(LONGEST_REPLY).is_err() {
         return Told::NoMemory;
     }
-    match ask_at(rt, desk, pass, conn, reading, actor, request) {
+    match ask_at(rt, desk, pass, conn, reading, actor, request, reached) {
         Ok(reply) => {
             reply_fits(policy, &reply);
             put_reply(policy, &reply, &mut text);
@@ -116,7 +119,9 @@ fn act<M: Machine, R: Wait, C: Clock, G: Gate>(
     requires replies { RepliesCanBeTold policy.now (M.legal desk.now.root) }
     requires actor { IsNamedActor policy.now talk.old.actor }
     requires room { HasRoom talk.old 1 }
-    ensures { Acts policy.now (M.list desk.now.root) (M.legal desk.now.root) (M.now_of desk.now.root) (by pass.old.number conn) pass.old pass.new talk.old talk.new (C.readings clock.old) (C.readings clock.new) line.now result }
+    requires reached { IsReached (M.legal desk.now.root) (M.now_of desk.now.root) pass.old.seen talk.old.reached }
+    ensures reached { IsReached (M.legal desk.now.root) (M.now_of desk.now.root) pass.new.seen talk.new.reached }
+    ensures acts { Acts policy.now (M.list desk.now.root) (M.legal desk.now.root) (M.now_of desk.now.root) (by pass.old.number conn) pass.old pass.new talk.old talk.new (C.readings clock.old) (C.readings clock.new) line.now result }
 {
     match read_line(policy, Actor::Nobody, false, line) {
         Ok(Line::Ask(request)) => {
@@ -124,7 +129,16 @@ fn act<M: Machine, R: Wait, C: Clock, G: Gate>(
             gate.pass(pass.number(), talk.calls);
             let reading = clock.now();
             decide(
-                rt, alloc, desk, policy, pass, conn, reading, talk.actor, request,
+                rt,
+                alloc,
+                desk,
+                policy,
+                pass,
+                conn,
+                reading,
+                talk.actor,
+                request,
+                &mut talk.reached,
             )
         }
         Ok(Line::Be(actor)) => {
@@ -168,10 +182,12 @@ pub(crate) fn take_byte<M: Machine, R: Wait, L: Link, C: Clock, G: Gate>(
     requires replies { RepliesCanBeTold policy.now (M.legal desk.now.root) }
     requires actor { IsNamedActor policy.now talk.old.actor }
     requires room { HasRoom talk.old 1 }
+    requires reached { IsReached (M.legal desk.now.root) (M.now_of desk.now.root) pass.old.seen talk.old.reached }
     ensures goes { Goes policy.now (M.list desk.now.root) (M.legal desk.now.root) (M.now_of desk.now.root) (by pass.old.number conn) (record { pass = pass.old; talk = talk.old; clock = C.readings clock.old; given = (L.traffic link.old).given }) (record { pass = pass.new; talk = talk.new; clock = C.readings clock.new; given = (L.traffic link.new).given }) framer.old framer.new (byte ∷ []) (L.traffic link.old).write_faults (L.traffic link.new).write_faults result }
     ensures pass { IsIdle (site_of desk.now) pass.new × (pass.new.number ≡ pass.old.number) }
     ensures actor { IsNamedActor policy.now talk.new.actor }
     ensures counts { CountsUp talk.old talk.new 1 }
+    ensures reached { IsReached (M.legal desk.now.root) (M.now_of desk.now.root) pass.new.seen talk.new.reached }
     ensures reads { ReadsNothing (L.traffic link.old) (L.traffic link.new) }
     ensures faults { (L.traffic link.old).write_faults ≤ (L.traffic link.new).write_faults }
 {

@@ -7,7 +7,7 @@ ghost use Rattle.gt_io.specs.Links.{ReadsNothing, WritesNothing};
 ghost use Rattle.turn_lock.specs.Holders.{site_of};
 ghost use Rattle.locked_history.specs.Fronts.{by};
 ghost use Rattle.connection_laws.specs.Desks.{IsNamedActor, AreNamed, RepliesCanBeTold};
-ghost use Rattle.line_server.specs.Turns.{IsIdle};
+ghost use Rattle.line_server.specs.Turns.{IsIdle, IsReached};
 ghost use Rattle.line_server.specs.Serving.{HasRoom, CountsUp, Goes, IsStart, Converses, Serves, most_bytes};
 
 use crate::lines::take_byte;
@@ -44,10 +44,12 @@ fn take_chunk<M: Machine, R: Wait, L: Link, C: Clock, G: Gate>(
     requires replies { RepliesCanBeTold policy.now (M.legal desk.now.root) }
     requires actor { IsNamedActor policy.now talk.old.actor }
     requires room { HasRoom talk.old (length chunk.now) }
+    requires reached { IsReached (M.legal desk.now.root) (M.now_of desk.now.root) pass.old.seen talk.old.reached }
     ensures goes { Goes policy.now (M.list desk.now.root) (M.legal desk.now.root) (M.now_of desk.now.root) (by pass.old.number conn) (record { pass = pass.old; talk = talk.old; clock = C.readings clock.old; given = (L.traffic link.old).given }) (record { pass = pass.new; talk = talk.new; clock = C.readings clock.new; given = (L.traffic link.new).given }) framer.old framer.new chunk.now (L.traffic link.old).write_faults (L.traffic link.new).write_faults result }
     ensures pass { IsIdle (site_of desk.now) pass.new × (pass.new.number ≡ pass.old.number) }
     ensures actor { IsNamedActor policy.now talk.new.actor }
     ensures counts { CountsUp talk.old talk.new (length chunk.now) }
+    ensures reached { IsReached (M.legal desk.now.root) (M.now_of desk.now.root) pass.new.seen talk.new.reached }
     ensures reads { ReadsNothing (L.traffic link.old) (L.traffic link.new) }
     ensures faults { (L.traffic link.old).write_faults ≤ (L.traffic link.new).write_faults }
 {
@@ -154,6 +156,7 @@ pub fn serve_link<M: Machine, R: Wait, L: Link, C: Clock, G: Gate>(
         asked: 0,
         denied: 0,
         calls: *calls,
+        reached: None,
     };
     let outcome = converse(
         rt, alloc, desk, policy, pass, conn, link, clock, gate, &mut talk,

@@ -3,8 +3,8 @@ use Rattle.turn_lock.specs.Holders.{Holder}
 use Rattle.line_server.proofs.Asking.{is_accepted, is_refused}
 use Rattle.line_server.proofs.asks.ask_at.Goals as goal
 
-pub returns-in-Ok : goal.returns-in-Ok
-returns-in-Ok g c =
+pub returns-in-Ok-clause-asked : goal.returns-in-Ok-clause-asked
+returns-in-Ok-clause-asked g c =
     let r = c.in_default.ensures in
     let a = c.in-Ok.ensures in
     let m = g.M.Machine in
@@ -12,8 +12,8 @@ returns-in-Ok g c =
     c.args.pass.now c.reach.new.pass c.ask.new.pass r.ticks c.in-Ok.asked.reply c.in-Ok.asked.front a.last.0 r.each r.grows r.reached.0 r.reached.1 a.ok a.last.1 a.legal.0 in
     rw c.into_reply.ensures t
 
-pub returns-in-Err-ask : goal.returns-in-Err-ask
-returns-in-Err-ask g c =
+pub returns-in-Err-ask-clause-asked : goal.returns-in-Err-ask-clause-asked
+returns-in-Err-ask-clause-asked g c =
     let r = c.in_default.ensures in
     let a = c.in-Err-ask.ensures in
     let m = g.M.Machine in

@@ -1,4 +1,4 @@
-use Rattle.std.proofs.Common.{◌≡◌, ◌≤◌, ◌+◌, ℕ, ◌∙◌, sym, ap, subst, refl, arith}
+use Rattle.std.proofs.Common.{◌≡◌, ◌≤◌, ◌+◌, ℕ, ◌∙◌, sym, ap, subst, refl, arith, Option}
 use Rattle.gt_base.specs.declared.requests.Actor.{Actor}
 use Rattle.gt_io.specs.Frames.{Frame}
 use Rattle.locked_history.specs.Fronts.{by}
@@ -7,6 +7,7 @@ use Rattle.connection_laws.specs.Desks.{IsNamedActor}
 use Rattle.connection_laws.specs.Connection.{bad}
 use Rattle.connection_laws.specs.Cuts.{open_line}
 use Rattle.connection_laws.proofs.Framing.{more_is, whole_is, long_is}
+use Rattle.line_server.specs.Turns.{IsReached}
 use Rattle.line_server.specs.declared.talk.Talk.{Talk}
 use Rattle.line_server.specs.declared.talk.Told.TheVariants.{Bad}
 use Rattle.line_server.proofs.Acting.{acts_bad}
@@ -15,7 +16,7 @@ use Rattle.line_server.proofs.lines.take_byte.Goals as goal
 
 pub settle-requires : goal.settle-requires
 settle-requires g c =
-    let e = c.act-told.ensures.talk_is in
+    let e = c.act-told.ensures.acts.talk_is in
     let a = ap (λ (t : Talk). t.asked) e in
     let d = ap (λ (t : Talk). t.denied) e in
     let room = c.requires.room in
@@ -34,7 +35,7 @@ returns-in-More-clause-goes g c =
 pub returns-in-Whole-clause-goes : goal.returns-in-Whole-clause-goes
 returns-in-Whole-clause-goes g c =
     let m = g.M.Machine in
-    let x = c.act-told.ensures in
+    let x = c.act-told.ensures.acts in
     λ o fed acted s.
     let w = whole_is c.args.framer.now fed c.args.byte s.frame_fits (sym c.push.ensures.answer ∙ c.in-Whole.is) in
     line_done c.args.policy.now (g.M.Keeps.list c.args.desk.now.root) (m.legal c.args.desk.now.root) (m.now_of c.args.desk.now.root) (by c.args.pass.now.number c.args.conn) o
@@ -73,3 +74,9 @@ returns-in-Long-clause-reads g c = (c.settle-in-Long.ensures.sent c.args.policy.
 
 pub returns-in-Long-clause-faults : goal.returns-in-Long-clause-faults
 returns-in-Long-clause-faults g c = (c.settle-in-Long.ensures.sent c.args.policy.now (bad Long) refl).later
+
+pub returns-in-Long-clause-reached : goal.returns-in-Long-clause-reached
+returns-in-Long-clause-reached g c =
+    let m = g.M.Machine in
+    let e = c.settle-in-Long.ensures.talk c.args.policy.now (bad Long) refl in
+    subst (λ (t : Option ℕ). IsReached (m.legal c.args.desk.now.root) (m.now_of c.args.desk.now.root) c.args.pass.now.seen t) (sym (ap (λ (t : Talk). t.reached) e)) c.requires.reached

@@ -4,6 +4,7 @@ use Rattle.std.specs.Io.KnownBytes.{Appends, Consumes}
 use Rattle.std.proofs.KnownBytes.{Appends-nil, Consumes-nil, Appends-trans, Consumes-trans}
 use Rattle.connection_laws.specs.Desks.{IsNamedActor}
 use Rattle.locked_history.specs.Fronts.{by}
+use Rattle.line_server.specs.Turns.{IsReached}
 use Rattle.line_server.specs.Serving.{Goes}
 use Rattle.line_server.proofs.LineDone.{point}
 use Rattle.line_server.proofs.Ends.{begins, cut_off, serving_kept}
@@ -26,6 +27,7 @@ loop-left-init g c =
       number = refl;
       actor = s.going.named;
       counts = (omega arith, omega arith, omega arith);
+      reached = subst (λ (t : Option ℕ). IsReached (m.legal root) (m.now_of root) c.args.pass.now.seen t) (sym c.requires.start.4) tt;
       reads = omega arith;
       writes = omega arith;
     }
@@ -76,6 +78,7 @@ loop-left-preserved g c =
       number = after.pass.1 ∙ inv.number;
       actor = after.actor;
       counts = (omega (arith, up, up', both), omega (arith, up, up', both), omega (arith, up, up', both));
+      reached = after.reached;
       reads = omega (arith, reads, cause, kept);
       writes = omega (arith, writes, wrote, faults);
     }

@@ -4,7 +4,7 @@ use Rattle.turn_lock.specs.Holders.{site_of}
 use Rattle.locked_history.specs.Fronts.{by}
 use Rattle.connection_laws.specs.Desks.{IsNamedActor}
 use Rattle.connection_laws.specs.Connection.{Acted}
-use Rattle.line_server.specs.Turns.{IsIdle}
+use Rattle.line_server.specs.Turns.{IsIdle, IsReached}
 use Rattle.line_server.specs.Serving.{CountsUp, Serving}
 use Rattle.line_server.proofs.LineDone.{point}
 use Rattle.line_server.proofs.serve.converse.Given as goal
@@ -29,6 +29,7 @@ invariant-loop-left g l =
       number : l.pass.number ≡ l.fn.pass.number;
       actor : IsNamedActor l.policy l.talk.actor;
       counts : CountsUp l.fn.talk l.talk (length fed);
+      reached : IsReached (m.legal root) (m.now_of root) l.pass.seen l.talk.reached;
       reads : a.read_faults ≤ b.read_faults;
       writes : a.write_faults ≤ b.write_faults;
     }

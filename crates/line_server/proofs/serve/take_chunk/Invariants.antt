@@ -3,7 +3,7 @@ use Rattle.gt_io.specs.Links.{ReadsNothing}
 use Rattle.turn_lock.specs.Holders.{site_of}
 use Rattle.locked_history.specs.Fronts.{by}
 use Rattle.connection_laws.specs.Desks.{IsNamedActor}
-use Rattle.line_server.specs.Turns.{IsIdle}
+use Rattle.line_server.specs.Turns.{IsIdle, IsReached}
 use Rattle.line_server.specs.Serving.{CountsUp, Goes}
 use Rattle.line_server.proofs.LineDone.{point}
 use Rattle.line_server.proofs.serve.take_chunk.Given as goal
@@ -22,6 +22,7 @@ invariant-loop-byte g l =
       number : l.pass.number ≡ l.fn.pass.number;
       actor : IsNamedActor l.policy l.talk.actor;
       counts : CountsUp l.fn.talk l.talk l.byte-index;
+      reached : IsReached (m.legal root) (m.now_of root) l.pass.seen l.talk.reached;
       reads : ReadsNothing (t.traffic l.fn.link) (t.traffic l.link);
       faults : (t.traffic l.fn.link).write_faults ≤ (t.traffic l.link).write_faults;
     }
