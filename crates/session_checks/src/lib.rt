@@ -4,6 +4,8 @@
 #[cfg(test)]
 mod building;
 #[cfg(test)]
+mod closed_sessions;
+#[cfg(test)]
 mod decisions;
 #[cfg(test)]
 mod full_table;
