@@ -1,6 +1,7 @@
 //! Why an event is in force or blocked at the end of a script, as it is told.
 ghost use Rattle.std.specs.Prelude.{◌≡◌, ◌++◌, IfOk, OnOk, option_map};
 ghost use Rattle.gt_base.specs.Sets.{has};
+ghost use Rattle.gtrbac_model.specs.Conflict.{after};
 ghost use Rattle.gt_base.specs.declared.events.Fluent.{Fluent as FluentOf};
 ghost use Rattle.gtrbac_tool.specs.Standing.{raises as is_raised, first_raising, reason, by_word as by_words, standing_line, certificate_line, TellsWhy, closed_at as closed_in, made_before};
 
@@ -64,10 +65,18 @@ fn status_before(
         if at_of(first) >= t {
             break;
         }
-        status = status_after(alloc, &status, set_of(first))?;
+        take_in(alloc, &mut status, set_of(first))?;
         trace = rest;
     }
     Ok(status)
+}
+
+/// Takes a set into the status: what was on before it becomes what is on after it.
+fn take_in(alloc: Global, status: &mut Status, set: &Happened) -> Result<(), Memory>
+    ensures { OnOk result ((f : FluentOf) → has status.new.set f ≡ after set.now.set (has status.old.set) f) }
+{
+    *status = status_after(alloc, status, set)?;
+    Ok(())
 }
 
 /// Whether the trigger is immediate, has the event as its head and is met in the set.
