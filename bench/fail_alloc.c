@@ -6,6 +6,7 @@
 #include <fcntl.h>
 #include <stdatomic.h>
 #include <stdlib.h>
+#include <sys/syscall.h>
 #include <unistd.h>
 
 extern void *__libc_malloc(size_t);
@@ -37,7 +38,7 @@ void *realloc(void *old, size_t size) {
     return fails() ? NULL : __libc_realloc(old, size);
 }
 
-__attribute__((destructor)) static void tell(void) {
+static void tell(void) {
     const char *where = getenv("COUNT_FILE");
     char digits[24];
     int at = sizeof digits, file;
@@ -46,4 +47,14 @@ __attribute__((destructor)) static void tell(void) {
     do digits[--at] = '0' + count % 10; while (count /= 10);
     ssize_t written = write(file, digits + at, sizeof digits - at);
     (void)written;
+}
+
+// A test ends by this call, which runs no destructors.
+__attribute__((noreturn)) void _exit(int status) {
+    tell();
+    for (;;) syscall(SYS_exit_group, status);
+}
+
+__attribute__((destructor)) static void tell_at_the_end(void) {
+    tell();
 }
