@@ -1,7 +1,8 @@
 #!/bin/sh
 # Times the table of sessions alone: bench/table.sh [TIMES]
 # 10,000 sessions are opened, a role is activated in each, and then they are closed from the first, from the last or in a mixed order, or live
-# through twenty minutes that drop nothing, or are all dropped in one minute; TIMES times over (5 if left out). The role is assigned to each user
+# through twenty minutes that drop nothing, with the status and the hierarchy asked (quiet) or not (still), or are all dropped in one minute;
+# TIMES times over (5 if left out). The role is assigned to each user
 # itself (direct), or to be reached by a walk of one edge (walk). What is told is processor time, the best of three runs.
 # Run it at the top of the repository, after `rt run -- close walk 100 1` has built crates/session_bench once.
 set -eu
@@ -25,5 +26,5 @@ for way in 'direct', 'walk':
     print(f'{way}: {opened / sessions:.3f} microseconds an opening, {(active - opened) / sessions:.2f} an activation')
     for kind in 'close', 'close-last', 'close-mixed':
         print(f'{way}: {kind}, {(run(kind, way) - active) / sessions:.2f} microseconds each')
-    print(f'{way}: a minute that drops nothing {(run("quiet", way) - active) / 20e3:.2f} ms, one that drops all {(run("drop", way) - active) / 1e3:.2f} ms')
+    print(f'{way}: a minute that drops nothing {(run("quiet", way) - active) / 20:.0f} microseconds, where no fluent changed {(run("still", way) - active) / 20:.0f}, one that drops all {(run("drop", way) - active) / 1e3:.2f} ms')
 PY

@@ -7,3 +7,4 @@ pub mod Raising
 pub mod Hierarchies
 pub mod Stops
 pub mod Births
+pub mod Still

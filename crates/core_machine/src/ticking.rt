@@ -1,21 +1,24 @@
 //! A tick: where it stops, what it plans first, and the close by these plans.
-ghost use Rattle.std.specs.Prelude.{◌≡◌, ℕ, ◌<◌, ◌≤◌, Bool, length, IfOk, OnOk, OnErr};
+ghost use Rattle.std.specs.Prelude.{◌≡◌, ℕ, ◌<◌, ◌≤◌, Bool, true, length, IfOk, OnOk, OnErr};
+ghost use Rattle.std.specs.List.{list_all};
 ghost use Rattle.gt_base.specs.Bounds.{last_minute, max_steps};
-ghost use Rattle.gt_base.specs.Sets.{has};
+ghost use Rattle.gt_base.specs.Sets.{has, members};
 ghost use Rattle.gtrbac_model.specs.History.{IsNextStop};
 ghost use Rattle.instant_bases.specs.Nexts.{IsNextOf};
 ghost use Rattle.session_table.specs.NextDrops.{IsFirstOrNone};
-ghost use Rattle.session_table.specs.Plans.{IsPlan as IsPlanOfDrops, need_of};
+ghost use Rattle.session_table.specs.Plans.{AllStand, IsPlan as IsPlanOfDrops, need_of};
 ghost use Rattle.session_table.specs.Tables.{table_of};
 ghost use Rattle.time_engine.specs.Plans.{Fits, IsPlan, NoneStirs};
+ghost use Rattle.core_machine.specs.Agreeing.{agrees};
 ghost use Rattle.core_machine.specs.Books.{GoesOn};
 ghost use Rattle.core_machine.specs.Kept.{IsKept, Same, view_of};
 ghost use Rattle.core_machine.specs.Steps.{IsClosing, moves};
 
 use crate::entering::{add_signals, make_room};
 use crate::states::State;
-use gt_base::{Entry, Instant, Memory, Step, Who};
-use session_table::Drops;
+use gt_base::{Caps, Entry, Happened, Instant, List, Memory, Prioritised, Status, Step, Who};
+use hybrid_hierarchy::Hierarchy;
+use session_table::{Drops, Sessions};
 use time_engine::Plan;
 
 /// Goes on to the least instant after now and up to the bound at which something is raised or an activation ends, or to the
@@ -53,10 +56,59 @@ fn planned(s: &mut State, to: Instant) -> Result<(Plan, Drops), Memory>
     let policy = s.ground.policy();
     let now = s.line.now();
     let hierarchy = s.ground.hierarchy();
-    let drops = s
-        .table
-        .plan_end_over(hierarchy, policy.caps(), now, to, plan.status())?;
+    s.line.keeps();
+    let set = plan.happened();
+    let before = s.line.status();
+    let still = is_still(set, before);
+    let drops = end_of(
+        &mut s.table,
+        hierarchy,
+        policy.caps(),
+        now,
+        to,
+        plan.status(),
+        still,
+    )?;
     Ok((plan, drops))
+}
+
+/// Whether the status already says what the event makes of it.
+fn agrees(status: &Status, e: &Prioritised) -> bool
+    ensures { result ≡ agrees (has status.now.set) e.now }
+{
+    let on = status.is_on(e.event.fluent);
+    if e.event.on { on } else { !on }
+}
+
+/// Whether the status already says what each event of the set makes of it, as where there is none: then the set changes no fluent.
+fn is_still(set: &Happened, before: &Status) -> bool
+    ensures { result ≡ list_all (agrees (has before.now.set)) (members set.now.set.events) }
+{
+    set.events().iter().all(|e| agrees(before, e))
+}
+
+/// The plan of the end of the minutes. Where no fluent changes, each activation stands as before, and neither the status nor the hierarchy is
+/// asked.
+fn end_of(
+    table: &mut Sessions,
+    hierarchy: &Hierarchy,
+    caps: &List<Caps>,
+    now: Instant,
+    to: Instant,
+    status: &Status,
+    still: bool,
+) -> Result<Drops, Memory>
+    requires later { now < to }
+    requires still { still ≡ true → AllStand hierarchy.now (has status.now.set) (table_of table.old) }
+    ensures same { table_of table.new ≡ table_of table.old }
+    ensures charged_to { table.new.charged_to ≡ table.old.charged_to }
+    ensures room { OnOk result (need_of now to table.new ≤ table.new.room) }
+    ensures plan { IfOk result (IsPlanOfDrops hierarchy.now caps.now.items (has status.now.set) now to (table_of table.old)) }
+{
+    if still {
+        return table.plan_end_still(caps, now, to);
+    }
+    table.plan_end_over(hierarchy, caps, now, to, status)
 }
 
 /// Where a tick with this bound stops.

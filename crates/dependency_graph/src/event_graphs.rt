@@ -10,11 +10,20 @@ use least_walk::Graph;
 use std::marker::Model;
 
 /// Events by their nodes, and edges by their triggers and their places there.
-#[derive(Drop)]
 pub struct EventGraph {
     pub(crate) events: IndexSet<Event>,
     pub(crate) graph: Graph,
     pub(crate) places: Vec<(u32, u32)>,
+}
+
+impl Drop for EventGraph {
+    fn drop(self) {
+        let EventGraph {
+            events: _,
+            graph: _,
+            places: _,
+        } = self;
+    }
 }
 
 impl Model for EventGraph {

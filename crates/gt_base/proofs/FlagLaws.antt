@@ -1,24 +1,30 @@
 -- What flags and words together stand for.
-use Rattle.std.proofs.Common.{◌≡◌, ℕ, zero, suc, ◌+◌, ◌-◌, ◌<◌, ◌≤◌, Bool, true, false, cond, not, ◌&&◌, ◌||◌, T, List, [], ◌∷◌, ◌++◌, length, map, flat_map, take, set, get_or, ◌⊎◌, inl, inr, refl, sym, ◌∙◌, ap, subst, arith}
-use Rattle.std.specs.List.{HoldsAt, AllWithin}
-use Rattle.std.specs.Cmp.{both_ways}
+use Rattle.std.proofs.Common.{◌≡◌, ℕ, zero, suc, ◌+◌, ◌-◌, ◌*◌, ◌<◌, ◌≤◌, Bool, true, false, cond, not, ◌&&◌, ◌||◌, T, List, [], ◌∷◌, ◌++◌, length, map, flat_map, take, set, get_or, ◌⊎◌, inl, inr, Option, Some, None, IfSome, nat_lt, refl, sym, ◌∙◌, ap, subst, arith}
+use Rattle.std.specs.List.{HoldsAt, AllWithin, list_any}
+use Rattle.std.specs.Cmp.{both_ways, nat_cmp_is}
 use Rattle.std.specs.List.Sorted.{IsNonDecreasingBy, IsPartitionPoint}
-use Rattle.std.specs.Ordering.{eq_by_cmp, is_eq, ordering_index}
+use Rattle.std.specs.Ordering.{eq_by_cmp, is_eq, ordering_index, ordering_then}
 use Rattle.std.specs.declared.cmp.Ordering.{Ordering}
 use Rattle.std.specs.declared.cmp.Ordering.TheVariants.{Less, Equal, Greater}
 use Rattle.std.specs.FinMap.Entries.{below_all, is_sorted}
+use Rattle.std.proofs.lemmas.Bool.{ltb-true, ltb-false}
 use Rattle.std.proofs.lemmas.List.Folds.{list_any-append}
 use Rattle.gt_base.specs.declared.events.Fluent.{Fluent}
+use Rattle.gt_base.specs.declared.events.Fluent.TheVariants.{Granted}
+use Rattle.gt_base.specs.declared.events.PermId.{PermId}
+use Rattle.gt_base.specs.declared.events.RoleId.{RoleId}
+use Rattle.gt_base.specs.declared.words.Row.{Row}
+use Rattle.gt_base.specs.declared.words.Row.TheVariants.{Roles, UsersOf, PermsOf, Limits, Edges}
 use Rattle.gt_base.specs.declared.words.Word.{Word}
 use Rattle.gt_base.specs.Orders.{fluent_cmp}
 use Rattle.gt_base.specs.Sets.{SetOf, none, has, members, set_of, with_member, without, pairs, Rises}
-use Rattle.gt_base.specs.Words.{fluents_of, set_of_words, AreWords}
+use Rattle.gt_base.specs.Words.{fluent_in, fluents_of, is_of_perms, set_of_words, AreWords}
 use Rattle.gt_base.specs.Flags.{Flagged, flagged, is_among, is_lit, IsWith, IsWithout, AreApart, set_of_parts}
 use Rattle.gt_base.proofs.Rising.{answers_rise, none_tie, left_of, right_of, below_at, turned}
 use Rattle.gt_base.proofs.SetLaws.{eq_itself, has-none, has-set_of, has-members}
 use Rattle.gt_base.proofs.SetSteps.{fluent_cmp_total}
 use Rattle.gt_base.proofs.SetsAreSets.{fluents_are_sets}
-use Rattle.gt_base.proofs.WordLaws.{tie_of, or_false, or_assoc, or_swap}
+use Rattle.gt_base.proofs.WordLaws.{any_flat_map, any_map, tie_of, or_false, or_assoc, or_swap}
 use Rattle.gt_base.proofs.WordLists.{set_of_no_words}
 
 -- no flag and no word, no fluent
@@ -323,3 +329,82 @@ module _ (s : Flagged) (ws words : List Word) (f : Fluent) (h : AreApart s ws) w
       fluents_are_sets.same _ _ (λ x.
       spared (has (set_of_words ws) x) (eq_by_cmp fluent_cmp f x) (λ tie. subst (λ y. has (set_of_words ws) y ≡ false) (tie_of f x tie) (h f there))
       ∙ sym (fluents_are_sets.taken_out (set_of_words ws) f x))
+
+-- ---- a permission that is granted to one role alone
+granted_above : (perm : PermId) (r role : RoleId) → r.0 < role.0 → fluent_cmp (Granted perm role) (Granted perm r) ≡ Greater
+granted_above perm r role lt = λ i. ordering_then (sym (nat_cmp_is perm.0 perm.0 Equal refl) i) (sym (nat_cmp_is role.0 r.0 Greater lt) i)
+
+granted_below : (perm : PermId) (r role : RoleId) → role.0 < r.0 → fluent_cmp (Granted perm role) (Granted perm r) ≡ Less
+granted_below perm r role lt = λ i. ordering_then (sym (nat_cmp_is perm.0 perm.0 Equal refl) i) (sym (nat_cmp_is role.0 r.0 Less lt) i)
+
+-- where a known fluent grants it, and its neighbours are no such fluents, no other known one does
+pub only_grant : (ks : List Fluent) (perm : PermId) (role : RoleId) (p : ℕ) → Rises fluent_cmp ks → p < length ks → HoldsAt (λ k. k ≡ Granted perm role) ks p
+    → (p ≡ 0) ⊎ ((p - 1 < length ks) × HoldsAt (λ k. (r : RoleId) → fluent_cmp k (Granted perm r) ≡ Less) ks (p - 1))
+    → (p + 1 ≡ length ks) ⊎ ((p + 1 < length ks) × HoldsAt (λ k. (r : RoleId) → fluent_cmp k (Granted perm r) ≡ Greater) ks (p + 1))
+    → (r : RoleId) → is_among ks (Granted perm r) ≡ true → r ≡ role
+only_grant ks perm role p h lt at before after r there = by (nat_lt r.0 role.0) refl (nat_lt role.0 r.0) refl
+  where
+    f : Fluent
+    f = Granted perm r
+
+    front : (p ≡ 0) ⊎ ((p - 1 < length ks) × HoldsAt (λ k. fluent_cmp k f ≡ Less) ks (p - 1))
+    front = elim before [ inl e ↦ inl e | inr t ↦ inr (t.0, λ d. t.1 d r) ]
+
+    back : (p + 1 ≡ length ks) ⊎ ((p + 1 < length ks) × HoldsAt (λ k. fluent_cmp k f ≡ Greater) ks (p + 1))
+    back = elim after [ inl e ↦ inl e | inr t ↦ inr (t.0, λ d. t.1 d r) ]
+
+    same : p + 1 - 1 ≡ p
+    same = omega arith
+
+    none_of : is_among ks f ≡ false → r ≡ role
+    none_of e = let clash : true ≡ false = sym there ∙ e in cc
+
+    by : (a : Bool) → nat_lt r.0 role.0 ≡ a → (b : Bool) → nat_lt role.0 r.0 ≡ b → r ≡ role
+    by true x b y = none_of (gap ks f p h front (inr (lt, λ d. subst (λ k. fluent_cmp k f ≡ Greater) (sym (at d)) (granted_above perm r role (ltb-true r.0 role.0 x)))))
+    by false x true y =
+        none_of (gap ks f (p + 1) h
+        (inr (subst (λ n. (n < length ks) × HoldsAt (λ k. fluent_cmp k f ≡ Less) ks n) (sym same)
+        (lt, λ d. subst (λ k. fluent_cmp k f ≡ Less) (sym (at d)) (granted_below perm r role (ltb-true role.0 r.0 y))))) back)
+    by false x false y = let e : r.0 ≡ role.0 = omega (arith, ltb-false r.0 role.0 x, ltb-false role.0 r.0 y) in λ i. record { 0 = e i }
+
+-- words of other rows grant nothing
+other_row : (p : PermId) (r : RoleId) (row : Row) (n : ℕ) → is_of_perms row ≡ false → eq_by_cmp fluent_cmp (Granted p r) (fluent_in row n) ≡ false
+other_row p r Roles n e = refl
+other_row p r (UsersOf u) n e = refl
+other_row p r (PermsOf q) n e = cc
+other_row p r Limits n e = refl
+other_row p r Edges n e = refl
+
+other_word : (p : PermId) (r : RoleId) (w : Word) → is_of_perms w.place.row ≡ false → list_any (eq_by_cmp fluent_cmp (Granted p r)) (fluents_of w) ≡ false
+unfolding fluents_of
+other_word p r w e = any_map (eq_by_cmp fluent_cmp (Granted p r)) (λ b. fluent_in w.place.row (w.place.below * 64 + b)) _ ∙ all _
+  where
+    all : (bs : List ℕ) → list_any (λ b. eq_by_cmp fluent_cmp (Granted p r) (fluent_in w.place.row (w.place.below * 64 + b))) bs ≡ false
+    all [] = refl
+    all (b ∷ bs) = both_off _ _ (other_row p r w.place.row (w.place.below * 64 + b) e) (all bs)
+
+pub no_grants : (p : PermId) (r : RoleId) (ws : List Word) → list_any (λ w. is_of_perms w.place.row) ws ≡ false → has (set_of_words ws) (Granted p r) ≡ false
+unfolding set_of_words
+no_grants p r ws e = has-set_of fluent_cmp_total (flat_map fluents_of ws) (Granted p r) ∙ any_flat_map (eq_by_cmp fluent_cmp (Granted p r)) fluents_of ws ∙ each ws e
+  where
+    each : (xs : List Word) → list_any (λ w. is_of_perms w.place.row) xs ≡ false → list_any (λ w. list_any (eq_by_cmp fluent_cmp (Granted p r)) (fluents_of w)) xs ≡ false
+    each [] h = refl
+    each (w ∷ xs) h = both_off _ _ (other_word p r w (first_off _ _ h)) (each xs (second_off (is_of_perms w.place.row) _ h))
+
+-- what is on and in no word is known
+pub known_but_for_words : (s : Flagged) (ws : List Word) (f : Fluent) → has (set_of_words ws) f ≡ false → has (set_of_parts s ws) f ≡ true → is_among s.known f ≡ true
+known_but_for_words s ws f none on = by (is_among s.known f) refl
+  where
+    by : (b : Bool) → is_among s.known f ≡ b → is_among s.known f ≡ true
+    by true e = e
+    by false e =
+        let off : has (set_of_parts s ws) f ≡ false = has_parts s ws f ∙ both_off _ _ (lit_of_known s.known s.on f e) none in
+        let clash : true ≡ false = sym on ∙ off in cc
+
+pub off_of : (b : Bool) → not b ≡ true → b ≡ false
+off_of true e = cc
+off_of false e = refl
+
+pub some_so : {A : Type 0} {P Q : A → Type 0} (o : Option A) → ((a : A) → P a → Q a) → IfSome o P → IfSome o Q
+some_so None f x = x
+some_so (Some a) f x = f a x

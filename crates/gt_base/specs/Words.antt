@@ -1,5 +1,5 @@
 -- Which fluents a word stands for.
-use Rattle.std.specs.Prelude.{◌≡◌, ℕ, ◌+◌, ◌*◌, ◌/◌, ◌^◌, ◌<◌, ◌≤◌, ◌==◌, false, List, map, insert, length}
+use Rattle.std.specs.Prelude.{◌≡◌, ℕ, ◌+◌, ◌*◌, ◌/◌, ◌^◌, ◌<◌, ◌≤◌, ◌==◌, Bool, true, false, List, map, insert, length}
 use Rattle.std.specs.Int.{bit_at}
 use Rattle.std.specs.List.{All, HoldsAt, filter, flat_map, list_any, range_with_len}
 use Rattle.std.specs.Ordering.{eq_by_cmp}
@@ -44,6 +44,11 @@ first_of (Assigned u r) = u.0
 first_of (Granted p r) = p.0
 first_of (Limit l) = l.0
 first_of (Edge e) = e
+
+-- whether it is a row of permissions that are granted to a role
+abbrev pub is_of_perms : Row → Bool
+is_of_perms (PermsOf r) = true
+is_of_perms _ = false
 
 abbrev pub place_of : Fluent → Place
 place_of f = record { row = row_of f; below = first_of f / 64 }

@@ -1,14 +1,16 @@
 //! Fluents with a flag each: the row of fluents is shared by copies, and the flags are each copy's own.
-ghost use Rattle.std.specs.Prelude.{◌≡◌, ◌<◌, [], ◌++◌, true, false, map, length, flat_map, slice_index_or, slice_set, IfOk, MatchOption};
+ghost use Rattle.std.specs.Prelude.{◌≡◌, ◌<◌, [], ◌++◌, true, false, map, length, flat_map, slice_index_or, slice_set, IfOk, IfSome, MatchOption};
+ghost use Rattle.gt_base.specs.declared.events.RoleId.{RoleId};
+ghost use Rattle.gt_base.specs.declared.events.Fluent.TheVariants.{Granted};
 ghost use Rattle.gt_base.specs.Orders.{fluent_cmp};
 ghost use Rattle.gt_base.specs.Sets.{has, members, set_of, Rises};
 ghost use Rattle.gt_base.specs.Words.{fluents_of, AreWords};
 ghost use Rattle.gt_base.specs.Flags.{flagged, is_among, is_lit, IsPlace, IsWith, IsWithout, AreApart, set_of_parts};
 
-use crate::events::Fluent;
+use crate::events::{Fluent, PermId, RoleId};
 use crate::known::Known;
 use crate::lists::Memory;
-use crate::words::{Word, add_all, ascending, is_on};
+use crate::words::{Word, add_all, ascending, grant_nothing, is_on};
 use std::alloc::{AllocError, Global};
 use std::marker::Model;
 use std::sync::Arc;
@@ -96,6 +98,16 @@ impl Flags {
         }
     }
 
+    /// The only role to which a fluent with a flag grants the permission, where it is quickly found that there is just one.
+    fn only_known(&self, perm: PermId) -> Option<RoleId>
+        ensures { IfSome result (λ role. (r : RoleId) → is_among self.now.known (Granted perm r) ≡ true → r ≡ role) }
+    {
+        match &self.known {
+            Some(known) => known.only_role(perm),
+            None => None,
+        }
+    }
+
     /// Sets the fluent's flag, if it has one, and tells whether it has.
     pub(crate) fn turn_on(&mut self, f: Fluent) -> bool
         ensures known { result ≡ true → IsWith f self.old self.new }
@@ -171,6 +183,20 @@ pub(crate) fn is_on_in(flags: &Flags, more: &[Word], f: Fluent) -> bool
     match flags.flag(f) {
         Some(flag) => flag,
         None => is_on(more, f),
+    }
+}
+
+/// So many words are looked at quickly.
+const FEW: usize = 16;
+
+/// The only role to which a fluent that is on grants the permission, where it is quickly found that no other is.
+pub(crate) fn only_role_in(flags: &Flags, more: &[Word], perm: PermId) -> Option<RoleId>
+    ensures { IfSome result (λ role. (r : RoleId) → has (set_of_parts flags.now more.now) (Granted perm r) ≡ true → r ≡ role) }
+{
+    if more.len() <= FEW && grant_nothing(more) {
+        flags.only_known(perm)
+    } else {
+        None
     }
 }
 

@@ -1,12 +1,14 @@
 //! Fluents in one ascending row that many copies of a status share, and where each stands in it.
-ghost use Rattle.std.specs.Prelude.{◌≡◌, ◌≤◌, ◌<◌, ◌-◌, ◌⊎◌, true, false, length, IfOk};
+ghost use Rattle.std.specs.Prelude.{◌≡◌, ◌≤◌, ◌<◌, ◌+◌, ◌-◌, ◌⊎◌, true, false, length, IfOk, IfSome};
 ghost use Rattle.std.specs.List.{HoldsAt};
 ghost use Rattle.std.specs.declared.cmp.Ordering.TheVariants.{Less, Greater};
+ghost use Rattle.gt_base.specs.declared.events.RoleId.{RoleId};
+ghost use Rattle.gt_base.specs.declared.events.Fluent.TheVariants.{Granted};
 ghost use Rattle.gt_base.specs.Orders.{fluent_cmp};
 ghost use Rattle.gt_base.specs.Sets.{Rises};
 ghost use Rattle.gt_base.specs.Flags.{is_among, IsPlace};
 
-use crate::events::Fluent;
+use crate::events::{Fluent, PermId, RoleId};
 use crate::lists::Memory;
 use std::alloc::Global;
 use std::marker::Model;
@@ -78,11 +80,25 @@ impl Known {
         place_by(&self.fluents, self.guess(f), f)
     }
 
+    /// The only role to which a known fluent grants the permission, where it is quickly found that there is just one.
+    pub(crate) fn only_role(&self, perm: PermId) -> Option<RoleId>
+        ensures { IfSome result (λ role. (r : RoleId) → is_among self.now (Granted perm r) ≡ true → r ≡ role) }
+    {
+        only_at(
+            &self.fluents,
+            self.guess(Fluent::Granted(perm, RoleId(0))),
+            perm,
+        )
+    }
+
     /// Where to look for the fluent first.
     fn guess(&self, f: Fluent) -> usize {
         let (_, _, second) = names_of(f);
         let slot = slot_of(self.width, f);
         let low = start_at(&self.starts, slot);
+        if second == 0 {
+            return low;
+        }
         let high = start_at(&self.starts, slot.saturating_add(1));
         match self.seconds.get(low..high) {
             Some(span) => low + place_in(span, second),
@@ -217,6 +233,75 @@ fn is_before(fluents: &[Fluent], at: usize, f: Fluent) -> bool
         return true;
     }
     is_above(fluents, at, f)
+}
+
+/// The role to which the fluent at the place grants the permission, if it does, and its neighbours grant it to nobody.
+fn only_at(fluents: &[Fluent], at: usize, perm: PermId) -> Option<RoleId>
+    requires { Rises fluent_cmp fluents.now }
+    ensures { IfSome result (λ role. (r : RoleId) → is_among fluents.now (Granted perm r) ≡ true → r ≡ role) }
+{
+    let role = granted_at(fluents, at, perm)?;
+    if is_first(fluents, at, perm) && is_last(fluents, at, perm) {
+        Some(role)
+    } else {
+        None
+    }
+}
+
+/// The role to which the fluent at the place grants the permission, if it does.
+fn granted_at(fluents: &[Fluent], at: usize, perm: PermId) -> Option<RoleId>
+    ensures { IfSome result (λ role. (at < length fluents.now) × HoldsAt (λ k. k ≡ Granted perm role) fluents.now at) }
+{
+    match fluents.get(at) {
+        Some(Fluent::Granted(p, role)) if p.0 == perm.0 => Some(*role),
+        _ => None,
+    }
+}
+
+/// Whether nothing stands before the place, or what stands there is below each fluent that grants the permission.
+fn is_first(fluents: &[Fluent], at: usize, perm: PermId) -> bool
+    ensures { result ≡ true → (at ≡ 0) ⊎ ((at - 1 < length fluents.now) × HoldsAt (λ k. (r : RoleId) → fluent_cmp k (Granted perm r) ≡ Less) fluents.now (at - 1)) }
+{
+    if at == 0 {
+        return true;
+    }
+    match fluents.get(at - 1) {
+        Some(there) => is_below_all(*there, perm),
+        None => false,
+    }
+}
+
+/// Whether nothing stands after the place, or what stands there is above each fluent that grants the permission.
+fn is_last(fluents: &[Fluent], at: usize, perm: PermId) -> bool
+    requires { at < length fluents.now }
+    ensures { result ≡ true → (at + 1 ≡ length fluents.now) ⊎ ((at + 1 < length fluents.now) × HoldsAt (λ k. (r : RoleId) → fluent_cmp k (Granted perm r) ≡ Greater) fluents.now (at + 1)) }
+{
+    match fluents.get(at + 1) {
+        Some(there) => is_above_all(*there, perm),
+        None => true,
+    }
+}
+
+/// Whether the fluent is below each that grants the permission.
+fn is_below_all(f: Fluent, perm: PermId) -> bool
+    ensures { result ≡ true → (r : RoleId) → fluent_cmp f (Granted perm r) ≡ Less }
+{
+    match f {
+        Fluent::Enabled(_) | Fluent::Assigned(_, _) => true,
+        Fluent::Granted(p, _) => p.0 < perm.0,
+        Fluent::Limit(_) | Fluent::Edge(_) => false,
+    }
+}
+
+/// Whether the fluent is above each that grants the permission.
+fn is_above_all(f: Fluent, perm: PermId) -> bool
+    ensures { result ≡ true → (r : RoleId) → fluent_cmp f (Granted perm r) ≡ Greater }
+{
+    match f {
+        Fluent::Enabled(_) | Fluent::Assigned(_, _) => false,
+        Fluent::Granted(p, _) => p.0 > perm.0,
+        Fluent::Limit(_) | Fluent::Edge(_) => true,
+    }
 }
 
 /// Whether what stands at the place is below the fluent.

@@ -9,7 +9,6 @@ use std::marker::Model;
 /// A trigger: at an instant at which its body is met its head follows after the delay, in minutes; at once where the
 /// delay is 0. Its conditions are asked of the status before the instant, its settled conditions of the status after it.
 /// Triggers are seen without the room of their lists.
-#[derive(Drop)]
 pub struct Trigger {
     pub events: List<Event>,
     pub signals: List<Signal>,
@@ -17,6 +16,19 @@ pub struct Trigger {
     pub settled: List<Cond>,
     pub head: Prioritised,
     pub delay: u32,
+}
+
+impl Drop for Trigger {
+    fn drop(self) {
+        let Trigger {
+            events: _,
+            signals: _,
+            conds: _,
+            settled: _,
+            head: _,
+            delay: _,
+        } = self;
+    }
 }
 
 impl Model for Trigger {

@@ -45,12 +45,22 @@ pub enum Seen {
 }
 
 /// The answer to a check: a permit with the least walk that leads to the permission, or why there is none.
-#[derive(Drop)]
 pub enum Decision {
     Permit { walk: Walk },
     NoActive,
     NoGrant,
     Shut { edge: u32 },
+}
+
+impl Drop for Decision {
+    fn drop(self) {
+        match self {
+            Decision::Permit { walk: _ } => {}
+            Decision::NoActive => {}
+            Decision::NoGrant => {}
+            Decision::Shut { edge: _ } => {}
+        }
+    }
 }
 
 /// Why a request was refused.
@@ -72,7 +82,6 @@ pub enum Refusal {
 }
 
 /// What a request was answered.
-#[derive(Drop)]
 pub enum Reply {
     Now(Instant),
     Truth(bool),
@@ -85,8 +94,23 @@ pub enum Reply {
     Refused(Refusal),
 }
 
+impl Drop for Reply {
+    fn drop(self) {
+        match self {
+            Reply::Now(_) => {}
+            Reply::Truth(_) => {}
+            Reply::Event(_) => {}
+            Reply::Queued(_) => {}
+            Reply::Session(_) => {}
+            Reply::Done => {}
+            Reply::Active(_) => {}
+            Reply::Decided(_) => {}
+            Reply::Refused(_) => {}
+        }
+    }
+}
+
 /// A tick with its bound and where it stopped, or a request with its reply.
-#[derive(Drop)]
 pub enum Step {
     Tick {
         upto: Instant,
@@ -99,11 +123,29 @@ pub enum Step {
     },
 }
 
+impl Drop for Step {
+    fn drop(self) {
+        match self {
+            Step::Tick { upto: _, to: _ } => {}
+            Step::Ask {
+                actor: _,
+                request: _,
+                reply: _,
+            } => {}
+        }
+    }
+}
+
 /// An entry of a history.
-#[derive(Drop)]
 pub struct Entry {
     pub who: Who,
     pub what: Step,
+}
+
+impl Drop for Entry {
+    fn drop(self) {
+        let Entry { who: _, what: _ } = self;
+    }
 }
 
 impl Decision {

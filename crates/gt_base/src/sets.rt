@@ -1,12 +1,14 @@
 //! Sets of events, signals and fluents, whose room is taken ahead: events and signals as rising rows, fluents by flags and as words.
-ghost use Rattle.std.specs.Prelude.{◌≡◌, ◌≤◌, ◌+◌, ◌<◌, if◌then◌else◌, length, slice_get, Some, OnOk, IfOk, vec_capacity, vec_len};
+ghost use Rattle.std.specs.Prelude.{◌≡◌, ◌≤◌, ◌+◌, ◌<◌, if◌then◌else◌, length, slice_get, true, Some, OnOk, IfOk, IfSome, vec_capacity, vec_len};
+ghost use Rattle.gt_base.specs.declared.events.RoleId.{RoleId};
+ghost use Rattle.gt_base.specs.declared.events.Fluent.TheVariants.{Granted};
 ghost use Rattle.gt_base.specs.Sets.{has, members, none, with_member, without};
 ghost use Rattle.gt_base.specs.Happening.{nothing};
 ghost use Rattle.gt_base.specs.Words.{AreWords};
 ghost use Rattle.gt_base.specs.Flags.{AreApart, set_of_parts};
 
-use crate::events::{Event, Fluent, Prioritised, Signal};
-use crate::flags::{Flags, gathered, is_on_in};
+use crate::events::{Event, Fluent, PermId, Prioritised, RoleId, Signal};
+use crate::flags::{Flags, gathered, is_on_in, only_role_in};
 use crate::lists::{List, Memory};
 use crate::rows::{is_in, put};
 use crate::words::{Word, add_all, ascending, turn_off, turn_on};
@@ -104,10 +106,18 @@ impl EventSet {
 
 /// What happens at an instant: a set of prioritised events and a set of signals, seen with the number of further
 /// events, and as well of signals, that it has room for.
-#[derive(Drop)]
 pub struct Happened {
     events: Vec<Prioritised>,
     signals: Vec<Signal>,
+}
+
+impl Drop for Happened {
+    fn drop(self) {
+        let Happened {
+            events: _,
+            signals: _,
+        } = self;
+    }
 }
 
 impl Model for Happened {
@@ -294,7 +304,9 @@ impl Status {
             flags: self.flags.copied()?,
             words: Vec::from_slice(*self.words.allocator(), &self.words)?,
         };
-        copy.gather()?;
+        let few = copy.flags.len() <= 2_048;
+        let most = if few { 0 } else { copy.flags.len() / 32 };
+        copy.gather_past(most)?;
         Ok(copy)
     }
 
@@ -303,7 +315,16 @@ impl Status {
         ensures set { self.new.set ≡ self.old.set }
         ensures spare { self.old.spare ≤ self.new.spare }
     {
-        if self.words.len() > self.flags.len() / 32 {
+        let most = self.flags.len() / 32;
+        self.gather_past(most)
+    }
+
+    /// The same, once there are more words than so many.
+    fn gather_past(&mut self, most: usize) -> Result<(), Memory>
+        ensures set { self.new.set ≡ self.old.set }
+        ensures spare { self.old.spare ≤ self.new.spare }
+    {
+        if self.words.len() > most {
             self.flags = gathered(*self.words.allocator(), &self.flags, &self.words)?;
             self.words.clear();
         }
@@ -324,6 +345,14 @@ impl Status {
         ensures { result ≡ has self.now.set f }
     {
         is_on_in(&self.flags, &self.words, f)
+    }
+
+    /// A role such that the permission is granted to no other, where the status finds one without a look at many fluents; it may find none
+    /// where there is one. Whether the permission is granted to it, `is_on` tells. It takes no memory.
+    pub fn only_role(&self, perm: PermId) -> Option<RoleId>
+        ensures { IfSome result (λ role. (r : RoleId) → has self.now.set (Granted perm r) ≡ true → r ≡ role) }
+    {
+        only_role_in(&self.flags, &self.words, perm)
     }
 
     /// Sets the fluent on or off, into room that was made before.

@@ -1,8 +1,12 @@
 //! Sets of fluents as ascending words of 64 bits, each of fluents that stand side by side in one row.
-ghost use Rattle.std.specs.Prelude.{◌≡◌, ◌≤◌, ◌+◌, ◌*◌, ◌^◌, ◌%◌, ◌<◌, ◌++◌, flat_map, OnOk, IfOk, IfErr, vec_capacity, vec_len};
+ghost use Rattle.std.specs.Prelude.{◌≡◌, ◌≤◌, ◌+◌, ◌*◌, ◌^◌, ◌%◌, ◌<◌, ◌++◌, true, false, flat_map, OnOk, IfOk, IfErr, vec_capacity, vec_len};
+ghost use Rattle.std.specs.List.{list_any};
+ghost use Rattle.gt_base.specs.declared.events.Fluent.TheVariants.{Granted};
+ghost use Rattle.gt_base.specs.declared.events.PermId.{PermId as PermView};
+ghost use Rattle.gt_base.specs.declared.events.RoleId.{RoleId as RoleView};
 ghost use Rattle.gt_base.specs.Orders.{fluent_cmp};
 ghost use Rattle.gt_base.specs.Sets.{has, members, set_of, with_member, without};
-ghost use Rattle.gt_base.specs.Words.{row_of, first_of, place_of, fluent_in, fluents_of, set_of_words, AreWords, StandsAt, GoesAt};
+ghost use Rattle.gt_base.specs.Words.{row_of, first_of, place_of, fluent_in, fluents_of, set_of_words, is_of_perms, AreWords, StandsAt, GoesAt};
 
 use crate::events::{Fluent, LimitId, PermId, RoleId, UserId};
 use crate::lists::Memory;
@@ -111,6 +115,27 @@ pub(crate) fn is_on(words: &[Word], f: Fluent) -> bool
         Ok(i) => words[i].bits & bit_of(f) != 0,
         Err(_) => false,
     }
+}
+
+/// Whether no word is of a row of permissions: then none grants anything.
+pub(crate) fn grant_nothing(words: &[Word]) -> bool
+    ensures { result ≡ true → (p : PermView) (r : RoleView) → has (set_of_words words.now) (Granted p r) ≡ false }
+{
+    !has_perms(words)
+}
+
+/// Whether a word is of a row of permissions.
+fn has_perms(words: &[Word]) -> bool
+    ensures { result ≡ list_any (λ w. is_of_perms w.place.row) words.now }
+{
+    words.iter().any(|w| is_of_perms(w.place.row))
+}
+
+/// Whether the row is one of permissions.
+fn is_of_perms(row: Row) -> bool
+    ensures { result ≡ is_of_perms row }
+{
+    matches!(row, Row::PermsOf(_))
 }
 
 /// Sets the fluent on. One further word at most.

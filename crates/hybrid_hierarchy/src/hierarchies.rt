@@ -14,10 +14,15 @@ use std::marker::Model;
 
 /// The edges of a hierarchy, seen as their list, with an index by the role that each leads from. The index does not speak of a status: it
 /// stays while the edges stay, and answers each question as the call of the same name over the list does.
-#[derive(Drop)]
 pub struct Hierarchy {
     edges: Vec<HierEdge>,
     out: Outgoing,
+}
+
+impl Drop for Hierarchy {
+    fn drop(self) {
+        let Hierarchy { edges: _, out: _ } = self;
+    }
 }
 
 impl Model for Hierarchy {

@@ -1,5 +1,8 @@
 //! What is asked of a hierarchy in a status.
-ghost use Rattle.std.specs.Prelude.{◌≡◌, ℕ, Bool, true, false};
+ghost use Rattle.std.specs.Prelude.{◌≡◌, ℕ, Bool, true, false, Some};
+ghost use Rattle.gt_base.specs.Sets.{has};
+ghost use Rattle.gt_base.specs.declared.events.Fluent.TheVariants.{Granted};
+ghost use Rattle.gt_base.specs.declared.events.RoleId.{RoleId as RoleView};
 
 use crate::walks::usable;
 use gt_base::{Fluent, HierEdge, PermId, RoleId, Status};
@@ -62,11 +65,25 @@ impl<'a> Question for Activating<'a> {
     }
 }
 
+/// Whether the permission is granted to the role, where it is granted to no other than the one that is known, if there is one.
+fn is_granted(status: &Status, perm: PermId, only: Option<RoleId>, role: RoleId) -> bool
+    requires { (known r : RoleView) → only ≡ Some known → has status.now.set (Granted perm r) ≡ true → r ≡ known }
+    ensures { result ≡ has status.now.set (Granted perm role) }
+{
+    match only {
+        Some(known) if known.0 != role.0 => false,
+        _ => status.is_on(Fluent::Granted(perm, role)),
+    }
+}
+
 /// By which walk of usable edges the permission is lent.
 #[derive(Clone, Copy)]
 pub(crate) struct Lending<'a> {
     pub(crate) status: &'a Status,
     pub(crate) perm: PermId,
+    /// To no other role is it granted.
+    pub(crate) only: Option<RoleId>,
+    ghost alone: { (known r : RoleView) → only ≡ Some known → has status.now.set (Granted perm r) ≡ true → r ≡ known },
 }
 
 impl<'a> Question for Lending<'a> {
@@ -92,7 +109,7 @@ impl<'a> Question for Lending<'a> {
     }
 
     fn is_goal(&self, role: RoleId) -> bool {
-        self.status.is_on(Fluent::Granted(self.perm, role))
+        is_granted(self.status, self.perm, self.only, role)
     }
 }
 
@@ -101,6 +118,9 @@ impl<'a> Question for Lending<'a> {
 pub(crate) struct LendingByAny<'a> {
     pub(crate) status: &'a Status,
     pub(crate) perm: PermId,
+    /// To no other role is it granted.
+    pub(crate) only: Option<RoleId>,
+    ghost alone: { (known r : RoleView) → only ≡ Some known → has status.now.set (Granted perm r) ≡ true → r ≡ known },
 }
 
 impl<'a> Question for LendingByAny<'a> {
@@ -123,6 +143,6 @@ impl<'a> Question for LendingByAny<'a> {
     }
 
     fn is_goal(&self, role: RoleId) -> bool {
-        self.status.is_on(Fluent::Granted(self.perm, role))
+        is_granted(self.status, self.perm, self.only, role)
     }
 }

@@ -179,7 +179,9 @@ pub(crate) fn lending(
     requires outgoing { IsOutgoing edges.now out.now.first.items out.now.next.items }
     ensures { IfOk result (λ walk. walk ≡ permission_walk edges.now (has status.now.set) active.now perm) }
 {
-    least_from(alloc, edges, out, active, &Lending { status, perm })
+    let only = status.only_role(perm);
+    let asked = Lending { status, perm, only };
+    least_from(alloc, edges, out, active, &asked)
 }
 
 /// The same walk where all edges that lend permissions are taken.
@@ -195,7 +197,9 @@ pub(crate) fn lending_by_any(
     requires outgoing { IsOutgoing edges.now out.now.first.items out.now.next.items }
     ensures { IfOk result (λ walk. walk ≡ permission_walk_of_any edges.now (has status.now.set) active.now perm) }
 {
-    least_from(alloc, edges, out, active, &LendingByAny { status, perm })
+    let only = status.only_role(perm);
+    let asked = LendingByAny { status, perm, only };
+    least_from(alloc, edges, out, active, &asked)
 }
 
 /// By which walk of usable edges the user may activate the role: the least by the number of its edges, then by the number of the assigned

@@ -21,11 +21,20 @@ use std::alloc::Global;
 use trigger_rules::Rules;
 
 /// The numbers of the triggers by the levels of their heads, found once for all instants.
-#[derive(Drop)]
 pub struct TriggerLevels {
     index: IndexMap<u64, Vec<u32>>,
     count: u64,
     caused: bool,
+}
+
+impl Drop for TriggerLevels {
+    fn drop(self) {
+        let TriggerLevels {
+            index: _,
+            count: _,
+            caused: _,
+        } = self;
+    }
 }
 
 impl TriggerLevels {

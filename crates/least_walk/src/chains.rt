@@ -19,10 +19,15 @@ pub(crate) struct Chains {
 }
 
 /// The edges of each node: those that begin there, and those that end there.
-#[derive(Drop)]
 pub struct Adjacency {
     pub(crate) out: Chains,
     pub(crate) into: Chains,
+}
+
+impl Drop for Adjacency {
+    fn drop(self) {
+        let Adjacency { out: _, into: _ } = self;
+    }
 }
 
 impl Adjacency {

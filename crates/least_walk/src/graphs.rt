@@ -14,10 +14,15 @@ pub struct GraphEdge {
 }
 
 /// Nodes from 0 up to their number, and edges numbered from 0 in the order in which they were added.
-#[derive(Drop)]
 pub struct Graph {
     nodes: u32,
     edges: Vec<GraphEdge>,
+}
+
+impl Drop for Graph {
+    fn drop(self) {
+        let Graph { nodes: _, edges: _ } = self;
+    }
 }
 
 impl Model for Graph {

@@ -8,10 +8,18 @@ use std::alloc::Global;
 use std::marker::Model;
 
 /// All intervals of a calendar, or those with these numbers, ascending without repeats. Seen without the room of its list.
-#[derive(Drop)]
 pub struct ExprPart {
     pub calendar: Calendar,
     pub set: Option<List<u32>>,
+}
+
+impl Drop for ExprPart {
+    fn drop(self) {
+        let ExprPart {
+            calendar: _,
+            set: _,
+        } = self;
+    }
 }
 
 impl Model for ExprPart {
@@ -58,11 +66,20 @@ fn copied_parts(alloc: Global, parts: &[ExprPart]) -> Result<Vec<ExprPart>, Memo
 
 /// A periodic expression: its parts, of which the first takes all, and its length. It is valid by its type, and seen as
 /// its list of parts and its length with its calendar.
-#[derive(Drop)]
 pub struct Expr {
     parts: List<ExprPart>,
     count: u32,
     unit: Calendar,
+}
+
+impl Drop for Expr {
+    fn drop(self) {
+        let Expr {
+            parts: _,
+            count: _,
+            unit: _,
+        } = self;
+    }
 }
 
 impl Model for Expr {
@@ -122,11 +139,20 @@ impl Expr {
 }
 
 /// The instants of an expression from the first to the last, both included; the first is not after the last.
-#[derive(Drop)]
 pub struct Period {
     pub first: Instant,
     pub last: Instant,
     pub expr: Expr,
+}
+
+impl Drop for Period {
+    fn drop(self) {
+        let Period {
+            first: _,
+            last: _,
+            expr: _,
+        } = self;
+    }
 }
 
 impl Model for Period {

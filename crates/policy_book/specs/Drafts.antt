@@ -3,7 +3,9 @@ use Rattle.std.specs.Prelude.{Bool, List, length}
 use Rattle.gt_base.specs.declared.events.UserId.{UserId}
 use Rattle.gt_base.specs.Happening.{Fluents}
 use Rattle.policy_words.specs.Naming.{Names, NamedPolicy}
-use Rattle.policy_words.specs.Making.{Draft as Making, policy_of}
+use Rattle.gtrbac_model.specs.Same.{same_user, same_fluent}
+use Rattle.policy_words.specs.Sayings.{SaidView}
+use Rattle.policy_words.specs.Making.{Draft as Making, policy_of, with_item, with_new, limit_said, edge_said, with_caps_said, admin_said, opening_said, entry_said, rule_said}
 use Rattle.policy_book.specs.declared.drafts.Draft.{Draft}
 
 abbrev pub seen_draft : Draft → Making
@@ -16,6 +18,19 @@ seen_draft d = record {
   on_at_first = d.on_at_first.keys;
   entries = d.entries.items;
   triggers = d.triggers.items;
+}
+
+-- with what a line says but for its period
+abbrev pub adding_numbers : Names → Making → SaidView → Making
+adding_numbers ns d s = record {
+  periods = d.periods;
+  limits = with_item (limit_said ns s) d.limits;
+  edges = with_item (edge_said ns s) d.edges;
+  caps = with_caps_said ns s d.caps;
+  admins = with_new same_user (admin_said ns s) d.admins;
+  on_at_first = with_new same_fluent (opening_said ns s) d.on_at_first;
+  entries = with_item (entry_said ns s) d.entries;
+  triggers = with_item (rule_said ns s) d.triggers;
 }
 
 -- the policy that a finished draft makes in version 2, or else 1, with its names

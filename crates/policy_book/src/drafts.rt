@@ -9,7 +9,7 @@ ghost use Rattle.policy_words.specs.Book.{said_in};
 ghost use Rattle.policy_book.specs.Said.{are_sayings};
 ghost use Rattle.policy_book.specs.Seen.{seen_names};
 ghost use Rattle.policy_book.specs.Numbers.{AreFew};
-ghost use Rattle.policy_book.specs.Drafts.{seen_draft, policy_with};
+ghost use Rattle.policy_book.specs.Drafts.{seen_draft, adding_numbers, policy_with};
 
 use crate::books::Policy;
 use crate::lines::Part;
@@ -158,19 +158,29 @@ impl Draft {
         })
     }
 
+    /// Adds what a line says but for its period.
+    fn add_numbers(&mut self, alloc: Global, names: &NameTables, said: &Said) -> Result<(), Memory>
+        requires { AreFew 4_294_967_295 (seen_names names.now) }
+        ensures { OnOk result (seen_draft self.new ≡ adding_numbers (seen_names names.now) (seen_draft self.old) (seen_said said.now)) }
+    {
+        add_item(&mut self.limits, limit_in(names, said))?;
+        add_item(&mut self.edges, edge_in(names, said))?;
+        cap(&mut self.caps, names, said);
+        add_user(&mut self.admins, admin_in(names, said))?;
+        add_fluent(&mut self.on_at_first, opening_in(names, said))?;
+        add_item(&mut self.entries, entry_in(names, said))?;
+        let trigger = trigger_in(alloc, names, said)?;
+        add_item(&mut self.triggers, trigger)?;
+        Ok(())
+    }
+
     /// Adds what a line says.
     fn add(&mut self, alloc: Global, names: &NameTables, said: Said) -> Result<(), Memory>
         requires few { AreFew 4_294_967_295 (seen_names names.now) }
         requires said { IsTrue (is_saying (seen_said said)) }
         ensures { OnOk result (seen_draft self.new ≡ adding (seen_names names.now) (seen_draft self.old) (seen_said said)) }
     {
-        add_item(&mut self.limits, limit_in(names, &said))?;
-        add_item(&mut self.edges, edge_in(names, &said))?;
-        cap(&mut self.caps, names, &said);
-        add_user(&mut self.admins, admin_in(names, &said))?;
-        add_fluent(&mut self.on_at_first, opening_in(names, &said))?;
-        add_item(&mut self.entries, entry_in(names, &said))?;
-        add_item(&mut self.triggers, trigger_in(alloc, names, &said)?)?;
+        self.add_numbers(alloc, names, &said)?;
         add_item(&mut self.periods, period_in(said))?;
         Ok(())
     }
@@ -220,7 +230,7 @@ pub(crate) fn draft_of(alloc: Global, names: &NameTables, parts: Vec<Part>) -> R
     let mut draft = Draft::new(alloc, names)?;
     let mut rest = parts.into_iter();
     while let Some(part) = rest.next() {
-        draft.add(alloc, names, part.said)?;
+        draft.add(alloc, names, part.into_said())?;
     }
     Ok(draft)
 }

@@ -10,10 +10,25 @@ use std::alloc::{AllocError, Global};
 use std::marker::Model;
 
 /// What a line says, with the line's number from 1.
-#[derive(Drop)]
 pub struct Part {
     pub line: u32,
     pub said: Said,
+}
+
+impl Drop for Part {
+    fn drop(self) {
+        let Part { line: _, said: _ } = self;
+    }
+}
+
+impl Part {
+    /// What the line says.
+    pub(crate) fn into_said(self) -> Said
+        ensures { seen_said result ≡ self.it }
+    {
+        let Part { line: _, said } = self;
+        said
+    }
 }
 
 impl Model for Part {

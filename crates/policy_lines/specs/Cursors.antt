@@ -4,7 +4,8 @@ use Rattle.gt_base.specs.Names.{name_in}
 use Rattle.policy_words.specs.declared.parts.Item.{Item}
 use Rattle.policy_words.specs.declared.parts.Item.TheVariants.{Signal, Cond, Settled}
 use Rattle.policy_words.specs.Wording.{◌>>=◌, Read, signal_at, cond_at, settled_at, or_else}
-use Rattle.policy_words.specs.Reading.{items_at}
+use Rattle.policy_words.specs.Sayings.{SaidView, limit}
+use Rattle.policy_words.specs.Reading.{items_at, most_at, during_in}
 
 -- a name
 abbrev pub name_at : Read (List ℕ)
@@ -30,3 +31,11 @@ items_of ws = items_at (length ws) ws
 abbrev pub onto : List Item → Option (List Item × List (List ℕ)) → Option (List Item × List (List ℕ))
 onto front None = None
 onto front (Some r) = Some (front ++ r.0, r.1)
+
+-- a limit behind its name and its priority
+abbrev pub limit_behind : List ℕ → ℕ → List (List ℕ) → Option SaidView
+limit_behind name prio ws = do
+  c ← cond_at ws
+  most ← most_at c.1
+  during ← during_in most.1
+  Some (limit name prio c.0 most.0 during)

@@ -5,10 +5,11 @@ ghost use Rattle.policy_words.specs.Sayings.{SaidView, kind_word, strength_word,
 ghost use Rattle.policy_words.specs.Seen.{seen_said};
 ghost use Rattle.policy_words.specs.Reading.{formed as formed_by, one_name as named, most_at, during_in, limit_in, spelled_so, edge_in, cap_in, opening_by, linked_by, entry_in, version_in, version_by};
 ghost use Rattle.policy_lines.specs.Answered.{Answers};
+ghost use Rattle.policy_lines.specs.Cursors.{limit_behind};
 
 use crate::parts::{cond_of, next_cond, next_head, read_prio};
 use crate::units::{next_name, number_from, read_name, same};
-use gt_base::{Form, Name};
+use gt_base::{Form, Name, Prio};
 use gt_text::Words;
 use policy_words::{CapKind, EdgeKind, Said, TextKind};
 
@@ -86,14 +87,10 @@ fn read_during(mut words: Words<'_>) -> Option<Option<Name>>
     Some(Some(read_name(period)?))
 }
 
-/// What a line of a limit says.
-pub(crate) fn limit(mut words: Words<'_>) -> Option<Said>
-    ensures { option_map seen_said result ≡ limit_in words.entry }
+/// What the words of a limit behind its name and its priority say.
+fn limit_of(name: Name, prio: Prio, mut words: Words<'_>) -> Option<Said>
+    ensures { option_map seen_said result ≡ limit_behind name prio words.entry }
 {
-    let name = words.next()?;
-    let prio = words.next()?;
-    let name = read_name(name)?;
-    let prio = read_prio(99, prio)?;
     let cond = next_cond(&mut words)?;
     let most = next_most(&mut words)?;
     let period = read_during(words)?;
@@ -104,6 +101,17 @@ pub(crate) fn limit(mut words: Words<'_>) -> Option<Said>
         most,
         period,
     })
+}
+
+/// What a line of a limit says.
+pub(crate) fn limit(mut words: Words<'_>) -> Option<Said>
+    ensures { option_map seen_said result ≡ limit_in words.entry }
+{
+    let name = words.next()?;
+    let prio = words.next()?;
+    let name = read_name(name)?;
+    let prio = read_prio(99, prio)?;
+    limit_of(name, prio, words)
 }
 
 fn edge_kind(word: &[u8]) -> Option<EdgeKind>
@@ -132,17 +140,10 @@ fn strength(word: &[u8]) -> Option<bool>
     }
 }
 
-/// What a line of an edge says.
-pub(crate) fn edge(mut words: Words<'_>) -> Option<Said>
-    ensures { option_map seen_said result ≡ edge_in words.entry }
+/// What the four words of an edge say.
+fn edge_of(kind: &[u8], strong: &[u8], senior: &[u8], junior: &[u8]) -> Option<Said>
+    ensures { option_map seen_said result ≡ edge_in (kind.now ∷ strong.now ∷ senior.now ∷ junior.now ∷ []) }
 {
-    let kind = words.next()?;
-    let strong = words.next()?;
-    let senior = words.next()?;
-    let junior = words.next()?;
-    if words.next().is_some() {
-        return None;
-    }
     let kind = edge_kind(kind)?;
     let strong = strength(strong)?;
     let senior = read_name(senior)?;
@@ -153,6 +154,20 @@ pub(crate) fn edge(mut words: Words<'_>) -> Option<Said>
         senior,
         junior,
     })
+}
+
+/// What a line of an edge says.
+pub(crate) fn edge(mut words: Words<'_>) -> Option<Said>
+    ensures { option_map seen_said result ≡ edge_in words.entry }
+{
+    let kind = words.next()?;
+    let strong = words.next()?;
+    let senior = words.next()?;
+    let junior = words.next()?;
+    match words.next() {
+        Some(_) => None,
+        None => edge_of(kind, strong, senior, junior),
+    }
 }
 
 fn cap_kind(word: &[u8]) -> Option<CapKind>
@@ -171,6 +186,16 @@ fn cap_kind(word: &[u8]) -> Option<CapKind>
     }
 }
 
+/// What the three words of a cap say.
+fn cap_of(kind: &[u8], role: &[u8], n: &[u8]) -> Option<Said>
+    ensures { option_map seen_said result ≡ cap_in (kind.now ∷ role.now ∷ n.now ∷ []) }
+{
+    let kind = cap_kind(kind)?;
+    let role = read_name(role)?;
+    let n = number_from(1, 1_000_000, n)?;
+    Some(Said::Cap { kind, role, n })
+}
+
 /// What a line of a cap says.
 pub(crate) fn cap(mut words: Words<'_>) -> Option<Said>
     ensures { option_map seen_said result ≡ cap_in words.entry }
@@ -178,13 +203,10 @@ pub(crate) fn cap(mut words: Words<'_>) -> Option<Said>
     let kind = words.next()?;
     let role = words.next()?;
     let n = words.next()?;
-    if words.next().is_some() {
-        return None;
+    match words.next() {
+        Some(_) => None,
+        None => cap_of(kind, role, n),
     }
-    let kind = cap_kind(kind)?;
-    let role = read_name(role)?;
-    let n = number_from(1, 1_000_000, n)?;
-    Some(Said::Cap { kind, role, n })
 }
 
 /// What a line of opening status says.

@@ -1,5 +1,5 @@
 //! Lines of periods.
-ghost use Rattle.std.specs.Prelude.{◌≡◌, ◌≤◌, length, option_map, Ok, Err};
+ghost use Rattle.std.specs.Prelude.{◌≡◌, ◌≤◌, ◌∷◌, [], length, option_map, Ok, Err};
 ghost use Rattle.gt_base.specs.Bounds.{last_minute};
 ghost use Rattle.policy_words.specs.Reading.{first_in, last_in, bounds_in, with_expr, period_by};
 ghost use Rattle.periodic_expr.specs.Reading.{read_expr};
@@ -43,6 +43,16 @@ fn last_instant(word: &[u8]) -> Option<Instant>
     }
 }
 
+/// The name and the bounds that three words are.
+fn bounds_of(name: &[u8], first: &[u8], last: &[u8]) -> Option<PeriodBounds>
+    ensures { option_map seen_bounds result ≡ bounds_in (name.now ∷ first.now ∷ last.now ∷ []) }
+{
+    let name = read_name(name)?;
+    let first = first_instant(first)?;
+    let last = last_instant(last)?;
+    Some(PeriodBounds { name, first, last })
+}
+
 /// The name and the bounds at the front.
 fn bounds(mut words: Words<'_>) -> Option<PeriodBounds>
     ensures { option_map seen_bounds result ≡ bounds_in words.entry }
@@ -50,10 +60,7 @@ fn bounds(mut words: Words<'_>) -> Option<PeriodBounds>
     let name = words.next()?;
     let first = words.next()?;
     let last = words.next()?;
-    let name = read_name(name)?;
-    let first = first_instant(first)?;
-    let last = last_instant(last)?;
-    Some(PeriodBounds { name, first, last })
+    bounds_of(name, first, last)
 }
 
 /// The period with these bounds and the expression of a text.

@@ -6,9 +6,14 @@ use std::alloc::AllocError;
 use std::marker::Model;
 
 /// Levels of the nodes, which do not fall along an edge and rise along a marked one.
-#[derive(Drop)]
 pub struct Strata {
     pub(crate) levels: Vec<u32>,
+}
+
+impl Drop for Strata {
+    fn drop(self) {
+        let Strata { levels: _ } = self;
+    }
 }
 
 impl Model for Strata {

@@ -189,6 +189,33 @@ fn minutes(table: &mut Sessions, case: &Case, now: u32, times: u32) -> Result<()
     Ok(())
 }
 
+// A minute before which the status has not changed: caps alone can drop.
+fn still_minute(table: &mut Sessions, case: &Case, now: u32) -> Result<(), Refused>
+    requires order { NotBefore table.old.charged_to now }
+    requires bound { now < 50_000_000 }
+    ensures { OnOk result (NotBefore table.new.charged_to (now + 1)) }
+{
+    let from = at(now)?;
+    let to = at(now + 1)?;
+    let next = table.next_drop(&case.caps, from);
+    if next.is_some() {
+        return Err(Refused::Usage);
+    }
+    let drops = table.plan_end_still(&case.caps, from, to)?;
+    table.commit_end(drops);
+    Ok(())
+}
+
+fn still_minutes(table: &mut Sessions, case: &Case, now: u32, times: u32) -> Result<(), Refused>
+    requires order { NotBefore table.old.charged_to now }
+    requires bound { now + times < 50_000_000 }
+{
+    for i in 0..times {
+        still_minute(table, case, now + i)?;
+    }
+    Ok(())
+}
+
 // The table of so many sessions, after what the word says was done once.
 fn once(alloc: Global, kind: &[u8], case: &Case) -> Result<(), Refused>
     requires edges { IsHierarchy case.now.edges.items }
@@ -206,6 +233,7 @@ fn once(alloc: Global, kind: &[u8], case: &Case) -> Result<(), Refused>
         b"close-last" => close(&mut table, case.users, u64::from(case.users) - 1),
         b"close-mixed" => close(&mut table, case.users, 7_919),
         b"quiet" => minutes(&mut table, case, 480, 20),
+        b"still" => still_minutes(&mut table, case, 480, 20),
         b"drop" => minute(&mut table, case, &case.off, 480),
         _ => Err(Refused::Usage),
     }

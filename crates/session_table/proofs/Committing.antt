@@ -117,7 +117,7 @@ told_apart test (x ∷ xs) h (suc i) a is =
     let there : 1 ≤ count_by p xs = some_counted p xs (listed xs i a is) in
     split (p x) (λ e. let none : count_by p xs ≤ 0 = none_more p test x xs (h a.session a.role) e in absurd (omega arith)) (λ e. later_told test p x xs (test a) e rest (test x))
 
-filter_by_items : {A : Type 0} (p q : A → Bool) (xs : List A) → ((i : ℕ) (a : A) → item_at xs i ≡ Some a → p a ≡ q a) → filter p xs ≡ filter q xs
+pub filter_by_items : {A : Type 0} (p q : A → Bool) (xs : List A) → ((i : ℕ) (a : A) → item_at xs i ≡ Some a → p a ≡ q a) → filter p xs ≡ filter q xs
 filter_by_items p q [] h = refl
 filter_by_items p q (x ∷ xs) h =
     (λ i. cond (h 0 x refl i) (x ∷ filter p xs) (filter p xs)) ∙ ap (λ ys. cond (q x) (x ∷ ys) ys) (filter_by_items p q xs (λ i. h (suc i)))

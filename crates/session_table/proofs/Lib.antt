@@ -13,3 +13,4 @@ pub mod Committing
 pub mod Closing
 pub mod Capped
 pub mod Ending
+pub mod Uncapped

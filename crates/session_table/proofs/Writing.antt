@@ -1,7 +1,9 @@
 -- Minutes written into a row of charges.
-use Rattle.std.proofs.Common.{◌≡◌, ℕ, ◌+◌, Bool, true, false, cond, ◌&&◌, nat_eq, unwrap_or, List, Option, Some, refl, sym, ap, ◌∙◌, add-zero}
+use Rattle.std.proofs.Common.{◌≡◌, ℕ, zero, suc, ◌+◌, Bool, true, false, cond, ◌&&◌, nat_eq, unwrap_or, List, [], ◌∷◌, slice_get, Option, Some, refl, sym, ap, ◌∙◌, add-zero}
 use Rattle.std.specs.Cmp.{IsEquivalence}
 use Rattle.std.proofs.lemmas.Bool.{eqb-true, eq-eqb}
+use Rattle.indexmap.specs.IndexMap.{IndexMap, IsUnique, set_value_at, with_value_at}
+use Rattle.indexmap.proofs.CallerLemmas.{updates-with_value_at}
 use Rattle.gt_base.specs.declared.events.RoleId.{RoleId}
 use Rattle.gt_base.specs.declared.events.UserId.{UserId}
 use Rattle.session_table.specs.declared.charges.Charge.{Charge}
@@ -46,3 +48,28 @@ more rows k before minutes is u r d =
     let own : before ≡ charged_in rows u r d = is ∙ ap (λ (x : Charge). charged_in rows x.user x.role x.day) same in
     ap (λ b. cond b (before + minutes) (charged_in rows u r d)) e ∙ ap (λ n. n + minutes) own ∙ ap (λ b. charged_in rows u r d + cond b minutes 0) (sym e))
     (λ e. ap (λ b. cond b (before + minutes) (charged_in rows u r d)) e ∙ sym (add-zero (charged_in rows u r d)) ∙ ap (λ b. charged_in rows u r d + cond b minutes 0) (sym e))
+
+-- a value written over itself leaves the rows
+pub written_over : {K X : Type 0} (es : List (K × X)) (i : ℕ) (k : K) (v : X) → slice_get es i ≡ Some (k, v) → set_value_at es i v ≡ es
+written_over [] i k v at = refl
+written_over {K} {X} (e ∷ es) zero k v at = let same : e ≡ (k, v) = cc in ap (λ (p : K × X). (e.0, p.1) ∷ es) (sym same)
+written_over (e ∷ es) (suc i) k v at = ap (λ xs. e ∷ xs) (written_over es i k v at)
+
+module _ {S : Type 0} (m : IndexMap Charge ℕ S) (i : ℕ) (k : Charge) (before : ℕ) (unique : IsUnique charge_eq m) (at : slice_get m.entries i ≡ Some (k, before)) where
+  written : (w : ℕ) (u : UserId) (r : RoleId) (d : ℕ) → charged_in (set_value_at m.entries i w) u r d ≡ cond (is_key k u r d) w (charged_in m.entries u r d)
+  written w u r d =
+      unwrapped _ _ (charge_eq k (record { user = u; role = r; day = d })) w ((updates-with_value_at m i w key_laws unique k before at).0 (record { user = u; role = r; day = d }))
+      ∙ ap (λ b. cond b w (charged_in m.entries u r d)) (keyed k u r d)
+
+  itself : is_key k k.user k.role k.day ≡ true
+  itself = λ j. (eq-eqb k.user.0 k.user.0 refl j && eq-eqb k.role.0 k.role.0 refl j) && eq-eqb k.day k.day refl j
+
+  -- the row has what is charged to its key
+  pub row_says : before ≡ charged_in m.entries k.user k.role k.day
+  row_says =
+      sym (written before k.user k.role k.day ∙ ap (λ b. cond b before (charged_in m.entries k.user k.role k.day)) itself)
+      ∙ ap (λ es. charged_in es k.user k.role k.day) (written_over m.entries i k before at)
+
+  -- and minutes added in it are charged to the key
+  pub row_added : (minutes : ℕ) (u : UserId) (r : RoleId) (d : ℕ) → charged_in (set_value_at m.entries i (before + minutes)) u r d ≡ charged_in m.entries u r d + cond (is_key k u r d) minutes 0
+  row_added minutes u r d = written (before + minutes) u r d ∙ more m.entries k before minutes row_says u r d

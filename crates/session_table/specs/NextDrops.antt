@@ -1,5 +1,5 @@
 -- The least instant at which a cap drops an activation.
-use Rattle.std.specs.Prelude.{◌≡◌, ℕ, ◌+◌, ◌-◌, ◌*◌, ◌<◌, ◌≤◌, ◌||◌, Bool, true, false, count_by, List, Option, MatchOption}
+use Rattle.std.specs.Prelude.{◌≡◌, ℕ, ◌+◌, ◌-◌, ◌*◌, ◌<◌, ◌≤◌, ◌||◌, Bool, true, false, count_by, is_some, List, Option, MatchOption}
 use Rattle.std.specs.List.{list_any}
 use Rattle.gt_base.specs.Bounds.{last_minute}
 use Rattle.gt_base.specs.declared.policies.Caps.{Caps}
@@ -20,6 +20,10 @@ pub record IsFirst (p : ℕ → Bool) (now t : ℕ) : Type 0 where
 -- or none, where it holds at none of them
 abbrev pub IsFirstOrNone : (ℕ → Bool) → ℕ → Option ℕ → Type 0
 IsFirstOrNone p now o = MatchOption o ((u : ℕ) → now < u → u ≤ last_minute → p u ≡ false) (IsFirst p now)
+
+-- whether the role has a cap on the minutes of an activation or of a day, which alone end activations
+abbrev pub limits_minutes : Caps → Bool
+limits_minutes c = is_some c.length || is_some c.day
 
 -- whether a cap drops an activation at the close of t, as long as nothing else ends one
 abbrev pub is_any_capped : List Caps → ℕ → Table → ℕ → Bool

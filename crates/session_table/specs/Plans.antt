@@ -1,9 +1,12 @@
 -- The end of a stretch of minutes, planned before it is made.
-use Rattle.std.specs.Prelude.{◌≡◌, ℕ, ◌*◌, ◌<◌, ◌≤◌, Bool, false, List, length, map, filter}
+use Rattle.std.specs.Prelude.{◌≡◌, ℕ, ◌*◌, ◌<◌, ◌≤◌, Bool, true, false, List, length, map, filter, Some, is_none}
 use Rattle.gt_base.specs.declared.events.Signal.{Signal}
+use Rattle.gt_base.specs.declared.events.Fluent.TheVariants.{Enabled}
 use Rattle.gt_base.specs.declared.policies.Caps.{Caps}
 use Rattle.gt_base.specs.declared.policies.HierEdge.{HierEdge}
 use Rattle.gtrbac_model.specs.Conflict.{Status}
+use Rattle.gtrbac_model.specs.Graph.{item_at}
+use Rattle.gtrbac_model.specs.Hierarchy.{activation_walk}
 use Rattle.gtrbac_model.specs.Sessions.{Table, Activation, signal_of}
 use Rattle.session_table.specs.Charges.{days_between}
 use Rattle.session_table.specs.Tables.{TableView, table_of, NotBefore, dropped_at, closed_at}
@@ -21,6 +24,19 @@ pub record IsPlan (edges : List HierEdge) (caps : List Caps) (s : Status) (now t
   pub upto : d.to ≡ to
   pub gone : d.gone ≡ dropped_at edges caps s now to tb
   pub signals : d.signals ≡ map (signal_of false) d.gone
+
+-- the activation's role is on in the status, and a usable walk lets its user activate it
+pub record Stands (edges : List HierEdge) (s : Status) (a : Activation) : Type 0 where
+  pub on : s (Enabled a.role) ≡ true
+  pub allowed : is_none (activation_walk edges s a.user a.role) ≡ false
+
+-- so it is of each activation
+abbrev pub AllStand : List HierEdge → Status → Table → Type 0
+AllStand edges s tb = (i : ℕ) (a : Activation) → item_at tb.active i ≡ Some a → Stands edges s a
+
+-- the plan is so, for whichever edges and status let each activation stand
+abbrev pub IsPlanWhereAllStand : List Caps → ℕ → ℕ → Table → DropsView → Type 0
+IsPlanWhereAllStand caps now to tb d = (edges : List HierEdge) (s : Status) → AllStand edges s tb → IsPlan edges caps s now to tb d
 
 -- so many further rows of charges the minutes can need: one for each activation and civil day
 abbrev pub need_of : ℕ → ℕ → TableView → ℕ

@@ -1,5 +1,5 @@
 //! Charges: how many minutes of a user's role are charged on a civil day.
-ghost use Rattle.std.specs.Prelude.{◌≡◌, ◌+◌, ◌-◌, ◌*◌, ◌<◌, ◌≤◌, ◌^◌, ◌&&◌, ℕ, true, cond, count_by, length, nat_eq, slice_get, Some, IfOk, IfSome, OnOk};
+ghost use Rattle.std.specs.Prelude.{◌≡◌, ◌+◌, ◌-◌, ◌*◌, ◌<◌, ◌≤◌, ◌^◌, ◌&&◌, ℕ, true, cond, count_by, length, nat_eq, IfOk, OnOk};
 ghost use Rattle.indexmap.specs.IndexMap.{spare};
 ghost use Rattle.gt_base.specs.declared.events.RoleId.{RoleId};
 ghost use Rattle.gt_base.specs.declared.events.UserId.{UserId};
@@ -38,40 +38,21 @@ fn is_same(a: &Charge, b: &Charge) -> bool
     a.user.0 == b.user.0 && a.role.0 == b.role.0 && a.day == b.day
 }
 
-/// The minutes in the row at the place, if it is of the key.
-fn minutes_at(charges: &IndexMap<Charge, u32>, place: usize, key: Charge) -> Option<u32>
-    ensures row { IfSome result (λ n. slice_get charges.now.entries place ≡ Some (key, n)) }
-    ensures charged { IfSome result (λ n. n ≡ charged_in charges.now.entries key.user key.role key.day) }
-{
-    let (found, minutes) = charges.get_index(place)?;
-    if is_same(found, &key) {
-        Some(*minutes)
-    } else {
-        None
-    }
-}
-
-/// Where the row of the key stands, if there is one, and its minutes. It is looked for at the place first.
-fn row_of(charges: &IndexMap<Charge, u32>, place: usize, key: Charge) -> Option<(usize, u32)>
-    ensures row { IfSome result (λ p. slice_get charges.now.entries p.0 ≡ Some (key, p.1)) }
-    ensures charged { IfSome result (λ p. p.1 ≡ charged_in charges.now.entries key.user key.role key.day) }
-{
-    if let Some(minutes) = minutes_at(charges, place, key) {
-        return Some((place, minutes));
-    }
-    let found = charges.get_index_of(&key)?;
-    let minutes = minutes_at(charges, found, key)?;
-    Some((found, minutes))
-}
-
-/// Writes the minutes into the row at the place, which is of the key.
-fn write(charges: &mut IndexMap<Charge, u32>, place: usize, key: Charge, minutes: u32)
-    requires { (n : ℕ) × (slice_get charges.old.entries place ≡ Some (key, n)) }
-    ensures charged { (u : UserId) (r : RoleId) (d : ℕ) → charged_in charges.new.entries u r d ≡ cond (is_key key u r d) minutes (charged_in charges.old.entries u r d) }
+/// Charges minutes into the row at the place, if it is of the key, and says whether it is.
+fn add_at(charges: &mut IndexMap<Charge, u32>, place: usize, key: Charge, minutes: u32) -> bool
+    requires { charged_in charges.old.entries key.user key.role key.day + minutes < 2 ^ 32 }
+    ensures charged { (u : UserId) (r : RoleId) (d : ℕ) → charged_in charges.new.entries u r d ≡ charged_in charges.old.entries u r d + cond (result && is_key key u r d) minutes 0 }
     ensures spare { spare charges.new ≡ spare charges.old }
 {
-    let (_, row) = charges.pair_mut(place);
-    *row = minutes;
+    if place >= charges.len() {
+        return false;
+    }
+    let (found, row) = charges.pair_mut(place);
+    if !is_same(found, &key) {
+        return false;
+    }
+    *row += minutes;
+    true
 }
 
 /// Charges minutes, into room that was made before, and answers the place after that of their row. The row is looked for at the place first.
@@ -81,16 +62,26 @@ fn add(charges: &mut IndexMap<Charge, u32>, place: usize, key: Charge, minutes: 
     ensures charged { (u : UserId) (r : RoleId) (d : ℕ) → charged_in charges.new.entries u r d ≡ charged_in charges.old.entries u r d + cond (is_key key u r d) minutes 0 }
     ensures spare { spare charges.old ≤ spare charges.new + 1 }
 {
-    match row_of(charges, place, key) {
-        Some((found, before)) => {
-            write(charges, found, key, before + minutes);
-            found.saturating_add(1)
-        }
-        None => {
-            add_by_key(charges, key, minutes);
-            charges.len()
+    if add_at(charges, place, key, minutes) {
+        return place.saturating_add(1);
+    }
+    add_elsewhere(charges, key, minutes)
+}
+
+/// Charges minutes, into room that was made before, and answers the place after that of their row, which is looked for by its key.
+fn add_elsewhere(charges: &mut IndexMap<Charge, u32>, key: Charge, minutes: u32) -> usize
+    requires room { 1 ≤ spare charges.old }
+    requires bound { charged_in charges.old.entries key.user key.role key.day + minutes < 2 ^ 32 }
+    ensures charged { (u : UserId) (r : RoleId) (d : ℕ) → charged_in charges.new.entries u r d ≡ charged_in charges.old.entries u r d + cond (is_key key u r d) minutes 0 }
+    ensures spare { spare charges.old ≤ spare charges.new + 1 }
+{
+    if let Some(place) = charges.get_index_of(&key) {
+        if add_at(charges, place, key, minutes) {
+            return place.saturating_add(1);
         }
     }
+    add_by_key(charges, key, minutes);
+    charges.len()
 }
 
 /// Charges minutes, wherever their row stands, into room that was made before.

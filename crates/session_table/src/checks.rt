@@ -1,5 +1,6 @@
 //! Causes of refusals, in their order.
 ghost use Rattle.std.specs.Prelude.{◌≡◌, ◌<◌, ◌≤◌, ◌^◌, [], ◌∷◌, not, map, length, count_by, Some, None, IfOk, IfErr, IfSome, slice_get, slice_index};
+ghost use Rattle.std.specs.List.{list_any};
 ghost use Rattle.gt_base.specs.Sets.{has};
 ghost use Rattle.gt_base.specs.declared.requests.Refusal.TheVariants.{Already, Disabled, RoleFull, UserFull, DaySpent};
 ghost use Rattle.gt_base.specs.declared.events.Fluent.TheVariants.{Enabled};
@@ -9,6 +10,7 @@ ghost use Rattle.gtrbac_model.specs.Sessions.{Table, caps_of, reached, is_of};
 ghost use Rattle.gtrbac_model.specs.Reply.{session_causes};
 ghost use Rattle.session_table.specs.Opened.{opened, AreNumbered};
 ghost use Rattle.session_table.specs.Charges.{charged_in};
+ghost use Rattle.session_table.specs.NextDrops.{limits_minutes};
 ghost use Rattle.session_table.specs.Causes.{first_cause, is_foreign, StandsAt, with_sessions, early_causes, late_causes, full_at};
 
 use crate::activations::{Activation, count_of, count_role};
@@ -80,6 +82,13 @@ pub(crate) fn caps_of(caps: &[Caps], role: RoleId) -> Caps
             day: None,
         },
     }
+}
+
+/// Whether a role has a cap on the minutes of an activation or of a day, which alone end activations.
+pub(crate) fn limit_minutes(caps: &[Caps]) -> bool
+    ensures { result ≡ list_any limits_minutes caps.now }
+{
+    caps.iter().any(|c| c.length.is_some() || c.day.is_some())
 }
 
 /// Which cap refuses an activation of the role by the user on the civil day. What no cap asks for is not counted.

@@ -15,11 +15,12 @@ ghost use Rattle.history_laws.specs.Tables.{minutes_of_day};
 ghost use Rattle.session_table.specs.Charges.{charged_in};
 ghost use Rattle.session_table.specs.Opened.{opened, still_open, role_in, AreNumbered};
 ghost use Rattle.session_table.specs.Dropping.{spent_by, is_dropped, AreBarred};
+ghost use Rattle.session_table.specs.NextDrops.{capped_in};
 
 use crate::activations::{Activation, count_of, signal_of};
 use crate::active::ActiveRow;
 use crate::charges::{Charge, charged, minutes_on};
-use crate::checks::{caps_of, is_reached};
+use crate::checks::{caps_of, is_reached, limit_minutes};
 use crate::opened::{Open, has_role, place, remove_role};
 use civil_time::day;
 use gt_base::{
@@ -277,6 +278,30 @@ pub(crate) fn dropped(
         )?;
         push_if(&mut gone, a, is_gone)?;
         before = found_on(before, a, is_gone);
+    }
+    Ok(gone)
+}
+
+/// The activations that a cap of their roles ends at the close of `to`. Where no role has a cap on minutes, none is looked at. For want of memory
+/// it may refuse.
+pub(crate) fn capped(
+    alloc: Global,
+    caps: &[Caps],
+    charges: &IndexMap<Charge, u32>,
+    active: &[Activation],
+    now: Instant,
+    to: Instant,
+) -> Result<Vec<Activation>, Memory>
+    requires { (u : UserId) (r : RoleId) → count_by (is_of u r) active.now ≤ 10_000 }
+    ensures { IfOk result (λ gone. gone.items ≡ filter (capped_in caps.now charges.now.entries active.now now to) active.now) }
+{
+    let mut gone = Vec::new(alloc);
+    if !limit_minutes(caps) {
+        return Ok(gone);
+    }
+    for a in active {
+        let is_gone = is_capped(a, caps_of(caps, a.role), charges, active, now, to);
+        push_if(&mut gone, a, is_gone)?;
     }
     Ok(gone)
 }

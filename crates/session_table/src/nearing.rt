@@ -12,7 +12,7 @@ ghost use Rattle.session_table.specs.Charges.{charged_in};
 
 use crate::activations::{Activation, count_of};
 use crate::charges::{Charge, charged};
-use crate::checks::caps_of;
+use crate::checks::{caps_of, limit_minutes};
 use gt_base::{Caps, Instant, RoleId, UserId};
 use indexmap::IndexMap;
 
@@ -148,7 +148,7 @@ fn next_spent(
     }
 }
 
-/// When a cap next ends one of the activations.
+/// When a cap next ends one of the activations. Where no role has a cap on minutes, none is looked at.
 pub(crate) fn next_capped(
     charges: &IndexMap<Charge, u32>,
     active: &[Activation],
@@ -159,6 +159,9 @@ pub(crate) fn next_capped(
     requires later { (u : UserId) (r : RoleId) (d : ℕ) → day_of (now + 1) < d → charged_in charges.now.entries u r d ≡ 0 }
     ensures { IsFirstOrNone (λ t. list_any (capped_in caps.now charges.now.entries active.now now t) active.now) now result }
 {
+    if !limit_minutes(caps) {
+        return None;
+    }
     let mut next = None;
     for a in active {
         let of_role = caps_of(caps, a.role);

@@ -13,16 +13,16 @@ ghost use Rattle.gt_base.specs.declared.requests.Reply.TheVariants.{Session, Don
 ghost use Rattle.gtrbac_model.specs.Sessions.{applied, empty_table, is_active_in, signal_of};
 ghost use Rattle.hybrid_hierarchy.specs.Nets.{IsHierarchy};
 ghost use Rattle.session_table.specs.Opened.{in_session, numbered, opened, role_in};
-ghost use Rattle.session_table.specs.Tables.{table_of, NotBefore, closed_at};
+ghost use Rattle.session_table.specs.Tables.{table_of, NotBefore, closed_at, is_capped};
 ghost use Rattle.session_table.specs.NextDrops.{IsFirstOrNone, is_any_capped};
-ghost use Rattle.session_table.specs.Plans.{need_of, IsPlan, IsPlanned, Closes};
+ghost use Rattle.session_table.specs.Plans.{need_of, IsPlan, IsPlanWhereAllStand, IsPlanned, Closes};
 ghost use Rattle.session_table.specs.Replies.{Answers, AnswersAt, OrRefused, IsRefusal, ChecksBy};
 
 use crate::activations::{Activation, count_in, end_session, find_active, signal_of};
 use crate::active::ActiveRow;
 use crate::charges::{Charge, charge_stretch, copied as copied_charges, reserve_charges};
 use crate::checks::{caps_of, early_refusal, late_refusal, owned};
-use crate::dropping::{Asked, dropped, prune, remember, signals_of, take_out};
+use crate::dropping::{Asked, capped, dropped, prune, remember, signals_of, take_out};
 use crate::faults::SessionFault;
 use crate::nearing::next_capped;
 use crate::opened::{
@@ -353,6 +353,41 @@ impl Sessions {
             hierarchy,
             caps,
             status,
+            &self.charges,
+            self.active.as_slice(),
+            now,
+            to,
+        )?;
+        let signals = signals_of(self.alloc, &gone)?;
+        reserve_charges(&mut self.charges, self.active.len(), now, to)?;
+        Ok(Drops {
+            after: now,
+            to,
+            gone,
+            signals,
+        })
+    }
+
+    /// The plan of the same end as `plan_end`, where in the status at `to` each activation's role is on and a usable walk lets its user activate it,
+    /// as after minutes in which no fluent changed: then caps alone drop, and neither the status nor the hierarchy is asked. The table stays as it
+    /// was seen, but for its room. For want of memory it may refuse.
+    pub fn plan_end_still(
+        &mut self,
+        caps: &List<Caps>,
+        now: Instant,
+        to: Instant,
+    ) -> Result<Drops, Memory>
+        requires order { now < to }
+        ensures same { table_of self.new ≡ table_of self.old }
+        ensures charged_to { self.new.charged_to ≡ self.old.charged_to }
+        ensures room { OnOk result (need_of now to self.new ≤ self.new.room) }
+        ensures stretch { IfOk result (λ d. (d.after ≡ now) × (d.to ≡ to)) }
+        ensures gone { IfOk result (λ d. d.gone ≡ filter (is_capped caps.now.items now (table_of self.old) to) self.old.active) }
+        ensures plan { IfOk result (IsPlanWhereAllStand caps.now.items now to (table_of self.old)) }
+    {
+        let gone = capped(
+            self.alloc,
+            caps.as_slice(),
             &self.charges,
             self.active.as_slice(),
             now,

@@ -7,11 +7,20 @@ use gt_base::{Happened, Instant, List, Memory};
 use std::marker::Model;
 
 /// A nonempty set with its instant and the base of that instant.
-#[derive(Drop)]
 pub struct Closed {
     pub at: Instant,
     pub base: Happened,
     pub set: Happened,
+}
+
+impl Drop for Closed {
+    fn drop(self) {
+        let Closed {
+            at: _,
+            base: _,
+            set: _,
+        } = self;
+    }
 }
 
 impl Model for Closed {

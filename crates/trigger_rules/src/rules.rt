@@ -18,11 +18,20 @@ use std::alloc::Global;
 use std::marker::Model;
 
 /// The triggers of a policy in their order, numbered from 0.
-#[derive(Drop)]
 pub struct Rules {
     triggers: List<Trigger>,
     events: IndexMap<Event, Vec<u32>>,
     signals: IndexMap<Signal, Vec<u32>>,
+}
+
+impl Drop for Rules {
+    fn drop(self) {
+        let Rules {
+            triggers: _,
+            events: _,
+            signals: _,
+        } = self;
+    }
 }
 
 impl Model for Rules {

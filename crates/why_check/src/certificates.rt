@@ -6,11 +6,20 @@ use std::alloc::Global;
 use std::marker::Model;
 
 /// What a certificate says of one instant: its events in an order that is to support them, and its signals.
-#[derive(Drop)]
 pub struct Listing {
     pub at: Instant,
     pub events: List<Prioritised>,
     pub signals: List<Signal>,
+}
+
+impl Drop for Listing {
+    fn drop(self) {
+        let Listing {
+            at: _,
+            events: _,
+            signals: _,
+        } = self;
+    }
 }
 
 impl Model for Listing {
@@ -22,10 +31,18 @@ impl Model for Listing {
 }
 
 /// A list of instants, each with its events and signals. It is seen as that list.
-#[derive(Drop)]
 pub struct Cert {
     pub(crate) alloc: Global,
     pub(crate) listings: List<Listing>,
+}
+
+impl Drop for Cert {
+    fn drop(self) {
+        let Cert {
+            alloc: _,
+            listings: _,
+        } = self;
+    }
 }
 
 impl Model for Cert {

@@ -1,20 +1,19 @@
 //! Checking a certificate: the entries are played once, and at each instant at which a tick stopped the listed set is held
 //! against the definitions.
-ghost use Rattle.std.specs.Prelude.{◌≡◌, ◌≢◌, ◌<◌, ◌≤◌, ◌↔◌, IsTrue, length, slice_get, IfOk};
+ghost use Rattle.std.specs.Prelude.{Option as OptionOf, ◌≡◌, ◌<◌, ◌≤◌, ◌↔◌, IsTrue, length, slice_get, Some, IfOk, OnOk};
 ghost use Rattle.gt_base.specs.Bounds.{max_steps};
 ghost use Rattle.gt_base.specs.Sets.{has};
-ghost use Rattle.gt_base.specs.Happening.{nothing};
 ghost use Rattle.gtrbac_model.specs.Safety.{IsSafe};
 ghost use Rattle.session_table.specs.Tables.{NotBefore};
-ghost use Rattle.why_check.specs.Certificates.{Accepts, IsLegal, says_something as says};
-ghost use Rattle.why_check.specs.Kept.{IsBegun, IsClosed, IsGood};
+ghost use Rattle.why_check.specs.Certificates.{Listed as ListedOf, Accepts, IsLegal, set_in, says_something as says};
+ghost use Rattle.why_check.specs.Kept.{base_in, IsBegun, IsClosed, IsGood, IsLater};
 ghost use Rattle.why_check.specs.Steps.{IsReady, IsHeld, IsPlayed, counted};
 
 use crate::bases::base;
 use crate::certificates::{Cert, Listing};
 use crate::closing::{ask, close};
 use crate::replays::Replay;
-use crate::showing::{has_item, is_empty, is_shown, set_of_lists};
+use crate::showing::{has_item, is_empty, is_shown, set_listed};
 use duration_limits::Ages;
 use gt_base::{Entry, Happened, Instant, List, Memory, Step};
 use indexmap::IndexMap;
@@ -132,26 +131,69 @@ fn tick(
     ensures { IfOk result (λ held. IsHeld policy.now.policy s.old to (slice_get cert.now place) held s.new) }
 {
     let base = base(s, policy, to)?;
-    let Some(listing) = cert.listings.get(place) else {
-        return pass(s, policy, to, &base);
-    };
+    match cert.listings.get(place) {
+        Some(listing) => hold(s, policy, to, &base, listing),
+        None => pass(s, policy, to, &base),
+    }
+}
+
+/// The same, over its base, where this is the next listing.
+fn hold(
+    s: &mut Replay,
+    policy: &Policy,
+    to: Instant,
+    base: &Happened,
+    listing: &Listing,
+) -> Result<Held, Memory>
+    requires later { s.old.present < to }
+    requires charged { NotBefore s.old.table.charged_to s.old.present }
+    requires base { base.now.set ≡ base_in policy.now.policy s.old to }
+    ensures { IfOk result (λ held. IsHeld policy.now.policy s.old to (Some listing.now) held s.new) }
+{
+    if listing.at > to {
+        return pass(s, policy, to, base);
+    }
     if listing.at < to {
         return Ok(Held::Wrong);
     }
-    if listing.at > to {
-        return pass(s, policy, to, &base);
-    }
-    if is_good(s, policy, &base, listing)? {
-        let set = set_of_lists(
-            s.alloc,
-            listing.events.as_slice(),
-            listing.signals.as_slice(),
-        )?;
-        close(s, policy, to, &set)?;
+    hold_here(s, policy, to, base, listing)
+}
+
+/// The same, where the listing is of this instant.
+fn hold_here(
+    s: &mut Replay,
+    policy: &Policy,
+    to: Instant,
+    base: &Happened,
+    listing: &Listing,
+) -> Result<Held, Memory>
+    requires later { s.old.present < to }
+    requires charged { NotBefore s.old.table.charged_to s.old.present }
+    requires base { base.now.set ≡ base_in policy.now.policy s.old to }
+    requires here { listing.now.at ≡ to }
+    ensures { IfOk result (λ held. IsHeld policy.now.policy s.old to (Some listing.now) held s.new) }
+{
+    if is_good(s, policy, base, listing)? {
+        close_listed(s, policy, to, listing)?;
         Ok(Held::Listed)
     } else {
         Ok(Held::Wrong)
     }
+}
+
+/// Closes the instant with the set of the listing.
+fn close_listed(
+    s: &mut Replay,
+    policy: &Policy,
+    to: Instant,
+    listing: &Listing,
+) -> Result<(), Memory>
+    requires later { s.old.present < to }
+    requires charged { NotBefore s.old.table.charged_to s.old.present }
+    ensures { OnOk result (IsClosed policy.now.policy s.old (set_in listing.now) to s.new) }
+{
+    let set = set_listed(s.alloc, listing)?;
+    close(s, policy, to, &set)
 }
 
 /// Whether the listing, which is of the instant of this base, says something and is shown.
@@ -176,8 +218,8 @@ fn says_something(listing: &Listing) -> bool
 fn pass(s: &mut Replay, policy: &Policy, to: Instant, base: &Happened) -> Result<Held, Memory>
     requires later { s.old.present < to }
     requires charged { NotBefore s.old.table.charged_to s.old.present }
-    ensures passed { IfOk result (λ held. held ≡ Held.Passed → (base.now.set ≡ nothing) × IsClosed policy.now.policy s.old nothing to s.new) }
-    ensures other { IfOk result (λ held. held ≢ Held.Passed → (held ≡ Held.Wrong) × (base.now.set ≢ nothing)) }
+    requires base { base.now.set ≡ base_in policy.now.policy s.old to }
+    ensures { (next : OptionOf ListedOf) → IsLater to next → IfOk result (λ held. IsHeld policy.now.policy s.old to next held s.new) }
 {
     if !is_empty(base) {
         return Ok(Held::Wrong);

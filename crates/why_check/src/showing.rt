@@ -14,7 +14,7 @@ ghost use Rattle.gtrbac_model.specs.Instant.{closed, grounded_after};
 ghost use Rattle.gtrbac_model.specs.Same.{same_event, same_prioritised};
 ghost use Rattle.gtrbac_model.specs.Trigger.{met as is_met, immediate};
 ghost use Rattle.time_engine.specs.Traces.{is_something};
-ghost use Rattle.why_check.specs.Certificates.{IsShown};
+ghost use Rattle.why_check.specs.Certificates.{IsShown, set_in};
 
 use crate::certificates::Listing;
 use gt_base::{Event, EventSet, Happened, Memory, Prioritised, Signal, Status, Trigger};
@@ -72,16 +72,39 @@ pub(crate) fn is_shown(
 ) -> Result<bool, Memory>
     ensures { IfOk result (λ yes. IsTrue yes ↔ IsShown rules.now base.now.set (has before.now.set) listing.now) }
 {
-    let order = listing.events.as_slice();
-    let set = set_of_lists(alloc, order, listing.signals.as_slice())?;
+    let set = set_listed(alloc, listing)?;
     let x = Contest::new(alloc, &set)?;
-    if !same_signals(&set, base) {
+    is_shown_as(alloc, rules, base, before, &x, listing)
+}
+
+/// The set of the listing.
+pub(crate) fn set_listed(alloc: Global, listing: &Listing) -> Result<Happened, Memory>
+    ensures { IfOk result (λ x. x.set ≡ set_in listing.now) }
+{
+    set_of_lists(alloc, listing.events.as_slice(), listing.signals.as_slice())
+}
+
+/// Whether the listing is shown, where this is its set.
+fn is_shown_as(
+    alloc: Global,
+    rules: &[Trigger],
+    base: &Happened,
+    before: &Status,
+    x: &Contest,
+    listing: &Listing,
+) -> Result<bool, Memory>
+    requires { x.now ≡ set_in listing.now }
+    ensures { IfOk result (λ yes. IsTrue yes ↔ IsShown rules.now base.now.set (has before.now.set) listing.now) }
+{
+    if !same_signals(x.set(), base) {
         return Ok(false);
     }
-    if !is_closed(rules, base, before, &x) {
+    if !is_closed(rules, base, before, x) {
         return Ok(false);
     }
-    Ok(is_supported(alloc, rules, base, before, &x, order)?)
+    let order = listing.events.as_slice();
+    let supported = is_supported(alloc, rules, base, before, x, order)?;
+    Ok(supported)
 }
 
 /// Whether the two have the same signals.

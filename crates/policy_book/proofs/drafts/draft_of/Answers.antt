@@ -13,7 +13,7 @@ pub add-requires-clause-said : goal.add-requires-clause-said
 add-requires-clause-said c =
     let part = c.in-Some.part in
     let said = parted (is_saying part.it) (are_sayings (into_iter_items c.next.new.self)) (subst (λ ss. are_sayings ss ≡ true) c.in-Some.ensures.items c.loop-part.invariant.said) in
-    subst (λ s. is_saying s.it ≡ true) (sym c.part.view_is) said.0
+    subst (λ s. is_saying s ≡ true) (sym c.into_said.ensures) said.0
 
 pub loop-part-preserved : goal.loop-part-preserved
 loop-part-preserved c =
@@ -25,7 +25,7 @@ loop-part-preserved c =
     record {
       made =
           ap (λ d. drafted ns d (said_in rest)) c.in_ok-add.ensures
-          ∙ ap (λ s. drafted ns (adding ns old s.it) (said_in rest)) c.part.view_is
+          ∙ ap (λ s. drafted ns (adding ns old s) (said_in rest)) c.into_said.ensures
           ∙ ap (λ ss. drafted ns old (said_in ss)) (sym whole)
           ∙ c.loop-part.invariant.made;
       said = (parted (is_saying part.it) (are_sayings rest) (subst (λ ss. are_sayings ss ≡ true) whole c.loop-part.invariant.said)).1;

@@ -1,4 +1,6 @@
-use Rattle.std.proofs.Common.{sym, ap, ◌∙◌}
+use Rattle.std.proofs.Common.{sym, ap, append-nil, ◌++◌, ◌∙◌}
+use Rattle.std.specs.List.{filter_map}
+use Rattle.std.proofs.lemmas.List.{drop_all}
 use Rattle.policy_words.specs.Making.{signal_in}
 use Rattle.policy_book.specs.Seen.{seen_names}
 use Rattle.policy_book.proofs.Stepping.{kept_more, passed_over}
@@ -18,3 +20,9 @@ loop-item-preserved c =
           passed_over f c.args.items.now c.loop-item.item-index c.item-item.result _ old new c.loop-item-test.true c.item-item.is
           (sym c.signal_in.ensures ∙ w.in_default.is) (ap (λ v. v.items) w.signals-is) c.loop-item.invariant
     ]
+
+pub returns : goal.returns
+returns c =
+    let f = signal_in (seen_names c.args.names.now) in
+    let old = c.loop-item.signals.items in
+    sym (append-nil old) ∙ ap (λ is. old ++ filter_map f is) (sym (drop_all c.loop-item.item-index c.args.items.now c.loop-item-test.false)) ∙ c.loop-item.invariant

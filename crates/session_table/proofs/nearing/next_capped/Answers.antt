@@ -7,7 +7,12 @@ use Rattle.gtrbac_model.specs.Sessions.{Activation, reached, is_of}
 use Rattle.history_laws.specs.Tables.{minutes_of_day}
 use Rattle.session_table.specs.Charges.{charged_in}
 use Rattle.session_table.specs.NextDrops.{IsFirstOrNone, capped_in}
+use Rattle.session_table.proofs.Uncapped.{none_capped}
 use Rattle.session_table.proofs.nearing.next_capped.Goals as goal
+
+pub returns-then-not-limit_minutes : goal.returns-then-not-limit_minutes
+returns-then-not-limit_minutes c = λ t a b.
+    none_capped c.args.caps.now (sym c.limit_minutes.ensures ∙ c.if-not-limit_minutes.true) c.args.charges.now.entries c.args.active.now c.args.now t c.args.active.now
 
 pub loop-a-preserved : goal.loop-a-preserved
 loop-a-preserved c =

@@ -1,25 +1,12 @@
-use Rattle.std.proofs.Common.{List, ap, ◌∙◌}
-use Rattle.gt_base.specs.Held.{TriggerView}
-use Rattle.gt_base.specs.declared.events.UserId.{UserId}
-use Rattle.gt_base.specs.declared.events.Fluent.{Fluent}
-use Rattle.gt_base.specs.declared.policies.PeriodicEntry.{PeriodicEntry}
-use Rattle.gt_base.specs.declared.policies.LimitRule.{LimitRule}
-use Rattle.gt_base.specs.declared.policies.HierEdge.{HierEdge}
+use Rattle.std.proofs.Common.{List, ◌∙◌}
 use Rattle.gtrbac_model.specs.Period.{Period}
-use Rattle.gtrbac_model.specs.Same.{same_user, same_fluent}
-use Rattle.policy_words.specs.Making.{with_item, with_new}
+use Rattle.policy_words.specs.Making.{with_item}
 use Rattle.policy_book.specs.Seen.{seen_names}
 use Rattle.policy_book.proofs.Drafting.{same_draft}
 use Rattle.policy_book.proofs.drafts.Draft.add.Goals as goal
 
 pub returns : goal.returns
 returns c =
-    let old = c.args.self.now in
-    same_draft (◌∙◌ {A = List Period} c.in_ok-add_item-5.ensures (ap (λ o. with_item o old.periods.items) (c.period_in.ensures (seen_names c.args.names.now))))
-    (◌∙◌ {A = List LimitRule} c.in_ok-add_item.ensures (ap (λ o. with_item o old.limits.items) c.limit_in.ensures))
-    (◌∙◌ {A = List HierEdge} c.in_ok-add_item-2.ensures (ap (λ o. with_item o old.edges.items) c.edge_in.ensures))
-    c.cap.ensures
-    (◌∙◌ {A = List UserId} c.in_ok-add_user.ensures (ap (λ o. with_new same_user o old.admins.keys) c.admin_in.ensures))
-    (◌∙◌ {A = List Fluent} c.in_ok-add_fluent.ensures (ap (λ o. with_new same_fluent o old.on_at_first.keys) c.opening_in.ensures))
-    (◌∙◌ {A = List PeriodicEntry} c.in_ok-add_item-3.ensures (ap (λ o. with_item o old.entries.items) c.entry_in.ensures))
-    (◌∙◌ {A = List TriggerView} c.in_ok-add_item-4.ensures (ap (λ o. with_item o old.triggers.items) c.in_ok-trigger_in.ensures))
+    let d = c.in_ok-add_numbers.ensures in
+    same_draft (◌∙◌ {A = List Period} c.in_ok-add_item.ensures (λ i. with_item (c.period_in.ensures (seen_names c.args.names.now) i) (d i).periods))
+    (λ i. (d i).limits) (λ i. (d i).edges) (λ i. (d i).caps) (λ i. (d i).admins) (λ i. (d i).on_at_first) (λ i. (d i).entries) (λ i. (d i).triggers)

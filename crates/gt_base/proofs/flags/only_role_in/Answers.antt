@@ -1,0 +1,8 @@
+use Rattle.gt_base.specs.declared.events.Fluent.TheVariants.{Granted}
+use Rattle.gt_base.proofs.FlagLaws.{known_but_for_words, some_so}
+use Rattle.gt_base.proofs.flags.only_role_in.Goals as goal
+
+pub returns-then-grant_nothing : goal.returns-then-grant_nothing
+returns-then-grant_nothing c =
+    some_so c.only_known.result
+    (λ role only r on. only r (known_but_for_words c.args.flags.now c.args.more.now (Granted c.args.perm r) (c.grant_nothing.ensures c.if-grant_nothing.true c.args.perm r) on)) c.only_known.ensures
