@@ -280,7 +280,7 @@ fn compare_one(rt: &impl Abort, alloc: Global, seed: &mut u64) -> Result<(), Fai
     let p = read_whole(alloc, text.as_slice())?;
     let from = BEFORE.saturating_add(random(seed, LAST - BEFORE - LENGTH));
     let seen = Seen::new(alloc, &p, &units, from)?;
-    let p = bounded(seed, from, p.expr).ok_or("bounds")?;
+    let p = bounded(seed, from, p.expr.copied(alloc)?).ok_or("bounds")?;
     compare_some(rt, seed, &seen, &p).ok_or("instants")?;
     Ok(())
 }

@@ -58,12 +58,13 @@ fn told(alloc: Global, roles: &[u32], on: &[u32]) -> Result<(bool, u32), Memory>
     if !is_hierarchy(edges.as_slice()) {
         return Ok((false, 99));
     }
-    match decide(alloc, &edges, &status, &[RoleId(0)], PermId(0))? {
+    let decision = decide(alloc, &edges, &status, &[RoleId(0)], PermId(0))?;
+    match &decision {
         Decision::Permit { walk } => match walk.edges.as_slice() {
             [first, _] => Ok((true, *first)),
             _ => Ok((true, 99)),
         },
-        Decision::Shut { edge } => Ok((false, edge)),
+        Decision::Shut { edge } => Ok((false, *edge)),
         _ => Ok((false, 99)),
     }
 }
@@ -91,9 +92,9 @@ fn a_lending_edge_allows_nothing(rt: HostRuntime) -> Result<(), Fail> {
         let lent = may_activate(alloc, &edges, &status, UserId(0), RoleId(1))?;
         assert!(rt; lent.is_none());
         let idle = decide(alloc, &edges, &status, &[], PermId(0))?;
-        assert!(rt; matches!(idle, Decision::NoActive));
+        assert!(rt; matches!(&idle, Decision::NoActive));
         let other = decide(alloc, &edges, &status, &[RoleId(0)], PermId(1))?;
-        assert!(rt; matches!(other, Decision::NoGrant));
+        assert!(rt; matches!(&other, Decision::NoGrant));
     }
     Ok(())
 }
