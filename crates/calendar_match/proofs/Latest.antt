@@ -1,21 +1,21 @@
 -- What the searches for begins have seen, and what the last begin covers.
-use Rattle.std.proofs.Common.{◌≡◌, ℕ, ◌+◌, ◌-◌, ◌<◌, ◌≤◌, Bool, true, false, not, ◌&&◌, ◌||◌, nat_eq, nat_le, List, [], ◌∷◌, Option, Some, None, is_some, refl, arith, ap, sym, ◌∙◌, inl, inr}
+use Rattle.std.proofs.Common.{◌≡◌, ℕ, ◌+◌, ◌-◌, ◌<◌, ◌≤◌, true, false, not, nat_eq, nat_le, List, [], ◌∷◌, Option, Some, None, is_some, refl, arith, ap, sym, ◌∙◌, inl, inr}
 use Rattle.std.specs.List.{list_any}
-use Rattle.std.proofs.lemmas.Bool.{false_from_ne_true, false≢true, cases_lt, and_parts, and_cases, and_left, and_right, or_parts, or_from, ne_eqb, eq-eqb, leb-true, leb-false}
+use Rattle.std.proofs.lemmas.Bool.{false_from_ne_true, false≢true, cases_lt, and_parts, and_cases, and_left, and_right, or_parts, or_from, ne_eqb, leb-false}
 use Rattle.gtrbac_model.specs.declared.calendars.Calendar.{Calendar}
 use Rattle.gtrbac_model.specs.declared.calendars.Calendar.TheVariants.{Years, Months, Weeks, Days, Hours, Minutes}
-use Rattle.gtrbac_model.specs.Calendar.{minute_of, first_minute, interval_of, number_within}
+use Rattle.gtrbac_model.specs.Calendar.{first_minute, interval_of, number_within}
 use Rattle.gtrbac_model.specs.Period.{Part, Expr, picks, selects, begins_by, begins, begun_within}
-use Rattle.gtrbac_model.specs.Valid.{is_same, is_below, goes_down, from_all, is_expr}
-use Rattle.gtrbac_model.specs.Selects.{last_of, last_by, last_calendar}
-use Rattle.gtrbac_model.proofs.Covers.{begun, goes_on, at_first, rising, not_falling, before_first}
+use Rattle.gtrbac_model.specs.Valid.{goes_down, from_all, is_expr}
+use Rattle.gtrbac_model.specs.Selects.{last_calendar}
+use Rattle.gtrbac_model.proofs.Covers.{goes_on, rising, not_falling, before_first}
 use Rattle.calendar_laws.proofs.Begins.{valid, begins_at_firsts, unit_aligned}
 use Rattle.calendar_laws.proofs.Insides.{found, finds, late, thousand, early}
-use Rattle.gtrbac_model.proofs.Downward.{goes_to_unit, lower}
-use Rattle.calendar_match.specs.Reach.{unit_first, IsFirstBegin, IsLastBegin, HasNoBegin, IsCovered}
-use Rattle.calendar_match.specs.Steps.{IsAhead, IsBehind, most_in, has_upto, can_select, can_begin_by, can_begin, take_all, fills}
-use Rattle.calendar_match.proofs.Bounds.{interval_not_falling, number_low}
-use Rattle.calendar_match.proofs.Spans.{number_most, number_most_unit}
+use Rattle.gtrbac_model.proofs.Downward.{lower}
+use Rattle.calendar_match.specs.Reach.{unit_first, IsLastBegin, HasNoBegin, IsCovered}
+use Rattle.calendar_match.specs.Steps.{IsAhead, IsBehind, most_in, has_upto, can_select, can_begin_by, can_begin}
+use Rattle.calendar_match.proofs.Bounds.{number_low}
+use Rattle.calendar_match.proofs.Spans.{number_most}
 
 -- the searches
 

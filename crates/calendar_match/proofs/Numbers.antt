@@ -1,5 +1,5 @@
 -- What the searches in a rising list find.
-use Rattle.std.proofs.Common.{◌≡◌, ℕ, zero, suc, ◌+◌, ◌-◌, ◌<◌, ◌≤◌, Bool, true, false, cond, ◌&&◌, ◌||◌, nat_eq, nat_le, nat_lt, List, [], ◌∷◌, get_or, Option, Some, None, IfSome, IfNone, ◌⊎◌, refl, arith, inl, inr}
+use Rattle.std.proofs.Common.{◌≡◌, ℕ, zero, suc, ◌+◌, ◌-◌, ◌<◌, ◌≤◌, Bool, true, false, cond, nat_eq, nat_le, nat_lt, List, [], ◌∷◌, get_or, Option, Some, None, IfSome, IfNone, ◌⊎◌, refl, arith, inl, inr}
 use Rattle.std.specs.List.{list_any, list_all, find}
 use Rattle.std.proofs.lemmas.Bool.{cases_lt, and_parts, or_cases, or_from, or_left, or_right, ne_eqb, eq-eqb, eqb-true, leb-true, leb-false, ltb-true, ltb-false, false≢true}
 use Rattle.gtrbac_model.specs.Period.{picks}

@@ -1,10 +1,10 @@
 -- How many intervals of a lower calendar an interval of a higher one has.
-use Rattle.std.proofs.Common.{◌≡◌, ℕ, ◌+◌, ◌*◌, ◌/◌, ◌%◌, ◌<◌, ◌≤◌, true, false, cond, ◌&&◌, ◌||◌, refl, arith, ap, sym, ◌∙◌, inl, inr}
+use Rattle.std.proofs.Common.{◌≡◌, ℕ, ◌+◌, ◌*◌, ◌/◌, ◌%◌, ◌<◌, ◌≤◌, true, ◌||◌, refl, arith, ap, sym, ◌∙◌, inl, inr}
 use Rattle.std.proofs.lemmas.Bool.Decides.{nat_tests}
 use Rattle.std.proofs.lemmas.Bool.{false≢true, cases_lt, or_cases}
 use Rattle.gtrbac_model.specs.declared.calendars.Calendar.{Calendar}
 use Rattle.gtrbac_model.specs.declared.calendars.Calendar.TheVariants.{Years, Months, Weeks, Days, Hours, Minutes}
-use Rattle.gtrbac_model.specs.Calendar.{is_leap, day_of_year, days_before_month, day_of_month, first_minute, interval_of, number_within}
+use Rattle.gtrbac_model.specs.Calendar.{day_of_year, day_of_month, first_minute, interval_of, number_within}
 use Rattle.gtrbac_model.specs.Valid.{is_below, is_same}
 use Rattle.gtrbac_model.proofs.Years.{next_year, leap}
 use Rattle.gtrbac_model.proofs.Months.{month_days, month_parts, month_days-zero, january}

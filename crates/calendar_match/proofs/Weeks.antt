@@ -1,5 +1,5 @@
 -- Where an expression repeats each week, a week inside is followed by others.
-use Rattle.std.proofs.Common.{◌≡◌, ℕ, zero, suc, ◌+◌, ◌-◌, ◌*◌, ◌/◌, ◌<◌, ◌≤◌, Bool, true, false, not, ◌&&◌, ◌||◌, nat_eq, List, [], ◌∷◌, is_some, min, refl, arith, ap, sym, ◌∙◌, inl, inr}
+use Rattle.std.proofs.Common.{◌≡◌, ℕ, zero, suc, ◌+◌, ◌-◌, ◌*◌, ◌/◌, ◌<◌, ◌≤◌, Bool, true, not, ◌&&◌, ◌||◌, nat_eq, List, [], ◌∷◌, is_some, min, refl, arith, ap, sym, ◌∙◌, inl, inr}
 use Rattle.std.proofs.lemmas.Bool.{false≢true, cases_lt, and_parts, or_cases}
 use Rattle.std.proofs.lemmas.Bool.Decides.{nat_tests}
 use Rattle.gtrbac_model.specs.declared.calendars.Calendar.{Calendar}
@@ -12,12 +12,12 @@ use Rattle.gtrbac_model.proofs.Covers.{goes_on, not_falling}
 use Rattle.calendar_laws.proofs.Begins.{valid}
 use Rattle.calendar_laws.proofs.Insides.{early, late, thousand}
 use Rattle.gtrbac_model.proofs.Downward.{lower, same_unit}
-use Rattle.calendar_match.specs.Next.{StaysIn, StaysAll, IsHorizon}
+use Rattle.calendar_match.specs.Next.{StaysIn, IsHorizon}
 use Rattle.calendar_match.specs.Reach.{unit_first}
 use Rattle.calendar_match.specs.Steps.{most_in, picks_upto, fills, is_fixed, repeats_from, repeats_by, repeats}
 use Rattle.calendar_match.proofs.Latest.{early_enough, count_low, count_late}
 use Rattle.calendar_match.proofs.Filled.{part_picks, filled}
-use Rattle.calendar_match.proofs.Moves.{lasts, Within, within, is_in}
+use Rattle.calendar_match.proofs.Moves.{lasts, within, is_in}
 
 -- how many intervals of a calendar a week has
 abbrev in_week : Calendar → ℕ

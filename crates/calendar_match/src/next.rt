@@ -173,7 +173,6 @@ fn horizon(p: &Period, after: Instant) -> u64
 }
 
 // The least instant after one inside that is outside. Goes from one begin to the last one that its length reaches.
-#[tactic(auto, using(crate::proofs::Moves::stays_first, crate::proofs::Moves::stays_to, crate::proofs::Moves::out_found, crate::proofs::Moves::out_past, crate::proofs::Moves::out_never, crate::proofs::Moves::unit_later, crate::proofs::Latest::unit_low))]
 fn outside_after(p: &Period, after: Instant) -> Option<Instant>
     requires { insides p.now after ≡ true }
     ensures some { IfSome result (λ t. IsNext (outsides p.now) after t) }
@@ -194,7 +193,6 @@ fn outside_after(p: &Period, after: Instant) -> Option<Instant>
 
 /// The least instant after this one at which being inside differs from the minute before, none exactly where there is
 /// none.
-#[tactic(auto, using(crate::proofs::Edges::edge_in, crate::proofs::Edges::never_in, crate::proofs::Edges::edge_out, crate::proofs::Edges::never_out))]
 pub fn next_edge(p: &Period, after: Instant) -> Option<Instant>
     ensures some { IfSome result (λ t. IsNext (turns p.now) after t) }
     ensures none { IfNone result (HasNone (turns p.now) after) }

@@ -6,7 +6,7 @@ use gt_base::{Instant, Prioritised};
 use std::cmp::Ordering;
 
 /// An event with the instant at which it is due.
-#[derive(Clone, Copy, PartialEq, Eq, Hash, Debug)]
+#[derive(Clone, Copy, PartialEq, Eq, Debug)]
 pub struct Pending {
     pub due: Instant,
     pub event: Prioritised,

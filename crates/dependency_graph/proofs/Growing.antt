@@ -1,11 +1,14 @@
 -- The edges grow as the dependencies are listed.
-use Rattle.std.proofs.Common.{◌≡◌, ℕ, zero, suc, ◌+◌, Bool, true, false, cond, nat_eq, ◌||◌, ◌&&◌, List, [], ◌∷◌, ◌++◌, length, drop, Some, refl, sym, ◌∙◌, ap, arith, append_assoc, append-nil}
+use Rattle.std.proofs.Common.{◌≡◌, ℕ, zero, suc, ◌+◌, ◌*◌, ◌≤◌, Bool, true, false, cond, nat_eq, ◌||◌, ◌&&◌, List, [], ◌∷◌, ◌++◌, length, drop, Some, refl, sym, ◌∙◌, ap, arith, append_assoc, append-nil}
+use Rattle.std.proofs.lemmas.List.{drop_all}
 use Rattle.std.proofs.lemmas.Bool.{ne_eqb}
+use Rattle.gt_base.specs.Events.{converse}
 use Rattle.gt_base.specs.Held.{TriggerView}
 use Rattle.gt_base.specs.declared.events.Cond.{Cond}
 use Rattle.gt_base.specs.declared.events.Event.{Event}
 use Rattle.gtrbac_model.specs.Graph.{item_at}
 use Rattle.gtrbac_model.specs.Same.{lists, same_event}
+use Rattle.gtrbac_model.specs.Conflict.{turns_on, turns_off}
 use Rattle.gtrbac_model.specs.Trigger.{immediate}
 use Rattle.gtrbac_model.specs.Safety.{Dependency, is_node, edge_if_node, of_body, of_settled, of_trigger, of_triggers}
 use Rattle.gtrbac_model.proofs.Uniqueness.{same_event_of}
@@ -46,6 +49,10 @@ edge_added events es ps from to marked source p es' ps' is size qe qp =
     ∙ ap (λ z. read_off events es ps ++ (record { source = z; target = event_at events to; conflict = marked; trigger = p.0; place = p.1 }) ∷ []) (event_of events from source is)
     ∙ ap (λ b. read_off events es ps ++ cond b ((record { source = source; target = event_at events to; conflict = marked; trigger = p.0; place = p.1 }) ∷ []) []) (sym (is_listed events from source is))
 
+-- an edge from an event that is none
+pub none_added : (events : List Event) (ds : List Dependency) (d : Dependency) → lists same_event events d.source ≡ false → ds ≡ ds ++ edge_in events d
+none_added events ds d none = sym (append-nil ds) ∙ ap (λ b. ds ++ cond b (d ∷ []) []) (sym none)
+
 -- the edges of an immediate trigger whose head is this node: those of its body events, then those of its settled conditions
 pub trigger_of_parts : (events : List Event) (head t first : ℕ) (r : TriggerView) (body : List Event) (conds : List Cond) (old mid new : List Dependency)
     → item_at events head ≡ Some r.head.event → r.delay ≡ 0 → body ≡ r.events → first ≡ length r.events → conds ≡ r.settled
@@ -71,6 +78,48 @@ dropped (y ∷ ys) (suc n) x is = dropped ys n x is ∙ ap (λ m. x ∷ drop m (
   where
     shift : (n : ℕ) → suc (n + 1) ≡ suc n + 1
     shift n = omega arith
+
+-- two parts more
+two_more : (old mid new a b x y rest whole : List Dependency) → mid ≡ old ++ x → new ≡ mid ++ y → a ≡ x → b ≡ y → old ++ (a ++ b ++ rest) ≡ whole → new ++ rest ≡ whole
+two_more old mid new a b x y rest whole first second p q h =
+    ap (λ ds. ds ++ rest) (second ∙ ap (λ ds. ds ++ y) first)
+    ∙ ap (λ ds. ds ++ rest) (append_assoc old x y)
+    ∙ append_assoc old (x ++ y) rest
+    ∙ (λ i. old ++ (sym p i ++ sym q i ++ rest))
+    ∙ h
+
+-- the edges of one body event more
+pub body_step : (triggers : List TriggerView) (events : List Event) (head : Event) (t p k : ℕ) (body : List Event) (whole old mid new : List Dependency) (b other : Event) → AreNodes triggers events → item_at body k ≡ Some b → other ≡ converse b
+    → mid ≡ old ++ edge_in events (record { source = b; target = head; conflict = false; trigger = t; place = p })
+    → new ≡ mid ++ edge_in events (record { source = other; target = head; conflict = true; trigger = t; place = p })
+    → old ++ of_body triggers head t p (drop k body) ≡ whole → new ++ of_body triggers head t (p + 1) (drop (k + 1) body) ≡ whole
+body_step triggers events head t p k body whole old mid new b other nodes is back first second h =
+    two_more old mid new _ _ _ _ (of_body triggers head t (p + 1) (drop (k + 1) body)) whole first second
+    (same_edges triggers events nodes (record { source = b; target = head; conflict = false; trigger = t; place = p }))
+    (ap (λ e. edge_if_node triggers (record { source = e; target = head; conflict = true; trigger = t; place = p })) (sym back)
+    ∙ same_edges triggers events nodes (record { source = other; target = head; conflict = true; trigger = t; place = p }))
+    (ap (λ bs. old ++ of_body triggers head t p bs) (sym (dropped body k b is)) ∙ h)
+
+-- the edges of one settled condition more
+pub settled_step : (triggers : List TriggerView) (events : List Event) (head : Event) (t p k : ℕ) (conds : List Cond) (whole old mid new : List Dependency) (c : Cond) (on off : Event) → AreNodes triggers events → item_at conds k ≡ Some c
+    → on ≡ turns_on c.fluent → off ≡ turns_off c.fluent
+    → mid ≡ old ++ edge_in events (record { source = on; target = head; conflict = true; trigger = t; place = p })
+    → new ≡ mid ++ edge_in events (record { source = off; target = head; conflict = true; trigger = t; place = p })
+    → old ++ of_settled triggers head t p (drop k conds) ≡ whole → new ++ of_settled triggers head t (p + 1) (drop (k + 1) conds) ≡ whole
+settled_step triggers events head t p k conds whole old mid new c on off nodes is turned back first second h =
+    two_more old mid new _ _ _ _ (of_settled triggers head t (p + 1) (drop (k + 1) conds)) whole first second
+    (ap (λ e. edge_if_node triggers (record { source = e; target = head; conflict = true; trigger = t; place = p })) (sym turned)
+    ∙ same_edges triggers events nodes (record { source = on; target = head; conflict = true; trigger = t; place = p }))
+    (ap (λ e. edge_if_node triggers (record { source = e; target = head; conflict = true; trigger = t; place = p })) (sym back)
+    ∙ same_edges triggers events nodes (record { source = off; target = head; conflict = true; trigger = t; place = p }))
+    (ap (λ cs. old ++ of_settled triggers head t p cs) (sym (dropped conds k c is)) ∙ h)
+
+-- behind the last item nothing more is given
+pub at_end : {A : Type 0} (xs : List A) (k : ℕ) (given : List A → List Dependency) (now whole : List Dependency) → given [] ≡ [] → length xs ≤ k → now ++ given (drop k xs) ≡ whole → now ≡ whole
+at_end xs k given now whole none all h = sym (append-nil now) ∙ ap (λ ds. now ++ ds) (sym none) ∙ ap (λ rs. now ++ given rs) (sym (drop_all k xs all)) ∙ h
+
+pub two_rooms : (a b c d k : ℕ) → b ≤ a + 1 → c ≤ b + 1 → a ≤ d + 2 * k → c ≤ d + 2 * (k + 1)
+two_rooms a b c d k first second h = omega arith
 
 -- one trigger more
 pub trigger_step : (triggers : List TriggerView) (events : List Event) (t : ℕ) (r : TriggerView) (whole old new : List Dependency) → AreNodes triggers events → item_at triggers t ≡ Some r

@@ -1,5 +1,6 @@
 pub mod Crossing
 pub mod FlagLaws
+pub mod Loops
 pub mod OrderLaws
 pub mod Rising
 pub mod SetLaws

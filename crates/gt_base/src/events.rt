@@ -64,7 +64,7 @@ impl Event {
 }
 
 /// A condition: the fluent is on, or it is off.
-#[derive(Clone, Copy, PartialEq, Eq, PartialOrd, Ord, Hash, Debug)]
+#[derive(Clone, Copy, PartialEq, Eq, Debug)]
 pub struct Cond {
     pub on: bool,
     pub fluent: Fluent,
@@ -79,7 +79,7 @@ pub struct Signal {
 }
 
 /// An event with its priority.
-#[derive(Clone, Copy, PartialEq, Eq, PartialOrd, Ord, Hash, Debug)]
+#[derive(Clone, Copy, PartialEq, Eq, PartialOrd, Ord, Debug)]
 pub struct Prioritised {
     pub prio: Prio,
     pub event: Event,

@@ -5,7 +5,7 @@ ghost use Rattle.gt_base.specs.Bounds.{last_minute};
 use std::marker::Model;
 
 /// A civil minute of the years 2000 to 2099, seen as its number.
-#[derive(Clone, Copy, PartialEq, Eq, PartialOrd, Ord, Hash, Debug)]
+#[derive(Clone, Copy, PartialEq, Eq, PartialOrd, Ord, Debug)]
 pub struct Instant {
     minute: u32,
 }
@@ -46,7 +46,7 @@ impl Instant {
 }
 
 /// A priority, 0 to 100, seen as its number.
-#[derive(Clone, Copy, PartialEq, Eq, PartialOrd, Ord, Hash, Debug)]
+#[derive(Clone, Copy, PartialEq, Eq, PartialOrd, Ord, Debug)]
 pub struct Prio {
     level: u8,
 }

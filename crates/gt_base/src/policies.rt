@@ -41,7 +41,7 @@ impl Model for Trigger {
 
 /// When a periodic entry raises its event: at each instant of its period, where the period starts, or where a span of it
 /// begins, with the converse where it ends.
-#[derive(Clone, Copy, PartialEq, Eq, PartialOrd, Ord, Hash, Debug)]
+#[derive(Clone, Copy, PartialEq, Eq, Debug)]
 pub enum Form {
     Each,
     Start,

@@ -118,8 +118,7 @@ fn told_behind(alloc: Global, outcome: Outcome, asked: Asked) -> Result<End, Mem
     ensures { IfOk result (λ end. Follows outcome.book.named.policy asked outcome.book.birth outcome.book.entries (seen_end outcome.end) (seen_end end)) }
 {
     let more = asked_text(alloc, &outcome.book, asked)?;
-    let end = joined(alloc, &outcome.end.text, &more)?;
-    Ok(end)
+    joined(alloc, &outcome.end.text, &more)
 }
 
 /// The end of a run with what was asked behind it where it was played to its end, and else its own.

@@ -75,10 +75,23 @@ fn add(
     requires { Settled rules.now closed.now.base (has before.now.set) closed.now.set }
     ensures { OnOk result (AddsListing rules.now (has before.now.set) closed.now cert.old cert.new) }
 {
-    let x = Contest::new(alloc, &closed.set)?;
-    let events = support_order(alloc, rules, &closed.base, before, &x)?;
+    let events = ordered(alloc, rules, closed, before)?;
     let signals = Vec::from_slice(alloc, closed.set.signals())?;
     cert.add(closed.at, events, List::from(signals))
+}
+
+/// The events of the set in an order that supports them.
+fn ordered(
+    alloc: Global,
+    rules: &[Trigger],
+    closed: &Closed,
+    before: &Status,
+) -> Result<List<Prioritised>, Memory>
+    requires { Settled rules.now closed.now.base (has before.now.set) closed.now.set }
+    ensures { IfOk result (λ es. IsGrounding rules.now closed.now.base (has before.now.set) closed.now.set es.items) }
+{
+    let x = Contest::new(alloc, &closed.set)?;
+    support_order(alloc, rules, &closed.base, before, &x)
 }
 
 /// The status after the set.

@@ -1,5 +1,5 @@
 //! What may be asked behind a script, read from words.
-ghost use Rattle.std.specs.Prelude.{◌≡◌, map, string_bytes};
+ghost use Rattle.std.specs.Prelude.{◌≡◌, ◌∷◌, map, string_bytes};
 ghost use Rattle.gtrbac_tool.specs.Late.{one_said, two_said, fluent_said, cond_said, event_said, forecast_in, why_in};
 
 use gt_base::Name;
@@ -61,18 +61,31 @@ fn fluent(sort: Sort, names: &[String]) -> Option<NamedFluent>
     }
 }
 
+/// The condition of a verb and the names behind it.
+fn cond_of(verb: &[u8], names: &[String]) -> Option<NamedCond>
+    ensures { result ≡ cond_said (verb.now ∷ map string_bytes names.now) }
+{
+    let (on, sort) = cond_verb(verb)?;
+    let fluent = fluent(sort, names)?;
+    Some(NamedCond { on, fluent })
+}
+
 /// The condition that the words are.
 fn cond(words: &[String]) -> Option<NamedCond>
     ensures { result ≡ cond_said (map string_bytes words.now) }
 {
     match words {
-        [verb, names @ ..] => {
-            let (on, sort) = cond_verb(verb.as_bytes())?;
-            let fluent = fluent(sort, names)?;
-            Some(NamedCond { on, fluent })
-        }
+        [verb, names @ ..] => cond_of(verb.as_bytes(), names),
         [] => None,
     }
+}
+
+/// The days of a word and the condition behind it.
+fn forecast_of(days: &[u8], words: &[String]) -> Option<Question>
+    ensures { result ≡ forecast_in (days.now ∷ map string_bytes words.now) }
+{
+    let days = number_from(1, 36_525, days)?;
+    Some(Question::Forecast(days, cond(words)?))
 }
 
 /// The days and the condition that the words are.
@@ -80,12 +93,18 @@ pub(crate) fn forecast(words: &[String]) -> Option<Question>
     ensures { result ≡ forecast_in (map string_bytes words.now) }
 {
     match words {
-        [days, words @ ..] => {
-            let days = number_from(1, 36_525, days.as_bytes())?;
-            Some(Question::Forecast(days, cond(words)?))
-        }
+        [days, words @ ..] => forecast_of(days.as_bytes(), words),
         [] => None,
     }
+}
+
+/// The event of a verb and the names behind it.
+fn event_of(verb: &[u8], names: &[String]) -> Option<NamedEvent>
+    ensures { result ≡ event_said (verb.now ∷ map string_bytes names.now) }
+{
+    let (on, sort) = event_verb(verb)?;
+    let fluent = fluent(sort, names)?;
+    Some(NamedEvent { on, fluent })
 }
 
 /// The event that the words are.
@@ -93,11 +112,7 @@ fn event(words: &[String]) -> Option<NamedEvent>
     ensures { result ≡ event_said (map string_bytes words.now) }
 {
     match words {
-        [verb, names @ ..] => {
-            let (on, sort) = event_verb(verb.as_bytes())?;
-            let fluent = fluent(sort, names)?;
-            Some(NamedEvent { on, fluent })
-        }
+        [verb, names @ ..] => event_of(verb.as_bytes(), names),
         [] => None,
     }
 }

@@ -1,7 +1,7 @@
 //! Why an event is in force or blocked at the end of a script, as it is told.
 ghost use Rattle.std.specs.Prelude.{◌≡◌, ◌++◌, IfOk, OnOk, option_map};
 ghost use Rattle.gt_base.specs.Sets.{has};
-ghost use Rattle.gtrbac_model.specs.Conflict.{after};
+ghost use Rattle.gtrbac_model.specs.Conflict.{after, seen as seen_in};
 ghost use Rattle.gt_base.specs.declared.events.Fluent.{Fluent as FluentOf};
 ghost use Rattle.gtrbac_tool.specs.Standing.{raises as is_raised, first_raising, reason, by_word as by_words, standing_line, certificate_line, TellsWhy, closed_at as closed_in, made_before};
 
@@ -9,6 +9,7 @@ use crate::explaining::{explain, status_after};
 use core_machine::{Book, Closed};
 use gt_base::{Event, Happened, Instant, Memory, Prio, Prioritised, Seen, Status, Trigger};
 use gt_text::push_number;
+use policy_book::Policy;
 use policy_lines::push_event;
 use policy_words::NamedEvent;
 use priority_conflict::{Contest, greatest, seen};
@@ -178,6 +179,27 @@ fn add_standing(
     }
 }
 
+/// Adds how the event stands in the set of an instant, over the status that the sets before it make.
+fn add_at(
+    alloc: Global,
+    text: &mut Vec<u8>,
+    policy: &Policy,
+    trace: &[Closed],
+    closed: &Closed,
+    t: Instant,
+    named: &NamedEvent,
+    e: Event,
+) -> Result<(), Memory>
+    ensures { OnOk result (text.new.items ≡ text.old.items ++ standing_line policy.now.policy.triggers closed.now.base (made_before t trace.now (has policy.now.policy.opening)) closed.now.set named.now e (seen_in closed.now.set e)) }
+{
+    let before = status_before(alloc, policy.opening(), trace, t)?;
+    let rules = policy.triggers().as_slice();
+    let x = Contest::new(alloc, set_of(closed))?;
+    let base = base_of(closed);
+    let seen = seen(x.set(), e);
+    add_standing(text, rules, base, &before, &x, named, e, seen)
+}
+
 /// The line that tells how many instants the certificate lists.
 fn certificate_text(alloc: Global, cert: &Cert) -> Result<Vec<u8>, Memory>
     ensures { IfOk result (λ text. text.items ≡ certificate_line cert.now) }
@@ -205,12 +227,7 @@ pub(crate) fn standing_text(
     let now = book.now();
     match closed_at(trace, now) {
         Some(closed) => {
-            let before = status_before(alloc, policy.opening(), trace, now)?;
-            let rules = policy.triggers().as_slice();
-            let x = Contest::new(alloc, set_of(closed))?;
-            let base = base_of(closed);
-            let seen = seen(x.set(), e);
-            add_standing(&mut text, rules, base, &before, &x, &named, e, seen)?;
+            add_at(alloc, &mut text, policy, trace, closed, now, &named, e)?;
             Ok(text)
         }
         None => {

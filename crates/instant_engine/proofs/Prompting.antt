@@ -1,5 +1,5 @@
 -- A trigger that fires has an event or a signal of the set in its body, where it has one or the other at all.
-use Rattle.std.proofs.Common.{◌≡◌, ℕ, true, not, nat_eq, ◌&&◌, ◌||◌, ◌⊎◌, inl, inr, List, [], ◌∷◌, ◌++◌, flat_map, refl, sym, ◌∙◌, subst, arith}
+use Rattle.std.proofs.Common.{◌≡◌, ℕ, true, not, nat_eq, ◌&&◌, ◌||◌, ◌⊎◌, inl, inr, List, [], ◌∷◌, flat_map, refl, ◌∙◌, subst, arith}
 use Rattle.std.specs.List.{list_all}
 use Rattle.std.proofs.lemmas.List.Folds.{list_any-append}
 use Rattle.gt_base.specs.Held.{TriggerView}
@@ -11,7 +11,6 @@ use Rattle.gt_base.specs.declared.events.Signal.{Signal}
 use Rattle.gt_base.proofs.OrderLaws.{signal_cmp-IsAntisymmetric}
 use Rattle.gt_base.proofs.SetSteps.{signal_cmp_total}
 use Rattle.gtrbac_model.specs.Conflict.{Status, blocked, won}
-use Rattle.gtrbac_model.specs.Graph.{item_at}
 use Rattle.gtrbac_model.specs.History.{is_some_item}
 use Rattle.gtrbac_model.specs.Same.{lists, same_event, same_signal}
 use Rattle.gtrbac_model.specs.WholePolicy.{has_cause}

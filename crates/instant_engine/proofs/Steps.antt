@@ -1,8 +1,8 @@
 -- One trigger looked at: what its head makes of a set, and which triggers may fire then.
-use Rattle.std.proofs.Common.{◌≡◌, ℕ, zero, suc, ◌+◌, ◌*◌, ◌<◌, ◌≤◌, Bool, true, false, cond, not, nat_eq, nat_lt, ◌&&◌, ◌||◌, inl, inr, List, [], ◌∷◌, ◌++◌, length, length-append, take, get_or, slice_get, Option, Some, None, refl, sym, ◌∙◌, ap, subst, arith}
+use Rattle.std.proofs.Common.{◌≡◌, ℕ, zero, suc, ◌+◌, ◌*◌, ◌<◌, ◌≤◌, Bool, true, false, cond, not, nat_eq, nat_lt, ◌&&◌, ◌||◌, inl, inr, List, [], ◌∷◌, ◌++◌, length, length-append, take, get_or, slice_get, Option, Some, None, refl, sym, ◌∙◌, ap, subst, arith, flat_map}
 use Rattle.std.specs.List.{list_all}
 use Rattle.std.proofs.lemmas.Bool.{eqb-true, eq-eqb, ltb-true, not-true, false≢true}
-use Rattle.std.proofs.lemmas.List.{take_more, length-take-le}
+use Rattle.std.proofs.lemmas.List.{take_more, length-take-le, flat_map_more, take_all}
 use Rattle.std.proofs.lemmas.List.Folds.{list_any-append}
 use Rattle.std.proofs.Math.Nat.{mul-le-mul_right, suc-mul}
 use Rattle.gt_base.specs.Held.{TriggerView}
@@ -26,6 +26,27 @@ use Rattle.trigger_rules.specs.Indexed.{numbers, has_event, with_event}
 use Rattle.trigger_rules.proofs.Keys.{numbers_push}
 use Rattle.instant_engine.specs.OnTheWay.{Keeps, is_due, is_level, fires, head_at, joined, waiting, missing}
 use Rattle.instant_engine.proofs.Climbing.{supports, next_level}
+
+-- the parts of the items so far, and of the next one
+
+pub part_more : {X : Type 0} (f : X → List ℕ) (init old part new : List ℕ) (xs : List X) (i : ℕ) (x d : X) → i < length xs → x ≡ get_or xs i d → new ≡ old ++ part → part ≡ f x → old ≡ init ++ flat_map f (take i xs) → new ≡ init ++ flat_map f (take (i + 1) xs)
+part_more f init old part new xs i x d lt is_x is is_part so_far =
+    is
+    ∙ ap (λ a. a ++ part) so_far
+    ∙ ap (λ b. (init ++ flat_map f (take i xs)) ++ b) is_part
+    ∙ flat_map_more f init (take i xs) x
+    ∙ ap (λ ys. init ++ flat_map f ys) (ap (λ y. take i xs ++ y ∷ []) is_x ∙ sym (take_more xs i d lt))
+
+pub parts_all : {X : Type 0} (f : X → List ℕ) (init old : List ℕ) (xs : List X) (i : ℕ) → length xs ≤ i → old ≡ init ++ flat_map f (take i xs) → old ≡ init ++ flat_map f xs
+parts_all f init old xs i all so_far = so_far ∙ ap (λ ys. init ++ flat_map f ys) (take_all i xs all)
+
+pub item_of : {X : Type 0} (xs : List X) (i : ℕ) (x : X) → i < length xs → x ≡ get_or xs i x → item_at xs i ≡ Some x
+item_of {X = X} xs i x lt is = at xs i lt ∙ ap (λ y. Some y) (sym is)
+  where
+    at : (xs : List X) (i : ℕ) → i < length xs → item_at xs i ≡ Some (get_or xs i x)
+    at [] i h = absurd (omega arith)
+    at (y ∷ ys) zero h = refl
+    at (y ∷ ys) (suc i) h = at ys i (omega arith)
 
 fewer : (a b : Bool) (u v : ℕ) → (a ≡ true → b ≡ true) → u ≤ v → cond b 0 1 + u ≤ cond a 0 1 + v
 fewer true true u v f h = omega arith

@@ -6,7 +6,7 @@ use Rattle.std.proofs.lemmas.Bool.{cases_eq, cases_lt}
 use Rattle.gtrbac_model.specs.Graph.{item_at}
 use Rattle.least_walk.specs.declared.graphs.GraphEdge.{GraphEdge}
 use Rattle.least_walk.specs.Net.{no_edge}
-use Rattle.least_walk.specs.Chains.{NoneFrom, IsLast, AreChains}
+use Rattle.least_walk.specs.Chains.{IsLast, AreChains}
 use Rattle.least_walk.proofs.Items.{item_within, item_map, item_read, one_item, any_default}
 
 abbrev pub edge_at : List GraphEdge → ℕ → GraphEdge

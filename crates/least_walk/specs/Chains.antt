@@ -2,7 +2,6 @@
 use Rattle.std.specs.Prelude.{◌≡◌, ℕ, ◌+◌, ◌<◌, ◌≤◌, ◌⊎◌, List, length, map, Some, slice_index}
 use Rattle.gtrbac_model.specs.Graph.{item_at}
 use Rattle.least_walk.specs.declared.graphs.GraphEdge.{GraphEdge}
-use Rattle.least_walk.specs.declared.chains.Chains.{Chains}
 use Rattle.least_walk.specs.declared.chains.Adjacency.{Adjacency}
 use Rattle.least_walk.specs.Net.{no_edge}
 

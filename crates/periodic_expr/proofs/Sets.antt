@@ -50,7 +50,7 @@ has_nine m = nat_le m 999_999_999
 abbrev chosen : ℕ → List ℕ → Bool → List ℕ
 chosen n ns b = elim b [ true ↦ ns | false ↦ insert ns (length (take_while (below n) ns)) n ]
 
-put_by : (n : ℕ) (ns : List ℕ) (b : Bool) → list_any (nat_eq n) ns ≡ b → put_in n ns ≡ chosen n ns b
+pub put_by : (n : ℕ) (ns : List ℕ) (b : Bool) → list_any (nat_eq n) ns ≡ b → put_in n ns ≡ chosen n ns b
 put_by n ns b e = ap (chosen n ns) e
 
 pub put_new : (n : ℕ) (ns : List ℕ) → list_any (nat_eq n) ns ≡ false → put_in n ns ≡ put_at n ns

@@ -59,7 +59,8 @@ fn copied_parts(alloc: Global, parts: &[ExprPart]) -> Result<Vec<ExprPart>, Memo
 {
     let mut copies = Vec::new(alloc);
     for part in parts {
-        copies.push(part.copied()?)?;
+        let copy = part.copied()?;
+        copies.push(copy)?;
     }
     Ok(copies)
 }

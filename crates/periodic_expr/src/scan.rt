@@ -5,7 +5,7 @@ ghost use Rattle.periodic_expr.specs.Scan.{is_blank as blank, calendar_word as l
 use gtrbac_model::Calendar;
 
 /// Where a scan stands: what may come next.
-#[derive(Clone, Copy, PartialEq, Eq, Debug)]
+#[derive(Clone, Copy)]
 pub(crate) enum Place {
     /// Nothing yet.
     Start,
@@ -44,7 +44,7 @@ pub(crate) enum Place {
 }
 
 /// What a step of the scan tells.
-#[derive(Clone, Copy, PartialEq, Eq, Debug)]
+#[derive(Clone, Copy)]
 pub(crate) enum Act {
     Nothing,
     /// A set begins here.
@@ -62,7 +62,7 @@ pub(crate) enum Act {
 }
 
 /// A step: where the scan stands then, and what it tells.
-#[derive(Clone, Copy, PartialEq, Eq, Debug)]
+#[derive(Clone, Copy)]
 pub(crate) struct Move {
     pub place: Place,
     pub act: Act,

@@ -1,6 +1,6 @@
 -- The names of the numbers of a well-formed policy have these numbers.
 use Rattle.std.proofs.Common.{◌≡◌, ℕ, ◌+◌, ◌≤◌, ◌<◌, Bool, true, false, ◌||◌, ◌&&◌, List, [], ◌∷◌, ◌++◌, map, length, get_or, None, Option, Some, is_some, refl, sym, ap, ◌∙◌, subst, arith, nat_le, nat_lt}
-use Rattle.std.specs.Prelude.{bytes_eq, position, zero, suc, not, cond}
+use Rattle.std.specs.Prelude.{bytes_eq, position, zero, suc, cond}
 use Rattle.std.specs.List.{list_any, list_all, filter_map, slice_get, position_or_len}
 use Rattle.std.specs.Option.{unwrap_or}
 use Rattle.std.proofs.lemmas.Bool.{eq-eqb, leb-true, le-leb, ltb-true, lt-ltb, not-true, or_left, or_parts, cond-true, false_from_ne_true}

@@ -11,3 +11,4 @@ pub mod Laws
 pub mod Nets
 pub mod Pairs
 pub mod FirstFaults
+pub mod Triggers

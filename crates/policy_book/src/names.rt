@@ -148,6 +148,22 @@ impl NameTables {
         pair_number_in(&self.edges, senior, junior)
     }
 
+    /// The assignment in numbers.
+    fn assigned(&self, u: &Name, r: &Name) -> Option<Fluent>
+        requires { AreFew 4_294_967_295 (seen_names self.now) }
+        ensures { result ≡ fluent_of (seen_names self.now) (NamedFluent.Assigned u.now r.now) }
+    {
+        Some(Fluent::Assigned(self.user(u)?, self.role(r)?))
+    }
+
+    /// The grant in numbers.
+    fn granted(&self, p: &Name, r: &Name) -> Option<Fluent>
+        requires { AreFew 4_294_967_295 (seen_names self.now) }
+        ensures { result ≡ fluent_of (seen_names self.now) (NamedFluent.Granted p.now r.now) }
+    {
+        Some(Fluent::Granted(self.perm(p)?, self.role(r)?))
+    }
+
     /// The fluent in numbers, none exactly where a name of it is not declared, or no edge has its pair.
     pub(crate) fn fluent(&self, f: &NamedFluent) -> Option<Fluent>
         requires { AreFew 4_294_967_295 (seen_names self.now) }
@@ -155,8 +171,8 @@ impl NameTables {
     {
         match f {
             NamedFluent::Enabled(r) => Some(Fluent::Enabled(self.role(r)?)),
-            NamedFluent::Assigned(u, r) => Some(Fluent::Assigned(self.user(u)?, self.role(r)?)),
-            NamedFluent::Granted(p, r) => Some(Fluent::Granted(self.perm(p)?, self.role(r)?)),
+            NamedFluent::Assigned(u, r) => self.assigned(u, r),
+            NamedFluent::Granted(p, r) => self.granted(p, r),
             NamedFluent::Limit(l) => Some(Fluent::Limit(self.limit(l)?)),
             NamedFluent::Edge(s, j) => Some(Fluent::Edge(self.edge(s, j)?)),
         }

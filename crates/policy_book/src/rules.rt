@@ -7,11 +7,12 @@ ghost use Rattle.policy_words.specs.Naming.{Names};
 ghost use Rattle.policy_words.specs.Making.{inherits as does_inherit, activates as does_activate, period_said, during_of, limit_said, edge_said, admin_said, opening_said, entry_said, event_in as event_said, signal_in as signal_said, cond_in as cond_said, settled_in as settled_said, rule_said};
 ghost use Rattle.policy_book.specs.Seen.{seen_names};
 ghost use Rattle.policy_book.specs.Numbers.{AreFew};
+ghost use Rattle.policy_book.specs.Triggers.{trigger_with};
 
 use crate::names::NameTables;
 use gt_base::{
-    Cond, Event, Fluent, HierEdge, LimitRule, List, Memory, Name, PeriodId, PeriodicEntry, Signal,
-    Trigger, UserId,
+    Cond, Event, Fluent, HierEdge, LimitRule, List, Memory, Name, PeriodId, PeriodicEntry,
+    Prioritised, Signal, Trigger, UserId,
 };
 use periodic_expr::Period;
 use policy_words::{EdgeKind, Item, Said};
@@ -246,6 +247,31 @@ fn settled_conds_in(alloc: Global, names: &NameTables, items: &[Item]) -> Result
     Ok(conds)
 }
 
+/// The trigger of a body, a head and a delay.
+fn trigger_of(
+    alloc: Global,
+    names: &NameTables,
+    items: &[Item],
+    head: Prioritised,
+    delay: u32,
+) -> Result<Trigger, Memory>
+    requires { AreFew 4_294_967_295 (seen_names names.now) }
+    ensures { IfOk result (λ trigger. trigger ≡ trigger_with (seen_names names.now) items.now head delay) }
+{
+    let events = events_in(alloc, names, items)?;
+    let signals = signals_in(alloc, names, items)?;
+    let conds = conds_in(alloc, names, items)?;
+    let settled = settled_conds_in(alloc, names, items)?;
+    Ok(Trigger {
+        events: List::from(events),
+        signals: List::from(signals),
+        conds: List::from(conds),
+        settled: List::from(settled),
+        head,
+        delay,
+    })
+}
+
 /// The trigger that a line gives.
 pub(crate) fn trigger_in(
     alloc: Global,
@@ -261,13 +287,5 @@ pub(crate) fn trigger_in(
     let Some(head) = names.head(head) else {
         return Ok(None);
     };
-    let items = items.as_slice();
-    Ok(Some(Trigger {
-        events: List::from(events_in(alloc, names, items)?),
-        signals: List::from(signals_in(alloc, names, items)?),
-        conds: List::from(conds_in(alloc, names, items)?),
-        settled: List::from(settled_conds_in(alloc, names, items)?),
-        head,
-        delay: *delay,
-    }))
+    Ok(Some(trigger_of(alloc, names, items.as_slice(), head, *delay)?))
 }

@@ -8,7 +8,7 @@ ghost use Rattle.policy_words.specs.Making.{with_pair};
 use crate::keys::Key;
 use gt_base::{Memory, Name};
 use indexmap::IndexSet;
-use std::alloc::Global;
+use std::alloc::{AllocError, Global};
 use std::marker::Model;
 
 /// Declared names, seen as their list. The number of a name is its place, from 0.
@@ -62,9 +62,10 @@ impl Table {
     pub fn copied(&self) -> Result<Table, Memory>
         ensures { IfOk result (λ copy. copy ≡ self.now) }
     {
-        Ok(Table {
-            names: self.names.clone()?,
-        })
+        match self.names.clone() {
+            Ok(names) => Ok(Table { names }),
+            Err(_) => Err(AllocError),
+        }
     }
 
     /// Whether the name is declared. It takes no memory.
@@ -138,9 +139,10 @@ impl PairTable {
     pub(crate) fn copied(&self) -> Result<PairTable, Memory>
         ensures { IfOk result (λ copy. copy ≡ self.now) }
     {
-        Ok(PairTable {
-            pairs: self.pairs.clone()?,
-        })
+        match self.pairs.clone() {
+            Ok(pairs) => Ok(PairTable { pairs }),
+            Err(_) => Err(AllocError),
+        }
     }
 
     /// The number of a pair, none exactly where it is not declared. It takes no memory.

@@ -1,8 +1,8 @@
 -- Words that are written one after another.
-use Rattle.std.proofs.Common.{◌≡◌, ℕ, List, [], ◌∷◌, ◌++◌, refl, sym, ◌∙◌, ap, append_assoc, flat_map, append-nil, length, get_or, take, drop, ◌-◌, arith, ◌≤◌, Result, Ok, Err, OnOk}
+use Rattle.std.proofs.Common.{◌≡◌, ℕ, List, [], ◌∷◌, ◌++◌, refl, sym, ◌∙◌, ap, append_assoc, flat_map, append-nil, length, get_or, take, drop, ◌+◌, ◌-◌, arith, ◌<◌, ◌≤◌, Result, Ok, Err, OnOk}
 use Rattle.std.specs.Prelude.{codes}
 use Rattle.std.proofs.lemmas.Grind.{flat_map-append}
-use Rattle.std.proofs.lemmas.List.{take_all}
+use Rattle.std.proofs.lemmas.List.{take_all, take_more}
 use Rattle.policy_words.specs.declared.parts.Item.{Item}
 use Rattle.policy_words.specs.Wording.{item_words}
 use Rattle.policy_words.specs.Sayings.{and_items}
@@ -28,6 +28,16 @@ from_first (j ∷ js) i some is =
 -- two texts one after another are one
 pub one_text : (old mid new a b c : List ℕ) → new ≡ mid ++ b → mid ≡ old ++ a → a ++ b ≡ c → new ≡ old ++ c
 one_text old mid new a b c e f g = e ∙ ap (λ t. t ++ b) f ∙ append_assoc old a b ∙ ap (λ t. old ++ t) g
+
+-- one item more is written behind those before it
+pub linked_more : (old mid new : List ℕ) (items : List Item) (n : ℕ) (i : Item) → n < length items → i ≡ get_or items n i → new ≡ mid ++ linked_item i
+    → mid ≡ old ++ flat_map linked_item (take n items) → new ≡ old ++ flat_map linked_item (take (n + 1) items)
+linked_more old mid new items n i lt is e f =
+    let before : List ℕ = flat_map linked_item (take n items) in
+    let all : flat_map linked_item (take (n + 1) items) ≡ before ++ linked_item (get_or items n i) =
+    ap (flat_map linked_item) (take_more items n i lt) ∙ flat_map-append linked_item (take n items) (get_or items n i ∷ []) ∙ ap (λ t. before ++ t) (append-nil (linked_item (get_or items n i)))
+    in
+    one_text old mid new before (linked_item i) (flat_map linked_item (take (n + 1) items)) e f (ap (λ j. before ++ linked_item j) is ∙ sym all)
 
 pub map_ok : {T E : Type 0} {P Q : Type 0} (r : Result T E) → OnOk r P → (P → Q) → OnOk r Q
 map_ok (Ok x) h f = f h

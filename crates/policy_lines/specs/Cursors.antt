@@ -2,6 +2,8 @@
 use Rattle.std.specs.Prelude.{ℕ, Bool, true, false, List, [], ◌∷◌, ◌++◌, codes, bytes_eq, length, Option, Some, None}
 use Rattle.gt_base.specs.Names.{name_in}
 use Rattle.policy_words.specs.declared.parts.Item.{Item}
+use Rattle.policy_words.specs.declared.parts.NamedCond.{NamedCond}
+use Rattle.policy_words.specs.declared.parts.NamedSignal.{NamedSignal}
 use Rattle.policy_words.specs.declared.parts.Item.TheVariants.{Signal, Cond, Settled}
 use Rattle.policy_words.specs.Wording.{◌>>=◌, Read, signal_at, cond_at, settled_at, or_else}
 use Rattle.policy_words.specs.Sayings.{SaidView, limit}
@@ -14,9 +16,25 @@ name_at (w ∷ ws) = do
   n ← name_in w
   Some (n, ws)
 
+-- items of what is read
+abbrev pub as_signal : Option (NamedSignal × List (List ℕ)) → Option (Item × List (List ℕ))
+as_signal r = do
+  s ← r
+  Some (Signal s.0, s.1)
+
+abbrev pub as_cond : Option (NamedCond × List (List ℕ)) → Option (Item × List (List ℕ))
+as_cond r = do
+  c ← r
+  Some (Cond c.0, c.1)
+
+abbrev pub as_settled : Option (NamedCond × List (List ℕ)) → Option (Item × List (List ℕ))
+as_settled r = do
+  c ← r
+  Some (Settled c.0, c.1)
+
 -- a signal, a condition or a settled condition
 abbrev pub other_item_at : Read Item
-other_item_at ws = or_else (do s ← signal_at ws; Some (Signal s.0, s.1)) (or_else (do c ← cond_at ws; Some (Cond c.0, c.1)) (do c ← settled_at ws; Some (Settled c.0, c.1)))
+other_item_at ws = or_else (as_signal (signal_at ws)) (or_else (as_cond (cond_at ws)) (as_settled (settled_at ws)))
 
 -- `and`, or `then`, which ends the items
 abbrev pub link_at : Read Bool

@@ -3,6 +3,7 @@ ghost use Rattle.std.specs.Prelude.{◌≡◌, ◌<◌, length, [], ◌∷◌, �
 ghost use Rattle.policy_lines.specs.Cursors.{link_at, items_of};
 
 use crate::parts::next_item;
+use crate::units::same;
 use gt_base::{List, Memory};
 use gt_text::Words;
 use policy_words::{Item, NamedCond, NamedEvent, NamedFluent, NamedSignal};
@@ -13,9 +14,9 @@ fn ends_items(words: &mut Words<'_>) -> Option<bool>
     ensures { option_map (λ l. (l, words.new)) result ≡ link_at words.old }
 {
     let word = words.next()?;
-    if word == b"and".as_slice() {
+    if same(word, b"and") {
         Some(false)
-    } else if word == b"then".as_slice() {
+    } else if same(word, b"then") {
         Some(true)
     } else {
         None

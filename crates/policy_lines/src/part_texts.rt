@@ -1,11 +1,11 @@
 //! Events, conditions, signals, heads and items, written.
-ghost use Rattle.std.specs.Prelude.{◌≡◌, ◌∷◌, ◌++◌, [], decimal, flat_map, OnOk};
+ghost use Rattle.std.specs.Prelude.{◌≡◌, ◌∷◌, ◌++◌, [], codes, decimal, flat_map, OnOk};
 ghost use Rattle.gt_text.specs.Words.{spaced};
 ghost use Rattle.policy_words.specs.Wording.{fluent_names, event_words, cond_words, signal_words, head_words, item_words, delay_words};
 ghost use Rattle.policy_words.specs.Sayings.{and_items};
 ghost use Rattle.policy_lines.specs.Spaces.{later, led, linked_item};
 
-use crate::verbs::{cond_text, event_text, sort_of};
+use crate::verbs::{cond_text, event_text, signal_text, sort_of};
 use gt_base::{Memory, Name};
 use gt_text::push_number;
 use policy_words::{Item, NamedCond, NamedEvent, NamedFluent, NamedHead, NamedSignal};
@@ -31,25 +31,24 @@ pub(crate) fn add_number(text: &mut Vec<u8>, n: u32) -> Result<(), Memory>
     push_number(text, u64::from(n))
 }
 
+/// Adds two names, each with a space before it.
+pub(crate) fn add_pair(text: &mut Vec<u8>, first: &Name, second: &Name) -> Result<(), Memory>
+    ensures { OnOk result (text.new.items ≡ text.old.items ++ later (first.now ∷ second.now ∷ [])) }
+{
+    add_name(text, first)?;
+    add_name(text, second)
+}
+
 /// Adds the names of a fluent, each with a space before it.
 pub(crate) fn add_names(text: &mut Vec<u8>, fluent: &NamedFluent) -> Result<(), Memory>
     ensures { OnOk result (text.new.items ≡ text.old.items ++ later (fluent_names fluent.now)) }
 {
     match fluent {
         NamedFluent::Enabled(role) => add_name(text, role),
-        NamedFluent::Assigned(user, role) => {
-            add_name(text, user)?;
-            add_name(text, role)
-        }
-        NamedFluent::Granted(perm, role) => {
-            add_name(text, perm)?;
-            add_name(text, role)
-        }
+        NamedFluent::Assigned(user, role) => add_pair(text, user, role),
+        NamedFluent::Granted(perm, role) => add_pair(text, perm, role),
         NamedFluent::Limit(limit) => add_name(text, limit),
-        NamedFluent::Edge(senior, junior) => {
-            add_name(text, senior)?;
-            add_name(text, junior)
-        }
+        NamedFluent::Edge(senior, junior) => add_pair(text, senior, junior),
     }
 }
 
@@ -70,13 +69,8 @@ fn write_cond(text: &mut Vec<u8>, cond: &NamedCond) -> Result<(), Memory>
 fn write_signal(text: &mut Vec<u8>, signal: &NamedSignal) -> Result<(), Memory>
     ensures { OnOk result (text.new.items ≡ text.old.items ++ led (signal_words signal.now)) }
 {
-    if signal.start {
-        text.extend_from_slice(b"activate")?;
-    } else {
-        text.extend_from_slice(b"deactivate")?;
-    }
-    add_name(text, &signal.user)?;
-    add_name(text, &signal.role)
+    text.extend_from_slice(signal_text(signal.start))?;
+    add_pair(text, &signal.user, &signal.role)
 }
 
 fn write_head(text: &mut Vec<u8>, head: &NamedHead) -> Result<(), Memory>
@@ -84,8 +78,14 @@ fn write_head(text: &mut Vec<u8>, head: &NamedHead) -> Result<(), Memory>
 {
     push_number(text, u64::from(head.prio.get()))?;
     text.extend_from_slice(b":")?;
-    text.extend_from_slice(event_text(head.event.on, sort_of(&head.event.fluent)))?;
-    add_names(text, &head.event.fluent)
+    write_event(text, &head.event)
+}
+
+fn write_settled(text: &mut Vec<u8>, cond: &NamedCond) -> Result<(), Memory>
+    ensures { OnOk result (text.new.items ≡ text.old.items ++ led (codes "settled" ∷ cond_words cond.now)) }
+{
+    text.extend_from_slice(b"settled")?;
+    add_cond(text, cond)
 }
 
 fn write_item(text: &mut Vec<u8>, item: &Item) -> Result<(), Memory>
@@ -95,10 +95,7 @@ fn write_item(text: &mut Vec<u8>, item: &Item) -> Result<(), Memory>
         Item::Event(event) => write_event(text, event),
         Item::Signal(signal) => write_signal(text, signal),
         Item::Cond(cond) => write_cond(text, cond),
-        Item::Settled(cond) => {
-            text.extend_from_slice(b"settled")?;
-            add_cond(text, cond)
-        }
+        Item::Settled(cond) => write_settled(text, cond),
     }
 }
 

@@ -3,7 +3,7 @@ ghost use Rattle.std.specs.Prelude.{◌≡◌, ◌∷◌, ◌≤◌, [], MatchOp
 ghost use Rattle.std.specs.List.{before_first, after_first};
 ghost use Rattle.gt_base.specs.Names.{number_from as number_between};
 ghost use Rattle.policy_words.specs.Wording.{fluent_at, verb_in, event_verb as event_word, event_at, cond_at, signal_of, head_at, item_at, is_colon, delay_in};
-ghost use Rattle.policy_lines.specs.Cursors.{other_item_at};
+ghost use Rattle.policy_lines.specs.Cursors.{as_signal, as_cond, as_settled, other_item_at};
 
 use crate::units::{next_name, number_from, same};
 use crate::verbs::{cond_verb, event_verb};
@@ -19,9 +19,9 @@ fn fluent(sort: Sort, words: &mut Words<'_>) -> Option<NamedFluent>
     let first = next_name(words)?;
     match sort {
         Sort::Enabling => Some(NamedFluent::Enabled(first)),
+        Sort::Arming => Some(NamedFluent::Limit(first)),
         Sort::Assigning => Some(NamedFluent::Assigned(first, next_name(words)?)),
         Sort::Granting => Some(NamedFluent::Granted(first, next_name(words)?)),
-        Sort::Arming => Some(NamedFluent::Limit(first)),
         Sort::Linking => Some(NamedFluent::Edge(first, next_name(words)?)),
     }
 }
@@ -69,20 +69,38 @@ fn signal(start: bool, words: &mut Words<'_>) -> Option<NamedSignal>
     Some(NamedSignal { start, user, role })
 }
 
+fn signal_item(start: bool, words: &mut Words<'_>) -> Option<Item>
+    ensures { option_map (λ i. (i, words.new)) result ≡ as_signal (signal_of start words.old) }
+{
+    Some(Item::Signal(signal(start, words)?))
+}
+
+fn cond_item(verb: &[u8], words: &mut Words<'_>) -> Option<Item>
+    ensures { option_map (λ i. (i, words.new)) result ≡ as_cond (cond_at (verb.now ∷ words.old)) }
+{
+    Some(Item::Cond(cond_of(verb, words)?))
+}
+
+fn settled_item(words: &mut Words<'_>) -> Option<Item>
+    ensures { option_map (λ i. (i, words.new)) result ≡ as_settled (cond_at words.old) }
+{
+    Some(Item::Settled(next_cond(words)?))
+}
+
 /// The signal, the condition or the settled condition of a first word and the words after it.
 fn other_item(verb: &[u8], words: &mut Words<'_>) -> Option<Item>
     ensures { option_map (λ i. (i, words.new)) result ≡ other_item_at (verb.now ∷ words.old) }
 {
     if same(verb, b"activate") {
-        return Some(Item::Signal(signal(true, words)?));
+        return signal_item(true, words);
     }
     if same(verb, b"deactivate") {
-        return Some(Item::Signal(signal(false, words)?));
+        return signal_item(false, words);
     }
     if same(verb, b"settled") {
-        return Some(Item::Settled(next_cond(words)?));
+        return settled_item(words);
     }
-    Some(Item::Cond(cond_of(verb, words)?))
+    cond_item(verb, words)
 }
 
 /// The event of a verb whose names stand at the front.
@@ -148,7 +166,7 @@ pub fn read_delay(mut words: Words<'_>) -> Option<u32>
         return Some(0);
     };
     let delay = words.next()?;
-    if words.next().is_some() || after != b"after".as_slice() {
+    if words.next().is_some() || !same(after, b"after") {
         return None;
     }
     number_from(0, 52_595_999, delay)

@@ -6,7 +6,7 @@ ghost use Rattle.periodic_expr.specs.Reading.{read_expr};
 ghost use Rattle.policy_lines.specs.Answered.{Answers, seen_bounds};
 
 use crate::rests::expression;
-use crate::units::{read_instant, read_name};
+use crate::units::{read_instant, read_name, same};
 use gt_base::{Instant, Name};
 use gt_text::Words;
 use periodic_expr::{ExprKind, parse_expr};
@@ -25,7 +25,7 @@ pub(crate) struct PeriodBounds {
 fn first_instant(word: &[u8]) -> Option<Instant>
     ensures { result ≡ first_in word.now }
 {
-    if word == b"*".as_slice() {
+    if same(word, b"*") {
         Instant::new(0)
     } else {
         read_instant(word)
@@ -36,7 +36,7 @@ fn first_instant(word: &[u8]) -> Option<Instant>
 fn last_instant(word: &[u8]) -> Option<Instant>
     ensures { result ≡ last_in word.now }
 {
-    if word == b"*".as_slice() {
+    if same(word, b"*") {
         Instant::new(52_595_999)
     } else {
         read_instant(word)

@@ -1,6 +1,6 @@
 //! The verbs of events and conditions: the words of each, and the verb that a word is.
 ghost use Rattle.std.specs.Prelude.{◌≡◌, bytes_eq, find};
-ghost use Rattle.policy_words.specs.Wording.{verb_in, event_verb as event_word, cond_verb as cond_word, sort_of as sort_by_name};
+ghost use Rattle.policy_words.specs.Wording.{verb_in, event_verb as event_word, cond_verb as cond_word, signal_verb as signal_word, sort_of as sort_by_name};
 
 use policy_words::{NamedFluent, Sort};
 
@@ -64,6 +64,13 @@ pub(crate) fn cond_text(on: bool, sort: Sort) -> &'static [u8]
         (true, Sort::Linking) => b"linked",
         (false, Sort::Linking) => b"unlinked",
     }
+}
+
+/// The word of a signal's verb.
+pub(crate) fn signal_text(start: bool) -> &'static [u8]
+    ensures { result.now ≡ signal_word start }
+{
+    if start { b"activate" } else { b"deactivate" }
 }
 
 fn event_among(mut verbs: &[(bool, Sort)], word: &[u8]) -> Option<(bool, Sort)>

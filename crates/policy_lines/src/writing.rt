@@ -9,7 +9,7 @@ ghost use Rattle.policy_words.specs.Seen.{seen_said};
 ghost use Rattle.policy_lines.specs.Spaces.{later, led};
 
 use crate::part_texts::{
-    add_cond, add_head, add_items, add_name, add_names, add_number, add_word, push_delay,
+    add_cond, add_head, add_items, add_name, add_names, add_number, add_pair, add_word, push_delay,
 };
 use crate::verbs::{cond_text, sort_of};
 use civil_time::write_civil;
@@ -150,8 +150,7 @@ fn write_edge(
     text.extend_from_slice(b"edge")?;
     add_word(text, kind_text(kind))?;
     add_word(text, strength_text(strong))?;
-    add_name(text, senior)?;
-    add_name(text, junior)
+    add_pair(text, senior, junior)
 }
 
 fn write_cap(text: &mut Vec<u8>, kind: CapKind, role: &Name, n: u32) -> Result<(), Memory>

@@ -28,7 +28,7 @@ use Rattle.policy_words.specs.Sayings.{SaidView, version, role, user, perm, peri
 use Rattle.policy_words.specs.Naming.{Names, NamedPolicy, same_pair, user_name, period_name, limit_name, role_name, fluent_named, head_named}
 use Rattle.policy_words.specs.Making.{no_names, names_of, Draft, fresh, drafted, policy_of, named_policy, inherits, activates, no_caps, period_said, during_of, limit_said, edge_said, entry_said, rule_said, admin_said, opening_said, users_from, is_second, are_second, linked_at_first}
 use Rattle.policy_words.specs.Book.{is_known, is_of, most_of, first_trouble, without_cycle, without_trouble, said_in, build}
-use Rattle.policy_words.specs.Canonical.{edge_kind, is_enabled, is_assigned, is_granted, is_armed, is_linked, is_version_one, version_of, period_line, limit_line, edge_line, cap_line, cap_lines, items_of, opening_lines, canonical_lines}
+use Rattle.policy_words.specs.Canonical.{edge_kind, is_enabled, is_assigned, is_granted, is_armed, is_linked, is_version_one, period_line, limit_line, edge_line, cap_line, cap_lines, items_of, opening_lines, canonical_lines}
 use Rattle.policy_words.specs.Valid.{IsWellFormed, pair_of}
 use Rattle.policy_book.specs.Said.{is_version}
 use Rattle.policy_book.specs.Laws.{numbered_from}

@@ -14,7 +14,6 @@ use Rattle.gt_base.proofs.OrderLaws.{fluent_cmp-IsAntisymmetric}
 use Rattle.gtrbac_model.specs.Same.{same_user, same_fluent, lists}
 use Rattle.gtrbac_model.proofs.Elements.{both_true, split, equal_by}
 use Rattle.gtrbac_model.specs.Valid.{rises_above}
-use Rattle.gt_base.specs.declared.policies.HierEdge.{HierEdge}
 use Rattle.gtrbac_model.specs.Policy.{Policy}
 use Rattle.gtrbac_model.specs.WholePolicy.{admins_rise, is_fluent}
 use Rattle.policy_words.specs.Sayings.{SaidView}

@@ -15,7 +15,7 @@ use Rattle.policy_words.specs.Making.{is_second}
 use Rattle.policy_words.specs.Spelling.{IsFirst, IsPlaced}
 use Rattle.policy_lines.proofs.SaidBySpelling.{sayings_are_read}
 use Rattle.policy_words.specs.Reading.{Numbered, and_then, read_said, read_lines}
-use Rattle.policy_book.specs.Said.{are_before, is_version, follows, is_placed}
+use Rattle.policy_book.specs.Said.{are_before, is_version, is_placed}
 use Rattle.policy_text.specs.Lines.{behind, version_told}
 
 pub behind_more : (ss : List (Numbered SaidView)) (s : Numbered SaidView) (r : Result (List (Numbered SaidView)) (Numbered TextKind)) → behind (ss ++ s ∷ []) r ≡ behind ss (and_then s r)

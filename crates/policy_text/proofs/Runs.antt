@@ -1,5 +1,5 @@
 -- A run over a list, an item further.
-use Rattle.std.proofs.Common.{◌≡◌, ℕ, ◌+◌, ◌<◌, ◌≤◌, Bool, true, List, [], ◌∷◌, ◌++◌, flat_map, map, take, length, get_or, Some, sym, ap, ◌∙◌, append_assoc, arith}
+use Rattle.std.proofs.Common.{◌≡◌, ℕ, ◌+◌, ◌<◌, ◌≤◌, Bool, true, List, [], ◌∷◌, ◌++◌, flat_map, map, take, length, get_or, Some, sym, ap, subst, ◌∙◌, append_assoc, arith}
 use Rattle.std.specs.List.{list_all, enumerate_from, slice_get}
 use Rattle.std.specs.Option.{unwrap_or}
 use Rattle.std.proofs.lemmas.Grind.{take_at_read}
@@ -42,6 +42,24 @@ further f xs i x old text more step so_far added = added ∙ ap (λ t. t ++ f x)
 
 pub all_run : {A : Type 0} (f : (ℕ × A) → List ℕ) (xs : List A) (i : ℕ) (old text : List ℕ) → length xs ≤ i → text ≡ old ++ flat_map f (take i (enumerate_from 0 xs)) → text ≡ old ++ flat_map f (enumerate_from 0 xs)
 all_run f xs i old text le so_far = so_far ∙ ap (λ ys. old ++ flat_map f ys) (take_all i (enumerate_from 0 xs) (omega (arith, length-enumerate_from 0 xs)))
+
+-- the list that was read is at its end
+
+pub whole_run : {A : Type 0} (f : A → List ℕ) (xs ys : List A) (i : ℕ) (old text : List ℕ) → xs ≡ ys → length xs ≤ i → text ≡ old ++ flat_map f (take i ys) → text ≡ old ++ flat_map f ys
+whole_run f xs ys i old text same le so_far =
+    so_far ∙ ap (λ zs. old ++ flat_map f zs) (take_all i ys (subst (λ zs. length zs ≤ i) same le))
+
+pub whole_map : {A B : Type 0} (f : A → B) (xs : List A) (i : ℕ) (old items : List B) → length xs ≤ i → items ≡ old ++ map f (take i xs) → items ≡ old ++ map f xs
+whole_map f xs i old items le so_far = so_far ∙ ap (λ zs. old ++ map f zs) (take_all i xs le)
+
+-- the next item, and what all pass, read with what stands for a missing one
+
+pub next_at : {A : Type 0} (xs ys : List A) (i : ℕ) (d : A) → xs ≡ ys → i < length xs → take (i + 1) ys ≡ take i ys ++ get_or xs i d ∷ []
+next_at xs ys i d same lt =
+    (take_at_read ys i d (subst (λ zs. i < length zs) same lt)).1 ∙ ap (λ zs. take i ys ++ get_or zs i d ∷ []) (sym same)
+
+pub passes_at : {A : Type 0} (p : A → Bool) (xs ys : List A) (i : ℕ) (d : A) → list_all p ys ≡ true → xs ≡ ys → i < length xs → p (get_or xs i d) ≡ true
+passes_at p xs ys i d all same lt = ap (λ zs. p (get_or zs i d)) same ∙ all_at p ys i d all (subst (λ zs. i < length zs) same lt)
 
 pub item_is : {A : Type 0} (p : A → Bool) (xs ys : List A) (k : ℕ) (x : A) → list_all p ys ≡ true → xs ≡ ys → k < length xs → x ≡ get_or xs k x → p x ≡ true
 item_is p xs ys k x all same lt is =

@@ -1,5 +1,6 @@
 -- The canonical text is its sections one after another.
-use Rattle.std.proofs.Common.{◌≡◌, ℕ, Bool, true, false, cond, List, [], ◌∷◌, ◌++◌, map, filter, flat_map, refl, ap, ◌∙◌, append_assoc}
+use Rattle.std.proofs.Common.{◌≡◌, ℕ, Bool, true, false, cond, List, [], ◌∷◌, ◌++◌, map, filter, flat_map, refl, sym, ap, ◌∙◌, append_assoc}
+use Rattle.std.specs.Prelude.{Result, Ok, Err, OnOk}
 use Rattle.std.proofs.lemmas.Grind.{flat_map-append}
 use Rattle.std.proofs.lemmas.List.Folds.{flat_map-map}
 use Rattle.gt_base.specs.Sets.{members}
@@ -73,6 +74,11 @@ in_sections np =
     (by_line (trigger_line ns) np.policy.triggers))
     ∙ grouped (line_text (version (version_of np.policy))) _ _ _ _ _ _ _ _ _ _ _ _ _ _ _
 
-pub five : (t0 t1 t2 t3 t4 t5 a b c d e : List ℕ) → t0 ≡ [] → t1 ≡ t0 ++ a → t2 ≡ t1 ++ b → t3 ≡ t2 ++ c → t4 ≡ t3 ++ d → t5 ≡ t4 ++ e → t5 ≡ a ++ b ++ c ++ d ++ e
-five t0 t1 t2 t3 t4 t5 a b c d e e0 e1 e2 e3 e4 e5 =
-    e5 ∙ ap (λ t. t ++ e) (e4 ∙ ap (λ t. t ++ d) (e3 ∙ ap (λ t. t ++ c) (e2 ∙ ap (λ t. t ++ b) (e1 ∙ ap (λ t. t ++ a) e0)))) ∙ simp append_assoc
+pub five : {A E : Type 0} (t0 t1 t2 t3 t4 t5 a b c d e whole : List ℕ) (r : Result A E) → whole ≡ a ++ b ++ c ++ d ++ e → t1 ≡ t0 ++ a → t2 ≡ t1 ++ b → t3 ≡ t2 ++ c → t4 ≡ t3 ++ d → OnOk r (t5 ≡ t4 ++ e)
+    → OnOk r (t5 ≡ t0 ++ whole)
+five t0 t1 t2 t3 t4 t5 a b c d e whole (Err f) is e1 e2 e3 e4 e5 = tt
+five t0 t1 t2 t3 t4 t5 a b c d e whole (Ok x) is e1 e2 e3 e4 e5 =
+    e5 ∙ ap (λ t. t ++ e) (e4 ∙ ap (λ t. t ++ d) (e3 ∙ ap (λ t. t ++ c) (e2 ∙ ap (λ t. t ++ b) e1))) ∙ joined_on ∙ ap (λ t. t0 ++ t) (sym is)
+  where
+    joined_on : ((((t0 ++ a) ++ b) ++ c) ++ d) ++ e ≡ t0 ++ (a ++ b ++ c ++ d ++ e)
+    joined_on = simp append_assoc

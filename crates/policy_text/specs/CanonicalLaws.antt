@@ -1,7 +1,6 @@
 -- Laws of the canonical lines of a policy.
-use Rattle.std.specs.Prelude.{◌≡◌, ℕ, ◌+◌, Bool, true, false, not, List, [], ◌∷◌, All, Ok, IsTrue}
+use Rattle.std.specs.Prelude.{◌≡◌, not, List, ◌∷◌, All, Ok, IsTrue}
 use Rattle.policy_words.specs.Sayings.{SaidView, version, is_saying}
-use Rattle.policy_words.specs.Reading.{Numbered}
 use Rattle.policy_words.specs.Naming.{NamedPolicy}
 use Rattle.policy_words.specs.Book.{build}
 use Rattle.policy_words.specs.Canonical.{canonical_lines}

@@ -81,6 +81,14 @@ ranked_text np = lines_by (edge_line np.names) np.policy.edges ++ flat_map (caps
 abbrev pub opened_by : Names → (Fluent → Bool) → List Fluent → List ℕ
 opened_by ns of_sort fs = flat_map (opening_text ns of_sort) fs
 
+-- the edges that are linked, in version 2
+abbrev pub linked_from : NamedPolicy → List Fluent → List ℕ
+linked_from np fs = cond (is_version_one np.policy) [] (opened_by np.names is_linked fs)
+
+-- the fluents, a sort after another
+abbrev pub opened_from : NamedPolicy → List Fluent → List ℕ
+opened_from np fs = opened_by np.names is_enabled fs ++ opened_by np.names is_assigned fs ++ opened_by np.names is_granted fs ++ opened_by np.names is_armed fs ++ linked_from np fs
+
 -- what is on at first, of one sort
 abbrev pub opened_of : (Fluent → Bool) → NamedPolicy → List ℕ
 opened_of of_sort np = opened_by np.names of_sort (members np.policy.opening)

@@ -2,7 +2,7 @@
 ghost use Rattle.std.specs.Prelude.{◌≡◌, ◌++◌, OnOk, IsTrue};
 ghost use Rattle.std.specs.List.{list_all};
 ghost use Rattle.gtrbac_model.specs.WholePolicy.{is_fluent};
-ghost use Rattle.policy_text.specs.Sections.{line_text, opening_line, opening_text, opened_by, opened_of, opened_text};
+ghost use Rattle.policy_text.specs.Sections.{line_text, opening_line, opening_text, opened_by, linked_from, opened_from, opened_text};
 ghost use Rattle.policy_text.specs.Sorts.{of_sort};
 
 use crate::named::push_line;
@@ -64,6 +64,30 @@ fn push_sort(text: &mut Vec<u8>, p: &Policy, sort: Sort, fluents: &[Fluent]) -> 
     Ok(())
 }
 
+/// Adds the edges that are linked, in version 2.
+fn push_linked(text: &mut Vec<u8>, p: &Policy, fluents: &[Fluent]) -> Result<(), Memory>
+    requires { IsTrue (list_all (is_fluent p.now.policy) fluents.now) }
+    ensures { OnOk result (text.new.items ≡ text.old.items ++ linked_from p.now fluents.now) }
+{
+    if is_version_one(p) {
+        Ok(())
+    } else {
+        push_sort(text, p, Sort::Linked, fluents)
+    }
+}
+
+/// Adds the fluents, a sort after another.
+fn push_sorts(text: &mut Vec<u8>, p: &Policy, fluents: &[Fluent]) -> Result<(), Memory>
+    requires { IsTrue (list_all (is_fluent p.now.policy) fluents.now) }
+    ensures { OnOk result (text.new.items ≡ text.old.items ++ opened_from p.now fluents.now) }
+{
+    push_sort(text, p, Sort::Enabled, fluents)?;
+    push_sort(text, p, Sort::Assigned, fluents)?;
+    push_sort(text, p, Sort::Granted, fluents)?;
+    push_sort(text, p, Sort::Armed, fluents)?;
+    push_linked(text, p, fluents)
+}
+
 /// Adds what is on at first: the roles that are enabled, the assignments, the grants, the limits that are armed, and in version 2
 /// the edges that are linked.
 pub(crate) fn push_opened(text: &mut Vec<u8>, p: &Policy) -> Result<(), Memory>
@@ -71,13 +95,5 @@ pub(crate) fn push_opened(text: &mut Vec<u8>, p: &Policy) -> Result<(), Memory>
 {
     p.keeps();
     let opening = p.opening().fluents()?;
-    let fluents = opening.as_slice();
-    push_sort(text, p, Sort::Enabled, fluents)?;
-    push_sort(text, p, Sort::Assigned, fluents)?;
-    push_sort(text, p, Sort::Granted, fluents)?;
-    push_sort(text, p, Sort::Armed, fluents)?;
-    if is_version_one(p) {
-        return Ok(());
-    }
-    push_sort(text, p, Sort::Linked, fluents)
+    push_sorts(text, p, opening.as_slice())
 }

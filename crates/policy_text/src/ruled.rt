@@ -86,16 +86,24 @@ fn add_settled(items: &mut Vec<Item>, p: &Policy, conds: &[Cond]) -> Result<(), 
     Ok(())
 }
 
+/// Adds the items of a trigger's body.
+fn add_items(items: &mut Vec<Item>, p: &Policy, trigger: &Trigger) -> Result<(), Memory>
+    requires { IsTrue (is_rule p.now.policy trigger.now) }
+    ensures { OnOk result (items.new.items ≡ items.old.items ++ body_of p.now.names trigger.now) }
+{
+    add_events(items, p, trigger.events.as_slice())?;
+    add_signals(items, p, trigger.signals.as_slice())?;
+    add_conds(items, p, trigger.conds.as_slice())?;
+    add_settled(items, p, trigger.settled.as_slice())
+}
+
 /// The items of a trigger's body: its events, its signals, its conditions and its settled conditions.
 fn items_of(alloc: Global, p: &Policy, trigger: &Trigger) -> Result<List<Item>, Memory>
     requires { IsTrue (is_rule p.now.policy trigger.now) }
     ensures { IfOk result (λ items. items.items ≡ body_of p.now.names trigger.now) }
 {
     let mut items = Vec::new(alloc);
-    add_events(&mut items, p, trigger.events.as_slice())?;
-    add_signals(&mut items, p, trigger.signals.as_slice())?;
-    add_conds(&mut items, p, trigger.conds.as_slice())?;
-    add_settled(&mut items, p, trigger.settled.as_slice())?;
+    add_items(&mut items, p, trigger)?;
     Ok(List::from(items))
 }
 

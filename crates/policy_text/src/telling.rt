@@ -67,31 +67,28 @@ pub fn push_text_fault(text: &mut Vec<u8>, fault: TextFault) -> Result<(), Memor
     text.extend_from_slice(b"\n")
 }
 
-/// The word of a kind.
-fn many_word(kind: Kind) -> &'static [u8]
-    ensures { result.now ≡ kind_word kind }
+/// What is told of a kind that has too many lines.
+fn many_of(kind: Kind) -> &'static [u8]
+    ensures { result.now ≡ codes "many " ++ kind_word kind }
 {
     match kind {
-        Kind::Roles => b"roles",
-        Kind::Users => b"users",
-        Kind::Perms => b"perms",
-        Kind::Periods => b"periods",
-        Kind::Limits => b"limits",
-        Kind::Edges => b"edges",
-        Kind::Entries => b"entries",
-        Kind::Triggers => b"triggers",
-        Kind::Assigned => b"assigned",
-        Kind::Granted => b"granted",
+        Kind::Roles => b"many roles",
+        Kind::Users => b"many users",
+        Kind::Perms => b"many perms",
+        Kind::Periods => b"many periods",
+        Kind::Limits => b"many limits",
+        Kind::Edges => b"many edges",
+        Kind::Entries => b"many entries",
+        Kind::Triggers => b"many triggers",
+        Kind::Assigned => b"many assigned",
+        Kind::Granted => b"many granted",
     }
 }
 
 fn push_many(text: &mut Vec<u8>, line: u32, what: Kind) -> Result<(), Memory>
     ensures { OnOk result (text.new.items ≡ text.old.items ++ at_line line (codes "many " ++ kind_word what)) }
 {
-    push_line_head(text, line)?;
-    text.extend_from_slice(b"many ")?;
-    text.extend_from_slice(many_word(what))?;
-    text.extend_from_slice(b"\n")
+    push_at_line(text, line, many_of(what))
 }
 
 fn push_at_line(text: &mut Vec<u8>, line: u32, what: &[u8]) -> Result<(), Memory>

@@ -1,5 +1,5 @@
 //! The canonical text of a policy, written.
-ghost use Rattle.std.specs.Prelude.{◌≡◌, IfOk};
+ghost use Rattle.std.specs.Prelude.{◌≡◌, ◌++◌, IfOk, OnOk};
 ghost use Rattle.policy_words.specs.Canonical.{canonical_text};
 
 use crate::named::push_named;
@@ -11,15 +11,22 @@ use gt_base::{List, Memory};
 use policy_book::Policy;
 use std::alloc::Global;
 
+/// Adds the lines, a section after another.
+fn push_sections(text: &mut Vec<u8>, p: &Policy) -> Result<(), Memory>
+    ensures { OnOk result (text.new.items ≡ text.old.items ++ canonical_text p.now) }
+{
+    push_named(text, p)?;
+    push_timed(text, p)?;
+    push_ranked(text, p)?;
+    push_opened(text, p)?;
+    push_ruled(text, p)
+}
+
 /// The canonical text of a policy: its lines in a fixed order, words with one space between them, each line with a line feed.
 pub fn write_policy(alloc: Global, p: &Policy) -> Result<List<u8>, Memory>
     ensures { IfOk result (λ text. text.items ≡ canonical_text p.now) }
 {
     let mut text = Vec::new(alloc);
-    push_named(&mut text, p)?;
-    push_timed(&mut text, p)?;
-    push_ranked(&mut text, p)?;
-    push_opened(&mut text, p)?;
-    push_ruled(&mut text, p)?;
+    push_sections(&mut text, p)?;
     Ok(List::from(text))
 }

@@ -19,7 +19,7 @@ use Rattle.policy_words.specs.Valid.{IsWellFormed}
 use Rattle.request_text.specs.Replies.{log_text}
 use Rattle.request_text.specs.Tellable.{IsStranger, IsTellableStep, AreTellable, IsNoOperator, IsPlainStep, ArePlain, IsTold}
 use Rattle.request_text.specs.Named.{has_reply}
-use Rattle.request_text.specs.Kinds.{IsAnswer, IsSoundReply, IsTellable}
+use Rattle.request_text.specs.Kinds.{IsAnswer, IsSoundReply}
 use Rattle.request_text.proofs.Answering.{reply_answers}
 use Rattle.request_text.proofs.SoundReplies.{reply_sounds}
 use Rattle.request_text.proofs.ToldEntries.{log_tells}

@@ -1,6 +1,6 @@
 -- What is answered from a named point has the policy's numbers, and its walks lead along.
-use Rattle.std.proofs.Common.{◌≡◌, ℕ, zero, suc, ◌+◌, ◌<◌, ◌≤◌, Bool, true, false, not, ◌&&◌, List, [], ◌∷◌, ◌++◌, length, Option, Some, None, refl, sym, ◌∙◌, ap, subst, arith}
-use Rattle.std.specs.Prelude.{nat_le, nat_lt, count_by, is_none, map, filter}
+use Rattle.std.proofs.Common.{◌≡◌, ℕ, ◌+◌, ◌<◌, Bool, true, false, not, List, [], ◌∷◌, ◌++◌, length, Option, Some, None, refl, sym, ◌∙◌, subst, arith}
+use Rattle.std.specs.Prelude.{nat_le, nat_lt, count_by, is_none, filter}
 use Rattle.std.specs.List.{list_all, list_any}
 use Rattle.std.proofs.lemmas.Bool.{ltb-true, ltb-false, lt-ltb}
 use Rattle.gt_base.specs.Bounds.{last_minute}
@@ -14,30 +14,28 @@ use Rattle.gt_base.specs.declared.policies.HierEdge.{HierEdge}
 use Rattle.gt_base.specs.declared.requests.Actor.{Actor}
 use Rattle.gt_base.specs.declared.requests.Actor.TheVariants.{User}
 use Rattle.gt_base.specs.declared.requests.Decision.{Decision}
-use Rattle.gt_base.specs.declared.requests.Decision.TheVariants.{Permit, NoActive, NoGrant, Shut}
+use Rattle.gt_base.specs.declared.requests.Decision.TheVariants.{Permit, NoGrant, Shut}
 use Rattle.gt_base.specs.declared.requests.Request.{Request}
 use Rattle.gt_base.specs.declared.requests.Request.TheVariants as requests
 use Rattle.gt_base.specs.declared.requests.Refusal.{Refusal}
 use Rattle.gt_base.specs.declared.requests.Refusal.TheVariants.{NoUser, NotAdmin, Beyond, SessionsFull, NoSession, NotActive, Already, Disabled, NotAssigned, RoleFull, UserFull, DaySpent}
 use Rattle.gt_base.specs.declared.requests.Reply.{Reply}
-use Rattle.gt_base.specs.declared.requests.Reply.TheVariants.{Now, Truth, Event, Queued, Session, Done, Active, Decided, Refused}
+use Rattle.gt_base.specs.declared.requests.Reply.TheVariants.{Truth, Queued, Session, Done, Active, Decided, Refused}
 use Rattle.gtrbac_model.specs.Policy.{Policy}
 use Rattle.gtrbac_model.specs.Graph.{item_at}
-use Rattle.gtrbac_model.specs.Conflict.{Status, seen}
-use Rattle.gtrbac_model.specs.Trigger.{holds}
+use Rattle.gtrbac_model.specs.Conflict.{Status}
 use Rattle.gtrbac_model.specs.Hierarchy.{usable, activation_walk, permission_walk, permission_walk_of_any}
 use Rattle.gtrbac_model.specs.Same.{same_role, lists, same_session}
 use Rattle.gtrbac_model.specs.Calendar.{day_of}
 use Rattle.gtrbac_model.specs.Decision.{decide}
-use Rattle.gtrbac_model.specs.Sessions.{Activation, Table, caps_of, reached, is_of, is_active_in, owner_of}
+use Rattle.gtrbac_model.specs.Sessions.{Activation, caps_of, reached, is_of, is_active_in, owner_of}
 use Rattle.gtrbac_model.specs.Reply.{Point, unless, is_admin, session_causes, roles_of, raise_causes, actor_causes, answer, reply_of}
-use Rattle.gtrbac_model.specs.WholePolicy.{is_fluent}
-use Rattle.gtrbac_model.proofs.Elements.{Elem, any_elim}
+use Rattle.gtrbac_model.proofs.Elements.{any_elim}
 use Rattle.history_laws.specs.Named.{IsNamedPoint}
 use Rattle.history_laws.proofs.Members.{is_in, of_filter, of_map}
-use Rattle.policy_lines.proofs.Truths.{both, not_true, some_is, none_some}
-use Rattle.request_text.specs.Named.{has_edge, has_walk, has_decision, has_reply}
-use Rattle.request_text.specs.Kinds.{Follows, FollowsDecision, IsSoundReply}
+use Rattle.policy_lines.proofs.Truths.{both}
+use Rattle.request_text.specs.Named.{has_edge, has_decision, has_reply}
+use Rattle.request_text.specs.Kinds.{FollowsDecision, IsSoundReply}
 use Rattle.request_text.proofs.SoundWalks.{Leads, found_leads, none_still, tells_apart}
 
 pub record Sounds (p : Policy) (r : Reply) : Type 0 where

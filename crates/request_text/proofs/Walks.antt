@@ -1,6 +1,6 @@
 -- Texts in their pieces.
 use Rattle.std.proofs.Common.{◌≡◌, ℕ, ◌+◌, length, length-append, List, [], ◌∷◌, ◌++◌, flat_map, sym, ◌∙◌, ap, append-nil, append_assoc}
-use Rattle.std.specs.Prelude.{map}
+use Rattle.std.specs.Prelude.{codes, map}
 use Rattle.gt_base.specs.Held.{RoleWalk}
 use Rattle.gt_base.specs.declared.events.RoleId.{RoleId}
 use Rattle.gt_text.specs.Words.{spaced, joined_by}
@@ -29,6 +29,14 @@ delayed h d = behind _ (fluent_names h.event.fluent) (delay_words d)
 -- two pieces one after the other
 pub and_then : (old mid new a b : List ℕ) → mid ≡ old ++ a → new ≡ mid ++ b → new ≡ old ++ (a ++ b)
 and_then old mid new a b e f = f ∙ ap (λ t. t ++ b) e ∙ append_assoc old a b
+
+-- a requested event behind the first word, then its delay
+pub raise_pushed : (old led mid new : List ℕ) (h g : NamedHead) (d : ℕ) → led ≡ old ++ codes "request " → g ≡ h → mid ≡ led ++ spaced (head_words g) → new ≡ mid ++ later (delay_words d)
+    → new ≡ old ++ (codes "request " ++ spaced (head_words h ++ delay_words d))
+raise_pushed old led mid new h g d e is f k =
+    let head = and_then old led mid (codes "request ") (spaced (head_words g)) e f in
+    and_then old mid new (codes "request " ++ spaced (head_words g)) (later (delay_words d)) head k
+    ∙ ap (λ t. old ++ (codes "request " ++ t)) (sym (delayed g d) ∙ ap (λ (x : NamedHead). spaced (head_words x ++ delay_words d)) is)
 
 -- a walk behind a piece: its start, then its edges
 module _ (np : NamedPolicy) (w : RoleWalk) (start : RoleId) (edges piece : List ℕ) (first : start ≡ w.start) (same : edges ≡ w.edges) where

@@ -1,5 +1,5 @@
 -- Texts in their pieces, as they are written.
-use Rattle.std.specs.Prelude.{ℕ, List, ◌++◌, flat_map, codes}
+use Rattle.std.specs.Prelude.{ℕ, List, ◌++◌, flat_map, codes, decimal, Option, Some, None}
 use Rattle.gt_base.specs.Held.{RoleWalk}
 use Rattle.gt_base.specs.declared.requests.Who.{Who}
 use Rattle.gt_base.specs.declared.requests.Actor.{Actor}
@@ -11,6 +11,11 @@ use Rattle.request_text.specs.Replies.{arrow, junior_text, actor_text, request_t
 -- who let time go on, where it stopped, and the bound
 abbrev pub tick_text : Who → ℕ → ℕ → List ℕ
 tick_text who to upto = codes "tick " ++ who_text who ++ codes " to " ++ civil_text to ++ codes " bound " ++ civil_text upto
+
+-- a piece with the number behind it, if there is one
+abbrev pub with_number : List ℕ → Option ℕ → List ℕ
+with_number piece None = piece
+with_number piece (Some n) = piece ++ decimal n
 
 module _ (np : NamedPolicy) where
   -- the sign and the junior of the edge with this number

@@ -3,11 +3,11 @@ ghost use Rattle.std.specs.Prelude.{◌≡◌, ◌++◌, ◌∷◌, [], codes, d
 ghost use Rattle.gt_text.specs.Words.{spaced};
 ghost use Rattle.gtrbac_model.specs.WholePolicy.{is_fluent};
 ghost use Rattle.policy_words.specs.Wording.{head_words, delay_words};
-ghost use Rattle.policy_words.specs.Naming.{head_named};
+ghost use Rattle.policy_words.specs.Naming.{head_named, role_name};
 ghost use Rattle.request_text.specs.Replies.{request_text};
 ghost use Rattle.request_text.specs.Named.{has_request};
 
-use gt_base::{Cond, Event, Memory, Name, Prioritised, Request, SessionId};
+use gt_base::{Cond, Event, Memory, Name, Prioritised, Request, RoleId, SessionId};
 use gt_text::push_number;
 use policy_book::{Policy, named_cond, named_event, named_head};
 use policy_lines::{push_cond, push_delay, push_event, push_head};
@@ -29,7 +29,6 @@ fn push_seen(text: &mut Vec<u8>, p: &Policy, e: Event) -> Result<(), Memory>
     push_event(text, &named_event(p, e))
 }
 
-#[tactic(auto, using(crate::proofs::Walks::delayed))]
 fn push_raise(text: &mut Vec<u8>, p: &Policy, h: Prioritised, delay: u32) -> Result<(), Memory>
     requires { IsTrue (is_fluent p.now.policy h.event.fluent) }
     ensures { OnOk result (text.new.items ≡ text.old.items ++ request_text p.now (Request.Raise h delay)) }
@@ -37,6 +36,15 @@ fn push_raise(text: &mut Vec<u8>, p: &Policy, h: Prioritised, delay: u32) -> Res
     text.extend_from_slice(b"request ")?;
     push_head(text, &named_head(p, h))?;
     push_delay(text, delay)
+}
+
+/// Adds a verb and a session.
+fn push_verb(text: &mut Vec<u8>, verb: &[u8], session: SessionId) -> Result<(), Memory>
+    ensures { OnOk result (text.new.items ≡ text.old.items ++ spaced (verb.now ∷ decimal session.0 ∷ [])) }
+{
+    text.extend_from_slice(verb)?;
+    text.extend_from_slice(b" ")?;
+    push_number(text, u64::from(session.0))
 }
 
 /// Adds a verb, a session and a name.
@@ -48,18 +56,23 @@ fn push_session(
 ) -> Result<(), Memory>
     ensures { OnOk result (text.new.items ≡ text.old.items ++ spaced (verb.now ∷ decimal session.0 ∷ name.now ∷ [])) }
 {
-    text.extend_from_slice(verb)?;
-    text.extend_from_slice(b" ")?;
-    push_number(text, u64::from(session.0))?;
+    push_verb(text, verb, session)?;
     text.extend_from_slice(b" ")?;
     text.extend_from_slice(name.bytes())
 }
 
-fn push_close(text: &mut Vec<u8>, session: SessionId) -> Result<(), Memory>
-    ensures { OnOk result (text.new.items ≡ text.old.items ++ spaced (codes "close" ∷ decimal session.0 ∷ [])) }
+/// Adds a verb, a session and the name of a role.
+fn push_role(
+    text: &mut Vec<u8>,
+    p: &Policy,
+    verb: &[u8],
+    session: SessionId,
+    role: RoleId,
+) -> Result<(), Memory>
+    requires { role.0 < length p.now.names.roles }
+    ensures { OnOk result (text.new.items ≡ text.old.items ++ spaced (verb.now ∷ decimal session.0 ∷ role_name p.now.names role ∷ [])) }
 {
-    text.extend_from_slice(b"close ")?;
-    push_number(text, u64::from(session.0))
+    push_session(text, verb, session, &p.role_name(role))
 }
 
 fn push_request(text: &mut Vec<u8>, p: &Policy, request: Request) -> Result<(), Memory>
@@ -73,10 +86,10 @@ fn push_request(text: &mut Vec<u8>, p: &Policy, request: Request) -> Result<(), 
         Request::Seen(e) => push_seen(text, p, e),
         Request::Raise { head, delay } => push_raise(text, p, head, delay),
         Request::OpenSession => text.extend_from_slice(b"open"),
-        Request::CloseSession(s) => push_close(text, s),
-        Request::Activate(s, r) => push_session(text, b"activate", s, &p.role_name(r)),
-        Request::Deactivate(s, r) => push_session(text, b"deactivate", s, &p.role_name(r)),
-        Request::Active(s, r) => push_session(text, b"active", s, &p.role_name(r)),
+        Request::CloseSession(s) => push_verb(text, b"close", s),
+        Request::Activate(s, r) => push_role(text, p, b"activate", s, r),
+        Request::Deactivate(s, r) => push_role(text, p, b"deactivate", s, r),
+        Request::Active(s, r) => push_role(text, p, b"active", s, r),
         Request::Check(s, q) => push_session(text, b"check", s, &p.perm_name(q)),
     }
 }

@@ -4,7 +4,7 @@ ghost use Rattle.policy_words.specs.Wording.{at_end};
 ghost use Rattle.request_text.specs.Phrases.{session_at, session_in, session_name_in, raise_in, cond_in, event_in, request_by, actor_in, minute_in, at_minute, be_actor};
 
 use crate::phrases::{NamedRequest, Phrase};
-use crate::verbs::RequestVerb;
+use crate::verbs::{RequestVerb, same};
 use gt_base::{Instant, Name, SessionId};
 use gt_text::Words;
 use policy_lines::{
@@ -149,7 +149,7 @@ fn actor(mut words: Words<'_>) -> Option<Option<Name>>
     if words.next().is_some() {
         return None;
     }
-    if word == b"-".as_slice() {
+    if same(word, b"-") {
         return Some(None);
     }
     Some(Some(read_name(word)?))

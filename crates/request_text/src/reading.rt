@@ -6,7 +6,7 @@ ghost use Rattle.request_text.specs.Lines.{IsOpening, IsNamedLine};
 use crate::forms::{at, be, raise, request_after};
 use crate::lines::{Line, LineFault};
 use crate::phrases::{NamedRequest, Phrase};
-use crate::verbs::{RequestVerb, request_verb};
+use crate::verbs::{RequestVerb, request_verb, same};
 use gt_base::{Actor, Name, Request};
 use gt_text::Words;
 use policy_book::Policy;
@@ -107,7 +107,7 @@ fn request_said(p: &Policy, word: &[u8], words: Words<'_>) -> Result<Line, LineF
 fn is_at(script: bool, word: &[u8]) -> bool
     ensures { result ≡ (script && bytes_eq word.now (codes "@")) }
 {
-    script && word == b"@".as_slice()
+    script && same(word, b"@")
 }
 
 /// What a first word and the words after it say over a policy, or their fault.
@@ -123,7 +123,7 @@ fn words_said(
     if is_at(script, word) {
         return said(p, opening, at(words));
     }
-    if word == b"as".as_slice() {
+    if same(word, b"as") {
         return said(p, opening, be(words));
     }
     request_said(p, word, words)

@@ -5,7 +5,7 @@ ghost use Rattle.civil_time.specs.Text.{civil_text};
 ghost use Rattle.policy_words.specs.Naming.{role_name};
 ghost use Rattle.request_text.specs.Replies.{yes_or_no, seen_text, refusal_text, junior_text, edge_text, walk_text, decision_text, reply_text, reply_line};
 ghost use Rattle.request_text.specs.Named.{has_edge, has_walk, has_decision, has_reply};
-ghost use Rattle.request_text.specs.Walks.{step_name};
+ghost use Rattle.request_text.specs.Walks.{step_name, with_number};
 
 use civil_time::write_civil;
 use gt_base::{Decision, HierEdge, Instant, List, Name, Refusal, Reply, RoleId, Seen, Walk};
@@ -45,25 +45,36 @@ fn put_seen(into: &mut List<u8>, seen: Seen)
     }
 }
 
+/// The words of a refusal, and the number behind them.
+fn refusal_parts(refusal: Refusal) -> (&'static [u8], Option<u32>)
+    ensures { with_number result.0.now result.1 ≡ refusal_text refusal }
+{
+    match refusal {
+        Refusal::NoUser => (b"no-user", None),
+        Refusal::NotAdmin => (b"not-admin", None),
+        Refusal::Beyond { due } => (b"beyond ", Some(due)),
+        Refusal::SessionsFull => (b"sessions-full", None),
+        Refusal::NoSession => (b"no-session", None),
+        Refusal::NotYours => (b"not-yours", None),
+        Refusal::NotActive => (b"not-active", None),
+        Refusal::Already => (b"already", None),
+        Refusal::Disabled => (b"disabled", None),
+        Refusal::NotAssigned => (b"not-assigned", None),
+        Refusal::RoleFull { n } => (b"role-full ", Some(n)),
+        Refusal::UserFull { n } => (b"user-full ", Some(n)),
+        Refusal::DaySpent { minutes } => (b"day-spent ", Some(minutes)),
+    }
+}
+
 fn put_refusal(into: &mut List<u8>, refusal: Refusal)
     requires { length (refusal_text refusal) ≤ into.old.spare }
     ensures items { into.new.items ≡ into.old.items ++ refusal_text refusal }
     ensures spare { into.old.spare ≤ into.new.spare + length (refusal_text refusal) }
 {
-    match refusal {
-        Refusal::NoUser => into.extend_from_slice(b"no-user"),
-        Refusal::NotAdmin => into.extend_from_slice(b"not-admin"),
-        Refusal::Beyond { due } => put_number(into, b"beyond ", due),
-        Refusal::SessionsFull => into.extend_from_slice(b"sessions-full"),
-        Refusal::NoSession => into.extend_from_slice(b"no-session"),
-        Refusal::NotYours => into.extend_from_slice(b"not-yours"),
-        Refusal::NotActive => into.extend_from_slice(b"not-active"),
-        Refusal::Already => into.extend_from_slice(b"already"),
-        Refusal::Disabled => into.extend_from_slice(b"disabled"),
-        Refusal::NotAssigned => into.extend_from_slice(b"not-assigned"),
-        Refusal::RoleFull { n } => put_number(into, b"role-full ", n),
-        Refusal::UserFull { n } => put_number(into, b"user-full ", n),
-        Refusal::DaySpent { minutes } => put_number(into, b"day-spent ", minutes),
+    let (piece, number) = refusal_parts(refusal);
+    match number {
+        Some(n) => put_number(into, piece, n),
+        None => into.extend_from_slice(piece),
     }
 }
 

@@ -35,11 +35,18 @@ pub(crate) fn verb_text(verb: RequestVerb) -> &'static [u8]
     }
 }
 
+/// Whether the two are one word.
+pub(crate) fn same(one: &[u8], other: &[u8]) -> bool
+    ensures { result ≡ bytes_eq one.now other.now }
+{
+    one == other
+}
+
 /// Whether the word is that of the verb.
 fn is(word: &[u8], verb: RequestVerb) -> bool
     ensures { result ≡ bytes_eq (verb_word verb) word.now }
 {
-    verb_text(verb) == word
+    same(verb_text(verb), word)
 }
 
 /// The first word of a request that a word is.

@@ -95,14 +95,22 @@ fn push_text(into: &mut List<u8>, p: &Policy, reply: &Reply) -> Result<(), Memor
     }
 }
 
+/// Adds the line of a reply, with its line feed.
+fn push_reply(into: &mut List<u8>, p: &Policy, reply: &Reply) -> Result<(), Memory>
+    requires { IsTrue (has_reply p.now.policy reply.now) }
+    ensures { OnOk result (into.new.items ≡ into.old.items ++ reply_line p.now reply.now) }
+{
+    push_text(into, p, reply)?;
+    push(into, b"\n")
+}
+
 /// The line of a reply, with its line feed.
 pub fn write_reply(alloc: Global, p: &Policy, r: &Reply) -> Result<List<u8>, Memory>
     requires { IsTrue (has_reply p.now.policy r.now) }
     ensures { IfOk result (λ text. text.items ≡ reply_line p.now r.now) }
 {
     let mut text = List::new(alloc);
-    push_text(&mut text, p, r)?;
-    push(&mut text, b"\n")?;
+    push_reply(&mut text, p, r)?;
     Ok(text)
 }
 
@@ -219,6 +227,14 @@ fn push_entries(
     Ok(())
 }
 
+/// Adds the line of a birth.
+fn push_birth(into: &mut List<u8>, birth: Instant) -> Result<(), Memory>
+    ensures { OnOk result (into.new.items ≡ into.old.items ++ (codes "born " ++ civil_text birth ++ codes "\n")) }
+{
+    push_instant(into, b"born ", birth)?;
+    push(into, b"\n")
+}
+
 /// The log of a history: the line of its birth, then a line for each entry.
 pub fn write_log(
     alloc: Global,
@@ -230,9 +246,7 @@ pub fn write_log(
     ensures { IfOk result (λ text. text.items ≡ log_text p.now birth h.now.items) }
 {
     let mut text = List::new(alloc);
-    push(&mut text, b"born ")?;
-    push(&mut text, &write_civil(birth))?;
-    push(&mut text, b"\n")?;
+    push_birth(&mut text, birth)?;
     push_entries(alloc, &mut text, p, h.as_slice())?;
     Ok(text)
 }

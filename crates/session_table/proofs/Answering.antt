@@ -1,5 +1,5 @@
 -- The first cause that is there decides the reply.
-use Rattle.std.proofs.Common.{◌≡◌, ℕ, Bool, true, false, List, [], ◌∷◌, ◌++◌, count_by, Option, Some, None, is_none, refl, sym, ap, ◌∙◌}
+use Rattle.std.proofs.Common.{◌≡◌, ℕ, Bool, true, false, List, [], ◌∷◌, ◌++◌, count_by, Option, Some, None, is_none, refl, sym, ap, ◌∙◌, append_assoc}
 use Rattle.std.specs.List.{list_any}
 use Rattle.gt_base.specs.declared.events.RoleId.{RoleId}
 use Rattle.gt_base.specs.declared.events.UserId.{UserId}
@@ -21,7 +21,11 @@ use Rattle.gtrbac_model.specs.Hierarchy.{activation_walk}
 use Rattle.gtrbac_model.specs.Sessions.{Table, caps_of, is_of, is_active_in, owner_of}
 use Rattle.gtrbac_model.specs.Reply.{Point, unless, session_causes, answer}
 use Rattle.session_table.proofs.Finding.{causes_of}
+use Rattle.session_table.specs.declared.faults.SessionFault.{SessionFault}
+use Rattle.session_table.specs.declared.faults.SessionFault.TheVariants.{Refused as Fault, Memory}
 use Rattle.session_table.specs.Causes.{first_cause, early_causes, late_causes}
+use Rattle.session_table.specs.Permits.{IsCauseOf}
+use Rattle.session_table.specs.Replies.{OrRefused}
 
 pub unless_none : (cs : List (Bool × Refusal)) (a : Reply) → first_cause cs ≡ None → unless cs a ≡ a
 unless_none [] a e = refl
@@ -82,38 +86,54 @@ module _ (edges : List HierEdge) (caps : List Caps) (s : Status) (now : ℕ) (tb
   spelled_is : Answered (spelled (owner_of tb n))
   spelled_is p pt = refl
 
-  pub refused_session : (x : Refusal) → first_cause (session_causes tb actor n) ≡ Some x → Answered (Refused x)
-  refused_session x e p pt = spelled_is p pt ∙ by (owner_of tb n) refl
+  pub refused_front : (x : Refusal) → first_cause (session_causes tb actor n ++ early) ≡ Some x → Answered (Refused x)
+  refused_front x e p pt = spelled_is p pt ∙ by (owner_of tb n) refl
     where
       by : (o : Option UserId) → owner_of tb n ≡ o → spelled o ≡ Refused x
-      by None is = let h : Some NoSession ≡ Some x = sym (ap (λ o. first_cause (causes_of o actor)) is) ∙ e in let same : NoSession ≡ x = cc in ap Refused same
-      by (Some owner) is = front_some (session_causes tb actor n) (early ++ rest owner) (by_walk (activation_walk edges s owner r)) x e
+      by None is = let h : Some NoSession ≡ Some x = sym (ap (λ o. first_cause (causes_of o actor ++ early)) is) ∙ e in let same : NoSession ≡ x = cc in ap Refused same
+      by (Some owner) is =
+          ap (λ cs. unless cs (by_walk (activation_walk edges s owner r))) (sym (append_assoc (session_causes tb actor n) early (rest owner)))
+          ∙ front_some (session_causes tb actor n ++ early) (rest owner) (by_walk (activation_walk edges s owner r)) x e
 
   module _ (owner : UserId) (own : owner_of tb n ≡ Some owner) where
     pub owned_is : Answered (spelled (Some owner))
     owned_is p pt = spelled_is p pt ∙ ap spelled own
 
-    module _ (may : first_cause (session_causes tb actor n) ≡ None) where
-      pub refused_early : (x : Refusal) → first_cause early ≡ Some x → Answered (Refused x)
-      refused_early x e p pt =
-          owned_is p pt ∙ front_none (session_causes tb actor n) (early ++ rest owner) (by_walk (activation_walk edges s owner r)) may
-          ∙ front_some early (rest owner) (by_walk (activation_walk edges s owner r)) x e
-
-      past_early : first_cause early ≡ None → (w : Option RoleWalk) → activation_walk edges s owner r ≡ w
-          → Answered (unless ((is_none w, NotAssigned) ∷ late owner) (by_walk w))
-      past_early e w is p pt =
+    module _ (may : first_cause (session_causes tb actor n) ≡ None) (e : first_cause early ≡ None) where
+      past_early : Answered (unless (rest owner) (by_walk (activation_walk edges s owner r)))
+      past_early p pt =
           owned_is p pt ∙ front_none (session_causes tb actor n) (early ++ rest owner) (by_walk (activation_walk edges s owner r)) may
           ∙ front_none early (rest owner) (by_walk (activation_walk edges s owner r)) e
-          ∙ ap (λ w. unless ((is_none w, NotAssigned) ∷ late owner) (by_walk w)) is
 
-      pub refused_walk : first_cause early ≡ None → activation_walk edges s owner r ≡ None → Answered (Refused NotAssigned)
-      refused_walk e is p pt = past_early e None is p pt
+      pub refused_rest : (x : Refusal) → first_cause (rest owner) ≡ Some x → Answered (Refused x)
+      refused_rest x f p pt = past_early p pt ∙ unless_some (rest owner) (by_walk (activation_walk edges s owner r)) x f
 
-      pub refused_late : first_cause early ≡ None → (w : RoleWalk) → activation_walk edges s owner r ≡ Some w → (x : Refusal) → first_cause (late owner) ≡ Some x → Answered (Refused x)
-      refused_late e w is x f p pt = past_early e (Some w) is p pt ∙ unless_some (late owner) (Active w) x f
+      pub allowed : (w : RoleWalk) → activation_walk edges s owner r ≡ Some w → first_cause (rest owner) ≡ None → Answered (Active w)
+      allowed w is f p pt = past_early p pt ∙ unless_none (rest owner) (by_walk (activation_walk edges s owner r)) f ∙ ap by_walk is
 
-      pub allowed : first_cause early ≡ None → (w : RoleWalk) → activation_walk edges s owner r ≡ Some w → first_cause (late owner) ≡ None → Answered (Active w)
-      allowed e w is f p pt = past_early e (Some w) is p pt ∙ unless_none (late owner) (Active w) f
+-- of causes in a row the first
+pub first_of_front : (xs ys : List (Bool × Refusal)) (x : Refusal) → first_cause xs ≡ Some x → first_cause (xs ++ ys) ≡ Some x
+first_of_front [] ys x e = cc
+first_of_front (c ∷ cs) ys x e = by c.1 cs ys x c.0 e (first_of_front cs ys x)
+  where
+    by : (y : Refusal) (cs ys : List (Bool × Refusal)) (x : Refusal) (b : Bool) → (elim b [ true ↦ Some y | false ↦ first_cause cs ]) ≡ Some x
+        → (first_cause cs ≡ Some x → first_cause (cs ++ ys) ≡ Some x) → (elim b [ true ↦ Some y | false ↦ first_cause (cs ++ ys) ]) ≡ Some x
+    by y cs ys x true e h = e
+    by y cs ys x false e h = h e
+
+pub first_of_rest : (xs ys : List (Bool × Refusal)) → first_cause xs ≡ None → first_cause (xs ++ ys) ≡ first_cause ys
+first_of_rest [] ys e = refl
+first_of_rest (c ∷ cs) ys e = by c.1 cs ys c.0 e (first_of_rest cs ys)
+  where
+    by : (y : Refusal) (cs ys : List (Bool × Refusal)) (b : Bool) → ◌≡◌ {A = Option Refusal} (elim b [ true ↦ Some y | false ↦ first_cause cs ]) None
+        → (first_cause cs ≡ None → first_cause (cs ++ ys) ≡ first_cause ys) → (elim b [ true ↦ Some y | false ↦ first_cause (cs ++ ys) ]) ≡ first_cause ys
+    by y cs ys true e h = cc
+    by y cs ys false e h = h e
+
+-- want of memory, or what the first cause tells
+pub or_refused : (fault : SessionFault) (causes : List (Bool × Refusal)) (answers : Reply → Type 0) → IsCauseOf fault causes → ((x : Refusal) → first_cause causes ≡ Some x → answers (Refused x)) → OrRefused fault answers
+or_refused (Fault x) causes answers e h = h x e
+or_refused Memory causes answers e h = tt
 
 -- what is not refused early is not active yet
 pub early_none : (s : Status) (b : Bool) (r : RoleId) → first_cause (early_causes s b r) ≡ None → b ≡ false

@@ -67,6 +67,12 @@ owner_is os n o e tb = ap owner (find_opened os n ∙ ap seen e)
 pub no_owner : (os : List Open) (n : SessionId) → find (numbered n) os ≡ None → (tb : Table) → owner_of (with_sessions os tb) n ≡ None
 no_owner os n e tb = ap owner (find_opened os n ∙ ap seen e)
 
+pub owner_at : (os : List Open) (n : SessionId) (at : ℕ) (u : UserId) → StandsAt os n at → IfSome (slice_get os at) (λ o. u ≡ o.owner) → (tb : Table) → owner_of (with_sessions os tb) n ≡ Some u
+owner_at os n at u h own tb =
+    let (o, is, there) = standing os n at h in
+    let same : u ≡ o.owner = subst (λ x. IfSome x (λ o. u ≡ o.owner)) there own in
+    owner_is os n o is tb ∙ ap Some (sym same)
+
 abbrev foreign_to : Option UserId → Actor → Bool
 foreign_to (Some owner) (User u) = not (same_user owner u)
 foreign_to _ _ = false

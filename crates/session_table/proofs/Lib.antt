@@ -9,6 +9,7 @@ pub mod Keeping
 pub mod Answering
 pub mod Telling
 pub mod Entering
+pub mod Permitting
 pub mod Committing
 pub mod Closing
 pub mod Capped

@@ -3,14 +3,13 @@ use Rattle.std.proofs.Common.{◌≡◌, ℕ, ◌≤◌, Bool, true, false, cond
 use Rattle.std.specs.List.{slice_get, list_any}
 use Rattle.std.specs.Ordering.{eq_by_cmp}
 use Rattle.gt_base.specs.declared.events.RoleId.{RoleId}
-use Rattle.gt_base.specs.declared.events.UserId.{UserId}
 use Rattle.gt_base.specs.declared.events.SessionId.{SessionId}
 use Rattle.gt_base.specs.declared.requests.Actor.{Actor}
 use Rattle.gt_base.specs.declared.requests.Refusal.{Refusal}
 use Rattle.gt_base.specs.Sets.{has, members}
 use Rattle.gt_base.proofs.SetLaws.{has-members}
 use Rattle.gtrbac_model.specs.Same.{same_role, same_session, lists}
-use Rattle.gtrbac_model.specs.Sessions.{Table, Activation, owner_of, is_active_in}
+use Rattle.gtrbac_model.specs.Sessions.{Table, Activation, is_active_in}
 use Rattle.gtrbac_model.specs.Reply.{session_causes, roles_of}
 use Rattle.session_table.specs.declared.opened.Open.{Open}
 use Rattle.session_table.specs.RoleSets.{role_cmp}
@@ -20,7 +19,7 @@ use Rattle.session_table.specs.Tables.{TableView, table_of}
 use Rattle.session_table.specs.declared.charges.Charge.{Charge}
 use Rattle.session_table.specs.Kept.{IsKept}
 use Rattle.session_table.proofs.RoleOrder.{tied_is_same}
-use Rattle.session_table.proofs.Finding.{standing, owner_is}
+use Rattle.session_table.proofs.Finding.{standing}
 use Rattle.session_table.proofs.Indexing.{count_cons, eq_turned}
 
 pub same_table : (a b : Table) → a.sessions ≡ b.sessions → a.active ≡ b.active → a.charged ≡ b.charged → a.begun ≡ b.begun → a.signals ≡ b.signals → a ≡ b
@@ -29,21 +28,6 @@ same_table a b s t c g l = λ i. record { sessions = s i; active = t i; charged 
 module _ (v : TableView) (os : List Open) (e : map opened (still_open os) ≡ v.sessions) where
   pub causes : (actor : Actor) (n : SessionId) (x : Option Refusal) → ((tb : Table) → first_cause (session_causes (with_sessions os tb) actor n) ≡ x) → first_cause (session_causes (table_of v) actor n) ≡ x
   causes actor n x h = subst (λ ss. first_cause (session_causes (record (table_of v) { sessions = ss }) actor n) ≡ x) e (h (table_of v))
-
-  pub owner : (n : SessionId) (at : ℕ) (u : UserId) → StandsAt os n at → IfSome (slice_get os at) (λ o. u ≡ o.owner) → owner_of (table_of v) n ≡ Some u
-  owner n at u h own =
-      let (o, is, there) = standing os n at h in
-      let same : u ≡ o.owner = subst (λ x. IfSome x (λ o. u ≡ o.owner)) there own in
-      subst (λ ss. owner_of (record (table_of v) { sessions = ss }) n ≡ Some u) e (owner_is os n o is (table_of v) ∙ ap Some (sym same))
-
--- the role at the place is active in the session
-pub active_at : (os : List Open) (active : List Activation) (charges : List (Charge × ℕ)) (to : Option ℕ) → IsKept os active charges to → (n : SessionId) (at : ℕ) → StandsAt os n at
-    → (r : RoleId) (b : Bool) → IfSome (slice_get os at) (λ o. b ≡ has o.roles r) → b ≡ list_any (is_active_in n r) active
-active_at os active charges to h n at stands r b told =
-    let (o, is, there) = standing os n at stands in
-    subst (λ x. IfSome x (λ o. b ≡ has o.roles r)) there told
-    ∙ sym (ap (λ x. elim x [ Some o ↦ has o.roles r | None ↦ false ]) is)
-    ∙ h.index n r
 
 pub listed_at : (os : List Open) (active : List Activation) (charges : List (Charge × ℕ)) (to : Option ℕ) → IsKept os active charges to → (n : SessionId) (at : ℕ) → StandsAt os n at
     → (roles : List RoleId) → IfSome (slice_get os at) (λ o. roles ≡ members o.roles) → (r : RoleId) → lists same_role roles r ≡ list_any (is_active_in n r) active

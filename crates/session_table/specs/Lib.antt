@@ -5,6 +5,7 @@ pub mod Tables
 pub mod Replies
 pub mod Causes
 pub mod Kept
+pub mod Permits
 pub mod Plans
 pub mod Dropping
 pub mod NextDrops

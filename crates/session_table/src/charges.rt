@@ -14,7 +14,7 @@ use indexmap::IndexMap;
 use std::alloc::AllocError;
 
 /// What is charged together: the minutes of a user's role on a civil day, counted from 2000-01-01.
-#[derive(Clone, Copy, PartialEq, Eq, Hash, Debug)]
+#[derive(Clone, Copy, PartialEq, Eq, Hash)]
 pub(crate) struct Charge {
     pub(crate) user: UserId,
     pub(crate) role: RoleId,

@@ -31,7 +31,7 @@ use indexmap::IndexMap;
 use std::alloc::Global;
 
 /// A user and a role of which it is asked whether a walk lets the one activate the other.
-#[derive(Clone, Copy, PartialEq, Eq, Hash, Debug)]
+#[derive(Clone, Copy, PartialEq, Eq, Hash)]
 pub(crate) struct Asked {
     pub(crate) user: UserId,
     pub(crate) role: RoleId,
@@ -111,15 +111,9 @@ fn has_stood(
     }
 }
 
-/// Keeps the walk, if there is one, for the minutes that follow.
-fn keep(
-    walks: &mut IndexMap<Asked, Walk>,
-    asked: Asked,
-    found: Option<Walk>,
-) -> Result<(), Memory> {
-    if let Some(walk) = found {
-        walks.insert(asked, walk)?;
-    }
+/// Keeps the walk for the minutes that follow.
+fn keep(walks: &mut IndexMap<Asked, Walk>, asked: Asked, walk: Walk) -> Result<(), Memory> {
+    walks.insert(asked, walk)?;
     Ok(())
 }
 
@@ -130,13 +124,17 @@ pub(crate) fn remember(
     walk: &Walk,
 ) -> Result<(), Memory> {
     if walk.edges.len() > 0 {
-        let copy = Walk {
-            start: walk.start,
-            edges: walk.edges.copied()?,
-        };
-        walks.insert(asked, copy)?;
+        return keep(walks, asked, copied(walk)?);
     }
     Ok(())
+}
+
+/// An equal walk.
+fn copied(walk: &Walk) -> Result<Walk, Memory> {
+    Ok(Walk {
+        start: walk.start,
+        edges: walk.edges.copied()?,
+    })
 }
 
 /// Forgets the walks where they have become many more than so many activations.
@@ -171,11 +169,28 @@ fn is_barred(
     if let Some(barred) = known.get(&asked).copied() {
         return Ok(barred);
     }
-    let found = hierarchy.may_activate(alloc, status, user, role)?;
-    let barred = found.is_none();
-    keep(walks, asked, found)?;
+    let barred = ask(alloc, walks, hierarchy, status, asked)?;
     known.insert(asked, barred)?;
     Ok(barred)
+}
+
+/// The same, told by the hierarchy alone. A walk that it finds is kept.
+fn ask(
+    alloc: Global,
+    walks: &mut IndexMap<Asked, Walk>,
+    hierarchy: &Hierarchy,
+    status: &Status,
+    asked: Asked,
+) -> Result<bool, Memory>
+    ensures { IfOk result (λ b. b ≡ is_none (activation_walk hierarchy.now (has status.now.set) asked.user asked.role)) }
+{
+    match hierarchy.may_activate(alloc, status, asked.user, asked.role)? {
+        Some(walk) => {
+            keep(walks, asked, walk)?;
+            Ok(false)
+        }
+        None => Ok(true),
+    }
 }
 
 /// Whether a cap of its role ends the activation at the close of `to`.
@@ -271,15 +286,68 @@ pub(crate) fn dropped(
 {
     let mut known = IndexMap::new(alloc);
     let mut gone = Vec::new(alloc);
+    drop_each(
+        alloc, walks, &mut known, &mut gone, hierarchy, caps, status, charges, active, now, to,
+    )?;
+    Ok(gone)
+}
+
+/// Adds them to the row, where what is told of a user and a role is kept.
+fn drop_each(
+    alloc: Global,
+    walks: &mut IndexMap<Asked, Walk>,
+    known: &mut IndexMap<Asked, bool>,
+    gone: &mut Vec<Activation>,
+    hierarchy: &Hierarchy,
+    caps: &List<Caps>,
+    status: &Status,
+    charges: &IndexMap<Charge, u32>,
+    active: &[Activation],
+    now: Instant,
+    to: Instant,
+) -> Result<(), Memory>
+    requires known { AreBarred hierarchy.now (has status.now.set) known.old.entries }
+    requires none { gone.old.items ≡ [] }
+    requires few { (u : UserId) (r : RoleId) → count_by (is_of u r) active.now ≤ 10_000 }
+    ensures { OnOk result (gone.new.items ≡ filter (is_dropped hierarchy.now caps.now.items (has status.now.set) charges.now.entries active.now now to) active.now) }
+{
     let mut before = None;
     for a in active {
-        let is_gone = is_dropped(
-            alloc, walks, &mut known, before, a, hierarchy, caps, status, charges, active, now, to,
+        before = drop_one(
+            alloc, walks, known, gone, before, a, hierarchy, caps, status, charges, active, now, to,
         )?;
-        push_if(&mut gone, a, is_gone)?;
-        before = found_on(before, a, is_gone);
     }
-    Ok(gone)
+    Ok(())
+}
+
+/// Adds the activation to the row where it is dropped, and tells which role was found on last.
+fn drop_one(
+    alloc: Global,
+    walks: &mut IndexMap<Asked, Walk>,
+    known: &mut IndexMap<Asked, bool>,
+    gone: &mut Vec<Activation>,
+    before: Option<RoleId>,
+    a: &Activation,
+    hierarchy: &Hierarchy,
+    caps: &List<Caps>,
+    status: &Status,
+    charges: &IndexMap<Charge, u32>,
+    active: &[Activation],
+    now: Instant,
+    to: Instant,
+) -> Result<Option<RoleId>, Memory>
+    requires known { AreBarred hierarchy.now (has status.now.set) known.old.entries }
+    requires before { IfSome before (λ r. has status.now.set (Enabled r) ≡ true) }
+    requires few { (u : UserId) (r : RoleId) → count_by (is_of u r) active.now ≤ 10_000 }
+    ensures known { OnOk result (AreBarred hierarchy.now (has status.now.set) known.new.entries) }
+    ensures gone { OnOk result (gone.new.items ≡ gone.old.items ++ (if is_dropped hierarchy.now caps.now.items (has status.now.set) charges.now.entries active.now now to a.now then a.now ∷ [] else [])) }
+    ensures on { IfOk result (λ before. IfSome before (λ r. has status.now.set (Enabled r) ≡ true)) }
+{
+    let is_gone = is_dropped(
+        alloc, walks, known, before, a, hierarchy, caps, status, charges, active, now, to,
+    )?;
+    push_if(gone, a, is_gone)?;
+    Ok(found_on(before, a, is_gone))
 }
 
 /// The activations that a cap of their roles ends at the close of `to`. Where no role has a cap on minutes, none is looked at. For want of memory

@@ -1,6 +1,7 @@
 //! The table of sessions: which are open, which roles are active in them since when, and which minutes of a day are charged.
 #![tactic(auto)]
 
+mod activating;
 mod activations;
 mod active;
 mod charges;

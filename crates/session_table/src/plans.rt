@@ -1,8 +1,11 @@
 //! The end of a stretch of minutes, planned before it is made.
-ghost use Rattle.std.specs.Prelude.{◌≡◌};
+ghost use Rattle.std.specs.Prelude.{◌≡◌, false, map, IfOk};
+ghost use Rattle.gtrbac_model.specs.Sessions.{signal_of};
 
 use crate::activations::Activation;
-use gt_base::{Instant, List, Signal};
+use crate::dropping::signals_of;
+use gt_base::{Instant, List, Memory, Signal};
+use std::alloc::Global;
 use std::marker::Model;
 
 /// What the end of the minutes after `now`, up to `to`, drops. It is seen as the two instants, the activations that are dropped at `to`, and
@@ -34,6 +37,24 @@ impl Drop for Drops {
 }
 
 impl Drops {
+    /// The plan that drops these activations.
+    pub(crate) fn new(
+        alloc: Global,
+        after: Instant,
+        to: Instant,
+        gone: Vec<Activation>,
+    ) -> Result<Drops, Memory>
+        ensures { IfOk result (λ d. d ≡ record { after = after; to = to; gone = gone.items; signals = map (signal_of false) gone.items }) }
+    {
+        let signals = signals_of(alloc, &gone)?;
+        Ok(Drops {
+            after,
+            to,
+            gone,
+            signals,
+        })
+    }
+
     /// The end signals, one for each activation that is dropped. It takes no memory.
     pub fn signals(&self) -> &List<Signal>
         ensures { result.now.items ≡ self.now.signals }

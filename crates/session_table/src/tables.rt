@@ -18,6 +18,7 @@ ghost use Rattle.session_table.specs.NextDrops.{IsFirstOrNone, is_any_capped};
 ghost use Rattle.session_table.specs.Plans.{need_of, IsPlan, IsPlanWhereAllStand, IsPlanned, Closes};
 ghost use Rattle.session_table.specs.Replies.{Answers, AnswersAt, OrRefused, IsRefusal, ChecksBy};
 
+use crate::activating::{enter, permitted};
 use crate::activations::{Activation, count_in, end_session, find_active, signal_of};
 use crate::active::ActiveRow;
 use crate::charges::{Charge, charge_stretch, copied as copied_charges, reserve_charges};
@@ -273,40 +274,39 @@ impl Sessions {
         ensures refused { IfErr result (λ fault. OrRefused fault (AnswersAt hierarchy.now caps.now.items (has status.now.set) now (table_of self.old) actor (Activate session role))) }
         ensures same { OnErr result (table_of self.new ≡ table_of self.old) }
     {
-        let at = match owned(&self.sessions, actor, session) {
-            Ok(at) => at,
-            Err(refusal) => return Err(SessionFault::Refused(refusal)),
-        };
-        let user = owner_at(&self.sessions, at);
-        let is_active = has_role(&self.sessions, at, role);
-        if let Some(refusal) = early_refusal(is_active, status, role) {
-            return Err(SessionFault::Refused(refusal));
-        }
-        let Some(walk) = hierarchy.may_activate(self.alloc, status, user, role)? else {
-            return Err(SessionFault::Refused(Refusal::NotAssigned));
-        };
-        let of_role = caps_of(caps.as_slice(), role);
-        let today = day(now);
-        if let Some(refusal) = late_refusal(
-            of_role,
+        let (at, user, walk) = match permitted(
+            self.alloc,
+            &self.sessions,
             self.active.as_slice(),
             &self.charges,
-            user,
+            hierarchy,
+            caps,
+            status,
+            now,
+            actor,
+            session,
             role,
-            today,
         ) {
-            return Err(SessionFault::Refused(refusal));
-        }
-        remember(&mut self.walks, Asked { user, role }, &walk)?;
-        self.active.reserve_one()?;
-        add_role(&mut self.sessions, at, role)?;
+            Ok(permit) => permit,
+            Err(fault) => return Err(fault),
+        };
         let activation = Activation {
             session,
             user,
             role,
             begun: now,
         };
-        self.active.push(activation);
+        match enter(
+            &mut self.sessions,
+            &mut self.active,
+            &mut self.walks,
+            at,
+            activation,
+            &walk,
+        ) {
+            Ok(()) => {}
+            Err(_) => return Err(SessionFault::Memory),
+        }
         Ok((walk, signal_of(true, &activation)))
     }
 
@@ -347,6 +347,7 @@ impl Sessions {
         ensures plan { IfOk result (IsPlan hierarchy.now caps.now.items (has status.now.set) now to (table_of self.old)) }
     {
         prune(&mut self.walks, self.active.len());
+        reserve_charges(&mut self.charges, self.active.len(), now, to)?;
         let gone = dropped(
             self.alloc,
             &mut self.walks,
@@ -358,14 +359,7 @@ impl Sessions {
             now,
             to,
         )?;
-        let signals = signals_of(self.alloc, &gone)?;
-        reserve_charges(&mut self.charges, self.active.len(), now, to)?;
-        Ok(Drops {
-            after: now,
-            to,
-            gone,
-            signals,
-        })
+        Drops::new(self.alloc, now, to, gone)
     }
 
     /// The plan of the same end as `plan_end`, where in the status at `to` each activation's role is on and a usable walk lets its user activate it,
@@ -385,6 +379,7 @@ impl Sessions {
         ensures gone { IfOk result (λ d. d.gone ≡ filter (is_capped caps.now.items now (table_of self.old) to) self.old.active) }
         ensures plan { IfOk result (IsPlanWhereAllStand caps.now.items now to (table_of self.old)) }
     {
+        reserve_charges(&mut self.charges, self.active.len(), now, to)?;
         let gone = capped(
             self.alloc,
             caps.as_slice(),
@@ -393,14 +388,7 @@ impl Sessions {
             now,
             to,
         )?;
-        let signals = signals_of(self.alloc, &gone)?;
-        reserve_charges(&mut self.charges, self.active.len(), now, to)?;
-        Ok(Drops {
-            after: now,
-            to,
-            gone,
-            signals,
-        })
+        Drops::new(self.alloc, now, to, gone)
     }
 
     /// Ends the minutes as planned: each minute after its `now`, up to its `to`, is charged to each activation, and then those that the plan names

@@ -1,10 +1,9 @@
 -- The events that are due at an instant.
-use Rattle.std.proofs.Common.{◌≡◌, ℕ, ◌+◌, ◌<◌, ◌≤◌, Bool, true, false, ◌&&◌, ◌||◌, List, [], ◌∷◌, inl, Option, Some, None, refl, sym, ◌∙◌, ap, subst, arith}
+use Rattle.std.proofs.Common.{◌≡◌, ℕ, ◌<◌, ◌≤◌, Bool, true, ◌&&◌, List, [], ◌∷◌, inl, Option, Some, None, refl, sym, ◌∙◌, ap, arith}
 use Rattle.std.specs.Prelude.{◌↔◌, IsNone, IfSome}
 use Rattle.std.specs.List.{list_any}
 use Rattle.std.specs.Ordering.{eq_by_cmp}
 use Rattle.std.proofs.lemmas.Bool.{eqb-true, eq-eqb}
-use Rattle.gt_base.specs.Bounds.{last_minute}
 use Rattle.gt_base.specs.Orders.{prioritised_cmp}
 use Rattle.gt_base.specs.Sets.{has, members, none, those}
 use Rattle.gt_base.specs.declared.events.Prioritised.{Prioritised}
@@ -12,7 +11,7 @@ use Rattle.gt_base.proofs.OrderLaws.{prioritised_cmp-IsAntisymmetric}
 use Rattle.gt_base.proofs.SetLaws.{has-none, has-those}
 use Rattle.gt_base.proofs.SetSteps.{prioritised_cmp_total}
 use Rattle.gtrbac_model.specs.History.{is_some_item}
-use Rattle.gtrbac_model.proofs.Elements.{Elem, both_true, and_true, split, any_elim, any_intro, equal_by, tied, elem_of_has, has_of_elem}
+use Rattle.gtrbac_model.proofs.Elements.{Elem, both_true, and_true, any_elim, any_intro, equal_by, tied, elem_of_has, has_of_elem}
 use Rattle.delay_agenda.specs.Due.{Pendings, pending_cmp, pending_at, is_due_at, IsLeastDue}
 use Rattle.delay_agenda.specs.declared.pairs.Pending.{Pending}
 use Rattle.delay_agenda.proofs.PendingLaws.{pending_cmp_total, pending_cmp-IsAntisymmetric}

@@ -1,17 +1,16 @@
 -- What is on its way, as pairs of a timeline, and the same under models that agree.
-use Rattle.std.proofs.Common.{◌≡◌, ℕ, zero, suc, ◌+◌, ◌-◌, ◌<◌, ◌≤◌, Bool, true, false, nat_eq, nat_le, nat_lt, ◌&&◌, ◌||◌, List, [], ◌∷◌, ◌++◌, flat_map, inl, inr, refl, sym, ◌∙◌, ap, subst, arith}
+use Rattle.std.proofs.Common.{◌≡◌, ℕ, ◌+◌, ◌-◌, ◌<◌, ◌≤◌, Bool, true, false, nat_eq, nat_le, nat_lt, ◌&&◌, ◌||◌, List, [], ◌∷◌, flat_map, inl, inr, refl, sym, ◌∙◌, ap, arith}
 use Rattle.std.specs.List.{list_any}
 use Rattle.std.specs.Ordering.{eq_by_cmp}
-use Rattle.std.proofs.lemmas.Bool.{ltb-true, ltb-false, leb-true, leb-false, lt-ltb, le-leb, lt-leb, eqb-true, eqb-false, eq-eqb, ne_eqb}
+use Rattle.std.proofs.lemmas.Bool.{ltb-true, leb-true, le-leb, eqb-true, eq-eqb, ne_eqb}
 use Rattle.gt_base.specs.Bounds.{last_minute}
 use Rattle.gt_base.specs.Held.{TriggerView}
 use Rattle.gt_base.specs.Happening.{HappenedView}
 use Rattle.gt_base.specs.Orders.{prioritised_cmp}
 use Rattle.gt_base.specs.declared.events.Prioritised.{Prioritised}
 use Rattle.gtrbac_model.specs.Policy.{Policy}
-use Rattle.gtrbac_model.specs.Base.{status, requested, when}
+use Rattle.gtrbac_model.specs.Base.{status, when}
 use Rattle.gtrbac_model.specs.Conflict.{Status}
-use Rattle.gtrbac_model.specs.History.{is_some_item}
 use Rattle.gtrbac_model.specs.Status.{Model}
 use Rattle.gtrbac_model.specs.Trigger.{met}
 use Rattle.gtrbac_model.proofs.Elements.{Elem, both_true, split}
@@ -21,7 +20,7 @@ use Rattle.delay_agenda.specs.Due.{pending_cmp, pending_at}
 use Rattle.delay_agenda.specs.declared.pairs.Pending.{Pending}
 use Rattle.delay_agenda.proofs.DueLaws.{tied_at}
 use Rattle.time_engine.specs.Plans.{joins_of, joins}
-use Rattle.time_engine.proofs.Booleans.{any-append, both, is_false, clash}
+use Rattle.time_engine.proofs.Booleans.{any-append, is_false, clash}
 
 -- known heads read the model up to the instant from which they are known
 pub known_same : (p : Policy) (birth : ℕ) (m n : Model) (from t : ℕ) (r : TriggerView) → Agree p birth m n from → known_head p birth m from t r ≡ known_head p birth n from t r

@@ -8,24 +8,20 @@ use Rattle.gt_base.specs.Held.{TriggerView}
 use Rattle.gt_base.specs.Happening.{HappenedView, nothing}
 use Rattle.gt_base.specs.Machines.{ticked, asked}
 use Rattle.gt_base.specs.Orders.{prioritised_cmp, signal_cmp}
-use Rattle.gt_base.specs.Sets.{SetOf, has, none, members, set_of, with_member}
+use Rattle.gt_base.specs.Sets.{SetOf, has, none, members, set_of}
 use Rattle.gt_base.specs.declared.events.Fluent.{Fluent}
 use Rattle.gt_base.specs.declared.events.Prioritised.{Prioritised}
 use Rattle.gt_base.specs.declared.events.Signal.{Signal}
-use Rattle.gt_base.specs.declared.requests.Who.{Who}
-use Rattle.gt_base.specs.declared.requests.Actor.{Actor}
-use Rattle.gt_base.specs.declared.requests.Request.{Request}
 use Rattle.gt_base.specs.declared.requests.Request.TheVariants.{Raise}
-use Rattle.gt_base.specs.declared.requests.Reply.{Reply}
 use Rattle.gt_base.specs.declared.requests.Reply.TheVariants.{Queued}
 use Rattle.gt_base.specs.declared.requests.Entry.{Entry}
 use Rattle.gt_base.proofs.OrderLaws.{prioritised_cmp-IsAntisymmetric, signal_cmp-IsAntisymmetric}
 use Rattle.gt_base.proofs.SetLaws.{same_sets, has-members, has-none, has-set_of, has-with_member}
 use Rattle.gt_base.proofs.SetSteps.{prioritised_cmp_total, signal_cmp_total}
 use Rattle.gtrbac_model.specs.Policy.{Policy}
-use Rattle.gtrbac_model.specs.Base.{status, base_at, raised_at, signals_at, drops_at, periodic, limited, requested, queued_at, when}
-use Rattle.gtrbac_model.specs.Conflict.{Status, after}
-use Rattle.gtrbac_model.specs.History.{Legal, IsNextStop, stirs, is_some_item, now_of}
+use Rattle.gtrbac_model.specs.Base.{status, base_at, raised_at, signals_at, drops_at, periodic, limited, requested, when}
+use Rattle.gtrbac_model.specs.Conflict.{after}
+use Rattle.gtrbac_model.specs.History.{stirs, is_some_item, now_of}
 use Rattle.gtrbac_model.specs.Instant.{Settled}
 use Rattle.gtrbac_model.specs.Status.{Model, since, differ, status_after}
 use Rattle.gtrbac_model.specs.Trigger.{met}
@@ -42,14 +38,13 @@ use Rattle.history_laws.proofs.OnItsWay.{stretch_stays, pending_is_raised, pendi
 use Rattle.delay_agenda.specs.Due.{pending_cmp, pending_at, is_due_at}
 use Rattle.delay_agenda.proofs.DueLaws.{tied_at}
 use Rattle.delay_agenda.proofs.PendingLaws.{pending_cmp_total}
-use Rattle.duration_limits.specs.Following.{SinceBySteps}
 use Rattle.duration_limits.proofs.Steps.{by_steps}
 use Rattle.instant_bases.specs.Timelines.{TimelineView, base_in, raised_in, signals_in, due_events, since_of, stirs_in, ClosedSet}
-use Rattle.time_engine.specs.Histories.{Follows, SignalsFollow, BornFollows, BaseFollows, RaisedFollows, ClosesLegally, CloseIsLegal, CloseFollows, AskFollows, AskKeepsFollowing}
-use Rattle.time_engine.specs.Plans.{PlanView, IsPlan, IsAfter, IsTimeline, with_pending, joins}
+use Rattle.time_engine.specs.Histories.{Follows, BornFollows, BaseFollows, RaisedFollows, CloseIsLegal, CloseFollows, AskKeepsFollowing}
+use Rattle.time_engine.specs.Plans.{joins}
 use Rattle.time_engine.specs.Traces.{model_of, is_something, traced, EndsBy}
-use Rattle.time_engine.proofs.Booleans.{any-append, some-append, swap_last, both, is_false, clash}
-use Rattle.time_engine.proofs.DueEvents.{some_due, due_some, due_listed}
+use Rattle.time_engine.proofs.Booleans.{any-append, both, is_false}
+use Rattle.time_engine.proofs.DueEvents.{due_listed}
 use Rattle.time_engine.proofs.FollowSteps.{known_same, one_joins, all_join}
 use Rattle.time_engine.proofs.SignalSets.{some_any}
 use Rattle.time_engine.proofs.TraceLaws.{model_past, model_before, model_there}

@@ -4,21 +4,18 @@ use Rattle.std.specs.List.{list_any}
 use Rattle.std.specs.Ordering.{eq_by_cmp}
 use Rattle.std.proofs.lemmas.Bool.{eqb-true, eqb-false}
 use Rattle.gt_base.specs.Orders.{signal_cmp}
-use Rattle.gt_base.specs.Sets.{has}
-use Rattle.gt_base.specs.declared.events.Signal.{Signal}
 use Rattle.gt_base.specs.declared.requests.Entry.{Entry}
 use Rattle.gt_base.proofs.SetLaws.{has-members}
 use Rattle.gtrbac_model.specs.Policy.{Policy}
-use Rattle.gtrbac_model.specs.Base.{status, signals_at, table_at}
-use Rattle.gtrbac_model.specs.History.{Legal, now_of}
+use Rattle.gtrbac_model.specs.Base.{status, table_at}
+use Rattle.gtrbac_model.specs.History.{now_of}
 use Rattle.gtrbac_model.specs.Sessions.{Table, close_minutes, empty_table}
 use Rattle.gtrbac_model.specs.Status.{Model}
 use Rattle.gtrbac_model.proofs.Elements.{split}
 use Rattle.history_laws.specs.Tables.{EndNothing}
 use Rattle.history_laws.proofs.Charging.{quiet_closes}
 use Rattle.history_laws.proofs.Reading.{Onward, legal_onward, whole, read_whole}
-use Rattle.instant_bases.specs.Timelines.{TimelineView, signals_in}
-use Rattle.time_engine.specs.Histories.{SignalsFollow, WaitingFollow}
+use Rattle.time_engine.specs.Histories.{WaitingFollow}
 use Rattle.time_engine.proofs.SignalSets.{for_next, for_other}
 
 module _ (p : Policy) (birth : ℕ) (h : List Entry) (n : Model) (o : Onward birth h) where

@@ -5,6 +5,7 @@ pub mod Stopping
 pub mod Answering
 pub mod Applying
 pub mod Hierarchies
+pub mod Closed
 pub mod Beginning
 pub mod Reaching
 pub mod Deciding

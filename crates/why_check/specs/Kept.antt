@@ -50,6 +50,9 @@ raised_in p s t = (periodic p s.ages.birth t ++ due_in s t) ++ limited p (has s.
 abbrev pub base_in : Policy → Replay → ℕ → HappenedView
 base_in p s t = record { events = set_of (raised_in p s t); signals = set_of (waiting_for s.present s.waiting.items t) }
 
+abbrev pub with_signals : Table → List Signal → Table
+with_signals tb waiting = record tb { signals = waiting }
+
 -- the table with the signals that wait
 abbrev pub table_in : Replay → Table
 table_in s = record (table_of s.table) { signals = s.waiting.items }

@@ -1,5 +1,5 @@
 //! The running state after an instant is closed with its set, and after a request.
-ghost use Rattle.std.specs.Prelude.{◌≡◌, ℕ, ◌<◌, ◌≤◌, ◌+◌, ◌-◌, ◌^◌, ◌&&◌, cond, length, IfOk, OnOk};
+ghost use Rattle.std.specs.Prelude.{◌≡◌, ℕ, ◌<◌, ◌≤◌, ◌+◌, ◌-◌, ◌^◌, ◌++◌, ◌&&◌, cond, flat_map, nat_eq, length, Some, IfOk, OnOk};
 ghost use Rattle.std.specs.List.{list_any};
 ghost use Rattle.gt_base.specs.declared.events.Event.{Event as EventOf};
 ghost use Rattle.gt_base.specs.declared.events.Fluent.{Fluent as FluentOf};
@@ -8,16 +8,24 @@ ghost use Rattle.gtrbac_model.specs.Conflict.{won as is_won, after};
 ghost use Rattle.gtrbac_model.specs.Same.{same_fluent};
 ghost use Rattle.gtrbac_model.specs.Status.{differ};
 ghost use Rattle.duration_limits.specs.Since.{since_in};
-ghost use Rattle.session_table.specs.Tables.{NotBefore, table_of};
-ghost use Rattle.why_check.specs.Kept.{IsAnsweredAt, IsClosed, IsAsked};
+ghost use Rattle.gt_base.specs.Bounds.{last_minute};
+ghost use Rattle.indexmap.specs.IndexMap.{get};
+ghost use Rattle.session_table.specs.Tables.{NotBefore, table_of, closed_at};
+ghost use Rattle.why_check.specs.Kept.{IsAnsweredAt, IsClosed, IsAsked, under, joins_at, with_signals};
 
 use crate::bases::{put_heads, queue};
 use crate::replays::Replay;
 use crate::sessions::apply;
 use duration_limits::Ages;
-use gt_base::{Actor, Event, EventSet, Fluent, Happened, Instant, Memory, Reply, Request, Status};
+use gt_base::{
+    Actor, Event, EventSet, Fluent, Happened, Instant, Memory, Prioritised, Reply, Request, Signal,
+    Status,
+};
+use indexmap::IndexMap;
 use policy_book::Policy;
 use priority_conflict::{Contest, next_status, winners};
+use session_table::Sessions;
+use std::alloc::Global;
 
 /// Plays a request with its reply.
 pub(crate) fn ask(
@@ -58,21 +66,65 @@ pub(crate) fn close(
     requires charged { NotBefore s.old.table.charged_to s.old.present }
     ensures { OnOk result (IsClosed policy.now.policy s.old set.now.set to s.new) }
 {
-    policy.keeps();
-    let won = winners(s.alloc, set)?;
-    let status = status_after(&s.status, &won, set)?;
-    let x = Contest::new(s.alloc, set)?;
-    let rules = policy.triggers().as_slice();
-    put_heads(s.alloc, &mut s.due, rules, &x, &s.status, to)?;
-    s.ages.reserve(won.len())?;
-    note_changes(&mut s.ages, &s.status, &status, won.as_slice(), to);
-    let ended = s
-        .table
-        .end_instants(policy.edges(), policy.caps(), s.present, to, &status)?;
-    s.waiting = Vec::from_slice(s.alloc, ended.as_slice())?;
+    put_delayed(s.alloc, &mut s.due, policy, set, &s.status, to)?;
+    let status = changed(s.alloc, &mut s.ages, &s.status, set, to)?;
+    s.waiting = ended(s.alloc, &mut s.table, policy, s.present, to, &status)?;
     s.status = status;
     s.present = to;
     Ok(())
+}
+
+/// Puts the heads of the delayed triggers that are met in the set under their minutes.
+fn put_delayed(
+    alloc: Global,
+    due: &mut IndexMap<u32, Vec<Prioritised>>,
+    policy: &Policy,
+    set: &Happened,
+    before: &Status,
+    at: Instant,
+) -> Result<(), Memory>
+    ensures { OnOk result ((k : ℕ) → k ≤ last_minute → under (get nat_eq due.new k) (λ v. v.items) ≡ under (get nat_eq due.old k) (λ v. v.items) ++ flat_map (joins_at (has before.now.set) set.now.set at k) policy.now.policy.triggers) }
+{
+    let x = Contest::new(alloc, set)?;
+    put_heads(alloc, due, policy.triggers().as_slice(), &x, before, at)
+}
+
+/// The status after the set, where the instant is noted for the fluents that are not as they were.
+fn changed(
+    alloc: Global,
+    ages: &mut Ages,
+    before: &Status,
+    set: &Happened,
+    at: Instant,
+) -> Result<Status, Memory>
+    ensures status { IfOk result (λ s. (f : FluentOf) → has s.set f ≡ after set.now.set (has before.now.set) f) }
+    ensures birth { IfOk result (λ s. ages.new.birth ≡ ages.old.birth) }
+    ensures since { IfOk result (λ s. (f : FluentOf) → since_in ages.new f ≡ cond (differ (has s.set f) (has before.now.set f)) at (since_in ages.old f)) }
+{
+    let won = winners(alloc, set)?;
+    ages.reserve(won.len())?;
+    let status = status_after(before, &won, set)?;
+    note_changes(ages, before, &status, won.as_slice(), at);
+    Ok(status)
+}
+
+/// Ends the instants of the table before this one: the signals that then wait.
+fn ended(
+    alloc: Global,
+    table: &mut Sessions,
+    policy: &Policy,
+    present: Instant,
+    to: Instant,
+    status: &Status,
+) -> Result<Vec<Signal>, Memory>
+    requires later { present < to }
+    requires charged { NotBefore table.old.charged_to present }
+    ensures table { IfOk result (λ waiting. with_signals (table_of table.new) waiting.items ≡ closed_at policy.now.policy.edges policy.now.policy.caps (has status.now.set) present to (table_of table.old)) }
+    ensures charged { IfOk result (λ waiting. table.new.charged_to ≡ Some to) }
+{
+    policy.keeps();
+    let ended = table.end_instants(policy.edges(), policy.caps(), present, to, status)?;
+    Vec::from_slice(alloc, ended.as_slice())
 }
 
 /// The status after the set, whose winners these are.

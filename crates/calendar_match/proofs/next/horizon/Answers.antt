@@ -1,5 +1,5 @@
 use Rattle.std.proofs.Common.{sym, ◌∙◌}
-use Rattle.calendar_match.proofs.Weeks.{past_end, past_week, past_filled}
+use Rattle.calendar_match.proofs.Weeks.{past_week, past_filled}
 use Rattle.calendar_match.proofs.next.horizon.Goals as goal
 
 pub returns-then-is_filled-clause-horizon : goal.returns-then-is_filled-clause-horizon

@@ -57,3 +57,15 @@ returns-clause-drops c =
 
 pub returns-clause-drops_room : goal.returns-clause-drops_room
 returns-clause-drops_room c = subst (λ (t : ℕ). need_of t c.args.to c.end_of.new.table ≤ c.end_of.new.table.room) (now_is (goal.at.returns-clause-drops_room c).After-now-now) c.in_ok-drops.ensures.room
+
+pub returns-clause-at : goal.returns-clause-at
+returns-clause-at c = c.in_ok-plan.ensures.at
+
+pub returns-clause-plan : goal.returns-clause-plan
+returns-clause-plan c = subst (λ (g : NamedPolicy). IsPlan g.policy c.args.s.now.line.line c.in_ok-plan.plan) c.ground.ensures c.in_ok-plan.ensures.plan
+
+pub returns-clause-fits : goal.returns-clause-fits
+returns-clause-fits c = c.in_ok-plan.ensures.fits
+
+pub returns-clause-plan_room : goal.returns-clause-plan_room
+returns-clause-plan_room c = c.in_ok-plan.ensures.room

@@ -11,3 +11,6 @@ returns-in-None c =
     let s = has c.args.status.now.set in
     let none : permission_walk_of_any c.args.hierarchy.now s c.args.active.now c.args.perm ≡ None = sym c.in_ok-walk.ensures ∙ c.in-None.is in
     denies c.args.hierarchy.now s c.args.active.now c.args.perm NoGrant (no_walk c.args.hierarchy.now s c.args.active.now c.args.perm none) (ap (denied_by s c.args.hierarchy.now) none)
+
+pub returns-in-Some : goal.returns-in-Some
+returns-in-Some c = c.by_walk.ensures

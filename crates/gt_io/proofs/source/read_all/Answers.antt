@@ -1,5 +1,37 @@
-use Rattle.std.proofs.KnownBytes.{Consumes-trans}
+use Rattle.std.proofs.Common.{ap, take, ◌∙◌, arith}
+use Rattle.std.proofs.KnownBytes.{Consumes-kept, Consumes-trans}
+use Rattle.gt_io.proofs.Pieces.{more_taken, all_taken}
 use Rattle.gt_io.proofs.source.read_all.Goals as goal
+
+pub returns-in_err-n-clause-front : goal.returns-in_err-n-clause-front
+returns-in_err-n-clause-front g c = (_, Consumes-kept _ _ _ _ c.loop-bytes.invariant.taken c.in_err-n.ensures.bytes)
+
+pub returns-then-n-eq0-clause-whole : goal.returns-then-n-eq0-clause-whole
+returns-then-n-eq0-clause-whole g c =
+    all_taken (g.S.Source.left c.args.source.now) _ _ c.loop-bytes.bytes.items _ c.loop-bytes.invariant.taken c.in_ok-n.ensures.bytes.0 (ap (λ n. take n c.read.new.buf) c.if-n-eq0.true)
+    (c.in_ok-n.ensures.bytes.1 c.if-n-eq0.true (omega arith))
+
+pub returns-then-n-eq0-clause-end : goal.returns-then-n-eq0-clause-end
+returns-then-n-eq0-clause-end g c = c.in_ok-n.ensures.bytes.1 c.if-n-eq0.true (omega arith)
+
+pub returns-then-n-eq0-clause-within : goal.returns-then-n-eq0-clause-within
+returns-then-n-eq0-clause-within g c = c.loop-bytes.invariant.within
+
+pub returns-then-n-eq0-clause-front : goal.returns-then-n-eq0-clause-front
+returns-then-n-eq0-clause-front g c = (_, Consumes-trans _ _ _ _ _ c.loop-bytes.invariant.taken c.in_ok-n.ensures.bytes.0)
+
+pub returns-then-n-eq0-clause-cause : goal.returns-then-n-eq0-clause-cause
+returns-then-n-eq0-clause-cause g c = c.in_ok-n.ensures.cause.kept ∙ c.loop-bytes.invariant.kept
+
+pub add_piece-requires : goal.add_piece-requires
+add_piece-requires g c = c.loop-bytes.invariant.within
+
+pub loop-bytes-preserved : goal.loop-bytes-preserved
+loop-bytes-preserved g c = record {
+  taken = more_taken (g.S.Source.left c.args.source.now) _ _ c.loop-bytes.bytes.items _ _ c.loop-bytes.invariant.taken c.in_ok-n.ensures.bytes.0 c.in_ok-add_piece.ensures.added;
+  within = c.in_ok-add_piece.ensures.within;
+  kept = c.in_ok-n.ensures.cause.kept ∙ c.loop-bytes.invariant.kept;
+}
 
 pub returns-in_err-add_piece-clause-front : goal.returns-in_err-add_piece-clause-front
 returns-in_err-add_piece-clause-front g c = (_, Consumes-trans _ _ _ _ _ c.loop-bytes.invariant.taken c.in_ok-n.ensures.bytes.0)

@@ -1,6 +1,5 @@
-use Rattle.std.proofs.Common.{arith, ◌+◌, ◌∙◌}
-use Rattle.std.proofs.lemmas.Grind.{common_steps}
-use Rattle.std.proofs.lemmas.List.{drop-drop}
+use Rattle.std.proofs.Common.{arith, ◌+◌, ◌-◌, ◌∙◌, ap, drop, length, length-drop}
+use Rattle.std.proofs.lemmas.List.{drop-drop, take_all}
 use Rattle.std.proofs.Math.Seq.{take-add}
 use Rattle.std.proofs.KnownBytes.{Appends-trans}
 use Rattle.gt_io.proofs.source.write_all.Goals as goal
@@ -11,8 +10,14 @@ loop-rest-preserved g c =
     let sink = g.K.Sink in
     record {
       n = inv.n + c.in_ok-n.n;
-      left = grind (arith, common_steps, drop-drop, inv.left);
-      within = grind (arith, common_steps, inv.left);
+      left =
+          let rest = c.loop-rest.rest.now in
+          take_all (length rest - c.in_ok-n.n) (drop c.in_ok-n.n rest) (omega (arith, length-drop c.in_ok-n.n rest)) ∙ ap (drop c.in_ok-n.n) inv.left ∙ drop-drop c.in_ok-n.n inv.n c.args.text.now;
+      within =
+          let rest = ap length inv.left ∙ length-drop inv.n c.args.text.now in
+          let within = inv.within in
+          let bound = c.in_ok-n.ensures.bound.1 in
+          omega (arith, rest, within, bound);
       written = rw (take-add inv.n c.in_ok-n.n c.args.text.now) (rw (← inv.left) (Appends-trans _ _ _ _ _ inv.written c.in_ok-n.ensures.bytes));
       kept = c.in_ok-n.ensures.cause.kept ∙ inv.kept;
     }

@@ -1,4 +1,4 @@
-use Rattle.std.proofs.Common.{◌∙◌, subst}
+use Rattle.std.proofs.Common.{sym, ◌∙◌, subst}
 use Rattle.gt_base.specs.Sets.{has}
 use Rattle.gtrbac_model.specs.Instant.{IsGrounding}
 use Rattle.instant_bases.specs.Timelines.{ClosedSet}
@@ -16,7 +16,7 @@ returns c =
       listing = record { at = d.at; events = c.in_ok-events.events.items; signals = c.from.result.items };
       added = added;
       is = subst (λ e. IsListing rules s e (record { at = d.at; events = c.in_ok-events.events.items; signals = c.from.result.items })) c.closed.view_is
-          (listing_of rules s d c.in_ok-events.events.items c.from.result.items (subst (λ y. IsGrounding rules d.base s y c.in_ok-events.events.items) c.in_ok-x.ensures c.in_ok-events.ensures)
+          (listing_of rules s d c.in_ok-events.events.items c.from.result.items (subst (λ (e : ClosedSet). IsGrounding rules e.base s e.set c.in_ok-events.events.items) (sym c.closed.view_is) c.in_ok-events.ensures)
           (c.from.ensures ∙ c.in_ok-signals.ensures.items ∙ c.signals.ensures));
     })
     c.add.ensures.ok

@@ -1,4 +1,4 @@
-use Rattle.std.proofs.Common.{◌≡◌, ℕ, Bool, ◌++◌, List, take, sym, ◌∙◌, ap, append_assoc}
+use Rattle.std.proofs.Common.{ℕ, Bool, ◌++◌, List, take, sym, ◌∙◌, ap, append_assoc}
 use Rattle.gt_base.specs.declared.events.Fluent.{Fluent}
 use Rattle.gt_base.specs.declared.events.Prioritised.{Prioritised}
 use Rattle.gt_base.specs.declared.policies.LimitRule.{LimitRule}

@@ -1,7 +1,6 @@
 use Rattle.std.proofs.Common.{ℕ, ◌<◌, ◌≤◌, slice_index, sym, subst, arith}
 use Rattle.gt_base.specs.Sets.{has}
 use Rattle.dependency_graph.specs.Carried.{level_in, place_of}
-use Rattle.gtrbac_model.specs.Instant.{Settled}
 use Rattle.gtrbac_model.proofs.Levels.{by_trigger}
 use Rattle.instant_engine.specs.OnTheWay.{IsSettledBelow}
 use Rattle.instant_engine.proofs.Climbing.{at_first, settles}

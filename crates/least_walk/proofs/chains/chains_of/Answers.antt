@@ -1,4 +1,4 @@
-use Rattle.std.proofs.Common.{◌≡◌, ℕ, ◌+◌, ◌<◌, ◌++◌, [], ◌∷◌, length, Some, slice_index, slice_index_or, slice_set, sym, ◌∙◌, ap, subst, arith}
+use Rattle.std.proofs.Common.{◌≡◌, ℕ, ◌+◌, ◌<◌, ◌++◌, [], ◌∷◌, Some, slice_index, slice_index_or, slice_set, sym, ◌∙◌, ap, subst, arith}
 use Rattle.gtrbac_model.specs.Graph.{item_at}
 use Rattle.least_walk.proofs.Items.{item_read, any_default}
 use Rattle.least_walk.proofs.Chaining.{Chained, chained_start, chained_next, chained_all}

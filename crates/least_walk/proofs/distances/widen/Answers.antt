@@ -1,12 +1,11 @@
-use Rattle.std.proofs.Common.{◌≡◌, ℕ, ◌+◌, ◌<◌, ◌++◌, [], ◌∷◌, List, true, length, map, Some, slice_index, slice_index_or, slice_set, refl, sym, ◌∙◌, ap, subst, arith}
+use Rattle.std.proofs.Common.{◌≡◌, ℕ, ◌+◌, ◌<◌, List, true, length, Some, slice_index, slice_index_or, slice_set, sym, ◌∙◌, ap, subst, arith}
 use Rattle.std.proofs.lemmas.Bool.{false≢true}
 use Rattle.gtrbac_model.specs.Graph.{item_at}
 use Rattle.least_walk.specs.declared.graphs.GraphEdge.{GraphEdge}
-use Rattle.least_walk.specs.Net.{no_edge}
 use Rattle.least_walk.specs.Chains.{AreChains, IsLast, ends}
-use Rattle.least_walk.specs.Distances.{far, unreached, NearBy, Spread}
+use Rattle.least_walk.specs.Distances.{unreached, NearBy}
 use Rattle.least_walk.proofs.Items.{item_read, any_default}
-use Rattle.least_walk.proofs.Chaining.{IsLink, IsEdgeOf, begun_at, link_of, goes_down, edge_at, edge_of}
+use Rattle.least_walk.proofs.Chaining.{IsEdgeOf, begun_at, link_of, goes_down, edge_at, edge_of}
 use Rattle.least_walk.proofs.Spreading.{Widened, widened_start, widened_skip, widened_found, widened_end, near_already, length_ends}
 use Rattle.least_walk.proofs.distances.widen.Goals as goal
 use Rattle.least_walk.proofs.distances.widen.Goals.{then-dist-from+then-may_pass+in_ok-push, else-dist-from, else-dist-from-via-then-dist-from+else-may_pass, else-dist-from-via-else-dist-from}

@@ -1,8 +1,6 @@
-use Rattle.std.proofs.Common.{◌≡◌, ℕ, ◌+◌, ◌<◌, ◌≤◌, List, true, length, Some, slice_index, slice_index_or, sym, ◌∙◌, ap, subst, arith}
+use Rattle.std.proofs.Common.{◌≡◌, ℕ, ◌+◌, ◌<◌, ◌≤◌, List, true, length, slice_index, slice_index_or, sym, ◌∙◌, subst, arith}
 use Rattle.std.proofs.lemmas.Bool.{false≢true}
-use Rattle.std.proofs.lemmas.List.{length-map}
 use Rattle.least_walk.specs.declared.graphs.GraphEdge.{GraphEdge}
-use Rattle.least_walk.specs.Net.{no_edge}
 use Rattle.least_walk.specs.Chains.{AreChains, IsLast, begins}
 use Rattle.least_walk.proofs.Items.{any_default}
 use Rattle.least_walk.proofs.Chaining.{IsEdgeOf, begun_at, link_of, goes_down, edge_at, edge_of}

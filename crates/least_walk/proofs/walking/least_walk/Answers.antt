@@ -1,5 +1,5 @@
-use Rattle.std.proofs.Common.{◌≡◌, ℕ, List, IfOk, IfSome, IfNone, ◌∙◌, ap, subst}
-use Rattle.gtrbac_model.specs.Graph.{Arc, IsLeastWalk}
+use Rattle.std.proofs.Common.{◌≡◌, IfOk, IfSome, IfNone, ◌∙◌, ap, subst}
+use Rattle.gtrbac_model.specs.Graph.{IsLeastWalk}
 use Rattle.least_walk.specs.Net.{arcs_of, arcs_by, every}
 use Rattle.least_walk.specs.Walks.{is_goal, HasNoWalk}
 use Rattle.least_walk.proofs.Descending.{every_arc}

@@ -1,4 +1,4 @@
-use Rattle.std.proofs.Common.{◌≡◌, ◌<◌, ◌≤◌, ◌+◌, ℕ, List, Option, Some, None, MatchOption, length, sym, subst, arith, slice_index, slice_index_or}
+use Rattle.std.proofs.Common.{◌≡◌, ◌<◌, ◌≤◌, ◌+◌, ℕ, List, Option, Some, None, MatchOption, length, refl, le_refl, sym, subst, arith, slice_index, slice_index_or}
 use Rattle.least_walk.specs.Distances.{far}
 use Rattle.least_walk.specs.Walks.{IsNearest, AllFar}
 use Rattle.least_walk.proofs.Items.{item_read}
@@ -25,6 +25,18 @@ stays starts ds i least best h ge le w new now p q =
       best = subst (λ n. BestOf starts ds n (i + 1) now) (sym p) (subst (λ o. BestOf starts ds least (i + 1) o) (sym q) (best_stays starts ds least i _ best (item_read starts i 0 h) ge w));
       bound = omega arith;
     }
+
+none_before : (starts ds : List ℕ) → BestOf starts ds far 0 None
+none_before starts ds = (refl, λ j t h is. absurd (omega (arith, h)))
+
+pub loop-s-init : goal.loop-s-init
+loop-s-init c = record { best = none_before c.args.from.now c.args.dist.now; bound = le_refl far }
+
+pub bounds-dist-s : goal.bounds-dist-s
+bounds-dist-s c = c.requires c.loop-s.s-index _ (item_read c.args.from.now c.loop-s.s-index 0 c.loop-s-test.true)
+
+pub bounds-dist-s-then-dist-s : goal.bounds-dist-s-then-dist-s
+bounds-dist-s-then-dist-s c = c.requires c.loop-s.s-index _ (item_read c.args.from.now c.loop-s.s-index 0 c.loop-s-test.true)
 
 pub loop-s-preserved : goal.loop-s-preserved
 loop-s-preserved c =

@@ -1,7 +1,32 @@
-use Rattle.std.proofs.Common.{◌≡◌, ◌≤◌, length, ◌∙◌, arith, ap, Err}
+use Rattle.std.proofs.Common.{◌≡◌, ◌≤◌, length, ◌∙◌, arith, ap, refl, inl, Err}
 use Rattle.turn_lock.specs.Holders.{Holder}
+use Rattle.locked_history.specs.Fronts.{Refuses}
+use Rattle.connection_laws.proofs.Prefixes.{prefix_self}
 use Rattle.line_server.proofs.Asking.{is_accepted, is_refused}
 use Rattle.line_server.proofs.asks.ask_at.Goals as goal
+
+-- no call at all is as good as one that was refused
+refuses_none : {M : Type 0} (p : Holder M) → Refuses p p
+refuses_none p =
+    record {
+      seen = prefix_self p.seen;
+      long = inl refl;
+      after_is = refl;
+      draws = (omega arith, omega arith);
+    }
+
+pub ask-requires-clause-pass : goal.ask-requires-clause-pass
+ask-requires-clause-pass g c =
+    let after_is = c.in_default.ensures.grows.after_is in
+    (ap (λ (p : Holder g.row.M.Denot). p.site) after_is ∙ c.requires.idle.0, ap (λ (p : Holder g.row.M.Denot). p.turn) after_is ∙ c.requires.idle.1)
+
+pub returns-in-Err-clause-asked : goal.returns-in-Err-clause-asked
+returns-in-Err-clause-asked g c =
+    let r = c.in-Err.ensures in
+    let m = g.M.Machine in
+    let p = c.reach.new.pass in
+    is_refused (g.M.Keeps.list c.args.desk.now.root) (m.legal c.args.desk.now.root) (m.now_of c.args.desk.now.root) c.args.conn c.args.reading c.args.actor c.args.request
+    c.args.pass.now p p r.ticks c.in-Err.fault r.each r.grows (refuses_none p) (λ is. r.full (ap Err is)) (λ n is. r.worn_out n (ap Err is))
 
 pub returns-in-Ok-clause-asked : goal.returns-in-Ok-clause-asked
 returns-in-Ok-clause-asked g c =

@@ -1,7 +1,7 @@
 use Rattle.std.proofs.Common.{◌≡◌, true, sym, subst, ap, ◌∙◌}
 use Rattle.std.specs.Vec.Iter.{into_iter_items}
 use Rattle.policy_words.specs.Sayings.{is_saying}
-use Rattle.policy_words.specs.Making.{adding, drafted}
+use Rattle.policy_words.specs.Making.{adding, drafted, fresh}
 use Rattle.policy_words.specs.Book.{said_in}
 use Rattle.policy_book.specs.Said.{are_sayings}
 use Rattle.policy_book.specs.Seen.{seen_names}
@@ -29,4 +29,14 @@ loop-part-preserved c =
           ∙ ap (λ ss. drafted ns old (said_in ss)) (sym whole)
           ∙ c.loop-part.invariant.made;
       said = (parted (is_saying part.it) (are_sayings rest) (subst (λ ss. are_sayings ss ≡ true) whole c.loop-part.invariant.said)).1;
+    }
+
+pub loop-part-init : goal.loop-part-init
+loop-part-init c =
+    let ns = seen_names c.args.names.now in
+    let rest = into_iter_items c.into_iter-rest.result in
+    let whole = c.into_iter-rest.ensures.rest in
+    record {
+      made = ap (λ d. drafted ns d (said_in rest)) c.in_ok-draft.ensures ∙ ap (λ ss. drafted ns (fresh ns) (said_in ss)) whole;
+      said = subst (λ ss. are_sayings ss ≡ true) (sym whole) c.requires.said;
     }

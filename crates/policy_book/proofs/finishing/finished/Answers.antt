@@ -1,5 +1,7 @@
-use Rattle.std.proofs.Common.{◌≡◌, Bool, List, ◌++◌, length, ap, sym, subst, ◌∙◌}
-use Rattle.std.specs.Prelude.{filter}
+use Rattle.std.proofs.Common.{◌≡◌, ◌≤◌, ◌&&◌, ℕ, true, arith, Fits, w32, Bool, List, ◌++◌, length, ap, sym, subst, ◌∙◌}
+use Rattle.std.specs.Prelude.{filter, nat_le}
+use Rattle.std.proofs.lemmas.Bool.{leb-true}
+use Rattle.gtrbac_model.proofs.Elements.{both_true}
 use Rattle.gt_base.specs.Sets.{set_of}
 use Rattle.gt_base.specs.Happening.{Fluents}
 use Rattle.gt_base.specs.declared.events.UserId.{UserId}
@@ -47,3 +49,18 @@ with-requires c = subst IsWellFormed (sym (whole c)) c.requires.well_formed
 
 pub returns : goal.returns
 returns c = c.with.ensures ∙ whole (goal.at.returns c).In_ok-opening
+
+few : (n : ℕ) (a b : Bool) → (nat_le n 4_000 && a && b) ≡ true → n ≤ 4_294_967_295
+few n a b e =
+    let le = leb-true n 4_000 (both_true _ _ (both_true _ _ e).0).0 in
+    omega (arith, le)
+
+fits : (n m : ℕ) → n ≡ m → m ≤ 4_294_967_295 → Fits w32 n
+fits n m is le = omega arith
+
+pub overflow_cast-len : goal.overflow_cast-len
+overflow_cast-len c = fits _ _ c.len.ensures c.requires.few.users
+
+pub linked_count-linked-requires : goal.linked_count-linked-requires
+linked_count-linked-requires c =
+    subst (λ (es : List HierEdge). length es ≤ 4_294_967_295) (sym c.deref.ensures.value) (few _ _ _ c.requires.well_formed.policy.edges)

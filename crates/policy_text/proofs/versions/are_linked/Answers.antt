@@ -1,4 +1,4 @@
-use Rattle.std.proofs.Common.{sym, ◌∙◌, arith, ◌≤◌}
+use Rattle.std.proofs.Common.{sym, ◌∙◌, arith}
 use Rattle.gt_base.specs.Sets.{has}
 use Rattle.policy_text.proofs.EdgesFrom.{not_all}
 use Rattle.policy_text.proofs.versions.are_linked.Goals as goal

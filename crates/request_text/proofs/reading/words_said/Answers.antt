@@ -16,5 +16,4 @@ pub returns : goal.returns
 returns c =
     c.request_said.ensures c.args.opening
     ∙ sym (ap (said c.args.p.now c.args.opening)
-    (request_phrase c.args.script c.args.word.now c.args.words (sym c.if-is_at.ensures)
-    (ap (bytes_eq c.args.word.now) (sym c.as_slice.ensures) ∙ sym c.if-eq.ensures)))
+    (request_phrase c.args.script c.args.word.now c.args.words (sym c.if-is_at.ensures) (sym c.if-same.ensures)))

@@ -1,4 +1,4 @@
-use Rattle.std.proofs.Common.{◌≡◌, Some, sym, ap, ◌∙◌, add-zero, arith}
+use Rattle.std.proofs.Common.{Some, sym, ap, ◌∙◌, add-zero, arith}
 use Rattle.session_table.specs.declared.charges.Charge.{Charge}
 use Rattle.session_table.specs.Charges.{charged_in}
 use Rattle.session_table.proofs.Writing.{row_added, row_says, written_over}

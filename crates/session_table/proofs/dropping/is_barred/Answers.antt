@@ -1,4 +1,4 @@
-use Rattle.std.proofs.Common.{◌≡◌, Bool, true, false, cond, nat_eq, Option, Some, None, is_some, is_none, not, IfSome, refl, sym, ap, subst, ◌∙◌}
+use Rattle.std.proofs.Common.{◌≡◌, Bool, true, false, cond, nat_eq, Option, Some, is_none, IfSome, refl, sym, ap, subst, ◌∙◌}
 use Rattle.std.proofs.lemmas.Bool.{eqb-true}
 use Rattle.gt_base.specs.declared.events.RoleId.{RoleId}
 use Rattle.gt_base.specs.declared.events.UserId.{UserId}
@@ -21,21 +21,13 @@ told : (o old : Option Bool) (e v want : Bool) → o ≡ cond e (Some v) old →
 told o old true v want is h g = subst (λ x. IfSome x (λ b. b ≡ want)) (sym is) (g refl)
 told o old false v want is h g = subst (λ x. IfSome x (λ b. b ≡ want)) (sym is) h
 
-not_some : {A : Type 0} (o : Option A) → not (is_some o) ≡ is_none o
-not_some (Some x) = refl
-not_some None = refl
-
-not_not : (b : Bool) → b ≡ not (not b)
-not_not true = refl
-not_not false = refl
-
 pub returns-clause-known : goal.returns-clause-known
 returns-clause-known c = λ u r.
     let barred : UserId → RoleId → Bool = λ u r. is_none (activation_walk c.args.hierarchy.now (has c.args.status.now.set) u r) in
-    told _ _ (asked_eq (record { user = c.args.user; role = c.args.role }) (record { user = u; role = r })) c.is_none-barred.result (barred u r)
+    told _ _ (asked_eq (record { user = c.args.user; role = c.args.role }) (record { user = u; role = r })) c.in_ok-barred.barred (barred u r)
     (c.in_ok-insert.ensures.updates.0 (record { user = u; role = r })) (c.requires u r)
     (λ e.
     let (p, q) = both_true (nat_eq c.args.user.0 u.0) (nat_eq c.args.role.0 r.0) e in
     let a = eqb-true c.args.user.0 u.0 p in
     let b = eqb-true c.args.role.0 r.0 q in
-    not_not c.is_none-barred.result ∙ ap not (sym c.is_none-barred.ensures) ∙ not_some c.in_ok-found.found ∙ ap is_none c.in_ok-found.ensures ∙ (λ i. barred (record { 0 = a i }) (record { 0 = b i })))
+    c.in_ok-barred.ensures ∙ (λ i. barred (record { 0 = a i }) (record { 0 = b i })))

@@ -1,5 +1,4 @@
 use Rattle.std.proofs.Common.{arith}
-use Rattle.delay_agenda.specs.Due.{pending_at}
 use Rattle.delay_agenda.proofs.PendingLaws.{pending_cmp_total}
 use Rattle.instant_bases.proofs.Joining.{joined_more}
 use Rattle.time_engine.proofs.closing.put_all.Goals as goal

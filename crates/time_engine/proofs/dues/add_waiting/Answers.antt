@@ -1,7 +1,6 @@
 use Rattle.std.proofs.Common.{◌≡◌, ◌+◌, ◌||◌, sym, ◌∙◌, ap, arith}
 use Rattle.std.specs.List.{list_any}
 use Rattle.std.specs.Ordering.{eq_by_cmp}
-use Rattle.gt_base.specs.Happening.{HappenedView}
 use Rattle.gt_base.specs.Orders.{signal_cmp}
 use Rattle.gt_base.specs.Sets.{has}
 use Rattle.time_engine.proofs.SignalSets.{listed, for_next}

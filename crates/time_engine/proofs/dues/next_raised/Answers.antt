@@ -1,6 +1,5 @@
 use Rattle.std.proofs.Common.{◌≡◌, ◌≤◌, ◌||◌, sym, ◌∙◌, ap, subst, flat_map}
 use Rattle.gt_base.specs.Sets.{has}
-use Rattle.gt_base.specs.declared.events.Fluent.{Fluent}
 use Rattle.gtrbac_model.specs.Base.{raised_by, limited_from}
 use Rattle.gtrbac_model.specs.History.{is_some_item}
 use Rattle.instant_bases.proofs.Nexts.{by_test}

@@ -1,8 +1,6 @@
-use Rattle.std.proofs.Common.{◌≡◌, ◌++◌, List, [], flat_map, sym, ◌∙◌, ap}
+use Rattle.std.proofs.Common.{◌≡◌, ◌++◌, flat_map, sym, ◌∙◌}
 use Rattle.gt_base.specs.Sets.{has}
-use Rattle.gt_base.specs.declared.events.Prioritised.{Prioritised}
 use Rattle.gtrbac_model.specs.Base.{raised_by, limited_from}
-use Rattle.gtrbac_model.specs.Period.{Period}
 use Rattle.instant_bases.specs.Timelines.{since_of}
 use Rattle.time_engine.specs.Kept.{view_of}
 use Rattle.time_engine.proofs.Bases.{since_view}

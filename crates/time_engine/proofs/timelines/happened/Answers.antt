@@ -1,5 +1,4 @@
-use Rattle.std.proofs.Common.{◌≡◌, ◌-◌, length, slice_get, Some, sym, ◌∙◌, ap, subst, List}
-use Rattle.instant_bases.specs.Timelines.{ClosedSet}
+use Rattle.std.proofs.Common.{◌≡◌, ◌-◌, length, slice_get, Some, sym, ◌∙◌}
 use Rattle.time_engine.proofs.TraceLaws.{last_is}
 use Rattle.time_engine.proofs.timelines.happened.Goals as goal
 

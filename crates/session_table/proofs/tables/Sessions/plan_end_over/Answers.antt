@@ -1,10 +1,13 @@
-use Rattle.std.proofs.Common.{false, map, filter, refl, ap, ◌∙◌}
+use Rattle.std.proofs.Common.{refl, sym, ap, subst, ◌∙◌, filter}
 use Rattle.gt_base.specs.Sets.{has}
 use Rattle.gtrbac_model.specs.Conflict.{Status}
-use Rattle.gtrbac_model.specs.Sessions.{signal_of}
 use Rattle.session_table.specs.Dropping.{is_dropped}
+use Rattle.session_table.specs.Kept.{IsTable}
+use Rattle.session_table.specs.Permits.{rows_table}
+use Rattle.session_table.specs.Plans.{IsPlan}
 use Rattle.session_table.specs.Tables.{table_of, dropped_at}
 use Rattle.session_table.proofs.Keeping.{few_of}
+use Rattle.session_table.proofs.Permitting.{if_ok}
 use Rattle.session_table.proofs.tables.Sessions.plan_end_over.Goals as goal
 
 pub dropped-requires : goal.dropped-requires
@@ -14,11 +17,25 @@ dropped-requires c = λ u r.
 pub returns-clause-plan : goal.returns-clause-plan
 returns-clause-plan c =
     let s : Status = has c.args.status.now.set in
-    record {
+    if_ok c.new.result c.new.ensures (λ d e.
+    subst (IsPlan c.args.hierarchy.now c.args.caps.now.items s c.args.now c.args.to (table_of c.args.self.now)) (sym e) (record {
       from = refl;
       upto = refl;
       gone = c.in_ok-gone.ensures
+          ∙ ap (λ rows. filter (is_dropped c.args.hierarchy.now c.args.caps.now.items s rows c.as_slice.result.now c.args.now c.args.to) c.as_slice.result.now) c.reserve_charges.ensures.same
           ∙ ap (λ xs. filter (is_dropped c.args.hierarchy.now c.args.caps.now.items s c.self.inside.charges.entries xs c.args.now c.args.to) xs) c.as_slice.ensures
           ∙ ap (λ v. dropped_at c.args.hierarchy.now c.args.caps.now.items s c.args.now c.args.to (table_of v)) c.self.view_is;
-      signals = c.in_ok-signals.ensures ∙ ap (map (signal_of false)) c.deref.ensures.value;
-    }
+      signals = refl;
+    }))
+
+pub invariant_of-self : goal.invariant_of-self
+invariant_of-self c =
+    subst (λ rows. IsTable c.self.inside.sessions.items c.self.inside.standing c.self.inside.active.items rows c.self.inside.charged_to c.self.inside.begun) (sym c.reserve_charges.ensures.same) c.self.invariant
+
+pub invariant_of-self-2 : goal.invariant_of-self-2
+invariant_of-self-2 c =
+    subst (λ rows. IsTable c.self.inside.sessions.items c.self.inside.standing c.self.inside.active.items rows c.self.inside.charged_to c.self.inside.begun) (sym c.reserve_charges.ensures.same) c.self.invariant
+
+pub returns-clause-same : goal.returns-clause-same
+returns-clause-same c =
+    ap (λ rows. rows_table c.self.inside.sessions.items c.self.inside.active.items rows c.self.inside.begun) c.reserve_charges.ensures.same ∙ ap table_of c.self.view_is

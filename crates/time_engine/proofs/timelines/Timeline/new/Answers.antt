@@ -1,9 +1,7 @@
-use Rattle.std.proofs.Common.{◌≡◌, ◌≤◌, [], ap, sym, ◌∙◌, subst, arith}
+use Rattle.std.proofs.Common.{◌≤◌, ap, sym, ◌∙◌, subst, arith}
 use Rattle.gt_base.specs.Sets.{has}
-use Rattle.gt_base.specs.declared.events.Fluent.{Fluent}
 use Rattle.gt_base.proofs.SetLaws.{has-none}
 use Rattle.delay_agenda.specs.Due.{Pendings, pending_cmp}
-use Rattle.duration_limits.specs.Since.{since_in}
 use Rattle.time_engine.specs.Traces.{Ascends, EndsBy, AreSome}
 use Rattle.time_engine.proofs.Bases.{since_view}
 use Rattle.time_engine.proofs.Booleans.{clash}

@@ -2,7 +2,7 @@ use Rattle.std.proofs.Common.{◌≡◌, true, filter, take, IfSome}
 use Rattle.gt_base.specs.Sets.{has}
 use Rattle.gt_base.specs.declared.events.Fluent.TheVariants.{Enabled}
 use Rattle.session_table.specs.Dropping.{AreBarred, is_dropped}
-use Rattle.session_table.proofs.dropping.dropped.Given as goal
+use Rattle.session_table.proofs.dropping.drop_each.Given as goal
 
 abbrev pub invariant-loop-a : goal.invariant-loop-a
 invariant-loop-a l =

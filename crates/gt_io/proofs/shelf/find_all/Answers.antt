@@ -1,0 +1,41 @@
+use Rattle.std.proofs.Common.{ap, take, ◌∙◌, arith}
+use Rattle.gt_io.proofs.Pieces.{more_found, all_found}
+use Rattle.gt_io.proofs.shelf.find_all.Goals as goal
+
+pub returns-in_err-n-clause-same : goal.returns-in_err-n-clause-same
+returns-in_err-n-clause-same g c = c.in_err-n.ensures.same ∙ c.pieces.invariant.same
+
+pub returns-then-n-eq0-clause-whole : goal.returns-then-n-eq0-clause-whole
+returns-then-n-eq0-clause-whole g c =
+    all_found (g.S.Shelf.contents c.args.shelf.now) c.args.name.now _ _ _ c.pieces.bytes.items _ c.in_ok-find.ensures.found c.pieces.invariant.found c.in_ok-n.ensures.bytes.0
+    (ap (λ n. take n c.read.new.buf) c.if-n-eq0.true) (c.in_ok-n.ensures.bytes.1 c.if-n-eq0.true (omega arith))
+
+pub returns-then-n-eq0-clause-end : goal.returns-then-n-eq0-clause-end
+returns-then-n-eq0-clause-end g c = c.in_ok-n.ensures.bytes.1 c.if-n-eq0.true (omega arith)
+
+pub returns-then-n-eq0-clause-within : goal.returns-then-n-eq0-clause-within
+returns-then-n-eq0-clause-within g c = c.pieces.invariant.within
+
+pub returns-then-n-eq0-clause-same : goal.returns-then-n-eq0-clause-same
+returns-then-n-eq0-clause-same g c = c.in_ok-n.ensures.same ∙ c.pieces.invariant.same
+
+pub returns-then-n-eq0-clause-cause : goal.returns-then-n-eq0-clause-cause
+returns-then-n-eq0-clause-cause g c = c.in_ok-n.ensures.cause.kept ∙ c.pieces.invariant.kept
+
+pub returns-then-n-eq0-clause-hard_cause : goal.returns-then-n-eq0-clause-hard_cause
+returns-then-n-eq0-clause-hard_cause g c = c.in_ok-n.ensures.hard_cause.kept ∙ c.pieces.invariant.hard_kept
+
+pub add_piece-requires : goal.add_piece-requires
+add_piece-requires g c = c.pieces.invariant.within
+
+pub pieces-preserved : goal.pieces-preserved
+pieces-preserved g c = record {
+  found = more_found (g.S.Shelf.contents c.args.shelf.now) c.args.name.now _ _ c.pieces.bytes.items _ _ c.pieces.invariant.found c.in_ok-n.ensures.bytes.0 c.in_ok-add_piece.ensures.added;
+  same = c.in_ok-n.ensures.same ∙ c.pieces.invariant.same;
+  within = c.in_ok-add_piece.ensures.within;
+  kept = c.in_ok-n.ensures.cause.kept ∙ c.pieces.invariant.kept;
+  hard_kept = c.in_ok-n.ensures.hard_cause.kept ∙ c.pieces.invariant.hard_kept;
+}
+
+pub returns-in_err-add_piece-clause-same : goal.returns-in_err-add_piece-clause-same
+returns-in_err-add_piece-clause-same g c = c.in_ok-n.ensures.same ∙ c.pieces.invariant.same
