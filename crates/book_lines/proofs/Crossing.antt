@@ -245,7 +245,7 @@ request_field_send = search (sendable) depth 60 fits 20000
 step_field_send : IsSend step.the_field.row
 step_field_send = search (reply_field_send, request_field_send, sendable) depth 60 fits 20000
 
-entry_send : IsSend entry.the_row
+pub entry_send : IsSend entry.the_row
 entry_send = search (step_field_send, sendable) depth 60 fits 20000
 
 all_entries_send : IsSend (list.the_row entry.the_row)
@@ -254,7 +254,7 @@ all_entries_send = list_send entry.the_row entry_send
 book_inside_send : IsSend book_inside.the_row
 book_inside_send = search (ground_send, timeline_send, sessions_send, all_entries_send, sendable, crosses) depth 60
 
-book_send : IsSend book.the_row
+pub book_send : IsSend book.the_row
 book_send = view_send book_inside.the_row _ _ _ _ book_inside_send
 
 ledger_inside_send : IsSend ledger_inside.the_row

@@ -6,17 +6,22 @@ use Rattle.core_machine.specs.Books.{BookView, AreNamed as AreNamedMoves, SameRo
 use Rattle.connection_laws.specs.Connection.{IsTimed}
 use Rattle.connection_laws.specs.Desks.{AreNamed, RepliesCanBeTold}
 
--- some model makes the history legal for the book's policy and birth, and its moves are the policy's
+-- some model makes the history legal for the book's policy and birth, and its moves are the
+-- policy's
 pub record IsLegalLedger (b : BookView) (h : List Entry) : Type 0 where
   pub legal : IsLegalFor b h
   pub named : AreNamedMoves b.named.policy h
 
-pub IsLegalLedger-by_root : (a b : BookView) (h : List Entry) → SameRoot a b → IsLegalLedger a h → IsLegalLedger b h
+pub IsLegalLedger-by_root : (a b : BookView) (h : List Entry) → SameRoot a b → IsLegalLedger a h
+    → IsLegalLedger b h
 IsLegalLedger-by_root a b h s l =
-    record { legal = IsLegalFor-by_root a b h s l.legal; named = subst (λ p. AreNamedMoves p.policy h) s.0 l.named }
+    record {
+      legal = IsLegalFor-by_root a b h s l.legal;
+      named = subst (λ p. AreNamedMoves p.policy h) s.0 l.named;
+    }
 
--- Its policy's connections can ask it: what the policy names is named for it, each reply of its legal lists can be told, and its birth keeps
--- the time of them
+-- Its policy's connections can ask it: what the policy names is named for it, each reply of its
+-- legal lists can be told, and its birth keeps the time of them
 pub record CanBeServed (b : BookView) : Type 0 where
   pub named : AreNamed b.named (IsNamedFor b)
   pub replies : RepliesCanBeTold b.named (IsLegalLedger b)

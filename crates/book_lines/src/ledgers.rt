@@ -1,13 +1,16 @@
 //! A book as the machine that connections ask.
-ghost use Rattle.std.specs.Prelude.{◌≡◌};
+ghost use Rattle.std.specs.Prelude.{◌≡◌, IfOk};
 ghost use Rattle.book_lines.specs.Ledgers.{CanBeServed};
 
 use core_machine::Book;
+use gt_base::Memory;
+use std::alloc::Global;
 use std::marker::Model;
 
-/// A book that connections ask. It is seen as the book.
+/// A book that connections ask. It is seen as the book, which lies on the heap, so that a turn of
+/// the lock moves a pointer and not the book.
 pub struct Ledger {
-    pub(crate) book: Book,
+    pub(crate) book: Box<Book>,
 }
 
 impl Drop for Ledger {
@@ -23,18 +26,19 @@ impl Model for Ledger {
 
     ghost coded = { book_code };
 
-    ghost view = { λ l. l.book };
+    ghost view = { λ l. l.book.value };
 }
 
 impl Ledger {
-    /// The ledger of a book.
-    pub fn new(book: Book) -> Ledger
-        ensures book { result ≡ book }
-        ensures served { CanBeServed result }
+    /// The ledger of a book; for want of memory the book is gone.
+    pub fn new(alloc: Global, book: Book) -> Result<Ledger, Memory>
+        ensures book { IfOk result (λ ledger. ledger ≡ book) }
+        ensures served { IfOk result (λ ledger. CanBeServed ledger) }
     {
         // what each book keeps
         let _policy = book.policy();
-        Ledger { book }
+        let book = Box::new(alloc, book)?;
+        Ok(Ledger { book })
     }
 
     /// The book.
@@ -42,13 +46,5 @@ impl Ledger {
         ensures { result.now ≡ self.now }
     {
         &self.book
-    }
-
-    /// The book itself.
-    pub fn into_book(self) -> Book
-        ensures { result ≡ self }
-    {
-        let Ledger { book } = self;
-        book
     }
 }

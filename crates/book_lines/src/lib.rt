@@ -1,4 +1,5 @@
-//! A book as the machine that connections ask: each list that is legal for it is of named moves, so that every reply in it can be told.
+//! A book as the machine that connections ask: each list that is legal for it is of named moves, so
+//! that every reply in it can be told.
 #![tactic(auto)]
 
 mod ledgers;

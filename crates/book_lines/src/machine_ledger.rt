@@ -18,7 +18,7 @@ impl Keeps for Ledger {
     ghost same_trans = { SameRoot-trans };
 
     fn kept(&self) -> u64 {
-        Keeps::kept(&self.book)
+        Keeps::kept(&*self.book)
     }
 }
 
@@ -40,14 +40,14 @@ impl Machine for Ledger {
 
     fn now(&self) -> Instant {
         let _entries = self.book.entries();
-        Machine::now(&self.book)
+        Machine::now(&*self.book)
     }
 
     fn tick(&mut self, who: Who, upto: Instant) -> Result<Instant, StepFault> {
-        Machine::tick(&mut self.book, who, upto)
+        Machine::tick(&mut *self.book, who, upto)
     }
 
     fn ask(&mut self, who: Who, actor: Actor, request: Request) -> Result<Reply, StepFault> {
-        Machine::ask(&mut self.book, who, actor, request)
+        Machine::ask(&mut *self.book, who, actor, request)
     }
 }

@@ -1,10 +1,11 @@
 -- What the searches in a rising list find.
-use Rattle.std.proofs.Common.{◌≡◌, ℕ, zero, suc, ◌+◌, ◌-◌, ◌<◌, ◌≤◌, Bool, true, false, cond, nat_eq, nat_le, nat_lt, List, [], ◌∷◌, get_or, Option, Some, None, IfSome, IfNone, ◌⊎◌, refl, arith, inl, inr}
-use Rattle.std.specs.List.{list_any, list_all, find}
-use Rattle.std.proofs.lemmas.Bool.{cases_lt, and_parts, or_cases, or_from, or_left, or_right, ne_eqb, eq-eqb, eqb-true, leb-true, leb-false, ltb-true, ltb-false, false≢true}
+use Rattle.std.proofs.Common.{◌≡◌, ℕ, zero, suc, ◌+◌, ◌-◌, ◌<◌, ◌≤◌, Bool, true, false, cond, ◌&&◌, nat_eq, nat_le, nat_lt, List, [], ◌∷◌, get_or, length, Option, Some, None, IfSome, IfNone, ◌⊎◌, refl, ap, ◌∙◌, arith, inl, inr}
+use Rattle.std.specs.List.{list_any, list_all, find, slice_get}
+use Rattle.std.specs.List.Sorted.{IsPartitionedBy}
+use Rattle.std.proofs.lemmas.Bool.{cases_lt, and_parts, or_cases, or_from, or_left, or_right, ne_eqb, eq-eqb, eqb-true, leb-true, leb-false, le-leb, lt-leb, lt-ltb, le-ltb, ltb-true, ltb-false, false≢true}
 use Rattle.gtrbac_model.specs.Period.{picks}
 use Rattle.gtrbac_model.specs.Valid.{rises_above, is_set}
-use Rattle.calendar_match.specs.Steps.{IsNextPicked, PicksNoneFrom, IsLastPicked, PicksNoneTo, last_low, picks_upto}
+use Rattle.calendar_match.specs.Steps.{IsNextPicked, PicksNoneFrom, IsLastPicked, PicksNoneTo, last_low, picks_upto, LesserAreFirst, dense_from, is_dense}
 
 abbrev has : List ℕ → ℕ → Bool
 has ns j = list_any (nat_eq j) ns
@@ -138,7 +139,7 @@ last_in (m ∷ ms) n h = last_by m ms n h (nat_lt n m) refl
 
 -- a set
 
-rising : (ns : List ℕ) → is_set (Some ns) ≡ true → rises_above 0 ns ≡ true
+pub rising : (ns : List ℕ) → is_set (Some ns) ≡ true → rises_above 0 ns ≡ true
 rising [] h = absurd (false≢true h)
 rising (n ∷ ns) h = (and_parts (rises_above 0 (n ∷ ns)) (list_all (λ m. nat_le m 999_999_999) (n ∷ ns)) h).0
 
@@ -225,3 +226,109 @@ picks_run None most n h run low high = refl
 picks_run (Some ns) most n h run low high =
     let e = eqb-true (get_or ns (most - 1) 0) most run in
     in_run 0 ns (most - 1) n (rising ns h) (omega arith) (omega arith) (omega arith)
+
+-- a dense set picks a number close below each
+
+reaches : (reach most next : ℕ) (ns : List ℕ) (n : ℕ) → dense_from reach most next ns ≡ true → next ≤ n → n ≤ most → (k : ℕ) × (has ns k ≡ true) × (k ≤ n) × (n < k + reach)
+reaches reach most next [] n h low high = let past = ltb-true most next h in absurd (omega arith)
+reaches reach most next (m ∷ ms) n h low high =
+    elim (or_cases (nat_lt most next) (nat_le m next && dense_from reach most (m + reach) ms) h) [
+      | inl past ↦ (let gt = ltb-true most next past in absurd (omega arith))
+      | inr more ↦ (let b = and_parts (nat_le m next) (dense_from reach most (m + reach) ms) more in
+          let here = leb-true m next b.0 in
+          elim (cases_lt n (m + reach)) [
+            | inl lt ↦ (m, or_left (nat_eq m m) (has ms m) (eq-eqb m m refl), omega arith, lt)
+            | inr ge ↦ (let r = reaches reach most (m + reach) ms n b.1 ge high in (r.0, or_right (nat_eq r.0 m) (has ms r.0) r.1, r.2, r.3))
+          ])
+    ]
+
+pub record Reached (set : Option (List ℕ)) (reach n k : ℕ) : Type 0 where
+  pub low : 1 ≤ k
+  pub high : k ≤ n
+  pub near : n < k + reach
+  pub picked : picks set k ≡ true
+
+pub reached : (set : Option (List ℕ)) (reach most n : ℕ) → is_set set ≡ true → is_dense reach most set ≡ true → 1 ≤ reach → 1 ≤ n → n ≤ most → (k : ℕ) × Reached set reach n k
+reached None reach most n h d pos low high = (n, record { low = low; high = omega arith; near = omega arith; picked = refl })
+reached (Some ns) reach most n h d pos low high =
+    let r = reaches reach most 1 ns n d low high in
+    elim (cases_lt 0 r.0) [
+      | inl some ↦ (r.0, record { low = omega arith; high = r.2; near = r.3; picked = r.1 })
+      | inr low ↦ (let none = above 0 ns r.0 (rising ns h) low in let yes = r.1 in cc)
+    ]
+
+-- a search by halves
+
+not_below : (a : ℕ) (ns : List ℕ) → rises_above a ns ≡ true → (i d : ℕ) → i < length ns → a < get_or ns i d
+not_below a [] h i d lt = absurd (omega (arith, lt))
+not_below a (m ∷ ms) h zero d lt = ltb-true a m (and_parts (nat_lt a m) (rises_above m ms) h).0
+not_below a (m ∷ ms) h (suc i) d lt =
+    let b = and_parts (nat_lt a m) (rises_above m ms) h in
+    let gt = ltb-true a m b.0 in
+    let more = not_below m ms b.1 i d (omega (arith, lt)) in
+    omega arith
+
+numbers_rise : (a : ℕ) (ns : List ℕ) → rises_above a ns ≡ true → (i j d : ℕ) → i ≤ j → j < length ns → get_or ns i d ≤ get_or ns j d
+numbers_rise a [] h i j d le lt = absurd (omega (arith, lt))
+numbers_rise a (m ∷ ms) h zero zero d le lt = omega arith
+numbers_rise a (m ∷ ms) h zero (suc j) d le lt =
+    let more = not_below m ms (and_parts (nat_lt a m) (rises_above m ms) h).1 j d (omega (arith, lt)) in
+    omega arith
+numbers_rise a (m ∷ ms) h (suc i) zero d le lt = absurd (omega (arith, le))
+numbers_rise a (m ∷ ms) h (suc i) (suc j) d le lt = numbers_rise m ms (and_parts (nat_lt a m) (rises_above m ms) h).1 i j d (omega (arith, le)) (omega (arith, lt))
+
+-- those less than a number stand first
+pub lesser_first : (n : ℕ) (ns : List ℕ) → is_set (Some ns) ≡ true → IsPartitionedBy (λ m. nat_lt m n) ns
+lesser_first n ns h i j d le lt e =
+    let a : get_or ns j d < n = ltb-true _ _ e in
+    let b : get_or ns i d ≤ get_or ns j d = numbers_rise 0 ns (rising ns h) i j d le lt in
+    lt-ltb _ _ (omega arith)
+
+pub first_at : (n : ℕ) (ns : List ℕ) (i : ℕ) → LesserAreFirst n ns i → find (nat_le n) ns ≡ slice_get ns i
+first_at n [] i f = refl
+first_at n (m ∷ ms) zero f = ap (λ b. cond b (Some m) (find (nat_le n) ms)) (le-leb n m (f.others 0 m (omega arith) (omega arith)))
+first_at n (m ∷ ms) (suc i) f =
+    ap (λ b. cond b (Some m) (find (nat_le n) ms)) (lt-leb n m (f.first 0 m (omega arith) (omega arith)))
+    ∙ first_at n ms i (record {
+      bound = omega (arith, f.bound);
+      first = λ k d low high. f.first (suc k) d (omega arith) (omega (arith, high));
+      others = λ k d low high. f.others (suc k) d (omega (arith, low)) (omega (arith, high));
+    })
+
+pub none_at : (n : ℕ) (last : Option ℕ) (ns : List ℕ) → LesserAreFirst (n + 1) ns 0 → last_low n last ns ≡ last
+none_at n last [] f = refl
+none_at n last (m ∷ ms) f =
+    let high : n + 1 ≤ m = f.others 0 m (omega arith) (omega arith) in
+    ap (λ b. cond b last (last_low n (Some m) ms)) (lt-ltb n m (omega arith))
+
+behind_first : (n m : ℕ) (ms : List ℕ) (i : ℕ) → LesserAreFirst n (m ∷ ms) (suc i) → LesserAreFirst n ms i
+behind_first n m ms i f = record {
+  bound = omega (arith, f.bound);
+  first = λ k d low high. f.first (suc k) d (omega arith) (omega (arith, high));
+  others = λ k d low high. f.others (suc k) d (omega (arith, low)) (omega (arith, high));
+}
+
+not_past : (n m : ℕ) (ms : List ℕ) (i : ℕ) → LesserAreFirst (n + 1) (m ∷ ms) (suc i) → nat_lt n m ≡ false
+not_past n m ms i f = let low : m < n + 1 = f.first 0 m (omega arith) (omega arith) in le-ltb n m (omega arith)
+
+pub last_at : (n : ℕ) (last : Option ℕ) (ns : List ℕ) (i : ℕ) → LesserAreFirst (n + 1) ns (suc i) → last_low n last ns ≡ slice_get ns i
+last_at n last [] i f = absurd (omega (arith, f.bound))
+last_at n last (m ∷ ms) zero f = ap (λ b. cond b last (last_low n (Some m) ms)) (not_past n m ms 0 f) ∙ none_at n (Some m) ms (behind_first (n + 1) m ms 0 f)
+last_at n last (m ∷ ms) (suc i) f = ap (λ b. cond b last (last_low n (Some m) ms)) (not_past n m ms (suc i) f) ∙ last_at n (Some m) ms i (behind_first (n + 1) m ms (suc i) f)
+
+-- those up to a number stand first
+pub upto_first : (n : ℕ) (ns : List ℕ) → is_set (Some ns) ≡ true → IsPartitionedBy (λ m. nat_le m n) ns
+upto_first n ns h i j d le lt e =
+    let a : get_or ns j d ≤ n = leb-true _ _ e in
+    let b : get_or ns i d ≤ get_or ns j d = numbers_rise 0 ns (rising ns h) i j d le lt in
+    le-leb _ _ (omega arith)
+
+pub at_place : (ns : List ℕ) (i d : ℕ) → i < length ns → slice_get ns i ≡ Some (get_or ns i d)
+at_place [] i d lt = absurd (omega (arith, lt))
+at_place (m ∷ ms) zero d lt = refl
+at_place (m ∷ ms) (suc i) d lt = at_place ms i d (omega (arith, lt))
+
+pub past_places : (ns : List ℕ) (i : ℕ) → length ns ≤ i → slice_get ns i ≡ None
+past_places [] i le = refl
+past_places (m ∷ ms) zero le = absurd (omega (arith, le))
+past_places (m ∷ ms) (suc i) le = past_places ms i (omega (arith, le))

@@ -79,7 +79,7 @@ behind_past c p ps m r a =
     }
 
 -- the numbers within an interval count its inner intervals
-number_later : (c d : Calendar) (m u : ℕ) → first_minute c (interval_of c m) ≤ m → interval_of c u ≡ interval_of c m → m ≤ u → number_within c d u ≡ number_within c d m + (interval_of d u - interval_of d m)
+pub number_later : (c d : Calendar) (m u : ℕ) → first_minute c (interval_of c m) ≤ m → interval_of c u ≡ interval_of c m → m ≤ u → number_within c d u ≡ number_within c d m + (interval_of d u - interval_of d m)
 number_later c d m u start same le =
     let low : interval_of d (first_minute c (interval_of c m)) ≤ interval_of d m = interval_not_falling d (first_minute c (interval_of c m)) m start in
     let more : interval_of d m ≤ interval_of d u = interval_not_falling d m u le in

@@ -7,7 +7,6 @@ use Rattle.gtrbac_model.specs.declared.calendars.Calendar.TheVariants.{Years, Mo
 use Rattle.gtrbac_model.specs.Calendar.{minute_of, first_minute, interval_of, number_within}
 use Rattle.gtrbac_model.specs.Period.{Part, Expr, Period, picks, selects, begins_by, begins, begun_within, inside}
 use Rattle.gtrbac_model.specs.Valid.{is_same, is_below, goes_down, from_all, is_expr}
-use Rattle.gtrbac_model.specs.Selects.{last_calendar}
 use Rattle.gtrbac_model.proofs.Covers.{goes_on, not_falling}
 use Rattle.calendar_laws.proofs.Begins.{valid}
 use Rattle.calendar_laws.proofs.Insides.{early, late, thousand}
@@ -178,4 +177,4 @@ pub past_filled : (p : Period) (after stop : ℕ) → is_expr p.expr ≡ true �
 past_filled p after stop h f i k far stays u low high =
     let e = p.expr in
     let first = (within p after i).low in
-    is_in p u (omega arith) high (filled e (minute_of u) h f (omega arith) (last_late (last_calendar e) u))
+    is_in p u (omega arith) high (filled e (minute_of u) h f (omega arith) (λ c. last_late c u))

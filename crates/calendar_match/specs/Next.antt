@@ -36,7 +36,8 @@ outside p t = not (inside p t)
 
 -- inside at each instant from this one to the last one of the period that lies before the unit k
 abbrev pub StaysIn : Period → ℕ → ℕ → Type 0
-StaysIn p from k = (u : ℕ) → from ≤ u → u ≤ p.last → minute_of u < unit_first p.expr k → inside p u ≡ true
+StaysIn p from k =
+    (u : ℕ) → from ≤ u → u ≤ p.last → minute_of u < unit_first p.expr k → inside p u ≡ true
 
 -- inside at each instant from this one to the last one of the period
 abbrev pub StaysAll : Period → ℕ → Type 0

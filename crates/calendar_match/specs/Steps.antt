@@ -1,11 +1,11 @@
 -- Which numbers a set picks next, and which minutes a search passes over.
-use Rattle.std.specs.Prelude.{◌≡◌, ℕ, ◌+◌, ◌-◌, ◌≤◌, ◌<◌, Bool, true, false, cond, ◌&&◌, ◌||◌, nat_eq, nat_le, nat_lt, List, [], ◌∷◌, slice_index, Option, Some, None}
-use Rattle.std.specs.List.{list_any}
+use Rattle.std.specs.Prelude.{◌≡◌, ℕ, ◌+◌, ◌-◌, ◌≤◌, ◌<◌, Bool, true, false, cond, ◌&&◌, ◌||◌, nat_eq, nat_le, nat_lt, List, [], ◌∷◌, slice_index, length, Option, Some, None}
+use Rattle.std.specs.List.{AllWithin, list_any}
 use Rattle.gtrbac_model.specs.declared.calendars.Calendar.{Calendar}
 use Rattle.gtrbac_model.specs.declared.calendars.Calendar.TheVariants.{Years, Months, Weeks, Days, Hours, Minutes}
 use Rattle.gtrbac_model.specs.Calendar.{number_within}
 use Rattle.gtrbac_model.specs.Period.{Part, Expr, picks}
-use Rattle.gtrbac_model.specs.Valid.{is_set}
+use Rattle.gtrbac_model.specs.Valid.{is_same, is_set}
 use Rattle.gtrbac_model.specs.Selects.{last_calendar}
 
 -- the least number from n on that the set picks
@@ -18,6 +18,12 @@ pub record IsNextPicked (set : Option (List ℕ)) (n k : ℕ) : Type 0 where
 -- the set picks no number from n on
 abbrev pub PicksNoneFrom : Option (List ℕ) → ℕ → Type 0
 PicksNoneFrom set n = (j : ℕ) → n ≤ j → picks set j ≡ false
+
+-- the first i are those less than n
+pub record LesserAreFirst (n : ℕ) (ns : List ℕ) (i : ℕ) : Type 0 where
+  pub bound : i ≤ length ns
+  pub first : AllWithin (λ m. m < n) ns 0 i
+  pub others : AllWithin (λ m. n ≤ m) ns i (length ns)
 
 -- the last number before the first that is greater than n, or else the one before the list
 abbrev pub last_low : ℕ → Option ℕ → List ℕ → Option ℕ
@@ -113,9 +119,34 @@ abbrev pub fills_by : List Part → Bool
 fills_by [] = false
 fills_by (p ∷ ps) = take_all p.calendar ps
 
--- each interval of the last calendar is a begin, and lasts to the next one
+-- each number from `next` to most is one of the rising numbers, or fewer than `reach` above one
+abbrev pub dense_from : ℕ → ℕ → ℕ → List ℕ → Bool
+dense_from reach most next [] = nat_lt most next
+dense_from reach most next (m ∷ ms) =
+    nat_lt most next || (nat_le m next && dense_from reach most (m + reach) ms)
+
+abbrev pub is_dense : ℕ → ℕ → Option (List ℕ) → Bool
+is_dense reach most None = true
+is_dense reach most (Some ns) = dense_from reach most 1 ns
+
+-- the further parts pick all, but for the last one, which picks no number `reach` or more after the
+-- one before, nor before the end
+abbrev pub dense_last : ℕ → Calendar → List Part → Bool
+dense_last reach c [] = true
+dense_last reach c (p ∷ ps) =
+    (picks_upto (most_in c p.calendar) p.set && dense_last reach p.calendar ps)
+    || (nat_eq (length ps) 0 && is_dense reach (most_in c p.calendar) p.set)
+
+abbrev pub dense_by : ℕ → List Part → Bool
+dense_by reach [] = false
+dense_by reach (p ∷ ps) = dense_last reach p.calendar ps
+
+-- each begin lasts to the next one: each interval of the last calendar is a begin, or the unit is
+-- the last calendar
 abbrev pub fills : Expr → Bool
-fills e = fills_by e.parts && nat_le (most_in (last_calendar e) e.unit) e.count
+fills e =
+    (fills_by e.parts && nat_le (most_in (last_calendar e) e.unit) e.count) ||
+    (is_same (last_calendar e) e.unit && dense_by e.count e.parts)
 
 -- each interval of the calendar has as many minutes
 abbrev pub is_fixed : Calendar → Bool
@@ -126,7 +157,8 @@ is_fixed _ = true
 -- the sets above such a calendar pick all
 abbrev pub repeats_from : Calendar → List Part → Bool
 repeats_from c [] = is_fixed c
-repeats_from c (p ∷ ps) = is_fixed c || (picks_upto (most_in c p.calendar) p.set && repeats_from p.calendar ps)
+repeats_from c (p ∷ ps) =
+    is_fixed c || (picks_upto (most_in c p.calendar) p.set && repeats_from p.calendar ps)
 
 abbrev pub repeats_by : List Part → Bool
 repeats_by [] = false

@@ -1,17 +1,18 @@
 //! Where an expression begins.
 ghost use Rattle.std.specs.Prelude.{◌≡◌, ◌<◌, ◌≤◌, ◌^◌, IsTrue};
 ghost use Rattle.gtrbac_model.specs.Period.{begins as begun, selects as selected};
-ghost use Rattle.gtrbac_model.specs.Valid.{is_expr};
+ghost use Rattle.gtrbac_model.specs.Valid.{is_expr, is_same as same_calendar};
 ghost use Rattle.gtrbac_model.specs.Selects.{last_of as last_at, last_calendar as last_in};
-ghost use Rattle.calendar_match.specs.Steps.{take_all as takes_all, fills_by as fills_parts, fills as fills_by, is_fixed as has_minutes, repeats_from as repeated_from, repeats as repeated};
+ghost use Rattle.calendar_match.specs.Steps.{take_all as takes_all, fills_by as fills_parts, fills as fills_by, dense_last as picks_densely, dense_by, is_fixed as has_minutes, repeats_from as repeated_from, repeats as repeated};
 
 use crate::calendars::{first_minute, interval_of, number_within};
-use crate::picks::{picks, picks_upto};
+use crate::picks::{is_dense, picks, picks_upto};
 use crate::steps::most_in;
 use gtrbac_model::Calendar;
 use periodic_expr::{Expr, ExprPart};
 
-// Whether the further parts pick their numbers at the minute, which is the first of an interval of the last part.
+// Whether the further parts pick their numbers at the minute, which is the first of an interval of
+// the last part.
 fn selects(above: Calendar, parts: &[ExprPart], m: u64) -> bool
     requires { m < 2_147_483_648 }
     ensures { result ≡ selected above parts.now m }
@@ -76,13 +77,59 @@ fn always_begins(e: &Expr) -> bool
     }
 }
 
-/// Whether each interval of the last calendar is a begin that lasts to the next one.
+// Whether the further parts pick all, but for the last one, which leaves no gap of so many
+// intervals.
+fn dense_last(reach: u64, above: Calendar, parts: &[ExprPart]) -> bool
+    requires { reach < 2 ^ 32 }
+    ensures { result ≡ picks_densely reach above parts.now }
+{
+    match parts {
+        [] => true,
+        [part, more @ ..] => {
+            let most = most_in(above, part.calendar);
+            (picks_upto(most, &part.set) && dense_last(reach, part.calendar, more))
+                || (more.is_empty() && is_dense(reach, most, &part.set))
+        }
+    }
+}
+
+// Whether begins leave no gap of so many intervals of the last calendar.
+fn never_pauses(e: &Expr, reach: u64) -> bool
+    requires { reach < 2 ^ 32 }
+    ensures { result ≡ dense_by reach e.now.parts }
+{
+    match e.parts().as_slice() {
+        [] => false,
+        [part, more @ ..] => dense_last(reach, part.calendar, more),
+    }
+}
+
+fn is_same(c: Calendar, unit: Calendar) -> bool
+    ensures { result ≡ same_calendar c unit }
+{
+    match (c, unit) {
+        (Calendar::Years, Calendar::Years) => true,
+        (Calendar::Months, Calendar::Months) => true,
+        (Calendar::Weeks, Calendar::Weeks) => true,
+        (Calendar::Days, Calendar::Days) => true,
+        (Calendar::Hours, Calendar::Hours) => true,
+        (Calendar::Minutes, Calendar::Minutes) => true,
+        _ => false,
+    }
+}
+
+/// Whether each begin lasts to the next one, wherever it is: each interval of the last calendar is
+/// a begin, or the length is of intervals of the last calendar, and its numbers leave no gap of so
+/// many.
 pub(crate) fn fills(e: &Expr) -> bool
     ensures value { result ≡ fills_by e.now }
     ensures valid { IsTrue (is_expr e.now) }
 {
     let (count, unit) = e.length();
-    always_begins(e) && most_in(last_calendar(e), unit) <= u64::from(count)
+    let last = last_calendar(e);
+    let count = u64::from(count);
+    (always_begins(e) && most_in(last, unit) <= count)
+        || (is_same(last, unit) && never_pauses(e, count))
 }
 
 fn is_fixed(c: Calendar) -> bool

@@ -73,7 +73,9 @@ pub(crate) fn first_minute(c: Calendar, k: u64) -> u64
 // The guess, or one less or one more, so that its interval has the minute.
 fn corrected(c: Calendar, guess: u64, m: u64) -> u64
     requires { guess < 2 ^ 31 }
-    ensures { result ≡ mended (first_at c) guess m (nat_lt m (first_at c guess)) (nat_le (first_at c (guess + 1)) m) }
+    ensures { result
+        ≡ mended (first_at c) guess m (nat_lt m (first_at c guess))
+        (nat_le (first_at c (guess + 1)) m) }
 {
     if m < first_minute(c, guess) {
         guess.saturating_sub(1)

@@ -172,7 +172,8 @@ fn horizon(p: &Period, after: Instant) -> u64
     }
 }
 
-// The least instant after one inside that is outside. Goes from one begin to the last one that its length reaches.
+// The least instant after one inside that is outside. Goes from one begin to the last one that its
+// length reaches.
 fn outside_after(p: &Period, after: Instant) -> Option<Instant>
     requires { insides p.now after ≡ true }
     ensures some { IfSome result (λ t. IsNext (outsides p.now) after t) }
@@ -191,8 +192,8 @@ fn outside_after(p: &Period, after: Instant) -> Option<Instant>
     past(p)
 }
 
-/// The least instant after this one at which being inside differs from the minute before, none exactly where there is
-/// none.
+/// The least instant after this one at which being inside differs from the minute before, none
+/// exactly where there is none.
 pub fn next_edge(p: &Period, after: Instant) -> Option<Instant>
     ensures some { IfSome result (λ t. IsNext (turns p.now) after t) }
     ensures none { IfNone result (HasNone (turns p.now) after) }

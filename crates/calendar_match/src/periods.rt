@@ -39,8 +39,8 @@ fn lasts(e: &Expr, t: Instant) -> bool
     covered_to(e, unit_at(e, minute_of(t))).is_some()
 }
 
-/// Whether the instant is inside the period: within its bounds, and within the length of a begin, which may lie before
-/// the bounds.
+/// Whether the instant is inside the period: within its bounds, and within the length of a begin,
+/// which may lie before the bounds.
 pub fn inside(p: &Period, t: Instant) -> bool
     ensures { result ≡ insides p.now t }
 {

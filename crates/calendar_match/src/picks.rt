@@ -1,9 +1,9 @@
 //! Which numbers a set of a part picks.
-ghost use Rattle.std.specs.Prelude.{◌≡◌, ◌≤◌, ◌+◌, ◌-◌, option_map, nat_eq, nat_le, slice_index, IfSome, IfNone, IsTrue, None};
+ghost use Rattle.std.specs.Prelude.{◌≡◌, ◌<◌, ◌≤◌, ◌+◌, ◌-◌, ◌^◌, option_map, nat_eq, nat_le, slice_index, IfSome, IfNone, IsTrue, None, Some};
 ghost use Rattle.std.specs.List.{list_any, find};
 ghost use Rattle.gtrbac_model.specs.Period.{picks as picked};
 ghost use Rattle.gtrbac_model.specs.Valid.{is_set};
-ghost use Rattle.calendar_match.specs.Steps.{IsNextPicked, PicksNoneFrom, IsLastPicked, PicksNoneTo, last_low, has_upto as may_pick, picks_upto as run_upto};
+ghost use Rattle.calendar_match.specs.Steps.{IsNextPicked, PicksNoneFrom, IsLastPicked, PicksNoneTo, last_low, LesserAreFirst, has_upto as may_pick, picks_upto as run_upto, dense_from, is_dense as dense};
 
 use gt_base::List;
 
@@ -45,6 +45,36 @@ pub(crate) fn picks_upto(n: u64, set: &Option<List<u32>>) -> bool
     }
 }
 
+// Whether each number from 1 to `most` is one of these, or fewer than `reach` above one.
+fn is_dense_list(reach: u64, most: u64, numbers: &[u32]) -> bool
+    requires { reach < 2 ^ 32 }
+    ensures { result ≡ dense_from reach most 1 numbers.now }
+{
+    let mut next = 1;
+    'numbers: for m in numbers {
+        let m = u64::from(*m);
+        if most < next {
+            return true;
+        }
+        if next < m {
+            return false;
+        }
+        next = m + reach;
+    }
+    most < next
+}
+
+/// Whether the set picks, of the numbers from 1 to `most`, each, or one fewer than `reach` below.
+pub(crate) fn is_dense(reach: u64, most: u64, set: &Option<List<u32>>) -> bool
+    requires { reach < 2 ^ 32 }
+    ensures { result ≡ dense reach most (option_map (λ l. l.items) set.now) }
+{
+    match set {
+        None => true,
+        Some(numbers) => is_dense_list(reach, most, numbers.as_slice()),
+    }
+}
+
 fn has_low(numbers: &[u32], most: u64) -> bool
     ensures { result ≡ list_any (λ m. nat_le m most) numbers.now }
 {
@@ -61,10 +91,22 @@ pub(crate) fn has_upto(most: u64, set: &Option<List<u32>>) -> bool
     }
 }
 
+// How many of the numbers are less than n; they stand first.
+fn count_below(numbers: &[u32], n: u64) -> usize
+    requires { IsTrue (is_set (Some numbers.now)) }
+    ensures { LesserAreFirst n numbers.now result }
+{
+    numbers.partition_point(|m| u64::from(*m) < n)
+}
+
 fn first_from(numbers: &[u32], n: u64) -> Option<u64>
+    requires { IsTrue (is_set (Some numbers.now)) }
     ensures { result ≡ find (nat_le n) numbers.now }
 {
-    numbers.iter().map(|m| u64::from(*m)).find(|m| n <= *m)
+    match numbers.get(count_below(numbers, n)) {
+        Some(m) => Some(u64::from(*m)),
+        None => None,
+    }
 }
 
 /// The least number from n on that the set picks.
@@ -80,19 +122,27 @@ pub(crate) fn next_picked(set: &Option<List<u32>>, n: u64) -> Option<u64>
     }
 }
 
+// How many of the numbers are at most n; they stand first.
+fn count_upto(numbers: &[u32], n: u64) -> usize
+    requires { IsTrue (is_set (Some numbers.now)) }
+    ensures { LesserAreFirst (n + 1) numbers.now result }
+{
+    numbers.partition_point(|m| u64::from(*m) <= n)
+}
+
 // The last of the numbers before the first that is greater than n.
 fn last_upto(numbers: &[u32], n: u64) -> Option<u64>
+    requires { IsTrue (is_set (Some numbers.now)) }
     ensures { result ≡ last_low n None numbers.now }
 {
-    let mut last = None;
-    'numbers: for m in numbers {
-        let m = u64::from(*m);
-        if n < m {
-            return last;
-        }
-        last = Some(m);
+    let past = count_upto(numbers, n);
+    if past == 0 {
+        return None;
     }
-    last
+    match numbers.get(past - 1) {
+        Some(m) => Some(u64::from(*m)),
+        None => None,
+    }
 }
 
 /// The greatest number up to n, of those from 1 on, that the set picks.

@@ -71,7 +71,8 @@ fn last_begin(e: &Expr, from: u64, upto: u64) -> Option<u64>
     None
 }
 
-/// How far the last begin up to the unit k covers the units, where it covers that one: to before this unit.
+/// How far the last begin up to the unit k covers the units, where it covers that one: to before
+/// this unit.
 pub(crate) fn covered_to(e: &Expr, k: u64) -> Option<u64>
     requires low { 1_051_898_400 < unit_first e.now (k + 1) }
     requires high { unit_first e.now k < 2_147_483_648 }

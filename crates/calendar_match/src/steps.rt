@@ -37,25 +37,28 @@ fn end_of(c: Calendar, m: u64) -> u64
     first_minute(c, interval_of(c, m) + 1)
 }
 
-// The first minute of the inner interval number k, or that after the outer interval, from the inner interval number n at
-// the minute.
+// The first minute of the inner interval number k, or that after the outer interval, from the inner
+// interval number n at the minute.
 fn ahead_to(outer: Calendar, inner: Calendar, m: u64, n: u64, k: u64) -> u64
     requires minute { m < 2_147_483_648 }
     requires number { n ≡ number_at outer inner m }
     requires low { n ≤ k }
     requires high { k ≤ n + 999_999_999 }
-    ensures { result ≡ min (first_at inner (interval_at inner m + k - n)) (first_at outer (interval_at outer m + 1)) }
+    ensures { result
+        ≡ min (first_at inner (interval_at inner m + k - n))
+        (first_at outer (interval_at outer m + 1)) }
 {
     first_minute(inner, interval_of(inner, m) + k - n).min(end_of(outer, m))
 }
 
-// None where the set picks the number of the inner interval at the minute, else the first minute after the numbers that
-// it does not pick.
+// None where the set picks the number of the inner interval at the minute, else the first minute
+// after the numbers that it does not pick.
 fn ahead_in_set(outer: Calendar, inner: Calendar, set: &Option<List<u32>>, m: u64) -> Option<u64>
     requires low { 2880 ≤ m }
     requires high { m < 2_147_483_648 }
     requires sets { IsTrue (is_set (option_map (λ l. l.items) set.now)) }
-    ensures some { IfSome result (λ r. IsPassed (picks_at outer inner (option_map (λ l. l.items) set.now)) m r) }
+    ensures some { IfSome result
+        (λ r. IsPassed (picks_at outer inner (option_map (λ l. l.items) set.now)) m r) }
     ensures none { IfNone result (picks_at outer inner (option_map (λ l. l.items) set.now) m ≡ true) }
 {
     let n = number_within(outer, inner, m);
@@ -81,7 +84,8 @@ fn behind_in_set(outer: Calendar, inner: Calendar, set: &Option<List<u32>>, m: u
     requires low { 2880 ≤ m }
     requires high { m < 2_147_483_648 }
     requires sets { IsTrue (is_set (option_map (λ l. l.items) set.now)) }
-    ensures some { IfSome result (λ r. IsPassedBack (picks_at outer inner (option_map (λ l. l.items) set.now)) m r) }
+    ensures some { IfSome result
+        (λ r. IsPassedBack (picks_at outer inner (option_map (λ l. l.items) set.now)) m r) }
     ensures none { IfNone result (picks_at outer inner (option_map (λ l. l.items) set.now) m ≡ true) }
 {
     let n = number_within(outer, inner, m);

@@ -5,3 +5,8 @@ pub mod Longer
 pub mod Places
 pub mod Timing
 pub mod Fronts
+pub mod Growing
+pub mod Asking
+pub mod Deciding
+pub mod Acting
+pub mod NoMinutes

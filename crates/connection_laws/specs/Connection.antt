@@ -63,7 +63,8 @@ abbrev pub is_worn : Answer → Bool
 is_worn worn = true
 is_worn _ = false
 
--- a line that was acted on: what it got, the reading of the clock that was taken for it, and the entries that it added
+-- a line that was acted on: what it got, the reading of the clock that was taken for it, and the
+-- entries that it added
 pub record Acted : Type 0 where
   pub line : List ℕ
   pub answer : Answer
@@ -74,23 +75,30 @@ abbrev pub IsTick : Who → ℕ → Entry → Type 0
 IsTick who bound e = (to : ℕ) × (e ≡ ticked who bound to)
 
 module _ (birth : ℕ) (who : Who) (h : List Entry) where
-  -- in h the entry stands behind n entries of the connection, and now of the entries before it is at least the reading
+  -- in h the entry stands behind n entries of the connection, and now of the entries before it is
+  -- at least the reading
   abbrev pub Stands : ℕ → ℕ → Entry → Type 0
-  Stands reading n e = (before : List Entry) × IsPrefix (before ++ e ∷ []) h × (length (part_of who before) ≡ n) × (reading ≤ now_of birth before)
+  Stands reading n e =
+      (before : List Entry) × IsPrefix (before ++ e ∷ []) h × (length (part_of who before) ≡ n)
+      × (reading ≤ now_of birth before)
 
   -- what a request gets after the ticks of its group
   abbrev pub Answers : ℕ → Actor → Request → Answer → ℕ → List Entry → List Entry → Type 0
   Answers reading actor request (accepted reply) n ticks entries =
-      (entries ≡ ticks ++ asked who actor request reply ∷ []) × Stands reading (n + length ticks) (asked who actor request reply)
+      (entries ≡ ticks ++ asked who actor request reply ∷ [])
+      × Stands reading (n + length ticks) (asked who actor request reply)
   Answers reading actor request no_memory n ticks entries = entries ≡ ticks
-  Answers reading actor request no_steps n ticks entries = (entries ≡ ticks) × (max_steps ≤ length h)
+  Answers reading actor request no_steps n ticks entries =
+      (entries ≡ ticks) × (max_steps ≤ length h)
   Answers reading actor request worn n ticks entries = entries ≡ ticks
   Answers reading actor request _ n ticks entries = ⊥
 
-  -- a request takes one reading: any number of ticks whose bound is the reading, and then at most one ask with the line's actor and request
+  -- a request takes one reading: any number of ticks whose bound is the reading, and then at most
+  -- one ask with the line's actor and request
   abbrev pub Asks : Actor → Request → Answer → ℕ → List ℕ → List Entry → Type 0
   Asks actor request answer n readings entries =
-      (reading : ℕ) × (ticks : List Entry) × (readings ≡ reading ∷ []) × Each (IsTick who reading) ticks × Answers reading actor request answer n ticks entries
+      (reading : ℕ) × (ticks : List Entry) × (readings ≡ reading ∷ [])
+      × Each (IsTick who reading) ticks × Answers reading actor request answer n ticks entries
 
   -- what an acted line gets by what it says, n entries of the connection after its begin
   abbrev pub Gets : Result Line LineFault → Actor → ℕ → Acted → Type 0
@@ -143,27 +151,33 @@ denied_in (a ∷ before) = denied_in before + one_where (is_denied a.answer)
 abbrev pub AreUnworn : List Acted → Type 0
 AreUnworn acted = Each (λ (a : Acted). is_worn a.answer ≡ false) acted
 
--- the lines were acted on one after the other, with so many entries of the connection before the first
+-- the lines were acted on one after the other, with so many entries of the connection before the
+-- first
 abbrev pub AreActed : NamedPolicy → ℕ → Who → List Entry → ℕ → List Acted → Type 0
 AreActed np birth who h older [] = Unit {0}
 AreActed np birth who h older (a ∷ before) =
     AreActed np birth who h older before
-    × Gets birth who h (read_line np Nobody false a.line) (actor_after np before) (older + length (entries_of before)) a
+    × Gets birth who h (read_line np Nobody false a.line) (actor_after np before)
+    (older + length (entries_of before)) a
 
 -- all whole lines were acted on, and their text was given
 abbrev pub GivenAll : NamedPolicy → List ℕ → List ℕ → List Acted → Type 0
-GivenAll np taken given acted = (lines_of acted ≡ whole_lines taken) × AreUnworn acted × (given ≡ text_of np acted)
+GivenAll np taken given acted =
+    (lines_of acted ≡ whole_lines taken) × AreUnworn acted × (given ≡ text_of np acted)
 
 -- the last reply was given in part, the others whole
 abbrev pub GivenPart : NamedPolicy → List ℕ → List Acted → Type 0
 GivenPart np given [] = ⊥
 GivenPart np given (a ∷ before) =
-    AreUnworn (a ∷ before) × ((n : ℕ) × (n < length (answer_text np a.answer)) × (given ≡ text_of np before ++ take n (answer_text np a.answer)))
+    AreUnworn (a ∷ before)
+    × ((n : ℕ) × (n < length (answer_text np a.answer))
+    × (given ≡ text_of np before ++ take n (answer_text np a.answer)))
 
 -- the last line is a request that wore the pass out
 abbrev pub GivenBefore : NamedPolicy → List ℕ → List Acted → Type 0
 GivenBefore np given [] = ⊥
-GivenBefore np given (a ∷ before) = (a.answer ≡ worn) × AreUnworn before × (given ≡ text_of np before)
+GivenBefore np given (a ∷ before) =
+    (a.answer ≡ worn) × AreUnworn before × (given ≡ text_of np before)
 
 abbrev pub IsGiven : NamedPolicy → List ℕ → List ℕ → List Acted → LinkEnd → Type 0
 IsGiven np taken given acted Ended = GivenAll np taken given acted
@@ -172,9 +186,12 @@ IsGiven np taken given acted Spent = GivenAll np taken given acted
 IsGiven np taken given acted WriteFault = GivenPart np given acted
 IsGiven np taken given acted (Worn draws) = GivenBefore np given acted
 
--- One link: the bytes that were taken from it and given to it, the readings of its request lines, a history, how many entries of the
--- connection are older than the link, the link's own entries, its acted lines, and how it ended
-pub record Conn (np : NamedPolicy) (birth : ℕ) (who : Who) (h : List Entry) (older : ℕ) (taken readings : List ℕ) (own : List Entry) (given : List ℕ) (acted : List Acted) (end : LinkEnd) : Type 0 where
+-- One link: the bytes that were taken from it and given to it, the readings of its request lines, a
+-- history, how many entries of the connection are older than the link, the link's own entries, its
+-- acted lines, and how it ended
+pub record Conn (np : NamedPolicy) (birth : ℕ) (who : Who) (h : List Entry) (older : ℕ)
+    (taken readings : List ℕ) (own : List Entry) (given : List ℕ) (acted : List Acted)
+    (end : LinkEnd) : Type 0 where
   pub lines : IsPrefix (lines_of acted) (whole_lines taken)
   pub readings_are : readings_of acted ≡ readings
   pub own_are : entries_of acted ≡ own
@@ -191,6 +208,7 @@ pub record IsTimed (birth : ℕ) (legal : List Entry → Type 0) (now : List Ent
   pub rises : (l : List Entry) → legal l → Rises birth l
   pub now_is : (l : List Entry) → legal l → now l ≡ now_of birth l
 
--- how many entries of a connection there are in the first front and among the own entries of its pass
+-- how many entries of a connection there are in the first front and among the own entries of its
+-- pass
 abbrev pub placed : Who → List Entry → List Entry → ℕ
 placed who first own = length (part_of who first) + length (part_of who own)

@@ -18,9 +18,12 @@ IsNamedActor np actor = IsNamedWish np.policy (ask actor Now)
 
 -- what the policy names may be asked
 abbrev pub AreNamed : NamedPolicy → (Actor → Request → Type 0) → Type 0
-AreNamed np named = (actor : Actor) (request : Request) → IsNamedWish np.policy (ask actor request) → named actor request
+AreNamed np named =
+    (actor : Actor) (request : Request) → IsNamedWish np.policy (ask actor request)
+    → named actor request
 
--- a reply with numbers of the policy, whose walk has at most 999 edges: so its line has at most 33,010 bytes
+-- a reply with numbers of the policy, whose walk has at most 999 edges: so its line has at most
+-- 33,010 bytes
 pub record CanBeTold (np : NamedPolicy) (r : Reply) : Type 0 where
   pub named : IsTrue (has_reply np.policy r)
   pub brief : IsBrief r
@@ -28,4 +31,5 @@ pub record CanBeTold (np : NamedPolicy) (r : Reply) : Type 0 where
 -- so is each reply that ends a legal list
 abbrev pub RepliesCanBeTold : NamedPolicy → (List Entry → Type 0) → Type 0
 RepliesCanBeTold np legal =
-    (before : List Entry) (who : Who) (actor : Actor) (request : Request) (reply : Reply) → legal (before ++ asked who actor request reply ∷ []) → CanBeTold np reply
+    (before : List Entry) (who : Who) (actor : Actor) (request : Request) (reply : Reply)
+    → legal (before ++ asked who actor request reply ∷ []) → CanBeTold np reply

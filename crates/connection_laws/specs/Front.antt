@@ -1,4 +1,5 @@
--- The same from the first line on: what a connection's lines get, each with how the lines after it go on.
+-- The same from the first line on: what a connection's lines get, each with how the lines after it
+-- go on.
 use Rattle.std.specs.Prelude.{◌≡◌, ◌⊎◌, ℕ, zero, suc, ◌+◌, ◌≤◌, false, true, List, [], ◌∷◌, ◌++◌, length, Result, Ok, Err}
 use Rattle.gt_base.specs.Bounds.{max_steps}
 use Rattle.gt_base.specs.declared.requests.Who.{Who}
@@ -37,24 +38,29 @@ AfterTicks who bound next n (e ∷ es) =
     next n (e ∷ es) ⊎ ((to : ℕ) × (e ≡ ticked who bound to) × AfterTicks who bound next (n + 1) es)
 
 module _ (np : NamedPolicy) (birth : ℕ) (who : Who) (h : List Entry) where
-  abbrev pub Answered : ℕ → Actor → Request → Answer → (ℕ → List Entry → Type 0) → ℕ → List Entry → Type 0
+  abbrev pub Answered : ℕ → Actor → Request → Answer → (ℕ → List Entry → Type 0) → ℕ → List Entry
+      → Type 0
   Answered reading actor request (accepted reply) next n [] = ⊥
   Answered reading actor request (accepted reply) next n (e ∷ es) =
-      (e ≡ asked who actor request reply) × (reading ≤ now_of birth (before_own who h n)) × next (n + 1) es
+      (e ≡ asked who actor request reply) × (reading ≤ now_of birth (before_own who h n))
+      × next (n + 1) es
   Answered reading actor request no_memory next n es = next n es
   Answered reading actor request no_steps next n es = (max_steps ≤ length h) × next n es
   Answered reading actor request worn next n es = next n es
   Answered reading actor request _ next n es = ⊥
 
-  abbrev pub Requested : Request → Answer → (List ℕ → ℕ → List Entry → Type 0) → Actor → List ℕ → ℕ → List Entry → Type 0
+  abbrev pub Requested : Request → Answer → (List ℕ → ℕ → List Entry → Type 0) → Actor → List ℕ → ℕ
+      → List Entry → Type 0
   Requested request answer next actor [] n own = ⊥
   Requested request answer next actor (reading ∷ readings) n own =
       AfterTicks who reading (Answered reading actor request answer (next readings)) n own
 
-  abbrev pub LineGets : Result Line LineFault → Answer → (Actor → List ℕ → ℕ → List Entry → Type 0) → Actor → List ℕ → ℕ → List Entry → Type 0
+  abbrev pub LineGets : Result Line LineFault → Answer → (Actor → List ℕ → ℕ → List Entry → Type 0)
+      → Actor → List ℕ → ℕ → List Entry → Type 0
   LineGets (Ok Silent) silence next actor readings n own = next actor readings n own
   LineGets (Ok (Be a)) agreed next actor readings n own = next a readings n own
-  LineGets (Ok (Ask r)) answer next actor readings n own = Requested r answer (next actor) actor readings n own
+  LineGets (Ok (Ask r)) answer next actor readings n own =
+      Requested r answer (next actor) actor readings n own
   LineGets (Err f) (bad g) next actor readings n own = (g ≡ f) × next actor readings n own
   LineGets _ _ next actor readings n own = ⊥
 
@@ -69,11 +75,16 @@ module _ (np : NamedPolicy) (birth : ℕ) (who : Who) (h : List Entry) where
 -- acted lines, one after the other, get what they get from the first line on
 abbrev pub IsToldFromTheFront : Type 0
 IsToldFromTheFront =
-    (np : NamedPolicy) (birth : ℕ) (who : Who) (h : List Entry) (older : ℕ) (acted : List Acted) → AreActed np birth who h older acted
-    → Get np birth who h (lines_of acted) (answers_of acted) Nobody (readings_of acted) older (entries_of acted)
+    (np : NamedPolicy) (birth : ℕ) (who : Who) (h : List Entry) (older : ℕ) (acted : List Acted)
+    → AreActed np birth who h older acted
+    → Get np birth who h (lines_of acted) (answers_of acted) Nobody (readings_of acted) older
+    (entries_of acted)
 
 -- a connection over a front is one over each longer history
 abbrev pub IsKeptByLonger : Type 0
 IsKeptByLonger =
-    (np : NamedPolicy) (birth : ℕ) (who : Who) (h h' : List Entry) (older : ℕ) (taken readings : List ℕ) (own : List Entry) (given : List ℕ) (acted : List Acted) (end : LinkEnd) → IsPrefix h h'
-    → Conn np birth who h older taken readings own given acted end → Conn np birth who h' older taken readings own given acted end
+    (np : NamedPolicy) (birth : ℕ) (who : Who) (h h' : List Entry) (older : ℕ)
+    (taken readings : List ℕ) (own : List Entry) (given : List ℕ) (acted : List Acted)
+    (end : LinkEnd) → IsPrefix h h'
+    → Conn np birth who h older taken readings own given acted end
+    → Conn np birth who h' older taken readings own given acted end

@@ -3,3 +3,5 @@ pub mod Connection
 pub mod Fits
 pub mod Desks
 pub mod Front
+pub mod Turns
+pub mod Acting

@@ -15,8 +15,8 @@ pub enum LinkEnd {
     Worn { draws: u64 },
 }
 
-/// What the service of a link came to: how many entries of requests it has, how many request lines were answered by `no memory` or
-/// `no steps`, and how it ended.
+/// What the service of a link came to: how many entries of requests it has, how many request lines
+/// were answered by `no memory` or `no steps`, and how it ended.
 #[derive(Clone, Copy, PartialEq, Eq, Debug)]
 pub struct Report {
     pub asked: u64,

@@ -39,8 +39,11 @@ pub record BookView : Type 0 where
 
 abbrev pub book_code : Coded BookView
 book_code =
-    code_by (NamedPolicy × (ℕ × (List Entry × List ClosedSet))) (coded× named_policy_code (coded× coded_ℕ (coded× (coded_list entry.the_row.coded) (coded_list closed_set_code))))
-    (λ b. (b.named, (b.birth, (b.entries, b.trace)))) (λ (p, (t, (h, m))). record { named = p; birth = t; entries = h; trace = m }) (λ _. refl)
+    code_by (NamedPolicy × (ℕ × (List Entry × List ClosedSet)))
+    (coded× named_policy_code
+    (coded× coded_ℕ (coded× (coded_list entry.the_row.coded) (coded_list closed_set_code))))
+    (λ b. (b.named, (b.birth, (b.entries, b.trace))))
+    (λ (p, (t, (h, m))). record { named = p; birth = t; entries = h; trace = m }) (λ _. refl)
 
 abbrev pub now_in : BookView → ℕ
 now_in b = now_of b.birth b.entries
@@ -65,9 +68,12 @@ IsLegalBook b = Legal b.named.policy b.birth b.entries (model_in b)
 abbrev pub IsTableIn : BookView → Table → Type 0
 IsTableIn b tb = record tb { signals = (point_in b).table.signals } ≡ (point_in b).table
 
--- the timeline has the signals of that table, which wait for the minute after now; after the last instant there is none
+-- the timeline has the signals of that table, which wait for the minute after now; after the last
+-- instant there is none
 abbrev pub HasWaiting : BookView → TimelineView → Type 0
-HasWaiting b v = now_in b < last_minute → (x : Signal) → list_any (eq_by_cmp signal_cmp x) (point_in b).table.signals ≡ has v.signals x
+HasWaiting b v =
+    now_in b < last_minute → (x : Signal)
+    → list_any (eq_by_cmp signal_cmp x) (point_in b).table.signals ≡ has v.signals x
 
 -- every other list of sets that is a model of the entries agrees with the trace at every instant
 abbrev pub HasOnlyModel : BookView → Type 0
@@ -98,15 +104,20 @@ pub record GoesOn (old new : BookView) (who : Who) (upto to : ℕ) : Type 0 wher
   pub gains : Gains old new (ticked who upto to)
   pub further : List ClosedSet
   pub trace : new.trace ≡ old.trace ++ further
-  pub stop : IsNextStop (stirs old.named.policy old.birth (model_in new) old.entries) (now_in old) upto to
+  pub stop : IsNextStop (stirs old.named.policy old.birth (model_in new) old.entries) (now_in old)
+      upto to
   pub now : now_in new ≡ to
 
--- a tick with a bound after now stands in the history with where it stopped; any other changes nothing
+-- a tick with a bound after now stands in the history with where it stopped; any other changes
+-- nothing
 abbrev pub Ticks : BookView → Who → ℕ → ℕ → BookView → Type 0
-Ticks old who upto to new = (upto ≤ now_in old) × (to ≡ now_in old) × (new ≡ old) ⊎ (now_in old < upto) × GoesOn old new who upto to
+Ticks old who upto to new =
+    (upto ≤ now_in old) × (to ≡ now_in old) × (new ≡ old)
+    ⊎ (now_in old < upto) × GoesOn old new who upto to
 
 -- the request stands in the history with its reply, which is the definition's, and no set changes
-pub record Asks (old : BookView) (who : Who) (actor : Actor) (request : Request) (reply : Reply) (new : BookView) : Type 0 where
+pub record Asks (old : BookView) (who : Who) (actor : Actor) (request : Request) (reply : Reply)
+    (new : BookView) : Type 0 where
   pub gains : Gains old new (asked who actor request reply)
   pub trace : new.trace ≡ old.trace
   pub reply_is : reply ≡ reply_in old actor request
@@ -140,16 +151,24 @@ pub record IsLegalFor (b : BookView) (h : List Entry) : Type 0 where
   pub model : ℕ → HappenedView
   pub legal : Legal b.named.policy b.birth h model
 
-pub IsLegalFor-by_root : (a b : BookView) (h : List Entry) → SameRoot a b → IsLegalFor a h → IsLegalFor b h
+pub IsLegalFor-by_root : (a b : BookView) (h : List Entry) → SameRoot a b → IsLegalFor a h
+    → IsLegalFor b h
 IsLegalFor-by_root a b h s l =
-    record { model = l.model; legal = subst (λ p. Legal p.policy b.birth h l.model) s.0 (subst (λ t. Legal a.named.policy t h l.model) s.1 l.legal) }
+    record {
+      model = l.model;
+      legal = subst (λ p. Legal p.policy b.birth h l.model) s.0
+          (subst (λ t. Legal a.named.policy t h l.model) s.1 l.legal);
+    }
 
 -- actor and request are named for the book's policy
 abbrev pub IsNamedFor : BookView → Actor → Request → Type 0
 IsNamedFor b actor request = IsNamedWish b.named.policy (ask actor request)
 
-pub IsNamedFor-by_root : (a b : BookView) (actor : Actor) (request : Request) → SameRoot a b → IsNamedFor a actor request → IsNamedFor b actor request
-IsNamedFor-by_root a b actor request s h = subst (λ p. IsNamedWish p.policy (ask actor request)) s.0 h
+pub IsNamedFor-by_root : (a b : BookView) (actor : Actor) (request : Request) → SameRoot a b
+    → IsNamedFor a actor request → IsNamedFor b actor request
+IsNamedFor-by_root a b actor request s h =
+    subst (λ p. IsNamedWish p.policy (ask actor request)) s.0 h
 
-pub now_after-by_root : (a b : BookView) (h : List Entry) → SameRoot a b → now_after a h ≡ now_after b h
+pub now_after-by_root : (a b : BookView) (h : List Entry) → SameRoot a b
+    → now_after a h ≡ now_after b h
 now_after-by_root a b h s = ap (λ t. now_of t h) s.1

@@ -24,16 +24,18 @@ use Rattle.time_engine.specs.Traces.{model_of}
 use Rattle.core_machine.specs.Books.{AreNamed, BookView, HasBases}
 use Rattle.core_machine.specs.declared.states.State.{State}
 
--- the timeline follows the history, of which its sets are the model; the table is that of the history at now, with the signals that wait,
--- which the timeline has for the next minute
-pub record Kept (p : Policy) (birth : ℕ) (h : List Entry) (v : TimelineView) (tb : Table) (charged_to : Option ℕ) : Type 0 where
+-- the timeline follows the history, of which its sets are the model; the table is that of the
+-- history at now, with the signals that wait, which the timeline has for the next minute
+pub record Kept (p : Policy) (birth : ℕ) (h : List Entry) (v : TimelineView) (tb : Table)
+    (charged_to : Option ℕ) : Type 0 where
   pub is_policy : IsPolicy p
   pub safe : IsSafe p.triggers
   pub legal : Legal p birth h (model_of v.trace)
   pub follows : Follows p birth h (model_of v.trace) v
   pub waiting : List Signal
   pub table : record tb { signals = waiting } ≡ table_at p birth (model_of v.trace) h v.now
-  pub signals : v.now < last_minute → (x : Signal) → list_any (eq_by_cmp signal_cmp x) waiting ≡ has v.signals x
+  pub signals : v.now < last_minute → (x : Signal)
+      → list_any (eq_by_cmp signal_cmp x) waiting ≡ has v.signals x
   pub charged : NotBefore charged_to v.now
   pub few : tb.begun ≤ length h
   pub bases : HasBases p birth (model_of v.trace) h v.trace
@@ -41,10 +43,17 @@ pub record Kept (p : Policy) (birth : ℕ) (h : List Entry) (v : TimelineView) (
   pub short : length h ≤ max_steps
 
 abbrev pub IsKept : State → Type 0
-IsKept s = Kept s.ground.policy s.birth s.entries.items s.line.line (table_of s.table) s.table.charged_to
+IsKept s =
+    Kept s.ground.policy s.birth s.entries.items s.line.line (table_of s.table) s.table.charged_to
 
 abbrev pub view_of : State → BookView
-view_of s = record { named = s.ground; birth = s.birth; entries = s.entries.items; trace = s.line.line.trace }
+view_of s =
+    record {
+      named = s.ground;
+      birth = s.birth;
+      entries = s.entries.items;
+      trace = s.line.line.trace;
+    }
 
 -- the same but for the room
 pub record Same (s t : State) : Type 0 where
@@ -63,7 +72,8 @@ pub record IsReady (s : State) (actor : Actor) (request : Request) : Type 0 wher
 
 -- what the timeline and the table say of now
 abbrev pub point_of : TimelineView → Table → Point
-point_of v tb = record { now = v.now; status = has v.status; set = model_of v.trace v.now; table = tb }
+point_of v tb =
+    record { now = v.now; status = has v.status; set = model_of v.trace v.now; table = tb }
 
 -- somebody's request is answered so from them
 pub record IsAnswer (s : State) (actor : Actor) (request : Request) (reply : Reply) : Type 0 where

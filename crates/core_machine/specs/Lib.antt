@@ -2,3 +2,4 @@ pub mod Books
 pub mod Kept
 pub mod Steps
 pub mod Agreeing
+pub mod Looks

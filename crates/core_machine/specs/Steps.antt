@@ -37,7 +37,8 @@ abbrev pub moves : Policy → TimelineView → Table → ℕ → Bool
 moves p v tb t = stirs_in p v t || is_any_capped p.caps v.now tb t
 
 -- the plan and the drops are those of the stop of a tick with this bound
-pub record IsClosing (p : Policy) (v : TimelineView) (tb : Table) (upto : ℕ) (plan : PlanView) (drops : DropsView) : Type 0 where
+pub record IsClosing (p : Policy) (v : TimelineView) (tb : Table) (upto : ℕ) (plan : PlanView)
+    (drops : DropsView) : Type 0 where
   pub stop : IsNextStop (moves p v tb) v.now upto plan.at
   pub plans : IsPlan p v plan
   pub fits : Fits v plan

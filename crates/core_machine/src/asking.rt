@@ -11,7 +11,8 @@ use crate::states::State;
 use crate::telling::{tell_active, tell_decision, tell_now, tell_seen, tell_status};
 use gt_base::{Actor, Memory, Refusal, Reply, Request, Who};
 
-/// Answers a request at now, and adds its entry. For want of memory it may refuse; the book is then as it was.
+/// Answers a request at now, and adds its entry. For want of memory it may refuse; the book is then
+/// as it was.
 pub(crate) fn answer(
     s: &mut State,
     who: Who,
@@ -30,7 +31,7 @@ pub(crate) fn answer(
     }
 }
 
-fn is_nobody(actor: Actor) -> bool
+pub(crate) fn is_nobody(actor: Actor) -> bool
     ensures { result ≡ is_no_user actor }
 {
     matches!(actor, Actor::Nobody)

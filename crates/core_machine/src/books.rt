@@ -1,5 +1,6 @@
-//! The book: a legal history of a safe policy with its execution model, and the calls that tick, ask and show it.
-ghost use Rattle.std.specs.Prelude.{◌≡◌, ◌<◌, ◌≤◌, ◌⊎◌, OnErr, IfOk, IfErr, OnOk, [], Ok, Err, length};
+//! The book: a legal history of a safe policy with its execution model, and the calls that tick,
+//! ask and show it.
+ghost use Rattle.std.specs.Prelude.{◌≡◌, ◌<◌, ◌≤◌, ◌⊎◌, OnErr, IfOk, IfErr, OnOk, [], Ok, Err, true, length};
 ghost use Rattle.gt_base.specs.Bounds.{max_steps};
 ghost use Rattle.dependency_graph.specs.Levelled.{IsLevelled};
 ghost use Rattle.gtrbac_model.specs.Safety.{IsSafe};
@@ -7,9 +8,11 @@ ghost use Rattle.session_table.specs.Tables.{NotBefore, table_of};
 ghost use Rattle.time_engine.specs.Histories.{Follows};
 ghost use Rattle.time_engine.specs.Traces.{AreSome, Ascends};
 ghost use Rattle.core_machine.specs.Books.{IsBook, now_in, model_in, reply_in, HasBases, HasOnlyModel, IsLegalBook, AreNamed, HasWaiting, IsNamedFor, IsTableIn, Ticks, Asks};
+ghost use Rattle.core_machine.specs.Looks.{is_look};
 ghost use Rattle.core_machine.specs.Steps.{as_step};
 
 use crate::asking::answer;
+use crate::looking::look;
 use crate::prepared::Prepared;
 use crate::states::State;
 use crate::ticking::go_on;
@@ -27,8 +30,8 @@ pub struct BookMemory {
     pub safe: Safe,
 }
 
-/// A history of a policy since its birth. It is seen as the policy with its names, the birth, the entries and the trace; in each book the
-/// history is legal with the trace as its execution model.
+/// A history of a policy since its birth. It is seen as the policy with its names, the birth, the
+/// entries and the trace; in each book the history is legal with the trace as its execution model.
 pub struct Book {
     state: State,
 }
@@ -54,8 +57,8 @@ impl Model for Book {
 }
 
 impl Book {
-    /// The book of a policy at its birth, with nothing in its history. A refusal, for want of memory alone, hands the policy
-    /// back.
+    /// The book of a policy at its birth, with nothing in its history. A refusal, for want of
+    /// memory alone, hands the policy back.
     pub fn new(alloc: Global, safe: Safe, birth: Instant) -> Result<Book, BookMemory>
         ensures root { IfOk result (λ b. (b.named ≡ safe) × (b.birth ≡ birth)) }
         ensures empty { IfOk result (λ b. (b.entries ≡ []) × (b.trace ≡ [])) }
@@ -124,8 +127,8 @@ impl Book {
         policy
     }
 
-    /// The entries, each named for the policy, at most 1,000,000 of them. They are legal, with the trace as their model, and no
-    /// other list of sets is one.
+    /// The entries, each named for the policy, at most 1,000,000 of them. They are legal, with the
+    /// trace as their model, and no other list of sets is one.
     pub fn entries(&self) -> &List<Entry>
         ensures value { result.now.items ≡ self.now.entries }
         ensures legal { IsLegalBook self.now }
@@ -136,13 +139,14 @@ impl Book {
         &self.state.entries
     }
 
-    /// The nonempty sets of the run by ascending instant, each with its instant and the base of that instant. At each other
-    /// minute nothing happened.
+    /// The nonempty sets of the run by ascending instant, each with its instant and the base of
+    /// that instant. At each other minute nothing happened.
     pub fn trace(&self) -> &Trace
         ensures value { result.now.items ≡ self.now.trace }
         ensures legal { IsLegalBook self.now }
         ensures only { HasOnlyModel self.now }
-        ensures bases { HasBases self.now.named.policy self.now.birth (model_in self.now) self.now.entries self.now.trace }
+        ensures bases { HasBases self.now.named.policy self.now.birth (model_in self.now) self.now.entries
+            self.now.trace }
         ensures ascends { Ascends self.now.birth self.now.trace }
         ensures some { AreSome self.now.trace }
     {
@@ -158,10 +162,12 @@ impl Book {
         self.state.ground.ground()
     }
 
-    /// The timeline of now, which follows the history, with the signals that wait for the next minute.
+    /// The timeline of now, which follows the history, with the signals that wait for the next
+    /// minute.
     pub fn timeline(&self) -> &Timeline
         ensures trace { result.now.line.trace ≡ self.now.trace }
-        ensures follows { Follows self.now.named.policy self.now.birth self.now.entries (model_in self.now) result.now.line }
+        ensures follows { Follows self.now.named.policy self.now.birth self.now.entries (model_in self.now)
+            result.now.line }
         ensures waiting { HasWaiting self.now result.now.line }
     {
         &self.state.line
@@ -175,15 +181,17 @@ impl Book {
         &self.state.table
     }
 
-    /// Goes on to the least instant after now and up to the bound at which something is raised or an activation ends, or to
-    /// the bound where there is none, and adds one entry. A bound that is not after now changes nothing. It takes its memory
-    /// first: a refused tick leaves the book as it was. `StepsFull` comes exactly where the bound is after now and 1,000,000
-    /// entries are held.
+    /// Goes on to the least instant after now and up to the bound at which something is raised or
+    /// an activation ends, or to the bound where there is none, and adds one entry. A bound that is
+    /// not after now changes nothing. It takes its memory first: a refused tick leaves the book as
+    /// it was. `StepsFull` comes exactly where the bound is after now and 1,000,000 entries are
+    /// held.
     pub fn tick(&mut self, who: Who, upto: Instant) -> Result<Instant, StepFault>
         ensures ok { IfOk result (λ to. Ticks self.old who upto to self.new) }
         ensures legal { IsLegalBook self.new }
         ensures err { OnErr result (self.new ≡ self.old) }
-        ensures full { result ≡ Err StepFault.StepsFull → (now_in self.old < upto) × (length self.old.entries ≡ max_steps) }
+        ensures full { result ≡ Err StepFault.StepsFull
+            → (now_in self.old < upto) × (length self.old.entries ≡ max_steps) }
         ensures room { OnOk result ((upto ≤ now_in self.old) ⊎ (length self.old.entries < max_steps)) }
     {
         let now = self.state.line.now();
@@ -196,8 +204,9 @@ impl Book {
         or_memory(go_on(&mut self.state, who, upto))
     }
 
-    /// Answers a request at now, and adds one entry with the reply. It takes its memory first: a refused step leaves the book
-    /// as it was. `StepsFull` comes exactly where 1,000,000 entries are held.
+    /// Answers a request at now, and adds one entry with the reply. It takes its memory first: a
+    /// refused step leaves the book as it was. `StepsFull` comes exactly where 1,000,000 entries
+    /// are held.
     pub fn ask(&mut self, who: Who, actor: Actor, request: Request) -> Result<Reply, StepFault>
         requires { IsNamedFor self.old actor request }
         ensures ok { IfOk result (λ reply. Asks self.old who actor request reply self.new) }
@@ -210,6 +219,15 @@ impl Book {
             return Err(StepFault::StepsFull);
         }
         or_memory(answer(&mut self.state, who, actor, request))
+    }
+
+    /// Answers a request that only looks, as at now, without an entry. For want of memory it may
+    /// refuse.
+    pub fn peek(&self, actor: Actor, request: Request) -> Result<Reply, Memory>
+        requires { is_look request ≡ true }
+        ensures { IfOk result (λ reply. reply ≡ reply_in self.now actor request) }
+    {
+        look(&self.state, actor, request)
     }
 }
 

@@ -42,7 +42,8 @@ pub(crate) fn enter(
     Ok(answer)
 }
 
-/// Adds the answer that somebody gets from the timeline and the table, where it changes nothing, and gives it back.
+/// Adds the answer that somebody gets from the timeline and the table, where it changes nothing,
+/// and gives it back.
 pub(crate) fn tell(
     s: &mut State,
     who: Who,
@@ -105,7 +106,8 @@ pub(crate) fn raise(
     requires ready { IsReady s.old actor (Raise head delay) }
     requires somebody { is_nobody actor ≡ false }
     ensures kept { IsKept s.new }
-    ensures ok { IfOk result (λ reply. Asks (view_of s.old) who actor (Raise head delay) reply (view_of s.new)) }
+    ensures ok { IfOk result
+        (λ reply. Asks (view_of s.old) who actor (Raise head delay) reply (view_of s.new)) }
     ensures err { OnErr result (view_of s.new ≡ view_of s.old) }
 {
     if is_admin(s.ground.policy(), actor) {
@@ -130,7 +132,8 @@ fn queue(
     requires admin { is_entitled s.old.ground.policy actor ≡ true }
     requires room { 1 ≤ s.old.entries.spare }
     ensures kept { IsKept s.new }
-    ensures ok { IfOk result (λ reply. Asks (view_of s.old) who actor (Raise head delay) reply (view_of s.new)) }
+    ensures ok { IfOk result
+        (λ reply. Asks (view_of s.old) who actor (Raise head delay) reply (view_of s.new)) }
     ensures err { OnErr result (view_of s.new ≡ view_of s.old) }
 {
     s.line.keeps();

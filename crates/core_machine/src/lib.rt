@@ -1,9 +1,11 @@
-//! The book: one thread's history of a policy, each entry of it legal, with the execution model that makes it so.
+//! The book: one thread's history of a policy, each entry of it legal, with the execution model
+//! that makes it so.
 #![tactic(auto)]
 
 mod asking;
 mod books;
 mod entering;
+mod looking;
 mod machine_book;
 mod prepared;
 mod sessions;

@@ -8,7 +8,8 @@ use std::alloc::Global;
 use std::marker::Model;
 use time_engine::Ground;
 
-/// The ground of a policy, with the hierarchy of its edges indexed once. It is seen as the policy with its names.
+/// The ground of a policy, with the hierarchy of its edges indexed once. It is seen as the policy
+/// with its names.
 pub(crate) struct Prepared {
     ground: Ground,
     hierarchy: Hierarchy,

@@ -48,7 +48,8 @@ fn begin(s: &mut State, who: Who, user: UserId) -> Result<Reply, Memory>
     requires ready { IsReady s.old (User user) OpenSession }
     requires room { 1 ≤ s.old.entries.spare }
     ensures kept { IsKept s.new }
-    ensures ok { IfOk result (λ reply. Asks (view_of s.old) who (User user) OpenSession reply (view_of s.new)) }
+    ensures ok { IfOk result
+        (λ reply. Asks (view_of s.old) who (User user) OpenSession reply (view_of s.new)) }
     ensures err { OnErr result (view_of s.new ≡ view_of s.old) }
 {
     s.line.keeps();
@@ -81,7 +82,8 @@ pub(crate) fn close_session(
     requires ready { IsReady s.old actor (CloseSession session) }
     requires somebody { is_nobody actor ≡ false }
     ensures kept { IsKept s.new }
-    ensures ok { IfOk result (λ reply. Asks (view_of s.old) who actor (CloseSession session) reply (view_of s.new)) }
+    ensures ok { IfOk result
+        (λ reply. Asks (view_of s.old) who actor (CloseSession session) reply (view_of s.new)) }
     ensures err { OnErr result (view_of s.new ≡ view_of s.old) }
 {
     let ending = s.table.most_in(session);
@@ -96,7 +98,8 @@ fn finish(s: &mut State, who: Who, actor: Actor, session: SessionId) -> Result<R
     requires room { 1 ≤ s.old.entries.spare }
     requires spare { count_by (in_session session) s.old.table.active ≤ s.old.line.spare }
     ensures kept { IsKept s.new }
-    ensures ok { IfOk result (λ reply. Asks (view_of s.old) who actor (CloseSession session) reply (view_of s.new)) }
+    ensures ok { IfOk result
+        (λ reply. Asks (view_of s.old) who actor (CloseSession session) reply (view_of s.new)) }
     ensures err { OnErr result (view_of s.new ≡ view_of s.old) }
 {
     s.line.keeps();
@@ -130,7 +133,9 @@ pub(crate) fn activate(
     requires ready { IsReady s.old actor (Activate session role) }
     requires somebody { is_nobody actor ≡ false }
     ensures kept { IsKept s.new }
-    ensures ok { IfOk result (λ reply. Asks (view_of s.old) who actor (Activate session role) reply (view_of s.new)) }
+    ensures ok { IfOk result
+        (λ reply. Asks (view_of s.old) who actor (Activate session role) reply
+        (view_of s.new)) }
     ensures err { OnErr result (view_of s.new ≡ view_of s.old) }
 {
     let mut edges = List::new(s.alloc);
@@ -139,7 +144,8 @@ pub(crate) fn activate(
     begin_role(s, who, actor, session, role, edges)
 }
 
-/// Activates the role, with room for the signal, the entry and a second copy of the walk made before.
+/// Activates the role, with room for the signal, the entry and a second copy of the walk made
+/// before.
 fn begin_role(
     s: &mut State,
     who: Who,
@@ -154,7 +160,9 @@ fn begin_role(
     requires spare { 1 ≤ s.old.line.spare }
     requires edges { (edges.items ≡ []) × (length s.old.ground.policy.edges ≤ edges.spare) }
     ensures kept { IsKept s.new }
-    ensures ok { IfOk result (λ reply. Asks (view_of s.old) who actor (Activate session role) reply (view_of s.new)) }
+    ensures ok { IfOk result
+        (λ reply. Asks (view_of s.old) who actor (Activate session role) reply
+        (view_of s.new)) }
     ensures err { OnErr result (view_of s.new ≡ view_of s.old) }
 {
     s.line.keeps();
@@ -187,10 +195,20 @@ fn start(
     session: SessionId,
     role: RoleId,
 ) -> Result<(Walk, Signal), SessionFault>
-    ensures answer { IfOk result (λ r. answer ground.now.policy (point_of line.now.line (table_of table.old)) actor (Activate session role) ≡ Active r.0) }
-    ensures table { IfOk result (λ r. applied line.now.line.now actor (Activate session role) (Active r.0) (table_of table.old) ≡ record (table_of table.new) { signals = r.1 ∷ [] }) }
+    ensures answer { IfOk result
+        (λ r. answer ground.now.policy (point_of line.now.line (table_of table.old)) actor
+        (Activate session role)
+        ≡ Active r.0) }
+    ensures table { IfOk result
+        (λ r. applied line.now.line.now actor (Activate session role) (Active r.0)
+        (table_of table.old)
+        ≡ record (table_of table.new) { signals = r.1 ∷ [] }) }
     ensures charged_to { table.new.charged_to ≡ table.old.charged_to }
-    ensures refused { IfErr result (λ fault. OrRefused fault (λ reply. answer ground.now.policy (point_of line.now.line (table_of table.old)) actor (Activate session role) ≡ reply)) }
+    ensures refused { IfErr result
+        (λ fault. OrRefused fault
+        (λ reply. answer ground.now.policy (point_of line.now.line (table_of table.old))
+        actor (Activate session role)
+        ≡ reply)) }
     ensures same { OnErr result (table_of table.new ≡ table_of table.old) }
 {
     let policy = ground.policy();
@@ -231,7 +249,9 @@ pub(crate) fn deactivate(
     requires ready { IsReady s.old actor (Deactivate session role) }
     requires somebody { is_nobody actor ≡ false }
     ensures kept { IsKept s.new }
-    ensures ok { IfOk result (λ reply. Asks (view_of s.old) who actor (Deactivate session role) reply (view_of s.new)) }
+    ensures ok { IfOk result
+        (λ reply. Asks (view_of s.old) who actor (Deactivate session role) reply
+        (view_of s.new)) }
     ensures err { OnErr result (view_of s.new ≡ view_of s.old) }
 {
     make_room(s, 1)?;
@@ -251,7 +271,9 @@ fn end_role(
     requires room { 1 ≤ s.old.entries.spare }
     requires spare { 1 ≤ s.old.line.spare }
     ensures kept { IsKept s.new }
-    ensures ok { IfOk result (λ reply. Asks (view_of s.old) who actor (Deactivate session role) reply (view_of s.new)) }
+    ensures ok { IfOk result
+        (λ reply. Asks (view_of s.old) who actor (Deactivate session role) reply
+        (view_of s.new)) }
     ensures err { OnErr result (view_of s.new ≡ view_of s.old) }
 {
     s.line.keeps();

@@ -5,7 +5,8 @@ use session_table::Sessions;
 use std::alloc::Global;
 use time_engine::Timeline;
 
-/// The policy with what was made of it, the birth, the timeline and the table of sessions of now, and the entries.
+/// The policy with what was made of it, the birth, the timeline and the table of sessions of now,
+/// and the entries.
 pub(crate) struct State {
     pub alloc: Global,
     pub ground: Prepared,

@@ -39,7 +39,8 @@ pub(crate) fn tell_status(
     requires ready { IsReady s.old actor (AskStatus cond) }
     requires somebody { is_nobody actor ≡ false }
     ensures kept { IsKept s.new }
-    ensures ok { IfOk result (λ reply. Asks (view_of s.old) who actor (AskStatus cond) reply (view_of s.new)) }
+    ensures ok { IfOk result
+        (λ reply. Asks (view_of s.old) who actor (AskStatus cond) reply (view_of s.new)) }
     ensures err { OnErr result (view_of s.new ≡ view_of s.old) }
 {
     let reply = Reply::Truth(holds(s.line.status(), cond));
@@ -47,7 +48,7 @@ pub(crate) fn tell_status(
 }
 
 /// Whether the condition holds in the status.
-fn holds(status: &Status, cond: Cond) -> bool
+pub(crate) fn holds(status: &Status, cond: Cond) -> bool
     ensures { result ≡ is_met (has status.now.set) cond }
 {
     let on = status.is_on(cond.fluent);
@@ -64,7 +65,8 @@ pub(crate) fn tell_seen(
     requires ready { IsReady s.old actor (AskSeen event) }
     requires somebody { is_nobody actor ≡ false }
     ensures kept { IsKept s.new }
-    ensures ok { IfOk result (λ reply. Asks (view_of s.old) who actor (AskSeen event) reply (view_of s.new)) }
+    ensures ok { IfOk result
+        (λ reply. Asks (view_of s.old) who actor (AskSeen event) reply (view_of s.new)) }
     ensures err { OnErr result (view_of s.new ≡ view_of s.old) }
 {
     let reply = Reply::Event(seen(s.line.happened(), event));
@@ -82,7 +84,9 @@ pub(crate) fn tell_active(
     requires ready { IsReady s.old actor (AskActive session role) }
     requires somebody { is_nobody actor ≡ false }
     ensures kept { IsKept s.new }
-    ensures ok { IfOk result (λ reply. Asks (view_of s.old) who actor (AskActive session role) reply (view_of s.new)) }
+    ensures ok { IfOk result
+        (λ reply. Asks (view_of s.old) who actor (AskActive session role) reply
+        (view_of s.new)) }
     ensures err { OnErr result (view_of s.new ≡ view_of s.old) }
 {
     let reply = is_active(&s.table, actor, session, role);
@@ -90,7 +94,7 @@ pub(crate) fn tell_active(
 }
 
 /// Whether the role is active in the session, or why the actor may not know.
-fn is_active(table: &Sessions, actor: Actor, session: SessionId, role: RoleId) -> Reply
+pub(crate) fn is_active(table: &Sessions, actor: Actor, session: SessionId, role: RoleId) -> Reply
     ensures { Answers (table_of table.now) actor (AskActive session role) result }
 {
     match table.active(actor, session) {
@@ -117,7 +121,8 @@ pub(crate) fn tell_decision(
     requires ready { IsReady s.old actor (Check session perm) }
     requires somebody { is_nobody actor ≡ false }
     ensures kept { IsKept s.new }
-    ensures ok { IfOk result (λ reply. Asks (view_of s.old) who actor (Check session perm) reply (view_of s.new)) }
+    ensures ok { IfOk result
+        (λ reply. Asks (view_of s.old) who actor (Check session perm) reply (view_of s.new)) }
     ensures err { OnErr result (view_of s.new ≡ view_of s.old) }
 {
     let reply = decision(s, actor, session, perm)?;
@@ -125,7 +130,12 @@ pub(crate) fn tell_decision(
 }
 
 /// The decision on the permission, or why the actor may not know.
-fn decision(s: &State, actor: Actor, session: SessionId, perm: PermId) -> Result<Reply, Memory>
+pub(crate) fn decision(
+    s: &State,
+    actor: Actor,
+    session: SessionId,
+    perm: PermId,
+) -> Result<Reply, Memory>
     ensures { IfOk result (λ reply. IsAnswer s.now actor (Check session perm) reply) }
 {
     match s.table.active(actor, session) {

@@ -21,8 +21,9 @@ use hybrid_hierarchy::Hierarchy;
 use session_table::{Drops, Sessions};
 use time_engine::Plan;
 
-/// Goes on to the least instant after now and up to the bound at which something is raised or an activation ends, or to the
-/// bound, and adds one entry. It takes its memory first: a refused tick leaves the book as it was.
+/// Goes on to the least instant after now and up to the bound at which something is raised or an
+/// activation ends, or to the bound, and adds one entry. It takes its memory first: a refused tick
+/// leaves the book as it was.
 pub(crate) fn go_on(s: &mut State, who: Who, upto: Instant) -> Result<Instant, Memory>
     requires kept { IsKept s.old }
     requires later { s.old.line.line.now < upto }
@@ -38,8 +39,8 @@ pub(crate) fn go_on(s: &mut State, who: Who, upto: Instant) -> Result<Instant, M
     Ok(to)
 }
 
-/// The plans of the timeline and of the end of its minutes, for an instant that is not after the next one at which something is
-/// raised, with the room for them made.
+/// The plans of the timeline and of the end of its minutes, for an instant that is not after the
+/// next one at which something is raised, with the room for them made.
 fn planned(s: &mut State, to: Instant) -> Result<(Plan, Drops), Memory>
     requires kept { IsKept s.old }
     requires later { s.old.line.line.now < to }
@@ -49,7 +50,9 @@ fn planned(s: &mut State, to: Instant) -> Result<(Plan, Drops), Memory>
     ensures plan { IfOk result (λ r. IsPlan s.old.ground.policy s.old.line.line r.0) }
     ensures fits { IfOk result (λ r. Fits s.old.line.line r.0) }
     ensures plan_room { IfOk result (λ r. r.0.need ≤ s.new.line.room) }
-    ensures drops { IfOk result (λ r. IsPlanOfDrops s.old.ground.policy.edges s.old.ground.policy.caps (has r.0.status) s.old.line.line.now to (table_of s.old.table) r.1) }
+    ensures drops { IfOk result
+        (λ r. IsPlanOfDrops s.old.ground.policy.edges s.old.ground.policy.caps (has r.0.status)
+        s.old.line.line.now to (table_of s.old.table) r.1) }
     ensures drops_room { OnOk result (need_of s.old.line.line.now to s.new.table ≤ s.new.table.room) }
 {
     let plan = s.line.plan(s.ground.ground(), to)?;
@@ -80,15 +83,16 @@ fn agrees(status: &Status, e: &Prioritised) -> bool
     if e.event.on { on } else { !on }
 }
 
-/// Whether the status already says what each event of the set makes of it, as where there is none: then the set changes no fluent.
+/// Whether the status already says what each event of the set makes of it, as where there is none:
+/// then the set changes no fluent.
 fn is_still(set: &Happened, before: &Status) -> bool
     ensures { result ≡ list_all (agrees (has before.now.set)) (members set.now.set.events) }
 {
     set.events().iter().all(|e| agrees(before, e))
 }
 
-/// The plan of the end of the minutes. Where no fluent changes, each activation stands as before, and neither the status nor the hierarchy is
-/// asked.
+/// The plan of the end of the minutes. Where no fluent changes, each activation stands as before,
+/// and neither the status nor the hierarchy is asked.
 fn end_of(
     table: &mut Sessions,
     hierarchy: &Hierarchy,
@@ -103,7 +107,9 @@ fn end_of(
     ensures same { table_of table.new ≡ table_of table.old }
     ensures charged_to { table.new.charged_to ≡ table.old.charged_to }
     ensures room { OnOk result (need_of now to table.new ≤ table.new.room) }
-    ensures plan { IfOk result (IsPlanOfDrops hierarchy.now caps.now.items (has status.now.set) now to (table_of table.old)) }
+    ensures plan { IfOk result
+        (IsPlanOfDrops hierarchy.now caps.now.items (has status.now.set) now to
+        (table_of table.old)) }
 {
     if still {
         return table.plan_end_still(caps, now, to);
@@ -115,7 +121,8 @@ fn end_of(
 fn stop(s: &State, upto: Instant) -> Instant
     requires kept { IsKept s.now }
     requires later { s.now.line.line.now < upto }
-    ensures { IsNextStop (moves s.now.ground.policy s.now.line.line (table_of s.now.table)) s.now.line.line.now upto result }
+    ensures { IsNextStop (moves s.now.ground.policy s.now.line.line (table_of s.now.table))
+        s.now.line.line.now upto result }
 {
     let raised = next_raised(s.line.due(s.ground.ground()), upto);
     next_drop(
@@ -126,7 +133,8 @@ fn stop(s: &State, upto: Instant) -> Instant
 
 /// The next instant, where it is before the bound, else the bound.
 fn next_raised(next: Option<Instant>, upto: Instant) -> Instant
-    ensures { (test : ℕ → Bool) (now : ℕ) → IsNextOf test now next → now < upto → IsNextStop test now upto result }
+    ensures { (test : ℕ → Bool) (now : ℕ) → IsNextOf test now next → now < upto
+        → IsNextStop test now upto result }
 {
     let _bound = upto.minute();
     match next {
@@ -137,7 +145,8 @@ fn next_raised(next: Option<Instant>, upto: Instant) -> Instant
 
 /// The same of a drop.
 fn next_drop(next: Option<Instant>, upto: Instant) -> Instant
-    ensures { (test : ℕ → Bool) (now : ℕ) → IsFirstOrNone test now next → now < upto → IsNextStop test now upto result }
+    ensures { (test : ℕ → Bool) (now : ℕ) → IsFirstOrNone test now next → now < upto
+        → IsNextStop test now upto result }
 {
     let _bound = upto.minute();
     match next {

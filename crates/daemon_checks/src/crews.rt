@@ -4,7 +4,7 @@ ghost use Rattle.gt_io.specs.Links.{IsFresh};
 ghost use Rattle.gtrbac_daemon.specs.Crew.{IsNew};
 
 use gt_base::{Instant, List, Memory};
-use gt_io::{Gate, Link, MemClock, MemDoor, MemLink};
+use gt_io::{Clock, Gate, Link, MemClock, MemDoor, MemLink};
 use line_server::{WorkEnd, Worker};
 use std::alloc::{AllocError, Global};
 use std::collections::VecDeque;
@@ -36,7 +36,7 @@ pub(crate) fn call(alloc: Global, failing: u64) -> Result<List<u64>, Memory> {
     Ok(vec![in alloc; failing]?.into())
 }
 
-/// A link of which nothing was read and to which nothing was written.
+/// A link of which nothing was read and to which nothing was written, and that was not let go.
 fn link(alloc: Global, wire: &Wire<'_>) -> Result<MemLink, Memory>
     ensures { IfOk result (λ link. IsFresh (⟦<MemLink as Link>⟧.traffic link)) }
 {
@@ -62,7 +62,8 @@ fn links(alloc: Global, wires: &[Wire<'_>]) -> Result<VecDeque<MemLink>, Memory>
     Ok(links)
 }
 
-fn door(alloc: Global, man: &Man<'_>) -> Result<MemDoor, Memory> {
+/// The door of a worker.
+pub(crate) fn door(alloc: Global, man: &Man<'_>) -> Result<MemDoor, Memory> {
     Ok(MemDoor::new(links(alloc, man.wires)?, call(alloc, man.bad_call)?))
 }
 
@@ -82,12 +83,12 @@ pub(crate) fn clock(alloc: Global, minutes: &[u32]) -> Result<MemClock, Memory> 
     Ok(MemClock::new(readings))
 }
 
-fn worker<G: Gate>(
+fn worker<C: Clock, G: Gate>(
     alloc: Global,
     door: MemDoor,
-    clock: MemClock,
+    clock: C,
     gate: G,
-) -> Worker<MemDoor, MemClock, G>
+) -> Worker<MemDoor, C, G>
     ensures { IsNew result }
 {
     Worker {
@@ -99,12 +100,13 @@ fn worker<G: Gate>(
     }
 }
 
-fn one_of<G: Gate + Copy>(
+/// A crew of one worker.
+pub(crate) fn one_of<C: Clock + Drop, G: Gate + Copy>(
     alloc: Global,
     door: MemDoor,
-    clock: MemClock,
+    clock: C,
     gate: G,
-) -> Result<Vec<Worker<MemDoor, MemClock, G>>, Memory>
+) -> Result<Vec<Worker<MemDoor, C, G>>, Memory>
     ensures size { IfOk result (λ crew. length crew.items ≡ 1) }
     ensures fresh { IfOk result (λ crew. All (λ w. IsNew w) crew.items) }
 {
@@ -149,7 +151,7 @@ pub(crate) fn hire<G: Gate + Copy>(
 }
 
 /// Lets the workers go.
-pub(crate) fn let_go<G: Gate + Copy>(mut crew: Vec<Worker<MemDoor, MemClock, G>>) {
+pub(crate) fn let_go<C: Clock + Drop, G: Gate + Copy>(mut crew: Vec<Worker<MemDoor, C, G>>) {
     while let Some(worker) = crew.pop() {
         let Worker {
             door: _,

@@ -2,9 +2,11 @@
 #![tactic(auto)]
 
 mod crews;
+#[cfg(test)]
+mod gates;
 mod runs;
 #[cfg(test)]
 mod tests;
 
 pub use crews::{Man, Wire};
-pub use runs::{Run, play};
+pub use runs::{Run, play, play_by};

@@ -2,9 +2,9 @@
 ghost use Rattle.std.specs.Prelude.{◌≤◌, length, All};
 ghost use Rattle.gtrbac_daemon.specs.Crew.{IsNew};
 
-use crate::crews::{Man, call, clock, hire, let_go};
+use crate::crews::{Man, call, clock, door, hire, let_go, one_of};
 use gt_base::{List, Memory};
-use gt_io::{Gate, MemClock, MemDoor, MemFile, MemLink, MemShelf, MemSink};
+use gt_io::{Clock, Gate, MemClock, MemDoor, MemFile, MemLink, MemShelf, MemSink};
 use gt_text::push_number;
 use gtrbac_daemon::daemon;
 use line_server::{LinkEnd, Served, WorkEnd, Worker};
@@ -65,11 +65,11 @@ fn end_of_worker(end: WorkEnd) -> &'static [u8] {
     }
 }
 
-/// What was given to a link, and behind a bar how it ended and how many lines were asked and denied. A link to which nothing was given and that
-/// ended is passed over.
+/// What was given to a link, and behind a bar how it ended and how many lines were asked and denied, and whether it is still held. A link to
+/// which nothing was given, that ended and was let go, is passed over.
 fn tell_link(text: &mut Vec<u8>, served: &Served<MemLink>) -> Result<(), Memory> {
     let given = served.link.given().as_slice();
-    if given.is_empty() && served.report.outcome == LinkEnd::Ended {
+    if given.is_empty() && served.report.outcome == LinkEnd::Ended && served.link.finished() {
         return Ok(());
     }
     text.extend_from_slice(given)?;
@@ -79,14 +79,17 @@ fn tell_link(text: &mut Vec<u8>, served: &Served<MemLink>) -> Result<(), Memory>
     push_number(text, served.report.asked)?;
     text.extend_from_slice(b", denied ")?;
     push_number(text, served.report.denied)?;
+    if !served.link.finished() {
+        text.extend_from_slice(b", held")?;
+    }
     text.extend_from_slice(b"\n")?;
     Ok(())
 }
 
 /// The links of a worker, how many they are and how it ended.
-fn tell_worker<G: Gate>(
+fn tell_worker<C: Clock, G: Gate>(
     text: &mut Vec<u8>,
-    worker: &Worker<MemDoor, MemClock, G>,
+    worker: &Worker<MemDoor, C, G>,
 ) -> Result<(), Memory> {
     for served in worker.served.as_slice() {
         tell_link(text, served)?;
@@ -98,9 +101,9 @@ fn tell_worker<G: Gate>(
 }
 
 /// The workers one after the other, what was written, and the status.
-fn tell<G: Gate>(
+fn tell<C: Clock, G: Gate>(
     alloc: Global,
-    crew: &[Worker<MemDoor, MemClock, G>],
+    crew: &[Worker<MemDoor, C, G>],
     written: &List<u8>,
     status: u8,
 ) -> Result<List<u8>, Memory> {
@@ -115,6 +118,25 @@ fn tell<G: Gate>(
     Ok(text.into())
 }
 
+/// Serves with a crew, tells what came of it and lets it go.
+fn serve<R: Threads + Wait + Sync, C: Clock + Drop + Send, G: Gate + Copy + Send>(
+    rt: &R,
+    alloc: Global,
+    words: &[String],
+    shelf: &mut MemShelf,
+    birth: &mut MemClock,
+    mut crew: Vec<Worker<MemDoor, C, G>>,
+    out: &mut MemSink,
+) -> Result<List<u8>, Memory>
+    requires size { (1 ≤ length crew.items) × (length crew.items ≤ 8) }
+    requires fresh { All (λ w. IsNew w) crew.items }
+{
+    let status = daemon(rt, alloc, words, shelf, birth, &mut crew, out);
+    let text = tell(alloc, &crew, out.written(), status);
+    let_go(crew);
+    text
+}
+
 /// Plays a run, with this gate for each worker.
 pub fn play<R: Threads + Wait + Sync, G: Gate + Copy + Send>(
     rt: &R,
@@ -126,11 +148,22 @@ pub fn play<R: Threads + Wait + Sync, G: Gate + Copy + Send>(
     let mut shelf = shelf_of(alloc, run)?;
     let mut birth = clock(alloc, &[run.birth])?;
     let mut out = MemSink::new(alloc, run.room, 1_000, call(alloc, run.bad_write)?)?;
-    let mut crew = hire(alloc, &run.zero, run.one.as_ref(), gate)?;
-    let status = daemon(
-        rt, alloc, &words, &mut shelf, &mut birth, &mut crew, &mut out,
-    );
-    let text = tell(alloc, &crew, out.written(), status);
-    let_go(crew);
-    text
+    let crew = hire(alloc, &run.zero, run.one.as_ref(), gate)?;
+    serve(rt, alloc, &words, &mut shelf, &mut birth, crew, &mut out)
+}
+
+/// Plays the run of one worker, with this clock and this gate.
+pub fn play_by<R: Threads + Wait + Sync, C: Clock + Drop + Send, G: Gate + Copy + Send>(
+    rt: &R,
+    alloc: Global,
+    run: &Run<'_>,
+    watch: C,
+    gate: G,
+) -> Result<List<u8>, Memory> {
+    let words = words_of(alloc, run.words)?;
+    let mut shelf = shelf_of(alloc, run)?;
+    let mut birth = clock(alloc, &[run.birth])?;
+    let mut out = MemSink::new(alloc, run.room, 1_000, call(alloc, run.bad_write)?)?;
+    let crew = one_of(alloc, door(alloc, &run.zero)?, watch, gate)?;
+    serve(rt, alloc, &words, &mut shelf, &mut birth, crew, &mut out)
 }

@@ -585,7 +585,7 @@ fn is_kept<R: Threads + Wait + Sync>(
     Ok(text.as_slice() == wanted.as_slice())
 }
 
-const USAGE: &[u8] = b"usage: gtrbacd POLICY\n";
+const USAGE: &[u8] = b"usage: gtrbacd POLICY | views POLICY | poll POLICY\n";
 
 #[test]
 fn words_are_one_policy(rt: HostRuntime) -> Result<(), Fail> {

@@ -1,3 +1,5 @@
 pub mod DueLaws
 pub mod ListParts
+pub mod MergeLaws
 pub mod PendingLaws
+pub mod RowLaws

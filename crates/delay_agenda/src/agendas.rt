@@ -5,56 +5,60 @@ ghost use Rattle.gt_base.specs.Sets.{has, members, none, those, with_member};
 ghost use Rattle.delay_agenda.specs.Due.{pending_at, is_due_at, count_due as count_in, IsLeastDue};
 
 use crate::pairs::Pending;
-use crate::rows::{count_due, forget_due, last_due, put, take_due, tell_due};
+use crate::twins::{count_all, count_both, forget_both, least_due, put_new, settle, tell_both};
 use gt_base::{Happened, Instant, Memory, Prioritised};
 use std::alloc::Global;
 use std::marker::Model;
 
-/// A set of events with their due instants, seen as the set of the pairs and the number of further pairs that it has room for.
+/// A set of events with their due instants, seen as the set of the pairs and the number of further
+/// pairs that it has room for.
 pub struct Agenda {
-    pairs: Vec<Pending>,
+    long: Vec<Pending>,
+    short: Vec<Pending>,
 }
 
 impl Model for Agenda {
     ghost use Rattle.std.specs.Prelude.{◌-◌, vec_capacity, vec_len};
     ghost use Rattle.gt_base.specs.Happening.{Roomier, roomier_code};
-    ghost use Rattle.gt_base.specs.Sets.{set_of_rising, Rises};
-    ghost use Rattle.delay_agenda.specs.Due.{pending_cmp, Pendings, pendings_code};
+    ghost use Rattle.delay_agenda.specs.Due.{Pendings, pendings_code};
+    ghost use Rattle.delay_agenda.specs.Rows.{AreRows, pairs_of};
 
     ghost Value = { Roomier Pendings };
 
     ghost coded = { roomier_code pendings_code };
 
-    ghost view = { λ a. record { set = set_of_rising a.pairs.items; spare = vec_capacity a.pairs - vec_len a.pairs } };
+    ghost view = { λ a. record { set = pairs_of a.long.items a.short.items; spare = vec_capacity a.short - vec_len a.short } };
 
-    ghost invariant = { λ a. Rises pending_cmp a.pairs.items };
+    ghost invariant = { λ a. AreRows a.long.items a.short.items };
 }
 
 impl Drop for Agenda {
     fn drop(self) {
-        let Agenda { pairs: _ } = self;
+        let Agenda { long: _, short: _ } = self;
     }
 }
 
 impl Agenda {
     /// The empty agenda, without room, which takes no memory yet.
-    #[tactic(auto, using(gt_base::proofs::Rising::set_of_nothing))]
     pub fn new(alloc: Global) -> Agenda
         ensures set { result.set ≡ none }
         ensures spare { result.spare ≡ 0 }
     {
         Agenda {
-            pairs: Vec::new(alloc),
+            long: Vec::new(alloc),
+            short: Vec::new(alloc),
         }
     }
 
-    /// Makes room for n more pairs. For want of memory it may refuse; the set is then as it was, and the room no less.
+    /// Makes room for n more pairs. For want of memory it may refuse; the set is then as it was,
+    /// and the room no less.
     pub fn reserve(&mut self, n: usize) -> Result<(), Memory>
         ensures set { self.new.set ≡ self.old.set }
         ensures spare { self.old.spare ≤ self.new.spare }
         ensures room { OnOk result (n ≤ self.new.spare) }
     {
-        self.pairs.reserve(n)
+        settle(&mut self.long, &mut self.short)?;
+        self.short.reserve(n)
     }
 
     /// An agenda with the same pairs. For want of memory it may refuse.
@@ -62,7 +66,8 @@ impl Agenda {
         ensures { IfOk result (λ copy. copy.set ≡ self.now.set) }
     {
         Ok(Agenda {
-            pairs: Vec::from_slice(*self.pairs.allocator(), &self.pairs)?,
+            long: Vec::from_slice(*self.long.allocator(), &self.long)?,
+            short: Vec::from_slice(*self.short.allocator(), &self.short)?,
         })
     }
 
@@ -70,16 +75,17 @@ impl Agenda {
     pub fn len(&self) -> usize
         ensures { result ≡ length (members self.now.set) }
     {
-        self.pairs.len()
+        count_all(&self.long, &self.short)
     }
 
-    /// Adds an event that is due at the instant, into room that was made before. At most one of the room is used.
+    /// Adds an event that is due at the instant, into room that was made before. At most one of the
+    /// room is used.
     pub fn put(&mut self, due: Instant, p: Prioritised)
         requires { 1 ≤ self.old.spare }
         ensures set { self.new.set ≡ with_member self.old.set (pending_at due p) }
         ensures spare { self.old.spare ≤ self.new.spare + 1 }
     {
-        put(&mut self.pairs, Pending { due, event: p });
+        put_new(&self.long, &mut self.short, Pending { due, event: p });
     }
 
     /// The least instant at which something is due; none exactly where nothing is.
@@ -87,24 +93,27 @@ impl Agenda {
         ensures none { IsNone result ↔ (self.now.set ≡ none) }
         ensures some { IfSome result (IsLeastDue self.now.set) }
     {
-        last_due(&self.pairs)
+        least_due(&self.long, &self.short)
     }
 
     /// How many pairs are due at the instant, so for how many `take` wants room.
     pub fn due_count(&self, t: Instant) -> usize
         ensures { result ≡ count_in self.now.set t }
     {
-        count_due(&self.pairs, t)
+        count_both(&self.long, &self.short, t)
     }
 
-    /// Adds the events that are due at the instant to a set of an instant, where room was made before. The agenda keeps them.
+    /// Adds the events that are due at the instant to a set of an instant, where room was made
+    /// before. The agenda keeps them.
     pub fn tell(&self, t: Instant, into: &mut Happened)
         requires { count_in self.now.set t ≤ into.old.spare }
-        ensures events { (e : Prioritised) → has into.new.set.events e ≡ (has into.old.set.events e || has self.now.set (pending_at t e)) }
+        ensures events { (e : Prioritised)
+            → has into.new.set.events e
+            ≡ (has into.old.set.events e || has self.now.set (pending_at t e)) }
         ensures signals { into.new.set.signals ≡ into.old.set.signals }
         ensures spare { into.old.spare ≤ into.new.spare + count_in self.now.set t }
     {
-        tell_due(&self.pairs, t, into);
+        tell_both(&self.long, &self.short, t, into);
     }
 
     /// Takes out the pairs that are due at the instant, and keeps the others.
@@ -112,19 +121,23 @@ impl Agenda {
         ensures set { self.new.set ≡ those self.old.set (λ p. not (is_due_at t p)) }
         ensures spare { self.old.spare ≤ self.new.spare }
     {
-        forget_due(&mut self.pairs, t);
+        forget_both(&mut self.long, &mut self.short, t);
     }
 
-    /// Moves the events that are due at the instant into a set of an instant, where room was made before. The agenda keeps the
-    /// other pairs; of those only the ones that are due before the instant move, so none at the least due.
+    /// Moves the events that are due at the instant into a set of an instant, where room was made
+    /// before. The agenda keeps the other pairs; of those only the ones that are due before the
+    /// instant move, so none at the least due.
     pub fn take(&mut self, t: Instant, into: &mut Happened)
         requires { count_in self.old.set t ≤ into.old.spare }
-        ensures events { (e : Prioritised) → has into.new.set.events e ≡ (has into.old.set.events e || has self.old.set (pending_at t e)) }
+        ensures events { (e : Prioritised)
+            → has into.new.set.events e
+            ≡ (has into.old.set.events e || has self.old.set (pending_at t e)) }
         ensures signals { into.new.set.signals ≡ into.old.set.signals }
         ensures spare { into.old.spare ≤ into.new.spare + count_in self.old.set t }
         ensures set { self.new.set ≡ those self.old.set (λ p. not (is_due_at t p)) }
         ensures room { self.old.spare ≤ self.new.spare }
     {
-        take_due(&mut self.pairs, t, into);
+        tell_both(&self.long, &self.short, t, into);
+        forget_both(&mut self.long, &mut self.short, t);
     }
 }

@@ -3,8 +3,10 @@
 
 mod agendas;
 mod laws;
+mod merging;
 mod pairs;
 mod rows;
+mod twins;
 
 pub use agendas::Agenda;
 pub use laws::agendas_are_sets;

@@ -12,7 +12,8 @@ pub struct Pending {
     pub event: Prioritised,
 }
 
-/// Which of the pairs stands first: the one that is due later, and of two that are due together the one with the lesser event.
+/// Which of the pairs stands first: the one that is due later, and of two that are due together the
+/// one with the lesser event.
 pub(crate) fn compare(a: &Pending, b: &Pending) -> Ordering
     ensures { result ≡ pending_cmp a.now b.now }
 {

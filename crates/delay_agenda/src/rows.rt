@@ -12,11 +12,22 @@ use gt_base::{Happened, Instant};
 /// Where the pair stands, or where it goes in.
 fn find(items: &[Pending], k: &Pending) -> Result<usize, usize>
     requires { Rises pending_cmp items.now }
-    ensures found { IfOk result (λ _. (has (set_of_rising {R = pending_cmp} items.now) k.now ≡ true) × (with_member (set_of_rising {R = pending_cmp} items.now) k.now ≡ set_of_rising items.now)) }
+    ensures found { IfOk result
+        (λ _. (has (set_of_rising {R = pending_cmp} items.now) k.now ≡ true)
+        × (with_member (set_of_rising {R = pending_cmp} items.now) k.now
+        ≡ set_of_rising items.now)) }
     ensures place { IfErr result (λ i. i ≤ length items.now) }
     ensures absent { IfErr result (GoesIn pending_cmp k.now items.now) }
 {
     items.binary_search_by(|p| compare(p, k))
+}
+
+/// Whether the pair stands there.
+pub(crate) fn stands_in(items: &[Pending], k: &Pending) -> bool
+    requires { Rises pending_cmp items.now }
+    ensures { result ≡ has (set_of_rising {R = pending_cmp} items.now) k.now }
+{
+    find(items, k).is_ok()
 }
 
 /// Puts the pair in, unless it is there.
@@ -24,7 +35,8 @@ pub(crate) fn put(items: &mut Vec<Pending>, k: Pending)
     requires rises { Rises pending_cmp items.old.items }
     requires room { vec_len items.old < vec_capacity items.old }
     ensures rises { Rises pending_cmp items.new.items }
-    ensures set { set_of_rising {R = pending_cmp} items.new.items ≡ with_member (set_of_rising items.old.items) k }
+    ensures set { set_of_rising {R = pending_cmp} items.new.items
+        ≡ with_member (set_of_rising items.old.items) k }
     ensures capacity { vec_capacity items.old ≤ vec_capacity items.new }
     ensures len { vec_len items.new ≤ vec_len items.old + 1 }
 {
@@ -58,9 +70,12 @@ fn due_range(items: &[Pending], t: Instant) -> (usize, usize)
     ensures order { result.0 ≤ result.1 }
     ensures bound { result.1 ≤ length items.now }
     ensures count { result.1 - result.0 ≡ count_in (set_of_rising items.now) t }
-    ensures events { (e : Prioritised) → lists_event (slice_range items.now result.0 result.1) e ≡ has (set_of_rising {R = pending_cmp} items.now) (pending_at t e) }
+    ensures events { (e : Prioritised)
+        → lists_event (slice_range items.now result.0 result.1) e
+        ≡ has (set_of_rising {R = pending_cmp} items.now) (pending_at t e) }
     ensures rises { Rises pending_cmp (remove_range items.now result.0 result.1) }
-    ensures others { set_of_rising {R = pending_cmp} (remove_range items.now result.0 result.1) ≡ those (set_of_rising items.now) (λ p. not (is_due_at t p)) }
+    ensures others { set_of_rising {R = pending_cmp} (remove_range items.now result.0 result.1)
+        ≡ those (set_of_rising items.now) (λ p. not (is_due_at t p)) }
 {
     (count_after(items, t), count_from(items, t))
 }
@@ -80,7 +95,8 @@ pub(crate) fn last_due(items: &[Pending]) -> Option<Instant>
 /// Adds the events of the pairs, into room that was made before.
 fn join(into: &mut Happened, pairs: &[Pending])
     requires { length pairs.now ≤ into.old.spare }
-    ensures events { (e : Prioritised) → has into.new.set.events e ≡ (has into.old.set.events e || lists_event pairs.now e) }
+    ensures events { (e : Prioritised)
+        → has into.new.set.events e ≡ (has into.old.set.events e || lists_event pairs.now e) }
     ensures signals { into.new.set.signals ≡ into.old.set.signals }
     ensures spare { into.old.spare ≤ into.new.spare + length pairs.now }
 {
@@ -103,7 +119,8 @@ fn cut(items: &mut Vec<Pending>, start: usize, end: usize)
 /// How many pairs are due at the instant.
 pub(crate) fn count_due(items: &[Pending], t: Instant) -> usize
     requires { Rises pending_cmp items.now }
-    ensures { result ≡ count_in (set_of_rising items.now) t }
+    ensures count { result ≡ count_in (set_of_rising items.now) t }
+    ensures bound { result ≤ length items.now }
 {
     let (start, end) = due_range(items, t);
     end - start
@@ -113,7 +130,10 @@ pub(crate) fn count_due(items: &[Pending], t: Instant) -> usize
 pub(crate) fn tell_due(items: &[Pending], t: Instant, into: &mut Happened)
     requires rises { Rises pending_cmp items.now }
     requires room { count_in (set_of_rising items.now) t ≤ into.old.spare }
-    ensures events { (e : Prioritised) → has into.new.set.events e ≡ (has into.old.set.events e || has (set_of_rising {R = pending_cmp} items.now) (pending_at t e)) }
+    ensures events { (e : Prioritised)
+        → has into.new.set.events e
+        ≡ (has into.old.set.events e || has (set_of_rising {R = pending_cmp} items.now)
+        (pending_at t e)) }
     ensures signals { into.new.set.signals ≡ into.old.set.signals }
     ensures spare { into.old.spare ≤ into.new.spare + count_in (set_of_rising items.now) t }
 {
@@ -125,27 +145,12 @@ pub(crate) fn tell_due(items: &[Pending], t: Instant, into: &mut Happened)
 pub(crate) fn forget_due(items: &mut Vec<Pending>, t: Instant)
     requires rises { Rises pending_cmp items.old.items }
     ensures rises { Rises pending_cmp items.new.items }
-    ensures set { set_of_rising {R = pending_cmp} items.new.items ≡ those (set_of_rising items.old.items) (λ p. not (is_due_at t p)) }
+    ensures set { set_of_rising {R = pending_cmp} items.new.items
+        ≡ those (set_of_rising items.old.items) (λ p. not (is_due_at t p)) }
     ensures capacity { vec_capacity items.new ≡ vec_capacity items.old }
     ensures len { vec_len items.new ≤ vec_len items.old }
 {
     let row = items.as_slice();
     let (start, end) = due_range(row, t);
     cut(items, start, end);
-}
-
-/// Moves the events that are due at the instant into the set, where room was made before, and keeps the other pairs.
-pub(crate) fn take_due(items: &mut Vec<Pending>, t: Instant, into: &mut Happened)
-    requires rises { Rises pending_cmp items.old.items }
-    requires room { count_in (set_of_rising items.old.items) t ≤ into.old.spare }
-    ensures events { (e : Prioritised) → has into.new.set.events e ≡ (has into.old.set.events e || has (set_of_rising {R = pending_cmp} items.old.items) (pending_at t e)) }
-    ensures signals { into.new.set.signals ≡ into.old.set.signals }
-    ensures spare { into.old.spare ≤ into.new.spare + count_in (set_of_rising items.old.items) t }
-    ensures rises { Rises pending_cmp items.new.items }
-    ensures set { set_of_rising {R = pending_cmp} items.new.items ≡ those (set_of_rising items.old.items) (λ p. not (is_due_at t p)) }
-    ensures capacity { vec_capacity items.new ≡ vec_capacity items.old }
-    ensures len { vec_len items.new ≤ vec_len items.old }
-{
-    tell_due(items.as_slice(), t, into);
-    forget_due(items, t);
 }

@@ -43,3 +43,29 @@ fn what_is_due_is_taken(rt: HostRuntime) {
     assert!(&rt; agenda.next_due() == Some(later));
     assert!(&rt; copy.len() == 3);
 }
+
+#[test]
+fn many_come_in_any_order(rt: HostRuntime) {
+    let prio = Prio::new(50).expect(&rt, "a priority");
+    let mut agenda = Agenda::new(rt.alloc());
+    for i in 0..3000 {
+        let Ok(()) = agenda.reserve(1) else {
+            panic!(&rt; "memory");
+        };
+        let due = Instant::new(i * 7919 % 2500 / 2).expect(&rt, "an instant");
+        agenda.put(due, enable(i % 2, prio));
+    }
+    assert!(&rt; agenda.len() == 2500);
+    let mut into = Happened::new(rt.alloc());
+    for i in 0..1250 {
+        let due = Instant::new(i).expect(&rt, "an instant");
+        assert!(&rt; agenda.next_due() == Some(due));
+        assert!(&rt; agenda.due_count(due) == 2);
+        let Ok(()) = into.reserve(2) else {
+            panic!(&rt; "memory");
+        };
+        agenda.take(due, &mut into);
+    }
+    assert!(&rt; into.len() == 2);
+    assert!(&rt; agenda.next_due().is_none());
+}

@@ -1,0 +1,2 @@
+pub mod HostPorts
+pub mod Lookouts

@@ -18,8 +18,8 @@ pub(crate) fn minute_at(second: u64) -> Instant
     Instant::new(minute.min(52_595_999) as u32).unwrap()
 }
 
-/// The system's clock in UTC, cut to the years 2000 to 2099. It tells nothing. Where the system can't be asked, it answers its last reading again,
-/// and the first instant before any.
+/// The system's clock in UTC, cut to the years 2000 to 2099. It tells nothing. Where the system
+/// can't be asked, it answers its last reading again, and the first instant before any.
 #[derive(Drop)]
 pub struct HostClock<'a, R> {
     rt: &'a R,

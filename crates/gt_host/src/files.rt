@@ -6,7 +6,8 @@ use std::fs::File;
 use std::io::Read;
 use std::rt::Files;
 
-/// Files by their paths, from the folder that the program runs in. It tells nothing, so that a missing file is a hard fault as others are.
+/// Files by their paths, from the folder that the program runs in. It tells nothing, so that a
+/// missing file is a hard fault as others are.
 #[derive(Drop)]
 pub struct HostShelf<'a, R> {
     rt: &'a R,

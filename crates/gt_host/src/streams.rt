@@ -37,7 +37,8 @@ impl<R: Read> Source for Reading<R> {
     }
 }
 
-/// A writer of std as a sink. It tells what the writer tells. A write that takes nothing is a fault.
+/// A writer of std as a sink. It tells what the writer tells. A write that takes nothing is a
+/// fault.
 #[derive(Drop)]
 pub struct Writing<W> {
     inner: W,

@@ -1,57 +1,134 @@
 //! Links and doors over TCP, on this machine alone.
-ghost use Rattle.std.specs.Prelude.{◌≡◌, ◌≤◌, None, Some, length, IfOk};
+ghost use Rattle.std.specs.Prelude.{◌≡◌, ◌<◌, ◌≤◌, None, Some, true, false, length, IfOk, IfSome};
+ghost use Rattle.std.specs.Io.{ReadsAtMost};
 ghost use Rattle.gt_io.specs.Links.{ReadsNothing, WritesNothing};
 
+use crate::stop::{MOST_LINKS, Watch, is_lasting, is_over, is_stopped, must_stop, one_wait};
 use gt_io::{Door, Failed, Link};
 use std::alloc::Global;
+use std::io;
 use std::io::{ErrorKind, Read, Write};
-use std::net::{Ipv4Addr, Net, TcpListener, TcpStream};
-use std::rt::Files;
-use std::{fs, io};
-
-/// The file that closes each door while it stands in the folder that the program runs in.
-const STOP_FILE: &str = "gtrbacd.stop";
+use std::net::{Ipv4Addr, Net, Shutdown, TcpListener, TcpStream};
+use std::os::fd::OwnedFd;
+use std::rt::{self, Files};
+use std::time::Duration;
 
 /// How many bytes of replies are held back at most.
 const MOST_HELD: usize = 4096;
 
-/// A stream as a link. It tells nothing. What is written to it is held back and handed to the stream in one piece before the link next waits for
-/// bytes, so that replies to lines that arrive together leave together; and before, where much is held. A stream that takes nothing, or fails
-/// to take what was held, is let go, which is a fault of the call that found it; what is left of a link that was let go is nothing, and a write to
-/// it is a fault.
-pub struct HostLink {
+/// How many waits in a row may bring no byte: the link of a client that is silent for ten minutes
+/// is at its end.
+const MOST_SILENT_WAITS: u32 = 2400;
+
+/// How many waits in a row may take no byte: the link of a client that takes nothing for a minute
+/// fails.
+const MOST_STILL_WAITS: u32 = 240;
+
+/// How many milliseconds pass before an accept that failed is tried again.
+const PAUSE_MILLIS: u64 = 20;
+
+// Reads some bytes. None come at the end, which is also where the stop file stands or the client is
+// silent for too long.
+fn read_some<R: Files>(rt: &R, stream: &mut TcpStream, buf: &mut [u8]) -> io::Result<usize>
+    ensures { ReadsAtMost result buf.new }
+{
+    for _ in 0..MOST_SILENT_WAITS {
+        match stream.read(buf) {
+            Ok(count) => return Ok(count),
+            Err(fault) if is_over(&fault) => {
+                if must_stop(rt) {
+                    return Ok(0);
+                }
+            }
+            Err(fault) => return Err(fault),
+        }
+    }
+    Ok(0)
+}
+
+// Writes some of the piece, at least a byte. It fails where the stop file stands, or where the
+// client takes nothing for too long.
+fn write_some<R: Files>(rt: &R, stream: &mut TcpStream, piece: &[u8]) -> io::Result<usize>
+    ensures { IfOk result (λ n. (0 < n) × (n ≤ length piece.now)) }
+{
+    for _ in 0..MOST_STILL_WAITS {
+        match stream.write(piece) {
+            Ok(0) => return Err(io::Error::from(ErrorKind::WriteZero)),
+            Ok(count) => return Ok(count),
+            Err(fault) if is_over(&fault) => {
+                if must_stop(rt) {
+                    return Err(fault);
+                }
+            }
+            Err(fault) => return Err(fault),
+        }
+    }
+    Err(io::Error::from(ErrorKind::TimedOut))
+}
+
+// Writes the whole text. A write that takes a part has waited for the rest, so it looks for the
+// stop file then too.
+fn write_text<R: Files>(rt: &R, stream: &mut TcpStream, text: &[u8]) -> io::Result<()> {
+    let mut rest = text;
+    while !rest.is_empty() {
+        let n = write_some(rt, stream, rest)?;
+        rest = &rest[n..];
+        if !rest.is_empty() && must_stop(rt) {
+            return Err(io::Error::from(ErrorKind::TimedOut));
+        }
+    }
+    Ok(())
+}
+
+/// A stream as a link. It tells nothing. What is written to it is held back and handed to the
+/// stream in one piece before the link next waits for bytes, so that replies to lines that arrive
+/// together leave together; and before, where much is held. A link that asks for bytes while the
+/// stop file stands, or whose client is silent for ten minutes, is at its end. A stream that takes
+/// nothing, fails to take what was held, or stands still for a minute or while the stop file
+/// stands, is let go, which is a fault of the call that found it; what is left of a link that was
+/// let go is nothing, and a write to it is a fault.
+pub struct HostLink<'a, R> {
+    watch: Watch<'a, R>,
     stream: Option<TcpStream>,
     held: Vec<u8>,
     read_faults: u64,
     write_faults: u64,
+    /// Whether it was let go.
+    pub(crate) finished: bool,
 }
 
-impl Drop for HostLink {
+impl<'a, R> Drop for HostLink<'a, R> {
     fn drop(self) {
         let HostLink {
+            watch: _,
             stream: _,
             held: _,
             read_faults: _,
             write_faults: _,
+            finished: _,
         } = self;
     }
 }
 
-impl HostLink {
-    /// A link over the stream, which holds nothing and takes no memory yet.
-    pub fn new(alloc: Global, stream: TcpStream) -> HostLink
+impl<'a, R: Files + rt::Clock> HostLink<'a, R> {
+    /// A link over the stream, which holds nothing and takes no memory yet. Its waits are as long
+    /// as the stream's.
+    pub fn new(rt: &'a R, alloc: Global, stream: TcpStream) -> Self
         ensures stream { result.stream ≡ Some stream }
-        ensures left { (⟦<HostLink as Link>⟧.traffic result).left ≡ None }
-        ensures taken { (⟦<HostLink as Link>⟧.traffic result).taken ≡ None }
-        ensures given { (⟦<HostLink as Link>⟧.traffic result).given ≡ None }
-        ensures read_faults { (⟦<HostLink as Link>⟧.traffic result).read_faults ≡ 0 }
-        ensures write_faults { (⟦<HostLink as Link>⟧.traffic result).write_faults ≡ 0 }
+        ensures left { (⟦<HostLink<'a, R> as Link>⟧.traffic result).left ≡ None }
+        ensures taken { (⟦<HostLink<'a, R> as Link>⟧.traffic result).taken ≡ None }
+        ensures given { (⟦<HostLink<'a, R> as Link>⟧.traffic result).given ≡ None }
+        ensures read_faults { (⟦<HostLink<'a, R> as Link>⟧.traffic result).read_faults ≡ 0 }
+        ensures write_faults { (⟦<HostLink<'a, R> as Link>⟧.traffic result).write_faults ≡ 0 }
+        ensures open { result.finished ≡ false }
     {
         HostLink {
+            watch: Watch::new(rt),
             stream: Some(stream),
             held: Vec::new(alloc),
             read_faults: 0,
             write_faults: 0,
+            finished: false,
         }
     }
 
@@ -59,9 +136,10 @@ impl HostLink {
     fn hand_over(&mut self) -> Result<(), Failed>
         ensures read_faults { self.new.read_faults ≡ self.old.read_faults }
         ensures write_faults { self.new.write_faults ≡ self.old.write_faults }
+        ensures held { self.new.finished ≡ self.old.finished }
     {
         let handed = match &mut self.stream {
-            Some(stream) => stream.write_all(&self.held).is_ok(),
+            Some(stream) => write_text(self.watch.rt, stream, &self.held).is_ok(),
             None => self.held.is_empty(),
         };
         self.held.clear();
@@ -72,17 +150,22 @@ impl HostLink {
         Err(Failed)
     }
 
-    // Hands over what is held, and waits for bytes.
+    // Hands over what is held, and waits for bytes. A client that is never silent sees the stop
+    // too.
     fn draw(&mut self, buf: &mut [u8]) -> Result<usize, Failed>
         ensures bound { IfOk result (λ n. n ≤ length buf.new) }
         ensures read_faults { self.new.read_faults ≡ self.old.read_faults }
         ensures write_faults { self.new.write_faults ≡ self.old.write_faults }
+        ensures held { self.new.finished ≡ self.old.finished }
     {
         self.hand_over()?;
         let Some(stream) = &mut self.stream else {
             return Ok(0);
         };
-        match stream.read(buf) {
+        if self.watch.sees_stop() {
+            return Ok(0);
+        }
+        match read_some(self.watch.rt, stream, buf) {
             Ok(count) => Ok(count),
             Err(_) => Err(Failed),
         }
@@ -92,6 +175,7 @@ impl HostLink {
     fn take(&mut self, piece: &[u8]) -> Result<(), Failed>
         ensures read_faults { self.new.read_faults ≡ self.old.read_faults }
         ensures write_faults { self.new.write_faults ≡ self.old.write_faults }
+        ensures held { self.new.finished ≡ self.old.finished }
     {
         if self.stream.is_none() {
             return Err(Failed);
@@ -109,10 +193,11 @@ impl HostLink {
     fn pass_on(&mut self, piece: &[u8]) -> Result<(), Failed>
         ensures read_faults { self.new.read_faults ≡ self.old.read_faults }
         ensures write_faults { self.new.write_faults ≡ self.old.write_faults }
+        ensures held { self.new.finished ≡ self.old.finished }
     {
         self.hand_over()?;
         if let Some(stream) = &mut self.stream {
-            if stream.write_all(piece).is_ok() {
+            if write_text(self.watch.rt, stream, piece).is_ok() {
                 return Ok(());
             }
         }
@@ -121,8 +206,15 @@ impl HostLink {
     }
 }
 
-impl Link for HostLink {
-    ghost traffic = { λ l. record { left = None; taken = None; given = None; read_faults = l.read_faults; write_faults = l.write_faults } };
+impl<'a, R: Files + rt::Clock> Link for HostLink<'a, R> {
+    ghost traffic = { λ l. record {
+      left = None;
+      taken = None;
+      given = None;
+      read_faults = l.read_faults;
+      write_faults = l.write_faults;
+      finished = l.finished;
+    } };
 
     fn read(&mut self, buf: &mut [u8]) -> Result<usize, Failed> {
         match self.draw(buf) {
@@ -144,71 +236,161 @@ impl Link for HostLink {
         }
     }
 
-    /// Hands over what is held, and drops the stream.
+    /// Hands over what is held, tells the client that no more comes, and drops the stream.
     fn finish(&mut self)
-        ensures reads { ReadsNothing (⟦<HostLink as Link>⟧.traffic self.old) (⟦<HostLink as Link>⟧.traffic self.new) }
-        ensures writes { WritesNothing (⟦<HostLink as Link>⟧.traffic self.old) (⟦<HostLink as Link>⟧.traffic self.new) }
+        ensures reads { ReadsNothing (⟦<HostLink<'a, R> as Link>⟧.traffic self.old)
+            (⟦<HostLink<'a, R> as Link>⟧.traffic self.new) }
+        ensures writes { WritesNothing (⟦<HostLink<'a, R> as Link>⟧.traffic self.old)
+            (⟦<HostLink<'a, R> as Link>⟧.traffic self.new) }
         ensures dropped { self.new.stream ≡ None }
+        ensures finished { self.new.finished ≡ true }
     {
         let _ = self.hand_over();
+        if let Some(stream) = &self.stream {
+            // Where bytes of the client are left unread, it would else be told of a reset before it
+            // has read its last replies.
+            let _ = stream.shutdown(Shutdown::Write);
+        }
         self.stream = None;
         self.held = Vec::new(*self.held.allocator());
+        self.finished = true;
     }
 }
 
-/// A listener on a port of this machine as a door. It tells nothing. It gives none where the stop file stands as it begins to wait, or as a
-/// connection has come, which is then dropped. Where the listener could not be made, it fails.
+// Has each wait of a socket end soon.
+fn limit(stream: &TcpStream) -> io::Result<()> {
+    stream.set_read_timeout(Some(one_wait()))?;
+    stream.set_write_timeout(Some(one_wait()))
+}
+
+// Has each wait of a listener end soon; an accept has the time that a read has.
+fn limited(listener: TcpListener) -> io::Result<TcpListener> {
+    let socket = TcpStream::from(OwnedFd::from(listener));
+    limit(&socket)?;
+    Ok(TcpListener::from(OwnedFd::from(socket)))
+}
+
+// The next connection; none once the stop file stands. An accept that failed for a reason that
+// passes is tried again.
+fn accept<R: Files + rt::Clock>(rt: &R, listener: &TcpListener) -> io::Result<Option<TcpStream>> {
+    for _ in 0..u64::MAX {
+        if is_stopped(rt)? {
+            return Ok(None);
+        }
+        match listener.accept() {
+            Ok((stream, _)) => {
+                if is_stopped(rt)? {
+                    return Ok(None);
+                }
+                // A stream whose waits can't be limited would hold up a stop, and is dropped.
+                if limit(&stream).is_ok() {
+                    return Ok(Some(stream));
+                }
+            }
+            Err(fault) if is_over(&fault) => {}
+            Err(fault) if is_lasting(&fault) => return Err(fault),
+            Err(_) => rt.sleep(Duration::from_millis(PAUSE_MILLIS)),
+        }
+    }
+    Ok(None)
+}
+
+/// A listener on a port of this machine as a door. It tells nothing. It begins to listen as it is
+/// first asked, so a door that nobody asks has no clients. It gives none where the stop file stands
+/// as it begins to wait, as it waits, or as a connection has come, which is then dropped. Where the
+/// listener could not be made, it fails. A door that gave none, has failed, or gave its 100,000th
+/// connection listens no more, so that clients are refused.
 #[derive(Drop)]
 pub struct HostDoor<'a, R> {
     rt: &'a R,
     alloc: Global,
+    /// The port, before it listens.
+    port: Option<u16>,
     pub(crate) listener: Option<TcpListener>,
+    given: usize,
     faults: u64,
 }
 
-impl<'a, R: Files + Net<Listener = TcpListener, Stream = TcpStream>> HostDoor<'a, R> {
-    /// Listens on 127.0.0.1 at the port.
+impl<'a, R: Files + rt::Clock + Net<Listener = TcpListener, Stream = TcpStream>> HostDoor<'a, R> {
+    /// A door on 127.0.0.1 at the port.
     pub fn new(rt: &'a R, alloc: Global, port: u16) -> Self
+        ensures port { result.port ≡ Some port }
         ensures links { ⟦<HostDoor<'a, R> as Door>⟧.links result ≡ None }
         ensures faults { ⟦<HostDoor<'a, R> as Door>⟧.faults result ≡ 0 }
     {
         HostDoor {
             rt,
             alloc,
-            listener: TcpListener::bind(rt, (Ipv4Addr::LOCALHOST, port)).ok(),
+            port: Some(port),
+            listener: None,
+            given: 0,
             faults: 0,
         }
     }
 
-    // The next connection; none where the stop file stands before the wait or after it.
-    fn accepted(&self) -> io::Result<Option<HostLink>> {
-        if fs::exists(self.rt, STOP_FILE)? {
+    // Begins to listen, where it has not yet.
+    pub(crate) fn listen(&mut self) -> io::Result<()>
+        ensures { self.new.faults ≡ self.old.faults }
+    {
+        if let Some(port) = self.port.take() {
+            let listener = TcpListener::bind(self.rt, (Ipv4Addr::LOCALHOST, port))?;
+            self.listener = Some(limited(listener)?);
+        }
+        Ok(())
+    }
+
+    // The next connection; none where the stop file stands before the wait, in it or after it.
+    fn accepted(&mut self) -> io::Result<Option<HostLink<'a, R>>>
+        ensures faults { self.new.faults ≡ self.old.faults }
+        ensures open { IfOk result (λ next. IfSome next (λ link. link.finished ≡ false)) }
+    {
+        if is_stopped(self.rt)? {
             return Ok(None);
         }
+        self.listen()?;
         let Some(listener) = &self.listener else {
             return Err(io::Error::from(ErrorKind::NotConnected));
         };
-        let (stream, _) = listener.accept()?;
-        if fs::exists(self.rt, STOP_FILE)? {
+        let Some(stream) = accept(self.rt, listener)? else {
             return Ok(None);
-        }
-        // What is handed over is not to wait for more; a stream that can't be told so serves all the same.
+        };
+        // What is handed over is not to wait for more; a stream that can't be told so serves all
+        // the same.
         let _ = stream.set_nodelay(true);
-        Ok(Some(HostLink::new(self.alloc, stream)))
+        Ok(Some(HostLink::new(self.rt, self.alloc, stream)))
+    }
+
+    // Counts a connection, and listens no more where it is the last.
+    fn count(&mut self)
+        ensures { self.new.faults ≡ self.old.faults }
+    {
+        self.given = self.given.saturating_add(1);
+        if self.given >= MOST_LINKS {
+            self.listener = None;
+        }
     }
 }
 
-impl<'a, R: Files + Net<Listener = TcpListener, Stream = TcpStream>> Door for HostDoor<'a, R> {
-    type L = HostLink;
+impl<'a, R: Files + rt::Clock + Net<Listener = TcpListener, Stream = TcpStream>> Door
+    for HostDoor<'a, R> {
+    type L = HostLink<'a, R>;
 
     ghost links = { λ _. None };
 
     ghost faults = { λ d. d.faults };
 
-    fn next(&mut self) -> Result<Option<HostLink>, Failed> {
+    fn next(&mut self) -> Result<Option<HostLink<'a, R>>, Failed> {
         match self.accepted() {
-            Ok(next) => Ok(next),
+            Ok(Some(link)) => {
+                self.count();
+                Ok(Some(link))
+            }
+            Ok(None) => {
+                self.listener = None;
+                Ok(None)
+            }
             Err(_) => {
+                self.listener = None;
                 self.faults = self.faults.saturating_add(1);
                 Err(Failed)
             }

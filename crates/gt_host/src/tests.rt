@@ -1,9 +1,16 @@
+ghost use Rattle.std.specs.Prelude.{◌≡◌, ◌<◌, length, true};
+ghost use Rattle.gt_io.specs.Ports.{IsOpen};
+
 use super::*;
 use crate::clock::minute_at;
-use gt_io::{Clock, Door, Failed, Link, ReadFault, find_all, read_all, send_all, write_all};
+use gt_io::{
+    Clock, Door, Failed, Got, Link, PortEvent, Ports, ReadFault, Took, find_all, read_all,
+    send_all, write_all,
+};
 use std::io::{Read, Write};
-use std::net::{Ipv4Addr, TcpStream};
+use std::net::{Ipv4Addr, Net, TcpStream};
 use std::process::Abort;
+use std::rt::{self, Files};
 use std::test::Fail;
 use std::time::SystemTime;
 use std::{fs, io};
@@ -83,7 +90,11 @@ fn port_of<R>(door: &HostDoor<'_, R>) -> io::Result<u16> {
 }
 
 /// Serves a client over a link.
-fn serve(rt: &impl Abort, mut client: TcpStream, mut link: HostLink) -> Result<(), Fail> {
+fn serve<R: Files + rt::Clock>(
+    rt: &impl Abort,
+    mut client: TcpStream,
+    mut link: HostLink<'_, R>,
+) -> Result<(), Fail> {
     client.write(b"ask")?;
     let mut buf = [0u8; 8];
     assert_eq!(rt; link.read(&mut buf), Ok(3));
@@ -104,20 +115,133 @@ fn serve(rt: &impl Abort, mut client: TcpStream, mut link: HostLink) -> Result<(
     Ok(())
 }
 
+/// Whether a link is open.
+fn is_open<'a, R: Files + rt::Clock + Net>(ports: &HostPorts<'a, R>, link: u32) -> bool
+    ensures { result ≡ true
+        → IsOpen (⟦<HostPorts<'a, R> as Ports>⟧.harbour ports.now) link }
+{
+    let n = link as usize;
+    if n == 0 || n > ports.ports.len() {
+        return false;
+    }
+    ports.ports[n - 1].finished.is_none()
+}
+
+/// How many bytes of a link come next, none at its end.
+fn hear<R: Files + rt::Clock + Net>(
+    ports: &mut HostPorts<'_, R>,
+    link: u32,
+    buf: &mut [u8],
+) -> Result<usize, Fail>
+    requires { 0 < length buf.old }
+{
+    for _ in 0..1000 {
+        if !is_open(ports, link) {
+            return Err("not open".into());
+        }
+        match ports.read(link, buf)? {
+            Got::Bytes(n) => return Ok(n),
+            Got::Finished => return Ok(0),
+            Got::NotYet => {
+                if ports.answer()? == PortEvent::Stop {
+                    return Err("stopped".into());
+                }
+            }
+        }
+    }
+    Err("nothing came".into())
+}
+
+/// Tells a link something, and lets it go where it is told the last.
+fn tell<R: Files + rt::Clock + Net>(
+    ports: &mut HostPorts<'_, R>,
+    link: u32,
+    piece: &[u8],
+    last: bool,
+) -> Result<Took, Fail>
+    requires { 0 < length piece.now }
+{
+    if !is_open(ports, link) {
+        return Err("not open".into());
+    }
+    let took = ports.write(link, piece)?;
+    if last && is_open(ports, link) {
+        ports.finish(link);
+    }
+    Ok(took)
+}
+
+/// Serves two clients side by side, of which one ends.
+fn serve_both<R: Files + rt::Clock + Net>(
+    rt: &impl Abort,
+    ports: &mut HostPorts<'_, R>,
+    mut one: TcpStream,
+    mut two: TcpStream,
+) -> Result<(), Fail> {
+    let mut buf = [0u8; 8];
+    for _ in 0..1000 {
+        if ports.ports.len() == 2 {
+            break;
+        }
+        ports.answer()?;
+    }
+    one.write(b"ask")?;
+    assert_eq!(rt; hear(ports, 1, &mut buf)?, 3);
+    assert_eq!(rt; &buf[..3], b"ask".as_slice());
+    assert_eq!(rt; tell(ports, 1, b"y", false)?, Took::Bytes(1));
+    assert_eq!(rt; tell(ports, 1, b"es", false)?, Took::Bytes(2));
+    two.write(b"more")?;
+    assert_eq!(rt; hear(ports, 2, &mut buf)?, 4);
+    one.write(b"so")?;
+    assert_eq!(rt; hear(ports, 1, &mut buf)?, 2);
+    assert_eq!(rt; one.read(&mut buf)?, 3);
+    assert_eq!(rt; &buf[..3], b"yes".as_slice());
+    drop(one);
+    assert_eq!(rt; hear(ports, 1, &mut buf)?, 0);
+    assert_eq!(rt; tell(ports, 2, b"no", true)?, Took::Bytes(2));
+    assert_eq!(rt; two.read(&mut buf)?, 2);
+    assert_eq!(rt; &buf[..2], b"no".as_slice());
+    assert_eq!(rt; two.read(&mut buf)?, 0);
+    Ok(())
+}
+
+/// The port that ports listen on.
+fn port_of_ports<R: Files + rt::Clock + Net>(ports: &mut HostPorts<'_, R>) -> io::Result<u16> {
+    ports.lookout.listen()?;
+    match &ports.lookout.listener {
+        Some(listener) => Ok(listener.local_addr()?.port()),
+        None => Err(io::Error::from(io::ErrorKind::NotConnected)),
+    }
+}
+
 #[test]
-fn a_door_gives_connections_until_its_file_stands(rt: HostRuntime) -> Result<(), Fail> {
+fn clients_are_served_until_the_stop_file_stands(rt: HostRuntime) -> Result<(), Fail> {
     let mut door = HostDoor::new(&rt, rt.alloc(), 0);
+    door.listen()?;
     let port = port_of(&door)?;
     let client = TcpStream::connect(&rt, (Ipv4Addr::LOCALHOST, port))?;
     let link = door.next()?.ok_or("no connection")?;
     serve(&rt, client, link)?;
+    let _silent = TcpStream::connect(&rt, (Ipv4Addr::LOCALHOST, port))?;
+    let mut waiting = door.next()?.ok_or("no connection")?;
     let mut second = HostDoor::new(&rt, rt.alloc(), port);
     assert!(rt; matches!(second.next(), Err(Failed)));
+    let mut ports = HostPorts::new(&rt, rt.alloc(), 0);
+    let many = port_of_ports(&mut ports)?;
+    let one = TcpStream::connect(&rt, (Ipv4Addr::LOCALHOST, many))?;
+    let two = TcpStream::connect(&rt, (Ipv4Addr::LOCALHOST, many))?;
+    serve_both(&rt, &mut ports, one, two)?;
     fs::write(&rt, "gtrbacd.stop", "")?;
+    let end = waiting.read(&mut [0u8; 8]);
     let first_closed = matches!(door.next(), Ok(None));
     let second_closed = matches!(second.next(), Ok(None));
+    let stopped = ports.answer();
     fs::remove_file(&rt, "gtrbacd.stop")?;
+    assert_eq!(rt; end, Ok(0));
     assert!(rt; first_closed && second_closed);
+    assert_eq!(rt; stopped, Ok(PortEvent::Stop));
+    assert!(rt; TcpStream::connect(&rt, (Ipv4Addr::LOCALHOST, port)).is_err());
+    assert!(rt; TcpStream::connect(&rt, (Ipv4Addr::LOCALHOST, many)).is_err());
     Ok(())
 }
 

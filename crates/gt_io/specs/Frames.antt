@@ -7,7 +7,8 @@ use Rattle.gt_io.specs.declared.framer.Framed.TheVariants.{More, Whole, Long}
 abbrev pub longest_line : ℕ
 longest_line = 512
 
--- the number of the line's bytes, kept up to 513; the first 512 of them; whether its line feed has come
+-- the number of the line's bytes, kept up to 513; the first 512 of them; whether its line feed has
+-- come
 pub record Frame : Type 0 where
   pub number : ℕ
   pub bytes : List ℕ
@@ -22,15 +23,22 @@ begun f = if f.ended then blank_frame else f
 
 -- one more byte of the line
 abbrev pub longer : Frame → ℕ → Frame
-longer f b = record { number = min (f.number + 1) 513; bytes = take longest_line (f.bytes ++ b ∷ []); ended = false }
+longer f b =
+    record {
+      number = min (f.number + 1) 513;
+      bytes = take longest_line (f.bytes ++ b ∷ []);
+      ended = false;
+    }
 
 abbrev pub pushed : Frame → ℕ → Frame
 pushed f b = if b == 10 then record (begun f) { ended = true } else longer (begun f) b
 
 -- what the framer answers to a byte
 abbrev pub framed : Frame → ℕ → Framed
-framed f b = if b == 10 then (if nat_le (begun f).number longest_line then Whole else Long) else More
+framed f b =
+    if b == 10 then (if nat_le (begun f).number longest_line then Whole else Long) else More
 
 -- the frame of a line that has these bytes so far
 abbrev pub frame_of : List ℕ → Frame
-frame_of line = record { number = min (length line) 513; bytes = take longest_line line; ended = false }
+frame_of line =
+    record { number = min (length line) 513; bytes = take longest_line line; ended = false }

@@ -1,14 +1,16 @@
 -- What links, doors and clocks tell of what is to come, what they took and what they gave.
-use Rattle.std.specs.Prelude.{◌≡◌, ℕ, ◌+◌, ⊤, List, [], ◌∷◌, Some, None, IfSome}
+use Rattle.std.specs.Prelude.{◌≡◌, ℕ, ◌+◌, Bool, false, ⊤, List, [], ◌∷◌, Some, None, IfSome}
 use Rattle.std.specs.declared.option.Option.{Option}
 
--- the bytes that a link has left, and those that were taken from it and given to it, where it tells; and how often a read and a write failed
+-- the bytes that a link has left, and those that were taken from it and given to it, where it
+-- tells; how often a read and a write failed; and whether it was let go
 pub record Traffic : Type 0 where
   pub left : Option (List ℕ)
   pub taken : Option (List ℕ)
   pub given : Option (List ℕ)
   pub read_faults : ℕ
   pub write_faults : ℕ
+  pub finished : Bool
 
 -- nothing was read, and nothing was written
 pub record ReadsNothing (a b : Traffic) : Type 0 where
@@ -24,9 +26,9 @@ pub record WritesNothing (a b : Traffic) : Type 0 where
 abbrev pub IsNothing : Option (List ℕ) → Type 0
 IsNothing told = IfSome told (λ xs. xs ≡ [])
 
--- nothing was taken from a link, and nothing was given to it
+-- nothing was taken from a link, nothing was given to it, and it was not let go
 abbrev pub IsFresh : Traffic → Type 0
-IsFresh t = IsNothing t.taken × IsNothing t.given
+IsFresh t = IsNothing t.taken × IsNothing t.given × (t.finished ≡ false)
 
 -- the first of those to come is given, where they are told
 abbrev pub GivesFirst : {A : Type 0} → Option (List A) → Option (List A) → A → Type 0

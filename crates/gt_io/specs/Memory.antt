@@ -3,7 +3,8 @@ use Rattle.std.specs.Prelude.{◌≡◌, ◌==◌, ◌⊎◌, ◌↔◌, ◌+◌
 use Rattle.std.specs.List.{list_any}
 use Rattle.std.specs.declared.result.Result.{Result}
 
--- calls numbered from 1: the numbers of those that fail, how many were made, and how many have failed
+-- calls numbered from 1: the numbers of those that fail, how many were made, and how many have
+-- failed
 pub record Numbered : Type 0 where
   pub failing : List ℕ
   pub made : ℕ
@@ -35,13 +36,21 @@ pub record Supply : Type 0 where
   pub calls : Numbered
 
 abbrev pub supply_of : List ℕ → ℕ → List ℕ → Supply
-supply_of bytes piece failing = record { taken = []; left = bytes; piece = piece; calls = none_made failing }
+supply_of bytes piece failing =
+    record { taken = []; left = bytes; piece = piece; calls = none_made failing }
 
--- a read fails where its number is listed, and gives a piece otherwise, or what is left or what the buffer holds where that is less
+-- a read fails where its number is listed, and gives a piece otherwise, or what is left or what the
+-- buffer holds where that is less
 pub record GivesPiece {E : Type 0} (o p : Supply) (room : ℕ) (result : Result ℕ E) : Type 0 where
   pub listed : IsErr result ↔ IsTrue (fails_next o.calls)
   pub gives : MatchResult result
-      (λ n. (n ≡ min (length o.left) (min room o.piece)) × (p ≡ record o { taken = o.taken ++ take n o.left; left = drop n o.left; calls = answered o.calls }))
+      (λ n. (n ≡ min (length o.left) (min room o.piece))
+      × (p
+      ≡ record o {
+        taken = o.taken ++ take n o.left;
+        left = drop n o.left;
+        calls = answered o.calls;
+      }))
       (λ _. p ≡ record o { calls = refused o.calls })
 
 -- bytes that were written, how many there may be in all, and the most that one call takes
@@ -52,14 +61,18 @@ pub record Store : Type 0 where
   pub calls : Numbered
 
 abbrev pub store_of : ℕ → ℕ → List ℕ → Store
-store_of room piece failing = record { written = []; room = room; piece = piece; calls = none_made failing }
+store_of room piece failing =
+    record { written = []; room = room; piece = piece; calls = none_made failing }
 
 abbrev pub space : Store → ℕ
 space s = s.room - length s.written
 
--- a write fails where its number is listed and where no room is left, and takes a piece otherwise, or the text or the room where that is less
-pub record TakesPiece {E : Type 0} (o p : Store) (text : List ℕ) (result : Result ℕ E) : Type 0 where
+-- a write fails where its number is listed and where no room is left, and takes a piece otherwise,
+-- or the text or the room where that is less
+pub record TakesPiece {E : Type 0} (o p : Store) (text : List ℕ) (result : Result ℕ E)
+    : Type 0 where
   pub listed : IsErr result ↔ (IsTrue (fails_next o.calls) ⊎ (space o ≡ 0))
   pub takes : MatchResult result
-      (λ n. (n ≡ min (length text) (min o.piece (space o))) × (p ≡ record o { written = o.written ++ take n text; calls = answered o.calls }))
+      (λ n. (n ≡ min (length text) (min o.piece (space o)))
+      × (p ≡ record o { written = o.written ++ take n text; calls = answered o.calls }))
       (λ _. p ≡ record o { calls = refused o.calls })

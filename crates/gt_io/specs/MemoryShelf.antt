@@ -9,7 +9,8 @@ use Rattle.gt_io.specs.declared.memory_shelf.MemFile.{MemFile}
 -- the text of the first file of this name
 abbrev pub text_of : List MemFile → List ℕ → Option (List ℕ)
 text_of [] name = None
-text_of (file ∷ files) name = if bytes_eq file.name.items name then Some file.bytes.items else text_of files name
+text_of (file ∷ files) name =
+    if bytes_eq file.name.items name then Some file.bytes.items else text_of files name
 
 -- the bytes of the file at a place, none where there is no such file
 abbrev pub bytes_at : List MemFile → ℕ → List ℕ
@@ -17,36 +18,51 @@ bytes_at [] i = []
 bytes_at (file ∷ files) zero = file.bytes.items
 bytes_at (file ∷ files) (suc i) = bytes_at files i
 
--- texts by their names, the one that was found last, as far as it was read, and how often a call failed that was listed; the calls are numbered together
+-- texts by their names, the one that was found last, as far as it was read, and how often a call
+-- failed that was listed; the calls are numbered together
 pub record Texts : Type 0 where
   pub files : List MemFile
   pub text : Supply
   pub hard_faults : ℕ
 
 abbrev pub texts_of : List MemFile → ℕ → List ℕ → Texts
-texts_of files piece failing = record { files = files; text = supply_of [] piece failing; hard_faults = 0 }
+texts_of files piece failing =
+    record { files = files; text = supply_of [] piece failing; hard_faults = 0 }
 
--- after a call that has not failed yet, after a listed one, after a name that no file has, and after one that was found
+-- after a call that has not failed yet, after a listed one, after a name that no file has, and
+-- after one that was found
 abbrev pub begun : Texts → Texts
 begun t = record t { text = record (t.text) { calls = answered t.text.calls } }
 
 abbrev pub broken : Texts → Texts
-broken t = record t { text = record (t.text) { calls = refused t.text.calls }; hard_faults = one_more t.hard_faults }
+broken t =
+    record t {
+      text = record (t.text) { calls = refused t.text.calls };
+      hard_faults = one_more t.hard_faults;
+    }
 
 abbrev pub unfound : Texts → Texts
 unfound t = record t { text = record (t.text) { calls = refused t.text.calls } }
 
 abbrev pub opened : Texts → List ℕ → Texts
-opened t bytes = record t { text = record { taken = []; left = bytes; piece = t.text.piece; calls = answered t.text.calls } }
+opened t bytes =
+    record t {
+      text = record
+          { taken = []; left = bytes; piece = t.text.piece; calls = answered t.text.calls };
+    }
 
 -- a search fails where its number is listed, else where no file has the name
-pub record FindsText {T E : Type 0} (o p : Texts) (name : List ℕ) (result : Result T E) : Type 0 where
+pub record FindsText {T E : Type 0} (o p : Texts) (name : List ℕ) (result : Result T E)
+    : Type 0 where
   pub listed : fails_next o.text.calls ≡ true → IsErr result × (p ≡ broken o)
-  pub missing : fails_next o.text.calls ≡ false → text_of o.files name ≡ None → IsErr result × (p ≡ unfound o)
-  pub found : fails_next o.text.calls ≡ false → IfSome (text_of o.files name) (λ bytes. IsOk result × (p ≡ opened o bytes))
+  pub missing : fails_next o.text.calls ≡ false → text_of o.files name ≡ None
+      → IsErr result × (p ≡ unfound o)
+  pub found : fails_next o.text.calls ≡ false
+      → IfSome (text_of o.files name) (λ bytes. IsOk result × (p ≡ opened o bytes))
 
 -- a read goes on where the text was left
 pub record ReadsText {E : Type 0} (o p : Texts) (room : ℕ) (result : Result ℕ E) : Type 0 where
   pub gives : GivesPiece o.text p.text room result
   pub files_are : p.files ≡ o.files
-  pub hard_faults_are : p.hard_faults ≡ (if fails_next o.text.calls then one_more o.hard_faults else o.hard_faults)
+  pub hard_faults_are : p.hard_faults
+      ≡ (if fails_next o.text.calls then one_more o.hard_faults else o.hard_faults)

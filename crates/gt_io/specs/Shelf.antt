@@ -14,13 +14,15 @@ Contents = Option (List ℕ → Option (List ℕ))
 abbrev pub Lacks : Contents → List ℕ → Type 0
 Lacks contents name = IsSomeAnd contents (λ text_of. text_of name ≡ None)
 
--- why a text was not found: the shelf failed, which its count of hard faults shows, or it tells that it has none
+-- why a text was not found: the shelf failed, which its count of hard faults shows, or it tells
+-- that it has none
 abbrev pub IsNotFound : Contents → List ℕ → ℕ → ℕ → Type 0
 IsNotFound contents name before now = Rose before now ⊎ (Lacks contents name × (now ≡ before))
 
 -- a search by name raises the count of hard faults where the shelf failed, and only there
 abbrev pub HasFindCause : {T E : Type 0} → Contents → List ℕ → ℕ → ℕ → Result T E → Type 0
-HasFindCause contents name before now result = MatchResult result (λ _. now ≡ before) (λ _. IsNotFound contents name before now)
+HasFindCause contents name before now result =
+    MatchResult result (λ _. now ≡ before) (λ _. IsNotFound contents name before now)
 
 abbrev pub TextFaultCause : Contents → List ℕ → ℕ → ℕ → ReadFault → Type 0
 TextFaultCause contents name before now Memory = now ≡ before
@@ -29,4 +31,5 @@ TextFaultCause contents name before now TooLong = now ≡ before
 
 -- the same of a text that was to be found and read whole
 abbrev pub HasTextCause : {T : Type 0} → Contents → List ℕ → ℕ → ℕ → Result T ReadFault → Type 0
-HasTextCause contents name before now result = MatchResult result (λ _. now ≡ before) (TextFaultCause contents name before now)
+HasTextCause contents name before now result =
+    MatchResult result (λ _. now ≡ before) (TextFaultCause contents name before now)

@@ -5,8 +5,8 @@ ghost use Rattle.gt_io.specs.Memory.{none_made, one_more, fails_next, answered, 
 use gt_base::List;
 use std::marker::Model;
 
-/// Calls numbered from 1, of which those of a list fail. They are seen as the numbers of those that fail, how many were made and how many
-/// have failed.
+/// Calls numbered from 1, of which those of a list fail. They are seen as the numbers of those that
+/// fail, how many were made and how many have failed.
 #[derive(Drop)]
 pub struct Calls {
     failing: List<u64>,

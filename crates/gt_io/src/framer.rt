@@ -18,8 +18,9 @@ pub enum Framed {
     Long,
 }
 
-/// Takes the bytes of a connection one by one and keeps the line that it is in, up to 512 bytes. It is seen as the number of the line's bytes,
-/// kept up to 513, the first 512 of them, and whether its line feed has come.
+/// Takes the bytes of a connection one by one and keeps the line that it is in, up to 512 bytes. It
+/// is seen as the number of the line's bytes, kept up to 513, the first 512 of them, and whether
+/// its line feed has come.
 #[derive(Drop)]
 pub struct Framer {
     line: [u8; 512],
@@ -39,7 +40,8 @@ impl Model for Framer {
     ghost invariant = { λ f. f.number ≤ 513 };
 }
 
-// Puts a byte behind the first `number` ones, where there is room, and answers how many there are now, up to 513.
+// Puts a byte behind the first `number` ones, where there is room, and answers how many there are
+// now, up to 513.
 fn put(line: &mut [u8], number: usize, b: u8) -> usize
     requires number { number ≤ 513 }
     requires room { length line.old ≡ 512 }

@@ -1,17 +1,19 @@
 //! Connections, where they come from, and what a worker asks the outside between two requests.
-ghost use Rattle.std.specs.Prelude.{◌≡◌, ◌<◌, ◌≤◌, ℕ, List, [], ◌∷◌, length, IfOk, IfSome, OnOk, OnErr, MatchResult, MatchOption};
+ghost use Rattle.std.specs.Prelude.{◌≡◌, ◌<◌, ◌≤◌, ℕ, true, List, [], ◌∷◌, length, IfOk, IfSome, OnOk, OnErr, MatchResult, MatchOption};
 ghost use Rattle.std.specs.declared.option.Option.{Option};
 ghost use Rattle.std.specs.Io.{ReadsAtMost};
 ghost use Rattle.std.specs.Io.KnownBytes.{ReadConsumes, WriteAppends, Appends};
-ghost use Rattle.gt_io.specs.Causes.{HasCause, AppendsPart};
+ghost use Rattle.gt_io.specs.Causes.{HasCause, RisesOnce, AppendsPart};
 ghost use Rattle.gt_io.specs.Links.{Traffic, ReadsNothing, WritesNothing, IsFresh, GivesFirst, GivesNone, Reads};
 
 use crate::source::Failed;
 use gt_base::Instant;
 
-/// A connection. It has two counts, of the reads and of the writes that failed; each call raises its own where it fails, and nothing else does.
+/// A connection. It has two counts, of the reads and of the writes that failed; each call raises
+/// its own by one where it fails, and nothing else does. `finish`, and no other call, lets it go.
 pub trait Link {
-    /// What went over it and what is left, where it tells, and how often it failed.
+    /// What went over it and what is left, where it tells, how often it failed, and whether it was
+    /// let go.
     ghost traffic: { Self → Traffic };
 
     /// Reads some bytes; none exactly at the end.
@@ -21,7 +23,9 @@ pub trait Link {
         ensures bytes { ReadConsumes (traffic self.old).left (traffic self.new).left result buf.new }
         ensures taken { WriteAppends (traffic self.old).taken (traffic self.new).taken result buf.new }
         ensures cause { HasCause (traffic self.old).read_faults (traffic self.new).read_faults result }
-        ensures writes { WritesNothing (traffic self.old) (traffic self.new) };
+        ensures once { RisesOnce (traffic self.old).read_faults (traffic self.new).read_faults result }
+        ensures writes { WritesNothing (traffic self.old) (traffic self.new) }
+        ensures held { (traffic self.new).finished ≡ (traffic self.old).finished };
 
     /// Writes some of the piece, at least a byte.
     fn write(&mut self, piece: &[u8]) -> Result<usize, Failed>
@@ -29,12 +33,15 @@ pub trait Link {
         ensures bound { IfOk result (λ n. (0 < n) × (n ≤ length piece.now)) }
         ensures bytes { WriteAppends (traffic self.old).given (traffic self.new).given result piece.now }
         ensures cause { HasCause (traffic self.old).write_faults (traffic self.new).write_faults result }
-        ensures reads { ReadsNothing (traffic self.old) (traffic self.new) };
+        ensures once { RisesOnce (traffic self.old).write_faults (traffic self.new).write_faults result }
+        ensures reads { ReadsNothing (traffic self.old) (traffic self.new) }
+        ensures held { (traffic self.new).finished ≡ (traffic self.old).finished };
 
     /// Lets the connection go.
     fn finish(&mut self)
         ensures reads { ReadsNothing (traffic self.old) (traffic self.new) }
-        ensures writes { WritesNothing (traffic self.old) (traffic self.new) };
+        ensures writes { WritesNothing (traffic self.old) (traffic self.new) }
+        ensures finished { (traffic self.new).finished ≡ true };
 }
 
 /// Writes the whole text to a link, or up to the first failure.
@@ -42,7 +49,9 @@ pub fn send_all<L: Link>(link: &mut L, text: &[u8]) -> Result<(), Failed>
     ensures all { OnOk result (Appends (L.traffic link.old).given (L.traffic link.new).given text.now) }
     ensures part { OnErr result (AppendsPart (L.traffic link.old).given (L.traffic link.new).given text.now) }
     ensures cause { HasCause (L.traffic link.old).write_faults (L.traffic link.new).write_faults result }
+    ensures once { RisesOnce (L.traffic link.old).write_faults (L.traffic link.new).write_faults result }
     ensures reads { ReadsNothing (L.traffic link.old) (L.traffic link.new) }
+    ensures held { (L.traffic link.new).finished ≡ (L.traffic link.old).finished }
 {
     let mut rest = text;
     while !rest.is_empty() {
@@ -63,9 +72,13 @@ pub trait Door {
     /// How often it has failed.
     ghost faults: { Self → ℕ };
 
-    /// The next link, from which nothing was read and to which nothing was written; none where there is none to come.
+    /// The next link, from which nothing was read and to which nothing was written; none where
+    /// there is none to come.
     fn next(&mut self) -> Result<Option<Self::L>, Failed>
-        ensures links { MatchResult result (λ next. MatchOption next (GivesNone (links self.old) (links self.new)) (λ link. GivesFirst (links self.old) (links self.new) link)) (λ _. links self.new ≡ links self.old) }
+        ensures links { MatchResult result
+            (λ next. MatchOption next (GivesNone (links self.old) (links self.new))
+            (λ link. GivesFirst (links self.old) (links self.new) link))
+            (λ _. links self.new ≡ links self.old) }
         ensures fresh { IfOk result (λ next. IfSome next (λ link. IsFresh (Self.L.traffic link))) }
         ensures cause { HasCause (faults self.old) (faults self.new) result };
 }

@@ -28,7 +28,8 @@ pub(crate) fn give(bytes: &[u8], at: usize, buf: &mut [u8], piece: usize) -> usi
     n
 }
 
-/// Bytes to read, of which one call gives a piece at most. It is seen as the bytes taken, those left, the piece and the calls.
+/// Bytes to read, of which one call gives a piece at most. It is seen as the bytes taken, those
+/// left, the piece and the calls.
 #[derive(Drop)]
 pub struct MemSource {
     bytes: List<u8>,
@@ -49,7 +50,8 @@ impl Model for MemSource {
 }
 
 impl MemSource {
-    /// Calls are numbered from 1, and those of `failing` fail. A piece is the most that one call gives.
+    /// Calls are numbered from 1, and those of `failing` fail. A piece is the most that one call
+    /// gives.
     pub fn new(bytes: List<u8>, piece: usize, failing: List<u64>) -> MemSource
         requires { 0 < piece }
         ensures { result ≡ supply_of bytes.items piece failing.items }
@@ -84,8 +86,8 @@ impl Source for MemSource {
     }
 }
 
-/// Takes what is written, a piece at most in one call, up to its room. A write where no room is left fails. It is seen as the bytes written, the
-/// room, the piece and the calls.
+/// Takes what is written, a piece at most in one call, up to its room. A write where no room is
+/// left fails. It is seen as the bytes written, the room, the piece and the calls.
 #[derive(Drop)]
 pub struct MemSink {
     taken: List<u8>,
@@ -106,7 +108,8 @@ impl Model for MemSink {
 }
 
 impl MemSink {
-    /// Takes its room at once. Calls are numbered from 1, and those of `failing` fail. A piece is the most that one call takes.
+    /// Takes its room at once. Calls are numbered from 1, and those of `failing` fail. A piece is
+    /// the most that one call takes.
     pub fn new(
         alloc: Global,
         room: usize,

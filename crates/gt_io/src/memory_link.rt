@@ -1,8 +1,8 @@
 //! Links, doors and clocks in memory.
-ghost use Rattle.std.specs.Prelude.{◌≡◌, ◌<◌, ◌≤◌, ◌+◌, ◌-◌, ◌↔◌, length, min, Some, IfOk, IfSome, IsErr, IsTrue, All, MatchResult, MatchOption, slice_index, if◌then◌else◌};
+ghost use Rattle.std.specs.Prelude.{◌≡◌, ◌<◌, ◌≤◌, ◌+◌, ◌-◌, ◌↔◌, true, false, length, min, Some, IfOk, IfSome, IsErr, IsTrue, All, MatchResult, MatchOption, slice_index, if◌then◌else◌};
 ghost use Rattle.std.specs.Io.{ReadsAtMost};
 ghost use Rattle.std.specs.Io.KnownBytes.{ReadConsumes, WriteAppends};
-ghost use Rattle.gt_io.specs.Causes.{HasCause};
+ghost use Rattle.gt_io.specs.Causes.{HasCause, RisesOnce};
 ghost use Rattle.gt_io.specs.Links.{IsFresh, GivesFirst, GivesNone, ReadsNothing, WritesNothing};
 ghost use Rattle.gt_io.specs.Memory.{supply_of, store_of, none_made, fails_next, answered, refused, GivesPiece, TakesPiece};
 
@@ -14,16 +14,18 @@ use gt_base::{Instant, List, Memory};
 use std::alloc::Global;
 use std::collections::VecDeque;
 
-/// A link whose bytes are given ahead: it is read as a source in memory is, and written as a sink is.
+/// A link whose bytes are given ahead: it is read as a source in memory is, and written as a sink
+/// is. It tells whether it was let go.
 #[derive(Drop)]
 pub struct MemLink {
     source: MemSource,
     sink: MemSink,
+    finished: bool,
 }
 
 impl MemLink {
-    /// Takes its room at once. A piece is the most that one call gives or takes. Reads and writes are numbered from 1 apart, and those of
-    /// `bad_reads` and of `bad_writes` fail.
+    /// Takes its room at once. A piece is the most that one call gives or takes. Reads and writes
+    /// are numbered from 1 apart, and those of `bad_reads` and of `bad_writes` fail.
     pub fn new(
         alloc: Global,
         bytes: List<u8>,
@@ -37,10 +39,12 @@ impl MemLink {
         requires writes { 0 < write_piece }
         ensures source { IfOk result (λ l. l.source ≡ supply_of bytes.items read_piece bad_reads.items) }
         ensures sink { IfOk result (λ l. l.sink ≡ store_of room write_piece bad_writes.items) }
+        ensures open { IfOk result (λ l. l.finished ≡ false) }
     {
         Ok(MemLink {
             source: MemSource::new(bytes, read_piece, bad_reads),
             sink: MemSink::new(alloc, room, write_piece, bad_writes)?,
+            finished: false,
         })
     }
 
@@ -50,10 +54,17 @@ impl MemLink {
     {
         self.sink.written()
     }
+
+    /// Whether it was let go.
+    pub fn finished(&self) -> bool
+        ensures { result ≡ self.now.finished }
+    {
+        self.finished
+    }
 }
 
 impl Link for MemLink {
-    ghost traffic = { λ l. record { left = Some l.source.left; taken = Some l.source.taken; given = Some l.sink.written; read_faults = l.source.calls.faults; write_faults = l.sink.calls.faults } };
+    ghost traffic = { λ l. record { left = Some l.source.left; taken = Some l.source.taken; given = Some l.sink.written; read_faults = l.source.calls.faults; write_faults = l.sink.calls.faults; finished = l.finished } };
 
     fn read(&mut self, buf: &mut [u8]) -> Result<usize, Failed>
         requires { 0 < length buf.old }
@@ -61,8 +72,11 @@ impl Link for MemLink {
         ensures bytes { ReadConsumes (Some self.old.source.left) (Some self.new.source.left) result buf.new }
         ensures taken { WriteAppends (Some self.old.source.taken) (Some self.new.source.taken) result buf.new }
         ensures cause { HasCause self.old.source.calls.faults self.new.source.calls.faults result }
-        ensures writes { WritesNothing (⟦<MemLink as Link>⟧.traffic self.old) (⟦<MemLink as Link>⟧.traffic self.new) }
+        ensures once { RisesOnce self.old.source.calls.faults self.new.source.calls.faults result }
+        ensures writes { WritesNothing (⟦<MemLink as Link>⟧.traffic self.old)
+            (⟦<MemLink as Link>⟧.traffic self.new) }
         ensures source { GivesPiece self.old.source self.new.source (length buf.old) result }
+        ensures held { self.new.finished ≡ self.old.finished }
         ensures sink { self.new.sink ≡ self.old.sink }
     {
         self.source.read(buf)
@@ -71,9 +85,13 @@ impl Link for MemLink {
     fn write(&mut self, piece: &[u8]) -> Result<usize, Failed>
         requires { 0 < length piece.now }
         ensures bound { IfOk result (λ n. (0 < n) × (n ≤ length piece.now)) }
-        ensures bytes { WriteAppends (Some self.old.sink.written) (Some self.new.sink.written) result piece.now }
+        ensures bytes { WriteAppends (Some self.old.sink.written) (Some self.new.sink.written) result
+            piece.now }
         ensures cause { HasCause self.old.sink.calls.faults self.new.sink.calls.faults result }
-        ensures reads { ReadsNothing (⟦<MemLink as Link>⟧.traffic self.old) (⟦<MemLink as Link>⟧.traffic self.new) }
+        ensures once { RisesOnce self.old.sink.calls.faults self.new.sink.calls.faults result }
+        ensures reads { ReadsNothing (⟦<MemLink as Link>⟧.traffic self.old)
+            (⟦<MemLink as Link>⟧.traffic self.new) }
+        ensures held { self.new.finished ≡ self.old.finished }
         ensures source { self.new.source ≡ self.old.source }
         ensures sink { TakesPiece self.old.sink self.new.sink piece.now result }
     {
@@ -81,10 +99,14 @@ impl Link for MemLink {
     }
 
     fn finish(&mut self)
-        ensures reads { ReadsNothing (⟦<MemLink as Link>⟧.traffic self.old) (⟦<MemLink as Link>⟧.traffic self.new) }
-        ensures writes { WritesNothing (⟦<MemLink as Link>⟧.traffic self.old) (⟦<MemLink as Link>⟧.traffic self.new) }
-        ensures same { self.new ≡ self.old }
-    {}
+        ensures reads { ReadsNothing (⟦<MemLink as Link>⟧.traffic self.old)
+            (⟦<MemLink as Link>⟧.traffic self.new) }
+        ensures writes { WritesNothing (⟦<MemLink as Link>⟧.traffic self.old)
+            (⟦<MemLink as Link>⟧.traffic self.new) }
+        ensures finished { self.new ≡ record self.old { finished = true } }
+    {
+        self.finished = true;
+    }
 }
 
 /// A door whose links are given ahead.
@@ -117,11 +139,18 @@ impl Door for MemDoor {
     ghost faults = { λ d. d.calls.faults };
 
     fn next(&mut self) -> Result<Option<MemLink>, Failed>
-        ensures links { MatchResult result (λ next. MatchOption next (GivesNone (Some self.old.links.items) (Some self.new.links.items)) (λ link. GivesFirst (Some self.old.links.items) (Some self.new.links.items) link)) (λ _. Some self.new.links.items ≡ Some self.old.links.items) }
+        ensures links { MatchResult result
+            (λ next. MatchOption next
+            (GivesNone (Some self.old.links.items) (Some self.new.links.items))
+            (λ link. GivesFirst (Some self.old.links.items) (Some self.new.links.items)
+            link))
+            (λ _. Some self.new.links.items ≡ Some self.old.links.items) }
         ensures fresh { IfOk result (λ next. IfSome next (λ link. IsFresh (⟦<MemLink as Link>⟧.traffic link))) }
         ensures cause { HasCause self.old.calls.faults self.new.calls.faults result }
         ensures listed { IsErr result ↔ IsTrue (fails_next self.old.calls) }
-        ensures calls { self.new.calls ≡ (if fails_next self.old.calls then refused self.old.calls else answered self.old.calls) }
+        ensures calls { self.new.calls
+            ≡ (if fails_next self.old.calls then refused self.old.calls else answered
+            self.old.calls) }
     {
         if self.calls.begin() {
             return Err(Failed);
@@ -142,7 +171,8 @@ impl MemClock {
     /// The readings are not empty.
     pub fn new(readings: List<Instant>) -> MemClock
         requires { 0 < length readings.items }
-        ensures { ⟦<MemClock as Clock>⟧.readings result ≡ Some (λ k. slice_index readings.items (min k (length readings.items - 1))) }
+        ensures { ⟦<MemClock as Clock>⟧.readings result
+            ≡ Some (λ k. slice_index readings.items (min k (length readings.items - 1))) }
     {
         MemClock { readings, at: 0 }
     }

@@ -45,8 +45,8 @@ fn bytes_of(files: &[MemFile], place: usize) -> &[u8]
     }
 }
 
-/// Texts in memory, which fail at the calls that they are told. It is seen as the files, the text that was found last, with the calls, and the
-/// number of hard faults.
+/// Texts in memory, which fail at the calls that they are told. It is seen as the files, the text
+/// that was found last, with the calls, and the number of hard faults.
 #[derive(Drop)]
 pub struct MemShelf {
     files: List<MemFile>,
@@ -69,8 +69,8 @@ impl Model for MemShelf {
 }
 
 impl MemShelf {
-    /// Calls are numbered from 1, `find` and `read` together, and those of `failing` fail. A piece is the most that one read gives. Where two
-    /// files have one name, the first is found.
+    /// Calls are numbered from 1, `find` and `read` together, and those of `failing` fail. A piece
+    /// is the most that one read gives. Where two files have one name, the first is found.
     #[tactic(auto, using(crate::proofs::Files::files))]
     pub fn new(files: List<MemFile>, piece: usize, failing: List<u64>) -> MemShelf
         requires { 0 < piece }
@@ -90,7 +90,8 @@ impl MemShelf {
     fn begin(&mut self) -> bool
         ensures listed { result ≡ fails_next self.old.text.calls }
         ensures made { self.new ≡ (if result then broken self.old else begun self.old) }
-        ensures later { (self.old.text.calls.faults ≤ self.new.text.calls.faults) × (self.old.hard_faults ≤ self.new.hard_faults) }
+        ensures later { (self.old.text.calls.faults ≤ self.new.text.calls.faults)
+            × (self.old.hard_faults ≤ self.new.hard_faults) }
     {
         if self.calls.begin() {
             self.hard_faults = self.hard_faults.saturating_add(1);
@@ -110,10 +111,13 @@ impl Shelf for MemShelf {
     ghost hard_faults = { λ s. s.hard_faults };
 
     fn find(&mut self, name: &str) -> Result<(), Failed>
-        ensures found { OnOk result (IsSome (text_of self.old.files name.now) × (Some self.new.text.left ≡ text_of self.old.files name.now)) }
+        ensures found { OnOk result
+            (IsSome (text_of self.old.files name.now)
+            × (Some self.new.text.left ≡ text_of self.old.files name.now)) }
         ensures same { self.new.files ≡ self.old.files }
         ensures cause { HasCause self.old.text.calls.faults self.new.text.calls.faults result }
-        ensures hard_cause { HasFindCause (Some (text_of self.old.files)) name.now self.old.hard_faults self.new.hard_faults result }
+        ensures hard_cause { HasFindCause (Some (text_of self.old.files)) name.now self.old.hard_faults
+            self.new.hard_faults result }
         ensures finds { FindsText self.old self.new name.now result }
     {
         if self.begin() {

@@ -8,7 +8,8 @@ ghost use Rattle.gt_io.specs.declared.source.ReadFault.TheVariants.{Memory, Fail
 
 use std::alloc::{AllocError, Global};
 
-/// The outside failed: a file is missing, or a read or a write went wrong. A call that answers it, and no other, raises the count of its object.
+/// The outside failed: a file is missing, or a read or a write went wrong. A call that answers it,
+/// and no other, raises the count of its object.
 #[derive(Clone, Copy, Debug, PartialEq, Eq)]
 pub struct Failed;
 

@@ -67,7 +67,9 @@ fn a_link_is_read_and_written_in_pieces(rt: HostRuntime) -> Result<(), Fail> {
     assert_eq!(rt; link.read(&mut buf), Ok(0));
     assert_eq!(rt; send_all(&mut link, b"ok"), Ok(()));
     assert_eq!(rt; send_all(&mut link, b"yes"), Err(Failed));
+    assert!(rt; !link.finished());
     link.finish();
+    assert!(rt; link.finished());
     assert_eq!(rt; link.given().as_slice(), b"okye".as_slice());
     Ok(())
 }

@@ -1,30 +1,33 @@
 -- What a run of the server tells of its status.
-use Rattle.std.proofs.Common.{◌≡◌, ◌⊎◌, ℕ, ◌<◌, ◌≤◌, Bool, true, false, List, length, Option, Some, None, inl, inr, refl, sym, ap, subst, ◌∙◌, arith}
-use Rattle.std.specs.Prelude.{◌==◌, if◌then◌else◌, Result, Ok, Err, IfSome, IsSomeAnd}
+use Rattle.std.proofs.Common.{◌≡◌, ◌⊎◌, ℕ, ◌<◌, ◌≤◌, Bool, true, false, List, [], length, Option, Some, None, inl, inr, refl, sym, ap, subst, ◌∙◌, arith}
+use Rattle.std.specs.Prelude.{◌==◌, if◌then◌else◌, Result, Ok, Err, IfOk, IfSome, IsSomeAnd}
 use Rattle.std.specs.List.{list_any}
 use Rattle.gt_base.specs.declared.requests.Entry.{Entry}
 use Rattle.gt_io.specs.Causes.{Rose}
 use Rattle.gt_io.specs.Links.{Traffic}
 use Rattle.gt_io.specs.Shelf.{Contents, Lacks}
 use Rattle.policy_words.specs.Naming.{NamedPolicy}
+use Rattle.policy_commands.specs.Admitting.{IsAdmitted}
+use Rattle.policy_commands.specs.declared.judging.Admitted.{Admitted}
+use Rattle.policy_commands.specs.declared.judging.Admitted.TheVariants.{Safe, Ended}
 use Rattle.policy_commands.specs.Ends.{Told}
 use Rattle.policy_commands.specs.Policies.{safe_in, HasFault, IsUnsafeText}
 use Rattle.gtrbac_daemon.specs.Ends.{max_policy, IsLongPolicy}
 use Rattle.gtrbac_daemon.specs.Words.{policy_named, Refuses, Admits, RefusesText}
-use Rattle.gtrbac_daemon.specs.Causes.{IsNamed, IfTold, IsMissing}
+use Rattle.gtrbac_daemon.specs.Causes.{IsNamed, IfTold, IsMissing, IsFailure}
 use Rattle.gtrbac_daemon.specs.Crew.{is_memory, is_door_fault, is_spent, status_of, ends_of, SomeOf, EachOf, HasFailed, IsSpent, IsDone, IsSound}
 use Rattle.gtrbac_daemon.specs.Headline.{HaveWorked}
 use Rattle.gtrbac_daemon.specs.Daemon.{Scene, or_failed, IsWritten, HasServed, Starves, Serves, IsKept, Answers, IsWell}
 use Rattle.gtrbac_daemon.proofs.CrewStatus.{apart, IsDue, due_is, due_not, zero_says, ten_says, eleven_says, well_says, done_all, failed_some, spent_some, sound_all, unharmed}
 
-status_in : (t u : Told) → t ≡ u → t.status ≡ u.status
+pub status_in : (t u : Told) → t ≡ u → t.status ≡ u.status
 status_in t u e = ap (λ (x : Told). x.status) e
 
 failed_by : (c : Bool) (due : ℕ) → (due == 8) ≡ c → (or_failed due ≡ 8) ⊎ (or_failed due ≡ 5)
 failed_by true due e = inl (ap (λ (b : Bool). if b then 8 else 5) e)
 failed_by false due e = inr (ap (λ (b : Bool). if b then 8 else 5) e)
 
-written_says : (due : ℕ) (text : List ℕ) (s : ℕ) (old new : Option (List ℕ)) (before now : ℕ) → IsWritten due text s old new before now → (s ≡ due) ⊎ ((s ≡ 5) × Rose before now) ⊎ (s ≡ 8)
+pub written_says : (due : ℕ) (text : List ℕ) (s : ℕ) (old new : Option (List ℕ)) (before now : ℕ) → IsWritten due text s old new before now → (s ≡ due) ⊎ ((s ≡ 5) × Rose before now) ⊎ (s ≡ 8)
 written_says due text s old new before now (inl h) = inl h.0
 written_says due text s old new before now (inr (inl h)) = elim (failed_by (due == 8) due refl) [ inl e ↦ inr (inr (h.0 ∙ e)) | inr e ↦ inr (inl (h.0 ∙ e, h.1)) ]
 written_says due text s old new before now (inr (inr h)) = inr (inr h.0)
@@ -232,3 +235,16 @@ module _ {L : Type 0} (traffic : L → Traffic) (words : List (List ℕ)) (hard 
 
   pub complete : Answers traffic words hard contents s a b → IsWell words hard contents a b → (s ≡ 0) ⊎ (s ≡ 8)
   complete answers w = elim answers.ends [ inl x ↦ serves_well x.0 w x.2 | inr (inl k) ↦ absurd (kept_not w k.told k.cause) | inr (inr x) ↦ inr x.0.0.0 ]
+
+-- who serves never ends with 4
+pub never_four : {L : Type 0} (traffic : L → Traffic) (np : NamedPolicy) (s : ℕ) (a b : Scene L) → Serves traffic np s a b → s ≡ 4 → ⊥
+never_four {L} traffic np s a b x is = elim (four_of traffic [] ⊥ None s a b (of_serving traffic [] ⊥ None s a b np x) is) [ inl e ↦ e | inr m ↦ m.2 ]
+
+-- nor is a text judged so
+judged_fine : (text : List ℕ) (holds : Type 0) (x : Admitted) → IsAdmitted text x → IsFailure holds x
+judged_fine text holds (Safe np) h = tt
+judged_fine text holds (Ended end) h = λ is. elim h.cause [ inl c ↦ absurd (apart end.status 2 4 refl c.0 is) | inr c ↦ absurd (apart end.status 3 4 refl c.0 is) ]
+
+pub admitted_fine : {E : Type 0} (text : List ℕ) (holds : Type 0) (r : Result Admitted E) → IfOk r (IsAdmitted text) → IfOk r (IsFailure holds)
+admitted_fine text holds (Ok x) h = judged_fine text holds x h
+admitted_fine text holds (Err e) h = tt

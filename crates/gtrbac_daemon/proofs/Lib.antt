@@ -5,3 +5,5 @@ pub mod Told
 pub mod Posted
 pub mod Found
 pub mod Served
+pub mod Polled
+pub mod Telling

@@ -11,7 +11,7 @@ use Rattle.policy_words.specs.Naming.{NamedPolicy}
 use Rattle.connection_laws.specs.Connection.{IsTimed}
 use Rattle.line_server.specs.declared.posts.Post.{Post}
 use Rattle.line_server.specs.declared.workers.Worker.{Worker}
-use Rattle.line_server.specs.Turns.{IsIdle}
+use Rattle.connection_laws.specs.Turns.{IsIdle}
 use Rattle.line_server.specs.Working.{Works, HasWorked as HasWorkedAt}
 use Rattle.gtrbac_daemon.specs.Crew.{Crewman, crewman, crewmen, IsNew}
 use Rattle.gtrbac_daemon.specs.PostLists.{passes_of, workers_of}

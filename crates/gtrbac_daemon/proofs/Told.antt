@@ -8,11 +8,11 @@ use Rattle.turn_lock.specs.Holders.{Holder, IsTold}
 use Rattle.locked_history.specs.Fronts.{by}
 use Rattle.policy_words.specs.Naming.{NamedPolicy}
 use Rattle.connection_laws.specs.Connection.{part_of, IsTimed}
-use Rattle.connection_laws.proofs.Places.{part_of-append, part_of-part, all_mine}
+use Rattle.connection_laws.proofs.Places.{part_of-append, part_of-part, all_mine, none_mine}
 use Rattle.line_server.specs.declared.ended.Served.{Served}
 use Rattle.line_server.specs.Working.{Tale, begun_of, hours_of, owns_of, Gives, Spot, Works, AreServed as AreServedAt}
 use Rattle.line_server.proofs.Completing.{complete_by}
-use Rattle.line_server.proofs.Links.{none_mine, served_longer}
+use Rattle.line_server.proofs.Links.{served_longer}
 use Rattle.line_server.proofs.Crew.{links_add_up}
 use Rattle.gtrbac_daemon.specs.Crew.{Crewman}
 use Rattle.gtrbac_daemon.specs.Headline.{AddUp, AreServed, parts_from, HasWorked}
@@ -54,6 +54,7 @@ module _ {L : Type 0} (traffic : L → Traffic) (np : NamedPolicy) (legal : List
             given_is = i.given_is;
             bounded = i.bounded;
             cause = i.cause;
+            finished = i.finished;
             complete = complete_by np birth (by w c) h 0 x.taken x.readings x.own x.given x.acted s.report.outcome (traffic x.begun) (traffic s.link) x.draws (i.conn birth timed) i.cause;
           },
           links_told (c + 1) ss xs all.1 (λ k far. same k (omega (arith, far)) ∙ part_of-append (by w k) x.own (owns_of xs)

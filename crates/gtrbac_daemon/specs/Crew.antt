@@ -8,8 +8,8 @@ use Rattle.line_server.specs.declared.ended.WorkEnd.{WorkEnd}
 use Rattle.line_server.specs.declared.ended.WorkEnd.TheVariants.{Fresh, Done, DoorFault, Enough, Worn, Memory}
 use Rattle.line_server.specs.declared.workers.Worker.{Worker}
 
--- a worker as it is seen: the readings of its clock and the links of its door that are to come, where they are told, how often its door
--- failed, its served links, and how it ended
+-- a worker as it is seen: the readings of its clock and the links of its door that are to come,
+-- where they are told, how often its door failed, its served links, and how it ended
 pub record Crewman (L : Type 0) : Type 0 where
   pub clock : Option (ℕ → ℕ)
   pub door : Option (List L)
@@ -17,9 +17,17 @@ pub record Crewman (L : Type 0) : Type 0 where
   pub served : List (Served L)
   pub outcome : WorkEnd
 
-module _ {D C G L : Type 0} (readings : C → Option (ℕ → ℕ)) (links : D → Option (List L)) (faults : D → ℕ) where
+module _ {D C G L : Type 0} (readings : C → Option (ℕ → ℕ)) (links : D → Option (List L))
+    (faults : D → ℕ) where
   abbrev pub crewman : Worker D C G L → Crewman L
-  crewman w = record { clock = readings w.clock; door = links w.door; faults = faults w.door; served = w.served.items; outcome = w.outcome }
+  crewman w =
+      record {
+        clock = readings w.clock;
+        door = links w.door;
+        faults = faults w.door;
+        served = w.served.items;
+        outcome = w.outcome;
+      }
 
   abbrev pub crewmen : List (Worker D C G L) → List (Crewman L)
   crewmen ws = map crewman ws
@@ -42,7 +50,8 @@ is_spent Enough = true
 is_spent (Worn n) = true
 is_spent _ = false
 
--- the status by whether a worker lacked memory, whether a door failed, and whether a worker is spent
+-- the status by whether a worker lacked memory, whether a door failed, and whether a worker is
+-- spent
 abbrev pub status_by : Bool → Bool → Bool → ℕ
 status_by true failed spent = 8
 status_by false true spent = 10
@@ -50,23 +59,28 @@ status_by false false true = 11
 status_by false false false = 0
 
 abbrev pub status_of : List WorkEnd → ℕ
-status_of ends = status_by (list_any is_memory ends) (list_any is_door_fault ends) (list_any is_spent ends)
+status_of ends =
+    status_by (list_any is_memory ends) (list_any is_door_fault ends) (list_any is_spent ends)
 
 -- the same of the workers themselves
 abbrev pub status_among : {D C G L : Type 0} → List (Worker D C G L) → ℕ
-status_among ws = status_by (list_any (λ w. is_memory w.outcome) ws) (list_any (λ w. is_door_fault w.outcome) ws) (list_any (λ w. is_spent w.outcome) ws)
+status_among ws =
+    status_by (list_any (λ w. is_memory w.outcome) ws) (list_any (λ w. is_door_fault w.outcome) ws)
+    (list_any (λ w. is_spent w.outcome) ws)
 
 module _ {L : Type 0} where
   abbrev pub ends_of : List (Crewman L) → List WorkEnd
   ends_of crew = map (λ (k : Crewman L). k.outcome) crew
 
   -- of some worker, before and after
-  abbrev pub SomeOf : (Crewman L → Crewman L → Type 0) → List (Crewman L) → List (Crewman L) → Type 0
+  abbrev pub SomeOf : (Crewman L → Crewman L → Type 0) → List (Crewman L) → List (Crewman L)
+      → Type 0
   SomeOf P (j ∷ js) (k ∷ ks) = P j k ⊎ SomeOf P js ks
   SomeOf P _ _ = ⊥
 
   -- of each worker, before and after
-  abbrev pub EachOf : (Crewman L → Crewman L → Type 0) → List (Crewman L) → List (Crewman L) → Type 0
+  abbrev pub EachOf : (Crewman L → Crewman L → Type 0) → List (Crewman L) → List (Crewman L)
+      → Type 0
   EachOf P [] [] = Unit {0}
   EachOf P (j ∷ js) (k ∷ ks) = P j k × EachOf P js ks
   EachOf P _ _ = ⊥

@@ -6,7 +6,7 @@ use Rattle.gt_io.specs.Causes.{Rose, AppendsPart}
 use Rattle.policy_commands.specs.Ends.{Told, told}
 
 abbrev pub usage : Told
-usage = told 1 (codes "usage: gtrbacd POLICY\n")
+usage = told 1 (codes "usage: gtrbacd POLICY | views POLICY | poll POLICY\n")
 
 abbrev pub read_fault : Told
 read_fault = told 4 (codes "read fault\n")
@@ -20,10 +20,12 @@ max_policy = 4_194_304
 abbrev pub IsLongPolicy : List ℕ → Type 0
 IsLongPolicy text = max_policy < length text
 
--- the end was printed whole by an output that failed nowhere; or the output failed, and a proper front of the text was written
+-- the end was printed whole by an output that failed nowhere; or the output failed, and a proper
+-- front of the text was written
 abbrev pub IsPrinted : ℕ → Told → Option (List ℕ) → Option (List ℕ) → ℕ → ℕ → Type 0
 IsPrinted status end old new before now =
-    ((status ≡ end.status) × Appends old new end.text × (now ≡ before)) ⊎ ((status ≡ 5) × Rose before now × AppendsPart old new end.text)
+    ((status ≡ end.status) × Appends old new end.text × (now ≡ before))
+    ⊎ ((status ≡ 5) × Rose before now × AppendsPart old new end.text)
 
 -- for want of memory nothing was written
 abbrev pub WantsMemory : ℕ → Option (List ℕ) → Option (List ℕ) → ℕ → ℕ → Type 0

@@ -1,5 +1,5 @@
 -- What a crew leaves: one history with one model, and each link's part of it.
-use Rattle.std.specs.Prelude.{◌≡◌, ℕ, ◌+◌, ◌*◌, ◌≤◌, ⊤, List, [], ◌∷◌, ◌++◌, length, Option, Some, None}
+use Rattle.std.specs.Prelude.{◌≡◌, ℕ, ◌+◌, ◌*◌, ◌≤◌, true, ⊤, List, [], ◌∷◌, ◌++◌, length, Option, Some, None}
 use Rattle.std.specs.Io.KnownBytes.{Appends, Consumes}
 use Rattle.gt_base.specs.Bounds.{max_steps, last_minute}
 use Rattle.gt_base.specs.declared.requests.Entry.{Entry}
@@ -23,9 +23,11 @@ abbrev pub AddUp : {L : Type 0} → Option (List L) → Option (List L) → List
 AddUp (Some had) (Some left) served = length served + length left ≡ length had
 AddUp _ _ served = ⊤
 
-module _ {L : Type 0} (traffic : L → Traffic) (np : NamedPolicy) (birth : ℕ) (h : List Entry) (w : ℕ) where
-  -- Link c of worker w was served as this is told: it came as the door had it, what was taken and what is left are its bytes, and it
-  -- satisfies the definition of a connection over the whole history, with its part of it as its own entries
+module _ {L : Type 0} (traffic : L → Traffic) (np : NamedPolicy) (birth : ℕ) (h : List Entry)
+    (w : ℕ) where
+  -- Link c of worker w was served as this is told: it came as the door had it, what was taken and
+  -- what is left are its bytes, and it satisfies the definition of a connection over the whole
+  -- history, with its part of it as its own entries. It was let go
   pub record IsServed (c : ℕ) (s : Served L) (x : Tale L) : Type 0 where
     pub fresh : IsFresh (traffic x.begun)
     pub own : x.own ≡ part_of (by w c) h
@@ -37,7 +39,9 @@ module _ {L : Type 0} (traffic : L → Traffic) (np : NamedPolicy) (birth : ℕ)
     pub given_is : Appends (traffic x.begun).given (traffic s.link).given x.given
     pub bounded : length x.taken ≤ most_bytes
     pub cause : EndsBy (traffic x.begun) (traffic s.link) x.draws x.taken s.report.outcome
-    pub complete : IsUnhindered (traffic x.begun) (traffic s.link) x.draws x.taken → IsComplete np h x.taken x.acted s.report.outcome
+    pub finished : (traffic s.link).finished ≡ true
+    pub complete : IsUnhindered (traffic x.begun) (traffic s.link) x.taken s.report.outcome
+        → IsComplete np h x.taken x.acted s.report.outcome
 
   -- the links from number c on
   abbrev pub AreServed : ℕ → List (Served L) → List (Tale L) → Type 0
@@ -50,8 +54,9 @@ module _ {L : Type 0} (traffic : L → Traffic) (np : NamedPolicy) (birth : ℕ)
   parts_from c [] = []
   parts_from c (s ∷ ss) = part_of (by w c) h ++ parts_from (c + 1) ss
 
-  -- Worker w: its served links are the first of its door, the readings of its clock are theirs one after the other, and so is its part of
-  -- the history, so that no other connection of it has an entry
+  -- Worker w: its served links are the first of its door, the readings of its clock are theirs one
+  -- after the other, and so is its part of the history, so that no other connection of it has an
+  -- entry
   pub record HasWorked (a b : Crewman L) : Type 0 where
     pub tales : List (Tale L)
     pub links : AreServed 1 b.served tales
@@ -64,14 +69,18 @@ module _ {L : Type 0} (traffic : L → Traffic) (np : NamedPolicy) (birth : ℕ)
     pub cause : WorksTo b.door a.faults b.faults draws b.served b.outcome
 
 -- the workers from number w on
-abbrev pub HaveWorked : {L : Type 0} → (L → Traffic) → NamedPolicy → ℕ → List Entry → ℕ → List (Crewman L) → List (Crewman L) → Type 0
+abbrev pub HaveWorked : {L : Type 0} → (L → Traffic) → NamedPolicy → ℕ → List Entry → ℕ
+    → List (Crewman L) → List (Crewman L) → Type 0
 HaveWorked traffic np birth h w [] [] = Unit {0}
-HaveWorked traffic np birth h w (a ∷ as') (b ∷ bs) = HasWorked traffic np birth h w a b × HaveWorked traffic np birth h (w + 1) as' bs
+HaveWorked traffic np birth h w (a ∷ as') (b ∷ bs) =
+    HasWorked traffic np birth h w a b × HaveWorked traffic np birth h (w + 1) as' bs
 HaveWorked traffic np birth h w _ _ = ⊥
 
--- Of a safe policy, which has one model for each birth and each list of moves: a history that one thread could have made, legal in the full
--- sense with a model that every other one agrees with, and all that a crew served is told over it
-pub record Headline {L : Type 0} (traffic : L → Traffic) (np : NamedPolicy) (birth : ℕ) (crew crew' : List (Crewman L)) (h : List Entry) : Type 0 where
+-- Of a safe policy, which has one model for each birth and each list of moves: a history that one
+-- thread could have made, legal in the full sense with a model that every other one agrees with,
+-- and all that a crew served is told over it
+pub record Headline {L : Type 0} (traffic : L → Traffic) (np : NamedPolicy) (birth : ℕ)
+    (crew crew' : List (Crewman L)) (h : List Entry) : Type 0 where
   pub safe : IsSafe np.policy.triggers
   pub one : HasOneModel np.policy
   pub minute : birth ≤ last_minute

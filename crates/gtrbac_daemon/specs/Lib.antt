@@ -5,3 +5,4 @@ pub mod Crew
 pub mod PostLists
 pub mod Headline
 pub mod Daemon
+pub mod Polls

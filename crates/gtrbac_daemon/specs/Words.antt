@@ -1,5 +1,5 @@
 -- What the words of the server say, and what keeps it from serving.
-use Rattle.std.specs.Prelude.{◌≡◌, ◌⊎◌, ◌≤◌, ℕ, true, false, List, [], ◌∷◌, length, Option, Some, None, Result, Ok, Err, IfSome, IsSomeAnd}
+use Rattle.std.specs.Prelude.{◌≡◌, ◌⊎◌, ◌≤◌, ℕ, Bool, true, false, List, [], ◌∷◌, length, Option, Some, None, Result, Ok, Err, IfSome, IsSomeAnd, codes, bytes_eq}
 use Rattle.gt_io.specs.Shelf.{Contents, Lacks}
 use Rattle.gt_text.specs.Words.{begins_with}
 use Rattle.policy_words.specs.Naming.{NamedPolicy}
@@ -7,12 +7,30 @@ use Rattle.policy_commands.specs.declared.judging.Admitted.{Admitted}
 use Rattle.policy_commands.specs.declared.judging.Admitted.TheVariants.{Safe, Ended}
 use Rattle.policy_commands.specs.Ends.{Told, seen_end}
 use Rattle.policy_commands.specs.Policies.{safe_in, HasFault, IsUnsafeText}
+use Rattle.gtrbac_daemon.specs.declared.words.Mode.{Mode}
+use Rattle.gtrbac_daemon.specs.declared.words.Mode.TheVariants.{Plain, Views, Poll}
 use Rattle.gtrbac_daemon.specs.Ends.{usage, read_fault, too_long, max_policy, IsLongPolicy}
 
 -- the words are one, the name of a policy, which does not begin with `-`
 abbrev pub policy_named : List (List ℕ) → Option (List ℕ)
 policy_named (name ∷ []) = elim (begins_with 45 name) [ true ↦ None | false ↦ Some name ]
 policy_named _ = None
+
+-- the words are `poll` and the name of a policy, which does not begin with `-`
+abbrev pub poll_named : List (List ℕ) → Option (List ℕ)
+poll_named (verb ∷ name ∷ []) = elim (bytes_eq verb (codes "poll")) [ true ↦ policy_named (name ∷ []) | false ↦ None ]
+poll_named _ = None
+
+-- how the program serves: the mode of two words of which the first names one, else the plain one
+abbrev pub mode_by : Bool → Bool → Mode
+mode_by true poll = Views
+mode_by false true = Poll
+mode_by false false = Plain
+
+abbrev pub mode_named : List (List ℕ) → Mode
+mode_named (verb ∷ name ∷ []) =
+    mode_by (bytes_eq verb (codes "views")) (bytes_eq verb (codes "poll"))
+mode_named _ = Plain
 
 -- the text of the name, where the shelf tells it, which is not too long
 pub record IsPolicyText (contents : Contents) (name text : List ℕ) : Type 0 where
@@ -38,7 +56,8 @@ Refuses hard contents (Some name) t = RefusesText hard contents name t
 
 -- the text of the name is of a safe policy
 abbrev pub AdmitsText : Contents → List ℕ → NamedPolicy → Type 0
-AdmitsText contents name np = (text : List ℕ) × IsPolicyText contents name text × (safe_in text ≡ Ok np)
+AdmitsText contents name np =
+    (text : List ℕ) × IsPolicyText contents name text × (safe_in text ≡ Ok np)
 
 abbrev pub Admits : Contents → Option (List ℕ) → NamedPolicy → Type 0
 Admits contents None np = ⊥
@@ -48,3 +67,12 @@ Admits contents (Some name) np = AdmitsText contents name np
 abbrev pub IsFound : Type 0 → Contents → List ℕ → Admitted → Type 0
 IsFound hard contents name (Safe np) = AdmitsText contents name np
 IsFound hard contents name (Ended end) = RefusesText hard contents name (seen_end end)
+
+-- where the shelf tells its texts, it has one of the name that is said, and this holds of it
+abbrev pub HasText : Option (List ℕ) → Contents → (List ℕ → Type 0) → Type 0
+HasText name contents Holds =
+    IfSome contents (λ text_of. IsSomeAnd name (λ n. IsSomeAnd (text_of n) Holds))
+
+-- the shelf tells that it has no text of the name that is said
+abbrev pub LacksText : Option (List ℕ) → Contents → Type 0
+LacksText name contents = IsSomeAnd name (λ n. Lacks contents n)

@@ -2,6 +2,7 @@
 ghost use Rattle.std.specs.Prelude.{◌≡◌, IfOk};
 ghost use Rattle.gt_io.specs.Causes.{Rose};
 ghost use Rattle.policy_commands.specs.Ends.{seen_end, told};
+ghost use Rattle.gtrbac_daemon.specs.Causes.{IsFailure};
 ghost use Rattle.gtrbac_daemon.specs.Words.{IsFound};
 
 use gt_base::{List, Memory};
@@ -28,7 +29,10 @@ pub(crate) fn find_policy<S: Shelf>(
     name: &str,
     shelf: &mut S,
 ) -> Result<Admitted, Memory>
-    ensures found { IfOk result (IsFound (Rose (S.hard_faults shelf.old) (S.hard_faults shelf.new)) (S.contents shelf.old) name.now) }
+    ensures found { IfOk result
+        (IsFound (Rose (S.hard_faults shelf.old) (S.hard_faults shelf.new))
+        (S.contents shelf.old) name.now) }
+    ensures failed { IfOk result (IsFailure (Rose (S.faults shelf.old) (S.faults shelf.new))) }
     ensures same { S.contents shelf.new ≡ S.contents shelf.old }
 {
     match find_all(alloc, shelf, name, MAX_POLICY) {

@@ -1,12 +1,16 @@
-//! The server: a crew of workers over the history of one policy, from the words of the program to the log.
+//! The server: a crew of workers over the history of one policy, from the words of the program to
+//! the log.
 #![tactic(auto)]
 
 mod crews;
 mod finding;
+mod poll;
 mod printing;
 mod serving;
 mod statuses;
 mod top;
 mod words;
 
+pub use poll::daemon_poll;
 pub use top::daemon;
+pub use words::{Mode, mode_of};

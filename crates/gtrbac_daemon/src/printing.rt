@@ -6,9 +6,13 @@ ghost use Rattle.gtrbac_daemon.specs.Daemon.{or_failed, IsWritten};
 
 use gt_io::{Sink, write_all};
 
+/// What is printed where the words are no command.
+pub(crate) const USAGE: &[u8] = b"usage: gtrbacd POLICY | views POLICY | poll POLICY\n";
+
 /// Prints a text; an output that fails has status 5.
 pub(crate) fn print<K: Sink>(out: &mut K, status: u8, text: &[u8]) -> u8
-    ensures { IsPrinted result (told status text.now) (K.written out.old) (K.written out.new) (K.faults out.old) (K.faults out.new) }
+    ensures { IsPrinted result (told status text.now) (K.written out.old) (K.written out.new)
+        (K.faults out.old) (K.faults out.new) }
 {
     match write_all(out, text) {
         Ok(()) => status,
@@ -25,7 +29,8 @@ fn failed_at(due: u8) -> u8
 
 /// Writes the text at whose end this status is due.
 pub(crate) fn write_due<K: Sink>(out: &mut K, due: u8, text: &[u8]) -> u8
-    ensures { IsWritten due text.now result (K.written out.old) (K.written out.new) (K.faults out.old) (K.faults out.new) }
+    ensures { IsWritten due text.now result (K.written out.old) (K.written out.new) (K.faults out.old)
+        (K.faults out.new) }
 {
     match write_all(out, text) {
         Ok(()) => due,

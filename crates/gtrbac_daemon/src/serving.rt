@@ -21,7 +21,8 @@ use std::sync::Wait;
 use std::thread::Threads;
 use turn_lock::Passes;
 
-/// Lets the crew work at a desk, each worker with one of its passes and at one of the posts, and closes it.
+/// Lets the crew work at a desk, each worker with one of its passes and at one of the posts, and
+/// closes it.
 fn work_and_close<R: Threads + Wait + Sync, D: Door + Send, C: Clock + Send, G: Gate + Send>(
     rt: &R,
     alloc: Global,
@@ -41,7 +42,9 @@ where
     requires posts { (posts.items ≡ []) × (length crew.old.items ≤ vec_capacity posts) }
     requires fresh { All (λ w. IsNew w) crew.old.items }
     ensures root { SameRoot desk.root result }
-    ensures worked { HaveWorked D.L.traffic desk.root.named desk.root.birth result.entries 0 (crewmen C.readings D.links D.faults crew.old.items) (crewmen C.readings D.links D.faults crew.new.items) }
+    ensures worked { HaveWorked D.L.traffic desk.root.named desk.root.birth result.entries 0
+        (crewmen C.readings D.links D.faults crew.old.items)
+        (crewmen C.readings D.links D.faults crew.new.items) }
     ensures others { (n : ℕ) → length crew.old.items ≤ n → part n result.entries ≡ [] }
 {
     man(&mut passes, crew, &mut posts);
@@ -50,8 +53,8 @@ where
     desk.close(passes)
 }
 
-/// Lets a crew work at one desk over a ledger with an empty history, and closes the desk. The policy is the ledger's. An error is want of memory
-/// before anybody has worked.
+/// Lets a crew work at one desk over a ledger with an empty history, and closes the desk. The
+/// policy is the ledger's. An error is want of memory before anybody has worked.
 fn serve_crew<R: Threads + Wait + Sync, D: Door + Send, C: Clock + Send, G: Gate + Send>(
     rt: &R,
     alloc: Global,
@@ -68,7 +71,10 @@ where
     requires fresh { All (λ w. IsNew w) crew.old.items }
     ensures err { OnErr result (crew.new ≡ crew.old) }
     ensures root { IfOk result (λ closed. SameRoot ledger closed) }
-    ensures worked { IfOk result (λ closed. HaveWorked D.L.traffic ledger.named ledger.birth closed.entries 0 (crewmen C.readings D.links D.faults crew.old.items) (crewmen C.readings D.links D.faults crew.new.items)) }
+    ensures worked { IfOk result
+        (λ closed. HaveWorked D.L.traffic ledger.named ledger.birth closed.entries 0
+        (crewmen C.readings D.links D.faults crew.old.items)
+        (crewmen C.readings D.links D.faults crew.new.items)) }
     ensures others { IfOk result (λ closed. (n : ℕ) → length crew.old.items ≤ n → part n closed.entries ≡ []) }
 {
     let Ok(posts) = Vec::with_capacity(alloc, crew.len()) else {
@@ -84,18 +90,18 @@ where
 }
 
 /// The ledger of a safe policy at its birth.
-fn open(alloc: Global, safe: Safe, birth: Instant) -> Result<Ledger, Memory>
+pub(crate) fn open(alloc: Global, safe: Safe, birth: Instant) -> Result<Ledger, Memory>
     ensures root { IfOk result (λ l. (l.named ≡ safe) × (l.birth ≡ birth) × (l.entries ≡ [])) }
     ensures served { IfOk result (λ l. CanBeServed l) }
 {
     match Book::new(alloc, safe, birth) {
-        Ok(book) => Ok(Ledger::new(book)),
+        Ok(book) => Ledger::new(alloc, book),
         Err(_) => Err(AllocError),
     }
 }
 
 /// What a ledger keeps.
-fn keeps(ledger: &Ledger)
+pub(crate) fn keeps(ledger: &Ledger)
     ensures book { IsBook ledger.now }
     ensures only { HasOnlyModel ledger.now }
 {
@@ -104,7 +110,8 @@ fn keeps(ledger: &Ledger)
     let _policy = book.policy();
 }
 
-/// Lets a crew serve a safe policy from its birth on. An error is want of memory before anybody has worked.
+/// Lets a crew serve a safe policy from its birth on. An error is want of memory before anybody has
+/// worked.
 pub(crate) fn serve_from<R: Threads + Wait + Sync, D: Door + Send, C: Clock + Send, G: Gate + Send>(
     rt: &R,
     alloc: Global,
@@ -118,7 +125,10 @@ where
     requires fresh { All (λ w. IsNew w) crew.old.items }
     ensures err { OnErr result (crew.new ≡ crew.old) }
     ensures root { IfOk result (λ closed. (closed.named ≡ safe) × (closed.birth ≡ birth)) }
-    ensures headline { IfOk result (λ closed. Headline D.L.traffic safe birth (crewmen C.readings D.links D.faults crew.old.items) (crewmen C.readings D.links D.faults crew.new.items) closed.entries) }
+    ensures headline { IfOk result
+        (λ closed. Headline D.L.traffic safe birth
+        (crewmen C.readings D.links D.faults crew.old.items)
+        (crewmen C.readings D.links D.faults crew.new.items) closed.entries) }
 {
     let Ok(policy) = safe.policy().copied() else {
         return Err(AllocError);

@@ -57,7 +57,8 @@ fn some_spent<D: Door, C: Clock, G: Gate>(crew: &[Worker<D, C, G>]) -> bool
     )
 }
 
-/// The status of a crew: 8 where a worker lacked memory, else 10 where a door failed, else 11 where a worker is spent, else 0.
+/// The status of a crew: 8 where a worker lacked memory, else 10 where a door failed, else 11 where
+/// a worker is spent, else 0.
 pub(crate) fn crew_status<D: Door, C: Clock, G: Gate>(crew: &[Worker<D, C, G>]) -> u8
     ensures { result ≡ status_among crew.now }
 {

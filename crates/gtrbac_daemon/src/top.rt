@@ -10,7 +10,7 @@ ghost use Rattle.gtrbac_daemon.specs.Crew.{IsNew, crewmen, HasFailed, IsSpent, I
 ghost use Rattle.gtrbac_daemon.specs.Daemon.{scene, IsWritten, Serves, Answers, IsWell};
 
 use crate::finding::find_policy;
-use crate::printing::{print, write_due};
+use crate::printing::{USAGE, print, write_due};
 use crate::serving::serve_from;
 use crate::statuses::crew_status;
 use crate::words::policy_word;
@@ -25,8 +25,9 @@ use std::sync::Wait;
 use std::thread::Threads;
 
 /// Writes the log of a ledger, at whose end this status is due.
-fn write_up<K: Sink>(alloc: Global, ledger: &Ledger, due: u8, out: &mut K) -> u8
-    ensures { IsWritten due (log_text ledger.now.named ledger.now.birth ledger.now.entries) result (K.written out.old) (K.written out.new) (K.faults out.old) (K.faults out.new) }
+pub(crate) fn write_up<K: Sink>(alloc: Global, ledger: &Ledger, due: u8, out: &mut K) -> u8
+    ensures { IsWritten due (log_text ledger.now.named ledger.now.birth ledger.now.entries) result
+        (K.written out.old) (K.written out.new) (K.faults out.old) (K.faults out.new) }
 {
     let book = ledger.book();
     match write_log(alloc, book.policy(), book.birth(), book.entries()) {
@@ -56,8 +57,10 @@ where
     requires size { (1 ≤ length crew.old.items) × (length crew.old.items ≤ 8) }
     requires fresh { All (λ w. IsNew w) crew.old.items }
     ensures { Serves D.L.traffic safe result
-        (scene (B.readings birth.old) (crewmen C.readings D.links D.faults crew.old.items) (K.written out.old) (K.faults out.old))
-        (scene (B.readings birth.new) (crewmen C.readings D.links D.faults crew.new.items) (K.written out.new) (K.faults out.new)) }
+        (scene (B.readings birth.old) (crewmen C.readings D.links D.faults crew.old.items)
+        (K.written out.old) (K.faults out.old))
+        (scene (B.readings birth.new) (crewmen C.readings D.links D.faults crew.new.items)
+        (K.written out.new) (K.faults out.new)) }
 {
     let minute = birth.now();
     match serve_from(rt, alloc, safe, minute, crew) {
@@ -91,9 +94,14 @@ where
     D::L: Send,
     requires size { (1 ≤ length crew.old.items) × (length crew.old.items ≤ 8) }
     requires fresh { All (λ w. IsNew w) crew.old.items }
-    ensures answers { (words : List (List ℕ)) → policy_named words ≡ Some name.now → Answers D.L.traffic words (Rose (S.hard_faults shelf.old) (S.hard_faults shelf.new)) (S.contents shelf.old) result
-        (scene (B.readings birth.old) (crewmen C.readings D.links D.faults crew.old.items) (K.written out.old) (K.faults out.old))
-        (scene (B.readings birth.new) (crewmen C.readings D.links D.faults crew.new.items) (K.written out.new) (K.faults out.new)) }
+    ensures answers { (words : List (List ℕ)) → policy_named words ≡ Some name.now
+        → Answers D.L.traffic words (Rose (S.hard_faults shelf.old) (S.hard_faults shelf.new))
+        (S.contents shelf.old) result
+        (scene (B.readings birth.old) (crewmen C.readings D.links D.faults crew.old.items)
+        (K.written out.old) (K.faults out.old))
+        (scene (B.readings birth.new) (crewmen C.readings D.links D.faults crew.new.items)
+        (K.written out.new) (K.faults out.new)) }
+    ensures failed { result ≡ 4 → Rose (S.faults shelf.old) (S.faults shelf.new) }
     ensures same { S.contents shelf.new ≡ S.contents shelf.old }
 {
     match find_policy(alloc, name, shelf) {
@@ -127,22 +135,29 @@ where
     D::L: Send,
     requires size { (1 ≤ length crew.old.items) × (length crew.old.items ≤ 8) }
     requires fresh { All (λ w. IsNew w) crew.old.items }
-    ensures answers { Answers D.L.traffic (map string_bytes words.now) (Rose (S.hard_faults shelf.old) (S.hard_faults shelf.new)) (S.contents shelf.old) result
-        (scene (B.readings birth.old) (crewmen C.readings D.links D.faults crew.old.items) (K.written out.old) (K.faults out.old))
-        (scene (B.readings birth.new) (crewmen C.readings D.links D.faults crew.new.items) (K.written out.new) (K.faults out.new)) }
+    ensures answers { Answers D.L.traffic (map string_bytes words.now)
+        (Rose (S.hard_faults shelf.old) (S.hard_faults shelf.new)) (S.contents shelf.old) result
+        (scene (B.readings birth.old) (crewmen C.readings D.links D.faults crew.old.items)
+        (K.written out.old) (K.faults out.old))
+        (scene (B.readings birth.new) (crewmen C.readings D.links D.faults crew.new.items)
+        (K.written out.new) (K.faults out.new)) }
     ensures usage { policy_named (map string_bytes words.now) ≡ None → (result ≡ 1) ⊎ (result ≡ 5) }
-    ensures unread { policy_named (map string_bytes words.now) ≡ None → (shelf.new ≡ shelf.old) × (birth.new ≡ birth.old) × (crew.new ≡ crew.old) }
+    ensures unread { policy_named (map string_bytes words.now) ≡ None
+        → (shelf.new ≡ shelf.old) × (birth.new ≡ birth.old) × (crew.new ≡ crew.old) }
+    ensures failed { result ≡ 4 → Rose (S.faults shelf.old) (S.faults shelf.new) }
     ensures same { S.contents shelf.new ≡ S.contents shelf.old }
 {
     match policy_word(words) {
         Some(name) => serve_named(rt, alloc, name, shelf, birth, crew, out),
-        None => print(out, 1, b"usage: gtrbacd POLICY\n"),
+        None => print(out, 1, USAGE),
     }
 }
 
-/// Serves the policy that the words name, on the shelf, with a crew of 1 to 8 workers that have not begun, each with its door, its clock and
-/// its gate, until each worker has ended; worker w of the crew is worker w of the history, from 0. Its birth is the one reading of the clock
-/// `birth`. Then it writes the log of the history. The crew has what each worker served, and how it ended. It answers the exit status:
+/// Serves the policy that the words name, on the shelf, with a crew of 1 to 8 workers that have not
+/// begun, each with its door, its clock and its gate, until each worker has ended; worker w of the
+/// crew is worker w of the history, from 0. Its birth is the one reading of the clock `birth`. Then
+/// it writes the log of the history. The crew has what each worker served, and how it ended. It
+/// answers the exit status:
 ///
 /// - 0: the door of each worker has no link left, and the log is written;
 /// - 1: the words are no command, and the usage line was printed;
@@ -151,9 +166,11 @@ where
 /// - 4: the shelf failed, or has no such policy;
 /// - 5: the output failed, with a front of the text written;
 /// - 6: the policy has more than 4,194,304 bytes;
-/// - 8: there was no memory, for a worker, for the desk or for the log, of which a front was written;
+/// - 8: there was no memory, for a worker, for the desk or for the log, of which a front was
+///   written;
 /// - 10: the door of a worker failed, and the log is written;
-/// - 11: a worker has served 100,000 links, or its pass has drawn 2^40 turns, and the log is written.
+/// - 11: a worker has served 100,000 links, or its pass has drawn 2^40 turns, and the log is
+///   written.
 pub fn daemon<
     R: Threads + Wait + Sync,
     S: Shelf,
@@ -175,25 +192,41 @@ where
     D::L: Send,
     requires size { (1 ≤ length crew.old.items) × (length crew.old.items ≤ 8) }
     requires fresh { All (λ w. IsNew w) crew.old.items }
-    ensures answers { Answers D.L.traffic (map string_bytes words.now) (Rose (S.hard_faults shelf.old) (S.hard_faults shelf.new)) (S.contents shelf.old) result
-        (scene (B.readings birth.old) (crewmen C.readings D.links D.faults crew.old.items) (K.written out.old) (K.faults out.old))
-        (scene (B.readings birth.new) (crewmen C.readings D.links D.faults crew.new.items) (K.written out.new) (K.faults out.new)) }
+    ensures answers { Answers D.L.traffic (map string_bytes words.now)
+        (Rose (S.hard_faults shelf.old) (S.hard_faults shelf.new)) (S.contents shelf.old) result
+        (scene (B.readings birth.old) (crewmen C.readings D.links D.faults crew.old.items)
+        (K.written out.old) (K.faults out.old))
+        (scene (B.readings birth.new) (crewmen C.readings D.links D.faults crew.new.items)
+        (K.written out.new) (K.faults out.new)) }
     ensures usage { policy_named (map string_bytes words.now) ≡ None → (result ≡ 1) ⊎ (result ≡ 5) }
-    ensures unread { policy_named (map string_bytes words.now) ≡ None → (shelf.new ≡ shelf.old) × (birth.new ≡ birth.old) × (crew.new ≡ crew.old) }
+    ensures unread { policy_named (map string_bytes words.now) ≡ None
+        → (shelf.new ≡ shelf.old) × (birth.new ≡ birth.old) × (crew.new ≡ crew.old) }
     ensures used { result ≡ 1 → policy_named (map string_bytes words.now) ≡ None }
     ensures fault { result ≡ 2 → IfTold (map string_bytes words.now) (S.contents shelf.old) HasFault }
     ensures cycle { result ≡ 3 → IfTold (map string_bytes words.now) (S.contents shelf.old) IsUnsafeText }
-    ensures read_fault { result ≡ 4 → Rose (S.hard_faults shelf.old) (S.hard_faults shelf.new) ⊎ IsMissing (map string_bytes words.now) (S.contents shelf.old) }
+    ensures read_fault { result ≡ 4
+        → Rose (S.hard_faults shelf.old) (S.hard_faults shelf.new)
+        ⊎ IsMissing (map string_bytes words.now) (S.contents shelf.old) }
+    ensures failed { result ≡ 4 → Rose (S.faults shelf.old) (S.faults shelf.new) }
     ensures write_fault { result ≡ 5 → Rose (K.faults out.old) (K.faults out.new) }
     ensures long { result ≡ 6 → IfTold (map string_bytes words.now) (S.contents shelf.old) IsLongPolicy }
-    ensures done { result ≡ 0 → EachOf IsDone (crewmen C.readings D.links D.faults crew.old.items) (crewmen C.readings D.links D.faults crew.new.items) }
-    ensures door_fault { result ≡ 10 → SomeOf HasFailed (crewmen C.readings D.links D.faults crew.old.items) (crewmen C.readings D.links D.faults crew.new.items) }
-    ensures spent { result ≡ 11 → SomeOf IsSpent (crewmen C.readings D.links D.faults crew.old.items) (crewmen C.readings D.links D.faults crew.new.items)
-        × EachOf IsSound (crewmen C.readings D.links D.faults crew.old.items) (crewmen C.readings D.links D.faults crew.new.items) }
-    ensures complete { IsWell (map string_bytes words.now) (Rose (S.hard_faults shelf.old) (S.hard_faults shelf.new)) (S.contents shelf.old)
-        (scene (B.readings birth.old) (crewmen C.readings D.links D.faults crew.old.items) (K.written out.old) (K.faults out.old))
-        (scene (B.readings birth.new) (crewmen C.readings D.links D.faults crew.new.items) (K.written out.new) (K.faults out.new))
-        → (result ≡ 0) ⊎ (result ≡ 8) }
+    ensures done { result ≡ 0
+        → EachOf IsDone (crewmen C.readings D.links D.faults crew.old.items)
+        (crewmen C.readings D.links D.faults crew.new.items) }
+    ensures door_fault { result ≡ 10
+        → SomeOf HasFailed (crewmen C.readings D.links D.faults crew.old.items)
+        (crewmen C.readings D.links D.faults crew.new.items) }
+    ensures spent { result ≡ 11
+        → SomeOf IsSpent (crewmen C.readings D.links D.faults crew.old.items)
+        (crewmen C.readings D.links D.faults crew.new.items)
+        × EachOf IsSound (crewmen C.readings D.links D.faults crew.old.items)
+        (crewmen C.readings D.links D.faults crew.new.items) }
+    ensures complete { IsWell (map string_bytes words.now)
+        (Rose (S.hard_faults shelf.old) (S.hard_faults shelf.new)) (S.contents shelf.old)
+        (scene (B.readings birth.old) (crewmen C.readings D.links D.faults crew.old.items)
+        (K.written out.old) (K.faults out.old))
+        (scene (B.readings birth.new) (crewmen C.readings D.links D.faults crew.new.items)
+        (K.written out.new) (K.faults out.new)) → (result ≡ 0) ⊎ (result ≡ 8) }
     ensures same { S.contents shelf.new ≡ S.contents shelf.old }
 {
     serve_words(rt, alloc, words, shelf, birth, crew, out)

@@ -1,7 +1,7 @@
 //! The words of the program.
 ghost use Rattle.std.specs.Prelude.{◌≡◌, map, option_map, string_bytes};
 ghost use Rattle.gt_text.specs.Words.{begins_with};
-ghost use Rattle.gtrbac_daemon.specs.Words.{policy_named};
+ghost use Rattle.gtrbac_daemon.specs.Words.{policy_named, poll_named, mode_named};
 
 /// Whether a word begins with `-`.
 fn is_dashed(name: &str) -> bool
@@ -23,6 +23,54 @@ pub(crate) fn policy_word(words: &[String]) -> Option<&str>
                 None
             } else {
                 Some(name.as_str())
+            }
+        }
+        _ => None,
+    }
+}
+
+/// How the program serves a policy.
+#[derive(Clone, Copy, PartialEq, Eq, Debug)]
+pub enum Mode {
+    /// Workers that each serve one connection after the other.
+    Plain,
+    /// Workers, and viewers that answer what changes nothing.
+    Views,
+    /// One thread that serves many connections side by side.
+    Poll,
+}
+
+/// How the words say that the policy is served: with two words of which the first is `views` or
+/// `poll` as that says, else plainly. Whether they are a command at all is told by the call that
+/// serves.
+pub fn mode_of(words: &[String]) -> Mode
+    ensures { result ≡ mode_named (map string_bytes words.now) }
+{
+    match words {
+        [verb, _] => {
+            if verb.as_str() == "views" {
+                Mode::Views
+            } else if verb.as_str() == "poll" {
+                Mode::Poll
+            } else {
+                Mode::Plain
+            }
+        }
+        _ => Mode::Plain,
+    }
+}
+
+/// The name of the policy that is to be served over ports, none where the words say no such
+/// command.
+pub(crate) fn poll_word(words: &[String]) -> Option<&str>
+    ensures { option_map (λ name. name.now) result ≡ poll_named (map string_bytes words.now) }
+{
+    match words {
+        [verb, name] => {
+            if verb.as_str() == "poll" && !is_dashed(name.as_str()) {
+                Some(name.as_str())
+            } else {
+                None
             }
         }
         _ => None,

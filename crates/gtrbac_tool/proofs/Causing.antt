@@ -265,3 +265,16 @@ gen_no_command words g is = ap command_of is.words_are ∙ neither (begins_with 
     neither : (b : Bool) → elim b as (λ _. Option Command) [ true ↦ None | false ↦ None ] ≡ None
     neither true = refl
     neither false = refl
+
+-- over a text that was read a command ends with 4 by its input alone
+caused_four : (text : List ℕ) (input : Option (List ℕ)) (lost : Type 0) (s : ℕ) → IsCaused lost text input s → s ≡ 4 → lost
+caused_four text input lost s (inl h) is = absurd (cc (h.0, is))
+caused_four text input lost s (inr (inl h)) is = absurd (cc (h.0, is))
+caused_four text input lost s (inr (inr (inl h))) is = absurd (cc (h.0, is))
+caused_four text input lost s (inr (inr (inr (inl r)))) is = absurd ((run_other s r).3 is)
+caused_four text input lost s (inr (inr (inr (inr (inl h))))) is = h.1
+caused_four text input lost s (inr (inr (inr (inr (inr h))))) is = absurd (cc (h.0, is))
+
+pub failed_over : {E : Type 0} (text : List ℕ) (input : Option (List ℕ)) (shelf lost : Type 0) (r : Result End E) → IfOk r (λ e. IsCaused lost text input e.status) → IfOk r (λ e. e.status ≡ 4 → shelf ⊎ lost)
+failed_over text input shelf lost (Ok e) h = λ is. inr (caused_four text input lost e.status h is)
+failed_over text input shelf lost (Err f) h = tt

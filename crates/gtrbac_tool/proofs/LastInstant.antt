@@ -11,7 +11,7 @@ use Rattle.gt_base.specs.declared.requests.Entry.{Entry}
 use Rattle.gt_base.specs.declared.requests.Seen.TheVariants.{Absent}
 use Rattle.gtrbac_model.specs.Base.{status, base_at}
 use Rattle.gtrbac_model.specs.Conflict.{Status, after, seen}
-use Rattle.gtrbac_model.specs.History.{Legal, now_of}
+use Rattle.gtrbac_model.specs.History.{Legal, now_of, point_after}
 use Rattle.gtrbac_model.specs.Policy.{Policy}
 use Rattle.gtrbac_model.specs.Status.{Model, status_after}
 use Rattle.history_laws.specs.Pending.{NothingBetween}
@@ -135,6 +135,17 @@ later_there (d ∷ cs) low t c a e =
     let on : d.at < t = later_there cs d.at t c a.1 (sym (λ i. elim (apart i) [ true ↦ Some d | false ↦ closed_at cs t ]) ∙ e) in
     omega (arith, on, a.0))
 
+-- after the birth requests are answered from the set of now
+point_there : (p : Policy) (birth : ℕ) (m : Model) (h : List Entry) → birth < now_of birth h → (point_after p birth m h).set ≡ m (now_of birth h)
+point_there p birth m h lt = λ i. elim (lt-ltb birth (now_of birth h) lt i) [ true ↦ m (now_of birth h) | false ↦ nothing ]
+
+-- and from no set where that one is none
+point_nowhere : (p : Policy) (birth : ℕ) (m : Model) (h : List Entry) → m (now_of birth h) ≡ nothing → (point_after p birth m h).set ≡ nothing
+point_nowhere p birth m h none_so =
+    split (nat_lt birth (now_of birth h))
+    (λ later. (λ i. elim (later i) [ true ↦ m (now_of birth h) | false ↦ nothing ]) ∙ none_so)
+    (λ born. λ i. elim (born i) [ true ↦ m (now_of birth h) | false ↦ nothing ])
+
 -- of nothing nothing is seen
 absent : (e : Event) → seen nothing e ≡ Absent
 unfolding has none
@@ -149,9 +160,11 @@ module _ (p : Policy) (birth : ℕ) (h : List Entry) (trace : List ClosedSet) (l
       → text ≡ front ++ standing_line rules base before x named e (seen x e) → TellsWhy p birth h named e text
   tells_there c rules base x before bases ascends there rules_are base_is before_is x_is text_is =
       let base_so : base ≡ base_at p birth (model_of trace) h (now_of birth h) = base_is ∙ base_there p birth (model_of trace) h trace now c bases there ∙ ap (base_at p birth (model_of trace) h) now_is in
+      let later : birth < now = later_there trace birth now c ascends there in
       let before_so : before ≡ status p birth (model_of trace) (now_of birth h - 1) =
-      before_is ∙ sym (status_made p birth now trace (later_there trace birth now c ascends there) ascends) ∙ ap (λ t. status p birth (model_of trace) (t - 1)) now_is in
-      let x_so : x ≡ model_of trace (now_of birth h) = x_is ∙ sym (set_there trace now c there) ∙ ap (model_of trace) now_is in
+      before_is ∙ sym (status_made p birth now trace later ascends) ∙ ap (λ t. status p birth (model_of trace) (t - 1)) now_is in
+      let x_so : x ≡ (point_after p birth (model_of trace) h).set =
+      x_is ∙ sym (set_there trace now c there) ∙ ap (model_of trace) now_is ∙ sym (point_there p birth (model_of trace) h (omega (arith, later, now_is))) in
       record {
         model = model_of trace;
         legal = legal;
@@ -165,11 +178,12 @@ module _ (p : Policy) (birth : ℕ) (h : List Entry) (trace : List ClosedSet) (l
   tells_nowhere nowhere text_is =
       let t : ℕ = now_of birth h in
       let none_so : model_of trace t ≡ nothing = ap (model_of trace) (sym now_is) ∙ set_nowhere trace now nowhere in
-      let seen_so : seen (model_of trace t) e ≡ Absent = ap (λ x. seen x e) none_so ∙ absent e in
+      let x : HappenedView = (point_after p birth (model_of trace) h).set in
+      let seen_so : seen x e ≡ Absent = ap (λ y. seen y e) (point_nowhere p birth (model_of trace) h none_so) ∙ absent e in
       record {
         model = model_of trace;
         legal = legal;
         cert = cert;
         accepted = accepted;
-        text_is = text_is ∙ (λ i. front_is i ++ standing_line p.triggers (base_at p birth (model_of trace) h t) (status p birth (model_of trace) (t - 1)) (model_of trace t) named e (sym seen_so i));
+        text_is = text_is ∙ (λ i. front_is i ++ standing_line p.triggers (base_at p birth (model_of trace) h t) (status p birth (model_of trace) (t - 1)) x named e (sym seen_so i));
       }

@@ -3,6 +3,8 @@ pub mod ListingOrder
 pub mod ListingTrace
 pub mod OneHistory
 pub mod OneEnd
+pub mod OneAnswer
+pub mod Reasons
 pub mod OnePlay
 pub mod Asking
 pub mod Exactness

@@ -22,7 +22,7 @@ use Rattle.request_text.specs.declared.lines.Line.{Line}
 use Rattle.request_text.specs.declared.lines.Line.TheVariants.{Silent, At, Be, Ask}
 use Rattle.request_text.specs.declared.lines.LineFault.{LineFault}
 use Rattle.gtrbac_tool.specs.Told.{behind, script_fault, steps_full}
-use Rattle.gtrbac_tool.specs.Script.{Going, AreTicks, Moves, Plays, Stops, PlayedOut, StoppedAt, Run, Start, never, born, failed, start_of, EndsFrom, EndsIf, Ends, said, scripts_who, at_birth, max_script}
+use Rattle.gtrbac_tool.specs.Script.{Going, AreTicks, Moves, Plays, Stops, PlayedOut, StoppedAt, RunOver, Run, Start, never, born, failed, start_of, EndsFrom, EndsIf, Ends, said, scripts_who, at_birth, max_script}
 use Rattle.gtrbac_tool.specs.Meanings.{ComesTo, IsFaulty, IsFullAt, MeetsFault, MeetsFull, IsWhole, RunMeans}
 use Rattle.gtrbac_tool.proofs.Causing.{FailsWith, starts, status_of}
 use Rattle.gtrbac_tool.proofs.OneHistory.{IsDone, next_same, ticks_same}
@@ -175,9 +175,14 @@ module _ (np : NamedPolicy) (birth : ℕ) where
         by on (Err fault) (inr x) (inl y) = absurd y.1
         by on (Err fault) (inr x) (inr y) = (x.0 ∙ sym y.0, x.1 ∙ sym y.1)
 
+-- two runs have one history and one end
+pub same_run : (np : NamedPolicy) → IsSafe np.policy.triggers → (birth n : ℕ) (lines : List (List ℕ)) (h k : List Entry) (end other : Told) → RunOver np birth n lines h end → RunOver np birth n lines k other
+    → (h ≡ k) × (end ≡ other)
+same_run np safe birth n lines h k end other a b =
+    one_way np birth safe a.model b.model lines n (at_birth np birth) h k end other (omega arith) a.legal b.legal (ends_go np birth n lines h end a.ends) (ends_go np birth n lines k other b.ends)
+
 one_run : (np : NamedPolicy) → IsSafe np.policy.triggers → (birth n : ℕ) (lines : List (List ℕ)) (end other : Told) → Run np birth n lines end → Run np birth n lines other → end ≡ other
-one_run np safe birth n lines end other a b =
-    (one_way np birth safe a.1.model b.1.model lines n (at_birth np birth) a.0 b.0 end other (omega arith) a.1.legal b.1.legal (ends_go np birth n lines a.0 end a.1.ends) (ends_go np birth n lines b.0 other b.1.ends)).1
+one_run np safe birth n lines end other a b = (same_run np safe birth n lines a.0 b.0 end other a.1 b.1).1
 
 one_from : (np : NamedPolicy) → IsSafe np.policy.triggers → (start : Start) (end other : Told) → EndsFrom np start end → EndsFrom np start other → end ≡ other
 one_from np safe never end other a b = a ∙ sym b

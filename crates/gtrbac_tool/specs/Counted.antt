@@ -54,7 +54,10 @@ counts w (Tick upto to) = false
 counts w (Ask actor request reply) = replies w reply
 
 abbrev pub tally_line : Word → List Entry → List ℕ
-tally_line w h = word_text w ++ codes " " ++ decimal (count_by (λ e. counts w e.what) h) ++ codes "\n"
+tally_line w h =
+    word_text w ++ codes " " ++ decimal (count_by (λ e. counts w e.what) h) ++ codes "\n"
 
 abbrev pub tally : Gen → ℕ → List Entry → List ℕ
-tally g birth h = gen_line g ++ steps_line h ++ tally_line words.Ok h ++ tally_line words.Permit h ++ tally_line words.Deny h ++ tally_line words.Refused h ++ end_line birth h
+tally g birth h =
+    gen_line g ++ steps_line h ++ tally_line words.Ok h ++ tally_line words.Permit h
+    ++ tally_line words.Deny h ++ tally_line words.Refused h ++ end_line birth h

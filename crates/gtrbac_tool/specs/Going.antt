@@ -30,8 +30,12 @@ played_as false = Full
 -- the line moves the run, or stops it behind the text so far
 abbrev pub PlaysAs : NamedPolicy → ℕ → Result Line LineFault → Played → Going → Going → Type 0
 PlaysAs np birth line On s t = Moves np birth line s t
-PlaysAs np birth line Full s t = (t.text ≡ s.text) × ((n : ℕ) → Stops np birth line n s t.history (behind s.text (steps_full n)))
-PlaysAs np birth line (Bad f) s t = (t.text ≡ s.text) × ((n : ℕ) → Stops np birth line n s t.history (behind s.text (script_fault n (fault_word f))))
+PlaysAs np birth line Full s t =
+    (t.text ≡ s.text) × ((n : ℕ) → Stops np birth line n s t.history (behind s.text (steps_full n)))
+PlaysAs np birth line (Bad f) s t =
+    (t.text ≡ s.text)
+    × ((n : ℕ)
+    → Stops np birth line n s t.history (behind s.text (script_fault n (fault_word f))))
 
 -- ticks with this bound were added
 pub record Ticked (bound : ℕ) (old new : BookView) : Type 0 where
@@ -40,8 +44,10 @@ pub record Ticked (bound : ℕ) (old new : BookView) : Type 0 where
   pub added : new.entries ≡ old.entries ++ ticks
   pub are_ticks : AreTicks bound ticks
 
--- what a run from its birth left: a book of its policy and its birth, over whose entries it ended so
-pub record IsOutcome (np : NamedPolicy) (birth n : ℕ) (lines : List (List ℕ)) (b : BookView) (end : Told) : Type 0 where
+-- what a run from its birth left: a book of its policy and its birth, over whose entries it ended
+-- so
+pub record IsOutcome (np : NamedPolicy) (birth n : ℕ) (lines : List (List ℕ)) (b : BookView)
+    (end : Told) : Type 0 where
   pub of_policy : b.named ≡ np
   pub of_birth : b.birth ≡ birth
   pub run : RunOver np birth n lines b.entries end

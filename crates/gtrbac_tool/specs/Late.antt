@@ -1,4 +1,5 @@
--- What may be asked behind a script: when the answer of a condition changes next, and why an event is in force or blocked.
+-- What may be asked behind a script: when the answer of a condition changes next, and why an event
+-- is in force or blocked.
 use Rattle.std.specs.Prelude.{◌≡◌, ◌⊎◌, ℕ, ◌+◌, ◌*◌, Bool, true, false, not, List, [], ◌∷◌, ◌++◌, codes, min, if◌then◌else◌, Option, Some, None}
 use Rattle.gt_base.specs.Bounds.{last_minute}
 use Rattle.gt_base.specs.Names.{number_from, name_in}
@@ -107,10 +108,12 @@ answer_word c on = if (if c.on then on else not on) then codes "yes" else codes 
 
 abbrev pub change_line : Cond → ℕ → Option Change → List ℕ
 change_line c upto None = codes "no change to " ++ civil_text upto ++ codes "\n"
-change_line c upto (Some change) = codes "change " ++ civil_text change.at ++ codes " " ++ answer_word c change.on ++ codes "\n"
+change_line c upto (Some change) =
+    codes "change " ++ civil_text change.at ++ codes " " ++ answer_word c change.on ++ codes "\n"
 
 -- the line tells the first change in what lies ahead of a history, within the days
-pub record TellsAhead (p : Policy) (birth : ℕ) (h : List Entry) (days : ℕ) (c : Cond) (line : List ℕ) : Type 0 where
+pub record TellsAhead (p : Policy) (birth : ℕ) (h : List Entry) (days : ℕ) (c : Cond)
+    (line : List ℕ) : Type 0 where
   pub change : Option Change
   pub first : IsFirstChange p birth h c.fluent (horizon (now_of birth h) days) change
   pub line_is : line ≡ change_line c (horizon (now_of birth h) days) change
@@ -119,12 +122,16 @@ abbrev pub Tells : Policy → Asked → ℕ → List Entry → List ℕ → Type
 Tells p (Ahead days c) birth h text = TellsAhead p birth h days c text
 Tells p (Standing named e) birth h text = TellsWhy p birth h named e text
 
--- behind the replies of a run that was played to its end stands what was asked; another run has its own end
+-- behind the replies of a run that was played to its end stands what was asked; another run has its
+-- own end
 abbrev pub Follows : Policy → Asked → ℕ → List Entry → Told → Told → Type 0
 Follows p asked birth h ran end =
-    ((ran.status ≡ 0) × ((text : List ℕ) × Tells p asked birth h text × (end ≡ told 0 (ran.text ++ text)))) ⊎ ((ran.status ≡ 0 → ⊥) × (end ≡ ran))
+    ((ran.status ≡ 0)
+    × ((text : List ℕ) × Tells p asked birth h text × (end ≡ told 0 (ran.text ++ text))))
+    ⊎ ((ran.status ≡ 0 → ⊥) × (end ≡ ran))
 
-pub record Answered (np : NamedPolicy) (asked : Asked) (birth n : ℕ) (lines : List (List ℕ)) (end : Told) : Type 0 where
+pub record Answered (np : NamedPolicy) (asked : Asked) (birth n : ℕ) (lines : List (List ℕ))
+    (end : Told) : Type 0 where
   pub history : List Entry
   pub ran : Told
   pub run : RunOver np birth n lines history ran

@@ -5,6 +5,7 @@ pub mod Started
 pub mod Summary
 pub mod Counted
 pub mod Standing
+pub mod Reasons
 pub mod Listing
 pub mod Late
 pub mod Tool

@@ -20,16 +20,20 @@ pub record Tracks (x : HappenedView) (o : Order) : Type 0 where
   pub there : (e : Prioritised) → has o.there.set.events e ≡ lists same_prioritised o.events.items e
   pub standing : (f : Event) → has o.standing.set f ≡ stands x o.events.items f
 
--- the trigger is immediate, its head is not listed, it is met in the set, and its body events stand among those listed
+-- the trigger is immediate, its head is not listed, it is met in the set, and its body events stand
+-- among those listed
 abbrev pub raises_next : Status → HappenedView → List Prioritised → TriggerView → Bool
-raises_next s x es r = immediate r && not (lists same_prioritised es r.head) && met r x s && list_all (stands x es) r.events
+raises_next s x es r =
+    immediate r && not (lists same_prioritised es r.head) && met r x s && list_all (stands x es)
+    r.events
 
 -- with the head of such a trigger
 abbrev pub with_head : Status → HappenedView → List Prioritised → TriggerView → List Prioritised
 with_head s x es r = es ++ when (raises_next s x es r) r.head
 
 -- with the heads of such triggers, one after the other
-abbrev pub with_heads : Status → HappenedView → List Prioritised → List TriggerView → List Prioritised
+abbrev pub with_heads : Status → HappenedView → List Prioritised → List TriggerView
+    → List Prioritised
 with_heads s x es [] = es
 with_heads s x es (r ∷ rs) = with_heads s x (with_head s x es r) rs
 
@@ -38,8 +42,10 @@ abbrev pub AreSettled : List TriggerView → Status → List ClosedSet → Type 
 AreSettled rules s [] = Unit {0}
 AreSettled rules s (c ∷ cs) = Settled rules c.base s c.set × AreSettled rules (after c.set s) cs
 
--- the listing is of the instant and of the set, and each of its events is supported by those before it
-pub record IsListing (rules : List TriggerView) (s : Status) (c : ClosedSet) (l : Listed) : Type 0 where
+-- the listing is of the instant and of the set, and each of its events is supported by those before
+-- it
+pub record IsListing (rules : List TriggerView) (s : Status) (c : ClosedSet) (l : Listed)
+    : Type 0 where
   pub at : l.at ≡ c.at
   pub set : set_in l ≡ c.set
   pub order : IsTrue (grounded_after rules c.base s c.set [] l.events)
@@ -49,10 +55,12 @@ abbrev pub AreListings : List TriggerView → Status → List ClosedSet → List
 AreListings rules s [] [] = Unit {0}
 AreListings rules s [] (l ∷ ls) = ⊥
 AreListings rules s (c ∷ cs) [] = ⊥
-AreListings rules s (c ∷ cs) (l ∷ ls) = IsListing rules s c l × AreListings rules (after c.set s) cs ls
+AreListings rules s (c ∷ cs) (l ∷ ls) =
+    IsListing rules s c l × AreListings rules (after c.set s) cs ls
 
 -- the listing of a set more
-pub record AddsListing (rules : List TriggerView) (s : Status) (c : ClosedSet) (old new : List Listed) : Type 0 where
+pub record AddsListing (rules : List TriggerView) (s : Status) (c : ClosedSet)
+    (old new : List Listed) : Type 0 where
   pub listing : Listed
   pub added : new ≡ old ++ listing ∷ []
   pub is : IsListing rules s c listing

@@ -6,6 +6,7 @@ use Rattle.gt_base.specs.declared.requests.Actor.TheVariants.{Operator}
 use Rattle.gt_base.specs.declared.requests.Entry.{Entry}
 use Rattle.gtrbac_model.specs.Safety.{IsSafe}
 use Rattle.gtrbac_model.specs.Status.{Model}
+use Rattle.gtrbac_model.specs.WholePolicy.{IsPolicy}
 use Rattle.gtrbac_model.specs.History.{Legal, Move, tick, ask, Play}
 use Rattle.gt_text.specs.Lines.{lines_of}
 use Rattle.policy_words.specs.Naming.{NamedPolicy}
@@ -13,11 +14,14 @@ use Rattle.policy_commands.specs.Ends.{Told}
 use Rattle.request_text.specs.declared.lines.Line.{Line}
 use Rattle.request_text.specs.declared.lines.Line.TheVariants.{Silent, At, Be, Ask}
 use Rattle.request_text.specs.declared.lines.LineFault.{LineFault}
+use Rattle.gtrbac_tool.specs.declared.ahead.Asked.{Asked}
+use Rattle.gtrbac_tool.specs.Late.{AnswersScript}
 use Rattle.gtrbac_tool.specs.Script.{Going, never, born, failed, start_of, IsFilled, Plays, at_birth, said, scripts_who, RunOver, max_script, Ends}
 
--- the first lines that say anything bear the script, and the lines behind before one that holds so are played, over a history that is
--- legal with its execution model
-pub record ComesTo (np : NamedPolicy) (script : List ℕ) (Holds : ℕ → Result Line LineFault → Going → List Entry → Type 0) : Type 0 where
+-- the first lines that say anything bear the script, and the lines behind before one that holds so
+-- are played, over a history that is legal with its execution model
+pub record ComesTo (np : NamedPolicy) (script : List ℕ)
+    (Holds : ℕ → Result Line LineFault → Going → List Entry → Type 0) : Type 0 where
   pub birth : ℕ
   pub number : ℕ
   pub lines : List (List ℕ)
@@ -48,7 +52,8 @@ IsFullAt birth (Err fault) s h = ⊥
 
 -- the first line that says anything is no minute, or the run comes to a line with a fault
 abbrev pub MeetsFault : NamedPolicy → List ℕ → Type 0
-MeetsFault np script = ((end : Told) × (start_of np 1 (lines_of script) ≡ failed end)) ⊎ ComesTo np script IsFaulty
+MeetsFault np script =
+    ((end : Told) × (start_of np 1 (lines_of script) ≡ failed end)) ⊎ ComesTo np script IsFaulty
 
 -- the run comes to a line that asks for a step with a full history
 abbrev pub MeetsFull : NamedPolicy → List ℕ → Type 0
@@ -71,43 +76,61 @@ IsWhole np script = (start_of np 1 (lines_of script) ≡ never) ⊎ IsPlayedOut 
 
 -- over a safe policy a script has just one end
 abbrev pub OneEnd : Type 0
-OneEnd = (np : NamedPolicy) → IsSafe np.policy.triggers → (script : List ℕ) (end other : Told) → Ends np script end → Ends np script other → end ≡ other
+OneEnd =
+    (np : NamedPolicy) → IsSafe np.policy.triggers → (script : List ℕ) (end other : Told)
+    → Ends np script end → Ends np script other → end ≡ other
 
--- of a script within its limit: 7 exactly where its first fault comes before a full history, 9 exactly where a step is asked for with a full
--- history before a fault, and 0 exactly where all its lines are played
+-- and what is asked behind it has just one answer
+abbrev pub OneAnswer : Type 0
+OneAnswer =
+    (np : NamedPolicy) → IsPolicy np.policy → IsSafe np.policy.triggers
+    → (asked : Asked) (script : List ℕ) (end other : Told)
+    → AnswersScript np asked script end → AnswersScript np asked script other → end ≡ other
+
+-- of a script within its limit: 7 exactly where its first fault comes before a full history, 9
+-- exactly where a step is asked for with a full history before a fault, and 0 exactly where all its
+-- lines are played
 pub record RunMeans (np : NamedPolicy) (script : List ℕ) (end : Told) : Type 0 where
   pub fault : (end.status ≡ 7) ↔ MeetsFault np script
   pub full : (end.status ≡ 9) ↔ MeetsFull np script
   pub whole : (end.status ≡ 0) ↔ IsWhole np script
 
 abbrev pub RunsMean : Type 0
-RunsMean = (np : NamedPolicy) → IsSafe np.policy.triggers → (script : List ℕ) → length script ≤ max_script → (end : Told) → Ends np script end → RunMeans np script end
+RunsMean =
+    (np : NamedPolicy) → IsSafe np.policy.triggers → (script : List ℕ) → length script ≤ max_script
+    → (end : Told) → Ends np script end → RunMeans np script end
 
 -- of one that is longer always 6
 abbrev pub LongMeans : Type 0
-LongMeans = (np : NamedPolicy) (script : List ℕ) (end : Told) → Ends np script end → (end.status ≡ 6) ↔ (max_script < length script)
+LongMeans =
+    (np : NamedPolicy) (script : List ℕ) (end : Told) → Ends np script end
+    → (end.status ≡ 6) ↔ (max_script < length script)
 
 -- ticks of the script with this bound
 abbrev pub AreTo : ℕ → List Move → Type 0
 AreTo bound [] = Unit {0}
 AreTo bound (q ∷ qs) = (q ≡ record { who = scripts_who; what = tick bound }) × AreTo bound qs
 
--- the moves that a line asks for by who acts, and who acts behind it: a minute ticks with that bound, a request one
+-- the moves that a line asks for by who acts, and who acts behind it: a minute ticks with that
+-- bound, a request one
 abbrev pub LineAsks : Result Line LineFault → Actor → List Move → Actor → Type 0
 LineAsks (Ok Silent) actor moves next = (moves ≡ []) × (next ≡ actor)
 LineAsks (Ok (Be other)) actor moves next = (moves ≡ []) × (next ≡ other)
 LineAsks (Ok (At minute)) actor moves next = AreTo minute moves × (next ≡ actor)
-LineAsks (Ok (Ask request)) actor moves next = (moves ≡ record { who = scripts_who; what = ask actor request } ∷ []) × (next ≡ actor)
+LineAsks (Ok (Ask request)) actor moves next =
+    (moves ≡ record { who = scripts_who; what = ask actor request } ∷ []) × (next ≡ actor)
 LineAsks (Err fault) actor moves next = ⊥
 
 -- and lines one after another
 abbrev pub LinesAsk : NamedPolicy → Actor → List (List ℕ) → List Move → Actor → Type 0
 LinesAsk np actor [] moves last = (moves ≡ []) × (last ≡ actor)
 LinesAsk np actor (line ∷ lines) moves last =
-    (own : List Move) × (later : List Move) × (next : Actor) × (moves ≡ own ++ later) × LineAsks (said np line) actor own next × LinesAsk np next lines later last
+    (own : List Move) × (later : List Move) × (next : Actor) × (moves ≡ own ++ later)
+    × LineAsks (said np line) actor own next × LinesAsk np next lines later last
 
 -- the history plays the moves that the first lines ask for
-pub record IsPlayOf (np : NamedPolicy) (birth : ℕ) (lines : List (List ℕ)) (history : List Entry) : Type 0 where
+pub record IsPlayOf (np : NamedPolicy) (birth : ℕ) (lines : List (List ℕ)) (history : List Entry)
+    : Type 0 where
   pub done : List (List ℕ)
   pub rest : List (List ℕ)
   pub parts : lines ≡ done ++ rest
@@ -119,4 +142,6 @@ pub record IsPlayOf (np : NamedPolicy) (birth : ℕ) (lines : List (List ℕ)) (
 
 -- the history of a run is such a play
 abbrev pub RunsArePlays : Type 0
-RunsArePlays = (np : NamedPolicy) (birth n : ℕ) (lines : List (List ℕ)) (history : List Entry) (end : Told) → RunOver np birth n lines history end → IsPlayOf np birth lines history
+RunsArePlays =
+    (np : NamedPolicy) (birth n : ℕ) (lines : List (List ℕ)) (history : List Entry) (end : Told)
+    → RunOver np birth n lines history end → IsPlayOf np birth lines history

@@ -1,4 +1,5 @@
--- The run of a script: the replies of its lines, over a history that is legal with its execution model.
+-- The run of a script: the replies of its lines, over a history that is legal with its execution
+-- model.
 use Rattle.std.specs.Prelude.{◌≡◌, ℕ, ◌+◌, ◌<◌, ◌≤◌, ◌⊎◌, Bool, true, false, List, [], ◌∷◌, ◌++◌, length, codes, Result, Ok, Err}
 use Rattle.gt_base.specs.Bounds.{max_steps}
 use Rattle.gt_base.specs.Machines.{ticked, asked}
@@ -58,11 +59,19 @@ module _ (np : NamedPolicy) (birth : ℕ) where
   -- how a line moves a run that goes on behind it
   abbrev pub Moves : Result Line LineFault → Going → Going → Type 0
   Moves (Ok Silent) s t = t ≡ s
-  Moves (Ok (Be actor)) s t = t ≡ record { actor = actor; history = s.history; text = s.text ++ codes "ok\n" }
-  Moves (Ok (At minute)) s t = (h : List Entry) × Arrives birth minute s.history h × (t ≡ record { actor = s.actor; history = h; text = s.text })
+  Moves (Ok (Be actor)) s t =
+      t ≡ record { actor = actor; history = s.history; text = s.text ++ codes "ok\n" }
+  Moves (Ok (At minute)) s t =
+      (h : List Entry) × Arrives birth minute s.history h
+      × (t ≡ record { actor = s.actor; history = h; text = s.text })
   Moves (Ok (Ask request)) s t =
       (reply : Reply) × (length s.history < max_steps)
-      × (t ≡ record { actor = s.actor; history = s.history ++ asked scripts_who s.actor request reply ∷ []; text = s.text ++ reply_line np reply })
+      × (t
+      ≡ record {
+        actor = s.actor;
+        history = s.history ++ asked scripts_who s.actor request reply ∷ [];
+        text = s.text ++ reply_line np reply;
+      })
   Moves (Err fault) s t = ⊥
 
   -- lines move a run one after another
@@ -70,13 +79,17 @@ module _ (np : NamedPolicy) (birth : ℕ) where
   Plays [] s t = t ≡ s
   Plays (line ∷ lines) s t = (m : Going) × Moves (said np line) s m × Plays lines m t
 
-  -- how a line, with its number, ends a run: a line with a fault, or a step asked for with a full history
+  -- how a line, with its number, ends a run: a line with a fault, or a step asked for with a full
+  -- history
   abbrev pub Stops : Result Line LineFault → ℕ → Going → List Entry → Told → Type 0
   Stops (Ok Silent) n s h end = ⊥
   Stops (Ok (Be actor)) n s h end = ⊥
-  Stops (Ok (At minute)) n s h end = IsFilled birth minute s.history h × (end ≡ behind s.text (steps_full n))
-  Stops (Ok (Ask request)) n s h end = (length s.history ≡ max_steps) × (h ≡ s.history) × (end ≡ behind s.text (steps_full n))
-  Stops (Err fault) n s h end = (h ≡ s.history) × (end ≡ behind s.text (script_fault n (fault_word fault)))
+  Stops (Ok (At minute)) n s h end =
+      IsFilled birth minute s.history h × (end ≡ behind s.text (steps_full n))
+  Stops (Ok (Ask request)) n s h end =
+      (length s.history ≡ max_steps) × (h ≡ s.history) × (end ≡ behind s.text (steps_full n))
+  Stops (Err fault) n s h end =
+      (h ≡ s.history) × (end ≡ behind s.text (script_fault n (fault_word fault)))
 
   abbrev pub at_birth : Going
   at_birth = record { actor = Operator; history = []; text = [] }
@@ -98,8 +111,10 @@ module _ (np : NamedPolicy) (birth : ℕ) where
     pub plays : Plays front at_birth before
     pub stops : Stops (said np line) (n + length front) before h end
 
--- a run from its birth, with the lines behind the birth's numbered from n, over a history that is legal, with its execution model
-pub record RunOver (np : NamedPolicy) (birth n : ℕ) (lines : List (List ℕ)) (history : List Entry) (end : Told) : Type 0 where
+-- a run from its birth, with the lines behind the birth's numbered from n, over a history that is
+-- legal, with its execution model
+pub record RunOver (np : NamedPolicy) (birth n : ℕ) (lines : List (List ℕ)) (history : List Entry)
+    (end : Told) : Type 0 where
   pub model : Model
   pub legal : Legal np.policy birth history model
   pub ends : PlayedOut np birth lines history end ⊎ StoppedAt np birth n lines history end
@@ -108,8 +123,8 @@ pub record RunOver (np : NamedPolicy) (birth n : ℕ) (lines : List (List ℕ)) 
 abbrev pub Run : NamedPolicy → ℕ → ℕ → List (List ℕ) → Told → Type 0
 Run np birth n lines end = (history : List Entry) × RunOver np birth n lines history end
 
--- where a run begins: only silent lines; the birth, with the number of the line behind it and the lines from there; or the end at a
--- first line that is no minute
+-- where a run begins: only silent lines; the birth, with the number of the line behind it and the
+-- lines from there; or the end at a first line that is no minute
 pub data Start : Type 0 where
   never : Start
   born : ℕ → ℕ → List (List ℕ) → Start

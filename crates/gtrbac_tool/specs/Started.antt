@@ -32,4 +32,5 @@ RanFrom np _ _ = ⊥
 
 -- without a birth there is nothing to tell of what is asked
 abbrev pub IsUnborn : Told → Told → Type 0
-IsUnborn end other = ((end.status ≡ 0) × (other ≡ no_birth)) ⊎ ((end.status ≡ 0 → ⊥) × (other ≡ end))
+IsUnborn end other =
+    ((end.status ≡ 0) × (other ≡ no_birth)) ⊎ ((end.status ≡ 0 → ⊥) × (other ≡ end))

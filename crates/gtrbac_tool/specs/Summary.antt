@@ -49,20 +49,24 @@ module _ (np : NamedPolicy) where
 
   -- a word, and how many requests were answered so
   abbrev pub count_line : List ℕ → List Entry → List ℕ
-  count_line word h = word ++ codes " " ++ decimal (count_by (λ e. is_answered word e.what) h) ++ codes "\n"
+  count_line word h =
+      word ++ codes " " ++ decimal (count_by (λ e. is_answered word e.what) h) ++ codes "\n"
 
   -- seed and size, the length of the history, its replies by their first word, and the instant now
   abbrev pub summary : Gen → ℕ → List Entry → List ℕ
   summary g birth h =
-      gen_line g ++ steps_line h ++ count_line (codes "ok") h ++ count_line (codes "permit") h ++ count_line (codes "deny") h ++ count_line (codes "refused") h
+      gen_line g ++ steps_line h ++ count_line (codes "ok") h ++ count_line (codes "permit") h
+      ++ count_line (codes "deny") h ++ count_line (codes "refused") h
       ++ end_line birth h
 
-  -- the summary in place of the replies where the script was played to its end, and else the run's own end
+  -- the summary in place of the replies where the script was played to its end, and else the run's
+  -- own end
   abbrev pub summed : Gen → ℕ → List Entry → Told → Told
   summed g birth h ran = elim (nat_eq ran.status 0) [ true ↦ told 0 (summary g birth h) | false ↦ ran ]
 
 -- the run of the made script over the made policy, summed up
-pub record Summed (np : NamedPolicy) (g : Gen) (birth n : ℕ) (lines : List (List ℕ)) (end : Told) : Type 0 where
+pub record Summed (np : NamedPolicy) (g : Gen) (birth n : ℕ) (lines : List (List ℕ)) (end : Told)
+    : Type 0 where
   pub history : List Entry
   pub ran : Told
   pub run : RunOver np birth n lines history ran
@@ -75,8 +79,10 @@ SummedFrom np g (failed t) end = end ≡ t
 
 abbrev pub SummedOver : Gen → Result NamedPolicy Told → Told → Type 0
 SummedOver g (Err t) end = end ≡ t
-SummedOver g (Ok np) end = SummedFrom np g (start_of np 1 (lines_of (script_text g.seed g.size))) end
+SummedOver g (Ok np) end =
+    SummedFrom np g (start_of np 1 (lines_of (script_text g.seed g.size))) end
 
--- what `gen` ends with: its policy and its script are within the limits, and are read, judged and played as by `run`
+-- what `gen` ends with: its policy and its script are within the limits, and are read, judged and
+-- played as by `run`
 abbrev pub GenEnds : Gen → Told → Type 0
 GenEnds g end = SummedOver g (safe_in (policy_text g.size)) end

@@ -83,7 +83,9 @@ fn change_text(
 
 /// When the answer of the condition changes, if no request comes any more.
 fn ahead_text(alloc: Global, book: &Book, days: u32, cond: Cond) -> Result<Vec<u8>, Memory>
-    ensures { IfOk result (λ text. TellsAhead book.now.named.policy book.now.birth book.now.entries days cond text.items) }
+    ensures { IfOk result
+        (λ text. TellsAhead book.now.named.policy book.now.birth book.now.entries days cond
+        text.items) }
 {
     let upto = horizon(book.now(), days);
     let change = first_change(book, cond.fluent, upto)?;
@@ -92,7 +94,8 @@ fn ahead_text(alloc: Global, book: &Book, days: u32, cond: Cond) -> Result<Vec<u
 
 /// What was asked of the book.
 fn asked_text(alloc: Global, book: &Book, asked: Asked) -> Result<Vec<u8>, Memory>
-    ensures { IfOk result (λ text. Tells book.now.named.policy asked book.now.birth book.now.entries text.items) }
+    ensures { IfOk result
+        (λ text. Tells book.now.named.policy asked book.now.birth book.now.entries text.items) }
 {
     match asked {
         Asked::Ahead(days, cond) => ahead_text(alloc, book, days, cond),
@@ -115,7 +118,9 @@ fn joined(alloc: Global, first: &List<u8>, more: &Vec<u8>) -> Result<End, Memory
 /// The end of a run that was played to its end, with what was asked behind its replies.
 fn told_behind(alloc: Global, outcome: Outcome, asked: Asked) -> Result<End, Memory>
     requires { outcome.end.status ≡ 0 }
-    ensures { IfOk result (λ end. Follows outcome.book.named.policy asked outcome.book.birth outcome.book.entries (seen_end outcome.end) (seen_end end)) }
+    ensures { IfOk result
+        (λ end. Follows outcome.book.named.policy asked outcome.book.birth outcome.book.entries
+        (seen_end outcome.end) (seen_end end)) }
 {
     let more = asked_text(alloc, &outcome.book, asked)?;
     joined(alloc, &outcome.end.text, &more)
@@ -123,7 +128,9 @@ fn told_behind(alloc: Global, outcome: Outcome, asked: Asked) -> Result<End, Mem
 
 /// The end of a run with what was asked behind it where it was played to its end, and else its own.
 pub(crate) fn answered(alloc: Global, outcome: Outcome, asked: Asked) -> Result<End, Memory>
-    ensures { IfOk result (λ end. Follows outcome.book.named.policy asked outcome.book.birth outcome.book.entries (seen_end outcome.end) (seen_end end)) }
+    ensures { IfOk result
+        (λ end. Follows outcome.book.named.policy asked outcome.book.birth outcome.book.entries
+        (seen_end outcome.end) (seen_end end)) }
 {
     if outcome.end.status == 0 {
         told_behind(alloc, outcome, asked)

@@ -16,9 +16,10 @@ use std::alloc::Global;
 use trigger_rules::met_in;
 use why_check::{Cert, accept};
 
-/// A certificate of the book's history. Each set of the trace is listed in an order that supports it: its base, and then head
-/// after head whose trigger is met and whose body events stand already. The certificate is given out after it was accepted,
-/// which it always is: only want of memory is free.
+/// A certificate of the book's history. Each set of the trace is listed in an order that supports
+/// it: its base, and then head after head whose trigger is met and whose body events stand already.
+/// The certificate is given out after it was accepted, which it always is: only want of memory is
+/// free.
 pub fn explain(alloc: Global, book: &Book) -> Result<Cert, Memory>
     ensures { IfOk result (λ cert. Accepts book.now.named.policy book.now.birth book.now.entries cert) }
 {
@@ -88,7 +89,9 @@ fn ordered(
     before: &Status,
 ) -> Result<List<Prioritised>, Memory>
     requires { Settled rules.now closed.now.base (has before.now.set) closed.now.set }
-    ensures { IfOk result (λ es. IsGrounding rules.now closed.now.base (has before.now.set) closed.now.set es.items) }
+    ensures { IfOk result
+        (λ es. IsGrounding rules.now closed.now.base (has before.now.set) closed.now.set
+        es.items) }
 {
     let x = Contest::new(alloc, &closed.set)?;
     support_order(alloc, rules, &closed.base, before, &x)
@@ -121,7 +124,8 @@ struct Order {
     standing: EventSet,
 }
 
-/// The events of the set, first those of the base, then round by round the heads that those before support.
+/// The events of the set, first those of the base, then round by round the heads that those before
+/// support.
 fn support_order(
     alloc: Global,
     rules: &[Trigger],
@@ -181,7 +185,9 @@ fn push_heads(
 ) -> Result<(), Memory>
     requires { Tracks x.now order.old }
     ensures tracks { OnOk result (Tracks x.now order.new) }
-    ensures events { OnOk result (order.new.events.items ≡ with_heads (has before.now.set) x.now order.old.events.items rules.now) }
+    ensures events { OnOk result
+        (order.new.events.items
+        ≡ with_heads (has before.now.set) x.now order.old.events.items rules.now) }
 {
     for r in rules {
         push_head(order, r, before, x)?;
@@ -193,7 +199,9 @@ fn push_heads(
 fn push_head(order: &mut Order, r: &Trigger, before: &Status, x: &Contest) -> Result<(), Memory>
     requires { Tracks x.now order.old }
     ensures tracks { OnOk result (Tracks x.now order.new) }
-    ensures events { OnOk result (order.new.events.items ≡ with_head (has before.now.set) x.now order.old.events.items r.now) }
+    ensures events { OnOk result
+        (order.new.events.items
+        ≡ with_head (has before.now.set) x.now order.old.events.items r.now) }
 {
     if is_next(order, r, before, x) {
         push(order, &r.head, x)?;

@@ -13,5 +13,5 @@ mod summing;
 mod top;
 
 pub use explaining::explain;
-pub use laws::run_means;
+pub use laws::{reasons_exist, run_means};
 pub use top::tool;

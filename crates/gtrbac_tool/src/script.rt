@@ -27,7 +27,8 @@ pub(crate) struct Run {
     pub(crate) text: Vec<u8>,
 }
 
-/// How a line was played: the run goes on, a step was asked for with a full history, or the line is no script line.
+/// How a line was played: the run goes on, a step was asked for with a full history, or the line is
+/// no script line.
 #[derive(Clone, Copy)]
 pub(crate) enum Played {
     On,
@@ -35,10 +36,14 @@ pub(crate) enum Played {
     Bad(LineFault),
 }
 
-/// Ticks until now is at least the minute, and says whether it got there: it does not where the history is full before.
+/// Ticks until now is at least the minute, and says whether it got there: it does not where the
+/// history is full before.
 fn go(book: &mut Book, minute: Instant) -> Result<bool, Memory>
     ensures root { OnOk result (SameRoot book.old book.new) }
-    ensures way { IfOk result (λ there. MatchBool there (Arrives book.old.birth minute book.old.entries book.new.entries) (IsFilled book.old.birth minute book.old.entries book.new.entries)) }
+    ensures way { IfOk result
+        (λ there. MatchBool there
+        (Arrives book.old.birth minute book.old.entries book.new.entries)
+        (IsFilled book.old.birth minute book.old.entries book.new.entries)) }
 {
     while book.now().minute() < minute.minute() {
         match book.tick(SCRIPT, minute) {
@@ -52,13 +57,16 @@ fn go(book: &mut Book, minute: Instant) -> Result<bool, Memory>
     Ok(true)
 }
 
-/// Asks the request for the actor and adds its reply, and says so; it does neither where the history is full.
+/// Asks the request for the actor and adds its reply, and says so; it does neither where the
+/// history is full.
 fn put(run: &mut Run, request: Request) -> Result<bool, Memory>
     requires { IsNamedFor run.old.book run.old.actor request }
     ensures root { OnOk result (SameRoot run.old.book run.new.book) }
     ensures actor { OnOk result (run.new.actor ≡ run.old.actor) }
-    ensures did { IfOk result (λ done. PlaysAs run.old.book.named run.old.book.birth (Ok (Ask request)) (played_as done)
-        (going_of run.old.book run.old.actor run.old.text.items) (going_of run.new.book run.new.actor run.new.text.items)) }
+    ensures did { IfOk result
+        (λ done. PlaysAs run.old.book.named run.old.book.birth (Ok (Ask request))
+        (played_as done) (going_of run.old.book run.old.actor run.old.text.items)
+        (going_of run.new.book run.new.actor run.new.text.items)) }
 {
     // what a book keeps
     let _policy = run.book.policy();
@@ -84,8 +92,10 @@ fn play_line(run: &mut Run, line: &[u8]) -> Result<Played, Memory>
     requires { IsActorOf run.old.book run.old.actor }
     ensures root { OnOk result (SameRoot run.old.book run.new.book) }
     ensures actor { OnOk result (IsActorOf run.new.book run.new.actor) }
-    ensures did { IfOk result (λ how. PlaysAs run.old.book.named run.old.book.birth (said run.old.book.named line.now) how
-        (going_of run.old.book run.old.actor run.old.text.items) (going_of run.new.book run.new.actor run.new.text.items)) }
+    ensures did { IfOk result
+        (λ how. PlaysAs run.old.book.named run.old.book.birth (said run.old.book.named line.now)
+        how (going_of run.old.book run.old.actor run.old.text.items)
+        (going_of run.new.book run.new.actor run.new.text.items)) }
 {
     match read_line(run.book.policy(), Actor::Operator, true, line) {
         Ok(said) => match said {
@@ -120,7 +130,8 @@ pub(crate) fn stopped(
     number: u32,
     what: &[u8],
 ) -> Result<End, Memory>
-    ensures { IfOk result (λ end. seen_end end ≡ behind text.items (told status (script_line number what.now))) }
+    ensures { IfOk result
+        (λ end. seen_end end ≡ behind text.items (told status (script_line number what.now))) }
 {
     text.extend_from_slice(b"script ")?;
     push_number(&mut text, u64::from(number))?;
@@ -142,7 +153,10 @@ pub(crate) struct Outcome {
 
 /// The outcome of a run that ended at a line.
 fn ended(run: Run, status: u8, number: u32, what: &[u8]) -> Result<Outcome, Memory>
-    ensures { IfOk result (λ out. (out.book ≡ run.book) × (seen_end out.end ≡ behind run.text.items (told status (script_line number what.now)))) }
+    ensures { IfOk result
+        (λ out. (out.book ≡ run.book)
+        × (seen_end out.end
+        ≡ behind run.text.items (told status (script_line number what.now)))) }
 {
     let Run {
         book,
@@ -158,7 +172,9 @@ fn play_out(mut run: Run, mut lines: Lines<'_>, before: u32) -> Result<Outcome, 
     requires actor { run.actor ≡ Actor.Operator }
     requires empty { (run.book.entries ≡ []) × (run.text.items ≡ []) }
     requires count { before + length lines < 2 ^ 32 }
-    ensures { IfOk result (λ out. IsOutcome run.book.named run.book.birth (before + 1) lines.entry out.book (seen_end out.end)) }
+    ensures { IfOk result
+        (λ out. IsOutcome run.book.named run.book.birth (before + 1) lines.entry out.book
+        (seen_end out.end)) }
 {
     let mut number = before;
     while let Some(line) = lines.next() {
@@ -199,7 +215,8 @@ pub(crate) fn from_birth(
     before: u32,
 ) -> Result<Outcome, Memory>
     requires count { before + length lines < 2 ^ 32 }
-    ensures { IfOk result (λ out. IsOutcome safe birth (before + 1) lines.entry out.book (seen_end out.end)) }
+    ensures { IfOk result
+        (λ out. IsOutcome safe birth (before + 1) lines.entry out.book (seen_end out.end)) }
 {
     match Book::new(alloc, safe, birth) {
         Ok(book) => {

@@ -59,7 +59,8 @@ fn status_before(
     mut trace: &[Closed],
     t: Instant,
 ) -> Result<Status, Memory>
-    ensures { IfOk result (λ s. (f : FluentOf) → has s.set f ≡ made_before t trace.now (has opening.now.set) f) }
+    ensures { IfOk result
+        (λ s. (f : FluentOf) → has s.set f ≡ made_before t trace.now (has opening.now.set) f) }
 {
     let mut status = opening.copied()?;
     while let [first, rest @ ..] = trace {
@@ -74,7 +75,8 @@ fn status_before(
 
 /// Takes a set into the status: what was on before it becomes what is on after it.
 fn take_in(alloc: Global, status: &mut Status, set: &Happened) -> Result<(), Memory>
-    ensures { OnOk result ((f : FluentOf) → has status.new.set f ≡ after set.now.set (has status.old.set) f) }
+    ensures { OnOk result
+        ((f : FluentOf) → has status.new.set f ≡ after set.now.set (has status.old.set) f) }
 {
     *status = status_after(alloc, status, set)?;
     Ok(())
@@ -112,7 +114,9 @@ fn add_reason(
     x: &Contest,
     e: Prioritised,
 ) -> Result<(), Memory>
-    ensures { OnOk result (text.new.items ≡ text.old.items ++ reason rules.now base.now.set (has before.now.set) x.now e) }
+    ensures { OnOk result
+        (text.new.items
+        ≡ text.old.items ++ reason rules.now base.now.set (has before.now.set) x.now e) }
 {
     if base.has(e) {
         text.extend_from_slice(b"base")
@@ -146,7 +150,8 @@ fn add_blocker(text: &mut Vec<u8>, named: &NamedEvent, prio: Option<Prio>) -> Re
     }
 }
 
-/// Adds how the event, of which this is seen in the set of an instant, stands there, with its reason, and with what blocks it.
+/// Adds how the event, of which this is seen in the set of an instant, stands there, with its
+/// reason, and with what blocks it.
 fn add_standing(
     text: &mut Vec<u8>,
     rules: &[Trigger],
@@ -157,7 +162,11 @@ fn add_standing(
     e: Event,
     seen: Seen,
 ) -> Result<(), Memory>
-    ensures { OnOk result (text.new.items ≡ text.old.items ++ standing_line rules.now base.now.set (has before.now.set) x.now named.now e seen) }
+    ensures { OnOk result
+        (text.new.items
+        ≡ text.old.items
+        ++ standing_line rules.now base.now.set (has before.now.set) x.now named.now e
+        seen) }
 {
     match seen {
         Seen::Absent => text.extend_from_slice(b"absent\n"),
@@ -179,7 +188,8 @@ fn add_standing(
     }
 }
 
-/// Adds how the event stands in the set of an instant, over the status that the sets before it make.
+/// Adds how the event stands in the set of an instant, over the status that the sets before it
+/// make.
 fn add_at(
     alloc: Global,
     text: &mut Vec<u8>,
@@ -190,7 +200,12 @@ fn add_at(
     named: &NamedEvent,
     e: Event,
 ) -> Result<(), Memory>
-    ensures { OnOk result (text.new.items ≡ text.old.items ++ standing_line policy.now.policy.triggers closed.now.base (made_before t trace.now (has policy.now.policy.opening)) closed.now.set named.now e (seen_in closed.now.set e)) }
+    ensures { OnOk result
+        (text.new.items
+        ≡ text.old.items
+        ++ standing_line policy.now.policy.triggers closed.now.base
+        (made_before t trace.now (has policy.now.policy.opening)) closed.now.set
+        named.now e (seen_in closed.now.set e)) }
 {
     let before = status_before(alloc, policy.opening(), trace, t)?;
     let rules = policy.triggers().as_slice();
@@ -211,14 +226,17 @@ fn certificate_text(alloc: Global, cert: &Cert) -> Result<Vec<u8>, Memory>
     Ok(text)
 }
 
-/// How many instants a certificate of the history lists, and how the event stands at the last instant of the history.
+/// How many instants a certificate of the history lists, and how the event stands at the last
+/// instant of the history.
 pub(crate) fn standing_text(
     alloc: Global,
     book: &Book,
     named: NamedEvent,
     e: Event,
 ) -> Result<Vec<u8>, Memory>
-    ensures { IfOk result (λ text. TellsWhy book.now.named.policy book.now.birth book.now.entries named e text.items) }
+    ensures { IfOk result
+        (λ text. TellsWhy book.now.named.policy book.now.birth book.now.entries named e
+        text.items) }
 {
     let policy = book.ground().policy();
     let cert = explain(alloc, book)?;

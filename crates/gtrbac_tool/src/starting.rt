@@ -17,8 +17,8 @@ use policy_safety::Safe;
 use request_text::{Line, LineFault, read_line};
 use std::alloc::Global;
 
-/// Where a run begins: nowhere, since all lines are silent; at a birth, in the line of a number; or not at all, since the first
-/// line that is not silent is no script line, or none with a minute.
+/// Where a run begins: nowhere, since all lines are silent; at a birth, in the line of a number; or
+/// not at all, since the first line that is not silent is no script line, or none with a minute.
 #[derive(Clone, Copy)]
 pub(crate) enum Start {
     Never,
@@ -56,7 +56,8 @@ pub(crate) enum Ran {
     Born(Outcome),
 }
 
-/// Runs a script over a safe policy, and hands the book on. The script has fewer than 4,294,967,296 bytes.
+/// Runs a script over a safe policy, and hands the book on. The script has fewer than 4,294,967,296
+/// bytes.
 pub(crate) fn begin(alloc: Global, safe: Safe, script: &[u8]) -> Result<Ran, Memory>
     requires { length script.now < 2 ^ 32 }
     ensures { IfOk result (RanFrom safe (start_of safe 1 (lines_of script.now))) }
@@ -112,7 +113,8 @@ fn unborn(alloc: Global, end: End) -> Result<End, Memory>
     }
 }
 
-/// The end of a script over a safe policy, with what is asked behind it. The script has fewer than 4,294,967,296 bytes.
+/// The end of a script over a safe policy, with what is asked behind it. The script has fewer than
+/// 4,294,967,296 bytes.
 pub(crate) fn play_and_answer(
     alloc: Global,
     safe: Safe,
@@ -120,7 +122,8 @@ pub(crate) fn play_and_answer(
     script: &[u8],
 ) -> Result<End, Memory>
     requires { length script.now < 2 ^ 32 }
-    ensures { IfOk result (λ end. AnswersFrom safe asked (start_of safe 1 (lines_of script.now)) (seen_end end)) }
+    ensures { IfOk result
+        (λ end. AnswersFrom safe asked (start_of safe 1 (lines_of script.now)) (seen_end end)) }
 {
     match begin(alloc, safe, script) {
         Ok(ran) => match ran {

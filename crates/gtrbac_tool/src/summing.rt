@@ -160,10 +160,11 @@ fn push_now(text: &mut Vec<u8>, book: &Book) -> Result<(), Memory>
     text.extend_from_slice(b"\n")
 }
 
-/// The summary of a book: the recipe, the length of the history, how many replies begin with each of the four words, and the
-/// instant now.
+/// The summary of a book: the recipe, the length of the history, how many replies begin with each
+/// of the four words, and the instant now.
 fn tally(alloc: Global, recipe: Recipe, book: &Book) -> Result<Vec<u8>, Memory>
-    ensures { IfOk result (λ text. text.items ≡ tally_of (seen_recipe recipe) book.now.birth book.now.entries) }
+    ensures { IfOk result
+        (λ text. text.items ≡ tally_of (seen_recipe recipe) book.now.birth book.now.entries) }
 {
     let entries = book.entries().as_slice();
     let mut text = Vec::new(alloc);
@@ -177,9 +178,14 @@ fn tally(alloc: Global, recipe: Recipe, book: &Book) -> Result<Vec<u8>, Memory>
     Ok(text)
 }
 
-/// The summary in place of the replies where the script was played to its end, and else the run's own end.
+/// The summary in place of the replies where the script was played to its end, and else the run's
+/// own end.
 fn sum_up(alloc: Global, recipe: Recipe, outcome: Outcome) -> Result<End, Memory>
-    ensures { IfOk result (λ end. (np : NamedPolicy) → seen_end end ≡ summed np (seen_recipe recipe) outcome.book.birth outcome.book.entries (seen_end outcome.end)) }
+    ensures { IfOk result
+        (λ end. (np : NamedPolicy)
+        → seen_end end
+        ≡ summed np (seen_recipe recipe) outcome.book.birth outcome.book.entries
+        (seen_end outcome.end)) }
 {
     if outcome.end.status != 0 {
         return Ok(outcome.end);
@@ -193,7 +199,9 @@ fn sum_up(alloc: Global, recipe: Recipe, outcome: Outcome) -> Result<End, Memory
 /// Plays the script and sums it up. The script has fewer than 4,294,967,296 bytes.
 fn play_and_sum(alloc: Global, recipe: Recipe, safe: Safe, script: &[u8]) -> Result<End, Memory>
     requires { length script.now < 2 ^ 32 }
-    ensures { IfOk result (λ end. SummedFrom safe (seen_recipe recipe) (start_of safe 1 (lines_of script.now)) (seen_end end)) }
+    ensures { IfOk result
+        (λ end. SummedFrom safe (seen_recipe recipe) (start_of safe 1 (lines_of script.now))
+        (seen_end end)) }
 {
     match begin(alloc, safe, script) {
         Ok(ran) => match ran {

@@ -42,8 +42,12 @@ fn say(alloc: Global, status: u8, text: &[u8]) -> Result<End, Memory>
 
 /// Reads the script and runs it.
 fn run_script<I: Source>(alloc: Global, safe: Safe, input: &mut I) -> Result<End, Memory>
-    ensures end { IfOk result (λ end. ScriptEnds (Rose (I.faults input.old) (I.faults input.new)) safe (I.left input.old) (seen_end end)) }
-    ensures caused { IfOk result (λ end. IsScriptCaused (Rose (I.faults input.old) (I.faults input.new)) (I.left input.old) end.status) }
+    ensures end { IfOk result
+        (λ end. ScriptEnds (Rose (I.faults input.old) (I.faults input.new)) safe
+        (I.left input.old) (seen_end end)) }
+    ensures caused { IfOk result
+        (λ end. IsScriptCaused (Rose (I.faults input.old) (I.faults input.new))
+        (I.left input.old) end.status) }
     ensures read { IfOk result (λ end. IsRunStatus end.status → IsAtEnd (I.left input.new)) }
 {
     match read_all(alloc, input, MAX_SCRIPT) {
@@ -57,8 +61,12 @@ fn run_script<I: Source>(alloc: Global, safe: Safe, input: &mut I) -> Result<End
 /// Runs the script over the policy of a text.
 fn run<I: Source>(alloc: Global, text: &[u8], input: &mut I) -> Result<End, Memory>
     requires { length text.now ≤ 4_194_304 }
-    ensures end { IfOk result (λ end. SafeEnds (Rose (I.faults input.old) (I.faults input.new)) (safe_in text.now) (I.left input.old) (seen_end end)) }
-    ensures caused { IfOk result (λ end. IsCaused (Rose (I.faults input.old) (I.faults input.new)) text.now (I.left input.old) end.status) }
+    ensures end { IfOk result
+        (λ end. SafeEnds (Rose (I.faults input.old) (I.faults input.new)) (safe_in text.now)
+        (I.left input.old) (seen_end end)) }
+    ensures caused { IfOk result
+        (λ end. IsCaused (Rose (I.faults input.old) (I.faults input.new)) text.now
+        (I.left input.old) end.status) }
     ensures read { IfOk result (λ end. IsRunStatus end.status → IsAtEnd (I.left input.new)) }
     ensures kept { (input.new ≡ input.old) ⊎ IsSafeText text.now }
 {
@@ -75,8 +83,12 @@ fn ask_script<I: Source>(
     asked: Asked,
     input: &mut I,
 ) -> Result<End, Memory>
-    ensures end { IfOk result (λ end. AskedEnds (Rose (I.faults input.old) (I.faults input.new)) safe (Some asked) (I.left input.old) (seen_end end)) }
-    ensures caused { IfOk result (λ end. IsScriptCaused (Rose (I.faults input.old) (I.faults input.new)) (I.left input.old) end.status) }
+    ensures end { IfOk result
+        (λ end. AskedEnds (Rose (I.faults input.old) (I.faults input.new)) safe (Some asked)
+        (I.left input.old) (seen_end end)) }
+    ensures caused { IfOk result
+        (λ end. IsScriptCaused (Rose (I.faults input.old) (I.faults input.new))
+        (I.left input.old) end.status) }
     ensures read { IfOk result (λ end. IsRunStatus end.status → IsAtEnd (I.left input.new)) }
 {
     match read_all(alloc, input, MAX_SCRIPT) {
@@ -94,8 +106,13 @@ fn ask_safe<I: Source>(
     question: Question,
     input: &mut I,
 ) -> Result<End, Memory>
-    ensures end { IfOk result (λ end. AskedEnds (Rose (I.faults input.old) (I.faults input.new)) safe (asked_by safe question) (I.left input.old) (seen_end end)) }
-    ensures caused { IfOk result (λ end. ((end.status ≡ 13) × (asked_by safe question ≡ None)) ⊎ IsScriptCaused (Rose (I.faults input.old) (I.faults input.new)) (I.left input.old) end.status) }
+    ensures end { IfOk result
+        (λ end. AskedEnds (Rose (I.faults input.old) (I.faults input.new)) safe
+        (asked_by safe question) (I.left input.old) (seen_end end)) }
+    ensures caused { IfOk result
+        (λ end. ((end.status ≡ 13) × (asked_by safe question ≡ None))
+        ⊎ IsScriptCaused (Rose (I.faults input.old) (I.faults input.new)) (I.left input.old)
+        end.status) }
     ensures read { IfOk result (λ end. IsRunStatus end.status → IsAtEnd (I.left input.new)) }
     ensures kept { (input.new ≡ input.old) ⊎ IsSome (asked_by safe question) }
 {
@@ -113,8 +130,12 @@ fn ask<I: Source>(
     input: &mut I,
 ) -> Result<End, Memory>
     requires { length text.now ≤ 4_194_304 }
-    ensures end { IfOk result (λ end. AskEnds (Rose (I.faults input.old) (I.faults input.new)) question (safe_in text.now) (I.left input.old) (seen_end end)) }
-    ensures caused { IfOk result (λ end. IsCaused (Rose (I.faults input.old) (I.faults input.new)) text.now (I.left input.old) end.status) }
+    ensures end { IfOk result
+        (λ end. AskEnds (Rose (I.faults input.old) (I.faults input.new)) question
+        (safe_in text.now) (I.left input.old) (seen_end end)) }
+    ensures caused { IfOk result
+        (λ end. IsCaused (Rose (I.faults input.old) (I.faults input.new)) text.now
+        (I.left input.old) end.status) }
     ensures read { IfOk result (λ end. IsRunStatus end.status → IsAtEnd (I.left input.new)) }
     ensures kept { (input.new ≡ input.old) ⊎ IsAskable text.now question }
 {
@@ -132,9 +153,15 @@ fn answer_text<I: Source>(
     input: &mut I,
 ) -> Result<End, Memory>
     requires { length text.now ≤ 4_194_304 }
-    ensures end { IfOk result (λ end. TextEnds (Rose (I.faults input.old) (I.faults input.new)) (seen_command command.now) text.now (I.left input.old) (seen_end end)) }
-    ensures caused { IfOk result (λ end. IsCaused (Rose (I.faults input.old) (I.faults input.new)) text.now (I.left input.old) end.status) }
-    ensures read { IfOk result (λ end. IsTrue (plays_script (seen_command command.now)) → IsRunStatus end.status → IsAtEnd (I.left input.new)) }
+    ensures end { IfOk result
+        (λ end. TextEnds (Rose (I.faults input.old) (I.faults input.new))
+        (seen_command command.now) text.now (I.left input.old) (seen_end end)) }
+    ensures caused { IfOk result
+        (λ end. IsCaused (Rose (I.faults input.old) (I.faults input.new)) text.now
+        (I.left input.old) end.status) }
+    ensures read { IfOk result
+        (λ end. IsTrue (plays_script (seen_command command.now)) → IsRunStatus end.status
+        → IsAtEnd (I.left input.new)) }
     ensures kept { (input.new ≡ input.old) ⊎ IsPlayed (seen_command command.now) text.now }
 {
     match command {
@@ -152,12 +179,22 @@ fn answer<S: Shelf, I: Source>(
     shelf: &mut S,
     input: &mut I,
 ) -> Result<End, Memory>
-    ensures end { IfOk result (λ end. FoundEnds (Rose (S.hard_faults shelf.old) (S.hard_faults shelf.new)) (Rose (I.faults input.old) (I.faults input.new))
-        (seen_command command.now) (S.contents shelf.old) (I.left input.old) (seen_end end)) }
-    ensures caused { IfOk result (λ end. IsCausedIn (Rose (S.hard_faults shelf.old) (S.hard_faults shelf.new)) (Rose (I.faults input.old) (I.faults input.new))
-        (S.contents shelf.old) (named_by (seen_command command.now)) (I.left input.old) end.status) }
+    ensures end { IfOk result
+        (λ end. FoundEnds (Rose (S.hard_faults shelf.old) (S.hard_faults shelf.new))
+        (Rose (I.faults input.old) (I.faults input.new)) (seen_command command.now)
+        (S.contents shelf.old) (I.left input.old) (seen_end end)) }
+    ensures caused { IfOk result
+        (λ end. IsCausedIn (Rose (S.hard_faults shelf.old) (S.hard_faults shelf.new))
+        (Rose (I.faults input.old) (I.faults input.new)) (S.contents shelf.old)
+        (named_by (seen_command command.now)) (I.left input.old) end.status) }
+    ensures failed { IfOk result
+        (λ end. end.status ≡ 4
+        → Rose (S.faults shelf.old) (S.faults shelf.new)
+        ⊎ Rose (I.faults input.old) (I.faults input.new)) }
     ensures same { S.contents shelf.new ≡ S.contents shelf.old }
-    ensures read { IfOk result (λ end. IsTrue (plays_script (seen_command command.now)) → IsRunStatus end.status → IsAtEnd (I.left input.new)) }
+    ensures read { IfOk result
+        (λ end. IsTrue (plays_script (seen_command command.now)) → IsRunStatus end.status
+        → IsAtEnd (I.left input.new)) }
     ensures kept { (input.new ≡ input.old) ⊎ IsScriptDue (seen_command command.now) (S.contents shelf.old) }
 {
     match find_all(alloc, shelf, command.name(), MAX_POLICY) {
@@ -170,7 +207,8 @@ fn answer<S: Shelf, I: Source>(
 
 /// Prints a text; a sink that fails has status 5.
 fn print<K: Sink>(out: &mut K, status: u8, text: &[u8]) -> u8
-    ensures { IsPrinted result (told status text.now) (K.written out.old) (K.written out.new) (K.faults out.old) (K.faults out.new) }
+    ensures { IsPrinted result (told status text.now) (K.written out.old) (K.written out.new)
+        (K.faults out.old) (K.faults out.new) }
 {
     match write_all(out, text) {
         Ok(()) => status,
@@ -178,7 +216,8 @@ fn print<K: Sink>(out: &mut K, status: u8, text: &[u8]) -> u8
     }
 }
 
-/// Runs the command over a policy that the words are, and prints to `out`; the usage line where they are none.
+/// Runs the command over a policy that the words are, and prints to `out`; the usage line where
+/// they are none.
 fn run_command<S: Shelf, I: Source, K: Sink>(
     alloc: Global,
     words: &[String],
@@ -187,21 +226,31 @@ fn run_command<S: Shelf, I: Source, K: Sink>(
     out: &mut K,
 ) -> u8
     ensures answers { AnswersCommand (map string_bytes words.now) result
-        (seen (S.contents shelf.old) (S.hard_faults shelf.old) (I.left input.old) (I.faults input.old) (K.written out.old) (K.faults out.old))
-        (seen (S.contents shelf.new) (S.hard_faults shelf.new) (I.left input.new) (I.faults input.new) (K.written out.new) (K.faults out.new)) }
+        (seen (S.contents shelf.old) (S.hard_faults shelf.old) (I.left input.old)
+        (I.faults input.old) (K.written out.old) (K.faults out.old))
+        (seen (S.contents shelf.new) (S.hard_faults shelf.new) (I.left input.new)
+        (I.faults input.new) (K.written out.new) (K.faults out.new)) }
     ensures usage { command_of (map string_bytes words.now) ≡ None → (result ≡ 1) ⊎ (result ≡ 5) }
     ensures used { result ≡ 1 → command_of (map string_bytes words.now) ≡ None }
     ensures fault { result ≡ 2 → IfTold (map string_bytes words.now) (S.contents shelf.old) HasFault }
     ensures cycle { result ≡ 3 → IfTold (map string_bytes words.now) (S.contents shelf.old) IsUnsafeText }
     ensures read_fault { result ≡ 4
-        → Rose (S.hard_faults shelf.old) (S.hard_faults shelf.new) ⊎ Rose (I.faults input.old) (I.faults input.new) ⊎ IsMissing (map string_bytes words.now) (S.contents shelf.old) }
+        → Rose (S.hard_faults shelf.old) (S.hard_faults shelf.new)
+        ⊎ Rose (I.faults input.old) (I.faults input.new)
+        ⊎ IsMissing (map string_bytes words.now) (S.contents shelf.old) }
+    ensures failed { result ≡ 4
+        → Rose (S.faults shelf.old) (S.faults shelf.new)
+        ⊎ Rose (I.faults input.old) (I.faults input.new) }
     ensures write_fault { result ≡ 5 → Rose (K.faults out.old) (K.faults out.new) }
     ensures written { (result ≡ 5 → ⊥) → K.faults out.new ≡ K.faults out.old }
-    ensures long { result ≡ 6 → IfTold (map string_bytes words.now) (S.contents shelf.old) (λ text. IsLongPolicy text ⊎ IsLongScript (I.left input.old)) }
+    ensures long { result ≡ 6
+        → IfTold (map string_bytes words.now) (S.contents shelf.old)
+        (λ text. IsLongPolicy text ⊎ IsLongScript (I.left input.old)) }
     ensures same { S.contents shelf.new ≡ S.contents shelf.old }
     ensures read { IsReadOut (map string_bytes words.now) result (I.left input.new) }
     ensures kept { (input.new ≡ input.old) ⊎ ReadsScript (map string_bytes words.now) (S.contents shelf.old) }
-    ensures unread { command_of (map string_bytes words.now) ≡ None → (shelf.new ≡ shelf.old) × (input.new ≡ input.old) }
+    ensures unread { command_of (map string_bytes words.now) ≡ None
+        → (shelf.new ≡ shelf.old) × (input.new ≡ input.old) }
 {
     let Some(command) = spoken(words) else {
         return print(
@@ -219,7 +268,8 @@ fn run_command<S: Shelf, I: Source, K: Sink>(
 /// Runs `gen` and prints to `out`.
 fn run_gen<K: Sink>(alloc: Global, recipe: Recipe, out: &mut K) -> u8
     requires { (1 ≤ recipe.size) × (recipe.size ≤ 100_000) }
-    ensures answers { Prints (GenEnds (seen_recipe recipe)) result (K.written out.old) (K.written out.new) (K.faults out.old) (K.faults out.new) }
+    ensures answers { Prints (GenEnds (seen_recipe recipe)) result (K.written out.old) (K.written out.new)
+        (K.faults out.old) (K.faults out.new) }
     ensures caused { (result ≡ 5) ⊎ (result ≡ 8) ⊎ IsGenCaused recipe.size result }
     ensures succeeds { (result ≡ 0) ⊎ (result ≡ 5) ⊎ (result ≡ 8) }
     ensures write_fault { result ≡ 5 → Rose (K.faults out.old) (K.faults out.new) }
@@ -231,18 +281,21 @@ fn run_gen<K: Sink>(alloc: Global, recipe: Recipe, out: &mut K) -> u8
     }
 }
 
-/// Runs the command that the words are, over a shelf of texts by name and an input, and prints to `out`. The commands are
-/// `check POLICY`, which says whether a policy is safe, `fmt POLICY`, which lays it out, `run POLICY`, which reads a
-/// script from the input to its end and prints its replies, `forecast POLICY DAYS COND`, which prints behind these when
-/// the answer of the condition changes within so many days, if no request comes any more, and `why POLICY EVENT`, which prints
-/// behind them how many instants a certificate of what happened has, and why the event is in force or blocked at the end; the
-/// policy is found on the shelf. `gen SEED SIZE` makes a policy and a script, plays them and prints a summary; it reads neither
-/// shelf nor input. It answers the exit status:
+/// Runs the command that the words are, over a shelf of texts by name and an input, and prints to
+/// `out`. The commands are `check POLICY`, which says whether a policy is safe, `fmt POLICY`, which
+/// lays it out, `run POLICY`, which reads a script from the input to its end and prints its
+/// replies, `forecast POLICY DAYS COND`, which prints behind these when the answer of the condition
+/// changes within so many days, if no request comes any more, and `why POLICY EVENT`, which prints
+/// behind them how many instants a certificate of what happened has, and why the event is in force
+/// or blocked at the end; the policy is found on the shelf. `gen SEED SIZE` makes a policy and a
+/// script, plays them and prints a summary; it reads neither shelf nor input. It answers the exit
+/// status:
 ///
 /// - 0: the policy is safe, or was laid out, or the script was run to its end;
 /// - 1: the words are no command, and the usage line was printed;
 /// - 2: a line of the policy has a fault, or its lines have one together, which was printed;
-/// - 3: the policy is not safe, and its least conflict cycle was printed; `fmt` does not judge this;
+/// - 3: the policy is not safe, and its least conflict cycle was printed; `fmt` does not judge
+///   this;
 /// - 4: the shelf or the input failed, or the shelf has no such policy;
 /// - 5: the output failed, with a front of the text written;
 /// - 6: the policy has more than 4,194,304 bytes or the script more than 16,777,216;
@@ -258,31 +311,54 @@ pub fn tool<S: Shelf, I: Source, K: Sink>(
     out: &mut K,
 ) -> u8
     ensures answers { Answers (map string_bytes words.now) result
-        (seen (S.contents shelf.old) (S.hard_faults shelf.old) (I.left input.old) (I.faults input.old) (K.written out.old) (K.faults out.old))
-        (seen (S.contents shelf.new) (S.hard_faults shelf.new) (I.left input.new) (I.faults input.new) (K.written out.new) (K.faults out.new)) }
-    ensures usage { command_of (map string_bytes words.now) ≡ None → IsNoGen (map string_bytes words.now) → (result ≡ 1) ⊎ (result ≡ 5) }
-    ensures used { result ≡ 1 → (command_of (map string_bytes words.now) ≡ None) × IsNoGen (map string_bytes words.now) }
-    ensures fault { result ≡ 2 → IfTold (map string_bytes words.now) (S.contents shelf.old) HasFault ⊎ IsMade (map string_bytes words.now) HasFault }
-    ensures cycle { result ≡ 3 → IfTold (map string_bytes words.now) (S.contents shelf.old) IsUnsafeText ⊎ IsMade (map string_bytes words.now) IsUnsafeText }
+        (seen (S.contents shelf.old) (S.hard_faults shelf.old) (I.left input.old)
+        (I.faults input.old) (K.written out.old) (K.faults out.old))
+        (seen (S.contents shelf.new) (S.hard_faults shelf.new) (I.left input.new)
+        (I.faults input.new) (K.written out.new) (K.faults out.new)) }
+    ensures usage { command_of (map string_bytes words.now) ≡ None → IsNoGen (map string_bytes words.now)
+        → (result ≡ 1) ⊎ (result ≡ 5) }
+    ensures used { result ≡ 1
+        → (command_of (map string_bytes words.now) ≡ None)
+        × IsNoGen (map string_bytes words.now) }
+    ensures fault { result ≡ 2
+        → IfTold (map string_bytes words.now) (S.contents shelf.old) HasFault
+        ⊎ IsMade (map string_bytes words.now) HasFault }
+    ensures cycle { result ≡ 3
+        → IfTold (map string_bytes words.now) (S.contents shelf.old) IsUnsafeText
+        ⊎ IsMade (map string_bytes words.now) IsUnsafeText }
     ensures read_fault { result ≡ 4
-        → Rose (S.hard_faults shelf.old) (S.hard_faults shelf.new) ⊎ Rose (I.faults input.old) (I.faults input.new) ⊎ IsMissing (map string_bytes words.now) (S.contents shelf.old) }
+        → Rose (S.hard_faults shelf.old) (S.hard_faults shelf.new)
+        ⊎ Rose (I.faults input.old) (I.faults input.new)
+        ⊎ IsMissing (map string_bytes words.now) (S.contents shelf.old) }
+    ensures failed { result ≡ 4
+        → Rose (S.faults shelf.old) (S.faults shelf.new)
+        ⊎ Rose (I.faults input.old) (I.faults input.new) }
     ensures write_fault { result ≡ 5 → Rose (K.faults out.old) (K.faults out.new) }
     ensures written { (result ≡ 5 → ⊥) → K.faults out.new ≡ K.faults out.old }
-    ensures long { result ≡ 6 → IfTold (map string_bytes words.now) (S.contents shelf.old) (λ text. IsLongPolicy text ⊎ IsLongScript (I.left input.old)) }
+    ensures long { result ≡ 6
+        → IfTold (map string_bytes words.now) (S.contents shelf.old)
+        (λ text. IsLongPolicy text ⊎ IsLongScript (I.left input.old)) }
     ensures exact { Exact (map string_bytes words.now) result
-        (seen (S.contents shelf.old) (S.hard_faults shelf.old) (I.left input.old) (I.faults input.old) (K.written out.old) (K.faults out.old))
-        (seen (S.contents shelf.new) (S.hard_faults shelf.new) (I.left input.new) (I.faults input.new) (K.written out.new) (K.faults out.new)) }
+        (seen (S.contents shelf.old) (S.hard_faults shelf.old) (I.left input.old)
+        (I.faults input.old) (K.written out.old) (K.faults out.old))
+        (seen (S.contents shelf.new) (S.hard_faults shelf.new) (I.left input.new)
+        (I.faults input.new) (K.written out.new) (K.faults out.new)) }
     ensures caused { Caused (map string_bytes words.now) result
-        (seen (S.contents shelf.old) (S.hard_faults shelf.old) (I.left input.old) (I.faults input.old) (K.written out.old) (K.faults out.old))
-        (seen (S.contents shelf.new) (S.hard_faults shelf.new) (I.left input.new) (I.faults input.new) (K.written out.new) (K.faults out.new)) }
+        (seen (S.contents shelf.old) (S.hard_faults shelf.old) (I.left input.old)
+        (I.faults input.old) (K.written out.old) (K.faults out.old))
+        (seen (S.contents shelf.new) (S.hard_faults shelf.new) (I.left input.new)
+        (I.faults input.new) (K.written out.new) (K.faults out.new)) }
     ensures complete { Complete (map string_bytes words.now) result
-        (seen (S.contents shelf.old) (S.hard_faults shelf.old) (I.left input.old) (I.faults input.old) (K.written out.old) (K.faults out.old))
-        (seen (S.contents shelf.new) (S.hard_faults shelf.new) (I.left input.new) (I.faults input.new) (K.written out.new) (K.faults out.new)) }
+        (seen (S.contents shelf.old) (S.hard_faults shelf.old) (I.left input.old)
+        (I.faults input.old) (K.written out.old) (K.faults out.old))
+        (seen (S.contents shelf.new) (S.hard_faults shelf.new) (I.left input.new)
+        (I.faults input.new) (K.written out.new) (K.faults out.new)) }
     ensures generated { IsNoGen (map string_bytes words.now) ⊎ (result ≡ 0) ⊎ (result ≡ 5) ⊎ (result ≡ 8) }
     ensures same { S.contents shelf.new ≡ S.contents shelf.old }
     ensures read { IsReadOut (map string_bytes words.now) result (I.left input.new) }
     ensures kept { (input.new ≡ input.old) ⊎ ReadsScript (map string_bytes words.now) (S.contents shelf.old) }
-    ensures unread { command_of (map string_bytes words.now) ≡ None → (shelf.new ≡ shelf.old) × (input.new ≡ input.old) }
+    ensures unread { command_of (map string_bytes words.now) ≡ None
+        → (shelf.new ≡ shelf.old) × (input.new ≡ input.old) }
 {
     match recipe_of(words) {
         Some(recipe) => run_gen(alloc, recipe, out),

@@ -1,20 +1,21 @@
-//! The program `gtrbacd`: serves a policy to the connections of four ports of this machine, and writes the log at the end.
+//! The program `gtrbacd`: serves a policy to connections of this machine, and writes the log at the
+//! end: by four workers, each at a port of its own, or on one thread at one port.
 #![tactic(auto)]
 
 ghost use Rattle.std.specs.Prelude.{◌≡◌, length, All, IfOk};
 ghost use Rattle.gtrbac_daemon.specs.Crew.{IsNew};
 
 use gt_base::List;
-use gt_host::{HostClock, HostDoor, HostShelf, Writing};
+use gt_host::{HostClock, HostDoor, HostPorts, HostShelf, Writing};
 use gt_io::OpenGate;
-use gtrbac_daemon::daemon;
+use gtrbac_daemon::{Mode, daemon, daemon_poll, mode_of};
 use line_server::{WorkEnd, Worker};
 use std::alloc::AllocError;
 use std::env;
 use std::io::ErrorKind;
 use std::process::ExitCode;
 
-/// The port of the first worker; the others have those behind it.
+/// The port of the polling mode, and of the first worker; the others have those behind it.
 const FIRST_PORT: u16 = 7743;
 
 /// A worker of this machine.
@@ -73,12 +74,29 @@ fn main(rt: HostRuntime) -> ExitCode {
     let Ok(words) = words(&rt) else {
         return ExitCode::from(8);
     };
-    let Ok(mut crew) = hire(&rt) else {
-        return ExitCode::from(8);
-    };
     let mut shelf = HostShelf::new(&rt);
     let mut birth = HostClock::new(&rt);
     let mut out = Writing::new(rt.stdout());
+    if mode_of(&words) == Mode::Poll {
+        let mut ports = HostPorts::new(&rt, rt.alloc(), FIRST_PORT);
+        let mut clock = HostClock::new(&rt);
+        let mut ends = List::new(rt.alloc());
+        return ExitCode::from(daemon_poll(
+            &rt,
+            rt.alloc(),
+            &words,
+            &mut shelf,
+            &mut birth,
+            &mut ports,
+            &mut clock,
+            &OpenGate,
+            &mut ends,
+            &mut out,
+        ));
+    }
+    let Ok(mut crew) = hire(&rt) else {
+        return ExitCode::from(8);
+    };
     let status = daemon(
         &rt,
         rt.alloc(),

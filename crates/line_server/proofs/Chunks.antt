@@ -13,19 +13,15 @@ use Rattle.connection_laws.specs.Connection.{Acted}
 use Rattle.connection_laws.proofs.Prefixes.{prefix_trans}
 use Rattle.line_server.specs.Serving.{Point, HaltsBy, Serving, Halted, TakesOn, Goes}
 
-halts_earlier : (end : LinkEnd) (f f' f'' draws : ℕ) → f ≤ f' → HaltsBy f' f'' draws end → HaltsBy f f'' draws end
-halts_earlier WriteFault f f' f'' draws low h = omega arith
-halts_earlier (Worn n) f f' f'' draws low h = h
-halts_earlier Ended f f' f'' draws low h = h
-halts_earlier ReadFault f f' f'' draws low h = h
-halts_earlier Spent f f' f'' draws low h = h
+halts_earlier : (end : LinkEnd) (f f' f'' draws : ℕ) → f' ≡ f → HaltsBy f' f'' draws end → HaltsBy f f'' draws end
+halts_earlier end f f' f'' draws same h = subst (λ (n : ℕ). HaltsBy n f'' draws end) same h
 
 module _ {M : Type 0} (np : NamedPolicy) (first : List Entry) (legal : List Entry → Type 0) (now : List Entry → ℕ) (who : Who) where
   abbrev Gone : Point M → Point M → Frame → Frame → List ℕ → ℕ → ℕ → {T : Type 0} → Result T LinkEnd → Type 0
   Gone p p' frame frame' piece f f' result = Goes np first legal now who p p' frame frame' piece f f' result
 
   -- the service was cut off in the second piece
-  pub cut_behind : (p q r : Point M) (frame frame' frame'' : Frame) (xs ys all : List ℕ) (e f f' : ℕ) (T : Type 0) (end : LinkEnd) → IsPrefix (xs ++ ys) all → e ≤ f → Gone p q frame frame' xs 0 0 {T = Unit {0}} (Ok tt) → Gone q r frame' frame'' ys f f' {T = T} (Err end)
+  pub cut_behind : (p q r : Point M) (frame frame' frame'' : Frame) (xs ys all : List ℕ) (e f f' : ℕ) (T : Type 0) (end : LinkEnd) → IsPrefix (xs ++ ys) all → f ≡ e → Gone p q frame frame' xs 0 0 {T = Unit {0}} (Ok tt) → Gone q r frame' frame'' ys f f' {T = T} (Err end)
       → Gone p r frame frame'' all e f' {T = T} (Err end)
   cut_behind p q r frame frame' frame'' xs ys all e f f' T end within low a b = λ o fed acted s.
       let x = a o fed acted s in

@@ -42,10 +42,10 @@ module _ (np : NamedPolicy) (birth : ℕ) (who : Who) (h : List Entry) where
       (λ request is. request_answered (read_line np Nobody false a.line) (actor_after np before) (older + length (entries_of before)) a request u.0 all.1 is, all_answered older before u.1 all.0)
 
   pub complete_by : (older : ℕ) (taken readings : List ℕ) (own : List Entry) (given : List ℕ) (acted : List Acted) (end : LinkEnd) (a b : Traffic) (draws : ℕ)
-      → Conn np birth who h older taken readings own given acted end → EndsBy a b draws taken end → IsUnhindered a b draws taken → IsComplete np h taken acted end
+      → Conn np birth who h older taken readings own given acted end → EndsBy a b draws taken end → IsUnhindered a b taken end → IsComplete np h taken acted end
   complete_by older taken readings own given acted Ended a b draws c cause free =
       record { ended = refl; lines = c.given_is.0; answered = all_answered older acted c.given_is.1 c.fit }
-  complete_by older taken readings own given acted ReadFault a b draws c cause free = absurd (free.reads cause.0)
-  complete_by older taken readings own given acted WriteFault a b draws c cause free = absurd (free.writes cause)
-  complete_by older taken readings own given acted Spent a b draws c cause free = let few = free.few in absurd (omega (arith, cause, few))
-  complete_by older taken readings own given acted (Worn n) a b draws c cause free = let full = cause.1 in let unworn = free.unworn in absurd (omega (arith, full, unworn))
+  complete_by older taken readings own given acted ReadFault a b draws c cause free = let e = cause.1.reads_are in absurd (free.reads (omega (arith, e)))
+  complete_by older taken readings own given acted WriteFault a b draws c cause free = let e = cause.writes_are in absurd (free.writes (omega (arith, e)))
+  complete_by older taken readings own given acted Spent a b draws c cause free = let few = free.few in let full = cause.0 in absurd (omega (arith, full, few))
+  complete_by older taken readings own given acted (Worn n) a b draws c cause free = absurd (true≢false free.unworn)

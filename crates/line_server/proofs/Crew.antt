@@ -8,11 +8,11 @@ use Rattle.turn_lock.specs.Holders.{Holder, IsTold}
 use Rattle.locked_history.specs.Fronts.{by}
 use Rattle.policy_words.specs.Naming.{NamedPolicy}
 use Rattle.connection_laws.specs.Connection.{part_of}
-use Rattle.connection_laws.proofs.Places.{part_of-append, part_of-part, all_mine}
+use Rattle.connection_laws.proofs.Places.{part_of-append, part_of-part, all_mine, none_mine}
 use Rattle.line_server.specs.declared.ended.Served.{Served}
 use Rattle.line_server.specs.declared.ended.WorkEnd.{WorkEnd}
 use Rattle.line_server.specs.Working.{Tale, begun_of, owns_of, Gives, Spot, AreServed, Works, AreParts, IsTellingOfWorkers}
-use Rattle.line_server.proofs.Links.{none_mine, served_longer}
+use Rattle.line_server.proofs.Links.{served_longer}
 
 module _ {L : Type 0} (traffic : L → Traffic) (np : NamedPolicy) (first : List Entry) (legal : List Entry → Type 0) (now : List Entry → ℕ) (w : ℕ) where
   later_none : (h own : List Entry) (c k : ℕ) (ss : List (Served L)) (xs : List (Tale L)) → k < c → AreServed traffic np first legal now w h own c ss xs → part_of (by w k) (owns_of xs) ≡ []

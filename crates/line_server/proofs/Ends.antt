@@ -1,14 +1,14 @@
 -- How a service begins and ends.
-use Rattle.std.proofs.Common.{◌≡◌, ℕ, ◌+◌, ◌*◌, ◌≤◌, ◌^◌, List, [], ◌∷◌, ◌++◌, length, refl, sym, ap, subst, ◌∙◌, arith, append_assoc, add-zero, Option}
+use Rattle.std.proofs.Common.{◌≡◌, ℕ, ◌+◌, ◌*◌, ◌≤◌, ◌^◌, true, List, [], ◌∷◌, ◌++◌, length, refl, sym, ap, subst, ◌∙◌, arith, append_assoc, add-zero, Option}
 use Rattle.std.specs.Io.KnownBytes.{Appends, Consumes, IsAtEnd}
 use Rattle.std.proofs.KnownBytes.{Appends-nil, Appends-kept}
 use mathlib.Core.List.{IsPrefix}
 use Rattle.gt_base.specs.declared.requests.Who.{Who}
 use Rattle.gt_base.specs.declared.requests.Actor.{Actor}
 use Rattle.gt_base.specs.declared.requests.Entry.{Entry}
-use Rattle.gt_io.specs.Causes.{Rose}
 use Rattle.gt_io.specs.Frames.{Frame, blank_frame}
 use Rattle.gt_io.specs.Links.{Traffic, ReadsNothing, WritesNothing}
+use Rattle.gt_io.specs.Memory.{one_more}
 use Rattle.gt_io.proofs.Readings.{Reads-nil}
 use Rattle.turn_lock.specs.Holders.{Holder}
 use Rattle.policy_words.specs.Naming.{NamedPolicy}
@@ -19,10 +19,10 @@ use Rattle.connection_laws.specs.declared.ends.Report.{Report}
 use Rattle.connection_laws.specs.Cuts.{whole_lines}
 use Rattle.connection_laws.specs.Connection.{Acted, lines_of, readings_of, entries_of, IsGiven, IsTimed, placed, Conn}
 use Rattle.connection_laws.proofs.Cutting.{lines_more}
-use Rattle.line_server.specs.declared.talk.Talk.{Talk}
-use Rattle.line_server.specs.Serving.{Point, IsStart, HaltsBy, EndsBy, Going, Serving, Halted, Converses, Serves, most_bytes}
+use Rattle.connection_laws.specs.declared.talk.Talk.{Talk}
+use Rattle.line_server.specs.Serving.{Point, IsStart, HaltsBy, HaveFailed, none_more, EndsBy, Going, Serving, Halted, Converses, Serves, most_bytes}
 use Rattle.line_server.proofs.Completing.{complete_by}
-use Rattle.line_server.proofs.Growing.{grown_none}
+use Rattle.connection_laws.proofs.Growing.{grown_none}
 use Rattle.line_server.proofs.LineDone.{point}
 
 given_same : (np : NamedPolicy) (xs ys text : List ℕ) (acted : List Acted) (f f' draws : ℕ) (end : LinkEnd) → HaltsBy f f' draws end → IsGiven np xs text acted end → IsGiven np ys text acted end
@@ -32,20 +32,23 @@ given_same np xs ys text acted f f' draws Ended h g = absurd h
 given_same np xs ys text acted f f' draws ReadFault h g = absurd h
 given_same np xs ys text acted f f' draws Spent h g = absurd h
 
-cause_of : (a b : Traffic) (taken : List ℕ) (f draws : ℕ) (end : LinkEnd) → a.write_faults ≤ f → HaltsBy f b.write_faults draws end → EndsBy a b draws taken end
-cause_of a b taken f draws WriteFault low h = omega arith
-cause_of a b taken f draws (Worn n) low h = h
-cause_of a b taken f draws Ended low h = absurd h
-cause_of a b taken f draws ReadFault low h = absurd h
-cause_of a b taken f draws Spent low h = absurd h
+cause_of : (a b : Traffic) (taken : List ℕ) (f draws : ℕ) (end : LinkEnd) → b.read_faults ≡ a.read_faults → f ≡ a.write_faults → HaltsBy f b.write_faults draws end → EndsBy a b draws taken end
+cause_of a b taken f draws WriteFault reads low h = record { reads_are = reads; writes_are = h ∙ ap one_more low }
+cause_of a b taken f draws (Worn n) reads low h = (h.0, h.1, record { reads_are = reads; writes_are = h.2 ∙ low })
+cause_of a b taken f draws Ended reads low h = absurd h
+cause_of a b taken f draws ReadFault reads low h = absurd h
+cause_of a b taken f draws Spent reads low h = absurd h
+
+failed_kept : (a b c : Traffic) (reads writes : ℕ → ℕ) → ReadsNothing b c → WritesNothing b c → HaveFailed a b reads writes → HaveFailed a c reads writes
+failed_kept a b c reads writes r w h = record { reads_are = r.read_faults_are ∙ h.reads_are; writes_are = w.write_faults_are ∙ h.writes_are }
 
 -- what follows the last call changes nothing
 cause_kept : (a b c : Traffic) (taken : List ℕ) (draws : ℕ) (end : LinkEnd) → ReadsNothing b c → WritesNothing b c → EndsBy a b draws taken end → EndsBy a c draws taken end
-cause_kept a b c taken draws Ended r w h = (subst IsAtEnd (sym r.left_kept) h.0, h.1)
-cause_kept a b c taken draws ReadFault r w h = let e = r.read_faults_are in let rose = h.0 in (omega (arith, e, rose), h.1)
-cause_kept a b c taken draws WriteFault r w h = let e = w.write_faults_are in omega (arith, e)
-cause_kept a b c taken draws Spent r w h = h
-cause_kept a b c taken draws (Worn n) r w h = h
+cause_kept a b c taken draws Ended r w h = (subst IsAtEnd (sym r.left_kept) h.0, h.1, failed_kept a b c none_more none_more r w h.2)
+cause_kept a b c taken draws ReadFault r w h = (h.0, failed_kept a b c one_more none_more r w h.1)
+cause_kept a b c taken draws WriteFault r w h = failed_kept a b c none_more one_more r w h
+cause_kept a b c taken draws Spent r w h = (h.0, failed_kept a b c none_more none_more r w h.1)
+cause_kept a b c taken draws (Worn n) r w h = (h.0, h.1, failed_kept a b c none_more none_more r w h.2)
 
 module _ {M : Type 0} (np : NamedPolicy) (first : List Entry) (legal : List Entry → Type 0) (now : List Entry → ℕ) (who : Who) where
   pub begins : (pass : Holder M) (talk : Talk) (clock : Option (ℕ → ℕ)) (given : Option (List ℕ)) (frame : Frame) → IsStart talk → frame ≡ blank_frame
@@ -71,8 +74,8 @@ module _ {M : Type 0} (np : NamedPolicy) (first : List Entry) (legal : List Entr
       })
 
   pub cut_off : (o p : Point M) (a b : Traffic) (f : ℕ) (fed part chunk : List ℕ) (acted : List Acted) (end : LinkEnd) → Halted np first legal now who o p (fed ++ part) acted f b.write_faults end → IsPrefix part chunk
-      → a.write_faults ≤ f → Appends a.taken b.taken (fed ++ chunk) → Consumes a.left b.left (fed ++ chunk) → length (fed ++ chunk) ≤ most_bytes → Converses np first legal now who o p a b end
-  cut_off o p a b f fed part chunk acted end h within low taken left few =
+      → b.read_faults ≡ a.read_faults → f ≡ a.write_faults → Appends a.taken b.taken (fed ++ chunk) → Consumes a.left b.left (fed ++ chunk) → length (fed ++ chunk) ≤ most_bytes → Converses np first legal now who o p a b end
+  cut_off o p a b f fed part chunk acted end h within reads low taken left few =
       let whole : (fed ++ part) ++ within.0 ≡ fed ++ chunk = append_assoc fed part within.0 ∙ ap (λ (l : List ℕ). fed ++ l) within.1 in
       let more = lines_more (fed ++ part) within.0 in
       record {
@@ -86,7 +89,7 @@ module _ {M : Type 0} (np : NamedPolicy) (first : List Entry) (legal : List Entr
         taken_is = taken;
         left_is = left;
         bounded = few;
-        cause = cause_of a b (fed ++ chunk) f p.pass.draws end low h.cause;
+        cause = cause_of a b (fed ++ chunk) f p.pass.draws end reads low h.cause;
       }
 
   -- what is given to the link is kept by a read
@@ -97,9 +100,9 @@ module _ {M : Type 0} (np : NamedPolicy) (first : List Entry) (legal : List Entr
 
   -- the report of a service
   pub reported : (before after : Holder M) (talk talk' : Talk) (clock clock' : Option (ℕ → ℕ)) (a b c : Traffic) (end : LinkEnd) → IsStart talk
-      → Converses np first legal now who (point before talk clock a.given) (point after talk' clock' b.given) a b end → ReadsNothing b c → WritesNothing b c
+      → Converses np first legal now who (point before talk clock a.given) (point after talk' clock' b.given) a b end → ReadsNothing b c → WritesNothing b c → c.finished ≡ true
       → Serves np first legal now who before after talk.calls talk'.calls clock clock' a c (record { asked = talk'.asked; denied = talk'.denied; outcome = end })
-  reported before after talk talk' clock clock' a b c end start x r w =
+  reported before after talk talk' clock clock' a b c end start x r w done =
       let connected : (birth : ℕ) → IsTimed birth legal now → Conn np birth who after.seen (placed who first before.own) x.taken (readings_of x.acted) (entries_of x.acted) x.text x.acted end =
       λ birth timed. record { lines = x.lines; readings_are = refl; own_are = refl; fit = x.going.fits birth timed; given_is = x.given_is } in
       let ends = cause_kept a b c x.taken after.draws end r w x.cause in
@@ -121,6 +124,7 @@ module _ {M : Type 0} (np : NamedPolicy) (first : List Entry) (legal : List Entr
         reads = x.going.reads;
         bounded = x.bounded;
         cause = ends;
+        finished = done;
         complete = λ birth timed free.
             complete_by np birth who after.seen (placed who first before.own) x.taken (readings_of x.acted) (entries_of x.acted) x.text x.acted end a c after.draws (connected birth timed) ends free;
       }

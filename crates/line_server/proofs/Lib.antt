@@ -1,8 +1,3 @@
-pub mod Growing
-pub mod Asking
-pub mod Deciding
-pub mod Acting
-pub mod NoMinutes
 pub mod LineDone
 pub mod Chunks
 pub mod Completing

@@ -30,12 +30,13 @@ use Rattle.connection_laws.proofs.Cutting.{lines_feed, lines_byte}
 use Rattle.connection_laws.proofs.Framing.{fits_feed, fits_byte}
 use Rattle.connection_laws.proofs.Longer.{acted_longer}
 use Rattle.connection_laws.proofs.Places.{placed_more}
-use Rattle.line_server.specs.declared.talk.Talk.{Talk}
-use Rattle.line_server.specs.declared.talk.Told.{Told}
-use Rattle.line_server.specs.declared.talk.Told.TheVariants.{Worn as ToldWorn}
-use Rattle.line_server.specs.Turns.{Grows, AreMine}
-use Rattle.line_server.specs.Serving.{counted, Sent, Point, HaltsBy, Acts, Going, Serving, Halted, TakesOn}
-use Rattle.line_server.proofs.Growing.{grown_twice}
+use Rattle.connection_laws.specs.declared.talk.Talk.{Talk}
+use Rattle.connection_laws.specs.declared.talk.Told.{Told}
+use Rattle.connection_laws.specs.declared.talk.Told.TheVariants.{Worn as ToldWorn}
+use Rattle.connection_laws.specs.Turns.{Grows, AreMine}
+use Rattle.connection_laws.specs.Acting.{counted, Acts}
+use Rattle.line_server.specs.Serving.{Sent, Point, HaltsBy, Going, Serving, Halted, TakesOn}
+use Rattle.connection_laws.proofs.Growing.{grown_twice}
 
 abbrev pub point : {M : Type 0} → Holder M → Talk → Option (ℕ → ℕ) → Option (List ℕ) → Point M
 point pass talk clock given = record { pass = pass; talk = talk; clock = clock; given = given }
@@ -115,7 +116,7 @@ module _ {M : Type 0} (np : NamedPolicy) (first : List Entry) (legal : List Entr
                 text = text_of np acted;
                 given = Appends-kept o.given a.given b.given (text_of np acted) s.given w.3;
                 given_is = subst (λ (end : LinkEnd). IsGiven np fed' (text_of np acted) (x.acted ∷ acted) end) (sym w.1) (w.2, s.unworn, refl);
-                cause = subst (λ (end : LinkEnd). HaltsBy a.write_faults b.write_faults after.draws end) (sym w.1) (x.worn_out w.0 (wears w.0 (ap Err w.1)));
+                cause = subst (λ (end : LinkEnd). HaltsBy a.write_faults b.write_faults after.draws end) (sym w.1) (let y = x.worn_out w.0 (wears w.0 (ap Err w.1)) in (y.0, y.1, w.4));
               }) (sent.ends e refl),
         ),
       )

@@ -16,31 +16,14 @@ use Rattle.connection_laws.specs.declared.ends.LinkEnd.{LinkEnd}
 use Rattle.connection_laws.specs.declared.ends.LinkEnd.TheVariants.{Worn as LinkWorn}
 use Rattle.connection_laws.specs.Connection.{is_who, part_of, IsTimed, placed, Conn}
 use Rattle.connection_laws.proofs.Longer.{conn_longer}
-use Rattle.connection_laws.proofs.Places.{part_of-append}
+use Rattle.connection_laws.proofs.Places.{part_of-append, none_mine}
 use Rattle.line_server.specs.declared.ended.Served.{Served}
 use Rattle.line_server.specs.declared.ended.WorkEnd.{WorkEnd}
 use Rattle.line_server.specs.declared.ended.WorkEnd.TheVariants.{Fresh, Done, DoorFault, Enough, Worn, Memory}
-use Rattle.line_server.specs.Turns.{AreMine}
-use Rattle.line_server.specs.Serving.{Serves}
-use Rattle.line_server.specs.Working.{Tale, begun_of, hours_of, owns_of, is_worn_out, AllUnworn, Gives, Spot, WorksTo, IsServed, AreServed, Worked, WorksOn, Works}
-use Rattle.line_server.proofs.Growing.{grown_none, grown_twice}
-
-right_is : (a b : Bool) → (a && b) ≡ true → b ≡ true
-right_is true b e = e
-right_is false b e = absurd (cc)
-
-never_both : (a : Bool) → (a && false) ≡ false
-never_both true = refl
-never_both false = refl
-
--- entries of another connection are none of this one
-pub none_mine : (n c k : ℕ) (es : List Entry) → c ≢ k → AreMine (by n c) es → part_of (by n k) es ≡ []
-none_mine n c k [] other mine = refl
-none_mine n c k (e ∷ es) other mine =
-    let at : e.who.conn ≡ c = eqb-true e.who.conn c (right_is (e.who.worker == n) (e.who.conn == c) mine.0) in
-    let away : (e.who.conn == k) ≡ false = ne_eqb e.who.conn k (λ same. other (sym at ∙ same)) in
-    let no : is_who (by n k) e ≡ false = ap (λ b. (e.who.worker == n) && b) away ∙ never_both (e.who.worker == n) in
-    ap (λ b. cond b (e ∷ part_of (by n k) es) (part_of (by n k) es)) no ∙ none_mine n c k es other mine.1
+use Rattle.connection_laws.specs.Turns.{AreMine}
+use Rattle.line_server.specs.Serving.{Serves, is_worn_out}
+use Rattle.line_server.specs.Working.{Tale, begun_of, hours_of, owns_of, AllUnworn, Gives, Spot, WorksTo, IsServed, AreServed, Worked, WorksOn, Works}
+use Rattle.connection_laws.proofs.Growing.{grown_none, grown_twice}
 
 module _ {L : Type 0} where
   pub begun_push : (xs : List (Tale L)) (x : Tale L) → begun_of (xs ++ x ∷ []) ≡ begun_of xs ++ x.begun ∷ []
@@ -85,6 +68,7 @@ module _ {L : Type 0} where
             given_is = i.given_is;
             bounded = i.bounded;
             cause = i.cause;
+            finished = i.finished;
           },
           served_longer h h' own (c + 1) ss xs more all.1,
         )
@@ -127,6 +111,7 @@ module _ {M L : Type 0} (traffic : L → Traffic) (np : NamedPolicy) (first : Li
         given_is = v.given_is;
         bounded = v.bounded;
         cause = v.cause;
+        finished = v.finished;
       } in
       let g = grown_twice o.pass p.pass p'.pass (owns_of tales) v.own (2 * length (hours_of tales)) (2 * length v.readings) w.grows v.grows in
       let hours = hours_push tales x in

@@ -15,15 +15,15 @@ use Rattle.connection_laws.specs.Connection.{Acted, asked_in, denied_in, part_of
 use Rattle.line_server.specs.declared.ended.Served.{Served}
 use Rattle.line_server.specs.declared.ended.WorkEnd.{WorkEnd}
 use Rattle.line_server.specs.declared.ended.WorkEnd.TheVariants.{Fresh, Done, DoorFault, Enough, Worn, Memory}
-use Rattle.line_server.specs.Turns.{IsIdle, Grows, AreMine}
-use Rattle.line_server.specs.Serving.{EndsBy, most_bytes}
+use Rattle.connection_laws.specs.Turns.{IsIdle, Grows, AreMine}
+use Rattle.line_server.specs.Serving.{EndsBy, is_worn_out, most_bytes}
 
 -- how many links one worker serves at most
 abbrev pub most_links : ℕ
 most_links = 100_000
 
--- what there is to tell of a served link: the link as the door gave it, its bytes, readings, own entries and acted lines, and the draws at
--- its end
+-- what there is to tell of a served link: the link as the door gave it, its bytes, readings, own
+-- entries and acted lines, and the draws at its end
 pub record Tale (L : Type 0) : Type 0 where
   pub begun : L
   pub taken : List ℕ
@@ -45,10 +45,6 @@ abbrev pub owns_of : {L : Type 0} → List (Tale L) → List Entry
 owns_of [] = []
 owns_of (x ∷ xs) = x.own ++ owns_of xs
 
-abbrev pub is_worn_out : LinkEnd → Bool
-is_worn_out (LinkWorn n) = true
-is_worn_out _ = false
-
 abbrev pub AllUnworn : {L : Type 0} → List (Served L) → Type 0
 AllUnworn {L} served = Each (λ (s : Served L). is_worn_out s.report.outcome ≡ false) served
 
@@ -65,19 +61,29 @@ pub record Spot (M L : Type 0) : Type 0 where
 
 -- each end has its cause
 abbrev pub WorksTo : {L : Type 0} → Option (List L) → ℕ → ℕ → ℕ → List (Served L) → WorkEnd → Type 0
-WorksTo {L} links faults faults' draws served Done = AllUnworn served × (length served < most_links) × IfSome links (λ ls. ls ≡ [])
-WorksTo {L} links faults faults' draws served DoorFault = AllUnworn served × (length served < most_links) × Rose faults faults'
-WorksTo {L} links faults faults' draws served Enough = AllUnworn served × (length served ≡ most_links)
+WorksTo {L} links faults faults' draws served Done =
+    AllUnworn served × (length served < most_links) × IfSome links (λ ls. ls ≡ [])
+WorksTo {L} links faults faults' draws served DoorFault =
+    AllUnworn served × (length served < most_links) × Rose faults faults'
+WorksTo {L} links faults faults' draws served Enough =
+    AllUnworn served × (length served ≡ most_links)
 WorksTo {L} links faults faults' draws served (Worn n) =
-    (front : List (Served L)) × (last : Served L) × (served ≡ front ++ last ∷ []) × AllUnworn front × (last.report.outcome ≡ LinkWorn n) × (n ≡ 2 ^ 40) × (draws ≡ 2 ^ 40)
-WorksTo {L} links faults faults' draws served Memory = AllUnworn served × (length served < most_links)
+    (front : List (Served L)) × (last : Served L) × (served ≡ front ++ last ∷ []) × AllUnworn front
+    × (last.report.outcome ≡ LinkWorn n) × (n ≡ 2 ^ 40) × (draws ≡ 2 ^ 40)
+WorksTo {L} links faults faults' draws served Memory =
+    AllUnworn served × (length served < most_links)
 WorksTo {L} links faults faults' draws served Fresh = ⊥
 
-module _ {L : Type 0} (traffic : L → Traffic) (np : NamedPolicy) (first : List Entry) (legal : List Entry → Type 0) (now : List Entry → ℕ) (number : ℕ) where
-  -- link c of the worker was served as this is told, over a history; own are the entries that its pass had before the first link
-  pub record IsServed (h : List Entry) (own : List Entry) (c : ℕ) (s : Served L) (x : Tale L) : Type 0 where
+module _ {L : Type 0} (traffic : L → Traffic) (np : NamedPolicy) (first : List Entry)
+    (legal : List Entry → Type 0) (now : List Entry → ℕ) (number : ℕ) where
+  -- link c of the worker was served as this is told, over a history; own are the entries that its
+  -- pass had before the first link
+  pub record IsServed (h : List Entry) (own : List Entry) (c : ℕ) (s : Served L) (x : Tale L)
+      : Type 0 where
     pub fresh : IsFresh (traffic x.begun)
-    pub conn : (birth : ℕ) → IsTimed birth legal now → Conn np birth (by number c) h (placed (by number c) first own) x.taken x.readings x.own x.given x.acted s.report.outcome
+    pub conn : (birth : ℕ) → IsTimed birth legal now
+        → Conn np birth (by number c) h (placed (by number c) first own) x.taken x.readings x.own
+        x.given x.acted s.report.outcome
     pub mine : AreMine (by number c) x.own
     pub asked : s.report.asked ≡ asked_in x.acted
     pub denied : s.report.denied ≡ denied_in x.acted
@@ -86,6 +92,7 @@ module _ {L : Type 0} (traffic : L → Traffic) (np : NamedPolicy) (first : List
     pub given_is : Appends (traffic x.begun).given (traffic s.link).given x.given
     pub bounded : length x.taken ≤ most_bytes
     pub cause : EndsBy (traffic x.begun) (traffic s.link) x.draws x.taken s.report.outcome
+    pub finished : (traffic s.link).finished ≡ true
 
   -- the links from number c on
   abbrev pub AreServed : List Entry → List Entry → ℕ → List (Served L) → List (Tale L) → Type 0
@@ -94,29 +101,40 @@ module _ {L : Type 0} (traffic : L → Traffic) (np : NamedPolicy) (first : List
   AreServed h own c (s ∷ ss) [] = ⊥
   AreServed h own c (s ∷ ss) (x ∷ xs) = IsServed h own c s x × AreServed h own (c + 1) ss xs
 
-module _ {M L : Type 0} (traffic : L → Traffic) (np : NamedPolicy) (first : List Entry) (legal : List Entry → Type 0) (now : List Entry → ℕ) (number : ℕ) where
-  pub record Worked (o p : Spot M L) (served : List (Served L)) (tales : List (Tale L)) : Type 0 where
+module _ {M L : Type 0} (traffic : L → Traffic) (np : NamedPolicy) (first : List Entry)
+    (legal : List Entry → Type 0) (now : List Entry → ℕ) (number : ℕ) where
+  pub record Worked (o p : Spot M L) (served : List (Served L)) (tales : List (Tale L))
+      : Type 0 where
     pub links : AreServed traffic np first legal now number p.pass.seen o.pass.own 1 served tales
     pub grows : Grows o.pass p.pass (owns_of tales) (2 * length (hours_of tales))
     pub reads : Reads o.clock p.clock (hours_of tales)
     pub door : Gives o.door p.door (begun_of tales)
 
   -- what one more link comes to
-  abbrev pub WorksOn : Spot M L → Spot M L → ℕ → ℕ → List (Served L) → List (Served L) → Option WorkEnd → Type 0
+  abbrev pub WorksOn : Spot M L → Spot M L → ℕ → ℕ → List (Served L) → List (Served L)
+      → Option WorkEnd → Type 0
   WorksOn p p' faults faults' served served' result =
       (o : Spot M L) (tales : List (Tale L)) → Worked o p served tales → AllUnworn served
-      → (tales' : List (Tale L)) × Worked o p' served' tales' × MatchOption result (AllUnworn served') (λ end. WorksTo p'.door faults faults' p'.pass.draws served' end)
+      → (tales' : List (Tale L)) × Worked o p' served' tales'
+      × MatchOption result (AllUnworn served')
+      (λ end. WorksTo p'.door faults faults' p'.pass.draws served' end)
 
   -- all the work of a worker
-  pub record Works (o p : Spot M L) (faults faults' : ℕ) (served : List (Served L)) (end : WorkEnd) : Type 0 where
+  pub record Works (o p : Spot M L) (faults faults' : ℕ) (served : List (Served L)) (end : WorkEnd)
+      : Type 0 where
     pub tales : List (Tale L)
     pub worked : Worked o p served tales
     pub cause : WorksTo p.door faults faults' p.pass.draws served end
 
-module _ {M L : Type 0} (traffic : L → Traffic) (np : NamedPolicy) (first : List Entry) (legal : List Entry → Type 0) (now : List Entry → ℕ) where
+module _ {M L : Type 0} (traffic : L → Traffic) (np : NamedPolicy) (first : List Entry)
+    (legal : List Entry → Type 0) (now : List Entry → ℕ) where
   -- what a worker and its pass come to, and that the pass is idle again
-  pub record HasWorked (site : Site M) (before after : Holder M) (clock clock' : Option (ℕ → ℕ)) (door door' : Option (List L)) (faults faults' : ℕ) (served : List (Served L)) (end : WorkEnd) : Type 0 where
-    pub works : Works traffic np first legal now before.number (record { pass = before; clock = clock; door = door }) (record { pass = after; clock = clock'; door = door' }) faults faults' served end
+  pub record HasWorked (site : Site M) (before after : Holder M) (clock clock' : Option (ℕ → ℕ))
+      (door door' : Option (List L)) (faults faults' : ℕ) (served : List (Served L)) (end : WorkEnd)
+      : Type 0 where
+    pub works : Works traffic np first legal now before.number
+        (record { pass = before; clock = clock; door = door })
+        (record { pass = after; clock = clock'; door = door' }) faults faults' served end
     pub idle : IsIdle site after
     pub number_is : after.number ≡ before.number
 
@@ -125,10 +143,15 @@ abbrev pub AreParts : {L : Type 0} → List Entry → ℕ → ℕ → List (Tale
 AreParts es w c [] = Unit {0}
 AreParts es w c (x ∷ xs) = (part_of (by w c) es ≡ x.own) × AreParts es w (c + 1) xs
 
--- Over the history h of a closed desk, of a worker whose pass had no entry before: each of its links is told over h, its part of h is the own
--- entries of its links one after the other, and the own entries of each link are the part of its connection
-abbrev pub IsTellingOfWorkers : (M : Type 0) {L : Type 0} → (L → Traffic) → NamedPolicy → List Entry → (List Entry → Type 0) → (List Entry → ℕ) → Type 0
+-- Over the history h of a closed desk, of a worker whose pass had no entry before: each of its
+-- links is told over h, its part of h is the own entries of its links one after the other, and the
+-- own entries of each link are the part of its connection
+abbrev pub IsTellingOfWorkers : (M : Type 0) {L : Type 0} → (L → Traffic) → NamedPolicy → List Entry
+    → (List Entry → Type 0) → (List Entry → ℕ) → Type 0
 IsTellingOfWorkers M {L} traffic np first legal now =
-    (w : ℕ) (o p : Spot M L) (f f' : ℕ) (served : List (Served L)) (end : WorkEnd) (h : List Entry) → o.pass.own ≡ [] → p.pass.number ≡ w
+    (w : ℕ) (o p : Spot M L) (f f' : ℕ) (served : List (Served L)) (end : WorkEnd) (h : List Entry)
+    → o.pass.own ≡ [] → p.pass.number ≡ w
     → Works traffic np first legal now w o p f f' served end → IsTold first h p.pass
-    → (tales : List (Tale L)) × AreServed traffic np first legal now w h [] 1 served tales × (part w (drop (length first) h) ≡ owns_of tales) × AreParts (drop (length first) h) w 1 tales × Gives o.door p.door (begun_of tales)
+    → (tales : List (Tale L)) × AreServed traffic np first legal now w h [] 1 served tales
+    × (part w (drop (length first) h) ≡ owns_of tales)
+    × AreParts (drop (length first) h) w 1 tales × Gives o.door p.door (begun_of tales)

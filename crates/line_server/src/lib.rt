@@ -1,13 +1,12 @@
-//! Serves connections: cuts their bytes into lines, acts on each line at the desk, and writes its reply before the next line is acted on.
+//! Serves connections: cuts their bytes into lines, acts on each line at the desk, and writes its
+//! reply before the next line is acted on.
 #![tactic(auto)]
 
-mod asks;
 mod ended;
 mod laws;
 mod lines;
 mod posts;
 mod serve;
-mod talk;
 mod workers;
 
 pub use connection_laws::{LinkEnd, Report};

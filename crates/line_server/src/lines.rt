@@ -1,5 +1,5 @@
 //! What one line of a link comes to: it is read, acted on at the desk and answered.
-ghost use Rattle.std.specs.Prelude.{◌≡◌, ◌≤◌, ◌++◌, ℕ, [], ◌∷◌, Err, codes};
+ghost use Rattle.std.specs.Prelude.{◌≡◌, ◌++◌, ℕ, [], ◌∷◌, Err, OnOk, codes};
 ghost use Rattle.gt_io.specs.Links.{ReadsNothing};
 ghost use Rattle.turn_lock.specs.Holders.{site_of};
 ghost use Rattle.locked_history.specs.Fronts.{by};
@@ -7,17 +7,16 @@ ghost use Rattle.policy_words.specs.Naming.{NamedPolicy};
 ghost use Rattle.request_text.specs.Replies.{fault_word};
 ghost use Rattle.connection_laws.specs.Connection.{Answer};
 ghost use Rattle.connection_laws.specs.Desks.{IsNamedActor, AreNamed, RepliesCanBeTold};
-ghost use Rattle.line_server.specs.Turns.{IsIdle, IsReached};
-ghost use Rattle.line_server.specs.Serving.{IsTold, Decides, Acts, Sent, counted, CanCount, HasRoom, CountsUp, Goes};
+ghost use Rattle.connection_laws.specs.Turns.{IsIdle, IsReached};
+ghost use Rattle.connection_laws.specs.Acting.{IsTold, Decides, Acts, counted, CanCount, HasRoom, CountsUp};
+ghost use Rattle.line_server.specs.Serving.{Sent, Goes};
 
-use crate::asks::ask_at;
-use crate::talk::{Talk, Told};
-use connection_laws::LinkEnd;
-use gt_base::{Actor, Instant, List, Machine, Request};
+use connection_laws::{LinkEnd, Talk, Told, act, count};
+use gt_base::Machine;
 use gt_io::{Clock, Framed, Framer, Gate, Link, send_all};
-use locked_history::{Desk, DeskFault};
+use locked_history::Desk;
 use policy_book::Policy;
-use request_text::{LONGEST_REPLY, Line, LineFault, put_reply, read_line, reply_fits};
+use request_text::LineFault;
 use std::alloc::Global;
 use std::sync::Wait;
 use turn_lock::Pass;
@@ -35,7 +34,8 @@ fn fault_reply(fault: LineFault) -> &'static [u8]
 
 // Writes the reply of a line.
 fn send<L: Link>(link: &mut L, told: &Told) -> Result<(), LinkEnd>
-    ensures sent { (np : NamedPolicy) (answer : Answer) → IsTold np told.now answer → Sent np answer (L.traffic link.old) (L.traffic link.new) result }
+    ensures sent { (np : NamedPolicy) (answer : Answer) → IsTold np told.now answer
+        → Sent np answer (L.traffic link.old) (L.traffic link.new) result }
     ensures worn { (n : ℕ) → result ≡ Err (LinkEnd.Worn n) → told.now ≡ Told.Worn n }
 {
     let sent = match told {
@@ -53,109 +53,13 @@ fn send<L: Link>(link: &mut L, told: &Told) -> Result<(), LinkEnd>
     }
 }
 
-// Counts what a line got.
-fn count(talk: &mut Talk, told: &Told)
-    requires { CanCount talk.old }
-    ensures { (np : NamedPolicy) (answer : Answer) → IsTold np told.now answer → talk.new ≡ counted talk.old answer }
-{
-    match told {
-        Told::Reply(_) => talk.asked += 1,
-        Told::NoMemory | Told::NoSteps => talk.denied += 1,
-        _ => {}
-    }
-}
-
-// Takes room for the longest reply, brings the history to the reading, and asks.
-fn decide<M: Machine, R: Wait>(
-    rt: &R,
-    alloc: Global,
-    desk: &Desk<M>,
-    policy: &Policy,
-    pass: &mut Pass<M>,
-    conn: u32,
-    reading: Instant,
-    actor: Actor,
-    request: Request,
-    reached: &mut Option<Instant>,
-) -> Told
-    requires idle { IsIdle (site_of desk.now) pass.old }
-    requires named { M.named desk.now.root actor request }
-    requires replies { RepliesCanBeTold policy.now (M.legal desk.now.root) }
-    requires reached { IsReached (M.legal desk.now.root) (M.now_of desk.now.root) pass.old.seen reached.old }
-    ensures reached { IsReached (M.legal desk.now.root) (M.now_of desk.now.root) pass.new.seen reached.new }
-    ensures decides { Decides policy.now (M.list desk.now.root) (M.legal desk.now.root) (M.now_of desk.now.root) (by pass.old.number conn) reading actor request pass.old pass.new result }
-{
-    let mut text = List::new(alloc);
-    if text.reserve(LONGEST_REPLY).is_err() {
-        return Told::NoMemory;
-    }
-    match ask_at(rt, desk, pass, conn, reading, actor, request, reached) {
-        Ok(reply) => {
-            reply_fits(policy, &reply);
-            put_reply(policy, &reply, &mut text);
-            Told::Reply(text)
-        }
-        Err(DeskFault::Memory) => Told::NoMemory,
-        Err(DeskFault::StepsFull) => Told::NoSteps,
-        Err(DeskFault::Worn { draws }) => Told::Worn { draws },
-    }
-}
-
-// Acts on a line, but for its reply.
-fn act<M: Machine, R: Wait, C: Clock, G: Gate>(
-    rt: &R,
-    alloc: Global,
-    desk: &Desk<M>,
-    policy: &Policy,
-    pass: &mut Pass<M>,
-    conn: u32,
-    clock: &mut C,
-    gate: &G,
-    talk: &mut Talk,
-    line: &[u8],
-) -> Told
-    requires idle { IsIdle (site_of desk.now) pass.old }
-    requires named { AreNamed policy.now (M.named desk.now.root) }
-    requires replies { RepliesCanBeTold policy.now (M.legal desk.now.root) }
-    requires actor { IsNamedActor policy.now talk.old.actor }
-    requires room { HasRoom talk.old 1 }
-    requires reached { IsReached (M.legal desk.now.root) (M.now_of desk.now.root) pass.old.seen talk.old.reached }
-    ensures reached { IsReached (M.legal desk.now.root) (M.now_of desk.now.root) pass.new.seen talk.new.reached }
-    ensures acts { Acts policy.now (M.list desk.now.root) (M.legal desk.now.root) (M.now_of desk.now.root) (by pass.old.number conn) pass.old pass.new talk.old talk.new (C.readings clock.old) (C.readings clock.new) line.now result }
-{
-    match read_line(policy, Actor::Nobody, false, line) {
-        Ok(Line::Ask(request)) => {
-            talk.calls += 1;
-            gate.pass(pass.number(), talk.calls);
-            let reading = clock.now();
-            decide(
-                rt,
-                alloc,
-                desk,
-                policy,
-                pass,
-                conn,
-                reading,
-                talk.actor,
-                request,
-                &mut talk.reached,
-            )
-        }
-        Ok(Line::Be(actor)) => {
-            talk.actor = actor;
-            Told::Agreed
-        }
-        Ok(Line::Silent) => Told::Silence,
-        Ok(Line::At(_)) => unreachable!(),
-        Err(fault) => Told::Bad(fault),
-    }
-}
-
 // Counts what a line got, and writes its reply.
 fn settle<L: Link>(link: &mut L, talk: &mut Talk, told: &Told) -> Result<(), LinkEnd>
     requires { CanCount talk.old }
-    ensures talk { (np : NamedPolicy) (answer : Answer) → IsTold np told.now answer → talk.new ≡ counted talk.old answer }
-    ensures sent { (np : NamedPolicy) (answer : Answer) → IsTold np told.now answer → Sent np answer (L.traffic link.old) (L.traffic link.new) result }
+    ensures talk { (np : NamedPolicy) (answer : Answer) → IsTold np told.now answer
+        → talk.new ≡ counted talk.old answer }
+    ensures sent { (np : NamedPolicy) (answer : Answer) → IsTold np told.now answer
+        → Sent np answer (L.traffic link.old) (L.traffic link.new) result }
     ensures worn { (n : ℕ) → result ≡ Err (LinkEnd.Worn n) → told.now ≡ Told.Worn n }
 {
     count(talk, told);
@@ -183,13 +87,28 @@ pub(crate) fn take_byte<M: Machine, R: Wait, L: Link, C: Clock, G: Gate>(
     requires actor { IsNamedActor policy.now talk.old.actor }
     requires room { HasRoom talk.old 1 }
     requires reached { IsReached (M.legal desk.now.root) (M.now_of desk.now.root) pass.old.seen talk.old.reached }
-    ensures goes { Goes policy.now (M.list desk.now.root) (M.legal desk.now.root) (M.now_of desk.now.root) (by pass.old.number conn) (record { pass = pass.old; talk = talk.old; clock = C.readings clock.old; given = (L.traffic link.old).given }) (record { pass = pass.new; talk = talk.new; clock = C.readings clock.new; given = (L.traffic link.new).given }) framer.old framer.new (byte ∷ []) (L.traffic link.old).write_faults (L.traffic link.new).write_faults result }
+    ensures goes { Goes policy.now (M.list desk.now.root) (M.legal desk.now.root) (M.now_of desk.now.root)
+        (by pass.old.number conn)
+        (record {
+          pass = pass.old;
+          talk = talk.old;
+          clock = C.readings clock.old;
+          given = (L.traffic link.old).given;
+        })
+        (record {
+          pass = pass.new;
+          talk = talk.new;
+          clock = C.readings clock.new;
+          given = (L.traffic link.new).given;
+        })
+        framer.old framer.new (byte ∷ []) (L.traffic link.old).write_faults
+        (L.traffic link.new).write_faults result }
     ensures pass { IsIdle (site_of desk.now) pass.new × (pass.new.number ≡ pass.old.number) }
     ensures actor { IsNamedActor policy.now talk.new.actor }
     ensures counts { CountsUp talk.old talk.new 1 }
     ensures reached { IsReached (M.legal desk.now.root) (M.now_of desk.now.root) pass.new.seen talk.new.reached }
     ensures reads { ReadsNothing (L.traffic link.old) (L.traffic link.new) }
-    ensures faults { (L.traffic link.old).write_faults ≤ (L.traffic link.new).write_faults }
+    ensures faults { OnOk result ((L.traffic link.new).write_faults ≡ (L.traffic link.old).write_faults) }
 {
     match framer.push(byte) {
         Framed::More => Ok(()),

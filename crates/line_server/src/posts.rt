@@ -1,7 +1,7 @@
 //! Workers at their posts, each with a pass, all at the same time.
 ghost use Rattle.std.specs.Prelude.{◌≡◌, ◌<◌, ℕ, [], length, All, slice_index_or};
 ghost use Rattle.turn_lock.specs.Holders.{site_of};
-ghost use Rattle.line_server.specs.Turns.{IsIdle};
+ghost use Rattle.connection_laws.specs.Turns.{IsIdle};
 ghost use Rattle.connection_laws.specs.Desks.{AreNamed, RepliesCanBeTold};
 ghost use Rattle.line_server.specs.Working.{HasWorked};
 
@@ -35,7 +35,12 @@ pub fn work_at<M: Machine, R: Wait, D: Door, C: Clock, G: Gate>(
     requires named { AreNamed policy.now (M.named desk.now.root) }
     requires replies { RepliesCanBeTold policy.now (M.legal desk.now.root) }
     requires fresh { (post.old.worker.outcome ≡ WorkEnd.Fresh) × (post.old.worker.served.items ≡ []) }
-    ensures { HasWorked D.L.traffic policy.now (M.list desk.now.root) (M.legal desk.now.root) (M.now_of desk.now.root) (site_of desk.now) post.old.pass post.new.pass (C.readings post.old.worker.clock) (C.readings post.new.worker.clock) (D.links post.old.worker.door) (D.links post.new.worker.door) (D.faults post.old.worker.door) (D.faults post.new.worker.door) post.new.worker.served.items post.new.worker.outcome }
+    ensures { HasWorked D.L.traffic policy.now (M.list desk.now.root) (M.legal desk.now.root)
+        (M.now_of desk.now.root) (site_of desk.now) post.old.pass post.new.pass
+        (C.readings post.old.worker.clock) (C.readings post.new.worker.clock)
+        (D.links post.old.worker.door) (D.links post.new.worker.door)
+        (D.faults post.old.worker.door) (D.faults post.new.worker.door)
+        post.new.worker.served.items post.new.worker.outcome }
 {
     work(rt, alloc, desk, policy, &mut post.pass, &mut post.worker);
 }
@@ -50,10 +55,24 @@ fn work_at_all<
 >(rt: &R, alloc: Global, desk: &Desk<M>, policy: &Policy, posts: &mut [Post<M, D, C, G>])
 where
     D::L: Send,
-    requires idle { All (λ p. IsIdle (site_of desk.now) p.pass × (p.worker.outcome ≡ WorkEnd.Fresh) × (p.worker.served.items ≡ [])) posts.old }
+    requires idle { All
+        (λ p. IsIdle (site_of desk.now) p.pass × (p.worker.outcome ≡ WorkEnd.Fresh)
+        × (p.worker.served.items ≡ []))
+        posts.old }
     requires named { AreNamed policy.now (M.named desk.now.root) }
     requires replies { RepliesCanBeTold policy.now (M.legal desk.now.root) }
-    ensures { (i : ℕ) (d : _) → i < length posts.old → HasWorked D.L.traffic policy.now (M.list desk.now.root) (M.legal desk.now.root) (M.now_of desk.now.root) (site_of desk.now) (slice_index_or posts.old i d).pass (slice_index_or posts.new i d).pass (C.readings (slice_index_or posts.old i d).worker.clock) (C.readings (slice_index_or posts.new i d).worker.clock) (D.links (slice_index_or posts.old i d).worker.door) (D.links (slice_index_or posts.new i d).worker.door) (D.faults (slice_index_or posts.old i d).worker.door) (D.faults (slice_index_or posts.new i d).worker.door) (slice_index_or posts.new i d).worker.served.items (slice_index_or posts.new i d).worker.outcome }
+    ensures { (i : ℕ) (d : _) → i < length posts.old
+        → HasWorked D.L.traffic policy.now (M.list desk.now.root) (M.legal desk.now.root)
+        (M.now_of desk.now.root) (site_of desk.now) (slice_index_or posts.old i d).pass
+        (slice_index_or posts.new i d).pass
+        (C.readings (slice_index_or posts.old i d).worker.clock)
+        (C.readings (slice_index_or posts.new i d).worker.clock)
+        (D.links (slice_index_or posts.old i d).worker.door)
+        (D.links (slice_index_or posts.new i d).worker.door)
+        (D.faults (slice_index_or posts.old i d).worker.door)
+        (D.faults (slice_index_or posts.new i d).worker.door)
+        (slice_index_or posts.new i d).worker.served.items
+        (slice_index_or posts.new i d).worker.outcome }
 {
     thread::for_each_mut(
         rt,
@@ -73,11 +92,25 @@ pub fn run_posts<
 >(rt: &R, alloc: Global, desk: &Desk<M>, policy: &Policy, posts: &mut Vec<Post<M, D, C, G>>)
 where
     D::L: Send,
-    requires idle { All (λ p. IsIdle (site_of desk.now) p.pass × (p.worker.outcome ≡ WorkEnd.Fresh) × (p.worker.served.items ≡ [])) posts.old.items }
+    requires idle { All
+        (λ p. IsIdle (site_of desk.now) p.pass × (p.worker.outcome ≡ WorkEnd.Fresh)
+        × (p.worker.served.items ≡ []))
+        posts.old.items }
     requires named { AreNamed policy.now (M.named desk.now.root) }
     requires replies { RepliesCanBeTold policy.now (M.legal desk.now.root) }
     ensures length { length posts.new.items ≡ length posts.old.items }
-    ensures works { (i : ℕ) (d : _) → i < length posts.old.items → HasWorked D.L.traffic policy.now (M.list desk.now.root) (M.legal desk.now.root) (M.now_of desk.now.root) (site_of desk.now) (slice_index_or posts.old.items i d).pass (slice_index_or posts.new.items i d).pass (C.readings (slice_index_or posts.old.items i d).worker.clock) (C.readings (slice_index_or posts.new.items i d).worker.clock) (D.links (slice_index_or posts.old.items i d).worker.door) (D.links (slice_index_or posts.new.items i d).worker.door) (D.faults (slice_index_or posts.old.items i d).worker.door) (D.faults (slice_index_or posts.new.items i d).worker.door) (slice_index_or posts.new.items i d).worker.served.items (slice_index_or posts.new.items i d).worker.outcome }
+    ensures works { (i : ℕ) (d : _) → i < length posts.old.items
+        → HasWorked D.L.traffic policy.now (M.list desk.now.root) (M.legal desk.now.root)
+        (M.now_of desk.now.root) (site_of desk.now)
+        (slice_index_or posts.old.items i d).pass (slice_index_or posts.new.items i d).pass
+        (C.readings (slice_index_or posts.old.items i d).worker.clock)
+        (C.readings (slice_index_or posts.new.items i d).worker.clock)
+        (D.links (slice_index_or posts.old.items i d).worker.door)
+        (D.links (slice_index_or posts.new.items i d).worker.door)
+        (D.faults (slice_index_or posts.old.items i d).worker.door)
+        (D.faults (slice_index_or posts.new.items i d).worker.door)
+        (slice_index_or posts.new.items i d).worker.served.items
+        (slice_index_or posts.new.items i d).worker.outcome }
 {
     work_at_all(rt, alloc, desk, policy, posts.as_mut_slice());
 }

@@ -1,18 +1,18 @@
 //! A link, from its first byte to its end.
-ghost use Rattle.std.specs.Prelude.{◌≡◌, ◌+◌, ◌<◌, ◌≤◌, ◌^◌, length, IfOk};
+ghost use Rattle.std.specs.Prelude.{◌≡◌, ◌+◌, ◌<◌, ◌≤◌, ◌^◌, true, length, IfOk, OnOk};
 ghost use Rattle.std.specs.Io.KnownBytes.{ReadConsumes, WriteAppends};
 ghost use Rattle.gt_base.specs.declared.requests.Actor.TheVariants.{Nobody};
-ghost use Rattle.gt_io.specs.Causes.{HasCause};
+ghost use Rattle.gt_io.specs.Causes.{HasCause, RisesOnce};
 ghost use Rattle.gt_io.specs.Links.{ReadsNothing, WritesNothing};
 ghost use Rattle.turn_lock.specs.Holders.{site_of};
 ghost use Rattle.locked_history.specs.Fronts.{by};
 ghost use Rattle.connection_laws.specs.Desks.{IsNamedActor, AreNamed, RepliesCanBeTold};
-ghost use Rattle.line_server.specs.Turns.{IsIdle, IsReached};
-ghost use Rattle.line_server.specs.Serving.{HasRoom, CountsUp, Goes, IsStart, Converses, Serves, most_bytes};
+ghost use Rattle.connection_laws.specs.Turns.{IsIdle, IsReached};
+ghost use Rattle.connection_laws.specs.Acting.{HasRoom, CountsUp};
+ghost use Rattle.line_server.specs.Serving.{Goes, IsStart, Converses, Serves, most_bytes};
 
 use crate::lines::take_byte;
-use crate::talk::Talk;
-use connection_laws::{LinkEnd, Report};
+use connection_laws::{LinkEnd, Report, Talk};
 use gt_base::{Actor, Machine};
 use gt_io::{Clock, Failed, Framer, Gate, Link};
 use locked_history::Desk;
@@ -45,13 +45,28 @@ fn take_chunk<M: Machine, R: Wait, L: Link, C: Clock, G: Gate>(
     requires actor { IsNamedActor policy.now talk.old.actor }
     requires room { HasRoom talk.old (length chunk.now) }
     requires reached { IsReached (M.legal desk.now.root) (M.now_of desk.now.root) pass.old.seen talk.old.reached }
-    ensures goes { Goes policy.now (M.list desk.now.root) (M.legal desk.now.root) (M.now_of desk.now.root) (by pass.old.number conn) (record { pass = pass.old; talk = talk.old; clock = C.readings clock.old; given = (L.traffic link.old).given }) (record { pass = pass.new; talk = talk.new; clock = C.readings clock.new; given = (L.traffic link.new).given }) framer.old framer.new chunk.now (L.traffic link.old).write_faults (L.traffic link.new).write_faults result }
+    ensures goes { Goes policy.now (M.list desk.now.root) (M.legal desk.now.root) (M.now_of desk.now.root)
+        (by pass.old.number conn)
+        (record {
+          pass = pass.old;
+          talk = talk.old;
+          clock = C.readings clock.old;
+          given = (L.traffic link.old).given;
+        })
+        (record {
+          pass = pass.new;
+          talk = talk.new;
+          clock = C.readings clock.new;
+          given = (L.traffic link.new).given;
+        })
+        framer.old framer.new chunk.now (L.traffic link.old).write_faults
+        (L.traffic link.new).write_faults result }
     ensures pass { IsIdle (site_of desk.now) pass.new × (pass.new.number ≡ pass.old.number) }
     ensures actor { IsNamedActor policy.now talk.new.actor }
     ensures counts { CountsUp talk.old talk.new (length chunk.now) }
     ensures reached { IsReached (M.legal desk.now.root) (M.now_of desk.now.root) pass.new.seen talk.new.reached }
     ensures reads { ReadsNothing (L.traffic link.old) (L.traffic link.new) }
-    ensures faults { (L.traffic link.old).write_faults ≤ (L.traffic link.new).write_faults }
+    ensures faults { OnOk result ((L.traffic link.new).write_faults ≡ (L.traffic link.old).write_faults) }
 {
     for byte in chunk {
         if let Err(end) = take_byte(
@@ -71,6 +86,7 @@ fn read_some<L: Link>(link: &mut L, buf: &mut [u8], left: usize) -> Result<usize
     ensures bytes { ReadConsumes (L.traffic link.old).left (L.traffic link.new).left result buf.new }
     ensures taken { WriteAppends (L.traffic link.old).taken (L.traffic link.new).taken result buf.new }
     ensures cause { HasCause (L.traffic link.old).read_faults (L.traffic link.new).read_faults result }
+    ensures once { RisesOnce (L.traffic link.old).read_faults (L.traffic link.new).read_faults result }
     ensures writes { WritesNothing (L.traffic link.old) (L.traffic link.new) }
 {
     let room = left.min(buf.len());
@@ -94,7 +110,21 @@ fn converse<M: Machine, R: Wait, L: Link, C: Clock, G: Gate>(
     requires named { AreNamed policy.now (M.named desk.now.root) }
     requires replies { RepliesCanBeTold policy.now (M.legal desk.now.root) }
     requires start { IsStart talk.old }
-    ensures goes { Converses policy.now (M.list desk.now.root) (M.legal desk.now.root) (M.now_of desk.now.root) (by pass.old.number conn) (record { pass = pass.old; talk = talk.old; clock = C.readings clock.old; given = (L.traffic link.old).given }) (record { pass = pass.new; talk = talk.new; clock = C.readings clock.new; given = (L.traffic link.new).given }) (L.traffic link.old) (L.traffic link.new) result }
+    ensures goes { Converses policy.now (M.list desk.now.root) (M.legal desk.now.root) (M.now_of desk.now.root)
+        (by pass.old.number conn)
+        (record {
+          pass = pass.old;
+          talk = talk.old;
+          clock = C.readings clock.old;
+          given = (L.traffic link.old).given;
+        })
+        (record {
+          pass = pass.new;
+          talk = talk.new;
+          clock = C.readings clock.new;
+          given = (L.traffic link.new).given;
+        })
+        (L.traffic link.old) (L.traffic link.new) result }
     ensures pass { IsIdle (site_of desk.now) pass.new × (pass.new.number ≡ pass.old.number) }
     ensures calls { talk.new.calls ≤ talk.old.calls + most_bytes }
 {
@@ -129,8 +159,19 @@ fn converse<M: Machine, R: Wait, L: Link, C: Clock, G: Gate>(
     LinkEnd::Spent
 }
 
-/// Serves one link of a connection, whose number is `conn`: line by line it passes the gate, reads the clock, brings the history to that
-/// minute and asks. `calls` counts the request lines of the worker. Want of memory shows in the reply to a line.
+// Lets a link go, over which nothing more is to go.
+fn let_go<L: Link>(link: &mut L)
+    ensures reads { ReadsNothing (L.traffic link.old) (L.traffic link.new) }
+    ensures writes { WritesNothing (L.traffic link.old) (L.traffic link.new) }
+    ensures finished { (L.traffic link.new).finished ≡ true }
+{
+    link.finish();
+}
+
+/// Serves one link of a connection, whose number is `conn`: line by line it passes the gate, reads
+/// the clock, brings the history to that minute and asks. After the first read or write that fails
+/// it makes no further one. At the end it lets the link go. `calls` counts the request lines of the
+/// worker. Want of memory shows in the reply to a line.
 pub fn serve_link<M: Machine, R: Wait, L: Link, C: Clock, G: Gate>(
     rt: &R,
     alloc: Global,
@@ -147,7 +188,9 @@ pub fn serve_link<M: Machine, R: Wait, L: Link, C: Clock, G: Gate>(
     requires named { AreNamed policy.now (M.named desk.now.root) }
     requires replies { RepliesCanBeTold policy.now (M.legal desk.now.root) }
     requires calls { calls.old < 2 ^ 63 }
-    ensures serves { Serves policy.now (M.list desk.now.root) (M.legal desk.now.root) (M.now_of desk.now.root) (by pass.old.number conn) pass.old pass.new calls.old calls.new (C.readings clock.old) (C.readings clock.new) (L.traffic link.old) (L.traffic link.new) result }
+    ensures serves { Serves policy.now (M.list desk.now.root) (M.legal desk.now.root) (M.now_of desk.now.root)
+        (by pass.old.number conn) pass.old pass.new calls.old calls.new (C.readings clock.old)
+        (C.readings clock.new) (L.traffic link.old) (L.traffic link.new) result }
     ensures pass { IsIdle (site_of desk.now) pass.new × (pass.new.number ≡ pass.old.number) }
     ensures few { calls.new ≤ calls.old + most_bytes }
 {
@@ -161,7 +204,7 @@ pub fn serve_link<M: Machine, R: Wait, L: Link, C: Clock, G: Gate>(
     let outcome = converse(
         rt, alloc, desk, policy, pass, conn, link, clock, gate, &mut talk,
     );
-    link.finish();
+    let_go(link);
     *calls = talk.calls;
     Report {
         asked: talk.asked,

@@ -1,10 +1,10 @@
 //! The links of a door, one after the other.
 ghost use Rattle.std.specs.Prelude.{◌≡◌, ◌+◌, ◌*◌, ◌<◌, ◌≤◌, ◌^◌, ℕ, false, [], length, None, MatchOption};
 ghost use Rattle.turn_lock.specs.Holders.{site_of};
-ghost use Rattle.line_server.specs.Turns.{IsIdle};
+ghost use Rattle.connection_laws.specs.Turns.{IsIdle};
 ghost use Rattle.connection_laws.specs.Desks.{AreNamed, RepliesCanBeTold};
-ghost use Rattle.line_server.specs.Serving.{most_bytes};
-ghost use Rattle.line_server.specs.Working.{WorksOn, Works, is_worn_out, most_links};
+ghost use Rattle.line_server.specs.Serving.{most_bytes, is_worn_out};
+ghost use Rattle.line_server.specs.Working.{WorksOn, Works, most_links};
 
 use crate::ended::{Served, WorkEnd};
 use crate::serve::serve_link;
@@ -31,7 +31,8 @@ pub struct Worker<D: Door, C: Clock, G: Gate> {
 
 // Whether the pass of a link is worn.
 fn worn_of(end: LinkEnd) -> Option<WorkEnd>
-    ensures { MatchOption result (is_worn_out end ≡ false) (λ worn. (n : ℕ) × (end ≡ LinkEnd.Worn n) × (worn ≡ WorkEnd.Worn n)) }
+    ensures { MatchOption result (is_worn_out end ≡ false)
+        (λ worn. (n : ℕ) × (end ≡ LinkEnd.Worn n) × (worn ≡ WorkEnd.Worn n)) }
 {
     match end {
         LinkEnd::Worn { draws } => Some(WorkEnd::Worn { draws }),
@@ -58,7 +59,11 @@ fn serve_next<M: Machine, R: Wait, D: Door, C: Clock, G: Gate>(
     requires calls { calls.old < 2 ^ 63 }
     requires room { 1 ≤ served.old.spare }
     requires few { length served.old.items < most_links }
-    ensures works { WorksOn D.L.traffic policy.now (M.list desk.now.root) (M.legal desk.now.root) (M.now_of desk.now.root) pass.old.number (record { pass = pass.old; clock = C.readings clock.old; door = D.links door.old }) (record { pass = pass.new; clock = C.readings clock.new; door = D.links door.new }) (D.faults door.old) (D.faults door.new) served.old.items served.new.items result }
+    ensures works { WorksOn D.L.traffic policy.now (M.list desk.now.root) (M.legal desk.now.root)
+        (M.now_of desk.now.root) pass.old.number
+        (record { pass = pass.old; clock = C.readings clock.old; door = D.links door.old })
+        (record { pass = pass.new; clock = C.readings clock.new; door = D.links door.new })
+        (D.faults door.old) (D.faults door.new) served.old.items served.new.items result }
     ensures pass { IsIdle (site_of desk.now) pass.new × (pass.new.number ≡ pass.old.number) }
     ensures calls { calls.new ≤ calls.old + most_bytes }
     ensures faults { D.faults door.old ≤ D.faults door.new }
@@ -94,7 +99,11 @@ fn work_on<M: Machine, R: Wait, D: Door, C: Clock, G: Gate>(
     requires named { AreNamed policy.now (M.named desk.now.root) }
     requires replies { RepliesCanBeTold policy.now (M.legal desk.now.root) }
     requires empty { served.old.items ≡ [] }
-    ensures works { Works D.L.traffic policy.now (M.list desk.now.root) (M.legal desk.now.root) (M.now_of desk.now.root) pass.old.number (record { pass = pass.old; clock = C.readings clock.old; door = D.links door.old }) (record { pass = pass.new; clock = C.readings clock.new; door = D.links door.new }) (D.faults door.old) (D.faults door.new) served.new.items result }
+    ensures works { Works D.L.traffic policy.now (M.list desk.now.root) (M.legal desk.now.root)
+        (M.now_of desk.now.root) pass.old.number
+        (record { pass = pass.old; clock = C.readings clock.old; door = D.links door.old })
+        (record { pass = pass.new; clock = C.readings clock.new; door = D.links door.new })
+        (D.faults door.old) (D.faults door.new) served.new.items result }
     ensures pass { IsIdle (site_of desk.now) pass.new × (pass.new.number ≡ pass.old.number) }
 {
     let mut calls = 0;
@@ -111,8 +120,9 @@ fn work_on<M: Machine, R: Wait, D: Door, C: Clock, G: Gate>(
     WorkEnd::Enough
 }
 
-/// Serves the links of the worker's door one after the other, numbered from 1, until the door has none left or fails, 100,000 were served,
-/// the pass is worn, or there is no memory for a further link.
+/// Serves the links of the worker's door one after the other, numbered from 1, until the door has
+/// none left or fails, 100,000 were served, the pass is worn, or there is no memory for a further
+/// link.
 pub fn work<M: Machine, R: Wait, D: Door, C: Clock, G: Gate>(
     rt: &R,
     alloc: Global,
@@ -125,7 +135,11 @@ pub fn work<M: Machine, R: Wait, D: Door, C: Clock, G: Gate>(
     requires named { AreNamed policy.now (M.named desk.now.root) }
     requires replies { RepliesCanBeTold policy.now (M.legal desk.now.root) }
     requires fresh { (w.old.outcome ≡ WorkEnd.Fresh) × (w.old.served.items ≡ []) }
-    ensures works { Works D.L.traffic policy.now (M.list desk.now.root) (M.legal desk.now.root) (M.now_of desk.now.root) pass.old.number (record { pass = pass.old; clock = C.readings w.old.clock; door = D.links w.old.door }) (record { pass = pass.new; clock = C.readings w.new.clock; door = D.links w.new.door }) (D.faults w.old.door) (D.faults w.new.door) w.new.served.items w.new.outcome }
+    ensures works { Works D.L.traffic policy.now (M.list desk.now.root) (M.legal desk.now.root)
+        (M.now_of desk.now.root) pass.old.number
+        (record { pass = pass.old; clock = C.readings w.old.clock; door = D.links w.old.door })
+        (record { pass = pass.new; clock = C.readings w.new.clock; door = D.links w.new.door })
+        (D.faults w.old.door) (D.faults w.new.door) w.new.served.items w.new.outcome }
     ensures pass { IsIdle (site_of desk.now) pass.new × (pass.new.number ≡ pass.old.number) }
 {
     w.outcome = work_on(

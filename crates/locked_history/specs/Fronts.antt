@@ -11,15 +11,19 @@ abbrev pub by : ℕ → ℕ → Who
 by worker conn = record { worker = worker; conn = conn }
 
 module _ {M : Type 0} where
-  -- The front begins with what the pass had seen. The entries of the pass after the first front are its old own ones and then these, and the pass knows so. It drew one turn
-  pub record Lands (first : List Entry) (before after : Holder M) (front more : List Entry) : Type 0 where
+  -- The front begins with what the pass had seen. The entries of the pass after the first front are
+  -- its old own ones and then these, and the pass knows so. It drew one turn
+  pub record Lands (first : List Entry) (before after : Holder M) (front more : List Entry)
+      : Type 0 where
     pub seen : IsPrefix before.seen front
     pub first_is : IsPrefix first front
     pub part_is : part before.number (drop (length first) front) ≡ before.own ++ more
-    pub after_is : after ≡ record before { draws = after.draws; seen = front; own = before.own ++ more }
+    pub after_is : after
+        ≡ record before { draws = after.draws; seen = front; own = before.own ++ more }
     pub draws : (before.draws < 2 ^ 40) × (after.draws ≡ before.draws + 1)
 
-  -- Own is unchanged, and seen may have grown to a list that is not too long. At most one turn was drawn
+  -- Own is unchanged, and seen may have grown to a list that is not too long. At most one turn was
+  -- drawn
   pub record Refuses (before after : Holder M) : Type 0 where
     pub seen : IsPrefix before.seen after.seen
     pub long : (after.seen ≡ before.seen) ⊎ (length after.seen ≤ max_steps)

@@ -42,7 +42,8 @@ pub struct Asked<M: Keeps> {
 }
 
 impl<M: Machine> Desk<M> {
-    /// A desk over the machine, with 1 to 8 passes, pass w with number w. An error is want of memory alone, and hands the machine back.
+    /// A desk over the machine, with 1 to 8 passes, pass w with number w. An error is want of
+    /// memory alone, and hands the machine back.
     pub fn new(alloc: Global, machine: M, passes: u32) -> Result<(Desk<M>, Passes<M>), NewFault<M>>
         requires { (1 ≤ passes) × (passes ≤ 8) }
         ensures desk { IfOk result (λ t. (t.0.root ≡ machine) × (t.0.passes ≡ passes)) }
@@ -53,7 +54,8 @@ impl<M: Machine> Desk<M> {
         Ok((Desk { lock }, passes))
     }
 
-    /// Waits for a turn and asks, in one step of the history, whose own reply is answered. After an error the history has no entry of this call, and the pass at most knows more of it.
+    /// Waits for a turn and asks, in one step of the history, whose own reply is answered. After an
+    /// error the history has no entry of this call, and the pass at most knows more of it.
     pub fn ask<R: Wait>(
         &self,
         rt: &R,
@@ -64,12 +66,22 @@ impl<M: Machine> Desk<M> {
     ) -> Result<Asked<M>, DeskFault>
         requires pass { (pass.old.site ≡ site_of self.now) × (pass.old.turn ≡ None) }
         requires named { M.named self.now.root actor request }
-        ensures ok { IfOk result (λ a. Lands (M.list self.now.root) pass.old pass.new a.front (asked (by pass.old.number conn) actor request a.reply ∷ [])) }
-        ensures last { IfOk result (λ a. (before : List Entry) × (a.front ≡ before ++ asked (by pass.old.number conn) actor request a.reply ∷ [])) }
-        ensures legal { IfOk result (λ a. M.legal self.now.root a.front × (length a.front ≤ max_steps) × (a.at ≡ M.now_of self.now.root a.front)) }
+        ensures ok { IfOk result
+            (λ a. Lands (M.list self.now.root) pass.old pass.new a.front
+            (asked (by pass.old.number conn) actor request a.reply ∷ [])) }
+        ensures last { IfOk result
+            (λ a. (before : List Entry)
+            × (a.front
+            ≡ before ++ asked (by pass.old.number conn) actor request a.reply ∷ [])) }
+        ensures legal { IfOk result
+            (λ a. M.legal self.now.root a.front × (length a.front ≤ max_steps)
+            × (a.at ≡ M.now_of self.now.root a.front)) }
         ensures refused { OnErr result (Refuses pass.old pass.new) }
-        ensures full { result ≡ Err DeskFault.StepsFull → (length pass.new.seen ≡ max_steps) × (pass.old.draws < 2 ^ 40) × (pass.new.draws ≡ pass.old.draws + 1) }
-        ensures worn { (n : ℕ) → result ≡ Err (DeskFault.Worn n) → (n ≡ 2 ^ 40) × (pass.old.draws ≡ 2 ^ 40) × (pass.new ≡ pass.old) }
+        ensures full { result ≡ Err DeskFault.StepsFull
+            → (length pass.new.seen ≡ max_steps) × (pass.old.draws < 2 ^ 40)
+            × (pass.new.draws ≡ pass.old.draws + 1) }
+        ensures worn { (n : ℕ) → result ≡ Err (DeskFault.Worn n)
+            → (n ≡ 2 ^ 40) × (pass.old.draws ≡ 2 ^ 40) × (pass.new ≡ pass.old) }
     {
         let mut machine = match self.lock.turn(rt, pass) {
             Ok(machine) => machine,
@@ -95,7 +107,9 @@ impl<M: Machine> Desk<M> {
         }
     }
 
-    /// Waits for a turn and ticks once, up to the bound at most. A bound that is not after now adds no entry. After an error the history has no entry of this call, and the pass at most knows more of it.
+    /// Waits for a turn and ticks once, up to the bound at most. A bound that is not after now adds
+    /// no entry. After an error the history has no entry of this call, and the pass at most knows
+    /// more of it.
     pub fn tick<R: Wait>(
         &self,
         rt: &R,
@@ -104,12 +118,23 @@ impl<M: Machine> Desk<M> {
         upto: Instant,
     ) -> Result<Ticked<M>, DeskFault>
         requires pass { (pass.old.site ≡ site_of self.now) × (pass.old.turn ≡ None) }
-        ensures ok { IfOk result (λ t. ((upto ≤ t.now) × Lands (M.list self.now.root) pass.old pass.new t.front []) ⊎ Lands (M.list self.now.root) pass.old pass.new t.front (ticked (by pass.old.number conn) upto t.now ∷ [])) }
-        ensures last { IfOk result (λ t. ((upto ≤ t.now) × (pass.new.own ≡ pass.old.own)) ⊎ ((before : List Entry) × (t.front ≡ before ++ ticked (by pass.old.number conn) upto t.now ∷ []))) }
-        ensures legal { IfOk result (λ t. M.legal self.now.root t.front × (length t.front ≤ max_steps) × (t.now ≡ M.now_of self.now.root t.front)) }
+        ensures ok { IfOk result
+            (λ t. ((upto ≤ t.now) × Lands (M.list self.now.root) pass.old pass.new t.front [])
+            ⊎ Lands (M.list self.now.root) pass.old pass.new t.front
+            (ticked (by pass.old.number conn) upto t.now ∷ [])) }
+        ensures last { IfOk result
+            (λ t. ((upto ≤ t.now) × (pass.new.own ≡ pass.old.own))
+            ⊎ ((before : List Entry)
+            × (t.front ≡ before ++ ticked (by pass.old.number conn) upto t.now ∷ []))) }
+        ensures legal { IfOk result
+            (λ t. M.legal self.now.root t.front × (length t.front ≤ max_steps)
+            × (t.now ≡ M.now_of self.now.root t.front)) }
         ensures refused { OnErr result (Refuses pass.old pass.new) }
-        ensures full { result ≡ Err DeskFault.StepsFull → (length pass.new.seen ≡ max_steps) × (M.now_of self.now.root pass.new.seen < upto) × (pass.old.draws < 2 ^ 40) × (pass.new.draws ≡ pass.old.draws + 1) }
-        ensures worn { (n : ℕ) → result ≡ Err (DeskFault.Worn n) → (n ≡ 2 ^ 40) × (pass.old.draws ≡ 2 ^ 40) × (pass.new ≡ pass.old) }
+        ensures full { result ≡ Err DeskFault.StepsFull
+            → (length pass.new.seen ≡ max_steps) × (M.now_of self.now.root pass.new.seen < upto)
+            × (pass.old.draws < 2 ^ 40) × (pass.new.draws ≡ pass.old.draws + 1) }
+        ensures worn { (n : ℕ) → result ≡ Err (DeskFault.Worn n)
+            → (n ≡ 2 ^ 40) × (pass.old.draws ≡ 2 ^ 40) × (pass.new ≡ pass.old) }
     {
         let mut machine = match self.lock.turn(rt, pass) {
             Ok(machine) => machine,
@@ -143,7 +168,8 @@ impl<M: Machine> Desk<M> {
         ensures root { M.same_root self.root result }
         ensures first { IsPrefix (M.list self.root) (M.list result) }
         ensures each { Each (IsTold (M.list self.root) (M.list result)) passes.items }
-        ensures others { (n : ℕ) → self.passes ≤ n → part n (drop (length (M.list self.root)) (M.list result)) ≡ [] }
+        ensures others { (n : ℕ) → self.passes ≤ n
+            → part n (drop (length (M.list self.root)) (M.list result)) ≡ [] }
     {
         let Self { lock } = self;
         lock.close(passes)

@@ -9,9 +9,8 @@ use Rattle.gtrbac_model.specs.Graph.{item_at}
 use Rattle.gtrbac_model.specs.Sessions.{Activation, is_active_in, is_of}
 use Rattle.history_laws.specs.Tables.{minutes_of_day}
 use Rattle.session_table.specs.declared.opened.Open.{Open}
-use Rattle.session_table.specs.declared.charges.Charge.{Charge}
 use Rattle.session_table.specs.Opened.{role_in}
-use Rattle.session_table.specs.Charges.{charged_in}
+use Rattle.session_table.specs.Charges.{Charged, charged_in}
 use Rattle.session_table.specs.Kept.{IsKept, minutes_until}
 use Rattle.session_table.specs.Tables.{NotBefore}
 use Rattle.session_table.proofs.Charging.{split}
@@ -35,7 +34,7 @@ more_charged c m n a b e h k l few =
     let p : m * n ≤ m * 10_000 = mul-le-mul_left m few in
     omega (arith, p, h, k, l)
 
-module _ (os : List Open) (active : List Activation) (charges : List (Charge × ℕ)) (until : Option ℕ) (h : IsKept os active charges until)
+module _ (os : List Open) (active : List Activation) (charges : Charged) (until : Option ℕ) (h : IsKept os active charges until)
     (now to : ℕ) (order : now < to) (not_before : NotBefore until now) where
   charged_after : (u : UserId) (r : RoleId) (d : ℕ) → charged_in charges u r d + minutes_of_day now (to - now) d * count_by (is_of u r) active ≤ 10_000 * minutes_until (Some to) d
   charged_after u r d =
@@ -130,7 +129,7 @@ all_kept (x ∷ xs) = ap (λ ys. x ∷ ys) (all_kept xs)
 pub each_kept : {A : Type 0} (p : A → Bool) (xs : List A) → ((i : ℕ) (a : A) → item_at xs i ≡ Some a → p a ≡ true) → xs ≡ filter p xs
 each_kept p xs h = sym (filter_by_items p (λ x. true) xs h ∙ all_kept xs)
 
-module _ (os : List Open) (active : List Activation) (charges : List (Charge × ℕ)) (until : Option ℕ) (h : IsKept os active charges until)
+module _ (os : List Open) (active : List Activation) (charges : Charged) (until : Option ℕ) (h : IsKept os active charges until)
     (test : Activation → Bool) (gone : List Activation) (is_gone : gone ≡ filter test active)
     (os' : List Open) (roles : (n : SessionId) (r : RoleId) → role_in os' n r ≡ (not (list_any (is_active_in n r) gone) && role_in os n r)) where
   abbrev left : List Activation
@@ -151,7 +150,7 @@ module _ (os : List Open) (active : List Activation) (charges : List (Charge × 
   pub survivors : left ≡ filter (λ a. not (test a)) active
   survivors = filter_by_items (λ a. role_in os' a.session a.role) (λ a. not (test a)) active one_left
 
-  pub committed : count_by (λ (o : Open). o.is_open) os' ≡ count_by (λ (o : Open). o.is_open) os → (rows : List (Charge × ℕ)) (now to : ℕ) → now < to → NotBefore until now
+  pub committed : count_by (λ (o : Open). o.is_open) os' ≡ count_by (λ (o : Open). o.is_open) os → (rows : Charged) (now to : ℕ) → now < to → NotBefore until now
       → ((u : UserId) (r : RoleId) (d : ℕ) → charged_in rows u r d ≡ charged_in charges u r d + minutes_of_day now (to - now) d * count_by (is_of u r) active)
       → IsKept os' left rows (Some to)
   committed len rows now to order not_before charged = record {

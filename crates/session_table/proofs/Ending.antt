@@ -11,7 +11,7 @@ use Rattle.gtrbac_model.specs.Same.{same_role}
 use Rattle.gtrbac_model.specs.Graph.{item_at}
 use Rattle.gtrbac_model.specs.Sessions.{Activation, is_active_in}
 use Rattle.session_table.specs.declared.opened.Open.{Open}
-use Rattle.session_table.specs.declared.charges.Charge.{Charge}
+use Rattle.session_table.specs.Charges.{Charged}
 use Rattle.session_table.specs.Opened.{numbered, in_session}
 use Rattle.session_table.specs.Causes.{StandsAt}
 use Rattle.session_table.specs.Kept.{IsKept}
@@ -43,7 +43,7 @@ module _ (n : SessionId) (roles : List RoleId) where
       let f = by_roles xs (λ i. h (suc i)) in
       omega (arith, b, c, d, e, f)
 
-module _ (os : List Open) (active : List Activation) (charges : List (Charge × ℕ)) (to : Option ℕ) (h : IsKept os active charges to) (n : SessionId) where
+module _ (os : List Open) (active : List Activation) (charges : Charged) (to : Option ℕ) (h : IsKept os active charges to) (n : SessionId) where
   there : (i : ℕ) (a : Activation) → item_at active i ≡ Some a → in_session n a ≡ true → list_any (is_active_in n a.role) active ≡ true
   there i a is on = ap (λ m. list_any (is_active_in m a.role) active) (sym (one_session a.session n on)) ∙ listed active i a is
 

@@ -11,7 +11,7 @@ use Rattle.gtrbac_model.specs.Same.{same_role, same_session, same_user}
 use Rattle.gtrbac_model.specs.Graph.{item_at}
 use Rattle.gtrbac_model.specs.Sessions.{Activation, is_active_in, is_of}
 use Rattle.session_table.specs.declared.opened.Open.{Open}
-use Rattle.session_table.specs.declared.charges.Charge.{Charge}
+use Rattle.session_table.specs.Charges.{Charged}
 use Rattle.session_table.specs.Opened.{numbered, opened, still_open, role_in, in_session}
 use Rattle.session_table.specs.Causes.{StandsAt}
 use Rattle.session_table.specs.Kept.{IsKept}
@@ -28,7 +28,7 @@ as_many_open os i o p at e =
     let b : ◌≡◌ {A = ℕ} (cond p.is_open 1 0) (cond o.is_open 1 0) = ap (λ b. cond b 1 0) e in
     omega (arith, a, b)
 
-module _ (os : List Open) (active : List Activation) (charges : List (Charge × ℕ)) (to : Option ℕ) (h : IsKept os active charges to) where
+module _ (os : List Open) (active : List Activation) (charges : Charged) (to : Option ℕ) (h : IsKept os active charges to) where
   pub begun : (o : Open) → o.roles ≡ none → count_by is_open os < 10_000 → IsKept (os ++ o ∷ []) active charges to
   begun o e few = record {
     few = let n = count_added is_open os o in let one = at_most o.is_open in omega (arith, n, one);
@@ -78,7 +78,7 @@ module _ (os : List Open) (active : List Activation) (charges : List (Charge × 
         }
 
 -- gaps among the sessions say nothing
-pub with_gaps : (os : List Open) (active : List Activation) (charges : List (Charge × ℕ)) (to : Option ℕ) → IsKept (still_open os) active charges to → IsKept os active charges to
+pub with_gaps : (os : List Open) (active : List Activation) (charges : Charged) (to : Option ℕ) → IsKept (still_open os) active charges to → IsKept os active charges to
 with_gaps os active charges to h = record {
   few = let n = count_again is_open os in omega (arith, n, h.few);
   index = λ n r. sym (open_role os n r) ∙ h.index n r;
@@ -168,7 +168,7 @@ role_there (o ∷ os) n r e = by o os n r (numbered n o) refl e (role_there os n
     by o os n r true is e h = ap (λ b. b || list_any (λ o. same_session n o.number) os) (ap (same_session n) (number_is n o is) ∙ session_itself n)
     by o os n r false is e h = or_true (same_session n o.number) (h e)
 
-pub few_of_role : (os : List Open) (active : List Activation) (charges : List (Charge × ℕ)) (to : Option ℕ) → IsKept os active charges to
+pub few_of_role : (os : List Open) (active : List Activation) (charges : Charged) (to : Option ℕ) → IsKept os active charges to
     → (r : RoleId) → count_by (λ a. same_role a.role r) active ≤ 10_000
 few_of_role os active charges to h r =
     let a = covers (still_open os) r active (λ i a is. role_there (still_open os) a.session a.role (open_role os a.session a.role ∙ h.index a.session a.role ∙ listed active i a is)) in
@@ -190,7 +190,7 @@ less_of_both p q (x ∷ xs) =
     less false true = omega arith
     less false false = omega arith
 
-pub few_of : (os : List Open) (active : List Activation) (charges : List (Charge × ℕ)) (to : Option ℕ) → IsKept os active charges to → (u : UserId) (r : RoleId) → count_by (is_of u r) active ≤ 10_000
+pub few_of : (os : List Open) (active : List Activation) (charges : Charged) (to : Option ℕ) → IsKept os active charges to → (u : UserId) (r : RoleId) → count_by (is_of u r) active ≤ 10_000
 few_of os active charges to h u r =
     let a = less_of_both (λ a. same_user a.user u) (λ a. same_role a.role r) active in
     let b = few_of_role os active charges to h r in

@@ -4,6 +4,7 @@ pub mod Charging
 pub mod Finding
 pub mod Gaps
 pub mod Indexing
+pub mod Wholes
 pub mod Writing
 pub mod Keeping
 pub mod Answering

@@ -19,11 +19,10 @@ use Rattle.gtrbac_model.specs.Hierarchy.{activation_walk}
 use Rattle.gtrbac_model.specs.Conflict.{Status}
 use Rattle.gtrbac_model.specs.Sessions.{Table, Activation, caps_of, is_of, is_active_in}
 use Rattle.gtrbac_model.specs.Reply.{session_causes}
-use Rattle.session_table.specs.declared.charges.Charge.{Charge}
 use Rattle.session_table.specs.declared.faults.SessionFault.{SessionFault}
 use Rattle.session_table.specs.declared.opened.Open.{Open}
 use Rattle.session_table.specs.Causes.{first_cause, StandsAt, early_causes, late_causes}
-use Rattle.session_table.specs.Charges.{charged_in}
+use Rattle.session_table.specs.Charges.{Charged, charged_in}
 use Rattle.session_table.specs.Kept.{IsKept, IsTable}
 use Rattle.session_table.specs.Opened.{opened, still_open, Numbered}
 use Rattle.session_table.specs.Permits.{rows_table, walk_causes, IsReady, IsFirstCause, Lets, IsCauseOf, IsPermitted}
@@ -34,7 +33,7 @@ use Rattle.session_table.proofs.Indexing.{kept_opened, kept_open}
 use Rattle.session_table.proofs.Keeping.{as_many_open, entered}
 use Rattle.session_table.proofs.Answering.{refused_front, refused_rest, allowed, early_none, or_refused}
 
-module _ (edges : List HierEdge) (caps : List Caps) (s : Status) (now : ℕ) (actor : Actor) (n : SessionId) (r : RoleId) (os : List Open) (active : List Activation) (charges : List (Charge × ℕ)) (to : Option ℕ)
+module _ (edges : List HierEdge) (caps : List Caps) (s : Status) (now : ℕ) (actor : Actor) (n : SessionId) (r : RoleId) (os : List Open) (active : List Activation) (charges : Charged) (to : Option ℕ)
     (kept : IsKept os active charges to) where
   pub front_refuses : (x : Refusal) → IsFirstCause s actor n r os x → (begun : ℕ) → AnswersAt edges caps s now (rows_table os active charges begun) actor (Activate n r) (Refused x)
   front_refuses x h begun =
@@ -59,7 +58,7 @@ module _ (edges : List HierEdge) (caps : List Caps) (s : Status) (now : ℕ) (ac
           allowed edges caps s now tb actor n r u (ready.owner tb) (ready.may tb) (subst (λ b. first_cause (early_causes s b r) ≡ None) (kept.index n r) ready.early) w h.walk h.late;
     }
 
-module _ (edges : List HierEdge) (caps : List Caps) (s : Status) (now : ℕ) (active : List Activation) (charges : List (Charge × ℕ)) (u : UserId) (r : RoleId) where
+module _ (edges : List HierEdge) (caps : List Caps) (s : Status) (now : ℕ) (active : List Activation) (charges : Charged) (u : UserId) (r : RoleId) where
   pub no_walk : activation_walk edges s u r ≡ None → first_cause (walk_causes edges caps s now active charges u r) ≡ Some NotAssigned
   no_walk e =
       ap
@@ -81,7 +80,7 @@ abbrev pub IsWith : List Open → ℕ → RoleId → List Open → Type 0
 IsWith os at r new = IfSome (slice_get os at) (λ o. new ≡ set os at (record o { roles = with_member o.roles r }))
 
 module _ (os new : List Open) (n : SessionId) (at : ℕ) (stands : StandsAt os n at) (r : RoleId) (is : IsWith os at r new) where
-  pub enters : (standing : ℕ) (active : List Activation) (charges : List (Charge × ℕ)) (to : Option ℕ) (begun : ℕ) → IsTable os standing active charges to begun
+  pub enters : (standing : ℕ) (active : List Activation) (charges : Charged) (to : Option ℕ) (begun : ℕ) → IsTable os standing active charges to begun
       → (u : UserId) (t : ℕ) → list_any (is_active_in n r) active ≡ false → IsTable new standing (active ++ activation n u r t ∷ []) charges to begun
   enters standing active charges to begun h u t fresh =
       let (o, there) = inside os at stands.inside in

@@ -9,7 +9,7 @@ use Rattle.gtrbac_model.specs.Conflict.{Status}
 use Rattle.gtrbac_model.specs.Graph.{item_at}
 use Rattle.gtrbac_model.specs.Hierarchy.{activation_walk}
 use Rattle.gtrbac_model.specs.Sessions.{Activation, caps_of, reached, is_dropped}
-use Rattle.session_table.specs.declared.charges.Charge.{Charge}
+use Rattle.session_table.specs.Charges.{Charged}
 use Rattle.session_table.specs.NextDrops.{limits_minutes, capped_in}
 use Rattle.session_table.specs.Plans.{AllStand}
 use Rattle.session_table.specs.Tables.{TableView, table_of, charged_through, dropped_at, is_capped}
@@ -37,7 +37,7 @@ never_reached None None e n m = refl
 never_reached (Some x) d e n m = cc
 never_reached None (Some y) e n m = cc
 
-module _ (caps : List Caps) (e : list_any limits_minutes caps ≡ false) (rows : List (Charge × ℕ)) (active : List Activation) (now t : ℕ) where
+module _ (caps : List Caps) (e : list_any limits_minutes caps ≡ false) (rows : Charged) (active : List Activation) (now t : ℕ) where
   pub not_capped : (a : Activation) → capped_in caps rows active now t a ≡ false
   not_capped a = never_reached (caps_of caps a.role).length (caps_of caps a.role).day (unlimited caps e a.role.0) _ _
 

@@ -7,7 +7,7 @@ use Rattle.indexmap.proofs.CallerLemmas.{updates-with_value_at}
 use Rattle.gt_base.specs.declared.events.RoleId.{RoleId}
 use Rattle.gt_base.specs.declared.events.UserId.{UserId}
 use Rattle.session_table.specs.declared.charges.Charge.{Charge}
-use Rattle.session_table.specs.Charges.{charge_eq, charged_in, is_key}
+use Rattle.session_table.specs.Charges.{charge_eq, charged_by_rows, is_key}
 use Rattle.session_table.proofs.Indexing.{both_true, eq_turned}
 use Rattle.session_table.proofs.Charging.{split}
 
@@ -39,15 +39,15 @@ unwrapped o old true w e = ap (λ x. unwrap_or x 0) e
 unwrapped o old false w e = ap (λ x. unwrap_or x 0) e
 
 -- what was written is more by so much
-pub more : (rows : List (Charge × ℕ)) (k : Charge) (before minutes : ℕ) → before ≡ charged_in rows k.user k.role k.day → (u : UserId) (r : RoleId) (d : ℕ)
-    → cond (is_key k u r d) (before + minutes) (charged_in rows u r d) ≡ charged_in rows u r d + cond (is_key k u r d) minutes 0
+pub more : (rows : List (Charge × ℕ)) (k : Charge) (before minutes : ℕ) → before ≡ charged_by_rows rows k.user k.role k.day → (u : UserId) (r : RoleId) (d : ℕ)
+    → cond (is_key k u r d) (before + minutes) (charged_by_rows rows u r d) ≡ charged_by_rows rows u r d + cond (is_key k u r d) minutes 0
 more rows k before minutes is u r d =
     split (is_key k u r d)
     (λ e.
     let same : k ≡ record { user = u; role = r; day = d } = key_is k (record { user = u; role = r; day = d }) (keyed k u r d ∙ e) in
-    let own : before ≡ charged_in rows u r d = is ∙ ap (λ (x : Charge). charged_in rows x.user x.role x.day) same in
-    ap (λ b. cond b (before + minutes) (charged_in rows u r d)) e ∙ ap (λ n. n + minutes) own ∙ ap (λ b. charged_in rows u r d + cond b minutes 0) (sym e))
-    (λ e. ap (λ b. cond b (before + minutes) (charged_in rows u r d)) e ∙ sym (add-zero (charged_in rows u r d)) ∙ ap (λ b. charged_in rows u r d + cond b minutes 0) (sym e))
+    let own : before ≡ charged_by_rows rows u r d = is ∙ ap (λ (x : Charge). charged_by_rows rows x.user x.role x.day) same in
+    ap (λ b. cond b (before + minutes) (charged_by_rows rows u r d)) e ∙ ap (λ n. n + minutes) own ∙ ap (λ b. charged_by_rows rows u r d + cond b minutes 0) (sym e))
+    (λ e. ap (λ b. cond b (before + minutes) (charged_by_rows rows u r d)) e ∙ sym (add-zero (charged_by_rows rows u r d)) ∙ ap (λ b. charged_by_rows rows u r d + cond b minutes 0) (sym e))
 
 -- a value written over itself leaves the rows
 pub written_over : {K X : Type 0} (es : List (K × X)) (i : ℕ) (k : K) (v : X) → slice_get es i ≡ Some (k, v) → set_value_at es i v ≡ es
@@ -56,20 +56,20 @@ written_over {K} {X} (e ∷ es) zero k v at = let same : e ≡ (k, v) = cc in ap
 written_over (e ∷ es) (suc i) k v at = ap (λ xs. e ∷ xs) (written_over es i k v at)
 
 module _ {S : Type 0} (m : IndexMap Charge ℕ S) (i : ℕ) (k : Charge) (before : ℕ) (unique : IsUnique charge_eq m) (at : slice_get m.entries i ≡ Some (k, before)) where
-  written : (w : ℕ) (u : UserId) (r : RoleId) (d : ℕ) → charged_in (set_value_at m.entries i w) u r d ≡ cond (is_key k u r d) w (charged_in m.entries u r d)
+  written : (w : ℕ) (u : UserId) (r : RoleId) (d : ℕ) → charged_by_rows (set_value_at m.entries i w) u r d ≡ cond (is_key k u r d) w (charged_by_rows m.entries u r d)
   written w u r d =
       unwrapped _ _ (charge_eq k (record { user = u; role = r; day = d })) w ((updates-with_value_at m i w key_laws unique k before at).0 (record { user = u; role = r; day = d }))
-      ∙ ap (λ b. cond b w (charged_in m.entries u r d)) (keyed k u r d)
+      ∙ ap (λ b. cond b w (charged_by_rows m.entries u r d)) (keyed k u r d)
 
   itself : is_key k k.user k.role k.day ≡ true
   itself = λ j. (eq-eqb k.user.0 k.user.0 refl j && eq-eqb k.role.0 k.role.0 refl j) && eq-eqb k.day k.day refl j
 
   -- the row has what is charged to its key
-  pub row_says : before ≡ charged_in m.entries k.user k.role k.day
+  pub row_says : before ≡ charged_by_rows m.entries k.user k.role k.day
   row_says =
-      sym (written before k.user k.role k.day ∙ ap (λ b. cond b before (charged_in m.entries k.user k.role k.day)) itself)
-      ∙ ap (λ es. charged_in es k.user k.role k.day) (written_over m.entries i k before at)
+      sym (written before k.user k.role k.day ∙ ap (λ b. cond b before (charged_by_rows m.entries k.user k.role k.day)) itself)
+      ∙ ap (λ es. charged_by_rows es k.user k.role k.day) (written_over m.entries i k before at)
 
   -- and minutes added in it are charged to the key
-  pub row_added : (minutes : ℕ) (u : UserId) (r : RoleId) (d : ℕ) → charged_in (set_value_at m.entries i (before + minutes)) u r d ≡ charged_in m.entries u r d + cond (is_key k u r d) minutes 0
+  pub row_added : (minutes : ℕ) (u : UserId) (r : RoleId) (d : ℕ) → charged_by_rows (set_value_at m.entries i (before + minutes)) u r d ≡ charged_by_rows m.entries u r d + cond (is_key k u r d) minutes 0
   row_added minutes u r d = written (before + minutes) u r d ∙ more m.entries k before minutes row_says u r d

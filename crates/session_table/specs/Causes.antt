@@ -41,7 +41,9 @@ early_causes s active r = (active, Already) ∷ (not (s (Enabled r)), Disabled) 
 
 -- and after it
 abbrev pub late_causes : Caps → ℕ → ℕ → ℕ → List (Bool × Refusal)
-late_causes caps all own spent = (reached caps.total all, RoleFull all) ∷ (reached caps.user own, UserFull own) ∷ (reached caps.day spent, DaySpent spent) ∷ []
+late_causes caps all own spent =
+    (reached caps.total all, RoleFull all) ∷ (reached caps.user own, UserFull own)
+    ∷ (reached caps.day spent, DaySpent spent) ∷ []
 
 -- the number, where the cap is reached by it
 abbrev pub full_at : Option ℕ → ℕ → Option ℕ

@@ -11,17 +11,20 @@ use Rattle.gtrbac_model.specs.Conflict.{Status}
 use Rattle.gtrbac_model.specs.Hierarchy.{activation_walk}
 use Rattle.gtrbac_model.specs.Sessions.{Activation, caps_of, reached, is_of}
 use Rattle.history_laws.specs.Tables.{minutes_of_day}
-use Rattle.session_table.specs.declared.charges.Charge.{Charge}
-use Rattle.session_table.specs.Charges.{charged_in}
+use Rattle.session_table.specs.Charges.{Charged, charged_in}
 use Rattle.session_table.specs.declared.dropping.Asked.{Asked}
 use Rattle.session_table.specs.contracts.dropping.AskedPartialEq.TheImpl as asked_equality
 
--- what is charged on the civil day of `to`, where the minutes after now are charged to each activation
-abbrev pub spent_by : List (Charge × ℕ) → List Activation → ℕ → ℕ → UserId → RoleId → ℕ
-spent_by rows active now to u r = charged_in rows u r (day_of to) + minutes_of_day now (to - now) (day_of to) * count_by (is_of u r) active
+-- what is charged on the civil day of `to`, where the minutes after now are charged to each
+-- activation
+abbrev pub spent_by : Charged → List Activation → ℕ → ℕ → UserId → RoleId → ℕ
+spent_by rows active now to u r =
+    charged_in rows u r (day_of to) + minutes_of_day now (to - now) (day_of to) * count_by
+    (is_of u r) active
 
 -- whether the close of `to` drops the activation
-abbrev pub is_dropped : List HierEdge → List Caps → Status → List (Charge × ℕ) → List Activation → ℕ → ℕ → Activation → Bool
+abbrev pub is_dropped : List HierEdge → List Caps → Status → Charged → List Activation → ℕ → ℕ
+    → Activation → Bool
 is_dropped edges caps s rows active now to a =
     not (s (Enabled a.role))
     || is_none (activation_walk edges s a.user a.role)
@@ -31,6 +34,10 @@ is_dropped edges caps s rows active now to a =
 abbrev pub asked_eq : Asked → Asked → Bool
 asked_eq = asked_equality.ghosts.eq
 
--- what the rows say of a user and a role is whether no walk of usable edges lets the one activate the other
+-- what the rows say of a user and a role is whether no walk of usable edges lets the one activate
+-- the other
 abbrev pub AreBarred : List HierEdge → Status → List (Asked × Bool) → Type 0
-AreBarred edges s rows = (u : UserId) (r : RoleId) → IfSome (lookup (asked_eq (record { user = u; role = r })) rows) (λ b. b ≡ is_none (activation_walk edges s u r))
+AreBarred edges s rows =
+    (u : UserId) (r : RoleId)
+    → IfSome (lookup (asked_eq (record { user = u; role = r })) rows)
+    (λ b. b ≡ is_none (activation_walk edges s u r))

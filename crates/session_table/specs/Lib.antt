@@ -1,10 +1,12 @@
 pub mod RoleSets
 pub mod Opened
 pub mod Charges
+pub mod Counting
 pub mod Tables
 pub mod Replies
 pub mod Causes
 pub mod Kept
+pub mod Ledgers
 pub mod Permits
 pub mod Plans
 pub mod Dropping

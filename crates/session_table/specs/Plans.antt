@@ -1,5 +1,5 @@
 -- The end of a stretch of minutes, planned before it is made.
-use Rattle.std.specs.Prelude.{◌≡◌, ℕ, ◌*◌, ◌<◌, ◌≤◌, Bool, true, false, List, length, map, filter, Some, is_none}
+use Rattle.std.specs.Prelude.{◌≡◌, ℕ, ◌<◌, ◌≤◌, Bool, true, false, List, length, map, filter, Some, is_none}
 use Rattle.gt_base.specs.declared.events.Signal.{Signal}
 use Rattle.gt_base.specs.declared.events.Fluent.TheVariants.{Enabled}
 use Rattle.gt_base.specs.declared.policies.Caps.{Caps}
@@ -8,10 +8,10 @@ use Rattle.gtrbac_model.specs.Conflict.{Status}
 use Rattle.gtrbac_model.specs.Graph.{item_at}
 use Rattle.gtrbac_model.specs.Hierarchy.{activation_walk}
 use Rattle.gtrbac_model.specs.Sessions.{Table, Activation, signal_of}
-use Rattle.session_table.specs.Charges.{days_between}
 use Rattle.session_table.specs.Tables.{TableView, table_of, NotBefore, dropped_at, closed_at}
 
--- the minutes after one instant, to another, the activations that are dropped at `to`, and their end signals
+-- the minutes after one instant, to another, the activations that are dropped at `to`, and their
+-- end signals
 pub record DropsView : Type 0 where
   pub after : ℕ
   pub to : ℕ
@@ -19,7 +19,8 @@ pub record DropsView : Type 0 where
   pub signals : List Signal
 
 -- what the close of `to` drops under these edges and caps, in this status
-pub record IsPlan (edges : List HierEdge) (caps : List Caps) (s : Status) (now to : ℕ) (tb : Table) (d : DropsView) : Type 0 where
+pub record IsPlan (edges : List HierEdge) (caps : List Caps) (s : Status) (now to : ℕ) (tb : Table)
+    (d : DropsView) : Type 0 where
   pub from : d.after ≡ now
   pub upto : d.to ≡ to
   pub gone : d.gone ≡ dropped_at edges caps s now to tb
@@ -36,13 +37,15 @@ AllStand edges s tb = (i : ℕ) (a : Activation) → item_at tb.active i ≡ Som
 
 -- the plan is so, for whichever edges and status let each activation stand
 abbrev pub IsPlanWhereAllStand : List Caps → ℕ → ℕ → Table → DropsView → Type 0
-IsPlanWhereAllStand caps now to tb d = (edges : List HierEdge) (s : Status) → AllStand edges s tb → IsPlan edges caps s now to tb d
+IsPlanWhereAllStand caps now to tb d =
+    (edges : List HierEdge) (s : Status) → AllStand edges s tb → IsPlan edges caps s now to tb d
 
--- so many further rows of charges the minutes can need: one for each activation and civil day
+-- for so many activations the minutes are charged
 abbrev pub need_of : ℕ → ℕ → TableView → ℕ
-need_of now to v = days_between now to * length v.active
+need_of now to v = length v.active
 
--- the drops are of activations of the table now, which is charged no further than the instant before the minutes, and there is room for the charges
+-- the drops are of activations of the table now, which is charged no further than the instant
+-- before the minutes, and there is room for the charges
 pub record IsPlanned (v : TableView) (d : DropsView) : Type 0 where
   pub test : Activation → Bool
   pub gone : d.gone ≡ filter test v.active
@@ -50,8 +53,11 @@ pub record IsPlanned (v : TableView) (d : DropsView) : Type 0 where
   pub not_before : NotBefore v.charged_to d.after
   pub room : need_of d.after d.to v ≤ v.room
 
--- after the commit the table is the closed one, for whichever edges, caps and status the drops are what the close drops
+-- after the commit the table is the closed one, for whichever edges, caps and status the drops are
+-- what the close drops
 abbrev pub Closes : TableView → DropsView → TableView → Type 0
 Closes before d after =
-    (edges : List HierEdge) (caps : List Caps) (s : Status) → d.gone ≡ dropped_at edges caps s d.after d.to (table_of before)
-    → record (table_of after) { signals = map (signal_of false) d.gone } ≡ closed_at edges caps s d.after d.to (table_of before)
+    (edges : List HierEdge) (caps : List Caps) (s : Status)
+    → d.gone ≡ dropped_at edges caps s d.after d.to (table_of before)
+    → record (table_of after) { signals = map (signal_of false) d.gone }
+    ≡ closed_at edges caps s d.after d.to (table_of before)

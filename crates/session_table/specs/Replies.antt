@@ -20,12 +20,18 @@ use Rattle.session_table.specs.declared.faults.SessionFault.TheVariants.{Refused
 
 -- over this table the request is answered so, whatever the policy, the instant and the status
 abbrev pub Answers : Table → Actor → Request → Reply → Type 0
-Answers tb actor request reply = (p : Policy) (pt : Point) → answer p (record pt { table = tb }) actor request ≡ reply
+Answers tb actor request reply =
+    (p : Policy) (pt : Point) → answer p (record pt { table = tb }) actor request ≡ reply
 
--- over this table and in this status it is answered so at the instant now, under these edges and caps
-abbrev pub AnswersAt : List HierEdge → List Caps → Status → ℕ → Table → Actor → Request → Reply → Type 0
+-- over this table and in this status it is answered so at the instant now, under these edges and
+-- caps
+abbrev pub AnswersAt : List HierEdge → List Caps → Status → ℕ → Table → Actor → Request → Reply
+    → Type 0
 AnswersAt edges caps s now tb actor request reply =
-    (p : Policy) (pt : Point) → answer (record p { edges = edges; caps = caps }) (record pt { now = now; status = s; table = tb }) actor request ≡ reply
+    (p : Policy) (pt : Point)
+    → answer (record p { edges = edges; caps = caps })
+    (record pt { now = now; status = s; table = tb }) actor request
+    ≡ reply
 
 -- the fault is want of memory, or the refusal with which it is answered
 abbrev pub OrRefused : SessionFault → (Reply → Type 0) → Type 0
@@ -40,4 +46,6 @@ IsRefusal Memory answers = ⊥
 -- a check of the permission is answered by the decision over these active roles
 abbrev pub ChecksBy : Table → Actor → SessionId → PermId → List RoleId → Type 0
 ChecksBy tb actor n perm roles =
-    (p : Policy) (pt : Point) → answer p (record pt { table = tb }) actor (Check n perm) ≡ Decided (decide p.edges pt.status roles perm)
+    (p : Policy) (pt : Point)
+    → answer p (record pt { table = tb }) actor (Check n perm)
+    ≡ Decided (decide p.edges pt.status roles perm)

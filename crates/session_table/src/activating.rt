@@ -1,4 +1,5 @@
-//! An activation of a role, in its steps: what refuses it, the walk that allows it, and how it enters the rows.
+//! An activation of a role, in its steps: what refuses it, the walk that allows it, and how it
+//! enters the rows.
 ghost use Rattle.std.specs.Prelude.{◌≡◌, ℕ, ◌<◌, ◌≤◌, [], ◌∷◌, ◌++◌, Option, map, length, count_by, slice_get, slice_set, IfOk, IfErr, IfSome, OnOk, OnErr};
 ghost use Rattle.gt_base.specs.Sets.{has, with_member};
 ghost use Rattle.gt_base.specs.declared.requests.Request.TheVariants.{Activate};
@@ -11,10 +12,10 @@ ghost use Rattle.session_table.specs.Replies.{AnswersAt, OrRefused};
 
 use crate::activations::Activation;
 use crate::active::ActiveRow;
-use crate::charges::Charge;
 use crate::checks::{caps_of, early_refusal, late_refusal, owned};
 use crate::dropping::{Asked, remember};
 use crate::faults::SessionFault;
+use crate::ledgers::Ledger;
 use crate::opened::{Open, add_role, has_role, owner_at};
 use civil_time::day;
 use gt_base::{
@@ -24,12 +25,13 @@ use hybrid_hierarchy::Hierarchy;
 use indexmap::IndexMap;
 use std::alloc::Global;
 
-/// Where the session stands, who owns it, and the walk that allows the role, or why the activation is refused.
+/// Where the session stands, who owns it, and the walk that allows the role, or why the activation
+/// is refused.
 pub(crate) fn permitted(
     alloc: Global,
     sessions: &[Open],
     active: &[Activation],
-    charges: &IndexMap<Charge, u32>,
+    charges: &Ledger,
     hierarchy: &Hierarchy,
     caps: &List<Caps>,
     status: &Status,
@@ -39,9 +41,16 @@ pub(crate) fn permitted(
     role: RoleId,
 ) -> Result<(usize, UserId, Walk), SessionFault>
     requires numbered { AreNumbered (map opened sessions.now) }
-    requires kept { (to : Option ℕ) × IsKept sessions.now active.now charges.now.entries to }
-    ensures ok { IfOk result (λ r. IsPermitted hierarchy.now caps.now.items (has status.now.set) now actor session role sessions.now active.now charges.now.entries r.0 r.1 r.2) }
-    ensures err { IfErr result (λ fault. (begun : ℕ) → OrRefused fault (AnswersAt hierarchy.now caps.now.items (has status.now.set) now (rows_table sessions.now active.now charges.now.entries begun) actor (Activate session role))) }
+    requires kept { (to : Option ℕ) × IsKept sessions.now active.now charges.now.charged to }
+    ensures ok { IfOk result
+        (λ r. IsPermitted hierarchy.now caps.now.items (has status.now.set) now actor session
+        role sessions.now active.now charges.now.charged r.0 r.1 r.2) }
+    ensures err { IfErr result
+        (λ fault. (begun : ℕ)
+        → OrRefused fault
+        (AnswersAt hierarchy.now caps.now.items (has status.now.set) now
+        (rows_table sessions.now active.now charges.now.charged begun) actor
+        (Activate session role))) }
 {
     let (at, user) = match ready(sessions, status, actor, session, role) {
         Ok(found) => found,
@@ -81,7 +90,7 @@ fn ready(
 fn allowing(
     alloc: Global,
     active: &[Activation],
-    charges: &IndexMap<Charge, u32>,
+    charges: &Ledger,
     hierarchy: &Hierarchy,
     caps: &List<Caps>,
     status: &Status,
@@ -91,8 +100,13 @@ fn allowing(
 ) -> Result<Walk, SessionFault>
     requires all { count_by (λ a. same_role a.role role) active.now ≤ 10_000 }
     requires own { count_by (is_of user role) active.now ≤ 10_000 }
-    ensures ok { IfOk result (Lets hierarchy.now caps.now.items (has status.now.set) now active.now charges.now.entries user role) }
-    ensures err { IfErr result (λ fault. IsCauseOf fault (walk_causes hierarchy.now caps.now.items (has status.now.set) now active.now charges.now.entries user role)) }
+    ensures ok { IfOk result
+        (Lets hierarchy.now caps.now.items (has status.now.set) now active.now
+        charges.now.charged user role) }
+    ensures err { IfErr result
+        (λ fault. IsCauseOf fault
+        (walk_causes hierarchy.now caps.now.items (has status.now.set) now active.now
+        charges.now.charged user role)) }
 {
     let Some(walk) = hierarchy.may_activate(alloc, status, user, role)? else {
         return Err(SessionFault::Refused(Refusal::NotAssigned));
@@ -104,8 +118,8 @@ fn allowing(
     }
 }
 
-/// Adds the activation to the rows and its role to the session at the place, and keeps a copy of its walk. After a refusal the rows are as they
-/// were.
+/// Adds the activation to the rows and its role to the session at the place, and keeps a copy of
+/// its walk. After a refusal the rows are as they were.
 pub(crate) fn enter(
     sessions: &mut Vec<Open>,
     active: &mut ActiveRow,
@@ -115,7 +129,11 @@ pub(crate) fn enter(
     walk: &Walk,
 ) -> Result<(), Memory>
     requires { at < length sessions.old.items }
-    ensures sessions { OnOk result (IfSome (slice_get sessions.old.items at) (λ o. sessions.new.items ≡ slice_set sessions.old.items at (record o { roles = with_member o.roles a.role }))) }
+    ensures sessions { OnOk result
+        (IfSome (slice_get sessions.old.items at)
+        (λ o. sessions.new.items
+        ≡ slice_set sessions.old.items at
+        (record o { roles = with_member o.roles a.role }))) }
     ensures active { OnOk result (active.new.items ≡ active.old.items ++ a ∷ []) }
     ensures same { OnErr result (sessions.new.items ≡ sessions.old.items) }
     ensures same_active { OnErr result (active.new.items ≡ active.old.items) }

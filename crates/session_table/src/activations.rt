@@ -9,7 +9,8 @@ use crate::active::{ActiveRow, behind};
 use gt_base::{Instant, RoleId, SessionId, Signal, UserId};
 use std::marker::Model;
 
-/// A role that is active in a session, for the user who opened it, since the instant at which it was activated.
+/// A role that is active in a session, for the user who opened it, since the instant at which it
+/// was activated.
 #[derive(Clone, Copy)]
 pub(crate) struct Activation {
     pub(crate) session: SessionId,
@@ -109,8 +110,8 @@ fn tell(signals: &mut Vec<Signal>, a: &Activation)
     }
 }
 
-/// Takes out the activations of the session, of which there are at most so many, and adds their end signals, into room that was made before.
-/// Where all are found, nothing further is looked at.
+/// Takes out the activations of the session, of which there are at most so many, and adds their end
+/// signals, into room that was made before. Where all are found, nothing further is looked at.
 pub(crate) fn end_session(
     active: &mut ActiveRow,
     session: SessionId,
@@ -120,7 +121,9 @@ pub(crate) fn end_session(
     requires few { count_by (in_session session) active.old.items ≤ most }
     requires room { vec_len signals.old + most ≤ vec_capacity signals.old }
     ensures active { active.new.items ≡ filter (λ a. not (in_session session a)) active.old.items }
-    ensures signals { signals.new.items ≡ signals.old.items ++ map (signal_of false) (filter (in_session session) active.old.items) }
+    ensures signals { signals.new.items
+        ≡ signals.old.items
+        ++ map (signal_of false) (filter (in_session session) active.old.items) }
 {
     let mut left = most;
     let mut at = start(active.as_slice(), session, most);
@@ -139,8 +142,8 @@ pub(crate) fn end_session(
     }
 }
 
-/// A place before which none of the session stands, where at most so many stand in all: the first of its own where sessions were activated in
-/// the order of their numbers, else 0.
+/// A place before which none of the session stands, where at most so many stand in all: the first
+/// of its own where sessions were activated in the order of their numbers, else 0.
 fn start(active: &[Activation], session: SessionId, most: usize) -> usize
     requires { count_by (in_session session) active.now ≤ most }
     ensures { count_by (in_session session) (take result active.now) ≤ 0 }
@@ -154,7 +157,8 @@ fn start(active: &[Activation], session: SessionId, most: usize) -> usize
     0
 }
 
-/// Where the activations of the session and of later ones begin, if they stand in the order of their sessions.
+/// Where the activations of the session and of later ones begin, if they stand in the order of
+/// their sessions.
 fn first_from(active: &[Activation], session: SessionId) -> usize
     ensures { result ≤ length active.now }
 {

@@ -11,8 +11,8 @@ use gt_base::{Memory, RoleId, SessionId};
 use std::alloc::Global;
 use std::marker::Model;
 
-/// Activations in the order in which they were made, behind a gap at the front that those taken out there left. It is seen as the activations
-/// and the number of further ones that it has room for.
+/// Activations in the order in which they were made, behind a gap at the front that those taken out
+/// there left. It is seen as the activations and the number of further ones that it has room for.
 pub(crate) struct ActiveRow {
     rows: Vec<Activation>,
     gap: usize,

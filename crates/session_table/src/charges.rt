@@ -1,17 +1,15 @@
-//! Charges: how many minutes of a user's role are charged on a civil day.
-ghost use Rattle.std.specs.Prelude.{◌≡◌, ◌+◌, ◌-◌, ◌*◌, ◌<◌, ◌≤◌, ◌^◌, ◌&&◌, ℕ, true, cond, count_by, length, nat_eq, IfOk, OnOk};
+//! Rows of charges: how many minutes of a user's role are charged on a civil day.
+ghost use Rattle.std.specs.Prelude.{◌≡◌, ◌+◌, ◌-◌, ◌*◌, ◌<◌, ◌≤◌, ◌^◌, ◌&&◌, ℕ, true, cond, count_by, length, nat_eq, IfOk};
 ghost use Rattle.indexmap.specs.IndexMap.{spare};
 ghost use Rattle.gt_base.specs.declared.events.RoleId.{RoleId};
 ghost use Rattle.gt_base.specs.declared.events.UserId.{UserId};
 ghost use Rattle.gtrbac_model.specs.Sessions.{is_of};
 ghost use Rattle.history_laws.specs.Tables.{minutes_of_day};
-ghost use Rattle.session_table.specs.Charges.{charged_in, is_key, days_between};
+ghost use Rattle.session_table.specs.Charges.{charged_by_rows, is_key};
 
 use crate::activations::Activation;
-use civil_time::day;
 use gt_base::{Instant, Memory, RoleId, UserId};
 use indexmap::IndexMap;
-use std::alloc::AllocError;
 
 /// What is charged together: the minutes of a user's role on a civil day, counted from 2000-01-01.
 #[derive(Clone, Copy, PartialEq, Eq, Hash)]
@@ -21,9 +19,14 @@ pub(crate) struct Charge {
     pub(crate) day: u32,
 }
 
-/// How many minutes are charged.
-pub(crate) fn charged(charges: &IndexMap<Charge, u32>, user: UserId, role: RoleId, day: u32) -> u32
-    ensures { result ≡ charged_in charges.now.entries user role day }
+/// How many minutes the rows say.
+pub(crate) fn charged_by_rows(
+    charges: &IndexMap<Charge, u32>,
+    user: UserId,
+    role: RoleId,
+    day: u32,
+) -> u32
+    ensures { result ≡ charged_by_rows charges.now.entries user role day }
 {
     charges
         .get(&Charge { user, role, day })
@@ -40,8 +43,11 @@ fn is_same(a: &Charge, b: &Charge) -> bool
 
 /// Charges minutes into the row at the place, if it is of the key, and says whether it is.
 fn add_at(charges: &mut IndexMap<Charge, u32>, place: usize, key: Charge, minutes: u32) -> bool
-    requires { charged_in charges.old.entries key.user key.role key.day + minutes < 2 ^ 32 }
-    ensures charged { (u : UserId) (r : RoleId) (d : ℕ) → charged_in charges.new.entries u r d ≡ charged_in charges.old.entries u r d + cond (result && is_key key u r d) minutes 0 }
+    requires { charged_by_rows charges.old.entries key.user key.role key.day + minutes < 2 ^ 32 }
+    ensures charged { (u : UserId) (r : RoleId) (d : ℕ)
+        → charged_by_rows charges.new.entries u r d
+        ≡ charged_by_rows charges.old.entries u r d + cond (result && is_key key u r d)
+        minutes 0 }
     ensures spare { spare charges.new ≡ spare charges.old }
 {
     if place >= charges.len() {
@@ -55,11 +61,14 @@ fn add_at(charges: &mut IndexMap<Charge, u32>, place: usize, key: Charge, minute
     true
 }
 
-/// Charges minutes, into room that was made before, and answers the place after that of their row. The row is looked for at the place first.
+/// Charges minutes, into room that was made before, and answers the place after that of their row.
+/// The row is looked for at the place first.
 fn add(charges: &mut IndexMap<Charge, u32>, place: usize, key: Charge, minutes: u32) -> usize
     requires room { 1 ≤ spare charges.old }
-    requires bound { charged_in charges.old.entries key.user key.role key.day + minutes < 2 ^ 32 }
-    ensures charged { (u : UserId) (r : RoleId) (d : ℕ) → charged_in charges.new.entries u r d ≡ charged_in charges.old.entries u r d + cond (is_key key u r d) minutes 0 }
+    requires bound { charged_by_rows charges.old.entries key.user key.role key.day + minutes < 2 ^ 32 }
+    ensures charged { (u : UserId) (r : RoleId) (d : ℕ)
+        → charged_by_rows charges.new.entries u r d
+        ≡ charged_by_rows charges.old.entries u r d + cond (is_key key u r d) minutes 0 }
     ensures spare { spare charges.old ≤ spare charges.new + 1 }
 {
     if add_at(charges, place, key, minutes) {
@@ -68,11 +77,14 @@ fn add(charges: &mut IndexMap<Charge, u32>, place: usize, key: Charge, minutes: 
     add_elsewhere(charges, key, minutes)
 }
 
-/// Charges minutes, into room that was made before, and answers the place after that of their row, which is looked for by its key.
+/// Charges minutes, into room that was made before, and answers the place after that of their row,
+/// which is looked for by its key.
 fn add_elsewhere(charges: &mut IndexMap<Charge, u32>, key: Charge, minutes: u32) -> usize
     requires room { 1 ≤ spare charges.old }
-    requires bound { charged_in charges.old.entries key.user key.role key.day + minutes < 2 ^ 32 }
-    ensures charged { (u : UserId) (r : RoleId) (d : ℕ) → charged_in charges.new.entries u r d ≡ charged_in charges.old.entries u r d + cond (is_key key u r d) minutes 0 }
+    requires bound { charged_by_rows charges.old.entries key.user key.role key.day + minutes < 2 ^ 32 }
+    ensures charged { (u : UserId) (r : RoleId) (d : ℕ)
+        → charged_by_rows charges.new.entries u r d
+        ≡ charged_by_rows charges.old.entries u r d + cond (is_key key u r d) minutes 0 }
     ensures spare { spare charges.old ≤ spare charges.new + 1 }
 {
     if let Some(place) = charges.get_index_of(&key) {
@@ -87,22 +99,36 @@ fn add_elsewhere(charges: &mut IndexMap<Charge, u32>, key: Charge, minutes: u32)
 /// Charges minutes, wherever their row stands, into room that was made before.
 fn add_by_key(charges: &mut IndexMap<Charge, u32>, key: Charge, minutes: u32)
     requires room { 1 ≤ spare charges.old }
-    requires bound { charged_in charges.old.entries key.user key.role key.day + minutes < 2 ^ 32 }
-    ensures charged { (u : UserId) (r : RoleId) (d : ℕ) → charged_in charges.new.entries u r d ≡ charged_in charges.old.entries u r d + cond (is_key key u r d) minutes 0 }
+    requires bound { charged_by_rows charges.old.entries key.user key.role key.day + minutes < 2 ^ 32 }
+    ensures charged { (u : UserId) (r : RoleId) (d : ℕ)
+        → charged_by_rows charges.new.entries u r d
+        ≡ charged_by_rows charges.old.entries u r d + cond (is_key key u r d) minutes 0 }
     ensures spare { spare charges.old ≤ spare charges.new + 1 }
 {
-    let before = charged(charges, key.user, key.role, key.day);
+    let before = charged_by_rows(charges, key.user, key.role, key.day);
     match charges.insert(key, before + minutes) {
         Ok(_) => {}
         Err(_) => unreachable!(),
     }
 }
 
-/// Charges so many minutes of a day to each activation. Their rows are looked for one after another, as a minute before left them.
-fn charge_day(charges: &mut IndexMap<Charge, u32>, active: &[Activation], day: u32, minutes: u32)
+/// Charges so many minutes of a day to each activation. Their rows are looked for one after
+/// another, as a minute before left them.
+pub(crate) fn charge_day(
+    charges: &mut IndexMap<Charge, u32>,
+    active: &[Activation],
+    day: u32,
+    minutes: u32,
+)
     requires room { length active.now ≤ spare charges.old }
-    requires bound { (u : UserId) (r : RoleId) → charged_in charges.old.entries u r day + minutes * count_by (is_of u r) active.now < 2 ^ 32 }
-    ensures charged { (u : UserId) (r : RoleId) (d : ℕ) → charged_in charges.new.entries u r d ≡ charged_in charges.old.entries u r d + cond (nat_eq day d) (minutes * count_by (is_of u r) active.now) 0 }
+    requires bound { (u : UserId) (r : RoleId)
+        → charged_by_rows charges.old.entries u r day + minutes * count_by (is_of u r)
+        active.now
+        < 2 ^ 32 }
+    ensures charged { (u : UserId) (r : RoleId) (d : ℕ)
+        → charged_by_rows charges.new.entries u r d
+        ≡ charged_by_rows charges.old.entries u r d + cond (nat_eq day d)
+        (minutes * count_by (is_of u r) active.now) 0 }
     ensures spare { spare charges.old ≤ spare charges.new + length active.now }
 {
     let mut place = 0;
@@ -111,7 +137,8 @@ fn charge_day(charges: &mut IndexMap<Charge, u32>, active: &[Activation], day: u
     }
 }
 
-/// Charges so many minutes of a day to an activation, and answers the place after that of its row, which is looked for at the place first.
+/// Charges so many minutes of a day to an activation, and answers the place after that of its row,
+/// which is looked for at the place first.
 fn charge_one(
     charges: &mut IndexMap<Charge, u32>,
     place: usize,
@@ -120,8 +147,11 @@ fn charge_one(
     minutes: u32,
 ) -> usize
     requires room { 1 ≤ spare charges.old }
-    requires bound { charged_in charges.old.entries a.now.user a.now.role day + minutes < 2 ^ 32 }
-    ensures charged { (u : UserId) (r : RoleId) (d : ℕ) → charged_in charges.new.entries u r d ≡ charged_in charges.old.entries u r d + cond (is_of u r a.now && nat_eq day d) minutes 0 }
+    requires bound { charged_by_rows charges.old.entries a.now.user a.now.role day + minutes < 2 ^ 32 }
+    ensures charged { (u : UserId) (r : RoleId) (d : ℕ)
+        → charged_by_rows charges.new.entries u r d
+        ≡ charged_by_rows charges.old.entries u r d + cond (is_of u r a.now && nat_eq day d)
+        minutes 0 }
     ensures spare { spare charges.old ≤ spare charges.new + 1 }
 {
     let key = Charge {
@@ -143,44 +173,7 @@ pub(crate) fn minutes_on(now: Instant, to: Instant, day: u32) -> u32
     past.saturating_sub(first)
 }
 
-/// Charges each minute after `now`, to `to`, to each activation: day by day.
-pub(crate) fn charge_stretch(
-    charges: &mut IndexMap<Charge, u32>,
-    active: &[Activation],
-    now: Instant,
-    to: Instant,
-)
-    requires order { now < to }
-    requires room { days_between now to * length active.now ≤ spare charges.old }
-    requires bound { (u : UserId) (r : RoleId) (d : ℕ) → charged_in charges.old.entries u r d + minutes_of_day now (to - now) d * count_by (is_of u r) active.now < 2 ^ 32 }
-    ensures charged { (u : UserId) (r : RoleId) (d : ℕ) → charged_in charges.new.entries u r d ≡ charged_in charges.old.entries u r d + minutes_of_day now (to - now) d * count_by (is_of u r) active.now }
-{
-    let first = (now.minute() + 1) / 1_440;
-    let last = day(to);
-    for day in first..last + 1 {
-        charge_day(charges, active, day, minutes_on(now, to, day));
-    }
-}
-
-/// Makes room for the charges of the minutes after `now`, to `to`, to so many activations.
-pub(crate) fn reserve_charges(
-    charges: &mut IndexMap<Charge, u32>,
-    active: usize,
-    now: Instant,
-    to: Instant,
-) -> Result<(), Memory>
-    requires { now < to }
-    ensures same { charges.new.entries ≡ charges.old.entries }
-    ensures room { OnOk result (days_between now to * active ≤ spare charges.new) }
-{
-    let days = day(to) + 1 - (now.minute() + 1) / 1_440;
-    match (days as usize).checked_mul(active) {
-        Some(need) => charges.reserve(need),
-        None => Err(AllocError),
-    }
-}
-
-/// The same charges. The room of the copy may differ.
+/// The same rows. The room of the copy may differ.
 pub(crate) fn copied(charges: &IndexMap<Charge, u32>) -> Result<IndexMap<Charge, u32>, Memory>
     ensures { IfOk result (λ copy. copy.entries ≡ charges.now.entries) }
 {

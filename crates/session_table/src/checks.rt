@@ -14,18 +14,23 @@ ghost use Rattle.session_table.specs.NextDrops.{limits_minutes};
 ghost use Rattle.session_table.specs.Causes.{first_cause, is_foreign, StandsAt, with_sessions, early_causes, late_causes, full_at};
 
 use crate::activations::{Activation, count_of, count_role};
-use crate::charges::{Charge, charged};
+use crate::ledgers::{Ledger, charged};
 use crate::opened::{Open, owner_at, place};
 use civil_time::day;
 use gt_base::{Actor, Caps, Fluent, Instant, Refusal, RoleId, SessionId, Status, UserId};
-use indexmap::IndexMap;
 
 /// Where the actor finds the session, or why it may not use it.
 pub(crate) fn owned(sessions: &[Open], actor: Actor, session: SessionId) -> Result<usize, Refusal>
     requires { AreNumbered (map opened sessions.now) }
     ensures place { IfOk result (StandsAt sessions.now session) }
-    ensures ok { IfOk result (λ _. (tb : Table) → first_cause (session_causes (with_sessions sessions.now tb) actor session) ≡ None) }
-    ensures err { IfErr result (λ r. (tb : Table) → first_cause (session_causes (with_sessions sessions.now tb) actor session) ≡ Some r) }
+    ensures ok { IfOk result
+        (λ _. (tb : Table)
+        → first_cause (session_causes (with_sessions sessions.now tb) actor session)
+        ≡ None) }
+    ensures err { IfErr result
+        (λ r. (tb : Table)
+        → first_cause (session_causes (with_sessions sessions.now tb) actor session)
+        ≡ Some r) }
 {
     let Some(at) = place(sessions, session) else {
         return Err(Refusal::NoSession);
@@ -84,25 +89,31 @@ pub(crate) fn caps_of(caps: &[Caps], role: RoleId) -> Caps
     }
 }
 
-/// Whether a role has a cap on the minutes of an activation or of a day, which alone end activations.
+/// Whether a role has a cap on the minutes of an activation or of a day, which alone end
+/// activations.
 pub(crate) fn limit_minutes(caps: &[Caps]) -> bool
     ensures { result ≡ list_any limits_minutes caps.now }
 {
     caps.iter().any(|c| c.length.is_some() || c.day.is_some())
 }
 
-/// Which cap refuses an activation of the role by the user on the civil day. What no cap asks for is not counted.
+/// Which cap refuses an activation of the role by the user on the civil day. What no cap asks for
+/// is not counted.
 pub(crate) fn late_refusal(
     caps: Caps,
     active: &[Activation],
-    charges: &IndexMap<Charge, u32>,
+    charges: &Ledger,
     user: UserId,
     role: RoleId,
     today: u32,
 ) -> Option<Refusal>
     requires all { count_by (λ a. same_role a.role role) active.now ≤ 10_000 }
     requires own { count_by (is_of user role) active.now ≤ 10_000 }
-    ensures { result ≡ first_cause (late_causes caps (count_by (λ a. same_role a.role role) active.now) (count_by (is_of user role) active.now) (charged_in charges.now.entries user role today)) }
+    ensures { result
+        ≡ first_cause
+        (late_causes caps (count_by (λ a. same_role a.role role) active.now)
+        (count_by (is_of user role) active.now)
+        (charged_in charges.now.charged user role today)) }
 {
     if let Some(n) = full_role(caps.total, active, role) {
         return Some(Refusal::RoleFull { n });
@@ -138,15 +149,16 @@ fn full_user(cap: Option<u32>, active: &[Activation], user: UserId, role: RoleId
     }
 }
 
-/// How many minutes are charged to the user's role on the day, if they are as many as the cap allows.
+/// How many minutes are charged to the user's role on the day, if they are as many as the cap
+/// allows.
 fn spent_day(
     cap: Option<u32>,
-    charges: &IndexMap<Charge, u32>,
+    charges: &Ledger,
     user: UserId,
     role: RoleId,
     today: u32,
 ) -> Option<u32>
-    ensures { result ≡ full_at cap (charged_in charges.now.entries user role today) }
+    ensures { result ≡ full_at cap (charged_in charges.now.charged user role today) }
 {
     match cap {
         Some(_) => if_reached(cap, charged(charges, user, role, today)),

@@ -14,13 +14,16 @@ ghost use Rattle.gtrbac_model.specs.Sessions.{Activation as ActivationView, caps
 ghost use Rattle.history_laws.specs.Tables.{minutes_of_day};
 ghost use Rattle.session_table.specs.Charges.{charged_in};
 ghost use Rattle.session_table.specs.Opened.{opened, still_open, role_in, AreNumbered};
+ghost use Rattle.session_table.specs.Counting.{AreCounted};
 ghost use Rattle.session_table.specs.Dropping.{spent_by, is_dropped, AreBarred};
 ghost use Rattle.session_table.specs.NextDrops.{capped_in};
 
-use crate::activations::{Activation, count_of, signal_of};
+use crate::activations::{Activation, signal_of};
 use crate::active::ActiveRow;
-use crate::charges::{Charge, charged, minutes_on};
+use crate::charges::minutes_on;
 use crate::checks::{caps_of, is_reached, limit_minutes};
+use crate::counting::{Seen, count_for, nothing_seen};
+use crate::ledgers::{Ledger, charged};
 use crate::opened::{Open, has_role, place, remove_role};
 use civil_time::day;
 use gt_base::{
@@ -37,44 +40,53 @@ pub(crate) struct Asked {
     pub(crate) role: RoleId,
 }
 
-/// How many minutes are charged to the user's role on the civil day of `to`, where the minutes after `now` are charged to each activation.
+/// How many minutes are charged to the user's role on the civil day of `to`, where the minutes
+/// after `now` are charged to each activation.
 pub(crate) fn spent_by(
-    charges: &IndexMap<Charge, u32>,
+    charges: &Ledger,
     active: &[Activation],
     now: Instant,
     to: Instant,
     user: UserId,
     role: RoleId,
+    count: u64,
 ) -> u64
-    requires { count_by (is_of user role) active.now ≤ 10_000 }
-    ensures { result ≡ spent_by charges.now.entries active.now now to user role }
+    requires few { count_by (is_of user role) active.now ≤ 10_000 }
+    requires count { count ≡ count_by (is_of user role) active.now }
+    ensures { result ≡ spent_by charges.now.charged active.now now to user role }
 {
     let today = day(to);
     let before = u64::from(charged(charges, user, role, today));
     let minutes = u64::from(minutes_on(now, to, today));
-    before + minutes * count_of(active, user, role) as u64
+    before + minutes * count
 }
 
 /// Whether the cap on the minutes of a day, if there is one, is reached at the close of `to`.
 fn is_day_spent(
     cap: Option<u32>,
-    charges: &IndexMap<Charge, u32>,
+    charges: &Ledger,
     active: &[Activation],
     now: Instant,
     to: Instant,
     user: UserId,
     role: RoleId,
+    count: u64,
 ) -> bool
-    requires { count_by (is_of user role) active.now ≤ 10_000 }
-    ensures { result ≡ reached cap (spent_by charges.now.entries active.now now to user role) }
+    requires few { count_by (is_of user role) active.now ≤ 10_000 }
+    requires count { IfSome cap (λ _. count ≡ count_by (is_of user role) active.now) }
+    ensures { result ≡ reached cap (spent_by charges.now.charged active.now now to user role) }
 {
     match cap {
-        Some(most) => u64::from(most) <= spent_by(charges, active, now, to, user, role),
+        Some(most) => {
+            let spent = spent_by(charges, active, now, to, user, role, count);
+            u64::from(most) <= spent
+        }
         None => false,
     }
 }
 
-/// Whether the cap on the minutes of one activation, if there is one, is reached at the close of `to`.
+/// Whether the cap on the minutes of one activation, if there is one, is reached at the close of
+/// `to`.
 fn is_too_long(cap: Option<u32>, a: &Activation, to: Instant) -> bool
     ensures { result ≡ reached cap (to - a.now.begun) }
 {
@@ -103,7 +115,9 @@ fn has_stood(
     status: &Status,
     asked: Asked,
 ) -> bool
-    ensures { result ≡ true → is_none (activation_walk hierarchy.now (has status.now.set) asked.user asked.role) ≡ false }
+    ensures { result ≡ true
+        → is_none (activation_walk hierarchy.now (has status.now.set) asked.user asked.role)
+        ≡ false }
 {
     match walks.get(&asked) {
         Some(walk) => hierarchy.still_lets(status, asked.user, asked.role, walk),
@@ -144,8 +158,9 @@ pub(crate) fn prune(walks: &mut IndexMap<Asked, Walk>, active: usize) {
     }
 }
 
-/// Whether no walk of usable edges lets the user activate the role. The hierarchy is asked where no walk that was found before still does, and
-/// what it told is not asked again. For want of memory it may refuse.
+/// Whether no walk of usable edges lets the user activate the role. The hierarchy is asked where no
+/// walk that was found before still does, and what it told is not asked again. For want of memory
+/// it may refuse.
 fn is_barred(
     alloc: Global,
     walks: &mut IndexMap<Asked, Walk>,
@@ -157,7 +172,8 @@ fn is_barred(
 ) -> Result<bool, Memory>
     requires { AreBarred hierarchy.now (has status.now.set) known.old.entries }
     ensures known { OnOk result (AreBarred hierarchy.now (has status.now.set) known.new.entries) }
-    ensures barred { IfOk result (λ b. b ≡ is_none (activation_walk hierarchy.now (has status.now.set) user role)) }
+    ensures barred { IfOk result
+        (λ b. b ≡ is_none (activation_walk hierarchy.now (has status.now.set) user role)) }
 {
     if is_assigned(status, user, role) {
         return Ok(false);
@@ -182,7 +198,10 @@ fn ask(
     status: &Status,
     asked: Asked,
 ) -> Result<bool, Memory>
-    ensures { IfOk result (λ b. b ≡ is_none (activation_walk hierarchy.now (has status.now.set) asked.user asked.role)) }
+    ensures { IfOk result
+        (λ b. b
+        ≡ is_none
+        (activation_walk hierarchy.now (has status.now.set) asked.user asked.role)) }
 {
     match hierarchy.may_activate(alloc, status, asked.user, asked.role)? {
         Some(walk) => {
@@ -197,16 +216,20 @@ fn ask(
 fn is_capped(
     a: &Activation,
     caps: Caps,
-    charges: &IndexMap<Charge, u32>,
+    charges: &Ledger,
     active: &[Activation],
     now: Instant,
     to: Instant,
+    count: u64,
 ) -> bool
-    requires { (u : UserId) (r : RoleId) → count_by (is_of u r) active.now ≤ 10_000 }
-    ensures { result ≡ (reached caps.length (to - a.now.begun) || reached caps.day (spent_by charges.now.entries active.now now to a.now.user a.now.role)) }
+    requires few { (u : UserId) (r : RoleId) → count_by (is_of u r) active.now ≤ 10_000 }
+    requires count { IfSome caps.day (λ _. count ≡ count_by (is_of a.now.user a.now.role) active.now) }
+    ensures { result
+        ≡ (reached caps.length (to - a.now.begun) || reached caps.day
+        (spent_by charges.now.charged active.now now to a.now.user a.now.role)) }
 {
     is_too_long(caps.length, a, to)
-        || is_day_spent(caps.day, charges, active, now, to, a.user, a.role)
+        || is_day_spent(caps.day, charges, active, now, to, a.user, a.role, count)
 }
 
 /// Whether the role is on. Where it is the one that was found on before, the status is not asked.
@@ -227,7 +250,8 @@ fn found_on(before: Option<RoleId>, a: &Activation, is_gone: bool) -> Option<Rol
     if is_gone { before } else { Some(a.role) }
 }
 
-/// Whether the close of `to` drops the activation. For want of memory it may refuse. A role that was found on before is not asked again.
+/// Whether the close of `to` drops the activation. For want of memory it may refuse. A role that
+/// was found on before is not asked again.
 fn is_dropped(
     alloc: Global,
     walks: &mut IndexMap<Asked, Walk>,
@@ -237,22 +261,29 @@ fn is_dropped(
     hierarchy: &Hierarchy,
     caps: &List<Caps>,
     status: &Status,
-    charges: &IndexMap<Charge, u32>,
+    charges: &Ledger,
     active: &[Activation],
     now: Instant,
     to: Instant,
+    count: u64,
 ) -> Result<bool, Memory>
     requires known { AreBarred hierarchy.now (has status.now.set) known.old.entries }
     requires before { IfSome before (λ r. has status.now.set (Enabled r) ≡ true) }
     requires few { (u : UserId) (r : RoleId) → count_by (is_of u r) active.now ≤ 10_000 }
+    requires count { IfSome (caps_of caps.now.items a.now.role).day
+        (λ _. count ≡ count_by (is_of a.now.user a.now.role) active.now) }
     ensures known { OnOk result (AreBarred hierarchy.now (has status.now.set) known.new.entries) }
-    ensures dropped { IfOk result (λ b. b ≡ is_dropped hierarchy.now caps.now.items (has status.now.set) charges.now.entries active.now now to a.now) }
+    ensures dropped { IfOk result
+        (λ b. b
+        ≡ is_dropped hierarchy.now caps.now.items (has status.now.set) charges.now.charged
+        active.now now to a.now) }
 {
     let role = a.role;
     if !is_on(status, before, role) {
         return Ok(true);
     }
-    if is_capped(a, caps_of(caps.as_slice(), role), charges, active, now, to) {
+    let of_role = caps_of(caps.as_slice(), role);
+    if is_capped(a, of_role, charges, active, now, to, count) {
         return Ok(true);
     }
     is_barred(alloc, walks, known, hierarchy, status, a.user, role)
@@ -268,21 +299,27 @@ fn push_if(gone: &mut Vec<Activation>, a: &Activation, is_gone: bool) -> Result<
     Ok(())
 }
 
-/// The activations that the close of `to` drops. No user and role is asked of the hierarchy twice, and none where its walk of before stands; the
-/// status is not asked of a role again where the activation before was of it and stays. For want of memory it may refuse.
+/// The activations that the close of `to` drops. No user and role is asked of the hierarchy twice,
+/// and none where its walk of before stands; the status is not asked of a role again where the
+/// activation before was of it and stays. For want of memory it may refuse.
 pub(crate) fn dropped(
     alloc: Global,
     walks: &mut IndexMap<Asked, Walk>,
     hierarchy: &Hierarchy,
     caps: &List<Caps>,
     status: &Status,
-    charges: &IndexMap<Charge, u32>,
+    charges: &Ledger,
     active: &[Activation],
     now: Instant,
     to: Instant,
 ) -> Result<Vec<Activation>, Memory>
     requires { (u : UserId) (r : RoleId) → count_by (is_of u r) active.now ≤ 10_000 }
-    ensures { IfOk result (λ gone. gone.items ≡ filter (is_dropped hierarchy.now caps.now.items (has status.now.set) charges.now.entries active.now now to) active.now) }
+    ensures { IfOk result
+        (λ gone. gone.items
+        ≡ filter
+        (is_dropped hierarchy.now caps.now.items (has status.now.set)
+        charges.now.charged active.now now to)
+        active.now) }
 {
     let mut known = IndexMap::new(alloc);
     let mut gone = Vec::new(alloc);
@@ -301,7 +338,7 @@ fn drop_each(
     hierarchy: &Hierarchy,
     caps: &List<Caps>,
     status: &Status,
-    charges: &IndexMap<Charge, u32>,
+    charges: &Ledger,
     active: &[Activation],
     now: Instant,
     to: Instant,
@@ -309,15 +346,35 @@ fn drop_each(
     requires known { AreBarred hierarchy.now (has status.now.set) known.old.entries }
     requires none { gone.old.items ≡ [] }
     requires few { (u : UserId) (r : RoleId) → count_by (is_of u r) active.now ≤ 10_000 }
-    ensures { OnOk result (gone.new.items ≡ filter (is_dropped hierarchy.now caps.now.items (has status.now.set) charges.now.entries active.now now to) active.now) }
+    ensures { OnOk result
+        (gone.new.items
+        ≡ filter
+        (is_dropped hierarchy.now caps.now.items (has status.now.set)
+        charges.now.charged active.now now to)
+        active.now) }
 {
     let mut before = None;
+    let mut seen = nothing_seen(active);
     for a in active {
+        let count = count_of_one(&mut seen, caps.as_slice(), active, a);
         before = drop_one(
-            alloc, walks, known, gone, before, a, hierarchy, caps, status, charges, active, now, to,
+            alloc, walks, known, gone, before, a, hierarchy, caps, status, charges, active, now,
+            to, count,
         )?;
     }
     Ok(())
+}
+
+/// How many activations of the user and the role of this one stand, where the role has a cap on the
+/// minutes of a day.
+fn count_of_one(seen: &mut Seen, caps: &[Caps], active: &[Activation], a: &Activation) -> u64
+    requires { AreCounted active.now seen.old }
+    ensures count { IfSome (caps_of caps.now a.now.role).day
+        (λ _. result ≡ count_by (is_of a.now.user a.now.role) active.now) }
+    ensures seen { AreCounted active.now seen.new }
+{
+    let of_role = caps_of(caps, a.role);
+    count_for(of_role.day, seen, active, a.user, a.role)
 }
 
 /// Adds the activation to the row where it is dropped, and tells which role was found on last.
@@ -331,44 +388,55 @@ fn drop_one(
     hierarchy: &Hierarchy,
     caps: &List<Caps>,
     status: &Status,
-    charges: &IndexMap<Charge, u32>,
+    charges: &Ledger,
     active: &[Activation],
     now: Instant,
     to: Instant,
+    count: u64,
 ) -> Result<Option<RoleId>, Memory>
     requires known { AreBarred hierarchy.now (has status.now.set) known.old.entries }
     requires before { IfSome before (λ r. has status.now.set (Enabled r) ≡ true) }
     requires few { (u : UserId) (r : RoleId) → count_by (is_of u r) active.now ≤ 10_000 }
+    requires count { IfSome (caps_of caps.now.items a.now.role).day
+        (λ _. count ≡ count_by (is_of a.now.user a.now.role) active.now) }
     ensures known { OnOk result (AreBarred hierarchy.now (has status.now.set) known.new.entries) }
-    ensures gone { OnOk result (gone.new.items ≡ gone.old.items ++ (if is_dropped hierarchy.now caps.now.items (has status.now.set) charges.now.entries active.now now to a.now then a.now ∷ [] else [])) }
+    ensures gone { OnOk result
+        (gone.new.items
+        ≡ gone.old.items
+        ++ (if is_dropped hierarchy.now caps.now.items (has status.now.set)
+        charges.now.charged active.now now to a.now then a.now ∷ [] else [])) }
     ensures on { IfOk result (λ before. IfSome before (λ r. has status.now.set (Enabled r) ≡ true)) }
 {
     let is_gone = is_dropped(
-        alloc, walks, known, before, a, hierarchy, caps, status, charges, active, now, to,
+        alloc, walks, known, before, a, hierarchy, caps, status, charges, active, now, to, count,
     )?;
     push_if(gone, a, is_gone)?;
     Ok(found_on(before, a, is_gone))
 }
 
-/// The activations that a cap of their roles ends at the close of `to`. Where no role has a cap on minutes, none is looked at. For want of memory
-/// it may refuse.
+/// The activations that a cap of their roles ends at the close of `to`. Where no role has a cap on
+/// minutes, none is looked at. For want of memory it may refuse.
 pub(crate) fn capped(
     alloc: Global,
     caps: &[Caps],
-    charges: &IndexMap<Charge, u32>,
+    charges: &Ledger,
     active: &[Activation],
     now: Instant,
     to: Instant,
 ) -> Result<Vec<Activation>, Memory>
     requires { (u : UserId) (r : RoleId) → count_by (is_of u r) active.now ≤ 10_000 }
-    ensures { IfOk result (λ gone. gone.items ≡ filter (capped_in caps.now charges.now.entries active.now now to) active.now) }
+    ensures { IfOk result
+        (λ gone. gone.items
+        ≡ filter (capped_in caps.now charges.now.charged active.now now to) active.now) }
 {
     let mut gone = Vec::new(alloc);
     if !limit_minutes(caps) {
         return Ok(gone);
     }
+    let mut seen = nothing_seen(active);
     for a in active {
-        let is_gone = is_capped(a, caps_of(caps, a.role), charges, active, now, to);
+        let count = count_of_one(&mut seen, caps, active, a);
+        let is_gone = is_capped(a, caps_of(caps, a.role), charges, active, now, to, count);
         push_if(&mut gone, a, is_gone)?;
     }
     Ok(gone)
@@ -378,9 +446,13 @@ pub(crate) fn capped(
 fn forget_one(sessions: &mut Vec<Open>, session: SessionId, role: RoleId)
     requires { AreNumbered (map opened sessions.old.items) }
     ensures opened { map opened sessions.new.items ≡ map opened sessions.old.items }
-    ensures roles { (n : SessionId) (r : RoleId) → role_in sessions.new.items n r ≡ (not (same_session session n && same_role role r) && role_in sessions.old.items n r) }
+    ensures roles { (n : SessionId) (r : RoleId)
+        → role_in sessions.new.items n r
+        ≡ (not (same_session session n && same_role role r) && role_in sessions.old.items n
+        r) }
     ensures standing { map opened (still_open sessions.new.items) ≡ map opened (still_open sessions.old.items) }
-    ensures count { count_by (λ o. o.is_open) sessions.new.items ≡ count_by (λ o. o.is_open) sessions.old.items }
+    ensures count { count_by (λ o. o.is_open) sessions.new.items
+        ≡ count_by (λ o. o.is_open) sessions.old.items }
 {
     if let Some(at) = place(sessions, session) {
         remove_role(sessions, at, role);
@@ -391,9 +463,12 @@ fn forget_one(sessions: &mut Vec<Open>, session: SessionId, role: RoleId)
 fn forget(sessions: &mut Vec<Open>, gone: &[Activation])
     requires { AreNumbered (map opened sessions.old.items) }
     ensures opened { map opened sessions.new.items ≡ map opened sessions.old.items }
-    ensures roles { (n : SessionId) (r : RoleId) → role_in sessions.new.items n r ≡ (not (list_any (is_active_in n r) gone.now) && role_in sessions.old.items n r) }
+    ensures roles { (n : SessionId) (r : RoleId)
+        → role_in sessions.new.items n r
+        ≡ (not (list_any (is_active_in n r) gone.now) && role_in sessions.old.items n r) }
     ensures standing { map opened (still_open sessions.new.items) ≡ map opened (still_open sessions.old.items) }
-    ensures count { count_by (λ o. o.is_open) sessions.new.items ≡ count_by (λ o. o.is_open) sessions.old.items }
+    ensures count { count_by (λ o. o.is_open) sessions.new.items
+        ≡ count_by (λ o. o.is_open) sessions.old.items }
 {
     for a in gone {
         forget_one(sessions, a.session, a.role);
@@ -420,16 +495,21 @@ pub(crate) fn keep_listed(active: &mut Vec<Activation>, sessions: &[Open])
     active.retain(|a| is_listed(sessions, a));
 }
 
-/// Takes the roles of these activations out of their sessions, and keeps the activations whose roles still stand there. Where there are none,
-/// nothing is looked at.
+/// Takes the roles of these activations out of their sessions, and keeps the activations whose
+/// roles still stand there. Where there are none, nothing is looked at.
 pub(crate) fn take_out(sessions: &mut Vec<Open>, active: &mut ActiveRow, gone: &[Activation])
     requires numbered { AreNumbered (map opened sessions.old.items) }
-    requires listed { (i : ℕ) (a : ActivationView) → item_at active.old.items i ≡ Some a → role_in sessions.old.items a.session a.role ≡ true }
+    requires listed { (i : ℕ) (a : ActivationView) → item_at active.old.items i ≡ Some a
+        → role_in sessions.old.items a.session a.role ≡ true }
     ensures opened { map opened sessions.new.items ≡ map opened sessions.old.items }
-    ensures roles { (n : SessionId) (r : RoleId) → role_in sessions.new.items n r ≡ (not (list_any (is_active_in n r) gone.now) && role_in sessions.old.items n r) }
+    ensures roles { (n : SessionId) (r : RoleId)
+        → role_in sessions.new.items n r
+        ≡ (not (list_any (is_active_in n r) gone.now) && role_in sessions.old.items n r) }
     ensures standing { map opened (still_open sessions.new.items) ≡ map opened (still_open sessions.old.items) }
-    ensures count { count_by (λ o. o.is_open) sessions.new.items ≡ count_by (λ o. o.is_open) sessions.old.items }
-    ensures active { active.new.items ≡ filter (λ a. role_in sessions.new.items a.session a.role) active.old.items }
+    ensures count { count_by (λ o. o.is_open) sessions.new.items
+        ≡ count_by (λ o. o.is_open) sessions.old.items }
+    ensures active { active.new.items
+        ≡ filter (λ a. role_in sessions.new.items a.session a.role) active.old.items }
 {
     match gone {
         [] => {}

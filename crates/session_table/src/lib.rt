@@ -1,4 +1,5 @@
-//! The table of sessions: which are open, which roles are active in them since when, and which minutes of a day are charged.
+//! The table of sessions: which are open, which roles are active in them since when, and which
+//! minutes of a day are charged.
 #![tactic(auto)]
 
 mod activating;
@@ -6,15 +7,18 @@ mod activations;
 mod active;
 mod charges;
 mod checks;
+mod counting;
 mod dropping;
 mod faults;
 mod laws;
+mod ledgers;
 mod nearing;
 mod opened;
 mod plans;
 mod roles;
 mod rows;
 mod tables;
+mod whole;
 
 pub use faults::SessionFault;
 pub use laws::{caps_stay, close_leaves, firm_ends_nothing, stretches_close};

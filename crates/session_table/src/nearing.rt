@@ -10,15 +10,16 @@ ghost use Rattle.history_laws.specs.Tables.{minutes_of_day};
 ghost use Rattle.session_table.specs.NextDrops.{IsFirstOrNone, capped_in};
 ghost use Rattle.session_table.specs.Charges.{charged_in};
 
-use crate::activations::{Activation, count_of};
-use crate::charges::{Charge, charged};
+use crate::activations::Activation;
 use crate::checks::{caps_of, limit_minutes};
+use crate::counting::{count_for, nothing_seen};
+use crate::ledgers::{Ledger, charged};
 use gt_base::{Caps, Instant, RoleId, UserId};
-use indexmap::IndexMap;
 
 /// The earlier of the two instants, if there are any.
 pub(crate) fn earlier(a: Option<Instant>, b: Option<Instant>) -> Option<Instant>
-    ensures { (p q : ℕ → Bool) (now : ℕ) → IsFirstOrNone p now a → IsFirstOrNone q now b → IsFirstOrNone (λ t. p t || q t) now result }
+    ensures { (p q : ℕ → Bool) (now : ℕ) → IsFirstOrNone p now a → IsFirstOrNone q now b
+        → IsFirstOrNone (λ t. p t || q t) now result }
 {
     match (a, b) {
         (Some(x), Some(y)) => {
@@ -45,7 +46,8 @@ fn instant_at(t: u64) -> Option<Instant>
     }
 }
 
-/// The first instant after `now` at which the cap on the minutes of an activation that began then is reached.
+/// The first instant after `now` at which the cap on the minutes of an activation that began then
+/// is reached.
 pub(crate) fn next_too_long(cap: Option<u32>, begun: Instant, now: Instant) -> Option<Instant>
     ensures { IsFirstOrNone (λ t. reached cap (t - begun)) now result }
 {
@@ -80,13 +82,17 @@ fn rounds(x: u64, n: u64) -> u64
     ((x + n - 1) / n).max(1)
 }
 
-/// The first instant after `now` at which the cap on the minutes of a civil day is reached, where each minute charges n, so many are charged on
-/// the day of the next minute, and none on later days.
+/// The first instant after `now` at which the cap on the minutes of a civil day is reached, where
+/// each minute charges n, so many are charged on the day of the next minute, and none on later
+/// days.
 fn next_reached(most: u32, spent: u32, n: u64, now: Instant) -> Option<Instant>
     requires some { 1 ≤ n }
     requires few { n ≤ 10_000 }
-    ensures { (charge : ℕ → ℕ) → charge (day_of (now + 1)) ≡ spent → ((d : ℕ) → day_of (now + 1) < d → charge d ≡ 0)
-        → IsFirstOrNone (λ t. nat_le most (charge (day_of t) + minutes_of_day now (t - now) (day_of t) * n)) now result }
+    ensures { (charge : ℕ → ℕ) → charge (day_of (now + 1)) ≡ spent
+        → ((d : ℕ) → day_of (now + 1) < d → charge d ≡ 0)
+        → IsFirstOrNone
+        (λ t. nat_le most (charge (day_of t) + minutes_of_day now (t - now) (day_of t) * n))
+        now result }
 {
     let minute = u64::from(now.minute());
     let midnight = ((minute + 1) / 1_440 + 1) * 1_440;
@@ -101,71 +107,92 @@ fn next_reached(most: u32, spent: u32, n: u64, now: Instant) -> Option<Instant>
     instant_at(midnight - 1 + later)
 }
 
-/// When a cap next ends an activation of the role by the user that began then, where each minute after `now` is charged to each activation.
+/// When a cap next ends an activation of the role by the user that began then, where each minute
+/// after `now` is charged to each activation.
 fn next_for(
     user: UserId,
     role: RoleId,
     begun: Instant,
-    charges: &IndexMap<Charge, u32>,
+    charges: &Ledger,
     active: &[Activation],
     caps: Caps,
     now: Instant,
+    count: u64,
 ) -> Option<Instant>
+    requires count { IfSome caps.day (λ _. count ≡ count_by (is_of user role) active.now) }
     requires some { 1 ≤ count_by (is_of user role) active.now }
     requires few { count_by (is_of user role) active.now ≤ 10_000 }
-    requires later { (d : ℕ) → day_of (now + 1) < d → charged_in charges.now.entries user role d ≡ 0 }
-    ensures { IsFirstOrNone (λ t. reached caps.length (t - begun)
-        || reached caps.day (charged_in charges.now.entries user role (day_of t) + minutes_of_day now (t - now) (day_of t) * count_by (is_of user role) active.now)) now result }
+    requires later { (d : ℕ) → day_of (now + 1) < d → charged_in charges.now.charged user role d ≡ 0 }
+    ensures { IsFirstOrNone
+        (λ t. reached caps.length (t - begun) || reached caps.day
+        (charged_in charges.now.charged user role (day_of t) + minutes_of_day now (t - now)
+        (day_of t) * count_by (is_of user role) active.now))
+        now result }
 {
     let long = next_too_long(caps.length, begun, now);
-    let full = next_spent(caps.day, user, role, charges, active, now);
+    let full = next_spent(caps.day, user, role, charges, active, now, count);
     earlier(long, full)
 }
 
-/// The first instant after `now` at which the cap on the minutes of a civil day is reached, where each minute after `now` is charged to each
-/// activation. Where there is no cap, nothing is counted.
+/// The first instant after `now` at which the cap on the minutes of a civil day is reached, where
+/// each minute after `now` is charged to each activation. Where there is no cap, nothing is
+/// counted.
 fn next_spent(
     cap: Option<u32>,
     user: UserId,
     role: RoleId,
-    charges: &IndexMap<Charge, u32>,
+    charges: &Ledger,
     active: &[Activation],
     now: Instant,
+    count: u64,
 ) -> Option<Instant>
+    requires count { IfSome cap (λ _. count ≡ count_by (is_of user role) active.now) }
     requires some { 1 ≤ count_by (is_of user role) active.now }
     requires few { count_by (is_of user role) active.now ≤ 10_000 }
-    requires later { (d : ℕ) → day_of (now + 1) < d → charged_in charges.now.entries user role d ≡ 0 }
-    ensures { IsFirstOrNone (λ t. reached cap (charged_in charges.now.entries user role (day_of t) + minutes_of_day now (t - now) (day_of t) * count_by (is_of user role) active.now)) now result }
+    requires later { (d : ℕ) → day_of (now + 1) < d → charged_in charges.now.charged user role d ≡ 0 }
+    ensures { IsFirstOrNone
+        (λ t. reached cap
+        (charged_in charges.now.charged user role (day_of t) + minutes_of_day now (t - now)
+        (day_of t) * count_by (is_of user role) active.now))
+        now result }
 {
     match cap {
         Some(most) => {
             let today = (now.minute() + 1) / 1_440;
             let spent = charged(charges, user, role, today);
-            let n = count_of(active, user, role) as u64;
-            next_reached(most, spent, n, now)
+            let _ = active;
+            next_reached(most, spent, count, now)
         }
         None => None,
     }
 }
 
-/// When a cap next ends one of the activations. Where no role has a cap on minutes, none is looked at.
+/// When a cap next ends one of the activations. Where no role has a cap on minutes, none is looked
+/// at.
 pub(crate) fn next_capped(
-    charges: &IndexMap<Charge, u32>,
+    charges: &Ledger,
     active: &[Activation],
     caps: &[Caps],
     now: Instant,
 ) -> Option<Instant>
     requires few { (u : UserId) (r : RoleId) → count_by (is_of u r) active.now ≤ 10_000 }
-    requires later { (u : UserId) (r : RoleId) (d : ℕ) → day_of (now + 1) < d → charged_in charges.now.entries u r d ≡ 0 }
-    ensures { IsFirstOrNone (λ t. list_any (capped_in caps.now charges.now.entries active.now now t) active.now) now result }
+    requires later { (u : UserId) (r : RoleId) (d : ℕ) → day_of (now + 1) < d
+        → charged_in charges.now.charged u r d ≡ 0 }
+    ensures { IsFirstOrNone
+        (λ t. list_any (capped_in caps.now charges.now.charged active.now now t) active.now) now
+        result }
 {
     if !limit_minutes(caps) {
         return None;
     }
     let mut next = None;
+    let mut seen = nothing_seen(active);
     for a in active {
         let of_role = caps_of(caps, a.role);
-        let one = next_for(a.user, a.role, a.begun, charges, active, of_role, now);
+        let count = count_for(of_role.day, &mut seen, active, a.user, a.role);
+        let one = next_for(
+            a.user, a.role, a.begun, charges, active, of_role, now, count,
+        );
         next = earlier(next, one);
     }
     next

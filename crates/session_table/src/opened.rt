@@ -12,7 +12,8 @@ use crate::roles::Roles;
 use gt_base::{Memory, RoleId, SessionId, UserId};
 use std::alloc::Global;
 
-/// A session: its number, its owner, and the roles that are active in it. Where it is no longer open, it is a gap, and no role is.
+/// A session: its number, its owner, and the roles that are active in it. Where it is no longer
+/// open, it is a gap, and no role is.
 #[derive(Drop)]
 pub(crate) struct Open {
     pub(crate) number: SessionId,
@@ -21,10 +22,12 @@ pub(crate) struct Open {
     pub(crate) is_open: bool,
 }
 
-/// Where the open session stands. It is searched for by halves, since the numbers rise, those of gaps too.
+/// Where the open session stands. It is searched for by halves, since the numbers rise, those of
+/// gaps too.
 pub(crate) fn place(sessions: &[Open], number: SessionId) -> Option<usize>
     requires { AreNumbered (map opened sessions.now) }
-    ensures { MatchOption result (find (numbered number) sessions.now ≡ None) (StandsAt sessions.now number) }
+    ensures { MatchOption result (find (numbered number) sessions.now ≡ None)
+        (StandsAt sessions.now number) }
 {
     let at = first_from(sessions, number.0);
     if at >= sessions.len() {
@@ -104,7 +107,11 @@ pub(crate) fn has_role(sessions: &[Open], at: usize, role: RoleId) -> bool
 /// Adds a role to the session at the place. After a refusal all is as it was.
 pub(crate) fn add_role(sessions: &mut Vec<Open>, at: usize, role: RoleId) -> Result<(), Memory>
     requires { at < length sessions.old.items }
-    ensures ok { OnOk result (IfSome (slice_get sessions.old.items at) (λ o. sessions.new.items ≡ slice_set sessions.old.items at (record o { roles = with_member o.roles role }))) }
+    ensures ok { OnOk result
+        (IfSome (slice_get sessions.old.items at)
+        (λ o. sessions.new.items
+        ≡ slice_set sessions.old.items at
+        (record o { roles = with_member o.roles role }))) }
     ensures err { OnErr result (sessions.new.items ≡ sessions.old.items) }
 {
     let session = &mut sessions[at];
@@ -114,7 +121,9 @@ pub(crate) fn add_role(sessions: &mut Vec<Open>, at: usize, role: RoleId) -> Res
 /// Takes a role out of the session at the place.
 pub(crate) fn remove_role(sessions: &mut Vec<Open>, at: usize, role: RoleId)
     requires { at < length sessions.old.items }
-    ensures { IfSome (slice_get sessions.old.items at) (λ o. sessions.new.items ≡ slice_set sessions.old.items at (record o { roles = without o.roles role })) }
+    ensures { IfSome (slice_get sessions.old.items at)
+        (λ o. sessions.new.items
+        ≡ slice_set sessions.old.items at (record o { roles = without o.roles role })) }
 {
     let session = &mut sessions[at];
     session.roles.remove(role);
@@ -125,8 +134,12 @@ pub(crate) fn shut(alloc: Global, sessions: &mut Vec<Open>, at: usize)
     requires numbered { AreNumbered (map opened sessions.old.items) }
     requires inside { at < length sessions.old.items }
     ensures opened { map opened sessions.new.items ≡ map opened sessions.old.items }
-    ensures standing { (n : SessionId) → StandsAt sessions.old.items n at → still_open sessions.new.items ≡ filter (λ o. not (numbered n o)) (still_open sessions.old.items) }
-    ensures count { (n : SessionId) → StandsAt sessions.old.items n at → count_by (λ o. o.is_open) sessions.old.items ≡ count_by (λ o. o.is_open) sessions.new.items + 1 }
+    ensures standing { (n : SessionId) → StandsAt sessions.old.items n at
+        → still_open sessions.new.items
+        ≡ filter (λ o. not (numbered n o)) (still_open sessions.old.items) }
+    ensures count { (n : SessionId) → StandsAt sessions.old.items n at
+        → count_by (λ o. o.is_open) sessions.old.items
+        ≡ count_by (λ o. o.is_open) sessions.new.items + 1 }
 {
     leave_gap(alloc, sessions, at);
 }
@@ -134,7 +147,9 @@ pub(crate) fn shut(alloc: Global, sessions: &mut Vec<Open>, at: usize)
 /// The same, whatever the numbers are.
 fn leave_gap(alloc: Global, sessions: &mut Vec<Open>, at: usize)
     requires { at < length sessions.old.items }
-    ensures { IfSome (slice_get sessions.old.items at) (λ o. sessions.new.items ≡ slice_set sessions.old.items at (record o { roles = none; is_open = false })) }
+    ensures { IfSome (slice_get sessions.old.items at)
+        (λ o. sessions.new.items
+        ≡ slice_set sessions.old.items at (record o { roles = none; is_open = false })) }
 {
     let session = &mut sessions[at];
     session.roles = Roles::new(alloc);
@@ -144,7 +159,8 @@ fn leave_gap(alloc: Global, sessions: &mut Vec<Open>, at: usize)
 /// Takes the gaps out where they are more than the sessions, of which so many are open.
 pub(crate) fn close_up(sessions: &mut Vec<Open>, standing: usize)
     ensures standing { still_open sessions.new.items ≡ still_open sessions.old.items }
-    ensures numbered { (top : ℕ) → Numbered 0 (map opened sessions.old.items) top → Numbered 0 (map opened sessions.new.items) top }
+    ensures numbered { (top : ℕ) → Numbered 0 (map opened sessions.old.items) top
+        → Numbered 0 (map opened sessions.new.items) top }
 {
     if sessions.len() / 2 > standing {
         keep_open(sessions);

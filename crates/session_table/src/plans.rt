@@ -8,8 +8,8 @@ use gt_base::{Instant, List, Memory, Signal};
 use std::alloc::Global;
 use std::marker::Model;
 
-/// What the end of the minutes after `now`, up to `to`, drops. It is seen as the two instants, the activations that are dropped at `to`, and
-/// their end signals.
+/// What the end of the minutes after `now`, up to `to`, drops. It is seen as the two instants, the
+/// activations that are dropped at `to`, and their end signals.
 pub struct Drops {
     pub(crate) after: Instant,
     pub(crate) to: Instant,
@@ -44,7 +44,14 @@ impl Drops {
         to: Instant,
         gone: Vec<Activation>,
     ) -> Result<Drops, Memory>
-        ensures { IfOk result (λ d. d ≡ record { after = after; to = to; gone = gone.items; signals = map (signal_of false) gone.items }) }
+        ensures { IfOk result
+            (λ d. d
+            ≡ record {
+              after = after;
+              to = to;
+              gone = gone.items;
+              signals = map (signal_of false) gone.items;
+            }) }
     {
         let signals = signals_of(alloc, &gone)?;
         Ok(Drops {

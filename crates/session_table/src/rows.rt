@@ -9,7 +9,10 @@ use gt_base::{Memory, RoleId};
 /// Where the role stands, or where it goes in.
 fn find(items: &[RoleId], k: RoleId) -> Result<usize, usize>
     requires { Rises role_cmp items.now }
-    ensures found { IfOk result (λ _. (has (set_of_rising {R = role_cmp} items.now) k ≡ true) × (with_member (set_of_rising {R = role_cmp} items.now) k ≡ set_of_rising items.now)) }
+    ensures found { IfOk result
+        (λ _. (has (set_of_rising {R = role_cmp} items.now) k ≡ true)
+        × (with_member (set_of_rising {R = role_cmp} items.now) k
+        ≡ set_of_rising items.now)) }
     ensures place { IfErr result (λ i. i ≤ length items.now) }
     ensures absent { IfErr result (GoesIn role_cmp k items.now) }
 {
@@ -31,7 +34,9 @@ pub(crate) fn is_in(items: &[RoleId], k: RoleId) -> bool
 pub(crate) fn put(items: &mut Vec<RoleId>, k: RoleId) -> Result<(), Memory>
     requires { Rises role_cmp items.old.items }
     ensures rises { Rises role_cmp items.new.items }
-    ensures set { OnOk result (set_of_rising {R = role_cmp} items.new.items ≡ with_member (set_of_rising items.old.items) k) }
+    ensures set { OnOk result
+        (set_of_rising {R = role_cmp} items.new.items
+        ≡ with_member (set_of_rising items.old.items) k) }
     ensures same { OnErr result (items.new.items ≡ items.old.items) }
 {
     if let Err(place) = find(items, k) {

@@ -18,7 +18,7 @@ use Rattle.turn_lock.specs.declared.view.View.{View}
 use Rattle.turn_lock.specs.declared.view.Spot.{Spot}
 use Rattle.turn_lock.specs.declared.view.Spot.TheVariants.{Home, Told}
 use Rattle.turn_lock.specs.declared.view.Origin.{Origin}
-use Rattle.turn_lock.specs.Turns.{part, total, Each, is_waiting, is_holding, FitsAccount, FitsStage, FitsView, draws_of, accounts_of, next_of, waits, holds_slot, AtHome, Kept, with_ticket, drawn, with_turn, looked, grown, added, rested, passed, split_left, split_right, joined, spent_view, first_view, plain, Has, Ends}
+use Rattle.turn_lock.specs.Turns.{part, total, Each, is_waiting, is_holding, FitsAccount, FitsStage, FitsView, draws_of, accounts_of, next_of, waits, holds_slot, AtHome, Kept, with_ticket, drawn, with_turn, looked, counted, grown, added, rested, passed, split_left, split_right, joined, spent_view, first_view, plain, Has, Ends}
 use Rattle.turn_lock.proofs.Totals.{total_set, total_snoc, total_at, total_finds, total_within, each_set, each_maps, each-append, put, put_here, put_else, at_end, total-append}
 
 -- another seat's stage, where a ticket is drawn
@@ -202,6 +202,10 @@ module _ {M : Type 0} (list : M → List Entry) (same : M → M → Type 0) (o :
       (λ held. let z = only_holder s r id t v at mine (omega arith) (omega arith) in absurd (omega arith))
       r.slot)
       (λ other. (v, keeps, tt, unmoved s r id 2 v at words, ((λ e. absurd (other e)), λ _. refl)))
+
+  pub counts : (slots id : ℕ) (v : View M) → Allows Rule slots id (v, []) 1 (λ n. n) (counted (step slots 1 0 0 none) (v, []))
+  counts slots id v s r deep at fits =
+      let words : set s.words 1 (get_or s.words 1 0) ≡ s.words = ap (λ ws. set ws 1 (get_or ws 1 0)) r.words ∙ sym r.words in (v, keeps, tt, unmoved s r id 1 v at words, refl)
 
   -- no other seat holds the slot
   apart : (s : St) (r : Rule s) (id k t : ℕ) (st : Stage) → k ≢ id → r.drawer t ≡ id → t ≡ r.serving → FitsStage (list root ++ r.added) r.tickets r.serving r.drawer k st → is_holding st ≡ 0

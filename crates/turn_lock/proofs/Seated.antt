@@ -12,8 +12,8 @@ use Rattle.turn_lock.specs.declared.view.View.{View}
 use Rattle.turn_lock.specs.declared.view.Spot.{Spot}
 use Rattle.turn_lock.specs.declared.view.Spot.TheVariants.{Home, Told}
 use Rattle.turn_lock.specs.declared.view.Origin.{Origin}
-use Rattle.turn_lock.specs.Turns.{Kept, drawn, looked, added, passed, split_left, split_right, joined, spent_view, first_view, plain, Has, Ends}
-use Rattle.turn_lock.proofs.Keeping.{draws, looks, adds, passes_on, splits, joins, starts, ends}
+use Rattle.turn_lock.specs.Turns.{Kept, drawn, looked, counted, added, passed, split_left, split_right, joined, spent_view, first_view, plain, Has, Ends}
+use Rattle.turn_lock.proofs.Keeping.{draws, looks, counts, adds, passes_on, splits, joins, starts, ends}
 use Rattle.std.specs.declared.snapshot.Snapshot.{Snapshot}
 
 module _ {M : Type 0} (list : M → List Entry) (same : M → M → Type 0) (o : Origin M) where
@@ -27,6 +27,9 @@ module _ {M : Type 0} (list : M → List Entry) (same : M → M → Type 0) (o :
   pub looks_at : (slots id : ℕ) (me : S) (rt : M) (a : Account) (next t : ℕ) → me ≡ (plain rt a next (Waits t), [])
       → Allows (Kept list same o) slots id me 2 (λ n. n) (looked list same (step slots 2 0 0 none) me)
   looks_at slots id me rt a next t is = subst (λ (m : S). Allows (Kept list same o) slots id m 2 (λ n. n) (looked list same (step slots 2 0 0 none) m)) (sym is) (looks list same o slots id rt a next t)
+
+  pub counts_at : (slots id : ℕ) (me : S) (v : View M) → me ≡ (v, []) → Allows (Kept list same o) slots id me 1 (λ n. n) (counted (step slots 1 0 0 none) me)
+  counts_at slots id me v is = subst (λ (m : S). Allows (Kept list same o) slots id m 1 (λ n. n) (counted (step slots 1 0 0 none) m)) (sym is) (counts list same o slots id v)
 
   pub adds_at : (slots id : ℕ) (me : S) (rt : M) (a : Account) (next t : ℕ) (known : List Entry) (y : M) (q : ℕ) (e : Entry) (z : Snapshot M) → me ≡ (plain rt a next (Holds t known), (q, Told z) ∷ []) → z.value ≡ y → list y ≡ known ++ e ∷ []
       → e.who.worker ≡ a.number → length (list y) < 2 ^ 64

@@ -51,14 +51,16 @@ HasNumber n (p ∷ ps) = (p.number ≡ n) ⊎ HasNumber n ps
 abbrev pub AreIdle : {M : Type 0} → Site M → List (Holder M) → Type 0
 AreIdle site ps = Each (λ p. (p.site ≡ site) × (p.turn ≡ None)) ps
 
--- The list of a closed lock's value has what the pass has seen as a prefix. Its own entries are those of its number after the first front
+-- The list of a closed lock's value has what the pass has seen as a prefix. Its own entries are
+-- those of its number after the first front
 abbrev pub IsTold : {M : Type 0} → List Entry → List Entry → Holder M → Type 0
 IsTold first log p = IsPrefix p.seen log × (p.own ≡ part p.number (drop (length first) log))
 
 module _ {M : Type 0} where
   -- a pass that has drawn nothing
   abbrev pub newcomer : Lock M → List Entry → ℕ → Holder M
-  newcomer l first n = record { site = site_of l; number = n; draws = 0; seen = first; own = []; turn = None }
+  newcomer l first n =
+      record { site = site_of l; number = n; draws = 0; seen = first; own = []; turn = None }
 
   -- the passes of the numbers from k on, n of them
   abbrev pub newcomers : Lock M → List Entry → ℕ → ℕ → List (Holder M)

@@ -1,4 +1,5 @@
--- The rule of the table, and what each step tells. Its words are the number of entries, of tickets drawn, and the ticket that is served; its one slot has the value.
+-- The rule of the table, and what each step tells. Its words are the number of entries, of tickets
+-- drawn, and the ticket that is served; its one slot has the value.
 use Rattle.std.specs.Prelude.{◌≡◌, ◌⊎◌, ℕ, ◌+◌, ◌^◌, ◌<◌, ◌≤◌, ◌==◌, List, [], ◌∷◌, ◌++◌, length, drop, Some, None}
 use Rattle.std.specs.List.{filter}
 use mathlib.Core.Option.{some}
@@ -38,22 +39,29 @@ is_holding Idle = 0
 is_holding (Waits t) = 0
 is_holding (Holds t known) = 1
 
--- What a pass has drawn and seen, and its own entries. log is the history, added are its entries after the first front, given is the number of passes so far, and owner tells the seat that keeps the account of a number
-pub record FitsAccount (log added : List Entry) (given : ℕ) (owner : ℕ → ℕ) (seat : ℕ) (a : Account) : Type 0 where
+-- What a pass has drawn and seen, and its own entries. log is the history, added are its entries
+-- after the first front, given is the number of passes so far, and owner tells the seat that keeps
+-- the account of a number
+pub record FitsAccount (log added : List Entry) (given : ℕ) (owner : ℕ → ℕ) (seat : ℕ) (a : Account)
+    : Type 0 where
   pub below : a.number < given
   pub owned : owner a.number ≡ seat
   pub few : a.draws ≤ 2 ^ 40
   pub seen : IsPrefix a.seen log
   pub own : a.own ≡ part a.number added
 
--- The ticket of a seat is its own: drawer tells the seat that drew it. Who waits was not served yet, and who holds is served now and knows the history
+-- The ticket of a seat is its own: drawer tells the seat that drew it. Who waits was not served
+-- yet, and who holds is served now and knows the history
 abbrev pub FitsStage : List Entry → ℕ → ℕ → (ℕ → ℕ) → ℕ → Stage → Type 0
 FitsStage log tickets serving drawer seat Idle = Unit {0}
-FitsStage log tickets serving drawer seat (Waits t) = (serving ≤ t) × (t < tickets) × (drawer t ≡ seat)
-FitsStage log tickets serving drawer seat (Holds t known) = (t ≡ serving) × (t < tickets) × (drawer t ≡ seat) × (known ≡ log)
+FitsStage log tickets serving drawer seat (Waits t) =
+    (serving ≤ t) × (t < tickets) × (drawer t ≡ seat)
+FitsStage log tickets serving drawer seat (Holds t known) =
+    (t ≡ serving) × (t < tickets) × (drawer t ≡ seat) × (known ≡ log)
 
 -- What one seat knows. The seat that keeps the next number is the maker
-pub record FitsView {M : Type 0} (root : M) (log added : List Entry) (given maker tickets serving : ℕ) (owner drawer : ℕ → ℕ) (seat : ℕ) (v : View M) : Type 0 where
+pub record FitsView {M : Type 0} (root : M) (log added : List Entry)
+    (given maker tickets serving : ℕ) (owner drawer : ℕ → ℕ) (seat : ℕ) (v : View M) : Type 0 where
   pub root_is : (r : M) → v.root ≡ Some r → r ≡ root
   pub next : 0 < v.next → (v.next ≡ given) × (seat ≡ maker)
   -- it is not spent where it keeps the next number or has a ticket
@@ -78,11 +86,14 @@ module _ {M : Type 0} where
   holds_slot v = is_holding v.stage
 
 -- the slot is home, with a value that keeps this history
-abbrev pub AtHome : {M : Type 0} → (M → List Entry) → (M → M → Type 0) → M → List Entry → List (mathlib.Core.Option.Option (Spot M)) → Type 0
-AtHome {M} list same root log homes = (x : M) × (get_elem? homes 0 ≡ some (some (Home x))) × (list x ≡ log) × same root x
+abbrev pub AtHome : {M : Type 0} → (M → List Entry) → (M → M → Type 0) → M → List Entry
+    → List (mathlib.Core.Option.Option (Spot M)) → Type 0
+AtHome {M} list same root log homes =
+    (x : M) × (get_elem? homes 0 ≡ some (some (Home x))) × (list x ≡ log) × same root x
 
 -- The rule, which holds between any two steps
-pub record Kept {M : Type 0} (list : M → List Entry) (same : M → M → Type 0) (o : Origin M) (s : State (Spot M) (View M)) : Type 0 where
+pub record Kept {M : Type 0} (list : M → List Entry) (same : M → M → Type 0) (o : Origin M)
+    (s : State (Spot M) (View M)) : Type 0 where
   -- the entries after the first front, and what the words and the views come to
   pub added : List Entry
   pub tickets : ℕ
@@ -104,8 +115,12 @@ pub record Kept {M : Type 0} (list : M → List Entry) (same : M → M → Type 
   pub kept_next : total next_of s.views ≡ given
   pub waiting : serving + total waits s.views ≡ tickets
   -- each view fits, and at most one seat holds the slot, which is home otherwise
-  pub each : (seat : ℕ) (v : View M) → get_elem? s.views seat ≡ some v → FitsView o.value.value (list o.value.value ++ added) added given maker tickets serving owner drawer seat v
-  pub slot : ((total holds_slot s.views ≡ 0) × AtHome list same o.value.value (list o.value.value ++ added) s.homes) ⊎ (total holds_slot s.views ≡ 1)
+  pub each : (seat : ℕ) (v : View M) → get_elem? s.views seat ≡ some v
+      → FitsView o.value.value (list o.value.value ++ added) added given maker tickets serving owner
+      drawer seat v
+  pub slot : ((total holds_slot s.views ≡ 0)
+      × AtHome list same o.value.value (list o.value.value ++ added) s.homes)
+      ⊎ (total holds_slot s.views ≡ 1)
 
 -- a view, and the slots in hand
 abbrev Standing : Type 0 → Type 0
@@ -154,7 +169,11 @@ module _ {M : Type 0} where
   with_turn xs v = record v { stage = Holds (ticket_in v.stage) xs }
 
   abbrev pub grown : List Entry → View M → View M
-  grown xs v = record v { stage = Holds (ticket_in v.stage) xs; accounts = gained xs (drop (length (known_in v.stage)) xs) v.accounts }
+  grown xs v =
+      record v {
+        stage = Holds (ticket_in v.stage) xs;
+        accounts = gained xs (drop (length (known_in v.stage)) xs) v.accounts;
+      }
 
   abbrev pub rested : View M → View M
   rested v = record v { stage = Idle; accounts = saw (known_in v.stage) v.accounts }
@@ -163,11 +182,20 @@ module _ {M : Type 0} where
   abbrev pub drawn : Step (Spot M) → Standing M → ℕ → Standing M → Type 0
   drawn st m n m' = m' ≡ (with_ticket n m.0, m.1)
 
-  -- look: where the ticket is served, the seat holds the slot with a value of the lock's root, whose list begins with what it had seen
-  abbrev pub looked : (M → List Entry) → (M → M → Type 0) → Step (Spot M) → Standing M → ℕ → Standing M → Type 0
+  -- look: where the ticket is served, the seat holds the slot with a value of the lock's root,
+  -- whose list begins with what it had seen
+  abbrev pub looked : (M → List Entry) → (M → M → Type 0) → Step (Spot M) → Standing M → ℕ
+      → Standing M → Type 0
   looked list same st m n m' =
-      (n ≡ ticket_in m.0.stage → (x : M) × (m' ≡ (with_turn (list x) m.0, (0, Home x) ∷ m.1)) × ((r : M) → m.0.root ≡ Some r → same r x) × Each (λ (a : Account). IsPrefix a.seen (list x)) m.0.accounts)
+      (n ≡ ticket_in m.0.stage
+      → (x : M) × (m' ≡ (with_turn (list x) m.0, (0, Home x) ∷ m.1))
+      × ((r : M) → m.0.root ≡ Some r → same r x)
+      × Each (λ (a : Account). IsPrefix a.seen (list x)) m.0.accounts)
       × (¬ (n ≡ ticket_in m.0.stage) → m' ≡ m)
+
+  -- count: nothing moves
+  abbrev pub counted : Step (Spot M) → Standing M → ℕ → Standing M → Type 0
+  counted st m n m' = m' ≡ m
 
   -- append: the seat has seen the list that the snapshot in hand tells
   abbrev pub added : (M → List Entry) → Step (Spot M) → Standing M → ℕ → Standing M → Type 0
@@ -176,7 +204,9 @@ module _ {M : Type 0} where
   -- the accounts have all entries of their numbers after the first front
   abbrev pub Tells : (M → List Entry) → Standing M → Type 0
   Tells list m = (r : M) → m.0.root ≡ Some r → IsPrefix (list r) (known_in m.0.stage)
-      × Each (λ (a : Account). a.own ≡ part a.number (drop (length (list r)) (known_in m.0.stage))) m.0.accounts
+      × Each
+      (λ (a : Account). a.own ≡ part a.number (drop (length (list r)) (known_in m.0.stage)))
+      m.0.accounts
 
   -- pass on: the slot goes home
   abbrev pub passed : (M → List Entry) → Step (Spot M) → Standing M → ℕ → Standing M → Type 0
@@ -187,7 +217,13 @@ module _ {M : Type 0} where
   split_left v = record v { next = v.next + 1 }
 
   abbrev pub split_right : View M → View M
-  split_right v = record { root = v.root; next = 0; stage = Idle; accounts = account v.next (seen_first v.accounts) ∷ [] }
+  split_right v =
+      record {
+        root = v.root;
+        next = 0;
+        stage = Idle;
+        accounts = account v.next (seen_first v.accounts) ∷ [];
+      }
 
   -- join: the accounts of both, and none is left at the other seat
   abbrev pub joined : View M → View M → View M
@@ -198,7 +234,13 @@ module _ {M : Type 0} where
 
   -- what the first seat knows
   abbrev pub first_view : (M → List Entry) → Origin M → View M
-  first_view list o = record { root = Some o.value.value; next = 1; stage = Idle; accounts = account 0 (list o.value.value) ∷ [] }
+  first_view list o =
+      record {
+        root = Some o.value.value;
+        next = 1;
+        stage = Idle;
+        accounts = account 0 (list o.value.value) ∷ [];
+      }
 
   -- the view of a pass with one account
   abbrev pub plain : M → Account → ℕ → Stage → View M
@@ -213,8 +255,12 @@ Has n [] = ⊥
 Has n (a ∷ more) = (a.number ≡ n) ⊎ Has n more
 
 -- what the value tells at the end of the passes with these accounts
-pub record Ends {M : Type 0} (list : M → List Entry) (same : M → M → Type 0) (root : M) (passes : ℕ) (accounts : List Account) (x : M) : Type 0 where
+pub record Ends {M : Type 0} (list : M → List Entry) (same : M → M → Type 0) (root : M) (passes : ℕ)
+    (accounts : List Account) (x : M) : Type 0 where
   pub root_is : same root x
   pub first : IsPrefix (list root) (list x)
-  pub each : Each (λ (a : Account). IsPrefix a.seen (list x) × (a.own ≡ part a.number (drop (length (list root)) (list x)))) accounts
+  pub each : Each
+      (λ (a : Account). IsPrefix a.seen (list x)
+      × (a.own ≡ part a.number (drop (length (list root)) (list x))))
+      accounts
   pub others : (n : ℕ) → passes ≤ n → part n (drop (length (list root)) (list x)) ≡ []

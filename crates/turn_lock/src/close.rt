@@ -18,8 +18,11 @@ use gt_base::Keeps;
 fn gather<M: Keeps>(top: &Tabletop<M>, seat: &mut Place<M>, mut all: Vec<Pass<M>>)
     requires fits { (seat.old.table_id ≡ top.now.table_id) × IsSized top.now.table_id }
     requires seat { IsMany top.now.key.value.value seat.old.me.0.accounts seat.old }
-    requires idle { AreIdle (record { table = top.now.table_id; root = Some top.now.key.value.value }) all.items }
-    ensures { (seat.new.table_id ≡ seat.old.table_id) × IsMany top.now.key.value.value (map account_of all.items ++ seat.old.me.0.accounts) seat.new }
+    requires idle { AreIdle (record { table = top.now.table_id; root = Some top.now.key.value.value })
+        all.items }
+    ensures { (seat.new.table_id ≡ seat.old.table_id)
+        × IsMany top.now.key.value.value (map account_of all.items ++ seat.old.me.0.accounts)
+        seat.new }
 {
     while let Some(pass) = all.pop() {
         top.join_seat::<Glue>(seat, pass.into_seat());
@@ -32,7 +35,8 @@ fn finish<M: Keeps>(table: TurnTable<M>, seat: Place<M>) -> M
     requires fits { (seat.table_id ≡ table.shared.table_id) × IsSized table.shared.table_id }
     requires seat { IsMany table.shared.key.value.value seat.me.0.accounts seat }
     requires all { (n : ℕ) → n < table.shared.key.passes → Has n seat.me.0.accounts }
-    ensures { Ends M.list M.same_root table.shared.key.value.value table.shared.key.passes seat.me.0.accounts result }
+    ensures { Ends M.list M.same_root table.shared.key.value.value table.shared.key.passes
+        seat.me.0.accounts result }
 {
     let mut closed = table.close_with(seat);
     let spot = closed.take(0);
@@ -51,7 +55,8 @@ impl<M: Keeps> TurnLock<M> {
         ensures root { M.same_root self.root result }
         ensures first { IsPrefix (M.list self.root) (M.list result) }
         ensures each { Each (IsTold (M.list self.root) (M.list result)) passes.items }
-        ensures others { (n : ℕ) → self.passes ≤ n → part n (drop (length (M.list self.root)) (M.list result)) ≡ [] }
+        ensures others { (n : ℕ) → self.passes ≤ n
+            → part n (drop (length (M.list self.root)) (M.list result)) ≡ [] }
     {
         let TurnLock { table } = self;
         let Passes { mut all } = passes;

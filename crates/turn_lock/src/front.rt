@@ -5,7 +5,8 @@ use gt_base::Keeps;
 use std::marker::Model;
 use std::snapshot::Snapshot;
 
-/// The list of entries that a lock's value kept when it was given back. It is seen as that list, and holds its length alone.
+/// The list of entries that a lock's value kept when it was given back. It is seen as that list,
+/// and holds its length alone.
 pub struct Front<M: Keeps> {
     len: u64,
     of: Snapshot<M>,

@@ -1,4 +1,5 @@
-//! A lock with turns over a value that keeps a list of entries. Each pass knows how far it has seen the list, and which entries in it are its own.
+//! A lock with turns over a value that keeps a list of entries. Each pass knows how far it has seen
+//! the list, and which entries in it are its own.
 #![tactic(auto)]
 
 mod close;

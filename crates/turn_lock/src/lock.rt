@@ -13,7 +13,8 @@ use gt_base::Keeps;
 use std::marker::Model;
 use std::sync::Wait;
 
-/// A value that is lent to one pass at a time, in the order in which the passes drew their turns. It is seen as its table, the value that it began with (its root) and the number of its passes.
+/// A value that is lent to one pass at a time, in the order in which the passes drew their turns.
+/// It is seen as its table, the value that it began with (its root) and the number of its passes.
 pub struct TurnLock<M: Keeps> {
     pub(crate) table: TurnTable<M>,
 }
@@ -38,13 +39,22 @@ pub struct Worn {
 }
 
 impl<M: Keeps> TurnLock<M> {
-    /// Draws a turn, waits for it and hands the value out. `Worn` comes just where the pass has drawn 2^40 turns; then nothing has changed.
+    /// Draws a turn, waits for it and hands the value out. `Worn` comes just where the pass has
+    /// drawn 2^40 turns; then nothing has changed.
     pub fn turn<R: Wait>(&self, rt: &R, pass: &mut Pass<M>) -> Result<M, Worn>
         requires pass { (pass.old.site ≡ site_of self.now) × (pass.old.turn ≡ None) }
-        ensures ok { IfOk result (λ value. (pass.old.draws < 2 ^ 40) × (pass.new ≡ record pass.old { draws = pass.old.draws + 1; turn = Some (M.list value) })) }
+        ensures ok { IfOk result
+            (λ value. (pass.old.draws < 2 ^ 40)
+            × (pass.new
+            ≡ record pass.old {
+              draws = pass.old.draws + 1;
+              turn = Some (M.list value);
+            })) }
         ensures seen { IfOk result (λ value. IsPrefix pass.old.seen (M.list value)) }
         ensures root { IfOk result (λ value. M.same_root self.now.root value) }
-        ensures worn { IfErr result (λ worn. (worn.draws ≡ 2 ^ 40) × (pass.old.draws ≡ 2 ^ 40) × (pass.new ≡ pass.old)) }
+        ensures worn { IfErr result
+            (λ worn. (worn.draws ≡ 2 ^ 40) × (pass.old.draws ≡ 2 ^ 40)
+            × (pass.new ≡ pass.old)) }
     {
         if pass.draws >= MOST_DRAWS {
             return Err(Worn { draws: pass.draws });
@@ -54,23 +64,34 @@ impl<M: Keeps> TurnLock<M> {
         Ok(take(rt, &self.table.shared, &mut pass.seat, ticket))
     }
 
-    /// Records the one entry by which the value that is out grew. The worker of the entry is the number of the pass.
+    /// Records the one entry by which the value that is out grew. The worker of the entry is the
+    /// number of the pass.
     pub fn step(&self, pass: &mut Pass<M>, value: &M)
         requires pass { pass.old.site ≡ site_of self.now }
-        requires grown { (known : _) × (e : Entry) × (pass.old.turn ≡ Some known) × (M.list value.now ≡ known ++ e ∷ []) × (e.who.worker ≡ pass.old.number) }
-        ensures { (known : _) (e : Entry) → pass.old.turn ≡ Some known → M.list value.now ≡ known ++ e ∷ [] → pass.new ≡ record pass.old { seen = M.list value.now; own = pass.old.own ++ e ∷ []; turn = Some (M.list value.now) } }
+        requires grown { (known : _) × (e : Entry) × (pass.old.turn ≡ Some known)
+            × (M.list value.now ≡ known ++ e ∷ []) × (e.who.worker ≡ pass.old.number) }
+        ensures { (known : _) (e : Entry) → pass.old.turn ≡ Some known
+            → M.list value.now ≡ known ++ e ∷ []
+            → pass.new
+            ≡ record pass.old {
+              seen = M.list value.now;
+              own = pass.old.own ++ e ∷ [];
+              turn = Some (M.list value.now);
+            } }
     {
         append(&self.table.shared, &mut pass.seat, value);
     }
 
-    /// Gives the value and the turn back. The pass has then seen the list of the value, and all entries of its number after the first front are its own.
+    /// Gives the value and the turn back. The pass has then seen the list of the value, and all
+    /// entries of its number after the first front are its own.
     pub fn leave(&self, pass: &mut Pass<M>, value: M) -> Front<M>
         requires pass { (pass.old.site ≡ site_of self.now) × (pass.old.turn ≡ Some (M.list value)) }
         requires root { M.same_root self.now.root value }
         ensures front { result ≡ M.list value }
         ensures pass { pass.new ≡ record pass.old { seen = M.list value; turn = None } }
         ensures first { IsPrefix (M.list self.now.root) (M.list value) }
-        ensures own { pass.new.own ≡ part pass.new.number (drop (length (M.list self.now.root)) (M.list value)) }
+        ensures own { pass.new.own
+            ≡ part pass.new.number (drop (length (M.list self.now.root)) (M.list value)) }
     {
         let front = Front::of(&value);
         give_back(&self.table.shared, &mut pass.seat, value);

@@ -44,7 +44,10 @@ fn open<M: Keeps>(
     passes: u64,
 ) -> Result<(TurnTable<M>, Place<M>), NewFault<M>>
     requires { (1 ≤ passes) × (passes ≤ 8) }
-    ensures ok { IfOk result (λ t. IsSized t.0.shared.table_id × (t.0.shared.key.value.value ≡ value) × (t.0.shared.key.passes ≡ passes) × (t.1.table_id ≡ t.0.shared.table_id) × (t.1.me ≡ (plain value (account 0 (M.list value)) 1 Idle, []))) }
+    ensures ok { IfOk result
+        (λ t. IsSized t.0.shared.table_id × (t.0.shared.key.value.value ≡ value)
+        × (t.0.shared.key.passes ≡ passes) × (t.1.table_id ≡ t.0.shared.table_id)
+        × (t.1.me ≡ (plain value (account 0 (M.list value)) 1 Idle, []))) }
     ensures err { IfErr result (λ e. e.value ≡ value) }
 {
     let origin = Origin {
@@ -67,18 +70,41 @@ fn cut<M: Keeps>(top: &Tabletop<M>, seat: &mut Place<M>) -> Place<M>
     requires fits { (seat.old.table_id ≡ top.now.table_id) × IsSized top.now.table_id }
     requires idle { IsAt top.now.key.value.value (mine seat.old) Idle [] seat.old }
     requires room { (0 < seat.old.me.0.next) × (seat.old.me.0.next < top.now.key.passes) }
-    ensures seat { IsSameSeat seat.old seat.new × (seat.new.me ≡ (plain top.now.key.value.value (mine seat.old) (seat.old.me.0.next + 1) Idle, [])) }
-    ensures other { (result.table_id ≡ seat.old.table_id) × (result.me ≡ (plain top.now.key.value.value (account seat.old.me.0.next (mine seat.old).seen) 0 Idle, [])) }
+    ensures seat { IsSameSeat seat.old seat.new
+        × (seat.new.me
+        ≡ (
+          plain top.now.key.value.value (mine seat.old) (seat.old.me.0.next + 1) Idle,
+          [],
+        )) }
+    ensures other { (result.table_id ≡ seat.old.table_id)
+        × (result.me
+        ≡ (
+          plain top.now.key.value.value (account seat.old.me.0.next (mine seat.old).seen) 0
+              Idle,
+          [],
+        )) }
 {
     top.split_seat::<Cut>(seat)
 }
 
 // Makes the passes of the numbers from 1 on, and puts that of number 0 before them.
 fn deal<M: Keeps>(top: &Tabletop<M>, mut seat: Place<M>, passes: u32, all: &mut Vec<Pass<M>>)
-    requires fits { (seat.table_id ≡ top.now.table_id) × IsSized top.now.table_id × (passes ≡ top.now.key.passes) × (1 ≤ passes) }
-    requires start { seat.me ≡ (plain top.now.key.value.value (account 0 (M.list top.now.key.value.value)) 1 Idle, []) }
+    requires fits { (seat.table_id ≡ top.now.table_id) × IsSized top.now.table_id
+        × (passes ≡ top.now.key.passes) × (1 ≤ passes) }
+    requires start { seat.me
+        ≡ (
+          plain top.now.key.value.value (account 0 (M.list top.now.key.value.value)) 1 Idle,
+          [],
+        ) }
     requires room { (all.old.items ≡ []) × (passes ≤ vec_capacity all.old) }
-    ensures { all.new.items ≡ newcomers (record { table = top.now.table_id; root = top.now.key.value.value; passes = passes }) (M.list top.now.key.value.value) 0 passes }
+    ensures { all.new.items
+        ≡ newcomers
+        (record {
+          table = top.now.table_id;
+          root = top.now.key.value.value;
+          passes = passes;
+        })
+        (M.list top.now.key.value.value) 0 passes }
 {
     for number in 1..passes {
         let other = cut(top, &mut seat);
@@ -99,7 +125,9 @@ fn deal<M: Keeps>(top: &Tabletop<M>, mut seat: Place<M>, passes: u32, all: &mut 
 }
 
 impl<M: Keeps> TurnLock<M> {
-    /// A lock over the value, with 1 to 8 passes: pass w has number w, has drawn no turn and has seen the first front, which is the list that the value keeps now. An error is want of memory alone, and hands the value back.
+    /// A lock over the value, with 1 to 8 passes: pass w has number w, has drawn no turn and has
+    /// seen the first front, which is the list that the value keeps now. An error is want of memory
+    /// alone, and hands the value back.
     pub fn new(
         alloc: Global,
         value: M,

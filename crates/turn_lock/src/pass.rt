@@ -41,7 +41,18 @@ impl<M> Pass<M> {
 
     pub(crate) fn into_seat(self) -> Place<M>
         requires { self.turn ≡ None }
-        ensures { (result.table_id ≡ self.site.table) × (result.me ≡ (record { root = self.site.root; next = result.me.0.next; stage = Idle; accounts = account_of self ∷ [] }, [])) }
+        ensures { (result.table_id ≡ self.site.table)
+            × (result.me
+            ≡ (
+              record {
+                root = self.site.root;
+                next = result.me.0.next;
+                stage = Idle;
+                accounts =
+                    account_of self ∷ [];
+              },
+              [],
+            )) }
     {
         let Self {
             seat,

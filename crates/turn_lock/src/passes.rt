@@ -21,10 +21,13 @@ impl<M> Model for Passes<M> {
 }
 
 impl<M> Passes<M> {
-    /// Takes the last pass out and leaves its room. None where there is no pass, and then nothing has changed.
+    /// Takes the last pass out and leaves its room. None where there is no pass, and then nothing
+    /// has changed.
     pub fn take(&mut self) -> Option<Pass<M>>
-        ensures last { MatchOption result ((self.old.items ≡ []) × (self.new ≡ self.old)) (λ pass. self.old.items ≡ self.new.items ++ pass ∷ []) }
-        ensures spare { MatchOption result (self.new.spare ≡ self.old.spare) (λ _. self.new.spare ≡ self.old.spare + 1) }
+        ensures last { MatchOption result ((self.old.items ≡ []) × (self.new ≡ self.old))
+            (λ pass. self.old.items ≡ self.new.items ++ pass ∷ []) }
+        ensures spare { MatchOption result (self.new.spare ≡ self.old.spare)
+            (λ _. self.new.spare ≡ self.old.spare + 1) }
     {
         self.all.pop()
     }

@@ -1,5 +1,5 @@
 //! What each step on the table tells.
-ghost use Rattle.turn_lock.specs.Turns.{drawn, looked, added, passed, joined, spent_view, split_left, split_right};
+ghost use Rattle.turn_lock.specs.Turns.{drawn, looked, counted, added, passed, joined, spent_view, split_left, split_right};
 
 use crate::view::{Spot, View};
 use atomic_table::{Join, Play, Split};
@@ -17,6 +17,13 @@ pub struct Look;
 
 impl<M: Keeps> Play<Spot<M>, View<M>> for Look {
     ghost then = { looked M.list M.same_root };
+}
+
+/// Reads how many tickets were drawn.
+pub struct Count;
+
+impl<M> Play<Spot<M>, View<M>> for Count {
+    ghost then = { counted };
 }
 
 /// Counts the entry by which the value grew.

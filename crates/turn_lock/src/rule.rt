@@ -1,4 +1,5 @@
-//! The rule of the table. Its words are the number of entries, the number of tickets and the ticket that is served.
+//! The rule of the table. Its words are the number of entries, the number of tickets and the ticket
+//! that is served.
 use crate::view::{Origin, Spot, View};
 use atomic_table::{Seat, Table, TableRule};
 use gt_base::Keeps;

@@ -7,14 +7,14 @@ ghost use Rattle.turn_lock.specs.declared.view.Spot.TheVariants.{Away};
 ghost use Rattle.turn_lock.specs.Turns.{known_in, ticket_in, part};
 ghost use Rattle.turn_lock.specs.Seats.{IsSized, IsAt, IsSameSeat, mine};
 
-use crate::plays::{Add, Draw, Look, PassOn};
+use crate::plays::{Add, Count, Draw, Look, PassOn};
 use crate::rule::{Place, Turns};
 use crate::view::{Origin, Spot, View};
 use atomic_table::Shared;
 use gt_base::Keeps;
+use std::hint;
 use std::snapshot::Snapshot;
 use std::sync::Wait;
-use std::thread;
 
 /// What all seats share of the table.
 pub type Tabletop<M> = Shared<Spot<M>, View<M>, Origin<M>, Turns<M>>;
@@ -25,7 +25,8 @@ pub fn draw<M: Keeps>(top: &Tabletop<M>, seat: &mut Place<M>) -> u64
     requires idle { IsAt top.now.key.value.value (mine seat.old) Idle [] seat.old }
     requires left { (mine seat.old).draws < 2 ^ 40 }
     ensures seat { IsSameSeat seat.old seat.new }
-    ensures ticket { IsAt top.now.key.value.value (record (mine seat.old) { draws = (mine seat.old).draws + 1 }) (Waits result) [] seat.new }
+    ensures ticket { IsAt top.now.key.value.value (record (mine seat.old) { draws = (mine seat.old).draws + 1 })
+        (Waits result) [] seat.new }
 {
     top.fetch_add::<Draw>(seat, 1, 1)
 }
@@ -33,12 +34,14 @@ pub fn draw<M: Keeps>(top: &Tabletop<M>, seat: &mut Place<M>) -> u64
 /// How often a seat looks whether its ticket is served before it sleeps.
 const LOOKS: u32 = 100;
 
-// Lets other threads go on, or sleeps where it has looked often, until `serving` moves on.
+// Waits a little, or sleeps where it has looked often, until `serving` moves on. It never yields
+// the processor: on a busy machine a yield gives a whole slice of time away, also that of the next
+// ticket.
 fn pause<M: Keeps, R: Wait>(rt: &R, top: &Tabletop<M>, serving: u64, looks: u32)
     requires { top.now.table_id.words ≡ 3 }
 {
     if looks < LOOKS {
-        thread::yield_now();
+        hint::spin_loop();
     } else {
         top.park(rt, 2, (serving & 0xffff_ffff) as u32);
     }
@@ -49,7 +52,8 @@ pub fn take<M: Keeps, R: Wait>(rt: &R, top: &Tabletop<M>, seat: &mut Place<M>, t
     requires fits { (seat.old.table_id ≡ top.now.table_id) × IsSized top.now.table_id }
     requires waits { IsAt top.now.key.value.value (mine seat.old) (Waits ticket) [] seat.old }
     ensures seat { IsSameSeat seat.old seat.new }
-    ensures turn { IsAt top.now.key.value.value (mine seat.old) (Holds ticket (M.list result)) ((0, Away) ∷ []) seat.new }
+    ensures turn { IsAt top.now.key.value.value (mine seat.old) (Holds ticket (M.list result)) ((0, Away) ∷ [])
+        seat.new }
     ensures seen { IsPrefix (mine seat.old).seen (M.list result) }
     ensures root { M.same_root top.now.key.value.value result }
 {
@@ -72,10 +76,20 @@ pub fn take<M: Keeps, R: Wait>(rt: &R, top: &Tabletop<M>, seat: &mut Place<M>, t
 /// Records the one entry by which the value grew.
 pub fn append<M: Keeps>(top: &Tabletop<M>, seat: &mut Place<M>, value: &M)
     requires fits { (seat.old.table_id ≡ top.now.table_id) × IsSized top.now.table_id }
-    requires turn { IsAt top.now.key.value.value (mine seat.old) (Holds (ticket_in seat.old.me.0.stage) (known_in seat.old.me.0.stage)) ((0, Away) ∷ []) seat.old }
-    requires grown { (e : Entry) × (M.list value.now ≡ known_in seat.old.me.0.stage ++ e ∷ []) × (e.who.worker ≡ (mine seat.old).number) }
+    requires turn { IsAt top.now.key.value.value (mine seat.old)
+        (Holds (ticket_in seat.old.me.0.stage) (known_in seat.old.me.0.stage)) ((0, Away) ∷ [])
+        seat.old }
+    requires grown { (e : Entry) × (M.list value.now ≡ known_in seat.old.me.0.stage ++ e ∷ [])
+        × (e.who.worker ≡ (mine seat.old).number) }
     ensures seat { IsSameSeat seat.old seat.new }
-    ensures turn { (e : Entry) → M.list value.now ≡ known_in seat.old.me.0.stage ++ e ∷ [] → IsAt top.now.key.value.value (record (mine seat.old) { seen = M.list value.now; own = (mine seat.old).own ++ e ∷ [] }) (Holds (ticket_in seat.old.me.0.stage) (M.list value.now)) ((0, Away) ∷ []) seat.new }
+    ensures turn { (e : Entry) → M.list value.now ≡ known_in seat.old.me.0.stage ++ e ∷ []
+        → IsAt top.now.key.value.value
+        (record (mine seat.old) {
+          seen = M.list value.now;
+          own = (mine seat.old).own ++ e ∷ [];
+        })
+        (Holds (ticket_in seat.old.me.0.stage) (M.list value.now)) ((0, Away) ∷ [])
+        seat.new }
 {
     // The length of the list fits a word.
     let _ = value.kept();
@@ -89,15 +103,23 @@ pub fn append<M: Keeps>(top: &Tabletop<M>, seat: &mut Place<M>, value: &M)
 /// Gives the value and the turn back.
 pub fn give_back<M: Keeps>(top: &Tabletop<M>, seat: &mut Place<M>, value: M)
     requires fits { (seat.old.table_id ≡ top.now.table_id) × IsSized top.now.table_id }
-    requires turn { IsAt top.now.key.value.value (mine seat.old) (Holds (ticket_in seat.old.me.0.stage) (M.list value)) ((0, Away) ∷ []) seat.old }
+    requires turn { IsAt top.now.key.value.value (mine seat.old)
+        (Holds (ticket_in seat.old.me.0.stage) (M.list value)) ((0, Away) ∷ []) seat.old }
     requires root { M.same_root top.now.key.value.value value }
     ensures seat { IsSameSeat seat.old seat.new }
-    ensures idle { IsAt top.now.key.value.value (record (mine seat.old) { seen = M.list value }) Idle [] seat.new }
+    ensures idle { IsAt top.now.key.value.value (record (mine seat.old) { seen = M.list value }) Idle []
+        seat.new }
     ensures first { IsPrefix (M.list top.now.key.value.value) (M.list value) }
-    ensures own { (mine seat.old).own ≡ part (mine seat.old).number (drop (length (M.list top.now.key.value.value)) (M.list value)) }
+    ensures own { (mine seat.old).own
+        ≡ part (mine seat.old).number
+        (drop (length (M.list top.now.key.value.value)) (M.list value)) }
 {
     let away = top.exchange(seat, 0, Spot::Home(value));
     let Spot::Away = away else { unreachable!() };
-    top.fetch_add::<PassOn>(seat, 2, 1);
-    top.wake_all(2);
+    let served = top.fetch_add::<PassOn>(seat, 2, 1);
+    let drawn = top.load::<Count>(seat, 1);
+    // Who draws a ticket behind this load finds it served, and does not sleep.
+    if drawn != served.wrapping_add(1) {
+        top.wake_all(2);
+    }
 }

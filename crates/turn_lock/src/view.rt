@@ -1,4 +1,5 @@
-//! What a seat at the table knows, and what lies in the slot. No value of `Account`, `Stage` or `View` is made.
+//! What a seat at the table knows, and what lies in the slot. No value of `Account`, `Stage` or
+//! `View` is made.
 use gt_base::Entry;
 use std::collections::LinkedList;
 use std::snapshot::Snapshot;

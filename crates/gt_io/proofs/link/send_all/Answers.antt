@@ -21,4 +21,5 @@ loop-rest-preserved g c =
       given = rw (take-add inv.n c.in_ok-n.n c.args.text.now) (rw (← inv.left) (Appends-trans _ _ _ _ _ inv.given c.in_ok-n.ensures.bytes));
       reads = nothing_twice _ _ _ inv.reads c.in_ok-n.ensures.reads;
       kept = c.in_ok-n.ensures.cause.kept ∙ inv.kept;
+      held = c.in_ok-n.ensures.held ∙ inv.held;
     }

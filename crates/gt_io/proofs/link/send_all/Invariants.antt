@@ -14,6 +14,7 @@ invariant-loop-rest g l =
       given : Appends before.given now.given (take n l.text);
       reads : ReadsNothing before now;
       kept : now.write_faults ≡ before.write_faults;
+      held : now.finished ≡ before.finished;
     }
 
 abbrev pub decreases-loop-rest : goal.decreases-loop-rest

@@ -23,6 +23,14 @@ returns-in-Ok-clause-read_fault g c =
       | inr h ↦ absurd (cc (h.0, is))
     ]
 
+pub returns-in-Ok-clause-failed : goal.returns-in-Ok-clause-failed
+returns-in-Ok-clause-failed g c =
+    λ is.
+    elim c.print-in-Ok.ensures [
+      | inl h ↦ c.in-Ok.ensures.failed (sym h.0 ∙ is)
+      | inr h ↦ absurd (cc (h.0, is))
+    ]
+
 pub returns-in-Ok-clause-long : goal.returns-in-Ok-clause-long
 returns-in-Ok-clause-long g c =
     λ is.

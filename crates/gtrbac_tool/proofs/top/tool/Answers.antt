@@ -58,6 +58,9 @@ returns-in-Some-clause-cycle g c = λ is. inr (gen_cycle (map string_bytes c.arg
 pub returns-in-Some-clause-read_fault : goal.returns-in-Some-clause-read_fault
 returns-in-Some-clause-read_fault g c = λ is. absurd ((gen_other c.in-Some.recipe.size c.run_gen.result c.run_gen.ensures.caused).1 is)
 
+pub returns-in-Some-clause-failed : goal.returns-in-Some-clause-failed
+returns-in-Some-clause-failed g c = λ is. absurd ((gen_other c.in-Some.recipe.size c.run_gen.result c.run_gen.ensures.caused).1 is)
+
 pub returns-in-Some-clause-write_fault : goal.returns-in-Some-clause-write_fault
 returns-in-Some-clause-write_fault g c = c.run_gen.ensures.write_fault
 
@@ -93,6 +96,9 @@ returns-in-None-clause-cycle g c = λ is. inl (c.run_command.ensures.cycle is)
 
 pub returns-in-None-clause-read_fault : goal.returns-in-None-clause-read_fault
 returns-in-None-clause-read_fault g c = c.run_command.ensures.read_fault
+
+pub returns-in-None-clause-failed : goal.returns-in-None-clause-failed
+returns-in-None-clause-failed g c = c.run_command.ensures.failed
 
 pub returns-in-None-clause-write_fault : goal.returns-in-None-clause-write_fault
 returns-in-None-clause-write_fault g c = c.run_command.ensures.write_fault

@@ -7,10 +7,10 @@ use Rattle.connection_laws.specs.Desks.{IsNamedActor}
 use Rattle.connection_laws.specs.Connection.{bad}
 use Rattle.connection_laws.specs.Cuts.{open_line}
 use Rattle.connection_laws.proofs.Framing.{more_is, whole_is, long_is}
-use Rattle.line_server.specs.Turns.{IsReached}
-use Rattle.line_server.specs.declared.talk.Talk.{Talk}
-use Rattle.line_server.specs.declared.talk.Told.TheVariants.{Bad}
-use Rattle.line_server.proofs.Acting.{acts_bad}
+use Rattle.connection_laws.specs.Turns.{IsReached}
+use Rattle.connection_laws.specs.declared.talk.Talk.{Talk}
+use Rattle.connection_laws.specs.declared.talk.Told.TheVariants.{Bad}
+use Rattle.connection_laws.proofs.Acting.{acts_bad}
 use Rattle.line_server.proofs.LineDone.{point, line_done, byte_more, long_line}
 use Rattle.line_server.proofs.lines.take_byte.Goals as goal
 
@@ -73,7 +73,7 @@ pub returns-in-Long-clause-reads : goal.returns-in-Long-clause-reads
 returns-in-Long-clause-reads g c = (c.settle-in-Long.ensures.sent c.args.policy.now (bad Long) refl).reads
 
 pub returns-in-Long-clause-faults : goal.returns-in-Long-clause-faults
-returns-in-Long-clause-faults g c = (c.settle-in-Long.ensures.sent c.args.policy.now (bad Long) refl).later
+returns-in-Long-clause-faults g c = (c.settle-in-Long.ensures.sent c.args.policy.now (bad Long) refl).kept
 
 pub returns-in-Long-clause-reached : goal.returns-in-Long-clause-reached
 returns-in-Long-clause-reached g c =

@@ -4,7 +4,7 @@ use Rattle.std.specs.Io.KnownBytes.{Appends, Consumes}
 use Rattle.std.proofs.KnownBytes.{Appends-nil, Consumes-nil, Appends-trans, Consumes-trans}
 use Rattle.connection_laws.specs.Desks.{IsNamedActor}
 use Rattle.locked_history.specs.Fronts.{by}
-use Rattle.line_server.specs.Turns.{IsReached}
+use Rattle.connection_laws.specs.Turns.{IsReached}
 use Rattle.line_server.specs.Serving.{Goes}
 use Rattle.line_server.proofs.LineDone.{point}
 use Rattle.line_server.proofs.Ends.{begins, cut_off, serving_kept}
@@ -28,8 +28,8 @@ loop-left-init g c =
       actor = s.going.named;
       counts = (omega arith, omega arith, omega arith);
       reached = subst (λ (t : Option ℕ). IsReached (m.legal root) (m.now_of root) c.args.pass.now.seen t) (sym c.requires.start.4) tt;
-      reads = omega arith;
-      writes = omega arith;
+      reads = refl;
+      writes = refl;
     }
 
 pub loop-left-preserved : goal.loop-left-preserved
@@ -61,12 +61,6 @@ loop-left-preserved g c =
     let low = r.bound.0 in
     let up = inv.counts in
     let up' = after.counts in
-    let reads = inv.reads in
-    let cause = r.cause.later in
-    let kept = after.reads.read_faults_are in
-    let writes = inv.writes in
-    let wrote = r.writes.write_faults_are in
-    let faults = after.faults in
     record {
       fed = inv.fed ++ chunk;
       acted = y.0;
@@ -79,8 +73,8 @@ loop-left-preserved g c =
       actor = after.actor;
       counts = (omega (arith, up, up', both), omega (arith, up, up', both), omega (arith, up, up', both));
       reached = after.reached;
-      reads = omega (arith, reads, cause, kept);
-      writes = omega (arith, writes, wrote, faults);
+      reads = after.reads.read_faults_are ∙ r.cause.kept ∙ inv.reads;
+      writes = c.in_default-take_chunk.ensures.faults ∙ r.writes.write_faults_are ∙ inv.writes;
     }
 
 pub returns-in-Err-clause-goes : goal.returns-in-Err-clause-goes
@@ -111,10 +105,8 @@ returns-in-Err-clause-goes g c =
     let both = length-append inv.fed chunk in
     let counted = inv.counted in
     let low = r.bound.0 in
-    let writes = inv.writes in
-    let wrote = r.writes.write_faults_are in
     cut_off c.args.policy.now (g.M.Keeps.list root) (m.legal root) (m.now_of root) (by c.args.pass.now.number c.args.conn) origin last start end mid.write_faults inv.fed y.0 chunk y.2.0 c.in-Err.end y.2.1 y.1
-    (omega (arith, writes, wrote))
+    (after.reads.read_faults_are ∙ r.cause.kept ∙ inv.reads) (r.writes.write_faults_are ∙ inv.writes)
     (subst (λ (x : Option (List ℕ)). Appends start.taken x (inv.fed ++ chunk)) (sym after.reads.taken_kept) (Appends-trans start.taken old.taken mid.taken inv.fed chunk inv.taken r.taken))
     (subst (λ (x : Option (List ℕ)). Consumes start.left x (inv.fed ++ chunk)) (sym after.reads.left_kept) (Consumes-trans start.left old.left mid.left inv.fed chunk inv.consumed r.bytes.0))
     (omega (arith, both, long, counted, low))

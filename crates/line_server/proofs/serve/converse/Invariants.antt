@@ -4,8 +4,9 @@ use Rattle.turn_lock.specs.Holders.{site_of}
 use Rattle.locked_history.specs.Fronts.{by}
 use Rattle.connection_laws.specs.Desks.{IsNamedActor}
 use Rattle.connection_laws.specs.Connection.{Acted}
-use Rattle.line_server.specs.Turns.{IsIdle, IsReached}
-use Rattle.line_server.specs.Serving.{CountsUp, Serving}
+use Rattle.connection_laws.specs.Turns.{IsIdle, IsReached}
+use Rattle.connection_laws.specs.Acting.{CountsUp}
+use Rattle.line_server.specs.Serving.{Serving}
 use Rattle.line_server.proofs.LineDone.{point}
 use Rattle.line_server.proofs.serve.converse.Given as goal
 
@@ -30,8 +31,8 @@ invariant-loop-left g l =
       actor : IsNamedActor l.policy l.talk.actor;
       counts : CountsUp l.fn.talk l.talk (length fed);
       reached : IsReached (m.legal root) (m.now_of root) l.pass.seen l.talk.reached;
-      reads : a.read_faults ≤ b.read_faults;
-      writes : a.write_faults ≤ b.write_faults;
+      reads : b.read_faults ≡ a.read_faults;
+      writes : b.write_faults ≡ a.write_faults;
     }
 
 abbrev pub decreases-loop-left : goal.decreases-loop-left

@@ -3,8 +3,9 @@ use Rattle.gt_io.specs.Links.{ReadsNothing}
 use Rattle.turn_lock.specs.Holders.{site_of}
 use Rattle.locked_history.specs.Fronts.{by}
 use Rattle.connection_laws.specs.Desks.{IsNamedActor}
-use Rattle.line_server.specs.Turns.{IsIdle, IsReached}
-use Rattle.line_server.specs.Serving.{CountsUp, Goes}
+use Rattle.connection_laws.specs.Turns.{IsIdle, IsReached}
+use Rattle.connection_laws.specs.Acting.{CountsUp}
+use Rattle.line_server.specs.Serving.{Goes}
 use Rattle.line_server.proofs.LineDone.{point}
 use Rattle.line_server.proofs.serve.take_chunk.Given as goal
 
@@ -24,5 +25,5 @@ invariant-loop-byte g l =
       counts : CountsUp l.fn.talk l.talk l.byte-index;
       reached : IsReached (m.legal root) (m.now_of root) l.pass.seen l.talk.reached;
       reads : ReadsNothing (t.traffic l.fn.link) (t.traffic l.link);
-      faults : (t.traffic l.fn.link).write_faults ≤ (t.traffic l.link).write_faults;
+      faults : (t.traffic l.link).write_faults ≡ (t.traffic l.fn.link).write_faults;
     }

@@ -1,6 +1,6 @@
 use Rattle.std.proofs.Common.{◌≡◌, ◌≤◌, ◌+◌, ◌-◌, ◌*◌, ℕ, List, length}
 use Rattle.turn_lock.specs.Holders.{site_of}
-use Rattle.line_server.specs.Turns.{IsIdle}
+use Rattle.connection_laws.specs.Turns.{IsIdle}
 use Rattle.line_server.specs.Working.{Spot, Tale, Worked, AllUnworn, most_links}
 use Rattle.line_server.proofs.workers.work_on.Given as goal
 

@@ -1,12 +1,12 @@
 use Rattle.std.proofs.Common.{Some, sym, ap, ◌∙◌, add-zero, arith}
 use Rattle.session_table.specs.declared.charges.Charge.{Charge}
-use Rattle.session_table.specs.Charges.{charged_in}
+use Rattle.session_table.specs.Charges.{charged_by_rows}
 use Rattle.session_table.proofs.Writing.{row_added, row_says, written_over}
 use Rattle.session_table.proofs.charges.add_at.Goals as goal
 
 pub returns-then-not-is_same-clause-charged : goal.returns-then-not-is_same-clause-charged
 returns-then-not-is_same-clause-charged c = λ u r d.
-    ap (λ es. charged_in es u r d) (written_over c.args.charges.now.entries c.args.place _ _ c.pair_mut-row.ensures.value) ∙ sym (add-zero (charged_in c.args.charges.now.entries u r d))
+    ap (λ es. charged_by_rows es u r d) (written_over c.args.charges.now.entries c.args.place _ _ c.pair_mut-row.ensures.value) ∙ sym (add-zero (charged_by_rows c.args.charges.now.entries u r d))
 
 pub overflow_add-row : goal.overflow_add-row
 overflow_add-row c =

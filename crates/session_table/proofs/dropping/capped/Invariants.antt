@@ -1,6 +1,11 @@
 use Rattle.std.proofs.Common.{◌≡◌, filter, take}
+use Rattle.session_table.specs.Counting.{AreCounted}
 use Rattle.session_table.specs.NextDrops.{capped_in}
 use Rattle.session_table.proofs.dropping.capped.Given as goal
 
 abbrev pub invariant-loop-a : goal.invariant-loop-a
-invariant-loop-a l = l.gone.items ≡ filter (capped_in l.caps l.charges.entries l.active l.now l.to) (take l.a-index l.active)
+invariant-loop-a l =
+    record {
+      gone : l.gone.items ≡ filter (capped_in l.caps l.charges.charged l.active l.now l.to) (take l.a-index l.active);
+      seen : AreCounted l.active l.seen;
+    }

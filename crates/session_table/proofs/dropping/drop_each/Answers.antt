@@ -16,13 +16,14 @@ one_more test xs i x old new added so_far is inside =
 
 pub loop-a-preserved : goal.loop-a-preserved
 loop-a-preserved c = record {
-  gone = one_more (is_dropped c.args.hierarchy.now c.args.caps.now.items (has c.args.status.now.set) c.args.charges.now.entries c.args.active.now c.args.now c.args.to) c.args.active.now c.loop-a.a-index c.a-item.result
+  gone = one_more (is_dropped c.args.hierarchy.now c.args.caps.now.items (has c.args.status.now.set) c.args.charges.now.charged c.args.active.now c.args.now c.args.to) c.args.active.now c.loop-a.a-index c.a-item.result
       _ _ c.in_ok-before.ensures.gone c.loop-a.invariant.gone c.a-item.is c.loop-a-test.true;
   known = c.in_ok-before.ensures.known;
+  seen = c.count_of_one-count.ensures.seen;
   on = c.in_ok-before.ensures.on;
 }
 
 pub returns : goal.returns
 returns c =
     c.loop-a.invariant.gone
-    ∙ ap (filter (is_dropped c.args.hierarchy.now c.args.caps.now.items (has c.args.status.now.set) c.args.charges.now.entries c.args.active.now c.args.now c.args.to)) (take_all c.loop-a.a-index c.args.active.now c.loop-a-test.false)
+    ∙ ap (filter (is_dropped c.args.hierarchy.now c.args.caps.now.items (has c.args.status.now.set) c.args.charges.now.charged c.args.active.now c.args.now c.args.to)) (take_all c.loop-a.a-index c.args.active.now c.loop-a-test.false)

@@ -30,7 +30,7 @@ returns-clause-on c =
     let a : Activation = c.args.a.now in
     subst (λ o. IfSome o (λ r. s (Enabled r) ≡ true)) (sym c.found_on.ensures)
     (stays_on s c.args.before a.role (is_none (activation_walk c.args.hierarchy.now s a.user a.role)) (reached (caps_of c.args.caps.now.items a.role).length (c.args.to - a.begun))
-    (reached (caps_of c.args.caps.now.items a.role).day (spent_by c.args.charges.now.entries c.args.active.now c.args.now c.args.to a.user a.role)) c.in_ok-is_gone.is_gone c.in_ok-is_gone.ensures.dropped c.requires.before)
+    (reached (caps_of c.args.caps.now.items a.role).day (spent_by c.args.charges.now.charged c.args.active.now c.args.now c.args.to a.user a.role)) c.in_ok-is_gone.is_gone c.in_ok-is_gone.ensures.dropped c.requires.before)
 
 pub is_dropped-requires-clause-known : goal.is_dropped-requires-clause-known
 is_dropped-requires-clause-known c = c.requires.known

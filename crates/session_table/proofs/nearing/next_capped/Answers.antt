@@ -12,18 +12,21 @@ use Rattle.session_table.proofs.nearing.next_capped.Goals as goal
 
 pub returns-then-not-limit_minutes : goal.returns-then-not-limit_minutes
 returns-then-not-limit_minutes c = λ t a b.
-    none_capped c.args.caps.now (sym c.limit_minutes.ensures ∙ c.if-not-limit_minutes.true) c.args.charges.now.entries c.args.active.now c.args.now t c.args.active.now
+    none_capped c.args.caps.now (sym c.limit_minutes.ensures ∙ c.if-not-limit_minutes.true) c.args.charges.now.charged c.args.active.now c.args.now t c.args.active.now
 
 pub loop-a-preserved : goal.loop-a-preserved
 loop-a-preserved c =
     let now : ℕ = c.args.now in
-    let capped : ℕ → Activation → Bool = capped_in c.args.caps.now c.args.charges.now.entries c.args.active.now now in
+    let capped : ℕ → Activation → Bool = capped_in c.args.caps.now c.args.charges.now.charged c.args.active.now now in
     let of_role : IsFirstOrNone (λ t. capped t (record { session = c.a.inside.session; user = c.a.inside.user; role = c.a.inside.role; begun = c.a.inside.begun })) now c.next_for-one.result =
     subst (λ (k : Caps). IsFirstOrNone (λ t. reached k.length (t - c.a.inside.begun)
-    || reached k.day (charged_in c.args.charges.now.entries c.a.inside.user c.a.inside.role (day_of t) + minutes_of_day now (t - now) (day_of t) * count_by (is_of c.a.inside.user c.a.inside.role) c.args.active.now)) now c.next_for-one.result)
+    || reached k.day (charged_in c.args.charges.now.charged c.a.inside.user c.a.inside.role (day_of t) + minutes_of_day now (t - now) (day_of t) * count_by (is_of c.a.inside.user c.a.inside.role) c.args.active.now)) now c.next_for-one.result)
     c.caps_of-of_role.ensures c.next_for-one.ensures in
     let one : IsFirstOrNone (λ t. capped t c.a-item.result) now c.next_for-one.result = subst (λ (b : Activation). IsFirstOrNone (λ t. capped t b) now c.next_for-one.result) c.a.view_is of_role in
-    let both = c.earlier-next.ensures (λ t. list_any (capped t) (take c.loop-a.a-index c.args.active.now)) (λ t. capped t c.a-item.result) now c.loop-a.invariant one in
-    subst (λ p. IsFirstOrNone p now c.earlier-next.result)
-    (λ i t. (ap (λ b. list_any (capped t) (take c.loop-a.a-index c.args.active.now) || capped t b) c.a-item.is
-    ∙ sym (list_any_more (capped t) c.args.active.now c.loop-a.a-index c.a-item.result c.loop-a-test.true)) i) both
+    let both = c.earlier-next.ensures (λ t. list_any (capped t) (take c.loop-a.a-index c.args.active.now)) (λ t. capped t c.a-item.result) now c.loop-a.invariant.next one in
+    record {
+      seen = c.count_for-count.ensures.seen;
+      next = subst (λ p. IsFirstOrNone p now c.earlier-next.result)
+          (λ i t. (ap (λ b. list_any (capped t) (take c.loop-a.a-index c.args.active.now) || capped t b) c.a-item.is
+          ∙ sym (list_any_more (capped t) c.args.active.now c.loop-a.a-index c.a-item.result c.loop-a-test.true)) i) both;
+    }

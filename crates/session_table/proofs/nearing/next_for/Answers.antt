@@ -8,5 +8,5 @@ use Rattle.session_table.proofs.nearing.next_for.Goals as goal
 pub returns : goal.returns
 returns c =
     c.earlier.ensures (λ t. reached c.args.caps.length (t - c.args.begun))
-    (λ t. reached c.args.caps.day (charged_in c.args.charges.now.entries c.args.user c.args.role (day_of t) + minutes_of_day c.args.now (t - c.args.now) (day_of t) * count_by (is_of c.args.user c.args.role) c.args.active.now))
+    (λ t. reached c.args.caps.day (charged_in c.args.charges.now.charged c.args.user c.args.role (day_of t) + minutes_of_day c.args.now (t - c.args.now) (day_of t) * count_by (is_of c.args.user c.args.role) c.args.active.now))
     c.args.now c.next_too_long-long.ensures c.next_spent-full.ensures

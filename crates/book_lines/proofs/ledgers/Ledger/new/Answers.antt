@@ -1,5 +1,10 @@
+use Rattle.std.proofs.Common.{sym, subst}
+use Rattle.core_machine.specs.Books.{BookView}
+use Rattle.book_lines.specs.Ledgers.{CanBeServed}
 use Rattle.book_lines.proofs.Serving.{book_is_served}
 use Rattle.book_lines.proofs.ledgers.Ledger.new.Goals as goal
 
 pub returns-clause-served : goal.returns-clause-served
-returns-clause-served c = book_is_served c.args.book c.policy-policy.ensures.kept
+returns-clause-served c =
+    subst (λ (b : BookView). CanBeServed b) (sym c.in_ok-book.ensures.ok)
+    (book_is_served c.args.book c.policy-policy.ensures.kept)

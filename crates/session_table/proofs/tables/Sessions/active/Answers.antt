@@ -34,7 +34,7 @@ returns-in-Ok-clause-roles c = λ r p pt.
     unless_none (session_causes (table_of c.args.self.now) c.args.actor c.args.session) (Truth (list_any (is_active_in c.args.session r) c.args.self.now.active))
     (causes c.args.self.now c.deref.result.now (ap (λ os. map opened (still_open os)) c.deref.ensures.value ∙ ap (λ v. v.sessions) c.self.view_is) c.args.actor c.args.session None c.in-Ok.ensures.ok)
     ∙ ap Truth (ap (λ v. list_any (is_active_in c.args.session r) v.active) (sym c.self.view_is)
-    ∙ sym (listed_at c.self.inside.sessions.items c.self.inside.active.items c.self.inside.charges.entries c.self.inside.charged_to c.self.invariant.kept c.args.session c.in-Ok.at stands c.roles_at.result.now told r))
+    ∙ sym (listed_at c.self.inside.sessions.items c.self.inside.active.items c.self.inside.charges.charged c.self.inside.charged_to c.self.invariant.kept c.args.session c.in-Ok.at stands c.roles_at.result.now told r))
 
 pub returns-in-Ok-clause-check : goal.returns-in-Ok-clause-check
 returns-in-Ok-clause-check c = λ perm p pt.
@@ -45,4 +45,4 @@ returns-in-Ok-clause-check c = λ perm p pt.
     (causes c.args.self.now c.deref.result.now (ap (λ os. map opened (still_open os)) c.deref.ensures.value ∙ ap (λ v. v.sessions) c.self.view_is) c.args.actor c.args.session None c.in-Ok.ensures.ok)
     ∙ ap Decided (roles_decide p.edges pt.status (roles_of (table_of c.args.self.now) c.args.session) c.roles_at.result.now perm
     (λ r. roles_listed (table_of c.args.self.now) c.args.session r ∙ ap (λ v. list_any (is_active_in c.args.session r) v.active) (sym c.self.view_is)
-    ∙ sym (listed_at c.self.inside.sessions.items c.self.inside.active.items c.self.inside.charges.entries c.self.inside.charged_to c.self.invariant.kept c.args.session c.in-Ok.at stands c.roles_at.result.now told r)))
+    ∙ sym (listed_at c.self.inside.sessions.items c.self.inside.active.items c.self.inside.charges.charged c.self.inside.charged_to c.self.invariant.kept c.args.session c.in-Ok.at stands c.roles_at.result.now told r)))

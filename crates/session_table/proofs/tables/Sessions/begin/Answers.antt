@@ -29,7 +29,7 @@ pub invariant_of-self-2 : goal.invariant_of-self-2
 invariant_of-self-2 c =
     let few : count_by (λ (o : Open). o.is_open) c.self.inside.sessions.items < 10_000 = omega (arith, c.if-self-ge-MOST_SESSIONS.false, c.self.invariant.counted) in
     let o : Open = record { number = record { 0 = c.self.inside.begun + 1 }; owner = c.args.user; roles = c.new.result; is_open = true } in
-    subst (λ os. IsTable os (c.self.inside.standing + 1) c.self.inside.active.items c.self.inside.charges.entries c.self.inside.charged_to (c.self.inside.begun + 1)) (sym c.in_ok-push.ensures.ok)
+    subst (λ os. IsTable os (c.self.inside.standing + 1) c.self.inside.active.items c.self.inside.charges.charged c.self.inside.charged_to (c.self.inside.begun + 1)) (sym c.in_ok-push.ensures.ok)
     (record {
       kept = begun _ _ _ _ c.self.invariant.kept o c.new.ensures few;
       counted = let n = count_added (λ (o : Open). o.is_open) c.self.inside.sessions.items o in omega (arith, n, c.self.invariant.counted);

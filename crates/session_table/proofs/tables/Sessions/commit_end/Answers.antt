@@ -4,9 +4,8 @@ use Rattle.gt_base.specs.declared.events.UserId.{UserId}
 use Rattle.gtrbac_model.specs.Sessions.{Activation, is_of, is_dropped, signal_of}
 use Rattle.history_laws.specs.Tables.{minutes_of_day}
 use Rattle.session_table.specs.declared.opened.Open.{Open}
-use Rattle.session_table.specs.declared.charges.Charge.{Charge}
 use Rattle.session_table.specs.Opened.{role_in, Numbered}
-use Rattle.session_table.specs.Charges.{charged_in}
+use Rattle.session_table.specs.Charges.{Charged, charged_in}
 use Rattle.session_table.specs.Kept.{IsKept}
 use Rattle.session_table.specs.Plans.{DropsView}
 use Rattle.session_table.specs.Tables.{TableView, NotBefore, table_of, charged_through}
@@ -19,7 +18,7 @@ pub charge_stretch-requires-clause-bound : goal.charge_stretch-requires-clause-b
 charge_stretch-requires-clause-bound c = λ u r d.
     let os : List Open = c.self.inside.sessions.items in
     let active : List Activation = c.self.inside.active.items in
-    let rows : List (Charge × ℕ) = c.self.inside.charges.entries in
+    let rows : Charged = c.self.inside.charges.charged in
     let now_is : c.d.inside.after ≡ c.args.d.after = ap (λ (d : DropsView). d.after) c.d.view_is in
     let to_is : c.d.inside.to ≡ c.args.d.to = ap (λ (d : DropsView). d.to) c.d.view_is in
     let order : c.d.inside.after < c.d.inside.to = omega (arith, now_is, to_is, c.requires.order) in
@@ -37,14 +36,14 @@ pub invariant_of-self : goal.invariant_of-self
 invariant_of-self c =
     let os : List Open = c.self.inside.sessions.items in
     let active : List Activation = c.self.inside.active.items in
-    let rows : List (Charge × ℕ) = c.self.inside.charges.entries in
+    let rows : Charged = c.self.inside.charges.charged in
     let now_is : c.d.inside.after ≡ c.args.d.after = ap (λ (d : DropsView). d.after) c.d.view_is in
     let to_is : c.d.inside.to ≡ c.args.d.to = ap (λ (d : DropsView). d.to) c.d.view_is in
     let order : c.d.inside.after < c.d.inside.to = omega (arith, now_is, to_is, c.requires.order) in
     let not_before : NotBefore c.self.inside.charged_to c.d.inside.after =
     subst (λ (v : TableView). NotBefore v.charged_to c.d.inside.after) (sym c.self.view_is) (subst (λ (d : DropsView). NotBefore c.args.self.now.charged_to d.after) (sym c.d.view_is) c.requires.not_before) in
     let os' : List Open = c.take_out.new.sessions.items in
-    let charged : (u : UserId) (r : RoleId) (d : ℕ) → charged_in c.charge_stretch.new.charges.entries u r d
+    let charged : (u : UserId) (r : RoleId) (d : ℕ) → charged_in c.charge_stretch.new.charges.charged u r d
     ≡ charged_in rows u r d + minutes_of_day c.d.inside.after (c.d.inside.to - c.d.inside.after) d * count_by (is_of u r) active =
     λ u r d. c.charge_stretch.ensures.charged u r d
     ∙ ap (λ xs. charged_in rows u r d + minutes_of_day c.d.inside.after (c.d.inside.to - c.d.inside.after) d * count_by (is_of u r) xs) c.as_slice.ensures in
@@ -52,9 +51,9 @@ invariant_of-self c =
     let kept : c.take_out.new.active.items ≡ filter (λ a. role_in os' a.session a.role) active = c.take_out.ensures.active in
     let gone : c.deref.result.now ≡ filter c.requires.test active = listed ∙ c.requires.gone ∙ ap (λ (v : TableView). filter c.requires.test v.active) (sym c.self.view_is) in
     record {
-      kept = subst (λ xs. IsKept os' xs c.charge_stretch.new.charges.entries (Some c.d.inside.to)) (sym kept)
+      kept = subst (λ xs. IsKept os' xs c.charge_stretch.new.charges.charged (Some c.d.inside.to)) (sym kept)
           (committed os active rows c.self.inside.charged_to c.self.invariant.kept c.requires.test c.deref.result.now gone os' c.take_out.ensures.roles c.take_out.ensures.count
-          c.charge_stretch.new.charges.entries c.d.inside.after c.d.inside.to order not_before charged);
+          c.charge_stretch.new.charges.charged c.d.inside.after c.d.inside.to order not_before charged);
       counted = c.self.invariant.counted ∙ sym c.take_out.ensures.count;
       numbered = subst (λ ss. Numbered 0 ss c.self.inside.begun) (sym c.take_out.ensures.opened) c.self.invariant.numbered;
     }
@@ -63,14 +62,14 @@ pub returns-clause-table : goal.returns-clause-table
 returns-clause-table c = λ edges caps s e.
     let os : List Open = c.self.inside.sessions.items in
     let active : List Activation = c.self.inside.active.items in
-    let rows : List (Charge × ℕ) = c.self.inside.charges.entries in
+    let rows : Charged = c.self.inside.charges.charged in
     let now_is : c.d.inside.after ≡ c.args.d.after = ap (λ (d : DropsView). d.after) c.d.view_is in
     let to_is : c.d.inside.to ≡ c.args.d.to = ap (λ (d : DropsView). d.to) c.d.view_is in
     let order : c.d.inside.after < c.d.inside.to = omega (arith, now_is, to_is, c.requires.order) in
     let not_before : NotBefore c.self.inside.charged_to c.d.inside.after =
     subst (λ (v : TableView). NotBefore v.charged_to c.d.inside.after) (sym c.self.view_is) (subst (λ (d : DropsView). NotBefore c.args.self.now.charged_to d.after) (sym c.d.view_is) c.requires.not_before) in
     let os' : List Open = c.take_out.new.sessions.items in
-    let charged : (u : UserId) (r : RoleId) (d : ℕ) → charged_in c.charge_stretch.new.charges.entries u r d
+    let charged : (u : UserId) (r : RoleId) (d : ℕ) → charged_in c.charge_stretch.new.charges.charged u r d
     ≡ charged_in rows u r d + minutes_of_day c.d.inside.after (c.d.inside.to - c.d.inside.after) d * count_by (is_of u r) active =
     λ u r d. c.charge_stretch.ensures.charged u r d
     ∙ ap (λ xs. charged_in rows u r d + minutes_of_day c.d.inside.after (c.d.inside.to - c.d.inside.after) d * count_by (is_of u r) xs) c.as_slice.ensures in

@@ -44,7 +44,7 @@ invariant_of-self c =
     let new : c.remove_role.new.sessions.items ≡ set c.self.inside.sessions.items c.in-Ok.at (record o { roles = without o.roles c.args.role }) =
     subst (λ x. IfSome x (λ (o : Open). c.remove_role.new.sessions.items ≡ set c.self.inside.sessions.items c.in-Ok.at (record o { roles = without o.roles c.args.role }))) there c.remove_role.ensures in
     record {
-      kept = rw (new, c.end_role.ensures) (ended c.self.inside.sessions.items c.self.inside.active.items c.self.inside.charges.entries c.self.inside.charged_to c.self.invariant.kept c.args.session c.in-Ok.at stands o there c.args.role);
+      kept = rw (new, c.end_role.ensures) (ended c.self.inside.sessions.items c.self.inside.active.items c.self.inside.charges.charged c.self.inside.charged_to c.self.invariant.kept c.args.session c.in-Ok.at stands o there c.args.role);
       counted = c.self.invariant.counted ∙ sym (as_many_open c.self.inside.sessions.items c.in-Ok.at o _ there refl) ∙ ap (count_by (λ (o : Open). o.is_open)) (sym new);
       numbered = subst (λ ss. Numbered 0 ss c.self.inside.begun)
           (sym (ap (map opened) new ∙ kept_opened c.self.inside.sessions.items c.in-Ok.at o (record o { roles = without o.roles c.args.role }) there refl)) c.self.invariant.numbered;

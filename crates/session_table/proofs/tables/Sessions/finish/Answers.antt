@@ -30,7 +30,7 @@ end_session-requires-clause-few c =
     let stands : StandsAt c.self.inside.sessions.items c.args.session c.in-Ok.at = subst (λ os. StandsAt os c.args.session c.in-Ok.at) c.deref.ensures.value c.in-Ok.ensures.place in
     let told : IfSome (slice_get c.self.inside.sessions.items c.in-Ok.at) (λ o. c.roles_at-most.result.now ≡ members o.roles) =
     subst (λ os. IfSome (slice_get os c.in-Ok.at) (λ o. c.roles_at-most.result.now ≡ members o.roles)) c.deref-2.ensures.value c.roles_at-most.ensures.roles in
-    few_in c.self.inside.sessions.items c.self.inside.active.items c.self.inside.charges.entries c.self.inside.charged_to c.self.invariant.kept c.args.session c.in-Ok.at stands c.roles_at-most.result.now told
+    few_in c.self.inside.sessions.items c.self.inside.active.items c.self.inside.charges.charged c.self.inside.charged_to c.self.invariant.kept c.args.session c.in-Ok.at stands c.roles_at-most.result.now told
 
 pub shut-requires-clause-numbered : goal.shut-requires-clause-numbered
 shut-requires-clause-numbered c = (c.self.inside.begun, c.self.invariant.numbered)
@@ -41,7 +41,7 @@ invariant_of-self c =
     let stands : StandsAt os c.args.session c.in-Ok.at = subst (λ os. StandsAt os c.args.session c.in-Ok.at) c.deref.ensures.value c.in-Ok.ensures.place in
     let left : still_open c.close_up.new.sessions.items ≡ filter (λ o. not (numbered c.args.session o)) (still_open os) = c.close_up.ensures.standing ∙ c.shut.ensures.standing c.args.session stands in
     record {
-      kept = with_gaps c.close_up.new.sessions.items c.end_session.new.active.items c.self.inside.charges.entries c.self.inside.charged_to
+      kept = with_gaps c.close_up.new.sessions.items c.end_session.new.active.items c.self.inside.charges.charged c.self.inside.charged_to
           (rw (left, c.end_session.ensures.active) (finished _ _ _ _ (without_gaps _ _ _ _ c.self.invariant.kept) c.args.session));
       counted = let one = c.shut.ensures.count c.args.session stands in
           let all = sum_open c.close_up.new.sessions.items c.shut.new.sessions.items c.close_up.ensures.standing in

@@ -16,11 +16,11 @@ returns-in-Some c =
     let told : IfSome (slice_get c.self.inside.sessions.items c.in-Some.at) (λ o. c.roles_at.result.now ≡ members o.roles) =
     subst (λ os. IfSome (slice_get os c.in-Some.at) (λ o. c.roles_at.result.now ≡ members o.roles)) c.deref-in-Some.ensures.value c.roles_at.ensures.roles in
     let few : count_by (in_session c.args.session) c.self.inside.active.items ≤ length c.roles_at.result.now =
-    few_in c.self.inside.sessions.items c.self.inside.active.items c.self.inside.charges.entries c.self.inside.charged_to c.self.invariant.kept c.args.session c.in-Some.at stands c.roles_at.result.now told in
+    few_in c.self.inside.sessions.items c.self.inside.active.items c.self.inside.charges.charged c.self.inside.charged_to c.self.invariant.kept c.args.session c.in-Some.at stands c.roles_at.result.now told in
     subst (λ (v : TableView). count_by (in_session c.args.session) v.active ≤ length c.roles_at.result.now) c.self.view_is few
 
 pub returns-in-None : goal.returns-in-None
 returns-in-None c =
     let gone : find (numbered c.args.session) c.self.inside.sessions.items ≡ None = ap (find (numbered c.args.session)) (sym c.deref.ensures.value) ∙ c.in-None.ensures in
     subst (λ (v : TableView). count_by (in_session c.args.session) v.active ≤ 0) c.self.view_is
-    (none_in c.self.inside.sessions.items c.self.inside.active.items c.self.inside.charges.entries c.self.inside.charged_to c.self.invariant.kept c.args.session gone)
+    (none_in c.self.inside.sessions.items c.self.inside.active.items c.self.inside.charges.charged c.self.inside.charged_to c.self.invariant.kept c.args.session gone)

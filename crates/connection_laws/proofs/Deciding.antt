@@ -1,0 +1,42 @@
+-- What is told of a request.
+use Rattle.std.proofs.Common.{◌≡◌, ℕ, ◌≤◌, List, [], ◌∷◌, ◌++◌, refl, sym, ap, ◌∙◌, arith, Ok}
+use Rattle.gt_base.specs.declared.requests.Who.{Who}
+use Rattle.gt_base.specs.declared.requests.Actor.{Actor}
+use Rattle.gt_base.specs.declared.requests.Request.{Request}
+use Rattle.gt_base.specs.declared.requests.Reply.{Reply}
+use Rattle.gt_base.specs.declared.requests.Entry.{Entry}
+use Rattle.gt_base.specs.Roomy.{Roomy}
+use Rattle.turn_lock.specs.Holders.{Holder}
+use Rattle.policy_words.specs.Naming.{NamedPolicy}
+use Rattle.connection_laws.specs.Connection.{accepted, no_memory, answer_text}
+use Rattle.connection_laws.specs.declared.talk.Told.TheVariants.{Reply as ToldReply, NoMemory}
+use Rattle.connection_laws.specs.Turns.{Grows, Asked}
+use Rattle.connection_laws.specs.Acting.{Decides}
+use Rattle.connection_laws.proofs.Growing.{grown_none}
+
+module _ {M : Type 0} (np : NamedPolicy) (first : List Entry) (legal : List Entry → Type 0) (now : List Entry → ℕ) (who : Who) (reading : ℕ) (actor : Actor) (request : Request) where
+  pub decides_nothing : (p : Holder M) → Decides np first legal now who reading actor request p p NoMemory
+  decides_nothing p =
+      let g = grown_none p in
+      record {
+        answer = no_memory;
+        entries = [];
+        told_is = refl;
+        asks = λ birth timed. (reading, [], refl, tt, refl);
+        mine = tt;
+        grows = record { seen = g.seen; after_is = g.after_is; draws_low = g.draws_low; draws_high = let x = g.draws_high in omega (arith, x) };
+        worn_out = λ n same. absurd cc;
+      }
+
+  pub decides_reply : (b c : Holder M) (reply : Reply) (text : Roomy ℕ) → Asked first legal now who reading actor request b c (Ok reply) → text.items ≡ answer_text np (accepted reply)
+      → Decides np first legal now who reading actor request b c (ToldReply text)
+  decides_reply b c reply text r is =
+      record {
+        answer = accepted reply;
+        entries = r.entries;
+        told_is = (reply, refl, is);
+        asks = r.asks;
+        mine = r.mine;
+        grows = r.grows;
+        worn_out = λ n same. absurd cc;
+      }

@@ -1,0 +1,97 @@
+-- Calls at the desk one after another.
+use Rattle.std.proofs.Common.{◌≡◌, ℕ, ◌+◌, ◌≤◌, List, [], ◌∷◌, ◌++◌, sym, ap, subst, ◌∙◌, arith, append_assoc, append-nil, length-append, Ok}
+use mathlib.Core.List.{IsPrefix}
+use Rattle.gt_base.specs.declared.requests.Entry.{Entry}
+use Rattle.gt_base.specs.declared.requests.Who.{Who}
+use Rattle.gt_base.specs.Machines.{ticked}
+use Rattle.turn_lock.specs.Turns.{Each}
+use Rattle.turn_lock.proofs.Totals.{each-append}
+use Rattle.connection_laws.specs.Connection.{IsTick}
+use Rattle.turn_lock.specs.Holders.{Holder}
+use Rattle.locked_history.specs.Fronts.{by, Lands, Refuses}
+use Rattle.connection_laws.proofs.Prefixes.{prefix_self, prefix_trans}
+use Rattle.connection_laws.specs.Turns.{Grows, Reaches}
+
+module _ {M : Type 0} where
+  pub grown_none : (a : Holder M) → Grows a a [] 0
+  grown_none a =
+      record {
+        seen = prefix_self a.seen;
+        after_is = ap (λ (own : List Entry). record a { own = own }) (sym (append-nil a.own));
+        draws_low = omega arith;
+        draws_high = omega arith;
+      }
+
+  pub grown_twice : (a b c : Holder M) (more new : List Entry) (k l : ℕ) → Grows a b more k → Grows b c new l → Grows a c (more ++ new) (k + l)
+  grown_twice a b c more new k l g h =
+      record {
+        seen = prefix_trans a.seen b.seen c.seen g.seen h.seen;
+        after_is = h.after_is ∙ ap (λ (p : Holder M). record p { draws = c.draws; seen = c.seen; own = p.own ++ new }) g.after_is
+            ∙ ap (λ (own : List Entry). record a { draws = c.draws; seen = c.seen; own = own }) (append_assoc a.own more new);
+        draws_low = let x = g.draws_low in let y = h.draws_low in omega (arith, x, y);
+        draws_high = let x = g.draws_high in let y = h.draws_high in omega (arith, x, y, length-append more new);
+      }
+
+  pub grown_refused : (b c : Holder M) → Refuses b c → Grows b c [] 1
+  grown_refused b c r =
+      record {
+        seen = r.seen;
+        after_is = r.after_is ∙ ap (λ (own : List Entry). record b { draws = c.draws; seen = c.seen; own = own }) (sym (append-nil b.own));
+        draws_low = r.draws.0;
+        draws_high = let x = r.draws.1 in omega (arith, x);
+      }
+
+  pub grown_idle : (first : List Entry) (b c : Holder M) (front : List Entry) → Lands first b c front [] → Grows b c [] 1
+  grown_idle first b c front l =
+      record {
+        seen = subst (IsPrefix b.seen) (sym (ap (λ (p : Holder M). p.seen) l.after_is)) l.seen;
+        after_is = l.after_is ∙ ap (λ (seen : List Entry). record b { draws = c.draws; seen = seen; own = b.own ++ [] }) (sym (ap (λ (p : Holder M). p.seen) l.after_is));
+        draws_low = let x = l.draws.1 in omega (arith, x);
+        draws_high = let x = l.draws.1 in omega (arith, x);
+      }
+
+  pub grown_one : (first : List Entry) (b c : Holder M) (front : List Entry) (e : Entry) → Lands first b c front (e ∷ []) → Grows b c (e ∷ []) 0
+  grown_one first b c front e l =
+      record {
+        seen = subst (IsPrefix b.seen) (sym (ap (λ (p : Holder M). p.seen) l.after_is)) l.seen;
+        after_is = l.after_is ∙ ap (λ (seen : List Entry). record b { draws = c.draws; seen = seen; own = b.own ++ e ∷ [] }) (sym (ap (λ (p : Holder M). p.seen) l.after_is));
+        draws_low = let x = l.draws.1 in omega (arith, x);
+        draws_high = let x = l.draws.1 in omega (arith, x);
+      }
+
+  -- ticks that go on, and a last call that adds nothing
+  pub ticks_refused : (a b c : Holder M) (ticks : List Entry) → Grows a b ticks 0 → Refuses b c → Grows a c ticks 1
+  ticks_refused a b c ticks g r = subst (λ (l : List Entry). Grows a c l 1) (append-nil ticks) (grown_twice a b c ticks [] 0 1 g (grown_refused b c r))
+
+  pub ticks_idle : (first : List Entry) (a b c : Holder M) (ticks front : List Entry) → Grows a b ticks 0 → Lands first b c front [] → Grows a c ticks 1
+  ticks_idle first a b c ticks front g l = subst (λ (m : List Entry). Grows a c m 1) (append-nil ticks) (grown_twice a b c ticks [] 0 1 g (grown_idle first b c front l))
+
+  pub ticks_more : (first : List Entry) (a b c : Holder M) (ticks front : List Entry) (e : Entry) → Grows a b ticks 0 → Lands first b c front (e ∷ []) → Grows a c (ticks ++ e ∷ []) 0
+  ticks_more first a b c ticks front e g l = grown_twice a b c ticks (e ∷ []) 0 0 g (grown_one first b c front e l)
+
+  pub each_more : (a b : Holder M) (conn reading now : ℕ) (ticks : List Entry) → Grows a b ticks 0 → Each (IsTick (by a.number conn) reading) ticks
+      → Each (IsTick (by a.number conn) reading) (ticks ++ ticked (by b.number conn) reading now ∷ [])
+  each_more a b conn reading now ticks g each =
+      each-append (IsTick (by a.number conn) reading) ticks (ticked (by b.number conn) reading now ∷ []) each
+      ((now, ap (λ (n : ℕ). ticked (by n conn) reading now) (ap (λ (p : Holder M). p.number) g.after_is)), tt)
+
+  pub with_room : (a c : Holder M) (ticks : List Entry) → Grows a c ticks 0 → Grows a c ticks 1
+  with_room a c ticks g =
+      record {
+        seen = g.seen;
+        after_is = g.after_is;
+        draws_low = g.draws_low;
+        draws_high = let x = g.draws_high in omega (arith, x);
+      }
+
+  pub reaches : (first : List Entry) (legal : List Entry → Type 0) (now_of : List Entry → ℕ) (who : Who) (reading : ℕ) (a c : Holder M) (ticks front : List Entry) (now : ℕ)
+      → Each (IsTick who reading) ticks → Grows a c ticks 1 → c.seen ≡ front → legal front → reading ≤ now → now ≡ now_of front → Reaches first legal now_of who reading a c {T = Unit {0}} (Ok tt)
+  reaches first legal now_of who reading a c ticks front now each grows seen_is is_legal late now_is =
+      record {
+        ticks = ticks;
+        each = each;
+        grows = grows;
+        reached = (subst legal (sym seen_is) is_legal, subst (λ (n : ℕ). reading ≤ n) (now_is ∙ ap now_of (sym seen_is)) late);
+        full = λ is. absurd cc;
+        worn_out = λ n is. absurd cc;
+      }

@@ -1,0 +1,28 @@
+use Rattle.std.proofs.Common.{◌≡◌, ◌∙◌, ◌++◌, [], ◌∷◌, ap, refl, List, ℕ}
+use Rattle.request_text.specs.Replies.{reply_line}
+use Rattle.connection_laws.proofs.Deciding.{decides_nothing, decides_reply}
+use Rattle.locked_history.specs.Fronts.{by}
+use Rattle.connection_laws.proofs.acts.decide.Goals as goal
+
+-- the reply that was asked for ends a legal list
+pub reply_fits-requires : goal.reply_fits-requires
+reply_fits-requires g c =
+    let stands = c.in-Ok.ensures.asked.ends c.in-Ok.reply refl in
+    (c.requires.replies stands.0 (by c.args.pass.now.number c.args.conn) c.args.actor c.args.request c.in-Ok.reply stands.1).brief
+
+pub put_reply-requires-clause-named : goal.put_reply-requires-clause-named
+put_reply-requires-clause-named g c =
+    let stands = c.in-Ok.ensures.asked.ends c.in-Ok.reply refl in
+    (c.requires.replies stands.0 (by c.args.pass.now.number c.args.conn) c.args.actor c.args.request c.in-Ok.reply stands.1).named
+
+pub returns-then-is_err-clause-decides : goal.returns-then-is_err-clause-decides
+returns-then-is_err-clause-decides g c =
+    let m = g.M.Machine in
+    decides_nothing c.args.policy.now (g.M.Keeps.list c.args.desk.now.root) (m.legal c.args.desk.now.root) (m.now_of c.args.desk.now.root) (by c.args.pass.now.number c.args.conn) c.args.reading c.args.actor c.args.request c.args.pass.now
+
+pub returns-in-Ok-clause-decides : goal.returns-in-Ok-clause-decides
+returns-in-Ok-clause-decides g c =
+    let m = g.M.Machine in
+    decides_reply c.args.policy.now (g.M.Keeps.list c.args.desk.now.root) (m.legal c.args.desk.now.root) (m.now_of c.args.desk.now.root) (by c.args.pass.now.number c.args.conn) c.args.reading c.args.actor c.args.request
+    c.args.pass.now c.ask_at.new.pass c.in-Ok.reply c.put_reply.new.into c.in-Ok.ensures.asked
+    (c.put_reply.ensures.items ∙ ap (λ (l : List ℕ). l ++ reply_line c.args.policy.now c.in-Ok.reply) (c.reserve.ensures.items ∙ c.new-text.ensures))

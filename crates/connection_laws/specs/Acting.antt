@@ -1,0 +1,98 @@
+-- What acting on one line does.
+use Rattle.std.specs.Prelude.{◌≡◌, ℕ, ◌+◌, ◌*◌, ◌^◌, ◌<◌, ◌≤◌, false, List, [], ◌∷◌, ◌++◌, length, codes}
+use Rattle.std.specs.declared.option.Option.{Option}
+use Rattle.gt_base.specs.declared.requests.Who.{Who}
+use Rattle.gt_base.specs.declared.requests.Actor.{Actor}
+use Rattle.gt_base.specs.declared.requests.Actor.TheVariants.{Nobody}
+use Rattle.gt_base.specs.declared.requests.Reply.{Reply}
+use Rattle.gt_base.specs.declared.requests.Request.{Request}
+use Rattle.gt_base.specs.declared.requests.Entry.{Entry}
+use Rattle.gt_io.specs.Links.{Reads}
+use Rattle.turn_lock.specs.Holders.{Holder}
+use Rattle.policy_words.specs.Naming.{NamedPolicy}
+use Rattle.request_text.specs.Phrases.{read_line}
+use Rattle.request_text.specs.Replies.{fault_word}
+use Rattle.connection_laws.specs.Connection.{Answer, silence, agreed, bad, accepted, no_memory, no_steps, worn, is_accepted, is_denied, answer_text, one_where, Acted, Asks, Gets, actor_by, IsTimed, placed}
+use Rattle.connection_laws.specs.Desks.{IsNamedActor}
+use Rattle.connection_laws.specs.declared.talk.Talk.{Talk}
+use Rattle.connection_laws.specs.declared.talk.Told.{Told}
+use Rattle.connection_laws.specs.declared.talk.Told.TheVariants.{Silence, Agreed, Bad, Reply as ToldReply, NoMemory, NoSteps, Worn as ToldWorn}
+use Rattle.connection_laws.specs.Turns.{Grows, AreMine}
+
+-- what is told is this answer
+abbrev pub IsTold : NamedPolicy → Told → Answer → Type 0
+IsTold np Silence answer = answer ≡ silence
+IsTold np Agreed answer = answer ≡ agreed
+IsTold np (Bad f) answer = answer ≡ bad f
+IsTold np (ToldReply text) answer =
+    (reply : Reply) × (answer ≡ accepted reply) × (text.items ≡ answer_text np (accepted reply))
+IsTold np NoMemory answer = answer ≡ no_memory
+IsTold np NoSteps answer = answer ≡ no_steps
+IsTold np (ToldWorn draws) answer = answer ≡ worn
+
+-- the counts after an answer
+abbrev pub counted : Talk → Answer → Talk
+counted talk answer =
+    record talk {
+      asked = talk.asked + one_where (is_accepted answer);
+      denied = talk.denied + one_where (is_denied answer);
+    }
+
+abbrev pub CanCount : Talk → Type 0
+CanCount talk = (talk.asked + 1 < 2 ^ 63) × (talk.denied + 1 < 2 ^ 63)
+
+-- the counts have room for so many more lines
+abbrev pub HasRoom : Talk → ℕ → Type 0
+HasRoom talk n = (talk.asked + n < 2 ^ 63) × (talk.denied + n < 2 ^ 63) × (talk.calls + n < 2 ^ 64)
+
+abbrev pub CountsUp : Talk → Talk → ℕ → Type 0
+CountsUp talk talk' n =
+    (talk'.asked ≤ talk.asked + n) × (talk'.denied ≤ talk.denied + n)
+    × (talk'.calls ≤ talk.calls + n)
+
+-- the bytes of what a line is told
+abbrev pub told_bytes : Told → List ℕ
+told_bytes Silence = []
+told_bytes Agreed = codes "ok\n"
+told_bytes (Bad f) = codes "bad " ++ fault_word f ++ codes "\n"
+told_bytes (ToldReply text) = text.items
+told_bytes NoMemory = codes "no memory\n"
+told_bytes NoSteps = codes "no steps\n"
+told_bytes (ToldWorn draws) = []
+
+module _ {M : Type 0} (np : NamedPolicy) (first : List Entry) (legal : List Entry → Type 0)
+    (now : List Entry → ℕ) (who : Who) where
+  -- what the desk gives to a request line
+  pub record Decides (reading : ℕ) (actor : Actor) (request : Request) (before after : Holder M)
+      (told : Told) : Type 0 where
+    pub answer : Answer
+    pub entries : List Entry
+    pub told_is : IsTold np told answer
+    pub asks : (birth : ℕ) → IsTimed birth legal now
+        → Asks birth who after.seen actor request answer (placed who first before.own)
+        (reading ∷ []) entries
+    pub mine : AreMine who entries
+    pub grows : Grows before after entries 2
+    pub worn_out : (n : ℕ) → told ≡ ToldWorn n → (n ≡ 2 ^ 40) × (after.draws ≡ 2 ^ 40)
+
+  -- what acting on a line does, but for its reply
+  pub record Acts (before after : Holder M) (talk talk' : Talk) (clock clock' : Option (ℕ → ℕ))
+      (line : List ℕ) (told : Told) : Type 0 where
+    pub acted : Acted
+    pub line_is : acted.line ≡ line
+    pub told_is : IsTold np told acted.answer
+    pub gets : (birth : ℕ) → IsTimed birth legal now
+        → Gets birth who after.seen (read_line np Nobody false line) talk.actor
+        (placed who first before.own) acted
+    pub mine : AreMine who acted.entries
+    pub grows : Grows before after acted.entries (2 * length acted.readings)
+    pub talk_is : talk'
+        ≡ record talk {
+          actor = actor_by (read_line np Nobody false line) talk.actor;
+          calls = talk.calls + length acted.readings;
+          reached = talk'.reached;
+        }
+    pub few : length acted.readings ≤ 1
+    pub named : IsNamedActor np talk'.actor
+    pub reads : Reads clock clock' acted.readings
+    pub worn_out : (n : ℕ) → told ≡ ToldWorn n → (n ≡ 2 ^ 40) × (after.draws ≡ 2 ^ 40)

@@ -1,0 +1,149 @@
+//! What one line comes to, but for the writing of its reply.
+ghost use Rattle.std.specs.Prelude.{◌≡◌, ◌++◌, codes};
+ghost use Rattle.turn_lock.specs.Holders.{site_of};
+ghost use Rattle.locked_history.specs.Fronts.{by};
+ghost use Rattle.policy_words.specs.Naming.{NamedPolicy};
+ghost use Rattle.request_text.specs.Replies.{fault_word};
+ghost use Rattle.connection_laws.specs.Connection.{Answer};
+ghost use Rattle.connection_laws.specs.Desks.{IsNamedActor, AreNamed, RepliesCanBeTold};
+ghost use Rattle.connection_laws.specs.Turns.{IsIdle, IsReached};
+ghost use Rattle.connection_laws.specs.Acting.{IsTold, Decides, Acts, counted, CanCount, HasRoom, told_bytes};
+
+use crate::asks::ask_at;
+use crate::talk::{Talk, Told};
+use gt_base::{Actor, Instant, List, Machine, Request};
+use gt_io::{Clock, Gate};
+use locked_history::{Desk, DeskFault};
+use policy_book::Policy;
+use request_text::{LONGEST_REPLY, Line, LineFault, put_reply, read_line, reply_fits};
+use std::alloc::Global;
+use std::sync::Wait;
+use turn_lock::Pass;
+
+// The reply to a line that says nothing.
+fn fault_reply(fault: LineFault) -> &'static [u8]
+    ensures { result.now ≡ codes "bad " ++ fault_word fault ++ codes "\n" }
+{
+    match fault {
+        LineFault::Long => b"bad long\n",
+        LineFault::Syntax => b"bad syntax\n",
+        LineFault::Name => b"bad name\n",
+    }
+}
+
+/// The bytes of what a line is told.
+pub fn reply_of(told: &Told) -> &[u8]
+    ensures { result.now ≡ told_bytes told.now }
+{
+    match told {
+        Told::Silence => b"",
+        Told::Agreed => b"ok\n",
+        Told::Bad(fault) => fault_reply(*fault),
+        Told::Reply(text) => text.as_slice(),
+        Told::NoMemory => b"no memory\n",
+        Told::NoSteps => b"no steps\n",
+        Told::Worn { draws: _ } => b"",
+    }
+}
+
+/// Counts what a line got.
+pub fn count(talk: &mut Talk, told: &Told)
+    requires { CanCount talk.old }
+    ensures { (np : NamedPolicy) (answer : Answer) → IsTold np told.now answer
+        → talk.new ≡ counted talk.old answer }
+{
+    match told {
+        Told::Reply(_) => talk.asked += 1,
+        Told::NoMemory | Told::NoSteps => talk.denied += 1,
+        _ => {}
+    }
+}
+
+// Takes room for the longest reply, brings the history to the reading, and asks.
+fn decide<M: Machine, R: Wait>(
+    rt: &R,
+    alloc: Global,
+    desk: &Desk<M>,
+    policy: &Policy,
+    pass: &mut Pass<M>,
+    conn: u32,
+    reading: Instant,
+    actor: Actor,
+    request: Request,
+    reached: &mut Option<Instant>,
+) -> Told
+    requires idle { IsIdle (site_of desk.now) pass.old }
+    requires named { M.named desk.now.root actor request }
+    requires replies { RepliesCanBeTold policy.now (M.legal desk.now.root) }
+    requires reached { IsReached (M.legal desk.now.root) (M.now_of desk.now.root) pass.old.seen reached.old }
+    ensures reached { IsReached (M.legal desk.now.root) (M.now_of desk.now.root) pass.new.seen reached.new }
+    ensures decides { Decides policy.now (M.list desk.now.root) (M.legal desk.now.root) (M.now_of desk.now.root)
+        (by pass.old.number conn) reading actor request pass.old pass.new result }
+{
+    let mut text = List::new(alloc);
+    if text.reserve(LONGEST_REPLY).is_err() {
+        return Told::NoMemory;
+    }
+    match ask_at(rt, desk, pass, conn, reading, actor, request, reached) {
+        Ok(reply) => {
+            reply_fits(policy, &reply);
+            put_reply(policy, &reply, &mut text);
+            Told::Reply(text)
+        }
+        Err(DeskFault::Memory) => Told::NoMemory,
+        Err(DeskFault::StepsFull) => Told::NoSteps,
+        Err(DeskFault::Worn { draws }) => Told::Worn { draws },
+    }
+}
+
+/// Acts on a line, but for its reply.
+pub fn act<M: Machine, R: Wait, C: Clock, G: Gate>(
+    rt: &R,
+    alloc: Global,
+    desk: &Desk<M>,
+    policy: &Policy,
+    pass: &mut Pass<M>,
+    conn: u32,
+    clock: &mut C,
+    gate: &G,
+    talk: &mut Talk,
+    line: &[u8],
+) -> Told
+    requires idle { IsIdle (site_of desk.now) pass.old }
+    requires named { AreNamed policy.now (M.named desk.now.root) }
+    requires replies { RepliesCanBeTold policy.now (M.legal desk.now.root) }
+    requires actor { IsNamedActor policy.now talk.old.actor }
+    requires room { HasRoom talk.old 1 }
+    requires reached { IsReached (M.legal desk.now.root) (M.now_of desk.now.root) pass.old.seen talk.old.reached }
+    ensures reached { IsReached (M.legal desk.now.root) (M.now_of desk.now.root) pass.new.seen talk.new.reached }
+    ensures acts { Acts policy.now (M.list desk.now.root) (M.legal desk.now.root) (M.now_of desk.now.root)
+        (by pass.old.number conn) pass.old pass.new talk.old talk.new (C.readings clock.old)
+        (C.readings clock.new) line.now result }
+{
+    match read_line(policy, Actor::Nobody, false, line) {
+        Ok(Line::Ask(request)) => {
+            talk.calls += 1;
+            gate.pass(pass.number(), talk.calls);
+            let reading = clock.now();
+            decide(
+                rt,
+                alloc,
+                desk,
+                policy,
+                pass,
+                conn,
+                reading,
+                talk.actor,
+                request,
+                &mut talk.reached,
+            )
+        }
+        Ok(Line::Be(actor)) => {
+            talk.actor = actor;
+            Told::Agreed
+        }
+        Ok(Line::Silent) => Told::Silence,
+        Ok(Line::At(_)) => unreachable!(),
+        Err(fault) => Told::Bad(fault),
+    }
+}

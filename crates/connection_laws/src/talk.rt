@@ -1,0 +1,29 @@
+//! What a connection has come to, and what a line is told.
+use gt_base::{Actor, Instant, List};
+use request_text::LineFault;
+
+/// The actor of the lines that follow, how many entries of requests there are, how many request
+/// lines got none, and how many request lines the worker had.
+#[derive(Clone, Copy, PartialEq, Eq, Debug)]
+pub struct Talk {
+    pub actor: Actor,
+    pub asked: u64,
+    pub denied: u64,
+    pub calls: u64,
+    /// A minute that the history has come to as far as the pass has seen it, where one is known.
+    pub reached: Option<Instant>,
+}
+
+/// What a line is told.
+#[derive(Drop)]
+pub enum Told {
+    Silence,
+    Agreed,
+    Bad(LineFault),
+    /// The text of its reply.
+    Reply(List<u8>),
+    NoMemory,
+    NoSteps,
+    /// Nothing, since the pass is worn.
+    Worn { draws: u64 },
+}

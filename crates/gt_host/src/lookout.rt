@@ -1,0 +1,328 @@
+//! What many links wait for together: connections, bytes, room for bytes, and the stop file.
+ghost use Rattle.std.specs.Prelude.{◌≡◌, ◌<◌, ◌≤◌, length, Some, IfOk, IfSome};
+ghost use Rattle.gt_host.specs.Lookouts.{Fits};
+
+use crate::conn::{Conn, Sign, both_ways};
+use crate::port::HostPort;
+use crate::stop::{MOST_LINKS, WAIT_MILLIS, Watch, is_lasting, is_stopped};
+use mio::net::{TcpListener, TcpStream};
+use mio::{Events, Interest, Poll, Registry, Token};
+use std::alloc::Global;
+use std::io;
+use std::io::ErrorKind;
+use std::net::{IpAddr, Ipv4Addr, Net, SocketAddr};
+use std::rt::{self, Files};
+use std::time::Duration;
+
+/// How many events one wait tells at most.
+const MOST_EVENTS: usize = 1024;
+
+/// How many connections are taken between two waits at most.
+const MOST_ACCEPTED: u32 = 64;
+
+/// How many links are looked at for silence at each look for the stop file.
+const MOST_SWEPT: usize = 1024;
+
+/// How many milliseconds pass before an accept that failed is tried again, where nothing else is to
+/// be done.
+const PAUSE_MILLIS: u64 = 20;
+
+/// The token of the listener; links have their numbers.
+const DOOR: Token = Token(0);
+
+/// Whether a connection waits.
+#[derive(Clone, Copy, PartialEq, Eq)]
+enum Queue {
+    Empty,
+    Waiting,
+    /// One does, and an accept has failed since the last wait.
+    Stuck,
+}
+
+/// What is to be done next.
+#[derive(Drop)]
+pub(crate) enum Found {
+    /// A link is to be opened over this.
+    Fresh(Box<Conn>),
+    /// A link has something to do.
+    Link(u32, Sign),
+    /// The stop file stands.
+    Stop,
+}
+
+/// A listener on a port of this machine, and the readiness that the system tells of it and of the
+/// links. It begins to listen as it is first asked, and listens no more once the stop file stands
+/// or 100,000 links were opened.
+pub(crate) struct Lookout<'a, R> {
+    watch: Watch<'a, R>,
+    alloc: Global,
+    /// The port, before it listens.
+    pub(crate) port: Option<u16>,
+    poll: Option<Poll>,
+    pub(crate) listener: Option<TcpListener>,
+    events: Option<Events>,
+    /// Which event of the last wait is next.
+    at: usize,
+    queue: Queue,
+    /// How many connections were taken since the last wait.
+    accepted: u32,
+    /// How many looks for the stop file there were.
+    looks: u64,
+    /// How many links are still to be looked at for silence, and behind which number.
+    unswept: usize,
+    swept: usize,
+}
+
+impl<'a, R> Drop for Lookout<'a, R> {
+    fn drop(self) {
+        let Lookout {
+            watch: _,
+            alloc: _,
+            port: _,
+            poll: _,
+            listener: _,
+            events: _,
+            at: _,
+            queue: _,
+            accepted: _,
+            looks: _,
+            unswept: _,
+            swept: _,
+        } = self;
+    }
+}
+
+impl<'a, R: Files + rt::Clock + Net> Lookout<'a, R> {
+    /// On 127.0.0.1 at the port.
+    pub(crate) fn new(rt: &'a R, alloc: Global, port: u16) -> Self
+        ensures { result.port ≡ Some port }
+    {
+        Lookout {
+            watch: Watch::new(rt),
+            alloc,
+            port: Some(port),
+            poll: None,
+            listener: None,
+            events: None,
+            at: 0,
+            queue: Queue::Empty,
+            accepted: 0,
+            looks: 0,
+            unswept: 0,
+            swept: 0,
+        }
+    }
+
+    /// Begins to listen, where it has not yet.
+    pub(crate) fn listen(&mut self) -> io::Result<()> {
+        let Some(port) = self.port.take() else {
+            return Ok(());
+        };
+        let mut listener = TcpListener::bind(
+            self.watch.rt,
+            SocketAddr::new(IpAddr::V4(Ipv4Addr::LOCALHOST), port),
+        )?;
+        let poll = Poll::new(self.watch.rt)?;
+        poll.registry()
+            .register(&mut listener, DOOR, Interest::READABLE)?;
+        let Ok(events) = Events::with_capacity(self.alloc, MOST_EVENTS) else {
+            return Err(io::Error::from(ErrorKind::OutOfMemory));
+        };
+        self.poll = Some(poll);
+        self.listener = Some(listener);
+        self.events = Some(events);
+        Ok(())
+    }
+
+    /// Where the streams of links are registered.
+    pub(crate) fn registry(&self) -> Option<&Registry> {
+        match &self.poll {
+            Some(poll) => Some(poll.registry()),
+            None => None,
+        }
+    }
+
+    // The next of the links to be looked at whose client was silent for too long.
+    fn next_late(&mut self, ports: &[HostPort]) -> Option<u32>
+        requires { length ports.now ≤ 100_000 }
+        ensures { IfSome result (λ k. (1 ≤ k) × (k ≤ length ports.now)) }
+    {
+        for _ in 0..MOST_SWEPT {
+            if self.unswept == 0 || ports.is_empty() {
+                return None;
+            }
+            self.unswept -= 1;
+            let i = if self.swept < ports.len() {
+                self.swept
+            } else {
+                0
+            };
+            self.swept = i + 1;
+            if ports[i].is_late(self.looks) {
+                return Some(i as u32 + 1);
+            }
+        }
+        None
+    }
+
+    // The token of the next event of the last wait, and whether it tells that the peer has ended.
+    fn take_event(&mut self) -> Option<(Token, bool)> {
+        let Some(events) = &self.events else {
+            return None;
+        };
+        let event = events.iter().as_slice().get(self.at)?;
+        self.at = self.at.saturating_add(1);
+        let ended = event.is_read_closed() || event.is_write_closed() || event.is_error();
+        Some((event.token(), ended))
+    }
+
+    // What an event tells, if there is anything to do.
+    fn told_by(&mut self, token: Token, ended: bool, ports: &[HostPort]) -> Option<Found>
+        requires { length ports.now ≤ 100_000 }
+        ensures { IfSome result (Fits (length ports.now)) }
+    {
+        let link = token.0;
+        if link == 0 {
+            self.queue = Queue::Waiting;
+            return None;
+        }
+        if link > ports.len() || ports[link - 1].conn.is_none() {
+            return None;
+        }
+        let sign = Sign {
+            ended,
+            late: false,
+            looks: self.looks,
+        };
+        Some(Found::Link(link as u32, sign))
+    }
+
+    // Has the system tell of a stream under a number.
+    fn welcome(&mut self, mut stream: TcpStream, number: usize) -> io::Result<Box<Conn>> {
+        let Some(poll) = &self.poll else {
+            return Err(io::Error::from(ErrorKind::NotConnected));
+        };
+        // What is handed over is not to wait for more; a stream that can't be told so serves all
+        // the same.
+        let _ = stream.set_nodelay(true);
+        poll.registry()
+            .register(&mut stream, Token(number), both_ways())?;
+        Conn::new(self.alloc, stream, self.looks)
+    }
+
+    // The connection that waits, under a number; none where none does or enough were taken, and
+    // where one had to be dropped. An accept that failed for a reason that passes is tried again
+    // behind the next wait.
+    fn next_conn(&mut self, number: usize) -> io::Result<Option<Box<Conn>>> {
+        if self.queue != Queue::Waiting || self.accepted >= MOST_ACCEPTED {
+            return Ok(None);
+        }
+        let Some(listener) = &self.listener else {
+            self.queue = Queue::Empty;
+            return Ok(None);
+        };
+        match listener.accept() {
+            Ok((stream, _)) => {
+                self.accepted += 1;
+                Ok(self.welcome(stream, number).ok())
+            }
+            Err(fault) if fault.kind() == ErrorKind::WouldBlock => {
+                self.queue = Queue::Empty;
+                Ok(None)
+            }
+            Err(fault) if is_lasting(&fault) => Err(fault),
+            Err(_) => {
+                self.queue = Queue::Stuck;
+                Ok(None)
+            }
+        }
+    }
+
+    // Opens the link of a connection that waits, where the stop file does not stand.
+    fn next_fresh(&mut self, opened: usize) -> io::Result<Option<Found>>
+        ensures { IfOk result (λ found. IfSome found (Fits opened)) }
+    {
+        if opened >= MOST_LINKS {
+            return Ok(None);
+        }
+        let Some(conn) = self.next_conn(opened + 1)? else {
+            return Ok(None);
+        };
+        if is_stopped(self.watch.rt)? {
+            return Ok(Some(Found::Stop));
+        }
+        if opened + 1 == MOST_LINKS {
+            self.listener = None;
+        }
+        Ok(Some(Found::Fresh(conn)))
+    }
+
+    // Waits for events, for a moment at most.
+    fn wait(&mut self) -> io::Result<()> {
+        let (Some(poll), Some(events)) = (&mut self.poll, &mut self.events) else {
+            return Err(io::Error::from(ErrorKind::NotConnected));
+        };
+        let millis = match self.queue {
+            Queue::Empty => WAIT_MILLIS,
+            Queue::Waiting => 0,
+            Queue::Stuck => PAUSE_MILLIS,
+        };
+        poll.poll(events, Some(Duration::from_millis(millis)))?;
+        self.at = 0;
+        self.accepted = 0;
+        if self.queue == Queue::Stuck {
+            self.queue = Queue::Waiting;
+        }
+        Ok(())
+    }
+
+    // One step: a look for the stop file where it is time, a link that was silent for too long, an
+    // event of the last wait, a connection, or a wait.
+    fn step(&mut self, ports: &[HostPort]) -> io::Result<Option<Found>>
+        requires { length ports.now ≤ 100_000 }
+        ensures { IfOk result (λ found. IfSome found (Fits (length ports.now))) }
+    {
+        if self.watch.is_due() {
+            if is_stopped(self.watch.rt)? {
+                return Ok(Some(Found::Stop));
+            }
+            self.looks = self.looks.saturating_add(1);
+            self.unswept = ports.len().min(MOST_SWEPT);
+        }
+        if let Some(link) = self.next_late(ports) {
+            let sign = Sign {
+                ended: false,
+                late: true,
+                looks: self.looks,
+            };
+            return Ok(Some(Found::Link(link, sign)));
+        }
+        if let Some((token, ended)) = self.take_event() {
+            return Ok(self.told_by(token, ended, ports));
+        }
+        let fresh = self.next_fresh(ports.len())?;
+        if fresh.is_none() {
+            self.wait()?;
+        }
+        Ok(fresh)
+    }
+
+    /// What is to be done next.
+    pub(crate) fn advance(&mut self, ports: &[HostPort]) -> io::Result<Found>
+        requires { length ports.now ≤ 100_000 }
+        ensures { IfOk result (Fits (length ports.now)) }
+    {
+        self.listen()?;
+        for _ in 0..u64::MAX {
+            if let Some(found) = self.step(ports)? {
+                return Ok(found);
+            }
+        }
+        Ok(Found::Stop)
+    }
+
+    /// Listens no more.
+    pub(crate) fn close(&mut self) {
+        self.listener = None;
+    }
+}

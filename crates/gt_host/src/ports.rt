@@ -1,0 +1,279 @@
+//! Links over TCP that are served side by side on one thread, on this machine alone.
+ghost use Rattle.std.specs.Prelude.{◌≡◌, ◌<◌, ◌≤◌, length, vec_len, vec_capacity, OnOk, IfOk};
+ghost use Rattle.std.specs.Prelude.{[], None, Some, Ok, false};
+ghost use Rattle.gt_io.specs.Ports.{PortReads, PortWrites, FitsGot, FitsTook, readied};
+ghost use Rattle.gt_io.specs.Ports.{open_among, Happens, IsUncalled};
+ghost use Rattle.gt_io.specs.Causes.{Rose};
+ghost use Rattle.gt_host.specs.HostPorts.{port_of, port_in, harbour_of};
+ghost use Rattle.gt_host.specs.Lookouts.{Fits};
+
+use crate::conn::{Conn, Sign};
+use crate::lookout::{Found, Lookout};
+use crate::port::HostPort;
+use gt_io::{Called, Failed, Got, PortEvent, Ports, Took};
+use mio::Registry;
+use std::alloc::Global;
+use std::io;
+use std::net::Net;
+use std::rt::{self, Files};
+
+impl HostPort {
+    /// Whether it has a stream whose client was silent for too long.
+    pub(crate) fn is_late(&self, looks: u64) -> bool {
+        match &self.conn {
+            Some(conn) => conn.is_late(looks),
+            None => false,
+        }
+    }
+
+    fn draw(
+        &mut self,
+        registry: Option<&Registry>,
+        link: u32,
+        buf: &mut [u8],
+    ) -> Result<Got, Failed>
+        requires { 0 < length buf.old }
+        ensures bound { IfOk result (FitsGot (length buf.new)) }
+        ensures same { port_of self.new ≡ port_of self.old }
+    {
+        let Some(conn) = &mut self.conn else {
+            return Ok(Got::Finished);
+        };
+        match conn.draw(registry, link, buf) {
+            Ok(got) => Ok(got),
+            Err(_) => {
+                self.conn = None;
+                Err(Failed)
+            }
+        }
+    }
+
+    fn read(
+        &mut self,
+        registry: Option<&Registry>,
+        link: u32,
+        buf: &mut [u8],
+    ) -> Result<Got, Failed>
+        requires { 0 < length buf.old }
+        ensures bound { IfOk result (FitsGot (length buf.new)) }
+        ensures port { PortReads (port_of self.old) (port_of self.new) buf.new result }
+    {
+        let answer = self.draw(registry, link, buf);
+        self.last = Called::Read(answer);
+        match answer {
+            Ok(Got::Bytes(_)) => {}
+            Ok(Got::Finished) => self.owed = false,
+            Ok(Got::NotYet) => self.owed = false,
+            Err(_) => self.owed = false,
+        }
+        answer
+    }
+
+    fn take(&mut self, piece: &[u8]) -> Result<Took, Failed>
+        requires { 0 < length piece.now }
+        ensures bound { IfOk result (FitsTook (length piece.now)) }
+        ensures same { port_of self.new ≡ port_of self.old }
+    {
+        let Some(conn) = &mut self.conn else {
+            return Err(Failed);
+        };
+        match conn.take(piece) {
+            Ok(took) => Ok(took),
+            Err(_) => {
+                self.conn = None;
+                Err(Failed)
+            }
+        }
+    }
+
+    fn write(&mut self, piece: &[u8]) -> Result<Took, Failed>
+        requires { 0 < length piece.now }
+        ensures bound { IfOk result (FitsTook (length piece.now)) }
+        ensures port { PortWrites (port_of self.old) (port_of self.new) piece.now result }
+    {
+        let answer = self.take(piece);
+        self.last = Called::Wrote(answer);
+        match answer {
+            Ok(Took::Bytes(_)) => {}
+            Ok(Took::NotYet) => self.owed = false,
+            Err(_) => self.owed = false,
+        }
+        answer
+    }
+
+    fn wake(&mut self, sign: Sign)
+        ensures { port_of self.new ≡ readied (port_of self.old) }
+    {
+        if let Some(conn) = &mut self.conn {
+            conn.wake(sign);
+        }
+        self.owed = self.finished.is_none();
+    }
+
+    // Hands over what the stream takes at once, and drops it.
+    fn end(&mut self, nexts: u64)
+        ensures { port_of self.new
+            ≡ record (port_of self.old) { owed = false; finished = Some nexts } }
+    {
+        if let Some(conn) = &mut self.conn {
+            conn.end();
+        }
+        self.conn = None;
+        self.owed = false;
+        self.finished = Some(nexts);
+    }
+}
+
+/// A listener on a port of this machine with its connections, as ports. They tell no bytes. They
+/// begin to listen as they are first asked what happens. They stop where the stop file stands,
+/// which is looked for four times in a second and as a connection comes, which is then dropped.
+/// Where the listener could not be made, or fails for good, they fail. Replies are held back until
+/// bytes are next read from their link, or many are held; those that a stream does not take as its
+/// link is let go are lost. A link that broke fails alone, and one whose client is silent for ten
+/// minutes is at its end.
+pub struct HostPorts<'a, R> {
+    pub(crate) lookout: Lookout<'a, R>,
+    pub(crate) ports: Vec<HostPort>,
+    /// How many links are open.
+    busy: u64,
+    told: Option<Result<PortEvent, Failed>>,
+    nexts: u64,
+    faults: u64,
+    ghost few: { length ports.items ≤ 100_000 },
+    ghost counted: { busy ≡ open_among (port_in ports.items) (length ports.items) },
+}
+
+impl<'a, R> Drop for HostPorts<'a, R> {
+    fn drop(self) {
+        let HostPorts {
+            lookout: _,
+            ports: _,
+            busy: _,
+            told: _,
+            nexts: _,
+            faults: _,
+        } = self;
+    }
+}
+
+// A count of faults that has risen.
+fn raised(faults: u64) -> u64
+    ensures later { faults ≤ result }
+    ensures rose { Rose faults result }
+{
+    faults.saturating_add(1)
+}
+
+impl<'a, R: Files + rt::Clock + Net> HostPorts<'a, R> {
+    /// Ports on 127.0.0.1 at the port.
+    pub fn new(rt: &'a R, alloc: Global, port: u16) -> Self
+        ensures port { result.lookout.port ≡ Some port }
+        ensures harbour { ⟦<HostPorts<'a, R> as Ports>⟧.harbour result ≡ harbour_of None 0 [] 0 }
+        ensures uncalled { IsUncalled (⟦<HostPorts<'a, R> as Ports>⟧.harbour result) }
+    {
+        HostPorts {
+            lookout: Lookout::new(rt, alloc, port),
+            ports: Vec::new(alloc),
+            busy: 0,
+            told: None,
+            nexts: 0,
+            faults: 0,
+        }
+    }
+
+    // Opens the link of a connection.
+    fn begin(&mut self, conn: Box<Conn>) -> PortEvent
+        requires room { vec_len self.old.ports < vec_capacity self.old.ports }
+        requires few { length self.old.ports.items < 100_000 }
+        ensures kept { (self.new.told ≡ self.old.told) × (self.new.nexts ≡ self.old.nexts) }
+        ensures happens { Happens (⟦<HostPorts<'a, R> as Ports>⟧.harbour self.old)
+            (⟦<HostPorts<'a, R> as Ports>⟧.harbour self.new) (Ok result) }
+    {
+        self.ports.push_reserved(HostPort {
+            conn: Some(conn),
+            last: Called::Nothing,
+            owed: false,
+            others: self.busy,
+            finished: None,
+        });
+        self.busy = self.busy.saturating_add(1);
+        PortEvent::Opened(self.ports.len() as u32)
+    }
+
+    // Has a link be ready.
+    fn wake(&mut self, link: u32, sign: Sign) -> PortEvent
+        requires known { (1 ≤ link) × (link ≤ length self.old.ports.items) }
+        ensures kept { (self.new.told ≡ self.old.told) × (self.new.nexts ≡ self.old.nexts) }
+        ensures happens { Happens (⟦<HostPorts<'a, R> as Ports>⟧.harbour self.old)
+            (⟦<HostPorts<'a, R> as Ports>⟧.harbour self.new) (Ok result) }
+    {
+        self.ports[link as usize - 1].wake(sign);
+        PortEvent::Ready(link)
+    }
+
+    // What is to be done next, with room for a further link.
+    fn found(&mut self) -> io::Result<Found>
+        ensures same { ⟦<HostPorts<'a, R> as Ports>⟧.harbour self.new
+            ≡ ⟦<HostPorts<'a, R> as Ports>⟧.harbour self.old }
+        ensures room { OnOk result (vec_len self.new.ports < vec_capacity self.new.ports) }
+        ensures fits { IfOk result (Fits (length self.new.ports.items)) }
+    {
+        if self.ports.reserve(1).is_err() {
+            return Err(io::Error::from(io::ErrorKind::OutOfMemory));
+        }
+        self.lookout.advance(&self.ports)
+    }
+
+    // The answer to a call that was counted.
+    pub(crate) fn answer(&mut self) -> Result<PortEvent, Failed>
+        ensures kept { (self.new.told ≡ self.old.told) × (self.new.nexts ≡ self.old.nexts) }
+        ensures happens { Happens (⟦<HostPorts<'a, R> as Ports>⟧.harbour self.old)
+            (⟦<HostPorts<'a, R> as Ports>⟧.harbour self.new) result }
+    {
+        match self.found() {
+            Ok(Found::Fresh(conn)) => Ok(self.begin(conn)),
+            Ok(Found::Link(link, sign)) => Ok(self.wake(link, sign)),
+            Ok(Found::Stop) => {
+                self.lookout.close();
+                Ok(PortEvent::Stop)
+            }
+            Err(_) => {
+                self.lookout.close();
+                self.faults = raised(self.faults);
+                Err(Failed)
+            }
+        }
+    }
+}
+
+impl<'a, R: Files + rt::Clock + Net> Ports for HostPorts<'a, R> {
+    ghost harbour = { λ p. harbour_of p.told p.nexts p.ports.items p.faults };
+
+    fn next(&mut self) -> Result<PortEvent, Failed> {
+        self.nexts = self.nexts.saturating_add(1);
+        let answer = self.answer();
+        self.told = Some(answer);
+        answer
+    }
+
+    fn read(&mut self, link: u32, buf: &mut [u8]) -> Result<Got, Failed> {
+        let answer = self.ports[link as usize - 1].read(self.lookout.registry(), link, buf);
+        if answer.is_err() {
+            self.faults = raised(self.faults);
+        }
+        answer
+    }
+
+    fn write(&mut self, link: u32, piece: &[u8]) -> Result<Took, Failed> {
+        let answer = self.ports[link as usize - 1].write(piece);
+        if answer.is_err() {
+            self.faults = raised(self.faults);
+        }
+        answer
+    }
+
+    fn finish(&mut self, link: u32) {
+        self.ports[link as usize - 1].end(self.nexts);
+        self.busy = self.busy.saturating_sub(1);
+    }
+}

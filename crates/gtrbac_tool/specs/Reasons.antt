@@ -1,0 +1,42 @@
+-- That what is told of an event of a settled set has a reason, and a converse where it is blocked.
+use Rattle.std.specs.Prelude.{◌≡◌, ◌⊎◌, ℕ, ◌≤◌, true, ⊤, List, length, Some}
+use Rattle.gt_base.specs.Held.{TriggerView}
+use Rattle.gt_base.specs.Events.{converse}
+use Rattle.gt_base.specs.Happening.{HappenedView}
+use Rattle.gt_base.specs.Sets.{has}
+use Rattle.gt_base.specs.declared.events.Event.{Event}
+use Rattle.gt_base.specs.declared.events.Prioritised.{Prioritised}
+use Rattle.gt_base.specs.declared.requests.Seen.{Seen}
+use Rattle.gt_base.specs.declared.requests.Seen.TheVariants.{Unblocked, Blocked, Absent}
+use Rattle.gtrbac_model.specs.Conflict.{Status, greatest_below, seen, stands_at}
+use Rattle.gtrbac_model.specs.Instant.{Settled}
+use Rattle.gtrbac_tool.specs.Standing.{at_prio, first_raising}
+
+-- the priorities of the set are those that lines can say
+abbrev pub HasPriorities : HappenedView → Type 0
+HasPriorities x = (e : Prioritised) → has x.events e ≡ true → e.prio ≤ 100
+
+-- the event is in the base, or a trigger raises it, and so a first one of them, numbered from 1
+abbrev pub HasReason : List TriggerView → HappenedView → Status → HappenedView → Prioritised
+    → Type 0
+HasReason rules base before x e =
+    (has base.events e ≡ true)
+    ⊎ ((n : ℕ) × (1 ≤ n) × (n ≤ length rules) × (first_raising x before e 1 rules ≡ Some n))
+
+-- the converse is in the set, and so at a greatest priority
+abbrev pub HasConverse : HappenedView → Event → Type 0
+HasConverse x e = (q : ℕ) × (q ≤ 100) × (greatest_below (stands_at x (converse e)) 101 ≡ Some q)
+
+abbrev pub IsExplained : List TriggerView → HappenedView → Status → HappenedView → Event → Seen
+    → Type 0
+IsExplained rules base before x e Absent = ⊤
+IsExplained rules base before x e (Unblocked p) = HasReason rules base before x (at_prio p e)
+IsExplained rules base before x e (Blocked p) =
+    HasReason rules base before x (at_prio p e) × HasConverse x e
+
+-- so it is of each set that a base settles to, whatever the triggers
+abbrev pub ReasonsExist : Type 0
+ReasonsExist =
+    (rules : List TriggerView) (base : HappenedView) (before : Status) (x : HappenedView)
+    → Settled rules base before x → HasPriorities x
+    → (e : Event) → IsExplained rules base before x e (seen x e)

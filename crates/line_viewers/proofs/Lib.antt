@@ -1,0 +1,7 @@
+pub mod Ascending
+pub mod Longer
+pub mod LineDone
+pub mod NoMinutes
+pub mod Acting
+pub mod Closing
+pub mod Linking

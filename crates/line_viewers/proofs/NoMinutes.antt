@@ -1,0 +1,65 @@
+-- A line of a connection never says a minute: `@` stands in scripts alone.
+use Rattle.std.proofs.Common.{◌≡◌, ℕ, Bool, true, false, List, [], ◌∷◌, Option, Some, None, Result, Ok, Err, subst}
+use Rattle.std.specs.Prelude.{codes, bytes_eq}
+use Rattle.gt_base.specs.declared.requests.Actor.{Actor}
+use Rattle.gt_base.specs.declared.requests.Actor.TheVariants.{Nobody}
+use Rattle.gt_base.specs.declared.requests.Request.{Request}
+use Rattle.gt_text.specs.Lines.{is_longer}
+use Rattle.gt_text.specs.Words.{words_of, are_silent}
+use Rattle.policy_words.specs.Naming.{NamedPolicy}
+use Rattle.policy_words.specs.Wording.{◌>>=◌}
+use Rattle.request_text.specs.declared.lines.Line.{Line}
+use Rattle.request_text.specs.declared.lines.Line.TheVariants.{Silent, At, Be, Ask}
+use Rattle.request_text.specs.declared.lines.LineFault.{LineFault}
+use Rattle.request_text.specs.declared.lines.LineFault.TheVariants.{Long}
+use Rattle.request_text.specs.declared.phrases.NamedRequest.{NamedRequest}
+use Rattle.request_text.specs.declared.phrases.Phrase.{Phrase}
+use Rattle.request_text.specs.Phrases.{actor_in, request_in, be_actor, ask_request, phrase_in, request_of, actor_of, meant, said, read_line}
+
+abbrev pub HasNoMinute : Result Line LineFault → Type 0
+HasNoMinute (Ok (At t)) = ⊥
+HasNoMinute (Ok Silent) = Unit {0}
+HasNoMinute (Ok (Be actor)) = Unit {0}
+HasNoMinute (Ok (Ask request)) = Unit {0}
+HasNoMinute (Err fault) = Unit {0}
+
+module _ (np : NamedPolicy) where
+  of_actor : (o : Option Actor) → HasNoMinute (meant np (o >>= (λ a. Some (Be a))))
+  of_actor None = tt
+  of_actor (Some a) = tt
+
+  of_request : (o : Option Request) → HasNoMinute (meant np (o >>= (λ q. Some (Ask q))))
+  of_request None = tt
+  of_request (Some q) = tt
+
+  of_be : (o : Option (Option (List ℕ))) → HasNoMinute (said np Nobody (be_actor o))
+  of_be None = tt
+  of_be (Some user) = of_actor (actor_of np Nobody user)
+
+  of_ask : (o : Option NamedRequest) → HasNoMinute (said np Nobody (ask_request o))
+  of_ask None = tt
+  of_ask (Some request) = of_request (request_of np request)
+
+  of_words : (ws : List (List ℕ)) → HasNoMinute (said np Nobody (phrase_in false ws))
+  of_words [] = tt
+  of_words (w ∷ ws) =
+      elim (bytes_eq w (codes "as")) as (λ b. HasNoMinute (said np Nobody (elim b as (λ _. Option Phrase) [ true ↦ be_actor (actor_in ws) | false ↦ ask_request (request_in w ws) ]))) [
+        | true ↦ of_be (actor_in ws)
+        | false ↦ of_ask (request_in w ws)
+      ]
+
+  of_line : (line : List ℕ) → HasNoMinute (read_line np Nobody false line)
+  of_line line =
+      elim (is_longer 512 line) as (λ b. HasNoMinute (elim b as (λ _. Result Line LineFault) [
+        | true ↦ Err Long
+        | false ↦ elim (are_silent (words_of line)) as (λ _. Result Line LineFault) [ true ↦ Ok Silent | false ↦ said np Nobody (phrase_in false (words_of line)) ]
+      ])) [
+        | true ↦ tt
+        | false ↦ elim (are_silent (words_of line)) as (λ b. HasNoMinute (elim b as (λ _. Result Line LineFault) [ true ↦ Ok Silent | false ↦ said np Nobody (phrase_in false (words_of line)) ])) [
+          | true ↦ tt
+          | false ↦ of_words (words_of line)
+        ]
+      ]
+
+  pub no_minute : (line : List ℕ) (said : Result Line LineFault) → read_line np Nobody false line ≡ said → HasNoMinute said
+  no_minute line said is = subst HasNoMinute is (of_line line)

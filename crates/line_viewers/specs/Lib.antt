@@ -1,0 +1,4 @@
+pub mod Viewed
+pub mod Boxes
+pub mod Viewing
+pub mod Crew

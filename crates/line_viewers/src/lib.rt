@@ -1,0 +1,13 @@
+//! Serves the links of viewers: each line that only looks is answered by a glance, without the lock.
+#![tactic(auto)]
+
+mod ends;
+mod inbox;
+mod lines;
+mod serve;
+mod showing;
+mod viewers;
+
+pub use ends::{ViewEnd, Viewed, ViewerEnd};
+pub use serve::view_link;
+pub use viewers::{Viewer, view};

@@ -1,0 +1,25 @@
+//! What a viewer's connection has come to, and what a line is told.
+use gt_base::{Actor, List};
+use request_text::LineFault;
+
+/// The actor of the lines that follow, the numbers of entries of the histories that were shown, how many request lines were answered by
+/// `no memory`, and how many request lines the viewer had.
+#[derive(Drop)]
+pub struct Showing {
+    pub actor: Actor,
+    pub lens: List<u64>,
+    pub denied: u64,
+    pub calls: u64,
+}
+
+/// What a line is told.
+#[derive(Drop)]
+pub enum Told {
+    Silence,
+    Agreed,
+    Bad(LineFault),
+    /// The text of its reply.
+    Reply(List<u8>),
+    NoMemory,
+    ViewOnly,
+}

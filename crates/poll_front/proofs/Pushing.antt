@@ -1,0 +1,52 @@
+-- Calls on one open link, one after another.
+use Rattle.std.proofs.Common.{◌≡◌, ◌≢◌, ℕ, ◌+◌, ◌<◌, ◌≤◌, false, List, [], ◌∷◌, ◌++◌, length, take, drop, refl, sym, ap, subst, ◌∙◌, arith, append-nil, append_assoc, Option, Some, None, Result, Ok, Err}
+use Rattle.std.proofs.Math.Seq.{take-add}
+use Rattle.std.specs.Io.KnownBytes.{Appends, Consumes, IsAtEnd}
+use Rattle.std.proofs.KnownBytes.{Appends-trans}
+use Rattle.gt_io.specs.declared.source.Failed.{Failed}
+use Rattle.gt_io.specs.declared.port.Got.{Got}
+use Rattle.gt_io.specs.declared.port.Took.{Took}
+use Rattle.gt_io.specs.declared.port.Took.TheVariants.{Bytes, NotYet}
+use Rattle.gt_io.specs.declared.port.Called.TheVariants.{Wrote}
+use Rattle.gt_io.specs.Ports.{Port, Harbour, IsOpen, KeepsRest, ReadsPort, WritesPort, Finishes, is_over}
+use Rattle.poll_front.specs.Fronts.{Tends}
+
+pub rest_twice : (a b d : Harbour) (c : ℕ) → KeepsRest a b c → KeepsRest b d c → KeepsRest a d c
+rest_twice a b d c x y =
+    record { told = y.told ∙ x.told; nexts = y.nexts ∙ x.nexts; opened = y.opened ∙ x.opened; others = λ k away. y.others k away ∙ x.others k away }
+
+pub tends_none : (a : Harbour) (c : ℕ) → Tends a a c
+tends_none a c =
+    record { rest = record { told = refl; nexts = refl; opened = refl; others = λ k away. refl }; finished = refl; others = refl; later = omega arith }
+
+pub tends_twice : (a b d : Harbour) (c : ℕ) → Tends a b c → Tends b d c → Tends a d c
+tends_twice a b d c x y =
+    record {
+      rest = rest_twice a b d c x.rest y.rest;
+      finished = y.finished ∙ x.finished;
+      others = y.others ∙ x.others;
+      later = let l = x.later in let m = y.later in omega (arith, l, m);
+    }
+
+pub tends_write : (b d : Harbour) (c : ℕ) (piece : List ℕ) (result : Result Took Failed) → WritesPort b d c piece result → Tends b d c
+tends_write b d c piece result w =
+    record { rest = w.rest; finished = ap (λ (q : Port). q.finished) w.port.rest; others = ap (λ (q : Port). q.others) w.port.rest; later = w.cause.later }
+
+pub tends_read : (b d : Harbour) (c : ℕ) (buf : List ℕ) (result : Result Got Failed) → ReadsPort b d c buf result → Tends b d c
+tends_read b d c buf result w =
+    record { rest = w.rest; finished = ap (λ (q : Port). q.finished) w.port.rest; others = ap (λ (q : Port). q.others) w.port.rest; later = w.cause.later }
+
+pub open_kept : (a b : Harbour) (c : ℕ) → Tends a b c → IsOpen a c → IsOpen b c
+open_kept a b c t o =
+    let e = t.rest.opened in
+    let last = o.last in
+    record { first = o.first; last = omega (arith, e, last); unfinished = t.finished ∙ o.unfinished }
+
+-- what was given grows by what a write took
+pub given_grows : (start p q : Option (List ℕ)) (front text : List ℕ) (at n : ℕ) → Appends start p (front ++ take at text) → Appends p q (take n (drop at text)) → Appends start q (front ++ take (at + n) text)
+given_grows start p q front text at n given more =
+    subst (λ (l : List ℕ). Appends start q l) (append_assoc front (take at text) (take n (drop at text)) ∙ ap (λ (l : List ℕ). front ++ l) (sym (take-add at n text)))
+    (Appends-trans start p q (front ++ take at text) (take n (drop at text)) given more)
+
+pub given_stays : (start p q : Option (List ℕ)) (given : List ℕ) → Appends start p given → Appends p q [] → Appends start q given
+given_stays start p q given x more = subst (λ (l : List ℕ). Appends start q l) (append-nil given) (Appends-trans start p q given [] x more)

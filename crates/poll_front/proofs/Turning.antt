@@ -1,0 +1,118 @@
+-- A turn behind those that were made.
+use Rattle.std.proofs.Common.{◌≡◌, ◌≢◌, ◌⊎◌, ℕ, ◌+◌, ◌*◌, ◌^◌, ◌<◌, ◌≤◌, Bool, true, false, cond, ◌==◌, ◌&&◌, List, [], ◌∷◌, ◌++◌, length, refl, sym, ap, subst, ◌∙◌, arith, add-zero, append-nil, append_assoc, length-append, ne_eqb, eq-eqb, Option, Result, Ok, Err}
+use Rattle.std.proofs.lemmas.Bool.{eqb-true, eqb-false}
+use mathlib.Core.List.{IsPrefix}
+use Rattle.gt_base.specs.declared.requests.Who.{Who}
+use Rattle.gt_base.specs.declared.requests.Actor.{Actor}
+use Rattle.gt_base.specs.declared.requests.Actor.TheVariants.{Nobody}
+use Rattle.gt_base.specs.declared.requests.Entry.{Entry}
+use Rattle.gt_io.specs.Links.{Reads}
+use Rattle.gt_io.proofs.Readings.{Reads-trans, Reads-nil}
+use Rattle.turn_lock.specs.Turns.{Each}
+use Rattle.turn_lock.specs.Holders.{Holder}
+use Rattle.locked_history.specs.Fronts.{by}
+use Rattle.policy_words.specs.Naming.{NamedPolicy}
+use Rattle.request_text.specs.declared.lines.Line.{Line}
+use Rattle.request_text.specs.declared.lines.LineFault.{LineFault}
+use Rattle.request_text.specs.Phrases.{read_line}
+use Rattle.connection_laws.specs.Connection.{Acted, Gets, is_who, part_of, actor_after, readings_of, entries_of, AreActed, IsTimed, placed}
+use Rattle.connection_laws.proofs.Longer.{acted_longer}
+use Rattle.connection_laws.proofs.Places.{part_of-append, all_mine, none_mine}
+use Rattle.connection_laws.specs.Turns.{Grows, AreMine}
+use Rattle.connection_laws.proofs.Growing.{grown_none, grown_twice}
+use Rattle.connection_laws.specs.declared.talk.Talk.{Talk}
+use Rattle.connection_laws.specs.declared.talk.Told.{Told}
+use Rattle.poll_front.specs.declared.parties.Pace.{Pace}
+use Rattle.poll_front.specs.Fronts.{Turn, Spot, acted_of, all_acted, Running, Hears}
+
+part_here : (n k : ℕ) (t : Turn) (before : List Acted) (b : Bool) → (t.link == k) ≡ b → AreMine (by n t.link) t.acted.entries
+    → entries_of before ++ part_of (by n k) t.acted.entries ≡ entries_of (cond b (t.acted ∷ before) before)
+part_here n k t before true is mine =
+    let same : t.link ≡ k = eqb-true t.link k is in
+    ap (λ (l : List Entry). entries_of before ++ l) (all_mine (by n k) t.acted.entries (subst (λ (c : ℕ). AreMine (by n c) t.acted.entries) same mine))
+part_here n k t before false is mine =
+    ap (λ (l : List Entry). entries_of before ++ l) (none_mine n t.link k t.acted.entries (eqb-false t.link k is) mine) ∙ append-nil (entries_of before)
+
+-- the entries of one link among those of all
+pub part_turns : (n k : ℕ) (turns : List Turn) → Each (λ (t : Turn). AreMine (by n t.link) t.acted.entries) turns → part_of (by n k) (entries_of (all_acted turns)) ≡ entries_of (acted_of k turns)
+part_turns n k [] mine = refl
+part_turns n k (t ∷ ts) mine =
+    part_of-append (by n k) (entries_of (all_acted ts)) t.acted.entries
+    ∙ ap (λ (l : List Entry). l ++ part_of (by n k) t.acted.entries) (part_turns n k ts mine.1)
+    ∙ part_here n k t (acted_of k ts) (t.link == k) refl mine.0
+
+-- so many entries of the link stand before its next line
+pub placed_turns : (n k : ℕ) (first own own' : List Entry) (turns : List Turn) → own' ≡ own ++ entries_of (all_acted turns) → Each (λ (t : Turn). AreMine (by n t.link) t.acted.entries) turns
+    → placed (by n k) first own' ≡ placed (by n k) first own + length (entries_of (acted_of k turns))
+placed_turns n k first own own' turns is mine =
+    let a = ap (λ (l : List Entry). length l)
+    (ap (part_of (by n k)) is ∙ part_of-append (by n k) own (entries_of (all_acted turns)) ∙ ap (λ (l : List Entry). part_of (by n k) own ++ l) (part_turns n k turns mine)) in
+    let b = length-append (part_of (by n k) own) (entries_of (acted_of k turns)) in
+    omega (arith, a, b)
+
+-- a turn of this link, and of another
+pub acted_here : (c : ℕ) (t : Turn) (turns : List Turn) → t.link ≡ c → acted_of c (t ∷ turns) ≡ t.acted ∷ acted_of c turns
+acted_here c t turns same = ap (λ b. cond b (t.acted ∷ acted_of c turns) (acted_of c turns)) (eq-eqb t.link c same)
+
+pub acted_apart : (c : ℕ) (t : Turn) (turns : List Turn) → t.link ≢ c → acted_of c (t ∷ turns) ≡ acted_of c turns
+acted_apart c t turns other = ap (λ b. cond b (t.acted ∷ acted_of c turns) (acted_of c turns)) (ne_eqb t.link c other)
+
+pub apart_all : (c k : ℕ) (more turns : List Turn) → Each (λ (t : Turn). t.link ≡ c) more → k ≢ c → acted_of k (more ++ turns) ≡ acted_of k turns
+apart_all c k [] turns own other = refl
+apart_all c k (t ∷ ts) turns own other =
+    acted_apart k t (ts ++ turns) (λ same. other (sym same ∙ own.0)) ∙ apart_all c k ts turns own.1 other
+
+module _ {M : Type 0} (np : NamedPolicy) (first : List Entry) (legal : List Entry → Type 0) (now : List Entry → ℕ) (number : ℕ) where
+  fits_next : (k c : ℕ) (o p p' : Spot M) (turns : List Turn) (talk talk' : Talk) (line : List ℕ) (told : Told) (b : Bool) → (c == k) ≡ b
+      → (g : Running np first legal now number o p turns) → talk.actor ≡ actor_after np (acted_of c turns)
+      → (x : Hears np first legal now (by number c) p.pass p'.pass talk talk' p.pace p'.pace p.clock p'.clock line told)
+      → (birth : ℕ) → IsTimed birth legal now
+      → AreActed np birth (by number k) p'.pass.seen (placed (by number k) first o.pass.own) (cond b (x.acted ∷ acted_of k turns) (acted_of k turns))
+  fits_next k c o p p' turns talk talk' line told true same g speaks x birth timed =
+      let a = x.acted in
+      let said : Result Line LineFault = read_line np Nobody false line in
+      let said_is : read_line np Nobody false line ≡ read_line np Nobody false a.line = ap (read_line np Nobody false) (sym x.line_is) in
+      let is : c ≡ k = eqb-true c k same in
+      let own_is : p.pass.own ≡ o.pass.own ++ entries_of (all_acted turns) = ap (λ (q : Holder M). q.own) g.grows.after_is in
+      let place = placed_turns number c first o.pass.own p.pass.own turns own_is g.mine in
+      let here : AreActed np birth (by number c) p'.pass.seen (placed (by number c) first o.pass.own) (a ∷ acted_of c turns) = (
+        acted_longer np birth (by number c) p.pass.seen p'.pass.seen x.grows.seen (placed (by number c) first o.pass.own) (acted_of c turns) (g.fits c birth timed),
+        subst (λ (s : Result Line LineFault). Gets birth (by number c) p'.pass.seen s (actor_after np (acted_of c turns)) (placed (by number c) first o.pass.own + length (entries_of (acted_of c turns))) a) said_is
+            (subst (λ (n : ℕ). Gets birth (by number c) p'.pass.seen said (actor_after np (acted_of c turns)) n a) place
+            (subst (λ (y : Actor). Gets birth (by number c) p'.pass.seen said y (placed (by number c) first p.pass.own) a) speaks (x.gets birth timed))),
+      ) in
+      subst (λ (j : ℕ). AreActed np birth (by number j) p'.pass.seen (placed (by number j) first o.pass.own) (a ∷ acted_of j turns)) is here
+  fits_next k c o p p' turns talk talk' line told false other g speaks x birth timed =
+      acted_longer np birth (by number k) p.pass.seen p'.pass.seen x.grows.seen (placed (by number k) first o.pass.own) (acted_of k turns) (g.fits k birth timed)
+
+  -- a line of link c behind the lines so far
+  pub running_on : (c : ℕ) (o p p' : Spot M) (turns : List Turn) (talk talk' : Talk) (line : List ℕ) (told : Told)
+      → (g : Running np first legal now number o p turns) → talk.actor ≡ actor_after np (acted_of c turns)
+      → (x : Hears np first legal now (by number c) p.pass p'.pass talk talk' p.pace p'.pace p.clock p'.clock line told)
+      → Running np first legal now number o p' (record { link = c; acted = x.acted } ∷ turns)
+  running_on c o p p' turns talk talk' line told g speaks x =
+      let a = x.acted in
+      let es = entries_of (all_acted turns) in
+      let rs = readings_of (all_acted turns) in
+      let h = grown_twice o.pass p.pass p'.pass es a.entries (2 * length rs) (2 * length a.readings) g.grows x.grows in
+      let lengths = length-append rs a.readings in
+      record {
+        grows = record { seen = h.seen; after_is = h.after_is; draws_low = h.draws_low; draws_high = let d = h.draws_high in omega (arith, d, lengths) };
+        mine = (x.mine, g.mine);
+        brief = (x.few, g.brief);
+        fits = λ k birth timed. fits_next k c o p p' turns talk talk' line told (c == k) refl g speaks x birth timed;
+        reads = Reads-trans o.clock p.clock p'.clock rs a.readings g.reads x.reads;
+        calls = let c1 = x.calls in let c2 = g.calls in omega (arith, c1, c2, lengths);
+      }
+
+  -- before the first event
+  pub running_none : (o : Spot M) → Running np first legal now number o o []
+  running_none o =
+      record {
+        grows = grown_none o.pass;
+        mine = tt;
+        brief = tt;
+        fits = λ k birth timed. tt;
+        reads = Reads-nil o.clock;
+        calls = sym (add-zero o.pace.calls);
+      }

@@ -1,0 +1,13 @@
+use Rattle.std.proofs.Common.{◌≡◌, refl}
+use Rattle.locked_history.specs.Fronts.{by}
+use Rattle.poll_front.proofs.Hearing.{hears_acts}
+use Rattle.poll_front.proofs.hear.hear.Goals as goal
+
+pub returns-clause-hears : goal.returns-clause-hears
+returns-clause-hears g c =
+    let m = g.M.Machine in
+    let k = g.C.Clock in
+    let x = c.act-told.ensures.acts in
+    hears_acts c.args.policy.now (g.M.Keeps.list c.args.desk.now.root) (m.legal c.args.desk.now.root) (m.now_of c.args.desk.now.root) (by c.args.pass.now.number c.args.link)
+    c.args.pass.now c.act-told.new.pass c.args.talk.now (record c.args.talk.now { calls = c.args.pace.now.calls; reached = c.args.pace.now.reached }) c.act-told.new.talk c.count.new.talk c.args.pace.now (record { calls = c.act-told.new.talk.calls; reached = c.act-told.new.talk.reached }) (k.readings c.args.clock.now) (k.readings c.act-told.new.clock) c.args.line.now c.act-told.result
+    refl x refl (c.count.ensures c.args.policy.now x.acted.answer x.told_is)

@@ -1,0 +1,77 @@
+//! One open link: its bytes are read, its lines are acted on one by one, and each reply is written
+//! before the next line is acted on.
+ghost use Rattle.std.specs.Prelude.{◌≡◌, ◌<◌, ◌≤◌, ◌^◌, ◌+◌, ℕ, length, false, Ok, Err, IfOk};
+ghost use Rattle.gt_io.specs.Links.{Reads};
+ghost use Rattle.turn_lock.specs.Holders.{site_of};
+ghost use Rattle.connection_laws.specs.Desks.{IsNamedActor, AreNamed, RepliesCanBeTold};
+ghost use Rattle.connection_laws.specs.Turns.{IsIdle, IsReached};
+ghost use Rattle.connection_laws.specs.Acting.{told_bytes};
+ghost use Rattle.gt_io.specs.Ports.{Port, IsOpen, ReadsPort};
+ghost use Rattle.poll_front.specs.Fronts.{Turn, Spot, Tends, Running, Stands, Gone, Goes, PushesOut, FillsUp, acted_of};
+
+use crate::ends::PollEnd;
+use crate::parties::{MOST_READ, Pace, Party, Pause};
+use connection_laws::reply_of;
+use gt_io::{Failed, Got, Ports, Took};
+
+// Writes the text from the byte `at` on, as far as the link takes it now.
+fn push_out<P: Ports>(ports: &mut P, link: u32, text: &[u8], at: &mut usize) -> Result<(), Pause>
+    requires open { IsOpen (P.harbour ports.old) link }
+    requires within { at.old ≤ length text.now }
+    ensures { PushesOut (P.harbour ports.old) (P.harbour ports.new) link text.now at.old at.new result }
+{
+    while *at < text.len() {
+        let (_, rest) = text.split_at(*at);
+        match ports.write(link, rest) {
+            Ok(Took::Bytes(n)) => *at += n,
+            Ok(Took::NotYet) => return Err(Pause::Later),
+            Err(_) => return Err(Pause::End(PollEnd::WriteFault)),
+        }
+    }
+    Ok(())
+}
+
+// Writes what is left of the reply to the last line.
+pub(crate) fn write_out<P: Ports>(ports: &mut P, link: u32, party: &mut Party) -> Result<(), Pause>
+    requires open { IsOpen (P.harbour ports.old) link }
+    requires within { party.old.at ≤ length (told_bytes party.old.told) }
+    ensures same { party.new ≡ record party.old { at = party.new.at } }
+    ensures pushes { PushesOut (P.harbour ports.old) (P.harbour ports.new) link (told_bytes party.old.told)
+        party.old.at party.new.at result }
+{
+    push_out(ports, link, reply_of(&party.told), &mut party.at)
+}
+
+// Reads some bytes, `left` at most.
+fn read_some<P: Ports>(ports: &mut P, link: u32, buf: &mut [u8], left: usize) -> Result<Got, Failed>
+    requires open { IsOpen (P.harbour ports.old) link }
+    requires buf { 0 < length buf.old }
+    requires left { 0 < left }
+    ensures reads { ReadsPort (P.harbour ports.old) (P.harbour ports.new) link buf.new result }
+    ensures few { (n : ℕ) → result ≡ Ok (Got.Bytes n) → n ≤ left }
+{
+    let room = left.min(buf.len());
+    ports.read(link, &mut buf[..room])
+}
+
+// Reads the bytes that are to be acted on next.
+pub(crate) fn fill<P: Ports>(ports: &mut P, link: u32, party: &mut Party) -> Result<(), Pause>
+    requires open { IsOpen (P.harbour ports.old) link }
+    requires left { 0 < party.old.left }
+    requires none { party.old.from ≡ party.old.upto }
+    requires within { party.old.upto ≤ 4096 }
+    ensures fills { FillsUp (P.harbour ports.old) (P.harbour ports.new) link party.old party.new result }
+    ensures size { length party.new.chunk ≡ 4096 }
+{
+    match read_some(ports, link, &mut party.chunk, party.left) {
+        Ok(Got::Bytes(n)) => {
+            party.left -= n;
+            party.from = 0;
+            party.upto = n;
+            Ok(())
+        }
+        Ok(Got::Finished) => Err(Pause::End(PollEnd::Ended)),
+        Ok(Got::NotYet) => Err(Pause::Later),
+        Err(_) => Err(Pause::End(PollEnd::ReadFault)),
+    }
+}

@@ -1,0 +1,291 @@
+//! The links of a front: what happens next is told by the ports, and each link that is ready is
+//! served until it is left for another.
+ghost use Rattle.std.specs.Prelude.{◌≡◌, ◌≤◌, ◌<◌, ◌+◌, ◌-◌, ◌++◌, ◌∷◌, [], ℕ, length, vec_len, vec_capacity, OnOk, Some, None, IfSome, IsSomeAnd};
+ghost use Rattle.turn_lock.specs.Holders.{site_of};
+ghost use Rattle.connection_laws.specs.Desks.{AreNamed, RepliesCanBeTold};
+ghost use Rattle.connection_laws.specs.Turns.{IsIdle, IsReached};
+ghost use Rattle.gt_io.specs.Ports.{IsOpen, IsUncalled, Finishes};
+ghost use Rattle.poll_front.specs.Fronts.{most_open};
+ghost use Rattle.poll_front.specs.declared.seats.Seat.{Seat};
+ghost use Rattle.poll_front.specs.Tables.{CanServe, IsFreshParty, IsFreshSeat, SeatServed, Went, Ran, IsOpenSeat, EndsSeat, AreOpenSeats, LetsGo, is_worn_end, first_spot};
+
+use crate::ends::{PollEnd, Polled};
+use crate::parties::{Pace, Party, Pause};
+use crate::seats::Seat;
+use crate::serve::attend;
+use gt_base::{List, Machine, Memory};
+use gt_io::{Clock, Gate, PortEvent, Ports};
+use locked_history::Desk;
+use policy_book::Policy;
+use std::alloc::{AllocError, Global};
+use std::sync::Wait;
+use turn_lock::Pass;
+
+/// How many links are open at most.
+const MOST_OPEN: usize = 1024;
+
+/// How many links are opened at most.
+const MOST_LINKS: usize = 100_000;
+
+/// Why a run ended.
+#[derive(Clone, Copy, PartialEq, Eq, Debug)]
+pub enum RunEnd {
+    /// The ports have stopped.
+    Stopped,
+    /// The ports failed to tell what happens next.
+    PortFault,
+    /// 100,000 links were opened.
+    Enough,
+    /// The pass has drawn 2^40 turns.
+    Worn,
+    /// There was no memory for a further link.
+    Memory,
+}
+
+// Serves the link of a seat, which is ready, where it is open. It answers how the link ended, none
+// where it goes on or had ended before.
+fn serve_seat<M: Machine, R: Wait, P: Ports, C: Clock, G: Gate>(
+    rt: &R,
+    alloc: Global,
+    desk: &Desk<M>,
+    policy: &Policy,
+    pass: &mut Pass<M>,
+    link: u32,
+    ports: &mut P,
+    clock: &mut C,
+    gate: &G,
+    pace: &mut Pace,
+    seat: &mut Seat,
+) -> Option<PollEnd>
+    requires idle { IsIdle (site_of desk.now) pass.old }
+    requires named { AreNamed policy.now (M.named desk.now.root) }
+    requires replies { RepliesCanBeTold policy.now (M.legal desk.now.root) }
+    requires reached { IsReached (M.legal desk.now.root) (M.now_of desk.now.root) pass.old.seen pace.old.reached }
+    requires seat { CanServe policy.now (P.harbour ports.old) link pace.old seat.old }
+    ensures served { SeatServed policy.now (M.list desk.now.root) (M.legal desk.now.root)
+        (M.now_of desk.now.root) pass.old.number
+        (record { pass = pass.old; clock = C.readings clock.old; pace = pace.old })
+        (record { pass = pass.new; clock = C.readings clock.new; pace = pace.new })
+        (P.harbour ports.old) (P.harbour ports.new) link seat.old seat.new result }
+    ensures pass { IsIdle (site_of desk.now) pass.new × (pass.new.number ≡ pass.old.number) }
+    ensures reached { IsReached (M.legal desk.now.root) (M.now_of desk.now.root) pass.new.seen pace.new.reached }
+{
+    let Seat::Open(party) = seat else {
+        return None;
+    };
+    match attend(
+        rt, alloc, desk, policy, pass, link, ports, clock, gate, pace, party,
+    ) {
+        Pause::Later => None,
+        Pause::End(outcome) => {
+            let polled = Polled {
+                asked: party.talk.asked,
+                denied: party.talk.denied,
+                outcome,
+            };
+            ports.finish(link);
+            *seat = Seat::Over(polled);
+            Some(outcome)
+        }
+    }
+}
+
+// Gives a link that was just opened its seat; lets it go at once where as many are open as may be.
+fn seat_next<P: Ports>(
+    link: u32,
+    ports: &mut P,
+    seats: &mut Vec<Seat>,
+    busy: &mut usize,
+    spare: &mut Option<Box<Party>>,
+)
+    requires open { IsOpen (P.harbour ports.old) link }
+    requires room { vec_len seats.old < vec_capacity seats.old }
+    requires spare { IsSomeAnd spare.old (λ b. IsFreshParty b.value) }
+    requires few { busy.old ≤ most_open }
+    ensures fresh { IfSome spare.new (λ b. IsFreshParty b.value) }
+    ensures full { most_open ≤ busy.old
+        → Finishes (P.harbour ports.old) (P.harbour ports.new) link × (busy.new ≡ busy.old)
+        × (spare.new ≡ spare.old)
+        × (seats.new.items
+        ≡ seats.old.items
+        ++ Seat.Over (record { asked = 0; denied = 0; outcome = PollEnd.Full })
+        ∷ []) }
+    ensures seated { busy.old < most_open → (ports.new ≡ ports.old) × (busy.new ≡ busy.old + 1)
+        × ((s : Seat) × IsFreshSeat s × (seats.new.items ≡ seats.old.items ++ s ∷ [])) }
+{
+    if *busy >= MOST_OPEN {
+        ports.finish(link);
+        seats.push_reserved(Seat::Over(Polled {
+            asked: 0,
+            denied: 0,
+            outcome: PollEnd::Full,
+        }));
+        return;
+    }
+    let Some(party) = spare.take() else {
+        unreachable!();
+    };
+    seats.push_reserved(Seat::Open(party));
+    *busy += 1;
+}
+
+// Takes the memory that the next event may need.
+fn make_room(
+    alloc: Global,
+    seats: &mut Vec<Seat>,
+    ends: &mut List<Polled>,
+    spare: &mut Option<Box<Party>>,
+) -> Result<(), Memory>
+    requires { IfSome spare.old (λ b. IsFreshParty b.value) }
+    ensures seats { seats.new.items ≡ seats.old.items }
+    ensures ends { ends.new.items ≡ ends.old.items }
+    ensures room { OnOk result
+        ((vec_len seats.new < vec_capacity seats.new)
+        × (vec_len seats.new + 1 ≤ ends.new.spare)) }
+    ensures kept { ends.old.spare ≤ ends.new.spare }
+    ensures spare { OnOk result (IsSomeAnd spare.new (λ b. IsFreshParty b.value)) }
+    ensures fresh { IfSome spare.new (λ b. IsFreshParty b.value) }
+{
+    seats.reserve(1)?;
+    ends.reserve(seats.len() + 1)?;
+    if spare.is_none() {
+        *spare = Some(Box::new(alloc, Party::new())?);
+    }
+    Ok(())
+}
+
+// How a link ended, or that it is let go now.
+fn end_of<P: Ports>(link: u32, ports: &mut P, seat: &Seat) -> Polled
+    requires { IsOpenSeat seat.now → IsOpen (P.harbour ports.old) link }
+    ensures { EndsSeat (P.harbour ports.old) (P.harbour ports.new) link seat.now result }
+{
+    match seat {
+        Seat::Open(party) => {
+            ports.finish(link);
+            Polled {
+                asked: party.talk.asked,
+                denied: party.talk.denied,
+                outcome: PollEnd::Stopped,
+            }
+        }
+        Seat::Over(polled) => *polled,
+    }
+}
+
+// Whether the pass of a link is worn.
+fn is_worn(end: PollEnd) -> bool
+    ensures { result ≡ is_worn_end end }
+{
+    matches!(end, PollEnd::Worn { .. })
+}
+
+// Serves the links until the run ends.
+fn serve_all<M: Machine, R: Wait, P: Ports, C: Clock, G: Gate>(
+    rt: &R,
+    alloc: Global,
+    desk: &Desk<M>,
+    policy: &Policy,
+    pass: &mut Pass<M>,
+    ports: &mut P,
+    clock: &mut C,
+    gate: &G,
+    pace: &mut Pace,
+    seats: &mut Vec<Seat>,
+    ends: &mut List<Polled>,
+) -> RunEnd
+    requires idle { IsIdle (site_of desk.now) pass.old }
+    requires named { AreNamed policy.now (M.named desk.now.root) }
+    requires replies { RepliesCanBeTold policy.now (M.legal desk.now.root) }
+    requires none { (seats.old.items ≡ []) × (ends.old.items ≡ []) }
+    requires ports { IsUncalled (P.harbour ports.old) }
+    requires pace { (pace.old.calls ≡ 0) × (pace.old.reached ≡ None) }
+    ensures went { Went policy.now (M.list desk.now.root) (M.legal desk.now.root) (M.now_of desk.now.root)
+        pass.old.number
+        (record { pass = pass.old; clock = C.readings clock.old; pace = pace.old })
+        (record { pass = pass.new; clock = C.readings clock.new; pace = pace.new })
+        (P.harbour ports.old) (P.harbour ports.new) seats.new.items result }
+    ensures few { length seats.new.items ≤ 100_000 }
+    ensures room { length seats.new.items ≤ ends.new.spare }
+    ensures ends { ends.new.items ≡ [] }
+    ensures pass { IsIdle (site_of desk.now) pass.new × (pass.new.number ≡ pass.old.number) }
+{
+    let mut busy = 0;
+    let mut spare = None;
+    for _ in rt.forever() {
+        if make_room(alloc, seats, ends, &mut spare).is_err() {
+            return RunEnd::Memory;
+        }
+        match ports.next() {
+            Ok(PortEvent::Opened(link)) => {
+                seat_next(link, ports, seats, &mut busy, &mut spare);
+                if seats.len() == MOST_LINKS {
+                    return RunEnd::Enough;
+                }
+            }
+            Ok(PortEvent::Ready(link)) => {
+                let seat = &mut seats[link as usize - 1];
+                if let Some(end) = serve_seat(
+                    rt, alloc, desk, policy, pass, link, ports, clock, gate, pace, seat,
+                ) {
+                    busy -= 1;
+                    if is_worn(end) {
+                        return RunEnd::Worn;
+                    }
+                }
+            }
+            Ok(PortEvent::Stop) => return RunEnd::Stopped,
+            Err(_) => return RunEnd::PortFault,
+        }
+    }
+    unreachable!()
+}
+
+// Lets the links go that are open, and tells how each link ended.
+fn let_go<P: Ports>(ports: &mut P, seats: &[Seat], ends: &mut List<Polled>)
+    requires room { length seats.now ≤ ends.old.spare }
+    requires none { ends.old.items ≡ [] }
+    requires few { length seats.now ≤ 100_000 }
+    requires open { AreOpenSeats (P.harbour ports.old) 0 seats.now }
+    ensures { LetsGo (P.harbour ports.old) (P.harbour ports.new) seats.now ends.new.items }
+{
+    for i in 0..seats.len() {
+        let polled = end_of(i as u32 + 1, ports, &seats[i]);
+        ends.push(polled);
+    }
+}
+
+/// Serves links until the ports stop or fail, 100,000 were opened, the pass is worn, or there is no
+/// memory for a further link; lets the links go that are then open; and tells how each link ended,
+/// in their order. The pass is the only one of its desk.
+pub fn run<M: Machine, R: Wait, P: Ports, C: Clock, G: Gate>(
+    rt: &R,
+    alloc: Global,
+    desk: &Desk<M>,
+    policy: &Policy,
+    pass: &mut Pass<M>,
+    ports: &mut P,
+    clock: &mut C,
+    gate: &G,
+    ends: &mut List<Polled>,
+) -> RunEnd
+    requires idle { IsIdle (site_of desk.now) pass.old }
+    requires named { AreNamed policy.now (M.named desk.now.root) }
+    requires replies { RepliesCanBeTold policy.now (M.legal desk.now.root) }
+    requires none { ends.old.items ≡ [] }
+    requires ports { IsUncalled (P.harbour ports.old) }
+    ensures ran { Ran policy.now (M.list desk.now.root) (M.legal desk.now.root) (M.now_of desk.now.root)
+        pass.old.number pass.old pass.new (C.readings clock.old) (C.readings clock.new)
+        (P.harbour ports.old) (P.harbour ports.new) ends.new.items result }
+    ensures pass { IsIdle (site_of desk.now) pass.new × (pass.new.number ≡ pass.old.number) }
+{
+    let mut seats = Vec::new(alloc);
+    let mut pace = Pace {
+        calls: 0,
+        reached: None,
+    };
+    let end = serve_all(
+        rt, alloc, desk, policy, pass, ports, clock, gate, &mut pace, &mut seats, ends,
+    );
+    let_go(ports, &seats, ends);
+    end
+}

@@ -1,0 +1,70 @@
+//! What a front keeps of an open link.
+ghost use Rattle.poll_front.specs.Tables.{IsFreshParty};
+
+use crate::ends::PollEnd;
+use connection_laws::{Talk, Told};
+use gt_base::{Actor, Instant};
+use gt_io::Framer;
+
+/// How many bytes one read takes at most.
+pub(crate) const MOST_READ: usize = 4096;
+
+/// How many bytes are taken from one link at most.
+pub(crate) const MOST_BYTES: usize = 67_108_864;
+
+/// What is kept of an open link.
+#[derive(Drop)]
+pub struct Party {
+    pub framer: Framer,
+    pub talk: Talk,
+    /// What its last line is told, and how many bytes of that were written.
+    pub told: Told,
+    pub at: usize,
+    /// How many bytes may still be taken from it.
+    pub left: usize,
+    /// The bytes of the last read; those from `from` up to `upto` wait to be acted on.
+    pub chunk: [u8; 4096],
+    pub from: usize,
+    pub upto: usize,
+}
+
+/// How many request lines there were over all links, and a minute that the history has come to as
+/// far as the pass has seen it, where one is known.
+#[derive(Clone, Copy, PartialEq, Eq, Debug)]
+pub struct Pace {
+    pub calls: u64,
+    pub reached: Option<Instant>,
+}
+
+/// Why a link is left for another.
+#[derive(Clone, Copy, PartialEq, Eq, Debug)]
+pub enum Pause {
+    /// There is nothing to do for it yet.
+    Later,
+    /// It has ended.
+    End(PollEnd),
+}
+
+impl Party {
+    /// Before the first byte.
+    pub(crate) fn new() -> Party
+        ensures { IsFreshParty result }
+    {
+        Party {
+            framer: Framer::new(),
+            talk: Talk {
+                actor: Actor::Nobody,
+                asked: 0,
+                denied: 0,
+                calls: 0,
+                reached: None,
+            },
+            told: Told::Silence,
+            at: 0,
+            left: MOST_BYTES,
+            chunk: [0; 4096],
+            from: 0,
+            upto: 0,
+        }
+    }
+}

@@ -1,0 +1,16 @@
+//! Two copies of a value that entries are played on: readers look at one with no lock, while the other is brought up.
+#![tactic(auto)]
+
+mod copies;
+mod looking;
+mod notes;
+mod replica;
+mod views;
+
+pub use copies::Copies;
+pub use looking::{Looking, Sight};
+pub use replica::Replica;
+pub use views::View;
+
+#[cfg(test)]
+mod tests;

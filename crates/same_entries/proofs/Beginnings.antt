@@ -1,0 +1,17 @@
+-- Lists whose first items are the same.
+use Rattle.std.proofs.Common.{◌≡◌, ℕ, ◌+◌, ◌<◌, ◌≤◌, List, [], ◌∷◌, ◌++◌, length, take, drop, get_or, refl, sym, ap, ◌∙◌, arith, take-append-drop}
+use Rattle.std.proofs.lemmas.List.{take_more, take_all}
+use mathlib.Core.List.{IsPrefix}
+
+-- one more item
+pub same_more : {A : Type 0} (xs ys : List A) (i : ℕ) (x y : A) → take i xs ≡ take i ys → i < length xs → i < length ys → x ≡ get_or xs i x → y ≡ get_or ys i y → x ≡ y → take (i + 1) xs ≡ take (i + 1) ys
+same_more xs ys i x y same low low' at at' is =
+    take_more xs i x low
+    ∙ ap (λ l. take i xs ++ l ∷ []) (sym at ∙ is ∙ at')
+    ∙ ap (λ l. l ++ get_or ys i y ∷ []) same
+    ∙ sym (take_more ys i y low')
+
+-- all of them
+pub all_same : {A : Type 0} (xs ys : List A) (n : ℕ) → n ≡ length xs → take n xs ≡ take n ys → IsPrefix xs ys
+all_same xs ys n all same =
+    (drop n ys, ap (λ l. l ++ drop n ys) (sym (take_all n xs (omega (arith, all))) ∙ same) ∙ take-append-drop n ys)
