@@ -1,6 +1,7 @@
 #!/bin/sh
-# Lines a second of the built gtrbacd over four connections, beside a Redis server's inline PING: bench/serve.sh [SECONDS]
-# Needs cc, and redis-server for the last row. A history holds 1,000,000 entries, and a line that asks adds one, so the
+# Lines a second of the built gtrbacd over one, two and four connections, beside a Redis server's
+# inline PING over as many: bench/serve.sh [SECONDS]
+# Needs cc, and redis-server for its rows. A history holds 1,000,000 entries, and a line that asks adds one, so the
 # server is started anew for each cell and no cell may last longer than its history. A row has the replies a second, and
 # the median and the 99th percentile of a batch in microseconds, with 1 line in flight and with 64; below the table stand
 # the bytes that the server grew by for an entry and for a connection that was served.
@@ -28,16 +29,17 @@ begin() {
     before=$(resident)
 }
 end() {
-    "$top/contrib/gtrbacd-stop" .
+    touch gtrbacd.stop
     wait "$server" || echo "bench/serve.sh: gtrbacd ended with status $?" >&2
 }
 row() {
-    name=$1 line=$2
-    shift 2
-    printf '%-16s' "$name"
+    name=$1 line=$2 ports=$3
+    shift 3
+    printf '%-16s %d' "$name" "$(echo "$ports" | wc -w)"
     for depth in 1 64; do
         begin
-        ./load "$seconds" "$depth" "$line" 7743 7744 7745 7746 -- "$@" >cell
+        # shellcheck disable=SC2086 # one word a port
+        ./load "$seconds" "$depth" "$line" $ports -- "$@" >cell
         after=$(resident)
         end
         awk '{ printf " %13d %10.1f %10.1f", $1, $2, $3 }' cell
@@ -49,23 +51,33 @@ row() {
     echo
 }
 
-echo "load $(cut -d' ' -f1 /proc/loadavg), $(nproc) processors, $seconds s a cell"
-printf '%-16s %13s %10s %10s %13s %10s %10s\n' '' '1: a second' 'median' '99 of 100' '64: a second' 'median' '99 of 100'
-row 'gtrbacd: now' now 'as ben'
-entry=$grown
-row 'gtrbacd: check' 'check 1 read-chart' 'as ben' 'open' 'activate 1 nurse'
-if command -v redis-server >/dev/null; then
-    redis-server --port 7799 --save '' --appendonly no >redis.log &
-    server=$!
-    sleep 0.5
-    printf '%-16s' 'redis: PING'
+redis() {
+    printf '%-16s %d' 'redis: PING' "$(echo "$1" | wc -w)"
     for depth in 1 64; do
-        ./load "$seconds" "$depth" PING 7799 7799 7799 7799 >cell
+        # shellcheck disable=SC2086 # one word a port
+        ./load "$seconds" "$depth" PING $1 >cell
         awk '{ printf " %13d %10.1f %10.1f", $1, $2, $3 }' cell
     done
     echo
-    kill "$server"
-    wait "$server" || true
+}
+
+echo "load $(cut -d' ' -f1 /proc/loadavg), $(nproc) processors, $seconds s a cell"
+printf '%-18s %13s %10s %10s %13s %10s %10s\n' '' '1: a second' 'median' '99 of 100' \
+    '64: a second' 'median' '99 of 100'
+if command -v redis-server >/dev/null; then
+    redis-server --port 7799 --save '' --appendonly no >redis.log &
+    beside=$!
+    sleep 0.5
+fi
+for ports in 7743 '7743 7744' '7743 7744 7745 7746'; do
+    row 'gtrbacd: now' now "$ports" 'as ben'
+    entry=$grown
+    row 'gtrbacd: check' 'check 1 read-chart' "$ports" 'as ben' 'open' 'activate 1 nurse'
+    [ -z "${beside:-}" ] || redis "$(echo "$ports" | sed 's/77../7799/g')"
+done
+if [ -n "${beside:-}" ]; then
+    kill "$beside"
+    wait "$beside" || true
 else
     echo 'redis: no redis-server is installed, so nothing stands beside'
 fi
