@@ -12,7 +12,8 @@ Start p t = IsTrue (in_bounds p t) × Begin p.expr (minute_of t)
 
 -- `begins`, `starts` and `inside` hold exactly where the relations do
 pub record PeriodsMean : Type 0 where
-  pub begins_are : (e : Expr) (t : ℕ) → IsTrue (is_expr e) → IsTrue (begins e (minute_of t)) ↔ Begin e (minute_of t)
+  pub begins_are : (e : Expr) (t : ℕ) → IsTrue (is_expr e)
+      → IsTrue (begins e (minute_of t)) ↔ Begin e (minute_of t)
   pub starts_are : (p : Period) (t : ℕ) → IsTrue (is_expr p.expr) → IsTrue (starts p t) ↔ Start p t
   pub insides_are : (p : Period) (t : ℕ) → IsTrue (is_expr p.expr) → IsTrue (inside p t) ↔ In p t
 
@@ -22,7 +23,8 @@ EndsDoNotCross = (e : Expr) (s s' m m' : ℕ) → End e s m → End e s' m' → 
 
 -- an expression begins at first minutes of its last calendar alone
 abbrev pub BeginsAtFirsts : Type 0
-BeginsAtFirsts = (e : Expr) (m : ℕ) → IsTrue (begins e m) → first_minute (last_calendar e) (interval_of (last_calendar e) m) ≡ m
+BeginsAtFirsts = (e : Expr) (m : ℕ) → IsTrue (begins e m)
+    → first_minute (last_calendar e) (interval_of (last_calendar e) m) ≡ m
 
 -- the calendars come back after 400 years: 146,097 days, 4,800 months, 20,871 weeks
 pub record CalendarsRepeat : Type 0 where
@@ -30,7 +32,8 @@ pub record CalendarsRepeat : Type 0 where
   pub months : (k : ℕ) → day_of_month (k + 4800) ≡ day_of_month k + 146_097
   pub weeks : 7 * 20_871 ≡ 146_097
 
--- the minute of an instant has the day and the minute of the day of the instant; day 730,485 from 0000-01-01 is 2000-01-01
+-- the minute of an instant has the day and the minute of the day of the instant; day 730,485 from
+-- 0000-01-01 is 2000-01-01
 pub record MinutesOfDays : Type 0 where
   pub day : (t : ℕ) → minute_of t / 1440 ≡ 730_485 + day_of t
   pub time : (t : ℕ) → minute_of t % 1440 ≡ t % 1440

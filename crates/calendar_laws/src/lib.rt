@@ -1,4 +1,5 @@
-//! What holds of the calendars and of periodic times: the laws that tie the computed definitions to the relations.
+//! What holds of the calendars and of periodic times: the laws that tie the computed definitions to
+//! the relations.
 #![tactic(auto)]
 
 ghost use Rattle.calendar_laws.specs.Intervals.{IntervalsCover};

@@ -1,5 +1,5 @@
 -- Which numbers a set picks next, and which minutes a search passes over.
-use Rattle.std.specs.Prelude.{◌≡◌, ℕ, ◌+◌, ◌-◌, ◌≤◌, ◌<◌, Bool, true, false, cond, ◌&&◌, ◌||◌, nat_eq, nat_le, nat_lt, List, [], ◌∷◌, slice_index, length, Option, Some, None}
+use Rattle.std.specs.Prelude.{◌≡◌, ℕ, ◌+◌, ◌-◌, ◌≤◌, ◌<◌, Bool, true, false, ◌&&◌, ◌||◌, nat_eq, nat_le, nat_lt, List, [], ◌∷◌, slice_index, length, Option, Some, None, if◌then◌else◌}
 use Rattle.std.specs.List.{AllWithin, list_any}
 use Rattle.gtrbac_model.specs.declared.calendars.Calendar.{Calendar}
 use Rattle.gtrbac_model.specs.declared.calendars.Calendar.TheVariants.{Years, Months, Weeks, Days, Hours, Minutes}
@@ -28,7 +28,7 @@ pub record LesserAreFirst (n : ℕ) (ns : List ℕ) (i : ℕ) : Type 0 where
 -- the last number before the first that is greater than n, or else the one before the list
 abbrev pub last_low : ℕ → Option ℕ → List ℕ → Option ℕ
 last_low n last [] = last
-last_low n last (m ∷ ms) = cond (nat_lt n m) last (last_low n (Some m) ms)
+last_low n last (m ∷ ms) = if nat_lt n m then last else last_low n (Some m) ms
 
 -- the greatest number up to n that the set picks
 pub record IsLastPicked (set : Option (List ℕ)) (n k : ℕ) : Type 0 where

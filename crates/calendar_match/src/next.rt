@@ -66,8 +66,10 @@ fn unit_start_of(p: &Period, k: u64) -> u64
 // The minute of the first begin of the period from this instant on, not after its last one.
 fn first_begin_of(p: &Period, start: u32) -> Option<u64>
     requires { start ≤ last_minute + 1 }
-    ensures some { IfSome result (λ m. IsFirstBegin p.now.expr (minute_at start) (minute_at p.now.last) m) }
-    ensures none { IfNone result (HasNoBegin p.now.expr (minute_at start) (minute_at p.now.last + 1)) }
+    ensures some { IfSome result (λ m. IsFirstBegin p.now.expr (minute_at start)
+        (minute_at p.now.last) m) }
+    ensures none { IfNone result (HasNoBegin p.now.expr (minute_at start)
+        (minute_at p.now.last + 1)) }
     ensures valid { IsTrue (is_expr p.now.expr) }
     ensures bound { p.now.last ≤ last_minute }
 {

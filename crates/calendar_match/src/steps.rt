@@ -59,7 +59,8 @@ fn ahead_in_set(outer: Calendar, inner: Calendar, set: &Option<List<u32>>, m: u6
     requires sets { IsTrue (is_set (option_map (λ l. l.items) set.now)) }
     ensures some { IfSome result
         (λ r. IsPassed (picks_at outer inner (option_map (λ l. l.items) set.now)) m r) }
-    ensures none { IfNone result (picks_at outer inner (option_map (λ l. l.items) set.now) m ≡ true) }
+    ensures none { IfNone result (picks_at outer inner (option_map (λ l. l.items) set.now) m
+        ≡ true) }
 {
     let n = number_within(outer, inner, m);
     match next_picked(set, n) {
@@ -86,7 +87,8 @@ fn behind_in_set(outer: Calendar, inner: Calendar, set: &Option<List<u32>>, m: u
     requires sets { IsTrue (is_set (option_map (λ l. l.items) set.now)) }
     ensures some { IfSome result
         (λ r. IsPassedBack (picks_at outer inner (option_map (λ l. l.items) set.now)) m r) }
-    ensures none { IfNone result (picks_at outer inner (option_map (λ l. l.items) set.now) m ≡ true) }
+    ensures none { IfNone result (picks_at outer inner (option_map (λ l. l.items) set.now) m
+        ≡ true) }
 {
     let n = number_within(outer, inner, m);
     match last_picked(set, n) {
@@ -100,7 +102,8 @@ fn ahead_in_part(outer: Calendar, part: &ExprPart, m: u64) -> Option<u64>
     requires low { 2880 ≤ m }
     requires high { m < 2_147_483_648 }
     requires sets { IsTrue (is_set part.now.set) }
-    ensures some { IfSome result (λ r. IsPassed (picks_at outer part.now.calendar part.now.set) m r) }
+    ensures some { IfSome result (λ r. IsPassed (picks_at outer part.now.calendar part.now.set) m
+        r) }
     ensures none { IfNone result (picks_at outer part.now.calendar part.now.set m ≡ true) }
 {
     ahead_in_set(outer, part.calendar, &part.set, m)
@@ -110,7 +113,8 @@ fn behind_in_part(outer: Calendar, part: &ExprPart, m: u64) -> Option<u64>
     requires low { 2880 ≤ m }
     requires high { m < 2_147_483_648 }
     requires sets { IsTrue (is_set part.now.set) }
-    ensures some { IfSome result (λ r. IsPassedBack (picks_at outer part.now.calendar part.now.set) m r) }
+    ensures some { IfSome result (λ r. IsPassedBack
+        (picks_at outer part.now.calendar part.now.set) m r) }
     ensures none { IfNone result (picks_at outer part.now.calendar part.now.set m ≡ true) }
 {
     behind_in_set(outer, part.calendar, &part.set, m)

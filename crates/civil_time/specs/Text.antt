@@ -1,5 +1,5 @@
 -- Civil minutes as texts.
-use Rattle.std.specs.Prelude.{◌≡◌, ℕ, ◌+◌, ◌-◌, ◌*◌, ◌/◌, ◌%◌, ◌<◌, ◌≤◌, true, false, ◌&&◌, List, [], ◌∷◌, ◌++◌, length, nat_le, nat_eq, bytes_eq, slice_index, Option, Some, None}
+use Rattle.std.specs.Prelude.{◌≡◌, ℕ, ◌+◌, ◌-◌, ◌*◌, ◌/◌, ◌%◌, ◌<◌, ◌≤◌, true, false, ◌&&◌, List, [], ◌∷◌, ◌++◌, length, nat_le, nat_eq, bytes_eq, slice_index, Option, Some, None, if◌then◌else◌}
 use Rattle.gt_base.specs.Bounds.{last_minute}
 use Rattle.gtrbac_model.specs.Calendar.{day_of_month}
 use Rattle.civil_time.specs.Minutes.{civil_at}
@@ -12,7 +12,8 @@ two_digits n = (48 + n / 10) ∷ (48 + n % 10) ∷ []
 -- YYYY-MM-DDTHH:MM
 abbrev pub text_of : Civil → List ℕ
 text_of c =
-    two_digits (c.year / 100) ++ two_digits (c.year % 100) ++ 45 ∷ [] ++ two_digits c.month ++ 45 ∷ [] ++ two_digits c.day
+    two_digits (c.year / 100) ++ two_digits (c.year % 100) ++ 45 ∷ [] ++ two_digits c.month ++ 45
+    ∷ [] ++ two_digits c.day
     ++ 84 ∷ [] ++ two_digits c.hour ++ 58 ∷ [] ++ two_digits c.minute
 
 -- the text of an instant
@@ -30,12 +31,14 @@ two_at text i = 10 * (slice_index text i - 48) + (slice_index text (i + 1) - 48)
 -- the one instant that the text can be of
 abbrev pub candidate : List ℕ → ℕ
 candidate text =
-    1440 * (day_of_month (12 * (100 * two_at text 0 + two_at text 2) + two_at text 5 - 1) + two_at text 8 - 1) + 60 * two_at text 11 + two_at text 14 - 1_051_898_400
+    1440 * (day_of_month (12 * (100 * two_at text 0 + two_at text 2) + two_at text 5 - 1)
+    + two_at text 8 - 1) + 60 * two_at text 11 + two_at text 14 - 1_051_898_400
 
 -- the instant of a text, where it is the text of one
 abbrev pub civil_in : List ℕ → Option ℕ
 civil_in text =
-    elim (nat_eq (length text) 16 && nat_le (candidate text) last_minute && bytes_eq (civil_text (candidate text)) text) [ true ↦ Some (candidate text) | false ↦ None ]
+    if nat_eq (length text) 16 && nat_le (candidate text) last_minute
+    && bytes_eq (civil_text (candidate text)) text then Some (candidate text) else None
 
 -- its numbers have at most two digits, and its year four
 pub record IsPrintable (c : Civil) : Type 0 where

@@ -1,7 +1,8 @@
 //! Laws of civil minutes.
 ghost use Rattle.civil_time.specs.Laws.{MinutesMatch, TextsAreRead};
 
-/// The calendars of the model and of jiff have the same dates, and civil minutes, instants and texts go one to one.
+/// The calendars of the model and of jiff have the same dates, and civil minutes, instants and
+/// texts go one to one.
 pub fn minutes_match()
     ensures { MinutesMatch }
 {}

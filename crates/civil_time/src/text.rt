@@ -81,7 +81,8 @@ fn found(text: &[u8]) -> Option<Instant>
     instant(c).ok()
 }
 
-/// The instant that the text writes, as `2026-01-05T08:30`: none exactly where it is the text of no instant.
+/// The instant that the text writes, as `2026-01-05T08:30`: none exactly where it is the text of no
+/// instant.
 pub fn read_civil(text: &[u8]) -> Option<Instant>
     ensures some { IfSome result (λ t. IsCivil text.now t) }
     ensures none { IfNone result ((t : ℕ) → t ≤ last_minute → text.now ≢ text_at t) }

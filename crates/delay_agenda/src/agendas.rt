@@ -27,7 +27,10 @@ impl Model for Agenda {
 
     ghost coded = { roomier_code pendings_code };
 
-    ghost view = { λ a. record { set = pairs_of a.long.items a.short.items; spare = vec_capacity a.short - vec_len a.short } };
+    ghost view = { λ a. record {
+      set = pairs_of a.long.items a.short.items;
+      spare = vec_capacity a.short - vec_len a.short;
+    } };
 
     ghost invariant = { λ a. AreRows a.long.items a.short.items };
 }

@@ -20,7 +20,8 @@ const MANY: usize = 1024;
 pub(crate) fn settle(long: &mut Vec<Pending>, short: &mut Vec<Pending>) -> Result<(), Memory>
     requires { AreRows long.old.items short.old.items }
     ensures rows { AreRows long.new.items short.new.items }
-    ensures set { pairs_of long.new.items short.new.items ≡ pairs_of long.old.items short.old.items }
+    ensures set { pairs_of long.new.items short.new.items
+        ≡ pairs_of long.old.items short.old.items }
     ensures capacity { vec_capacity short.old ≤ vec_capacity short.new }
     ensures len { vec_len short.new ≤ vec_len short.old }
 {
@@ -36,7 +37,8 @@ pub(crate) fn put_new(long: &[Pending], short: &mut Vec<Pending>, k: Pending)
     requires rows { AreRows long.now short.old.items }
     requires room { vec_len short.old < vec_capacity short.old }
     ensures rows { AreRows long.now short.new.items }
-    ensures set { pairs_of long.now short.new.items ≡ with_member (pairs_of long.now short.old.items) k }
+    ensures set { pairs_of long.now short.new.items
+        ≡ with_member (pairs_of long.now short.old.items) k }
     ensures capacity { vec_capacity short.old ≤ vec_capacity short.new }
     ensures len { vec_len short.new ≤ vec_len short.old + 1 }
 {

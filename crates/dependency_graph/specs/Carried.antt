@@ -1,5 +1,5 @@
 -- From the numbered graph to the triggers.
-use Rattle.std.specs.Prelude.{◌≡◌, ℕ, suc, true, false, List, [], ◌∷◌, slice_index, Some}
+use Rattle.std.specs.Prelude.{◌≡◌, ℕ, suc, true, false, List, [], ◌∷◌, slice_index, Some, if◌then◌else◌}
 use Rattle.gt_base.specs.declared.events.Event.{Event}
 use Rattle.gt_base.specs.Held.{TriggerView}
 use Rattle.gtrbac_model.specs.Same.{same_event}
@@ -11,7 +11,7 @@ use Rattle.dependency_graph.specs.Nets.{EventNet, IsGraphOf}
 -- the place of an event among events, or their number
 abbrev pub place_of : List Event → Event → ℕ
 place_of [] e = 0
-place_of (x ∷ xs) e = elim (same_event e x) [ true ↦ 0 | false ↦ suc (place_of xs e) ]
+place_of (x ∷ xs) e = if same_event e x then 0 else suc (place_of xs e)
 
 -- the level of an event, by that of its node
 abbrev pub level_in : List Event → List ℕ → Event → ℕ
@@ -20,9 +20,13 @@ level_in events levels e = slice_index levels (place_of events e)
 -- the least cycle of the numbered graph is the one that the definition computes of the triggers
 abbrev pub CyclesCarryOver : Type 0
 CyclesCarryOver =
-    (triggers : List TriggerView) (g : EventNet) → IsGraphOf triggers g → (edges : List ℕ) → IsLeastCycle (arcs_of g.net.edges) (is_marked g.net.edges) edges → the_cycle triggers ≡ Some edges
+    (triggers : List TriggerView) (g : EventNet) → IsGraphOf triggers g → (edges : List ℕ)
+    → IsLeastCycle (arcs_of g.net.edges) (is_marked g.net.edges) edges
+    → the_cycle triggers ≡ Some edges
 
 -- levels of the nodes are levels of the events
 abbrev pub LevelsCarryOver : Type 0
 LevelsCarryOver =
-    (triggers : List TriggerView) (g : EventNet) → IsGraphOf triggers g → (levels : List ℕ) → AreLevels (arcs_of g.net.edges) (is_marked g.net.edges) (slice_index levels) → IsLevelling triggers (level_in g.events levels)
+    (triggers : List TriggerView) (g : EventNet) → IsGraphOf triggers g → (levels : List ℕ)
+    → AreLevels (arcs_of g.net.edges) (is_marked g.net.edges) (slice_index levels)
+    → IsLevelling triggers (level_in g.events levels)

@@ -21,30 +21,41 @@ pub record IsEventNet (g : EventNet) : Type 0 where
   pub nodes : g.net.nodes ≡ length g.events
   pub few : length g.events ≤ 4_294_967_295
   pub places : length g.places ≡ length g.net.edges
-  pub apart : (i j : ℕ) (e : Event) → item_at g.events i ≡ Some e → item_at g.events j ≡ Some e → i ≡ j
+  pub apart : (i j : ℕ) (e : Event) → item_at g.events i ≡ Some e → item_at g.events j ≡ Some e
+      → i ≡ j
 
 -- the event at a place, where there is one
 abbrev pub event_at : List Event → ℕ → Event
-event_at events n = slice_index_or events n (record { on = false; fluent = Enabled (record { 0 = 0 }) })
+event_at events n = slice_index_or events n
+    (record { on = false; fluent = Enabled (record { 0 = 0 }) })
 
 -- the dependency that a numbered edge stands for
 abbrev pub dependency : List Event → GraphEdge → ℕ × ℕ → Dependency
 dependency events e p =
-    record { source = event_at events e.from; target = event_at events e.to; conflict = e.marked; trigger = p.0; place = p.1 }
+    record {
+      source = event_at events e.from;
+      target = event_at events e.to;
+      conflict = e.marked;
+      trigger = p.0;
+      place = p.1;
+    }
 
 abbrev pub read_off : List Event → List GraphEdge → List (ℕ × ℕ) → List Dependency
 read_off events [] places = []
 read_off events (e ∷ es) [] = []
 read_off events (e ∷ es) (p ∷ ps) = dependency events e p ∷ read_off events es ps
 
--- the nodes are just the heads of immediate triggers, and the edges read off are the dependencies, in their order
+-- the nodes are just the heads of immediate triggers, and the edges read off are the dependencies,
+-- in their order
 pub record IsGraphOf (triggers : List TriggerView) (g : EventNet) : Type 0 where
   pub is_event_net : IsEventNet g
   pub is_net : IsNet g.net
   pub nodes : (e : Event) → lists same_event g.events e ≡ is_node triggers e
   pub edges : read_off g.events g.net.edges g.places ≡ dependencies triggers
 
--- the limits of a policy: at most 4,000 triggers, each of at most 16 body events and settled conditions
+-- the limits of a policy: at most 4,000 triggers, each of at most 16 body events and settled
+-- conditions
 pub record IsWithinLimits (triggers : List TriggerView) : Type 0 where
   pub few : length triggers ≤ 4_000
-  pub short : (n : ℕ) (r : TriggerView) → item_at triggers n ≡ Some r → length r.events + length r.settled ≤ 16
+  pub short : (n : ℕ) (r : TriggerView) → item_at triggers n ≡ Some r
+      → length r.events + length r.settled ≤ 16

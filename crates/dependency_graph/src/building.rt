@@ -14,10 +14,11 @@ use indexmap::IndexSet;
 use least_walk::{Graph, GraphEdge};
 use std::alloc::{AllocError, Global};
 
-/// The dependency graph: its nodes are the events that head an immediate trigger. Each body event of an immediate trigger gives a plain
-/// edge from it to the head, and a conflict edge from its converse to the head, and each settled condition conflict edges to the head
-/// from the events that turn its fluent on and off, where they begin at a node. Edges are numbered by trigger, then by place, body
-/// events before settled conditions, plain before conflict, and on before off.
+/// The dependency graph: its nodes are the events that head an immediate trigger. Each body event
+/// of an immediate trigger gives a plain edge from it to the head, and a conflict edge from its
+/// converse to the head, and each settled condition conflict edges to the head from the events that
+/// turn its fluent on and off, where they begin at a node. Edges are numbered by trigger, then by
+/// place, body events before settled conditions, plain before conflict, and on before off.
 pub fn graph(alloc: Global, triggers: &List<Trigger>) -> Result<EventGraph, AllocError>
     requires { IsWithinLimits triggers.now.items }
     ensures { IfOk result (IsGraphOf triggers.now.items) }
@@ -44,7 +45,8 @@ fn edges_among(
     ensures net { IfOk result (λ made. IsNet made.0) }
     ensures nodes { IfOk result (λ made. made.0.nodes ≡ length events.now.keys) }
     ensures sizes { IfOk result (λ made. length made.1.items ≡ length made.0.edges) }
-    ensures edges { IfOk result (λ made. read_off events.now.keys made.0.edges made.1.items ≡ dependencies triggers.now) }
+    ensures edges { IfOk result (λ made. read_off events.now.keys made.0.edges made.1.items
+        ≡ dependencies triggers.now) }
 {
     let mut graph = Graph::new(alloc, events.len() as u32);
     let mut places = Vec::new(alloc);
@@ -73,7 +75,8 @@ fn heads(alloc: Global, triggers: &[Trigger]) -> Result<IndexSet<Event>, AllocEr
 /// The place of an event, none where it is absent.
 pub(crate) fn find(events: &IndexSet<Event>, e: Event) -> Option<u32>
     requires { length events.now.keys ≤ 4_294_967_295 }
-    ensures { MatchOption result (lists same_event events.now.keys e ≡ false) (λ n. item_at events.now.keys n ≡ Some e) }
+    ensures { MatchOption result (lists same_event events.now.keys e ≡ false)
+        (λ n. item_at events.now.keys n ≡ Some e) }
 {
     match events.get_index_of(&e) {
         Some(place) => Some(place as u32),
@@ -91,7 +94,8 @@ fn add_trigger(
 ) -> Result<(), AllocError>
     requires nodes { graph.old.nodes ≡ length events.now.keys }
     requires few { length events.now.keys ≤ 4_294_967_295 }
-    requires head { immediate trigger.now ≡ true → lists same_event events.now.keys trigger.now.head.event ≡ true }
+    requires head { immediate trigger.now ≡ true
+        → lists same_event events.now.keys trigger.now.head.event ≡ true }
     requires sizes { length places.old.items ≡ length graph.old.edges }
     requires short { length trigger.now.events + length trigger.now.settled ≤ 16 }
     requires room { length graph.old.edges + 32 ≤ 4_294_967_295 }
@@ -138,7 +142,8 @@ fn add_body(
     requires room { length graph.old.edges + 2 * length body.now ≤ 4_294_967_295 }
     ensures nodes { OnOk result (graph.new.nodes ≡ graph.old.nodes) }
     ensures sizes { OnOk result (length places.new.items ≡ length graph.new.edges) }
-    ensures room { OnOk result (length graph.new.edges ≤ length graph.old.edges + 2 * length body.now) }
+    ensures room { OnOk result (length graph.new.edges ≤ length graph.old.edges + 2
+        * length body.now) }
     ensures edges { OnOk result (Adds events.now.keys
         (read_off events.now.keys graph.old.edges places.old.items) (read_off events.now.keys graph.new.edges places.new.items)
         (λ triggers. of_body triggers (event_at events.now.keys head) t 0 body.now)) }
@@ -151,7 +156,8 @@ fn add_body(
     Ok(())
 }
 
-/// Adds the edges to the head from both events of the fluents of settled conditions, which stand from this place on.
+/// Adds the edges to the head from both events of the fluents of settled conditions, which stand
+/// from this place on.
 fn add_settled(
     conds: &[Cond],
     t: u32,
@@ -169,7 +175,8 @@ fn add_settled(
     requires room { length graph.old.edges + 2 * length conds.now ≤ 4_294_967_295 }
     ensures nodes { OnOk result (graph.new.nodes ≡ graph.old.nodes) }
     ensures sizes { OnOk result (length places.new.items ≡ length graph.new.edges) }
-    ensures room { OnOk result (length graph.new.edges ≤ length graph.old.edges + 2 * length conds.now) }
+    ensures room { OnOk result (length graph.new.edges ≤ length graph.old.edges + 2
+        * length conds.now) }
     ensures edges { OnOk result (Adds events.now.keys
         (read_off events.now.keys graph.old.edges places.old.items) (read_off events.now.keys graph.new.edges places.new.items)
         (λ triggers. of_settled triggers (event_at events.now.keys head) t first conds.now)) }

@@ -33,7 +33,8 @@ impl Model for EventGraph {
 
     ghost view = { λ g. record { events = g.events.keys; net = g.graph; places = g.places.items } };
 
-    ghost invariant = { λ g. IsEventNet (record { events = g.events.keys; net = g.graph; places = g.places.items }) };
+    ghost invariant = { λ g. IsEventNet
+        (record { events = g.events.keys; net = g.graph; places = g.places.items }) };
 }
 
 impl EventGraph {
@@ -54,12 +55,14 @@ impl EventGraph {
 
     /// The node of an event, none where it is no node.
     pub fn node(&self, e: Event) -> Option<u32>
-        ensures { MatchOption result (lists same_event self.now.events e ≡ false) (λ n. item_at self.now.events n ≡ Some e) }
+        ensures { MatchOption result (lists same_event self.now.events e ≡ false)
+            (λ n. item_at self.now.events n ≡ Some e) }
     {
         find(&self.events, e)
     }
 
-    /// The trigger of an edge and its place there, both from 0: body events come first, then settled conditions.
+    /// The trigger of an edge and its place there, both from 0: body events come first, then
+    /// settled conditions.
     pub fn place(&self, edge: u32) -> (u32, u32)
         requires { edge < length self.now.net.edges }
         ensures { item_at self.now.places edge ≡ Some result }

@@ -1,5 +1,5 @@
 -- When a duration limit has run for long enough.
-use Rattle.std.specs.Prelude.{ℕ, ◌+◌, ◌-◌, Bool, false, cond, ◌&&◌, nat_le, Option, Some, None}
+use Rattle.std.specs.Prelude.{ℕ, ◌+◌, ◌-◌, Bool, false, ◌&&◌, nat_le, Option, Some, None, if◌then◌else◌}
 use Rattle.gt_base.specs.declared.events.Fluent.{Fluent}
 use Rattle.gt_base.specs.declared.events.Fluent.TheVariants.{Limit}
 use Rattle.gt_base.specs.declared.policies.LimitRule.{LimitRule}
@@ -17,11 +17,11 @@ is_aged s since n l t = is_running s n l && nat_le l.most (t - since l.cond.flue
 
 -- the instant m minutes after t, up to the last
 abbrev pub minute_after : ℕ → ℕ → Option ℕ
-minute_after t m = cond (nat_le (t + m) last_minute) (Some (t + m)) None
+minute_after t m = if nat_le (t + m) last_minute then Some (t + m) else None
 
 -- the first instant from which it has run for long enough
 abbrev pub aged_from : Status → (Fluent → ℕ) → ℕ → LimitRule → Option ℕ
-aged_from s since n l = cond (is_running s n l) (minute_after (since l.cond.fluent) l.most) None
+aged_from s since n l = if is_running s n l then minute_after (since l.cond.fluent) l.most else None
 
 -- there is such an instant, and it is t or before
 abbrev pub has_come : Option ℕ → ℕ → Bool

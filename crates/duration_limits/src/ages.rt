@@ -13,8 +13,9 @@ use indexmap::IndexMap;
 use std::alloc::Global;
 use std::marker::Model;
 
-/// For each fluent the instant at which it last changed, or the birth where it has not changed since. It is seen as the
-/// birth, the rows of the fluents that have changed, and the number of further fluents that it has room for.
+/// For each fluent the instant at which it last changed, or the birth where it has not changed
+/// since. It is seen as the birth, the rows of the fluents that have changed, and the number of
+/// further fluents that it has room for.
 pub struct Ages {
     birth: Instant,
     changes: IndexMap<Fluent, Instant>,
@@ -35,7 +36,11 @@ impl Model for Ages {
 
     ghost Value = { AgesView };
 
-    ghost view = { λ a. record { birth = a.birth; rows = a.changes.entries; spare = spare a.changes } };
+    ghost view = { λ a. record {
+      birth = a.birth;
+      rows = a.changes.entries;
+      spare = spare a.changes;
+    } };
 }
 
 impl Ages {
@@ -58,7 +63,8 @@ impl Ages {
         self.birth
     }
 
-    /// Makes room for n more fluents. After a refusal each fluent has what it had, and no room is lost.
+    /// Makes room for n more fluents. After a refusal each fluent has what it had, and no room is
+    /// lost.
     pub fn reserve(&mut self, n: usize) -> Result<(), Memory>
         ensures birth { self.new.birth ≡ self.old.birth }
         ensures rows { self.new.rows ≡ self.old.rows }
@@ -81,12 +87,13 @@ impl Ages {
         })
     }
 
-    /// The fluent changed at t. It takes no memory: a fluent that had not changed before goes into room that was made
-    /// before, and uses one place of it.
+    /// The fluent changed at t. It takes no memory: a fluent that had not changed before goes into
+    /// room that was made before, and uses one place of it.
     pub fn changed(&mut self, f: Fluent, t: Instant)
         requires { 1 ≤ self.old.spare }
         ensures birth { self.new.birth ≡ self.old.birth }
-        ensures since { (g : Fluent) → since_in self.new g ≡ cond (same_fluent f g) t (since_in self.old g) }
+        ensures since { (g : Fluent)
+            → since_in self.new g ≡ cond (same_fluent f g) t (since_in self.old g) }
         ensures spare { self.old.spare ≤ self.new.spare + 1 }
     {
         match self.changes.insert(f, t) {
@@ -102,19 +109,21 @@ impl Ages {
         self.changes.get(&f).copied().unwrap_or(self.birth)
     }
 
-    /// Whether the limit of this number has run for long enough at t, on the status before t. Its period is not asked.
-    /// It takes no memory.
+    /// Whether the limit of this number has run for long enough at t, on the status before t. Its
+    /// period is not asked. It takes no memory.
     pub fn ripe(&self, id: LimitId, rule: &LimitRule, before: &Status, t: Instant) -> bool
         ensures { result ≡ is_aged (has before.now.set) (since_in self.now) id.0 rule.now t }
     {
         runs(id, rule, before) && rule.most <= minutes_between(self.since(rule.cond.fluent), t)
     }
 
-    /// The first instant from which the limit of this number has run for long enough, as long as the status stays. None
-    /// exactly where it does not run, or would only have run for long enough after 2099-12-31T23:59. It takes no memory.
+    /// The first instant from which the limit of this number has run for long enough, as long as
+    /// the status stays. None exactly where it does not run, or would only have run for long enough
+    /// after 2099-12-31T23:59. It takes no memory.
     pub fn ripe_from(&self, id: LimitId, rule: &LimitRule, status: &Status) -> Option<Instant>
         ensures from { result ≡ aged_from (has status.now.set) (since_in self.now) id.0 rule.now }
-        ensures first { (t : ℕ) → since_in self.now rule.now.cond.fluent ≤ t → t ≤ last_minute → is_aged (has status.now.set) (since_in self.now) id.0 rule.now t ≡ has_come result t }
+        ensures first { (t : ℕ) → since_in self.now rule.now.cond.fluent ≤ t → t ≤ last_minute
+            → is_aged (has status.now.set) (since_in self.now) id.0 rule.now t ≡ has_come result t }
     {
         if runs(id, rule, status) {
             later(self.since(rule.cond.fluent), rule.most)

@@ -10,13 +10,14 @@ pub fn ages_read_rows()
     ensures { ReadsRows }
 {}
 
-/// A limit is ripe exactly where it has run for long enough and its period, if it has one, is there.
+/// A limit is ripe exactly where it has run for long enough and its period, if it has one, is
+/// there.
 pub fn ripe_is_aged()
     ensures { RipeIsAged }
 {}
 
-/// At the birth each fluent has the birth, and at a later instant those that change there have that instant; so kept, ages
-/// are those of the model.
+/// At the birth each fluent has the birth, and at a later instant those that change there have that
+/// instant; so kept, ages are those of the model.
 pub fn ages_follow_changes()
     ensures { (p : Policy) (birth : ℕ) (m : Model) → SinceBySteps p birth m }
 {}

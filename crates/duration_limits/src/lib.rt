@@ -1,4 +1,5 @@
-//! Duration limits: when each fluent last changed, and from when on a limit has run for long enough to end its condition.
+//! Duration limits: when each fluent last changed, and from when on a limit has run for long enough
+//! to end its condition.
 #![tactic(auto)]
 
 mod ages;

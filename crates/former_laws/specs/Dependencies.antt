@@ -1,5 +1,6 @@
--- The dependencies among the events that head immediate triggers, as they were: from body events alone.
-use Rattle.std.specs.Prelude.{◌≡◌, ◌↔◌, ℕ, ◌+◌, false, true, cond, List, [], ◌∷◌, ◌++◌, Option, Some, IsTrue}
+-- The dependencies among the events that head immediate triggers, as they were: from body events
+-- alone.
+use Rattle.std.specs.Prelude.{◌≡◌, ◌↔◌, ℕ, ◌+◌, false, true, List, [], ◌∷◌, ◌++◌, Option, Some, IsTrue, if◌then◌else◌}
 use Rattle.gt_base.specs.declared.events.Event.{Event}
 use Rattle.gt_base.specs.Events.{converse}
 use Rattle.gt_base.specs.Held.{TriggerView}
@@ -13,14 +14,27 @@ module _ (triggers : List TriggerView) where
   abbrev pub from_events : Event → ℕ → ℕ → List Event → List Dependency
   from_events head t place [] = []
   from_events head t place (b ∷ bs) =
-      edge_if_node triggers (record { source = b; target = head; conflict = false; trigger = t; place = place })
-      ++ edge_if_node triggers (record { source = converse b; target = head; conflict = true; trigger = t; place = place })
+      edge_if_node triggers (record {
+        source = b;
+        target = head;
+        conflict = false;
+        trigger = t;
+        place = place;
+      })
+      ++ edge_if_node triggers (record {
+        source = converse b;
+        target = head;
+        conflict = true;
+        trigger = t;
+        place = place;
+      })
       ++ from_events head t (place + 1) bs
 
   -- a delayed trigger gives none
   abbrev pub from_triggers : ℕ → List TriggerView → List Dependency
   from_triggers t [] = []
-  from_triggers t (r ∷ rs) = cond (immediate r) (from_events r.head.event t 0 r.events) [] ++ from_triggers (t + 1) rs
+  from_triggers t (r ∷ rs) = (if immediate r then from_events r.head.event t 0 r.events else [])
+      ++ from_triggers (t + 1) rs
 
   -- by trigger, then by place, plain before conflict
   abbrev pub former_dependencies : List Dependency
@@ -37,10 +51,13 @@ module _ (triggers : List TriggerView) where
   former_cycle = first_closing former_dependencies 0 former_dependencies
 
 abbrev pub DependenciesAsBefore : Type 0
-DependenciesAsBefore = (triggers : List TriggerView) → AreBare triggers → dependencies triggers ≡ former_dependencies triggers
+DependenciesAsBefore = (triggers : List TriggerView) → AreBare triggers
+    → dependencies triggers ≡ former_dependencies triggers
 
 abbrev pub SafeAsBefore : Type 0
-SafeAsBefore = (triggers : List TriggerView) → AreBare triggers → IsSafe triggers ↔ FormerIsSafe triggers
+SafeAsBefore = (triggers : List TriggerView) → AreBare triggers
+    → IsSafe triggers ↔ FormerIsSafe triggers
 
 abbrev pub CycleAsBefore : Type 0
-CycleAsBefore = (triggers : List TriggerView) → AreBare triggers → the_cycle triggers ≡ former_cycle triggers
+CycleAsBefore = (triggers : List TriggerView) → AreBare triggers
+    → the_cycle triggers ≡ former_cycle triggers

@@ -1,4 +1,5 @@
-//! That the definitions say of triggers without settled conditions, and of edges that are on, what they said before these came.
+//! That the definitions say of triggers without settled conditions, and of edges that are on, what
+//! they said before these came.
 #![tactic(auto)]
 
 mod laws;

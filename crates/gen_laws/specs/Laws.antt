@@ -33,20 +33,25 @@ PolicyIsSafe = (size : ℕ) → IsSafe (made_policy size).policy.triggers
 abbrev pub ScriptIsSaid : Type 0
 ScriptIsSaid =
     (seed size : ℕ) → 1 ≤ size → size ≤ 100_000
-    → map (read_line (made_policy size) Operator true) (lines_of (script_text seed size)) ≡ map (λ l. Ok l) (script_said seed size)
+    → map (read_line (made_policy size) Operator true) (lines_of (script_text seed size))
+    ≡ map (λ l. Ok l) (script_said seed size)
 
 -- the first line gives the birth, and no line behind it has a fault
 pub record IsBorn (seed size : ℕ) : Type 0 where
   pub behind : List (List ℕ)
   pub lines_are : lines_of (script_text seed size) ≡ time_line first_minute ∷ behind
-  pub birth : read_line (made_policy size) Operator true (time_line first_minute) ≡ Ok (At first_minute)
+  pub birth : read_line (made_policy size) Operator true (time_line first_minute)
+      ≡ Ok (At first_minute)
   pub no_fault : All (λ line. IsOk (read_line (made_policy size) Operator true line)) behind
 
 abbrev pub ScriptIsBorn : Type 0
 ScriptIsBorn = (seed size : ℕ) → 1 ≤ size → size ≤ 100_000 → IsBorn seed size
 
--- a legal history that the lines behind the birth, or the first of them, make does not come to the limit
+-- a legal history that the lines behind the birth, or the first of them, make does not come to the
+-- limit
 abbrev pub HistoryIsShort : Type 0
 HistoryIsShort =
-    (seed size : ℕ) → 1 ≤ size → size ≤ 100_000 → (front rest : List Line) → front ++ rest ≡ script_moves seed size
-    → (h : List Entry) (m : Model) → Follows front h → Legal (made_policy size).policy first_minute h m → length h < max_steps
+    (seed size : ℕ) → 1 ≤ size → size ≤ 100_000 → (front rest : List Line)
+    → front ++ rest ≡ script_moves seed size
+    → (h : List Entry) (m : Model) → Follows front h
+    → Legal (made_policy size).policy first_minute h m → length h < max_steps

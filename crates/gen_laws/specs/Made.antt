@@ -34,18 +34,40 @@ abbrev pub pair_named : ℕ → NamePair
 pair_named i = (role_named i, role_named (i + 1))
 
 abbrev pub names_of_made : ℕ → Names
-names_of_made k = record { roles = for_each role_named k; users = for_each user_named k; perms = for_each perm_named k; periods = codes "hours" ∷ []; limits = []; edges = map pair_named (range_with_len 1 (k - 1)) }
+names_of_made k = record {
+  roles = for_each role_named k;
+  users = for_each user_named k;
+  perms = for_each perm_named k;
+  periods = codes "hours" ∷ [];
+  limits = [];
+  edges = map pair_named (range_with_len 1 (k - 1));
+}
 
 abbrev pub role_at : ℕ → RoleId
 role_at n = record { 0 = n }
 
 -- `all.Days + {9}.Hours > 8.Hours`, at all times
 abbrev pub office_hours : Period
-office_hours = record { first = 0; last = last_minute; expr = record { parts = record { calendar = Days; set = None } ∷ record { calendar = Hours; set = Some (9 ∷ []) } ∷ []; count = 8; unit = Hours } }
+office_hours = record {
+  first = 0;
+  last = last_minute;
+  expr = record {
+    parts = record { calendar = Days; set = None }
+        ∷ record { calendar = Hours; set = Some (9 ∷ []) } ∷ [];
+    count = 8;
+    unit = Hours;
+  };
+}
 
 -- from each role to the next, weak, of both kinds
 abbrev pub edge_down : ℕ → HierEdge
-edge_down n = record { senior = role_at n; junior = role_at (n + 1); inherits = true; activates = true; strong = false }
+edge_down n = record {
+  senior = role_at n;
+  junior = role_at (n + 1);
+  inherits = true;
+  activates = true;
+  strong = false;
+}
 
 -- the user, and the permission, of a number has the role of that number
 abbrev pub assigned_own : ℕ → Fluent
@@ -56,7 +78,8 @@ granted_own n = Granted (record { 0 = n }) (role_at n)
 
 -- all assignments and grants, and every edge
 abbrev pub opening_made : ℕ → List Fluent
-opening_made k = map assigned_own (range_with_len 0 k) ++ map granted_own (range_with_len 0 k) ++ map (λ n. Edge n) (range_with_len 0 (k - 1))
+opening_made k = map assigned_own (range_with_len 0 k) ++ map granted_own (range_with_len 0 k)
+    ++ map (λ n. Edge n) (range_with_len 0 (k - 1))
 
 abbrev pub switched : Bool → ℕ → Event
 switched on n = record { on = on; fluent = Enabled (role_at n) }
@@ -66,7 +89,14 @@ at_fifty on n = record { prio = 50; event = switched on n }
 
 -- what switches a role switches the next one so at once
 abbrev pub passed_on : Bool → ℕ → TriggerView
-passed_on on n = record { events = switched on n ∷ []; signals = []; conds = []; settled = []; head = at_fifty on (n + 1); delay = 0 }
+passed_on on n = record {
+  events = switched on n ∷ [];
+  signals = [];
+  conds = [];
+  settled = [];
+  head = at_fifty on (n + 1);
+  delay = 0;
+}
 
 abbrev pub passed_both : ℕ → List TriggerView
 passed_both n = passed_on true n ∷ passed_on false n ∷ []

@@ -32,11 +32,13 @@ request_said r =
 
 module _ (seed k : ℕ) where
   abbrev pub round_said : ℕ → List Line
-  round_said n = At (minute_after seed k (n + 1)) ∷ acting (round seed k n).user ∷ Ask (request_said (round seed k n)) ∷ []
+  round_said n = At (minute_after seed k (n + 1)) ∷ acting (round seed k n).user
+      ∷ Ask (request_said (round seed k n)) ∷ []
 
   -- behind the birth
   abbrev pub moves_said : ℕ → List Line
-  moves_said rounds = flat_map opening_said (range_with_len 1 k) ++ flat_map round_said (range_with_len 0 rounds)
+  moves_said rounds = flat_map opening_said (range_with_len 1 k)
+      ++ flat_map round_said (range_with_len 0 rounds)
 
   abbrev pub lines_said : ℕ → List Line
   lines_said rounds = At first_minute ∷ moves_said rounds

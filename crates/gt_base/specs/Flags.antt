@@ -1,5 +1,5 @@
 -- Fluents with a flag each, which tells whether the fluent is on.
-use Rattle.std.specs.Prelude.{◌≡◌, ℕ, ◌<◌, Bool, true, false, cond, not, ◌&&◌, ◌||◌, List, [], ◌∷◌, ◌++◌, length, Option, Some, None, MatchOption}
+use Rattle.std.specs.Prelude.{◌≡◌, ℕ, ◌<◌, Bool, true, false, not, ◌&&◌, ◌||◌, List, [], ◌∷◌, ◌++◌, length, Option, Some, None, MatchOption, if◌then◌else◌}
 use Rattle.std.specs.List.{HoldsAt, flat_map, list_any}
 use Rattle.std.specs.Ordering.{eq_by_cmp}
 use Rattle.gt_base.specs.declared.events.Fluent.{Fluent}
@@ -22,7 +22,7 @@ none_or f (Some a) = f a
 abbrev pub flagged : List Fluent → List Bool → List Fluent
 flagged [] bs = []
 flagged (k ∷ ks) [] = []
-flagged (k ∷ ks) (b ∷ bs) = cond b (k ∷ flagged ks bs) (flagged ks bs)
+flagged (k ∷ ks) (b ∷ bs) = if b then k ∷ flagged ks bs else flagged ks bs
 
 -- whether the fluent is one of the list
 abbrev pub is_among : List Fluent → Fluent → Bool
@@ -34,7 +34,8 @@ is_lit s f = is_among (flagged s.known s.on) f
 
 -- the place of the fluent in the list, or that it is not there
 abbrev pub IsPlace : List Fluent → Fluent → Option ℕ → Type 0
-IsPlace ks f at = MatchOption at (is_among ks f ≡ false) (λ i. (i < length ks) × HoldsAt (λ k. k ≡ f) ks i)
+IsPlace ks f at = MatchOption at (is_among ks f ≡ false)
+    (λ i. (i < length ks) × HoldsAt (λ k. k ≡ f) ks i)
 
 -- the fluent is lit besides those that were, and no longer lit
 abbrev pub IsWith : Fluent → Flagged → Flagged → Type 0

@@ -1,5 +1,5 @@
 -- Names and numbers as words.
-use Rattle.std.specs.Prelude.{◌≡◌, ℕ, ◌+◌, ◌-◌, ◌*◌, Bool, true, false, cond, ◌&&◌, ◌||◌, ◌==◌, List, [], ◌∷◌, ◌++◌, length, take, drop, replicate, nat_le, nat_lt, bytes_eq, Option, Some, None, position}
+use Rattle.std.specs.Prelude.{◌≡◌, ℕ, ◌+◌, ◌-◌, ◌*◌, Bool, true, false, ◌&&◌, ◌||◌, ◌==◌, List, [], ◌∷◌, ◌++◌, length, take, drop, replicate, nat_le, nat_lt, bytes_eq, Option, Some, None, position, if◌then◌else◌}
 use Rattle.std.specs.List.{list_all, list_any}
 
 abbrev pub is_letter : ℕ → Bool
@@ -19,7 +19,7 @@ is_name (b ∷ bs) = is_letter b && list_all is_name_byte bs && nat_lt (length b
 
 -- the name that a word is
 abbrev pub name_in : List ℕ → Option (List ℕ)
-name_in word = elim (is_name word) [ true ↦ Some word | false ↦ None ]
+name_in word = if is_name word then Some word else None
 
 -- what digits count
 abbrev pub counted : ℕ → List ℕ → ℕ
@@ -34,12 +34,16 @@ is_number (b ∷ c ∷ bs) = is_digit b && nat_lt 48 b && list_all is_digit (c �
 
 -- the number that a word is; for each number below 2 ^ 64 its word is `decimal`
 abbrev pub number_in : List ℕ → Option ℕ
-number_in word = elim (is_number word) [ true ↦ Some (counted 0 word) | false ↦ None ]
+number_in word = if is_number word then Some (counted 0 word) else None
 
 -- a number within these bounds
 abbrev pub number_from : ℕ → ℕ → List ℕ → Option ℕ
 number_from least most word =
-    elim (number_in word) [ None ↦ None | Some n ↦ elim (nat_le least n && nat_le n most) [ true ↦ Some n | false ↦ None ] ]
+    elim (number_in word) [
+      | None ↦ None
+      | Some n ↦ if nat_le least n && nat_le n most then Some n
+          else None
+    ]
 
 -- the place of a name among names
 abbrev pub place_of : List (List ℕ) → List ℕ → Option ℕ
@@ -58,4 +62,4 @@ lists_name names name = list_any (bytes_eq name) names
 
 -- the names with this one at the end, unless they have it
 abbrev pub with_name : List (List ℕ) → List ℕ → List (List ℕ)
-with_name names name = cond (lists_name names name) names (names ++ name ∷ [])
+with_name names name = if lists_name names name then names else names ++ name ∷ []

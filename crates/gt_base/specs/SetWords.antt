@@ -4,7 +4,8 @@ use Rattle.std.specs.Ordering.{eq_by_cmp}
 use Rattle.std.specs.declared.cmp.Ordering.{Ordering}
 use Rattle.gt_base.specs.Sets.{SetOf, has, none, with_member, without}
 
--- sets with the same members are equal; nothing is in the empty set; adding and taking out change one member alone
+-- sets with the same members are equal; nothing is in the empty set; adding and taking out change
+-- one member alone
 pub record AreSets {K : Type 0} (R : K → K → Ordering) : Type 0 where
   pub same : (s t : SetOf R) → ((x : K) → has s x ≡ has t x) → s ≡ t
   pub empty : (x : K) → has (none {R = R}) x ≡ false

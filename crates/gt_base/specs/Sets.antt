@@ -1,4 +1,5 @@
--- Finite sets, kept in an order of their members. `FinSet` of std is the same, but computes nothing outside its file.
+-- Finite sets, kept in an order of their members. `FinSet` of std is the same, but computes nothing
+-- outside its file.
 use Rattle.std.specs.Prelude.{◌≡◌, ℕ, Bool, true, false, not, T, List, [], ◌∷◌, map, insert, is_some, refl}
 use Rattle.std.proofs.Common.{sym, subst}
 use mathlib.Core.HLevel.{Σ_prop_path}
@@ -20,7 +21,8 @@ pairs ks = map (λ k. (k, tt)) ks
 module _ {K : Type 0} {R : K → K → Ordering} where
   pub same_entries_set : (s t : SetOf R) → s.entries ≡ t.entries → s ≡ t
   same_entries_set s t e =
-      let pairs : ◌≡◌ {A = (es : List (K × Unit {0})) × T (is_sorted R es)} (s.entries, s.ascending) (t.entries, t.ascending) = Σ_prop_path (λ es. T_prop _) e in
+      let pairs : ◌≡◌ {A = (es : List (K × Unit {0})) × T (is_sorted R es)} (s.entries, s.ascending)
+      (t.entries, t.ascending) = Σ_prop_path (λ es. T_prop _) e in
       λ i. record { entries = (pairs i).0; ascending = (pairs i).1 }
 
   abbrev pub set_code : Coded K → Coded (SetOf R)
@@ -41,7 +43,8 @@ module _ {K : Type 0} {R : K → K → Ordering} where
   none = record { entries = []; ascending = tt }
 
   -- an order that is not total may leave a list out of order, and then the set is the one given
-  unfoldable pub checked : (es : List (K × Unit {0})) (b : Bool) → is_sorted R es ≡ b → SetOf R → SetOf R
+  unfoldable pub checked : (es : List (K × Unit {0})) (b : Bool) → is_sorted R es ≡ b → SetOf R
+      → SetOf R
   checked es true e s = record { entries = es; ascending = subst T (sym e) tt }
   checked es false e s = s
 
@@ -50,7 +53,10 @@ module _ {K : Type 0} {R : K → K → Ordering} where
 
   -- the members that pass the test
   unfoldable pub those : SetOf R → (K → Bool) → SetOf R
-  those s p = record { entries = where_key R p s.entries; ascending = is_sorted-where_key R p s.entries s.ascending }
+  those s p = record {
+    entries = where_key R p s.entries;
+    ascending = is_sorted-where_key R p s.entries s.ascending;
+  }
 
   abbrev pub without : SetOf R → K → SetOf R
   without s k = those s (λ x. not (eq_by_cmp R k x))

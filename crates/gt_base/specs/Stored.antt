@@ -12,7 +12,9 @@ pub stored_again : (a : Inside) → IsStored a.bytes a.len → with_zeros (take 
 stored_again a h =
     let built : List ℕ → ℕ → Inside = λ bs n. record { bytes = bs; len = n } in
     let whole : take a.len a.bytes ++ replicate (32 - length (take a.len a.bytes)) 0 ≡ a.bytes =
-    ap (λ n. take a.len a.bytes ++ replicate (32 - n) 0) h.count ∙ ap (λ zs. take a.len a.bytes ++ zs) (sym h.zeros) ∙ take-append-drop a.len a.bytes in
-    let same : built (take a.len a.bytes ++ replicate (32 - length (take a.len a.bytes)) 0) (length (take a.len a.bytes)) ≡ built a.bytes a.len =
+    ap (λ n. take a.len a.bytes ++ replicate (32 - n) 0) h.count ∙ ap
+    (λ zs. take a.len a.bytes ++ zs) (sym h.zeros) ∙ take-append-drop a.len a.bytes in
+    let same : built (take a.len a.bytes ++ replicate (32 - length (take a.len a.bytes)) 0)
+    (length (take a.len a.bytes)) ≡ built a.bytes a.len =
     ap (λ bs. built bs (length (take a.len a.bytes))) whole ∙ ap (built a.bytes) h.count in
     same

@@ -22,9 +22,11 @@ fluent_in (PermsOf r) n = Granted (record { 0 = n }) r
 fluent_in Limits n = Limit (record { 0 = n })
 fluent_in Edges n = Edge n
 
--- the fluents that a word stands for: for each bit that is 1 the one of the row with that place in the row
+-- the fluents that a word stands for: for each bit that is 1 the one of the row with that place in
+-- the row
 unfoldable pub fluents_of : Word → List Fluent
-fluents_of w = map (λ b. fluent_in w.place.row (w.place.below * 64 + b)) (filter (λ b. bit_at w.bits b == 1) (range_with_len 0 64))
+fluents_of w = map (λ b. fluent_in w.place.row (w.place.below * 64 + b))
+    (filter (λ b. bit_at w.bits b == 1) (range_with_len 0 64))
 
 -- the set that words stand for
 unfoldable pub set_of_words : List Word → SetOf fluent_cmp

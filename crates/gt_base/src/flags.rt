@@ -1,4 +1,5 @@
-//! Fluents with a flag each: the row of fluents is shared by copies, and the flags are each copy's own.
+//! Fluents with a flag each: the row of fluents is shared by copies, and the flags are each copy's
+//! own.
 ghost use Rattle.std.specs.Prelude.{◌≡◌, ◌<◌, [], ◌++◌, true, false, map, length, flat_map, slice_index_or, slice_set, IfOk, IfSome, MatchOption};
 ghost use Rattle.gt_base.specs.declared.events.RoleId.{RoleId};
 ghost use Rattle.gt_base.specs.declared.events.Fluent.TheVariants.{Granted};
@@ -38,7 +39,8 @@ impl Model for Flags {
 
     ghost view = { λ s. record { known = none_or arc_value s.known; on = s.on.items } };
 
-    ghost invariant = { λ s. Rises fluent_cmp (none_or arc_value s.known) × (length s.on.items ≡ length (none_or arc_value s.known)) };
+    ghost invariant = { λ s. Rises fluent_cmp (none_or arc_value s.known)
+        × (length s.on.items ≡ length (none_or arc_value s.known)) };
 }
 
 impl Flags {
@@ -90,7 +92,8 @@ impl Flags {
 
     /// Whether the fluent is on by its flag, if it has one.
     fn flag(&self, f: Fluent) -> Option<bool>
-        ensures { MatchOption result (is_among self.now.known f ≡ false) (λ flag. (is_among self.now.known f ≡ true) × (flag ≡ is_lit self.now f)) }
+        ensures { MatchOption result (is_among self.now.known f ≡ false)
+            (λ flag. (is_among self.now.known f ≡ true) × (flag ≡ is_lit self.now f)) }
     {
         match self.place(f) {
             Some(at) => Some(flag_at(&self.on, at)),
@@ -98,9 +101,11 @@ impl Flags {
         }
     }
 
-    /// The only role to which a fluent with a flag grants the permission, where it is quickly found that there is just one.
+    /// The only role to which a fluent with a flag grants the permission, where it is quickly found
+    /// that there is just one.
     fn only_known(&self, perm: PermId) -> Option<RoleId>
-        ensures { IfSome result (λ role. (r : RoleId) → is_among self.now.known (Granted perm r) ≡ true → r ≡ role) }
+        ensures { IfSome result (λ role. (r : RoleId)
+            → is_among self.now.known (Granted perm r) ≡ true → r ≡ role) }
     {
         match &self.known {
             Some(known) => known.only_role(perm),
@@ -111,7 +116,8 @@ impl Flags {
     /// Sets the fluent's flag, if it has one, and tells whether it has.
     pub(crate) fn turn_on(&mut self, f: Fluent) -> bool
         ensures known { result ≡ true → IsWith f self.old self.new }
-        ensures unknown { result ≡ false → (self.new ≡ self.old) × (is_among self.old.known f ≡ false) }
+        ensures unknown { result ≡ false
+            → (self.new ≡ self.old) × (is_among self.old.known f ≡ false) }
         ensures same { self.new.known ≡ self.old.known }
     {
         match self.place(f) {
@@ -189,9 +195,11 @@ pub(crate) fn is_on_in(flags: &Flags, more: &[Word], f: Fluent) -> bool
 /// So many words are looked at quickly.
 const FEW: usize = 16;
 
-/// The only role to which a fluent that is on grants the permission, where it is quickly found that no other is.
+/// The only role to which a fluent that is on grants the permission, where it is quickly found that
+/// no other is.
 pub(crate) fn only_role_in(flags: &Flags, more: &[Word], perm: PermId) -> Option<RoleId>
-    ensures { IfSome result (λ role. (r : RoleId) → has (set_of_parts flags.now more.now) (Granted perm r) ≡ true → r ≡ role) }
+    ensures { IfSome result (λ role. (r : RoleId) → has (set_of_parts flags.now more.now)
+        (Granted perm r) ≡ true → r ≡ role) }
 {
     if more.len() <= FEW && grant_nothing(more) {
         flags.only_known(perm)
@@ -203,14 +211,16 @@ pub(crate) fn only_role_in(flags: &Flags, more: &[Word], perm: PermId) -> Option
 /// All fluents that have a flag or that a word stands for, ascending.
 fn all_known(alloc: Global, flags: &Flags, more: &[Word]) -> Result<Vec<Fluent>, Memory>
     requires { AreWords more.now }
-    ensures { IfOk result (λ all. all.items ≡ members (set_of {R = fluent_cmp} (flags.now.known ++ flat_map fluents_of more.now))) }
+    ensures { IfOk result (λ all. all.items ≡ members
+        (set_of {R = fluent_cmp} (flags.now.known ++ flat_map fluents_of more.now))) }
 {
     let mut all = Vec::from_slice(alloc, flags.fluents())?;
     add_all(&mut all, more)?;
     Ok(ascending(all))
 }
 
-/// Flags for all fluents that have a flag or that a word stands for, each set where the fluent is on.
+/// Flags for all fluents that have a flag or that a word stands for, each set where the fluent is
+/// on.
 pub(crate) fn gathered(alloc: Global, flags: &Flags, more: &[Word]) -> Result<Flags, Memory>
     requires words { AreWords more.now }
     requires apart { AreApart flags.now more.now }
@@ -231,7 +241,8 @@ fn flags_for(
 ) -> Result<Vec<bool>, Memory>
     requires words { AreWords more.now }
     requires apart { AreApart flags.now more.now }
-    ensures { IfOk result (λ on. on.items ≡ map (has (set_of_parts flags.now more.now)) fluents.now) }
+    ensures { IfOk result (λ on. on.items ≡ map (has (set_of_parts flags.now more.now))
+        fluents.now) }
 {
     let mut on = Vec::with_capacity(alloc, fluents.len())?;
     for f in fluents {

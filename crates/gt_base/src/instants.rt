@@ -24,7 +24,8 @@ impl Model for Instant {
 }
 
 impl Instant {
-    /// The minute of this number, counted from 2000-01-01T00:00; none exactly past 2099-12-31T23:59.
+    /// The minute of this number, counted from 2000-01-01T00:00; none exactly past
+    /// 2099-12-31T23:59.
     pub fn new(m: u32) -> Option<Instant>
         ensures none { IsNone result ↔ (last_minute < m) }
         ensures some { IfSome result (λ t. t ≡ m) }

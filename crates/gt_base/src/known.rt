@@ -13,11 +13,12 @@ use crate::lists::Memory;
 use std::alloc::Global;
 use std::marker::Model;
 
-/// Fluents in ascending order, seen as their list. Beside them stands where to look for each, which is a hint: what is found there is looked at
-/// before it is told.
+/// Fluents in ascending order, seen as their list. Beside them stands where to look for each, which
+/// is a hint: what is found there is looked at before it is told.
 pub(crate) struct Known {
     fluents: Vec<Fluent>,
-    /// How many fluents stand before those of each sort and first name, sort by sort; the names from `width - 1` on count as one.
+    /// How many fluents stand before those of each sort and first name, sort by sort; the names
+    /// from `width - 1` on count as one.
     starts: Vec<u32>,
     /// The second name of each fluent, 0 where it has none.
     seconds: Vec<u32>,
@@ -80,9 +81,11 @@ impl Known {
         place_by(&self.fluents, self.guess(f), f)
     }
 
-    /// The only role to which a known fluent grants the permission, where it is quickly found that there is just one.
+    /// The only role to which a known fluent grants the permission, where it is quickly found that
+    /// there is just one.
     pub(crate) fn only_role(&self, perm: PermId) -> Option<RoleId>
-        ensures { IfSome result (λ role. (r : RoleId) → is_among self.now (Granted perm r) ≡ true → r ≡ role) }
+        ensures { IfSome result (λ role. (r : RoleId) → is_among self.now (Granted perm r) ≡ true
+            → r ≡ role) }
     {
         only_at(
             &self.fluents,
@@ -126,7 +129,8 @@ fn slot_of(width: u32, f: Fluent) -> usize {
     sort * width as usize + first.min(width.saturating_sub(1)) as usize
 }
 
-/// Where the name stands among ascending ones, or where it would go in: looked for first where it stands if no name is left out before it.
+/// Where the name stands among ascending ones, or where it would go in: looked for first where it
+/// stands if no name is left out before it.
 fn place_in(names: &[u32], name: u32) -> usize
     ensures { result ≤ length names.now }
 {
@@ -217,7 +221,9 @@ fn goes_in_at(fluents: &[Fluent], at: usize, f: Fluent) -> bool
 
 /// Whether nothing stands before the place, or the fluent is above it.
 fn is_after(fluents: &[Fluent], at: usize, f: Fluent) -> bool
-    ensures { result ≡ true → (at ≡ 0) ⊎ ((at - 1 < length fluents.now) × HoldsAt (λ k. fluent_cmp k f ≡ Less) fluents.now (at - 1)) }
+    ensures { result ≡ true → (at ≡ 0)
+        ⊎ ((at - 1 < length fluents.now)
+        × HoldsAt (λ k. fluent_cmp k f ≡ Less) fluents.now (at - 1)) }
 {
     if at == 0 {
         return true;
@@ -227,7 +233,8 @@ fn is_after(fluents: &[Fluent], at: usize, f: Fluent) -> bool
 
 /// Whether nothing stands from the place on, or the fluent is below it.
 fn is_before(fluents: &[Fluent], at: usize, f: Fluent) -> bool
-    ensures { result ≡ true → (at ≡ length fluents.now) ⊎ ((at < length fluents.now) × HoldsAt (λ k. fluent_cmp k f ≡ Greater) fluents.now at) }
+    ensures { result ≡ true → (at ≡ length fluents.now)
+        ⊎ ((at < length fluents.now) × HoldsAt (λ k. fluent_cmp k f ≡ Greater) fluents.now at) }
 {
     if at == fluents.len() {
         return true;
@@ -235,10 +242,12 @@ fn is_before(fluents: &[Fluent], at: usize, f: Fluent) -> bool
     is_above(fluents, at, f)
 }
 
-/// The role to which the fluent at the place grants the permission, if it does, and its neighbours grant it to nobody.
+/// The role to which the fluent at the place grants the permission, if it does, and its neighbours
+/// grant it to nobody.
 fn only_at(fluents: &[Fluent], at: usize, perm: PermId) -> Option<RoleId>
     requires { Rises fluent_cmp fluents.now }
-    ensures { IfSome result (λ role. (r : RoleId) → is_among fluents.now (Granted perm r) ≡ true → r ≡ role) }
+    ensures { IfSome result (λ role. (r : RoleId) → is_among fluents.now (Granted perm r) ≡ true
+        → r ≡ role) }
 {
     let role = granted_at(fluents, at, perm)?;
     if is_first(fluents, at, perm) && is_last(fluents, at, perm) {
@@ -250,7 +259,8 @@ fn only_at(fluents: &[Fluent], at: usize, perm: PermId) -> Option<RoleId>
 
 /// The role to which the fluent at the place grants the permission, if it does.
 fn granted_at(fluents: &[Fluent], at: usize, perm: PermId) -> Option<RoleId>
-    ensures { IfSome result (λ role. (at < length fluents.now) × HoldsAt (λ k. k ≡ Granted perm role) fluents.now at) }
+    ensures { IfSome result (λ role. (at < length fluents.now)
+        × HoldsAt (λ k. k ≡ Granted perm role) fluents.now at) }
 {
     match fluents.get(at) {
         Some(Fluent::Granted(p, role)) if p.0 == perm.0 => Some(*role),
@@ -258,9 +268,12 @@ fn granted_at(fluents: &[Fluent], at: usize, perm: PermId) -> Option<RoleId>
     }
 }
 
-/// Whether nothing stands before the place, or what stands there is below each fluent that grants the permission.
+/// Whether nothing stands before the place, or what stands there is below each fluent that grants
+/// the permission.
 fn is_first(fluents: &[Fluent], at: usize, perm: PermId) -> bool
-    ensures { result ≡ true → (at ≡ 0) ⊎ ((at - 1 < length fluents.now) × HoldsAt (λ k. (r : RoleId) → fluent_cmp k (Granted perm r) ≡ Less) fluents.now (at - 1)) }
+    ensures { result ≡ true → (at ≡ 0)
+        ⊎ ((at - 1 < length fluents.now)
+        × HoldsAt (λ k. (r : RoleId) → fluent_cmp k (Granted perm r) ≡ Less) fluents.now (at - 1)) }
 {
     if at == 0 {
         return true;
@@ -271,10 +284,14 @@ fn is_first(fluents: &[Fluent], at: usize, perm: PermId) -> bool
     }
 }
 
-/// Whether nothing stands after the place, or what stands there is above each fluent that grants the permission.
+/// Whether nothing stands after the place, or what stands there is above each fluent that grants
+/// the permission.
 fn is_last(fluents: &[Fluent], at: usize, perm: PermId) -> bool
     requires { at < length fluents.now }
-    ensures { result ≡ true → (at + 1 ≡ length fluents.now) ⊎ ((at + 1 < length fluents.now) × HoldsAt (λ k. (r : RoleId) → fluent_cmp k (Granted perm r) ≡ Greater) fluents.now (at + 1)) }
+    ensures { result ≡ true → (at + 1 ≡ length fluents.now)
+        ⊎ ((at + 1 < length fluents.now)
+        × HoldsAt (λ k. (r : RoleId) → fluent_cmp k (Granted perm r) ≡ Greater) fluents.now
+        (at + 1)) }
 {
     match fluents.get(at + 1) {
         Some(there) => is_above_all(*there, perm),
@@ -306,7 +323,8 @@ fn is_above_all(f: Fluent, perm: PermId) -> bool
 
 /// Whether what stands at the place is below the fluent.
 fn is_below(fluents: &[Fluent], at: usize, f: Fluent) -> bool
-    ensures { result ≡ true → (at < length fluents.now) × HoldsAt (λ k. fluent_cmp k f ≡ Less) fluents.now at }
+    ensures { result ≡ true → (at < length fluents.now)
+        × HoldsAt (λ k. fluent_cmp k f ≡ Less) fluents.now at }
 {
     match fluents.get(at) {
         Some(there) => there.cmp(&f).is_lt(),
@@ -316,7 +334,8 @@ fn is_below(fluents: &[Fluent], at: usize, f: Fluent) -> bool
 
 /// Whether what stands at the place is above the fluent.
 fn is_above(fluents: &[Fluent], at: usize, f: Fluent) -> bool
-    ensures { result ≡ true → (at < length fluents.now) × HoldsAt (λ k. fluent_cmp k f ≡ Greater) fluents.now at }
+    ensures { result ≡ true → (at < length fluents.now)
+        × HoldsAt (λ k. fluent_cmp k f ≡ Greater) fluents.now at }
 {
     match fluents.get(at) {
         Some(there) => there.cmp(&f).is_gt(),

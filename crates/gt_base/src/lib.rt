@@ -1,5 +1,6 @@
-//! The plain types that all crates of the server speak of: instants, events, rules, requests, replies and entries of a
-//! history, lists and sets whose room is taken ahead, and the traits of a value that keeps a history.
+//! The plain types that all crates of the server speak of: instants, events, rules, requests,
+//! replies and entries of a history, lists and sets whose room is taken ahead, and the traits of a
+//! value that keeps a history.
 #![tactic(auto)]
 
 mod events;

@@ -18,7 +18,8 @@ pub enum StepFault {
     Memory,
 }
 
-/// A value that keeps a list of entries, over a root that never changes (of a book its policy and birth).
+/// A value that keeps a list of entries, over a root that never changes (of a book its policy and
+/// birth).
 pub trait Keeps {
     /// The entries that it keeps, in order.
     ghost list: { Self → List Entry };
@@ -54,19 +55,27 @@ pub trait Machine: Keeps {
         ensures legal { legal self.now (Self.list self.now) }
         ensures bound { length (Self.list self.now) ≤ max_steps };
 
-    /// Goes on to the next instant that stirs, or to the bound; a bound that is not after now changes nothing.
+    /// Goes on to the next instant that stirs, or to the bound; a bound that is not after now
+    /// changes nothing.
     fn tick(&mut self, who: Who, upto: Instant) -> Result<Instant, StepFault>
         ensures root { Self.same_root self.old self.new }
-        ensures ok { IfOk result (λ t. (t ≡ now_of self.new (Self.list self.new)) × (((upto ≤ now_of self.old (Self.list self.old)) × (self.new ≡ self.old)) ⊎ ((now_of self.old (Self.list self.old) < upto) × (Self.list self.new ≡ Self.list self.old ++ ticked who upto t ∷ [])))) }
+        ensures ok { IfOk result (λ t. (t ≡ now_of self.new (Self.list self.new))
+            × (((upto ≤ now_of self.old (Self.list self.old)) × (self.new ≡ self.old))
+            ⊎ ((now_of self.old (Self.list self.old) < upto)
+            × (Self.list self.new ≡ Self.list self.old ++ ticked who upto t ∷ [])))) }
         ensures err { OnErr result (self.new ≡ self.old) }
-        ensures full { result ≡ Err StepFault.StepsFull → (now_of self.old (Self.list self.old) < upto) × (max_steps ≤ length (Self.list self.old)) }
-        ensures room { OnOk result ((upto ≤ now_of self.old (Self.list self.old)) ⊎ (length (Self.list self.old) < max_steps)) };
+        ensures full { result ≡ Err StepFault.StepsFull
+            → (now_of self.old (Self.list self.old) < upto)
+            × (max_steps ≤ length (Self.list self.old)) }
+        ensures room { OnOk result ((upto ≤ now_of self.old (Self.list self.old))
+            ⊎ (length (Self.list self.old) < max_steps)) };
 
     /// Answers a request at now.
     fn ask(&mut self, who: Who, actor: Actor, request: Request) -> Result<Reply, StepFault>
         requires { named self.old actor request }
         ensures root { Self.same_root self.old self.new }
-        ensures ok { IfOk result (λ reply. Self.list self.new ≡ Self.list self.old ++ asked who actor request reply ∷ []) }
+        ensures ok { IfOk result (λ reply. Self.list self.new ≡ Self.list self.old
+            ++ asked who actor request reply ∷ []) }
         ensures err { OnErr result (self.new ≡ self.old) }
         ensures full { result ≡ Err StepFault.StepsFull → max_steps ≤ length (Self.list self.old) }
         ensures room { OnOk result (length (Self.list self.old) < max_steps) };

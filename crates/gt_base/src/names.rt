@@ -5,8 +5,8 @@ ghost use Rattle.gt_base.specs.Names.{is_letter as letter, is_name_byte as name_
 
 use std::marker::Model;
 
-/// A name: 1 to 32 bytes, of which the first is a letter and the others are letters, digits, `_`, `-` or `.`. It is
-/// seen as the list of its bytes.
+/// A name: 1 to 32 bytes, of which the first is a letter and the others are letters, digits, `_`,
+/// `-` or `.`. It is seen as the list of its bytes.
 #[derive(Clone, Copy, Debug, PartialEq, Eq, Hash)]
 pub struct Name {
     bytes: [u8; 32],

@@ -6,9 +6,9 @@ use crate::instants::Prio;
 use crate::lists::{List, Memory};
 use std::marker::Model;
 
-/// A trigger: at an instant at which its body is met its head follows after the delay, in minutes; at once where the
-/// delay is 0. Its conditions are asked of the status before the instant, its settled conditions of the status after it.
-/// Triggers are seen without the room of their lists.
+/// A trigger: at an instant at which its body is met its head follows after the delay, in minutes;
+/// at once where the delay is 0. Its conditions are asked of the status before the instant, its
+/// settled conditions of the status after it. Triggers are seen without the room of their lists.
 pub struct Trigger {
     pub events: List<Event>,
     pub signals: List<Signal>,
@@ -36,11 +36,18 @@ impl Model for Trigger {
 
     ghost Value = { TriggerView };
 
-    ghost view = { λ t. record { events = t.events.items; signals = t.signals.items; conds = t.conds.items; settled = t.settled.items; head = t.head; delay = t.delay } };
+    ghost view = { λ t. record {
+      events = t.events.items;
+      signals = t.signals.items;
+      conds = t.conds.items;
+      settled = t.settled.items;
+      head = t.head;
+      delay = t.delay;
+    } };
 }
 
-/// When a periodic entry raises its event: at each instant of its period, where the period starts, or where a span of it
-/// begins, with the converse where it ends.
+/// When a periodic entry raises its event: at each instant of its period, where the period starts,
+/// or where a span of it begins, with the converse where it ends.
 #[derive(Clone, Copy, PartialEq, Eq, Debug)]
 pub enum Form {
     Each,
@@ -65,9 +72,9 @@ pub struct LimitRule {
     pub period: Option<PeriodId>,
 }
 
-/// An edge of the role hierarchy. It lends the junior's permissions to the senior where it inherits, and lets who may
-/// activate the senior activate the junior where it activates; it does so while it is linked, and a strong edge needs both
-/// roles enabled.
+/// An edge of the role hierarchy. It lends the junior's permissions to the senior where it
+/// inherits, and lets who may activate the senior activate the junior where it activates; it does
+/// so while it is linked, and a strong edge needs both roles enabled.
 #[derive(Clone, Copy, PartialEq, Eq, Debug)]
 pub struct HierEdge {
     pub senior: RoleId,
@@ -77,8 +84,8 @@ pub struct HierEdge {
     pub strong: bool,
 }
 
-/// The caps of one role: activations at once over all sessions and of one user, minutes of one activation, and charged
-/// minutes of a user in a civil day.
+/// The caps of one role: activations at once over all sessions and of one user, minutes of one
+/// activation, and charged minutes of a user in a civil day.
 #[derive(Clone, Copy, PartialEq, Eq, Debug)]
 pub struct Caps {
     pub total: Option<u32>,
@@ -87,7 +94,8 @@ pub struct Caps {
     pub day: Option<u32>,
 }
 
-/// A walk over the hierarchy: the role where it begins and the numbers of its edges. It is seen without its list's room.
+/// A walk over the hierarchy: the role where it begins and the numbers of its edges. It is seen
+/// without its list's room.
 #[derive(Drop)]
 pub struct Walk {
     pub start: RoleId,

@@ -44,7 +44,8 @@ pub enum Seen {
     Absent,
 }
 
-/// The answer to a check: a permit with the least walk that leads to the permission, or why there is none.
+/// The answer to a check: a permit with the least walk that leads to the permission, or why there
+/// is none.
 pub enum Decision {
     Permit { walk: Walk },
     NoActive,

@@ -5,7 +5,8 @@ ghost use Rattle.gt_base.specs.Sets.{Rises, set_of_rising, has, with_member, Goe
 /// Where the item stands, or where it goes in.
 fn find<K: Ord>(items: &[K], k: &K) -> Result<usize, usize>
     requires { Rises K.cmp items.now }
-    ensures found { IfOk result (λ _. (has (set_of_rising {R = K.cmp} items.now) k.now ≡ true) × (with_member (set_of_rising {R = K.cmp} items.now) k.now ≡ set_of_rising items.now)) }
+    ensures found { IfOk result (λ _. (has (set_of_rising {R = K.cmp} items.now) k.now ≡ true)
+        × (with_member (set_of_rising {R = K.cmp} items.now) k.now ≡ set_of_rising items.now)) }
     ensures place { IfErr result (λ i. i ≤ length items.now) }
     ensures absent { IfErr result (GoesIn K.cmp k.now items.now) }
 {
@@ -28,7 +29,8 @@ pub(crate) fn put<K: Ord + Copy>(items: &mut Vec<K>, k: K)
     requires rises { Rises K.cmp items.old.items }
     requires room { vec_len items.old < vec_capacity items.old }
     ensures rises { Rises K.cmp items.new.items }
-    ensures set { set_of_rising {R = K.cmp} items.new.items ≡ with_member (set_of_rising items.old.items) k }
+    ensures set { set_of_rising {R = K.cmp} items.new.items
+        ≡ with_member (set_of_rising items.old.items) k }
     ensures capacity { vec_capacity items.old ≤ vec_capacity items.new }
     ensures len { vec_len items.new ≤ vec_len items.old + 1 }
 {

@@ -1,4 +1,5 @@
-//! Sets of events, signals and fluents, whose room is taken ahead: events and signals as rising rows, fluents by flags and as words.
+//! Sets of events, signals and fluents, whose room is taken ahead: events and signals as rising
+//! rows, fluents by flags and as words.
 ghost use Rattle.std.specs.Prelude.{◌≡◌, ◌≤◌, ◌+◌, ◌<◌, if◌then◌else◌, length, slice_get, true, Some, OnOk, IfOk, IfSome, vec_capacity, vec_len};
 ghost use Rattle.gt_base.specs.declared.events.RoleId.{RoleId};
 ghost use Rattle.gt_base.specs.declared.events.Fluent.TheVariants.{Granted};
@@ -31,7 +32,10 @@ impl Model for EventSet {
 
     ghost coded = { roomier_code events_code };
 
-    ghost view = { λ s. record { set = set_of_rising s.events.items; spare = vec_capacity s.events - vec_len s.events } };
+    ghost view = { λ s. record {
+      set = set_of_rising s.events.items;
+      spare = vec_capacity s.events - vec_len s.events;
+    } };
 
     ghost invariant = { λ s. Rises event_cmp s.events.items };
 }
@@ -104,8 +108,8 @@ impl EventSet {
     }
 }
 
-/// What happens at an instant: a set of prioritised events and a set of signals, seen with the number of further
-/// events, and as well of signals, that it has room for.
+/// What happens at an instant: a set of prioritised events and a set of signals, seen with the
+/// number of further events, and as well of signals, that it has room for.
 pub struct Happened {
     events: Vec<Prioritised>,
     signals: Vec<Signal>,
@@ -130,9 +134,17 @@ impl Model for Happened {
 
     ghost coded = { roomier_code happening_code };
 
-    ghost view = { λ h. record { set = record { events = set_of_rising h.events.items; signals = set_of_rising h.signals.items }; spare = min (vec_capacity h.events - vec_len h.events) (vec_capacity h.signals - vec_len h.signals) } };
+    ghost view = { λ h. record {
+      set = record {
+        events = set_of_rising h.events.items;
+        signals = set_of_rising h.signals.items;
+      };
+      spare = min (vec_capacity h.events - vec_len h.events)
+          (vec_capacity h.signals - vec_len h.signals);
+    } };
 
-    ghost invariant = { λ h. Rises prioritised_cmp h.events.items × Rises signal_cmp h.signals.items };
+    ghost invariant = { λ h. Rises prioritised_cmp h.events.items
+        × Rises signal_cmp h.signals.items };
 }
 
 impl Happened {
@@ -245,9 +257,10 @@ impl Happened {
     }
 }
 
-/// Which fluents are on, seen as their set and the number of further words that it has room for. Fluents that were on before have a flag
-/// each, in a row that copies share, so that a copy moves the flags alone. For the others there are words of 64 fluents that stand side by
-/// side, and to set one fluent on takes one further word at most.
+/// Which fluents are on, seen as their set and the number of further words that it has room for.
+/// Fluents that were on before have a flag each, in a row that copies share, so that a copy moves
+/// the flags alone. For the others there are words of 64 fluents that stand side by side, and to
+/// set one fluent on takes one further word at most.
 pub struct Status {
     flags: Flags,
     words: Vec<Word>,
@@ -269,7 +282,10 @@ impl Model for Status {
 
     ghost coded = { roomier_code fluents_code };
 
-    ghost view = { λ s. record { set = set_of_parts s.flags s.words.items; spare = vec_capacity s.words - vec_len s.words } };
+    ghost view = { λ s. record {
+      set = set_of_parts s.flags s.words.items;
+      spare = vec_capacity s.words - vec_len s.words;
+    } };
 
     ghost invariant = { λ s. AreWords s.words.items × AreApart s.flags s.words.items };
 }
@@ -286,7 +302,8 @@ impl Status {
         }
     }
 
-    /// Makes room for n more words, and so for n more fluents. After a refusal the status is as it was.
+    /// Makes room for n more words, and so for n more fluents. After a refusal the status is as it
+    /// was.
     pub fn reserve(&mut self, n: usize) -> Result<(), Memory>
         ensures set { self.new.set ≡ self.old.set }
         ensures spare { self.old.spare ≤ self.new.spare }
@@ -310,7 +327,8 @@ impl Status {
         Ok(copy)
     }
 
-    /// Gives each fluent of the words a flag, once they are many. After a refusal nothing is changed.
+    /// Gives each fluent of the words a flag, once they are many. After a refusal nothing is
+    /// changed.
     fn gather(&mut self) -> Result<(), Memory>
         ensures set { self.new.set ≡ self.old.set }
         ensures spare { self.old.spare ≤ self.new.spare }
@@ -347,10 +365,12 @@ impl Status {
         is_on_in(&self.flags, &self.words, f)
     }
 
-    /// A role such that the permission is granted to no other, where the status finds one without a look at many fluents; it may find none
-    /// where there is one. Whether the permission is granted to it, `is_on` tells. It takes no memory.
+    /// A role such that the permission is granted to no other, where the status finds one without a
+    /// look at many fluents; it may find none where there is one. Whether the permission is granted
+    /// to it, `is_on` tells. It takes no memory.
     pub fn only_role(&self, perm: PermId) -> Option<RoleId>
-        ensures { IfSome result (λ role. (r : RoleId) → has self.now.set (Granted perm r) ≡ true → r ≡ role) }
+        ensures { IfSome result (λ role. (r : RoleId) → has self.now.set (Granted perm r) ≡ true
+            → r ≡ role) }
     {
         only_role_in(&self.flags, &self.words, perm)
     }
@@ -358,7 +378,8 @@ impl Status {
     /// Sets the fluent on or off, into room that was made before.
     pub fn set(&mut self, f: Fluent, on: bool)
         requires { 1 ≤ self.old.spare }
-        ensures set { self.new.set ≡ (if on then with_member self.old.set f else without self.old.set f) }
+        ensures set { self.new.set ≡ (if on then with_member self.old.set f
+            else without self.old.set f) }
         ensures spare { self.old.spare ≤ self.new.spare + 1 }
     {
         if on {
@@ -376,7 +397,8 @@ fn set_on(flags: &mut Flags, words: &mut Vec<Word>, f: Fluent)
     requires room { vec_len words.old < vec_capacity words.old }
     ensures words { AreWords words.new.items }
     ensures apart { AreApart flags.new words.new.items }
-    ensures set { set_of_parts flags.new words.new.items ≡ with_member (set_of_parts flags.old words.old.items) f }
+    ensures set { set_of_parts flags.new words.new.items
+        ≡ with_member (set_of_parts flags.old words.old.items) f }
     ensures capacity { vec_capacity words.old ≤ vec_capacity words.new }
     ensures len { vec_len words.new ≤ vec_len words.old + 1 }
 {
@@ -391,7 +413,8 @@ fn set_off(flags: &mut Flags, words: &mut Vec<Word>, f: Fluent)
     requires apart { AreApart flags.old words.old.items }
     ensures words { AreWords words.new.items }
     ensures apart { AreApart flags.new words.new.items }
-    ensures set { set_of_parts flags.new words.new.items ≡ without (set_of_parts flags.old words.old.items) f }
+    ensures set { set_of_parts flags.new words.new.items
+        ≡ without (set_of_parts flags.old words.old.items) f }
     ensures capacity { vec_capacity words.new ≡ vec_capacity words.old }
     ensures len { vec_len words.new ≡ vec_len words.old }
 {

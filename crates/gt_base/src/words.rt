@@ -1,4 +1,5 @@
-//! Sets of fluents as ascending words of 64 bits, each of fluents that stand side by side in one row.
+//! Sets of fluents as ascending words of 64 bits, each of fluents that stand side by side in one
+//! row.
 ghost use Rattle.std.specs.Prelude.{◌≡◌, ◌≤◌, ◌+◌, ◌*◌, ◌^◌, ◌%◌, ◌<◌, ◌++◌, true, false, flat_map, OnOk, IfOk, IfErr, vec_capacity, vec_len};
 ghost use Rattle.std.specs.List.{list_any};
 ghost use Rattle.gt_base.specs.declared.events.Fluent.TheVariants.{Granted};
@@ -119,7 +120,8 @@ pub(crate) fn is_on(words: &[Word], f: Fluent) -> bool
 
 /// Whether no word is of a row of permissions: then none grants anything.
 pub(crate) fn grant_nothing(words: &[Word]) -> bool
-    ensures { result ≡ true → (p : PermView) (r : RoleView) → has (set_of_words words.now) (Granted p r) ≡ false }
+    ensures { result ≡ true → (p : PermView) (r : RoleView)
+        → has (set_of_words words.now) (Granted p r) ≡ false }
 {
     !has_perms(words)
 }
@@ -158,7 +160,8 @@ pub(crate) fn turn_on(words: &mut Vec<Word>, f: Fluent)
     }
 }
 
-/// Sets the fluent off. Its word stays, so that nothing moves when one of its fluents is set on again.
+/// Sets the fluent off. Its word stays, so that nothing moves when one of its fluents is set on
+/// again.
 pub(crate) fn turn_off(words: &mut Vec<Word>, f: Fluent)
     requires { AreWords words.old.items }
     ensures words { AreWords words.new.items }

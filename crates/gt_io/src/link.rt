@@ -20,10 +20,14 @@ pub trait Link {
     fn read(&mut self, buf: &mut [u8]) -> Result<usize, Failed>
         requires { 0 < length buf.old }
         ensures bound { ReadsAtMost result buf.new }
-        ensures bytes { ReadConsumes (traffic self.old).left (traffic self.new).left result buf.new }
-        ensures taken { WriteAppends (traffic self.old).taken (traffic self.new).taken result buf.new }
-        ensures cause { HasCause (traffic self.old).read_faults (traffic self.new).read_faults result }
-        ensures once { RisesOnce (traffic self.old).read_faults (traffic self.new).read_faults result }
+        ensures bytes { ReadConsumes (traffic self.old).left
+            (traffic self.new).left result buf.new }
+        ensures taken { WriteAppends (traffic self.old).taken
+            (traffic self.new).taken result buf.new }
+        ensures cause { HasCause (traffic self.old).read_faults
+            (traffic self.new).read_faults result }
+        ensures once { RisesOnce (traffic self.old).read_faults
+            (traffic self.new).read_faults result }
         ensures writes { WritesNothing (traffic self.old) (traffic self.new) }
         ensures held { (traffic self.new).finished ≡ (traffic self.old).finished };
 
@@ -31,9 +35,12 @@ pub trait Link {
     fn write(&mut self, piece: &[u8]) -> Result<usize, Failed>
         requires { 0 < length piece.now }
         ensures bound { IfOk result (λ n. (0 < n) × (n ≤ length piece.now)) }
-        ensures bytes { WriteAppends (traffic self.old).given (traffic self.new).given result piece.now }
-        ensures cause { HasCause (traffic self.old).write_faults (traffic self.new).write_faults result }
-        ensures once { RisesOnce (traffic self.old).write_faults (traffic self.new).write_faults result }
+        ensures bytes { WriteAppends (traffic self.old).given
+            (traffic self.new).given result piece.now }
+        ensures cause { HasCause (traffic self.old).write_faults
+            (traffic self.new).write_faults result }
+        ensures once { RisesOnce (traffic self.old).write_faults
+            (traffic self.new).write_faults result }
         ensures reads { ReadsNothing (traffic self.old) (traffic self.new) }
         ensures held { (traffic self.new).finished ≡ (traffic self.old).finished };
 
@@ -46,10 +53,14 @@ pub trait Link {
 
 /// Writes the whole text to a link, or up to the first failure.
 pub fn send_all<L: Link>(link: &mut L, text: &[u8]) -> Result<(), Failed>
-    ensures all { OnOk result (Appends (L.traffic link.old).given (L.traffic link.new).given text.now) }
-    ensures part { OnErr result (AppendsPart (L.traffic link.old).given (L.traffic link.new).given text.now) }
-    ensures cause { HasCause (L.traffic link.old).write_faults (L.traffic link.new).write_faults result }
-    ensures once { RisesOnce (L.traffic link.old).write_faults (L.traffic link.new).write_faults result }
+    ensures all { OnOk result (Appends (L.traffic link.old).given
+        (L.traffic link.new).given text.now) }
+    ensures part { OnErr result (AppendsPart (L.traffic link.old).given
+        (L.traffic link.new).given text.now) }
+    ensures cause { HasCause (L.traffic link.old).write_faults
+        (L.traffic link.new).write_faults result }
+    ensures once { RisesOnce (L.traffic link.old).write_faults
+        (L.traffic link.new).write_faults result }
     ensures reads { ReadsNothing (L.traffic link.old) (L.traffic link.new) }
     ensures held { (L.traffic link.new).finished ≡ (L.traffic link.old).finished }
 {

@@ -17,7 +17,8 @@ pub(crate) fn give(bytes: &[u8], at: usize, buf: &mut [u8], piece: usize) -> usi
     requires piece { 0 < piece }
     ensures number { result ≡ min (length (drop at bytes.now)) (min (length buf.new) piece) }
     ensures given { drop at bytes.now ≡ take result buf.new ++ drop (at + result) bytes.now }
-    ensures taken { take (at + result) bytes.now ≡ take at bytes.now ++ take result (drop at bytes.now) }
+    ensures taken { take (at + result) bytes.now ≡ take at bytes.now
+        ++ take result (drop at bytes.now) }
     ensures left { drop (at + result) bytes.now ≡ drop result (drop at bytes.now) }
     ensures end { result ≡ 0 → 0 < length buf.new → drop (at + result) bytes.now ≡ [] }
 {
@@ -44,7 +45,12 @@ impl Model for MemSource {
 
     ghost Value = { Supply };
 
-    ghost view = { λ s. record { taken = take s.at s.bytes.items; left = drop s.at s.bytes.items; piece = s.piece; calls = s.calls } };
+    ghost view = { λ s. record {
+      taken = take s.at s.bytes.items;
+      left = drop s.at s.bytes.items;
+      piece = s.piece;
+      calls = s.calls;
+    } };
 
     ghost invariant = { λ s. (0 < s.piece) × (s.at ≤ length s.bytes.items) };
 }
@@ -102,9 +108,15 @@ impl Model for MemSink {
 
     ghost Value = { Store };
 
-    ghost view = { λ s. record { written = s.taken.items; room = s.room; piece = s.piece; calls = s.calls } };
+    ghost view = { λ s. record {
+      written = s.taken.items;
+      room = s.room;
+      piece = s.piece;
+      calls = s.calls;
+    } };
 
-    ghost invariant = { λ s. (0 < s.piece) × (length s.taken.items ≤ s.room) × (s.room ≤ length s.taken.items + s.taken.spare) };
+    ghost invariant = { λ s. (0 < s.piece) × (length s.taken.items ≤ s.room)
+        × (s.room ≤ length s.taken.items + s.taken.spare) };
 }
 
 impl MemSink {
@@ -145,7 +157,8 @@ impl Sink for MemSink {
     fn write(&mut self, piece: &[u8]) -> Result<usize, Failed>
         requires { 0 < length piece.now }
         ensures bound { IfOk result (λ n. (0 < n) × (n ≤ length piece.now)) }
-        ensures bytes { WriteAppends (Some self.old.written) (Some self.new.written) result piece.now }
+        ensures bytes { WriteAppends (Some self.old.written)
+            (Some self.new.written) result piece.now }
         ensures cause { HasCause self.old.calls.faults self.new.calls.faults result }
         ensures piece { TakesPiece self.old self.new piece.now result }
     {

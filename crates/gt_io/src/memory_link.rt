@@ -37,7 +37,8 @@ impl MemLink {
     ) -> Result<MemLink, Memory>
         requires reads { 0 < read_piece }
         requires writes { 0 < write_piece }
-        ensures source { IfOk result (λ l. l.source ≡ supply_of bytes.items read_piece bad_reads.items) }
+        ensures source { IfOk result
+            (λ l. l.source ≡ supply_of bytes.items read_piece bad_reads.items) }
         ensures sink { IfOk result (λ l. l.sink ≡ store_of room write_piece bad_writes.items) }
         ensures open { IfOk result (λ l. l.finished ≡ false) }
     {
@@ -64,13 +65,22 @@ impl MemLink {
 }
 
 impl Link for MemLink {
-    ghost traffic = { λ l. record { left = Some l.source.left; taken = Some l.source.taken; given = Some l.sink.written; read_faults = l.source.calls.faults; write_faults = l.sink.calls.faults; finished = l.finished } };
+    ghost traffic = { λ l. record {
+      left = Some l.source.left;
+      taken = Some l.source.taken;
+      given = Some l.sink.written;
+      read_faults = l.source.calls.faults;
+      write_faults = l.sink.calls.faults;
+      finished = l.finished;
+    } };
 
     fn read(&mut self, buf: &mut [u8]) -> Result<usize, Failed>
         requires { 0 < length buf.old }
         ensures bound { ReadsAtMost result buf.new }
-        ensures bytes { ReadConsumes (Some self.old.source.left) (Some self.new.source.left) result buf.new }
-        ensures taken { WriteAppends (Some self.old.source.taken) (Some self.new.source.taken) result buf.new }
+        ensures bytes { ReadConsumes (Some self.old.source.left)
+            (Some self.new.source.left) result buf.new }
+        ensures taken { WriteAppends (Some self.old.source.taken)
+            (Some self.new.source.taken) result buf.new }
         ensures cause { HasCause self.old.source.calls.faults self.new.source.calls.faults result }
         ensures once { RisesOnce self.old.source.calls.faults self.new.source.calls.faults result }
         ensures writes { WritesNothing (⟦<MemLink as Link>⟧.traffic self.old)
@@ -85,7 +95,8 @@ impl Link for MemLink {
     fn write(&mut self, piece: &[u8]) -> Result<usize, Failed>
         requires { 0 < length piece.now }
         ensures bound { IfOk result (λ n. (0 < n) × (n ≤ length piece.now)) }
-        ensures bytes { WriteAppends (Some self.old.sink.written) (Some self.new.sink.written) result
+        ensures bytes { WriteAppends (Some self.old.sink.written)
+            (Some self.new.sink.written) result
             piece.now }
         ensures cause { HasCause self.old.sink.calls.faults self.new.sink.calls.faults result }
         ensures once { RisesOnce self.old.sink.calls.faults self.new.sink.calls.faults result }
@@ -145,7 +156,8 @@ impl Door for MemDoor {
             (λ link. GivesFirst (Some self.old.links.items) (Some self.new.links.items)
             link))
             (λ _. Some self.new.links.items ≡ Some self.old.links.items) }
-        ensures fresh { IfOk result (λ next. IfSome next (λ link. IsFresh (⟦<MemLink as Link>⟧.traffic link))) }
+        ensures fresh { IfOk result (λ next. IfSome next
+            (λ link. IsFresh (⟦<MemLink as Link>⟧.traffic link))) }
         ensures cause { HasCause self.old.calls.faults self.new.calls.faults result }
         ensures listed { IsErr result ↔ IsTrue (fails_next self.old.calls) }
         ensures calls { self.new.calls
@@ -179,7 +191,8 @@ impl MemClock {
 }
 
 impl Clock for MemClock {
-    ghost readings = { λ c. Some (λ k. slice_index c.readings.items (min (c.at + k) (length c.readings.items - 1))) };
+    ghost readings = { λ c. Some (λ k. slice_index c.readings.items
+        (min (c.at + k) (length c.readings.items - 1))) };
 
     fn now(&mut self) -> Instant {
         let reading = self.readings.as_slice()[self.at];

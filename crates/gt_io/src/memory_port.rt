@@ -97,8 +97,10 @@ impl MemPort {
     fn draw(&mut self, buf: &mut [u8]) -> Result<Got, Failed>
         requires { 0 < length buf.old }
         ensures bound { IfOk result (FitsGot (length buf.new)) }
-        ensures taken { Appends (port_of self.old).taken (port_of self.new).taken (got_bytes result buf.new) }
-        ensures left { Consumes (port_of self.old).left (port_of self.new).left (got_bytes result buf.new) }
+        ensures taken { Appends (port_of self.old).taken (port_of self.new).taken
+            (got_bytes result buf.new) }
+        ensures left { Consumes (port_of self.old).left (port_of self.new).left
+            (got_bytes result buf.new) }
         ensures end { result ≡ Ok Got.Finished → IsAtEnd (port_of self.new).left }
         ensures rest { port_of self.new
             ≡ record (port_of self.old) {
@@ -146,7 +148,8 @@ impl MemPort {
         ensures bound { IfOk result (FitsTook (length piece.now)) }
         ensures given { Appends (port_of self.old).given (port_of self.new).given
             (took_bytes result piece.now) }
-        ensures rest { port_of self.new ≡ record (port_of self.old) { given = (port_of self.new).given } }
+        ensures rest { port_of self.new
+            ≡ record (port_of self.old) { given = (port_of self.new).given } }
     {
         self.writes = self.writes.saturating_add(1);
         if self.hitches.bad_writes.as_slice().contains(&self.writes) {
@@ -199,7 +202,8 @@ impl MemPort {
     }
 
     fn end(&mut self, nexts: u64)
-        ensures { port_of self.new ≡ record (port_of self.old) { owed = false; finished = Some nexts } }
+        ensures { port_of self.new ≡ record (port_of self.old)
+            { owed = false; finished = Some nexts } }
     {
         self.owed = false;
         self.finished = Some(nexts);

@@ -63,7 +63,16 @@ impl Model for MemShelf {
 
     ghost Value = { Texts };
 
-    ghost view = { λ s. record { files = s.files.items; text = record { taken = take s.at (bytes_at s.files.items s.place); left = drop s.at (bytes_at s.files.items s.place); piece = s.piece; calls = s.calls }; hard_faults = s.hard_faults } };
+    ghost view = { λ s. record {
+      files = s.files.items;
+      text = record {
+        taken = take s.at (bytes_at s.files.items s.place);
+        left = drop s.at (bytes_at s.files.items s.place);
+        piece = s.piece;
+        calls = s.calls;
+      };
+      hard_faults = s.hard_faults;
+    } };
 
     ghost invariant = { λ s. (0 < s.piece) × (s.at ≤ length (bytes_at s.files.items s.place)) };
 }
@@ -116,7 +125,8 @@ impl Shelf for MemShelf {
             × (Some self.new.text.left ≡ text_of self.old.files name.now)) }
         ensures same { self.new.files ≡ self.old.files }
         ensures cause { HasCause self.old.text.calls.faults self.new.text.calls.faults result }
-        ensures hard_cause { HasFindCause (Some (text_of self.old.files)) name.now self.old.hard_faults
+        ensures hard_cause { HasFindCause
+            (Some (text_of self.old.files)) name.now self.old.hard_faults
             self.new.hard_faults result }
         ensures finds { FindsText self.old self.new name.now result }
     {
@@ -135,7 +145,8 @@ impl Shelf for MemShelf {
     fn read(&mut self, buf: &mut [u8]) -> Result<usize, Failed>
         requires { 0 < length buf.old }
         ensures bound { ReadsAtMost result buf.new }
-        ensures bytes { ReadConsumes (Some self.old.text.left) (Some self.new.text.left) result buf.new }
+        ensures bytes { ReadConsumes (Some self.old.text.left)
+            (Some self.new.text.left) result buf.new }
         ensures same { self.new.files ≡ self.old.files }
         ensures cause { HasCause self.old.text.calls.faults self.new.text.calls.faults result }
         ensures hard_cause { HasCause self.old.hard_faults self.new.hard_faults result }

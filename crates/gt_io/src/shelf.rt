@@ -31,7 +31,8 @@ pub trait Shelf {
             (λ text_of. IsSome (text_of name.now) × (left self.new ≡ text_of name.now))) }
         ensures same { contents self.new ≡ contents self.old }
         ensures cause { HasCause (faults self.old) (faults self.new) result }
-        ensures hard_cause { HasFindCause (contents self.old) name.now (hard_faults self.old) (hard_faults self.new)
+        ensures hard_cause { HasFindCause (contents self.old) name.now (hard_faults self.old)
+            (hard_faults self.new)
             result };
 
     /// Reads some bytes of the text that was found last, from where it was left; none exactly at

@@ -96,7 +96,8 @@ pub fn read_all<S: Source>(
     ensures whole { IfOk result (λ bytes. IfSome (S.left source.old) (λ xs. bytes.items ≡ xs)) }
     ensures end { OnOk result (IsAtEnd (S.left source.new)) }
     ensures within { IfOk result (λ bytes. vec_len bytes ≤ limit) }
-    ensures long { IsErrOf result ReadFault.TooLong → IfSome (S.left source.old) (λ xs. limit < length xs) }
+    ensures long { IsErrOf result ReadFault.TooLong
+        → IfSome (S.left source.old) (λ xs. limit < length xs) }
     ensures front { TakesFront (S.left source.old) (S.left source.new) }
     ensures cause { HasReadCause (S.faults source.old) (S.faults source.new) result }
 {

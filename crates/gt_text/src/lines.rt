@@ -45,7 +45,8 @@ impl<'a> Iterator for Lines<'a> {
 
 // The first line and the text after it.
 fn first_line(text: &[u8]) -> Option<(&[u8], &[u8])>
-    ensures { MatchOption result (lines_of text.now ≡ []) (λ cut. lines_of text.now ≡ cut.0.now ∷ lines_of cut.1.now) }
+    ensures { MatchOption result (lines_of text.now ≡ [])
+        (λ cut. lines_of text.now ≡ cut.0.now ∷ lines_of cut.1.now) }
 {
     if text.is_empty() {
         return None;

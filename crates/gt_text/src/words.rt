@@ -64,7 +64,8 @@ fn word_len(text: &[u8]) -> usize
 
 // The first word and the line after it.
 fn first_word(line: &[u8]) -> Option<(&[u8], &[u8])>
-    ensures { MatchOption result (blank_cut line.now ≡ []) (λ cut. blank_cut line.now ≡ cut.0.now ∷ blank_cut cut.1.now) }
+    ensures { MatchOption result (blank_cut line.now ≡ [])
+        (λ cut. blank_cut line.now ≡ cut.0.now ∷ blank_cut cut.1.now) }
 {
     let mut text = line;
     while let [first, rest @ ..] = text {

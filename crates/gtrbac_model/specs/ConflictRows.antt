@@ -67,14 +67,28 @@ pub record AreConflictRows : Type 0 where
   pub chain_after : after (events chain_order) all_off (Enabled (role 1)) ≡ true
   pub chain_is_closed : closed chain chain_base all_off (events chain_order) ≡ true
   -- the triggers run once in the order of the text leave a set that is not closed
-  pub once_is_not_closed : closed chain chain_base all_off (events (at 50 (on 1) ∷ at 50 (on 3) ∷ at 50 (on 0) ∷ at 50 (on 2) ∷ [])) ≡ false
+  pub once_is_not_closed : closed chain chain_base all_off
+      (events (at 50 (on 1) ∷ at 50 (on 3) ∷ at 50 (on 0) ∷ at 50 (on 2) ∷ [])) ≡ false
   pub chain_settles : Settled chain chain_base all_off (events chain_order)
-  pub ring_is_closed : closed ring nothing all_off (events (at 50 (on 0) ∷ at 50 (on 1) ∷ [])) ≡ true
-  pub ring_is_not_grounded : grounded_after ring nothing all_off (events (at 50 (on 0) ∷ at 50 (on 1) ∷ [])) [] (at 50 (on 0) ∷ at 50 (on 1) ∷ []) ≡ false
+  pub ring_is_closed : closed ring nothing all_off (events (at 50 (on 0) ∷ at 50 (on 1) ∷ []))
+      ≡ true
+  pub ring_is_not_grounded : grounded_after ring nothing all_off
+      (events (at 50 (on 0) ∷ at 50 (on 1) ∷ [])) [] (at 50 (on 0) ∷ at 50 (on 1) ∷ []) ≡ false
   pub ring_is_safe : the_cycle ring ≡ None
   -- equal priorities: the off event wins
-  pub tie : after (events (at 50 (on 0) ∷ at 50 (off 0) ∷ [])) (λ f. true) (Enabled (role 0)) ≡ false
+  pub tie : after (events (at 50 (on 0) ∷ at 50 (off 0) ∷ [])) (λ f. true) (Enabled (role 0))
+      ≡ false
   pub tie_seen : seen (events (at 50 (on 0) ∷ at 50 (off 0) ∷ [])) (on 0) ≡ Blocked 50
-  pub cycle_edges : dependencies unsafe ≡ record { source = off 1; target = on 0; conflict = true; trigger = 0; place = 0 } ∷ record { source = on 0; target = off 1; conflict = false; trigger = 1; place = 0 } ∷ []
+  pub cycle_edges : dependencies unsafe
+      ≡ record { source = off 1; target = on 0; conflict = true; trigger = 0; place = 0 }
+      ∷ record { source = on 0; target = off 1; conflict = false; trigger = 1; place = 0 } ∷ []
   pub the_cycle_is : the_cycle unsafe ≡ Some (0 ∷ 1 ∷ [])
-  pub delayed_is_safe : the_cycle (when (on 1) (at 50 (on 0)) ∷ record { events = on 0 ∷ []; signals = []; conds = []; settled = []; head = at 50 (off 1); delay = 1 } ∷ []) ≡ None
+  pub delayed_is_safe : the_cycle (when (on 1) (at 50 (on 0))
+      ∷ record {
+        events = on 0 ∷ [];
+        signals = [];
+        conds = [];
+        settled = [];
+        head = at 50 (off 1);
+        delay = 1;
+      } ∷ []) ≡ None

@@ -8,19 +8,45 @@ of e = record { first = 0; last = 52_595_999; expr = e }
 
 -- `all.Years + {3,7}.Months > 2.Months`
 abbrev pub spring : Period
-spring = of (record { parts = record { calendar = Years; set = None } ∷ record { calendar = Months; set = Some (3 ∷ 7 ∷ []) } ∷ []; count = 2; unit = Months })
+spring = of (record {
+  parts = record { calendar = Years; set = None }
+      ∷ record { calendar = Months; set = Some (3 ∷ 7 ∷ []) } ∷ [];
+  count = 2;
+  unit = Months;
+})
 
 -- `all.Weeks + {6}.Days + {1}.Hours`
 abbrev pub saturdays : Period
-saturdays = of (record { parts = record { calendar = Weeks; set = None } ∷ record { calendar = Days; set = Some (6 ∷ []) } ∷ record { calendar = Hours; set = Some (1 ∷ []) } ∷ []; count = 1; unit = Hours })
+saturdays = of (record {
+  parts = record { calendar = Weeks; set = None }
+      ∷ record { calendar = Days; set = Some (6 ∷ []) }
+      ∷ record { calendar = Hours; set = Some (1 ∷ []) } ∷ [];
+  count = 1;
+  unit = Hours;
+})
 
 -- `all.Years + {2}.Months + {29}.Days > 1000.Days`
 abbrev pub leap_days : Period
-leap_days = of (record { parts = record { calendar = Years; set = None } ∷ record { calendar = Months; set = Some (2 ∷ []) } ∷ record { calendar = Days; set = Some (29 ∷ []) } ∷ []; count = 1000; unit = Days })
+leap_days = of (record {
+  parts = record { calendar = Years; set = None }
+      ∷ record { calendar = Months; set = Some (2 ∷ []) }
+      ∷ record { calendar = Days; set = Some (29 ∷ []) } ∷ [];
+  count = 1000;
+  unit = Days;
+})
 
 -- `all.Days + {9}.Hours > 8.Hours` from noon on: the begin at 08:00 lies before the bound
 abbrev pub from_noon : Period
-from_noon = record { first = 13_682_160; last = 52_595_999; expr = record { parts = record { calendar = Days; set = None } ∷ record { calendar = Hours; set = Some (9 ∷ []) } ∷ []; count = 8; unit = Hours } }
+from_noon = record {
+  first = 13_682_160;
+  last = 52_595_999;
+  expr = record {
+    parts = record { calendar = Days; set = None }
+        ∷ record { calendar = Hours; set = Some (9 ∷ []) } ∷ [];
+    count = 8;
+    unit = Hours;
+  };
+}
 
 pub record AreDateRows : Type 0 where
   pub in_april : inside spring 13_848_479 ≡ true

@@ -23,21 +23,29 @@ pub record Period : Type 0 where
   pub expr : Expr
 
 abbrev pub part_code : Coded Part
-part_code = code_by (Calendar × Option (List ℕ)) (coded× calendar.the_row.coded (coded_option (coded_list coded_ℕ))) (λ p. (p.calendar, p.set)) (λ p. record { calendar = p.0; set = p.1 }) (λ _. refl)
+part_code = code_by (Calendar × Option (List ℕ))
+    (coded× calendar.the_row.coded (coded_option (coded_list coded_ℕ))) (λ p. (p.calendar, p.set))
+    (λ p. record { calendar = p.0; set = p.1 }) (λ _. refl)
 
 abbrev pub expr_code : Coded Expr
 expr_code =
-    code_by (List Part × (ℕ × Calendar)) (coded× (coded_list part_code) (coded× coded_ℕ calendar.the_row.coded)) (λ e. (e.parts, (e.count, e.unit))) (λ (ps, (n, c)). record { parts = ps; count = n; unit = c }) (λ _. refl)
+    code_by (List Part × (ℕ × Calendar))
+    (coded× (coded_list part_code) (coded× coded_ℕ calendar.the_row.coded))
+    (λ e. (e.parts, (e.count, e.unit)))
+    (λ (ps, (n, c)). record { parts = ps; count = n; unit = c }) (λ _. refl)
 
 abbrev pub period_code : Coded Period
 period_code =
-    code_by (ℕ × (ℕ × Expr)) (coded× coded_ℕ (coded× coded_ℕ expr_code)) (λ p. (p.first, (p.last, p.expr))) (λ (f, (l, e)). record { first = f; last = l; expr = e }) (λ _. refl)
+    code_by (ℕ × (ℕ × Expr)) (coded× coded_ℕ (coded× coded_ℕ expr_code))
+    (λ p. (p.first, (p.last, p.expr))) (λ (f, (l, e)). record { first = f; last = l; expr = e })
+    (λ _. refl)
 
 abbrev pub picks : Option (List ℕ) → ℕ → Bool
 picks None n = true
 picks (Some ns) n = list_any (nat_eq n) ns
 
--- each further part picks the number of its interval at the minute, within the interval of the part before
+-- each further part picks the number of its interval at the minute, within the interval of the part
+-- before
 abbrev pub selects : Calendar → List Part → ℕ → Bool
 selects c [] m = nat_eq (first_minute c (interval_of c m)) m
 selects c (p ∷ ps) m = picks p.set (number_within c p.calendar m) && selects p.calendar ps m
@@ -63,7 +71,8 @@ begun_within e (suc n) k = begins e (first_minute e.unit k) || begun_within e n 
 
 -- the minute is among the COUNT intervals of UNIT that begin with some begin
 abbrev pub inside : Period → ℕ → Bool
-inside p t = in_bounds p t && begun_within p.expr p.expr.count (interval_of p.expr.unit (minute_of t))
+inside p t = in_bounds p t && begun_within p.expr p.expr.count
+    (interval_of p.expr.unit (minute_of t))
 
 -- the same by intervals alone, as a relation
 
@@ -78,7 +87,8 @@ pub record IsNumber (outer : Calendar) (i : ℕ) (inner : Calendar) (n j : ℕ) 
 -- from interval i of the calendar the parts lead to one that begins at the minute
 abbrev pub LeadsTo : Calendar → ℕ → List Part → ℕ → Type 0
 LeadsTo c i [] m = first_minute c i ≡ m
-LeadsTo c i (p ∷ ps) m = (n : ℕ) × (j : ℕ) × IsTrue (picks p.set n) × IsNumber c i p.calendar n j × LeadsTo p.calendar j ps m
+LeadsTo c i (p ∷ ps) m = (n : ℕ) × (j : ℕ) × IsTrue (picks p.set n) × IsNumber c i p.calendar n j
+    × LeadsTo p.calendar j ps m
 
 abbrev pub BeginBy : List Part → ℕ → Type 0
 BeginBy [] m = ⊥
@@ -92,4 +102,5 @@ abbrev pub End : Expr → ℕ → ℕ → Type 0
 End e s m = (k : ℕ) × (first_minute e.unit k ≡ s) × (first_minute e.unit (k + e.count) ≡ m)
 
 abbrev pub In : Period → ℕ → Type 0
-In p t = IsTrue (in_bounds p t) × ((s : ℕ) × (m : ℕ) × Begin p.expr s × End p.expr s m × (s ≤ minute_of t) × (minute_of t < m))
+In p t = IsTrue (in_bounds p t) × ((s : ℕ) × (m : ℕ) × Begin p.expr s × End p.expr s m
+    × (s ≤ minute_of t) × (minute_of t < m))

@@ -32,16 +32,47 @@ pub record Policy : Type 0 where
 
 -- a policy is stored as nested pairs of its parts
 abbrev Parts : Type 0
-Parts = ℕ × (ℕ × (ℕ × (List Period × (List LimitRule × (List HierEdge × (List Caps × (List UserId × (Fluents × (List PeriodicEntry × List TriggerView)))))))))
+Parts = ℕ × (ℕ × (ℕ × (List Period × (List LimitRule
+    × (List HierEdge × (List Caps × (List UserId × (Fluents
+    × (List PeriodicEntry × List TriggerView)))))))))
 
 abbrev parts_code : Coded Parts
 parts_code =
-    coded× coded_ℕ (coded× coded_ℕ (coded× coded_ℕ (coded× (coded_list period_code) (coded× (coded_list limit.the_row.coded) (coded× (coded_list edge.the_row.coded)
-    (coded× (coded_list caps.the_row.coded) (coded× (coded_list user.the_row.coded) (coded× fluents_code (coded× (coded_list entry.the_row.coded) (coded_list trigger.the_row.coded))))))))))
+    coded× coded_ℕ (coded× coded_ℕ (coded× coded_ℕ (coded× (coded_list period_code)
+    (coded× (coded_list limit.the_row.coded) (coded× (coded_list edge.the_row.coded)
+    (coded× (coded_list caps.the_row.coded)
+    (coded× (coded_list user.the_row.coded)
+    (coded× fluents_code (coded× (coded_list entry.the_row.coded)
+    (coded_list trigger.the_row.coded))))))))))
 
 abbrev pub policy_code : Coded Policy
 policy_code =
     code_by Parts parts_code
-    (λ p. (p.roles, (p.users, (p.perms, (p.periods, (p.limits, (p.edges, (p.caps, (p.admins, (p.opening, (p.entries, p.triggers)))))))))))
-    (λ (r, (u, (q, (ps, (ls, (es, (cs, (as', (o, (ns, ts)))))))))). record { roles = r; users = u; perms = q; periods = ps; limits = ls; edges = es; caps = cs; admins = as'; opening = o; entries = ns; triggers = ts })
+    (λ p. (
+      p.roles,
+      (
+        p.users,
+        (
+          p.perms,
+          (
+            p.periods,
+            (p.limits, (p.edges, (p.caps, (p.admins, (p.opening, (p.entries, p.triggers)))))),
+          ),
+        ),
+      ),
+    ))
+    (λ (r, (u, (q, (ps, (ls, (es, (cs, (as', (o, (ns, ts)))))))))).
+    record {
+      roles = r;
+      users = u;
+      perms = q;
+      periods = ps;
+      limits = ls;
+      edges = es;
+      caps = cs;
+      admins = as';
+      opening = o;
+      entries = ns;
+      triggers = ts;
+    })
     (λ _. refl)

@@ -16,17 +16,22 @@ use Rattle.gtrbac_model.specs.Theorems.{SameUpTo}
 -- each minute after the history's now, up to this one, has a set that is settled over its base
 abbrev pub SettledAfter : Policy → ℕ → List Entry → Model → ℕ → Type 0
 SettledAfter p birth h m to =
-    (t : ℕ) → now_of birth h < t → t ≤ to → Settled p.triggers (base_at p birth m h t) (status p birth m (t - 1)) (m t)
+    (t : ℕ) → now_of birth h < t → t ≤ to
+    → Settled p.triggers (base_at p birth m h t) (status p birth m (t - 1)) (m t)
 
--- a tick to the next stop keeps a history legal, where the new model is the old one up to now and settled from there to the stop
+-- a tick to the next stop keeps a history legal, where the new model is the old one up to now and
+-- settled from there to the stop
 abbrev pub TickKeeps : Type 0
 TickKeeps =
     (p : Policy) (birth : ℕ) (h : List Entry) (m n : Model) (who : Who) (upto to : ℕ)
-    → Legal p birth h m → SameUpTo birth (now_of birth h) m n → SettledAfter p birth h n to → IsNextStop (stirs p birth n h) (now_of birth h) upto to
+    → Legal p birth h m → SameUpTo birth (now_of birth h) m n → SettledAfter p birth h n to
+    → IsNextStop (stirs p birth n h) (now_of birth h) upto to
     → Legal p birth (h ++ ticked who upto to ∷ []) n
 
 -- a request with the reply of the definitions keeps a history legal, and its model is the same
 abbrev pub AskKeeps : Type 0
 AskKeeps =
-    (p : Policy) (birth : ℕ) (h : List Entry) (m : Model) (who : Who) (actor : Actor) (request : Request)
-    → Legal p birth h m → Legal p birth (h ++ asked who actor request (reply_of p (point_after p birth m h) actor request) ∷ []) m
+    (p : Policy) (birth : ℕ) (h : List Entry) (m : Model) (who : Who) (actor : Actor)
+    (request : Request)
+    → Legal p birth h m → Legal p birth
+    (h ++ asked who actor request (reply_of p (point_after p birth m h) actor request) ∷ []) m

@@ -6,7 +6,8 @@ use Rattle.gtrbac_model.specs.declared.calendars.Calendar.{Calendar}
 use Rattle.gtrbac_model.specs.declared.calendars.Calendar.TheVariants.{Years, Months, Weeks, Days, Hours, Minutes}
 use Rattle.gtrbac_model.specs.Period.{Part, Expr, Period}
 
--- the second calendar stands strictly below the first: years, months, days, hours, minutes, or weeks, days, hours, minutes
+-- the second calendar stands strictly below the first: years, months, days, hours, minutes, or
+-- weeks, days, hours, minutes
 abbrev pub is_below : Calendar → Calendar → Bool
 is_below Years Months = true
 is_below Years Days = true
@@ -43,10 +44,12 @@ is_set None = true
 is_set (Some []) = false
 is_set (Some (n ∷ ns)) = rises_above 0 (n ∷ ns) && list_all (λ m. nat_le m 999_999_999) (n ∷ ns)
 
--- each part stands below the one before it, and the unit of the length is the last part's calendar or stands below it
+-- each part stands below the one before it, and the unit of the length is the last part's calendar
+-- or stands below it
 abbrev pub goes_down : Calendar → List Part → Calendar → Bool
 goes_down above [] unit = is_same above unit || is_below above unit
-goes_down above (p ∷ ps) unit = is_set p.set && is_below above p.calendar && goes_down p.calendar ps unit
+goes_down above (p ∷ ps) unit = is_set p.set && is_below above p.calendar
+    && goes_down p.calendar ps unit
 
 abbrev pub from_all : List Part → Calendar → Bool
 from_all [] unit = false

@@ -50,7 +50,8 @@ module _ (p : Policy) where
   -- a limit is of 1 to 1,000,000 minutes
   abbrev pub is_limit : LimitRule → Bool
   is_limit l =
-      is_fluent l.cond.fluent && nat_le l.prio 99 && nat_le 1 l.most && nat_le l.most 1_000_000 && elim l.period [ None ↦ true | Some q ↦ nat_lt q.0 (length p.periods) ]
+      is_fluent l.cond.fluent && nat_le l.prio 99 && nat_le 1 l.most && nat_le l.most 1_000_000
+      && elim l.period [ None ↦ true | Some q ↦ nat_lt q.0 (length p.periods) ]
 
   -- an edge inherits, or activates, or both
   abbrev pub is_edge : HierEdge → Bool
@@ -59,7 +60,10 @@ module _ (p : Policy) where
   -- a body has at most 16 items
   abbrev pub is_rule : TriggerView → Bool
   is_rule r =
-      list_all (λ e. is_fluent e.fluent) r.events && list_all is_signal r.signals && list_all (λ c. is_fluent c.fluent) r.conds && list_all (λ c. is_fluent c.fluent) r.settled && is_head r.head && nat_le r.delay last_minute
+      list_all (λ e. is_fluent e.fluent) r.events && list_all is_signal r.signals
+      && list_all (λ c. is_fluent c.fluent) r.conds
+      && list_all (λ c. is_fluent c.fluent) r.settled && is_head r.head
+      && nat_le r.delay last_minute
       && nat_le (length r.events + length r.signals + length r.conds + length r.settled) 16
 
 -- the body has an event or a signal
@@ -96,15 +100,17 @@ is_grant _ = false
 abbrev pub HasNoRing : List HierEdge → Type 0
 HasNoRing edges = (r : RoleId) (walk : List ℕ) → LeadsAlong (all_arcs edges) r walk r → walk ≡ []
 
--- what every policy keeps: numbers in range, lists within their limits, one edge at most from a role to another and no ring of edges,
--- a caps record for each role, and an event or a signal in each trigger's body
+-- what every policy keeps: numbers in range, lists within their limits, one edge at most from a
+-- role to another and no ring of edges, a caps record for each role, and an event or a signal in
+-- each trigger's body
 pub record IsPolicy (p : Policy) : Type 0 where
   pub roles : p.roles ≤ 1_000
   pub users : p.users ≤ 10_000
   pub perms : p.perms ≤ 10_000
   pub periods : IsTrue (nat_le (length p.periods) 1_000 && list_all is_period p.periods)
   pub limits : IsTrue (nat_le (length p.limits) 1_000 && list_all (is_limit p) p.limits)
-  pub edges : IsTrue (nat_le (length p.edges) 4_000 && list_all (is_edge p) p.edges && not (joined_twice p.edges))
+  pub edges : IsTrue (nat_le (length p.edges) 4_000 && list_all (is_edge p) p.edges
+      && not (joined_twice p.edges))
   pub no_ring : HasNoRing p.edges
   pub caps_a_role : length p.caps ≡ p.roles
   pub caps : IsTrue (list_all are_caps p.caps)

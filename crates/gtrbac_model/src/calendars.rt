@@ -1,7 +1,7 @@
 //! The calendars of periodic expressions, from years to minutes.
 
-/// A calendar, from the coarsest to the finest. Years hold months, months and weeks hold days, days hold hours, hours hold
-/// minutes; weeks stand beside years and months.
+/// A calendar, from the coarsest to the finest. Years hold months, months and weeks hold days, days
+/// hold hours, hours hold minutes; weeks stand beside years and months.
 #[derive(Clone, Copy, PartialEq, Eq, Debug)]
 pub enum Calendar {
     Years,

@@ -1,4 +1,5 @@
-//! What the server's words mean: periods, conflict, settled instants, execution models, sessions and legal histories.
+//! What the server's words mean: periods, conflict, settled instants, execution models, sessions
+//! and legal histories.
 #![tactic(auto)]
 
 mod calendars;

@@ -20,7 +20,8 @@ use Rattle.gtrbac_model.specs.Base.{base_at, table_at, requested}
 use Rattle.gtrbac_model.specs.History.{Legal, now_of}
 use Rattle.gtrbac_model.specs.Theorems.{SameUpTo}
 
--- the first stands in the set, and is the second's converse at a priority that beats it; nothing is asked of what blocks the first
+-- the first stands in the set, and is the second's converse at a priority that beats it; nothing is
+-- asked of what blocks the first
 pub record Blocks (x : HappenedView) (o e : Prioritised) : Type 0 where
   pub stands : IsTrue (has x.events o)
   pub against : o.event ≡ converse e.event
@@ -28,7 +29,8 @@ pub record Blocks (x : HappenedView) (o e : Prioritised) : Type 0 where
 
 -- an event is blocked exactly where one that stands in the set blocks it
 abbrev pub StandingBlocks : Type 0
-StandingBlocks = (x : HappenedView) (e : Prioritised) → IsTrue (blocked x e) ↔ ((o : Prioritised) × Blocks x o e)
+StandingBlocks = (x : HappenedView) (e : Prioritised)
+    → IsTrue (blocked x e) ↔ ((o : Prioritised) × Blocks x o e)
 
 abbrev enable : ℕ → Prioritised
 enable p = record { prio = p; event = record { on = true; fluent = Enabled (record { 0 = 0 }) } }
@@ -49,7 +51,8 @@ pub record BlockedStillBlocks : Type 0 where
 abbrev pub LongerAgrees : Type 0
 LongerAgrees =
     (p : Policy) → IsSafe p.triggers
-    → (birth : ℕ) (h further : List Entry) (m n : Model) → Legal p birth h m → Legal p birth (h ++ further) n → SameUpTo birth (now_of birth h) m n
+    → (birth : ℕ) (h further : List Entry) (m n : Model) → Legal p birth h m
+    → Legal p birth (h ++ further) n → SameUpTo birth (now_of birth h) m n
 
 -- the two histories have the same tables, queues and bases at each instant, and the same now
 pub record TellSame (p : Policy) (birth : ℕ) (m : Model) (h k : List Entry) : Type 0 where
@@ -61,11 +64,13 @@ pub record TellSame (p : Policy) (birth : ℕ) (m : Model) (h k : List Entry) : 
 -- a refused request may as well be left out of a history
 abbrev pub RefusedChangesNothing : Type 0
 RefusedChangesNothing =
-    (p : Policy) (birth : ℕ) (m : Model) (g h : List Entry) (who : Who) (actor : Actor) (request : Request) (why : Refusal)
+    (p : Policy) (birth : ℕ) (m : Model) (g h : List Entry) (who : Who) (actor : Actor)
+    (request : Request) (why : Refusal)
     → TellSame p birth m (g ++ asked who actor request (Refused why) ∷ h) (g ++ h)
 
 -- and the history stays legal without it
 abbrev pub LegalWithoutRefused : Type 0
 LegalWithoutRefused =
-    (p : Policy) (birth : ℕ) (m : Model) (g h : List Entry) (who : Who) (actor : Actor) (request : Request) (why : Refusal)
+    (p : Policy) (birth : ℕ) (m : Model) (g h : List Entry) (who : Who) (actor : Actor)
+    (request : Request) (why : Refusal)
     → Legal p birth (g ++ asked who actor request (Refused why) ∷ h) m → Legal p birth (g ++ h) m

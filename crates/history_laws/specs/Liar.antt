@@ -20,14 +20,22 @@ one_disabled = of (at 50 (disable 0) ∷ [])
 abbrev pub LiarHasCycle : Type 0
 LiarHasCycle = the_cycle liar ≡ Some (0 ∷ [])
 
--- no set is settled over the base: with the head in it the trigger is not met, and without it the trigger is
+-- no set is settled over the base: with the head in it the trigger is not met, and without it the
+-- trigger is
 abbrev pub LiarSettlesNever : Type 0
 LiarSettlesNever = (s : Status) (x : HappenedView) → Settled liar one_disabled s x → ⊥
 
 -- when enable a and settled disabled b then 50:enable b
 abbrev pub waverer : List TriggerView
 waverer =
-    record { events = enable 0 ∷ []; signals = []; conds = []; settled = record { on = false; fluent = Enabled (record { 0 = 1 }) } ∷ []; head = at 50 (enable 1); delay = 0 } ∷ []
+    record {
+      events = enable 0 ∷ [];
+      signals = [];
+      conds = [];
+      settled = record { on = false; fluent = Enabled (record { 0 = 1 }) } ∷ [];
+      head = at 50 (enable 1);
+      delay = 0;
+    } ∷ []
 
 -- the base 50:enable a
 abbrev pub one_enabled : HappenedView
@@ -36,6 +44,8 @@ one_enabled = of (at 50 (enable 0) ∷ [])
 abbrev pub WavererHasCycle : Type 0
 WavererHasCycle = the_cycle waverer ≡ Some (0 ∷ [])
 
--- where b is off before, no set is settled over the base: with the head b is on after it, and without it b is off
+-- where b is off before, no set is settled over the base: with the head b is on after it, and
+-- without it b is off
 abbrev pub WavererSettlesNever : Type 0
-WavererSettlesNever = (s : Status) (x : HappenedView) → s (Enabled (record { 0 = 1 })) ≡ false → Settled waverer one_enabled s x → ⊥
+WavererSettlesNever = (s : Status) (x : HappenedView) → s (Enabled (record { 0 = 1 })) ≡ false
+    → Settled waverer one_enabled s x → ⊥

@@ -26,8 +26,10 @@ AreNamed p (e ∷ h) = IsNamedStep p e.what × AreNamed p h
 -- only fluents of the policy are ever on
 abbrev pub OnlyNamedIsOn : Type 0
 OnlyNamedIsOn =
-    (p : Policy) (birth : ℕ) (h : List Entry) (m : Model) → IsPolicy p → AreNamed p h → Legal p birth h m
-    → (t : ℕ) → birth ≤ t → t ≤ now_of birth h → (f : Fluent) → IsTrue (status p birth m t f) → IsTrue (is_fluent p f)
+    (p : Policy) (birth : ℕ) (h : List Entry) (m : Model) → IsPolicy p → AreNamed p h
+    → Legal p birth h m
+    → (t : ℕ) → birth ≤ t → t ≤ now_of birth h → (f : Fluent) → IsTrue (status p birth m t f)
+    → IsTrue (is_fluent p f)
 
 -- the instant is a minute, and what is on and what is active is of the policy
 pub record IsNamedPoint (p : Policy) (pt : Point) : Type 0 where
@@ -38,5 +40,6 @@ pub record IsNamedPoint (p : Policy) (pt : Point) : Type 0 where
 -- so requests are answered from named points, after each of the entries and after all
 abbrev pub PointsAreNamed : Type 0
 PointsAreNamed =
-    (p : Policy) (birth : ℕ) (front rest : List Entry) (m : Model) → IsPolicy p → birth ≤ last_minute → AreNamed p (front ++ rest) → Legal p birth (front ++ rest) m
+    (p : Policy) (birth : ℕ) (front rest : List Entry) (m : Model) → IsPolicy p
+    → birth ≤ last_minute → AreNamed p (front ++ rest) → Legal p birth (front ++ rest) m
     → IsNamedPoint p (point_after p birth m front)

@@ -32,11 +32,14 @@ pub record IsQuiet (p : Policy) (birth : ℕ) (m : Model) (t : ℕ) : Type 0 whe
 -- an instant of a history with an empty base is quiet
 abbrev pub EmptyIsQuiet : Type 0
 EmptyIsQuiet =
-    (p : Policy) → IsPolicy p → (birth : ℕ) (h : List Entry) (m : Model) → IsExecutionModel p birth h m
-    → (t : ℕ) → birth < t → t ≤ now_of birth h → base_at p birth m h t ≡ nothing → IsQuiet p birth m t
+    (p : Policy) → IsPolicy p → (birth : ℕ) (h : List Entry) (m : Model)
+    → IsExecutionModel p birth h m
+    → (t : ℕ) → birth < t → t ≤ now_of birth h → base_at p birth m h t ≡ nothing
+    → IsQuiet p birth m t
 
 -- the minutes that a tick of a legal history passes over are quiet
 abbrev pub PassedAreQuiet : Type 0
 PassedAreQuiet =
-    (p : Policy) → IsPolicy p → (birth : ℕ) (g rest : List Entry) (m : Model) (who : Who) (upto to : ℕ) → Legal p birth (g ++ ticked who upto to ∷ rest) m
+    (p : Policy) → IsPolicy p → (birth : ℕ) (g rest : List Entry) (m : Model) (who : Who)
+    (upto to : ℕ) → Legal p birth (g ++ ticked who upto to ∷ rest) m
     → (t : ℕ) → now_of birth g < t → t < to → IsQuiet p birth m t

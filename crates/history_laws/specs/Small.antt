@@ -18,7 +18,13 @@ small =
       perms = 0;
       periods = [];
       limits = [];
-      edges = record { senior = record { 0 = 0 }; junior = record { 0 = 1 }; inherits = true; activates = true; strong = false } ∷ [];
+      edges = record {
+        senior = record { 0 = 0 };
+        junior = record { 0 = 1 };
+        inherits = true;
+        activates = true;
+        strong = false;
+      } ∷ [];
       caps = uncapped ∷ uncapped ∷ [];
       admins = record { 0 = 0 } ∷ [];
       opening = set_of (Assigned (record { 0 = 0 }) (record { 0 = 0 }) ∷ Edge 0 ∷ []);

@@ -1,8 +1,8 @@
 //! Laws of activations and their signals.
 ghost use Rattle.history_laws.specs.Activations.{ActiveInOrder, SignalsTell};
 
-/// After each close, and after each request made then, an activation belongs to an open session of its user, to a role
-/// that is on and that the user may activate.
+/// After each close, and after each request made then, an activation belongs to an open session of
+/// its user, to a role that is on and that the user may activate.
 pub fn active_in_order()
     ensures { ActiveInOrder }
 {}

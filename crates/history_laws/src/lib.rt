@@ -1,4 +1,5 @@
-//! Laws of histories in the subject's own words, what every policy keeps, and rules that settle nothing.
+//! Laws of histories in the subject's own words, what every policy keeps, and rules that settle
+//! nothing.
 #![tactic(auto)]
 
 mod activations;

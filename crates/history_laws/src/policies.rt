@@ -3,8 +3,8 @@ ghost use Rattle.gtrbac_model.specs.WholePolicy.{IsPolicy};
 ghost use Rattle.history_laws.specs.Policies.{QuietSettles, EmptyIsQuiet, PassedAreQuiet};
 ghost use Rattle.history_laws.specs.Small.{small};
 
-/// Over an empty base only the empty set is settled, and it leaves the status; so the minutes with an empty base, and
-/// those that a tick passes over, are quiet.
+/// Over an empty base only the empty set is settled, and it leaves the status; so the minutes with
+/// an empty base, and those that a tick passes over, are quiet.
 pub fn quiet_minutes()
     ensures settles { QuietSettles }
     ensures empty { EmptyIsQuiet }

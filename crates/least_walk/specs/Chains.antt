@@ -11,7 +11,8 @@ NoneFrom keys v a b = (m : ℕ) → a ≤ m → m < b → item_at keys m ≡ Som
 
 -- the last number below b that has the key, or none
 abbrev pub IsLast : List ℕ → ℕ → ℕ → ℕ → Type 0
-IsLast keys v b n = ((n ≡ no_edge) × NoneFrom keys v 0 b) ⊎ ((n < b) × (item_at keys n ≡ Some v) × NoneFrom keys v (n + 1) b)
+IsLast keys v b n = ((n ≡ no_edge) × NoneFrom keys v 0 b)
+    ⊎ ((n < b) × (item_at keys n ≡ Some v) × NoneFrom keys v (n + 1) b)
 
 -- for each key its last number, and for each number the one before it with the same key
 pub record AreChains (keys last before : List ℕ) : Type 0 where

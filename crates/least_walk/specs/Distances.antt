@@ -29,28 +29,36 @@ pub record HasStep (ok : ℕ → Bool) (edges : List GraphEdge) (ds : List ℕ) 
   pub leaves : edge.from ≡ v
   pub closer : slice_index ds edge.to + 1 ≡ slice_index ds v
 
--- each goal is at 0, and else a distance is that of a step closer, and a node with an open edge to one with a distance has one
-pub record AreDistances (ok : ℕ → Bool) (edges : List GraphEdge) (goal : List Bool) (ds : List ℕ) : Type 0 where
+-- each goal is at 0, and else a distance is that of a step closer, and a node with an open edge to
+-- one with a distance has one
+pub record AreDistances (ok : ℕ → Bool) (edges : List GraphEdge) (goal : List Bool)
+    (ds : List ℕ) : Type 0 where
   pub size : length ds ≡ length goal
   pub bound : (v : ℕ) → slice_index ds v ≤ far
   pub goals : (v : ℕ) → v < length goal → (slice_index ds v ≡ 0) ↔ (slice_get goal v ≡ Some true)
   pub steps : (v : ℕ) → 0 < slice_index ds v → slice_index ds v < far → HasStep ok edges ds v
-  pub nearby : (n : ℕ) (e : GraphEdge) → item_at edges n ≡ Some e → ok n ≡ true → slice_index ds e.to < far → NearBy ds e
+  pub nearby : (n : ℕ) (e : GraphEdge) → item_at edges n ≡ Some e → ok n ≡ true
+      → slice_index ds e.to < far → NearBy ds e
 
--- the same, as far as it was found: the nodes that have a distance stand in a queue, nearer ones first, and the open edges to those before
--- the head are done
-pub record Spread (ok : ℕ → Bool) (edges : List GraphEdge) (goal : List Bool) (ds queue : List ℕ) (head : ℕ) : Type 0 where
+-- the same, as far as it was found: the nodes that have a distance stand in a queue, nearer ones
+-- first, and the open edges to those before the head are done
+pub record Spread (ok : ℕ → Bool) (edges : List GraphEdge) (goal : List Bool) (ds queue : List ℕ)
+    (head : ℕ) : Type 0 where
   pub size : length ds ≡ length goal
   pub bound : (v : ℕ) → slice_index ds v ≤ far
   pub goals : (v : ℕ) → v < length goal → (slice_index ds v ≡ 0) ↔ (slice_get goal v ≡ Some true)
   pub steps : (v : ℕ) → 0 < slice_index ds v → slice_index ds v < far → HasStep ok edges ds v
   pub few : (v : ℕ) → slice_index ds v < far → slice_index ds v + unreached ds ≤ length goal
-  pub listed : (v : ℕ) → v < length goal → slice_index ds v < far → (i : ℕ) × (item_at queue i ≡ Some v)
+  pub listed : (v : ℕ) → v < length goal → slice_index ds v < far
+      → (i : ℕ) × (item_at queue i ≡ Some v)
   pub members : (i v : ℕ) → item_at queue i ≡ Some v → (v < length goal) × (slice_index ds v < far)
-  pub order : (i j v w : ℕ) → i ≤ j → item_at queue i ≡ Some v → item_at queue j ≡ Some w → slice_index ds v ≤ slice_index ds w
-  pub within : (i v w : ℕ) → head ≤ i → item_at queue i ≡ Some v → slice_index ds w < far → slice_index ds w ≤ slice_index ds v + 1
+  pub order : (i j v w : ℕ) → i ≤ j → item_at queue i ≡ Some v → item_at queue j ≡ Some w
+      → slice_index ds v ≤ slice_index ds w
+  pub within : (i v w : ℕ) → head ≤ i → item_at queue i ≡ Some v → slice_index ds w < far
+      → slice_index ds w ≤ slice_index ds v + 1
   pub front : head ≤ length queue
-  pub done : (i n : ℕ) (e : GraphEdge) → i < head → item_at queue i ≡ Some e.to → item_at edges n ≡ Some e → ok n ≡ true → NearBy ds e
+  pub done : (i n : ℕ) (e : GraphEdge) → i < head → item_at queue i ≡ Some e.to
+      → item_at edges n ≡ Some e → ok n ≡ true → NearBy ds e
 
 abbrev pub start_of : Bool → ℕ
 start_of is = if is then 0 else far

@@ -35,7 +35,8 @@ no_edge = 4_294_967_295
 
 -- the edges as arcs, open where the test passes their number
 abbrev pub arcs_by : (ℕ → Bool) → List GraphEdge → List (Arc ℕ)
-arcs_by ok edges = map (λ e. record { from = e.1.from; to = e.1.to; is_open = ok e.0 }) (enumerate_from 0 edges)
+arcs_by ok edges = map (λ e. record { from = e.1.from; to = e.1.to; is_open = ok e.0 })
+    (enumerate_from 0 edges)
 
 -- each edge is open
 abbrev pub every : ℕ → Bool

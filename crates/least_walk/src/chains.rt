@@ -59,7 +59,8 @@ fn ends_of(alloc: Global, edges: &[GraphEdge]) -> Result<Vec<u32>, AllocError>
     edges.iter().map(|e| e.to).collect(alloc)
 }
 
-/// For each node the last edge with this key, and for each edge the one before it with the same key.
+/// For each node the last edge with this key, and for each edge the one before it with the same
+/// key.
 fn chains_of(alloc: Global, nodes: u32, keys: &[u32]) -> Result<Chains, AllocError>
     requires keys { (n v : ℕ) → item_at keys.now n ≡ Some v → v < nodes }
     requires few { length keys.now ≤ no_edge }

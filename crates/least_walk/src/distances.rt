@@ -14,7 +14,8 @@ use std::alloc::{AllocError, Global};
 /// Stands for the distance of a node from which no walk leads to a goal.
 pub(crate) const FAR: usize = usize::MAX;
 
-/// How many edges the shortest walk over open edges from each node to a goal has: breadth first, so that each edge is looked at once.
+/// How many edges the shortest walk over open edges from each node to a goal has: breadth first, so
+/// that each edge is looked at once.
 pub(crate) fn distances<P: Passable>(
     alloc: Global,
     edges: &[GraphEdge],
@@ -50,7 +51,8 @@ fn goals_at_zero(alloc: Global, goal: &[bool]) -> Result<Vec<usize>, AllocError>
 /// The goals, ascending.
 fn goals_listed(alloc: Global, goal: &[bool]) -> Result<Vec<u32>, AllocError>
     requires { length goal.now < 2 ^ 32 }
-    ensures { IfOk result (λ found. found.items ≡ filter (is_goal goal.now) (range_with_len 0 (length goal.now))) }
+    ensures { IfOk result (λ found. found.items ≡ filter (is_goal goal.now)
+        (range_with_len 0 (length goal.now))) }
 {
     (0..goal.len() as u32)
         .filter(|v| is_marked(goal, *v))
@@ -67,7 +69,8 @@ fn is_marked(goal: &[bool], v: u32) -> bool
     }
 }
 
-/// Gives each node without a distance that has an open edge to the one at the head a distance one greater, and adds it to those found.
+/// Gives each node without a distance that has an open edge to the one at the head a distance one
+/// greater, and adds it to those found.
 fn widen<P: Passable>(
     edges: &[GraphEdge],
     into: &Chains,
@@ -83,8 +86,10 @@ fn widen<P: Passable>(
     requires chains { AreChains (ends edges.now) into.now.last.items into.now.before.items }
     requires head { head < length found.old.items }
     requires spread { Spread (P.passes by.now) edges.now goal.now dist.old found.old.items head }
-    ensures spread { OnOk result (Spread (P.passes by.now) edges.now goal.now dist.new found.new.items (head + 1)) }
-    ensures fewer { OnOk result (length found.new.items + unreached dist.new ≤ length found.old.items + unreached dist.old) }
+    ensures spread { OnOk result (Spread (P.passes by.now) edges.now goal.now dist.new
+        found.new.items (head + 1)) }
+    ensures fewer { OnOk result (length found.new.items + unreached dist.new
+        ≤ length found.old.items + unreached dist.old) }
 {
     let at = found[head];
     let mut n = last_of(into, at);

@@ -13,7 +13,8 @@ pub struct GraphEdge {
     pub marked: bool,
 }
 
-/// Nodes from 0 up to their number, and edges numbered from 0 in the order in which they were added.
+/// Nodes from 0 up to their number, and edges numbered from 0 in the order in which they were
+/// added.
 pub struct Graph {
     nodes: u32,
     edges: Vec<GraphEdge>,
@@ -47,11 +48,16 @@ impl Graph {
         }
     }
 
-    /// Adds an edge, whose number is the number of edges before. After a refusal the graph is as it was.
+    /// Adds an edge, whose number is the number of edges before. After a refusal the graph is as it
+    /// was.
     pub fn add(&mut self, e: GraphEdge) -> Result<(), AllocError>
         requires ends { HasEnds self.old.nodes e }
         requires room { length self.old.edges < 4_294_967_295 }
-        ensures ok { OnOk result (self.new ≡ record { nodes = self.old.nodes; edges = self.old.edges ++ e ∷ [] }) }
+        ensures ok { OnOk result (self.new ≡ record {
+          nodes = self.old.nodes;
+          edges = self.old.edges
+              ++ e ∷ [];
+        }) }
         ensures err { OnErr result (self.new ≡ self.old) }
     {
         self.edges.push(e)?;

@@ -13,8 +13,9 @@ use crate::passing::{Everywhere, Passable};
 use crate::paths::{EdgeList, Path};
 use std::alloc::{AllocError, Global};
 
-/// The least walk from one of the starts to a goal: by the number of its edges, then by the place of its start in `from`, then by the
-/// numbers of its edges. None where no walk leads from a start to a goal.
+/// The least walk from one of the starts to a goal: by the number of its edges, then by the place
+/// of its start in `from`, then by the numbers of its edges. None where no walk leads from a start
+/// to a goal.
 pub fn least_walk(
     alloc: Global,
     g: &Graph,
@@ -25,14 +26,16 @@ pub fn least_walk(
     requires starts { (i s : ℕ) → item_at from.now i ≡ Some s → s < g.now.nodes }
     ensures some { IfOk result (λ found. IfSome found (λ p.
         IsLeastWalk (arcs_of g.now.edges) (is_goal goal.now) from.now (record { start = p.start; arcs = p.edges }))) }
-    ensures none { IfOk result (λ found. IfNone found (HasNoWalk (arcs_of g.now.edges) (is_goal goal.now) from.now)) }
+    ensures none { IfOk result (λ found. IfNone found
+        (HasNoWalk (arcs_of g.now.edges) (is_goal goal.now) from.now)) }
 {
     let edges = g.edges();
     let sides = Adjacency::new(alloc, g.nodes(), edges)?;
     least_open_walk(alloc, edges, &sides, &Everywhere, from, goal)
 }
 
-/// The least walk over the open edges, by the same order. The adjacency is that of the edges; it may be used again while they stay.
+/// The least walk over the open edges, by the same order. The adjacency is that of the edges; it
+/// may be used again while they stay.
 pub fn least_open_walk<P: Passable>(
     alloc: Global,
     edges: &[GraphEdge],
@@ -48,7 +51,8 @@ pub fn least_open_walk<P: Passable>(
     requires starts { (i s : ℕ) → item_at from.now i ≡ Some s → s < length goal.now }
     ensures some { IfOk result (λ found. IfSome found (λ p.
         IsLeastWalk (arcs_by (P.passes by.now) edges.now) (is_goal goal.now) from.now (record { start = p.start; arcs = p.edges }))) }
-    ensures none { IfOk result (λ found. IfNone found (HasNoWalk (arcs_by (P.passes by.now) edges.now) (is_goal goal.now) from.now)) }
+    ensures none { IfOk result (λ found. IfNone found
+        (HasNoWalk (arcs_by (P.passes by.now) edges.now) (is_goal goal.now) from.now)) }
 {
     let dist = distances(alloc, edges, &sides.into, by, goal)?;
     let Some(start) = nearest(from, &dist) else {

@@ -4,4 +4,13 @@ use Rattle.periodic_expr.specs.declared.drafts.Draft.{Draft}
 use Rattle.periodic_expr.specs.Sketch.{Sketch}
 
 abbrev pub seen : Draft → Sketch
-seen d = record { parts = d.parts.items; set = option_map (λ v. v.items) d.set; brace = d.brace; token = d.token; above = d.above; count = d.count; unit = d.unit; fault = d.fault }
+seen d = record {
+  parts = d.parts.items;
+  set = option_map (λ v. v.items) d.set;
+  brace = d.brace;
+  token = d.token;
+  above = d.above;
+  count = d.count;
+  unit = d.unit;
+  fault = d.fault;
+}

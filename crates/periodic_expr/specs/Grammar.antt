@@ -59,25 +59,30 @@ set_tokens place None = placed place (codes "all") ∷ []
 set_tokens place (Some ns) = placed place (codes "{") ∷ numbers ns ++ mark (codes "}") ∷ []
 
 abbrev pub part_tokens : RawPart → List Token
-part_tokens p = set_tokens p.place p.set ++ mark (codes ".") ∷ placed p.calendar_place (calendar_word p.calendar) ∷ []
+part_tokens p = set_tokens p.place p.set ++ mark (codes ".")
+    ∷ placed p.calendar_place (calendar_word p.calendar) ∷ []
 
 abbrev pub span_tokens : Option RawLength → List Token
 span_tokens None = []
-span_tokens (Some l) = mark (codes ">") ∷ number_token l.count ∷ mark (codes ".") ∷ placed l.unit_place (calendar_word l.unit) ∷ []
+span_tokens (Some l) = mark (codes ">") ∷ number_token l.count ∷ mark (codes ".")
+    ∷ placed l.unit_place (calendar_word l.unit) ∷ []
 
 -- EXPR = PART { "+" PART } [ ">" NUMBER "." CAL ]
 abbrev pub tokens_of : RawExpr → List Token
-tokens_of e = part_tokens e.first ++ flat_map (λ p. mark (codes "+") ∷ part_tokens p) e.more ++ span_tokens e.span
+tokens_of e = part_tokens e.first ++ flat_map (λ p. mark (codes "+") ∷ part_tokens p) e.more
+    ++ span_tokens e.span
 
 abbrev pub IsAt : Option ℕ → ℕ → Type 0
 IsAt None n = Unit {0}
 IsAt (Some place) n = place ≡ n
 
--- from a place on the text is these tokens, with blanks before each of them at will, and nothing after the last
+-- from a place on the text is these tokens, with blanks before each of them at will, and nothing
+-- after the last
 abbrev pub Lies : ℕ → List Token → List ℕ → Type 0
 Lies at [] text = text ≡ []
 Lies at (token ∷ tokens) text =
-    (gap : List ℕ) × (rest : List ℕ) × (text ≡ gap ++ token.text ++ rest) × IsTrue (list_all is_blank gap) × IsAt token.place (at + length gap)
+    (gap : List ℕ) × (rest : List ℕ) × (text ≡ gap ++ token.text ++ rest)
+    × IsTrue (list_all is_blank gap) × IsAt token.place (at + length gap)
     × Lies (at + length gap + length token.text) tokens rest
 
 -- a number has at most nine digits
@@ -135,12 +140,14 @@ first_faults place (Some ns) = record { at = place; kind = FirstNotAll } ∷ zer
 abbrev pub span_faults : Calendar → Option RawLength → List ExprFault
 span_faults above None = []
 span_faults above (Some l) =
-    where_not (nat_le 1 l.count.value && nat_le l.count.value 1000) l.count.place BadLength ++ where_not (is_same above l.unit || is_below above l.unit) l.unit_place NotFiner
+    where_not (nat_le 1 l.count.value && nat_le l.count.value 1000) l.count.place BadLength
+    ++ where_not (is_same above l.unit || is_below above l.unit) l.unit_place NotFiner
 
 abbrev pub later_faults : Calendar → List RawPart → Option RawLength → List ExprFault
 later_faults above [] span = span_faults above span
 later_faults above (p ∷ ps) span =
-    set_faults p.place p.set ++ where_not (is_below above p.calendar) p.calendar_place NotFiner ++ later_faults p.calendar ps span
+    set_faults p.place p.set ++ where_not (is_below above p.calendar) p.calendar_place NotFiner
+    ++ later_faults p.calendar ps span
 
 abbrev pub faults_of : RawExpr → List ExprFault
 faults_of e = first_faults e.first.place e.first.set ++ later_faults e.first.calendar e.more e.span
@@ -168,7 +175,8 @@ with_span parts last None = record { parts = parts; count = 1; unit = last }
 with_span parts last (Some l) = record { parts = parts; count = l.count.value; unit = l.unit }
 
 abbrev pub expr_of : RawExpr → Expr
-expr_of e = with_span (map part_of (e.first ∷ e.more)) (last_calendar e.first.calendar e.more) e.span
+expr_of e = with_span (map part_of (e.first ∷ e.more))
+    (last_calendar e.first.calendar e.more) e.span
 
 -- what a text says, as the papers have it
 

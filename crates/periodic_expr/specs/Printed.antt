@@ -26,4 +26,5 @@ parts_text (p ∷ ps) = part_text p ++ flat_map later_part ps
 
 -- `PART + PART > COUNT.UNIT`, always with its length
 abbrev pub expr_text : Expr → List ℕ
-expr_text e = parts_text e.parts ++ codes " > " ++ decimal e.count ++ codes "." ++ calendar_word e.unit
+expr_text e = parts_text e.parts ++ codes " > " ++ decimal e.count ++ codes "."
+    ++ calendar_word e.unit

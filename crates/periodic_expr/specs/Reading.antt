@@ -25,7 +25,8 @@ ended at _ s = syntax at
 
 abbrev pub read_from : ℕ → Place → Sketch → List ℕ → Result Expr ExprFault
 read_from at place s [] = ended at place s
-read_from at place s (b ∷ bs) = elim (moved place b) [ None ↦ syntax at | Some m ↦ read_from (at + 1) m.place (acted m.act at s) bs ]
+read_from at place s (b ∷ bs) = elim (moved place b)
+    [ None ↦ syntax at | Some m ↦ read_from (at + 1) m.place (acted m.act at s) bs ]
 
 -- what a text says, or its fault
 abbrev pub read_expr : List ℕ → Result Expr ExprFault

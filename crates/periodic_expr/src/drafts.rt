@@ -12,8 +12,8 @@ use gt_base::List;
 use gtrbac_model::Calendar;
 use std::alloc::{AllocError, Global};
 
-/// The parts so far and the set of the part at hand, where its brace and where the token at hand stands, the calendar of
-/// the last part, the length, and the first fault.
+/// The parts so far and the set of the part at hand, where its brace and where the token at hand
+/// stands, the calendar of the last part, the length, and the first fault.
 #[derive(Drop)]
 pub(crate) struct Draft {
     pub parts: Vec<ExprPart>,
@@ -102,7 +102,8 @@ fn begun(mut d: Draft, at: u32) -> Draft
 }
 
 fn put_into(set: Option<Vec<u32>>, n: u32) -> Result<Option<Vec<u32>>, AllocError>
-    ensures { IfOk result (λ more. option_map (λ v. v.items) more ≡ puts_into n (option_map (λ v. v.items) set)) }
+    ensures { IfOk result (λ more. option_map (λ v. v.items) more
+        ≡ puts_into n (option_map (λ v. v.items) set)) }
 {
     match set {
         Some(numbers) => Ok(Some(put(numbers, n)?)),

@@ -7,7 +7,8 @@ use gtrbac_model::Calendar;
 use std::alloc::Global;
 use std::marker::Model;
 
-/// All intervals of a calendar, or those with these numbers, ascending without repeats. Seen without the room of its list.
+/// All intervals of a calendar, or those with these numbers, ascending without repeats. Seen
+/// without the room of its list.
 pub struct ExprPart {
     pub calendar: Calendar,
     pub set: Option<List<u32>>,
@@ -34,7 +35,8 @@ impl Model for ExprPart {
 }
 
 fn copied_set(set: &Option<List<u32>>) -> Result<Option<List<u32>>, Memory>
-    ensures { IfOk result (λ copy. option_map (λ l. l.items) copy ≡ option_map (λ l. l.items) set.now) }
+    ensures { IfOk result (λ copy. option_map (λ l. l.items) copy
+        ≡ option_map (λ l. l.items) set.now) }
 {
     match set {
         Some(numbers) => Ok(Some(numbers.copied()?)),
@@ -65,8 +67,8 @@ fn copied_parts(alloc: Global, parts: &[ExprPart]) -> Result<Vec<ExprPart>, Memo
     Ok(copies)
 }
 
-/// A periodic expression: its parts, of which the first takes all, and its length. It is valid by its type, and seen as
-/// its list of parts and its length with its calendar.
+/// A periodic expression: its parts, of which the first takes all, and its length. It is valid by
+/// its type, and seen as its list of parts and its length with its calendar.
 pub struct Expr {
     parts: List<ExprPart>,
     count: u32,
@@ -94,7 +96,11 @@ impl Model for Expr {
 
     ghost view = { λ e. record { parts = e.parts.items; count = e.count; unit = e.unit } };
 
-    ghost invariant = { λ e. IsTrue (is_expr (record { parts = e.parts.items; count = e.count; unit = e.unit })) };
+    ghost invariant = { λ e. IsTrue (is_expr (record {
+      parts = e.parts.items;
+      count = e.count;
+      unit = e.unit;
+    })) };
 }
 
 impl Expr {
@@ -129,7 +135,8 @@ impl Expr {
         &self.parts
     }
 
-    /// How many intervals of which calendar a begin lasts: 1 to 1,000 of the last part's calendar or of one below it.
+    /// How many intervals of which calendar a begin lasts: 1 to 1,000 of the last part's calendar
+    /// or of one below it.
     pub fn length(&self) -> (u32, Calendar)
         ensures count { result.0 ≡ self.now.count }
         ensures unit { result.1 ≡ self.now.unit }
@@ -139,7 +146,8 @@ impl Expr {
     }
 }
 
-/// The instants of an expression from the first to the last, both included; the first is not after the last.
+/// The instants of an expression from the first to the last, both included; the first is not after
+/// the last.
 pub struct Period {
     pub first: Instant,
     pub last: Instant,

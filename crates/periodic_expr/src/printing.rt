@@ -54,7 +54,8 @@ fn push_numbers(text: &mut Vec<u8>, numbers: &[u32]) -> Result<(), AllocError>
 }
 
 fn push_set(text: &mut Vec<u8>, set: &Option<List<u32>>) -> Result<(), AllocError>
-    ensures { OnOk result (text.new.items ≡ text.old.items ++ set_text (option_map (λ l. l.items) set.now)) }
+    ensures { OnOk result (text.new.items ≡ text.old.items
+        ++ set_text (option_map (λ l. l.items) set.now)) }
 {
     match set {
         None => text.extend_from_slice(b"all"),
@@ -101,8 +102,8 @@ fn push_parts(text: &mut Vec<u8>, parts: &[ExprPart]) -> Result<(), AllocError>
     }
 }
 
-/// The one canonical text of an expression: sets ascending without repeats, ` + ` and ` > ` with one space on each side
-/// and no other space, and always the length.
+/// The one canonical text of an expression: sets ascending without repeats, ` + ` and ` > ` with
+/// one space on each side and no other space, and always the length.
 pub fn print_expr(alloc: Global, e: &Expr) -> Result<List<u8>, Memory>
     ensures { IfOk result (λ text. text.items ≡ expr_text e.now) }
 {

@@ -58,12 +58,14 @@ fn scanned(alloc: Global, text: &[u8]) -> Result<Result<Expr, ExprFault>, AllocE
     Ok(ended(place, draft, text.len() as u32))
 }
 
-/// The expression that a text is, or its fault of the least place, from 0 in the text. A text outside the grammar has the
-/// kind Syntax, at the length of its longest front that can be continued to a text of the grammar.
+/// The expression that a text is, or its fault of the least place, from 0 in the text. A text
+/// outside the grammar has the kind Syntax, at the length of its longest front that can be
+/// continued to a text of the grammar.
 pub fn parse_expr(alloc: Global, text: &[u8]) -> Result<Expr, ExprFault>
     requires { length text.now < 2 ^ 32 }
     ensures ok { IfOk result (λ e. read_expr text.now ≡ Ok e) }
-    ensures fault { IfErr result (λ f. (f ≡ record { at = 0; kind = ExprKind.Memory }) ⊎ (read_expr text.now ≡ Err f)) }
+    ensures fault { IfErr result (λ f. (f ≡ record { at = 0; kind = ExprKind.Memory })
+        ⊎ (read_expr text.now ≡ Err f)) }
 {
     match scanned(alloc, text) {
         Ok(said) => said,

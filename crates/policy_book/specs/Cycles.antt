@@ -19,6 +19,7 @@ cycle_edges es = option_map (edges_at es) (edge_cycle es)
 
 -- the fault tells the least cycle; want of memory tells none
 abbrev pub IsCycleFault : Names → List HierEdge → BookFault → Type 0
-IsCycleFault ns es (HierarchyCycle told names) = (cycle_edges es ≡ Some told.items) × (names.items ≡ seniors ns told.items)
+IsCycleFault ns es (HierarchyCycle told names) = (cycle_edges es ≡ Some told.items)
+    × (names.items ≡ seniors ns told.items)
 IsCycleFault ns es Memory = Unit {0}
 IsCycleFault ns es _ = ⊥

@@ -19,7 +19,8 @@ abbrev pub IsFault : List (Numbered SaidView) → BookFault → Type 0
 IsFault ss (Unknown n) = build ss ≡ Err (unknown n)
 IsFault ss (Twice n) = build ss ≡ Err (twice n)
 IsFault ss (TooMany n k) = build ss ≡ Err (many n k)
-IsFault ss (HierarchyCycle es names) = (build ss ≡ Err (cycle es.items)) × (names.items ≡ seniors (names_of (said_in ss)) es.items)
+IsFault ss (HierarchyCycle es names) = (build ss ≡ Err (cycle es.items))
+    × (names.items ≡ seniors (names_of (said_in ss)) es.items)
 IsFault ss Memory = Unit {0}
 
 -- the fault of a line is this

@@ -28,18 +28,23 @@ before_place before [] (suc k) = before
 before_place before (s ∷ ss) (suc k) = before_place (s.it ∷ before) ss k
 
 -- the fault of the line s at place k: the first of the three that it has
-abbrev pub HasFault : Names → List (Numbered SaidView) → ℕ → Numbered SaidView → BookTrouble → Type 0
+abbrev pub HasFault : Names → List (Numbered SaidView) → ℕ → Numbered SaidView → BookTrouble
+    → Type 0
 HasFault ns ss k s (unknown n) = (n ≡ s.line) × (is_known ns s.it ≡ false)
-HasFault ns ss k s (twice n) = (n ≡ s.line) × (is_known ns s.it ≡ true) × (may_be_again s.it ≡ false) × ClaimsAgain ss k s.it
+HasFault ns ss k s (twice n) = (n ≡ s.line) × (is_known ns s.it ≡ true)
+    × (may_be_again s.it ≡ false) × ClaimsAgain ss k s.it
 HasFault ns ss k s (many n kind) =
-    (n ≡ s.line) × (is_known ns s.it ≡ true) × (ClaimsAgain ss k s.it → ⊥) × (kind_of s.it ≡ Some kind) × (most_of kind ≤ count_of kind (before_place [] ss k))
+    (n ≡ s.line) × (is_known ns s.it ≡ true) × (ClaimsAgain ss k s.it → ⊥)
+    × (kind_of s.it ≡ Some kind) × (most_of kind ≤ count_of kind (before_place [] ss k))
 HasFault ns ss k s (cycle es) = ⊥
 
 abbrev pub NoFaultBelow : Names → List (Numbered SaidView) → ℕ → Type 0
-NoFaultBelow ns ss k = (j : ℕ) (r : Numbered SaidView) (u : BookTrouble) → j < k → item_at ss j ≡ Some r → HasFault ns ss j r u → ⊥
+NoFaultBelow ns ss k = (j : ℕ) (r : Numbered SaidView) (u : BookTrouble) → j < k
+    → item_at ss j ≡ Some r → HasFault ns ss j r u → ⊥
 
 -- the fault is that of the least place whose line has one
-pub record IsFirstFault (ns : Names) (ss : List (Numbered SaidView)) (t : BookTrouble) : Type 0 where
+pub record IsFirstFault (ns : Names) (ss : List (Numbered SaidView))
+    (t : BookTrouble) : Type 0 where
   pub place : ℕ
   pub line : Numbered SaidView
   pub stands : item_at ss place ≡ Some line
@@ -56,6 +61,8 @@ pub record IsEdgeCycle (ss : List (Numbered SaidView)) (t : BookTrouble) : Type 
   pub is : edge_cycle (named_policy (said_in ss)).policy.edges ≡ Some numbers
   pub told : t ≡ cycle (edges_at (named_policy (said_in ss)).policy.edges numbers)
 
--- what is built of lines is a fault just where it is their first fault, or where none has one, the least cycle of edges
+-- what is built of lines is a fault just where it is their first fault, or where none has one, the
+-- least cycle of edges
 abbrev pub FaultsAreFirst : Type 0
-FaultsAreFirst = (ss : List (Numbered SaidView)) (t : BookTrouble) → (build ss ≡ Err t) ↔ (IsFirstFault (names_of (said_in ss)) ss t ⊎ IsEdgeCycle ss t)
+FaultsAreFirst = (ss : List (Numbered SaidView)) (t : BookTrouble)
+    → (build ss ≡ Err t) ↔ (IsFirstFault (names_of (said_in ss)) ss t ⊎ IsEdgeCycle ss t)

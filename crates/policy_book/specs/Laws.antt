@@ -8,7 +8,8 @@ use Rattle.policy_words.specs.Valid.{IsWellFormed}
 
 -- what lines in range without a fault make is well formed
 abbrev pub BuildIsWellFormed : Type 0
-BuildIsWellFormed = (ss : List (Numbered SaidView)) (np : NamedPolicy) → All (λ s. IsTrue (is_saying s.it)) ss → build ss ≡ Ok np → IsWellFormed np
+BuildIsWellFormed = (ss : List (Numbered SaidView)) (np : NamedPolicy)
+    → All (λ s. IsTrue (is_saying s.it)) ss → build ss ≡ Ok np → IsWellFormed np
 
 -- lines with their numbers, from this one on
 abbrev pub numbered_from : ℕ → List SaidView → List (Numbered SaidView)

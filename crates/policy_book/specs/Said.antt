@@ -44,7 +44,8 @@ abbrev pub saying_code : Coded SaidView
 saying_code = code_by Said said.the_row.coded bare_said seen_said seen_bare
 
 abbrev pub numbered_code : Coded (Numbered SaidView)
-numbered_code = code_by (ℕ × SaidView) (coded× coded_ℕ saying_code) (λ s. (s.line, s.it)) (λ p. record { line = p.0; it = p.1 }) (λ _. refl)
+numbered_code = code_by (ℕ × SaidView) (coded× coded_ℕ saying_code) (λ s. (s.line, s.it))
+    (λ p. record { line = p.0; it = p.1 }) (λ _. refl)
 
 -- each number is below n
 abbrev pub are_before : ℕ → List (Numbered SaidView) → Bool

@@ -1,5 +1,6 @@
--- The first fault of the lines, by what is kept of the lines before: what they claim, and how many of each kind they have.
-use Rattle.std.specs.Prelude.{ℕ, ◌+◌, Bool, true, false, ◌&&◌, not, cond, List, [], ◌∷◌, nat_le, Option, Some, None}
+-- The first fault of the lines, by what is kept of the lines before: what they claim, and how many
+-- of each kind they have.
+use Rattle.std.specs.Prelude.{ℕ, ◌+◌, Bool, true, false, ◌&&◌, not, List, [], ◌∷◌, nat_le, Option, Some, None, if◌then◌else◌}
 use Rattle.gtrbac_model.specs.Same.{lists}
 use Rattle.policy_words.specs.declared.sayings.Kind.{Kind}
 use Rattle.policy_words.specs.declared.sayings.Kind.TheVariants as kinds
@@ -22,7 +23,18 @@ abbrev pub seen_tally : Tally → Tallied
 seen_tally t = record { claims = t.claims.keys; counts = t.counts }
 
 abbrev pub no_counts : Counts
-no_counts = record { roles = 0; users = 0; perms = 0; periods = 0; limits = 0; edges = 0; entries = 0; triggers = 0; assigned = 0; granted = 0 }
+no_counts = record {
+  roles = 0;
+  users = 0;
+  perms = 0;
+  periods = 0;
+  limits = 0;
+  edges = 0;
+  entries = 0;
+  triggers = 0;
+  assigned = 0;
+  granted = 0;
+}
 
 abbrev pub count_in : Counts → Kind → ℕ
 count_in c kinds.Roles = c.roles
@@ -56,14 +68,16 @@ is_full c k = nat_le (most_of k) (count_in c k)
 
 abbrev pub full_kind : Tallied → SaidView → Option Kind → Option Trouble
 full_kind t s None = None
-full_kind t s (Some k) = cond (not (is_claimed t s) && is_full t.counts k) (Some (TooMany k)) None
+full_kind t s (Some k) = if not (is_claimed t s) && is_full t.counts k then Some (TooMany k)
+    else None
 
 -- of one line: unknown, twice, too many
 abbrev pub trouble_in : Names → Tallied → SaidView → Option Trouble
 trouble_in ns t s =
     elim (is_known ns s) [
       | false ↦ Some Unknown
-      | true ↦ elim (not (may_be_again s) && is_claimed t s) [ true ↦ Some Twice | false ↦ full_kind t s (kind_of s) ]
+      | true ↦ if not (may_be_again s) && is_claimed t s then Some Twice
+          else full_kind t s (kind_of s)
     ]
 
 abbrev pub with_count : Option Kind → Counts → Counts
@@ -72,7 +86,11 @@ with_count (Some k) c = one_more c k
 
 -- with one line more
 abbrev pub tallied : Tallied → SaidView → Tallied
-tallied t s = cond (is_claimed t s) t (record { claims = with_new same_claim (claim_of s) t.claims; counts = with_count (kind_of s) t.counts })
+tallied t s = if is_claimed t s then t
+    else record {
+      claims = with_new same_claim (claim_of s) t.claims;
+      counts = with_count (kind_of s) t.counts;
+    }
 
 abbrev pub told_at : ℕ → Trouble → BookTrouble
 told_at n Unknown = unknown n
@@ -82,7 +100,8 @@ told_at n (TooMany k) = many n k
 -- of all lines, after those of the tally
 abbrev pub first_told : Names → Tallied → List (Numbered SaidView) → Option BookTrouble
 first_told ns t [] = None
-first_told ns t (s ∷ ss) = elim (trouble_in ns t s.it) [ Some f ↦ Some (told_at s.line f) | None ↦ first_told ns (tallied t s.it) ss ]
+first_told ns t (s ∷ ss) = elim (trouble_in ns t s.it)
+    [ Some f ↦ Some (told_at s.line f) | None ↦ first_told ns (tallied t s.it) ss ]
 
 abbrev pub nothing_told : Tallied
 nothing_told = record { claims = []; counts = no_counts }

@@ -22,9 +22,10 @@ use policy_words::{NamedCond, NamedEvent, NamedHead};
 use std::alloc::Global;
 use std::marker::Model;
 
-/// A policy with the names that its lines declare, each at its number, from 0 in the order of the lines. It is seen as its
-/// names and the model's policy, and keeps what every policy keeps: numbers in range, lists within their limits, valid
-/// periods, no two edges of one ordered pair and no cycle of edges, and a record of caps for each role.
+/// A policy with the names that its lines declare, each at its number, from 0 in the order of the
+/// lines. It is seen as its names and the model's policy, and keeps what every policy keeps:
+/// numbers in range, lists within their limits, valid periods, no two edges of one ordered pair and
+/// no cycle of edges, and a record of caps for each role.
 pub struct Policy {
     pub(crate) alloc: Global,
     pub(crate) names: NameTables,
@@ -223,7 +224,8 @@ impl Policy {
         &self.periods
     }
 
-    /// The number of the edge from a senior to a junior, none exactly where no edge has that ordered pair.
+    /// The number of the edge from a senior to a junior, none exactly where no edge has that
+    /// ordered pair.
     pub fn edge_between(&self, senior: RoleId, junior: RoleId) -> Option<u32>
         ensures { result ≡ position (joins_pair senior junior) self.now.policy.edges }
     {

@@ -45,7 +45,8 @@ pub(crate) fn sound_draft(
 ) -> Result<Draft, BookFault>
     requires named { seen_names names.now ≡ names_of (said_in parts.items) }
     requires kept { AreParts parts.items }
-    ensures ok { IfOk result (λ draft. IsSound parts.items (seen_names names.now) (seen_draft draft)) }
+    ensures ok { IfOk result (λ draft. IsSound parts.items (seen_names names.now)
+        (seen_draft draft)) }
     ensures fault { IfErr result (IsFault parts.items) }
 {
     if let Err(fault) = check_lines(alloc, names, &parts) {

@@ -1,8 +1,8 @@
 //! What the computed cycle means. Each law stands on a function without a body.
 ghost use Rattle.gtrbac_model.specs.EdgeCycles.{CycleIsLeast, NoneIsAcyclic};
 
-/// The cycle that the definition computes is the least edge that lies on a cycle and the least walk back, and it computes none just where
-/// no closed walk has an edge.
+/// The cycle that the definition computes is the least edge that lies on a cycle and the least walk
+/// back, and it computes none just where no closed walk has an edge.
 pub fn computed_cycle_is_least()
     ensures { CycleIsLeast }
 {}

@@ -46,7 +46,8 @@ fn senior(names: &NameTables, edge: &HierEdge) -> Name
 
 fn senior_names(alloc: Global, names: &NameTables, edges: &[HierEdge]) -> Result<Vec<Name>, Memory>
     requires { AreWithin (length names.now.roles) edges.now }
-    ensures { IfOk result (λ found. found.items ≡ map (λ e. role_name (seen_names names.now) e.senior) edges.now) }
+    ensures { IfOk result (λ found. found.items ≡ map
+        (λ e. role_name (seen_names names.now) e.senior) edges.now) }
 {
     let mut found = Vec::new(alloc);
     for edge in edges {

@@ -115,7 +115,8 @@ fn change(caps: &mut Vec<Caps>, role: usize, kind: CapKind, n: u32)
 /// Changes the caps of the role that a line caps.
 fn cap(caps: &mut Vec<Caps>, names: &NameTables, said: &Said)
     requires { AreFew 4_294_967_295 (seen_names names.now) }
-    ensures { caps.new.items ≡ with_caps_said (seen_names names.now) (seen_said said.now) caps.old.items }
+    ensures { caps.new.items ≡ with_caps_said (seen_names names.now)
+        (seen_said said.now) caps.old.items }
 {
     let Said::Cap { kind, role, n } = said else {
         return;
@@ -161,7 +162,8 @@ impl Draft {
     /// Adds what a line says but for its period.
     fn add_numbers(&mut self, alloc: Global, names: &NameTables, said: &Said) -> Result<(), Memory>
         requires { AreFew 4_294_967_295 (seen_names names.now) }
-        ensures { OnOk result (seen_draft self.new ≡ adding_numbers (seen_names names.now) (seen_draft self.old) (seen_said said.now)) }
+        ensures { OnOk result (seen_draft self.new ≡ adding_numbers (seen_names names.now)
+            (seen_draft self.old) (seen_said said.now)) }
     {
         add_item(&mut self.limits, limit_in(names, said))?;
         add_item(&mut self.edges, edge_in(names, said))?;
@@ -178,7 +180,8 @@ impl Draft {
     fn add(&mut self, alloc: Global, names: &NameTables, said: Said) -> Result<(), Memory>
         requires few { AreFew 4_294_967_295 (seen_names names.now) }
         requires said { IsTrue (is_saying (seen_said said)) }
-        ensures { OnOk result (seen_draft self.new ≡ adding (seen_names names.now) (seen_draft self.old) (seen_said said)) }
+        ensures { OnOk result (seen_draft self.new ≡ adding (seen_names names.now)
+            (seen_draft self.old) (seen_said said)) }
     {
         self.add_numbers(alloc, names, &said)?;
         add_item(&mut self.periods, period_in(said))?;
@@ -193,8 +196,10 @@ impl Draft {
         admins: Vec<UserId>,
         opening: Status,
     ) -> Policy
-        requires { IsWellFormed (policy_with (seen_names names) (seen_draft self) admins.items opening.set) }
-        ensures { result ≡ policy_with (seen_names names) (seen_draft self) admins.items opening.set }
+        requires { IsWellFormed (policy_with (seen_names names)
+            (seen_draft self) admins.items opening.set) }
+        ensures { result ≡ policy_with (seen_names names)
+            (seen_draft self) admins.items opening.set }
     {
         let Draft {
             periods,
@@ -225,7 +230,8 @@ impl Draft {
 pub(crate) fn draft_of(alloc: Global, names: &NameTables, parts: Vec<Part>) -> Result<Draft, Memory>
     requires few { AreFew 4_294_967_295 (seen_names names.now) }
     requires said { IsTrue (are_sayings parts.items) }
-    ensures { IfOk result (λ draft. seen_draft draft ≡ drafted (seen_names names.now) (fresh (seen_names names.now)) (said_in parts.items)) }
+    ensures { IfOk result (λ draft. seen_draft draft
+        ≡ drafted (seen_names names.now) (fresh (seen_names names.now)) (said_in parts.items)) }
 {
     let mut draft = Draft::new(alloc, names)?;
     let mut rest = parts.into_iter();

@@ -8,9 +8,10 @@ use least_walk::{EdgeList, Graph, GraphEdge};
 use safety_cycle::{Verdict, judge};
 use std::alloc::{AllocError, Global};
 
-/// The numbers of the edges of the least cycle, none where the edges have no cycle: the least edge that lies on one, followed by the
-/// least walk from its junior back to its senior. Of two walks the less has fewer edges, or as many and lesser numbers. An edge from a
-/// role to itself is a cycle by itself. Each role has a number below `roles`.
+/// The numbers of the edges of the least cycle, none where the edges have no cycle: the least edge
+/// that lies on one, followed by the least walk from its junior back to its senior. Of two walks
+/// the less has fewer edges, or as many and lesser numbers. An edge from a role to itself is a
+/// cycle by itself. Each role has a number below `roles`.
 pub fn cycle_of(alloc: Global, roles: u32, edges: &[HierEdge]) -> Result<Option<EdgeList>, Memory>
     requires ends { AreWithin roles edges.now }
     requires few { length edges.now ≤ 4_294_967_295 }

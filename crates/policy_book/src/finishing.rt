@@ -24,7 +24,8 @@ fn has(users: &IndexSet<UserId>, user: UserId) -> bool
 
 /// The administrators among so many users, ascending.
 fn admins_of(alloc: Global, users: u32, admins: &IndexSet<UserId>) -> Result<Vec<UserId>, Memory>
-    ensures { IfOk result (λ found. found.items ≡ filter (lists same_user admins.now.keys) (users_from 0 users)) }
+    ensures { IfOk result (λ found. found.items ≡ filter (lists same_user admins.now.keys)
+        (users_from 0 users)) }
 {
     let mut found = Vec::new(alloc);
     for n in 0..users {
@@ -50,8 +51,8 @@ fn status_of(alloc: Global, fluents: &[Fluent], linked: u32) -> Result<Status, M
     Ok(status)
 }
 
-/// By what fluents are sorted so that a status takes each at its end: their sort, their role where they have another name
-/// beside it, and their first name.
+/// By what fluents are sorted so that a status takes each at its end: their sort, their role where
+/// they have another name beside it, and their first name.
 fn place(fluent: Fluent) -> (u8, u32, u32) {
     match fluent {
         Fluent::Enabled(role) => (0, 0, role.0),
@@ -62,16 +63,19 @@ fn place(fluent: Fluent) -> (u8, u32, u32) {
     }
 }
 
-/// The status in which these fluents and the first so many edges are on, in time n log n. It sorts the fluents.
+/// The status in which these fluents and the first so many edges are on, in time n log n. It sorts
+/// the fluents.
 fn opening_of(alloc: Global, fluents: &mut IndexSet<Fluent>, linked: u32) -> Result<Status, Memory>
-    ensures { IfOk result (λ status. status.set ≡ set_of (edges_from 0 linked ++ fluents.old.keys)) }
+    ensures { IfOk result (λ status. status.set ≡ set_of
+        (edges_from 0 linked ++ fluents.old.keys)) }
 {
     fluents.sort_by_key(|fluent| place(*fluent))?;
     let status = status_of(alloc, fluents.as_slice(), linked)?;
     Ok(status)
 }
 
-/// How many edges are linked at first, from number 0 on: in version 1 all, and in version 2 none but by lines.
+/// How many edges are linked at first, from number 0 on: in version 1 all, and in version 2 none
+/// but by lines.
 fn linked_count(second: bool, edges: &[HierEdge]) -> u32
     requires { length edges.now ≤ 4_294_967_295 }
     ensures { edges_from 0 result ≡ linked_at_first second edges.now }
@@ -88,7 +92,8 @@ pub(crate) fn finished(
 ) -> Result<Policy, Memory>
     requires few { AreFew 4_294_967_295 (seen_names names) }
     requires well_formed { IsWellFormed (made_policy (seen_names names) second (seen_draft draft)) }
-    ensures { IfOk result (λ policy. policy ≡ made_policy (seen_names names) second (seen_draft draft)) }
+    ensures { IfOk result (λ policy. policy ≡ made_policy (seen_names names) second
+        (seen_draft draft)) }
 {
     let admins = admins_of(alloc, names.users.len() as u32, &draft.admins)?;
     let linked = linked_count(second, &draft.edges);

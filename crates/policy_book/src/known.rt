@@ -43,7 +43,8 @@ fn is_known_period(names: &NameTables, period: &Option<Name>) -> bool
     }
 }
 
-/// Whether each name of the line is declared by some line, and each pair of an edge that it switches is an edge's.
+/// Whether each name of the line is declared by some line, and each pair of an edge that it
+/// switches is an edge's.
 pub(crate) fn is_known(names: &NameTables, said: &Said) -> bool
     requires { AreFew 4_294_967_295 (seen_names names.now) }
     ensures { result ≡ known (seen_names names.now) (seen_said said.now) }

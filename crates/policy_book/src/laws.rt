@@ -7,8 +7,9 @@ pub fn build_is_well_formed()
     ensures { BuildIsWellFormed }
 {}
 
-/// What is told of lines is the fault of the least line that has one: a name that no line declares, a claim that an earlier
-/// line has, or one too many of its kind. Where no line has a fault, it is the least cycle of edges.
+/// What is told of lines is the fault of the least line that has one: a name that no line declares,
+/// a claim that an earlier line has, or one too many of its kind. Where no line has a fault, it is
+/// the least cycle of edges.
 pub fn faults_are_first()
     ensures { FaultsAreFirst }
 {}

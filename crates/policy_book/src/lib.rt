@@ -1,4 +1,5 @@
-//! Policies: what the lines of a text make, with its names and numbers, or the first fault of the lines together.
+//! Policies: what the lines of a text make, with its names and numbers, or the first fault of the
+//! lines together.
 #![tactic(auto)]
 
 mod books;

@@ -45,8 +45,9 @@ impl Model for Part {
     ghost view = { λ p. record { line = p.line; it = seen_said p.said } };
 }
 
-/// The lines of a policy that say something, in their order. They are seen as the list of their numbers and sayings: each
-/// saying is in range, the numbers rise, a version stands first, and an edge is named only where the first has version 2.
+/// The lines of a policy that say something, in their order. They are seen as the list of their
+/// numbers and sayings: each saying is in range, the numbers rise, a version stands first, and an
+/// edge is named only where the first has version 2.
 #[derive(Drop)]
 pub struct Parts {
     pub(crate) parts: Vec<Part>,
@@ -85,13 +86,15 @@ impl Parts {
         let _ = &self.parts;
     }
 
-    /// Adds what a line says, whose number is above those of the lines before. A version is added first, and what names an
-    /// edge only where version 2 was. There is no room for more than 4,294,967,295 lines. After a refusal the parts are as they were.
+    /// Adds what a line says, whose number is above those of the lines before. A version is added
+    /// first, and what names an edge only where version 2 was. There is no room for more than
+    /// 4,294,967,295 lines. After a refusal the parts are as they were.
     pub fn add(&mut self, line: u32, said: Said) -> Result<(), Memory>
         requires said { IsTrue (is_saying (seen_said said)) }
         requires later { IsTrue (are_before line self.old) }
         requires placed { IsTrue (is_placed self.old (seen_said said)) }
-        ensures ok { OnOk result (self.new ≡ self.old ++ record { line = line; it = seen_said said } ∷ []) }
+        ensures ok { OnOk result (self.new ≡ self.old ++ record { line = line; it = seen_said said }
+            ∷ []) }
         ensures err { OnErr result (self.new ≡ self.old) }
     {
         if self.parts.len() >= u32::MAX as usize {

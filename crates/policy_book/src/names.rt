@@ -79,7 +79,8 @@ impl NameTables {
 
     /// Declares the name of a line that declares one, or the pair of an edge.
     fn declare(&mut self, said: &Said) -> Result<(), Memory>
-        ensures { OnOk result (seen_names self.new ≡ naming (seen_names self.old) (seen_said said.now)) }
+        ensures { OnOk result (seen_names self.new ≡ naming (seen_names self.old)
+            (seen_said said.now)) }
     {
         match said {
             Said::Role(name) => self.roles.declare(*name)?,
@@ -138,7 +139,8 @@ impl NameTables {
         Some(LimitId(number_in(&self.limits, n)?))
     }
 
-    /// The number of the edge from a senior to a junior, none exactly where no line declares a name or no edge joins the two.
+    /// The number of the edge from a senior to a junior, none exactly where no line declares a name
+    /// or no edge joins the two.
     fn edge(&self, senior: &Name, junior: &Name) -> Option<u32>
         requires { AreFew 4_294_967_295 (seen_names self.now) }
         ensures { result ≡ edge_number (seen_names self.now) senior.now junior.now }
@@ -164,7 +166,8 @@ impl NameTables {
         Some(Fluent::Granted(self.perm(p)?, self.role(r)?))
     }
 
-    /// The fluent in numbers, none exactly where a name of it is not declared, or no edge has its pair.
+    /// The fluent in numbers, none exactly where a name of it is not declared, or no edge has its
+    /// pair.
     pub(crate) fn fluent(&self, f: &NamedFluent) -> Option<Fluent>
         requires { AreFew 4_294_967_295 (seen_names self.now) }
         ensures { result ≡ fluent_of (seen_names self.now) f.now }

@@ -194,7 +194,8 @@ fn settled_in(names: &NameTables, item: &Item) -> Option<Cond>
 /// The events of a body, in the order of the line.
 fn events_in(alloc: Global, names: &NameTables, items: &[Item]) -> Result<Vec<Event>, Memory>
     requires { AreFew 4_294_967_295 (seen_names names.now) }
-    ensures { IfOk result (λ events. events.items ≡ filter_map (event_said (seen_names names.now)) items.now) }
+    ensures { IfOk result (λ events. events.items ≡ filter_map
+        (event_said (seen_names names.now)) items.now) }
 {
     let mut events = Vec::new(alloc);
     for item in items {
@@ -208,7 +209,8 @@ fn events_in(alloc: Global, names: &NameTables, items: &[Item]) -> Result<Vec<Ev
 /// The signals of a body, in the order of the line.
 fn signals_in(alloc: Global, names: &NameTables, items: &[Item]) -> Result<Vec<Signal>, Memory>
     requires { AreFew 4_294_967_295 (seen_names names.now) }
-    ensures { IfOk result (λ signals. signals.items ≡ filter_map (signal_said (seen_names names.now)) items.now) }
+    ensures { IfOk result (λ signals. signals.items
+        ≡ filter_map (signal_said (seen_names names.now)) items.now) }
 {
     let mut signals = Vec::new(alloc);
     for item in items {
@@ -222,7 +224,8 @@ fn signals_in(alloc: Global, names: &NameTables, items: &[Item]) -> Result<Vec<S
 /// The conditions of a body, in the order of the line.
 fn conds_in(alloc: Global, names: &NameTables, items: &[Item]) -> Result<Vec<Cond>, Memory>
     requires { AreFew 4_294_967_295 (seen_names names.now) }
-    ensures { IfOk result (λ conds. conds.items ≡ filter_map (cond_said (seen_names names.now)) items.now) }
+    ensures { IfOk result (λ conds. conds.items ≡ filter_map
+        (cond_said (seen_names names.now)) items.now) }
 {
     let mut conds = Vec::new(alloc);
     for item in items {
@@ -236,7 +239,8 @@ fn conds_in(alloc: Global, names: &NameTables, items: &[Item]) -> Result<Vec<Con
 /// The settled conditions of a body, in the order of the line.
 fn settled_conds_in(alloc: Global, names: &NameTables, items: &[Item]) -> Result<Vec<Cond>, Memory>
     requires { AreFew 4_294_967_295 (seen_names names.now) }
-    ensures { IfOk result (λ conds. conds.items ≡ filter_map (settled_said (seen_names names.now)) items.now) }
+    ensures { IfOk result (λ conds. conds.items ≡ filter_map
+        (settled_said (seen_names names.now)) items.now) }
 {
     let mut conds = Vec::new(alloc);
     for item in items {
@@ -256,7 +260,8 @@ fn trigger_of(
     delay: u32,
 ) -> Result<Trigger, Memory>
     requires { AreFew 4_294_967_295 (seen_names names.now) }
-    ensures { IfOk result (λ trigger. trigger ≡ trigger_with (seen_names names.now) items.now head delay) }
+    ensures { IfOk result (λ trigger. trigger ≡ trigger_with
+        (seen_names names.now) items.now head delay) }
 {
     let events = events_in(alloc, names, items)?;
     let signals = signals_in(alloc, names, items)?;
@@ -279,7 +284,8 @@ pub(crate) fn trigger_in(
     said: &Said,
 ) -> Result<Option<Trigger>, Memory>
     requires { AreFew 4_294_967_295 (seen_names names.now) }
-    ensures { IfOk result (λ trigger. trigger ≡ rule_said (seen_names names.now) (seen_said said.now)) }
+    ensures { IfOk result (λ trigger. trigger ≡ rule_said (seen_names names.now)
+        (seen_said said.now)) }
 {
     let Said::When { items, head, delay } = said else {
         return Ok(None);

@@ -47,8 +47,8 @@ impl Table {
         self.names.len()
     }
 
-    /// Declares a name, and says whether it is new; a name that was declared before keeps its number. After a refusal the
-    /// table is as it was.
+    /// Declares a name, and says whether it is new; a name that was declared before keeps its
+    /// number. After a refusal the table is as it was.
     pub fn declare(&mut self, name: Name) -> Result<bool, Memory>
         ensures fresh { IfOk result (λ fresh. fresh ≡ not (lists_name self.old name)) }
         ensures names { IfOk result (λ _. self.new ≡ with_name self.old name) }
@@ -123,9 +123,11 @@ impl PairTable {
         }
     }
 
-    /// Declares a pair, and says whether it is new; a pair that was declared before keeps its number.
+    /// Declares a pair, and says whether it is new; a pair that was declared before keeps its
+    /// number.
     pub(crate) fn declare(&mut self, first: Name, second: Name) -> Result<bool, Memory>
-        ensures fresh { IfOk result (λ fresh. fresh ≡ not (list_any (same_pair (first, second)) self.old)) }
+        ensures fresh { IfOk result (λ fresh. fresh
+            ≡ not (list_any (same_pair (first, second)) self.old)) }
         ensures pairs { IfOk result (λ _. self.new ≡ with_pair self.old (first, second)) }
         ensures err { OnErr result (self.new ≡ self.old) }
     {

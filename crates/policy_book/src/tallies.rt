@@ -241,7 +241,8 @@ impl Tally {
 
     /// The kind of the line, where there are as many before it as may be.
     fn full_kind(&self, said: &Said) -> Option<Trouble>
-        ensures { result ≡ full_kind (seen_tally self.now) (seen_said said.now) (kind_said (seen_said said.now)) }
+        ensures { result ≡ full_kind (seen_tally self.now) (seen_said said.now)
+            (kind_said (seen_said said.now)) }
     {
         let kind = kind_of(said)?;
         if !self.is_claimed(said) && self.counts.is_full(kind) {
@@ -251,10 +252,12 @@ impl Tally {
         }
     }
 
-    /// What is wrong with a line, if anything: a name is unknown, what it claims is claimed, or it is one too many.
+    /// What is wrong with a line, if anything: a name is unknown, what it claims is claimed, or it
+    /// is one too many.
     pub(crate) fn trouble(&self, names: &NameTables, said: &Said) -> Option<Trouble>
         requires { AreFew 4_294_967_295 (seen_names names.now) }
-        ensures { result ≡ trouble_in (seen_names names.now) (seen_tally self.now) (seen_said said.now) }
+        ensures { result ≡ trouble_in (seen_names names.now) (seen_tally self.now)
+            (seen_said said.now) }
     {
         if !is_known(names, said) {
             return Some(Trouble::Unknown);
@@ -267,8 +270,10 @@ impl Tally {
 
     /// Adds a line with which nothing is wrong.
     pub(crate) fn add(&mut self, said: &Said) -> Result<(), Memory>
-        requires { full_kind (seen_tally self.old) (seen_said said.now) (kind_said (seen_said said.now)) ≡ None }
-        ensures { OnOk result (seen_tally self.new ≡ tallied (seen_tally self.old) (seen_said said.now)) }
+        requires { full_kind (seen_tally self.old) (seen_said said.now)
+            (kind_said (seen_said said.now)) ≡ None }
+        ensures { OnOk result (seen_tally self.new ≡ tallied (seen_tally self.old)
+            (seen_said said.now)) }
     {
         if self.is_claimed(said) {
             return Ok(());

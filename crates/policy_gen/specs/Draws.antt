@@ -14,7 +14,8 @@ draw seed (suc n) = drawn_after (draw seed n)
 abbrev pub first_minute : ℕ
 first_minute = 13_681_920
 
--- what a round does: how many minutes time goes on, a user with its session, a second number, and the choice of a request
+-- what a round does: how many minutes time goes on, a user with its session, a second number, and
+-- the choice of a request
 pub record Round : Type 0 where
   pub minutes : ℕ
   pub user : ℕ

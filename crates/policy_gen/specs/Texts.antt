@@ -27,14 +27,17 @@ all_for_each lines n = flat_map lines (range_with_len 1 n)
 
 -- a role brings the next one on and off
 abbrev pub chain : ℕ → List (List ℕ)
-chain i = two (codes "when enable r") i (codes " then 50:enable r") (i + 1) ∷ two (codes "when disable r") i (codes " then 50:disable r") (i + 1) ∷ []
+chain i = two (codes "when enable r") i (codes " then 50:enable r") (i + 1)
+    ∷ two (codes "when disable r") i (codes " then 50:disable r") (i + 1) ∷ []
 
 abbrev pub name_lines : ℕ → List (List ℕ)
-name_lines k = for_each (one (codes "role r")) k ++ for_each (one (codes "user u")) k ++ for_each (one (codes "perm p")) k
+name_lines k = for_each (one (codes "role r")) k ++ for_each (one (codes "user u")) k
+    ++ for_each (one (codes "perm p")) k
 
 -- who has which role and permission
 abbrev pub holding_lines : ℕ → List (List ℕ)
-holding_lines k = for_each (λ i. two (codes "assigned u") i (codes " r") i) k ++ for_each (λ i. two (codes "granted p") i (codes " r") i) k
+holding_lines k = for_each (λ i. two (codes "assigned u") i (codes " r") i) k
+    ++ for_each (λ i. two (codes "granted p") i (codes " r") i) k
 
 -- edges from each role to the next
 abbrev pub edge_lines : ℕ → List (List ℕ)
@@ -65,11 +68,13 @@ time_line minute = codes "@ " ++ civil_text minute
 module _ (seed k : ℕ) where
   -- the lines of a round, numbered from 0
   abbrev pub round_lines : ℕ → List (List ℕ)
-  round_lines n = time_line (minute_after seed k (n + 1)) ∷ one (codes "as u") (round seed k n).user ∷ request_line (round seed k n) ∷ []
+  round_lines n = time_line (minute_after seed k (n + 1)) ∷ one (codes "as u") (round seed k n).user
+      ∷ request_line (round seed k n) ∷ []
 
   -- the script of a number of rounds
   abbrev pub script_lines : ℕ → List (List ℕ)
-  script_lines rounds = time_line first_minute ∷ all_for_each opening k ++ flat_map round_lines (range_with_len 0 rounds)
+  script_lines rounds = time_line first_minute ∷ all_for_each opening k
+      ++ flat_map round_lines (range_with_len 0 rounds)
 
 unfoldable pub policy_text : ℕ → List ℕ
 policy_text size = as_text (policy_lines (count_of size))

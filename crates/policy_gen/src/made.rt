@@ -14,9 +14,10 @@ pub struct Made {
     pub script: List<u8>,
 }
 
-/// Makes a policy of as many roles, users and permissions as the size says, at most 200, whose roles are enabled one by the
-/// other from 8 to 16 each day, and a script in which each user opens a session and then as many rounds are played as the
-/// size says: each goes 1 to 60 minutes on and asks one request. The seed decides the rounds. The size is 1 to 100,000.
+/// Makes a policy of as many roles, users and permissions as the size says, at most 200, whose
+/// roles are enabled one by the other from 8 to 16 each day, and a script in which each user opens
+/// a session and then as many rounds are played as the size says: each goes 1 to 60 minutes on and
+/// asks one request. The seed decides the rounds. The size is 1 to 100,000.
 #[tactic(auto, unfolding(crate::specs::Texts::policy_text, crate::specs::Texts::script_text))]
 pub fn make(alloc: Global, seed: u64, size: u32) -> Result<Made, Memory>
     requires { (1 ≤ size) × (size ≤ 100_000) }

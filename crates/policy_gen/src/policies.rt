@@ -42,7 +42,8 @@ fn push_two_line(
     second: &[u8],
     j: u32,
 ) -> Result<(), Memory>
-    ensures { OnOk result (text.new.items ≡ text.old.items ++ (two first.now i second.now j ++ 10 ∷ [])) }
+    ensures { OnOk result (text.new.items ≡ text.old.items
+        ++ (two first.now i second.now j ++ 10 ∷ [])) }
 {
     push_two(text, first, i, second, j)?;
     text.extend_from_slice(b"\n")
@@ -51,7 +52,8 @@ fn push_two_line(
 /// Adds the lines of the piece with the numbers 1 to k.
 fn push_numbered(text: &mut Vec<u8>, piece: &[u8], k: u32) -> Result<(), Memory>
     requires { k ≤ 200 }
-    ensures { OnOk result (text.new.items ≡ text.old.items ++ as_text (for_each (one piece.now) k)) }
+    ensures { OnOk result (text.new.items ≡ text.old.items
+        ++ as_text (for_each (one piece.now) k)) }
 {
     for n in 0..k {
         push_one_line(text, piece, n + 1)?;
@@ -62,7 +64,8 @@ fn push_numbered(text: &mut Vec<u8>, piece: &[u8], k: u32) -> Result<(), Memory>
 /// Adds the lines in which both pieces have the same number, 1 to k.
 fn push_matched(text: &mut Vec<u8>, first: &[u8], second: &[u8], k: u32) -> Result<(), Memory>
     requires { k ≤ 200 }
-    ensures { OnOk result (text.new.items ≡ text.old.items ++ as_text (for_each (λ i. two first.now i second.now i) k)) }
+    ensures { OnOk result (text.new.items ≡ text.old.items
+        ++ as_text (for_each (λ i. two first.now i second.now i) k)) }
 {
     for n in 0..k {
         push_two_line(text, first, n + 1, second, n + 1)?;

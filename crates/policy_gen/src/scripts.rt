@@ -15,7 +15,8 @@ use gt_base::{Instant, Memory};
 /// 2026-01-05T08:00, the minute of the script's first line.
 const FIRST_MINUTE: u32 = 13_681_920;
 
-/// What a round does: how many minutes time goes on, the user with its session, a second number, and the choice of a request.
+/// What a round does: how many minutes time goes on, the user with its session, a second number,
+/// and the choice of a request.
 #[derive(Clone, Copy)]
 pub(crate) struct Round {
     pub(crate) minutes: u32,
@@ -56,7 +57,8 @@ fn push_time(text: &mut Vec<u8>, minute: u32) -> Result<(), Memory>
 
 /// Adds the line by which a user acts.
 fn push_user(text: &mut Vec<u8>, user: u32) -> Result<(), Memory>
-    ensures { OnOk result (text.new.items ≡ text.old.items ++ (one (codes "as u") user ++ 10 ∷ [])) }
+    ensures { OnOk result (text.new.items ≡ text.old.items
+        ++ (one (codes "as u") user ++ 10 ∷ [])) }
 {
     push_one(text, b"as u", user)?;
     text.extend_from_slice(b"\n")
@@ -77,7 +79,8 @@ fn push_request(text: &mut Vec<u8>, round: Round) -> Result<(), Memory>
 /// Adds the lines of a round that is played at the minute.
 fn push_round(text: &mut Vec<u8>, minute: u32, round: Round) -> Result<(), Memory>
     requires { minute ≤ last_minute }
-    ensures { OnOk result (text.new.items ≡ text.old.items ++ as_text (lines_at minute (seen_round round))) }
+    ensures { OnOk result (text.new.items ≡ text.old.items
+        ++ as_text (lines_at minute (seen_round round))) }
 {
     push_time(text, minute)?;
     push_user(text, round.user)?;
@@ -108,7 +111,8 @@ fn push_openings(text: &mut Vec<u8>, k: u32) -> Result<(), Memory>
 fn push_rounds(text: &mut Vec<u8>, seed: u64, k: u32, rounds: u32) -> Result<(), Memory>
     requires users { (1 ≤ k) × (k ≤ 200) }
     requires rounds { rounds ≤ 100_000 }
-    ensures { OnOk result (text.new.items ≡ text.old.items ++ as_text (flat_map (round_lines seed k) (range_with_len 0 rounds))) }
+    ensures { OnOk result (text.new.items ≡ text.old.items
+        ++ as_text (flat_map (round_lines seed k) (range_with_len 0 rounds))) }
 {
     let mut draws = Draws::new(seed);
     let mut minute = FIRST_MINUTE;
@@ -124,7 +128,8 @@ fn push_rounds(text: &mut Vec<u8>, seed: u64, k: u32, rounds: u32) -> Result<(),
 pub(crate) fn push_script(text: &mut Vec<u8>, seed: u64, k: u32, rounds: u32) -> Result<(), Memory>
     requires users { (1 ≤ k) × (k ≤ 200) }
     requires rounds { rounds ≤ 100_000 }
-    ensures { OnOk result (text.new.items ≡ text.old.items ++ as_text (script_lines seed k rounds)) }
+    ensures { OnOk result (text.new.items ≡ text.old.items
+        ++ as_text (script_lines seed k rounds)) }
 {
     push_time(text, FIRST_MINUTE)?;
     push_openings(text, k)?;

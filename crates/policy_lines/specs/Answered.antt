@@ -18,5 +18,6 @@ abbrev pub seen_bounds : PeriodBounds → Bounds
 seen_bounds b = record { name = b.name; first = b.first; last = b.last }
 
 -- what the words after a first word say, by some of the words that begin a line
-abbrev pub said_among : List (List ℕ × (List (List ℕ) → Option (Result SaidView TextKind))) → List ℕ → List (List ℕ) → Result SaidView TextKind
+abbrev pub said_among : List (List ℕ × (List (List ℕ) → Option (Result SaidView TextKind))) → List ℕ
+    → List (List ℕ) → Result SaidView TextKind
 said_among verbs word words = said_by (do reads ← by_verb verbs word; reads words)

@@ -142,7 +142,8 @@ fn strength(word: &[u8]) -> Option<bool>
 
 /// What the four words of an edge say.
 fn edge_of(kind: &[u8], strong: &[u8], senior: &[u8], junior: &[u8]) -> Option<Said>
-    ensures { option_map seen_said result ≡ edge_in (kind.now ∷ strong.now ∷ senior.now ∷ junior.now ∷ []) }
+    ensures { option_map seen_said result
+        ≡ edge_in (kind.now ∷ strong.now ∷ senior.now ∷ junior.now ∷ []) }
 {
     let kind = edge_kind(kind)?;
     let strong = strength(strong)?;
@@ -171,7 +172,8 @@ pub(crate) fn edge(mut words: Words<'_>) -> Option<Said>
 }
 
 fn cap_kind(word: &[u8]) -> Option<CapKind>
-    ensures { result ≡ spelled_so cap_word (CapKind.Total ∷ CapKind.User ∷ CapKind.Length ∷ CapKind.Day ∷ []) word.now }
+    ensures { result ≡ spelled_so cap_word
+        (CapKind.Total ∷ CapKind.User ∷ CapKind.Length ∷ CapKind.Day ∷ []) word.now }
 {
     if same(b"total", word) {
         Some(CapKind::Total)
@@ -222,7 +224,8 @@ pub(crate) fn opening(verb: &[u8], mut words: Words<'_>) -> Option<Said>
 
 /// What a line of an edge that is linked at first says, which version 2 alone has.
 pub(crate) fn linked(edges: bool, words: Words<'_>) -> Result<Said, TextKind>
-    ensures { Answers result (linked_by edges (opening_by (cond_at (codes "linked" ∷ words.entry)))) }
+    ensures { Answers result (linked_by edges (opening_by
+        (cond_at (codes "linked" ∷ words.entry)))) }
 {
     if edges {
         formed(opening(b"linked", words))

@@ -34,7 +34,8 @@ fn add(items: &mut List<Item>, item: Item) -> Result<(), Memory>
 
 /// The items at the front, with `and` between them, up to `then`.
 pub(crate) fn read_items(alloc: Global, words: &mut Words<'_>) -> Result<Option<List<Item>>, Memory>
-    ensures { IfOk result (λ items. option_map (λ is. (is.items, words.new)) items ≡ items_of words.old) }
+    ensures { IfOk result (λ items. option_map (λ is. (is.items, words.new)) items
+        ≡ items_of words.old) }
 {
     let mut items = List::new(alloc);
     while let Some(item) = next_item(words) {

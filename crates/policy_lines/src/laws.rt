@@ -6,8 +6,8 @@ pub fn numbers_are_decimal()
     ensures { NumbersAreDecimal }
 {}
 
-/// Reading a line by its words is what the spellings of sayings say of it: it says nothing, or just the saying that it is
-/// spelled by, or it has the fault that comes first in their order.
+/// Reading a line by its words is what the spellings of sayings say of it: it says nothing, or just
+/// the saying that it is spelled by, or it has the fault that comes first in their order.
 pub fn sayings_are_read()
     ensures { SayingsAreRead }
 {}
@@ -17,7 +17,8 @@ pub fn written_is_read()
     ensures { WrittenIsRead }
 {}
 
-/// Lines without a line feed are the lines of the text that they make, and each saying in range is written in one line.
+/// Lines without a line feed are the lines of the text that they make, and each saying in range is
+/// written in one line.
 pub fn lines_are_cut()
     ensures { LinesAreCut }
 {}

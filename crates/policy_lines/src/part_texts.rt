@@ -82,7 +82,8 @@ fn write_head(text: &mut Vec<u8>, head: &NamedHead) -> Result<(), Memory>
 }
 
 fn write_settled(text: &mut Vec<u8>, cond: &NamedCond) -> Result<(), Memory>
-    ensures { OnOk result (text.new.items ≡ text.old.items ++ led (codes "settled" ∷ cond_words cond.now)) }
+    ensures { OnOk result (text.new.items ≡ text.old.items
+        ++ led (codes "settled" ∷ cond_words cond.now)) }
 {
     text.extend_from_slice(b"settled")?;
     add_cond(text, cond)

@@ -78,7 +78,8 @@ fn caused(
     verb: &[u8],
     words: Words<'_>,
 ) -> Result<Said, TextKind>
-    ensures { (line : List ℕ) → Answers result (said_among (drop 14 (verbs version line)) verb.now words.entry) }
+    ensures { (line : List ℕ) → Answers result
+        (said_among (drop 14 (verbs version line)) verb.now words.entry) }
 {
     if same(b"each", verb) {
         return formed_in(has_edges(version), entry(Form::Each, words));
@@ -102,7 +103,8 @@ fn opened(
     verb: &[u8],
     words: Words<'_>,
 ) -> Result<Said, TextKind>
-    ensures { (line : List ℕ) → Answers result (said_among (drop 9 (verbs version line)) verb.now words.entry) }
+    ensures { (line : List ℕ) → Answers result
+        (said_among (drop 9 (verbs version line)) verb.now words.entry) }
 {
     if same(b"enabled", verb) {
         return formed(opening(b"enabled", words));
@@ -122,7 +124,8 @@ fn opened(
     caused(alloc, version, verb, words)
 }
 
-/// What a line of a period, a limit, an edge, a cap or an administrator says, or one of the lines above.
+/// What a line of a period, a limit, an edge, a cap or an administrator says, or one of the lines
+/// above.
 fn ruled(
     alloc: Global,
     version: TextVersion,
@@ -178,8 +181,10 @@ fn said_of(
 }
 
 fn read_line(alloc: Global, version: TextVersion, line: &[u8]) -> Result<Option<Said>, TextKind>
-    ensures ok { IfOk result (λ said. said_by_line version line.now ≡ Ok (option_map seen_said said)) }
-    ensures fault { IfErr result (λ f. (f ≡ TextKind.Memory) ⊎ (said_by_line version line.now ≡ Err f)) }
+    ensures ok { IfOk result (λ said. said_by_line version line.now
+        ≡ Ok (option_map seen_said said)) }
+    ensures fault { IfErr result (λ f. (f ≡ TextKind.Memory)
+        ⊎ (said_by_line version line.now ≡ Err f)) }
 {
     if line.len() > 4096 {
         return Err(TextKind::Long);
@@ -197,11 +202,14 @@ fn read_line(alloc: Global, version: TextVersion, line: &[u8]) -> Result<Option<
     }
 }
 
-/// What a line of a policy says, nothing where it is silent, or why it says nothing, in a text whose lines before it tell
-/// this version. Want of memory is `TextKind::Memory`, also where the expression of a period wants it.
+/// What a line of a policy says, nothing where it is silent, or why it says nothing, in a text
+/// whose lines before it tell this version. Want of memory is `TextKind::Memory`, also where the
+/// expression of a period wants it.
 pub fn read_said(alloc: Global, version: TextVersion, line: &[u8]) -> Result<Option<Said>, TextKind>
-    ensures ok { IfOk result (λ said. said_by_line version line.now ≡ Ok (option_map seen_said said)) }
-    ensures fault { IfErr result (λ f. (f ≡ TextKind.Memory) ⊎ (said_by_line version line.now ≡ Err f)) }
+    ensures ok { IfOk result (λ said. said_by_line version line.now
+        ≡ Ok (option_map seen_said said)) }
+    ensures fault { IfErr result (λ f. (f ≡ TextKind.Memory)
+        ⊎ (said_by_line version line.now ≡ Err f)) }
     ensures saying { IfOk result (λ said. IfSome said (λ s. IsTrue (is_saying (seen_said s)))) }
 {
     read_line(alloc, version, line)

@@ -38,7 +38,8 @@ fn add_expr(text: &mut Vec<u8>, expr: &Expr) -> Result<(), Memory>
 }
 
 fn add_period(text: &mut Vec<u8>, first: Instant, last: Instant, expr: &Expr) -> Result<(), Memory>
-    ensures { OnOk result (text.new.items ≡ text.old.items ++ later (civil_text first ∷ civil_text last ∷ expr_text expr.now ∷ [])) }
+    ensures { OnOk result (text.new.items ≡ text.old.items
+        ++ later (civil_text first ∷ civil_text last ∷ expr_text expr.now ∷ [])) }
 {
     add_instant(text, first)?;
     add_instant(text, last)?;
@@ -52,7 +53,8 @@ fn write_period(
     last: Instant,
     expr: &Expr,
 ) -> Result<(), Memory>
-    ensures { OnOk result (text.new.items ≡ text.old.items ++ led (said_words (period name.now first last expr.now))) }
+    ensures { OnOk result (text.new.items ≡ text.old.items
+        ++ led (said_words (period name.now first last expr.now))) }
 {
     write_named(text, b"period", name)?;
     add_period(text, first, last, expr)
@@ -71,7 +73,8 @@ fn add_during(text: &mut Vec<u8>, period: &Option<Name>) -> Result<(), Memory>
 }
 
 fn add_most(text: &mut Vec<u8>, most: u32, period: &Option<Name>) -> Result<(), Memory>
-    ensures { OnOk result (text.new.items ≡ text.old.items ++ later (codes "max" ∷ decimal most ∷ during_words period.now)) }
+    ensures { OnOk result (text.new.items ≡ text.old.items
+        ++ later (codes "max" ∷ decimal most ∷ during_words period.now)) }
 {
     add_word(text, b"max")?;
     add_number(text, most)?;
@@ -86,7 +89,8 @@ fn write_limit(
     most: u32,
     period: &Option<Name>,
 ) -> Result<(), Memory>
-    ensures { OnOk result (text.new.items ≡ text.old.items ++ led (said_words (limit name.now prio cond.now most period.now))) }
+    ensures { OnOk result (text.new.items ≡ text.old.items
+        ++ led (said_words (limit name.now prio cond.now most period.now))) }
 {
     write_named(text, b"limit", name)?;
     add_number(text, u32::from(prio.get()))?;
@@ -145,7 +149,8 @@ fn write_edge(
     senior: &Name,
     junior: &Name,
 ) -> Result<(), Memory>
-    ensures { OnOk result (text.new.items ≡ text.old.items ++ led (said_words (edge kind strong senior.now junior.now))) }
+    ensures { OnOk result (text.new.items ≡ text.old.items
+        ++ led (said_words (edge kind strong senior.now junior.now))) }
 {
     text.extend_from_slice(b"edge")?;
     add_word(text, kind_text(kind))?;
@@ -154,7 +159,8 @@ fn write_edge(
 }
 
 fn write_cap(text: &mut Vec<u8>, kind: CapKind, role: &Name, n: u32) -> Result<(), Memory>
-    ensures { OnOk result (text.new.items ≡ text.old.items ++ led (said_words (cap kind role.now n))) }
+    ensures { OnOk result (text.new.items ≡ text.old.items
+        ++ led (said_words (cap kind role.now n))) }
 {
     text.extend_from_slice(b"cap")?;
     add_word(text, cap_text(kind))?;
@@ -163,7 +169,8 @@ fn write_cap(text: &mut Vec<u8>, kind: CapKind, role: &Name, n: u32) -> Result<(
 }
 
 fn write_opening(text: &mut Vec<u8>, fluent: &NamedFluent) -> Result<(), Memory>
-    ensures { OnOk result (text.new.items ≡ text.old.items ++ led (said_words (opening fluent.now))) }
+    ensures { OnOk result (text.new.items ≡ text.old.items
+        ++ led (said_words (opening fluent.now))) }
 {
     text.extend_from_slice(cond_text(true, sort_of(fluent)))?;
     add_names(text, fluent)
@@ -175,14 +182,16 @@ fn write_entry(
     period: &Name,
     head: &NamedHead,
 ) -> Result<(), Memory>
-    ensures { OnOk result (text.new.items ≡ text.old.items ++ led (said_words (entry form period.now head.now))) }
+    ensures { OnOk result (text.new.items ≡ text.old.items
+        ++ led (said_words (entry form period.now head.now))) }
 {
     write_named(text, form_text(form), period)?;
     add_head(text, head)
 }
 
 fn add_effect(text: &mut Vec<u8>, head: &NamedHead, delay: u32) -> Result<(), Memory>
-    ensures { OnOk result (text.new.items ≡ text.old.items ++ later (codes "then" ∷ head_words head.now ++ delay_words delay)) }
+    ensures { OnOk result (text.new.items ≡ text.old.items
+        ++ later (codes "then" ∷ head_words head.now ++ delay_words delay)) }
 {
     add_word(text, b"then")?;
     add_head(text, head)?;
@@ -195,7 +204,8 @@ fn write_trigger(
     head: &NamedHead,
     delay: u32,
 ) -> Result<(), Memory>
-    ensures { OnOk result (text.new.items ≡ text.old.items ++ led (said_words (trigger items.now head.now delay))) }
+    ensures { OnOk result (text.new.items ≡ text.old.items
+        ++ led (said_words (trigger items.now head.now delay))) }
 {
     text.extend_from_slice(b"when")?;
     add_items(text, items)?;
@@ -204,7 +214,8 @@ fn write_trigger(
 
 /// Adds the line of a saying.
 fn write_said(text: &mut Vec<u8>, said: &Said) -> Result<(), Memory>
-    ensures { OnOk result (text.new.items ≡ text.old.items ++ led (said_words (seen_said said.now))) }
+    ensures { OnOk result (text.new.items ≡ text.old.items
+        ++ led (said_words (seen_said said.now))) }
 {
     match said {
         Said::Version(n) => write_version(text, *n),
@@ -240,7 +251,8 @@ fn write_said(text: &mut Vec<u8>, said: &Said) -> Result<(), Memory>
 
 /// Adds the line that says it, without a line feed, words with one space between them.
 pub fn push_said(text: &mut Vec<u8>, said: &Said) -> Result<(), Memory>
-    ensures { OnOk result (text.new.items ≡ text.old.items ++ spaced (said_words (seen_said said.now))) }
+    ensures { OnOk result (text.new.items ≡ text.old.items
+        ++ spaced (said_words (seen_said said.now))) }
 {
     write_said(text, said)
 }
@@ -253,7 +265,8 @@ pub fn push_period(
     last: Instant,
     expr: &Expr,
 ) -> Result<(), Memory>
-    ensures { OnOk result (text.new.items ≡ text.old.items ++ spaced (said_words (period name.now first last expr.now))) }
+    ensures { OnOk result (text.new.items ≡ text.old.items
+        ++ spaced (said_words (period name.now first last expr.now))) }
 {
     write_period(text, name, first, last, expr)
 }

@@ -11,7 +11,13 @@ use Rattle.policy_safety.specs.declared.admitting.CycleEdge.{CycleEdge}
 
 -- the edge as a dependency among events
 abbrev pub seen_edge : CycleEdge → Dependency
-seen_edge e = record { source = e.source; target = e.target; conflict = e.conflict; trigger = e.trigger; place = e.place }
+seen_edge e = record {
+  source = e.source;
+  target = e.target;
+  conflict = e.conflict;
+  trigger = e.trigger;
+  place = e.place;
+}
 
 -- the dependencies of these numbers
 abbrev pub dependencies_at : List TriggerView → List ℕ → List Dependency
@@ -19,15 +25,19 @@ dependencies_at rules ns = filter_map (item_at (dependencies rules)) ns
 
 -- whatever rules the graph is of, these are their dependencies of these numbers
 abbrev pub AreTold : EventNet → List CycleEdge → List ℕ → Type 0
-AreTold g edges ns = (rules : List TriggerView) → IsGraphOf rules g → map seen_edge edges ≡ dependencies_at rules ns
+AreTold g edges ns = (rules : List TriggerView) → IsGraphOf rules g
+    → map seen_edge edges ≡ dependencies_at rules ns
 
 -- the edges have grown by the dependency of this number, whatever numbers follow
 abbrev pub AddsTold : EventNet → List CycleEdge → ℕ → List CycleEdge → Type 0
 AddsTold g old n new =
-    (rules : List TriggerView) → IsGraphOf rules g → (later : List ℕ) → map seen_edge new ++ dependencies_at rules later ≡ map seen_edge old ++ dependencies_at rules (n ∷ later)
+    (rules : List TriggerView) → IsGraphOf rules g → (later : List ℕ)
+    → map seen_edge new ++ dependencies_at rules later ≡ map seen_edge old
+    ++ dependencies_at rules (n ∷ later)
 
 abbrev pub IsTold : EventNet → CycleEdge → ℕ → Type 0
-IsTold g edge n = (rules : List TriggerView) → IsGraphOf rules g → item_at (dependencies rules) n ≡ Some (seen_edge edge)
+IsTold g edge n = (rules : List TriggerView) → IsGraphOf rules g
+    → item_at (dependencies rules) n ≡ Some (seen_edge edge)
 
 -- the edges are the least cycle with a conflict, so the rules are not safe
 pub record IsCycleOf (rules : List TriggerView) (edges : List CycleEdge) : Type 0 where

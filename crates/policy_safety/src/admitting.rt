@@ -15,8 +15,8 @@ use safety_cycle::Strata;
 use std::alloc::Global;
 use std::marker::Model;
 
-/// A safe policy with its dependency graph and levels of the graph's nodes, which show that it is safe. It is seen as the
-/// policy with its names.
+/// A safe policy with its dependency graph and levels of the graph's nodes, which show that it is
+/// safe. It is seen as the policy with its names.
 pub struct Safe {
     policy: Policy,
     graph: EventGraph,
@@ -46,8 +46,9 @@ impl Model for Safe {
     ghost invariant = { λ s. IsLevelled s.policy.policy.triggers s.graph s.strata };
 }
 
-/// An edge of the cycle that makes a policy unsafe: whether it is a conflict, its trigger and the place of the body event
-/// among the trigger's body events, both from 0, and the events that it leads from and to.
+/// An edge of the cycle that makes a policy unsafe: whether it is a conflict, its trigger and the
+/// place of the body event among the trigger's body events, both from 0, and the events that it
+/// leads from and to.
 #[derive(Clone, Copy, PartialEq, Eq, Debug)]
 pub struct CycleEdge {
     pub conflict: bool,
@@ -72,8 +73,8 @@ pub enum AdmitFault {
 }
 
 impl Safe {
-    /// Admits a policy exactly where it is safe. For each birth and each list of at most 1,000,000 named moves it then has
-    /// exactly one history with one execution model.
+    /// Admits a policy exactly where it is safe. For each birth and each list of at most 1,000,000
+    /// named moves it then has exactly one history with one execution model.
     pub fn admit(alloc: Global, policy: Policy) -> Result<Safe, AdmitFault>
         ensures same { IfOk result (λ s. s ≡ policy) }
         ensures safe { OnOk result (IsSafe policy.policy.triggers) }
@@ -97,7 +98,8 @@ impl Safe {
         }
     }
 
-    /// The policy with its dependency graph and levels of the graph's nodes, as admission made them.
+    /// The policy with its dependency graph and levels of the graph's nodes, as admission made
+    /// them.
     pub fn into_parts(self) -> (Policy, EventGraph, Strata)
         ensures policy { result.0 ≡ self }
         ensures levelled { IsLevelled result.0.policy.triggers result.1 result.2 }

@@ -14,14 +14,15 @@ use std::alloc::Global;
 /// Why triggers have no levels.
 #[derive(Drop)]
 pub enum NoLevels {
-    /// They are not safe: their dependency graph, and the numbers of its least conflict edge that lies on a cycle and of the
-    /// least walk back.
+    /// They are not safe: their dependency graph, and the numbers of its least conflict edge that
+    /// lies on a cycle and of the least walk back.
     Cycle { graph: EventGraph, edges: EdgeList },
     /// Want of memory.
     Memory,
 }
 
-/// The dependency graph with levels of its nodes where the triggers are safe, else the least cycle with a conflict edge.
+/// The dependency graph with levels of its nodes where the triggers are safe, else the least cycle
+/// with a conflict edge.
 pub fn levels(alloc: Global, triggers: &List<Trigger>) -> Result<(EventGraph, Strata), NoLevels>
     requires { IsWithinLimits triggers.now.items }
     ensures ok { IfOk result (λ r. IsLevelled triggers.now.items r.0 r.1) }

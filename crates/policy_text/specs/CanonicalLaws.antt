@@ -11,12 +11,16 @@ use Rattle.policy_book.specs.Laws.{numbered_from}
 
 -- the canonical lines of a well-formed policy make it again
 abbrev pub CanonicalIsBuilt : Type 0
-CanonicalIsBuilt = (np : NamedPolicy) → IsWellFormed np → build (numbered_from 1 (canonical_lines np)) ≡ Ok np
+CanonicalIsBuilt = (np : NamedPolicy) → IsWellFormed np
+    → build (numbered_from 1 (canonical_lines np)) ≡ Ok np
 
 -- they say what is in range
 abbrev pub CanonicalAreSayings : Type 0
-CanonicalAreSayings = (np : NamedPolicy) → IsWellFormed np → All (λ s. IsTrue (is_saying s)) (canonical_lines np)
+CanonicalAreSayings = (np : NamedPolicy) → IsWellFormed np
+    → All (λ s. IsTrue (is_saying s)) (canonical_lines np)
 
 -- the first of them is the version, and no other
 abbrev pub VersionIsFirst : Type 0
-VersionIsFirst = (np : NamedPolicy) → (rest : List SaidView) × (canonical_lines np ≡ version (version_of np.policy) ∷ rest) × All (λ s. IsTrue (not (is_version s))) rest
+VersionIsFirst = (np : NamedPolicy) → (rest : List SaidView)
+    × (canonical_lines np ≡ version (version_of np.policy) ∷ rest)
+    × All (λ s. IsTrue (not (is_version s))) rest

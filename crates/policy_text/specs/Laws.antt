@@ -6,6 +6,9 @@ use Rattle.policy_words.specs.Canonical.{canonical_text}
 use Rattle.policy_words.specs.PolicyRead.{policy_read}
 use Rattle.policy_words.specs.Valid.{IsWellFormed}
 
--- the canonical text of a well-formed policy stands for it, where no line of it has more than 4,096 bytes
+-- the canonical text of a well-formed policy stands for it, where no line of it has more than 4,096
+-- bytes
 abbrev pub CanonicalIsRead : Type 0
-CanonicalIsRead = (np : NamedPolicy) → IsWellFormed np → All (λ line. length line ≤ 4_096) (lines_of (canonical_text np)) → policy_read (canonical_text np) ≡ Ok np
+CanonicalIsRead = (np : NamedPolicy) → IsWellFormed np
+    → All (λ line. length line ≤ 4_096) (lines_of (canonical_text np))
+    → policy_read (canonical_text np) ≡ Ok np

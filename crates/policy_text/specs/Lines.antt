@@ -8,7 +8,8 @@ use Rattle.policy_words.specs.Versions.{version_after}
 use Rattle.policy_words.specs.Reading.{Numbered, and_then}
 
 -- with these lines before what the others say
-abbrev pub behind : List (Numbered SaidView) → Result (List (Numbered SaidView)) (Numbered TextKind) → Result (List (Numbered SaidView)) (Numbered TextKind)
+abbrev pub behind : List (Numbered SaidView) → Result (List (Numbered SaidView)) (Numbered TextKind)
+    → Result (List (Numbered SaidView)) (Numbered TextKind)
 behind [] r = r
 behind (s ∷ ss) r = and_then s (behind ss r)
 

@@ -1,5 +1,5 @@
 -- The canonical text in its sections, as they are written.
-use Rattle.std.specs.Prelude.{ℕ, Bool, true, false, cond, List, [], ◌∷◌, ◌++◌, flat_map}
+use Rattle.std.specs.Prelude.{ℕ, Bool, true, false, List, [], ◌∷◌, ◌++◌, flat_map, if◌then◌else◌}
 use Rattle.std.specs.List.{enumerate_from}
 use Rattle.gt_base.specs.Held.{TriggerView}
 use Rattle.gt_base.specs.Sets.{members}
@@ -38,7 +38,8 @@ module _ (ns : Names) where
   abbrev pub caps_text : (ℕ × Caps) → List ℕ
   caps_text (n, c) =
       let r : List ℕ = role_name ns (record { 0 = n }) in
-      written (cap_line ns caps.Total r c.total) ++ written (cap_line ns caps.User r c.user) ++ written (cap_line ns caps.Length r c.length) ++ written (cap_line ns caps.Day r c.day)
+      written (cap_line ns caps.Total r c.total) ++ written (cap_line ns caps.User r c.user)
+      ++ written (cap_line ns caps.Length r c.length) ++ written (cap_line ns caps.Day r c.day)
 
   abbrev pub admin_line : UserId → SaidView
   admin_line u = admin (user_name ns u)
@@ -48,7 +49,7 @@ module _ (ns : Names) where
 
   -- its line, if it is of the sort
   abbrev pub opening_text : (Fluent → Bool) → Fluent → List ℕ
-  opening_text of_sort f = elim (of_sort f) [ true ↦ line_text (opening_line f) | false ↦ [] ]
+  opening_text of_sort f = if of_sort f then line_text (opening_line f) else []
 
   abbrev pub entry_line : PeriodicEntry → SaidView
   entry_line e = entry e.form (period_name ns e.period) (head_named ns e.head)
@@ -69,13 +70,17 @@ module _ (ns : Names) where
   trigger_line r = trigger (items_of ns r) (head_named ns r.head) r.delay
 
 abbrev pub named_text : NamedPolicy → List ℕ
-named_text np = line_text (version (version_of np.policy)) ++ lines_by (λ n. role n) np.names.roles ++ lines_by (λ n. user n) np.names.users ++ lines_by (λ n. perm n) np.names.perms
+named_text np = line_text (version (version_of np.policy)) ++ lines_by (λ n. role n) np.names.roles
+    ++ lines_by (λ n. user n) np.names.users ++ lines_by (λ n. perm n) np.names.perms
 
 abbrev pub timed_text : NamedPolicy → List ℕ
-timed_text np = lines_by (period_line np.names) (numbered np.policy.periods) ++ lines_by (limit_line np.names) (numbered np.policy.limits)
+timed_text np = lines_by (period_line np.names) (numbered np.policy.periods)
+    ++ lines_by (limit_line np.names) (numbered np.policy.limits)
 
 abbrev pub ranked_text : NamedPolicy → List ℕ
-ranked_text np = lines_by (edge_line np.names) np.policy.edges ++ flat_map (caps_text np.names) (numbered np.policy.caps) ++ lines_by (admin_line np.names) np.policy.admins
+ranked_text np = lines_by (edge_line np.names) np.policy.edges
+    ++ flat_map (caps_text np.names) (numbered np.policy.caps)
+    ++ lines_by (admin_line np.names) np.policy.admins
 
 -- those of one sort
 abbrev pub opened_by : Names → (Fluent → Bool) → List Fluent → List ℕ
@@ -83,11 +88,12 @@ opened_by ns of_sort fs = flat_map (opening_text ns of_sort) fs
 
 -- the edges that are linked, in version 2
 abbrev pub linked_from : NamedPolicy → List Fluent → List ℕ
-linked_from np fs = cond (is_version_one np.policy) [] (opened_by np.names is_linked fs)
+linked_from np fs = if is_version_one np.policy then [] else opened_by np.names is_linked fs
 
 -- the fluents, a sort after another
 abbrev pub opened_from : NamedPolicy → List Fluent → List ℕ
-opened_from np fs = opened_by np.names is_enabled fs ++ opened_by np.names is_assigned fs ++ opened_by np.names is_granted fs ++ opened_by np.names is_armed fs ++ linked_from np fs
+opened_from np fs = opened_by np.names is_enabled fs ++ opened_by np.names is_assigned fs
+    ++ opened_by np.names is_granted fs ++ opened_by np.names is_armed fs ++ linked_from np fs
 
 -- what is on at first, of one sort
 abbrev pub opened_of : (Fluent → Bool) → NamedPolicy → List ℕ
@@ -95,8 +101,10 @@ opened_of of_sort np = opened_by np.names of_sort (members np.policy.opening)
 
 abbrev pub opened_text : NamedPolicy → List ℕ
 opened_text np =
-    opened_of is_enabled np ++ opened_of is_assigned np ++ opened_of is_granted np ++ opened_of is_armed np
-    ++ cond (is_version_one np.policy) [] (opened_of is_linked np)
+    opened_of is_enabled np ++ opened_of is_assigned np ++ opened_of is_granted np
+    ++ opened_of is_armed np
+    ++ (if is_version_one np.policy then [] else opened_of is_linked np)
 
 abbrev pub ruled_text : NamedPolicy → List ℕ
-ruled_text np = lines_by (entry_line np.names) np.policy.entries ++ lines_by (trigger_line np.names) np.policy.triggers
+ruled_text np = lines_by (entry_line np.names) np.policy.entries
+    ++ lines_by (trigger_line np.names) np.policy.triggers

@@ -7,7 +7,8 @@ pub fn canonical_is_built()
     ensures { CanonicalIsBuilt }
 {}
 
-/// The canonical lines of a well-formed policy are in range, and the first of them alone is the version.
+/// The canonical lines of a well-formed policy are in range, and the first of them alone is the
+/// version.
 pub fn canonical_are_sayings()
     ensures sayings { CanonicalAreSayings }
     ensures version { VersionIsFirst }

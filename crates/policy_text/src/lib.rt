@@ -1,4 +1,5 @@
-//! Texts of policies: reading them line by line to the policy or to the text of its fault, and writing the canonical text.
+//! Texts of policies: reading them line by line to the policy or to the text of its fault, and
+//! writing the canonical text.
 #![tactic(auto)]
 
 mod faults;

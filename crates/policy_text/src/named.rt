@@ -21,34 +21,39 @@ pub(crate) fn push_line(text: &mut Vec<u8>, said: &Said) -> Result<(), Memory>
 }
 
 fn push_version(text: &mut Vec<u8>, p: &Policy) -> Result<(), Memory>
-    ensures { OnOk result (text.new.items ≡ text.old.items ++ line_text (version (version_to_write p.now.policy))) }
+    ensures { OnOk result (text.new.items ≡ text.old.items
+        ++ line_text (version (version_to_write p.now.policy))) }
 {
     push_line(text, &Said::Version(version_of(p)))
 }
 
 fn push_role(text: &mut Vec<u8>, p: &Policy, r: RoleId) -> Result<(), Memory>
     requires { r.0 < length p.now.names.roles }
-    ensures { OnOk result (text.new.items ≡ text.old.items ++ line_text (role (role_name p.now.names r))) }
+    ensures { OnOk result (text.new.items ≡ text.old.items
+        ++ line_text (role (role_name p.now.names r))) }
 {
     push_line(text, &Said::Role(p.role_name(r)))
 }
 
 fn push_user(text: &mut Vec<u8>, p: &Policy, u: UserId) -> Result<(), Memory>
     requires { u.0 < length p.now.names.users }
-    ensures { OnOk result (text.new.items ≡ text.old.items ++ line_text (user (user_name p.now.names u))) }
+    ensures { OnOk result (text.new.items ≡ text.old.items
+        ++ line_text (user (user_name p.now.names u))) }
 {
     push_line(text, &Said::User(p.user_name(u)))
 }
 
 fn push_perm(text: &mut Vec<u8>, p: &Policy, q: PermId) -> Result<(), Memory>
     requires { q.0 < length p.now.names.perms }
-    ensures { OnOk result (text.new.items ≡ text.old.items ++ line_text (perm (perm_name p.now.names q))) }
+    ensures { OnOk result (text.new.items ≡ text.old.items
+        ++ line_text (perm (perm_name p.now.names q))) }
 {
     push_line(text, &Said::Perm(p.perm_name(q)))
 }
 
 fn push_roles(text: &mut Vec<u8>, p: &Policy) -> Result<(), Memory>
-    ensures { OnOk result (text.new.items ≡ text.old.items ++ lines_by (λ n. role n) p.now.names.roles) }
+    ensures { OnOk result (text.new.items ≡ text.old.items
+        ++ lines_by (λ n. role n) p.now.names.roles) }
 {
     p.keeps();
     for r in 0..p.role_count() {
@@ -58,7 +63,8 @@ fn push_roles(text: &mut Vec<u8>, p: &Policy) -> Result<(), Memory>
 }
 
 fn push_users(text: &mut Vec<u8>, p: &Policy) -> Result<(), Memory>
-    ensures { OnOk result (text.new.items ≡ text.old.items ++ lines_by (λ n. user n) p.now.names.users) }
+    ensures { OnOk result (text.new.items ≡ text.old.items
+        ++ lines_by (λ n. user n) p.now.names.users) }
 {
     p.keeps();
     for u in 0..p.user_count() {
@@ -68,7 +74,8 @@ fn push_users(text: &mut Vec<u8>, p: &Policy) -> Result<(), Memory>
 }
 
 fn push_perms(text: &mut Vec<u8>, p: &Policy) -> Result<(), Memory>
-    ensures { OnOk result (text.new.items ≡ text.old.items ++ lines_by (λ n. perm n) p.now.names.perms) }
+    ensures { OnOk result (text.new.items ≡ text.old.items
+        ++ lines_by (λ n. perm n) p.now.names.perms) }
 {
     p.keeps();
     for q in 0..p.perm_count() {

@@ -36,7 +36,8 @@ fn is_of(sort: Sort, f: Fluent) -> bool
 
 fn push_opening(text: &mut Vec<u8>, p: &Policy, f: Fluent) -> Result<(), Memory>
     requires { IsTrue (is_fluent p.now.policy f) }
-    ensures { OnOk result (text.new.items ≡ text.old.items ++ line_text (opening_line p.now.names f)) }
+    ensures { OnOk result (text.new.items ≡ text.old.items
+        ++ line_text (opening_line p.now.names f)) }
 {
     push_line(text, &Said::Opening(named_fluent(p, f)))
 }
@@ -44,7 +45,8 @@ fn push_opening(text: &mut Vec<u8>, p: &Policy, f: Fluent) -> Result<(), Memory>
 /// Adds the line of a fluent, if it is of the sort.
 fn push_of(text: &mut Vec<u8>, p: &Policy, sort: Sort, f: Fluent) -> Result<(), Memory>
     requires { IsTrue (is_fluent p.now.policy f) }
-    ensures { OnOk result (text.new.items ≡ text.old.items ++ opening_text p.now.names (of_sort sort) f) }
+    ensures { OnOk result (text.new.items ≡ text.old.items
+        ++ opening_text p.now.names (of_sort sort) f) }
 {
     if is_of(sort, f) {
         push_opening(text, p, f)
@@ -56,7 +58,8 @@ fn push_of(text: &mut Vec<u8>, p: &Policy, sort: Sort, f: Fluent) -> Result<(), 
 /// Adds those of the fluents that are of the sort.
 fn push_sort(text: &mut Vec<u8>, p: &Policy, sort: Sort, fluents: &[Fluent]) -> Result<(), Memory>
     requires { IsTrue (list_all (is_fluent p.now.policy) fluents.now) }
-    ensures { OnOk result (text.new.items ≡ text.old.items ++ opened_by p.now.names (of_sort sort) fluents.now) }
+    ensures { OnOk result (text.new.items ≡ text.old.items
+        ++ opened_by p.now.names (of_sort sort) fluents.now) }
 {
     for f in fluents {
         push_of(text, p, sort, *f)?;
@@ -88,8 +91,8 @@ fn push_sorts(text: &mut Vec<u8>, p: &Policy, fluents: &[Fluent]) -> Result<(), 
     push_linked(text, p, fluents)
 }
 
-/// Adds what is on at first: the roles that are enabled, the assignments, the grants, the limits that are armed, and in version 2
-/// the edges that are linked.
+/// Adds what is on at first: the roles that are enabled, the assignments, the grants, the limits
+/// that are armed, and in version 2 the edges that are linked.
 pub(crate) fn push_opened(text: &mut Vec<u8>, p: &Policy) -> Result<(), Memory>
     ensures { OnOk result (text.new.items ≡ text.old.items ++ opened_text p.now) }
 {

@@ -87,8 +87,9 @@ fn told_book(alloc: Global, text: &[u8], fault: &BookFault) -> Result<PolicyText
     Ok(PolicyText::Fault(book_fault(alloc, fault)?))
 }
 
-/// The policy that the bytes stand for, or the text of their fault: of the first line that has one, else the first of the
-/// lines together. The text has fewer than 4,294,967,296 bytes. Only want of memory is free.
+/// The policy that the bytes stand for, or the text of their fault: of the first line that has one,
+/// else the first of the lines together. The text has fewer than 4,294,967,296 bytes. Only want of
+/// memory is free.
 pub fn policy_of(alloc: Global, text: &[u8]) -> Result<PolicyText, Memory>
     requires { length text.now < 2 ^ 32 }
     ensures { IfOk result (IsPolicyText text.now) }

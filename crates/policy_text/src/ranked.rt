@@ -22,7 +22,8 @@ fn edge_kind(inherits: bool, activates: bool) -> EdgeKind
 
 fn push_edge(text: &mut Vec<u8>, p: &Policy, edge: HierEdge) -> Result<(), Memory>
     requires { IsTrue (is_edge p.now.policy edge) }
-    ensures { OnOk result (text.new.items ≡ text.old.items ++ line_text (edge_line p.now.names edge)) }
+    ensures { OnOk result (text.new.items ≡ text.old.items
+        ++ line_text (edge_line p.now.names edge)) }
 {
     p.keeps();
     push_line(
@@ -37,7 +38,8 @@ fn push_edge(text: &mut Vec<u8>, p: &Policy, edge: HierEdge) -> Result<(), Memor
 }
 
 fn push_edges(text: &mut Vec<u8>, p: &Policy) -> Result<(), Memory>
-    ensures { OnOk result (text.new.items ≡ text.old.items ++ lines_by (edge_line p.now.names) p.now.policy.edges) }
+    ensures { OnOk result (text.new.items ≡ text.old.items
+        ++ lines_by (edge_line p.now.names) p.now.policy.edges) }
 {
     p.keeps();
     let edges = p.edges().as_slice();
@@ -56,7 +58,8 @@ fn push_cap(
     cap: Option<u32>,
 ) -> Result<(), Memory>
     requires { r.0 < length p.now.names.roles }
-    ensures { OnOk result (text.new.items ≡ text.old.items ++ written (cap_line p.now.names kind (role_name p.now.names r) cap)) }
+    ensures { OnOk result (text.new.items ≡ text.old.items
+        ++ written (cap_line p.now.names kind (role_name p.now.names r) cap)) }
 {
     let role = p.role_name(r);
     match cap {
@@ -76,7 +79,8 @@ fn push_role_caps(text: &mut Vec<u8>, p: &Policy, r: RoleId, caps: Caps) -> Resu
 }
 
 fn push_caps(text: &mut Vec<u8>, p: &Policy) -> Result<(), Memory>
-    ensures { OnOk result (text.new.items ≡ text.old.items ++ flat_map (caps_text p.now.names) (numbered p.now.policy.caps)) }
+    ensures { OnOk result (text.new.items ≡ text.old.items
+        ++ flat_map (caps_text p.now.names) (numbered p.now.policy.caps)) }
 {
     p.keeps();
     let caps = p.caps().as_slice();
@@ -88,14 +92,16 @@ fn push_caps(text: &mut Vec<u8>, p: &Policy) -> Result<(), Memory>
 
 fn push_admin(text: &mut Vec<u8>, p: &Policy, u: UserId) -> Result<(), Memory>
     requires { u.0 < p.now.policy.users }
-    ensures { OnOk result (text.new.items ≡ text.old.items ++ line_text (admin_line p.now.names u)) }
+    ensures { OnOk result (text.new.items ≡ text.old.items
+        ++ line_text (admin_line p.now.names u)) }
 {
     p.keeps();
     push_line(text, &Said::Admin(p.user_name(u)))
 }
 
 fn push_admins(text: &mut Vec<u8>, p: &Policy) -> Result<(), Memory>
-    ensures { OnOk result (text.new.items ≡ text.old.items ++ lines_by (admin_line p.now.names) p.now.policy.admins) }
+    ensures { OnOk result (text.new.items ≡ text.old.items
+        ++ lines_by (admin_line p.now.names) p.now.policy.admins) }
 {
     p.keeps();
     let admins = p.admins().as_slice();

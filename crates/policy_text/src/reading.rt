@@ -21,7 +21,8 @@ const MEMORY: TextFault = TextFault {
     kind: TextKind::Memory,
 };
 
-/// What the lines of a policy say, or the fault of the least line that has one. The text has fewer than 4,294,967,296 bytes.
+/// What the lines of a policy say, or the fault of the least line that has one. The text has fewer
+/// than 4,294,967,296 bytes.
 pub fn read_policy(alloc: Global, text: &[u8]) -> Result<Parts, TextFault>
     requires { length text.now < 2 ^ 32 }
     ensures ok { IfOk result (λ parts. read_lines Open 1 (lines_of text.now) ≡ Ok parts) }
@@ -51,7 +52,8 @@ fn add(parts: &mut Parts, line: u32, said: Said) -> Result<(), TextFault>
     requires said { IsTrue (is_saying (seen_said said)) }
     requires later { IsTrue (are_before line parts.old) }
     requires placed { IsTrue (is_placed parts.old (seen_said said)) }
-    ensures ok { OnOk result (parts.new ≡ parts.old ++ record { line = line; it = seen_said said } ∷ []) }
+    ensures ok { OnOk result (parts.new ≡ parts.old ++ record { line = line; it = seen_said said }
+        ∷ []) }
     ensures err { IfErr result (λ f. f ≡ want_of_memory) }
 {
     match parts.add(line, said) {
@@ -62,7 +64,8 @@ fn add(parts: &mut Parts, line: u32, said: Said) -> Result<(), TextFault>
 
 /// The fault of a line.
 fn fault(line: u32, kind: TextKind) -> TextFault
-    ensures { MatchBool (is_memory kind) (result ≡ want_of_memory) (result ≡ record { line = line; kind = kind }) }
+    ensures { MatchBool (is_memory kind) (result ≡ want_of_memory)
+        (result ≡ record { line = line; kind = kind }) }
 {
     match kind {
         TextKind::Memory => MEMORY,

@@ -13,7 +13,8 @@ use std::alloc::Global;
 
 fn push_entry(text: &mut Vec<u8>, p: &Policy, entry: PeriodicEntry) -> Result<(), Memory>
     requires { IsTrue (is_entry p.now.policy entry) }
-    ensures { OnOk result (text.new.items ≡ text.old.items ++ line_text (entry_line p.now.names entry)) }
+    ensures { OnOk result (text.new.items ≡ text.old.items
+        ++ line_text (entry_line p.now.names entry)) }
 {
     p.keeps();
     push_line(
@@ -27,7 +28,8 @@ fn push_entry(text: &mut Vec<u8>, p: &Policy, entry: PeriodicEntry) -> Result<()
 }
 
 fn push_entries(text: &mut Vec<u8>, p: &Policy) -> Result<(), Memory>
-    ensures { OnOk result (text.new.items ≡ text.old.items ++ lines_by (entry_line p.now.names) p.now.policy.entries) }
+    ensures { OnOk result (text.new.items ≡ text.old.items
+        ++ lines_by (entry_line p.now.names) p.now.policy.entries) }
 {
     p.keeps();
     let entries = p.entries().as_slice();
@@ -48,7 +50,8 @@ fn add_item(items: &mut Vec<Item>, item: Item) -> Result<(), Memory>
 
 fn add_events(items: &mut Vec<Item>, p: &Policy, events: &[Event]) -> Result<(), Memory>
     requires { IsTrue (list_all (λ e. is_fluent p.now.policy e.fluent) events.now) }
-    ensures { OnOk result (items.new.items ≡ items.old.items ++ map (event_item p.now.names) events.now) }
+    ensures { OnOk result (items.new.items ≡ items.old.items
+        ++ map (event_item p.now.names) events.now) }
 {
     for event in events {
         add_item(items, Item::Event(named_event(p, *event)))?;
@@ -58,7 +61,8 @@ fn add_events(items: &mut Vec<Item>, p: &Policy, events: &[Event]) -> Result<(),
 
 fn add_signals(items: &mut Vec<Item>, p: &Policy, signals: &[Signal]) -> Result<(), Memory>
     requires { IsTrue (list_all (is_signal p.now.policy) signals.now) }
-    ensures { OnOk result (items.new.items ≡ items.old.items ++ map (signal_item p.now.names) signals.now) }
+    ensures { OnOk result (items.new.items ≡ items.old.items
+        ++ map (signal_item p.now.names) signals.now) }
 {
     for signal in signals {
         add_item(items, Item::Signal(named_signal(p, *signal)))?;
@@ -68,7 +72,8 @@ fn add_signals(items: &mut Vec<Item>, p: &Policy, signals: &[Signal]) -> Result<
 
 fn add_conds(items: &mut Vec<Item>, p: &Policy, conds: &[Cond]) -> Result<(), Memory>
     requires { IsTrue (list_all (λ c. is_fluent p.now.policy c.fluent) conds.now) }
-    ensures { OnOk result (items.new.items ≡ items.old.items ++ map (cond_item p.now.names) conds.now) }
+    ensures { OnOk result (items.new.items ≡ items.old.items
+        ++ map (cond_item p.now.names) conds.now) }
 {
     for cond in conds {
         add_item(items, Item::Cond(named_cond(p, *cond)))?;
@@ -78,7 +83,8 @@ fn add_conds(items: &mut Vec<Item>, p: &Policy, conds: &[Cond]) -> Result<(), Me
 
 fn add_settled(items: &mut Vec<Item>, p: &Policy, conds: &[Cond]) -> Result<(), Memory>
     requires { IsTrue (list_all (λ c. is_fluent p.now.policy c.fluent) conds.now) }
-    ensures { OnOk result (items.new.items ≡ items.old.items ++ map (settled_item p.now.names) conds.now) }
+    ensures { OnOk result (items.new.items ≡ items.old.items
+        ++ map (settled_item p.now.names) conds.now) }
 {
     for cond in conds {
         add_item(items, Item::Settled(named_cond(p, *cond)))?;
@@ -97,7 +103,8 @@ fn add_items(items: &mut Vec<Item>, p: &Policy, trigger: &Trigger) -> Result<(),
     add_settled(items, p, trigger.settled.as_slice())
 }
 
-/// The items of a trigger's body: its events, its signals, its conditions and its settled conditions.
+/// The items of a trigger's body: its events, its signals, its conditions and its settled
+/// conditions.
 fn items_of(alloc: Global, p: &Policy, trigger: &Trigger) -> Result<List<Item>, Memory>
     requires { IsTrue (is_rule p.now.policy trigger.now) }
     ensures { IfOk result (λ items. items.items ≡ body_of p.now.names trigger.now) }
@@ -109,7 +116,8 @@ fn items_of(alloc: Global, p: &Policy, trigger: &Trigger) -> Result<List<Item>, 
 
 fn push_trigger(text: &mut Vec<u8>, p: &Policy, trigger: &Trigger) -> Result<(), Memory>
     requires { IsTrue (is_rule p.now.policy trigger.now) }
-    ensures { OnOk result (text.new.items ≡ text.old.items ++ line_text (trigger_line p.now.names trigger.now)) }
+    ensures { OnOk result (text.new.items ≡ text.old.items
+        ++ line_text (trigger_line p.now.names trigger.now)) }
 {
     let items = items_of(*text.allocator(), p, trigger)?;
     push_line(
@@ -123,7 +131,8 @@ fn push_trigger(text: &mut Vec<u8>, p: &Policy, trigger: &Trigger) -> Result<(),
 }
 
 fn push_triggers(text: &mut Vec<u8>, p: &Policy) -> Result<(), Memory>
-    ensures { OnOk result (text.new.items ≡ text.old.items ++ lines_by (trigger_line p.now.names) p.now.policy.triggers) }
+    ensures { OnOk result (text.new.items ≡ text.old.items
+        ++ lines_by (trigger_line p.now.names) p.now.policy.triggers) }
 {
     p.keeps();
     let triggers = p.triggers().as_slice();

@@ -26,7 +26,8 @@ fn expr_word(kind: ExprKind) -> &'static [u8]
 }
 
 fn push_expr_fault(text: &mut Vec<u8>, fault: ExprFault) -> Result<(), Memory>
-    ensures { OnOk result (text.new.items ≡ text.old.items ++ (codes "expr " ++ expr_kind_word fault.kind ++ codes " at " ++ decimal fault.at)) }
+    ensures { OnOk result (text.new.items ≡ text.old.items
+        ++ (codes "expr " ++ expr_kind_word fault.kind ++ codes " at " ++ decimal fault.at)) }
 {
     text.extend_from_slice(b"expr ")?;
     text.extend_from_slice(expr_word(fault.kind))?;
@@ -51,7 +52,8 @@ fn push_trouble(text: &mut Vec<u8>, kind: TextKind) -> Result<(), Memory>
 
 /// `policy LINE: ` and what is at fault there, with a line feed.
 fn push_line_head(text: &mut Vec<u8>, line: u32) -> Result<(), Memory>
-    ensures { OnOk result (text.new.items ≡ text.old.items ++ (codes "policy " ++ decimal line ++ codes ": ")) }
+    ensures { OnOk result (text.new.items ≡ text.old.items
+        ++ (codes "policy " ++ decimal line ++ codes ": ")) }
 {
     text.extend_from_slice(b"policy ")?;
     push_number(text, u64::from(line))?;
@@ -60,7 +62,8 @@ fn push_line_head(text: &mut Vec<u8>, line: u32) -> Result<(), Memory>
 
 /// Adds the text of a fault of a line.
 pub fn push_text_fault(text: &mut Vec<u8>, fault: TextFault) -> Result<(), Memory>
-    ensures { OnOk result (text.new.items ≡ text.old.items ++ at_line fault.line (trouble_text fault.kind)) }
+    ensures { OnOk result (text.new.items ≡ text.old.items
+        ++ at_line fault.line (trouble_text fault.kind)) }
 {
     push_line_head(text, fault.line)?;
     push_trouble(text, fault.kind)?;
@@ -86,7 +89,8 @@ fn many_of(kind: Kind) -> &'static [u8]
 }
 
 fn push_many(text: &mut Vec<u8>, line: u32, what: Kind) -> Result<(), Memory>
-    ensures { OnOk result (text.new.items ≡ text.old.items ++ at_line line (codes "many " ++ kind_word what)) }
+    ensures { OnOk result (text.new.items ≡ text.old.items
+        ++ at_line line (codes "many " ++ kind_word what)) }
 {
     push_at_line(text, line, many_of(what))
 }

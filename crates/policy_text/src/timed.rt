@@ -19,7 +19,8 @@ fn push_period_line(
     period: &Period,
 ) -> Result<(), Memory>
     requires { n.0 < length p.now.names.periods }
-    ensures { OnOk result (text.new.items ≡ text.old.items ++ line_text (period_line p.now.names (n.0, period.now))) }
+    ensures { OnOk result (text.new.items ≡ text.old.items
+        ++ line_text (period_line p.now.names (n.0, period.now))) }
 {
     push_period(
         text,
@@ -32,7 +33,8 @@ fn push_period_line(
 }
 
 fn push_periods(text: &mut Vec<u8>, p: &Policy) -> Result<(), Memory>
-    ensures { OnOk result (text.new.items ≡ text.old.items ++ lines_by (period_line p.now.names) (numbered p.now.policy.periods)) }
+    ensures { OnOk result (text.new.items ≡ text.old.items
+        ++ lines_by (period_line p.now.names) (numbered p.now.policy.periods)) }
 {
     p.keeps();
     for n in 0..p.period_count() {
@@ -43,7 +45,11 @@ fn push_periods(text: &mut Vec<u8>, p: &Policy) -> Result<(), Memory>
 
 /// The name of a limit's period.
 fn named_period(p: &Policy, period: Option<PeriodId>) -> Option<Name>
-    requires { IsTrue (elim period [ None ↦ true | Some q ↦ nat_lt q.0 (length p.now.policy.periods) ]) }
+    requires { IsTrue (elim period [
+      | None ↦ true
+      | Some q ↦ nat_lt q.0
+          (length p.now.policy.periods)
+    ]) }
     ensures { result ≡ option_map (period_name p.now.names) period }
 {
     p.keeps();
@@ -56,7 +62,8 @@ fn named_period(p: &Policy, period: Option<PeriodId>) -> Option<Name>
 fn push_limit(text: &mut Vec<u8>, p: &Policy, n: LimitId, limit: LimitRule) -> Result<(), Memory>
     requires number { n.0 < length p.now.names.limits }
     requires rule { IsTrue (is_limit p.now.policy limit) }
-    ensures { OnOk result (text.new.items ≡ text.old.items ++ line_text (limit_line p.now.names (n.0, limit))) }
+    ensures { OnOk result (text.new.items ≡ text.old.items
+        ++ line_text (limit_line p.now.names (n.0, limit))) }
 {
     push_line(
         text,
@@ -71,7 +78,8 @@ fn push_limit(text: &mut Vec<u8>, p: &Policy, n: LimitId, limit: LimitRule) -> R
 }
 
 fn push_limits(text: &mut Vec<u8>, p: &Policy) -> Result<(), Memory>
-    ensures { OnOk result (text.new.items ≡ text.old.items ++ lines_by (limit_line p.now.names) (numbered p.now.policy.limits)) }
+    ensures { OnOk result (text.new.items ≡ text.old.items
+        ++ lines_by (limit_line p.now.names) (numbered p.now.policy.limits)) }
 {
     p.keeps();
     let limits = p.limits().as_slice();

@@ -103,7 +103,8 @@ fn edge_count(p: &Policy) -> u32
     p.edges().len() as u32
 }
 
-/// Whether the policy is written in version 1: every edge is linked at first, and nothing else names an edge.
+/// Whether the policy is written in version 1: every edge is linked at first, and nothing else
+/// names an edge.
 pub(crate) fn is_version_one(p: &Policy) -> bool
     ensures { result ≡ is_written_in_one p.now.policy }
 {

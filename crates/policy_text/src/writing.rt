@@ -22,7 +22,8 @@ fn push_sections(text: &mut Vec<u8>, p: &Policy) -> Result<(), Memory>
     push_ruled(text, p)
 }
 
-/// The canonical text of a policy: its lines in a fixed order, words with one space between them, each line with a line feed.
+/// The canonical text of a policy: its lines in a fixed order, words with one space between them,
+/// each line with a line feed.
 pub fn write_policy(alloc: Global, p: &Policy) -> Result<List<u8>, Memory>
     ensures { IfOk result (λ text. text.items ≡ canonical_text p.now) }
 {

@@ -1,5 +1,5 @@
 -- The faults of lines together, and the policy of lines without one.
-use Rattle.std.specs.Prelude.{ℕ, ◌+◌, Bool, true, false, ◌&&◌, not, cond, List, [], ◌∷◌, map, filter_map, bytes_eq, nat_le, Option, Some, None, Result, Ok, Err, is_some}
+use Rattle.std.specs.Prelude.{ℕ, ◌+◌, Bool, true, false, ◌&&◌, not, List, [], ◌∷◌, map, filter_map, bytes_eq, nat_le, Option, Some, None, Result, Ok, Err, is_some, if◌then◌else◌}
 use Rattle.std.specs.List.{list_any, list_all}
 use Rattle.gt_base.specs.declared.policies.HierEdge.{HierEdge}
 use Rattle.gtrbac_model.specs.Graph.{item_at}
@@ -37,7 +37,8 @@ abbrev pub is_known_period : Names → Option (List ℕ) → Bool
 is_known_period ns None = true
 is_known_period ns (Some p) = is_some (period_of ns p)
 
--- each name of the line is declared by some line, and each pair of an edge that is switched is that of an edge
+-- each name of the line is declared by some line, and each pair of an edge that is switched is that
+-- of an edge
 abbrev pub is_known : Names → SaidView → Bool
 is_known ns (limit n prio c most during) = is_some (cond_of ns c) && is_known_period ns during
 is_known ns (edge kind strong s j) = is_some (role_of ns s) && is_some (role_of ns j)
@@ -63,7 +64,8 @@ fluent_claim (fluents.Granted q r) = Some (claims.Granted q r)
 fluent_claim (fluents.Limit l) = None
 fluent_claim (fluents.Edge s j) = None
 
--- a declared name, the ordered pair of an edge, the kind and role of a cap; or the pair of an assignment or a grant
+-- a declared name, the ordered pair of an edge, the kind and role of a cap; or the pair of an
+-- assignment or a grant
 abbrev pub claim_of : SaidView → Option Claim
 claim_of (role n) = Some (claims.Role n)
 claim_of (user n) = Some (claims.User n)
@@ -95,7 +97,8 @@ is_claimed_by c s = elim (claim_of s) [ None ↦ false | Some d ↦ same_claim c
 
 -- a line before claims the same
 abbrev pub is_claimed_again : List SaidView → SaidView → Bool
-is_claimed_again before s = elim (claim_of s) [ None ↦ false | Some c ↦ list_any (is_claimed_by c) before ]
+is_claimed_again before s = elim (claim_of s)
+    [ None ↦ false | Some c ↦ list_any (is_claimed_by c) before ]
 
 -- an assignment, a grant or what claims nothing may be said again
 abbrev pub may_be_again : SaidView → Bool
@@ -161,12 +164,16 @@ counts_for k before s = is_of k s && not (is_claimed_again before s)
 -- how many of the kind the lines have; the last line stands first
 abbrev pub count_of : Kind → List SaidView → ℕ
 count_of k [] = 0
-count_of k (s ∷ before) = count_of k before + cond (counts_for k before s) 1 0
+count_of k (s ∷ before) = count_of k before + (if counts_for k before s then 1 else 0)
 
 -- the line is one more of its kind than are allowed
 abbrev pub many_of : List SaidView → SaidView → Option Kind
 many_of before s =
-    elim (kind_of s) [ None ↦ None | Some k ↦ cond (counts_for k before s && nat_le (most_of k) (count_of k before)) (Some k) None ]
+    elim (kind_of s) [
+      | None ↦ None
+      | Some k ↦ if counts_for k before s
+          && nat_le (most_of k) (count_of k before) then Some k else None
+    ]
 
 -- the faults of the lines
 
@@ -179,12 +186,14 @@ abbrev pub line_trouble : Names → List SaidView → Numbered SaidView → Opti
 line_trouble ns before s =
     elim (is_known ns s.it) [
       | false ↦ Some (unknown s.line)
-      | true ↦ elim (is_twice before s.it) [ true ↦ Some (twice s.line) | false ↦ many_at s.line (many_of before s.it) ]
+      | true ↦ if is_twice before s.it then Some (twice s.line)
+          else many_at s.line (many_of before s.it)
     ]
 
 abbrev pub first_trouble : Names → List SaidView → List (Numbered SaidView) → Option BookTrouble
 first_trouble ns before [] = None
-first_trouble ns before (s ∷ ss) = elim (line_trouble ns before s) [ Some t ↦ Some t | None ↦ first_trouble ns (s.it ∷ before) ss ]
+first_trouble ns before (s ∷ ss) = elim (line_trouble ns before s)
+    [ Some t ↦ Some t | None ↦ first_trouble ns (s.it ∷ before) ss ]
 
 -- the edges of these numbers
 abbrev pub edges_at : List HierEdge → List ℕ → List HierEdge
@@ -201,6 +210,7 @@ without_trouble None np = without_cycle np (edge_cycle np.policy.edges)
 abbrev pub said_in : List (Numbered SaidView) → List SaidView
 said_in ss = map (λ s. s.it) ss
 
--- the policy that the lines make, or the first fault; where no line has one, the least cycle of edges
+-- the policy that the lines make, or the first fault; where no line has one, the least cycle of
+-- edges
 abbrev pub build : List (Numbered SaidView) → Result NamedPolicy BookTrouble
 build ss = without_trouble (first_trouble (names_of (said_in ss)) [] ss) (named_policy (said_in ss))

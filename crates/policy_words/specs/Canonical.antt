@@ -1,5 +1,5 @@
 -- The canonical text of a policy.
-use Rattle.std.specs.Prelude.{ℕ, ◌+◌, Bool, true, false, cond, not, ◌&&◌, ◌||◌, List, [], ◌∷◌, ◌++◌, length, map, filter, flat_map, Option, Some, None, option_map}
+use Rattle.std.specs.Prelude.{ℕ, ◌+◌, Bool, true, false, not, ◌&&◌, ◌||◌, List, [], ◌∷◌, ◌++◌, length, map, filter, flat_map, Option, Some, None, option_map, if◌then◌else◌}
 use Rattle.std.specs.List.{enumerate_from, list_all, list_any}
 use Rattle.gt_base.specs.Held.{TriggerView}
 use Rattle.gt_base.specs.Sets.{members, has}
@@ -46,31 +46,38 @@ abbrev pub is_linked : Fluent → Bool
 is_linked (fluents.Edge n) = true
 is_linked _ = false
 
--- which version a policy is written in: 1 where every edge is linked at first and nothing else names an edge
+-- which version a policy is written in: 1 where every edge is linked at first and nothing else
+-- names an edge
 
 abbrev pub rule_names_edge : TriggerView → Bool
 rule_names_edge r =
-    list_any (λ e. is_linked e.fluent) r.events || list_any (λ c. is_linked c.fluent) r.conds || list_any (λ c. is_linked c.fluent) r.settled || is_linked r.head.event.fluent
+    list_any (λ e. is_linked e.fluent) r.events || list_any (λ c. is_linked c.fluent) r.conds
+    || list_any (λ c. is_linked c.fluent) r.settled || is_linked r.head.event.fluent
 
 abbrev pub switches_edges : Policy → Bool
 switches_edges p =
-    list_any (λ l. is_linked l.cond.fluent) p.limits || list_any (λ e. is_linked e.head.event.fluent) p.entries || list_any rule_names_edge p.triggers
+    list_any (λ l. is_linked l.cond.fluent) p.limits
+    || list_any (λ e. is_linked e.head.event.fluent) p.entries
+    || list_any rule_names_edge p.triggers
 
 abbrev pub is_version_one : Policy → Bool
-is_version_one p = list_all (has p.opening) (edges_from 0 (length p.edges)) && not (switches_edges p)
+is_version_one p = list_all (has p.opening) (edges_from 0 (length p.edges))
+    && not (switches_edges p)
 
 abbrev pub version_of : Policy → ℕ
-version_of p = cond (is_version_one p) 1 2
+version_of p = if is_version_one p then 1 else 2
 
 module _ (ns : Names) where
   abbrev pub period_line : (ℕ × Period) → SaidView
   period_line (n, p) = period (period_name ns (record { 0 = n })) p.first p.last p.expr
 
   abbrev pub limit_line : (ℕ × LimitRule) → SaidView
-  limit_line (n, l) = limit (limit_name ns (record { 0 = n })) l.prio (cond_named ns l.cond) l.most (option_map (period_name ns) l.period)
+  limit_line (n, l) = limit (limit_name ns (record { 0 = n })) l.prio (cond_named ns l.cond) l.most
+      (option_map (period_name ns) l.period)
 
   abbrev pub edge_line : HierEdge → SaidView
-  edge_line e = edge (edge_kind e.inherits e.activates) e.strong (role_name ns e.senior) (role_name ns e.junior)
+  edge_line e = edge (edge_kind e.inherits e.activates) e.strong (role_name ns e.senior)
+      (role_name ns e.junior)
 
   abbrev pub cap_line : CapKind → List ℕ → Option ℕ → List SaidView
   cap_line kind r None = []
@@ -79,10 +86,13 @@ module _ (ns : Names) where
   abbrev pub cap_lines : (ℕ × Caps) → List SaidView
   cap_lines (n, c) =
       let r : List ℕ = role_name ns (record { 0 = n }) in
-      cap_line caps.Total r c.total ++ cap_line caps.User r c.user ++ cap_line caps.Length r c.length ++ cap_line caps.Day r c.day
+      cap_line caps.Total r c.total ++ cap_line caps.User r c.user
+      ++ cap_line caps.Length r c.length ++ cap_line caps.Day r c.day
 
   abbrev pub items_of : TriggerView → List Item
-  items_of r = map (λ e. Event (event_named ns e)) r.events ++ map (λ s. Signal (signal_named ns s)) r.signals ++ map (λ c. Cond (cond_named ns c)) r.conds
+  items_of r = map (λ e. Event (event_named ns e)) r.events
+      ++ map (λ s. Signal (signal_named ns s)) r.signals
+      ++ map (λ c. Cond (cond_named ns c)) r.conds
       ++ map (λ c. Settled (cond_named ns c)) r.settled
 
   -- the opening fluents of a sort; the set has them by sort, then by their numbers
@@ -94,14 +104,16 @@ abbrev pub canonical_lines : NamedPolicy → List SaidView
 canonical_lines np =
     let ns : Names = np.names in
     let opening : List Fluent = members np.policy.opening in
-    version (version_of np.policy) ∷ map (λ n. role n) ns.roles ++ map (λ n. user n) ns.users ++ map (λ n. perm n) ns.perms
+    version (version_of np.policy) ∷ map (λ n. role n) ns.roles ++ map (λ n. user n) ns.users
+    ++ map (λ n. perm n) ns.perms
     ++ map (period_line ns) (enumerate_from 0 np.policy.periods)
     ++ map (limit_line ns) (enumerate_from 0 np.policy.limits)
     ++ map (edge_line ns) np.policy.edges
     ++ flat_map (cap_lines ns) (enumerate_from 0 np.policy.caps)
     ++ map (λ u. admin (user_name ns u)) np.policy.admins
-    ++ opening_lines ns is_enabled opening ++ opening_lines ns is_assigned opening ++ opening_lines ns is_granted opening ++ opening_lines ns is_armed opening
-    ++ cond (is_version_one np.policy) [] (opening_lines ns is_linked opening)
+    ++ opening_lines ns is_enabled opening ++ opening_lines ns is_assigned opening
+    ++ opening_lines ns is_granted opening ++ opening_lines ns is_armed opening
+    ++ (if is_version_one np.policy then [] else opening_lines ns is_linked opening)
     ++ map (λ e. entry e.form (period_name ns e.period) (head_named ns e.head)) np.policy.entries
     ++ map (λ r. trigger (items_of ns r) (head_named ns r.head) r.delay) np.policy.triggers
 

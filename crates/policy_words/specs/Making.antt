@@ -1,5 +1,5 @@
 -- The policy that lines make, in the order of the lines.
-use Rattle.std.specs.Prelude.{ℕ, zero, suc, ◌+◌, Bool, true, false, cond, not, nat_eq, List, [], ◌∷◌, ◌++◌, length, map, filter, filter_map, Option, Some, None}
+use Rattle.std.specs.Prelude.{ℕ, zero, suc, ◌+◌, Bool, true, false, not, nat_eq, List, [], ◌∷◌, ◌++◌, length, map, filter, filter_map, Option, Some, None, if◌then◌else◌}
 use Rattle.gt_base.specs.Held.{TriggerView}
 use Rattle.gt_base.specs.Sets.{set_of}
 use Rattle.gt_base.specs.declared.events.RoleId.{RoleId}
@@ -36,16 +36,59 @@ no_names = record { roles = []; users = []; perms = []; periods = []; limits = [
 
 -- the pairs with this one at the end, unless they have it
 abbrev pub with_pair : List NamePair → NamePair → List NamePair
-with_pair pairs p = cond (list_any (same_pair p) pairs) pairs (pairs ++ p ∷ [])
+with_pair pairs p = if list_any (same_pair p) pairs then pairs else pairs ++ p ∷ []
 
 -- a declared name, or the pair of an edge, goes to the end of its kind, unless it is there
 abbrev pub naming : Names → SaidView → Names
-naming ns (role n) = record { roles = with_name ns.roles n; users = ns.users; perms = ns.perms; periods = ns.periods; limits = ns.limits; edges = ns.edges }
-naming ns (user n) = record { roles = ns.roles; users = with_name ns.users n; perms = ns.perms; periods = ns.periods; limits = ns.limits; edges = ns.edges }
-naming ns (perm n) = record { roles = ns.roles; users = ns.users; perms = with_name ns.perms n; periods = ns.periods; limits = ns.limits; edges = ns.edges }
-naming ns (period n first last e) = record { roles = ns.roles; users = ns.users; perms = ns.perms; periods = with_name ns.periods n; limits = ns.limits; edges = ns.edges }
-naming ns (limit n prio c most during) = record { roles = ns.roles; users = ns.users; perms = ns.perms; periods = ns.periods; limits = with_name ns.limits n; edges = ns.edges }
-naming ns (edge kind strong s j) = record { roles = ns.roles; users = ns.users; perms = ns.perms; periods = ns.periods; limits = ns.limits; edges = with_pair ns.edges (s, j) }
+naming ns (role n) = record {
+  roles = with_name ns.roles n;
+  users = ns.users;
+  perms = ns.perms;
+  periods = ns.periods;
+  limits = ns.limits;
+  edges = ns.edges;
+}
+naming ns (user n) = record {
+  roles = ns.roles;
+  users = with_name ns.users n;
+  perms = ns.perms;
+  periods = ns.periods;
+  limits = ns.limits;
+  edges = ns.edges;
+}
+naming ns (perm n) = record {
+  roles = ns.roles;
+  users = ns.users;
+  perms = with_name ns.perms n;
+  periods = ns.periods;
+  limits = ns.limits;
+  edges = ns.edges;
+}
+naming ns (period n first last e) = record {
+  roles = ns.roles;
+  users = ns.users;
+  perms = ns.perms;
+  periods = with_name ns.periods n;
+  limits = ns.limits;
+  edges = ns.edges;
+}
+naming ns (limit n prio c most during)
+    = record {
+      roles = ns.roles;
+      users = ns.users;
+      perms = ns.perms;
+      periods = ns.periods;
+      limits = with_name ns.limits n;
+      edges = ns.edges;
+    }
+naming ns (edge kind strong s j) = record {
+  roles = ns.roles;
+  users = ns.users;
+  perms = ns.perms;
+  periods = ns.periods;
+  limits = ns.limits;
+  edges = with_pair ns.edges (s, j);
+}
 naming ns _ = ns
 
 abbrev pub names_in : Names → List SaidView → Names
@@ -90,7 +133,7 @@ with_item (Some x) xs = xs ++ x ∷ []
 -- at the end, unless it is there
 abbrev pub with_new : {A : Type 0} → (A → A → Bool) → Option A → List A → List A
 with_new same None xs = xs
-with_new same (Some x) xs = cond (lists same xs x) xs (xs ++ x ∷ [])
+with_new same (Some x) xs = if lists same xs x then xs else xs ++ x ∷ []
 
 module _ (ns : Names) where
   abbrev pub period_said : SaidView → Option Period
@@ -114,7 +157,13 @@ module _ (ns : Names) where
   edge_said (edge kind strong s j) = do
     senior ← role_of ns s
     junior ← role_of ns j
-    Some (record { senior = senior; junior = junior; inherits = inherits kind; activates = activates kind; strong = strong })
+    Some (record {
+      senior = senior;
+      junior = junior;
+      inherits = inherits kind;
+      activates = activates kind;
+      strong = strong;
+    })
   edge_said _ = None
 
   -- a cap changes the record of its role
@@ -161,7 +210,14 @@ module _ (ns : Names) where
   abbrev pub rule_said : SaidView → Option TriggerView
   rule_said (trigger items h d) = do
     head ← head_of ns h
-    Some (record { events = filter_map event_in items; signals = filter_map signal_in items; conds = filter_map cond_in items; settled = filter_map settled_in items; head = head; delay = d })
+    Some (record {
+      events = filter_map event_in items;
+      signals = filter_map signal_in items;
+      conds = filter_map cond_in items;
+      settled = filter_map settled_in items;
+      head = head;
+      delay = d;
+    })
   rule_said _ = None
 
 -- what the lines so far make, over all names
@@ -177,7 +233,16 @@ pub record Draft : Type 0 where
 
 -- no caps for each role, and nothing else
 abbrev pub fresh : Names → Draft
-fresh ns = record { periods = []; limits = []; edges = []; caps = map (λ _. no_caps) ns.roles; admins = []; on_at_first = []; entries = []; triggers = [] }
+fresh ns = record {
+  periods = [];
+  limits = [];
+  edges = [];
+  caps = map (λ _. no_caps) ns.roles;
+  admins = [];
+  on_at_first = [];
+  entries = [];
+  triggers = [];
+}
 
 -- with what a line says
 abbrev pub adding : Names → Draft → SaidView → Draft
@@ -239,4 +304,5 @@ policy_of ns second d =
 
 -- the policy that the lines make, numbers in place of names
 abbrev pub named_policy : List SaidView → NamedPolicy
-named_policy ss = let ns : Names = names_of ss in record { names = ns; policy = policy_of ns (are_second ss) (drafted ns (fresh ns) ss) }
+named_policy ss = let ns : Names = names_of ss
+    in record { names = ns; policy = policy_of ns (are_second ss) (drafted ns (fresh ns) ss) }

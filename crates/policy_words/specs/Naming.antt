@@ -51,12 +51,17 @@ pair_list_code = coded_list (coded× (coded_list coded_ℕ) (coded_list coded_�
 
 abbrev pub names_code : Coded Names
 names_code =
-    code_by (List (List ℕ) × (List (List ℕ) × (List (List ℕ) × (List (List ℕ) × (List (List ℕ) × List NamePair)))))
-    (coded× name_list_code (coded× name_list_code (coded× name_list_code (coded× name_list_code (coded× name_list_code pair_list_code)))))
-    (λ n. (n.roles, (n.users, (n.perms, (n.periods, (n.limits, n.edges)))))) (λ (r, (u, (q, (p, (l, e))))). record { roles = r; users = u; perms = q; periods = p; limits = l; edges = e }) (λ _. refl)
+    code_by (List (List ℕ) × (List (List ℕ) × (List (List ℕ)
+    × (List (List ℕ) × (List (List ℕ) × List NamePair)))))
+    (coded× name_list_code (coded× name_list_code (coded× name_list_code
+    (coded× name_list_code (coded× name_list_code pair_list_code)))))
+    (λ n. (n.roles, (n.users, (n.perms, (n.periods, (n.limits, n.edges))))))
+    (λ (r, (u, (q, (p, (l, e))))).
+    record { roles = r; users = u; perms = q; periods = p; limits = l; edges = e }) (λ _. refl)
 
 abbrev pub named_policy_code : Coded NamedPolicy
-named_policy_code = code_by (Names × Policy) (coded× names_code policy_code) (λ n. (n.names, n.policy)) (λ p. record { names = p.0; policy = p.1 }) (λ _. refl)
+named_policy_code = code_by (Names × Policy) (coded× names_code policy_code)
+    (λ n. (n.names, n.policy)) (λ p. record { names = p.0; policy = p.1 }) (λ _. refl)
 
 -- numbers of names
 

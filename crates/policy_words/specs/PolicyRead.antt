@@ -29,7 +29,8 @@ abbrev pub built : Names → Result NamedPolicy BookTrouble → Result NamedPoli
 built ns (Ok np) = Ok np
 built ns (Err t) = Err (of_book ns t)
 
-abbrev pub by_lines : Result (List (Numbered SaidView)) (Numbered TextKind) → Result NamedPolicy PolicyFault
+abbrev pub by_lines : Result (List (Numbered SaidView)) (Numbered TextKind)
+    → Result NamedPolicy PolicyFault
 by_lines (Err t) = Err (of_line t)
 by_lines (Ok ss) = built (names_of (said_in ss)) (build ss)
 
@@ -56,7 +57,8 @@ trouble_text faults.Word = codes "word"
 trouble_text faults.Form = codes "form"
 trouble_text faults.Body = codes "body"
 trouble_text faults.Bounds = codes "bounds"
-trouble_text (faults.Expr f) = codes "expr " ++ expr_kind_word f.kind ++ codes " at " ++ decimal f.at
+trouble_text (faults.Expr f) = codes "expr " ++ expr_kind_word f.kind ++ codes " at "
+    ++ decimal f.at
 trouble_text faults.Memory = []
 
 abbrev pub kind_word : Kind → List ℕ
@@ -80,7 +82,8 @@ again (e ∷ es) = e ∷ []
 
 -- the seniors of the edges, and the first again
 abbrev pub cycle_text : Names → List HierEdge → List ℕ
-cycle_text ns es = codes "policy: cycle " ++ joined_by (codes ">") (map (λ e. role_name ns e.senior) (es ++ again es)) ++ codes "\n"
+cycle_text ns es = codes "policy: cycle "
+    ++ joined_by (codes ">") (map (λ e. role_name ns e.senior) (es ++ again es)) ++ codes "\n"
 
 abbrev pub book_text : Names → BookTrouble → List ℕ
 book_text ns (unknown n) = at_line n (codes "unknown")
@@ -103,10 +106,13 @@ conflict_word false = codes "plain "
 
 abbrev pub edge_text : Names → Dependency → List ℕ
 edge_text ns d =
-    conflict_word d.conflict ++ decimal (d.trigger + 1) ++ codes "." ++ decimal (d.place + 1) ++ codes " " ++ event_text ns d.source ++ codes " > " ++ event_text ns d.target ++ codes "\n"
+    conflict_word d.conflict ++ decimal (d.trigger + 1) ++ codes "." ++ decimal (d.place + 1)
+    ++ codes " " ++ event_text ns d.source ++ codes " > " ++ event_text ns d.target
+    ++ codes "\n"
 
 abbrev pub numbered_edge : NamedPolicy → ℕ → List ℕ
-numbered_edge np n = elim (item_at (dependencies np.policy.triggers) n) [ Some d ↦ edge_text np.names d | None ↦ [] ]
+numbered_edge np n = elim (item_at (dependencies np.policy.triggers) n)
+    [ Some d ↦ edge_text np.names d | None ↦ [] ]
 
 abbrev pub unsafe_text : NamedPolicy → List ℕ → List ℕ
 unsafe_text np edges = codes "unsafe\n" ++ flat_map (numbered_edge np) edges

@@ -73,14 +73,18 @@ said_words (version n) = codes "policy" ∷ decimal n ∷ []
 said_words (role n) = codes "role" ∷ n ∷ []
 said_words (user n) = codes "user" ∷ n ∷ []
 said_words (perm n) = codes "perm" ∷ n ∷ []
-said_words (period n first last e) = codes "period" ∷ n ∷ civil_text first ∷ civil_text last ∷ expr_text e ∷ []
-said_words (limit n prio c most during) = codes "limit" ∷ n ∷ decimal prio ∷ cond_words c ++ codes "max" ∷ decimal most ∷ during_words during
-said_words (edge kind strong s j) = codes "edge" ∷ kind_word kind ∷ strength_word strong ∷ s ∷ j ∷ []
+said_words (period n first last e) = codes "period" ∷ n ∷ civil_text first ∷ civil_text last
+    ∷ expr_text e ∷ []
+said_words (limit n prio c most during) = codes "limit" ∷ n ∷ decimal prio ∷ cond_words c
+    ++ codes "max" ∷ decimal most ∷ during_words during
+said_words (edge kind strong s j) = codes "edge" ∷ kind_word kind ∷ strength_word strong ∷ s ∷ j
+    ∷ []
 said_words (cap kind r n) = codes "cap" ∷ cap_word kind ∷ r ∷ decimal n ∷ []
 said_words (admin u) = codes "admin" ∷ u ∷ []
 said_words (opening f) = cond_verb true (sort_of f) ∷ fluent_names f
 said_words (entry f p h) = form_word f ∷ p ∷ head_words h
-said_words (trigger items h d) = codes "when" ∷ and_items items ++ codes "then" ∷ head_words h ++ delay_words d
+said_words (trigger items h d) = codes "when" ∷ and_items items ++ codes "then" ∷ head_words h
+    ++ delay_words d
 
 -- names that are names, and numbers in range
 
@@ -123,14 +127,17 @@ is_formed (version n) = nat_eq n 1 || nat_eq n 2
 is_formed (role n) = is_name n
 is_formed (user n) = is_name n
 is_formed (perm n) = is_name n
-is_formed (period n first last e) = is_name n && nat_le first last_minute && nat_le last last_minute && is_expr e
-is_formed (limit n prio c most during) = is_name n && nat_le prio 99 && are_names (fluent_names c.fluent) && is_count most && is_period_name during
+is_formed (period n first last e) = is_name n && nat_le first last_minute && nat_le last last_minute
+    && is_expr e
+is_formed (limit n prio c most during) = is_name n && nat_le prio 99
+    && are_names (fluent_names c.fluent) && is_count most && is_period_name during
 is_formed (edge kind strong s j) = is_name s && is_name j
 is_formed (cap kind r n) = is_name r && is_count n
 is_formed (admin u) = is_name u
 is_formed (opening f) = are_names (fluent_names f)
 is_formed (entry f p h) = is_name p && is_head h
-is_formed (trigger items h d) = is_some_item items && list_all is_item items && is_head h && nat_le d last_minute
+is_formed (trigger items h d) = is_some_item items && list_all is_item items && is_head h
+    && nat_le d last_minute
 
 -- a period's first instant is not after its last
 abbrev pub is_bounded : SaidView → Bool

@@ -1,5 +1,5 @@
 -- What a line of a policy says, as a relation: by the words that spell it, and not by reading.
-use Rattle.std.specs.Prelude.{◌≡◌, ◌≢◌, ◌⊎◌, ℕ, zero, ◌≤◌, ◌<◌, Bool, true, false, cond, List, [], ◌∷◌, ◌++◌, length, take, codes, Option, Some, None, Result, Ok, Err, IsTrue, Contains}
+use Rattle.std.specs.Prelude.{◌≡◌, ◌≢◌, ◌⊎◌, ℕ, zero, ◌≤◌, ◌<◌, Bool, true, false, List, [], ◌∷◌, ◌++◌, length, take, codes, Option, Some, None, Result, Ok, Err, IsTrue, Contains, if◌then◌else◌}
 use Rattle.gt_base.specs.Bounds.{last_minute}
 use Rattle.gt_base.specs.Names.{is_name}
 use Rattle.gtrbac_model.specs.Period.{Expr}
@@ -38,24 +38,29 @@ pub record HasBounds (line : List ℕ) (n : List ℕ) (first last : ℕ) : Type 
   pub is_last : IsBound last_minute last_word last
 
 abbrev pub SpellsPeriod : List ℕ → List ℕ → ℕ → ℕ → Expr → Type 0
-SpellsPeriod line n first last e = HasBounds line n first last × (first ≤ last) × Says (expr_of_line line) e
+SpellsPeriod line n first last e = HasBounds line n first last × (first ≤ last)
+    × Says (expr_of_line line) e
 
 -- the line is spelled so; a delay of 0 may be written or left out
 abbrev pub Spells : SaidView → List ℕ → Type 0
 Spells (period n first last e) line = SpellsPeriod line n first last e
 Spells (trigger items h zero) line =
-    (words_of line ≡ said_words (trigger items h 0)) ⊎ (words_of line ≡ codes "when" ∷ and_items items ++ codes "then" ∷ head_words h ++ codes "after" ∷ codes "0" ∷ [])
+    (words_of line ≡ said_words (trigger items h 0))
+    ⊎ (words_of line ≡ codes "when" ∷ and_items items ++ codes "then" ∷ head_words h
+    ++ codes "after" ∷ codes "0" ∷ [])
 Spells said line = words_of line ≡ said_words said
 
 -- the words that begin a line of version 1
 abbrev pub first_words : List (List ℕ)
 first_words =
-    codes "policy" ∷ codes "role" ∷ codes "user" ∷ codes "perm" ∷ codes "period" ∷ codes "limit" ∷ codes "edge" ∷ codes "cap" ∷ codes "admin" ∷ codes "enabled" ∷ codes "assigned"
-    ∷ codes "granted" ∷ codes "armed" ∷ codes "each" ∷ codes "start" ∷ codes "span" ∷ codes "when" ∷ []
+    codes "policy" ∷ codes "role" ∷ codes "user" ∷ codes "perm" ∷ codes "period" ∷ codes "limit"
+    ∷ codes "edge" ∷ codes "cap" ∷ codes "admin" ∷ codes "enabled" ∷ codes "assigned"
+    ∷ codes "granted" ∷ codes "armed" ∷ codes "each" ∷ codes "start" ∷ codes "span" ∷ codes "when"
+    ∷ []
 
 -- version 2 has one more
 abbrev pub words_that_begin : Bool → List (List ℕ)
-words_that_begin edges = cond edges (codes "linked" ∷ first_words) first_words
+words_that_begin edges = if edges then codes "linked" ∷ first_words else first_words
 
 abbrev pub BeginsWith : List ℕ → List ℕ → Type 0
 BeginsWith line w = (ws : List (List ℕ)) × (words_of line ≡ w ∷ ws)
@@ -74,25 +79,36 @@ abbrev pub IsPlaced : TextVersion → SaidView → Type 0
 IsPlaced v said = IsFirst (is_open v) said × IsTrue (is_allowed (has_edges v) said)
 
 abbrev pub ExprFails : List ℕ → ExprFault → Type 0
-ExprFails text f = ((f.kind ≡ Syntax) × IsSyntaxFault text f.at) ⊎ ((f.kind ≢ Syntax) × HasFault text f)
+ExprFails text f = ((f.kind ≡ Syntax) × IsSyntaxFault text f.at)
+    ⊎ ((f.kind ≢ Syntax) × HasFault text f)
 
 -- no form of its first word: no saying that the version has words for, and no bounds of a period
 pub record HasNoForm (edges : Bool) (line : List ℕ) : Type 0 where
-  pub verb : (w : List ℕ) × BeginsWith line w × Contains (words_that_begin edges) w × (w ≢ codes "policy")
-  pub says_nothing : (said : SaidView) → IsTrue (is_formed said) → IsTrue (is_allowed edges said) → Spells said line → ⊥
+  pub verb : (w : List ℕ) × BeginsWith line w × Contains (words_that_begin edges) w
+      × (w ≢ codes "policy")
+  pub says_nothing : (said : SaidView) → IsTrue (is_formed said) → IsTrue (is_allowed edges said)
+      → Spells said line → ⊥
   pub no_bounds : (n : List ℕ) (first last : ℕ) → HasBounds line n first last → ⊥
 
 -- what reading a line answers in a text of this version: nothing, a saying, or why not
 abbrev pub IsSaid : TextVersion → List ℕ → Result (Option SaidView) TextKind → Type 0
 IsSaid v line (Ok None) = IsSilent 4096 line
-IsSaid v line (Ok (Some said)) = IsLoud 4096 line × IsTrue (is_formed said) × Spells said line × IsTrue (is_bodied said) × IsPlaced v said
+IsSaid v line (Ok (Some said)) = IsLoud 4096 line × IsTrue (is_formed said) × Spells said line
+    × IsTrue (is_bodied said) × IsPlaced v said
 IsSaid v line (Err faults.Long) = 4096 < length line
 IsSaid v line (Err faults.Version) =
-    IsLoud 4096 line × BeginsWith line (codes "policy") × (IsTrue (is_open v) → (n : ℕ) → IsTrue (is_formed (version n)) → words_of line ≢ said_words (version n))
-IsSaid v line (Err faults.Word) = IsLoud 4096 line × ((w : List ℕ) → Contains (words_that_begin (has_edges v)) w → BeginsWith line w → ⊥)
+    IsLoud 4096 line × BeginsWith line (codes "policy")
+    × (IsTrue (is_open v) → (n : ℕ) → IsTrue (is_formed (version n))
+    → words_of line ≢ said_words (version n))
+IsSaid v line (Err faults.Word) = IsLoud 4096 line
+    × ((w : List ℕ) → Contains (words_that_begin (has_edges v)) w → BeginsWith line w → ⊥)
 IsSaid v line (Err faults.Form) = IsLoud 4096 line × HasNoForm (has_edges v) line
 IsSaid v line (Err faults.Body) =
-    IsLoud 4096 line × ((said : SaidView) × IsTrue (is_formed said) × IsTrue (is_allowed (has_edges v) said) × Spells said line × (is_bodied said ≡ false))
-IsSaid v line (Err faults.Bounds) = IsLoud 4096 line × ((n : List ℕ) × (f : ℕ) × (l : ℕ) × HasBounds line n f l × (l < f))
-IsSaid v line (Err (faults.Expr t)) = IsLoud 4096 line × ((n : List ℕ) × (f : ℕ) × (l : ℕ) × HasBounds line n f l × (f ≤ l) × ExprFails (expr_of_line line) t)
+    IsLoud 4096 line × ((said : SaidView) × IsTrue (is_formed said)
+    × IsTrue (is_allowed (has_edges v) said) × Spells said line × (is_bodied said ≡ false))
+IsSaid v line (Err faults.Bounds) = IsLoud 4096 line
+    × ((n : List ℕ) × (f : ℕ) × (l : ℕ) × HasBounds line n f l × (l < f))
+IsSaid v line (Err (faults.Expr t)) = IsLoud 4096 line
+    × ((n : List ℕ) × (f : ℕ) × (l : ℕ) × HasBounds line n f l × (f ≤ l)
+    × ExprFails (expr_of_line line) t)
 IsSaid v line (Err faults.Memory) = ⊥

@@ -1,5 +1,5 @@
 -- The version of a text, as its lines tell it.
-use Rattle.std.specs.Prelude.{ℕ, Bool, true, false, ◌||◌, not, nat_eq, cond}
+use Rattle.std.specs.Prelude.{ℕ, Bool, true, false, ◌||◌, not, nat_eq, if◌then◌else◌}
 use Rattle.policy_words.specs.declared.versions.TextVersion.{TextVersion}
 use Rattle.policy_words.specs.declared.versions.TextVersion.TheVariants.{Open, One, Two}
 use Rattle.policy_words.specs.Sayings.{SaidView, version, names_edge}
@@ -23,7 +23,7 @@ settled_version Two = Two
 
 -- the version after a line
 abbrev pub version_after : TextVersion → SaidView → TextVersion
-version_after v (version n) = cond (nat_eq n 2) Two One
+version_after v (version n) = if nat_eq n 2 then Two else One
 version_after v _ = settled_version v
 
 -- a line that names an edge stands in a text of version 2 alone

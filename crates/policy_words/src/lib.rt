@@ -1,5 +1,5 @@
-//! What the lines of a policy say, by names: types, the words that spell them, what the lines stand for together, and the
-//! canonical text.
+//! What the lines of a policy say, by names: types, the words that spell them, what the lines stand
+//! for together, and the canonical text.
 #![tactic(auto)]
 
 mod claims;

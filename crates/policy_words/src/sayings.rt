@@ -3,7 +3,8 @@ use crate::parts::{Item, NamedCond, NamedFluent, NamedHead};
 use gt_base::{Form, Instant, List, Name, Prio};
 use periodic_expr::Expr;
 
-/// What an edge of the hierarchy gives: permissions to the senior (I), the junior's activation (A), or both.
+/// What an edge of the hierarchy gives: permissions to the senior (I), the junior's activation (A),
+/// or both.
 #[derive(Clone, Copy, PartialEq, Eq, Debug)]
 pub enum EdgeKind {
     I,
@@ -11,8 +12,8 @@ pub enum EdgeKind {
     Ia,
 }
 
-/// What a cap counts: activations at once over all sessions or of one user, the minutes of one activation, or the charged
-/// minutes of a user in a civil day.
+/// What a cap counts: activations at once over all sessions or of one user, the minutes of one
+/// activation, or the charged minutes of a user in a civil day.
 #[derive(Clone, Copy, PartialEq, Eq, Debug)]
 pub enum CapKind {
     Total,
@@ -51,7 +52,8 @@ pub enum Said {
         last: Instant,
         expr: Expr,
     },
-    /// A duration limit: the condition may hold for `most` minutes, 1 to 1,000,000, within the period if it has one.
+    /// A duration limit: the condition may hold for `most` minutes, 1 to 1,000,000, within the
+    /// period if it has one.
     Limit {
         name: Name,
         prio: Prio,

@@ -8,7 +8,8 @@ use crate::sayings::Said;
 /// The version of a text, as far as the lines before a place tell it.
 #[derive(Clone, Copy, PartialEq, Eq, Debug)]
 pub enum TextVersion {
-    /// Only silent lines stand before: the next line may be the version's, and without one the text has version 1.
+    /// Only silent lines stand before: the next line may be the version's, and without one the text
+    /// has version 1.
     Open,
     /// Version 1, in which every edge of the hierarchy is linked at first and no line names one.
     One,

@@ -1,5 +1,5 @@
 -- Winners of a set, and who leads a fluent in it.
-use Rattle.std.specs.Prelude.{◌≡◌, Bool, true, false, cond, ◌||◌, not, nat_le, nat_lt, Option, Some, None}
+use Rattle.std.specs.Prelude.{◌≡◌, Bool, true, false, ◌||◌, not, nat_le, nat_lt, Option, Some, None, if◌then◌else◌}
 use Rattle.gt_base.specs.declared.events.Event.{Event}
 use Rattle.gt_base.specs.declared.events.Fluent.{Fluent}
 use Rattle.gt_base.specs.declared.events.Prioritised.{Prioritised}
@@ -11,15 +11,17 @@ use Rattle.gtrbac_model.specs.Same.{same_event}
 
 -- the status that winners make of one
 abbrev pub turned_by : (Event → Bool) → Status → Status
-turned_by wins before f = cond (wins (turns_on f)) true (cond (wins (turns_off f)) false (before f))
+turned_by wins before f = if wins (turns_on f) then true else if wins (turns_off f) then false
+    else before f
 
 -- no event stands beside its converse, as winners never do
 abbrev pub IsApart : Events → Type 0
 IsApart s = (e : Event) → has s e ≡ true → has s (converse e) ≡ false
 
--- of two events of one fluent the first is not above the second; at equal priority the off event is above the on event
+-- of two events of one fluent the first is not above the second; at equal priority the off event is
+-- above the on event
 abbrev pub is_under : Prioritised → Prioritised → Bool
-is_under o q = cond (o.event.on || not q.event.on) (nat_le o.prio q.prio) (nat_lt o.prio q.prio)
+is_under o q = if o.event.on || not q.event.on then nat_le o.prio q.prio else nat_lt o.prio q.prio
 
 -- the event is one of those there and is of the fluent, and none of the fluent is above it
 pub record Leads (there : Prioritised → Bool) (f : Fluent) (q : Prioritised) : Type 0 where
@@ -35,7 +37,7 @@ IsLeader there f (Some q) = Leads there f q
 -- who leads after one more event of the fluent: it, unless the leader stands against it
 abbrev pub leader_after : Option Prioritised → Prioritised → Prioritised
 leader_after None p = p
-leader_after (Some q) p = cond (beats q.event.on p.prio q.prio) p q
+leader_after (Some q) p = if beats q.event.on p.prio q.prio then p else q
 
 -- whether the leader is the event
 abbrev pub led : Option Prioritised → Event → Bool

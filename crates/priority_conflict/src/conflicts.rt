@@ -24,8 +24,8 @@ fn blocks(o: Prioritised, converse: Event, p: Prioritised) -> bool
     o.event.cmp(&converse).is_eq() && beats(p.event.on, o.prio.get(), p.prio.get())
 }
 
-/// Whether the event, at its priority, is blocked in the set: an on event by its converse at its own priority or a higher
-/// one, an off event by its converse at a higher one. It takes no memory.
+/// Whether the event, at its priority, is blocked in the set: an on event by its converse at its
+/// own priority or a higher one, an off event by its converse at a higher one. It takes no memory.
 pub fn blocked(x: &Happened, p: Prioritised) -> bool
     ensures { result ≡ is_blocked x.now.set p }
 {
@@ -37,7 +37,8 @@ pub fn blocked(x: &Happened, p: Prioritised) -> bool
 pub fn next_status(s: &mut Status, won: &EventSet)
     requires room { length (members won.now.set) ≤ s.old.spare }
     requires apart { IsApart won.now.set }
-    ensures status { (f : Fluent) → has s.new.set f ≡ turned_by (has won.now.set) (has s.old.set) f }
+    ensures status { (f : Fluent) → has s.new.set f
+        ≡ turned_by (has won.now.set) (has s.old.set) f }
     ensures spare { s.old.spare ≤ s.new.spare + length (members won.now.set) }
 {
     for e in won.as_slice() {
@@ -68,7 +69,8 @@ fn greatest_free(x: &Happened, e: Event, below: u8) -> Option<Prio>
     None
 }
 
-/// The greatest priority below a number at which the event stands in the set, blocked or not. It takes no memory.
+/// The greatest priority below a number at which the event stands in the set, blocked or not. It
+/// takes no memory.
 pub fn greatest(x: &Happened, e: Event, below: u8) -> Option<Prio>
     requires { below ≤ 101 }
     ensures { result ≡ greatest_below (stands_at x.now.set e) below }
@@ -84,8 +86,8 @@ pub fn greatest(x: &Happened, e: Event, below: u8) -> Option<Prio>
     None
 }
 
-/// The greatest priority below a number at which the event stands in the set unblocked, else the greatest at which it stands there blocked,
-/// else that it is absent. It takes no memory.
+/// The greatest priority below a number at which the event stands in the set unblocked, else the
+/// greatest at which it stands there blocked, else that it is absent. It takes no memory.
 pub fn seen(x: &Happened, e: Event) -> Seen
     ensures { result ≡ seen_in x.now.set e }
 {

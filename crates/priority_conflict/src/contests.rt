@@ -1,4 +1,5 @@
-//! A set of an instant with the leader of each fluent, so that a winner is known at once while the set grows.
+//! A set of an instant with the leader of each fluent, so that a winner is known at once while the
+//! set grows.
 ghost use Rattle.std.specs.Prelude.{◌≡◌, IfOk, OnOk, OnErr};
 ghost use Rattle.gt_base.specs.Sets.{has, with_member};
 ghost use Rattle.gtrbac_model.specs.Conflict.{won, after};
@@ -31,7 +32,8 @@ impl Model for Contest {
 
     ghost view = { λ c. c.set.set };
 
-    ghost invariant = { λ c. (f : Fluent) → IsLeader (has c.set.set.events) f (get fluent_eq c.leaders f) };
+    ghost invariant = { λ c. (f : Fluent)
+        → IsLeader (has c.set.set.events) f (get fluent_eq c.leaders f) };
 }
 
 impl Contest {
@@ -51,14 +53,16 @@ impl Contest {
         &self.set
     }
 
-    /// Whether the event stands in the set at some priority at which it is not blocked. It takes no memory.
+    /// Whether the event stands in the set at some priority at which it is not blocked. It takes no
+    /// memory.
     pub fn is_won(&self, e: Event) -> bool
         ensures { result ≡ won self.now e }
     {
         leads(self.leaders.get(&e.fluent).copied(), e)
     }
 
-    /// Whether the fluent is on in the status after the set, given the status before it. It takes no memory.
+    /// Whether the fluent is on in the status after the set, given the status before it. It takes
+    /// no memory.
     pub fn is_on_after(&self, f: Fluent, before: &Status) -> bool
         ensures { result ≡ after self.now (has before.now.set) f }
     {

@@ -29,7 +29,8 @@ pub(crate) fn leaders(
     alloc: Global,
     events: &[Prioritised],
 ) -> Result<IndexMap<Fluent, Prioritised>, Memory>
-    ensures { IfOk result (λ m. (f : Fluent) → IsLeader (lists same_prioritised events.now) f (get fluent_eq m f)) }
+    ensures { IfOk result (λ m. (f : Fluent) → IsLeader (lists same_prioritised events.now) f
+        (get fluent_eq m f)) }
 {
     let mut leaders = IndexMap::new(alloc);
     for p in events {
@@ -43,7 +44,10 @@ pub(crate) fn note(
     leaders: &mut IndexMap<Fluent, Prioritised>,
     p: &Prioritised,
 ) -> Result<(), Memory>
-    ensures ok { OnOk result ((f : Fluent) → get fluent_eq leaders.new f ≡ cond (fluent_eq p.now.event.fluent f) (Some (leader_after (get fluent_eq leaders.old p.now.event.fluent) p.now)) (get fluent_eq leaders.old f)) }
+    ensures ok { OnOk result ((f : Fluent) → get fluent_eq leaders.new f
+        ≡ cond (fluent_eq p.now.event.fluent f)
+        (Some (leader_after (get fluent_eq leaders.old p.now.event.fluent) p.now))
+        (get fluent_eq leaders.old f)) }
     ensures err { OnErr result (IsUnchanged leaders.old leaders.new) }
 {
     let leader = leading(leaders.get(&p.event.fluent).copied(), *p);

@@ -1,4 +1,5 @@
-//! Conflict within the set of an instant: which events are blocked, which win, what is seen of an event, and the status after them.
+//! Conflict within the set of an instant: which events are blocked, which win, what is seen of an
+//! event, and the status after them.
 #![tactic(auto)]
 
 mod conflicts;

@@ -1,4 +1,5 @@
-//! Lines of scripts and of connections, read over a policy, and the texts of replies and of the log.
+//! Lines of scripts and of connections, read over a policy, and the texts of replies and of the
+//! log.
 #![tactic(auto)]
 
 mod asked;

@@ -22,10 +22,12 @@ pub record HasSignal (rules : List TriggerView) (s : Signal) (n : ℕ) : Type 0 
   pub has : Stands rule.signals s
 
 abbrev pub EventsAreIndexed : Type 0
-EventsAreIndexed = (rules : List TriggerView) (e : Event) (n : ℕ) → Stands (with_event rules e) n ↔ HasEvent rules e n
+EventsAreIndexed = (rules : List TriggerView) (e : Event) (n : ℕ)
+    → Stands (with_event rules e) n ↔ HasEvent rules e n
 
 abbrev pub SignalsAreIndexed : Type 0
-SignalsAreIndexed = (rules : List TriggerView) (s : Signal) (n : ℕ) → Stands (with_signal rules s) n ↔ HasSignal rules s n
+SignalsAreIndexed = (rules : List TriggerView) (s : Signal) (n : ℕ)
+    → Stands (with_signal rules s) n ↔ HasSignal rules s n
 
 -- a number at a later place is greater
 abbrev pub Ascend : List ℕ → Type 0

@@ -3,7 +3,8 @@
 
 ghost use Rattle.rule_laws.specs.Indexes.{EventsAreIndexed, SignalsAreIndexed, IndexesAscend};
 
-/// A trigger's number is listed under an event or a signal exactly where its body has it, and the numbers ascend.
+/// A trigger's number is listed under an event or a signal exactly where its body has it, and the
+/// numbers ascend.
 pub fn indexes_tell()
     ensures events { EventsAreIndexed }
     ensures signals { SignalsAreIndexed }

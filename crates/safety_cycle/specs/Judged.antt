@@ -5,7 +5,8 @@ use Rattle.gtrbac_model.specs.Cycles.{HasNoCycle, IsLeastCycle, AreLevels}
 use Rattle.safety_cycle.specs.declared.strata.Verdict.{Verdict}
 use Rattle.safety_cycle.specs.declared.strata.Verdict.TheVariants.{Cycle, Memory}
 
--- each node has its level: levels do not fall along an edge and rise along a marked one, so no cycle has a marked edge
+-- each node has its level: levels do not fall along an edge and rise along a marked one, so no
+-- cycle has a marked edge
 pub record IsStratified (g : Net) (levels : List ℕ) : Type 0 where
   pub size : length levels ≡ g.nodes
   pub climbs : AreLevels (arcs_of g.edges) (is_marked g.edges) (slice_index levels)

@@ -5,13 +5,15 @@ use Rattle.least_walk.specs.declared.graphs.GraphEdge.{GraphEdge}
 
 -- ranks fall along no edge
 abbrev pub NeverFall : List GraphEdge → List ℕ → Type 0
-NeverFall edges ranks = (n : ℕ) (e : GraphEdge) → item_at edges n ≡ Some e → slice_index ranks e.from ≤ slice_index ranks e.to
+NeverFall edges ranks = (n : ℕ) (e : GraphEdge) → item_at edges n ≡ Some e
+    → slice_index ranks e.from ≤ slice_index ranks e.to
 
 -- and rise along the marked ones of the first n edges
 pub record AreRanks (nodes : ℕ) (edges : List GraphEdge) (ranks : List ℕ) (n : ℕ) : Type 0 where
   pub size : length ranks ≡ nodes
   pub never_fall : NeverFall edges ranks
-  pub rise : (m : ℕ) (e : GraphEdge) → m < n → item_at edges m ≡ Some e → e.marked ≡ true → slice_index ranks e.from < slice_index ranks e.to
+  pub rise : (m : ℕ) (e : GraphEdge) → m < n → item_at edges m ≡ Some e → e.marked ≡ true
+      → slice_index ranks e.from < slice_index ranks e.to
   pub bound : (v : ℕ) → slice_index ranks v + length edges ≤ 4_294_967_295 + n
 
 -- the edge of this number is marked, and its ends have one rank

@@ -1,4 +1,5 @@
-//! A guess at levels, by the components of the graph. Nothing is promised of the levels themselves: the judge looks at them.
+//! A guess at levels, by the components of the graph. Nothing is promised of the levels themselves:
+//! the judge looks at them.
 ghost use Rattle.std.specs.Prelude.{◌≡◌, ◌≤◌, length, replicate, IfOk};
 
 use least_walk::{Graph, GraphEdge};
@@ -7,7 +8,8 @@ use std::alloc::{AllocError, Global};
 /// Stands for no edge, and for no component.
 const NONE: u32 = u32::MAX;
 
-/// For each node the first of its edges, and for each edge its other end and the next edge of its node.
+/// For each node the first of its edges, and for each edge its other end and the next edge of its
+/// node.
 #[derive(Drop)]
 struct Links {
     first: Vec<u32>,
@@ -91,7 +93,8 @@ fn linked(
     Ok(Links { first, next, ends })
 }
 
-/// Marks what the root leads to and was not marked before, and adds it to the order, each node when all its edges are done.
+/// Marks what the root leads to and was not marked before, and adds it to the order, each node when
+/// all its edges are done.
 fn visit(
     alloc: Global,
     root: u32,

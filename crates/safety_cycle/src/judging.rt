@@ -59,8 +59,9 @@ fn never_fall(edges: &[GraphEdge], ranks: &[u32]) -> bool
     true
 }
 
-/// Looks at an edge. Where it is marked and its ends have one rank, the least walk from its end to its begin closes a cycle; where there is
-/// none, the nodes of that rank from which no walk leads to its begin go up by one, and all above them.
+/// Looks at an edge. Where it is marked and its ends have one rank, the least walk from its end to
+/// its begin closes a cycle; where there is none, the nodes of that rank from which no walk leads
+/// to its begin go up by one, and all above them.
 fn look(alloc: Global, g: &Graph, ranks: &mut [u32], n: u32) -> Result<(), Verdict>
     requires ranks { AreRanks g.now.nodes g.now.edges ranks.old n }
     requires edge { n < length g.now.edges }
@@ -112,7 +113,8 @@ fn closed(alloc: Global, n: u32, walk: &EdgeList) -> Result<EdgeList, AllocError
 fn lift(ranks: &mut [u32], reach: &[bool], rank: u32)
     requires size { length reach.now ≡ length ranks.old }
     requires room { (v : ℕ) → slice_index ranks.old v < 4_294_967_295 }
-    ensures { (v : ℕ) → v < length ranks.old → slice_index ranks.new v ≡ lifted rank (slice_index ranks.old v) (is_goal reach.now v) }
+    ensures { (v : ℕ) → v < length ranks.old
+        → slice_index ranks.new v ≡ lifted rank (slice_index ranks.old v) (is_goal reach.now v) }
 {
     for v in 0..ranks.len() {
         if ranks[v] > rank || ranks[v] == rank && !reach[v] {

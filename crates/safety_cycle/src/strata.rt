@@ -37,7 +37,8 @@ impl Strata {
 /// Why there are no levels.
 #[derive(Drop)]
 pub enum Verdict {
-    /// The least marked edge that lies on a cycle, followed by the least walk from its end back to its begin.
+    /// The least marked edge that lies on a cycle, followed by the least walk from its end back to
+    /// its begin.
     Cycle { edges: EdgeList },
     /// Want of memory.
     Memory,

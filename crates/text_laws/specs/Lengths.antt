@@ -9,7 +9,8 @@ use Rattle.policy_words.specs.Spelling.{SpellsPeriod}
 
 -- at most four more parts, with a space on each side of the sign before each, and a length
 abbrev pub PrintedStayShort : Type 0
-PrintedStayShort = (text : List ℕ) (e : Expr) → read_expr text ≡ Ok e → length (expr_text e) ≤ length text + 20
+PrintedStayShort = (text : List ℕ) (e : Expr) → read_expr text ≡ Ok e
+    → length (expr_text e) ≤ length text + 20
 
 -- besides, an instant in place of each `*`
 abbrev pub PeriodsStayShort : Type 0
@@ -22,4 +23,5 @@ is_period_line (period n first last e) = true
 is_period_line _ = false
 
 abbrev pub OthersAreShort : Type 0
-OthersAreShort = (said : SaidView) → is_saying said ≡ true → is_period_line said ≡ false → length (spaced (said_words said)) ≤ 2_000
+OthersAreShort = (said : SaidView) → is_saying said ≡ true → is_period_line said ≡ false
+    → length (spaced (said_words said)) ≤ 2_000

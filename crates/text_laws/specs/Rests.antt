@@ -6,8 +6,8 @@ use Rattle.gt_text.specs.Words.{is_blank, blank_cut}
 use Rattle.policy_words.specs.Rests.{trimmed, rest_after}
 use Rattle.policy_words.specs.Reading.{expr_of_line}
 
--- the text is a front, the rest, and blanks: the front has the first n words and the rest has the others, and the rest neither
--- begins nor ends with a blank
+-- the text is a front, the rest, and blanks: the front has the first n words and the rest has the
+-- others, and the rest neither begins nor ends with a blank
 pub record IsRestAfter (n : ℕ) (text rest : List ℕ) : Type 0 where
   pub front : List ℕ
   pub blanks : List ℕ

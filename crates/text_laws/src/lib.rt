@@ -1,5 +1,5 @@
-//! What holds of the texts of policies: what their lines say one after the other, where the expression of a period line stands, and
-//! how long the lines are that are written.
+//! What holds of the texts of policies: what their lines say one after the other, where the
+//! expression of a period line stands, and how long the lines are that are written.
 #![tactic(auto)]
 
 mod laws;

@@ -1,5 +1,5 @@
 -- The numbers of the triggers that have an item in their bodies.
-use Rattle.std.specs.Prelude.{ℕ, ◌+◌, Bool, false, cond, nat_eq, List, [], ◌∷◌, ◌++◌, Option, Some, None}
+use Rattle.std.specs.Prelude.{ℕ, ◌+◌, Bool, false, nat_eq, List, [], ◌∷◌, ◌++◌, Option, Some, None, if◌then◌else◌}
 use Rattle.gt_base.specs.declared.events.Event.{Event}
 use Rattle.gt_base.specs.declared.events.Signal.{Signal}
 use Rattle.gt_base.specs.Held.{TriggerView}
@@ -10,7 +10,7 @@ use Rattle.gtrbac_model.specs.Same.{lists, same_event, same_signal}
 -- the numbers, ascending from n, of the triggers that pass
 abbrev pub numbers : (TriggerView → Bool) → ℕ → List TriggerView → List ℕ
 numbers p n [] = []
-numbers p n (r ∷ rs) = cond (p r) (n ∷ numbers p (n + 1) rs) (numbers p (n + 1) rs)
+numbers p n (r ∷ rs) = if p r then n ∷ numbers p (n + 1) rs else numbers p (n + 1) rs
 
 abbrev pub has_event : Event → TriggerView → Bool
 has_event e r = lists same_event r.events e
@@ -46,4 +46,4 @@ ends_in n (m ∷ k ∷ ks) = ends_in n (k ∷ ks)
 
 -- with the number at its end
 abbrev pub ended_by : ℕ → List ℕ → List ℕ
-ended_by n ks = cond (ends_in n ks) ks (ks ++ n ∷ [])
+ended_by n ks = if ends_in n ks then ks else ks ++ n ∷ []

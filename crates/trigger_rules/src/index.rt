@@ -17,7 +17,8 @@ pub(crate) fn event_index(
     triggers: &[Trigger],
 ) -> Result<IndexMap<Event, Vec<u32>>, Memory>
     requires { length triggers.now ≤ 4_000 }
-    ensures { IfOk result (λ m. (e : Event) → under (get event_eq m e) (λ v. v.items) ≡ with_event triggers.now e) }
+    ensures { IfOk result (λ m. (e : Event) → under (get event_eq m e) (λ v. v.items)
+        ≡ with_event triggers.now e) }
 {
     let mut index = IndexMap::new(alloc);
     for n in 0..triggers.len() {
@@ -33,7 +34,8 @@ pub(crate) fn signal_index(
     triggers: &[Trigger],
 ) -> Result<IndexMap<Signal, Vec<u32>>, Memory>
     requires { length triggers.now ≤ 4_000 }
-    ensures { IfOk result (λ m. (s : Signal) → under (get signal_eq m s) (λ v. v.items) ≡ with_signal triggers.now s) }
+    ensures { IfOk result (λ m. (s : Signal) → under (get signal_eq m s) (λ v. v.items)
+        ≡ with_signal triggers.now s) }
 {
     let mut index = IndexMap::new(alloc);
     for n in 0..triggers.len() {
@@ -51,7 +53,9 @@ fn add_number<K: Eq + Hash + Copy + Drop>(
     keys: &[K],
 ) -> Result<(), Memory>
     requires { (k : K) → ends_in_number n (under (get K.eq index.old k) (λ v. v.items)) ≡ false }
-    ensures { OnOk result ((k : K) → under (get K.eq index.new k) (λ v. v.items) ≡ under (get K.eq index.old k) (λ v. v.items) ++ cond (list_any (K.eq k) keys.now) (n ∷ []) []) }
+    ensures { OnOk result ((k : K) → under (get K.eq index.new k) (λ v. v.items)
+        ≡ under (get K.eq index.old k) (λ v. v.items)
+        ++ cond (list_any (K.eq k) keys.now) (n ∷ []) []) }
 {
     for key in keys {
         end_by(alloc, index, n, *key)?;
@@ -66,7 +70,9 @@ fn end_by<K: Eq + Hash + Copy + Drop>(
     n: u32,
     key: K,
 ) -> Result<(), Memory>
-    ensures { OnOk result ((k : K) → under (get K.eq index.new k) (λ v. v.items) ≡ cond (K.eq key k) (ended_by n (under (get K.eq index.old key) (λ v. v.items))) (under (get K.eq index.old k) (λ v. v.items))) }
+    ensures { OnOk result ((k : K) → under (get K.eq index.new k) (λ v. v.items)
+        ≡ cond (K.eq key k) (ended_by n (under (get K.eq index.old key) (λ v. v.items)))
+        (under (get K.eq index.old k) (λ v. v.items))) }
 {
     push_once(index.entry(key)?.or_insert(Vec::new(alloc)), n)
 }

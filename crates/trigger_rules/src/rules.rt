@@ -108,20 +108,23 @@ fn copied(alloc: Global, triggers: &List<Trigger>) -> Result<List<Trigger>, Memo
     Ok(copy)
 }
 
-/// Whether the body of the trigger of this number is met at the instant: each of its events is among the winners, each of its
-/// signals is there, each of its conditions held before the instant, and each of its settled conditions holds after it. It takes no
-/// memory.
+/// Whether the body of the trigger of this number is met at the instant: each of its events is
+/// among the winners, each of its signals is there, each of its conditions held before the instant,
+/// and each of its settled conditions holds after it. It takes no memory.
 pub fn met(r: &Rules, n: u32, won: &EventSet, x: &Happened, before: &Status) -> bool
     requires trigger { n < length r.now }
     requires won { (e : Event) → has won.now.set e ≡ is_won x.now.set e }
-    ensures { (t : TriggerView) → item_at r.now n ≡ Some t → result ≡ is_met t x.now.set (has before.now.set) }
+    ensures { (t : TriggerView) → item_at r.now n ≡ Some t
+        → result ≡ is_met t x.now.set (has before.now.set) }
 {
     body_met(&r.triggers.as_slice()[n as usize], won, x, before)
 }
 
 /// Whether the body is met, by the winners.
 fn body_met(t: &Trigger, won: &EventSet, x: &Happened, before: &Status) -> bool
-    ensures { result ≡ (list_all (has won.now.set) t.now.events && list_all (has x.now.set.signals) t.now.signals && list_all (holds_in (has before.now.set)) t.now.conds
+    ensures { result ≡ (list_all (has won.now.set) t.now.events
+        && list_all (has x.now.set.signals) t.now.signals
+        && list_all (holds_in (has before.now.set)) t.now.conds
         && list_all (holds_in (turned_by (has won.now.set) (has before.now.set))) t.now.settled) }
 {
     if !all_won(t.events.as_slice(), won) {
@@ -133,7 +136,8 @@ fn body_met(t: &Trigger, won: &EventSet, x: &Happened, before: &Status) -> bool
     all_held(t.conds.as_slice(), before) && all_turned(t.settled.as_slice(), won, before)
 }
 
-/// Whether the body of the trigger is met in the set, as `met` says it of a kept trigger. It takes no memory.
+/// Whether the body of the trigger is met in the set, as `met` says it of a kept trigger. It takes
+/// no memory.
 pub fn met_in(t: &Trigger, x: &Contest, before: &Status) -> bool
     ensures { result ≡ is_met t.now x.now (has before.now.set) }
 {
@@ -176,7 +180,8 @@ fn all_held(conds: &[Cond], before: &Status) -> bool
 
 /// Whether each of the conditions holds after the winners.
 fn all_turned(conds: &[Cond], won: &EventSet, before: &Status) -> bool
-    ensures { result ≡ list_all (holds_in (turned_by (has won.now.set) (has before.now.set))) conds.now }
+    ensures { result ≡ list_all (holds_in (turned_by (has won.now.set) (has before.now.set)))
+        conds.now }
 {
     conds
         .iter()

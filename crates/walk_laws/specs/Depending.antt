@@ -13,9 +13,11 @@ use Rattle.gtrbac_model.specs.Trigger.{immediate}
 pub record IsFromBody (r : TriggerView) (d : Dependency) : Type 0 where
   pub event : Event
   pub stands : item_at r.events d.place ≡ Some event
-  pub source : ((d.conflict ≡ false) × (d.source ≡ event)) ⊎ ((d.conflict ≡ true) × (d.source ≡ converse event))
+  pub source : ((d.conflict ≡ false) × (d.source ≡ event))
+      ⊎ ((d.conflict ≡ true) × (d.source ≡ converse event))
 
--- in conflict from either event of a settled condition's fluent; settled conditions have the places after the body events
+-- in conflict from either event of a settled condition's fluent; settled conditions have the places
+-- after the body events
 pub record IsFromSettled (r : TriggerView) (d : Dependency) : Type 0 where
   pub cond : Cond
   pub number : ℕ
@@ -35,4 +37,5 @@ pub record IsDependency (triggers : List TriggerView) (d : Dependency) : Type 0 
 
 -- just these are there
 abbrev pub DependenciesTell : Type 0
-DependenciesTell = (triggers : List TriggerView) (d : Dependency) → ((n : ℕ) × (item_at (dependencies triggers) n ≡ Some d)) ↔ IsDependency triggers d
+DependenciesTell = (triggers : List TriggerView) (d : Dependency)
+    → ((n : ℕ) × (item_at (dependencies triggers) n ≡ Some d)) ↔ IsDependency triggers d

@@ -7,7 +7,8 @@ ghost use Rattle.gt_base.specs.Held.{TriggerView};
 ghost use Rattle.gtrbac_model.specs.Theorems.{CycleTells, SafeSettleOnce};
 ghost use Rattle.walk_laws.specs.Laws.{LeastWalkIsLeast, CycleIsLeast, SafeHasNoCycle, SafeIsLevelled, SafeHasOneModel, SafeHasOnlyModel, OneLeastWalk, OneLeastCycle, LevelsLeaveNoCycle};
 
-/// The walk that the definition computes is the least, and it computes none just where no walk leads from a start to a goal.
+/// The walk that the definition computes is the least, and it computes none just where no walk
+/// leads from a start to a goal.
 pub fn computed_walk_is_least()
     ensures numbers { LeastWalkIsLeast ℕ nat_eq }
     ensures roles { LeastWalkIsLeast RoleId same_role }
@@ -27,13 +28,15 @@ pub fn one_least_cycle()
     ensures events { OneLeastCycle Event }
 {}
 
-/// Levels that do not fall along an arc and rise along a marked one leave no closed walk with a marked arc.
+/// Levels that do not fall along an arc and rise along a marked one leave no closed walk with a
+/// marked arc.
 pub fn levels_leave_no_cycle()
     ensures numbers { LevelsLeaveNoCycle ℕ }
     ensures events { LevelsLeaveNoCycle Event }
 {}
 
-/// The cycle that the definition computes is the least with a conflict, and it computes none just where the triggers are safe.
+/// The cycle that the definition computes is the least with a conflict, and it computes none just
+/// where the triggers are safe.
 pub fn computed_cycle_is_least()
     ensures least { CycleIsLeast }
     ensures tells { (triggers : List TriggerView) → CycleTells triggers }
@@ -50,7 +53,8 @@ pub fn safe_settles_once()
     ensures { (triggers : List TriggerView) → SafeSettleOnce triggers }
 {}
 
-/// A policy with safe triggers has just one history and model for each birth and each list of moves.
+/// A policy with safe triggers has just one history and model for each birth and each list of
+/// moves.
 pub fn safe_has_one_model()
     ensures one { SafeHasOneModel }
     ensures only { SafeHasOnlyModel }
