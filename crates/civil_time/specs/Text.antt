@@ -1,5 +1,5 @@
 -- Civil minutes as texts.
-use Rattle.std.specs.Prelude.{◌≡◌, ℕ, ◌+◌, ◌-◌, ◌*◌, ◌/◌, ◌%◌, ◌<◌, ◌≤◌, true, false, ◌&&◌, List, [], ◌∷◌, ◌++◌, length, nat_le, nat_eq, bytes_eq, slice_index, Option, Some, None, if◌then◌else◌}
+use Rattle.std.specs.Prelude.{◌≡◌, ℕ, ◌+◌, ◌-◌, ◌*◌, ◌/◌, ◌%◌, ◌<◌, ◌≤◌, true, false, ◌&&◌, List, [], ◌∷◌, ◌++◌, length, nat_le, nat_eq, bytes_eq, slice_index, Option, Some, None}
 use Rattle.gt_base.specs.Bounds.{last_minute}
 use Rattle.gtrbac_model.specs.Calendar.{day_of_month}
 use Rattle.civil_time.specs.Minutes.{civil_at}
@@ -37,8 +37,9 @@ candidate text =
 -- the instant of a text, where it is the text of one
 abbrev pub civil_in : List ℕ → Option ℕ
 civil_in text =
-    if nat_eq (length text) 16 && nat_le (candidate text) last_minute
-    && bytes_eq (civil_text (candidate text)) text then Some (candidate text) else None
+    elim (nat_eq (length text) 16 && nat_le (candidate text) last_minute
+    && bytes_eq (civil_text (candidate text)) text)
+    [ true ↦ Some (candidate text) | false ↦ None ]
 
 -- its numbers have at most two digits, and its year four
 pub record IsPrintable (c : Civil) : Type 0 where

@@ -1,5 +1,5 @@
 -- From the numbered graph to the triggers.
-use Rattle.std.specs.Prelude.{◌≡◌, ℕ, suc, true, false, List, [], ◌∷◌, slice_index, Some, if◌then◌else◌}
+use Rattle.std.specs.Prelude.{◌≡◌, ℕ, suc, true, false, List, [], ◌∷◌, slice_index, Some}
 use Rattle.gt_base.specs.declared.events.Event.{Event}
 use Rattle.gt_base.specs.Held.{TriggerView}
 use Rattle.gtrbac_model.specs.Same.{same_event}
@@ -11,7 +11,7 @@ use Rattle.dependency_graph.specs.Nets.{EventNet, IsGraphOf}
 -- the place of an event among events, or their number
 abbrev pub place_of : List Event → Event → ℕ
 place_of [] e = 0
-place_of (x ∷ xs) e = if same_event e x then 0 else suc (place_of xs e)
+place_of (x ∷ xs) e = elim (same_event e x) [ true ↦ 0 | false ↦ suc (place_of xs e) ]
 
 -- the level of an event, by that of its node
 abbrev pub level_in : List Event → List ℕ → Event → ℕ

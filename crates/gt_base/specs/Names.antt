@@ -19,7 +19,7 @@ is_name (b ∷ bs) = is_letter b && list_all is_name_byte bs && nat_lt (length b
 
 -- the name that a word is
 abbrev pub name_in : List ℕ → Option (List ℕ)
-name_in word = if is_name word then Some word else None
+name_in word = elim (is_name word) [ true ↦ Some word | false ↦ None ]
 
 -- what digits count
 abbrev pub counted : ℕ → List ℕ → ℕ
@@ -34,15 +34,15 @@ is_number (b ∷ c ∷ bs) = is_digit b && nat_lt 48 b && list_all is_digit (c �
 
 -- the number that a word is; for each number below 2 ^ 64 its word is `decimal`
 abbrev pub number_in : List ℕ → Option ℕ
-number_in word = if is_number word then Some (counted 0 word) else None
+number_in word = elim (is_number word) [ true ↦ Some (counted 0 word) | false ↦ None ]
 
 -- a number within these bounds
 abbrev pub number_from : ℕ → ℕ → List ℕ → Option ℕ
 number_from least most word =
     elim (number_in word) [
       | None ↦ None
-      | Some n ↦ if nat_le least n && nat_le n most then Some n
-          else None
+      | Some n ↦ elim (nat_le least n && nat_le n most)
+          [ true ↦ Some n | false ↦ None ]
     ]
 
 -- the place of a name among names

@@ -179,9 +179,11 @@ limited = record {
 }
 
 abbrev pub busy_model : Model
-busy_model t = if inside busy t then if nat_le 13_681_929 t
-    then events (at 60 (on 0) ∷ at 40 (off 0) ∷ []) else events (at 60 (on 0) ∷ [])
-    else if nat_eq t 13_681_940 then events (at 40 (off 0) ∷ []) else nothing
+busy_model t = elim (inside busy t) [
+  | true ↦ elim (nat_le 13_681_929 t)
+      [ true ↦ events (at 60 (on 0) ∷ at 40 (off 0) ∷ []) | false ↦ events (at 60 (on 0) ∷ []) ]
+  | false ↦ elim (nat_eq t 13_681_940) [ true ↦ events (at 40 (off 0) ∷ []) | false ↦ nothing ]
+]
 
 -- the day after, past a tick of 958 minutes that stirs nothing
 abbrev pub next_day : List Entry

@@ -1,5 +1,5 @@
 -- The events that are on their way to a later instant, and stretches in which nothing happens.
-use Rattle.std.specs.Prelude.{◌≡◌, ℕ, ◌+◌, ◌-◌, ◌<◌, ◌≤◌, true, false, nat_eq, nat_le, nat_lt, ◌&&◌, List, [], ◌∷◌, ◌++◌, flat_map, if◌then◌else◌}
+use Rattle.std.specs.Prelude.{◌≡◌, ℕ, ◌+◌, ◌-◌, ◌<◌, ◌≤◌, true, false, nat_eq, nat_le, nat_lt, ◌&&◌, List, [], ◌∷◌, ◌++◌, flat_map}
 use Rattle.gt_base.specs.Held.{TriggerView}
 use Rattle.gt_base.specs.Happening.{nothing}
 use Rattle.gt_base.specs.Machines.{asked}
@@ -68,6 +68,7 @@ HeadsAfterTick =
     (p : Policy) (birth : ℕ) (m : Model) (now to t : ℕ) (r : TriggerView) → has_cause r ≡ true
     → birth ≤ now → now < to → NothingBetween m now to
     → known_head p birth m to t r
-    ≡ (if nat_lt 0 r.delay && nat_eq (t - r.delay) to
-    then when (met r (m to) (status p birth m (to - 1))) r.head
-    else known_head p birth m now t r)
+    ≡ elim (nat_lt 0 r.delay && nat_eq (t - r.delay) to) [
+      | true ↦ when (met r (m to) (status p birth m (to - 1))) r.head
+      | false ↦ known_head p birth m now t r
+    ]

@@ -76,8 +76,8 @@ abbrev pub trouble_in : Names → Tallied → SaidView → Option Trouble
 trouble_in ns t s =
     elim (is_known ns s) [
       | false ↦ Some Unknown
-      | true ↦ if not (may_be_again s) && is_claimed t s then Some Twice
-          else full_kind t s (kind_of s)
+      | true ↦ elim (not (may_be_again s) && is_claimed t s)
+          [ true ↦ Some Twice | false ↦ full_kind t s (kind_of s) ]
     ]
 
 abbrev pub with_count : Option Kind → Counts → Counts

@@ -49,7 +49,7 @@ module _ (ns : Names) where
 
   -- its line, if it is of the sort
   abbrev pub opening_text : (Fluent → Bool) → Fluent → List ℕ
-  opening_text of_sort f = if of_sort f then line_text (opening_line f) else []
+  opening_text of_sort f = elim (of_sort f) [ true ↦ line_text (opening_line f) | false ↦ [] ]
 
   abbrev pub entry_line : PeriodicEntry → SaidView
   entry_line e = entry e.form (period_name ns e.period) (head_named ns e.head)

@@ -186,8 +186,8 @@ abbrev pub line_trouble : Names → List SaidView → Numbered SaidView → Opti
 line_trouble ns before s =
     elim (is_known ns s.it) [
       | false ↦ Some (unknown s.line)
-      | true ↦ if is_twice before s.it then Some (twice s.line)
-          else many_at s.line (many_of before s.it)
+      | true ↦ elim (is_twice before s.it)
+          [ true ↦ Some (twice s.line) | false ↦ many_at s.line (many_of before s.it) ]
     ]
 
 abbrev pub first_trouble : Names → List SaidView → List (Numbered SaidView) → Option BookTrouble

@@ -1,5 +1,5 @@
 -- What a line of a policy says, or its fault, by reading its words.
-use Rattle.std.specs.Prelude.{ℕ, zero, suc, ◌+◌, Bool, true, false, ◌&&◌, List, [], ◌∷◌, length, codes, bytes_eq, nat_lt, Option, Some, None, Result, Ok, Err, if◌then◌else◌}
+use Rattle.std.specs.Prelude.{ℕ, zero, suc, ◌+◌, Bool, true, false, ◌&&◌, List, [], ◌∷◌, length, codes, bytes_eq, nat_lt, Option, Some, None, Result, Ok, Err}
 use Rattle.gt_base.specs.Bounds.{last_minute}
 use Rattle.gt_base.specs.Names.{name_in, number_from}
 use Rattle.gt_base.specs.declared.policies.Form.{Form}
@@ -29,7 +29,7 @@ formed (Some s) = Ok s
 -- version 1 has no form that names an edge
 abbrev pub formed_in : Bool → Option SaidView → Result SaidView TextKind
 formed_in edges None = Err faults.Form
-formed_in edges (Some s) = if is_allowed edges s then Ok s else Err faults.Form
+formed_in edges (Some s) = elim (is_allowed edges s) [ true ↦ Ok s | false ↦ Err faults.Form ]
 
 abbrev pub one_name : (List ℕ → SaidView) → List (List ℕ) → Option SaidView
 one_name build [] = None
@@ -38,10 +38,10 @@ one_name build (w ∷ ws) = do
   at_end (build n) ws
 
 abbrev pub first_in : List ℕ → Option ℕ
-first_in w = if bytes_eq w (codes "*") then Some 0 else civil_in w
+first_in w = elim (bytes_eq w (codes "*")) [ true ↦ Some 0 | false ↦ civil_in w ]
 
 abbrev pub last_in : List ℕ → Option ℕ
-last_in w = if bytes_eq w (codes "*") then Some last_minute else civil_in w
+last_in w = elim (bytes_eq w (codes "*")) [ true ↦ Some last_minute | false ↦ civil_in w ]
 
 -- the words of a period before its expression
 pub record Bounds : Type 0 where
@@ -68,19 +68,19 @@ expr_of_line line = trimmed (rest_after 4 (without_return line))
 -- the words before the expression, then the bounds, then the expression
 abbrev pub period_by : List ℕ → Option Bounds → Result SaidView TextKind
 period_by line None = Err faults.Form
-period_by line (Some b) = if nat_lt b.last b.first then Err faults.Bounds
-    else with_expr b (read_expr (expr_of_line line))
+period_by line (Some b) = elim (nat_lt b.last b.first)
+    [ true ↦ Err faults.Bounds | false ↦ with_expr b (read_expr (expr_of_line line)) ]
 
 abbrev pub during_in : List (List ℕ) → Option (Option (List ℕ))
 during_in [] = Some None
-during_in (w ∷ p ∷ []) = if bytes_eq w (codes "during") then do n ← name_in p; Some (Some n)
-    else None
+during_in (w ∷ p ∷ []) = elim (bytes_eq w (codes "during"))
+    [ true ↦ (do n ← name_in p; Some (Some n)) | false ↦ None ]
 during_in _ = None
 
 -- `max MOST`, and the rest
 abbrev pub most_at : Read ℕ
-most_at (w ∷ n ∷ ws) = if bytes_eq w (codes "max")
-    then do m ← number_from 1 1_000_000 n; Some (m, ws) else None
+most_at (w ∷ n ∷ ws) = elim (bytes_eq w (codes "max"))
+    [ true ↦ (do m ← number_from 1 1_000_000 n; Some (m, ws)) | false ↦ None ]
 most_at _ = None
 
 abbrev pub limit_in : List (List ℕ) → Option SaidView
@@ -95,7 +95,8 @@ limit_in _ = None
 
 abbrev pub spelled_so : {A : Type 0} → (A → List ℕ) → List A → List ℕ → Option A
 spelled_so spell [] w = None
-spelled_so spell (a ∷ more) w = if bytes_eq (spell a) w then Some a else spelled_so spell more w
+spelled_so spell (a ∷ more) w = elim (bytes_eq (spell a) w)
+    [ true ↦ Some a | false ↦ spelled_so spell more w ]
 
 abbrev pub edge_in : List (List ℕ) → Option SaidView
 edge_in (k ∷ st ∷ s ∷ j ∷ []) = do
@@ -140,7 +141,7 @@ items_at (suc k) ws = do
     | w ∷ more ↦
         elim (bytes_eq w (codes "and")) [
           | true ↦ (do rest ← items_at k more; Some (i.0 ∷ rest.0, rest.1))
-          | false ↦ if bytes_eq w (codes "then") then Some (i.0 ∷ [], more) else None
+          | false ↦ elim (bytes_eq w (codes "then")) [ true ↦ Some (i.0 ∷ [], more) | false ↦ None ]
         ]
   ]
 
@@ -152,16 +153,18 @@ trigger_in ws = do
   Some (trigger items.0 h.0 d)
 
 abbrev pub with_body : SaidView → Result SaidView TextKind
-with_body (trigger items h d) = if is_body items then Ok (trigger items h d) else Err faults.Body
+with_body (trigger items h d) = elim (is_body items)
+    [ true ↦ Ok (trigger items h d) | false ↦ Err faults.Body ]
 with_body s = Ok s
 
 abbrev pub trigger_by : Bool → Option SaidView → Result SaidView TextKind
 trigger_by edges None = Err faults.Form
-trigger_by edges (Some s) = if is_allowed edges s then with_body s else Err faults.Form
+trigger_by edges (Some s) = elim (is_allowed edges s)
+    [ true ↦ with_body s | false ↦ Err faults.Form ]
 
 abbrev pub version_in : List (List ℕ) → Option ℕ
-version_in (w ∷ []) = if bytes_eq w (codes "1") then Some 1 else if bytes_eq w (codes "2")
-    then Some 2 else None
+version_in (w ∷ []) = elim (bytes_eq w (codes "1"))
+    [ true ↦ Some 1 | false ↦ elim (bytes_eq w (codes "2")) [ true ↦ Some 2 | false ↦ None ] ]
 version_in _ = None
 
 -- a version stands before all lines that are not silent
@@ -186,8 +189,11 @@ verbs v line =
     ∷ (codes "assigned", λ ws. Some (formed (opening_by (cond_at (codes "assigned" ∷ ws)))))
     ∷ (codes "granted", λ ws. Some (formed (opening_by (cond_at (codes "granted" ∷ ws)))))
     ∷ (codes "armed", λ ws. Some (formed (opening_by (cond_at (codes "armed" ∷ ws)))))
-    ∷ (codes "linked", λ ws. Some (linked_by (has_edges v)
-        (opening_by (cond_at (codes "linked" ∷ ws)))))
+    ∷ (
+      codes "linked",
+      λ ws. Some (linked_by (has_edges v)
+          (opening_by (cond_at (codes "linked" ∷ ws)))),
+    )
     ∷ (codes "each", λ ws. Some (formed_in (has_edges v) (entry_in Each ws)))
     ∷ (codes "start", λ ws. Some (formed_in (has_edges v) (entry_in Start ws)))
     ∷ (codes "span", λ ws. Some (formed_in (has_edges v) (entry_in Span ws)))
@@ -211,8 +217,8 @@ abbrev pub read_said : TextVersion → List ℕ → Result (Option SaidView) Tex
 read_said v line =
     elim (is_longer 4096 line) [
       | true ↦ Err faults.Long
-      | false ↦ if are_silent (words_of line) then Ok None
-          else some_said (said_of v line (words_of line))
+      | false ↦ elim (are_silent (words_of line))
+          [ true ↦ Ok None | false ↦ some_said (said_of v line (words_of line)) ]
     ]
 
 -- the lines that say something, with their numbers; or the first fault, with the number of its line
@@ -233,7 +239,9 @@ read_lines v n (l ∷ ls) =
     elim (read_said v l) [
       | Err t ↦ Err (record { line = n; it = t })
       | Ok said ↦
-          elim said [ None ↦ read_lines v (n + 1) ls
-              | Some s ↦ and_then (record { line = n; it = s })
-              (read_lines (version_after v s) (n + 1) ls) ]
+          elim said [
+            | None ↦ read_lines v (n + 1) ls
+            | Some s ↦ and_then (record { line = n; it = s })
+                (read_lines (version_after v s) (n + 1) ls)
+          ]
     ]

@@ -37,8 +37,7 @@ module _ (p : Policy) where
   -- each edge leads on from where the one before it led
   abbrev pub Follows : RoleId → List ℕ → Type 0
   Follows a [] = Unit {0}
-  Follows a (n ∷ ns) = (e : HierEdge) × (slice_get p.edges n ≡ Some e) × (e.senior ≡ a)
-      × Follows e.junior ns
+  Follows a (n ∷ ns) = (e : HierEdge) × (slice_get p.edges n ≡ Some e) × (e.senior ≡ a) × Follows e.junior ns
 
   abbrev pub FollowsDecision : Decision → Type 0
   FollowsDecision (Permit w) = Follows w.start w.edges

@@ -1,5 +1,5 @@
 -- What a line of a script or of a connection says, by reading its words.
-use Rattle.std.specs.Prelude.{ℕ, Bool, true, false, ◌&&◌, List, [], ◌∷◌, ◌++◌, codes, decimal, bytes_eq, Option, Some, None, find, Result, Ok, Err, if◌then◌else◌}
+use Rattle.std.specs.Prelude.{ℕ, Bool, true, false, ◌&&◌, List, [], ◌∷◌, ◌++◌, codes, decimal, bytes_eq, Option, Some, None, find, Result, Ok, Err}
 use Rattle.gt_base.specs.Names.{name_in, number_from}
 use Rattle.gt_base.specs.declared.events.SessionId.{SessionId}
 use Rattle.gt_base.specs.declared.requests.Actor.{Actor}
@@ -62,8 +62,7 @@ verb_word verbs.Check = codes "check"
 
 abbrev pub all_verbs : List RequestVerb
 all_verbs =
-    verbs.Now ∷ verbs.Status ∷ verbs.Event ∷ verbs.Request ∷ verbs.Open ∷ verbs.Close
-    ∷ verbs.Activate ∷ verbs.Deactivate ∷ verbs.Active ∷ verbs.Check ∷ []
+    verbs.Now ∷ verbs.Status ∷ verbs.Event ∷ verbs.Request ∷ verbs.Open ∷ verbs.Close ∷ verbs.Activate ∷ verbs.Deactivate ∷ verbs.Active ∷ verbs.Check ∷ []
 
 abbrev pub verb_in : List ℕ → Option RequestVerb
 verb_in word = find (λ v. bytes_eq (verb_word v) word) all_verbs
@@ -109,8 +108,7 @@ of_session build ws = do
   s ← session_in ws
   Some (build s)
 
-abbrev pub of_session_name : (SessionId → List ℕ → NamedRequest) → List (List ℕ)
-    → Option NamedRequest
+abbrev pub of_session_name : (SessionId → List ℕ → NamedRequest) → List (List ℕ) → Option NamedRequest
 of_session_name build ws = do
   s ← session_name_in ws
   Some (build s.0 s.1)
@@ -139,7 +137,7 @@ named_actor w = do
 
 abbrev pub actor_in : List (List ℕ) → Option (Option (List ℕ))
 actor_in [] = None
-actor_in (w ∷ []) = if bytes_eq w (codes "-") then Some None else named_actor w
+actor_in (w ∷ []) = elim (bytes_eq w (codes "-")) [ true ↦ Some None | false ↦ named_actor w ]
 actor_in (w ∷ more ∷ ws) = None
 
 abbrev pub minute_in : List (List ℕ) → Option ℕ
@@ -164,8 +162,7 @@ abbrev pub phrase_by : Bool → List ℕ → List (List ℕ) → Option Phrase
 phrase_by script w ws =
     elim (script && bytes_eq w (codes "@")) [
       | true ↦ at_minute (minute_in ws)
-      | false ↦ if bytes_eq w (codes "as") then be_actor (actor_in ws)
-          else ask_request (request_in w ws)
+      | false ↦ elim (bytes_eq w (codes "as")) [ true ↦ be_actor (actor_in ws) | false ↦ ask_request (request_in w ws) ]
     ]
 
 abbrev pub phrase_in : Bool → List (List ℕ) → Option Phrase
@@ -230,6 +227,5 @@ module _ (np : NamedPolicy) where
   read_line opening script line =
       elim (is_longer 512 line) [
         | true ↦ Err faults.Long
-        | false ↦ if are_silent (words_of line) then Ok lines.Silent
-            else said opening (phrase_in script (words_of line))
+        | false ↦ elim (are_silent (words_of line)) [ true ↦ Ok lines.Silent | false ↦ said opening (phrase_in script (words_of line)) ]
       ]

@@ -27,8 +27,7 @@ module _ (p : Policy) where
 
   abbrev pub IsTellableStep : Step → Type 0
   IsTellableStep (Tick upto to) = (upto ≤ last_minute) × (to ≤ last_minute)
-  IsTellableStep (Ask actor request reply) = IsStranger actor × IsNamedWish p (ask Operator request)
-      × IsAnswer request reply × IsTellable p reply
+  IsTellableStep (Ask actor request reply) = IsStranger actor × IsNamedWish p (ask Operator request) × IsAnswer request reply × IsTellable p reply
 
   abbrev pub IsTellableEntry : Entry → Type 0
   IsTellableEntry e = IsSmallWho e.who × IsTellableStep e.what

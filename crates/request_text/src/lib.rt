@@ -1,5 +1,4 @@
-//! Lines of scripts and of connections, read over a policy, and the texts of replies and of the
-//! log.
+//! Lines of scripts and of connections, read over a policy, and the texts of replies and of the log.
 #![tactic(auto)]
 
 mod asked;

@@ -33,8 +33,7 @@ fn numbered(p: &Policy, request: NamedRequest) -> Option<Request>
     }
 }
 
-/// The actor of a name, the opening one where there is none; nobody is it exactly where the name is
-/// not declared.
+/// The actor of a name, the opening one where there is none; nobody is it exactly where the name is not declared.
 fn actor(p: &Policy, opening: Actor, user: Option<Name>) -> Option<Actor>
     ensures { result ≡ actor_of p.now opening user }
 {
@@ -82,8 +81,7 @@ fn asked(p: &Policy, request: Option<NamedRequest>) -> Result<Line, LineFault>
 
 /// The same of the words after `request`: its names are looked up where they were read.
 fn asked_raise(p: &Policy, words: Words<'_>) -> Result<Line, LineFault>
-    ensures { (opening : Actor) → result
-        ≡ said_by p.now opening (ask_request (raise_in words.entry)) }
+    ensures { (opening : Actor) → result ≡ said_by p.now opening (ask_request (raise_in words.entry)) }
 {
     let Some((head, delay)) = raise(words) else {
         return Err(LineFault::Syntax);
@@ -96,8 +94,7 @@ fn asked_raise(p: &Policy, words: Words<'_>) -> Result<Line, LineFault>
 
 /// What a first word and the words after it ask over a policy, or why they ask nothing.
 fn request_said(p: &Policy, word: &[u8], words: Words<'_>) -> Result<Line, LineFault>
-    ensures { (opening : Actor) → result
-        ≡ said_by p.now opening (ask_request (request_in word.now words.entry)) }
+    ensures { (opening : Actor) → result ≡ said_by p.now opening (ask_request (request_in word.now words.entry)) }
 {
     match request_verb(word) {
         None => Err(LineFault::Syntax),
@@ -149,8 +146,8 @@ fn line_said(p: &Policy, opening: Actor, script: bool, line: &[u8]) -> Result<Li
     words_said(p, opening, script, word, words)
 }
 
-/// What a line of a script, or of a connection, says over a policy, or its fault. `opening` is the
-/// actor that `as -` stands for: the operator in a script, nobody on a connection.
+/// What a line of a script, or of a connection, says over a policy, or its fault. `opening` is the actor that `as -` stands
+/// for: the operator in a script, nobody on a connection.
 pub fn read_line(p: &Policy, opening: Actor, script: bool, line: &[u8]) -> Result<Line, LineFault>
     requires { IsOpening opening }
     ensures value { result ≡ read p.now opening script line.now }

@@ -113,8 +113,7 @@ fn put_start(into: &mut List<u8>, p: &Policy, piece: &[u8], start: RoleId)
     requires role { start.0 < length p.now.names.roles }
     requires room { length (piece.now ++ role_name p.now.names start) ≤ into.old.spare }
     ensures items { into.new.items ≡ into.old.items ++ (piece.now ++ role_name p.now.names start) }
-    ensures spare { into.old.spare ≤ into.new.spare + length
-        (piece.now ++ role_name p.now.names start) }
+    ensures spare { into.old.spare ≤ into.new.spare + length (piece.now ++ role_name p.now.names start) }
 {
     into.extend_from_slice(piece);
     into.extend_from_slice(p.role_name(start).bytes());
@@ -124,8 +123,7 @@ fn put_juniors(into: &mut List<u8>, p: &Policy, edges: &[u32])
     requires edges { IsTrue (list_all (has_edge p.now.policy) edges.now) }
     requires room { length (flat_map (step_name p.now) edges.now) ≤ into.old.spare }
     ensures items { into.new.items ≡ into.old.items ++ flat_map (step_name p.now) edges.now }
-    ensures spare { into.old.spare ≤ into.new.spare + length
-        (flat_map (step_name p.now) edges.now) }
+    ensures spare { into.old.spare ≤ into.new.spare + length (flat_map (step_name p.now) edges.now) }
 {
     for n in edges {
         put_junior(into, p, *n);
@@ -137,8 +135,7 @@ fn put_walk(into: &mut List<u8>, p: &Policy, piece: &[u8], walk: &Walk)
     requires walk { IsTrue (has_walk p.now.policy walk.now) }
     requires room { length (piece.now ++ walk_text p.now walk.now) ≤ into.old.spare }
     ensures items { into.new.items ≡ into.old.items ++ (piece.now ++ walk_text p.now walk.now) }
-    ensures spare { into.old.spare ≤ into.new.spare + length
-        (piece.now ++ walk_text p.now walk.now) }
+    ensures spare { into.old.spare ≤ into.new.spare + length (piece.now ++ walk_text p.now walk.now) }
 {
     p.keeps();
     put_start(into, p, piece, walk.start);
@@ -149,8 +146,7 @@ fn put_shut(into: &mut List<u8>, p: &Policy, n: u32)
     requires edge { IsTrue (has_edge p.now.policy n) }
     requires room { length (codes "deny shut " ++ edge_text p.now n) ≤ into.old.spare }
     ensures items { into.new.items ≡ into.old.items ++ (codes "deny shut " ++ edge_text p.now n) }
-    ensures spare { into.old.spare ≤ into.new.spare + length
-        (codes "deny shut " ++ edge_text p.now n) }
+    ensures spare { into.old.spare ≤ into.new.spare + length (codes "deny shut " ++ edge_text p.now n) }
 {
     let edge = edge(p, n);
     into.extend_from_slice(b"deny shut ");
@@ -188,8 +184,7 @@ fn put_truth(into: &mut List<u8>, truth: bool)
 fn put_refused(into: &mut List<u8>, refusal: Refusal)
     requires { length (codes "refused " ++ refusal_text refusal) ≤ into.old.spare }
     ensures items { into.new.items ≡ into.old.items ++ (codes "refused " ++ refusal_text refusal) }
-    ensures spare { into.old.spare ≤ into.new.spare + length
-        (codes "refused " ++ refusal_text refusal) }
+    ensures spare { into.old.spare ≤ into.new.spare + length (codes "refused " ++ refusal_text refusal) }
 {
     into.extend_from_slice(b"refused ");
     put_refusal(into, refusal);
@@ -215,8 +210,8 @@ pub(crate) fn put_text(into: &mut List<u8>, p: &Policy, reply: &Reply)
     }
 }
 
-/// Adds the line of a reply, with its line feed, into room that was taken before: at most
-/// `LONGEST_REPLY` bytes where a walk has no more than 999 edges. It takes no memory.
+/// Adds the line of a reply, with its line feed, into room that was taken before: at most `LONGEST_REPLY` bytes where a
+/// walk has no more than 999 edges. It takes no memory.
 pub fn put_reply(p: &Policy, r: &Reply, into: &mut List<u8>)
     requires named { IsTrue (has_reply p.now.policy r.now) }
     requires room { length (reply_line p.now r.now) ≤ into.old.spare }

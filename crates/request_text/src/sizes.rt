@@ -8,8 +8,8 @@ ghost use Rattle.request_text.specs.Sizes.{IsSmallSeen, IsSmallRefusal, IsSmall,
 use gt_base::{Decision, Refusal, Reply, Seen, SessionId, Walk};
 use policy_book::Policy;
 
-/// The most bytes of a reply's line, its line feed included, where a walk has at most 999 edges:
-/// the words before a walk, 1,000 names of 32 bytes and the signs between them.
+/// The most bytes of a reply's line, its line feed included, where a walk has at most 999 edges: the words before a walk,
+/// 1,000 names of 32 bytes and the signs between them.
 pub const LONGEST_REPLY: usize = 33_010;
 
 /// Room for a reply without a walk.

@@ -44,8 +44,7 @@ fn push_junior(into: &mut List<u8>, p: &Policy, n: u32) -> Result<(), Memory>
 
 fn push_juniors(into: &mut List<u8>, p: &Policy, edges: &[u32]) -> Result<(), Memory>
     requires { IsTrue (list_all (has_edge p.now.policy) edges.now) }
-    ensures { OnOk result (into.new.items ≡ into.old.items
-        ++ flat_map (step_name p.now) edges.now) }
+    ensures { OnOk result (into.new.items ≡ into.old.items ++ flat_map (step_name p.now) edges.now) }
 {
     for n in edges {
         push_junior(into, p, *n)?;
@@ -56,8 +55,7 @@ fn push_juniors(into: &mut List<u8>, p: &Policy, edges: &[u32]) -> Result<(), Me
 /// Adds a piece and the role where a walk begins.
 fn push_start(into: &mut List<u8>, p: &Policy, piece: &[u8], start: RoleId) -> Result<(), Memory>
     requires { start.0 < length p.now.names.roles }
-    ensures { OnOk result (into.new.items ≡ into.old.items
-        ++ (piece.now ++ role_name p.now.names start)) }
+    ensures { OnOk result (into.new.items ≡ into.old.items ++ (piece.now ++ role_name p.now.names start)) }
 {
     push(into, piece)?;
     push(into, p.role_name(start).bytes())
@@ -66,8 +64,7 @@ fn push_start(into: &mut List<u8>, p: &Policy, piece: &[u8], start: RoleId) -> R
 /// Adds a piece and the names of a walk's roles.
 fn push_walk(into: &mut List<u8>, p: &Policy, piece: &[u8], walk: &Walk) -> Result<(), Memory>
     requires { IsTrue (has_walk p.now.policy walk.now) }
-    ensures { OnOk result (into.new.items ≡ into.old.items
-        ++ (piece.now ++ walk_text p.now walk.now)) }
+    ensures { OnOk result (into.new.items ≡ into.old.items ++ (piece.now ++ walk_text p.now walk.now)) }
 {
     p.keeps();
     push_start(into, p, piece, walk.start)?;
@@ -222,8 +219,7 @@ fn push_entries(
     entries: &[Entry],
 ) -> Result<(), Memory>
     requires { IsTrue (list_all (has_entry p.now.policy) entries.now) }
-    ensures { OnOk result (into.new.items ≡ into.old.items
-        ++ flat_map (entry_line p.now) entries.now) }
+    ensures { OnOk result (into.new.items ≡ into.old.items ++ flat_map (entry_line p.now) entries.now) }
 {
     for e in entries {
         push_line(alloc, into, p, e)?;
@@ -233,8 +229,7 @@ fn push_entries(
 
 /// Adds the line of a birth.
 fn push_birth(into: &mut List<u8>, birth: Instant) -> Result<(), Memory>
-    ensures { OnOk result (into.new.items ≡ into.old.items
-        ++ (codes "born " ++ civil_text birth ++ codes "\n")) }
+    ensures { OnOk result (into.new.items ≡ into.old.items ++ (codes "born " ++ civil_text birth ++ codes "\n")) }
 {
     push_instant(into, b"born ", birth)?;
     push(into, b"\n")
