@@ -47,7 +47,12 @@ pub fn run<M: Machine + Send, R: Threads + Wait + Sync>(
     requires free { All (λ p. IsFree (site_of desk.now) p.pass) posts.old.items }
     requires named { M.named desk.now.root Nobody Now }
     ensures length { length posts.new.items ≡ length posts.old.items }
-    ensures each { (i : ℕ) (d : _) → i < length posts.old.items → IsBack (site_of desk.now) (slice_index_or posts.old.items i d).pass (slice_index_or posts.new.items i d).pass × (length (slice_index_or posts.new.items i d).pass.own ≡ length (slice_index_or posts.old.items i d).pass.own + (slice_index_or posts.new.items i d).told) }
+    ensures each { (i : ℕ) (d : _) → i < length posts.old.items
+        → IsBack (site_of desk.now) (slice_index_or posts.old.items i d).pass
+        (slice_index_or posts.new.items i d).pass
+        × (length (slice_index_or posts.new.items i d).pass.own
+        ≡ length (slice_index_or posts.old.items i d).pass.own
+        + (slice_index_or posts.new.items i d).told) }
 {
     let slice = posts.as_mut_slice();
     thread::for_each_mut(rt, slice, 8, &|_, post| serve(rt, desk, post));

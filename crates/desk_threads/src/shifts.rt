@@ -19,7 +19,8 @@ fn man<M>(passes: &mut Passes<M>, posts: &mut Vec<Post<M>>, asks: u32, more: u32
     requires empty { posts.old.items ≡ [] }
     requires room { length passes.old.items ≤ vec_capacity posts.old }
     ensures posts { reverse (passes_of posts.new.items) ≡ passes.old.items }
-    ensures passes { (passes.new.items ≡ []) × (passes.new.spare ≡ passes.old.spare + length passes.old.items) }
+    ensures passes { (passes.new.items ≡ [])
+        × (passes.new.spare ≡ passes.old.spare + length passes.old.items) }
 {
     while let Some(pass) = passes.take() {
         let asks = asks.saturating_add(more.saturating_mul(pass.number()));
@@ -48,7 +49,8 @@ fn relieve<M>(passes: &mut Passes<M>, mut posts: Vec<Post<M>>)
     posts.destroy_empty();
 }
 
-/// As many threads as workers ask at one desk, worker w `asks + w * more` times, and the desk is closed.
+/// As many threads as workers ask at one desk, worker w `asks + w * more` times, and the desk is
+/// closed.
 pub fn many<M: Machine + Send, R: Threads + Wait + Sync>(
     rt: &R,
     alloc: Global,
@@ -60,7 +62,8 @@ pub fn many<M: Machine + Send, R: Threads + Wait + Sync>(
     requires workers { (1 ≤ workers) × (workers ≤ 8) }
     requires named { M.named machine Nobody Now }
     ensures kept { IfOk result (λ m. M.same_root machine m × IsPrefix (M.list machine) (M.list m)) }
-    ensures others { IfOk result (λ m. (n : ℕ) → workers ≤ n → part n (drop (length (M.list machine)) (M.list m)) ≡ []) }
+    ensures others { IfOk result
+        (λ m. (n : ℕ) → workers ≤ n → part n (drop (length (M.list machine)) (M.list m)) ≡ []) }
 {
     let (desk, mut passes) = Desk::new(alloc, machine, workers)?;
     let Ok(mut posts) = Vec::with_capacity(alloc, workers as usize) else {
