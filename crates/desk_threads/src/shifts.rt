@@ -15,7 +15,7 @@ use std::thread::Threads;
 use turn_lock::{NewFault, Passes};
 
 // Each pass gets a post, the last one first. The post of pass w is to ask `asks + w * more` times.
-fn man<M>(passes: &mut Passes<M>, posts: &mut Vec<Post<M>>, asks: u32, more: u32)
+fn man<M>(passes: &mut Passes<M>, posts: &mut Vec<Post<M>>, stays: bool, asks: u32, more: u32)
     requires empty { posts.old.items ≡ [] }
     requires room { length passes.old.items ≤ vec_capacity posts.old }
     ensures posts { reverse (passes_of posts.new.items) ≡ passes.old.items }
@@ -26,6 +26,7 @@ fn man<M>(passes: &mut Passes<M>, posts: &mut Vec<Post<M>>, asks: u32, more: u32
         let asks = asks.saturating_add(more.saturating_mul(pass.number()));
         posts.push_reserved(Post {
             pass,
+            stays,
             asks,
             told: 0,
         });
@@ -41,6 +42,7 @@ fn relieve<M>(passes: &mut Passes<M>, mut posts: Vec<Post<M>>)
     while let Some(post) = posts.pop() {
         let Post {
             pass,
+            stays: _,
             asks: _,
             told: _,
         } = post;
@@ -50,12 +52,13 @@ fn relieve<M>(passes: &mut Passes<M>, mut posts: Vec<Post<M>>)
 }
 
 /// As many threads as workers ask at one desk, worker w `asks + w * more` times, and the desk is
-/// closed.
+/// closed. Where they stay, each keeps its turn for many asks.
 pub fn many<M: Machine + Send, R: Threads + Wait + Sync>(
     rt: &R,
     alloc: Global,
     machine: M,
     workers: u32,
+    stays: bool,
     asks: u32,
     more: u32,
 ) -> Result<M, NewFault<M>>
@@ -71,7 +74,7 @@ pub fn many<M: Machine + Send, R: Threads + Wait + Sync>(
             value: desk.close(passes),
         });
     };
-    man(&mut passes, &mut posts, asks, more);
+    man(&mut passes, &mut posts, stays, asks, more);
     run(rt, &desk, &mut posts);
     relieve(&mut passes, posts);
     Ok(desk.close(passes))

@@ -79,13 +79,50 @@ fn two_threads_ask(rt: HostRuntime) {
     assert!(&rt; count_of(machine.entries(), 1) == 100);
 }
 
+// Eight threads ask, 50 to 57 times.
+fn eight_ask(rt: &HostRuntime, stays: bool) {
+    let birth = Instant::new(7).expect(rt, "an instant");
+    let tally = Tally::new(rt.alloc(), birth, 0);
+    let Ok(machine) = many(rt, rt.alloc(), tally, 8, stays, 50, 1) else {
+        panic!(rt; "memory");
+    };
+    assert!(rt; machine.kept() == 428);
+    assert!(rt; count_of(machine.entries(), 0) == 50);
+    assert!(rt; count_of(machine.entries(), 7) == 57);
+}
+
 #[test]
 fn eight_threads_of_different_lengths_ask(rt: HostRuntime) {
+    eight_ask(&rt, false);
+}
+
+#[test]
+fn eight_threads_keep_their_turns(rt: HostRuntime) {
+    eight_ask(&rt, true);
+}
+
+#[test]
+fn a_kept_turn_ends_with_the_desk(rt: HostRuntime) {
     let birth = Instant::new(7).expect(&rt, "an instant");
-    let Ok(machine) = many(&rt, rt.alloc(), Tally::new(rt.alloc(), birth, 0), 8, 50, 1) else {
+    let Ok((desk, mut passes)) = Desk::new(rt.alloc(), Tally::new(rt.alloc(), birth, 0), 2) else {
         panic!(&rt; "memory");
     };
-    assert!(&rt; machine.kept() == 428);
-    assert!(&rt; count_of(machine.entries(), 0) == 50);
-    assert!(&rt; count_of(machine.entries(), 7) == 57);
+    let mut one = passes.take().expect(&rt, "a pass");
+    let mut zero = passes.take().expect(&rt, "a pass");
+    zero.stay();
+    for _ in 0..130 {
+        assert!(&rt;
+            desk.ask(&rt, &mut zero, 1, Actor::Nobody, Request::Now)
+                .is_ok()
+        );
+    }
+    desk.rest(&mut zero);
+    one.stay();
+    assert!(&rt;
+        desk.ask(&rt, &mut one, 1, Actor::Nobody, Request::Now)
+            .is_ok()
+    );
+    passes.put(zero);
+    passes.put(one);
+    assert!(&rt; desk.close(passes).kept() == 131);
 }
