@@ -23,7 +23,8 @@ pub record Lock (M : Type 0) : Type 0 where
 abbrev pub site_of : {M : Type 0} → Lock M → Site M
 site_of l = record { table = l.table; root = Some l.root }
 
--- turn is the list that the pass knows while it holds the turn
+-- draws counts its turns; one that it had kept took no ticket. turn is the list that the pass knows
+-- while it holds the turn
 pub record Holder (M : Type 0) : Type 0 where
   pub site : Site M
   pub number : ℕ
