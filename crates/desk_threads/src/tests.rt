@@ -2,6 +2,9 @@ use crate::pair::two;
 use crate::shifts::many;
 use gt_base::{Actor, Entry, Instant, Keeps, Reply, Request, SessionId, UserId};
 use locked_history::Desk;
+use std::alloc::Global;
+use std::sync::Wait;
+use std::thread::Threads;
 use tally_machine::Tally;
 
 // How many entries are the worker's.
@@ -79,26 +82,28 @@ fn two_threads_ask(rt: HostRuntime) {
     assert!(&rt; count_of(machine.entries(), 1) == 100);
 }
 
-// Eight threads ask, 50 to 57 times.
-fn eight_ask(rt: &HostRuntime, stays: bool) {
-    let birth = Instant::new(7).expect(rt, "an instant");
-    let tally = Tally::new(rt.alloc(), birth, 0);
-    let Ok(machine) = many(rt, rt.alloc(), tally, 8, stays, 50, 1) else {
-        panic!(rt; "memory");
-    };
-    assert!(rt; machine.kept() == 428);
-    assert!(rt; count_of(machine.entries(), 0) == 50);
-    assert!(rt; count_of(machine.entries(), 7) == 57);
+// The machine that eight threads asked 50 to 57 times.
+fn asked_by_eight<R: Threads + Wait + Sync>(rt: &R, alloc: Global, stays: bool) -> Option<Tally> {
+    let tally = Tally::new(alloc, Instant::new(7)?, 0);
+    many(rt, alloc, tally, 8, stays, 50, 1).ok()
+}
+
+// Whether each of the eight has its asks.
+fn is_whole(machine: &Tally) -> bool {
+    let entries = machine.entries();
+    machine.kept() == 428 && count_of(entries, 0) == 50 && count_of(entries, 7) == 57
 }
 
 #[test]
 fn eight_threads_of_different_lengths_ask(rt: HostRuntime) {
-    eight_ask(&rt, false);
+    let machine = asked_by_eight(&rt, rt.alloc(), false).expect(&rt, "memory");
+    assert!(&rt; is_whole(&machine));
 }
 
 #[test]
 fn eight_threads_keep_their_turns(rt: HostRuntime) {
-    eight_ask(&rt, true);
+    let machine = asked_by_eight(&rt, rt.alloc(), true).expect(&rt, "memory");
+    assert!(&rt; is_whole(&machine));
 }
 
 #[test]
@@ -110,19 +115,21 @@ fn a_kept_turn_ends_with_the_desk(rt: HostRuntime) {
     let mut one = passes.take().expect(&rt, "a pass");
     let mut zero = passes.take().expect(&rt, "a pass");
     zero.stay();
-    for _ in 0..130 {
-        assert!(&rt;
-            desk.ask(&rt, &mut zero, 1, Actor::Nobody, Request::Now)
-                .is_ok()
-        );
-    }
+    let Ok(first) = desk.ask(&rt, &mut zero, 1, Actor::Nobody, Request::Now) else {
+        panic!(&rt; "refused");
+    };
+    assert!(&rt; first.front.len() == 1);
+    let Ok(second) = desk.ask(&rt, &mut zero, 1, Actor::Nobody, Request::Now) else {
+        panic!(&rt; "refused");
+    };
+    assert!(&rt; second.front.len() == 2);
     desk.rest(&mut zero);
     one.stay();
-    assert!(&rt;
-        desk.ask(&rt, &mut one, 1, Actor::Nobody, Request::Now)
-            .is_ok()
-    );
+    let Ok(third) = desk.ask(&rt, &mut one, 1, Actor::Nobody, Request::Now) else {
+        panic!(&rt; "refused");
+    };
+    assert!(&rt; third.front.len() == 3);
     passes.put(zero);
     passes.put(one);
-    assert!(&rt; desk.close(passes).kept() == 131);
+    assert!(&rt; desk.close(passes).kept() == 3);
 }
