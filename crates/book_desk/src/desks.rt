@@ -20,11 +20,13 @@ fn is_no(reply: &Reply) -> bool {
     }
 }
 
-/// Asks whether role 0 is enabled; the number of entries up to this ask where the reply is no, else none.
+/// Asks whether role 0 is enabled; the number of entries up to this ask where the reply is no, else
+/// none.
 pub fn hear_no<R: Wait>(rt: &R, desk: &Desk<Book>, pass: &mut Pass<Book>) -> Option<u64>
     requires pass { (pass.old.site ≡ site_of desk.now) × (pass.old.turn ≡ None) }
     requires named { IsNamedFor desk.now.root Operator first_role_status }
-    ensures pass { (pass.new.site ≡ pass.old.site) × (pass.new.turn ≡ None) × (pass.new.number ≡ pass.old.number) }
+    ensures pass { (pass.new.site ≡ pass.old.site) × (pass.new.turn ≡ None)
+        × (pass.new.number ≡ pass.old.number) }
 {
     match desk.ask(rt, pass, 1, Actor::Operator, role_status()) {
         Ok(told) => {
@@ -41,7 +43,8 @@ pub fn hear_no<R: Wait>(rt: &R, desk: &Desk<Book>, pass: &mut Pass<Book>) -> Opt
 /// Ticks to a minute; the number of entries up to then where now is this minute, else none.
 pub fn go<R: Wait>(rt: &R, desk: &Desk<Book>, pass: &mut Pass<Book>, to: Instant) -> Option<u64>
     requires pass { (pass.old.site ≡ site_of desk.now) × (pass.old.turn ≡ None) }
-    ensures pass { (pass.new.site ≡ pass.old.site) × (pass.new.turn ≡ None) × (pass.new.number ≡ pass.old.number) }
+    ensures pass { (pass.new.site ≡ pass.old.site) × (pass.new.turn ≡ None)
+        × (pass.new.number ≡ pass.old.number) }
 {
     match desk.tick(rt, pass, 1, to) {
         Ok(ticked) => {

@@ -1,4 +1,5 @@
-//! Lets threads ask one machine, at a desk or under a plain mutex, and prints how often it was asked, so that a script can time both.
+//! Lets threads ask one machine, at a desk or under a plain mutex, and prints how often it was
+//! asked, so that a script can time both.
 #![tactic(auto)]
 
 mod mutex;
@@ -25,7 +26,8 @@ fn number(word: &str) -> Option<u32> {
     word.parse::<u32>().ok()
 }
 
-// How often the machine was asked: `desk` or `mutex`, the number of threads from 1 to 8, and the asks of each.
+// How often the machine was asked: `desk`, `stay` (a desk whose passes keep their turns) or `mutex`,
+// the number of threads from 1 to 8, and the asks of each.
 fn asked<R: Threads + Wait + Sync>(rt: &R, alloc: Global, words: &[String]) -> Option<u64> {
     let [kind, threads, asks] = words else {
         return None;
@@ -37,7 +39,15 @@ fn asked<R: Threads + Wait + Sync>(rt: &R, alloc: Global, words: &[String]) -> O
     }
     let machine = Tally::new(alloc, Instant::new(0)?, 0);
     match kind.as_str() {
-        "desk" => match many(rt, alloc, machine, threads, asks, 0) {
+        "desk" | "stay" => match many(
+            rt,
+            alloc,
+            machine,
+            threads,
+            kind.as_str() == "stay",
+            asks,
+            0,
+        ) {
             Ok(machine) => Some(machine.kept()),
             Err(_) => None,
         },

@@ -22,7 +22,8 @@ pub fn ask_all<M: Machine, R: Wait>(
 ) -> (Pass<M>, u32)
     requires pass { (pass.site ≡ site_of desk.now) × (pass.turn ≡ None) }
     requires named { M.named desk.now.root Nobody Now }
-    ensures pass { (result.0.site ≡ pass.site) × (result.0.turn ≡ None) × (result.0.number ≡ pass.number) }
+    ensures pass { (result.0.site ≡ pass.site) × (result.0.turn ≡ None)
+        × (result.0.number ≡ pass.number) }
     ensures own { length result.0.own ≡ length pass.own + result.1 }
 {
     let mut asked = 0;
@@ -48,8 +49,12 @@ fn ask_both<M: Machine + Send, R: Threads + Wait + Sync>(
     requires zero { (zero.site ≡ site_of desk.now) × (zero.turn ≡ None) }
     requires one { (one.site ≡ site_of desk.now) × (one.turn ≡ None) }
     requires named { M.named desk.now.root Nobody Now }
-    ensures zero { (result.0.0.site ≡ zero.site) × (result.0.0.turn ≡ None) × (result.0.0.number ≡ zero.number) × (length result.0.0.own ≡ length zero.own + result.0.1) }
-    ensures one { (result.1.0.site ≡ one.site) × (result.1.0.turn ≡ None) × (result.1.0.number ≡ one.number) × (length result.1.0.own ≡ length one.own + result.1.1) }
+    ensures zero { (result.0.0.site ≡ zero.site) × (result.0.0.turn ≡ None)
+        × (result.0.0.number ≡ zero.number)
+        × (length result.0.0.own ≡ length zero.own + result.0.1) }
+    ensures one { (result.1.0.site ≡ one.site) × (result.1.0.turn ≡ None)
+        × (result.1.0.number ≡ one.number)
+        × (length result.1.0.own ≡ length one.own + result.1.1) }
 {
     join(
         rt,
@@ -58,7 +63,8 @@ fn ask_both<M: Machine + Send, R: Threads + Wait + Sync>(
     )
 }
 
-/// Two threads ask. After what it kept at first the machine keeps as many entries of each as that one was told of, and no others.
+/// Two threads ask. After what it kept at first the machine keeps as many entries of each as that
+/// one was told of, and no others.
 pub fn two<M: Machine + Send, R: Threads + Wait + Sync>(
     rt: &R,
     alloc: Global,
@@ -66,10 +72,14 @@ pub fn two<M: Machine + Send, R: Threads + Wait + Sync>(
     count: u32,
 ) -> Result<(M, u32, u32), NewFault<M>>
     requires { M.named machine Nobody Now }
-    ensures root { IfOk result (λ t. M.same_root machine t.0 × IsPrefix (M.list machine) (M.list t.0)) }
-    ensures zero { IfOk result (λ t. length (part 0 (drop (length (M.list machine)) (M.list t.0))) ≡ t.1) }
-    ensures one { IfOk result (λ t. length (part 1 (drop (length (M.list machine)) (M.list t.0))) ≡ t.2) }
-    ensures others { IfOk result (λ t. (n : ℕ) → 2 ≤ n → part n (drop (length (M.list machine)) (M.list t.0)) ≡ []) }
+    ensures root { IfOk result
+        (λ t. M.same_root machine t.0 × IsPrefix (M.list machine) (M.list t.0)) }
+    ensures zero { IfOk result
+        (λ t. length (part 0 (drop (length (M.list machine)) (M.list t.0))) ≡ t.1) }
+    ensures one { IfOk result
+        (λ t. length (part 1 (drop (length (M.list machine)) (M.list t.0))) ≡ t.2) }
+    ensures others { IfOk result
+        (λ t. (n : ℕ) → 2 ≤ n → part n (drop (length (M.list machine)) (M.list t.0)) ≡ []) }
 {
     let (desk, mut passes) = Desk::new(alloc, machine, 2)?;
     let last = passes.take();

@@ -12,9 +12,11 @@ use std::thread;
 use std::thread::Threads;
 use turn_lock::Pass;
 
-/// A pass, how often it is to ask, and how often it was told.
+/// A pass, whether it is to keep its turn between its asks, how often it is to ask, and how often it
+/// was told.
 pub struct Post<M> {
     pub pass: Pass<M>,
+    pub stays: bool,
     pub asks: u32,
     pub told: u32,
 }
@@ -26,6 +28,9 @@ pub fn serve<M: Machine, R: Wait>(rt: &R, desk: &Desk<M>, post: &mut Post<M>)
     ensures pass { IsBack (site_of desk.now) post.old.pass post.new.pass }
     ensures own { length post.new.pass.own ≡ length post.old.pass.own + post.new.told }
 {
+    if post.stays {
+        post.pass.stay();
+    }
     let mut told = 0;
     for _ in 0..post.asks {
         if desk
@@ -35,6 +40,7 @@ pub fn serve<M: Machine, R: Wait>(rt: &R, desk: &Desk<M>, post: &mut Post<M>)
             told += 1;
         }
     }
+    desk.rest(&mut post.pass);
     post.told = told;
 }
 
@@ -47,7 +53,12 @@ pub fn run<M: Machine + Send, R: Threads + Wait + Sync>(
     requires free { All (λ p. IsFree (site_of desk.now) p.pass) posts.old.items }
     requires named { M.named desk.now.root Nobody Now }
     ensures length { length posts.new.items ≡ length posts.old.items }
-    ensures each { (i : ℕ) (d : _) → i < length posts.old.items → IsBack (site_of desk.now) (slice_index_or posts.old.items i d).pass (slice_index_or posts.new.items i d).pass × (length (slice_index_or posts.new.items i d).pass.own ≡ length (slice_index_or posts.old.items i d).pass.own + (slice_index_or posts.new.items i d).told) }
+    ensures each { (i : ℕ) (d : _) → i < length posts.old.items
+        → IsBack (site_of desk.now) (slice_index_or posts.old.items i d).pass
+        (slice_index_or posts.new.items i d).pass
+        × (length (slice_index_or posts.new.items i d).pass.own
+        ≡ length (slice_index_or posts.old.items i d).pass.own
+        + (slice_index_or posts.new.items i d).told) }
 {
     let slice = posts.as_mut_slice();
     thread::for_each_mut(rt, slice, 8, &|_, post| serve(rt, desk, post));

@@ -2,6 +2,9 @@ use crate::pair::two;
 use crate::shifts::many;
 use gt_base::{Actor, Entry, Instant, Keeps, Reply, Request, SessionId, UserId};
 use locked_history::Desk;
+use std::alloc::Global;
+use std::sync::Wait;
+use std::thread::Threads;
 use tally_machine::Tally;
 
 // How many entries are the worker's.
@@ -79,13 +82,42 @@ fn two_threads_ask(rt: HostRuntime) {
     assert!(&rt; count_of(machine.entries(), 1) == 100);
 }
 
+// The machine that eight threads asked 50 to 57 times.
+fn asked_by_eight<R: Threads + Wait + Sync>(rt: &R, alloc: Global, stays: bool) -> Option<Tally> {
+    let tally = Tally::new(alloc, Instant::new(7)?, 0);
+    many(rt, alloc, tally, 8, stays, 50, 1).ok()
+}
+
+// Whether each of the eight has its asks.
+fn is_whole(machine: &Tally) -> bool {
+    let entries = machine.entries();
+    machine.kept() == 428 && count_of(entries, 0) == 50 && count_of(entries, 7) == 57
+}
+
 #[test]
 fn eight_threads_of_different_lengths_ask(rt: HostRuntime) {
+    let machine = asked_by_eight(&rt, rt.alloc(), false).expect(&rt, "memory");
+    assert!(&rt; is_whole(&machine));
+}
+
+#[test]
+fn eight_threads_keep_their_turns(rt: HostRuntime) {
+    let machine = asked_by_eight(&rt, rt.alloc(), true).expect(&rt, "memory");
+    assert!(&rt; is_whole(&machine));
+}
+
+#[test]
+fn a_desk_is_closed_while_a_turn_is_kept(rt: HostRuntime) {
     let birth = Instant::new(7).expect(&rt, "an instant");
-    let Ok(machine) = many(&rt, rt.alloc(), Tally::new(rt.alloc(), birth, 0), 8, 50, 1) else {
+    let Ok((desk, mut passes)) = Desk::new(rt.alloc(), Tally::new(rt.alloc(), birth, 0), 1) else {
         panic!(&rt; "memory");
     };
-    assert!(&rt; machine.kept() == 428);
-    assert!(&rt; count_of(machine.entries(), 0) == 50);
-    assert!(&rt; count_of(machine.entries(), 7) == 57);
+    let mut only = passes.take().expect(&rt, "a pass");
+    only.stay();
+    let Ok(told) = desk.ask(&rt, &mut only, 1, Actor::Nobody, Request::Now) else {
+        panic!(&rt; "refused");
+    };
+    assert!(&rt; told.front.len() == 1);
+    passes.put(only);
+    assert!(&rt; desk.close(passes).kept() == 1);
 }

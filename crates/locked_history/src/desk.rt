@@ -161,6 +161,15 @@ impl<M: Machine> Desk<M> {
         }
     }
 
+    /// Gives the turn on where the pass has kept it since its last call, and has it keep none from
+    /// now on. A pass that stays is to rest before its thread waits for anything but the desk.
+    pub fn rest(&self, pass: &mut Pass<M>)
+        requires pass { (pass.old.site ≡ site_of self.now) × (pass.old.turn ≡ None) }
+        ensures { pass.new ≡ pass.old }
+    {
+        self.lock.rest(pass);
+    }
+
     /// Ends the desk, once every pass is back, and answers the machine.
     pub fn close(self, passes: Passes<M>) -> M
         requires idle { AreIdle (site_of self) passes.items }

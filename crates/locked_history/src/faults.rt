@@ -30,7 +30,8 @@ impl From<StepFault> for DeskFault {
     ghost use Rattle.gt_base.specs.declared.machines.StepFault.TheVariants as step;
     ghost use Rattle.locked_history.specs.declared.faults.DeskFault.TheVariants as desk;
 
-    ghost from_gives = { λ cause fault. ((cause ≡ step.StepsFull) × (fault ≡ desk.StepsFull)) ⊎ ((cause ≡ step.Memory) × (fault ≡ desk.Memory)) };
+    ghost from_gives = { λ cause fault. ((cause ≡ step.StepsFull) × (fault ≡ desk.StepsFull))
+        ⊎ ((cause ≡ step.Memory) × (fault ≡ desk.Memory)) };
 
     fn from(fault: StepFault) -> DeskFault {
         match fault {

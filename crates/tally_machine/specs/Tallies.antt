@@ -36,7 +36,8 @@ MayStep now held (Ask actor asked answer) = answer ≡ reply_at now held asked
 
 abbrev pub LegalFrom : ℕ → ℕ → List Entry → Type 0
 LegalFrom now held [] = Unit {0}
-LegalFrom now held (e ∷ es) = MayStep now held e.what × LegalFrom (now_after now e.what) (held + 1) es
+LegalFrom now held (e ∷ es) =
+    MayStep now held e.what × LegalFrom (now_after now e.what) (held + 1) es
 
 abbrev pub IsNamed : ℕ → Actor → Type 0
 IsNamed users Nobody = Unit {0}

@@ -5,7 +5,8 @@ ghost use Rattle.tally_machine.specs.Tallies.{reply_at};
 
 use gt_base::{Instant, Reply, Request, SessionId};
 
-/// The reply at the instant now, where so many entries are held. A session has the number of the entry that opens it.
+/// The reply at the instant now, where so many entries are held. A session has the number of the
+/// entry that opens it.
 pub(crate) fn answer(now: Instant, held: usize, request: &Request) -> Reply
     requires { held < max_steps }
     ensures { result ≡ reply_at now held request.now }

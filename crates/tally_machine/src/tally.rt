@@ -29,7 +29,8 @@ impl Model for Tally {
 
     ghost view = { λ t. record { birth = t.birth; users = t.users; entries = t.entries.items } };
 
-    ghost invariant = { λ t. (t.instant ≡ now_from t.birth t.entries.items) × LegalFrom t.birth 0 t.entries.items × (length t.entries.items ≤ max_steps) };
+    ghost invariant = { λ t. (t.instant ≡ now_from t.birth t.entries.items)
+        × LegalFrom t.birth 0 t.entries.items × (length t.entries.items ≤ max_steps) };
 }
 
 impl Tally {

@@ -13,18 +13,19 @@ use Rattle.atomic_table.proofs.Lists.{set_here, set_else, set_again}
 use Rattle.gt_base.specs.declared.requests.Entry.{Entry}
 use Rattle.turn_lock.specs.declared.view.Account.{Account}
 use Rattle.turn_lock.specs.declared.view.Stage.{Stage}
-use Rattle.turn_lock.specs.declared.view.Stage.TheVariants.{Idle, Waits, Holds}
+use Rattle.turn_lock.specs.declared.view.Stage.TheVariants.{Idle, Waits, Keeps, Holds}
 use Rattle.turn_lock.specs.declared.view.View.{View}
 use Rattle.turn_lock.specs.declared.view.Spot.{Spot}
 use Rattle.turn_lock.specs.declared.view.Spot.TheVariants.{Home, Told}
 use Rattle.turn_lock.specs.declared.view.Origin.{Origin}
-use Rattle.turn_lock.specs.Turns.{part, total, Each, is_waiting, is_holding, FitsAccount, FitsStage, FitsView, draws_of, accounts_of, next_of, waits, holds_slot, AtHome, Kept, with_ticket, drawn, with_turn, looked, counted, grown, added, rested, passed, split_left, split_right, joined, spent_view, first_view, plain, Has, Ends}
+use Rattle.turn_lock.specs.Turns.{part, total, Each, is_waiting, is_holding, is_served, FitsAccount, FitsStage, FitsView, draws_of, accounts_of, next_of, waits, holds_slot, AtHome, Kept, with_ticket, drawn, with_turn, looked, counted, grown, added, rested, passed, staying, stayed, resumed, released, split_left, split_right, joined, spent_view, first_view, plain, Has, Ends}
 use Rattle.turn_lock.proofs.Totals.{total_set, total_snoc, total_at, total_finds, total_within, each_set, each_maps, each-append, put, put_here, put_else, at_end, total-append}
 
 -- another seat's stage, where a ticket is drawn
 stage_drawn : (log : List Entry) (tickets serving : ℕ) (drawer : ℕ → ℕ) (id k : ℕ) (st : Stage) → FitsStage log tickets serving drawer k st → FitsStage log (tickets + 1) serving (put drawer tickets id) k st
 stage_drawn log tickets serving drawer id k Idle h = tt
 stage_drawn log tickets serving drawer id k (Waits t) h = let a = h.1 in (h.0, omega arith, put_else drawer tickets id t (λ e. omega arith) ∙ h.2)
+stage_drawn log tickets serving drawer id k (Keeps t) h = let a = h.1 in (h.0, omega arith, put_else drawer tickets id t (λ e. omega arith) ∙ h.2)
 stage_drawn log tickets serving drawer id k (Holds t known) h = let a = h.1 in (h.0, omega arith, put_else drawer tickets id t (λ e. omega arith) ∙ h.2, h.3)
 
 few_drawn : (log added : List Entry) (given : ℕ) (owner : ℕ → ℕ) (seat : ℕ) (xs : List Account) → Each (FitsAccount log added given owner seat) xs → total (λ (a : Account). a.draws) xs ≤ 2 ^ 40 * length xs
@@ -34,13 +35,15 @@ few_drawn log added given owner seat (x ∷ xs) e = let a = e.0.few in let b = f
 holder_of : (log : List Entry) (tickets serving : ℕ) (drawer : ℕ → ℕ) (seat : ℕ) (st : Stage) → FitsStage log tickets serving drawer seat st → 0 < is_holding st → drawer serving ≡ seat
 holder_of log tickets serving drawer seat Idle h z = absurd (omega arith)
 holder_of log tickets serving drawer seat (Waits t) h z = absurd (omega arith)
+holder_of log tickets serving drawer seat (Keeps t) h z = absurd (omega arith)
 holder_of log tickets serving drawer seat (Holds t known) h z = ap drawer (sym h.0) ∙ h.2
 
--- a stage that holds nothing, where serving moves on past another ticket
-stage_else : (log log' : List Entry) (tickets tickets' serving serving' : ℕ) (drawer : ℕ → ℕ) (k : ℕ) (st : Stage) → ((t : ℕ) → t < tickets → t < tickets') → ((t : ℕ) → serving ≤ t → drawer t ≡ k → serving' ≤ t) → is_holding st ≡ 0
+-- a stage whose ticket is not served, where serving moves on past another ticket
+stage_else : (log log' : List Entry) (tickets tickets' serving serving' : ℕ) (drawer : ℕ → ℕ) (k : ℕ) (st : Stage) → ((t : ℕ) → t < tickets → t < tickets') → ((t : ℕ) → serving ≤ t → drawer t ≡ k → serving' ≤ t) → is_served st ≡ 0
     → FitsStage log tickets serving drawer k st → FitsStage log' tickets' serving' drawer k st
 stage_else log log' tickets tickets' serving serving' drawer k Idle up on none_held h = tt
 stage_else log log' tickets tickets' serving serving' drawer k (Waits t) up on none_held h = (on t h.0 h.2, up t h.1, h.2)
+stage_else log log' tickets tickets' serving serving' drawer k (Keeps t) up on none_held h = absurd (omega arith)
 stage_else log log' tickets tickets' serving serving' drawer k (Holds t known) up on none_held h = absurd (omega arith)
 
 none_some : {M : Type 0} (q : M) → (let z : Option M = None in z) ≡ Some q → ⊥
@@ -207,10 +210,11 @@ module _ {M : Type 0} (list : M → List Entry) (same : M → M → Type 0) (o :
   counts slots id v s r deep at fits =
       let words : set s.words 1 (get_or s.words 1 0) ≡ s.words = ap (λ ws. set ws 1 (get_or ws 1 0)) r.words ∙ sym r.words in (v, keeps, tt, unmoved s r id 1 v at words, refl)
 
-  -- no other seat holds the slot
-  apart : (s : St) (r : Rule s) (id k t : ℕ) (st : Stage) → k ≢ id → r.drawer t ≡ id → t ≡ r.serving → FitsStage (list root ++ r.added) r.tickets r.serving r.drawer k st → is_holding st ≡ 0
+  -- no other seat is served
+  apart : (s : St) (r : Rule s) (id k t : ℕ) (st : Stage) → k ≢ id → r.drawer t ≡ id → t ≡ r.serving → FitsStage (list root ++ r.added) r.tickets r.serving r.drawer k st → is_served st ≡ 0
   apart s r id k t Idle ne mine now h = refl
   apart s r id k t (Waits u) ne mine now h = refl
+  apart s r id k t (Keeps u) ne mine now h = absurd (ne (sym h.2 ∙ (ap r.drawer (h.0 ∙ sym now) ∙ mine)))
   apart s r id k t (Holds u known) ne mine now h = absurd (ne (sym h.2 ∙ (ap r.drawer (h.0 ∙ sym now) ∙ mine)))
 
   pub adds : (slots id : ℕ) (rt : M) (a : Account) (next t : ℕ) (known : List Entry) (y : M) (q : ℕ) (e : Entry) (z : Rattle.std.specs.declared.snapshot.Snapshot.Snapshot M) → z.value ≡ y → list y ≡ known ++ e ∷ [] → e.who.worker ≡ a.number → length (list y) < 2 ^ 64
@@ -280,6 +284,10 @@ module _ {M : Type 0} (list : M → List Entry) (same : M → M → Type 0) (o :
         refl,
       )
 
+  -- a ticket of another seat is served later than the one that is served now
+  far : (s : St) (r : Rule s) (id t t' k : ℕ) → k ≢ id → r.drawer t ≡ id → t ≡ r.serving → r.serving ≤ t' → r.drawer t' ≡ k → r.serving + 1 ≤ t'
+  far s r id t t' k ne mine now le d = dite (ℕ_discrete t' r.serving) (λ e. absurd (ne (sym d ∙ (ap r.drawer (e ∙ sym now) ∙ mine)))) (λ e. omega arith)
+
   pub passes_on : (slots id : ℕ) (rt : M) (a : Account) (next t : ℕ) (known : List Entry) (x : M) → 0 < slots → list x ≡ known → same rt x
       → Allows Rule slots id (plain rt a next (Holds t known), (0, Home x) ∷ []) 2 (λ n. (n + 1) % 2 ^ 64) (passed list (step slots 2 1 0 none) (plain rt a next (Holds t known), (0, Home x) ∷ []))
   passes_on slots id rt a next t known x room keeps_known same_rt s r deep at fits =
@@ -318,7 +326,7 @@ module _ {M : Type 0} (list : M → List Entry) (same : M → M → Type 0) (o :
                 root_is = g.root_is;
                 next = g.next;
                 live = g.live;
-                stage = stage_else log log r.tickets r.tickets r.serving (r.serving + 1) r.drawer k u.stage (λ _ h. h) (λ t' h d. far t' k ne mine now h d) (apart s r id k t u.stage ne mine now g.stage) g.stage;
+                stage = stage_else log log r.tickets r.tickets r.serving (r.serving + 1) r.drawer k u.stage (λ _ h. h) (λ t' h d. far s r id t t' k ne mine now h d) (apart s r id k t u.stage ne mine now g.stage) g.stage;
                 accounts = g.accounts;
               });
           slot = (let k = total_set holds_slot s.views id v w at in ⊎_elim (λ h. let h₀ = h.0 in absurd (omega arith))
@@ -330,9 +338,148 @@ module _ {M : Type 0} (list : M → List Entry) (same : M → M → Type 0) (o :
               ((r.added, sym knows), (f.accounts.0.own ∙ ap (part a.number) (sym (ap (drop (length (list root))) knows ∙ drop-append_seam (list root) r.added)), tt))),
         ),
       )
-    where
-      far : (t' k : ℕ) → k ≢ id → r.drawer t ≡ id → t ≡ r.serving → r.serving ≤ t' → r.drawer t' ≡ k → r.serving + 1 ≤ t'
-      far t' k ne mine now le d = dite (ℕ_discrete t' r.serving) (λ e. absurd (ne (sym d ∙ (ap r.drawer (e ∙ sym now) ∙ mine)))) (λ e. omega arith)
+
+  pub stays : (slots id : ℕ) (rt : M) (a : Account) (next t : ℕ) (known : List Entry) (x : M) → 0 < slots → list x ≡ known → same rt x
+      → Allows Rule slots id (plain rt a next (Holds t known), (0, Home x) ∷ []) 0 (λ n. n) (stayed list (step slots 0 0 0 none) (plain rt a next (Holds t known), (0, Home x) ∷ []))
+  stays slots id rt a next t known x room keeps_known same_rt s r deep at fits =
+      let v : View M = plain rt a next (Holds t known) in
+      let f = r.each id v at in let mine = f.stage.2 in let now = f.stage.0 in let below = f.stage.1 in let knows = f.stage.3 in
+      let log : List Entry = list root ++ r.added in let w : View M = staying v in let n : ℕ = get_or s.words 0 0 in
+      let words : set s.words 0 n ≡ s.words = ap (λ ws. set ws 0 (get_or ws 0 0)) r.words ∙ sym r.words in
+      let holds_now = total_at holds_slot s.views id v at in (
+        w,
+        gives,
+        tt,
+        record {
+          added = r.added;
+          tickets = r.tickets;
+          serving = r.serving;
+          given = r.given;
+          maker = r.maker;
+          owner = r.owner;
+          drawer = r.drawer;
+          words = words ∙ r.words;
+          begun = r.begun;
+          few = r.few;
+          others = r.others;
+          drawn = (let k = total_set draws_of s.views id v w at in let d = r.drawn in omega arith);
+          counted = (let k = total_set accounts_of s.views id v w at in let d = r.counted in omega arith);
+          kept_next = (let k = total_set next_of s.views id v w at in let q = r.kept_next in omega arith);
+          waiting = (let k = total_set waits s.views id v w at in let d = r.waiting in omega arith);
+          each = each_set (FitsView root log r.added r.given r.maker r.tickets r.serving r.owner r.drawer) s.views id w
+              record {
+                root_is = f.root_is;
+                next = f.next;
+                live = λ _. omega arith;
+                stage = (now, below, mine);
+                accounts = (record { below = f.accounts.0.below; owned = f.accounts.0.owned; few = f.accounts.0.few; seen = ([], append-nil known ∙ knows); own = f.accounts.0.own }, tt);
+              }
+              (λ k u ne e. r.each k u e);
+          slot = (let k = total_set holds_slot s.views id v w at in ⊎_elim (λ h. let h₀ = h.0 in absurd (omega arith))
+              (λ h. inl (omega arith, (x, set_here s.homes 0 (some (Home x)) (omega arith), keeps_known ∙ knows, subst (λ (z : M). same z x) (f.root_is rt refl) same_rt))) r.slot);
+        },
+        (
+          refl,
+          (λ q e. subst (λ (z : M). IsPrefix (list z) known × Each (λ (b : Account). b.own ≡ part b.number (drop (length (list z)) known)) (a ∷ [])) (sym (f.root_is q e))
+              ((r.added, sym knows), (f.accounts.0.own ∙ ap (part a.number) (sym (ap (drop (length (list root))) knows ∙ drop-append_seam (list root) r.added)), tt))),
+        ),
+      )
+
+  pub resumes : (slots id : ℕ) (rt : M) (a : Account) (next t : ℕ)
+      → Allows Rule slots id (plain rt a next (Keeps t), []) 0 (λ n. n) (resumed list same (step slots 0 0 0 none) (plain rt a next (Keeps t), []))
+  resumes slots id rt a next t s r deep at fits =
+      let v : View M = plain rt a next (Keeps t) in let n : ℕ = get_or s.words 0 0 in
+      let log : List Entry = list root ++ r.added in
+      let f = r.each id v at in let now = f.stage.0 in let mine = f.stage.2 in let below = f.stage.1 in
+      let words : set s.words 0 n ≡ s.words = ap (λ ws. set ws 0 (get_or ws 0 0)) r.words ∙ sym r.words in
+      let same_root : rt ≡ root = f.root_is rt refl in
+      ⊎_elim
+      (λ (h : (total holds_slot s.views ≡ 0) × AtHome list same root log s.homes).
+      let x = h.1.0 in let none_held = h.0 in let w : View M = with_turn (list x) v in (
+        w,
+        takes 0 (Home x),
+        h.1.1,
+        record {
+          added = r.added;
+          tickets = r.tickets;
+          serving = r.serving;
+          given = r.given;
+          maker = r.maker;
+          owner = r.owner;
+          drawer = r.drawer;
+          words = words ∙ r.words;
+          begun = r.begun;
+          few = r.few;
+          others = r.others;
+          drawn = (let k = total_set draws_of s.views id v w at in let q = r.drawn in omega arith);
+          counted = (let k = total_set accounts_of s.views id v w at in let q = r.counted in omega arith);
+          kept_next = (let k = total_set next_of s.views id v w at in let q = r.kept_next in omega arith);
+          waiting = (let k = total_set waits s.views id v w at in let q = r.waiting in omega arith);
+          each = each_set (FitsView root log r.added r.given r.maker r.tickets r.serving r.owner r.drawer) s.views id w
+              record {
+                root_is = f.root_is;
+                next = f.next;
+                live = λ _. omega arith;
+                stage = (now, below, mine, h.1.2);
+                accounts = f.accounts;
+              }
+              (λ k u ne e. r.each k u e);
+          slot = inr (let k = total_set holds_slot s.views id v w at in omega arith);
+        },
+        (
+          x,
+          refl,
+          (λ q e. subst (λ (z : M). same z x) (sym same_root ∙ ap (λ (z : Option M). unwrap_or z rt) e) h.1.3),
+          (subst (IsPrefix a.seen) (sym h.1.2) f.accounts.0.seen, tt),
+        ),
+      ))
+      (λ held. let z = only_holder s r id t v at mine now (omega arith) in absurd (omega arith))
+      r.slot
+
+  pub releases : (slots id : ℕ) (rt : M) (a : Account) (next t : ℕ)
+      → Allows Rule slots id (plain rt a next (Keeps t), []) 2 (λ n. (n + 1) % 2 ^ 64) (released (step slots 2 1 0 none) (plain rt a next (Keeps t), []))
+  releases slots id rt a next t s r deep at fits =
+      let v : View M = plain rt a next (Keeps t) in
+      let f = r.each id v at in let mine = f.stage.2 in let now = f.stage.0 in let below = f.stage.1 in
+      let log : List Entry = list root ++ r.added in let w : View M = plain rt a next Idle in let lo = low s r in (
+        w,
+        keeps,
+        tt,
+        record {
+          added = r.added;
+          tickets = r.tickets;
+          serving = r.serving + 1;
+          given = r.given;
+          maker = r.maker;
+          owner = r.owner;
+          drawer = r.drawer;
+          words = ap (λ ws. set ws 2 ((get_or ws 2 0 + 1) % 2 ^ 64)) r.words ∙ ap (λ (k : ℕ). length log ∷ r.tickets ∷ k ∷ []) (mod-eq_of_lt (omega arith));
+          begun = r.begun;
+          few = r.few;
+          others = r.others;
+          drawn = (let k = total_set draws_of s.views id v w at in let d = r.drawn in omega arith);
+          counted = (let k = total_set accounts_of s.views id v w at in let d = r.counted in omega arith);
+          kept_next = (let k = total_set next_of s.views id v w at in let q = r.kept_next in omega arith);
+          waiting = (let k = total_set waits s.views id v w at in let d = r.waiting in omega arith);
+          each = each_set (FitsView root log r.added r.given r.maker r.tickets (r.serving + 1) r.owner r.drawer) s.views id w
+              record {
+                root_is = f.root_is;
+                next = f.next;
+                live = λ _. omega arith;
+                stage = tt;
+                accounts = f.accounts;
+              }
+              (λ k u ne at_k. let g = r.each k u at_k in record {
+                root_is = g.root_is;
+                next = g.next;
+                live = g.live;
+                stage = stage_else log log r.tickets r.tickets r.serving (r.serving + 1) r.drawer k u.stage (λ _ h. h) (λ t' h d. far s r id t t' k ne mine now h d) (apart s r id k t u.stage ne mine now g.stage) g.stage;
+                accounts = g.accounts;
+              });
+          slot = (let k = total_set holds_slot s.views id v w at in ⊎_elim (λ h. let h₀ = h.0 in inl (omega arith, h.1)) (λ h. inr (omega arith)) r.slot);
+        },
+        refl,
+      )
 
   pub splits : (id : ℕ) (rt : M) (a : Account) (next : ℕ) → 0 < next → next < o.passes → Splits Rule id (plain rt a next Idle) (split_left (plain rt a next Idle)) (split_right (plain rt a next Idle))
   splits id rt a next live room s r at =
@@ -504,6 +651,7 @@ module _ {M : Type 0} (list : M → List Entry) (same : M → M → Type 0) (o :
   holding_waits : (st : Stage) → 0 < is_holding st → 0 < is_waiting st
   holding_waits Idle h = h
   holding_waits (Waits t) h = omega arith
+  holding_waits (Keeps t) h = omega arith
   holding_waits (Holds t known) h = h
 
   pub ends : (s : St) (r : Rule s) (id : ℕ) (v : View M) → get_elem? s.views id ≡ some v → v.stage ≡ Idle → ((n : ℕ) → n < o.passes → Has n v.accounts)

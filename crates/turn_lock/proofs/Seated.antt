@@ -7,13 +7,13 @@ use mathlib.Core.List.{IsPrefix}
 use Rattle.atomic_table.specs.Table.{Me, step, Allows, Splits, Joins, Final, Seen, opening, rest}
 use Rattle.gt_base.specs.declared.requests.Entry.{Entry}
 use Rattle.turn_lock.specs.declared.view.Account.{Account}
-use Rattle.turn_lock.specs.declared.view.Stage.TheVariants.{Idle, Waits, Holds}
+use Rattle.turn_lock.specs.declared.view.Stage.TheVariants.{Idle, Waits, Keeps, Holds}
 use Rattle.turn_lock.specs.declared.view.View.{View}
 use Rattle.turn_lock.specs.declared.view.Spot.{Spot}
 use Rattle.turn_lock.specs.declared.view.Spot.TheVariants.{Home, Told}
 use Rattle.turn_lock.specs.declared.view.Origin.{Origin}
-use Rattle.turn_lock.specs.Turns.{Kept, drawn, looked, counted, added, passed, split_left, split_right, joined, spent_view, first_view, plain, Has, Ends}
-use Rattle.turn_lock.proofs.Keeping.{draws, looks, counts, adds, passes_on, splits, joins, starts, ends}
+use Rattle.turn_lock.specs.Turns.{Kept, drawn, looked, counted, added, passed, stayed, resumed, released, split_left, split_right, joined, spent_view, first_view, plain, Has, Ends}
+use Rattle.turn_lock.proofs.Keeping.{draws, looks, counts, adds, passes_on, stays, resumes, releases, splits, joins, starts, ends}
 use Rattle.std.specs.declared.snapshot.Snapshot.{Snapshot}
 
 module _ {M : Type 0} (list : M → List Entry) (same : M → M → Type 0) (o : Origin M) where
@@ -41,6 +41,24 @@ module _ {M : Type 0} (list : M → List Entry) (same : M → M → Type 0) (o :
       → Allows (Kept list same o) slots id me 2 (λ n. (n + 1) % 2 ^ 64) (passed list (step slots 2 1 0 none) me)
   passes_at slots id me rt a next t known x is room keeps_known same_rt = subst (λ (m : S). Allows (Kept list same o) slots id m 2 (λ n. (n + 1) % 2 ^ 64) (passed list (step slots 2 1 0 none) m)) (sym is)
       (passes_on list same o slots id rt a next t known x room keeps_known same_rt)
+
+  pub stays_at : (slots id : ℕ) (me : S) (rt : M) (a : Account) (next t : ℕ) (known : List Entry) (x : M) → me ≡ (plain rt a next (Holds t known), (0, Home x) ∷ []) → 0 < slots → list x ≡ known → same rt x
+      → Allows (Kept list same o) slots id me 0 (λ n. n) (stayed list (step slots 0 0 0 none) me)
+  stays_at slots id me rt a next t known x is room keeps_known same_rt = subst (λ (m : S). Allows (Kept list same o) slots id m 0 (λ n. n) (stayed list (step slots 0 0 0 none) m)) (sym is)
+      (stays list same o slots id rt a next t known x room keeps_known same_rt)
+
+  pub resumes_at : (slots id : ℕ) (me : S) (rt : M) (a : Account) (next t : ℕ) → me ≡ (plain rt a next (Keeps t), [])
+      → Allows (Kept list same o) slots id me 0 (λ n. n) (resumed list same (step slots 0 0 0 none) me)
+  resumes_at slots id me rt a next t is = subst (λ (m : S). Allows (Kept list same o) slots id m 0 (λ n. n) (resumed list same (step slots 0 0 0 none) m)) (sym is) (resumes list same o slots id rt a next t)
+
+  pub releases_at : (slots id : ℕ) (me : S) (rt : M) (a : Account) (next t : ℕ) → me ≡ (plain rt a next (Keeps t), [])
+      → Allows (Kept list same o) slots id me 2 (λ n. (n + 1) % 2 ^ 64) (released (step slots 2 1 0 none) me)
+  releases_at slots id me rt a next t is = subst (λ (m : S). Allows (Kept list same o) slots id m 2 (λ n. (n + 1) % 2 ^ 64) (released (step slots 2 1 0 none) m)) (sym is) (releases list same o slots id rt a next t)
+
+  -- what a resumption tells
+  pub taken_again : (me : S) (rt : M) (a : Account) (next t n slots : ℕ) (m' : S) → me ≡ (plain rt a next (Keeps t), []) → resumed list same (step slots 0 0 0 none) me n m'
+      → (x : M) × (m' ≡ (plain rt a next (Holds t (list x)), (0, Home x) ∷ [])) × same rt x × IsPrefix a.seen (list x)
+  taken_again me rt a next t n slots m' is h = let k = subst (λ (m : S). resumed list same (step slots 0 0 0 none) m n m') is h in (k.0, k.1, k.2 rt refl, k.3.0)
 
   -- what a look tells where the ticket is served
   pub served : (me : S) (rt : M) (a : Account) (next t n slots : ℕ) (m' : S) → me ≡ (plain rt a next (Waits t), []) → looked list same (step slots 2 0 0 none) me n m' → n ≡ t

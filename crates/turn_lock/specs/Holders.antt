@@ -1,11 +1,11 @@
 -- What clauses see of a lock and of a pass.
-use Rattle.std.specs.Prelude.{◌≡◌, ◌⊎◌, ℕ, zero, suc, List, [], ◌∷◌, length, drop, Option, Some, None}
+use Rattle.std.specs.Prelude.{◌≡◌, ◌⊎◌, ℕ, zero, suc, Bool, true, false, List, [], ◌∷◌, length, drop, Option, Some, None}
 use mathlib.Core.List.{IsPrefix}
 use Rattle.atomic_table.specs.Seated.{TableId}
 use Rattle.gt_base.specs.declared.requests.Entry.{Entry}
 use Rattle.turn_lock.specs.declared.view.Account.{Account}
 use Rattle.turn_lock.specs.declared.view.Stage.{Stage}
-use Rattle.turn_lock.specs.declared.view.Stage.TheVariants.{Idle, Waits, Holds}
+use Rattle.turn_lock.specs.declared.view.Stage.TheVariants.{Idle, Waits, Keeps, Holds}
 use Rattle.turn_lock.specs.declared.view.Spot.{Spot}
 use Rattle.turn_lock.specs.declared.view.Spot.TheVariants.{Away}
 use Rattle.turn_lock.specs.Turns.{part, Each}
@@ -23,7 +23,8 @@ pub record Lock (M : Type 0) : Type 0 where
 abbrev pub site_of : {M : Type 0} → Lock M → Site M
 site_of l = record { table = l.table; root = Some l.root }
 
--- turn is the list that the pass knows while it holds the turn
+-- draws counts its turns; one that it had kept took no ticket. turn is the list that the pass knows
+-- while it holds the turn
 pub record Holder (M : Type 0) : Type 0 where
   pub site : Site M
   pub number : ℕ
@@ -35,12 +36,20 @@ pub record Holder (M : Type 0) : Type 0 where
 abbrev pub turn_of : Stage → Option (List Entry)
 turn_of Idle = None
 turn_of (Waits t) = None
+turn_of (Keeps t) = None
 turn_of (Holds t known) = Some known
 
 abbrev pub HandFits : {M : Type 0} → Stage → List (ℕ × Spot M) → Type 0
 HandFits Idle hand = hand ≡ []
 HandFits (Waits t) hand = ⊥
+HandFits (Keeps t) hand = hand ≡ []
 HandFits (Holds t known) hand = hand ≡ (0, Away) ∷ []
+
+abbrev pub is_kept : Stage → Bool
+is_kept Idle = false
+is_kept (Waits t) = false
+is_kept (Keeps t) = true
+is_kept (Holds t known) = false
 
 -- some pass has this number
 abbrev pub HasNumber : {M : Type 0} → ℕ → List (Holder M) → Type 0
@@ -67,6 +76,6 @@ module _ {M : Type 0} where
   newcomers l first k zero = []
   newcomers l first k (suc n) = newcomer l first k ∷ newcomers l first (suc k) n
 
-  -- what the rule keeps of a pass
+  -- what the rule keeps of a pass, but for its tickets
   abbrev pub account_of : Holder M → Account
-  account_of p = record { number = p.number; draws = p.draws; seen = p.seen; own = p.own }
+  account_of p = record { number = p.number; draws = 0; seen = p.seen; own = p.own }

@@ -9,7 +9,7 @@ use Rattle.atomic_table.specs.Table.{State, Me, Step}
 use Rattle.gt_base.specs.declared.requests.Entry.{Entry}
 use Rattle.turn_lock.specs.declared.view.Account.{Account}
 use Rattle.turn_lock.specs.declared.view.Stage.{Stage}
-use Rattle.turn_lock.specs.declared.view.Stage.TheVariants.{Idle, Waits, Holds}
+use Rattle.turn_lock.specs.declared.view.Stage.TheVariants.{Idle, Waits, Keeps, Holds}
 use Rattle.turn_lock.specs.declared.view.View.{View}
 use Rattle.turn_lock.specs.declared.view.Spot.{Spot}
 use Rattle.turn_lock.specs.declared.view.Spot.TheVariants.{Home, Told}
@@ -32,12 +32,21 @@ Each P (x ∷ xs) = P x × Each P xs
 abbrev pub is_waiting : Stage → ℕ
 is_waiting Idle = 0
 is_waiting (Waits t) = 1
+is_waiting (Keeps t) = 1
 is_waiting (Holds t known) = 1
 
 abbrev pub is_holding : Stage → ℕ
 is_holding Idle = 0
 is_holding (Waits t) = 0
+is_holding (Keeps t) = 0
 is_holding (Holds t known) = 1
+
+-- whether the ticket is known to be served
+abbrev pub is_served : Stage → ℕ
+is_served Idle = 0
+is_served (Waits t) = 0
+is_served (Keeps t) = 1
+is_served (Holds t known) = 1
 
 -- What a pass has drawn and seen, and its own entries. log is the history, added are its entries
 -- after the first front, given is the number of passes so far, and owner tells the seat that keeps
@@ -51,11 +60,13 @@ pub record FitsAccount (log added : List Entry) (given : ℕ) (owner : ℕ → �
   pub own : a.own ≡ part a.number added
 
 -- The ticket of a seat is its own: drawer tells the seat that drew it. Who waits was not served
--- yet, and who holds is served now and knows the history
+-- yet, who keeps is served now, and who holds is served now and knows the history
 abbrev pub FitsStage : List Entry → ℕ → ℕ → (ℕ → ℕ) → ℕ → Stage → Type 0
 FitsStage log tickets serving drawer seat Idle = Unit {0}
 FitsStage log tickets serving drawer seat (Waits t) =
     (serving ≤ t) × (t < tickets) × (drawer t ≡ seat)
+FitsStage log tickets serving drawer seat (Keeps t) =
+    (t ≡ serving) × (t < tickets) × (drawer t ≡ seat)
 FitsStage log tickets serving drawer seat (Holds t known) =
     (t ≡ serving) × (t < tickets) × (drawer t ≡ seat) × (known ≡ log)
 
@@ -146,11 +157,13 @@ seen_first (a ∷ others) = a.seen
 abbrev pub known_in : Stage → List Entry
 known_in Idle = []
 known_in (Waits t) = []
+known_in (Keeps t) = []
 known_in (Holds t known) = known
 
 abbrev pub ticket_in : Stage → ℕ
 ticket_in Idle = 0
 ticket_in (Waits t) = t
+ticket_in (Keeps t) = t
 ticket_in (Holds t known) = t
 
 abbrev pub account : ℕ → List Entry → Account
@@ -178,20 +191,27 @@ module _ {M : Type 0} where
   abbrev pub rested : View M → View M
   rested v = record v { stage = Idle; accounts = saw (known_in v.stage) v.accounts }
 
+  abbrev pub staying : View M → View M
+  staying v =
+      record v { stage = Keeps (ticket_in v.stage); accounts = saw (known_in v.stage) v.accounts }
+
   -- draw: the number found is the ticket
   abbrev pub drawn : Step (Spot M) → Standing M → ℕ → Standing M → Type 0
   drawn st m n m' = m' ≡ (with_ticket n m.0, m.1)
 
-  -- look: where the ticket is served, the seat holds the slot with a value of the lock's root,
-  -- whose list begins with what it had seen
+  -- the seat has the slot in hand with a value of the lock's root, whose list begins with what it
+  -- had seen
+  abbrev pub Takes : (M → List Entry) → (M → M → Type 0) → Standing M → Standing M → Type 0
+  Takes list same m m' =
+      (x : M) × (m' ≡ (with_turn (list x) m.0, (0, Home x) ∷ m.1))
+      × ((r : M) → m.0.root ≡ Some r → same r x)
+      × Each (λ (a : Account). IsPrefix a.seen (list x)) m.0.accounts
+
+  -- look: where the ticket is served, the seat takes the slot
   abbrev pub looked : (M → List Entry) → (M → M → Type 0) → Step (Spot M) → Standing M → ℕ
       → Standing M → Type 0
   looked list same st m n m' =
-      (n ≡ ticket_in m.0.stage
-      → (x : M) × (m' ≡ (with_turn (list x) m.0, (0, Home x) ∷ m.1))
-      × ((r : M) → m.0.root ≡ Some r → same r x)
-      × Each (λ (a : Account). IsPrefix a.seen (list x)) m.0.accounts)
-      × (¬ (n ≡ ticket_in m.0.stage) → m' ≡ m)
+      (n ≡ ticket_in m.0.stage → Takes list same m m') × (¬ (n ≡ ticket_in m.0.stage) → m' ≡ m)
 
   -- count: nothing moves
   abbrev pub counted : Step (Spot M) → Standing M → ℕ → Standing M → Type 0
@@ -211,6 +231,19 @@ module _ {M : Type 0} where
   -- pass on: the slot goes home
   abbrev pub passed : (M → List Entry) → Step (Spot M) → Standing M → ℕ → Standing M → Type 0
   passed list st m n m' = (m' ≡ (rested m.0, [])) × Tells list m
+
+  -- stay: the slot goes home, and the ticket stays served
+  abbrev pub stayed : (M → List Entry) → Step (Spot M) → Standing M → ℕ → Standing M → Type 0
+  stayed list st m n m' = (m' ≡ (staying m.0, [])) × Tells list m
+
+  -- resume: the seat takes the slot again
+  abbrev pub resumed : (M → List Entry) → (M → M → Type 0) → Step (Spot M) → Standing M → ℕ
+      → Standing M → Type 0
+  resumed list same st m n m' = Takes list same m m'
+
+  -- let go: the ticket that stayed served is so no more
+  abbrev pub released : Step (Spot M) → Standing M → ℕ → Standing M → Type 0
+  released st m n m' = m' ≡ (record m.0 { stage = Idle }, m.1)
 
   -- split: the next number goes to a new seat
   abbrev pub split_left : View M → View M
@@ -248,6 +281,10 @@ module _ {M : Type 0} where
 
   abbrev pub account_in : View M → Account
   account_in v = elim v.accounts [ [] ↦ account 0 [] | a ∷ _ ↦ a ]
+
+-- an account, but for the tickets that were drawn under it
+abbrev pub undrawn : Account → Account
+undrawn a = record a { draws = 0 }
 
 -- some account has this number
 abbrev pub Has : ℕ → List Account → Type 0

@@ -1,7 +1,7 @@
 //! The end of a lock: all passes are back, and the value is handed out.
-ghost use Rattle.std.specs.Prelude.{◌≡◌, ◌<◌, ◌≤◌, ◌++◌, [], ◌∷◌, ℕ, map, length, drop};
+ghost use Rattle.std.specs.Prelude.{◌≡◌, ◌<◌, ◌≤◌, ◌++◌, [], ◌∷◌, ℕ, None, Some, map, length, drop};
 ghost use mathlib.Core.List.{IsPrefix};
-ghost use Rattle.turn_lock.specs.Turns.{Each, Has, Ends, part};
+ghost use Rattle.turn_lock.specs.Turns.{Each, Has, Ends, part, undrawn};
 ghost use Rattle.turn_lock.specs.Seats.{IsSized, IsSameSeat, IsMany};
 ghost use Rattle.turn_lock.specs.Holders.{Lock, site_of, AreIdle, HasNumber, IsTold, account_of};
 
@@ -10,22 +10,42 @@ use crate::pass::Pass;
 use crate::passes::Passes;
 use crate::plays::Glue;
 use crate::rule::{Place, TurnTable};
-use crate::steps::Tabletop;
+use crate::steps::{Tabletop, release};
 use crate::view::Spot;
 use gt_base::Keeps;
+
+// The seat of a pass, which gives its turn on where it has kept it.
+fn seat_of<M: Keeps>(top: &Tabletop<M>, pass: Pass<M>) -> Place<M>
+    requires fits { (pass.site
+        ≡ record { table = top.now.table_id; root = Some top.now.key.value.value })
+        × IsSized top.now.table_id }
+    requires idle { pass.turn ≡ None }
+    ensures seat { (result.table_id ≡ top.now.table_id)
+        × IsMany top.now.key.value.value result.me.0.accounts result }
+    ensures account { map undrawn result.me.0.accounts ≡ account_of pass ∷ [] }
+{
+    let (mut seat, kept) = pass.into_parts();
+    if kept {
+        release(top, &mut seat);
+    }
+    seat
+}
 
 // Joins all passes to the seat.
 fn gather<M: Keeps>(top: &Tabletop<M>, seat: &mut Place<M>, mut all: Vec<Pass<M>>)
     requires fits { (seat.old.table_id ≡ top.now.table_id) × IsSized top.now.table_id }
     requires seat { IsMany top.now.key.value.value seat.old.me.0.accounts seat.old }
-    requires idle { AreIdle (record { table = top.now.table_id; root = Some top.now.key.value.value })
+    requires idle { AreIdle
+        (record { table = top.now.table_id; root = Some top.now.key.value.value })
         all.items }
-    ensures { (seat.new.table_id ≡ seat.old.table_id)
-        × IsMany top.now.key.value.value (map account_of all.items ++ seat.old.me.0.accounts)
-        seat.new }
+    ensures seat { (seat.new.table_id ≡ seat.old.table_id)
+        × IsMany top.now.key.value.value seat.new.me.0.accounts seat.new }
+    ensures accounts { map undrawn seat.new.me.0.accounts
+        ≡ map account_of all.items ++ map undrawn seat.old.me.0.accounts }
 {
     while let Some(pass) = all.pop() {
-        top.join_seat::<Glue>(seat, pass.into_seat());
+        let other = seat_of(top, pass);
+        top.join_seat::<Glue>(seat, other);
     }
     all.destroy_empty();
 }
@@ -62,7 +82,7 @@ impl<M: Keeps> TurnLock<M> {
         let Passes { mut all } = passes;
         let last = all.pop();
         let Some(pass) = last else { unreachable!() };
-        let mut seat = pass.into_seat();
+        let mut seat = seat_of(&table.shared, pass);
         gather(&table.shared, &mut seat, all);
         finish(table, seat)
     }

@@ -8,7 +8,7 @@ ghost use Rattle.turn_lock.specs.Holders.{site_of};
 use crate::front::Front;
 use crate::pass::{MOST_DRAWS, Pass};
 use crate::rule::TurnTable;
-use crate::steps::{append, draw, give_back, take};
+use crate::steps::{append, draw, give_back, release, resume, stay, take};
 use gt_base::Keeps;
 use std::marker::Model;
 use std::sync::Wait;
@@ -27,10 +27,17 @@ impl<M: Keeps> Model for TurnLock<M> {
     ghost use Rattle.std.specs.Prelude.{◌≤◌};
     ghost use Rattle.turn_lock.specs.Seats.{IsSized};
 
-    ghost view = { λ l. record { table = l.table.shared.table_id; root = l.table.shared.key.value.value; passes = l.table.shared.key.passes } };
+    ghost view = { λ l. record {
+      table = l.table.shared.table_id;
+      root = l.table.shared.key.value.value;
+      passes = l.table.shared.key.passes;
+    } };
 
     ghost invariant = { λ l. IsSized l.table.shared.table_id × (1 ≤ l.table.shared.key.passes) };
 }
+
+/// How many turns in a row a pass keeps.
+const MOST_KEPT: u32 = 64;
 
 /// The pass has drawn as many turns as a pass may, which is 2^40.
 #[derive(Clone, Copy, PartialEq, Eq, Debug)]
@@ -59,8 +66,12 @@ impl<M: Keeps> TurnLock<M> {
         if pass.draws >= MOST_DRAWS {
             return Err(Worn { draws: pass.draws });
         }
-        let ticket = draw(&self.table.shared, &mut pass.seat);
         pass.draws += 1;
+        if pass.kept {
+            pass.kept = false;
+            return Ok(resume(&self.table.shared, &mut pass.seat));
+        }
+        let ticket = draw(&self.table.shared, &mut pass.seat);
         Ok(take(rt, &self.table.shared, &mut pass.seat, ticket))
     }
 
@@ -82,8 +93,9 @@ impl<M: Keeps> TurnLock<M> {
         append(&self.table.shared, &mut pass.seat, value);
     }
 
-    /// Gives the value and the turn back. The pass has then seen the list of the value, and all
-    /// entries of its number after the first front are its own.
+    /// Gives the value and the turn back; a pass that stays keeps the turn, and gives it on when it
+    /// rests. The pass has then seen the list of the value, and all entries of its number after the
+    /// first front are its own.
     pub fn leave(&self, pass: &mut Pass<M>, value: M) -> Front<M>
         requires pass { (pass.old.site ≡ site_of self.now) × (pass.old.turn ≡ Some (M.list value)) }
         requires root { M.same_root self.now.root value }
@@ -94,7 +106,27 @@ impl<M: Keeps> TurnLock<M> {
             ≡ part pass.new.number (drop (length (M.list self.now.root)) (M.list value)) }
     {
         let front = Front::of(&value);
-        give_back(&self.table.shared, &mut pass.seat, value);
+        if pass.stays && pass.run < MOST_KEPT {
+            pass.run += 1;
+            pass.kept = true;
+            stay(&self.table.shared, &mut pass.seat, value);
+        } else {
+            pass.run = 0;
+            give_back(&self.table.shared, &mut pass.seat, value);
+        }
         front
+    }
+
+    /// Gives the turn on where the pass has kept it, and has it keep none from now on.
+    pub fn rest(&self, pass: &mut Pass<M>)
+        requires pass { (pass.old.site ≡ site_of self.now) × (pass.old.turn ≡ None) }
+        ensures { pass.new ≡ pass.old }
+    {
+        pass.stays = false;
+        pass.run = 0;
+        if pass.kept {
+            pass.kept = false;
+            release(&self.table.shared, &mut pass.seat);
+        }
     }
 }

@@ -112,12 +112,18 @@ fn deal<M: Keeps>(top: &Tabletop<M>, mut seat: Place<M>, passes: u32, all: &mut 
             seat: other,
             number,
             draws: 0,
+            stays: false,
+            kept: false,
+            run: 0,
         });
     }
     let first = Pass {
         seat,
         number: 0,
         draws: 0,
+        stays: false,
+        kept: false,
+        run: 0,
     };
     if all.insert(0, first).is_err() {
         unreachable!()

@@ -17,7 +17,10 @@ impl<M> Model for Passes<M> {
 
     ghost use Rattle.std.specs.Prelude.{◌-◌, vec_capacity, vec_len};
 
-    ghost view = { λ p. record { items = p.all.items; spare = vec_capacity p.all - vec_len p.all } };
+    ghost view = { λ p. record {
+      items = p.all.items;
+      spare = vec_capacity p.all - vec_len p.all;
+    } };
 }
 
 impl<M> Passes<M> {

@@ -1,5 +1,5 @@
 //! What each step on the table tells.
-ghost use Rattle.turn_lock.specs.Turns.{drawn, looked, counted, added, passed, joined, spent_view, split_left, split_right};
+ghost use Rattle.turn_lock.specs.Turns.{drawn, looked, counted, added, passed, stayed, resumed, released, joined, spent_view, split_left, split_right};
 
 use crate::view::{Spot, View};
 use atomic_table::{Join, Play, Split};
@@ -38,6 +38,27 @@ pub struct PassOn;
 
 impl<M: Keeps> Play<Spot<M>, View<M>> for PassOn {
     ghost then = { passed M.list };
+}
+
+/// Puts the slot home, and keeps the ticket served.
+pub struct Stay;
+
+impl<M: Keeps> Play<Spot<M>, View<M>> for Stay {
+    ghost then = { stayed M.list };
+}
+
+/// Takes the slot again, whose ticket was kept served.
+pub struct Resume;
+
+impl<M: Keeps> Play<Spot<M>, View<M>> for Resume {
+    ghost then = { resumed M.list M.same_root };
+}
+
+/// Serves the next ticket after one that was kept served.
+pub struct Release;
+
+impl<M> Play<Spot<M>, View<M>> for Release {
+    ghost then = { released };
 }
 
 /// Gives the next number to a new seat.

@@ -2,12 +2,12 @@
 ghost use Rattle.std.specs.Prelude.{◌≡◌, ◌+◌, ◌^◌, ◌<◌, ◌++◌, [], ◌∷◌, length, drop};
 ghost use mathlib.Core.List.{IsPrefix};
 ghost use Rattle.gt_base.specs.declared.requests.Entry.{Entry};
-ghost use Rattle.turn_lock.specs.declared.view.Stage.TheVariants.{Idle, Waits, Holds};
+ghost use Rattle.turn_lock.specs.declared.view.Stage.TheVariants.{Idle, Waits, Keeps, Holds};
 ghost use Rattle.turn_lock.specs.declared.view.Spot.TheVariants.{Away};
 ghost use Rattle.turn_lock.specs.Turns.{known_in, ticket_in, part};
 ghost use Rattle.turn_lock.specs.Seats.{IsSized, IsAt, IsSameSeat, mine};
 
-use crate::plays::{Add, Count, Draw, Look, PassOn};
+use crate::plays::{Add, Count, Draw, Look, PassOn, Release, Resume, Stay};
 use crate::rule::{Place, Turns};
 use crate::view::{Origin, Spot, View};
 use atomic_table::Shared;
@@ -25,7 +25,8 @@ pub fn draw<M: Keeps>(top: &Tabletop<M>, seat: &mut Place<M>) -> u64
     requires idle { IsAt top.now.key.value.value (mine seat.old) Idle [] seat.old }
     requires left { (mine seat.old).draws < 2 ^ 40 }
     ensures seat { IsSameSeat seat.old seat.new }
-    ensures ticket { IsAt top.now.key.value.value (record (mine seat.old) { draws = (mine seat.old).draws + 1 })
+    ensures ticket { IsAt top.now.key.value.value
+        (record (mine seat.old) { draws = (mine seat.old).draws + 1 })
         (Waits result) [] seat.new }
 {
     top.fetch_add::<Draw>(seat, 1, 1)
@@ -52,8 +53,8 @@ pub fn take<M: Keeps, R: Wait>(rt: &R, top: &Tabletop<M>, seat: &mut Place<M>, t
     requires fits { (seat.old.table_id ≡ top.now.table_id) × IsSized top.now.table_id }
     requires waits { IsAt top.now.key.value.value (mine seat.old) (Waits ticket) [] seat.old }
     ensures seat { IsSameSeat seat.old seat.new }
-    ensures turn { IsAt top.now.key.value.value (mine seat.old) (Holds ticket (M.list result)) ((0, Away) ∷ [])
-        seat.new }
+    ensures turn { IsAt top.now.key.value.value (mine seat.old) (Holds ticket (M.list result))
+        ((0, Away) ∷ []) seat.new }
     ensures seen { IsPrefix (mine seat.old).seen (M.list result) }
     ensures root { M.same_root top.now.key.value.value result }
 {
@@ -107,8 +108,8 @@ pub fn give_back<M: Keeps>(top: &Tabletop<M>, seat: &mut Place<M>, value: M)
         (Holds (ticket_in seat.old.me.0.stage) (M.list value)) ((0, Away) ∷ []) seat.old }
     requires root { M.same_root top.now.key.value.value value }
     ensures seat { IsSameSeat seat.old seat.new }
-    ensures idle { IsAt top.now.key.value.value (record (mine seat.old) { seen = M.list value }) Idle []
-        seat.new }
+    ensures idle { IsAt top.now.key.value.value (record (mine seat.old) { seen = M.list value })
+        Idle [] seat.new }
     ensures first { IsPrefix (M.list top.now.key.value.value) (M.list value) }
     ensures own { (mine seat.old).own
         ≡ part (mine seat.old).number
@@ -117,9 +118,68 @@ pub fn give_back<M: Keeps>(top: &Tabletop<M>, seat: &mut Place<M>, value: M)
     let away = top.exchange(seat, 0, Spot::Home(value));
     let Spot::Away = away else { unreachable!() };
     let served = top.fetch_add::<PassOn>(seat, 2, 1);
+    wake(top, seat, served);
+}
+
+// Wakes those who sleep, where a ticket was drawn behind the one that was served.
+fn wake<M: Keeps>(top: &Tabletop<M>, seat: &mut Place<M>, served: u64)
+    requires fits { (seat.old.table_id ≡ top.now.table_id) × IsSized top.now.table_id }
+    requires hand { seat.old.me.1 ≡ [] }
+    ensures { IsSameSeat seat.old seat.new × (seat.new.me ≡ seat.old.me) }
+{
     let drawn = top.load::<Count>(seat, 1);
     // Who draws a ticket behind this load finds it served, and does not sleep.
     if drawn != served.wrapping_add(1) {
         top.wake_all(2);
     }
+}
+
+/// Gives the value back, and keeps the turn.
+pub fn stay<M: Keeps>(top: &Tabletop<M>, seat: &mut Place<M>, value: M)
+    requires fits { (seat.old.table_id ≡ top.now.table_id) × IsSized top.now.table_id }
+    requires turn { IsAt top.now.key.value.value (mine seat.old)
+        (Holds (ticket_in seat.old.me.0.stage) (M.list value)) ((0, Away) ∷ []) seat.old }
+    requires root { M.same_root top.now.key.value.value value }
+    ensures seat { IsSameSeat seat.old seat.new }
+    ensures kept { IsAt top.now.key.value.value (record (mine seat.old) { seen = M.list value })
+        (Keeps (ticket_in seat.old.me.0.stage)) [] seat.new }
+    ensures first { IsPrefix (M.list top.now.key.value.value) (M.list value) }
+    ensures own { (mine seat.old).own
+        ≡ part (mine seat.old).number
+        (drop (length (M.list top.now.key.value.value)) (M.list value)) }
+{
+    let away = top.exchange(seat, 0, Spot::Home(value));
+    let Spot::Away = away else { unreachable!() };
+    top.load::<Stay>(seat, 0);
+}
+
+/// Takes the value out in a turn that was kept.
+pub fn resume<M: Keeps>(top: &Tabletop<M>, seat: &mut Place<M>) -> M
+    requires fits { (seat.old.table_id ≡ top.now.table_id) × IsSized top.now.table_id }
+    requires kept { IsAt top.now.key.value.value (mine seat.old)
+        (Keeps (ticket_in seat.old.me.0.stage)) [] seat.old }
+    ensures seat { IsSameSeat seat.old seat.new }
+    ensures turn { IsAt top.now.key.value.value (mine seat.old)
+        (Holds (ticket_in seat.old.me.0.stage) (M.list result)) ((0, Away) ∷ []) seat.new }
+    ensures seen { IsPrefix (mine seat.old).seen (M.list result) }
+    ensures root { M.same_root top.now.key.value.value result }
+{
+    top.load::<Resume>(seat, 0);
+    let found = top.exchange(seat, 0, Spot::Away);
+    let Spot::Home(value) = found else {
+        unreachable!()
+    };
+    value
+}
+
+/// Gives a turn on that was kept.
+pub fn release<M: Keeps>(top: &Tabletop<M>, seat: &mut Place<M>)
+    requires fits { (seat.old.table_id ≡ top.now.table_id) × IsSized top.now.table_id }
+    requires kept { IsAt top.now.key.value.value (mine seat.old)
+        (Keeps (ticket_in seat.old.me.0.stage)) [] seat.old }
+    ensures seat { IsSameSeat seat.old seat.new }
+    ensures idle { IsAt top.now.key.value.value (mine seat.old) Idle [] seat.new }
+{
+    let served = top.fetch_add::<Release>(seat, 2, 1);
+    wake(top, seat, served);
 }

@@ -18,6 +18,8 @@ pub enum Stage {
     Idle,
     /// With this ticket.
     Waits(u64),
+    /// With this ticket, which is served, while the value is home.
+    Keeps(u64),
     /// With this ticket, and the list of the value that is out.
     Holds(u64, LinkedList<Entry>),
 }
