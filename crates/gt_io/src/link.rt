@@ -108,4 +108,10 @@ pub trait Clock {
 pub trait Gate {
     /// `call` counts the worker's request lines from 1.
     fn pass(&self, worker: u32, call: u64);
+
+    /// Whether `pass` may wait for another worker. Where it may, a worker keeps no turn of the lock
+    /// from one line to the next, since the other one could wait for that turn.
+    fn may_wait(&self) -> bool {
+        true
+    }
 }

@@ -209,4 +209,8 @@ pub struct OpenGate;
 
 impl Gate for OpenGate {
     fn pass(&self, _worker: u32, _call: u64) {}
+
+    fn may_wait(&self) -> bool {
+        false
+    }
 }
