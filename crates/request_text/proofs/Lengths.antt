@@ -29,7 +29,7 @@ pub short_name : (n : List ℕ) → is_name n ≡ true → length n ≤ 32
 short_name [] h = omega arith
 short_name (b ∷ bs) h = omega (arith, ltb-true (length bs) 32 (both (is_letter b && list_all is_name_byte bs) (nat_lt (length bs) 32) h).1)
 
-short_at : (ns : List (List ℕ)) (k : ℕ) → list_all is_name ns ≡ true → length (get_or ns k []) ≤ 32
+pub short_at : (ns : List (List ℕ)) (k : ℕ) → list_all is_name ns ≡ true → length (get_or ns k []) ≤ 32
 short_at [] k h = omega arith
 short_at (n ∷ ns) zero h = short_name n (both (is_name n) (list_all is_name ns) h).0
 short_at (n ∷ ns) (suc k) h = short_at ns k (both (is_name n) (list_all is_name ns) h).1
@@ -62,7 +62,7 @@ module _ (np : NamedPolicy) (good : IsWellFormed np) where
   short_walk : (w : RoleWalk) → length (walk_text np w) ≤ 32 + 33 * length w.edges
   short_walk w = omega (arith, ap length (walk_is_led np w), length-append (role_name np.names w.start) (flat_map (step_name np) w.edges), short_role w.start, short_steps w.edges)
 
-  ten : (n : ℕ) → n < 2 ^ 32 → length (decimal n) ≤ 10
+  pub ten : (n : ℕ) → n < 2 ^ 32 → length (decimal n) ≤ 10
   ten n h = length-decimal-le 10 n (omega arith) (omega arith) (omega arith)
 
   short_seen : (s : Seen) → IsSmallSeen s → length (seen_text s) ≤ 80
@@ -93,7 +93,7 @@ module _ (np : NamedPolicy) (good : IsWellFormed np) where
   short_decision NoGrant h = omega arith
   short_decision (Shut n) h = omega (arith, short_edge n)
 
-  short_reply : (r : Reply) → IsSmall r → IsBrief r → length (reply_text np r) ≤ 33_009
+  pub short_reply : (r : Reply) → IsSmall r → IsBrief r → length (reply_text np r) ≤ 33_009
   short_reply (Now t) small brief = omega arith
   short_reply (Truth true) small brief = omega arith
   short_reply (Truth false) small brief = omega arith

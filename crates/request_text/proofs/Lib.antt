@@ -13,6 +13,7 @@ pub mod Plainness
 pub mod RequestWords
 pub mod NoEquals
 pub mod ShortRequests
+pub mod EntryLengths
 pub mod ToldEntries
 pub mod Answering
 pub mod SoundWalks

@@ -5,6 +5,8 @@ pub mod Replies
 pub mod Named
 pub mod Walks
 pub mod Sizes
+pub mod Rooms
+pub mod Fitting
 pub mod Kinds
 pub mod Tellable
 pub mod Laws

@@ -2,16 +2,19 @@
 #![tactic(auto)]
 
 mod asked;
+mod entries;
 mod forms;
 mod laws;
 mod lines;
 mod phrases;
 mod reading;
 mod replies;
+mod rooms;
 mod sizes;
 mod verbs;
 mod writing;
 
+pub use entries::{put_birth, put_entries};
 pub use laws::{
     lines_are_read, logs_are_told, long_is_told, phrases_are_spelled, replies_answer,
     replies_are_told, replies_can_be_written, requests_are_told, walks_are_brief,
@@ -20,5 +23,6 @@ pub use lines::{Line, LineFault};
 pub use phrases::{NamedRequest, Phrase};
 pub use reading::read_line;
 pub use replies::put_reply;
+pub use rooms::Page;
 pub use sizes::{LONGEST_REPLY, reply_fits};
 pub use writing::{write_entry, write_log, write_reply};

@@ -4,44 +4,43 @@ ghost use Rattle.std.specs.List.{list_all};
 ghost use Rattle.civil_time.specs.Text.{civil_text};
 ghost use Rattle.policy_words.specs.Naming.{role_name};
 ghost use Rattle.request_text.specs.Replies.{yes_or_no, seen_text, refusal_text, junior_text, edge_text, walk_text, decision_text, reply_text, reply_line};
+ghost use Rattle.request_text.specs.Rooms.{Puts};
 ghost use Rattle.request_text.specs.Named.{has_edge, has_walk, has_decision, has_reply};
 ghost use Rattle.request_text.specs.Walks.{step_name, with_number};
 
+use crate::rooms::Room;
 use civil_time::write_civil;
 use gt_base::{Decision, HierEdge, Instant, List, Name, Refusal, Reply, RoleId, Seen, Walk};
 use itoa::Buffer;
 use policy_book::Policy;
 
 /// Adds a piece and a number.
-fn put_number(into: &mut List<u8>, piece: &[u8], n: u32)
-    requires { length (piece.now ++ decimal n) ≤ into.old.spare }
-    ensures items { into.new.items ≡ into.old.items ++ (piece.now ++ decimal n) }
-    ensures spare { into.old.spare ≤ into.new.spare + length (piece.now ++ decimal n) }
+pub(crate) fn put_number<R: Room>(into: &mut R, piece: &[u8], n: u32)
+    requires { length (piece.now ++ decimal n) ≤ (R.room into.old).spare }
+    ensures { Puts (R.room into.old) (R.room into.new) (piece.now ++ decimal n) }
 {
     let mut buffer = Buffer::new();
-    into.extend_from_slice(piece);
-    into.extend_from_slice(buffer.format(n).as_bytes());
+    into.put(piece);
+    into.put(buffer.format(n).as_bytes());
 }
 
 /// Adds a piece and an instant.
-fn put_instant(into: &mut List<u8>, piece: &[u8], t: Instant)
-    requires { length (piece.now ++ civil_text t) ≤ into.old.spare }
-    ensures items { into.new.items ≡ into.old.items ++ (piece.now ++ civil_text t) }
-    ensures spare { into.old.spare ≤ into.new.spare + length (piece.now ++ civil_text t) }
+pub(crate) fn put_instant<R: Room>(into: &mut R, piece: &[u8], t: Instant)
+    requires { length (piece.now ++ civil_text t) ≤ (R.room into.old).spare }
+    ensures { Puts (R.room into.old) (R.room into.new) (piece.now ++ civil_text t) }
 {
-    into.extend_from_slice(piece);
-    into.extend_from_slice(&write_civil(t));
+    into.put(piece);
+    into.put(&write_civil(t));
 }
 
-fn put_seen(into: &mut List<u8>, seen: Seen)
-    requires { length (seen_text seen) ≤ into.old.spare }
-    ensures items { into.new.items ≡ into.old.items ++ seen_text seen }
-    ensures spare { into.old.spare ≤ into.new.spare + length (seen_text seen) }
+fn put_seen<R: Room>(into: &mut R, seen: Seen)
+    requires { length (seen_text seen) ≤ (R.room into.old).spare }
+    ensures { Puts (R.room into.old) (R.room into.new) (seen_text seen) }
 {
     match seen {
         Seen::Unblocked(prio) => put_number(into, b"yes ", u32::from(prio.get())),
         Seen::Blocked(prio) => put_number(into, b"blocked ", u32::from(prio.get())),
-        Seen::Absent => into.extend_from_slice(b"no"),
+        Seen::Absent => into.put(b"no"),
     }
 }
 
@@ -66,15 +65,14 @@ fn refusal_parts(refusal: Refusal) -> (&'static [u8], Option<u32>)
     }
 }
 
-fn put_refusal(into: &mut List<u8>, refusal: Refusal)
-    requires { length (refusal_text refusal) ≤ into.old.spare }
-    ensures items { into.new.items ≡ into.old.items ++ refusal_text refusal }
-    ensures spare { into.old.spare ≤ into.new.spare + length (refusal_text refusal) }
+fn put_refusal<R: Room>(into: &mut R, refusal: Refusal)
+    requires { length (refusal_text refusal) ≤ (R.room into.old).spare }
+    ensures { Puts (R.room into.old) (R.room into.new) (refusal_text refusal) }
 {
     let (piece, number) = refusal_parts(refusal);
     match number {
         Some(n) => put_number(into, piece, n),
-        None => into.extend_from_slice(piece),
+        None => into.put(piece),
     }
 }
 
@@ -98,32 +96,29 @@ pub(crate) fn junior_of(p: &Policy, n: u32) -> Name
 }
 
 /// Adds the sign between two roles and the junior of an edge.
-fn put_junior(into: &mut List<u8>, p: &Policy, n: u32)
+fn put_junior<R: Room>(into: &mut R, p: &Policy, n: u32)
     requires edge { IsTrue (has_edge p.now.policy n) }
-    requires room { length (step_name p.now n) ≤ into.old.spare }
-    ensures items { into.new.items ≡ into.old.items ++ step_name p.now n }
-    ensures spare { into.old.spare ≤ into.new.spare + length (step_name p.now n) }
+    requires room { length (step_name p.now n) ≤ (R.room into.old).spare }
+    ensures { Puts (R.room into.old) (R.room into.new) (step_name p.now n) }
 {
-    into.extend_from_slice(b">");
-    into.extend_from_slice(junior_of(p, n).bytes());
+    into.put(b">");
+    into.put(junior_of(p, n).bytes());
 }
 
 /// Adds a piece and the role where a walk begins.
-fn put_start(into: &mut List<u8>, p: &Policy, piece: &[u8], start: RoleId)
+fn put_start<R: Room>(into: &mut R, p: &Policy, piece: &[u8], start: RoleId)
     requires role { start.0 < length p.now.names.roles }
-    requires room { length (piece.now ++ role_name p.now.names start) ≤ into.old.spare }
-    ensures items { into.new.items ≡ into.old.items ++ (piece.now ++ role_name p.now.names start) }
-    ensures spare { into.old.spare ≤ into.new.spare + length (piece.now ++ role_name p.now.names start) }
+    requires room { length (piece.now ++ role_name p.now.names start) ≤ (R.room into.old).spare }
+    ensures { Puts (R.room into.old) (R.room into.new) (piece.now ++ role_name p.now.names start) }
 {
-    into.extend_from_slice(piece);
-    into.extend_from_slice(p.role_name(start).bytes());
+    into.put(piece);
+    into.put(p.role_name(start).bytes());
 }
 
-fn put_juniors(into: &mut List<u8>, p: &Policy, edges: &[u32])
+fn put_juniors<R: Room>(into: &mut R, p: &Policy, edges: &[u32])
     requires edges { IsTrue (list_all (has_edge p.now.policy) edges.now) }
-    requires room { length (flat_map (step_name p.now) edges.now) ≤ into.old.spare }
-    ensures items { into.new.items ≡ into.old.items ++ flat_map (step_name p.now) edges.now }
-    ensures spare { into.old.spare ≤ into.new.spare + length (flat_map (step_name p.now) edges.now) }
+    requires room { length (flat_map (step_name p.now) edges.now) ≤ (R.room into.old).spare }
+    ensures { Puts (R.room into.old) (R.room into.new) (flat_map (step_name p.now) edges.now) }
 {
     for n in edges {
         put_junior(into, p, *n);
@@ -131,71 +126,65 @@ fn put_juniors(into: &mut List<u8>, p: &Policy, edges: &[u32])
 }
 
 /// Adds a piece and the names of a walk's roles.
-fn put_walk(into: &mut List<u8>, p: &Policy, piece: &[u8], walk: &Walk)
+fn put_walk<R: Room>(into: &mut R, p: &Policy, piece: &[u8], walk: &Walk)
     requires walk { IsTrue (has_walk p.now.policy walk.now) }
-    requires room { length (piece.now ++ walk_text p.now walk.now) ≤ into.old.spare }
-    ensures items { into.new.items ≡ into.old.items ++ (piece.now ++ walk_text p.now walk.now) }
-    ensures spare { into.old.spare ≤ into.new.spare + length (piece.now ++ walk_text p.now walk.now) }
+    requires room { length (piece.now ++ walk_text p.now walk.now) ≤ (R.room into.old).spare }
+    ensures { Puts (R.room into.old) (R.room into.new) (piece.now ++ walk_text p.now walk.now) }
 {
     p.keeps();
     put_start(into, p, piece, walk.start);
     put_juniors(into, p, walk.edges.as_slice());
 }
 
-fn put_shut(into: &mut List<u8>, p: &Policy, n: u32)
+fn put_shut<R: Room>(into: &mut R, p: &Policy, n: u32)
     requires edge { IsTrue (has_edge p.now.policy n) }
-    requires room { length (codes "deny shut " ++ edge_text p.now n) ≤ into.old.spare }
-    ensures items { into.new.items ≡ into.old.items ++ (codes "deny shut " ++ edge_text p.now n) }
-    ensures spare { into.old.spare ≤ into.new.spare + length (codes "deny shut " ++ edge_text p.now n) }
+    requires room { length (codes "deny shut " ++ edge_text p.now n) ≤ (R.room into.old).spare }
+    ensures { Puts (R.room into.old) (R.room into.new) (codes "deny shut " ++ edge_text p.now n) }
 {
     let edge = edge(p, n);
-    into.extend_from_slice(b"deny shut ");
-    into.extend_from_slice(p.role_name(edge.senior).bytes());
-    into.extend_from_slice(b">");
-    into.extend_from_slice(p.role_name(edge.junior).bytes());
+    into.put(b"deny shut ");
+    into.put(p.role_name(edge.senior).bytes());
+    into.put(b">");
+    into.put(p.role_name(edge.junior).bytes());
 }
 
-fn put_decision(into: &mut List<u8>, p: &Policy, decision: &Decision)
+fn put_decision<R: Room>(into: &mut R, p: &Policy, decision: &Decision)
     requires named { IsTrue (has_decision p.now.policy decision.now) }
-    requires room { length (decision_text p.now decision.now) ≤ into.old.spare }
-    ensures items { into.new.items ≡ into.old.items ++ decision_text p.now decision.now }
-    ensures spare { into.old.spare ≤ into.new.spare + length (decision_text p.now decision.now) }
+    requires room { length (decision_text p.now decision.now) ≤ (R.room into.old).spare }
+    ensures { Puts (R.room into.old) (R.room into.new) (decision_text p.now decision.now) }
 {
     match decision {
         Decision::Permit { walk } => put_walk(into, p, b"permit by ", walk),
-        Decision::NoActive => into.extend_from_slice(b"deny no-active"),
-        Decision::NoGrant => into.extend_from_slice(b"deny no-grant"),
+        Decision::NoActive => into.put(b"deny no-active"),
+        Decision::NoGrant => into.put(b"deny no-grant"),
         Decision::Shut { edge } => put_shut(into, p, *edge),
     }
 }
 
-fn put_truth(into: &mut List<u8>, truth: bool)
-    requires { length (yes_or_no truth) ≤ into.old.spare }
-    ensures items { into.new.items ≡ into.old.items ++ yes_or_no truth }
-    ensures spare { into.old.spare ≤ into.new.spare + length (yes_or_no truth) }
+fn put_truth<R: Room>(into: &mut R, truth: bool)
+    requires { length (yes_or_no truth) ≤ (R.room into.old).spare }
+    ensures { Puts (R.room into.old) (R.room into.new) (yes_or_no truth) }
 {
     if truth {
-        into.extend_from_slice(b"yes");
+        into.put(b"yes");
     } else {
-        into.extend_from_slice(b"no");
+        into.put(b"no");
     }
 }
 
-fn put_refused(into: &mut List<u8>, refusal: Refusal)
-    requires { length (codes "refused " ++ refusal_text refusal) ≤ into.old.spare }
-    ensures items { into.new.items ≡ into.old.items ++ (codes "refused " ++ refusal_text refusal) }
-    ensures spare { into.old.spare ≤ into.new.spare + length (codes "refused " ++ refusal_text refusal) }
+fn put_refused<R: Room>(into: &mut R, refusal: Refusal)
+    requires { length (codes "refused " ++ refusal_text refusal) ≤ (R.room into.old).spare }
+    ensures { Puts (R.room into.old) (R.room into.new) (codes "refused " ++ refusal_text refusal) }
 {
-    into.extend_from_slice(b"refused ");
+    into.put(b"refused ");
     put_refusal(into, refusal);
 }
 
 /// Adds the text of a reply, without a line feed.
-pub(crate) fn put_text(into: &mut List<u8>, p: &Policy, reply: &Reply)
+pub(crate) fn put_text<R: Room>(into: &mut R, p: &Policy, reply: &Reply)
     requires named { IsTrue (has_reply p.now.policy reply.now) }
-    requires room { length (reply_text p.now reply.now) ≤ into.old.spare }
-    ensures items { into.new.items ≡ into.old.items ++ reply_text p.now reply.now }
-    ensures spare { into.old.spare ≤ into.new.spare + length (reply_text p.now reply.now) }
+    requires room { length (reply_text p.now reply.now) ≤ (R.room into.old).spare }
+    ensures { Puts (R.room into.old) (R.room into.new) (reply_text p.now reply.now) }
 {
     match reply {
         Reply::Now(t) => put_instant(into, b"now ", *t),
@@ -203,7 +192,7 @@ pub(crate) fn put_text(into: &mut List<u8>, p: &Policy, reply: &Reply)
         Reply::Event(seen) => put_seen(into, *seen),
         Reply::Queued(t) => put_instant(into, b"queued ", *t),
         Reply::Session(session) => put_number(into, b"session ", session.0),
-        Reply::Done => into.extend_from_slice(b"ok"),
+        Reply::Done => into.put(b"ok"),
         Reply::Active(walk) => put_walk(into, p, b"ok by ", walk),
         Reply::Decided(decision) => put_decision(into, p, decision),
         Reply::Refused(refusal) => put_refused(into, *refusal),

@@ -9,3 +9,4 @@ pub mod Closed
 pub mod Beginning
 pub mod Reaching
 pub mod Deciding
+pub mod Priorities

@@ -1,4 +1,5 @@
 pub mod Certificates
 pub mod Laws
+pub mod Priorities
 pub mod Kept
 pub mod Steps

@@ -14,4 +14,4 @@ mod showing;
 
 pub use certificates::{Cert, Listing};
 pub use checking::accept;
-pub use laws::accepted_is_the_model;
+pub use laws::{accepted_is_the_model, priorities_are_low};

@@ -3,8 +3,10 @@ use Rattle.request_text.specs.Walks.{step_name}
 use Rattle.request_text.proofs.replies.put_juniors.Given as goal
 
 abbrev pub invariant-loop-n : goal.invariant-loop-n
-invariant-loop-n l = record {
-  items : l.into.items ≡ l.fn.into.items ++ flat_map (step_name l.p) (take l.n-index l.edges);
-  room : length (flat_map (step_name l.p) (drop l.n-index l.edges)) ≤ l.into.spare;
-  spare : l.fn.into.spare ≤ l.into.spare + length (flat_map (step_name l.p) (take l.n-index l.edges));
-}
+invariant-loop-n g l =
+    let R = g.R.Room in
+    record {
+      items : (R.room l.into).items ≡ (R.room l.fn.into).items ++ flat_map (step_name l.p) (take l.n-index l.edges);
+      room : length (flat_map (step_name l.p) (drop l.n-index l.edges)) ≤ (R.room l.into).spare;
+      spare : (R.room l.fn.into).spare ≤ (R.room l.into).spare + length (flat_map (step_name l.p) (take l.n-index l.edges));
+    }
