@@ -13,8 +13,8 @@ use std::alloc::{AllocError, Global};
 use std::marker::Model;
 use std::sync::Wait;
 
-/// Two copies of a replica, of which readers look at one. They are seen as their root, the entries that are published, and those that were
-/// sent and are not published yet. End them by `end`.
+/// Two copies of a replica, of which readers look at one. They are seen as their root, the entries
+/// that are published, and those that were sent and are not published yet. End them by `end`.
 pub struct Copies<T: Replica> {
     writer: Writer<T, Entry, View<T::Root>, Growing>,
     sent: usize,
@@ -29,9 +29,19 @@ impl<T: Replica> Model for Copies<T> {
     ghost use Rattle.left_right.specs.Sides.{view as known};
     ghost use Rattle.published_copies.specs.Views.{sight};
 
-    ghost view = { λ c. record { root = T.root (T.state c.writer.desk.shown.value); shown = T.list (T.state c.writer.desk.shown.value); waiting = drop c.writer.behind c.writer.log.items } };
+    ghost view = { λ c. record {
+      root = T.root (T.state c.writer.desk.shown.value);
+      shown = T.list (T.state c.writer.desk.shown.value);
+      waiting = drop c.writer.behind c.writer.log.items;
+    } };
 
-    ghost invariant = { λ c. (known c.writer.desk.place ≡ sight (T.root (T.state c.writer.desk.shown.value)) (T.list (T.state c.writer.desk.shown.value))) × (c.sent ≡ length (T.list (T.state c.writer.desk.shown.value)) + length (drop c.writer.behind c.writer.log.items)) };
+    ghost invariant = { λ c.
+        (known c.writer.desk.place
+        ≡ sight (T.root (T.state c.writer.desk.shown.value))
+        (T.list (T.state c.writer.desk.shown.value)))
+        × (c.sent
+        ≡ length (T.list (T.state c.writer.desk.shown.value))
+        + length (drop c.writer.behind c.writer.log.items)) };
 }
 
 /// An equal entry.
@@ -71,7 +81,8 @@ impl<T: Replica> Copies<T> {
         requires readers { (0 < readers) × (readers < 2 ^ 32) }
         requires alike { T.state first ≡ T.state second }
         requires empty { T.list (T.state first) ≡ [] }
-        ensures { IfOk result (λ c. c ≡ record { root = T.root (T.state first); shown = []; waiting = [] }) }
+        ensures { IfOk result
+            (λ c. c ≡ record { root = T.root (T.state first); shown = []; waiting = [] }) }
     {
         let writer = Writer::new(alloc, first, second, readers)?;
         let (writer, told) = writer.publish_as::<Sees, R>(rt);
@@ -84,7 +95,8 @@ impl<T: Replica> Copies<T> {
         }
     }
 
-    /// A reader, which knows the root and what is published. For want of memory or of a place for it there is none.
+    /// A reader, which knows the root and what is published. For want of memory or of a place for
+    /// it there is none.
     pub fn reader(&mut self) -> Result<Sight<T>, Memory>
         ensures kept { self.new ≡ self.old }
         ensures reader { IfOk result (λ s. s ≡ sight self.old.root self.old.shown) }
@@ -97,7 +109,9 @@ impl<T: Replica> Copies<T> {
     /// Takes an entry for a later publication. For want of memory it stays out.
     fn send(&mut self, entry: Entry) -> Result<(), Memory>
         requires { length self.old.shown + length self.old.waiting + 1 < 2 ^ 64 }
-        ensures { MatchResult result (λ _. self.new ≡ record self.old { waiting = self.old.waiting ++ entry ∷ [] }) (λ _. self.new ≡ self.old) }
+        ensures { MatchResult result
+            (λ _. self.new ≡ record self.old { waiting = self.old.waiting ++ entry ∷ [] })
+            (λ _. self.new ≡ self.old) }
     {
         match self.writer.append(entry) {
             Ok(()) => {
@@ -108,10 +122,17 @@ impl<T: Replica> Copies<T> {
         }
     }
 
-    /// Publishes what waits. For want of memory in the copy that is brought up nothing is published.
+    /// Publishes what waits. Where nothing waits no copy is touched and no reader waited for. For
+    /// want of memory in the copy that is brought up nothing is published.
     fn publish<R: Wait>(self, rt: &R) -> (Copies<T>, Result<(), Memory>)
-        ensures { MatchResult result.1 (λ _. result.0 ≡ record { root = self.root; shown = self.shown ++ self.waiting; waiting = [] }) (λ _. result.0 ≡ self) }
+        ensures { MatchResult result.1
+            (λ _. result.0
+            ≡ record { root = self.root; shown = self.shown ++ self.waiting; waiting = [] })
+            (λ _. result.0 ≡ self) }
     {
+        if !self.writer.has_pending_operations() {
+            return (self, Ok(()));
+        }
         let Copies { writer, sent } = self;
         let (writer, told) = writer.publish_as::<Sees, R>(rt);
         match told {
@@ -133,7 +154,8 @@ impl<T: Replica> Copies<T> {
         Ok(())
     }
 
-    /// Publishes all of the entries, of which those sent so far are the first ones. What there is no memory for waits for the next call.
+    /// Publishes all of the entries, of which those sent so far are the first ones. What there is
+    /// no memory for waits for the next call.
     pub fn catch_up<R: Wait>(mut self, rt: &R, entries: &[Entry]) -> (Copies<T>, Result<(), Memory>)
         requires { IsPrefix (self.shown ++ self.waiting) entries.now }
         ensures root { result.0.root ≡ self.root }

@@ -1,4 +1,5 @@
-//! Two copies of a value that entries are played on: readers look at one with no lock, while the other is brought up.
+//! Two copies of a value that entries are played on: readers look at one with no lock, while the
+//! other is brought up.
 #![tactic(auto)]
 
 mod copies;

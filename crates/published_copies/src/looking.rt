@@ -44,9 +44,13 @@ impl<T: Replica> Model for Looking<T> {
 }
 
 impl<T: Replica> Sight<T> {
-    /// Looks at the replica that was published last. The reader comes back where there is none any more.
+    /// Looks at the replica that was published last. The reader comes back where there is none any
+    /// more.
     pub fn look(self) -> Result<Looking<T>, Sight<T>>
-        ensures { MatchResult result (λ l. Sighted (T.root (T.state l.replica)) (T.list (T.state l.replica)) (T.root (T.state l.replica)) (T.list (T.state l.replica)) self l.view) (λ s. s ≡ self) }
+        ensures { MatchResult result
+            (λ l. Sighted (T.root (T.state l.replica)) (T.list (T.state l.replica))
+            (T.root (T.state l.replica)) (T.list (T.state l.replica)) self l.view)
+            (λ s. s ≡ self) }
     {
         let Sight { reader } = self;
         match reader.enter_as::<Sees>() {

@@ -1,4 +1,5 @@
-ghost use Rattle.std.specs.Prelude.{◌≡◌, ◌++◌, ◌∷◌, [], refl};
+ghost use Rattle.std.specs.Prelude.{◌≡◌, ◌≤◌, ◌++◌, ◌∷◌, [], length, refl};
+ghost use mathlib.Core.List.{IsPrefix};
 
 use crate::copies::copy_of;
 use crate::{Copies, Replica, Sight};
@@ -6,6 +7,7 @@ use gt_base::{Entry, Instant, Memory, Step, Who};
 use left_right::Absorb;
 use std::alloc::{AllocError, Global};
 use std::collections::LinkedList;
+use std::sync::Wait;
 use std::test::Fail;
 
 // A list of what was played, which refuses an entry while `refusals` is positive.
@@ -73,25 +75,45 @@ fn seen(sight: Sight<Fake>) -> (Sight<Fake>, usize) {
     }
 }
 
-// Catches up with the entries twice, and says whether that failed, and what a reader saw after each time.
-fn twice<R: std::sync::Wait>(
+// Whether a call caught up, and how many entries a reader saw after it.
+type Said = (bool, usize);
+
+// Catches up with the entries once.
+fn once<R: Wait>(
+    rt: &R,
+    copies: Copies<Fake>,
+    sight: Sight<Fake>,
+    entries: &[Entry],
+) -> (Copies<Fake>, Sight<Fake>, Said)
+    requires { IsPrefix (copies.shown ++ copies.waiting) entries.now }
+    ensures { IsPrefix (result.0.shown ++ result.0.waiting) entries.now }
+{
+    let (copies, done) = copies.catch_up(rt, entries);
+    let (sight, n) = seen(sight);
+    (copies, sight, (done.is_ok(), n))
+}
+
+// Catches up with the first entry twice, and with all of them twice.
+fn four_times<R: Wait>(
     rt: &R,
     alloc: Global,
     first: Fake,
     second: Fake,
     entries: &[Entry],
-) -> Result<(bool, usize, bool, usize), Memory>
-    requires { (first.played.items ≡ []) × (second.played.items ≡ []) }
+) -> Result<(Said, Said, Said, Said), Memory>
+    requires empty { (first.played.items ≡ []) × (second.played.items ≡ []) }
+    requires some { 1 ≤ length entries.now }
 {
+    let (front, _) = entries.split_at(1);
     let mut copies = Copies::new(rt, alloc, first, second, 1)?;
     match copies.reader() {
         Ok(sight) => {
-            let (copies, one) = copies.catch_up(rt, entries);
-            let (sight, after_one) = seen(sight);
-            let (copies, two) = copies.catch_up(rt, entries);
-            let (_sight, after_two) = seen(sight);
+            let (copies, sight, one) = once(rt, copies, sight, front);
+            let (copies, sight, two) = once(rt, copies, sight, front);
+            let (copies, sight, three) = once(rt, copies, sight, entries);
+            let (copies, _sight, four) = once(rt, copies, sight, entries);
             copies.end(rt);
-            Ok((one.is_ok(), after_one, two.is_ok(), after_two))
+            Ok((one, two, three, four))
         }
         Err(fault) => {
             copies.end(rt);
@@ -100,33 +122,47 @@ fn twice<R: std::sync::Wait>(
     }
 }
 
+// What is said where the first copy to be brought up refuses so many entries, and the other one so
+// many.
+fn played<R: Wait>(
+    rt: &R,
+    alloc: Global,
+    refused: u32,
+    refused_by_other: u32,
+) -> Result<(Said, Said, Said, Said), Memory> {
+    let mut entries = Vec::new(alloc);
+    for minute in [5, 7] {
+        let Some(entry) = tick(minute) else {
+            return Err(AllocError);
+        };
+        entries.push(entry)?;
+    }
+    let first = make_fake(alloc, refused);
+    let second = make_fake(alloc, refused_by_other);
+    if entries.len() < 2 {
+        return Err(AllocError);
+    }
+    four_times(rt, alloc, first, second, entries.as_slice())
+}
+
 #[test]
 fn a_copy_that_refuses_once_is_brought_up_by_the_next_call(rt: HostRuntime) -> Result<(), Fail> {
-    let mut entries = Vec::new(rt.alloc());
-    entries.push(tick(5).ok_or("a minute")?)?;
-    entries.push(tick(7).ok_or("a minute")?)?;
-    let told = twice(
-        &rt,
-        rt.alloc(),
-        make_fake(rt.alloc(), 1),
-        make_fake(rt.alloc(), 0),
-        entries.as_slice(),
-    )?;
-    assert_eq!(rt; told, (false, 0, true, 2));
+    let said = played(&rt, rt.alloc(), 1, 0)?;
+    assert_eq!(rt; said, ((false, 0), (true, 1), (true, 2), (true, 2)));
+    Ok(())
+}
+
+// Where nothing is new the copy that is behind is not asked.
+#[test]
+fn a_copy_that_is_behind_may_refuse_too(rt: HostRuntime) -> Result<(), Fail> {
+    let said = played(&rt, rt.alloc(), 0, 1)?;
+    assert_eq!(rt; said, ((true, 1), (true, 1), (false, 1), (true, 2)));
     Ok(())
 }
 
 #[test]
-fn a_copy_that_is_behind_may_refuse_too(rt: HostRuntime) -> Result<(), Fail> {
-    let mut entries = Vec::new(rt.alloc());
-    entries.push(tick(5).ok_or("a minute")?)?;
-    let told = twice(
-        &rt,
-        rt.alloc(),
-        make_fake(rt.alloc(), 0),
-        make_fake(rt.alloc(), 1),
-        entries.as_slice(),
-    )?;
-    assert_eq!(rt; told, (true, 1, false, 1));
+fn past_a_copy_that_refuses_for_good_readers_see_nothing_new(rt: HostRuntime) -> Result<(), Fail> {
+    let said = played(&rt, rt.alloc(), 0, 100)?;
+    assert_eq!(rt; said, ((true, 1), (true, 1), (false, 1), (false, 1)));
     Ok(())
 }

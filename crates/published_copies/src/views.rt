@@ -27,5 +27,7 @@ pub struct Sees;
 impl<T: Replica> Outcome<T, View<T::Root>> for Sees {
     ghost use Rattle.published_copies.specs.Views.{Sighted};
 
-    ghost then = { λ v x y w. Sighted (T.root (T.state x)) (T.list (T.state x)) (T.root (T.state y)) (T.list (T.state y)) v w };
+    ghost then = { λ v x y w.
+        Sighted (T.root (T.state x)) (T.list (T.state x)) (T.root (T.state y))
+        (T.list (T.state y)) v w };
 }

@@ -15,8 +15,8 @@ use std::alloc::Global;
 use std::marker::Model;
 use std::sync::Wait;
 
-/// A ledger, and the copies on which its entries are published. It is seen as the book. It keeps the runtime, since to publish may wait for a
-/// reader.
+/// A ledger, and the copies on which its entries are published. It is seen as the book. It keeps
+/// the runtime, since to publish may wait for a reader.
 pub struct Board<'a, R: Wait> {
     pub(crate) rt: &'a R,
     pub(crate) ledger: Ledger,
@@ -35,7 +35,8 @@ impl<'a, R: Wait> Model for Board<'a, R> {
 
     ghost view = { λ b. b.ledger };
 
-    ghost invariant = { λ b. (b.copies.root ≡ (b.ledger.named, b.ledger.birth)) × IsPrefix (b.copies.shown ++ b.copies.waiting) b.ledger.entries };
+    ghost invariant = { λ b. (b.copies.root ≡ (b.ledger.named, b.ledger.birth))
+        × IsPrefix (b.copies.shown ++ b.copies.waiting) b.ledger.entries };
 }
 
 impl<'a, R: Wait> Drop for Board<'a, R> {
@@ -56,7 +57,8 @@ pub struct BoardFault {
 }
 
 impl<'a, R: Wait> Board<'a, R> {
-    /// A board over a ledger and two books of one policy and birth, all without entries, and a glass for each viewer, which has seen nothing yet.
+    /// A board over a ledger and two books of one policy and birth, all without entries, and a
+    /// glass for each viewer, which has seen nothing yet.
     pub fn new(
         rt: &'a R,
         alloc: Global,
@@ -69,7 +71,8 @@ impl<'a, R: Wait> Board<'a, R> {
         requires alike { SameRoot ledger left × SameRoot ledger right }
         requires viewers { (1 ≤ viewers) × (viewers ≤ 8) }
         ensures board { IfOk result (λ t. t.0 ≡ ledger) }
-        ensures glasses { IfOk result (λ t. t.1.items ≡ replicate viewers (fresh_glass ledger.named ledger.birth)) }
+        ensures glasses { IfOk result
+            (λ t. t.1.items ≡ replicate viewers (fresh_glass ledger.named ledger.birth)) }
         ensures err { IfErr result (λ e. e.ledger ≡ ledger) }
     {
         match set_up(rt, alloc, left, right, viewers, ledger.book().policy()) {
@@ -135,8 +138,10 @@ fn set_up<R: Wait>(
     requires alike { SameRoot left right }
     requires viewers { (1 ≤ viewers) × (viewers ≤ 8) }
     requires policy { left.named ≡ policy.now }
-    ensures copies { IfOk result (λ t. t.0 ≡ record { root = (left.named, left.birth); shown = []; waiting = [] }) }
-    ensures glasses { IfOk result (λ t. t.1.items ≡ replicate viewers (fresh_glass left.named left.birth)) }
+    ensures copies { IfOk result
+        (λ t. t.0 ≡ record { root = (left.named, left.birth); shown = []; waiting = [] }) }
+    ensures glasses { IfOk result
+        (λ t. t.1.items ≡ replicate viewers (fresh_glass left.named left.birth)) }
 {
     let birth = left.birth();
     let first = BookCopy::new(left);

@@ -1,4 +1,5 @@
-//! The board: the machine under the lock, whose entries are published on two copies for readers that take no turn.
+//! The board: the machine under the lock, whose entries are published on two copies for readers
+//! that take no turn.
 #![tactic(auto)]
 
 mod board;

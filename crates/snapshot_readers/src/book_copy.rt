@@ -1,5 +1,5 @@
-//! A book on which the entries of another are played. What comes of each is held against the entry, so that the entries that agree are those
-//! that were sent.
+//! A book on which the entries of another are played. What comes of each is held against the entry,
+//! so that the entries that agree are those that were sent.
 ghost use Rattle.std.specs.Prelude.{◌≡◌, ◌+◌, ◌++◌, ◌∷◌, [], true, length, take};
 ghost use mathlib.Core.List.{IsPrefix};
 ghost use Rattle.gt_base.specs.Machines.{ticked, asked};
@@ -15,7 +15,8 @@ use same_entries::same_reply;
 use std::alloc::AllocError;
 use std::collections::LinkedList;
 
-/// A book, and how many of its entries agree with those that were sent. Where these are not all, nothing more is played on it.
+/// A book, and how many of its entries agree with those that were sent. Where these are not all,
+/// nothing more is played on it.
 pub struct BookCopy {
     pub(crate) book: Book,
     pub(crate) good: usize,
@@ -73,7 +74,8 @@ impl Replica for BookCopy {
 fn tick_again(book: &mut Book, who: Who, upto: Instant, to: Instant) -> bool
     ensures root { SameRoot book.old book.new }
     ensures front { IsPrefix book.old.entries book.new.entries }
-    ensures same { result ≡ true → book.new.entries ≡ book.old.entries ++ ticked who upto to ∷ [] }
+    ensures same { result ≡ true
+        → book.new.entries ≡ book.old.entries ++ ticked who upto to ∷ [] }
 {
     let before = book.entries().len();
     match book.tick(who, upto) {
@@ -86,7 +88,8 @@ fn tick_again(book: &mut Book, who: Who, upto: Instant, to: Instant) -> bool
 fn ask_again(book: &mut Book, who: Who, actor: Actor, request: Request, reply: &Reply) -> bool
     ensures root { SameRoot book.old book.new }
     ensures front { IsPrefix book.old.entries book.new.entries }
-    ensures same { result ≡ true → book.new.entries ≡ book.old.entries ++ asked who actor request reply.now ∷ [] }
+    ensures same { result ≡ true
+        → book.new.entries ≡ book.old.entries ++ asked who actor request reply.now ∷ [] }
 {
     if !names(book.policy(), actor, &request) {
         return false;

@@ -15,7 +15,8 @@ use std::alloc::AllocError;
 use std::marker::Model;
 use std::snapshot::Snapshot;
 
-/// What a glance shows: the reply, the instant of the history that was seen, and how many entries it has.
+/// What a glance shows: the reply, the instant of the history that was seen, and how many entries
+/// it has.
 #[derive(Drop)]
 pub struct Glanced {
     pub reply: Reply,
@@ -23,7 +24,8 @@ pub struct Glanced {
     pub len: u64,
 }
 
-/// A reader of a board. It is seen as the policy and birth of the board, and the history that it has seen.
+/// A reader of a board. It is seen as the policy and birth of the board, and the history that it
+/// has seen.
 pub struct Glass {
     sight: Sight<BookCopy>,
     policy: Snapshot<Policy>,
@@ -55,7 +57,9 @@ impl Drop for Glass {
 /// Answers from a copy, where all of its entries agree with those that were sent.
 fn peek_at(copy: &BookCopy, actor: Actor, request: Request) -> Result<Glanced, Memory>
     requires { is_look request ≡ true }
-    ensures { IfOk result (λ g. IsGlance copy.now.book.named.policy copy.now.book.birth (take copy.now.good copy.now.book.entries) actor request g) }
+    ensures { IfOk result
+        (λ g. IsGlance copy.now.book.named.policy copy.now.book.birth
+        (take copy.now.good copy.now.book.entries) actor request g) }
 {
     if copy.good != copy.book.entries().len() {
         return Err(AllocError);
@@ -84,7 +88,8 @@ fn glance_by(
     requires { is_look asked.1 ≡ true }
     ensures root { (r : NamedPolicy × ℕ) → sight.root ≡ Some r → result.0.root ≡ Some r }
     ensures seen { IsPrefix sight.seen result.0.seen }
-    ensures ok { (r : NamedPolicy × ℕ) → sight.root ≡ Some r → IfOk result.1 (λ g. IsGlance r.0.policy r.1 result.0.seen asked.0 asked.1 g) }
+    ensures ok { (r : NamedPolicy × ℕ) → sight.root ≡ Some r
+        → IfOk result.1 (λ g. IsGlance r.0.policy r.1 result.0.seen asked.0 asked.1 g) }
 {
     match sight.look() {
         Ok(looking) => {
@@ -122,19 +127,21 @@ impl Glass {
         }
     }
 
-    /// Answers a request that only looks, from the history that was published last, without the lock. That history begins with all that this
-    /// glass had seen. For want of memory there is no answer, and the glass may have seen more.
+    /// Answers a request that only looks, from the history that was published last, without the
+    /// lock. That history begins with all that this glass had seen. For want of memory there is no
+    /// answer, and the glass may have seen more.
     pub fn glance(&mut self, actor: Actor, request: Request) -> Result<Glanced, Memory>
         requires { is_look request ≡ true }
         ensures root { (self.new.named ≡ self.old.named) × (self.new.birth ≡ self.old.birth) }
         ensures seen { IsPrefix self.old.seen self.new.seen }
-        ensures ok { IfOk result (λ g. IsGlance self.new.named.policy self.new.birth self.new.seen actor request g) }
+        ensures ok { IfOk result
+            (λ g. IsGlance self.new.named.policy self.new.birth self.new.seen actor request g) }
     {
         replace_with(&mut self.sight, (actor, request), glance_by)
     }
 
-    /// Looks whether the entries begin the history that was published last. Where they do, all that the glass sees from now on begins with
-    /// them.
+    /// Looks whether the entries begin the history that was published last. Where they do, all that
+    /// the glass sees from now on begins with them.
     pub fn told(&mut self, entries: &[Entry]) -> bool
         ensures root { (self.new.named ≡ self.old.named) × (self.new.birth ≡ self.old.birth) }
         ensures seen { IsPrefix self.old.seen self.new.seen }

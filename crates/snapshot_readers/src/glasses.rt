@@ -10,7 +10,8 @@ use published_copies::Copies;
 use std::alloc::Global;
 use std::marker::Model;
 
-/// A list of glasses. It is seen as its items and the number of further glasses that it has room for.
+/// A list of glasses. It is seen as its items and the number of further glasses that it has room
+/// for.
 pub struct Glasses {
     all: Vec<Glass>,
 }
@@ -23,7 +24,8 @@ impl Model for Glasses {
 
     ghost use Rattle.std.specs.Prelude.{◌-◌, vec_capacity, vec_len};
 
-    ghost view = { λ g. record { items = g.all.items; spare = vec_capacity g.all - vec_len g.all } };
+    ghost view = { λ g.
+        record { items = g.all.items; spare = vec_capacity g.all - vec_len g.all } };
 }
 
 impl Drop for Glasses {
@@ -33,8 +35,8 @@ impl Drop for Glasses {
 }
 
 impl Glasses {
-    /// A glass for each viewer, over copies on which nothing was played. The policy is that of the copies. For want of memory or of a place
-    /// for a reader there is none.
+    /// A glass for each viewer, over copies on which nothing was played. The policy is that of the
+    /// copies. For want of memory or of a place for a reader there is none.
     pub fn over(
         alloc: Global,
         copies: &mut Copies<BookCopy>,
@@ -44,7 +46,8 @@ impl Glasses {
     ) -> Result<Glasses, Memory>
         requires { copies.old ≡ record { root = (policy.now, birth); shown = []; waiting = [] } }
         ensures copies { copies.new ≡ copies.old }
-        ensures glasses { IfOk result (λ g. g.items ≡ replicate viewers (fresh_glass policy.now birth)) }
+        ensures glasses { IfOk result
+            (λ g. g.items ≡ replicate viewers (fresh_glass policy.now birth)) }
     {
         let mut glasses = Glasses {
             all: Vec::with_capacity(alloc, viewers as usize)?,
@@ -53,10 +56,13 @@ impl Glasses {
         Ok(glasses)
     }
 
-    /// Takes the last glass out and leaves its room. None where there is no glass, and then nothing has changed.
+    /// Takes the last glass out and leaves its room. None where there is no glass, and then nothing
+    /// has changed.
     pub fn take(&mut self) -> Option<Glass>
-        ensures last { MatchOption result ((self.old.items ≡ []) × (self.new ≡ self.old)) (λ glass. self.old.items ≡ self.new.items ++ glass ∷ []) }
-        ensures spare { MatchOption result (self.new.spare ≡ self.old.spare) (λ _. self.new.spare ≡ self.old.spare + 1) }
+        ensures last { MatchOption result ((self.old.items ≡ []) × (self.new ≡ self.old))
+            (λ glass. self.old.items ≡ self.new.items ++ glass ∷ []) }
+        ensures spare { MatchOption result (self.new.spare ≡ self.old.spare)
+            (λ _. self.new.spare ≡ self.old.spare + 1) }
     {
         self.all.pop()
     }
@@ -82,7 +88,8 @@ fn deal(
     requires room { (glasses.old.items ≡ []) × (viewers ≤ glasses.old.spare) }
     requires copies { copies.old ≡ record { root = (policy.now, birth); shown = []; waiting = [] } }
     ensures copies { copies.new ≡ copies.old }
-    ensures glasses { OnOk result (glasses.new.items ≡ replicate viewers (fresh_glass policy.now birth)) }
+    ensures glasses { OnOk result
+        (glasses.new.items ≡ replicate viewers (fresh_glass policy.now birth)) }
 {
     for _ in 0..viewers {
         glasses.put(Glass::over(copies.reader()?, policy, birth));

@@ -1,4 +1,5 @@
-//! Readers that answer requests without the lock: glasses, which look at the copy of a book that was published last.
+//! Readers that answer requests without the lock: glasses, which look at the copy of a book that
+//! was published last.
 #![tactic(auto)]
 
 mod book_copy;

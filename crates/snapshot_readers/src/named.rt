@@ -19,7 +19,9 @@ fn names_actor(policy: &Policy, actor: Actor) -> bool
 }
 
 fn names_fluent(policy: &Policy, fluent: Fluent) -> bool
-    ensures { result ≡ true → IsNamedWish policy.now.policy (ask Operator (Status (record { on = true; fluent = fluent }))) }
+    ensures { result ≡ true
+        → IsNamedWish policy.now.policy
+        (ask Operator (Status (record { on = true; fluent = fluent }))) }
 {
     let roles = policy.role_count();
     match fluent {

@@ -1,4 +1,4 @@
-use Rattle.std.proofs.Common.{◌≡◌, ◌<◌, ◌≤◌, length, refl, sym, arith}
+use Rattle.std.proofs.Common.{arith}
 use Rattle.same_entries.proofs.Beginnings.{same_more, all_same}
 use Rattle.same_entries.proofs.lists.begins.Goals as goal
 

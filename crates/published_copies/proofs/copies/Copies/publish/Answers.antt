@@ -1,4 +1,4 @@
-use Rattle.std.proofs.Common.{◌≡◌, ℕ, ◌+◌, List, [], ◌++◌, length, drop, ap, sym, ◌∙◌, arith, length-append}
+use Rattle.std.proofs.Common.{List, [], ◌++◌, length, drop, ap, ◌∙◌, arith, length-append}
 use Rattle.gt_base.specs.declared.requests.Entry.{Entry}
 use Rattle.published_copies.specs.Copied.{Copied}
 use Rattle.published_copies.proofs.Growing.{may_show, next_root, next_list}
