@@ -10,6 +10,7 @@ pub mod Ledgers
 pub mod Permits
 pub mod Plans
 pub mod Dropping
+pub mod Closings
 pub mod NextDrops
 pub mod Stretches
 pub mod Laws

@@ -25,40 +25,48 @@ use hybrid_hierarchy::Hierarchy;
 use indexmap::IndexMap;
 use std::alloc::Global;
 
+/// What permits an activation: the activations that stand and what is charged, the hierarchy, the
+/// caps, and the status of now.
+#[derive(Clone, Copy)]
+pub(crate) struct Permitting<'a> {
+    pub(crate) alloc: Global,
+    pub(crate) active: &'a [Activation],
+    pub(crate) charges: &'a Ledger,
+    pub(crate) hierarchy: &'a Hierarchy,
+    pub(crate) caps: &'a List<Caps>,
+    pub(crate) status: &'a Status,
+    pub(crate) instant: Instant,
+}
+
 /// Where the session stands, who owns it, and the walk that allows the role, or why the activation
 /// is refused.
 pub(crate) fn permitted(
-    alloc: Global,
     sessions: &[Open],
-    active: &[Activation],
-    charges: &Ledger,
-    hierarchy: &Hierarchy,
-    caps: &List<Caps>,
-    status: &Status,
-    now: Instant,
+    by: &Permitting,
     actor: Actor,
     session: SessionId,
     role: RoleId,
 ) -> Result<(usize, UserId, Walk), SessionFault>
     requires numbered { AreNumbered (map opened sessions.now) }
-    requires kept { (to : Option ℕ) × IsKept sessions.now active.now charges.now.charged to }
+    requires kept { (to : Option ℕ)
+        × IsKept sessions.now by.now.active.now by.now.charges.now.charged to }
     ensures ok { IfOk result
-        (λ r. IsPermitted hierarchy.now caps.now.items (has status.now.set) now actor session
-        role sessions.now active.now charges.now.charged r.0 r.1 r.2) }
+        (λ r. IsPermitted by.now.hierarchy.now by.now.caps.now.items
+        (has by.now.status.now.set) by.now.instant actor session role sessions.now
+        by.now.active.now by.now.charges.now.charged r.0 r.1 r.2) }
     ensures err { IfErr result
         (λ fault. (begun : ℕ)
         → OrRefused fault
-        (AnswersAt hierarchy.now caps.now.items (has status.now.set) now
-        (rows_table sessions.now active.now charges.now.charged begun) actor
+        (AnswersAt by.now.hierarchy.now by.now.caps.now.items (has by.now.status.now.set)
+        by.now.instant
+        (rows_table sessions.now by.now.active.now by.now.charges.now.charged begun) actor
         (Activate session role))) }
 {
-    let (at, user) = match ready(sessions, status, actor, session, role) {
+    let (at, user) = match ready(sessions, by.status, actor, session, role) {
         Ok(found) => found,
         Err(refusal) => return Err(SessionFault::Refused(refusal)),
     };
-    match allowing(
-        alloc, active, charges, hierarchy, caps, status, now, user, role,
-    ) {
+    match allowing(by, user, role) {
         Ok(walk) => Ok((at, user, walk)),
         Err(fault) => Err(fault),
     }
@@ -73,7 +81,8 @@ fn ready(
     role: RoleId,
 ) -> Result<(usize, UserId), Refusal>
     requires { AreNumbered (map opened sessions.now) }
-    ensures ok { IfOk result (λ r. IsReady (has status.now.set) actor session role sessions.now r.0 r.1) }
+    ensures ok { IfOk result
+        (λ r. IsReady (has status.now.set) actor session role sessions.now r.0 r.1) }
     ensures err { IfErr result (IsFirstCause (has status.now.set) actor session role sessions.now) }
 {
     let at = match owned(sessions, actor, session) {
@@ -87,32 +96,23 @@ fn ready(
 }
 
 /// The walk that allows the user the role, where no cap refuses it.
-fn allowing(
-    alloc: Global,
-    active: &[Activation],
-    charges: &Ledger,
-    hierarchy: &Hierarchy,
-    caps: &List<Caps>,
-    status: &Status,
-    now: Instant,
-    user: UserId,
-    role: RoleId,
-) -> Result<Walk, SessionFault>
-    requires all { count_by (λ a. same_role a.role role) active.now ≤ 10_000 }
-    requires own { count_by (is_of user role) active.now ≤ 10_000 }
+fn allowing(by: &Permitting, user: UserId, role: RoleId) -> Result<Walk, SessionFault>
+    requires all { count_by (λ a. same_role a.role role) by.now.active.now ≤ 10_000 }
+    requires own { count_by (is_of user role) by.now.active.now ≤ 10_000 }
     ensures ok { IfOk result
-        (Lets hierarchy.now caps.now.items (has status.now.set) now active.now
-        charges.now.charged user role) }
+        (Lets by.now.hierarchy.now by.now.caps.now.items (has by.now.status.now.set)
+        by.now.instant by.now.active.now by.now.charges.now.charged user role) }
     ensures err { IfErr result
         (λ fault. IsCauseOf fault
-        (walk_causes hierarchy.now caps.now.items (has status.now.set) now active.now
-        charges.now.charged user role)) }
+        (walk_causes by.now.hierarchy.now by.now.caps.now.items (has by.now.status.now.set)
+        by.now.instant by.now.active.now by.now.charges.now.charged user role)) }
 {
-    let Some(walk) = hierarchy.may_activate(alloc, status, user, role)? else {
+    let hierarchy = by.hierarchy;
+    let Some(walk) = hierarchy.may_activate(by.alloc, by.status, user, role)? else {
         return Err(SessionFault::Refused(Refusal::NotAssigned));
     };
-    let of_role = caps_of(caps.as_slice(), role);
-    match late_refusal(of_role, active, charges, user, role, day(now)) {
+    let of_role = caps_of(by.caps.as_slice(), role);
+    match late_refusal(of_role, by.active, by.charges, user, role, day(by.instant)) {
         Some(refusal) => Err(SessionFault::Refused(refusal)),
         None => Ok(walk),
     }

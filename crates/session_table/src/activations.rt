@@ -24,9 +24,19 @@ impl Model for Activation {
 
     ghost Value = { Activation };
 
-    ghost view = { λ a. record { session = a.session; user = a.user; role = a.role; begun = a.begun } };
+    ghost view = { λ a. record {
+      session = a.session;
+      user = a.user;
+      role = a.role;
+      begun = a.begun;
+    } };
 
-    ghost inverse = { λ a. record { session = a.session; user = a.user; role = a.role; begun = a.begun } };
+    ghost inverse = { λ a. record {
+      session = a.session;
+      user = a.user;
+      role = a.role;
+      begun = a.begun;
+    } };
 }
 
 /// Whether it is of this role in this session.

@@ -25,7 +25,10 @@ impl Model for ActiveRow {
 
     ghost Value = { Roomy Activation };
 
-    ghost view = { λ s. record { items = drop s.gap s.rows.items; spare = vec_capacity s.rows - vec_len s.rows } };
+    ghost view = { λ s. record {
+      items = drop s.gap s.rows.items;
+      spare = vec_capacity s.rows - vec_len s.rows;
+    } };
 
     ghost invariant = { λ s. s.gap ≤ length s.rows.items };
 }
@@ -116,7 +119,8 @@ impl ActiveRow {
     /// Keeps the activations whose roles stand in their sessions.
     pub(crate) fn keep_listed(&mut self, sessions: &[Open])
         requires { AreNumbered (map opened sessions.now) }
-        ensures { self.new.items ≡ filter (λ a. role_in sessions.now a.session a.role) self.old.items }
+        ensures { self.new.items
+            ≡ filter (λ a. role_in sessions.now a.session a.role) self.old.items }
     {
         drop_front(&mut self.rows, self.gap);
         self.gap = 0;

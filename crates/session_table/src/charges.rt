@@ -65,7 +65,8 @@ fn add_at(charges: &mut IndexMap<Charge, u32>, place: usize, key: Charge, minute
 /// The row is looked for at the place first.
 fn add(charges: &mut IndexMap<Charge, u32>, place: usize, key: Charge, minutes: u32) -> usize
     requires room { 1 ≤ spare charges.old }
-    requires bound { charged_by_rows charges.old.entries key.user key.role key.day + minutes < 2 ^ 32 }
+    requires bound { charged_by_rows charges.old.entries key.user key.role key.day + minutes
+        < 2 ^ 32 }
     ensures charged { (u : UserId) (r : RoleId) (d : ℕ)
         → charged_by_rows charges.new.entries u r d
         ≡ charged_by_rows charges.old.entries u r d + cond (is_key key u r d) minutes 0 }
@@ -81,7 +82,8 @@ fn add(charges: &mut IndexMap<Charge, u32>, place: usize, key: Charge, minutes: 
 /// which is looked for by its key.
 fn add_elsewhere(charges: &mut IndexMap<Charge, u32>, key: Charge, minutes: u32) -> usize
     requires room { 1 ≤ spare charges.old }
-    requires bound { charged_by_rows charges.old.entries key.user key.role key.day + minutes < 2 ^ 32 }
+    requires bound { charged_by_rows charges.old.entries key.user key.role key.day + minutes
+        < 2 ^ 32 }
     ensures charged { (u : UserId) (r : RoleId) (d : ℕ)
         → charged_by_rows charges.new.entries u r d
         ≡ charged_by_rows charges.old.entries u r d + cond (is_key key u r d) minutes 0 }
@@ -99,7 +101,8 @@ fn add_elsewhere(charges: &mut IndexMap<Charge, u32>, key: Charge, minutes: u32)
 /// Charges minutes, wherever their row stands, into room that was made before.
 fn add_by_key(charges: &mut IndexMap<Charge, u32>, key: Charge, minutes: u32)
     requires room { 1 ≤ spare charges.old }
-    requires bound { charged_by_rows charges.old.entries key.user key.role key.day + minutes < 2 ^ 32 }
+    requires bound { charged_by_rows charges.old.entries key.user key.role key.day + minutes
+        < 2 ^ 32 }
     ensures charged { (u : UserId) (r : RoleId) (d : ℕ)
         → charged_by_rows charges.new.entries u r d
         ≡ charged_by_rows charges.old.entries u r d + cond (is_key key u r d) minutes 0 }
@@ -147,7 +150,8 @@ fn charge_one(
     minutes: u32,
 ) -> usize
     requires room { 1 ≤ spare charges.old }
-    requires bound { charged_by_rows charges.old.entries a.now.user a.now.role day + minutes < 2 ^ 32 }
+    requires bound { charged_by_rows charges.old.entries a.now.user a.now.role day + minutes
+        < 2 ^ 32 }
     ensures charged { (u : UserId) (r : RoleId) (d : ℕ)
         → charged_by_rows charges.new.entries u r d
         ≡ charged_by_rows charges.old.entries u r d + cond (is_of u r a.now && nat_eq day d)

@@ -1,10 +1,11 @@
 //! How many activations of a user's role stand, counted once where it is asked again and again.
 ghost use Rattle.std.specs.Prelude.{◌≡◌, ◌≤◌, List, count_by, IfSome};
-ghost use Rattle.gtrbac_model.specs.Sessions.{Activation as ActivationView, is_of};
+ghost use Rattle.gtrbac_model.specs.Sessions.{Activation as ActivationView, caps_of, is_of};
 ghost use Rattle.session_table.specs.Counting.{AreCounted, IsCountedIn};
 
 use crate::activations::{Activation, count_of};
-use gt_base::{RoleId, UserId};
+use crate::checks::caps_of;
+use gt_base::{Caps, RoleId, UserId};
 
 /// How many counts are kept; of those that would stand at the same place only the last one is.
 const PLACES: usize = 64;
@@ -56,7 +57,7 @@ fn count_kept(seen: &mut Seen, active: &[Activation], user: UserId, role: RoleId
 }
 
 /// The same where there is a cap that asks for it.
-pub(crate) fn count_for(
+fn count_for(
     cap: Option<u32>,
     seen: &mut Seen,
     active: &[Activation],
@@ -71,4 +72,21 @@ pub(crate) fn count_for(
         Some(_) => count_kept(seen, active, user, role),
         None => 0,
     }
+}
+
+/// How many activations of the user and the role of this one stand, where the role has a cap on the
+/// minutes of a day.
+pub(crate) fn count_of_one(
+    seen: &mut Seen,
+    caps: &[Caps],
+    active: &[Activation],
+    a: &Activation,
+) -> u64
+    requires { AreCounted active.now seen.old }
+    ensures count { IfSome (caps_of caps.now a.now.role).day
+        (λ _. result ≡ count_by (is_of a.now.user a.now.role) active.now) }
+    ensures seen { AreCounted active.now seen.new }
+{
+    let of_role = caps_of(caps, a.role);
+    count_for(of_role.day, seen, active, a.user, a.role)
 }

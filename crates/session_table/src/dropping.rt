@@ -15,15 +15,17 @@ ghost use Rattle.history_laws.specs.Tables.{minutes_of_day};
 ghost use Rattle.session_table.specs.Charges.{charged_in};
 ghost use Rattle.session_table.specs.Opened.{opened, still_open, role_in, AreNumbered};
 ghost use Rattle.session_table.specs.Counting.{AreCounted};
-ghost use Rattle.session_table.specs.Dropping.{spent_by, is_dropped, AreBarred};
+ghost use Rattle.session_table.specs.Dropping.{spent_by, AreBarred};
+ghost use Rattle.session_table.specs.Closings.{drops_at};
 ghost use Rattle.session_table.specs.NextDrops.{capped_in};
 
 use crate::activations::{Activation, signal_of};
 use crate::active::ActiveRow;
 use crate::charges::minutes_on;
 use crate::checks::{caps_of, is_reached, limit_minutes};
-use crate::counting::{Seen, count_for, nothing_seen};
-use crate::ledgers::{Ledger, charged};
+use crate::closings::{Closing, Stretch};
+use crate::counting::{count_of_one, nothing_seen};
+use crate::ledgers::charged;
 use crate::opened::{Open, has_role, place, remove_role};
 use civil_time::day;
 use gt_base::{
@@ -40,45 +42,32 @@ pub(crate) struct Asked {
     pub(crate) role: RoleId,
 }
 
-/// How many minutes are charged to the user's role on the civil day of `to`, where the minutes
-/// after `now` are charged to each activation.
-pub(crate) fn spent_by(
-    charges: &Ledger,
-    active: &[Activation],
-    now: Instant,
-    to: Instant,
-    user: UserId,
-    role: RoleId,
-    count: u64,
-) -> u64
-    requires few { count_by (is_of user role) active.now ≤ 10_000 }
-    requires count { count ≡ count_by (is_of user role) active.now }
-    ensures { result ≡ spent_by charges.now.charged active.now now to user role }
+/// How many minutes are charged to the user's role on the civil day of the last instant, where the
+/// minutes of the stretch are charged to each activation.
+fn spent_by(over: &Stretch, user: UserId, role: RoleId, count: u64) -> u64
+    requires { count ≡ count_by (is_of user role) over.now.active.now }
+    ensures { result
+        ≡ spent_by over.now.charges.now.charged over.now.active.now over.now.after over.now.to
+        user role }
 {
-    let today = day(to);
-    let before = u64::from(charged(charges, user, role, today));
-    let minutes = u64::from(minutes_on(now, to, today));
+    let _bound = over.to.minute();
+    let today = day(over.to);
+    let before = u64::from(charged(over.charges, user, role, today));
+    let minutes = u64::from(minutes_on(over.after, over.to, today));
     before + minutes * count
 }
 
-/// Whether the cap on the minutes of a day, if there is one, is reached at the close of `to`.
-fn is_day_spent(
-    cap: Option<u32>,
-    charges: &Ledger,
-    active: &[Activation],
-    now: Instant,
-    to: Instant,
-    user: UserId,
-    role: RoleId,
-    count: u64,
-) -> bool
-    requires few { count_by (is_of user role) active.now ≤ 10_000 }
-    requires count { IfSome cap (λ _. count ≡ count_by (is_of user role) active.now) }
-    ensures { result ≡ reached cap (spent_by charges.now.charged active.now now to user role) }
+/// Whether the cap on the minutes of a day, if there is one, is reached at the close.
+fn is_day_spent(cap: Option<u32>, over: &Stretch, user: UserId, role: RoleId, count: u64) -> bool
+    requires { IfSome cap (λ _. count ≡ count_by (is_of user role) over.now.active.now) }
+    ensures { result
+        ≡ reached cap
+        (spent_by over.now.charges.now.charged over.now.active.now over.now.after over.now.to
+        user role) }
 {
     match cap {
         Some(most) => {
-            let spent = spent_by(charges, active, now, to, user, role, count);
+            let spent = spent_by(over, user, role, count);
             u64::from(most) <= spent
         }
         None => false,
@@ -171,7 +160,8 @@ fn is_barred(
     role: RoleId,
 ) -> Result<bool, Memory>
     requires { AreBarred hierarchy.now (has status.now.set) known.old.entries }
-    ensures known { OnOk result (AreBarred hierarchy.now (has status.now.set) known.new.entries) }
+    ensures known { OnOk result
+        (AreBarred hierarchy.now (has status.now.set) known.new.entries) }
     ensures barred { IfOk result
         (λ b. b ≡ is_none (activation_walk hierarchy.now (has status.now.set) user role)) }
 {
@@ -212,24 +202,16 @@ fn ask(
     }
 }
 
-/// Whether a cap of its role ends the activation at the close of `to`.
-fn is_capped(
-    a: &Activation,
-    caps: Caps,
-    charges: &Ledger,
-    active: &[Activation],
-    now: Instant,
-    to: Instant,
-    count: u64,
-) -> bool
-    requires few { (u : UserId) (r : RoleId) → count_by (is_of u r) active.now ≤ 10_000 }
-    requires count { IfSome caps.day (λ _. count ≡ count_by (is_of a.now.user a.now.role) active.now) }
+/// Whether a cap of its role ends the activation at the close.
+fn is_capped(a: &Activation, caps: Caps, over: &Stretch, count: u64) -> bool
+    requires { IfSome caps.day
+        (λ _. count ≡ count_by (is_of a.now.user a.now.role) over.now.active.now) }
     ensures { result
-        ≡ (reached caps.length (to - a.now.begun) || reached caps.day
-        (spent_by charges.now.charged active.now now to a.now.user a.now.role)) }
+        ≡ (reached caps.length (over.now.to - a.now.begun) || reached caps.day
+        (spent_by over.now.charges.now.charged over.now.active.now over.now.after over.now.to
+        a.now.user a.now.role)) }
 {
-    is_too_long(caps.length, a, to)
-        || is_day_spent(caps.day, charges, active, now, to, a.user, a.role, count)
+    is_too_long(caps.length, a, over.to) || is_day_spent(caps.day, over, a.user, a.role, count)
 }
 
 /// Whether the role is on. Where it is the one that was found on before, the status is not asked.
@@ -250,48 +232,47 @@ fn found_on(before: Option<RoleId>, a: &Activation, is_gone: bool) -> Option<Rol
     if is_gone { before } else { Some(a.role) }
 }
 
-/// Whether the close of `to` drops the activation. For want of memory it may refuse. A role that
-/// was found on before is not asked again.
+/// Whether the close drops the activation. For want of memory it may refuse. A role that was found
+/// on before is not asked again.
 fn is_dropped(
-    alloc: Global,
+    at: &Closing,
     walks: &mut IndexMap<Asked, Walk>,
     known: &mut IndexMap<Asked, bool>,
     before: Option<RoleId>,
     a: &Activation,
-    hierarchy: &Hierarchy,
-    caps: &List<Caps>,
-    status: &Status,
-    charges: &Ledger,
-    active: &[Activation],
-    now: Instant,
-    to: Instant,
     count: u64,
 ) -> Result<bool, Memory>
-    requires known { AreBarred hierarchy.now (has status.now.set) known.old.entries }
-    requires before { IfSome before (λ r. has status.now.set (Enabled r) ≡ true) }
-    requires few { (u : UserId) (r : RoleId) → count_by (is_of u r) active.now ≤ 10_000 }
-    requires count { IfSome (caps_of caps.now.items a.now.role).day
-        (λ _. count ≡ count_by (is_of a.now.user a.now.role) active.now) }
-    ensures known { OnOk result (AreBarred hierarchy.now (has status.now.set) known.new.entries) }
-    ensures dropped { IfOk result
-        (λ b. b
-        ≡ is_dropped hierarchy.now caps.now.items (has status.now.set) charges.now.charged
-        active.now now to a.now) }
+    requires known { AreBarred at.now.hierarchy.now (has at.now.status.now.set) known.old.entries }
+    requires before { IfSome before (λ r. has at.now.status.now.set (Enabled r) ≡ true) }
+    requires count { IfSome (caps_of at.now.caps.now.items a.now.role).day
+        (λ _. count ≡ count_by (is_of a.now.user a.now.role) at.now.stretch.active.now) }
+    ensures known { OnOk result
+        (AreBarred at.now.hierarchy.now (has at.now.status.now.set) known.new.entries) }
+    ensures dropped { IfOk result (λ b. b ≡ drops_at at.now a.now) }
 {
     let role = a.role;
-    if !is_on(status, before, role) {
+    if !is_on(at.status, before, role) {
         return Ok(true);
     }
-    let of_role = caps_of(caps.as_slice(), role);
-    if is_capped(a, of_role, charges, active, now, to, count) {
+    let of_role = caps_of(at.caps.as_slice(), role);
+    if is_capped(a, of_role, &at.stretch, count) {
         return Ok(true);
     }
-    is_barred(alloc, walks, known, hierarchy, status, a.user, role)
+    is_barred(
+        at.alloc,
+        walks,
+        known,
+        at.hierarchy,
+        at.status,
+        a.user,
+        role,
+    )
 }
 
 /// Adds the activation, if it is gone.
 fn push_if(gone: &mut Vec<Activation>, a: &Activation, is_gone: bool) -> Result<(), Memory>
-    ensures { OnOk result (gone.new.items ≡ gone.old.items ++ (if is_gone then a.now ∷ [] else [])) }
+    ensures { OnOk result
+        (gone.new.items ≡ gone.old.items ++ (if is_gone then a.now ∷ [] else [])) }
 {
     if is_gone {
         gone.push(*a)?;
@@ -299,144 +280,93 @@ fn push_if(gone: &mut Vec<Activation>, a: &Activation, is_gone: bool) -> Result<
     Ok(())
 }
 
-/// The activations that the close of `to` drops. No user and role is asked of the hierarchy twice,
-/// and none where its walk of before stands; the status is not asked of a role again where the
-/// activation before was of it and stays. For want of memory it may refuse.
+/// The activations that the close drops. No user and role is asked of the hierarchy twice, and none
+/// where its walk of before stands; the status is not asked of a role again where the activation
+/// before was of it and stays. For want of memory it may refuse.
 pub(crate) fn dropped(
-    alloc: Global,
+    at: &Closing,
     walks: &mut IndexMap<Asked, Walk>,
-    hierarchy: &Hierarchy,
-    caps: &List<Caps>,
-    status: &Status,
-    charges: &Ledger,
-    active: &[Activation],
-    now: Instant,
-    to: Instant,
 ) -> Result<Vec<Activation>, Memory>
-    requires { (u : UserId) (r : RoleId) → count_by (is_of u r) active.now ≤ 10_000 }
     ensures { IfOk result
-        (λ gone. gone.items
-        ≡ filter
-        (is_dropped hierarchy.now caps.now.items (has status.now.set)
-        charges.now.charged active.now now to)
-        active.now) }
+        (λ gone. gone.items ≡ filter (drops_at at.now) at.now.stretch.active.now) }
 {
-    let mut known = IndexMap::new(alloc);
-    let mut gone = Vec::new(alloc);
-    drop_each(
-        alloc, walks, &mut known, &mut gone, hierarchy, caps, status, charges, active, now, to,
-    )?;
+    let mut known = IndexMap::new(at.alloc);
+    let mut gone = Vec::new(at.alloc);
+    drop_each(at, walks, &mut known, &mut gone)?;
     Ok(gone)
 }
 
 /// Adds them to the row, where what is told of a user and a role is kept.
 fn drop_each(
-    alloc: Global,
+    at: &Closing,
     walks: &mut IndexMap<Asked, Walk>,
     known: &mut IndexMap<Asked, bool>,
     gone: &mut Vec<Activation>,
-    hierarchy: &Hierarchy,
-    caps: &List<Caps>,
-    status: &Status,
-    charges: &Ledger,
-    active: &[Activation],
-    now: Instant,
-    to: Instant,
 ) -> Result<(), Memory>
-    requires known { AreBarred hierarchy.now (has status.now.set) known.old.entries }
+    requires known { AreBarred at.now.hierarchy.now (has at.now.status.now.set) known.old.entries }
     requires none { gone.old.items ≡ [] }
-    requires few { (u : UserId) (r : RoleId) → count_by (is_of u r) active.now ≤ 10_000 }
-    ensures { OnOk result
-        (gone.new.items
-        ≡ filter
-        (is_dropped hierarchy.now caps.now.items (has status.now.set)
-        charges.now.charged active.now now to)
-        active.now) }
+    ensures { OnOk result (gone.new.items ≡ filter (drops_at at.now) at.now.stretch.active.now) }
 {
+    let active = at.stretch.active;
     let mut before = None;
     let mut seen = nothing_seen(active);
     for a in active {
-        let count = count_of_one(&mut seen, caps.as_slice(), active, a);
-        before = drop_one(
-            alloc, walks, known, gone, before, a, hierarchy, caps, status, charges, active, now,
-            to, count,
-        )?;
+        let count = count_of_one(&mut seen, at.caps.as_slice(), active, a);
+        before = drop_one(at, walks, known, gone, before, a, count)?;
     }
     Ok(())
 }
 
-/// How many activations of the user and the role of this one stand, where the role has a cap on the
-/// minutes of a day.
-fn count_of_one(seen: &mut Seen, caps: &[Caps], active: &[Activation], a: &Activation) -> u64
-    requires { AreCounted active.now seen.old }
-    ensures count { IfSome (caps_of caps.now a.now.role).day
-        (λ _. result ≡ count_by (is_of a.now.user a.now.role) active.now) }
-    ensures seen { AreCounted active.now seen.new }
-{
-    let of_role = caps_of(caps, a.role);
-    count_for(of_role.day, seen, active, a.user, a.role)
-}
-
 /// Adds the activation to the row where it is dropped, and tells which role was found on last.
 fn drop_one(
-    alloc: Global,
+    at: &Closing,
     walks: &mut IndexMap<Asked, Walk>,
     known: &mut IndexMap<Asked, bool>,
     gone: &mut Vec<Activation>,
     before: Option<RoleId>,
     a: &Activation,
-    hierarchy: &Hierarchy,
-    caps: &List<Caps>,
-    status: &Status,
-    charges: &Ledger,
-    active: &[Activation],
-    now: Instant,
-    to: Instant,
     count: u64,
 ) -> Result<Option<RoleId>, Memory>
-    requires known { AreBarred hierarchy.now (has status.now.set) known.old.entries }
-    requires before { IfSome before (λ r. has status.now.set (Enabled r) ≡ true) }
-    requires few { (u : UserId) (r : RoleId) → count_by (is_of u r) active.now ≤ 10_000 }
-    requires count { IfSome (caps_of caps.now.items a.now.role).day
-        (λ _. count ≡ count_by (is_of a.now.user a.now.role) active.now) }
-    ensures known { OnOk result (AreBarred hierarchy.now (has status.now.set) known.new.entries) }
+    requires known { AreBarred at.now.hierarchy.now (has at.now.status.now.set) known.old.entries }
+    requires before { IfSome before (λ r. has at.now.status.now.set (Enabled r) ≡ true) }
+    requires count { IfSome (caps_of at.now.caps.now.items a.now.role).day
+        (λ _. count ≡ count_by (is_of a.now.user a.now.role) at.now.stretch.active.now) }
+    ensures known { OnOk result
+        (AreBarred at.now.hierarchy.now (has at.now.status.now.set) known.new.entries) }
     ensures gone { OnOk result
         (gone.new.items
-        ≡ gone.old.items
-        ++ (if is_dropped hierarchy.now caps.now.items (has status.now.set)
-        charges.now.charged active.now now to a.now then a.now ∷ [] else [])) }
-    ensures on { IfOk result (λ before. IfSome before (λ r. has status.now.set (Enabled r) ≡ true)) }
+        ≡ gone.old.items ++ (if drops_at at.now a.now then a.now ∷ [] else [])) }
+    ensures on { IfOk result
+        (λ before. IfSome before (λ r. has at.now.status.now.set (Enabled r) ≡ true)) }
 {
-    let is_gone = is_dropped(
-        alloc, walks, known, before, a, hierarchy, caps, status, charges, active, now, to, count,
-    )?;
+    let is_gone = is_dropped(at, walks, known, before, a, count)?;
     push_if(gone, a, is_gone)?;
     Ok(found_on(before, a, is_gone))
 }
 
-/// The activations that a cap of their roles ends at the close of `to`. Where no role has a cap on
-/// minutes, none is looked at. For want of memory it may refuse.
+/// The activations that a cap of their roles ends at the close. Where no role has a cap on minutes,
+/// none is looked at. For want of memory it may refuse.
 pub(crate) fn capped(
     alloc: Global,
     caps: &[Caps],
-    charges: &Ledger,
-    active: &[Activation],
-    now: Instant,
-    to: Instant,
+    over: &Stretch,
 ) -> Result<Vec<Activation>, Memory>
-    requires { (u : UserId) (r : RoleId) → count_by (is_of u r) active.now ≤ 10_000 }
     ensures { IfOk result
         (λ gone. gone.items
-        ≡ filter (capped_in caps.now charges.now.charged active.now now to) active.now) }
+        ≡ filter
+        (capped_in caps.now over.now.charges.now.charged over.now.active.now
+        over.now.after over.now.to)
+        over.now.active.now) }
 {
     let mut gone = Vec::new(alloc);
     if !limit_minutes(caps) {
         return Ok(gone);
     }
+    let active = over.active;
     let mut seen = nothing_seen(active);
     for a in active {
         let count = count_of_one(&mut seen, caps, active, a);
-        let is_gone = is_capped(a, caps_of(caps, a.role), charges, active, now, to, count);
+        let is_gone = is_capped(a, caps_of(caps, a.role), over, count);
         push_if(&mut gone, a, is_gone)?;
     }
     Ok(gone)
@@ -450,7 +380,8 @@ fn forget_one(sessions: &mut Vec<Open>, session: SessionId, role: RoleId)
         → role_in sessions.new.items n r
         ≡ (not (same_session session n && same_role role r) && role_in sessions.old.items n
         r) }
-    ensures standing { map opened (still_open sessions.new.items) ≡ map opened (still_open sessions.old.items) }
+    ensures standing { map opened (still_open sessions.new.items)
+        ≡ map opened (still_open sessions.old.items) }
     ensures count { count_by (λ o. o.is_open) sessions.new.items
         ≡ count_by (λ o. o.is_open) sessions.old.items }
 {
@@ -466,7 +397,8 @@ fn forget(sessions: &mut Vec<Open>, gone: &[Activation])
     ensures roles { (n : SessionId) (r : RoleId)
         → role_in sessions.new.items n r
         ≡ (not (list_any (is_active_in n r) gone.now) && role_in sessions.old.items n r) }
-    ensures standing { map opened (still_open sessions.new.items) ≡ map opened (still_open sessions.old.items) }
+    ensures standing { map opened (still_open sessions.new.items)
+        ≡ map opened (still_open sessions.old.items) }
     ensures count { count_by (λ o. o.is_open) sessions.new.items
         ≡ count_by (λ o. o.is_open) sessions.old.items }
 {
@@ -490,7 +422,8 @@ fn is_listed(sessions: &[Open], a: &Activation) -> bool
 /// Keeps the activations whose roles still stand in their sessions.
 pub(crate) fn keep_listed(active: &mut Vec<Activation>, sessions: &[Open])
     requires { AreNumbered (map opened sessions.now) }
-    ensures { active.new.items ≡ filter (λ a. role_in sessions.now a.session a.role) active.old.items }
+    ensures { active.new.items
+        ≡ filter (λ a. role_in sessions.now a.session a.role) active.old.items }
 {
     active.retain(|a| is_listed(sessions, a));
 }
@@ -505,7 +438,8 @@ pub(crate) fn take_out(sessions: &mut Vec<Open>, active: &mut ActiveRow, gone: &
     ensures roles { (n : SessionId) (r : RoleId)
         → role_in sessions.new.items n r
         ≡ (not (list_any (is_active_in n r) gone.now) && role_in sessions.old.items n r) }
-    ensures standing { map opened (still_open sessions.new.items) ≡ map opened (still_open sessions.old.items) }
+    ensures standing { map opened (still_open sessions.new.items)
+        ≡ map opened (still_open sessions.old.items) }
     ensures count { count_by (λ o. o.is_open) sessions.new.items
         ≡ count_by (λ o. o.is_open) sessions.old.items }
     ensures active { active.new.items

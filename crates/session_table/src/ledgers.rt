@@ -34,7 +34,10 @@ impl Model for Ledger {
 
     ghost Value = { LedgerView };
 
-    ghost view = { λ l. record { charged = record { rows = l.rows.entries; stretches = l.stretches.items }; room = min (spare l.rows / 2) (vec_capacity l.stretches - vec_len l.stretches) } };
+    ghost view = { λ l. record {
+      charged = record { rows = l.rows.entries; stretches = l.stretches.items };
+      room = min (spare l.rows / 2) (vec_capacity l.stretches - vec_len l.stretches);
+    } };
 
     ghost invariant = { λ l. IsLedger l.rows.entries l.stretches.items l.over };
 }

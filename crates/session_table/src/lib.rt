@@ -7,6 +7,7 @@ mod activations;
 mod active;
 mod charges;
 mod checks;
+mod closings;
 mod counting;
 mod dropping;
 mod faults;

@@ -12,7 +12,7 @@ ghost use Rattle.session_table.specs.Charges.{charged_in};
 
 use crate::activations::Activation;
 use crate::checks::{caps_of, limit_minutes};
-use crate::counting::{count_for, nothing_seen};
+use crate::counting::{count_of_one, nothing_seen};
 use crate::ledgers::{Ledger, charged};
 use gt_base::{Caps, Instant, RoleId, UserId};
 
@@ -107,30 +107,31 @@ fn next_reached(most: u32, spent: u32, n: u64, now: Instant) -> Option<Instant>
     instant_at(midnight - 1 + later)
 }
 
-/// When a cap next ends an activation of the role by the user that began then, where each minute
-/// after `now` is charged to each activation.
+/// When a cap of its role next ends the activation, where each minute after `now` is charged to
+/// each activation.
 fn next_for(
-    user: UserId,
-    role: RoleId,
-    begun: Instant,
+    a: &Activation,
     charges: &Ledger,
     active: &[Activation],
     caps: Caps,
     now: Instant,
     count: u64,
 ) -> Option<Instant>
-    requires count { IfSome caps.day (λ _. count ≡ count_by (is_of user role) active.now) }
-    requires some { 1 ≤ count_by (is_of user role) active.now }
-    requires few { count_by (is_of user role) active.now ≤ 10_000 }
-    requires later { (d : ℕ) → day_of (now + 1) < d → charged_in charges.now.charged user role d ≡ 0 }
+    requires count { IfSome caps.day
+        (λ _. count ≡ count_by (is_of a.now.user a.now.role) active.now) }
+    requires some { 1 ≤ count_by (is_of a.now.user a.now.role) active.now }
+    requires few { count_by (is_of a.now.user a.now.role) active.now ≤ 10_000 }
+    requires later { (d : ℕ) → day_of (now + 1) < d
+        → charged_in charges.now.charged a.now.user a.now.role d ≡ 0 }
     ensures { IsFirstOrNone
-        (λ t. reached caps.length (t - begun) || reached caps.day
-        (charged_in charges.now.charged user role (day_of t) + minutes_of_day now (t - now)
-        (day_of t) * count_by (is_of user role) active.now))
+        (λ t. reached caps.length (t - a.now.begun) || reached caps.day
+        (charged_in charges.now.charged a.now.user a.now.role (day_of t)
+        + minutes_of_day now (t - now) (day_of t)
+        * count_by (is_of a.now.user a.now.role) active.now))
         now result }
 {
-    let long = next_too_long(caps.length, begun, now);
-    let full = next_spent(caps.day, user, role, charges, active, now, count);
+    let long = next_too_long(caps.length, a.begun, now);
+    let full = next_spent(caps.day, a.user, a.role, charges, active, now, count);
     earlier(long, full)
 }
 
@@ -149,7 +150,8 @@ fn next_spent(
     requires count { IfSome cap (λ _. count ≡ count_by (is_of user role) active.now) }
     requires some { 1 ≤ count_by (is_of user role) active.now }
     requires few { count_by (is_of user role) active.now ≤ 10_000 }
-    requires later { (d : ℕ) → day_of (now + 1) < d → charged_in charges.now.charged user role d ≡ 0 }
+    requires later { (d : ℕ) → day_of (now + 1) < d
+        → charged_in charges.now.charged user role d ≡ 0 }
     ensures { IsFirstOrNone
         (λ t. reached cap
         (charged_in charges.now.charged user role (day_of t) + minutes_of_day now (t - now)
@@ -189,10 +191,8 @@ pub(crate) fn next_capped(
     let mut seen = nothing_seen(active);
     for a in active {
         let of_role = caps_of(caps, a.role);
-        let count = count_for(of_role.day, &mut seen, active, a.user, a.role);
-        let one = next_for(
-            a.user, a.role, a.begun, charges, active, of_role, now, count,
-        );
+        let count = count_of_one(&mut seen, caps, active, a);
+        let one = next_for(a, charges, active, of_role, now, count);
         next = earlier(next, one);
     }
     next

@@ -22,7 +22,12 @@ impl Model for Drops {
 
     ghost Value = { DropsView };
 
-    ghost view = { λ d. record { after = d.after; to = d.to; gone = d.gone.items; signals = d.signals.items } };
+    ghost view = { λ d. record {
+      after = d.after;
+      to = d.to;
+      gone = d.gone.items;
+      signals = d.signals.items;
+    } };
 }
 
 impl Drop for Drops {

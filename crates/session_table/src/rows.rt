@@ -49,7 +49,8 @@ pub(crate) fn put(items: &mut Vec<RoleId>, k: RoleId) -> Result<(), Memory>
 pub(crate) fn take_out(items: &mut Vec<RoleId>, k: RoleId)
     requires { Rises role_cmp items.old.items }
     ensures rises { Rises role_cmp items.new.items }
-    ensures set { set_of_rising {R = role_cmp} items.new.items ≡ without (set_of_rising items.old.items) k }
+    ensures set { set_of_rising {R = role_cmp} items.new.items
+        ≡ without (set_of_rising items.old.items) k }
 {
     items.retain(
         |x: &RoleId| -> bool

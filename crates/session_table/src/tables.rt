@@ -18,10 +18,11 @@ ghost use Rattle.session_table.specs.NextDrops.{IsFirstOrNone, is_any_capped};
 ghost use Rattle.session_table.specs.Plans.{need_of, IsPlan, IsPlanWhereAllStand, IsPlanned, Closes};
 ghost use Rattle.session_table.specs.Replies.{Answers, AnswersAt, OrRefused, IsRefusal, ChecksBy};
 
-use crate::activating::{enter, permitted};
+use crate::activating::{Permitting, enter, permitted};
 use crate::activations::{Activation, count_in, end_session, find_active, signal_of};
 use crate::active::ActiveRow;
 use crate::checks::{caps_of, early_refusal, late_refusal, owned};
+use crate::closings::{Closing, Stretch};
 use crate::dropping::{Asked, capped, dropped, prune, remember, signals_of, take_out};
 use crate::faults::SessionFault;
 use crate::ledgers::{
@@ -71,9 +72,17 @@ impl Model for Sessions {
 
     ghost Value = { TableView };
 
-    ghost view = { λ s. record { sessions = map opened (still_open s.sessions.items); active = s.active.items; charges = s.charges.charged; begun = s.begun; charged_to = s.charged_to; room = s.charges.room } };
+    ghost view = { λ s. record {
+      sessions = map opened (still_open s.sessions.items);
+      active = s.active.items;
+      charges = s.charges.charged;
+      begun = s.begun;
+      charged_to = s.charged_to;
+      room = s.charges.room;
+    } };
 
-    ghost invariant = { λ s. IsTable s.sessions.items s.standing s.active.items s.charges.charged s.charged_to s.begun };
+    ghost invariant = { λ s. IsTable s.sessions.items s.standing s.active.items s.charges.charged
+        s.charged_to s.begun };
 }
 
 impl Drop for Sessions {
@@ -135,7 +144,8 @@ impl Sessions {
     /// are open, or for want of memory; the table is then as it was.
     pub fn begin(&mut self, user: UserId) -> Result<SessionId, SessionFault>
         requires { self.old.begun < 4_294_967_295 }
-        ensures answer { IfOk result (λ n. Answers (table_of self.old) (User user) OpenSession (Session n)) }
+        ensures answer { IfOk result
+            (λ n. Answers (table_of self.old) (User user) OpenSession (Session n)) }
         ensures table { IfOk result
             (λ n. table_of self.new
             ≡ applied 0 (User user) OpenSession (Session n) (table_of self.old)) }
@@ -164,7 +174,8 @@ impl Sessions {
     /// `NoSession` where no session of this number is open, `NotYours` where the actor is a user
     /// other than its owner, or for want of memory; the table is then as it was.
     pub fn finish(&mut self, actor: Actor, session: SessionId) -> Result<List<Signal>, SessionFault>
-        ensures answer { OnOk result (Answers (table_of self.old) actor (CloseSession session) Done) }
+        ensures answer { OnOk result
+            (Answers (table_of self.old) actor (CloseSession session) Done) }
         ensures table { IfOk result
             (λ signals. applied 0 actor (CloseSession session) Done (table_of self.old)
             ≡ record (table_of self.new) { signals = signals.items }) }
@@ -196,7 +207,8 @@ impl Sessions {
         session: SessionId,
         role: RoleId,
     ) -> Result<Signal, SessionFault>
-        ensures answer { OnOk result (Answers (table_of self.old) actor (Deactivate session role) Done) }
+        ensures answer { OnOk result
+            (Answers (table_of self.old) actor (Deactivate session role) Done) }
         ensures table { IfOk result
             (λ signal. applied 0 actor (Deactivate session role) Done (table_of self.old)
             ≡ record (table_of self.new) { signals = signal ∷ [] }) }
@@ -320,19 +332,16 @@ impl Sessions {
             (table_of self.old) actor (Activate session role))) }
         ensures same { OnErr result (table_of self.new ≡ table_of self.old) }
     {
-        let (at, user, walk) = match permitted(
-            self.alloc,
-            &self.sessions,
-            self.active.as_slice(),
-            &self.charges,
+        let by = Permitting {
+            alloc: self.alloc,
+            active: self.active.as_slice(),
+            charges: &self.charges,
             hierarchy,
             caps,
             status,
-            now,
-            actor,
-            session,
-            role,
-        ) {
+            instant: now,
+        };
+        let (at, user, walk) = match permitted(&self.sessions, &by, actor, session, role) {
             Ok(permit) => permit,
             Err(fault) => return Err(fault),
         };
@@ -400,17 +409,19 @@ impl Sessions {
     {
         prune(&mut self.walks, self.active.len());
         reserve_charges(&mut self.charges, self.active.len())?;
-        let gone = dropped(
-            self.alloc,
-            &mut self.walks,
+        let at = Closing {
+            alloc: self.alloc,
             hierarchy,
             caps,
             status,
-            &self.charges,
-            self.active.as_slice(),
-            now,
-            to,
-        )?;
+            stretch: Stretch {
+                charges: &self.charges,
+                active: self.active.as_slice(),
+                after: now,
+                to,
+            },
+        };
+        let gone = dropped(&at, &mut self.walks)?;
         Drops::new(self.alloc, now, to, gone)
     }
 
@@ -436,14 +447,13 @@ impl Sessions {
         ensures plan { IfOk result (IsPlanWhereAllStand caps.now.items now to (table_of self.old)) }
     {
         reserve_charges(&mut self.charges, self.active.len())?;
-        let gone = capped(
-            self.alloc,
-            caps.as_slice(),
-            &self.charges,
-            self.active.as_slice(),
-            now,
+        let over = Stretch {
+            charges: &self.charges,
+            active: self.active.as_slice(),
+            after: now,
             to,
-        )?;
+        };
+        let gone = capped(self.alloc, caps.as_slice(), &over)?;
         Drops::new(self.alloc, now, to, gone)
     }
 

@@ -6,6 +6,8 @@ use Rattle.session_table.proofs.dropping.capped.Given as goal
 abbrev pub invariant-loop-a : goal.invariant-loop-a
 invariant-loop-a l =
     record {
-      gone : l.gone.items ≡ filter (capped_in l.caps l.charges.charged l.active l.now l.to) (take l.a-index l.active);
-      seen : AreCounted l.active l.seen;
+      gone : l.gone.items
+          ≡ filter (capped_in l.caps l.over.charges.now.charged l.over.active.now l.over.after l.over.to)
+          (take l.a-index l.over.active.now);
+      seen : AreCounted l.over.active.now l.seen;
     }

@@ -1,9 +1,8 @@
 use Rattle.std.proofs.Common.{◌≡◌, ℕ, ◌+◌, ◌<◌, Bool, List, [], ◌∷◌, ◌++◌, cond, filter, take, length, get_or, sym, ap, ◌∙◌}
 use Rattle.std.proofs.lemmas.List.Elements.{filter_more}
 use Rattle.std.proofs.lemmas.List.{take_all}
-use Rattle.gt_base.specs.Sets.{has}
 use Rattle.gtrbac_model.specs.Sessions.{Activation}
-use Rattle.session_table.specs.Dropping.{is_dropped}
+use Rattle.session_table.specs.Closings.{drops_at}
 use Rattle.session_table.proofs.dropping.drop_each.Goals as goal
 
 one_more : (test : Activation → Bool) (xs : List Activation) (i : ℕ) (x : Activation) (old new : List Activation) → new ≡ old ++ cond (test x) (x ∷ []) [] → old ≡ filter test (take i xs)
@@ -16,7 +15,7 @@ one_more test xs i x old new added so_far is inside =
 
 pub loop-a-preserved : goal.loop-a-preserved
 loop-a-preserved c = record {
-  gone = one_more (is_dropped c.args.hierarchy.now c.args.caps.now.items (has c.args.status.now.set) c.args.charges.now.charged c.args.active.now c.args.now c.args.to) c.args.active.now c.loop-a.a-index c.a-item.result
+  gone = one_more (drops_at c.args.at.now) c.args.at.now.stretch.active.now c.loop-a.a-index c.a-item.result
       _ _ c.in_ok-before.ensures.gone c.loop-a.invariant.gone c.a-item.is c.loop-a-test.true;
   known = c.in_ok-before.ensures.known;
   seen = c.count_of_one-count.ensures.seen;
@@ -26,4 +25,4 @@ loop-a-preserved c = record {
 pub returns : goal.returns
 returns c =
     c.loop-a.invariant.gone
-    ∙ ap (filter (is_dropped c.args.hierarchy.now c.args.caps.now.items (has c.args.status.now.set) c.args.charges.now.charged c.args.active.now c.args.now c.args.to)) (take_all c.loop-a.a-index c.args.active.now c.loop-a-test.false)
+    ∙ ap (filter (drops_at c.args.at.now)) (take_all c.loop-a.a-index c.args.at.now.stretch.active.now c.loop-a-test.false)

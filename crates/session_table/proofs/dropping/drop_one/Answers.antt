@@ -26,17 +26,14 @@ returns-clause-gone c = c.in_ok-push_if.ensures ∙ ap (λ b. c.args.gone.now.it
 
 pub returns-clause-on : goal.returns-clause-on
 returns-clause-on c =
-    let s : Status = has c.args.status.now.set in
+    let s : Status = has c.args.at.now.status.now.set in
     let a : Activation = c.args.a.now in
     subst (λ o. IfSome o (λ r. s (Enabled r) ≡ true)) (sym c.found_on.ensures)
-    (stays_on s c.args.before a.role (is_none (activation_walk c.args.hierarchy.now s a.user a.role)) (reached (caps_of c.args.caps.now.items a.role).length (c.args.to - a.begun))
-    (reached (caps_of c.args.caps.now.items a.role).day (spent_by c.args.charges.now.charged c.args.active.now c.args.now c.args.to a.user a.role)) c.in_ok-is_gone.is_gone c.in_ok-is_gone.ensures.dropped c.requires.before)
+    (stays_on s c.args.before a.role (is_none (activation_walk c.args.at.now.hierarchy.now s a.user a.role)) (reached (caps_of c.args.at.now.caps.now.items a.role).length (c.args.at.now.stretch.to - a.begun))
+    (reached (caps_of c.args.at.now.caps.now.items a.role).day (spent_by c.args.at.now.stretch.charges.now.charged c.args.at.now.stretch.active.now c.args.at.now.stretch.after c.args.at.now.stretch.to a.user a.role)) c.in_ok-is_gone.is_gone c.in_ok-is_gone.ensures.dropped c.requires.before)
 
 pub is_dropped-requires-clause-known : goal.is_dropped-requires-clause-known
 is_dropped-requires-clause-known c = c.requires.known
 
 pub is_dropped-requires-clause-before : goal.is_dropped-requires-clause-before
 is_dropped-requires-clause-before c = c.requires.before
-
-pub is_dropped-requires-clause-few : goal.is_dropped-requires-clause-few
-is_dropped-requires-clause-few c = c.requires.few

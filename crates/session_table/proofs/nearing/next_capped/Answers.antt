@@ -3,7 +3,7 @@ use Rattle.std.specs.List.{list_any}
 use Rattle.std.proofs.lemmas.List.Folds.{list_any_more}
 use Rattle.gt_base.specs.declared.policies.Caps.{Caps}
 use Rattle.gtrbac_model.specs.Calendar.{day_of}
-use Rattle.gtrbac_model.specs.Sessions.{Activation, reached, is_of}
+use Rattle.gtrbac_model.specs.Sessions.{Activation, caps_of, reached, is_of}
 use Rattle.history_laws.specs.Tables.{minutes_of_day}
 use Rattle.session_table.specs.Charges.{charged_in}
 use Rattle.session_table.specs.NextDrops.{IsFirstOrNone, capped_in}
@@ -18,14 +18,14 @@ pub loop-a-preserved : goal.loop-a-preserved
 loop-a-preserved c =
     let now : ℕ = c.args.now in
     let capped : ℕ → Activation → Bool = capped_in c.args.caps.now c.args.charges.now.charged c.args.active.now now in
-    let of_role : IsFirstOrNone (λ t. capped t (record { session = c.a.inside.session; user = c.a.inside.user; role = c.a.inside.role; begun = c.a.inside.begun })) now c.next_for-one.result =
-    subst (λ (k : Caps). IsFirstOrNone (λ t. reached k.length (t - c.a.inside.begun)
-    || reached k.day (charged_in c.args.charges.now.charged c.a.inside.user c.a.inside.role (day_of t) + minutes_of_day now (t - now) (day_of t) * count_by (is_of c.a.inside.user c.a.inside.role) c.args.active.now)) now c.next_for-one.result)
-    c.caps_of-of_role.ensures c.next_for-one.ensures in
-    let one : IsFirstOrNone (λ t. capped t c.a-item.result) now c.next_for-one.result = subst (λ (b : Activation). IsFirstOrNone (λ t. capped t b) now c.next_for-one.result) c.a.view_is of_role in
+    let a : Activation = c.a-item.result in
+    let one : IsFirstOrNone (λ t. capped t a) now c.next_for-one.result =
+    subst (λ (k : Caps). IsFirstOrNone (λ t. reached k.length (t - a.begun)
+    || reached k.day (charged_in c.args.charges.now.charged a.user a.role (day_of t) + minutes_of_day now (t - now) (day_of t) * count_by (is_of a.user a.role) c.args.active.now)) now c.next_for-one.result)
+    (c.caps_of-of_role.ensures ∙ ap (λ (b : Activation). caps_of c.args.caps.now b.role) c.a.view_is) c.next_for-one.ensures in
     let both = c.earlier-next.ensures (λ t. list_any (capped t) (take c.loop-a.a-index c.args.active.now)) (λ t. capped t c.a-item.result) now c.loop-a.invariant.next one in
     record {
-      seen = c.count_for-count.ensures.seen;
+      seen = c.count_of_one-count.ensures.seen;
       next = subst (λ p. IsFirstOrNone p now c.earlier-next.result)
           (λ i t. (ap (λ b. list_any (capped t) (take c.loop-a.a-index c.args.active.now) || capped t b) c.a-item.is
           ∙ sym (list_any_more (capped t) c.args.active.now c.loop-a.a-index c.a-item.result c.loop-a-test.true)) i) both;

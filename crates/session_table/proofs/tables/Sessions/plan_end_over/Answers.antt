@@ -10,9 +10,11 @@ use Rattle.session_table.proofs.Keeping.{few_of}
 use Rattle.session_table.proofs.Permitting.{if_ok}
 use Rattle.session_table.proofs.tables.Sessions.plan_end_over.Goals as goal
 
-pub dropped-requires : goal.dropped-requires
-dropped-requires c = λ u r.
-    rw c.as_slice.ensures (few_of c.self.inside.sessions.items c.self.inside.active.items c.self.inside.charges.charged c.self.inside.charged_to c.self.invariant.kept u r)
+pub invariant_of-at : goal.invariant_of-at
+invariant_of-at c = record {
+  few = λ u r.
+      rw c.as_slice.ensures (few_of c.self.inside.sessions.items c.self.inside.active.items c.self.inside.charges.charged c.self.inside.charged_to c.self.invariant.kept u r);
+}
 
 pub returns-clause-plan : goal.returns-clause-plan
 returns-clause-plan c =
