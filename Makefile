@@ -1,5 +1,6 @@
 # make: builds the programs; make install [PREFIX=/usr/local]; make deb: a Debian package of them;
-# make test: the gate; make docs: what the documents show; make check-stop: that a stop keeps the log
+# make test: the gate; make docs: what the documents show; make check-stop: that a stop keeps the log;
+# make check-views: that each reply of a viewer is that of a prefix of the log
 PREFIX = /usr/local
 
 all:
@@ -20,4 +21,7 @@ docs:
 check-stop:
 	bin/check-stop
 
-.PHONY: all install deb test docs check-stop
+check-views:
+	bin/check-views
+
+.PHONY: all install deb test docs check-stop check-views

@@ -7,8 +7,10 @@ import time
 PROGRAM = os.environ.get('GTRBAC') or os.path.join(os.path.dirname(os.path.abspath(__file__)), '../crates/gtrbac/out/gtrbac')
 
 
-def run(name, policy, lines, rounds=3):
-    """The best processor time of some runs, in seconds; the lines stand in the files `policy` and `script` here."""
+def run(name, policy, lines, rounds=3, words='run policy'):
+    """The best processor time of some runs, in seconds; the lines stand in the files `policy` and `script` here.
+
+    The memory is the most that this process's runs have taken so far."""
     with open('policy', 'w') as file:
         file.write(policy)
     with open('script', 'w') as file:
@@ -17,7 +19,8 @@ def run(name, policy, lines, rounds=3):
     for _ in range(rounds):
         before = resource.getrusage(resource.RUSAGE_CHILDREN)
         start = time.time()
-        done = subprocess.run(['/usr/bin/env', 'sh', '-c', 'exec "$0" run policy < script > replies', PROGRAM])
+        call = 'exec "$0" %s < script > replies' % words
+        done = subprocess.run(['/usr/bin/env', 'sh', '-c', call, PROGRAM])
         took = time.time() - start
         after = resource.getrusage(resource.RUSAGE_CHILDREN)
         used = after.ru_utime + after.ru_stime - before.ru_utime - before.ru_stime

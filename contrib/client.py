@@ -3,6 +3,9 @@
 
     client.py [--port PORT] LINE..          client.py 'as ben' 'open' 'activate 1 nurse'
 
+PORT is 7743 where it is not given. Of `gtrbacd views` 7753 and 7754 are viewers', who answer what
+only asks and tell everything else `view only`.
+
 One connection speaks for whoever `as USER` names, so the program that holds it must know who its
 user is. A line that asks is answered by one line; one without words, or a comment, is answered by
 nothing, so it is not sent. A session is not bound to the connection that opened it: it stays open,

@@ -1,7 +1,7 @@
 #!/bin/bash
 # A client of gtrbacd in the shell: client.sh LINE.. sends each line to PORT (7743 where it is not
-# set) and prints its reply. A line without words, or a comment, is answered by nothing and is not
-# sent. Sessions stay open until their user closes them. It needs bash alone, which opens the
+# set; 7753 and 7754 are those of viewers) and prints its reply. A line without words, or a comment,
+# is answered by nothing and is not sent. Sessions stay open until their user closes them. It needs bash alone, which opens the
 # connection itself.
 set -eu
 exec 3<>"/dev/tcp/127.0.0.1/${PORT:-7743}"
