@@ -1,4 +1,6 @@
 pub mod Ends
+pub mod Finding
+pub mod Printing
 pub mod Policies
 pub mod Commands
 pub mod Admitting

@@ -32,17 +32,24 @@ FmtFaultMeans = (text : List ℕ) → ((fmt_end text).status ≡ 2) ↔ HasFault
 
 -- what was written stands for the same policy and is written again
 abbrev pub FmtKeeps : Type 0
-FmtKeeps = (text out : List ℕ) → fmt_end text ≡ told 0 out → All (λ line. length line ≤ 4_096) (lines_of out) → (policy_read out ≡ policy_read text) × (fmt_end out ≡ told 0 out)
+FmtKeeps =
+    (text out : List ℕ) → fmt_end text ≡ told 0 out
+    → All (λ line. length line ≤ 4_096) (lines_of out)
+    → (policy_read out ≡ policy_read text) × (fmt_end out ≡ told 0 out)
 
 -- each period line has at most 4,040 bytes
 abbrev pub HasBriefPeriods : List ℕ → Type 0
-HasBriefPeriods text = All (λ line. BeginsWith line (codes "period") → length line ≤ 4_040) (lines_of text)
+HasBriefPeriods text =
+    All (λ line. BeginsWith line (codes "period") → length line ≤ 4_040) (lines_of text)
 
 -- then no line of the canonical text has more than 4,096
 abbrev pub CanonicalLinesFit : Type 0
 CanonicalLinesFit =
-    (text : List ℕ) (np : NamedPolicy) → policy_read text ≡ Ok np → HasBriefPeriods text → All (λ line. length line ≤ 4_096) (lines_of (canonical_text np))
+    (text : List ℕ) (np : NamedPolicy) → policy_read text ≡ Ok np → HasBriefPeriods text
+    → All (λ line. length line ≤ 4_096) (lines_of (canonical_text np))
 
 -- and so what was written stands for the same policy and is written again
 abbrev pub FmtKeepsBrief : Type 0
-FmtKeepsBrief = (text out : List ℕ) → fmt_end text ≡ told 0 out → HasBriefPeriods text → (policy_read out ≡ policy_read text) × (fmt_end out ≡ told 0 out)
+FmtKeepsBrief =
+    (text out : List ℕ) → fmt_end text ≡ told 0 out → HasBriefPeriods text
+    → (policy_read out ≡ policy_read text) × (fmt_end out ≡ told 0 out)

@@ -50,7 +50,8 @@ fn push_limit(text: &mut Vec<u8>, p: &Policy, l: LimitId) -> Result<(), Memory>
 
 /// Adds the name of an edge's senior role, or of its junior role.
 fn push_end(text: &mut Vec<u8>, p: &Policy, n: u32, senior: bool) -> Result<(), Memory>
-    ensures { OnOk result (text.new.items ≡ text.old.items ++ (if senior then (pair_at p.now.names n).0 else (pair_at p.now.names n).1)) }
+    ensures { OnOk result (text.new.items ≡ text.old.items
+        ++ (if senior then (pair_at p.now.names n).0 else (pair_at p.now.names n).1)) }
 {
     p.keeps();
     if let Some(edge) = p.edges().get(n as usize) {
@@ -79,7 +80,8 @@ fn verb(on: bool, fluent: Fluent) -> &'static [u8]
 
 /// A verb with a role.
 fn push_of_role(text: &mut Vec<u8>, p: &Policy, verb: &[u8], r: RoleId) -> Result<(), Memory>
-    ensures { OnOk result (text.new.items ≡ text.old.items ++ spaced (verb.now ∷ role_name p.now.names r ∷ [])) }
+    ensures { OnOk result (text.new.items ≡ text.old.items
+        ++ spaced (verb.now ∷ role_name p.now.names r ∷ [])) }
 {
     text.extend_from_slice(verb)?;
     text.extend_from_slice(b" ")?;
@@ -88,7 +90,8 @@ fn push_of_role(text: &mut Vec<u8>, p: &Policy, verb: &[u8], r: RoleId) -> Resul
 
 /// A verb with a limit.
 fn push_of_limit(text: &mut Vec<u8>, p: &Policy, verb: &[u8], l: LimitId) -> Result<(), Memory>
-    ensures { OnOk result (text.new.items ≡ text.old.items ++ spaced (verb.now ∷ limit_name p.now.names l ∷ [])) }
+    ensures { OnOk result (text.new.items ≡ text.old.items
+        ++ spaced (verb.now ∷ limit_name p.now.names l ∷ [])) }
 {
     text.extend_from_slice(verb)?;
     text.extend_from_slice(b" ")?;
@@ -103,7 +106,8 @@ fn push_of_user(
     u: UserId,
     r: RoleId,
 ) -> Result<(), Memory>
-    ensures { OnOk result (text.new.items ≡ text.old.items ++ spaced (verb.now ∷ user_name p.now.names u ∷ role_name p.now.names r ∷ [])) }
+    ensures { OnOk result (text.new.items ≡ text.old.items
+        ++ spaced (verb.now ∷ user_name p.now.names u ∷ role_name p.now.names r ∷ [])) }
 {
     text.extend_from_slice(verb)?;
     text.extend_from_slice(b" ")?;
@@ -120,7 +124,8 @@ fn push_of_perm(
     q: PermId,
     r: RoleId,
 ) -> Result<(), Memory>
-    ensures { OnOk result (text.new.items ≡ text.old.items ++ spaced (verb.now ∷ perm_name p.now.names q ∷ role_name p.now.names r ∷ [])) }
+    ensures { OnOk result (text.new.items ≡ text.old.items
+        ++ spaced (verb.now ∷ perm_name p.now.names q ∷ role_name p.now.names r ∷ [])) }
 {
     text.extend_from_slice(verb)?;
     text.extend_from_slice(b" ")?;
@@ -131,7 +136,8 @@ fn push_of_perm(
 
 /// A verb with the roles of an edge.
 fn push_of_edge(text: &mut Vec<u8>, p: &Policy, verb: &[u8], n: u32) -> Result<(), Memory>
-    ensures { OnOk result (text.new.items ≡ text.old.items ++ spaced (verb.now ∷ (pair_at p.now.names n).0 ∷ (pair_at p.now.names n).1 ∷ [])) }
+    ensures { OnOk result (text.new.items ≡ text.old.items
+        ++ spaced (verb.now ∷ (pair_at p.now.names n).0 ∷ (pair_at p.now.names n).1 ∷ [])) }
 {
     text.extend_from_slice(verb)?;
     text.extend_from_slice(b" ")?;
@@ -156,7 +162,8 @@ fn push_event(text: &mut Vec<u8>, p: &Policy, e: Event) -> Result<(), Memory>
 
 /// `TRIGGER.PLACE`, both from 1.
 fn push_place(text: &mut Vec<u8>, trigger: u32, place: u32) -> Result<(), Memory>
-    ensures { OnOk result (text.new.items ≡ text.old.items ++ (decimal (trigger + 1) ++ codes "." ++ decimal (place + 1))) }
+    ensures { OnOk result (text.new.items ≡ text.old.items
+        ++ (decimal (trigger + 1) ++ codes "." ++ decimal (place + 1))) }
 {
     push_number(text, u64::from(trigger) + 1)?;
     text.extend_from_slice(b".")?;
@@ -171,7 +178,8 @@ fn kind(conflict: bool) -> &'static [u8]
 
 /// Adds the line of an edge.
 fn push_edge(text: &mut Vec<u8>, p: &Policy, edge: CycleEdge) -> Result<(), Memory>
-    ensures { OnOk result (text.new.items ≡ text.old.items ++ edge_text p.now.names (seen_edge edge)) }
+    ensures { OnOk result (text.new.items ≡ text.old.items
+        ++ edge_text p.now.names (seen_edge edge)) }
 {
     text.extend_from_slice(kind(edge.conflict))?;
     push_place(text, edge.trigger, edge.place)?;
@@ -183,7 +191,8 @@ fn push_edge(text: &mut Vec<u8>, p: &Policy, edge: CycleEdge) -> Result<(), Memo
 }
 
 fn push_edges(text: &mut Vec<u8>, p: &Policy, edges: &[CycleEdge]) -> Result<(), Memory>
-    ensures { OnOk result (text.new.items ≡ text.old.items ++ flat_map (λ e. edge_text p.now.names (seen_edge e)) edges.now) }
+    ensures { OnOk result (text.new.items ≡ text.old.items
+        ++ flat_map (λ e. edge_text p.now.names (seen_edge e)) edges.now) }
 {
     for edge in edges {
         push_edge(text, p, *edge)?;
@@ -191,10 +200,11 @@ fn push_edges(text: &mut Vec<u8>, p: &Policy, edges: &[CycleEdge]) -> Result<(),
     Ok(())
 }
 
-/// Adds `unsafe` and a line for each edge of the cycle: whether it is a conflict or plain, its trigger and the place of the
-/// body event, both from 1, and the events that it leads from and to.
+/// Adds `unsafe` and a line for each edge of the cycle: whether it is a conflict or plain, its
+/// trigger and the place of the body event, both from 1, and the events that it leads from and to.
 pub fn push_unsafe(text: &mut Vec<u8>, p: &Policy, edges: &[CycleEdge]) -> Result<(), Memory>
-    ensures { OnOk result (text.new.items ≡ text.old.items ++ (codes "unsafe\n" ++ flat_map (λ e. edge_text p.now.names (seen_edge e)) edges.now)) }
+    ensures { OnOk result (text.new.items ≡ text.old.items
+        ++ (codes "unsafe\n" ++ flat_map (λ e. edge_text p.now.names (seen_edge e)) edges.now)) }
 {
     text.extend_from_slice(b"unsafe\n")?;
     push_edges(text, p, edges)

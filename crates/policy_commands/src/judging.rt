@@ -47,8 +47,9 @@ fn judge(alloc: Global, policy: Policy) -> Result<Admitted, Memory>
     }
 }
 
-/// The policy that the bytes stand for where it is safe. Else the end: the text of their fault with status 2, or the cycle
-/// of the policy with status 3. The text has fewer than 4,294,967,296 bytes. Only want of memory is free.
+/// The policy that the bytes stand for where it is safe. Else the end: the text of their fault with
+/// status 2, or the cycle of the policy with status 3. The text has fewer than 4,294,967,296 bytes.
+/// Only want of memory is free.
 pub fn admit(alloc: Global, text: &[u8]) -> Result<Admitted, Memory>
     requires { length text.now < 2 ^ 32 }
     ensures { IfOk result (IsAdmitted text.now) }
@@ -72,8 +73,9 @@ fn safe_end(alloc: Global) -> Result<End, Memory>
     })
 }
 
-/// `safe` with status 0 where the policy that the bytes stand for is safe, its cycle with status 3 where it is not, or the
-/// text of the fault of the bytes with status 2. The text has fewer than 4,294,967,296 bytes. Only want of memory is free.
+/// `safe` with status 0 where the policy that the bytes stand for is safe, its cycle with status 3
+/// where it is not, or the text of the fault of the bytes with status 2. The text has fewer than
+/// 4,294,967,296 bytes. Only want of memory is free.
 pub fn check(alloc: Global, text: &[u8]) -> Result<End, Memory>
     requires { length text.now < 2 ^ 32 }
     ensures end { IfOk result (λ end. seen_end end ≡ check_end text.now) }

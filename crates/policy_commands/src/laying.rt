@@ -20,8 +20,9 @@ fn laid(alloc: Global, policy: &Policy) -> Result<End, Memory>
     })
 }
 
-/// The canonical text of the policy that the bytes stand for, with status 0, or the text of their fault, with status 2.
-/// Whether the policy is safe is not judged. The text has fewer than 4,294,967,296 bytes. Only want of memory is free.
+/// The canonical text of the policy that the bytes stand for, with status 0, or the text of their
+/// fault, with status 2. Whether the policy is safe is not judged. The text has fewer than
+/// 4,294,967,296 bytes. Only want of memory is free.
 pub fn lay_out(alloc: Global, text: &[u8]) -> Result<End, Memory>
     requires { length text.now < 2 ^ 32 }
     ensures end { IfOk result (λ end. seen_end end ≡ fmt_end text.now) }

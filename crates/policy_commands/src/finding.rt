@@ -1,0 +1,49 @@
+//! The policy that a program is called over.
+ghost use Rattle.std.specs.Prelude.{◌≡◌, IfOk};
+ghost use Rattle.gt_io.specs.Causes.{Rose};
+ghost use Rattle.gt_text.specs.Words.{begins_with};
+ghost use Rattle.policy_commands.specs.Finding.{IsFoundText, IsFailure, IsSteady};
+
+use crate::ends::{End, end_with};
+use gt_base::Memory;
+use gt_io::{ReadFault, Shelf, find_all};
+use std::alloc::{AllocError, Global};
+
+/// The most bytes of a policy.
+const MAX_POLICY: usize = 4_194_304;
+
+/// Whether a word begins with `-`, and so is no name of a policy.
+pub fn is_dashed(name: &str) -> bool
+    ensures { result ≡ begins_with 45 name.now }
+{
+    match name.as_bytes() {
+        [] => false,
+        [first, ..] => *first == b'-',
+    }
+}
+
+/// The text of a policy that is not too long, or how a program ends without it.
+#[derive(Drop)]
+pub enum Found {
+    Text(Vec<u8>),
+    Ended(End),
+}
+
+/// The text of the name on the shelf. Else the end: `read fault` with status 4 where the shelf
+/// failed or has no such text, `too long: policy` with status 6 where that has more than 4,194,304
+/// bytes. Only want of memory is free.
+pub fn find_text<S: Shelf>(alloc: Global, shelf: &mut S, name: &str) -> Result<Found, Memory>
+    ensures found { IfOk result
+        (IsFoundText (Rose (S.hard_faults shelf.old) (S.hard_faults shelf.new))
+        (S.contents shelf.old) name.now) }
+    ensures failed { IfOk result (IsFailure (Rose (S.faults shelf.old) (S.faults shelf.new))) }
+    ensures steady { IfOk result (IsSteady (S.hard_faults shelf.new ≡ S.hard_faults shelf.old)) }
+    ensures same { S.contents shelf.new ≡ S.contents shelf.old }
+{
+    match find_all(alloc, shelf, name, MAX_POLICY) {
+        Ok(text) => Ok(Found::Text(text)),
+        Err(ReadFault::Memory) => Err(AllocError),
+        Err(ReadFault::Failed) => Ok(Found::Ended(end_with(alloc, 4, b"read fault\n")?)),
+        Err(ReadFault::TooLong) => Ok(Found::Ended(end_with(alloc, 6, b"too long: policy\n")?)),
+    }
+}

@@ -1,0 +1,16 @@
+//! The end of a program on its output.
+ghost use Rattle.policy_commands.specs.Ends.{told};
+ghost use Rattle.policy_commands.specs.Printing.{IsPrinted};
+
+use gt_io::{Sink, write_all};
+
+/// Prints a text and answers the status; an output that fails has status 5.
+pub fn print<K: Sink>(out: &mut K, status: u8, text: &[u8]) -> u8
+    ensures { IsPrinted result (told status text.now) (K.written out.old) (K.written out.new)
+        (K.faults out.old) (K.faults out.new) }
+{
+    match write_all(out, text) {
+        Ok(()) => status,
+        Err(_) => 5,
+    }
+}
