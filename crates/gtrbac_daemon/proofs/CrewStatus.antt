@@ -14,49 +14,6 @@ use Rattle.line_server.specs.Working.{WorksTo}
 use Rattle.gtrbac_daemon.specs.Crew.{Crewman, crewman, crewmen, is_memory, is_door_fault, is_spent, status_by, status_of, status_among, ends_of, SomeOf, EachOf, HasFailed, IsSpent, IsUnharmed, IsDone, IsSound}
 use Rattle.gtrbac_daemon.specs.Headline.{HaveWorked}
 
--- a number is not two
-pub apart : (s m n : ℕ) → (m == n) ≡ false → s ≡ m → s ≡ n → ⊥
-apart s m n d a b = let t : (m == n) ≡ true = eq-eqb m n (sym a ∙ b) in let no : true ≡ false = sym t ∙ d in absurd (cc no)
-
-abbrev pub IsDue : ℕ → Type 0
-IsDue s = (s ≡ 0) ⊎ (s ≡ 8) ⊎ (s ≡ 10) ⊎ (s ≡ 11)
-
-pub due_is : (s : ℕ) (m d p : Bool) → s ≡ status_by m d p → IsDue s
-due_is s true d p e = inr (inl e)
-due_is s false true p e = inr (inr (inl e))
-due_is s false false true e = inr (inr (inr e))
-due_is s false false false e = inl e
-
-pub due_not : (s n : ℕ) → (0 == n) ≡ false → (8 == n) ≡ false → (10 == n) ≡ false → (11 == n) ≡ false → IsDue s → s ≡ n → ⊥
-due_not s n a b c d (inl e) is = apart s 0 n a e is
-due_not s n a b c d (inr (inl e)) is = apart s 8 n b e is
-due_not s n a b c d (inr (inr (inl e))) is = apart s 10 n c e is
-due_not s n a b c d (inr (inr (inr e))) is = apart s 11 n d e is
-
-pub zero_says : (s : ℕ) (m d p : Bool) → s ≡ status_by m d p → s ≡ 0 → (m ≡ false) × (d ≡ false) × (p ≡ false)
-zero_says s true d p e is = absurd (apart s 8 0 refl e is)
-zero_says s false true p e is = absurd (apart s 10 0 refl e is)
-zero_says s false false true e is = absurd (apart s 11 0 refl e is)
-zero_says s false false false e is = (refl, refl, refl)
-
-pub ten_says : (s : ℕ) (m d p : Bool) → s ≡ status_by m d p → s ≡ 10 → d ≡ true
-ten_says s true d p e is = absurd (apart s 8 10 refl e is)
-ten_says s false true p e is = refl
-ten_says s false false true e is = absurd (apart s 11 10 refl e is)
-ten_says s false false false e is = absurd (apart s 0 10 refl e is)
-
-pub eleven_says : (s : ℕ) (m d p : Bool) → s ≡ status_by m d p → s ≡ 11 → (d ≡ false) × (p ≡ true)
-eleven_says s true d p e is = absurd (apart s 8 11 refl e is)
-eleven_says s false true p e is = absurd (apart s 10 11 refl e is)
-eleven_says s false false true e is = (refl, refl)
-eleven_says s false false false e is = absurd (apart s 0 11 refl e is)
-
-pub well_says : (s : ℕ) (m d p : Bool) → s ≡ status_by m d p → d ≡ false → p ≡ false → (s ≡ 0) ⊎ (s ≡ 8)
-well_says s true d p e a b = inr e
-well_says s false true p e a b = absurd (cc a)
-well_says s false false true e a b = absurd (cc b)
-well_says s false false false e a b = inl e
-
 both_off : (a b : Bool) → (a || b) ≡ false → (a ≡ false) × (b ≡ false)
 both_off true b e = absurd (cc e)
 both_off false b e = (refl, e)
@@ -64,6 +21,10 @@ both_off false b e = (refl, e)
 one_on : (a b : Bool) → (a || b) ≡ true → (a ≡ true) ⊎ (b ≡ true)
 one_on true b e = inl refl
 one_on false b e = inr e
+
+pub both_or : (a b : Bool) → b ≡ true → (a || b) ≡ true
+both_or true b e = refl
+both_or false b e = e
 
 none_on : (a b : Bool) → a ≡ false → b ≡ false → (a || b) ≡ false
 none_on true b a c = absurd (cc a)

@@ -1,5 +1,9 @@
 pub mod CrewStatus
 pub mod Causing
+pub mod Reasons
+pub mod Dues
+pub mod Running
+pub mod Former
 pub mod Written
 pub mod Told
 pub mod Posted

@@ -22,7 +22,7 @@ use Rattle.gtrbac_daemon.specs.Ends.{IsPrinted, WantsMemory}
 use Rattle.gtrbac_daemon.specs.Words.{policy_named, Refuses, Admits}
 use Rattle.gtrbac_daemon.specs.Crew.{Crewman, crewmen, status_of, ends_of}
 use Rattle.gtrbac_daemon.specs.Headline.{HaveWorked, Headline}
-use Rattle.gtrbac_daemon.specs.Daemon.{Scene, IsWritten, HasServed, Starves, Serves, IsKept, Answers}
+use Rattle.gtrbac_daemon.specs.Daemon.{Scene, IsWritten, HasServed}
 
 pub as_long : {D C G L : Type 0} (readings : C → Option (ℕ → ℕ)) (links : D → Option (List L)) (faults : D → ℕ) (ws : List (Worker D C G L)) → length (crewmen readings links faults ws) ≡ length ws
 as_long readings links faults [] = refl
@@ -77,18 +77,3 @@ module _ {L : Type 0} (traffic : L → Traffic) where
             (subst (λ (p : NamedPolicy). IsWritten due (log_text p birth b.entries) s a.written c.written a.faults c.faults) named
             (subst (λ (t : ℕ). IsWritten due (log_text b.named t b.entries) s a.written c.written a.faults c.faults) born written));
       }
-
-  module _ (words : List (List ℕ)) (hard : Type 0) (contents : Contents) (s : ℕ) (a b : Scene L) where
-    pub kept_by : (name : Option (List ℕ)) (t : Told) → policy_named words ≡ name → Refuses hard contents name t → IsPrinted s t a.written b.written a.faults b.faults → b.clock ≡ a.clock → b.crew ≡ a.crew
-        → Answers traffic words hard contents s a b
-    kept_by name t is cause printed clock crew =
-        record { ends = inr (inl (record { told = t; cause = subst (λ (n : Option (List ℕ)). Refuses hard contents n t) (sym is) cause; printed = printed; clock = clock; crew = crew })) }
-
-    pub served_by : (name : List ℕ) (np : NamedPolicy) → policy_named words ≡ Some name → Admits contents (Some name) np → Serves traffic np s a b → Answers traffic words hard contents s a b
-    served_by name np is admits serves = record { ends = inl (np, subst (λ (n : Option (List ℕ)). Admits contents n np) (sym is) admits, serves) }
-
-    pub starved : s ≡ 8 → b.written ≡ a.written → b.faults ≡ a.faults → b.crew ≡ a.crew → b.clock ≡ a.clock → Answers traffic words hard contents s a b
-    starved eight written faults crew clock = record { ends = inr (inr (((eight, subst (λ (w : Option (List ℕ)). Keeps a.written w) (sym written) (Keeps-refl a.written), faults), crew), clock)) }
-
-pub some_not_none : {A : Type 0} (o : Option A) (x : A) → Some x ≡ o → o ≡ None → ⊥
-some_not_none o x e n = let no : Some x ≡ None = e ∙ n in absurd (cc no)

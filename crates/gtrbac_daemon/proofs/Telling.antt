@@ -19,7 +19,7 @@ use Rattle.gtrbac_daemon.specs.Ends.{usage, max_policy, IsLongPolicy, IsPrinted}
 use Rattle.gtrbac_daemon.specs.Words.{poll_named, Refuses, RefusesText, Admits, HasText, LacksText}
 use Rattle.gtrbac_daemon.specs.Daemon.{IsWritten}
 use Rattle.gtrbac_daemon.specs.Polls.{poll_status, PollScene, PollStarves, PollHasServed, PollServes, PollIsKept, PollAnswers, HasStopped, HasFailedToTell, IsUsedUp, PollCause, stopped, no_command, faulty, unsafe, unread, unwritten, long, memory, failed, used_up, IsDue, PollDues, RunsPoll}
-use Rattle.gtrbac_daemon.proofs.Causing.{status_in, written_says}
+use Rattle.gtrbac_daemon.proofs.Causing.{status_in, written_says, text_told, long_told}
 use Rattle.gtrbac_daemon.proofs.Polled.{poll_kept}
 
 -- the same answer of `next` is not two
@@ -44,15 +44,6 @@ module _ (b : PollScene) (few : b.ports.opened < most_links) (calm : AreUnwornEn
 module _ (name : Option (List ℕ)) (s : ℕ) (a b : PollScene) where
   abbrev Hard : Type 0
   Hard = Rose a.shelf_faults b.shelf_faults
-
-  -- what is told of the text of a name
-  text_told : (n : List ℕ) → (o : Contents) (text : List ℕ) (Holds : List ℕ → Type 0) → IfSome o (λ text_of. text_of n ≡ Some text) → Holds text → HasText (Some n) o Holds
-  text_told n None text Holds found h = tt
-  text_told n (Some text_of) text Holds found h = subst (λ (t : Option (List ℕ)). IsSomeAnd t Holds) (sym found) h
-
-  long_told : (n : List ℕ) (o : Contents) → IfSome o (λ text_of. IsSomeAnd (text_of n) IsLongPolicy) → HasText (Some n) o IsLongPolicy
-  long_told n None far = tt
-  long_told n (Some text_of) far = far
 
   refused_by : (m : Option (List ℕ)) → m ≡ name → (t : Told) → Refuses Hard a.texts m t → s ≡ t.status → PollCause name s a b
   refused_by None e t c is = no_command (is ∙ status_in t _ c) (sym e)

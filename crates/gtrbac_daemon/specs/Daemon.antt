@@ -1,31 +1,44 @@
--- How a run of the server ends.
-use Rattle.std.specs.Prelude.{◌≡◌, ◌⊎◌, ◌≤◌, ℕ, ◌==◌, List, [], ◌∷◌, length, Some, Ok, if◌then◌else◌}
+-- What a run of the server leaves, and how it ends.
+use Rattle.std.specs.Prelude.{◌≡◌, ◌⊎◌, ◌≤◌, ℕ, ◌==◌, List, [], ◌∷◌, length, None, Ok, IsSomeAnd, if◌then◌else◌}
 use Rattle.std.specs.declared.option.Option.{Option}
 use Rattle.std.specs.Io.KnownBytes.{Appends}
 use Rattle.gt_base.specs.declared.requests.Entry.{Entry}
 use Rattle.gt_io.specs.Causes.{Rose, AppendsPart}
 use Rattle.gt_io.specs.Links.{Traffic, Reads}
-use Rattle.gt_io.specs.Shelf.{Contents, Lacks}
+use Rattle.gt_io.specs.Shelf.{Contents}
 use Rattle.policy_words.specs.Naming.{NamedPolicy}
 use Rattle.policy_commands.specs.Ends.{Told}
-use Rattle.policy_commands.specs.Policies.{safe_in}
+use Rattle.policy_commands.specs.Policies.{safe_in, HasFault, IsUnsafeText}
 use Rattle.request_text.specs.Replies.{log_text}
-use Rattle.gtrbac_daemon.specs.Ends.{IsPrinted, WantsMemory, max_policy}
-use Rattle.gtrbac_daemon.specs.Words.{policy_named, Refuses, Admits}
-use Rattle.gtrbac_daemon.specs.Crew.{Crewman, status_of, ends_of, EachOf, IsUnharmed}
+use Rattle.gtrbac_daemon.specs.Ends.{IsPrinted, WantsMemory, max_policy, IsLongPolicy}
+use Rattle.gtrbac_daemon.specs.Words.{policy_named, Refuses, Admits, HasText, LacksText, TellsText}
+use Rattle.gtrbac_daemon.specs.Crew.{Crewman, status_of, ends_of, SomeOf, EachOf, HasFailed, IsSpent, IsUnharmed, IsDone, IsSound}
 use Rattle.gtrbac_daemon.specs.Headline.{Headline}
 
--- what is seen beside the shelf: the readings of the birth's clock, the crew, what was written, and
+-- What is seen of a run's surroundings: the texts of the shelf, how often it failed and how often of
+-- these but for what it lacks, the readings of the birth's clock, the crew, what was written, and
 -- how often that failed
 pub record Scene (L : Type 0) : Type 0 where
-  pub clock : Option (ℕ → ℕ)
+  pub texts : Contents
+  pub shelf_faults : ℕ
+  pub hard_faults : ℕ
+  pub birth : Option (ℕ → ℕ)
   pub crew : List (Crewman L)
   pub written : Option (List ℕ)
   pub faults : ℕ
 
-abbrev pub scene : {L : Type 0} → Option (ℕ → ℕ) → List (Crewman L) → Option (List ℕ) → ℕ → Scene L
-scene clock crew written faults =
-    record { clock = clock; crew = crew; written = written; faults = faults }
+abbrev pub scene : {L : Type 0} → Contents → ℕ → ℕ → Option (ℕ → ℕ) → List (Crewman L)
+    → Option (List ℕ) → ℕ → Scene L
+scene texts shelf_faults hard_faults birth crew written faults =
+    record {
+      texts = texts;
+      shelf_faults = shelf_faults;
+      hard_faults = hard_faults;
+      birth = birth;
+      crew = crew;
+      written = written;
+      faults = faults;
+    }
 
 -- want of memory stands before a failed output, and that before every other status
 abbrev pub or_failed : ℕ → ℕ
@@ -53,42 +66,80 @@ module _ {L : Type 0} where
         a.written b.written a.faults b.faults
 
   -- the birth is the one reading of its clock; for want of memory nobody has worked
-  abbrev pub Serves : (L → Traffic) → NamedPolicy → ℕ → Scene L → Scene L → Type 0
-  Serves traffic np status a b =
-      (birth : ℕ) × Reads a.clock b.clock (birth ∷ [])
-      × (HasServed traffic np birth status a b ⊎ Starves status a b)
+  pub record Serves (traffic : L → Traffic) (np : NamedPolicy) (status : ℕ) (a b : Scene L)
+      : Type 0 where
+    pub birth : ℕ
+    pub reads : Reads a.birth b.birth (birth ∷ [])
+    pub ends : HasServed traffic np birth status a b ⊎ Starves status a b
 
-  -- something keeps the server from serving, and is printed
-  pub record IsKept (hard : Type 0) (contents : Contents) (name : Option (List ℕ)) (status : ℕ)
-      (a b : Scene L) : Type 0 where
+  -- something keeps the server from serving, and is printed; no clock is read, and nobody works
+  pub record IsKept (name : Option (List ℕ)) (status : ℕ) (a b : Scene L) : Type 0 where
     pub told : Told
-    pub cause : Refuses hard contents name told
+    pub cause : Refuses (Rose a.hard_faults b.hard_faults) a.texts name told
     pub printed : IsPrinted status told a.written b.written a.faults b.faults
-    pub clock : b.clock ≡ a.clock
+    pub birth : b.birth ≡ a.birth
     pub crew : b.crew ≡ a.crew
 
-  -- A run of the server over the words and the texts of a shelf. It serves the policy that they
-  -- name, which is safe; or it is kept from that; or there was no memory to find out
-  pub record Answers (traffic : L → Traffic) (words : List (List ℕ)) (hard : Type 0)
-      (contents : Contents) (status : ℕ) (a b : Scene L) : Type 0 where
-    pub ends : ((np : NamedPolicy) × Admits contents (policy_named words) np
-        × Serves traffic np status a b)
-        ⊎ IsKept hard contents (policy_named words) status a b
-        ⊎ (Starves status a b × (b.clock ≡ a.clock))
-
-  -- the words name a text that the shelf has, of a safe policy and not too long, and neither shelf
-  -- nor output nor a door failed, nor is a worker spent
-  pub record IsWell (words : List (List ℕ)) (hard : Type 0) (contents : Contents) (a b : Scene L)
-      : Type 0 where
-    pub name : List ℕ
-    pub spoken : policy_named words ≡ Some name
-    pub text_of : List ℕ → Option (List ℕ)
-    pub told : contents ≡ Some text_of
+  -- the shelf tells a text of the name that is said, of a safe policy and not too long, and neither
+  -- shelf nor output nor a door failed, nor is a worker spent
+  pub record IsWell (name : Option (List ℕ)) (a b : Scene L) : Type 0 where
     pub text : List ℕ
-    pub found : text_of name ≡ Some text
+    pub found : TellsText name a.texts text
     pub short : length text ≤ max_policy
     pub policy : NamedPolicy
     pub safe : safe_in text ≡ Ok policy
-    pub shelf : hard → ⊥
+    pub shelf : Rose a.hard_faults b.hard_faults → ⊥
     pub output : Rose a.faults b.faults → ⊥
     pub crew : EachOf IsUnharmed a.crew b.crew
+
+module _ {L : Type 0} (traffic : L → Traffic) (name : Option (List ℕ)) (status : ℕ)
+    (a b : Scene L) where
+  -- A run over the name that its words say. It serves the policy of that name, which is safe; or
+  -- it is kept from that; or there was no memory to find out
+  pub data Answers : Type 0 where
+    served : (np : NamedPolicy) → Admits a.texts name np → Serves traffic np status a b → Answers
+    kept : IsKept name status a b → Answers
+    starved : Starves status a b → b.birth ≡ a.birth → Answers
+
+module _ {L : Type 0} (name : Option (List ℕ)) (status : ℕ) (a b : Scene L) where
+  -- Each status has its cause. These are all statuses
+  pub data Cause : Type 0 where
+    done : status ≡ 0 → EachOf IsDone a.crew b.crew → Cause
+    no_command : status ≡ 1 → name ≡ None → Cause
+    faulty : status ≡ 2 → HasText name a.texts HasFault → Cause
+    unsafe : status ≡ 3 → HasText name a.texts IsUnsafeText → Cause
+    unread : status ≡ 4 → Rose a.hard_faults b.hard_faults ⊎ LacksText name a.texts
+        → Rose a.shelf_faults b.shelf_faults → Cause
+    unwritten : status ≡ 5 → Rose a.faults b.faults → Cause
+    long : status ≡ 6 → HasText name a.texts IsLongPolicy → Cause
+    memory : status ≡ 8 → Cause
+    failed : status ≡ 10 → SomeOf HasFailed a.crew b.crew → Cause
+    spent : status ≡ 11 → SomeOf IsSpent a.crew b.crew → EachOf IsSound a.crew b.crew → Cause
+
+  -- the status is this one, but for an output that failed
+  abbrev pub IsToldAs : ℕ → Type 0
+  IsToldAs n = (status ≡ n) ⊎ ((status ≡ 5) × Rose a.faults b.faults)
+
+  -- and but for want of memory
+  abbrev pub IsDue : ℕ → Type 0
+  IsDue n = IsToldAs n ⊎ (status ≡ 8)
+
+  -- and each cause has its status
+  pub record Dues : Type 0 where
+    pub no_command_is : name ≡ None → IsToldAs 1
+    pub done_is : EachOf IsDone a.crew b.crew → IsDue 0
+    pub failed_is : SomeOf HasFailed a.crew b.crew → IsDue 10
+    pub spent_is : SomeOf IsSpent a.crew b.crew → EachOf IsSound a.crew b.crew → IsDue 11
+
+-- What `daemon` promises over the words, by its status, from its surroundings before to those
+-- after: what was served and written, why it has this status, which status each cause has, that a
+-- run that goes well ends with 0 or for want of memory, and what is left as it was
+pub record RunsServer {L : Type 0} (traffic : L → Traffic) (words : List (List ℕ)) (status : ℕ)
+    (a b : Scene L) : Type 0 where
+  pub answers : Answers traffic (policy_named words) status a b
+  pub cause : Cause (policy_named words) status a b
+  pub dues : Dues (policy_named words) status a b
+  pub complete : IsWell (policy_named words) a b → (status ≡ 0) ⊎ (status ≡ 8)
+  pub texts : b.texts ≡ a.texts
+  pub untouched : policy_named words ≡ None
+      → b ≡ record a { written = b.written; faults = b.faults }

@@ -1,5 +1,5 @@
 -- What the words of the server say, and what keeps it from serving.
-use Rattle.std.specs.Prelude.{◌≡◌, ◌⊎◌, ◌≤◌, ℕ, Bool, true, false, List, [], ◌∷◌, length, Option, Some, None, Result, Ok, Err, IfSome, IsSomeAnd, codes, bytes_eq}
+use Rattle.std.specs.Prelude.{◌≡◌, ◌⊎◌, ◌≤◌, ℕ, Bool, true, false, List, [], ◌∷◌, length, Option, Some, None, Result, Ok, Err, IfSome, IsSomeAnd, codes, bytes_eq, if◌then◌else◌}
 use Rattle.gt_io.specs.Shelf.{Contents, Lacks}
 use Rattle.gt_text.specs.Words.{begins_with}
 use Rattle.policy_words.specs.Naming.{NamedPolicy}
@@ -13,12 +13,13 @@ use Rattle.gtrbac_daemon.specs.Ends.{usage, read_fault, too_long, max_policy, Is
 
 -- the words are one, the name of a policy, which does not begin with `-`
 abbrev pub policy_named : List (List ℕ) → Option (List ℕ)
-policy_named (name ∷ []) = elim (begins_with 45 name) [ true ↦ None | false ↦ Some name ]
+policy_named (name ∷ []) = if begins_with 45 name then None else Some name
 policy_named _ = None
 
 -- the words are `poll` and the name of a policy, which does not begin with `-`
 abbrev pub poll_named : List (List ℕ) → Option (List ℕ)
-poll_named (verb ∷ name ∷ []) = elim (bytes_eq verb (codes "poll")) [ true ↦ policy_named (name ∷ []) | false ↦ None ]
+poll_named (verb ∷ name ∷ []) =
+    if bytes_eq verb (codes "poll") then policy_named (name ∷ []) else None
 poll_named _ = None
 
 -- how the program serves: the mode of two words of which the first names one, else the plain one
@@ -72,6 +73,11 @@ IsFound hard contents name (Ended end) = RefusesText hard contents name (seen_en
 abbrev pub HasText : Option (List ℕ) → Contents → (List ℕ → Type 0) → Type 0
 HasText name contents Holds =
     IfSome contents (λ text_of. IsSomeAnd name (λ n. IsSomeAnd (text_of n) Holds))
+
+-- the shelf tells its texts, and this one has the name that is said
+abbrev pub TellsText : Option (List ℕ) → Contents → List ℕ → Type 0
+TellsText name contents text =
+    IsSomeAnd contents (λ text_of. IsSomeAnd name (λ n. text_of n ≡ Some text))
 
 -- the shelf tells that it has no text of the name that is said
 abbrev pub LacksText : Option (List ℕ) → Contents → Type 0

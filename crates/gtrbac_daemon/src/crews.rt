@@ -17,7 +17,8 @@ pub(crate) fn man<M, D: Door, C: Clock, G: Gate>(
     requires room { length crew.old.items ≤ vec_capacity posts.old }
     ensures passes_are { reverse (passes_of posts.new.items) ≡ passes.old.items }
     ensures workers_are { reverse (workers_of posts.new.items) ≡ crew.old.items }
-    ensures passes_left { (passes.new.items ≡ []) × (passes.new.spare ≡ passes.old.spare + length passes.old.items) }
+    ensures passes_left { (passes.new.items ≡ [])
+        × (passes.new.spare ≡ passes.old.spare + length passes.old.items) }
     ensures crew_left { (crew.new.items ≡ []) × (vec_capacity crew.new ≡ vec_capacity crew.old) }
 {
     while let Some(pass) = passes.take() {

@@ -29,8 +29,8 @@ fn failed_at(due: u8) -> u8
 
 /// Writes the text at whose end this status is due.
 pub(crate) fn write_due<K: Sink>(out: &mut K, due: u8, text: &[u8]) -> u8
-    ensures { IsWritten due text.now result (K.written out.old) (K.written out.new) (K.faults out.old)
-        (K.faults out.new) }
+    ensures { IsWritten due text.now result (K.written out.old) (K.written out.new)
+        (K.faults out.old) (K.faults out.new) }
 {
     match write_all(out, text) {
         Ok(()) => due,

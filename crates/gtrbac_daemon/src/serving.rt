@@ -75,7 +75,8 @@ where
         (λ closed. HaveWorked D.L.traffic ledger.named ledger.birth closed.entries 0
         (crewmen C.readings D.links D.faults crew.old.items)
         (crewmen C.readings D.links D.faults crew.new.items)) }
-    ensures others { IfOk result (λ closed. (n : ℕ) → length crew.old.items ≤ n → part n closed.entries ≡ []) }
+    ensures others { IfOk result
+        (λ closed. (n : ℕ) → length crew.old.items ≤ n → part n closed.entries ≡ []) }
 {
     let Ok(posts) = Vec::with_capacity(alloc, crew.len()) else {
         return Err(AllocError);

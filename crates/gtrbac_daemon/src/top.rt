@@ -1,13 +1,11 @@
 //! The one call of the server: from words, policy, clocks and links to the log and the exit status.
-ghost use Rattle.std.specs.Prelude.{◌≡◌, ◌⊎◌, ◌≤◌, [], ℕ, List, Some, None, map, string_bytes, length, All};
+ghost use Rattle.std.specs.Prelude.{◌≡◌, ◌≤◌, ℕ, List, Some, None, map, string_bytes, length, All};
 ghost use Rattle.gt_io.specs.Causes.{Rose};
-ghost use Rattle.policy_commands.specs.Policies.{HasFault, IsUnsafeText};
+ghost use Rattle.gt_io.specs.Shelf.{Contents};
 ghost use Rattle.request_text.specs.Replies.{log_text};
-ghost use Rattle.gtrbac_daemon.specs.Ends.{IsLongPolicy};
 ghost use Rattle.gtrbac_daemon.specs.Words.{policy_named};
-ghost use Rattle.gtrbac_daemon.specs.Causes.{IfTold, IsMissing};
-ghost use Rattle.gtrbac_daemon.specs.Crew.{IsNew, crewmen, HasFailed, IsSpent, IsSound, IsDone, SomeOf, EachOf};
-ghost use Rattle.gtrbac_daemon.specs.Daemon.{scene, IsWritten, Serves, Answers, IsWell};
+ghost use Rattle.gtrbac_daemon.specs.Crew.{IsNew, crewmen};
+ghost use Rattle.gtrbac_daemon.specs.Daemon.{scene, IsWritten, Serves, Answers, RunsServer};
 
 use crate::finding::find_policy;
 use crate::printing::{USAGE, print, write_due};
@@ -56,10 +54,12 @@ where
     D::L: Send,
     requires size { (1 ≤ length crew.old.items) × (length crew.old.items ≤ 8) }
     requires fresh { All (λ w. IsNew w) crew.old.items }
-    ensures { Serves D.L.traffic safe result
-        (scene (B.readings birth.old) (crewmen C.readings D.links D.faults crew.old.items)
+    ensures { (texts texts' : Contents) (m m' n n' : ℕ) → Serves D.L.traffic safe result
+        (scene texts m n (B.readings birth.old)
+        (crewmen C.readings D.links D.faults crew.old.items)
         (K.written out.old) (K.faults out.old))
-        (scene (B.readings birth.new) (crewmen C.readings D.links D.faults crew.new.items)
+        (scene texts' m' n' (B.readings birth.new)
+        (crewmen C.readings D.links D.faults crew.new.items)
         (K.written out.new) (K.faults out.new)) }
 {
     let minute = birth.now();
@@ -94,12 +94,12 @@ where
     D::L: Send,
     requires size { (1 ≤ length crew.old.items) × (length crew.old.items ≤ 8) }
     requires fresh { All (λ w. IsNew w) crew.old.items }
-    ensures answers { (words : List (List ℕ)) → policy_named words ≡ Some name.now
-        → Answers D.L.traffic words (Rose (S.hard_faults shelf.old) (S.hard_faults shelf.new))
-        (S.contents shelf.old) result
-        (scene (B.readings birth.old) (crewmen C.readings D.links D.faults crew.old.items)
+    ensures answers { Answers D.L.traffic (Some name.now) result
+        (scene (S.contents shelf.old) (S.faults shelf.old) (S.hard_faults shelf.old)
+        (B.readings birth.old) (crewmen C.readings D.links D.faults crew.old.items)
         (K.written out.old) (K.faults out.old))
-        (scene (B.readings birth.new) (crewmen C.readings D.links D.faults crew.new.items)
+        (scene (S.contents shelf.new) (S.faults shelf.new) (S.hard_faults shelf.new)
+        (B.readings birth.new) (crewmen C.readings D.links D.faults crew.new.items)
         (K.written out.new) (K.faults out.new)) }
     ensures failed { result ≡ 4 → Rose (S.faults shelf.old) (S.faults shelf.new) }
     ensures same { S.contents shelf.new ≡ S.contents shelf.old }
@@ -110,46 +110,6 @@ where
             Admitted::Ended(end) => print(out, end.status, end.text.as_slice()),
         },
         Err(_) => 8,
-    }
-}
-
-/// Serves over the words, or prints the usage line.
-fn serve_words<
-    R: Threads + Wait + Sync,
-    S: Shelf,
-    B: Clock,
-    D: Door + Send,
-    C: Clock + Send,
-    G: Gate + Send,
-    K: Sink,
->(
-    rt: &R,
-    alloc: Global,
-    words: &[String],
-    shelf: &mut S,
-    birth: &mut B,
-    crew: &mut Vec<Worker<D, C, G>>,
-    out: &mut K,
-) -> u8
-where
-    D::L: Send,
-    requires size { (1 ≤ length crew.old.items) × (length crew.old.items ≤ 8) }
-    requires fresh { All (λ w. IsNew w) crew.old.items }
-    ensures answers { Answers D.L.traffic (map string_bytes words.now)
-        (Rose (S.hard_faults shelf.old) (S.hard_faults shelf.new)) (S.contents shelf.old) result
-        (scene (B.readings birth.old) (crewmen C.readings D.links D.faults crew.old.items)
-        (K.written out.old) (K.faults out.old))
-        (scene (B.readings birth.new) (crewmen C.readings D.links D.faults crew.new.items)
-        (K.written out.new) (K.faults out.new)) }
-    ensures usage { policy_named (map string_bytes words.now) ≡ None → (result ≡ 1) ⊎ (result ≡ 5) }
-    ensures unread { policy_named (map string_bytes words.now) ≡ None
-        → (shelf.new ≡ shelf.old) × (birth.new ≡ birth.old) × (crew.new ≡ crew.old) }
-    ensures failed { result ≡ 4 → Rose (S.faults shelf.old) (S.faults shelf.new) }
-    ensures same { S.contents shelf.new ≡ S.contents shelf.old }
-{
-    match policy_word(words) {
-        Some(name) => serve_named(rt, alloc, name, shelf, birth, crew, out),
-        None => print(out, 1, USAGE),
     }
 }
 
@@ -192,42 +152,18 @@ where
     D::L: Send,
     requires size { (1 ≤ length crew.old.items) × (length crew.old.items ≤ 8) }
     requires fresh { All (λ w. IsNew w) crew.old.items }
-    ensures answers { Answers D.L.traffic (map string_bytes words.now)
-        (Rose (S.hard_faults shelf.old) (S.hard_faults shelf.new)) (S.contents shelf.old) result
-        (scene (B.readings birth.old) (crewmen C.readings D.links D.faults crew.old.items)
+    ensures runs { RunsServer D.L.traffic (map string_bytes words.now) result
+        (scene (S.contents shelf.old) (S.faults shelf.old) (S.hard_faults shelf.old)
+        (B.readings birth.old) (crewmen C.readings D.links D.faults crew.old.items)
         (K.written out.old) (K.faults out.old))
-        (scene (B.readings birth.new) (crewmen C.readings D.links D.faults crew.new.items)
+        (scene (S.contents shelf.new) (S.faults shelf.new) (S.hard_faults shelf.new)
+        (B.readings birth.new) (crewmen C.readings D.links D.faults crew.new.items)
         (K.written out.new) (K.faults out.new)) }
-    ensures usage { policy_named (map string_bytes words.now) ≡ None → (result ≡ 1) ⊎ (result ≡ 5) }
     ensures unread { policy_named (map string_bytes words.now) ≡ None
         → (shelf.new ≡ shelf.old) × (birth.new ≡ birth.old) × (crew.new ≡ crew.old) }
-    ensures used { result ≡ 1 → policy_named (map string_bytes words.now) ≡ None }
-    ensures fault { result ≡ 2 → IfTold (map string_bytes words.now) (S.contents shelf.old) HasFault }
-    ensures cycle { result ≡ 3 → IfTold (map string_bytes words.now) (S.contents shelf.old) IsUnsafeText }
-    ensures read_fault { result ≡ 4
-        → Rose (S.hard_faults shelf.old) (S.hard_faults shelf.new)
-        ⊎ IsMissing (map string_bytes words.now) (S.contents shelf.old) }
-    ensures failed { result ≡ 4 → Rose (S.faults shelf.old) (S.faults shelf.new) }
-    ensures write_fault { result ≡ 5 → Rose (K.faults out.old) (K.faults out.new) }
-    ensures long { result ≡ 6 → IfTold (map string_bytes words.now) (S.contents shelf.old) IsLongPolicy }
-    ensures done { result ≡ 0
-        → EachOf IsDone (crewmen C.readings D.links D.faults crew.old.items)
-        (crewmen C.readings D.links D.faults crew.new.items) }
-    ensures door_fault { result ≡ 10
-        → SomeOf HasFailed (crewmen C.readings D.links D.faults crew.old.items)
-        (crewmen C.readings D.links D.faults crew.new.items) }
-    ensures spent { result ≡ 11
-        → SomeOf IsSpent (crewmen C.readings D.links D.faults crew.old.items)
-        (crewmen C.readings D.links D.faults crew.new.items)
-        × EachOf IsSound (crewmen C.readings D.links D.faults crew.old.items)
-        (crewmen C.readings D.links D.faults crew.new.items) }
-    ensures complete { IsWell (map string_bytes words.now)
-        (Rose (S.hard_faults shelf.old) (S.hard_faults shelf.new)) (S.contents shelf.old)
-        (scene (B.readings birth.old) (crewmen C.readings D.links D.faults crew.old.items)
-        (K.written out.old) (K.faults out.old))
-        (scene (B.readings birth.new) (crewmen C.readings D.links D.faults crew.new.items)
-        (K.written out.new) (K.faults out.new)) → (result ≡ 0) ⊎ (result ≡ 8) }
-    ensures same { S.contents shelf.new ≡ S.contents shelf.old }
 {
-    serve_words(rt, alloc, words, shelf, birth, crew, out)
+    match policy_word(words) {
+        Some(name) => serve_named(rt, alloc, name, shelf, birth, crew, out),
+        None => print(out, 1, USAGE),
+    }
 }

@@ -1,32 +1,25 @@
-use Rattle.gtrbac_daemon.proofs.Causing.{used, fault, cycle, read_fault, write_fault, long, done, door_fault, spent, complete}
+use Rattle.std.proofs.Common.{◌≡◌, List, map, refl, sym}
+use Rattle.std.specs.Prelude.{string_bytes}
+use Rattle.gtrbac_daemon.specs.Words.{policy_named}
+use Rattle.gtrbac_daemon.proofs.Running.{all_fresh, some_crew, runs_named, runs_unnamed}
+use Rattle.gtrbac_daemon.proofs.Causing.{some_not_none}
 use Rattle.gtrbac_daemon.proofs.top.daemon.Goals as goal
 
-pub returns-clause-used : goal.returns-clause-used
-returns-clause-used g c = used _ _ _ _ _ _ _ c.serve_words.ensures.answers
+pub returns-in-Some-clause-runs : goal.returns-in-Some-clause-runs
+returns-in-Some-clause-runs g c =
+    let k = g.C.Clock in
+    let d = g.D.Door in
+    let ws = c.args.crew.now.items in
+    runs_named g.D.L.Link.traffic (map string_bytes c.args.words.now) _ _ _ (some_crew k.readings d.links d.faults ws c.requires.size.0) (all_fresh k.readings d.links d.faults ws c.requires.fresh)
+    c.in-Some.name.now c.in-Some.ensures c.serve_named.ensures.answers c.serve_named.ensures.failed c.serve_named.ensures.same
 
-pub returns-clause-fault : goal.returns-clause-fault
-returns-clause-fault g c = fault _ _ _ _ _ _ _ c.serve_words.ensures.answers
+pub returns-in-Some-clause-unread : goal.returns-in-Some-clause-unread
+returns-in-Some-clause-unread g c = λ none. absurd (some_not_none (policy_named (map string_bytes c.args.words.now)) c.in-Some.name.now c.in-Some.ensures none)
 
-pub returns-clause-cycle : goal.returns-clause-cycle
-returns-clause-cycle g c = cycle _ _ _ _ _ _ _ c.serve_words.ensures.answers
-
-pub returns-clause-read_fault : goal.returns-clause-read_fault
-returns-clause-read_fault g c = read_fault _ _ _ _ _ _ _ c.serve_words.ensures.answers
-
-pub returns-clause-write_fault : goal.returns-clause-write_fault
-returns-clause-write_fault g c = write_fault _ _ _ _ _ _ _ c.serve_words.ensures.answers
-
-pub returns-clause-long : goal.returns-clause-long
-returns-clause-long g c = long _ _ _ _ _ _ _ c.serve_words.ensures.answers
-
-pub returns-clause-done : goal.returns-clause-done
-returns-clause-done g c = done _ _ _ _ _ _ _ c.serve_words.ensures.answers
-
-pub returns-clause-door_fault : goal.returns-clause-door_fault
-returns-clause-door_fault g c = door_fault _ _ _ _ _ _ _ c.serve_words.ensures.answers
-
-pub returns-clause-spent : goal.returns-clause-spent
-returns-clause-spent g c = spent _ _ _ _ _ _ _ c.serve_words.ensures.answers
-
-pub returns-clause-complete : goal.returns-clause-complete
-returns-clause-complete g c = complete _ _ _ _ _ _ _ c.serve_words.ensures.answers
+pub returns-in-None-clause-runs : goal.returns-in-None-clause-runs
+returns-in-None-clause-runs g c =
+    let k = g.C.Clock in
+    let d = g.D.Door in
+    let ws = c.args.crew.now.items in
+    runs_unnamed g.D.L.Link.traffic (map string_bytes c.args.words.now) _ _ _ (some_crew k.readings d.links d.faults ws c.requires.size.0) (all_fresh k.readings d.links d.faults ws c.requires.fresh)
+    c.in-None.ensures c.print.ensures refl refl refl refl

@@ -8,22 +8,28 @@ use Rattle.gtrbac_daemon.proofs.Served.{has_served}
 use Rattle.gtrbac_daemon.proofs.top.serve.Goals as goal
 
 pub returns-in-Ok : goal.returns-in-Ok
-returns-in-Ok g c =
+returns-in-Ok g c = λ texts texts' m m' n n'.
     let k = g.C.Clock in
     let d = g.D.Door in
     let K = crewmen k.readings d.links d.faults in
-    let o = g.K.Sink in (
-      c.now-minute.result,
-      c.now-minute.ensures,
-      inl (has_served g.D.L.Link.traffic c.args.safe c.now-minute.result c.write_up.result c.crew_status-due.result
-          (scene (g.B.Clock.readings c.args.birth.now) (K c.args.crew.now.items) (o.written c.args.out.now) (o.faults c.args.out.now))
-          (scene (g.B.Clock.readings c.now-minute.new.self) (K c.serve_from.new.crew.items) (o.written c.write_up.new.out) (o.faults c.write_up.new.out))
+    let o = g.K.Sink in
+    record {
+      birth = c.now-minute.result;
+      reads = c.now-minute.ensures;
+      ends =
+          inl (has_served g.D.L.Link.traffic c.args.safe c.now-minute.result c.write_up.result c.crew_status-due.result
+          (scene texts m n (g.B.Clock.readings c.args.birth.now) (K c.args.crew.now.items) (o.written c.args.out.now) (o.faults c.args.out.now))
+          (scene texts' m' n' (g.B.Clock.readings c.now-minute.new.self) (K c.serve_from.new.crew.items) (o.written c.write_up.new.out) (o.faults c.write_up.new.out))
           c.in-Ok.closed c.in-Ok.ensures.root.0 c.in-Ok.ensures.root.1 c.in-Ok.ensures.headline
           (c.crew_status-due.ensures ∙ (ap (λ (ws : List (Worker g.row.D.Denot g.row.C.Denot g.row.G.Denot g.row.D-L.Denot)). status_among ws) c.as_slice.ensures.value ∙ same_status k.readings d.links d.faults c.serve_from.new.crew.items))
-          c.write_up.ensures),
-    )
+          c.write_up.ensures);
+    }
 
 pub returns-in-Err : goal.returns-in-Err
-returns-in-Err g c =
+returns-in-Err g c = λ texts texts' m m' n n'.
     let K = crewmen g.C.Clock.readings g.D.Door.links g.D.Door.faults in
-    (c.now-minute.result, c.now-minute.ensures, inr ((refl, Keeps-refl (g.K.Sink.written c.args.out.now), refl), λ i. K (c.in-Err.ensures.err i).items))
+    record {
+      birth = c.now-minute.result;
+      reads = c.now-minute.ensures;
+      ends = inr ((refl, Keeps-refl (g.K.Sink.written c.args.out.now), refl), λ i. K (c.in-Err.ensures.err i).items);
+    }
