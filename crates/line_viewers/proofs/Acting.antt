@@ -19,7 +19,7 @@ use Rattle.snapshot_readers.specs.Glances.{IsReplyAt, IsGlance}
 use Rattle.line_viewers.specs.declared.showing.Showing.{Showing}
 use Rattle.line_viewers.specs.declared.showing.Told.{Told}
 use Rattle.line_viewers.specs.declared.showing.Told.TheVariants.{Silence, Agreed, Bad}
-use Rattle.line_viewers.specs.Viewed.{Answer, silence, agreed, bad, shown, is_denied, lens_in, Gets, Ascend}
+use Rattle.line_viewers.specs.Viewed.{Answer, silence, agreed, bad, shown, is_denied, is_request, lens_in, Gets, Ascend}
 use Rattle.line_viewers.specs.Viewing.{IsTold, Shows, Answers, Acts}
 use Rattle.line_viewers.proofs.Longer.{longer}
 
@@ -42,9 +42,9 @@ shows_glance np np' birth birth' seen seen' ns ns' actor request told g same sam
     }
 
 module _ (np : NamedPolicy) (birth : ℕ) (line : List ℕ) where
-  pub acts_ask : (seen seen' : List Entry) (s s' : Showing) (k : ℕ) (request : Request) (told : Told) → read_line np Nobody false line ≡ Ok (Ask request) → IsNamedActor np s.actor
-      → Answers np birth seen seen' (record s { calls = k }) s' request told → Acts np birth seen seen' s s' line told
-  acts_ask seen seen' s s' k request told said named a =
+  pub acts_ask : (seen seen' : List Entry) (s s' : Showing) (request : Request) (told : Told) → read_line np Nobody false line ≡ Ok (Ask request) → IsNamedActor np s.actor
+      → Answers np birth seen seen' (record s { calls = s.calls + 1 }) s' request told → Acts np birth seen seen' s s' line told
+  acts_ask seen seen' s s' request told said named a =
       record {
         answer = a.answer;
         told_is = a.told_is;
@@ -53,13 +53,14 @@ module _ (np : NamedPolicy) (birth : ℕ) (line : List ℕ) where
         lens = a.lens;
         ascends = a.ascends;
         denied = a.denied;
+        calls = a.same.1 ∙ ap (λ (r : Result Line LineFault). s.calls + one_where (is_request r)) (sym said);
         actor = a.same.0 ∙ ap (λ (r : Result Line LineFault). actor_by r s.actor) (sym said);
         named = subst (λ (y : Actor). IsNamedActor np y) (sym a.same.0) named;
       }
 
   acts_plain : (seen : List Entry) (s : Showing) (said : Result Line LineFault) (told : Told) (answer : Answer) → read_line np Nobody false line ≡ said → IsTold np told answer → Gets np birth seen said s.actor answer
-      → lens_in answer ≡ [] → is_denied answer ≡ false → IsNamedActor np (actor_by said s.actor) → Acts np birth seen seen s (record s { actor = actor_by said s.actor }) line told
-  acts_plain seen s said told answer is tells gets none fine named =
+      → lens_in answer ≡ [] → is_denied answer ≡ false → is_request said ≡ false → IsNamedActor np (actor_by said s.actor) → Acts np birth seen seen s (record s { actor = actor_by said s.actor }) line told
+  acts_plain seen s said told answer is tells gets none fine plain named =
       let low : length seen ≤ length seen = omega arith in
       record {
         answer = answer;
@@ -69,15 +70,16 @@ module _ (np : NamedPolicy) (birth : ℕ) (line : List ℕ) where
         lens = sym (append-nil s.lens.items) ∙ ap (λ (ns : List ℕ). s.lens.items ++ ns) (sym none);
         ascends = subst (λ (ns : List ℕ). Ascend (length seen) ns (length seen)) (sym none) low;
         denied = sym (add-zero s.denied) ∙ ap (λ (b : Bool). s.denied + one_where b) (sym fine);
+        calls = sym (add-zero s.calls) ∙ ap (λ (b : Bool). s.calls + one_where b) (sym plain) ∙ ap (λ (r : Result Line LineFault). s.calls + one_where (is_request r)) (sym is);
         actor = ap (λ (r : Result Line LineFault). actor_by r s.actor) (sym is);
         named = named;
       }
 
   pub acts_silent : (seen : List Entry) (s : Showing) → read_line np Nobody false line ≡ Ok Silent → IsNamedActor np s.actor → Acts np birth seen seen s s line Silence
-  acts_silent seen s is named = acts_plain seen s (Ok Silent) Silence silence is refl refl refl refl named
+  acts_silent seen s is named = acts_plain seen s (Ok Silent) Silence silence is refl refl refl refl refl named
 
   pub acts_be : (seen : List Entry) (s : Showing) (actor : Actor) → read_line np Nobody false line ≡ Ok (Be actor) → IsNamedActor np actor → Acts np birth seen seen s (record s { actor = actor }) line Agreed
-  acts_be seen s actor is named = acts_plain seen s (Ok (Be actor)) Agreed agreed is refl refl refl refl named
+  acts_be seen s actor is named = acts_plain seen s (Ok (Be actor)) Agreed agreed is refl refl refl refl refl named
 
   pub acts_bad : (seen : List Entry) (s : Showing) (fault : LineFault) → read_line np Nobody false line ≡ Err fault → IsNamedActor np s.actor → Acts np birth seen seen s s line (Bad fault)
-  acts_bad seen s fault is named = acts_plain seen s (Err fault) (Bad fault) (bad fault) is refl refl refl refl named
+  acts_bad seen s fault is named = acts_plain seen s (Err fault) (Bad fault) (bad fault) is refl refl refl refl refl named

@@ -3,5 +3,6 @@ pub mod Longer
 pub mod LineDone
 pub mod NoMinutes
 pub mod Acting
+pub mod Completing
 pub mod Closing
 pub mod Linking

@@ -26,7 +26,7 @@ use Rattle.line_viewers.specs.declared.showing.Showing.{Showing}
 use Rattle.line_viewers.specs.declared.showing.Told.{Told}
 use Rattle.line_viewers.specs.declared.showing.Told.TheVariants.{Bad}
 use Rattle.line_viewers.specs.declared.ends.ViewEnd.{ViewEnd}
-use Rattle.line_viewers.specs.Viewed.{Answer, bad, answer_text, is_denied, lens_in, Acted, Gets, actor_after, lines_of, lens_of, text_of, AreActed, Ascend}
+use Rattle.line_viewers.specs.Viewed.{Answer, bad, answer_text, is_denied, is_request, lens_in, Acted, Gets, actor_after, asked_in, lines_of, lens_of, text_of, AreActed, Ascend}
 use Rattle.line_viewers.specs.Viewing.{Acts, Sent, Point, point, Grows, Going, Serving, Halted}
 use Rattle.line_viewers.proofs.Ascending.{ascend_on}
 use Rattle.line_viewers.proofs.Longer.{acted_longer}
@@ -34,6 +34,9 @@ use Rattle.line_viewers.proofs.Longer.{acted_longer}
 lines_on : (fed line : List ℕ) (byte : ℕ) (acted : List Acted) (a : Acted) → lines_of acted ≡ whole_lines fed → is_feed byte ≡ true → line ≡ open_line fed → a.line ≡ line → lines_of (a ∷ acted) ≡ whole_lines (fed ++ byte ∷ [])
 lines_on fed line byte acted a lines feed is line_is =
     ap (λ (l : List ℕ). lines_of acted ++ l ∷ []) (line_is ∙ is) ∙ ap (λ (ls : List (List ℕ)). ls ++ open_line fed ∷ []) lines ∙ sym (lines_feed fed byte feed)
+
+counts_on : (n n' o m k : ℕ) → n' ≡ n + k → n ≡ o + m → n' ≡ o + (m + k)
+counts_on n n' o m k more is = omega (arith, more, is)
 
 abbrev pub one_line : List ℕ → Answer → Acted
 one_line line answer = record { line = line; answer = answer }
@@ -51,6 +54,7 @@ module _ (np : NamedPolicy) (birth : ℕ) where
         lens = x.lens ∙ ap (λ (ns : List ℕ). ns ++ lens_in x.answer) g.lens;
         ascends = ascend_on (length o.seen) (lens_of acted) (lens_in x.answer) (length seen) (length seen') g.ascends x.ascends;
         denied = x.denied ∙ ap (λ (n : ℕ). n + one_where (is_denied x.answer)) g.denied;
+        calls = counts_on s.calls s'.calls o.showing.calls (asked_in np acted) (one_where (is_request said)) x.calls g.calls;
       }
 
   -- the line that a byte ends was acted on, and its reply was sent as far as the link took it

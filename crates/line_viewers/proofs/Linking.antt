@@ -1,5 +1,5 @@
 -- A link behind those that were served.
-use Rattle.std.proofs.Common.{◌≡◌, ℕ, ◌≤◌, ◌<◌, List, [], ◌∷◌, ◌++◌, length, refl, sym, ap, subst, ◌∙◌, arith, append-nil, append_assoc, Option, Some, None, IfSome}
+use Rattle.std.proofs.Common.{◌≡◌, ℕ, ◌≤◌, ◌<◌, List, [], ◌∷◌, ◌++◌, length, refl, sym, ap, subst, ◌∙◌, arith, append-nil, append_assoc, length-append, Option, Some, None, IfSome}
 use mathlib.Core.List.{IsPrefix}
 use Rattle.gt_base.specs.declared.requests.Entry.{Entry}
 use Rattle.gt_io.specs.Links.{Traffic, IsFresh, GivesFirst}
@@ -10,7 +10,7 @@ use Rattle.line_viewers.specs.declared.ends.ViewerEnd.{ViewerEnd}
 use Rattle.line_viewers.specs.declared.ends.ViewerEnd.TheVariants.{Fresh, Done, DoorFault, Enough, Memory}
 use Rattle.line_viewers.specs.Viewed.{Ascend}
 use Rattle.line_viewers.specs.Viewing.{Views}
-use Rattle.line_viewers.specs.Crew.{Tale, begun_of, all_lens, Gives, Spot, ViewsTo, IsViewed, AreViewed, Worked, WorksOn, Works, most_links}
+use Rattle.line_viewers.specs.Crew.{Tale, begun_of, all_lens, Gives, AddUp, Spot, ViewsTo, IsViewed, AreViewed, Worked, WorksOn, Works, most_links}
 use Rattle.line_viewers.proofs.Ascending.{ascend_on}
 use Rattle.line_viewers.proofs.Longer.{acted_longer}
 
@@ -28,6 +28,9 @@ module _ {L : Type 0} where
   gives_more (Some ls) mid new xs x g f =
       let f' : IfSome (Some g.0) (λ ys. (rest : List L) × (ys ≡ x ∷ rest) × (new ≡ Some rest)) = subst (λ (m : Option (List L)). IfSome m (λ ys. (rest : List L) × (ys ≡ x ∷ rest) × (new ≡ Some rest))) g.2 f in
       (f'.0, g.1 ∙ ap (λ (l : List L). xs ++ l) f'.1 ∙ sym (append_assoc xs (x ∷ []) f'.0), f'.2)
+
+  some_is : (xs ys : List L) → Some xs ≡ Some ys → xs ≡ ys
+  some_is xs ys e = cc e
 
   gives_none : (d : Option (List L)) → Gives d d []
   gives_none None = tt
@@ -50,6 +53,8 @@ module _ {L : Type 0} where
             given_is = i.given_is;
             bounded = i.bounded;
             cause = i.cause;
+            finished = i.finished;
+            complete = i.complete;
           },
           viewed_longer h h' ss xs more all.1,
         )
@@ -61,13 +66,13 @@ module _ {L : Type 0} where
     viewed_push h (t ∷ ts) (y ∷ ys) s x all one = (all.0, viewed_push h ts ys s x all.1 one)
 
     -- one more link was served
-    pub link_done : (o p p' : Spot L) (served : List (Viewed L)) (tales : List (Tale L)) (s : Viewed L) (begun : L) → Worked traffic np birth o p served tales
-        → Views np birth p.seen p'.seen s.lens.items s.denied (traffic begun) (traffic s.link) s.outcome → GivesFirst p.door p'.door begun → IsFresh (traffic begun)
+    pub link_done : (o p p' : Spot L) (served : List (Viewed L)) (tales : List (Tale L)) (s : Viewed L) (begun : L) (calls calls' : ℕ) → Worked traffic np birth o p served tales
+        → Views np birth p.seen p'.seen s.lens.items s.denied calls calls' (traffic begun) (traffic s.link) s.outcome → GivesFirst p.door p'.door begun → IsFresh (traffic begun)
         → (tales' : List (Tale L)) × Worked traffic np birth o p' (served ++ s ∷ []) tales'
-    link_done o p p' served tales s begun w v door fresh =
+    link_done o p p' served tales s begun calls calls' w v door fresh =
         let x : Tale L = record { begun = begun; taken = v.taken; given = v.given; acted = v.acted } in
         let one : IsViewed traffic np birth p'.seen s x =
-        record { fresh = fresh; view = v.view; lens = v.lens_are; denied = v.denied_are; taken_is = v.taken_is; left_is = v.left_is; given_is = v.given_is; bounded = v.bounded; cause = v.cause } in (
+        record { fresh = fresh; view = v.view; lens = v.lens_are; denied = v.denied_are; taken_is = v.taken_is; left_is = v.left_is; given_is = v.given_is; bounded = v.bounded; cause = v.cause; finished = v.finished; complete = v.complete } in (
           tales ++ x ∷ [],
           record {
             links = viewed_push p'.seen served tales s x (viewed_longer p.seen p'.seen served tales v.grows w.links) one;
@@ -87,6 +92,26 @@ module _ {L : Type 0} where
         let low : length o.seen ≤ length o.seen = omega arith in
         subst (λ (ss : List (Viewed L)). Worked traffic np birth o o ss []) (sym is) (record { links = tt; grows = prefix_self o.seen; ascends = low; door = gives_none o.door })
 
+    lengths_agree : (h : List Entry) (ss : List (Viewed L)) (xs : List (Tale L)) → AreViewed traffic np birth h ss xs → length (begun_of xs) ≡ length ss
+    lengths_agree h [] [] all = refl
+    lengths_agree h [] (x ∷ xs) all = absurd all
+    lengths_agree h (s ∷ ss) [] all = absurd all
+    lengths_agree h (s ∷ ss) (x ∷ xs) all = let rest = lengths_agree h ss xs all.1 in omega (arith, rest)
+
+    -- what was served, and what the door has left
+    add_up : (old new : Option (List L)) (served : List (Viewed L)) (begun : List L) → length begun ≡ length served → Gives old new begun → AddUp old new served
+    add_up (Some had) (Some left) served begun same g =
+        let e : length had ≡ length (begun ++ g.0) = ap length g.1 in
+        let more = length-append begun g.0 in
+        let rest : left ≡ g.0 = some_is left g.0 g.2 in
+        let short = ap length rest in
+        omega (arith, e, more, same, short)
+    add_up (Some had) None served begun same g = tt
+    add_up None left served begun same g = tt
+
+    pub counted_by : (o p : Spot L) (served : List (Viewed L)) (tales : List (Tale L)) → Worked traffic np birth o p served tales → AddUp o.door p.door served
+    counted_by o p served tales w = add_up o.door p.door served (begun_of tales) (lengths_agree p.seen served tales w.links) w.door
+
     views_earlier : (links : Option (List L)) (f f' f'' : ℕ) (served : List (Viewed L)) (end : ViewerEnd) → f ≤ f' → ViewsTo links f' f'' served end → ViewsTo links f f'' served end
     views_earlier links f f' f'' served DoorFault low w = (w.0, let rose = w.1 in omega (arith, rose, low))
     views_earlier links f f' f'' served Done low w = w
@@ -99,7 +124,7 @@ module _ {L : Type 0} where
         → WorksOn traffic np birth p p' f' f'' items' served (Some end) → Works traffic np birth o p' f f'' served end
     next_done o p p' f f' f'' items items' served tales end kept low w on =
         let d = on o tales (subst (λ (ss : List (Viewed L)). Worked traffic np birth o p ss tales) (sym kept) w) in
-        record { tales = d.0; worked = d.1; cause = views_earlier p'.door f f' f'' served end low d.2 }
+        record { tales = d.0; worked = d.1; counted = counted_by o p' served d.0 d.1; cause = views_earlier p'.door f f' f'' served end low d.2 }
 
     pub goes_on : (o p p' : Spot L) (f' f'' : ℕ) (items items' served : List (Viewed L)) (tales : List (Tale L)) → items' ≡ items → Worked traffic np birth o p items tales
         → WorksOn traffic np birth p p' f' f'' items' served None → (tales' : List (Tale L)) × Worked traffic np birth o p' served tales'

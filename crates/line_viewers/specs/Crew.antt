@@ -1,5 +1,5 @@
 -- What a viewer keeps from link to link.
-use Rattle.std.specs.Prelude.{◌≡◌, ℕ, ◌<◌, ◌≤◌, ⊤, List, [], ◌∷◌, ◌++◌, length, Some, None, IfSome, MatchOption}
+use Rattle.std.specs.Prelude.{◌≡◌, ℕ, ◌+◌, ◌<◌, ◌≤◌, true, ⊤, List, [], ◌∷◌, ◌++◌, length, Some, None, IfSome}
 use Rattle.std.specs.declared.option.Option.{Option}
 use Rattle.std.specs.Io.KnownBytes.{Appends, Consumes}
 use Rattle.gt_base.specs.declared.requests.Entry.{Entry}
@@ -11,7 +11,7 @@ use Rattle.line_viewers.specs.declared.ends.ViewerEnd.{ViewerEnd}
 use Rattle.line_viewers.specs.declared.ends.ViewerEnd.TheVariants.{Fresh, Done, DoorFault, Enough, Memory}
 use Rattle.line_viewers.specs.Boxes.{most_bytes}
 use Rattle.line_viewers.specs.Viewed.{Acted, lens_of, denied_in, Ascend, View}
-use Rattle.line_viewers.specs.Viewing.{EndsBy, Grows}
+use Rattle.line_viewers.specs.Viewing.{EndsBy, IsUnhindered, IsComplete, Grows}
 
 -- how many links one viewer serves at most
 abbrev pub most_links : ℕ
@@ -38,10 +38,18 @@ abbrev pub Gives : {L : Type 0} → Option (List L) → Option (List L) → List
 Gives {L} None new xs = ⊤
 Gives {L} (Some ls) new xs = (rest : List L) × (ls ≡ xs ++ rest) × (new ≡ Some rest)
 
+-- served and remaining links add up to those that the door had
+abbrev pub AddUp : {L : Type 0} → Option (List L) → Option (List L) → List (Viewed L) → Type 0
+AddUp (Some had) (Some left) served = length served + length left ≡ length had
+AddUp (Some had) None served = ⊤
+AddUp None left served = ⊤
+
 -- each end has its cause
 abbrev pub ViewsTo : {L : Type 0} → Option (List L) → ℕ → ℕ → List (Viewed L) → ViewerEnd → Type 0
-ViewsTo {L} links faults faults' served Done = (length served < most_links) × IfSome links (λ ls. ls ≡ [])
-ViewsTo {L} links faults faults' served DoorFault = (length served < most_links) × Rose faults faults'
+ViewsTo {L} links faults faults' served Done =
+    (length served < most_links) × IfSome links (λ ls. ls ≡ [])
+ViewsTo {L} links faults faults' served DoorFault =
+    (length served < most_links) × Rose faults faults'
 ViewsTo {L} links faults faults' served Enough = length served ≡ most_links
 ViewsTo {L} links faults faults' served Memory = length served < most_links
 ViewsTo {L} links faults faults' served Fresh = ⊥
@@ -52,7 +60,8 @@ pub record Spot (L : Type 0) : Type 0 where
   pub door : Option (List L)
 
 module _ {L : Type 0} (traffic : L → Traffic) (np : NamedPolicy) (birth : ℕ) where
-  -- a link was served as this is told, over a history
+  -- A link was served as this is told, over a history: it came as the door had it, and it was let
+  -- go
   pub record IsViewed (h : List Entry) (s : Viewed L) (x : Tale L) : Type 0 where
     pub fresh : IsFresh (traffic x.begun)
     pub view : View np birth h x.taken x.given x.acted s.outcome
@@ -63,6 +72,9 @@ module _ {L : Type 0} (traffic : L → Traffic) (np : NamedPolicy) (birth : ℕ)
     pub given_is : Appends (traffic x.begun).given (traffic s.link).given x.given
     pub bounded : length x.taken ≤ most_bytes
     pub cause : EndsBy (traffic x.begun) (traffic s.link) x.taken s.outcome
+    pub finished : (traffic s.link).finished ≡ true
+    pub complete : IsUnhindered (traffic x.begun) (traffic s.link) x.taken
+        → IsComplete np x.taken x.acted s.outcome
 
   abbrev pub AreViewed : List Entry → List (Viewed L) → List (Tale L) → Type 0
   AreViewed h [] [] = Unit {0}
@@ -70,20 +82,25 @@ module _ {L : Type 0} (traffic : L → Traffic) (np : NamedPolicy) (birth : ℕ)
   AreViewed h _ _ = ⊥
 
   -- the links so far
-  pub record Worked (o p : Spot L) (served : List (Viewed L)) (tales : List (Tale L)) : Type 0 where
+  pub record Worked (o p : Spot L) (served : List (Viewed L)) (tales : List (Tale L))
+      : Type 0 where
     pub links : AreViewed p.seen served tales
     pub grows : Grows o.seen p.seen
     pub ascends : Ascend (length o.seen) (all_lens served) (length p.seen)
     pub door : Gives o.door p.door (begun_of tales)
 
   -- what one more link comes to
-  abbrev pub WorksOn : Spot L → Spot L → ℕ → ℕ → List (Viewed L) → List (Viewed L) → Option ViewerEnd → Type 0
+  abbrev pub WorksOn : Spot L → Spot L → ℕ → ℕ → List (Viewed L) → List (Viewed L)
+      → Option ViewerEnd → Type 0
   WorksOn p p' faults faults' served served' result =
       (o : Spot L) (tales : List (Tale L)) → Worked o p served tales
-      → (tales' : List (Tale L)) × Worked o p' served' tales' × IfSome result (λ end. ViewsTo p'.door faults faults' served' end)
+      → (tales' : List (Tale L)) × Worked o p' served' tales'
+      × IfSome result (λ end. ViewsTo p'.door faults faults' served' end)
 
   -- all the work of a viewer
-  pub record Works (o p : Spot L) (faults faults' : ℕ) (served : List (Viewed L)) (end : ViewerEnd) : Type 0 where
+  pub record Works (o p : Spot L) (faults faults' : ℕ) (served : List (Viewed L)) (end : ViewerEnd)
+      : Type 0 where
     pub tales : List (Tale L)
     pub worked : Worked o p served tales
+    pub counted : AddUp o.door p.door served
     pub cause : ViewsTo p.door faults faults' served end

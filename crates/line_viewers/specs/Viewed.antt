@@ -1,4 +1,5 @@
--- What a viewer's link is told: its acted lines, each with the history that its reply is of, and its text.
+-- What a viewer's link is told: its acted lines, each with the history that its reply is of, and
+-- its text.
 use Rattle.std.specs.Prelude.{◌≡◌, ℕ, ◌+◌, ◌≤◌, ◌<◌, Bool, true, false, List, [], ◌∷◌, ◌++◌, length, take, codes, Result, Ok, Err, MatchBool}
 use mathlib.Core.List.{IsPrefix}
 use Rattle.gt_base.specs.declared.requests.Actor.{Actor}
@@ -44,6 +45,14 @@ abbrev pub lens_in : Answer → List ℕ
 lens_in (shown n reply) = n ∷ []
 lens_in _ = []
 
+-- whether a line is a request
+abbrev pub is_request : Result Line LineFault → Bool
+is_request (Ok (Ask request)) = true
+is_request (Ok Silent) = false
+is_request (Ok (At t)) = false
+is_request (Ok (Be actor)) = false
+is_request (Err f) = false
+
 pub record Acted : Type 0 where
   pub line : List ℕ
   pub answer : Answer
@@ -51,14 +60,16 @@ pub record Acted : Type 0 where
 module _ (np : NamedPolicy) (birth : ℕ) (h : List Entry) where
   -- a request that only looks is answered as at a beginning of the history, or there was no memory
   abbrev pub Looks : Actor → Request → Answer → Type 0
-  Looks actor request (shown n reply) = (n ≤ length h) × IsReplyAt np.policy birth (take n h) actor request reply
+  Looks actor request (shown n reply) =
+      (n ≤ length h) × IsReplyAt np.policy birth (take n h) actor request reply
   Looks actor request no_memory = Unit {0}
   Looks actor request _ = ⊥
 
   abbrev pub Gets : Result Line LineFault → Actor → Answer → Type 0
   Gets (Ok Silent) actor answer = answer ≡ silence
   Gets (Ok (Be x)) actor answer = answer ≡ agreed
-  Gets (Ok (Ask request)) actor answer = MatchBool (is_look request) (Looks actor request answer) (answer ≡ view_only)
+  Gets (Ok (Ask request)) actor answer =
+      MatchBool (is_look request) (Looks actor request answer) (answer ≡ view_only)
   Gets (Ok (At t)) actor answer = ⊥
   Gets (Err f) actor answer = answer ≡ bad f
 
@@ -84,10 +95,18 @@ abbrev pub denied_in : List Acted → ℕ
 denied_in [] = 0
 denied_in (a ∷ before) = denied_in before + one_where (is_denied a.answer)
 
+-- how many of them are requests
+abbrev pub asked_in : NamedPolicy → List Acted → ℕ
+asked_in np [] = 0
+asked_in np (a ∷ before) =
+    asked_in np before + one_where (is_request (read_line np Nobody false a.line))
+
 -- each line got what it says, over the history
 abbrev pub AreActed : NamedPolicy → ℕ → List Entry → List Acted → Type 0
 AreActed np birth h [] = Unit {0}
-AreActed np birth h (a ∷ before) = AreActed np birth h before × Gets np birth h (read_line np Nobody false a.line) (actor_after np before) a.answer
+AreActed np birth h (a ∷ before) =
+    AreActed np birth h before
+    × Gets np birth h (read_line np Nobody false a.line) (actor_after np before) a.answer
 
 -- the numbers never fall, from the first bound to the last
 abbrev pub Ascend : ℕ → List ℕ → ℕ → Type 0
@@ -101,7 +120,9 @@ GivenAll np taken given acted = (lines_of acted ≡ whole_lines taken) × (given
 -- the last reply was given in part, the others whole
 abbrev pub GivenPart : NamedPolicy → List ℕ → List Acted → Type 0
 GivenPart np given [] = ⊥
-GivenPart np given (a ∷ before) = (n : ℕ) × (n < length (answer_text np a.answer)) × (given ≡ text_of np before ++ take n (answer_text np a.answer))
+GivenPart np given (a ∷ before) =
+    (n : ℕ) × (n < length (answer_text np a.answer))
+    × (given ≡ text_of np before ++ take n (answer_text np a.answer))
 
 abbrev pub IsGiven : NamedPolicy → List ℕ → List ℕ → List Acted → ViewEnd → Type 0
 IsGiven np taken given acted Ended = GivenAll np taken given acted
@@ -109,8 +130,10 @@ IsGiven np taken given acted ReadFault = GivenAll np taken given acted
 IsGiven np taken given acted Spent = GivenAll np taken given acted
 IsGiven np taken given acted WriteFault = GivenPart np given acted
 
--- One link: a history, the bytes that were taken from it and given to it, its acted lines, and how it ended
-pub record View (np : NamedPolicy) (birth : ℕ) (h : List Entry) (taken given : List ℕ) (acted : List Acted) (end : ViewEnd) : Type 0 where
+-- One link: a history, the bytes that were taken from it and given to it, its acted lines, and how
+-- it ended
+pub record View (np : NamedPolicy) (birth : ℕ) (h : List Entry) (taken given : List ℕ)
+    (acted : List Acted) (end : ViewEnd) : Type 0 where
   pub lines : IsPrefix (lines_of acted) (whole_lines taken)
   pub fit : AreActed np birth h acted
   pub given_is : IsGiven np taken given acted end

@@ -29,8 +29,8 @@ pub enum ViewerEnd {
     Memory,
 }
 
-/// A link that was served: the numbers of entries of the histories that its replies are of, how many request lines were answered by
-/// `no memory`, and how it ended.
+/// A link that was served: the numbers of entries of the histories that its replies are of, how
+/// many request lines were answered by `no memory`, and how it ended.
 #[derive(Drop)]
 pub struct Viewed<L> {
     pub link: L,

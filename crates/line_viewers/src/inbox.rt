@@ -1,24 +1,16 @@
 //! The bytes of a link, one by one.
 ghost use Rattle.std.specs.Prelude.{◌≡◌, ◌≤◌, ◌<◌, ◌∷◌, [], length, IfOk};
 ghost use Rattle.std.specs.Io.KnownBytes.{ReadConsumes, WriteAppends};
-ghost use Rattle.gt_io.specs.Causes.{HasCause};
+ghost use Rattle.gt_io.specs.Causes.{HasCause, RisesOnce};
 ghost use Rattle.gt_io.specs.Links.{WritesNothing};
-ghost use Rattle.line_viewers.specs.Boxes.{full_box, Fills, Takes};
+ghost use Rattle.line_viewers.specs.Boxes.{full_box, Fills, Feeds};
 
+use crate::ends::ViewEnd;
 use gt_io::{Failed, Link};
 use std::marker::Model;
 
 /// How many bytes are taken from one link at most.
 const MOST_BYTES: usize = 67_108_864;
-
-/// What is next on a link.
-pub(crate) enum Next {
-    Byte(u8),
-    /// The link has no bytes left.
-    End,
-    /// As many bytes were taken as a link may send.
-    Spent,
-}
 
 /// Bytes that were read and not handed out. It is seen as these, and how many more may be read.
 #[derive(Drop)]
@@ -46,9 +38,14 @@ fn read_some<L: Link>(link: &mut L, buf: &mut [u8], left: usize) -> Result<usize
     requires buf { 0 < length buf.old }
     requires left { 0 < left }
     ensures bound { IfOk result (λ n. (n ≤ left) × (n ≤ length buf.new)) }
-    ensures bytes { ReadConsumes (L.traffic link.old).left (L.traffic link.new).left result buf.new }
-    ensures taken { WriteAppends (L.traffic link.old).taken (L.traffic link.new).taken result buf.new }
-    ensures cause { HasCause (L.traffic link.old).read_faults (L.traffic link.new).read_faults result }
+    ensures bytes { ReadConsumes (L.traffic link.old).left (L.traffic link.new).left result
+        buf.new }
+    ensures taken { WriteAppends (L.traffic link.old).taken (L.traffic link.new).taken result
+        buf.new }
+    ensures cause { HasCause (L.traffic link.old).read_faults (L.traffic link.new).read_faults
+        result }
+    ensures once { RisesOnce (L.traffic link.old).read_faults (L.traffic link.new).read_faults
+        result }
     ensures writes { WritesNothing (L.traffic link.old) (L.traffic link.new) }
 {
     let room = left.min(buf.len());
@@ -93,30 +90,32 @@ impl Inbox {
         Ok(n)
     }
 
-    // The next byte, where none is held.
-    fn read_next<L: Link>(&mut self, link: &mut L) -> Result<Next, Failed>
+    // The next byte, where none is held, or the end of the service where none comes.
+    fn read_next<L: Link>(&mut self, link: &mut L) -> Result<u8, ViewEnd>
         requires rest { self.old.rest ≡ [] }
-        ensures takes { Takes self.old self.new (L.traffic link.old) (L.traffic link.new) result }
+        ensures feeds { Feeds self.old self.new (L.traffic link.old) (L.traffic link.new) result }
         ensures writes { WritesNothing (L.traffic link.old) (L.traffic link.new) }
     {
         if self.left == 0 {
-            return Ok(Next::Spent);
+            return Err(ViewEnd::Spent);
         }
-        let n = self.fill(link)?;
+        let Ok(n) = self.fill(link) else {
+            return Err(ViewEnd::ReadFault);
+        };
         if n == 0 {
-            return Ok(Next::End);
+            return Err(ViewEnd::Ended);
         }
-        Ok(Next::Byte(self.hand_out()))
+        Ok(self.hand_out())
     }
 
-    /// The next byte, which is read where none is held.
-    pub(crate) fn next<L: Link>(&mut self, link: &mut L) -> Result<Next, Failed>
-        ensures takes { Takes self.old self.new (L.traffic link.old) (L.traffic link.new) result }
+    /// The next byte, which is read where none is held, or the end of the service where none comes.
+    pub(crate) fn next<L: Link>(&mut self, link: &mut L) -> Result<u8, ViewEnd>
+        ensures feeds { Feeds self.old self.new (L.traffic link.old) (L.traffic link.new) result }
         ensures writes { WritesNothing (L.traffic link.old) (L.traffic link.new) }
     {
         if self.at == self.end {
             return self.read_next(link);
         }
-        Ok(Next::Byte(self.hand_out()))
+        Ok(self.hand_out())
     }
 }

@@ -1,5 +1,6 @@
-//! What one line of a viewer's link comes to: it is read, answered by a glance where it only looks, and told its reply.
-ghost use Rattle.std.specs.Prelude.{◌≡◌, ◌+◌, ◌<◌, ◌≤◌, ◌^◌, ◌++◌, true, codes};
+//! What one line of a viewer's link comes to: it is read, answered by a glance where it only looks,
+//! and told its reply.
+ghost use Rattle.std.specs.Prelude.{◌≡◌, ◌+◌, ◌<◌, ◌^◌, ◌++◌, true, OnOk, codes};
 ghost use Rattle.gt_io.specs.Links.{ReadsNothing};
 ghost use Rattle.policy_words.specs.Naming.{NamedPolicy};
 ghost use Rattle.request_text.specs.Replies.{fault_word};
@@ -11,6 +12,7 @@ ghost use Rattle.line_viewers.specs.Viewing.{GlancesCanBeTold, IsTold, SameGlass
 
 use crate::ends::ViewEnd;
 use crate::showing::{Showing, Told};
+use crate::station::Station;
 use gt_base::{Actor, List, Request};
 use gt_io::{Framed, Framer, Gate, Link, send_all};
 use policy_book::Policy;
@@ -31,9 +33,11 @@ fn fault_reply(fault: LineFault) -> &'static [u8]
 
 // Writes the reply of a line.
 fn send<L: Link>(link: &mut L, told: &Told) -> Result<(), ViewEnd>
-    ensures sent { (np : NamedPolicy) (answer : Answer) → IsTold np told.now answer → Sent np answer (L.traffic link.old) (L.traffic link.new) result }
+    ensures sent { (np : NamedPolicy) (answer : Answer) → IsTold np told.now answer
+        → Sent np answer (L.traffic link.old) (L.traffic link.new) result }
     ensures reads { ReadsNothing (L.traffic link.old) (L.traffic link.new) }
-    ensures later { (L.traffic link.old).write_faults ≤ (L.traffic link.new).write_faults }
+    ensures kept { OnOk result
+        ((L.traffic link.new).write_faults ≡ (L.traffic link.old).write_faults) }
 {
     let sent = match told {
         Told::Silence => Ok(()),
@@ -77,7 +81,8 @@ fn show(
     requires named { IsNamedWish policy.now.policy (ask actor request) }
     requires replies { GlancesCanBeTold policy.now glass.old.birth }
     ensures glass { SameGlass glass.old glass.new }
-    ensures shows { Shows policy.now glass.old.birth glass.old.seen glass.new.seen lens.old.items lens.new.items actor request result }
+    ensures shows { Shows policy.now glass.old.birth glass.old.seen glass.new.seen lens.old.items
+        lens.new.items actor request result }
 {
     let mut text = List::new(alloc);
     if text.reserve(LONGEST_REPLY).is_err() || lens.reserve(1).is_err() {
@@ -107,7 +112,8 @@ fn answer(
     requires replies { GlancesCanBeTold policy.now glass.old.birth }
     requires room { showing.old.denied + 1 < 2 ^ 63 }
     ensures glass { SameGlass glass.old glass.new }
-    ensures answers { Answers policy.now glass.old.birth glass.old.seen glass.new.seen showing.old showing.new request result }
+    ensures answers { Answers policy.now glass.old.birth glass.old.seen glass.new.seen showing.old
+        showing.new request result }
 {
     if !only_looks(&request) {
         return Told::ViewOnly;
@@ -128,11 +134,9 @@ fn answer(
 
 // Acts on a line, but for its reply.
 fn act<G: Gate>(
-    alloc: Global,
     glass: &mut Glass,
     policy: &Policy,
-    number: u32,
-    gate: &G,
+    station: &Station<'_, G>,
     showing: &mut Showing,
     line: &[u8],
 ) -> Told
@@ -141,14 +145,15 @@ fn act<G: Gate>(
     requires replies { GlancesCanBeTold policy.now glass.old.birth }
     requires room { HasRoom showing.old 1 }
     ensures glass { SameGlass glass.old glass.new }
-    ensures acts { Acts policy.now glass.old.birth glass.old.seen glass.new.seen showing.old showing.new line.now result }
+    ensures acts { Acts policy.now glass.old.birth glass.old.seen glass.new.seen showing.old
+        showing.new line.now result }
     ensures counts { CountsUp showing.old showing.new 1 }
 {
     match read_line(policy, Actor::Nobody, false, line) {
         Ok(Line::Ask(request)) => {
             showing.calls += 1;
-            gate.pass(number, showing.calls);
-            answer(alloc, glass, policy, showing, request)
+            station.gate.pass(station.number, showing.calls);
+            answer(station.alloc, glass, policy, showing, request)
         }
         Ok(Line::Be(actor)) => {
             showing.actor = actor;
@@ -162,12 +167,10 @@ fn act<G: Gate>(
 
 /// Takes one more byte, and acts on the line that it ends.
 pub(crate) fn take_byte<L: Link, G: Gate>(
-    alloc: Global,
     glass: &mut Glass,
     policy: &Policy,
-    number: u32,
+    station: &Station<'_, G>,
     link: &mut L,
-    gate: &G,
     framer: &mut Framer,
     showing: &mut Showing,
     byte: u8,
@@ -177,16 +180,21 @@ pub(crate) fn take_byte<L: Link, G: Gate>(
     requires replies { GlancesCanBeTold policy.now glass.old.birth }
     requires room { HasRoom showing.old 1 }
     ensures glass { SameGlass glass.old glass.new }
-    ensures goes { Goes policy.now glass.old.birth (point glass.old.seen showing.old (L.traffic link.old).given) (point glass.new.seen showing.new (L.traffic link.new).given) framer.old framer.new byte (L.traffic link.old).write_faults (L.traffic link.new).write_faults result }
+    ensures goes { Goes policy.now glass.old.birth
+        (point glass.old.seen showing.old (L.traffic link.old).given)
+        (point glass.new.seen showing.new (L.traffic link.new).given)
+        framer.old framer.new byte (L.traffic link.old).write_faults
+        (L.traffic link.new).write_faults result }
     ensures actor { IsNamedActor policy.now showing.new.actor }
     ensures counts { CountsUp showing.old showing.new 1 }
     ensures reads { ReadsNothing (L.traffic link.old) (L.traffic link.new) }
-    ensures faults { (L.traffic link.old).write_faults ≤ (L.traffic link.new).write_faults }
+    ensures faults { OnOk result
+        ((L.traffic link.new).write_faults ≡ (L.traffic link.old).write_faults) }
 {
     match framer.push(byte) {
         Framed::More => Ok(()),
         Framed::Whole => {
-            let told = act(alloc, glass, policy, number, gate, showing, framer.line());
+            let told = act(glass, policy, station, showing, framer.line());
             send(link, &told)
         }
         Framed::Long => send(link, &Told::Bad(LineFault::Long)),

@@ -2,8 +2,8 @@
 use gt_base::{Actor, List};
 use request_text::LineFault;
 
-/// The actor of the lines that follow, the numbers of entries of the histories that were shown, how many request lines were answered by
-/// `no memory`, and how many request lines the viewer had.
+/// The actor of the lines that follow, the numbers of entries of the histories that were shown, how
+/// many request lines were answered by `no memory`, and how many request lines the viewer had.
 #[derive(Drop)]
 pub struct Showing {
     pub actor: Actor,

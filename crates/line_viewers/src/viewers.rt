@@ -6,6 +6,7 @@ ghost use Rattle.line_viewers.specs.Viewing.{GlancesCanBeTold, SameGlass};
 
 use crate::ends::{Viewed, ViewerEnd};
 use crate::serve::view_link;
+use crate::station::Station;
 use gt_base::List;
 use gt_io::{Door, Gate};
 use policy_book::Policy;
@@ -25,12 +26,10 @@ pub struct Viewer<D: Door, G: Gate> {
 
 // Serves the next link of the door, for which there is room.
 fn view_next<D: Door, G: Gate>(
-    alloc: Global,
     glass: &mut Glass,
     policy: &Policy,
-    number: u32,
+    station: &Station<'_, G>,
     door: &mut D,
-    gate: &G,
     served: &mut List<Viewed<D::L>>,
     calls: &mut u64,
 ) -> Option<ViewerEnd>
@@ -40,7 +39,10 @@ fn view_next<D: Door, G: Gate>(
     requires room { 1 ≤ served.old.spare }
     requires few { length served.old.items < most_links }
     ensures glass { SameGlass glass.old glass.new }
-    ensures works { WorksOn D.L.traffic policy.now glass.old.birth (record { seen = glass.old.seen; door = D.links door.old }) (record { seen = glass.new.seen; door = D.links door.new }) (D.faults door.old) (D.faults door.new) served.old.items served.new.items result }
+    ensures works { WorksOn D.L.traffic policy.now glass.old.birth
+        (record { seen = glass.old.seen; door = D.links door.old })
+        (record { seen = glass.new.seen; door = D.links door.new })
+        (D.faults door.old) (D.faults door.new) served.old.items served.new.items result }
     ensures calls { calls.new ≤ calls.old + most_bytes }
     ensures faults { D.faults door.old ≤ D.faults door.new }
     ensures one { result ≡ None → length served.new.items ≡ length served.old.items + 1 }
@@ -49,7 +51,7 @@ fn view_next<D: Door, G: Gate>(
         Err(_) => Some(ViewerEnd::DoorFault),
         Ok(None) => Some(ViewerEnd::Done),
         Ok(Some(link)) => {
-            served.push(view_link(alloc, glass, policy, number, link, gate, calls));
+            served.push(view_link(glass, policy, station, link, calls));
             None
         }
     }
@@ -57,34 +59,36 @@ fn view_next<D: Door, G: Gate>(
 
 // Serves the links of the door until it ends.
 fn view_on<D: Door, G: Gate>(
-    alloc: Global,
     glass: &mut Glass,
     policy: &Policy,
-    number: u32,
+    station: &Station<'_, G>,
     door: &mut D,
-    gate: &G,
     served: &mut List<Viewed<D::L>>,
 ) -> ViewerEnd
     requires policy { glass.old.named ≡ policy.now }
     requires replies { GlancesCanBeTold policy.now glass.old.birth }
     requires empty { served.old.items ≡ [] }
     ensures glass { SameGlass glass.old glass.new }
-    ensures works { Works D.L.traffic policy.now glass.old.birth (record { seen = glass.old.seen; door = D.links door.old }) (record { seen = glass.new.seen; door = D.links door.new }) (D.faults door.old) (D.faults door.new) served.new.items result }
+    ensures works { Works D.L.traffic policy.now glass.old.birth
+        (record { seen = glass.old.seen; door = D.links door.old })
+        (record { seen = glass.new.seen; door = D.links door.new })
+        (D.faults door.old) (D.faults door.new) served.new.items result }
 {
     let mut calls = 0;
     while served.len() < MOST_LINKS {
         if served.reserve(1).is_err() {
             return ViewerEnd::Memory;
         }
-        if let Some(end) = view_next(alloc, glass, policy, number, door, gate, served, &mut calls) {
+        if let Some(end) = view_next(glass, policy, station, door, served, &mut calls) {
             return end;
         }
     }
     ViewerEnd::Enough
 }
 
-/// Serves the links of the viewer's door one after the other, until the door has none left or fails, 100,000 were served, or there is no
-/// memory for a further link. The viewer `v` passes its gate as worker 8 + v.
+/// Serves the links of the viewer's door one after the other, until the door has none left or
+/// fails, 100,000 were served, or there is no memory for a further link. The viewer `v` passes its
+/// gate as worker 8 + v.
 pub fn view<D: Door, G: Gate>(
     alloc: Global,
     glass: &mut Glass,
@@ -97,15 +101,22 @@ pub fn view<D: Door, G: Gate>(
     requires number { v ≤ 7 }
     requires fresh { (viewer.old.outcome ≡ ViewerEnd.Fresh) × (viewer.old.served.items ≡ []) }
     ensures glass { SameGlass glass.old glass.new }
-    ensures works { Works D.L.traffic policy.now glass.old.birth (record { seen = glass.old.seen; door = D.links viewer.old.door }) (record { seen = glass.new.seen; door = D.links viewer.new.door }) (D.faults viewer.old.door) (D.faults viewer.new.door) viewer.new.served.items viewer.new.outcome }
+    ensures works { Works D.L.traffic policy.now glass.old.birth
+        (record { seen = glass.old.seen; door = D.links viewer.old.door })
+        (record { seen = glass.new.seen; door = D.links viewer.new.door })
+        (D.faults viewer.old.door) (D.faults viewer.new.door) viewer.new.served.items
+        viewer.new.outcome }
 {
-    viewer.outcome = view_on(
+    let station = Station {
         alloc,
+        gate: &viewer.gate,
+        number: 8 + v,
+    };
+    viewer.outcome = view_on(
         glass,
         policy,
-        8 + v,
+        &station,
         &mut viewer.door,
-        &viewer.gate,
         &mut viewer.served,
     );
 }

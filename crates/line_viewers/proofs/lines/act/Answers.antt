@@ -10,7 +10,7 @@ answer-requires-clause-named g c =
 
 pub returns-in-Ok-Ask-clause-acts : goal.returns-in-Ok-Ask-clause-acts
 returns-in-Ok-Ask-clause-acts g c =
-    acts_ask c.args.policy.now c.args.glass.now.birth c.args.line.now c.args.glass.now.seen c.answer.new.glass.seen c.args.showing.now c.answer.new.showing (c.args.showing.now.calls + 1) c.in-Ok-Ask.request c.answer.result
+    acts_ask c.args.policy.now c.args.glass.now.birth c.args.line.now c.args.glass.now.seen c.answer.new.glass.seen c.args.showing.now c.answer.new.showing c.in-Ok-Ask.request c.answer.result
     (sym c.in-Ok-Ask.ensures.value ∙ ap Ok c.in-Ok-Ask.field-0-is) c.requires.actor c.answer.ensures.answers
 
 -- a connection has no line for a minute

@@ -19,8 +19,8 @@ invariant-loop-byte g l =
       consumed : Consumes a.left b.left (fed ++ l.inbox.rest);
       counted : length fed + length l.inbox.rest + l.inbox.left ≡ 67_108_864;
       counts : CountsUp l.fn.showing l.showing (length fed);
-      reads : a.read_faults ≤ b.read_faults;
-      writes : a.write_faults ≤ b.write_faults;
+      reads : b.read_faults ≡ a.read_faults;
+      writes : b.write_faults ≡ a.write_faults;
     }
 
 abbrev pub decreases-loop-byte : goal.decreases-loop-byte

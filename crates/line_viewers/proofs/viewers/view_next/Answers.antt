@@ -15,7 +15,7 @@ returns-in-Ok-Some-clause-works g c =
     let p : Spot g.row.D-L.Denot = record { seen = c.args.glass.now.seen; door = g.D.Door.links c.args.door.now } in
     let p' : Spot g.row.D-L.Denot = record { seen = c.view_link.new.glass.seen; door = g.D.Door.links c.next.new.self } in
     λ o tales worked.
-    let d = link_done traffic np birth o p p' old tales c.view_link.result c.in-Ok-Some.link worked c.view_link.ensures.views door fresh in (
+    let d = link_done traffic np birth o p p' old tales c.view_link.result c.in-Ok-Some.link c.args.calls.now c.view_link.new.calls worked c.view_link.ensures.views door fresh in (
       d.0,
       subst (λ (items : List (Viewed g.row.D-L.Denot)). Worked traffic np birth o p' items d.0) (sym c.push.ensures.items) d.1,
       tt,

@@ -1,19 +1,20 @@
 use Rattle.std.proofs.Common.{◌≡◌, ◌≤◌, ◌+◌, ◌-◌, ◌*◌, ℕ, List, length}
-use Rattle.line_viewers.specs.Crew.{Spot, Tale, Worked, most_links}
+use Rattle.line_viewers.specs.Crew.{Spot, Tale, AddUp, Worked, most_links}
 use Rattle.line_viewers.specs.Viewing.{SameGlass}
 use Rattle.line_viewers.proofs.viewers.view_on.Given as goal
 
-abbrev pub invariant-loop-alloc : goal.invariant-loop-alloc
-invariant-loop-alloc g l =
+abbrev pub invariant-loop-served : goal.invariant-loop-served
+invariant-loop-served g l =
     let d = g.D.Door in
     record {
       tales : List (Tale g.row.D-L.Denot);
       worked : Worked g.D.L.Link.traffic l.policy l.fn.glass.birth (record { seen = l.fn.glass.seen; door = d.links l.fn.door }) (record { seen = l.glass.seen; door = d.links l.door }) l.served.items tales;
+      counted : AddUp (d.links l.fn.door) (d.links l.door) l.served.items;
       glass : SameGlass l.fn.glass l.glass;
       calls : l.calls ≤ 67_108_864 * length l.served.items;
       few : length l.served.items ≤ most_links;
       faults : d.faults l.fn.door ≤ d.faults l.door;
     }
 
-abbrev pub decreases-loop-alloc : goal.decreases-loop-alloc
-decreases-loop-alloc g l = most_links - length l.served.items
+abbrev pub decreases-loop-served : goal.decreases-loop-served
+decreases-loop-served g l = most_links - length l.served.items
