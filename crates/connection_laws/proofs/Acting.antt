@@ -18,8 +18,9 @@ use Rattle.connection_laws.specs.Connection.{Answer, silence, agreed, bad, Acted
 use Rattle.connection_laws.specs.declared.talk.Talk.{Talk}
 use Rattle.connection_laws.specs.declared.talk.Told.{Told}
 use Rattle.connection_laws.specs.declared.talk.Told.TheVariants.{Silence, Agreed, Bad, Worn}
+use Rattle.connection_laws.specs.Services.{service}
 use Rattle.connection_laws.specs.Turns.{Grows}
-use Rattle.connection_laws.specs.Acting.{IsTold, Decides, Acts}
+use Rattle.connection_laws.specs.Acting.{IsTold, Decides, moment, Acts}
 use Rattle.connection_laws.proofs.Growing.{grown_none}
 
 abbrev after_line : Talk → Result Line LineFault → ℕ → Option ℕ → Talk
@@ -30,8 +31,8 @@ one_line line answer = record { line = line; answer = answer; readings = []; ent
 
 module _ {M : Type 0} (np : NamedPolicy) (first : List Entry) (legal : List Entry → Type 0) (now : List Entry → ℕ) (who : Who) (clock clock' : Option (ℕ → ℕ)) (line : List ℕ) (talk : Talk) where
   pub acts_ask : (before after : Holder M) (reading : ℕ) (request : Request) (reached : Option ℕ) (told : Told) → read_line np Nobody false line ≡ Ok (Ask request) → IsNamedActor np talk.actor → Reads clock clock' (reading ∷ [])
-      → Decides np first legal now who reading talk.actor request before after told
-      → Acts np first legal now who before after talk (record talk { calls = talk.calls + 1; reached = reached }) clock clock' line told
+      → Decides (service np first legal now) who reading talk.actor request before after told
+      → Acts (service np first legal now) who (moment before talk clock) (moment after (record talk { calls = talk.calls + 1; reached = reached }) clock') line told
   acts_ask before after reading request reached told said named reads d =
       let one : Acted = record { line = line; answer = d.answer; readings = reading ∷ []; entries = d.entries } in
       record {
@@ -50,7 +51,7 @@ module _ {M : Type 0} (np : NamedPolicy) (first : List Entry) (legal : List Entr
 
   acts_plain : (p : Holder M) (said : Result Line LineFault) (told : Told) (answer : Answer) → read_line np Nobody false line ≡ said → IsTold np told answer
       → ((birth n : ℕ) → Gets birth who p.seen said talk.actor n (one_line line answer)) → IsNamedActor np (actor_by said talk.actor) → ((n : ℕ) → told ≡ Worn n → ⊥)
-      → Acts np first legal now who p p talk (record talk { actor = actor_by said talk.actor }) clock clock line told
+      → Acts (service np first legal now) who (moment p talk clock) (moment p (record talk { actor = actor_by said talk.actor }) clock) line told
   acts_plain p said told answer is tells gets named fine =
       record {
         acted = one_line line answer;
@@ -66,11 +67,11 @@ module _ {M : Type 0} (np : NamedPolicy) (first : List Entry) (legal : List Entr
         worn_out = λ n same. absurd (fine n same);
       }
 
-  pub acts_silent : (p : Holder M) → read_line np Nobody false line ≡ Ok Silent → IsNamedActor np talk.actor → Acts np first legal now who p p talk talk clock clock line Silence
+  pub acts_silent : (p : Holder M) → read_line np Nobody false line ≡ Ok Silent → IsNamedActor np talk.actor → Acts (service np first legal now) who (moment p talk clock) (moment p talk clock) line Silence
   acts_silent p is named = acts_plain p (Ok Silent) Silence silence is refl (λ birth n. (refl, refl, refl)) named (λ n same. cc)
 
-  pub acts_be : (p : Holder M) (actor : Actor) → read_line np Nobody false line ≡ Ok (Be actor) → IsNamedActor np actor → Acts np first legal now who p p talk (record talk { actor = actor }) clock clock line Agreed
+  pub acts_be : (p : Holder M) (actor : Actor) → read_line np Nobody false line ≡ Ok (Be actor) → IsNamedActor np actor → Acts (service np first legal now) who (moment p talk clock) (moment p (record talk { actor = actor }) clock) line Agreed
   acts_be p actor is named = acts_plain p (Ok (Be actor)) Agreed agreed is refl (λ birth n. (refl, refl, refl)) named (λ n same. cc)
 
-  pub acts_bad : (p : Holder M) (fault : LineFault) → read_line np Nobody false line ≡ Err fault → IsNamedActor np talk.actor → Acts np first legal now who p p talk talk clock clock line (Bad fault)
+  pub acts_bad : (p : Holder M) (fault : LineFault) → read_line np Nobody false line ≡ Err fault → IsNamedActor np talk.actor → Acts (service np first legal now) who (moment p talk clock) (moment p talk clock) line (Bad fault)
   acts_bad p fault is named = acts_plain p (Err fault) (Bad fault) (bad fault) is refl (λ birth n. (refl, refl, refl)) named (λ n same. cc)

@@ -10,12 +10,13 @@ use Rattle.turn_lock.specs.Holders.{Holder}
 use Rattle.policy_words.specs.Naming.{NamedPolicy}
 use Rattle.connection_laws.specs.Connection.{accepted, no_memory, answer_text}
 use Rattle.connection_laws.specs.declared.talk.Told.TheVariants.{Reply as ToldReply, NoMemory}
+use Rattle.connection_laws.specs.Services.{service}
 use Rattle.connection_laws.specs.Turns.{Grows, Asked}
 use Rattle.connection_laws.specs.Acting.{Decides}
 use Rattle.connection_laws.proofs.Growing.{grown_none}
 
 module _ {M : Type 0} (np : NamedPolicy) (first : List Entry) (legal : List Entry → Type 0) (now : List Entry → ℕ) (who : Who) (reading : ℕ) (actor : Actor) (request : Request) where
-  pub decides_nothing : (p : Holder M) → Decides np first legal now who reading actor request p p NoMemory
+  pub decides_nothing : (p : Holder M) → Decides (service np first legal now) who reading actor request p p NoMemory
   decides_nothing p =
       let g = grown_none p in
       record {
@@ -29,7 +30,7 @@ module _ {M : Type 0} (np : NamedPolicy) (first : List Entry) (legal : List Entr
       }
 
   pub decides_reply : (b c : Holder M) (reply : Reply) (text : Roomy ℕ) → Asked first legal now who reading actor request b c (Ok reply) → text.items ≡ answer_text np (accepted reply)
-      → Decides np first legal now who reading actor request b c (ToldReply text)
+      → Decides (service np first legal now) who reading actor request b c (ToldReply text)
   decides_reply b c reply text r is =
       record {
         answer = accepted reply;

@@ -17,6 +17,7 @@ use Rattle.connection_laws.specs.Desks.{IsNamedActor}
 use Rattle.connection_laws.specs.declared.talk.Talk.{Talk}
 use Rattle.connection_laws.specs.declared.talk.Told.{Told}
 use Rattle.connection_laws.specs.declared.talk.Told.TheVariants.{Silence, Agreed, Bad, Reply as ToldReply, NoMemory, NoSteps, Worn as ToldWorn}
+use Rattle.connection_laws.specs.Services.{Service}
 use Rattle.connection_laws.specs.Turns.{Grows, AreMine}
 
 -- what is told is this answer
@@ -60,39 +61,47 @@ told_bytes NoMemory = codes "no memory\n"
 told_bytes NoSteps = codes "no steps\n"
 told_bytes (ToldWorn draws) = []
 
-module _ {M : Type 0} (np : NamedPolicy) (first : List Entry) (legal : List Entry → Type 0)
-    (now : List Entry → ℕ) (who : Who) where
+-- a moment of a connection: the pass, what the connection has come to, and the readings of the
+-- clock that are to come, where they are told
+pub record Moment (M : Type 0) : Type 0 where
+  pub pass : Holder M
+  pub talk : Talk
+  pub clock : Option (ℕ → ℕ)
+
+abbrev pub moment : {M : Type 0} → Holder M → Talk → Option (ℕ → ℕ) → Moment M
+moment pass talk clock = record { pass = pass; talk = talk; clock = clock }
+
+module _ {M : Type 0} (v : Service) (who : Who) where
   -- what the desk gives to a request line
   pub record Decides (reading : ℕ) (actor : Actor) (request : Request) (before after : Holder M)
       (told : Told) : Type 0 where
     pub answer : Answer
     pub entries : List Entry
-    pub told_is : IsTold np told answer
-    pub asks : (birth : ℕ) → IsTimed birth legal now
-        → Asks birth who after.seen actor request answer (placed who first before.own)
+    pub told_is : IsTold v.policy told answer
+    pub asks : (birth : ℕ) → IsTimed birth v.legal v.now
+        → Asks birth who after.seen actor request answer (placed who v.first before.own)
         (reading ∷ []) entries
     pub mine : AreMine who entries
     pub grows : Grows before after entries 2
     pub worn_out : (n : ℕ) → told ≡ ToldWorn n → (n ≡ 2 ^ 40) × (after.draws ≡ 2 ^ 40)
 
   -- what acting on a line does, but for its reply
-  pub record Acts (before after : Holder M) (talk talk' : Talk) (clock clock' : Option (ℕ → ℕ))
-      (line : List ℕ) (told : Told) : Type 0 where
+  pub record Acts (a b : Moment M) (line : List ℕ) (told : Told) : Type 0 where
     pub acted : Acted
     pub line_is : acted.line ≡ line
-    pub told_is : IsTold np told acted.answer
-    pub gets : (birth : ℕ) → IsTimed birth legal now
-        → Gets birth who after.seen (read_line np Nobody false line) talk.actor
-        (placed who first before.own) acted
+    pub told_is : IsTold v.policy told acted.answer
+    pub gets : (birth : ℕ) → IsTimed birth v.legal v.now
+        → Gets birth who b.pass.seen (read_line v.policy Nobody false line) a.talk.actor
+        (placed who v.first a.pass.own) acted
     pub mine : AreMine who acted.entries
-    pub grows : Grows before after acted.entries (2 * length acted.readings)
-    pub talk_is : talk'
-        ≡ record talk {
-          actor = actor_by (read_line np Nobody false line) talk.actor;
-          calls = talk.calls + length acted.readings;
-          reached = talk'.reached;
+    pub grows : Grows a.pass b.pass acted.entries (2 * length acted.readings)
+    pub talk_is : b.talk
+        ≡ record a.talk {
+          actor = actor_by (read_line v.policy Nobody false line) a.talk.actor;
+          calls = a.talk.calls + length acted.readings;
+          reached = b.talk.reached;
         }
     pub few : length acted.readings ≤ 1
-    pub named : IsNamedActor np talk'.actor
-    pub reads : Reads clock clock' acted.readings
-    pub worn_out : (n : ℕ) → told ≡ ToldWorn n → (n ≡ 2 ^ 40) × (after.draws ≡ 2 ^ 40)
+    pub named : IsNamedActor v.policy b.talk.actor
+    pub reads : Reads a.clock b.clock acted.readings
+    pub worn_out : (n : ℕ) → told ≡ ToldWorn n → (n ≡ 2 ^ 40) × (b.pass.draws ≡ 2 ^ 40)

@@ -6,17 +6,17 @@ ghost use Rattle.policy_words.specs.Naming.{NamedPolicy};
 ghost use Rattle.request_text.specs.Replies.{fault_word};
 ghost use Rattle.connection_laws.specs.Connection.{Answer};
 ghost use Rattle.connection_laws.specs.Desks.{IsNamedActor, AreNamed, RepliesCanBeTold};
+ghost use Rattle.connection_laws.specs.Services.{service_at};
 ghost use Rattle.connection_laws.specs.Turns.{IsIdle, IsReached};
-ghost use Rattle.connection_laws.specs.Acting.{IsTold, Decides, Acts, counted, CanCount, HasRoom, told_bytes};
+ghost use Rattle.connection_laws.specs.Acting.{IsTold, Decides, Acts, moment, counted, CanCount, HasRoom, told_bytes};
 
 use crate::asks::ask_at;
+use crate::server::Server;
 use crate::talk::{Talk, Told};
 use gt_base::{Actor, Instant, List, Machine, Request};
 use gt_io::{Clock, Gate};
-use locked_history::{Desk, DeskFault};
-use policy_book::Policy;
+use locked_history::DeskFault;
 use request_text::{LONGEST_REPLY, Line, LineFault, put_reply, read_line, reply_fits};
-use std::alloc::Global;
 use std::sync::Wait;
 use turn_lock::Pass;
 
@@ -60,34 +60,33 @@ pub fn count(talk: &mut Talk, told: &Told)
 }
 
 // Takes room for the longest reply, brings the history to the reading, and asks.
-fn decide<M: Machine, R: Wait>(
-    rt: &R,
-    alloc: Global,
-    desk: &Desk<M>,
-    policy: &Policy,
+fn decide<M: Machine, R: Wait, G>(
+    server: &Server<M, R, G>,
     pass: &mut Pass<M>,
-    conn: u32,
     reading: Instant,
     actor: Actor,
     request: Request,
     reached: &mut Option<Instant>,
 ) -> Told
-    requires idle { IsIdle (site_of desk.now) pass.old }
-    requires named { M.named desk.now.root actor request }
-    requires replies { RepliesCanBeTold policy.now (M.legal desk.now.root) }
-    requires reached { IsReached (M.legal desk.now.root) (M.now_of desk.now.root) pass.old.seen reached.old }
-    ensures reached { IsReached (M.legal desk.now.root) (M.now_of desk.now.root) pass.new.seen reached.new }
-    ensures decides { Decides policy.now (M.list desk.now.root) (M.legal desk.now.root) (M.now_of desk.now.root)
-        (by pass.old.number conn) reading actor request pass.old pass.new result }
+    requires idle { IsIdle (site_of server.now.desk.now) pass.old }
+    requires named { M.named server.now.desk.now.root actor request }
+    requires replies { RepliesCanBeTold server.now.policy.now (M.legal server.now.desk.now.root) }
+    requires reached { IsReached (M.legal server.now.desk.now.root)
+        (M.now_of server.now.desk.now.root) pass.old.seen reached.old }
+    ensures reached { IsReached (M.legal server.now.desk.now.root)
+        (M.now_of server.now.desk.now.root) pass.new.seen reached.new }
+    ensures decides { Decides
+        (service_at M.list M.legal M.now_of server.now.desk.now server.now.policy.now)
+        (by pass.old.number server.now.conn) reading actor request pass.old pass.new result }
 {
-    let mut text = List::new(alloc);
+    let mut text = List::new(server.alloc);
     if text.reserve(LONGEST_REPLY).is_err() {
         return Told::NoMemory;
     }
-    match ask_at(rt, desk, pass, conn, reading, actor, request, reached) {
+    match ask_at(server, pass, reading, actor, request, reached) {
         Ok(reply) => {
-            reply_fits(policy, &reply);
-            put_reply(policy, &reply, &mut text);
+            reply_fits(server.policy, &reply);
+            put_reply(server.policy, &reply, &mut text);
             Told::Reply(text)
         }
         Err(DeskFault::Memory) => Told::NoMemory,
@@ -96,42 +95,37 @@ fn decide<M: Machine, R: Wait>(
     }
 }
 
-/// Acts on a line, but for its reply.
+/// Acts on a line, but for its reply: a line that asks passes the gate, reads the clock, brings the
+/// history to that minute and asks.
 pub fn act<M: Machine, R: Wait, C: Clock, G: Gate>(
-    rt: &R,
-    alloc: Global,
-    desk: &Desk<M>,
-    policy: &Policy,
+    server: &Server<M, R, G>,
     pass: &mut Pass<M>,
-    conn: u32,
     clock: &mut C,
-    gate: &G,
     talk: &mut Talk,
     line: &[u8],
 ) -> Told
-    requires idle { IsIdle (site_of desk.now) pass.old }
-    requires named { AreNamed policy.now (M.named desk.now.root) }
-    requires replies { RepliesCanBeTold policy.now (M.legal desk.now.root) }
-    requires actor { IsNamedActor policy.now talk.old.actor }
+    requires idle { IsIdle (site_of server.now.desk.now) pass.old }
+    requires named { AreNamed server.now.policy.now (M.named server.now.desk.now.root) }
+    requires replies { RepliesCanBeTold server.now.policy.now (M.legal server.now.desk.now.root) }
+    requires actor { IsNamedActor server.now.policy.now talk.old.actor }
     requires room { HasRoom talk.old 1 }
-    requires reached { IsReached (M.legal desk.now.root) (M.now_of desk.now.root) pass.old.seen talk.old.reached }
-    ensures reached { IsReached (M.legal desk.now.root) (M.now_of desk.now.root) pass.new.seen talk.new.reached }
-    ensures acts { Acts policy.now (M.list desk.now.root) (M.legal desk.now.root) (M.now_of desk.now.root)
-        (by pass.old.number conn) pass.old pass.new talk.old talk.new (C.readings clock.old)
-        (C.readings clock.new) line.now result }
+    requires reached { IsReached (M.legal server.now.desk.now.root)
+        (M.now_of server.now.desk.now.root) pass.old.seen talk.old.reached }
+    ensures reached { IsReached (M.legal server.now.desk.now.root)
+        (M.now_of server.now.desk.now.root) pass.new.seen talk.new.reached }
+    ensures acts { Acts
+        (service_at M.list M.legal M.now_of server.now.desk.now server.now.policy.now)
+        (by pass.old.number server.now.conn) (moment pass.old talk.old (C.readings clock.old))
+        (moment pass.new talk.new (C.readings clock.new)) line.now result }
 {
-    match read_line(policy, Actor::Nobody, false, line) {
+    match read_line(server.policy, Actor::Nobody, false, line) {
         Ok(Line::Ask(request)) => {
             talk.calls += 1;
-            gate.pass(pass.number(), talk.calls);
+            server.gate.pass(pass.number(), talk.calls);
             let reading = clock.now();
             decide(
-                rt,
-                alloc,
-                desk,
-                policy,
+                server,
                 pass,
-                conn,
                 reading,
                 talk.actor,
                 request,

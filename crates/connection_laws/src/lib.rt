@@ -6,9 +6,11 @@ mod acts;
 mod asks;
 mod ends;
 mod laws;
+mod server;
 mod talk;
 
 pub use acts::{act, count, reply_of};
 pub use ends::{LinkEnd, Report};
 pub use laws::connections_are_told;
+pub use server::Server;
 pub use talk::{Talk, Told};

@@ -12,13 +12,14 @@ use Rattle.connection_laws.specs.declared.ends.LinkEnd.TheVariants.{Ended, ReadF
 use Rattle.connection_laws.specs.Connection.{Acted}
 use Rattle.connection_laws.proofs.Prefixes.{prefix_trans}
 use Rattle.line_server.specs.Serving.{Point, HaltsBy, Serving, Halted, TakesOn, Goes}
+use Rattle.connection_laws.specs.Services.{service}
 
 halts_earlier : (end : LinkEnd) (f f' f'' draws : ℕ) → f' ≡ f → HaltsBy f' f'' draws end → HaltsBy f f'' draws end
 halts_earlier end f f' f'' draws same h = subst (λ (n : ℕ). HaltsBy n f'' draws end) same h
 
 module _ {M : Type 0} (np : NamedPolicy) (first : List Entry) (legal : List Entry → Type 0) (now : List Entry → ℕ) (who : Who) where
   abbrev Gone : Point M → Point M → Frame → Frame → List ℕ → ℕ → ℕ → {T : Type 0} → Result T LinkEnd → Type 0
-  Gone p p' frame frame' piece f f' result = Goes np first legal now who p p' frame frame' piece f f' result
+  Gone p p' frame frame' piece f f' result = Goes (service np first legal now) who p p' frame frame' piece f f' result
 
   -- the service was cut off in the second piece
   pub cut_behind : (p q r : Point M) (frame frame' frame'' : Frame) (xs ys all : List ℕ) (e f f' : ℕ) (T : Type 0) (end : LinkEnd) → IsPrefix (xs ++ ys) all → f ≡ e → Gone p q frame frame' xs 0 0 {T = Unit {0}} (Ok tt) → Gone q r frame' frame'' ys f f' {T = T} (Err end)
@@ -33,7 +34,7 @@ module _ {M : Type 0} (np : NamedPolicy) (first : List Entry) (legal : List Entr
         prefix_trans (xs ++ y.0) (xs ++ ys) all longer within,
         (
           y.2.0,
-          subst (λ (l : List ℕ). Halted np first legal now who o r l y.2.0 e f' end) same (record { going = h.going; lines = h.lines; text = h.text; given = h.given; given_is = h.given_is; cause = halts_earlier end e f f' r.pass.draws low h.cause }),
+          subst (λ (l : List ℕ). Halted (service np first legal now) who o r l y.2.0 e f' end) same (record { going = h.going; lines = h.lines; text = h.text; given = h.given; given_is = h.given_is; cause = halts_earlier end e f f' r.pass.draws low h.cause }),
         ),
       )
 

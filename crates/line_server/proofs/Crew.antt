@@ -13,9 +13,10 @@ use Rattle.line_server.specs.declared.ended.Served.{Served}
 use Rattle.line_server.specs.declared.ended.WorkEnd.{WorkEnd}
 use Rattle.line_server.specs.Working.{Tale, begun_of, owns_of, Gives, Spot, AreServed, Works, AreParts, IsTellingOfWorkers}
 use Rattle.line_server.proofs.Links.{served_longer}
+use Rattle.connection_laws.specs.Services.{service}
 
 module _ {L : Type 0} (traffic : L → Traffic) (np : NamedPolicy) (first : List Entry) (legal : List Entry → Type 0) (now : List Entry → ℕ) (w : ℕ) where
-  later_none : (h own : List Entry) (c k : ℕ) (ss : List (Served L)) (xs : List (Tale L)) → k < c → AreServed traffic np first legal now w h own c ss xs → part_of (by w k) (owns_of xs) ≡ []
+  later_none : (h own : List Entry) (c k : ℕ) (ss : List (Served L)) (xs : List (Tale L)) → k < c → AreServed traffic (service np first legal now) w h own c ss xs → part_of (by w k) (owns_of xs) ≡ []
   later_none h own c k [] [] far all = refl
   later_none h own c k [] (x ∷ xs) far all = absurd all
   later_none h own c k (s ∷ ss) [] far all = absurd all
@@ -24,7 +25,7 @@ module _ {L : Type 0} (traffic : L → Traffic) (np : NamedPolicy) (first : List
       ∙ ap (λ (es : List Entry). es ++ part_of (by w k) (owns_of xs)) (none_mine w c k x.own (λ same. absurd (omega (arith, same, far))) all.0.mine)
       ∙ later_none h own (c + 1) k ss xs (omega (arith, far)) all.1
 
-  parts_from : (es h own : List Entry) (c : ℕ) (ss : List (Served L)) (xs : List (Tale L)) → AreServed traffic np first legal now w h own c ss xs
+  parts_from : (es h own : List Entry) (c : ℕ) (ss : List (Served L)) (xs : List (Tale L)) → AreServed traffic (service np first legal now) w h own c ss xs
       → ((k : ℕ) → c ≤ k → part_of (by w k) es ≡ part_of (by w k) (owns_of xs)) → AreParts es w c xs
   parts_from es h own c [] [] all same = tt
   parts_from es h own c [] (x ∷ xs) all same = absurd all
@@ -39,12 +40,12 @@ module _ {L : Type 0} (traffic : L → Traffic) (np : NamedPolicy) (first : List
 
 module _ {M L : Type 0} (traffic : L → Traffic) (np : NamedPolicy) (first : List Entry) (legal : List Entry → Type 0) (now : List Entry → ℕ) where
   -- the final history h, of a worker whose pass had no entry before
-  pub worker_told : IsTellingOfWorkers M traffic np first legal now
+  pub worker_told : IsTellingOfWorkers M traffic (service np first legal now)
   worker_told w o p f f' served end h fresh number k told =
       let t = k.tales in
       let own_is : p.pass.own ≡ owns_of t = ap (λ (q : Holder M). q.own) k.worked.grows.after_is ∙ ap (λ (es : List Entry). es ++ owns_of t) fresh in
       let whole : part w (drop (length first) h) ≡ owns_of t = ap (λ (n : ℕ). part n (drop (length first) h)) (sym number) ∙ sym told.1 ∙ own_is in
-      let links = subst (λ (own : List Entry). AreServed traffic np first legal now w h own 1 served t) fresh (served_longer traffic np first legal now w p.pass.seen h o.pass.own 1 served t told.0 k.worked.links) in (
+      let links = subst (λ (own : List Entry). AreServed traffic (service np first legal now) w h own 1 served t) fresh (served_longer traffic np first legal now w p.pass.seen h o.pass.own 1 served t told.0 k.worked.links) in (
         t,
         links,
         whole,

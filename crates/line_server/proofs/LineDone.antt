@@ -34,12 +34,10 @@ use Rattle.connection_laws.specs.declared.talk.Talk.{Talk}
 use Rattle.connection_laws.specs.declared.talk.Told.{Told}
 use Rattle.connection_laws.specs.declared.talk.Told.TheVariants.{Worn as ToldWorn}
 use Rattle.connection_laws.specs.Turns.{Grows, AreMine}
-use Rattle.connection_laws.specs.Acting.{counted, Acts}
-use Rattle.line_server.specs.Serving.{Sent, Point, HaltsBy, Going, Serving, Halted, TakesOn}
+use Rattle.connection_laws.specs.Acting.{counted, moment, Acts}
+use Rattle.line_server.specs.Serving.{Sent, Point, point, HaltsBy, Going, Serving, Halted, TakesOn}
 use Rattle.connection_laws.proofs.Growing.{grown_twice}
-
-abbrev pub point : {M : Type 0} → Holder M → Talk → Option (ℕ → ℕ) → Option (List ℕ) → Point M
-point pass talk clock given = record { pass = pass; talk = talk; clock = clock; given = given }
+use Rattle.connection_laws.specs.Services.{service}
 
 lines_on : (fed line : List ℕ) (byte : ℕ) (acted : List Acted) (a : Acted) → lines_of acted ≡ whole_lines fed → is_feed byte ≡ true → line ≡ open_line fed → a.line ≡ line → lines_of (a ∷ acted) ≡ whole_lines (fed ++ byte ∷ [])
 lines_on fed line byte acted a lines feed is line_is =
@@ -47,10 +45,10 @@ lines_on fed line byte acted a lines feed is line_is =
 
 module _ {M : Type 0} (np : NamedPolicy) (first : List Entry) (legal : List Entry → Type 0) (now : List Entry → ℕ) (who : Who) where
   abbrev Ands : Point M → Point M → List Acted → Type 0
-  Ands o p acted = Going np first legal now who o p acted
+  Ands o p acted = Going (service np first legal now) who o p acted
 
   pub going_on : (o : Point M) (before after : Holder M) (talk talk1 talk2 : Talk) (clock clock' : Option (ℕ → ℕ)) (given given' : Option (List ℕ)) (line : List ℕ) (acted : List Acted) (told : Told)
-      → Ands o (point before talk clock given) acted → (x : Acts np first legal now who before after talk talk1 clock clock' line told) → talk2 ≡ counted talk1 x.acted.answer
+      → Ands o (point before talk clock given) acted → (x : Acts (service np first legal now) who (moment before talk clock) (moment after talk1 clock') line told) → talk2 ≡ counted talk1 x.acted.answer
       → Ands o (point after talk2 clock' given') (x.acted ∷ acted)
   going_on o before after talk talk1 talk2 clock clock' given given' line acted told g x is =
       let a = x.acted in
@@ -79,9 +77,9 @@ module _ {M : Type 0} (np : NamedPolicy) (first : List Entry) (legal : List Entr
 
   -- the line that a byte ends was acted on, and its reply was sent as far as the link took it
   pub line_done : (o : Point M) (before after : Holder M) (talk talk1 talk2 : Talk) (clock clock' : Option (ℕ → ℕ)) (a b : Traffic) (frame frame' : Frame) (fed line : List ℕ) (byte : ℕ) (acted : List Acted) (told : Told) {T : Type 0} (result : Result T LinkEnd)
-      → Serving np first legal now who o (point before talk clock a.given) frame fed acted → is_feed byte ≡ true → line ≡ open_line fed → frame' ≡ pushed frame byte
-      → (x : Acts np first legal now who before after talk talk1 clock clock' line told) → talk2 ≡ counted talk1 x.acted.answer → Sent np x.acted.answer a b result → ((n : ℕ) → result ≡ Err (Worn n) → told ≡ ToldWorn n)
-      → TakesOn np first legal now who o (point after talk2 clock' b.given) frame' fed (byte ∷ []) a.write_faults b.write_faults result
+      → Serving (service np first legal now) who o (point before talk clock a.given) frame fed acted → is_feed byte ≡ true → line ≡ open_line fed → frame' ≡ pushed frame byte
+      → (x : Acts (service np first legal now) who (moment before talk clock) (moment after talk1 clock') line told) → talk2 ≡ counted talk1 x.acted.answer → Sent np x.acted.answer a b result → ((n : ℕ) → result ≡ Err (Worn n) → told ≡ ToldWorn n)
+      → TakesOn (service np first legal now) who o (point after talk2 clock' b.given) frame' fed (byte ∷ []) a.write_faults b.write_faults result
   line_done o before after talk talk1 talk2 clock clock' a b frame frame' fed line byte acted told {T} (Ok u) s feed is frame_is x talk_is sent wears = (
     x.acted ∷ acted,
     record {
@@ -122,8 +120,8 @@ module _ {M : Type 0} (np : NamedPolicy) (first : List Entry) (legal : List Entr
       )
 
   -- a byte within a line
-  pub byte_more : (o p : Point M) (frame frame' : Frame) (fed : List ℕ) (byte : ℕ) (acted : List Acted) → Serving np first legal now who o p frame fed acted → is_feed byte ≡ false → frame' ≡ pushed frame byte
-      → Serving np first legal now who o p frame' (fed ++ byte ∷ []) acted
+  pub byte_more : (o p : Point M) (frame frame' : Frame) (fed : List ℕ) (byte : ℕ) (acted : List Acted) → Serving (service np first legal now) who o p frame fed acted → is_feed byte ≡ false → frame' ≡ pushed frame byte
+      → Serving (service np first legal now) who o p frame' (fed ++ byte ∷ []) acted
   byte_more o p frame frame' fed byte acted s other frame_is =
       record {
         going = s.going;

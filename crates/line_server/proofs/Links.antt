@@ -21,9 +21,10 @@ use Rattle.line_server.specs.declared.ended.Served.{Served}
 use Rattle.line_server.specs.declared.ended.WorkEnd.{WorkEnd}
 use Rattle.line_server.specs.declared.ended.WorkEnd.TheVariants.{Fresh, Done, DoorFault, Enough, Worn, Memory}
 use Rattle.connection_laws.specs.Turns.{AreMine}
-use Rattle.line_server.specs.Serving.{Serves, is_worn_out}
+use Rattle.line_server.specs.Serving.{link_view, Serves, is_worn_out}
 use Rattle.line_server.specs.Working.{Tale, begun_of, hours_of, owns_of, AllUnworn, Gives, Spot, WorksTo, IsServed, AreServed, Worked, WorksOn, Works}
 use Rattle.connection_laws.proofs.Growing.{grown_none, grown_twice}
+use Rattle.connection_laws.specs.Services.{service}
 
 module _ {L : Type 0} where
   pub begun_push : (xs : List (Tale L)) (x : Tale L) → begun_of (xs ++ x ∷ []) ≡ begun_of xs ++ x.begun ∷ []
@@ -46,10 +47,10 @@ module _ {L : Type 0} where
 
   module _ (traffic : L → Traffic) (np : NamedPolicy) (first : List Entry) (legal : List Entry → Type 0) (now : List Entry → ℕ) (number : ℕ) where
     abbrev Is : List Entry → List Entry → ℕ → Served L → Tale L → Type 0
-    Is h own c s x = IsServed traffic np first legal now number h own c s x
+    Is h own c s x = IsServed traffic (service np first legal now) number h own c s x
 
     abbrev Are : List Entry → List Entry → ℕ → List (Served L) → List (Tale L) → Type 0
-    Are h own c ss xs = AreServed traffic np first legal now number h own c ss xs
+    Are h own c ss xs = AreServed traffic (service np first legal now) number h own c ss xs
 
     pub served_longer : (h h' own : List Entry) (c : ℕ) (ss : List (Served L)) (xs : List (Tale L)) → IsPrefix h h' → Are h own c ss xs → Are h' own c ss xs
     served_longer h h' own c [] [] more all = tt
@@ -90,16 +91,16 @@ module _ {L : Type 0} where
 
 module _ {M L : Type 0} (traffic : L → Traffic) (np : NamedPolicy) (first : List Entry) (legal : List Entry → Type 0) (now : List Entry → ℕ) (number : ℕ) where
   -- one more link was served
-  pub link_done : (o p p' : Spot M L) (served : List (Served L)) (tales : List (Tale L)) (s : Served L) (begun : L) (conn calls calls' : ℕ) → Worked traffic np first legal now number o p served tales
-      → Serves np first legal now (by number conn) p.pass p'.pass calls calls' p.clock p'.clock (traffic begun) (traffic s.link) s.report → conn ≡ 1 + length served → GivesFirst p.door p'.door begun → IsFresh (traffic begun)
-      → (tales' : List (Tale L)) × Worked traffic np first legal now number o p' (served ++ s ∷ []) tales'
+  pub link_done : (o p p' : Spot M L) (served : List (Served L)) (tales : List (Tale L)) (s : Served L) (begun : L) (conn calls calls' : ℕ) → Worked traffic (service np first legal now) number o p served tales
+      → Serves (service np first legal now) (by number conn) (link_view p.pass calls p.clock (traffic begun)) (link_view p'.pass calls' p'.clock (traffic s.link)) s.report → conn ≡ 1 + length served → GivesFirst p.door p'.door begun → IsFresh (traffic begun)
+      → (tales' : List (Tale L)) × Worked traffic (service np first legal now) number o p' (served ++ s ∷ []) tales'
   link_done o p p' served tales s begun conn calls calls' w v at door fresh =
       let x : Tale L = record { begun = begun; taken = v.taken; given = v.given; readings = v.readings; own = v.own; acted = v.acted; draws = p'.pass.draws } in
       let own_is : p.pass.own ≡ o.pass.own ++ owns_of tales = ap (λ (q : Holder M). q.own) w.grows.after_is in
       let none = others_none traffic np first legal now number p.pass.seen o.pass.own 1 conn served tales (omega (arith, at)) w.links in
       let same : placed (by number conn) first p.pass.own ≡ placed (by number conn) first o.pass.own =
       ap (placed (by number conn) first) own_is ∙ ap (λ (es : List Entry). length (part_of (by number conn) first) + length es) (part_of-append (by number conn) o.pass.own (owns_of tales) ∙ ap (λ (es : List Entry). part_of (by number conn) o.pass.own ++ es) none ∙ append-nil (part_of (by number conn) o.pass.own)) in
-      let one : IsServed traffic np first legal now number p'.pass.seen o.pass.own conn s x =
+      let one : IsServed traffic (service np first legal now) number p'.pass.seen o.pass.own conn s x =
       record {
         fresh = fresh;
         conn = λ birth timed. subst (λ (older : ℕ). Conn np birth (by number conn) p'.pass.seen older v.taken v.readings v.own v.given v.acted s.report.outcome) same (v.conn birth timed);
@@ -156,23 +157,23 @@ gives_none None = tt
 gives_none (Some ls) = (ls, refl, refl)
 
 module _ {M L : Type 0} (traffic : L → Traffic) (np : NamedPolicy) (first : List Entry) (legal : List Entry → Type 0) (now : List Entry → ℕ) where
-  pub no_links : (number : ℕ) (o : Spot M L) (served : List (Served L)) → served ≡ [] → Worked traffic np first legal now number o o served []
+  pub no_links : (number : ℕ) (o : Spot M L) (served : List (Served L)) → served ≡ [] → Worked traffic (service np first legal now) number o o served []
   no_links number o served is =
-      subst (λ (ss : List (Served L)). Worked traffic np first legal now number o o ss []) (sym is)
+      subst (λ (ss : List (Served L)). Worked traffic (service np first legal now) number o o ss []) (sym is)
       (record { links = tt; grows = grown_none o.pass; reads = Reads-nil o.clock; door = gives_none o.door })
 
   -- the next link, told from the begin of the work
   pub next_done : (number number' : ℕ) (o p p' : Spot M L) (f f' f'' : ℕ) (items items' served : List (Served L)) (tales : List (Tale L)) (end : WorkEnd) → number' ≡ number → items' ≡ items → f ≤ f'
-      → Worked traffic np first legal now number o p items tales → AllUnworn items → WorksOn traffic np first legal now number' p p' f' f'' items' served (Some end)
-      → Works traffic np first legal now number o p' f f'' served end
+      → Worked traffic (service np first legal now) number o p items tales → AllUnworn items → WorksOn traffic (service np first legal now) number' p p' f' f'' items' served (Some end)
+      → Works traffic (service np first legal now) number o p' f f'' served end
   next_done number number' o p p' f f' f'' items items' served tales end same kept low w u on =
-      let on' = subst (λ (n : ℕ). WorksOn traffic np first legal now n p p' f' f'' items' served (Some end)) same on in
-      let d = on' o tales (subst (λ (ss : List (Served L)). Worked traffic np first legal now number o p ss tales) (sym kept) w) (subst (λ (ss : List (Served L)). AllUnworn ss) (sym kept) u) in
+      let on' = subst (λ (n : ℕ). WorksOn traffic (service np first legal now) n p p' f' f'' items' served (Some end)) same on in
+      let d = on' o tales (subst (λ (ss : List (Served L)). Worked traffic (service np first legal now) number o p ss tales) (sym kept) w) (subst (λ (ss : List (Served L)). AllUnworn ss) (sym kept) u) in
       record { tales = d.0; worked = d.1; cause = works_earlier p'.door f f' f'' p'.pass.draws served end low d.2 }
 
   pub goes_on : (number number' : ℕ) (o p p' : Spot M L) (f' f'' : ℕ) (items items' served : List (Served L)) (tales : List (Tale L)) → number' ≡ number → items' ≡ items
-      → Worked traffic np first legal now number o p items tales → AllUnworn items → WorksOn traffic np first legal now number' p p' f' f'' items' served None
-      → (tales' : List (Tale L)) × Worked traffic np first legal now number o p' served tales' × AllUnworn served
+      → Worked traffic (service np first legal now) number o p items tales → AllUnworn items → WorksOn traffic (service np first legal now) number' p p' f' f'' items' served None
+      → (tales' : List (Tale L)) × Worked traffic (service np first legal now) number o p' served tales' × AllUnworn served
   goes_on number number' o p p' f' f'' items items' served tales same kept w u on =
-      let on' = subst (λ (n : ℕ). WorksOn traffic np first legal now n p p' f' f'' items' served None) same on in
-      on' o tales (subst (λ (ss : List (Served L)). Worked traffic np first legal now number o p ss tales) (sym kept) w) (subst (λ (ss : List (Served L)). AllUnworn ss) (sym kept) u)
+      let on' = subst (λ (n : ℕ). WorksOn traffic (service np first legal now) n p p' f' f'' items' served None) same on in
+      on' o tales (subst (λ (ss : List (Served L)). Worked traffic (service np first legal now) number o p ss tales) (sym kept) w) (subst (λ (ss : List (Served L)). AllUnworn ss) (sym kept) u)

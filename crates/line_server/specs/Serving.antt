@@ -29,6 +29,7 @@ use Rattle.connection_laws.specs.Desks.{IsNamedActor}
 use Rattle.connection_laws.specs.declared.talk.Talk.{Talk}
 use Rattle.connection_laws.specs.declared.talk.Told.{Told}
 use Rattle.connection_laws.specs.declared.talk.Told.TheVariants.{Silence, Agreed, Bad, Reply as ToldReply, NoMemory, NoSteps, Worn as ToldWorn}
+use Rattle.connection_laws.specs.Services.{Service}
 use Rattle.connection_laws.specs.Turns.{Grows, AreMine}
 
 -- before the first line of a link
@@ -57,6 +58,21 @@ pub record Point (M : Type 0) : Type 0 where
   pub talk : Talk
   pub clock : Option (ℕ → ℕ)
   pub given : Option (List ℕ)
+
+abbrev pub point : {M : Type 0} → Holder M → Talk → Option (ℕ → ℕ) → Option (List ℕ) → Point M
+point pass talk clock given = record { pass = pass; talk = talk; clock = clock; given = given }
+
+-- a link and who serves it: the pass, how many request lines the worker had, the readings of its
+-- clock that are to come, where they are told, and the traffic of the link
+pub record LinkView (M : Type 0) : Type 0 where
+  pub pass : Holder M
+  pub calls : ℕ
+  pub clock : Option (ℕ → ℕ)
+  pub traffic : Traffic
+
+abbrev pub link_view : {M : Type 0} → Holder M → ℕ → Option (ℕ → ℕ) → Traffic → LinkView M
+link_view pass calls clock traffic =
+    record { pass = pass; calls = calls; clock = clock; traffic = traffic }
 
 -- a service is cut off only for these causes; the count of failed writes has risen by one, or
 -- stands
@@ -117,16 +133,15 @@ pub record IsComplete (np : NamedPolicy) (h : List Entry) (taken : List ℕ) (ac
       → IsAnswered h a.answer)
       acted
 
-module _ {M : Type 0} (np : NamedPolicy) (first : List Entry) (legal : List Entry → Type 0)
-    (now : List Entry → ℕ) (who : Who) where
+module _ {M : Type 0} (v : Service) (who : Who) where
   -- the lines so far
   pub record Going (o p : Point M) (acted : List Acted) : Type 0 where
     pub grows : Grows o.pass p.pass (entries_of acted) (2 * length (readings_of acted))
-    pub fits : (birth : ℕ) → IsTimed birth legal now
-        → AreActed np birth who p.pass.seen (placed who first o.pass.own) acted
+    pub fits : (birth : ℕ) → IsTimed birth v.legal v.now
+        → AreActed v.policy birth who p.pass.seen (placed who v.first o.pass.own) acted
     pub mine : AreMine who (entries_of acted)
-    pub actor : p.talk.actor ≡ actor_after np acted
-    pub named : IsNamedActor np p.talk.actor
+    pub actor : p.talk.actor ≡ actor_after v.policy acted
+    pub named : IsNamedActor v.policy p.talk.actor
     pub asked : p.talk.asked ≡ asked_in acted
     pub denied : p.talk.denied ≡ denied_in acted
     pub calls : p.talk.calls ≡ o.talk.calls + length (readings_of acted)
@@ -139,7 +154,7 @@ module _ {M : Type 0} (np : NamedPolicy) (first : List Entry) (legal : List Entr
     pub frame_fits : FrameFits frame fed
     pub lines : lines_of acted ≡ whole_lines fed
     pub unworn : AreUnworn acted
-    pub given : Appends o.given p.given (text_of np acted)
+    pub given : Appends o.given p.given (text_of v.policy acted)
 
   -- the service was cut off at the last line
   pub record Halted (o p : Point M) (fed : List ℕ) (acted : List Acted) (faults faults' : ℕ)
@@ -148,7 +163,7 @@ module _ {M : Type 0} (np : NamedPolicy) (first : List Entry) (legal : List Entr
     pub lines : lines_of acted ≡ whole_lines fed
     pub text : List ℕ
     pub given : Appends o.given p.given text
-    pub given_is : IsGiven np fed text acted end
+    pub given_is : IsGiven v.policy fed text acted end
     pub cause : HaltsBy faults faults' p.pass.draws end
 
   -- a piece of bytes was taken on, or the service was cut off in it
@@ -174,7 +189,7 @@ module _ {M : Type 0} (np : NamedPolicy) (first : List Entry) (legal : List Entr
     pub lines : IsPrefix (lines_of acted) (whole_lines taken)
     pub text : List ℕ
     pub given : Appends o.given p.given text
-    pub given_is : IsGiven np taken text acted end
+    pub given_is : IsGiven v.policy taken text acted end
     pub taken_is : Appends a.taken b.taken taken
     pub left_is : Consumes a.left b.left taken
     pub bounded : length taken ≤ most_bytes
@@ -182,27 +197,27 @@ module _ {M : Type 0} (np : NamedPolicy) (first : List Entry) (legal : List Entr
 
   -- What the service of a link comes to: the bytes taken and given, the readings, the entries that
   -- the pass added, and the acted lines. The link was let go
-  pub record Serves (before after : Holder M) (calls calls' : ℕ) (clock clock' : Option (ℕ → ℕ))
-      (a b : Traffic) (report : Report) : Type 0 where
+  pub record Serves (a b : LinkView M) (report : Report) : Type 0 where
     pub taken : List ℕ
     pub given : List ℕ
     pub readings : List ℕ
     pub own : List Entry
     pub acted : List Acted
-    pub conn : (birth : ℕ) → IsTimed birth legal now
-        → Conn np birth who after.seen (placed who first before.own) taken readings own given acted
-        report.outcome
-    pub grows : Grows before after own (2 * length readings)
+    pub conn : (birth : ℕ) → IsTimed birth v.legal v.now
+        → Conn v.policy birth who b.pass.seen (placed who v.first a.pass.own) taken readings own
+        given acted report.outcome
+    pub grows : Grows a.pass b.pass own (2 * length readings)
     pub mine : AreMine who own
     pub asked : report.asked ≡ asked_in acted
     pub denied : report.denied ≡ denied_in acted
-    pub calls_are : calls' ≡ calls + length readings
-    pub taken_is : Appends a.taken b.taken taken
-    pub left_is : Consumes a.left b.left taken
-    pub given_is : Appends a.given b.given given
-    pub reads : Reads clock clock' readings
+    pub calls_are : b.calls ≡ a.calls + length readings
+    pub taken_is : Appends a.traffic.taken b.traffic.taken taken
+    pub left_is : Consumes a.traffic.left b.traffic.left taken
+    pub given_is : Appends a.traffic.given b.traffic.given given
+    pub reads : Reads a.clock b.clock readings
     pub bounded : length taken ≤ most_bytes
-    pub cause : EndsBy a b after.draws taken report.outcome
-    pub finished : b.finished ≡ true
-    pub complete : (birth : ℕ) → IsTimed birth legal now → IsUnhindered a b taken report.outcome
-        → IsComplete np after.seen taken acted report.outcome
+    pub cause : EndsBy a.traffic b.traffic b.pass.draws taken report.outcome
+    pub finished : b.traffic.finished ≡ true
+    pub complete : (birth : ℕ) → IsTimed birth v.legal v.now
+        → IsUnhindered a.traffic b.traffic taken report.outcome
+        → IsComplete v.policy b.pass.seen taken acted report.outcome

@@ -12,9 +12,12 @@ use Rattle.policy_words.specs.Naming.{NamedPolicy}
 use Rattle.connection_laws.specs.declared.ends.LinkEnd.{LinkEnd}
 use Rattle.connection_laws.specs.declared.ends.LinkEnd.TheVariants.{Ended, ReadFault, WriteFault, Spent, Worn as LinkWorn}
 use Rattle.connection_laws.specs.Connection.{Acted, asked_in, denied_in, part_of, IsTimed, placed, Conn}
+use Rattle.connection_laws.specs.Services.{Service}
 use Rattle.line_server.specs.declared.ended.Served.{Served}
 use Rattle.line_server.specs.declared.ended.WorkEnd.{WorkEnd}
 use Rattle.line_server.specs.declared.ended.WorkEnd.TheVariants.{Fresh, Done, DoorFault, Enough, Worn, Memory}
+use Rattle.line_server.specs.declared.posts.Post.{Post}
+use Rattle.line_server.specs.declared.workers.Worker.{Worker}
 use Rattle.connection_laws.specs.Turns.{IsIdle, Grows, AreMine}
 use Rattle.line_server.specs.Serving.{EndsBy, is_worn_out, most_bytes}
 
@@ -59,8 +62,38 @@ pub record Spot (M L : Type 0) : Type 0 where
   pub clock : Option (ℕ → ℕ)
   pub door : Option (List L)
 
+abbrev pub spot : {M L : Type 0} → Holder M → Option (ℕ → ℕ) → Option (List L) → Spot M L
+spot pass clock door = record { pass = pass; clock = clock; door = door }
+
+-- a worker at its post: its pass, the readings of its clock and the links of its door that are to
+-- come, where they are told, how often its door failed, its served links, and how it ended
+pub record PostView (M L : Type 0) : Type 0 where
+  pub pass : Holder M
+  pub clock : Option (ℕ → ℕ)
+  pub door : Option (List L)
+  pub faults : ℕ
+  pub served : List (Served L)
+  pub outcome : WorkEnd
+
+abbrev pub post_view : {M D C G L : Type 0} → (C → Option (ℕ → ℕ)) → (D → Option (List L)) → (D → ℕ)
+    → Holder M → Worker D C G L → PostView M L
+post_view readings links faults pass w =
+    record {
+      pass = pass;
+      clock = readings w.clock;
+      door = links w.door;
+      faults = faults w.door;
+      served = w.served.items;
+      outcome = w.outcome;
+    }
+
+abbrev pub at_post : {M D C G L : Type 0} → (C → Option (ℕ → ℕ)) → (D → Option (List L)) → (D → ℕ)
+    → Post M D C G L → PostView M L
+at_post readings links faults p = post_view readings links faults p.pass p.worker
+
 -- each end has its cause
-abbrev pub WorksTo : {L : Type 0} → Option (List L) → ℕ → ℕ → ℕ → List (Served L) → WorkEnd → Type 0
+abbrev pub WorksTo : {L : Type 0} → Option (List L) → ℕ → ℕ → ℕ → List (Served L) → WorkEnd
+    → Type 0
 WorksTo {L} links faults faults' draws served Done =
     AllUnworn served × (length served < most_links) × IfSome links (λ ls. ls ≡ [])
 WorksTo {L} links faults faults' draws served DoorFault =
@@ -74,16 +107,15 @@ WorksTo {L} links faults faults' draws served Memory =
     AllUnworn served × (length served < most_links)
 WorksTo {L} links faults faults' draws served Fresh = ⊥
 
-module _ {L : Type 0} (traffic : L → Traffic) (np : NamedPolicy) (first : List Entry)
-    (legal : List Entry → Type 0) (now : List Entry → ℕ) (number : ℕ) where
+module _ {L : Type 0} (traffic : L → Traffic) (v : Service) (number : ℕ) where
   -- link c of the worker was served as this is told, over a history; own are the entries that its
   -- pass had before the first link
   pub record IsServed (h : List Entry) (own : List Entry) (c : ℕ) (s : Served L) (x : Tale L)
       : Type 0 where
     pub fresh : IsFresh (traffic x.begun)
-    pub conn : (birth : ℕ) → IsTimed birth legal now
-        → Conn np birth (by number c) h (placed (by number c) first own) x.taken x.readings x.own
-        x.given x.acted s.report.outcome
+    pub conn : (birth : ℕ) → IsTimed birth v.legal v.now
+        → Conn v.policy birth (by number c) h (placed (by number c) v.first own) x.taken
+        x.readings x.own x.given x.acted s.report.outcome
     pub mine : AreMine (by number c) x.own
     pub asked : s.report.asked ≡ asked_in x.acted
     pub denied : s.report.denied ≡ denied_in x.acted
@@ -101,11 +133,10 @@ module _ {L : Type 0} (traffic : L → Traffic) (np : NamedPolicy) (first : List
   AreServed h own c (s ∷ ss) [] = ⊥
   AreServed h own c (s ∷ ss) (x ∷ xs) = IsServed h own c s x × AreServed h own (c + 1) ss xs
 
-module _ {M L : Type 0} (traffic : L → Traffic) (np : NamedPolicy) (first : List Entry)
-    (legal : List Entry → Type 0) (now : List Entry → ℕ) (number : ℕ) where
+module _ {M L : Type 0} (traffic : L → Traffic) (v : Service) (number : ℕ) where
   pub record Worked (o p : Spot M L) (served : List (Served L)) (tales : List (Tale L))
       : Type 0 where
-    pub links : AreServed traffic np first legal now number p.pass.seen o.pass.own 1 served tales
+    pub links : AreServed traffic v number p.pass.seen o.pass.own 1 served tales
     pub grows : Grows o.pass p.pass (owns_of tales) (2 * length (hours_of tales))
     pub reads : Reads o.clock p.clock (hours_of tales)
     pub door : Gives o.door p.door (begun_of tales)
@@ -126,17 +157,13 @@ module _ {M L : Type 0} (traffic : L → Traffic) (np : NamedPolicy) (first : Li
     pub worked : Worked o p served tales
     pub cause : WorksTo p.door faults faults' p.pass.draws served end
 
-module _ {M L : Type 0} (traffic : L → Traffic) (np : NamedPolicy) (first : List Entry)
-    (legal : List Entry → Type 0) (now : List Entry → ℕ) where
+module _ {M L : Type 0} (traffic : L → Traffic) (v : Service) where
   -- what a worker and its pass come to, and that the pass is idle again
-  pub record HasWorked (site : Site M) (before after : Holder M) (clock clock' : Option (ℕ → ℕ))
-      (door door' : Option (List L)) (faults faults' : ℕ) (served : List (Served L)) (end : WorkEnd)
-      : Type 0 where
-    pub works : Works traffic np first legal now before.number
-        (record { pass = before; clock = clock; door = door })
-        (record { pass = after; clock = clock'; door = door' }) faults faults' served end
-    pub idle : IsIdle site after
-    pub number_is : after.number ≡ before.number
+  pub record HasWorked (site : Site M) (a b : PostView M L) : Type 0 where
+    pub works : Works traffic v a.pass.number (spot a.pass a.clock a.door)
+        (spot b.pass b.clock b.door) a.faults b.faults b.served b.outcome
+    pub idle : IsIdle site b.pass
+    pub number_is : b.pass.number ≡ a.pass.number
 
 -- the own entries of each link are the part of its connection
 abbrev pub AreParts : {L : Type 0} → List Entry → ℕ → ℕ → List (Tale L) → Type 0
@@ -146,12 +173,11 @@ AreParts es w c (x ∷ xs) = (part_of (by w c) es ≡ x.own) × AreParts es w (c
 -- Over the history h of a closed desk, of a worker whose pass had no entry before: each of its
 -- links is told over h, its part of h is the own entries of its links one after the other, and the
 -- own entries of each link are the part of its connection
-abbrev pub IsTellingOfWorkers : (M : Type 0) {L : Type 0} → (L → Traffic) → NamedPolicy → List Entry
-    → (List Entry → Type 0) → (List Entry → ℕ) → Type 0
-IsTellingOfWorkers M {L} traffic np first legal now =
+abbrev pub IsTellingOfWorkers : (M : Type 0) {L : Type 0} → (L → Traffic) → Service → Type 0
+IsTellingOfWorkers M {L} traffic v =
     (w : ℕ) (o p : Spot M L) (f f' : ℕ) (served : List (Served L)) (end : WorkEnd) (h : List Entry)
     → o.pass.own ≡ [] → p.pass.number ≡ w
-    → Works traffic np first legal now w o p f f' served end → IsTold first h p.pass
-    → (tales : List (Tale L)) × AreServed traffic np first legal now w h [] 1 served tales
-    × (part w (drop (length first) h) ≡ owns_of tales)
-    × AreParts (drop (length first) h) w 1 tales × Gives o.door p.door (begun_of tales)
+    → Works traffic v w o p f f' served end → IsTold v.first h p.pass
+    → (tales : List (Tale L)) × AreServed traffic v w h [] 1 served tales
+    × (part w (drop (length v.first) h) ≡ owns_of tales)
+    × AreParts (drop (length v.first) h) w 1 tales × Gives o.door p.door (begun_of tales)

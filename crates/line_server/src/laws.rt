@@ -1,5 +1,6 @@
 //! What the work of a worker tells of the whole history.
 ghost use Rattle.policy_words.specs.Naming.{NamedPolicy};
+ghost use Rattle.connection_laws.specs.Services.{service};
 ghost use Rattle.line_server.specs.Working.{IsTellingOfWorkers};
 
 use gt_base::Machine;
@@ -9,5 +10,6 @@ use gt_io::Link;
 /// its part of it, one link after the other.
 pub fn workers_are_told<M: Machine, L: Link>()
     ensures { (root : M) (np : NamedPolicy)
-        → IsTellingOfWorkers M L.traffic np (M.list root) (M.legal root) (M.now_of root) }
+        → IsTellingOfWorkers M L.traffic
+        (service np (M.list root) (M.legal root) (M.now_of root)) }
 {}

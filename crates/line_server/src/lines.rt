@@ -7,17 +7,15 @@ ghost use Rattle.policy_words.specs.Naming.{NamedPolicy};
 ghost use Rattle.request_text.specs.Replies.{fault_word};
 ghost use Rattle.connection_laws.specs.Connection.{Answer};
 ghost use Rattle.connection_laws.specs.Desks.{IsNamedActor, AreNamed, RepliesCanBeTold};
+ghost use Rattle.connection_laws.specs.Services.{service_at};
 ghost use Rattle.connection_laws.specs.Turns.{IsIdle, IsReached};
 ghost use Rattle.connection_laws.specs.Acting.{IsTold, Decides, Acts, counted, CanCount, HasRoom, CountsUp};
-ghost use Rattle.line_server.specs.Serving.{Sent, Goes};
+ghost use Rattle.line_server.specs.Serving.{Sent, point, Goes};
 
-use connection_laws::{LinkEnd, Talk, Told, act, count};
+use connection_laws::{LinkEnd, Server, Talk, Told, act, count};
 use gt_base::Machine;
 use gt_io::{Clock, Framed, Framer, Gate, Link, send_all};
-use locked_history::Desk;
-use policy_book::Policy;
 use request_text::LineFault;
-use std::alloc::Global;
 use std::sync::Wait;
 use turn_lock::Pass;
 
@@ -68,63 +66,42 @@ fn settle<L: Link>(link: &mut L, talk: &mut Talk, told: &Told) -> Result<(), Lin
 
 /// Takes one more byte, and acts on the line that it ends.
 pub(crate) fn take_byte<M: Machine, R: Wait, L: Link, C: Clock, G: Gate>(
-    rt: &R,
-    alloc: Global,
-    desk: &Desk<M>,
-    policy: &Policy,
+    server: &Server<M, R, G>,
     pass: &mut Pass<M>,
-    conn: u32,
     link: &mut L,
     clock: &mut C,
-    gate: &G,
     framer: &mut Framer,
     talk: &mut Talk,
     byte: u8,
 ) -> Result<(), LinkEnd>
-    requires idle { IsIdle (site_of desk.now) pass.old }
-    requires named { AreNamed policy.now (M.named desk.now.root) }
-    requires replies { RepliesCanBeTold policy.now (M.legal desk.now.root) }
-    requires actor { IsNamedActor policy.now talk.old.actor }
+    requires idle { IsIdle (site_of server.now.desk.now) pass.old }
+    requires named { AreNamed server.now.policy.now (M.named server.now.desk.now.root) }
+    requires replies { RepliesCanBeTold server.now.policy.now (M.legal server.now.desk.now.root) }
+    requires actor { IsNamedActor server.now.policy.now talk.old.actor }
     requires room { HasRoom talk.old 1 }
-    requires reached { IsReached (M.legal desk.now.root) (M.now_of desk.now.root) pass.old.seen talk.old.reached }
-    ensures goes { Goes policy.now (M.list desk.now.root) (M.legal desk.now.root) (M.now_of desk.now.root)
-        (by pass.old.number conn)
-        (record {
-          pass = pass.old;
-          talk = talk.old;
-          clock = C.readings clock.old;
-          given = (L.traffic link.old).given;
-        })
-        (record {
-          pass = pass.new;
-          talk = talk.new;
-          clock = C.readings clock.new;
-          given = (L.traffic link.new).given;
-        })
+    requires reached { IsReached (M.legal server.now.desk.now.root)
+        (M.now_of server.now.desk.now.root) pass.old.seen talk.old.reached }
+    ensures goes { Goes
+        (service_at M.list M.legal M.now_of server.now.desk.now server.now.policy.now)
+        (by pass.old.number server.now.conn)
+        (point pass.old talk.old (C.readings clock.old) (L.traffic link.old).given)
+        (point pass.new talk.new (C.readings clock.new) (L.traffic link.new).given)
         framer.old framer.new (byte ∷ []) (L.traffic link.old).write_faults
         (L.traffic link.new).write_faults result }
-    ensures pass { IsIdle (site_of desk.now) pass.new × (pass.new.number ≡ pass.old.number) }
-    ensures actor { IsNamedActor policy.now talk.new.actor }
+    ensures pass { IsIdle (site_of server.now.desk.now) pass.new
+        × (pass.new.number ≡ pass.old.number) }
+    ensures actor { IsNamedActor server.now.policy.now talk.new.actor }
     ensures counts { CountsUp talk.old talk.new 1 }
-    ensures reached { IsReached (M.legal desk.now.root) (M.now_of desk.now.root) pass.new.seen talk.new.reached }
+    ensures reached { IsReached (M.legal server.now.desk.now.root)
+        (M.now_of server.now.desk.now.root) pass.new.seen talk.new.reached }
     ensures reads { ReadsNothing (L.traffic link.old) (L.traffic link.new) }
-    ensures faults { OnOk result ((L.traffic link.new).write_faults ≡ (L.traffic link.old).write_faults) }
+    ensures faults { OnOk result
+        ((L.traffic link.new).write_faults ≡ (L.traffic link.old).write_faults) }
 {
     match framer.push(byte) {
         Framed::More => Ok(()),
         Framed::Whole => {
-            let told = act(
-                rt,
-                alloc,
-                desk,
-                policy,
-                pass,
-                conn,
-                clock,
-                gate,
-                talk,
-                framer.line(),
-            );
+            let told = act(server, pass, clock, talk, framer.line());
             settle(link, talk, &told)
         }
         Framed::Long => settle(link, talk, &Told::Bad(LineFault::Long)),

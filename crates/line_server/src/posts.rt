@@ -1,9 +1,10 @@
 //! Workers at their posts, each with a pass, all at the same time.
 ghost use Rattle.std.specs.Prelude.{◌≡◌, ◌<◌, ℕ, [], length, All, slice_index_or};
 ghost use Rattle.turn_lock.specs.Holders.{site_of};
+ghost use Rattle.connection_laws.specs.Services.{service_at};
 ghost use Rattle.connection_laws.specs.Turns.{IsIdle};
 ghost use Rattle.connection_laws.specs.Desks.{AreNamed, RepliesCanBeTold};
-ghost use Rattle.line_server.specs.Working.{HasWorked};
+ghost use Rattle.line_server.specs.Working.{at_post, HasWorked};
 
 use crate::ended::WorkEnd;
 use crate::workers::{Worker, work};
@@ -23,7 +24,7 @@ pub struct Post<M, D: Door, C: Clock, G: Gate> {
     pub pass: Pass<M>,
 }
 
-/// Works at one post.
+/// Serves the links of one post's door with its pass, as `work` does.
 pub fn work_at<M: Machine, R: Wait, D: Door, C: Clock, G: Gate>(
     rt: &R,
     alloc: Global,
@@ -34,13 +35,11 @@ pub fn work_at<M: Machine, R: Wait, D: Door, C: Clock, G: Gate>(
     requires idle { IsIdle (site_of desk.now) post.old.pass }
     requires named { AreNamed policy.now (M.named desk.now.root) }
     requires replies { RepliesCanBeTold policy.now (M.legal desk.now.root) }
-    requires fresh { (post.old.worker.outcome ≡ WorkEnd.Fresh) × (post.old.worker.served.items ≡ []) }
-    ensures { HasWorked D.L.traffic policy.now (M.list desk.now.root) (M.legal desk.now.root)
-        (M.now_of desk.now.root) (site_of desk.now) post.old.pass post.new.pass
-        (C.readings post.old.worker.clock) (C.readings post.new.worker.clock)
-        (D.links post.old.worker.door) (D.links post.new.worker.door)
-        (D.faults post.old.worker.door) (D.faults post.new.worker.door)
-        post.new.worker.served.items post.new.worker.outcome }
+    requires fresh { (post.old.worker.outcome ≡ WorkEnd.Fresh)
+        × (post.old.worker.served.items ≡ []) }
+    ensures { HasWorked D.L.traffic (service_at M.list M.legal M.now_of desk.now policy.now)
+        (site_of desk.now) (at_post C.readings D.links D.faults post.old)
+        (at_post C.readings D.links D.faults post.new) }
 {
     work(rt, alloc, desk, policy, &mut post.pass, &mut post.worker);
 }
@@ -62,17 +61,10 @@ where
     requires named { AreNamed policy.now (M.named desk.now.root) }
     requires replies { RepliesCanBeTold policy.now (M.legal desk.now.root) }
     ensures { (i : ℕ) (d : _) → i < length posts.old
-        → HasWorked D.L.traffic policy.now (M.list desk.now.root) (M.legal desk.now.root)
-        (M.now_of desk.now.root) (site_of desk.now) (slice_index_or posts.old i d).pass
-        (slice_index_or posts.new i d).pass
-        (C.readings (slice_index_or posts.old i d).worker.clock)
-        (C.readings (slice_index_or posts.new i d).worker.clock)
-        (D.links (slice_index_or posts.old i d).worker.door)
-        (D.links (slice_index_or posts.new i d).worker.door)
-        (D.faults (slice_index_or posts.old i d).worker.door)
-        (D.faults (slice_index_or posts.new i d).worker.door)
-        (slice_index_or posts.new i d).worker.served.items
-        (slice_index_or posts.new i d).worker.outcome }
+        → HasWorked D.L.traffic (service_at M.list M.legal M.now_of desk.now policy.now)
+        (site_of desk.now)
+        (at_post C.readings D.links D.faults (slice_index_or posts.old i d))
+        (at_post C.readings D.links D.faults (slice_index_or posts.new i d)) }
 {
     thread::for_each_mut(
         rt,
@@ -100,17 +92,10 @@ where
     requires replies { RepliesCanBeTold policy.now (M.legal desk.now.root) }
     ensures length { length posts.new.items ≡ length posts.old.items }
     ensures works { (i : ℕ) (d : _) → i < length posts.old.items
-        → HasWorked D.L.traffic policy.now (M.list desk.now.root) (M.legal desk.now.root)
-        (M.now_of desk.now.root) (site_of desk.now)
-        (slice_index_or posts.old.items i d).pass (slice_index_or posts.new.items i d).pass
-        (C.readings (slice_index_or posts.old.items i d).worker.clock)
-        (C.readings (slice_index_or posts.new.items i d).worker.clock)
-        (D.links (slice_index_or posts.old.items i d).worker.door)
-        (D.links (slice_index_or posts.new.items i d).worker.door)
-        (D.faults (slice_index_or posts.old.items i d).worker.door)
-        (D.faults (slice_index_or posts.new.items i d).worker.door)
-        (slice_index_or posts.new.items i d).worker.served.items
-        (slice_index_or posts.new.items i d).worker.outcome }
+        → HasWorked D.L.traffic (service_at M.list M.legal M.now_of desk.now policy.now)
+        (site_of desk.now)
+        (at_post C.readings D.links D.faults (slice_index_or posts.old.items i d))
+        (at_post C.readings D.links D.faults (slice_index_or posts.new.items i d)) }
 {
     work_at_all(rt, alloc, desk, policy, posts.as_mut_slice());
 }

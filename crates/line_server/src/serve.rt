@@ -7,12 +7,13 @@ ghost use Rattle.gt_io.specs.Links.{ReadsNothing, WritesNothing};
 ghost use Rattle.turn_lock.specs.Holders.{site_of};
 ghost use Rattle.locked_history.specs.Fronts.{by};
 ghost use Rattle.connection_laws.specs.Desks.{IsNamedActor, AreNamed, RepliesCanBeTold};
+ghost use Rattle.connection_laws.specs.Services.{service_at};
 ghost use Rattle.connection_laws.specs.Turns.{IsIdle, IsReached};
 ghost use Rattle.connection_laws.specs.Acting.{HasRoom, CountsUp};
-ghost use Rattle.line_server.specs.Serving.{Goes, IsStart, Converses, Serves, most_bytes};
+ghost use Rattle.line_server.specs.Serving.{point, link_view, Goes, IsStart, Converses, Serves, most_bytes};
 
 use crate::lines::take_byte;
-use connection_laws::{LinkEnd, Report, Talk};
+use connection_laws::{LinkEnd, Report, Server, Talk};
 use gt_base::{Actor, Machine};
 use gt_io::{Clock, Failed, Framer, Gate, Link};
 use locked_history::Desk;
@@ -26,52 +27,40 @@ const MOST_BYTES: usize = 67_108_864;
 
 // Takes on a piece of bytes, up to the line in which the service is cut off.
 fn take_chunk<M: Machine, R: Wait, L: Link, C: Clock, G: Gate>(
-    rt: &R,
-    alloc: Global,
-    desk: &Desk<M>,
-    policy: &Policy,
+    server: &Server<M, R, G>,
     pass: &mut Pass<M>,
-    conn: u32,
     link: &mut L,
     clock: &mut C,
-    gate: &G,
     framer: &mut Framer,
     talk: &mut Talk,
     chunk: &[u8],
 ) -> Result<(), LinkEnd>
-    requires idle { IsIdle (site_of desk.now) pass.old }
-    requires named { AreNamed policy.now (M.named desk.now.root) }
-    requires replies { RepliesCanBeTold policy.now (M.legal desk.now.root) }
-    requires actor { IsNamedActor policy.now talk.old.actor }
+    requires idle { IsIdle (site_of server.now.desk.now) pass.old }
+    requires named { AreNamed server.now.policy.now (M.named server.now.desk.now.root) }
+    requires replies { RepliesCanBeTold server.now.policy.now (M.legal server.now.desk.now.root) }
+    requires actor { IsNamedActor server.now.policy.now talk.old.actor }
     requires room { HasRoom talk.old (length chunk.now) }
-    requires reached { IsReached (M.legal desk.now.root) (M.now_of desk.now.root) pass.old.seen talk.old.reached }
-    ensures goes { Goes policy.now (M.list desk.now.root) (M.legal desk.now.root) (M.now_of desk.now.root)
-        (by pass.old.number conn)
-        (record {
-          pass = pass.old;
-          talk = talk.old;
-          clock = C.readings clock.old;
-          given = (L.traffic link.old).given;
-        })
-        (record {
-          pass = pass.new;
-          talk = talk.new;
-          clock = C.readings clock.new;
-          given = (L.traffic link.new).given;
-        })
+    requires reached { IsReached (M.legal server.now.desk.now.root)
+        (M.now_of server.now.desk.now.root) pass.old.seen talk.old.reached }
+    ensures goes { Goes
+        (service_at M.list M.legal M.now_of server.now.desk.now server.now.policy.now)
+        (by pass.old.number server.now.conn)
+        (point pass.old talk.old (C.readings clock.old) (L.traffic link.old).given)
+        (point pass.new talk.new (C.readings clock.new) (L.traffic link.new).given)
         framer.old framer.new chunk.now (L.traffic link.old).write_faults
         (L.traffic link.new).write_faults result }
-    ensures pass { IsIdle (site_of desk.now) pass.new × (pass.new.number ≡ pass.old.number) }
-    ensures actor { IsNamedActor policy.now talk.new.actor }
+    ensures pass { IsIdle (site_of server.now.desk.now) pass.new
+        × (pass.new.number ≡ pass.old.number) }
+    ensures actor { IsNamedActor server.now.policy.now talk.new.actor }
     ensures counts { CountsUp talk.old talk.new (length chunk.now) }
-    ensures reached { IsReached (M.legal desk.now.root) (M.now_of desk.now.root) pass.new.seen talk.new.reached }
+    ensures reached { IsReached (M.legal server.now.desk.now.root)
+        (M.now_of server.now.desk.now.root) pass.new.seen talk.new.reached }
     ensures reads { ReadsNothing (L.traffic link.old) (L.traffic link.new) }
-    ensures faults { OnOk result ((L.traffic link.new).write_faults ≡ (L.traffic link.old).write_faults) }
+    ensures faults { OnOk result
+        ((L.traffic link.new).write_faults ≡ (L.traffic link.old).write_faults) }
 {
     for byte in chunk {
-        if let Err(end) = take_byte(
-            rt, alloc, desk, policy, pass, conn, link, clock, gate, framer, talk, *byte,
-        ) {
+        if let Err(end) = take_byte(server, pass, link, clock, framer, talk, *byte) {
             return Err(end);
         }
     }
@@ -83,10 +72,14 @@ fn read_some<L: Link>(link: &mut L, buf: &mut [u8], left: usize) -> Result<usize
     requires buf { 0 < length buf.old }
     requires left { 0 < left }
     ensures bound { IfOk result (λ n. (n ≤ left) × (n ≤ length buf.new)) }
-    ensures bytes { ReadConsumes (L.traffic link.old).left (L.traffic link.new).left result buf.new }
-    ensures taken { WriteAppends (L.traffic link.old).taken (L.traffic link.new).taken result buf.new }
-    ensures cause { HasCause (L.traffic link.old).read_faults (L.traffic link.new).read_faults result }
-    ensures once { RisesOnce (L.traffic link.old).read_faults (L.traffic link.new).read_faults result }
+    ensures bytes { ReadConsumes (L.traffic link.old).left (L.traffic link.new).left result
+        buf.new }
+    ensures taken { WriteAppends (L.traffic link.old).taken (L.traffic link.new).taken result
+        buf.new }
+    ensures cause { HasCause (L.traffic link.old).read_faults (L.traffic link.new).read_faults
+        result }
+    ensures once { RisesOnce (L.traffic link.old).read_faults (L.traffic link.new).read_faults
+        result }
     ensures writes { WritesNothing (L.traffic link.old) (L.traffic link.new) }
 {
     let room = left.min(buf.len());
@@ -95,37 +88,24 @@ fn read_some<L: Link>(link: &mut L, buf: &mut [u8], left: usize) -> Result<usize
 
 // Serves a link to its end.
 fn converse<M: Machine, R: Wait, L: Link, C: Clock, G: Gate>(
-    rt: &R,
-    alloc: Global,
-    desk: &Desk<M>,
-    policy: &Policy,
+    server: &Server<M, R, G>,
     pass: &mut Pass<M>,
-    conn: u32,
     link: &mut L,
     clock: &mut C,
-    gate: &G,
     talk: &mut Talk,
 ) -> LinkEnd
-    requires idle { IsIdle (site_of desk.now) pass.old }
-    requires named { AreNamed policy.now (M.named desk.now.root) }
-    requires replies { RepliesCanBeTold policy.now (M.legal desk.now.root) }
+    requires idle { IsIdle (site_of server.now.desk.now) pass.old }
+    requires named { AreNamed server.now.policy.now (M.named server.now.desk.now.root) }
+    requires replies { RepliesCanBeTold server.now.policy.now (M.legal server.now.desk.now.root) }
     requires start { IsStart talk.old }
-    ensures goes { Converses policy.now (M.list desk.now.root) (M.legal desk.now.root) (M.now_of desk.now.root)
-        (by pass.old.number conn)
-        (record {
-          pass = pass.old;
-          talk = talk.old;
-          clock = C.readings clock.old;
-          given = (L.traffic link.old).given;
-        })
-        (record {
-          pass = pass.new;
-          talk = talk.new;
-          clock = C.readings clock.new;
-          given = (L.traffic link.new).given;
-        })
+    ensures goes { Converses
+        (service_at M.list M.legal M.now_of server.now.desk.now server.now.policy.now)
+        (by pass.old.number server.now.conn)
+        (point pass.old talk.old (C.readings clock.old) (L.traffic link.old).given)
+        (point pass.new talk.new (C.readings clock.new) (L.traffic link.new).given)
         (L.traffic link.old) (L.traffic link.new) result }
-    ensures pass { IsIdle (site_of desk.now) pass.new × (pass.new.number ≡ pass.old.number) }
+    ensures pass { IsIdle (site_of server.now.desk.now) pass.new
+        × (pass.new.number ≡ pass.old.number) }
     ensures calls { talk.new.calls ≤ talk.old.calls + most_bytes }
 {
     let mut framer = Framer::new();
@@ -139,20 +119,7 @@ fn converse<M: Machine, R: Wait, L: Link, C: Clock, G: Gate>(
             return LinkEnd::Ended;
         }
         left -= n;
-        if let Err(end) = take_chunk(
-            rt,
-            alloc,
-            desk,
-            policy,
-            pass,
-            conn,
-            link,
-            clock,
-            gate,
-            &mut framer,
-            talk,
-            &buf[..n],
-        ) {
+        if let Err(end) = take_chunk(server, pass, link, clock, &mut framer, talk, &buf[..n]) {
             return end;
         }
     }
@@ -188,12 +155,21 @@ pub fn serve_link<M: Machine, R: Wait, L: Link, C: Clock, G: Gate>(
     requires named { AreNamed policy.now (M.named desk.now.root) }
     requires replies { RepliesCanBeTold policy.now (M.legal desk.now.root) }
     requires calls { calls.old < 2 ^ 63 }
-    ensures serves { Serves policy.now (M.list desk.now.root) (M.legal desk.now.root) (M.now_of desk.now.root)
-        (by pass.old.number conn) pass.old pass.new calls.old calls.new (C.readings clock.old)
-        (C.readings clock.new) (L.traffic link.old) (L.traffic link.new) result }
+    ensures serves { Serves (service_at M.list M.legal M.now_of desk.now policy.now)
+        (by pass.old.number conn)
+        (link_view pass.old calls.old (C.readings clock.old) (L.traffic link.old))
+        (link_view pass.new calls.new (C.readings clock.new) (L.traffic link.new)) result }
     ensures pass { IsIdle (site_of desk.now) pass.new × (pass.new.number ≡ pass.old.number) }
     ensures few { calls.new ≤ calls.old + most_bytes }
 {
+    let server = Server {
+        rt,
+        alloc,
+        desk,
+        policy,
+        conn,
+        gate,
+    };
     let mut talk = Talk {
         actor: Actor::Nobody,
         asked: 0,
@@ -201,9 +177,7 @@ pub fn serve_link<M: Machine, R: Wait, L: Link, C: Clock, G: Gate>(
         calls: *calls,
         reached: None,
     };
-    let outcome = converse(
-        rt, alloc, desk, policy, pass, conn, link, clock, gate, &mut talk,
-    );
+    let outcome = converse(&server, pass, link, clock, &mut talk);
     let_go(link);
     *calls = talk.calls;
     Report {

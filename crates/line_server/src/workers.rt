@@ -1,10 +1,11 @@
 //! The links of a door, one after the other.
 ghost use Rattle.std.specs.Prelude.{◌≡◌, ◌+◌, ◌*◌, ◌<◌, ◌≤◌, ◌^◌, ℕ, false, [], length, None, MatchOption};
 ghost use Rattle.turn_lock.specs.Holders.{site_of};
+ghost use Rattle.connection_laws.specs.Services.{service_at};
 ghost use Rattle.connection_laws.specs.Turns.{IsIdle};
 ghost use Rattle.connection_laws.specs.Desks.{AreNamed, RepliesCanBeTold};
 ghost use Rattle.line_server.specs.Serving.{most_bytes, is_worn_out};
-ghost use Rattle.line_server.specs.Working.{WorksOn, Works, most_links};
+ghost use Rattle.line_server.specs.Working.{spot, post_view, WorksOn, Works, HasWorked, most_links};
 
 use crate::ended::{Served, WorkEnd};
 use crate::serve::serve_link;
@@ -40,80 +41,81 @@ fn worn_of(end: LinkEnd) -> Option<WorkEnd>
     }
 }
 
-// Serves the next link of the door, for which there is room.
+// Serves the next link of the worker's door, for which there is room.
 fn serve_next<M: Machine, R: Wait, D: Door, C: Clock, G: Gate>(
     rt: &R,
     alloc: Global,
     desk: &Desk<M>,
     policy: &Policy,
     pass: &mut Pass<M>,
-    door: &mut D,
-    clock: &mut C,
-    gate: &G,
-    served: &mut List<Served<D::L>>,
+    w: &mut Worker<D, C, G>,
     calls: &mut u64,
 ) -> Option<WorkEnd>
     requires idle { IsIdle (site_of desk.now) pass.old }
     requires named { AreNamed policy.now (M.named desk.now.root) }
     requires replies { RepliesCanBeTold policy.now (M.legal desk.now.root) }
     requires calls { calls.old < 2 ^ 63 }
-    requires room { 1 ≤ served.old.spare }
-    requires few { length served.old.items < most_links }
-    ensures works { WorksOn D.L.traffic policy.now (M.list desk.now.root) (M.legal desk.now.root)
-        (M.now_of desk.now.root) pass.old.number
-        (record { pass = pass.old; clock = C.readings clock.old; door = D.links door.old })
-        (record { pass = pass.new; clock = C.readings clock.new; door = D.links door.new })
-        (D.faults door.old) (D.faults door.new) served.old.items served.new.items result }
+    requires room { 1 ≤ w.old.served.spare }
+    requires few { length w.old.served.items < most_links }
+    ensures works { WorksOn D.L.traffic (service_at M.list M.legal M.now_of desk.now policy.now)
+        pass.old.number
+        (spot pass.old (C.readings w.old.clock) (D.links w.old.door))
+        (spot pass.new (C.readings w.new.clock) (D.links w.new.door))
+        (D.faults w.old.door) (D.faults w.new.door) w.old.served.items w.new.served.items result }
     ensures pass { IsIdle (site_of desk.now) pass.new × (pass.new.number ≡ pass.old.number) }
     ensures calls { calls.new ≤ calls.old + most_bytes }
-    ensures faults { D.faults door.old ≤ D.faults door.new }
-    ensures one { result ≡ None → length served.new.items ≡ length served.old.items + 1 }
+    ensures faults { D.faults w.old.door ≤ D.faults w.new.door }
+    ensures one { result ≡ None → length w.new.served.items ≡ length w.old.served.items + 1 }
 {
-    match door.next() {
+    match w.door.next() {
         Err(_) => Some(WorkEnd::DoorFault),
         Ok(None) => Some(WorkEnd::Done),
         Ok(Some(mut link)) => {
-            let conn = served.len() as u32 + 1;
+            let conn = w.served.len() as u32 + 1;
             let report = serve_link(
-                rt, alloc, desk, policy, pass, conn, &mut link, clock, gate, calls,
+                rt,
+                alloc,
+                desk,
+                policy,
+                pass,
+                conn,
+                &mut link,
+                &mut w.clock,
+                &w.gate,
+                calls,
             );
-            served.push(Served { link, report });
+            w.served.push(Served { link, report });
             worn_of(report.outcome)
         }
     }
 }
 
-// Serves the links of the door until it ends.
+// Serves the links of the worker's door until it ends.
 fn work_on<M: Machine, R: Wait, D: Door, C: Clock, G: Gate>(
     rt: &R,
     alloc: Global,
     desk: &Desk<M>,
     policy: &Policy,
     pass: &mut Pass<M>,
-    door: &mut D,
-    clock: &mut C,
-    gate: &G,
-    served: &mut List<Served<D::L>>,
+    w: &mut Worker<D, C, G>,
 ) -> WorkEnd
     requires idle { IsIdle (site_of desk.now) pass.old }
     requires named { AreNamed policy.now (M.named desk.now.root) }
     requires replies { RepliesCanBeTold policy.now (M.legal desk.now.root) }
-    requires empty { served.old.items ≡ [] }
-    ensures works { Works D.L.traffic policy.now (M.list desk.now.root) (M.legal desk.now.root)
-        (M.now_of desk.now.root) pass.old.number
-        (record { pass = pass.old; clock = C.readings clock.old; door = D.links door.old })
-        (record { pass = pass.new; clock = C.readings clock.new; door = D.links door.new })
-        (D.faults door.old) (D.faults door.new) served.new.items result }
+    requires empty { w.old.served.items ≡ [] }
+    ensures works { Works D.L.traffic (service_at M.list M.legal M.now_of desk.now policy.now)
+        pass.old.number
+        (spot pass.old (C.readings w.old.clock) (D.links w.old.door))
+        (spot pass.new (C.readings w.new.clock) (D.links w.new.door))
+        (D.faults w.old.door) (D.faults w.new.door) w.new.served.items result }
     ensures pass { IsIdle (site_of desk.now) pass.new × (pass.new.number ≡ pass.old.number) }
 {
     let mut calls = 0;
-    while served.len() < MOST_LINKS {
-        if served.reserve(1).is_err() {
+    while w.served.len() < MOST_LINKS {
+        if w.served.reserve(1).is_err() {
             return WorkEnd::Memory;
         }
-        if let Some(end) = serve_next(
-            rt, alloc, desk, policy, pass, door, clock, gate, served, &mut calls,
-        ) {
+        if let Some(end) = serve_next(rt, alloc, desk, policy, pass, w, &mut calls) {
             return end;
         }
     }
@@ -135,22 +137,9 @@ pub fn work<M: Machine, R: Wait, D: Door, C: Clock, G: Gate>(
     requires named { AreNamed policy.now (M.named desk.now.root) }
     requires replies { RepliesCanBeTold policy.now (M.legal desk.now.root) }
     requires fresh { (w.old.outcome ≡ WorkEnd.Fresh) × (w.old.served.items ≡ []) }
-    ensures works { Works D.L.traffic policy.now (M.list desk.now.root) (M.legal desk.now.root)
-        (M.now_of desk.now.root) pass.old.number
-        (record { pass = pass.old; clock = C.readings w.old.clock; door = D.links w.old.door })
-        (record { pass = pass.new; clock = C.readings w.new.clock; door = D.links w.new.door })
-        (D.faults w.old.door) (D.faults w.new.door) w.new.served.items w.new.outcome }
-    ensures pass { IsIdle (site_of desk.now) pass.new × (pass.new.number ≡ pass.old.number) }
+    ensures { HasWorked D.L.traffic (service_at M.list M.legal M.now_of desk.now policy.now)
+        (site_of desk.now) (post_view C.readings D.links D.faults pass.old w.old)
+        (post_view C.readings D.links D.faults pass.new w.new) }
 {
-    w.outcome = work_on(
-        rt,
-        alloc,
-        desk,
-        policy,
-        pass,
-        &mut w.door,
-        &mut w.clock,
-        &w.gate,
-        &mut w.served,
-    );
+    w.outcome = work_on(rt, alloc, desk, policy, pass, w);
 }

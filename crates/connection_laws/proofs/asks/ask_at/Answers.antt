@@ -25,7 +25,7 @@ returns-in-Err-clause-asked g c =
     let r = c.in-Err.ensures in
     let m = g.M.Machine in
     let p = c.reach.new.pass in
-    is_refused (g.M.Keeps.list c.args.desk.now.root) (m.legal c.args.desk.now.root) (m.now_of c.args.desk.now.root) c.args.conn c.args.reading c.args.actor c.args.request
+    is_refused (g.M.Keeps.list c.args.server.now.desk.now.root) (m.legal c.args.server.now.desk.now.root) (m.now_of c.args.server.now.desk.now.root) c.args.server.now.conn c.args.reading c.args.actor c.args.request
     c.args.pass.now p p r.ticks c.in-Err.fault r.each r.grows (refuses_none p) (λ is. r.full (ap Err is)) (λ n is. r.worn_out n (ap Err is))
 
 pub returns-in-Ok-clause-asked : goal.returns-in-Ok-clause-asked
@@ -33,7 +33,7 @@ returns-in-Ok-clause-asked g c =
     let r = c.in_default.ensures in
     let a = c.in-Ok.ensures in
     let m = g.M.Machine in
-    let t = is_accepted (g.M.Keeps.list c.args.desk.now.root) (m.legal c.args.desk.now.root) (m.now_of c.args.desk.now.root) c.args.conn c.args.reading c.args.actor c.args.request
+    let t = is_accepted (g.M.Keeps.list c.args.server.now.desk.now.root) (m.legal c.args.server.now.desk.now.root) (m.now_of c.args.server.now.desk.now.root) c.args.server.now.conn c.args.reading c.args.actor c.args.request
     c.args.pass.now c.reach.new.pass c.ask.new.pass r.ticks c.in-Ok.asked.reply c.in-Ok.asked.front a.last.0 r.each r.grows r.reached.0 r.reached.1 a.ok a.last.1 a.legal.0 in
     rw c.into_reply.ensures t
 
@@ -42,6 +42,6 @@ returns-in-Err-ask-clause-asked g c =
     let r = c.in_default.ensures in
     let a = c.in-Err-ask.ensures in
     let m = g.M.Machine in
-    is_refused (g.M.Keeps.list c.args.desk.now.root) (m.legal c.args.desk.now.root) (m.now_of c.args.desk.now.root) c.args.conn c.args.reading c.args.actor c.args.request
+    is_refused (g.M.Keeps.list c.args.server.now.desk.now.root) (m.legal c.args.server.now.desk.now.root) (m.now_of c.args.server.now.desk.now.root) c.args.server.now.conn c.args.reading c.args.actor c.args.request
     c.args.pass.now c.reach.new.pass c.ask.new.pass r.ticks c.in-Err-ask.fault r.each r.grows a.refused
     (λ is. let f = a.full (ap Err is) in omega (arith, f.0)) (λ n is. let w = a.worn n (ap Err is) in (w.0, ap (λ (p : Holder g.row.M.Denot). p.draws) w.2 ∙ w.1))

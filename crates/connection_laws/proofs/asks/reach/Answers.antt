@@ -31,8 +31,8 @@ loop-preserved g c =
     let a = c.args.pass.now in
     let b = c.loop.pass in
     let d = c.tick.new.pass in
-    let first = g.M.Keeps.list c.args.desk.now.root in
-    let e = ticked (by b.number c.args.conn) c.args.reading c.in-Ok.ticked.now in
+    let first = g.M.Keeps.list c.args.server.now.desk.now.root in
+    let e = ticked (by b.number c.args.server.now.conn) c.args.reading c.in-Ok.ticked.now in
     elim c.in-Ok.ensures.ok [
       | inl l ↦
           let late = l.0 in
@@ -44,7 +44,7 @@ loop-preserved g c =
           record {
             idle = (ap (λ (p : Holder g.row.M.Denot). p.site) l.after_is ∙ i.idle.0, ap (λ (p : Holder g.row.M.Denot). p.turn) l.after_is ∙ i.idle.1);
             ticks = i.ticks ++ e ∷ [];
-            each = each_more a b c.args.conn c.args.reading c.in-Ok.ticked.now i.ticks i.grows i.each;
+            each = each_more a b c.args.server.now.conn c.args.reading c.in-Ok.ticked.now i.ticks i.grows i.each;
             grows = ticks_more first a b d i.ticks c.in-Ok.ticked.front e i.grows l;
           }
     ]
@@ -68,22 +68,22 @@ returns-then-minute-2 g c =
     let a = c.args.pass.now in
     let b = c.loop.pass in
     let d = c.tick.new.pass in
-    let root = c.args.desk.now.root in
+    let root = c.args.server.now.desk.now.root in
     let first = g.M.Keeps.list root in
     let front = c.in-Ok.ticked.front in
     let now = c.in-Ok.ticked.now in
     let legal = c.in-Ok.ensures.legal in
-    let e = ticked (by b.number c.args.conn) c.args.reading now in
+    let e = ticked (by b.number c.args.server.now.conn) c.args.reading now in
     let early = c.if-minute-2.true in
     let told = c.minute-in-Ok-2.ensures.value in
     let asked = c.minute-in-Ok.ensures.value in
     let late : c.args.reading ≤ now = omega (arith, early, told, asked) in
     elim c.in-Ok.ensures.ok [
       | inl l ↦
-          reaches first (g.M.Machine.legal root) (g.M.Machine.now_of root) (by a.number c.args.conn) c.args.reading a d i.ticks front now i.each (ticks_idle first a b d i.ticks front i.grows l.1)
+          reaches first (g.M.Machine.legal root) (g.M.Machine.now_of root) (by a.number c.args.server.now.conn) c.args.reading a d i.ticks front now i.each (ticks_idle first a b d i.ticks front i.grows l.1)
           (ap (λ (p : Holder g.row.M.Denot). p.seen) l.1.after_is) legal.0 late legal.2
       | inr l ↦
-          reaches first (g.M.Machine.legal root) (g.M.Machine.now_of root) (by a.number c.args.conn) c.args.reading a d (i.ticks ++ e ∷ []) front now
-          (each_more a b c.args.conn c.args.reading now i.ticks i.grows i.each) (with_room a d (i.ticks ++ e ∷ []) (ticks_more first a b d i.ticks front e i.grows l))
+          reaches first (g.M.Machine.legal root) (g.M.Machine.now_of root) (by a.number c.args.server.now.conn) c.args.reading a d (i.ticks ++ e ∷ []) front now
+          (each_more a b c.args.server.now.conn c.args.reading now i.ticks i.grows i.each) (with_room a d (i.ticks ++ e ∷ []) (ticks_more first a b d i.ticks front e i.grows l))
           (ap (λ (p : Holder g.row.M.Denot). p.seen) l.after_is) legal.0 late legal.2
     ]

@@ -10,8 +10,8 @@ use Rattle.connection_laws.proofs.asks.reach.Given as goal
 abbrev pub invariant-loop : goal.invariant-loop
 invariant-loop g l =
     record {
-      idle : IsIdle (site_of l.desk) l.pass;
+      idle : IsIdle (site_of l.server.desk.now) l.pass;
       ticks : List Entry;
-      each : Each (IsTick (by l.fn.pass.number l.conn) l.reading) ticks;
+      each : Each (IsTick (by l.fn.pass.number l.server.conn) l.reading) ticks;
       grows : Grows l.fn.pass l.pass ticks 0;
     }

@@ -6,16 +6,17 @@ use Rattle.connection_laws.specs.Desks.{IsNamedActor}
 use Rattle.locked_history.specs.Fronts.{by}
 use Rattle.connection_laws.specs.Turns.{IsReached}
 use Rattle.line_server.specs.Serving.{Goes}
-use Rattle.line_server.proofs.LineDone.{point}
+use Rattle.line_server.specs.Serving.{point}
 use Rattle.line_server.proofs.Ends.{begins, cut_off, serving_kept}
+use Rattle.connection_laws.specs.Services.{service}
 use Rattle.line_server.proofs.serve.converse.Goals as goal
 
 pub loop-left-init : goal.loop-left-init
 loop-left-init g c =
     let m = g.M.Machine in
-    let root = c.args.desk.now.root in
+    let root = c.args.server.now.desk.now.root in
     let t = g.L.Link.traffic c.args.link.now in
-    let s = begins c.args.policy.now (g.M.Keeps.list root) (m.legal root) (m.now_of root) (by c.args.pass.now.number c.args.conn) c.args.pass.now c.args.talk.now (g.C.Clock.readings c.args.clock.now) t.given c.new-framer.result c.requires.start c.new-framer.ensures in
+    let s = begins c.args.server.now.policy.now (g.M.Keeps.list root) (m.legal root) (m.now_of root) (by c.args.pass.now.number c.args.server.now.conn) c.args.pass.now c.args.talk.now (g.C.Clock.readings c.args.clock.now) t.given c.new-framer.result c.requires.start c.new-framer.ensures in
     record {
       fed = [];
       acted = [];
@@ -37,7 +38,7 @@ loop-left-preserved g c =
     let m = g.M.Machine in
     let k = g.C.Clock in
     let t = g.L.Link in
-    let root = c.args.desk.now.root in
+    let root = c.args.server.now.desk.now.root in
     let inv = c.loop-left.invariant in
     let r = c.in-Ok.ensures in
     let after = c.take_chunk.ensures in
@@ -49,9 +50,9 @@ loop-left-preserved g c =
     let mid = t.traffic c.read_some.new.link in
     let end = t.traffic c.take_chunk.new.link in
     let origin = point c.args.pass.now c.args.talk.now (k.readings c.args.clock.now) start.given in
-    let s = serving_kept c.args.policy.now (g.M.Keeps.list root) (m.legal root) (m.now_of root) (by c.args.pass.now.number c.args.conn) origin c.loop-left.pass c.loop-left.talk (k.readings c.loop-left.clock) old.given mid.given
+    let s = serving_kept c.args.server.now.policy.now (g.M.Keeps.list root) (m.legal root) (m.now_of root) (by c.args.pass.now.number c.args.server.now.conn) origin c.loop-left.pass c.loop-left.talk (k.readings c.loop-left.clock) old.given mid.given
     c.loop-left.framer inv.fed inv.acted r.writes.given_kept inv.serving in
-    let goes = subst (λ (j : ℕ). Goes c.args.policy.now (g.M.Keeps.list root) (m.legal root) (m.now_of root) (by j c.args.conn)
+    let goes = subst (λ (j : ℕ). Goes (service c.args.server.now.policy.now (g.M.Keeps.list root) (m.legal root) (m.now_of root)) (by j c.args.server.now.conn)
     (point c.loop-left.pass c.loop-left.talk (k.readings c.loop-left.clock) mid.given) (point c.take_chunk.new.pass c.take_chunk.new.talk (k.readings c.take_chunk.new.clock) end.given)
     c.loop-left.framer c.take_chunk.new.framer chunk mid.write_faults end.write_faults {T = Unit {0}} (Ok c.in_default-take_chunk.field-0)) inv.number c.in_default-take_chunk.ensures.goes in
     let y = goes origin inv.fed inv.acted s in
@@ -82,7 +83,7 @@ returns-in-Err-clause-goes g c =
     let m = g.M.Machine in
     let k = g.C.Clock in
     let t = g.L.Link in
-    let root = c.args.desk.now.root in
+    let root = c.args.server.now.desk.now.root in
     let inv = c.loop-left.invariant in
     let r = c.in-Ok.ensures in
     let after = c.take_chunk.ensures in
@@ -94,10 +95,10 @@ returns-in-Err-clause-goes g c =
     let mid = t.traffic c.read_some.new.link in
     let end = t.traffic c.take_chunk.new.link in
     let origin = point c.args.pass.now c.args.talk.now (k.readings c.args.clock.now) start.given in
-    let s = serving_kept c.args.policy.now (g.M.Keeps.list root) (m.legal root) (m.now_of root) (by c.args.pass.now.number c.args.conn) origin c.loop-left.pass c.loop-left.talk (k.readings c.loop-left.clock) old.given mid.given
+    let s = serving_kept c.args.server.now.policy.now (g.M.Keeps.list root) (m.legal root) (m.now_of root) (by c.args.pass.now.number c.args.server.now.conn) origin c.loop-left.pass c.loop-left.talk (k.readings c.loop-left.clock) old.given mid.given
     c.loop-left.framer inv.fed inv.acted r.writes.given_kept inv.serving in
     let last = point c.take_chunk.new.pass c.take_chunk.new.talk (k.readings c.take_chunk.new.clock) end.given in
-    let goes = subst (λ (j : ℕ). Goes c.args.policy.now (g.M.Keeps.list root) (m.legal root) (m.now_of root) (by j c.args.conn)
+    let goes = subst (λ (j : ℕ). Goes (service c.args.server.now.policy.now (g.M.Keeps.list root) (m.legal root) (m.now_of root)) (by j c.args.server.now.conn)
     (point c.loop-left.pass c.loop-left.talk (k.readings c.loop-left.clock) mid.given) last
     c.loop-left.framer c.take_chunk.new.framer chunk mid.write_faults end.write_faults {T = Unit {0}} (Err c.in-Err.end)) inv.number c.in-Err.ensures.goes in
     let y = goes origin inv.fed inv.acted s in
@@ -105,7 +106,7 @@ returns-in-Err-clause-goes g c =
     let both = length-append inv.fed chunk in
     let counted = inv.counted in
     let low = r.bound.0 in
-    cut_off c.args.policy.now (g.M.Keeps.list root) (m.legal root) (m.now_of root) (by c.args.pass.now.number c.args.conn) origin last start end mid.write_faults inv.fed y.0 chunk y.2.0 c.in-Err.end y.2.1 y.1
+    cut_off c.args.server.now.policy.now (g.M.Keeps.list root) (m.legal root) (m.now_of root) (by c.args.pass.now.number c.args.server.now.conn) origin last start end mid.write_faults inv.fed y.0 chunk y.2.0 c.in-Err.end y.2.1 y.1
     (after.reads.read_faults_are ∙ r.cause.kept ∙ inv.reads) (r.writes.write_faults_are ∙ inv.writes)
     (subst (λ (x : Option (List ℕ)). Appends start.taken x (inv.fed ++ chunk)) (sym after.reads.taken_kept) (Appends-trans start.taken old.taken mid.taken inv.fed chunk inv.taken r.taken))
     (subst (λ (x : Option (List ℕ)). Consumes start.left x (inv.fed ++ chunk)) (sym after.reads.left_kept) (Consumes-trans start.left old.left mid.left inv.fed chunk inv.consumed r.bytes.0))

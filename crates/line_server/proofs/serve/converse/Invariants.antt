@@ -7,12 +7,13 @@ use Rattle.connection_laws.specs.Connection.{Acted}
 use Rattle.connection_laws.specs.Turns.{IsIdle, IsReached}
 use Rattle.connection_laws.specs.Acting.{CountsUp}
 use Rattle.line_server.specs.Serving.{Serving}
-use Rattle.line_server.proofs.LineDone.{point}
+use Rattle.line_server.specs.Serving.{point}
+use Rattle.connection_laws.specs.Services.{service}
 use Rattle.line_server.proofs.serve.converse.Given as goal
 
 abbrev pub invariant-loop-left : goal.invariant-loop-left
 invariant-loop-left g l =
-    let root = l.desk.root in
+    let root = l.server.desk.now.root in
     let m = g.M.Machine in
     let k = g.C.Clock in
     let t = g.L.Link in
@@ -21,14 +22,14 @@ invariant-loop-left g l =
     record {
       fed : List ℕ;
       acted : List Acted;
-      serving : Serving l.policy (g.M.Keeps.list root) (m.legal root) (m.now_of root) (by l.fn.pass.number l.conn)
+      serving : Serving (service l.server.policy.now (g.M.Keeps.list root) (m.legal root) (m.now_of root)) (by l.fn.pass.number l.server.conn)
           (point l.fn.pass l.fn.talk (k.readings l.fn.clock) a.given) (point l.pass l.talk (k.readings l.clock) b.given) l.framer fed acted;
       taken : Appends a.taken b.taken fed;
       consumed : Consumes a.left b.left fed;
       counted : length fed + l.left ≡ 67_108_864;
-      idle : IsIdle (site_of l.desk) l.pass;
+      idle : IsIdle (site_of l.server.desk.now) l.pass;
       number : l.pass.number ≡ l.fn.pass.number;
-      actor : IsNamedActor l.policy l.talk.actor;
+      actor : IsNamedActor l.server.policy.now l.talk.actor;
       counts : CountsUp l.fn.talk l.talk (length fed);
       reached : IsReached (m.legal root) (m.now_of root) l.pass.seen l.talk.reached;
       reads : b.read_faults ≡ a.read_faults;

@@ -6,22 +6,23 @@ use Rattle.connection_laws.specs.Desks.{IsNamedActor}
 use Rattle.connection_laws.specs.Turns.{IsIdle, IsReached}
 use Rattle.connection_laws.specs.Acting.{CountsUp}
 use Rattle.line_server.specs.Serving.{Goes}
-use Rattle.line_server.proofs.LineDone.{point}
+use Rattle.line_server.specs.Serving.{point}
+use Rattle.connection_laws.specs.Services.{service}
 use Rattle.line_server.proofs.serve.take_chunk.Given as goal
 
 abbrev pub invariant-loop-byte : goal.invariant-loop-byte
 invariant-loop-byte g l =
-    let root = l.desk.root in
+    let root = l.server.desk.now.root in
     let m = g.M.Machine in
     let k = g.C.Clock in
     let t = g.L.Link in
     record {
-      goes : Goes l.policy (g.M.Keeps.list root) (m.legal root) (m.now_of root) (by l.fn.pass.number l.conn)
+      goes : Goes (service l.server.policy.now (g.M.Keeps.list root) (m.legal root) (m.now_of root)) (by l.fn.pass.number l.server.conn)
           (point l.fn.pass l.fn.talk (k.readings l.fn.clock) (t.traffic l.fn.link).given) (point l.pass l.talk (k.readings l.clock) (t.traffic l.link).given)
           l.fn.framer l.framer (take l.byte-index l.chunk) 0 0 {T = Unit {0}} (Ok tt);
-      idle : IsIdle (site_of l.desk) l.pass;
+      idle : IsIdle (site_of l.server.desk.now) l.pass;
       number : l.pass.number ≡ l.fn.pass.number;
-      actor : IsNamedActor l.policy l.talk.actor;
+      actor : IsNamedActor l.server.policy.now l.talk.actor;
       counts : CountsUp l.fn.talk l.talk l.byte-index;
       reached : IsReached (m.legal root) (m.now_of root) l.pass.seen l.talk.reached;
       reads : ReadsNothing (t.traffic l.fn.link) (t.traffic l.link);

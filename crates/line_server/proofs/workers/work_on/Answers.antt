@@ -10,10 +10,10 @@ loop-alloc-init g c =
     let root = c.args.desk.now.root in
     let empty = c.requires.empty in
     let none = ap (λ (ss : List (Served g.row.D-L.Denot)). length ss) empty in
-    let o : Spot g.row.M.Denot g.row.D-L.Denot = record { pass = c.args.pass.now; clock = g.C.Clock.readings c.args.clock.now; door = g.D.Door.links c.args.door.now } in
+    let o : Spot g.row.M.Denot g.row.D-L.Denot = record { pass = c.args.pass.now; clock = g.C.Clock.readings c.args.w.now.clock; door = g.D.Door.links c.args.w.now.door } in
     record {
       tales = [];
-      worked = no_links g.D.L.Link.traffic c.args.policy.now (g.M.Keeps.list root) (m.legal root) (m.now_of root) c.args.pass.now.number o c.args.served.now.items empty;
+      worked = no_links g.D.L.Link.traffic c.args.policy.now (g.M.Keeps.list root) (m.legal root) (m.now_of root) c.args.pass.now.number o c.args.w.now.served.items empty;
       unworn = subst (λ (ss : List (Served g.row.D-L.Denot)). AllUnworn ss) (sym empty) tt;
       idle = c.requires.idle;
       number = refl;
@@ -29,11 +29,11 @@ returns-in-Some-clause-works g c =
     let inv = c.loop-alloc.invariant in
     let k = g.C.Clock in
     let d = g.D.Door in
-    let o : Spot g.row.M.Denot g.row.D-L.Denot = record { pass = c.args.pass.now; clock = k.readings c.args.clock.now; door = d.links c.args.door.now } in
-    let p : Spot g.row.M.Denot g.row.D-L.Denot = record { pass = c.loop-alloc.pass; clock = k.readings c.loop-alloc.clock; door = d.links c.loop-alloc.door } in
-    let p' : Spot g.row.M.Denot g.row.D-L.Denot = record { pass = c.serve_next.new.pass; clock = k.readings c.serve_next.new.clock; door = d.links c.serve_next.new.door } in
+    let o : Spot g.row.M.Denot g.row.D-L.Denot = record { pass = c.args.pass.now; clock = k.readings c.args.w.now.clock; door = d.links c.args.w.now.door } in
+    let p : Spot g.row.M.Denot g.row.D-L.Denot = record { pass = c.loop-alloc.pass; clock = k.readings c.loop-alloc.w.clock; door = d.links c.loop-alloc.w.door } in
+    let p' : Spot g.row.M.Denot g.row.D-L.Denot = record { pass = c.serve_next.new.pass; clock = k.readings c.serve_next.new.w.clock; door = d.links c.serve_next.new.w.door } in
     next_done g.D.L.Link.traffic c.args.policy.now (g.M.Keeps.list root) (m.legal root) (m.now_of root) c.args.pass.now.number c.loop-alloc.pass.number o p p'
-    (d.faults c.args.door.now) (d.faults c.loop-alloc.door) (d.faults c.serve_next.new.door) c.loop-alloc.served.items c.reserve.new.self.items c.serve_next.new.served.items inv.tales c.in-Some.end
+    (d.faults c.args.w.now.door) (d.faults c.loop-alloc.w.door) (d.faults c.serve_next.new.w.door) c.loop-alloc.w.served.items c.reserve.new.self.items c.serve_next.new.w.served.items inv.tales c.in-Some.end
     inv.number c.reserve.ensures.items inv.faults inv.worked inv.unworn c.in-Some.ensures.works
 
 pub loop-alloc-preserved : goal.loop-alloc-preserved
@@ -43,11 +43,11 @@ loop-alloc-preserved g c =
     let inv = c.loop-alloc.invariant in
     let k = g.C.Clock in
     let d = g.D.Door in
-    let o : Spot g.row.M.Denot g.row.D-L.Denot = record { pass = c.args.pass.now; clock = k.readings c.args.clock.now; door = d.links c.args.door.now } in
-    let p : Spot g.row.M.Denot g.row.D-L.Denot = record { pass = c.loop-alloc.pass; clock = k.readings c.loop-alloc.clock; door = d.links c.loop-alloc.door } in
-    let p' : Spot g.row.M.Denot g.row.D-L.Denot = record { pass = c.serve_next.new.pass; clock = k.readings c.serve_next.new.clock; door = d.links c.serve_next.new.door } in
+    let o : Spot g.row.M.Denot g.row.D-L.Denot = record { pass = c.args.pass.now; clock = k.readings c.args.w.now.clock; door = d.links c.args.w.now.door } in
+    let p : Spot g.row.M.Denot g.row.D-L.Denot = record { pass = c.loop-alloc.pass; clock = k.readings c.loop-alloc.w.clock; door = d.links c.loop-alloc.w.door } in
+    let p' : Spot g.row.M.Denot g.row.D-L.Denot = record { pass = c.serve_next.new.pass; clock = k.readings c.serve_next.new.w.clock; door = d.links c.serve_next.new.w.door } in
     let y = goes_on g.D.L.Link.traffic c.args.policy.now (g.M.Keeps.list root) (m.legal root) (m.now_of root) c.args.pass.now.number c.loop-alloc.pass.number o p p'
-    (d.faults c.loop-alloc.door) (d.faults c.serve_next.new.door) c.loop-alloc.served.items c.reserve.new.self.items c.serve_next.new.served.items inv.tales
+    (d.faults c.loop-alloc.w.door) (d.faults c.serve_next.new.w.door) c.loop-alloc.w.served.items c.reserve.new.self.items c.serve_next.new.w.served.items inv.tales
     inv.number c.reserve.ensures.items inv.worked inv.unworn c.in_default.ensures.works in
     let one = c.in_default.ensures.one refl in
     let kept = ap (λ (ss : List (Served g.row.D-L.Denot)). length ss) c.reserve.ensures.items in

@@ -2,6 +2,7 @@ use Rattle.std.proofs.Common.{◌≡◌, ◌≤◌, ◌+◌, ◌-◌, ◌*◌, �
 use Rattle.turn_lock.specs.Holders.{site_of}
 use Rattle.connection_laws.specs.Turns.{IsIdle}
 use Rattle.line_server.specs.Working.{Spot, Tale, Worked, AllUnworn, most_links}
+use Rattle.connection_laws.specs.Services.{service}
 use Rattle.line_server.proofs.workers.work_on.Given as goal
 
 abbrev pub invariant-loop-alloc : goal.invariant-loop-alloc
@@ -12,15 +13,15 @@ invariant-loop-alloc g l =
     let d = g.D.Door in
     record {
       tales : List (Tale g.row.D-L.Denot);
-      worked : Worked g.D.L.Link.traffic l.policy (g.M.Keeps.list root) (m.legal root) (m.now_of root) l.fn.pass.number
-          (record { pass = l.fn.pass; clock = k.readings l.fn.clock; door = d.links l.fn.door }) (record { pass = l.pass; clock = k.readings l.clock; door = d.links l.door }) l.served.items tales;
-      unworn : AllUnworn l.served.items;
+      worked : Worked g.D.L.Link.traffic (service l.policy (g.M.Keeps.list root) (m.legal root) (m.now_of root)) l.fn.pass.number
+          (record { pass = l.fn.pass; clock = k.readings l.fn.w.clock; door = d.links l.fn.w.door }) (record { pass = l.pass; clock = k.readings l.w.clock; door = d.links l.w.door }) l.w.served.items tales;
+      unworn : AllUnworn l.w.served.items;
       idle : IsIdle (site_of l.desk) l.pass;
       number : l.pass.number ≡ l.fn.pass.number;
-      calls : l.calls ≤ 67_108_864 * length l.served.items;
-      few : length l.served.items ≤ most_links;
-      faults : d.faults l.fn.door ≤ d.faults l.door;
+      calls : l.calls ≤ 67_108_864 * length l.w.served.items;
+      few : length l.w.served.items ≤ most_links;
+      faults : d.faults l.fn.w.door ≤ d.faults l.w.door;
     }
 
 abbrev pub decreases-loop-alloc : goal.decreases-loop-alloc
-decreases-loop-alloc g l = most_links - length l.served.items
+decreases-loop-alloc g l = most_links - length l.w.served.items
