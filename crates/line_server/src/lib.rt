@@ -3,6 +3,7 @@
 #![tactic(auto)]
 
 mod ended;
+mod keeping;
 mod laws;
 mod lines;
 mod posts;

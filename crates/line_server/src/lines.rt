@@ -9,9 +9,10 @@ ghost use Rattle.connection_laws.specs.Connection.{Answer};
 ghost use Rattle.connection_laws.specs.Desks.{IsNamedActor, AreNamed, RepliesCanBeTold};
 ghost use Rattle.connection_laws.specs.Services.{service_at};
 ghost use Rattle.connection_laws.specs.Turns.{IsIdle, IsReached};
-ghost use Rattle.connection_laws.specs.Acting.{IsTold, Decides, Acts, counted, CanCount, HasRoom, CountsUp};
+ghost use Rattle.connection_laws.specs.Acting.{moment, IsTold, Decides, Acts, counted, CanCount, HasRoom, CountsUp};
 ghost use Rattle.line_server.specs.Serving.{Sent, point, Goes};
 
+use crate::keeping::rest_before;
 use connection_laws::{LinkEnd, Server, Talk, Told, act, count};
 use gt_base::Machine;
 use gt_io::{Clock, Framed, Framer, Gate, Link, send_all};
@@ -64,6 +65,33 @@ fn settle<L: Link>(link: &mut L, talk: &mut Talk, told: &Told) -> Result<(), Lin
     send(link, told)
 }
 
+// Acts on a line, and keeps no turn where its reply is long.
+fn act_on<M: Machine, R: Wait, C: Clock, G: Gate>(
+    server: &Server<M, R, G>,
+    pass: &mut Pass<M>,
+    clock: &mut C,
+    talk: &mut Talk,
+    line: &[u8],
+) -> Told
+    requires idle { IsIdle (site_of server.now.desk.now) pass.old }
+    requires named { AreNamed server.now.policy.now (M.named server.now.desk.now.root) }
+    requires replies { RepliesCanBeTold server.now.policy.now (M.legal server.now.desk.now.root) }
+    requires actor { IsNamedActor server.now.policy.now talk.old.actor }
+    requires room { HasRoom talk.old 1 }
+    requires reached { IsReached (M.legal server.now.desk.now.root)
+        (M.now_of server.now.desk.now.root) pass.old.seen talk.old.reached }
+    ensures reached { IsReached (M.legal server.now.desk.now.root)
+        (M.now_of server.now.desk.now.root) pass.new.seen talk.new.reached }
+    ensures acts { Acts
+        (service_at M.list M.legal M.now_of server.now.desk.now server.now.policy.now)
+        (by pass.old.number server.now.conn) (moment pass.old talk.old (C.readings clock.old))
+        (moment pass.new talk.new (C.readings clock.new)) line.now result }
+{
+    let told = act(server, pass, clock, talk, line);
+    rest_before(server, pass, &told);
+    told
+}
+
 /// Takes one more byte, and acts on the line that it ends.
 pub(crate) fn take_byte<M: Machine, R: Wait, L: Link, C: Clock, G: Gate>(
     server: &Server<M, R, G>,
@@ -101,7 +129,7 @@ pub(crate) fn take_byte<M: Machine, R: Wait, L: Link, C: Clock, G: Gate>(
     match framer.push(byte) {
         Framed::More => Ok(()),
         Framed::Whole => {
-            let told = act(server, pass, clock, talk, framer.line());
+            let told = act_on(server, pass, clock, talk, framer.line());
             settle(link, talk, &told)
         }
         Framed::Long => settle(link, talk, &Told::Bad(LineFault::Long)),

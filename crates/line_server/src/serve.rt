@@ -12,6 +12,7 @@ ghost use Rattle.connection_laws.specs.Turns.{IsIdle, IsReached};
 ghost use Rattle.connection_laws.specs.Acting.{HasRoom, CountsUp};
 ghost use Rattle.line_server.specs.Serving.{point, link_view, Goes, IsStart, Converses, Serves, most_bytes};
 
+use crate::keeping::keep_turns;
 use crate::lines::take_byte;
 use connection_laws::{LinkEnd, Report, Server, Talk};
 use gt_base::{Actor, Machine};
@@ -26,7 +27,7 @@ use turn_lock::Pass;
 const MOST_BYTES: usize = 67_108_864;
 
 // Takes on a piece of bytes, up to the line in which the service is cut off.
-fn take_chunk<M: Machine, R: Wait, L: Link, C: Clock, G: Gate>(
+fn take_bytes<M: Machine, R: Wait, L: Link, C: Clock, G: Gate>(
     server: &Server<M, R, G>,
     pass: &mut Pass<M>,
     link: &mut L,
@@ -65,6 +66,47 @@ fn take_chunk<M: Machine, R: Wait, L: Link, C: Clock, G: Gate>(
         }
     }
     Ok(())
+}
+
+// The same, with one turn of the lock for many lines where that keeps nobody waiting for more than
+// the lines of the piece.
+fn take_chunk<M: Machine, R: Wait, L: Link, C: Clock, G: Gate>(
+    server: &Server<M, R, G>,
+    pass: &mut Pass<M>,
+    link: &mut L,
+    clock: &mut C,
+    framer: &mut Framer,
+    talk: &mut Talk,
+    chunk: &[u8],
+) -> Result<(), LinkEnd>
+    requires idle { IsIdle (site_of server.now.desk.now) pass.old }
+    requires named { AreNamed server.now.policy.now (M.named server.now.desk.now.root) }
+    requires replies { RepliesCanBeTold server.now.policy.now (M.legal server.now.desk.now.root) }
+    requires actor { IsNamedActor server.now.policy.now talk.old.actor }
+    requires room { HasRoom talk.old (length chunk.now) }
+    requires reached { IsReached (M.legal server.now.desk.now.root)
+        (M.now_of server.now.desk.now.root) pass.old.seen talk.old.reached }
+    ensures goes { Goes
+        (service_at M.list M.legal M.now_of server.now.desk.now server.now.policy.now)
+        (by pass.old.number server.now.conn)
+        (point pass.old talk.old (C.readings clock.old) (L.traffic link.old).given)
+        (point pass.new talk.new (C.readings clock.new) (L.traffic link.new).given)
+        framer.old framer.new chunk.now (L.traffic link.old).write_faults
+        (L.traffic link.new).write_faults result }
+    ensures pass { IsIdle (site_of server.now.desk.now) pass.new
+        × (pass.new.number ≡ pass.old.number) }
+    ensures actor { IsNamedActor server.now.policy.now talk.new.actor }
+    ensures counts { CountsUp talk.old talk.new (length chunk.now) }
+    ensures reached { IsReached (M.legal server.now.desk.now.root)
+        (M.now_of server.now.desk.now.root) pass.new.seen talk.new.reached }
+    ensures reads { ReadsNothing (L.traffic link.old) (L.traffic link.new) }
+    ensures faults { OnOk result
+        ((L.traffic link.new).write_faults ≡ (L.traffic link.old).write_faults) }
+{
+    keep_turns(server, pass);
+    let taken = take_bytes(server, pass, link, clock, framer, talk, chunk);
+    server.desk.rest(pass);
+    taken
 }
 
 // Reads some bytes, `left` at most.

@@ -17,7 +17,7 @@ use Rattle.line_server.proofs.lines.take_byte.Goals as goal
 
 pub settle-requires : goal.settle-requires
 settle-requires g c =
-    let e = c.act-told.ensures.acts.talk_is in
+    let e = c.act_on-told.ensures.acts.talk_is in
     let a = ap (λ (t : Talk). t.asked) e in
     let d = ap (λ (t : Talk). t.denied) e in
     let room = c.requires.room in
@@ -36,12 +36,12 @@ returns-in-More-clause-goes g c =
 pub returns-in-Whole-clause-goes : goal.returns-in-Whole-clause-goes
 returns-in-Whole-clause-goes g c =
     let m = g.M.Machine in
-    let x = c.act-told.ensures.acts in
+    let x = c.act_on-told.ensures.acts in
     λ o fed acted s.
     let w = whole_is c.args.framer.now fed c.args.byte s.frame_fits (sym c.push.ensures.answer ∙ c.in-Whole.is) in
     line_done c.args.server.now.policy.now (g.M.Keeps.list c.args.server.now.desk.now.root) (m.legal c.args.server.now.desk.now.root) (m.now_of c.args.server.now.desk.now.root) (by c.args.pass.now.number c.args.server.now.conn) o
-    c.args.pass.now c.act-told.new.pass c.args.talk.now c.act-told.new.talk c.settle.new.talk (g.C.Clock.readings c.args.clock.now) (g.C.Clock.readings c.act-told.new.clock)
-    (g.L.Link.traffic c.args.link.now) (g.L.Link.traffic c.settle.new.link) c.args.framer.now c.push.new.self fed c.line.result.now c.args.byte acted c.act-told.result c.settle.result
+    c.args.pass.now c.act_on-told.new.pass c.args.talk.now c.act_on-told.new.talk c.settle.new.talk (g.C.Clock.readings c.args.clock.now) (g.C.Clock.readings c.act_on-told.new.clock)
+    (g.L.Link.traffic c.args.link.now) (g.L.Link.traffic c.settle.new.link) c.args.framer.now c.push.new.self fed c.line.result.now c.args.byte acted c.act_on-told.result c.settle.result
     s w.0 (c.line.ensures ∙ ap (λ (f : Frame). f.bytes) c.push.ensures.frame ∙ w.1) c.push.ensures.frame x (c.settle.ensures.talk c.args.server.now.policy.now x.acted.answer x.told_is) (c.settle.ensures.sent c.args.server.now.policy.now x.acted.answer x.told_is) c.settle.ensures.worn
 
 pub returns-in-Long-clause-goes : goal.returns-in-Long-clause-goes

@@ -4,7 +4,7 @@ use Rattle.line_server.specs.Serving.{Goes}
 use Rattle.line_server.specs.Serving.{point}
 use Rattle.line_server.proofs.Chunks.{cut_behind, next_within}
 use Rattle.connection_laws.specs.Services.{service}
-use Rattle.line_server.proofs.serve.take_chunk.Goals as goal
+use Rattle.line_server.proofs.serve.take_bytes.Goals as goal
 
 pub returns-in-Err-clause-goes : goal.returns-in-Err-clause-goes
 returns-in-Err-clause-goes g c =

@@ -8,7 +8,7 @@ use Rattle.connection_laws.specs.Acting.{CountsUp}
 use Rattle.line_server.specs.Serving.{Goes}
 use Rattle.line_server.specs.Serving.{point}
 use Rattle.connection_laws.specs.Services.{service}
-use Rattle.line_server.proofs.serve.take_chunk.Given as goal
+use Rattle.line_server.proofs.serve.take_bytes.Given as goal
 
 abbrev pub invariant-loop-byte : goal.invariant-loop-byte
 invariant-loop-byte g l =
