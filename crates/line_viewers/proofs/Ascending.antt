@@ -1,5 +1,5 @@
 -- Numbers that never fall.
-use Rattle.std.proofs.Common.{◌≡◌, ℕ, ◌≤◌, List, [], ◌∷◌, ◌++◌, arith}
+use Rattle.std.proofs.Common.{ℕ, ◌≤◌, List, [], ◌∷◌, ◌++◌, arith}
 use Rattle.line_viewers.specs.Viewed.{Ascend}
 
 pub ascend_from : (low low' : ℕ) (xs : List ℕ) (high : ℕ) → low ≤ low' → Ascend low' xs high → Ascend low xs high

@@ -1,8 +1,7 @@
 -- How a service begins and ends.
-use Rattle.std.proofs.Common.{◌≡◌, ℕ, ◌+◌, ◌<◌, ◌≤◌, true, List, [], ◌∷◌, ◌++◌, length, refl, sym, ap, subst, ◌∙◌, arith, add-zero, append_assoc, append-nil, length-append, Option}
+use Rattle.std.proofs.Common.{◌≡◌, ℕ, ◌+◌, ◌≤◌, true, List, [], ◌∷◌, ◌++◌, length, refl, sym, ap, subst, ◌∙◌, arith, add-zero, append_assoc, append-nil, length-append, Option}
 use Rattle.std.specs.Io.KnownBytes.{Appends, Consumes, IsAtEnd}
 use Rattle.std.proofs.KnownBytes.{Appends-nil, Appends-trans, Consumes-trans}
-use mathlib.Core.List.{IsPrefix}
 use Rattle.gt_base.specs.declared.requests.Actor.{Actor}
 use Rattle.gt_base.specs.declared.requests.Entry.{Entry}
 use Rattle.gt_io.specs.Frames.{Frame, blank_frame}
@@ -11,15 +10,14 @@ use Rattle.gt_io.specs.Memory.{one_more}
 use Rattle.policy_words.specs.Naming.{NamedPolicy}
 use Rattle.connection_laws.specs.Desks.{IsNamedActor}
 use Rattle.connection_laws.specs.Cuts.{whole_lines}
-use Rattle.connection_laws.specs.Fits.{FrameFits}
 use Rattle.connection_laws.proofs.Cutting.{lines_more}
 use Rattle.connection_laws.proofs.Prefixes.{prefix_self}
 use Rattle.line_viewers.specs.declared.showing.Showing.{Showing}
 use Rattle.line_viewers.specs.declared.ends.ViewEnd.{ViewEnd}
 use Rattle.line_viewers.specs.declared.ends.ViewEnd.TheVariants.{Ended, ReadFault, WriteFault, Spent}
 use Rattle.line_viewers.specs.Boxes.{most_bytes, Stops}
-use Rattle.line_viewers.specs.Viewed.{Acted, lines_of, lens_of, text_of, Ascend, IsGiven, View}
-use Rattle.line_viewers.specs.Viewing.{IsStart, Point, point, HaveFailed, none_more, EndsBy, Going, Serving, Halted, Converses, Views}
+use Rattle.line_viewers.specs.Viewed.{Acted, lines_of, text_of, Ascend, IsGiven, View}
+use Rattle.line_viewers.specs.Viewing.{IsStart, Point, point, HaveFailed, none_more, EndsBy, Serving, Halted, Converses, Views}
 use Rattle.line_viewers.proofs.Completing.{complete_by}
 
 -- bytes that were read behind those that are held

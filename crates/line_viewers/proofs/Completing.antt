@@ -1,16 +1,13 @@
 -- A service that nothing hinders is complete.
-use Rattle.std.proofs.Common.{◌≡◌, ℕ, Bool, true, false, List, [], ◌∷◌, refl, sym, subst, arith, Result, Ok}
+use Rattle.std.proofs.Common.{◌≡◌, ℕ, Bool, true, false, List, [], ◌∷◌, refl, sym, subst, arith, Result}
 use Rattle.std.specs.Prelude.{MatchBool}
 use Rattle.gt_base.specs.declared.requests.Actor.{Actor}
-use Rattle.gt_base.specs.declared.requests.Actor.TheVariants.{Nobody}
 use Rattle.gt_base.specs.declared.requests.Request.{Request}
 use Rattle.gt_base.specs.declared.requests.Entry.{Entry}
 use Rattle.gt_io.specs.Links.{Traffic}
 use Rattle.policy_words.specs.Naming.{NamedPolicy}
 use Rattle.request_text.specs.declared.lines.Line.{Line}
-use Rattle.request_text.specs.declared.lines.Line.TheVariants.{Ask}
 use Rattle.request_text.specs.declared.lines.LineFault.{LineFault}
-use Rattle.request_text.specs.Phrases.{read_line}
 use Rattle.core_machine.specs.Looks.{is_look}
 use Rattle.line_viewers.specs.declared.ends.ViewEnd.{ViewEnd}
 use Rattle.line_viewers.specs.declared.ends.ViewEnd.TheVariants.{Ended, ReadFault, WriteFault, Spent}

@@ -1,9 +1,7 @@
 -- A line behind those that were acted on.
-use Rattle.std.proofs.Common.{◌≡◌, ℕ, ◌+◌, ◌<◌, ◌≤◌, Bool, true, false, List, [], ◌∷◌, ◌++◌, length, take, refl, sym, ap, subst, ◌∙◌, arith, append_assoc, Option, Result, Ok, Err}
+use Rattle.std.proofs.Common.{◌≡◌, ℕ, ◌+◌, ◌<◌, true, false, List, [], ◌∷◌, ◌++◌, length, take, refl, sym, ap, subst, ◌∙◌, arith, Option, Result, Ok, Err}
 use Rattle.std.specs.Prelude.{MatchResult}
-use Rattle.std.specs.Io.KnownBytes.{Appends}
 use Rattle.std.proofs.KnownBytes.{Appends-trans}
-use mathlib.Core.List.{IsPrefix}
 use Rattle.gt_base.specs.declared.requests.Actor.{Actor}
 use Rattle.gt_base.specs.declared.requests.Actor.TheVariants.{Nobody}
 use Rattle.gt_base.specs.declared.requests.Entry.{Entry}
@@ -15,7 +13,6 @@ use Rattle.request_text.specs.declared.lines.LineFault.{LineFault}
 use Rattle.request_text.specs.declared.lines.LineFault.TheVariants.{Long}
 use Rattle.request_text.specs.Phrases.{read_line}
 use Rattle.request_text.proofs.ReadBySpelling.{long_read}
-use Rattle.connection_laws.specs.Desks.{IsNamedActor}
 use Rattle.connection_laws.specs.Connection.{actor_by, one_where}
 use Rattle.connection_laws.specs.Cuts.{is_feed, whole_lines, open_line}
 use Rattle.connection_laws.specs.Fits.{FrameFits}
@@ -24,10 +21,9 @@ use Rattle.connection_laws.proofs.Framing.{fits_feed, fits_byte}
 use Rattle.connection_laws.proofs.Prefixes.{prefix_trans}
 use Rattle.line_viewers.specs.declared.showing.Showing.{Showing}
 use Rattle.line_viewers.specs.declared.showing.Told.{Told}
-use Rattle.line_viewers.specs.declared.showing.Told.TheVariants.{Bad}
 use Rattle.line_viewers.specs.declared.ends.ViewEnd.{ViewEnd}
-use Rattle.line_viewers.specs.Viewed.{Answer, bad, answer_text, is_denied, is_request, lens_in, Acted, Gets, actor_after, asked_in, lines_of, lens_of, text_of, AreActed, Ascend}
-use Rattle.line_viewers.specs.Viewing.{Acts, Sent, Point, point, Grows, Going, Serving, Halted}
+use Rattle.line_viewers.specs.Viewed.{Answer, answer_text, is_denied, is_request, lens_in, Acted, Gets, asked_in, lines_of, lens_of, text_of}
+use Rattle.line_viewers.specs.Viewing.{Acts, Sent, Point, point, Going, Serving, Halted}
 use Rattle.line_viewers.proofs.Ascending.{ascend_on}
 use Rattle.line_viewers.proofs.Longer.{acted_longer}
 

@@ -1,5 +1,5 @@
 -- A link behind those that were served.
-use Rattle.std.proofs.Common.{◌≡◌, ℕ, ◌≤◌, ◌<◌, List, [], ◌∷◌, ◌++◌, length, refl, sym, ap, subst, ◌∙◌, arith, append-nil, append_assoc, length-append, Option, Some, None, IfSome}
+use Rattle.std.proofs.Common.{◌≡◌, ℕ, ◌≤◌, List, [], ◌∷◌, ◌++◌, length, refl, sym, ap, subst, ◌∙◌, arith, append-nil, append_assoc, length-append, Option, Some, None, IfSome}
 use mathlib.Core.List.{IsPrefix}
 use Rattle.gt_base.specs.declared.requests.Entry.{Entry}
 use Rattle.gt_io.specs.Links.{Traffic, IsFresh, GivesFirst}
@@ -10,7 +10,7 @@ use Rattle.line_viewers.specs.declared.ends.ViewerEnd.{ViewerEnd}
 use Rattle.line_viewers.specs.declared.ends.ViewerEnd.TheVariants.{Fresh, Done, DoorFault, Enough, Memory}
 use Rattle.line_viewers.specs.Viewed.{Ascend}
 use Rattle.line_viewers.specs.Viewing.{Views}
-use Rattle.line_viewers.specs.Crew.{Tale, begun_of, all_lens, Gives, AddUp, Spot, ViewsTo, IsViewed, AreViewed, Worked, WorksOn, Works, most_links}
+use Rattle.line_viewers.specs.Crew.{Tale, begun_of, all_lens, Gives, AddUp, Spot, ViewsTo, IsViewed, AreViewed, Worked, WorksOn, Works}
 use Rattle.line_viewers.proofs.Ascending.{ascend_on}
 use Rattle.line_viewers.proofs.Longer.{acted_longer}
 

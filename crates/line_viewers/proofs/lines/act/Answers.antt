@@ -1,4 +1,4 @@
-use Rattle.std.proofs.Common.{◌≡◌, ◌+◌, ◌∙◌, sym, ap, Ok, Err}
+use Rattle.std.proofs.Common.{◌∙◌, sym, ap, Ok}
 use Rattle.line_viewers.proofs.Acting.{acts_ask, acts_silent, acts_be, acts_bad}
 use Rattle.line_viewers.proofs.NoMinutes.{no_minute}
 use Rattle.line_viewers.proofs.lines.act.Goals as goal

@@ -1,6 +1,5 @@
-use Rattle.std.proofs.Common.{◌≡◌, ◌≤◌, ◌+◌, ℕ, List, ◌++◌, length}
+use Rattle.std.proofs.Common.{◌≡◌, ◌+◌, ℕ, List, ◌++◌, length}
 use Rattle.std.specs.Io.KnownBytes.{Appends, Consumes}
-use Rattle.connection_laws.specs.Desks.{IsNamedActor}
 use Rattle.line_viewers.specs.Viewed.{Acted}
 use Rattle.line_viewers.specs.Viewing.{SameGlass, CountsUp, Serving, point}
 use Rattle.line_viewers.proofs.serve.converse.Given as goal

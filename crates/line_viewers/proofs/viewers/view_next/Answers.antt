@@ -1,4 +1,4 @@
-use Rattle.std.proofs.Common.{◌≡◌, List, sym, subst}
+use Rattle.std.proofs.Common.{List, sym, subst}
 use Rattle.line_viewers.specs.declared.ends.Viewed.{Viewed}
 use Rattle.line_viewers.specs.Crew.{Spot, Worked}
 use Rattle.line_viewers.proofs.Linking.{link_done}

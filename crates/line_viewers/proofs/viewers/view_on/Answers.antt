@@ -1,4 +1,4 @@
-use Rattle.std.proofs.Common.{◌≡◌, ℕ, ◌≤◌, ◌+◌, ◌*◌, List, [], length, sym, ap, subst, ◌∙◌, refl, arith, Some, None}
+use Rattle.std.proofs.Common.{ℕ, List, [], length, sym, ap, subst, ◌∙◌, refl, arith, Some, None}
 use Rattle.line_viewers.specs.declared.ends.Viewed.{Viewed}
 use Rattle.line_viewers.specs.Crew.{Spot, WorksOn}
 use Rattle.line_viewers.specs.Viewing.{GlancesCanBeTold}

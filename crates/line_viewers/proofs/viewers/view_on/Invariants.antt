@@ -1,5 +1,5 @@
-use Rattle.std.proofs.Common.{◌≡◌, ◌≤◌, ◌+◌, ◌-◌, ◌*◌, ℕ, List, length}
-use Rattle.line_viewers.specs.Crew.{Spot, Tale, AddUp, Worked, most_links}
+use Rattle.std.proofs.Common.{◌≤◌, ◌-◌, ◌*◌, List, length}
+use Rattle.line_viewers.specs.Crew.{Tale, AddUp, Worked, most_links}
 use Rattle.line_viewers.specs.Viewing.{SameGlass}
 use Rattle.line_viewers.proofs.viewers.view_on.Given as goal
 
