@@ -130,14 +130,18 @@ module _ (p : Policy) (birth : ℕ) (h : List Entry) (v : TimelineView) (tb : Ta
       by true e = refl
       by false e = none_at_birth v.birth v.trace (now_of birth h) (omega (arith, k.follows.born, ltb-false birth (now_of birth h) e)) line.ascends
 
-  -- what the timeline and the table answer, the history does
+  -- what the timeline and the table reply, the history does
+  pub replied : (actor : Actor) (request : Request) (reply : Reply) → reply_of p (point_of v tb) actor request ≡ reply
+      → reply ≡ reply_of p (point_after p birth m h) actor request
+  replied actor request reply told =
+      sym told
+      ∙ ap (unless (actor_causes actor)) (sym (unsignalled p (point_of v tb) k.waiting actor request))
+      ∙ (λ i. reply_of p (record { now = k.follows.now i; status = status_now i; set = set_now i; table = table_now i }) actor request)
+
   pub answered : (actor : Actor) (request : Request) (reply : Reply) → is_nobody actor ≡ false → answer p (point_of v tb) actor request ≡ reply
       → reply ≡ reply_of p (point_after p birth m h) actor request
   answered actor request reply somebody answers =
-      sym answers
-      ∙ sym (unsignalled p (point_of v tb) k.waiting actor request)
-      ∙ (λ i. answer p (record { now = k.follows.now i; status = status_now i; set = set_now i; table = table_now i }) actor request)
-      ∙ sym (passes actor (answer p (point_after p birth m h) actor request) somebody)
+      replied actor request reply (passes actor (answer p (point_of v tb) actor request) somebody ∙ answers)
 
   module _ (who : Who) (actor : Actor) (request : Request) (reply : Reply) (named : IsNamedWish p (ask actor request)) (room : length h < max_steps)
       (is : reply ≡ reply_of p (point_after p birth m h) actor request) where

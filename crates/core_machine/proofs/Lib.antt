@@ -3,6 +3,7 @@ pub mod Ticks
 pub mod Asks
 pub mod Walks
 pub mod Sames
+pub mod Stepping
 pub mod Raising
 pub mod Hierarchies
 pub mod Stops

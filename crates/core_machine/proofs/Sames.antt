@@ -10,12 +10,12 @@ use Rattle.gt_base.specs.declared.requests.Request.{Request}
 use Rattle.gt_base.specs.declared.requests.Reply.{Reply}
 use Rattle.gt_base.specs.Bounds.{max_steps}
 use Rattle.gtrbac_model.specs.History.{IsNamedWish, ask}
-use Rattle.gtrbac_model.specs.Reply.{answer}
+use Rattle.gtrbac_model.specs.Reply.{reply_of}
 use Rattle.gtrbac_model.specs.Sessions.{Table}
 use Rattle.session_table.specs.Tables.{table_of}
 use Rattle.session_table.specs.declared.tables.Sessions.{Sessions}
 use Rattle.core_machine.specs.Books.{Asks, BookView}
-use Rattle.core_machine.specs.Kept.{Kept, IsAnswer, IsKept, IsReady, Same, point_of, view_of}
+use Rattle.core_machine.specs.Kept.{Kept, IsKept, IsReady, IsReply, Same, point_of, view_of}
 use Rattle.session_table.specs.Plans.{DropsView}
 use Rattle.time_engine.specs.Plans.{PlanView}
 use Rattle.core_machine.specs.Steps.{IsClosing, as_step}
@@ -59,10 +59,13 @@ same_answered r s t who actor request new same h =
 pub same_refused : {T E : Type 0} (r : Result T E) (s t : State) (new : BookView) → Same s t → OnErr r (new ≡ view_of t) → OnErr r (new ≡ view_of s)
 same_refused r s t new same h = on_err_weaker r (λ e. e ∙ same_view s t same) h
 
+-- the reply is the same
+pub same_reply : (s t : State) (actor : Actor) (request : Request) (reply : Reply) → Same s t → IsReply s actor request reply → IsReply t actor request reply
+same_reply s t actor request reply same r = record { is = (λ i. reply_of (same.ground i).policy (point_of (same.line i) (same.table i)) actor request) ∙ r.is }
+
 -- a table that a refused request left
-pub refused_here : (s : State) (table : Sessions) (actor : Actor) (request : Request) (reply : Reply) → table_of table ≡ table_of s.table
-    → answer s.ground.policy (point_of s.line.line (table_of s.table)) actor request ≡ reply → IsAnswer (record s { table = table }) actor request reply
-refused_here s table actor request reply same is = record { is = ap (λ (t : Table). answer s.ground.policy (point_of s.line.line t) actor request) same ∙ is }
+pub same_table : (s : State) (table : Sessions) → table_of table ≡ table_of s.table → table.charged_to ≡ s.table.charged_to → Same s (record s { table = table })
+same_table s table same charged_to = record { ground = refl; birth = refl; line = refl; table = same; charged_to = charged_to; entries = refl }
 
 pub same_trans : (s t u : State) → Same s t → Same t u → Same s u
 same_trans s t u a b = record {

@@ -1,5 +1,5 @@
 -- Words of the steps of a book.
-use Rattle.std.specs.Prelude.{◌≡◌, ℕ, Bool, true, false, List, [], ◌∷◌, ◌||◌, Result, Ok, Err}
+use Rattle.std.specs.Prelude.{◌≡◌, ℕ, Bool, true, false, List, [], ◌∷◌, ◌||◌, Result, Ok, Err, IfOk, OnErr}
 use Rattle.gt_base.specs.Sets.{has}
 use Rattle.gt_base.specs.declared.machines.StepFault.{StepFault}
 use Rattle.gt_base.specs.declared.machines.StepFault.TheVariants.{Memory}
@@ -8,6 +8,7 @@ use Rattle.gt_base.specs.declared.events.Signal.{Signal}
 use Rattle.gt_base.specs.declared.requests.Actor.{Actor}
 use Rattle.gt_base.specs.declared.requests.Actor.TheVariants.{Nobody}
 use Rattle.gt_base.specs.declared.requests.Request.{Request}
+use Rattle.gt_base.specs.declared.requests.Who.{Who}
 use Rattle.gt_base.specs.declared.requests.Reply.{Reply}
 use Rattle.gtrbac_model.specs.Policy.{Policy}
 use Rattle.gtrbac_model.specs.Base.{queued_at}
@@ -17,10 +18,26 @@ use Rattle.instant_bases.specs.Timelines.{TimelineView, stirs_in}
 use Rattle.session_table.specs.NextDrops.{is_any_capped}
 use Rattle.session_table.specs.Plans.{DropsView, IsPlan as IsPlanOfDrops}
 use Rattle.time_engine.specs.Plans.{Fits, IsPlan, PlanView, with_signal}
+use Rattle.core_machine.specs.Books.{Asks}
+use Rattle.core_machine.specs.Kept.{IsKept, IsReady, view_of}
+use Rattle.core_machine.specs.declared.states.State.{State}
 
 abbrev pub is_nobody : Actor → Bool
 is_nobody Nobody = true
 is_nobody _ = false
+
+-- a user or the operator may ask this, and one entry more may be added
+pub record MayAsk (s : State) (actor : Actor) (request : Request) : Type 0 where
+  pub ready : IsReady s actor request
+  pub somebody : is_nobody actor ≡ false
+
+-- the request stands in the history with its reply, which is the definition's; where memory failed
+-- the book is as it was
+pub record IsStep (old new : State) (who : Who) (actor : Actor) (request : Request)
+    (result : Result Reply AllocError) : Type 0 where
+  pub kept : IsKept new
+  pub ok : IfOk result (λ reply. Asks (view_of old) who actor request reply (view_of new))
+  pub err : OnErr result (view_of new ≡ view_of old)
 
 -- the answered request queues nothing and leaves the table
 pub record IsStill (actor : Actor) (request : Request) (reply : Reply) : Type 0 where

@@ -1,11 +1,10 @@
 //! Answers a request by its kind; nobody is refused.
-ghost use Rattle.std.specs.Prelude.{◌≡◌, ◌<◌, ◌≤◌, false, length, IfOk, OnErr};
+ghost use Rattle.std.specs.Prelude.{◌≡◌};
 ghost use Rattle.gt_base.specs.declared.requests.Request.TheVariants.{Now as AskNow, Status as AskStatus, Seen as AskSeen, Raise, OpenSession, CloseSession, Activate, Deactivate, Active as AskActive, Check};
-ghost use Rattle.core_machine.specs.Books.{Asks};
-ghost use Rattle.core_machine.specs.Kept.{IsKept, IsReady, view_of};
-ghost use Rattle.core_machine.specs.Steps.{is_nobody as is_no_user};
+ghost use Rattle.core_machine.specs.Kept.{IsReady};
+ghost use Rattle.core_machine.specs.Steps.{IsStep, MayAsk, is_nobody as is_no_user};
 
-use crate::entering::{enter, raise};
+use crate::entering::{raise, tell};
 use crate::sessions::{activate, close_session, deactivate, open_session};
 use crate::states::State;
 use crate::telling::{tell_active, tell_decision, tell_now, tell_seen, tell_status};
@@ -20,12 +19,10 @@ pub(crate) fn answer(
     request: Request,
 ) -> Result<Reply, Memory>
     requires { IsReady s.old actor request }
-    ensures kept { IsKept s.new }
-    ensures ok { IfOk result (λ reply. Asks (view_of s.old) who actor request reply (view_of s.new)) }
-    ensures err { OnErr result (view_of s.new ≡ view_of s.old) }
+    ensures { IsStep s.old s.new who actor request result }
 {
     if is_nobody(actor) {
-        enter(s, who, actor, request, Reply::Refused(Refusal::NoUser))
+        tell(s, who, actor, request, Reply::Refused(Refusal::NoUser))
     } else {
         answer_somebody(s, who, actor, request)
     }
@@ -39,11 +36,8 @@ pub(crate) fn is_nobody(actor: Actor) -> bool
 
 /// Answers a request of a user or the operator.
 fn answer_somebody(s: &mut State, who: Who, actor: Actor, request: Request) -> Result<Reply, Memory>
-    requires ready { IsReady s.old actor request }
-    requires somebody { is_no_user actor ≡ false }
-    ensures kept { IsKept s.new }
-    ensures ok { IfOk result (λ reply. Asks (view_of s.old) who actor request reply (view_of s.new)) }
-    ensures err { OnErr result (view_of s.new ≡ view_of s.old) }
+    requires { MayAsk s.old actor request }
+    ensures { IsStep s.old s.new who actor request result }
 {
     match request {
         Request::Now => tell_now(s, who, actor),

@@ -145,8 +145,8 @@ impl Book {
         ensures value { result.now.items ≡ self.now.trace }
         ensures legal { IsLegalBook self.now }
         ensures only { HasOnlyModel self.now }
-        ensures bases { HasBases self.now.named.policy self.now.birth (model_in self.now) self.now.entries
-            self.now.trace }
+        ensures bases { HasBases self.now.named.policy self.now.birth (model_in self.now)
+            self.now.entries self.now.trace }
         ensures ascends { Ascends self.now.birth self.now.trace }
         ensures some { AreSome self.now.trace }
     {
@@ -166,8 +166,8 @@ impl Book {
     /// minute.
     pub fn timeline(&self) -> &Timeline
         ensures trace { result.now.line.trace ≡ self.now.trace }
-        ensures follows { Follows self.now.named.policy self.now.birth self.now.entries (model_in self.now)
-            result.now.line }
+        ensures follows { Follows self.now.named.policy self.now.birth self.now.entries
+            (model_in self.now) result.now.line }
         ensures waiting { HasWaiting self.now result.now.line }
     {
         &self.state.line
@@ -192,7 +192,8 @@ impl Book {
         ensures err { OnErr result (self.new ≡ self.old) }
         ensures full { result ≡ Err StepFault.StepsFull
             → (now_in self.old < upto) × (length self.old.entries ≡ max_steps) }
-        ensures room { OnOk result ((upto ≤ now_in self.old) ⊎ (length self.old.entries < max_steps)) }
+        ensures room { OnOk result
+            ((upto ≤ now_in self.old) ⊎ (length self.old.entries < max_steps)) }
     {
         let now = self.state.line.now();
         if upto <= now {

@@ -1,49 +1,23 @@
 //! Entries of answers, and events that are queued.
-ghost use Rattle.std.specs.Prelude.{◌≡◌, ◌<◌, ◌≤◌, ◌+◌, ◌++◌, ◌∷◌, [], true, false, length, IfOk, OnOk, OnErr};
-ghost use Rattle.gt_base.specs.Bounds.{last_minute};
+ghost use Rattle.std.specs.Prelude.{◌≡◌, ◌<◌, ◌≤◌, ◌+◌, ◌++◌, ◌∷◌, [], true, length, OnOk};
+ghost use Rattle.gt_base.specs.Machines.{asked};
 ghost use Rattle.gt_base.specs.declared.events.UserId.{UserId};
 ghost use Rattle.gt_base.specs.declared.requests.Actor.TheVariants.{User};
 ghost use Rattle.gt_base.specs.declared.requests.Request.TheVariants.{Raise};
 ghost use Rattle.gtrbac_model.specs.Reply.{is_admin as is_entitled};
-ghost use Rattle.core_machine.specs.Books.{Asks, reply_in};
-ghost use Rattle.core_machine.specs.Kept.{IsAnswer, IsKept, IsReady, Same, view_of};
-ghost use Rattle.core_machine.specs.Steps.{IsStill, is_nobody, with_signals};
+ghost use Rattle.core_machine.specs.Kept.{IsReady, IsReply, Same};
+ghost use Rattle.core_machine.specs.Steps.{IsStep, IsStill, MayAsk, with_signals};
 
 use crate::states::State;
-use gt_base::{Actor, Entry, Memory, Prioritised, Refusal, Reply, Request, Signal, Step, Who};
+use gt_base::{
+    Actor, Entry, List, Memory, Prioritised, Refusal, Reply, Request, Signal, Step, Who,
+};
 use policy_book::Policy;
 use std::alloc::AllocError;
 use time_engine::{RequestFault, Timeline};
 
-/// Adds the answer to a request that changes nothing, and gives it back.
-pub(crate) fn enter(
-    s: &mut State,
-    who: Who,
-    actor: Actor,
-    request: Request,
-    reply: Reply,
-) -> Result<Reply, Memory>
-    requires ready { IsReady s.old actor request }
-    requires answer { reply ≡ reply_in (view_of s.old) actor request }
-    requires still { IsStill actor request reply }
-    ensures kept { IsKept s.new }
-    ensures ok { IfOk result (λ r. Asks (view_of s.old) who actor request r (view_of s.new)) }
-    ensures err { OnErr result (view_of s.new ≡ view_of s.old) }
-{
-    s.line.keeps();
-    let answer = reply.copied()?;
-    s.entries.reserve(1)?;
-    let what = Step::Ask {
-        actor,
-        request,
-        reply,
-    };
-    s.entries.push(Entry { who, what });
-    Ok(answer)
-}
-
-/// Adds the answer that somebody gets from the timeline and the table, where it changes nothing,
-/// and gives it back.
+/// Adds the reply that the timeline and the table give, where it changes nothing, and gives it
+/// back.
 pub(crate) fn tell(
     s: &mut State,
     who: Who,
@@ -52,15 +26,34 @@ pub(crate) fn tell(
     reply: Reply,
 ) -> Result<Reply, Memory>
     requires ready { IsReady s.old actor request }
-    requires somebody { is_nobody actor ≡ false }
-    requires answer { IsAnswer s.old actor request reply }
+    requires told { IsReply s.old actor request reply }
     requires still { IsStill actor request reply }
-    ensures kept { IsKept s.new }
-    ensures ok { IfOk result (λ r. Asks (view_of s.old) who actor request r (view_of s.new)) }
-    ensures err { OnErr result (view_of s.new ≡ view_of s.old) }
+    ensures { IsStep s.old s.new who actor request result }
 {
     s.line.keeps();
-    enter(s, who, actor, request, reply)
+    let answer = reply.copied()?;
+    s.entries.reserve(1)?;
+    add_entry(&mut s.entries, who, actor, request, reply);
+    Ok(answer)
+}
+
+/// Adds the entry of an answered request, into room that was made before.
+pub(crate) fn add_entry(
+    entries: &mut List<Entry>,
+    who: Who,
+    actor: Actor,
+    request: Request,
+    reply: Reply,
+)
+    requires { 1 ≤ entries.old.spare }
+    ensures { entries.new.items ≡ entries.old.items ++ asked who actor request reply ∷ [] }
+{
+    let what = Step::Ask {
+        actor,
+        request,
+        reply,
+    };
+    entries.push(Entry { who, what });
 }
 
 /// Makes room for so many signals, and for an entry.
@@ -103,12 +96,8 @@ pub(crate) fn raise(
     head: Prioritised,
     delay: u32,
 ) -> Result<Reply, Memory>
-    requires ready { IsReady s.old actor (Raise head delay) }
-    requires somebody { is_nobody actor ≡ false }
-    ensures kept { IsKept s.new }
-    ensures ok { IfOk result
-        (λ reply. Asks (view_of s.old) who actor (Raise head delay) reply (view_of s.new)) }
-    ensures err { OnErr result (view_of s.new ≡ view_of s.old) }
+    requires { MayAsk s.old actor (Raise head delay) }
+    ensures { IsStep s.old s.new who actor (Raise head delay) result }
 {
     if is_admin(s.ground.policy(), actor) {
         make_room(s, 0)?;
@@ -127,33 +116,25 @@ fn queue(
     head: Prioritised,
     delay: u32,
 ) -> Result<Reply, Memory>
-    requires ready { IsReady s.old actor (Raise head delay) }
-    requires somebody { is_nobody actor ≡ false }
+    requires asks { MayAsk s.old actor (Raise head delay) }
     requires admin { is_entitled s.old.ground.policy actor ≡ true }
     requires room { 1 ≤ s.old.entries.spare }
-    ensures kept { IsKept s.new }
-    ensures ok { IfOk result
-        (λ reply. Asks (view_of s.old) who actor (Raise head delay) reply (view_of s.new)) }
-    ensures err { OnErr result (view_of s.new ≡ view_of s.old) }
+    ensures { IsStep s.old s.new who actor (Raise head delay) result }
 {
     s.line.keeps();
     let event = Prioritised {
         prio: head.prio,
         event: head.event,
     };
+    let request = Request::Raise { head, delay };
     match s.line.request(event, delay) {
         Ok(due) => {
-            let what = Step::Ask {
-                actor,
-                request: Request::Raise { head, delay },
-                reply: Reply::Queued(due),
-            };
-            s.entries.push(Entry { who, what });
+            add_entry(&mut s.entries, who, actor, request, Reply::Queued(due));
             Ok(Reply::Queued(due))
         }
         Err(RequestFault::Beyond { due }) => {
             let reply = Reply::Refused(Refusal::Beyond { due });
-            tell(s, who, actor, Request::Raise { head, delay }, reply)
+            tell(s, who, actor, request, reply)
         }
         Err(RequestFault::Memory) => Err(AllocError),
     }

@@ -1,5 +1,5 @@
 //! Requests that open, close or change sessions.
-ghost use Rattle.std.specs.Prelude.{◌≡◌, ◌<◌, ◌≤◌, ◌++◌, ◌∷◌, [], false, length, count_by, IfOk, IfErr, OnErr};
+ghost use Rattle.std.specs.Prelude.{◌≡◌, ◌<◌, ◌≤◌, ◌++◌, ◌∷◌, [], length, count_by, IfOk, IfErr, OnErr};
 ghost use Rattle.gt_base.specs.declared.requests.Actor.TheVariants.{User};
 ghost use Rattle.gt_base.specs.declared.requests.Request.TheVariants.{OpenSession, CloseSession, Activate, Deactivate};
 ghost use Rattle.gt_base.specs.declared.requests.Reply.TheVariants.{Active};
@@ -8,16 +8,14 @@ ghost use Rattle.gtrbac_model.specs.Sessions.{applied};
 ghost use Rattle.session_table.specs.Opened.{in_session};
 ghost use Rattle.session_table.specs.Replies.{OrRefused};
 ghost use Rattle.session_table.specs.Tables.{table_of};
-ghost use Rattle.core_machine.specs.Books.{Asks};
-ghost use Rattle.core_machine.specs.Kept.{IsKept, IsReady, point_of, view_of};
-ghost use Rattle.core_machine.specs.Steps.{is_nobody};
+ghost use Rattle.core_machine.specs.Kept.{point_of};
+ghost use Rattle.core_machine.specs.Steps.{IsStep, MayAsk};
 
-use crate::entering::{add_signals, make_room, tell};
+use crate::entering::{add_entry, add_signals, make_room, tell};
 use crate::prepared::Prepared;
 use crate::states::State;
 use gt_base::{
-    Actor, Entry, List, Memory, Refusal, Reply, Request, RoleId, SessionId, Signal, Step, UserId,
-    Walk, Who,
+    Actor, List, Memory, Refusal, Reply, Request, RoleId, SessionId, Signal, UserId, Walk, Who,
 };
 use session_table::{SessionFault, Sessions};
 use std::alloc::AllocError;
@@ -25,11 +23,8 @@ use time_engine::Timeline;
 
 /// Opens a session for the user.
 pub(crate) fn open_session(s: &mut State, who: Who, actor: Actor) -> Result<Reply, Memory>
-    requires ready { IsReady s.old actor OpenSession }
-    requires somebody { is_nobody actor ≡ false }
-    ensures kept { IsKept s.new }
-    ensures ok { IfOk result (λ reply. Asks (view_of s.old) who actor OpenSession reply (view_of s.new)) }
-    ensures err { OnErr result (view_of s.new ≡ view_of s.old) }
+    requires { MayAsk s.old actor OpenSession }
+    ensures { IsStep s.old s.new who actor OpenSession result }
 {
     match actor {
         Actor::User(user) => {
@@ -45,28 +40,20 @@ pub(crate) fn open_session(s: &mut State, who: Who, actor: Actor) -> Result<Repl
 
 /// Opens a session for the user, with room for the entry made before.
 fn begin(s: &mut State, who: Who, user: UserId) -> Result<Reply, Memory>
-    requires ready { IsReady s.old (User user) OpenSession }
+    requires asks { MayAsk s.old (User user) OpenSession }
     requires room { 1 ≤ s.old.entries.spare }
-    ensures kept { IsKept s.new }
-    ensures ok { IfOk result
-        (λ reply. Asks (view_of s.old) who (User user) OpenSession reply (view_of s.new)) }
-    ensures err { OnErr result (view_of s.new ≡ view_of s.old) }
+    ensures { IsStep s.old s.new who (User user) OpenSession result }
 {
     s.line.keeps();
     let actor = Actor::User(user);
+    let request = Request::OpenSession;
     match s.table.begin(user) {
         Ok(session) => {
-            let what = Step::Ask {
-                actor,
-                request: Request::OpenSession,
-                reply: Reply::Session(session),
-            };
-            s.entries.push(Entry { who, what });
+            add_entry(&mut s.entries, who, actor, request, Reply::Session(session));
             Ok(Reply::Session(session))
         }
         Err(SessionFault::Refused(refusal)) => {
-            let reply = Reply::Refused(refusal);
-            tell(s, who, actor, Request::OpenSession, reply)
+            tell(s, who, actor, request, Reply::Refused(refusal))
         }
         Err(SessionFault::Memory) => Err(AllocError),
     }
@@ -79,12 +66,8 @@ pub(crate) fn close_session(
     actor: Actor,
     session: SessionId,
 ) -> Result<Reply, Memory>
-    requires ready { IsReady s.old actor (CloseSession session) }
-    requires somebody { is_nobody actor ≡ false }
-    ensures kept { IsKept s.new }
-    ensures ok { IfOk result
-        (λ reply. Asks (view_of s.old) who actor (CloseSession session) reply (view_of s.new)) }
-    ensures err { OnErr result (view_of s.new ≡ view_of s.old) }
+    requires { MayAsk s.old actor (CloseSession session) }
+    ensures { IsStep s.old s.new who actor (CloseSession session) result }
 {
     let ending = s.table.most_in(session);
     make_room(s, ending)?;
@@ -93,26 +76,17 @@ pub(crate) fn close_session(
 
 /// Closes the session, with room for the signals and the entry made before.
 fn finish(s: &mut State, who: Who, actor: Actor, session: SessionId) -> Result<Reply, Memory>
-    requires ready { IsReady s.old actor (CloseSession session) }
-    requires somebody { is_nobody actor ≡ false }
+    requires asks { MayAsk s.old actor (CloseSession session) }
     requires room { 1 ≤ s.old.entries.spare }
     requires spare { count_by (in_session session) s.old.table.active ≤ s.old.line.spare }
-    ensures kept { IsKept s.new }
-    ensures ok { IfOk result
-        (λ reply. Asks (view_of s.old) who actor (CloseSession session) reply (view_of s.new)) }
-    ensures err { OnErr result (view_of s.new ≡ view_of s.old) }
+    ensures { IsStep s.old s.new who actor (CloseSession session) result }
 {
     s.line.keeps();
     let request = Request::CloseSession(session);
     match s.table.finish(actor, session) {
         Ok(signals) => {
             add_signals(&mut s.line, signals.as_slice());
-            let what = Step::Ask {
-                actor,
-                request,
-                reply: Reply::Done,
-            };
-            s.entries.push(Entry { who, what });
+            add_entry(&mut s.entries, who, actor, request, Reply::Done);
             Ok(Reply::Done)
         }
         Err(SessionFault::Refused(refusal)) => {
@@ -130,13 +104,8 @@ pub(crate) fn activate(
     session: SessionId,
     role: RoleId,
 ) -> Result<Reply, Memory>
-    requires ready { IsReady s.old actor (Activate session role) }
-    requires somebody { is_nobody actor ≡ false }
-    ensures kept { IsKept s.new }
-    ensures ok { IfOk result
-        (λ reply. Asks (view_of s.old) who actor (Activate session role) reply
-        (view_of s.new)) }
-    ensures err { OnErr result (view_of s.new ≡ view_of s.old) }
+    requires { MayAsk s.old actor (Activate session role) }
+    ensures { IsStep s.old s.new who actor (Activate session role) result }
 {
     let mut edges = List::new(s.alloc);
     edges.reserve(s.ground.policy().edges().len())?;
@@ -154,16 +123,11 @@ fn begin_role(
     role: RoleId,
     edges: List<u32>,
 ) -> Result<Reply, Memory>
-    requires ready { IsReady s.old actor (Activate session role) }
-    requires somebody { is_nobody actor ≡ false }
+    requires asks { MayAsk s.old actor (Activate session role) }
     requires room { 1 ≤ s.old.entries.spare }
     requires spare { 1 ≤ s.old.line.spare }
     requires edges { (edges.items ≡ []) × (length s.old.ground.policy.edges ≤ edges.spare) }
-    ensures kept { IsKept s.new }
-    ensures ok { IfOk result
-        (λ reply. Asks (view_of s.old) who actor (Activate session role) reply
-        (view_of s.new)) }
-    ensures err { OnErr result (view_of s.new ≡ view_of s.old) }
+    ensures { IsStep s.old s.new who actor (Activate session role) result }
 {
     s.line.keeps();
     let request = Request::Activate(session, role);
@@ -171,12 +135,7 @@ fn begin_role(
         Ok((walk, signal)) => {
             let answer = copy_into(edges, &walk);
             add_signals(&mut s.line, &[signal]);
-            let what = Step::Ask {
-                actor,
-                request,
-                reply: Reply::Active(walk),
-            };
-            s.entries.push(Entry { who, what });
+            add_entry(&mut s.entries, who, actor, request, Reply::Active(walk));
             Ok(Reply::Active(answer))
         }
         Err(SessionFault::Refused(refusal)) => {
@@ -246,13 +205,8 @@ pub(crate) fn deactivate(
     session: SessionId,
     role: RoleId,
 ) -> Result<Reply, Memory>
-    requires ready { IsReady s.old actor (Deactivate session role) }
-    requires somebody { is_nobody actor ≡ false }
-    ensures kept { IsKept s.new }
-    ensures ok { IfOk result
-        (λ reply. Asks (view_of s.old) who actor (Deactivate session role) reply
-        (view_of s.new)) }
-    ensures err { OnErr result (view_of s.new ≡ view_of s.old) }
+    requires { MayAsk s.old actor (Deactivate session role) }
+    ensures { IsStep s.old s.new who actor (Deactivate session role) result }
 {
     make_room(s, 1)?;
     end_role(s, who, actor, session, role)
@@ -266,27 +220,17 @@ fn end_role(
     session: SessionId,
     role: RoleId,
 ) -> Result<Reply, Memory>
-    requires ready { IsReady s.old actor (Deactivate session role) }
-    requires somebody { is_nobody actor ≡ false }
+    requires asks { MayAsk s.old actor (Deactivate session role) }
     requires room { 1 ≤ s.old.entries.spare }
     requires spare { 1 ≤ s.old.line.spare }
-    ensures kept { IsKept s.new }
-    ensures ok { IfOk result
-        (λ reply. Asks (view_of s.old) who actor (Deactivate session role) reply
-        (view_of s.new)) }
-    ensures err { OnErr result (view_of s.new ≡ view_of s.old) }
+    ensures { IsStep s.old s.new who actor (Deactivate session role) result }
 {
     s.line.keeps();
     let request = Request::Deactivate(session, role);
     match s.table.deactivate(actor, session, role) {
         Ok(signal) => {
             add_signals(&mut s.line, &[signal]);
-            let what = Step::Ask {
-                actor,
-                request,
-                reply: Reply::Done,
-            };
-            s.entries.push(Entry { who, what });
+            add_entry(&mut s.entries, who, actor, request, Reply::Done);
             Ok(Reply::Done)
         }
         Err(SessionFault::Refused(refusal)) => {

@@ -1,14 +1,13 @@
 //! Requests that only ask: the instant, a condition, an event of now, an active role, a permission.
-ghost use Rattle.std.specs.Prelude.{◌≡◌, false, IfOk, OnErr};
+ghost use Rattle.std.specs.Prelude.{◌≡◌, IfOk};
 ghost use Rattle.gt_base.specs.Sets.{has};
 ghost use Rattle.gt_base.specs.declared.requests.Request.TheVariants.{Now as AskNow, Status as AskStatus, Seen as AskSeen, Active as AskActive, Check};
 ghost use Rattle.gtrbac_model.specs.Same.{same_role, lists};
 ghost use Rattle.gtrbac_model.specs.Trigger.{holds as is_met};
 ghost use Rattle.session_table.specs.Replies.{Answers};
 ghost use Rattle.session_table.specs.Tables.{table_of};
-ghost use Rattle.core_machine.specs.Books.{Asks};
-ghost use Rattle.core_machine.specs.Kept.{IsAnswer, IsKept, IsReady, view_of};
-ghost use Rattle.core_machine.specs.Steps.{is_nobody};
+ghost use Rattle.core_machine.specs.Kept.{IsAnswer};
+ghost use Rattle.core_machine.specs.Steps.{IsStep, MayAsk};
 
 use crate::entering::tell;
 use crate::states::State;
@@ -19,11 +18,8 @@ use session_table::Sessions;
 
 /// Tells the instant now.
 pub(crate) fn tell_now(s: &mut State, who: Who, actor: Actor) -> Result<Reply, Memory>
-    requires ready { IsReady s.old actor AskNow }
-    requires somebody { is_nobody actor ≡ false }
-    ensures kept { IsKept s.new }
-    ensures ok { IfOk result (λ reply. Asks (view_of s.old) who actor AskNow reply (view_of s.new)) }
-    ensures err { OnErr result (view_of s.new ≡ view_of s.old) }
+    requires { MayAsk s.old actor AskNow }
+    ensures { IsStep s.old s.new who actor AskNow result }
 {
     let reply = Reply::Now(s.line.now());
     tell(s, who, actor, Request::Now, reply)
@@ -36,12 +32,8 @@ pub(crate) fn tell_status(
     actor: Actor,
     cond: Cond,
 ) -> Result<Reply, Memory>
-    requires ready { IsReady s.old actor (AskStatus cond) }
-    requires somebody { is_nobody actor ≡ false }
-    ensures kept { IsKept s.new }
-    ensures ok { IfOk result
-        (λ reply. Asks (view_of s.old) who actor (AskStatus cond) reply (view_of s.new)) }
-    ensures err { OnErr result (view_of s.new ≡ view_of s.old) }
+    requires { MayAsk s.old actor (AskStatus cond) }
+    ensures { IsStep s.old s.new who actor (AskStatus cond) result }
 {
     let reply = Reply::Truth(holds(s.line.status(), cond));
     tell(s, who, actor, Request::Status(cond), reply)
@@ -62,12 +54,8 @@ pub(crate) fn tell_seen(
     actor: Actor,
     event: Event,
 ) -> Result<Reply, Memory>
-    requires ready { IsReady s.old actor (AskSeen event) }
-    requires somebody { is_nobody actor ≡ false }
-    ensures kept { IsKept s.new }
-    ensures ok { IfOk result
-        (λ reply. Asks (view_of s.old) who actor (AskSeen event) reply (view_of s.new)) }
-    ensures err { OnErr result (view_of s.new ≡ view_of s.old) }
+    requires { MayAsk s.old actor (AskSeen event) }
+    ensures { IsStep s.old s.new who actor (AskSeen event) result }
 {
     let reply = Reply::Event(seen(s.line.happened(), event));
     tell(s, who, actor, Request::Seen(event), reply)
@@ -81,13 +69,8 @@ pub(crate) fn tell_active(
     session: SessionId,
     role: RoleId,
 ) -> Result<Reply, Memory>
-    requires ready { IsReady s.old actor (AskActive session role) }
-    requires somebody { is_nobody actor ≡ false }
-    ensures kept { IsKept s.new }
-    ensures ok { IfOk result
-        (λ reply. Asks (view_of s.old) who actor (AskActive session role) reply
-        (view_of s.new)) }
-    ensures err { OnErr result (view_of s.new ≡ view_of s.old) }
+    requires { MayAsk s.old actor (AskActive session role) }
+    ensures { IsStep s.old s.new who actor (AskActive session role) result }
 {
     let reply = is_active(&s.table, actor, session, role);
     tell(s, who, actor, Request::Active(session, role), reply)
@@ -118,12 +101,8 @@ pub(crate) fn tell_decision(
     session: SessionId,
     perm: PermId,
 ) -> Result<Reply, Memory>
-    requires ready { IsReady s.old actor (Check session perm) }
-    requires somebody { is_nobody actor ≡ false }
-    ensures kept { IsKept s.new }
-    ensures ok { IfOk result
-        (λ reply. Asks (view_of s.old) who actor (Check session perm) reply (view_of s.new)) }
-    ensures err { OnErr result (view_of s.new ≡ view_of s.old) }
+    requires { MayAsk s.old actor (Check session perm) }
+    ensures { IsStep s.old s.new who actor (Check session perm) result }
 {
     let reply = decision(s, actor, session, perm)?;
     tell(s, who, actor, Request::Check(session, perm), reply)

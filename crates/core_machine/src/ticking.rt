@@ -53,7 +53,8 @@ fn planned(s: &mut State, to: Instant) -> Result<(Plan, Drops), Memory>
     ensures drops { IfOk result
         (λ r. IsPlanOfDrops s.old.ground.policy.edges s.old.ground.policy.caps (has r.0.status)
         s.old.line.line.now to (table_of s.old.table) r.1) }
-    ensures drops_room { OnOk result (need_of s.old.line.line.now to s.new.table ≤ s.new.table.room) }
+    ensures drops_room { OnOk result
+        (need_of s.old.line.line.now to s.new.table ≤ s.new.table.room) }
 {
     let plan = s.line.plan(s.ground.ground(), to)?;
     let policy = s.ground.policy();
@@ -103,7 +104,8 @@ fn end_of(
     still: bool,
 ) -> Result<Drops, Memory>
     requires later { now < to }
-    requires still { still ≡ true → AllStand hierarchy.now (has status.now.set) (table_of table.old) }
+    requires still { still ≡ true
+        → AllStand hierarchy.now (has status.now.set) (table_of table.old) }
     ensures same { table_of table.new ≡ table_of table.old }
     ensures charged_to { table.new.charged_to ≡ table.old.charged_to }
     ensures room { OnOk result (need_of now to table.new ≤ table.new.room) }
@@ -124,28 +126,17 @@ fn stop(s: &State, upto: Instant) -> Instant
     ensures { IsNextStop (moves s.now.ground.policy s.now.line.line (table_of s.now.table))
         s.now.line.line.now upto result }
 {
-    let raised = next_raised(s.line.due(s.ground.ground()), upto);
-    next_drop(
-        s.table.next_drop(s.ground.policy().caps(), s.line.now()),
-        raised,
-    )
+    let raised = first_of(s.line.due(s.ground.ground()), upto);
+    let drops = s.table.next_drop(s.ground.policy().caps(), s.line.now());
+    first_of(drops, raised)
 }
 
-/// The next instant, where it is before the bound, else the bound.
-fn next_raised(next: Option<Instant>, upto: Instant) -> Instant
-    ensures { (test : ℕ → Bool) (now : ℕ) → IsNextOf test now next → now < upto
+/// The next instant at which something is raised, or at which an activation ends, where it is
+/// before the bound, else the bound.
+fn first_of(next: Option<Instant>, upto: Instant) -> Instant
+    ensures raised { (test : ℕ → Bool) (now : ℕ) → IsNextOf test now next → now < upto
         → IsNextStop test now upto result }
-{
-    let _bound = upto.minute();
-    match next {
-        Some(t) if t < upto => t,
-        _ => upto,
-    }
-}
-
-/// The same of a drop.
-fn next_drop(next: Option<Instant>, upto: Instant) -> Instant
-    ensures { (test : ℕ → Bool) (now : ℕ) → IsFirstOrNone test now next → now < upto
+    ensures drops { (test : ℕ → Bool) (now : ℕ) → IsFirstOrNone test now next → now < upto
         → IsNextStop test now upto result }
 {
     let _bound = upto.minute();
@@ -159,7 +150,8 @@ fn next_drop(next: Option<Instant>, upto: Instant) -> Instant
 fn close(s: &mut State, who: Who, upto: Instant, plan: Plan, drops: Drops)
     requires kept { IsKept s.old }
     requires room { length s.old.entries.items < max_steps }
-    requires closing { IsClosing s.old.ground.policy s.old.line.line (table_of s.old.table) upto plan drops }
+    requires closing { IsClosing s.old.ground.policy s.old.line.line (table_of s.old.table) upto
+        plan drops }
     requires plan_room { plan.need ≤ s.old.line.room }
     requires drops_room { need_of s.old.line.line.now plan.at s.old.table ≤ s.old.table.room }
     requires signals_room { length drops.signals ≤ s.old.line.spare }

@@ -1,18 +1,12 @@
-use Rattle.gt_base.specs.declared.requests.Request.TheVariants.{CloseSession, Activate, Deactivate}
-use Rattle.core_machine.proofs.Sames.{on_err, same_kept, same_view, same_ready, same_answered, same_refused}
+use Rattle.gt_base.specs.declared.requests.Request.TheVariants.{Deactivate}
+use Rattle.core_machine.proofs.Stepping.{may_after, no_step, step_after}
 use Rattle.core_machine.proofs.sessions.deactivate.Goals as goal
 
-pub returns-in_err-make_room-clause-kept : goal.returns-in_err-make_room-clause-kept
-returns-in_err-make_room-clause-kept c = same_kept c.args.s.now c.make_room.new.s c.in_err-make_room.ensures.same c.requires.ready.kept
+pub returns-in_err-make_room : goal.returns-in_err-make_room
+returns-in_err-make_room c = no_step c.args.s.now c.make_room.new.s c.args.who c.args.actor (Deactivate c.args.session c.args.role) c.from_residual.result c.from_residual.ensures.0 c.in_err-make_room.ensures.same c.requires.ready.kept
 
-pub returns-in_err-make_room-clause-err : goal.returns-in_err-make_room-clause-err
-returns-in_err-make_room-clause-err c = on_err _ (same_view c.args.s.now c.make_room.new.s c.in_err-make_room.ensures.same)
+pub end_role-requires-clause-asks : goal.end_role-requires-clause-asks
+end_role-requires-clause-asks c = may_after c.args.s.now c.make_room.new.s c.args.actor (Deactivate c.args.session c.args.role) c.in_ok-make_room.ensures.same c.requires
 
-pub end_role-requires-clause-ready : goal.end_role-requires-clause-ready
-end_role-requires-clause-ready c = same_ready c.args.s.now c.make_room.new.s c.args.actor (Deactivate c.args.session c.args.role) c.in_ok-make_room.ensures.same c.requires.ready
-
-pub returns-clause-ok : goal.returns-clause-ok
-returns-clause-ok c = same_answered _ c.args.s.now c.make_room.new.s _ _ _ _ c.in_ok-make_room.ensures.same c.end_role.ensures.ok
-
-pub returns-clause-err : goal.returns-clause-err
-returns-clause-err c = same_refused _ c.args.s.now c.make_room.new.s _ c.in_ok-make_room.ensures.same c.end_role.ensures.err
+pub returns : goal.returns
+returns c = step_after c.args.s.now c.make_room.new.s c.end_role.new.s c.args.who c.args.actor (Deactivate c.args.session c.args.role) c.end_role.result c.in_ok-make_room.ensures.same c.end_role.ensures
