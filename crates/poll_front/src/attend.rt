@@ -18,7 +18,8 @@ use gt_io::{Failed, Got, Ports, Took};
 fn push_out<P: Ports>(ports: &mut P, link: u32, text: &[u8], at: &mut usize) -> Result<(), Pause>
     requires open { IsOpen (P.harbour ports.old) link }
     requires within { at.old ≤ length text.now }
-    ensures { PushesOut (P.harbour ports.old) (P.harbour ports.new) link text.now at.old at.new result }
+    ensures { PushesOut (P.harbour ports.old) (P.harbour ports.new) link text.now at.old
+        at.new result }
 {
     while *at < text.len() {
         let (_, rest) = text.split_at(*at);
@@ -36,8 +37,8 @@ pub(crate) fn write_out<P: Ports>(ports: &mut P, link: u32, party: &mut Party) -
     requires open { IsOpen (P.harbour ports.old) link }
     requires within { party.old.at ≤ length (told_bytes party.old.told) }
     ensures same { party.new ≡ record party.old { at = party.new.at } }
-    ensures pushes { PushesOut (P.harbour ports.old) (P.harbour ports.new) link (told_bytes party.old.told)
-        party.old.at party.new.at result }
+    ensures pushes { PushesOut (P.harbour ports.old) (P.harbour ports.new) link
+        (told_bytes party.old.told) party.old.at party.new.at result }
 {
     push_out(ports, link, reply_of(&party.told), &mut party.at)
 }
@@ -60,7 +61,8 @@ pub(crate) fn fill<P: Ports>(ports: &mut P, link: u32, party: &mut Party) -> Res
     requires left { 0 < party.old.left }
     requires none { party.old.from ≡ party.old.upto }
     requires within { party.old.upto ≤ 4096 }
-    ensures fills { FillsUp (P.harbour ports.old) (P.harbour ports.new) link party.old party.new result }
+    ensures fills { FillsUp (P.harbour ports.old) (P.harbour ports.new) link party.old party.new
+        result }
     ensures size { length party.new.chunk ≡ 4096 }
 {
     match read_some(ports, link, &mut party.chunk, party.left) {

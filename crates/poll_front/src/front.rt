@@ -13,11 +13,12 @@ use crate::ends::{PollEnd, Polled};
 use crate::parties::{Pace, Party, Pause};
 use crate::seats::Seat;
 use crate::serve::attend;
+use connection_laws::Server;
 use gt_base::{List, Machine, Memory};
 use gt_io::{Clock, Gate, PortEvent, Ports};
 use locked_history::Desk;
 use policy_book::Policy;
-use std::alloc::{AllocError, Global};
+use std::alloc::Global;
 use std::sync::Wait;
 use turn_lock::Pass;
 
@@ -26,6 +27,16 @@ const MOST_OPEN: usize = 1024;
 
 /// How many links are opened at most.
 const MOST_LINKS: usize = 100_000;
+
+/// A front: its ports, its clock and its gate, and how each of its links ended, in the order in
+/// which they were opened.
+#[derive(Drop)]
+pub struct Front<P: Ports, C: Clock, G: Gate> {
+    pub ports: P,
+    pub clock: C,
+    pub gate: G,
+    pub ends: List<Polled>,
+}
 
 /// Why a run ended.
 #[derive(Clone, Copy, PartialEq, Eq, Debug)]
@@ -45,37 +56,34 @@ pub enum RunEnd {
 // Serves the link of a seat, which is ready, where it is open. It answers how the link ended, none
 // where it goes on or had ended before.
 fn serve_seat<M: Machine, R: Wait, P: Ports, C: Clock, G: Gate>(
-    rt: &R,
-    alloc: Global,
-    desk: &Desk<M>,
-    policy: &Policy,
+    server: &Server<M, R, G>,
     pass: &mut Pass<M>,
-    link: u32,
     ports: &mut P,
     clock: &mut C,
-    gate: &G,
     pace: &mut Pace,
     seat: &mut Seat,
 ) -> Option<PollEnd>
-    requires idle { IsIdle (site_of desk.now) pass.old }
-    requires named { AreNamed policy.now (M.named desk.now.root) }
-    requires replies { RepliesCanBeTold policy.now (M.legal desk.now.root) }
-    requires reached { IsReached (M.legal desk.now.root) (M.now_of desk.now.root) pass.old.seen pace.old.reached }
-    requires seat { CanServe policy.now (P.harbour ports.old) link pace.old seat.old }
-    ensures served { SeatServed policy.now (M.list desk.now.root) (M.legal desk.now.root)
-        (M.now_of desk.now.root) pass.old.number
+    requires idle { IsIdle (site_of server.now.desk.now) pass.old }
+    requires named { AreNamed server.now.policy.now (M.named server.now.desk.now.root) }
+    requires replies { RepliesCanBeTold server.now.policy.now (M.legal server.now.desk.now.root) }
+    requires reached { IsReached (M.legal server.now.desk.now.root)
+        (M.now_of server.now.desk.now.root) pass.old.seen pace.old.reached }
+    requires seat { CanServe server.now.policy.now (P.harbour ports.old) server.now.conn pace.old
+        seat.old }
+    ensures served { SeatServed server.now.policy.now (M.list server.now.desk.now.root)
+        (M.legal server.now.desk.now.root) (M.now_of server.now.desk.now.root) pass.old.number
         (record { pass = pass.old; clock = C.readings clock.old; pace = pace.old })
         (record { pass = pass.new; clock = C.readings clock.new; pace = pace.new })
-        (P.harbour ports.old) (P.harbour ports.new) link seat.old seat.new result }
-    ensures pass { IsIdle (site_of desk.now) pass.new × (pass.new.number ≡ pass.old.number) }
-    ensures reached { IsReached (M.legal desk.now.root) (M.now_of desk.now.root) pass.new.seen pace.new.reached }
+        (P.harbour ports.old) (P.harbour ports.new) server.now.conn seat.old seat.new result }
+    ensures pass { IsIdle (site_of server.now.desk.now) pass.new
+        × (pass.new.number ≡ pass.old.number) }
+    ensures reached { IsReached (M.legal server.now.desk.now.root)
+        (M.now_of server.now.desk.now.root) pass.new.seen pace.new.reached }
 {
     let Seat::Open(party) = seat else {
         return None;
     };
-    match attend(
-        rt, alloc, desk, policy, pass, link, ports, clock, gate, pace, party,
-    ) {
+    match attend(server, pass, ports, clock, pace, party) {
         Pause::Later => None,
         Pause::End(outcome) => {
             let polled = Polled {
@@ -83,7 +91,7 @@ fn serve_seat<M: Machine, R: Wait, P: Ports, C: Clock, G: Gate>(
                 denied: party.talk.denied,
                 outcome,
             };
-            ports.finish(link);
+            ports.finish(server.conn);
             *seat = Seat::Over(polled);
             Some(outcome)
         }
@@ -181,38 +189,35 @@ fn is_worn(end: PollEnd) -> bool
 
 // Serves the links until the run ends.
 fn serve_all<M: Machine, R: Wait, P: Ports, C: Clock, G: Gate>(
-    rt: &R,
-    alloc: Global,
-    desk: &Desk<M>,
-    policy: &Policy,
+    server: &Server<M, R, G>,
     pass: &mut Pass<M>,
     ports: &mut P,
     clock: &mut C,
-    gate: &G,
     pace: &mut Pace,
     seats: &mut Vec<Seat>,
     ends: &mut List<Polled>,
 ) -> RunEnd
-    requires idle { IsIdle (site_of desk.now) pass.old }
-    requires named { AreNamed policy.now (M.named desk.now.root) }
-    requires replies { RepliesCanBeTold policy.now (M.legal desk.now.root) }
+    requires idle { IsIdle (site_of server.now.desk.now) pass.old }
+    requires named { AreNamed server.now.policy.now (M.named server.now.desk.now.root) }
+    requires replies { RepliesCanBeTold server.now.policy.now (M.legal server.now.desk.now.root) }
     requires none { (seats.old.items ≡ []) × (ends.old.items ≡ []) }
     requires ports { IsUncalled (P.harbour ports.old) }
     requires pace { (pace.old.calls ≡ 0) × (pace.old.reached ≡ None) }
-    ensures went { Went policy.now (M.list desk.now.root) (M.legal desk.now.root) (M.now_of desk.now.root)
-        pass.old.number
+    ensures went { Went server.now.policy.now (M.list server.now.desk.now.root)
+        (M.legal server.now.desk.now.root) (M.now_of server.now.desk.now.root) pass.old.number
         (record { pass = pass.old; clock = C.readings clock.old; pace = pace.old })
         (record { pass = pass.new; clock = C.readings clock.new; pace = pace.new })
         (P.harbour ports.old) (P.harbour ports.new) seats.new.items result }
     ensures few { length seats.new.items ≤ 100_000 }
     ensures room { length seats.new.items ≤ ends.new.spare }
     ensures ends { ends.new.items ≡ [] }
-    ensures pass { IsIdle (site_of desk.now) pass.new × (pass.new.number ≡ pass.old.number) }
+    ensures pass { IsIdle (site_of server.now.desk.now) pass.new
+        × (pass.new.number ≡ pass.old.number) }
 {
     let mut busy = 0;
     let mut spare = None;
-    for _ in rt.forever() {
-        if make_room(alloc, seats, ends, &mut spare).is_err() {
+    for _ in server.rt.forever() {
+        if make_room(server.alloc, seats, ends, &mut spare).is_err() {
             return RunEnd::Memory;
         }
         match ports.next() {
@@ -223,10 +228,16 @@ fn serve_all<M: Machine, R: Wait, P: Ports, C: Clock, G: Gate>(
                 }
             }
             Ok(PortEvent::Ready(link)) => {
+                let of = Server {
+                    rt: server.rt,
+                    alloc: server.alloc,
+                    desk: server.desk,
+                    policy: server.policy,
+                    conn: link,
+                    gate: server.gate,
+                };
                 let seat = &mut seats[link as usize - 1];
-                if let Some(end) = serve_seat(
-                    rt, alloc, desk, policy, pass, link, ports, clock, gate, pace, seat,
-                ) {
+                if let Some(end) = serve_seat(&of, pass, ports, clock, pace, seat) {
                     busy -= 1;
                     if is_worn(end) {
                         return RunEnd::Worn;
@@ -254,38 +265,51 @@ fn let_go<P: Ports>(ports: &mut P, seats: &[Seat], ends: &mut List<Polled>)
     }
 }
 
-/// Serves links until the ports stop or fail, 100,000 were opened, the pass is worn, or there is no
-/// memory for a further link; lets the links go that are then open; and tells how each link ended,
-/// in their order. The pass is the only one of its desk.
+/// Serves the links of a front until its ports stop or fail, 100,000 were opened, the pass is worn,
+/// or there is no memory for a further link; lets the links go that are then open; and tells how
+/// each link ended, in their order. The pass is the only one of its desk. Each link is served as
+/// the connection of its own number.
 pub fn run<M: Machine, R: Wait, P: Ports, C: Clock, G: Gate>(
     rt: &R,
     alloc: Global,
     desk: &Desk<M>,
     policy: &Policy,
     pass: &mut Pass<M>,
-    ports: &mut P,
-    clock: &mut C,
-    gate: &G,
-    ends: &mut List<Polled>,
+    front: &mut Front<P, C, G>,
 ) -> RunEnd
     requires idle { IsIdle (site_of desk.now) pass.old }
     requires named { AreNamed policy.now (M.named desk.now.root) }
     requires replies { RepliesCanBeTold policy.now (M.legal desk.now.root) }
-    requires none { ends.old.items ≡ [] }
-    requires ports { IsUncalled (P.harbour ports.old) }
-    ensures ran { Ran policy.now (M.list desk.now.root) (M.legal desk.now.root) (M.now_of desk.now.root)
-        pass.old.number pass.old pass.new (C.readings clock.old) (C.readings clock.new)
-        (P.harbour ports.old) (P.harbour ports.new) ends.new.items result }
+    requires none { front.old.ends.items ≡ [] }
+    requires ports { IsUncalled (P.harbour front.old.ports) }
+    ensures ran { Ran policy.now (M.list desk.now.root) (M.legal desk.now.root)
+        (M.now_of desk.now.root) pass.old.number pass.old pass.new (C.readings front.old.clock)
+        (C.readings front.new.clock) (P.harbour front.old.ports) (P.harbour front.new.ports)
+        front.new.ends.items result }
     ensures pass { IsIdle (site_of desk.now) pass.new × (pass.new.number ≡ pass.old.number) }
 {
+    let server = Server {
+        rt,
+        alloc,
+        desk,
+        policy,
+        conn: 0,
+        gate: &front.gate,
+    };
     let mut seats = Vec::new(alloc);
     let mut pace = Pace {
         calls: 0,
         reached: None,
     };
     let end = serve_all(
-        rt, alloc, desk, policy, pass, ports, clock, gate, &mut pace, &mut seats, ends,
+        &server,
+        pass,
+        &mut front.ports,
+        &mut front.clock,
+        &mut pace,
+        &mut seats,
+        &mut front.ends,
     );
-    let_go(ports, &seats, ends);
+    let_go(&mut front.ports, &seats, &mut front.ends);
     end
 }

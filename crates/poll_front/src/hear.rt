@@ -7,43 +7,38 @@ ghost use Rattle.connection_laws.specs.Turns.{IsIdle, IsReached};
 ghost use Rattle.poll_front.specs.Fronts.{Hears, HasPlaces};
 
 use crate::parties::Pace;
-use connection_laws::{Talk, Told, act, count};
+use connection_laws::{Server, Talk, Told, act, count};
 use gt_base::Machine;
 use gt_io::{Clock, Gate};
-use locked_history::Desk;
-use policy_book::Policy;
-use std::alloc::Global;
 use std::sync::Wait;
 use turn_lock::Pass;
 
 /// Acts on a line of a link, but for its reply.
 pub(crate) fn hear<M: Machine, R: Wait, C: Clock, G: Gate>(
-    rt: &R,
-    alloc: Global,
-    desk: &Desk<M>,
-    policy: &Policy,
+    server: &Server<M, R, G>,
     pass: &mut Pass<M>,
-    link: u32,
     clock: &mut C,
-    gate: &G,
     pace: &mut Pace,
     talk: &mut Talk,
     line: &[u8],
 ) -> Told
-    requires idle { IsIdle (site_of desk.now) pass.old }
-    requires named { AreNamed policy.now (M.named desk.now.root) }
-    requires replies { RepliesCanBeTold policy.now (M.legal desk.now.root) }
-    requires actor { IsNamedActor policy.now talk.old.actor }
+    requires idle { IsIdle (site_of server.now.desk.now) pass.old }
+    requires named { AreNamed server.now.policy.now (M.named server.now.desk.now.root) }
+    requires replies { RepliesCanBeTold server.now.policy.now (M.legal server.now.desk.now.root) }
+    requires actor { IsNamedActor server.now.policy.now talk.old.actor }
     requires room { HasPlaces talk.old pace.old 1 }
-    requires reached { IsReached (M.legal desk.now.root) (M.now_of desk.now.root) pass.old.seen pace.old.reached }
-    ensures reached { IsReached (M.legal desk.now.root) (M.now_of desk.now.root) pass.new.seen pace.new.reached }
-    ensures hears { Hears policy.now (M.list desk.now.root) (M.legal desk.now.root) (M.now_of desk.now.root)
-        (by pass.old.number link) pass.old pass.new talk.old talk.new pace.old pace.new
+    requires reached { IsReached (M.legal server.now.desk.now.root)
+        (M.now_of server.now.desk.now.root) pass.old.seen pace.old.reached }
+    ensures reached { IsReached (M.legal server.now.desk.now.root)
+        (M.now_of server.now.desk.now.root) pass.new.seen pace.new.reached }
+    ensures hears { Hears server.now.policy.now (M.list server.now.desk.now.root)
+        (M.legal server.now.desk.now.root) (M.now_of server.now.desk.now.root)
+        (by pass.old.number server.now.conn) pass.old pass.new talk.old talk.new pace.old pace.new
         (C.readings clock.old) (C.readings clock.new) line.now result }
 {
     talk.calls = pace.calls;
     talk.reached = pace.reached;
-    let told = act(rt, alloc, desk, policy, pass, link, clock, gate, talk, line);
+    let told = act(server, pass, clock, talk, line);
     pace.calls = talk.calls;
     pace.reached = talk.reached;
     count(talk, &told);

@@ -8,5 +8,6 @@ use gt_base::Machine;
 /// told over the history of the closed desk; and the entries of that pass are those of its links'
 /// lines, in the order in which the lines were acted on.
 pub fn fronts_are_told<M: Machine>()
-    ensures { (root : M) (np : NamedPolicy) → IsTellingOfFronts M np (M.legal root) (M.now_of root) }
+    ensures { (root : M) (np : NamedPolicy)
+        → IsTellingOfFronts M np (M.legal root) (M.now_of root) }
 {}

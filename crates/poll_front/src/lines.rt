@@ -10,13 +10,10 @@ use crate::attend::write_out;
 use crate::ends::PollEnd;
 use crate::hear::hear;
 use crate::parties::{Pace, Party, Pause};
-use connection_laws::Told;
+use connection_laws::{Server, Told};
 use gt_base::Machine;
 use gt_io::{Clock, Framed, Gate, Ports};
-use locked_history::Desk;
-use policy_book::Policy;
 use request_text::LineFault;
-use std::alloc::Global;
 use std::sync::Wait;
 use turn_lock::Pass;
 
@@ -24,7 +21,8 @@ use turn_lock::Pass;
 fn tell<P: Ports>(ports: &mut P, link: u32, party: &mut Party, told: Told) -> Result<(), Pause>
     requires open { IsOpen (P.harbour ports.old) link }
     ensures same { party.new ≡ record party.old { told = told; at = party.new.at } }
-    ensures tells { Tells (P.harbour ports.old) (P.harbour ports.new) link told party.new.at result }
+    ensures tells { Tells (P.harbour ports.old) (P.harbour ports.new) link told party.new.at
+        result }
 {
     party.told = told;
     party.at = 0;
@@ -36,37 +34,35 @@ fn tell<P: Ports>(ports: &mut P, link: u32, party: &mut Party, told: Told) -> Re
 
 // Takes the next byte, and acts on the line that it ends.
 fn take_next<M: Machine, R: Wait, P: Ports, C: Clock, G: Gate>(
-    rt: &R,
-    alloc: Global,
-    desk: &Desk<M>,
-    policy: &Policy,
+    server: &Server<M, R, G>,
     pass: &mut Pass<M>,
-    link: u32,
     ports: &mut P,
     clock: &mut C,
-    gate: &G,
     pace: &mut Pace,
     party: &mut Party,
 ) -> Result<(), Pause>
-    requires idle { IsIdle (site_of desk.now) pass.old }
-    requires named { AreNamed policy.now (M.named desk.now.root) }
-    requires replies { RepliesCanBeTold policy.now (M.legal desk.now.root) }
-    requires actor { IsNamedActor policy.now party.old.talk.actor }
+    requires idle { IsIdle (site_of server.now.desk.now) pass.old }
+    requires named { AreNamed server.now.policy.now (M.named server.now.desk.now.root) }
+    requires replies { RepliesCanBeTold server.now.policy.now (M.legal server.now.desk.now.root) }
+    requires actor { IsNamedActor server.now.policy.now party.old.talk.actor }
     requires room { HasPlaces party.old.talk pace.old 1 }
-    requires reached { IsReached (M.legal desk.now.root) (M.now_of desk.now.root) pass.old.seen pace.old.reached }
-    requires open { IsOpen (P.harbour ports.old) link }
+    requires reached { IsReached (M.legal server.now.desk.now.root)
+        (M.now_of server.now.desk.now.root) pass.old.seen pace.old.reached }
+    requires open { IsOpen (P.harbour ports.old) server.now.conn }
     requires some { (party.old.from < party.old.upto) × (party.old.upto ≤ 4096) }
-    ensures goes { Goes policy.now (M.list desk.now.root) (M.legal desk.now.root) (M.now_of desk.now.root)
-        pass.old.number
+    ensures goes { Goes server.now.policy.now (M.list server.now.desk.now.root)
+        (M.legal server.now.desk.now.root) (M.now_of server.now.desk.now.root) pass.old.number
         (record { pass = pass.old; clock = C.readings clock.old; pace = pace.old })
         (record { pass = pass.new; clock = C.readings clock.new; pace = pace.new })
-        ((P.harbour ports.old).port link) ((P.harbour ports.new).port link) link party.old
-        party.new result }
-    ensures pass { IsIdle (site_of desk.now) pass.new × (pass.new.number ≡ pass.old.number) }
-    ensures actor { IsNamedActor policy.now party.new.talk.actor }
+        ((P.harbour ports.old).port server.now.conn) ((P.harbour ports.new).port server.now.conn)
+        server.now.conn party.old party.new result }
+    ensures pass { IsIdle (site_of server.now.desk.now) pass.new
+        × (pass.new.number ≡ pass.old.number) }
+    ensures actor { IsNamedActor server.now.policy.now party.new.talk.actor }
     ensures counts { Counts party.old.talk party.new.talk pace.old pace.new 1 }
-    ensures reached { IsReached (M.legal desk.now.root) (M.now_of desk.now.root) pass.new.seen pace.new.reached }
-    ensures tends { Tends (P.harbour ports.old) (P.harbour ports.new) link }
+    ensures reached { IsReached (M.legal server.now.desk.now.root)
+        (M.now_of server.now.desk.now.root) pass.new.seen pace.new.reached }
+    ensures tends { Tends (P.harbour ports.old) (P.harbour ports.new) server.now.conn }
     ensures one { (party.new.from ≡ party.old.from + 1) × (party.new.upto ≡ party.old.upto)
         × (party.new.left ≡ party.old.left) }
 {
@@ -76,64 +72,56 @@ fn take_next<M: Machine, R: Wait, P: Ports, C: Clock, G: Gate>(
         Framed::More => Ok(()),
         Framed::Whole => {
             let told = hear(
-                rt,
-                alloc,
-                desk,
-                policy,
+                server,
                 pass,
-                link,
                 clock,
-                gate,
                 pace,
                 &mut party.talk,
                 party.framer.line(),
             );
-            tell(ports, link, party, told)
+            tell(ports, server.conn, party, told)
         }
-        Framed::Long => tell(ports, link, party, Told::Bad(LineFault::Long)),
+        Framed::Long => tell(ports, server.conn, party, Told::Bad(LineFault::Long)),
     }
 }
 
 // Takes the bytes that wait, up to the line in which the link is left for another.
 pub(crate) fn take_rest<M: Machine, R: Wait, P: Ports, C: Clock, G: Gate>(
-    rt: &R,
-    alloc: Global,
-    desk: &Desk<M>,
-    policy: &Policy,
+    server: &Server<M, R, G>,
     pass: &mut Pass<M>,
-    link: u32,
     ports: &mut P,
     clock: &mut C,
-    gate: &G,
     pace: &mut Pace,
     party: &mut Party,
 ) -> Result<(), Pause>
-    requires idle { IsIdle (site_of desk.now) pass.old }
-    requires named { AreNamed policy.now (M.named desk.now.root) }
-    requires replies { RepliesCanBeTold policy.now (M.legal desk.now.root) }
-    requires actor { IsNamedActor policy.now party.old.talk.actor }
+    requires idle { IsIdle (site_of server.now.desk.now) pass.old }
+    requires named { AreNamed server.now.policy.now (M.named server.now.desk.now.root) }
+    requires replies { RepliesCanBeTold server.now.policy.now (M.legal server.now.desk.now.root) }
+    requires actor { IsNamedActor server.now.policy.now party.old.talk.actor }
     requires room { HasPlaces party.old.talk pace.old (party.old.upto - party.old.from) }
-    requires reached { IsReached (M.legal desk.now.root) (M.now_of desk.now.root) pass.old.seen pace.old.reached }
-    requires open { IsOpen (P.harbour ports.old) link }
+    requires reached { IsReached (M.legal server.now.desk.now.root)
+        (M.now_of server.now.desk.now.root) pass.old.seen pace.old.reached }
+    requires open { IsOpen (P.harbour ports.old) server.now.conn }
     requires some { (party.old.from ≤ party.old.upto) × (party.old.upto ≤ 4096) }
-    ensures goes { Goes policy.now (M.list desk.now.root) (M.legal desk.now.root) (M.now_of desk.now.root)
-        pass.old.number
+    ensures goes { Goes server.now.policy.now (M.list server.now.desk.now.root)
+        (M.legal server.now.desk.now.root) (M.now_of server.now.desk.now.root) pass.old.number
         (record { pass = pass.old; clock = C.readings clock.old; pace = pace.old })
         (record { pass = pass.new; clock = C.readings clock.new; pace = pace.new })
-        ((P.harbour ports.old).port link) ((P.harbour ports.new).port link) link party.old
-        party.new result }
-    ensures pass { IsIdle (site_of desk.now) pass.new × (pass.new.number ≡ pass.old.number) }
-    ensures actor { IsNamedActor policy.now party.new.talk.actor }
-    ensures counts { Counts party.old.talk party.new.talk pace.old pace.new (party.old.upto - party.old.from) }
-    ensures reached { IsReached (M.legal desk.now.root) (M.now_of desk.now.root) pass.new.seen pace.new.reached }
-    ensures tends { Tends (P.harbour ports.old) (P.harbour ports.new) link }
+        ((P.harbour ports.old).port server.now.conn) ((P.harbour ports.new).port server.now.conn)
+        server.now.conn party.old party.new result }
+    ensures pass { IsIdle (site_of server.now.desk.now) pass.new
+        × (pass.new.number ≡ pass.old.number) }
+    ensures actor { IsNamedActor server.now.policy.now party.new.talk.actor }
+    ensures counts { Counts party.old.talk party.new.talk pace.old pace.new
+        (party.old.upto - party.old.from) }
+    ensures reached { IsReached (M.legal server.now.desk.now.root)
+        (M.now_of server.now.desk.now.root) pass.new.seen pace.new.reached }
+    ensures tends { Tends (P.harbour ports.old) (P.harbour ports.new) server.now.conn }
     ensures all { OnOk result (party.new.from ≡ party.new.upto) }
     ensures kept { (party.new.upto ≡ party.old.upto) × (party.new.left ≡ party.old.left) }
 {
     while party.from < party.upto {
-        if let Err(pause) = take_next(
-            rt, alloc, desk, policy, pass, link, ports, clock, gate, pace, party,
-        ) {
+        if let Err(pause) = take_next(server, pass, ports, clock, pace, party) {
             return Err(pause);
         }
     }

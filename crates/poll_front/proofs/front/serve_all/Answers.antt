@@ -17,7 +17,7 @@ pub loop-init : goal.loop-init
 loop-init g c =
     let m = g.M.Machine in
     let k = g.C.Clock in
-    let root = c.args.desk.now.root in
+    let root = c.args.server.now.desk.now.root in
     let start = g.P.Ports.harbour c.args.ports.now in
     let o : Spot g.row.M.Denot = record { pass = c.args.pass.now; clock = k.readings c.args.clock.now; pace = c.args.pace.now } in
     let empty = c.requires.none.0 in
@@ -25,7 +25,7 @@ loop-init g c =
     let opened = c.requires.ports.1 in
     record {
       turns = [];
-      tabled = tabled_none c.args.policy.now (g.M.Keeps.list root) (m.legal root) (m.now_of root) c.args.pass.now.number o start c.args.seats.now.items opened empty;
+      tabled = tabled_none c.args.server.now.policy.now (g.M.Keeps.list root) (m.legal root) (m.now_of root) c.args.pass.now.number o start c.args.seats.now.items opened empty;
       unworn = λ i s at. let within = slice_get_within c.args.seats.now.items i s at in absurd (omega (arith, within, none));
       few = omega (arith, none);
       unowed = λ j q. let last = q.last in let one = q.first in absurd (omega (arith, last, one, opened));
@@ -42,20 +42,20 @@ pub next-requires-in-loop-clause-finished : goal.next-requires-in-loop-clause-fi
 next-requires-in-loop-clause-finished g c =
     let m = g.M.Machine in
     let k = g.C.Clock in
-    let root = c.args.desk.now.root in
+    let root = c.args.server.now.desk.now.root in
     let h = g.P.Ports.harbour in
     let inv = c.loop.invariant in
     let o : Spot g.row.M.Denot = record { pass = c.args.pass.now; clock = k.readings c.args.clock.now; pace = c.args.pace.now } in
     let p : Spot g.row.M.Denot = record { pass = c.loop.pass; clock = k.readings c.loop.clock; pace = c.loop.pace } in
     let start = h c.args.ports.now in
     let a = h c.loop.ports in
-    are_finished c.args.policy.now (g.M.Keeps.list root) (m.legal root) (m.now_of root) c.args.pass.now.number o p start a c.loop.seats.items c.loop.busy inv.turns inv.tabled
+    are_finished c.args.server.now.policy.now (g.M.Keeps.list root) (m.legal root) (m.now_of root) c.args.pass.now.number o p start a c.loop.seats.items c.loop.busy inv.turns inv.tabled
 
 pub returns-then-len-eq-MOST_LINKS-clause-went : goal.returns-then-len-eq-MOST_LINKS-clause-went
 returns-then-len-eq-MOST_LINKS-clause-went g c =
     let m = g.M.Machine in
     let k = g.C.Clock in
-    let root = c.args.desk.now.root in
+    let root = c.args.server.now.desk.now.root in
     let h = g.P.Ports.harbour in
     let inv = c.loop.invariant in
     let o : Spot g.row.M.Denot = record { pass = c.args.pass.now; clock = k.readings c.args.clock.now; pace = c.args.pace.now } in
@@ -66,7 +66,7 @@ returns-then-len-eq-MOST_LINKS-clause-went g c =
     let seats = c.make_room.new.seats.items in
     let busy = c.loop.busy in
     let turns = inv.turns in
-    let x : Tabled c.args.policy.now (g.M.Keeps.list root) (m.legal root) (m.now_of root) c.args.pass.now.number o p start a seats busy turns = subst (λ (l : List Seat). Tabled c.args.policy.now (g.M.Keeps.list root) (m.legal root) (m.now_of root) c.args.pass.now.number o p start a l busy turns) (sym c.make_room.ensures.seats) inv.tabled in
+    let x : Tabled c.args.server.now.policy.now (g.M.Keeps.list root) (m.legal root) (m.now_of root) c.args.pass.now.number o p start a seats busy turns = subst (λ (l : List Seat). Tabled c.args.server.now.policy.now (g.M.Keeps.list root) (m.legal root) (m.now_of root) c.args.pass.now.number o p start a l busy turns) (sym c.make_room.ensures.seats) inv.tabled in
     let calm = subst AreUnwornSeats (sym c.make_room.ensures.seats) inv.unworn in
     let same_seats = ap (λ (l : List Seat). length l) c.make_room.ensures.seats in
     let few = inv.few in
@@ -75,9 +75,9 @@ returns-then-len-eq-MOST_LINKS-clause-went g c =
     let is = n.happens.number link refl in
     let d = h c.seat_next.new.ports in
     let low = inv.low in
-    let t : Seated c.args.policy.now (g.M.Keeps.list root) (m.legal root) (m.now_of root) c.args.pass.now.number o p start a b seats busy turns x inv.unowed calm d c.seat_next.new.seats.items c.seat_next.new.busy =
-    dite (dec_lt busy 1024) (λ few_open. let q = c.seat_next.ensures.seated few_open in opened_seated c.args.policy.now (g.M.Keeps.list root) (m.legal root) (m.now_of root) c.args.pass.now.number o p start a b seats busy turns x inv.unowed calm link is n.happens d c.seat_next.new.seats.items c.seat_next.new.busy q.2.0 few_open (ap h q.0) q.1 q.2.1 q.2.2) (λ many.
-    let q = c.seat_next.ensures.full (omega (arith, many)) in opened_full c.args.policy.now (g.M.Keeps.list root) (m.legal root) (m.now_of root) c.args.pass.now.number o p start a b seats busy turns x inv.unowed calm link is n.happens d c.seat_next.new.seats.items c.seat_next.new.busy (omega (arith, many)) low q.0 q.1 q.3) in
+    let t : Seated c.args.server.now.policy.now (g.M.Keeps.list root) (m.legal root) (m.now_of root) c.args.pass.now.number o p start a b seats busy turns x inv.unowed calm d c.seat_next.new.seats.items c.seat_next.new.busy =
+    dite (dec_lt busy 1024) (λ few_open. let q = c.seat_next.ensures.seated few_open in opened_seated c.args.server.now.policy.now (g.M.Keeps.list root) (m.legal root) (m.now_of root) c.args.pass.now.number o p start a b seats busy turns x inv.unowed calm link is n.happens d c.seat_next.new.seats.items c.seat_next.new.busy q.2.0 few_open (ap h q.0) q.1 q.2.1 q.2.2) (λ many.
+    let q = c.seat_next.ensures.full (omega (arith, many)) in opened_full c.args.server.now.policy.now (g.M.Keeps.list root) (m.legal root) (m.now_of root) c.args.pass.now.number o p start a b seats busy turns x inv.unowed calm link is n.happens d c.seat_next.new.seats.items c.seat_next.new.busy (omega (arith, many)) low q.0 q.1 q.3) in
     let all = c.if-len-eq-MOST_LINKS.true in
     let count = c.len.ensures in
     let ok = c.seat_next.new.seats.ok.0 in
@@ -87,7 +87,7 @@ pub loop-preserved-else-len-eq-MOST_LINKS : goal.loop-preserved-else-len-eq-MOST
 loop-preserved-else-len-eq-MOST_LINKS g c =
     let m = g.M.Machine in
     let k = g.C.Clock in
-    let root = c.args.desk.now.root in
+    let root = c.args.server.now.desk.now.root in
     let h = g.P.Ports.harbour in
     let inv = c.loop.invariant in
     let o : Spot g.row.M.Denot = record { pass = c.args.pass.now; clock = k.readings c.args.clock.now; pace = c.args.pace.now } in
@@ -98,7 +98,7 @@ loop-preserved-else-len-eq-MOST_LINKS g c =
     let seats = c.make_room.new.seats.items in
     let busy = c.loop.busy in
     let turns = inv.turns in
-    let x : Tabled c.args.policy.now (g.M.Keeps.list root) (m.legal root) (m.now_of root) c.args.pass.now.number o p start a seats busy turns = subst (λ (l : List Seat). Tabled c.args.policy.now (g.M.Keeps.list root) (m.legal root) (m.now_of root) c.args.pass.now.number o p start a l busy turns) (sym c.make_room.ensures.seats) inv.tabled in
+    let x : Tabled c.args.server.now.policy.now (g.M.Keeps.list root) (m.legal root) (m.now_of root) c.args.pass.now.number o p start a seats busy turns = subst (λ (l : List Seat). Tabled c.args.server.now.policy.now (g.M.Keeps.list root) (m.legal root) (m.now_of root) c.args.pass.now.number o p start a l busy turns) (sym c.make_room.ensures.seats) inv.tabled in
     let calm = subst AreUnwornSeats (sym c.make_room.ensures.seats) inv.unworn in
     let same_seats = ap (λ (l : List Seat). length l) c.make_room.ensures.seats in
     let few = inv.few in
@@ -107,9 +107,9 @@ loop-preserved-else-len-eq-MOST_LINKS g c =
     let is = n.happens.number link refl in
     let d = h c.seat_next.new.ports in
     let low = inv.low in
-    let t : Seated c.args.policy.now (g.M.Keeps.list root) (m.legal root) (m.now_of root) c.args.pass.now.number o p start a b seats busy turns x inv.unowed calm d c.seat_next.new.seats.items c.seat_next.new.busy =
-    dite (dec_lt busy 1024) (λ few_open. let q = c.seat_next.ensures.seated few_open in opened_seated c.args.policy.now (g.M.Keeps.list root) (m.legal root) (m.now_of root) c.args.pass.now.number o p start a b seats busy turns x inv.unowed calm link is n.happens d c.seat_next.new.seats.items c.seat_next.new.busy q.2.0 few_open (ap h q.0) q.1 q.2.1 q.2.2) (λ many.
-    let q = c.seat_next.ensures.full (omega (arith, many)) in opened_full c.args.policy.now (g.M.Keeps.list root) (m.legal root) (m.now_of root) c.args.pass.now.number o p start a b seats busy turns x inv.unowed calm link is n.happens d c.seat_next.new.seats.items c.seat_next.new.busy (omega (arith, many)) low q.0 q.1 q.3) in
+    let t : Seated c.args.server.now.policy.now (g.M.Keeps.list root) (m.legal root) (m.now_of root) c.args.pass.now.number o p start a b seats busy turns x inv.unowed calm d c.seat_next.new.seats.items c.seat_next.new.busy =
+    dite (dec_lt busy 1024) (λ few_open. let q = c.seat_next.ensures.seated few_open in opened_seated c.args.server.now.policy.now (g.M.Keeps.list root) (m.legal root) (m.now_of root) c.args.pass.now.number o p start a b seats busy turns x inv.unowed calm link is n.happens d c.seat_next.new.seats.items c.seat_next.new.busy q.2.0 few_open (ap h q.0) q.1 q.2.1 q.2.2) (λ many.
+    let q = c.seat_next.ensures.full (omega (arith, many)) in opened_full c.args.server.now.policy.now (g.M.Keeps.list root) (m.legal root) (m.now_of root) c.args.pass.now.number o p start a b seats busy turns x inv.unowed calm link is n.happens d c.seat_next.new.seats.items c.seat_next.new.busy (omega (arith, many)) low q.0 q.1 q.3) in
     let room = ok_by c.make_room.result ((vec_len c.make_room.new.seats < vec_capacity c.make_room.new.seats) × (vec_len c.make_room.new.seats + 1 ≤ c.make_room.new.ends.spare)) (sym c.is_err.ensures.value ∙ c.if-is_err.false) c.make_room.ensures.room in
     let long_seats = c.make_room.new.seats.ok.0 in
     let spare = room.1 in
@@ -136,7 +136,7 @@ pub serve_seat-requires-clause-seat : goal.serve_seat-requires-clause-seat
 serve_seat-requires-clause-seat g c =
     let m = g.M.Machine in
     let k = g.C.Clock in
-    let root = c.args.desk.now.root in
+    let root = c.args.server.now.desk.now.root in
     let h = g.P.Ports.harbour in
     let inv = c.loop.invariant in
     let o : Spot g.row.M.Denot = record { pass = c.args.pass.now; clock = k.readings c.args.clock.now; pace = c.args.pace.now } in
@@ -147,7 +147,7 @@ serve_seat-requires-clause-seat g c =
     let seats = c.make_room.new.seats.items in
     let busy = c.loop.busy in
     let turns = inv.turns in
-    let x : Tabled c.args.policy.now (g.M.Keeps.list root) (m.legal root) (m.now_of root) c.args.pass.now.number o p start a seats busy turns = subst (λ (l : List Seat). Tabled c.args.policy.now (g.M.Keeps.list root) (m.legal root) (m.now_of root) c.args.pass.now.number o p start a l busy turns) (sym c.make_room.ensures.seats) inv.tabled in
+    let x : Tabled c.args.server.now.policy.now (g.M.Keeps.list root) (m.legal root) (m.now_of root) c.args.pass.now.number o p start a seats busy turns = subst (λ (l : List Seat). Tabled c.args.server.now.policy.now (g.M.Keeps.list root) (m.legal root) (m.now_of root) c.args.pass.now.number o p start a l busy turns) (sym c.make_room.ensures.seats) inv.tabled in
     let calm = subst AreUnwornSeats (sym c.make_room.ensures.seats) inv.unworn in
     let same_seats = ap (λ (l : List Seat). length l) c.make_room.ensures.seats in
     let few = inv.few in
@@ -161,14 +161,14 @@ serve_seat-requires-clause-seat g c =
     let low : link - 1 < length seats = omega (arith, one, last, opened) in
     let at : slice_get seats (link - 1) ≡ Some seat = slice_get-get_or seats (link - 1) seat low ∙ ap Some (sym c.index_mut-seat.ensures.value) in
     let opened_b = n.happens.opened in
-    can_serve c.args.policy.now (start.port link) b link c.loop.pace (acted_of link turns) seat one (omega (arith, last, opened_b)) (ready_sits c.args.policy.now (g.M.Keeps.list root) (m.legal root) (m.now_of root) c.args.pass.now.number o p start a b seats busy turns x inv.unowed calm link n.happens seat one at)
-    (pace_few c.args.policy.now (g.M.Keeps.list root) (m.legal root) (m.now_of root) c.args.pass.now.number o p start a seats busy turns x (omega (arith, few, same_seats)) c.requires.pace.0)
+    can_serve c.args.server.now.policy.now (start.port link) b link c.loop.pace (acted_of link turns) seat one (omega (arith, last, opened_b)) (ready_sits c.args.server.now.policy.now (g.M.Keeps.list root) (m.legal root) (m.now_of root) c.args.pass.now.number o p start a b seats busy turns x inv.unowed calm link n.happens seat one at)
+    (pace_few c.args.server.now.policy.now (g.M.Keeps.list root) (m.legal root) (m.now_of root) c.args.pass.now.number o p start a seats busy turns x (omega (arith, few, same_seats)) c.requires.pace.0)
 
 pub overflow_sub-busy : goal.overflow_sub-busy
 overflow_sub-busy g c =
     let m = g.M.Machine in
     let k = g.C.Clock in
-    let root = c.args.desk.now.root in
+    let root = c.args.server.now.desk.now.root in
     let h = g.P.Ports.harbour in
     let inv = c.loop.invariant in
     let o : Spot g.row.M.Denot = record { pass = c.args.pass.now; clock = k.readings c.args.clock.now; pace = c.args.pace.now } in
@@ -179,7 +179,7 @@ overflow_sub-busy g c =
     let seats = c.make_room.new.seats.items in
     let busy = c.loop.busy in
     let turns = inv.turns in
-    let x : Tabled c.args.policy.now (g.M.Keeps.list root) (m.legal root) (m.now_of root) c.args.pass.now.number o p start a seats busy turns = subst (λ (l : List Seat). Tabled c.args.policy.now (g.M.Keeps.list root) (m.legal root) (m.now_of root) c.args.pass.now.number o p start a l busy turns) (sym c.make_room.ensures.seats) inv.tabled in
+    let x : Tabled c.args.server.now.policy.now (g.M.Keeps.list root) (m.legal root) (m.now_of root) c.args.pass.now.number o p start a seats busy turns = subst (λ (l : List Seat). Tabled c.args.server.now.policy.now (g.M.Keeps.list root) (m.legal root) (m.now_of root) c.args.pass.now.number o p start a l busy turns) (sym c.make_room.ensures.seats) inv.tabled in
     let calm = subst AreUnwornSeats (sym c.make_room.ensures.seats) inv.unworn in
     let same_seats = ap (λ (l : List Seat). length l) c.make_room.ensures.seats in
     let few = inv.few in
@@ -195,14 +195,14 @@ overflow_sub-busy g c =
     let p' : Spot g.row.M.Denot = record { pass = c.serve_seat.new.pass; clock = k.readings c.serve_seat.new.clock; pace = c.serve_seat.new.pace } in
     let d = h c.serve_seat.new.ports in
     let seat' = c.serve_seat.new.seat in
-    let v = subst (λ (j : ℕ). SeatServed c.args.policy.now (g.M.Keeps.list root) (m.legal root) (m.now_of root) j p p' b d link seat seat' (Some c.in-Some-serve_seat.end)) inv.number c.in-Some-serve_seat.ensures.served in
-    some_busy c.args.policy.now (g.M.Keeps.list root) (m.legal root) (m.now_of root) c.args.pass.now.number o p start a b seats busy turns x inv.unowed calm link n.happens p' d seat seat' (Some c.in-Some-serve_seat.end) low one at v c.in-Some-serve_seat.end refl
+    let v = subst (λ (j : ℕ). SeatServed c.args.server.now.policy.now (g.M.Keeps.list root) (m.legal root) (m.now_of root) j p p' b d link seat seat' (Some c.in-Some-serve_seat.end)) inv.number c.in-Some-serve_seat.ensures.served in
+    some_busy c.args.server.now.policy.now (g.M.Keeps.list root) (m.legal root) (m.now_of root) c.args.pass.now.number o p start a b seats busy turns x inv.unowed calm link n.happens p' d seat seat' (Some c.in-Some-serve_seat.end) low one at v c.in-Some-serve_seat.end refl
 
 pub returns-then-is_worn-clause-went : goal.returns-then-is_worn-clause-went
 returns-then-is_worn-clause-went g c =
     let m = g.M.Machine in
     let k = g.C.Clock in
-    let root = c.args.desk.now.root in
+    let root = c.args.server.now.desk.now.root in
     let h = g.P.Ports.harbour in
     let inv = c.loop.invariant in
     let o : Spot g.row.M.Denot = record { pass = c.args.pass.now; clock = k.readings c.args.clock.now; pace = c.args.pace.now } in
@@ -213,7 +213,7 @@ returns-then-is_worn-clause-went g c =
     let seats = c.make_room.new.seats.items in
     let busy = c.loop.busy in
     let turns = inv.turns in
-    let x : Tabled c.args.policy.now (g.M.Keeps.list root) (m.legal root) (m.now_of root) c.args.pass.now.number o p start a seats busy turns = subst (λ (l : List Seat). Tabled c.args.policy.now (g.M.Keeps.list root) (m.legal root) (m.now_of root) c.args.pass.now.number o p start a l busy turns) (sym c.make_room.ensures.seats) inv.tabled in
+    let x : Tabled c.args.server.now.policy.now (g.M.Keeps.list root) (m.legal root) (m.now_of root) c.args.pass.now.number o p start a seats busy turns = subst (λ (l : List Seat). Tabled c.args.server.now.policy.now (g.M.Keeps.list root) (m.legal root) (m.now_of root) c.args.pass.now.number o p start a l busy turns) (sym c.make_room.ensures.seats) inv.tabled in
     let calm = subst AreUnwornSeats (sym c.make_room.ensures.seats) inv.unworn in
     let same_seats = ap (λ (l : List Seat). length l) c.make_room.ensures.seats in
     let few = inv.few in
@@ -229,10 +229,10 @@ returns-then-is_worn-clause-went g c =
     let p' : Spot g.row.M.Denot = record { pass = c.serve_seat.new.pass; clock = k.readings c.serve_seat.new.clock; pace = c.serve_seat.new.pace } in
     let d = h c.serve_seat.new.ports in
     let seat' = c.serve_seat.new.seat in
-    let v = subst (λ (j : ℕ). SeatServed c.args.policy.now (g.M.Keeps.list root) (m.legal root) (m.now_of root) j p p' b d link seat seat' (Some c.in-Some-serve_seat.end)) inv.number c.in-Some-serve_seat.ensures.served in
+    let v = subst (λ (j : ℕ). SeatServed c.args.server.now.policy.now (g.M.Keeps.list root) (m.legal root) (m.now_of root) j p p' b d link seat seat' (Some c.in-Some-serve_seat.end)) inv.number c.in-Some-serve_seat.ensures.served in
     let end = c.in-Some-serve_seat.end in
-    let some = some_busy c.args.policy.now (g.M.Keeps.list root) (m.legal root) (m.now_of root) c.args.pass.now.number o p start a b seats busy turns x inv.unowed calm link n.happens p' d seat seat' (Some end) low one at v end refl in
-    let s = served_next c.args.policy.now (g.M.Keeps.list root) (m.legal root) (m.now_of root) c.args.pass.now.number o p start a b seats busy turns x inv.unowed calm link n.happens p' d seat seat' (Some end) low one at v (busy - 1) (omega (arith, some)) in
+    let some = some_busy c.args.server.now.policy.now (g.M.Keeps.list root) (m.legal root) (m.now_of root) c.args.pass.now.number o p start a b seats busy turns x inv.unowed calm link n.happens p' d seat seat' (Some end) low one at v end refl in
+    let s = served_next c.args.server.now.policy.now (g.M.Keeps.list root) (m.legal root) (m.now_of root) c.args.pass.now.number o p start a b seats busy turns x inv.unowed calm link n.happens p' d seat seat' (Some end) low one at v (busy - 1) (omega (arith, some)) in
     let worn_end = sym c.is_worn.ensures ∙ c.if-is_worn.true in
     let w = worn_of end worn_end in
     let over = v.over end refl in
@@ -240,14 +240,14 @@ returns-then-is_worn-clause-went g c =
       busy = busy - 1;
       turns = s.turns';
       tabled = s.tabled;
-      goes = ((link, s.told ∙ n.told), worn_draws c.args.policy.now (g.M.Keeps.list root) (m.legal root) (m.now_of root) c.args.pass.now.number o p start a b seats busy turns x inv.unowed calm link n.happens p' d seat seat' (Some end) low one at v w.0 (ap Some w.1), (link - 1, (over.0, over_at seats (link - 1) seat' over.0 low over.1, ap is_worn_end over.2 ∙ worn_end)));
+      goes = ((link, s.told ∙ n.told), worn_draws c.args.server.now.policy.now (g.M.Keeps.list root) (m.legal root) (m.now_of root) c.args.pass.now.number o p start a b seats busy turns x inv.unowed calm link n.happens p' d seat seat' (Some end) low one at v w.0 (ap Some w.1), (link - 1, (over.0, over_at seats (link - 1) seat' over.0 low over.1, ap is_worn_end over.2 ∙ worn_end)));
     }
 
 pub loop-preserved-else-is_worn : goal.loop-preserved-else-is_worn
 loop-preserved-else-is_worn g c =
     let m = g.M.Machine in
     let k = g.C.Clock in
-    let root = c.args.desk.now.root in
+    let root = c.args.server.now.desk.now.root in
     let h = g.P.Ports.harbour in
     let inv = c.loop.invariant in
     let o : Spot g.row.M.Denot = record { pass = c.args.pass.now; clock = k.readings c.args.clock.now; pace = c.args.pace.now } in
@@ -258,7 +258,7 @@ loop-preserved-else-is_worn g c =
     let seats = c.make_room.new.seats.items in
     let busy = c.loop.busy in
     let turns = inv.turns in
-    let x : Tabled c.args.policy.now (g.M.Keeps.list root) (m.legal root) (m.now_of root) c.args.pass.now.number o p start a seats busy turns = subst (λ (l : List Seat). Tabled c.args.policy.now (g.M.Keeps.list root) (m.legal root) (m.now_of root) c.args.pass.now.number o p start a l busy turns) (sym c.make_room.ensures.seats) inv.tabled in
+    let x : Tabled c.args.server.now.policy.now (g.M.Keeps.list root) (m.legal root) (m.now_of root) c.args.pass.now.number o p start a seats busy turns = subst (λ (l : List Seat). Tabled c.args.server.now.policy.now (g.M.Keeps.list root) (m.legal root) (m.now_of root) c.args.pass.now.number o p start a l busy turns) (sym c.make_room.ensures.seats) inv.tabled in
     let calm = subst AreUnwornSeats (sym c.make_room.ensures.seats) inv.unworn in
     let same_seats = ap (λ (l : List Seat). length l) c.make_room.ensures.seats in
     let few = inv.few in
@@ -274,13 +274,13 @@ loop-preserved-else-is_worn g c =
     let p' : Spot g.row.M.Denot = record { pass = c.serve_seat.new.pass; clock = k.readings c.serve_seat.new.clock; pace = c.serve_seat.new.pace } in
     let d = h c.serve_seat.new.ports in
     let seat' = c.serve_seat.new.seat in
-    let v = subst (λ (j : ℕ). SeatServed c.args.policy.now (g.M.Keeps.list root) (m.legal root) (m.now_of root) j p p' b d link seat seat' (Some c.in-Some-serve_seat.end)) inv.number c.in-Some-serve_seat.ensures.served in
+    let v = subst (λ (j : ℕ). SeatServed c.args.server.now.policy.now (g.M.Keeps.list root) (m.legal root) (m.now_of root) j p p' b d link seat seat' (Some c.in-Some-serve_seat.end)) inv.number c.in-Some-serve_seat.ensures.served in
     let room = ok_by c.make_room.result ((vec_len c.make_room.new.seats < vec_capacity c.make_room.new.seats) × (vec_len c.make_room.new.seats + 1 ≤ c.make_room.new.ends.spare)) (sym c.is_err.ensures.value ∙ c.if-is_err.false) c.make_room.ensures.room in
     let long_seats = c.make_room.new.seats.ok.0 in
     let spare = room.1 in
     let end = c.in-Some-serve_seat.end in
-    let some = some_busy c.args.policy.now (g.M.Keeps.list root) (m.legal root) (m.now_of root) c.args.pass.now.number o p start a b seats busy turns x inv.unowed calm link n.happens p' d seat seat' (Some end) low one at v end refl in
-    let s = served_next c.args.policy.now (g.M.Keeps.list root) (m.legal root) (m.now_of root) c.args.pass.now.number o p start a b seats busy turns x inv.unowed calm link n.happens p' d seat seat' (Some end) low one at v (busy - 1) (omega (arith, some)) in
+    let some = some_busy c.args.server.now.policy.now (g.M.Keeps.list root) (m.legal root) (m.now_of root) c.args.pass.now.number o p start a b seats busy turns x inv.unowed calm link n.happens p' d seat seat' (Some end) low one at v end refl in
+    let s = served_next c.args.server.now.policy.now (g.M.Keeps.list root) (m.legal root) (m.now_of root) c.args.pass.now.number o p start a b seats busy turns x inv.unowed calm link n.happens p' d seat seat' (Some end) low one at v (busy - 1) (omega (arith, some)) in
     let over = v.over end refl in
     let long = s.long in
     let low_busy = inv.low in
@@ -303,7 +303,7 @@ pub loop-preserved : goal.loop-preserved
 loop-preserved g c =
     let m = g.M.Machine in
     let k = g.C.Clock in
-    let root = c.args.desk.now.root in
+    let root = c.args.server.now.desk.now.root in
     let h = g.P.Ports.harbour in
     let inv = c.loop.invariant in
     let o : Spot g.row.M.Denot = record { pass = c.args.pass.now; clock = k.readings c.args.clock.now; pace = c.args.pace.now } in
@@ -314,7 +314,7 @@ loop-preserved g c =
     let seats = c.make_room.new.seats.items in
     let busy = c.loop.busy in
     let turns = inv.turns in
-    let x : Tabled c.args.policy.now (g.M.Keeps.list root) (m.legal root) (m.now_of root) c.args.pass.now.number o p start a seats busy turns = subst (λ (l : List Seat). Tabled c.args.policy.now (g.M.Keeps.list root) (m.legal root) (m.now_of root) c.args.pass.now.number o p start a l busy turns) (sym c.make_room.ensures.seats) inv.tabled in
+    let x : Tabled c.args.server.now.policy.now (g.M.Keeps.list root) (m.legal root) (m.now_of root) c.args.pass.now.number o p start a seats busy turns = subst (λ (l : List Seat). Tabled c.args.server.now.policy.now (g.M.Keeps.list root) (m.legal root) (m.now_of root) c.args.pass.now.number o p start a l busy turns) (sym c.make_room.ensures.seats) inv.tabled in
     let calm = subst AreUnwornSeats (sym c.make_room.ensures.seats) inv.unworn in
     let same_seats = ap (λ (l : List Seat). length l) c.make_room.ensures.seats in
     let few = inv.few in
@@ -330,16 +330,16 @@ loop-preserved g c =
     let p' : Spot g.row.M.Denot = record { pass = c.serve_seat.new.pass; clock = k.readings c.serve_seat.new.clock; pace = c.serve_seat.new.pace } in
     let d = h c.serve_seat.new.ports in
     let seat' = c.serve_seat.new.seat in
-    let v = subst (λ (j : ℕ). SeatServed c.args.policy.now (g.M.Keeps.list root) (m.legal root) (m.now_of root) j p p' b d link seat seat' None) inv.number c.in_default.ensures.served in
+    let v = subst (λ (j : ℕ). SeatServed c.args.server.now.policy.now (g.M.Keeps.list root) (m.legal root) (m.now_of root) j p p' b d link seat seat' None) inv.number c.in_default.ensures.served in
     let room = ok_by c.make_room.result ((vec_len c.make_room.new.seats < vec_capacity c.make_room.new.seats) × (vec_len c.make_room.new.seats + 1 ≤ c.make_room.new.ends.spare)) (sym c.is_err.ensures.value ∙ c.if-is_err.false) c.make_room.ensures.room in
     let long_seats = c.make_room.new.seats.ok.0 in
     let spare = room.1 in
-    let s = served_next c.args.policy.now (g.M.Keeps.list root) (m.legal root) (m.now_of root) c.args.pass.now.number o p start a b seats busy turns x inv.unowed calm link n.happens p' d seat seat' None low one at v busy refl in
+    let s = served_next c.args.server.now.policy.now (g.M.Keeps.list root) (m.legal root) (m.now_of root) c.args.pass.now.number o p start a b seats busy turns x inv.unowed calm link n.happens p' d seat seat' None low one at v busy refl in
     let long = s.long in
     record {
       turns = s.turns';
       tabled = s.tabled;
-      unworn = s.unworn (still_unworn c.args.policy.now (g.M.Keeps.list root) (m.legal root) (m.now_of root) c.args.pass.now.number o p start a b seats busy turns x inv.unowed calm link n.happens p' d seat seat' None low one at v refl);
+      unworn = s.unworn (still_unworn c.args.server.now.policy.now (g.M.Keeps.list root) (m.legal root) (m.now_of root) c.args.pass.now.number o p start a b seats busy turns x inv.unowed calm link n.happens p' d seat seat' None low one at v refl);
       few = omega (arith, long, same_seats, few);
       unowed = s.unowed;
       idle = c.in_default.ensures.pass.0;
@@ -355,7 +355,7 @@ pub returns-in-Ok-Stop-clause-went : goal.returns-in-Ok-Stop-clause-went
 returns-in-Ok-Stop-clause-went g c =
     let m = g.M.Machine in
     let k = g.C.Clock in
-    let root = c.args.desk.now.root in
+    let root = c.args.server.now.desk.now.root in
     let h = g.P.Ports.harbour in
     let inv = c.loop.invariant in
     let o : Spot g.row.M.Denot = record { pass = c.args.pass.now; clock = k.readings c.args.clock.now; pace = c.args.pace.now } in
@@ -366,7 +366,7 @@ returns-in-Ok-Stop-clause-went g c =
     let seats = c.make_room.new.seats.items in
     let busy = c.loop.busy in
     let turns = inv.turns in
-    let x : Tabled c.args.policy.now (g.M.Keeps.list root) (m.legal root) (m.now_of root) c.args.pass.now.number o p start a seats busy turns = subst (λ (l : List Seat). Tabled c.args.policy.now (g.M.Keeps.list root) (m.legal root) (m.now_of root) c.args.pass.now.number o p start a l busy turns) (sym c.make_room.ensures.seats) inv.tabled in
+    let x : Tabled c.args.server.now.policy.now (g.M.Keeps.list root) (m.legal root) (m.now_of root) c.args.pass.now.number o p start a seats busy turns = subst (λ (l : List Seat). Tabled c.args.server.now.policy.now (g.M.Keeps.list root) (m.legal root) (m.now_of root) c.args.pass.now.number o p start a l busy turns) (sym c.make_room.ensures.seats) inv.tabled in
     let calm = subst AreUnwornSeats (sym c.make_room.ensures.seats) inv.unworn in
     let same_seats = ap (λ (l : List Seat). length l) c.make_room.ensures.seats in
     let few = inv.few in
@@ -374,7 +374,7 @@ returns-in-Ok-Stop-clause-went g c =
     record {
       busy = busy;
       turns = turns;
-      tabled = tabled_owed c.args.policy.now (g.M.Keeps.list root) (m.legal root) (m.now_of root) c.args.pass.now.number o p start a b seats busy turns x n.happens.opened n.happens.cause.later (λ j. same_owed (a.port j) (b.port j) (n.happens.ports j));
+      tabled = tabled_owed c.args.server.now.policy.now (g.M.Keeps.list root) (m.legal root) (m.now_of root) c.args.pass.now.number o p start a b seats busy turns x n.happens.opened n.happens.cause.later (λ j. same_owed (a.port j) (b.port j) (n.happens.ports j));
       goes = (n.told, omega (arith, few, same_seats), calm);
     }
 
@@ -382,7 +382,7 @@ pub returns-in-Err-clause-went : goal.returns-in-Err-clause-went
 returns-in-Err-clause-went g c =
     let m = g.M.Machine in
     let k = g.C.Clock in
-    let root = c.args.desk.now.root in
+    let root = c.args.server.now.desk.now.root in
     let h = g.P.Ports.harbour in
     let inv = c.loop.invariant in
     let o : Spot g.row.M.Denot = record { pass = c.args.pass.now; clock = k.readings c.args.clock.now; pace = c.args.pace.now } in
@@ -393,7 +393,7 @@ returns-in-Err-clause-went g c =
     let seats = c.make_room.new.seats.items in
     let busy = c.loop.busy in
     let turns = inv.turns in
-    let x : Tabled c.args.policy.now (g.M.Keeps.list root) (m.legal root) (m.now_of root) c.args.pass.now.number o p start a seats busy turns = subst (λ (l : List Seat). Tabled c.args.policy.now (g.M.Keeps.list root) (m.legal root) (m.now_of root) c.args.pass.now.number o p start a l busy turns) (sym c.make_room.ensures.seats) inv.tabled in
+    let x : Tabled c.args.server.now.policy.now (g.M.Keeps.list root) (m.legal root) (m.now_of root) c.args.pass.now.number o p start a seats busy turns = subst (λ (l : List Seat). Tabled c.args.server.now.policy.now (g.M.Keeps.list root) (m.legal root) (m.now_of root) c.args.pass.now.number o p start a l busy turns) (sym c.make_room.ensures.seats) inv.tabled in
     let calm = subst AreUnwornSeats (sym c.make_room.ensures.seats) inv.unworn in
     let same_seats = ap (λ (l : List Seat). length l) c.make_room.ensures.seats in
     let few = inv.few in
@@ -403,6 +403,6 @@ returns-in-Err-clause-went g c =
     record {
       busy = busy;
       turns = turns;
-      tabled = tabled_owed c.args.policy.now (g.M.Keeps.list root) (m.legal root) (m.now_of root) c.args.pass.now.number o p start a b seats busy turns x n.happens.opened n.happens.cause.later (λ j. same_owed (a.port j) (b.port j) (n.happens.ports j));
+      tabled = tabled_owed c.args.server.now.policy.now (g.M.Keeps.list root) (m.legal root) (m.now_of root) c.args.pass.now.number o p start a b seats busy turns x n.happens.opened n.happens.cause.later (λ j. same_owed (a.port j) (b.port j) (n.happens.ports j));
       goes = ((_, n.told), omega (arith, rose, later), omega (arith, few, same_seats), calm);
     }

@@ -8,17 +8,17 @@ use Rattle.poll_front.proofs.front.serve_all.Given as goal
 
 abbrev pub invariant-loop : goal.invariant-loop
 invariant-loop g l =
-    let root = l.desk.root in
+    let root = l.server.desk.now.root in
     let m = g.M.Machine in
     let k = g.C.Clock in
     record {
       turns : List Turn;
-      tabled : Tabled l.policy (g.M.Keeps.list root) (m.legal root) (m.now_of root) l.fn.pass.number (record { pass = l.fn.pass; clock = k.readings l.fn.clock; pace = l.fn.pace }) (record { pass = l.pass; clock = k.readings l.clock; pace = l.pace })
+      tabled : Tabled l.server.policy.now (g.M.Keeps.list root) (m.legal root) (m.now_of root) l.fn.pass.number (record { pass = l.fn.pass; clock = k.readings l.fn.clock; pace = l.fn.pace }) (record { pass = l.pass; clock = k.readings l.clock; pace = l.pace })
           (g.P.Ports.harbour l.fn.ports) (g.P.Ports.harbour l.ports) l.seats.items l.busy turns;
       unworn : AreUnwornSeats l.seats.items;
       few : length l.seats.items < 100_000;
       unowed : NoneOwed (g.P.Ports.harbour l.ports);
-      idle : IsIdle (site_of l.desk) l.pass;
+      idle : IsIdle (site_of l.server.desk.now) l.pass;
       number : l.pass.number ≡ l.fn.pass.number;
       reached : IsReached (m.legal root) (m.now_of root) l.pass.seen l.pace.reached;
       low : l.busy ≤ 1024;

@@ -8,17 +8,17 @@ use Rattle.poll_front.proofs.lines.take_rest.Goals as goal
 pub loop-party-init : goal.loop-party-init
 loop-party-init g c =
     let m = g.M.Machine in
-    let root = c.args.desk.now.root in
+    let root = c.args.server.now.desk.now.root in
     let a = g.P.Ports.harbour c.args.ports.now in
     let p : Spot g.row.M.Denot = record { pass = c.args.pass.now; clock = g.C.Clock.readings c.args.clock.now; pace = c.args.pace.now } in
     record {
-      goes = goes_none c.args.policy.now (g.M.Keeps.list root) (m.legal root) (m.now_of root) c.args.pass.now.number p (a.port c.args.link) c.args.link c.args.party.now {T = Unit {0}} tt;
+      goes = goes_none c.args.server.now.policy.now (g.M.Keeps.list root) (m.legal root) (m.now_of root) c.args.pass.now.number p (a.port c.args.server.now.conn) c.args.server.now.conn c.args.party.now {T = Unit {0}} tt;
       idle = c.requires.idle;
       number = refl;
       actor = c.requires.actor;
       counts = (omega arith, omega arith, omega arith);
       reached = c.requires.reached;
-      tends = tends_none a c.args.link;
+      tends = tends_none a c.args.server.now.conn;
       opened = c.requires.open;
       within = (omega arith, c.requires.some.0);
       kept = (refl, refl);
@@ -28,30 +28,30 @@ pub returns-in-Err-clause-goes : goal.returns-in-Err-clause-goes
 returns-in-Err-clause-goes g c =
     let m = g.M.Machine in
     let k = g.C.Clock in
-    let root = c.args.desk.now.root in
+    let root = c.args.server.now.desk.now.root in
     let inv = c.loop-party.invariant in
     let h = g.P.Ports.harbour in
-    let n = c.args.link in
+    let n = c.args.server.now.conn in
     let p : Spot g.row.M.Denot = record { pass = c.args.pass.now; clock = k.readings c.args.clock.now; pace = c.args.pace.now } in
     let p' : Spot g.row.M.Denot = record { pass = c.loop-party.pass; clock = k.readings c.loop-party.clock; pace = c.loop-party.pace } in
     let p'' : Spot g.row.M.Denot = record { pass = c.take_next.new.pass; clock = k.readings c.take_next.new.clock; pace = c.take_next.new.pace } in
-    let next = subst (λ (j : ℕ). Goes c.args.policy.now (g.M.Keeps.list root) (m.legal root) (m.now_of root) j p' p'' ((h c.loop-party.ports).port n) ((h c.take_next.new.ports).port n) n c.loop-party.party c.take_next.new.party {T = Unit {0}} (Err c.in-Err.pause)) inv.number c.in-Err.ensures.goes in
-    goes_then c.args.policy.now (g.M.Keeps.list root) (m.legal root) (m.now_of root) c.args.pass.now.number p p' p'' ((h c.args.ports.now).port n) ((h c.loop-party.ports).port n) ((h c.take_next.new.ports).port n) n
+    let next = subst (λ (j : ℕ). Goes c.args.server.now.policy.now (g.M.Keeps.list root) (m.legal root) (m.now_of root) j p' p'' ((h c.loop-party.ports).port n) ((h c.take_next.new.ports).port n) n c.loop-party.party c.take_next.new.party {T = Unit {0}} (Err c.in-Err.pause)) inv.number c.in-Err.ensures.goes in
+    goes_then c.args.server.now.policy.now (g.M.Keeps.list root) (m.legal root) (m.now_of root) c.args.pass.now.number p p' p'' ((h c.args.ports.now).port n) ((h c.loop-party.ports).port n) ((h c.take_next.new.ports).port n) n
     c.args.party.now c.loop-party.party c.take_next.new.party {T = Unit {0}} {U = Unit {0}} tt (Err c.in-Err.pause) inv.goes next
 
 pub loop-party-preserved : goal.loop-party-preserved
 loop-party-preserved g c =
     let m = g.M.Machine in
     let k = g.C.Clock in
-    let root = c.args.desk.now.root in
+    let root = c.args.server.now.desk.now.root in
     let inv = c.loop-party.invariant in
     let h = g.P.Ports.harbour in
-    let n = c.args.link in
+    let n = c.args.server.now.conn in
     let e = c.in_default.ensures in
     let p : Spot g.row.M.Denot = record { pass = c.args.pass.now; clock = k.readings c.args.clock.now; pace = c.args.pace.now } in
     let p' : Spot g.row.M.Denot = record { pass = c.loop-party.pass; clock = k.readings c.loop-party.clock; pace = c.loop-party.pace } in
     let p'' : Spot g.row.M.Denot = record { pass = c.take_next.new.pass; clock = k.readings c.take_next.new.clock; pace = c.take_next.new.pace } in
-    let next = subst (λ (j : ℕ). Goes c.args.policy.now (g.M.Keeps.list root) (m.legal root) (m.now_of root) j p' p'' ((h c.loop-party.ports).port n) ((h c.take_next.new.ports).port n) n c.loop-party.party c.take_next.new.party {T = Unit {0}} (Ok c.in_default.field-0)) inv.number e.goes in
+    let next = subst (λ (j : ℕ). Goes c.args.server.now.policy.now (g.M.Keeps.list root) (m.legal root) (m.now_of root) j p' p'' ((h c.loop-party.ports).port n) ((h c.take_next.new.ports).port n) n c.loop-party.party c.take_next.new.party {T = Unit {0}} (Ok c.in_default.field-0)) inv.number e.goes in
     let counts = inv.counts in
     let more = e.counts in
     let from = inv.within in
@@ -59,7 +59,7 @@ loop-party-preserved g c =
     let low = c.loop-party-test.true in
     let kept = inv.kept in
     record {
-      goes = goes_then c.args.policy.now (g.M.Keeps.list root) (m.legal root) (m.now_of root) c.args.pass.now.number p p' p'' ((h c.args.ports.now).port n) ((h c.loop-party.ports).port n) ((h c.take_next.new.ports).port n) n
+      goes = goes_then c.args.server.now.policy.now (g.M.Keeps.list root) (m.legal root) (m.now_of root) c.args.pass.now.number p p' p'' ((h c.args.ports.now).port n) ((h c.loop-party.ports).port n) ((h c.take_next.new.ports).port n) n
           c.args.party.now c.loop-party.party c.take_next.new.party {T = Unit {0}} {U = Unit {0}} tt (Ok c.in_default.field-0) inv.goes next;
       idle = e.pass.0;
       number = e.pass.1 ∙ inv.number;

@@ -11,34 +11,34 @@ pub returns-in-Err-clause-attends : goal.returns-in-Err-clause-attends
 returns-in-Err-clause-attends g c =
     let m = g.M.Machine in
     let k = g.C.Clock in
-    let root = c.args.desk.now.root in
+    let root = c.args.server.now.desk.now.root in
     let h = g.P.Ports.harbour in
-    let n = c.args.link in
+    let n = c.args.server.now.conn in
     let s = c.args.party.now in
     let p : Spot g.row.M.Denot = record { pass = c.args.pass.now; clock = k.readings c.args.clock.now; pace = c.args.pace.now } in
-    served_push c.args.policy.now (g.M.Keeps.list root) (m.legal root) (m.now_of root) c.args.pass.now.number p (h c.args.ports.now) (h c.write_out.new.ports) n s c.write_out.new.party c.write_out.new.party.at (Err c.in-Err.pause) c.in-Err.ensures.pushes c.in-Err.ensures.same
+    served_push c.args.server.now.policy.now (g.M.Keeps.list root) (m.legal root) (m.now_of root) c.args.pass.now.number p (h c.args.ports.now) (h c.write_out.new.ports) n s c.write_out.new.party c.write_out.new.party.at (Err c.in-Err.pause) c.in-Err.ensures.pushes c.in-Err.ensures.same
 
 pub returns-in-Err-take_rest-clause-attends : goal.returns-in-Err-take_rest-clause-attends
 returns-in-Err-take_rest-clause-attends g c =
     let m = g.M.Machine in
     let k = g.C.Clock in
-    let root = c.args.desk.now.root in
+    let root = c.args.server.now.desk.now.root in
     let h = g.P.Ports.harbour in
-    let n = c.args.link in
+    let n = c.args.server.now.conn in
     let s = c.args.party.now in
     let p : Spot g.row.M.Denot = record { pass = c.args.pass.now; clock = k.readings c.args.clock.now; pace = c.args.pace.now } in
     let p' : Spot g.row.M.Denot = record { pass = c.take_rest.new.pass; clock = k.readings c.take_rest.new.clock; pace = c.take_rest.new.pace } in
-    served_then c.args.policy.now (g.M.Keeps.list root) (m.legal root) (m.now_of root) c.args.pass.now.number p p p' ((h c.args.ports.now).port n) ((h c.write_out.new.ports).port n) ((h c.take_rest.new.ports).port n) n s c.write_out.new.party c.take_rest.new.party {T = Unit {0}} {U = Unit {0}} c.in_default.field-0 (Err c.in-Err-take_rest.pause)
-    (served_push c.args.policy.now (g.M.Keeps.list root) (m.legal root) (m.now_of root) c.args.pass.now.number p (h c.args.ports.now) (h c.write_out.new.ports) n s c.write_out.new.party c.write_out.new.party.at (Ok c.in_default.field-0) c.in_default.ensures.pushes c.in_default.ensures.same)
+    served_then c.args.server.now.policy.now (g.M.Keeps.list root) (m.legal root) (m.now_of root) c.args.pass.now.number p p p' ((h c.args.ports.now).port n) ((h c.write_out.new.ports).port n) ((h c.take_rest.new.ports).port n) n s c.write_out.new.party c.take_rest.new.party {T = Unit {0}} {U = Unit {0}} c.in_default.field-0 (Err c.in-Err-take_rest.pause)
+    (served_push c.args.server.now.policy.now (g.M.Keeps.list root) (m.legal root) (m.now_of root) c.args.pass.now.number p (h c.args.ports.now) (h c.write_out.new.ports) n s c.write_out.new.party c.write_out.new.party.at (Ok c.in_default.field-0) c.in_default.ensures.pushes c.in_default.ensures.same)
     c.in-Err-take_rest.ensures.goes
 
 pub loop-party-init : goal.loop-party-init
 loop-party-init g c =
     let m = g.M.Machine in
     let k = g.C.Clock in
-    let root = c.args.desk.now.root in
+    let root = c.args.server.now.desk.now.root in
     let h = g.P.Ports.harbour in
-    let n = c.args.link in
+    let n = c.args.server.now.conn in
     let s = c.args.party.now in
     let p : Spot g.row.M.Denot = record { pass = c.args.pass.now; clock = k.readings c.args.clock.now; pace = c.args.pace.now } in
     let p' : Spot g.row.M.Denot = record { pass = c.take_rest.new.pass; clock = k.readings c.take_rest.new.clock; pace = c.take_rest.new.pace } in
@@ -55,8 +55,8 @@ loop-party-init g c =
     let counts = e.counts in
     let within = c.requires.waits in
     record {
-      served = served_then c.args.policy.now (g.M.Keeps.list root) (m.legal root) (m.now_of root) c.args.pass.now.number p p p' ((h c.args.ports.now).port n) ((h c.write_out.new.ports).port n) ((h c.take_rest.new.ports).port n) n s c.write_out.new.party c.take_rest.new.party {T = Unit {0}} {U = Unit {0}} c.in_default.field-0 (Ok c.in_default-take_rest.field-0)
-          (served_push c.args.policy.now (g.M.Keeps.list root) (m.legal root) (m.now_of root) c.args.pass.now.number p (h c.args.ports.now) (h c.write_out.new.ports) n s c.write_out.new.party c.write_out.new.party.at (Ok c.in_default.field-0) w.pushes w.same) e.goes;
+      served = served_then c.args.server.now.policy.now (g.M.Keeps.list root) (m.legal root) (m.now_of root) c.args.pass.now.number p p p' ((h c.args.ports.now).port n) ((h c.write_out.new.ports).port n) ((h c.take_rest.new.ports).port n) n s c.write_out.new.party c.take_rest.new.party {T = Unit {0}} {U = Unit {0}} c.in_default.field-0 (Ok c.in_default-take_rest.field-0)
+          (served_push c.args.server.now.policy.now (g.M.Keeps.list root) (m.legal root) (m.now_of root) c.args.pass.now.number p (h c.args.ports.now) (h c.write_out.new.ports) n s c.write_out.new.party c.write_out.new.party.at (Ok c.in_default.field-0) w.pushes w.same) e.goes;
       idle = e.pass.0;
       number = e.pass.1;
       actor = e.actor;
@@ -73,34 +73,34 @@ pub returns-in-Err-fill-clause-attends : goal.returns-in-Err-fill-clause-attends
 returns-in-Err-fill-clause-attends g c =
     let m = g.M.Machine in
     let k = g.C.Clock in
-    let root = c.args.desk.now.root in
+    let root = c.args.server.now.desk.now.root in
     let h = g.P.Ports.harbour in
-    let n = c.args.link in
+    let n = c.args.server.now.conn in
     let s = c.args.party.now in
     let p : Spot g.row.M.Denot = record { pass = c.args.pass.now; clock = k.readings c.args.clock.now; pace = c.args.pace.now } in
     let p' : Spot g.row.M.Denot = record { pass = c.loop-party.pass; clock = k.readings c.loop-party.clock; pace = c.loop-party.pace } in
     let inv = c.loop-party.invariant in
     let some = c.loop-party-test.true in
-    served_then c.args.policy.now (g.M.Keeps.list root) (m.legal root) (m.now_of root) c.args.pass.now.number p p' p' ((h c.args.ports.now).port n) ((h c.loop-party.ports).port n) ((h c.fill.new.ports).port n) n s c.loop-party.party c.fill.new.party {T = Unit {0}} {U = Unit {0}} tt (Err c.in-Err-fill.pause) inv.served
-    (goes_fill c.args.policy.now (g.M.Keeps.list root) (m.legal root) (m.now_of root) c.args.pass.now.number p' (h c.loop-party.ports) (h c.fill.new.ports) n c.loop-party.party c.fill.new.party (Err c.in-Err-fill.pause) c.in-Err-fill.ensures.fills inv.none (omega (arith, some)) c.in-Err-fill.ensures.size)
+    served_then c.args.server.now.policy.now (g.M.Keeps.list root) (m.legal root) (m.now_of root) c.args.pass.now.number p p' p' ((h c.args.ports.now).port n) ((h c.loop-party.ports).port n) ((h c.fill.new.ports).port n) n s c.loop-party.party c.fill.new.party {T = Unit {0}} {U = Unit {0}} tt (Err c.in-Err-fill.pause) inv.served
+    (goes_fill c.args.server.now.policy.now (g.M.Keeps.list root) (m.legal root) (m.now_of root) c.args.pass.now.number p' (h c.loop-party.ports) (h c.fill.new.ports) n c.loop-party.party c.fill.new.party (Err c.in-Err-fill.pause) c.in-Err-fill.ensures.fills inv.none (omega (arith, some)) c.in-Err-fill.ensures.size)
 
 pub returns-in-Err-take_rest-2-clause-attends : goal.returns-in-Err-take_rest-2-clause-attends
 returns-in-Err-take_rest-2-clause-attends g c =
     let m = g.M.Machine in
     let k = g.C.Clock in
-    let root = c.args.desk.now.root in
+    let root = c.args.server.now.desk.now.root in
     let h = g.P.Ports.harbour in
-    let n = c.args.link in
+    let n = c.args.server.now.conn in
     let s = c.args.party.now in
     let p : Spot g.row.M.Denot = record { pass = c.args.pass.now; clock = k.readings c.args.clock.now; pace = c.args.pace.now } in
     let p' : Spot g.row.M.Denot = record { pass = c.loop-party.pass; clock = k.readings c.loop-party.clock; pace = c.loop-party.pace } in
     let p'' : Spot g.row.M.Denot = record { pass = c.take_rest-in-loop-party.new.pass; clock = k.readings c.take_rest-in-loop-party.new.clock; pace = c.take_rest-in-loop-party.new.pace } in
     let inv = c.loop-party.invariant in
     let some = c.loop-party-test.true in
-    let next = subst (λ (j : ℕ). Goes c.args.policy.now (g.M.Keeps.list root) (m.legal root) (m.now_of root) j p' p'' ((h c.fill.new.ports).port n) ((h c.take_rest-in-loop-party.new.ports).port n) n c.fill.new.party c.take_rest-in-loop-party.new.party {T = Unit {0}} (Err c.in-Err-take_rest-2.pause)) inv.number c.in-Err-take_rest-2.ensures.goes in
-    served_then c.args.policy.now (g.M.Keeps.list root) (m.legal root) (m.now_of root) c.args.pass.now.number p p' p'' ((h c.args.ports.now).port n) ((h c.loop-party.ports).port n) ((h c.take_rest-in-loop-party.new.ports).port n) n s c.loop-party.party c.take_rest-in-loop-party.new.party {T = Unit {0}} {U = Unit {0}} tt (Err c.in-Err-take_rest-2.pause) inv.served
-    (goes_then c.args.policy.now (g.M.Keeps.list root) (m.legal root) (m.now_of root) c.args.pass.now.number p' p' p'' ((h c.loop-party.ports).port n) ((h c.fill.new.ports).port n) ((h c.take_rest-in-loop-party.new.ports).port n) n c.loop-party.party c.fill.new.party c.take_rest-in-loop-party.new.party {T = Unit {0}} {U = Unit {0}} c.in_default-fill.field-0 (Err c.in-Err-take_rest-2.pause)
-    (goes_fill c.args.policy.now (g.M.Keeps.list root) (m.legal root) (m.now_of root) c.args.pass.now.number p' (h c.loop-party.ports) (h c.fill.new.ports) n c.loop-party.party c.fill.new.party (Ok c.in_default-fill.field-0) c.in_default-fill.ensures.fills inv.none (omega (arith, some)) c.in_default-fill.ensures.size) next)
+    let next = subst (λ (j : ℕ). Goes c.args.server.now.policy.now (g.M.Keeps.list root) (m.legal root) (m.now_of root) j p' p'' ((h c.fill.new.ports).port n) ((h c.take_rest-in-loop-party.new.ports).port n) n c.fill.new.party c.take_rest-in-loop-party.new.party {T = Unit {0}} (Err c.in-Err-take_rest-2.pause)) inv.number c.in-Err-take_rest-2.ensures.goes in
+    served_then c.args.server.now.policy.now (g.M.Keeps.list root) (m.legal root) (m.now_of root) c.args.pass.now.number p p' p'' ((h c.args.ports.now).port n) ((h c.loop-party.ports).port n) ((h c.take_rest-in-loop-party.new.ports).port n) n s c.loop-party.party c.take_rest-in-loop-party.new.party {T = Unit {0}} {U = Unit {0}} tt (Err c.in-Err-take_rest-2.pause) inv.served
+    (goes_then c.args.server.now.policy.now (g.M.Keeps.list root) (m.legal root) (m.now_of root) c.args.pass.now.number p' p' p'' ((h c.loop-party.ports).port n) ((h c.fill.new.ports).port n) ((h c.take_rest-in-loop-party.new.ports).port n) n c.loop-party.party c.fill.new.party c.take_rest-in-loop-party.new.party {T = Unit {0}} {U = Unit {0}} c.in_default-fill.field-0 (Err c.in-Err-take_rest-2.pause)
+    (goes_fill c.args.server.now.policy.now (g.M.Keeps.list root) (m.legal root) (m.now_of root) c.args.pass.now.number p' (h c.loop-party.ports) (h c.fill.new.ports) n c.loop-party.party c.fill.new.party (Ok c.in_default-fill.field-0) c.in_default-fill.ensures.fills inv.none (omega (arith, some)) c.in_default-fill.ensures.size) next)
 
 pub loop-party-smaller : goal.loop-party-smaller
 loop-party-smaller g c =
@@ -115,9 +115,9 @@ pub loop-party-preserved : goal.loop-party-preserved
 loop-party-preserved g c =
     let m = g.M.Machine in
     let k = g.C.Clock in
-    let root = c.args.desk.now.root in
+    let root = c.args.server.now.desk.now.root in
     let h = g.P.Ports.harbour in
-    let n = c.args.link in
+    let n = c.args.server.now.conn in
     let s = c.args.party.now in
     let p : Spot g.row.M.Denot = record { pass = c.args.pass.now; clock = k.readings c.args.clock.now; pace = c.args.pace.now } in
     let p' : Spot g.row.M.Denot = record { pass = c.loop-party.pass; clock = k.readings c.loop-party.clock; pace = c.loop-party.pace } in
@@ -127,7 +127,7 @@ loop-party-preserved g c =
     let e = c.in_default-take_rest-2.ensures in
     let f = c.in_default-fill.ensures.fills.filled in
     let t1 = tends_twice (h c.loop-party.ports) (h c.fill.new.ports) (h c.take_rest-in-loop-party.new.ports) n c.in_default-fill.ensures.fills.tends e.tends in
-    let next = subst (λ (j : ℕ). Goes c.args.policy.now (g.M.Keeps.list root) (m.legal root) (m.now_of root) j p' p'' ((h c.fill.new.ports).port n) ((h c.take_rest-in-loop-party.new.ports).port n) n c.fill.new.party c.take_rest-in-loop-party.new.party {T = Unit {0}} (Ok c.in_default-take_rest-2.field-0)) inv.number e.goes in
+    let next = subst (λ (j : ℕ). Goes c.args.server.now.policy.now (g.M.Keeps.list root) (m.legal root) (m.now_of root) j p' p'' ((h c.fill.new.ports).port n) ((h c.take_rest-in-loop-party.new.ports).port n) n c.fill.new.party c.take_rest-in-loop-party.new.party {T = Unit {0}} (Ok c.in_default-take_rest-2.field-0)) inv.number e.goes in
     let left = ap (λ (z : Party). z.left) f.3 in
     let upto = ap (λ (z : Party). z.upto) f.3 in
     let from = ap (λ (z : Party). z.from) f.3 in
@@ -140,9 +140,9 @@ loop-party-preserved g c =
     let more = e.counts in
     let before = inv.few in
     record {
-      served = served_then c.args.policy.now (g.M.Keeps.list root) (m.legal root) (m.now_of root) c.args.pass.now.number p p' p'' ((h c.args.ports.now).port n) ((h c.loop-party.ports).port n) ((h c.take_rest-in-loop-party.new.ports).port n) n s c.loop-party.party c.take_rest-in-loop-party.new.party {T = Unit {0}} {U = Unit {0}} tt (Ok c.in_default-take_rest-2.field-0) inv.served
-          (goes_then c.args.policy.now (g.M.Keeps.list root) (m.legal root) (m.now_of root) c.args.pass.now.number p' p' p'' ((h c.loop-party.ports).port n) ((h c.fill.new.ports).port n) ((h c.take_rest-in-loop-party.new.ports).port n) n c.loop-party.party c.fill.new.party c.take_rest-in-loop-party.new.party {T = Unit {0}} {U = Unit {0}} c.in_default-fill.field-0 (Ok c.in_default-take_rest-2.field-0)
-          (goes_fill c.args.policy.now (g.M.Keeps.list root) (m.legal root) (m.now_of root) c.args.pass.now.number p' (h c.loop-party.ports) (h c.fill.new.ports) n c.loop-party.party c.fill.new.party (Ok c.in_default-fill.field-0) c.in_default-fill.ensures.fills inv.none (omega (arith, some)) c.in_default-fill.ensures.size) next);
+      served = served_then c.args.server.now.policy.now (g.M.Keeps.list root) (m.legal root) (m.now_of root) c.args.pass.now.number p p' p'' ((h c.args.ports.now).port n) ((h c.loop-party.ports).port n) ((h c.take_rest-in-loop-party.new.ports).port n) n s c.loop-party.party c.take_rest-in-loop-party.new.party {T = Unit {0}} {U = Unit {0}} tt (Ok c.in_default-take_rest-2.field-0) inv.served
+          (goes_then c.args.server.now.policy.now (g.M.Keeps.list root) (m.legal root) (m.now_of root) c.args.pass.now.number p' p' p'' ((h c.loop-party.ports).port n) ((h c.fill.new.ports).port n) ((h c.take_rest-in-loop-party.new.ports).port n) n c.loop-party.party c.fill.new.party c.take_rest-in-loop-party.new.party {T = Unit {0}} {U = Unit {0}} c.in_default-fill.field-0 (Ok c.in_default-take_rest-2.field-0)
+          (goes_fill c.args.server.now.policy.now (g.M.Keeps.list root) (m.legal root) (m.now_of root) c.args.pass.now.number p' (h c.loop-party.ports) (h c.fill.new.ports) n c.loop-party.party c.fill.new.party (Ok c.in_default-fill.field-0) c.in_default-fill.ensures.fills inv.none (omega (arith, some)) c.in_default-fill.ensures.size) next);
       idle = e.pass.0;
       number = e.pass.1 ∙ inv.number;
       actor = e.actor;
@@ -159,13 +159,13 @@ pub returns-clause-attends : goal.returns-clause-attends
 returns-clause-attends g c =
     let m = g.M.Machine in
     let k = g.C.Clock in
-    let root = c.args.desk.now.root in
+    let root = c.args.server.now.desk.now.root in
     let h = g.P.Ports.harbour in
-    let n = c.args.link in
+    let n = c.args.server.now.conn in
     let s = c.args.party.now in
     let p : Spot g.row.M.Denot = record { pass = c.args.pass.now; clock = k.readings c.args.clock.now; pace = c.args.pace.now } in
     let p' : Spot g.row.M.Denot = record { pass = c.loop-party.pass; clock = k.readings c.loop-party.clock; pace = c.loop-party.pace } in
     let inv = c.loop-party.invariant in
     let spent = c.loop-party-test.false in
-    served_then c.args.policy.now (g.M.Keeps.list root) (m.legal root) (m.now_of root) c.args.pass.now.number p p' p' ((h c.args.ports.now).port n) ((h c.loop-party.ports).port n) ((h c.loop-party.ports).port n) n s c.loop-party.party c.loop-party.party {T = Unit {0}} {U = Unit {0}} tt (Err _) inv.served
-    (goes_spent c.args.policy.now (g.M.Keeps.list root) (m.legal root) (m.now_of root) c.args.pass.now.number p' ((h c.loop-party.ports).port n) n c.loop-party.party inv.none (omega (arith, spent)))
+    served_then c.args.server.now.policy.now (g.M.Keeps.list root) (m.legal root) (m.now_of root) c.args.pass.now.number p p' p' ((h c.args.ports.now).port n) ((h c.loop-party.ports).port n) ((h c.loop-party.ports).port n) n s c.loop-party.party c.loop-party.party {T = Unit {0}} {U = Unit {0}} tt (Err _) inv.served
+    (goes_spent c.args.server.now.policy.now (g.M.Keeps.list root) (m.legal root) (m.now_of root) c.args.pass.now.number p' ((h c.loop-party.ports).port n) n c.loop-party.party inv.none (omega (arith, spent)))

@@ -9,21 +9,21 @@ use Rattle.poll_front.proofs.serve.attend.Given as goal
 
 abbrev pub invariant-loop-party : goal.invariant-loop-party
 invariant-loop-party g l =
-    let root = l.desk.root in
+    let root = l.server.desk.now.root in
     let m = g.M.Machine in
     let k = g.C.Clock in
     let a = g.P.Ports.harbour l.fn.ports in
     let b = g.P.Ports.harbour l.ports in
     record {
-      served : Served l.policy (g.M.Keeps.list root) (m.legal root) (m.now_of root) l.fn.pass.number (record { pass = l.fn.pass; clock = k.readings l.fn.clock; pace = l.fn.pace }) (record { pass = l.pass; clock = k.readings l.clock; pace = l.pace })
-          (a.port l.link) (b.port l.link) l.link l.fn.party l.party {T = Unit {0}} (Ok tt);
-      idle : IsIdle (site_of l.desk) l.pass;
+      served : Served l.server.policy.now (g.M.Keeps.list root) (m.legal root) (m.now_of root) l.fn.pass.number (record { pass = l.fn.pass; clock = k.readings l.fn.clock; pace = l.fn.pace }) (record { pass = l.pass; clock = k.readings l.clock; pace = l.pace })
+          (a.port l.server.conn) (b.port l.server.conn) l.server.conn l.fn.party l.party {T = Unit {0}} (Ok tt);
+      idle : IsIdle (site_of l.server.desk.now) l.pass;
       number : l.pass.number ≡ l.fn.pass.number;
-      actor : IsNamedActor l.policy l.party.talk.actor;
+      actor : IsNamedActor l.server.policy.now l.party.talk.actor;
       counts : Counts l.fn.party.talk l.party.talk l.fn.pace l.pace (l.fn.party.upto - l.fn.party.from + l.fn.party.left - l.party.left);
       reached : IsReached (m.legal root) (m.now_of root) l.pass.seen l.pace.reached;
-      tends : Tends a b l.link;
-      opened : IsOpen b l.link;
+      tends : Tends a b l.server.conn;
+      opened : IsOpen b l.server.conn;
       none : l.party.from ≡ l.party.upto;
       within : l.party.upto ≤ 4096;
       few : l.party.left ≤ l.fn.party.left;
