@@ -9,10 +9,11 @@ use Rattle.turn_lock.specs.Holders.{Site, Lock, Holder, site_of, newcomer, newco
 use Rattle.turn_lock.proofs.PassLists.{each_reverse, each_unreverse, numbers, has_same}
 use Rattle.policy_words.specs.Naming.{NamedPolicy}
 use Rattle.connection_laws.specs.Connection.{IsTimed}
+use Rattle.connection_laws.specs.Services.{service}
 use Rattle.line_server.specs.declared.posts.Post.{Post}
 use Rattle.line_server.specs.declared.workers.Worker.{Worker}
 use Rattle.connection_laws.specs.Turns.{IsIdle}
-use Rattle.line_server.specs.Working.{Works, HasWorked as HasWorkedAt}
+use Rattle.line_server.specs.Working.{at_post, Works, HasWorked as HasWorkedAt}
 use Rattle.gtrbac_daemon.specs.Crew.{Crewman, crewman, crewmen, IsNew}
 use Rattle.gtrbac_daemon.specs.PostLists.{passes_of, workers_of}
 use Rattle.gtrbac_daemon.specs.Headline.{HasWorked, HaveWorked}
@@ -50,9 +51,7 @@ module _ {M D C G L : Type 0} where
   module _ (traffic : L → Traffic) (readings : C → Option (ℕ → ℕ)) (links : D → Option (List L)) (faults : D → ℕ)
       (np : NamedPolicy) (first : List Entry) (legal : List Entry → Type 0) (now : List Entry → ℕ) (site : Site M) where
     abbrev pub PostWorked : Post M D C G L → Post M D C G L → Type 0
-    PostWorked x y =
-        HasWorkedAt traffic np first legal now site x.pass y.pass (readings x.worker.clock) (readings y.worker.clock) (links x.worker.door) (links y.worker.door) (faults x.worker.door) (faults y.worker.door) y.worker.served.items
-        y.worker.outcome
+    PostWorked x y = HasWorkedAt traffic (service np first legal now) site (at_post readings links faults x) (at_post readings links faults y)
 
     abbrev pub AllWorked : List (Post M D C G L) → List (Post M D C G L) → Type 0
     AllWorked [] [] = Unit {0}
@@ -133,7 +132,7 @@ module _ {M D C G L : Type 0} where
         let X = crewman readings links faults x.worker in
         let Y = crewman readings links faults y.worker in
         has_worked traffic np legal now k h birth timed x.pass y.pass X Y (ap (λ (q : Holder M). q.own) is) (ap (λ (q : Holder M). q.draws) is) (a.number_is ∙ number)
-        (subst (λ (n : ℕ). Works traffic np [] legal now n (record { pass = x.pass; clock = X.clock; door = X.door }) (record { pass = y.pass; clock = Y.clock; door = Y.door }) X.faults Y.faults Y.served Y.outcome) number a.works) told
+        (subst (λ (n : ℕ). Works traffic (service np [] legal now) n (record { pass = x.pass; clock = X.clock; door = X.door }) (record { pass = y.pass; clock = Y.clock; door = Y.door }) X.faults Y.faults Y.served Y.outcome) number a.works) told
 
     crew_told : (l : Lock M) (k n : ℕ) (zs zs' : List (Post M D C G L)) → passes_of zs ≡ newcomers l [] k n → AllWorked traffic readings links faults np [] legal now site zs zs' → Each (IsTold [] h) (passes_of zs')
         → HaveWorked traffic np birth h k (crewmen readings links faults (workers_of zs)) (crewmen readings links faults (workers_of zs'))

@@ -9,6 +9,7 @@ use Rattle.locked_history.specs.Fronts.{by}
 use Rattle.policy_words.specs.Naming.{NamedPolicy}
 use Rattle.connection_laws.specs.Connection.{part_of, IsTimed}
 use Rattle.connection_laws.proofs.Places.{part_of-append, part_of-part, all_mine, none_mine}
+use Rattle.connection_laws.specs.Services.{service}
 use Rattle.line_server.specs.declared.ended.Served.{Served}
 use Rattle.line_server.specs.Working.{Tale, begun_of, hours_of, owns_of, Gives, Spot, Works, AreServed as AreServedAt}
 use Rattle.line_server.proofs.Completing.{complete_by}
@@ -19,7 +20,7 @@ use Rattle.gtrbac_daemon.specs.Headline.{AddUp, AreServed, parts_from, HasWorked
 
 module _ {L : Type 0} (traffic : L → Traffic) (np : NamedPolicy) (legal : List Entry → Type 0) (now : List Entry → ℕ) (w : ℕ) (h : List Entry) where
   abbrev At : ℕ → List (Served L) → List (Tale L) → Type 0
-  At c ss xs = AreServedAt traffic np [] legal now w h [] c ss xs
+  At c ss xs = AreServedAt traffic (service np [] legal now) w h [] c ss xs
 
   -- links after the first c have no entry of connection k
   later_none : (c k : ℕ) (ss : List (Served L)) (xs : List (Tale L)) → k < c → At c ss xs → part_of (by w k) (owns_of xs) ≡ []
@@ -81,13 +82,13 @@ module _ {L : Type 0} (traffic : L → Traffic) (np : NamedPolicy) (legal : List
     adds (Some had) (Some left) ss xs same g = let e = links_add_up had left (Some left) xs g refl in omega (arith, e, same)
 
     pub has_worked : {M : Type 0} (before after : Holder M) (a b : Crewman L) → before.own ≡ [] → before.draws ≡ 0 → after.number ≡ w
-        → Works traffic np [] legal now w (record { pass = before; clock = a.clock; door = a.door }) (record { pass = after; clock = b.clock; door = b.door }) a.faults b.faults b.served b.outcome
+        → Works traffic (service np [] legal now) w (record { pass = before; clock = a.clock; door = a.door }) (record { pass = after; clock = b.clock; door = b.door }) a.faults b.faults b.served b.outcome
         → IsTold [] h after → HasWorked traffic np birth h w a b
     has_worked {M} before after a b fresh zero number k told =
         let xs : List (Tale L) = k.tales in
         let own_is : after.own ≡ owns_of xs = ap (λ (q : Holder M). q.own) k.worked.grows.after_is ∙ ap (λ (es : List Entry). es ++ owns_of xs) fresh in
         let whole : part w h ≡ owns_of xs = ap (λ (n : ℕ). part n h) (sym number) ∙ sym told.1 ∙ own_is in
-        let at : At 1 b.served xs = subst (λ (own : List Entry). AreServedAt traffic np [] legal now w h own 1 b.served xs) fresh (served_longer traffic np [] legal now w after.seen h before.own 1 b.served xs told.0 k.worked.links) in
+        let at : At 1 b.served xs = subst (λ (own : List Entry). AreServedAt traffic (service np [] legal now) w h own 1 b.served xs) fresh (served_longer traffic np [] legal now w after.seen h before.own 1 b.served xs told.0 k.worked.links) in
         let links = links_told 1 b.served xs at (λ j far. sym (part_of-part (by w j) h) ∙ ap (part_of (by w j)) whole) in
         let high = k.worked.grows.draws_high in
         let long = ap (λ (es : List Entry). length es) whole in

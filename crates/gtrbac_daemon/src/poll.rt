@@ -16,6 +16,7 @@ use crate::serving::{keeps, open};
 use crate::top::write_up;
 use crate::words::poll_word;
 use book_lines::Ledger;
+use connection_laws::Server;
 use gt_base::{Instant, List, Memory};
 use gt_io::{Clock, Gate, Ports, Shelf, Sink};
 use locked_history::Desk;
@@ -55,9 +56,15 @@ fn poll_and_close<R: Wait, P: Ports, C: Clock, G: Gate>(
     let Some(mut pass) = last else {
         unreachable!();
     };
-    let end = run(
-        rt, alloc, &desk, policy, &mut pass, ports, clock, gate, ends,
-    );
+    let server = Server {
+        rt,
+        alloc,
+        desk: &desk,
+        policy,
+        conn: 0,
+        gate,
+    };
+    let end = run(&server, &mut pass, ports, clock, ends);
     passes.put(pass);
     (desk.close(passes), end)
 }

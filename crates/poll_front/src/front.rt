@@ -16,8 +16,6 @@ use crate::serve::attend;
 use connection_laws::Server;
 use gt_base::{List, Machine, Memory};
 use gt_io::{Clock, Gate, PortEvent, Ports};
-use locked_history::Desk;
-use policy_book::Policy;
 use std::alloc::Global;
 use std::sync::Wait;
 use turn_lock::Pass;
@@ -27,16 +25,6 @@ const MOST_OPEN: usize = 1024;
 
 /// How many links are opened at most.
 const MOST_LINKS: usize = 100_000;
-
-/// A front: its ports, its clock and its gate, and how each of its links ended, in the order in
-/// which they were opened.
-#[derive(Drop)]
-pub struct Front<P: Ports, C: Clock, G: Gate> {
-    pub ports: P,
-    pub clock: C,
-    pub gate: G,
-    pub ends: List<Polled>,
-}
 
 /// Why a run ended.
 #[derive(Clone, Copy, PartialEq, Eq, Debug)]
@@ -265,51 +253,35 @@ fn let_go<P: Ports>(ports: &mut P, seats: &[Seat], ends: &mut List<Polled>)
     }
 }
 
-/// Serves the links of a front until its ports stop or fail, 100,000 were opened, the pass is worn,
-/// or there is no memory for a further link; lets the links go that are then open; and tells how
-/// each link ended, in their order. The pass is the only one of its desk. Each link is served as
-/// the connection of its own number.
+/// Serves the links of the ports until these stop or fail, 100,000 were opened, the pass is worn, or
+/// there is no memory for a further link; lets the links go that are then open; and tells how each
+/// link ended, in their order. The pass is the only one of its desk. Each link is served as the
+/// connection of its own number, whatever the number of the server that is handed in.
 pub fn run<M: Machine, R: Wait, P: Ports, C: Clock, G: Gate>(
-    rt: &R,
-    alloc: Global,
-    desk: &Desk<M>,
-    policy: &Policy,
+    server: &Server<M, R, G>,
     pass: &mut Pass<M>,
-    front: &mut Front<P, C, G>,
+    ports: &mut P,
+    clock: &mut C,
+    ends: &mut List<Polled>,
 ) -> RunEnd
-    requires idle { IsIdle (site_of desk.now) pass.old }
-    requires named { AreNamed policy.now (M.named desk.now.root) }
-    requires replies { RepliesCanBeTold policy.now (M.legal desk.now.root) }
-    requires none { front.old.ends.items ≡ [] }
-    requires ports { IsUncalled (P.harbour front.old.ports) }
-    ensures ran { Ran policy.now (M.list desk.now.root) (M.legal desk.now.root)
-        (M.now_of desk.now.root) pass.old.number pass.old pass.new (C.readings front.old.clock)
-        (C.readings front.new.clock) (P.harbour front.old.ports) (P.harbour front.new.ports)
-        front.new.ends.items result }
-    ensures pass { IsIdle (site_of desk.now) pass.new × (pass.new.number ≡ pass.old.number) }
+    requires idle { IsIdle (site_of server.now.desk.now) pass.old }
+    requires named { AreNamed server.now.policy.now (M.named server.now.desk.now.root) }
+    requires replies { RepliesCanBeTold server.now.policy.now (M.legal server.now.desk.now.root) }
+    requires none { ends.old.items ≡ [] }
+    requires ports { IsUncalled (P.harbour ports.old) }
+    ensures ran { Ran server.now.policy.now (M.list server.now.desk.now.root)
+        (M.legal server.now.desk.now.root) (M.now_of server.now.desk.now.root) pass.old.number
+        pass.old pass.new (C.readings clock.old) (C.readings clock.new) (P.harbour ports.old)
+        (P.harbour ports.new) ends.new.items result }
+    ensures pass { IsIdle (site_of server.now.desk.now) pass.new
+        × (pass.new.number ≡ pass.old.number) }
 {
-    let server = Server {
-        rt,
-        alloc,
-        desk,
-        policy,
-        conn: 0,
-        gate: &front.gate,
-    };
-    let mut seats = Vec::new(alloc);
+    let mut seats = Vec::new(server.alloc);
     let mut pace = Pace {
         calls: 0,
         reached: None,
     };
-    let end = serve_all(
-        &server,
-        pass,
-        &mut front.ports,
-        &mut front.clock,
-        &mut pace,
-        &mut seats,
-        &mut front.ends,
-    );
-    let_go(&mut front.ports, &seats, &mut front.ends);
+    let end = serve_all(server, pass, ports, clock, &mut pace, &mut seats, ends);
+    let_go(ports, &seats, ends);
     end
 }
