@@ -29,13 +29,22 @@ begin() {
     # shellcheck disable=SC2086 # no word, or one
     "$program" $mode "$top/examples/ward.policy" >log &
     server=$!
-    sleep 0.5
+    # it listens once a line is answered that makes no entry
+    for port in 7743 ${mode:+7753 7754}; do
+        for _ in $(seq 100); do
+            ./load 1 0 'as -' "$port" >cell 2>&1 && break
+            sleep 0.1
+        done
+    done
     before=$(resident)
 }
 end() {
     touch gtrbacd.stop
     wait "$server" || echo "bench/serve.sh: gtrbacd ended with status $?" >&2
+    server=
 }
+server=
+trap '[ -z "$server" ] || kill "$server"' EXIT
 asked=
 row() {
     name=$1 line=$2 ports=$3
