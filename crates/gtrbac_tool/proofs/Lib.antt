@@ -16,4 +16,3 @@ pub mod Steps
 pub mod Succeeding
 pub mod Tallying
 pub mod Calls
-pub mod Former
