@@ -1,4 +1,4 @@
--- What is asked behind a script, as it is told and caused.
+-- What is asked behind a script, as it is told.
 use Rattle.std.proofs.Common.{◌≡◌, ℕ, List, [], Option, None, ◌⊎◌, inl, inr, refl, sym, ◌∙◌, subst}
 use Rattle.std.specs.Prelude.{Result, Ok, Err, IfOk}
 use Rattle.gt_base.specs.declared.requests.Entry.{Entry}
@@ -6,17 +6,14 @@ use Rattle.gtrbac_model.specs.Policy.{Policy}
 use Rattle.policy_words.specs.Naming.{NamedPolicy}
 use Rattle.policy_commands.specs.declared.ends.End.{End}
 use Rattle.policy_commands.specs.Ends.{Told, told, seen_end}
-use Rattle.policy_commands.specs.Policies.{safe_in}
 use Rattle.gtrbac_tool.specs.declared.ahead.Asked.{Asked}
-use Rattle.gtrbac_tool.specs.declared.questions.Question.{Question}
 use Rattle.gtrbac_tool.specs.declared.script.Outcome.{Outcome}
 use Rattle.gtrbac_tool.specs.declared.starting.Ran.TheVariants.{Unborn, Born}
 use Rattle.gtrbac_tool.specs.Told.{no_birth}
 use Rattle.gtrbac_tool.specs.Script.{Start, never, born, failed, start_of, EndsFrom}
 use Rattle.gtrbac_tool.specs.Started.{IsUnborn, RanFrom}
-use Rattle.gtrbac_tool.specs.Late.{asked_of, Follows, AnswersFrom}
-use Rattle.gtrbac_tool.specs.Causes.{IsRunStatus, IsScriptCaused, IsCaused}
-use Rattle.gtrbac_tool.proofs.Causing.{FailsWith, starts, played_status, status_of}
+use Rattle.gtrbac_tool.specs.Late.{Follows, AnswersFrom}
+use Rattle.gtrbac_tool.proofs.Causing.{FailsWith, starts, status_of}
 
 -- the status is that of the run
 followed : (p : Policy) (asked : Asked) (birth : ℕ) (h : List Entry) (ran end : Told) → Follows p asked birth h ran end → end.status ≡ ran.status
@@ -27,20 +24,6 @@ pub ran_of : (np : NamedPolicy) (asked : Asked) (start : Start) (end : Told) →
 ran_of np asked never end is = (told 0 [], refl, status_of end no_birth is)
 ran_of np asked (born birth n lines) end a = (a.ran, (a.history, a.run), followed np.policy asked birth a.history a.ran end a.follows)
 ran_of np asked (failed t) end is = (t, refl, status_of end t is)
-
-run_so : (np : NamedPolicy) (asked : Asked) (lines : List (List ℕ)) (end : Told) → AnswersFrom np asked (start_of np 1 lines) end → IsRunStatus end.status
-run_so np asked lines end is = let ran = ran_of np asked (start_of np 1 lines) end is in subst IsRunStatus (sym ran.2) (played_status np lines ran.0 ran.1)
-
-pub answered_caused : {E : Type 0} (np : NamedPolicy) (asked : Asked) (lines : List (List ℕ)) (lost : Type 0) (input : Option (List ℕ)) (r : Result End E)
-    → IfOk r (λ e. AnswersFrom np asked (start_of np 1 lines) (seen_end e)) → IfOk r (λ e. IsScriptCaused lost input e.status)
-answered_caused np asked lines lost input (Ok e) h = inl (run_so np asked lines (seen_end e) h)
-answered_caused np asked lines lost input (Err f) h = tt
-
-pub ask_caused : {E : Type 0} (text : List ℕ) (np : NamedPolicy) (question : Question) (lost : Type 0) (input : Option (List ℕ)) (r : Result End E) → safe_in text ≡ Ok np
-    → IfOk r (λ e. ((e.status ≡ 13) × (asked_of np question ≡ None)) ⊎ IsScriptCaused lost input e.status) → IfOk r (λ e. IsCaused lost text input e.status)
-ask_caused text np question lost input (Ok e) safe (inl h) = inr (inr (inl (h.0, (np, safe, (question, h.1)))))
-ask_caused text np question lost input (Ok e) safe (inr h) = inr (inr (inr h))
-ask_caused text np question lost input (Err f) safe h = tt
 
 -- how a script was run, with what is asked behind it
 

@@ -1,30 +1,36 @@
--- Each status comes where it is caused, and only there.
-use Rattle.std.proofs.Common.{◌≡◌, ℕ, Bool, true, false, List, Option, Some, None, ◌⊎◌, inl, inr, refl, sym, ap, ◌∙◌, subst, MatchBool}
-use Rattle.std.specs.Prelude.{Result, Ok, Err, IsSome, IsSomeAnd, codes}
+-- Each status has its cause, and each cause its status.
+use Rattle.std.proofs.Common.{◌≡◌, ℕ, ◌<◌, ◌≤◌, Bool, List, length, Option, Some, None, ◌⊎◌, inl, inr, refl, sym, ap, ◌∙◌, subst, arith}
+use Rattle.std.specs.Prelude.{Result, Ok, Err, IfSome, IsSome, IsSomeAnd, codes}
 use Rattle.gt_io.specs.Causes.{Rose}
-use Rattle.gt_io.specs.Shelf.{Contents}
-use Rattle.gt_text.specs.Lines.{is_longer, lines_of}
+use Rattle.gt_io.specs.Shelf.{Contents, Lacks}
+use Rattle.gt_text.specs.Lines.{lines_of}
 use Rattle.gtrbac_model.specs.Safety.{IsSafe, the_cycle}
 use Rattle.walk_laws.proofs.Closing.{tells}
 use Rattle.policy_words.specs.Naming.{NamedPolicy}
 use Rattle.policy_words.specs.PolicyRead.{PolicyFault, policy_read}
 use Rattle.policy_commands.specs.Ends.{Told, told}
+use Rattle.policy_commands.specs.Finding.{read_fault, too_long, max_policy, IsLongPolicy, IsPolicyText, MissesText}
+use Rattle.policy_commands.specs.Printing.{IsPrinted}
 use Rattle.policy_commands.specs.Policies.{read_or_told, policy_in, safe_or_told, judged, judged_or_told, safe_in, HasFault, IsUnsafeText}
 use Rattle.policy_commands.specs.Commands.{laid_or_told, fmt_end, safe_or_end, check_end}
 use Rattle.policy_commands.specs.Meanings.{IsSafeText}
 use Rattle.policy_commands.proofs.Answered.{safe_means, unsafe_means, fault_means, fmt_fault_means}
 use Rattle.gtrbac_tool.specs.declared.questions.Question.{Question}
 use Rattle.gtrbac_tool.specs.declared.ahead.Asked.{Asked}
-use Rattle.gtrbac_tool.specs.Late.{asked_of, AnswersIf}
-use Rattle.gtrbac_tool.specs.Told.{too_long}
-use Rattle.gtrbac_tool.specs.Script.{start_of, EndsFrom, EndsIf, max_script}
-use Rattle.gtrbac_tool.specs.Meanings.{MeetsFault, MeetsFull, RunMeans}
-use Rattle.gtrbac_tool.specs.Causes.{IsRunStatus}
-use Rattle.gtrbac_tool.specs.Tool.{Command, check, fmt, run, ask, AskedEnds, AskEnds, named_by, command_of, max_policy, ScriptEnds, SafeEnds, TextEnds, NamedEnds, SpokenEnds, IsPrinted, Seen, AnswersCommand}
-use Rattle.gtrbac_tool.specs.Exact.{IsAskCause, IsPlayCause, IsScriptCause, IsSafeOf, IsPolicyCause, IsTextCause, IsNamedCause, IsCause, IsUnread, IsOutside, Exact, Caused, Complete}
-use Rattle.gtrbac_tool.proofs.Causing.{played_status, status_of}
-use Rattle.gtrbac_tool.proofs.Asking.{ran_of}
+use Rattle.gtrbac_tool.specs.Late.{asks_of}
+use Rattle.gtrbac_tool.specs.Told.{usage, unknown_name}
+use Rattle.gtrbac_tool.specs.Script.{IsRunStatus, start_of, EndsFrom, max_script}
+use Rattle.gtrbac_tool.specs.Meanings.{MeetsFault, MeetsFull, IsWhole, RunMeans}
+use Rattle.gtrbac_tool.specs.Summary.{Gen, IsGen, IsNoGen, GenEnds}
+use Rattle.gtrbac_tool.specs.Commands.{Command, check, fmt, run, named_by, command_of}
+use Rattle.gtrbac_tool.specs.Ends.{PlaysTo, ScriptEnds, AskedEnds, JudgedEnds, TextEnds, FoundEnds, IsNoCommand, WordsEnd, generated, unspoken, spoken}
+use Rattle.gtrbac_tool.specs.Scenes.{Scene}
+use Rattle.gtrbac_tool.specs.Causes.{Sight, perhaps, surely, Sees, Fails, IsSafeOf, HasPolicy, Checks, Lays, Judges, Plays, Short, OnShelf, Over, Text, Script, IsMissing, IsTooLong, IsLongScript, Within, Cause, safe, laid, played, made, no_command, faulty, unsafe, missing, unread, unwritten, long_policy, long_script, bad_line, no_memory, full, unknown}
+use Rattle.gtrbac_tool.specs.Tool.{IsUnread, IsUnwritten, IsSteady, Answers, IsDue, Leaves, RunsTool}
+use Rattle.gtrbac_tool.proofs.Causing.{played_status, status_of, gen_no_command}
+use Rattle.gtrbac_tool.proofs.Limits.{ran_to}
 use Rattle.gtrbac_tool.proofs.OneEnd.{means_so}
+use Rattle.gtrbac_tool.proofs.Succeeding.{gen_succeeds}
 
 -- a policy that is refused ends with this status
 abbrev EndsWith : ℕ → Result NamedPolicy Told → Type 0
@@ -65,7 +71,7 @@ module _ (text : List ℕ) where
     where
       by : (c : Option (List ℕ)) → the_cycle np.policy.triggers ≡ c → HasFault text ⊎ IsUnsafeText text ⊎ ((q : NamedPolicy) × IsSafeOf text q)
       by None c = inr (inr (np, record { is = e; safe = (tells np.policy.triggers).1 c }))
-      by (Some es) c = inr (inl (record { policy = np; is = e; unsafe = λ safe. let is : Some es ≡ None = sym c ∙ (tells np.policy.triggers).0 safe in cc (is) }))
+      by (Some es) c = inr (inl (record { policy = np; is = e; unsafe = λ good. let is : Some es ≡ None = sym c ∙ (tells np.policy.triggers).0 good in cc (is) }))
 
   pub sort : HasFault text ⊎ IsUnsafeText text ⊎ ((np : NamedPolicy) × IsSafeOf text np)
   sort = sort_of (policy_read text) refl
@@ -88,214 +94,410 @@ module _ (text : List ℕ) where
       let there : IsSafeOf text t.policy = record { is = t.is; safe = t.safe } in
       subst (IsSafeOf text) (ok_same t.policy np (sym (safe_found t.policy there) ∙ e)) there
 
--- the end has the status that is caused, or the outside failed
+-- what an option has
 
-abbrev Fits : Type 0 → ℕ → Told → Type 0
-Fits unread s end = (end.status ≡ s) ⊎ ((end.status ≡ 4) × unread)
+pub some_of : {A : Type 0} (P : A → Type 0) (o : Option A) → IsSomeAnd o P → (x : A) × (o ≡ Some x) × P x
+some_of P None h = absurd h
+some_of P (Some x) h = (x, refl, h)
 
-module _ (hard failed : Type 0) where
-  abbrev Lost : Type 0
-  Lost = hard ⊎ failed
+pub has_some : {A : Type 0} (P : A → Type 0) (o : Option A) (x : A) → o ≡ Some x → P x → IsSomeAnd o P
+has_some {A} P o x e h = subst (λ (y : Option A). IsSomeAnd y P) (sym e) h
 
-  module _ (np : NamedPolicy) (safe : IsSafe np.policy.triggers) (script : List ℕ) where
-    play_fits : (end : Told) (s : ℕ) → EndsFrom np (start_of np 1 (lines_of script)) end → IsPlayCause np script s → end.status ≡ s
-    play_fits end s is cause = by cause
-      where
-        means : RunMeans np script end
-        means = means_so np script safe end is
+pub one_some : {A : Type 0} (o : Option A) (x y : A) → o ≡ Some x → o ≡ Some y → x ≡ y
+one_some {A} o x y e n = let same : ◌≡◌ {A = Option A} (Some x) (Some y) = sym e ∙ n in cc same
 
-        none : (MeetsFault np script → ⊥) → (MeetsFull np script → ⊥) → IsRunStatus end.status → end.status ≡ 0
-        none a b (inl z) = z
-        none a b (inr (inl z)) = absurd (a (means.fault.0 z))
-        none a b (inr (inr z)) = absurd (b (means.full.0 z))
+pub none_apart : {A : Type 0} (o : Option A) (x : A) → o ≡ None → o ≡ Some x → ⊥
+none_apart {A} o x e n = let no : ◌≡◌ {A = Option A} None (Some x) = sym e ∙ n in absurd (cc no)
 
-        by : IsPlayCause np script s → end.status ≡ s
-        by (inl c) = means.fault.1 c.1 ∙ sym c.0
-        by (inr (inl c)) = means.full.1 c.1 ∙ sym c.0
-        by (inr (inr c)) = none c.1 c.2 (played_status np (lines_of script) end is) ∙ sym c.0
+-- what the status of a script says
 
-    script_fits : (b : Bool) (end : Told) (s : ℕ) → EndsIf b np script end → MatchBool b (s ≡ 6) (IsPlayCause np script s) → end.status ≡ s
-    script_fits true end s is cause = status_of end _ is ∙ sym cause
-    script_fits false end s is cause = play_fits end s is cause
+module _ (np : NamedPolicy) (good : IsSafe np.policy.triggers) (script : List ℕ) (short : length script ≤ max_script) (asked : Option Asked) (end : Told) (is : PlaysTo np asked script end) where
+  ran : (ran : Told) × EndsFrom np (start_of np 1 (lines_of script)) ran × (end.status ≡ ran.status)
+  ran = ran_to np script short asked end is
 
-    play_caused : (end : Told) → EndsFrom np (start_of np 1 (lines_of script)) end → IsPlayCause np script end.status
-    play_caused end is = by (played_status np (lines_of script) end is)
-      where
-        means : RunMeans np script end
-        means = means_so np script safe end is
+  means : RunMeans np script ran.0
+  means = means_so np script good ran.0 ran.1
 
-        by : IsRunStatus end.status → IsPlayCause np script end.status
-        by (inl z) = inr (inr (z, (λ c. let is : 7 ≡ 0 = sym (means.fault.1 c) ∙ z in cc (is)), (λ c. let is : 9 ≡ 0 = sym (means.full.1 c) ∙ z in cc (is))))
-        by (inr (inl z)) = inl (z, means.fault.0 z)
-        by (inr (inr z)) = inr (inl (z, means.full.0 z))
+  one_of_three : IsRunStatus ran.0.status
+  one_of_three = played_status np (lines_of script) ran.0 ran.1
 
-    script_caused_so : (b : Bool) (end : Told) → EndsIf b np script end → MatchBool b (end.status ≡ 6) (IsPlayCause np script end.status)
-    script_caused_so true end is = status_of end _ is
-    script_caused_so false end is = play_caused end is
+-- over the text that a shelf has, where it tells
+pub on_shelf : (Holds : Command → List ℕ → Type 0) (c : Command) (text : List ℕ) (o : Contents)
+    → IfSome o (λ text_of. text_of (named_by c) ≡ Some text) → Holds c text → OnShelf perhaps o Holds c
+on_shelf Holds c text None found h = tt
+on_shelf Holds c text (Some text_of) found h = has_some (Holds c) (text_of (named_by c)) text found h
 
-  input_fits : (np : NamedPolicy) → IsSafe np.policy.triggers → (input : Option (List ℕ)) (end : Told) (s : ℕ) → ScriptEnds failed np input end → IsSomeAnd input (λ script. IsScriptCause np script s) → Fits Lost s end
-  input_fits np safe None end s is cause = absurd cause
-  input_fits np safe (Some script) end s (inl lost) cause = inr (status_of end _ lost.0, inr lost.1)
-  input_fits np safe (Some script) end s (inr is) cause = inl (script_fits np safe script (is_longer max_script script) end s is cause)
-
-  refused_fits : (r : Result NamedPolicy Told) (input : Option (List ℕ)) (end : Told) (s t : ℕ) → EndsWith t r → s ≡ t → SafeEnds failed r input end → end.status ≡ s
-  refused_fits (Ok np) input end s t ends same is = absurd ends
-  refused_fits (Err refused) input end s t ends same is = status_of end refused is ∙ ends ∙ sym same
-
-  safe_fits : (np : NamedPolicy) (r : Result NamedPolicy Told) → IsSafe np.policy.triggers → r ≡ Ok np → (input : Option (List ℕ)) (end : Told) (s : ℕ) → SafeEnds failed r input end
-      → IsSomeAnd input (λ script. IsScriptCause np script s) → Fits Lost s end
-  safe_fits np r safe e input end s is cause = input_fits np safe input end s (subst (λ (x : Result NamedPolicy Told). SafeEnds failed x input end) e is) cause
-
-  answers_fits : (np : NamedPolicy) → IsSafe np.policy.triggers → (asked : Asked) (script : List ℕ) (b : Bool) (end : Told) (s : ℕ) → AnswersIf b np asked script end → MatchBool b (s ≡ 6) (IsPlayCause np script s) → end.status ≡ s
-  answers_fits np safe asked script true end s is cause = status_of end _ is ∙ sym cause
-  answers_fits np safe asked script false end s is cause = let ran = ran_of np asked (start_of np 1 (lines_of script)) end is in ran.2 ∙ play_fits np safe script ran.0 s ran.1 cause
-
-  asked_fits : (np : NamedPolicy) → IsSafe np.policy.triggers → (asked : Option Asked) (input : Option (List ℕ)) (end : Told) (s : ℕ) → AskedEnds failed np asked input end → IsAskCause np asked input s → Fits Lost s end
-  asked_fits np safe None input end s is cause = inl (status_of end _ is ∙ sym cause)
-  asked_fits np safe (Some asked) None end s is cause = absurd cause
-  asked_fits np safe (Some asked) (Some script) end s (inl lost) cause = inr (status_of end _ lost.0, inr lost.1)
-  asked_fits np safe (Some asked) (Some script) end s (inr is) cause = inl (answers_fits np safe asked script (is_longer max_script script) end s is cause)
-
-  unasked_fits : (question : Question) (r : Result NamedPolicy Told) (input : Option (List ℕ)) (end : Told) (s t : ℕ) → EndsWith t r → s ≡ t → AskEnds failed question r input end → end.status ≡ s
-  unasked_fits question (Ok np) input end s t ends same is = absurd ends
-  unasked_fits question (Err refused) input end s t ends same is = status_of end refused is ∙ ends ∙ sym same
-
-  ask_fits : (np : NamedPolicy) (question : Question) (r : Result NamedPolicy Told) → IsSafe np.policy.triggers → r ≡ Ok np → (input : Option (List ℕ)) (end : Told) (s : ℕ) → AskEnds failed question r input end
-      → IsAskCause np (asked_of np question) input s → Fits Lost s end
-  ask_fits np question r safe e input end s is cause = asked_fits np safe (asked_of np question) input end s (subst (λ (x : Result NamedPolicy Told). AskEnds failed question x input end) e is) cause
-
-  text_fits : (command : Command) (text : List ℕ) (input : Option (List ℕ)) (end : Told) (s : ℕ) → TextEnds failed command text input end → IsTextCause command text input s → Fits Lost s end
-  text_fits (check name) text input end s is (inl (inl c)) = inl (status_of end _ is ∙ (fault_means text).1 c.1 ∙ sym c.0)
-  text_fits (check name) text input end s is (inl (inr c)) = inl (status_of end _ is ∙ (unsafe_means text).1 c.1 ∙ sym c.0)
-  text_fits (check name) text input end s is (inr c) = inl (status_of end _ is ∙ status_of (check_end text) _ ((safe_means text).1 c.1) ∙ sym c.0)
-  text_fits (fmt name) text input end s is (inl c) = inl (status_of end _ is ∙ (fmt_fault_means text).1 c.1 ∙ sym c.0)
-  text_fits (fmt name) text input end s is (inr c) = inl (status_of end _ is ∙ laid_found text c.1.0 c.1.1 ∙ sym c.0)
-  text_fits (run name) text input end s is (inl (inl c)) = inl (refused_fits (safe_in text) input end s 2 (fault_found text c.1) c.0 is)
-  text_fits (run name) text input end s is (inl (inr c)) = inl (refused_fits (safe_in text) input end s 3 (cycle_found text c.1) c.0 is)
-  text_fits (run name) text input end s is (inr c) = safe_fits c.0 (safe_in text) c.1.safe (safe_found text c.0 c.1) input end s is c.2
-  text_fits (ask name question) text input end s is (inl (inl c)) = inl (unasked_fits question (safe_in text) input end s 2 (fault_found text c.1) c.0 is)
-  text_fits (ask name question) text input end s is (inl (inr c)) = inl (unasked_fits question (safe_in text) input end s 3 (cycle_found text c.1) c.0 is)
-  text_fits (ask name question) text input end s is (inr c) = ask_fits c.0 question (safe_in text) c.1.safe (safe_found text c.0 c.1) input end s is c.2
-
-  limited_fits : (b : Bool) (command : Command) (text : List ℕ) (input : Option (List ℕ)) (end : Told) (s : ℕ) → MatchBool b (end ≡ too_long (codes "policy")) (TextEnds failed command text input end)
-      → MatchBool b (s ≡ 6) (IsTextCause command text input s) → Fits Lost s end
-  limited_fits true command text input end s is cause = inl (status_of end _ is ∙ sym cause)
-  limited_fits false command text input end s is cause = text_fits command text input end s is cause
-
-  named_fits : (command : Command) (text : Option (List ℕ)) (input : Option (List ℕ)) (end : Told) (s : ℕ) → NamedEnds failed command text input end → IsNamedCause command text input s → Fits Lost s end
-  named_fits command None input end s is cause = inl (status_of end _ is ∙ sym cause)
-  named_fits command (Some text) input end s is cause = limited_fits (is_longer max_policy text) command text input end s is cause
-
-  spoken_fits : (command : Option Command) (contents : Contents) (input : Option (List ℕ)) (end : Told) (s : ℕ) → SpokenEnds hard failed command contents input end → IsCause command contents input s → Fits Lost s end
-  spoken_fits None contents input end s is cause = inl (status_of end _ is ∙ sym cause)
-  spoken_fits (Some command) None input end s is cause = absurd cause
-  spoken_fits (Some command) (Some text_of) input end s (inl lost) cause = inr (status_of end _ lost.0, inl lost.1)
-  spoken_fits (Some command) (Some text_of) input end s (inr is) cause = named_fits command (text_of (named_by command)) input end s is cause
-
-  -- and some status is caused
-
-  abbrev Finds : (ℕ → Type 0) → Told → Type 0
-  Finds Cause end = ((end.status ≡ 4) × Lost) ⊎ ((s : ℕ) × Cause s)
-
-  input_finds : (np : NamedPolicy) → IsSafe np.policy.triggers → (input : Option (List ℕ)) (end : Told) → IsSome input → ScriptEnds failed np input end → Finds (λ s. IsSomeAnd input (λ script. IsScriptCause np script s)) end
-  input_finds np safe None end there is = absurd (cc (there))
-  input_finds np safe (Some script) end there (inl lost) = inl (status_of end _ lost.0, inr lost.1)
-  input_finds np safe (Some script) end there (inr is) = inr (end.status, script_caused_so np safe script (is_longer max_script script) end is)
-
-  run_finds : (text : List ℕ) (np : NamedPolicy) (input : Option (List ℕ)) (end : Told) → IsSafeOf text np → IsSome input → ScriptEnds failed np input end
-      → Finds (λ s. IsPolicyCause text s ⊎ ((q : NamedPolicy) × IsSafeOf text q × IsSomeAnd input (λ script. IsScriptCause q script s))) end
-  run_finds text np input end of there is = elim (input_finds np of.safe input end there is) [ inl lost ↦ inl lost | inr c ↦ inr (c.0, inr (np, of, c.1)) ]
-
-  answers_caused : (np : NamedPolicy) (safe : IsSafe np.policy.triggers) (asked : Asked) (script : List ℕ) (b : Bool) (end : Told) → AnswersIf b np asked script end → MatchBool b (end.status ≡ 6) (IsPlayCause np script end.status)
-  answers_caused np safe asked script true end is = status_of end _ is
-  answers_caused np safe asked script false end is =
-      let ran = ran_of np asked (start_of np 1 (lines_of script)) end is in subst (λ (s : ℕ). IsPlayCause np script s) (sym ran.2) (play_caused np safe script ran.0 ran.1)
-
-  asked_finds : (np : NamedPolicy) → IsSafe np.policy.triggers → (asked : Option Asked) (input : Option (List ℕ)) (end : Told) → IsSome input → AskedEnds failed np asked input end → Finds (IsAskCause np asked input) end
-  asked_finds np safe None input end there is = inr (13, refl)
-  asked_finds np safe (Some asked) None end there is = absurd (cc (there))
-  asked_finds np safe (Some asked) (Some script) end there (inl lost) = inl (status_of end _ lost.0, inr lost.1)
-  asked_finds np safe (Some asked) (Some script) end there (inr is) = inr (end.status, answers_caused np safe asked script (is_longer max_script script) end is)
-
-  ask_finds : (text : List ℕ) (np : NamedPolicy) (question : Question) (input : Option (List ℕ)) (end : Told) → IsSafeOf text np → IsSome input → AskedEnds failed np (asked_of np question) input end
-      → Finds (λ s. IsPolicyCause text s ⊎ ((q : NamedPolicy) × IsSafeOf text q × IsAskCause q (asked_of q question) input s)) end
-  ask_finds text np question input end of there is = elim (asked_finds np of.safe (asked_of np question) input end there is) [ inl lost ↦ inl lost | inr c ↦ inr (c.0, inr (np, of, c.1)) ]
-
-  text_finds : (command : Command) (text : List ℕ) (input : Option (List ℕ)) (end : Told) → IsSome input → TextEnds failed command text input end → Finds (IsTextCause command text input) end
-  text_finds (check name) text input end there is =
-      elim (sort text) [
-        | inl f ↦ inr (2, inl (inl (refl, f)))
-        | inr rest ↦ elim rest [ inl u ↦ inr (3, inl (inr (refl, u))) | inr s ↦ inr (0, inr (refl, safe_text text s.0 (safe_found text s.0 s.1))) ]
-      ]
-  text_finds (fmt name) text input end there is =
-      elim (sort text) [
-        | inl f ↦ inr (2, inl (refl, f))
-        | inr rest ↦ elim rest [ inl u ↦ inr (0, inr (refl, (u.policy, u.is))) | inr s ↦ inr (0, inr (refl, (s.0, s.1.is))) ]
-      ]
-  text_finds (run name) text input end there is =
-      elim (sort text) [
-        | inl f ↦ inr (2, inl (inl (refl, f)))
-        | inr rest ↦ elim rest [
-          | inl u ↦ inr (3, inl (inr (refl, u)))
-          | inr s ↦ run_finds text s.0 input end s.1 there (subst (λ (x : Result NamedPolicy Told). SafeEnds failed x input end) (safe_found text s.0 s.1) is)
-        ]
-      ]
-  text_finds (ask name question) text input end there is =
-      elim (sort text) [
-        | inl f ↦ inr (2, inl (inl (refl, f)))
-        | inr rest ↦ elim rest [
-          | inl u ↦ inr (3, inl (inr (refl, u)))
-          | inr s ↦ ask_finds text s.0 question input end s.1 there (subst (λ (x : Result NamedPolicy Told). AskEnds failed question x input end) (safe_found text s.0 s.1) is)
-        ]
-      ]
-
-  limited_finds : (b : Bool) (command : Command) (text : List ℕ) (input : Option (List ℕ)) (end : Told) → IsSome input → MatchBool b (end ≡ too_long (codes "policy")) (TextEnds failed command text input end)
-      → Finds (λ s. MatchBool b (s ≡ 6) (IsTextCause command text input s)) end
-  limited_finds true command text input end there is = inr (6, refl)
-  limited_finds false command text input end there is = text_finds command text input end there is
-
-  named_finds : (command : Command) (text : Option (List ℕ)) (input : Option (List ℕ)) (end : Told) → IsSome input → NamedEnds failed command text input end → Finds (IsNamedCause command text input) end
-  named_finds command None input end there is = inr (4, refl)
-  named_finds command (Some text) input end there is = limited_finds (is_longer max_policy text) command text input end there is
-
-  spoken_finds : (command : Option Command) (contents : Contents) (input : Option (List ℕ)) (end : Told) → IsSome contents → IsSome input → SpokenEnds hard failed command contents input end
-      → Finds (IsCause command contents input) end
-  spoken_finds None contents input end tells there is = inr (1, refl)
-  spoken_finds (Some command) None input end tells there is = absurd (cc (tells))
-  spoken_finds (Some command) (Some text_of) input end tells there (inl lost) = inl (status_of end _ lost.0, inl lost.1)
-  spoken_finds (Some command) (Some text_of) input end tells there (inr is) = named_finds command (text_of (named_by command)) input end there is
-
--- of the call
-
-module _ (words : List (List ℕ)) (status : ℕ) (a b : Seen) where
-  printed_fits : (s : ℕ) (end : Told) → Fits (IsUnread a b) s end → IsPrinted status end a.written b.written a.written_faults b.written_faults → (status ≡ s) ⊎ IsOutside status a b
-  printed_fits s end (inl is) (inl p) = inl (p.0 ∙ is)
-  printed_fits s end (inr lost) (inl p) = inr (inr (inr (p.0 ∙ lost.0, lost.1)))
-  printed_fits s end fits (inr p) = inr (inr (inl (p.0, p.1)))
-
-  pub exact : AnswersCommand words status a b → Exact words status a b
-  exact (inl wants) other s cause = inr (inl wants.0)
-  exact (inr h) other s cause =
-      printed_fits s h.0 (spoken_fits (Rose a.hard b.hard) (Rose a.input_faults b.input_faults) (command_of words) a.contents a.input h.0 s h.1 cause) h.2
-
-  pub caused : AnswersCommand words status a b → Caused words status a b
-  caused (inl wants) other tells there = inr (inl wants.0)
-  caused (inr h) other tells there = by (spoken_finds (Rose a.hard b.hard) (Rose a.input_faults b.input_faults) (command_of words) a.contents a.input h.0 tells there h.1)
+-- over a text a command ends with 4 by its input alone
+module _ (failed : Type 0) (input : Option (List ℕ)) (end : Told) (four : end.status ≡ 4) where
+  played_four : (np : NamedPolicy) → IsSafe np.policy.triggers → (asked : Option Asked) (script : List ℕ) → length script ≤ max_script → PlaysTo np asked script end → failed
+  played_four np good asked script short plays = by (one_of_three np good script short asked end plays)
     where
-      lost_so : (h.0.status ≡ 4) × IsUnread a b → IsPrinted status h.0 a.written b.written a.written_faults b.written_faults → IsOutside status a b
-      lost_so lost (inl p) = inr (inr (p.0 ∙ lost.0, lost.1))
-      lost_so lost (inr p) = inr (inl (p.0, p.1))
+      r : (q : Told) × EndsFrom np (start_of np 1 (lines_of script)) q × (end.status ≡ q.status)
+      r = ran np good script short asked end plays
 
-      by : Finds (Rose a.hard b.hard) (Rose a.input_faults b.input_faults) (IsCause (command_of words) a.contents a.input) h.0 → IsCause (command_of words) a.contents a.input status ⊎ IsOutside status a b
-      by (inl lost) = inr (lost_so lost h.2)
-      by (inr c) =
-          elim (exact (inr h) other c.0 c.1) [ inl same ↦ inl (subst (λ (s : ℕ). IsCause (command_of words) a.contents a.input s) (sym same) c.1) | inr out ↦ inr out ]
+      by : IsRunStatus r.0.status → failed
+      by (inl z) = let e : end.status ≡ 0 = r.2 ∙ z in absurd (cc (e, four))
+      by (inr (inl z)) = let e : end.status ≡ 7 = r.2 ∙ z in absurd (cc (e, four))
+      by (inr (inr z)) = let e : end.status ≡ 9 = r.2 ∙ z in absurd (cc (e, four))
 
-  pub complete : AnswersCommand words status a b → Complete words status a b
-  complete answers other cause read written = by (exact answers other 0 cause)
+  asked_four : (np : NamedPolicy) → IsSafe np.policy.triggers → (o : Option (Option Asked)) → AskedEnds failed np o input end → failed
+  asked_four np good None e = let is : end.status ≡ 13 = status_of end _ e in absurd (cc (is, four))
+  asked_four np good (Some asked) (inl e) = e.1
+  asked_four np good (Some asked) (inr (inl e)) = let is : end.status ≡ 6 = status_of end _ e.0 in absurd (cc (is, four))
+  asked_four np good (Some asked) (inr (inr e)) = played_four np good asked e.0 e.2 e.3
+
+  judged_four : (question : Option Question) (text : List ℕ) → JudgedEnds failed question (safe_in text) input end → failed
+  judged_four question text e =
+      elim (sort text) [
+        | inl f ↦ refused_four 2 (λ is. cc (is, four)) (safe_in text) (fault_found text f) e
+        | inr (inl u) ↦ refused_four 3 (λ is. cc (is, four)) (safe_in text) (cycle_found text u) e
+        | inr (inr s) ↦ asked_four s.0 s.1.safe (asks_of s.0 question) (subst (λ (r : Result NamedPolicy Told). JudgedEnds failed question r input end) (safe_found text s.0 s.1) e)
+      ]
     where
-      by : (status ≡ 0) ⊎ IsOutside status a b → (status ≡ 0) ⊎ (status ≡ 8)
-      by (inl zero) = inl zero
-      by (inr (inl eight)) = inr eight
-      by (inr (inr (inl five))) = absurd (written five.1)
-      by (inr (inr (inr four))) = absurd (read four.1)
+      refused_four : (s : ℕ) → (end.status ≡ s → ⊥) → (r : Result NamedPolicy Told) → EndsWith s r → JudgedEnds failed question r input end → failed
+      refused_four s other (Ok np) ends is = absurd ends
+      refused_four s other (Err t) ends is = absurd (other (status_of end t is ∙ ends))
+
+  pub text_four : (c : Command) (text : List ℕ) → TextEnds failed c text input end → failed
+  text_four (check name) text e =
+      elim (sort text) [
+        | inl f ↦ let is : end.status ≡ 2 = status_of end _ e ∙ (fault_means text).1 f in absurd (cc (is, four))
+        | inr (inl u) ↦ let is : end.status ≡ 3 = status_of end _ e ∙ (unsafe_means text).1 u in absurd (cc (is, four))
+        | inr (inr s) ↦ let is : end.status ≡ 0 = status_of end _ e ∙ status_of (check_end text) _ ((safe_means text).1 (safe_text text s.0 (safe_found text s.0 s.1))) in absurd (cc (is, four))
+      ]
+  text_four (fmt name) text e =
+      elim (sort text) [
+        | inl f ↦ let is : end.status ≡ 2 = status_of end _ e ∙ (fmt_fault_means text).1 f in absurd (cc (is, four))
+        | inr (inl u) ↦ let is : end.status ≡ 0 = status_of end _ e ∙ laid_found text u.policy u.is in absurd (cc (is, four))
+        | inr (inr s) ↦ let is : end.status ≡ 0 = status_of end _ e ∙ laid_found text s.0 s.1.is in absurd (cc (is, four))
+      ]
+  text_four (run name question) text e = judged_four question text e
+
+module _ {S I : Type 0} (words : List (List ℕ)) (a b : Scene S I) where
+  abbrev pub Hard : Type 0
+  Hard = Rose a.hard_faults b.hard_faults
+
+  abbrev pub Lost : Type 0
+  Lost = Rose a.input_faults b.input_faults
+
+  abbrev Has : ℕ → Type 0
+  Has s = Cause perhaps words s a b
+
+  -- a status has its cause
+
+  over : (Holds : Command → List ℕ → Type 0) (c : Command) → command_of words ≡ Some c → OnShelf perhaps a.texts Holds c → Over perhaps words a.texts Holds
+  over Holds c is h = has_some (OnShelf perhaps a.texts Holds) (command_of words) c is h
+
+  of_text : (Holds : Command → List ℕ → Type 0) (c : Command) (text : List ℕ) → command_of words ≡ Some c → IsPolicyText a.texts (named_by c) text → Holds c text → Text perhaps words a.texts Holds
+  of_text Holds c text is there h = over (Short Holds) c is (on_shelf (Short Holds) c text a.texts there.found (there.short, h))
+
+  sees : (o : Option (List ℕ)) (script : List ℕ) (Holds : List ℕ → Type 0) → IfSome o (λ left. script ≡ left) → Holds script → Sees perhaps o Holds
+  sees None script Holds is h = tt
+  sees (Some left) script Holds is h = subst Holds is h
+
+  long_sees : (o : Option (List ℕ)) (np : NamedPolicy) → IfSome o (λ left. max_script < length left) → Sees perhaps o (IsLongScript np)
+  long_sees None np h = tt
+  long_sees (Some left) np h = h
+
+  module _ (name : List ℕ) (question : Option Question) (text : List ℕ) (is : command_of words ≡ Some (run name question)) (there : IsPolicyText a.texts name text) (np : NamedPolicy) (of : IsSafeOf text np) (end : Told) where
+    over_script : (asked : Option Asked) → asks_of np question ≡ Some asked → (Holds : NamedPolicy → List ℕ → Type 0) → Sees perhaps a.script (Holds np) → Script perhaps words a.texts a.script Holds
+    over_script asked e Holds h =
+        of_text (Plays (λ p o. IsSome o × Sees perhaps a.script (Holds p))) (run name question) text is there
+        (np, of, (subst (λ (o : Option (Option Asked)). IsSome o) (sym e) refl, h))
+
+    played_cause : (asked : Option Asked) → asks_of np question ≡ Some asked → (script : List ℕ) → IfSome a.script (λ left. script ≡ left) → (short : length script ≤ max_script)
+        → PlaysTo np asked script end → Has end.status
+    played_cause asked e script same short plays = by (one_of_three np of.safe script short asked end plays)
+      where
+        r : (q : Told) × EndsFrom np (start_of np 1 (lines_of script)) q × (end.status ≡ q.status)
+        r = ran np of.safe script short asked end plays
+
+        m : RunMeans np script r.0
+        m = means np of.safe script short asked end plays
+
+        by : IsRunStatus r.0.status → Has end.status
+        by (inl z) = played (r.2 ∙ z) (over_script asked e (Within IsWhole) (sees a.script script (Within IsWhole np) same (short, m.whole.0 z)))
+        by (inr (inl z)) = bad_line (r.2 ∙ z) (over_script asked e (Within MeetsFault) (sees a.script script (Within MeetsFault np) same (short, m.fault.0 z)))
+        by (inr (inr z)) = full (r.2 ∙ z) (over_script asked e (Within MeetsFull) (sees a.script script (Within MeetsFull np) same (short, m.full.0 z)))
+
+    asked_cause : (o : Option (Option Asked)) → asks_of np question ≡ o → AskedEnds Lost np o a.script end → Has end.status
+    asked_cause None e ends = unknown (status_of end _ ends) (of_text (Plays (λ p o. o ≡ None)) (run name question) text is there (np, of, e))
+    asked_cause (Some asked) e (inl ends) = unread (status_of end _ ends.0) (subst (λ (o : Option Command). IsSome o) (sym is) refl) (inr ends.1)
+    asked_cause (Some asked) e (inr (inl ends)) = long_script (status_of end _ ends.0) (over_script asked e IsLongScript (long_sees a.script np ends.1))
+    asked_cause (Some asked) e (inr (inr ends)) = played_cause asked e ends.0 ends.1 ends.2 ends.3
+
+  refused : (question : Option Question) (r : Result NamedPolicy Told) (end : Told) (s : ℕ) → EndsWith s r → JudgedEnds Lost question r a.script end → end.status ≡ s
+  refused question (Ok np) end s ends is = absurd ends
+  refused question (Err t) end s ends is = status_of end t is ∙ ends
+
+  judged_by : (question : Option Question) (text : List ℕ) (np : NamedPolicy) (end : Told) → IsSafeOf text np → JudgedEnds Lost question (safe_in text) a.script end → AskedEnds Lost np (asks_of np question) a.script end
+  judged_by question text np end of is = subst (λ (r : Result NamedPolicy Told). JudgedEnds Lost question r a.script end) (safe_found text np of) is
+
+  text_cause : (c : Command) (text : List ℕ) → command_of words ≡ Some c → IsPolicyText a.texts (named_by c) text → (end : Told) → TextEnds Lost c text a.script end → Has end.status
+  text_cause (check name) text is there end ends =
+      elim (sort text) [
+        | inl f ↦ faulty (status_of end _ ends ∙ (fault_means text).1 f) (of_text (λ c t. HasFault t) (check name) text is there f)
+        | inr (inl u) ↦ unsafe (status_of end _ ends ∙ (unsafe_means text).1 u) (of_text (Judges IsUnsafeText) (check name) text is there u)
+        | inr (inr s) ↦
+            let so : IsSafeText text = safe_text text s.0 (safe_found text s.0 s.1) in
+            safe (status_of end _ ends ∙ status_of (check_end text) _ ((safe_means text).1 so)) (of_text (Checks IsSafeText) (check name) text is there so)
+      ]
+  text_cause (fmt name) text is there end ends =
+      elim (sort text) [
+        | inl f ↦ faulty (status_of end _ ends ∙ (fmt_fault_means text).1 f) (of_text (λ c t. HasFault t) (fmt name) text is there f)
+        | inr (inl u) ↦ laid (status_of end _ ends ∙ laid_found text u.policy u.is) (of_text (Lays HasPolicy) (fmt name) text is there (u.policy, u.is))
+        | inr (inr s) ↦ laid (status_of end _ ends ∙ laid_found text s.0 s.1.is) (of_text (Lays HasPolicy) (fmt name) text is there (s.0, s.1.is))
+      ]
+  text_cause (run name question) text is there end ends =
+      elim (sort text) [
+        | inl f ↦ faulty (refused question (safe_in text) end 2 (fault_found text f) ends) (of_text (λ c t. HasFault t) (run name question) text is there f)
+        | inr (inl u) ↦ unsafe (refused question (safe_in text) end 3 (cycle_found text u) ends) (of_text (Judges IsUnsafeText) (run name question) text is there u)
+        | inr (inr s) ↦ asked_cause name question text is there s.0 s.1 end (asks_of s.0 question) refl (judged_by question text s.0 end s.1 ends)
+      ]
+
+  found_cause : (c : Command) → command_of words ≡ Some c → (end : Told) → FoundEnds Hard Lost c a.texts a.script end → Has end.status
+  found_cause c is end (inl (inl m)) =
+      elim m.1 [
+        | inl rose ↦ unread (status_of end _ m.0) (subst (λ (o : Option Command). IsSome o) (sym is) refl) (inl rose)
+        | inr lacks ↦ missing (status_of end _ m.0) (has_some (λ k. Lacks a.texts (named_by k)) (command_of words) c is lacks)
+      ]
+  found_cause c is end (inl (inr m)) = long_policy (status_of end _ m.0) (over IsTooLong c is m.1)
+  found_cause c is end (inr m) = text_cause c m.0 is m.1 end m.2
+
+  end_cause : (end : Told) → WordsEnd Hard Lost words a.texts a.script end → Has end.status
+  end_cause end (generated g is ends) = made (gen_succeeds g is.low is.high end ends) g is
+  end_cause end (unspoken none ends) = no_command (status_of end _ ends) none
+  end_cause end (spoken c is ends) = found_cause c is end ends
+
+  pub cause_of : (status : ℕ) → Answers words status a b → Has status
+  cause_of status (inl h) = no_memory h.1.0 h.0 refl
+  cause_of status (inr h) =
+      elim h.3 [
+        | inl p ↦ subst Has (sym p.0) (end_cause h.0 h.1)
+        | inr p ↦ unwritten p.0 p.1
+      ]
+
+  -- and a cause its status
+
+  abbrev pub Fits : ℕ → Told → Type 0
+  Fits s end = (end.status ≡ s) ⊎ ((end.status ≡ 4) × (Hard ⊎ Lost))
+
+  -- over a text that the shelf surely has
+  pub record At (Holds : Command → List ℕ → Type 0) : Type 0 where
+    pub command : Command
+    pub is : command_of words ≡ Some command
+    pub text_of : List ℕ → Option (List ℕ)
+    pub told : a.texts ≡ Some text_of
+    pub text : List ℕ
+    pub found : text_of (named_by command) ≡ Some text
+    pub holds : Holds command text
+
+  at : (Holds : Command → List ℕ → Type 0) → Over surely words a.texts Holds → At Holds
+  at Holds h =
+      let one = some_of (OnShelf surely a.texts Holds) (command_of words) h in
+      let two = some_of (λ text_of. IsSomeAnd (text_of (named_by one.0)) (Holds one.0)) a.texts one.2 in
+      let three = some_of (Holds one.0) (two.0 (named_by one.0)) two.2 in
+      record { command = one.0; is = one.1; text_of = two.0; told = two.1; text = three.0; found = three.1; holds = three.2 }
+
+  -- the command ends over this text, or it is too long, or the shelf failed
+  module _ (Holds : Command → List ℕ → Type 0) (t : At Holds) (end : Told) where
+    abbrev Ending : Type 0
+    Ending = ((end.status ≡ 4) × Hard) ⊎ ((end.status ≡ 6) × (max_policy < length t.text)) ⊎ ((length t.text ≤ max_policy) × TextEnds Lost t.command t.text a.script end)
+
+    missed : MissesText Hard a.texts (named_by t.command) end → Ending
+    missed (inl (m, inl rose)) = inl (status_of end _ m, rose)
+    missed (inl (m, inr lacks)) =
+        let none : t.text_of (named_by t.command) ≡ None = subst (λ (o : Contents). Lacks o (named_by t.command)) t.told lacks in
+        absurd (none_apart (t.text_of (named_by t.command)) t.text none t.found)
+    missed (inr (m, long)) =
+        let here : IsSomeAnd (t.text_of (named_by t.command)) IsLongPolicy = subst (λ (o : Contents). IfSome o (λ text_of. IsSomeAnd (text_of (named_by t.command)) IsLongPolicy)) t.told long in
+        inr (inl (status_of end _ m, subst (λ (o : Option (List ℕ)). IsSomeAnd o IsLongPolicy) t.found here))
+
+    over_it : (text : List ℕ) → IsPolicyText a.texts (named_by t.command) text → TextEnds Lost t.command text a.script end → Ending
+    over_it text there ends =
+        let here : t.text_of (named_by t.command) ≡ Some text = subst (λ (o : Contents). IfSome o (λ text_of. text_of (named_by t.command) ≡ Some text)) t.told there.found in
+        let same : text ≡ t.text = one_some (t.text_of (named_by t.command)) text t.text here t.found in
+        inr (inr (subst (λ (x : List ℕ). length x ≤ max_policy) same there.short, subst (λ (x : List ℕ). TextEnds Lost t.command x a.script end) same ends))
+
+    of_found : FoundEnds Hard Lost t.command a.texts a.script end → Ending
+    of_found (inl m) = missed m
+    of_found (inr m) = over_it m.0 m.1 m.2
+
+    ending : WordsEnd Hard Lost words a.texts a.script end → Ending
+    ending (generated g is ends) = absurd (none_apart (command_of words) t.command (gen_no_command words g is) t.is)
+    ending (unspoken none ends) = absurd (none_apart (command_of words) t.command none.0 t.is)
+    ending (spoken c is ends) = of_found (subst (λ (k : Command). FoundEnds Hard Lost k a.texts a.script end) (one_some (command_of words) c t.command is t.is) ends)
+
+  module _ (end : Told) (ends : WordsEnd Hard Lost words a.texts a.script end) where
+    -- of a text that is not too long
+    pub text_fits : (s : ℕ) (Holds : Command → List ℕ → Type 0) → ((c : Command) (text : List ℕ) → Holds c text → TextEnds Lost c text a.script end → Fits s end) → Text surely words a.texts Holds → Fits s end
+    text_fits s Holds so h = by (ending (Short Holds) t end ends)
+      where
+        t : At (Short Holds)
+        t = at (Short Holds) h
+
+        by : Ending (Short Holds) t end → Fits s end
+        by (inl lost) = inr (lost.0, inl lost.1)
+        by (inr (inl long)) = absurd (omega (arith, long.1, t.holds.0))
+        by (inr (inr over)) = so t.command t.text t.holds.1 over.1
+
+    long_fits : Over surely words a.texts IsTooLong → Fits 6 end
+    long_fits h = by (ending IsTooLong t end ends)
+      where
+        t : At IsTooLong
+        t = at IsTooLong h
+
+        by : Ending IsTooLong t end → Fits 6 end
+        by (inl lost) = inr (lost.0, inl lost.1)
+        by (inr (inl long)) = inl long.0
+        by (inr (inr over)) = absurd (omega (arith, over.0, t.holds))
+
+    checks_fits : (c : Command) (text : List ℕ) → Checks IsSafeText c text → TextEnds Lost c text a.script end → Fits 0 end
+    checks_fits (check name) text h e = inl (status_of end _ e ∙ status_of (check_end text) _ ((safe_means text).1 h))
+    checks_fits (fmt name) text h e = absurd h
+    checks_fits (run name question) text h e = absurd h
+
+    lays_fits : (c : Command) (text : List ℕ) → Lays HasPolicy c text → TextEnds Lost c text a.script end → Fits 0 end
+    lays_fits (check name) text h e = absurd h
+    lays_fits (fmt name) text h e = inl (status_of end _ e ∙ laid_found text h.0 h.1)
+    lays_fits (run name question) text h e = absurd h
+
+    fault_fits : (c : Command) (text : List ℕ) → HasFault text → TextEnds Lost c text a.script end → Fits 2 end
+    fault_fits (check name) text h e = inl (status_of end _ e ∙ (fault_means text).1 h)
+    fault_fits (fmt name) text h e = inl (status_of end _ e ∙ (fmt_fault_means text).1 h)
+    fault_fits (run name question) text h e = inl (refused question (safe_in text) end 2 (fault_found text h) e)
+
+    judges_fits : (c : Command) (text : List ℕ) → Judges IsUnsafeText c text → TextEnds Lost c text a.script end → Fits 3 end
+    judges_fits (check name) text h e = inl (status_of end _ e ∙ (unsafe_means text).1 h)
+    judges_fits (fmt name) text h e = absurd h
+    judges_fits (run name question) text h e = inl (refused question (safe_in text) end 3 (cycle_found text h) e)
+
+    none_asked : (np : NamedPolicy) (o : Option (Option Asked)) → o ≡ None → AskedEnds Lost np o a.script end → Fits 13 end
+    none_asked np None e is = inl (status_of end _ is)
+    none_asked np (Some asked) e is = absurd (cc (e))
+
+    unknown_fits : (c : Command) (text : List ℕ) → Plays (λ np asked. asked ≡ None) c text → TextEnds Lost c text a.script end → Fits 13 end
+    unknown_fits (check name) text h e = absurd h
+    unknown_fits (fmt name) text h e = absurd h
+    unknown_fits (run name question) text h e = none_asked h.0 (asks_of h.0 question) h.2 (judged_by question text h.0 end h.1 e)
+
+    -- of a script that the input surely has
+    module _ (np : NamedPolicy) (left : List ℕ) (told : a.script ≡ Some left) where
+      abbrev pub Played : Type 0
+      Played = ((end.status ≡ 4) × Lost) ⊎ ((end.status ≡ 6) × (max_script < length left)) ⊎ ((asked : Option Asked) × (length left ≤ max_script) × PlaysTo np asked left end)
+
+      script_ends : (asked : Option Asked) → ScriptEnds Lost np asked a.script end → Played
+      script_ends asked (inl e) = inl (status_of end _ e.0, e.1)
+      script_ends asked (inr (inl e)) = inr (inl (status_of end _ e.0, subst (λ (o : Option (List ℕ)). IfSome o (λ x. max_script < length x)) told e.1))
+      script_ends asked (inr (inr e)) =
+          let same : e.0 ≡ left = subst (λ (o : Option (List ℕ)). IfSome o (λ x. e.0 ≡ x)) told e.1 in
+          inr (inr (asked, subst (λ (x : List ℕ). length x ≤ max_script) same e.2, subst (λ (x : List ℕ). PlaysTo np asked x end) same e.3))
+
+      some_asked : (o : Option (Option Asked)) → IsSome o → AskedEnds Lost np o a.script end → Played
+      some_asked None there e = absurd (cc (there))
+      some_asked (Some asked) there e = script_ends asked e
+
+    pub script_fits : (s : ℕ) (Holds : NamedPolicy → List ℕ → Type 0)
+        → ((np : NamedPolicy) (left : List ℕ) (told : a.script ≡ Some left) → IsSafe np.policy.triggers → Holds np left → Played np left told → Fits s end)
+        → Script surely words a.texts a.script Holds → Fits s end
+    script_fits s Holds so h = text_fits s (Plays (λ np asked. IsSome asked × Sees surely a.script (Holds np))) by h
+      where
+        by : (c : Command) (text : List ℕ) → Plays (λ np asked. IsSome asked × Sees surely a.script (Holds np)) c text → TextEnds Lost c text a.script end → Fits s end
+        by (check name) text p e = absurd p
+        by (fmt name) text p e = absurd p
+        by (run name question) text p e =
+            let left = some_of (Holds p.0) a.script p.2.1 in
+            so p.0 left.0 left.1 p.1.safe left.2 (some_asked p.0 left.0 left.1 (asks_of p.0 question) p.2.0 (judged_by question text p.0 end p.1 e))
+
+    module _ (np : NamedPolicy) (left : List ℕ) (told : a.script ≡ Some left) (good : IsSafe np.policy.triggers) where
+      long_script_fits : IsLongScript np left → Played np left told → Fits 6 end
+      long_script_fits h (inl lost) = inr (lost.0, inr lost.1)
+      long_script_fits h (inr (inl long)) = inl long.0
+      long_script_fits h (inr (inr p)) = absurd (omega (arith, h, p.1))
+
+      pub within_fits : (s : ℕ) (Holds : NamedPolicy → List ℕ → Type 0) → ((other : Told) → IsRunStatus other.status → RunMeans np left other → Holds np left → other.status ≡ s) → Within Holds np left → Played np left told → Fits s end
+      within_fits s Holds so h (inl lost) = inr (lost.0, inr lost.1)
+      within_fits s Holds so h (inr (inl long)) = absurd (omega (arith, h.0, long.1))
+      within_fits s Holds so h (inr (inr p)) =
+          let r = ran np good left p.1 p.0 end p.2 in
+          inl (r.2 ∙ so r.0 (one_of_three np good left p.1 p.0 end p.2) (means np good left p.1 p.0 end p.2) h.1)
+
+    made_fits : (g : Gen) → IsGen words g → WordsEnd Hard Lost words a.texts a.script end → Fits 0 end
+    made_fits g is (generated h it e) = inl (gen_succeeds h it.low it.high end e)
+    made_fits g is (unspoken none e) = absurd (none.1 g is)
+    made_fits g is (spoken c it e) = absurd (none_apart (command_of words) c (gen_no_command words g is) it)
+
+    no_command_fits : IsNoCommand words → WordsEnd Hard Lost words a.texts a.script end → Fits 1 end
+    no_command_fits none (generated h it e) = absurd (none.1 h it)
+    no_command_fits none (unspoken other e) = inl (status_of end _ e)
+    no_command_fits none (spoken c it e) = absurd (none_apart (command_of words) c none.0 it)
+
+    missing_found : (c : Command) (text_of : List ℕ → Option (List ℕ)) → a.texts ≡ Some text_of → text_of (named_by c) ≡ None → FoundEnds Hard Lost c a.texts a.script end → Fits 4 end
+    missing_found c text_of told none (inl (inl m)) = inl (status_of end _ m.0)
+    missing_found c text_of told none (inl (inr m)) =
+        let here : IsSomeAnd (text_of (named_by c)) IsLongPolicy = subst (λ (o : Contents). IfSome o (λ f. IsSomeAnd (f (named_by c)) IsLongPolicy)) told m.1 in
+        let two = some_of IsLongPolicy (text_of (named_by c)) here in
+        absurd (none_apart (text_of (named_by c)) two.0 none two.1)
+    missing_found c text_of told none (inr m) =
+        let here : text_of (named_by c) ≡ Some m.0 = subst (λ (o : Contents). IfSome o (λ f. f (named_by c) ≡ Some m.0)) told m.1.found in
+        absurd (none_apart (text_of (named_by c)) m.0 none here)
+
+    missing_fits : IsMissing words a.texts → WordsEnd Hard Lost words a.texts a.script end → Fits 4 end
+    missing_fits h e = by (some_of (λ c. Lacks a.texts (named_by c)) (command_of words) h) e
+      where
+        by : (c : Command) × (command_of words ≡ Some c) × Lacks a.texts (named_by c) → WordsEnd Hard Lost words a.texts a.script end → Fits 4 end
+        by c (generated g it e) = absurd (none_apart (command_of words) c.0 (gen_no_command words g it) c.1)
+        by c (unspoken none e) = absurd (none_apart (command_of words) c.0 none.0 c.1)
+        by c (spoken k it e) =
+            let told = some_of (λ text_of. text_of (named_by c.0) ≡ None) a.texts c.2 in
+            missing_found c.0 told.0 told.1 told.2 (subst (λ (x : Command). FoundEnds Hard Lost x a.texts a.script end) (one_some (command_of words) k c.0 it c.1) e)
+
+    unread_fits : Fails surely a.hard_faults b.hard_faults ⊎ Fails surely a.input_faults b.input_faults → IsSteady end a b → Fits 4 end
+    unread_fits h (inl four) = inl four
+    unread_fits (inl rose) (inr same) = absurd (omega (arith, rose, same.0))
+    unread_fits (inr rose) (inr same) = absurd (omega (arith, rose, same.1))
+
+    pub cause_fits : (s : ℕ) → Cause surely words s a b → IsSteady end a b → b.written_faults ≡ a.written_faults → Fits s end
+    cause_fits s (safe z h) steady same = subst (λ (n : ℕ). Fits n end) (sym z) (text_fits 0 (Checks IsSafeText) checks_fits h)
+    cause_fits s (laid z h) steady same = subst (λ (n : ℕ). Fits n end) (sym z) (text_fits 0 (Lays HasPolicy) lays_fits h)
+    cause_fits s (played z h) steady same =
+        subst (λ (n : ℕ). Fits n end) (sym z) (script_fits 0 (Within IsWhole) (λ np left told good w p. within_fits np left told good 0 IsWhole (λ o ran m. m.whole.1) w p) h)
+    cause_fits s (made z g is) steady same = subst (λ (n : ℕ). Fits n end) (sym z) (made_fits g is ends)
+    cause_fits s (no_command z none) steady same = subst (λ (n : ℕ). Fits n end) (sym z) (no_command_fits none ends)
+    cause_fits s (faulty z h) steady same = subst (λ (n : ℕ). Fits n end) (sym z) (text_fits 2 (λ c text. HasFault text) fault_fits h)
+    cause_fits s (unsafe z h) steady same = subst (λ (n : ℕ). Fits n end) (sym z) (text_fits 3 (Judges IsUnsafeText) judges_fits h)
+    cause_fits s (missing z h) steady same = subst (λ (n : ℕ). Fits n end) (sym z) (missing_fits h ends)
+    cause_fits s (unread z some h) steady same = subst (λ (n : ℕ). Fits n end) (sym z) (unread_fits h steady)
+    cause_fits s (unwritten z h) steady same = absurd (omega (arith, h, same))
+    cause_fits s (long_policy z h) steady same = subst (λ (n : ℕ). Fits n end) (sym z) (long_fits h)
+    cause_fits s (long_script z h) steady same = subst (λ (n : ℕ). Fits n end) (sym z) (script_fits 6 IsLongScript long_script_fits h)
+    cause_fits s (bad_line z h) steady same =
+        subst (λ (n : ℕ). Fits n end) (sym z) (script_fits 7 (Within MeetsFault) (λ np left told good w p. within_fits np left told good 7 MeetsFault (λ o ran m. m.fault.1) w p) h)
+    cause_fits s (no_memory z work never) steady same = absurd (cc (never))
+    cause_fits s (full z h) steady same =
+        subst (λ (n : ℕ). Fits n end) (sym z) (script_fits 9 (Within MeetsFull) (λ np left told good w p. within_fits np left told good 9 MeetsFull (λ o ran m. m.full.1) w p) h)
+    cause_fits s (unknown z h) steady same = subst (λ (n : ℕ). Fits n end) (sym z) (text_fits 13 (Plays (λ np asked. asked ≡ None)) unknown_fits h)
+
+  pub dues_of : (status : ℕ) → Answers words status a b → (s : ℕ) → Cause surely words s a b → IsDue s status a b
+  dues_of status (inl h) s c = inr (inr (inr h.1.0))
+  dues_of status (inr h) s c = by h.3
+    where
+      by : IsPrinted status h.0 a.written b.written a.written_faults b.written_faults → IsDue s status a b
+      by (inr p) = inr (inr (inl (p.0, p.1)))
+      by (inl p) = elim (cause_fits h.0 h.1 s c h.2 p.2) [ inl e ↦ inl (p.0 ∙ e) | inr lost ↦ inr (inl (p.0 ∙ lost.0, lost.1)) ]
+
+  complete_of : (status : ℕ) → IsDue 0 status a b → (IsUnread a b → ⊥) → (IsUnwritten a b → ⊥) → (status ≡ 0) ⊎ (status ≡ 8)
+  complete_of status (inl z) read written = inl z
+  complete_of status (inr (inl four)) read written = absurd (read four.1)
+  complete_of status (inr (inr (inl five))) read written = absurd (written five.1)
+  complete_of status (inr (inr (inr eight))) read written = inr eight
+
+  pub runs : (status : ℕ) → Answers words status a b → Leaves words status a b → RunsTool words status a b
+  runs status answers leaves =
+      record {
+        answers = answers;
+        cause = cause_of status answers;
+        dues = dues_of status answers;
+        complete = λ c read written. complete_of status (dues_of status answers 0 c) read written;
+        leaves = leaves;
+      }

@@ -7,6 +7,7 @@ pub mod OneAnswer
 pub mod Reasons
 pub mod OnePlay
 pub mod Asking
+pub mod Limits
 pub mod Exactness
 pub mod Ran
 pub mod Spoken
@@ -14,3 +15,4 @@ pub mod LastInstant
 pub mod Steps
 pub mod Succeeding
 pub mod Tallying
+pub mod Calls

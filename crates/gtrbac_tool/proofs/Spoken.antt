@@ -3,7 +3,7 @@ use Rattle.std.proofs.Common.{◌≡◌, ℕ, ◌≤◌, ◌<◌, map, refl, Opt
 use Rattle.std.specs.Prelude.{decimal}
 use Rattle.std.proofs.lemmas.Fmt.{decimal_injective}
 use Rattle.gtrbac_tool.specs.Summary.{IsNoGen}
-use Rattle.gtrbac_tool.specs.Tool.{Command, command_of}
+use Rattle.gtrbac_tool.specs.Commands.{Command, command_of}
 
 last_same : (a b c d e f : List ℕ) → a ∷ b ∷ c ∷ [] ≡ d ∷ e ∷ f ∷ [] → c ≡ f
 last_same a b c d e f h = cc

@@ -20,11 +20,9 @@ use Rattle.gtrbac_tool.specs.Script.{Start, never, born, failed, start_of}
 use Rattle.gtrbac_tool.specs.Summary.{Gen, begins, is_answered, count_line, summary, summed, SummedFrom, SummedOver, GenEnds, gen_line, steps_line, end_line}
 use Rattle.gtrbac_tool.specs.Counted.{word_text, replies, counts, tally_line, tally}
 use Rattle.gt_text.specs.Lines.{lines_of}
-use Rattle.policy_commands.specs.Policies.{safe_in, HasFault, IsUnsafeText}
+use Rattle.policy_commands.specs.Policies.{safe_in}
 use Rattle.policy_commands.specs.Admitting.{IsEnded}
 use Rattle.policy_gen.specs.Texts.{policy_text, script_text}
-use Rattle.gtrbac_tool.specs.Causes.{IsRunStatus, IsGenCaused}
-use Rattle.gtrbac_tool.proofs.Causing.{FailsWith, starts, run_status, status_of}
 
 replies_begin : (np : NamedPolicy) (w : Word) (r : Reply) → replies w r ≡ begins (word_text w) (reply_text np r)
 replies_begin np Ok (Now t) = refl
@@ -113,23 +111,6 @@ other_status s h = ne_eqb s 0 h
 pub zero_status : (s : ℕ) → s ≡ 0 → nat_eq s 0 ≡ true
 zero_status s h = ap (λ (x : ℕ). nat_eq x 0) h
 
--- how `gen` ends over a safe policy
-
-summed_status : (b : Bool) (full ran : Told) → full.status ≡ 0 → IsRunStatus ran.status → IsRunStatus (elim b as (λ _. Told) [ true ↦ full | false ↦ ran ]).status
-summed_status true full ran is h = inl is
-summed_status false full ran is h = h
-
-from_status : (np : NamedPolicy) (g : Gen) (start : Start) (end : Told) → FailsWith start → SummedFrom np g start end → IsRunStatus end.status
-from_status np g never end fails is = inl (status_of end _ is)
-from_status np g (born birth n lines) end fails h =
-    subst (λ (t : Told). IsRunStatus t.status) (sym h.end_is)
-    (summed_status (nat_eq h.ran.status 0) (told 0 (summary np g birth h.history)) h.ran refl (run_status np birth n lines h.ran (h.history, h.run)))
-from_status np g (failed t) end fails is = inr (inl (status_of end t is ∙ fails))
-
-pub sum_status : {E : Type 0} (np : NamedPolicy) (g : Gen) (lines : List (List ℕ)) (r : Result End E) → IfOk r (λ e. SummedFrom np g (start_of np 1 lines) (seen_end e)) → IfOk r (λ e. IsRunStatus e.status)
-sum_status np g lines (Fine e) h = from_status np g (start_of np 1 lines) (seen_end e) (starts np 1 lines) h
-sum_status np g lines (Err f) h = tt
-
 -- what `gen` makes
 
 pub gen_safe : {E : Type 0} (g : Gen) (np : NamedPolicy) (policy script : List ℕ) (r : Result End E) → safe_in policy ≡ Fine np → policy ≡ policy_text g.size → script ≡ script_text g.seed g.size
@@ -143,14 +124,3 @@ pub gen_ended : (g : Gen) (policy : List ℕ) (end : End) → IsEnded policy end
 gen_ended g policy end is p =
     let refused : safe_in (policy_text g.size) ≡ Err (seen_end end) = ap safe_in (sym p) ∙ is.told in
     subst (λ (o : Result NamedPolicy Told). SummedOver g o (seen_end end)) (sym refused) refl
-
-pub safe_caused : {E : Type 0} (np : NamedPolicy) (g : Gen) (lines : List (List ℕ)) (size : ℕ) (r : Result End E) → IfOk r (λ e. SummedFrom np g (start_of np 1 lines) (seen_end e)) → IfOk r (λ e. IsGenCaused size e.status)
-safe_caused np g lines size (Fine e) h = inr (inr (from_status np g (start_of np 1 lines) (seen_end e) (starts np 1 lines) h))
-safe_caused np g lines size (Err f) h = tt
-
-pub ended_caused : (size : ℕ) (policy : List ℕ) (end : End) → IsEnded policy end → policy ≡ policy_text size → IsGenCaused size end.status
-ended_caused size policy end is p =
-    elim is.cause [
-      | inl h ↦ inl (h.0, subst HasFault p h.1)
-      | inr h ↦ inr (inl (h.0, subst IsUnsafeText p h.1))
-    ]

@@ -1,86 +1,134 @@
--- What a status tells of the texts.
-use Rattle.std.specs.Prelude.{◌≡◌, ◌⊎◌, ◌<◌, ℕ, List, length, Option, Some, None, Ok, IfSome, IsSomeAnd}
+-- The cause of each status.
+use Rattle.std.specs.Prelude.{◌≡◌, ◌⊎◌, ◌<◌, ◌≤◌, ℕ, List, length, Option, Some, None, Ok, IfSome, IsSome, IsSomeAnd}
+use Rattle.gt_io.specs.Causes.{Rose}
 use Rattle.gt_io.specs.Shelf.{Contents, Lacks}
-use Rattle.policy_commands.specs.Policies.{HasFault, IsUnsafeText, safe_in}
+use Rattle.gtrbac_model.specs.Safety.{IsSafe}
 use Rattle.policy_words.specs.Naming.{NamedPolicy}
+use Rattle.policy_words.specs.PolicyRead.{policy_read}
+use Rattle.policy_commands.specs.Finding.{max_policy}
+use Rattle.policy_commands.specs.Policies.{HasFault, IsUnsafeText}
+use Rattle.policy_commands.specs.Meanings.{IsSafeText}
 use Rattle.gtrbac_tool.specs.declared.questions.Question.{Question}
-use Rattle.gtrbac_tool.specs.Late.{asked_of}
+use Rattle.gtrbac_tool.specs.declared.ahead.Asked.{Asked}
+use Rattle.gtrbac_tool.specs.Late.{asks_of}
 use Rattle.gtrbac_tool.specs.Script.{max_script}
-use Rattle.policy_gen.specs.Texts.{policy_text}
+use Rattle.gtrbac_tool.specs.Meanings.{MeetsFault, MeetsFull, IsWhole}
 use Rattle.gtrbac_tool.specs.Summary.{Gen, IsGen}
-use Rattle.gtrbac_tool.specs.Tool.{Command, named_by, command_of, max_policy}
+use Rattle.gtrbac_tool.specs.Commands.{Command, check, fmt, run, named_by, command_of}
+use Rattle.gtrbac_tool.specs.Ends.{IsNoCommand}
+use Rattle.gtrbac_tool.specs.Scenes.{Scene}
 
--- the text that the words name is on the shelf, and this holds of it
-pub record IsNamed (words : List (List ℕ)) (text_of : List ℕ → Option (List ℕ))
-    (Holds : List ℕ → Type 0) : Type 0 where
-  pub command : Command
-  pub spoken : command_of words ≡ Some command
-  pub text : List ℕ
-  pub found : text_of (named_by command) ≡ Some text
-  pub holds : Holds text
+-- Causes are seen surely, or perhaps: what shelf or input do not tell they may have, and a count of
+-- faults at the end of its type may have risen
+pub data Sight : Type 0 where
+  perhaps : Sight
+  surely : Sight
 
--- where the shelf tells its texts, the text that the words name is there, and this holds of it
-abbrev pub IfTold : List (List ℕ) → Contents → (List ℕ → Type 0) → Type 0
-IfTold words contents Holds = IfSome contents (λ text_of. IsNamed words text_of Holds)
+abbrev pub Sees : {A : Type 0} → Sight → Option A → (A → Type 0) → Type 0
+Sees perhaps told Holds = IfSome told Holds
+Sees surely told Holds = IsSomeAnd told Holds
 
--- the shelf tells that it has no text of the name that the words say
+abbrev pub Fails : Sight → ℕ → ℕ → Type 0
+Fails perhaps before now = Rose before now
+Fails surely before now = before < now
+
+-- the text is of this policy, which is safe
+pub record IsSafeOf (text : List ℕ) (np : NamedPolicy) : Type 0 where
+  pub is : policy_read text ≡ Ok np
+  pub safe : IsSafe np.policy.triggers
+
+abbrev pub HasPolicy : List ℕ → Type 0
+HasPolicy text = (np : NamedPolicy) × (policy_read text ≡ Ok np)
+
+-- the command is `check`, and this holds of its text
+abbrev pub Checks : (List ℕ → Type 0) → Command → List ℕ → Type 0
+Checks Holds (check name) text = Holds text
+Checks Holds (fmt name) text = ⊥
+Checks Holds (run name question) text = ⊥
+
+-- the command is `fmt`, and this holds of its text
+abbrev pub Lays : (List ℕ → Type 0) → Command → List ℕ → Type 0
+Lays Holds (check name) text = ⊥
+Lays Holds (fmt name) text = Holds text
+Lays Holds (run name question) text = ⊥
+
+-- the command judges whether its policy is safe, as all but `fmt` do, and this holds of its text
+abbrev pub Judges : (List ℕ → Type 0) → Command → List ℕ → Type 0
+Judges Holds (check name) text = Holds text
+Judges Holds (fmt name) text = ⊥
+Judges Holds (run name question) text = Holds text
+
+-- the command plays a script over a safe policy, and this holds of the policy and of what is asked,
+-- in numbers of the policy: none where it lacks a name
+abbrev pub Plays : (NamedPolicy → Option (Option Asked) → Type 0) → Command → List ℕ → Type 0
+Plays Holds (check name) text = ⊥
+Plays Holds (fmt name) text = ⊥
+Plays Holds (run name question) text =
+    (np : NamedPolicy) × IsSafeOf text np × Holds np (asks_of np question)
+
+-- the text of a safe policy that has each name of what is asked
+abbrev pub IsAskedOf : Option Question → List ℕ → Type 0
+IsAskedOf question text =
+    (np : NamedPolicy) × IsSafeOf text np × IsSome (asks_of np question)
+
+-- the command asks for the script: it plays one, over such a text
+abbrev pub Asks : Command → List ℕ → Type 0
+Asks = Plays (λ np asked. IsSome asked)
+
+-- of a text that is not too long
+abbrev pub Short : (Command → List ℕ → Type 0) → Command → List ℕ → Type 0
+Short Holds c text = (length text ≤ max_policy) × Holds c text
+
+-- the shelf has the text of the command's policy, and this holds of both
+abbrev pub OnShelf : Sight → Contents → (Command → List ℕ → Type 0) → Command → Type 0
+OnShelf sight texts Holds c =
+    Sees sight texts (λ text_of. IsSomeAnd (text_of (named_by c)) (Holds c))
+
+-- the words are a command over a policy, of which the shelf has the text, and this holds of both
+abbrev pub Over : Sight → List (List ℕ) → Contents → (Command → List ℕ → Type 0) → Type 0
+Over sight words texts Holds = IsSomeAnd (command_of words) (OnShelf sight texts Holds)
+
+-- .. a text that is not too long
+abbrev pub Text : Sight → List (List ℕ) → Contents → (Command → List ℕ → Type 0) → Type 0
+Text sight words texts Holds = Over sight words texts (Short Holds)
+
+-- .. over which the script is asked for, and this holds of policy and script
+abbrev pub Script : Sight → List (List ℕ) → Contents → Option (List ℕ)
+    → (NamedPolicy → List ℕ → Type 0) → Type 0
+Script sight words texts input Holds =
+    Text sight words texts (Plays (λ np asked. IsSome asked × Sees sight input (Holds np)))
+
 abbrev pub IsMissing : List (List ℕ) → Contents → Type 0
-IsMissing words contents =
-    (command : Command) × (command_of words ≡ Some command) × Lacks contents (named_by command)
+IsMissing words texts = IsSomeAnd (command_of words) (λ c. Lacks texts (named_by c))
 
-abbrev pub IsLongPolicy : List ℕ → Type 0
-IsLongPolicy text = max_policy < length text
+abbrev pub IsTooLong : Command → List ℕ → Type 0
+IsTooLong c text = max_policy < length text
 
-abbrev pub IsLongScript : Option (List ℕ) → Type 0
-IsLongScript input = IfSome input (λ script. max_script < length script)
+abbrev pub IsLongScript : NamedPolicy → List ℕ → Type 0
+IsLongScript np script = max_script < length script
 
--- how the run of a script ends; 4 where the input failed, and 6 where it is too long
-abbrev pub IsRunStatus : ℕ → Type 0
-IsRunStatus s = (s ≡ 0) ⊎ (s ≡ 7) ⊎ (s ≡ 9)
+-- of a script that is not too long
+abbrev pub Within : (NamedPolicy → List ℕ → Type 0) → NamedPolicy → List ℕ → Type 0
+Within Holds np script = (length script ≤ max_script) × Holds np script
 
-abbrev pub IsScriptCaused : Type 0 → Option (List ℕ) → ℕ → Type 0
-IsScriptCaused failed input s = IsRunStatus s ⊎ ((s ≡ 4) × failed) ⊎ ((s ≡ 6) × IsLongScript input)
-
--- a policy without a fault, of which a question asks what it does not name
-abbrev pub IsUnknown : List ℕ → Type 0
-IsUnknown text =
-    (np : NamedPolicy) × (safe_in text ≡ Ok np)
-    × ((question : Question) × (asked_of np question ≡ None))
-
--- 2 at a fault, 3 at a policy that is not safe, 13 at an unknown name, and else what the script
--- causes
-abbrev pub IsCaused : Type 0 → List ℕ → Option (List ℕ) → ℕ → Type 0
-IsCaused failed text input s =
-    ((s ≡ 2) × HasFault text)
-    ⊎ ((s ≡ 3) × IsUnsafeText text)
-    ⊎ ((s ≡ 13) × IsUnknown text)
-    ⊎ IsScriptCaused failed input s
-
--- the text of the name, where the shelf tells it, and the input are the cause
-pub record IsTextCaused (failed : Type 0) (contents : Contents) (name : List ℕ)
-    (input : Option (List ℕ)) (s : ℕ) : Type 0 where
-  pub text : List ℕ
-  pub found : IfSome contents (λ text_of. text_of name ≡ Some text)
-  pub caused : IsCaused failed text input s
-
--- 4 where the shelf failed or has no such text, 6 where the text is too long, and else what the
--- text and the input cause
-abbrev pub IsCausedIn : Type 0 → Type 0 → Contents → List ℕ → Option (List ℕ) → ℕ → Type 0
-IsCausedIn hard failed contents name input s =
-    ((s ≡ 4) × (hard ⊎ Lacks contents name))
-    ⊎ ((s ≡ 6) × IfSome contents (λ text_of. IsSomeAnd (text_of name) IsLongPolicy))
-    ⊎ IsTextCaused failed contents name input s
-
--- the words are `gen`, and this holds of the policy that it makes
-pub record IsMade (words : List (List ℕ)) (Holds : List ℕ → Type 0) : Type 0 where
-  pub gen : Gen
-  pub words_are : IsGen words gen
-  pub holds : Holds (policy_text gen.size)
-
--- of `gen`: 2 at a fault of its policy, 3 where that is not safe, and else how the run of its
--- script ends
-abbrev pub IsGenCaused : ℕ → ℕ → Type 0
-IsGenCaused size s =
-    ((s ≡ 2) × HasFault (policy_text size))
-    ⊎ ((s ≡ 3) × IsUnsafeText (policy_text size))
-    ⊎ IsRunStatus s
+module _ {S I : Type 0} (sight : Sight) (words : List (List ℕ)) (status : ℕ) (a b : Scene S I) where
+  -- Each status and its cause. These are all statuses
+  pub data Cause : Type 0 where
+    safe : status ≡ 0 → Text sight words a.texts (Checks IsSafeText) → Cause
+    laid : status ≡ 0 → Text sight words a.texts (Lays HasPolicy) → Cause
+    played : status ≡ 0 → Script sight words a.texts a.script (Within IsWhole) → Cause
+    made : status ≡ 0 → (g : Gen) → IsGen words g → Cause
+    no_command : status ≡ 1 → IsNoCommand words → Cause
+    faulty : status ≡ 2 → Text sight words a.texts (λ c text. HasFault text) → Cause
+    unsafe : status ≡ 3 → Text sight words a.texts (Judges IsUnsafeText) → Cause
+    missing : status ≡ 4 → IsMissing words a.texts → Cause
+    unread : status ≡ 4 → IsSome (command_of words)
+        → Fails sight a.hard_faults b.hard_faults ⊎ Fails sight a.input_faults b.input_faults
+        → Cause
+    unwritten : status ≡ 5 → Fails sight a.written_faults b.written_faults → Cause
+    long_policy : status ≡ 6 → Over sight words a.texts IsTooLong → Cause
+    long_script : status ≡ 6 → Script sight words a.texts a.script IsLongScript → Cause
+    bad_line : status ≡ 7 → Script sight words a.texts a.script (Within MeetsFault) → Cause
+    no_memory : status ≡ 8 → (IsNoCommand words → ⊥) → sight ≡ perhaps → Cause
+    full : status ≡ 9 → Script sight words a.texts a.script (Within MeetsFull) → Cause
+    unknown : status ≡ 13 → Text sight words a.texts (Plays (λ np asked. asked ≡ None)) → Cause

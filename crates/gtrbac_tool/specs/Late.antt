@@ -24,7 +24,8 @@ use Rattle.gtrbac_tool.specs.declared.questions.Question.{Question}
 use Rattle.gtrbac_tool.specs.declared.questions.Question.TheVariants.{Forecast, Why}
 use Rattle.gtrbac_tool.specs.declared.ahead.Asked.{Asked}
 use Rattle.gtrbac_tool.specs.declared.ahead.Asked.TheVariants.{Ahead, Standing}
-use Rattle.gtrbac_tool.specs.Told.{no_birth, too_long}
+use Rattle.policy_commands.specs.Finding.{too_long}
+use Rattle.gtrbac_tool.specs.Told.{no_birth}
 use Rattle.gtrbac_tool.specs.Standing.{TellsWhy}
 use Rattle.gtrbac_tool.specs.Script.{Start, never, born, failed, start_of, RunOver, max_script}
 
@@ -97,6 +98,13 @@ asked_of np (Forecast days c) = do
 asked_of np (Why e) = do
   g ← event_of np.names e
   Some (Standing e g)
+
+-- the same of what may be asked: none where a name is not declared
+abbrev pub asks_of : NamedPolicy → Option Question → Option (Option Asked)
+asks_of np None = Some None
+asks_of np (Some question) = do
+  asked ← asked_of np question
+  Some (Some asked)
 
 -- so many days after now, or the last instant where that is less
 abbrev pub horizon : ℕ → ℕ → ℕ

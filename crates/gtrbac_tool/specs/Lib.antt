@@ -8,8 +8,9 @@ pub mod Standing
 pub mod Reasons
 pub mod Listing
 pub mod Late
-pub mod Tool
 pub mod Commands
-pub mod Causes
+pub mod Ends
+pub mod Scenes
 pub mod Meanings
-pub mod Exact
+pub mod Causes
+pub mod Tool

@@ -18,7 +18,8 @@ use Rattle.request_text.specs.declared.lines.Line.TheVariants.{Silent, At, Be, A
 use Rattle.request_text.specs.declared.lines.LineFault.{LineFault}
 use Rattle.request_text.specs.Phrases.{read_line}
 use Rattle.request_text.specs.Replies.{reply_line, fault_word}
-use Rattle.gtrbac_tool.specs.Told.{behind, script_fault, steps_full, too_long}
+use Rattle.policy_commands.specs.Finding.{too_long}
+use Rattle.gtrbac_tool.specs.Told.{behind, script_fault, steps_full}
 
 -- a script has one worker and one connection
 abbrev pub scripts_who : Who
@@ -146,6 +147,10 @@ abbrev pub EndsFrom : NamedPolicy → Start → Told → Type 0
 EndsFrom np never end = end ≡ told 0 []
 EndsFrom np (born birth n lines) end = Run np birth n lines end
 EndsFrom np (failed t) end = end ≡ t
+
+-- how a run ends
+abbrev pub IsRunStatus : ℕ → Type 0
+IsRunStatus s = (s ≡ 0) ⊎ (s ≡ 7) ⊎ (s ≡ 9)
 
 abbrev pub max_script : ℕ
 max_script = 16_777_216

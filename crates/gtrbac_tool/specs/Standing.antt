@@ -86,4 +86,5 @@ closed_at (c ∷ cs) t = elim (nat_eq c.at t) [ true ↦ Some c | false ↦ clos
 -- the status that the sets of a trace before an instant make of one
 abbrev pub made_before : ℕ → List ClosedSet → Status → Status
 made_before t [] s = s
-made_before t (c ∷ cs) s = elim (nat_lt c.at t) [ true ↦ made_before t cs (after c.set s) | false ↦ s ]
+made_before t (c ∷ cs) s = elim (nat_lt c.at t)
+    [ true ↦ made_before t cs (after c.set s) | false ↦ s ]

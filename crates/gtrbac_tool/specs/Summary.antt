@@ -62,7 +62,8 @@ module _ (np : NamedPolicy) where
   -- the summary in place of the replies where the script was played to its end, and else the run's
   -- own end
   abbrev pub summed : Gen → ℕ → List Entry → Told → Told
-  summed g birth h ran = elim (nat_eq ran.status 0) [ true ↦ told 0 (summary g birth h) | false ↦ ran ]
+  summed g birth h ran = elim (nat_eq ran.status 0)
+      [ true ↦ told 0 (summary g birth h) | false ↦ ran ]
 
 -- the run of the made script over the made policy, summed up
 pub record Summed (np : NamedPolicy) (g : Gen) (birth n : ℕ) (lines : List (List ℕ)) (end : Told)

@@ -17,14 +17,9 @@ script_fault n what = told 7 (script_line n what)
 abbrev pub steps_full : ℕ → Told
 steps_full n = told 9 (script_line n (codes "steps full"))
 
-abbrev pub too_long : List ℕ → Told
-too_long what = told 6 (codes "too long: " ++ what ++ codes "\n")
-
 abbrev pub usage : Told
-usage = told 1 (codes "usage: gtrbac check POLICY | fmt POLICY | run POLICY | gen SEED SIZE | forecast POLICY DAYS COND | why POLICY EVENT\n")
-
-abbrev pub read_fault : Told
-read_fault = told 4 (codes "read fault\n")
+usage = told 1
+    (codes "usage: gtrbac check POLICY | fmt POLICY | run POLICY | gen SEED SIZE | forecast POLICY DAYS COND | why POLICY EVENT\n")
 
 -- a question with a name that the policy does not declare, or with two roles that no edge joins
 abbrev pub unknown_name : Told

@@ -2,7 +2,7 @@
 ghost use Rattle.std.specs.Prelude.{◌≡◌, ◌≤◌, ◌++◌, codes, IfOk};
 ghost use Rattle.core_machine.specs.Books.{now_in};
 ghost use Rattle.policy_commands.specs.Ends.{seen_end, told};
-ghost use Rattle.gtrbac_tool.specs.Late.{asked_of as asked_by, horizon as horizon_of, answer_word, change_line, TellsAhead, Tells, Follows};
+ghost use Rattle.gtrbac_tool.specs.Late.{asked_of as asked_by, asks_of as asks_by, horizon as horizon_of, answer_word, change_line, TellsAhead, Tells, Follows};
 
 use crate::questions::Question;
 use crate::script::Outcome;
@@ -26,12 +26,22 @@ pub(crate) enum Asked {
 }
 
 /// The question in numbers of the policy, none where a name is not declared or is no edge.
-pub(crate) fn asked_of(p: &Policy, question: Question) -> Option<Asked>
+fn asked_of(p: &Policy, question: Question) -> Option<Asked>
     ensures { result ≡ asked_by p.now question }
 {
     match question {
         Question::Forecast(days, cond) => Some(Asked::Ahead(days, p.cond(&cond)?)),
         Question::Why(event) => Some(Asked::Standing(event, p.event(&event)?)),
+    }
+}
+
+/// The same of what may be asked, none where a name is not declared or is no edge.
+pub(crate) fn asks_of(p: &Policy, question: Option<Question>) -> Option<Option<Asked>>
+    ensures { result ≡ asks_by p.now question }
+{
+    match question {
+        None => Some(None),
+        Some(question) => Some(Some(asked_of(p, question)?)),
     }
 }
 

@@ -1,18 +1,17 @@
-//! The commands.
+//! The commands over a policy, as the words say them.
 ghost use Rattle.std.specs.Prelude.{◌≡◌, map, option_map, string_bytes};
-ghost use Rattle.gt_text.specs.Words.{begins_with};
-ghost use Rattle.gtrbac_tool.specs.Tool.{question_by, command_by, command_of, named_by};
-ghost use Rattle.gtrbac_tool.specs.Commands.{seen_command};
+ghost use Rattle.gtrbac_tool.specs.Commands.{question_by, command_by, command_of, named_by, seen_command};
 
 use crate::questions::{Question, forecast, why};
+use policy_commands::is_dashed;
 
 /// A command, with the name of a policy.
 #[derive(Clone, Copy)]
 pub(crate) enum Command<'a> {
     Check(&'a str),
     Fmt(&'a str),
-    Run(&'a str),
-    Ask(&'a str, Question),
+    /// It plays a script, with a question behind it or none.
+    Run(&'a str, Option<Question>),
 }
 
 impl Command<'_> {
@@ -21,24 +20,12 @@ impl Command<'_> {
         ensures { result.now ≡ named_by (seen_command self.now) }
     {
         match self {
-            Command::Check(name)
-            | Command::Fmt(name)
-            | Command::Run(name)
-            | Command::Ask(name, _) => name,
+            Command::Check(name) | Command::Fmt(name) | Command::Run(name, _) => name,
         }
     }
 }
 
-/// Whether a word begins with `-`.
-fn is_dashed(name: &str) -> bool
-    ensures { result ≡ begins_with 45 name.now }
-{
-    match name.as_bytes() {
-        [] => false,
-        [first, ..] => *first == b'-',
-    }
-}
-
+/// The command of a verb that nothing is asked behind.
 fn by_verb<'a>(verb: &str, name: &'a str) -> Option<Command<'a>>
     ensures { option_map seen_command result ≡ command_by verb.now name.now }
 {
@@ -47,7 +34,7 @@ fn by_verb<'a>(verb: &str, name: &'a str) -> Option<Command<'a>>
     } else if verb == "fmt" {
         Some(Command::Fmt(name))
     } else if verb == "run" {
-        Some(Command::Run(name))
+        Some(Command::Run(name, None))
     } else {
         None
     }
@@ -83,7 +70,7 @@ pub(crate) fn spoken(words: &[String]) -> Option<Command<'_>>
                 None
             } else {
                 let question = question(verb.as_str(), more)?;
-                Some(Command::Ask(name.as_str(), question))
+                Some(Command::Run(name.as_str(), Some(question)))
             }
         }
         _ => None,

@@ -21,7 +21,8 @@ use why_check::{Cert, accept};
 /// The certificate is given out after it was accepted, which it always is: only want of memory is
 /// free.
 pub fn explain(alloc: Global, book: &Book) -> Result<Cert, Memory>
-    ensures { IfOk result (λ cert. Accepts book.now.named.policy book.now.birth book.now.entries cert) }
+    ensures { IfOk result (λ cert. Accepts book.now.named.policy book.now.birth book.now.entries
+        cert) }
 {
     let cert = listed(alloc, book)?;
     let policy = book.ground().policy();
@@ -34,7 +35,8 @@ pub fn explain(alloc: Global, book: &Book) -> Result<Cert, Memory>
 
 /// The sets of the trace in their orders.
 fn listed(alloc: Global, book: &Book) -> Result<Cert, Memory>
-    ensures { IfOk result (λ cert. Accepts book.now.named.policy book.now.birth book.now.entries cert) }
+    ensures { IfOk result (λ cert. Accepts book.now.named.policy book.now.birth book.now.entries
+        cert) }
 {
     book.timeline().keeps();
     let policy = book.policy();
@@ -74,7 +76,8 @@ fn add(
     before: &Status,
 ) -> Result<(), Memory>
     requires { Settled rules.now closed.now.base (has before.now.set) closed.now.set }
-    ensures { OnOk result (AddsListing rules.now (has before.now.set) closed.now cert.old cert.new) }
+    ensures { OnOk result (AddsListing rules.now (has before.now.set) closed.now cert.old
+        cert.new) }
 {
     let events = ordered(alloc, rules, closed, before)?;
     let signals = Vec::from_slice(alloc, closed.set.signals())?;
@@ -99,7 +102,8 @@ fn ordered(
 
 /// The status after the set.
 pub(crate) fn status_after(alloc: Global, before: &Status, set: &Happened) -> Result<Status, Memory>
-    ensures { IfOk result (λ s. (f : FluentOf) → has s.set f ≡ after set.now.set (has before.now.set) f) }
+    ensures { IfOk result (λ s. (f : FluentOf) → has s.set f
+        ≡ after set.now.set (has before.now.set) f) }
 {
     let won = winners(alloc, set)?;
     turned(before, &won, set)
@@ -108,7 +112,8 @@ pub(crate) fn status_after(alloc: Global, before: &Status, set: &Happened) -> Re
 /// The status after the set, whose winners these are.
 fn turned(before: &Status, won: &EventSet, set: &Happened) -> Result<Status, Memory>
     requires { (e : EventOf) → has won.now.set e ≡ is_won set.now.set e }
-    ensures { IfOk result (λ s. (f : FluentOf) → has s.set f ≡ after set.now.set (has before.now.set) f) }
+    ensures { IfOk result (λ s. (f : FluentOf) → has s.set f
+        ≡ after set.now.set (has before.now.set) f) }
 {
     let mut status = before.copied()?;
     status.reserve(won.len())?;
@@ -134,7 +139,8 @@ fn support_order(
     x: &Contest,
 ) -> Result<List<Prioritised>, Memory>
     requires { Settled rules.now base.now.set (has before.now.set) x.now }
-    ensures { IfOk result (λ es. IsGrounding rules.now base.now.set (has before.now.set) x.now es.items) }
+    ensures { IfOk result (λ es. IsGrounding rules.now base.now.set
+        (has before.now.set) x.now es.items) }
 {
     let mut order = Order {
         events: Vec::new(alloc),

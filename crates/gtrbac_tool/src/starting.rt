@@ -6,6 +6,7 @@ ghost use Rattle.gtrbac_tool.specs.Script.{EndsFrom, start_of};
 ghost use Rattle.gtrbac_tool.specs.Late.{AnswersFrom};
 ghost use Rattle.gtrbac_tool.specs.Told.{no_birth as born_never};
 ghost use Rattle.gtrbac_tool.specs.Started.{IsUnborn, started_so, number_of, RanFrom};
+ghost use Rattle.gtrbac_tool.specs.Ends.{PlaysTo};
 
 use crate::ahead::{Asked, answered};
 use crate::script::{Outcome, fault_word, from_birth, stopped};
@@ -79,9 +80,10 @@ pub(crate) fn begin(alloc: Global, safe: Safe, script: &[u8]) -> Result<Ran, Mem
 }
 
 /// The end of a script over a safe policy. The script has fewer than 4,294,967,296 bytes.
-pub(crate) fn play(alloc: Global, safe: Safe, script: &[u8]) -> Result<End, Memory>
+fn play_plainly(alloc: Global, safe: Safe, script: &[u8]) -> Result<End, Memory>
     requires { length script.now < 2 ^ 32 }
-    ensures { IfOk result (λ end. EndsFrom safe (start_of safe 1 (lines_of script.now)) (seen_end end)) }
+    ensures { IfOk result (λ end. EndsFrom safe (start_of safe 1 (lines_of script.now))
+        (seen_end end)) }
 {
     match begin(alloc, safe, script) {
         Ok(ran) => match ran {
@@ -115,12 +117,7 @@ fn unborn(alloc: Global, end: End) -> Result<End, Memory>
 
 /// The end of a script over a safe policy, with what is asked behind it. The script has fewer than
 /// 4,294,967,296 bytes.
-pub(crate) fn play_and_answer(
-    alloc: Global,
-    safe: Safe,
-    asked: Asked,
-    script: &[u8],
-) -> Result<End, Memory>
+fn play_and_answer(alloc: Global, safe: Safe, asked: Asked, script: &[u8]) -> Result<End, Memory>
     requires { length script.now < 2 ^ 32 }
     ensures { IfOk result
         (λ end. AnswersFrom safe asked (start_of safe 1 (lines_of script.now)) (seen_end end)) }
@@ -131,5 +128,21 @@ pub(crate) fn play_and_answer(
             Ran::Born(outcome) => answered(alloc, outcome, asked),
         },
         Err(fault) => Err(fault),
+    }
+}
+
+/// The end of a script over a safe policy, with what is asked behind it, if anything is.
+pub(crate) fn play(
+    alloc: Global,
+    safe: Safe,
+    asked: Option<Asked>,
+    script: &[u8],
+) -> Result<End, Memory>
+    requires { length script.now ≤ 16_777_216 }
+    ensures { IfOk result (λ end. PlaysTo safe asked script.now (seen_end end)) }
+{
+    match asked {
+        None => play_plainly(alloc, safe, script),
+        Some(asked) => play_and_answer(alloc, safe, asked, script),
     }
 }

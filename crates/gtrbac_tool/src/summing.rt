@@ -3,7 +3,6 @@ ghost use Rattle.std.specs.Prelude.{◌≡◌, ◌≢◌, ◌^◌, ◌<◌, ◌�
 ghost use Rattle.std.specs.List.{count_by};
 ghost use Rattle.gt_text.specs.Lines.{lines_of};
 ghost use Rattle.policy_commands.specs.Ends.{seen_end};
-ghost use Rattle.gtrbac_tool.specs.Causes.{IsGenCaused};
 ghost use Rattle.gtrbac_tool.specs.Script.{start_of};
 ghost use Rattle.gtrbac_tool.specs.Summary.{IsGen, IsNoGen, GenEnds, SummedFrom, summed, gen_line, steps_line, end_line};
 ghost use Rattle.policy_words.specs.Naming.{NamedPolicy};
@@ -38,7 +37,8 @@ pub(crate) enum Word {
 
 /// The recipe that two words write in digits.
 fn recipe_in(seed: &str, size: &str) -> Option<Recipe>
-    ensures some { IfSome result (λ r. IsGen (codes "gen" ∷ seed.now ∷ size.now ∷ []) (seen_recipe r)) }
+    ensures some { IfSome result (λ r. IsGen (codes "gen" ∷ seed.now ∷ size.now ∷ [])
+        (seen_recipe r)) }
     ensures none { IfNone result (IsNoGen (codes "gen" ∷ seed.now ∷ size.now ∷ [])) }
 {
     let seed = read_number(seed.as_bytes())?;
@@ -153,7 +153,8 @@ fn push_steps(text: &mut Vec<u8>, entries: &[Entry]) -> Result<(), Memory>
 }
 
 fn push_now(text: &mut Vec<u8>, book: &Book) -> Result<(), Memory>
-    ensures { OnOk result (text.new.items ≡ text.old.items ++ end_line book.now.birth book.now.entries) }
+    ensures { OnOk result (text.new.items ≡ text.old.items
+        ++ end_line book.now.birth book.now.entries) }
 {
     text.extend_from_slice(b"end ")?;
     text.extend_from_slice(&write_civil(book.now()))?;
@@ -213,11 +214,10 @@ fn play_and_sum(alloc: Global, recipe: Recipe, safe: Safe, script: &[u8]) -> Res
 }
 
 /// Makes the policy and the script of a recipe, plays them, and sums up. It reads nothing.
-#[tactic(auto, using(crate::proofs::Tallying::gen_safe, crate::proofs::Tallying::gen_ended, crate::proofs::Tallying::safe_caused, crate::proofs::Tallying::ended_caused))]
+#[tactic(auto, using(crate::proofs::Tallying::gen_safe, crate::proofs::Tallying::gen_ended))]
 pub(crate) fn generate(alloc: Global, recipe: Recipe) -> Result<End, Memory>
     requires { (1 ≤ recipe.size) × (recipe.size ≤ 100_000) }
-    ensures end { IfOk result (λ end. GenEnds (seen_recipe recipe) (seen_end end)) }
-    ensures caused { IfOk result (λ end. IsGenCaused recipe.size end.status) }
+    ensures { IfOk result (λ end. GenEnds (seen_recipe recipe) (seen_end end)) }
 {
     let made = make(alloc, recipe.seed, recipe.size)?;
     match admit(alloc, made.policy.as_slice())? {

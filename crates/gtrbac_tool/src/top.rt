@@ -1,147 +1,95 @@
-//! The top call.
-ghost use Rattle.std.specs.Prelude.{◌≡◌, ◌⊎◌, ◌≤◌, None, Some, map, string_bytes, length, IfOk, IsSome, IsTrue};
+//! The one call of the program: from words, shelf and input to the output and the exit status.
+ghost use Rattle.std.specs.Prelude.{◌≡◌, ◌⊎◌, ◌≤◌, None, map, string_bytes, length, IfOk, IsSome, IsTrue};
 ghost use Rattle.std.specs.Io.KnownBytes.{IsAtEnd};
 ghost use Rattle.gt_io.specs.Causes.{Rose};
-ghost use Rattle.policy_commands.specs.Ends.{seen_end, told};
-ghost use Rattle.policy_commands.specs.Policies.{HasFault, IsUnsafeText, safe_in};
-ghost use Rattle.policy_commands.specs.Meanings.{IsSafeText};
-ghost use Rattle.gtrbac_tool.specs.Commands.{seen_command};
-ghost use Rattle.gtrbac_tool.specs.Causes.{IsRunStatus, IsScriptCaused, IsCaused, IsCausedIn, IfTold, IsMissing, IsMade, IsGenCaused, IsLongPolicy, IsLongScript};
-ghost use Rattle.gtrbac_tool.specs.Late.{asked_of as asked_by};
-ghost use Rattle.gtrbac_tool.specs.Summary.{Gen, IsGen, IsNoGen, GenEnds};
+ghost use Rattle.policy_commands.specs.Ends.{seen_end};
+ghost use Rattle.policy_commands.specs.Policies.{safe_in};
+ghost use Rattle.gtrbac_tool.specs.Commands.{named_by, plays_script, seen_command};
 ghost use Rattle.gtrbac_tool.specs.Counted.{seen_recipe};
-ghost use Rattle.gtrbac_tool.specs.Exact.{Exact, Caused, Complete, IsAskable, IsPlayed, IsScriptDue, ReadsScript, IsReadOut};
-ghost use Rattle.gtrbac_tool.specs.Tool.{command_of, named_by, plays_script, ScriptEnds, SafeEnds, AskedEnds, AskEnds, TextEnds, FoundEnds, Answers, AnswersCommand, Prints, IsPrinted, seen};
+ghost use Rattle.gtrbac_tool.specs.Script.{IsRunStatus};
+ghost use Rattle.gtrbac_tool.specs.Summary.{IsNoGen, GenEnds};
+ghost use Rattle.gtrbac_tool.specs.Ends.{ScriptEnds, AskedEnds, JudgedEnds, TextEnds, FoundEnds};
+ghost use Rattle.gtrbac_tool.specs.Late.{asks_of as asks_by};
+ghost use Rattle.gtrbac_tool.specs.Scenes.{scene};
+ghost use Rattle.gtrbac_tool.specs.Causes.{perhaps, Asks, IsAskedOf, OnShelf, Short};
+ghost use Rattle.gtrbac_tool.specs.Tool.{Answers, Prints, Leaves, RunsTool};
 
-use crate::ahead::{Asked, asked_of};
+use crate::ahead::{Asked, asks_of};
 use crate::commands::{Command, spoken};
 use crate::questions::Question;
-use crate::starting::{play, play_and_answer};
+use crate::starting::play;
 use crate::summing::{Recipe, generate, recipe_of};
-use gt_base::{List, Memory};
-use gt_io::{ReadFault, Shelf, Sink, Source, find_all, read_all, write_all};
-use policy_commands::{Admitted, End, admit, check, lay_out};
+use gt_base::Memory;
+use gt_io::{ReadFault, Shelf, Sink, Source, read_all};
+use policy_commands::{Admitted, End, Found, admit, check, end_with, find_text, lay_out, print};
 use policy_safety::Safe;
 use std::alloc::{AllocError, Global};
-
-/// The most bytes of a policy.
-const MAX_POLICY: usize = 4_194_304;
 
 /// The most bytes of a script.
 const MAX_SCRIPT: usize = 16_777_216;
 
-/// An end with this text.
-fn say(alloc: Global, status: u8, text: &[u8]) -> Result<End, Memory>
-    ensures { IfOk result (λ end. seen_end end ≡ told status text.now) }
-{
-    Ok(End {
-        status,
-        text: List::from(text.to_vec(alloc)?),
-    })
-}
-
-/// Reads the script and runs it.
-fn run_script<I: Source>(alloc: Global, safe: Safe, input: &mut I) -> Result<End, Memory>
-    ensures end { IfOk result
-        (λ end. ScriptEnds (Rose (I.faults input.old) (I.faults input.new)) safe
-        (I.left input.old) (seen_end end)) }
-    ensures caused { IfOk result
-        (λ end. IsScriptCaused (Rose (I.faults input.old) (I.faults input.new))
-        (I.left input.old) end.status) }
-    ensures read { IfOk result (λ end. IsRunStatus end.status → IsAtEnd (I.left input.new)) }
-{
-    match read_all(alloc, input, MAX_SCRIPT) {
-        Ok(script) => play(alloc, safe, &script),
-        Err(ReadFault::Memory) => Err(AllocError),
-        Err(ReadFault::Failed) => say(alloc, 4, b"read fault\n"),
-        Err(ReadFault::TooLong) => say(alloc, 6, b"too long: script\n"),
-    }
-}
-
-/// Runs the script over the policy of a text.
-fn run<I: Source>(alloc: Global, text: &[u8], input: &mut I) -> Result<End, Memory>
-    requires { length text.now ≤ 4_194_304 }
-    ensures end { IfOk result
-        (λ end. SafeEnds (Rose (I.faults input.old) (I.faults input.new)) (safe_in text.now)
-        (I.left input.old) (seen_end end)) }
-    ensures caused { IfOk result
-        (λ end. IsCaused (Rose (I.faults input.old) (I.faults input.new)) text.now
-        (I.left input.old) end.status) }
-    ensures read { IfOk result (λ end. IsRunStatus end.status → IsAtEnd (I.left input.new)) }
-    ensures kept { (input.new ≡ input.old) ⊎ IsSafeText text.now }
-{
-    match admit(alloc, text)? {
-        Admitted::Safe(safe) => run_script(alloc, safe, input),
-        Admitted::Ended(end) => Ok(end),
-    }
-}
-
 /// Reads the script, runs it, and tells what is asked behind it.
-fn ask_script<I: Source>(
+fn run_script<I: Source>(
     alloc: Global,
     safe: Safe,
-    asked: Asked,
+    asked: Option<Asked>,
     input: &mut I,
 ) -> Result<End, Memory>
     ensures end { IfOk result
-        (λ end. AskedEnds (Rose (I.faults input.old) (I.faults input.new)) safe (Some asked)
+        (λ end. ScriptEnds (Rose (I.faults input.old) (I.faults input.new)) safe asked
         (I.left input.old) (seen_end end)) }
-    ensures caused { IfOk result
-        (λ end. IsScriptCaused (Rose (I.faults input.old) (I.faults input.new))
-        (I.left input.old) end.status) }
+    ensures steady { IfOk result
+        (λ end. (end.status ≡ 4) ⊎ (I.faults input.new ≡ I.faults input.old)) }
     ensures read { IfOk result (λ end. IsRunStatus end.status → IsAtEnd (I.left input.new)) }
 {
     match read_all(alloc, input, MAX_SCRIPT) {
-        Ok(script) => play_and_answer(alloc, safe, asked, &script),
+        Ok(script) => play(alloc, safe, asked, &script),
         Err(ReadFault::Memory) => Err(AllocError),
-        Err(ReadFault::Failed) => say(alloc, 4, b"read fault\n"),
-        Err(ReadFault::TooLong) => say(alloc, 6, b"too long: script\n"),
+        Err(ReadFault::Failed) => end_with(alloc, 4, b"read fault\n"),
+        Err(ReadFault::TooLong) => end_with(alloc, 6, b"too long: script\n"),
     }
 }
 
-/// Tells what is asked behind the script over a safe policy, where the policy has all the names.
-fn ask_safe<I: Source>(
+/// Runs the script over a safe policy, where that has all the names of what is asked.
+fn run_safe<I: Source>(
     alloc: Global,
     safe: Safe,
-    question: Question,
+    question: Option<Question>,
     input: &mut I,
 ) -> Result<End, Memory>
     ensures end { IfOk result
         (λ end. AskedEnds (Rose (I.faults input.old) (I.faults input.new)) safe
-        (asked_by safe question) (I.left input.old) (seen_end end)) }
-    ensures caused { IfOk result
-        (λ end. ((end.status ≡ 13) × (asked_by safe question ≡ None))
-        ⊎ IsScriptCaused (Rose (I.faults input.old) (I.faults input.new)) (I.left input.old)
-        end.status) }
+        (asks_by safe question) (I.left input.old) (seen_end end)) }
+    ensures steady { IfOk result
+        (λ end. (end.status ≡ 4) ⊎ (I.faults input.new ≡ I.faults input.old)) }
     ensures read { IfOk result (λ end. IsRunStatus end.status → IsAtEnd (I.left input.new)) }
-    ensures kept { (input.new ≡ input.old) ⊎ IsSome (asked_by safe question) }
+    ensures untouched { (input.new ≡ input.old) ⊎ IsSome (asks_by safe question) }
 {
-    match asked_of(safe.policy(), question) {
-        Some(asked) => ask_script(alloc, safe, asked, input),
-        None => say(alloc, 13, b"unknown name\n"),
+    match asks_of(safe.policy(), question) {
+        Some(asked) => run_script(alloc, safe, asked, input),
+        None => end_with(alloc, 13, b"unknown name\n"),
     }
 }
 
-/// Tells what is asked behind the script over the policy of a text.
-fn ask<I: Source>(
+/// Runs the script over the policy of a text.
+fn run<I: Source>(
     alloc: Global,
     text: &[u8],
-    question: Question,
+    question: Option<Question>,
     input: &mut I,
 ) -> Result<End, Memory>
     requires { length text.now ≤ 4_194_304 }
     ensures end { IfOk result
-        (λ end. AskEnds (Rose (I.faults input.old) (I.faults input.new)) question
+        (λ end. JudgedEnds (Rose (I.faults input.old) (I.faults input.new)) question
         (safe_in text.now) (I.left input.old) (seen_end end)) }
-    ensures caused { IfOk result
-        (λ end. IsCaused (Rose (I.faults input.old) (I.faults input.new)) text.now
-        (I.left input.old) end.status) }
+    ensures steady { IfOk result
+        (λ end. (end.status ≡ 4) ⊎ (I.faults input.new ≡ I.faults input.old)) }
     ensures read { IfOk result (λ end. IsRunStatus end.status → IsAtEnd (I.left input.new)) }
-    ensures kept { (input.new ≡ input.old) ⊎ IsAskable text.now question }
+    ensures untouched { (input.new ≡ input.old) ⊎ IsAskedOf question text.now }
 {
     match admit(alloc, text)? {
-        Admitted::Safe(safe) => ask_safe(alloc, safe, question, input),
-        Admitted::Ended(told) => Ok(told),
+        Admitted::Safe(safe) => run_safe(alloc, safe, question, input),
+        Admitted::Ended(end) => Ok(end),
     }
 }
 
@@ -156,19 +104,17 @@ fn answer_text<I: Source>(
     ensures end { IfOk result
         (λ end. TextEnds (Rose (I.faults input.old) (I.faults input.new))
         (seen_command command.now) text.now (I.left input.old) (seen_end end)) }
-    ensures caused { IfOk result
-        (λ end. IsCaused (Rose (I.faults input.old) (I.faults input.new)) text.now
-        (I.left input.old) end.status) }
+    ensures steady { IfOk result
+        (λ end. (end.status ≡ 4) ⊎ (I.faults input.new ≡ I.faults input.old)) }
     ensures read { IfOk result
         (λ end. IsTrue (plays_script (seen_command command.now)) → IsRunStatus end.status
         → IsAtEnd (I.left input.new)) }
-    ensures kept { (input.new ≡ input.old) ⊎ IsPlayed (seen_command command.now) text.now }
+    ensures untouched { (input.new ≡ input.old) ⊎ Asks (seen_command command.now) text.now }
 {
     match command {
         Command::Check(_) => check(alloc, text),
         Command::Fmt(_) => lay_out(alloc, text),
-        Command::Run(_) => run(alloc, text, input),
-        Command::Ask(_, question) => ask(alloc, text, *question, input),
+        Command::Run(_, question) => run(alloc, text, *question, input),
     }
 }
 
@@ -183,11 +129,11 @@ fn answer<S: Shelf, I: Source>(
         (λ end. FoundEnds (Rose (S.hard_faults shelf.old) (S.hard_faults shelf.new))
         (Rose (I.faults input.old) (I.faults input.new)) (seen_command command.now)
         (S.contents shelf.old) (I.left input.old) (seen_end end)) }
-    ensures caused { IfOk result
-        (λ end. IsCausedIn (Rose (S.hard_faults shelf.old) (S.hard_faults shelf.new))
-        (Rose (I.faults input.old) (I.faults input.new)) (S.contents shelf.old)
-        (named_by (seen_command command.now)) (I.left input.old) end.status) }
-    ensures failed { IfOk result
+    ensures steady { IfOk result
+        (λ end. (end.status ≡ 4)
+        ⊎ ((S.hard_faults shelf.new ≡ S.hard_faults shelf.old)
+        × (I.faults input.new ≡ I.faults input.old))) }
+    ensures counted { IfOk result
         (λ end. end.status ≡ 4
         → Rose (S.faults shelf.old) (S.faults shelf.new)
         ⊎ Rose (I.faults input.old) (I.faults input.new)) }
@@ -195,24 +141,12 @@ fn answer<S: Shelf, I: Source>(
     ensures read { IfOk result
         (λ end. IsTrue (plays_script (seen_command command.now)) → IsRunStatus end.status
         → IsAtEnd (I.left input.new)) }
-    ensures kept { (input.new ≡ input.old) ⊎ IsScriptDue (seen_command command.now) (S.contents shelf.old) }
+    ensures untouched { (input.new ≡ input.old)
+        ⊎ OnShelf perhaps (S.contents shelf.old) (Short Asks) (seen_command command.now) }
 {
-    match find_all(alloc, shelf, command.name(), MAX_POLICY) {
-        Ok(text) => answer_text(alloc, command, &text, input),
-        Err(ReadFault::Memory) => Err(AllocError),
-        Err(ReadFault::Failed) => say(alloc, 4, b"read fault\n"),
-        Err(ReadFault::TooLong) => say(alloc, 6, b"too long: policy\n"),
-    }
-}
-
-/// Prints a text; a sink that fails has status 5.
-fn print<K: Sink>(out: &mut K, status: u8, text: &[u8]) -> u8
-    ensures { IsPrinted result (told status text.now) (K.written out.old) (K.written out.new)
-        (K.faults out.old) (K.faults out.new) }
-{
-    match write_all(out, text) {
-        Ok(()) => status,
-        Err(_) => 5,
+    match find_text(alloc, shelf, command.name())? {
+        Found::Text(text) => answer_text(alloc, command, &text, input),
+        Found::Ended(end) => Ok(end),
     }
 }
 
@@ -225,32 +159,17 @@ fn run_command<S: Shelf, I: Source, K: Sink>(
     input: &mut I,
     out: &mut K,
 ) -> u8
-    ensures answers { AnswersCommand (map string_bytes words.now) result
-        (seen (S.contents shelf.old) (S.hard_faults shelf.old) (I.left input.old)
-        (I.faults input.old) (K.written out.old) (K.faults out.old))
-        (seen (S.contents shelf.new) (S.hard_faults shelf.new) (I.left input.new)
-        (I.faults input.new) (K.written out.new) (K.faults out.new)) }
-    ensures usage { command_of (map string_bytes words.now) ≡ None → (result ≡ 1) ⊎ (result ≡ 5) }
-    ensures used { result ≡ 1 → command_of (map string_bytes words.now) ≡ None }
-    ensures fault { result ≡ 2 → IfTold (map string_bytes words.now) (S.contents shelf.old) HasFault }
-    ensures cycle { result ≡ 3 → IfTold (map string_bytes words.now) (S.contents shelf.old) IsUnsafeText }
-    ensures read_fault { result ≡ 4
-        → Rose (S.hard_faults shelf.old) (S.hard_faults shelf.new)
-        ⊎ Rose (I.faults input.old) (I.faults input.new)
-        ⊎ IsMissing (map string_bytes words.now) (S.contents shelf.old) }
-    ensures failed { result ≡ 4
-        → Rose (S.faults shelf.old) (S.faults shelf.new)
-        ⊎ Rose (I.faults input.old) (I.faults input.new) }
-    ensures write_fault { result ≡ 5 → Rose (K.faults out.old) (K.faults out.new) }
-    ensures written { (result ≡ 5 → ⊥) → K.faults out.new ≡ K.faults out.old }
-    ensures long { result ≡ 6
-        → IfTold (map string_bytes words.now) (S.contents shelf.old)
-        (λ text. IsLongPolicy text ⊎ IsLongScript (I.left input.old)) }
-    ensures same { S.contents shelf.new ≡ S.contents shelf.old }
-    ensures read { IsReadOut (map string_bytes words.now) result (I.left input.new) }
-    ensures kept { (input.new ≡ input.old) ⊎ ReadsScript (map string_bytes words.now) (S.contents shelf.old) }
-    ensures unread { command_of (map string_bytes words.now) ≡ None
-        → (shelf.new ≡ shelf.old) × (input.new ≡ input.old) }
+    requires { IsNoGen (map string_bytes words.now) }
+    ensures answers { Answers (map string_bytes words.now) result
+        (scene S.contents S.faults S.hard_faults I.left I.faults K.written K.faults
+        shelf.old input.old out.old)
+        (scene S.contents S.faults S.hard_faults I.left I.faults K.written K.faults
+        shelf.new input.new out.new) }
+    ensures leaves { Leaves (map string_bytes words.now) result
+        (scene S.contents S.faults S.hard_faults I.left I.faults K.written K.faults
+        shelf.old input.old out.old)
+        (scene S.contents S.faults S.hard_faults I.left I.faults K.written K.faults
+        shelf.new input.new out.new) }
 {
     let Some(command) = spoken(words) else {
         return print(
@@ -268,12 +187,8 @@ fn run_command<S: Shelf, I: Source, K: Sink>(
 /// Runs `gen` and prints to `out`.
 fn run_gen<K: Sink>(alloc: Global, recipe: Recipe, out: &mut K) -> u8
     requires { (1 ≤ recipe.size) × (recipe.size ≤ 100_000) }
-    ensures answers { Prints (GenEnds (seen_recipe recipe)) result (K.written out.old) (K.written out.new)
+    ensures { Prints (GenEnds (seen_recipe recipe)) result (K.written out.old) (K.written out.new)
         (K.faults out.old) (K.faults out.new) }
-    ensures caused { (result ≡ 5) ⊎ (result ≡ 8) ⊎ IsGenCaused recipe.size result }
-    ensures succeeds { (result ≡ 0) ⊎ (result ≡ 5) ⊎ (result ≡ 8) }
-    ensures write_fault { result ≡ 5 → Rose (K.faults out.old) (K.faults out.new) }
-    ensures written { (result ≡ 5 → ⊥) → K.faults out.new ≡ K.faults out.old }
 {
     match generate(alloc, recipe) {
         Ok(end) => print(out, end.status, end.text.as_slice()),
@@ -310,55 +225,11 @@ pub fn tool<S: Shelf, I: Source, K: Sink>(
     input: &mut I,
     out: &mut K,
 ) -> u8
-    ensures answers { Answers (map string_bytes words.now) result
-        (seen (S.contents shelf.old) (S.hard_faults shelf.old) (I.left input.old)
-        (I.faults input.old) (K.written out.old) (K.faults out.old))
-        (seen (S.contents shelf.new) (S.hard_faults shelf.new) (I.left input.new)
-        (I.faults input.new) (K.written out.new) (K.faults out.new)) }
-    ensures usage { command_of (map string_bytes words.now) ≡ None → IsNoGen (map string_bytes words.now)
-        → (result ≡ 1) ⊎ (result ≡ 5) }
-    ensures used { result ≡ 1
-        → (command_of (map string_bytes words.now) ≡ None)
-        × IsNoGen (map string_bytes words.now) }
-    ensures fault { result ≡ 2
-        → IfTold (map string_bytes words.now) (S.contents shelf.old) HasFault
-        ⊎ IsMade (map string_bytes words.now) HasFault }
-    ensures cycle { result ≡ 3
-        → IfTold (map string_bytes words.now) (S.contents shelf.old) IsUnsafeText
-        ⊎ IsMade (map string_bytes words.now) IsUnsafeText }
-    ensures read_fault { result ≡ 4
-        → Rose (S.hard_faults shelf.old) (S.hard_faults shelf.new)
-        ⊎ Rose (I.faults input.old) (I.faults input.new)
-        ⊎ IsMissing (map string_bytes words.now) (S.contents shelf.old) }
-    ensures failed { result ≡ 4
-        → Rose (S.faults shelf.old) (S.faults shelf.new)
-        ⊎ Rose (I.faults input.old) (I.faults input.new) }
-    ensures write_fault { result ≡ 5 → Rose (K.faults out.old) (K.faults out.new) }
-    ensures written { (result ≡ 5 → ⊥) → K.faults out.new ≡ K.faults out.old }
-    ensures long { result ≡ 6
-        → IfTold (map string_bytes words.now) (S.contents shelf.old)
-        (λ text. IsLongPolicy text ⊎ IsLongScript (I.left input.old)) }
-    ensures exact { Exact (map string_bytes words.now) result
-        (seen (S.contents shelf.old) (S.hard_faults shelf.old) (I.left input.old)
-        (I.faults input.old) (K.written out.old) (K.faults out.old))
-        (seen (S.contents shelf.new) (S.hard_faults shelf.new) (I.left input.new)
-        (I.faults input.new) (K.written out.new) (K.faults out.new)) }
-    ensures caused { Caused (map string_bytes words.now) result
-        (seen (S.contents shelf.old) (S.hard_faults shelf.old) (I.left input.old)
-        (I.faults input.old) (K.written out.old) (K.faults out.old))
-        (seen (S.contents shelf.new) (S.hard_faults shelf.new) (I.left input.new)
-        (I.faults input.new) (K.written out.new) (K.faults out.new)) }
-    ensures complete { Complete (map string_bytes words.now) result
-        (seen (S.contents shelf.old) (S.hard_faults shelf.old) (I.left input.old)
-        (I.faults input.old) (K.written out.old) (K.faults out.old))
-        (seen (S.contents shelf.new) (S.hard_faults shelf.new) (I.left input.new)
-        (I.faults input.new) (K.written out.new) (K.faults out.new)) }
-    ensures generated { IsNoGen (map string_bytes words.now) ⊎ (result ≡ 0) ⊎ (result ≡ 5) ⊎ (result ≡ 8) }
-    ensures same { S.contents shelf.new ≡ S.contents shelf.old }
-    ensures read { IsReadOut (map string_bytes words.now) result (I.left input.new) }
-    ensures kept { (input.new ≡ input.old) ⊎ ReadsScript (map string_bytes words.now) (S.contents shelf.old) }
-    ensures unread { command_of (map string_bytes words.now) ≡ None
-        → (shelf.new ≡ shelf.old) × (input.new ≡ input.old) }
+    ensures { RunsTool (map string_bytes words.now) result
+        (scene S.contents S.faults S.hard_faults I.left I.faults K.written K.faults
+        shelf.old input.old out.old)
+        (scene S.contents S.faults S.hard_faults I.left I.faults K.written K.faults
+        shelf.new input.new out.new) }
 {
     match recipe_of(words) {
         Some(recipe) => run_gen(alloc, recipe, out),

@@ -1,17 +1,17 @@
-use Rattle.std.proofs.Common.{subst}
-use Rattle.gt_text.specs.Lines.{lines_of}
-use Rattle.gtrbac_tool.specs.declared.starting.Ran.{Ran}
-use Rattle.gtrbac_tool.specs.Script.{start_of}
-use Rattle.gtrbac_tool.specs.Started.{RanFrom}
-use Rattle.gtrbac_tool.proofs.Ran.{unborn_ends, born_ends}
+use Rattle.std.proofs.Common.{Option, sym, subst}
+use Rattle.std.specs.Prelude.{IfOk}
+use Rattle.policy_commands.specs.Ends.{seen_end}
+use Rattle.gtrbac_tool.specs.declared.ahead.Asked.{Asked}
+use Rattle.gtrbac_tool.specs.Ends.{PlaysTo}
+use Rattle.gtrbac_tool.proofs.Limits.{plain, answering}
 use Rattle.gtrbac_tool.proofs.starting.play.Goals as goal
 
-pub returns-in-Unborn : goal.returns-in-Unborn
-returns-in-Unborn c =
-    let start = start_of c.args.safe 1 (lines_of c.args.script.now) in
-    unborn_ends c.args.safe start c.in-Unborn.end (subst (λ (ran : Ran). RanFrom c.args.safe start ran) c.in-Unborn.is c.in-Ok.ensures)
+pub returns-in-None : goal.returns-in-None
+returns-in-None c =
+    subst (λ (o : Option Asked). IfOk c.play_plainly.result (λ end. PlaysTo c.args.safe o c.args.script.now (seen_end end))) (sym c.in-None.is)
+    (plain c.args.safe c.args.script.now c.requires c.play_plainly.result c.play_plainly.ensures)
 
-pub returns-in-Born : goal.returns-in-Born
-returns-in-Born c =
-    let start = start_of c.args.safe 1 (lines_of c.args.script.now) in
-    born_ends c.args.safe start c.in-Born.outcome (subst (λ (ran : Ran). RanFrom c.args.safe start ran) c.in-Born.is c.in-Ok.ensures)
+pub returns-in-Some : goal.returns-in-Some
+returns-in-Some c =
+    subst (λ (o : Option Asked). IfOk c.play_and_answer.result (λ end. PlaysTo c.args.safe o c.args.script.now (seen_end end))) (sym c.in-Some.is)
+    (answering c.args.safe c.args.script.now c.requires c.in-Some.asked c.play_and_answer.result c.play_and_answer.ensures)

@@ -1,0 +1,165 @@
+-- What the parts of a call say together.
+use Rattle.std.proofs.Common.{◌≡◌, ℕ, List, Option, Some, None, ◌⊎◌, inl, inr, refl, sym, ◌∙◌, subst}
+use Rattle.std.specs.Prelude.{Result, Ok, Err, IfOk, IsTrue, IsSomeAnd}
+use Rattle.std.specs.Io.KnownBytes.{IsAtEnd}
+use Rattle.gt_io.specs.Causes.{Rose}
+use Rattle.gt_io.specs.Shelf.{Contents}
+use Rattle.policy_commands.specs.declared.ends.End.{End}
+use Rattle.policy_commands.specs.Ends.{Told, told, seen_end}
+use Rattle.policy_commands.specs.Finding.{IsPolicyText, MissesText}
+use Rattle.policy_commands.specs.Printing.{IsPrinted, WantsMemory}
+use Rattle.gtrbac_tool.specs.Told.{usage}
+use Rattle.gtrbac_tool.specs.Script.{IsRunStatus}
+use Rattle.gtrbac_tool.specs.Summary.{Gen, IsGen, GenEnds}
+use Rattle.gtrbac_tool.specs.Commands.{Command, named_by, command_of, plays_script}
+use Rattle.gtrbac_tool.specs.Ends.{TextEnds, FoundEnds, IsNoCommand, generated, unspoken, spoken}
+use Rattle.gtrbac_tool.specs.Scenes.{Scene}
+use Rattle.gtrbac_tool.specs.Causes.{perhaps, OnShelf, Short, Asks}
+use Rattle.gtrbac_tool.specs.Tool.{IsSteady, Answers, Prints, Leaves, RunsTool}
+use Rattle.gtrbac_tool.proofs.Causing.{gen_no_command, status_of}
+use Rattle.gtrbac_tool.proofs.Exactness.{none_apart, has_some, on_shelf, text_four, runs}
+use Rattle.gtrbac_tool.proofs.Succeeding.{gen_succeeds}
+
+abbrev Playing : Command → Type 0
+Playing c = IsTrue (plays_script c)
+
+-- a call that touches its output alone
+module _ {S I : Type 0} (words : List (List ℕ)) (status : ℕ) (a : Scene S I) (w : Option (List ℕ)) (n : ℕ) where
+  abbrev After : Scene S I
+  After = record a { written = w; written_faults = n }
+
+  only_written : command_of words ≡ None → (status ≡ 4 → ⊥) → Leaves words status a After
+  only_written none other =
+      record {
+        texts = refl;
+        unread = λ _. (refl, refl);
+        untouched = inl refl;
+        read = λ h ran. absurd (subst (λ (o : Option Command). IsSomeAnd o Playing) none h);
+        counted = λ four. absurd (other four);
+      }
+
+  printed_other : (end : Told) → (end.status ≡ 4 → ⊥) → IsPrinted status end a.written w a.written_faults n → status ≡ 4 → ⊥
+  printed_other end other (inl p) four = other (sym p.0 ∙ four)
+  printed_other end other (inr p) four = cc (p.0, four)
+
+  module _ (none : IsNoCommand words) (p : IsPrinted status usage a.written w a.written_faults n) where
+    pub usage_answers : Answers words status a After
+    usage_answers = inr (usage, unspoken none refl, inr (refl, refl), p)
+
+    one_four : usage.status ≡ 4 → ⊥
+    one_four e = cc (e)
+
+    pub usage_leaves : Leaves words status a After
+    usage_leaves = only_written none.0 (printed_other usage one_four p)
+
+  module _ (g : Gen) (is : IsGen words g) where
+    gen_answers : Prints (GenEnds g) status a.written w a.written_faults n → Answers words status a After
+    gen_answers (inl wants) = inl ((λ none. none.1 g is), wants)
+    gen_answers (inr h) = inr (h.0, generated g is h.1, inr (refl, refl), h.2)
+
+    no_four : (end : Told) → GenEnds g end → end.status ≡ 4 → ⊥
+    no_four end ends four = let zero = gen_succeeds g is.low is.high end ends in cc (zero, four)
+
+    gen_other : Prints (GenEnds g) status a.written w a.written_faults n → status ≡ 4 → ⊥
+    gen_other (inl wants) four = cc (wants.0, four)
+    gen_other (inr h) four = printed_other h.0 (no_four h.0 h.1) h.2 four
+
+    pub gen_runs : Prints (GenEnds g) status a.written w a.written_faults n → RunsTool words status a After
+    gen_runs p = runs words a After status (gen_answers p) (only_written (gen_no_command words g is) (gen_other p))
+
+-- a call of a command over a policy
+module _ {S I : Type 0} (words : List (List ℕ)) (c : Command) (is : command_of words ≡ Some c) (a b : Scene S I) where
+  abbrev Ended : Told → Type 0
+  Ended end = FoundEnds (Rose a.hard_faults b.hard_faults) (Rose a.input_faults b.input_faults) c a.texts a.script end
+
+  pub starved : (status : ℕ) → WantsMemory status a.written b.written a.written_faults b.written_faults → Answers words status a b
+  starved status wants = inl ((λ none. none_apart (command_of words) c none.0 is), wants)
+
+  module _ (same : b.texts ≡ a.texts) (kept : (b.input ≡ a.input) ⊎ OnShelf perhaps a.texts (Short Asks) c) where
+    leaves : (status : ℕ) → (Playing c → IsRunStatus status → IsAtEnd b.script) → (status ≡ 4 → Rose a.shelf_faults b.shelf_faults ⊎ Rose a.input_faults b.input_faults) → Leaves words status a b
+    leaves status read counted =
+        record {
+          texts = same;
+          unread = λ none. absurd (none_apart (command_of words) c none is);
+          untouched = elim kept [ inl e ↦ inl e | inr due ↦ inr (has_some (OnShelf perhaps a.texts (Short Asks)) (command_of words) c is due) ];
+          read = λ h ran. read (subst (λ (o : Option Command). IsSomeAnd o Playing) is h) ran;
+          counted = counted;
+        }
+
+    no_run : IsRunStatus 8 → ⊥
+    no_run (inl e) = cc (e)
+    no_run (inr (inl e)) = cc (e)
+    no_run (inr (inr e)) = cc (e)
+
+    eight_four : ◌≡◌ {A = ℕ} 8 4 → ⊥
+    eight_four e = cc (e)
+
+    pub starved_leaves : Leaves words 8 a b
+    starved_leaves = leaves 8 (λ plays ran. absurd (no_run ran)) (λ four. absurd (eight_four four))
+
+    module _ (status : ℕ) (end : End) (text : List ℕ) (whole : text ≡ end.text.items) (p : IsPrinted status (told end.status text) a.written b.written a.written_faults b.written_faults) where
+      printed : IsPrinted status (seen_end end) a.written b.written a.written_faults b.written_faults
+      printed = subst (λ (t : List ℕ). IsPrinted status (told end.status t) a.written b.written a.written_faults b.written_faults) whole p
+
+      pub answers : Ended (seen_end end) → IsSteady (seen_end end) a b → Answers words status a b
+      answers ends steady = inr (seen_end end, spoken c is ends, steady, printed)
+
+      five_run : status ≡ 5 → IsRunStatus status → ⊥
+      five_run five (inl e) = cc (five, e)
+      five_run five (inr (inl e)) = cc (five, e)
+      five_run five (inr (inr e)) = cc (five, e)
+
+      read_on : (Playing c → IsRunStatus end.status → IsAtEnd b.script) → Playing c → IsRunStatus status → IsAtEnd b.script
+      read_on read plays ran =
+          elim p [
+            | inl q ↦ read plays (subst IsRunStatus q.0 ran)
+            | inr q ↦ absurd (five_run q.0 ran)
+          ]
+
+      five_four : status ≡ 5 → status ≡ 4 → ⊥
+      five_four five four = cc (five, four)
+
+      counted_on : (end.status ≡ 4 → Rose a.shelf_faults b.shelf_faults ⊎ Rose a.input_faults b.input_faults) → status ≡ 4 → Rose a.shelf_faults b.shelf_faults ⊎ Rose a.input_faults b.input_faults
+      counted_on counted four =
+          elim p [
+            | inl q ↦ counted (sym q.0 ∙ four)
+            | inr q ↦ absurd (five_four q.0 four)
+          ]
+
+      pub all_leaves : (Playing c → IsRunStatus end.status → IsAtEnd b.script) → (end.status ≡ 4 → Rose a.shelf_faults b.shelf_faults ⊎ Rose a.input_faults b.input_faults) → Leaves words status a b
+      all_leaves read counted = leaves status (read_on read) (counted_on counted)
+
+-- a command over what the shelf has by its name
+module _ (hard failed : Type 0) (c : Command) (texts : Contents) (input : Option (List ℕ)) (name : List ℕ) (named : name ≡ named_by c) where
+  module _ (text : List ℕ) (there : IsPolicyText texts name text) where
+    here : IsPolicyText texts (named_by c) text
+    here = subst (λ (n : List ℕ). IsPolicyText texts n text) named there
+
+    pub over_text : {E : Type 0} (r : Result End E) → IfOk r (λ e. TextEnds failed c text input (seen_end e)) → IfOk r (λ e. FoundEnds hard failed c texts input (seen_end e))
+    over_text (Ok e) h = inr (text, here, h)
+    over_text (Err f) h = tt
+
+    pub asked_there : (Same : Type 0) → Same ⊎ Asks c text → Same ⊎ OnShelf perhaps texts (Short Asks) c
+    asked_there Same (inl same) = inl same
+    asked_there Same (inr asks) = inr (on_shelf (Short Asks) c text texts here.found (here.short, asks))
+
+  pub missed_ends : (end : Told) → MissesText hard texts name end → FoundEnds hard failed c texts input end
+  missed_ends end h = inl (subst (λ (n : List ℕ). MissesText hard texts n end) named h)
+
+pub missed_run : (hard : Type 0) (texts : Contents) (name : List ℕ) (end : Told) (Read : Type 0) → MissesText hard texts name end → IsRunStatus end.status → Read
+missed_run hard texts name end Read (inl m) (inl z) = let is : end.status ≡ 4 = status_of end _ m.0 in absurd (cc (is, z))
+missed_run hard texts name end Read (inl m) (inr (inl z)) = let is : end.status ≡ 4 = status_of end _ m.0 in absurd (cc (is, z))
+missed_run hard texts name end Read (inl m) (inr (inr z)) = let is : end.status ≡ 4 = status_of end _ m.0 in absurd (cc (is, z))
+missed_run hard texts name end Read (inr m) (inl z) = let is : end.status ≡ 6 = status_of end _ m.0 in absurd (cc (is, z))
+missed_run hard texts name end Read (inr m) (inr (inl z)) = let is : end.status ≡ 6 = status_of end _ m.0 in absurd (cc (is, z))
+missed_run hard texts name end Read (inr m) (inr (inr z)) = let is : end.status ≡ 6 = status_of end _ m.0 in absurd (cc (is, z))
+
+pub text_counted : {E : Type 0} (shelf failed : Type 0) (c : Command) (text : List ℕ) (input : Option (List ℕ)) (r : Result End E)
+    → IfOk r (λ e. TextEnds failed c text input (seen_end e)) → IfOk r (λ e. e.status ≡ 4 → shelf ⊎ failed)
+text_counted shelf failed c text input (Ok e) h = λ four. inr (text_four failed input (seen_end e) four c text h)
+text_counted shelf failed c text input (Err f) h = tt
+
+pub text_steady : {E : Type 0} (shelf same : Type 0) (r : Result End E) → shelf → IfOk r (λ e. (e.status ≡ 4) ⊎ same) → IfOk r (λ e. (e.status ≡ 4) ⊎ (shelf × same))
+text_steady shelf same (Ok e) s (inl four) = inl four
+text_steady shelf same (Ok e) s (inr h) = inr (s, h)
+text_steady shelf same (Err f) s h = tt
