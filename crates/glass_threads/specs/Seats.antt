@@ -25,8 +25,8 @@ use Rattle.line_viewers.specs.Viewed.{Answer, shown, Acted, actor_after, Ascend}
 use Rattle.line_viewers.specs.Viewing.{GlancesCanBeTold, SameGlass}
 use Rattle.glass_threads.specs.declared.seats.Seat.{Seat}
 
--- a viewer as it is seen: the links of its door that are to come, where they are told, how often its
--- door failed, its served links, and how it ended
+-- a viewer as it is seen: the links of its door that are to come, where they are told, how often
+-- its door failed, its served links, and how it ended
 pub record Watcher (L : Type 0) : Type 0 where
   pub door : Option (List L)
   pub faults : ℕ
@@ -36,7 +36,12 @@ pub record Watcher (L : Type 0) : Type 0 where
 module _ {D G L : Type 0} (links : D → Option (List L)) (faults : D → ℕ) where
   abbrev pub watcher : Viewer D G L → Watcher L
   watcher v =
-      record { door = links v.door; faults = faults v.door; served = v.served.items; outcome = v.outcome }
+      record {
+        door = links v.door;
+        faults = faults v.door;
+        served = v.served.items;
+        outcome = v.outcome;
+      }
 
   abbrev pub watchers : List (Viewer D G L) → List (Watcher L)
   watchers vs = map watcher vs
@@ -78,10 +83,12 @@ pub record HasSettled {D G L : Type 0} (h : List Entry) (x y : Seat D G L) : Typ
   pub viewer : y.viewer ≡ x.viewer
   pub same : SameGlass x.glass y.glass
   pub grows : IsPrefix x.glass.seen y.glass.seen
-  pub told : y.told ≡ true → IsPrefix h y.glass.seen × IsHistory y.glass.named.policy y.glass.birth y.glass.seen
+  pub told : y.told ≡ true → IsPrefix h y.glass.seen
+      × IsHistory y.glass.named.policy y.glass.birth y.glass.seen
 
 module _ (np : NamedPolicy) (birth : ℕ) (h : List Entry) where
-  -- a reply of a number that is not above the length of the history is the reply at that many entries
+  -- a reply of a number that is not above the length of the history is the reply at that many
+  -- entries
   abbrev pub IsOf : Actor → Request → Answer → Type 0
   IsOf actor request (shown n reply) =
       n ≤ length h → IsReplyAt np.policy birth (take n h) actor request reply
@@ -92,15 +99,16 @@ module _ (np : NamedPolicy) (birth : ℕ) (h : List Entry) where
   AreOf [] = ⊤
   AreOf (a ∷ before) =
       AreOf before
-      × ((request : Request) → read_line np Nobody false a.line ≡ Ok (Ask request) → IsOf (actor_after np before) request a.answer)
+      × ((request : Request) → read_line np Nobody false a.line ≡ Ok (Ask request)
+      → IsOf (actor_after np before) request a.answer)
 
   abbrev pub AllAreOf : {L : Type 0} → List (Tale L) → Type 0
   AllAreOf [] = ⊤
   AllAreOf (x ∷ xs) = AreOf x.acted × AllAreOf xs
 
 module _ {L : Type 0} (traffic : L → Traffic) (np : NamedPolicy) (birth : ℕ) where
-  -- What a viewer did, over one list: each of its links was shown replies of beginnings of the list,
-  -- whose numbers never fall from link to link
+  -- What a viewer did, over one list: each of its links was shown replies of beginnings of the
+  -- list, whose numbers never fall from link to link
   pub record HasViewed (a b : Watcher L) (seen : List Entry) : Type 0 where
     pub tales : List (Tale L)
     pub links : AreViewed traffic np birth seen b.served tales
@@ -108,8 +116,8 @@ module _ {L : Type 0} (traffic : L → Traffic) (np : NamedPolicy) (birth : ℕ)
     pub door : Gives a.door b.door (begun_of tales)
     pub cause : ViewsTo b.door a.faults b.faults b.served b.outcome
 
-  -- The list has the history as its beginning and is legal itself; so the replies of numbers that are
-  -- not above the length of the history are those of its beginnings
+  -- The list has the history as its beginning and is legal itself; so the replies of numbers that
+  -- are not above the length of the history are those of its beginnings
   pub record IsToldOf (h : List Entry) (a b : Watcher L) : Type 0 where
     pub seen : List Entry
     pub viewed : HasViewed a b seen

@@ -36,7 +36,8 @@ pub fn take_seats<D: Door, G: Gate>(
     ensures glasses_are { reverse (glasses_of seats.new.items) ≡ glasses.old.items }
     ensures viewers_are { reverse (viewers_of seats.new.items) ≡ viewers.old.items }
     ensures numbers { All (λ s. s.number ≤ 7) seats.new.items }
-    ensures left { (viewers.new.items ≡ []) × (vec_capacity viewers.new ≡ vec_capacity viewers.old) }
+    ensures left { (viewers.new.items ≡ [])
+        × (vec_capacity viewers.new ≡ vec_capacity viewers.old) }
 {
     while let Some(glass) = glasses.take() {
         let last = viewers.pop();
@@ -93,12 +94,15 @@ fn look_at_all<R: Threads + Wait + Sync, D: Door + Send, G: Gate + Send>(
 where
     D::L: Send,
     requires ready { All (λ s. IsReady policy.now s) seats.old }
-    ensures { (i : ℕ) (d : _) → i < length seats.old → HasLooked D.links D.faults D.L.traffic policy.now (slice_index_or seats.old i d) (slice_index_or seats.new i d) }
+    ensures { (i : ℕ) (d : _) → i < length seats.old
+        → HasLooked D.links D.faults D.L.traffic policy.now (slice_index_or seats.old i d)
+        (slice_index_or seats.new i d) }
 {
     thread::for_each_mut(rt, seats, 8, &|_, seat| { look_at(alloc, policy, seat) });
 }
 
-/// Serves the links of all viewers at the same time. What each came to holds of the seat at its place.
+/// Serves the links of all viewers at the same time. What each came to holds of the seat at its
+/// place.
 pub fn run_seats<R: Threads + Wait + Sync, D: Door + Send, G: Gate + Send>(
     rt: &R,
     alloc: Global,
@@ -109,16 +113,20 @@ where
     D::L: Send,
     requires ready { All (λ s. IsReady policy.now s) seats.old.items }
     ensures length { length seats.new.items ≡ length seats.old.items }
-    ensures looked { (i : ℕ) (d : _) → i < length seats.old.items → HasLooked D.links D.faults D.L.traffic policy.now (slice_index_or seats.old.items i d) (slice_index_or seats.new.items i d) }
+    ensures looked { (i : ℕ) (d : _) → i < length seats.old.items
+        → HasLooked D.links D.faults D.L.traffic policy.now (slice_index_or seats.old.items i d)
+        (slice_index_or seats.new.items i d) }
 {
     look_at_all(rt, alloc, policy, seats.as_mut_slice());
 }
 
-/// Looks at the history that was published last. It answers false where there is no memory for that.
+/// Looks at the history that was published last. It answers false where there is no memory for
+/// that.
 fn looks(glass: &mut Glass) -> bool
     ensures same { SameGlass glass.old glass.new }
     ensures grows { IsPrefix glass.old.seen glass.new.seen }
-    ensures history { result ≡ true → IsHistory glass.new.named.policy glass.new.birth glass.new.seen }
+    ensures history { result ≡ true → IsHistory glass.new.named.policy glass.new.birth
+        glass.new.seen }
 {
     let Ok(_shown) = glass.glance(Actor::Operator, Request::Now) else {
         return false;
@@ -130,7 +138,8 @@ fn looks(glass: &mut Glass) -> bool
 fn sees(glass: &mut Glass, entries: &[Entry]) -> bool
     ensures same { SameGlass glass.old glass.new }
     ensures grows { IsPrefix glass.old.seen glass.new.seen }
-    ensures told { result ≡ true → IsPrefix entries.now glass.new.seen × IsHistory glass.new.named.policy glass.new.birth glass.new.seen }
+    ensures told { result ≡ true → IsPrefix entries.now glass.new.seen
+        × IsHistory glass.new.named.policy glass.new.birth glass.new.seen }
 {
     if !glass.told(entries) {
         return false;
@@ -153,7 +162,8 @@ pub fn settle_all<R: Threads + Wait + Sync, D: Door + Send, G: Gate + Send>(
 )
 where
     D::L: Send,
-    ensures { (i : ℕ) (d : _) → i < length seats.old → HasSettled entries.now (slice_index_or seats.old i d) (slice_index_or seats.new i d) }
+    ensures { (i : ℕ) (d : _) → i < length seats.old
+        → HasSettled entries.now (slice_index_or seats.old i d) (slice_index_or seats.new i d) }
 {
     thread::for_each_mut(rt, seats, 1, &|_, seat| { settle(entries, seat) });
 }

@@ -21,7 +21,8 @@ pub record IsFirst (es : List HierEdge) (v b n : ℕ) : Type 0 where
 pub record IsOutgoing (es : List HierEdge) (first next : List ℕ) : Type 0 where
   pub size : length next ≡ length es
   pub firsts : (v : ℕ) → IsFirst es v 0 (slice_index_or first v no_edge)
-  pub nexts : (n : ℕ) (e : HierEdge) → item_at es n ≡ Some e → IsFirst es e.senior.0 (n + 1) (slice_index_or next n 0)
+  pub nexts : (n : ℕ) (e : HierEdge) → item_at es n ≡ Some e
+      → IsFirst es e.senior.0 (n + 1) (slice_index_or next n 0)
 
 -- whether an edge leads from the role
 abbrev pub leads_on : List ℕ → ℕ → Bool
@@ -31,7 +32,8 @@ leads_on first v = not (nat_eq (slice_index_or first v no_edge) no_edge)
 unfoldable pub seniors_in : List ℕ → List ℕ
 seniors_in first = filter (leads_on first) (range_with_len 0 1_000)
 
--- a walk: where it ends and where it begins, the place of its begin among the starts, and the numbers of its edges
+-- a walk: where it ends and where it begins, the place of its begin among the starts, and the
+-- numbers of its edges
 pub record Stop : Type 0 where
   pub node : ℕ
   pub start : ℕ
@@ -46,29 +48,34 @@ Lesser (x ∷ xs) (y ∷ ys) = (x < y) ⊎ ((x ≡ y) × Lesser xs ys)
 
 -- fewer edges; or as many from an earlier start; or from the same one by lesser numbers
 abbrev pub Before : ℕ → List ℕ → ℕ → List ℕ → Type 0
-Before i xs j ys = (length xs < length ys) ⊎ ((length xs ≡ length ys) × ((i < j) ⊎ ((i ≡ j) × Lesser xs ys)))
+Before i xs j ys = (length xs < length ys)
+    ⊎ ((length xs ≡ length ys) × ((i < j) ⊎ ((i ≡ j) × Lesser xs ys)))
 
 abbrev pub NotLater : ℕ → List ℕ → ℕ → List ℕ → Type 0
 NotLater i xs j ys = ((i ≡ j) × (xs ≡ ys)) ⊎ Before i xs j ys
 
--- the walk of what was found at place i: it stays at a start, or goes on by one edge from what was found before
+-- the walk of what was found at place i: it stays at a start, or goes on by one edge from what was
+-- found before
 abbrev pub IsStop : List Stop → ℕ → Found → Stop → Type 0
 IsStop ws i f s =
     (s.node ≡ f.role)
     × (((f.by ≡ no_edge) × (s.start ≡ f.role) × (s.place ≡ f.before) × (s.arcs ≡ []))
-    ⊎ ((p : Stop) × (f.by < no_edge) × (f.before < i) × (item_at ws f.before ≡ Some p) × (s.start ≡ p.start) × (s.place ≡ p.place) × (s.arcs ≡ p.arcs ++ f.by ∷ [])))
+    ⊎ ((p : Stop) × (f.by < no_edge) × (f.before < i) × (item_at ws f.before ≡ Some p)
+    × (s.start ≡ p.start) × (s.place ≡ p.place) × (s.arcs ≡ p.arcs ++ f.by ∷ [])))
 
 -- the walks of what was found
 pub record Tells (queue : List Found) (ws : List Stop) : Type 0 where
   pub size : length ws ≡ length queue
-  pub told : (i : ℕ) (f : Found) → item_at queue i ≡ Some f → (s : Stop) × (item_at ws i ≡ Some s) × IsStop ws i f s
+  pub told : (i : ℕ) (f : Found) → item_at queue i ≡ Some f
+      → (s : Stop) × (item_at ws i ≡ Some s) × IsStop ws i f s
 
 abbrev pub HasStops : List Found → Type 0
 HasStops queue = (ws : List Stop) × Tells queue ws
 
 -- the walk of what was found at this place, and on by an edge
 abbrev pub IsWalkBy : List Found → ℕ → ℕ → ℕ → List ℕ → Type 0
-IsWalkBy queue at last start arcs = (ws : List Stop) (s : Stop) → Tells queue ws → item_at ws at ≡ Some s → (start ≡ s.start) × (arcs ≡ s.arcs ++ last ∷ [])
+IsWalkBy queue at last start arcs = (ws : List Stop) (s : Stop) → Tells queue ws
+    → item_at ws at ≡ Some s → (start ≡ s.start) × (arcs ≡ s.arcs ++ last ∷ [])
 
 -- found earlier than the head, or at the head and by a lesser edge
 abbrev pub Earlier : ℕ → ℕ → ℕ → ℕ → Type 0
@@ -85,29 +92,41 @@ pub record IsFound (ws : List Stop) (v place : ℕ) (arcs : List ℕ) : Type 0 w
 abbrev pub is_seen : List Bool → ℕ → Bool
 is_seen seen v = slice_index_or seen v false
 
--- what was found stands in the order of its walks, and none of it is a goal; of what was found before the head the open edges are followed,
--- and of the head those below lim
-pub record Searched (ok : ℕ → HierEdge → Bool) (goal : RoleId → Bool) (es : List HierEdge) (starts : List ℕ) (begun : ℕ) (seen : List Bool) (queue : List Found) (ws : List Stop) (head lim : ℕ) : Type 0 where
+-- what was found stands in the order of its walks, and none of it is a goal; of what was found
+-- before the head the open edges are followed, and of the head those below lim
+pub record Searched (ok : ℕ → HierEdge → Bool) (goal : RoleId → Bool) (es : List HierEdge)
+    (starts : List ℕ) (begun : ℕ) (seen : List Bool) (queue : List Found) (ws : List Stop)
+    (head lim : ℕ) : Type 0 where
   pub tells : Tells queue ws
-  pub leads : (i : ℕ) (s : Stop) → item_at ws i ≡ Some s → (item_at starts s.place ≡ Some s.start) × LeadsAlong (role_arcs ok es) (record { 0 = s.start }) s.arcs (record { 0 = s.node })
+  pub leads : (i : ℕ) (s : Stop) → item_at ws i ≡ Some s
+      → (item_at starts s.place ≡ Some s.start)
+      × LeadsAlong (role_arcs ok es) (record { 0 = s.start }) s.arcs (record { 0 = s.node })
   pub within : (i : ℕ) (s : Stop) → item_at ws i ≡ Some s → s.node < length seen
   pub places : (i : ℕ) (s : Stop) → item_at ws i ≡ Some s → s.place < begun
-  pub order : (i j : ℕ) (a b : Stop) → i < j → item_at ws i ≡ Some a → item_at ws j ≡ Some b → Before a.place a.arcs b.place b.arcs
-  pub marked : (v : ℕ) → is_seen seen v ≡ true → (j : ℕ) × (t : Stop) × (item_at ws j ≡ Some t) × (t.node ≡ v)
+  pub order : (i j : ℕ) (a b : Stop) → i < j → item_at ws i ≡ Some a → item_at ws j ≡ Some b
+      → Before a.place a.arcs b.place b.arcs
+  pub marked : (v : ℕ) → is_seen seen v ≡ true
+      → (j : ℕ) × (t : Stop) × (item_at ws j ≡ Some t) × (t.node ≡ v)
   pub begins : (p v : ℕ) → p < begun → item_at starts p ≡ Some v → IsFound ws v p []
-  pub older : (k : ℕ) (f : Found) → item_at queue k ≡ Some f → (f.by ≡ no_edge) ⊎ Earlier f.before f.by head lim
-  pub done : (i n : ℕ) (s : Stop) (e : HierEdge) → item_at ws i ≡ Some s → item_at es n ≡ Some e → ok n e ≡ true → e.senior.0 ≡ s.node → Earlier i n head lim → IsFound ws e.junior.0 s.place (s.arcs ++ n ∷ [])
+  pub older : (k : ℕ) (f : Found) → item_at queue k ≡ Some f
+      → (f.by ≡ no_edge) ⊎ Earlier f.before f.by head lim
+  pub done : (i n : ℕ) (s : Stop) (e : HierEdge) → item_at ws i ≡ Some s → item_at es n ≡ Some e
+      → ok n e ≡ true → e.senior.0 ≡ s.node → Earlier i n head lim
+      → IsFound ws e.junior.0 s.place (s.arcs ++ n ∷ [])
   pub passed : (i : ℕ) (s : Stop) → item_at ws i ≡ Some s → goal (record { 0 = s.node }) ≡ false
 
-abbrev pub HasSearched : (ℕ → HierEdge → Bool) → (RoleId → Bool) → List HierEdge → List ℕ → ℕ → List Bool → List Found → ℕ → ℕ → Type 0
-HasSearched ok goal es starts begun seen queue head lim = (ws : List Stop) × Searched ok goal es starts begun seen queue ws head lim
+abbrev pub HasSearched : (ℕ → HierEdge → Bool) → (RoleId → Bool) → List HierEdge → List ℕ → ℕ
+    → List Bool → List Found → ℕ → ℕ → Type 0
+HasSearched ok goal es starts begun seen queue head lim = (ws : List Stop)
+    × Searched ok goal es starts begun seen queue ws head lim
 
 -- the nodes by their numbers
 abbrev pub roles_of : List ℕ → List RoleId
 roles_of ns = map (λ n. record { 0 = n }) ns
 
 -- the same while the edges of the head are followed, which is role v, and of which the next is n
-pub record Following (ok : ℕ → HierEdge → Bool) (goal : RoleId → Bool) (es : List HierEdge) (starts : List ℕ) (seen : List Bool) (queue : List Found) (head v n : ℕ) : Type 0 where
+pub record Following (ok : ℕ → HierEdge → Bool) (goal : RoleId → Bool) (es : List HierEdge)
+    (starts : List ℕ) (seen : List Bool) (queue : List Found) (head v n : ℕ) : Type 0 where
   pub walks : List Stop
   pub stop : Stop
   pub here : item_at walks head ≡ Some stop
@@ -120,13 +139,16 @@ abbrev pub AreNoGoals : (RoleId → Bool) → List ℕ → Type 0
 AreNoGoals goal starts = (i s : ℕ) → item_at starts i ≡ Some s → goal (record { 0 = s }) ≡ false
 
 -- the walk of the head, and on by the edge n, is the least one to a goal
-pub record IsGoalBy (ok : ℕ → HierEdge → Bool) (goal : RoleId → Bool) (es : List HierEdge) (starts : List ℕ) (queue : List Found) (head n : ℕ) : Type 0 where
+pub record IsGoalBy (ok : ℕ → HierEdge → Bool) (goal : RoleId → Bool) (es : List HierEdge)
+    (starts : List ℕ) (queue : List Found) (head n : ℕ) : Type 0 where
   pub walks : List Stop
   pub stop : Stop
   pub tells : Tells queue walks
   pub here : item_at walks head ≡ Some stop
-  pub least : IsLeastWalk (role_arcs ok es) goal (roles_of starts) (record { start = record { 0 = stop.start }; arcs = stop.arcs ++ n ∷ [] })
+  pub least : IsLeastWalk (role_arcs ok es) goal (roles_of starts)
+      (record { start = record { 0 = stop.start }; arcs = stop.arcs ++ n ∷ [] })
 
 -- the roles of the list from number low on, ascending and each once
 unfoldable pub listed_from : List RoleId → ℕ → List ℕ
-listed_from roles low = filter (λ n. lists same_role roles (record { 0 = n })) (range_with_len low (1_000 - low))
+listed_from roles low = filter (λ n. lists same_role roles (record { 0 = n }))
+    (range_with_len low (1_000 - low))

@@ -12,8 +12,9 @@ use gt_base::{HierEdge, List, Memory, PermId, RoleId, Status, UserId, Walk};
 use std::alloc::Global;
 use std::marker::Model;
 
-/// The edges of a hierarchy, seen as their list, with an index by the role that each leads from. The index does not speak of a status: it
-/// stays while the edges stay, and answers each question as the call of the same name over the list does.
+/// The edges of a hierarchy, seen as their list, with an index by the role that each leads from.
+/// The index does not speak of a status: it stays while the edges stay, and answers each question
+/// as the call of the same name over the list does.
 pub struct Hierarchy {
     edges: Vec<HierEdge>,
     out: Outgoing,
@@ -35,7 +36,8 @@ impl Model for Hierarchy {
 
     ghost view = { λ h. h.edges.items };
 
-    ghost invariant = { λ h. IsHierarchy h.edges.items × IsOutgoing h.edges.items h.out.first.items h.out.next.items };
+    ghost invariant = { λ h. IsHierarchy h.edges.items
+        × IsOutgoing h.edges.items h.out.first.items h.out.next.items };
 }
 
 impl Hierarchy {
@@ -57,7 +59,8 @@ impl Hierarchy {
         &self.edges
     }
 
-    /// By which walk of usable edges the user may activate the role, as `may_activate` over the list. For want of memory it may refuse.
+    /// By which walk of usable edges the user may activate the role, as `may_activate` over the
+    /// list. For want of memory it may refuse.
     pub fn may_activate(
         &self,
         alloc: Global,
@@ -65,7 +68,8 @@ impl Hierarchy {
         user: UserId,
         role: RoleId,
     ) -> Result<Option<Walk>, Memory>
-        ensures { IfOk result (λ walk. walk ≡ activation_walk self.now (has status.now.set) user role) }
+        ensures { IfOk result (λ walk. walk ≡ activation_walk self.now
+            (has status.now.set) user role) }
     {
         if is_assigned(status, user, role) {
             return Ok(Some(standing(alloc, role)));
@@ -73,17 +77,19 @@ impl Hierarchy {
         activation(alloc, &self.edges, &self.out, status, user, role)
     }
 
-    /// Whether the walk, found before, still lets the user activate the role: it begins at a role to which the user is assigned, and usable edges
-    /// of it lead to the role. Then some walk does. It takes no memory.
+    /// Whether the walk, found before, still lets the user activate the role: it begins at a role
+    /// to which the user is assigned, and usable edges of it lead to the role. Then some walk does.
+    /// It takes no memory.
     pub fn still_lets(&self, status: &Status, user: UserId, role: RoleId, walk: &Walk) -> bool
         ensures walk { result ≡ still_lets self.now (has status.now.set) user role walk.now }
-        ensures some { result ≡ true → is_none (activation_walk self.now (has status.now.set) user role) ≡ false }
+        ensures some { result ≡ true
+            → is_none (activation_walk self.now (has status.now.set) user role) ≡ false }
     {
         still_lets(&self.edges, status, user, role, walk)
     }
 
-    /// By which walk of usable edges one of the active roles is lent the permission, as `reaches` over the list. For want of memory it may
-    /// refuse.
+    /// By which walk of usable edges one of the active roles is lent the permission, as `reaches`
+    /// over the list. For want of memory it may refuse.
     pub fn reaches(
         &self,
         alloc: Global,
@@ -91,12 +97,14 @@ impl Hierarchy {
         active: &[RoleId],
         perm: PermId,
     ) -> Result<Option<Walk>, Memory>
-        ensures { IfOk result (λ walk. walk ≡ permission_walk self.now (has status.now.set) active.now perm) }
+        ensures { IfOk result (λ walk. walk ≡ permission_walk self.now
+            (has status.now.set) active.now perm) }
     {
         lending(alloc, &self.edges, &self.out, status, active, perm)
     }
 
-    /// The same walk where all edges that lend permissions are taken, as `reaches_any` over the list. For want of memory it may refuse.
+    /// The same walk where all edges that lend permissions are taken, as `reaches_any` over the
+    /// list. For want of memory it may refuse.
     pub fn reaches_any(
         &self,
         alloc: Global,
@@ -104,7 +112,8 @@ impl Hierarchy {
         active: &[RoleId],
         perm: PermId,
     ) -> Result<Option<Walk>, Memory>
-        ensures { IfOk result (λ walk. walk ≡ permission_walk_of_any self.now (has status.now.set) active.now perm) }
+        ensures { IfOk result (λ walk. walk ≡ permission_walk_of_any self.now
+            (has status.now.set) active.now perm) }
     {
         lending_by_any(alloc, &self.edges, &self.out, status, active, perm)
     }

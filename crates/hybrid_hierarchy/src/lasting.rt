@@ -8,7 +8,8 @@ ghost use Rattle.hybrid_hierarchy.specs.Lasting.{step_of, leads_to, still_lets};
 use crate::walks::{is_assigned, usable};
 use gt_base::{HierEdge, RoleId, Status, UserId, Walk};
 
-/// Whether the walk begins at a role to which the user is assigned, and usable edges of it lead to the role.
+/// Whether the walk begins at a role to which the user is assigned, and usable edges of it lead to
+/// the role.
 pub(crate) fn still_lets(
     edges: &[HierEdge],
     status: &Status,

@@ -1,4 +1,5 @@
-//! The hybrid hierarchy of roles: which edges are usable in a status, and the least walks over them.
+//! The hybrid hierarchy of roles: which edges are usable in a status, and the least walks over
+//! them.
 #![tactic(auto)]
 
 mod hierarchies;

@@ -10,7 +10,8 @@ use std::alloc::Global;
 /// Stands for no edge.
 pub(crate) const NONE: u32 = u32::MAX;
 
-/// For each role the first of its edges, for each edge the next one of the same senior role, and the roles that have edges, ascending.
+/// For each role the first of its edges, for each edge the next one of the same senior role, and
+/// the roles that have edges, ascending.
 #[derive(Drop)]
 pub(crate) struct Outgoing {
     pub(crate) first: Vec<u32>,

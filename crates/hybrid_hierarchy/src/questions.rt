@@ -21,7 +21,8 @@ pub(crate) trait Question {
     /// Whether an edge from the role may be open: what all of them ask of it.
     fn may_leave(&self, role: RoleId) -> bool
         ensures asked { result ≡ leaves self.now role }
-        ensures shut { result ≡ false → (n : ℕ) (e : HierEdge) → e.senior ≡ role → passes self.now n e ≡ false };
+        ensures shut { result ≡ false → (n : ℕ) (e : HierEdge) → e.senior ≡ role
+            → passes self.now n e ≡ false };
 
     /// Whether the edge of this number, from a role that edges may leave, is open.
     fn may_pass(&self, n: u32, e: &HierEdge) -> bool
@@ -65,9 +66,11 @@ impl<'a> Question for Activating<'a> {
     }
 }
 
-/// Whether the permission is granted to the role, where it is granted to no other than the one that is known, if there is one.
+/// Whether the permission is granted to the role, where it is granted to no other than the one that
+/// is known, if there is one.
 fn is_granted(status: &Status, perm: PermId, only: Option<RoleId>, role: RoleId) -> bool
-    requires { (known r : RoleView) → only ≡ Some known → has status.now.set (Granted perm r) ≡ true → r ≡ known }
+    requires { (known r : RoleView) → only ≡ Some known → has status.now.set (Granted perm r) ≡ true
+        → r ≡ known }
     ensures { result ≡ has status.now.set (Granted perm role) }
 {
     match only {

@@ -1,4 +1,5 @@
-//! The least walk by a search from its starts outward, which asks of no edge and no role more than it needs.
+//! The least walk by a search from its starts outward, which asks of no edge and no role more than
+//! it needs.
 ghost use Rattle.std.specs.Prelude.{◌≡◌, ℕ, Bool, ◌+◌, ◌<◌, ◌≤◌, ◌⊎◌, [], ◌∷◌, ◌++◌, true, false, replicate, not, length, count_by, IfOk, OnOk, MatchOption, Some};
 ghost use Rattle.gtrbac_model.specs.Graph.{IsLeastWalk, item_at};
 ghost use Rattle.gtrbac_model.specs.Hierarchy.{role_arcs};
@@ -17,8 +18,8 @@ const MANY: usize = 64;
 /// And for so many edges of a walk.
 const FEW: usize = 16;
 
-/// A role that was found: by the edge of this number from what was found at the place before, or, where that is no edge, as the start
-/// of this place.
+/// A role that was found: by the edge of this number from what was found at the place before, or,
+/// where that is no edge, as the start of this place.
 #[derive(Clone, Copy)]
 pub(crate) struct Found {
     pub(crate) role: u32,
@@ -26,8 +27,8 @@ pub(crate) struct Found {
     pub(crate) before: usize,
 }
 
-/// The least walk over open edges from one of the starts to a goal: by the number of its edges, then by the place of its start, then by
-/// the numbers of its edges.
+/// The least walk over open edges from one of the starts to a goal: by the number of its edges,
+/// then by the place of its start, then by the numbers of its edges.
 pub(crate) fn least<Q: Question>(
     alloc: Global,
     edges: &[HierEdge],
@@ -64,7 +65,8 @@ fn first_goal<Q: Question>(edges: &[HierEdge], from: &[u32], asked: &Q) -> Optio
     None
 }
 
-/// The same where no start is a goal. Each role is asked whether it is one when it is found, so that the search ends there.
+/// The same where no start is a goal. Each role is asked whether it is one when it is found, so
+/// that the search ends there.
 fn least_on<Q: Question>(
     alloc: Global,
     edges: &[HierEdge],
@@ -104,7 +106,8 @@ fn begun<Q: Question>(
     requires starts { (i s : ℕ) → item_at from.now i ≡ Some s → s < length seen.old }
     requires no_goals { AreNoGoals (Q.goals asked.now) from.now }
     ensures size { length seen.new ≡ length seen.old }
-    ensures searched { IfOk result (λ queue. HasSearched (Q.passes asked.now) (Q.goals asked.now) edges.now from.now (length from.now) seen.new queue.items 0 0) }
+    ensures searched { IfOk result (λ queue. HasSearched (Q.passes asked.now)
+        (Q.goals asked.now) edges.now from.now (length from.now) seen.new queue.items 0 0) }
 {
     let mut queue = Vec::with_capacity(alloc, MANY)?;
     for (place, role) in from.iter().enumerate() {
@@ -118,7 +121,8 @@ fn begun<Q: Question>(
     Ok(queue)
 }
 
-/// Follows the open edges of what was found at the head to each role that was not seen, until one is a goal: then the edge that leads to it.
+/// Follows the open edges of what was found at the head to each role that was not seen, until one
+/// is a goal: then the edge that leads to it.
 fn follow<Q: Question>(
     edges: &[HierEdge],
     out: &Outgoing,
@@ -131,9 +135,11 @@ fn follow<Q: Question>(
     requires hierarchy { (length edges.now ≤ 4_000) × AreWithin (length seen.old) edges.now }
     requires outgoing { IsOutgoing edges.now out.now.first.items out.now.next.items }
     requires head { head < length queue.old.items }
-    requires searched { HasSearched (Q.passes asked.now) (Q.goals asked.now) edges.now from.now (length from.now) seen.old queue.old.items head 0 }
+    requires searched { HasSearched (Q.passes asked.now) (Q.goals asked.now) edges.now from.now
+        (length from.now) seen.old queue.old.items head 0 }
     ensures size { OnOk result (length seen.new ≡ length seen.old) }
-    ensures fewer { OnOk result (length queue.new.items + count_by not seen.new ≤ length queue.old.items + count_by not seen.old) }
+    ensures fewer { OnOk result (length queue.new.items + count_by not seen.new
+        ≤ length queue.old.items + count_by not seen.old) }
     ensures found { IfOk result (λ found. MatchOption found
         (HasSearched (Q.passes asked.now) (Q.goals asked.now) edges.now from.now (length from.now) seen.new queue.new.items (head + 1) 0)
         (λ n. IsGoalBy (Q.passes asked.now) (Q.goals asked.now) edges.now from.now queue.new.items head n)) }

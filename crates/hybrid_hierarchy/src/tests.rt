@@ -76,7 +76,8 @@ fn is_walk(found: Option<Walk>, start: u32, numbers: &[u32]) -> bool {
     }
 }
 
-/// Whether the user and the role are led by these edges to the last role, by the list and by its index.
+/// Whether the user and the role are led by these edges to the last role, by the list and by its
+/// index.
 fn leads(alloc: Global, off: u32, shut: u32, numbers: &[u32]) -> Result<bool, Memory> {
     let edges = edges(alloc)?;
     if !is_hierarchy(edges.as_slice()) {

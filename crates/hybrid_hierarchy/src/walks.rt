@@ -17,9 +17,10 @@ use std::alloc::Global;
 /// One more than the greatest number of a role.
 const ROLES: u32 = 1_000;
 
-/// Whether edge n is on and usable in the status: to lend permissions where `inherits`, else to allow activation. A weak edge that lends needs its
-/// senior enabled, a weak one that allows activation its junior, and a strong edge both. An edge that does not do what is asked is not usable.
-/// It takes no memory.
+/// Whether edge n is on and usable in the status: to lend permissions where `inherits`, else to
+/// allow activation. A weak edge that lends needs its senior enabled, a weak one that allows
+/// activation its junior, and a strong edge both. An edge that does not do what is asked is not
+/// usable. It takes no memory.
 pub fn usable(n: u32, e: &HierEdge, status: &Status, inherits: bool) -> bool
     ensures { result ≡ usable (has status.now.set) inherits n e.now }
 {
@@ -30,9 +31,12 @@ pub fn usable(n: u32, e: &HierEdge, status: &Status, inherits: bool) -> bool
     }
 }
 
-/// Whether edge n is on, and the role that a weak edge asks for is enabled, or both are where it is strong.
+/// Whether edge n is on, and the role that a weak edge asks for is enabled, or both are where it is
+/// strong.
 fn is_passable(n: u32, e: &HierEdge, status: &Status, weak: RoleId) -> bool
-    ensures { result ≡ has status.now.set (Edge n) && cond e.now.strong (has status.now.set (Enabled e.now.senior) && has status.now.set (Enabled e.now.junior)) (has status.now.set (Enabled weak)) }
+    ensures { result ≡ has status.now.set (Edge n)
+        && cond e.now.strong (has status.now.set (Enabled e.now.senior)
+        && has status.now.set (Enabled e.now.junior)) (has status.now.set (Enabled weak)) }
 {
     if !status.is_on(Fluent::Edge(n)) {
         false
@@ -43,14 +47,17 @@ fn is_passable(n: u32, e: &HierEdge, status: &Status, weak: RoleId) -> bool
     }
 }
 
-/// The roles to which the user is assigned and from which an edge leads, ascending. Of the others the status is not asked.
+/// The roles to which the user is assigned and from which an edge leads, ascending. Of the others
+/// the status is not asked.
 fn assigned_roles(
     alloc: Global,
     out: &Outgoing,
     status: &Status,
     user: UserId,
 ) -> Result<Vec<u32>, Memory>
-    ensures { IfOk result (λ roles. roles.items ≡ filter (λ r. leads_on out.now.first.items r && has status.now.set (Assigned user (record { 0 = r }))) (range_with_len 0 1_000)) }
+    ensures { IfOk result (λ roles. roles.items ≡ filter
+        (λ r. leads_on out.now.first.items r
+        && has status.now.set (Assigned user (record { 0 = r }))) (range_with_len 0 1_000)) }
 {
     assigned_among(alloc, &out.seniors, status, user)
 }
@@ -62,7 +69,8 @@ fn assigned_among(
     status: &Status,
     user: UserId,
 ) -> Result<Vec<u32>, Memory>
-    ensures { IfOk result (λ assigned. assigned.items ≡ filter (λ r. has status.now.set (Assigned user (record { 0 = r }))) roles.now) }
+    ensures { IfOk result (λ assigned. assigned.items
+        ≡ filter (λ r. has status.now.set (Assigned user (record { 0 = r }))) roles.now) }
 {
     roles
         .iter()
@@ -73,7 +81,8 @@ fn assigned_among(
 
 /// The roles of the list, ascending and each once.
 fn listed_roles(alloc: Global, roles: &[RoleId]) -> Result<Vec<u32>, Memory>
-    ensures { IfOk result (λ listed. listed.items ≡ filter (λ r. lists same_role roles.now (record { 0 = r })) (range_with_len 0 1_000)) }
+    ensures { IfOk result (λ listed. listed.items ≡ filter
+        (λ r. lists same_role roles.now (record { 0 = r })) (range_with_len 0 1_000)) }
 {
     let mut listed = Vec::new(alloc);
     let mut low = 0;
@@ -87,7 +96,9 @@ fn listed_roles(alloc: Global, roles: &[RoleId]) -> Result<Vec<u32>, Memory>
 /// The least role of the list from `low` on.
 fn next_listed(roles: &[RoleId], low: u32) -> Option<u32>
     requires { low ≤ 1_000 }
-    ensures { MatchOption result (listed_from roles.now low ≡ []) (λ r. (low ≤ r) × (r < 1_000) × (listed_from roles.now low ≡ r ∷ listed_from roles.now (r + 1))) }
+    ensures { MatchOption result (listed_from roles.now low ≡ [])
+        (λ r. (low ≤ r) × (r < 1_000)
+        × (listed_from roles.now low ≡ r ∷ listed_from roles.now (r + 1))) }
 {
     let mut next = ROLES;
     for r in roles {
@@ -127,7 +138,8 @@ pub(crate) fn standing(alloc: Global, role: RoleId) -> Walk
     }
 }
 
-/// The least walk by which the user may activate a role to which it is not assigned itself, over edges that were indexed.
+/// The least walk by which the user may activate a role to which it is not assigned itself, over
+/// edges that were indexed.
 pub(crate) fn activation(
     alloc: Global,
     edges: &[HierEdge],
@@ -139,13 +151,15 @@ pub(crate) fn activation(
     requires hierarchy { IsHierarchy edges.now }
     requires outgoing { IsOutgoing edges.now out.now.first.items out.now.next.items }
     requires elsewhere { (nat_lt role.0 1_000 && has status.now.set (Assigned user role)) ≡ false }
-    ensures { IfOk result (λ walk. walk ≡ activation_walk edges.now (has status.now.set) user role) }
+    ensures { IfOk result (λ walk. walk ≡ activation_walk edges.now
+        (has status.now.set) user role) }
 {
     let from = assigned_roles(alloc, out, status, user)?;
     least(alloc, edges, out, &from, &Activating { status, role })
 }
 
-/// The least walk over open edges from one of the roles to a goal. One role alone takes no memory to be listed.
+/// The least walk over open edges from one of the roles to a goal. One role alone takes no memory
+/// to be listed.
 fn least_from<Q: Question>(
     alloc: Global,
     edges: &[HierEdge],
@@ -155,7 +169,8 @@ fn least_from<Q: Question>(
 ) -> Result<Option<Walk>, Memory>
     requires hierarchy { IsHierarchy edges.now }
     requires outgoing { IsOutgoing edges.now out.now.first.items out.now.next.items }
-    ensures { IfOk result (λ walk. walk ≡ least_role_walk edges.now (Q.passes asked.now) (lists same_role roles.now) (Q.goals asked.now)) }
+    ensures { IfOk result (λ walk. walk ≡ least_role_walk edges.now (Q.passes asked.now)
+        (lists same_role roles.now) (Q.goals asked.now)) }
 {
     match roles {
         [role] if role.0 < ROLES => least(alloc, edges, out, &[role.0], asked),
@@ -166,7 +181,8 @@ fn least_from<Q: Question>(
     }
 }
 
-/// The least walk of usable edges by which one of the active roles is lent the permission, over edges that were indexed.
+/// The least walk of usable edges by which one of the active roles is lent the permission, over
+/// edges that were indexed.
 pub(crate) fn lending(
     alloc: Global,
     edges: &[HierEdge],
@@ -177,7 +193,8 @@ pub(crate) fn lending(
 ) -> Result<Option<Walk>, Memory>
     requires hierarchy { IsHierarchy edges.now }
     requires outgoing { IsOutgoing edges.now out.now.first.items out.now.next.items }
-    ensures { IfOk result (λ walk. walk ≡ permission_walk edges.now (has status.now.set) active.now perm) }
+    ensures { IfOk result (λ walk. walk ≡ permission_walk edges.now
+        (has status.now.set) active.now perm) }
 {
     let only = status.only_role(perm);
     let asked = Lending { status, perm, only };
@@ -195,15 +212,17 @@ pub(crate) fn lending_by_any(
 ) -> Result<Option<Walk>, Memory>
     requires hierarchy { IsHierarchy edges.now }
     requires outgoing { IsOutgoing edges.now out.now.first.items out.now.next.items }
-    ensures { IfOk result (λ walk. walk ≡ permission_walk_of_any edges.now (has status.now.set) active.now perm) }
+    ensures { IfOk result (λ walk. walk ≡ permission_walk_of_any edges.now
+        (has status.now.set) active.now perm) }
 {
     let only = status.only_role(perm);
     let asked = LendingByAny { status, perm, only };
     least_from(alloc, edges, out, active, &asked)
 }
 
-/// By which walk of usable edges the user may activate the role: the least by the number of its edges, then by the number of the assigned
-/// role where it begins, then by the numbers of its edges. None exactly where there is none. For want of memory it may refuse.
+/// By which walk of usable edges the user may activate the role: the least by the number of its
+/// edges, then by the number of the assigned role where it begins, then by the numbers of its
+/// edges. None exactly where there is none. For want of memory it may refuse.
 pub fn may_activate(
     alloc: Global,
     edges: &List<HierEdge>,
@@ -212,7 +231,8 @@ pub fn may_activate(
     role: RoleId,
 ) -> Result<Option<Walk>, Memory>
     requires { IsHierarchy edges.now.items }
-    ensures { IfOk result (λ walk. walk ≡ activation_walk edges.now.items (has status.now.set) user role) }
+    ensures { IfOk result (λ walk. walk ≡ activation_walk edges.now.items
+        (has status.now.set) user role) }
 {
     if is_assigned(status, user, role) {
         return Ok(Some(standing(alloc, role)));
@@ -222,8 +242,9 @@ pub fn may_activate(
     activation(alloc, edges, &out, status, user, role)
 }
 
-/// By which walk of usable edges one of the active roles is lent the permission: the least by the number of its edges, then by the number of
-/// the active role, then by the numbers of its edges. None exactly where there is none. For want of memory it may refuse.
+/// By which walk of usable edges one of the active roles is lent the permission: the least by the
+/// number of its edges, then by the number of the active role, then by the numbers of its edges.
+/// None exactly where there is none. For want of memory it may refuse.
 pub fn reaches(
     alloc: Global,
     edges: &List<HierEdge>,
@@ -232,15 +253,16 @@ pub fn reaches(
     perm: PermId,
 ) -> Result<Option<Walk>, Memory>
     requires { IsHierarchy edges.now.items }
-    ensures { IfOk result (λ walk. walk ≡ permission_walk edges.now.items (has status.now.set) active.now perm) }
+    ensures { IfOk result (λ walk. walk ≡ permission_walk edges.now.items
+        (has status.now.set) active.now perm) }
 {
     let edges = edges.as_slice();
     let out = outgoing_of(alloc, edges)?;
     lending(alloc, edges, &out, status, active, perm)
 }
 
-/// The same walk where it is not asked which edges are usable: all that lend permissions are taken. None exactly where there is none. For
-/// want of memory it may refuse.
+/// The same walk where it is not asked which edges are usable: all that lend permissions are taken.
+/// None exactly where there is none. For want of memory it may refuse.
 pub fn reaches_any(
     alloc: Global,
     edges: &List<HierEdge>,
@@ -249,7 +271,8 @@ pub fn reaches_any(
     perm: PermId,
 ) -> Result<Option<Walk>, Memory>
     requires { IsHierarchy edges.now.items }
-    ensures { IfOk result (λ walk. walk ≡ permission_walk_of_any edges.now.items (has status.now.set) active.now perm) }
+    ensures { IfOk result (λ walk. walk ≡ permission_walk_of_any edges.now.items
+        (has status.now.set) active.now perm) }
 {
     let edges = edges.as_slice();
     let out = outgoing_of(alloc, edges)?;

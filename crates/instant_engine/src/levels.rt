@@ -103,7 +103,8 @@ fn by_level(
     s: &Strata,
 ) -> Result<IndexMap<u64, Vec<u32>>, Memory>
     requires { IsLevelled r.now g.now s.now }
-    ensures { IfOk result (λ m. (n : ℕ) → under (get nat_eq m n) (λ v. v.items) ≡ numbers (is_due_at (level_in g.now.events s.now) n) 0 r.now) }
+    ensures { IfOk result (λ m. (n : ℕ) → under (get nat_eq m n) (λ v. v.items)
+        ≡ numbers (is_due_at (level_in g.now.events s.now) n) 0 r.now) }
 {
     let mut index = IndexMap::new(alloc);
     let triggers = r.triggers().as_slice();
@@ -120,7 +121,8 @@ fn put(
     level: Option<u64>,
     t: u32,
 ) -> Result<(), Memory>
-    ensures { OnOk result ((n : ℕ) → under (get nat_eq index.new n) (λ v. v.items) ≡ under (get nat_eq index.old n) (λ v. v.items) ++ cond (is_level level n) (t ∷ []) []) }
+    ensures { OnOk result ((n : ℕ) → under (get nat_eq index.new n) (λ v. v.items)
+        ≡ under (get nat_eq index.old n) (λ v. v.items) ++ cond (is_level level n) (t ∷ []) []) }
 {
     if let Some(level) = level {
         index.entry(level)?.or_insert(Vec::new(alloc)).push(t)?;
@@ -142,8 +144,10 @@ fn of_level(index: &IndexMap<u64, Vec<u32>>, n: u64) -> &[u32]
 fn due_level(trigger: &Trigger, g: &EventGraph, s: &Strata) -> Option<u64>
     requires net { IsEventNet g.now }
     requires size { length s.now ≡ length g.now.events }
-    requires node { immediate trigger.now ≡ true → lists same_event g.now.events trigger.now.head.event ≡ true }
-    ensures { result ≡ cond (immediate trigger.now) (Some (level_in g.now.events s.now trigger.now.head.event)) None }
+    requires node { immediate trigger.now ≡ true
+        → lists same_event g.now.events trigger.now.head.event ≡ true }
+    ensures { result ≡ cond (immediate trigger.now)
+        (Some (level_in g.now.events s.now trigger.now.head.event)) None }
 {
     if trigger.delay == 0 {
         level_of(trigger.head.event, g, s)
@@ -156,7 +160,8 @@ fn due_level(trigger: &Trigger, g: &EventGraph, s: &Strata) -> Option<u64>
 pub(crate) fn is_due(trigger: &Trigger, g: &EventGraph, s: &Strata, n: u64) -> bool
     requires net { IsEventNet g.now }
     requires size { length s.now ≡ length g.now.events }
-    requires node { immediate trigger.now ≡ true → lists same_event g.now.events trigger.now.head.event ≡ true }
+    requires node { immediate trigger.now ≡ true
+        → lists same_event g.now.events trigger.now.head.event ≡ true }
     ensures { result ≡ is_due_at (level_in g.now.events s.now) n trigger.now }
 {
     due_level(trigger, g, s) == Some(n)
@@ -166,7 +171,8 @@ pub(crate) fn is_due(trigger: &Trigger, g: &EventGraph, s: &Strata, n: u64) -> b
 fn level_of(e: Event, g: &EventGraph, s: &Strata) -> Option<u64>
     requires net { IsEventNet g.now }
     requires size { length s.now ≡ length g.now.events }
-    ensures { lists same_event g.now.events e ≡ true → result ≡ Some (level_in g.now.events s.now e) }
+    ensures { lists same_event g.now.events e ≡ true
+        → result ≡ Some (level_in g.now.events s.now e) }
 {
     match g.node(e) {
         Some(node) => Some(s.level(node) as u64),

@@ -18,8 +18,8 @@ use safety_cycle::Strata;
 use std::alloc::Global;
 use trigger_rules::{Rules, met_in};
 
-/// The one closed and grounded set of the rules over this base, under the status before the instant. The graph and the levels are
-/// those of the rules.
+/// The one closed and grounded set of the rules over this base, under the status before the
+/// instant. The graph and the levels are those of the rules.
 pub fn settle(
     alloc: Global,
     r: &Rules,
@@ -30,7 +30,8 @@ pub fn settle(
 ) -> Result<Happened, Memory>
     requires { IsLevelled r.now g.now s.now }
     ensures settled { IfOk result (λ x. Settled r.now base.now.set (has before.now.set) x.set) }
-    ensures only { IfOk result (λ x. (y : HappenedView) → Settled r.now base.now.set (has before.now.set) y → y ≡ x.set) }
+    ensures only { IfOk result (λ x. (y : HappenedView)
+        → Settled r.now base.now.set (has before.now.set) y → y ≡ x.set) }
 {
     let levels = TriggerLevels::new(alloc, r, g, s)?;
     let x = settled_contest(alloc, r, g, s, &levels, base, before)?;
@@ -50,7 +51,8 @@ pub fn settled_contest(
     requires levelled { IsLevelled r.now g.now s.now }
     requires levels { AreLevels r.now g.now s.now levels.now }
     ensures settled { IfOk result (λ x. Settled r.now base.now.set (has before.now.set) x) }
-    ensures only { IfOk result (λ x. (y : HappenedView) → Settled r.now base.now.set (has before.now.set) y → y ≡ x) }
+    ensures only { IfOk result (λ x. (y : HappenedView)
+        → Settled r.now base.now.set (has before.now.set) y → y ≡ x) }
 {
     let mut x = Contest::new(alloc, base)?;
     for n in 0..levels.count() {
@@ -59,8 +61,8 @@ pub fn settled_contest(
     Ok(x)
 }
 
-/// Adds the heads of the triggers of a level that are met, until none is left to add. A trigger is looked at first, and again
-/// after each event of its body that joins.
+/// Adds the heads of the triggers of a level that are met, until none is left to add. A trigger is
+/// looked at first, and again after each event of its body that joins.
 fn settle_level(
     alloc: Global,
     r: &Rules,
@@ -73,7 +75,8 @@ fn settle_level(
 ) -> Result<(), Memory>
     requires levels { IsLevelled r.now g.now s.now }
     requires due { AreLevels r.now g.now s.now levels.now }
-    ensures { OnOk result (Keeps r.now (has before.now.set) (level_in g.now.events s.now) n x.old (n + 1) x.new) }
+    ensures { OnOk result (Keeps r.now (has before.now.set) (level_in g.now.events s.now) n x.old
+        (n + 1) x.new) }
 {
     let mut pending = first_waiting(alloc, r, levels.caused(), levels.of(n), x)?;
     while let Some(t) = pending.pop() {
@@ -83,8 +86,8 @@ fn settle_level(
     Ok(())
 }
 
-/// The triggers to look at first: those that have an event or a signal of the set in their bodies, where each trigger has one or
-/// the other and these are fewer than those of the level.
+/// The triggers to look at first: those that have an event or a signal of the set in their bodies,
+/// where each trigger has one or the other and these are fewer than those of the level.
 fn first_waiting(
     alloc: Global,
     r: &Rules,
@@ -92,7 +95,8 @@ fn first_waiting(
     due: &[u32],
     x: &Contest,
 ) -> Result<Vec<u32>, Memory>
-    ensures { IfOk result (λ ts. (ts.items ≡ due.now) ⊎ ((caused ≡ true) × (ts.items ≡ prompted r.now x.now))) }
+    ensures { IfOk result (λ ts. (ts.items ≡ due.now)
+        ⊎ ((caused ≡ true) × (ts.items ≡ prompted r.now x.now))) }
 {
     if caused {
         if are_fewer(x.set(), due.len()) {
@@ -120,7 +124,8 @@ fn prompted_by(alloc: Global, r: &Rules, x: &Happened) -> Result<Vec<u32>, Memor
 
 /// Adds the triggers that have one of the events in their bodies.
 fn add_by_events(waiting: &mut Vec<u32>, r: &Rules, events: &[Prioritised]) -> Result<(), Memory>
-    ensures { OnOk result (waiting.new.items ≡ waiting.old.items ++ flat_map (λ o. with_event r.now o.event) events.now) }
+    ensures { OnOk result (waiting.new.items ≡ waiting.old.items
+        ++ flat_map (λ o. with_event r.now o.event) events.now) }
 {
     for o in events {
         waiting.extend_from_slice(r.by_event(o.event))?;
@@ -130,7 +135,8 @@ fn add_by_events(waiting: &mut Vec<u32>, r: &Rules, events: &[Prioritised]) -> R
 
 /// Adds the triggers that have one of the signals in their bodies.
 fn add_by_signals(waiting: &mut Vec<u32>, r: &Rules, signals: &[Signal]) -> Result<(), Memory>
-    ensures { OnOk result (waiting.new.items ≡ waiting.old.items ++ flat_map (with_signal r.now) signals.now) }
+    ensures { OnOk result (waiting.new.items ≡ waiting.old.items
+        ++ flat_map (with_signal r.now) signals.now) }
 {
     for s in signals {
         waiting.extend_from_slice(r.by_signal(*s))?;
@@ -138,7 +144,8 @@ fn add_by_signals(waiting: &mut Vec<u32>, r: &Rules, signals: &[Signal]) -> Resu
     Ok(())
 }
 
-/// The head of the trigger of this number, if it is of this level, is met, and its head is not there.
+/// The head of the trigger of this number, if it is of this level, is met, and its head is not
+/// there.
 fn head_if_firing(
     r: &Rules,
     t: u32,
@@ -149,7 +156,8 @@ fn head_if_firing(
     before: &Status,
 ) -> Option<Prioritised>
     requires levels { IsLevelled r.now g.now s.now }
-    ensures { result ≡ head_at (has before.now.set) (level_in g.now.events s.now) n x.now (item_at r.now t) }
+    ensures { result ≡ head_at (has before.now.set) (level_in g.now.events s.now) n x.now
+        (item_at r.now t) }
 {
     let trigger = r.triggers().get(t as usize)?;
     if !met_in(trigger, x, before) {

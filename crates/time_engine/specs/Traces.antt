@@ -1,4 +1,5 @@
--- Traces: the nonempty sets of a run, each with its instant and its base, and the model that they stand for.
+-- Traces: the nonempty sets of a run, each with its instant and its base, and the model that they
+-- stand for.
 use Rattle.std.specs.Prelude.{◌≡◌, ℕ, ◌<◌, ◌≤◌, Bool, true, false, ◌||◌, nat_eq, List, [], ◌∷◌}
 use Rattle.gt_base.specs.Happening.{HappenedView, nothing}
 use Rattle.gt_base.specs.Sets.{members}

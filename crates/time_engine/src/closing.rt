@@ -63,7 +63,8 @@ fn planned_by(
 ) -> Result<Plan, Memory>
     requires base { base.set ≡ base_in g.now.policy (view_of s.now) to }
     requires settled { Settled g.now.policy.triggers base.set (has s.now.status.set) x.now }
-    requires only { (y : HappenedView) → Settled g.now.policy.triggers base.set (has s.now.status.set) y → y ≡ x.now }
+    requires only { (y : HappenedView)
+        → Settled g.now.policy.triggers base.set (has s.now.status.set) y → y ≡ x.now }
     ensures at { IfOk result (λ plan. plan.at ≡ to) }
     ensures plan { IfOk result (IsPlan g.now.policy (view_of s.now)) }
 {
@@ -85,7 +86,8 @@ fn planned_by(
 /// The status after the set, whose winners these are.
 fn status_after(before: &Status, won: &EventSet, set: &Happened) -> Result<Status, Memory>
     requires { (e : Event) → has won.now.set e ≡ is_won set.now.set e }
-    ensures { IfOk result (λ s. (f : Fluent) → has s.set f ≡ after set.now.set (has before.now.set) f) }
+    ensures { IfOk result (λ s. (f : Fluent) → has s.set f
+        ≡ after set.now.set (has before.now.set) f) }
 {
     let mut status = before.copied()?;
     status.reserve(won.len())?;
@@ -101,7 +103,8 @@ fn heads(
     before: &Status,
     at: Instant,
 ) -> Result<Vec<Pending>, Memory>
-    ensures { IfOk result (λ pairs. pairs.items ≡ joins triggers.now (has before.now.set) x.now at) }
+    ensures { IfOk result (λ pairs. pairs.items ≡ joins triggers.now
+        (has before.now.set) x.now at) }
 {
     let mut pairs = Vec::new(alloc);
     for trigger in triggers {
@@ -118,7 +121,8 @@ fn push_head(
     before: &Status,
     at: Instant,
 ) -> Result<(), Memory>
-    ensures { OnOk result (pairs.new.items ≡ pairs.old.items ++ joins_of (has before.now.set) x.now at trigger.now) }
+    ensures { OnOk result (pairs.new.items ≡ pairs.old.items
+        ++ joins_of (has before.now.set) x.now at trigger.now) }
 {
     if trigger.delay > 0 && met_in(trigger, x, before) {
         if let Some(due) = later(at, trigger.delay) {
@@ -180,7 +184,8 @@ pub(crate) fn follow(s: &mut State, p: Plan)
 /// Puts the pairs in, into room that was made before.
 fn put_all(pending: &mut Agenda, pairs: &[Pending])
     requires { length pairs.now ≤ pending.old.spare }
-    ensures { (q : Pair) → has pending.new.set q ≡ (has pending.old.set q || list_any (eq_by_cmp pending_cmp q) pairs.now) }
+    ensures { (q : Pair) → has pending.new.set q
+        ≡ (has pending.old.set q || list_any (eq_by_cmp pending_cmp q) pairs.now) }
 {
     for q in pairs {
         pending.put(q.due, q.event);
@@ -191,7 +196,9 @@ fn put_all(pending: &mut Agenda, pairs: &[Pending])
 fn note_changes(ages: &mut Ages, before: &Status, status: &Status, won: &[Event], at: Instant)
     requires { length won.now ≤ ages.old.spare }
     ensures birth { ages.new.birth ≡ ages.old.birth }
-    ensures since { (f : Fluent) → since_in ages.new f ≡ cond (differ (has status.now.set f) (has before.now.set f) && list_any (λ e. same_fluent e.fluent f) won.now) at (since_in ages.old f) }
+    ensures since { (f : Fluent) → since_in ages.new f
+        ≡ cond (differ (has status.now.set f) (has before.now.set f)
+        && list_any (λ e. same_fluent e.fluent f) won.now) at (since_in ages.old f) }
 {
     for e in won {
         let changed = are_apart(status.is_on(e.fluent), before.is_on(e.fluent));
@@ -210,7 +217,8 @@ fn are_apart(a: bool, b: bool) -> bool
 fn note_change(ages: &mut Ages, f: Fluent, changed: bool, at: Instant)
     requires { 1 ≤ ages.old.spare }
     ensures birth { ages.new.birth ≡ ages.old.birth }
-    ensures since { (g : Fluent) → since_in ages.new g ≡ cond (changed && same_fluent f g) at (since_in ages.old g) }
+    ensures since { (g : Fluent) → since_in ages.new g
+        ≡ cond (changed && same_fluent f g) at (since_in ages.old g) }
     ensures spare { ages.old.spare ≤ ages.new.spare + 1 }
 {
     if changed {

@@ -38,7 +38,9 @@ pub(crate) fn due(s: &State, policy: &Policy) -> Option<Instant>
 fn next_raised(s: &State, policy: &Policy) -> Option<Instant>
     requires stands { StandsFor policy.now.policy (view_of s.now) }
     requires kept { IsTimeline (view_of s.now) }
-    ensures { IsNextOf (λ t. is_some_item (periodic policy.now.policy s.now.ages.birth t) || is_some_item (limited policy.now.policy (has s.now.status.set) (since_of (view_of s.now)) t)) s.now.present result }
+    ensures { IsNextOf (λ t. is_some_item (periodic policy.now.policy s.now.ages.birth t)
+        || is_some_item (limited policy.now.policy (has s.now.status.set)
+        (since_of (view_of s.now)) t)) s.now.present result }
 {
     policy.keeps();
     let periods = s.watches.as_slice();
@@ -61,7 +63,8 @@ fn next_pending(s: &State) -> Option<Instant>
 
 /// The minute after now, where a signal waits.
 fn next_signals(s: &State) -> Option<Instant>
-    ensures { IsNextOf (λ t. is_some_item (signals_for s.now.present s.now.signals.set t)) s.now.present result }
+    ensures { IsNextOf (λ t. is_some_item (signals_for s.now.present s.now.signals.set t))
+        s.now.present result }
 {
     if has_item(s.signals.as_slice()) {
         minute_after(s.present)
@@ -87,7 +90,10 @@ pub(crate) fn base(s: &State, policy: &Policy, t: Instant) -> Result<Happened, M
 fn raised(s: &State, policy: &Policy, t: Instant) -> Result<Happened, Memory>
     requires stands { StandsFor policy.now.policy (view_of s.now) }
     requires later { s.now.ages.birth < t }
-    ensures events { IfOk result (λ b. (e : Prioritised) → has b.set.events e ≡ list_any (eq_by_cmp prioritised_cmp e) (periodic policy.now.policy s.now.ages.birth t ++ limited policy.now.policy (has s.now.status.set) (since_of (view_of s.now)) t)) }
+    ensures events { IfOk result (λ b. (e : Prioritised)
+        → has b.set.events e ≡ list_any (eq_by_cmp prioritised_cmp e)
+        (periodic policy.now.policy s.now.ages.birth t
+        ++ limited policy.now.policy (has s.now.status.set) (since_of (view_of s.now)) t)) }
     ensures signals { IfOk result (λ b. b.set.signals ≡ none) }
 {
     let raised = raised_list(s, policy, t)?;
@@ -101,7 +107,8 @@ fn raised(s: &State, policy: &Policy, t: Instant) -> Result<Happened, Memory>
 fn raised_list(s: &State, policy: &Policy, t: Instant) -> Result<Vec<Prioritised>, Memory>
     requires stands { StandsFor policy.now.policy (view_of s.now) }
     requires later { s.now.ages.birth < t }
-    ensures { IfOk result (λ xs. xs.items ≡ periodic policy.now.policy s.now.ages.birth t ++ limited policy.now.policy (has s.now.status.set) (since_of (view_of s.now)) t) }
+    ensures { IfOk result (λ xs. xs.items ≡ periodic policy.now.policy s.now.ages.birth t
+        ++ limited policy.now.policy (has s.now.status.set) (since_of (view_of s.now)) t) }
 {
     policy.keeps();
     let periods = s.watches.as_slice();
@@ -126,7 +133,9 @@ fn raised_list(s: &State, policy: &Policy, t: Instant) -> Result<Vec<Prioritised
 
 /// Adds what is due.
 fn add_due(s: &State, t: Instant, base: &mut Happened) -> Result<(), Memory>
-    ensures events { OnOk result ((e : Prioritised) → has base.new.set.events e ≡ (has base.old.set.events e || has s.now.pending.set (pending_at t e))) }
+    ensures events { OnOk result ((e : Prioritised)
+        → has base.new.set.events e ≡ (has base.old.set.events e
+        || has s.now.pending.set (pending_at t e))) }
     ensures signals { OnOk result (base.new.set.signals ≡ base.old.set.signals) }
 {
     base.reserve(s.pending.due_count(t))?;
@@ -137,7 +146,9 @@ fn add_due(s: &State, t: Instant, base: &mut Happened) -> Result<(), Memory>
 /// Adds the signals that wait, in the minute after now.
 fn add_waiting(s: &State, t: Instant, base: &mut Happened) -> Result<(), Memory>
     ensures events { OnOk result (base.new.set.events ≡ base.old.set.events) }
-    ensures signals { OnOk result ((x : Signal) → has base.new.set.signals x ≡ (has base.old.set.signals x || list_any (eq_by_cmp signal_cmp x) (signals_for s.now.present s.now.signals.set t))) }
+    ensures signals { OnOk result ((x : Signal) → has base.new.set.signals x
+        ≡ (has base.old.set.signals x
+        || list_any (eq_by_cmp signal_cmp x) (signals_for s.now.present s.now.signals.set t))) }
 {
     if t.minute() == s.present.minute() + 1 {
         let signals = s.signals.as_slice();

@@ -15,8 +15,8 @@ use std::alloc::Global;
 use std::marker::Model;
 use trigger_rules::Rules;
 
-/// A policy with its dependency graph, levels of its nodes, and its triggers with their index, made once. It is seen as the
-/// policy.
+/// A policy with its dependency graph, levels of its nodes, and its triggers with their index, made
+/// once. It is seen as the policy.
 pub struct Ground {
     alloc: Global,
     policy: Policy,
@@ -38,7 +38,9 @@ impl Model for Ground {
 
     ghost view = { λ g. g.policy };
 
-    ghost invariant = { λ g. IsLevelled g.policy.policy.triggers g.graph g.strata × (g.rules ≡ g.policy.policy.triggers) × AreLevels g.policy.policy.triggers g.graph g.strata g.levels };
+    ghost invariant = { λ g. IsLevelled g.policy.policy.triggers g.graph g.strata
+        × (g.rules ≡ g.policy.policy.triggers)
+        × AreLevels g.policy.policy.triggers g.graph g.strata g.levels };
 }
 
 impl Drop for Ground {
@@ -63,8 +65,8 @@ pub struct GroundFault {
 }
 
 impl Ground {
-    /// The ground of a policy, whose dependency graph and levels these are. A refusal, for want of memory alone, hands them
-    /// back.
+    /// The ground of a policy, whose dependency graph and levels these are. A refusal, for want of
+    /// memory alone, hands them back.
     pub fn new(
         alloc: Global,
         policy: Policy,
@@ -73,7 +75,8 @@ impl Ground {
     ) -> Result<Ground, GroundFault>
         requires { IsLevelled policy.policy.triggers graph strata }
         ensures ok { IfOk result (λ g. g ≡ policy) }
-        ensures handed_back { IfErr result (λ e. (e.policy ≡ policy) × (e.graph ≡ graph) × (e.strata ≡ strata)) }
+        ensures handed_back { IfErr result
+            (λ e. (e.policy ≡ policy) × (e.graph ≡ graph) × (e.strata ≡ strata)) }
     {
         policy.keeps();
         let Ok(rules) = Rules::new(alloc, policy.triggers()) else {
@@ -125,8 +128,10 @@ impl Ground {
 
     /// The one set that the base settles to, under the status before the instant.
     pub(crate) fn settle(&self, base: &Happened, before: &Status) -> Result<Contest, Memory>
-        ensures settled { IfOk result (λ x. Settled self.now.policy.triggers base.now.set (has before.now.set) x) }
-        ensures only { IfOk result (λ x. (y : HappenedView) → Settled self.now.policy.triggers base.now.set (has before.now.set) y → y ≡ x) }
+        ensures settled { IfOk result
+            (λ x. Settled self.now.policy.triggers base.now.set (has before.now.set) x) }
+        ensures only { IfOk result (λ x. (y : HappenedView)
+            → Settled self.now.policy.triggers base.now.set (has before.now.set) y → y ≡ x) }
     {
         settled_contest(
             self.alloc,

@@ -1,4 +1,5 @@
-//! The timeline of a policy: when something is raised next, what an instant is closed to, and what is on its way.
+//! The timeline of a policy: when something is raised next, what an instant is closed to, and what
+//! is on its way.
 #![tactic(auto)]
 
 mod closing;

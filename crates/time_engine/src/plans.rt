@@ -5,8 +5,8 @@ use delay_agenda::Pending;
 use gt_base::{EventSet, Happened, Instant, List, Status};
 use std::marker::Model;
 
-/// What closing a timeline at an instant gives: the instant, its base and its set, the status after it, and the pairs of a
-/// due instant and an event that join. It also knows how much room it needs.
+/// What closing a timeline at an instant gives: the instant, its base and its set, the status after
+/// it, and the pairs of a due instant and an event that join. It also knows how much room it needs.
 #[derive(Drop)]
 pub struct Plan {
     pub(crate) at: Instant,
@@ -28,7 +28,14 @@ impl Model for Plan {
 
     ghost coded = { plan_code };
 
-    ghost view = { λ p. record { at = p.at; base = p.base.set; set = p.set.set; status = p.status.set; joining = p.joining.items; need = max 1 (max (length (members p.won.set)) (length p.joining.items)) } };
+    ghost view = { λ p. record {
+      at = p.at;
+      base = p.base.set;
+      set = p.set.set;
+      status = p.status.set;
+      joining = p.joining.items;
+      need = max 1 (max (length (members p.won.set)) (length p.joining.items));
+    } };
 
     ghost invariant = { λ p. (e : Event) → has p.won.set e ≡ is_won p.set.set e };
 }

@@ -7,8 +7,8 @@ use gt_base::{Happened, Instant, Status};
 use instant_bases::Watch;
 use std::alloc::Global;
 
-/// The periods, the instant now, the status after it and when its fluents changed, the sets so far, what is due later, the signals of the
-/// next minute, and the empty set.
+/// The periods, the instant now, the status after it and when its fluents changed, the sets so far,
+/// what is due later, the signals of the next minute, and the empty set.
 pub(crate) struct State {
     pub alloc: Global,
     pub watches: Vec<Watch>,

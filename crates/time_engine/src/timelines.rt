@@ -30,14 +30,16 @@ use std::marker::Model;
 /// Why an event was not queued. The timeline is then as it was.
 #[derive(Clone, Copy, PartialEq, Eq, Debug)]
 pub enum RequestFault {
-    /// It would be due at this number of minutes since 2000-01-01T00:00, which is after the last instant.
+    /// It would be due at this number of minutes since 2000-01-01T00:00, which is after the last
+    /// instant.
     Beyond { due: u32 },
     /// There was no memory.
     Memory,
 }
 
-/// A run of a policy since its birth: the status of its instant, when fluents last changed, the sets so far, the events that
-/// are due later, and the signals of the next minute. It is seen with its room.
+/// A run of a policy since its birth: the status of its instant, when fluents last changed, the
+/// sets so far, the events that are due later, and the signals of the next minute. It is seen with
+/// its room.
 pub struct Timeline {
     state: State,
 }
@@ -53,7 +55,11 @@ impl Model for Timeline {
 
     ghost use Rattle.time_engine.specs.Kept.{view_of, room_of};
 
-    ghost view = { λ t. record { line = view_of t.state; spare = t.state.signals.spare; room = room_of t.state } };
+    ghost view = { λ t. record {
+      line = view_of t.state;
+      spare = t.state.signals.spare;
+      room = room_of t.state;
+    } };
 
     ghost invariant = { λ t. IsTimeline (view_of t.state) × (t.state.quiet.set ≡ nothing) };
 }
@@ -65,13 +71,15 @@ impl Drop for Timeline {
 }
 
 impl Timeline {
-    /// The timeline of the policy at its birth, at which nothing is raised. For want of memory it may refuse.
+    /// The timeline of the policy at its birth, at which nothing is raised. For want of memory it
+    /// may refuse.
     pub fn new(alloc: Global, g: &Ground, birth: Instant) -> Result<Timeline, Memory>
         ensures stands { IfOk result (λ t. StandsFor g.now.policy t.line) }
         ensures born { IfOk result (λ t. (t.line.birth ≡ birth) × (t.line.now ≡ birth)) }
         ensures status { IfOk result (λ t. t.line.status ≡ g.now.policy.opening) }
         ensures ages { IfOk result (λ t. (f : Fluent) → since_of t.line f ≡ birth) }
-        ensures empty { IfOk result (λ t. (t.line.trace ≡ []) × (t.line.pending ≡ none) × (t.line.signals ≡ none)) }
+        ensures empty { IfOk result (λ t. (t.line.trace ≡ []) × (t.line.pending ≡ none)
+            × (t.line.signals ≡ none)) }
     {
         let policy = g.policy();
         let watches = asked(alloc, policy, birth)?;
@@ -125,8 +133,8 @@ impl Timeline {
         &self.state.trace
     }
 
-    /// The least instant after now at which something is raised while no request or signal comes, none exactly where there is
-    /// none up to 2099-12-31T23:59. It takes no memory.
+    /// The least instant after now at which something is raised while no request or signal comes,
+    /// none exactly where there is none up to 2099-12-31T23:59. It takes no memory.
     pub fn due(&self, g: &Ground) -> Option<Instant>
         requires stands { StandsFor g.now.policy self.now.line }
         ensures { IsNextOf (stirs_in g.now.policy self.now.line) self.now.line.now result }
@@ -134,8 +142,8 @@ impl Timeline {
         due(&self.state, g.policy())
     }
 
-    /// Closes the timeline at an instant after now that is not after the next one at which something is raised. For want of
-    /// memory it may refuse; the timeline is then as it was.
+    /// Closes the timeline at an instant after now that is not after the next one at which
+    /// something is raised. For want of memory it may refuse; the timeline is then as it was.
     pub fn close(&mut self, g: &Ground, to: Instant) -> Result<(), Memory>
         requires stands { StandsFor g.now.policy self.old.line }
         requires later { self.old.line.now < to }
@@ -149,8 +157,8 @@ impl Timeline {
         Ok(())
     }
 
-    /// What closing the timeline at this instant would give, with the room for it made. The timeline stays as it is seen, and
-    /// loses no room. For want of memory it may refuse.
+    /// What closing the timeline at this instant would give, with the room for it made. The
+    /// timeline stays as it is seen, and loses no room. For want of memory it may refuse.
     pub fn plan(&mut self, g: &Ground, to: Instant) -> Result<Plan, Memory>
         requires stands { StandsFor g.now.policy self.old.line }
         requires later { self.old.line.now < to }
@@ -168,8 +176,8 @@ impl Timeline {
         Ok(plan)
     }
 
-    /// Closes the timeline by a plan of it as it is now, into room that was made before. It takes no memory, and leaves the room
-    /// for signals as it was.
+    /// Closes the timeline by a plan of it as it is now, into room that was made before. It takes
+    /// no memory, and leaves the room for signals as it was.
     pub fn commit(&mut self, p: Plan)
         requires fits { Fits self.old.line p }
         requires room { p.need ≤ self.old.room }
@@ -179,7 +187,8 @@ impl Timeline {
         follow(&mut self.state, p);
     }
 
-    /// Makes room for n more signals. For want of memory it may refuse. The timeline stays as it is seen, and loses no room.
+    /// Makes room for n more signals. For want of memory it may refuse. The timeline stays as it is
+    /// seen, and loses no room.
     pub fn reserve(&mut self, n: usize) -> Result<(), Memory>
         ensures line { self.new.line ≡ self.old.line }
         ensures room { self.new.room ≡ self.old.room }
@@ -189,7 +198,8 @@ impl Timeline {
         self.state.signals.reserve(n)
     }
 
-    /// Adds a signal of the minute after now, into room that was made before. At 2099-12-31T23:59 it changes nothing.
+    /// Adds a signal of the minute after now, into room that was made before. At 2099-12-31T23:59
+    /// it changes nothing.
     pub fn signal(&mut self, s: Signal)
         requires { 1 ≤ self.old.spare }
         ensures line { self.new.line ≡ with_signal self.old.line s }
@@ -201,8 +211,9 @@ impl Timeline {
         }
     }
 
-    /// Queues an event that is due the delay, in minutes, after the minute after now, and answers that instant. It is refused
-    /// exactly where the instant would be after 2099-12-31T23:59, or for want of memory; the timeline is then as it was.
+    /// Queues an event that is due the delay, in minutes, after the minute after now, and answers
+    /// that instant. It is refused exactly where the instant would be after 2099-12-31T23:59, or
+    /// for want of memory; the timeline is then as it was.
     pub fn request(&mut self, p: Prioritised, delay: u32) -> Result<Instant, RequestFault>
         requires { delay ≤ last_minute }
         ensures due { IfOk result (λ due. due ≡ self.old.line.now + 1 + delay) }

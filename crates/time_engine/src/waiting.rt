@@ -7,8 +7,8 @@ use gt_base::{Memory, Signal};
 use std::alloc::Global;
 use std::marker::Model;
 
-/// A set of signals, seen as the set and the number of further signals that it has room for. Cleared, it has as much room as
-/// before.
+/// A set of signals, seen as the set and the number of further signals that it has room for.
+/// Cleared, it has as much room as before.
 pub(crate) struct Waiting {
     signals: Vec<Signal>,
     spare: usize,

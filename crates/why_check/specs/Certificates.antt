@@ -46,7 +46,8 @@ Ascends first last [] = Unit {0}
 Ascends first last (l ∷ ls) = (first < l.at) × (l.at ≤ last) × Ascends l.at last ls
 
 -- the set is closed over the base, its signals are those of the base, and its order supports it
-pub record IsShown (rules : List TriggerView) (base : HappenedView) (s : Status) (l : Listed) : Type 0 where
+pub record IsShown (rules : List TriggerView) (base : HappenedView) (s : Status)
+    (l : Listed) : Type 0 where
   pub is_closed : IsTrue (closed rules base s (set_in l))
   pub signals : (set_in l).signals ≡ base.signals
   pub order : IsTrue (grounded_after rules base s (set_in l) [] l.events)
@@ -56,12 +57,14 @@ abbrev pub IsRight : List TriggerView → HappenedView → Status → Option Lis
 IsRight rules base s None = base ≡ nothing
 IsRight rules base s (Some l) = IsShown rules base s l
 
--- the certificate is one of the history: each minute is right over its base and the status that the sets before it make
+-- the certificate is one of the history: each minute is right over its base and the status that the
+-- sets before it make
 pub record Accepts (p : Policy) (birth : ℕ) (h : List Entry) (cert : List Listed) : Type 0 where
   pub ascends : Ascends birth (now_of birth h) cert
   pub some : All (λ l. IsTrue (says_something l)) cert
   pub minutes : (t : ℕ) → birth < t → t ≤ now_of birth h
-      → IsRight p.triggers (base_at p birth (model_in cert) h t) (status p birth (model_in cert) (t - 1)) (listed_at cert t)
+      → IsRight p.triggers (base_at p birth (model_in cert) h t)
+      (status p birth (model_in cert) (t - 1)) (listed_at cert t)
 
 -- some model makes the history legal
 pub record IsLegal (p : Policy) (birth : ℕ) (h : List Entry) : Type 0 where

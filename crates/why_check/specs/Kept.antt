@@ -1,5 +1,5 @@
 -- The running state of the checker, and what it says of a history.
-use Rattle.std.specs.Prelude.{◌≡◌, ℕ, ◌+◌, ◌<◌, ◌≤◌, true, false, cond, ◌&&◌, nat_eq, nat_lt, List, [], ◌++◌, flat_map, length, Option, Some, None, IsTrue}
+use Rattle.std.specs.Prelude.{◌≡◌, ℕ, ◌+◌, ◌<◌, ◌≤◌, true, false, ◌&&◌, nat_eq, nat_lt, List, [], ◌++◌, flat_map, length, Option, Some, None, IsTrue, if◌then◌else◌}
 use Rattle.std.specs.List.{list_any}
 use Rattle.std.specs.Ordering.{eq_by_cmp}
 use Rattle.gt_base.specs.Bounds.{last_minute}
@@ -45,10 +45,14 @@ waiting_for now waiting t = elim (nat_eq t (now + 1)) [ true ↦ waiting | false
 
 -- the base of a later instant before which nothing happens
 abbrev pub raised_in : Policy → Replay → ℕ → List Prioritised
-raised_in p s t = (periodic p s.ages.birth t ++ due_in s t) ++ limited p (has s.status.set) (since_in s.ages) t
+raised_in p s t = (periodic p s.ages.birth t ++ due_in s t)
+    ++ limited p (has s.status.set) (since_in s.ages) t
 
 abbrev pub base_in : Policy → Replay → ℕ → HappenedView
-base_in p s t = record { events = set_of (raised_in p s t); signals = set_of (waiting_for s.present s.waiting.items t) }
+base_in p s t = record {
+  events = set_of (raised_in p s t);
+  signals = set_of (waiting_for s.present s.waiting.items t);
+}
 
 abbrev pub with_signals : Table → List Signal → Table
 with_signals tb waiting = record tb { signals = waiting }
@@ -58,12 +62,15 @@ abbrev pub table_in : Replay → Table
 table_in s = record (table_of s.table) { signals = s.waiting.items }
 
 -- what the state says is what the model says at the now of these entries
-pub record IsReplay (p : Policy) (birth : ℕ) (g : List Entry) (m : Model) (s : Replay) : Type 0 where
+pub record IsReplay (p : Policy) (birth : ℕ) (g : List Entry) (m : Model)
+    (s : Replay) : Type 0 where
   pub now : s.present ≡ now_of birth g
   pub born : s.ages.birth ≡ birth
   pub status : (f : Fluent) → has s.status.set f ≡ status p birth m s.present f
   pub since : (f : Fluent) → since_in s.ages f ≡ since p birth m f s.present
-  pub due : (t : ℕ) (e : Prioritised) → s.present < t → t ≤ last_minute → list_any (eq_by_cmp prioritised_cmp e) (due_in s t) ≡ list_any (eq_by_cmp prioritised_cmp e) (pending p birth m g t)
+  pub due : (t : ℕ) (e : Prioritised) → s.present < t → t ≤ last_minute
+      → list_any (eq_by_cmp prioritised_cmp e) (due_in s t)
+      ≡ list_any (eq_by_cmp prioritised_cmp e) (pending p birth m g t)
   pub table : table_in s ≡ table_at p birth m g s.present
   pub charged : NotBefore s.table.charged_to s.present
   pub few : s.table.begun ≤ length g
@@ -79,33 +86,42 @@ pub record IsBegun (p : Policy) (birth : ℕ) (s : Replay) : Type 0 where
   pub charged : s.table.charged_to ≡ None
 
 -- the request is answered so over this table, the signals that wait left out
-pub record IsAnswered (tb : Table) (actor : Actor) (request : Request) (reply : Reply) : Type 0 where
+pub record IsAnswered (tb : Table) (actor : Actor) (request : Request)
+    (reply : Reply) : Type 0 where
   pub policy : Policy
   pub point : Point
   pub is : reply ≡ reply_of policy (record point { table = tb }) actor request
 
 -- the same under these edges and caps, in this status and at this instant
-pub record IsAnsweredAt (edges : List HierEdge) (caps : List Caps) (s : Status) (now : ℕ) (tb : Table) (actor : Actor) (request : Request) (reply : Reply) : Type 0 where
+pub record IsAnsweredAt (edges : List HierEdge) (caps : List Caps) (s : Status) (now : ℕ)
+    (tb : Table) (actor : Actor) (request : Request) (reply : Reply) : Type 0 where
   pub policy : Policy
   pub point : Point
-  pub is : reply ≡ reply_of (record policy { edges = edges; caps = caps }) (record point { now = now; status = s; table = tb }) actor request
+  pub is : reply ≡ reply_of (record policy { edges = edges; caps = caps })
+      (record point { now = now; status = s; table = tb }) actor request
 
 -- the head of a delayed trigger that is met at an instant is due at t
 abbrev pub joins_at : Status → HappenedView → ℕ → ℕ → TriggerView → List Prioritised
-joins_at before x at t r = when (nat_lt 0 r.delay && nat_eq (at + r.delay) t && met r x before) r.head
+joins_at before x at t r = when (nat_lt 0 r.delay && nat_eq (at + r.delay) t && met r x before)
+    r.head
 
 -- the state after an instant is closed with its set
-pub record IsClosed (p : Policy) (s : Replay) (x : HappenedView) (to : ℕ) (s' : Replay) : Type 0 where
+pub record IsClosed (p : Policy) (s : Replay) (x : HappenedView) (to : ℕ)
+    (s' : Replay) : Type 0 where
   pub now : s'.present ≡ to
   pub born : s'.ages.birth ≡ s.ages.birth
   pub status : (f : Fluent) → has s'.status.set f ≡ after x (has s.status.set) f
-  pub since : (f : Fluent) → since_in s'.ages f ≡ cond (differ (has s'.status.set f) (has s.status.set f)) to (since_in s.ages f)
-  pub due : (t : ℕ) → t ≤ last_minute → due_in s' t ≡ due_in s t ++ flat_map (joins_at (has s.status.set) x to t) p.triggers
-  pub table : table_in s' ≡ closed_at p.edges p.caps (has s'.status.set) s.present to (table_of s.table)
+  pub since : (f : Fluent) → since_in s'.ages f
+      ≡ (if differ (has s'.status.set f) (has s.status.set f) then to else since_in s.ages f)
+  pub due : (t : ℕ) → t ≤ last_minute
+      → due_in s' t ≡ due_in s t ++ flat_map (joins_at (has s.status.set) x to t) p.triggers
+  pub table : table_in s' ≡ closed_at p.edges p.caps (has s'.status.set) s.present to
+      (table_of s.table)
   pub charged : s'.table.charged_to ≡ Some to
 
 -- the state after an answered request
-pub record IsAsked (s : Replay) (actor : Actor) (request : Request) (reply : Reply) (s' : Replay) : Type 0 where
+pub record IsAsked (s : Replay) (actor : Actor) (request : Request) (reply : Reply)
+    (s' : Replay) : Type 0 where
   pub now : s'.present ≡ s.present
   pub ages : s'.ages ≡ s.ages
   pub status : s'.status ≡ s.status
@@ -115,7 +131,8 @@ pub record IsAsked (s : Replay) (actor : Actor) (request : Request) (reply : Rep
   pub begun : s'.table.begun ≤ s.table.begun + 1
 
 -- the listing is of the instant, says something and is shown there
-pub record IsGood (p : Policy) (base : HappenedView) (s : Status) (to : ℕ) (l : Listed) : Type 0 where
+pub record IsGood (p : Policy) (base : HappenedView) (s : Status) (to : ℕ)
+    (l : Listed) : Type 0 where
   pub at : l.at ≡ to
   pub says : IsTrue (says_something l)
   pub shown : IsShown p.triggers base s l

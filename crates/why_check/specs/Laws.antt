@@ -15,21 +15,28 @@ use Rattle.why_check.specs.Certificates.{Listed, Accepts, listed_at, model_in, s
 
 -- a certificate of a history is an execution model of it
 abbrev pub AcceptedIsModel : Type 0
-AcceptedIsModel = (p : Policy) → IsPolicy p → (birth : ℕ) (h : List Entry) (cert : List Listed) → Accepts p birth h cert → IsExecutionModel p birth h (model_in cert)
+AcceptedIsModel = (p : Policy) → IsPolicy p → (birth : ℕ) (h : List Entry) (cert : List Listed)
+    → Accepts p birth h cert → IsExecutionModel p birth h (model_in cert)
 
--- so, where the triggers are safe, it has at each instant the set of whichever execution model, and the empty set elsewhere
+-- so, where the triggers are safe, it has at each instant the set of whichever execution model, and
+-- the empty set elsewhere
 abbrev pub AcceptedIsTheModel : Type 0
 AcceptedIsTheModel =
-    (p : Policy) → IsPolicy p → IsSafe p.triggers → (birth : ℕ) (h : List Entry) (cert : List Listed) (m : Model)
-    → Accepts p birth h cert → IsExecutionModel p birth h m → SameUpTo birth (now_of birth h) (model_in cert) m
+    (p : Policy) → IsPolicy p → IsSafe p.triggers
+    → (birth : ℕ) (h : List Entry) (cert : List Listed) (m : Model)
+    → Accepts p birth h cert → IsExecutionModel p birth h m
+    → SameUpTo birth (now_of birth h) (model_in cert) m
 
--- an event that is listed is in the set, and blocked in the set where it is blocked among those listed
+-- an event that is listed is in the set, and blocked in the set where it is blocked among those
+-- listed
 pub record Tells (x : HappenedView) (l : Listed) (e : Prioritised) : Type 0 where
   pub there : IsTrue (has (set_in l).events e) → IsTrue (has x.events e)
   pub blocked_there : IsTrue (blocked (set_in l) e) → IsTrue (blocked x e)
 
 abbrev pub AcceptedTells : Type 0
 AcceptedTells =
-    (p : Policy) → IsPolicy p → IsSafe p.triggers → (birth : ℕ) (h : List Entry) (cert : List Listed) (m : Model)
+    (p : Policy) → IsPolicy p → IsSafe p.triggers
+    → (birth : ℕ) (h : List Entry) (cert : List Listed) (m : Model)
     → Accepts p birth h cert → IsExecutionModel p birth h m
-    → (t : ℕ) → birth < t → t ≤ now_of birth h → (l : Listed) → listed_at cert t ≡ Some l → (e : Prioritised) → Tells (m t) l e
+    → (t : ℕ) → birth < t → t ≤ now_of birth h → (l : Listed) → listed_at cert t ≡ Some l
+    → (e : Prioritised) → Tells (m t) l e

@@ -81,7 +81,9 @@ fn put(
     t: u32,
     e: Prioritised,
 ) -> Result<(), Memory>
-    ensures { OnOk result ((k : ℕ) → under (get nat_eq due.new k) (λ v. v.items) ≡ cond (nat_eq t k) (under (get nat_eq due.old t) (λ v. v.items) ++ e ∷ []) (under (get nat_eq due.old k) (λ v. v.items))) }
+    ensures { OnOk result ((k : ℕ) → under (get nat_eq due.new k) (λ v. v.items)
+        ≡ cond (nat_eq t k) (under (get nat_eq due.old t) (λ v. v.items) ++ e ∷ [])
+        (under (get nat_eq due.old k) (λ v. v.items))) }
 {
     push_event(due.entry(t)?.or_insert(Vec::new(alloc)), e)
 }
@@ -101,7 +103,8 @@ pub(crate) fn queue(
     request: Request,
     reply: &Reply,
 ) -> Result<(), Memory>
-    ensures { OnOk result ((k : ℕ) → under (get nat_eq due.new k) (λ v. v.items) ≡ under (get nat_eq due.old k) (λ v. v.items) ++ queued_at k request reply.now) }
+    ensures { OnOk result ((k : ℕ) → under (get nat_eq due.new k) (λ v. v.items)
+        ≡ under (get nat_eq due.old k) (λ v. v.items) ++ queued_at k request reply.now) }
 {
     match (request, reply) {
         (Request::Raise { head, delay: _ }, Reply::Queued(t)) => put(alloc, due, t.minute(), head),
@@ -118,7 +121,9 @@ pub(crate) fn put_heads(
     before: &Status,
     at: Instant,
 ) -> Result<(), Memory>
-    ensures { OnOk result ((k : ℕ) → k ≤ last_minute → under (get nat_eq due.new k) (λ v. v.items) ≡ under (get nat_eq due.old k) (λ v. v.items) ++ flat_map (joins_at (has before.now.set) x.now at k) rules.now) }
+    ensures { OnOk result ((k : ℕ) → k ≤ last_minute
+        → under (get nat_eq due.new k) (λ v. v.items) ≡ under (get nat_eq due.old k) (λ v. v.items)
+        ++ flat_map (joins_at (has before.now.set) x.now at k) rules.now) }
 {
     for r in rules {
         put_head(alloc, due, r, x, before, at)?;
@@ -135,7 +140,9 @@ fn put_head(
     before: &Status,
     at: Instant,
 ) -> Result<(), Memory>
-    ensures { OnOk result ((k : ℕ) → k ≤ last_minute → under (get nat_eq due.new k) (λ v. v.items) ≡ under (get nat_eq due.old k) (λ v. v.items) ++ joins_at (has before.now.set) x.now at k r.now) }
+    ensures { OnOk result ((k : ℕ) → k ≤ last_minute
+        → under (get nat_eq due.new k) (λ v. v.items) ≡ under (get nat_eq due.old k) (λ v. v.items)
+        ++ joins_at (has before.now.set) x.now at k r.now) }
 {
     if r.delay > 0 && met_in(r, x, before) {
         if let Some(t) = later(at, r.delay) {

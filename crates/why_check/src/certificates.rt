@@ -5,7 +5,8 @@ use gt_base::{Instant, List, Memory, Prioritised, Signal};
 use std::alloc::Global;
 use std::marker::Model;
 
-/// What a certificate says of one instant: its events in an order that is to support them, and its signals.
+/// What a certificate says of one instant: its events in an order that is to support them, and its
+/// signals.
 pub struct Listing {
     pub at: Instant,
     pub events: List<Prioritised>,
@@ -72,7 +73,8 @@ impl Cert {
         events: List<Prioritised>,
         signals: List<Signal>,
     ) -> Result<(), Memory>
-        ensures ok { OnOk result (self.new ≡ self.old ++ record { at = t; events = events.items; signals = signals.items } ∷ []) }
+        ensures ok { OnOk result (self.new ≡ self.old
+            ++ record { at = t; events = events.items; signals = signals.items } ∷ []) }
         ensures err { OnErr result (self.new ≡ self.old) }
     {
         self.listings.reserve(1)?;

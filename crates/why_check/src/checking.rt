@@ -1,5 +1,5 @@
-//! Checking a certificate: the entries are played once, and at each instant at which a tick stopped the listed set is held
-//! against the definitions.
+//! Checking a certificate: the entries are played once, and at each instant at which a tick stopped
+//! the listed set is held against the definitions.
 ghost use Rattle.std.specs.Prelude.{Option as OptionOf, ◌≡◌, ◌<◌, ◌≤◌, ◌↔◌, IsTrue, length, slice_get, Some, IfOk, OnOk};
 ghost use Rattle.gt_base.specs.Bounds.{max_steps};
 ghost use Rattle.gt_base.specs.Sets.{has};
@@ -21,8 +21,8 @@ use policy_book::Policy;
 use session_table::Sessions;
 use std::alloc::Global;
 
-/// What a step has to do with the next listing: it is of the instant that the step closed, or it is not looked at, or the
-/// certificate is wrong.
+/// What a step has to do with the next listing: it is of the instant that the step closed, or it is
+/// not looked at, or the certificate is wrong.
 #[derive(Clone, Copy, PartialEq, Eq)]
 pub(crate) enum Held {
     Listed,
@@ -30,9 +30,9 @@ pub(crate) enum Held {
     Wrong,
 }
 
-/// Whether the certificate is one of the history with these entries, by the definitions of conflict, triggers, base and
-/// settled sets alone. The entries are a legal history of the policy since its birth, at most 1,000,000 of them, and the
-/// policy is safe. Only want of memory is free.
+/// Whether the certificate is one of the history with these entries, by the definitions of
+/// conflict, triggers, base and settled sets alone. The entries are a legal history of the policy
+/// since its birth, at most 1,000,000 of them, and the policy is safe. Only want of memory is free.
 pub fn accept(
     policy: &Policy,
     birth: Instant,
@@ -42,7 +42,8 @@ pub fn accept(
     requires legal { IsLegal policy.now.policy birth entries.now.items }
     requires safe { IsSafe policy.now.policy.triggers }
     requires few { length entries.now.items ≤ max_steps }
-    ensures { IfOk result (λ yes. IsTrue yes ↔ Accepts policy.now.policy birth entries.now.items cert.now) }
+    ensures { IfOk result (λ yes. IsTrue yes ↔ Accepts policy.now.policy birth entries.now.items
+        cert.now) }
 {
     policy.keeps();
     let mut replay = begin(cert.alloc, policy, birth)?;
@@ -99,7 +100,8 @@ fn step(
     place: usize,
 ) -> Result<Held, Memory>
     requires { IsReady policy.now.policy s.old entry.now.what }
-    ensures { IfOk result (λ held. IsPlayed policy.now.policy s.old entry.now.what (slice_get cert.now place) held s.new) }
+    ensures { IfOk result (λ held. IsPlayed policy.now.policy s.old entry.now.what
+        (slice_get cert.now place) held s.new) }
 {
     match &entry.what {
         Step::Tick { upto: _, to } => {
@@ -128,7 +130,8 @@ fn tick(
     requires later { s.old.present < to }
     requires born { s.old.ages.birth < to }
     requires charged { NotBefore s.old.table.charged_to s.old.present }
-    ensures { IfOk result (λ held. IsHeld policy.now.policy s.old to (slice_get cert.now place) held s.new) }
+    ensures { IfOk result (λ held. IsHeld policy.now.policy s.old to
+        (slice_get cert.now place) held s.new) }
 {
     let base = base(s, policy, to)?;
     match cert.listings.get(place) {
@@ -148,7 +151,8 @@ fn hold(
     requires later { s.old.present < to }
     requires charged { NotBefore s.old.table.charged_to s.old.present }
     requires base { base.now.set ≡ base_in policy.now.policy s.old to }
-    ensures { IfOk result (λ held. IsHeld policy.now.policy s.old to (Some listing.now) held s.new) }
+    ensures { IfOk result (λ held. IsHeld policy.now.policy s.old to
+        (Some listing.now) held s.new) }
 {
     if listing.at > to {
         return pass(s, policy, to, base);
@@ -171,7 +175,8 @@ fn hold_here(
     requires charged { NotBefore s.old.table.charged_to s.old.present }
     requires base { base.now.set ≡ base_in policy.now.policy s.old to }
     requires here { listing.now.at ≡ to }
-    ensures { IfOk result (λ held. IsHeld policy.now.policy s.old to (Some listing.now) held s.new) }
+    ensures { IfOk result (λ held. IsHeld policy.now.policy s.old to
+        (Some listing.now) held s.new) }
 {
     if is_good(s, policy, base, listing)? {
         close_listed(s, policy, to, listing)?;
@@ -198,7 +203,8 @@ fn close_listed(
 
 /// Whether the listing, which is of the instant of this base, says something and is shown.
 fn is_good(s: &Replay, policy: &Policy, base: &Happened, listing: &Listing) -> Result<bool, Memory>
-    ensures { IfOk result (λ yes. IsTrue yes ↔ IsGood policy.now.policy base.now.set (has s.now.status.set) listing.now.at listing.now) }
+    ensures { IfOk result (λ yes. IsTrue yes ↔ IsGood policy.now.policy base.now.set
+        (has s.now.status.set) listing.now.at listing.now) }
 {
     if !says_something(listing) {
         return Ok(false);
@@ -219,7 +225,8 @@ fn pass(s: &mut Replay, policy: &Policy, to: Instant, base: &Happened) -> Result
     requires later { s.old.present < to }
     requires charged { NotBefore s.old.table.charged_to s.old.present }
     requires base { base.now.set ≡ base_in policy.now.policy s.old to }
-    ensures { (next : OptionOf ListedOf) → IsLater to next → IfOk result (λ held. IsHeld policy.now.policy s.old to next held s.new) }
+    ensures { (next : OptionOf ListedOf) → IsLater to next
+        → IfOk result (λ held. IsHeld policy.now.policy s.old to next held s.new) }
 {
     if !is_empty(base) {
         return Ok(Held::Wrong);

@@ -36,7 +36,8 @@ pub(crate) fn ask(
     reply: &Reply,
 ) -> Result<(), Memory>
     requires few { s.old.table.begun < 2 ^ 32 - 1 }
-    requires answered { IsAnsweredAt policy.now.policy.edges policy.now.policy.caps (has s.old.status.set) s.old.present (table_of s.old.table) actor request.now reply.now }
+    requires answered { IsAnsweredAt policy.now.policy.edges policy.now.policy.caps
+        (has s.old.status.set) s.old.present (table_of s.old.table) actor request.now reply.now }
     ensures { OnOk result (IsAsked s.old actor request.now reply.now s.new) }
 {
     queue(s.alloc, &mut s.due, *request, reply)?;
@@ -83,7 +84,9 @@ fn put_delayed(
     before: &Status,
     at: Instant,
 ) -> Result<(), Memory>
-    ensures { OnOk result ((k : ℕ) → k ≤ last_minute → under (get nat_eq due.new k) (λ v. v.items) ≡ under (get nat_eq due.old k) (λ v. v.items) ++ flat_map (joins_at (has before.now.set) set.now.set at k) policy.now.policy.triggers) }
+    ensures { OnOk result ((k : ℕ) → k ≤ last_minute
+        → under (get nat_eq due.new k) (λ v. v.items) ≡ under (get nat_eq due.old k) (λ v. v.items)
+        ++ flat_map (joins_at (has before.now.set) set.now.set at k) policy.now.policy.triggers) }
 {
     let x = Contest::new(alloc, set)?;
     put_heads(alloc, due, policy.triggers().as_slice(), &x, before, at)
@@ -97,9 +100,12 @@ fn changed(
     set: &Happened,
     at: Instant,
 ) -> Result<Status, Memory>
-    ensures status { IfOk result (λ s. (f : FluentOf) → has s.set f ≡ after set.now.set (has before.now.set) f) }
+    ensures status { IfOk result (λ s. (f : FluentOf)
+        → has s.set f ≡ after set.now.set (has before.now.set) f) }
     ensures birth { IfOk result (λ s. ages.new.birth ≡ ages.old.birth) }
-    ensures since { IfOk result (λ s. (f : FluentOf) → since_in ages.new f ≡ cond (differ (has s.set f) (has before.now.set f)) at (since_in ages.old f)) }
+    ensures since { IfOk result (λ s. (f : FluentOf)
+        → since_in ages.new f ≡ cond (differ (has s.set f) (has before.now.set f)) at
+        (since_in ages.old f)) }
 {
     let won = winners(alloc, set)?;
     ages.reserve(won.len())?;
@@ -119,7 +125,9 @@ fn ended(
 ) -> Result<Vec<Signal>, Memory>
     requires later { present < to }
     requires charged { NotBefore table.old.charged_to present }
-    ensures table { IfOk result (λ waiting. with_signals (table_of table.new) waiting.items ≡ closed_at policy.now.policy.edges policy.now.policy.caps (has status.now.set) present to (table_of table.old)) }
+    ensures table { IfOk result (λ waiting. with_signals (table_of table.new) waiting.items
+        ≡ closed_at policy.now.policy.edges policy.now.policy.caps (has status.now.set) present to
+        (table_of table.old)) }
     ensures charged { IfOk result (λ waiting. table.new.charged_to ≡ Some to) }
 {
     policy.keeps();
@@ -130,7 +138,8 @@ fn ended(
 /// The status after the set, whose winners these are.
 fn status_after(before: &Status, won: &EventSet, set: &Happened) -> Result<Status, Memory>
     requires { (e : EventOf) → has won.now.set e ≡ is_won set.now.set e }
-    ensures { IfOk result (λ s. (f : FluentOf) → has s.set f ≡ after set.now.set (has before.now.set) f) }
+    ensures { IfOk result (λ s. (f : FluentOf) → has s.set f
+        ≡ after set.now.set (has before.now.set) f) }
 {
     let mut status = before.copied()?;
     status.reserve(won.len())?;
@@ -142,7 +151,9 @@ fn status_after(before: &Status, won: &EventSet, set: &Happened) -> Result<Statu
 fn note_changes(ages: &mut Ages, before: &Status, status: &Status, won: &[Event], at: Instant)
     requires { length won.now ≤ ages.old.spare }
     ensures birth { ages.new.birth ≡ ages.old.birth }
-    ensures since { (f : FluentOf) → since_in ages.new f ≡ cond (differ (has status.now.set f) (has before.now.set f) && list_any (λ e. same_fluent e.fluent f) won.now) at (since_in ages.old f) }
+    ensures since { (f : FluentOf) → since_in ages.new f
+        ≡ cond (differ (has status.now.set f) (has before.now.set f)
+        && list_any (λ e. same_fluent e.fluent f) won.now) at (since_in ages.old f) }
 {
     for e in won {
         let changed = are_apart(status.is_on(e.fluent), before.is_on(e.fluent));
@@ -161,7 +172,8 @@ fn are_apart(a: bool, b: bool) -> bool
 fn note_change(ages: &mut Ages, f: Fluent, changed: bool, at: Instant)
     requires { 1 ≤ ages.old.spare }
     ensures birth { ages.new.birth ≡ ages.old.birth }
-    ensures since { (g : FluentOf) → since_in ages.new g ≡ cond (changed && same_fluent f g) at (since_in ages.old g) }
+    ensures since { (g : FluentOf) → since_in ages.new g
+        ≡ cond (changed && same_fluent f g) at (since_in ages.old g) }
     ensures spare { ages.old.spare ≤ ages.new.spare + 1 }
 {
     if changed {

@@ -1,5 +1,5 @@
-//! Certificates of what happened in a history, and a checker of them by the definitions alone: it knows no levels and no
-//! work lists.
+//! Certificates of what happened in a history, and a checker of them by the definitions alone: it
+//! knows no levels and no work lists.
 #![tactic(auto)]
 
 mod bases;

@@ -18,7 +18,8 @@ use periodic_expr::Period;
 
 /// The period of this number, if there is one.
 fn period_at(periods: &[Period], id: PeriodId) -> Option<&Period>
-    ensures { MatchOption result (item_at periods.now id.0 ≡ None) (λ p. item_at periods.now id.0 ≡ Some p.now) }
+    ensures { MatchOption result (item_at periods.now id.0 ≡ None)
+        (λ p. item_at periods.now id.0 ≡ Some p.now) }
 {
     periods.get(id.0 as usize)
 }
@@ -87,7 +88,8 @@ pub(crate) fn push_periodic(
     t: Instant,
 ) -> Result<(), Memory>
     requires { birth < t }
-    ensures { OnOk result (raised.new.items ≡ raised.old.items ++ flat_map (raised_by periods.now birth t) entries.now) }
+    ensures { OnOk result (raised.new.items ≡ raised.old.items
+        ++ flat_map (raised_by periods.now birth t) entries.now) }
 {
     for e in entries {
         push_entry(raised, periods, *e, birth, t)?;
@@ -141,7 +143,8 @@ pub(crate) fn push_limited(
     t: Instant,
 ) -> Result<(), Memory>
     requires { length limits.now ≤ 1_000 }
-    ensures { OnOk result (raised.new.items ≡ raised.old.items ++ limited_from periods.now (has status.now.set) (since_in ages.now) 0 limits.now t) }
+    ensures { OnOk result (raised.new.items ≡ raised.old.items
+        ++ limited_from periods.now (has status.now.set) (since_in ages.now) 0 limits.now t) }
 {
     for n in 0..limits.len() {
         let limit = &limits[n];
@@ -160,7 +163,8 @@ fn is_ripe(
     ages: &Ages,
     t: Instant,
 ) -> bool
-    ensures { result ≡ ripe_at periods.now (has status.now.set) (since_in ages.now) id.0 limit.now t }
+    ensures { result ≡ ripe_at periods.now (has status.now.set)
+        (since_in ages.now) id.0 limit.now t }
 {
     ages.ripe(id, limit, status, t) && is_there(periods, limit.period, t)
 }

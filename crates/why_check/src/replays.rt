@@ -5,8 +5,8 @@ use indexmap::IndexMap;
 use session_table::Sessions;
 use std::alloc::Global;
 
-/// What a history has come to: its instant, the status after it, when its fluents last changed, what is due at each minute,
-/// the table of sessions, and the signals of the next minute.
+/// What a history has come to: its instant, the status after it, when its fluents last changed,
+/// what is due at each minute, the table of sessions, and the signals of the next minute.
 pub(crate) struct Replay {
     pub alloc: Global,
     pub present: Instant,

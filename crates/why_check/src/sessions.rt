@@ -29,10 +29,13 @@ pub(crate) fn apply(
     request: Request,
     reply: &Reply,
 ) -> Result<(), Memory>
-    requires answered { IsAnsweredAt edges.now.items caps.now.items (has status.now.set) now (table_of table.old) actor request reply.now }
+    requires answered { IsAnsweredAt edges.now.items caps.now.items (has status.now.set) now
+        (table_of table.old) actor request reply.now }
     requires hierarchy { IsHierarchy edges.now.items }
     requires few { table.old.begun < 2 ^ 32 - 1 }
-    ensures table { OnOk result (record (table_of table.new) { signals = waiting.new.items } ≡ applied now actor request reply.now (record (table_of table.old) { signals = waiting.old.items })) }
+    ensures table { OnOk result (record (table_of table.new) { signals = waiting.new.items }
+        ≡ applied now actor request reply.now
+        (record (table_of table.old) { signals = waiting.old.items })) }
     ensures charged_to { OnOk result (table.new.charged_to ≡ table.old.charged_to) }
     ensures begun { OnOk result (table.new.begun ≤ table.old.begun + 1) }
 {
@@ -62,7 +65,9 @@ fn open(
 ) -> Result<(), Memory>
     requires answered { IsAnswered (table_of table.old) actor OpenSession reply.now }
     requires few { table.old.begun < 2 ^ 32 - 1 }
-    ensures table { OnOk result (record (table_of table.new) { signals = waiting.new.items } ≡ applied now actor OpenSession reply.now (record (table_of table.old) { signals = waiting.old.items })) }
+    ensures table { OnOk result (record (table_of table.new) { signals = waiting.new.items }
+        ≡ applied now actor OpenSession reply.now
+        (record (table_of table.old) { signals = waiting.old.items })) }
     ensures charged_to { OnOk result (table.new.charged_to ≡ table.old.charged_to) }
     ensures begun { OnOk result (table.new.begun ≤ table.old.begun + 1) }
 {
@@ -79,7 +84,8 @@ fn open(
 fn begin(table: &mut Sessions, user: UserId, number: SessionId) -> Result<(), Memory>
     requires answered { IsAnswered (table_of table.old) (User user) OpenSession (Session number) }
     requires few { table.old.begun < 2 ^ 32 - 1 }
-    ensures table { OnOk result (table_of table.new ≡ applied 0 (User user) OpenSession (Session number) (table_of table.old)) }
+    ensures table { OnOk result (table_of table.new
+        ≡ applied 0 (User user) OpenSession (Session number) (table_of table.old)) }
     ensures charged_to { OnOk result (table.new.charged_to ≡ table.old.charged_to) }
 {
     match table.begin(user) {
@@ -99,7 +105,9 @@ fn close(
     reply: &Reply,
 ) -> Result<(), Memory>
     requires { IsAnswered (table_of table.old) actor (CloseSession session) reply.now }
-    ensures table { OnOk result (record (table_of table.new) { signals = waiting.new.items } ≡ applied now actor (CloseSession session) reply.now (record (table_of table.old) { signals = waiting.old.items })) }
+    ensures table { OnOk result (record (table_of table.new) { signals = waiting.new.items }
+        ≡ applied now actor (CloseSession session) reply.now
+        (record (table_of table.old) { signals = waiting.old.items })) }
     ensures charged_to { OnOk result (table.new.charged_to ≡ table.old.charged_to) }
     ensures begun { OnOk result (table.new.begun ≤ table.old.begun + 1) }
 {
@@ -126,9 +134,12 @@ fn activate(
     role: RoleId,
     reply: &Reply,
 ) -> Result<(), Memory>
-    requires answered { IsAnsweredAt edges.now.items caps.now.items (has status.now.set) now (table_of table.old) actor (IsActivate session role) reply.now }
+    requires answered { IsAnsweredAt edges.now.items caps.now.items (has status.now.set) now
+        (table_of table.old) actor (IsActivate session role) reply.now }
     requires hierarchy { IsHierarchy edges.now.items }
-    ensures table { OnOk result (record (table_of table.new) { signals = waiting.new.items } ≡ applied now actor (IsActivate session role) reply.now (record (table_of table.old) { signals = waiting.old.items })) }
+    ensures table { OnOk result (record (table_of table.new) { signals = waiting.new.items }
+        ≡ applied now actor (IsActivate session role) reply.now
+        (record (table_of table.old) { signals = waiting.old.items })) }
     ensures charged_to { OnOk result (table.new.charged_to ≡ table.old.charged_to) }
     ensures begun { OnOk result (table.new.begun ≤ table.old.begun + 1) }
 {
@@ -151,9 +162,13 @@ fn start(
     session: SessionId,
     role: RoleId,
 ) -> Result<Signal, Memory>
-    requires answered { (w : RoleWalk) × IsAnsweredAt edges.now.items caps.now.items (has status.now.set) now (table_of table.old) actor (IsActivate session role) (Active w) }
+    requires answered { (w : RoleWalk)
+        × IsAnsweredAt edges.now.items caps.now.items (has status.now.set) now
+        (table_of table.old) actor (IsActivate session role) (Active w) }
     requires hierarchy { IsHierarchy edges.now.items }
-    ensures table { IfOk result (λ x. (w : RoleWalk) → applied now actor (IsActivate session role) (Active w) (table_of table.old) ≡ record (table_of table.new) { signals = x ∷ [] }) }
+    ensures table { IfOk result (λ x. (w : RoleWalk)
+        → applied now actor (IsActivate session role) (Active w) (table_of table.old)
+        ≡ record (table_of table.new) { signals = x ∷ [] }) }
     ensures charged_to { OnOk result (table.new.charged_to ≡ table.old.charged_to) }
 {
     match table.activate(edges, caps, status, now, actor, session, role) {
@@ -174,7 +189,9 @@ fn deactivate(
     reply: &Reply,
 ) -> Result<(), Memory>
     requires { IsAnswered (table_of table.old) actor (IsDeactivate session role) reply.now }
-    ensures table { OnOk result (record (table_of table.new) { signals = waiting.new.items } ≡ applied now actor (IsDeactivate session role) reply.now (record (table_of table.old) { signals = waiting.old.items })) }
+    ensures table { OnOk result (record (table_of table.new) { signals = waiting.new.items }
+        ≡ applied now actor (IsDeactivate session role) reply.now
+        (record (table_of table.old) { signals = waiting.old.items })) }
     ensures charged_to { OnOk result (table.new.charged_to ≡ table.old.charged_to) }
     ensures begun { OnOk result (table.new.begun ≤ table.old.begun + 1) }
 {

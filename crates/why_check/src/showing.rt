@@ -1,4 +1,5 @@
-//! Whether the set that a certificate lists at an instant is closed and in an order that supports it.
+//! Whether the set that a certificate lists at an instant is closed and in an order that supports
+//! it.
 ghost use Rattle.std.specs.Prelude.{◌≡◌, ◌≤◌, ◌+◌, ◌&&◌, ◌||◌, not, [], length, IsTrue, ◌↔◌, IfOk, OnOk};
 ghost use Rattle.std.specs.List.{list_all, list_any};
 ghost use Rattle.std.specs.Ordering.{eq_by_cmp};
@@ -42,7 +43,9 @@ pub(crate) fn set_of_lists(
 /// Adds the events, into room that was made before.
 fn add_events(into: &mut Happened, events: &[Prioritised])
     requires { length events.now ≤ into.old.spare }
-    ensures events { (e : PrioritisedOf) → has into.new.set.events e ≡ (has into.old.set.events e || list_any (eq_by_cmp prioritised_cmp e) events.now) }
+    ensures events { (e : PrioritisedOf)
+        → has into.new.set.events e ≡ (has into.old.set.events e
+        || list_any (eq_by_cmp prioritised_cmp e) events.now) }
     ensures signals { into.new.set.signals ≡ into.old.set.signals }
 {
     for e in events {
@@ -54,15 +57,17 @@ fn add_events(into: &mut Happened, events: &[Prioritised])
 fn add_signals(into: &mut Happened, signals: &[Signal])
     requires { length signals.now ≤ into.old.spare }
     ensures events { into.new.set.events ≡ into.old.set.events }
-    ensures signals { (x : SignalOf) → has into.new.set.signals x ≡ (has into.old.set.signals x || list_any (eq_by_cmp signal_cmp x) signals.now) }
+    ensures signals { (x : SignalOf)
+        → has into.new.set.signals x
+        ≡ (has into.old.set.signals x || list_any (eq_by_cmp signal_cmp x) signals.now) }
 {
     for x in signals {
         into.add_signal(*x);
     }
 }
 
-/// Whether the set of the listing is closed over the base and the status before it, has the signals of the base, and is
-/// listed in an order that supports it.
+/// Whether the set of the listing is closed over the base and the status before it, has the signals
+/// of the base, and is listed in an order that supports it.
 pub(crate) fn is_shown(
     alloc: Global,
     rules: &[Trigger],
@@ -70,7 +75,8 @@ pub(crate) fn is_shown(
     before: &Status,
     listing: &Listing,
 ) -> Result<bool, Memory>
-    ensures { IfOk result (λ yes. IsTrue yes ↔ IsShown rules.now base.now.set (has before.now.set) listing.now) }
+    ensures { IfOk result (λ yes. IsTrue yes ↔ IsShown rules.now base.now.set
+        (has before.now.set) listing.now) }
 {
     let set = set_listed(alloc, listing)?;
     let x = Contest::new(alloc, &set)?;
@@ -94,7 +100,8 @@ fn is_shown_as(
     listing: &Listing,
 ) -> Result<bool, Memory>
     requires { x.now ≡ set_in listing.now }
-    ensures { IfOk result (λ yes. IsTrue yes ↔ IsShown rules.now base.now.set (has before.now.set) listing.now) }
+    ensures { IfOk result (λ yes. IsTrue yes ↔ IsShown rules.now base.now.set
+        (has before.now.set) listing.now) }
 {
     if !same_signals(x.set(), base) {
         return Ok(false);
@@ -130,14 +137,16 @@ fn is_closed(rules: &[Trigger], base: &Happened, before: &Status, x: &Contest) -
 
 /// Whether the set has the head of each immediate trigger that is met in it.
 fn has_heads(rules: &[Trigger], before: &Status, x: &Contest) -> bool
-    ensures { result ≡ list_all (λ r. not (immediate r && is_met r x.now (has before.now.set)) || has x.now.events r.head) rules.now }
+    ensures { result ≡ list_all (λ r. not (immediate r && is_met r x.now (has before.now.set))
+        || has x.now.events r.head) rules.now }
 {
     rules.iter().all(|r| has_head(r, before, x))
 }
 
 /// Whether the set has the head of the trigger, if that is immediate and met in it.
 fn has_head(r: &Trigger, before: &Status, x: &Contest) -> bool
-    ensures { result ≡ (not (immediate r.now && is_met r.now x.now (has before.now.set)) || has x.now.events r.now.head) }
+    ensures { result ≡ (not (immediate r.now && is_met r.now x.now (has before.now.set))
+        || has x.now.events r.now.head) }
 {
     !fires(r, x, before) || x.set().has(r.head)
 }
@@ -165,7 +174,8 @@ fn is_supported(
     x: &Contest,
     order: &[Prioritised],
 ) -> Result<bool, Memory>
-    ensures { IfOk result (λ yes. yes ≡ grounded_after rules.now base.now.set (has before.now.set) x.now [] order.now) }
+    ensures { IfOk result (λ yes. yes ≡ grounded_after rules.now base.now.set
+        (has before.now.set) x.now [] order.now) }
 {
     let mut standing = EventSet::new(alloc);
     standing.reserve(order.len())?;
@@ -181,7 +191,8 @@ fn is_supported(
 /// Adds the event, into room that was made before, where it is not blocked at its priority.
 fn note(standing: &mut EventSet, x: &Contest, e: &Prioritised)
     requires { 1 ≤ standing.old.spare }
-    ensures events { (f : EventOf) → has standing.new.set f ≡ ((same_event e.now.event f && not (is_blocked x.now e.now)) || has standing.old.set f) }
+    ensures events { (f : EventOf) → has standing.new.set f
+        ≡ ((same_event e.now.event f && not (is_blocked x.now e.now)) || has standing.old.set f) }
     ensures spare { standing.old.spare ≤ standing.new.spare + 1 }
 {
     if !blocked(x.set(), *e) {
@@ -189,8 +200,8 @@ fn note(standing: &mut EventSet, x: &Contest, e: &Prioritised)
     }
 }
 
-/// Whether the event is in the base, or the head of an immediate trigger that is met in the set and whose body events stand
-/// already.
+/// Whether the event is in the base, or the head of an immediate trigger that is met in the set and
+/// whose body events stand already.
 fn has_support(
     rules: &[Trigger],
     base: &Happened,
@@ -199,7 +210,10 @@ fn has_support(
     standing: &EventSet,
     e: &Prioritised,
 ) -> bool
-    ensures { result ≡ (has base.now.set.events e.now || list_any (λ r. immediate r && same_prioritised r.head e.now && is_met r x.now (has before.now.set) && list_all (has standing.now.set) r.events) rules.now) }
+    ensures { result ≡ (has base.now.set.events e.now
+        || list_any (λ r. immediate r && same_prioritised r.head e.now
+        && is_met r x.now (has before.now.set) && list_all (has standing.now.set) r.events)
+        rules.now) }
 {
     base.has(*e) || is_head(rules, before, x, standing, e)
 }
@@ -212,14 +226,18 @@ fn is_head(
     standing: &EventSet,
     e: &Prioritised,
 ) -> bool
-    ensures { result ≡ list_any (λ r. immediate r && same_prioritised r.head e.now && is_met r x.now (has before.now.set) && list_all (has standing.now.set) r.events) rules.now }
+    ensures { result ≡ list_any (λ r. immediate r && same_prioritised r.head e.now
+        && is_met r x.now (has before.now.set) && list_all (has standing.now.set) r.events)
+        rules.now }
 {
     rules.iter().any(|r| supports(r, before, x, standing, *e))
 }
 
 /// Whether the trigger supports the event.
 fn supports(r: &Trigger, before: &Status, x: &Contest, standing: &EventSet, e: Prioritised) -> bool
-    ensures { result ≡ (immediate r.now && same_prioritised r.now.head e && is_met r.now x.now (has before.now.set) && list_all (has standing.now.set) r.now.events) }
+    ensures { result ≡ (immediate r.now && same_prioritised r.now.head e
+        && is_met r.now x.now (has before.now.set)
+        && list_all (has standing.now.set) r.now.events) }
 {
     if r.delay != 0 || !r.head.cmp(&e).is_eq() {
         return false;
