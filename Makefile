@@ -1,6 +1,7 @@
 # make: builds the programs; make install [PREFIX=/usr/local]; make deb: a Debian package of them;
 # make test: the gate; make docs: what the documents show; make check-stop: that a stop keeps the log;
-# make check-views: that each reply of a viewer is that of a prefix of the log
+# make check-poll: that a thousand clients of one port are told what the log has;
+# make check-views: that each reply of a viewer is the model's after a prefix of the log
 PREFIX = /usr/local
 
 all:
@@ -21,7 +22,10 @@ docs:
 check-stop:
 	bin/check-stop
 
+check-poll:
+	bin/check-poll
+
 check-views:
 	bin/check-views
 
-.PHONY: all install deb test docs check-stop check-views
+.PHONY: all install deb test docs check-stop check-poll check-views

@@ -71,7 +71,7 @@ if [ -n "${beside:-}" ]; then
     kill "$beside"
     wait "$beside" || true
 else
-    echo 'redis: no redis-server is installed, so nothing stands beside'
+    echo 'redis: no redis-server is installed, so nothing stands beside (Debian: apt install redis-server redis-tools)'
 fi
 
 begin

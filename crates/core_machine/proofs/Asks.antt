@@ -50,7 +50,7 @@ use Rattle.core_machine.specs.Books.{Asks}
 use Rattle.core_machine.specs.Kept.{Kept, point_of}
 use Rattle.core_machine.specs.Steps.{IsStill, is_nobody, with_signals}
 use Rattle.core_machine.proofs.Growing.{named_more, none_at_birth, one_more, bases_stay}
-use Rattle.core_machine.proofs.Ticks.{follows_signals}
+use Rattle.core_machine.proofs.Closes.{follows_signals}
 
 -- somebody is not refused as nobody
 pub passes : (actor : Actor) (reply : Reply) → is_nobody actor ≡ false → unless (actor_causes actor) reply ≡ reply

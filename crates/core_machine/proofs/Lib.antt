@@ -1,11 +1,11 @@
 pub mod Growing
+pub mod Closes
 pub mod Ticks
 pub mod Asks
 pub mod Walks
 pub mod Sames
 pub mod Stepping
 pub mod Raising
-pub mod Hierarchies
 pub mod Stops
 pub mod Births
 pub mod Still

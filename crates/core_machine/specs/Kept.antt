@@ -20,6 +20,7 @@ use Rattle.gtrbac_model.specs.WholePolicy.{IsPolicy}
 use Rattle.instant_bases.specs.Timelines.{TimelineView}
 use Rattle.session_table.specs.Tables.{NotBefore, table_of}
 use Rattle.time_engine.specs.Histories.{Follows}
+use Rattle.time_engine.specs.Plans.{IsTimeline}
 use Rattle.time_engine.specs.Traces.{model_of}
 use Rattle.core_machine.specs.Books.{AreNamed, BookView, HasBases}
 use Rattle.core_machine.specs.declared.states.State.{State}
@@ -41,6 +42,18 @@ pub record Kept (p : Policy) (birth : ℕ) (h : List Entry) (v : TimelineView) (
   pub bases : HasBases p birth (model_of v.trace) h v.trace
   pub named : AreNamed p h
   pub short : length h ≤ max_steps
+
+-- timeline and table are abreast of a history: what each book keeps, and whatever goes on from a
+-- book over entries of its own
+pub record Abreast (p : Policy) (birth : ℕ) (h : List Entry) (v : TimelineView) (tb : Table)
+    : Type 0 where
+  pub line : IsTimeline v
+  pub legal : Legal p birth h (model_of v.trace)
+  pub follows : Follows p birth h (model_of v.trace) v
+  pub waiting : List Signal
+  pub table : record tb { signals = waiting } ≡ table_at p birth (model_of v.trace) h v.now
+  pub signals : v.now < last_minute → (x : Signal)
+      → list_any (eq_by_cmp signal_cmp x) waiting ≡ has v.signals x
 
 abbrev pub IsKept : State → Type 0
 IsKept s =

@@ -1,5 +1,5 @@
 -- A step of a walk ahead.
-use Rattle.std.proofs.Common.{◌≡◌, ℕ, suc, ◌+◌, ◌-◌, ◌<◌, ◌≤◌, Bool, true, false, not, ◌||◌, List, [], ◌∷◌, ◌++◌, Option, Some, is_some, is_none, inl, inr, refl, sym, ◌∙◌, ap, subst, arith}
+use Rattle.std.proofs.Common.{◌≡◌, ℕ, ◌+◌, ◌-◌, ◌*◌, ◌<◌, ◌≤◌, Bool, false, not, ◌||◌, List, [], ◌∷◌, ◌++◌, map, filter, count_by, Option, Some, is_none, inl, inr, refl, sym, ◌∙◌, ap, subst, arith}
 use Rattle.std.specs.List.{list_any}
 use Rattle.std.specs.Ordering.{eq_by_cmp}
 use Rattle.gt_base.specs.Bounds.{last_minute}
@@ -7,246 +7,171 @@ use Rattle.gt_base.specs.Machines.{ticked}
 use Rattle.gt_base.specs.Orders.{signal_cmp}
 use Rattle.gt_base.specs.Sets.{has}
 use Rattle.gt_base.specs.declared.events.Fluent.TheVariants.{Enabled}
+use Rattle.gt_base.specs.declared.events.RoleId.{RoleId}
+use Rattle.gt_base.specs.declared.events.UserId.{UserId}
 use Rattle.gt_base.specs.declared.events.Signal.{Signal}
 use Rattle.gt_base.specs.declared.requests.Entry.{Entry}
 use Rattle.gt_base.proofs.SetLaws.{has-none}
 use Rattle.gtrbac_model.specs.Policy.{Policy}
-use Rattle.gtrbac_model.specs.Base.{status, drops_at, table_at}
 use Rattle.gtrbac_model.specs.Calendar.{day_of}
 use Rattle.gtrbac_model.specs.Conflict.{Status}
-use Rattle.gtrbac_model.specs.Graph.{item_at}
 use Rattle.gtrbac_model.specs.Hierarchy.{activation_walk}
-use Rattle.gtrbac_model.specs.History.{Legal, IsNextStop, is_some_item, now_of}
-use Rattle.gtrbac_model.specs.Sessions.{Table, Activation, drops, close_minutes, caps_of, reached, is_dropped}
+use Rattle.gtrbac_model.specs.History.{IsNextStop, now_of}
+use Rattle.gtrbac_model.specs.Sessions.{Table, Activation, caps_of, reached, is_of, is_dropped, signal_of}
 use Rattle.gtrbac_model.specs.Status.{Model}
 use Rattle.gtrbac_model.specs.WholePolicy.{IsPolicy}
-use Rattle.gtrbac_model.proofs.Elements.{either_true, left_true, right_true}
-use Rattle.gtrbac_model.proofs.OneModel.{Agree, status_same, table_at_same}
-use Rattle.history_laws.specs.Activations.{IsInOrder}
 use Rattle.history_laws.specs.Pending.{NothingBetween}
-use Rattle.history_laws.specs.Tables.{EndNothing}
+use Rattle.history_laws.specs.Tables.{minutes_of_day}
 use Rattle.history_laws.specs.Ticking.{with_set}
-use Rattle.history_laws.proofs.Continuing.{tables_go_on}
-use Rattle.history_laws.proofs.InOrder.{active_in_order}
-use Rattle.history_laws.proofs.OnItsWay.{stretch_stays}
 use Rattle.history_laws.proofs.Reading.{Onward, legal_onward}
-use Rattle.instant_bases.specs.Timelines.{TimelineView, Signals, stirs_in}
-use Rattle.session_table.specs.NextDrops.{is_any_capped}
-use Rattle.session_table.specs.Stretches.{StandsFirm, StretchCloses}
-use Rattle.session_table.specs.Tables.{TableView, table_of, charged_through, dropped_at, closed_at, is_capped}
-use Rattle.session_table.proofs.Closing.{stretches_close, firm_ends_nothing}
-use Rattle.time_engine.specs.Histories.{Follows, SignalsFollow, ClosesLegally}
-use Rattle.time_engine.specs.Plans.{PlanView, Closes, IsPlan, IsAfter, IsTimeline}
-use Rattle.time_engine.specs.Traces.{model_of}
-use Rattle.time_engine.proofs.HistoryLaws.{quiet_more, more_before, close_is_legal, close_follows}
-use Rattle.time_engine.proofs.WaitingLaws.{table_later, waiting_follow}
+use Rattle.instant_bases.specs.Timelines.{ClosedSet, TimelineView, Signals, stirs_in}
+use Rattle.session_table.specs.Tables.{ForgetsDays, TableView, table_of, charged_through, closed_at, dropped_at}
+use Rattle.time_engine.specs.Plans.{PlanView, Closes, IsPlan, IsAfter, with_trace}
+use Rattle.time_engine.specs.Traces.{model_of, traced}
 use Rattle.policy_words.specs.Naming.{NamedPolicy}
 use Rattle.core_machine.specs.Books.{BookView}
 use Rattle.core_machine.specs.Steps.{moves, with_signals}
 use Rattle.core_machine.proofs.Asks.{signals_only, signals_told}
-use Rattle.core_machine.proofs.Growing.{both_false, not_none, some_pass, model_grows}
-use Rattle.core_machine.proofs.Ticks.{follows_signals}
+use Rattle.core_machine.proofs.Closes.{quiet, model_is, abreast_after}
 use Rattle.forecast.specs.Ahead.{nobody_asks}
-use Rattle.forecast.specs.Going.{Going, IsOnWay, StepsTo}
+use Rattle.forecast.specs.Going.{Going, IsOnWay, Steps, StepsTo}
 use Rattle.forecast.proofs.Horizons.{bases_stay}
 
-capped_drops : (off barred long spent : Bool) → (long || spent) ≡ true → (off || barred || long || spent) ≡ true
-capped_drops true true true spent e = refl
-capped_drops true true false spent e = refl
-capped_drops true false true spent e = refl
-capped_drops true false false spent e = refl
-capped_drops false true true spent e = refl
-capped_drops false true false spent e = refl
-capped_drops false false true spent e = refl
-capped_drops false false false spent e = e
-
 module _ (p : Policy) (is : IsPolicy p) (birth : ℕ) (h : List Entry) (v : TimelineView) (tb : Table) (charged : Option ℕ) (k : Going p birth h v tb charged)
-    (line : IsTimeline v) (upto : ℕ) (within : upto ≤ last_minute) (plan : PlanView) (plans : IsPlan p v plan) (stop : IsNextStop (moves p v tb) v.now upto plan.at) where
-  abbrev g : List Entry
-  g = k.gone
+    (upto : ℕ) (within : upto ≤ last_minute) (plan : PlanView) (plans : IsPlan p v plan) (stop : IsNextStop (moves p v tb) v.now upto plan.at) (w : TimelineView) (after : IsAfter v plan w) where
+  -- the timeline with its trace, before the close and after it
+  abbrev u : TimelineView
+  u = with_trace v k.sets
 
-  abbrev m : Model
-  m = model_of v.trace
+  abbrev sets : List ClosedSet
+  sets = k.sets ++ traced plan.at plan.base plan.set
 
-  abbrev n : Model
-  n = with_set m (now_of birth g) plan.at plan.set
+  abbrev z : TimelineView
+  z = with_trace w sets
 
   abbrev e : Entry
   e = ticked nobody_asks upto plan.at
 
-  -- the table with the signals that wait
+  abbrev n : Model
+  n = with_set (model_of k.sets) (now_of birth k.gone) plan.at plan.set
+
+  plans_u : IsPlan p u plan
+  plans_u = record { base = plans.base; settled = plans.settled; only = plans.only; status = plans.status; joining = plans.joining }
+
+  -- the table with all charges
   abbrev full : Table
-  full = record tb { signals = k.waiting }
+  full = record tb { charged = k.charges }
 
-  born : birth ≤ v.now
-  born = omega (arith, line.born, k.follows.born)
+  day_up : (a b : ℕ) → a ≤ b → day_of a ≤ day_of b
+  day_up a b le = omega (arith, le)
 
-  agree : Agree p birth m n v.now
-  agree u a b = more_before m (now_of birth g) plan.at plan.set u (omega (arith, b, k.follows.now))
+  moves_alike : (t : ℕ) → v.now < t → moves p v tb t ≡ moves p u full t
+  moves_alike t lt = λ i.
+      stirs_in p v t
+      || list_any (λ (a : Activation).
+      reached (caps_of p.caps a.role).length (t - a.begun)
+      || reached (caps_of p.caps a.role).day (k.kept a.user a.role (day_of t) (day_up v.now t (omega (arith, lt))) i + minutes_of_day v.now (t - v.now) (day_of t) * count_by (is_of a.user a.role) tb.active)) tb.active
 
-  quiet : NothingBetween n v.now plan.at
-  quiet = quiet_more birth g m v plan.at plan.set k.follows.now
-
-  full_is : full ≡ table_at p birth n g v.now
-  full_is = k.table ∙ table_at_same p birth m n v.now g agree
-
-  in_order : (i : ℕ) (a : Activation) → item_at tb.active i ≡ Some a → IsInOrder p (status p birth m v.now) (table_at p birth m g v.now) a
-  in_order i a at = active_in_order p birth g m k.legal v.now born a (i, subst (λ as'. item_at as' i ≡ Some a) (ap (λ (t : Table). t.active) k.table) at)
-
-  -- before the stop the status stays
-  still : (j : ℕ) → v.now + suc j < plan.at → status p birth n (v.now + suc j) ≡ status p birth m v.now
-  still j lt =
-      (stretch_stays p birth n v.now (suc j) born (λ u a b. quiet u a (omega (arith, b, lt)))).0
-      ∙ sym (status_same p birth m n v.now v.now agree (omega arith))
-
-  firm : (j : ℕ) → j < plan.at - v.now - 1 → StandsFirm p.edges p.caps (status p birth n) v.now full (v.now + suc j)
-  firm j lt =
-      let low : v.now + suc j < plan.at = omega (arith, lt) in
-      record {
-        on = λ i a at. ap (λ (s : Status). s (Enabled a.role)) (still j low) ∙ (in_order i a at).role_is_on;
-        allowed = λ i a at. not_none _ (ap (λ (s : Status). is_some (activation_walk p.edges s a.user a.role)) (still j low) ∙ (in_order i a at).may_activate);
-        uncapped = (both_false (stirs_in p v (v.now + suc j)) (is_any_capped p.caps v.now tb (v.now + suc j)) (stop.none_before (v.now + suc j) (omega arith) low)).1;
-      }
-
-  ends_nothing : EndNothing p.edges p.caps (status p birth n) v.now (plan.at - v.now - 1) full
-  ends_nothing = firm_ends_nothing p.edges p.caps (status p birth n) v.now (plan.at - v.now - 1) full firm
-
-  stretch : StretchCloses p.edges p.caps (status p birth n) v.now plan.at full
-  stretch = stretches_close p.edges p.caps (status p birth n) v.now plan.at full stop.later ends_nothing
-
-  onward : Onward birth g
-  onward = legal_onward p birth m [] g k.legal.steps
-
-  later_is : (t : ℕ) → v.now ≤ t → table_at p birth n g t ≡ close_minutes p.edges p.caps (status p birth n) v.now (t - v.now) full
-  later_is t le =
-      subst (λ x. x ≤ t → table_at p birth n g t ≡ close_minutes p.edges p.caps (status p birth n) x (t - x) (table_at p birth n g x)) (sym k.follows.now) (table_later p birth g n onward t) le
-      ∙ ap (close_minutes p.edges p.caps (status p birth n) v.now (t - v.now)) (sym full_is)
-
-  none_dropped : (t : ℕ) → v.now < t → t < plan.at → drops_at p birth n g t ≡ []
-  none_dropped t a b =
-      let j : ℕ = t - 1 - v.now in
-      let at : v.now + suc j ≡ t = omega (arith, a) in
-      ap (λ tb. drops p.edges p.caps (status p birth n t) t tb) (later_is (t - 1) (omega (arith, a)))
-      ∙ subst (λ u. drops p.edges p.caps (status p birth n u) u (close_minutes p.edges p.caps (status p birth n) v.now j full) ≡ []) at (ends_nothing j (omega (arith, a, b)))
-
-  dropped : drops_at p birth n g plan.at ≡ dropped_at p.edges p.caps (status p birth n plan.at) v.now plan.at tb
-  dropped =
-      let k : plan.at - 1 - v.now ≡ plan.at - v.now - 1 = omega arith in
-      ap (λ tb. drops p.edges p.caps (status p birth n plan.at) plan.at tb) (later_is (plan.at - 1) (omega (arith, stop.later)) ∙ ap (λ j. close_minutes p.edges p.caps (status p birth n) v.now j full) k)
-      ∙ stretch.drops
-
-  capped_is_dropped : is_any_capped p.caps v.now tb plan.at ≡ true → is_some_item (drops_at p birth n g plan.at) ≡ true
-  capped_is_dropped capped =
-      let all : Table = charged_through v.now plan.at tb in
-      let s : Status = status p birth n plan.at in
-      ap is_some_item dropped
-      ∙ some_pass (is_capped p.caps v.now tb plan.at) (is_dropped p.edges p.caps s plan.at all) tb.active
-      (λ a c. capped_drops (not (s (Enabled a.role))) (is_none (activation_walk p.edges s a.user a.role)) (reached (caps_of p.caps a.role).length (plan.at - a.begun)) (reached (caps_of p.caps a.role).day (all.charged a.user a.role (day_of plan.at))) c)
-      capped
-
-  stops : IsNextStop (λ t. stirs_in p v t || is_some_item (drops_at p birth n g t)) v.now upto plan.at
-  stops = record {
+  stop_u : IsNextStop (moves p u full) u.now upto plan.at
+  stop_u = record {
     later = stop.later;
     bounded = stop.bounded;
-    none_before = λ t a b. (λ i. (both_false (stirs_in p v t) (is_any_capped p.caps v.now tb t) (stop.none_before t a b)).0 i || is_some_item (none_dropped t a b i));
+    none_before = λ t a b. sym (moves_alike t a) ∙ stop.none_before t a b;
     stop = elim stop.stop [
-      | inl y ↦ inl (elim (either_true (stirs_in p v plan.at) (is_any_capped p.caps v.now tb plan.at) y) [
-        | inl s ↦ left_true (stirs_in p v plan.at) (is_some_item (drops_at p birth n g plan.at)) s
-        | inr c ↦ right_true (stirs_in p v plan.at) (is_some_item (drops_at p birth n g plan.at)) (capped_is_dropped c)
-      ])
-      | inr at ↦ inr at
+      | inl y ↦ inl (sym (moves_alike plan.at stop.later) ∙ y)
+      | inr e ↦ inr e
     ];
   }
 
-  in_time : plan.at ≤ last_minute
-  in_time = omega (arith, stop.bounded, within)
+  after_z : IsAfter u plan z
+  after_z = record { periods = after.periods; birth = after.birth; now = after.now; status = after.status; since = after.since; trace = refl; pending = after.pending; signals = after.signals }
 
-  signals : SignalsFollow p birth n g v plan.at
-  signals =
-      waiting_follow p birth g m n v plan.at k.legal k.follows.now
-      (λ x. ap (λ (t : Table). list_any (eq_by_cmp signal_cmp x) t.signals) (sym full_is) ∙ k.signals (omega (arith, stop.later, in_time)) x)
-      (subst (λ j. EndNothing p.edges p.caps (status p birth n) v.now j (table_at p birth n g v.now)) (omega arith)
-      (subst (λ (t : Table). EndNothing p.edges p.caps (status p birth n) v.now (plan.at - v.now - 1) t) full_is ends_nothing))
+  still : NothingBetween n v.now plan.at
+  still = quiet p is birth k.gone u full k.abreast nobody_asks upto within plan plans_u stop_u
 
-  closes : ClosesLegally p birth g n plan nobody_asks upto
-  closes = close_is_legal p is birth g m v plan nobody_asks upto k.legal line k.follows plans in_time signals stops
+  grown : n ≡ model_of sets
+  grown = model_is p is birth k.gone u full k.abreast nobody_asks upto within plan plans_u stop_u z after_z
 
-  module _ (w : TimelineView) (after : IsAfter v plan w) where
-    follows_w : Follows p birth (g ++ e ∷ []) n w
-    follows_w = close_follows p is birth g m v w plan nobody_asks upto line k.follows plans stop.later after
+  onward : Onward birth k.gone
+  onward = legal_onward p birth (model_of k.sets) [] k.gone k.abreast.legal.steps
 
-    status_to : status p birth n plan.at ≡ has plan.status
-    status_to = λ i f. (ap (λ u. status p birth n u f) (sym after.now) ∙ sym (follows_w.status f) ∙ ap (λ s. has s f) after.status) i
+  module _ (mid tb' : Table) (told : List Signal) (closed : record mid { signals = told } ≡ closed_at p.edges p.caps (has plan.status) v.now plan.at tb) (forgot : ForgetsDays (day_of plan.at) mid tb') where
+    abbrev s : Status
+    s = has plan.status
 
-    table_to : table_at p birth n (g ++ e ∷ []) plan.at ≡ closed_at p.edges p.caps (has plan.status) v.now plan.at tb
-    table_to =
-        (tables_go_on p birth n g).ticks nobody_asks upto plan.at closes.legal
-        ∙ ap (λ x. close_minutes p.edges p.caps (status p birth n) x (plan.at - x) (table_at p birth n g x)) (sym k.follows.now)
-        ∙ ap (close_minutes p.edges p.caps (status p birth n) v.now (plan.at - v.now)) (sym full_is)
-        ∙ stretch.closes
-        ∙ ap (λ s. closed_at p.edges p.caps s v.now plan.at tb) status_to
+    unfinished : day_of v.now ≤ day_of plan.at
+    unfinished = day_up v.now plan.at (omega (arith, stop.later))
 
-    model_is : n ≡ model_of w.trace
-    model_is =
-        ap (λ now. with_set m now plan.at plan.set) (sym k.follows.now)
-        ∙ model_grows v.trace v.now plan.at plan.base plan.set stop.later line.ends
-        ∙ ap model_of (sym after.trace)
+    dropped_alike : (a : Activation) → is_dropped p.edges p.caps s plan.at (charged_through v.now plan.at tb) a ≡ is_dropped p.edges p.caps s plan.at (charged_through v.now plan.at full) a
+    dropped_alike a = λ i.
+        not (s (Enabled a.role))
+        || is_none (activation_walk p.edges s a.user a.role)
+        || reached (caps_of p.caps a.role).length (plan.at - a.begun)
+        || reached (caps_of p.caps a.role).day (k.kept a.user a.role (day_of plan.at) unfinished i + minutes_of_day v.now (plan.at - v.now) (day_of plan.at) * count_by (is_of a.user a.role) tb.active)
 
-    module _ (tb' : Table) (told : List Signal) (closed : record tb' { signals = told } ≡ closed_at p.edges p.caps (has plan.status) v.now plan.at tb) where
-      waits : plan.at < last_minute → (x : Signal) → list_any (eq_by_cmp signal_cmp x) told ≡ has (with_signals w told).signals x
-      waits lt x =
-          let any : Bool = list_any (eq_by_cmp signal_cmp x) told in
-          sym (signals_told w told (omega (arith, lt, after.now)) x
-          ∙ ap (λ (sg : Signals). has sg x || any) after.signals
-          ∙ ap (λ b. b || any) (has-none signal_cmp x))
+    closed_full : record tb' { charged = (charged_through v.now plan.at full).charged; signals = told } ≡ closed_at p.edges p.caps s v.now plan.at full
+    closed_full =
+        let sessions : tb'.sessions ≡ tb.sessions = forgot.sessions ∙ ap (λ (t : Table). t.sessions) closed in
+        let active : tb'.active ≡ filter (λ (a : Activation). not (is_dropped p.edges p.caps s plan.at (charged_through v.now plan.at full) a)) tb.active =
+        forgot.active ∙ ap (λ (t : Table). t.active) closed ∙ (λ i. filter (λ (a : Activation). not (dropped_alike a i)) tb.active) in
+        let begun : tb'.begun ≡ tb.begun = forgot.begun ∙ ap (λ (t : Table). t.begun) closed in
+        let signals : told ≡ map (signal_of false) (dropped_at p.edges p.caps s v.now plan.at full) =
+        ap (λ (t : Table). t.signals) closed ∙ (λ i. map (signal_of false) (filter (λ (a : Activation). dropped_alike a i) tb.active)) in
+        λ i. record { sessions = sessions i; active = active i; charged = (charged_through v.now plan.at full).charged; begun = begun i; signals = signals i }
 
-      -- the walk after the step
-      pub goes : Going p birth h (with_signals w told) tb' (Some plan.at)
-      goes =
-          let sg : Signals = (with_signals w told).signals in
-          subst (λ (x : TimelineView). Going p birth h x tb' (Some plan.at)) (sym (signals_only w told))
-          (record {
-            gone = g ++ e ∷ [];
-            legal = subst (Legal p birth (g ++ e ∷ [])) model_is closes.legal;
-            follows = follows_signals p birth (g ++ e ∷ []) (model_of w.trace) w sg (subst (λ q. Follows p birth (g ++ e ∷ []) q w) model_is follows_w);
-            bases = λ q t. bases_stay p birth g onward nobody_asks upto plan.at (omega (arith, stop.later, k.follows.now)) q t ∙ k.bases q t;
-            waiting = told;
-            table = closed ∙ sym table_to ∙ (λ i. table_at p birth (model_is i) (g ++ e ∷ []) (sym after.now i));
-            signals = λ lt x. waits (omega (arith, lt, after.now)) x;
+    kept : (u : UserId) (r : RoleId) (d : ℕ) → day_of plan.at ≤ d → tb'.charged u r d ≡ (charged_through v.now plan.at full).charged u r d
+    kept u r d le =
+        forgot.charged u r d le
+        ∙ ap (λ (t : Table). t.charged u r d) closed
+        ∙ ap (λ n. n + minutes_of_day v.now (plan.at - v.now) d * count_by (is_of u r) tb.active) (k.kept u r d (omega (arith, le, unfinished)))
+
+    abbrev bare : TimelineView
+    bare = with_trace w []
+
+    abbrev sg : Signals
+    sg = (with_signals bare told).signals
+
+    waits : plan.at < last_minute → (x : Signal) → list_any (eq_by_cmp signal_cmp x) told ≡ has sg x
+    waits lt x =
+        let any : Bool = list_any (eq_by_cmp signal_cmp x) told in
+        sym (signals_told bare told (omega (arith, lt, after.now)) x
+        ∙ ap (λ (s : Signals). has s x || any) after.signals
+        ∙ ap (λ b. b || any) (has-none signal_cmp x))
+
+    -- the walk after the step, whose timeline keeps no trace
+    pub goes : Steps p birth h v (with_signals bare told) tb' (Some plan.at) upto
+    goes =
+        subst (λ (x : TimelineView). Steps p birth h v x tb' (Some plan.at) upto) (sym (signals_only bare told))
+        (record {
+          way = record {
+            gone = k.gone ++ e ∷ [];
+            sets = sets;
+            charges = (charged_through v.now plan.at full).charged;
+            abreast = abreast_after p is birth k.gone u full k.abreast nobody_asks upto within plan plans_u stop_u z after_z sg (record tb' { charged = (charged_through v.now plan.at full).charged }) told closed_full waits;
+            kept = λ u r d le. kept u r d (omega (arith, le, after.now));
+            bases = λ q t. bases_stay p birth k.gone onward nobody_asks upto plan.at (omega (arith, stop.later, k.abreast.follows.now)) q t ∙ k.bases q t;
             charged = omega (arith, after.now);
-          })
+          };
+          later = omega (arith, after.now, stop.later);
+          bounded = omega (arith, after.now, stop.bounded);
+          quiet = λ t a b. ap (λ (q : Model). q t) (sym grown) ∙ still t a (omega (arith, b, after.now));
+        })
 
-      pub goes_on : StepsTo v (with_signals w told) upto
-      goes_on =
-          subst (λ (x : TimelineView). StepsTo v x upto) (sym (signals_only w told))
-          (record {
-            later = omega (arith, after.now, stop.later);
-            bounded = omega (arith, after.now, stop.bounded);
-            quiet = λ u a b. ap (λ (q : Model). q u) (sym model_is) ∙ quiet u a (omega (arith, b, after.now));
-          })
-
--- a close of the timeline to the next stop with the close of the table, whose signals the timeline gets
-pub record Stepped (b : BookView) (v x : TimelineView) (tw : TableView) (upto : ℕ) : Type 0 where
-  pub way : IsOnWay b x tw
-  pub step : StepsTo v x upto
-
-pub stepped : (b : BookView) (np : NamedPolicy) → np ≡ b.named → IsPolicy np.policy → (v w x : TimelineView) (tv tw : TableView) → IsOnWay b v tv → IsTimeline v
+-- a close of the timeline to the next stop, the close of the table, whose signals the timeline gets, and trace and charges forgotten
+pub stepped : (b : BookView) (np : NamedPolicy) → np ≡ b.named → IsPolicy np.policy → (v w x : TimelineView) (tv mid tw : TableView) → IsOnWay b v tv
     → (upto to : ℕ) → upto ≤ last_minute → IsNextStop (moves np.policy v (table_of tv)) v.now upto to → Closes np.policy v to w
-    → (told : List Signal) → record (table_of tw) { signals = told } ≡ closed_at np.policy.edges np.policy.caps (has w.status) v.now to (table_of tv) → tw.charged_to ≡ Some to
-    → x ≡ with_signals w told → Stepped b v x tw upto
-stepped b np same is v w x tv tw k line upto to within stop closing told closed charged signalled =
+    → (told : List Signal) → record (table_of mid) { signals = told } ≡ closed_at np.policy.edges np.policy.caps (has w.status) v.now to (table_of tv) → ForgetsDays (day_of to) (table_of mid) (table_of tw)
+    → tw.charged_to ≡ Some to
+    → x ≡ with_signals (with_trace w []) told → StepsTo b v x tw upto
+stepped b np same is v w x tv mid tw k upto to within stop closing told closed forgot charged signalled =
     let p : Policy = np.policy in
     let plan : PlanView = closing.plan in
     let k' : Going p b.birth b.entries v (table_of tv) tv.charged_to = subst (λ (q : NamedPolicy). Going q.policy b.birth b.entries v (table_of tv) tv.charged_to) (sym same) k in
     let stop' : IsNextStop (moves p v (table_of tv)) v.now upto plan.at = subst (λ (t : ℕ). IsNextStop (moves p v (table_of tv)) v.now upto t) (sym closing.at) stop in
-    let closed' : record (table_of tw) { signals = told } ≡ closed_at p.edges p.caps (has plan.status) v.now plan.at (table_of tv) =
+    let closed' : record (table_of mid) { signals = told } ≡ closed_at p.edges p.caps (has plan.status) v.now plan.at (table_of tv) =
     closed ∙ (λ i. closed_at p.edges p.caps (has (closing.after.status i)) v.now (sym closing.at i) (table_of tv)) in
-    let gone : Going p b.birth b.entries (with_signals w told) (table_of tw) (Some plan.at) =
-    goes p is b.birth b.entries v (table_of tv) tv.charged_to k' line upto within plan closing.is_plan stop' w closing.after (table_of tw) told closed' in
-    record {
-      way = subst (λ (q : NamedPolicy). Going q.policy b.birth b.entries x (table_of tw) tw.charged_to) same
-          (subst (λ (y : TimelineView). Going p b.birth b.entries y (table_of tw) tw.charged_to) (sym signalled)
-          (subst (λ (o : Option ℕ). Going p b.birth b.entries (with_signals w told) (table_of tw) o) (ap (λ (t : ℕ). Some t) closing.at ∙ sym charged) gone));
-      step = subst (λ (y : TimelineView). StepsTo v y upto) (sym signalled)
-          (goes_on p is b.birth b.entries v (table_of tv) tv.charged_to k' line upto within plan closing.is_plan stop' w closing.after (table_of tw) told closed');
-    }
+    let gone : Steps p b.birth b.entries v (with_signals (with_trace w []) told) (table_of tw) (Some plan.at) upto =
+    goes p is b.birth b.entries v (table_of tv) tv.charged_to k' upto within plan closing.is_plan stop' w closing.after (table_of mid) (table_of tw) told closed' (subst (λ (t : ℕ). ForgetsDays (day_of t) (table_of mid) (table_of tw)) (sym closing.at) forgot) in
+    subst (λ (q : NamedPolicy). Steps q.policy b.birth b.entries v x (table_of tw) tw.charged_to upto) same
+    (subst (λ (y : TimelineView). Steps p b.birth b.entries v y (table_of tw) tw.charged_to upto) (sym signalled)
+    (subst (λ (o : Option ℕ). Steps p b.birth b.entries v (with_signals (with_trace w []) told) (table_of tw) o upto) (ap (λ (t : ℕ). Some t) closing.at ∙ sym charged) gone))

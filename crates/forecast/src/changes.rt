@@ -33,7 +33,9 @@ pub fn first_change(book: &Book, f: Fluent, upto: Instant) -> Result<Option<Chan
     if !is_raised(book, f) {
         return Ok(None);
     }
-    let mut line = book.timeline().copied()?;
+    let timeline = book.timeline();
+    timeline.keeps();
+    let mut line = timeline.copied_without_trace()?;
     let mut table = book.sessions().copied()?;
     walk(book, &mut line, &mut table, f, upto)
 }

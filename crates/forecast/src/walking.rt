@@ -14,7 +14,7 @@ use session_table::Sessions;
 use time_engine::{Ground, Timeline};
 
 /// Goes on to the least instant after now and up to the horizon at which something is raised or a cap ends an activation, or to
-/// the horizon.
+/// the horizon. The trace and the charges of past days are let go.
 pub(crate) fn go_on(
     book: &Book,
     line: &mut Timeline,
@@ -23,10 +23,8 @@ pub(crate) fn go_on(
 ) -> Result<(), Memory>
     requires way { IsOnWay book.now line.old.line table.old }
     requires later { line.old.line.now < upto }
-    ensures way { OnOk result (IsOnWay book.now line.new.line table.new) }
-    ensures step { OnOk result (StepsTo line.old.line line.new.line upto) }
+    ensures { OnOk result (StepsTo book.now line.old.line line.new.line table.new upto) }
 {
-    line.keeps();
     let _bound = upto.minute();
     let now = line.now();
     let ground = book.ground();
@@ -34,7 +32,9 @@ pub(crate) fn go_on(
     policy.keeps();
     let to = stop(ground, line, table, upto);
     line.close(ground, to)?;
+    line.forget_trace();
     let signals = table.end_instants(policy.edges(), policy.caps(), now, to, line.status())?;
+    table.forget_days_before(to);
     line.reserve(signals.len())?;
     add_signals(line, signals.as_slice());
     Ok(())

@@ -69,6 +69,19 @@ fn a_drop_signals_a_minute_later(rt: HostRuntime) -> Result<(), Fail> {
     Ok(())
 }
 
+const SPENT: &[u8] =
+    b"role a\nrole d\nrole x\nuser u\nperiod hour * * all.Hours\ncap day d 1000\nenabled d\nenabled x\nassigned u d\neach hour 50:enable a\nwhen deactivate u d then 50:disable x\n";
+
+// 719 minutes are charged on the first day, which the walk forgets, and 1,000 on the next
+#[test]
+fn a_day_is_spent_on_the_next_one(rt: HostRuntime) -> Result<(), Fail> {
+    let mut book = born(rt.alloc(), SPENT, NOON)?;
+    ask(&mut book, b"as u", b"open")?;
+    ask(&mut book, b"as u", b"activate 1 d")?;
+    assert!(rt; ahead(&book, NOON + 2 * DAY, b"status enabled x")? == Some((NOON + 1_720, false)));
+    Ok(())
+}
+
 #[test]
 fn a_queued_event_lies_ahead(rt: HostRuntime) -> Result<(), Fail> {
     let mut book = born(rt.alloc(), b"role a\n", NOON)?;

@@ -1,5 +1,5 @@
 -- What a text that was found, and a text that was written, say of a status.
-use Rattle.std.proofs.Common.{◌≡◌, ◌≢◌, ◌⊎◌, ℕ, Bool, true, false, List, Option, Some, None, inl, inr, refl, sym, ap, subst, ◌∙◌, eq-eqb}
+use Rattle.std.proofs.Common.{◌≡◌, ◌⊎◌, ℕ, Bool, true, false, List, Option, Some, None, inl, inr, refl, sym, ap, subst, ◌∙◌, eq-eqb, eqb-true}
 use Rattle.std.specs.Prelude.{◌==◌, if◌then◌else◌, Result, Ok, Err, IfOk, IfSome, IsSomeAnd}
 use Rattle.gt_io.specs.Causes.{Rose}
 use Rattle.gt_io.specs.Shelf.{Contents}
@@ -7,9 +7,8 @@ use Rattle.policy_commands.specs.Admitting.{IsAdmitted}
 use Rattle.policy_commands.specs.declared.judging.Admitted.{Admitted}
 use Rattle.policy_commands.specs.declared.judging.Admitted.TheVariants.{Safe, Ended}
 use Rattle.policy_commands.specs.Ends.{Told}
-use Rattle.gtrbac_daemon.specs.Ends.{IsLongPolicy}
-use Rattle.gtrbac_daemon.specs.Words.{HasText}
-use Rattle.gtrbac_daemon.specs.Causes.{IsFailure}
+use Rattle.policy_commands.specs.Finding.{IsLongPolicy}
+use Rattle.gtrbac_daemon.specs.Words.{HasText, IsFailure, IsSteadyFor}
 use Rattle.gtrbac_daemon.specs.Daemon.{or_failed, IsWritten}
 
 -- a number is not two
@@ -19,14 +18,18 @@ apart s m n d a b = let t : (m == n) ≡ true = eq-eqb m n (sym a ∙ b) in let 
 pub status_in : (t u : Told) → t ≡ u → t.status ≡ u.status
 status_in t u e = ap (λ (x : Told). x.status) e
 
-failed_by : (c : Bool) (due : ℕ) → (due == 8) ≡ c → (or_failed due ≡ 8) ⊎ (or_failed due ≡ 5)
-failed_by true due e = inl (ap (λ (b : Bool). if b then 8 else 5) e)
+failed_by : (c : Bool) (due : ℕ) → (due == 8) ≡ c → (or_failed due ≡ due) ⊎ (or_failed due ≡ 5)
+failed_by true due e = inl (ap (λ (b : Bool). if b then 8 else 5) e ∙ sym (eqb-true due 8 e))
 failed_by false due e = inr (ap (λ (b : Bool). if b then 8 else 5) e)
 
-pub written_says : (due : ℕ) (text : List ℕ) (s : ℕ) (old new : Option (List ℕ)) (before now : ℕ) → IsWritten due text s old new before now → (s ≡ due) ⊎ ((s ≡ 5) × Rose before now) ⊎ (s ≡ 8)
+pub written_says : (due : ℕ) (text : List ℕ) (s : ℕ) (old new : Option (List ℕ)) (before now : ℕ) → IsWritten due text s old new before now → (s ≡ due) ⊎ ((s ≡ 5) × Rose before now)
 written_says due text s old new before now (inl h) = inl h.0
-written_says due text s old new before now (inr (inl h)) = elim (failed_by (due == 8) due refl) [ inl e ↦ inr (inr (h.0 ∙ e)) | inr e ↦ inr (inl (h.0 ∙ e, h.1)) ]
-written_says due text s old new before now (inr (inr h)) = inr (inr h.0)
+written_says due text s old new before now (inr h) = elim (failed_by (due == 8) due refl) [ inl e ↦ inl (h.0 ∙ e) | inr e ↦ inr (h.0 ∙ e, h.1) ]
+
+-- want of memory is told also where the output failed
+pub eight_says : (due : ℕ) (text : List ℕ) (s : ℕ) (old new : Option (List ℕ)) (before now : ℕ) → IsWritten due text s old new before now → due ≡ 8 → s ≡ 8
+eight_says due text s old new before now (inl h) e = h.0 ∙ e
+eight_says due text s old new before now (inr h) e = h.0 ∙ ap or_failed e
 
 -- the text of a name, where the shelf tells it
 pub text_told : (n : List ℕ) (o : Contents) (text : List ℕ) (Holds : List ℕ → Type 0) → IfSome o (λ text_of. text_of n ≡ Some text) → Holds text → HasText (Some n) o Holds
@@ -48,3 +51,12 @@ judged_fine text holds (Ended end) h = λ is. elim h.cause [ inl c ↦ absurd (a
 pub admitted_fine : {E : Type 0} (text : List ℕ) (holds : Type 0) (r : Result Admitted E) → IfOk r (IsAdmitted text) → IfOk r (IsFailure holds)
 admitted_fine text holds (Ok x) h = judged_fine text holds x h
 admitted_fine text holds (Err e) h = tt
+
+-- what holds at all holds of each policy that was judged
+judged_steady : (holds : Type 0) → holds → (x : Admitted) → IsSteadyFor holds x
+judged_steady holds h (Safe np) = h
+judged_steady holds h (Ended end) = inr h
+
+pub admitted_steady : {E : Type 0} (holds : Type 0) → holds → (r : Result Admitted E) → IfOk r (IsSteadyFor holds)
+admitted_steady holds h (Ok x) = judged_steady holds h x
+admitted_steady holds h (Err e) = tt

@@ -1,6 +1,6 @@
 -- What the status of a crew says of its workers.
-use Rattle.std.proofs.Common.{◌≡◌, ◌⊎◌, ℕ, ◌+◌, Bool, true, false, List, [], ◌∷◌, inl, inr, refl, sym, ap, ◌∙◌, map, eq-eqb, Option}
-use Rattle.std.specs.Prelude.{◌==◌, ◌||◌}
+use Rattle.std.proofs.Common.{◌≡◌, ◌⊎◌, ℕ, ◌+◌, Bool, true, false, List, [], ◌∷◌, inl, inr, refl, sym, ap, ◌∙◌, map, Option}
+use Rattle.std.specs.Prelude.{◌||◌}
 use Rattle.std.specs.List.{list_any}
 use Rattle.gt_base.specs.declared.requests.Entry.{Entry}
 use Rattle.gt_io.specs.Causes.{Rose}
@@ -11,7 +11,7 @@ use Rattle.line_server.specs.declared.ended.WorkEnd.{WorkEnd}
 use Rattle.line_server.specs.declared.ended.WorkEnd.TheVariants.{Fresh, Done, DoorFault, Enough, Worn, Memory}
 use Rattle.line_server.specs.declared.workers.Worker.{Worker}
 use Rattle.line_server.specs.Working.{WorksTo}
-use Rattle.gtrbac_daemon.specs.Crew.{Crewman, crewman, crewmen, is_memory, is_door_fault, is_spent, status_by, status_of, status_among, ends_of, SomeOf, EachOf, HasFailed, IsSpent, IsUnharmed, IsDone, IsSound}
+use Rattle.gtrbac_daemon.specs.Crew.{Crewman, crewman, crewmen, is_memory, is_door_fault, is_spent, status_by, status_of, status_among, ends_of, SomeOf, EachOf, HasFailed, LacksMemory, IsSpent, IsUnharmed, IsDone, IsSound}
 use Rattle.gtrbac_daemon.specs.Headline.{HaveWorked}
 
 both_off : (a b : Bool) → (a || b) ≡ false → (a ≡ false) × (b ≡ false)
@@ -41,6 +41,14 @@ same_status {D} {C} {G} {L} readings links faults ws =
     let one : (p : WorkEnd → Bool) → list_any p (ends_of (crewmen readings links faults ws)) ≡ list_any (λ (w : Worker D C G L). p w.outcome) ws =
     λ p. any_map p (λ (k : Crewman L). k.outcome) (crewmen readings links faults ws) ∙ any_map (λ (k : Crewman L). p k.outcome) (crewman readings links faults) ws in
     λ i. status_by (sym (one is_memory) i) (sym (one is_door_fault) i) (sym (one is_spent) i)
+
+memory_one : (end : WorkEnd) → is_memory end ≡ true → end ≡ Memory
+memory_one Fresh m = absurd (cc m)
+memory_one Done m = absurd (cc m)
+memory_one DoorFault m = absurd (cc m)
+memory_one Enough m = absurd (cc m)
+memory_one (Worn n) m = absurd (cc m)
+memory_one Memory m = refl
 
 module _ {L : Type 0} (links : Option (List L)) (f f' draws : ℕ) (served : List (Served L)) where
   done_one : (end : WorkEnd) → WorksTo links f f' draws served end → is_memory end ≡ false → is_door_fault end ≡ false → is_spent end ≡ false → end ≡ Done
@@ -88,6 +96,13 @@ module _ {L : Type 0} (traffic : L → Traffic) (np : NamedPolicy) (birth : ℕ)
         | inl one ↦ inl (failed_one k.door j.faults k.faults all.0.draws k.served k.outcome all.0.cause one)
         | inr more ↦ inr (failed_some (w + 1) js ks all.1 more)
       ]
+
+  pub memory_some : (w : ℕ) (js ks : List (Crewman L)) → HaveWorked traffic np birth h w js ks → list_any is_memory (ends_of ks) ≡ true → SomeOf LacksMemory js ks
+  memory_some w [] [] all m = absurd (cc m)
+  memory_some w [] (k ∷ ks) all m = absurd all
+  memory_some w (j ∷ js) [] all m = absurd all
+  memory_some w (j ∷ js) (k ∷ ks) all m =
+      elim (one_on (is_memory k.outcome) (list_any is_memory (ends_of ks)) m) [ inl one ↦ inl (memory_one k.outcome one) | inr more ↦ inr (memory_some (w + 1) js ks all.1 more) ]
 
   pub spent_some : (w : ℕ) (js ks : List (Crewman L)) → HaveWorked traffic np birth h w js ks → list_any is_spent (ends_of ks) ≡ true → SomeOf IsSpent js ks
   spent_some w [] [] all p = absurd (cc p)

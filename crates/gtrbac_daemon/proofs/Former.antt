@@ -1,15 +1,15 @@
 -- What the contract of `daemon` said clause by clause, from the one relation that it has now.
-use Rattle.std.proofs.Common.{◌≡◌, ◌⊎◌, ℕ, ◌≤◌, Bool, true, false, List, [], ◌∷◌, length, Option, Some, None, inl, inr, refl, sym, ap, subst}
-use Rattle.std.specs.Prelude.{◌==◌, ⊤, Result, Ok, IfSome, IsSomeAnd}
+use Rattle.std.proofs.Common.{◌≡◌, ◌⊎◌, ℕ, ◌≤◌, Bool, true, false, List, [], ◌∷◌, length, Option, Some, None, inl, inr, refl, sym, subst}
+use Rattle.std.specs.Prelude.{◌==◌, ⊤, Ok, IfSome, IsSomeAnd}
 use Rattle.gt_io.specs.Causes.{Rose}
 use Rattle.gt_io.specs.Links.{Traffic, Reads}
 use Rattle.gt_io.specs.Shelf.{Contents, Lacks}
 use Rattle.policy_words.specs.Naming.{NamedPolicy}
 use Rattle.policy_commands.specs.Policies.{safe_in, HasFault, IsUnsafeText}
-use Rattle.gtrbac_daemon.specs.Ends.{max_policy, IsLongPolicy}
+use Rattle.policy_commands.specs.Finding.{max_policy, IsLongPolicy}
 use Rattle.gtrbac_daemon.specs.Words.{policy_named, Admits, HasText, LacksText}
 use Rattle.gtrbac_daemon.specs.Crew.{SomeOf, EachOf, HasFailed, IsSpent, IsUnharmed, IsDone, IsSound}
-use Rattle.gtrbac_daemon.specs.Daemon.{Scene, HasServed, Starves, IsKept, IsWell, Answers, served, kept, starved, Cause, done as is_done, no_command, faulty, unsafe, unread, unwritten, long as is_long, memory, failed as has_failed, spent as is_spent_cause, RunsServer}
+use Rattle.gtrbac_daemon.specs.Daemon.{Scene, HasServed, Starves, IsKept, Answers, served, kept, starved, Cause, done as is_done, no_command, faulty, unsafe, unread, unwritten, long as is_long, memory, failed as has_failed, spent as is_spent_cause, RunsServer}
 
 -- the text that the words name is on the shelf, and this holds of it
 pub record IsNamed (words : List (List ℕ)) (text_of : List ℕ → Option (List ℕ)) (Holds : List ℕ → Type 0) : Type 0 where
@@ -88,7 +88,7 @@ module _ {L : Type 0} (traffic : L → Traffic) (words : List (List ℕ)) (s : �
   told_of (unread e h f) = told_at 4 e (elim h [ inl x ↦ inl x | inr x ↦ inr (missing_by words (policy_named words) refl a.texts x) ], f)
   told_of (unwritten e h) = told_at 5 e h
   told_of (is_long e h) = told_at 6 e (told_by words a.texts IsLongPolicy h)
-  told_of (memory e) = told_at 8 e tt
+  told_of (memory e h) = told_at 8 e tt
   told_of (has_failed e h) = told_at 10 e h
   told_of (is_spent_cause e h f) = told_at 11 e (h, f)
 
@@ -99,7 +99,7 @@ module _ {L : Type 0} (traffic : L → Traffic) (words : List (List ℕ)) (s : �
       × ((birth : ℕ) × Reads a.birth b.birth (birth ∷ []) × (HasServed traffic np birth s a b ⊎ Starves s a b)))
       ⊎ IsKept (policy_named words) s a b
       ⊎ (Starves s a b × (b.birth ≡ a.birth))
-  answered (served np admits x) = inl (np, admits, (x.birth, x.reads, x.ends))
+  answered (served np admits steady x) = inl (np, admits, (x.birth, x.reads, x.ends))
   answered (kept k) = inr (inl k)
   answered (starved k clock) = inr (inr (k, clock))
 

@@ -5,9 +5,15 @@ pub mod Dues
 pub mod Running
 pub mod Former
 pub mod Written
+pub mod Paging
 pub mod Told
 pub mod Posted
 pub mod Found
 pub mod Served
 pub mod Polled
 pub mod Telling
+pub mod ViewStatus
+pub mod ViewTelling
+pub mod ViewWriting
+pub mod ViewSeats
+pub mod ViewServed

@@ -1,9 +1,9 @@
 -- What one pass leaves that has served ports.
-use Rattle.std.proofs.Common.{◌≡◌, ℕ, ◌+◌, ◌*◌, ◌<◌, ◌≤◌, List, [], ◌∷◌, ◌++◌, length, refl, sym, ap, subst, ◌∙◌, arith, length-append, inl, inr, Option, Some, None}
+use Rattle.std.proofs.Common.{◌≡◌, ◌⊎◌, ℕ, ◌+◌, ◌*◌, ◌≤◌, List, [], ◌∷◌, ◌++◌, length, refl, sym, ap, subst, ◌∙◌, arith, length-append, inl, inr, Option}
 use Rattle.gt_base.specs.declared.requests.Entry.{Entry}
 use Rattle.gt_io.specs.Ports.{Harbour}
-use Rattle.turn_lock.specs.Turns.{Each, part}
-use Rattle.turn_lock.specs.Holders.{Site, Holder, Lock, site_of, newcomer, newcomers, HasNumber, AreIdle, IsTold}
+use Rattle.turn_lock.specs.Turns.{part}
+use Rattle.turn_lock.specs.Holders.{Holder, Lock, site_of, newcomer, IsTold}
 use Rattle.connection_laws.specs.Turns.{IsIdle}
 use Rattle.policy_words.specs.Naming.{NamedPolicy}
 use Rattle.poll_front.specs.declared.ends.Polled.{Polled}
@@ -24,7 +24,7 @@ use Rattle.std.specs.Io.KnownBytes.{Keeps}
 use Rattle.std.proofs.KnownBytes.{Keeps-refl}
 use Rattle.gt_io.specs.Causes.{Rose}
 use Rattle.policy_commands.specs.Ends.{Told}
-use Rattle.gtrbac_daemon.specs.Ends.{IsPrinted}
+use Rattle.policy_commands.specs.Printing.{IsPrinted}
 use Rattle.gtrbac_daemon.specs.Words.{Refuses, Admits}
 use Rattle.gtrbac_daemon.specs.Polls.{HasPolled, PollHeadline, PollScene, PollServes, PollAnswers}
 
@@ -93,16 +93,16 @@ module _ (clock clock' : Option (ℕ → ℕ)) (start now : Harbour) (ends : Lis
       (subst (λ (t : ℕ). PollHeadline b.named t clock clock' start now ends b.entries end) at (headline_at b (subst (λ (p : NamedPolicy). IsSafe p.policy.triggers) (sym to) safe) book only polled' others))
 
 module _ (s : ℕ) (a b : PollScene) where
-  pub poll_kept : (name : Option (List ℕ)) (t : Told) → Refuses (Rose a.shelf_faults b.shelf_faults) a.texts name t
-      → IsPrinted s t a.written b.written a.faults b.faults → b.birth ≡ a.birth → b.ports ≡ a.ports → b.ends ≡ a.ends
+  pub poll_kept : (name : Option (List ℕ)) (t : Told) → Refuses (Rose a.hard_faults b.hard_faults) a.texts name t → (t.status ≡ 4 → Rose a.shelf_faults b.shelf_faults) → (t.status ≡ 4) ⊎ (b.hard_faults ≡ a.hard_faults)
+      → IsPrinted s t a.written b.written a.faults b.faults → b.birth ≡ a.birth → b.clock ≡ a.clock → b.ports ≡ a.ports → b.ends ≡ a.ends
       → PollAnswers name s a b
-  poll_kept name t cause printed birth ports ends =
-      record { runs = inr (inl (record { told = t; cause = cause; printed = printed; birth = birth; ports = ports; ends = ends })) }
+  poll_kept name t cause failed steady printed birth clock ports ends =
+      record { runs = inr (inl (record { told = t; cause = cause; failed = failed; steady = steady; printed = printed; birth = birth; clock = clock; ports = ports; ends = ends })) }
 
-  pub poll_served : (name : Option (List ℕ)) (np : NamedPolicy) → Admits a.texts name np → PollServes np s a b → PollAnswers name s a b
-  poll_served name np admits serves = record { runs = inl (np, admits, serves) }
+  pub poll_served : (name : Option (List ℕ)) (np : NamedPolicy) → Admits a.texts name np → b.hard_faults ≡ a.hard_faults → PollServes np s a b → PollAnswers name s a b
+  poll_served name np admits steady serves = record { runs = inl (np, admits, steady, serves) }
 
-  pub poll_starved : (name : Option (List ℕ)) → s ≡ 8 → b.written ≡ a.written → b.faults ≡ a.faults → b.ports ≡ a.ports → b.ends ≡ a.ends → b.birth ≡ a.birth → PollAnswers name s a b
-  poll_starved name eight written faults ports ends birth =
+  pub poll_starved : (name : Option (List ℕ)) → s ≡ 8 → b.written ≡ a.written → b.faults ≡ a.faults → b.clock ≡ a.clock → b.ports ≡ a.ports → b.ends ≡ a.ends → b.birth ≡ a.birth → PollAnswers name s a b
+  poll_starved name eight written faults clock ports ends birth =
       let keeps : Keeps a.written b.written = subst (λ (w : Option (List ℕ)). Keeps a.written w) (sym written) (Keeps-refl a.written) in
-      record { runs = inr (inr (record { nothing = (eight, keeps, faults); ports = ports; ends = ends }, birth)) }
+      record { runs = inr (inr (record { nothing = (eight, keeps, faults); clock = clock; ports = ports; ends = ends }, birth)) }

@@ -1,12 +1,12 @@
 -- From the posts of a crew, in their reversed order, to what the crew has served.
-use Rattle.std.proofs.Common.{◌≡◌, ◌⊎◌, ℕ, zero, suc, ◌+◌, ◌<◌, ◌≤◌, List, [], ◌∷◌, ◌++◌, map, reverse, length, drop, get_or, refl, sym, ap, subst, ◌∙◌, arith, Option, None}
+use Rattle.std.proofs.Common.{◌≡◌, ℕ, zero, suc, ◌+◌, ◌<◌, List, [], ◌∷◌, ◌++◌, reverse, length, drop, get_or, refl, sym, ap, subst, ◌∙◌, arith, Option, None}
 use Rattle.std.specs.Prelude.{All}
 use mathlib.Core.List.{reverse-cons, map-append}
 use Rattle.gt_base.specs.declared.requests.Entry.{Entry}
 use Rattle.gt_io.specs.Links.{Traffic}
 use Rattle.turn_lock.specs.Turns.{Each}
-use Rattle.turn_lock.specs.Holders.{Site, Lock, Holder, site_of, newcomer, newcomers, HasNumber, AreIdle, IsTold}
-use Rattle.turn_lock.proofs.PassLists.{each_reverse, each_unreverse, numbers, has_same}
+use Rattle.turn_lock.specs.Holders.{Site, Lock, Holder, newcomer, newcomers, HasNumber, AreIdle, IsTold}
+use Rattle.turn_lock.proofs.PassLists.{each_unreverse, numbers, has_same}
 use Rattle.policy_words.specs.Naming.{NamedPolicy}
 use Rattle.connection_laws.specs.Connection.{IsTimed}
 use Rattle.connection_laws.specs.Services.{service}

@@ -1,5 +1,5 @@
 -- A run of the server, over words that name a policy and over those that are no command.
-use Rattle.std.proofs.Common.{◌≡◌, ◌⊎◌, ℕ, zero, suc, ◌<◌, ◌≤◌, List, [], ◌∷◌, length, Option, Some, None, inl, inr, refl, sym, ap, subst, ◌∙◌, arith}
+use Rattle.std.proofs.Common.{◌≡◌, ◌⊎◌, ℕ, suc, ◌≤◌, List, [], ◌∷◌, length, Option, Some, None, inl, inr, refl, sym, ap, subst, arith}
 use Rattle.std.specs.Prelude.{All}
 use Rattle.std.specs.Io.KnownBytes.{Keeps}
 use Rattle.std.proofs.KnownBytes.{Keeps-refl}
@@ -8,8 +8,8 @@ use Rattle.gt_io.specs.Links.{Traffic}
 use Rattle.turn_lock.specs.Turns.{Each}
 use Rattle.policy_commands.specs.Ends.{Told}
 use Rattle.line_server.specs.declared.workers.Worker.{Worker}
-use Rattle.gtrbac_daemon.specs.Ends.{usage, IsPrinted}
-use Rattle.gtrbac_daemon.specs.Words.{policy_named, Refuses}
+use Rattle.policy_commands.specs.Printing.{IsPrinted}
+use Rattle.gtrbac_daemon.specs.Words.{usage, policy_named, Refuses}
 use Rattle.gtrbac_daemon.specs.Crew.{Crewman, crewmen, IsNew}
 use Rattle.gtrbac_daemon.specs.Daemon.{Scene, Answers, kept, starved, IsToldAs, RunsServer}
 use Rattle.gtrbac_daemon.proofs.Reasons.{cause_of}
@@ -26,9 +26,9 @@ module _ {D C G L : Type 0} (readings : C → Option (ℕ → ℕ)) (links : D �
   some_crew ws some = subst (λ (n : ℕ). 1 ≤ n) (sym (as_long readings links faults ws)) some
 
 module _ {L : Type 0} (traffic : L → Traffic) where
-  pub kept_by : (name : Option (List ℕ)) (s : ℕ) (a b : Scene L) (t : Told) → Refuses (Rose a.hard_faults b.hard_faults) a.texts name t
+  pub kept_by : (name : Option (List ℕ)) (s : ℕ) (a b : Scene L) (t : Told) → Refuses (Rose a.hard_faults b.hard_faults) a.texts name t → (t.status ≡ 4) ⊎ (b.hard_faults ≡ a.hard_faults)
       → IsPrinted s t a.written b.written a.faults b.faults → b.birth ≡ a.birth → b.crew ≡ a.crew → Answers traffic name s a b
-  kept_by name s a b t cause printed birth crew = kept (record { told = t; cause = cause; printed = printed; birth = birth; crew = crew })
+  kept_by name s a b t cause steady printed birth crew = kept (record { told = t; cause = cause; steady = steady; printed = printed; birth = birth; crew = crew })
 
   pub starved_by : (name : Option (List ℕ)) (s : ℕ) (a b : Scene L) → s ≡ 8 → b.written ≡ a.written → b.faults ≡ a.faults → b.crew ≡ a.crew → b.birth ≡ a.birth → Answers traffic name s a b
   starved_by name s a b eight written faults crew birth =
@@ -56,6 +56,6 @@ module _ {L : Type 0} (traffic : L → Traffic) where
         → b ≡ record a { written = b.written; faults = b.faults } → RunsServer traffic words s a b
     runs_unnamed e printed texts birth crew same =
         let told : IsToldAs (policy_named words) s a b 1 = elim printed [ inl p ↦ inl p.0 | inr p ↦ inr (p.0, p.1) ] in
-        let answers : Answers traffic None s a b = kept_by None s a b usage refl printed birth crew in
+        let answers : Answers traffic None s a b = kept_by None s a b usage refl (inr (ap (λ (x : Scene L). x.hard_faults) same)) printed birth crew in
         runs (subst (λ (m : Option (List ℕ)). Answers traffic m s a b) e answers)
         (λ is. absurd (elim told [ inl one ↦ apart s 1 4 refl one is | inr five ↦ apart s 5 4 refl five.0 is ])) (λ n. told) texts (λ n. same)

@@ -1,11 +1,6 @@
 -- What a service comes to.
-use Rattle.std.proofs.Common.{◌≡◌, ◌⊎◌, ℕ, suc, ◌≤◌, List, [], ◌∷◌, length, map, Option, Some, None, inl, inr, refl, sym, ap, subst, ◌∙◌}
-use Rattle.std.specs.Io.KnownBytes.{Keeps}
-use Rattle.std.proofs.KnownBytes.{Keeps-refl}
-use Rattle.gt_base.specs.declared.requests.Entry.{Entry}
-use Rattle.gt_io.specs.Causes.{Rose}
-use Rattle.gt_io.specs.Links.{Traffic, Reads}
-use Rattle.gt_io.specs.Shelf.{Contents}
+use Rattle.std.proofs.Common.{◌≡◌, ℕ, suc, ◌≤◌, List, [], ◌∷◌, length, Option, refl, sym, ap, subst, ◌∙◌}
+use Rattle.gt_io.specs.Links.{Traffic}
 use Rattle.gtrbac_model.specs.Safety.{IsSafe}
 use Rattle.gtrbac_model.proofs.Levels.{by_trigger}
 use Rattle.gtrbac_model.proofs.Playing.{levels_give_one_model}
@@ -14,12 +9,9 @@ use Rattle.gtrbac_model.specs.Policy.{Policy}
 use Rattle.walk_laws.proofs.Climbing.{safe_is_levelled}
 use Rattle.turn_lock.specs.Turns.{part}
 use Rattle.policy_words.specs.Naming.{NamedPolicy}
-use Rattle.policy_commands.specs.Ends.{Told}
 use Rattle.core_machine.specs.Books.{BookView, SameRoot, IsBook, HasOnlyModel, model_in}
 use Rattle.request_text.specs.Replies.{log_text}
 use Rattle.line_server.specs.declared.workers.Worker.{Worker}
-use Rattle.gtrbac_daemon.specs.Ends.{IsPrinted, WantsMemory}
-use Rattle.gtrbac_daemon.specs.Words.{policy_named, Refuses, Admits}
 use Rattle.gtrbac_daemon.specs.Crew.{Crewman, crewmen, status_of, ends_of}
 use Rattle.gtrbac_daemon.specs.Headline.{HaveWorked, Headline}
 use Rattle.gtrbac_daemon.specs.Daemon.{Scene, IsWritten, HasServed}
@@ -27,12 +19,6 @@ use Rattle.gtrbac_daemon.specs.Daemon.{Scene, IsWritten, HasServed}
 pub as_long : {D C G L : Type 0} (readings : C → Option (ℕ → ℕ)) (links : D → Option (List L)) (faults : D → ℕ) (ws : List (Worker D C G L)) → length (crewmen readings links faults ws) ≡ length ws
 as_long readings links faults [] = refl
 as_long readings links faults (w ∷ ws) = ap suc (as_long readings links faults ws)
-
--- the log of the book b, which is l
-pub written_of : (due s : ℕ) (slice text : List ℕ) (p : NamedPolicy) (t : ℕ) (es : List Entry) (b l : BookView) (old new : Option (List ℕ)) (before now : ℕ) → slice ≡ text → text ≡ log_text p t es → p ≡ b.named → t ≡ b.birth
-    → es ≡ b.entries → b ≡ l → IsWritten due slice s old new before now → IsWritten due (log_text l.named l.birth l.entries) s old new before now
-written_of due s slice text p t es b l old new before now e is named born entries same written =
-    subst (λ (x : List ℕ). IsWritten due x s old new before now) (e ∙ is ∙ (λ i. log_text (named i) (born i) (entries i)) ∙ ap (λ (c : BookView). log_text c.named c.birth c.entries) same) written
 
 one_model : (p : Policy) → IsSafe p.triggers → HasOneModel p
 one_model p safe = let levels = safe_is_levelled p.triggers safe in levels_give_one_model p levels.0 (by_trigger p.triggers levels.0 levels.1)

@@ -1,25 +1,22 @@
 -- What the status of a run over ports tells.
-use Rattle.std.proofs.Common.{◌≡◌, ◌⊎◌, ℕ, ◌<◌, ◌≤◌, Bool, true, false, List, [], length, Option, Some, None, inl, inr, refl, sym, ap, subst, ◌∙◌, arith, slice_get}
-use Rattle.std.specs.Prelude.{Result, Ok, Err, IfSome, IsSomeAnd}
-use Rattle.gt_base.specs.declared.requests.Entry.{Entry}
+use Rattle.std.proofs.Common.{◌≡◌, ◌⊎◌, ℕ, ◌<◌, true, false, List, [], Option, Some, None, inl, inr, refl, sym, ap, subst, ◌∙◌, arith, slice_get}
+use Rattle.std.specs.Prelude.{Result, Ok, Err}
 use Rattle.gt_io.specs.Causes.{Rose}
-use Rattle.gt_io.specs.declared.source.Failed.{Failed}
 use Rattle.gt_io.specs.declared.port.PortEvent.{PortEvent}
 use Rattle.gt_io.specs.declared.port.PortEvent.TheVariants.{Opened, Ready, Stop}
-use Rattle.gt_io.specs.Shelf.{Contents, Lacks}
 use Rattle.gt_io.specs.Ports.{Harbour, IsUncalled}
 use Rattle.policy_words.specs.Naming.{NamedPolicy}
 use Rattle.policy_commands.specs.Ends.{Told}
-use Rattle.policy_commands.specs.Policies.{safe_in, HasFault, IsUnsafeText}
+use Rattle.policy_commands.specs.Policies.{HasFault, IsUnsafeText}
 use Rattle.poll_front.specs.declared.ends.Polled.{Polled}
 use Rattle.poll_front.specs.declared.front.RunEnd.{RunEnd}
 use Rattle.poll_front.specs.declared.front.RunEnd.TheVariants.{Stopped, PortFault, Enough, Worn, Memory}
-use Rattle.poll_front.specs.Tables.{RunsTo, most_links, is_worn_end, AreUnwornEnds}
-use Rattle.gtrbac_daemon.specs.Ends.{usage, max_policy, IsLongPolicy, IsPrinted}
-use Rattle.gtrbac_daemon.specs.Words.{poll_named, Refuses, RefusesText, Admits, HasText, LacksText}
-use Rattle.gtrbac_daemon.specs.Daemon.{IsWritten}
-use Rattle.gtrbac_daemon.specs.Polls.{poll_status, PollScene, PollStarves, PollHasServed, PollServes, PollIsKept, PollAnswers, HasStopped, HasFailedToTell, IsUsedUp, PollCause, stopped, no_command, faulty, unsafe, unread, unwritten, long, memory, failed, used_up, IsDue, PollDues, RunsPoll}
-use Rattle.gtrbac_daemon.proofs.Causing.{status_in, written_says, text_told, long_told}
+use Rattle.poll_front.specs.Tables.{RunsTo, most_links, AreUnwornEnds}
+use Rattle.policy_commands.specs.Finding.{IsLongPolicy}
+use Rattle.policy_commands.specs.Printing.{IsPrinted}
+use Rattle.gtrbac_daemon.specs.Words.{usage, poll_named, Refuses, HasText, LacksText}
+use Rattle.gtrbac_daemon.specs.Polls.{poll_status, PollScene, PollHasServed, PollLacksMemory, PollServes, PollAnswers, HasStopped, HasFailedToTell, IsUsedUp, PollCause, stopped, no_command, faulty, unsafe, unread, unwritten, long, memory, failed, used_up, IsToldAs, IsDue, PollDues, RunsPoll}
+use Rattle.gtrbac_daemon.proofs.Causing.{status_in, written_says, eight_says, text_told, long_told}
 use Rattle.gtrbac_daemon.proofs.Polled.{poll_kept}
 
 -- the same answer of `next` is not two
@@ -43,54 +40,51 @@ module _ (b : PollScene) (few : b.ports.opened < most_links) (calm : AreUnwornEn
 
 module _ (name : Option (List ℕ)) (s : ℕ) (a b : PollScene) where
   abbrev Hard : Type 0
-  Hard = Rose a.shelf_faults b.shelf_faults
+  Hard = Rose a.hard_faults b.hard_faults
 
-  refused_by : (m : Option (List ℕ)) → m ≡ name → (t : Told) → Refuses Hard a.texts m t → s ≡ t.status → PollCause name s a b
-  refused_by None e t c is = no_command (is ∙ status_in t _ c) (sym e)
-  refused_by (Some n) e t (inl c) is =
-      unread (is ∙ status_in t _ c.0) (elim c.1 [ inl r ↦ inl r | inr l ↦ inr (subst (λ (m : Option (List ℕ)). LacksText m a.texts) e l) ])
-  refused_by (Some n) e t (inr (inl c)) is =
+  refused_by : (m : Option (List ℕ)) → m ≡ name → (t : Told) → Refuses Hard a.texts m t → (t.status ≡ 4 → Rose a.shelf_faults b.shelf_faults) → s ≡ t.status → PollCause name s a b
+  refused_by None e t c rose is = no_command (is ∙ status_in t _ c) (sym e)
+  refused_by (Some n) e t (inl (inl c)) rose is =
+      unread (is ∙ status_in t _ c.0) (elim c.1 [ inl r ↦ inl r | inr l ↦ inr (subst (λ (m : Option (List ℕ)). LacksText m a.texts) e l) ]) (rose (status_in t _ c.0))
+  refused_by (Some n) e t (inl (inr c)) rose is =
       long (is ∙ status_in t _ c.0) (subst (λ (m : Option (List ℕ)). HasText m a.texts IsLongPolicy) e (long_told n a.texts c.1))
-  refused_by (Some n) e t (inr (inr c)) is =
+  refused_by (Some n) e t (inr c) rose is =
       elim c.2.cause [
         | inl f ↦ faulty (is ∙ f.0) (subst (λ (m : Option (List ℕ)). HasText m a.texts HasFault) e (text_told n a.texts c.0 HasFault c.1.found f.1))
         | inr u ↦ unsafe (is ∙ u.0) (subst (λ (m : Option (List ℕ)). HasText m a.texts IsUnsafeText) e (text_told n a.texts c.0 IsUnsafeText c.1.found u.1))
       ]
 
-  of_end : (draws : ℕ) (end : RunEnd) → RunsTo a.ports b.ports draws b.ends end → s ≡ poll_status end → PollCause name s a b
-  of_end draws Stopped r is = stopped is r.0 r.1 r.2
-  of_end draws PortFault r is = failed is r.0 r.1
-  of_end draws Enough r is = used_up is (inl r.1)
-  of_end draws Worn r is = used_up is (inr r.2)
-  of_end draws Memory r is = memory is
+  of_end : (draws : ℕ) (end : RunEnd) → RunsTo a.ports b.ports draws b.ends end → s ≡ poll_status end → (end ≡ Memory → PollLacksMemory s a b) → PollCause name s a b
+  of_end draws Stopped r is lacks = stopped is r.0 r.1 r.2
+  of_end draws PortFault r is lacks = failed is r.0 r.1
+  of_end draws Enough r is lacks = used_up is (inl r.1)
+  of_end draws Worn r is lacks = used_up is (inr r.2)
+  of_end draws Memory r is lacks = memory is (inl (lacks refl))
 
   of_served : (np : NamedPolicy) (birth : ℕ) → PollHasServed np birth s a b → PollCause name s a b
   of_served np birth k =
       elim (written_says (poll_status k.end) _ s a.written b.written a.faults b.faults k.written) [
-        | inl due ↦ of_end k.headline.polled.draws k.end k.headline.polled.runs due
-        | inr (inl f) ↦ unwritten f.0 f.1
-        | inr (inr e) ↦ memory e
+        | inl due ↦ of_end k.headline.polled.draws k.end k.headline.polled.runs due (λ e. (np, (birth, (k, e))))
+        | inr f ↦ unwritten f.0 f.1
       ]
 
   of_serving : (np : NamedPolicy) → PollServes np s a b → PollCause name s a b
-  of_serving np x = elim x.ends [ inl k ↦ of_served np x.birth k | inr k ↦ memory k.nothing.0 ]
+  of_serving np x = elim x.ends [ inl k ↦ of_served np x.birth k | inr k ↦ memory k.nothing.0 (inr k) ]
 
   pub cause_of : PollAnswers name s a b → PollCause name s a b
   cause_of answers =
       elim answers.runs [
-        | inl x ↦ of_serving x.0 x.2
-        | inr (inl k) ↦ elim k.printed [ inl p ↦ refused_by name refl k.told k.cause p.0 | inr p ↦ unwritten p.0 p.1 ]
-        | inr (inr x) ↦ memory x.0.nothing.0
+        | inl x ↦ of_serving x.0 x.3
+        | inr (inl k) ↦ elim k.printed [ inl p ↦ refused_by name refl k.told k.cause k.failed p.0 | inr p ↦ unwritten p.0 p.1 ]
+        | inr (inr x) ↦ memory x.0.nothing.0 (inr x.0)
       ]
 
   -- how a served run is due, by how it ended
   due_by : (n : ℕ) (np : NamedPolicy) (birth : ℕ) (k : PollHasServed np birth s a b) → (poll_status k.end ≡ n) ⊎ (k.end ≡ Memory) → IsDue name s a b n
-  due_by n np birth k end =
-      elim (written_says (poll_status k.end) _ s a.written b.written a.faults b.faults k.written) [
-        | inl due ↦ elim end [ inl e ↦ inl (due ∙ e) | inr e ↦ inr (inr (due ∙ ap poll_status e)) ]
-        | inr (inl f) ↦ inr (inl f)
-        | inr (inr e) ↦ inr (inr e)
-      ]
+  due_by n np birth k (inl e) =
+      elim (written_says (poll_status k.end) _ s a.written b.written a.faults b.faults k.written) [ inl due ↦ inl (inl (due ∙ e)) | inr f ↦ inl (inr f) ]
+  due_by n np birth k (inr e) =
+      inr (eight_says (poll_status k.end) _ s a.written b.written a.faults b.faults k.written (ap poll_status e), (np, (birth, (k, e))))
 
   stops_by : (draws : ℕ) (end : RunEnd) → RunsTo a.ports b.ports draws b.ends end → HasStopped b → (poll_status end ≡ 0) ⊎ (end ≡ Memory)
   stops_by draws Stopped r h = inl refl
@@ -133,7 +127,7 @@ module _ (name : Option (List ℕ)) (s : ℕ) (a b : PollScene) where
           ]
 
       due : PollAnswers name s a b → IsDue name s a b n
-      due answers = elim answers.runs [ inl x ↦ due_serving x.0 x.2 | inr (inl k) ↦ absurd (idle k.ports k.ends h) | inr (inr x) ↦ absurd (idle x.0.ports x.0.ends h) ]
+      due answers = elim answers.runs [ inl x ↦ due_serving x.0 x.3 | inr (inl k) ↦ absurd (idle k.ports k.ends h) | inr (inr x) ↦ absurd (idle x.0.ports x.0.ends h) ]
 
     idle_stop : b.ports ≡ a.ports → b.ends ≡ a.ends → HasStopped b → ⊥
     idle_stop same ends h = none_apart b.ports.told (Ok Stop) (still same) h
@@ -141,21 +135,10 @@ module _ (name : Option (List ℕ)) (s : ℕ) (a b : PollScene) where
     idle_fault : b.ports ≡ a.ports → b.ends ≡ a.ends → HasFailedToTell b → ⊥
     idle_fault same ends h = none_apart b.ports.told (Err h.0) (still same) h.1
 
-    unnamed : name ≡ None → PollAnswers name s a b → IsDue name s a b 1
-    unnamed e answers =
-        let nobody : (np : NamedPolicy) → Admits a.texts name np → ⊥ = λ np x. subst (λ (m : Option (List ℕ)). Admits a.texts m np) e x in
-        elim answers.runs [
-          | inl x ↦ absurd (nobody x.0 x.1)
-          | inr (inl k) ↦
-              let u : k.told ≡ usage = subst (λ (m : Option (List ℕ)). Refuses Hard a.texts m k.told) e k.cause in
-              elim k.printed [ inl p ↦ inl (p.0 ∙ status_in k.told usage u) | inr p ↦ inr (inl (p.0, p.1)) ]
-          | inr (inr x) ↦ inr (inr x.0.nothing.0)
-        ]
-
-    pub dues_of : PollAnswers name s a b → PollDues name s a b
-    dues_of answers =
+    pub dues_of : (name ≡ None → IsToldAs name s a b 1) → PollAnswers name s a b → PollDues name s a b
+    dues_of told answers =
         record {
-          no_command_is = λ e. unnamed e answers;
+          no_command_is = told;
           stopped_is = λ h. due 0 (HasStopped b) idle_stop stops_by h answers;
           failed_is = λ h. due 10 (HasFailedToTell b) idle_fault fails_by h answers;
           used_up_is = λ h. due 11 (IsUsedUp b) still_fresh uses_by h answers;
@@ -163,7 +146,7 @@ module _ (name : Option (List ℕ)) (s : ℕ) (a b : PollScene) where
 
     pub complete_of : PollAnswers name s a b → HasStopped b → (Rose a.faults b.faults → ⊥) → (s ≡ 0) ⊎ (s ≡ 8)
     complete_of answers stop fine =
-        elim ((dues_of answers).stopped_is stop) [ inl zero_is ↦ inl zero_is | inr (inl f) ↦ absurd (fine f.1) | inr (inr e) ↦ inr e ]
+        elim (due 0 (HasStopped b) idle_stop stops_by stop answers) [ inl (inl zero_is) ↦ inl zero_is | inl (inr f) ↦ absurd (fine f.1) | inr e ↦ inr e.0 ]
 
 -- the run over words that name a policy, and over those that are no command
 pub runs_named : (words : List (List ℕ)) (s : ℕ) (a b : PollScene) (name : List ℕ) → poll_named words ≡ Some name → IsUncalled a.ports → a.ends ≡ [] → PollAnswers (Some name) s a b → b.texts ≡ a.texts → RunsPoll words s a b
@@ -172,7 +155,7 @@ runs_named words s a b name e new none answers texts =
     record {
       answers = told;
       cause = cause_of (poll_named words) s a b told;
-      dues = dues_of (poll_named words) s a b new none told;
+      dues = dues_of (poll_named words) s a b new none (λ n. absurd (none_apart (poll_named words) name n e)) told;
       complete = complete_of (poll_named words) s a b new none told;
       texts = texts;
       untouched = λ n. absurd (none_apart (poll_named words) name n e);
@@ -181,12 +164,13 @@ runs_named words s a b name e new none answers texts =
 pub runs_unnamed : (words : List (List ℕ)) (s : ℕ) (a b : PollScene) → poll_named words ≡ None → IsUncalled a.ports → a.ends ≡ [] → IsPrinted s usage a.written b.written a.faults b.faults → b.texts ≡ a.texts
     → b ≡ record a { written = b.written; faults = b.faults } → RunsPoll words s a b
 runs_unnamed words s a b e new none printed texts same =
-    let kept : PollAnswers None s a b = poll_kept s a b None usage refl printed (ap (λ (x : PollScene). x.birth) same) (ap (λ (x : PollScene). x.ports) same) (ap (λ (x : PollScene). x.ends) same) in
+    let kept : PollAnswers None s a b = poll_kept s a b None usage refl (λ four. let no : 1 ≡ 4 = four in absurd (cc no)) (inr (ap (λ (x : PollScene). x.hard_faults) same)) printed (ap (λ (x : PollScene). x.birth) same) (ap (λ (x : PollScene). x.clock) same) (ap (λ (x : PollScene). x.ports) same) (ap (λ (x : PollScene). x.ends) same) in
     let told : PollAnswers (poll_named words) s a b = subst (λ (m : Option (List ℕ)). PollAnswers m s a b) (sym e) kept in
+    let one : IsToldAs (poll_named words) s a b 1 = elim printed [ inl p ↦ inl p.0 | inr p ↦ inr (p.0, p.1) ] in
     record {
       answers = told;
       cause = cause_of (poll_named words) s a b told;
-      dues = dues_of (poll_named words) s a b new none told;
+      dues = dues_of (poll_named words) s a b new none (λ n. one) told;
       complete = complete_of (poll_named words) s a b new none told;
       texts = texts;
       untouched = λ n. same;

@@ -1,6 +1,5 @@
 -- What a worker has served, over the whole history.
-use Rattle.std.proofs.Common.{◌≡◌, ◌≢◌, ℕ, ◌+◌, ◌*◌, ◌<◌, ◌≤◌, List, [], ◌∷◌, ◌++◌, length, drop, refl, sym, ap, subst, ◌∙◌, arith, append-nil, Option, Some, None}
-use mathlib.Core.List.{IsPrefix}
+use Rattle.std.proofs.Common.{◌≡◌, ℕ, ◌+◌, ◌<◌, ◌≤◌, List, [], ◌∷◌, ◌++◌, length, refl, sym, ap, subst, ◌∙◌, arith, append-nil, Option, Some, None}
 use Rattle.gt_base.specs.declared.requests.Entry.{Entry}
 use Rattle.gt_io.specs.Links.{Traffic}
 use Rattle.turn_lock.specs.Turns.{part}
@@ -11,7 +10,7 @@ use Rattle.connection_laws.specs.Connection.{part_of, IsTimed}
 use Rattle.connection_laws.proofs.Places.{part_of-append, part_of-part, all_mine, none_mine}
 use Rattle.connection_laws.specs.Services.{service}
 use Rattle.line_server.specs.declared.ended.Served.{Served}
-use Rattle.line_server.specs.Working.{Tale, begun_of, hours_of, owns_of, Gives, Spot, Works, AreServed as AreServedAt}
+use Rattle.line_server.specs.Working.{Tale, begun_of, owns_of, Gives, Works, AreServed as AreServedAt}
 use Rattle.line_server.proofs.Completing.{complete_by}
 use Rattle.line_server.proofs.Links.{served_longer}
 use Rattle.line_server.proofs.Crew.{links_add_up}

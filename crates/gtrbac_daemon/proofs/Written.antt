@@ -1,12 +1,10 @@
--- What a book holds can be written.
-use Rattle.std.proofs.Common.{◌≡◌, ℕ, ◌<◌, ◌≤◌, Bool, true, List, [], ◌∷◌, ◌++◌, length, refl, sym, ap, subst, ◌∙◌, append_assoc, append-nil}
-use Rattle.std.specs.Prelude.{IsTrue, ◌&&◌, nat_lt}
-use Rattle.std.specs.List.{list_all}
+-- The lines of the entries that a book holds fit a page.
+use Rattle.std.proofs.Common.{◌≡◌, Bool, true, List, [], ◌∷◌, ◌++◌, length, refl, sym, subst, append_assoc}
+use Rattle.std.specs.Prelude.{◌&&◌, nat_lt}
 use Rattle.std.proofs.lemmas.Bool.{lt-ltb}
 use Rattle.gt_base.specs.Machines.{asked}
 use Rattle.gt_base.specs.declared.events.Fluent.{Fluent}
 use Rattle.gt_base.specs.declared.events.Fluent.TheVariants.{Enabled, Assigned, Granted, Limit, Edge}
-use Rattle.gt_base.specs.declared.requests.Who.{Who}
 use Rattle.gt_base.specs.declared.requests.Actor.{Actor}
 use Rattle.gt_base.specs.declared.requests.Actor.TheVariants.{Operator, User, Nobody}
 use Rattle.gt_base.specs.declared.requests.Request.{Request}
@@ -19,11 +17,12 @@ use Rattle.gtrbac_model.specs.WholePolicy.{is_fluent}
 use Rattle.gtrbac_model.specs.History.{IsNamedWish, ask, Legal}
 use Rattle.gtrbac_model.proofs.Elements.{and_true}
 use Rattle.history_laws.proofs.Lasting.{front_steps, of_longer}
-use Rattle.request_text.specs.Named.{has_actor, has_request, has_reply, has_step, has_entry}
+use Rattle.request_text.specs.Fitting.{IsShortStep, FitPages}
+use Rattle.request_text.specs.Named.{has_actor, has_request, has_reply, has_step}
 use Rattle.core_machine.specs.Books.{BookView, IsBook, IsNamedStep, AreNamed, model_in}
 use Rattle.connection_laws.specs.Desks.{RepliesCanBeTold}
-use Rattle.book_lines.specs.Ledgers.{IsLegalLedger}
-use Rattle.book_lines.proofs.Serving.{book_is_served}
+use Rattle.snapshot_readers.specs.Ledgers.{IsLegalLedger}
+use Rattle.snapshot_readers.proofs.Serving.{book_is_served}
 
 module _ (p : Policy) where
   abbrev Asks : Actor → Request → Type 0
@@ -73,22 +72,26 @@ module _ (b : BookView) (replies : RepliesCanBeTold b.named (IsLegalLedger b)) w
         named = named_front p front rest named;
       }
 
-  has_one : (front : List Entry) (e : Entry) (what : Step) → e.what ≡ what → IsNamedStep b.named.policy what → IsLegalLedger b (front ++ e ∷ []) → has_step b.named.policy what ≡ true
-  has_one front e (Tick upto to) is named legal = refl
-  has_one front e (Ask actor request reply) is named legal =
+  -- the numbers of the last step are the policy's, what is asked is within its limits, and the walk of the reply is brief
+  one_fits : (front : List Entry) (e : Entry) (what : Step) → e.what ≡ what → IsNamedStep b.named.policy what → IsLegalLedger b (front ++ e ∷ [])
+      → (has_step b.named.policy what ≡ true) × IsShortStep b.named.policy what
+  one_fits front e (Tick upto to) is named legal = (refl, tt)
+  one_fits front e (Ask actor request reply) is named legal =
       let p = b.named.policy in
       let same : e ≡ asked e.who actor request reply = λ i. record { who = e.who; what = is i } in
       let told = replies front e.who actor request reply (subst (λ (x : Entry). IsLegalLedger b (front ++ x ∷ [])) same legal) in
-      and_true (has_actor p actor && has_request p request) (has_reply p reply) (and_true (has_actor p actor) (has_request p request) (has_who p actor request named) (has_what p actor request named)) told.named
+      let has = and_true (has_actor p actor && has_request p request) (has_reply p reply) (and_true (has_actor p actor) (has_request p request) (has_who p actor request named) (has_what p actor request named)) told.named in
+      (has, ((tt, named.1), told.brief))
 
-  has_all : (front rest : List Entry) → AreNamed b.named.policy (front ++ rest) → Legal b.named.policy b.birth (front ++ rest) (model_in b) → list_all (has_entry b.named.policy) rest ≡ true
-  has_all front [] named legal = refl
-  has_all front (e ∷ es) named legal =
+  all_fit : (front rest : List Entry) → AreNamed b.named.policy (front ++ rest) → Legal b.named.policy b.birth (front ++ rest) (model_in b) → FitPages b.named.policy rest
+  all_fit front [] named legal = tt
+  all_fit front (e ∷ es) named legal =
       let p = b.named.policy in
       let whole : (front ++ e ∷ []) ++ es ≡ front ++ e ∷ es = append_assoc front (e ∷ []) es in
       let named' : AreNamed p ((front ++ e ∷ []) ++ es) = subst (AreNamed p) (sym whole) named in
       let legal' : Legal p b.birth ((front ++ e ∷ []) ++ es) (model_in b) = subst (λ h. Legal p b.birth h (model_in b)) (sym whole) legal in
-      and_true (has_entry p e) (list_all (has_entry p) es) (has_one front e e.what refl (named_rest p front (e ∷ es) named).0 (legal_front (front ++ e ∷ []) es named' legal')) (has_all (front ++ e ∷ []) es named' legal')
+      let one = one_fits front e e.what refl (named_rest p front (e ∷ es) named).0 (legal_front (front ++ e ∷ []) es named' legal') in
+      (record { named = one.0; short = one.1 }, all_fit (front ++ e ∷ []) es named' legal')
 
-pub entries_can_be_written : (b : BookView) → IsBook b → IsTrue (list_all (has_entry b.named.policy) b.entries)
-entries_can_be_written b book = has_all b (book_is_served b book).replies [] b.entries book.named book.legal
+pub entries_fit : (b : BookView) → IsBook b → FitPages b.named.policy b.entries
+entries_fit b book = all_fit b (book_is_served b book).replies [] b.entries book.named book.legal

@@ -88,6 +88,10 @@ module _ {L : Type 0} where
   abbrev pub HasFailed : Crewman L → Crewman L → Type 0
   HasFailed j k = (k.outcome ≡ DoorFault) × Rose j.faults k.faults
 
+  -- there was no memory for it
+  abbrev pub LacksMemory : Crewman L → Crewman L → Type 0
+  LacksMemory j k = k.outcome ≡ Memory
+
   abbrev pub IsSpent : Crewman L → Crewman L → Type 0
   IsSpent j k = is_spent k.outcome ≡ true
 

@@ -1,5 +1,5 @@
 -- What a run of the server leaves, and how it ends.
-use Rattle.std.specs.Prelude.{◌≡◌, ◌⊎◌, ◌≤◌, ℕ, ◌==◌, List, [], ◌∷◌, length, None, Ok, IsSomeAnd, if◌then◌else◌}
+use Rattle.std.specs.Prelude.{◌≡◌, ◌⊎◌, ◌≤◌, ℕ, ◌==◌, List, [], ◌∷◌, length, None, Ok, if◌then◌else◌}
 use Rattle.std.specs.declared.option.Option.{Option}
 use Rattle.std.specs.Io.KnownBytes.{Appends}
 use Rattle.gt_base.specs.declared.requests.Entry.{Entry}
@@ -8,16 +8,17 @@ use Rattle.gt_io.specs.Links.{Traffic, Reads}
 use Rattle.gt_io.specs.Shelf.{Contents}
 use Rattle.policy_words.specs.Naming.{NamedPolicy}
 use Rattle.policy_commands.specs.Ends.{Told}
+use Rattle.policy_commands.specs.Finding.{max_policy, IsLongPolicy}
 use Rattle.policy_commands.specs.Policies.{safe_in, HasFault, IsUnsafeText}
+use Rattle.policy_commands.specs.Printing.{IsPrinted, WantsMemory}
 use Rattle.request_text.specs.Replies.{log_text}
-use Rattle.gtrbac_daemon.specs.Ends.{IsPrinted, WantsMemory, max_policy, IsLongPolicy}
 use Rattle.gtrbac_daemon.specs.Words.{policy_named, Refuses, Admits, HasText, LacksText, TellsText}
-use Rattle.gtrbac_daemon.specs.Crew.{Crewman, status_of, ends_of, SomeOf, EachOf, HasFailed, IsSpent, IsUnharmed, IsDone, IsSound}
+use Rattle.gtrbac_daemon.specs.Crew.{Crewman, status_of, ends_of, SomeOf, EachOf, HasFailed, LacksMemory, IsSpent, IsUnharmed, IsDone, IsSound}
 use Rattle.gtrbac_daemon.specs.Headline.{Headline}
 
--- What is seen of a run's surroundings: the texts of the shelf, how often it failed and how often of
--- these but for what it lacks, the readings of the birth's clock, the crew, what was written, and
--- how often that failed
+-- What is seen of a run's surroundings: the texts of the shelf, how often it failed and how often
+-- of these but for what it lacks, the readings of the birth's clock, the crew, what was written,
+-- and how often that failed
 pub record Scene (L : Type 0) : Type 0 where
   pub texts : Contents
   pub shelf_faults : ℕ
@@ -45,12 +46,11 @@ abbrev pub or_failed : ℕ → ℕ
 or_failed due = if due == 8 then 8 else 5
 
 -- the text was written whole by an output that failed nowhere; or the output failed, and a proper
--- front of it was written; or there was no memory for the text, and nothing was written
+-- prefix of it was written
 abbrev pub IsWritten : ℕ → List ℕ → ℕ → Option (List ℕ) → Option (List ℕ) → ℕ → ℕ → Type 0
 IsWritten due text status old new before now =
     ((status ≡ due) × Appends old new text × (now ≡ before))
     ⊎ ((status ≡ or_failed due) × Rose before now × AppendsPart old new text)
-    ⊎ WantsMemory status old new before now
 
 module _ {L : Type 0} where
   -- there was no memory, nothing was written, and nobody has worked
@@ -72,10 +72,12 @@ module _ {L : Type 0} where
     pub reads : Reads a.birth b.birth (birth ∷ [])
     pub ends : HasServed traffic np birth status a b ⊎ Starves status a b
 
-  -- something keeps the server from serving, and is printed; no clock is read, and nobody works
+  -- something keeps the server from serving, and is printed; no clock is read, nobody works, and
+  -- but for what the shelf lacks it failed only where 4 is told
   pub record IsKept (name : Option (List ℕ)) (status : ℕ) (a b : Scene L) : Type 0 where
     pub told : Told
     pub cause : Refuses (Rose a.hard_faults b.hard_faults) a.texts name told
+    pub steady : (told.status ≡ 4) ⊎ (b.hard_faults ≡ a.hard_faults)
     pub printed : IsPrinted status told a.written b.written a.faults b.faults
     pub birth : b.birth ≡ a.birth
     pub crew : b.crew ≡ a.crew
@@ -94,10 +96,11 @@ module _ {L : Type 0} where
 
 module _ {L : Type 0} (traffic : L → Traffic) (name : Option (List ℕ)) (status : ℕ)
     (a b : Scene L) where
-  -- A run over the name that its words say. It serves the policy of that name, which is safe; or
-  -- it is kept from that; or there was no memory to find out
+  -- A run over the name that its words say. It serves the policy of that name, which is safe, from
+  -- a shelf that did not fail; or it is kept from that; or there was no memory to find out
   pub data Answers : Type 0 where
-    served : (np : NamedPolicy) → Admits a.texts name np → Serves traffic np status a b → Answers
+    served : (np : NamedPolicy) → Admits a.texts name np → b.hard_faults ≡ a.hard_faults
+        → Serves traffic np status a b → Answers
     kept : IsKept name status a b → Answers
     starved : Starves status a b → b.birth ≡ a.birth → Answers
 
@@ -112,7 +115,7 @@ module _ {L : Type 0} (name : Option (List ℕ)) (status : ℕ) (a b : Scene L) 
         → Rose a.shelf_faults b.shelf_faults → Cause
     unwritten : status ≡ 5 → Rose a.faults b.faults → Cause
     long : status ≡ 6 → HasText name a.texts IsLongPolicy → Cause
-    memory : status ≡ 8 → Cause
+    memory : status ≡ 8 → SomeOf LacksMemory a.crew b.crew ⊎ Starves status a b → Cause
     failed : status ≡ 10 → SomeOf HasFailed a.crew b.crew → Cause
     spent : status ≡ 11 → SomeOf IsSpent a.crew b.crew → EachOf IsSound a.crew b.crew → Cause
 
@@ -120,14 +123,15 @@ module _ {L : Type 0} (name : Option (List ℕ)) (status : ℕ) (a b : Scene L) 
   abbrev pub IsToldAs : ℕ → Type 0
   IsToldAs n = (status ≡ n) ⊎ ((status ≡ 5) × Rose a.faults b.faults)
 
-  -- and but for want of memory
+  -- and but for a worker that lacked memory
   abbrev pub IsDue : ℕ → Type 0
-  IsDue n = IsToldAs n ⊎ (status ≡ 8)
+  IsDue n = IsToldAs n ⊎ ((status ≡ 8) × SomeOf LacksMemory a.crew b.crew)
 
   -- and each cause has its status
   pub record Dues : Type 0 where
     pub no_command_is : name ≡ None → IsToldAs 1
-    pub done_is : EachOf IsDone a.crew b.crew → IsDue 0
+    pub done_is : EachOf IsDone a.crew b.crew → IsToldAs 0
+    pub memory_is : SomeOf LacksMemory a.crew b.crew → status ≡ 8
     pub failed_is : SomeOf HasFailed a.crew b.crew → IsDue 10
     pub spent_is : SomeOf IsSpent a.crew b.crew → EachOf IsSound a.crew b.crew → IsDue 11
 

@@ -1,5 +1,5 @@
 -- What a crew leaves: one history with one model, and each link's part of it.
-use Rattle.std.specs.Prelude.{◌≡◌, ℕ, ◌+◌, ◌*◌, ◌≤◌, true, ⊤, List, [], ◌∷◌, ◌++◌, length, Option, Some, None}
+use Rattle.std.specs.Prelude.{◌≡◌, ℕ, ◌+◌, ◌*◌, ◌≤◌, true, ⊤, List, [], ◌∷◌, ◌++◌, length, Option, Some}
 use Rattle.std.specs.Io.KnownBytes.{Appends, Consumes}
 use Rattle.gt_base.specs.Bounds.{max_steps, last_minute}
 use Rattle.gt_base.specs.declared.requests.Entry.{Entry}

@@ -1,8 +1,10 @@
-pub mod Ends
 pub mod Words
-pub mod Causes
 pub mod Crew
 pub mod PostLists
 pub mod Headline
+pub mod Pages
 pub mod Daemon
 pub mod Polls
+pub mod Views
+pub mod ViewLists
+pub mod Tasks

@@ -15,7 +15,11 @@ use Rattle.gtrbac_model.specs.History.{Legal}
 use Rattle.gtrbac_model.specs.Theorems.{HasOneModel, IsOnlyModel}
 use Rattle.turn_lock.specs.Turns.{part}
 use Rattle.policy_words.specs.Naming.{NamedPolicy}
+use Rattle.policy_commands.specs.declared.judging.Admitted.{Admitted}
 use Rattle.policy_commands.specs.Ends.{Told}
+use Rattle.policy_commands.specs.Finding.{IsLongPolicy}
+use Rattle.policy_commands.specs.Policies.{HasFault, IsUnsafeText}
+use Rattle.policy_commands.specs.Printing.{IsPrinted, WantsMemory}
 use Rattle.request_text.specs.Replies.{log_text}
 use Rattle.core_machine.specs.Books.{AreNamed}
 use Rattle.connection_laws.specs.Connection.{readings_of}
@@ -25,9 +29,7 @@ use Rattle.poll_front.specs.declared.front.RunEnd.TheVariants.{Stopped, PortFaul
 use Rattle.poll_front.specs.Fronts.{all_acted}
 use Rattle.poll_front.specs.Tables.{RunsTo, most_links, is_worn_end, AreUnwornEnds}
 use Rattle.poll_front.specs.Polling.{IsPolledFront}
-use Rattle.gtrbac_daemon.specs.Ends.{IsPrinted, WantsMemory, IsLongPolicy}
-use Rattle.policy_commands.specs.Policies.{HasFault, IsUnsafeText}
-use Rattle.gtrbac_daemon.specs.Words.{poll_named, Refuses, Admits, HasText, LacksText}
+use Rattle.gtrbac_daemon.specs.Words.{poll_named, Refuses, Admits, IsFound, IsFailure, IsSteadyFor, HasText, LacksText}
 use Rattle.gtrbac_daemon.specs.Daemon.{IsWritten}
 
 -- the status by why the run ended
@@ -64,12 +66,13 @@ pub record PollHeadline (np : NamedPolicy) (birth : ℕ) (clock clock' : Option 
   pub polled : HasPolled np birth clock clock' a b ends h end
   pub others : (n : ℕ) → 1 ≤ n → part n h ≡ []
 
--- What is seen of a run's surroundings: the texts of the shelf and how often it failed but for what
--- it lacks, the readings of the birth's clock and of the requests', the ports, how links ended,
--- what was written, and how often that failed
+-- What is seen of a run's surroundings: the texts of the shelf, how often it failed and how often
+-- of these but for what it lacks, the readings of the birth's clock and of the requests', the
+-- ports, how links ended, what was written, and how often that failed
 pub record PollScene : Type 0 where
   pub texts : Contents
   pub shelf_faults : ℕ
+  pub hard_faults : ℕ
   pub birth : Option (ℕ → ℕ)
   pub clock : Option (ℕ → ℕ)
   pub ports : Harbour
@@ -77,12 +80,13 @@ pub record PollScene : Type 0 where
   pub written : Option (List ℕ)
   pub faults : ℕ
 
-abbrev pub poll_scene : Contents → ℕ → Option (ℕ → ℕ) → Option (ℕ → ℕ) → Harbour → List Polled
-    → Option (List ℕ) → ℕ → PollScene
-poll_scene texts shelf_faults birth clock ports ends written faults =
+abbrev pub poll_scene : Contents → ℕ → ℕ → Option (ℕ → ℕ) → Option (ℕ → ℕ) → Harbour
+    → List Polled → Option (List ℕ) → ℕ → PollScene
+poll_scene texts shelf_faults hard_faults birth clock ports ends written faults =
     record {
       texts = texts;
       shelf_faults = shelf_faults;
+      hard_faults = hard_faults;
       birth = birth;
       clock = clock;
       ports = ports;
@@ -91,9 +95,10 @@ poll_scene texts shelf_faults birth clock ports ends written faults =
       faults = faults;
     }
 
--- there was no memory, nothing was written, and nobody was served
+-- there was no memory, nothing was written, nobody was served, and no request's minute was read
 pub record PollStarves (status : ℕ) (a b : PollScene) : Type 0 where
   pub nothing : WantsMemory status a.written b.written a.faults b.faults
+  pub clock : b.clock ≡ a.clock
   pub ports : b.ports ≡ a.ports
   pub ends : b.ends ≡ a.ends
 
@@ -106,27 +111,46 @@ pub record PollHasServed (np : NamedPolicy) (birth status : ℕ) (a b : PollScen
   pub written : IsWritten (poll_status end) (log_text np birth history) status
       a.written b.written a.faults b.faults
 
+-- and there was no memory for a further link
+abbrev pub PollLacksMemory : ℕ → PollScene → PollScene → Type 0
+PollLacksMemory status a b =
+    (np : NamedPolicy) × ((birth : ℕ)
+    × ((k : PollHasServed np birth status a b) × (k.end ≡ Memory)))
+
 -- the birth is the one reading of its clock; for want of memory nobody was served
 pub record PollServes (np : NamedPolicy) (status : ℕ) (a b : PollScene) : Type 0 where
   pub birth : ℕ
   pub reads : Reads a.birth b.birth (birth ∷ [])
   pub ends : PollHasServed np birth status a b ⊎ PollStarves status a b
 
--- something keeps the program from serving, and is printed
+-- something keeps the program from serving, and is printed; no clock is read, and but for what the
+-- shelf lacks it failed only where 4 is told
 pub record PollIsKept (name : Option (List ℕ)) (status : ℕ) (a b : PollScene) : Type 0 where
   pub told : Told
-  pub cause : Refuses (Rose a.shelf_faults b.shelf_faults) a.texts name told
+  pub cause : Refuses (Rose a.hard_faults b.hard_faults) a.texts name told
+  pub failed : told.status ≡ 4 → Rose a.shelf_faults b.shelf_faults
+  pub steady : (told.status ≡ 4) ⊎ (b.hard_faults ≡ a.hard_faults)
   pub printed : IsPrinted status told a.written b.written a.faults b.faults
   pub birth : b.birth ≡ a.birth
+  pub clock : b.clock ≡ a.clock
   pub ports : b.ports ≡ a.ports
   pub ends : b.ends ≡ a.ends
 
--- A run over the name that its words say. It serves the policy of that name, which is safe; or it
--- is kept from that; or there was no memory to find out
+-- A run over the name that its words say. It serves the policy of that name, which is safe, from a
+-- shelf that did not fail; or it is kept from that; or there was no memory to find out
 pub record PollAnswers (name : Option (List ℕ)) (status : ℕ) (a b : PollScene) : Type 0 where
-  pub runs : ((np : NamedPolicy) × Admits a.texts name np × PollServes np status a b)
+  pub runs : ((np : NamedPolicy) × Admits a.texts name np × (b.hard_faults ≡ a.hard_faults)
+      × PollServes np status a b)
       ⊎ PollIsKept name status a b
       ⊎ (PollStarves status a b × (b.birth ≡ a.birth))
+
+-- this was found by a name on the shelf, and so a run goes on from there
+abbrev pub AnswersFound : Admitted → ℕ → PollScene → PollScene → Type 0
+AnswersFound found status a b =
+    (name : List ℕ) → IsFound (Rose a.hard_faults b.hard_faults) a.texts name found
+    → IsFailure (Rose a.shelf_faults b.shelf_faults) found
+    → IsSteadyFor (b.hard_faults ≡ a.hard_faults) found
+    → PollAnswers (Some name) status a b
 
 -- the last answer of `next` was that the ports stop
 abbrev pub HasStopped : PollScene → Type 0
@@ -149,20 +173,25 @@ module _ (name : Option (List ℕ)) (status : ℕ) (a b : PollScene) where
     no_command : status ≡ 1 → name ≡ None → PollCause
     faulty : status ≡ 2 → HasText name a.texts HasFault → PollCause
     unsafe : status ≡ 3 → HasText name a.texts IsUnsafeText → PollCause
-    unread : status ≡ 4 → Rose a.shelf_faults b.shelf_faults ⊎ LacksText name a.texts → PollCause
+    unread : status ≡ 4 → Rose a.hard_faults b.hard_faults ⊎ LacksText name a.texts
+        → Rose a.shelf_faults b.shelf_faults → PollCause
     unwritten : status ≡ 5 → Rose a.faults b.faults → PollCause
     long : status ≡ 6 → HasText name a.texts IsLongPolicy → PollCause
-    memory : status ≡ 8 → PollCause
+    memory : status ≡ 8 → PollLacksMemory status a b ⊎ PollStarves status a b → PollCause
     failed : status ≡ 10 → HasFailedToTell b → Rose a.ports.faults b.ports.faults → PollCause
     used_up : status ≡ 11 → IsUsedUp b → PollCause
 
-  -- the status is this one, but for an output that failed and for want of memory
+  -- the status is this one, but for an output that failed
+  abbrev pub IsToldAs : ℕ → Type 0
+  IsToldAs n = (status ≡ n) ⊎ ((status ≡ 5) × Rose a.faults b.faults)
+
+  -- and but for a further link that there was no memory for
   abbrev pub IsDue : ℕ → Type 0
-  IsDue n = (status ≡ n) ⊎ ((status ≡ 5) × Rose a.faults b.faults) ⊎ (status ≡ 8)
+  IsDue n = IsToldAs n ⊎ ((status ≡ 8) × PollLacksMemory status a b)
 
   -- and each cause has its status
   pub record PollDues : Type 0 where
-    pub no_command_is : name ≡ None → IsDue 1
+    pub no_command_is : name ≡ None → IsToldAs 1
     pub stopped_is : HasStopped b → IsDue 0
     pub failed_is : HasFailedToTell b → IsDue 10
     pub used_up_is : IsUsedUp b → IsDue 11

@@ -1,15 +1,18 @@
 -- What the words of the server say, and what keeps it from serving.
-use Rattle.std.specs.Prelude.{◌≡◌, ◌⊎◌, ◌≤◌, ℕ, Bool, true, false, List, [], ◌∷◌, length, Option, Some, None, Result, Ok, Err, IfSome, IsSomeAnd, codes, bytes_eq, if◌then◌else◌}
+use Rattle.std.specs.Prelude.{◌≡◌, ◌⊎◌, ⊤, ℕ, Bool, true, false, List, [], ◌∷◌, Option, Some, None, Ok, Err, IfSome, IsSomeAnd, codes, bytes_eq, if◌then◌else◌}
 use Rattle.gt_io.specs.Shelf.{Contents, Lacks}
 use Rattle.gt_text.specs.Words.{begins_with}
 use Rattle.policy_words.specs.Naming.{NamedPolicy}
 use Rattle.policy_commands.specs.declared.judging.Admitted.{Admitted}
 use Rattle.policy_commands.specs.declared.judging.Admitted.TheVariants.{Safe, Ended}
-use Rattle.policy_commands.specs.Ends.{Told, seen_end}
+use Rattle.policy_commands.specs.Ends.{Told, told, seen_end}
+use Rattle.policy_commands.specs.Finding.{IsPolicyText, MissesText}
 use Rattle.policy_commands.specs.Policies.{safe_in, HasFault, IsUnsafeText}
 use Rattle.gtrbac_daemon.specs.declared.words.Mode.{Mode}
 use Rattle.gtrbac_daemon.specs.declared.words.Mode.TheVariants.{Plain, Views, Poll}
-use Rattle.gtrbac_daemon.specs.Ends.{usage, read_fault, too_long, max_policy, IsLongPolicy}
+
+abbrev pub usage : Told
+usage = told 1 (codes "usage: gtrbacd POLICY | views POLICY | poll POLICY\n")
 
 -- the words are one, the name of a policy, which does not begin with `-`
 abbrev pub policy_named : List (List ℕ) → Option (List ℕ)
@@ -33,21 +36,15 @@ mode_named (verb ∷ name ∷ []) =
     mode_by (bytes_eq verb (codes "views")) (bytes_eq verb (codes "poll"))
 mode_named _ = Plain
 
--- the text of the name, where the shelf tells it, which is not too long
-pub record IsPolicyText (contents : Contents) (name text : List ℕ) : Type 0 where
-  pub found : IfSome contents (λ text_of. text_of name ≡ Some text)
-  pub short : length text ≤ max_policy
-
 -- the text has a fault, with status 2, or is of a policy that is not safe, with status 3
 pub record IsRefused (text : List ℕ) (t : Told) : Type 0 where
   pub told_is : safe_in text ≡ Err t
   pub cause : ((t.status ≡ 2) × HasFault text) ⊎ ((t.status ≡ 3) × IsUnsafeText text)
 
--- the shelf failed or has no such text; the text is too long; it is refused
+-- the shelf failed or has no such text, or the text is too long; or the text is refused
 abbrev pub RefusesText : Type 0 → Contents → List ℕ → Told → Type 0
 RefusesText hard contents name t =
-    ((t ≡ read_fault) × (hard ⊎ Lacks contents name))
-    ⊎ ((t ≡ too_long) × IfSome contents (λ text_of. IsSomeAnd (text_of name) IsLongPolicy))
+    MissesText hard contents name t
     ⊎ ((text : List ℕ) × IsPolicyText contents name text × IsRefused text t)
 
 -- what keeps the server from serving: the words come first
@@ -69,6 +66,16 @@ abbrev pub IsFound : Type 0 → Contents → List ℕ → Admitted → Type 0
 IsFound hard contents name (Safe np) = AdmitsText contents name np
 IsFound hard contents name (Ended end) = RefusesText hard contents name (seen_end end)
 
+-- what was found ends with 4 only where this holds
+abbrev pub IsFailure : Type 0 → Admitted → Type 0
+IsFailure holds (Safe np) = ⊤
+IsFailure holds (Ended end) = end.status ≡ 4 → holds
+
+-- this holds but where what was found ends with 4
+abbrev pub IsSteadyFor : Type 0 → Admitted → Type 0
+IsSteadyFor holds (Safe np) = holds
+IsSteadyFor holds (Ended end) = (end.status ≡ 4) ⊎ holds
+
 -- where the shelf tells its texts, it has one of the name that is said, and this holds of it
 abbrev pub HasText : Option (List ℕ) → Contents → (List ℕ → Type 0) → Type 0
 HasText name contents Holds =
@@ -82,3 +89,9 @@ TellsText name contents text =
 -- the shelf tells that it has no text of the name that is said
 abbrev pub LacksText : Option (List ℕ) → Contents → Type 0
 LacksText name contents = IsSomeAnd name (λ n. Lacks contents n)
+
+-- the words are `views` and the name of a policy, which does not begin with `-`
+abbrev pub views_named : List (List ℕ) → Option (List ℕ)
+views_named (verb ∷ name ∷ []) =
+    if bytes_eq verb (codes "views") then policy_named (name ∷ []) else None
+views_named _ = None

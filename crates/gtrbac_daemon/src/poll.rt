@@ -6,38 +6,45 @@ ghost use Rattle.turn_lock.specs.Holders.{newcomers};
 ghost use Rattle.turn_lock.specs.Turns.{part};
 ghost use Rattle.request_text.specs.Replies.{log_text};
 ghost use Rattle.core_machine.specs.Books.{SameRoot};
-ghost use Rattle.book_lines.specs.Ledgers.{CanBeServed};
+ghost use Rattle.snapshot_readers.specs.Ledgers.{CanBeServed};
 ghost use Rattle.gt_io.specs.Ports.{IsUncalled};
-ghost use Rattle.gtrbac_daemon.specs.Polls.{poll_status, HasPolled, PollHeadline, PollScene, poll_scene, PollServes, PollAnswers, RunsPoll};
+ghost use Rattle.gtrbac_daemon.specs.Polls.{poll_status, HasPolled, PollHeadline, PollScene, poll_scene, PollServes, AnswersFound, RunsPoll};
 
 use crate::finding::find_policy;
-use crate::printing::{USAGE, print};
+use crate::printing::{USAGE, write_up};
 use crate::serving::{keeps, open};
-use crate::top::write_up;
 use crate::words::poll_word;
-use book_lines::Ledger;
 use connection_laws::Server;
 use gt_base::{Instant, List, Memory};
 use gt_io::{Clock, Gate, Ports, Shelf, Sink};
 use locked_history::Desk;
 use policy_book::Policy;
-use policy_commands::Admitted;
+use policy_commands::{Admitted, print};
 use policy_safety::Safe;
 use poll_front::{Polled, RunEnd, run};
+use request_text::Page;
+use snapshot_readers::Ledger;
 use std::alloc::{AllocError, Global};
 use std::sync::Wait;
 use turn_lock::Passes;
 
+/// What a run has from its caller: the runtime that it waits by, where memory comes from, and the
+/// gate that is passed before each reading of the clock.
+#[derive(Drop)]
+struct Means<'a, R, G> {
+    rt: &'a R,
+    alloc: Global,
+    gate: &'a G,
+}
+
 /// Lets one pass serve the ports at a desk over a ledger, and closes the desk.
 fn poll_and_close<R: Wait, P: Ports, C: Clock, G: Gate>(
-    rt: &R,
-    alloc: Global,
+    means: &Means<R, G>,
     policy: &Policy,
     desk: Desk<Ledger>,
     mut passes: Passes<Ledger>,
     ports: &mut P,
     clock: &mut C,
-    gate: &G,
     ends: &mut List<Polled>,
 ) -> (Ledger, RunEnd)
     requires policy { policy.now ≡ desk.root.named }
@@ -48,8 +55,9 @@ fn poll_and_close<R: Wait, P: Ports, C: Clock, G: Gate>(
     requires none { ends.old.items ≡ [] }
     requires ports { IsUncalled (P.harbour ports.old) }
     ensures root { SameRoot desk.root result.0 }
-    ensures polled { HasPolled desk.root.named desk.root.birth (C.readings clock.old) (C.readings clock.new)
-        (P.harbour ports.old) (P.harbour ports.new) ends.new.items result.0.entries result.1 }
+    ensures polled { HasPolled desk.root.named desk.root.birth (C.readings clock.old)
+        (C.readings clock.new) (P.harbour ports.old) (P.harbour ports.new) ends.new.items
+        result.0.entries result.1 }
     ensures others { (n : ℕ) → 1 ≤ n → part n result.0.entries ≡ [] }
 {
     let last = passes.take();
@@ -57,12 +65,12 @@ fn poll_and_close<R: Wait, P: Ports, C: Clock, G: Gate>(
         unreachable!();
     };
     let server = Server {
-        rt,
-        alloc,
+        rt: means.rt,
+        alloc: means.alloc,
         desk: &desk,
         policy,
         conn: 0,
-        gate,
+        gate: means.gate,
     };
     let end = run(&server, &mut pass, ports, clock, ends);
     passes.put(pass);
@@ -72,18 +80,17 @@ fn poll_and_close<R: Wait, P: Ports, C: Clock, G: Gate>(
 /// Serves a safe policy from its birth on over the ports. An error is want of memory before anybody
 /// was served.
 fn poll_from<R: Wait, P: Ports, C: Clock, G: Gate>(
-    rt: &R,
-    alloc: Global,
+    means: &Means<R, G>,
     safe: Safe,
     birth: Instant,
     ports: &mut P,
     clock: &mut C,
-    gate: &G,
     ends: &mut List<Polled>,
 ) -> Result<(Ledger, RunEnd), Memory>
     requires none { ends.old.items ≡ [] }
     requires ports { IsUncalled (P.harbour ports.old) }
-    ensures err { OnErr result ((ports.new ≡ ports.old) × (ends.new ≡ ends.old)) }
+    ensures err { OnErr result ((ports.new ≡ ports.old) × (ends.new ≡ ends.old)
+        × (clock.new ≡ clock.old)) }
     ensures root { IfOk result (λ t. (t.0.named ≡ safe) × (t.0.birth ≡ birth)) }
     ensures headline { IfOk result
         (λ t. PollHeadline safe birth (C.readings clock.old) (C.readings clock.new)
@@ -92,14 +99,12 @@ fn poll_from<R: Wait, P: Ports, C: Clock, G: Gate>(
     let Ok(policy) = safe.policy().copied() else {
         return Err(AllocError);
     };
-    let Ok(ledger) = open(alloc, safe, birth) else {
+    let Ok(ledger) = open(means.alloc, safe, birth) else {
         return Err(AllocError);
     };
-    match Desk::new(alloc, ledger, 1) {
+    match Desk::new(means.alloc, ledger, 1) {
         Ok((desk, passes)) => {
-            let (closed, end) = poll_and_close(
-                rt, alloc, &policy, desk, passes, ports, clock, gate, ends,
-            );
+            let (closed, end) = poll_and_close(means, &policy, desk, passes, ports, clock, ends);
             keeps(&closed);
             Ok((closed, end))
         }
@@ -122,64 +127,54 @@ fn status_of_run(end: RunEnd) -> u8
 
 /// Serves a safe policy from the birth that the clock tells, and writes the log.
 fn poll_serve<R: Wait, B: Clock, P: Ports, C: Clock, G: Gate, K: Sink>(
-    rt: &R,
-    alloc: Global,
+    means: &Means<R, G>,
     safe: Safe,
     birth: &mut B,
     ports: &mut P,
     clock: &mut C,
-    gate: &G,
     ends: &mut List<Polled>,
     out: &mut K,
 ) -> u8
     requires none { ends.old.items ≡ [] }
     requires ports { IsUncalled (P.harbour ports.old) }
-    ensures { (texts texts' : Contents) (m n : ℕ) → PollServes safe result
-        (poll_scene texts m (B.readings birth.old) (C.readings clock.old)
+    ensures { (texts texts' : Contents) (m m' n n' : ℕ) → PollServes safe result
+        (poll_scene texts m n (B.readings birth.old) (C.readings clock.old)
         (P.harbour ports.old) ends.old.items (K.written out.old) (K.faults out.old))
-        (poll_scene texts' n (B.readings birth.new) (C.readings clock.new)
+        (poll_scene texts' m' n' (B.readings birth.new) (C.readings clock.new)
         (P.harbour ports.new) ends.new.items (K.written out.new) (K.faults out.new)) }
 {
     let minute = birth.now();
-    match poll_from(rt, alloc, safe, minute, ports, clock, gate, ends) {
-        Ok((closed, end)) => write_up(alloc, &closed, status_of_run(end), out),
+    let Ok(mut page) = Page::new(means.alloc) else {
+        return 8;
+    };
+    match poll_from(means, safe, minute, ports, clock, ends) {
+        Ok((closed, end)) => write_up(&mut page, &closed, status_of_run(end), out),
         Err(_) => 8,
     }
 }
 
-/// Serves the policy of a name over the ports, where the shelf has it and it is safe; else prints
-/// why it does not.
-fn poll_given<R: Wait, S: Shelf, B: Clock, P: Ports, C: Clock, G: Gate, K: Sink>(
-    rt: &R,
-    alloc: Global,
-    name: &str,
-    shelf: &mut S,
+/// Serves what was found by a name over the ports, where it is a safe policy; else prints why it is
+/// none.
+fn poll_found<R: Wait, B: Clock, P: Ports, C: Clock, G: Gate, K: Sink>(
+    means: &Means<R, G>,
+    found: Admitted,
     birth: &mut B,
     ports: &mut P,
     clock: &mut C,
-    gate: &G,
     ends: &mut List<Polled>,
     out: &mut K,
 ) -> u8
     requires none { ends.old.items ≡ [] }
     requires ports { IsUncalled (P.harbour ports.old) }
-    ensures answers { PollAnswers (Some name.now) result
-        (poll_scene (S.contents shelf.old) (S.hard_faults shelf.old) (B.readings birth.old)
-        (C.readings clock.old) (P.harbour ports.old) ends.old.items (K.written out.old)
-        (K.faults out.old))
-        (poll_scene (S.contents shelf.new) (S.hard_faults shelf.new) (B.readings birth.new)
-        (C.readings clock.new) (P.harbour ports.new) ends.new.items (K.written out.new)
-        (K.faults out.new)) }
-    ensures texts { S.contents shelf.new ≡ S.contents shelf.old }
+    ensures { (texts texts' : Contents) (m m' n n' : ℕ) → AnswersFound found result
+        (poll_scene texts m n (B.readings birth.old) (C.readings clock.old)
+        (P.harbour ports.old) ends.old.items (K.written out.old) (K.faults out.old))
+        (poll_scene texts' m' n' (B.readings birth.new) (C.readings clock.new)
+        (P.harbour ports.new) ends.new.items (K.written out.new) (K.faults out.new)) }
 {
-    match find_policy(alloc, name, shelf) {
-        Ok(found) => match found {
-            Admitted::Safe(safe) => {
-                poll_serve(rt, alloc, safe, birth, ports, clock, gate, ends, out)
-            }
-            Admitted::Ended(end) => print(out, end.status, end.text.as_slice()),
-        },
-        Err(_) => 8,
+    match found {
+        Admitted::Safe(safe) => poll_serve(means, safe, birth, ports, clock, ends, out),
+        Admitted::Ended(end) => print(out, end.status, end.text.as_slice()),
     }
 }
 
@@ -192,8 +187,8 @@ fn poll_given<R: Wait, S: Shelf, B: Clock, P: Ports, C: Clock, G: Gate, K: Sink>
 /// - 1: the words are not `poll POLICY`, and the usage line was printed;
 /// - 2, 3, 4, 6: the policy has a fault, is not safe, could not be read, or is too long;
 /// - 5: the output failed, with a prefix of the text written;
-/// - 8: there was no memory: for the policy, for a further link, or for the log, of which a prefix
-///   was written;
+/// - 8: there was no memory: before anybody was served, and nothing is written; or for a further
+///   link, and the log is written, or a prefix of it where the output failed too;
 /// - 10: the ports failed to tell what happens next, and the log is written;
 /// - 11: 100,000 links were opened, or the pass has drawn 2^40 turns, and the log is written.
 pub fn daemon_poll<R: Wait, S: Shelf, B: Clock, P: Ports, C: Clock, G: Gate, K: Sink>(
@@ -211,15 +206,21 @@ pub fn daemon_poll<R: Wait, S: Shelf, B: Clock, P: Ports, C: Clock, G: Gate, K: 
     requires none { ends.old.items ≡ [] }
     requires ports { IsUncalled (P.harbour ports.old) }
     ensures { RunsPoll (map string_bytes words.now) result
-        (poll_scene (S.contents shelf.old) (S.hard_faults shelf.old) (B.readings birth.old)
-        (C.readings clock.old) (P.harbour ports.old) ends.old.items (K.written out.old)
-        (K.faults out.old))
-        (poll_scene (S.contents shelf.new) (S.hard_faults shelf.new) (B.readings birth.new)
-        (C.readings clock.new) (P.harbour ports.new) ends.new.items (K.written out.new)
-        (K.faults out.new)) }
+        (poll_scene (S.contents shelf.old) (S.faults shelf.old) (S.hard_faults shelf.old)
+        (B.readings birth.old) (C.readings clock.old) (P.harbour ports.old) ends.old.items
+        (K.written out.old) (K.faults out.old))
+        (poll_scene (S.contents shelf.new) (S.faults shelf.new) (S.hard_faults shelf.new)
+        (B.readings birth.new) (C.readings clock.new) (P.harbour ports.new) ends.new.items
+        (K.written out.new) (K.faults out.new)) }
 {
     match poll_word(words) {
-        Some(name) => poll_given(rt, alloc, name, shelf, birth, ports, clock, gate, ends, out),
+        Some(name) => match find_policy(alloc, name, shelf) {
+            Ok(found) => {
+                let means = Means { rt, alloc, gate };
+                poll_found(&means, found, birth, ports, clock, ends, out)
+            }
+            Err(_) => 8,
+        },
         None => print(out, 1, USAGE),
     }
 }

@@ -1,24 +1,20 @@
 //! What is written at the end.
-ghost use Rattle.std.specs.Prelude.{◌≡◌};
-ghost use Rattle.policy_commands.specs.Ends.{told};
-ghost use Rattle.gtrbac_daemon.specs.Ends.{IsPrinted};
+ghost use Rattle.std.specs.Prelude.{◌≡◌, ◌≤◌, IfOk, OnOk, OnErr};
+ghost use Rattle.std.specs.Io.KnownBytes.{Appends};
+ghost use Rattle.gt_io.specs.Causes.{HasCause, AppendsPart};
+ghost use Rattle.request_text.specs.Fitting.{FitPages};
+ghost use Rattle.request_text.specs.Replies.{log_text};
 ghost use Rattle.gtrbac_daemon.specs.Daemon.{or_failed, IsWritten};
+ghost use Rattle.gtrbac_daemon.specs.Pages.{IsBlank, WritesPage, text_from};
 
-use gt_io::{Sink, write_all};
+use gt_base::Entry;
+use gt_io::{Failed, Sink, write_all};
+use policy_book::Policy;
+use request_text::{Page, put_birth, put_entries};
+use snapshot_readers::Ledger;
 
 /// What is printed where the words are no command.
 pub(crate) const USAGE: &[u8] = b"usage: gtrbacd POLICY | views POLICY | poll POLICY\n";
-
-/// Prints a text; an output that fails has status 5.
-pub(crate) fn print<K: Sink>(out: &mut K, status: u8, text: &[u8]) -> u8
-    ensures { IsPrinted result (told status text.now) (K.written out.old) (K.written out.new)
-        (K.faults out.old) (K.faults out.new) }
-{
-    match write_all(out, text) {
-        Ok(()) => status,
-        Err(_) => 5,
-    }
-}
 
 /// The status of an output that failed, where this one was due.
 fn failed_at(due: u8) -> u8
@@ -27,12 +23,64 @@ fn failed_at(due: u8) -> u8
     if due == 8 { 8 } else { 5 }
 }
 
-/// Writes the text at whose end this status is due.
-pub(crate) fn write_due<K: Sink>(out: &mut K, due: u8, text: &[u8]) -> u8
-    ensures { IsWritten due text.now result (K.written out.old) (K.written out.new)
-        (K.faults out.old) (K.faults out.new) }
+/// Puts the lines of the first entries behind what stands on the page, as far as they fit, writes
+/// the page and clears it. It answers the entries that are left.
+fn write_page<'a, K: Sink>(
+    out: &mut K,
+    page: &mut Page,
+    policy: &Policy,
+    entries: &'a [Entry],
+) -> Result<&'a [Entry], Failed>
+    requires fit { FitPages policy.now.policy entries.now }
+    requires room { 33_584 ≤ page.old.spare }
+    ensures page { IfOk result
+        (λ left. WritesPage policy.now page.old page.new entries.now left.now (K.written out.old)
+        (K.written out.new)) }
+    ensures part { OnErr result
+        (AppendsPart (K.written out.old) (K.written out.new)
+        (text_from policy.now page.old.items entries.now)) }
+    ensures cause { HasCause (K.faults out.old) (K.faults out.new) result }
 {
-    match write_all(out, text) {
+    let left = put_entries(page, policy, entries);
+    write_all(out, page.as_slice())?;
+    page.clear();
+    Ok(left)
+}
+
+/// Writes what stands on the page and the lines of the entries, page after page.
+fn write_pages<K: Sink>(
+    out: &mut K,
+    page: &mut Page,
+    policy: &Policy,
+    entries: &[Entry],
+) -> Result<(), Failed>
+    requires fit { FitPages policy.now.policy entries.now }
+    requires room { 33_584 ≤ page.old.spare }
+    ensures all { OnOk result
+        (Appends (K.written out.old) (K.written out.new)
+        (text_from policy.now page.old.items entries.now)) }
+    ensures part { OnErr result
+        (AppendsPart (K.written out.old) (K.written out.new)
+        (text_from policy.now page.old.items entries.now)) }
+    ensures cause { HasCause (K.faults out.old) (K.faults out.new) result }
+{
+    let mut left = write_page(out, page, policy, entries)?;
+    while !left.is_empty() {
+        left = write_page(out, page, policy, left)?;
+    }
+    Ok(())
+}
+
+/// Writes the log of a ledger, at whose end this status is due, by an empty page. It takes no
+/// memory.
+pub(crate) fn write_up<K: Sink>(page: &mut Page, ledger: &Ledger, due: u8, out: &mut K) -> u8
+    requires { IsBlank page.old }
+    ensures { IsWritten due (log_text ledger.now.named ledger.now.birth ledger.now.entries) result
+        (K.written out.old) (K.written out.new) (K.faults out.old) (K.faults out.new) }
+{
+    let book = ledger.book();
+    put_birth(page, book.birth());
+    match write_pages(out, page, book.policy(), book.entries().as_slice()) {
         Ok(()) => due,
         Err(_) => failed_at(due),
     }

@@ -3,12 +3,11 @@ ghost use Rattle.std.specs.Prelude.{◌≡◌, ◌≤◌, ℕ, [], length, vec_c
 ghost use Rattle.turn_lock.specs.Holders.{newcomers};
 ghost use Rattle.turn_lock.specs.Turns.{part};
 ghost use Rattle.core_machine.specs.Books.{SameRoot, IsBook, HasOnlyModel};
-ghost use Rattle.book_lines.specs.Ledgers.{CanBeServed};
+ghost use Rattle.snapshot_readers.specs.Ledgers.{CanBeServed};
 ghost use Rattle.gtrbac_daemon.specs.Crew.{IsNew, crewmen};
 ghost use Rattle.gtrbac_daemon.specs.Headline.{HaveWorked, Headline};
 
 use crate::crews::{man, relieve};
-use book_lines::Ledger;
 use core_machine::Book;
 use gt_base::{Instant, Memory};
 use gt_io::{Clock, Door, Gate};
@@ -16,6 +15,7 @@ use line_server::{Post, Worker, run_posts};
 use locked_history::Desk;
 use policy_book::Policy;
 use policy_safety::Safe;
+use snapshot_readers::Ledger;
 use std::alloc::{AllocError, Global};
 use std::sync::Wait;
 use std::thread::Threads;

@@ -27,7 +27,7 @@ fn has_enough(end: WorkEnd) -> bool
     matches!(end, WorkEnd::Enough | WorkEnd::Worn { .. })
 }
 
-fn some_out_of_memory<D: Door, C: Clock, G: Gate>(crew: &[Worker<D, C, G>]) -> bool
+pub(crate) fn some_out_of_memory<D: Door, C: Clock, G: Gate>(crew: &[Worker<D, C, G>]) -> bool
     ensures { result ≡ list_any (λ w. is_memory w.outcome) crew.now }
 {
     crew.iter().any(
@@ -37,7 +37,7 @@ fn some_out_of_memory<D: Door, C: Clock, G: Gate>(crew: &[Worker<D, C, G>]) -> b
     )
 }
 
-fn some_failed<D: Door, C: Clock, G: Gate>(crew: &[Worker<D, C, G>]) -> bool
+pub(crate) fn some_failed<D: Door, C: Clock, G: Gate>(crew: &[Worker<D, C, G>]) -> bool
     ensures { result ≡ list_any (λ w. is_door_fault w.outcome) crew.now }
 {
     crew.iter().any(
@@ -47,7 +47,7 @@ fn some_failed<D: Door, C: Clock, G: Gate>(crew: &[Worker<D, C, G>]) -> bool
     )
 }
 
-fn some_spent<D: Door, C: Clock, G: Gate>(crew: &[Worker<D, C, G>]) -> bool
+pub(crate) fn some_spent<D: Door, C: Clock, G: Gate>(crew: &[Worker<D, C, G>]) -> bool
     ensures { result ≡ list_any (λ w. is_spent w.outcome) crew.now }
 {
     crew.iter().any(

@@ -2,37 +2,23 @@
 ghost use Rattle.std.specs.Prelude.{◌≡◌, ◌≤◌, ℕ, List, Some, None, map, string_bytes, length, All};
 ghost use Rattle.gt_io.specs.Causes.{Rose};
 ghost use Rattle.gt_io.specs.Shelf.{Contents};
-ghost use Rattle.request_text.specs.Replies.{log_text};
 ghost use Rattle.gtrbac_daemon.specs.Words.{policy_named};
 ghost use Rattle.gtrbac_daemon.specs.Crew.{IsNew, crewmen};
-ghost use Rattle.gtrbac_daemon.specs.Daemon.{scene, IsWritten, Serves, Answers, RunsServer};
+ghost use Rattle.gtrbac_daemon.specs.Daemon.{scene, Serves, Answers, RunsServer};
 
 use crate::finding::find_policy;
-use crate::printing::{USAGE, print, write_due};
+use crate::printing::{USAGE, write_up};
 use crate::serving::serve_from;
 use crate::statuses::crew_status;
 use crate::words::policy_word;
-use book_lines::Ledger;
 use gt_io::{Clock, Door, Gate, Shelf, Sink};
 use line_server::Worker;
-use policy_commands::Admitted;
+use policy_commands::{Admitted, print};
 use policy_safety::Safe;
-use request_text::write_log;
+use request_text::Page;
 use std::alloc::Global;
 use std::sync::Wait;
 use std::thread::Threads;
-
-/// Writes the log of a ledger, at whose end this status is due.
-pub(crate) fn write_up<K: Sink>(alloc: Global, ledger: &Ledger, due: u8, out: &mut K) -> u8
-    ensures { IsWritten due (log_text ledger.now.named ledger.now.birth ledger.now.entries) result
-        (K.written out.old) (K.written out.new) (K.faults out.old) (K.faults out.new) }
-{
-    let book = ledger.book();
-    match write_log(alloc, book.policy(), book.birth(), book.entries()) {
-        Ok(text) => write_due(out, due, text.as_slice()),
-        Err(_) => 8,
-    }
-}
 
 /// Serves a safe policy from the birth that the clock tells, and writes the log.
 fn serve<
@@ -63,10 +49,13 @@ where
         (K.written out.new) (K.faults out.new)) }
 {
     let minute = birth.now();
+    let Ok(mut page) = Page::new(alloc) else {
+        return 8;
+    };
     match serve_from(rt, alloc, safe, minute, crew) {
         Ok(closed) => {
             let due = crew_status(crew.as_slice());
-            write_up(alloc, &closed, due, out)
+            write_up(&mut page, &closed, due, out)
         }
         Err(_) => 8,
     }
@@ -124,10 +113,10 @@ where
 /// - 2: a line of the policy has a fault, or its lines have one together, which was printed;
 /// - 3: the policy is not safe, and its least conflict cycle was printed;
 /// - 4: the shelf failed, or has no such policy;
-/// - 5: the output failed, with a front of the text written;
+/// - 5: the output failed, with a prefix of the text written;
 /// - 6: the policy has more than 4,194,304 bytes;
-/// - 8: there was no memory, for a worker, for the desk or for the log, of which a front was
-///   written;
+/// - 8: there was no memory: before anybody was served, and nothing is written; or for a worker,
+///   and the log is written, or a prefix of it where the output failed too;
 /// - 10: the door of a worker failed, and the log is written;
 /// - 11: a worker has served 100,000 links, or its pass has drawn 2^40 turns, and the log is
 ///   written.

@@ -1,17 +1,8 @@
 //! The words of the program.
 ghost use Rattle.std.specs.Prelude.{◌≡◌, map, option_map, string_bytes};
-ghost use Rattle.gt_text.specs.Words.{begins_with};
-ghost use Rattle.gtrbac_daemon.specs.Words.{policy_named, poll_named, mode_named};
+ghost use Rattle.gtrbac_daemon.specs.Words.{policy_named, poll_named, mode_named, views_named};
 
-/// Whether a word begins with `-`.
-fn is_dashed(name: &str) -> bool
-    ensures { result ≡ begins_with 45 name.now }
-{
-    match name.as_bytes() {
-        [] => false,
-        [first, ..] => *first == b'-',
-    }
-}
+use policy_commands::is_dashed;
 
 /// The name of the policy that the words are, none where they are no command.
 pub(crate) fn policy_word(words: &[String]) -> Option<&str>
@@ -68,6 +59,23 @@ pub(crate) fn poll_word(words: &[String]) -> Option<&str>
     match words {
         [verb, name] => {
             if verb.as_str() == "poll" && !is_dashed(name.as_str()) {
+                Some(name.as_str())
+            } else {
+                None
+            }
+        }
+        _ => None,
+    }
+}
+
+/// The name of the policy that is to be served with viewers, none where the words say no such
+/// command.
+pub(crate) fn views_word(words: &[String]) -> Option<&str>
+    ensures { option_map (λ name. name.now) result ≡ views_named (map string_bytes words.now) }
+{
+    match words {
+        [verb, name] => {
+            if verb.as_str() == "views" && !is_dashed(name.as_str()) {
                 Some(name.as_str())
             } else {
                 None

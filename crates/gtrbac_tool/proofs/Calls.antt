@@ -1,22 +1,27 @@
 -- What the parts of a call say together.
 use Rattle.std.proofs.Common.{◌≡◌, ℕ, List, Option, Some, None, ◌⊎◌, inl, inr, refl, sym, ◌∙◌, subst}
-use Rattle.std.specs.Prelude.{Result, Ok, Err, IfOk, IsTrue, IsSomeAnd}
+use Rattle.std.specs.Prelude.{Result, IfOk, IsTrue, IsSomeAnd}
 use Rattle.std.specs.Io.KnownBytes.{IsAtEnd}
 use Rattle.gt_io.specs.Causes.{Rose}
 use Rattle.gt_io.specs.Shelf.{Contents}
-use Rattle.policy_commands.specs.declared.ends.End.{End}
-use Rattle.policy_commands.specs.Ends.{Told, told, seen_end}
+use Rattle.gt_text.specs.Lines.{lines_of}
+use Rattle.policy_commands.specs.Ends.{Told, seen_end}
 use Rattle.policy_commands.specs.Finding.{IsPolicyText, MissesText}
 use Rattle.policy_commands.specs.Printing.{IsPrinted, WantsMemory}
 use Rattle.gtrbac_tool.specs.Told.{usage}
 use Rattle.gtrbac_tool.specs.Script.{IsRunStatus}
 use Rattle.gtrbac_tool.specs.Summary.{Gen, IsGen, GenEnds}
-use Rattle.gtrbac_tool.specs.Commands.{Command, named_by, command_of, plays_script}
+use Rattle.gtrbac_tool.specs.Commands.{Command, named_by, command_of, plays_script, IsPlainRun}
+use Rattle.gtrbac_tool.specs.declared.answers.Answer.{Answer}
+use Rattle.gtrbac_tool.specs.declared.answers.Answer.TheVariants.{Ended, Script}
+use Rattle.gtrbac_tool.specs.Writing.{Prints, IsCutShort}
+use Rattle.gtrbac_tool.specs.Answers.{Gives, IsSteadyAt, IsCountedAt, IsReadAt, TellsAnswer}
 use Rattle.gtrbac_tool.specs.Ends.{TextEnds, FoundEnds, IsNoCommand, generated, unspoken, spoken}
 use Rattle.gtrbac_tool.specs.Scenes.{Scene}
 use Rattle.gtrbac_tool.specs.Causes.{perhaps, OnShelf, Short, Asks}
-use Rattle.gtrbac_tool.specs.Tool.{IsSteady, Answers, Prints, Leaves, RunsTool}
-use Rattle.gtrbac_tool.proofs.Causing.{gen_no_command, status_of}
+use Rattle.gtrbac_tool.specs.Tool.{Answers, Leaves, RunsTool}
+use Rattle.gtrbac_tool.proofs.Causing.{gen_no_command, played_status, status_of}
+use Rattle.gtrbac_tool.proofs.Answering.{gives_so, counted_text}
 use Rattle.gtrbac_tool.proofs.Exactness.{none_apart, has_some, on_shelf, text_four, runs}
 use Rattle.gtrbac_tool.proofs.Succeeding.{gen_succeeds}
 
@@ -44,7 +49,7 @@ module _ {S I : Type 0} (words : List (List ℕ)) (status : ℕ) (a : Scene S I)
 
   module _ (none : IsNoCommand words) (p : IsPrinted status usage a.written w a.written_faults n) where
     pub usage_answers : Answers words status a After
-    usage_answers = inr (usage, unspoken none refl, inr (refl, refl), p)
+    usage_answers = inr (usage, unspoken none refl, inr (refl, refl), inl p)
 
     one_four : usage.status ≡ 4 → ⊥
     one_four e = cc (e)
@@ -55,7 +60,7 @@ module _ {S I : Type 0} (words : List (List ℕ)) (status : ℕ) (a : Scene S I)
   module _ (g : Gen) (is : IsGen words g) where
     gen_answers : Prints (GenEnds g) status a.written w a.written_faults n → Answers words status a After
     gen_answers (inl wants) = inl ((λ none. none.1 g is), wants)
-    gen_answers (inr h) = inr (h.0, generated g is h.1, inr (refl, refl), h.2)
+    gen_answers (inr h) = inr (h.0, generated g is h.1, inr (refl, refl), inl h.2)
 
     no_four : (end : Told) → GenEnds g end → end.status ≡ 4 → ⊥
     no_four end ends four = let zero = gen_succeeds g is.low is.high end ends in cc (zero, four)
@@ -69,8 +74,8 @@ module _ {S I : Type 0} (words : List (List ℕ)) (status : ℕ) (a : Scene S I)
 
 -- a call of a command over a policy
 module _ {S I : Type 0} (words : List (List ℕ)) (c : Command) (is : command_of words ≡ Some c) (a b : Scene S I) where
-  abbrev Ended : Told → Type 0
-  Ended end = FoundEnds (Rose a.hard_faults b.hard_faults) (Rose a.input_faults b.input_faults) c a.texts a.script end
+  abbrev Ending : Told → Type 0
+  Ending end = FoundEnds (Rose a.hard_faults b.hard_faults) (Rose a.input_faults b.input_faults) c a.texts a.script end
 
   pub starved : (status : ℕ) → WantsMemory status a.written b.written a.written_faults b.written_faults → Answers words status a b
   starved status wants = inl ((λ none. none_apart (command_of words) c none.0 is), wants)
@@ -97,37 +102,62 @@ module _ {S I : Type 0} (words : List (List ℕ)) (c : Command) (is : command_of
     pub starved_leaves : Leaves words 8 a b
     starved_leaves = leaves 8 (λ plays ran. absurd (no_run ran)) (λ four. absurd (eight_four four))
 
-    module _ (status : ℕ) (end : End) (text : List ℕ) (whole : text ≡ end.text.items) (p : IsPrinted status (told end.status text) a.written b.written a.written_faults b.written_faults) where
-      printed : IsPrinted status (seen_end end) a.written b.written a.written_faults b.written_faults
-      printed = subst (λ (t : List ℕ). IsPrinted status (told end.status t) a.written b.written a.written_faults b.written_faults) whole p
+    five_run : (status : ℕ) → status ≡ 5 → IsRunStatus status → ⊥
+    five_run status five (inl e) = cc (five, e)
+    five_run status five (inr (inl e)) = cc (five, e)
+    five_run status five (inr (inr e)) = cc (five, e)
 
-      pub answers : Ended (seen_end end) → IsSteady (seen_end end) a b → Answers words status a b
-      answers ends steady = inr (seen_end end, spoken c is ends, steady, printed)
+    five_four : (status : ℕ) → status ≡ 5 → status ≡ 4 → ⊥
+    five_four status five four = cc (five, four)
 
-      five_run : status ≡ 5 → IsRunStatus status → ⊥
-      five_run five (inl e) = cc (five, e)
-      five_run five (inr (inl e)) = cc (five, e)
-      five_run five (inr (inr e)) = cc (five, e)
+    run_four : (status : ℕ) → IsRunStatus status → status ≡ 4 → ⊥
+    run_four status (inl e) four = cc (e, four)
+    run_four status (inr (inl e)) four = cc (e, four)
+    run_four status (inr (inr e)) four = cc (e, four)
 
-      read_on : (Playing c → IsRunStatus end.status → IsAtEnd b.script) → Playing c → IsRunStatus status → IsAtEnd b.script
-      read_on read plays ran =
-          elim p [
-            | inl q ↦ read plays (subst IsRunStatus q.0 ran)
-            | inr q ↦ absurd (five_run q.0 ran)
-          ]
+    -- what it comes to was told
+    abbrev ReadAtEnd : Type 0
+    ReadAtEnd = IsAtEnd b.script
 
-      five_four : status ≡ 5 → status ≡ 4 → ⊥
-      five_four five four = cc (five, four)
+    abbrev Counted : Type 0
+    Counted = Rose a.shelf_faults b.shelf_faults ⊎ Rose a.input_faults b.input_faults
 
-      counted_on : (end.status ≡ 4 → Rose a.shelf_faults b.shelf_faults ⊎ Rose a.input_faults b.input_faults) → status ≡ 4 → Rose a.shelf_faults b.shelf_faults ⊎ Rose a.input_faults b.input_faults
-      counted_on counted four =
-          elim p [
-            | inl q ↦ counted (sym q.0 ∙ four)
-            | inr q ↦ absurd (five_four q.0 four)
-          ]
+    abbrev SameFaults : Type 0
+    SameFaults = (b.hard_faults ≡ a.hard_faults) × (b.input_faults ≡ a.input_faults)
 
-      pub all_leaves : (Playing c → IsRunStatus end.status → IsAtEnd b.script) → (end.status ≡ 4 → Rose a.shelf_faults b.shelf_faults ⊎ Rose a.input_faults b.input_faults) → Leaves words status a b
-      all_leaves read counted = leaves status (read_on read) (counted_on counted)
+    abbrev Tells : Answer → ℕ → Type 0
+    Tells answer status = TellsAnswer answer status a.written b.written a.written_faults b.written_faults
+
+    abbrev How : ℕ → Told → Type 0
+    How status end = IsPrinted status end a.written b.written a.written_faults b.written_faults ⊎ IsCutShort status end a.written b.written a.written_faults b.written_faults
+
+    plainly : (status : ℕ) (end : Told) → IsPlainRun c → How status end
+        → IsPrinted status end a.written b.written a.written_faults b.written_faults ⊎ (IsSomeAnd (command_of words) IsPlainRun × IsCutShort status end a.written b.written a.written_faults b.written_faults)
+    plainly status end plain (inl printed) = inl printed
+    plainly status end plain (inr short) = inr (has_some IsPlainRun (command_of words) c is plain, short)
+
+    pub answers : (status : ℕ) (answer : Answer) → Tells answer status → Gives (IsPlainRun c) Ending answer → IsSteadyAt SameFaults answer → Answers words status a b
+    answers status (Ended end) tells gives steady = inr (seen_end end, spoken c is gives, steady, inl tells)
+    answers status (Script np text) tells gives steady =
+        inr (tells.0, spoken c is (gives.2 tells.0 tells.1), inr steady, plainly status tells.0 gives.0 tells.2)
+
+    read_after : (status : ℕ) (answer : Answer) → Tells answer status → (Playing c → IsReadAt ReadAtEnd answer) → Playing c → IsRunStatus status → ReadAtEnd
+    read_after status (Ended end) (inl p) read plays ran = read plays (subst IsRunStatus p.0 ran)
+    read_after status (Ended end) (inr p) read plays ran = absurd (five_run status p.0 ran)
+    read_after status (Script np text) tells read plays ran = read plays
+
+    not_four : (status : ℕ) (end : Told) → IsRunStatus end.status → How status end → status ≡ 4 → ⊥
+    not_four status end ran (inl (inl p)) four = run_four status (subst IsRunStatus (sym p.0) ran) four
+    not_four status end ran (inl (inr p)) four = five_four status p.0 four
+    not_four status end ran (inr p) four = eight_four (sym p.0 ∙ four)
+
+    counted_after : (status : ℕ) (answer : Answer) → Tells answer status → IsCountedAt Counted answer → status ≡ 4 → Counted
+    counted_after status (Ended end) (inl p) counted four = counted (sym p.0 ∙ four)
+    counted_after status (Ended end) (inr p) counted four = absurd (five_four status p.0 four)
+    counted_after status (Script np text) tells counted four = absurd (not_four status tells.0 (played_status np (lines_of text.items) tells.0 tells.1) tells.2 four)
+
+    pub all_leaves : (status : ℕ) (answer : Answer) → Tells answer status → (Playing c → IsReadAt ReadAtEnd answer) → IsCountedAt Counted answer → Leaves words status a b
+    all_leaves status answer tells read counted = leaves status (read_after status answer tells read) (counted_after status answer tells counted)
 
 -- a command over what the shelf has by its name
 module _ (hard failed : Type 0) (c : Command) (texts : Contents) (input : Option (List ℕ)) (name : List ℕ) (named : name ≡ named_by c) where
@@ -135,9 +165,8 @@ module _ (hard failed : Type 0) (c : Command) (texts : Contents) (input : Option
     here : IsPolicyText texts (named_by c) text
     here = subst (λ (n : List ℕ). IsPolicyText texts n text) named there
 
-    pub over_text : {E : Type 0} (r : Result End E) → IfOk r (λ e. TextEnds failed c text input (seen_end e)) → IfOk r (λ e. FoundEnds hard failed c texts input (seen_end e))
-    over_text (Ok e) h = inr (text, here, h)
-    over_text (Err f) h = tt
+    pub over_text : {E : Type 0} (P : Type 0) (r : Result Answer E) → IfOk r (Gives P (TextEnds failed c text input)) → IfOk r (Gives P (FoundEnds hard failed c texts input))
+    over_text P r h = gives_so P P (TextEnds failed c text input) (FoundEnds hard failed c texts input) (λ p. p) (λ end ends. inr (text, here, ends)) r h
 
     pub asked_there : (Same : Type 0) → Same ⊎ Asks c text → Same ⊎ OnShelf perhaps texts (Short Asks) c
     asked_there Same (inl same) = inl same
@@ -154,12 +183,6 @@ missed_run hard texts name end Read (inr m) (inl z) = let is : end.status ≡ 6 
 missed_run hard texts name end Read (inr m) (inr (inl z)) = let is : end.status ≡ 6 = status_of end _ m.0 in absurd (cc (is, z))
 missed_run hard texts name end Read (inr m) (inr (inr z)) = let is : end.status ≡ 6 = status_of end _ m.0 in absurd (cc (is, z))
 
-pub text_counted : {E : Type 0} (shelf failed : Type 0) (c : Command) (text : List ℕ) (input : Option (List ℕ)) (r : Result End E)
-    → IfOk r (λ e. TextEnds failed c text input (seen_end e)) → IfOk r (λ e. e.status ≡ 4 → shelf ⊎ failed)
-text_counted shelf failed c text input (Ok e) h = λ four. inr (text_four failed input (seen_end e) four c text h)
-text_counted shelf failed c text input (Err f) h = tt
-
-pub text_steady : {E : Type 0} (shelf same : Type 0) (r : Result End E) → shelf → IfOk r (λ e. (e.status ≡ 4) ⊎ same) → IfOk r (λ e. (e.status ≡ 4) ⊎ (shelf × same))
-text_steady shelf same (Ok e) s (inl four) = inl four
-text_steady shelf same (Ok e) s (inr h) = inr (s, h)
-text_steady shelf same (Err f) s h = tt
+pub text_counted : {E : Type 0} (P shelf failed : Type 0) (c : Command) (text : List ℕ) (input : Option (List ℕ)) (r : Result Answer E)
+    → IfOk r (Gives P (TextEnds failed c text input)) → IfOk r (IsCountedAt (shelf ⊎ failed))
+text_counted P shelf failed c text input r h = counted_text P (TextEnds failed c text input) (shelf ⊎ failed) (λ end four ends. inr (text_four failed input end four c text ends)) r h

@@ -1,5 +1,5 @@
 -- How the run of a script ends, and words of `gen`.
-use Rattle.std.proofs.Common.{◌≡◌, ℕ, List, [], ◌∷◌, Option, Some, None, inl, inr, refl, ap, ◌∙◌}
+use Rattle.std.proofs.Common.{◌≡◌, ℕ, List, [], ◌∷◌, Option, None, inl, inr, refl, ap, ◌∙◌}
 use Rattle.std.specs.Prelude.{◌+◌, Bool, true, false, length, decimal, Result, Ok, Err, if◌then◌else◌}
 use Rattle.gt_text.specs.Words.{begins_with}
 use Rattle.gt_base.specs.declared.requests.Entry.{Entry}

@@ -1,5 +1,5 @@
 -- Each status has its cause, and each cause its status.
-use Rattle.std.proofs.Common.{◌≡◌, ℕ, ◌<◌, ◌≤◌, Bool, List, length, Option, Some, None, ◌⊎◌, inl, inr, refl, sym, ap, ◌∙◌, subst, arith}
+use Rattle.std.proofs.Common.{◌≡◌, ℕ, ◌<◌, ◌≤◌, List, length, Option, Some, None, ◌⊎◌, inl, inr, refl, sym, ap, ◌∙◌, subst, arith}
 use Rattle.std.specs.Prelude.{Result, Ok, Err, IfSome, IsSome, IsSomeAnd, codes}
 use Rattle.gt_io.specs.Causes.{Rose}
 use Rattle.gt_io.specs.Shelf.{Contents, Lacks}
@@ -9,7 +9,7 @@ use Rattle.walk_laws.proofs.Closing.{tells}
 use Rattle.policy_words.specs.Naming.{NamedPolicy}
 use Rattle.policy_words.specs.PolicyRead.{PolicyFault, policy_read}
 use Rattle.policy_commands.specs.Ends.{Told, told}
-use Rattle.policy_commands.specs.Finding.{read_fault, too_long, max_policy, IsLongPolicy, IsPolicyText, MissesText}
+use Rattle.policy_commands.specs.Finding.{max_policy, IsLongPolicy, IsPolicyText, MissesText}
 use Rattle.policy_commands.specs.Printing.{IsPrinted}
 use Rattle.policy_commands.specs.Policies.{read_or_told, policy_in, safe_or_told, judged, judged_or_told, safe_in, HasFault, IsUnsafeText}
 use Rattle.policy_commands.specs.Commands.{laid_or_told, fmt_end, safe_or_end, check_end}
@@ -18,14 +18,14 @@ use Rattle.policy_commands.proofs.Answered.{safe_means, unsafe_means, fault_mean
 use Rattle.gtrbac_tool.specs.declared.questions.Question.{Question}
 use Rattle.gtrbac_tool.specs.declared.ahead.Asked.{Asked}
 use Rattle.gtrbac_tool.specs.Late.{asks_of}
-use Rattle.gtrbac_tool.specs.Told.{usage, unknown_name}
 use Rattle.gtrbac_tool.specs.Script.{IsRunStatus, start_of, EndsFrom, max_script}
 use Rattle.gtrbac_tool.specs.Meanings.{MeetsFault, MeetsFull, IsWhole, RunMeans}
-use Rattle.gtrbac_tool.specs.Summary.{Gen, IsGen, IsNoGen, GenEnds}
-use Rattle.gtrbac_tool.specs.Commands.{Command, check, fmt, run, named_by, command_of}
+use Rattle.gtrbac_tool.specs.Summary.{Gen, IsGen}
+use Rattle.gtrbac_tool.specs.Commands.{Command, check, fmt, run, named_by, command_of, IsPlainRun}
+use Rattle.gtrbac_tool.specs.Writing.{IsCutShort}
 use Rattle.gtrbac_tool.specs.Ends.{PlaysTo, ScriptEnds, AskedEnds, JudgedEnds, TextEnds, FoundEnds, IsNoCommand, WordsEnd, generated, unspoken, spoken}
 use Rattle.gtrbac_tool.specs.Scenes.{Scene}
-use Rattle.gtrbac_tool.specs.Causes.{Sight, perhaps, surely, Sees, Fails, IsSafeOf, HasPolicy, Checks, Lays, Judges, Plays, Short, OnShelf, Over, Text, Script, IsMissing, IsTooLong, IsLongScript, Within, Cause, safe, laid, played, made, no_command, faulty, unsafe, missing, unread, unwritten, long_policy, long_script, bad_line, no_memory, full, unknown}
+use Rattle.gtrbac_tool.specs.Causes.{perhaps, surely, Sees, Fails, IsSafeOf, HasPolicy, Checks, Lays, Judges, Plays, Short, OnShelf, Over, Text, Script, IsMissing, IsTooLong, IsLongScript, Within, Cause, safe, laid, played, made, no_command, faulty, unsafe, missing, unread, unwritten, long_policy, long_script, bad_line, no_memory, full, unknown}
 use Rattle.gtrbac_tool.specs.Tool.{IsUnread, IsUnwritten, IsSteady, Answers, IsDue, Leaves, RunsTool}
 use Rattle.gtrbac_tool.proofs.Causing.{played_status, status_of, gen_no_command}
 use Rattle.gtrbac_tool.proofs.Limits.{ran_to}
@@ -273,8 +273,9 @@ module _ {S I : Type 0} (words : List (List ℕ)) (a b : Scene S I) where
   cause_of status (inl h) = no_memory h.1.0 h.0 refl
   cause_of status (inr h) =
       elim h.3 [
-        | inl p ↦ subst Has (sym p.0) (end_cause h.0 h.1)
-        | inr p ↦ unwritten p.0 p.1
+        | inl (inl p) ↦ subst Has (sym p.0) (end_cause h.0 h.1)
+        | inl (inr p) ↦ unwritten p.0 p.1
+        | inr p ↦ no_memory p.1.0 (λ none. absurd (subst (λ (o : Option Command). IsSomeAnd o IsPlainRun) none.0 p.0)) refl
       ]
 
   -- and a cause its status
@@ -482,9 +483,11 @@ module _ {S I : Type 0} (words : List (List ℕ)) (a b : Scene S I) where
   dues_of status (inl h) s c = inr (inr (inr h.1.0))
   dues_of status (inr h) s c = by h.3
     where
-      by : IsPrinted status h.0 a.written b.written a.written_faults b.written_faults → IsDue s status a b
-      by (inr p) = inr (inr (inl (p.0, p.1)))
-      by (inl p) = elim (cause_fits h.0 h.1 s c h.2 p.2) [ inl e ↦ inl (p.0 ∙ e) | inr lost ↦ inr (inl (p.0 ∙ lost.0, lost.1)) ]
+      by : IsPrinted status h.0 a.written b.written a.written_faults b.written_faults
+          ⊎ (IsSomeAnd (command_of words) IsPlainRun × IsCutShort status h.0 a.written b.written a.written_faults b.written_faults) → IsDue s status a b
+      by (inr p) = inr (inr (inr p.1.0))
+      by (inl (inr p)) = inr (inr (inl (p.0, p.1)))
+      by (inl (inl p)) = elim (cause_fits h.0 h.1 s c h.2 p.2) [ inl e ↦ inl (p.0 ∙ e) | inr lost ↦ inr (inl (p.0 ∙ lost.0, lost.1)) ]
 
   complete_of : (status : ℕ) → IsDue 0 status a b → (IsUnread a b → ⊥) → (IsUnwritten a b → ⊥) → (status ≡ 0) ⊎ (status ≡ 8)
   complete_of status (inl z) read written = inl z

@@ -3,8 +3,11 @@ pub mod ListingOrder
 pub mod ListingTrace
 pub mod OneHistory
 pub mod OneEnd
+pub mod Continuing
+pub mod SomeEnd
 pub mod OneAnswer
 pub mod Reasons
+pub mod NamedRuns
 pub mod OnePlay
 pub mod Asking
 pub mod Limits
@@ -15,4 +18,7 @@ pub mod LastInstant
 pub mod Steps
 pub mod Succeeding
 pub mod Tallying
+pub mod Writing
+pub mod Pieces
+pub mod Answering
 pub mod Calls

@@ -1,11 +1,10 @@
 -- A script within its limit, and how it ends.
-use Rattle.std.proofs.Common.{◌≡◌, ℕ, ◌≤◌, Bool, true, false, List, length, Some, None, refl, sym, ◌∙◌, subst, arith}
-use Rattle.std.specs.Prelude.{Option, Result, Ok, Err, IfOk}
+use Rattle.std.proofs.Common.{◌≡◌, ℕ, ◌≤◌, Bool, true, false, List, length, Some, None, refl, sym, subst, arith}
+use Rattle.std.specs.Prelude.{Option}
 use Rattle.std.proofs.lemmas.Bool.{ltb-true}
 use Rattle.gt_text.specs.Lines.{lines_of, is_longer}
 use Rattle.policy_words.specs.Naming.{NamedPolicy}
-use Rattle.policy_commands.specs.declared.ends.End.{End}
-use Rattle.policy_commands.specs.Ends.{Told, seen_end}
+use Rattle.policy_commands.specs.Ends.{Told}
 use Rattle.gtrbac_tool.specs.declared.ahead.Asked.{Asked}
 use Rattle.gtrbac_tool.specs.Late.{AnswersFrom, AnswersIf}
 use Rattle.gtrbac_tool.specs.Script.{start_of, EndsFrom, EndsIf, max_script}
@@ -22,17 +21,11 @@ module _ (np : NamedPolicy) (script : List ℕ) (short : length script ≤ max_s
 
   -- an end from its start is an end of the script
 
-  pub plain : {E : Type 0} (r : Result End E)
-      → IfOk r (λ e. EndsFrom np (start_of np 1 (lines_of script)) (seen_end e))
-      → IfOk r (λ e. PlaysTo np None script (seen_end e))
-  plain (Ok e) h = subst (λ (b : Bool). EndsIf b np script (seen_end e)) (sym not_longer) h
-  plain (Err f) h = tt
+  pub plain : (end : Told) → EndsFrom np (start_of np 1 (lines_of script)) end → PlaysTo np None script end
+  plain end is = subst (λ (b : Bool). EndsIf b np script end) (sym not_longer) is
 
-  pub answering : {E : Type 0} (asked : Asked) (r : Result End E)
-      → IfOk r (λ e. AnswersFrom np asked (start_of np 1 (lines_of script)) (seen_end e))
-      → IfOk r (λ e. PlaysTo np (Some asked) script (seen_end e))
-  answering asked (Ok e) h = subst (λ (b : Bool). AnswersIf b np asked script (seen_end e)) (sym not_longer) h
-  answering asked (Err f) h = tt
+  pub answering : (asked : Asked) (end : Told) → AnswersFrom np asked (start_of np 1 (lines_of script)) end → PlaysTo np (Some asked) script end
+  answering asked end is = subst (λ (b : Bool). AnswersIf b np asked script end) (sym not_longer) is
 
   -- and the other way, with the end of the replies alone
 

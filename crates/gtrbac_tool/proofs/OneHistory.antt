@@ -59,7 +59,7 @@ module _ (p : Policy) (birth : ℕ) where
   step_legal m g e r legal = (steps_after p birth m [] g (e ∷ r) legal.steps).0
 
   module _ (safe : IsSafe p.triggers) where
-    once : (moves : List Move) → PlaysOnce p birth moves
+    pub once : (moves : List Move) → PlaysOnce p birth moves
     once moves = let levels = safe_is_levelled p.triggers safe in plays_once p birth levels.0 (by_trigger p.triggers levels.0 levels.1) moves
 
     pub same_moves : (m n : Model) (h k : List Entry) → Legal p birth h m → Legal p birth k n → map move_of h ≡ map move_of k → h ≡ k

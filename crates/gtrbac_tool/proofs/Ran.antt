@@ -6,19 +6,9 @@ use Rattle.policy_commands.specs.Ends.{Told, seen_end}
 use Rattle.policy_words.specs.Naming.{NamedPolicy}
 use Rattle.gtrbac_tool.specs.declared.script.Outcome.{Outcome}
 use Rattle.gtrbac_tool.specs.declared.starting.Ran.TheVariants.{Unborn, Born}
-use Rattle.gtrbac_tool.specs.Script.{Start, never, born, failed, EndsFrom}
+use Rattle.gtrbac_tool.specs.Script.{Start, never, born, failed}
 use Rattle.gtrbac_tool.specs.Started.{RanFrom}
 use Rattle.gtrbac_tool.specs.Summary.{Gen, SummedFrom, summed}
-
-pub unborn_ends : (np : NamedPolicy) (start : Start) (end : End) → RanFrom np start (Unborn end) → EndsFrom np start (seen_end end)
-unborn_ends np never end h = h
-unborn_ends np (born birth n lines) end h = absurd h
-unborn_ends np (failed t) end h = h
-
-pub born_ends : (np : NamedPolicy) (start : Start) (out : Outcome) → RanFrom np start (Born out) → EndsFrom np start (seen_end out.end)
-born_ends np never out h = absurd h
-born_ends np (born birth n lines) out h = (out.book.entries, h.run)
-born_ends np (failed t) out h = absurd h
 
 pub unborn_sums : (np : NamedPolicy) (g : Gen) (start : Start) (end : End) → RanFrom np start (Unborn end) → SummedFrom np g start (seen_end end)
 unborn_sums np g never end h = h

@@ -19,7 +19,8 @@ use Rattle.gtrbac_model.specs.Trigger.{immediate, met}
 use Rattle.gtrbac_model.proofs.Elements.{Elem, split, any_elim, both_true, either_true, elem_of_set_of, has_of_elem}
 use Rattle.gtrbac_model.proofs.Uniqueness.{is_same_event}
 use Rattle.gtrbac_tool.specs.Standing.{at_prio, raises, first_raising}
-use Rattle.gtrbac_tool.specs.Reasons.{HasPriorities, HasReason, HasConverse, IsExplained, ReasonsExist}
+use Rattle.why_check.specs.Priorities.{HasPriorities}
+use Rattle.gtrbac_tool.specs.Reasons.{HasReason, HasConverse, IsExplained, ReasonsExist}
 
 module _ (rules : List TriggerView) (base : HappenedView) (before : Status) (x : HappenedView) where
   abbrev supports : List Prioritised → Prioritised → TriggerView → Bool
@@ -64,7 +65,7 @@ module _ (rules : List TriggerView) (base : HappenedView) (before : Status) (x :
       (elem_of_set_of prioritised_cmp_total prioritised_cmp-IsAntisymmetric is.order e (subst (λ z. has z e ≡ true) is.grounding.lists h))
 
 -- what the greatest number is
-greatest_holds : (f : ℕ → Bool) (n p : ℕ) → greatest_below f n ≡ Some p → (p < n) × (f p ≡ true)
+pub greatest_holds : (f : ℕ → Bool) (n p : ℕ) → greatest_below f n ≡ Some p → (p < n) × (f p ≡ true)
 greatest_holds f zero p is = cc
 greatest_holds f (suc n) p is =
     split (f n)

@@ -109,7 +109,7 @@ pub rooted : (b0 b : BookView) (line : List ℕ) (how : Played) (s t : Going) �
 rooted b0 b line how s t root h =
     subst (λ (np : NamedPolicy). PlaysAs np b0.birth (said np line) how s t) (sym root.0) (subst (λ (birth : ℕ). PlaysAs b.named birth (said b.named line) how s t) (sym root.1) h)
 
-legal_from : (b0 b : BookView) → SameRoot b0 b → IsLegalBook b → Legal b0.named.policy b0.birth b.entries (model_in b)
+pub legal_from : (b0 b : BookView) → SameRoot b0 b → IsLegalBook b → Legal b0.named.policy b0.birth b.entries (model_in b)
 legal_from b0 b root legal =
     subst (λ (np : NamedPolicy). Legal np.policy b0.birth b.entries (model_in b)) (sym root.0) (subst (λ (birth : ℕ). Legal b.named.policy birth b.entries (model_in b)) (sym root.1) legal)
 

@@ -1,5 +1,5 @@
 -- The counted replies by their texts, and how `gen` ends.
-use Rattle.std.proofs.Common.{◌≡◌, ℕ, List, ◌++◌, true, false, inl, inr, refl, sym, ap, ◌∙◌, subst}
+use Rattle.std.proofs.Common.{◌≡◌, ℕ, List, ◌++◌, true, false, refl, sym, ap, ◌∙◌, subst}
 use Rattle.std.specs.Prelude.{Bool, nat_eq, codes, decimal, Result, Ok as Fine, Err, IfOk}
 use Rattle.std.specs.List.{count_by}
 use Rattle.std.proofs.lemmas.Bool.{ne_eqb}
@@ -16,7 +16,7 @@ use Rattle.policy_commands.specs.Ends.{Told, told, seen_end}
 use Rattle.request_text.specs.Replies.{reply_text}
 use Rattle.gtrbac_tool.specs.declared.summing.Word.{Word}
 use Rattle.gtrbac_tool.specs.declared.summing.Word.TheVariants.{Ok, Permit, Deny, Refused}
-use Rattle.gtrbac_tool.specs.Script.{Start, never, born, failed, start_of}
+use Rattle.gtrbac_tool.specs.Script.{start_of}
 use Rattle.gtrbac_tool.specs.Summary.{Gen, begins, is_answered, count_line, summary, summed, SummedFrom, SummedOver, GenEnds, gen_line, steps_line, end_line}
 use Rattle.gtrbac_tool.specs.Counted.{word_text, replies, counts, tally_line, tally}
 use Rattle.gt_text.specs.Lines.{lines_of}

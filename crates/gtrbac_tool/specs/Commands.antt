@@ -1,5 +1,5 @@
 -- The commands over a policy, and which of them words are.
-use Rattle.std.specs.Prelude.{ℕ, Bool, true, false, List, [], ◌∷◌, codes, bytes_eq, Option, Some, None, option_map, if◌then◌else◌}
+use Rattle.std.specs.Prelude.{◌≡◌, ℕ, Bool, true, false, List, [], ◌∷◌, codes, bytes_eq, Option, Some, None, option_map, if◌then◌else◌}
 use Rattle.gt_text.specs.Words.{begins_with}
 use Rattle.gtrbac_tool.specs.declared.commands.Command as declared
 use Rattle.gtrbac_tool.specs.declared.commands.Command.TheVariants.{Check, Fmt, Run}
@@ -23,6 +23,12 @@ abbrev pub plays_script : Command → Bool
 plays_script (check name) = false
 plays_script (fmt name) = false
 plays_script (run name question) = true
+
+-- a run with nothing asked behind it
+abbrev pub IsPlainRun : Command → Type 0
+IsPlainRun (check name) = ⊥
+IsPlainRun (fmt name) = ⊥
+IsPlainRun (run name question) = question ≡ None
 
 abbrev pub command_by : List ℕ → List ℕ → Option Command
 command_by verb name =

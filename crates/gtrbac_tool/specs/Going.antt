@@ -19,6 +19,10 @@ use Rattle.gtrbac_tool.specs.Script.{Going, AreTicks, Moves, Stops, RunOver}
 abbrev pub going_of : BookView → Actor → List ℕ → Going
 going_of b actor text = record { actor = actor; history = b.entries; text = text }
 
+-- the same with this text before it
+abbrev pub after : List ℕ → Going → Going
+after sent s = record { actor = s.actor; history = s.history; text = sent ++ s.text }
+
 -- the actor is one that the policy has
 abbrev pub IsActorOf : BookView → Actor → Type 0
 IsActorOf b actor = IsNamedWish b.named.policy (ask actor requests.Now)

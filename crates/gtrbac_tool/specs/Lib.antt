@@ -13,4 +13,6 @@ pub mod Ends
 pub mod Scenes
 pub mod Meanings
 pub mod Causes
+pub mod Writing
+pub mod Answers
 pub mod Tool

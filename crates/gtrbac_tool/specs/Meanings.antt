@@ -80,6 +80,12 @@ OneEnd =
     (np : NamedPolicy) → IsSafe np.policy.triggers → (script : List ℕ) (end other : Told)
     → Ends np script end → Ends np script other → end ≡ other
 
+-- and it has one
+abbrev pub SomeEnd : Type 0
+SomeEnd =
+    (np : NamedPolicy) → IsSafe np.policy.triggers → (script : List ℕ)
+    → (end : Told) × Ends np script end
+
 -- and what is asked behind it has just one answer
 abbrev pub OneAnswer : Type 0
 OneAnswer =

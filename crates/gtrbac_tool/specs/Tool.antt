@@ -1,21 +1,15 @@
 -- What a call of the program promises.
 use Rattle.std.specs.Prelude.{◌≡◌, ◌⊎◌, ℕ, List, None, IsTrue, IsSomeAnd}
-use Rattle.std.specs.declared.option.Option.{Option}
 use Rattle.std.specs.Io.KnownBytes.{IsAtEnd}
 use Rattle.gt_io.specs.Causes.{Rose}
 use Rattle.policy_commands.specs.Ends.{Told}
 use Rattle.policy_commands.specs.Printing.{IsPrinted, WantsMemory}
 use Rattle.gtrbac_tool.specs.Script.{IsRunStatus}
-use Rattle.gtrbac_tool.specs.Commands.{command_of, plays_script}
+use Rattle.gtrbac_tool.specs.Commands.{command_of, plays_script, IsPlainRun}
+use Rattle.gtrbac_tool.specs.Writing.{IsCutShort}
 use Rattle.gtrbac_tool.specs.Ends.{IsNoCommand, WordsEnd}
 use Rattle.gtrbac_tool.specs.Scenes.{Scene}
 use Rattle.gtrbac_tool.specs.Causes.{perhaps, surely, Asks, Text, Cause}
-
--- a call that prints what it ends with, or finds no memory
-abbrev pub Prints : (Told → Type 0) → ℕ → Option (List ℕ) → Option (List ℕ) → ℕ → ℕ → Type 0
-Prints Ends status old new before now =
-    WantsMemory status old new before now
-    ⊎ ((end : Told) × Ends end × IsPrinted status end old new before now)
 
 module _ {S I : Type 0} where
   -- the shelf failed otherwise than by a missing name, or the input did
@@ -30,7 +24,8 @@ module _ {S I : Type 0} where
   IsSteady end a b =
       (end.status ≡ 4) ⊎ ((b.hard_faults ≡ a.hard_faults) × (b.input_faults ≡ a.input_faults))
 
-  -- what the words end with is printed; or there was no memory for it, and nothing was written
+  -- what the words end with is printed; or there was no memory for it, and nothing was written, but
+  -- of a script with nothing asked behind it perhaps a prefix
   abbrev pub Answers : List (List ℕ) → ℕ → Scene S I → Scene S I → Type 0
   Answers words status a b =
       ((IsNoCommand words → ⊥)
@@ -39,7 +34,9 @@ module _ {S I : Type 0} where
       × WordsEnd (Rose a.hard_faults b.hard_faults) (Rose a.input_faults b.input_faults) words
       a.texts a.script end
       × IsSteady end a b
-      × IsPrinted status end a.written b.written a.written_faults b.written_faults)
+      × (IsPrinted status end a.written b.written a.written_faults b.written_faults
+      ⊎ (IsSomeAnd (command_of words) IsPlainRun
+      × IsCutShort status end a.written b.written a.written_faults b.written_faults)))
 
   -- the status is this one; but for a shelf or an input that failed, an output that failed, and
   -- want of memory

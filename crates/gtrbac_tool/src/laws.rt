@@ -1,6 +1,6 @@
 //! What the end of a run means, and what is asked behind it.
-ghost use Rattle.gtrbac_tool.specs.Reasons.{ReasonsExist};
-ghost use Rattle.gtrbac_tool.specs.Meanings.{OneEnd, OneAnswer, RunsMean, LongMeans, RunsArePlays};
+ghost use Rattle.gtrbac_tool.specs.Reasons.{ReasonsExist, TellingsAreExplained};
+ghost use Rattle.gtrbac_tool.specs.Meanings.{OneEnd, SomeEnd, OneAnswer, RunsMean, LongMeans, RunsArePlays};
 
 /// A script has exactly one end over a safe policy, and a question behind it exactly one answer. It
 /// ends with 6 exactly where it is too long, and else with 7 exactly where the run comes to a line
@@ -9,6 +9,7 @@ ghost use Rattle.gtrbac_tool.specs.Meanings.{OneEnd, OneAnswer, RunsMean, LongMe
 /// lines ask for.
 pub fn run_means()
     ensures one { OneEnd }
+    ensures some { SomeEnd }
     ensures answer { OneAnswer }
     ensures runs { RunsMean }
     ensures long { LongMeans }
@@ -17,7 +18,8 @@ pub fn run_means()
 
 /// What is told of an event that stands in a settled set has a reason: the base, or a first trigger
 /// that raises it. Where the event is blocked, its converse stands in the set, and so at a greatest
-/// priority.
+/// priority. So it is of what is told at the end of each run, at its birth too.
 pub fn reasons_exist()
-    ensures { ReasonsExist }
+    ensures sets { ReasonsExist }
+    ensures told { TellingsAreExplained }
 {}

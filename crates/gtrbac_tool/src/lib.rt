@@ -2,10 +2,12 @@
 #![tactic(auto)]
 
 mod ahead;
+mod answers;
 mod commands;
 mod explaining;
 mod laws;
 mod questions;
+mod replying;
 mod script;
 mod standing;
 mod starting;

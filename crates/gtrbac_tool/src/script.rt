@@ -88,7 +88,7 @@ fn after_step(done: bool) -> Played
 }
 
 /// Plays a line.
-fn play_line(run: &mut Run, line: &[u8]) -> Result<Played, Memory>
+pub(crate) fn play_line(run: &mut Run, line: &[u8]) -> Result<Played, Memory>
     requires { IsActorOf run.old.book run.old.actor }
     ensures root { OnOk result (SameRoot run.old.book run.new.book) }
     ensures actor { OnOk result (IsActorOf run.new.book run.new.actor) }

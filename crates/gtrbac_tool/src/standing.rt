@@ -150,6 +150,13 @@ fn add_blocker(text: &mut Vec<u8>, named: &NamedEvent, prio: Option<Prio>) -> Re
     }
 }
 
+/// The event that is asked about, and its names.
+#[derive(Clone, Copy)]
+struct Subject {
+    named: NamedEvent,
+    event: Event,
+}
+
 /// Adds how the event, of which this is seen in the set of an instant, stands there, with its
 /// reason, and with what blocks it.
 fn add_standing(
@@ -158,31 +165,35 @@ fn add_standing(
     base: &Happened,
     before: &Status,
     x: &Contest,
-    named: &NamedEvent,
-    e: Event,
+    subject: &Subject,
     seen: Seen,
 ) -> Result<(), Memory>
     ensures { OnOk result
         (text.new.items
         ≡ text.old.items
-        ++ standing_line rules.now base.now.set (has before.now.set) x.now named.now e
-        seen) }
+        ++ standing_line rules.now base.now.set (has before.now.set) x.now
+        subject.now.named subject.now.event seen) }
 {
+    let event = subject.event;
     match seen {
         Seen::Absent => text.extend_from_slice(b"absent\n"),
         Seen::Unblocked(prio) => {
             text.extend_from_slice(b"yes ")?;
             push_number(text, u64::from(prio.get()))?;
             text.extend_from_slice(b" ")?;
-            add_reason(text, rules, base, before, x, Prioritised { prio, event: e })?;
+            add_reason(text, rules, base, before, x, Prioritised { prio, event })?;
             text.extend_from_slice(b"\n")
         }
         Seen::Blocked(prio) => {
             text.extend_from_slice(b"blocked ")?;
             push_number(text, u64::from(prio.get()))?;
             text.extend_from_slice(b" ")?;
-            add_reason(text, rules, base, before, x, Prioritised { prio, event: e })?;
-            add_blocker(text, named, greatest(x.set(), e.converse(), 101))?;
+            add_reason(text, rules, base, before, x, Prioritised { prio, event })?;
+            add_blocker(
+                text,
+                &subject.named,
+                greatest(x.set(), event.converse(), 101),
+            )?;
             text.extend_from_slice(b"\n")
         }
     }
@@ -197,22 +208,21 @@ fn add_at(
     trace: &[Closed],
     closed: &Closed,
     t: Instant,
-    named: &NamedEvent,
-    e: Event,
+    subject: &Subject,
 ) -> Result<(), Memory>
     ensures { OnOk result
         (text.new.items
         ≡ text.old.items
         ++ standing_line policy.now.policy.triggers closed.now.base
         (made_before t trace.now (has policy.now.policy.opening)) closed.now.set
-        named.now e (seen_in closed.now.set e)) }
+        subject.now.named subject.now.event (seen_in closed.now.set subject.now.event)) }
 {
     let before = status_before(alloc, policy.opening(), trace, t)?;
     let rules = policy.triggers().as_slice();
     let x = Contest::new(alloc, set_of(closed))?;
     let base = base_of(closed);
-    let seen = seen(x.set(), e);
-    add_standing(text, rules, base, &before, &x, named, e, seen)
+    let seen = seen(x.set(), subject.event);
+    add_standing(text, rules, base, &before, &x, subject, seen)
 }
 
 /// The line that tells how many instants the certificate lists.
@@ -245,7 +255,8 @@ pub(crate) fn standing_text(
     let now = book.now();
     match closed_at(trace, now) {
         Some(closed) => {
-            add_at(alloc, &mut text, policy, trace, closed, now, &named, e)?;
+            let subject = Subject { named, event: e };
+            add_at(alloc, &mut text, policy, trace, closed, now, &subject)?;
             Ok(text)
         }
         None => {

@@ -1,14 +1,16 @@
 //! Where the run of a script begins.
-ghost use Rattle.std.specs.Prelude.{◌≡◌, ◌+◌, ◌^◌, ◌<◌, ◌≤◌, length, IfOk};
+ghost use Rattle.std.specs.Prelude.{◌≡◌, ◌+◌, ◌^◌, ◌<◌, ◌≤◌, length, IfOk, None};
 ghost use Rattle.gt_text.specs.Lines.{lines_of};
 ghost use Rattle.policy_commands.specs.Ends.{seen_end};
-ghost use Rattle.gtrbac_tool.specs.Script.{EndsFrom, start_of};
+ghost use Rattle.gtrbac_tool.specs.Script.{start_of};
 ghost use Rattle.gtrbac_tool.specs.Late.{AnswersFrom};
 ghost use Rattle.gtrbac_tool.specs.Told.{no_birth as born_never};
 ghost use Rattle.gtrbac_tool.specs.Started.{IsUnborn, started_so, number_of, RanFrom};
 ghost use Rattle.gtrbac_tool.specs.Ends.{PlaysTo};
+ghost use Rattle.gtrbac_tool.specs.Answers.{Gives};
 
 use crate::ahead::{Asked, answered};
+use crate::answers::Answer;
 use crate::script::{Outcome, fault_word, from_birth, stopped};
 use gt_base::{Actor, Instant, List, Memory};
 use gt_text::Lines;
@@ -29,7 +31,7 @@ pub(crate) enum Start {
 }
 
 /// Finds where a run begins; the lines are then those behind.
-fn find_start(policy: &Policy, lines: &mut Lines<'_>) -> Start
+pub(crate) fn find_start(policy: &Policy, lines: &mut Lines<'_>) -> Start
     requires { length lines.old < 2 ^ 32 }
     ensures start { start_of policy.now 1 lines.old ≡ started_so result lines.new }
     ensures count { number_of result + length lines.new ≤ length lines.old }
@@ -79,21 +81,6 @@ pub(crate) fn begin(alloc: Global, safe: Safe, script: &[u8]) -> Result<Ran, Mem
     }
 }
 
-/// The end of a script over a safe policy. The script has fewer than 4,294,967,296 bytes.
-fn play_plainly(alloc: Global, safe: Safe, script: &[u8]) -> Result<End, Memory>
-    requires { length script.now < 2 ^ 32 }
-    ensures { IfOk result (λ end. EndsFrom safe (start_of safe 1 (lines_of script.now))
-        (seen_end end)) }
-{
-    match begin(alloc, safe, script) {
-        Ok(ran) => match ran {
-            Ran::Unborn(end) => Ok(end),
-            Ran::Born(outcome) => Ok(outcome.end),
-        },
-        Err(fault) => Err(fault),
-    }
-}
-
 /// The end at a script in which no line says anything.
 fn no_birth(alloc: Global) -> Result<End, Memory>
     ensures { IfOk result (λ end. seen_end end ≡ born_never) }
@@ -131,18 +118,22 @@ fn play_and_answer(alloc: Global, safe: Safe, asked: Asked, script: &[u8]) -> Re
     }
 }
 
-/// The end of a script over a safe policy, with what is asked behind it, if anything is.
+/// The end of a script over a safe policy with what is asked behind it; where nothing is, the
+/// script is left to be played.
 pub(crate) fn play(
     alloc: Global,
     safe: Safe,
     asked: Option<Asked>,
-    script: &[u8],
-) -> Result<End, Memory>
-    requires { length script.now ≤ 16_777_216 }
-    ensures { IfOk result (λ end. PlaysTo safe asked script.now (seen_end end)) }
+    script: Vec<u8>,
+) -> Result<Answer, Memory>
+    requires { length script.items ≤ 16_777_216 }
+    ensures { IfOk result (Gives (asked ≡ None) (PlaysTo safe asked script.items)) }
 {
     match asked {
-        None => play_plainly(alloc, safe, script),
-        Some(asked) => play_and_answer(alloc, safe, asked, script),
+        None => Ok(Answer::Script(safe, script)),
+        Some(asked) => {
+            let end = play_and_answer(alloc, safe, asked, &script)?;
+            Ok(Answer::Ended(end))
+        }
     }
 }

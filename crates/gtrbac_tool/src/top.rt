@@ -2,94 +2,93 @@
 ghost use Rattle.std.specs.Prelude.{◌≡◌, ◌⊎◌, ◌≤◌, None, map, string_bytes, length, IfOk, IsSome, IsTrue};
 ghost use Rattle.std.specs.Io.KnownBytes.{IsAtEnd};
 ghost use Rattle.gt_io.specs.Causes.{Rose};
-ghost use Rattle.policy_commands.specs.Ends.{seen_end};
 ghost use Rattle.policy_commands.specs.Policies.{safe_in};
-ghost use Rattle.gtrbac_tool.specs.Commands.{named_by, plays_script, seen_command};
+ghost use Rattle.gtrbac_tool.specs.Commands.{plays_script, seen_command, IsPlainRun};
 ghost use Rattle.gtrbac_tool.specs.Counted.{seen_recipe};
-ghost use Rattle.gtrbac_tool.specs.Script.{IsRunStatus};
 ghost use Rattle.gtrbac_tool.specs.Summary.{IsNoGen, GenEnds};
 ghost use Rattle.gtrbac_tool.specs.Ends.{ScriptEnds, AskedEnds, JudgedEnds, TextEnds, FoundEnds};
 ghost use Rattle.gtrbac_tool.specs.Late.{asks_of as asks_by};
 ghost use Rattle.gtrbac_tool.specs.Scenes.{scene};
 ghost use Rattle.gtrbac_tool.specs.Causes.{perhaps, Asks, IsAskedOf, OnShelf, Short};
-ghost use Rattle.gtrbac_tool.specs.Tool.{Answers, Prints, Leaves, RunsTool};
+ghost use Rattle.gtrbac_tool.specs.Writing.{Prints};
+ghost use Rattle.gtrbac_tool.specs.Answers.{Gives, IsSteadyAt, IsCountedAt, IsReadAt};
+ghost use Rattle.gtrbac_tool.specs.Tool.{Answers, Leaves, RunsTool};
 
 use crate::ahead::{Asked, asks_of};
+use crate::answers::Answer;
 use crate::commands::{Command, spoken};
 use crate::questions::Question;
+use crate::replying::tell;
 use crate::starting::play;
 use crate::summing::{Recipe, generate, recipe_of};
 use gt_base::Memory;
 use gt_io::{ReadFault, Shelf, Sink, Source, read_all};
-use policy_commands::{Admitted, End, Found, admit, check, end_with, find_text, lay_out, print};
+use policy_commands::{Admitted, Found, admit, check, end_with, find_text, lay_out, print};
 use policy_safety::Safe;
 use std::alloc::{AllocError, Global};
 
 /// The most bytes of a script.
 const MAX_SCRIPT: usize = 16_777_216;
 
-/// Reads the script, runs it, and tells what is asked behind it.
+/// Reads the script; where something is asked behind it, runs it and tells that.
 fn run_script<I: Source>(
     alloc: Global,
     safe: Safe,
     asked: Option<Asked>,
     input: &mut I,
-) -> Result<End, Memory>
-    ensures end { IfOk result
-        (λ end. ScriptEnds (Rose (I.faults input.old) (I.faults input.new)) safe asked
-        (I.left input.old) (seen_end end)) }
-    ensures steady { IfOk result
-        (λ end. (end.status ≡ 4) ⊎ (I.faults input.new ≡ I.faults input.old)) }
-    ensures read { IfOk result (λ end. IsRunStatus end.status → IsAtEnd (I.left input.new)) }
+) -> Result<Answer, Memory>
+    ensures end { IfOk result (Gives (asked ≡ None)
+        (ScriptEnds (Rose (I.faults input.old) (I.faults input.new)) safe asked
+        (I.left input.old))) }
+    ensures steady { IfOk result (IsSteadyAt (I.faults input.new ≡ I.faults input.old)) }
+    ensures read { IfOk result (IsReadAt (IsAtEnd (I.left input.new))) }
 {
     match read_all(alloc, input, MAX_SCRIPT) {
-        Ok(script) => play(alloc, safe, asked, &script),
+        Ok(script) => play(alloc, safe, asked, script),
         Err(ReadFault::Memory) => Err(AllocError),
-        Err(ReadFault::Failed) => end_with(alloc, 4, b"read fault\n"),
-        Err(ReadFault::TooLong) => end_with(alloc, 6, b"too long: script\n"),
+        Err(ReadFault::Failed) => Ok(Answer::Ended(end_with(alloc, 4, b"read fault\n")?)),
+        Err(ReadFault::TooLong) => Ok(Answer::Ended(end_with(alloc, 6, b"too long: script\n")?)),
     }
 }
 
-/// Runs the script over a safe policy, where that has all the names of what is asked.
+/// Reads the script for a safe policy, where that has all the names of what is asked.
 fn run_safe<I: Source>(
     alloc: Global,
     safe: Safe,
     question: Option<Question>,
     input: &mut I,
-) -> Result<End, Memory>
-    ensures end { IfOk result
-        (λ end. AskedEnds (Rose (I.faults input.old) (I.faults input.new)) safe
-        (asks_by safe question) (I.left input.old) (seen_end end)) }
-    ensures steady { IfOk result
-        (λ end. (end.status ≡ 4) ⊎ (I.faults input.new ≡ I.faults input.old)) }
-    ensures read { IfOk result (λ end. IsRunStatus end.status → IsAtEnd (I.left input.new)) }
+) -> Result<Answer, Memory>
+    ensures end { IfOk result (Gives (question ≡ None)
+        (AskedEnds (Rose (I.faults input.old) (I.faults input.new)) safe
+        (asks_by safe question) (I.left input.old))) }
+    ensures steady { IfOk result (IsSteadyAt (I.faults input.new ≡ I.faults input.old)) }
+    ensures read { IfOk result (IsReadAt (IsAtEnd (I.left input.new))) }
     ensures untouched { (input.new ≡ input.old) ⊎ IsSome (asks_by safe question) }
 {
     match asks_of(safe.policy(), question) {
         Some(asked) => run_script(alloc, safe, asked, input),
-        None => end_with(alloc, 13, b"unknown name\n"),
+        None => Ok(Answer::Ended(end_with(alloc, 13, b"unknown name\n")?)),
     }
 }
 
-/// Runs the script over the policy of a text.
+/// Reads the script for the policy of a text.
 fn run<I: Source>(
     alloc: Global,
     text: &[u8],
     question: Option<Question>,
     input: &mut I,
-) -> Result<End, Memory>
+) -> Result<Answer, Memory>
     requires { length text.now ≤ 4_194_304 }
-    ensures end { IfOk result
-        (λ end. JudgedEnds (Rose (I.faults input.old) (I.faults input.new)) question
-        (safe_in text.now) (I.left input.old) (seen_end end)) }
-    ensures steady { IfOk result
-        (λ end. (end.status ≡ 4) ⊎ (I.faults input.new ≡ I.faults input.old)) }
-    ensures read { IfOk result (λ end. IsRunStatus end.status → IsAtEnd (I.left input.new)) }
+    ensures end { IfOk result (Gives (question ≡ None)
+        (JudgedEnds (Rose (I.faults input.old) (I.faults input.new)) question
+        (safe_in text.now) (I.left input.old))) }
+    ensures steady { IfOk result (IsSteadyAt (I.faults input.new ≡ I.faults input.old)) }
+    ensures read { IfOk result (IsReadAt (IsAtEnd (I.left input.new))) }
     ensures untouched { (input.new ≡ input.old) ⊎ IsAskedOf question text.now }
 {
     match admit(alloc, text)? {
         Admitted::Safe(safe) => run_safe(alloc, safe, question, input),
-        Admitted::Ended(end) => Ok(end),
+        Admitted::Ended(end) => Ok(Answer::Ended(end)),
     }
 }
 
@@ -99,21 +98,19 @@ fn answer_text<I: Source>(
     command: &Command<'_>,
     text: &[u8],
     input: &mut I,
-) -> Result<End, Memory>
+) -> Result<Answer, Memory>
     requires { length text.now ≤ 4_194_304 }
-    ensures end { IfOk result
-        (λ end. TextEnds (Rose (I.faults input.old) (I.faults input.new))
-        (seen_command command.now) text.now (I.left input.old) (seen_end end)) }
-    ensures steady { IfOk result
-        (λ end. (end.status ≡ 4) ⊎ (I.faults input.new ≡ I.faults input.old)) }
-    ensures read { IfOk result
-        (λ end. IsTrue (plays_script (seen_command command.now)) → IsRunStatus end.status
-        → IsAtEnd (I.left input.new)) }
+    ensures end { IfOk result (Gives (IsPlainRun (seen_command command.now))
+        (TextEnds (Rose (I.faults input.old) (I.faults input.new))
+        (seen_command command.now) text.now (I.left input.old))) }
+    ensures steady { IfOk result (IsSteadyAt (I.faults input.new ≡ I.faults input.old)) }
+    ensures read { IsTrue (plays_script (seen_command command.now))
+        → IfOk result (IsReadAt (IsAtEnd (I.left input.new))) }
     ensures untouched { (input.new ≡ input.old) ⊎ Asks (seen_command command.now) text.now }
 {
     match command {
-        Command::Check(_) => check(alloc, text),
-        Command::Fmt(_) => lay_out(alloc, text),
+        Command::Check(_) => Ok(Answer::Ended(check(alloc, text)?)),
+        Command::Fmt(_) => Ok(Answer::Ended(lay_out(alloc, text)?)),
         Command::Run(_, question) => run(alloc, text, *question, input),
     }
 }
@@ -124,29 +121,26 @@ fn answer<S: Shelf, I: Source>(
     command: &Command<'_>,
     shelf: &mut S,
     input: &mut I,
-) -> Result<End, Memory>
-    ensures end { IfOk result
-        (λ end. FoundEnds (Rose (S.hard_faults shelf.old) (S.hard_faults shelf.new))
+) -> Result<Answer, Memory>
+    ensures end { IfOk result (Gives (IsPlainRun (seen_command command.now))
+        (FoundEnds (Rose (S.hard_faults shelf.old) (S.hard_faults shelf.new))
         (Rose (I.faults input.old) (I.faults input.new)) (seen_command command.now)
-        (S.contents shelf.old) (I.left input.old) (seen_end end)) }
+        (S.contents shelf.old) (I.left input.old))) }
     ensures steady { IfOk result
-        (λ end. (end.status ≡ 4)
-        ⊎ ((S.hard_faults shelf.new ≡ S.hard_faults shelf.old)
+        (IsSteadyAt ((S.hard_faults shelf.new ≡ S.hard_faults shelf.old)
         × (I.faults input.new ≡ I.faults input.old))) }
     ensures counted { IfOk result
-        (λ end. end.status ≡ 4
-        → Rose (S.faults shelf.old) (S.faults shelf.new)
-        ⊎ Rose (I.faults input.old) (I.faults input.new)) }
+        (IsCountedAt (Rose (S.faults shelf.old) (S.faults shelf.new)
+        ⊎ Rose (I.faults input.old) (I.faults input.new))) }
     ensures same { S.contents shelf.new ≡ S.contents shelf.old }
-    ensures read { IfOk result
-        (λ end. IsTrue (plays_script (seen_command command.now)) → IsRunStatus end.status
-        → IsAtEnd (I.left input.new)) }
+    ensures read { IsTrue (plays_script (seen_command command.now))
+        → IfOk result (IsReadAt (IsAtEnd (I.left input.new))) }
     ensures untouched { (input.new ≡ input.old)
         ⊎ OnShelf perhaps (S.contents shelf.old) (Short Asks) (seen_command command.now) }
 {
     match find_text(alloc, shelf, command.name())? {
         Found::Text(text) => answer_text(alloc, command, &text, input),
-        Found::Ended(end) => Ok(end),
+        Found::Ended(end) => Ok(Answer::Ended(end)),
     }
 }
 
@@ -179,7 +173,7 @@ fn run_command<S: Shelf, I: Source, K: Sink>(
         );
     };
     match answer(alloc, &command, shelf, input) {
-        Ok(end) => print(out, end.status, end.text.as_slice()),
+        Ok(answer) => tell(alloc, answer, out),
         Err(_) => 8,
     }
 }
@@ -212,10 +206,10 @@ fn run_gen<K: Sink>(alloc: Global, recipe: Recipe, out: &mut K) -> u8
 /// - 3: the policy is not safe, and its least conflict cycle was printed; `fmt` does not judge
 ///   this;
 /// - 4: the shelf or the input failed, or the shelf has no such policy;
-/// - 5: the output failed, with a front of the text written;
+/// - 5: the output failed, with a proper prefix of the text written;
 /// - 6: the policy has more than 4,194,304 bytes or the script more than 16,777,216;
 /// - 7: a line of the script is no script line, and the replies before it were printed;
-/// - 8: there was no memory, and nothing was written;
+/// - 8: there was no memory, and nothing was written, but by `run` perhaps a prefix of the text;
 /// - 9: a step was asked for with 1,000,000 entries in the history;
 /// - 13: the policy does not declare a name of the condition or event, or has no such edge.
 pub fn tool<S: Shelf, I: Source, K: Sink>(

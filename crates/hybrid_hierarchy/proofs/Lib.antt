@@ -11,3 +11,4 @@ pub mod Listing
 pub mod Leaving
 pub mod Narrowing
 pub mod Choosing
+pub mod PolicyEdges

@@ -2,7 +2,9 @@
 #![tactic(auto)]
 
 mod levels;
+mod looks;
 mod settling;
 
 pub use levels::TriggerLevels;
-pub use settling::{settle, settled_contest};
+pub use looks::Looks;
+pub use settling::{Stratified, settle, settled_contest, settled_in_looks};

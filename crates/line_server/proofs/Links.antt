@@ -137,20 +137,15 @@ all_push : {L : Type 0} (ss : List (Served L)) (s : Served L) → AllUnworn ss �
 all_push {L} ss s all one = each-append (λ (t : Served L). is_worn_out t.report.outcome ≡ false) ss (s ∷ []) all (one, tt)
 
 -- how a worker goes on behind one more link
-pub ends_of : {L : Type 0} (links : Option (List L)) (f f' draws : ℕ) (ss served : List (Served L)) (s : Served L) (result : Option WorkEnd) → served ≡ ss ++ s ∷ [] → AllUnworn ss → ((n : ℕ) → s.report.outcome ≡ LinkWorn n → (n ≡ 2 ^ 40) × (draws ≡ 2 ^ 40))
-    → MatchOption result (is_worn_out s.report.outcome ≡ false) (λ worn. (n : ℕ) × (s.report.outcome ≡ LinkWorn n) × (worn ≡ Worn n)) → MatchOption result (AllUnworn served) (λ end. WorksTo links f f' draws served end)
-ends_of {L} links f f' draws ss served s None is all wears w = subst (λ (l : List (Served L)). AllUnworn l) (sym is) (all_push ss s all w)
-ends_of {L} links f f' draws ss served s (Some end) is all wears w =
+pub ends_of : {L : Type 0} (links : Option (List L)) (f f' draws : ℕ) (ss served : List (Served L)) (s : Served L) (result : Option WorkEnd) → f' ≡ f → served ≡ ss ++ s ∷ [] → AllUnworn ss → ((n : ℕ) → s.report.outcome ≡ LinkWorn n → (n ≡ 2 ^ 40) × (draws ≡ 2 ^ 40))
+    → MatchOption result (is_worn_out s.report.outcome ≡ false) (λ worn. (n : ℕ) × (s.report.outcome ≡ LinkWorn n) × (worn ≡ Worn n)) → MatchOption result (AllUnworn served × (f' ≡ f)) (λ end. WorksTo links f f' draws served end)
+ends_of {L} links f f' draws ss served s None kept is all wears w = (subst (λ (l : List (Served L)). AllUnworn l) (sym is) (all_push ss s all w), kept)
+ends_of {L} links f f' draws ss served s (Some end) kept is all wears w =
     let facts = wears w.0 w.1 in
-    subst (λ (e : WorkEnd). WorksTo links f f' draws served e) (sym w.2) (ss, s, is, all, w.1, facts.0, facts.1)
+    subst (λ (e : WorkEnd). WorksTo links f f' draws served e) (sym w.2) (ss, s, is, all, w.1, facts.0, facts.1, kept)
 
-works_earlier : {L : Type 0} (links : Option (List L)) (f f' f'' draws : ℕ) (served : List (Served L)) (end : WorkEnd) → f ≤ f' → WorksTo links f' f'' draws served end → WorksTo links f f'' draws served end
-works_earlier links f f' f'' draws served DoorFault low w = (w.0, w.1, let rose = w.2 in omega (arith, rose, low))
-works_earlier links f f' f'' draws served Done low w = w
-works_earlier links f f' f'' draws served Enough low w = w
-works_earlier links f f' f'' draws served (Worn n) low w = w
-works_earlier links f f' f'' draws served Memory low w = w
-works_earlier links f f' f'' draws served Fresh low w = w
+works_earlier : {L : Type 0} (links : Option (List L)) (f f' f'' draws : ℕ) (served : List (Served L)) (end : WorkEnd) → f' ≡ f → WorksTo links f' f'' draws served end → WorksTo links f f'' draws served end
+works_earlier links f f' f'' draws served end kept w = subst (λ (n : ℕ). WorksTo links n f'' draws served end) kept w
 
 gives_none : {L : Type 0} (d : Option (List L)) → Gives d d []
 gives_none None = tt
@@ -163,7 +158,7 @@ module _ {M L : Type 0} (traffic : L → Traffic) (np : NamedPolicy) (first : Li
       (record { links = tt; grows = grown_none o.pass; reads = Reads-nil o.clock; door = gives_none o.door })
 
   -- the next link, told from the begin of the work
-  pub next_done : (number number' : ℕ) (o p p' : Spot M L) (f f' f'' : ℕ) (items items' served : List (Served L)) (tales : List (Tale L)) (end : WorkEnd) → number' ≡ number → items' ≡ items → f ≤ f'
+  pub next_done : (number number' : ℕ) (o p p' : Spot M L) (f f' f'' : ℕ) (items items' served : List (Served L)) (tales : List (Tale L)) (end : WorkEnd) → number' ≡ number → items' ≡ items → f' ≡ f
       → Worked traffic (service np first legal now) number o p items tales → AllUnworn items → WorksOn traffic (service np first legal now) number' p p' f' f'' items' served (Some end)
       → Works traffic (service np first legal now) number o p' f f'' served end
   next_done number number' o p p' f f' f'' items items' served tales end same kept low w u on =
@@ -173,7 +168,7 @@ module _ {M L : Type 0} (traffic : L → Traffic) (np : NamedPolicy) (first : Li
 
   pub goes_on : (number number' : ℕ) (o p p' : Spot M L) (f' f'' : ℕ) (items items' served : List (Served L)) (tales : List (Tale L)) → number' ≡ number → items' ≡ items
       → Worked traffic (service np first legal now) number o p items tales → AllUnworn items → WorksOn traffic (service np first legal now) number' p p' f' f'' items' served None
-      → (tales' : List (Tale L)) × Worked traffic (service np first legal now) number o p' served tales' × AllUnworn served
+      → (tales' : List (Tale L)) × Worked traffic (service np first legal now) number o p' served tales' × (AllUnworn served × (f'' ≡ f'))
   goes_on number number' o p p' f' f'' items items' served tales same kept w u on =
       let on' = subst (λ (n : ℕ). WorksOn traffic (service np first legal now) n p p' f' f'' items' served None) same on in
       on' o tales (subst (λ (ss : List (Served L)). Worked traffic (service np first legal now) number o p ss tales) (sym kept) w) (subst (λ (ss : List (Served L)). AllUnworn ss) (sym kept) u)

@@ -91,20 +91,21 @@ abbrev pub at_post : {M D C G L : Type 0} → (C → Option (ℕ → ℕ)) → (
     → Post M D C G L → PostView M L
 at_post readings links faults p = post_view readings links faults p.pass p.worker
 
--- each end has its cause
+-- each end has its cause; a door that has failed is asked no more, and that ends the work
 abbrev pub WorksTo : {L : Type 0} → Option (List L) → ℕ → ℕ → ℕ → List (Served L) → WorkEnd
     → Type 0
 WorksTo {L} links faults faults' draws served Done =
     AllUnworn served × (length served < most_links) × IfSome links (λ ls. ls ≡ [])
+    × (faults' ≡ faults)
 WorksTo {L} links faults faults' draws served DoorFault =
     AllUnworn served × (length served < most_links) × Rose faults faults'
 WorksTo {L} links faults faults' draws served Enough =
-    AllUnworn served × (length served ≡ most_links)
+    AllUnworn served × (length served ≡ most_links) × (faults' ≡ faults)
 WorksTo {L} links faults faults' draws served (Worn n) =
     (front : List (Served L)) × (last : Served L) × (served ≡ front ++ last ∷ []) × AllUnworn front
-    × (last.report.outcome ≡ LinkWorn n) × (n ≡ 2 ^ 40) × (draws ≡ 2 ^ 40)
+    × (last.report.outcome ≡ LinkWorn n) × (n ≡ 2 ^ 40) × (draws ≡ 2 ^ 40) × (faults' ≡ faults)
 WorksTo {L} links faults faults' draws served Memory =
-    AllUnworn served × (length served < most_links)
+    AllUnworn served × (length served < most_links) × (faults' ≡ faults)
 WorksTo {L} links faults faults' draws served Fresh = ⊥
 
 module _ {L : Type 0} (traffic : L → Traffic) (v : Service) (number : ℕ) where
@@ -147,7 +148,7 @@ module _ {M L : Type 0} (traffic : L → Traffic) (v : Service) (number : ℕ) w
   WorksOn p p' faults faults' served served' result =
       (o : Spot M L) (tales : List (Tale L)) → Worked o p served tales → AllUnworn served
       → (tales' : List (Tale L)) × Worked o p' served' tales'
-      × MatchOption result (AllUnworn served')
+      × MatchOption result (AllUnworn served' × (faults' ≡ faults))
       (λ end. WorksTo p'.door faults faults' p'.pass.draws served' end)
 
   -- all the work of a worker

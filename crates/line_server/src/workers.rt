@@ -64,7 +64,6 @@ fn serve_next<M: Machine, R: Wait, D: Door, C: Clock, G: Gate>(
         (D.faults w.old.door) (D.faults w.new.door) w.old.served.items w.new.served.items result }
     ensures pass { IsIdle (site_of desk.now) pass.new × (pass.new.number ≡ pass.old.number) }
     ensures calls { calls.new ≤ calls.old + most_bytes }
-    ensures faults { D.faults w.old.door ≤ D.faults w.new.door }
     ensures one { result ≡ None → length w.new.served.items ≡ length w.old.served.items + 1 }
 {
     match w.door.next() {

@@ -43,6 +43,30 @@ fn a_spent_day_drops_both(rt: HostRuntime) -> Result<(), Fail> {
     Ok(())
 }
 
+/// A minute is charged on a day that is forgotten, and two on the day after, which is not.
+#[test]
+fn the_day_itself_is_not_forgotten(rt: HostRuntime) -> Result<(), Fail> {
+    let alloc = rt.alloc();
+    let edges = List::new(alloc);
+    let caps = day_cap(alloc, 4)?;
+    let fluents = [
+        Fluent::Enabled(RoleId(0)),
+        Fluent::Assigned(UserId(0), RoleId(0)),
+    ];
+    let status = with_on(alloc, &fluents)?;
+    let user = Actor::User(UserId(0));
+    let start = at(1_438)?;
+    let now = at(1_441)?;
+    let mut table = Sessions::new(alloc);
+    let one = table.begin(UserId(0))?;
+    let _first = table.activate(&edges, &caps, &status, start, user, one, RoleId(0))?;
+    let signals = table.end_instants(&edges, &caps, start, now, &status)?;
+    assert!(rt; signals.len() == 0);
+    table.forget_days_before(now);
+    assert!(rt; table.next_drop(&caps, now) == Some(at(1_443)?));
+    Ok(())
+}
+
 /// A session that nobody opened, and one of another user.
 #[test]
 fn strangers_are_refused(rt: HostRuntime) -> Result<(), Fail> {

@@ -6,6 +6,7 @@ pub mod Gaps
 pub mod Indexing
 pub mod Wholes
 pub mod Writing
+pub mod Forgetting
 pub mod Keeping
 pub mod Answering
 pub mod Telling

@@ -1,5 +1,7 @@
 -- What a table of sessions is seen as, and what it stands for.
-use Rattle.std.specs.Prelude.{ℕ, ◌+◌, ◌-◌, ◌*◌, ◌≤◌, Bool, false, ◌||◌, not, List, [], map, filter, count_by, Option, Some, None}
+use Rattle.std.specs.Prelude.{◌≡◌, ℕ, ◌+◌, ◌-◌, ◌*◌, ◌≤◌, Bool, false, ◌||◌, not, List, [], map, filter, count_by, Option, Some, None}
+use Rattle.gt_base.specs.declared.events.RoleId.{RoleId}
+use Rattle.gt_base.specs.declared.events.UserId.{UserId}
 use Rattle.gt_base.specs.declared.policies.Caps.{Caps}
 use Rattle.gt_base.specs.declared.policies.HierEdge.{HierEdge}
 use Rattle.gtrbac_model.specs.Calendar.{day_of}
@@ -66,3 +68,11 @@ abbrev pub is_capped : List Caps → ℕ → Table → ℕ → Activation → Bo
 is_capped caps now tb t a =
     reached (caps_of caps a.role).length (t - a.begun) || reached (caps_of caps a.role).day
     ((charged_through now t tb).charged a.user a.role (day_of t))
+
+-- the same table, but for what was charged on the civil days before this one
+pub record ForgetsDays (day : ℕ) (old new : Table) : Type 0 where
+  pub sessions : new.sessions ≡ old.sessions
+  pub active : new.active ≡ old.active
+  pub begun : new.begun ≡ old.begun
+  pub charged : (u : UserId) (r : RoleId) (d : ℕ) → day ≤ d
+      → new.charged u r d ≡ old.charged u r d

@@ -1,5 +1,5 @@
 //! Rows of charges: how many minutes of a user's role are charged on a civil day.
-ghost use Rattle.std.specs.Prelude.{◌≡◌, ◌+◌, ◌-◌, ◌*◌, ◌<◌, ◌≤◌, ◌^◌, ◌&&◌, ℕ, true, cond, count_by, length, nat_eq, IfOk};
+ghost use Rattle.std.specs.Prelude.{◌≡◌, ◌+◌, ◌-◌, ◌*◌, ◌<◌, ◌≤◌, ◌^◌, ◌&&◌, ℕ, true, cond, count_by, filter, length, nat_eq, nat_le, IfOk};
 ghost use Rattle.indexmap.specs.IndexMap.{spare};
 ghost use Rattle.gt_base.specs.declared.events.RoleId.{RoleId};
 ghost use Rattle.gt_base.specs.declared.events.UserId.{UserId};
@@ -182,4 +182,23 @@ pub(crate) fn copied(charges: &IndexMap<Charge, u32>) -> Result<IndexMap<Charge,
     ensures { IfOk result (λ copy. copy.entries ≡ charges.now.entries) }
 {
     Ok(charges.clone()?)
+}
+
+/// Whether the first row is of an earlier day. Rows are added day after day, so else none is.
+pub(crate) fn starts_before(charges: &IndexMap<Charge, u32>, day: u32) -> bool {
+    match charges.first() {
+        Some((key, _)) => key.day < day,
+        None => false,
+    }
+}
+
+/// Takes out the rows of the days before this one.
+pub(crate) fn forget_rows(charges: &mut IndexMap<Charge, u32>, day: u32)
+    ensures { charges.new.entries ≡ filter (λ e. nat_le day e.0.day) charges.old.entries }
+{
+    charges.retain(
+        |key: &Charge, minutes: &mut u32| -> bool
+            ensures { (result ≡ nat_le day key.now.day) × (minutes.new ≡ minutes.old) }
+        { day <= key.day },
+    );
 }

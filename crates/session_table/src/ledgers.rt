@@ -10,8 +10,11 @@ ghost use Rattle.session_table.specs.Charges.{charged_by, charged_in};
 ghost use Rattle.session_table.specs.Ledgers.{AllBefore};
 
 use crate::activations::Activation;
-use crate::charges::{Charge, charge_day, charged_by_rows, copied as copied_rows, minutes_on};
-use crate::whole::{Whole, charge_whole, covering};
+use crate::charges::{
+    Charge, charge_day, charged_by_rows, copied as copied_rows, forget_rows, minutes_on,
+    starts_before,
+};
+use crate::whole::{Whole, charge_whole, covering, forget_stretches};
 use civil_time::day;
 use gt_base::{Instant, Memory, RoleId, UserId};
 use indexmap::IndexMap;
@@ -148,4 +151,18 @@ pub(crate) fn charge_stretch(charges: &mut Ledger, active: &[Activation], now: I
 {
     charge_days(&mut charges.rows, &mut charges.stretches, active, now, to);
     charges.over = charges.over.max(day(to));
+}
+
+/// Forgets what was charged on the days before this one.
+pub(crate) fn forget_days(charges: &mut Ledger, day: u32)
+    ensures kept { (u : UserId) (r : RoleId) (d : ℕ) → day ≤ d
+        → charged_in charges.new.charged u r d ≡ charged_in charges.old.charged u r d }
+    ensures less { (u : UserId) (r : RoleId) (d : ℕ)
+        → charged_in charges.new.charged u r d ≤ charged_in charges.old.charged u r d }
+{
+    if !starts_before(&charges.rows, day) {
+        return;
+    }
+    forget_rows(&mut charges.rows, day);
+    forget_stretches(&mut charges.stretches, day);
 }

@@ -10,10 +10,11 @@ ghost use Rattle.gt_base.specs.declared.events.RoleId.{RoleId};
 ghost use Rattle.gt_base.specs.declared.requests.Actor.TheVariants.{User};
 ghost use Rattle.gt_base.specs.declared.requests.Request.TheVariants.{OpenSession, CloseSession, Activate, Deactivate, Active as AskActive, Check};
 ghost use Rattle.gt_base.specs.declared.requests.Reply.TheVariants.{Session, Done, Active, Truth, Refused as IsRefused};
+ghost use Rattle.gtrbac_model.specs.Calendar.{day_of};
 ghost use Rattle.gtrbac_model.specs.Sessions.{applied, empty_table, is_active_in, signal_of};
 ghost use Rattle.hybrid_hierarchy.specs.Nets.{IsHierarchy};
 ghost use Rattle.session_table.specs.Opened.{in_session, numbered, opened, role_in};
-ghost use Rattle.session_table.specs.Tables.{table_of, NotBefore, closed_at, is_capped};
+ghost use Rattle.session_table.specs.Tables.{table_of, ForgetsDays, NotBefore, closed_at, is_capped};
 ghost use Rattle.session_table.specs.NextDrops.{IsFirstOrNone, is_any_capped};
 ghost use Rattle.session_table.specs.Plans.{need_of, IsPlan, IsPlanWhereAllStand, IsPlanned, Closes};
 ghost use Rattle.session_table.specs.Replies.{Answers, AnswersAt, OrRefused, IsRefusal, ChecksBy};
@@ -26,7 +27,7 @@ use crate::closings::{Closing, Stretch};
 use crate::dropping::{Asked, capped, dropped, prune, remember, signals_of, take_out};
 use crate::faults::SessionFault;
 use crate::ledgers::{
-    Ledger, charge_stretch, copied as copied_charges, no_charges, reserve_charges,
+    Ledger, charge_stretch, copied as copied_charges, forget_days, no_charges, reserve_charges,
 };
 use crate::nearing::next_capped;
 use crate::opened::{
@@ -497,6 +498,15 @@ impl Sessions {
         let signals = d.signals().copied()?;
         self.commit_end(d);
         Ok(signals)
+    }
+
+    /// Forgets what was charged on the civil days before that of the instant, which no later close and
+    /// no cap looks at. It takes no memory.
+    pub fn forget_days_before(&mut self, now: Instant)
+        ensures table { ForgetsDays (day_of now) (table_of self.old) (table_of self.new) }
+        ensures charged_to { self.new.charged_to ≡ self.old.charged_to }
+    {
+        forget_days(&mut self.charges, day(now));
     }
 
     /// The first instant after `now` at whose close a cap drops an activation, as long as nothing

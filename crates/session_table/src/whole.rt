@@ -1,5 +1,5 @@
 //! Stretches of whole civil days, of each of which every minute is charged.
-ghost use Rattle.std.specs.Prelude.{◌≡◌, ◌+◌, ◌≤◌, ◌&&◌, ℕ, cond, nat_le, nat_lt, count_by, length, vec_len, vec_capacity};
+ghost use Rattle.std.specs.Prelude.{◌≡◌, ◌+◌, ◌≤◌, ◌&&◌, ℕ, cond, nat_le, nat_lt, count_by, filter, length, vec_len, vec_capacity};
 ghost use Rattle.gt_base.specs.declared.events.RoleId.{RoleId};
 ghost use Rattle.gt_base.specs.declared.events.UserId.{UserId};
 ghost use Rattle.gtrbac_model.specs.Sessions.{is_of};
@@ -76,4 +76,15 @@ pub(crate) fn charge_whole(stretches: &mut Vec<Whole>, active: &[Activation], fi
     for a in active {
         push(stretches, a, first, past);
     }
+}
+
+/// Takes out the stretches that end before this day.
+pub(crate) fn forget_stretches(stretches: &mut Vec<Whole>, day: u32)
+    ensures { stretches.new.items ≡ filter (λ w. nat_lt day w.past) stretches.old.items }
+{
+    stretches.retain(
+        |w: &Whole| -> bool
+            ensures { result ≡ nat_lt day w.now.past }
+        { day < w.past },
+    );
 }

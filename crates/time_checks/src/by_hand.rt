@@ -98,6 +98,26 @@ fn a_copy_is_alike_and_apart(rt: HostRuntime) -> Result<(), Fail> {
     Ok(())
 }
 
+#[test]
+fn a_timeline_goes_on_without_its_trace(rt: HostRuntime) -> Result<(), Fail> {
+    let alloc = rt.alloc();
+    let ground = office(alloc)?;
+    let mut line = at_noon(alloc, &ground)?;
+    step(&ground, &mut line)?;
+    let mut copy = line.copied_without_trace()?;
+    assert!(rt; line.trace().len() == 1);
+    assert!(rt; copy.trace().len() == 0);
+    assert!(rt; copy.status().is_on(ROLE));
+    jump(&ground, &mut copy, at(NOON + 600)?)?;
+    assert!(rt; copy.now().minute() == NOON + 240);
+    assert!(rt; !copy.status().is_on(ROLE));
+    assert!(rt; copy.trace().len() == 1);
+    copy.forget_trace();
+    assert!(rt; copy.now().minute() == NOON + 240);
+    assert!(rt; copy.trace().len() == 0);
+    Ok(())
+}
+
 /// The due minute of a request that is refused, none where it is not.
 fn beyond(answer: Result<Instant, RequestFault>) -> Option<u32> {
     match answer {

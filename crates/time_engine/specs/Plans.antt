@@ -19,7 +19,7 @@ use Rattle.gtrbac_model.specs.Trigger.{met}
 use Rattle.delay_agenda.specs.Due.{pending_cmp, pending_at, is_due_at}
 use Rattle.delay_agenda.specs.declared.pairs.Pending.{Pending}
 use Rattle.delay_agenda.specs.contracts.pairs.Pending as pending
-use Rattle.instant_bases.specs.Timelines.{TimelineView, timeline_code, base_in, stirs_in, since_of}
+use Rattle.instant_bases.specs.Timelines.{ClosedSet, TimelineView, timeline_code, base_in, stirs_in, since_of}
 use Rattle.time_engine.specs.Traces.{Ascends, EndsBy, AreSome, traced}
 
 -- the head of a delayed trigger that is met at the instant, with its due instant, where that is not
@@ -123,3 +123,7 @@ with_signal v s = record v {
   signals = if nat_lt v.now last_minute then with_member v.signals s
       else v.signals;
 }
+
+-- with these sets as its trace
+abbrev pub with_trace : TimelineView → List ClosedSet → TimelineView
+with_trace v cs = record v { trace = cs }

@@ -8,7 +8,7 @@ ghost use Rattle.instant_bases.specs.Nexts.{IsNextOf};
 ghost use Rattle.instant_bases.specs.Timelines.{StandsFor, since_of, stirs_in};
 ghost use Rattle.time_engine.specs.Faults.{IsBeyond};
 ghost use Rattle.time_engine.specs.Kept.{view_of};
-ghost use Rattle.time_engine.specs.Plans.{Closes, Fits, IsAfter, IsPlan, IsTimeline, NoneStirs, with_pending, with_signal};
+ghost use Rattle.time_engine.specs.Plans.{Closes, Fits, IsAfter, IsPlan, IsTimeline, NoneStirs, with_pending, with_signal, with_trace};
 ghost use Rattle.time_engine.specs.Traces.{model_of};
 
 use crate::closing::{follow, later, make_room, planned};
@@ -241,19 +241,47 @@ impl Timeline {
         ensures { IfOk result (λ copy. copy.line ≡ self.now.line) }
     {
         let s = &self.state;
-        let state = State {
-            alloc: s.alloc,
-            watches: copied_watches(s.alloc, &s.watches)?,
-            present: s.present,
-            status: s.status.copied()?,
-            ages: s.ages.copied()?,
-            trace: copied_trace(s.alloc, &s.trace)?,
-            pending: s.pending.copied()?,
-            signals: s.signals.copied()?,
-            quiet: Happened::new(s.alloc),
-        };
+        let trace = copied_trace(s.alloc, &s.trace)?;
+        let state = copied_over(s, trace)?;
         Ok(Timeline { state })
     }
+
+    /// An equal timeline but for its trace, which is empty, and its room, which may differ. For want
+    /// of memory it may refuse.
+    pub fn copied_without_trace(&self) -> Result<Timeline, Memory>
+        ensures { IfOk result (λ copy. copy.line ≡ with_trace self.now.line []) }
+    {
+        let s = &self.state;
+        let state = copied_over(s, List::new(s.alloc))?;
+        Ok(Timeline { state })
+    }
+
+    /// Empties the trace. Only `happened`, `trace` and `copied` look at it, so the timeline goes on
+    /// as before.
+    pub fn forget_trace(&mut self)
+        ensures line { self.new.line ≡ with_trace self.old.line [] }
+        ensures spare { self.new.spare ≡ self.old.spare }
+    {
+        self.state.trace = List::new(self.state.alloc);
+    }
+}
+
+/// An equal state but for its trace, which is this one.
+fn copied_over(s: &State, trace: Trace) -> Result<State, Memory>
+    ensures view { IfOk result (λ copy. view_of copy ≡ with_trace (view_of s.now) trace.items) }
+    ensures quiet { IfOk result (λ copy. copy.quiet.set ≡ nothing) }
+{
+    Ok(State {
+        alloc: s.alloc,
+        watches: copied_watches(s.alloc, &s.watches)?,
+        present: s.present,
+        status: s.status.copied()?,
+        ages: s.ages.copied()?,
+        trace,
+        pending: s.pending.copied()?,
+        signals: s.signals.copied()?,
+        quiet: Happened::new(s.alloc),
+    })
 }
 
 /// The periods of the policy, asked for what its entries and limits want to know.

@@ -4,9 +4,10 @@ pub mod Shown
 pub mod Stopping
 pub mod Answering
 pub mod Applying
-pub mod Hierarchies
 pub mod Closed
 pub mod Beginning
 pub mod Reaching
 pub mod Deciding
 pub mod Priorities
+pub mod Heading
+pub mod Peaking

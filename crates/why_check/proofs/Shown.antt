@@ -75,6 +75,10 @@ pub noted : (same b there : Bool) → b ≡ false → (same || there) ≡ ((same
 noted true b there e = ap (λ c. not c || there) (sym e)
 noted false b there e = refl
 
+pub left_out : (same b there : Bool) → b ≡ true → there ≡ ((same && not b) || there)
+left_out true b there e = ap (λ c. not c || there) (sym e)
+left_out false b there e = refl
+
 module _ (rules : List TriggerView) (base : HappenedView) (s : Status) (l : Listed) (x : HappenedView) (same : x ≡ set_in l) where
   pub shown_by : x.signals ≡ base.signals → closed rules base s x ≡ true → (answer : Bool) → answer ≡ grounded_after rules base s x [] l.events → IsTrue answer ↔ IsShown rules base s l
   shown_by signals is_closed answer grounded = (

@@ -3,3 +3,5 @@ pub mod Laws
 pub mod Priorities
 pub mod Kept
 pub mod Steps
+pub mod Heads
+pub mod Peaks

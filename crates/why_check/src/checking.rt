@@ -12,6 +12,7 @@ ghost use Rattle.why_check.specs.Steps.{IsReady, IsHeld, IsPlayed, counted};
 use crate::bases::base;
 use crate::certificates::{Cert, Listing};
 use crate::closing::{ask, close};
+use crate::heads::Headed;
 use crate::replays::Replay;
 use crate::showing::{has_item, is_empty, is_shown, set_listed};
 use duration_limits::Ages;
@@ -30,6 +31,14 @@ pub(crate) enum Held {
     Wrong,
 }
 
+/// By what a certificate is judged: the policy, and its triggers by what they head.
+#[derive(Clone, Copy)]
+struct Judging<'a> {
+    policy: &'a Policy,
+    rules: &'a Headed,
+    ghost same: { rules.now ≡ policy.now.policy.triggers },
+}
+
 /// Whether the certificate is one of the history with these entries, by the definitions of
 /// conflict, triggers, base and settled sets alone. The entries are a legal history of the policy
 /// since its birth, at most 1,000,000 of them, and the policy is safe. Only want of memory is free.
@@ -46,11 +55,16 @@ pub fn accept(
         cert.now) }
 {
     policy.keeps();
+    let rules = Headed::new(cert.alloc, policy.triggers())?;
+    let by = Judging {
+        policy,
+        rules: &rules,
+    };
     let mut replay = begin(cert.alloc, policy, birth)?;
     let many = cert.len();
     let mut place = 0;
     for entry in entries.as_slice() {
-        let held = step(&mut replay, policy, entry, cert, place)?;
+        let held = step(&mut replay, &by, entry, cert, place)?;
         if is_wrong(held) {
             return Ok(false);
         }
@@ -94,26 +108,26 @@ fn begin(alloc: Global, policy: &Policy, birth: Instant) -> Result<Replay, Memor
 /// Plays one entry.
 fn step(
     s: &mut Replay,
-    policy: &Policy,
+    by: &Judging,
     entry: &Entry,
     cert: &Cert,
     place: usize,
 ) -> Result<Held, Memory>
-    requires { IsReady policy.now.policy s.old entry.now.what }
-    ensures { IfOk result (λ held. IsPlayed policy.now.policy s.old entry.now.what
+    requires { IsReady by.now.policy.now.policy s.old entry.now.what }
+    ensures { IfOk result (λ held. IsPlayed by.now.policy.now.policy s.old entry.now.what
         (slice_get cert.now place) held s.new) }
 {
     match &entry.what {
         Step::Tick { upto: _, to } => {
             let _bound = to.minute();
-            tick(s, policy, *to, cert, place)
+            tick(s, by, *to, cert, place)
         }
         Step::Ask {
             actor,
             request,
             reply,
         } => {
-            ask(s, policy, *actor, request, reply)?;
+            ask(s, by.policy, *actor, request, reply)?;
             Ok(Held::Passed)
         }
     }
@@ -122,7 +136,7 @@ fn step(
 /// Goes on to the instant at which a tick stopped, and holds the next listing against it.
 fn tick(
     s: &mut Replay,
-    policy: &Policy,
+    by: &Judging,
     to: Instant,
     cert: &Cert,
     place: usize,
@@ -130,56 +144,56 @@ fn tick(
     requires later { s.old.present < to }
     requires born { s.old.ages.birth < to }
     requires charged { NotBefore s.old.table.charged_to s.old.present }
-    ensures { IfOk result (λ held. IsHeld policy.now.policy s.old to
+    ensures { IfOk result (λ held. IsHeld by.now.policy.now.policy s.old to
         (slice_get cert.now place) held s.new) }
 {
-    let base = base(s, policy, to)?;
+    let base = base(s, by.policy, to)?;
     match cert.listings.get(place) {
-        Some(listing) => hold(s, policy, to, &base, listing),
-        None => pass(s, policy, to, &base),
+        Some(listing) => hold(s, by, to, &base, listing),
+        None => pass(s, by.policy, to, &base),
     }
 }
 
 /// The same, over its base, where this is the next listing.
 fn hold(
     s: &mut Replay,
-    policy: &Policy,
+    by: &Judging,
     to: Instant,
     base: &Happened,
     listing: &Listing,
 ) -> Result<Held, Memory>
     requires later { s.old.present < to }
     requires charged { NotBefore s.old.table.charged_to s.old.present }
-    requires base { base.now.set ≡ base_in policy.now.policy s.old to }
-    ensures { IfOk result (λ held. IsHeld policy.now.policy s.old to
+    requires base { base.now.set ≡ base_in by.now.policy.now.policy s.old to }
+    ensures { IfOk result (λ held. IsHeld by.now.policy.now.policy s.old to
         (Some listing.now) held s.new) }
 {
     if listing.at > to {
-        return pass(s, policy, to, base);
+        return pass(s, by.policy, to, base);
     }
     if listing.at < to {
         return Ok(Held::Wrong);
     }
-    hold_here(s, policy, to, base, listing)
+    hold_here(s, by, to, base, listing)
 }
 
 /// The same, where the listing is of this instant.
 fn hold_here(
     s: &mut Replay,
-    policy: &Policy,
+    by: &Judging,
     to: Instant,
     base: &Happened,
     listing: &Listing,
 ) -> Result<Held, Memory>
     requires later { s.old.present < to }
     requires charged { NotBefore s.old.table.charged_to s.old.present }
-    requires base { base.now.set ≡ base_in policy.now.policy s.old to }
+    requires base { base.now.set ≡ base_in by.now.policy.now.policy s.old to }
     requires here { listing.now.at ≡ to }
-    ensures { IfOk result (λ held. IsHeld policy.now.policy s.old to
+    ensures { IfOk result (λ held. IsHeld by.now.policy.now.policy s.old to
         (Some listing.now) held s.new) }
 {
-    if is_good(s, policy, base, listing)? {
-        close_listed(s, policy, to, listing)?;
+    if is_good(s, by, base, listing)? {
+        close_listed(s, by.policy, to, listing)?;
         Ok(Held::Listed)
     } else {
         Ok(Held::Wrong)
@@ -202,15 +216,14 @@ fn close_listed(
 }
 
 /// Whether the listing, which is of the instant of this base, says something and is shown.
-fn is_good(s: &Replay, policy: &Policy, base: &Happened, listing: &Listing) -> Result<bool, Memory>
-    ensures { IfOk result (λ yes. IsTrue yes ↔ IsGood policy.now.policy base.now.set
+fn is_good(s: &Replay, by: &Judging, base: &Happened, listing: &Listing) -> Result<bool, Memory>
+    ensures { IfOk result (λ yes. IsTrue yes ↔ IsGood by.now.policy.now.policy base.now.set
         (has s.now.status.set) listing.now.at listing.now) }
 {
     if !says_something(listing) {
         return Ok(false);
     }
-    let rules = policy.triggers().as_slice();
-    is_shown(s.alloc, rules, base, &s.status, listing)
+    is_shown(s.alloc, by.rules, base, &s.status, listing)
 }
 
 /// Whether the listing has an event or a signal.

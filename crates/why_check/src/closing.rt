@@ -15,7 +15,7 @@ ghost use Rattle.why_check.specs.Kept.{IsAnsweredAt, IsClosed, IsAsked, under, j
 
 use crate::bases::{put_heads, queue};
 use crate::replays::Replay;
-use crate::sessions::apply;
+use crate::sessions::{Answering, apply};
 use duration_limits::Ages;
 use gt_base::{
     Actor, Event, EventSet, Fluent, Happened, Instant, Memory, Prioritised, Reply, Request, Signal,
@@ -42,18 +42,13 @@ pub(crate) fn ask(
 {
     queue(s.alloc, &mut s.due, *request, reply)?;
     policy.keeps();
-    apply(
-        &mut s.table,
-        &mut s.waiting,
-        policy.edges(),
-        policy.caps(),
-        &s.status,
-        s.present,
-        actor,
-        *request,
-        reply,
-    )?;
-    Ok(())
+    let by = Answering {
+        edges: policy.edges(),
+        caps: policy.caps(),
+        status: &s.status,
+        instant: s.present,
+    };
+    apply(&mut s.table, &mut s.waiting, &by, actor, *request, reply)
 }
 
 /// Closes the instant with its set.

@@ -3,15 +3,18 @@
 #![tactic(auto)]
 
 mod bases;
+mod blocking;
 mod certificates;
 mod checking;
 mod closing;
+mod heads;
 mod laws;
 mod periods;
 mod replays;
 mod sessions;
 mod showing;
 
+pub use blocking::Peaks;
 pub use certificates::{Cert, Listing};
 pub use checking::accept;
 pub use laws::{accepted_is_the_model, priorities_are_low};

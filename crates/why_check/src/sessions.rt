@@ -17,34 +17,40 @@ use gt_base::{
 use session_table::{SessionFault, Sessions};
 use std::alloc::AllocError;
 
+/// By what a request was answered beside the table: the hierarchy, the caps, the status and the
+/// instant.
+#[derive(Clone, Copy)]
+pub(crate) struct Answering<'a> {
+    pub(crate) edges: &'a List<HierEdge>,
+    pub(crate) caps: &'a List<Caps>,
+    pub(crate) status: &'a Status,
+    pub(crate) instant: Instant,
+    ghost hierarchy: { IsHierarchy edges.now.items },
+}
+
 /// Does to the table what the answered request did, and adds the signals that it left.
 pub(crate) fn apply(
     table: &mut Sessions,
     waiting: &mut Vec<Signal>,
-    edges: &List<HierEdge>,
-    caps: &List<Caps>,
-    status: &Status,
-    now: Instant,
+    by: &Answering,
     actor: Actor,
     request: Request,
     reply: &Reply,
 ) -> Result<(), Memory>
-    requires answered { IsAnsweredAt edges.now.items caps.now.items (has status.now.set) now
-        (table_of table.old) actor request reply.now }
-    requires hierarchy { IsHierarchy edges.now.items }
+    requires answered { IsAnsweredAt by.now.edges.now.items by.now.caps.now.items
+        (has by.now.status.now.set) by.now.instant (table_of table.old) actor request reply.now }
     requires few { table.old.begun < 2 ^ 32 - 1 }
     ensures table { OnOk result (record (table_of table.new) { signals = waiting.new.items }
-        ≡ applied now actor request reply.now
+        ≡ applied by.now.instant actor request reply.now
         (record (table_of table.old) { signals = waiting.old.items })) }
     ensures charged_to { OnOk result (table.new.charged_to ≡ table.old.charged_to) }
     ensures begun { OnOk result (table.new.begun ≤ table.old.begun + 1) }
 {
+    let now = by.instant;
     match request {
         Request::OpenSession => open(table, waiting, now, actor, reply),
         Request::CloseSession(n) => close(table, waiting, now, actor, n, reply),
-        Request::Activate(n, r) => activate(
-            table, waiting, edges, caps, status, now, actor, n, r, reply,
-        ),
+        Request::Activate(n, r) => activate(table, waiting, by, actor, n, r, reply),
         Request::Deactivate(n, r) => deactivate(table, waiting, now, actor, n, r, reply),
         Request::Now
         | Request::Status(_)
@@ -125,20 +131,17 @@ fn close(
 fn activate(
     table: &mut Sessions,
     waiting: &mut Vec<Signal>,
-    edges: &List<HierEdge>,
-    caps: &List<Caps>,
-    status: &Status,
-    now: Instant,
+    by: &Answering,
     actor: Actor,
     session: SessionId,
     role: RoleId,
     reply: &Reply,
 ) -> Result<(), Memory>
-    requires answered { IsAnsweredAt edges.now.items caps.now.items (has status.now.set) now
-        (table_of table.old) actor (IsActivate session role) reply.now }
-    requires hierarchy { IsHierarchy edges.now.items }
+    requires { IsAnsweredAt by.now.edges.now.items by.now.caps.now.items
+        (has by.now.status.now.set) by.now.instant (table_of table.old) actor
+        (IsActivate session role) reply.now }
     ensures table { OnOk result (record (table_of table.new) { signals = waiting.new.items }
-        ≡ applied now actor (IsActivate session role) reply.now
+        ≡ applied by.now.instant actor (IsActivate session role) reply.now
         (record (table_of table.old) { signals = waiting.old.items })) }
     ensures charged_to { OnOk result (table.new.charged_to ≡ table.old.charged_to) }
     ensures begun { OnOk result (table.new.begun ≤ table.old.begun + 1) }
@@ -146,7 +149,7 @@ fn activate(
     let Reply::Active(_) = reply else {
         return Ok(());
     };
-    let signal = start(table, edges, caps, status, now, actor, session, role)?;
+    let signal = start(table, by, actor, session, role)?;
     waiting.push(signal)?;
     Ok(())
 }
@@ -154,24 +157,23 @@ fn activate(
 /// Activates the role, and answers the start signal.
 fn start(
     table: &mut Sessions,
-    edges: &List<HierEdge>,
-    caps: &List<Caps>,
-    status: &Status,
-    now: Instant,
+    by: &Answering,
     actor: Actor,
     session: SessionId,
     role: RoleId,
 ) -> Result<Signal, Memory>
-    requires answered { (w : RoleWalk)
-        × IsAnsweredAt edges.now.items caps.now.items (has status.now.set) now
-        (table_of table.old) actor (IsActivate session role) (Active w) }
-    requires hierarchy { IsHierarchy edges.now.items }
+    requires { (w : RoleWalk)
+        × IsAnsweredAt by.now.edges.now.items by.now.caps.now.items
+        (has by.now.status.now.set) by.now.instant (table_of table.old) actor
+        (IsActivate session role) (Active w) }
     ensures table { IfOk result (λ x. (w : RoleWalk)
-        → applied now actor (IsActivate session role) (Active w) (table_of table.old)
+        → applied by.now.instant actor (IsActivate session role) (Active w) (table_of table.old)
         ≡ record (table_of table.new) { signals = x ∷ [] }) }
     ensures charged_to { OnOk result (table.new.charged_to ≡ table.old.charged_to) }
 {
-    match table.activate(edges, caps, status, now, actor, session, role) {
+    match table.activate(
+        by.edges, by.caps, by.status, by.instant, actor, session, role,
+    ) {
         Ok(started) => Ok(started.1),
         Err(SessionFault::Memory) => Err(AllocError),
         Err(SessionFault::Refused(_)) => unreachable!(),

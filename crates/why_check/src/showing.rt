@@ -3,23 +3,28 @@
 ghost use Rattle.std.specs.Prelude.{◌≡◌, ◌≤◌, ◌+◌, ◌&&◌, ◌||◌, not, [], length, IsTrue, ◌↔◌, IfOk, OnOk};
 ghost use Rattle.std.specs.List.{list_all, list_any};
 ghost use Rattle.std.specs.Ordering.{eq_by_cmp};
-ghost use Rattle.gt_base.specs.Happening.{nothing};
+ghost use Rattle.gt_base.specs.Happening.{HappenedView, nothing};
 ghost use Rattle.gt_base.specs.Orders.{prioritised_cmp, signal_cmp};
 ghost use Rattle.gt_base.specs.Sets.{has, members, set_of};
 ghost use Rattle.gt_base.specs.declared.events.Event.{Event as EventOf};
 ghost use Rattle.gt_base.specs.declared.events.Prioritised.{Prioritised as PrioritisedOf};
 ghost use Rattle.gt_base.specs.declared.events.Signal.{Signal as SignalOf};
 ghost use Rattle.gtrbac_model.specs.Conflict.{blocked as is_blocked};
+ghost use Rattle.gtrbac_model.specs.Graph.{item_at};
 ghost use Rattle.gtrbac_model.specs.History.{is_some_item};
 ghost use Rattle.gtrbac_model.specs.Instant.{closed, grounded_after};
 ghost use Rattle.gtrbac_model.specs.Same.{same_event, same_prioritised};
 ghost use Rattle.gtrbac_model.specs.Trigger.{met as is_met, immediate};
 ghost use Rattle.time_engine.specs.Traces.{is_something};
 ghost use Rattle.why_check.specs.Certificates.{IsShown, set_in};
+ghost use Rattle.why_check.specs.Heads.{passes};
+ghost use Rattle.why_check.specs.Peaks.{ArePeaks};
 
+use crate::blocking::Peaks;
 use crate::certificates::Listing;
+use crate::heads::Headed;
 use gt_base::{Event, EventSet, Happened, Memory, Prioritised, Signal, Status, Trigger};
-use priority_conflict::{Contest, blocked};
+use priority_conflict::Contest;
 use std::alloc::Global;
 use trigger_rules::met_in;
 
@@ -70,7 +75,7 @@ fn add_signals(into: &mut Happened, signals: &[Signal])
 /// of the base, and is listed in an order that supports it.
 pub(crate) fn is_shown(
     alloc: Global,
-    rules: &[Trigger],
+    rules: &Headed,
     base: &Happened,
     before: &Status,
     listing: &Listing,
@@ -93,7 +98,7 @@ pub(crate) fn set_listed(alloc: Global, listing: &Listing) -> Result<Happened, M
 /// Whether the listing is shown, where this is its set.
 fn is_shown_as(
     alloc: Global,
-    rules: &[Trigger],
+    rules: &Headed,
     base: &Happened,
     before: &Status,
     x: &Contest,
@@ -129,18 +134,18 @@ fn all_signalled(x: &Happened, signals: &[Signal]) -> bool
 }
 
 /// Whether the set has the base and the head of each immediate trigger that is met in it.
-fn is_closed(rules: &[Trigger], base: &Happened, before: &Status, x: &Contest) -> bool
+fn is_closed(rules: &Headed, base: &Happened, before: &Status, x: &Contest) -> bool
     ensures { result ≡ closed rules.now base.now.set (has before.now.set) x.now }
 {
     has_all(x.set(), base.events()) && has_heads(rules, before, x)
 }
 
 /// Whether the set has the head of each immediate trigger that is met in it.
-fn has_heads(rules: &[Trigger], before: &Status, x: &Contest) -> bool
+fn has_heads(rules: &Headed, before: &Status, x: &Contest) -> bool
     ensures { result ≡ list_all (λ r. not (immediate r && is_met r x.now (has before.now.set))
         || has x.now.events r.head) rules.now }
 {
-    rules.iter().all(|r| has_head(r, before, x))
+    rules.triggers().iter().all(|r| has_head(r, before, x))
 }
 
 /// Whether the set has the head of the trigger, if that is immediate and met in it.
@@ -168,7 +173,7 @@ fn fires(r: &Trigger, x: &Contest, before: &Status) -> bool
 /// Whether each of the events is supported by those before it.
 fn is_supported(
     alloc: Global,
-    rules: &[Trigger],
+    rules: &Headed,
     base: &Happened,
     before: &Status,
     x: &Contest,
@@ -177,25 +182,28 @@ fn is_supported(
     ensures { IfOk result (λ yes. yes ≡ grounded_after rules.now base.now.set
         (has before.now.set) x.now [] order.now) }
 {
+    let peaks = Peaks::new(alloc, x)?;
     let mut standing = EventSet::new(alloc);
     standing.reserve(order.len())?;
     for e in order {
         if !has_support(rules, base, before, x, &standing, e) {
             return Ok(false);
         }
-        note(&mut standing, x, e);
+        note(&mut standing, &peaks, e);
     }
     Ok(true)
 }
 
-/// Adds the event, into room that was made before, where it is not blocked at its priority.
-fn note(standing: &mut EventSet, x: &Contest, e: &Prioritised)
+/// Adds the event, into room that was made before, where it is not blocked at its priority in the
+/// sets whose events have these peaks.
+fn note(standing: &mut EventSet, peaks: &Peaks, e: &Prioritised)
     requires { 1 ≤ standing.old.spare }
-    ensures events { (f : EventOf) → has standing.new.set f
-        ≡ ((same_event e.now.event f && not (is_blocked x.now e.now)) || has standing.old.set f) }
+    ensures events { (x : HappenedView) → ArePeaks (members x.events) peaks.now
+        → (f : EventOf) → has standing.new.set f
+        ≡ ((same_event e.now.event f && not (is_blocked x e.now)) || has standing.old.set f) }
     ensures spare { standing.old.spare ≤ standing.new.spare + 1 }
 {
-    if !blocked(x.set(), *e) {
+    if !peaks.blocks(e) {
         standing.add(e.event);
     }
 }
@@ -203,7 +211,7 @@ fn note(standing: &mut EventSet, x: &Contest, e: &Prioritised)
 /// Whether the event is in the base, or the head of an immediate trigger that is met in the set and
 /// whose body events stand already.
 fn has_support(
-    rules: &[Trigger],
+    rules: &Headed,
     base: &Happened,
     before: &Status,
     x: &Contest,
@@ -220,7 +228,7 @@ fn has_support(
 
 /// Whether the event is the head of such a trigger.
 fn is_head(
-    rules: &[Trigger],
+    rules: &Headed,
     before: &Status,
     x: &Contest,
     standing: &EventSet,
@@ -230,7 +238,45 @@ fn is_head(
         && is_met r x.now (has before.now.set) && list_all (has standing.now.set) r.events)
         rules.now }
 {
-    rules.iter().any(|r| supports(r, before, x, standing, *e))
+    let numbers = rules.by_head(e.event);
+    is_headed_by(rules, numbers, before, x, standing, *e)
+}
+
+/// Whether a trigger with one of the numbers supports the event.
+fn is_headed_by(
+    rules: &Headed,
+    numbers: &[u32],
+    before: &Status,
+    x: &Contest,
+    standing: &EventSet,
+    e: Prioritised,
+) -> bool
+    ensures { result ≡ list_any (λ n. passes (λ r. immediate r && same_prioritised r.head e
+        && is_met r x.now (has before.now.set) && list_all (has standing.now.set) r.events)
+        (item_at rules.now n)) numbers.now }
+{
+    numbers
+        .iter()
+        .any(|n| supports_at(rules, *n, before, x, standing, e))
+}
+
+/// Whether the trigger of this number supports the event.
+fn supports_at(
+    rules: &Headed,
+    n: u32,
+    before: &Status,
+    x: &Contest,
+    standing: &EventSet,
+    e: Prioritised,
+) -> bool
+    ensures { result ≡ passes (λ r. immediate r && same_prioritised r.head e
+        && is_met r x.now (has before.now.set) && list_all (has standing.now.set) r.events)
+        (item_at rules.now n) }
+{
+    match rules.at(n) {
+        Some(r) => supports(r, before, x, standing, e),
+        None => false,
+    }
 }
 
 /// Whether the trigger supports the event.

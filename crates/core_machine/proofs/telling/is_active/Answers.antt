@@ -11,7 +11,7 @@ use Rattle.hybrid_hierarchy.specs.Nets.{IsHierarchy}
 use Rattle.session_table.specs.Tables.{table_of}
 use Rattle.policy_words.specs.Naming.{NamedPolicy}
 use Rattle.core_machine.specs.Kept.{point_of}
-use Rattle.core_machine.proofs.Hierarchies.{hierarchy_of}
+use Rattle.hybrid_hierarchy.proofs.PolicyEdges.{hierarchy_of}
 use Rattle.core_machine.proofs.telling.is_active.Goals as goal
 
 pub returns-in-Ok : goal.returns-in-Ok

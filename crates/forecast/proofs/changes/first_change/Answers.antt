@@ -5,8 +5,8 @@ use Rattle.history_laws.proofs.Reading.{legal_onward, reaches}
 use Rattle.policy_words.specs.Naming.{NamedPolicy}
 use Rattle.instant_bases.specs.Timelines.{TimelineView}
 use Rattle.session_table.specs.Tables.{NotBefore}
-use Rattle.time_engine.specs.Histories.{Follows}
-use Rattle.core_machine.specs.Books.{HasWaiting, IsTableIn, model_in, now_in}
+use Rattle.core_machine.specs.Books.{IsTableIn, model_in, now_in}
+use Rattle.forecast.specs.Going.{IsOnWay}
 use Rattle.forecast.proofs.Agreeing.{begins}
 use Rattle.forecast.proofs.Existing.{ahead_is_one}
 use Rattle.forecast.proofs.Unraised.{unraised_stays}
@@ -21,12 +21,11 @@ returns-in_err-table-clause-one c = let b = c.args.book.now in ahead_is_one b.na
 pub walk-requires-clause-way : goal.walk-requires-clause-way
 walk-requires-clause-way c =
     let b = c.args.book.now in
-    begins b c.in_ok-line.line.line c.in_ok-table.table (ap (λ (v : TimelineView). v.trace) c.in_ok-line.ensures ∙ c.timeline.ensures.trace)
-    (subst (λ (v : TimelineView). Follows b.named.policy b.birth b.entries (model_in b) v) (sym c.in_ok-line.ensures) c.timeline.ensures.follows)
-    (subst (λ (v : TimelineView). HasWaiting b v) (sym c.in_ok-line.ensures) c.timeline.ensures.waiting)
+    subst (λ (v : TimelineView). IsOnWay b v c.in_ok-table.table) (sym c.in_ok-line.ensures)
+    (begins b c.timeline-timeline.result.now.line c.in_ok-table.table c.keeps-2.ensures c.timeline-timeline.ensures.trace c.timeline-timeline.ensures.follows c.timeline-timeline.ensures.waiting
     (subst (λ (t : Table). IsTableIn b t) (sym c.in_ok-table.ensures.table) c.sessions.ensures.table)
     (subst (λ (o : Option ℕ). NotBefore o (now_in b)) (sym c.in_ok-table.ensures.charged_to) c.sessions.ensures.charged)
-    c.entries-entries.ensures.legal
+    c.entries-entries.ensures.legal)
 
 pub returns-clause-one : goal.returns-clause-one
 returns-clause-one c = let b = c.args.book.now in ahead_is_one b.named.policy c.ground-ground.ensures.safe b.birth b.entries c.args.upto

@@ -28,7 +28,7 @@ loop-f-init c =
 pub returns-then-on-was : goal.returns-then-on-was
 returns-then-on-was c =
     change_found c.args.book.now c.ground-ground.ensures.safe c.entries-entries.ensures.legal c.args.f c.args.upto c.requires.within c.loop-f.line.line c.go_on.new.line.line c.loop-f.table c.go_on.new.table c.is_on-was.result
-    c.loop-f.invariant.way c.in_ok-go_on.ensures.way c.in_ok-go_on.ensures.step c.loop-f.invariant.so (record { at = c.now-at.result; on = c.is_on-on.result }) c.now-at.ensures
+    c.loop-f.invariant.way c.in_ok-go_on.ensures c.loop-f.invariant.so (record { at = c.now-at.result; on = c.is_on-on.result }) c.now-at.ensures
     (c.is_on-on.ensures ∙ ap (λ (s : Fluents). has s c.args.f) c.status-in-loop-f.ensures) (apart c.is_on-on.result c.is_on-was.result c.if-on-was.true)
 
 pub loop-f-preserved : goal.loop-f-preserved
@@ -36,7 +36,7 @@ loop-f-preserved c =
     record {
       way = c.in_ok-go_on.ensures.way;
       so = stays c.args.book.now c.ground-ground.ensures.safe c.entries-entries.ensures.legal c.args.f c.args.upto c.requires.within c.loop-f.line.line c.go_on.new.line.line c.loop-f.table c.go_on.new.table c.is_on-was.result
-          c.loop-f.invariant.way c.in_ok-go_on.ensures.way c.in_ok-go_on.ensures.step c.loop-f.invariant.so
+          c.loop-f.invariant.way c.in_ok-go_on.ensures c.loop-f.invariant.so
           (sym (c.is_on-on.ensures ∙ ap (λ (s : Fluents). has s c.args.f) c.status-in-loop-f.ensures) ∙ alike c.is_on-on.result c.is_on-was.result c.if-on-was.false);
     }
 

@@ -1,14 +1,22 @@
-use Rattle.std.proofs.Common.{◌≡◌, ◌∙◌, ℕ, List, Option, None, Some, refl, sym, map}
+use Rattle.std.proofs.Common.{Some, refl, sym, map}
 use Rattle.std.specs.Prelude.{string_bytes}
-use Rattle.gtrbac_daemon.specs.Ends.{usage}
-use Rattle.gtrbac_daemon.specs.Polls.{PollAnswers, RunsPoll}
-use Rattle.gtrbac_daemon.proofs.Polled.{poll_kept}
+use Rattle.gtrbac_daemon.proofs.Polled.{poll_starved}
 use Rattle.gtrbac_daemon.proofs.Telling.{runs_named, runs_unnamed}
 use Rattle.gtrbac_daemon.proofs.poll.daemon_poll.Goals as goal
 
-pub returns-in-Some : goal.returns-in-Some
-returns-in-Some g c =
-    runs_named (map string_bytes c.args.words.now) _ _ _ c.in-Some.name.now (sym c.in-Some.ensures) c.requires.ports c.requires.none c.poll_given.ensures.answers c.poll_given.ensures.texts
+pub returns-in-Ok : goal.returns-in-Ok
+returns-in-Ok g c =
+    let s = g.S.Shelf in
+    let old = c.args.shelf.now in
+    let new = c.find_policy.new.shelf in
+    runs_named (map string_bytes c.args.words.now) _ _ _ c.in-Some.name.now (sym c.in-Some.ensures) c.requires.ports c.requires.none
+    (c.poll_found.ensures (s.contents old) (s.contents new) (s.faults old) (s.faults new) (s.hard_faults old) (s.hard_faults new) c.in-Some.name.now c.in-Ok.ensures.found c.in-Ok.ensures.failed c.in-Ok.ensures.steady)
+    c.find_policy.ensures.same
+
+pub returns-in-Err : goal.returns-in-Err
+returns-in-Err g c =
+    runs_named (map string_bytes c.args.words.now) _ _ _ c.in-Some.name.now (sym c.in-Some.ensures) c.requires.ports c.requires.none
+    (poll_starved _ _ _ (Some c.in-Some.name.now) refl refl refl refl refl refl refl) c.find_policy.ensures.same
 
 pub returns-in-None : goal.returns-in-None
 returns-in-None g c = runs_unnamed (map string_bytes c.args.words.now) _ _ _ (sym c.in-None.ensures) c.requires.ports c.requires.none c.print.ensures refl refl

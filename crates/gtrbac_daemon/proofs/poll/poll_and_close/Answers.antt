@@ -3,7 +3,7 @@ use Rattle.gt_base.specs.declared.requests.Entry.{Entry}
 use Rattle.turn_lock.specs.Turns.{Each, part}
 use Rattle.turn_lock.specs.Holders.{Holder, newcomer, IsTold}
 use Rattle.core_machine.specs.Books.{BookView, now_after}
-use Rattle.book_lines.specs.Ledgers.{IsLegalLedger}
+use Rattle.snapshot_readers.specs.Ledgers.{IsLegalLedger}
 use Rattle.gtrbac_daemon.proofs.Polled.{one_of_one, has_polled}
 use Rattle.gtrbac_daemon.proofs.poll.poll_and_close.Goals as goal
 

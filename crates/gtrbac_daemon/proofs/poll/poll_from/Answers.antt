@@ -1,4 +1,4 @@
-use Rattle.std.proofs.Common.{◌≡◌, ◌∙◌, ap}
+use Rattle.std.proofs.Common.{◌∙◌, ap}
 use Rattle.core_machine.specs.Books.{BookView}
 use Rattle.gtrbac_daemon.proofs.Polled.{poll_headline_of}
 use Rattle.gtrbac_daemon.proofs.poll.poll_from.Goals as goal

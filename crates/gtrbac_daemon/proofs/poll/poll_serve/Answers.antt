@@ -1,43 +1,52 @@
-use Rattle.std.proofs.Common.{◌≡◌, ◌∙◌, ℕ, ap, subst, refl, inl, inr}
+use Rattle.std.proofs.Common.{ℕ, ap, subst, refl, inl, inr}
 use Rattle.std.proofs.KnownBytes.{Keeps-refl}
 use Rattle.policy_words.specs.Naming.{NamedPolicy}
 use Rattle.request_text.specs.Replies.{log_text}
 use Rattle.gtrbac_daemon.specs.Daemon.{IsWritten}
 use Rattle.gtrbac_daemon.proofs.poll.poll_serve.Goals as goal
 
-pub returns-in-Ok : goal.returns-in-Ok
-returns-in-Ok g c = λ texts texts' m n.
+pub returns-in_default : goal.returns-in_default
+returns-in_default g c = λ texts texts' m m' n n'.
+    record {
+      birth = c.now-minute.result;
+      reads = c.now-minute.ensures;
+      ends = inr (record { nothing = (refl, Keeps-refl (g.K.Sink.written c.args.out.now), refl); clock = refl; ports = refl; ends = refl });
+    }
+
+pub returns-in-Ok-poll_from : goal.returns-in-Ok-poll_from
+returns-in-Ok-poll_from g c = λ texts texts' m m' n n'.
     let o = g.K.Sink in
-    let es = c.in-Ok.closed.entries in
+    let es = c.in-Ok-poll_from.closed.entries in
     let s = c.write_up.result in
     let w0 = o.written c.args.out.now in
     let w1 = o.written c.write_up.new.out in
     let f0 = o.faults c.args.out.now in
     let f1 = o.faults c.write_up.new.out in
-    let root = c.in-Ok.ensures.root in
+    let root = c.in-Ok-poll_from.ensures.root in
     record {
       birth = c.now-minute.result;
       reads = c.now-minute.ensures;
       ends =
           inl (record {
             history = es;
-            end = c.in-Ok.end;
-            headline = c.in-Ok.ensures.headline;
+            end = c.in-Ok-poll_from.end;
+            headline = c.in-Ok-poll_from.ensures.headline;
             written =
                 subst (λ (due : ℕ). IsWritten due (log_text c.args.safe c.now-minute.result es) s w0 w1 f0 f1) c.status_of_run.ensures
                 (subst (λ (t : ℕ). IsWritten c.status_of_run.result (log_text c.args.safe t es) s w0 w1 f0 f1) root.1
-                (subst (λ (np : NamedPolicy). IsWritten c.status_of_run.result (log_text np c.in-Ok.closed.birth es) s w0 w1 f0 f1) root.0 c.write_up.ensures));
+                (subst (λ (np : NamedPolicy). IsWritten c.status_of_run.result (log_text np c.in-Ok-poll_from.closed.birth es) s w0 w1 f0 f1) root.0 c.write_up.ensures));
           });
     }
 
-pub returns-in-Err : goal.returns-in-Err
-returns-in-Err g c = λ texts texts' m n.
+pub returns : goal.returns
+returns g c = λ texts texts' m m' n n'.
     record {
       birth = c.now-minute.result;
       reads = c.now-minute.ensures;
       ends =
           inr (record {
             nothing = (refl, Keeps-refl (g.K.Sink.written c.args.out.now), refl);
+            clock = ap g.C.Clock.readings c.in-Err.ensures.err.2;
             ports = ap g.P.Ports.harbour c.in-Err.ensures.err.0;
             ends = λ i. (c.in-Err.ensures.err.1 i).items;
           });

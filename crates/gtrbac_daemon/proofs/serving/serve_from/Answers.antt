@@ -1,6 +1,4 @@
-use Rattle.std.proofs.Common.{◌≡◌, ℕ, ◌≤◌, length, sym, ap, subst, ◌∙◌}
-use Rattle.gtrbac_model.specs.Safety.{IsSafe}
-use Rattle.policy_words.specs.Naming.{NamedPolicy}
+use Rattle.std.proofs.Common.{ℕ, ◌≤◌, sym, subst, ◌∙◌}
 use Rattle.gtrbac_daemon.specs.Crew.{crewmen}
 use Rattle.gtrbac_daemon.proofs.Served.{as_long, headline_of}
 use Rattle.gtrbac_daemon.proofs.serving.serve_from.Goals as goal

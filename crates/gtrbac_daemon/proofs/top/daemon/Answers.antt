@@ -1,4 +1,4 @@
-use Rattle.std.proofs.Common.{◌≡◌, List, map, refl, sym}
+use Rattle.std.proofs.Common.{map, refl}
 use Rattle.std.specs.Prelude.{string_bytes}
 use Rattle.gtrbac_daemon.specs.Words.{policy_named}
 use Rattle.gtrbac_daemon.proofs.Running.{all_fresh, some_crew, runs_named, runs_unnamed}

@@ -1,4 +1,4 @@
-use Rattle.std.proofs.Common.{◌≡◌, ℕ, List, refl, sym, ap, subst, ◌∙◌, inl, inr}
+use Rattle.std.proofs.Common.{List, refl, ap, ◌∙◌, inl, inr}
 use Rattle.std.proofs.KnownBytes.{Keeps-refl}
 use Rattle.line_server.specs.declared.workers.Worker.{Worker}
 use Rattle.gtrbac_daemon.specs.Crew.{crewmen, status_among}
@@ -7,8 +7,16 @@ use Rattle.gtrbac_daemon.proofs.CrewStatus.{same_status}
 use Rattle.gtrbac_daemon.proofs.Served.{has_served}
 use Rattle.gtrbac_daemon.proofs.top.serve.Goals as goal
 
-pub returns-in-Ok : goal.returns-in-Ok
-returns-in-Ok g c = λ texts texts' m m' n n'.
+pub returns-in_default : goal.returns-in_default
+returns-in_default g c = λ texts texts' m m' n n'.
+    record {
+      birth = c.now-minute.result;
+      reads = c.now-minute.ensures;
+      ends = inr ((refl, Keeps-refl (g.K.Sink.written c.args.out.now), refl), refl);
+    }
+
+pub returns-in-Ok-serve_from : goal.returns-in-Ok-serve_from
+returns-in-Ok-serve_from g c = λ texts texts' m m' n n'.
     let k = g.C.Clock in
     let d = g.D.Door in
     let K = crewmen k.readings d.links d.faults in
@@ -20,13 +28,13 @@ returns-in-Ok g c = λ texts texts' m m' n n'.
           inl (has_served g.D.L.Link.traffic c.args.safe c.now-minute.result c.write_up.result c.crew_status-due.result
           (scene texts m n (g.B.Clock.readings c.args.birth.now) (K c.args.crew.now.items) (o.written c.args.out.now) (o.faults c.args.out.now))
           (scene texts' m' n' (g.B.Clock.readings c.now-minute.new.self) (K c.serve_from.new.crew.items) (o.written c.write_up.new.out) (o.faults c.write_up.new.out))
-          c.in-Ok.closed c.in-Ok.ensures.root.0 c.in-Ok.ensures.root.1 c.in-Ok.ensures.headline
+          c.in-Ok-serve_from.closed c.in-Ok-serve_from.ensures.root.0 c.in-Ok-serve_from.ensures.root.1 c.in-Ok-serve_from.ensures.headline
           (c.crew_status-due.ensures ∙ (ap (λ (ws : List (Worker g.row.D.Denot g.row.C.Denot g.row.G.Denot g.row.D-L.Denot)). status_among ws) c.as_slice.ensures.value ∙ same_status k.readings d.links d.faults c.serve_from.new.crew.items))
           c.write_up.ensures);
     }
 
-pub returns-in-Err : goal.returns-in-Err
-returns-in-Err g c = λ texts texts' m m' n n'.
+pub returns : goal.returns
+returns g c = λ texts texts' m m' n n'.
     let K = crewmen g.C.Clock.readings g.D.Door.links g.D.Door.faults in
     record {
       birth = c.now-minute.result;

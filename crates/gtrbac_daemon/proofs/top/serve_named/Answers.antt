@@ -3,9 +3,8 @@ use Rattle.gt_io.specs.Causes.{Rose}
 use Rattle.policy_commands.specs.declared.judging.Admitted.{Admitted}
 use Rattle.policy_commands.specs.declared.judging.Admitted.TheVariants.{Ended}
 use Rattle.policy_commands.specs.Ends.{told, seen_end}
-use Rattle.gtrbac_daemon.specs.Ends.{IsPrinted}
-use Rattle.gtrbac_daemon.specs.Causes.{IsFailure}
-use Rattle.gtrbac_daemon.specs.Words.{IsFound}
+use Rattle.policy_commands.specs.Printing.{IsPrinted}
+use Rattle.gtrbac_daemon.specs.Words.{IsFound, IsFailure, IsSteadyFor}
 use Rattle.gtrbac_daemon.specs.Daemon.{served}
 use Rattle.gtrbac_daemon.proofs.Reasons.{never_four}
 use Rattle.gtrbac_daemon.proofs.Running.{kept_by, starved_by}
@@ -18,14 +17,19 @@ returns-in-Safe-clause-answers g c =
     let new = c.find_policy.new.shelf in
     let hard = Rose (s.hard_faults old) (s.hard_faults new) in
     served c.in-Safe.safe (subst (λ (a : Admitted). IsFound hard (s.contents old) c.args.name.now a) c.in-Safe.is c.in-Ok.ensures.found)
+    (subst (λ (a : Admitted). IsSteadyFor (s.hard_faults new ≡ s.hard_faults old) a) c.in-Safe.is c.in-Ok.ensures.steady)
     (c.serve.ensures (s.contents old) (s.contents new) (s.faults old) (s.faults new) (s.hard_faults old) (s.hard_faults new))
 
 pub returns-in-Ended-clause-answers : goal.returns-in-Ended-clause-answers
 returns-in-Ended-clause-answers g c =
-    let hard = Rose (g.S.Shelf.hard_faults c.args.shelf.now) (g.S.Shelf.hard_faults c.find_policy.new.shelf) in
+    let s = g.S.Shelf in
+    let old = c.args.shelf.now in
+    let new = c.find_policy.new.shelf in
+    let hard = Rose (s.hard_faults old) (s.hard_faults new) in
     let o = g.K.Sink in
     let end = c.in-Ended.end in
-    kept_by _ (Some c.args.name.now) _ _ _ (seen_end end) (subst (λ (a : Admitted). IsFound hard (g.S.Shelf.contents c.args.shelf.now) c.args.name.now a) c.in-Ended.is c.in-Ok.ensures.found)
+    kept_by _ (Some c.args.name.now) _ _ _ (seen_end end) (subst (λ (a : Admitted). IsFound hard (s.contents old) c.args.name.now a) c.in-Ended.is c.in-Ok.ensures.found)
+    (subst (λ (a : Admitted). IsSteadyFor (s.hard_faults new ≡ s.hard_faults old) a) c.in-Ended.is c.in-Ok.ensures.steady)
     (subst (λ (t : List ℕ). IsPrinted c.print.result (told end.status t) (o.written c.args.out.now) (o.written c.print.new.out) (o.faults c.args.out.now) (o.faults c.print.new.out)) c.as_slice.ensures c.print.ensures) refl refl
 
 pub returns-in-Err-clause-answers : goal.returns-in-Err-clause-answers

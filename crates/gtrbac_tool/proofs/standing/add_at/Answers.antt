@@ -13,7 +13,7 @@ returns c =
     let before_is : has c.in_ok-before.before.set ≡ made_before c.args.t c.args.trace.now (has p.opening) =
     (λ i f. c.in_ok-before.ensures f i) ∙ (λ i. made_before c.args.t c.args.trace.now (has (c.opening.ensures i))) in
     let x_is : c.in_ok-x.x ≡ set = c.in_ok-x.ensures ∙ c.set_of.ensures in
-    let seen_is : c.seen-seen.result ≡ seen set c.args.e = c.seen-seen.ensures ∙ ap (λ y. seen y c.args.e) c.set.ensures ∙ ap (λ y. seen y c.args.e) x_is in
+    let seen_is : c.seen-seen.result ≡ seen set c.args.subject.now.event = c.seen-seen.ensures ∙ ap (λ y. seen y c.args.subject.now.event) c.set.ensures ∙ ap (λ y. seen y c.args.subject.now.event) x_is in
     on_ok c.add_standing.result
-    (λ e. e ∙ (λ i. c.args.text.now.items ++ standing_line (rules_are i) (c.base_of-base.ensures i) (before_is i) (x_is i) c.args.named.now c.args.e (seen_is i)))
+    (λ e. e ∙ (λ i. c.args.text.now.items ++ standing_line (rules_are i) (c.base_of-base.ensures i) (before_is i) (x_is i) c.args.subject.now.named c.args.subject.now.event (seen_is i)))
     c.add_standing.ensures

@@ -2,8 +2,9 @@ use Rattle.std.proofs.Common.{◌≡◌, ℕ, List, inl, inr, refl, sym, subst}
 use Rattle.gt_io.specs.Causes.{Rose}
 use Rattle.policy_commands.specs.Ends.{seen_end}
 use Rattle.policy_commands.specs.Finding.{IsPolicyText, IsFoundText, IsFailure, IsSteady}
-use Rattle.gtrbac_tool.specs.Commands.{seen_command}
-use Rattle.gtrbac_tool.proofs.Calls.{over_text, asked_there, missed_ends, missed_run, text_counted, text_steady}
+use Rattle.gtrbac_tool.specs.Commands.{seen_command, IsPlainRun}
+use Rattle.gtrbac_tool.proofs.Calls.{over_text, asked_there, missed_ends, missed_run, text_counted}
+use Rattle.gtrbac_tool.proofs.Answering.{both_steady}
 use Rattle.gtrbac_tool.proofs.top.answer.Goals as goal
 
 pub returns-in-Text-clause-end : goal.returns-in-Text-clause-end
@@ -12,17 +13,17 @@ returns-in-Text-clause-end g c =
     (seen_command c.args.command.now) (g.S.Shelf.contents c.args.shelf.now) (g.I.Source.left c.args.input.now) c.name.result.now c.name.ensures c.deref.result.now
     (subst (λ (t : List ℕ). IsPolicyText (g.S.Shelf.contents c.args.shelf.now) c.name.result.now t) (sym c.deref.ensures.value)
     (subst (IsFoundText (Rose (g.S.Shelf.hard_faults c.args.shelf.now) (g.S.Shelf.hard_faults c.find_text.new.shelf)) (g.S.Shelf.contents c.args.shelf.now) c.name.result.now) c.in-Text.is c.in_ok-text.ensures.found))
-    c.answer_text.result c.answer_text.ensures.end
+    (IsPlainRun (seen_command c.args.command.now)) c.answer_text.result c.answer_text.ensures.end
 
 pub returns-in-Text-clause-steady : goal.returns-in-Text-clause-steady
 returns-in-Text-clause-steady g c =
-    text_steady (g.S.Shelf.hard_faults c.find_text.new.shelf ≡ g.S.Shelf.hard_faults c.args.shelf.now) (g.I.Source.faults c.answer_text.new.input ≡ g.I.Source.faults c.args.input.now) c.answer_text.result
+    both_steady (g.S.Shelf.hard_faults c.find_text.new.shelf ≡ g.S.Shelf.hard_faults c.args.shelf.now) (g.I.Source.faults c.answer_text.new.input ≡ g.I.Source.faults c.args.input.now)
     (subst (IsSteady (g.S.Shelf.hard_faults c.find_text.new.shelf ≡ g.S.Shelf.hard_faults c.args.shelf.now)) c.in-Text.is c.in_ok-text.ensures.steady)
-    c.answer_text.ensures.steady
+    c.answer_text.result c.answer_text.ensures.steady
 
 pub returns-in-Text-clause-counted : goal.returns-in-Text-clause-counted
 returns-in-Text-clause-counted g c =
-    text_counted _ (Rose (g.I.Source.faults c.args.input.now) (g.I.Source.faults c.answer_text.new.input)) (seen_command c.args.command.now) _ (g.I.Source.left c.args.input.now) c.answer_text.result c.answer_text.ensures.end
+    text_counted (IsPlainRun (seen_command c.args.command.now)) _ (Rose (g.I.Source.faults c.args.input.now) (g.I.Source.faults c.answer_text.new.input)) (seen_command c.args.command.now) _ (g.I.Source.left c.args.input.now) c.answer_text.result c.answer_text.ensures.end
 
 pub returns-in-Text-clause-untouched : goal.returns-in-Text-clause-untouched
 returns-in-Text-clause-untouched g c =

@@ -19,7 +19,7 @@ loop-alloc-init g c =
       number = refl;
       calls = omega arith;
       few = omega (arith, none);
-      faults = omega arith;
+      faults = refl;
     }
 
 pub returns-in-Some-clause-works : goal.returns-in-Some-clause-works
@@ -55,15 +55,13 @@ loop-alloc-preserved g c =
     let more = c.in_default.ensures.calls in
     let count = c.len.ensures in
     let low = c.loop-alloc-test.true in
-    let faults = inv.faults in
-    let faults' = c.in_default.ensures.faults in
     record {
       tales = y.0;
       worked = y.1;
-      unworn = y.2;
+      unworn = y.2.0;
       idle = c.in_default.ensures.pass.0;
       number = c.in_default.ensures.pass.1 ∙ inv.number;
       calls = omega (arith, one, kept, calls, more);
       few = omega (arith, one, kept, count, low);
-      faults = omega (arith, faults, faults');
+      faults = y.2.1 ∙ inv.faults;
     }

@@ -20,7 +20,7 @@ invariant-loop-alloc g l =
       number : l.pass.number ≡ l.fn.pass.number;
       calls : l.calls ≤ 67_108_864 * length l.w.served.items;
       few : length l.w.served.items ≤ most_links;
-      faults : d.faults l.fn.w.door ≤ d.faults l.w.door;
+      faults : d.faults l.w.door ≡ d.faults l.fn.w.door;
     }
 
 abbrev pub decreases-loop-alloc : goal.decreases-loop-alloc

@@ -4,7 +4,7 @@ use Rattle.hybrid_hierarchy.specs.Nets.{IsHierarchy}
 use Rattle.session_table.specs.Tables.{table_of, closed_at}
 use Rattle.why_check.specs.Kept.{with_signals}
 use Rattle.why_check.proofs.Closed.{waiting_so, for_each}
-use Rattle.why_check.proofs.Hierarchies.{hierarchy_of}
+use Rattle.hybrid_hierarchy.proofs.PolicyEdges.{hierarchy_of}
 use Rattle.why_check.proofs.closing.ended.Goals as goal
 
 pub end_instants-requires-clause-edges : goal.end_instants-requires-clause-edges

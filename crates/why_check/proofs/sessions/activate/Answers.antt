@@ -10,12 +10,12 @@ pub returns-clause-table : goal.returns-clause-table
 returns-clause-table c =
     let w = c.in-Active.field-0 in
     ap (λ (xs : List Signal). record (table_of c.start.new.table) { signals = xs }) c.in_ok-push.ensures.items
-    ∙ activates c.args.now c.args.actor (table_of c.args.table.now) (table_of c.start.new.table) c.args.waiting.now.items (c.in_ok-signal.signal ∷ []) c.args.session c.args.role w (c.in_ok-signal.ensures.table w)
-    ∙ ap (λ y. applied c.args.now c.args.actor (Activate c.args.session c.args.role) y (record (table_of c.args.table.now) { signals = c.args.waiting.now.items })) (sym c.in-Active.is)
+    ∙ activates c.args.by.now.instant c.args.actor (table_of c.args.table.now) (table_of c.start.new.table) c.args.waiting.now.items (c.in_ok-signal.signal ∷ []) c.args.session c.args.role w (c.in_ok-signal.ensures.table w)
+    ∙ ap (λ y. applied c.args.by.now.instant c.args.actor (Activate c.args.session c.args.role) y (record (table_of c.args.table.now) { signals = c.args.waiting.now.items })) (sym c.in-Active.is)
 
 pub returns-clause-begun : goal.returns-clause-begun
 returns-clause-begun c =
     let w = c.in-Active.field-0 in
     let same : c.start.new.table.begun ≡ c.args.table.now.begun =
-    sym (ap (λ (t : Table). t.begun) (c.in_ok-signal.ensures.table w)) ∙ activate_begins c.args.now c.args.actor c.args.session c.args.role w (table_of c.args.table.now) in
+    sym (ap (λ (t : Table). t.begun) (c.in_ok-signal.ensures.table w)) ∙ activate_begins c.args.by.now.instant c.args.actor c.args.session c.args.role w (table_of c.args.table.now) in
     omega (arith, same)

@@ -49,7 +49,7 @@ loop-e-preserved c = record {
   earlier = c.e-item.result ∷ c.loop-e.invariant.earlier;
   room = omega arith;
   standing = λ f.
-      c.note.ensures.events f
+      c.note.ensures.events c.args.x.now c.in_ok-peaks.ensures f
       ∙ ap (λ b. (same_event c.e-item.result.event f && not (blocked c.args.x.now c.e-item.result)) || b) (c.loop-e.invariant.standing f);
   rest =
       next (goal.at.loop-e-preserved c).After-has_support

@@ -1,0 +1,46 @@
+-- From the seats of viewers to what they have served.
+use Rattle.std.proofs.Common.{◌≡◌, ℕ, ◌<◌, ◌≤◌, true, List, [], length, reverse, get_or, sym, ap, subst, ◌∙◌, Option}
+use Rattle.std.specs.Prelude.{All, replicate}
+use Rattle.std.specs.List.{list_all}
+use Rattle.std.proofs.lemmas.List.{length-reverse, length-map}
+use Rattle.gt_base.specs.declared.requests.Entry.{Entry}
+use Rattle.gt_io.specs.Links.{Traffic}
+use Rattle.policy_words.specs.Naming.{NamedPolicy}
+use Rattle.snapshot_readers.specs.Glazed.{Glazed, fresh_glass}
+use Rattle.snapshot_readers.specs.declared.viewers.Viewer.{Viewer}
+use Rattle.snapshot_readers.specs.Viewing.{GlancesCanBeTold}
+use Rattle.snapshot_readers.specs.declared.seats.Seat.{Seat}
+use Rattle.snapshot_readers.specs.Seats.{watchers, HasLooked, IsNewViewer, IsReady, glasses_of, viewers_of, HasSettled, AreTold, HaveViewed}
+use Rattle.snapshot_readers.proofs.Seated.{ready, IsDone, seats_done}
+
+-- there are as many seats as viewers
+pub as_many : {D G L : Type 0} (xs : List (Seat D G L)) (vs : List (Viewer D G L)) → reverse (viewers_of xs) ≡ vs → length xs ≡ length vs
+as_many {D} {G} {L} xs vs is =
+    sym (length-map xs (λ (s : Seat D G L). s.viewer)) ∙ (sym (length-reverse (viewers_of xs)) ∙ ap (λ (l : List (Viewer D G L)). length l) is)
+
+module _ {D G L : Type 0} (np : NamedPolicy) (birth n : ℕ) (gs : List Glazed) (viewers : List (Viewer D G L)) (xs : List (Seat D G L)) (all : gs ≡ replicate n (fresh_glass np birth)) (glasses : reverse (glasses_of xs) ≡ gs)
+    (is : reverse (viewers_of xs) ≡ viewers) (new : All (λ (v : Viewer D G L). IsNewViewer v) viewers) where
+  pub all_ready : All (λ (s : Seat D G L). s.number ≤ 7) xs → GlancesCanBeTold np birth → All (λ (s : Seat D G L). IsReady np s) xs
+  all_ready numbers told = λ k d low.
+      let r = ready np birth n gs viewers xs all glasses is new k d low in
+      record {
+        named = ap (λ (g : Glazed). g.named) r.0;
+        replies = subst (λ (b : ℕ). GlancesCanBeTold np b) (sym (ap (λ (g : Glazed). g.birth) r.0)) told;
+        number = numbers k d low;
+        fresh = r.1;
+      }
+
+  pub all_served : (links : D → Option (List L)) (faults : D → ℕ) (traffic : L → Traffic) (h : List Entry) (viewers' : List (Viewer D G L)) (ys us : List (Seat D G L))
+      → viewers' ≡ reverse (viewers_of us) → length ys ≡ length xs → length us ≡ length ys
+      → ((i : ℕ) (d : Seat D G L) → i < length xs → HasLooked links faults traffic np (get_or xs i d) (get_or ys i d))
+      → ((i : ℕ) (d : Seat D G L) → i < length ys → HasSettled h (get_or ys i d) (get_or us i d))
+      → HaveViewed traffic np birth (watchers links faults viewers) (watchers links faults viewers')
+      × (list_all (λ (s : Seat D G L). s.told) us ≡ true → AreTold traffic np birth h (watchers links faults viewers) (watchers links faults viewers'))
+  all_served links faults traffic h viewers' ys us is' long more looked settled =
+      seats_done links faults traffic np birth h viewers viewers' xs us is is' (more ∙ long)
+      (λ i d low. record {
+        fresh = (ready np birth n gs viewers xs all glasses is new i d low).0;
+        mid = get_or ys i d;
+        looked = looked i d low;
+        settled = settled i d (subst (λ (m : ℕ). i < m) (sym long) low);
+      })

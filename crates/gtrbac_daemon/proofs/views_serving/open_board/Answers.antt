@@ -1,0 +1,14 @@
+use Rattle.std.proofs.Common.{◌≡◌, ℕ, sym, subst}
+use Rattle.policy_words.specs.Naming.{NamedPolicy}
+use Rattle.core_machine.specs.Books.{BookView}
+use Rattle.snapshot_readers.specs.Ledgers.{CanBeServed}
+use Rattle.snapshot_readers.specs.Viewing.{GlancesCanBeTold}
+use Rattle.gtrbac_daemon.proofs.views_serving.open_board.Goals as goal
+
+pub returns-in-Ok-clause-served : goal.returns-in-Ok-clause-served
+returns-in-Ok-clause-served g c = subst (λ (b : BookView). CanBeServed b) (sym c.in-Ok.ensures.board) c.in_ok-ledger.ensures.served
+
+pub returns-in-Ok-clause-told : goal.returns-in-Ok-clause-told
+returns-in-Ok-clause-told g c =
+    subst (λ (p : NamedPolicy). GlancesCanBeTold p c.args.birth) c.in_ok-ledger.ensures.root.0
+    (subst (λ (t : ℕ). GlancesCanBeTold c.in_ok-ledger.ledger.named t) c.in_ok-ledger.ensures.root.1 c.glances_can_be_told.ensures)

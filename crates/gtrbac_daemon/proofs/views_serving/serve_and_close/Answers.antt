@@ -1,0 +1,63 @@
+use Rattle.std.proofs.Common.{◌≡◌, ℕ, ◌<◌, ◌≤◌, List, [], length, drop, sym, ap, subst, ◌∙◌}
+use Rattle.gt_base.specs.declared.requests.Entry.{Entry}
+use Rattle.turn_lock.specs.Turns.{Each, part}
+use Rattle.turn_lock.specs.Holders.{Holder, site_of, newcomers, IsTold}
+use Rattle.turn_lock.proofs.PassLists.{new_all, length_new}
+use Rattle.gtrbac_daemon.proofs.Posted.{ready, InOrder, in_order, all_idle, none_missing, crew_is_told}
+use Rattle.gtrbac_daemon.proofs.views_serving.serve_and_close.Goals as goal
+
+pub man-requires-clause-pairs : goal.man-requires-clause-pairs
+man-requires-clause-pairs g c = ap (λ (ps : List (Holder g.row.M.Denot)). length ps) c.requires.passes ∙ length_new c.args.opened.0 [] 0 (length c.args.crew.now.items)
+
+pub run_both-requires-clause-idle : goal.run_both-requires-clause-idle
+run_both-requires-clause-idle g c κs within =
+    let new = new_all c.args.opened.0 [] (length c.args.crew.now.items) c.args.opened.1.items c.requires.passes in
+    λ k d low.
+    let r = ready (site_of c.args.opened.0) c.args.opened.1.items c.args.crew.now.items c.man.new.posts.items c.man.ensures.passes_are c.man.ensures.workers_are new.0 c.requires.fresh k d low in
+    (r.0, r.1.0, r.1.1)
+
+pub close-requires-clause-idle : goal.close-requires-clause-idle
+close-requires-clause-idle g c =
+    let root = c.args.opened.0.root in
+    let o = in_order g.D.L.Link.traffic g.C.Clock.readings g.D.Door.links g.D.Door.faults c.args.policy.now (g.M.Keeps.list root) (g.M.Machine.legal root) (g.M.Machine.now_of root) (site_of c.args.opened.0)
+    c.args.opened.1.items c.relieve.new.passes.items c.args.crew.now.items c.relieve.new.crew.items c.man.new.posts.items c.run_both.new.posts.items
+    c.man.ensures.passes_are c.man.ensures.workers_are c.relieve.ensures.passes_are c.relieve.ensures.crew_is c.run_both.ensures.posts c.run_both.ensures.works in
+    all_idle g.D.L.Link.traffic g.C.Clock.readings g.D.Door.links g.D.Door.faults c.args.policy.now (g.M.Keeps.list root) (g.M.Machine.legal root) (g.M.Machine.now_of root) (site_of c.args.opened.0)
+    c.args.opened.1.items c.relieve.new.passes.items c.args.crew.now.items c.relieve.new.crew.items o
+
+pub close-requires-clause-all : goal.close-requires-clause-all
+close-requires-clause-all g c =
+    let root = c.args.opened.0.root in
+    let new = new_all c.args.opened.0 [] (length c.args.crew.now.items) c.args.opened.1.items c.requires.passes in
+    let o = in_order g.D.L.Link.traffic g.C.Clock.readings g.D.Door.links g.D.Door.faults c.args.policy.now (g.M.Keeps.list root) (g.M.Machine.legal root) (g.M.Machine.now_of root) (site_of c.args.opened.0)
+    c.args.opened.1.items c.relieve.new.passes.items c.args.crew.now.items c.relieve.new.crew.items c.man.new.posts.items c.run_both.new.posts.items
+    c.man.ensures.passes_are c.man.ensures.workers_are c.relieve.ensures.passes_are c.relieve.ensures.crew_is c.run_both.ensures.posts c.run_both.ensures.works in
+    λ m low.
+    none_missing g.D.L.Link.traffic g.C.Clock.readings g.D.Door.links g.D.Door.faults c.args.policy.now (g.M.Keeps.list root) (g.M.Machine.legal root) (g.M.Machine.now_of root) (site_of c.args.opened.0)
+    c.args.opened.1.items c.relieve.new.passes.items c.args.crew.now.items c.relieve.new.crew.items o m (new.1 m (subst (λ (k : ℕ). m < k) c.requires.count low))
+
+pub returns-clause-worked : goal.returns-clause-worked
+returns-clause-worked g c =
+    let root = c.args.opened.0.root in
+    let list = g.M.Keeps.list in
+    let legal = g.M.Machine.legal root in
+    let now = g.M.Machine.now_of root in
+    let n = length c.args.crew.now.items in
+    let qs = c.relieve.new.passes.items in
+    let h = list c.close.result in
+    let P : List Entry → List (Holder g.row.M.Denot) → Type 0 = λ (es : List Entry) (ps : List (Holder g.row.M.Denot)).
+    InOrder g.D.L.Link.traffic g.C.Clock.readings g.D.Door.links g.D.Door.faults c.args.policy.now es legal now (site_of c.args.opened.0) ps qs c.args.crew.now.items c.relieve.new.crew.items in
+    let o : P (list root) c.args.opened.1.items = in_order g.D.L.Link.traffic g.C.Clock.readings g.D.Door.links g.D.Door.faults c.args.policy.now (list root) legal now (site_of c.args.opened.0)
+    c.args.opened.1.items qs c.args.crew.now.items c.relieve.new.crew.items c.man.new.posts.items c.run_both.new.posts.items
+    c.man.ensures.passes_are c.man.ensures.workers_are c.relieve.ensures.passes_are c.relieve.ensures.crew_is c.run_both.ensures.posts c.run_both.ensures.works in
+    let o2 : P [] c.args.opened.1.items = subst (λ (es : List Entry). P es c.args.opened.1.items) c.requires.empty o in
+    let o3 : P [] (newcomers c.args.opened.0 [] 0 n) = subst (λ (ps : List (Holder g.row.M.Denot)). P [] ps) c.requires.passes o2 in
+    let told : Each (IsTold [] h) qs = subst (λ (es : List Entry). Each (IsTold es h) qs) c.requires.empty c.close.ensures.each in
+    λ birth timed.
+    crew_is_told g.D.L.Link.traffic g.C.Clock.readings g.D.Door.links g.D.Door.faults c.args.policy.now legal now (site_of c.args.opened.0) birth timed h
+    c.args.opened.0 n qs c.args.crew.now.items c.relieve.new.crew.items o3 told
+
+pub returns-clause-others : goal.returns-clause-others
+returns-clause-others g c =
+    λ n low.
+    subst (λ (es : List Entry). part n (drop (length es) (g.M.Keeps.list c.close.result)) ≡ []) c.requires.empty (c.close.ensures.others n (subst (λ (k : ℕ). k ≤ n) (sym c.requires.count) low))

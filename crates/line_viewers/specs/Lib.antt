@@ -1,4 +1,0 @@
-pub mod Viewed
-pub mod Boxes
-pub mod Viewing
-pub mod Crew

@@ -1,0 +1,137 @@
+-- Viewers at their seats, and what they are told.
+use Rattle.std.specs.Prelude.{◌≡◌, ◌≤◌, ℕ, true, false, ⊤, List, [], ◌∷◌, map, length, take, Ok}
+use Rattle.std.specs.declared.option.Option.{Option}
+use mathlib.Core.List.{IsPrefix}
+use Rattle.gt_base.specs.declared.requests.Actor.{Actor}
+use Rattle.gt_base.specs.declared.requests.Actor.TheVariants.{Nobody}
+use Rattle.gt_base.specs.declared.requests.Entry.{Entry}
+use Rattle.gt_base.specs.declared.requests.Request.{Request}
+use Rattle.gt_io.specs.Links.{Traffic}
+use Rattle.gtrbac_model.specs.Policy.{Policy}
+use Rattle.gtrbac_model.specs.Status.{Model}
+use Rattle.gtrbac_model.specs.History.{Legal}
+use Rattle.policy_words.specs.Naming.{NamedPolicy}
+use Rattle.request_text.specs.declared.lines.Line.TheVariants.{Ask}
+use Rattle.request_text.specs.Phrases.{read_line}
+use Rattle.core_machine.specs.Books.{AreNamed}
+use Rattle.snapshot_readers.specs.Glances.{IsReplyAt}
+use Rattle.snapshot_readers.specs.Glazed.{Glazed}
+use Rattle.snapshot_readers.specs.declared.ends.Viewed.{Viewed}
+use Rattle.snapshot_readers.specs.declared.ends.ViewerEnd.{ViewerEnd}
+use Rattle.snapshot_readers.specs.declared.ends.ViewerEnd.TheVariants.{Fresh}
+use Rattle.snapshot_readers.specs.declared.viewers.Viewer.{Viewer}
+use Rattle.snapshot_readers.specs.Crew.{Tale, Works, AreViewed, ViewsTo, Gives, begun_of, all_lens}
+use Rattle.snapshot_readers.specs.Viewed.{Answer, shown, Acted, actor_after, Ascend}
+use Rattle.snapshot_readers.specs.Viewing.{GlancesCanBeTold, SameGlass}
+use Rattle.snapshot_readers.specs.declared.seats.Seat.{Seat}
+
+-- a viewer as it is seen: the links of its door that are to come, where they are told, how often
+-- its door failed, its served links, and how it ended
+pub record Watcher (L : Type 0) : Type 0 where
+  pub door : Option (List L)
+  pub faults : ℕ
+  pub served : List (Viewed L)
+  pub outcome : ViewerEnd
+
+module _ {D G L : Type 0} (links : D → Option (List L)) (faults : D → ℕ) where
+  abbrev pub watcher : Viewer D G L → Watcher L
+  watcher v =
+      record {
+        door = links v.door;
+        faults = faults v.door;
+        served = v.served.items;
+        outcome = v.outcome;
+      }
+
+  abbrev pub watchers : List (Viewer D G L) → List (Watcher L)
+  watchers vs = map watcher vs
+
+  -- what a viewer at its seat did, with the history that its glass has seen before and after
+  pub record HasLooked (traffic : L → Traffic) (np : NamedPolicy) (x y : Seat D G L) : Type 0 where
+    pub same : SameGlass x.glass y.glass
+    pub works : Works traffic np x.glass.birth
+        (record { seen = x.glass.seen; door = links x.viewer.door })
+        (record { seen = y.glass.seen; door = links y.viewer.door })
+        (faults x.viewer.door) (faults y.viewer.door) y.viewer.served.items y.viewer.outcome
+
+-- it has not begun, and has served nothing
+abbrev pub IsNewViewer : {D G L : Type 0} → Viewer D G L → Type 0
+IsNewViewer v = (v.outcome ≡ Fresh) × (v.served.items ≡ [])
+
+-- the viewer has not begun, and the glass is one of this policy, whose glances can be told
+pub record IsReady {D G L : Type 0} (np : NamedPolicy) (s : Seat D G L) : Type 0 where
+  pub named : s.glass.named ≡ np
+  pub replies : GlancesCanBeTold np s.glass.birth
+  pub number : s.number ≤ 7
+  pub fresh : IsNewViewer s.viewer
+
+module _ {D G L : Type 0} where
+  abbrev pub glasses_of : List (Seat D G L) → List Glazed
+  glasses_of seats = map (λ (s : Seat D G L). s.glass) seats
+
+  abbrev pub viewers_of : List (Seat D G L) → List (Viewer D G L)
+  viewers_of seats = map (λ (s : Seat D G L). s.viewer) seats
+
+-- the list is legal with some model, and its moves are the policy's
+pub record IsHistory (p : Policy) (birth : ℕ) (h : List Entry) : Type 0 where
+  pub model : Model
+  pub legal : Legal p birth h model
+  pub named : AreNamed p h
+
+-- a glass looked whether this history begins what was published last
+pub record HasSettled {D G L : Type 0} (h : List Entry) (x y : Seat D G L) : Type 0 where
+  pub viewer : y.viewer ≡ x.viewer
+  pub same : SameGlass x.glass y.glass
+  pub grows : IsPrefix x.glass.seen y.glass.seen
+  pub told : y.told ≡ true → IsPrefix h y.glass.seen
+      × IsHistory y.glass.named.policy y.glass.birth y.glass.seen
+
+module _ (np : NamedPolicy) (birth : ℕ) (h : List Entry) where
+  -- a reply of a number that is not above the length of the history is the reply at that many
+  -- entries
+  abbrev pub IsOf : Actor → Request → Answer → Type 0
+  IsOf actor request (shown n reply) =
+      n ≤ length h → IsReplyAt np.policy birth (take n h) actor request reply
+  IsOf actor request _ = ⊤
+
+  -- so for what each line asks
+  abbrev pub AreOf : List Acted → Type 0
+  AreOf [] = ⊤
+  AreOf (a ∷ before) =
+      AreOf before
+      × ((request : Request) → read_line np Nobody false a.line ≡ Ok (Ask request)
+      → IsOf (actor_after np before) request a.answer)
+
+  abbrev pub AllAreOf : {L : Type 0} → List (Tale L) → Type 0
+  AllAreOf [] = ⊤
+  AllAreOf (x ∷ xs) = AreOf x.acted × AllAreOf xs
+
+module _ {L : Type 0} (traffic : L → Traffic) (np : NamedPolicy) (birth : ℕ) where
+  -- What a viewer did, over one list: each of its links was shown replies of beginnings of the
+  -- list, whose numbers never fall from link to link
+  pub record HasViewed (a b : Watcher L) (seen : List Entry) : Type 0 where
+    pub tales : List (Tale L)
+    pub links : AreViewed traffic np birth seen b.served tales
+    pub ascends : Ascend 0 (all_lens b.served) (length seen)
+    pub door : Gives a.door b.door (begun_of tales)
+    pub cause : ViewsTo b.door a.faults b.faults b.served b.outcome
+
+  -- The list has the history as its beginning and is legal itself; so the replies of numbers that
+  -- are not above the length of the history are those of its beginnings
+  pub record IsToldOf (h : List Entry) (a b : Watcher L) : Type 0 where
+    pub seen : List Entry
+    pub viewed : HasViewed a b seen
+    pub front : IsPrefix h seen
+    pub history : IsHistory np.policy birth seen
+    pub of : AllAreOf np birth h viewed.tales
+
+  abbrev pub AreTold : List Entry → List (Watcher L) → List (Watcher L) → Type 0
+  AreTold h [] [] = ⊤
+  AreTold h (a ∷ as') (b ∷ bs) = IsToldOf h a b × AreTold h as' bs
+  AreTold h _ _ = ⊥
+
+  -- without the history
+  abbrev pub HaveViewed : List (Watcher L) → List (Watcher L) → Type 0
+  HaveViewed [] [] = ⊤
+  HaveViewed (a ∷ as') (b ∷ bs) = ((seen : List Entry) × HasViewed a b seen) × HaveViewed as' bs
+  HaveViewed _ _ = ⊥

@@ -1,0 +1,158 @@
+//! The board: a book whose entries are published on two copies.
+ghost use Rattle.std.specs.Prelude.{◌≡◌, ◌≤◌, ◌++◌, [], replicate, IfOk, IfErr};
+ghost use mathlib.Core.List.{IsPrefix};
+ghost use Rattle.snapshot_readers.specs.Glazed.{fresh_glass};
+ghost use Rattle.core_machine.specs.Books.{SameRoot};
+
+use crate::book_copy::BookCopy;
+use crate::glasses::Glasses;
+use crate::ledgers::Ledger;
+use core::mem::replace_with;
+use core_machine::Book;
+use gt_base::{Entry, Memory};
+use policy_book::Policy;
+use published_copies::Copies;
+use std::alloc::Global;
+use std::marker::Model;
+use std::sync::Wait;
+
+/// A ledger, and the copies on which its entries are published. It is seen as the book. It keeps
+/// the runtime, since to publish may wait for a reader.
+pub struct Board<'a, R: Wait> {
+    pub(crate) rt: &'a R,
+    pub(crate) ledger: Ledger,
+    pub(crate) copies: Copies<BookCopy>,
+}
+
+impl<'a, R: Wait> Model for Board<'a, R> {
+    ghost use Rattle.core_machine.specs.Books.{BookView, book_code};
+
+    ghost Value = { BookView };
+
+    ghost coded = { book_code };
+
+    ghost use Rattle.std.specs.Prelude.{◌≡◌, ◌++◌};
+    ghost use mathlib.Core.List.{IsPrefix};
+
+    ghost view = { λ b. b.ledger };
+
+    ghost invariant = { λ b. (b.copies.root ≡ (b.ledger.named, b.ledger.birth))
+        × IsPrefix (b.copies.shown ++ b.copies.waiting) b.ledger.entries };
+}
+
+impl<'a, R: Wait> Drop for Board<'a, R> {
+    fn drop(self) {
+        let Board {
+            rt,
+            ledger: _,
+            copies,
+        } = self;
+        copies.end(rt);
+    }
+}
+
+/// There was no memory for a board, or no place for a reader. The ledger comes back.
+#[derive(Drop)]
+pub struct BoardFault {
+    pub ledger: Ledger,
+}
+
+impl<'a, R: Wait> Board<'a, R> {
+    /// A board over a ledger and two books of one policy and birth, all without entries, and a
+    /// glass for each viewer, which has seen nothing yet.
+    pub fn new(
+        rt: &'a R,
+        alloc: Global,
+        ledger: Ledger,
+        left: Book,
+        right: Book,
+        viewers: u32,
+    ) -> Result<(Board<'a, R>, Glasses), BoardFault>
+        requires empty { (ledger.entries ≡ []) × (left.entries ≡ []) × (right.entries ≡ []) }
+        requires alike { SameRoot ledger left × SameRoot ledger right }
+        requires viewers { (1 ≤ viewers) × (viewers ≤ 8) }
+        ensures board { IfOk result (λ t. t.0 ≡ ledger) }
+        ensures glasses { IfOk result
+            (λ t. t.1.items ≡ replicate viewers (fresh_glass ledger.named ledger.birth)) }
+        ensures err { IfErr result (λ e. e.ledger ≡ ledger) }
+    {
+        match set_up(rt, alloc, left, right, viewers, ledger.book().policy()) {
+            Ok((copies, glasses)) => Ok((Board { rt, ledger, copies }, glasses)),
+            Err(_) => Err(BoardFault { ledger }),
+        }
+    }
+
+    /// The book.
+    pub fn book(&self) -> &Book
+        ensures { result.now ≡ self.now }
+    {
+        self.ledger.book()
+    }
+
+    /// Publishes all entries. For want of memory some may wait for the next call.
+    pub fn catch_up(&mut self) -> Result<(), Memory>
+        ensures { self.new ≡ self.old }
+    {
+        let entries = self.ledger.book().entries().as_slice();
+        replace_with(&mut self.copies, (self.rt, entries), brought_up)
+    }
+
+    /// Publishes what there is memory for.
+    pub(crate) fn follow(&mut self)
+        ensures { self.new ≡ self.old }
+    {
+        let _ = self.catch_up();
+    }
+
+    /// The ledger alone.
+    pub fn into_ledger(self) -> Ledger
+        ensures { result ≡ self.entry }
+    {
+        let Board { rt, ledger, copies } = self;
+        copies.end(rt);
+        ledger
+    }
+}
+
+/// The copies, brought up to the entries.
+fn brought_up<R: Wait>(
+    copies: Copies<BookCopy>,
+    with: (&R, &[Entry]),
+) -> (Copies<BookCopy>, Result<(), Memory>)
+    requires { IsPrefix (copies.shown ++ copies.waiting) with.1.now }
+    ensures root { result.0.root ≡ copies.root }
+    ensures front { IsPrefix (result.0.shown ++ result.0.waiting) with.entry.1.now }
+{
+    copies.catch_up(with.0, with.1)
+}
+
+/// The copies, and a glass for each viewer. The policy is that of the books.
+fn set_up<R: Wait>(
+    rt: &R,
+    alloc: Global,
+    left: Book,
+    right: Book,
+    viewers: u32,
+    policy: &Policy,
+) -> Result<(Copies<BookCopy>, Glasses), Memory>
+    requires empty { (left.entries ≡ []) × (right.entries ≡ []) }
+    requires alike { SameRoot left right }
+    requires viewers { (1 ≤ viewers) × (viewers ≤ 8) }
+    requires policy { left.named ≡ policy.now }
+    ensures copies { IfOk result
+        (λ t. t.0 ≡ record { root = (left.named, left.birth); shown = []; waiting = [] }) }
+    ensures glasses { IfOk result
+        (λ t. t.1.items ≡ replicate viewers (fresh_glass left.named left.birth)) }
+{
+    let birth = left.birth();
+    let first = BookCopy::new(left);
+    let second = BookCopy::new(right);
+    let mut copies = Copies::new(rt, alloc, first, second, viewers as usize)?;
+    match Glasses::over(alloc, &mut copies, viewers, policy, birth) {
+        Ok(glasses) => Ok((copies, glasses)),
+        Err(fault) => {
+            copies.end(rt);
+            Err(fault)
+        }
+    }
+}

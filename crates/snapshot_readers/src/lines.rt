@@ -1,0 +1,202 @@
+//! What one line of a viewer's link comes to: it is read, answered by a glance where it only looks,
+//! and told its reply.
+ghost use Rattle.std.specs.Prelude.{◌≡◌, ◌+◌, ◌<◌, ◌^◌, ◌++◌, true, OnOk, codes};
+ghost use Rattle.gt_io.specs.Links.{ReadsNothing};
+ghost use Rattle.policy_words.specs.Naming.{NamedPolicy};
+ghost use Rattle.request_text.specs.Replies.{fault_word};
+ghost use Rattle.connection_laws.specs.Desks.{IsNamedActor};
+ghost use Rattle.gtrbac_model.specs.History.{IsNamedWish, ask};
+ghost use Rattle.core_machine.specs.Looks.{is_look};
+ghost use Rattle.snapshot_readers.specs.Viewed.{Answer};
+ghost use Rattle.snapshot_readers.specs.Viewing.{GlancesCanBeTold, IsTold, SameGlass, Shows, Answers, Acts, Sent, HasRoom, CountsUp, Goes, point};
+
+use crate::ends::ViewEnd;
+use crate::glass::Glass;
+use crate::showing::{Showing, Told};
+use crate::station::Station;
+use gt_base::{Actor, List, Request};
+use gt_io::{Framed, Framer, Gate, Link, send_all};
+use policy_book::Policy;
+use request_text::{LONGEST_REPLY, Line, LineFault, put_reply, read_line, reply_fits};
+use std::alloc::Global;
+
+// The reply to a line that says nothing.
+fn fault_reply(fault: LineFault) -> &'static [u8]
+    ensures { result.now ≡ codes "bad " ++ fault_word fault ++ codes "\n" }
+{
+    match fault {
+        LineFault::Long => b"bad long\n",
+        LineFault::Syntax => b"bad syntax\n",
+        LineFault::Name => b"bad name\n",
+    }
+}
+
+// Writes the reply of a line.
+fn send<L: Link>(link: &mut L, told: &Told) -> Result<(), ViewEnd>
+    ensures sent { (np : NamedPolicy) (answer : Answer) → IsTold np told.now answer
+        → Sent np answer (L.traffic link.old) (L.traffic link.new) result }
+    ensures reads { ReadsNothing (L.traffic link.old) (L.traffic link.new) }
+    ensures kept { OnOk result
+        ((L.traffic link.new).write_faults ≡ (L.traffic link.old).write_faults) }
+{
+    let sent = match told {
+        Told::Silence => Ok(()),
+        Told::Agreed => send_all(link, b"ok\n"),
+        Told::Bad(fault) => send_all(link, fault_reply(*fault)),
+        Told::Reply(text) => send_all(link, text.as_slice()),
+        Told::NoMemory => send_all(link, b"no memory\n"),
+        Told::ViewOnly => send_all(link, b"view only\n"),
+    };
+    match sent {
+        Ok(()) => Ok(()),
+        Err(_) => Err(ViewEnd::WriteFault),
+    }
+}
+
+// Whether a request only looks.
+fn only_looks(request: &Request) -> bool
+    ensures { result ≡ is_look request.now }
+{
+    match request {
+        Request::Now => true,
+        Request::Status(_) => true,
+        Request::Seen(_) => true,
+        Request::Active(_, _) => true,
+        Request::Check(_, _) => true,
+        _ => false,
+    }
+}
+
+// Answers a request that only looks, with room for the reply and for its number taken before.
+fn show(
+    alloc: Global,
+    glass: &mut Glass,
+    policy: &Policy,
+    actor: Actor,
+    request: Request,
+    lens: &mut List<u64>,
+) -> Told
+    requires policy { glass.old.named ≡ policy.now }
+    requires looks { is_look request ≡ true }
+    requires named { IsNamedWish policy.now.policy (ask actor request) }
+    requires replies { GlancesCanBeTold policy.now glass.old.birth }
+    ensures glass { SameGlass glass.old glass.new }
+    ensures shows { Shows policy.now glass.old.birth glass.old.seen glass.new.seen lens.old.items
+        lens.new.items actor request result }
+{
+    let mut text = List::new(alloc);
+    if text.reserve(LONGEST_REPLY).is_err() || lens.reserve(1).is_err() {
+        return Told::NoMemory;
+    }
+    match glass.glance(actor, request) {
+        Ok(glanced) => {
+            reply_fits(policy, &glanced.reply);
+            put_reply(policy, &glanced.reply, &mut text);
+            lens.push(glanced.len);
+            Told::Reply(text)
+        }
+        Err(_) => Told::NoMemory,
+    }
+}
+
+// Answers a request.
+fn answer(
+    alloc: Global,
+    glass: &mut Glass,
+    policy: &Policy,
+    showing: &mut Showing,
+    request: Request,
+) -> Told
+    requires policy { glass.old.named ≡ policy.now }
+    requires named { IsNamedWish policy.now.policy (ask showing.old.actor request) }
+    requires replies { GlancesCanBeTold policy.now glass.old.birth }
+    requires room { showing.old.denied + 1 < 2 ^ 63 }
+    ensures glass { SameGlass glass.old glass.new }
+    ensures answers { Answers policy.now glass.old.birth glass.old.seen glass.new.seen showing.old
+        showing.new request result }
+{
+    if !only_looks(&request) {
+        return Told::ViewOnly;
+    }
+    let told = show(
+        alloc,
+        glass,
+        policy,
+        showing.actor,
+        request,
+        &mut showing.lens,
+    );
+    if let Told::NoMemory = told {
+        showing.denied += 1;
+    }
+    told
+}
+
+// Acts on a line, but for its reply.
+fn act<G: Gate>(
+    glass: &mut Glass,
+    policy: &Policy,
+    station: &Station<'_, G>,
+    showing: &mut Showing,
+    line: &[u8],
+) -> Told
+    requires policy { glass.old.named ≡ policy.now }
+    requires actor { IsNamedActor policy.now showing.old.actor }
+    requires replies { GlancesCanBeTold policy.now glass.old.birth }
+    requires room { HasRoom showing.old 1 }
+    ensures glass { SameGlass glass.old glass.new }
+    ensures acts { Acts policy.now glass.old.birth glass.old.seen glass.new.seen showing.old
+        showing.new line.now result }
+    ensures counts { CountsUp showing.old showing.new 1 }
+{
+    match read_line(policy, Actor::Nobody, false, line) {
+        Ok(Line::Ask(request)) => {
+            showing.calls += 1;
+            station.gate.pass(station.number, showing.calls);
+            answer(station.alloc, glass, policy, showing, request)
+        }
+        Ok(Line::Be(actor)) => {
+            showing.actor = actor;
+            Told::Agreed
+        }
+        Ok(Line::Silent) => Told::Silence,
+        Ok(Line::At(_)) => unreachable!(),
+        Err(fault) => Told::Bad(fault),
+    }
+}
+
+/// Takes one more byte, and acts on the line that it ends.
+pub(crate) fn take_byte<L: Link, G: Gate>(
+    glass: &mut Glass,
+    policy: &Policy,
+    station: &Station<'_, G>,
+    link: &mut L,
+    framer: &mut Framer,
+    showing: &mut Showing,
+    byte: u8,
+) -> Result<(), ViewEnd>
+    requires policy { glass.old.named ≡ policy.now }
+    requires actor { IsNamedActor policy.now showing.old.actor }
+    requires replies { GlancesCanBeTold policy.now glass.old.birth }
+    requires room { HasRoom showing.old 1 }
+    ensures glass { SameGlass glass.old glass.new }
+    ensures goes { Goes policy.now glass.old.birth
+        (point glass.old.seen showing.old (L.traffic link.old).given)
+        (point glass.new.seen showing.new (L.traffic link.new).given)
+        framer.old framer.new byte (L.traffic link.old).write_faults
+        (L.traffic link.new).write_faults result }
+    ensures actor { IsNamedActor policy.now showing.new.actor }
+    ensures counts { CountsUp showing.old showing.new 1 }
+    ensures reads { ReadsNothing (L.traffic link.old) (L.traffic link.new) }
+    ensures faults { OnOk result
+        ((L.traffic link.new).write_faults ≡ (L.traffic link.old).write_faults) }
+{
+    match framer.push(byte) {
+        Framed::More => Ok(()),
+        Framed::Whole => {
+            let told = act(glass, policy, station, showing, framer.line());
+            send(link, &told)
+        }
+        Framed::Long => send(link, &Told::Bad(LineFault::Long)),
+    }
+}

@@ -1,0 +1,65 @@
+//! A board as a machine: its steps are those of its ledger, and what comes of them is published.
+ghost use Rattle.std.specs.Prelude.{◌≡◌};
+
+use crate::board::Board;
+use gt_base::{Actor, Instant, Keeps, Machine, Reply, Request, StepFault, Who};
+use std::sync::Wait;
+
+impl<'a, R: Wait> Keeps for Board<'a, R> {
+    ghost use Rattle.core_machine.specs.Books.{SameRoot, SameRoot-refl, SameRoot-sym, SameRoot-trans};
+
+    ghost list = { λ b. b.entries };
+
+    ghost same_root = { SameRoot };
+
+    ghost same_refl = { SameRoot-refl };
+
+    ghost same_sym = { SameRoot-sym };
+
+    ghost same_trans = { SameRoot-trans };
+
+    fn kept(&self) -> u64 {
+        self.ledger.kept()
+    }
+}
+
+impl<'a, R: Wait> Machine for Board<'a, R> {
+    ghost use Rattle.core_machine.specs.Books.{now_after, IsNamedFor, IsNamedFor-by_root, now_after-by_root};
+    ghost use Rattle.snapshot_readers.specs.Ledgers.{IsLegalLedger, IsLegalLedger-by_root};
+
+    ghost legal = { IsLegalLedger };
+
+    ghost named = { IsNamedFor };
+
+    ghost now_of = { now_after };
+
+    ghost legal_root = { λ a b h s. IsLegalLedger-by_root a b h s };
+
+    ghost named_root = { IsNamedFor-by_root };
+
+    ghost now_root = { now_after-by_root };
+
+    fn now(&self) -> Instant {
+        Machine::now(&self.ledger)
+    }
+
+    fn tick(&mut self, who: Who, upto: Instant) -> Result<Instant, StepFault> {
+        match Machine::tick(&mut self.ledger, who, upto) {
+            Ok(to) => {
+                self.follow();
+                Ok(to)
+            }
+            Err(fault) => Err(fault),
+        }
+    }
+
+    fn ask(&mut self, who: Who, actor: Actor, request: Request) -> Result<Reply, StepFault> {
+        match Machine::ask(&mut self.ledger, who, actor, request) {
+            Ok(reply) => {
+                self.follow();
+                Ok(reply)
+            }
+            Err(fault) => Err(fault),
+        }
+    }
+}

@@ -1,0 +1,88 @@
+//! A viewer's link, from its first byte to its end.
+ghost use Rattle.std.specs.Prelude.{◌≡◌, ◌+◌, ◌<◌, ◌≤◌, ◌^◌};
+ghost use Rattle.snapshot_readers.specs.Boxes.{most_bytes};
+ghost use Rattle.snapshot_readers.specs.Viewing.{GlancesCanBeTold, IsStart, SameGlass, Converses, Views, point};
+
+use crate::ends::{ViewEnd, Viewed};
+use crate::glass::Glass;
+use crate::inbox::Inbox;
+use crate::lines::take_byte;
+use crate::showing::Showing;
+use crate::station::Station;
+use gt_base::{Actor, List};
+use gt_io::{Framer, Gate, Link};
+use policy_book::Policy;
+
+// Serves a link to its end.
+fn converse<L: Link, G: Gate>(
+    glass: &mut Glass,
+    policy: &Policy,
+    station: &Station<'_, G>,
+    link: &mut L,
+    showing: &mut Showing,
+) -> ViewEnd
+    requires policy { glass.old.named ≡ policy.now }
+    requires replies { GlancesCanBeTold policy.now glass.old.birth }
+    requires start { IsStart showing.old }
+    ensures glass { SameGlass glass.old glass.new }
+    ensures converses { Converses policy.now glass.old.birth
+        (point glass.old.seen showing.old (L.traffic link.old).given)
+        (point glass.new.seen showing.new (L.traffic link.new).given)
+        (L.traffic link.old) (L.traffic link.new) result }
+    ensures calls { showing.new.calls ≤ showing.old.calls + most_bytes }
+{
+    let mut framer = Framer::new();
+    let mut inbox = Inbox::new();
+    loop {
+        let byte = match inbox.next(link) {
+            Ok(byte) => byte,
+            Err(end) => return end,
+        };
+        if let Err(end) = take_byte(glass, policy, station, link, &mut framer, showing, byte) {
+            return end;
+        }
+    }
+}
+
+/// Serves one link of a viewer, line by line: it passes the gate, and answers by a glance what only
+/// looks. After the first read or write that fails it makes no further one. At the end it lets the
+/// link go. `calls` counts the request lines of the viewer. Want of memory shows in the reply to a
+/// line.
+pub fn view_link<L: Link, G: Gate>(
+    glass: &mut Glass,
+    policy: &Policy,
+    station: &Station<'_, G>,
+    mut link: L,
+    calls: &mut u64,
+) -> Viewed<L>
+    requires policy { glass.old.named ≡ policy.now }
+    requires replies { GlancesCanBeTold policy.now glass.old.birth }
+    requires calls { calls.old < 2 ^ 63 }
+    ensures glass { SameGlass glass.old glass.new }
+    ensures views { Views policy.now glass.old.birth glass.old.seen glass.new.seen
+        result.lens.items result.denied calls.old calls.new (L.traffic link)
+        (L.traffic result.link) result.outcome }
+    ensures few { calls.new ≤ calls.old + most_bytes }
+{
+    let mut showing = Showing {
+        actor: Actor::Nobody,
+        lens: List::new(station.alloc),
+        denied: 0,
+        calls: *calls,
+    };
+    let outcome = converse(glass, policy, station, &mut link, &mut showing);
+    link.finish();
+    let Showing {
+        actor: _,
+        lens,
+        denied,
+        calls: asked,
+    } = showing;
+    *calls = asked;
+    Viewed {
+        link,
+        lens,
+        denied,
+        outcome,
+    }
+}

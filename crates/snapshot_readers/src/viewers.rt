@@ -1,0 +1,122 @@
+//! The links of a viewer's door, one after the other.
+ghost use Rattle.std.specs.Prelude.{◌≡◌, ◌+◌, ◌<◌, ◌≤◌, ◌^◌, [], length, None};
+ghost use Rattle.snapshot_readers.specs.Boxes.{most_bytes};
+ghost use Rattle.snapshot_readers.specs.Crew.{WorksOn, Works, most_links};
+ghost use Rattle.snapshot_readers.specs.Viewing.{GlancesCanBeTold, SameGlass};
+
+use crate::ends::{Viewed, ViewerEnd};
+use crate::glass::Glass;
+use crate::serve::view_link;
+use crate::station::Station;
+use gt_base::List;
+use gt_io::{Door, Gate};
+use policy_book::Policy;
+use std::alloc::Global;
+
+/// How many links one viewer serves at most.
+const MOST_LINKS: usize = 100_000;
+
+/// A viewer with its door and gate, and what became of its links.
+pub struct Viewer<D: Door, G: Gate> {
+    pub door: D,
+    pub gate: G,
+    pub served: List<Viewed<D::L>>,
+    pub outcome: ViewerEnd,
+}
+
+// Serves the next link of the door, for which there is room.
+fn view_next<D: Door, G: Gate>(
+    glass: &mut Glass,
+    policy: &Policy,
+    station: &Station<'_, G>,
+    door: &mut D,
+    served: &mut List<Viewed<D::L>>,
+    calls: &mut u64,
+) -> Option<ViewerEnd>
+    requires policy { glass.old.named ≡ policy.now }
+    requires replies { GlancesCanBeTold policy.now glass.old.birth }
+    requires calls { calls.old < 2 ^ 63 }
+    requires room { 1 ≤ served.old.spare }
+    requires few { length served.old.items < most_links }
+    ensures glass { SameGlass glass.old glass.new }
+    ensures works { WorksOn D.L.traffic policy.now glass.old.birth
+        (record { seen = glass.old.seen; door = D.links door.old })
+        (record { seen = glass.new.seen; door = D.links door.new })
+        (D.faults door.old) (D.faults door.new) served.old.items served.new.items result }
+    ensures calls { calls.new ≤ calls.old + most_bytes }
+    ensures faults { D.faults door.old ≤ D.faults door.new }
+    ensures one { result ≡ None → length served.new.items ≡ length served.old.items + 1 }
+{
+    match door.next() {
+        Err(_) => Some(ViewerEnd::DoorFault),
+        Ok(None) => Some(ViewerEnd::Done),
+        Ok(Some(link)) => {
+            served.push(view_link(glass, policy, station, link, calls));
+            None
+        }
+    }
+}
+
+// Serves the links of the door until it ends.
+fn view_on<D: Door, G: Gate>(
+    glass: &mut Glass,
+    policy: &Policy,
+    station: &Station<'_, G>,
+    door: &mut D,
+    served: &mut List<Viewed<D::L>>,
+) -> ViewerEnd
+    requires policy { glass.old.named ≡ policy.now }
+    requires replies { GlancesCanBeTold policy.now glass.old.birth }
+    requires empty { served.old.items ≡ [] }
+    ensures glass { SameGlass glass.old glass.new }
+    ensures works { Works D.L.traffic policy.now glass.old.birth
+        (record { seen = glass.old.seen; door = D.links door.old })
+        (record { seen = glass.new.seen; door = D.links door.new })
+        (D.faults door.old) (D.faults door.new) served.new.items result }
+{
+    let mut calls = 0;
+    while served.len() < MOST_LINKS {
+        if served.reserve(1).is_err() {
+            return ViewerEnd::Memory;
+        }
+        if let Some(end) = view_next(glass, policy, station, door, served, &mut calls) {
+            return end;
+        }
+    }
+    ViewerEnd::Enough
+}
+
+/// Serves the links of the viewer's door one after the other, until the door has none left or
+/// fails, 100,000 were served, or there is no memory for a further link. The viewer `v` passes its
+/// gate as worker 8 + v.
+pub fn view<D: Door, G: Gate>(
+    alloc: Global,
+    glass: &mut Glass,
+    policy: &Policy,
+    v: u32,
+    viewer: &mut Viewer<D, G>,
+)
+    requires policy { glass.old.named ≡ policy.now }
+    requires replies { GlancesCanBeTold policy.now glass.old.birth }
+    requires number { v ≤ 7 }
+    requires fresh { (viewer.old.outcome ≡ ViewerEnd.Fresh) × (viewer.old.served.items ≡ []) }
+    ensures glass { SameGlass glass.old glass.new }
+    ensures works { Works D.L.traffic policy.now glass.old.birth
+        (record { seen = glass.old.seen; door = D.links viewer.old.door })
+        (record { seen = glass.new.seen; door = D.links viewer.new.door })
+        (D.faults viewer.old.door) (D.faults viewer.new.door) viewer.new.served.items
+        viewer.new.outcome }
+{
+    let station = Station {
+        alloc,
+        gate: &viewer.gate,
+        number: 8 + v,
+    };
+    viewer.outcome = view_on(
+        glass,
+        policy,
+        &station,
+        &mut viewer.door,
+        &mut viewer.served,
+    );
+}
