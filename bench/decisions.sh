@@ -5,15 +5,15 @@
 # the last role itself, `activate` whether the user of the first role may activate the last. Each is asked over a hierarchy that was made once,
 # and, as `decide-list` and the like, over the list of edges, TIMES times (3000 if left out; once more for the time that the making takes).
 # What is told is processor time.
-# Run it at the top of the repository, after `rt run -- decide chain 10 1` has built crates/decision_bench once.
+# Run it at the top of the repository, after `rt run` has built crates/part_bench once.
 set -eu
-program=$(ls crates/decision_bench/out/decision_bench)
+program=$(ls crates/part_bench/out/part_bench)
 python3 - "$program" "${1:-3000}" <<'PY'
 import resource, subprocess, sys
 program, often = sys.argv[1], int(sys.argv[2])
 def run(words, times):
     before = resource.getrusage(resource.RUSAGE_CHILDREN)
-    told = subprocess.run([program, *words, str(times)], capture_output=True, text=True, check=True).stdout.strip()
+    told = subprocess.run([program, 'decisions', *words, str(times)], capture_output=True, text=True, check=True).stdout.strip()
     after = resource.getrusage(resource.RUSAGE_CHILDREN)
     return after.ru_utime - before.ru_utime + after.ru_stime - before.ru_stime, told
 for shape, roles in ('chain', 10), ('chain', 50), ('chain', 200), ('chain', 1000), ('random', 1000):

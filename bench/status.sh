@@ -2,16 +2,16 @@
 # Times copies, questions and changes of a status of 60,000 fluents in three layouts: bench/status.sh [COPIES]
 # The status is copied COPIES times (2000 if left out); a fiftieth as many rounds ask for each of its fluents, or set each of them off or
 # on. What is told is processor time, the best of five, without the making of the status. Run it at the top of the repository, after
-# `rt run` has built crates/status_bench once; STATUS_BENCH names another program.
+# `rt run` has built crates/part_bench once; PART_BENCH names another program.
 set -eu
-program=${STATUS_BENCH:-$(ls crates/status_bench/out/status_bench)}
+program=${PART_BENCH:-$(ls crates/part_bench/out/part_bench)}
 python3 - "$program" "${1:-2000}" <<'PY'
 import resource, subprocess, sys
 program, copies = sys.argv[1], int(sys.argv[2])
 FLUENTS = 60000
 def run(layout, kind, times):
     before = resource.getrusage(resource.RUSAGE_CHILDREN)
-    told = subprocess.run([program, layout, kind, str(times)], capture_output=True, text=True, check=True).stdout.strip()
+    told = subprocess.run([program, 'statuses', layout, kind, str(times)], capture_output=True, text=True, check=True).stdout.strip()
     after = resource.getrusage(resource.RUSAGE_CHILDREN)
     return after.ru_utime - before.ru_utime + after.ru_stime - before.ru_stime, told
 rounds = max(copies // 50, 1)

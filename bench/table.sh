@@ -4,9 +4,9 @@
 # through twenty minutes that drop nothing, with the status and the hierarchy asked (quiet) or not (still), or are all dropped in one minute;
 # TIMES times over (5 if left out). The role is assigned to each user
 # itself (direct), or to be reached by a walk of one edge (walk). What is told is processor time, the best of three runs.
-# Run it at the top of the repository, after `rt run -- close walk 100 1` has built crates/session_bench once.
+# Run it at the top of the repository, after `rt run` has built crates/part_bench once.
 set -eu
-program=$(ls crates/session_bench/out/session_bench)
+program=$(ls crates/part_bench/out/part_bench)
 python3 - "$program" "${1:-5}" <<'PY'
 import resource, subprocess, sys
 program, often = sys.argv[1], int(sys.argv[2])
@@ -15,7 +15,7 @@ def run(kind, way):
     best = None
     for _ in range(3):
         before = resource.getrusage(resource.RUSAGE_CHILDREN)
-        subprocess.run([program, kind, way, str(sessions), str(often)], capture_output=True, check=True)
+        subprocess.run([program, 'sessions', kind, way, str(sessions), str(often)], capture_output=True, check=True)
         after = resource.getrusage(resource.RUSAGE_CHILDREN)
         took = after.ru_utime - before.ru_utime + after.ru_stime - before.ru_stime
         best = took if best is None else min(best, took)

@@ -1,7 +1,7 @@
 -- The next edge is the first instant that differs.
 use Rattle.std.proofs.Common.{◌≡◌, ℕ, ◌+◌, ◌-◌, ◌<◌, ◌≤◌, Bool, true, false, not, refl, arith, ap, sym, ◌∙◌, inl, inr}
 use Rattle.std.proofs.lemmas.Bool.{not-true, not-false, cases_eq}
-use Rattle.gt_base.specs.Bounds.{last_minute}
+use Rattle.gt_base.specs.declared.limits.TheConstants.{LAST_MINUTE}
 use Rattle.gtrbac_model.specs.Period.{Period, inside}
 use Rattle.calendar_match.specs.Next.{IsLeast, IsNever, differ, outside, turns}
 
@@ -23,7 +23,7 @@ edge_at p after t b later still now = record {
   least = λ u low lt. turns_by p u b b false (still u (omega arith) lt) (still (u - 1) (omega arith) (omega arith)) (alike b);
 }
 
-no_edge : (p : Period) (after : ℕ) (b : Bool) → ((u : ℕ) → after ≤ u → u ≤ last_minute → inside p u ≡ b) → IsNever (turns p) (after + 1)
+no_edge : (p : Period) (after : ℕ) (b : Bool) → ((u : ℕ) → after ≤ u → u ≤ LAST_MINUTE → inside p u ≡ b) → IsNever (turns p) (after + 1)
 no_edge p after b still u low high = turns_by p u b b false (still u (omega arith) high) (still (u - 1) (omega arith) (omega arith)) (alike b)
 
 -- after an instant that is outside
@@ -37,7 +37,7 @@ edge_in p after t out n = edge_at p after t false n.later (out_still p after t o
 
 pub never_in : (p : Period) (after : ℕ) → inside p after ≡ false → IsNever (inside p) (after + 1) → IsNever (turns p) (after + 1)
 never_in p after out n =
-    no_edge p after false (λ u low high. out_still p after (last_minute + 1) out (λ v a b. n v a (omega arith)) u low (omega arith))
+    no_edge p after false (λ u low high. out_still p after (LAST_MINUTE + 1) out (λ v a b. n v a (omega arith)) u low (omega arith))
 
 -- after one that is inside
 
@@ -50,4 +50,4 @@ edge_out p after t here n = edge_at p after t true n.later (in_still p after t h
 
 pub never_out : (p : Period) (after : ℕ) → inside p after ≡ true → IsNever (outside p) (after + 1) → IsNever (turns p) (after + 1)
 never_out p after here n =
-    no_edge p after true (λ u low high. in_still p after (last_minute + 1) here (λ v a b. n v a (omega arith)) u low (omega arith))
+    no_edge p after true (λ u low high. in_still p after (LAST_MINUTE + 1) here (λ v a b. n v a (omega arith)) u low (omega arith))

@@ -1,7 +1,7 @@
 -- How starts and insides follow one another.
 use Rattle.std.proofs.Common.{◌≡◌, ℕ, zero, suc, ◌+◌, ◌-◌, ◌<◌, ◌≤◌, Bool, true, false, not, ◌&&◌, nat_le, arith, ap, sym, ◌∙◌, inl, inr, max, Option, Some, None, IfSome, IfNone}
 use Rattle.std.proofs.lemmas.Bool.{false≢true, and_parts, and_from, and_right, leb-true, le-leb, cases_lt, false_from_ne_true}
-use Rattle.gt_base.specs.Bounds.{last_minute}
+use Rattle.gt_base.specs.declared.limits.TheConstants.{LAST_MINUTE}
 use Rattle.gtrbac_model.specs.Calendar.{minute_of, first_minute, interval_of}
 use Rattle.gtrbac_model.specs.Period.{Expr, Period, begins, begun_within, in_bounds, starts, inside}
 use Rattle.gtrbac_model.specs.Valid.{is_expr}
@@ -196,7 +196,7 @@ out_past p after t i e stays =
       least = λ u low lt. ap not (stays u (omega arith) (omega arith));
     }
 
-pub out_never : (p : Period) (after : ℕ) → last_minute ≤ p.last → StaysAll p after → IsNever (outside p) (after + 1)
+pub out_never : (p : Period) (after : ℕ) → LAST_MINUTE ≤ p.last → StaysAll p after → IsNever (outside p) (after + 1)
 out_never p after le stays u low high = ap not (stays u (omega arith) (omega arith))
 
 pub unit_later : (e : Expr) (m k : ℕ) → interval_of e.unit m < k → m < unit_first e k

@@ -7,7 +7,7 @@ use Rattle.gtrbac_model.specs.declared.calendars.Calendar.TheVariants.{Years, Mo
 use Rattle.gtrbac_model.specs.Calendar.{day_of_year, day_of_month, first_minute, interval_of, number_within}
 use Rattle.gtrbac_model.specs.Valid.{is_below, is_same}
 use Rattle.gtrbac_model.proofs.Years.{next_year, leap}
-use Rattle.gtrbac_model.proofs.Months.{month_days, month_parts, month_days-zero, january}
+use Rattle.gtrbac_model.proofs.Months.{by_tests, month_days, month_parts, month_days-zero, january}
 use Rattle.gtrbac_model.proofs.Covers.{one_first, before_first, at_first}
 use Rattle.calendar_laws.proofs.Nested.{is_number}
 use Rattle.gtrbac_model.proofs.Downward.{same_unit}
@@ -18,7 +18,7 @@ leap_most y = grind (arith, nat_tests)
 
 month_days-most : (y r : ℕ) → r < 11 → month_days y (r + 1) ≤ month_days y r + 31
 unfolding month_days
-month_days-most y r h = grind (arith, nat_tests)
+month_days-most y r h = rw (by_tests r (omega arith), by_tests (r + 1) (omega arith)) (grind (arith, nat_tests))
 
 december : (y r : ℕ) → r ≡ 11 → 365 + leap y ≤ month_days y r + 31
 unfolding month_days

@@ -1,6 +1,6 @@
 -- The least instant that passes a test.
 use Rattle.std.specs.Prelude.{◌≡◌, ℕ, ◌+◌, ◌-◌, ◌≤◌, ◌<◌, Bool, true, false, not}
-use Rattle.gt_base.specs.Bounds.{last_minute}
+use Rattle.gt_base.specs.declared.limits.TheConstants.{LAST_MINUTE}
 use Rattle.gtrbac_model.specs.Calendar.{minute_of}
 use Rattle.gtrbac_model.specs.Period.{Period, inside}
 use Rattle.calendar_match.specs.Reach.{unit_first}
@@ -17,7 +17,7 @@ IsNext test after t = IsLeast test (after + 1) t
 
 -- no instant from this one on passes
 abbrev pub IsNever : (ℕ → Bool) → ℕ → Type 0
-IsNever test from = (u : ℕ) → from ≤ u → u ≤ last_minute → test u ≡ false
+IsNever test from = (u : ℕ) → from ≤ u → u ≤ LAST_MINUTE → test u ≡ false
 
 -- none after this one does
 abbrev pub HasNone : (ℕ → Bool) → ℕ → Type 0

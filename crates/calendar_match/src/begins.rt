@@ -1,9 +1,10 @@
 //! Where an expression begins.
 ghost use Rattle.std.specs.Prelude.{◌≡◌, ◌<◌, ◌≤◌, ◌^◌, IsTrue};
-ghost use Rattle.gtrbac_model.specs.Period.{begins as begun, selects as selected};
-ghost use Rattle.gtrbac_model.specs.Valid.{is_expr, is_same as same_calendar};
-ghost use Rattle.gtrbac_model.specs.Selects.{last_of as last_at, last_calendar as last_in};
-ghost use Rattle.calendar_match.specs.Steps.{take_all as takes_all, fills_by as fills_parts, fills as fills_by, dense_last as picks_densely, dense_by, is_fixed as has_minutes, repeats_from as repeated_from, repeats as repeated};
+ghost use Rattle.gtrbac_model.specs.Period.{begins, selects};
+ghost use Rattle.gtrbac_model.specs.Valid.{is_expr, is_same};
+ghost use Rattle.gtrbac_model.specs.Selects.{last_of, last_calendar};
+ghost use Rattle.calendar_match.specs.Steps.{take_all, fills_by, fills, dense_last, dense_by, is_fixed, repeats_from, repeats};
+ghost use Rattle.calendar_match.specs.declared.calendars.TheConstants.{END};
 
 use crate::calendars::{first_minute, interval_of, number_within};
 use crate::picks::{is_dense, picks, picks_upto};
@@ -11,11 +12,11 @@ use crate::steps::most_in;
 use gtrbac_model::Calendar;
 use periodic_expr::{Expr, ExprPart};
 
-// Whether the further parts pick their numbers at the minute, which is the first of an interval of
-// the last part.
+/// Whether the further parts pick their numbers at the minute, which is the first of an interval of
+/// the last part.
 fn selects(above: Calendar, parts: &[ExprPart], m: u64) -> bool
-    requires { m < 2_147_483_648 }
-    ensures { result ≡ selected above parts.now m }
+    requires { m < END }
+    ensures { result ≡ selects above parts.now m }
 {
     match parts {
         [] => first_minute(above, interval_of(above, m)) == m,
@@ -28,8 +29,8 @@ fn selects(above: Calendar, parts: &[ExprPart], m: u64) -> bool
 
 /// Whether the expression begins at the minute.
 pub(crate) fn begins(e: &Expr, m: u64) -> bool
-    requires { m < 2_147_483_648 }
-    ensures { result ≡ begun e.now m }
+    requires { m < END }
+    ensures { result ≡ begins e.now m }
 {
     match e.parts().as_slice() {
         [] => false,
@@ -38,7 +39,7 @@ pub(crate) fn begins(e: &Expr, m: u64) -> bool
 }
 
 fn last_of(above: Calendar, parts: &[ExprPart]) -> Calendar
-    ensures { result ≡ last_at above parts.now }
+    ensures { result ≡ last_of above parts.now }
 {
     match parts {
         [] => above,
@@ -46,9 +47,9 @@ fn last_of(above: Calendar, parts: &[ExprPart]) -> Calendar
     }
 }
 
-// The calendar of the last part.
+/// The calendar of the last part.
 fn last_calendar(e: &Expr) -> Calendar
-    ensures { result ≡ last_in e.now }
+    ensures { result ≡ last_calendar e.now }
 {
     match e.parts().as_slice() {
         [] => Calendar::Minutes,
@@ -57,7 +58,7 @@ fn last_calendar(e: &Expr) -> Calendar
 }
 
 fn take_all(above: Calendar, parts: &[ExprPart]) -> bool
-    ensures { result ≡ takes_all above parts.now }
+    ensures { result ≡ take_all above parts.now }
 {
     match parts {
         [] => true,
@@ -67,9 +68,9 @@ fn take_all(above: Calendar, parts: &[ExprPart]) -> bool
     }
 }
 
-// Whether each interval of the last calendar is a begin.
+/// Whether each interval of the last calendar is a begin.
 fn always_begins(e: &Expr) -> bool
-    ensures { result ≡ fills_parts e.now.parts }
+    ensures { result ≡ fills_by e.now.parts }
 {
     match e.parts().as_slice() {
         [] => false,
@@ -77,11 +78,11 @@ fn always_begins(e: &Expr) -> bool
     }
 }
 
-// Whether the further parts pick all, but for the last one, which leaves no gap of so many
-// intervals.
+/// Whether the further parts pick all, but for the last one, which leaves no gap of so many
+/// intervals.
 fn dense_last(reach: u64, above: Calendar, parts: &[ExprPart]) -> bool
     requires { reach < 2 ^ 32 }
-    ensures { result ≡ picks_densely reach above parts.now }
+    ensures { result ≡ dense_last reach above parts.now }
 {
     match parts {
         [] => true,
@@ -93,7 +94,7 @@ fn dense_last(reach: u64, above: Calendar, parts: &[ExprPart]) -> bool
     }
 }
 
-// Whether begins leave no gap of so many intervals of the last calendar.
+/// Whether begins leave no gap of so many intervals of the last calendar.
 fn never_pauses(e: &Expr, reach: u64) -> bool
     requires { reach < 2 ^ 32 }
     ensures { result ≡ dense_by reach e.now.parts }
@@ -105,7 +106,7 @@ fn never_pauses(e: &Expr, reach: u64) -> bool
 }
 
 fn is_same(c: Calendar, unit: Calendar) -> bool
-    ensures { result ≡ same_calendar c unit }
+    ensures { result ≡ is_same c unit }
 {
     match (c, unit) {
         (Calendar::Years, Calendar::Years) => true,
@@ -122,7 +123,7 @@ fn is_same(c: Calendar, unit: Calendar) -> bool
 /// a begin, or the length is of intervals of the last calendar, and its numbers leave no gap of so
 /// many.
 pub(crate) fn fills(e: &Expr) -> bool
-    ensures value { result ≡ fills_by e.now }
+    ensures value { result ≡ fills e.now }
     ensures valid { IsTrue (is_expr e.now) }
 {
     let (count, unit) = e.length();
@@ -133,7 +134,7 @@ pub(crate) fn fills(e: &Expr) -> bool
 }
 
 fn is_fixed(c: Calendar) -> bool
-    ensures { result ≡ has_minutes c }
+    ensures { result ≡ is_fixed c }
 {
     match c {
         Calendar::Years | Calendar::Months => false,
@@ -142,7 +143,7 @@ fn is_fixed(c: Calendar) -> bool
 }
 
 fn repeats_from(above: Calendar, parts: &[ExprPart]) -> bool
-    ensures { result ≡ repeated_from above parts.now }
+    ensures { result ≡ repeats_from above parts.now }
 {
     match parts {
         [] => is_fixed(above),
@@ -156,7 +157,7 @@ fn repeats_from(above: Calendar, parts: &[ExprPart]) -> bool
 
 /// Whether the begins come again each week.
 pub(crate) fn repeats(e: &Expr) -> bool
-    ensures value { result ≡ repeated e.now }
+    ensures value { result ≡ repeats e.now }
     ensures valid { IsTrue (is_expr e.now) }
 {
     match e.parts().as_slice() {

@@ -1,32 +1,33 @@
 //! The intervals of the calendars, by their first minutes. Minutes count from 0000-01-01T00:00.
 ghost use Rattle.std.specs.Prelude.{◌≡◌, ◌<◌, ◌≤◌, ◌+◌, ◌-◌, ◌^◌, nat_lt, nat_le};
-ghost use Rattle.gtrbac_model.specs.Calendar.{is_leap as leap_year, day_of_year as year_day, days_before_month as table, day_of_month as month_day, first_minute as first_at, interval_of as interval_at, number_within as number_at};
+ghost use Rattle.gtrbac_model.specs.Calendar.{is_leap, day_of_year, days_before_month, day_of_month, first_minute, interval_of, number_within};
 ghost use Rattle.gtrbac_model.proofs.Guess.{mended};
 
 use gtrbac_model::Calendar;
 
-// Beyond each minute that is asked for.
-const END: u64 = 2_147_483_648;
+/// Beyond each minute that is asked for.
+pub(crate) const END: u64 = 2_147_483_648;
 
 const MINUTES_OF_DAY: u64 = 1440;
 
 fn is_leap(y: u64) -> bool
-    ensures { result ≡ leap_year y }
+    ensures { result ≡ is_leap y }
 {
     y % 4 == 0 && (y % 100 != 0 || y % 400 == 0)
 }
 
-// The day on which year y begins.
+/// The day on which year y begins.
 fn day_of_year(y: u64) -> u64
     requires { y ≤ 2 ^ 33 }
-    ensures { result ≡ year_day y }
+    ensures { result ≡ day_of_year y }
 {
     365 * y + ((y + 3) / 4 - (y + 99) / 100 + (y + 399) / 400)
 }
 
-// The days of a common year before its month m, from 0.
+/// The days of a common year before its month m, from 0.
 fn days_before_month(m: u64) -> u64
-    ensures { result ≡ table m }
+    requires { m < 12 }
+    ensures { result ≡ days_before_month m }
 {
     match m {
         0 => 0,
@@ -44,10 +45,10 @@ fn days_before_month(m: u64) -> u64
     }
 }
 
-// The day on which month k of all begins, twelve to a year.
+/// The day on which month k of all begins, twelve to a year.
 fn day_of_month(k: u64) -> u64
     requires { k ≤ 2 ^ 33 }
-    ensures { result ≡ month_day k }
+    ensures { result ≡ day_of_month k }
 {
     let year = k / 12;
     let month = k % 12;
@@ -58,7 +59,7 @@ fn day_of_month(k: u64) -> u64
 /// The first minute of an interval of a calendar.
 pub(crate) fn first_minute(c: Calendar, k: u64) -> u64
     requires { k ≤ 2 ^ 33 }
-    ensures { result ≡ first_at c k }
+    ensures { result ≡ first_minute c k }
 {
     match c {
         Calendar::Years => MINUTES_OF_DAY * day_of_year(k),
@@ -70,12 +71,12 @@ pub(crate) fn first_minute(c: Calendar, k: u64) -> u64
     }
 }
 
-// The guess, or one less or one more, so that its interval has the minute.
+/// The guess, or one less or one more, so that its interval has the minute.
 fn corrected(c: Calendar, guess: u64, m: u64) -> u64
     requires { guess < 2 ^ 31 }
     ensures { result
-        ≡ mended (first_at c) guess m (nat_lt m (first_at c guess))
-        (nat_le (first_at c (guess + 1)) m) }
+        ≡ mended (first_minute c) guess m (nat_lt m (first_minute c guess))
+        (nat_le (first_minute c (guess + 1)) m) }
 {
     if m < first_minute(c, guess) {
         guess.saturating_sub(1)
@@ -89,7 +90,7 @@ fn corrected(c: Calendar, guess: u64, m: u64) -> u64
 /// The interval of a calendar that has the minute.
 pub(crate) fn interval_of(c: Calendar, m: u64) -> u64
     requires { m < END }
-    ensures interval { result ≡ interval_at c m }
+    ensures interval { result ≡ interval_of c m }
     ensures bound { result ≤ END }
 {
     let day = m / MINUTES_OF_DAY;
@@ -106,7 +107,7 @@ pub(crate) fn interval_of(c: Calendar, m: u64) -> u64
 /// The number, from 1, of the inner interval at the minute among those of the outer interval at it.
 pub(crate) fn number_within(outer: Calendar, inner: Calendar, m: u64) -> u64
     requires { m < END }
-    ensures { result ≡ number_at outer inner m }
+    ensures { result ≡ number_within outer inner m }
 {
     let from = first_minute(outer, interval_of(outer, m));
     interval_of(inner, m).saturating_sub(interval_of(inner, from)) + 1

@@ -1,9 +1,9 @@
 //! Which numbers a set of a part picks.
 ghost use Rattle.std.specs.Prelude.{◌≡◌, ◌<◌, ◌≤◌, ◌+◌, ◌-◌, ◌^◌, option_map, nat_eq, nat_le, slice_index, IfSome, IfNone, IsTrue, None, Some};
 ghost use Rattle.std.specs.List.{list_any, find};
-ghost use Rattle.gtrbac_model.specs.Period.{picks as picked};
+ghost use Rattle.gtrbac_model.specs.Period.{picks};
 ghost use Rattle.gtrbac_model.specs.Valid.{is_set};
-ghost use Rattle.calendar_match.specs.Steps.{IsNextPicked, PicksNoneFrom, IsLastPicked, PicksNoneTo, last_low, LesserAreFirst, has_upto as may_pick, picks_upto as run_upto, dense_from, is_dense as dense};
+ghost use Rattle.calendar_match.specs.Steps.{IsNextPicked, PicksNoneFrom, IsLastPicked, PicksNoneTo, last_low, LesserAreFirst, has_upto, picks_upto, dense_from, is_dense};
 
 use gt_base::List;
 
@@ -15,7 +15,7 @@ fn has(numbers: &[u32], n: u64) -> bool
 
 /// Whether the set picks the number.
 pub(crate) fn picks(set: &Option<List<u32>>, n: u64) -> bool
-    ensures { result ≡ picked (option_map (λ l. l.items) set.now) n }
+    ensures { result ≡ picks (option_map (λ l. l.items) set.now) n }
 {
     match set {
         None => true,
@@ -23,7 +23,7 @@ pub(crate) fn picks(set: &Option<List<u32>>, n: u64) -> bool
     }
 }
 
-// Whether the first numbers are 1, 2 and so on up to this one.
+/// Whether the first numbers are 1, 2 and so on up to this one.
 fn is_run(numbers: &[u32], n: u64) -> bool
     requires { 1 ≤ n }
     ensures { result ≡ nat_eq (slice_index numbers.now (n - 1)) n }
@@ -37,7 +37,7 @@ fn is_run(numbers: &[u32], n: u64) -> bool
 /// Whether the set picks each number from 1 to this one.
 pub(crate) fn picks_upto(n: u64, set: &Option<List<u32>>) -> bool
     requires { 1 ≤ n }
-    ensures { result ≡ run_upto n (option_map (λ l. l.items) set.now) }
+    ensures { result ≡ picks_upto n (option_map (λ l. l.items) set.now) }
 {
     match set {
         None => true,
@@ -45,7 +45,7 @@ pub(crate) fn picks_upto(n: u64, set: &Option<List<u32>>) -> bool
     }
 }
 
-// Whether each number from 1 to `most` is one of these, or fewer than `reach` above one.
+/// Whether each number from 1 to `most` is one of these, or fewer than `reach` above one.
 fn is_dense_list(reach: u64, most: u64, numbers: &[u32]) -> bool
     requires { reach < 2 ^ 32 }
     ensures { result ≡ dense_from reach most 1 numbers.now }
@@ -67,7 +67,7 @@ fn is_dense_list(reach: u64, most: u64, numbers: &[u32]) -> bool
 /// Whether the set picks, of the numbers from 1 to `most`, each, or one fewer than `reach` below.
 pub(crate) fn is_dense(reach: u64, most: u64, set: &Option<List<u32>>) -> bool
     requires { reach < 2 ^ 32 }
-    ensures { result ≡ dense reach most (option_map (λ l. l.items) set.now) }
+    ensures { result ≡ is_dense reach most (option_map (λ l. l.items) set.now) }
 {
     match set {
         None => true,
@@ -83,7 +83,7 @@ fn has_low(numbers: &[u32], most: u64) -> bool
 
 /// Whether the set picks any of the numbers up to this one.
 pub(crate) fn has_upto(most: u64, set: &Option<List<u32>>) -> bool
-    ensures { result ≡ may_pick most (option_map (λ l. l.items) set.now) }
+    ensures { result ≡ has_upto most (option_map (λ l. l.items) set.now) }
 {
     match set {
         None => true,
@@ -91,7 +91,7 @@ pub(crate) fn has_upto(most: u64, set: &Option<List<u32>>) -> bool
     }
 }
 
-// How many of the numbers are less than n; they stand first.
+/// How many of the numbers are less than n; they stand first.
 fn count_below(numbers: &[u32], n: u64) -> usize
     requires { IsTrue (is_set (Some numbers.now)) }
     ensures { LesserAreFirst n numbers.now result }
@@ -122,7 +122,7 @@ pub(crate) fn next_picked(set: &Option<List<u32>>, n: u64) -> Option<u64>
     }
 }
 
-// How many of the numbers are at most n; they stand first.
+/// How many of the numbers are at most n; they stand first.
 fn count_upto(numbers: &[u32], n: u64) -> usize
     requires { IsTrue (is_set (Some numbers.now)) }
     ensures { LesserAreFirst (n + 1) numbers.now result }
@@ -130,7 +130,7 @@ fn count_upto(numbers: &[u32], n: u64) -> usize
     numbers.partition_point(|m| u64::from(*m) <= n)
 }
 
-// The last of the numbers before the first that is greater than n.
+/// The last of the numbers before the first that is greater than n.
 fn last_upto(numbers: &[u32], n: u64) -> Option<u64>
     requires { IsTrue (is_set (Some numbers.now)) }
     ensures { result ≡ last_low n None numbers.now }

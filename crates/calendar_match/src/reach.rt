@@ -1,9 +1,11 @@
 //! Searches for the begins of an expression.
 ghost use Rattle.std.specs.Prelude.{◌≡◌, ◌<◌, ◌≤◌, ◌+◌, ◌^◌, false, IfSome, IfNone, IsTrue};
-ghost use Rattle.gtrbac_model.specs.Calendar.{interval_of as interval_at};
+ghost use Rattle.gtrbac_model.specs.Calendar.{interval_of};
 ghost use Rattle.gtrbac_model.specs.Period.{begun_within};
 ghost use Rattle.gtrbac_model.specs.Valid.{is_expr};
 ghost use Rattle.calendar_match.specs.Reach.{unit_first, IsFirstBegin, IsLastBegin, HasNoBegin, IsCovered};
+ghost use Rattle.calendar_match.specs.declared.calendars.TheConstants.{END};
+ghost use Rattle.calendar_match.specs.declared.periods.TheConstants.{FIRST_MINUTE};
 
 use crate::calendars::{first_minute, interval_of};
 use crate::steps::{can_begin, step_ahead, step_back};
@@ -11,7 +13,7 @@ use periodic_expr::Expr;
 
 /// The first minute of an interval of the length's calendar.
 pub(crate) fn unit_start(e: &Expr, k: u64) -> u64
-    requires { k ≤ 2_147_483_648 }
+    requires { k ≤ END }
     ensures { result ≡ unit_first e.now k }
 {
     first_minute(e.length().1, k)
@@ -20,11 +22,11 @@ pub(crate) fn unit_start(e: &Expr, k: u64) -> u64
 /// The interval of the length's calendar that has the minute.
 #[tactic(auto, using(gtrbac_model::proofs::Covers::begun, gtrbac_model::proofs::Covers::goes_on))]
 pub(crate) fn unit_at(e: &Expr, m: u64) -> u64
-    requires { m < 2_147_483_648 }
-    ensures interval { result ≡ interval_at e.now.unit m }
+    requires { m < END }
+    ensures interval { result ≡ interval_of e.now.unit m }
     ensures begun { 2880 ≤ m → unit_first e.now result ≤ m }
     ensures goes_on { m < unit_first e.now (result + 1) }
-    ensures bound { result ≤ 2_147_483_648 }
+    ensures bound { result ≤ END }
 {
     interval_of(e.length().1, m)
 }
@@ -33,7 +35,7 @@ pub(crate) fn unit_at(e: &Expr, m: u64) -> u64
 #[tactic(auto, using(crate::proofs::Latest::search_more, crate::proofs::Latest::begins_none))]
 pub(crate) fn first_begin(e: &Expr, from: u64, upto: u64) -> Option<u64>
     requires from_in { 2880 ≤ from }
-    requires upto_in { upto < 2_147_483_648 }
+    requires upto_in { upto < END }
     ensures some { IfSome result (λ m. IsFirstBegin e.now from upto m) }
     ensures none { IfNone result (HasNoBegin e.now from (upto + 1)) }
     ensures valid { IsTrue (is_expr e.now) }
@@ -52,11 +54,11 @@ pub(crate) fn first_begin(e: &Expr, from: u64, upto: u64) -> Option<u64>
     None
 }
 
-// The last begin up to the minute `upto` that is not before this one.
+/// The last begin up to the minute `upto` that is not before this one.
 #[tactic(auto, using(crate::proofs::Latest::search_less))]
 fn last_begin(e: &Expr, from: u64, upto: u64) -> Option<u64>
     requires from_in { 2880 ≤ from }
-    requires upto_in { upto < 2_147_483_648 }
+    requires upto_in { upto < END }
     ensures some { IfSome result (λ m. IsLastBegin e.now from upto m) }
     ensures none { IfNone result (HasNoBegin e.now from (upto + 1)) }
 {
@@ -74,8 +76,8 @@ fn last_begin(e: &Expr, from: u64, upto: u64) -> Option<u64>
 /// How far the last begin up to the unit k covers the units, where it covers that one: to before
 /// this unit.
 pub(crate) fn covered_to(e: &Expr, k: u64) -> Option<u64>
-    requires low { 1_051_898_400 < unit_first e.now (k + 1) }
-    requires high { unit_first e.now k < 2_147_483_648 }
+    requires low { FIRST_MINUTE < unit_first e.now (k + 1) }
+    requires high { unit_first e.now k < END }
     ensures some { IfSome result (λ j. IsCovered e.now k j) }
     ensures none { IfNone result (begun_within e.now e.now.count k ≡ false) }
     ensures valid { IsTrue (is_expr e.now) }

@@ -1,9 +1,10 @@
 //! Steps over minutes at which an expression cannot begin.
 ghost use Rattle.std.specs.Prelude.{◌≡◌, ◌<◌, ◌≤◌, ◌+◌, ◌-◌, ◌^◌, [], ◌∷◌, true, min, option_map, IfSome, IfNone, MatchOption, IsTrue};
-ghost use Rattle.gtrbac_model.specs.Calendar.{first_minute as first_at, interval_of as interval_at, number_within as number_at};
-ghost use Rattle.gtrbac_model.specs.Period.{begins as begun, selects as selected};
+ghost use Rattle.gtrbac_model.specs.Calendar.{first_minute, interval_of, number_within};
+ghost use Rattle.gtrbac_model.specs.Period.{begins, selects};
 ghost use Rattle.gtrbac_model.specs.Valid.{is_expr, is_set};
-ghost use Rattle.calendar_match.specs.Steps.{IsAhead, IsBehind, IsPassed, IsPassedBack, picks_at, are_sets, can_select as may_select, can_begin as may_begin, most_in as most_at};
+ghost use Rattle.calendar_match.specs.Steps.{IsAhead, IsBehind, IsPassed, IsPassedBack, picks_at, are_sets, can_select, can_begin, most_in};
+ghost use Rattle.calendar_match.specs.declared.calendars.TheConstants.{END};
 
 use crate::calendars::{first_minute, interval_of, number_within};
 use crate::picks::{has_upto, last_picked, next_picked};
@@ -11,7 +12,7 @@ use gt_base::List;
 use gtrbac_model::Calendar;
 use periodic_expr::{Expr, ExprPart};
 
-// The first part and the others.
+/// The first part and the others.
 fn first_part(parts: &[ExprPart]) -> Option<(&ExprPart, &[ExprPart])>
     ensures { MatchOption result (parts.now ≡ []) (λ cut. parts.now ≡ cut.0.now ∷ cut.1.now) }
 {
@@ -21,41 +22,41 @@ fn first_part(parts: &[ExprPart]) -> Option<(&ExprPart, &[ExprPart])>
     }
 }
 
-// The first minute of the interval that has the minute.
+/// The first minute of the interval that has the minute.
 fn start_of(c: Calendar, m: u64) -> u64
-    requires { m < 2_147_483_648 }
-    ensures { result ≡ first_at c (interval_at c m) }
+    requires { m < END }
+    ensures { result ≡ first_minute c (interval_of c m) }
 {
     first_minute(c, interval_of(c, m))
 }
 
-// The first minute after the interval that has the minute.
+/// The first minute after the interval that has the minute.
 fn end_of(c: Calendar, m: u64) -> u64
-    requires { m < 2_147_483_648 }
-    ensures { result ≡ first_at c (interval_at c m + 1) }
+    requires { m < END }
+    ensures { result ≡ first_minute c (interval_of c m + 1) }
 {
     first_minute(c, interval_of(c, m) + 1)
 }
 
-// The first minute of the inner interval number k, or that after the outer interval, from the inner
-// interval number n at the minute.
+/// The first minute of the inner interval number k, or that after the outer interval, from the
+/// inner interval number n at the minute.
 fn ahead_to(outer: Calendar, inner: Calendar, m: u64, n: u64, k: u64) -> u64
-    requires minute { m < 2_147_483_648 }
-    requires number { n ≡ number_at outer inner m }
+    requires minute { m < END }
+    requires number { n ≡ number_within outer inner m }
     requires low { n ≤ k }
     requires high { k ≤ n + 999_999_999 }
     ensures { result
-        ≡ min (first_at inner (interval_at inner m + k - n))
-        (first_at outer (interval_at outer m + 1)) }
+        ≡ min (first_minute inner (interval_of inner m + k - n))
+        (first_minute outer (interval_of outer m + 1)) }
 {
     first_minute(inner, interval_of(inner, m) + k - n).min(end_of(outer, m))
 }
 
-// None where the set picks the number of the inner interval at the minute, else the first minute
-// after the numbers that it does not pick.
+/// None where the set picks the number of the inner interval at the minute, else the first minute
+/// after the numbers that it does not pick.
 fn ahead_in_set(outer: Calendar, inner: Calendar, set: &Option<List<u32>>, m: u64) -> Option<u64>
     requires low { 2880 ≤ m }
-    requires high { m < 2_147_483_648 }
+    requires high { m < END }
     requires sets { IsTrue (is_set (option_map (λ l. l.items) set.now)) }
     ensures some { IfSome result
         (λ r. IsPassed (picks_at outer inner (option_map (λ l. l.items) set.now)) m r) }
@@ -70,20 +71,20 @@ fn ahead_in_set(outer: Calendar, inner: Calendar, set: &Option<List<u32>>, m: u6
     }
 }
 
-// The last minute before the inner interval after number k, from number n at the minute.
+/// The last minute before the inner interval after number k, from number n at the minute.
 fn back_to(outer: Calendar, inner: Calendar, m: u64, n: u64, k: u64) -> u64
-    requires minute { m < 2_147_483_648 }
-    requires number { n ≡ number_at outer inner m }
+    requires minute { m < END }
+    requires number { n ≡ number_within outer inner m }
     requires high { k ≤ n }
-    ensures { result ≡ first_at inner (interval_at inner m + k + 1 - n) - 1 }
+    ensures { result ≡ first_minute inner (interval_of inner m + k + 1 - n) - 1 }
 {
     first_minute(inner, interval_of(inner, m) + k + 1 - n).saturating_sub(1)
 }
 
-// The same back.
+/// The same back.
 fn behind_in_set(outer: Calendar, inner: Calendar, set: &Option<List<u32>>, m: u64) -> Option<u64>
     requires low { 2880 ≤ m }
-    requires high { m < 2_147_483_648 }
+    requires high { m < END }
     requires sets { IsTrue (is_set (option_map (λ l. l.items) set.now)) }
     ensures some { IfSome result
         (λ r. IsPassedBack (picks_at outer inner (option_map (λ l. l.items) set.now)) m r) }
@@ -100,7 +101,7 @@ fn behind_in_set(outer: Calendar, inner: Calendar, set: &Option<List<u32>>, m: u
 
 fn ahead_in_part(outer: Calendar, part: &ExprPart, m: u64) -> Option<u64>
     requires low { 2880 ≤ m }
-    requires high { m < 2_147_483_648 }
+    requires high { m < END }
     requires sets { IsTrue (is_set part.now.set) }
     ensures some { IfSome result (λ r. IsPassed (picks_at outer part.now.calendar part.now.set) m
         r) }
@@ -111,7 +112,7 @@ fn ahead_in_part(outer: Calendar, part: &ExprPart, m: u64) -> Option<u64>
 
 fn behind_in_part(outer: Calendar, part: &ExprPart, m: u64) -> Option<u64>
     requires low { 2880 ≤ m }
-    requires high { m < 2_147_483_648 }
+    requires high { m < END }
     requires sets { IsTrue (is_set part.now.set) }
     ensures some { IfSome result (λ r. IsPassedBack
         (picks_at outer part.now.calendar part.now.set) m r) }
@@ -120,21 +121,22 @@ fn behind_in_part(outer: Calendar, part: &ExprPart, m: u64) -> Option<u64>
     behind_in_set(outer, part.calendar, &part.set, m)
 }
 
-// The minute itself where it is the first of its interval, else the first after that.
+/// The minute itself where it is the first of its interval, else the first after that.
 fn next_first(c: Calendar, m: u64) -> u64
     requires low { 2880 ≤ m }
-    requires high { m < 2_147_483_648 }
-    ensures { IsAhead (selected c []) m result }
+    requires high { m < END }
+    ensures { IsAhead (selects c []) m result }
 {
     if start_of(c, m) == m { m } else { end_of(c, m) }
 }
 
-// The first minute from m on that the further parts do not rule out, m itself where they select it.
+/// The first minute from m on that the further parts do not rule out, m itself where they select
+/// it.
 fn ahead(above: Calendar, parts: &[ExprPart], m: u64) -> u64
     requires low { 2880 ≤ m }
-    requires high { m < 2_147_483_648 }
+    requires high { m < END }
     requires sets { IsTrue (are_sets parts.now) }
-    ensures { IsAhead (selected above parts.now) m result }
+    ensures { IsAhead (selects above parts.now) m result }
 {
     match first_part(parts) {
         None => next_first(above, m),
@@ -145,12 +147,12 @@ fn ahead(above: Calendar, parts: &[ExprPart], m: u64) -> u64
     }
 }
 
-// The last minute up to m that the further parts do not rule out, m itself where they select it.
+/// The last minute up to m that the further parts do not rule out, m itself where they select it.
 fn behind(above: Calendar, parts: &[ExprPart], m: u64) -> u64
     requires low { 2880 ≤ m }
-    requires high { m < 2_147_483_648 }
+    requires high { m < END }
     requires sets { IsTrue (are_sets parts.now) }
-    ensures { IsBehind (selected above parts.now) m result }
+    ensures { IsBehind (selects above parts.now) m result }
 {
     match first_part(parts) {
         None => start_of(above, m),
@@ -164,8 +166,8 @@ fn behind(above: Calendar, parts: &[ExprPart], m: u64) -> u64
 /// The first minute from m on at which the expression may begin, m itself where it does.
 pub(crate) fn step_ahead(e: &Expr, m: u64) -> u64
     requires low { 2880 ≤ m }
-    requires high { m < 2_147_483_648 }
-    ensures { IsAhead (begun e.now) m result }
+    requires high { m < END }
+    ensures { IsAhead (begins e.now) m result }
 {
     match first_part(e.parts().as_slice()) {
         None => m + 1,
@@ -176,8 +178,8 @@ pub(crate) fn step_ahead(e: &Expr, m: u64) -> u64
 /// The last minute up to m at which the expression may begin, m itself where it does.
 pub(crate) fn step_back(e: &Expr, m: u64) -> u64
     requires low { 2880 ≤ m }
-    requires high { m < 2_147_483_648 }
-    ensures { IsBehind (begun e.now) m result }
+    requires high { m < END }
+    ensures { IsBehind (begins e.now) m result }
 {
     match first_part(e.parts().as_slice()) {
         None => 0,
@@ -187,7 +189,7 @@ pub(crate) fn step_back(e: &Expr, m: u64) -> u64
 
 /// How many intervals of the inner calendar an interval of the outer one has at most.
 pub(crate) fn most_in(outer: Calendar, inner: Calendar) -> u64
-    ensures value { result ≡ most_at outer inner }
+    ensures value { result ≡ most_in outer inner }
     ensures least { 1 ≤ result }
 {
     match (outer, inner) {
@@ -209,7 +211,7 @@ pub(crate) fn most_in(outer: Calendar, inner: Calendar) -> u64
 }
 
 fn can_select(above: Calendar, parts: &[ExprPart]) -> bool
-    ensures { result ≡ may_select above parts.now }
+    ensures { result ≡ can_select above parts.now }
 {
     match parts {
         [] => true,
@@ -221,7 +223,7 @@ fn can_select(above: Calendar, parts: &[ExprPart]) -> bool
 
 /// Whether each set has a number that can come. Else the expression never begins.
 pub(crate) fn can_begin(e: &Expr) -> bool
-    ensures value { result ≡ may_begin e.now }
+    ensures value { result ≡ can_begin e.now }
     ensures valid { IsTrue (is_expr e.now) }
 {
     match e.parts().as_slice() {

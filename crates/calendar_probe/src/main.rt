@@ -1,7 +1,8 @@
-//! Asks the calendar: for each line `FIRST LAST AFTER EXPR` on standard input, with `*` for the bounds of all instants,
-//! writes a line `INSIDE STARTS NEXT_START NEXT_INSIDE NEXT_EDGE` at AFTER, with `-` where there is none, or
-//! `fault KIND at N`. A line `N CALL FIRST LAST AFTER EXPR`, with `start`, `inside` or `edge` as the call, asks that call N
-//! times, each time after its last answer, or after AFTER again where there was none, and writes the last answer.
+//! Asks the calendar: for each line `FIRST LAST AFTER EXPR` on standard input, with `*` for the
+//! bounds of all instants, writes a line `INSIDE STARTS NEXT_START NEXT_INSIDE NEXT_EDGE` at AFTER,
+//! with `-` where there is none, or `fault KIND at N`. A line `N CALL FIRST LAST AFTER EXPR`, with
+//! `start`, `inside` or `edge` as the call, asks that call N times, each time after its last
+//! answer, or after AFTER again where there was none, and writes the last answer.
 #![tactic(auto)]
 
 #[cfg(test)]
@@ -15,7 +16,7 @@ use std::alloc::{AllocError, Global};
 use std::io;
 use std::io::{Read, Write};
 
-// The bytes before the first space, and those after it.
+/// The bytes before the first space, and those after it.
 fn cut(line: &[u8]) -> Option<(&[u8], &[u8])> {
     let at = line.iter().position(|b| *b == b' ')?;
     let (word, rest) = line.split_at(at);
@@ -25,7 +26,7 @@ fn cut(line: &[u8]) -> Option<(&[u8], &[u8])> {
     }
 }
 
-// A civil minute, or the one that `*` stands for.
+/// A civil minute, or the one that `*` stands for.
 fn bound(word: &[u8], star: u32) -> Option<Instant> {
     if word == b"*".as_slice() {
         return Instant::new(star);
@@ -104,7 +105,7 @@ fn number(word: &[u8]) -> Option<u32> {
     Some(n)
 }
 
-// How often to ask which call, and the rest of the line.
+/// How often to ask which call, and the rest of the line.
 fn repeated(line: &[u8]) -> Option<(u32, Call, &[u8])> {
     let (times, line) = cut(line)?;
     let (word, line) = cut(line)?;
@@ -127,7 +128,7 @@ fn asked_often(times: u32, call: Call, p: &Period, after: Instant) -> Option<Ins
     last
 }
 
-// The bounds, the instant and the text of the expression of a line.
+/// The bounds, the instant and the text of the expression of a line.
 fn parted(line: &[u8]) -> Option<(Instant, Instant, Instant, &[u8])> {
     let (first, line) = cut(line)?;
     let (last, line) = cut(line)?;

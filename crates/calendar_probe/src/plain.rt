@@ -1,4 +1,5 @@
-//! The calls of the calendar against plain ones, which go over a stretch minute after minute and use `starts` alone.
+//! The calls of the calendar against plain ones, which go over a stretch minute after minute and
+//! use `starts` alone.
 
 use calendar_match::{inside, next_edge, next_inside, next_start, starts};
 use gt_base::Instant;
@@ -9,12 +10,12 @@ use std::test::Fail;
 
 const LAST: u32 = 52_595_999;
 
-// The minutes of a stretch, and the most before it whose begins are looked at too.
+/// The minutes of a stretch, and the most before it whose begins are looked at too.
 const LENGTH: u32 = 20 * 1440;
 
 const BEFORE: u32 = 366 * 1440;
 
-// A linear congruence: the next number, below 2^31.
+/// A linear congruence: the next number, below 2^31.
 fn next_random(seed: &mut u64) -> u64 {
     *seed = seed
         .wrapping_mul(6_364_136_223_846_793_005)
@@ -40,7 +41,7 @@ fn word(c: Calendar) -> &'static str {
     }
 }
 
-// No length of this calendar that is tried lasts longer.
+/// No length of this calendar that is tried lasts longer.
 fn longest(unit: Calendar) -> u32 {
     match unit {
         Calendar::Years => BEFORE,
@@ -49,7 +50,7 @@ fn longest(unit: Calendar) -> u32 {
     }
 }
 
-// The calendar number i of those that stand below, if there are so many.
+/// The calendar number i of those that stand below, if there are so many.
 fn below(c: Calendar, i: u32) -> Option<Calendar> {
     match (c, i) {
         (Calendar::Years, 0) => Some(Calendar::Months),
@@ -63,7 +64,7 @@ fn below(c: Calendar, i: u32) -> Option<Calendar> {
     }
 }
 
-// One above the numbers that are tried.
+/// One above the numbers that are tried.
 fn top(above: Calendar, c: Calendar) -> u32 {
     match (above, c) {
         (Calendar::Years, Calendar::Days) => 367,
@@ -109,7 +110,7 @@ fn put_length(
     text.extend_from_slice(length.as_bytes())
 }
 
-// A random expression, and the calendar of its length.
+/// A random expression, and the calendar of its length.
 fn random_text(alloc: Global, seed: &mut u64) -> Result<(Vec<u8>, Calendar), AllocError> {
     let mut c = match random(seed, 4) {
         0 => Calendar::Years,
@@ -154,7 +155,8 @@ fn starts_at(p: &Period, m: u32) -> bool {
     }
 }
 
-// Which minutes of the stretch from this one are begins, and which lie within the length of a begin.
+/// Which minutes of the stretch from this one are begins, and which lie within the length of a
+/// begin.
 struct Seen {
     from: u32,
     begins: Vec<bool>,
@@ -172,7 +174,7 @@ impl Drop for Seen {
 }
 
 impl Seen {
-    // How long each begin lasts is counted down at each start of a unit.
+    /// How long each begin lasts is counted down at each start of a unit.
     fn new(alloc: Global, p: &Period, units: &Period, from: u32) -> Result<Seen, AllocError> {
         let mut begins = Vec::new(alloc);
         let mut lasts = Vec::new(alloc);
@@ -250,7 +252,7 @@ fn compare(rt: &impl Abort, seen: &Seen, p: &Period, after: Instant) {
     assert_eq!(rt; minute(next_edge(p, after)), seen.next_edge(p, m));
 }
 
-// The expression between random bounds within the stretch.
+/// The expression between random bounds within the stretch.
 fn bounded(seed: &mut u64, from: u32, expr: Expr) -> Option<Period> {
     let first = from
         .saturating_add(1)
@@ -263,7 +265,7 @@ fn bounded(seed: &mut u64, from: u32, expr: Expr) -> Option<Period> {
     })
 }
 
-// At random instants of the stretch, before and after the bounds too.
+/// At random instants of the stretch, before and after the bounds too.
 fn compare_some(rt: &impl Abort, seed: &mut u64, seen: &Seen, p: &Period) -> Option<()> {
     for _ in 0..8 {
         let after = seen.from.saturating_add(random(seed, LENGTH));
@@ -272,7 +274,7 @@ fn compare_some(rt: &impl Abort, seed: &mut u64, seen: &Seen, p: &Period) -> Opt
     Some(())
 }
 
-// One random expression over one random stretch.
+/// One random expression over one random stretch.
 fn compare_one(rt: &impl Abort, alloc: Global, seed: &mut u64) -> Result<(), Fail> {
     let (text, unit) = random_text(alloc, seed)?;
     let units = format!(in alloc; "all.{}", word(unit))?;

@@ -2,20 +2,25 @@
 //!
 //! A case begins with a line `case NAME`, and these lines say more of it, in any order:
 //!
-//! - `words WORD ..`: the words of the command, `run P` where they are left out; `''` is an empty word;
+//! - `words WORD ..`: the words of the command, `run P` where they are left out; `''` is an empty
+//!   word;
 //! - `status N`: the status that is wanted, 0 where it is left out;
-//! - `policy`, `script`, `replies`: the lines behind belong to the policy with the name `P`, to the script, or to the text that
-//!   is wanted; each is empty where it is left out;
+//! - `policy`, `script`, `replies`: the lines behind belong to the policy with the name `P`, to the
+//!   script, or to the text that is wanted; each is empty where it is left out;
 //! - a line that begins with four spaces: a line of that text;
-//! - `lines FROM TO TEXT`: a line of that text for each number from FROM to TO, up or down, with the number in place of `{i}`,
-//!   and so much more or less in place of `{i+1}` to `{i+9}` and `{i-1}` to `{i-9}`;
-//! - `joined FROM TO TEXT`: the same without line ends; `text TEXT`: the text of number 1 alone, without a line end;
-//! - `room N`: the output takes N bytes; `shelf fails N`, `input fails N`, `output fails N`: its call number N fails.
+//! - `lines FROM TO TEXT`: a line of that text for each number from FROM to TO, up or down, with
+//!   the number in place of `{i}`, and so much more or less in place of `{i+1}` to `{i+9}` and
+//!   `{i-1}` to `{i-9}`;
+//! - `joined FROM TO TEXT`: the same without line ends; `text TEXT`: the text of number 1 alone,
+//!   without a line end;
+//! - `room N`: the output takes N bytes; `shelf fails N`, `input fails N`, `output fails N`: its
+//!   call number N fails.
 //!
-//! In these texts a backslash names a byte (`texts.rt`). Lines that are empty or begin with `#` say nothing.
+//! In these texts a backslash names a byte (`texts.rt`). Lines that are empty or begin with `#` say
+//! nothing.
 
 use crate::texts::{Repeated, add_repeated, add_text};
-use gt_text::{Words, read_up_to};
+use gt_text::{Words, read_between};
 use std::alloc::{AllocError, Global};
 
 /// A line says nothing of a case, or there was no memory.
@@ -104,7 +109,8 @@ impl Case {
     }
 }
 
-/// The bytes before the first space and those behind it; all of them and none where there is no space.
+/// The bytes before the first space and those behind it; all of them and none where there is no
+/// space.
 fn cut(line: &[u8]) -> (&[u8], &[u8]) {
     let Some(at) = line.iter().position(|b| *b == b' ') else {
         return (line, &[]);
@@ -117,7 +123,7 @@ fn cut(line: &[u8]) -> (&[u8], &[u8]) {
 }
 
 fn read_status(text: &[u8]) -> Said<'_> {
-    match read_up_to(text, 255) {
+    match read_between(0, 255, text) {
         Some(n) => Said::Status(n as u8),
         None => Said::Unread,
     }
@@ -126,7 +132,10 @@ fn read_status(text: &[u8]) -> Said<'_> {
 fn read_repeated<'a>(text: &'a [u8], end: &'a [u8]) -> Said<'a> {
     let (from, rest) = cut(text);
     let (to, text) = cut(rest);
-    match (read_up_to(from, 20_000_000), read_up_to(to, 20_000_000)) {
+    match (
+        read_between(0, 20_000_000, from),
+        read_between(0, 20_000_000, to),
+    ) {
         (Some(from), Some(to)) => Said::Repeated(Repeated {
             from,
             to,
@@ -139,7 +148,7 @@ fn read_repeated<'a>(text: &'a [u8], end: &'a [u8]) -> Said<'a> {
 
 fn read_fails(failing: Failing, text: &[u8]) -> Said<'_> {
     match cut(text) {
-        (b"fails", number) => match read_up_to(number, 20_000_000) {
+        (b"fails", number) => match read_between(0, 20_000_000, number) {
             Some(n) => Said::Fails(failing, n),
             None => Said::Unread,
         },
@@ -148,7 +157,7 @@ fn read_fails(failing: Failing, text: &[u8]) -> Said<'_> {
 }
 
 fn read_room(text: &[u8]) -> Said<'_> {
-    match read_up_to(text, ROOM) {
+    match read_between(0, ROOM, text) {
         Some(n) => Said::Room(n),
         None => Said::Unread,
     }

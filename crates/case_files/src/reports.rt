@@ -21,7 +21,8 @@ pub trait Player {
     fn play(&mut self, alloc: Global, case: &Case) -> Result<Ended, AllocError>;
 }
 
-/// What was said so far, how many cases were played, and how many of them did not end as they were to.
+/// What was said so far, how many cases were played, and how many of them did not end as they were
+/// to.
 #[derive(Drop)]
 pub struct Report {
     pub text: Vec<u8>,
@@ -54,7 +55,8 @@ fn put_end(into: &mut Vec<u8>, what: &[u8], status: u8, text: &[u8]) -> Result<(
     Ok(())
 }
 
-/// Adds what is said of a case that ended: its name, and where it did not end as it was to, what was wanted and what came.
+/// Adds what is said of a case that ended: its name, and where it did not end as it was to, what
+/// was wanted and what came.
 fn put_verdict(
     into: &mut Vec<u8>,
     case: &Case,
@@ -103,7 +105,8 @@ impl Report {
         self.judge(case, &ended)
     }
 
-    /// Takes a line of a file in: it begins a new case, or says more of the case that was begun last.
+    /// Takes a line of a file in: it begins a new case, or says more of the case that was begun
+    /// last.
     fn go_on<P: Player>(
         &mut self,
         alloc: Global,
@@ -121,7 +124,8 @@ impl Report {
         }
     }
 
-    /// Reports that a line of a file, or with the number 0 the file, could not be read; it counts as a case that failed.
+    /// Reports that a line of a file, or with the number 0 the file, could not be read; it counts
+    /// as a case that failed.
     pub fn put_unread(&mut self, file: &[u8], number: u64) -> Result<(), AllocError> {
         self.failed = self.failed.saturating_add(1);
         self.text.extend_from_slice(b"UNREAD line ")?;

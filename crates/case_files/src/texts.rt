@@ -31,8 +31,9 @@ fn named_byte(text: &[u8]) -> Option<(u8, &[u8])> {
     }
 }
 
-/// Adds a text in which `\t` stands for a tab, `\r` for a carriage return, `\n` for a line feed, `\s` for a space, `\b` for a
-/// backslash and `\xHH` for the byte of two digits of base 16, 0 to 9 and a to f.
+/// Adds a text in which `\t` stands for a tab, `\r` for a carriage return, `\n` for a line feed,
+/// `\s` for a space, `\b` for a backslash and `\xHH` for the byte of two digits of base 16, 0 to 9
+/// and a to f.
 pub(crate) fn add_text(into: &mut Vec<u8>, text: &[u8]) -> Result<(), Fault> {
     for (place, piece) in text.split(|b| *b == b'\\').enumerate() {
         if place == 0 {
@@ -56,7 +57,8 @@ fn small(b: u8) -> Option<u64> {
     }
 }
 
-/// The number that the text behind an opening brace begins with the name of, and the rest of that text.
+/// The number that the text behind an opening brace begins with the name of, and the rest of that
+/// text.
 fn named_number(text: &[u8], i: u64) -> Option<(u64, &[u8])> {
     match text {
         [b'i', b'}', rest @ ..] => Some((i, rest)),
@@ -86,8 +88,8 @@ fn add_behind_brace(into: &mut Vec<u8>, piece: &[u8], i: u64) -> Result<(), Allo
     }
 }
 
-/// Adds a text with the number `i` in place of `{i}`, and with so much more or less in place of `{i+1}` to `{i+9}` and
-/// `{i-1}` to `{i-9}`.
+/// Adds a text with the number `i` in place of `{i}`, and with so much more or less in place of
+/// `{i+1}` to `{i+9}` and `{i-1}` to `{i-9}`.
 fn add_numbered(into: &mut Vec<u8>, text: &[u8], i: u64) -> Result<(), AllocError> {
     for (place, piece) in text.split(|b| *b == b'{').enumerate() {
         if place == 0 {

@@ -1,6 +1,6 @@
 -- An instant has one civil minute, and a civil minute one instant.
 use Rattle.std.proofs.Common.{◌≡◌, ℕ, ◌≤◌, pos, arith, sym, ◌∙◌, Result, Ok, Err, IfOk}
-use Rattle.gt_base.specs.Bounds.{last_minute}
+use Rattle.gt_base.specs.declared.limits.TheConstants.{LAST_MINUTE}
 use Rattle.jiff_core.specs.declared.civil.date.Date.{Date}
 use Rattle.jiff_core.proofs.DateLemmas.{epoch_day_injective}
 use Rattle.jiff_core.proofs.SignedLemmas.{signed_arith}
@@ -38,9 +38,9 @@ one_civil t c d p q =
 pub one_instant : (t u : ℕ) (c : Civil) → StandsFor t c → StandsFor u c → t ≡ u
 one_instant t u c p q = omega (arith, signed_arith, p.day, q.day, p.time, q.time)
 
-pub is_civil_at : (t : ℕ) (c : Civil) → StandsFor t c → t ≤ last_minute → c ≡ civil_at t
+pub is_civil_at : (t : ℕ) (c : Civil) → StandsFor t c → t ≤ LAST_MINUTE → c ≡ civil_at t
 is_civil_at t c p h = one_civil t c (civil_at t) p (stands t h)
 
-pub instant_is : (r : Result ℕ NoSuchMinute) (c : Civil) → IfOk r (λ t. StandsFor t c) → IfOk r (λ t. t ≤ last_minute) → IfOk r (λ t. c ≡ civil_at t)
+pub instant_is : (r : Result ℕ NoSuchMinute) (c : Civil) → IfOk r (λ t. StandsFor t c) → IfOk r (λ t. t ≤ LAST_MINUTE) → IfOk r (λ t. c ≡ civil_at t)
 instant_is (Ok t) c p h = is_civil_at t c p h
 instant_is (Err e) c p h = tt

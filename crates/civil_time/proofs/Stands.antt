@@ -1,6 +1,6 @@
 -- The civil minute of an instant stands for it.
 use Rattle.std.proofs.Common.{◌≡◌, ℕ, ◌+◌, ◌-◌, ◌*◌, ◌/◌, ◌%◌, ◌<◌, ◌≤◌, refl, ap, sym, ◌∙◌, arith}
-use Rattle.gt_base.specs.Bounds.{last_minute}
+use Rattle.gt_base.specs.declared.limits.TheConstants.{LAST_MINUTE}
 use Rattle.gtrbac_model.specs.declared.calendars.Calendar.TheVariants.{Years, Months, Days}
 use Rattle.gtrbac_model.specs.Calendar.{minute_of, day_of_month, first_minute, interval_of, number_within}
 use Rattle.gtrbac_model.proofs.Months.{january}
@@ -36,7 +36,7 @@ day_is m d late e =
 day_ends : (m d : ℕ) → m / 1440 ≡ d → d < day_of_month (interval_of Months m + 1)
 day_ends m d e = let high : m < 1440 * day_of_month (interval_of Months m + 1) = goes_on Months m in omega arith
 
-pub stands : (t : ℕ) → t ≤ last_minute → StandsFor t (civil_at t)
+pub stands : (t : ℕ) → t ≤ LAST_MINUTE → StandsFor t (civil_at t)
 unfolding civil_at
 stands t h =
     let m = minute_of t in
@@ -66,7 +66,7 @@ stands t h =
     }
 
 -- the place of an instant, from the parts of its civil minute
-pub from_parts : (t : ℕ) → t ≤ last_minute → 1440 * (day_of_month (12 * (civil_at t).year + (civil_at t).month - 1) + (civil_at t).day - 1) + 60 * (civil_at t).hour + (civil_at t).minute ≡ minute_of t
+pub from_parts : (t : ℕ) → t ≤ LAST_MINUTE → 1440 * (day_of_month (12 * (civil_at t).year + (civil_at t).month - 1) + (civil_at t).day - 1) + 60 * (civil_at t).hour + (civil_at t).minute ≡ minute_of t
 unfolding civil_at
 from_parts t h =
     let m = minute_of t in

@@ -1,6 +1,6 @@
 -- Civil minutes as texts.
-use Rattle.std.specs.Prelude.{◌≡◌, ℕ, ◌+◌, ◌-◌, ◌*◌, ◌/◌, ◌%◌, ◌<◌, ◌≤◌, true, false, ◌&&◌, List, [], ◌∷◌, ◌++◌, length, nat_le, nat_eq, bytes_eq, slice_index, Option, Some, None}
-use Rattle.gt_base.specs.Bounds.{last_minute}
+use Rattle.std.specs.Prelude.{◌≡◌, ℕ, ◌+◌, ◌-◌, ◌*◌, ◌/◌, ◌%◌, ◌<◌, ◌≤◌, ◌&&◌, List, [], ◌∷◌, ◌++◌, length, nat_le, nat_eq, bytes_eq, slice_index, Option, Some, None, if◌then◌else◌}
+use Rattle.gt_base.specs.declared.limits.TheConstants.{LAST_MINUTE}
 use Rattle.gtrbac_model.specs.Calendar.{day_of_month}
 use Rattle.civil_time.specs.Minutes.{civil_at}
 use Rattle.civil_time.specs.declared.civil.Civil.{Civil}
@@ -10,19 +10,19 @@ abbrev pub two_digits : ℕ → List ℕ
 two_digits n = (48 + n / 10) ∷ (48 + n % 10) ∷ []
 
 -- YYYY-MM-DDTHH:MM
-abbrev pub text_of : Civil → List ℕ
-text_of c =
+abbrev pub text_of_civil : Civil → List ℕ
+text_of_civil c =
     two_digits (c.year / 100) ++ two_digits (c.year % 100) ++ 45 ∷ [] ++ two_digits c.month ++ 45
     ∷ [] ++ two_digits c.day
     ++ 84 ∷ [] ++ two_digits c.hour ++ 58 ∷ [] ++ two_digits c.minute
 
 -- the text of an instant
 abbrev pub civil_text : ℕ → List ℕ
-civil_text t = text_of (civil_at t)
+civil_text t = text_of_civil (civil_at t)
 
 -- the text is that of an instant
 abbrev pub IsCivil : List ℕ → ℕ → Type 0
-IsCivil text t = (t ≤ last_minute) × (text ≡ civil_text t)
+IsCivil text t = (t ≤ LAST_MINUTE) × (text ≡ civil_text t)
 
 -- the number of two digits
 abbrev pub two_at : List ℕ → ℕ → ℕ
@@ -37,9 +37,9 @@ candidate text =
 -- the instant of a text, where it is the text of one
 abbrev pub civil_in : List ℕ → Option ℕ
 civil_in text =
-    elim (nat_eq (length text) 16 && nat_le (candidate text) last_minute
-    && bytes_eq (civil_text (candidate text)) text)
-    [ true ↦ Some (candidate text) | false ↦ None ]
+    if nat_eq (length text) 16 && nat_le (candidate text) LAST_MINUTE
+    && bytes_eq (civil_text (candidate text)) text
+    then Some (candidate text) else None
 
 -- its numbers have at most two digits, and its year four
 pub record IsPrintable (c : Civil) : Type 0 where

@@ -1,7 +1,7 @@
 //! Instants by their date and time of day.
 ghost use Rattle.std.specs.Prelude.{◌≡◌, ◌↔◌, ◌/◌, ◌%◌, ◌*◌, ◌+◌, ◌≤◌, ◌<◌, pos, ◌≤ℤ◌, IsErr, IfOk};
+ghost use Rattle.gt_base.specs.declared.limits.TheConstants.{LAST_MINUTE};
 ghost use Rattle.jiff_core.specs.Date.{epoch_day};
-ghost use Rattle.gt_base.specs.Bounds.{last_minute};
 ghost use Rattle.gtrbac_model.specs.Calendar.{day_of};
 ghost use Rattle.civil_time.specs.Minutes.{civil_at, IsMinute, StandsFor};
 
@@ -27,12 +27,12 @@ pub struct Civil {
 #[derive(Clone, Copy, Debug, PartialEq, Eq)]
 pub struct NoSuchMinute;
 
-// How many days lie between the first date of jiff's calendar and 2000-01-01.
+/// How many days lie between the first date of jiff's calendar and 2000-01-01.
 const FIRST_DAY: u32 = 4_382_544;
 
 const MINUTES_OF_DAY: u32 = 1440;
 
-// The date that lies this many days after 2000-01-01.
+/// The date that lies this many days after 2000-01-01.
 fn date_of(days: u32) -> Date
     requires { days ≤ 36_524 }
     ensures day { epoch_day result ≡ pos (days + 10_957) }
@@ -42,7 +42,7 @@ fn date_of(days: u32) -> Date
     Date::from_days_since_min(FIRST_DAY + days)
 }
 
-// How many days after 2000-01-01 the date lies.
+/// How many days after 2000-01-01 the date lies.
 fn days_of(date: Date) -> u32
     requires year_low { pos 2000 ≤ℤ date.year }
     requires year_high { date.year ≤ℤ pos 2099 }
@@ -59,10 +59,10 @@ pub fn day(t: Instant) -> u32
     t.minute() / MINUTES_OF_DAY
 }
 
-// The civil minute of an instant, by jiff's dates.
+/// The civil minute of an instant, by jiff's dates.
 fn parts_of(t: Instant) -> Civil
     ensures stands { StandsFor t result }
-    ensures bound { t ≤ last_minute }
+    ensures bound { t ≤ LAST_MINUTE }
 {
     let date = date_of(day(t));
     let rest = t.minute() % MINUTES_OF_DAY;
@@ -84,7 +84,7 @@ pub fn civil_of(t: Instant) -> Civil
     parts_of(t)
 }
 
-// The minute of the date and time of day.
+/// The minute of the date and time of day.
 fn minute_of(date: Date, hour: u8, minute: u8) -> Instant
     requires year_low { pos 2000 ≤ℤ date.year }
     requires year_high { date.year ≤ℤ pos 2099 }
@@ -92,16 +92,16 @@ fn minute_of(date: Date, hour: u8, minute: u8) -> Instant
     requires minute_in { minute < 60 }
     ensures day { epoch_day date ≡ pos (day_of result + 10_957) }
     ensures time { result % 1440 ≡ hour * 60 + minute }
-    ensures bound { result ≤ last_minute }
+    ensures bound { result ≤ LAST_MINUTE }
 {
     let minutes = days_of(date) * MINUTES_OF_DAY + u32::from(hour) * 60 + u32::from(minute);
     Instant::new(minutes).unwrap()
 }
 
-// The instant of a civil minute, by jiff's dates.
+/// The instant of a civil minute, by jiff's dates.
 fn found(c: Civil) -> Result<Instant, NoSuchMinute>
     ensures stands { IfOk result (λ t. StandsFor t c) }
-    ensures bound { IfOk result (λ t. t ≤ last_minute) }
+    ensures bound { IfOk result (λ t. t ≤ LAST_MINUTE) }
     ensures err { IsErr result ↔ ¬ (IsMinute c) }
 {
     if c.year < 2000

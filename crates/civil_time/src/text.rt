@@ -1,23 +1,23 @@
 //! The one text of each instant, written and read.
 ghost use Rattle.std.specs.Prelude.{◌≡◌, ◌≢◌, ◌<◌, ◌+◌, ◌/◌, ◌%◌, ◌≤◌, ℕ, List, [], ◌∷◌, length, IfSome, IfNone};
-ghost use Rattle.gt_base.specs.Bounds.{last_minute};
+ghost use Rattle.gt_base.specs.declared.limits.TheConstants.{LAST_MINUTE};
 ghost use Rattle.civil_time.specs.declared.civil.Civil.{Civil};
 ghost use Rattle.civil_time.specs.Minutes.{IsMinute};
-ghost use Rattle.civil_time.specs.Text.{two_digits as digits_of, text_of, civil_text as text_at, IsCivil, IsPrintable};
+ghost use Rattle.civil_time.specs.Text.{two_digits, text_of_civil, civil_text, IsCivil, IsPrintable};
 
 use crate::civil::{Civil, civil_of, instant};
 use gt_base::Instant;
 
 fn two_digits(n: u8) -> [u8; 2]
     requires { n < 100 }
-    ensures { result ≡ digits_of n }
+    ensures { result ≡ two_digits n }
 {
     [b'0' + n / 10, b'0' + n % 10]
 }
 
 fn civil_text(c: Civil) -> [u8; 16]
     requires { IsPrintable c }
-    ensures { result ≡ text_of c }
+    ensures { result ≡ text_of_civil c }
 {
     let [y1, y2] = two_digits((c.year / 100) as u8);
     let [y3, y4] = two_digits((c.year % 100) as u8);
@@ -32,12 +32,12 @@ fn civil_text(c: Civil) -> [u8; 16]
 
 /// The text of an instant, as `2026-01-05T08:30`.
 pub fn write_civil(t: Instant) -> [u8; 16]
-    ensures { result ≡ text_at t }
+    ensures { result ≡ civil_text t }
 {
     civil_text(civil_of(t))
 }
 
-// The number that two digits write, or any number.
+/// The number that two digits write, or any number.
 fn number_of(a: u8, b: u8) -> u8
     ensures bound { result < 100 }
     ensures only { (n : ℕ) → n < 100 → a ≡ 48 + n / 10 → b ≡ 48 + n % 10 → result ≡ n }
@@ -49,11 +49,11 @@ fn number_of(a: u8, b: u8) -> u8
     }
 }
 
-// The minute that the text writes, or any other.
+/// The minute that the text writes, or any other.
 fn candidate(text: &[u8]) -> Civil
     requires { length text.now ≡ 16 }
     ensures bound { IsPrintable result }
-    ensures only { (c : Civil) → IsMinute c → text.now ≡ text_of c → result ≡ c }
+    ensures only { (c : Civil) → IsMinute c → text.now ≡ text_of_civil c → result ≡ c }
 {
     let century = number_of(text[0], text[1]);
     let year = number_of(text[2], text[3]);
@@ -66,10 +66,10 @@ fn candidate(text: &[u8]) -> Civil
     }
 }
 
-// The instant of the text, none where it is the text of no civil minute.
+/// The instant of the text, none where it is the text of no civil minute.
 fn found(text: &[u8]) -> Option<Instant>
     ensures some { IfSome result (λ t. IsCivil text.now t) }
-    ensures none { IfNone result ((c : Civil) → IsMinute c → text.now ≢ text_of c) }
+    ensures none { IfNone result ((c : Civil) → IsMinute c → text.now ≢ text_of_civil c) }
 {
     if text.len() != 16 {
         return None;
@@ -85,7 +85,7 @@ fn found(text: &[u8]) -> Option<Instant>
 /// instant.
 pub fn read_civil(text: &[u8]) -> Option<Instant>
     ensures some { IfSome result (λ t. IsCivil text.now t) }
-    ensures none { IfNone result ((t : ℕ) → t ≤ last_minute → text.now ≢ text_at t) }
+    ensures none { IfNone result ((t : ℕ) → t ≤ LAST_MINUTE → text.now ≢ civil_text t) }
 {
     found(text)
 }

@@ -16,8 +16,8 @@ use Rattle.request_text.specs.Phrases.{read_line}
 use Rattle.connection_laws.specs.Desks.{IsNamedActor}
 use Rattle.connection_laws.specs.Connection.{Answer, silence, agreed, bad, Acted, Gets, actor_by, placed}
 use Rattle.connection_laws.specs.declared.talk.Talk.{Talk}
-use Rattle.connection_laws.specs.declared.talk.Told.{Told}
-use Rattle.connection_laws.specs.declared.talk.Told.TheVariants.{Silence, Agreed, Bad, Worn}
+use Rattle.connection_laws.specs.declared.talk.LineAnswer.{LineAnswer}
+use Rattle.connection_laws.specs.declared.talk.LineAnswer.TheVariants.{Silence, Agreed, Bad, Worn}
 use Rattle.connection_laws.specs.Services.{service}
 use Rattle.connection_laws.specs.Turns.{Grows}
 use Rattle.connection_laws.specs.Acting.{IsTold, Decides, moment, Acts}
@@ -30,7 +30,7 @@ abbrev one_line : List ℕ → Answer → Acted
 one_line line answer = record { line = line; answer = answer; readings = []; entries = [] }
 
 module _ {M : Type 0} (np : NamedPolicy) (first : List Entry) (legal : List Entry → Type 0) (now : List Entry → ℕ) (who : Who) (clock clock' : Option (ℕ → ℕ)) (line : List ℕ) (talk : Talk) where
-  pub acts_ask : (before after : Holder M) (reading : ℕ) (request : Request) (reached : Option ℕ) (told : Told) → read_line np Nobody false line ≡ Ok (Ask request) → IsNamedActor np talk.actor → Reads clock clock' (reading ∷ [])
+  pub acts_ask : (before after : Holder M) (reading : ℕ) (request : Request) (reached : Option ℕ) (told : LineAnswer) → read_line np Nobody false line ≡ Ok (Ask request) → IsNamedActor np talk.actor → Reads clock clock' (reading ∷ [])
       → Decides (service np first legal now) who reading talk.actor request before after told
       → Acts (service np first legal now) who (moment before talk clock) (moment after (record talk { calls = talk.calls + 1; reached = reached }) clock') line told
   acts_ask before after reading request reached told said named reads d =
@@ -49,7 +49,7 @@ module _ {M : Type 0} (np : NamedPolicy) (first : List Entry) (legal : List Entr
         worn_out = d.worn_out;
       }
 
-  acts_plain : (p : Holder M) (said : Result Line LineFault) (told : Told) (answer : Answer) → read_line np Nobody false line ≡ said → IsTold np told answer
+  acts_plain : (p : Holder M) (said : Result Line LineFault) (told : LineAnswer) (answer : Answer) → read_line np Nobody false line ≡ said → IsTold np told answer
       → ((birth n : ℕ) → Gets birth who p.seen said talk.actor n (one_line line answer)) → IsNamedActor np (actor_by said talk.actor) → ((n : ℕ) → told ≡ Worn n → ⊥)
       → Acts (service np first legal now) who (moment p talk clock) (moment p (record talk { actor = actor_by said talk.actor }) clock) line told
   acts_plain p said told answer is tells gets named fine =

@@ -1,15 +1,14 @@
 -- A request line behind its ticks.
-use Rattle.std.proofs.Common.{◌≡◌, ℕ, ◌+◌, ◌^◌, ◌≤◌, true, ◌==◌, ◌&&◌, List, [], ◌∷◌, ◌++◌, length, drop, refl, sym, ap, subst, ◌∙◌, arith, eq-eqb, append-nil, Ok, Err, Result}
+use Rattle.std.proofs.Common.{◌≡◌, ℕ, ◌+◌, ◌^◌, ◌≤◌, true, List, [], ◌∷◌, ◌++◌, length, drop, refl, sym, ap, subst, ◌∙◌, arith, append-nil, Ok, Err, Result}
 use mathlib.Core.List.{IsPrefix}
-use Rattle.gt_base.specs.Bounds.{max_steps}
 use Rattle.gt_base.specs.declared.requests.Who.{Who}
 use Rattle.gt_base.specs.declared.requests.Actor.{Actor}
 use Rattle.gt_base.specs.declared.requests.Request.{Request}
 use Rattle.gt_base.specs.declared.requests.Reply.{Reply}
 use Rattle.gt_base.specs.declared.requests.Entry.{Entry}
-use Rattle.gt_base.specs.declared.requests.Step.{Step}
 use Rattle.gt_base.specs.declared.requests.Step.TheVariants.{Tick}
 use Rattle.gt_base.specs.Machines.{asked}
+use Rattle.gt_base.specs.declared.limits.TheConstants.{MAX_STEPS}
 use Rattle.turn_lock.specs.Turns.{Each, part}
 use Rattle.turn_lock.specs.Holders.{Holder}
 use Rattle.turn_lock.proofs.Totals.{each-append}
@@ -17,13 +16,10 @@ use Rattle.locked_history.specs.Fronts.{by, Lands, Refuses}
 use Rattle.locked_history.specs.declared.faults.DeskFault.{DeskFault}
 use Rattle.locked_history.specs.declared.faults.DeskFault.TheVariants.{Worn, StepsFull, Memory}
 use Rattle.connection_laws.specs.Connection.{is_who, part_of, IsTick, Answers, Asks, Stands, IsTimed, placed}
-use Rattle.connection_laws.proofs.Places.{placed_more, stands_at}
+use Rattle.connection_laws.proofs.Places.{own_entry, placed_more, stands_at}
 use Rattle.connection_laws.proofs.Timing.{asked_in_time}
-use Rattle.connection_laws.specs.Turns.{answer_of, Grows, AreMine, Asked}
+use Rattle.connection_laws.specs.Turns.{answer_of, Grows, AreMine, AskedTurn}
 use Rattle.connection_laws.proofs.Growing.{grown_twice, grown_one, grown_refused}
-
-own_entry : (who : Who) (what : Step) → is_who who (record { who = who; what = what }) ≡ true
-own_entry who what = ap (λ b. b && (who.conn == who.conn)) (eq-eqb who.worker who.worker refl) ∙ eq-eqb who.conn who.conn refl
 
 ticks_mine : (who : Who) (reading : ℕ) (ticks : List Entry) → Each (IsTick who reading) ticks → AreMine who ticks
 ticks_mine who reading [] all = tt
@@ -35,7 +31,7 @@ same_reply x y same = cc
 
 module _ {M : Type 0} (first : List Entry) (legal : List Entry → Type 0) (now : List Entry → ℕ) (conn reading : ℕ) (actor : Actor) (request : Request) (a b c : Holder M) where
   abbrev Told : ℕ → Result Reply DeskFault → Type 0
-  Told n result = Asked first legal now (by n conn) reading actor request a c result
+  Told n result = AskedTurn first legal now (by n conn) reading actor request a c result
 
   same_number : (ticks : List Entry) → Grows a b ticks 1 → b.number ≡ a.number
   same_number ticks g = ap (λ (p : Holder M). p.number) g.after_is
@@ -70,13 +66,13 @@ module _ {M : Type 0} (first : List Entry) (legal : List Entry → Type 0) (now 
       subst (λ (n : ℕ). Told n (Ok reply)) same
       (accepted_here ticks reply front before (subst (λ (n : ℕ). Each (IsTick (by n conn) reading) ticks) (sym same) each) g fair late l last good)
 
-  answers_refused : (fault : DeskFault) (birth n : ℕ) (ticks : List Entry) → (fault ≡ StepsFull → max_steps ≤ length c.seen) → Answers birth (by a.number conn) c.seen reading actor request (answer_of (Err fault)) n ticks ticks
+  answers_refused : (fault : DeskFault) (birth n : ℕ) (ticks : List Entry) → (fault ≡ StepsFull → MAX_STEPS ≤ length c.seen) → Answers birth (by a.number conn) c.seen reading actor request (answer_of (Err fault)) n ticks ticks
   answers_refused (Worn draws) birth n ticks full = refl
   answers_refused StepsFull birth n ticks full = (refl, full refl)
   answers_refused Memory birth n ticks full = refl
 
   pub is_refused : (ticks : List Entry) (fault : DeskFault) → Each (IsTick (by a.number conn) reading) ticks → Grows a b ticks 1 → Refuses b c
-      → (fault ≡ StepsFull → max_steps ≤ length c.seen) → ((n : ℕ) → fault ≡ Worn n → (n ≡ 2 ^ 40) × (c.draws ≡ 2 ^ 40))
+      → (fault ≡ StepsFull → MAX_STEPS ≤ length c.seen) → ((n : ℕ) → fault ≡ Worn n → (n ≡ 2 ^ 40) × (c.draws ≡ 2 ^ 40))
       → Told a.number (Err fault)
   is_refused ticks fault each g r full worn =
       let h = grown_twice a b c ticks [] 1 1 g (grown_refused b c r) in

@@ -4,7 +4,8 @@ use mathlib.Core.List.{IsPrefix}
 use Rattle.std.proofs.lemmas.Bool.{eqb-true}
 use Rattle.std.specs.List.{slice_split, onto_first}
 use Rattle.connection_laws.proofs.Prefixes.{prefix_trans}
-use Rattle.connection_laws.specs.Cuts.{is_feed, but_last, last_of, whole_lines, open_line}
+use Rattle.connection_laws.specs.Cuts.{but_last, last_of, whole_lines, open_line}
+use Rattle.gt_text.specs.Lines.{is_feed}
 
 abbrev cut : List ℕ → List (List ℕ)
 cut text = slice_split is_feed text

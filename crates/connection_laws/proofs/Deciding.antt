@@ -9,9 +9,9 @@ use Rattle.gt_base.specs.Roomy.{Roomy}
 use Rattle.turn_lock.specs.Holders.{Holder}
 use Rattle.policy_words.specs.Naming.{NamedPolicy}
 use Rattle.connection_laws.specs.Connection.{accepted, no_memory, answer_text}
-use Rattle.connection_laws.specs.declared.talk.Told.TheVariants.{Reply as ToldReply, NoMemory}
+use Rattle.connection_laws.specs.declared.talk.LineAnswer.TheVariants.{Reply as ToldReply, NoMemory}
 use Rattle.connection_laws.specs.Services.{service}
-use Rattle.connection_laws.specs.Turns.{Grows, Asked}
+use Rattle.connection_laws.specs.Turns.{Grows, AskedTurn}
 use Rattle.connection_laws.specs.Acting.{Decides}
 use Rattle.connection_laws.proofs.Growing.{grown_none}
 
@@ -29,7 +29,7 @@ module _ {M : Type 0} (np : NamedPolicy) (first : List Entry) (legal : List Entr
         worn_out = λ n same. absurd cc;
       }
 
-  pub decides_reply : (b c : Holder M) (reply : Reply) (text : Roomy ℕ) → Asked first legal now who reading actor request b c (Ok reply) → text.items ≡ answer_text np (accepted reply)
+  pub decides_reply : (b c : Holder M) (reply : Reply) (text : Roomy ℕ) → AskedTurn first legal now who reading actor request b c (Ok reply) → text.items ≡ answer_text np (accepted reply)
       → Decides (service np first legal now) who reading actor request b c (ToldReply text)
   decides_reply b c reply text r is =
       record {

@@ -8,7 +8,8 @@ use Rattle.std.proofs.lemmas.List.{take_all, take-append-le, length-take-le}
 use Rattle.gt_io.specs.declared.framer.Framed.{Framed}
 use Rattle.gt_io.specs.declared.framer.Framed.TheVariants.{More, Whole, Long}
 use Rattle.gt_io.specs.Frames.{Frame, blank_frame, begun, longer, pushed, framed, frame_of}
-use Rattle.connection_laws.specs.Cuts.{is_feed, open_line}
+use Rattle.connection_laws.specs.Cuts.{open_line}
+use Rattle.gt_text.specs.Lines.{is_feed}
 use Rattle.connection_laws.specs.Fits.{FrameFits}
 use Rattle.connection_laws.proofs.Cutting.{open_feed, open_byte}
 

@@ -1,29 +1,25 @@
 -- Acted lines, told from the first line on.
-use Rattle.std.proofs.Common.{◌≡◌, ℕ, zero, suc, ◌+◌, ◌≤◌, false, true, cond, List, [], ◌∷◌, ◌++◌, length, refl, sym, ap, subst, ◌∙◌, arith, inl, inr, add-zero, append_assoc, append-nil, length-append, Result, Ok, Err}
+use Rattle.std.proofs.Common.{◌≡◌, ℕ, zero, suc, ◌+◌, ◌≤◌, Bool, false, true, cond, List, [], ◌∷◌, ◌++◌, length, refl, sym, ap, subst, ◌∙◌, arith, inl, inr, add-zero, append_assoc, append-nil, length-append, Result, Ok, Err, if◌then◌else◌}
 use mathlib.Core.List.{IsPrefix}
 use Rattle.gt_base.specs.declared.requests.Who.{Who}
 use Rattle.gt_base.specs.declared.requests.Actor.{Actor}
 use Rattle.gt_base.specs.declared.requests.Actor.TheVariants.{Nobody}
 use Rattle.gt_base.specs.declared.requests.Request.{Request}
 use Rattle.gt_base.specs.declared.requests.Entry.{Entry}
-use Rattle.gt_base.specs.declared.requests.Step.{Step}
 use Rattle.gt_base.specs.Machines.{ticked, asked}
 use Rattle.gtrbac_model.specs.History.{now_of}
-use Rattle.std.proofs.Common.{Bool, ◌==◌, ◌&&◌, eq-eqb}
 use Rattle.turn_lock.specs.Turns.{Each}
 use Rattle.policy_words.specs.Naming.{NamedPolicy}
 use Rattle.request_text.specs.declared.lines.Line.{Line}
 use Rattle.request_text.specs.declared.lines.Line.TheVariants.{Silent, At, Be, Ask}
 use Rattle.request_text.specs.declared.lines.LineFault.{LineFault}
 use Rattle.request_text.specs.Phrases.{read_line}
-use Rattle.connection_laws.specs.Connection.{is_who, part_of, Answer, silence, agreed, bad, accepted, no_memory, no_steps, worn, Acted, IsTick, Answers, Asks, Gets, actor_by, actor_after, lines_of, readings_of, entries_of, AreActed}
+use Rattle.connection_laws.specs.Connection.{is_who, part_of, Answer, silence, agreed, bad, accepted, no_memory, no_steps, worn, Acted, IsTick, Answers, Asks, Gets, actor_by, actor_after, reply_lines, readings_of, entries_of, AreActed}
 use Rattle.connection_laws.specs.Front.{before_own, answers_of, AfterTicks, Answered, Requested, LineGets, Get}
-
-own_entry : (who : Who) (what : Step) → is_who who (record { who = who; what = what }) ≡ true
-own_entry who what = ap (λ b. b && (who.conn == who.conn)) (eq-eqb who.worker who.worker refl) ∙ eq-eqb who.conn who.conn refl
+use Rattle.connection_laws.proofs.Places.{own_entry}
 
 abbrev step_of : Who → Entry → List Entry → ℕ → Bool → List Entry
-step_of who e es n b = elim b [ true ↦ elim n [ zero ↦ [] | suc k ↦ e ∷ before_own who es k ] | false ↦ e ∷ before_own who es n ]
+step_of who e es n b = if b then elim n [ zero ↦ [] | suc k ↦ e ∷ before_own who es k ] else e ∷ before_own who es n
 
 by_test : (who : Who) (x : Entry) (xs rest : List Entry) (e : Entry) (n : ℕ) (b : Bool) → is_who who x ≡ b → is_who who e ≡ true → length (part_of who (x ∷ xs)) ≡ n
     → ((k : ℕ) → length (part_of who xs) ≡ k → before_own who (xs ++ e ∷ rest) k ≡ xs) → before_own who (x ∷ xs ++ e ∷ rest) n ≡ x ∷ xs
@@ -97,7 +93,7 @@ module _ (np : NamedPolicy) (birth : ℕ) (who : Who) (h : List Entry) where
   -- the acted lines and those behind them
   all_get : (older : ℕ) (acted : List Acted) (ls : List (List ℕ)) (as' : List Answer) (readings : List ℕ) (more : List Entry) → AreActed np birth who h older acted
       → Get np birth who h ls as' (actor_after np acted) readings (older + length (entries_of acted)) more
-      → Get np birth who h (lines_of acted ++ ls) (answers_of acted ++ as') Nobody (readings_of acted ++ readings) older (entries_of acted ++ more)
+      → Get np birth who h (reply_lines acted ++ ls) (answers_of acted ++ as') Nobody (readings_of acted ++ readings) older (entries_of acted ++ more)
   all_get older [] ls as' readings more all go_on = subst (λ (k : ℕ). Get np birth who h ls as' Nobody readings k more) (add-zero older) go_on
   all_get older (a ∷ before) ls as' readings more all go_on =
       let next : Actor → List ℕ → ℕ → List Entry → Type 0 = Get np birth who h ls as' in
@@ -108,16 +104,16 @@ module _ (np : NamedPolicy) (birth : ℕ) (who : Who) (h : List Entry) where
       subst (λ (k : ℕ). Get np birth who h ls as' (actor_after np (a ∷ before)) readings k more) (let q : older + length (entries_of before ++ a.entries) ≡ n + length a.entries = omega (arith, long) in q) go_on in
       let here = line_gets said next (actor_after np before) a readings n more all.1 behind in
       let whole = all_get older before (a.line ∷ ls) (a.answer ∷ as') (a.readings ++ readings) (a.entries ++ more) all.0 here in
-      subst (λ (x : List (List ℕ)). Get np birth who h x ((answers_of before ++ a.answer ∷ []) ++ as') Nobody ((readings_of before ++ a.readings) ++ readings) older ((entries_of before ++ a.entries) ++ more)) (sym (append_assoc (lines_of before) (a.line ∷ []) ls))
-      (subst (λ (x : List Answer). Get np birth who h (lines_of before ++ a.line ∷ ls) x Nobody ((readings_of before ++ a.readings) ++ readings) older ((entries_of before ++ a.entries) ++ more)) (sym (append_assoc (answers_of before) (a.answer ∷ []) as'))
-      (subst (λ (x : List ℕ). Get np birth who h (lines_of before ++ a.line ∷ ls) (answers_of before ++ a.answer ∷ as') Nobody x older ((entries_of before ++ a.entries) ++ more)) (sym (append_assoc (readings_of before) a.readings readings))
-      (subst (λ (x : List Entry). Get np birth who h (lines_of before ++ a.line ∷ ls) (answers_of before ++ a.answer ∷ as') Nobody (readings_of before ++ (a.readings ++ readings)) older x) (sym (append_assoc (entries_of before) a.entries more)) whole)))
+      subst (λ (x : List (List ℕ)). Get np birth who h x ((answers_of before ++ a.answer ∷ []) ++ as') Nobody ((readings_of before ++ a.readings) ++ readings) older ((entries_of before ++ a.entries) ++ more)) (sym (append_assoc (reply_lines before) (a.line ∷ []) ls))
+      (subst (λ (x : List Answer). Get np birth who h (reply_lines before ++ a.line ∷ ls) x Nobody ((readings_of before ++ a.readings) ++ readings) older ((entries_of before ++ a.entries) ++ more)) (sym (append_assoc (answers_of before) (a.answer ∷ []) as'))
+      (subst (λ (x : List ℕ). Get np birth who h (reply_lines before ++ a.line ∷ ls) (answers_of before ++ a.answer ∷ as') Nobody x older ((entries_of before ++ a.entries) ++ more)) (sym (append_assoc (readings_of before) a.readings readings))
+      (subst (λ (x : List Entry). Get np birth who h (reply_lines before ++ a.line ∷ ls) (answers_of before ++ a.answer ∷ as') Nobody (readings_of before ++ (a.readings ++ readings)) older x) (sym (append_assoc (entries_of before) a.entries more)) whole)))
 
   -- acted lines, one after the other, get what they get from the first line on
-  pub acted_get : (older : ℕ) (acted : List Acted) → AreActed np birth who h older acted → Get np birth who h (lines_of acted) (answers_of acted) Nobody (readings_of acted) older (entries_of acted)
+  pub acted_get : (older : ℕ) (acted : List Acted) → AreActed np birth who h older acted → Get np birth who h (reply_lines acted) (answers_of acted) Nobody (readings_of acted) older (entries_of acted)
   acted_get older acted all =
       let whole = all_get older acted [] [] [] [] all (refl, refl) in
-      subst (λ (x : List (List ℕ)). Get np birth who h x (answers_of acted) Nobody (readings_of acted) older (entries_of acted)) (append-nil (lines_of acted))
-      (subst (λ (x : List Answer). Get np birth who h (lines_of acted ++ []) x Nobody (readings_of acted) older (entries_of acted)) (append-nil (answers_of acted))
-      (subst (λ (x : List ℕ). Get np birth who h (lines_of acted ++ []) (answers_of acted ++ []) Nobody x older (entries_of acted)) (append-nil (readings_of acted))
-      (subst (λ (x : List Entry). Get np birth who h (lines_of acted ++ []) (answers_of acted ++ []) Nobody (readings_of acted ++ []) older x) (append-nil (entries_of acted)) whole)))
+      subst (λ (x : List (List ℕ)). Get np birth who h x (answers_of acted) Nobody (readings_of acted) older (entries_of acted)) (append-nil (reply_lines acted))
+      (subst (λ (x : List Answer). Get np birth who h (reply_lines acted ++ []) x Nobody (readings_of acted) older (entries_of acted)) (append-nil (answers_of acted))
+      (subst (λ (x : List ℕ). Get np birth who h (reply_lines acted ++ []) (answers_of acted ++ []) Nobody x older (entries_of acted)) (append-nil (readings_of acted))
+      (subst (λ (x : List Entry). Get np birth who h (reply_lines acted ++ []) (answers_of acted ++ []) Nobody (readings_of acted ++ []) older x) (append-nil (entries_of acted)) whole)))

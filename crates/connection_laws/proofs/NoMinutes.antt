@@ -1,5 +1,5 @@
 -- A line of a connection never says a minute: `@` stands in scripts alone.
-use Rattle.std.proofs.Common.{◌≡◌, ℕ, Bool, true, false, List, [], ◌∷◌, Option, Some, None, Result, Ok, Err, subst}
+use Rattle.std.proofs.Common.{◌≡◌, ℕ, true, false, List, [], ◌∷◌, Option, Some, None, Result, Ok, Err, subst, if◌then◌else◌}
 use Rattle.std.specs.Prelude.{codes, bytes_eq}
 use Rattle.gt_base.specs.declared.requests.Actor.{Actor}
 use Rattle.gt_base.specs.declared.requests.Actor.TheVariants.{Nobody}
@@ -13,7 +13,6 @@ use Rattle.request_text.specs.declared.lines.Line.TheVariants.{Silent, At, Be, A
 use Rattle.request_text.specs.declared.lines.LineFault.{LineFault}
 use Rattle.request_text.specs.declared.lines.LineFault.TheVariants.{Long}
 use Rattle.request_text.specs.declared.phrases.NamedRequest.{NamedRequest}
-use Rattle.request_text.specs.declared.phrases.Phrase.{Phrase}
 use Rattle.request_text.specs.Phrases.{actor_in, request_in, be_actor, ask_request, phrase_in, request_of, actor_of, meant, said, read_line}
 
 abbrev pub HasNoMinute : Result Line LineFault → Type 0
@@ -43,19 +42,16 @@ module _ (np : NamedPolicy) where
   of_words : (ws : List (List ℕ)) → HasNoMinute (said np Nobody (phrase_in false ws))
   of_words [] = tt
   of_words (w ∷ ws) =
-      elim (bytes_eq w (codes "as")) as (λ b. HasNoMinute (said np Nobody (elim b as (λ _. Option Phrase) [ true ↦ be_actor (actor_in ws) | false ↦ ask_request (request_in w ws) ]))) [
+      elim (bytes_eq w (codes "as")) as (λ b. HasNoMinute (said np Nobody (if b then be_actor (actor_in ws) else ask_request (request_in w ws)))) [
         | true ↦ of_be (actor_in ws)
         | false ↦ of_ask (request_in w ws)
       ]
 
   of_line : (line : List ℕ) → HasNoMinute (read_line np Nobody false line)
   of_line line =
-      elim (is_longer 512 line) as (λ b. HasNoMinute (elim b as (λ _. Result Line LineFault) [
-        | true ↦ Err Long
-        | false ↦ elim (are_silent (words_of line)) as (λ _. Result Line LineFault) [ true ↦ Ok Silent | false ↦ said np Nobody (phrase_in false (words_of line)) ]
-      ])) [
+      elim (is_longer 512 line) as (λ b. HasNoMinute (if b then Err Long else if are_silent (words_of line) then Ok Silent else said np Nobody (phrase_in false (words_of line)))) [
         | true ↦ tt
-        | false ↦ elim (are_silent (words_of line)) as (λ b. HasNoMinute (elim b as (λ _. Result Line LineFault) [ true ↦ Ok Silent | false ↦ said np Nobody (phrase_in false (words_of line)) ])) [
+        | false ↦ elim (are_silent (words_of line)) as (λ b. HasNoMinute (if b then Ok Silent else said np Nobody (phrase_in false (words_of line)))) [
           | true ↦ tt
           | false ↦ of_words (words_of line)
         ]

@@ -1,5 +1,5 @@
 -- Which entry of its connection an entry is.
-use Rattle.std.proofs.Common.{◌≡◌, ℕ, ◌+◌, ◌≤◌, Bool, true, false, cond, ◌==◌, ◌&&◌, List, [], ◌∷◌, ◌++◌, length, drop, refl, sym, ap, subst, ◌∙◌, arith, length-append, ◌≢◌, ne_eqb}
+use Rattle.std.proofs.Common.{◌≡◌, ℕ, ◌+◌, ◌≤◌, Bool, true, false, cond, ◌==◌, ◌&&◌, List, [], ◌∷◌, ◌++◌, length, drop, refl, sym, ap, subst, ◌∙◌, arith, eq-eqb, length-append, ◌≢◌, ne_eqb}
 use Rattle.std.proofs.lemmas.Bool.{eqb-true}
 use Rattle.locked_history.specs.Fronts.{by}
 use Rattle.connection_laws.specs.Turns.{AreMine}
@@ -9,8 +9,12 @@ use Rattle.std.proofs.Math.Seq.{drop-append_seam}
 use mathlib.Core.List.{IsPrefix}
 use Rattle.gt_base.specs.declared.requests.Who.{Who}
 use Rattle.gt_base.specs.declared.requests.Entry.{Entry}
+use Rattle.gt_base.specs.declared.requests.Step.{Step}
 use Rattle.turn_lock.specs.Turns.{Each, part}
 use Rattle.connection_laws.specs.Connection.{is_who, part_of, placed}
+
+pub own_entry : (who : Who) (what : Step) → is_who who (record { who = who; what = what }) ≡ true
+own_entry who what = ap (λ b. b && (who.conn == who.conn)) (eq-eqb who.worker who.worker refl) ∙ eq-eqb who.conn who.conn refl
 
 by_test : (who : Who) (e : Entry) (es : List Entry) (w : Bool) → (e.who.worker == who.worker) ≡ w → part_of who (part who.worker es) ≡ part_of who es
     → part_of who (part who.worker (e ∷ es)) ≡ part_of who (e ∷ es)

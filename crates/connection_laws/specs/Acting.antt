@@ -15,13 +15,13 @@ use Rattle.request_text.specs.Replies.{fault_word}
 use Rattle.connection_laws.specs.Connection.{Answer, silence, agreed, bad, accepted, no_memory, no_steps, worn, is_accepted, is_denied, answer_text, one_where, Acted, Asks, Gets, actor_by, IsTimed, placed}
 use Rattle.connection_laws.specs.Desks.{IsNamedActor}
 use Rattle.connection_laws.specs.declared.talk.Talk.{Talk}
-use Rattle.connection_laws.specs.declared.talk.Told.{Told}
-use Rattle.connection_laws.specs.declared.talk.Told.TheVariants.{Silence, Agreed, Bad, Reply as ToldReply, NoMemory, NoSteps, Worn as ToldWorn}
+use Rattle.connection_laws.specs.declared.talk.LineAnswer.{LineAnswer}
+use Rattle.connection_laws.specs.declared.talk.LineAnswer.TheVariants.{Silence, Agreed, Bad, Reply as ToldReply, NoMemory, NoSteps, Worn as ToldWorn}
 use Rattle.connection_laws.specs.Services.{Service}
 use Rattle.connection_laws.specs.Turns.{Grows, AreMine}
 
 -- what is told is this answer
-abbrev pub IsTold : NamedPolicy → Told → Answer → Type 0
+abbrev pub IsTold : NamedPolicy → LineAnswer → Answer → Type 0
 IsTold np Silence answer = answer ≡ silence
 IsTold np Agreed answer = answer ≡ agreed
 IsTold np (Bad f) answer = answer ≡ bad f
@@ -32,8 +32,8 @@ IsTold np NoSteps answer = answer ≡ no_steps
 IsTold np (ToldWorn draws) answer = answer ≡ worn
 
 -- the counts after an answer
-abbrev pub counted : Talk → Answer → Talk
-counted talk answer =
+abbrev pub counted_talk : Talk → Answer → Talk
+counted_talk talk answer =
     record talk {
       asked = talk.asked + one_where (is_accepted answer);
       denied = talk.denied + one_where (is_denied answer);
@@ -52,7 +52,7 @@ CountsUp talk talk' n =
     × (talk'.calls ≤ talk.calls + n)
 
 -- the bytes of what a line is told
-abbrev pub told_bytes : Told → List ℕ
+abbrev pub told_bytes : LineAnswer → List ℕ
 told_bytes Silence = []
 told_bytes Agreed = codes "ok\n"
 told_bytes (Bad f) = codes "bad " ++ fault_word f ++ codes "\n"
@@ -74,7 +74,7 @@ moment pass talk clock = record { pass = pass; talk = talk; clock = clock }
 module _ {M : Type 0} (v : Service) (who : Who) where
   -- what the desk gives to a request line
   pub record Decides (reading : ℕ) (actor : Actor) (request : Request) (before after : Holder M)
-      (told : Told) : Type 0 where
+      (told : LineAnswer) : Type 0 where
     pub answer : Answer
     pub entries : List Entry
     pub told_is : IsTold v.policy told answer
@@ -86,7 +86,7 @@ module _ {M : Type 0} (v : Service) (who : Who) where
     pub worn_out : (n : ℕ) → told ≡ ToldWorn n → (n ≡ 2 ^ 40) × (after.draws ≡ 2 ^ 40)
 
   -- what acting on a line does, but for its reply
-  pub record Acts (a b : Moment M) (line : List ℕ) (told : Told) : Type 0 where
+  pub record Acts (a b : Moment M) (line : List ℕ) (told : LineAnswer) : Type 0 where
     pub acted : Acted
     pub line_is : acted.line ≡ line
     pub told_is : IsTold v.policy told acted.answer

@@ -1,9 +1,7 @@
 -- The lines of a connection.
-use Rattle.std.specs.Prelude.{ℕ, Bool, ◌==◌, List, [], ◌∷◌}
+use Rattle.std.specs.Prelude.{ℕ, List, [], ◌∷◌}
 use Rattle.std.specs.List.{slice_split}
-
-abbrev pub is_feed : ℕ → Bool
-is_feed b = b == 10
+use Rattle.gt_text.specs.Lines.{is_feed}
 
 abbrev pub but_last : List (List ℕ) → List (List ℕ)
 but_last [] = []

@@ -17,8 +17,8 @@ abbrev pub IsNamedActor : NamedPolicy → Actor → Type 0
 IsNamedActor np actor = IsNamedWish np.policy (ask actor Now)
 
 -- what the policy names may be asked
-abbrev pub AreNamed : NamedPolicy → (Actor → Request → Type 0) → Type 0
-AreNamed np named =
+abbrev pub MayBeAsked : NamedPolicy → (Actor → Request → Type 0) → Type 0
+MayBeAsked np named =
     (actor : Actor) (request : Request) → IsNamedWish np.policy (ask actor request)
     → named actor request
 

@@ -1,20 +1,20 @@
 -- The same from the first line on: what a connection's lines get, each with how the lines after it
 -- go on.
-use Rattle.std.specs.Prelude.{◌≡◌, ◌⊎◌, ℕ, zero, suc, ◌+◌, ◌≤◌, false, true, List, [], ◌∷◌, ◌++◌, length, Result, Ok, Err}
-use Rattle.gt_base.specs.Bounds.{max_steps}
+use Rattle.std.specs.Prelude.{◌≡◌, ◌⊎◌, ℕ, zero, suc, ◌+◌, ◌≤◌, false, List, [], ◌∷◌, ◌++◌, length, Result, Ok, Err, if◌then◌else◌}
 use Rattle.gt_base.specs.declared.requests.Who.{Who}
 use Rattle.gt_base.specs.declared.requests.Actor.{Actor}
 use Rattle.gt_base.specs.declared.requests.Actor.TheVariants.{Nobody}
 use Rattle.gt_base.specs.declared.requests.Request.{Request}
 use Rattle.gt_base.specs.declared.requests.Entry.{Entry}
 use Rattle.gt_base.specs.Machines.{ticked, asked}
+use Rattle.gt_base.specs.declared.limits.TheConstants.{MAX_STEPS}
 use Rattle.gtrbac_model.specs.History.{now_of}
 use Rattle.policy_words.specs.Naming.{NamedPolicy}
 use Rattle.request_text.specs.declared.lines.Line.{Line}
 use Rattle.request_text.specs.declared.lines.Line.TheVariants.{Silent, Be, Ask}
 use Rattle.request_text.specs.declared.lines.LineFault.{LineFault}
 use Rattle.request_text.specs.Phrases.{read_line}
-use Rattle.connection_laws.specs.Connection.{is_who, Answer, silence, agreed, bad, accepted, no_memory, no_steps, worn, Acted, lines_of, readings_of, entries_of, AreActed, Conn}
+use Rattle.connection_laws.specs.Connection.{is_who, Answer, silence, agreed, bad, accepted, no_memory, no_steps, worn, Acted, reply_lines, readings_of, entries_of, AreActed, Conn}
 use mathlib.Core.List.{IsPrefix}
 use Rattle.connection_laws.specs.declared.ends.LinkEnd.{LinkEnd}
 
@@ -22,10 +22,8 @@ use Rattle.connection_laws.specs.declared.ends.LinkEnd.{LinkEnd}
 abbrev pub before_own : Who → List Entry → ℕ → List Entry
 before_own who [] n = []
 before_own who (e ∷ es) n =
-    elim (is_who who e) [
-      | true ↦ elim n [ zero ↦ [] | suc k ↦ e ∷ before_own who es k ]
-      | false ↦ e ∷ before_own who es n
-    ]
+    if is_who who e then elim n [ zero ↦ [] | suc k ↦ e ∷ before_own who es k ]
+    else e ∷ before_own who es n
 
 abbrev pub answers_of : List Acted → List Answer
 answers_of [] = []
@@ -45,7 +43,7 @@ module _ (np : NamedPolicy) (birth : ℕ) (who : Who) (h : List Entry) where
       (e ≡ asked who actor request reply) × (reading ≤ now_of birth (before_own who h n))
       × next (n + 1) es
   Answered reading actor request no_memory next n es = next n es
-  Answered reading actor request no_steps next n es = (max_steps ≤ length h) × next n es
+  Answered reading actor request no_steps next n es = (MAX_STEPS ≤ length h) × next n es
   Answered reading actor request worn next n es = next n es
   Answered reading actor request _ next n es = ⊥
 
@@ -77,7 +75,7 @@ abbrev pub IsToldFromTheFront : Type 0
 IsToldFromTheFront =
     (np : NamedPolicy) (birth : ℕ) (who : Who) (h : List Entry) (older : ℕ) (acted : List Acted)
     → AreActed np birth who h older acted
-    → Get np birth who h (lines_of acted) (answers_of acted) Nobody (readings_of acted) older
+    → Get np birth who h (reply_lines acted) (answers_of acted) Nobody (readings_of acted) older
     (entries_of acted)
 
 -- a connection over a front is one over each longer history

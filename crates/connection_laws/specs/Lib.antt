@@ -1,4 +1,5 @@
 pub mod Cuts
+pub mod Doors
 pub mod Connection
 pub mod Fits
 pub mod Desks

@@ -2,13 +2,13 @@
 use Rattle.std.specs.Prelude.{◌≡◌, ℕ, ◌+◌, ◌^◌, ◌≤◌, true, List, [], ◌∷◌, ◌++◌, length, None, IfSome, OnOk, Result, Ok, Err}
 use Rattle.std.specs.declared.option.Option.{Option}
 use mathlib.Core.List.{IsPrefix}
-use Rattle.gt_base.specs.Bounds.{max_steps}
 use Rattle.gt_base.specs.declared.requests.Who.{Who}
 use Rattle.gt_base.specs.declared.requests.Actor.{Actor}
 use Rattle.gt_base.specs.declared.requests.Request.{Request}
 use Rattle.gt_base.specs.declared.requests.Reply.{Reply}
 use Rattle.gt_base.specs.declared.requests.Entry.{Entry}
 use Rattle.gt_base.specs.Machines.{asked}
+use Rattle.gt_base.specs.declared.limits.TheConstants.{MAX_STEPS}
 use Rattle.turn_lock.specs.Turns.{Each}
 use Rattle.turn_lock.specs.Holders.{Site, Holder}
 use Rattle.locked_history.specs.Fronts.{by}
@@ -53,11 +53,11 @@ module _ {M : Type 0} where
     pub each : Each (IsTick who reading) ticks
     pub grows : Grows before after ticks 1
     pub reached : OnOk result (legal after.seen × (reading ≤ now after.seen))
-    pub full : result ≡ Err StepsFull → max_steps ≤ length after.seen
+    pub full : result ≡ Err StepsFull → MAX_STEPS ≤ length after.seen
     pub worn_out : (n : ℕ) → result ≡ Err (Worn n) → (n ≡ 2 ^ 40) × (after.draws ≡ 2 ^ 40)
 
   -- the ticks of a request line, and its ask
-  pub record Asked (first : List Entry) (legal : List Entry → Type 0) (now : List Entry → ℕ)
+  pub record AskedTurn (first : List Entry) (legal : List Entry → Type 0) (now : List Entry → ℕ)
       (who : Who) (reading : ℕ) (actor : Actor) (request : Request) (before after : Holder M)
       (result : Result Reply DeskFault) : Type 0 where
     pub entries : List Entry

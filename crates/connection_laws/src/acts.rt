@@ -5,14 +5,14 @@ ghost use Rattle.locked_history.specs.Fronts.{by};
 ghost use Rattle.policy_words.specs.Naming.{NamedPolicy};
 ghost use Rattle.request_text.specs.Replies.{fault_word};
 ghost use Rattle.connection_laws.specs.Connection.{Answer};
-ghost use Rattle.connection_laws.specs.Desks.{IsNamedActor, AreNamed, RepliesCanBeTold};
+ghost use Rattle.connection_laws.specs.Desks.{IsNamedActor, MayBeAsked, RepliesCanBeTold};
 ghost use Rattle.connection_laws.specs.Services.{service_at};
 ghost use Rattle.connection_laws.specs.Turns.{IsIdle, IsReached};
-ghost use Rattle.connection_laws.specs.Acting.{IsTold, Decides, Acts, moment, counted, CanCount, HasRoom, told_bytes};
+ghost use Rattle.connection_laws.specs.Acting.{IsTold, Decides, Acts, moment, counted_talk, CanCount, HasRoom, told_bytes};
 
 use crate::asks::ask_at;
 use crate::server::Server;
-use crate::talk::{Talk, Told};
+use crate::talk::{LineAnswer, Talk};
 use gt_base::{Actor, Instant, List, Machine, Request};
 use gt_io::{Clock, Gate};
 use locked_history::DeskFault;
@@ -20,7 +20,7 @@ use request_text::{LONGEST_REPLY, Line, LineFault, put_reply, read_line, reply_f
 use std::sync::Wait;
 use turn_lock::Pass;
 
-// The reply to a line that says nothing.
+/// The reply to a line that says nothing.
 fn fault_reply(fault: LineFault) -> &'static [u8]
     ensures { result.now ≡ codes "bad " ++ fault_word fault ++ codes "\n" }
 {
@@ -32,34 +32,34 @@ fn fault_reply(fault: LineFault) -> &'static [u8]
 }
 
 /// The bytes of what a line is told.
-pub fn reply_of(told: &Told) -> &[u8]
+pub fn reply_of(told: &LineAnswer) -> &[u8]
     ensures { result.now ≡ told_bytes told.now }
 {
     match told {
-        Told::Silence => b"",
-        Told::Agreed => b"ok\n",
-        Told::Bad(fault) => fault_reply(*fault),
-        Told::Reply(text) => text.as_slice(),
-        Told::NoMemory => b"no memory\n",
-        Told::NoSteps => b"no steps\n",
-        Told::Worn { draws: _ } => b"",
+        LineAnswer::Silence => b"",
+        LineAnswer::Agreed => b"ok\n",
+        LineAnswer::Bad(fault) => fault_reply(*fault),
+        LineAnswer::Reply(text) => text.as_slice(),
+        LineAnswer::NoMemory => b"no memory\n",
+        LineAnswer::NoSteps => b"no steps\n",
+        LineAnswer::Worn { draws: _ } => b"",
     }
 }
 
 /// Counts what a line got.
-pub fn count(talk: &mut Talk, told: &Told)
+pub fn count(talk: &mut Talk, told: &LineAnswer)
     requires { CanCount talk.old }
     ensures { (np : NamedPolicy) (answer : Answer) → IsTold np told.now answer
-        → talk.new ≡ counted talk.old answer }
+        → talk.new ≡ counted_talk talk.old answer }
 {
     match told {
-        Told::Reply(_) => talk.asked += 1,
-        Told::NoMemory | Told::NoSteps => talk.denied += 1,
+        LineAnswer::Reply(_) => talk.asked += 1,
+        LineAnswer::NoMemory | LineAnswer::NoSteps => talk.denied += 1,
         _ => {}
     }
 }
 
-// Takes room for the longest reply, brings the history to the reading, and asks.
+/// Takes room for the longest reply, brings the history to the reading, and asks.
 fn decide<M: Machine, R: Wait, G>(
     server: &Server<M, R, G>,
     pass: &mut Pass<M>,
@@ -67,7 +67,7 @@ fn decide<M: Machine, R: Wait, G>(
     actor: Actor,
     request: Request,
     reached: &mut Option<Instant>,
-) -> Told
+) -> LineAnswer
     requires idle { IsIdle (site_of server.now.desk.now) pass.old }
     requires named { M.named server.now.desk.now.root actor request }
     requires replies { RepliesCanBeTold server.now.policy.now (M.legal server.now.desk.now.root) }
@@ -81,17 +81,17 @@ fn decide<M: Machine, R: Wait, G>(
 {
     let mut text = List::new(server.alloc);
     if text.reserve(LONGEST_REPLY).is_err() {
-        return Told::NoMemory;
+        return LineAnswer::NoMemory;
     }
     match ask_at(server, pass, reading, actor, request, reached) {
         Ok(reply) => {
             reply_fits(server.policy, &reply);
             put_reply(server.policy, &reply, &mut text);
-            Told::Reply(text)
+            LineAnswer::Reply(text)
         }
-        Err(DeskFault::Memory) => Told::NoMemory,
-        Err(DeskFault::StepsFull) => Told::NoSteps,
-        Err(DeskFault::Worn { draws }) => Told::Worn { draws },
+        Err(DeskFault::Memory) => LineAnswer::NoMemory,
+        Err(DeskFault::StepsFull) => LineAnswer::NoSteps,
+        Err(DeskFault::Worn { draws }) => LineAnswer::Worn { draws },
     }
 }
 
@@ -103,9 +103,9 @@ pub fn act<M: Machine, R: Wait, C: Clock, G: Gate>(
     clock: &mut C,
     talk: &mut Talk,
     line: &[u8],
-) -> Told
+) -> LineAnswer
     requires idle { IsIdle (site_of server.now.desk.now) pass.old }
-    requires named { AreNamed server.now.policy.now (M.named server.now.desk.now.root) }
+    requires named { MayBeAsked server.now.policy.now (M.named server.now.desk.now.root) }
     requires replies { RepliesCanBeTold server.now.policy.now (M.legal server.now.desk.now.root) }
     requires actor { IsNamedActor server.now.policy.now talk.old.actor }
     requires room { HasRoom talk.old 1 }
@@ -134,10 +134,10 @@ pub fn act<M: Machine, R: Wait, C: Clock, G: Gate>(
         }
         Ok(Line::Be(actor)) => {
             talk.actor = actor;
-            Told::Agreed
+            LineAnswer::Agreed
         }
-        Ok(Line::Silent) => Told::Silence,
+        Ok(Line::Silent) => LineAnswer::Silence,
         Ok(Line::At(_)) => unreachable!(),
-        Err(fault) => Told::Bad(fault),
+        Err(fault) => LineAnswer::Bad(fault),
     }
 }

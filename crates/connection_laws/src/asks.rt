@@ -2,7 +2,7 @@
 ghost use Rattle.std.specs.Prelude.{◌≡◌};
 ghost use Rattle.turn_lock.specs.Holders.{site_of};
 ghost use Rattle.locked_history.specs.Fronts.{by};
-ghost use Rattle.connection_laws.specs.Turns.{IsIdle, IsReached, Reaches, Asked as AskedBy};
+ghost use Rattle.connection_laws.specs.Turns.{IsIdle, IsReached, Reaches, AskedTurn};
 
 use crate::server::Server;
 use gt_base::{Actor, Instant, Machine, Reply, Request};
@@ -58,7 +58,7 @@ pub(crate) fn ask_at<M: Machine, R: Wait, G>(
         (M.now_of server.now.desk.now.root) pass.old.seen reached.old }
     ensures reached { IsReached (M.legal server.now.desk.now.root)
         (M.now_of server.now.desk.now.root) pass.new.seen reached.new }
-    ensures asked { AskedBy (M.list server.now.desk.now.root) (M.legal server.now.desk.now.root)
+    ensures asked { AskedTurn (M.list server.now.desk.now.root) (M.legal server.now.desk.now.root)
         (M.now_of server.now.desk.now.root) (by pass.old.number server.now.conn) reading actor
         request pass.old pass.new result }
 {

@@ -13,4 +13,4 @@ pub use acts::{act, count, reply_of};
 pub use ends::{LinkEnd, Report};
 pub use laws::connections_are_told;
 pub use server::Server;
-pub use talk::{Talk, Told};
+pub use talk::{LineAnswer, Talk};

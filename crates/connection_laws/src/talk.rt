@@ -16,7 +16,7 @@ pub struct Talk {
 
 /// What a line is told.
 #[derive(Drop)]
-pub enum Told {
+pub enum LineAnswer {
     Silence,
     Agreed,
     Bad(LineFault),

@@ -1,10 +1,9 @@
 -- An answered request keeps what holds between the parts of a book.
-use Rattle.std.proofs.Common.{◌≡◌, ℕ, ◌+◌, ◌<◌, ◌≤◌, Bool, true, false, cond, ◌||◌, nat_lt, List, [], ◌∷◌, ◌++◌, length, Option, Some, None, refl, sym, ◌∙◌, ap, subst, arith}
+use Rattle.std.proofs.Common.{◌≡◌, ℕ, ◌+◌, ◌<◌, ◌≤◌, Bool, true, false, cond, ◌||◌, nat_lt, List, [], ◌∷◌, ◌++◌, length, Option, Some, None, refl, sym, ◌∙◌, ap, subst, arith, if◌then◌else◌}
 use Rattle.std.specs.List.{list_any}
 use Rattle.std.specs.Ordering.{eq_by_cmp}
 use Rattle.std.proofs.lemmas.Bool.{lt-ltb, ltb-false}
 use Rattle.std.proofs.lemmas.List.Folds.{list_any-append}
-use Rattle.gt_base.specs.Bounds.{last_minute, max_steps}
 use Rattle.gt_base.specs.Happening.{nothing}
 use Rattle.gt_base.specs.Machines.{asked}
 use Rattle.gt_base.specs.Orders.{signal_cmp}
@@ -27,6 +26,7 @@ use Rattle.gt_base.specs.declared.requests.Entry.{Entry}
 use Rattle.gt_base.specs.Held.{RoleWalk}
 use Rattle.gt_base.proofs.SetLaws.{has-with_member}
 use Rattle.gt_base.proofs.SetSteps.{signal_cmp_total}
+use Rattle.gt_base.specs.declared.limits.TheConstants.{LAST_MINUTE, MAX_STEPS}
 use Rattle.gtrbac_model.specs.Policy.{Policy}
 use Rattle.gtrbac_model.specs.Base.{status, table_at, queued_at, requested}
 use Rattle.gtrbac_model.specs.Conflict.{Status}
@@ -54,7 +54,7 @@ use Rattle.core_machine.proofs.Closes.{follows_signals}
 
 -- somebody is not refused as nobody
 pub passes : (actor : Actor) (reply : Reply) → is_nobody actor ≡ false → unless (actor_causes actor) reply ≡ reply
-passes actor reply e = λ i. elim (e i) [ true ↦ Refused NoUser | false ↦ reply ]
+passes actor reply e = λ i. if e i then Refused NoUser else reply
 
 pub refused_still : (actor : Actor) (request : Request) (why : Refusal) → IsStill actor request (Refused why)
 refused_still actor request why = record { queues = λ t. refused_raises t request why; leaves = λ now tb. refused_leaves now actor request why tb }
@@ -79,12 +79,12 @@ or_swap true false c = refl
 or_swap false true c = refl
 or_swap false false c = refl
 
-pub signals_told : (v : TimelineView) (xs : List Signal) → v.now < last_minute → (x : Signal) → has (with_signals v xs).signals x ≡ (has v.signals x || list_any (eq_by_cmp signal_cmp x) xs)
+pub signals_told : (v : TimelineView) (xs : List Signal) → v.now < LAST_MINUTE → (x : Signal) → has (with_signals v xs).signals x ≡ (has v.signals x || list_any (eq_by_cmp signal_cmp x) xs)
 signals_told v [] lt x = or_false (has v.signals x)
 signals_told v (y ∷ ys) lt x =
     let rest : Bool = list_any (eq_by_cmp signal_cmp x) ys in
     signals_told (with_signal v y) ys lt x
-    ∙ ap (λ b. has (cond b (with_member v.signals y) v.signals) x || rest) (lt-ltb v.now last_minute lt)
+    ∙ ap (λ b. has (cond b (with_member v.signals y) v.signals) x || rest) (lt-ltb v.now LAST_MINUTE lt)
     ∙ ap (λ b. b || rest) (has-with_member signal_cmp_total v.signals y x)
     ∙ or_swap (eq_by_cmp signal_cmp x y) (has v.signals x) rest
 
@@ -123,10 +123,10 @@ module _ (p : Policy) (birth : ℕ) (h : List Entry) (v : TimelineView) (tb : Ta
   pub status_now : has v.status ≡ status p birth m (now_of birth h)
   status_now = λ i f. (k.follows.status f ∙ ap (λ t. status p birth m t f) k.follows.now) i
 
-  set_now : model_of v.trace v.now ≡ elim (nat_lt birth (now_of birth h)) [ true ↦ m (now_of birth h) | false ↦ nothing ]
+  set_now : model_of v.trace v.now ≡ (if nat_lt birth (now_of birth h) then m (now_of birth h) else nothing)
   set_now = ap m k.follows.now ∙ by (nat_lt birth (now_of birth h)) refl
     where
-      by : (b : Bool) → nat_lt birth (now_of birth h) ≡ b → m (now_of birth h) ≡ elim b [ true ↦ m (now_of birth h) | false ↦ nothing ]
+      by : (b : Bool) → nat_lt birth (now_of birth h) ≡ b → m (now_of birth h) ≡ (if b then m (now_of birth h) else nothing)
       by true e = refl
       by false e = none_at_birth v.birth v.trace (now_of birth h) (omega (arith, k.follows.born, ltb-false birth (now_of birth h) e)) line.ascends
 
@@ -143,7 +143,7 @@ module _ (p : Policy) (birth : ℕ) (h : List Entry) (v : TimelineView) (tb : Ta
   answered actor request reply somebody answers =
       replied actor request reply (passes actor (answer p (point_of v tb) actor request) somebody ∙ answers)
 
-  module _ (who : Who) (actor : Actor) (request : Request) (reply : Reply) (named : IsNamedWish p (ask actor request)) (room : length h < max_steps)
+  module _ (who : Who) (actor : Actor) (request : Request) (reply : Reply) (named : IsNamedWish p (ask actor request)) (room : length h < MAX_STEPS)
       (is : reply ≡ reply_of p (point_after p birth m h) actor request) where
     abbrev e : Entry
     e = asked who actor request reply
@@ -163,7 +163,7 @@ module _ (p : Policy) (birth : ℕ) (h : List Entry) (v : TimelineView) (tb : Ta
 
     kept_asked : (q : Pendings) (sg : Signals) (tb' : Table) (told : List Signal) → Follows p birth (h ++ e ∷ []) m (record v { pending = q; signals = sg })
         → record tb' { signals = told } ≡ applied v.now actor request reply (record tb { signals = k.waiting })
-        → (v.now < last_minute → (x : Signal) → list_any (eq_by_cmp signal_cmp x) told ≡ has sg x) → tb'.begun ≤ length h + 1
+        → (v.now < LAST_MINUTE → (x : Signal) → list_any (eq_by_cmp signal_cmp x) told ≡ has sg x) → tb'.begun ≤ length h + 1
         → Kept p birth (h ++ e ∷ []) (record v { pending = q; signals = sg }) tb' charged
     kept_asked q sg tb' told follows table waits few = record {
       is_policy = k.is_policy;
@@ -206,7 +206,7 @@ module _ (p : Policy) (birth : ℕ) (h : List Entry) (v : TimelineView) (tb : Ta
     }
 
   -- where it queues an event
-  pub kept_raised : (who : Who) (actor : Actor) (head : Prioritised) (delay due : ℕ) → IsNamedWish p (ask actor (Raise head delay)) → length h < max_steps
+  pub kept_raised : (who : Who) (actor : Actor) (head : Prioritised) (delay due : ℕ) → IsNamedWish p (ask actor (Raise head delay)) → length h < MAX_STEPS
       → Queued due ≡ reply_of p (point_after p birth m h) actor (Raise head delay)
       → Kept p birth (h ++ asked who actor (Raise head delay) (Queued due) ∷ []) (with_pending v due head) tb charged
   kept_raised who actor head delay due named room is =
@@ -223,7 +223,7 @@ activate_begins now actor n r w tb = by (owner_of tb n) refl
 
 -- and nobody is
 pub nobody : (actor : Actor) (reply : Reply) → is_nobody actor ≡ true → unless (actor_causes actor) reply ≡ Refused NoUser
-nobody actor reply e = λ i. elim (e i) [ true ↦ Refused NoUser | false ↦ reply ]
+nobody actor reply e = λ i. if e i then Refused NoUser else reply
 
 -- the table is the history's at now, but for the signals that wait
 pub table_is : (p : Policy) (birth : ℕ) (h : List Entry) (v : TimelineView) (tb : Table) (charged : Option ℕ) (k : Kept p birth h v tb charged)
@@ -234,7 +234,7 @@ table_is p birth h v tb charged k =
 
 -- the signals of the table at now are those that wait in the timeline
 pub waiting_is : (p : Policy) (birth : ℕ) (h : List Entry) (v : TimelineView) (tb : Table) (charged : Option ℕ) (k : Kept p birth h v tb charged)
-    → now_of birth h < last_minute → (x : Signal) → list_any (eq_by_cmp signal_cmp x) (table_at p birth (model_of v.trace) h (now_of birth h)).signals ≡ has v.signals x
+    → now_of birth h < LAST_MINUTE → (x : Signal) → list_any (eq_by_cmp signal_cmp x) (table_at p birth (model_of v.trace) h (now_of birth h)).signals ≡ has v.signals x
 waiting_is p birth h v tb charged k lt x =
     ap (λ (t : Table). list_any (eq_by_cmp signal_cmp x) t.signals) (sym (k.table ∙ ap (table_at p birth (model_of v.trace) h) k.follows.now))
     ∙ k.signals (omega (arith, lt, k.follows.now)) x

@@ -2,7 +2,6 @@
 use Rattle.std.proofs.Common.{◌≡◌, ℕ, suc, ◌+◌, ◌-◌, ◌<◌, ◌≤◌, Bool, true, false, not, ◌||◌, List, [], ◌∷◌, ◌++◌, length, Some, is_some, is_none, inl, inr, refl, sym, ◌∙◌, ap, subst, arith}
 use Rattle.std.specs.List.{list_any}
 use Rattle.std.specs.Ordering.{eq_by_cmp}
-use Rattle.gt_base.specs.Bounds.{last_minute}
 use Rattle.gt_base.specs.Machines.{ticked}
 use Rattle.gt_base.specs.Orders.{signal_cmp}
 use Rattle.gt_base.specs.Sets.{has}
@@ -10,6 +9,7 @@ use Rattle.gt_base.specs.declared.events.Fluent.TheVariants.{Enabled}
 use Rattle.gt_base.specs.declared.events.Signal.{Signal}
 use Rattle.gt_base.specs.declared.requests.Who.{Who}
 use Rattle.gt_base.specs.declared.requests.Entry.{Entry}
+use Rattle.gt_base.specs.declared.limits.TheConstants.{LAST_MINUTE}
 use Rattle.gtrbac_model.specs.Policy.{Policy}
 use Rattle.gtrbac_model.specs.Base.{status, drops_at, table_at}
 use Rattle.gtrbac_model.specs.Calendar.{day_of}
@@ -60,7 +60,7 @@ pub follows_signals : (p : Policy) (birth : ℕ) (h : List Entry) (m : Model) (v
 follows_signals p birth h m v sg f = record { stands = f.stands; born = f.born; now = f.now; status = f.status; since = f.since; sets = f.sets; pending = f.pending }
 
 module _ (p : Policy) (is : IsPolicy p) (birth : ℕ) (h : List Entry) (v : TimelineView) (tb : Table) (k : Abreast p birth h v tb)
-    (who : Who) (upto : ℕ) (within : upto ≤ last_minute) (plan : PlanView) (plans : IsPlan p v plan) (stop : IsNextStop (moves p v tb) v.now upto plan.at) where
+    (who : Who) (upto : ℕ) (within : upto ≤ LAST_MINUTE) (plan : PlanView) (plans : IsPlan p v plan) (stop : IsNextStop (moves p v tb) v.now upto plan.at) where
   abbrev m : Model
   m = model_of v.trace
 
@@ -157,7 +157,7 @@ module _ (p : Policy) (is : IsPolicy p) (birth : ℕ) (h : List Entry) (v : Time
     ];
   }
 
-  in_time : plan.at ≤ last_minute
+  in_time : plan.at ≤ LAST_MINUTE
   in_time = omega (arith, stop.bounded, within)
 
   signals : SignalsFollow p birth n h v plan.at
@@ -195,7 +195,7 @@ module _ (p : Policy) (is : IsPolicy p) (birth : ℕ) (h : List Entry) (v : Time
     line_w = after_kept v w plan k.line (plan_fits p v plan plan.at refl k.line plans stop.later (λ t a b. (both_false (stirs_in p v t) (is_any_capped p.caps v.now tb t) (stop.none_before t a b)).0)) after
 
     module _ (sg : Signals) (tb' : Table) (told : List Signal) (closed : record tb' { signals = told } ≡ closed_at p.edges p.caps (has plan.status) v.now plan.at tb)
-        (waits : plan.at < last_minute → (x : Signal) → list_any (eq_by_cmp signal_cmp x) told ≡ has sg x) where
+        (waits : plan.at < LAST_MINUTE → (x : Signal) → list_any (eq_by_cmp signal_cmp x) told ≡ has sg x) where
       -- timeline and table after the close, whose signals the timeline gets
       pub abreast_after : Abreast p birth (h ++ e ∷ []) (record w { signals = sg }) tb'
       abreast_after = record {

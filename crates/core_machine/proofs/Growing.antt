@@ -1,5 +1,5 @@
 -- Traces, tables and histories that grow.
-use Rattle.std.proofs.Common.{◌≡◌, ℕ, ◌+◌, ◌-◌, ◌<◌, ◌≤◌, Bool, true, false, ◌||◌, nat_eq, nat_le, nat_lt, List, [], ◌∷◌, ◌++◌, length, Option, Some, None, is_some, is_none, filter, cond, ◌⊎◌, inl, inr, refl, sym, ◌∙◌, ap, subst, arith, length-append, IsTrue}
+use Rattle.std.proofs.Common.{◌≡◌, ℕ, ◌+◌, ◌-◌, ◌<◌, ◌≤◌, Bool, true, false, ◌||◌, nat_eq, nat_le, nat_lt, List, [], ◌∷◌, ◌++◌, length, Option, Some, None, is_some, is_none, filter, cond, ◌⊎◌, inl, inr, refl, sym, ◌∙◌, ap, subst, arith, length-append, IsTrue, if◌then◌else◌}
 use Rattle.std.specs.List.{list_any}
 use Rattle.std.specs.Ordering.{eq_by_cmp}
 use Rattle.std.proofs.lemmas.Bool.{leb-true, leb-false, eqb-true, eqb-false, ltb-true, ltb-false}
@@ -15,10 +15,11 @@ use Rattle.gtrbac_model.proofs.Elements.{split}
 use Rattle.gtrbac_model.proofs.OneModel.{Agree, base_same}
 use Rattle.history_laws.specs.Ticking.{with_set}
 use Rattle.instant_bases.specs.Timelines.{ClosedSet}
-use Rattle.time_engine.specs.Traces.{model_of, is_something, traced, Ascends, EndsBy}
+use Rattle.time_engine.specs.Traces.{model_of, is_something, traced, Ascends, AreClosedBy}
 use Rattle.time_engine.proofs.HistoryLaws.{more_before, more_at, more_between, nothing_there}
 use Rattle.time_engine.proofs.TraceLaws.{model_past, model_before, model_there}
-use Rattle.core_machine.specs.Books.{AreNamed, HasBases, IsNamedStep}
+use Rattle.core_machine.specs.Books.{HasBases}
+use Rattle.history_laws.specs.Named.{AreNamed, IsNamedStep}
 
 pub clash : {A : Type 0} (b : Bool) → b ≡ true → b ≡ false → A
 clash b p q = let e : true ≡ false = sym p ∙ q in cc
@@ -63,7 +64,7 @@ bases_traced p birth m h at base set is = by (is_something set)
 
 -- the bases of the sets so far are those of a history with one entry more, under a model that agrees up to now
 pub bases_stay : (p : Policy) (birth : ℕ) (m n : Model) (h : List Entry) (e : Entry) (now : ℕ) → now ≡ now_of birth h → Agree p birth m n now
-    → ((t : ℕ) → t ≤ now → requested (e ∷ []) t ≡ []) → (low : ℕ) (cs : List ClosedSet) → birth ≤ low → Ascends low cs → EndsBy now cs → HasBases p birth m h cs → HasBases p birth n (h ++ e ∷ []) cs
+    → ((t : ℕ) → t ≤ now → requested (e ∷ []) t ≡ []) → (low : ℕ) (cs : List ClosedSet) → birth ≤ low → Ascends low cs → AreClosedBy now cs → HasBases p birth m h cs → HasBases p birth n (h ++ e ∷ []) cs
 bases_stay p birth m n h e now is same unasked low [] le rises ends bases = tt
 bases_stay p birth m n h e now is same unasked low (c ∷ cs) le rises ends bases = (
   bases.0 ∙ base_same p birth m n c.at h (λ u a b. same u a (omega (arith, b, ends.0)))
@@ -76,10 +77,10 @@ pub none_at_birth : (low : ℕ) (cs : List ClosedSet) (t : ℕ) → t ≤ low �
 none_at_birth low [] t le rises = refl
 none_at_birth low (c ∷ cs) t le rises =
     let apart : nat_eq c.at t ≡ false = split (nat_eq c.at t) (λ y. absurd (omega (arith, le, rises.0, eqb-true c.at t y))) (λ n. n) in
-    ap (λ b. elim b [ true ↦ c.set | false ↦ model_of cs t ]) apart ∙ none_at_birth c.at cs t (omega (arith, le, rises.0)) rises.1
+    ap (λ b. if b then c.set else model_of cs t) apart ∙ none_at_birth c.at cs t (omega (arith, le, rises.0)) rises.1
 
 -- the trace after a close stands for the model with one set more
-pub model_grows : (cs : List ClosedSet) (now to : ℕ) (base x : HappenedView) → now < to → EndsBy now cs → with_set (model_of cs) now to x ≡ model_of (cs ++ traced to base x)
+pub model_grows : (cs : List ClosedSet) (now to : ℕ) (base x : HappenedView) → now < to → AreClosedBy now cs → with_set (model_of cs) now to x ≡ model_of (cs ++ traced to base x)
 model_grows cs now to base x lt ends = λ i t. at t i
   where
     d : ClosedSet
@@ -99,11 +100,11 @@ model_grows cs now to base x lt ends = λ i t. at t i
     after : (t : ℕ) → to < t → (b : Bool) → model_of (cs ++ when b d) t ≡ nothing
     after t late true = past cs t ends (omega (arith, late, lt)) late
       where
-        past : (cs : List ClosedSet) (t : ℕ) → EndsBy now cs → now < t → to < t → model_of (cs ++ d ∷ []) t ≡ nothing
-        past [] t ends a b = let apart : nat_eq to t ≡ false = split (nat_eq to t) (λ y. absurd (omega (arith, b, eqb-true to t y))) (λ n. n) in ap (λ b. elim b [ true ↦ x | false ↦ nothing ]) apart
+        past : (cs : List ClosedSet) (t : ℕ) → AreClosedBy now cs → now < t → to < t → model_of (cs ++ d ∷ []) t ≡ nothing
+        past [] t ends a b = let apart : nat_eq to t ≡ false = split (nat_eq to t) (λ y. absurd (omega (arith, b, eqb-true to t y))) (λ n. n) in ap (λ b. if b then x else nothing) apart
         past (c ∷ cs) t ends a b =
             let apart : nat_eq c.at t ≡ false = split (nat_eq c.at t) (λ y. absurd (omega (arith, a, ends.0, eqb-true c.at t y))) (λ n. n) in
-            ap (λ b. elim b [ true ↦ c.set | false ↦ model_of (cs ++ d ∷ []) t ]) apart ∙ past cs t ends.1 a b
+            ap (λ b. if b then c.set else model_of (cs ++ d ∷ []) t) apart ∙ past cs t ends.1 a b
     after t late false = ap (λ ds. model_of ds t) (append-nil cs) ∙ model_past cs now t ends (omega (arith, late, lt))
 
     at : (t : ℕ) → with_set (model_of cs) now to x t ≡ model_of (cs ++ traced to base x) t
@@ -117,8 +118,8 @@ model_grows cs now to base x lt ends = λ i t. at t i
         (λ s. let high : to ≤ t = ltb-false t to s in
         split (nat_eq t to)
         (λ r. let is : t ≡ to = eqb-true t to r in ap (with_set (model_of cs) now to x) is ∙ more_at (model_of cs) now to x lt ∙ sym (there (is_something x) refl) ∙ ap (model_of (cs ++ traced to base x)) (sym is))
-        (λ r. ap (λ b. elim b [ true ↦ model_of cs t | false ↦ elim (nat_eq t to) [ true ↦ x | false ↦ nothing ] ]) q
-        ∙ ap (λ b. elim b [ true ↦ x | false ↦ nothing ]) r
+        (λ r. ap (λ b. if b then model_of cs t else if nat_eq t to then x else nothing) q
+        ∙ ap (λ b. if b then x else nothing) r
         ∙ sym (after t (past_to t high (eqb-false t to r)) (is_something x)))))
       where
         past_to : (t : ℕ) → to ≤ t → (t ≡ to → ⊥) → to < t

@@ -1,9 +1,8 @@
 -- The answers to a request for an event, and to those that end activations.
-use Rattle.std.proofs.Common.{◌≡◌, ℕ, ◌+◌, ◌<◌, ◌≤◌, Bool, true, false, not, nat_lt, List, [], ◌++◌, length, map, filter, count_by, refl, sym, ◌∙◌, ap}
+use Rattle.std.proofs.Common.{◌≡◌, ℕ, ◌+◌, ◌<◌, ◌≤◌, Bool, true, false, not, nat_lt, List, [], ◌++◌, length, map, filter, count_by, refl, sym, ◌∙◌, ap, if◌then◌else◌}
 use Rattle.std.proofs.lemmas.Bool.{le-ltb, lt-ltb}
 use Rattle.std.proofs.lemmas.List.{length-map}
 use Rattle.std.proofs.lemmas.List.Sums.{length-filter}
-use Rattle.gt_base.specs.Bounds.{last_minute}
 use Rattle.gt_base.specs.Happening.{Fluents}
 use Rattle.gt_base.specs.Sets.{has}
 use Rattle.gt_base.specs.declared.policies.Caps.{Caps}
@@ -19,6 +18,7 @@ use Rattle.gt_base.specs.declared.requests.Request.TheVariants.{Raise, OpenSessi
 use Rattle.gt_base.specs.declared.requests.Refusal.TheVariants.{NoUser, NotAdmin, Beyond}
 use Rattle.gt_base.specs.declared.requests.Reply.{Reply}
 use Rattle.gt_base.specs.declared.requests.Reply.TheVariants.{Queued, Refused, Done}
+use Rattle.gt_base.specs.declared.limits.TheConstants.{LAST_MINUTE}
 use Rattle.gtrbac_model.specs.Policy.{Policy}
 use Rattle.gtrbac_model.specs.Reply.{Point, answer, is_admin}
 use Rattle.gtrbac_model.specs.Sessions.{Table, applied, signal_of}
@@ -31,18 +31,18 @@ use Rattle.core_machine.specs.Kept.{point_of}
 module _ (p : Policy) (pt : Point) (actor : Actor) (head : Prioritised) (delay : ℕ) where
   pub raise_unentitled : is_admin p actor ≡ false → answer p pt actor (Raise head delay) ≡ Refused NotAdmin
   raise_unentitled e =
-      λ i. elim (not (e i)) [ true ↦ Refused NotAdmin | false ↦ elim (nat_lt last_minute (pt.now + 1 + delay)) [ true ↦ Refused (Beyond (pt.now + 1 + delay)) | false ↦ Queued (pt.now + 1 + delay) ] ]
+      λ i. if not (e i) then Refused NotAdmin else if nat_lt LAST_MINUTE (pt.now + 1 + delay) then Refused (Beyond (pt.now + 1 + delay)) else Queued (pt.now + 1 + delay)
 
   abbrev by_due : Bool → Bool → ℕ → Reply
-  by_due admin late due = elim (not admin) [ true ↦ Refused NotAdmin | false ↦ elim late [ true ↦ Refused (Beyond due) | false ↦ Queued due ] ]
+  by_due admin late due = if not admin then Refused NotAdmin else if late then Refused (Beyond due) else Queued due
 
-  pub raise_in_time : (due : ℕ) → is_admin p actor ≡ true → due ≡ pt.now + 1 + delay → pt.now + 1 + delay ≤ last_minute → answer p pt actor (Raise head delay) ≡ Queued due
+  pub raise_in_time : (due : ℕ) → is_admin p actor ≡ true → due ≡ pt.now + 1 + delay → pt.now + 1 + delay ≤ LAST_MINUTE → answer p pt actor (Raise head delay) ≡ Queued due
   raise_in_time due e is le =
-      (λ i. by_due (e i) (le-ltb last_minute (pt.now + 1 + delay) le i) (pt.now + 1 + delay)) ∙ ap (λ (t : ℕ). Queued t) (sym is)
+      (λ i. by_due (e i) (le-ltb LAST_MINUTE (pt.now + 1 + delay) le i) (pt.now + 1 + delay)) ∙ ap (λ (t : ℕ). Queued t) (sym is)
 
-  pub raise_beyond : (due : ℕ) → is_admin p actor ≡ true → due ≡ pt.now + 1 + delay → last_minute < pt.now + 1 + delay → answer p pt actor (Raise head delay) ≡ Refused (Beyond due)
+  pub raise_beyond : (due : ℕ) → is_admin p actor ≡ true → due ≡ pt.now + 1 + delay → LAST_MINUTE < pt.now + 1 + delay → answer p pt actor (Raise head delay) ≡ Refused (Beyond due)
   raise_beyond due e is lt =
-      (λ i. by_due (e i) (lt-ltb last_minute (pt.now + 1 + delay) lt i) (pt.now + 1 + delay)) ∙ ap (λ (t : ℕ). Refused (Beyond t)) (sym is)
+      (λ i. by_due (e i) (lt-ltb LAST_MINUTE (pt.now + 1 + delay) lt i) (pt.now + 1 + delay)) ∙ ap (λ (t : ℕ). Refused (Beyond t)) (sym is)
 
 -- a close ends so many activations
 pub close_ends : (now : ℕ) (actor : Actor) (n : SessionId) (tb tb' : Table) (xs : List Signal) → applied now actor (CloseSession n) Done (record tb { signals = [] }) ≡ record tb' { signals = xs }

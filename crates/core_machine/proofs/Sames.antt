@@ -8,7 +8,7 @@ use Rattle.gt_base.specs.declared.requests.Who.{Who}
 use Rattle.gt_base.specs.declared.requests.Actor.{Actor}
 use Rattle.gt_base.specs.declared.requests.Request.{Request}
 use Rattle.gt_base.specs.declared.requests.Reply.{Reply}
-use Rattle.gt_base.specs.Bounds.{max_steps}
+use Rattle.gt_base.specs.declared.limits.TheConstants.{MAX_STEPS}
 use Rattle.gtrbac_model.specs.History.{IsNamedWish, ask}
 use Rattle.gtrbac_model.specs.Reply.{reply_of}
 use Rattle.gtrbac_model.specs.Sessions.{Table}
@@ -34,7 +34,7 @@ same_view s t same = λ i. record { named = same.ground i; birth = same.birth i;
 pub same_ready : (s t : State) (actor : Actor) (request : Request) → Same s t → IsReady s actor request → IsReady t actor request
 same_ready s t actor request same r = record {
   kept = same_kept s t same r.kept;
-  room = subst (λ h. length h < max_steps) (sym same.entries) r.room;
+  room = subst (λ h. length h < MAX_STEPS) (sym same.entries) r.room;
   named = subst (λ g. IsNamedWish g.policy (ask actor request)) (sym same.ground) r.named;
 }
 

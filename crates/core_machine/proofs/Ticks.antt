@@ -2,13 +2,13 @@
 use Rattle.std.proofs.Common.{◌≡◌, ℕ, ◌+◌, ◌-◌, ◌<◌, ◌≤◌, not, List, [], ◌∷◌, ◌++◌, length, Option, Some, refl, sym, ◌∙◌, ap, subst, arith}
 use Rattle.std.specs.List.{list_any}
 use Rattle.std.specs.Ordering.{eq_by_cmp}
-use Rattle.gt_base.specs.Bounds.{last_minute, max_steps}
 use Rattle.gt_base.specs.Machines.{ticked}
 use Rattle.gt_base.specs.Orders.{signal_cmp}
 use Rattle.gt_base.specs.Sets.{has}
 use Rattle.gt_base.specs.declared.events.Signal.{Signal}
 use Rattle.gt_base.specs.declared.requests.Who.{Who}
 use Rattle.gt_base.specs.declared.requests.Entry.{Entry}
+use Rattle.gt_base.specs.declared.limits.TheConstants.{LAST_MINUTE, MAX_STEPS}
 use Rattle.gtrbac_model.specs.Policy.{Policy}
 use Rattle.gtrbac_model.specs.Base.{status, base_at}
 use Rattle.gtrbac_model.specs.History.{Legal, IsNextStop, stirs, now_of}
@@ -31,7 +31,7 @@ use Rattle.core_machine.proofs.Closes.{agree, closes, model_is, abreast_after}
 use Rattle.core_machine.proofs.Growing.{named_more, one_more, bases_more, bases_traced, bases_stay}
 
 module _ (p : Policy) (birth : ℕ) (h : List Entry) (v : TimelineView) (tb : Table) (charged : Option ℕ) (k : Kept p birth h v tb charged) (line : IsTimeline v)
-    (who : Who) (upto : ℕ) (within : upto ≤ last_minute) (plan : PlanView) (plans : IsPlan p v plan) (stop : IsNextStop (moves p v tb) v.now upto plan.at) where
+    (who : Who) (upto : ℕ) (within : upto ≤ LAST_MINUTE) (plan : PlanView) (plans : IsPlan p v plan) (stop : IsNextStop (moves p v tb) v.now upto plan.at) where
   abbrev m : Model
   m = model_of v.trace
 
@@ -67,7 +67,7 @@ module _ (p : Policy) (birth : ℕ) (h : List Entry) (v : TimelineView) (tb : Ta
         (bases_traced p birth n (h ++ e ∷ []) plan.at plan.base plan.set base_is))
 
     module _ (sg : Signals) (tb' : Table) (told : List Signal) (closed : record tb' { signals = told } ≡ closed_at p.edges p.caps (has plan.status) v.now plan.at tb)
-        (waits : plan.at < last_minute → (x : Signal) → list_any (eq_by_cmp signal_cmp x) told ≡ has sg x) (room : length h < max_steps) where
+        (waits : plan.at < LAST_MINUTE → (x : Signal) → list_any (eq_by_cmp signal_cmp x) told ≡ has sg x) (room : length h < MAX_STEPS) where
       pub kept_tick : Kept p birth (h ++ e ∷ []) (record w { signals = sg }) tb' (Some plan.at)
       kept_tick =
           let a : Abreast p birth (h ++ e ∷ []) (record w { signals = sg }) tb' = abreast_after p k.is_policy birth h v tb abreast who upto within plan plans stop w after sg tb' told closed waits in

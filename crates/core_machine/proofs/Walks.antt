@@ -1,5 +1,5 @@
 -- A least walk has no more edges than there are.
-use Rattle.std.proofs.Common.{◌≡◌, ℕ, zero, suc, ◌+◌, ◌<◌, ◌≤◌, Bool, true, false, not, ◌&&◌, List, [], ◌∷◌, ◌++◌, length, map, filter, flat_map, Option, Some, None, count_by, refl, sym, ◌∙◌, ap, subst, arith}
+use Rattle.std.proofs.Common.{◌≡◌, ℕ, zero, suc, ◌+◌, ◌<◌, ◌≤◌, Bool, true, false, not, ◌&&◌, List, [], ◌∷◌, ◌++◌, length, map, filter, flat_map, Option, Some, None, count_by, refl, sym, ◌∙◌, ap, subst, arith, if◌then◌else◌}
 use Rattle.std.proofs.lemmas.List.{length-map}
 use Rattle.std.specs.List.{enumerate_from, list_any}
 use Rattle.gt_base.specs.Held.{RoleWalk}
@@ -53,7 +53,7 @@ module _ {N : Type 0} (same : N → N → Bool) (arcs : List (Arc N)) where
   first_long goal n [] all l is = cc
   first_long goal n (w ∷ ws) all l is = by (goal w.1) is (first_long goal n ws all.1 l)
     where
-      by : (b : Bool) → ◌≡◌ {A = Option (List ℕ)} (elim b [ true ↦ Some w.0 | false ↦ first_ending goal ws ]) (Some l) → (first_ending goal ws ≡ Some l → length l ≡ n) → length l ≡ n
+      by : (b : Bool) → ◌≡◌ {A = Option (List ℕ)} (if b then Some w.0 else first_ending goal ws) (Some l) → (first_ending goal ws ≡ Some l → length l ≡ n) → length l ≡ n
       by true e on = let equal : w.0 ≡ l = cc in ap (λ (k : List ℕ). length k) (sym equal) ∙ all.0
       by false e on = on e
 

@@ -5,19 +5,17 @@ use Rattle.std.specs.Ordering.{eq_by_cmp}
 use Rattle.std.specs.Coded.{Coded, code_by, coded×, coded_ℕ, coded_list}
 use Rattle.std.proofs.Common.{sym, ◌∙◌, subst, ap}
 use Rattle.gt_base.specs.Happening.{HappenedView}
-use Rattle.gt_base.specs.Bounds.{last_minute, max_steps}
 use Rattle.gt_base.specs.Machines.{ticked, asked}
 use Rattle.gt_base.specs.Orders.{signal_cmp}
 use Rattle.gt_base.specs.Sets.{has}
 use Rattle.gt_base.specs.declared.events.Signal.{Signal}
 use Rattle.gt_base.specs.declared.requests.Who.{Who}
 use Rattle.gt_base.specs.declared.requests.Entry.{Entry}
-use Rattle.gt_base.specs.declared.requests.Step.{Step}
-use Rattle.gt_base.specs.declared.requests.Step.TheVariants.{Tick, Ask}
 use Rattle.gt_base.specs.declared.requests.Actor.{Actor}
 use Rattle.gt_base.specs.declared.requests.Request.{Request}
 use Rattle.gt_base.specs.declared.requests.Reply.{Reply}
 use Rattle.gt_base.specs.contracts.requests.Entry as entry
+use Rattle.gt_base.specs.declared.limits.TheConstants.{LAST_MINUTE, MAX_STEPS}
 use Rattle.policy_words.specs.Valid.{IsWellFormed}
 use Rattle.gtrbac_model.specs.Policy.{Policy}
 use Rattle.gtrbac_model.specs.Base.{base_at}
@@ -26,6 +24,7 @@ use Rattle.gtrbac_model.specs.History.{Legal, IsNextStop, stirs, now_of, point_a
 use Rattle.gtrbac_model.specs.Sessions.{Table}
 use Rattle.gtrbac_model.specs.Status.{Model}
 use Rattle.gtrbac_model.specs.Theorems.{IsOnlyModel}
+use Rattle.history_laws.specs.Named.{AreNamed}
 use Rattle.policy_words.specs.Naming.{NamedPolicy, named_policy_code}
 use Rattle.instant_bases.specs.Timelines.{ClosedSet, closed_set_code, TimelineView}
 use Rattle.time_engine.specs.Traces.{model_of}
@@ -72,7 +71,7 @@ IsTableIn b tb = record tb { signals = (point_in b).table.signals } ≡ (point_i
 -- instant there is none
 abbrev pub HasWaiting : BookView → TimelineView → Type 0
 HasWaiting b v =
-    now_in b < last_minute → (x : Signal)
+    now_in b < LAST_MINUTE → (x : Signal)
     → list_any (eq_by_cmp signal_cmp x) (point_in b).table.signals ≡ has v.signals x
 
 -- every other list of sets that is a model of the entries agrees with the trace at every instant
@@ -83,15 +82,6 @@ HasOnlyModel b = IsOnlyModel b.named.policy b.birth b.entries (model_in b)
 abbrev pub HasBases : Policy → ℕ → Model → List Entry → List ClosedSet → Type 0
 HasBases p birth m h [] = Unit {0}
 HasBases p birth m h (c ∷ cs) = (c.base ≡ base_at p birth m h c.at) × HasBases p birth m h cs
-
--- the numbers of an entry are numbers of the policy, and within the limits
-abbrev pub IsNamedStep : Policy → Step → Type 0
-IsNamedStep p (Tick upto to) = IsNamedWish p (tick upto)
-IsNamedStep p (Ask actor request reply) = IsNamedWish p (ask actor request)
-
-abbrev pub AreNamed : Policy → List Entry → Type 0
-AreNamed p [] = Unit {0}
-AreNamed p (e ∷ h) = IsNamedStep p e.what × AreNamed p h
 
 -- an entry more; policy and birth stay
 pub record Gains (old new : BookView) (e : Entry) : Type 0 where
@@ -127,8 +117,8 @@ pub record IsBook (b : BookView) : Type 0 where
   pub legal : IsLegalBook b
   pub named : AreNamed b.named.policy b.entries
   pub well : IsWellFormed b.named
-  pub birth : b.birth ≤ last_minute
-  pub short : length b.entries ≤ max_steps
+  pub birth : b.birth ≤ LAST_MINUTE
+  pub short : length b.entries ≤ MAX_STEPS
 
 -- of the same policy with its names, and of the same birth
 abbrev pub SameRoot : BookView → BookView → Type 0

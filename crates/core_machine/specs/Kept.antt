@@ -2,7 +2,6 @@
 use Rattle.std.specs.Prelude.{◌≡◌, ℕ, ◌<◌, ◌≤◌, List, length, Option}
 use Rattle.std.specs.List.{list_any}
 use Rattle.std.specs.Ordering.{eq_by_cmp}
-use Rattle.gt_base.specs.Bounds.{last_minute, max_steps}
 use Rattle.gt_base.specs.Orders.{signal_cmp}
 use Rattle.gt_base.specs.Sets.{has}
 use Rattle.gt_base.specs.declared.events.Signal.{Signal}
@@ -10,6 +9,7 @@ use Rattle.gt_base.specs.declared.requests.Actor.{Actor}
 use Rattle.gt_base.specs.declared.requests.Request.{Request}
 use Rattle.gt_base.specs.declared.requests.Reply.{Reply}
 use Rattle.gt_base.specs.declared.requests.Entry.{Entry}
+use Rattle.gt_base.specs.declared.limits.TheConstants.{LAST_MINUTE, MAX_STEPS}
 use Rattle.gtrbac_model.specs.Policy.{Policy}
 use Rattle.gtrbac_model.specs.Base.{table_at}
 use Rattle.gtrbac_model.specs.History.{Legal, IsNamedWish, ask}
@@ -22,7 +22,8 @@ use Rattle.session_table.specs.Tables.{NotBefore, table_of}
 use Rattle.time_engine.specs.Histories.{Follows}
 use Rattle.time_engine.specs.Plans.{IsTimeline}
 use Rattle.time_engine.specs.Traces.{model_of}
-use Rattle.core_machine.specs.Books.{AreNamed, BookView, HasBases}
+use Rattle.core_machine.specs.Books.{BookView, HasBases}
+use Rattle.history_laws.specs.Named.{AreNamed}
 use Rattle.core_machine.specs.declared.states.State.{State}
 
 -- the timeline follows the history, of which its sets are the model; the table is that of the
@@ -35,13 +36,13 @@ pub record Kept (p : Policy) (birth : ℕ) (h : List Entry) (v : TimelineView) (
   pub follows : Follows p birth h (model_of v.trace) v
   pub waiting : List Signal
   pub table : record tb { signals = waiting } ≡ table_at p birth (model_of v.trace) h v.now
-  pub signals : v.now < last_minute → (x : Signal)
+  pub signals : v.now < LAST_MINUTE → (x : Signal)
       → list_any (eq_by_cmp signal_cmp x) waiting ≡ has v.signals x
   pub charged : NotBefore charged_to v.now
   pub few : tb.begun ≤ length h
   pub bases : HasBases p birth (model_of v.trace) h v.trace
   pub named : AreNamed p h
-  pub short : length h ≤ max_steps
+  pub short : length h ≤ MAX_STEPS
 
 -- timeline and table are abreast of a history: what each book keeps, and whatever goes on from a
 -- book over entries of its own
@@ -52,7 +53,7 @@ pub record Abreast (p : Policy) (birth : ℕ) (h : List Entry) (v : TimelineView
   pub follows : Follows p birth h (model_of v.trace) v
   pub waiting : List Signal
   pub table : record tb { signals = waiting } ≡ table_at p birth (model_of v.trace) h v.now
-  pub signals : v.now < last_minute → (x : Signal)
+  pub signals : v.now < LAST_MINUTE → (x : Signal)
       → list_any (eq_by_cmp signal_cmp x) waiting ≡ has v.signals x
 
 abbrev pub IsKept : State → Type 0
@@ -80,7 +81,7 @@ pub record Same (s t : State) : Type 0 where
 -- one entry more may be added for the request
 pub record IsReady (s : State) (actor : Actor) (request : Request) : Type 0 where
   pub kept : IsKept s
-  pub room : length s.entries.items < max_steps
+  pub room : length s.entries.items < MAX_STEPS
   pub named : IsNamedWish s.ground.policy (ask actor request)
 
 -- what the timeline and the table say of now

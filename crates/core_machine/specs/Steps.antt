@@ -16,7 +16,7 @@ use Rattle.gtrbac_model.specs.History.{IsNextStop}
 use Rattle.gtrbac_model.specs.Sessions.{Table, applied}
 use Rattle.instant_bases.specs.Timelines.{TimelineView, stirs_in}
 use Rattle.session_table.specs.NextDrops.{is_any_capped}
-use Rattle.session_table.specs.Plans.{DropsView, IsPlan as IsPlanOfDrops}
+use Rattle.session_table.specs.Plans.{DropsView, IsDropPlan}
 use Rattle.time_engine.specs.Plans.{Fits, IsPlan, PlanView, with_signal}
 use Rattle.core_machine.specs.Books.{Asks}
 use Rattle.core_machine.specs.Kept.{IsKept, IsReady, view_of}
@@ -59,7 +59,7 @@ pub record IsClosing (p : Policy) (v : TimelineView) (tb : Table) (upto : ℕ) (
   pub stop : IsNextStop (moves p v tb) v.now upto plan.at
   pub plans : IsPlan p v plan
   pub fits : Fits v plan
-  pub ends : IsPlanOfDrops p.edges p.caps (has plan.status) v.now plan.at tb drops
+  pub ends : IsDropPlan p.edges p.caps (has plan.status) v.now plan.at tb drops
 
 -- want of memory as the fault of a step
 abbrev pub as_step : {T : Type 0} → Result T AllocError → Result T StepFault

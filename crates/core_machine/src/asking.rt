@@ -2,7 +2,7 @@
 ghost use Rattle.std.specs.Prelude.{◌≡◌};
 ghost use Rattle.gt_base.specs.declared.requests.Request.TheVariants.{Now as AskNow, Status as AskStatus, Seen as AskSeen, Raise, OpenSession, CloseSession, Activate, Deactivate, Active as AskActive, Check};
 ghost use Rattle.core_machine.specs.Kept.{IsReady};
-ghost use Rattle.core_machine.specs.Steps.{IsStep, MayAsk, is_nobody as is_no_user};
+ghost use Rattle.core_machine.specs.Steps.{IsStep, MayAsk, is_nobody};
 
 use crate::entering::{raise, tell};
 use crate::sessions::{activate, close_session, deactivate, open_session};
@@ -29,7 +29,7 @@ pub(crate) fn answer(
 }
 
 pub(crate) fn is_nobody(actor: Actor) -> bool
-    ensures { result ≡ is_no_user actor }
+    ensures { result ≡ is_nobody actor }
 {
     matches!(actor, Actor::Nobody)
 }

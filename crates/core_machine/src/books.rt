@@ -1,13 +1,12 @@
 //! The book: a legal history of a safe policy with its execution model, and the calls that tick,
 //! ask and show it.
 ghost use Rattle.std.specs.Prelude.{◌≡◌, ◌<◌, ◌≤◌, ◌⊎◌, OnErr, IfOk, IfErr, OnOk, [], Ok, Err, true, length};
-ghost use Rattle.gt_base.specs.Bounds.{max_steps};
 ghost use Rattle.dependency_graph.specs.Levelled.{IsLevelled};
 ghost use Rattle.gtrbac_model.specs.Safety.{IsSafe};
 ghost use Rattle.session_table.specs.Tables.{NotBefore, table_of};
 ghost use Rattle.time_engine.specs.Histories.{Follows};
 ghost use Rattle.time_engine.specs.Traces.{AreSome, Ascends};
-ghost use Rattle.core_machine.specs.Books.{IsBook, now_in, model_in, reply_in, HasBases, HasOnlyModel, IsLegalBook, AreNamed, HasWaiting, IsNamedFor, IsTableIn, Ticks, Asks};
+ghost use Rattle.core_machine.specs.Books.{IsBook, now_in, model_in, reply_in, HasBases, HasOnlyModel, IsLegalBook, HasWaiting, IsNamedFor, IsTableIn, Ticks, Asks};
 ghost use Rattle.core_machine.specs.Looks.{is_look};
 ghost use Rattle.core_machine.specs.Steps.{as_step};
 
@@ -16,7 +15,7 @@ use crate::looking::look;
 use crate::prepared::Prepared;
 use crate::states::State;
 use crate::ticking::go_on;
-use gt_base::{Actor, Entry, Instant, List, Memory, Reply, Request, StepFault, Who};
+use gt_base::{Actor, Entry, Instant, List, MAX_STEPS, Memory, Reply, Request, StepFault, Who};
 use policy_book::Policy;
 use policy_safety::Safe;
 use session_table::Sessions;
@@ -64,7 +63,7 @@ impl Book {
         ensures empty { IfOk result (λ b. (b.entries ≡ []) × (b.trace ≡ [])) }
         ensures handed_back { IfErr result (λ e. e.safe ≡ safe) }
     {
-        let _policy = safe.policy();
+        safe.keeps();
         match grounded(alloc, safe) {
             Ok(ground) => Book::on(alloc, ground, birth),
             Err(safe) => Err(BookMemory { safe }),
@@ -115,26 +114,29 @@ impl Book {
         self.state.birth
     }
 
+    /// What every book keeps. Its entries are legal, with the trace as their model, and no other
+    /// list of sets is one; each is named for the policy, and there are at most 1,000,000. The
+    /// policy is safe.
+    pub fn keeps(&self)
+        ensures kept { IsBook self.now }
+        ensures only { HasOnlyModel self.now }
+        ensures safe { IsSafe self.now.named.policy.triggers }
+    {
+        self.state.ground.policy().keeps();
+        // the call tells that an instant is not after the last
+        let _birth = self.state.birth.minute();
+    }
+
     /// The policy.
     pub fn policy(&self) -> &Policy
         ensures value { result.now ≡ self.now.named }
-        ensures kept { IsBook self.now }
     {
-        // what the types of the policy and of the birth keep
-        let policy = self.state.ground.policy();
-        policy.keeps();
-        let _birth = self.state.birth.minute();
-        policy
+        self.state.ground.policy()
     }
 
-    /// The entries, each named for the policy, at most 1,000,000 of them. They are legal, with the
-    /// trace as their model, and no other list of sets is one.
+    /// The entries.
     pub fn entries(&self) -> &List<Entry>
         ensures value { result.now.items ≡ self.now.entries }
-        ensures legal { IsLegalBook self.now }
-        ensures only { HasOnlyModel self.now }
-        ensures named { AreNamed self.now.named.policy self.now.entries }
-        ensures short { length self.now.entries ≤ max_steps }
     {
         &self.state.entries
     }
@@ -143,8 +145,6 @@ impl Book {
     /// that instant. At each other minute nothing happened.
     pub fn trace(&self) -> &Trace
         ensures value { result.now.items ≡ self.now.trace }
-        ensures legal { IsLegalBook self.now }
-        ensures only { HasOnlyModel self.now }
         ensures bases { HasBases self.now.named.policy self.now.birth (model_in self.now)
             self.now.entries self.now.trace }
         ensures ascends { Ascends self.now.birth self.now.trace }
@@ -154,10 +154,9 @@ impl Book {
         self.state.line.trace()
     }
 
-    /// The policy with what was made of it for its timelines. It is safe.
+    /// The policy with what was made of it for its timelines.
     pub fn ground(&self) -> &Ground
         ensures value { result.now ≡ self.now.named }
-        ensures safe { IsSafe self.now.named.policy.triggers }
     {
         self.state.ground.ground()
     }
@@ -191,15 +190,15 @@ impl Book {
         ensures legal { IsLegalBook self.new }
         ensures err { OnErr result (self.new ≡ self.old) }
         ensures full { result ≡ Err StepFault.StepsFull
-            → (now_in self.old < upto) × (length self.old.entries ≡ max_steps) }
+            → (now_in self.old < upto) × (length self.old.entries ≡ MAX_STEPS) }
         ensures room { OnOk result
-            ((upto ≤ now_in self.old) ⊎ (length self.old.entries < max_steps)) }
+            ((upto ≤ now_in self.old) ⊎ (length self.old.entries < MAX_STEPS)) }
     {
         let now = self.state.line.now();
         if upto <= now {
             return Ok(now);
         }
-        if self.state.entries.len() >= 1_000_000 {
+        if self.state.entries.len() >= MAX_STEPS {
             return Err(StepFault::StepsFull);
         }
         or_memory(go_on(&mut self.state, who, upto))
@@ -213,10 +212,10 @@ impl Book {
         ensures ok { IfOk result (λ reply. Asks self.old who actor request reply self.new) }
         ensures legal { IsLegalBook self.new }
         ensures err { OnErr result (self.new ≡ self.old) }
-        ensures full { result ≡ Err StepFault.StepsFull → length self.old.entries ≡ max_steps }
-        ensures room { OnOk result (length self.old.entries < max_steps) }
+        ensures full { result ≡ Err StepFault.StepsFull → length self.old.entries ≡ MAX_STEPS }
+        ensures room { OnOk result (length self.old.entries < MAX_STEPS) }
     {
-        if self.state.entries.len() >= 1_000_000 {
+        if self.state.entries.len() >= MAX_STEPS {
             return Err(StepFault::StepsFull);
         }
         or_memory(answer(&mut self.state, who, actor, request))

@@ -4,7 +4,7 @@ ghost use Rattle.gt_base.specs.Machines.{asked};
 ghost use Rattle.gt_base.specs.declared.events.UserId.{UserId};
 ghost use Rattle.gt_base.specs.declared.requests.Actor.TheVariants.{User};
 ghost use Rattle.gt_base.specs.declared.requests.Request.TheVariants.{Raise};
-ghost use Rattle.gtrbac_model.specs.Reply.{is_admin as is_entitled};
+ghost use Rattle.gtrbac_model.specs.Reply.{is_admin};
 ghost use Rattle.core_machine.specs.Kept.{IsReady, IsReply, Same};
 ghost use Rattle.core_machine.specs.Steps.{IsStep, IsStill, MayAsk, with_signals};
 
@@ -79,7 +79,7 @@ pub(crate) fn add_signals(line: &mut Timeline, signals: &[Signal])
 /// Whether the actor may ask for events.
 fn is_admin(policy: &Policy, actor: Actor) -> bool
     requires { (u : UserId) → actor ≡ User u → u.0 < policy.now.policy.users }
-    ensures { result ≡ is_entitled policy.now.policy actor }
+    ensures { result ≡ is_admin policy.now.policy actor }
 {
     match actor {
         Actor::User(user) => policy.is_admin(user),
@@ -117,7 +117,7 @@ fn queue(
     delay: u32,
 ) -> Result<Reply, Memory>
     requires asks { MayAsk s.old actor (Raise head delay) }
-    requires admin { is_entitled s.old.ground.policy actor ≡ true }
+    requires admin { is_admin s.old.ground.policy actor ≡ true }
     requires room { 1 ≤ s.old.entries.spare }
     ensures { IsStep s.old s.new who actor (Raise head delay) result }
 {

@@ -3,7 +3,7 @@ ghost use Rattle.std.specs.Prelude.{◌≡◌, true, false, IfOk};
 ghost use Rattle.core_machine.specs.Books.{reply_in};
 ghost use Rattle.core_machine.specs.Kept.{IsAnswer, IsKept, view_of};
 ghost use Rattle.core_machine.specs.Looks.{is_look};
-ghost use Rattle.core_machine.specs.Steps.{is_nobody as is_no_user};
+ghost use Rattle.core_machine.specs.Steps.{is_nobody};
 
 use crate::asking::is_nobody;
 use crate::states::State;
@@ -28,7 +28,7 @@ pub(crate) fn look(s: &State, actor: Actor, request: Request) -> Result<Reply, M
 fn look_of_somebody(s: &State, actor: Actor, request: Request) -> Result<Reply, Memory>
     requires kept { IsKept s.now }
     requires looks { is_look request ≡ true }
-    requires somebody { is_no_user actor ≡ false }
+    requires somebody { is_nobody actor ≡ false }
     ensures { IfOk result (λ reply. reply ≡ reply_in (view_of s.now) actor request) }
 {
     s.line.keeps();

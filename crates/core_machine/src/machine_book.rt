@@ -38,7 +38,7 @@ impl Machine for Book {
     ghost now_root = { now_after-by_root };
 
     fn now(&self) -> Instant {
-        let _entries = self.entries();
+        self.keeps();
         Book::now(self)
     }
 

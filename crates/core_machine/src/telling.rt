@@ -3,7 +3,7 @@ ghost use Rattle.std.specs.Prelude.{◌≡◌, IfOk};
 ghost use Rattle.gt_base.specs.Sets.{has};
 ghost use Rattle.gt_base.specs.declared.requests.Request.TheVariants.{Now as AskNow, Status as AskStatus, Seen as AskSeen, Active as AskActive, Check};
 ghost use Rattle.gtrbac_model.specs.Same.{same_role, lists};
-ghost use Rattle.gtrbac_model.specs.Trigger.{holds as is_met};
+ghost use Rattle.gtrbac_model.specs.Trigger.{holds};
 ghost use Rattle.session_table.specs.Replies.{Answers};
 ghost use Rattle.session_table.specs.Tables.{table_of};
 ghost use Rattle.core_machine.specs.Kept.{IsAnswer};
@@ -41,7 +41,7 @@ pub(crate) fn tell_status(
 
 /// Whether the condition holds in the status.
 pub(crate) fn holds(status: &Status, cond: Cond) -> bool
-    ensures { result ≡ is_met (has status.now.set) cond }
+    ensures { result ≡ holds (has status.now.set) cond }
 {
     let on = status.is_on(cond.fluent);
     if cond.on { on } else { !on }

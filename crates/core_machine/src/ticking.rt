@@ -1,12 +1,12 @@
 //! A tick: where it stops, what it plans first, and the close by these plans.
 ghost use Rattle.std.specs.Prelude.{◌≡◌, ℕ, ◌<◌, ◌≤◌, Bool, true, length, IfOk, OnOk, OnErr};
 ghost use Rattle.std.specs.List.{list_all};
-ghost use Rattle.gt_base.specs.Bounds.{last_minute, max_steps};
 ghost use Rattle.gt_base.specs.Sets.{has, members};
+ghost use Rattle.gt_base.specs.declared.limits.TheConstants.{LAST_MINUTE, MAX_STEPS};
 ghost use Rattle.gtrbac_model.specs.History.{IsNextStop};
 ghost use Rattle.instant_bases.specs.Nexts.{IsNextOf};
 ghost use Rattle.session_table.specs.NextDrops.{IsFirstOrNone};
-ghost use Rattle.session_table.specs.Plans.{AllStand, IsPlan as IsPlanOfDrops, need_of};
+ghost use Rattle.session_table.specs.Plans.{AllStand, IsDropPlan, need_of};
 ghost use Rattle.session_table.specs.Tables.{table_of};
 ghost use Rattle.time_engine.specs.Plans.{Fits, IsPlan, NoneStirs};
 ghost use Rattle.core_machine.specs.Agreeing.{agrees};
@@ -27,7 +27,7 @@ use time_engine::Plan;
 pub(crate) fn go_on(s: &mut State, who: Who, upto: Instant) -> Result<Instant, Memory>
     requires kept { IsKept s.old }
     requires later { s.old.line.line.now < upto }
-    requires room { length s.old.entries.items < max_steps }
+    requires room { length s.old.entries.items < MAX_STEPS }
     ensures kept { IsKept s.new }
     ensures ok { IfOk result (λ to. GoesOn (view_of s.old) (view_of s.new) who upto to) }
     ensures err { OnErr result (view_of s.new ≡ view_of s.old) }
@@ -51,16 +51,16 @@ fn planned(s: &mut State, to: Instant) -> Result<(Plan, Drops), Memory>
     ensures fits { IfOk result (λ r. Fits s.old.line.line r.0) }
     ensures plan_room { IfOk result (λ r. r.0.need ≤ s.new.line.room) }
     ensures drops { IfOk result
-        (λ r. IsPlanOfDrops s.old.ground.policy.edges s.old.ground.policy.caps (has r.0.status)
+        (λ r. IsDropPlan s.old.ground.policy.edges s.old.ground.policy.caps (has r.0.status)
         s.old.line.line.now to (table_of s.old.table) r.1) }
     ensures drops_room { OnOk result
         (need_of s.old.line.line.now to s.new.table ≤ s.new.table.room) }
 {
+    s.line.keeps();
     let plan = s.line.plan(s.ground.ground(), to)?;
     let policy = s.ground.policy();
     let now = s.line.now();
     let hierarchy = s.ground.hierarchy();
-    s.line.keeps();
     let set = plan.happened();
     let before = s.line.status();
     let still = is_still(set, before);
@@ -110,7 +110,7 @@ fn end_of(
     ensures charged_to { table.new.charged_to ≡ table.old.charged_to }
     ensures room { OnOk result (need_of now to table.new ≤ table.new.room) }
     ensures plan { IfOk result
-        (IsPlanOfDrops hierarchy.now caps.now.items (has status.now.set) now to
+        (IsDropPlan hierarchy.now caps.now.items (has status.now.set) now to
         (table_of table.old)) }
 {
     if still {
@@ -139,6 +139,7 @@ fn first_of(next: Option<Instant>, upto: Instant) -> Instant
     ensures drops { (test : ℕ → Bool) (now : ℕ) → IsFirstOrNone test now next → now < upto
         → IsNextStop test now upto result }
 {
+    // the call tells that an instant is not after the last
     let _bound = upto.minute();
     match next {
         Some(t) if t < upto => t,
@@ -149,7 +150,7 @@ fn first_of(next: Option<Instant>, upto: Instant) -> Instant
 /// Goes to the stop by the plans, into room that was made before.
 fn close(s: &mut State, who: Who, upto: Instant, plan: Plan, drops: Drops)
     requires kept { IsKept s.old }
-    requires room { length s.old.entries.items < max_steps }
+    requires room { length s.old.entries.items < MAX_STEPS }
     requires closing { IsClosing s.old.ground.policy s.old.line.line (table_of s.old.table) upto
         plan drops }
     requires plan_room { plan.need ≤ s.old.line.room }

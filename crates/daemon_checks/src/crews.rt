@@ -12,8 +12,8 @@ use std::collections::VecDeque;
 /// How much is written to a link at most.
 const ROOM: usize = 400;
 
-/// What a link sends, the most that one read gives and one write takes, and the number of the read and of the write that fails, 0 where none
-/// is to.
+/// What a link sends, the most that one read gives and one write takes, and the number of the read
+/// and of the write that fails, 0 where none is to.
 #[derive(Clone, Copy)]
 pub struct Wire<'a> {
     pub sends: &'a [u8],
@@ -23,7 +23,8 @@ pub struct Wire<'a> {
     pub bad_write: u64,
 }
 
-/// The links of a worker, the minutes that its clock reads, and the number of the call of its door that fails, 0 where none is to.
+/// The links of a worker, the minutes that its clock reads, and the number of the call of its door
+/// that fails, 0 where none is to.
 #[derive(Clone, Copy)]
 pub struct Man<'a> {
     pub wires: &'a [Wire<'a>],
@@ -52,7 +53,8 @@ fn link(alloc: Global, wire: &Wire<'_>) -> Result<MemLink, Memory>
 }
 
 fn links(alloc: Global, wires: &[Wire<'_>]) -> Result<VecDeque<MemLink>, Memory>
-    ensures { IfOk result (λ links. All (λ link. IsFresh (⟦<MemLink as Link>⟧.traffic link)) links.items) }
+    ensures { IfOk result (λ links. All (λ link. IsFresh
+        (⟦<MemLink as Link>⟧.traffic link)) links.items) }
 {
     let mut links = VecDeque::new(alloc);
     for wire in wires {
@@ -67,7 +69,8 @@ pub(crate) fn door(alloc: Global, man: &Man<'_>) -> Result<MemDoor, Memory> {
     Ok(MemDoor::new(links(alloc, man.wires)?, call(alloc, man.bad_call)?))
 }
 
-/// A clock that reads these minutes; one with no readings, and one past the last instant, count as want of memory.
+/// A clock that reads these minutes; one with no readings, and one past the last instant, count as
+/// want of memory.
 pub(crate) fn clock(alloc: Global, minutes: &[u32]) -> Result<MemClock, Memory> {
     let mut readings = List::new(alloc);
     for minute in minutes {

@@ -12,8 +12,9 @@ use std::alloc::Global;
 use std::sync::Wait;
 use std::thread::Threads;
 
-/// A run: the words after the program's name; the text of the policy P and the number of the call of the shelf that fails; the minute of the
-/// birth; one worker, or two; and the room of the output and the number of the write that fails. 0 is the number of no call.
+/// A run: the words after the program's name; the text of the policy P and the number of the call
+/// of the shelf that fails; the minute of the birth; one worker, or two; and the room of the output
+/// and the number of the write that fails. 0 is the number of no call.
 #[derive(Clone, Copy)]
 pub struct Run<'a> {
     pub words: &'a [&'a str],
@@ -65,8 +66,9 @@ fn end_of_worker(end: WorkEnd) -> &'static [u8] {
     }
 }
 
-/// What was given to a link, and behind a bar how it ended and how many lines were asked and denied, and whether it is still held. A link to
-/// which nothing was given, that ended and was let go, is passed over.
+/// What was given to a link, and behind a bar how it ended and how many lines were asked and
+/// denied, and whether it is still held. A link to which nothing was given, that ended and was let
+/// go, is passed over.
 fn tell_link(text: &mut Vec<u8>, served: &Served<MemLink>) -> Result<(), Memory> {
     let given = served.link.given().as_slice();
     if given.is_empty() && served.report.outcome == LinkEnd::Ended && served.link.finished() {

@@ -8,7 +8,7 @@ use std::sync::atomic::{AtomicBool, Ordering};
 use std::test::Fail;
 use std::thread::Threads;
 
-// 2026-01-05T10:00
+/// 2026-01-05T10:00
 const TEN: u32 = 13_682_040;
 
 const DAY: u32 = 1_440;
@@ -122,7 +122,8 @@ status 0
     Ok(())
 }
 
-/// What is told of the long lines, of which replies so many bytes were given, where the first link ended so.
+/// What is told of the long lines, of which replies so many bytes were given, where the first link
+/// ended so.
 fn cut(alloc: Global, given: usize, end: &[u8], is_asked: bool) -> Result<Vec<u8>, Memory> {
     let asked: &[u8] = if is_asked { b"1" } else { b"0" };
     let entry: &[u8] = if is_asked {
@@ -339,8 +340,8 @@ status 0
     Ok(())
 }
 
-/// What two workers are told where so many entries of worker 1, its tick and its two asks, stand before the ask of connection 0.1, and so many
-/// before that of 0.2.
+/// What two workers are told where so many entries of worker 1, its tick and its two asks, stand
+/// before the ask of connection 0.1, and so many before that of 0.2.
 fn two_told(alloc: Global, open: usize, now: usize) -> Result<Vec<u8>, Memory> {
     let minute: &[u8] = if now == 0 { b"0\n" } else { b"5\n" };
     let others: [&[u8]; 3] = [
@@ -419,7 +420,8 @@ fn two_workers_share_a_history(rt: HostRuntime) -> Result<(), Fail> {
     Ok(())
 }
 
-// bench/fail_alloc_daemon.py refuses the allocations of this test one at a time, and reads what it writes.
+/// bench/fail_alloc_daemon.py refuses the allocations of this test one at a time, and reads what it
+/// writes.
 #[test]
 fn two_workers_are_told(rt: HostRuntime) -> Result<(), Fail> {
     let text = told(&rt, rt.alloc(), &SHARED)?;
@@ -428,7 +430,8 @@ fn two_workers_are_told(rt: HostRuntime) -> Result<(), Fail> {
     Ok(())
 }
 
-/// A gate that holds worker 0's first request line until worker 1 passes it for its third, and at most for so many looks.
+/// A gate that holds worker 0's first request line until worker 1 passes it for its third, and at
+/// most for so many looks.
 #[derive(Clone, Copy)]
 struct Turnstile<'a> {
     is_passed: &'a AtomicBool,

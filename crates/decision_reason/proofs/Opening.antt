@@ -1,5 +1,5 @@
 -- Where each edge of the least walk over any edges is usable, it is the least walk of usable edges.
-use Rattle.std.proofs.Common.{◌≡◌, ℕ, Bool, true, false, ◌&&◌, cond, List, [], ◌∷◌, Option, Some, None, refl, sym, ◌∙◌, ap}
+use Rattle.std.proofs.Common.{◌≡◌, ℕ, Bool, true, false, ◌&&◌, cond, List, [], ◌∷◌, Option, Some, None, refl, sym, ◌∙◌, ap, if◌then◌else◌}
 use Rattle.gt_base.specs.declared.events.RoleId.{RoleId}
 use Rattle.gt_base.specs.declared.events.PermId.{PermId}
 use Rattle.gt_base.specs.declared.events.Fluent.TheVariants.{Enabled, Granted, Edge}
@@ -27,7 +27,7 @@ opens s n (Some e) = usable s true n e
 opens s n None = false
 
 abbrev or_this : Status → List HierEdge → ℕ → List ℕ → Bool → Option ℕ
-or_this s edges n ns b = elim b [ true ↦ first_shut s edges ns | false ↦ Some n ]
+or_this s edges n ns b = if b then first_shut s edges ns else Some n
 
 -- where none is shut, each passes
 none_shut : (s : Status) (edges : List HierEdge) (ns : List ℕ) → first_shut s edges ns ≡ None → AllPass (usable s true) edges ns
@@ -47,7 +47,7 @@ pub shut_first : (s : Status) (edges : List HierEdge) (ns : List ℕ) (n : ℕ) 
 shut_first s edges [] n is = cc
 shut_first s edges (m ∷ ns) n is = by (is_usable_edge s edges m) is (shut_first s edges ns n)
   where
-    by : (b : Bool) → or_this s edges m ns b ≡ Some n → (first_shut s edges ns ≡ Some n → first_unusable s edges ns ≡ n) → (elim b [ true ↦ first_unusable s edges ns | false ↦ m ]) ≡ n
+    by : (b : Bool) → or_this s edges m ns b ≡ Some n → (first_shut s edges ns ≡ Some n → first_unusable s edges ns ≡ n) → (if b then first_unusable s edges ns else m) ≡ n
     by true is rest = rest is
     by false is rest = cc
 

@@ -9,4 +9,7 @@ use Rattle.gtrbac_model.specs.Decision.{decide}
 
 -- lists with the same roles, in whatever order, give the same decision
 abbrev pub RolesDecide : Type 0
-RolesDecide = (edges : List HierEdge) (s : Status) (a b : List RoleId) (perm : PermId) → ((r : RoleId) → lists same_role a r ≡ lists same_role b r) → decide edges s a perm ≡ decide edges s b perm
+RolesDecide =
+    (edges : List HierEdge) (s : Status) (a b : List RoleId) (perm : PermId)
+    → ((r : RoleId) → lists same_role a r ≡ lists same_role b r)
+    → decide edges s a perm ≡ decide edges s b perm

@@ -1,5 +1,5 @@
 -- The decision by the two walks: over usable edges, and over any.
-use Rattle.std.specs.Prelude.{ℕ, Bool, true, false, List, [], ◌∷◌, Option, Some, None}
+use Rattle.std.specs.Prelude.{ℕ, Bool, true, false, List, [], ◌∷◌, Option, Some, None, if◌then◌else◌}
 use Rattle.gt_base.specs.declared.policies.HierEdge.{HierEdge}
 use Rattle.gt_base.specs.declared.requests.Decision.{Decision}
 use Rattle.gt_base.specs.declared.requests.Decision.TheVariants.{Permit, NoGrant, Shut}
@@ -15,12 +15,12 @@ is_usable_edge s edges n = elim (item_at edges n) [ Some e ↦ usable s true n e
 -- the first of these edges that is not usable, or 0
 abbrev pub first_unusable : Status → List HierEdge → List ℕ → ℕ
 first_unusable s edges [] = 0
-first_unusable s edges (n ∷ ns) = elim (is_usable_edge s edges n) [ true ↦ first_unusable s edges ns | false ↦ n ]
+first_unusable s edges (n ∷ ns) = if is_usable_edge s edges n then first_unusable s edges ns else n
 
 -- the same, none where each is usable
 abbrev pub first_shut : Status → List HierEdge → List ℕ → Option ℕ
 first_shut s edges [] = None
-first_shut s edges (n ∷ ns) = elim (is_usable_edge s edges n) [ true ↦ first_shut s edges ns | false ↦ Some n ]
+first_shut s edges (n ∷ ns) = if is_usable_edge s edges n then first_shut s edges ns else Some n
 
 -- where no walk of usable edges leads there: none at all, or one that is shut at an edge
 abbrev pub denied_by : Status → List HierEdge → Option RoleWalk → Decision

@@ -13,11 +13,13 @@ use gt_base::{Decision, Fluent, HierEdge, List, Memory, PermId, RoleId, Status, 
 use hybrid_hierarchy::Hierarchy;
 use std::alloc::Global;
 
-/// Whether a session in which these roles are active has the permission in this status, and why not. `Permit` names the least walk of usable
-/// edges from an active role to a role to which the permission is granted: least by the number of its edges, then by the number of the active
-/// role, then by the numbers of its edges. Where there is none, the answer is `NoActive` if no role is active; `NoGrant` if no walk leads there
-/// whichever edges are usable; else `Shut`, with the number of the first edge that is not usable on the least walk that ignores usability. For
-/// want of memory it may refuse.
+/// Whether a session in which these roles are active has the permission in this status, and why
+/// not. `Permit` names the least walk of usable edges from an active role to a role to which the
+/// permission is granted: least by the number of its edges, then by the number of the active role,
+/// then by the numbers of its edges. Where there is none, the answer is `NoActive` if no role is
+/// active; `NoGrant` if no walk leads there whichever edges are usable; else `Shut`, with the
+/// number of the first edge that is not usable on the least walk that ignores usability. For want
+/// of memory it may refuse.
 pub fn decide(
     alloc: Global,
     edges: &List<HierEdge>,
@@ -26,7 +28,8 @@ pub fn decide(
     perm: PermId,
 ) -> Result<Decision, Memory>
     requires { IsHierarchy edges.now.items }
-    ensures { IfOk result (λ decision. decision ≡ decide edges.now.items (has status.now.set) active.now perm) }
+    ensures { IfOk result (λ decision. decision
+        ≡ decide edges.now.items (has status.now.set) active.now perm) }
 {
     match active {
         [] => Ok(Decision::NoActive),
@@ -45,7 +48,8 @@ pub fn decide_over(
     active: &[RoleId],
     perm: PermId,
 ) -> Result<Decision, Memory>
-    ensures { IfOk result (λ decision. decision ≡ decide hierarchy.now (has status.now.set) active.now perm) }
+    ensures { IfOk result (λ decision. decision
+        ≡ decide hierarchy.now (has status.now.set) active.now perm) }
 {
     match active {
         [] => Ok(Decision::NoActive),
@@ -53,7 +57,8 @@ pub fn decide_over(
     }
 }
 
-/// The decision where some role is active: by the least walk, whichever edges are usable. Where there is none, there is none of usable edges.
+/// The decision where some role is active: by the least walk, whichever edges are usable. Where
+/// there is none, there is none of usable edges.
 fn by_walks(
     alloc: Global,
     hierarchy: &Hierarchy,
@@ -71,7 +76,8 @@ fn by_walks(
     }
 }
 
-/// The decision where this is the least walk, whichever edges are usable: it permits, if each of its edges is.
+/// The decision where this is the least walk, whichever edges are usable: it permits, if each of
+/// its edges is.
 fn by_walk(
     alloc: Global,
     hierarchy: &Hierarchy,
@@ -80,7 +86,8 @@ fn by_walk(
     perm: PermId,
     walk: Walk,
 ) -> Result<Decision, Memory>
-    requires { permission_walk_of_any hierarchy.now (has status.now.set) active.now perm ≡ Some walk }
+    requires { permission_walk_of_any hierarchy.now (has status.now.set) active.now perm
+        ≡ Some walk }
     ensures { IfOk result (λ decision. decision ≡ by_walks (has status.now.set) hierarchy.now
         (permission_walk hierarchy.now (has status.now.set) active.now perm)
         (permission_walk_of_any hierarchy.now (has status.now.set) active.now perm)) }
@@ -91,7 +98,8 @@ fn by_walk(
     }
 }
 
-/// The decision where the least walk is shut at this edge: a permit by the least walk of usable edges, if there is one.
+/// The decision where the least walk is shut at this edge: a permit by the least walk of usable
+/// edges, if there is one.
 fn past_shut(
     alloc: Global,
     hierarchy: &Hierarchy,
@@ -100,7 +108,8 @@ fn past_shut(
     perm: PermId,
     edge: u32,
 ) -> Result<Decision, Memory>
-    requires { denied_by (has status.now.set) hierarchy.now (permission_walk_of_any hierarchy.now (has status.now.set) active.now perm) ≡ Shut edge }
+    requires { denied_by (has status.now.set) hierarchy.now
+        (permission_walk_of_any hierarchy.now (has status.now.set) active.now perm) ≡ Shut edge }
     ensures { IfOk result (λ decision. decision ≡ by_walks (has status.now.set) hierarchy.now
         (permission_walk hierarchy.now (has status.now.set) active.now perm)
         (permission_walk_of_any hierarchy.now (has status.now.set) active.now perm)) }
@@ -118,8 +127,8 @@ fn shut_at(edges: &[HierEdge], status: &Status, walk: &Walk) -> Option<u32>
     first_shut(edges, status, walk.edges.as_slice())
 }
 
-/// The first of these edges that lends nothing in the status. What one edge asked of its junior role, the next one does not ask again of the
-/// same role as its senior.
+/// The first of these edges that lends nothing in the status. What one edge asked of its junior
+/// role, the next one does not ask again of the same role as its senior.
 fn first_shut(edges: &[HierEdge], status: &Status, walk: &[u32]) -> Option<u32>
     ensures { result ≡ first_shut (has status.now.set) edges.now walk.now }
 {
@@ -133,7 +142,8 @@ fn first_shut(edges: &[HierEdge], status: &Status, walk: &[u32]) -> Option<u32>
     None
 }
 
-/// Whether the edge of this number lends permissions in the status, where this role, if any, is enabled.
+/// Whether the edge of this number lends permissions in the status, where this role, if any, is
+/// enabled.
 fn is_open(edges: &[HierEdge], status: &Status, number: u32, enabled: Option<RoleId>) -> bool
     requires { IfSome enabled (λ role. has status.now.set (Enabled role) ≡ true) }
     ensures { result ≡ is_usable_edge (has status.now.set) edges.now number }
@@ -162,7 +172,8 @@ fn is_enabled(status: &Status, role: RoleId, enabled: Option<RoleId>) -> bool
 
 /// The junior role of the edge of this number, if the edge asks of it whether it is enabled.
 fn asked_junior(edges: &[HierEdge], number: u32) -> Option<RoleId>
-    ensures { (s : Fluent → Bool) → is_usable_edge s edges.now number ≡ true → IfSome result (λ role. s (Enabled role) ≡ true) }
+    ensures { (s : Fluent → Bool) → is_usable_edge s edges.now number ≡ true
+        → IfSome result (λ role. s (Enabled role) ≡ true) }
 {
     match edges.get(number as usize) {
         Some(e) if e.strong => Some(e.junior),

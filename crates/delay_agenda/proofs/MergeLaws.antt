@@ -2,7 +2,7 @@
 use Rattle.std.proofs.Common.{◌≡◌, ℕ, zero, suc, ◌+◌, ◌-◌, ◌<◌, ◌≤◌, ◌++◌, Bool, true, false, ◌||◌, List, [], ◌∷◌, length, take, drop, insert, get_or, append_assoc, refl, sym, ◌∙◌, ap, subst, arith, length-take, length-drop, length-append}
 use Rattle.std.specs.List.{list_any, AllWithin, HoldsAt}
 use Rattle.std.specs.List.Sorted.{IsSearchInRange, IsBinarySearchResult}
-use Rattle.std.specs.Prelude.{Result, Ok, Err, IfOk, IfErr}
+use Rattle.std.specs.Prelude.{Result, Ok, Err, IfOk, IfErr, slice_index_or}
 use Rattle.std.specs.Ordering.{eq_by_cmp}
 use Rattle.std.specs.FinMap.Entries.{below_all}
 use Rattle.std.specs.declared.cmp.Ordering.TheVariants.{Less, Equal, Greater}
@@ -15,12 +15,12 @@ use Rattle.gt_base.proofs.Rising.{answers_rise, below_at, goes_in, found, left_o
 use Rattle.gt_base.proofs.SetLaws.{same_sets, has-with_member}
 use Rattle.delay_agenda.specs.declared.pairs.Pending.{Pending}
 use Rattle.delay_agenda.specs.Due.{pending_cmp}
-use Rattle.delay_agenda.specs.Rows.{AllBefore, IsMerging, IsPlaced, Parts, StandsAt, pairs_of}
+use Rattle.delay_agenda.specs.Rows.{AllBefore, IsPlaced, Parts, PairStandsAt, pairs_of}
 use Rattle.delay_agenda.proofs.PendingLaws.{pending_cmp_total, pending_cmp-IsAntisymmetric}
 use Rattle.delay_agenda.proofs.RowLaws.{has-joined}
 
 -- what a search by halves found
-pub searched_at : (k : Pending) (ks : List Pending) (r : Result ℕ ℕ) → IsSearchInRange r (length ks) → IsBinarySearchResult (λ y. pending_cmp y k) ks r → IfOk r (StandsAt k ks)
+pub searched_at : (k : Pending) (ks : List Pending) (r : Result ℕ ℕ) → IsSearchInRange r (length ks) → IsBinarySearchResult (λ y. pending_cmp y k) ks r → IfOk r (PairStandsAt k ks)
 searched_at k ks (Ok i) within at = record { bound = within; at = at }
 searched_at k ks (Err i) within at = tt
 
@@ -75,7 +75,7 @@ before_next ks n k q f lt j d low high = pending_cmp_total.trans _ k q (f j d lo
 
 module _ (row rest : List Pending) (k : Pending) (h : Rises pending_cmp (row ++ rest)) (before : AllBefore row k) where
   -- the pair stands in the rest
-  pub stays : (i : ℕ) → StandsAt k rest i → IsPlaced row rest k row 0
+  pub stays : (i : ℕ) → PairStandsAt k rest i → IsPlaced row rest k row 0
   stays i s = record {
     bound = omega arith;
     rises = h;
@@ -122,6 +122,18 @@ shift true true b = refl
 shift true false b = refl
 shift false true b = refl
 shift false false b = refl
+
+-- the row and the long row from the place on are the long row and the first i of the short one, and
+-- the row stands before the others
+pub record IsMerging (long short row : List Pending) (at i : ℕ) : Type 0 where
+  pub bound : at ≤ length long
+  pub rises : Rises pending_cmp (row ++ drop at long)
+  pub set : (q : Pending)
+      → has (set_of_rising {R = pending_cmp} (row ++ drop at long)) q
+      ≡ (list_any (eq_by_cmp pending_cmp q) (take i short) || has
+      (set_of_rising {R = pending_cmp} long) q)
+  pub before : (j : ℕ) (d : Pending) → i ≤ j → j < length short
+      → AllBefore row (slice_index_or short j d)
 
 pub begins : (long short : List Pending) → Rises pending_cmp long → IsMerging long short [] 0 0
 begins long short h = record { bound = omega arith; rises = h; set = λ q. refl; before = λ j d low high i e lo hi. absurd (omega (arith, hi)) }

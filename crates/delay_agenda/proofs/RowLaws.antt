@@ -11,7 +11,7 @@ use Rattle.gt_base.proofs.Rising.{has-set_of_rising, filter_rises, set_of_filter
 use Rattle.gt_base.proofs.SetLaws.{same_sets, entries-checked, members-set_of_rising, members-none, eq_itself, has-none, has-with_member, has-those}
 use Rattle.delay_agenda.specs.declared.pairs.Pending.{Pending}
 use Rattle.delay_agenda.specs.Due.{pending_cmp, pending_at, is_due_at, count_due, IsLeastDue, Pendings}
-use Rattle.delay_agenda.specs.Rows.{joined, pairs_of, AreRows}
+use Rattle.delay_agenda.specs.Rows.{pairs_joined, pairs_of, AreRows}
 use Rattle.delay_agenda.proofs.PendingLaws.{pending_cmp_total, pending_cmp-IsAntisymmetric}
 
 or_or : (a b c : Bool) → (a || (b || c)) ≡ ((a || b) || c)
@@ -50,15 +50,15 @@ around false false false = refl
 tied : (q k : Pending) → eq_by_cmp pending_cmp q k ≡ true → q ≡ k
 tied q k e = pending_cmp-IsAntisymmetric q k ((Equal-is (pending_cmp q k)).0 e)
 
-pub has-joined : (s : Pendings) (ks : List Pending) (q : Pending) → has (joined s ks) q ≡ (list_any (eq_by_cmp pending_cmp q) ks || has s q)
-unfolding joined
+pub has-joined : (s : Pendings) (ks : List Pending) (q : Pending) → has (pairs_joined s ks) q ≡ (list_any (eq_by_cmp pending_cmp q) ks || has s q)
+unfolding pairs_joined
 has-joined s [] q = refl
 has-joined s (k ∷ ks) q =
-    has-with_member pending_cmp_total (joined s ks) k q ∙ ap (λ c. eq_by_cmp pending_cmp q k || c) (has-joined s ks q)
+    has-with_member pending_cmp_total (pairs_joined s ks) k q ∙ ap (λ c. eq_by_cmp pending_cmp q k || c) (has-joined s ks q)
     ∙ or_or (eq_by_cmp pending_cmp q k) (list_any (eq_by_cmp pending_cmp q) ks) (has s q)
 
-joined-none : (s : Pendings) → joined s [] ≡ s
-unfolding joined
+joined-none : (s : Pendings) → pairs_joined s [] ≡ s
+unfolding pairs_joined
 joined-none s = refl
 
 pub one_row : (ks : List Pending) → pairs_of ks [] ≡ set_of_rising ks
@@ -163,17 +163,17 @@ first_absent k (x ∷ xs) h =
     ∙ first_absent k xs (right_of (is_lt (pending_cmp k x)) _ h)
 
 length-joined : (s : Pendings) (ks : List Pending) → Rises pending_cmp ks → ((q : Pending) → list_any (eq_by_cmp pending_cmp q) ks ≡ true → has s q ≡ false)
-    → length (members (joined s ks)) ≡ length (members s) + length ks
-unfolding joined
+    → length (members (pairs_joined s ks)) ≡ length (members s) + length ks
+unfolding pairs_joined
 length-joined s [] h apart = omega arith
 length-joined s (k ∷ ks) h apart =
     let below : T (below_all pending_cmp k (pairs ks)) = left_of (below_all pending_cmp k (pairs ks)) _ h in
-    let absent : has (joined s ks) k ≡ false =
+    let absent : has (pairs_joined s ks) k ≡ false =
     has-joined s ks k ∙ ap (λ b. b || has s k) (first_absent k ks below)
     ∙ apart k (ap (λ b. b || list_any (eq_by_cmp pending_cmp k) ks) (eq_itself pending_cmp_total k)) in
-    let rest : length (members (joined s ks)) ≡ length (members s) + length ks =
+    let rest : length (members (pairs_joined s ks)) ≡ length (members s) + length ks =
     length-joined s ks (right_of (below_all pending_cmp k (pairs ks)) _ h) (λ q there. apart q (or_true (eq_by_cmp pending_cmp q k) _ there)) in
-    let more : length (members (with_member (joined s ks) k)) ≡ length (members (joined s ks)) + 1 = length-with (joined s ks) k absent in
+    let more : length (members (with_member (pairs_joined s ks) k)) ≡ length (members (pairs_joined s ks)) + 1 = length-with (pairs_joined s ks) k absent in
     omega (arith, rest, more)
 
 -- how many stand in both rows

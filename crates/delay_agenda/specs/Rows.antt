@@ -1,5 +1,5 @@
 -- Two rows of pairs: a long one, and a short one of those that came last.
-use Rattle.std.specs.Prelude.{◌≡◌, ◌≤◌, ◌<◌, ◌++◌, ℕ, true, false, List, [], ◌∷◌, length, drop, take, ◌||◌, slice_index_or}
+use Rattle.std.specs.Prelude.{◌≡◌, ◌≤◌, ◌<◌, ◌++◌, ℕ, true, false, List, [], ◌∷◌, length, drop}
 use Rattle.std.specs.List.{AllWithin, HoldsAt, list_any}
 use Rattle.std.specs.Ordering.{eq_by_cmp}
 use Rattle.std.specs.declared.cmp.Ordering.TheVariants.{Less, Equal, Greater}
@@ -8,13 +8,13 @@ use Rattle.delay_agenda.specs.declared.pairs.Pending.{Pending}
 use Rattle.delay_agenda.specs.Due.{pending_cmp, Pendings}
 
 -- the set, with the pairs of the list one after another
-unfoldable pub joined : Pendings → List Pending → Pendings
-joined s [] = s
-joined s (k ∷ ks) = with_member (joined s ks) k
+unfoldable pub pairs_joined : Pendings → List Pending → Pendings
+pairs_joined s [] = s
+pairs_joined s (k ∷ ks) = with_member (pairs_joined s ks) k
 
 -- the pairs of both rows
 abbrev pub pairs_of : List Pending → List Pending → Pendings
-pairs_of long short = joined (set_of_rising long) short
+pairs_of long short = pairs_joined (set_of_rising long) short
 
 -- both rows rise, and no pair stands in both
 pub record AreRows (long short : List Pending) : Type 0 where
@@ -24,7 +24,7 @@ pub record AreRows (long short : List Pending) : Type 0 where
       → has (set_of_rising {R = pending_cmp} long) q ≡ false
 
 -- the pair, or one that ties with it, is the i-th
-pub record StandsAt (k : Pending) (ks : List Pending) (i : ℕ) : Type 0 where
+pub record PairStandsAt (k : Pending) (ks : List Pending) (i : ℕ) : Type 0 where
   pub bound : i < length ks
   pub at : HoldsAt (λ y. pending_cmp y k ≡ Equal) ks i
 
@@ -47,15 +47,3 @@ pub record IsPlaced (row rest : List Pending) (k : Pending) (new : List Pending)
   pub set : set_of_rising {R = pending_cmp} (new ++ drop n rest)
       ≡ with_member (set_of_rising (row ++ rest)) k
   pub before : (q : Pending) → pending_cmp k q ≡ Less → AllBefore new q
-
--- the row and the long row from the place on are the long row and the first i of the short one, and
--- the row stands before the others
-pub record IsMerging (long short row : List Pending) (at i : ℕ) : Type 0 where
-  pub bound : at ≤ length long
-  pub rises : Rises pending_cmp (row ++ drop at long)
-  pub set : (q : Pending)
-      → has (set_of_rising {R = pending_cmp} (row ++ drop at long)) q
-      ≡ (list_any (eq_by_cmp pending_cmp q) (take i short) || has
-      (set_of_rising {R = pending_cmp} long) q)
-  pub before : (j : ℕ) (d : Pending) → i ≤ j → j < length short
-      → AllBefore row (slice_index_or short j d)

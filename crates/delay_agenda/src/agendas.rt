@@ -2,7 +2,7 @@
 ghost use Rattle.std.specs.Prelude.{◌≡◌, ◌≤◌, ◌+◌, ◌||◌, not, length, ◌↔◌, OnOk, IfOk, IsNone, IfSome};
 ghost use Rattle.gt_base.specs.declared.events.Prioritised.{Prioritised};
 ghost use Rattle.gt_base.specs.Sets.{has, members, none, those, with_member};
-ghost use Rattle.delay_agenda.specs.Due.{pending_at, is_due_at, count_due as count_in, IsLeastDue};
+ghost use Rattle.delay_agenda.specs.Due.{pending_at, is_due_at, count_due, IsLeastDue};
 
 use crate::pairs::Pending;
 use crate::twins::{count_all, count_both, forget_both, least_due, put_new, settle, tell_both};
@@ -101,7 +101,7 @@ impl Agenda {
 
     /// How many pairs are due at the instant, so for how many `take` wants room.
     pub fn due_count(&self, t: Instant) -> usize
-        ensures { result ≡ count_in self.now.set t }
+        ensures { result ≡ count_due self.now.set t }
     {
         count_both(&self.long, &self.short, t)
     }
@@ -109,12 +109,12 @@ impl Agenda {
     /// Adds the events that are due at the instant to a set of an instant, where room was made
     /// before. The agenda keeps them.
     pub fn tell(&self, t: Instant, into: &mut Happened)
-        requires { count_in self.now.set t ≤ into.old.spare }
+        requires { count_due self.now.set t ≤ into.old.spare }
         ensures events { (e : Prioritised)
             → has into.new.set.events e
             ≡ (has into.old.set.events e || has self.now.set (pending_at t e)) }
         ensures signals { into.new.set.signals ≡ into.old.set.signals }
-        ensures spare { into.old.spare ≤ into.new.spare + count_in self.now.set t }
+        ensures spare { into.old.spare ≤ into.new.spare + count_due self.now.set t }
     {
         tell_both(&self.long, &self.short, t, into);
     }
@@ -131,12 +131,12 @@ impl Agenda {
     /// before. The agenda keeps the other pairs; of those only the ones that are due before the
     /// instant move, so none at the least due.
     pub fn take(&mut self, t: Instant, into: &mut Happened)
-        requires { count_in self.old.set t ≤ into.old.spare }
+        requires { count_due self.old.set t ≤ into.old.spare }
         ensures events { (e : Prioritised)
             → has into.new.set.events e
             ≡ (has into.old.set.events e || has self.old.set (pending_at t e)) }
         ensures signals { into.new.set.signals ≡ into.old.set.signals }
-        ensures spare { into.old.spare ≤ into.new.spare + count_in self.old.set t }
+        ensures spare { into.old.spare ≤ into.new.spare + count_due self.old.set t }
         ensures set { self.new.set ≡ those self.old.set (λ p. not (is_due_at t p)) }
         ensures room { self.old.spare ≤ self.new.spare }
     {

@@ -2,7 +2,7 @@
 ghost use Rattle.std.specs.Prelude.{◌≡◌, ◌++◌, IfOk, IfErr};
 ghost use Rattle.gt_base.specs.Sets.{set_of_rising, Rises};
 ghost use Rattle.delay_agenda.specs.Due.{pending_cmp};
-ghost use Rattle.delay_agenda.specs.Rows.{AllBefore, IsPlaced, Parts, StandsAt, pairs_of};
+ghost use Rattle.delay_agenda.specs.Rows.{AllBefore, IsPlaced, Parts, PairStandsAt, pairs_of};
 
 use crate::pairs::{Pending, compare};
 use gt_base::Memory;
@@ -11,7 +11,7 @@ use std::alloc::Global;
 /// Where the pair stands, or how many stand before it.
 fn place_of(items: &[Pending], k: &Pending) -> Result<usize, usize>
     requires { Rises pending_cmp items.now }
-    ensures found { IfOk result (StandsAt k.now items.now) }
+    ensures found { IfOk result (PairStandsAt k.now items.now) }
     ensures parts { IfErr result (Parts k.now items.now) }
 {
     items.binary_search_by(|p| compare(p, k))

@@ -3,7 +3,7 @@ ghost use Rattle.std.specs.Prelude.{◌≡◌, ◌≤◌, ◌<◌, ◌+◌, ◌-
 ghost use Rattle.std.specs.List.{slice_range, remove_range};
 ghost use Rattle.gt_base.specs.declared.events.Prioritised.{Prioritised};
 ghost use Rattle.gt_base.specs.Sets.{has, those, set_of_rising, with_member, Rises, GoesIn};
-ghost use Rattle.delay_agenda.specs.Due.{pending_cmp, pending_at, is_due_at, count_due as count_in, IsLeastDue};
+ghost use Rattle.delay_agenda.specs.Due.{pending_cmp, pending_at, is_due_at, count_due, IsLeastDue};
 ghost use Rattle.delay_agenda.specs.Places.{AfterAreFirst, FromAreFirst, lists_event};
 
 use crate::pairs::{Pending, compare};
@@ -69,7 +69,7 @@ fn due_range(items: &[Pending], t: Instant) -> (usize, usize)
     requires { Rises pending_cmp items.now }
     ensures order { result.0 ≤ result.1 }
     ensures bound { result.1 ≤ length items.now }
-    ensures count { result.1 - result.0 ≡ count_in (set_of_rising items.now) t }
+    ensures count { result.1 - result.0 ≡ count_due (set_of_rising items.now) t }
     ensures events { (e : Prioritised)
         → lists_event (slice_range items.now result.0 result.1) e
         ≡ has (set_of_rising {R = pending_cmp} items.now) (pending_at t e) }
@@ -119,7 +119,7 @@ fn cut(items: &mut Vec<Pending>, start: usize, end: usize)
 /// How many pairs are due at the instant.
 pub(crate) fn count_due(items: &[Pending], t: Instant) -> usize
     requires { Rises pending_cmp items.now }
-    ensures count { result ≡ count_in (set_of_rising items.now) t }
+    ensures count { result ≡ count_due (set_of_rising items.now) t }
     ensures bound { result ≤ length items.now }
 {
     let (start, end) = due_range(items, t);
@@ -129,13 +129,13 @@ pub(crate) fn count_due(items: &[Pending], t: Instant) -> usize
 /// Adds the events that are due at the instant to the set, where room was made before.
 pub(crate) fn tell_due(items: &[Pending], t: Instant, into: &mut Happened)
     requires rises { Rises pending_cmp items.now }
-    requires room { count_in (set_of_rising items.now) t ≤ into.old.spare }
+    requires room { count_due (set_of_rising items.now) t ≤ into.old.spare }
     ensures events { (e : Prioritised)
         → has into.new.set.events e
         ≡ (has into.old.set.events e || has (set_of_rising {R = pending_cmp} items.now)
         (pending_at t e)) }
     ensures signals { into.new.set.signals ≡ into.old.set.signals }
-    ensures spare { into.old.spare ≤ into.new.spare + count_in (set_of_rising items.now) t }
+    ensures spare { into.old.spare ≤ into.new.spare + count_due (set_of_rising items.now) t }
 {
     let (start, end) = due_range(items, t);
     join(into, &items[start..end]);

@@ -4,7 +4,7 @@
 ghost use Rattle.std.specs.Prelude.{◌≡◌, ◌≤◌, ◌<◌, ◌+◌, ◌-◌, ◌||◌, ◌↔◌, ◌⊎◌, not, length, vec_capacity, vec_len, IfSome, IsNone};
 ghost use Rattle.gt_base.specs.declared.events.Prioritised.{Prioritised};
 ghost use Rattle.gt_base.specs.Sets.{has, members, none, those, with_member};
-ghost use Rattle.delay_agenda.specs.Due.{pending_at, is_due_at, count_due as count_in, IsLeastDue};
+ghost use Rattle.delay_agenda.specs.Due.{pending_at, is_due_at, count_due, IsLeastDue};
 ghost use Rattle.delay_agenda.specs.Rows.{AreRows, pairs_of};
 
 use crate::merging::merged;
@@ -79,7 +79,7 @@ pub(crate) fn least_due(long: &[Pending], short: &[Pending]) -> Option<Instant>
 /// How many pairs of both are due at the instant.
 pub(crate) fn count_both(long: &[Pending], short: &[Pending], t: Instant) -> usize
     requires { AreRows long.now short.now }
-    ensures { result ≡ count_in (pairs_of long.now short.now) t }
+    ensures { result ≡ count_due (pairs_of long.now short.now) t }
 {
     count_due(long, t) + count_due(short, t)
 }
@@ -87,13 +87,13 @@ pub(crate) fn count_both(long: &[Pending], short: &[Pending], t: Instant) -> usi
 /// Adds the events that are due at the instant to the set, where room was made before.
 pub(crate) fn tell_both(long: &[Pending], short: &[Pending], t: Instant, into: &mut Happened)
     requires rows { AreRows long.now short.now }
-    requires room { count_in (pairs_of long.now short.now) t ≤ into.old.spare }
+    requires room { count_due (pairs_of long.now short.now) t ≤ into.old.spare }
     ensures events { (e : Prioritised)
         → has into.new.set.events e
         ≡ (has into.old.set.events e || has (pairs_of long.now short.now)
         (pending_at t e)) }
     ensures signals { into.new.set.signals ≡ into.old.set.signals }
-    ensures spare { into.old.spare ≤ into.new.spare + count_in (pairs_of long.now short.now) t }
+    ensures spare { into.old.spare ≤ into.new.spare + count_due (pairs_of long.now short.now) t }
 {
     tell_due(long, t, into);
     tell_due(short, t, into);

@@ -1,5 +1,5 @@
 -- Walks of the numbered graph and of the triggers are the same.
-use Rattle.std.proofs.Common.{◌≡◌, ℕ, zero, suc, ◌<◌, ◌≤◌, inl, inr, Bool, true, false, cond, nat_lt, nat_le, List, [], ◌∷◌, length, Option, Some, None, MatchOption, slice_index, refl, sym, ◌∙◌, ap, subst, arith}
+use Rattle.std.proofs.Common.{◌≡◌, ℕ, zero, suc, ◌<◌, ◌≤◌, inl, inr, Bool, true, false, cond, nat_lt, nat_le, List, [], ◌∷◌, length, Option, Some, None, MatchOption, slice_index, refl, sym, ◌∙◌, ap, subst, arith, if◌then◌else◌}
 use Rattle.std.proofs.lemmas.Bool.{lt-ltb, le-leb, false≢true}
 use Rattle.gt_base.specs.declared.events.Event.{Event}
 use Rattle.gt_base.specs.Held.{TriggerView}
@@ -16,7 +16,7 @@ use Rattle.gtrbac_model.specs.Cycles.{Closes, IsLeastCycle, AreLevels, is_confli
 use Rattle.walk_laws.proofs.Closing as closing
 use Rattle.walk_laws.proofs.Orders.{one_least_cycle}
 use Rattle.dependency_graph.specs.Nets.{EventNet, IsGraphOf, event_at, dependency, read_off}
-use Rattle.dependency_graph.specs.Carried.{place_of, level_in, CyclesCarryOver, LevelsCarryOver}
+use Rattle.dependency_graph.specs.Carried.{event_place, level_in, CyclesCarryOver, LevelsCarryOver}
 
 -- what stands at a number of the list read off
 read_at : (events : List Event) (es : List GraphEdge) (ps : List (ℕ × ℕ)) (n : ℕ) (d : Dependency) → item_at (read_off events es ps) n ≡ Some d → (e : GraphEdge) × (p : ℕ × ℕ) × (item_at es n ≡ Some e) × (d ≡ dependency events e p)
@@ -37,11 +37,11 @@ event_here (x ∷ xs) zero h = refl
 event_here (x ∷ xs) (suc n) h = event_here xs n (omega arith)
 
 -- an event that stands somewhere stands at its place
-pub place_here : (xs : List Event) (n : ℕ) (e : Event) → item_at xs n ≡ Some e → item_at xs (place_of xs e) ≡ Some e
+pub place_here : (xs : List Event) (n : ℕ) (e : Event) → item_at xs n ≡ Some e → item_at xs (event_place xs e) ≡ Some e
 place_here [] n e h = cc
 place_here (x ∷ xs) zero e h = go (same_event e x) refl
   where
-    go : (b : Bool) → same_event e x ≡ b → item_at (x ∷ xs) (elim b [ true ↦ 0 | false ↦ suc (place_of xs e) ]) ≡ Some e
+    go : (b : Bool) → same_event e x ≡ b → item_at (x ∷ xs) (if b then 0 else suc (event_place xs e)) ≡ Some e
     go true q = h
     go false q = absurd (false≢true (sym q ∙ same_event_of e x (sym (the_same h))))
       where
@@ -49,7 +49,7 @@ place_here (x ∷ xs) zero e h = go (same_event e x) refl
         the_same k = cc
 place_here (x ∷ xs) (suc n) e h = go (same_event e x) refl (place_here xs n e h)
   where
-    go : (b : Bool) → same_event e x ≡ b → item_at xs (place_of xs e) ≡ Some e → item_at (x ∷ xs) (elim b [ true ↦ 0 | false ↦ suc (place_of xs e) ]) ≡ Some e
+    go : (b : Bool) → same_event e x ≡ b → item_at xs (event_place xs e) ≡ Some e → item_at (x ∷ xs) (if b then 0 else suc (event_place xs e)) ≡ Some e
     go true q k = ap Some (sym (is_same_event e x q))
     go false q k = k
 
@@ -76,9 +76,9 @@ module _ (rules : List TriggerView) (g : EventNet) (is : IsGraphOf rules g) wher
   one_node : (u v : ℕ) → u < g.net.nodes → v < g.net.nodes → event u ≡ event v → u ≡ v
   one_node u v hu hv q = is.is_event_net.apart u v (event v) (event_here g.events u (inside u hu) ∙ ap Some q) (event_here g.events v (inside v hv))
 
-  place_is : (v : ℕ) → v < g.net.nodes → place_of g.events (event v) ≡ v
+  place_is : (v : ℕ) → v < g.net.nodes → event_place g.events (event v) ≡ v
   place_is v h =
-      is.is_event_net.apart (place_of g.events (event v)) v (event v)
+      is.is_event_net.apart (event_place g.events (event v)) v (event v)
       (place_here g.events v (event v) (event_here g.events v (inside v h))) (event_here g.events v (inside v h))
 
   up : (a b : ℕ) (ns : List ℕ) → LeadsAlong (arcs_of g.net.edges) a ns b → LeadsAlong (safety.arcs_of ds) (event a) ns (event b)

@@ -1,5 +1,5 @@
 -- From the numbered graph to the triggers.
-use Rattle.std.specs.Prelude.{◌≡◌, ℕ, suc, true, false, List, [], ◌∷◌, slice_index, Some}
+use Rattle.std.specs.Prelude.{◌≡◌, ℕ, suc, List, [], ◌∷◌, slice_index, Some, if◌then◌else◌}
 use Rattle.gt_base.specs.declared.events.Event.{Event}
 use Rattle.gt_base.specs.Held.{TriggerView}
 use Rattle.gtrbac_model.specs.Same.{same_event}
@@ -9,13 +9,13 @@ use Rattle.gtrbac_model.specs.Cycles.{IsLeastCycle, AreLevels}
 use Rattle.dependency_graph.specs.Nets.{EventNet, IsGraphOf}
 
 -- the place of an event among events, or their number
-abbrev pub place_of : List Event → Event → ℕ
-place_of [] e = 0
-place_of (x ∷ xs) e = elim (same_event e x) [ true ↦ 0 | false ↦ suc (place_of xs e) ]
+abbrev pub event_place : List Event → Event → ℕ
+event_place [] e = 0
+event_place (x ∷ xs) e = if same_event e x then 0 else suc (event_place xs e)
 
 -- the level of an event, by that of its node
 abbrev pub level_in : List Event → List ℕ → Event → ℕ
-level_in events levels e = slice_index levels (place_of events e)
+level_in events levels e = slice_index levels (event_place events e)
 
 -- the least cycle of the numbered graph is the one that the definition computes of the triggers
 abbrev pub CyclesCarryOver : Type 0

@@ -4,6 +4,7 @@ use Rattle.std.specs.List.{slice_index_or}
 use Rattle.gt_base.specs.declared.events.Event.{Event}
 use Rattle.gt_base.specs.declared.events.Fluent.TheVariants.{Enabled}
 use Rattle.gt_base.specs.Held.{TriggerView}
+use Rattle.gt_base.specs.declared.limits.TheConstants.{MAX_NUMBER}
 use Rattle.least_walk.specs.declared.graphs.GraphEdge.{GraphEdge}
 use Rattle.least_walk.specs.Net.{Net, IsNet}
 use Rattle.gtrbac_model.specs.Graph.{item_at}
@@ -19,7 +20,7 @@ pub record EventNet : Type 0 where
 -- as many events as nodes, each at one node, and as many places as edges
 pub record IsEventNet (g : EventNet) : Type 0 where
   pub nodes : g.net.nodes ≡ length g.events
-  pub few : length g.events ≤ 4_294_967_295
+  pub few : length g.events ≤ MAX_NUMBER
   pub places : length g.places ≡ length g.net.edges
   pub apart : (i j : ℕ) (e : Event) → item_at g.events i ≡ Some e → item_at g.events j ≡ Some e
       → i ≡ j

@@ -74,7 +74,7 @@ fn heads(alloc: Global, triggers: &[Trigger]) -> Result<IndexSet<Event>, AllocEr
 
 /// The place of an event, none where it is absent.
 pub(crate) fn find(events: &IndexSet<Event>, e: Event) -> Option<u32>
-    requires { length events.now.keys ≤ 4_294_967_295 }
+    requires { length events.now.keys ≤ u32.MAX }
     ensures { MatchOption result (lists same_event events.now.keys e ≡ false)
         (λ n. item_at events.now.keys n ≡ Some e) }
 {
@@ -93,17 +93,18 @@ fn add_trigger(
     places: &mut Vec<(u32, u32)>,
 ) -> Result<(), AllocError>
     requires nodes { graph.old.nodes ≡ length events.now.keys }
-    requires few { length events.now.keys ≤ 4_294_967_295 }
+    requires few { length events.now.keys ≤ u32.MAX }
     requires head { immediate trigger.now ≡ true
         → lists same_event events.now.keys trigger.now.head.event ≡ true }
     requires sizes { length places.old.items ≡ length graph.old.edges }
     requires short { length trigger.now.events + length trigger.now.settled ≤ 16 }
-    requires room { length graph.old.edges + 32 ≤ 4_294_967_295 }
+    requires room { length graph.old.edges + 32 ≤ u32.MAX }
     ensures nodes { OnOk result (graph.new.nodes ≡ graph.old.nodes) }
     ensures sizes { OnOk result (length places.new.items ≡ length graph.new.edges) }
     ensures room { OnOk result (length graph.new.edges ≤ length graph.old.edges + 32) }
     ensures edges { OnOk result (Adds events.now.keys
-        (read_off events.now.keys graph.old.edges places.old.items) (read_off events.now.keys graph.new.edges places.new.items)
+        (read_off events.now.keys graph.old.edges places.old.items)
+        (read_off events.now.keys graph.new.edges places.new.items)
         (λ triggers. of_trigger triggers t trigger.now)) }
 {
     if trigger.delay != 0 {
@@ -135,17 +136,18 @@ fn add_body(
     places: &mut Vec<(u32, u32)>,
 ) -> Result<(), AllocError>
     requires nodes { graph.old.nodes ≡ length events.now.keys }
-    requires few { length events.now.keys ≤ 4_294_967_295 }
+    requires few { length events.now.keys ≤ u32.MAX }
     requires end { head < length events.now.keys }
     requires sizes { length places.old.items ≡ length graph.old.edges }
     requires short { length body.now ≤ 16 }
-    requires room { length graph.old.edges + 2 * length body.now ≤ 4_294_967_295 }
+    requires room { length graph.old.edges + 2 * length body.now ≤ u32.MAX }
     ensures nodes { OnOk result (graph.new.nodes ≡ graph.old.nodes) }
     ensures sizes { OnOk result (length places.new.items ≡ length graph.new.edges) }
     ensures room { OnOk result (length graph.new.edges ≤ length graph.old.edges + 2
         * length body.now) }
     ensures edges { OnOk result (Adds events.now.keys
-        (read_off events.now.keys graph.old.edges places.old.items) (read_off events.now.keys graph.new.edges places.new.items)
+        (read_off events.now.keys graph.old.edges places.old.items)
+        (read_off events.now.keys graph.new.edges places.new.items)
         (λ triggers. of_body triggers (event_at events.now.keys head) t 0 body.now)) }
 {
     for p in 0..body.len() {
@@ -168,17 +170,18 @@ fn add_settled(
     places: &mut Vec<(u32, u32)>,
 ) -> Result<(), AllocError>
     requires nodes { graph.old.nodes ≡ length events.now.keys }
-    requires few { length events.now.keys ≤ 4_294_967_295 }
+    requires few { length events.now.keys ≤ u32.MAX }
     requires end { head < length events.now.keys }
     requires sizes { length places.old.items ≡ length graph.old.edges }
     requires short { first + length conds.now ≤ 16 }
-    requires room { length graph.old.edges + 2 * length conds.now ≤ 4_294_967_295 }
+    requires room { length graph.old.edges + 2 * length conds.now ≤ u32.MAX }
     ensures nodes { OnOk result (graph.new.nodes ≡ graph.old.nodes) }
     ensures sizes { OnOk result (length places.new.items ≡ length graph.new.edges) }
     ensures room { OnOk result (length graph.new.edges ≤ length graph.old.edges + 2
         * length conds.now) }
     ensures edges { OnOk result (Adds events.now.keys
-        (read_off events.now.keys graph.old.edges places.old.items) (read_off events.now.keys graph.new.edges places.new.items)
+        (read_off events.now.keys graph.old.edges places.old.items)
+        (read_off events.now.keys graph.new.edges places.new.items)
         (λ triggers. of_settled triggers (event_at events.now.keys head) t first conds.now)) }
 {
     let mut p = first;
@@ -205,16 +208,22 @@ fn add_edge(
     places: &mut Vec<(u32, u32)>,
 ) -> Result<(), AllocError>
     requires nodes { graph.old.nodes ≡ length events.now.keys }
-    requires few { length events.now.keys ≤ 4_294_967_295 }
+    requires few { length events.now.keys ≤ u32.MAX }
     requires end { to < length events.now.keys }
     requires sizes { length places.old.items ≡ length graph.old.edges }
-    requires room { length graph.old.edges < 4_294_967_295 }
+    requires room { length graph.old.edges < u32.MAX }
     ensures nodes { OnOk result (graph.new.nodes ≡ graph.old.nodes) }
     ensures sizes { OnOk result (length places.new.items ≡ length graph.new.edges) }
     ensures room { OnOk result (length graph.new.edges ≤ length graph.old.edges + 1) }
     ensures edges { OnOk result (read_off events.now.keys graph.new.edges places.new.items
         ≡ read_off events.now.keys graph.old.edges places.old.items
-        ++ edge_in events.now.keys (record { source = source; target = event_at events.now.keys to; conflict = marked; trigger = place.0; place = place.1 })) }
+        ++ edge_in events.now.keys (record {
+          source = source;
+          target = event_at events.now.keys to;
+          conflict = marked;
+          trigger = place.0;
+          place = place.1;
+        })) }
 {
     let Some(from) = find(events, source) else {
         return Ok(());

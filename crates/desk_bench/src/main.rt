@@ -5,16 +5,15 @@
 mod mutex;
 
 use crate::mutex::under_mutex;
-use desk_threads::many;
+use desk_checks::{Tally, many};
 use gt_base::{Instant, Keeps};
 use std::alloc::{AllocError, Global};
 use std::env;
 use std::process::ExitCode;
 use std::sync::Wait;
 use std::thread::Threads;
-use tally_machine::Tally;
 
-// The words after the program's name, none where they are no text.
+/// The words after the program's name, none where they are no text.
 fn words(rt: &HostRuntime) -> Result<Vec<String>, AllocError> {
     match env::args(rt) {
         Ok(args) => args.skip(1).collect(rt.alloc()),
@@ -26,8 +25,8 @@ fn number(word: &str) -> Option<u32> {
     word.parse::<u32>().ok()
 }
 
-// How often the machine was asked: `desk`, `stay` (a desk whose passes keep their turns) or `mutex`,
-// the number of threads from 1 to 8, and the asks of each.
+/// How often the machine was asked: `desk`, `stay` (a desk whose passes keep their turns) or
+/// `mutex`, the number of threads from 1 to 8, and the asks of each.
 fn asked<R: Threads + Wait + Sync>(rt: &R, alloc: Global, words: &[String]) -> Option<u64> {
     let [kind, threads, asks] = words else {
         return None;

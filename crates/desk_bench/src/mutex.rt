@@ -1,10 +1,10 @@
 //! The same asks under a plain mutex.
+use desk_checks::Tally;
 use gt_base::{Actor, Keeps, Machine, Request, Who};
 use std::alloc::Global;
 use std::sync::{Mutex, Wait};
 use std::thread;
 use std::thread::Threads;
-use tally_machine::Tally;
 
 fn ask_all<R: Wait>(rt: &R, shared: &Mutex<Tally>, worker: u32, asks: u32) {
     for _ in 0..asks {

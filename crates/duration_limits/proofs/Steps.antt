@@ -11,11 +11,6 @@ and_assoc true true c d = refl
 and_assoc true false c d = refl
 and_assoc false b c d = refl
 
--- a choice by cases is the one that clauses write
-chosen : (b : Bool) (x y : ℕ) → (elim b [ true ↦ x | false ↦ y ]) ≡ cond b x y
-chosen true x y = refl
-chosen false x y = refl
-
 chosen_between : (b : Bool) (low high x y : ℕ) → low ≤ x → x ≤ high → low ≤ y → y ≤ high → (low ≤ cond b x y) × (cond b x y ≤ high)
 chosen_between true low high x y a b c d = (a, b)
 chosen_between false low high x y a b c d = (c, d)
@@ -25,8 +20,7 @@ changed_between p birth m f zero = (omega arith, omega arith)
 changed_between p birth m f (suc k) =
     let before = changed_between p birth m f k in
     let high : changed_by p birth m f k ≤ birth + suc k = omega (arith, before.1) in
-    subst (λ n. (birth ≤ n) × (n ≤ birth + suc k)) (sym (chosen (differ (status_after p birth m (suc k) f) (status_after p birth m k f)) (birth + suc k) (changed_by p birth m f k)))
-    (chosen_between (differ (status_after p birth m (suc k) f) (status_after p birth m k f)) birth (birth + suc k) (birth + suc k) (changed_by p birth m f k) (omega arith) (omega arith) before.0 high)
+    chosen_between (differ (status_after p birth m (suc k) f) (status_after p birth m k f)) birth (birth + suc k) (birth + suc k) (changed_by p birth m f k) (omega arith) (omega arith) before.0 high
 
 pub by_steps : (p : Policy) (birth : ℕ) (m : Model) → SinceBySteps p birth m
 by_steps p birth m = record {
@@ -36,7 +30,6 @@ by_steps p birth m = record {
       let here : t - birth ≡ suc k = omega (arith, later) in
       let is : birth + suc k ≡ t = omega (arith, later) in
       ap (changed_by p birth m f) here
-      ∙ chosen (differ (status_after p birth m (suc k) f) (status_after p birth m k f)) (birth + suc k) (changed_by p birth m f k)
       ∙ (λ i. cond (differ (status_after p birth m (sym here i) f) (status_after p birth m k f)) (is i) (changed_by p birth m f k));
   low = λ f t. (changed_between p birth m f (t - birth)).0;
   high = λ f t upto. let whole : birth + (t - birth) ≡ t = omega (arith, upto) in subst (λ n. since p birth m f t ≤ n) whole (changed_between p birth m f (t - birth)).1;

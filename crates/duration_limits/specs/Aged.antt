@@ -3,7 +3,7 @@ use Rattle.std.specs.Prelude.{ℕ, ◌+◌, ◌-◌, Bool, false, ◌&&◌, nat_
 use Rattle.gt_base.specs.declared.events.Fluent.{Fluent}
 use Rattle.gt_base.specs.declared.events.Fluent.TheVariants.{Limit}
 use Rattle.gt_base.specs.declared.policies.LimitRule.{LimitRule}
-use Rattle.gt_base.specs.Bounds.{last_minute}
+use Rattle.gt_base.specs.declared.limits.TheConstants.{LAST_MINUTE}
 use Rattle.gtrbac_model.specs.Conflict.{Status}
 use Rattle.gtrbac_model.specs.Trigger.{holds}
 
@@ -17,7 +17,7 @@ is_aged s since n l t = is_running s n l && nat_le l.most (t - since l.cond.flue
 
 -- the instant m minutes after t, up to the last
 abbrev pub minute_after : ℕ → ℕ → Option ℕ
-minute_after t m = if nat_le (t + m) last_minute then Some (t + m) else None
+minute_after t m = if nat_le (t + m) LAST_MINUTE then Some (t + m) else None
 
 -- the first instant from which it has run for long enough
 abbrev pub aged_from : Status → (Fluent → ℕ) → ℕ → LimitRule → Option ℕ

@@ -1,8 +1,8 @@
 //! When each fluent last changed, and from when on a duration limit has run for long enough.
 ghost use Rattle.std.specs.Prelude.{◌≡◌, ℕ, ◌≤◌, ◌+◌, ◌-◌, cond, [], IfOk, OnOk};
 ghost use Rattle.gt_base.specs.declared.events.Fluent.{Fluent};
-ghost use Rattle.gt_base.specs.Bounds.{last_minute};
 ghost use Rattle.gt_base.specs.Sets.{has};
+ghost use Rattle.gt_base.specs.declared.limits.TheConstants.{LAST_MINUTE};
 ghost use Rattle.gtrbac_model.specs.Same.{same_fluent};
 ghost use Rattle.gtrbac_model.specs.Trigger.{holds};
 ghost use Rattle.duration_limits.specs.Since.{since_in};
@@ -122,7 +122,7 @@ impl Ages {
     /// after 2099-12-31T23:59. It takes no memory.
     pub fn ripe_from(&self, id: LimitId, rule: &LimitRule, status: &Status) -> Option<Instant>
         ensures from { result ≡ aged_from (has status.now.set) (since_in self.now) id.0 rule.now }
-        ensures first { (t : ℕ) → since_in self.now rule.now.cond.fluent ≤ t → t ≤ last_minute
+        ensures first { (t : ℕ) → since_in self.now rule.now.cond.fluent ≤ t → t ≤ LAST_MINUTE
             → is_aged (has status.now.set) (since_in self.now) id.0 rule.now t ≡ has_come result t }
     {
         if runs(id, rule, status) {

@@ -29,10 +29,20 @@ use Rattle.time_engine.specs.Plans.{IsTimeline, with_trace}
 use Rattle.time_engine.specs.Traces.{model_of}
 use Rattle.core_machine.specs.Books.{BookView, HasWaiting, IsLegalBook, IsTableIn, model_in, now_in, point_in}
 use Rattle.forecast.specs.Ahead.{HasOneAhead, IsAhead, IsFirstChange, nobody_asks}
-use Rattle.forecast.specs.Going.{Going, IsOnWay, StayedSo, Steps, StepsTo}
+use Rattle.forecast.specs.Going.{IsGoing, IsOnWay, Steps, StepsTo}
 use Rattle.forecast.specs.declared.changes.Change.{Change}
 use Rattle.forecast.proofs.Existing.{ahead_is_one}
 use Rattle.forecast.proofs.Horizons.{bases_stay}
+
+-- the walk has come to this timeline, within the horizon, and in what lies ahead the fluent was so
+-- at each minute from the book's now on
+pub record StayedSo (b : BookView) (f : Fluent) (upto : ℕ) (was : Bool)
+    (v : TimelineView) : Type 0 where
+  pub from : now_in b ≤ v.now
+  pub bounded : v.now ≤ upto
+  pub here : has v.status f ≡ was
+  pub ahead : (n : Model) → IsAhead b.named.policy b.birth b.entries upto n
+      → (t : ℕ) → now_in b ≤ t → t ≤ v.now → status_at b.named.policy b.birth n t f ≡ was
 
 -- a walk begins at the book's now
 pub begins : (b : BookView) (v : TimelineView) (tv : TableView) → IsTimeline v → v.trace ≡ b.trace → Follows b.named.policy b.birth b.entries (model_in b) v → HasWaiting b v
@@ -58,7 +68,7 @@ begins b v tv line trace follows waits table charged legal =
 
 module _ (p : Policy) (safe : IsSafe p.triggers) (birth : ℕ) (h : List Entry) (o : Onward birth h) (upto : ℕ) (le : now_of birth h ≤ upto) (n : Model) (ahead : IsAhead p birth h upto n) where
   -- the sets that the walk has found are those of what lies ahead
-  agrees : (v : TimelineView) (tb : Table) (c : Option ℕ) (k : Going p birth h v tb c) → v.now ≤ upto → SameUpTo birth v.now n (model_of k.sets)
+  agrees : (v : TimelineView) (tb : Table) (c : Option ℕ) (k : IsGoing p birth h v tb c) → v.now ≤ upto → SameUpTo birth v.now n (model_of k.sets)
   agrees v tb c k within t a b =
       let levels = safe_is_levelled p.triggers safe in
       only_model p birth k.gone (model_of k.sets) levels.0 (by_trigger p.triggers levels.0 levels.1) k.abreast.legal.model n
@@ -67,14 +77,14 @@ module _ (p : Policy) (safe : IsSafe p.triggers) (birth : ℕ) (h : List Entry) 
       (ahead u x (omega (arith, y, k.abreast.follows.now, within, now_snoc birth h (ticked nobody_asks upto upto)))))
       t a (omega (arith, b, k.abreast.follows.now))
 
-  pub on_now : (v : TimelineView) (tb : Table) (c : Option ℕ) → Going p birth h v tb c → v.now ≤ upto → (f : Fluent) → status_at p birth n v.now f ≡ has v.status f
+  pub on_now : (v : TimelineView) (tb : Table) (c : Option ℕ) → IsGoing p birth h v tb c → v.now ≤ upto → (f : Fluent) → status_at p birth n v.now f ≡ has v.status f
   on_now v tb c k within f =
       (λ i. status_same p birth n (model_of k.sets) v.now v.now (agrees v tb c k within) (omega arith) i f) ∙ sym (k.abreast.follows.status f)
 
-  born : (v : TimelineView) (tb : Table) (c : Option ℕ) → Going p birth h v tb c → birth ≤ v.now
+  born : (v : TimelineView) (tb : Table) (c : Option ℕ) → IsGoing p birth h v tb c → birth ≤ v.now
   born v tb c k = omega (arith, k.abreast.follows.now, reaches birth k.gone (legal_onward p birth (model_of k.sets) [] k.gone k.abreast.legal.steps))
 
-  module _ (v w : TimelineView) (tb tb' : Table) (c c' : Option ℕ) (k : Going p birth h v tb c) (s : Steps p birth h v w tb' c' upto) where
+  module _ (v w : TimelineView) (tb tb' : Table) (c c' : Option ℕ) (k : IsGoing p birth h v tb c) (s : Steps p birth h v w tb' c' upto) where
     quiet : NothingBetween n v.now w.now
     quiet u a b = agrees w tb' c' s.way s.bounded u (omega (arith, a, born v tb c k)) (omega (arith, b)) ∙ s.quiet u a b
 

@@ -7,13 +7,12 @@ use Rattle.gt_base.specs.declared.events.Event.{Event}
 use Rattle.gt_base.specs.declared.requests.Entry.{Entry}
 use Rattle.gtrbac_model.specs.Policy.{Policy}
 use Rattle.gtrbac_model.specs.Instant.{Settled}
-use Rattle.gtrbac_model.specs.Safety.{are_levels}
 use Rattle.gtrbac_model.specs.Status.{Model}
 use Rattle.gtrbac_model.specs.Base.{status, base_at}
 use Rattle.gtrbac_model.specs.History.{IsExecutionModel, now_of}
 use Rattle.gtrbac_model.proofs.Elements.{split}
 use Rattle.gtrbac_model.proofs.Existence.{settled_set}
-use Rattle.gtrbac_model.proofs.Levels.{by_trigger}
+use Rattle.gtrbac_model.proofs.Levels.{are_levels, by_trigger}
 use Rattle.gtrbac_model.proofs.OneModel.{Agree, status_same, base_same, only_model}
 use Rattle.gtrbac_model.proofs.Playing.{now_snoc}
 use Rattle.walk_laws.proofs.Climbing.{safe_is_levelled}

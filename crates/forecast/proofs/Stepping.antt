@@ -2,7 +2,6 @@
 use Rattle.std.proofs.Common.{◌≡◌, ℕ, ◌+◌, ◌-◌, ◌*◌, ◌<◌, ◌≤◌, Bool, false, not, ◌||◌, List, [], ◌∷◌, ◌++◌, map, filter, count_by, Option, Some, is_none, inl, inr, refl, sym, ◌∙◌, ap, subst, arith}
 use Rattle.std.specs.List.{list_any}
 use Rattle.std.specs.Ordering.{eq_by_cmp}
-use Rattle.gt_base.specs.Bounds.{last_minute}
 use Rattle.gt_base.specs.Machines.{ticked}
 use Rattle.gt_base.specs.Orders.{signal_cmp}
 use Rattle.gt_base.specs.Sets.{has}
@@ -12,6 +11,7 @@ use Rattle.gt_base.specs.declared.events.UserId.{UserId}
 use Rattle.gt_base.specs.declared.events.Signal.{Signal}
 use Rattle.gt_base.specs.declared.requests.Entry.{Entry}
 use Rattle.gt_base.proofs.SetLaws.{has-none}
+use Rattle.gt_base.specs.declared.limits.TheConstants.{LAST_MINUTE}
 use Rattle.gtrbac_model.specs.Policy.{Policy}
 use Rattle.gtrbac_model.specs.Calendar.{day_of}
 use Rattle.gtrbac_model.specs.Conflict.{Status}
@@ -26,7 +26,7 @@ use Rattle.history_laws.specs.Ticking.{with_set}
 use Rattle.history_laws.proofs.Reading.{Onward, legal_onward}
 use Rattle.instant_bases.specs.Timelines.{ClosedSet, TimelineView, Signals, stirs_in}
 use Rattle.session_table.specs.Tables.{ForgetsDays, TableView, table_of, charged_through, closed_at, dropped_at}
-use Rattle.time_engine.specs.Plans.{PlanView, Closes, IsPlan, IsAfter, with_trace}
+use Rattle.time_engine.specs.Plans.{PlanView, ClosesTimeline, IsPlan, IsAfter, with_trace}
 use Rattle.time_engine.specs.Traces.{model_of, traced}
 use Rattle.policy_words.specs.Naming.{NamedPolicy}
 use Rattle.core_machine.specs.Books.{BookView}
@@ -34,11 +34,11 @@ use Rattle.core_machine.specs.Steps.{moves, with_signals}
 use Rattle.core_machine.proofs.Asks.{signals_only, signals_told}
 use Rattle.core_machine.proofs.Closes.{quiet, model_is, abreast_after}
 use Rattle.forecast.specs.Ahead.{nobody_asks}
-use Rattle.forecast.specs.Going.{Going, IsOnWay, Steps, StepsTo}
+use Rattle.forecast.specs.Going.{IsGoing, IsOnWay, Steps, StepsTo}
 use Rattle.forecast.proofs.Horizons.{bases_stay}
 
-module _ (p : Policy) (is : IsPolicy p) (birth : ℕ) (h : List Entry) (v : TimelineView) (tb : Table) (charged : Option ℕ) (k : Going p birth h v tb charged)
-    (upto : ℕ) (within : upto ≤ last_minute) (plan : PlanView) (plans : IsPlan p v plan) (stop : IsNextStop (moves p v tb) v.now upto plan.at) (w : TimelineView) (after : IsAfter v plan w) where
+module _ (p : Policy) (is : IsPolicy p) (birth : ℕ) (h : List Entry) (v : TimelineView) (tb : Table) (charged : Option ℕ) (k : IsGoing p birth h v tb charged)
+    (upto : ℕ) (within : upto ≤ LAST_MINUTE) (plan : PlanView) (plans : IsPlan p v plan) (stop : IsNextStop (moves p v tb) v.now upto plan.at) (w : TimelineView) (after : IsAfter v plan w) where
   -- the timeline with its trace, before the close and after it
   abbrev u : TimelineView
   u = with_trace v k.sets
@@ -131,7 +131,7 @@ module _ (p : Policy) (is : IsPolicy p) (birth : ℕ) (h : List Entry) (v : Time
     abbrev sg : Signals
     sg = (with_signals bare told).signals
 
-    waits : plan.at < last_minute → (x : Signal) → list_any (eq_by_cmp signal_cmp x) told ≡ has sg x
+    waits : plan.at < LAST_MINUTE → (x : Signal) → list_any (eq_by_cmp signal_cmp x) told ≡ has sg x
     waits lt x =
         let any : Bool = list_any (eq_by_cmp signal_cmp x) told in
         sym (signals_told bare told (omega (arith, lt, after.now)) x
@@ -159,14 +159,14 @@ module _ (p : Policy) (is : IsPolicy p) (birth : ℕ) (h : List Entry) (v : Time
 
 -- a close of the timeline to the next stop, the close of the table, whose signals the timeline gets, and trace and charges forgotten
 pub stepped : (b : BookView) (np : NamedPolicy) → np ≡ b.named → IsPolicy np.policy → (v w x : TimelineView) (tv mid tw : TableView) → IsOnWay b v tv
-    → (upto to : ℕ) → upto ≤ last_minute → IsNextStop (moves np.policy v (table_of tv)) v.now upto to → Closes np.policy v to w
+    → (upto to : ℕ) → upto ≤ LAST_MINUTE → IsNextStop (moves np.policy v (table_of tv)) v.now upto to → ClosesTimeline np.policy v to w
     → (told : List Signal) → record (table_of mid) { signals = told } ≡ closed_at np.policy.edges np.policy.caps (has w.status) v.now to (table_of tv) → ForgetsDays (day_of to) (table_of mid) (table_of tw)
     → tw.charged_to ≡ Some to
     → x ≡ with_signals (with_trace w []) told → StepsTo b v x tw upto
 stepped b np same is v w x tv mid tw k upto to within stop closing told closed forgot charged signalled =
     let p : Policy = np.policy in
     let plan : PlanView = closing.plan in
-    let k' : Going p b.birth b.entries v (table_of tv) tv.charged_to = subst (λ (q : NamedPolicy). Going q.policy b.birth b.entries v (table_of tv) tv.charged_to) (sym same) k in
+    let k' : IsGoing p b.birth b.entries v (table_of tv) tv.charged_to = subst (λ (q : NamedPolicy). IsGoing q.policy b.birth b.entries v (table_of tv) tv.charged_to) (sym same) k in
     let stop' : IsNextStop (moves p v (table_of tv)) v.now upto plan.at = subst (λ (t : ℕ). IsNextStop (moves p v (table_of tv)) v.now upto t) (sym closing.at) stop in
     let closed' : record (table_of mid) { signals = told } ≡ closed_at p.edges p.caps (has plan.status) v.now plan.at (table_of tv) =
     closed ∙ (λ i. closed_at p.edges p.caps (has (closing.after.status i)) v.now (sym closing.at i) (table_of tv)) in

@@ -1,5 +1,5 @@
 -- A fluent of which nothing raises an event stays as at the birth.
-use Rattle.std.proofs.Common.{◌≡◌, ◌≢◌, ℕ, zero, suc, ◌+◌, ◌-◌, ◌≤◌, Bool, true, false, ◌&&◌, ◌||◌, inl, inr, List, [], ◌∷◌, ◌++◌, flat_map, None, refl, sym, ◌∙◌, ap, subst, arith, not, nat_eq, nat_lt}
+use Rattle.std.proofs.Common.{◌≡◌, ◌≢◌, ℕ, zero, suc, ◌+◌, ◌-◌, ◌≤◌, Bool, true, false, ◌&&◌, ◌||◌, inl, inr, List, [], ◌∷◌, ◌++◌, flat_map, None, refl, sym, ◌∙◌, ap, subst, arith, not, nat_eq, nat_lt, if◌then◌else◌}
 use Rattle.std.specs.List.{list_any}
 use Rattle.gt_base.specs.Happening.{HappenedView, nothing}
 use Rattle.gt_base.specs.Held.{TriggerView}
@@ -29,13 +29,13 @@ use Rattle.gtrbac_model.specs.History.{IsExecutionModel, now_of}
 use Rattle.gtrbac_model.specs.Instant.{Settled}
 use Rattle.gtrbac_model.specs.Period.{Period, inside, starts}
 use Rattle.gtrbac_model.specs.Policy.{Policy}
-use Rattle.gtrbac_model.specs.Safety.{IsSafe, is_node, are_levels}
+use Rattle.gtrbac_model.specs.Safety.{IsSafe, is_node}
 use Rattle.gtrbac_model.specs.Same.{same_event, same_fluent}
 use Rattle.gtrbac_model.specs.Status.{Model, status_after, status_at, since}
 use Rattle.gtrbac_model.specs.Trigger.{immediate, met}
 use Rattle.gtrbac_model.specs.WholePolicy.{IsPolicy}
 use Rattle.gtrbac_model.proofs.Elements.{Elem, any_elim, any_intro, both_true, elem_of_set_of, split, tied}
-use Rattle.gtrbac_model.proofs.Levels.{by_trigger}
+use Rattle.gtrbac_model.proofs.Levels.{are_levels, by_trigger}
 use Rattle.gtrbac_model.proofs.Playing.{now_snoc}
 use Rattle.gtrbac_model.proofs.Uniqueness.{In, Goes, after_alike, in_order, is_same_event, only_base_along}
 use Rattle.history_laws.proofs.Members.{clash, of_join}
@@ -71,7 +71,7 @@ module _ (f : Fluent) where
   spares_when true e apart o (inr m) = elim m [ ]
   spares_when false e apart o m = elim m [ ]
 
-  spares_if : (b : Bool) (xs : List Prioritised) → Spares xs → Spares (elim b [ true ↦ xs | false ↦ [] ])
+  spares_if : (b : Bool) (xs : List Prioritised) → Spares xs → Spares (if b then xs else [])
   spares_if true xs a = a
   spares_if false xs a = spares_none
 
@@ -129,7 +129,7 @@ module _ (f : Fluent) where
     -- nothing that is raised at an instant is of the fluent
     raised_spares : (t : ℕ) → Spares (raised_at p birth m h t)
     raised_spares t =
-        let late : TriggerView → List Prioritised = λ r. elim (nat_lt 0 r.delay && nat_lt birth (t - r.delay)) [ true ↦ when (met r (m (t - r.delay)) (status p birth m (t - r.delay - 1))) r.head | false ↦ [] ] in
+        let late : TriggerView → List Prioritised = λ r. if nat_lt 0 r.delay && nat_lt birth (t - r.delay) then when (met r (m (t - r.delay)) (status p birth m (t - r.delay - 1))) r.head else [] in
         spares_join (periodic p birth t ++ requested h t ++ delayed p birth m t) (limited p (status p birth m (t - 1)) (λ g. since p birth m g (t - 1)) t)
         (spares_join (periodic p birth t ++ requested h t) (delayed p birth m t)
         (spares_join (periodic p birth t) (requested h t)

@@ -1,7 +1,5 @@
 -- Walks ahead of a book: how far one has come, and what a step of it does.
-use Rattle.std.specs.Prelude.{◌≡◌, ℕ, ◌<◌, ◌≤◌, Bool, List, Option}
-use Rattle.gt_base.specs.Sets.{has}
-use Rattle.gt_base.specs.declared.events.Fluent.{Fluent}
+use Rattle.std.specs.Prelude.{◌≡◌, ℕ, ◌<◌, ◌≤◌, List, Option}
 use Rattle.gt_base.specs.declared.events.RoleId.{RoleId}
 use Rattle.gt_base.specs.declared.events.UserId.{UserId}
 use Rattle.gt_base.specs.declared.requests.Entry.{Entry}
@@ -9,20 +7,19 @@ use Rattle.gtrbac_model.specs.Policy.{Policy}
 use Rattle.gtrbac_model.specs.Base.{base_at}
 use Rattle.gtrbac_model.specs.Calendar.{day_of}
 use Rattle.gtrbac_model.specs.Sessions.{Table}
-use Rattle.gtrbac_model.specs.Status.{Model, status_at}
+use Rattle.gtrbac_model.specs.Status.{Model}
 use Rattle.history_laws.specs.Pending.{NothingBetween}
 use Rattle.instant_bases.specs.Timelines.{ClosedSet, TimelineView}
 use Rattle.session_table.specs.Tables.{TableView, NotBefore, table_of}
 use Rattle.time_engine.specs.Plans.{with_trace}
 use Rattle.time_engine.specs.Traces.{model_of}
-use Rattle.core_machine.specs.Books.{BookView, now_in}
+use Rattle.core_machine.specs.Books.{BookView}
 use Rattle.core_machine.specs.Kept.{Abreast}
-use Rattle.forecast.specs.Ahead.{IsAhead}
 
 -- the walk has come to this timeline and this table: with these sets as its trace, and with these
 -- charges, of which those of this day and of later ones are kept, both are abreast of the entries
 -- with ticks that were legal, which add nothing to any base
-pub record Going (p : Policy) (birth : ℕ) (h : List Entry) (v : TimelineView) (tb : Table)
+pub record IsGoing (p : Policy) (birth : ℕ) (h : List Entry) (v : TimelineView) (tb : Table)
     (charged_to : Option ℕ) : Type 0 where
   pub gone : List Entry
   pub sets : List ClosedSet
@@ -34,13 +31,13 @@ pub record Going (p : Policy) (birth : ℕ) (h : List Entry) (v : TimelineView) 
   pub charged : NotBefore charged_to v.now
 
 abbrev pub IsOnWay : BookView → TimelineView → TableView → Type 0
-IsOnWay b v tv = Going b.named.policy b.birth b.entries v (table_of tv) tv.charged_to
+IsOnWay b v tv = IsGoing b.named.policy b.birth b.entries v (table_of tv) tv.charged_to
 
 -- a step goes on to this timeline and this table, not past the horizon, and nothing happens on its
 -- way
 pub record Steps (p : Policy) (birth : ℕ) (h : List Entry) (v w : TimelineView) (tb : Table)
     (charged_to : Option ℕ) (upto : ℕ) : Type 0 where
-  pub way : Going p birth h w tb charged_to
+  pub way : IsGoing p birth h w tb charged_to
   pub later : v.now < w.now
   pub bounded : w.now ≤ upto
   pub quiet : NothingBetween (model_of way.sets) v.now w.now
@@ -48,10 +45,3 @@ pub record Steps (p : Policy) (birth : ℕ) (h : List Entry) (v w : TimelineView
 abbrev pub StepsTo : BookView → TimelineView → TimelineView → TableView → ℕ → Type 0
 StepsTo b v w tw upto =
     Steps b.named.policy b.birth b.entries v w (table_of tw) tw.charged_to upto
-
--- the walk has come to this timeline, within the horizon, and in what lies ahead the fluent was so at each minute from the book's now on
-pub record StayedSo (b : BookView) (f : Fluent) (upto : ℕ) (was : Bool) (v : TimelineView) : Type 0 where
-  pub from : now_in b ≤ v.now
-  pub bounded : v.now ≤ upto
-  pub here : has v.status f ≡ was
-  pub ahead : (n : Model) → IsAhead b.named.policy b.birth b.entries upto n → (t : ℕ) → now_in b ≤ t → t ≤ v.now → status_at b.named.policy b.birth n t f ≡ was

@@ -35,4 +35,5 @@ abbrev pub in_history : Fluent → List Entry → Bool
 in_history f = list_any (λ e. asked_by f e.what)
 
 abbrev pub is_raised : Policy → List Entry → Fluent → Bool
-is_raised p h f = in_entries f p.entries || in_triggers f p.triggers || in_limits f p.limits || in_history f h
+is_raised p h f =
+    in_entries f p.entries || in_triggers f p.triggers || in_limits f p.limits || in_history f h

@@ -18,18 +18,17 @@ pub struct Change {
     pub on: bool,
 }
 
-/// The first change of the fluent after now, if no request comes any more: the least instant after now and up to the horizon at
-/// which it is not as at now, and None exactly where there is none. The horizon is not before now. Just one run lies ahead of a
-/// book. The book stays as it is, and however long its history is, it may be asked. Only want of memory is free.
+/// The first change of the fluent after now, if no request comes any more: the least instant after
+/// now and up to the horizon at which it is not as at now, and None exactly where there is none.
+/// The horizon is not before now. Just one run lies ahead of a book. The book stays as it is, and
+/// however long its history is, it may be asked. Only want of memory is free.
 pub fn first_change(book: &Book, f: Fluent, upto: Instant) -> Result<Option<Change>, Memory>
     requires { now_in book.now ≤ upto }
-    ensures first { IfOk result (IsFirstChange book.now.named.policy book.now.birth book.now.entries f upto) }
+    ensures first { IfOk result (IsFirstChange book.now.named.policy book.now.birth book.now.entries
+        f upto) }
     ensures one { HasOneAhead book.now.named.policy book.now.birth book.now.entries upto }
 {
-    // what a book keeps
-    let _entries = book.entries();
-    let _ground = book.ground();
-    book.policy().keeps();
+    book.keeps();
     if !is_raised(book, f) {
         return Ok(None);
     }
@@ -51,11 +50,10 @@ fn walk(
     requires way { IsOnWay book.now line.old.line table.old }
     requires now { line.old.line.now ≡ now_in book.now }
     requires within { now_in book.now ≤ upto }
-    ensures { IfOk result (IsFirstChange book.now.named.policy book.now.birth book.now.entries f upto) }
+    ensures { IfOk result (IsFirstChange book.now.named.policy book.now.birth book.now.entries f
+        upto) }
 {
-    // what a book keeps
-    let _entries = book.entries();
-    let _ground = book.ground();
+    book.keeps();
     let was = line.status().is_on(f);
     while line.now().minute() < upto.minute() {
         go_on(book, line, table, upto)?;

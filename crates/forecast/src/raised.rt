@@ -1,15 +1,15 @@
 //! Whether anything may raise an event of a fluent.
 ghost use Rattle.std.specs.Prelude.{◌≡◌};
 ghost use Rattle.gtrbac_model.specs.Same.{same_fluent};
-ghost use Rattle.forecast.specs.Raised.{asked_by, in_entries, in_history, in_limits, in_triggers, is_raised as may_be_raised};
+ghost use Rattle.forecast.specs.Raised.{asked_by, in_entries, in_history, in_limits, in_triggers, is_raised};
 
 use core_machine::Book;
 use gt_base::{Entry, Fluent, LimitRule, PeriodicEntry, Request, Step, Trigger};
 
-/// Whether a periodic entry, a trigger, a limit rule or a request of the history is for an event of the fluent. Where none is,
-/// the fluent stays as it was at the birth.
+/// Whether a periodic entry, a trigger, a limit rule or a request of the history is for an event of
+/// the fluent. Where none is, the fluent stays as it was at the birth.
 pub(crate) fn is_raised(book: &Book, f: Fluent) -> bool
-    ensures { result ≡ may_be_raised book.now.named.policy book.now.entries f }
+    ensures { result ≡ is_raised book.now.named.policy book.now.entries f }
 {
     let policy = book.policy();
     is_in_entries(policy.entries().as_slice(), f)

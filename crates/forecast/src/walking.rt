@@ -13,8 +13,8 @@ use gt_base::{Instant, Memory, Signal};
 use session_table::Sessions;
 use time_engine::{Ground, Timeline};
 
-/// Goes on to the least instant after now and up to the horizon at which something is raised or a cap ends an activation, or to
-/// the horizon. The trace and the charges of past days are let go.
+/// Goes on to the least instant after now and up to the horizon at which something is raised or a
+/// cap ends an activation, or to the horizon. The trace and the charges of past days are let go.
 pub(crate) fn go_on(
     book: &Book,
     line: &mut Timeline,
@@ -25,11 +25,12 @@ pub(crate) fn go_on(
     requires later { line.old.line.now < upto }
     ensures { OnOk result (StepsTo book.now line.old.line line.new.line table.new upto) }
 {
+    book.keeps();
+    // the call tells that an instant is not after the last
     let _bound = upto.minute();
     let now = line.now();
     let ground = book.ground();
     let policy = ground.policy();
-    policy.keeps();
     let to = stop(ground, line, table, upto);
     line.close(ground, to)?;
     line.forget_trace();
@@ -45,7 +46,8 @@ fn stop(ground: &Ground, line: &Timeline, table: &Sessions, upto: Instant) -> In
     requires stands { StandsFor ground.now.policy line.now.line }
     requires charged { NotBefore table.now.charged_to line.now.line.now }
     requires later { line.now.line.now < upto }
-    ensures { IsNextStop (moves ground.now.policy line.now.line (table_of table.now)) line.now.line.now upto result }
+    ensures { IsNextStop (moves ground.now.policy line.now.line
+        (table_of table.now)) line.now.line.now upto result }
 {
     let raised = earlier(line.due(ground), upto);
     earlier(table.next_drop(ground.policy().caps(), line.now()), raised)
@@ -53,8 +55,10 @@ fn stop(ground: &Ground, line: &Timeline, table: &Sessions, upto: Instant) -> In
 
 /// The next instant, where it is before the bound, else the bound.
 fn earlier(next: Option<Instant>, bound: Instant) -> Instant
-    ensures raised { (test : ℕ → Bool) (now : ℕ) → IsNextOf test now next → now < bound → IsNextStop test now bound result }
-    ensures dropped { (test : ℕ → Bool) (now : ℕ) → IsFirstOrNone test now next → now < bound → IsNextStop test now bound result }
+    ensures raised { (test : ℕ → Bool) (now : ℕ) → IsNextOf test now next → now < bound
+        → IsNextStop test now bound result }
+    ensures dropped { (test : ℕ → Bool) (now : ℕ) → IsFirstOrNone test now next → now < bound
+        → IsNextStop test now bound result }
 {
     let _bound = bound.minute();
     match next {

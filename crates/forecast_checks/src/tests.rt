@@ -24,7 +24,7 @@ const OFFICE: &[u8] =
     b"role a\nperiod office * * all.Days + {9}.Hours > 8.Hours\nspan office 50:enable a\n";
 
 const DAY: u32 = 1_440;
-// 2026-01-05T12:00
+/// 2026-01-05T12:00
 const NOON: u32 = 13_682_160;
 
 const LAST: u32 = 52_595_999;
@@ -72,7 +72,7 @@ fn a_drop_signals_a_minute_later(rt: HostRuntime) -> Result<(), Fail> {
 const SPENT: &[u8] =
     b"role a\nrole d\nrole x\nuser u\nperiod hour * * all.Hours\ncap day d 1000\nenabled d\nenabled x\nassigned u d\neach hour 50:enable a\nwhen deactivate u d then 50:disable x\n";
 
-// 719 minutes are charged on the first day, which the walk forgets, and 1,000 on the next
+/// 719 minutes are charged on the first day, which the walk forgets, and 1,000 on the next
 #[test]
 fn a_day_is_spent_on_the_next_one(rt: HostRuntime) -> Result<(), Fail> {
     let mut book = born(rt.alloc(), SPENT, NOON)?;

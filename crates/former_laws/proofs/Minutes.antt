@@ -1,5 +1,5 @@
 -- What settles, and what is raised later, by bodies without settled conditions.
-use Rattle.std.proofs.Common.{◌≡◌, ◌↔◌, ℕ, ◌-◌, Bool, true, false, ◌&&◌, ◌||◌, not, nat_lt, List, [], ◌∷◌, refl, sym, ◌∙◌, ap}
+use Rattle.std.proofs.Common.{◌≡◌, ◌↔◌, ℕ, ◌-◌, Bool, ◌&&◌, ◌||◌, not, nat_lt, List, [], ◌∷◌, refl, sym, ◌∙◌, ap, if◌then◌else◌}
 use Rattle.std.specs.List.{list_all}
 use Rattle.gt_base.specs.declared.events.Prioritised.{Prioritised}
 use Rattle.gt_base.specs.Held.{TriggerView}
@@ -47,18 +47,18 @@ module _ (rules : List TriggerView) (bare : AreBare rules) (base : HappenedView)
       grounds = sym (grounded_alike [] now.order) ∙ now.grounding.grounds;
       signals = now.signals;
     },
-    λ then. record {
-      is_closed = closed_alike ∙ then.is_closed;
-      order = then.order;
-      grounding = record { lists = then.lists; grounds = grounded_alike [] then.order ∙ then.grounds };
-      signals = then.signals;
+    λ was. record {
+      is_closed = closed_alike ∙ was.is_closed;
+      order = was.order;
+      grounding = record { lists = was.lists; grounds = grounded_alike [] was.order ∙ was.grounds };
+      signals = was.signals;
     },
   )
 
 pub delayed_alike : (p : Policy) (birth : ℕ) (m : Model) (t : ℕ) → AreBare p.triggers → delayed p birth m t ≡ former_delayed p birth m t
 delayed_alike p birth m t bare =
     flat_alike (λ r. r.settled ≡ [])
-    (λ r. elim (nat_lt 0 r.delay && nat_lt birth (t - r.delay)) [ true ↦ when (met r (m (t - r.delay)) (status p birth m (t - r.delay - 1))) r.head | false ↦ [] ])
-    (λ r. elim (nat_lt 0 r.delay && nat_lt birth (t - r.delay)) [ true ↦ when (former_met r (m (t - r.delay)) (status p birth m (t - r.delay - 1))) r.head | false ↦ [] ])
-    (λ r none. ap (λ (b : Bool). elim (nat_lt 0 r.delay && nat_lt birth (t - r.delay)) [ true ↦ when b r.head | false ↦ [] ]) (met_as_before r (m (t - r.delay)) (status p birth m (t - r.delay - 1)) none))
+    (λ r. if nat_lt 0 r.delay && nat_lt birth (t - r.delay) then when (met r (m (t - r.delay)) (status p birth m (t - r.delay - 1))) r.head else [])
+    (λ r. if nat_lt 0 r.delay && nat_lt birth (t - r.delay) then when (former_met r (m (t - r.delay)) (status p birth m (t - r.delay - 1))) r.head else [])
+    (λ r none. ap (λ (b : Bool). if nat_lt 0 r.delay && nat_lt birth (t - r.delay) then when b r.head else []) (met_as_before r (m (t - r.delay)) (status p birth m (t - r.delay - 1)) none))
     p.triggers bare

@@ -1,5 +1,5 @@
 -- Walks and decisions while every edge is on.
-use Rattle.std.proofs.Common.{◌≡◌, ℕ, zero, suc, ◌+◌, ◌<◌, Bool, true, false, cond, ◌&&◌, List, [], ◌∷◌, length, map, filter, Option, Some, None, refl, ◌∙◌, ap, arith}
+use Rattle.std.proofs.Common.{◌≡◌, ℕ, zero, suc, ◌+◌, ◌<◌, Bool, true, false, cond, ◌&&◌, List, [], ◌∷◌, length, map, filter, Option, Some, None, refl, ◌∙◌, ap, arith, if◌then◌else◌}
 use Rattle.std.specs.List.{enumerate_from}
 use Rattle.gt_base.specs.declared.events.RoleId.{RoleId}
 use Rattle.gt_base.specs.declared.events.UserId.{UserId}
@@ -76,7 +76,7 @@ is_usable_edge s edges n = elim (item_at edges n) [ Some e ↦ usable s true n e
 
 abbrev first_unusable : Status → List HierEdge → List ℕ → ℕ
 first_unusable s edges [] = 0
-first_unusable s edges (n ∷ ns) = elim (is_usable_edge s edges n) [ true ↦ first_unusable s edges ns | false ↦ n ]
+first_unusable s edges (n ∷ ns) = if is_usable_edge s edges n then first_unusable s edges ns else n
 
 abbrev denied : Status → List HierEdge → Option RoleWalk → Decision
 denied s edges None = NoGrant
@@ -95,8 +95,8 @@ lends_as_before edges s linked n = by (item_at edges n) refl
 shut_as_before : (edges : List HierEdge) (s : Status) → AreLinked s edges → (ns : List ℕ) → first_unusable s edges ns ≡ former_first_shut s edges ns
 shut_as_before edges s linked [] = refl
 shut_as_before edges s linked (n ∷ ns) =
-    ap (λ (b : Bool). elim b [ true ↦ first_unusable s edges ns | false ↦ n ]) (lends_as_before edges s linked n)
-    ∙ ap (λ (k : ℕ). elim (former_lends s edges n) [ true ↦ k | false ↦ n ]) (shut_as_before edges s linked ns)
+    ap (λ (b : Bool). if b then first_unusable s edges ns else n) (lends_as_before edges s linked n)
+    ∙ ap (λ (k : ℕ). if former_lends s edges n then k else n) (shut_as_before edges s linked ns)
 
 denied_as_before : (edges : List HierEdge) (s : Status) → AreLinked s edges → (w : Option RoleWalk) → denied s edges w ≡ former_denied s edges w
 denied_as_before edges s linked None = refl

@@ -1,5 +1,5 @@
 -- What a base settled to, and what delayed triggers raised, by bodies as they were.
-use Rattle.std.specs.Prelude.{◌≡◌, ◌↔◌, ℕ, ◌-◌, Bool, true, false, ◌&&◌, ◌||◌, not, nat_lt, List, [], ◌∷◌, flat_map, IsTrue}
+use Rattle.std.specs.Prelude.{◌≡◌, ◌↔◌, ℕ, ◌-◌, Bool, true, ◌&&◌, ◌||◌, not, nat_lt, List, [], ◌∷◌, flat_map, IsTrue, if◌then◌else◌}
 use Rattle.std.specs.List.{list_any, list_all}
 use Rattle.gt_base.specs.declared.events.Prioritised.{Prioritised}
 use Rattle.gt_base.specs.Held.{TriggerView}
@@ -47,10 +47,9 @@ pub record FormerSettled (rules : List TriggerView) (base : HappenedView) (s : S
 -- the heads of the delayed triggers that were met in good time before t
 abbrev pub former_delayed : Policy → ℕ → Model → ℕ → List Prioritised
 former_delayed p birth m t =
-    flat_map (λ r. elim (nat_lt 0 r.delay && nat_lt birth (t - r.delay)) [
-      | true ↦ when (former_met r (m (t - r.delay)) (status p birth m (t - r.delay - 1))) r.head
-      | false ↦ []
-    ]) p.triggers
+    flat_map (λ r. if nat_lt 0 r.delay && nat_lt birth (t - r.delay)
+    then when (former_met r (m (t - r.delay)) (status p birth m (t - r.delay - 1))) r.head
+    else []) p.triggers
 
 abbrev pub SettledAsBefore : Type 0
 SettledAsBefore = (rules : List TriggerView) (base : HappenedView) (s : Status) (x : HappenedView)

@@ -59,8 +59,8 @@ former_lends s edges n = elim (item_at edges n) [ Some e ↦ former_usable s tru
 
 abbrev pub former_first_shut : Status → List HierEdge → List ℕ → ℕ
 former_first_shut s edges [] = 0
-former_first_shut s edges (n ∷ ns) = elim (former_lends s edges n)
-    [ true ↦ former_first_shut s edges ns | false ↦ n ]
+former_first_shut s edges (n ∷ ns) = if former_lends s edges n
+    then former_first_shut s edges ns else n
 
 -- where no usable walk leads to the permission: none at all, or one that is shut at an edge
 abbrev pub former_denied : Status → List HierEdge → Option RoleWalk → Decision

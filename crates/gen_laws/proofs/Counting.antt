@@ -1,7 +1,6 @@
 -- How many entries a script's lines make over a made policy.
 use Rattle.std.proofs.Common.{◌≡◌, inl, inr, ℕ, suc, ◌+◌, ◌-◌, ◌*◌, ◌≤◌, ◌<◌, true, List, [], ◌∷◌, ◌++◌, length, refl, sym, ap, ◌∙◌, subst, arith, append_assoc, append-nil, length-append}
 use Rattle.std.specs.List.{AllByRecursion}
-use Rattle.gt_base.specs.Bounds.{last_minute}
 use Rattle.gt_base.specs.Machines.{asked, ticked}
 use Rattle.gt_base.specs.declared.requests.Who.{Who}
 use Rattle.gt_base.specs.declared.requests.Actor.{Actor}
@@ -10,6 +9,7 @@ use Rattle.gt_base.specs.declared.requests.Reply.{Reply}
 use Rattle.gt_base.specs.declared.requests.Step.{Step}
 use Rattle.gt_base.specs.declared.requests.Step.TheVariants.{Tick, Ask as Asked}
 use Rattle.gt_base.specs.declared.requests.Entry.{Entry}
+use Rattle.gt_base.specs.declared.limits.TheConstants.{LAST_MINUTE}
 use Rattle.gtrbac_model.specs.Policy.{Policy}
 use Rattle.gtrbac_model.specs.Status.{Model}
 use Rattle.gtrbac_model.specs.Sessions.{Table, close_minutes, empty_table}
@@ -23,7 +23,7 @@ use Rattle.history_laws.proofs.Reading.{Onward, reaches, legal_onward, whole, wh
 use Rattle.request_text.specs.declared.lines.Line.{Line}
 use Rattle.request_text.specs.declared.lines.Line.TheVariants.{Silent, At, Be, Ask}
 use Rattle.gen_laws.specs.Made.{policy_of_made}
-use Rattle.gen_laws.specs.Following.{IsTickTo, AreTicksTo, Follows}
+use Rattle.gen_laws.specs.Following.{IsTickTo, AreTicksTo, FollowsLines}
 use Rattle.gen_laws.proofs.Weights.{weight, closes, asking}
 use Rattle.gen_laws.proofs.Stirring.{hours, hours_rise, pays}
 
@@ -45,7 +45,7 @@ IsCalm most (Be actor) = Unit {0}
 IsCalm most (At minute) = minute ≤ most
 IsCalm most (Ask request) = (t : ℕ) (reply : Reply) → queued_at t request reply ≡ []
 
-module _ (k birth most : ℕ) (limit : most ≤ last_minute) (m : Model) where
+module _ (k birth most : ℕ) (limit : most ≤ LAST_MINUTE) (m : Model) where
   abbrev p : Policy
   p = policy_of_made k
 
@@ -214,7 +214,7 @@ module _ (k birth most : ℕ) (limit : most ≤ last_minute) (m : Model) where
       let paid = first_tick minute n high g e are.0 legal.0 before in
       subst (λ (h : List Entry). IsPaid h (n + 1)) (append_assoc g (e ∷ []) ticks) (ticks_paid minute n high ticks (g ++ e ∷ []) are.1 legal.1 paid.0 paid.1)
 
-  pub follow : (ls : List Line) (h g : List Entry) (n : ℕ) → AllByRecursion (IsCalm most) ls → Follows ls h → AreLegalAfter p birth m g h → IsPaid g n → IsPaid (g ++ h) (n + costs ls)
+  pub follow : (ls : List Line) (h g : List Entry) (n : ℕ) → AllByRecursion (IsCalm most) ls → FollowsLines ls h → AreLegalAfter p birth m g h → IsPaid g n → IsPaid (g ++ h) (n + costs ls)
   follow [] h g n calm made legal i =
       subst (λ (x : List Entry). IsPaid x (n + 0)) (sym (append-nil g) ∙ ap (λ (x : List Entry). g ++ x) (sym made)) (more g n (n + 0) (omega arith) i)
   follow (Silent ∷ ls) h g n calm made legal i = more (g ++ h) (n + costs ls) (n + (0 + costs ls)) (omega arith) (follow ls h g n calm.1 made legal i)

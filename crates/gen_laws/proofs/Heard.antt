@@ -1,5 +1,5 @@
 -- A line of a script that words spell, and what it says over a policy.
-use Rattle.std.proofs.Common.{◌≡◌, ℕ, ◌≤◌, true, false, not, ◌||◌, List, [], ◌∷◌, length, Some, Result, Ok, Err, refl, sym, ap, ◌∙◌, subst, arith}
+use Rattle.std.proofs.Common.{◌≡◌, ℕ, ◌≤◌, true, false, not, ◌||◌, List, [], ◌∷◌, length, Some, Ok, Err, refl, sym, ap, ◌∙◌, subst, arith, if◌then◌else◌}
 use Rattle.std.specs.Prelude.{nat_le}
 use Rattle.std.specs.List.{list_all, list_any}
 use Rattle.std.proofs.lemmas.Bool.{ltb-true}
@@ -15,7 +15,6 @@ use Rattle.policy_lines.proofs.SpacedWords.{plain_spaced, words_plain, words_of_
 use Rattle.policy_words.specs.Naming.{NamedPolicy}
 use Rattle.request_text.specs.declared.lines.Line.{Line}
 use Rattle.request_text.specs.declared.lines.Line.TheVariants as lines
-use Rattle.request_text.specs.declared.lines.LineFault.{LineFault}
 use Rattle.request_text.specs.declared.lines.LineFault.TheVariants as faults
 use Rattle.request_text.specs.declared.phrases.Phrase.{Phrase}
 use Rattle.request_text.specs.Phrases.{phrase_in, line_of, meant, said, read_line}
@@ -42,11 +41,8 @@ hears np ws phrase l solid loud short spelled means =
     let words : words_of line ≡ ws = words_of_spaced ws solid in
     record {
       read =
-          ap (λ b. elim b as (λ _. Result Line LineFault) [
-            | true ↦ Err faults.Long
-            | false ↦ elim (are_silent (words_of line)) [ true ↦ Ok lines.Silent | false ↦ said np Operator (phrase_in true (words_of line)) ]
-          ]) (not_true (is_longer 512 line) (λ t. absurd (omega (arith, short, ltb-true 512 (length line) t))))
-          ∙ ap (λ b. elim b as (λ _. Result Line LineFault) [ true ↦ Ok lines.Silent | false ↦ said np Operator (phrase_in true (words_of line)) ]) (ap are_silent words ∙ loud)
+          ap (λ b. if b then Err faults.Long else if are_silent (words_of line) then Ok lines.Silent else said np Operator (phrase_in true (words_of line))) (not_true (is_longer 512 line) (λ t. absurd (omega (arith, short, ltb-true 512 (length line) t))))
+          ∙ ap (λ b. if b then Ok lines.Silent else said np Operator (phrase_in true (words_of line))) (ap are_silent words ∙ loud)
           ∙ ap (said np Operator) (ap (phrase_in true) words ∙ phrase_reads true ws phrase spelled) ∙ ap (meant np) means;
       no_feed = ap not (plain_feed line (plain_spaced ws (words_plain ws solid)));
     }

@@ -11,7 +11,9 @@ use Rattle.gt_base.proofs.SetSteps.{fluent_cmp_total}
 use Rattle.gt_base.proofs.OrderLaws.{fluent_cmp-IsAntisymmetric}
 use Rattle.gtrbac_model.proofs.Elements.{Elem, and_true, has_of_elem}
 use Rattle.policy_words.specs.Making.{edges_from}
-use Rattle.policy_words.specs.Canonical.{is_enabled, is_assigned, is_granted, is_armed, rule_names_edge, is_version_one}
+use Rattle.policy_words.specs.declared.parts.Sort.TheVariants.{Enabling, Assigning, Granting, Arming}
+use Rattle.policy_words.specs.Sorts.{has_sort}
+use Rattle.policy_words.specs.Canonical.{rule_names_edge, is_version_one}
 use Rattle.gen_laws.specs.Made.{edge_down, assigned_own, granted_own, passed_both, policy_of_made}
 use Rattle.gen_laws.proofs.Opened.{members_made}
 
@@ -41,22 +43,22 @@ module _ (k : ℕ) where
   by_parts test =
       ap (filter test) (members_made k) ∙ filter-append test (own ++ grants) edges ∙ ap (λ xs. xs ++ filter test edges) (filter-append test own grants)
 
-  pub kept_enabled : filter is_enabled ms ≡ []
-  kept_enabled = by_parts is_enabled ∙ (λ i. none_pass is_enabled assigned_own (λ _. refl) 0 k i ++ none_pass is_enabled granted_own (λ _. refl) 0 k i ++ none_pass is_enabled (λ n. Edge n) (λ _. refl) 0 (k - 1) i)
+  pub kept_enabled : filter (has_sort Enabling) ms ≡ []
+  kept_enabled = by_parts (has_sort Enabling) ∙ (λ i. none_pass (has_sort Enabling) assigned_own (λ _. refl) 0 k i ++ none_pass (has_sort Enabling) granted_own (λ _. refl) 0 k i ++ none_pass (has_sort Enabling) (λ n. Edge n) (λ _. refl) 0 (k - 1) i)
 
-  pub kept_armed : filter is_armed ms ≡ []
-  kept_armed = by_parts is_armed ∙ (λ i. none_pass is_armed assigned_own (λ _. refl) 0 k i ++ none_pass is_armed granted_own (λ _. refl) 0 k i ++ none_pass is_armed (λ n. Edge n) (λ _. refl) 0 (k - 1) i)
+  pub kept_armed : filter (has_sort Arming) ms ≡ []
+  kept_armed = by_parts (has_sort Arming) ∙ (λ i. none_pass (has_sort Arming) assigned_own (λ _. refl) 0 k i ++ none_pass (has_sort Arming) granted_own (λ _. refl) 0 k i ++ none_pass (has_sort Arming) (λ n. Edge n) (λ _. refl) 0 (k - 1) i)
 
-  pub kept_assigned : filter is_assigned ms ≡ own
+  pub kept_assigned : filter (has_sort Assigning) ms ≡ own
   kept_assigned =
-      by_parts is_assigned
-      ∙ (λ i. all_pass is_assigned assigned_own (λ _. refl) 0 k i ++ none_pass is_assigned granted_own (λ _. refl) 0 k i ++ none_pass is_assigned (λ n. Edge n) (λ _. refl) 0 (k - 1) i)
+      by_parts (has_sort Assigning)
+      ∙ (λ i. all_pass (has_sort Assigning) assigned_own (λ _. refl) 0 k i ++ none_pass (has_sort Assigning) granted_own (λ _. refl) 0 k i ++ none_pass (has_sort Assigning) (λ n. Edge n) (λ _. refl) 0 (k - 1) i)
       ∙ append-nil (own ++ []) ∙ append-nil own
 
-  pub kept_granted : filter is_granted ms ≡ grants
+  pub kept_granted : filter (has_sort Granting) ms ≡ grants
   kept_granted =
-      by_parts is_granted
-      ∙ (λ i. none_pass is_granted assigned_own (λ _. refl) 0 k i ++ all_pass is_granted granted_own (λ _. refl) 0 k i ++ none_pass is_granted (λ n. Edge n) (λ _. refl) 0 (k - 1) i)
+      by_parts (has_sort Granting)
+      ∙ (λ i. none_pass (has_sort Granting) assigned_own (λ _. refl) 0 k i ++ all_pass (has_sort Granting) granted_own (λ _. refl) 0 k i ++ none_pass (has_sort Granting) (λ n. Edge n) (λ _. refl) 0 (k - 1) i)
       ∙ append-nil grants
 
   -- every edge is on

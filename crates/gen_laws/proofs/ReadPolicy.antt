@@ -10,7 +10,7 @@ use Rattle.policy_words.specs.Sayings.{SaidView, version}
 use Rattle.policy_words.specs.Naming.{NamedPolicy}
 use Rattle.policy_words.specs.Making.{names_of}
 use Rattle.policy_words.specs.Reading.{and_then, read_lines}
-use Rattle.policy_words.specs.Book.{said_in, build}
+use Rattle.policy_words.specs.LinesTogether.{said_in, build}
 use Rattle.policy_words.specs.Canonical.{canonical_lines}
 use Rattle.policy_words.specs.PolicyRead.{policy_read, by_lines, built}
 use Rattle.policy_words.specs.Valid.{IsWellFormed}

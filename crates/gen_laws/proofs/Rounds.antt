@@ -3,9 +3,9 @@ use Rattle.std.proofs.Common.{◌≡◌, ℕ, ◌+◌, ◌-◌, ◌≤◌, ◌<�
 use Rattle.std.specs.Prelude.{if◌then◌else◌}
 use Rattle.std.proofs.lemmas.Bool.{lt-ltb, le-leb}
 use Rattle.std.proofs.lemmas.Fmt.{length-decimal-le}
-use Rattle.gt_base.specs.Bounds.{last_minute}
 use Rattle.gt_base.specs.Names.{is_name}
 use Rattle.gt_base.specs.declared.requests.Request.TheVariants as requests
+use Rattle.gt_base.specs.declared.limits.TheConstants.{LAST_MINUTE}
 use Rattle.gtrbac_model.proofs.Elements.{and_true}
 use Rattle.civil_time.specs.Text.{civil_text}
 use Rattle.policy_words.specs.declared.parts.NamedFluent.TheVariants as fluents
@@ -44,7 +44,7 @@ module _ (k : ℕ) (low : 1 ≤ k) (few : k ≤ 200) where
   good : IsWellFormed np
   good = is_well_formed k low few
 
-  pub hears_minute : (t : ℕ) → t ≤ last_minute → Hears np (time_line t) (lines.At t)
+  pub hears_minute : (t : ℕ) → t ≤ LAST_MINUTE → Hears np (time_line t) (lines.At t)
   hears_minute t le =
       hears_line np (codes "@" ∷ civil_text t ∷ []) (time_line t) (At t) (lines.At t) refl (behind (codes "@") (civil_text t ∷ []) refl (behind (civil_text t) [] (word_civil t) refl)) refl (omega arith)
       (record { fits = le; stands = tt; spells = refl }) refl

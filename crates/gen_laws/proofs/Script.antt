@@ -9,8 +9,9 @@ use Rattle.gt_text.specs.Lines.{lines_of}
 use Rattle.policy_lines.specs.Laws.{has_no_feed}
 use Rattle.policy_lines.proofs.CutLines.{cut_lines}
 use Rattle.policy_words.specs.Naming.{NamedPolicy}
-use Rattle.policy_gen.specs.Draws.{draw, first_minute, round, minute_after}
+use Rattle.policy_gen.specs.Draws.{draw, round, minute_after}
 use Rattle.policy_gen.specs.Texts.{count_of, opening, round_lines, script_lines, script_text, all_for_each}
+use Rattle.policy_gen.specs.declared.scripts.TheConstants.{FIRST_MINUTE}
 use Rattle.request_text.specs.declared.lines.Line.{Line}
 use Rattle.request_text.specs.Phrases.{read_line}
 use Rattle.gen_laws.specs.Made.{made_of, made_policy}
@@ -94,7 +95,7 @@ module _ (k : ℕ) (low : 1 ≤ k) (few : k ≤ 200) where
 
     pub heard_all : (rounds : ℕ) → rounds ≤ 100_000 → Heard np (script_lines seed k rounds) (lines_said seed k rounds)
     heard_all rounds many = (
-      hears_minute k low few first_minute (omega arith),
+      hears_minute k low few FIRST_MINUTE (omega arith),
       heard_both np (all_for_each opening k) (flat_map (round_lines seed k) (range_with_len 0 rounds)) (flat_map opening_said (range_with_len 1 k)) (flat_map (round_said seed k) (range_with_len 0 rounds))
           (heard_openings 1 k (omega arith) (omega arith)) (heard_rounds 0 rounds (omega (arith, many))),
     )

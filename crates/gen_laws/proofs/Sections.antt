@@ -9,8 +9,9 @@ use Rattle.policy_words.specs.declared.parts.NamedFluent.TheVariants as fluents
 use Rattle.policy_words.specs.declared.sayings.EdgeKind.TheVariants.{Ia}
 use Rattle.policy_words.specs.Sayings.{SaidView, role, user, perm, edge, admin, opening, trigger}
 use Rattle.policy_words.specs.Naming.{Names, role_name, user_name, fluent_named, head_named}
-use Rattle.policy_words.specs.Making.{no_caps}
-use Rattle.policy_words.specs.Canonical.{is_enabled, is_assigned, is_granted, is_armed, is_linked, is_version_one, edge_line, cap_lines, items_of, opening_lines}
+use Rattle.policy_words.specs.CapKinds.{no_caps}
+use Rattle.policy_words.specs.declared.parts.Sort.TheVariants.{Enabling, Assigning, Granting, Arming, Linking}
+use Rattle.policy_words.specs.Canonical.{is_version_one, edge_line, cap_lines, items_of, opening_lines}
 use Rattle.policy_text.proofs.Sections.{joined}
 use Rattle.policy_text.proofs.Canonical.{sections_behind}
 use Rattle.policy_gen.specs.Texts.{one, two, for_each, all_for_each, chain, edge_lines, policy_lines}
@@ -45,14 +46,14 @@ module _ (k : ℕ) (low : 1 ≤ k) (few : k ≤ 200) where
   abbrev opened : Fluent → SaidView
   opened f = opening (fluent_named ns f)
 
-  assigned_said : Lines (opening_lines ns is_assigned ms) (for_each (λ i. two (codes "assigned u") i (codes " r") i) k)
+  assigned_said : Lines (opening_lines ns Assigning ms) (for_each (λ i. two (codes "assigned u") i (codes " r") i) k)
   assigned_said =
       subst (λ (xs : List Fluent). Lines (map opened xs) (for_each (λ i. two (codes "assigned u") i (codes " r") i) k)) (sym (kept_assigned k))
       (lines_up opened assigned_own (λ i. two (codes "assigned u") i (codes " r") i) 0 k (λ i above lt.
       subst (λ (s : SaidView). Says s (two (codes "assigned u") (i + 1) (codes " r") (i + 1)))
       (sym (λ j. opening (fluents.Assigned (user_name_of k i (omega (arith, lt)) j) (role_name_of k i (omega (arith, lt)) j)))) (says_assigned (i + 1) (omega (arith, lt, few)))))
 
-  granted_said : Lines (opening_lines ns is_granted ms) (for_each (λ i. two (codes "granted p") i (codes " r") i) k)
+  granted_said : Lines (opening_lines ns Granting ms) (for_each (λ i. two (codes "granted p") i (codes " r") i) k)
   granted_said =
       subst (λ (xs : List Fluent). Lines (map opened xs) (for_each (λ i. two (codes "granted p") i (codes " r") i) k)) (sym (kept_granted k))
       (lines_up opened granted_own (λ i. two (codes "granted p") i (codes " r") i) 0 k (λ i above lt.
@@ -93,11 +94,11 @@ module _ (k : ℕ) (low : 1 ≤ k) (few : k ≤ 200) where
         lines_joined (map (edge_line ns) (policy_of_made k).edges) _ (edge_lines (k - 1)) _ edges_said
             (no_lines (flat_map (cap_lines ns) (enumerate_from 0 (policy_of_made k).caps)) _ _ (no_cap_lines 0 0 k) (
               admin_said,
-              no_lines (opening_lines ns is_enabled ms) _ _ (ap (map opened) (kept_enabled k))
-                  (lines_joined (opening_lines ns is_assigned ms) _ (for_each (λ i. two (codes "assigned u") i (codes " r") i) k) _ assigned_said
-                  (lines_joined (opening_lines ns is_granted ms) _ (for_each (λ i. two (codes "granted p") i (codes " r") i) k) _ granted_said
-                  (no_lines (opening_lines ns is_armed ms) _ _ (ap (map opened) (kept_armed k))
-                  (no_lines (cond (is_version_one (policy_of_made k)) [] (opening_lines ns is_linked ms)) _ _ (ap (λ b. cond b [] (opening_lines ns is_linked ms)) (first_version k))
+              no_lines (opening_lines ns Enabling ms) _ _ (ap (map opened) (kept_enabled k))
+                  (lines_joined (opening_lines ns Assigning ms) _ (for_each (λ i. two (codes "assigned u") i (codes " r") i) k) _ assigned_said
+                  (lines_joined (opening_lines ns Granting ms) _ (for_each (λ i. two (codes "granted p") i (codes " r") i) k) _ granted_said
+                  (no_lines (opening_lines ns Arming ms) _ _ (ap (map opened) (kept_armed k))
+                  (no_lines (cond (is_version_one (policy_of_made k)) [] (opening_lines ns Linking ms)) _ _ (ap (λ b. cond b [] (opening_lines ns Linking ms)) (first_version k))
                   (entry_said, lines_joined (map ruled (policy_of_made k).triggers) [] (all_for_each chain (k - 1)) [] (rules_said 0 (k - 1) (omega arith)) tt))))),
             )),
       )))

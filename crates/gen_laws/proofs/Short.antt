@@ -2,19 +2,20 @@
 use Rattle.std.proofs.Common.{◌≡◌, ℕ, zero, suc, ◌+◌, ◌-◌, ◌*◌, ◌≤◌, ◌<◌, Bool, true, false, nat_eq, List, [], ◌∷◌, ◌++◌, flat_map, length, refl, sym, ap, ◌∙◌, subst, arith}
 use Rattle.std.specs.Prelude.{if◌then◌else◌}
 use Rattle.std.specs.List.{range_with_len, AllByRecursion}
-use Rattle.gt_base.specs.Bounds.{last_minute, max_steps}
 use Rattle.gt_base.specs.declared.requests.Request.TheVariants as requests
 use Rattle.gt_base.specs.declared.requests.Reply.{Reply}
 use Rattle.gt_base.specs.declared.requests.Entry.{Entry}
+use Rattle.gt_base.specs.declared.limits.TheConstants.{LAST_MINUTE, MAX_STEPS}
 use Rattle.gtrbac_model.specs.Status.{Model}
 use Rattle.gtrbac_model.specs.Base.{queued_at}
 use Rattle.gtrbac_model.specs.History.{Legal, now_of}
-use Rattle.policy_gen.specs.Draws.{first_minute, Round, round}
+use Rattle.policy_gen.specs.Draws.{Round, round}
 use Rattle.policy_gen.specs.Texts.{count_of}
+use Rattle.policy_gen.specs.declared.scripts.TheConstants.{FIRST_MINUTE}
 use Rattle.request_text.specs.declared.lines.Line.{Line}
 use Rattle.gen_laws.specs.Made.{role_at, made_policy}
 use Rattle.gen_laws.specs.Played.{is_enabled, opening_said, request_said, round_said, script_moves}
-use Rattle.gen_laws.specs.Following.{Follows}
+use Rattle.gen_laws.specs.Following.{FollowsLines}
 use Rattle.gen_laws.proofs.Counting.{costs, IsCalm, IsPaid, follow, at_birth}
 use Rattle.gen_laws.proofs.Script.{minute_low}
 use Rattle.gen_laws.proofs.Stirring.{hours_rise}
@@ -68,16 +69,16 @@ module _ (seed k : ℕ) where
   calm_rounds a (suc n) le = (omega (arith, minute_low seed k (a + 1), le), (tt, (asks_calmly (round seed k a), calm_rounds (a + 1) n (omega (arith, le)))))
 
 pub history_is_short : (seed size : ℕ) → 1 ≤ size → size ≤ 100_000 → (front rest : List Line) → front ++ rest ≡ script_moves seed size
-    → (h : List Entry) (m : Model) → Follows front h → Legal (made_policy size).policy first_minute h m → length h < max_steps
+    → (h : List Entry) (m : Model) → FollowsLines front h → Legal (made_policy size).policy FIRST_MINUTE h m → length h < MAX_STEPS
 history_is_short seed size low high front rest is h m made legal =
     let k : ℕ = count_of size in
     let opened : List Line = flat_map opening_said (range_with_len 1 k) in
     let played : List Line = flat_map (round_said seed k) (range_with_len 0 size) in
     let calm : AreCalm front = calm_front front rest (subst AreCalm (sym is) (calm_both opened played (calm_openings 1 k) (calm_rounds seed k 0 size (omega (arith, high))))) in
-    let paid : IsPaid k first_minute most limit m h (0 + costs front) = follow k first_minute most limit m front h [] 0 calm made legal.steps (at_birth k first_minute most limit m (omega arith)) in
+    let paid : IsPaid k FIRST_MINUTE most limit m h (0 + costs front) = follow k FIRST_MINUTE most limit m front h [] 0 calm made legal.steps (at_birth k FIRST_MINUTE most limit m (omega arith)) in
     let part : costs front + costs rest ≡ costs (script_moves seed size) = sym (costs_both front rest) ∙ ap costs is in
     let whole : costs (script_moves seed size) ≡ costs opened + costs played = costs_both opened played in
-    omega (arith, paid.paid, paid.at_most, paid.within, part, whole, openings_cost 1 k, rounds_cost seed k 0 size, high, hours_rise (now_of first_minute h) most paid.within)
+    omega (arith, paid.paid, paid.at_most, paid.within, part, whole, openings_cost 1 k, rounds_cost seed k 0 size, high, hours_rise (now_of FIRST_MINUTE h) most paid.within)
   where
-    limit : most ≤ last_minute
+    limit : most ≤ LAST_MINUTE
     limit = omega arith

@@ -1,9 +1,9 @@
 -- Each line of a made policy says what it should, and has no line feed.
 use Rattle.std.proofs.Common.{◌≡◌, ℕ, ◌≤◌, ◌<◌, Bool, true, false, ◌&&◌, List, [], ◌∷◌, ◌++◌, length, Some, Ok, refl, sym, ap, ◌∙◌, subst, append_assoc, arith, codes, decimal, length-append}
 use Rattle.std.proofs.lemmas.Fmt.{length-decimal-le}
-use Rattle.gt_base.specs.Bounds.{last_minute}
 use Rattle.gt_base.specs.Names.{is_name}
 use Rattle.gt_base.specs.declared.policies.Form.TheVariants.{Span}
+use Rattle.gt_base.specs.declared.limits.TheConstants.{LAST_MINUTE}
 use Rattle.gtrbac_model.proofs.Elements.{and_true}
 use Rattle.gt_text.specs.Words.{spaced}
 use Rattle.policy_words.specs.declared.parts.NamedFluent.TheVariants as fluents
@@ -16,7 +16,7 @@ use Rattle.policy_words.specs.Spelling.{IsPlaced}
 use Rattle.policy_words.specs.Reading.{read_said}
 use Rattle.policy_lines.specs.Laws.{has_no_feed}
 use Rattle.policy_lines.proofs.CutLines.{one_line}
-use Rattle.policy_lines.proofs.Numbers.{number_text}
+use Rattle.gt_text.proofs.Decimals.{number_text}
 use Rattle.policy_lines.proofs.WrittenLines.{written_is_read}
 use Rattle.policy_gen.specs.Texts.{one, two}
 use Rattle.gen_laws.specs.Made.{role_named, user_named, perm_named, office_hours}
@@ -126,5 +126,5 @@ says_entry =
 pub reads_version : read_said Open (codes "policy 1") ≡ Ok (Some (version 1))
 reads_version = refl
 
-pub says_period : Says (period (codes "hours") 0 last_minute office_hours.expr) (codes "period hours * * all.Days + {9}.Hours > 8.Hours")
+pub says_period : Says (period (codes "hours") 0 LAST_MINUTE office_hours.expr) (codes "period hours * * all.Days + {9}.Hours > 8.Hours")
 says_period = record { read = refl; stays = refl; no_feed = refl }

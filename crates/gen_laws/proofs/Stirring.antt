@@ -1,10 +1,10 @@
 -- What an instant that stirs costs over a made policy: a signal, a dropped activation, or another hour.
-use Rattle.std.proofs.Common.{◌≡◌, ◌⊎◌, inl, inr, ℕ, zero, suc, ◌+◌, ◌-◌, ◌/◌, ◌≤◌, ◌<◌, Bool, true, false, not, nat_eq, nat_lt, ◌&&◌, ◌||◌, List, [], ◌∷◌, ◌++◌, map, flat_map, length, refl, sym, ap, ◌∙◌, arith}
+use Rattle.std.proofs.Common.{◌≡◌, ◌⊎◌, inl, inr, ℕ, zero, suc, ◌+◌, ◌-◌, ◌/◌, ◌≤◌, ◌<◌, Bool, true, false, not, nat_eq, nat_lt, ◌&&◌, ◌||◌, List, [], ◌∷◌, ◌++◌, map, flat_map, length, refl, sym, ap, ◌∙◌, arith, if◌then◌else◌}
 use Rattle.std.specs.List.{range_with_len}
 use Rattle.std.proofs.lemmas.Bool.{eqb-true, eqb-false, le-leb, false≢true}
-use Rattle.gt_base.specs.Bounds.{last_minute}
 use Rattle.gt_base.specs.declared.events.Prioritised.{Prioritised}
 use Rattle.gt_base.specs.declared.requests.Entry.{Entry}
+use Rattle.gt_base.specs.declared.limits.TheConstants.{LAST_MINUTE}
 use Rattle.gtrbac_model.proofs.Elements.{split}
 use Rattle.gtrbac_model.specs.Trigger.{met}
 use Rattle.gtrbac_model.specs.Calendar.{minute_of}
@@ -30,10 +30,10 @@ changes false true c x y h = inr (λ e. cc)
 changes false false c x y h = cc
 
 -- within an hour the policy's hours do not change
-same_hour : (t : ℕ) → 1 ≤ t → t ≤ last_minute → hours t ≡ hours (t - 1) → inside office_hours t ≡ inside office_hours (t - 1)
+same_hour : (t : ℕ) → 1 ≤ t → t ≤ LAST_MINUTE → hours t ≡ hours (t - 1) → inside office_hours t ≡ inside office_hours (t - 1)
 same_hour t low le same =
-    (λ i. ((le-leb 0 t (omega arith) i && le-leb t last_minute le i) && begun_within office_hours.expr 8 (same i)))
-    ∙ sym (λ i. ((le-leb 0 (t - 1) (omega arith) i && le-leb (t - 1) last_minute (omega (arith, le)) i) && begun_within office_hours.expr 8 (hours (t - 1))))
+    (λ i. ((le-leb 0 t (omega arith) i && le-leb t LAST_MINUTE le i) && begun_within office_hours.expr 8 (same i)))
+    ∙ sym (λ i. ((le-leb 0 (t - 1) (omega arith) i && le-leb (t - 1) LAST_MINUTE (omega (arith, le)) i) && begun_within office_hours.expr 8 (hours (t - 1))))
 
 pub hours_rise : (t u : ℕ) → t ≤ u → hours t ≤ hours u
 hours_rise t u le = omega (arith, le)
@@ -64,12 +64,12 @@ module _ (k birth : ℕ) (m : Model) where
   abbrev p : Policy
   p = policy_of_made k
 
-  not_delayed : (t a n : ℕ) → flat_map (λ r. elim (nat_lt 0 r.delay && nat_lt birth (t - r.delay)) [ true ↦ when (met r (m (t - r.delay)) (status p birth m (t - r.delay - 1))) r.head | false ↦ [] ]) (flat_map passed_both (range_with_len a n)) ≡ []
+  not_delayed : (t a n : ℕ) → flat_map (λ r. if nat_lt 0 r.delay && nat_lt birth (t - r.delay) then when (met r (m (t - r.delay)) (status p birth m (t - r.delay - 1))) r.head else []) (flat_map passed_both (range_with_len a n)) ≡ []
   not_delayed t a zero = refl
   not_delayed t a (suc n) = not_delayed t (a + 1) n
 
   -- an instant that raises something is the first after the birth, or begins an hour
-  raising : (g : List Entry) (t : ℕ) → 1 ≤ t → t ≤ last_minute → requested g t ≡ [] → is_some_item (raised_at p birth m g t) ≡ true → (t ≡ birth + 1) ⊎ (hours (t - 1) + 1 ≤ hours t)
+  raising : (g : List Entry) (t : ℕ) → 1 ≤ t → t ≤ LAST_MINUTE → requested g t ≡ [] → is_some_item (raised_at p birth m g t) ≡ true → (t ≡ birth + 1) ⊎ (hours (t - 1) + 1 ≤ hours t)
   raising g t low le none h =
       let entries : List Prioritised = periodic p birth t in
       let no_limits : is_some_item (entries ++ requested g t ++ delayed p birth m t) ≡ true = some_left (entries ++ requested g t ++ delayed p birth m t) [] refl h in
@@ -116,7 +116,7 @@ module _ (k birth : ℕ) (m : Model) where
         absurd (false≢true (sym none ∙ sym (told i) ∙ left))
 
     -- where the first later instant that stirs is this one
-    pub pays : (j : ℕ) → now + suc j ≤ last_minute → requested g (now + suc j) ≡ [] → ((t : ℕ) → now < t → t < now + suc j → stirs p birth m g t ≡ false) → stirs p birth m g (now + suc j) ≡ true
+    pub pays : (j : ℕ) → now + suc j ≤ LAST_MINUTE → requested g (now + suc j) ≡ [] → ((t : ℕ) → now < t → t < now + suc j → stirs p birth m g t ≡ false) → stirs p birth m g (now + suc j) ≡ true
         → (1 ≤ length tb.signals) ⊎ (1 ≤ length (closed (suc j)).signals) ⊎ (now + suc j ≡ birth + 1) ⊎ (hours now + 1 ≤ hours (now + suc j))
     pays j le none before h =
         elim (three (is_some_item (raised_at p birth m g (now + suc j))) (is_some_item (signals_at p birth m g (now + suc j))) (is_some_item (drops_at p birth m g (now + suc j))) h) [

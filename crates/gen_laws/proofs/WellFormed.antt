@@ -14,7 +14,7 @@ use Rattle.gt_base.specs.declared.events.Fluent.TheVariants.{Edge}
 use Rattle.gtrbac_model.proofs.Elements.{and_true}
 use Rattle.gtrbac_model.specs.Policy.{Policy}
 use Rattle.gtrbac_model.specs.WholePolicy.{IsPolicy, is_fluent, is_edge, is_rule, has_cause, joins_same, joined_twice, are_caps, is_assignment, is_grant}
-use Rattle.policy_words.specs.Making.{no_caps}
+use Rattle.policy_words.specs.CapKinds.{no_caps}
 use Rattle.policy_words.specs.Valid.{IsWellFormed, pair_of}
 use Rattle.gen_laws.specs.Made.{role_named, user_named, perm_named, pair_named, names_of_made, edge_down, assigned_own, granted_own, opening_made, passed_on, passed_both, policy_of_made, made_of}
 use Rattle.gen_laws.proofs.Ranges.{all_range, apart_range, map_up}

@@ -21,11 +21,12 @@ AreTicksTo bound (e ∷ es) = IsTickTo bound e.what × AreTicksTo bound es
 
 -- a minute makes some ticks to it, a request one entry, whoever asks and whatever the reply, and
 -- other lines make none
-abbrev pub Follows : List Line → List Entry → Type 0
-Follows [] h = h ≡ []
-Follows (Silent ∷ ls) h = Follows ls h
-Follows (Be actor ∷ ls) h = Follows ls h
-Follows (At minute ∷ ls) h = (ticks : List Entry) × (rest : List Entry) × (h ≡ ticks ++ rest)
-    × AreTicksTo minute ticks × Follows ls rest
-Follows (Ask request ∷ ls) h = (who : Who) × (actor : Actor) × (reply : Reply) × (rest : List Entry)
-    × (h ≡ asked who actor request reply ∷ rest) × Follows ls rest
+abbrev pub FollowsLines : List Line → List Entry → Type 0
+FollowsLines [] h = h ≡ []
+FollowsLines (Silent ∷ ls) h = FollowsLines ls h
+FollowsLines (Be actor ∷ ls) h = FollowsLines ls h
+FollowsLines (At minute ∷ ls) h = (ticks : List Entry) × (rest : List Entry) × (h ≡ ticks ++ rest)
+    × AreTicksTo minute ticks × FollowsLines ls rest
+FollowsLines (Ask request ∷ ls) h =
+    (who : Who) × (actor : Actor) × (reply : Reply) × (rest : List Entry)
+    × (h ≡ asked who actor request reply ∷ rest) × FollowsLines ls rest

@@ -1,22 +1,22 @@
 -- What holds of the texts that a seed and a size make.
 use Rattle.std.specs.Prelude.{◌≡◌, ℕ, ◌<◌, ◌≤◌, ◌++◌, true, List, ◌∷◌, map, length, Ok, All, IsOk}
-use Rattle.gt_base.specs.Bounds.{max_steps}
 use Rattle.gt_base.specs.declared.requests.Actor.TheVariants.{Operator}
 use Rattle.gt_base.specs.declared.requests.Entry.{Entry}
+use Rattle.gt_base.specs.declared.limits.TheConstants.{MAX_STEPS}
 use Rattle.gtrbac_model.specs.History.{Legal}
 use Rattle.gtrbac_model.specs.Safety.{IsSafe}
 use Rattle.gtrbac_model.specs.Status.{Model}
 use Rattle.gt_text.specs.Lines.{lines_of}
 use Rattle.policy_words.specs.PolicyRead.{policy_read}
 use Rattle.policy_words.specs.Valid.{IsWellFormed}
-use Rattle.policy_gen.specs.Draws.{first_minute}
 use Rattle.policy_gen.specs.Texts.{time_line, policy_text, script_text}
+use Rattle.policy_gen.specs.declared.scripts.TheConstants.{FIRST_MINUTE}
 use Rattle.request_text.specs.declared.lines.Line.{Line}
 use Rattle.request_text.specs.declared.lines.Line.TheVariants.{At}
 use Rattle.request_text.specs.Phrases.{read_line}
 use Rattle.gen_laws.specs.Made.{made_policy}
 use Rattle.gen_laws.specs.Played.{script_said, script_moves}
-use Rattle.gen_laws.specs.Following.{Follows}
+use Rattle.gen_laws.specs.Following.{FollowsLines}
 
 -- the text of the policy has no fault: it stands for this policy
 abbrev pub PolicyIsRead : Type 0
@@ -39,9 +39,9 @@ ScriptIsSaid =
 -- the first line gives the birth, and no line behind it has a fault
 pub record IsBorn (seed size : ℕ) : Type 0 where
   pub behind : List (List ℕ)
-  pub lines_are : lines_of (script_text seed size) ≡ time_line first_minute ∷ behind
-  pub birth : read_line (made_policy size) Operator true (time_line first_minute)
-      ≡ Ok (At first_minute)
+  pub lines_are : lines_of (script_text seed size) ≡ time_line FIRST_MINUTE ∷ behind
+  pub birth : read_line (made_policy size) Operator true (time_line FIRST_MINUTE)
+      ≡ Ok (At FIRST_MINUTE)
   pub no_fault : All (λ line. IsOk (read_line (made_policy size) Operator true line)) behind
 
 abbrev pub ScriptIsBorn : Type 0
@@ -53,5 +53,5 @@ abbrev pub HistoryIsShort : Type 0
 HistoryIsShort =
     (seed size : ℕ) → 1 ≤ size → size ≤ 100_000 → (front rest : List Line)
     → front ++ rest ≡ script_moves seed size
-    → (h : List Entry) (m : Model) → Follows front h
-    → Legal (made_policy size).policy first_minute h m → length h < max_steps
+    → (h : List Entry) (m : Model) → FollowsLines front h
+    → Legal (made_policy size).policy FIRST_MINUTE h m → length h < MAX_STEPS

@@ -1,7 +1,6 @@
 -- The policy that a made text stands for, with numbers in place of names.
 use Rattle.std.specs.Prelude.{ℕ, ◌+◌, ◌-◌, Bool, true, false, List, [], ◌∷◌, ◌++◌, map, flat_map, codes, Some, None}
 use Rattle.std.specs.List.{range_with_len}
-use Rattle.gt_base.specs.Bounds.{last_minute}
 use Rattle.gt_base.specs.Held.{TriggerView}
 use Rattle.gt_base.specs.Sets.{set_of_rising}
 use Rattle.gt_base.specs.declared.events.RoleId.{RoleId}
@@ -12,11 +11,12 @@ use Rattle.gt_base.specs.declared.events.Prioritised.{Prioritised}
 use Rattle.gt_base.specs.declared.policies.Form.TheVariants.{Span}
 use Rattle.gt_base.specs.declared.policies.PeriodicEntry.{PeriodicEntry}
 use Rattle.gt_base.specs.declared.policies.HierEdge.{HierEdge}
+use Rattle.gt_base.specs.declared.limits.TheConstants.{LAST_MINUTE}
 use Rattle.gtrbac_model.specs.declared.calendars.Calendar.TheVariants.{Days, Hours}
 use Rattle.gtrbac_model.specs.Period.{Period}
 use Rattle.gtrbac_model.specs.Policy.{Policy}
 use Rattle.policy_words.specs.Naming.{Names, NamePair, NamedPolicy}
-use Rattle.policy_words.specs.Making.{no_caps}
+use Rattle.policy_words.specs.CapKinds.{no_caps}
 use Rattle.policy_gen.specs.Texts.{count_of, one, for_each}
 
 -- names are numbered from 1, and stand at numbers from 0
@@ -50,7 +50,7 @@ role_at n = record { 0 = n }
 abbrev pub office_hours : Period
 office_hours = record {
   first = 0;
-  last = last_minute;
+  last = LAST_MINUTE;
   expr = record {
     parts = record { calendar = Days; set = None }
         ∷ record { calendar = Hours; set = Some (9 ∷ []) } ∷ [];

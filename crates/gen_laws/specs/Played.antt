@@ -6,8 +6,9 @@ use Rattle.gt_base.specs.declared.events.Fluent.TheVariants.{Enabled}
 use Rattle.gt_base.specs.declared.requests.Actor.TheVariants.{User}
 use Rattle.gt_base.specs.declared.requests.Request.{Request}
 use Rattle.gt_base.specs.declared.requests.Request.TheVariants.{OpenSession, Activate, Deactivate, Check, Status}
-use Rattle.policy_gen.specs.Draws.{first_minute, Round, round, minute_after}
+use Rattle.policy_gen.specs.Draws.{Round, round, minute_after}
 use Rattle.policy_gen.specs.Texts.{count_of}
+use Rattle.policy_gen.specs.declared.scripts.TheConstants.{FIRST_MINUTE}
 use Rattle.request_text.specs.declared.lines.Line.{Line}
 use Rattle.request_text.specs.declared.lines.Line.TheVariants.{At, Be, Ask}
 use Rattle.gen_laws.specs.Made.{role_at}
@@ -41,7 +42,7 @@ module _ (seed k : ℕ) where
       ++ flat_map round_said (range_with_len 0 rounds)
 
   abbrev pub lines_said : ℕ → List Line
-  lines_said rounds = At first_minute ∷ moves_said rounds
+  lines_said rounds = At FIRST_MINUTE ∷ moves_said rounds
 
 -- of a seed and a size
 abbrev pub script_said : ℕ → ℕ → List Line

@@ -15,7 +15,7 @@ use Rattle.gt_base.specs.declared.events.PermId.{PermId}
 use Rattle.gt_base.specs.declared.events.RoleId.{RoleId}
 use Rattle.gt_base.specs.declared.words.Row.{Row}
 use Rattle.gt_base.specs.declared.words.Row.TheVariants.{Roles, UsersOf, PermsOf, Limits, Edges}
-use Rattle.gt_base.specs.declared.words.Word.{Word}
+use Rattle.gt_base.specs.declared.words.FlagWord.{FlagWord}
 use Rattle.gt_base.specs.Orders.{fluent_cmp}
 use Rattle.gt_base.specs.Sets.{SetOf, none, has, members, set_of, with_member, without, pairs, Rises}
 use Rattle.gt_base.specs.Words.{fluent_in, fluents_of, is_of_perms, set_of_words, AreWords}
@@ -33,7 +33,7 @@ unfolding set_of_parts
 set_of_no_parts = refl
 
 -- a fluent is in the set if it is lit or a word has it
-pub has_parts : (s : Flagged) (ws : List Word) (x : Fluent) → has (set_of_parts s ws) x ≡ (is_lit s x || has (set_of_words ws) x)
+pub has_parts : (s : Flagged) (ws : List FlagWord) (x : Fluent) → has (set_of_parts s ws) x ≡ (is_lit s x || has (set_of_words ws) x)
 unfolding set_of_parts set_of_words
 has_parts s ws x =
     has-set_of fluent_cmp_total (flagged s.known s.on ++ flat_map fluents_of ws) x
@@ -194,7 +194,7 @@ without_unknown s f e x =
     spared (is_lit s x) (eq_by_cmp fluent_cmp f x) (λ tie. subst (λ y. is_among (flagged s.known s.on) y ≡ false) (tie_of f x tie) (lit_of_known s.known s.on f e))
 
 -- ---- flags and words
-module _ (s new : Flagged) (ws words : List Word) (f : Fluent) where
+module _ (s new : Flagged) (ws words : List FlagWord) (f : Fluent) where
   pub flag_on : IsWith f s new → set_of_parts new ws ≡ with_member (set_of_parts s ws) f
   flag_on h =
       fluents_are_sets.same _ _ (λ x.
@@ -242,7 +242,7 @@ flagged_map p (k ∷ ks) x =
     elsewhere true false c h = sym (h refl)
     elsewhere false b c h = refl
 
-pub all_lit : (s : Flagged) (ws : List Word) (ks : List Fluent) (bs : List Bool) → ks ≡ members (set_of {R = fluent_cmp} (s.known ++ flat_map fluents_of ws))
+pub all_lit : (s : Flagged) (ws : List FlagWord) (ks : List Fluent) (bs : List Bool) → ks ≡ members (set_of {R = fluent_cmp} (s.known ++ flat_map fluents_of ws))
     → bs ≡ map (has (set_of_parts s ws)) ks → set_of_parts (record { known = ks; on = bs }) [] ≡ set_of_parts s ws
 unfolding set_of_words
 all_lit s ws ks bs all on =
@@ -304,13 +304,13 @@ pub apart_from_none : (s : Flagged) → AreApart s []
 apart_from_none s x there = ap (λ t. has t x) set_of_no_words ∙ has-none fluent_cmp x
 
 -- no words, and so none that is apart
-pub none_apart : (s : Flagged) (ws : List Word) → ws ≡ [] → AreWords ws × AreApart s ws
+pub none_apart : (s : Flagged) (ws : List FlagWord) → ws ≡ [] → AreWords ws × AreApart s ws
 none_apart s ws e = subst (λ ws. AreWords ws × AreApart s ws) (sym e) (record { rising = tt; within = λ i d lt. absurd (omega (arith, lt)) }, apart_from_none s)
 
-pub apart_still : (s new : Flagged) (ws : List Word) → new.known ≡ s.known → AreApart s ws → AreApart new ws
+pub apart_still : (s new : Flagged) (ws : List FlagWord) → new.known ≡ s.known → AreApart s ws → AreApart new ws
 apart_still s new ws same h x there = h x (sym (ap (λ ks. is_among ks x) same) ∙ there)
 
-module _ (s : Flagged) (ws words : List Word) (f : Fluent) (h : AreApart s ws) where
+module _ (s : Flagged) (ws words : List FlagWord) (f : Fluent) (h : AreApart s ws) where
   pub apart_on : is_among s.known f ≡ false → set_of_words words ≡ with_member (set_of_words ws) f → AreApart s words
   apart_on absent e x there =
       ap (λ t. has t x) e ∙ fluents_are_sets.added (set_of_words ws) f x
@@ -375,7 +375,7 @@ other_row p r (PermsOf q) n e = cc
 other_row p r Limits n e = refl
 other_row p r Edges n e = refl
 
-other_word : (p : PermId) (r : RoleId) (w : Word) → is_of_perms w.place.row ≡ false → list_any (eq_by_cmp fluent_cmp (Granted p r)) (fluents_of w) ≡ false
+other_word : (p : PermId) (r : RoleId) (w : FlagWord) → is_of_perms w.place.row ≡ false → list_any (eq_by_cmp fluent_cmp (Granted p r)) (fluents_of w) ≡ false
 unfolding fluents_of
 other_word p r w e = any_map (eq_by_cmp fluent_cmp (Granted p r)) (λ b. fluent_in w.place.row (w.place.below * 64 + b)) _ ∙ all _
   where
@@ -383,16 +383,16 @@ other_word p r w e = any_map (eq_by_cmp fluent_cmp (Granted p r)) (λ b. fluent_
     all [] = refl
     all (b ∷ bs) = both_off _ _ (other_row p r w.place.row (w.place.below * 64 + b) e) (all bs)
 
-pub no_grants : (p : PermId) (r : RoleId) (ws : List Word) → list_any (λ w. is_of_perms w.place.row) ws ≡ false → has (set_of_words ws) (Granted p r) ≡ false
+pub no_grants : (p : PermId) (r : RoleId) (ws : List FlagWord) → list_any (λ w. is_of_perms w.place.row) ws ≡ false → has (set_of_words ws) (Granted p r) ≡ false
 unfolding set_of_words
 no_grants p r ws e = has-set_of fluent_cmp_total (flat_map fluents_of ws) (Granted p r) ∙ any_flat_map (eq_by_cmp fluent_cmp (Granted p r)) fluents_of ws ∙ each ws e
   where
-    each : (xs : List Word) → list_any (λ w. is_of_perms w.place.row) xs ≡ false → list_any (λ w. list_any (eq_by_cmp fluent_cmp (Granted p r)) (fluents_of w)) xs ≡ false
+    each : (xs : List FlagWord) → list_any (λ w. is_of_perms w.place.row) xs ≡ false → list_any (λ w. list_any (eq_by_cmp fluent_cmp (Granted p r)) (fluents_of w)) xs ≡ false
     each [] h = refl
     each (w ∷ xs) h = both_off _ _ (other_word p r w (first_off _ _ h)) (each xs (second_off (is_of_perms w.place.row) _ h))
 
 -- what is on and in no word is known
-pub known_but_for_words : (s : Flagged) (ws : List Word) (f : Fluent) → has (set_of_words ws) f ≡ false → has (set_of_parts s ws) f ≡ true → is_among s.known f ≡ true
+pub known_but_for_words : (s : Flagged) (ws : List FlagWord) (f : Fluent) → has (set_of_words ws) f ≡ false → has (set_of_parts s ws) f ≡ true → is_among s.known f ≡ true
 known_but_for_words s ws f none on = by (is_among s.known f) refl
   where
     by : (b : Bool) → is_among s.known f ≡ b → is_among s.known f ≡ true

@@ -15,7 +15,7 @@ use Rattle.std.specs.Ordering.{eq_by_cmp, is_lt}
 use Rattle.std.specs.declared.cmp.Ordering.{Ordering}
 use Rattle.std.specs.declared.cmp.Ordering.TheVariants.{Less}
 use Rattle.gt_base.specs.declared.events.Fluent.{Fluent}
-use Rattle.gt_base.specs.declared.words.Word.{Word}
+use Rattle.gt_base.specs.declared.words.FlagWord.{FlagWord}
 use Rattle.gt_base.specs.contracts.events.FluentOrd.TheImpl.Laws as fluent_laws
 use Rattle.gt_base.specs.Orders.{fluent_cmp, fluent_eq}
 use Rattle.gt_base.specs.Sets.{members, none, set_of, set_of_rising, pairs, Rises}
@@ -27,7 +27,7 @@ use Rattle.gt_base.proofs.SetSteps.{fluent_cmp_total}
 use Rattle.gt_base.proofs.SetsAreSets.{fluents_are_sets}
 
 -- the fluents of a word's n lowest bits
-abbrev pub lowest : Word → ℕ → List Fluent
+abbrev pub lowest : FlagWord → ℕ → List Fluent
 lowest w n = map (λ b. fluent_in w.place.row (w.place.below * 64 + b)) (filter (λ b. eqb (bit_at w.bits b) 1) (range_with_len 0 n))
 
 -- one number more in a list that starts at 0
@@ -40,16 +40,16 @@ filter_more p n =
     same [] = refl
     same (x ∷ xs) = ap (λ ys. x ∷ ys) (same xs)
 
-lowest_more : (w : Word) (n : ℕ) → lowest w (n + 1) ≡ lowest w n ++ map (λ b. fluent_in w.place.row (w.place.below * 64 + b)) (cond (eqb (bit_at w.bits n) 1) (n ∷ []) [])
+lowest_more : (w : FlagWord) (n : ℕ) → lowest w (n + 1) ≡ lowest w n ++ map (λ b. fluent_in w.place.row (w.place.below * 64 + b)) (cond (eqb (bit_at w.bits n) 1) (n ∷ []) [])
 lowest_more w n =
     let name : ℕ → Fluent = λ b. fluent_in w.place.row (w.place.below * 64 + b) in
     ap (map name) (filter_more (λ b. eqb (bit_at w.bits b) 1) n) ∙ map-append name (filter (λ b. eqb (bit_at w.bits b) 1) (range_with_len 0 n)) (cond (eqb (bit_at w.bits n) 1) (n ∷ []) [])
 
-pub lowest_with : (w : Word) (n : ℕ) → bit_and (w.bits / 2 ^ n) 1 ≡ 1 → lowest w (n + 1) ≡ lowest w n ++ fluent_in w.place.row (w.place.below * 64 + n) ∷ []
+pub lowest_with : (w : FlagWord) (n : ℕ) → bit_and (w.bits / 2 ^ n) 1 ≡ 1 → lowest w (n + 1) ≡ lowest w n ++ fluent_in w.place.row (w.place.below * 64 + n) ∷ []
 lowest_with w n e =
     lowest_more w n ∙ ap (λ m. lowest w n ++ map (λ b. fluent_in w.place.row (w.place.below * 64 + b)) (cond (eqb m 1) (n ∷ []) [])) (sym (shr_and_one w.bits n) ∙ e)
 
-pub lowest_without : (w : Word) (n : ℕ) → bit_and (w.bits / 2 ^ n) 1 ≢ 1 → lowest w (n + 1) ≡ lowest w n
+pub lowest_without : (w : FlagWord) (n : ℕ) → bit_and (w.bits / 2 ^ n) 1 ≢ 1 → lowest w (n + 1) ≡ lowest w n
 lowest_without w n e =
     lowest_more w n
     ∙ ap (λ m. lowest w n ++ map (λ b. fluent_in w.place.row (w.place.below * 64 + b)) (cond (eqb m 1) (n ∷ []) [])) (sym (shr_and_one w.bits n))
@@ -58,7 +58,7 @@ lowest_without w n e =
     off : eqb (bit_and (w.bits / 2 ^ n) 1) 1 ≡ false
     off = elim (eqb_tells (bit_and (w.bits / 2 ^ n) 1) 1) [ inl t ↦ absurd (e t.1) | inr t ↦ t.0 ]
 
-pub lowest_all : (w : Word) → lowest w 64 ≡ fluents_of w
+pub lowest_all : (w : FlagWord) → lowest w 64 ≡ fluents_of w
 unfolding fluents_of
 lowest_all w = refl
 

@@ -3,7 +3,7 @@ use Rattle.std.specs.Prelude.{◌≡◌, ℕ, ◌<◌, Bool, true, false, not, �
 use Rattle.std.specs.List.{HoldsAt, flat_map, list_any}
 use Rattle.std.specs.Ordering.{eq_by_cmp}
 use Rattle.gt_base.specs.declared.events.Fluent.{Fluent}
-use Rattle.gt_base.specs.declared.words.Word.{Word}
+use Rattle.gt_base.specs.declared.words.FlagWord.{FlagWord}
 use Rattle.gt_base.specs.Orders.{fluent_cmp}
 use Rattle.gt_base.specs.Sets.{SetOf, has, set_of}
 use Rattle.gt_base.specs.Words.{fluents_of, set_of_words}
@@ -45,9 +45,9 @@ abbrev pub IsWithout : Fluent → Flagged → Flagged → Type 0
 IsWithout f old new = (x : Fluent) → is_lit new x ≡ (is_lit old x && not (eq_by_cmp fluent_cmp f x))
 
 -- no fluent that has a flag is on by a word
-abbrev pub AreApart : Flagged → List Word → Type 0
+abbrev pub AreApart : Flagged → List FlagWord → Type 0
 AreApart s ws = (x : Fluent) → is_among s.known x ≡ true → has (set_of_words ws) x ≡ false
 
 -- the set of the fluents that are lit and of those that words stand for
-unfoldable pub set_of_parts : Flagged → List Word → SetOf fluent_cmp
+unfoldable pub set_of_parts : Flagged → List FlagWord → SetOf fluent_cmp
 set_of_parts s ws = set_of (flagged s.known s.on ++ flat_map fluents_of ws)

@@ -1,4 +1,3 @@
-pub mod Bounds
 pub mod Events
 pub mod Flags
 pub mod Happening

@@ -11,7 +11,7 @@ ghost use Rattle.gt_base.specs.Flags.{flagged, is_among, is_lit, IsPlace, IsWith
 use crate::events::{Fluent, PermId, RoleId};
 use crate::known::Known;
 use crate::lists::Memory;
-use crate::words::{Word, add_all, ascending, grant_nothing, is_on};
+use crate::words::{FlagWord, add_all, ascending, grant_nothing, is_on};
 use std::alloc::{AllocError, Global};
 use std::marker::Model;
 use std::sync::Arc;
@@ -181,7 +181,7 @@ fn lit_of(alloc: Global, fluents: &[Fluent], on: &[bool]) -> Result<Vec<Fluent>,
 }
 
 /// Whether the fluent is on: by its flag, or, if it has none, by a word.
-pub(crate) fn is_on_in(flags: &Flags, more: &[Word], f: Fluent) -> bool
+pub(crate) fn is_on_in(flags: &Flags, more: &[FlagWord], f: Fluent) -> bool
     requires words { AreWords more.now }
     requires apart { AreApart flags.now more.now }
     ensures { result ≡ has (set_of_parts flags.now more.now) f }
@@ -197,7 +197,7 @@ const FEW: usize = 16;
 
 /// The only role to which a fluent that is on grants the permission, where it is quickly found that
 /// no other is.
-pub(crate) fn only_role_in(flags: &Flags, more: &[Word], perm: PermId) -> Option<RoleId>
+pub(crate) fn only_role_in(flags: &Flags, more: &[FlagWord], perm: PermId) -> Option<RoleId>
     ensures { IfSome result (λ role. (r : RoleId) → has (set_of_parts flags.now more.now)
         (Granted perm r) ≡ true → r ≡ role) }
 {
@@ -209,7 +209,7 @@ pub(crate) fn only_role_in(flags: &Flags, more: &[Word], perm: PermId) -> Option
 }
 
 /// All fluents that have a flag or that a word stands for, ascending.
-fn all_known(alloc: Global, flags: &Flags, more: &[Word]) -> Result<Vec<Fluent>, Memory>
+fn all_known(alloc: Global, flags: &Flags, more: &[FlagWord]) -> Result<Vec<Fluent>, Memory>
     requires { AreWords more.now }
     ensures { IfOk result (λ all. all.items ≡ members
         (set_of {R = fluent_cmp} (flags.now.known ++ flat_map fluents_of more.now))) }
@@ -221,7 +221,7 @@ fn all_known(alloc: Global, flags: &Flags, more: &[Word]) -> Result<Vec<Fluent>,
 
 /// Flags for all fluents that have a flag or that a word stands for, each set where the fluent is
 /// on.
-pub(crate) fn gathered(alloc: Global, flags: &Flags, more: &[Word]) -> Result<Flags, Memory>
+pub(crate) fn gathered(alloc: Global, flags: &Flags, more: &[FlagWord]) -> Result<Flags, Memory>
     requires words { AreWords more.now }
     requires apart { AreApart flags.now more.now }
     ensures { IfOk result (λ all. set_of_parts all [] ≡ set_of_parts flags.now more.now) }
@@ -237,7 +237,7 @@ fn flags_for(
     alloc: Global,
     fluents: &[Fluent],
     flags: &Flags,
-    more: &[Word],
+    more: &[FlagWord],
 ) -> Result<Vec<bool>, Memory>
     requires words { AreWords more.now }
     requires apart { AreApart flags.now more.now }

@@ -1,7 +1,7 @@
 //! Civil minutes and priorities.
 ghost use Rattle.std.specs.Prelude.{◌≡◌, ◌↔◌, ◌≤◌, ◌<◌, IsNone, IfSome};
-ghost use Rattle.gt_base.specs.Bounds.{last_minute};
 
+use crate::limits::LAST_MINUTE;
 use std::marker::Model;
 
 /// A civil minute of the years 2000 to 2099, seen as its number.
@@ -12,13 +12,13 @@ pub struct Instant {
 
 impl Model for Instant {
     ghost use Rattle.std.specs.Prelude.{ℕ, ◌≤◌};
-    ghost use Rattle.gt_base.specs.Bounds.{last_minute};
+    ghost use Rattle.gt_base.specs.declared.limits.TheConstants.{LAST_MINUTE};
 
     ghost Value = { ℕ };
 
     ghost view = { λ t. t.minute };
 
-    ghost invariant = { λ t. t.minute ≤ last_minute };
+    ghost invariant = { λ t. t.minute ≤ LAST_MINUTE };
 
     ghost inverse = { λ t. record { minute = t } };
 }
@@ -27,10 +27,10 @@ impl Instant {
     /// The minute of this number, counted from 2000-01-01T00:00; none exactly past
     /// 2099-12-31T23:59.
     pub fn new(m: u32) -> Option<Instant>
-        ensures none { IsNone result ↔ (last_minute < m) }
+        ensures none { IsNone result ↔ (LAST_MINUTE < m) }
         ensures some { IfSome result (λ t. t ≡ m) }
     {
-        if m <= 52_595_999 {
+        if m <= LAST_MINUTE {
             Some(Instant { minute: m })
         } else {
             None
@@ -40,7 +40,7 @@ impl Instant {
     /// Its number, from 0 at 2000-01-01T00:00 to 52,595,999.
     pub fn minute(self) -> u32
         ensures value { result ≡ self }
-        ensures bound { result ≤ last_minute }
+        ensures bound { result ≤ LAST_MINUTE }
     {
         self.minute
     }

@@ -8,6 +8,7 @@ mod flags;
 mod instants;
 mod known;
 mod laws;
+mod limits;
 mod lists;
 mod machines;
 mod names;
@@ -22,6 +23,7 @@ pub use events::{
 };
 pub use instants::{Instant, Prio};
 pub use laws::sets_are_sets;
+pub use limits::{LAST_MINUTE, MAX_COUNT, MAX_NUMBER, MAX_STEPS};
 pub use lists::{List, Memory};
 pub use machines::{Keeps, Machine, StepFault};
 pub use names::Name;

@@ -63,6 +63,16 @@ impl<T> List<T> {
         }
     }
 
+    /// Takes out all items. Their room stays, for others.
+    pub fn clear(&mut self)
+    where
+        T: Drop,
+        ensures items { self.new.items ≡ [] }
+        ensures spare { self.new.spare ≡ self.old.spare + length self.old.items }
+    {
+        self.items.clear();
+    }
+
     /// The item at a place from 0, none at the length and beyond.
     pub fn get(&self, i: usize) -> Option<&T>
         ensures some { IfSome result (λ v. slice_get self.now.items i ≡ Some v.now) }

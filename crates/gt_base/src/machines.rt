@@ -1,6 +1,6 @@
 //! Values that keep a history, and machines that add to it.
 ghost use Rattle.std.specs.Prelude.{◌≡◌, ◌≤◌, ◌<◌, ◌⊎◌, List, ℕ, ◌++◌, ◌∷◌, [], length, OnOk, OnErr, IfOk, Ok, Err};
-ghost use Rattle.gt_base.specs.Bounds.{max_steps};
+ghost use Rattle.gt_base.specs.declared.limits.TheConstants.{MAX_STEPS};
 ghost use Rattle.gt_base.specs.declared.requests.Entry.{Entry};
 ghost use Rattle.gt_base.specs.declared.requests.Actor.{Actor};
 ghost use Rattle.gt_base.specs.declared.requests.Request.{Request};
@@ -53,7 +53,7 @@ pub trait Machine: Keeps {
     fn now(&self) -> Instant
         ensures now { result ≡ now_of self.now (Self.list self.now) }
         ensures legal { legal self.now (Self.list self.now) }
-        ensures bound { length (Self.list self.now) ≤ max_steps };
+        ensures bound { length (Self.list self.now) ≤ MAX_STEPS };
 
     /// Goes on to the next instant that stirs, or to the bound; a bound that is not after now
     /// changes nothing.
@@ -66,9 +66,9 @@ pub trait Machine: Keeps {
         ensures err { OnErr result (self.new ≡ self.old) }
         ensures full { result ≡ Err StepFault.StepsFull
             → (now_of self.old (Self.list self.old) < upto)
-            × (max_steps ≤ length (Self.list self.old)) }
+            × (MAX_STEPS ≤ length (Self.list self.old)) }
         ensures room { OnOk result ((upto ≤ now_of self.old (Self.list self.old))
-            ⊎ (length (Self.list self.old) < max_steps)) };
+            ⊎ (length (Self.list self.old) < MAX_STEPS)) };
 
     /// Answers a request at now.
     fn ask(&mut self, who: Who, actor: Actor, request: Request) -> Result<Reply, StepFault>
@@ -77,12 +77,15 @@ pub trait Machine: Keeps {
         ensures ok { IfOk result (λ reply. Self.list self.new ≡ Self.list self.old
             ++ asked who actor request reply ∷ []) }
         ensures err { OnErr result (self.new ≡ self.old) }
-        ensures full { result ≡ Err StepFault.StepsFull → max_steps ≤ length (Self.list self.old) }
-        ensures room { OnOk result (length (Self.list self.old) < max_steps) };
+        ensures full { result ≡ Err StepFault.StepsFull → MAX_STEPS ≤ length (Self.list self.old) }
+        ensures room { OnOk result (length (Self.list self.old) < MAX_STEPS) };
 
-    ghost legal_root: { (x y : Self) (l : List Entry) → Self.same_root x y → legal x l → legal y l };
+    ghost legal_root: { (x y : Self) (l : List Entry) → Self.same_root x y → legal x l
+        → legal y l };
 
-    ghost named_root: { (x y : Self) (a : Actor) (r : Request) → Self.same_root x y → named x a r → named y a r };
+    ghost named_root: { (x y : Self) (a : Actor) (r : Request) → Self.same_root x y → named x a r
+        → named y a r };
 
-    ghost now_root: { (x y : Self) (l : List Entry) → Self.same_root x y → now_of x l ≡ now_of y l };
+    ghost now_root: { (x y : Self) (l : List Entry) → Self.same_root x y
+        → now_of x l ≡ now_of y l };
 }

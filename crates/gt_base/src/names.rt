@@ -1,7 +1,7 @@
 //! Names of roles, users, permissions, periods and limits.
 ghost use Rattle.std.specs.Prelude.{◌≡◌, ◌↔◌, true, IsSome, IfSome};
 ghost use Rattle.std.specs.List.{list_all};
-ghost use Rattle.gt_base.specs.Names.{is_letter as letter, is_name_byte as name_byte, is_name as name};
+ghost use Rattle.gt_base.specs.Names.{is_letter, is_name_byte, is_name};
 
 use std::marker::Model;
 
@@ -31,26 +31,26 @@ impl Model for Name {
 }
 
 fn is_letter(b: u8) -> bool
-    ensures { result ≡ letter b }
+    ensures { result ≡ is_letter b }
 {
     b.is_ascii_alphabetic()
 }
 
 fn is_name_byte(b: u8) -> bool
-    ensures { result ≡ name_byte b }
+    ensures { result ≡ is_name_byte b }
 {
     is_letter(b) || b.is_ascii_digit() || b == b'_' || b == b'-' || b == b'.'
 }
 
 fn are_name_bytes(bytes: &[u8]) -> bool
-    ensures { result ≡ list_all name_byte bytes.now }
+    ensures { result ≡ list_all is_name_byte bytes.now }
 {
     bytes.iter().all(|b| is_name_byte(*b))
 }
 
 /// Whether the text is a name.
 fn is_name(text: &[u8]) -> bool
-    ensures { result ≡ name text.now }
+    ensures { result ≡ is_name text.now }
 {
     match text.split_first() {
         None => false,
@@ -62,7 +62,7 @@ impl Name {
     /// The name of a text, none exactly where it is no name. It takes no memory.
     pub fn new(text: &[u8]) -> Option<Name>
         ensures value { IfSome result (λ n. n ≡ text.now) }
-        ensures name { IsSome result ↔ (name text.now ≡ true) }
+        ensures name { IsSome result ↔ (is_name text.now ≡ true) }
     {
         if !is_name(text) {
             return None;

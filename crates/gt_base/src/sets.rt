@@ -12,7 +12,7 @@ use crate::events::{Event, Fluent, PermId, Prioritised, RoleId, Signal};
 use crate::flags::{Flags, gathered, is_on_in, only_role_in};
 use crate::lists::{List, Memory};
 use crate::rows::{is_in, put};
-use crate::words::{Word, add_all, ascending, turn_off, turn_on};
+use crate::words::{FlagWord, add_all, ascending, turn_off, turn_on};
 use std::alloc::Global;
 use std::marker::Model;
 
@@ -263,7 +263,7 @@ impl Happened {
 /// set one fluent on takes one further word at most.
 pub struct Status {
     flags: Flags,
-    words: Vec<Word>,
+    words: Vec<FlagWord>,
 }
 
 impl Drop for Status {
@@ -391,7 +391,7 @@ impl Status {
 }
 
 /// Sets the fluent on: by its flag, or, where it has none, by one further word at most.
-fn set_on(flags: &mut Flags, words: &mut Vec<Word>, f: Fluent)
+fn set_on(flags: &mut Flags, words: &mut Vec<FlagWord>, f: Fluent)
     requires words { AreWords words.old.items }
     requires apart { AreApart flags.old words.old.items }
     requires room { vec_len words.old < vec_capacity words.old }
@@ -408,7 +408,7 @@ fn set_on(flags: &mut Flags, words: &mut Vec<Word>, f: Fluent)
 }
 
 /// Sets the fluent off: by its flag, or, where it has none, by its word.
-fn set_off(flags: &mut Flags, words: &mut Vec<Word>, f: Fluent)
+fn set_off(flags: &mut Flags, words: &mut Vec<FlagWord>, f: Fluent)
     requires words { AreWords words.old.items }
     requires apart { AreApart flags.old words.old.items }
     ensures words { AreWords words.new.items }

@@ -7,7 +7,7 @@ ghost use Rattle.gt_base.specs.declared.events.PermId.{PermId as PermView};
 ghost use Rattle.gt_base.specs.declared.events.RoleId.{RoleId as RoleView};
 ghost use Rattle.gt_base.specs.Orders.{fluent_cmp};
 ghost use Rattle.gt_base.specs.Sets.{has, members, set_of, with_member, without};
-ghost use Rattle.gt_base.specs.Words.{row_of, first_of, place_of, fluent_in, fluents_of, set_of_words, is_of_perms, AreWords, StandsAt, GoesAt};
+ghost use Rattle.gt_base.specs.Words.{row_of, first_of, word_place, fluent_in, fluents_of, set_of_words, is_of_perms, AreWords, WordStandsAt, GoesAt};
 
 use crate::events::{Fluent, LimitId, PermId, RoleId, UserId};
 use crate::lists::Memory;
@@ -24,15 +24,15 @@ pub(crate) enum Row {
 
 /// The place of a word: its row, and how many words of 64 fluents stand below it in the row.
 #[derive(Clone, Copy, PartialEq, Eq, PartialOrd, Ord)]
-pub(crate) struct Place {
+pub(crate) struct WordPlace {
     pub(crate) row: Row,
     pub(crate) below: u32,
 }
 
 /// Which of the 64 fluents at a place are on: a bit each, the lowest for the lowest first name.
 #[derive(Clone, Copy)]
-pub(crate) struct Word {
-    pub(crate) place: Place,
+pub(crate) struct FlagWord {
+    pub(crate) place: WordPlace,
     pub(crate) bits: u64,
 }
 
@@ -63,11 +63,11 @@ fn first_of(f: Fluent) -> u32
 }
 
 /// The place of the fluent's word.
-fn place_of(f: Fluent) -> Place
-    ensures place { result ≡ place_of f }
+fn place_of(f: Fluent) -> WordPlace
+    ensures place { result ≡ word_place f }
     ensures within { result.below < 2 ^ 26 }
 {
-    Place {
+    WordPlace {
         row: row_of(f),
         below: first_of(f) / 64,
     }
@@ -94,21 +94,21 @@ fn fluent_in(row: Row, first: u32) -> Fluent
 }
 
 /// Where the word of this place stands, or where it goes in.
-fn find(words: &[Word], place: Place) -> Result<usize, usize>
+fn find(words: &[FlagWord], place: WordPlace) -> Result<usize, usize>
     requires { AreWords words.now }
-    ensures found { IfOk result (StandsAt place words.now) }
+    ensures found { IfOk result (WordStandsAt place words.now) }
     ensures absent { IfErr result (GoesAt place words.now) }
 {
     words.binary_search_by_key(
         &place,
-        |word: &Word| -> Place
+        |word: &FlagWord| -> WordPlace
             ensures { result ≡ word.now.place }
         { word.place },
     )
 }
 
 /// Whether the fluent is on.
-pub(crate) fn is_on(words: &[Word], f: Fluent) -> bool
+pub(crate) fn is_on(words: &[FlagWord], f: Fluent) -> bool
     requires { AreWords words.now }
     ensures { result ≡ has (set_of_words words.now) f }
 {
@@ -119,7 +119,7 @@ pub(crate) fn is_on(words: &[Word], f: Fluent) -> bool
 }
 
 /// Whether no word is of a row of permissions: then none grants anything.
-pub(crate) fn grant_nothing(words: &[Word]) -> bool
+pub(crate) fn grant_nothing(words: &[FlagWord]) -> bool
     ensures { result ≡ true → (p : PermView) (r : RoleView)
         → has (set_of_words words.now) (Granted p r) ≡ false }
 {
@@ -127,7 +127,7 @@ pub(crate) fn grant_nothing(words: &[Word]) -> bool
 }
 
 /// Whether a word is of a row of permissions.
-fn has_perms(words: &[Word]) -> bool
+fn has_perms(words: &[FlagWord]) -> bool
     ensures { result ≡ list_any (λ w. is_of_perms w.place.row) words.now }
 {
     words.iter().any(|w| is_of_perms(w.place.row))
@@ -141,7 +141,7 @@ fn is_of_perms(row: Row) -> bool
 }
 
 /// Sets the fluent on. One further word at most.
-pub(crate) fn turn_on(words: &mut Vec<Word>, f: Fluent)
+pub(crate) fn turn_on(words: &mut Vec<FlagWord>, f: Fluent)
     requires words { AreWords words.old.items }
     requires room { vec_len words.old < vec_capacity words.old }
     ensures words { AreWords words.new.items }
@@ -153,7 +153,7 @@ pub(crate) fn turn_on(words: &mut Vec<Word>, f: Fluent)
     let bits = bit_of(f);
     match find(words, place) {
         Ok(i) => words[i].bits |= bits,
-        Err(i) => match words.insert(i, Word { place, bits }) {
+        Err(i) => match words.insert(i, FlagWord { place, bits }) {
             Ok(()) => {}
             Err(_) => unreachable!(),
         },
@@ -162,7 +162,7 @@ pub(crate) fn turn_on(words: &mut Vec<Word>, f: Fluent)
 
 /// Sets the fluent off. Its word stays, so that nothing moves when one of its fluents is set on
 /// again.
-pub(crate) fn turn_off(words: &mut Vec<Word>, f: Fluent)
+pub(crate) fn turn_off(words: &mut Vec<FlagWord>, f: Fluent)
     requires { AreWords words.old.items }
     ensures words { AreWords words.new.items }
     ensures set { set_of_words words.new.items ≡ without (set_of_words words.old.items) f }
@@ -175,7 +175,7 @@ pub(crate) fn turn_off(words: &mut Vec<Word>, f: Fluent)
 }
 
 /// Adds the fluents of the words that are on.
-pub(crate) fn add_all(fluents: &mut Vec<Fluent>, words: &[Word]) -> Result<(), Memory>
+pub(crate) fn add_all(fluents: &mut Vec<Fluent>, words: &[FlagWord]) -> Result<(), Memory>
     requires { AreWords words.now }
     ensures { OnOk result (fluents.new.items ≡ fluents.old.items ++ flat_map fluents_of words.now) }
 {
@@ -186,7 +186,7 @@ pub(crate) fn add_all(fluents: &mut Vec<Fluent>, words: &[Word]) -> Result<(), M
 }
 
 /// Adds the fluents of the word that are on.
-fn add_fluents(fluents: &mut Vec<Fluent>, word: Word) -> Result<(), Memory>
+fn add_fluents(fluents: &mut Vec<Fluent>, word: FlagWord) -> Result<(), Memory>
     requires { word.place.below < 2 ^ 26 }
     ensures { OnOk result (fluents.new.items ≡ fluents.old.items ++ fluents_of word) }
 {

@@ -8,8 +8,8 @@ use Rattle.gt_io.specs.declared.port.Called.TheVariants.{Nothing}
 use Rattle.gt_io.specs.Ports.{Port, Harbour, told_in}
 use Rattle.gt_host.specs.declared.port.HostPort.{HostPort}
 
-abbrev pub port_of : HostPort → Port
-port_of p =
+abbrev pub host_port : HostPort → Port
+host_port p =
     record {
       left = None;
       taken = None;
@@ -21,8 +21,8 @@ port_of p =
     }
 
 -- a link that there is none of
-abbrev pub no_port : Port
-no_port =
+abbrev pub no_host_port : Port
+no_host_port =
     record {
       left = None;
       taken = None;
@@ -34,16 +34,16 @@ no_port =
     }
 
 -- the link of a number from 1
-abbrev pub port_in : List HostPort → ℕ → Port
-port_in ps k = told_in port_of no_port ps k
+abbrev pub host_port_in : List HostPort → ℕ → Port
+host_port_in ps k = told_in host_port no_host_port ps k
 
-abbrev pub harbour_of : Option (Result PortEvent Failed) → ℕ → List HostPort → ℕ
+abbrev pub host_harbour : Option (Result PortEvent Failed) → ℕ → List HostPort → ℕ
     → Harbour
-harbour_of told nexts ports faults =
+host_harbour told nexts ports faults =
     record {
       told = told;
       nexts = nexts;
       opened = length ports;
-      port = port_in ports;
+      port = host_port_in ports;
       faults = faults;
     }

@@ -2,9 +2,10 @@
 use Rattle.std.specs.Prelude.{ℕ, ◌<◌, ◌≤◌}
 use Rattle.gt_host.specs.declared.lookout.Found.{Found}
 use Rattle.gt_host.specs.declared.lookout.Found.TheVariants.{Fresh, Link, Stop}
+use Rattle.gt_host.specs.declared.stop.TheConstants.{MOST_LINKS}
 
 -- a link is opened where there is a number for it, and one that has something to do was opened
-abbrev pub Fits : ℕ → Found → Type 0
-Fits opened (Fresh conn) = opened < 100_000
-Fits opened (Link k sign) = (1 ≤ k) × (k ≤ opened)
-Fits opened Stop = Unit {0}
+abbrev pub FitsFound : ℕ → Found → Type 0
+FitsFound opened (Fresh conn) = opened < MOST_LINKS
+FitsFound opened (Link k sign) = (1 ≤ k) × (k ≤ opened)
+FitsFound opened Stop = Unit {0}

@@ -1,8 +1,7 @@
 //! The system's clock, read as the minute of an instant.
 ghost use Rattle.std.specs.Prelude.{◌≡◌, ◌-◌, ◌/◌, min, None};
-ghost use Rattle.gt_base.specs.Bounds.{last_minute};
 
-use gt_base::Instant;
+use gt_base::{Instant, LAST_MINUTE};
 use gt_io::Clock;
 use jiff::Timestamp;
 use std::rt;
@@ -12,10 +11,10 @@ const FIRST_SECOND: u64 = 946_684_800;
 
 /// The minute of a second since 1970, the first one before 2000 and the last one after 2099.
 pub(crate) fn minute_at(second: u64) -> Instant
-    ensures { result ≡ min ((second - 946_684_800) / 60) last_minute }
+    ensures { result ≡ min ((second - FIRST_SECOND) / 60) LAST_MINUTE }
 {
     let minute = second.saturating_sub(FIRST_SECOND) / 60;
-    Instant::new(minute.min(52_595_999) as u32).unwrap()
+    Instant::new(minute.min(LAST_MINUTE as u64) as u32).unwrap()
 }
 
 /// The system's clock in UTC, cut to the years 2000 to 2099. It tells nothing. Where the system

@@ -69,7 +69,7 @@ pub(crate) fn both_ways() -> Interest {
     Interest::READABLE | Interest::WRITABLE
 }
 
-// Writes what the stream takes at once, and answers how many bytes that were.
+/// Writes what the stream takes at once, and answers how many bytes that were.
 fn write_now(stream: &mut TcpStream, text: &[u8]) -> io::Result<usize>
     ensures { IfOk result (λ n. n ≤ length text.now) }
 {
@@ -118,7 +118,7 @@ impl Conn {
         self.heard = sign.looks;
     }
 
-    // Hands over what is held, as far as the stream takes it, and answers whether that was all.
+    /// Hands over what is held, as far as the stream takes it, and answers whether that was all.
     fn hand_over(&mut self) -> io::Result<bool> {
         let (_, rest) = self.held.split_at(self.handed);
         self.handed += write_now(&mut self.stream, rest)?;
@@ -162,7 +162,7 @@ impl Conn {
         }
     }
 
-    // Ends a turn in which much was read: what is left is told anew behind what others have to do.
+    /// Ends a turn in which much was read: what is left is told anew behind what others have to do.
     fn give_way(&mut self, registry: Option<&Registry>, link: u32) -> io::Result<Got>
         ensures { IfOk result (FitsGot 1) }
     {
@@ -187,7 +187,7 @@ impl Conn {
         }
     }
 
-    // The stream takes nothing now. One whose client was silent for too long fails.
+    /// The stream takes nothing now. One whose client was silent for too long fails.
     fn not_yet(&self) -> io::Result<Took>
         ensures { IfOk result (λ took. took ≡ Took.NotYet) }
     {
@@ -197,7 +197,7 @@ impl Conn {
         Ok(Took::NotYet)
     }
 
-    // Hands over what is held, and then the piece.
+    /// Hands over what is held, and then the piece.
     fn pass_on(&mut self, piece: &[u8]) -> io::Result<Took>
         requires { 0 < length piece.now }
         ensures { IfOk result (FitsTook (length piece.now)) }

@@ -18,10 +18,10 @@ pub struct HostShelf<'a, R> {
 impl<'a, R: Files<File = File>> HostShelf<'a, R> {
     /// A shelf with no file open.
     pub fn new(rt: &'a R) -> Self
-        ensures contents { ⟦<HostShelf<'a, R> as Shelf>⟧.contents result ≡ None }
-        ensures left { ⟦<HostShelf<'a, R> as Shelf>⟧.left result ≡ None }
-        ensures faults { ⟦<HostShelf<'a, R> as Shelf>⟧.faults result ≡ 0 }
-        ensures hard_faults { ⟦<HostShelf<'a, R> as Shelf>⟧.hard_faults result ≡ 0 }
+        ensures contents { (⟦<HostShelf<'a, R> as Shelf>⟧.stock result).contents ≡ None }
+        ensures left { (⟦<HostShelf<'a, R> as Shelf>⟧.stock result).left ≡ None }
+        ensures faults { (⟦<HostShelf<'a, R> as Shelf>⟧.stock result).faults ≡ 0 }
+        ensures hard_faults { (⟦<HostShelf<'a, R> as Shelf>⟧.stock result).hard_faults ≡ 0 }
     {
         HostShelf {
             rt,
@@ -32,13 +32,12 @@ impl<'a, R: Files<File = File>> HostShelf<'a, R> {
 }
 
 impl<'a, R: Files<File = File>> Shelf for HostShelf<'a, R> {
-    ghost contents = { λ _. None };
-
-    ghost left = { λ _. None };
-
-    ghost faults = { λ s. s.faults };
-
-    ghost hard_faults = { λ s. s.faults };
+    ghost stock = { λ s. record {
+      contents = None;
+      left = None;
+      faults = s.faults;
+      hard_faults = s.faults;
+    } };
 
     fn find(&mut self, name: &str) -> Result<(), Failed> {
         match File::open(self.rt, name) {

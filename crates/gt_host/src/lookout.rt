@@ -1,6 +1,6 @@
 //! What many links wait for together: connections, bytes, room for bytes, and the stop file.
 ghost use Rattle.std.specs.Prelude.{◌≡◌, ◌<◌, ◌≤◌, length, Some, IfOk, IfSome};
-ghost use Rattle.gt_host.specs.Lookouts.{Fits};
+ghost use Rattle.gt_host.specs.Lookouts.{FitsFound};
 
 use crate::conn::{Conn, Sign, both_ways};
 use crate::port::HostPort;
@@ -142,9 +142,9 @@ impl<'a, R: Files + rt::Clock + Net> Lookout<'a, R> {
         }
     }
 
-    // The next of the links to be looked at whose client was silent for too long.
+    /// The next of the links to be looked at whose client was silent for too long.
     fn next_late(&mut self, ports: &[HostPort]) -> Option<u32>
-        requires { length ports.now ≤ 100_000 }
+        requires { length ports.now ≤ MOST_LINKS }
         ensures { IfSome result (λ k. (1 ≤ k) × (k ≤ length ports.now)) }
     {
         for _ in 0..MOST_SWEPT {
@@ -165,7 +165,7 @@ impl<'a, R: Files + rt::Clock + Net> Lookout<'a, R> {
         None
     }
 
-    // The token of the next event of the last wait, and whether it tells that the peer has ended.
+    /// The token of the next event of the last wait, and whether it tells that the peer has ended.
     fn take_event(&mut self) -> Option<(Token, bool)> {
         let Some(events) = &self.events else {
             return None;
@@ -176,10 +176,10 @@ impl<'a, R: Files + rt::Clock + Net> Lookout<'a, R> {
         Some((event.token(), ended))
     }
 
-    // What an event tells, if there is anything to do.
+    /// What an event tells, if there is anything to do.
     fn told_by(&mut self, token: Token, ended: bool, ports: &[HostPort]) -> Option<Found>
-        requires { length ports.now ≤ 100_000 }
-        ensures { IfSome result (Fits (length ports.now)) }
+        requires { length ports.now ≤ MOST_LINKS }
+        ensures { IfSome result (FitsFound (length ports.now)) }
     {
         let link = token.0;
         if link == 0 {
@@ -197,7 +197,7 @@ impl<'a, R: Files + rt::Clock + Net> Lookout<'a, R> {
         Some(Found::Link(link as u32, sign))
     }
 
-    // Has the system tell of a stream under a number.
+    /// Has the system tell of a stream under a number.
     fn welcome(&mut self, mut stream: TcpStream, number: usize) -> io::Result<Box<Conn>> {
         let Some(poll) = &self.poll else {
             return Err(io::Error::from(ErrorKind::NotConnected));
@@ -210,9 +210,9 @@ impl<'a, R: Files + rt::Clock + Net> Lookout<'a, R> {
         Conn::new(self.alloc, stream, self.looks)
     }
 
-    // The connection that waits, under a number; none where none does or enough were taken, and
-    // where one had to be dropped. An accept that failed for a reason that passes is tried again
-    // behind the next wait.
+    /// The connection that waits, under a number; none where none does or enough were taken, and
+    /// where one had to be dropped. An accept that failed for a reason that passes is tried again
+    /// behind the next wait.
     fn next_conn(&mut self, number: usize) -> io::Result<Option<Box<Conn>>> {
         if self.queue != Queue::Waiting || self.accepted >= MOST_ACCEPTED {
             return Ok(None);
@@ -238,9 +238,9 @@ impl<'a, R: Files + rt::Clock + Net> Lookout<'a, R> {
         }
     }
 
-    // Opens the link of a connection that waits, where the stop file does not stand.
+    /// Opens the link of a connection that waits, where the stop file does not stand.
     fn next_fresh(&mut self, opened: usize) -> io::Result<Option<Found>>
-        ensures { IfOk result (λ found. IfSome found (Fits opened)) }
+        ensures { IfOk result (λ found. IfSome found (FitsFound opened)) }
     {
         if opened >= MOST_LINKS {
             return Ok(None);
@@ -257,7 +257,7 @@ impl<'a, R: Files + rt::Clock + Net> Lookout<'a, R> {
         Ok(Some(Found::Fresh(conn)))
     }
 
-    // Waits for events, for a moment at most.
+    /// Waits for events, for a moment at most.
     fn wait(&mut self) -> io::Result<()> {
         let (Some(poll), Some(events)) = (&mut self.poll, &mut self.events) else {
             return Err(io::Error::from(ErrorKind::NotConnected));
@@ -276,11 +276,11 @@ impl<'a, R: Files + rt::Clock + Net> Lookout<'a, R> {
         Ok(())
     }
 
-    // One step: a look for the stop file where it is time, a link that was silent for too long, an
-    // event of the last wait, a connection, or a wait.
+    /// One step: a look for the stop file where it is time, a link that was silent for too long, an
+    /// event of the last wait, a connection, or a wait.
     fn step(&mut self, ports: &[HostPort]) -> io::Result<Option<Found>>
-        requires { length ports.now ≤ 100_000 }
-        ensures { IfOk result (λ found. IfSome found (Fits (length ports.now))) }
+        requires { length ports.now ≤ MOST_LINKS }
+        ensures { IfOk result (λ found. IfSome found (FitsFound (length ports.now))) }
     {
         if self.watch.is_due() {
             if is_stopped(self.watch.rt)? {
@@ -309,8 +309,8 @@ impl<'a, R: Files + rt::Clock + Net> Lookout<'a, R> {
 
     /// What is to be done next.
     pub(crate) fn advance(&mut self, ports: &[HostPort]) -> io::Result<Found>
-        requires { length ports.now ≤ 100_000 }
-        ensures { IfOk result (Fits (length ports.now)) }
+        requires { length ports.now ≤ MOST_LINKS }
+        ensures { IfOk result (FitsFound (length ports.now)) }
     {
         self.listen()?;
         for _ in 0..u64::MAX {

@@ -3,9 +3,10 @@ ghost use Rattle.std.specs.Prelude.{◌≡◌, ◌<◌, ◌≤◌, length, vec_l
 ghost use Rattle.std.specs.Prelude.{[], None, Some, Ok, false};
 ghost use Rattle.gt_io.specs.Ports.{PortReads, PortWrites, FitsGot, FitsTook, readied};
 ghost use Rattle.gt_io.specs.Ports.{open_among, Happens, IsUncalled};
-ghost use Rattle.gt_io.specs.Causes.{Rose};
-ghost use Rattle.gt_host.specs.HostPorts.{port_of, port_in, harbour_of};
-ghost use Rattle.gt_host.specs.Lookouts.{Fits};
+ghost use Rattle.gt_io.specs.Memory.{one_more};
+ghost use Rattle.gt_host.specs.HostPorts.{host_port, host_port_in, host_harbour};
+ghost use Rattle.gt_host.specs.Lookouts.{FitsFound};
+ghost use Rattle.gt_host.specs.declared.stop.TheConstants.{MOST_LINKS};
 
 use crate::conn::{Conn, Sign};
 use crate::lookout::{Found, Lookout};
@@ -34,7 +35,7 @@ impl HostPort {
     ) -> Result<Got, Failed>
         requires { 0 < length buf.old }
         ensures bound { IfOk result (FitsGot (length buf.new)) }
-        ensures same { port_of self.new ≡ port_of self.old }
+        ensures same { host_port self.new ≡ host_port self.old }
     {
         let Some(conn) = &mut self.conn else {
             return Ok(Got::Finished);
@@ -56,7 +57,7 @@ impl HostPort {
     ) -> Result<Got, Failed>
         requires { 0 < length buf.old }
         ensures bound { IfOk result (FitsGot (length buf.new)) }
-        ensures port { PortReads (port_of self.old) (port_of self.new) buf.new result }
+        ensures port { PortReads (host_port self.old) (host_port self.new) buf.new result }
     {
         let answer = self.draw(registry, link, buf);
         self.last = Called::Read(answer);
@@ -72,7 +73,7 @@ impl HostPort {
     fn take(&mut self, piece: &[u8]) -> Result<Took, Failed>
         requires { 0 < length piece.now }
         ensures bound { IfOk result (FitsTook (length piece.now)) }
-        ensures same { port_of self.new ≡ port_of self.old }
+        ensures same { host_port self.new ≡ host_port self.old }
     {
         let Some(conn) = &mut self.conn else {
             return Err(Failed);
@@ -89,7 +90,7 @@ impl HostPort {
     fn write(&mut self, piece: &[u8]) -> Result<Took, Failed>
         requires { 0 < length piece.now }
         ensures bound { IfOk result (FitsTook (length piece.now)) }
-        ensures port { PortWrites (port_of self.old) (port_of self.new) piece.now result }
+        ensures port { PortWrites (host_port self.old) (host_port self.new) piece.now result }
     {
         let answer = self.take(piece);
         self.last = Called::Wrote(answer);
@@ -102,7 +103,7 @@ impl HostPort {
     }
 
     fn wake(&mut self, sign: Sign)
-        ensures { port_of self.new ≡ readied (port_of self.old) }
+        ensures { host_port self.new ≡ readied (host_port self.old) }
     {
         if let Some(conn) = &mut self.conn {
             conn.wake(sign);
@@ -110,10 +111,10 @@ impl HostPort {
         self.owed = self.finished.is_none();
     }
 
-    // Hands over what the stream takes at once, and drops it.
+    /// Hands over what the stream takes at once, and drops it.
     fn end(&mut self, nexts: u64)
-        ensures { port_of self.new
-            ≡ record (port_of self.old) { owed = false; finished = Some nexts } }
+        ensures { host_port self.new
+            ≡ record (host_port self.old) { owed = false; finished = Some nexts } }
     {
         if let Some(conn) = &mut self.conn {
             conn.end();
@@ -139,8 +140,8 @@ pub struct HostPorts<'a, R> {
     told: Option<Result<PortEvent, Failed>>,
     nexts: u64,
     faults: u64,
-    ghost few: { length ports.items ≤ 100_000 },
-    ghost counted: { busy ≡ open_among (port_in ports.items) (length ports.items) },
+    ghost few: { length ports.items ≤ MOST_LINKS },
+    ghost counted: { busy ≡ open_among (host_port_in ports.items) (length ports.items) },
 }
 
 impl<'a, R> Drop for HostPorts<'a, R> {
@@ -156,10 +157,10 @@ impl<'a, R> Drop for HostPorts<'a, R> {
     }
 }
 
-// A count of faults that has risen.
+/// A count of faults that has risen.
 fn raised(faults: u64) -> u64
     ensures later { faults ≤ result }
-    ensures rose { Rose faults result }
+    ensures rose { result ≡ one_more faults }
 {
     faults.saturating_add(1)
 }
@@ -168,7 +169,7 @@ impl<'a, R: Files + rt::Clock + Net> HostPorts<'a, R> {
     /// Ports on 127.0.0.1 at the port.
     pub fn new(rt: &'a R, alloc: Global, port: u16) -> Self
         ensures port { result.lookout.port ≡ Some port }
-        ensures harbour { ⟦<HostPorts<'a, R> as Ports>⟧.harbour result ≡ harbour_of None 0 [] 0 }
+        ensures harbour { ⟦<HostPorts<'a, R> as Ports>⟧.harbour result ≡ host_harbour None 0 [] 0 }
         ensures uncalled { IsUncalled (⟦<HostPorts<'a, R> as Ports>⟧.harbour result) }
     {
         HostPorts {
@@ -181,10 +182,10 @@ impl<'a, R: Files + rt::Clock + Net> HostPorts<'a, R> {
         }
     }
 
-    // Opens the link of a connection.
+    /// Opens the link of a connection.
     fn begin(&mut self, conn: Box<Conn>) -> PortEvent
         requires room { vec_len self.old.ports < vec_capacity self.old.ports }
-        requires few { length self.old.ports.items < 100_000 }
+        requires few { length self.old.ports.items < MOST_LINKS }
         ensures kept { (self.new.told ≡ self.old.told) × (self.new.nexts ≡ self.old.nexts) }
         ensures happens { Happens (⟦<HostPorts<'a, R> as Ports>⟧.harbour self.old)
             (⟦<HostPorts<'a, R> as Ports>⟧.harbour self.new) (Ok result) }
@@ -200,7 +201,7 @@ impl<'a, R: Files + rt::Clock + Net> HostPorts<'a, R> {
         PortEvent::Opened(self.ports.len() as u32)
     }
 
-    // Has a link be ready.
+    /// Has a link be ready.
     fn wake(&mut self, link: u32, sign: Sign) -> PortEvent
         requires known { (1 ≤ link) × (link ≤ length self.old.ports.items) }
         ensures kept { (self.new.told ≡ self.old.told) × (self.new.nexts ≡ self.old.nexts) }
@@ -211,12 +212,12 @@ impl<'a, R: Files + rt::Clock + Net> HostPorts<'a, R> {
         PortEvent::Ready(link)
     }
 
-    // What is to be done next, with room for a further link.
+    /// What is to be done next, with room for a further link.
     fn found(&mut self) -> io::Result<Found>
         ensures same { ⟦<HostPorts<'a, R> as Ports>⟧.harbour self.new
             ≡ ⟦<HostPorts<'a, R> as Ports>⟧.harbour self.old }
         ensures room { OnOk result (vec_len self.new.ports < vec_capacity self.new.ports) }
-        ensures fits { IfOk result (Fits (length self.new.ports.items)) }
+        ensures fits { IfOk result (FitsFound (length self.new.ports.items)) }
     {
         if self.ports.reserve(1).is_err() {
             return Err(io::Error::from(io::ErrorKind::OutOfMemory));
@@ -224,7 +225,7 @@ impl<'a, R: Files + rt::Clock + Net> HostPorts<'a, R> {
         self.lookout.advance(&self.ports)
     }
 
-    // The answer to a call that was counted.
+    /// The answer to a call that was counted.
     pub(crate) fn answer(&mut self) -> Result<PortEvent, Failed>
         ensures kept { (self.new.told ≡ self.old.told) × (self.new.nexts ≡ self.old.nexts) }
         ensures happens { Happens (⟦<HostPorts<'a, R> as Ports>⟧.harbour self.old)
@@ -247,7 +248,7 @@ impl<'a, R: Files + rt::Clock + Net> HostPorts<'a, R> {
 }
 
 impl<'a, R: Files + rt::Clock + Net> Ports for HostPorts<'a, R> {
-    ghost harbour = { λ p. harbour_of p.told p.nexts p.ports.items p.faults };
+    ghost harbour = { λ p. host_harbour p.told p.nexts p.ports.items p.faults };
 
     fn next(&mut self) -> Result<PortEvent, Failed> {
         self.nexts = self.nexts.saturating_add(1);

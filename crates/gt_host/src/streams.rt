@@ -14,17 +14,15 @@ pub struct Reading<R> {
 impl<R: Read> Reading<R> {
     /// A source of what the reader has left.
     pub fn new(inner: R) -> Self
-        ensures left { ⟦<Reading<R> as Source>⟧.left result ≡ R.remaining inner }
-        ensures faults { ⟦<Reading<R> as Source>⟧.faults result ≡ 0 }
+        ensures left { (⟦<Reading<R> as Source>⟧.intake result).left ≡ R.remaining inner }
+        ensures faults { (⟦<Reading<R> as Source>⟧.intake result).faults ≡ 0 }
     {
         Reading { inner, faults: 0 }
     }
 }
 
 impl<R: Read> Source for Reading<R> {
-    ghost left = { λ s. R.remaining s.inner };
-
-    ghost faults = { λ s. s.faults };
+    ghost intake = { λ s. record { left = R.remaining s.inner; faults = s.faults } };
 
     fn read(&mut self, buf: &mut [u8]) -> Result<usize, Failed> {
         match self.inner.read(buf) {
@@ -48,17 +46,15 @@ pub struct Writing<W> {
 impl<W: Write> Writing<W> {
     /// A sink to the writer.
     pub fn new(inner: W) -> Self
-        ensures written { ⟦<Writing<W> as Sink>⟧.written result ≡ W.contents inner }
-        ensures faults { ⟦<Writing<W> as Sink>⟧.faults result ≡ 0 }
+        ensures written { (⟦<Writing<W> as Sink>⟧.output result).written ≡ W.contents inner }
+        ensures faults { (⟦<Writing<W> as Sink>⟧.output result).faults ≡ 0 }
     {
         Writing { inner, faults: 0 }
     }
 }
 
 impl<W: Write> Sink for Writing<W> {
-    ghost written = { λ s. W.contents s.inner };
-
-    ghost faults = { λ s. s.faults };
+    ghost output = { λ s. record { written = W.contents s.inner; faults = s.faults } };
 
     fn write(&mut self, piece: &[u8]) -> Result<usize, Failed> {
         match self.inner.write(piece) {

@@ -27,8 +27,8 @@ const MOST_STILL_WAITS: u32 = 240;
 /// How many milliseconds pass before an accept that failed is tried again.
 const PAUSE_MILLIS: u64 = 20;
 
-// Reads some bytes. None come at the end, which is also where the stop file stands or the client is
-// silent for too long.
+/// Reads some bytes. None come at the end, which is also where the stop file stands or the client
+/// is silent for too long.
 fn read_some<R: Files>(rt: &R, stream: &mut TcpStream, buf: &mut [u8]) -> io::Result<usize>
     ensures { ReadsAtMost result buf.new }
 {
@@ -46,8 +46,8 @@ fn read_some<R: Files>(rt: &R, stream: &mut TcpStream, buf: &mut [u8]) -> io::Re
     Ok(0)
 }
 
-// Writes some of the piece, at least a byte. It fails where the stop file stands, or where the
-// client takes nothing for too long.
+/// Writes some of the piece, at least a byte. It fails where the stop file stands, or where the
+/// client takes nothing for too long.
 fn write_some<R: Files>(rt: &R, stream: &mut TcpStream, piece: &[u8]) -> io::Result<usize>
     ensures { IfOk result (λ n. (0 < n) × (n ≤ length piece.now)) }
 {
@@ -66,8 +66,8 @@ fn write_some<R: Files>(rt: &R, stream: &mut TcpStream, piece: &[u8]) -> io::Res
     Err(io::Error::from(ErrorKind::TimedOut))
 }
 
-// Writes the whole text. A write that takes a part has waited for the rest, so it looks for the
-// stop file then too.
+/// Writes the whole text. A write that takes a part has waited for the rest, so it looks for the
+/// stop file then too.
 fn write_text<R: Files>(rt: &R, stream: &mut TcpStream, text: &[u8]) -> io::Result<()> {
     let mut rest = text;
     while !rest.is_empty() {
@@ -132,7 +132,7 @@ impl<'a, R: Files + rt::Clock> HostLink<'a, R> {
         }
     }
 
-    // Hands what is held to the stream. Where that fails, the stream is let go.
+    /// Hands what is held to the stream. Where that fails, the stream is let go.
     fn hand_over(&mut self) -> Result<(), Failed>
         ensures read_faults { self.new.read_faults ≡ self.old.read_faults }
         ensures write_faults { self.new.write_faults ≡ self.old.write_faults }
@@ -150,8 +150,8 @@ impl<'a, R: Files + rt::Clock> HostLink<'a, R> {
         Err(Failed)
     }
 
-    // Hands over what is held, and waits for bytes. A client that is never silent sees the stop
-    // too.
+    /// Hands over what is held, and waits for bytes. A client that is never silent sees the stop
+    /// too.
     fn draw(&mut self, buf: &mut [u8]) -> Result<usize, Failed>
         ensures bound { IfOk result (λ n. n ≤ length buf.new) }
         ensures read_faults { self.new.read_faults ≡ self.old.read_faults }
@@ -171,7 +171,7 @@ impl<'a, R: Files + rt::Clock> HostLink<'a, R> {
         }
     }
 
-    // Holds the piece back, or hands it over with what is held where there is no room for it.
+    /// Holds the piece back, or hands it over with what is held where there is no room for it.
     fn take(&mut self, piece: &[u8]) -> Result<(), Failed>
         ensures read_faults { self.new.read_faults ≡ self.old.read_faults }
         ensures write_faults { self.new.write_faults ≡ self.old.write_faults }
@@ -189,7 +189,7 @@ impl<'a, R: Files + rt::Clock> HostLink<'a, R> {
         }
     }
 
-    // Hands over what is held, and then the piece.
+    /// Hands over what is held, and then the piece.
     fn pass_on(&mut self, piece: &[u8]) -> Result<(), Failed>
         ensures read_faults { self.new.read_faults ≡ self.old.read_faults }
         ensures write_faults { self.new.write_faults ≡ self.old.write_faults }
@@ -257,21 +257,21 @@ impl<'a, R: Files + rt::Clock> Link for HostLink<'a, R> {
     }
 }
 
-// Has each wait of a socket end soon.
+/// Has each wait of a socket end soon.
 fn limit(stream: &TcpStream) -> io::Result<()> {
     stream.set_read_timeout(Some(one_wait()))?;
     stream.set_write_timeout(Some(one_wait()))
 }
 
-// Has each wait of a listener end soon; an accept has the time that a read has.
+/// Has each wait of a listener end soon; an accept has the time that a read has.
 fn limited(listener: TcpListener) -> io::Result<TcpListener> {
     let socket = TcpStream::from(OwnedFd::from(listener));
     limit(&socket)?;
     Ok(TcpListener::from(OwnedFd::from(socket)))
 }
 
-// The next connection; none once the stop file stands. An accept that failed for a reason that
-// passes is tried again.
+/// The next connection; none once the stop file stands. An accept that failed for a reason that
+/// passes is tried again.
 fn accept<R: Files + rt::Clock>(rt: &R, listener: &TcpListener) -> io::Result<Option<TcpStream>> {
     for _ in 0..u64::MAX {
         if is_stopped(rt)? {
@@ -328,7 +328,7 @@ impl<'a, R: Files + rt::Clock + Net<Listener = TcpListener, Stream = TcpStream>>
         }
     }
 
-    // Begins to listen, where it has not yet.
+    /// Begins to listen, where it has not yet.
     pub(crate) fn listen(&mut self) -> io::Result<()>
         ensures { self.new.faults ≡ self.old.faults }
     {
@@ -339,7 +339,7 @@ impl<'a, R: Files + rt::Clock + Net<Listener = TcpListener, Stream = TcpStream>>
         Ok(())
     }
 
-    // The next connection; none where the stop file stands before the wait, in it or after it.
+    /// The next connection; none where the stop file stands before the wait, in it or after it.
     fn accepted(&mut self) -> io::Result<Option<HostLink<'a, R>>>
         ensures faults { self.new.faults ≡ self.old.faults }
         ensures open { IfOk result (λ next. IfSome next (λ link. link.finished ≡ false)) }
@@ -360,7 +360,7 @@ impl<'a, R: Files + rt::Clock + Net<Listener = TcpListener, Stream = TcpStream>>
         Ok(Some(HostLink::new(self.rt, self.alloc, stream)))
     }
 
-    // Counts a connection, and listens no more where it is the last.
+    /// Counts a connection, and listens no more where it is the last.
     fn count(&mut self)
         ensures { self.new.faults ≡ self.old.faults }
     {

@@ -6,7 +6,8 @@ use Rattle.gt_io.specs.declared.port.PortEvent.{PortEvent}
 use Rattle.gt_io.specs.declared.port.PortEvent.TheVariants.{Opened, Ready, Stop}
 use Rattle.gt_io.specs.declared.port.Got.{Got}
 use Rattle.gt_io.specs.declared.port.Took.{Took}
-use Rattle.gt_io.specs.Causes.{HasCause, Rose}
+use Rattle.gt_io.specs.Causes.{FailsOnce}
+use Rattle.gt_io.specs.Memory.{one_more}
 use Rattle.gt_io.specs.Ports.{Port, Harbour, told_at, told_in, KeepsRest, PortReads, ReadsPort, FitsGot, PortWrites, WritesPort, FitsTook, Finishes, Happens, open_among, is_none, newly, readied, port_by}
 use Rattle.gt_io.specs.Links.{IsNothing}
 use Rattle.std.specs.Prelude.{if◌then◌else◌}
@@ -72,7 +73,7 @@ module _ {A : Type 0} (tells : A → Port) (other : Port) where
 
   -- a call on one link of the list
   pub reads_port : (told : Option (Result PortEvent Failed)) (nexts opened faults faults' : ℕ) (xs : List A) (c : ℕ) (x y : A) (buf : List ℕ) (result : Result Got Failed) → 1 ≤ c → c ≤ length xs → x ≡ get_or xs (c - 1) x
-      → IfOk result (FitsGot (length buf)) → PortReads (tells x) (tells y) buf result → HasCause faults faults' result
+      → IfOk result (FitsGot (length buf)) → PortReads (tells x) (tells y) buf result → FailsOnce faults faults' result
       → ReadsPort (Are told nexts opened xs faults) (Are told nexts opened (set xs (c - 1) y) faults') c buf result
   reads_port told nexts opened faults faults' xs c x y buf result first last is bound reads cause =
       let before : told_in tells other xs c ≡ tells x = in_get xs c x first last ∙ ap tells (sym is) in
@@ -85,7 +86,7 @@ module _ {A : Type 0} (tells : A → Port) (other : Port) where
       }
 
   pub writes_port : (told : Option (Result PortEvent Failed)) (nexts opened faults faults' : ℕ) (xs : List A) (c : ℕ) (x y : A) (piece : List ℕ) (result : Result Took Failed) → 1 ≤ c → c ≤ length xs → x ≡ get_or xs (c - 1) x
-      → IfOk result (FitsTook (length piece)) → PortWrites (tells x) (tells y) piece result → HasCause faults faults' result
+      → IfOk result (FitsTook (length piece)) → PortWrites (tells x) (tells y) piece result → FailsOnce faults faults' result
       → WritesPort (Are told nexts opened xs faults) (Are told nexts opened (set xs (c - 1) y) faults') c piece result
   writes_port told nexts opened faults faults' xs c x y piece result first last is bound writes cause =
       let before : told_in tells other xs c ≡ tells x = in_get xs c x first last ∙ ap tells (sym is) in
@@ -131,7 +132,7 @@ module _ {A : Type 0} (tells : A → Port) (other : Port) where
             ∙ ap (λ (j : ℕ). newly (open_among (told_in tells other xs) opened) (told_in tells other xs j)) (sym is)
             ∙ sym (by_opened (open_among (told_in tells other xs) opened) (opened + 1) k p true (eq-eqb k (opened + 1) is))) (λ other_one.
             away k other_one ∙ sym (by_opened (open_among (told_in tells other xs) opened) (opened + 1) k (told_in tells other xs k) false (ne_eqb k (opened + 1) other_one)));
-        cause = record { later = omega arith; kept = refl; failed = tt };
+        cause = record { later = omega arith; kept = refl; once = tt };
       }
 
   -- a link that was opened is ready
@@ -151,7 +152,7 @@ module _ {A : Type 0} (tells : A → Port) (other : Port) where
             ap (told_in tells other (set xs (c - 1) y)) here ∙ in_set xs c y first within ∙ wakes ∙ ap readied (sym before) ∙ ap (λ (j : ℕ). readied (told_in tells other xs j)) (sym here)
             ∙ sym (by_ready n c k p true (eq-eqb k c here))) (λ away.
             in_away xs c k y first away ∙ sym (by_ready n c k (told_in tells other xs k) false (ne_eqb k c away)));
-        cause = record { later = omega arith; kept = refl; failed = tt };
+        cause = record { later = omega arith; kept = refl; once = tt };
       }
 
   -- there is nothing more to do
@@ -163,10 +164,10 @@ module _ {A : Type 0} (tells : A → Port) (other : Port) where
         known = λ d same. absurd cc;
         fresh = λ d same. absurd cc;
         ports = λ k. refl;
-        cause = record { later = omega arith; kept = refl; failed = tt };
+        cause = record { later = omega arith; kept = refl; once = tt };
       }
 
-  pub happens_fault : (told : Option (Result PortEvent Failed)) (nexts opened faults faults' : ℕ) (xs : List A) (f : Failed) → faults ≤ faults' → Rose faults faults' → Happens (Are told nexts opened xs faults) (Are told nexts opened xs faults') (Err f)
+  pub happens_fault : (told : Option (Result PortEvent Failed)) (nexts opened faults faults' : ℕ) (xs : List A) (f : Failed) → faults ≤ faults' → faults' ≡ one_more faults → Happens (Are told nexts opened xs faults) (Are told nexts opened xs faults') (Err f)
   happens_fault told nexts opened faults faults' xs f later rose =
       record {
         opened = refl;
@@ -174,16 +175,16 @@ module _ {A : Type 0} (tells : A → Port) (other : Port) where
         known = λ d same. absurd cc;
         fresh = λ d same. absurd cc;
         ports = λ k. refl;
-        cause = record { later = later; kept = tt; failed = rose };
+        cause = record { later = later; kept = tt; once = rose };
       }
 
 -- the count of faults rises where a call fails
-pub cause_err : {T : Type 0} (before now : ℕ) (result : Result T Failed) → is_err result ≡ true → before ≤ now → Rose before now → HasCause before now result
+pub cause_err : {T : Type 0} (before now : ℕ) (result : Result T Failed) → is_err result ≡ true → before ≤ now → now ≡ one_more before → FailsOnce before now result
 cause_err before now (Ok x) e later rose = absurd cc
-cause_err before now (Err f) e later rose = record { later = later; kept = tt; failed = rose }
+cause_err before now (Err f) e later rose = record { later = later; kept = tt; once = rose }
 
-pub cause_ok : {T : Type 0} (before : ℕ) (result : Result T Failed) → is_err result ≡ false → HasCause before before result
-cause_ok before (Ok x) e = record { later = omega arith; kept = refl; failed = tt }
+pub cause_ok : {T : Type 0} (before : ℕ) (result : Result T Failed) → is_err result ≡ false → FailsOnce before before result
+cause_ok before (Ok x) e = record { later = omega arith; kept = refl; once = tt }
 cause_ok before (Err f) e = absurd cc
 
 -- links that nothing went over, behind the one that is opened next

@@ -3,8 +3,8 @@ use Rattle.std.proofs.Common.{◌≡◌, ℕ, ◌++◌, List, [], length, take, 
 use Rattle.std.specs.Prelude.{if◌then◌else◌, IsOk}
 use Rattle.std.specs.declared.option.Option.{Option}
 use Rattle.gt_io.specs.declared.source.Failed.{Failed}
-use Rattle.gt_io.specs.Memory.{Numbered, fails_next, refused, answered, one_more}
-use Rattle.gt_io.specs.MemoryShelf.{Texts, ReadsText, FindsText, text_of, begun, broken, opened}
+use Rattle.gt_io.specs.Memory.{FailingCalls, fails_next, refused, answered, one_more}
+use Rattle.gt_io.specs.MemoryShelf.{Texts, ReadsText, FindsText, file_text, begun, broken, text_opened}
 use Rattle.gt_io.proofs.Supplies.{refused_piece, answered_piece}
 
 pub broken_read : (o p : Texts) (room : ℕ) (e : Failed) → true ≡ fails_next o.text.calls → p ≡ broken o → ReadsText o p room (Err e)
@@ -37,11 +37,11 @@ nothing_told : (told : Option (List ℕ)) (P : List ℕ → Type 0) → told ≡
 nothing_told None P e = tt
 nothing_told (Some xs) P e = cc
 
-pub missing_find : (o v : Texts) (calls : Numbered) (name : List ℕ) (e : Failed) → false ≡ fails_next o.text.calls → v ≡ begun o → calls ≡ record (v.text.calls) { faults = one_more v.text.calls.faults }
-    → text_of v.files name ≡ None → FindsText {T = Unit {0}} o (record v { text = record (v.text) { calls = calls } }) name (Err e)
+pub missing_find : (o v : Texts) (calls : FailingCalls) (name : List ℕ) (e : Failed) → false ≡ fails_next o.text.calls → v ≡ begun o → calls ≡ record (v.text.calls) { faults = one_more v.text.calls.faults }
+    → file_text v.files name ≡ None → FindsText {T = Unit {0}} o (record v { text = record (v.text) { calls = calls } }) name (Err e)
 missing_find o v calls name e listed made =
     subst
-    (λ (v : Texts). calls ≡ record (v.text.calls) { faults = one_more v.text.calls.faults } → text_of v.files name ≡ None
+    (λ (v : Texts). calls ≡ record (v.text.calls) { faults = one_more v.text.calls.faults } → file_text v.files name ≡ None
     → FindsText {T = Unit {0}} o (record v { text = record (v.text) { calls = calls } }) name (Err e))
     (sym made)
     (λ failed none. record {
@@ -50,14 +50,14 @@ missing_find o v calls name e listed made =
       found = λ _. nothing_told _ _ none;
     })
 
-pub found_find : (o v : Texts) (bytes name : List ℕ) → false ≡ fails_next o.text.calls → v ≡ begun o → text_of v.files name ≡ Some bytes
+pub found_find : (o v : Texts) (bytes name : List ℕ) → false ≡ fails_next o.text.calls → v ≡ begun o → file_text v.files name ≡ Some bytes
     → FindsText {T = Unit {0}} {E = Failed} o (record v { text = record { taken = []; left = bytes; piece = v.text.piece; calls = v.text.calls } }) name (Ok tt)
 found_find o v bytes name listed made =
     subst
-    (λ (v : Texts). text_of v.files name ≡ Some bytes → FindsText {T = Unit {0}} {E = Failed} o (record v { text = record { taken = []; left = bytes; piece = v.text.piece; calls = v.text.calls } }) name (Ok tt))
+    (λ (v : Texts). file_text v.files name ≡ Some bytes → FindsText {T = Unit {0}} {E = Failed} o (record v { text = record { taken = []; left = bytes; piece = v.text.piece; calls = v.text.calls } }) name (Ok tt))
     (sym made)
     (λ there. record {
       listed = λ yes. cc (listed, yes);
       missing = λ _ none. cc (there, none);
-      found = λ _. subst (λ told. IfSome told (λ bs. IsOk {T = Unit {0}} {E = Failed} (Ok tt) × (opened o bytes ≡ opened o bs))) (sym there) (refl, refl);
+      found = λ _. subst (λ told. IfSome told (λ bs. IsOk {T = Unit {0}} {E = Failed} (Ok tt) × (text_opened o bytes ≡ text_opened o bs))) (sym there) (refl, refl);
     })

@@ -3,21 +3,21 @@ use Rattle.std.proofs.Common.{◌≡◌, ◌≤◌, ◌<◌, ◌-◌, ℕ, ◌++
 use Rattle.std.proofs.lemmas.Grind.{common_steps}
 use Rattle.gt_io.specs.declared.source.Failed.{Failed}
 use Rattle.gt_io.specs.Causes.{HasCause}
-use Rattle.gt_io.specs.Memory.{Numbered, Supply, Store, GivesPiece, TakesPiece, fails_next, refused, answered, one_more, space}
+use Rattle.gt_io.specs.Memory.{FailingCalls, Supply, Store, GivesPiece, TakesPiece, fails_next, refused, answered, one_more, space}
 
 -- bytes of which those before a place were taken
-abbrev pub supply_at : List ℕ → ℕ → ℕ → Numbered → Supply
+abbrev pub supply_at : List ℕ → ℕ → ℕ → FailingCalls → Supply
 supply_at bytes at piece calls = record { taken = take at bytes; left = drop at bytes; piece = piece; calls = calls }
 
-pub refused_cause : (o p : Numbered) (e : Failed) → p ≡ refused o → o.faults ≤ p.faults → HasCause {T = ℕ} o.faults p.faults (Err e)
+pub refused_cause : (o p : FailingCalls) (e : Failed) → p ≡ refused o → o.faults ≤ p.faults → HasCause {T = ℕ} o.faults p.faults (Err e)
 refused_cause o p e made later =
-    let count = ap (λ (c : Numbered). c.faults) made in
+    let count = ap (λ (c : FailingCalls). c.faults) made in
     record { later = later; kept = tt; failed = omega (arith, count) }
 
-pub refused_piece : (o : Supply) (calls : Numbered) (room : ℕ) (e : Failed) → true ≡ fails_next o.calls → calls ≡ refused o.calls → GivesPiece o (record o { calls = calls }) room (Err e)
+pub refused_piece : (o : Supply) (calls : FailingCalls) (room : ℕ) (e : Failed) → true ≡ fails_next o.calls → calls ≡ refused o.calls → GivesPiece o (record o { calls = calls }) room (Err e)
 refused_piece o calls room e listed made = record { listed = grind (arith, common_steps); gives = λ i. record o { calls = made i } }
 
-pub answered_piece : (o : Supply) (calls : Numbered) (n room : ℕ) (taken left : List ℕ) → false ≡ fails_next o.calls → calls ≡ answered o.calls → n ≡ min (length o.left) (min room o.piece)
+pub answered_piece : (o : Supply) (calls : FailingCalls) (n room : ℕ) (taken left : List ℕ) → false ≡ fails_next o.calls → calls ≡ answered o.calls → n ≡ min (length o.left) (min room o.piece)
     → taken ≡ o.taken ++ take n o.left → left ≡ drop n o.left → GivesPiece {E = Failed} o (record { taken = taken; left = left; piece = o.piece; calls = calls }) room (Ok n)
 answered_piece o calls n room taken left listed made number took rest = record {
   listed = grind (arith, common_steps);
@@ -25,7 +25,7 @@ answered_piece o calls n room taken left listed made number took rest = record {
 }
 
 -- what a write leaves
-pub refused_write : (o : Store) (calls : Numbered) (text : List ℕ) (e : Failed) → true ≡ fails_next o.calls → calls ≡ refused o.calls → TakesPiece o (record o { calls = calls }) text (Err e)
+pub refused_write : (o : Store) (calls : FailingCalls) (text : List ℕ) (e : Failed) → true ≡ fails_next o.calls → calls ≡ refused o.calls → TakesPiece o (record o { calls = calls }) text (Err e)
 refused_write o calls text e listed made = record { listed = (λ _. inl (sym listed), λ _. refl); takes = λ i. record o { calls = made i } }
 
 pub no_space : (n len piece room took m : ℕ) → 0 < len → 0 < piece → n ≡ min len m → m ≡ min piece (room - took) → n ≡ 0 → room - took ≡ 0
@@ -34,14 +34,14 @@ no_space n len piece room took m some_text some_piece is_n is_m none = omega ari
 pub some_space : (n len piece room took m : ℕ) → n ≡ min len m → m ≡ min piece (room - took) → room - took ≡ 0 → n ≡ 0
 some_space n len piece room took m is_n is_m none = omega arith
 
-pub full_write : (o : Store) (began calls : Numbered) (text : List ℕ) (e : Failed) → space o ≡ 0 → began ≡ answered o.calls → calls ≡ record began { faults = one_more began.faults }
+pub full_write : (o : Store) (began calls : FailingCalls) (text : List ℕ) (e : Failed) → space o ≡ 0 → began ≡ answered o.calls → calls ≡ record began { faults = one_more began.faults }
     → TakesPiece o (record o { calls = calls }) text (Err e)
 full_write o began calls text e full made failed = record {
   listed = (λ _. inr full, λ _. refl);
-  takes = λ i. record o { calls = (failed ∙ ap (λ (b : Numbered). record b { faults = one_more b.faults }) made) i };
+  takes = λ i. record o { calls = (failed ∙ ap (λ (b : FailingCalls). record b { faults = one_more b.faults }) made) i };
 }
 
-pub taken_write : (o : Store) (calls : Numbered) (n m : ℕ) (text written : List ℕ) → false ≡ fails_next o.calls → calls ≡ answered o.calls → n ≡ min (length text) m → m ≡ min o.piece (space o)
+pub taken_write : (o : Store) (calls : FailingCalls) (n m : ℕ) (text written : List ℕ) → false ≡ fails_next o.calls → calls ≡ answered o.calls → n ≡ min (length text) m → m ≡ min o.piece (space o)
     → (n ≡ 0 → ⊥) → written ≡ o.written ++ take n text → TakesPiece {E = Failed} o (record o { written = written; calls = calls }) text (Ok n)
 taken_write o calls n m text written listed made is_n is_m some wrote = record {
   listed = (λ e. cc, λ why. elim why [ inl h ↦ cc (listed, h) | inr none ↦ absurd (some (some_space n (length text) o.piece o.room (length o.written) m is_n is_m none)) ]);

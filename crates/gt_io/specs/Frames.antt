@@ -2,10 +2,7 @@
 use Rattle.std.specs.Prelude.{ℕ, ◌+◌, ◌==◌, List, [], ◌∷◌, ◌++◌, length, take, min, nat_le, Bool, true, false, if◌then◌else◌}
 use Rattle.gt_io.specs.declared.framer.Framed.{Framed}
 use Rattle.gt_io.specs.declared.framer.Framed.TheVariants.{More, Whole, Long}
-
--- the longest line
-abbrev pub longest_line : ℕ
-longest_line = 512
+use Rattle.gt_io.specs.declared.framer.TheConstants.{LONGEST_LINE}
 
 -- the number of the line's bytes, kept up to 513; the first 512 of them; whether its line feed has
 -- come
@@ -26,7 +23,7 @@ abbrev pub longer : Frame → ℕ → Frame
 longer f b =
     record {
       number = min (f.number + 1) 513;
-      bytes = take longest_line (f.bytes ++ b ∷ []);
+      bytes = take LONGEST_LINE (f.bytes ++ b ∷ []);
       ended = false;
     }
 
@@ -36,9 +33,9 @@ pushed f b = if b == 10 then record (begun f) { ended = true } else longer (begu
 -- what the framer answers to a byte
 abbrev pub framed : Frame → ℕ → Framed
 framed f b =
-    if b == 10 then (if nat_le (begun f).number longest_line then Whole else Long) else More
+    if b == 10 then (if nat_le (begun f).number LONGEST_LINE then Whole else Long) else More
 
 -- the frame of a line that has these bytes so far
 abbrev pub frame_of : List ℕ → Frame
 frame_of line =
-    record { number = min (length line) 513; bytes = take longest_line line; ended = false }
+    record { number = min (length line) 513; bytes = take LONGEST_LINE line; ended = false }

@@ -5,12 +5,12 @@ use Rattle.std.specs.declared.result.Result.{Result}
 
 -- calls numbered from 1: the numbers of those that fail, how many were made, and how many have
 -- failed
-pub record Numbered : Type 0 where
+pub record FailingCalls : Type 0 where
   pub failing : List ℕ
   pub made : ℕ
   pub faults : ℕ
 
-abbrev pub none_made : List ℕ → Numbered
+abbrev pub none_made : List ℕ → FailingCalls
 none_made failing = record { failing = failing; made = 0; faults = 0 }
 
 -- one more; a count stays at the end of its type
@@ -18,14 +18,14 @@ abbrev pub one_more : ℕ → ℕ
 one_more n = min (n + 1) (2 ^ 64 - 1)
 
 -- whether the number of the next call is listed
-abbrev pub fails_next : Numbered → Bool
+abbrev pub fails_next : FailingCalls → Bool
 fails_next c = list_any (λ n. n == one_more c.made) c.failing
 
 -- after a call that has not failed, and after one that has
-abbrev pub answered : Numbered → Numbered
+abbrev pub answered : FailingCalls → FailingCalls
 answered c = record c { made = one_more c.made }
 
-abbrev pub refused : Numbered → Numbered
+abbrev pub refused : FailingCalls → FailingCalls
 refused c = record c { made = one_more c.made; faults = one_more c.faults }
 
 -- bytes to read: those taken and those left, and the most that one call gives
@@ -33,7 +33,7 @@ pub record Supply : Type 0 where
   pub taken : List ℕ
   pub left : List ℕ
   pub piece : ℕ
-  pub calls : Numbered
+  pub calls : FailingCalls
 
 abbrev pub supply_of : List ℕ → ℕ → List ℕ → Supply
 supply_of bytes piece failing =
@@ -58,7 +58,7 @@ pub record Store : Type 0 where
   pub written : List ℕ
   pub room : ℕ
   pub piece : ℕ
-  pub calls : Numbered
+  pub calls : FailingCalls
 
 abbrev pub store_of : ℕ → ℕ → List ℕ → Store
 store_of room piece failing =

@@ -7,10 +7,10 @@ use Rattle.gt_io.specs.Memory.{Supply, supply_of, GivesPiece, one_more, fails_ne
 use Rattle.gt_io.specs.declared.memory_shelf.MemFile.{MemFile}
 
 -- the text of the first file of this name
-abbrev pub text_of : List MemFile → List ℕ → Option (List ℕ)
-text_of [] name = None
-text_of (file ∷ files) name =
-    if bytes_eq file.name.items name then Some file.bytes.items else text_of files name
+abbrev pub file_text : List MemFile → List ℕ → Option (List ℕ)
+file_text [] name = None
+file_text (file ∷ files) name =
+    if bytes_eq file.name.items name then Some file.bytes.items else file_text files name
 
 -- the bytes of the file at a place, none where there is no such file
 abbrev pub bytes_at : List MemFile → ℕ → List ℕ
@@ -44,8 +44,8 @@ broken t =
 abbrev pub unfound : Texts → Texts
 unfound t = record t { text = record (t.text) { calls = refused t.text.calls } }
 
-abbrev pub opened : Texts → List ℕ → Texts
-opened t bytes =
+abbrev pub text_opened : Texts → List ℕ → Texts
+text_opened t bytes =
     record t {
       text = record
           { taken = []; left = bytes; piece = t.text.piece; calls = answered t.text.calls };
@@ -55,10 +55,10 @@ opened t bytes =
 pub record FindsText {T E : Type 0} (o p : Texts) (name : List ℕ) (result : Result T E)
     : Type 0 where
   pub listed : fails_next o.text.calls ≡ true → IsErr result × (p ≡ broken o)
-  pub missing : fails_next o.text.calls ≡ false → text_of o.files name ≡ None
+  pub missing : fails_next o.text.calls ≡ false → file_text o.files name ≡ None
       → IsErr result × (p ≡ unfound o)
   pub found : fails_next o.text.calls ≡ false
-      → IfSome (text_of o.files name) (λ bytes. IsOk result × (p ≡ opened o bytes))
+      → IfSome (file_text o.files name) (λ bytes. IsOk result × (p ≡ text_opened o bytes))
 
 -- a read goes on where the text was left
 pub record ReadsText {E : Type 0} (o p : Texts) (room : ℕ) (result : Result ℕ E) : Type 0 where

@@ -3,7 +3,7 @@ use Rattle.std.specs.Prelude.{◌≡◌, ◌≢◌, ℕ, zero, suc, ◌+◌, ◌
 use Rattle.std.specs.declared.option.Option.{Option}
 use Rattle.std.specs.declared.result.Result.{Result}
 use Rattle.std.specs.Io.KnownBytes.{Appends, Consumes, IsAtEnd}
-use Rattle.gt_io.specs.Causes.{HasCause}
+use Rattle.gt_io.specs.Causes.{FailsOnce}
 use Rattle.gt_io.specs.Links.{IsNothing}
 use Rattle.gt_io.specs.Memory.{one_more}
 use Rattle.gt_io.specs.declared.source.Failed.{Failed}
@@ -103,7 +103,7 @@ pub record Happens (a b : Harbour) (result : Result PortEvent Failed) : Type 0 w
   pub fresh : (c : ℕ) → result ≡ Ok (Opened c)
       → IsNothing (a.port c).taken × IsNothing (a.port c).given
   pub ports : (k : ℕ) → b.port k ≡ port_by result (open_among a.port a.opened) k (a.port k)
-  pub cause : HasCause a.faults b.faults result
+  pub cause : FailsOnce a.faults b.faults result
 
 pub record Nexts (a b : Harbour) (result : Result PortEvent Failed) : Type 0 where
   pub told : b.told ≡ Some result
@@ -154,7 +154,7 @@ pub record ReadsPort (a b : Harbour) (c : ℕ) (buf : List ℕ) (result : Result
   pub bound : IfOk result (FitsGot (length buf))
   pub port : PortReads (a.port c) (b.port c) buf result
   pub rest : KeepsRest a b c
-  pub cause : HasCause a.faults b.faults result
+  pub cause : FailsOnce a.faults b.faults result
 
 -- the bytes that a write took
 abbrev pub took_bytes : Result Took Failed → List ℕ → List ℕ
@@ -181,7 +181,7 @@ pub record WritesPort (a b : Harbour) (c : ℕ) (piece : List ℕ) (result : Res
   pub bound : IfOk result (FitsTook (length piece))
   pub port : PortWrites (a.port c) (b.port c) piece result
   pub rest : KeepsRest a b c
-  pub cause : HasCause a.faults b.faults result
+  pub cause : FailsOnce a.faults b.faults result
 
 -- it is owed no longer
 pub record Finishes (a b : Harbour) (c : ℕ) : Type 0 where

@@ -10,6 +10,15 @@ use Rattle.gt_io.specs.declared.source.ReadFault.TheVariants.{Memory, Failed, To
 abbrev pub Contents : Type 0
 Contents = Option (List ℕ → Option (List ℕ))
 
+-- what is seen of a shelf: the text of each name and the bytes left of the text that was found
+-- last, where that is told, how often it has failed, missing names among the failures, and how
+-- often but for names that it tells to be missing
+pub record Stock : Type 0 where
+  pub contents : Contents
+  pub left : Option (List ℕ)
+  pub faults : ℕ
+  pub hard_faults : ℕ
+
 -- the shelf tells that it has no text of the name
 abbrev pub Lacks : Contents → List ℕ → Type 0
 Lacks contents name = IsSomeAnd contents (λ text_of. text_of name ≡ None)

@@ -15,9 +15,9 @@ pub struct Calls {
 }
 
 impl Model for Calls {
-    ghost use Rattle.gt_io.specs.Memory.{Numbered};
+    ghost use Rattle.gt_io.specs.Memory.{FailingCalls};
 
-    ghost Value = { Numbered };
+    ghost Value = { FailingCalls };
 
     ghost view = { λ c. record { failing = c.failing.items; made = c.made; faults = c.faults } };
 }
@@ -33,7 +33,7 @@ impl Calls {
         }
     }
 
-    // Counts one more call, and answers whether it is to fail.
+    /// Counts one more call, and answers whether it is to fail.
     pub fn begin(&mut self) -> bool
         ensures listed { result ≡ fails_next self.old }
         ensures made { self.new ≡ (if result then refused self.old else answered self.old) }
@@ -47,7 +47,7 @@ impl Calls {
         false
     }
 
-    // The call that was begun last fails for another cause.
+    /// The call that was begun last fails for another cause.
     pub fn fail(&mut self)
         ensures failed { self.new ≡ record self.old { faults = one_more self.old.faults } }
         ensures later { self.old.faults ≤ self.new.faults }

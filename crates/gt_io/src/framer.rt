@@ -5,7 +5,7 @@ ghost use Rattle.gt_io.specs.Frames.{blank_frame, begun, pushed, framed};
 use std::marker::Model;
 
 /// The longest line, without its line feed.
-const LONGEST: usize = 512;
+pub(crate) const LONGEST_LINE: usize = 512;
 
 /// What a byte did to the line.
 #[derive(Clone, Copy, PartialEq, Eq, Debug)]
@@ -35,24 +35,28 @@ impl Model for Framer {
 
     ghost use Rattle.std.specs.Prelude.{◌≤◌, take};
 
-    ghost view = { λ f. record { number = f.number; bytes = take f.number f.line; ended = f.ended } };
+    ghost view = { λ f. record {
+      number = f.number;
+      bytes = take f.number f.line;
+      ended = f.ended;
+    } };
 
     ghost invariant = { λ f. f.number ≤ 513 };
 }
 
-// Puts a byte behind the first `number` ones, where there is room, and answers how many there are
-// now, up to 513.
+/// Puts a byte behind the first `number` ones, where there is room, and answers how many there are
+/// now, up to 513.
 fn put(line: &mut [u8], number: usize, b: u8) -> usize
     requires number { number ≤ 513 }
     requires room { length line.old ≡ 512 }
     ensures number { result ≡ min (number + 1) 513 }
     ensures bytes { take result line.new ≡ take 512 (take number line.old ++ b ∷ []) }
 {
-    if number < LONGEST {
+    if number < LONGEST_LINE {
         line[number] = b;
         return number + 1;
     }
-    LONGEST + 1
+    LONGEST_LINE + 1
 }
 
 impl Framer {
@@ -67,7 +71,7 @@ impl Framer {
         }
     }
 
-    // Where a line feed has come, a new line begins.
+    /// Where a line feed has come, a new line begins.
     fn begin(&mut self)
         ensures { self.new ≡ begun self.old }
     {
@@ -88,7 +92,7 @@ impl Framer {
             return Framed::More;
         }
         self.ended = true;
-        if self.number <= LONGEST {
+        if self.number <= LONGEST_LINE {
             Framed::Whole
         } else {
             Framed::Long
@@ -99,6 +103,6 @@ impl Framer {
     pub fn line(&self) -> &[u8]
         ensures { result.now ≡ self.now.bytes }
     {
-        &self.line[..self.number.min(LONGEST)]
+        &self.line[..self.number.min(LONGEST_LINE)]
     }
 }

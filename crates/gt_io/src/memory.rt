@@ -11,7 +11,7 @@ use gt_base::{List, Memory};
 use std::alloc::Global;
 use std::marker::Model;
 
-// Copies the bytes from place `at` on, at most `piece` of them, and answers how many.
+/// Copies the bytes from place `at` on, at most `piece` of them, and answers how many.
 pub(crate) fn give(bytes: &[u8], at: usize, buf: &mut [u8], piece: usize) -> usize
     requires at { at ≤ length bytes.now }
     requires piece { 0 < piece }
@@ -72,9 +72,7 @@ impl MemSource {
 }
 
 impl Source for MemSource {
-    ghost left = { λ s. Some s.left };
-
-    ghost faults = { λ s. s.calls.faults };
+    ghost intake = { λ s. record { left = Some s.left; faults = s.calls.faults } };
 
     fn read(&mut self, buf: &mut [u8]) -> Result<usize, Failed>
         requires { 0 < length buf.old }
@@ -150,9 +148,7 @@ impl MemSink {
 }
 
 impl Sink for MemSink {
-    ghost written = { λ s. Some s.written };
-
-    ghost faults = { λ s. s.calls.faults };
+    ghost output = { λ s. record { written = Some s.written; faults = s.calls.faults } };
 
     fn write(&mut self, piece: &[u8]) -> Result<usize, Failed>
         requires { 0 < length piece.now }

@@ -1,7 +1,6 @@
 //! Ports in memory.
 ghost use Rattle.std.specs.Prelude.{◌≡◌, ◌<◌, ◌≤◌, ◌+◌, ◌++◌, ◌^◌, ℕ, [], length, take, drop, slice_get, vec_capacity, false, All, IfOk, IfSome, OnOk, OnErr, IsOk, Some, None, if◌then◌else◌};
 ghost use Rattle.std.specs.Io.KnownBytes.{Appends, Consumes, IsAtEnd};
-ghost use Rattle.gt_io.specs.Causes.{Rose};
 ghost use Rattle.gt_io.specs.Links.{IsNothing};
 ghost use Rattle.gt_io.specs.Memory.{one_more};
 ghost use Rattle.gt_io.specs.Ports.{PortReads, PortWrites, FitsGot, FitsTook, newly, readied, is_none, open_among, got_bytes, took_bytes, Happens};
@@ -13,15 +12,15 @@ use crate::source::Failed;
 use gt_base::{List, Memory};
 use std::alloc::Global;
 
-// A count of faults that has risen.
+/// A count of faults that has risen.
 fn raised(faults: u64) -> u64
     ensures later { faults ≤ result }
-    ensures rose { Rose faults result }
+    ensures rose { result ≡ one_more faults }
 {
     faults.saturating_add(1)
 }
 
-// Copies the bytes from `at` up to `upto`, as far as the buffer goes, and answers how many.
+/// Copies the bytes from `at` up to `upto`, as far as the buffer goes, and answers how many.
 fn give(bytes: &[u8], at: usize, upto: usize, buf: &mut [u8]) -> usize
     requires { at ≤ length bytes.now }
     ensures fits { (result ≤ length buf.new) × (at + result ≤ length bytes.now) }
@@ -78,7 +77,7 @@ impl MemPort {
         &self.given
     }
 
-    // How many bytes have come.
+    /// How many bytes have come.
     fn come(&self) -> usize {
         if self.readies > 0 && self.readies <= self.marks.len() {
             self.marks.as_slice()[self.readies - 1]
@@ -89,7 +88,7 @@ impl MemPort {
         }
     }
 
-    // Whether its peer has ended it, once its bytes are taken.
+    /// Whether its peer has ended it, once its bytes are taken.
     fn is_ended(&self) -> bool {
         self.ends && self.readies > self.marks.len()
     }
@@ -216,7 +215,7 @@ fn one_if_open(port: &MemPort) -> u64
     if port.finished.is_none() { 1 } else { 0 }
 }
 
-// How many of the first links are not finished.
+/// How many of the first links are not finished.
 fn count_open(ports: &[MemPort], n: usize) -> u64
     requires { n ≤ length ports.now }
     ensures { result ≡ open_among (port_in ports.now) n }
@@ -268,7 +267,7 @@ impl MemPorts {
 }
 
 impl MemPorts {
-    // Opens the next link; stops where none is left.
+    /// Opens the next link; stops where none is left.
     fn open(&mut self) -> PortEvent
         ensures kept { (self.new.told ≡ self.old.told) × (self.new.nexts ≡ self.old.nexts) }
         ensures happens { Happens (⟦<MemPorts as Ports>⟧.harbour self.old)
@@ -284,7 +283,7 @@ impl MemPorts {
         PortEvent::Opened(self.opened)
     }
 
-    // Has a link be ready; stops where it is not opened.
+    /// Has a link be ready; stops where it is not opened.
     fn wake(&mut self, link: u32) -> PortEvent
         ensures kept { (self.new.told ≡ self.old.told) × (self.new.nexts ≡ self.old.nexts) }
         ensures happens { Happens (⟦<MemPorts as Ports>⟧.harbour self.old)
@@ -297,7 +296,7 @@ impl MemPorts {
         PortEvent::Ready(link)
     }
 
-    // The answer to a call whose number counts.
+    /// The answer to a call whose number counts.
     fn answer(&mut self) -> Result<PortEvent, Failed>
         ensures kept { (self.new.told ≡ self.old.told) × (self.new.nexts ≡ self.old.nexts) }
         ensures happens { Happens (⟦<MemPorts as Ports>⟧.harbour self.old)

@@ -5,7 +5,7 @@ ghost use Rattle.std.specs.Io.KnownBytes.{ReadConsumes};
 ghost use Rattle.gt_io.specs.Causes.{HasCause};
 ghost use Rattle.gt_io.specs.Shelf.{HasFindCause};
 ghost use Rattle.gt_io.specs.Memory.{fails_next};
-ghost use Rattle.gt_io.specs.MemoryShelf.{broken, begun, text_of, bytes_at, texts_of, FindsText, ReadsText};
+ghost use Rattle.gt_io.specs.MemoryShelf.{broken, begun, file_text, bytes_at, texts_of, FindsText, ReadsText};
 
 use crate::calls::Calls;
 use crate::memory::give;
@@ -21,11 +21,12 @@ pub struct MemFile {
     pub bytes: List<u8>,
 }
 
-// The place of the first file of a name.
+/// The place of the first file of a name.
 #[tactic(auto, using(crate::proofs::Files::files))]
 fn place_of(files: &[MemFile], name: &[u8]) -> Option<usize>
-    ensures place { IfSome result (λ i. text_of files.now name.now ≡ Some (bytes_at files.now i)) }
-    ensures none { IfNone result (text_of files.now name.now ≡ None) }
+    ensures place { IfSome result
+        (λ i. file_text files.now name.now ≡ Some (bytes_at files.now i)) }
+    ensures none { IfNone result (file_text files.now name.now ≡ None) }
 {
     for (i, file) in files.iter().enumerate() {
         if file.name.as_slice() == name {
@@ -95,7 +96,7 @@ impl MemShelf {
         }
     }
 
-    // Counts one more call; where it is to fail, that is a hard fault.
+    /// Counts one more call; where it is to fail, that is a hard fault.
     fn begin(&mut self) -> bool
         ensures listed { result ≡ fails_next self.old.text.calls }
         ensures made { self.new ≡ (if result then broken self.old else begun self.old) }
@@ -111,22 +112,21 @@ impl MemShelf {
 }
 
 impl Shelf for MemShelf {
-    ghost contents = { λ s. Some (text_of s.files) };
-
-    ghost left = { λ s. Some s.text.left };
-
-    ghost faults = { λ s. s.text.calls.faults };
-
-    ghost hard_faults = { λ s. s.hard_faults };
+    ghost stock = { λ s. record {
+      contents = Some (file_text s.files);
+      left = Some s.text.left;
+      faults = s.text.calls.faults;
+      hard_faults = s.hard_faults;
+    } };
 
     fn find(&mut self, name: &str) -> Result<(), Failed>
         ensures found { OnOk result
-            (IsSome (text_of self.old.files name.now)
-            × (Some self.new.text.left ≡ text_of self.old.files name.now)) }
+            (IsSome (file_text self.old.files name.now)
+            × (Some self.new.text.left ≡ file_text self.old.files name.now)) }
         ensures same { self.new.files ≡ self.old.files }
         ensures cause { HasCause self.old.text.calls.faults self.new.text.calls.faults result }
         ensures hard_cause { HasFindCause
-            (Some (text_of self.old.files)) name.now self.old.hard_faults
+            (Some (file_text self.old.files)) name.now self.old.hard_faults
             self.new.hard_faults result }
         ensures finds { FindsText self.old self.new name.now result }
     {

@@ -44,8 +44,8 @@ pub enum Called {
     Wrote(Result<Took, Failed>),
 }
 
-/// Links that are served side by side. There is one count of faults, and each call raises it where
-/// it fails, and nothing else does.
+/// Links that are served side by side. There is one count of faults, and each call raises it by one
+/// where it fails, and nothing else does.
 pub trait Ports {
     /// What is told of the links.
     ghost harbour: { Self → Harbour };

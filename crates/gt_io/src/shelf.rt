@@ -1,10 +1,9 @@
 //! A shelf of texts, each found by its name and then read.
 ghost use Rattle.std.specs.Prelude.{◌≡◌, ◌<◌, ◌≤◌, ℕ, List, length, vec_len, IsSome, IsSomeAnd, OnOk, IfOk, IfSome, IsErrOf};
-ghost use Rattle.std.specs.declared.option.Option.{Option};
 ghost use Rattle.std.specs.Io.{ReadsAtMost};
 ghost use Rattle.std.specs.Io.KnownBytes.{ReadConsumes, IsAtEnd};
 ghost use Rattle.gt_io.specs.Causes.{HasCause, HasReadCause};
-ghost use Rattle.gt_io.specs.Shelf.{Contents, HasFindCause, HasTextCause};
+ghost use Rattle.gt_io.specs.Shelf.{Stock, HasFindCause, HasTextCause};
 
 use crate::source::{Failed, ReadFault, add_piece};
 use std::alloc::Global;
@@ -12,38 +11,30 @@ use std::alloc::Global;
 /// Texts by their names. What is read is what is left of the text that was found last. A name that
 /// the shelf does not have is a failure as others are, but no hard fault.
 pub trait Shelf {
-    /// The text of each name, where it tells.
-    ghost contents: { Self → Contents };
-
-    /// The bytes left of the text that was found last, where it tells.
-    ghost left: { Self → Option (List ℕ) };
-
-    /// How often it has failed, missing names among the failures.
-    ghost faults: { Self → ℕ };
-
-    /// How often it has failed but for names that it tells to be missing.
-    ghost hard_faults: { Self → ℕ };
+    /// The text of each name and the bytes left of the text that was found last, where it tells,
+    /// how often it has failed, and how often but for names that it tells to be missing.
+    ghost stock: { Self → Stock };
 
     /// Finds a text, for the reads that follow. A missing name is a failure.
     fn find(&mut self, name: &str) -> Result<(), Failed>
         ensures found { OnOk result
-            (IfSome (contents self.old)
-            (λ text_of. IsSome (text_of name.now) × (left self.new ≡ text_of name.now))) }
-        ensures same { contents self.new ≡ contents self.old }
-        ensures cause { HasCause (faults self.old) (faults self.new) result }
-        ensures hard_cause { HasFindCause (contents self.old) name.now (hard_faults self.old)
-            (hard_faults self.new)
-            result };
+            (IfSome (stock self.old).contents
+            (λ text_of. IsSome (text_of name.now) × ((stock self.new).left ≡ text_of name.now))) }
+        ensures same { (stock self.new).contents ≡ (stock self.old).contents }
+        ensures cause { HasCause (stock self.old).faults (stock self.new).faults result }
+        ensures hard_cause { HasFindCause (stock self.old).contents name.now
+            (stock self.old).hard_faults (stock self.new).hard_faults result };
 
     /// Reads some bytes of the text that was found last, from where it was left; none exactly at
     /// its end.
     fn read(&mut self, buf: &mut [u8]) -> Result<usize, Failed>
         requires { 0 < length buf.old }
         ensures bound { ReadsAtMost result buf.new }
-        ensures bytes { ReadConsumes (left self.old) (left self.new) result buf.new }
-        ensures same { contents self.new ≡ contents self.old }
-        ensures cause { HasCause (faults self.old) (faults self.new) result }
-        ensures hard_cause { HasCause (hard_faults self.old) (hard_faults self.new) result };
+        ensures bytes { ReadConsumes (stock self.old).left (stock self.new).left result buf.new }
+        ensures same { (stock self.new).contents ≡ (stock self.old).contents }
+        ensures cause { HasCause (stock self.old).faults (stock self.new).faults result }
+        ensures hard_cause { HasCause (stock self.old).hard_faults
+            (stock self.new).hard_faults result };
 }
 
 /// The whole text of a name, if it is at most `limit` bytes. A name that the shelf does not have is
@@ -55,17 +46,17 @@ pub fn find_all<S: Shelf>(
     limit: usize,
 ) -> Result<Vec<u8>, ReadFault>
     ensures whole { IfOk result
-        (λ bytes. IfSome (S.contents shelf.old)
+        (λ bytes. IfSome (S.stock shelf.old).contents
         (λ text_of. text_of name.now ≡ Some bytes.items)) }
-    ensures end { OnOk result (IsAtEnd (S.left shelf.new)) }
+    ensures end { OnOk result (IsAtEnd (S.stock shelf.new).left) }
     ensures within { IfOk result (λ bytes. vec_len bytes ≤ limit) }
     ensures long { IsErrOf result ReadFault.TooLong
-        → IfSome (S.contents shelf.old)
+        → IfSome (S.stock shelf.old).contents
         (λ text_of. IsSomeAnd (text_of name.now) (λ xs. limit < length xs)) }
-    ensures same { S.contents shelf.new ≡ S.contents shelf.old }
-    ensures cause { HasReadCause (S.faults shelf.old) (S.faults shelf.new) result }
-    ensures hard_cause { HasTextCause (S.contents shelf.old) name.now (S.hard_faults shelf.old)
-        (S.hard_faults shelf.new) result }
+    ensures same { (S.stock shelf.new).contents ≡ (S.stock shelf.old).contents }
+    ensures cause { HasReadCause (S.stock shelf.old).faults (S.stock shelf.new).faults result }
+    ensures hard_cause { HasTextCause (S.stock shelf.old).contents name.now
+        (S.stock shelf.old).hard_faults (S.stock shelf.new).hard_faults result }
 {
     shelf.find(name)?;
     let mut bytes = Vec::new(alloc);

@@ -1,9 +1,9 @@
 //! Where bytes come from and where they go, read or written whole.
 ghost use Rattle.std.specs.Prelude.{◌≡◌, ◌+◌, ◌++◌, ◌<◌, ◌≤◌, ℕ, List, length, vec_len, OnOk, OnErr, IfOk, IfErr, IfSome, IsErrOf};
-ghost use Rattle.std.specs.declared.option.Option.{Option};
 ghost use Rattle.std.specs.Io.{ReadsAtMost};
 ghost use Rattle.std.specs.Io.KnownBytes.{ReadConsumes, WriteAppends, Appends, IsAtEnd};
 ghost use Rattle.gt_io.specs.Causes.{HasCause, HasReadCause, TakesFront, AppendsPart, IsNoRoom};
+ghost use Rattle.gt_io.specs.Streams.{Intake, Output};
 ghost use Rattle.gt_io.specs.declared.source.ReadFault.TheVariants.{Memory, Failed as ReadFailed};
 
 use std::alloc::{AllocError, Global};
@@ -15,34 +15,29 @@ pub struct Failed;
 
 /// Where bytes come from.
 pub trait Source {
-    /// The bytes left, where it tells.
-    ghost left: { Self → Option (List ℕ) };
-
-    /// How often it has failed.
-    ghost faults: { Self → ℕ };
+    /// The bytes left, where it tells, and how often it has failed.
+    ghost intake: { Self → Intake };
 
     /// Reads some bytes; none exactly at the end.
     fn read(&mut self, buf: &mut [u8]) -> Result<usize, Failed>
         requires { 0 < length buf.old }
         ensures bound { ReadsAtMost result buf.new }
-        ensures bytes { ReadConsumes (left self.old) (left self.new) result buf.new }
-        ensures cause { HasCause (faults self.old) (faults self.new) result };
+        ensures bytes { ReadConsumes (intake self.old).left (intake self.new).left result buf.new }
+        ensures cause { HasCause (intake self.old).faults (intake self.new).faults result };
 }
 
 /// Where bytes go.
 pub trait Sink {
-    /// The bytes written, where it tells.
-    ghost written: { Self → Option (List ℕ) };
-
-    /// How often it has failed.
-    ghost faults: { Self → ℕ };
+    /// The bytes written, where it tells, and how often it has failed.
+    ghost output: { Self → Output };
 
     /// Writes some of the piece, at least a byte.
     fn write(&mut self, piece: &[u8]) -> Result<usize, Failed>
         requires { 0 < length piece.now }
         ensures bound { IfOk result (λ n. (0 < n) × (n ≤ length piece.now)) }
-        ensures bytes { WriteAppends (written self.old) (written self.new) result piece.now }
-        ensures cause { HasCause (faults self.old) (faults self.new) result };
+        ensures bytes { WriteAppends (output self.old).written
+            (output self.new).written result piece.now }
+        ensures cause { HasCause (output self.old).faults (output self.new).faults result };
 }
 
 /// Why a text was not read whole.
@@ -72,7 +67,7 @@ impl From<Failed> for ReadFault {
     }
 }
 
-// Adds a piece to what was read, where that is at most `limit` bytes with it.
+/// Adds a piece to what was read, where that is at most `limit` bytes with it.
 pub(crate) fn add_piece(bytes: &mut Vec<u8>, piece: &[u8], limit: usize) -> Result<(), ReadFault>
     requires { vec_len bytes.old ≤ limit }
     ensures added { OnOk result (bytes.new.items ≡ bytes.old.items ++ piece.now) }
@@ -93,13 +88,14 @@ pub fn read_all<S: Source>(
     source: &mut S,
     limit: usize,
 ) -> Result<Vec<u8>, ReadFault>
-    ensures whole { IfOk result (λ bytes. IfSome (S.left source.old) (λ xs. bytes.items ≡ xs)) }
-    ensures end { OnOk result (IsAtEnd (S.left source.new)) }
+    ensures whole { IfOk result (λ bytes. IfSome (S.intake source.old).left (λ xs. bytes.items
+        ≡ xs)) }
+    ensures end { OnOk result (IsAtEnd (S.intake source.new).left) }
     ensures within { IfOk result (λ bytes. vec_len bytes ≤ limit) }
     ensures long { IsErrOf result ReadFault.TooLong
-        → IfSome (S.left source.old) (λ xs. limit < length xs) }
-    ensures front { TakesFront (S.left source.old) (S.left source.new) }
-    ensures cause { HasReadCause (S.faults source.old) (S.faults source.new) result }
+        → IfSome (S.intake source.old).left (λ xs. limit < length xs) }
+    ensures front { TakesFront (S.intake source.old).left (S.intake source.new).left }
+    ensures cause { HasReadCause (S.intake source.old).faults (S.intake source.new).faults result }
 {
     let mut bytes = Vec::new(alloc);
     let mut buf = [0u8; 4096];
@@ -114,9 +110,11 @@ pub fn read_all<S: Source>(
 
 /// Writes the whole text, or up to the first failure.
 pub fn write_all<K: Sink>(sink: &mut K, text: &[u8]) -> Result<(), Failed>
-    ensures all { OnOk result (Appends (K.written sink.old) (K.written sink.new) text.now) }
-    ensures part { OnErr result (AppendsPart (K.written sink.old) (K.written sink.new) text.now) }
-    ensures cause { HasCause (K.faults sink.old) (K.faults sink.new) result }
+    ensures all { OnOk result (Appends (K.output sink.old).written
+        (K.output sink.new).written text.now) }
+    ensures part { OnErr result (AppendsPart (K.output sink.old).written
+        (K.output sink.new).written text.now) }
+    ensures cause { HasCause (K.output sink.old).faults (K.output sink.new).faults result }
 {
     let mut rest = text;
     while !rest.is_empty() {

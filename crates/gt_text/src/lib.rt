@@ -6,5 +6,5 @@ mod numbers;
 mod words;
 
 pub use lines::{Lines, without_return};
-pub use numbers::{push_number, read_number, read_up_to};
-pub use words::Words;
+pub use numbers::{push_number, read_between, read_number};
+pub use words::{Words, begins, is_blank};

@@ -1,7 +1,7 @@
 //! The lines of a text.
 ghost use Rattle.std.specs.Prelude.{◌≡◌, List, ℕ, [], ◌∷◌, ◌≤◌, length, MatchOption};
 ghost use Rattle.std.specs.Iterator.{YieldsFirstRef, item_count};
-ghost use Rattle.gt_text.specs.Lines.{lines_of, without_return as line_without_return};
+ghost use Rattle.gt_text.specs.Lines.{lines_of, without_return};
 
 use bstr::ByteSlice;
 use std::marker::Model;
@@ -43,7 +43,7 @@ impl<'a> Iterator for Lines<'a> {
     }
 }
 
-// The first line and the text after it.
+/// The first line and the text after it.
 fn first_line(text: &[u8]) -> Option<(&[u8], &[u8])>
     ensures { MatchOption result (lines_of text.now ≡ [])
         (λ cut. lines_of text.now ≡ cut.0.now ∷ lines_of cut.1.now) }
@@ -62,7 +62,7 @@ fn first_line(text: &[u8]) -> Option<(&[u8], &[u8])>
 
 /// A line without one carriage return at its end.
 pub fn without_return(line: &[u8]) -> &[u8]
-    ensures { result.now ≡ line_without_return line.now }
+    ensures { result.now ≡ without_return line.now }
 {
     match line {
         [front @ .., b'\r'] => front,

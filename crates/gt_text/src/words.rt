@@ -1,7 +1,7 @@
 //! The words of a line.
 ghost use Rattle.std.specs.Prelude.{◌≡◌, ◌<◌, ◌≤◌, List, ℕ, [], ◌∷◌, length, slice_index, true, false, MatchOption};
 ghost use Rattle.std.specs.Iterator.{YieldsFirstRef, item_count};
-ghost use Rattle.gt_text.specs.Words.{words_of, blank_cut, is_blank as blank};
+ghost use Rattle.gt_text.specs.Words.{words_of, blank_cut, begins_with, is_blank};
 
 use crate::lines::without_return;
 use std::marker::Model;
@@ -43,17 +43,28 @@ impl<'a> Iterator for Words<'a> {
     }
 }
 
-fn is_blank(b: u8) -> bool
-    ensures { result ≡ blank b }
+/// Whether a byte stands between words: a space or a tab.
+pub fn is_blank(b: u8) -> bool
+    ensures { result ≡ is_blank b }
 {
     b == b' ' || b == b'\t'
 }
 
-// How many bytes stand before the first blank.
+/// Whether a text begins with the byte.
+pub fn begins(text: &[u8], byte: u8) -> bool
+    ensures { result ≡ begins_with byte text.now }
+{
+    match text {
+        [] => false,
+        [first, ..] => *first == byte,
+    }
+}
+
+/// How many bytes stand before the first blank.
 fn word_len(text: &[u8]) -> usize
     ensures within { result ≤ length text.now }
-    ensures word { (k : ℕ) → k < result → blank (slice_index text.now k) ≡ false }
-    ensures end { result < length text.now → blank (slice_index text.now result) ≡ true }
+    ensures word { (k : ℕ) → k < result → is_blank (slice_index text.now k) ≡ false }
+    ensures end { result < length text.now → is_blank (slice_index text.now result) ≡ true }
 {
     let mut n = 0;
     while n < text.len() && !is_blank(text[n]) {
@@ -62,7 +73,7 @@ fn word_len(text: &[u8]) -> usize
     n
 }
 
-// The first word and the line after it.
+/// The first word and the line after it.
 fn first_word(line: &[u8]) -> Option<(&[u8], &[u8])>
     ensures { MatchOption result (blank_cut line.now ≡ [])
         (λ cut. blank_cut line.now ≡ cut.0.now ∷ blank_cut cut.1.now) }

@@ -6,17 +6,17 @@ use Rattle.gt_io.specs.Shelf.{Contents}
 use Rattle.policy_commands.specs.Admitting.{IsAdmitted}
 use Rattle.policy_commands.specs.declared.judging.Admitted.{Admitted}
 use Rattle.policy_commands.specs.declared.judging.Admitted.TheVariants.{Safe, Ended}
-use Rattle.policy_commands.specs.Ends.{Told}
+use Rattle.policy_commands.specs.Ends.{EndView}
 use Rattle.policy_commands.specs.Finding.{IsLongPolicy}
-use Rattle.gtrbac_daemon.specs.Words.{HasText, IsFailure, IsSteadyFor}
+use Rattle.gtrbac_daemon.specs.Words.{HasText, IsAdmitFailure, IsSteadyFor}
 use Rattle.gtrbac_daemon.specs.Daemon.{or_failed, IsWritten}
 
 -- a number is not two
 pub apart : (s m n : ℕ) → (m == n) ≡ false → s ≡ m → s ≡ n → ⊥
 apart s m n d a b = let t : (m == n) ≡ true = eq-eqb m n (sym a ∙ b) in let no : true ≡ false = sym t ∙ d in absurd (cc no)
 
-pub status_in : (t u : Told) → t ≡ u → t.status ≡ u.status
-status_in t u e = ap (λ (x : Told). x.status) e
+pub status_in : (t u : EndView) → t ≡ u → t.status ≡ u.status
+status_in t u e = ap (λ (x : EndView). x.status) e
 
 failed_by : (c : Bool) (due : ℕ) → (due == 8) ≡ c → (or_failed due ≡ due) ⊎ (or_failed due ≡ 5)
 failed_by true due e = inl (ap (λ (b : Bool). if b then 8 else 5) e ∙ sym (eqb-true due 8 e))
@@ -44,11 +44,11 @@ pub some_not_none : {A : Type 0} (o : Option A) (x : A) → Some x ≡ o → o �
 some_not_none o x e n = let no : Some x ≡ None = e ∙ n in absurd (cc no)
 
 -- no text is judged to end with 4
-judged_fine : (text : List ℕ) (holds : Type 0) (x : Admitted) → IsAdmitted text x → IsFailure holds x
+judged_fine : (text : List ℕ) (holds : Type 0) (x : Admitted) → IsAdmitted text x → IsAdmitFailure holds x
 judged_fine text holds (Safe np) h = tt
 judged_fine text holds (Ended end) h = λ is. elim h.cause [ inl c ↦ absurd (apart end.status 2 4 refl c.0 is) | inr c ↦ absurd (apart end.status 3 4 refl c.0 is) ]
 
-pub admitted_fine : {E : Type 0} (text : List ℕ) (holds : Type 0) (r : Result Admitted E) → IfOk r (IsAdmitted text) → IfOk r (IsFailure holds)
+pub admitted_fine : {E : Type 0} (text : List ℕ) (holds : Type 0) (r : Result Admitted E) → IfOk r (IsAdmitted text) → IfOk r (IsAdmitFailure holds)
 admitted_fine text holds (Ok x) h = judged_fine text holds x h
 admitted_fine text holds (Err e) h = tt
 

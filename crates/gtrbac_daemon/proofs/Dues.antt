@@ -7,7 +7,7 @@ use Rattle.gt_io.specs.Links.{Traffic}
 use Rattle.gt_io.specs.Shelf.{Contents}
 use Rattle.turn_lock.specs.Turns.{Each}
 use Rattle.policy_words.specs.Naming.{NamedPolicy}
-use Rattle.policy_commands.specs.Ends.{Told}
+use Rattle.policy_commands.specs.Ends.{EndView}
 use Rattle.policy_commands.specs.Policies.{safe_in}
 use Rattle.line_server.specs.declared.ended.WorkEnd.{WorkEnd}
 use Rattle.line_server.specs.declared.ended.WorkEnd.TheVariants.{Fresh, Done, DoorFault, Memory}
@@ -142,13 +142,13 @@ module _ {L : Type 0} (traffic : L → Traffic) (name : Option (List ℕ)) (s : 
     long_not : (o : Option (List ℕ)) → o ≡ Some w.text → IsSomeAnd o IsLongPolicy → ⊥
     long_not o e long = let far : IsLongPolicy w.text = subst (λ (x : Option (List ℕ)). IsSomeAnd x IsLongPolicy) e long in let short = w.short in absurd (omega (arith, far, short))
 
-    text_not : (text_of : List ℕ → Option (List ℕ)) (n : List ℕ) (t : Told) → text_of n ≡ Some w.text → RefusesText Hard (Some text_of) n t → ⊥
+    text_not : (text_of : List ℕ → Option (List ℕ)) (n : List ℕ) (t : EndView) → text_of n ≡ Some w.text → RefusesText Hard (Some text_of) n t → ⊥
     text_not text_of n t found (inl (inl c)) = elim c.1 [ inl r ↦ w.shelf r | inr l ↦ some_none (text_of n) w.text found l ]
     text_not text_of n t found (inl (inr c)) = long_not (text_of n) found c.1
     text_not text_of n t found (inr c) =
         let same : w.text ≡ c.0 = same_some w.text c.0 (sym found ∙ c.1.found) in ok_err (safe_in c.0) w.policy t (ap safe_in (sym same) ∙ w.safe) c.2.told_is
 
-    not_refused : (o : Contents) (m : Option (List ℕ)) (t : Told) → TellsText m o w.text → Refuses Hard o m t → ⊥
+    not_refused : (o : Contents) (m : Option (List ℕ)) (t : EndView) → TellsText m o w.text → Refuses Hard o m t → ⊥
     not_refused None m t found c = absurd found
     not_refused (Some text_of) None t found c = absurd found
     not_refused (Some text_of) (Some n) t found c = text_not text_of n t found c

@@ -5,8 +5,9 @@ use Rattle.gt_io.specs.Causes.{Rose}
 use Rattle.gt_io.specs.Links.{Traffic, Reads}
 use Rattle.gt_io.specs.Shelf.{Contents, Lacks}
 use Rattle.policy_words.specs.Naming.{NamedPolicy}
-use Rattle.policy_commands.specs.Policies.{safe_in, HasFault, IsUnsafeText}
-use Rattle.policy_commands.specs.Finding.{max_policy, IsLongPolicy}
+use Rattle.policy_commands.specs.Policies.{safe_in, HasTextFault, IsUnsafeText}
+use Rattle.policy_commands.specs.Finding.{IsLongPolicy}
+use Rattle.policy_commands.specs.declared.finding.TheConstants.{MAX_POLICY}
 use Rattle.gtrbac_daemon.specs.Words.{policy_named, Admits, HasText, LacksText}
 use Rattle.gtrbac_daemon.specs.Crew.{SomeOf, EachOf, HasFailed, IsSpent, IsUnharmed, IsDone, IsSound}
 use Rattle.gtrbac_daemon.specs.Daemon.{Scene, HasServed, Starves, IsKept, Answers, served, kept, starved, Cause, done as is_done, no_command, faulty, unsafe, unread, unwritten, long as is_long, memory, failed as has_failed, spent as is_spent_cause, RunsServer}
@@ -32,7 +33,7 @@ pub record WasWell {L : Type 0} (words : List (List ℕ)) (hard : Type 0) (conte
   pub told : contents ≡ Some text_of
   pub text : List ℕ
   pub found : text_of name ≡ Some text
-  pub short : length text ≤ max_policy
+  pub short : length text ≤ MAX_POLICY
   pub policy : NamedPolicy
   pub safe : safe_in text ≡ Ok policy
   pub shelf : hard → ⊥
@@ -69,7 +70,7 @@ module _ {L : Type 0} (traffic : L → Traffic) (words : List (List ℕ)) (s : �
   told n =
       pick (n == 0) (EachOf IsDone a.crew b.crew)
       (pick (n == 1) (policy_named words ≡ None)
-      (pick (n == 2) (IfTold words a.texts HasFault)
+      (pick (n == 2) (IfTold words a.texts HasTextFault)
       (pick (n == 3) (IfTold words a.texts IsUnsafeText)
       (pick (n == 4) ((Hard ⊎ IsMissing words a.texts) × Rose a.shelf_faults b.shelf_faults)
       (pick (n == 5) (Rose a.faults b.faults)
@@ -83,7 +84,7 @@ module _ {L : Type 0} (traffic : L → Traffic) (words : List (List ℕ)) (s : �
   told_of : Cause (policy_named words) s a b → told s
   told_of (is_done e h) = told_at 0 e h
   told_of (no_command e h) = told_at 1 e h
-  told_of (faulty e h) = told_at 2 e (told_by words a.texts HasFault h)
+  told_of (faulty e h) = told_at 2 e (told_by words a.texts HasTextFault h)
   told_of (unsafe e h) = told_at 3 e (told_by words a.texts IsUnsafeText h)
   told_of (unread e h f) = told_at 4 e (elim h [ inl x ↦ inl x | inr x ↦ inr (missing_by words (policy_named words) refl a.texts x) ], f)
   told_of (unwritten e h) = told_at 5 e h
@@ -115,7 +116,7 @@ module _ {L : Type 0} (traffic : L → Traffic) (words : List (List ℕ)) (s : �
   pub used : s ≡ 1 → policy_named words ≡ None
   used e = says 1 e
 
-  pub fault : s ≡ 2 → IfTold words a.texts HasFault
+  pub fault : s ≡ 2 → IfTold words a.texts HasTextFault
   fault e = says 2 e
 
   pub cycle : s ≡ 3 → IfTold words a.texts IsUnsafeText

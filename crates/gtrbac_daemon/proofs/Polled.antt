@@ -3,7 +3,7 @@ use Rattle.std.proofs.Common.{◌≡◌, ◌⊎◌, ℕ, ◌+◌, ◌*◌, ◌�
 use Rattle.gt_base.specs.declared.requests.Entry.{Entry}
 use Rattle.gt_io.specs.Ports.{Harbour}
 use Rattle.turn_lock.specs.Turns.{part}
-use Rattle.turn_lock.specs.Holders.{Holder, Lock, site_of, newcomer, IsTold}
+use Rattle.turn_lock.specs.Holders.{Holder, Lock, site_of, newcomer, IsToldBy}
 use Rattle.connection_laws.specs.Turns.{IsIdle}
 use Rattle.policy_words.specs.Naming.{NamedPolicy}
 use Rattle.poll_front.specs.declared.ends.Polled.{Polled}
@@ -23,7 +23,7 @@ use Rattle.core_machine.specs.Books.{BookView, SameRoot, IsBook, HasOnlyModel, m
 use Rattle.std.specs.Io.KnownBytes.{Keeps}
 use Rattle.std.proofs.KnownBytes.{Keeps-refl}
 use Rattle.gt_io.specs.Causes.{Rose}
-use Rattle.policy_commands.specs.Ends.{Told}
+use Rattle.policy_commands.specs.Ends.{EndView}
 use Rattle.policy_commands.specs.Printing.{IsPrinted}
 use Rattle.gtrbac_daemon.specs.Words.{Refuses, Admits}
 use Rattle.gtrbac_daemon.specs.Polls.{HasPolled, PollHeadline, PollScene, PollServes, PollAnswers}
@@ -37,7 +37,7 @@ pub only_idle : {M : Type 0} (l : Lock M) (p : Holder M) → p ≡ newcomer l []
 only_idle l p is = (ap (λ (q : Holder _). q.site) is, ap (λ (q : Holder _). q.turn) is)
 
 pub has_polled : {M : Type 0} (np p : NamedPolicy) (legal : List Entry → Type 0) (now : List Entry → ℕ) (birth : ℕ) → IsTimed birth legal now → (first h : List Entry) (l : Lock M) (before after : Holder M) (clock clock' : Option (ℕ → ℕ)) (start b : Harbour) (ends : List Polled) (end : RunEnd)
-    → first ≡ [] → p ≡ np → before ≡ newcomer l [] 0 → after.number ≡ before.number → Ran p first legal now before.number before after clock clock' start b ends end → IsTold first h after
+    → first ≡ [] → p ≡ np → before ≡ newcomer l [] 0 → after.number ≡ before.number → Ran p first legal now before.number before after clock clock' start b ends end → IsToldBy first h after
     → HasPolled np birth clock clock' start b ends h end
 has_polled {M} np p legal now birth timed first h l before after clock clock' start b ends end empty named new number r told =
     let zero : before.number ≡ 0 = ap (λ (q : Holder M). q.number) new in
@@ -45,7 +45,7 @@ has_polled {M} np p legal now birth timed first h l before after clock clock' st
     let r2 : Ran np [] legal now before.number before after clock clock' start b ends end = subst (λ (es : List Entry). Ran np es legal now before.number before after clock clock' start b ends end) empty r1 in
     let r3 : Ran np [] legal now 0 before after clock clock' start b ends end = subst (λ (n : ℕ). Ran np [] legal now n before after clock clock' start b ends end) zero r2 in
     let told_front : (f : IsPolledFront np birth h clock clock' start b ends) × (f.turns ≡ r3.turns) =
-    front_with np legal now birth timed h before after clock clock' start b ends end r3 (ap (λ (q : Holder M). q.own) new) (number ∙ zero) (subst (λ (es : List Entry). IsTold es h after) empty told) in
+    front_with np legal now birth timed h before after clock clock' start b ends end r3 (ap (λ (q : Holder M). q.own) new) (number ∙ zero) (subst (λ (es : List Entry). IsToldBy es h after) empty told) in
     let none : before.draws ≡ 0 = ap (λ (q : Holder M). q.draws) new in
     let high = r3.running.grows.draws_high in
     let front = told_front.0 in
@@ -59,6 +59,7 @@ has_polled {M} np p legal now birth timed first h l before after clock clock' st
       draws = after.draws;
       few_draws = few;
       runs = r.runs;
+      faults = r.faults;
     }
 
 one_model : (p : Policy) → IsSafe p.triggers → HasOneModel p
@@ -93,7 +94,7 @@ module _ (clock clock' : Option (ℕ → ℕ)) (start now : Harbour) (ends : Lis
       (subst (λ (t : ℕ). PollHeadline b.named t clock clock' start now ends b.entries end) at (headline_at b (subst (λ (p : NamedPolicy). IsSafe p.policy.triggers) (sym to) safe) book only polled' others))
 
 module _ (s : ℕ) (a b : PollScene) where
-  pub poll_kept : (name : Option (List ℕ)) (t : Told) → Refuses (Rose a.hard_faults b.hard_faults) a.texts name t → (t.status ≡ 4 → Rose a.shelf_faults b.shelf_faults) → (t.status ≡ 4) ⊎ (b.hard_faults ≡ a.hard_faults)
+  pub poll_kept : (name : Option (List ℕ)) (t : EndView) → Refuses (Rose a.hard_faults b.hard_faults) a.texts name t → (t.status ≡ 4 → Rose a.shelf_faults b.shelf_faults) → (t.status ≡ 4) ⊎ (b.hard_faults ≡ a.hard_faults)
       → IsPrinted s t a.written b.written a.faults b.faults → b.birth ≡ a.birth → b.clock ≡ a.clock → b.ports ≡ a.ports → b.ends ≡ a.ends
       → PollAnswers name s a b
   poll_kept name t cause failed steady printed birth clock ports ends =

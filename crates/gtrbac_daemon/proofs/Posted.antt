@@ -5,7 +5,7 @@ use mathlib.Core.List.{reverse-cons, map-append}
 use Rattle.gt_base.specs.declared.requests.Entry.{Entry}
 use Rattle.gt_io.specs.Links.{Traffic}
 use Rattle.turn_lock.specs.Turns.{Each}
-use Rattle.turn_lock.specs.Holders.{Site, Lock, Holder, newcomer, newcomers, HasNumber, AreIdle, IsTold}
+use Rattle.turn_lock.specs.Holders.{Site, Lock, Holder, newcomer, newcomers, HasNumber, AreIdle, IsToldBy}
 use Rattle.turn_lock.proofs.PassLists.{each_unreverse, numbers, has_same}
 use Rattle.policy_words.specs.Naming.{NamedPolicy}
 use Rattle.connection_laws.specs.Connection.{IsTimed}
@@ -125,7 +125,7 @@ module _ {M D C G L : Type 0} where
 
   module _ (traffic : L → Traffic) (readings : C → Option (ℕ → ℕ)) (links : D → Option (List L)) (faults : D → ℕ)
       (np : NamedPolicy) (legal : List Entry → Type 0) (now : List Entry → ℕ) (site : Site M) (birth : ℕ) (timed : IsTimed birth legal now) (h : List Entry) where
-    one_told : (l : Lock M) (k : ℕ) (x y : Post M D C G L) → x.pass ≡ newcomer l [] k → PostWorked traffic readings links faults np [] legal now site x y → IsTold [] h y.pass
+    one_told : (l : Lock M) (k : ℕ) (x y : Post M D C G L) → x.pass ≡ newcomer l [] k → PostWorked traffic readings links faults np [] legal now site x y → IsToldBy [] h y.pass
         → HasWorked traffic np birth h k (crewman readings links faults x.worker) (crewman readings links faults y.worker)
     one_told l k x y is a told =
         let number : x.pass.number ≡ k = ap (λ (q : Holder M). q.number) is in
@@ -134,7 +134,7 @@ module _ {M D C G L : Type 0} where
         has_worked traffic np legal now k h birth timed x.pass y.pass X Y (ap (λ (q : Holder M). q.own) is) (ap (λ (q : Holder M). q.draws) is) (a.number_is ∙ number)
         (subst (λ (n : ℕ). Works traffic (service np [] legal now) n (record { pass = x.pass; clock = X.clock; door = X.door }) (record { pass = y.pass; clock = Y.clock; door = Y.door }) X.faults Y.faults Y.served Y.outcome) number a.works) told
 
-    crew_told : (l : Lock M) (k n : ℕ) (zs zs' : List (Post M D C G L)) → passes_of zs ≡ newcomers l [] k n → AllWorked traffic readings links faults np [] legal now site zs zs' → Each (IsTold [] h) (passes_of zs')
+    crew_told : (l : Lock M) (k n : ℕ) (zs zs' : List (Post M D C G L)) → passes_of zs ≡ newcomers l [] k n → AllWorked traffic readings links faults np [] legal now site zs zs' → Each (IsToldBy [] h) (passes_of zs')
         → HaveWorked traffic np birth h k (crewmen readings links faults (workers_of zs)) (crewmen readings links faults (workers_of zs'))
     crew_told l k n [] [] e a told = tt
     crew_told l k n [] (y ∷ ys) e a told = absurd a
@@ -149,9 +149,9 @@ module _ {M D C G L : Type 0} where
         )
 
     -- what the closed desk tells of the crew
-    pub crew_is_told : (l : Lock M) (n : ℕ) (qs : List (Holder M)) (crew crew' : List (Worker D C G L)) → InOrder traffic readings links faults np [] legal now site (newcomers l [] 0 n) qs crew crew' → Each (IsTold [] h) qs
+    pub crew_is_told : (l : Lock M) (n : ℕ) (qs : List (Holder M)) (crew crew' : List (Worker D C G L)) → InOrder traffic readings links faults np [] legal now site (newcomers l [] 0 n) qs crew crew' → Each (IsToldBy [] h) qs
         → HaveWorked traffic np birth h 0 (crewmen readings links faults crew) (crewmen readings links faults crew')
     crew_is_told l n qs crew crew' o told =
         let K : List (Worker D C G L) → List (Crewman L) = crewmen readings links faults in
-        let all = crew_told l 0 n o.before o.after o.passes o.worked (subst (Each (IsTold [] h)) (sym o.passes') told) in
+        let all = crew_told l 0 n o.before o.after o.passes o.worked (subst (Each (IsToldBy [] h)) (sym o.passes') told) in
         subst (λ (ws : List (Worker D C G L)). HaveWorked traffic np birth h 0 (K crew) (K ws)) o.workers' (subst (λ (ws : List (Worker D C G L)). HaveWorked traffic np birth h 0 (K ws) (K (workers_of o.after))) o.workers all)

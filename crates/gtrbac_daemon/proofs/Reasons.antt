@@ -6,8 +6,8 @@ use Rattle.gt_base.specs.declared.requests.Entry.{Entry}
 use Rattle.gt_io.specs.Causes.{Rose}
 use Rattle.gt_io.specs.Links.{Traffic}
 use Rattle.policy_words.specs.Naming.{NamedPolicy}
-use Rattle.policy_commands.specs.Ends.{Told}
-use Rattle.policy_commands.specs.Policies.{HasFault, IsUnsafeText}
+use Rattle.policy_commands.specs.Ends.{EndView}
+use Rattle.policy_commands.specs.Policies.{HasTextFault, IsUnsafeText}
 use Rattle.policy_commands.specs.Finding.{IsLongPolicy}
 use Rattle.gtrbac_daemon.specs.Words.{Refuses, HasText, LacksText}
 use Rattle.gtrbac_daemon.specs.Crew.{is_memory, is_door_fault, is_spent, status_by, status_of, ends_of}
@@ -23,7 +23,7 @@ module _ {L : Type 0} (traffic : L → Traffic) (name : Option (List ℕ)) (s : 
   abbrev Fails : Type 0
   Fails = s ≡ 4 → Rose a.shelf_faults b.shelf_faults
 
-  refused_by : Fails → (m : Option (List ℕ)) → m ≡ name → (t : Told) → Refuses Hard a.texts m t → s ≡ t.status → Cause name s a b
+  refused_by : Fails → (m : Option (List ℕ)) → m ≡ name → (t : EndView) → Refuses Hard a.texts m t → s ≡ t.status → Cause name s a b
   refused_by fails None e t c is = no_command (is ∙ status_in t _ c) (sym e)
   refused_by fails (Some n) e t (inl (inl c)) is =
       let four = is ∙ status_in t _ c.0 in
@@ -32,7 +32,7 @@ module _ {L : Type 0} (traffic : L → Traffic) (name : Option (List ℕ)) (s : 
       long (is ∙ status_in t _ c.0) (subst (λ (m : Option (List ℕ)). HasText m a.texts IsLongPolicy) e (long_told n a.texts c.1))
   refused_by fails (Some n) e t (inr c) is =
       elim c.2.cause [
-        | inl f ↦ faulty (is ∙ f.0) (subst (λ (m : Option (List ℕ)). HasText m a.texts HasFault) e (text_told n a.texts c.0 HasFault c.1.found f.1))
+        | inl f ↦ faulty (is ∙ f.0) (subst (λ (m : Option (List ℕ)). HasText m a.texts HasTextFault) e (text_told n a.texts c.0 HasTextFault c.1.found f.1))
         | inr u ↦ unsafe (is ∙ u.0) (subst (λ (m : Option (List ℕ)). HasText m a.texts IsUnsafeText) e (text_told n a.texts c.0 IsUnsafeText c.1.found u.1))
       ]
 

@@ -6,7 +6,7 @@ use Rattle.std.proofs.KnownBytes.{Keeps-refl}
 use Rattle.gt_io.specs.Causes.{Rose}
 use Rattle.gt_io.specs.Links.{Traffic}
 use Rattle.turn_lock.specs.Turns.{Each}
-use Rattle.policy_commands.specs.Ends.{Told}
+use Rattle.policy_commands.specs.Ends.{EndView}
 use Rattle.line_server.specs.declared.workers.Worker.{Worker}
 use Rattle.policy_commands.specs.Printing.{IsPrinted}
 use Rattle.gtrbac_daemon.specs.Words.{usage, policy_named, Refuses}
@@ -26,7 +26,7 @@ module _ {D C G L : Type 0} (readings : C → Option (ℕ → ℕ)) (links : D �
   some_crew ws some = subst (λ (n : ℕ). 1 ≤ n) (sym (as_long readings links faults ws)) some
 
 module _ {L : Type 0} (traffic : L → Traffic) where
-  pub kept_by : (name : Option (List ℕ)) (s : ℕ) (a b : Scene L) (t : Told) → Refuses (Rose a.hard_faults b.hard_faults) a.texts name t → (t.status ≡ 4) ⊎ (b.hard_faults ≡ a.hard_faults)
+  pub kept_by : (name : Option (List ℕ)) (s : ℕ) (a b : Scene L) (t : EndView) → Refuses (Rose a.hard_faults b.hard_faults) a.texts name t → (t.status ≡ 4) ⊎ (b.hard_faults ≡ a.hard_faults)
       → IsPrinted s t a.written b.written a.faults b.faults → b.birth ≡ a.birth → b.crew ≡ a.crew → Answers traffic name s a b
   kept_by name s a b t cause steady printed birth crew = kept (record { told = t; cause = cause; steady = steady; printed = printed; birth = birth; crew = crew })
 

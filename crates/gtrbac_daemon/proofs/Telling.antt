@@ -6,12 +6,13 @@ use Rattle.gt_io.specs.declared.port.PortEvent.{PortEvent}
 use Rattle.gt_io.specs.declared.port.PortEvent.TheVariants.{Opened, Ready, Stop}
 use Rattle.gt_io.specs.Ports.{Harbour, IsUncalled}
 use Rattle.policy_words.specs.Naming.{NamedPolicy}
-use Rattle.policy_commands.specs.Ends.{Told}
-use Rattle.policy_commands.specs.Policies.{HasFault, IsUnsafeText}
+use Rattle.policy_commands.specs.Ends.{EndView}
+use Rattle.policy_commands.specs.Policies.{HasTextFault, IsUnsafeText}
 use Rattle.poll_front.specs.declared.ends.Polled.{Polled}
 use Rattle.poll_front.specs.declared.front.RunEnd.{RunEnd}
 use Rattle.poll_front.specs.declared.front.RunEnd.TheVariants.{Stopped, PortFault, Enough, Worn, Memory}
-use Rattle.poll_front.specs.Tables.{RunsTo, most_links, AreUnwornEnds}
+use Rattle.poll_front.specs.Tables.{RunsTo, AreUnwornEnds}
+use Rattle.poll_front.specs.declared.front.TheConstants.{MOST_LINKS}
 use Rattle.policy_commands.specs.Finding.{IsLongPolicy}
 use Rattle.policy_commands.specs.Printing.{IsPrinted}
 use Rattle.gtrbac_daemon.specs.Words.{usage, poll_named, Refuses, HasText, LacksText}
@@ -33,7 +34,7 @@ none_apart : {A : Type 0} (o : Option A) (x : A) → o ≡ None → o ≡ Some x
 none_apart o x e n = let no : ◌≡◌ {A = Option _} None (Some x) = sym e ∙ n in absurd (cc no)
 
 -- nothing is used up where the run has stopped or failed
-module _ (b : PollScene) (few : b.ports.opened < most_links) (calm : AreUnwornEnds b.ends) where
+module _ (b : PollScene) (few : b.ports.opened < MOST_LINKS) (calm : AreUnwornEnds b.ends) where
   not_used_up : IsUsedUp b → ⊥
   not_used_up (inl all) = absurd (omega (arith, few, all))
   not_used_up (inr x) = let off = calm x.0 x.1.0 x.1.1 in let no : true ≡ false = sym x.1.2 ∙ off in absurd (cc no)
@@ -42,7 +43,7 @@ module _ (name : Option (List ℕ)) (s : ℕ) (a b : PollScene) where
   abbrev Hard : Type 0
   Hard = Rose a.hard_faults b.hard_faults
 
-  refused_by : (m : Option (List ℕ)) → m ≡ name → (t : Told) → Refuses Hard a.texts m t → (t.status ≡ 4 → Rose a.shelf_faults b.shelf_faults) → s ≡ t.status → PollCause name s a b
+  refused_by : (m : Option (List ℕ)) → m ≡ name → (t : EndView) → Refuses Hard a.texts m t → (t.status ≡ 4 → Rose a.shelf_faults b.shelf_faults) → s ≡ t.status → PollCause name s a b
   refused_by None e t c rose is = no_command (is ∙ status_in t _ c) (sym e)
   refused_by (Some n) e t (inl (inl c)) rose is =
       unread (is ∙ status_in t _ c.0) (elim c.1 [ inl r ↦ inl r | inr l ↦ inr (subst (λ (m : Option (List ℕ)). LacksText m a.texts) e l) ]) (rose (status_in t _ c.0))
@@ -50,7 +51,7 @@ module _ (name : Option (List ℕ)) (s : ℕ) (a b : PollScene) where
       long (is ∙ status_in t _ c.0) (subst (λ (m : Option (List ℕ)). HasText m a.texts IsLongPolicy) e (long_told n a.texts c.1))
   refused_by (Some n) e t (inr c) rose is =
       elim c.2.cause [
-        | inl f ↦ faulty (is ∙ f.0) (subst (λ (m : Option (List ℕ)). HasText m a.texts HasFault) e (text_told n a.texts c.0 HasFault c.1.found f.1))
+        | inl f ↦ faulty (is ∙ f.0) (subst (λ (m : Option (List ℕ)). HasText m a.texts HasTextFault) e (text_told n a.texts c.0 HasTextFault c.1.found f.1))
         | inr u ↦ unsafe (is ∙ u.0) (subst (λ (m : Option (List ℕ)). HasText m a.texts IsUnsafeText) e (text_told n a.texts c.0 IsUnsafeText c.1.found u.1))
       ]
 

@@ -3,19 +3,20 @@ use Rattle.std.proofs.Common.{◌≡◌, ℕ, ◌+◌, ◌<◌, ◌≤◌, List,
 use Rattle.gt_base.specs.declared.requests.Entry.{Entry}
 use Rattle.gt_io.specs.Links.{Traffic}
 use Rattle.turn_lock.specs.Turns.{part}
-use Rattle.turn_lock.specs.Holders.{Holder, IsTold}
+use Rattle.turn_lock.specs.Holders.{Holder, IsToldBy}
 use Rattle.locked_history.specs.Fronts.{by}
 use Rattle.policy_words.specs.Naming.{NamedPolicy}
 use Rattle.connection_laws.specs.Connection.{part_of, IsTimed}
 use Rattle.connection_laws.proofs.Places.{part_of-append, part_of-part, all_mine, none_mine}
 use Rattle.connection_laws.specs.Services.{service}
 use Rattle.line_server.specs.declared.ended.Served.{Served}
-use Rattle.line_server.specs.Working.{Tale, begun_of, owns_of, Gives, Works, AreServed as AreServedAt}
+use Rattle.line_server.specs.Working.{Tale, begun_of, owns_of, Works, AreServed as AreServedAt}
+use Rattle.connection_laws.specs.Doors.{Gives, AddUp}
 use Rattle.line_server.proofs.Completing.{complete_by}
 use Rattle.line_server.proofs.Links.{served_longer}
 use Rattle.line_server.proofs.Crew.{links_add_up}
 use Rattle.gtrbac_daemon.specs.Crew.{Crewman}
-use Rattle.gtrbac_daemon.specs.Headline.{AddUp, AreServed, parts_from, HasWorked}
+use Rattle.gtrbac_daemon.specs.Headline.{AreServed, parts_from, HasWorked}
 
 module _ {L : Type 0} (traffic : L → Traffic) (np : NamedPolicy) (legal : List Entry → Type 0) (now : List Entry → ℕ) (w : ℕ) (h : List Entry) where
   abbrev At : ℕ → List (Served L) → List (Tale L) → Type 0
@@ -82,7 +83,7 @@ module _ {L : Type 0} (traffic : L → Traffic) (np : NamedPolicy) (legal : List
 
     pub has_worked : {M : Type 0} (before after : Holder M) (a b : Crewman L) → before.own ≡ [] → before.draws ≡ 0 → after.number ≡ w
         → Works traffic (service np [] legal now) w (record { pass = before; clock = a.clock; door = a.door }) (record { pass = after; clock = b.clock; door = b.door }) a.faults b.faults b.served b.outcome
-        → IsTold [] h after → HasWorked traffic np birth h w a b
+        → IsToldBy [] h after → HasWorked traffic np birth h w a b
     has_worked {M} before after a b fresh zero number k told =
         let xs : List (Tale L) = k.tales in
         let own_is : after.own ≡ owns_of xs = ap (λ (q : Holder M). q.own) k.worked.grows.after_is ∙ ap (λ (es : List Entry). es ++ owns_of xs) fresh in

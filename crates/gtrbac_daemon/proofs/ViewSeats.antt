@@ -10,7 +10,7 @@ use Rattle.snapshot_readers.specs.Glazed.{Glazed, fresh_glass}
 use Rattle.snapshot_readers.specs.declared.viewers.Viewer.{Viewer}
 use Rattle.snapshot_readers.specs.Viewing.{GlancesCanBeTold}
 use Rattle.snapshot_readers.specs.declared.seats.Seat.{Seat}
-use Rattle.snapshot_readers.specs.Seats.{watchers, HasLooked, IsNewViewer, IsReady, glasses_of, viewers_of, HasSettled, AreTold, HaveViewed}
+use Rattle.snapshot_readers.specs.Seats.{watchers, HasLooked, IsNewViewer, IsReadySeat, glasses_of, viewers_of, HasSettled, AreTold, HaveViewed}
 use Rattle.snapshot_readers.proofs.Seated.{ready, IsDone, seats_done}
 
 -- there are as many seats as viewers
@@ -20,7 +20,7 @@ as_many {D} {G} {L} xs vs is =
 
 module _ {D G L : Type 0} (np : NamedPolicy) (birth n : ℕ) (gs : List Glazed) (viewers : List (Viewer D G L)) (xs : List (Seat D G L)) (all : gs ≡ replicate n (fresh_glass np birth)) (glasses : reverse (glasses_of xs) ≡ gs)
     (is : reverse (viewers_of xs) ≡ viewers) (new : All (λ (v : Viewer D G L). IsNewViewer v) viewers) where
-  pub all_ready : All (λ (s : Seat D G L). s.number ≤ 7) xs → GlancesCanBeTold np birth → All (λ (s : Seat D G L). IsReady np s) xs
+  pub all_ready : All (λ (s : Seat D G L). s.number ≤ 7) xs → GlancesCanBeTold np birth → All (λ (s : Seat D G L). IsReadySeat np s) xs
   all_ready numbers told = λ k d low.
       let r = ready np birth n gs viewers xs all glasses is new k d low in
       record {

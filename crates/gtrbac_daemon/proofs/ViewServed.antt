@@ -8,7 +8,7 @@ use Rattle.gt_base.specs.declared.requests.Entry.{Entry}
 use Rattle.gt_io.specs.Causes.{Rose}
 use Rattle.gt_io.specs.Links.{Traffic, Reads}
 use Rattle.policy_words.specs.Naming.{NamedPolicy}
-use Rattle.policy_commands.specs.Ends.{Told}
+use Rattle.policy_commands.specs.Ends.{EndView}
 use Rattle.core_machine.specs.Books.{BookView}
 use Rattle.line_server.specs.declared.ended.WorkEnd.{WorkEnd}
 use Rattle.line_server.specs.declared.workers.Worker.{Worker}
@@ -107,7 +107,7 @@ module _ {L : Type 0} (traffic : L → Traffic) (np : NamedPolicy) (birth : ℕ)
       }
 
 module _ {L : Type 0} (traffic : L → Traffic) (s : ℕ) (a b : ViewScene L) where
-  pub view_kept : (name : Option (List ℕ)) (t : Told) → Refuses (Rose a.hard_faults b.hard_faults) a.texts name t → (t.status ≡ 4 → Rose a.shelf_faults b.shelf_faults) → (t.status ≡ 4) ⊎ (b.hard_faults ≡ a.hard_faults)
+  pub view_kept : (name : Option (List ℕ)) (t : EndView) → Refuses (Rose a.hard_faults b.hard_faults) a.texts name t → (t.status ≡ 4 → Rose a.shelf_faults b.shelf_faults) → (t.status ≡ 4) ⊎ (b.hard_faults ≡ a.hard_faults)
       → IsPrinted s t a.written b.written a.faults b.faults → b.birth ≡ a.birth → b.crew ≡ a.crew → b.viewers ≡ a.viewers
       → (h : List Entry) × ViewAnswers traffic name h s a b
   view_kept name t cause failed steady printed birth crew viewers =

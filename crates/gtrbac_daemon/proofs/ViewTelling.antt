@@ -7,11 +7,12 @@ use Rattle.gt_io.specs.Causes.{Rose}
 use Rattle.gt_io.specs.Links.{Traffic}
 use Rattle.gt_io.specs.Shelf.{Contents, Lacks}
 use Rattle.policy_words.specs.Naming.{NamedPolicy}
-use Rattle.policy_commands.specs.Ends.{Told}
-use Rattle.policy_commands.specs.Policies.{safe_in, HasFault, IsUnsafeText}
+use Rattle.policy_commands.specs.Ends.{EndView}
+use Rattle.policy_commands.specs.Policies.{safe_in, HasTextFault, IsUnsafeText}
 use Rattle.snapshot_readers.specs.Seats.{AreTold, HaveViewed}
-use Rattle.policy_commands.specs.Finding.{max_policy, IsLongPolicy}
+use Rattle.policy_commands.specs.Finding.{IsLongPolicy}
 use Rattle.policy_commands.specs.Printing.{IsPrinted}
+use Rattle.policy_commands.specs.declared.finding.TheConstants.{MAX_POLICY}
 use Rattle.gtrbac_daemon.specs.Words.{usage, views_named, Refuses, RefusesText, Admits, HasText, LacksText}
 use Rattle.gtrbac_daemon.specs.Crew.{is_memory, is_door_fault, is_spent, ends_of, SomeOf, EachOf, IsDone}
 use Rattle.gtrbac_daemon.specs.Daemon.{IsWritten}
@@ -33,7 +34,7 @@ module _ {L : Type 0} (traffic : L → Traffic) (name : Option (List ℕ)) (h : 
   abbrev Hard : Type 0
   Hard = Rose a.hard_faults b.hard_faults
 
-  refused_by : (m : Option (List ℕ)) → m ≡ name → (t : Told) → Refuses Hard a.texts m t → (t.status ≡ 4 → Rose a.shelf_faults b.shelf_faults) → s ≡ t.status → Cause
+  refused_by : (m : Option (List ℕ)) → m ≡ name → (t : EndView) → Refuses Hard a.texts m t → (t.status ≡ 4 → Rose a.shelf_faults b.shelf_faults) → s ≡ t.status → Cause
   refused_by None e t c rose is = no_command (is ∙ status_in t _ c) (sym e)
   refused_by (Some n) e t (inl (inl c)) rose is =
       unread (is ∙ status_in t _ c.0) (rose (status_in t _ c.0)) (elim c.1 [ inl r ↦ inl r | inr l ↦ inr (subst (λ (m : Option (List ℕ)). LacksText m a.texts) e l) ])
@@ -41,7 +42,7 @@ module _ {L : Type 0} (traffic : L → Traffic) (name : Option (List ℕ)) (h : 
       long (is ∙ status_in t _ c.0) (subst (λ (m : Option (List ℕ)). HasText m a.texts IsLongPolicy) e (long_told n a.texts c.1))
   refused_by (Some n) e t (inr c) rose is =
       elim c.2.cause [
-        | inl f ↦ faulty (is ∙ f.0) (subst (λ (m : Option (List ℕ)). HasText m a.texts HasFault) e (text_told n a.texts c.0 HasFault c.1.found f.1))
+        | inl f ↦ faulty (is ∙ f.0) (subst (λ (m : Option (List ℕ)). HasText m a.texts HasTextFault) e (text_told n a.texts c.0 HasTextFault c.1.found f.1))
         | inr u ↦ unsafe (is ∙ u.0) (subst (λ (m : Option (List ℕ)). HasText m a.texts IsUnsafeText) e (text_told n a.texts c.0 IsUnsafeText c.1.found u.1))
       ]
 
@@ -218,20 +219,20 @@ module _ {L : Type 0} (traffic : L → Traffic) (name : Option (List ℕ)) (h : 
   ok_err : {A E : Type 0} (r : Result A E) (x : A) (y : E) → r ≡ Ok x → r ≡ Err y → ⊥
   ok_err r x y e n = let no : Ok x ≡ Err y = sym e ∙ n in absurd (cc no)
 
-  long_not : (o : Option (List ℕ)) (text : List ℕ) → o ≡ Some text → length text ≤ max_policy → IsSomeAnd o IsLongPolicy → ⊥
+  long_not : (o : Option (List ℕ)) (text : List ℕ) → o ≡ Some text → length text ≤ MAX_POLICY → IsSomeAnd o IsLongPolicy → ⊥
   long_not o text e short far = let more : IsLongPolicy text = subst (λ (x : Option (List ℕ)). IsSomeAnd x IsLongPolicy) e far in absurd (omega (arith, more, short))
 
-  text_not : (text_of : List ℕ → Option (List ℕ)) (n : List ℕ) (np : NamedPolicy) (t : Told) → Admits (Some text_of) (Some n) np → (Hard → ⊥) → RefusesText Hard (Some text_of) n t → ⊥
+  text_not : (text_of : List ℕ → Option (List ℕ)) (n : List ℕ) (np : NamedPolicy) (t : EndView) → Admits (Some text_of) (Some n) np → (Hard → ⊥) → RefusesText Hard (Some text_of) n t → ⊥
   text_not text_of n np t x fine (inl (inl c)) = elim c.1 [ inl r ↦ fine r | inr l ↦ none_apart (text_of n) x.0 l x.1.found ]
   text_not text_of n np t x fine (inl (inr c)) = long_not (text_of n) x.0 x.1.found x.1.short c.1
   text_not text_of n np t x fine (inr c) =
       let same : x.0 ≡ c.0 = same_some x.0 c.0 (sym x.1.found ∙ c.1.found) in ok_err (safe_in c.0) np t (ap safe_in (sym same) ∙ x.2) c.2.told_is
 
-  name_not : (text_of : List ℕ → Option (List ℕ)) (m : Option (List ℕ)) (np : NamedPolicy) (t : Told) → Admits (Some text_of) m np → (Hard → ⊥) → Refuses Hard (Some text_of) m t → ⊥
+  name_not : (text_of : List ℕ → Option (List ℕ)) (m : Option (List ℕ)) (np : NamedPolicy) (t : EndView) → Admits (Some text_of) m np → (Hard → ⊥) → Refuses Hard (Some text_of) m t → ⊥
   name_not text_of None np t x fine c = x
   name_not text_of (Some n) np t x fine c = text_not text_of n np t x fine c
 
-  kept_not : GoesWell name a b → (t : Told) → Refuses Hard a.texts name t → ⊥
+  kept_not : GoesWell name a b → (t : EndView) → Refuses Hard a.texts name t → ⊥
   kept_not w t c =
       name_not w.text_of name w.policy t (subst (λ (o : Contents). Admits o name w.policy) w.told w.admitted) w.shelf (subst (λ (o : Contents). Refuses Hard o name t) w.told c)
 

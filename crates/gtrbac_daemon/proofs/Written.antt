@@ -19,7 +19,8 @@ use Rattle.gtrbac_model.proofs.Elements.{and_true}
 use Rattle.history_laws.proofs.Lasting.{front_steps, of_longer}
 use Rattle.request_text.specs.Fitting.{IsShortStep, FitPages}
 use Rattle.request_text.specs.Named.{has_actor, has_request, has_reply, has_step}
-use Rattle.core_machine.specs.Books.{BookView, IsBook, IsNamedStep, AreNamed, model_in}
+use Rattle.core_machine.specs.Books.{BookView, IsBook, model_in}
+use Rattle.history_laws.specs.Named.{IsNamedStep, AreNamed}
 use Rattle.connection_laws.specs.Desks.{RepliesCanBeTold}
 use Rattle.snapshot_readers.specs.Ledgers.{IsLegalLedger}
 use Rattle.snapshot_readers.proofs.Serving.{book_is_served}

@@ -5,12 +5,14 @@ use Rattle.std.specs.Io.KnownBytes.{Appends}
 use Rattle.gt_base.specs.declared.requests.Entry.{Entry}
 use Rattle.gt_io.specs.Causes.{Rose, AppendsPart}
 use Rattle.gt_io.specs.Links.{Traffic, Reads}
-use Rattle.gt_io.specs.Shelf.{Contents}
+use Rattle.gt_io.specs.Streams.{Output}
+use Rattle.gt_io.specs.Shelf.{Contents, Stock}
 use Rattle.policy_words.specs.Naming.{NamedPolicy}
-use Rattle.policy_commands.specs.Ends.{Told}
-use Rattle.policy_commands.specs.Finding.{max_policy, IsLongPolicy}
-use Rattle.policy_commands.specs.Policies.{safe_in, HasFault, IsUnsafeText}
+use Rattle.policy_commands.specs.Ends.{EndView}
+use Rattle.policy_commands.specs.Finding.{IsLongPolicy}
+use Rattle.policy_commands.specs.Policies.{safe_in, HasTextFault, IsUnsafeText}
 use Rattle.policy_commands.specs.Printing.{IsPrinted, WantsMemory}
+use Rattle.policy_commands.specs.declared.finding.TheConstants.{MAX_POLICY}
 use Rattle.request_text.specs.Replies.{log_text}
 use Rattle.gtrbac_daemon.specs.Words.{policy_named, Refuses, Admits, HasText, LacksText, TellsText}
 use Rattle.gtrbac_daemon.specs.Crew.{Crewman, status_of, ends_of, SomeOf, EachOf, HasFailed, LacksMemory, IsSpent, IsUnharmed, IsDone, IsSound}
@@ -28,17 +30,17 @@ pub record Scene (L : Type 0) : Type 0 where
   pub written : Option (List ℕ)
   pub faults : ℕ
 
-abbrev pub scene : {L : Type 0} → Contents → ℕ → ℕ → Option (ℕ → ℕ) → List (Crewman L)
-    → Option (List ℕ) → ℕ → Scene L
-scene texts shelf_faults hard_faults birth crew written faults =
+abbrev pub scene : {L : Type 0} → Stock → Option (ℕ → ℕ) → List (Crewman L)
+    → Output → Scene L
+scene stock birth crew output =
     record {
-      texts = texts;
-      shelf_faults = shelf_faults;
-      hard_faults = hard_faults;
+      texts = stock.contents;
+      shelf_faults = stock.faults;
+      hard_faults = stock.hard_faults;
       birth = birth;
       crew = crew;
-      written = written;
-      faults = faults;
+      written = output.written;
+      faults = output.faults;
     }
 
 -- want of memory stands before a failed output, and that before every other status
@@ -75,7 +77,7 @@ module _ {L : Type 0} where
   -- something keeps the server from serving, and is printed; no clock is read, nobody works, and
   -- but for what the shelf lacks it failed only where 4 is told
   pub record IsKept (name : Option (List ℕ)) (status : ℕ) (a b : Scene L) : Type 0 where
-    pub told : Told
+    pub told : EndView
     pub cause : Refuses (Rose a.hard_faults b.hard_faults) a.texts name told
     pub steady : (told.status ≡ 4) ⊎ (b.hard_faults ≡ a.hard_faults)
     pub printed : IsPrinted status told a.written b.written a.faults b.faults
@@ -87,7 +89,7 @@ module _ {L : Type 0} where
   pub record IsWell (name : Option (List ℕ)) (a b : Scene L) : Type 0 where
     pub text : List ℕ
     pub found : TellsText name a.texts text
-    pub short : length text ≤ max_policy
+    pub short : length text ≤ MAX_POLICY
     pub policy : NamedPolicy
     pub safe : safe_in text ≡ Ok policy
     pub shelf : Rose a.hard_faults b.hard_faults → ⊥
@@ -109,7 +111,7 @@ module _ {L : Type 0} (name : Option (List ℕ)) (status : ℕ) (a b : Scene L) 
   pub data Cause : Type 0 where
     done : status ≡ 0 → EachOf IsDone a.crew b.crew → Cause
     no_command : status ≡ 1 → name ≡ None → Cause
-    faulty : status ≡ 2 → HasText name a.texts HasFault → Cause
+    faulty : status ≡ 2 → HasText name a.texts HasTextFault → Cause
     unsafe : status ≡ 3 → HasText name a.texts IsUnsafeText → Cause
     unread : status ≡ 4 → Rose a.hard_faults b.hard_faults ⊎ LacksText name a.texts
         → Rose a.shelf_faults b.shelf_faults → Cause

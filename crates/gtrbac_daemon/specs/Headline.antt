@@ -1,8 +1,8 @@
 -- What a crew leaves: one history with one model, and each link's part of it.
-use Rattle.std.specs.Prelude.{◌≡◌, ℕ, ◌+◌, ◌*◌, ◌≤◌, true, ⊤, List, [], ◌∷◌, ◌++◌, length, Option, Some}
+use Rattle.std.specs.Prelude.{◌≡◌, ℕ, ◌+◌, ◌*◌, ◌≤◌, true, List, [], ◌∷◌, ◌++◌, length}
 use Rattle.std.specs.Io.KnownBytes.{Appends, Consumes}
-use Rattle.gt_base.specs.Bounds.{max_steps, last_minute}
 use Rattle.gt_base.specs.declared.requests.Entry.{Entry}
+use Rattle.gt_base.specs.declared.limits.TheConstants.{LAST_MINUTE, MAX_STEPS}
 use Rattle.gt_io.specs.Links.{Traffic, IsFresh, Reads}
 use Rattle.gtrbac_model.specs.Safety.{IsSafe}
 use Rattle.gtrbac_model.specs.Status.{Model}
@@ -11,17 +11,14 @@ use Rattle.gtrbac_model.specs.Theorems.{HasOneModel, IsOnlyModel}
 use Rattle.turn_lock.specs.Turns.{part}
 use Rattle.locked_history.specs.Fronts.{by}
 use Rattle.policy_words.specs.Naming.{NamedPolicy}
-use Rattle.core_machine.specs.Books.{AreNamed}
+use Rattle.history_laws.specs.Named.{AreNamed}
 use Rattle.connection_laws.specs.Connection.{asked_in, denied_in, part_of, Conn}
 use Rattle.line_server.specs.declared.ended.Served.{Served}
-use Rattle.line_server.specs.Serving.{EndsBy, IsUnhindered, IsComplete, most_bytes}
-use Rattle.line_server.specs.Working.{Tale, begun_of, hours_of, Gives, WorksTo}
+use Rattle.line_server.specs.Serving.{EndsBy, IsUnhindered, IsComplete}
+use Rattle.line_server.specs.Working.{Tale, begun_of, hours_of, WorksTo}
+use Rattle.connection_laws.specs.Doors.{Gives, AddUp}
+use Rattle.line_server.specs.declared.serve.TheConstants.{MOST_BYTES}
 use Rattle.gtrbac_daemon.specs.Crew.{Crewman}
-
--- served and remaining links add up to those that the door had
-abbrev pub AddUp : {L : Type 0} → Option (List L) → Option (List L) → List (Served L) → Type 0
-AddUp (Some had) (Some left) served = length served + length left ≡ length had
-AddUp _ _ served = ⊤
 
 module _ {L : Type 0} (traffic : L → Traffic) (np : NamedPolicy) (birth : ℕ) (h : List Entry)
     (w : ℕ) where
@@ -37,7 +34,7 @@ module _ {L : Type 0} (traffic : L → Traffic) (np : NamedPolicy) (birth : ℕ)
     pub taken_is : Appends (traffic x.begun).taken (traffic s.link).taken x.taken
     pub left_is : Consumes (traffic x.begun).left (traffic s.link).left x.taken
     pub given_is : Appends (traffic x.begun).given (traffic s.link).given x.given
-    pub bounded : length x.taken ≤ most_bytes
+    pub bounded : length x.taken ≤ MOST_BYTES
     pub cause : EndsBy (traffic x.begun) (traffic s.link) x.draws x.taken s.report.outcome
     pub finished : (traffic s.link).finished ≡ true
     pub complete : IsUnhindered (traffic x.begun) (traffic s.link) x.taken s.report.outcome
@@ -83,11 +80,11 @@ pub record Headline {L : Type 0} (traffic : L → Traffic) (np : NamedPolicy) (b
     (crew crew' : List (Crewman L)) (h : List Entry) : Type 0 where
   pub safe : IsSafe np.policy.triggers
   pub one : HasOneModel np.policy
-  pub minute : birth ≤ last_minute
+  pub minute : birth ≤ LAST_MINUTE
   pub model : Model
   pub legal : Legal np.policy birth h model
   pub only : IsOnlyModel np.policy birth h model
   pub named : AreNamed np.policy h
-  pub bounded : length h ≤ max_steps
+  pub bounded : length h ≤ MAX_STEPS
   pub worked : HaveWorked traffic np birth h 0 crew crew'
   pub others : (n : ℕ) → length crew ≤ n → part n h ≡ []

@@ -7,10 +7,11 @@ use Rattle.gt_base.specs.declared.requests.Entry.{Entry}
 use Rattle.policy_words.specs.Naming.{NamedPolicy}
 use Rattle.request_text.specs.Fitting.{FitPages}
 use Rattle.request_text.specs.Replies.{entry_line}
+use Rattle.request_text.specs.declared.rooms.TheConstants.{PAGE_SIZE}
 
 -- an empty page, as it is made
 abbrev pub IsBlank : Roomy ℕ → Type 0
-IsBlank page = (page.items ≡ []) × (page.spare ≡ 65_536)
+IsBlank page = (page.items ≡ []) × (page.spare ≡ PAGE_SIZE)
 
 module _ (np : NamedPolicy) where
   -- what stands on a page, and the lines of the entries

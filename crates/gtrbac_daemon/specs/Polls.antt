@@ -1,13 +1,14 @@
 -- What a run of the polling server leaves, and how it ends.
 use Rattle.std.specs.Prelude.{◌≡◌, ◌⊎◌, ◌≤◌, ◌<◌, ◌+◌, ◌*◌, ℕ, List, [], ◌∷◌, length, slice_get, true, None, Some, Ok, Err}
 use Rattle.std.specs.declared.option.Option.{Option}
-use Rattle.gt_base.specs.Bounds.{max_steps, last_minute}
 use Rattle.gt_base.specs.declared.requests.Entry.{Entry}
+use Rattle.gt_base.specs.declared.limits.TheConstants.{LAST_MINUTE, MAX_STEPS}
 use Rattle.gt_io.specs.Causes.{Rose}
 use Rattle.gt_io.specs.Links.{Reads}
 use Rattle.gt_io.specs.declared.source.Failed.{Failed}
 use Rattle.gt_io.specs.declared.port.PortEvent.TheVariants.{Stop}
-use Rattle.gt_io.specs.Shelf.{Contents}
+use Rattle.gt_io.specs.Streams.{Output}
+use Rattle.gt_io.specs.Shelf.{Contents, Stock}
 use Rattle.gt_io.specs.Ports.{Harbour}
 use Rattle.gtrbac_model.specs.Safety.{IsSafe}
 use Rattle.gtrbac_model.specs.Status.{Model}
@@ -16,20 +17,21 @@ use Rattle.gtrbac_model.specs.Theorems.{HasOneModel, IsOnlyModel}
 use Rattle.turn_lock.specs.Turns.{part}
 use Rattle.policy_words.specs.Naming.{NamedPolicy}
 use Rattle.policy_commands.specs.declared.judging.Admitted.{Admitted}
-use Rattle.policy_commands.specs.Ends.{Told}
+use Rattle.policy_commands.specs.Ends.{EndView}
 use Rattle.policy_commands.specs.Finding.{IsLongPolicy}
-use Rattle.policy_commands.specs.Policies.{HasFault, IsUnsafeText}
+use Rattle.policy_commands.specs.Policies.{HasTextFault, IsUnsafeText}
 use Rattle.policy_commands.specs.Printing.{IsPrinted, WantsMemory}
 use Rattle.request_text.specs.Replies.{log_text}
-use Rattle.core_machine.specs.Books.{AreNamed}
+use Rattle.history_laws.specs.Named.{AreNamed}
 use Rattle.connection_laws.specs.Connection.{readings_of}
 use Rattle.poll_front.specs.declared.ends.Polled.{Polled}
 use Rattle.poll_front.specs.declared.front.RunEnd.{RunEnd}
 use Rattle.poll_front.specs.declared.front.RunEnd.TheVariants.{Stopped, PortFault, Enough, Worn, Memory}
 use Rattle.poll_front.specs.Fronts.{all_acted}
-use Rattle.poll_front.specs.Tables.{RunsTo, most_links, is_worn_end, AreUnwornEnds}
+use Rattle.poll_front.specs.Tables.{RunsTo, FaultsAreLast, is_worn_end, AreUnwornEnds}
 use Rattle.poll_front.specs.Polling.{IsPolledFront}
-use Rattle.gtrbac_daemon.specs.Words.{poll_named, Refuses, Admits, IsFound, IsFailure, IsSteadyFor, HasText, LacksText}
+use Rattle.poll_front.specs.declared.front.TheConstants.{MOST_LINKS}
+use Rattle.gtrbac_daemon.specs.Words.{poll_named, Refuses, Admits, IsFound, IsAdmitFailure, IsSteadyFor, HasText, LacksText}
 use Rattle.gtrbac_daemon.specs.Daemon.{IsWritten}
 
 -- the status by why the run ended
@@ -41,13 +43,15 @@ poll_status Worn = 11
 poll_status Memory = 8
 
 -- What one pass has served: all links are told over the history, which has no other entries of it;
--- and why the run ended. It drew a turn for each entry, and at most two more for each reading
+-- and why the run ended. It drew a turn for each entry, and at most two more for each reading. No
+-- read and no write came after one of the same link that failed, and no `next` after one that failed
 pub record HasPolled (np : NamedPolicy) (birth : ℕ) (clock clock' : Option (ℕ → ℕ)) (a b : Harbour)
     (ends : List Polled) (h : List Entry) (end : RunEnd) : Type 0 where
   pub front : IsPolledFront np birth h clock clock' a b ends
   pub draws : ℕ
   pub few_draws : draws ≤ length (part 0 h) + 2 * length (readings_of (all_acted front.turns))
   pub runs : RunsTo a b draws ends end
+  pub faults : FaultsAreLast a b
 
 -- Of a safe policy, which has one model for each birth and each list of moves: a history that one
 -- thread could have made, legal in the full sense with a model that every other one agrees with,
@@ -57,12 +61,12 @@ pub record PollHeadline (np : NamedPolicy) (birth : ℕ) (clock clock' : Option 
     (ends : List Polled) (h : List Entry) (end : RunEnd) : Type 0 where
   pub safe : IsSafe np.policy.triggers
   pub one : HasOneModel np.policy
-  pub minute : birth ≤ last_minute
+  pub minute : birth ≤ LAST_MINUTE
   pub model : Model
   pub legal : Legal np.policy birth h model
   pub only : IsOnlyModel np.policy birth h model
   pub named : AreNamed np.policy h
-  pub bounded : length h ≤ max_steps
+  pub bounded : length h ≤ MAX_STEPS
   pub polled : HasPolled np birth clock clock' a b ends h end
   pub others : (n : ℕ) → 1 ≤ n → part n h ≡ []
 
@@ -80,19 +84,19 @@ pub record PollScene : Type 0 where
   pub written : Option (List ℕ)
   pub faults : ℕ
 
-abbrev pub poll_scene : Contents → ℕ → ℕ → Option (ℕ → ℕ) → Option (ℕ → ℕ) → Harbour
-    → List Polled → Option (List ℕ) → ℕ → PollScene
-poll_scene texts shelf_faults hard_faults birth clock ports ends written faults =
+abbrev pub poll_scene : Stock → Option (ℕ → ℕ) → Option (ℕ → ℕ) → Harbour
+    → List Polled → Output → PollScene
+poll_scene stock birth clock ports ends output =
     record {
-      texts = texts;
-      shelf_faults = shelf_faults;
-      hard_faults = hard_faults;
+      texts = stock.contents;
+      shelf_faults = stock.faults;
+      hard_faults = stock.hard_faults;
       birth = birth;
       clock = clock;
       ports = ports;
       ends = ends;
-      written = written;
-      faults = faults;
+      written = output.written;
+      faults = output.faults;
     }
 
 -- there was no memory, nothing was written, nobody was served, and no request's minute was read
@@ -126,7 +130,7 @@ pub record PollServes (np : NamedPolicy) (status : ℕ) (a b : PollScene) : Type
 -- something keeps the program from serving, and is printed; no clock is read, and but for what the
 -- shelf lacks it failed only where 4 is told
 pub record PollIsKept (name : Option (List ℕ)) (status : ℕ) (a b : PollScene) : Type 0 where
-  pub told : Told
+  pub told : EndView
   pub cause : Refuses (Rose a.hard_faults b.hard_faults) a.texts name told
   pub failed : told.status ≡ 4 → Rose a.shelf_faults b.shelf_faults
   pub steady : (told.status ≡ 4) ⊎ (b.hard_faults ≡ a.hard_faults)
@@ -148,7 +152,7 @@ pub record PollAnswers (name : Option (List ℕ)) (status : ℕ) (a b : PollScen
 abbrev pub AnswersFound : Admitted → ℕ → PollScene → PollScene → Type 0
 AnswersFound found status a b =
     (name : List ℕ) → IsFound (Rose a.hard_faults b.hard_faults) a.texts name found
-    → IsFailure (Rose a.shelf_faults b.shelf_faults) found
+    → IsAdmitFailure (Rose a.shelf_faults b.shelf_faults) found
     → IsSteadyFor (b.hard_faults ≡ a.hard_faults) found
     → PollAnswers (Some name) status a b
 
@@ -162,16 +166,16 @@ HasFailedToTell b = (f : Failed) × (b.ports.told ≡ Some (Err f))
 
 -- as many links were opened as may be, or a link found the pass worn
 abbrev pub IsUsedUp : PollScene → Type 0
-IsUsedUp b = (b.ports.opened ≡ most_links)
+IsUsedUp b = (b.ports.opened ≡ MOST_LINKS)
     ⊎ ((i : ℕ) × ((e : Polled) × (slice_get b.ends i ≡ Some e) × (is_worn_end e.outcome ≡ true)))
 
 module _ (name : Option (List ℕ)) (status : ℕ) (a b : PollScene) where
   -- Each status has its cause. These are all statuses
   pub data PollCause : Type 0 where
-    stopped : status ≡ 0 → HasStopped b → b.ports.opened < most_links → AreUnwornEnds b.ends
+    stopped : status ≡ 0 → HasStopped b → b.ports.opened < MOST_LINKS → AreUnwornEnds b.ends
         → PollCause
     no_command : status ≡ 1 → name ≡ None → PollCause
-    faulty : status ≡ 2 → HasText name a.texts HasFault → PollCause
+    faulty : status ≡ 2 → HasText name a.texts HasTextFault → PollCause
     unsafe : status ≡ 3 → HasText name a.texts IsUnsafeText → PollCause
     unread : status ≡ 4 → Rose a.hard_faults b.hard_faults ⊎ LacksText name a.texts
         → Rose a.shelf_faults b.shelf_faults → PollCause

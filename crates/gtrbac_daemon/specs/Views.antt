@@ -5,10 +5,11 @@ use Rattle.std.specs.declared.option.Option.{Option}
 use Rattle.gt_base.specs.declared.requests.Entry.{Entry}
 use Rattle.gt_io.specs.Causes.{Rose}
 use Rattle.gt_io.specs.Links.{Traffic, Reads}
-use Rattle.gt_io.specs.Shelf.{Contents}
+use Rattle.gt_io.specs.Streams.{Output}
+use Rattle.gt_io.specs.Shelf.{Contents, Stock}
 use Rattle.policy_words.specs.Naming.{NamedPolicy}
-use Rattle.policy_commands.specs.Ends.{Told}
-use Rattle.policy_commands.specs.Policies.{safe_in, HasFault, IsUnsafeText}
+use Rattle.policy_commands.specs.Ends.{EndView}
+use Rattle.policy_commands.specs.Policies.{safe_in, HasTextFault, IsUnsafeText}
 use Rattle.request_text.specs.Replies.{log_text}
 use Rattle.snapshot_readers.specs.declared.ends.ViewerEnd.{ViewerEnd}
 use Rattle.snapshot_readers.specs.declared.ends.ViewerEnd.TheVariants.{Fresh, Done, DoorFault, Enough, Memory}
@@ -80,8 +81,8 @@ abbrev pub views_text : NamedPolicy → ℕ → List Entry → ℕ → Option �
 views_text np birth h due late =
     if due == 14 then log_text np birth h ++ late_line late (length h) else log_text np birth h
 
--- What is seen of a run's surroundings: the texts of the shelf, how often it failed and how often of
--- these but for what it lacks, the readings of the birth's clock, crew and viewers, what was
+-- What is seen of a run's surroundings: the texts of the shelf, how often it failed and how often
+-- of these but for what it lacks, the readings of the birth's clock, crew and viewers, what was
 -- written, and how often that failed
 pub record ViewScene (L : Type 0) : Type 0 where
   pub texts : Contents
@@ -93,18 +94,18 @@ pub record ViewScene (L : Type 0) : Type 0 where
   pub written : Option (List ℕ)
   pub faults : ℕ
 
-abbrev pub view_scene : {L : Type 0} → Contents → ℕ → ℕ → Option (ℕ → ℕ) → List (Crewman L)
-    → List (Watcher L) → Option (List ℕ) → ℕ → ViewScene L
-view_scene texts shelf_faults hard_faults birth crew viewers written faults =
+abbrev pub view_scene : {L : Type 0} → Stock → Option (ℕ → ℕ) → List (Crewman L)
+    → List (Watcher L) → Output → ViewScene L
+view_scene stock birth crew viewers output =
     record {
-      texts = texts;
-      shelf_faults = shelf_faults;
-      hard_faults = hard_faults;
+      texts = stock.contents;
+      shelf_faults = stock.faults;
+      hard_faults = stock.hard_faults;
       birth = birth;
       crew = crew;
       viewers = viewers;
-      written = written;
-      faults = faults;
+      written = output.written;
+      faults = output.faults;
     }
 
 module _ {L : Type 0} where
@@ -137,7 +138,7 @@ module _ {L : Type 0} where
   -- something keeps the program from serving, and is printed; no clock is read, and but for what
   -- the shelf lacks it failed only where 4 is told
   pub record ViewIsKept (name : Option (List ℕ)) (status : ℕ) (a b : ViewScene L) : Type 0 where
-    pub told : Told
+    pub told : EndView
     pub cause : Refuses (Rose a.hard_faults b.hard_faults) a.texts name told
     pub failed : told.status ≡ 4 → Rose a.shelf_faults b.shelf_faults
     pub steady : (told.status ≡ 4) ⊎ (b.hard_faults ≡ a.hard_faults)
@@ -146,9 +147,9 @@ module _ {L : Type 0} where
     pub crew : b.crew ≡ a.crew
     pub viewers : b.viewers ≡ a.viewers
 
-  -- A run over the name that its words say, with the history that is served. It serves the policy of
-  -- that name, which is safe, from a shelf that did not fail; or it is kept from that; or there was
-  -- no memory to find out
+  -- A run over the name that its words say, with the history that is served. It serves the policy
+  -- of that name, which is safe, from a shelf that did not fail; or it is kept from that; or there
+  -- was no memory to find out
   pub record ViewAnswers (traffic : L → Traffic) (name : Option (List ℕ)) (h : List Entry)
       (status : ℕ) (a b : ViewScene L) : Type 0 where
     pub runs : ((np : NamedPolicy) × Admits a.texts name np × (b.hard_faults ≡ a.hard_faults)
@@ -222,7 +223,7 @@ module _ {L : Type 0} (name : Option (List ℕ)) (h : List Entry) (status : ℕ)
     pub data ViewCause : Type 0 where
       done : status ≡ 0 → AreDone a b → first_late h b.viewers ≡ None → ViewCause
       no_command : status ≡ 1 → name ≡ None → ViewCause
-      faulty : status ≡ 2 → HasText name a.texts HasFault → ViewCause
+      faulty : status ≡ 2 → HasText name a.texts HasTextFault → ViewCause
       unsafe : status ≡ 3 → HasText name a.texts IsUnsafeText → ViewCause
       unread : status ≡ 4 → Rose a.shelf_faults b.shelf_faults
           → Rose a.hard_faults b.hard_faults ⊎ LacksText name a.texts → ViewCause

@@ -5,13 +5,13 @@ use Rattle.gt_text.specs.Words.{begins_with}
 use Rattle.policy_words.specs.Naming.{NamedPolicy}
 use Rattle.policy_commands.specs.declared.judging.Admitted.{Admitted}
 use Rattle.policy_commands.specs.declared.judging.Admitted.TheVariants.{Safe, Ended}
-use Rattle.policy_commands.specs.Ends.{Told, told, seen_end}
-use Rattle.policy_commands.specs.Finding.{IsPolicyText, MissesText}
-use Rattle.policy_commands.specs.Policies.{safe_in, HasFault, IsUnsafeText}
+use Rattle.policy_commands.specs.Ends.{EndView, told, seen_end}
+use Rattle.policy_commands.specs.Finding.{IsStoredText, MissesText}
+use Rattle.policy_commands.specs.Policies.{safe_in, HasTextFault, IsUnsafeText}
 use Rattle.gtrbac_daemon.specs.declared.words.Mode.{Mode}
 use Rattle.gtrbac_daemon.specs.declared.words.Mode.TheVariants.{Plain, Views, Poll}
 
-abbrev pub usage : Told
+abbrev pub usage : EndView
 usage = told 1 (codes "usage: gtrbacd POLICY | views POLICY | poll POLICY\n")
 
 -- the words are one, the name of a policy, which does not begin with `-`
@@ -37,25 +37,25 @@ mode_named (verb ∷ name ∷ []) =
 mode_named _ = Plain
 
 -- the text has a fault, with status 2, or is of a policy that is not safe, with status 3
-pub record IsRefused (text : List ℕ) (t : Told) : Type 0 where
+pub record IsTextRefused (text : List ℕ) (t : EndView) : Type 0 where
   pub told_is : safe_in text ≡ Err t
-  pub cause : ((t.status ≡ 2) × HasFault text) ⊎ ((t.status ≡ 3) × IsUnsafeText text)
+  pub cause : ((t.status ≡ 2) × HasTextFault text) ⊎ ((t.status ≡ 3) × IsUnsafeText text)
 
 -- the shelf failed or has no such text, or the text is too long; or the text is refused
-abbrev pub RefusesText : Type 0 → Contents → List ℕ → Told → Type 0
+abbrev pub RefusesText : Type 0 → Contents → List ℕ → EndView → Type 0
 RefusesText hard contents name t =
     MissesText hard contents name t
-    ⊎ ((text : List ℕ) × IsPolicyText contents name text × IsRefused text t)
+    ⊎ ((text : List ℕ) × IsStoredText contents name text × IsTextRefused text t)
 
 -- what keeps the server from serving: the words come first
-abbrev pub Refuses : Type 0 → Contents → Option (List ℕ) → Told → Type 0
+abbrev pub Refuses : Type 0 → Contents → Option (List ℕ) → EndView → Type 0
 Refuses hard contents None t = t ≡ usage
 Refuses hard contents (Some name) t = RefusesText hard contents name t
 
 -- the text of the name is of a safe policy
 abbrev pub AdmitsText : Contents → List ℕ → NamedPolicy → Type 0
 AdmitsText contents name np =
-    (text : List ℕ) × IsPolicyText contents name text × (safe_in text ≡ Ok np)
+    (text : List ℕ) × IsStoredText contents name text × (safe_in text ≡ Ok np)
 
 abbrev pub Admits : Contents → Option (List ℕ) → NamedPolicy → Type 0
 Admits contents None np = ⊥
@@ -67,9 +67,9 @@ IsFound hard contents name (Safe np) = AdmitsText contents name np
 IsFound hard contents name (Ended end) = RefusesText hard contents name (seen_end end)
 
 -- what was found ends with 4 only where this holds
-abbrev pub IsFailure : Type 0 → Admitted → Type 0
-IsFailure holds (Safe np) = ⊤
-IsFailure holds (Ended end) = end.status ≡ 4 → holds
+abbrev pub IsAdmitFailure : Type 0 → Admitted → Type 0
+IsAdmitFailure holds (Safe np) = ⊤
+IsAdmitFailure holds (Ended end) = end.status ≡ 4 → holds
 
 -- this holds but where what was found ends with 4
 abbrev pub IsSteadyFor : Type 0 → Admitted → Type 0

@@ -1,7 +1,7 @@
 //! The policy that the server is to serve.
 ghost use Rattle.std.specs.Prelude.{◌≡◌, IfOk};
 ghost use Rattle.gt_io.specs.Causes.{Rose};
-ghost use Rattle.gtrbac_daemon.specs.Words.{IsFound, IsFailure, IsSteadyFor};
+ghost use Rattle.gtrbac_daemon.specs.Words.{IsFound, IsAdmitFailure, IsSteadyFor};
 
 use gt_base::Memory;
 use gt_io::Shelf;
@@ -15,12 +15,13 @@ pub(crate) fn find_policy<S: Shelf>(
     shelf: &mut S,
 ) -> Result<Admitted, Memory>
     ensures found { IfOk result
-        (IsFound (Rose (S.hard_faults shelf.old) (S.hard_faults shelf.new))
-        (S.contents shelf.old) name.now) }
-    ensures failed { IfOk result (IsFailure (Rose (S.faults shelf.old) (S.faults shelf.new))) }
+        (IsFound (Rose (S.stock shelf.old).hard_faults (S.stock shelf.new).hard_faults)
+        (S.stock shelf.old).contents name.now) }
+    ensures failed { IfOk result
+        (IsAdmitFailure (Rose (S.stock shelf.old).faults (S.stock shelf.new).faults)) }
     ensures steady { IfOk result
-        (IsSteadyFor (S.hard_faults shelf.new ≡ S.hard_faults shelf.old)) }
-    ensures same { S.contents shelf.new ≡ S.contents shelf.old }
+        (IsSteadyFor ((S.stock shelf.new).hard_faults ≡ (S.stock shelf.old).hard_faults)) }
+    ensures same { (S.stock shelf.new).contents ≡ (S.stock shelf.old).contents }
 {
     match find_text(alloc, shelf, name)? {
         Found::Text(text) => admit(alloc, &text),

@@ -1,7 +1,7 @@
 //! The one call of the polling server: from words, policy, clocks and ports to the log and the exit
 //! status.
 ghost use Rattle.std.specs.Prelude.{◌≡◌, ◌⊎◌, ◌≤◌, [], ℕ, List, Some, None, map, string_bytes, length, IfOk, OnErr};
-ghost use Rattle.gt_io.specs.Shelf.{Contents};
+ghost use Rattle.gt_io.specs.Shelf.{Stock};
 ghost use Rattle.turn_lock.specs.Holders.{newcomers};
 ghost use Rattle.turn_lock.specs.Turns.{part};
 ghost use Rattle.request_text.specs.Replies.{log_text};
@@ -12,7 +12,7 @@ ghost use Rattle.gtrbac_daemon.specs.Polls.{poll_status, HasPolled, PollHeadline
 
 use crate::finding::find_policy;
 use crate::printing::{USAGE, write_up};
-use crate::serving::{keeps, open};
+use crate::serving::open;
 use crate::words::poll_word;
 use connection_laws::Server;
 use gt_base::{Instant, List, Memory};
@@ -96,6 +96,7 @@ fn poll_from<R: Wait, P: Ports, C: Clock, G: Gate>(
         (λ t. PollHeadline safe birth (C.readings clock.old) (C.readings clock.new)
         (P.harbour ports.old) (P.harbour ports.new) ends.new.items t.0.entries t.1) }
 {
+    safe.keeps();
     let Ok(policy) = safe.policy().copied() else {
         return Err(AllocError);
     };
@@ -105,7 +106,7 @@ fn poll_from<R: Wait, P: Ports, C: Clock, G: Gate>(
     match Desk::new(means.alloc, ledger, 1) {
         Ok((desk, passes)) => {
             let (closed, end) = poll_and_close(means, &policy, desk, passes, ports, clock, ends);
-            keeps(&closed);
+            closed.keeps();
             Ok((closed, end))
         }
         Err(_) => Err(AllocError),
@@ -137,11 +138,11 @@ fn poll_serve<R: Wait, B: Clock, P: Ports, C: Clock, G: Gate, K: Sink>(
 ) -> u8
     requires none { ends.old.items ≡ [] }
     requires ports { IsUncalled (P.harbour ports.old) }
-    ensures { (texts texts' : Contents) (m m' n n' : ℕ) → PollServes safe result
-        (poll_scene texts m n (B.readings birth.old) (C.readings clock.old)
-        (P.harbour ports.old) ends.old.items (K.written out.old) (K.faults out.old))
-        (poll_scene texts' m' n' (B.readings birth.new) (C.readings clock.new)
-        (P.harbour ports.new) ends.new.items (K.written out.new) (K.faults out.new)) }
+    ensures { (stock stock' : Stock) → PollServes safe result
+        (poll_scene stock (B.readings birth.old) (C.readings clock.old)
+        (P.harbour ports.old) ends.old.items (K.output out.old))
+        (poll_scene stock' (B.readings birth.new) (C.readings clock.new)
+        (P.harbour ports.new) ends.new.items (K.output out.new)) }
 {
     let minute = birth.now();
     let Ok(mut page) = Page::new(means.alloc) else {
@@ -166,11 +167,11 @@ fn poll_found<R: Wait, B: Clock, P: Ports, C: Clock, G: Gate, K: Sink>(
 ) -> u8
     requires none { ends.old.items ≡ [] }
     requires ports { IsUncalled (P.harbour ports.old) }
-    ensures { (texts texts' : Contents) (m m' n n' : ℕ) → AnswersFound found result
-        (poll_scene texts m n (B.readings birth.old) (C.readings clock.old)
-        (P.harbour ports.old) ends.old.items (K.written out.old) (K.faults out.old))
-        (poll_scene texts' m' n' (B.readings birth.new) (C.readings clock.new)
-        (P.harbour ports.new) ends.new.items (K.written out.new) (K.faults out.new)) }
+    ensures { (stock stock' : Stock) → AnswersFound found result
+        (poll_scene stock (B.readings birth.old) (C.readings clock.old)
+        (P.harbour ports.old) ends.old.items (K.output out.old))
+        (poll_scene stock' (B.readings birth.new) (C.readings clock.new)
+        (P.harbour ports.new) ends.new.items (K.output out.new)) }
 {
     match found {
         Admitted::Safe(safe) => poll_serve(means, safe, birth, ports, clock, ends, out),
@@ -206,12 +207,10 @@ pub fn daemon_poll<R: Wait, S: Shelf, B: Clock, P: Ports, C: Clock, G: Gate, K: 
     requires none { ends.old.items ≡ [] }
     requires ports { IsUncalled (P.harbour ports.old) }
     ensures { RunsPoll (map string_bytes words.now) result
-        (poll_scene (S.contents shelf.old) (S.faults shelf.old) (S.hard_faults shelf.old)
-        (B.readings birth.old) (C.readings clock.old) (P.harbour ports.old) ends.old.items
-        (K.written out.old) (K.faults out.old))
-        (poll_scene (S.contents shelf.new) (S.faults shelf.new) (S.hard_faults shelf.new)
-        (B.readings birth.new) (C.readings clock.new) (P.harbour ports.new) ends.new.items
-        (K.written out.new) (K.faults out.new)) }
+        (poll_scene (S.stock shelf.old) (B.readings birth.old)
+        (C.readings clock.old) (P.harbour ports.old) ends.old.items (K.output out.old))
+        (poll_scene (S.stock shelf.new) (B.readings birth.new)
+        (C.readings clock.new) (P.harbour ports.new) ends.new.items (K.output out.new)) }
 {
     match poll_word(words) {
         Some(name) => match find_policy(alloc, name, shelf) {

@@ -4,6 +4,7 @@ ghost use Rattle.std.specs.Io.KnownBytes.{Appends};
 ghost use Rattle.gt_io.specs.Causes.{HasCause, AppendsPart};
 ghost use Rattle.request_text.specs.Fitting.{FitPages};
 ghost use Rattle.request_text.specs.Replies.{log_text};
+ghost use Rattle.request_text.specs.declared.entries.TheConstants.{LONGEST_ENTRY};
 ghost use Rattle.gtrbac_daemon.specs.Daemon.{or_failed, IsWritten};
 ghost use Rattle.gtrbac_daemon.specs.Pages.{IsBlank, WritesPage, text_from};
 
@@ -32,14 +33,15 @@ fn write_page<'a, K: Sink>(
     entries: &'a [Entry],
 ) -> Result<&'a [Entry], Failed>
     requires fit { FitPages policy.now.policy entries.now }
-    requires room { 33_584 ≤ page.old.spare }
+    requires room { LONGEST_ENTRY ≤ page.old.spare }
     ensures page { IfOk result
-        (λ left. WritesPage policy.now page.old page.new entries.now left.now (K.written out.old)
-        (K.written out.new)) }
+        (λ left. WritesPage policy.now page.old page.new entries.now left.now
+        (K.output out.old).written
+        (K.output out.new).written) }
     ensures part { OnErr result
-        (AppendsPart (K.written out.old) (K.written out.new)
+        (AppendsPart (K.output out.old).written (K.output out.new).written
         (text_from policy.now page.old.items entries.now)) }
-    ensures cause { HasCause (K.faults out.old) (K.faults out.new) result }
+    ensures cause { HasCause (K.output out.old).faults (K.output out.new).faults result }
 {
     let left = put_entries(page, policy, entries);
     write_all(out, page.as_slice())?;
@@ -55,14 +57,14 @@ fn write_pages<K: Sink>(
     entries: &[Entry],
 ) -> Result<(), Failed>
     requires fit { FitPages policy.now.policy entries.now }
-    requires room { 33_584 ≤ page.old.spare }
+    requires room { LONGEST_ENTRY ≤ page.old.spare }
     ensures all { OnOk result
-        (Appends (K.written out.old) (K.written out.new)
+        (Appends (K.output out.old).written (K.output out.new).written
         (text_from policy.now page.old.items entries.now)) }
     ensures part { OnErr result
-        (AppendsPart (K.written out.old) (K.written out.new)
+        (AppendsPart (K.output out.old).written (K.output out.new).written
         (text_from policy.now page.old.items entries.now)) }
-    ensures cause { HasCause (K.faults out.old) (K.faults out.new) result }
+    ensures cause { HasCause (K.output out.old).faults (K.output out.new).faults result }
 {
     let mut left = write_page(out, page, policy, entries)?;
     while !left.is_empty() {
@@ -76,9 +78,11 @@ fn write_pages<K: Sink>(
 pub(crate) fn write_up<K: Sink>(page: &mut Page, ledger: &Ledger, due: u8, out: &mut K) -> u8
     requires { IsBlank page.old }
     ensures { IsWritten due (log_text ledger.now.named ledger.now.birth ledger.now.entries) result
-        (K.written out.old) (K.written out.new) (K.faults out.old) (K.faults out.new) }
+        (K.output out.old).written (K.output out.new).written (K.output out.old).faults
+        (K.output out.new).faults }
 {
     let book = ledger.book();
+    book.keeps();
     put_birth(page, book.birth());
     match write_pages(out, page, book.policy(), book.entries().as_slice()) {
         Ok(()) => due,

@@ -2,7 +2,7 @@
 ghost use Rattle.std.specs.Prelude.{◌≡◌, ◌≤◌, ℕ, [], length, vec_capacity, All, IfOk, OnErr};
 ghost use Rattle.turn_lock.specs.Holders.{newcomers};
 ghost use Rattle.turn_lock.specs.Turns.{part};
-ghost use Rattle.core_machine.specs.Books.{SameRoot, IsBook, HasOnlyModel};
+ghost use Rattle.core_machine.specs.Books.{SameRoot};
 ghost use Rattle.snapshot_readers.specs.Ledgers.{CanBeServed};
 ghost use Rattle.gtrbac_daemon.specs.Crew.{IsNew, crewmen};
 ghost use Rattle.gtrbac_daemon.specs.Headline.{HaveWorked, Headline};
@@ -101,16 +101,6 @@ pub(crate) fn open(alloc: Global, safe: Safe, birth: Instant) -> Result<Ledger, 
     }
 }
 
-/// What a ledger keeps.
-pub(crate) fn keeps(ledger: &Ledger)
-    ensures book { IsBook ledger.now }
-    ensures only { HasOnlyModel ledger.now }
-{
-    let book = ledger.book();
-    let _entries = book.entries();
-    let _policy = book.policy();
-}
-
 /// Lets a crew serve a safe policy from its birth on. An error is want of memory before anybody has
 /// worked.
 pub(crate) fn serve_from<R: Threads + Wait + Sync, D: Door + Send, C: Clock + Send, G: Gate + Send>(
@@ -131,6 +121,7 @@ where
         (crewmen C.readings D.links D.faults crew.old.items)
         (crewmen C.readings D.links D.faults crew.new.items) closed.entries) }
 {
+    safe.keeps();
     let Ok(policy) = safe.policy().copied() else {
         return Err(AllocError);
     };
@@ -139,7 +130,7 @@ where
     };
     match serve_crew(rt, alloc, &policy, ledger, crew) {
         Ok(closed) => {
-            keeps(&closed);
+            closed.keeps();
             Ok(closed)
         }
         Err(fault) => Err(fault),

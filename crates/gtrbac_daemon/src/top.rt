@@ -1,7 +1,7 @@
 //! The one call of the server: from words, policy, clocks and links to the log and the exit status.
 ghost use Rattle.std.specs.Prelude.{◌≡◌, ◌≤◌, ℕ, List, Some, None, map, string_bytes, length, All};
 ghost use Rattle.gt_io.specs.Causes.{Rose};
-ghost use Rattle.gt_io.specs.Shelf.{Contents};
+ghost use Rattle.gt_io.specs.Shelf.{Stock};
 ghost use Rattle.gtrbac_daemon.specs.Words.{policy_named};
 ghost use Rattle.gtrbac_daemon.specs.Crew.{IsNew, crewmen};
 ghost use Rattle.gtrbac_daemon.specs.Daemon.{scene, Serves, Answers, RunsServer};
@@ -40,13 +40,11 @@ where
     D::L: Send,
     requires size { (1 ≤ length crew.old.items) × (length crew.old.items ≤ 8) }
     requires fresh { All (λ w. IsNew w) crew.old.items }
-    ensures { (texts texts' : Contents) (m m' n n' : ℕ) → Serves D.L.traffic safe result
-        (scene texts m n (B.readings birth.old)
-        (crewmen C.readings D.links D.faults crew.old.items)
-        (K.written out.old) (K.faults out.old))
-        (scene texts' m' n' (B.readings birth.new)
-        (crewmen C.readings D.links D.faults crew.new.items)
-        (K.written out.new) (K.faults out.new)) }
+    ensures { (stock stock' : Stock) → Serves D.L.traffic safe result
+        (scene stock (B.readings birth.old)
+        (crewmen C.readings D.links D.faults crew.old.items) (K.output out.old))
+        (scene stock' (B.readings birth.new)
+        (crewmen C.readings D.links D.faults crew.new.items) (K.output out.new)) }
 {
     let minute = birth.now();
     let Ok(mut page) = Page::new(alloc) else {
@@ -84,14 +82,12 @@ where
     requires size { (1 ≤ length crew.old.items) × (length crew.old.items ≤ 8) }
     requires fresh { All (λ w. IsNew w) crew.old.items }
     ensures answers { Answers D.L.traffic (Some name.now) result
-        (scene (S.contents shelf.old) (S.faults shelf.old) (S.hard_faults shelf.old)
-        (B.readings birth.old) (crewmen C.readings D.links D.faults crew.old.items)
-        (K.written out.old) (K.faults out.old))
-        (scene (S.contents shelf.new) (S.faults shelf.new) (S.hard_faults shelf.new)
-        (B.readings birth.new) (crewmen C.readings D.links D.faults crew.new.items)
-        (K.written out.new) (K.faults out.new)) }
-    ensures failed { result ≡ 4 → Rose (S.faults shelf.old) (S.faults shelf.new) }
-    ensures same { S.contents shelf.new ≡ S.contents shelf.old }
+        (scene (S.stock shelf.old) (B.readings birth.old)
+        (crewmen C.readings D.links D.faults crew.old.items) (K.output out.old))
+        (scene (S.stock shelf.new) (B.readings birth.new)
+        (crewmen C.readings D.links D.faults crew.new.items) (K.output out.new)) }
+    ensures failed { result ≡ 4 → Rose (S.stock shelf.old).faults (S.stock shelf.new).faults }
+    ensures same { (S.stock shelf.new).contents ≡ (S.stock shelf.old).contents }
 {
     match find_policy(alloc, name, shelf) {
         Ok(found) => match found {
@@ -142,12 +138,10 @@ where
     requires size { (1 ≤ length crew.old.items) × (length crew.old.items ≤ 8) }
     requires fresh { All (λ w. IsNew w) crew.old.items }
     ensures runs { RunsServer D.L.traffic (map string_bytes words.now) result
-        (scene (S.contents shelf.old) (S.faults shelf.old) (S.hard_faults shelf.old)
-        (B.readings birth.old) (crewmen C.readings D.links D.faults crew.old.items)
-        (K.written out.old) (K.faults out.old))
-        (scene (S.contents shelf.new) (S.faults shelf.new) (S.hard_faults shelf.new)
-        (B.readings birth.new) (crewmen C.readings D.links D.faults crew.new.items)
-        (K.written out.new) (K.faults out.new)) }
+        (scene (S.stock shelf.old) (B.readings birth.old)
+        (crewmen C.readings D.links D.faults crew.old.items) (K.output out.old))
+        (scene (S.stock shelf.new) (B.readings birth.new)
+        (crewmen C.readings D.links D.faults crew.new.items) (K.output out.new)) }
     ensures unread { policy_named (map string_bytes words.now) ≡ None
         → (shelf.new ≡ shelf.old) × (birth.new ≡ birth.old) × (crew.new ≡ crew.old) }
 {

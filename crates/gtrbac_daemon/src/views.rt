@@ -2,7 +2,7 @@
 //! exit status.
 ghost use Rattle.std.specs.Prelude.{◌≡◌, ◌≤◌, ℕ, List, None, map, string_bytes, length, All};
 ghost use Rattle.gt_base.specs.declared.requests.Entry.{Entry};
-ghost use Rattle.gt_io.specs.Shelf.{Contents};
+ghost use Rattle.gt_io.specs.Shelf.{Stock};
 ghost use Rattle.snapshot_readers.specs.Seats.{watchers, IsNewViewer};
 ghost use Rattle.gtrbac_daemon.specs.Crew.{IsNew, crewmen};
 ghost use Rattle.gtrbac_daemon.specs.Views.{view_scene, ViewServes, RunsViews};
@@ -47,14 +47,14 @@ where
     requires fresh { All (λ w. IsNew w) crew.old.items }
     requires few { (1 ≤ length viewers.old.items) × (length viewers.old.items ≤ 8) }
     requires new { All (λ v. IsNewViewer v) viewers.old.items }
-    ensures { (texts texts' : Contents) (m n m' n' : ℕ) → (h : List Entry)
+    ensures { (stock stock' : Stock) → (h : List Entry)
         × ViewServes D.L.traffic safe h result
-        (view_scene texts m n (B.readings birth.old)
+        (view_scene stock (B.readings birth.old)
         (crewmen C.readings D.links D.faults crew.old.items)
-        (watchers D.links D.faults viewers.old.items) (K.written out.old) (K.faults out.old))
-        (view_scene texts' m' n' (B.readings birth.new)
+        (watchers D.links D.faults viewers.old.items) (K.output out.old))
+        (view_scene stock' (B.readings birth.new)
         (crewmen C.readings D.links D.faults crew.new.items)
-        (watchers D.links D.faults viewers.new.items) (K.written out.new) (K.faults out.new)) }
+        (watchers D.links D.faults viewers.new.items) (K.output out.new)) }
 {
     let minute = birth.now();
     let Ok(mut page) = Page::new(alloc) else {
@@ -71,12 +71,12 @@ where
     }
 }
 
-/// Serves the policy that the words name, on the shelf, with a crew as `daemon` does and with 1 to 8
-/// viewers that have not begun, each with its door and its gate, all at the same time, until each of
-/// them has ended. A viewer answers the requests that change nothing, without a turn: each reply is
-/// that of a beginning of the history, which the viewer records as a number of entries. Its birth is
-/// the one reading of the clock `birth`. Then it writes the log of the history. Crew and viewers
-/// have what each served, and how it ended. It answers the exit status, as `daemon` does:
+/// Serves the policy that the words name, on the shelf, with a crew as `daemon` does and with 1 to
+/// 8 viewers that have not begun, each with its door and its gate, all at the same time, until each
+/// of them has ended. A viewer answers the requests that change nothing, without a turn: each reply
+/// is that of a beginning of the history, which the viewer records as a number of entries. Its
+/// birth is the one reading of the clock `birth`. Then it writes the log of the history. Crew and
+/// viewers have what each served, and how it ended. It answers the exit status, as `daemon` does:
 ///
 /// - 0: the door of each worker and each viewer has no link left, and the log is written;
 /// - 1: the words are not `views POLICY`, and the usage line was printed;
@@ -114,12 +114,12 @@ where
     requires few { (1 ≤ length viewers.old.items) × (length viewers.old.items ≤ 8) }
     requires new { All (λ v. IsNewViewer v) viewers.old.items }
     ensures runs { RunsViews D.L.traffic (map string_bytes words.now) result
-        (view_scene (S.contents shelf.old) (S.faults shelf.old) (S.hard_faults shelf.old)
-        (B.readings birth.old) (crewmen C.readings D.links D.faults crew.old.items)
-        (watchers D.links D.faults viewers.old.items) (K.written out.old) (K.faults out.old))
-        (view_scene (S.contents shelf.new) (S.faults shelf.new) (S.hard_faults shelf.new)
-        (B.readings birth.new) (crewmen C.readings D.links D.faults crew.new.items)
-        (watchers D.links D.faults viewers.new.items) (K.written out.new) (K.faults out.new)) }
+        (view_scene (S.stock shelf.old) (B.readings birth.old)
+        (crewmen C.readings D.links D.faults crew.old.items)
+        (watchers D.links D.faults viewers.old.items) (K.output out.old))
+        (view_scene (S.stock shelf.new) (B.readings birth.new)
+        (crewmen C.readings D.links D.faults crew.new.items)
+        (watchers D.links D.faults viewers.new.items) (K.output out.new)) }
     ensures unread { views_named (map string_bytes words.now) ≡ None
         → (shelf.new ≡ shelf.old) × (birth.new ≡ birth.old) × (crew.new ≡ crew.old)
         × (viewers.new ≡ viewers.old) }

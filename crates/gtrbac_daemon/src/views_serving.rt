@@ -5,19 +5,19 @@ ghost use Rattle.turn_lock.specs.Holders.{site_of, newcomers};
 ghost use Rattle.turn_lock.specs.Turns.{part};
 ghost use Rattle.connection_laws.specs.Turns.{IsIdle};
 ghost use Rattle.connection_laws.specs.Connection.{IsTimed};
-ghost use Rattle.connection_laws.specs.Desks.{AreNamed, RepliesCanBeTold};
+ghost use Rattle.connection_laws.specs.Desks.{MayBeAsked, RepliesCanBeTold};
 ghost use Rattle.core_machine.specs.Books.{SameRoot};
 ghost use Rattle.snapshot_readers.specs.Ledgers.{CanBeServed};
 ghost use Rattle.snapshot_readers.specs.Glazed.{fresh_glass};
 ghost use Rattle.connection_laws.specs.Services.{service_at};
 ghost use Rattle.line_server.specs.Working.{at_post, HasWorked};
 ghost use Rattle.snapshot_readers.specs.Viewing.{GlancesCanBeTold};
-ghost use Rattle.snapshot_readers.specs.Seats.{watchers, AreTold, HasLooked, HasSettled, HaveViewed, IsNewViewer, IsReady};
+ghost use Rattle.snapshot_readers.specs.Seats.{watchers, AreTold, HasLooked, HasSettled, HaveViewed, IsNewViewer, IsReadySeat};
 ghost use Rattle.gtrbac_daemon.specs.Crew.{IsNew, crewmen};
 ghost use Rattle.gtrbac_daemon.specs.Headline.{HaveWorked, Headline};
 
 use crate::crews::{man, relieve};
-use crate::serving::{keeps, open};
+use crate::serving::open;
 use crate::tasks::both;
 use core_machine::Book;
 use gt_base::{Instant, Machine, Memory};
@@ -76,7 +76,8 @@ fn open_board<'a, R: Wait>(
     }
 }
 
-/// Lets the workers work at their posts and the viewers look from their seats, all at the same time.
+/// Lets the workers work at their posts and the viewers look from their seats, all at the same
+/// time.
 fn run_both<
     R: Threads + Wait + Sync,
     M: Machine + Send,
@@ -97,9 +98,9 @@ where
         (λ p. IsIdle (site_of desk.now) p.pass × (p.worker.outcome ≡ WorkEnd.Fresh)
         × (p.worker.served.items ≡ []))
         posts.old.items }
-    requires named { AreNamed policy.now (M.named desk.now.root) }
+    requires named { MayBeAsked policy.now (M.named desk.now.root) }
     requires replies { RepliesCanBeTold policy.now (M.legal desk.now.root) }
-    requires ready { All (λ s. IsReady policy.now s) seats.old.items }
+    requires ready { All (λ s. IsReadySeat policy.now s) seats.old.items }
     ensures posts { length posts.new.items ≡ length posts.old.items }
     ensures works { (i : ℕ) (d : _) → i < length posts.old.items
         → HasWorked D.L.traffic (service_at M.list M.legal M.now_of desk.now policy.now)
@@ -116,7 +117,7 @@ where
             (λ p. IsIdle (site_of desk.now) p.pass × (p.worker.outcome ≡ WorkEnd.Fresh)
             × (p.worker.served.items ≡ []))
             posts.now.items
-            × AreNamed policy.now (M.named desk.now.root)
+            × MayBeAsked policy.now (M.named desk.now.root)
             × RepliesCanBeTold policy.now (M.legal desk.now.root) }
         ensures { (length posts.exit.now.items ≡ length posts.entry.now.items)
             × ((i : ℕ) (d : _) → i < length posts.entry.now.items
@@ -127,7 +128,7 @@ where
             (at_post C.readings D.links D.faults (slice_index_or posts.exit.now.items i d))) }
     { run_posts(rt, alloc, desk, policy, posts) };
     let look = |seats: &mut Vec<Seat<D, G>>|
-        requires { All (λ s. IsReady policy.now s) seats.now.items }
+        requires { All (λ s. IsReadySeat policy.now s) seats.now.items }
         ensures { (length seats.exit.now.items ≡ length seats.entry.now.items)
             × ((i : ℕ) (d : _) → i < length seats.entry.now.items
             → HasLooked D.links D.faults D.L.traffic policy.entry.now
@@ -137,8 +138,8 @@ where
     both(rt, &work, posts, &look, seats);
 }
 
-/// Lets the crew work at a desk, each worker with one of its passes and at one of the posts, and the
-/// viewers look from their seats, and closes the desk, which comes with its passes.
+/// Lets the crew work at a desk, each worker with one of its passes and at one of the posts, and
+/// the viewers look from their seats, and closes the desk, which comes with its passes.
 fn serve_and_close<
     R: Threads + Wait + Sync,
     M: Machine + Send,
@@ -156,14 +157,14 @@ fn serve_and_close<
 ) -> M
 where
     D::L: Send,
-    requires named { AreNamed policy.now (M.named opened.0.root) }
+    requires named { MayBeAsked policy.now (M.named opened.0.root) }
     requires replies { RepliesCanBeTold policy.now (M.legal opened.0.root) }
     requires empty { M.list opened.0.root ≡ [] }
     requires count { opened.0.passes ≡ length crew.old.items }
     requires passes { opened.1.items ≡ newcomers opened.0 [] 0 (length crew.old.items) }
     requires posts { (posts.items ≡ []) × (length crew.old.items ≤ vec_capacity posts) }
     requires fresh { All (λ w. IsNew w) crew.old.items }
-    requires ready { All (λ s. IsReady policy.now s) seats.old.items }
+    requires ready { All (λ s. IsReadySeat policy.now s) seats.old.items }
     ensures root { M.same_root opened.0.root result }
     ensures worked { (birth : ℕ) → IsTimed birth (M.legal opened.0.root) (M.now_of opened.0.root)
         → HaveWorked D.L.traffic policy.now birth (M.list result) 0
@@ -266,8 +267,9 @@ where
     }
 }
 
-/// Lets a crew and viewers serve a safe policy from its birth on. It answers the ledger, and whether
-/// each viewer's glass was told its entries. An error is want of memory before anybody was served.
+/// Lets a crew and viewers serve a safe policy from its birth on. It answers the ledger, and
+/// whether each viewer's glass was told its entries. An error is want of memory before anybody was
+/// served.
 pub(crate) fn serve_views_from<
     R: Threads + Wait + Sync,
     D: Door + Send,
@@ -301,13 +303,14 @@ where
         (watchers D.links D.faults viewers.old.items)
         (watchers D.links D.faults viewers.new.items)) }
 {
+    safe.keeps();
     let Ok(policy) = safe.policy().copied() else {
         return Err(AllocError);
     };
     let (board, glasses) = open_board(rt, alloc, safe, birth, viewers.len() as u32)?;
     match serve_at(rt, alloc, &policy, board, glasses, crew, viewers) {
         Ok((ledger, told)) => {
-            keeps(&ledger);
+            ledger.keeps();
             Ok((ledger, told))
         }
         Err(fault) => Err(fault),

@@ -62,8 +62,8 @@ fn some_viewer_spent<D: Door, G: Gate>(viewers: &[Viewer<D, G>]) -> bool
     )
 }
 
-/// The status of a crew and viewers: 8 where one lacked memory, else 10 where a door failed, else 11
-/// where one is spent, else 14 where a number is above the length of the history, else 0.
+/// The status of a crew and viewers: 8 where one lacked memory, else 10 where a door failed, else
+/// 11 where one is spent, else 14 where a number is above the length of the history, else 0.
 fn status_of_all<D: Door, C: Clock, G: Gate>(
     crew: &[Worker<D, C, G>],
     viewers: &[Viewer<D, G>],

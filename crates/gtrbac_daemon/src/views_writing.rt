@@ -32,7 +32,8 @@ fn write_late<K: Sink>(page: &mut Page, ledger: &Ledger, line: &[u8], out: &mut 
     requires { IsBlank page.old }
     ensures { IsWritten 14
         (log_text ledger.now.named ledger.now.birth ledger.now.entries ++ line.now) result
-        (K.written out.old) (K.written out.new) (K.faults out.old) (K.faults out.new) }
+        (K.output out.old).written (K.output out.new).written (K.output out.old).faults
+        (K.output out.new).faults }
 {
     let status = write_up(page, ledger, 14, out);
     if status == 14 {
@@ -56,7 +57,8 @@ pub(crate) fn write_views<K: Sink>(
     ensures { (d : ℕ) × ((d ≡ due) ⊎ (d ≡ 8))
         × IsWritten d
         (views_text ledger.now.named ledger.now.birth ledger.now.entries d late) result
-        (K.written out.old) (K.written out.new) (K.faults out.old) (K.faults out.new) }
+        (K.output out.old).written (K.output out.new).written (K.output out.old).faults
+        (K.output out.new).faults }
 {
     match late {
         Some(n) if due == 14 => {

@@ -1,13 +1,29 @@
 -- The days on which months begin.
-use Rattle.std.proofs.Common.{◌≡◌, ℕ, ◌+◌, ◌*◌, ◌/◌, ◌%◌, ◌<◌, ◌≤◌, cond, ◌&&◌, nat_lt, refl, arith, inl, inr}
+use Rattle.std.proofs.Common.{◌≡◌, ℕ, zero, suc, ◌+◌, ◌*◌, ◌/◌, ◌%◌, ◌<◌, ◌≤◌, cond, ◌&&◌, nat_lt, refl, arith, inl, inr}
 use Rattle.std.proofs.lemmas.Bool.Decides.{nat_tests}
 use Rattle.std.proofs.lemmas.Bool.{cases_lt}
 use Rattle.gtrbac_model.specs.Calendar.{is_leap, day_of_year, days_before_month, day_of_month}
 use Rattle.gtrbac_model.proofs.Years.{year_bounds, next_year, year_cycle, leap}
 
+-- the table, as tests
+pub by_tests : (m : ℕ) → m < 12 → days_before_month m ≡ cond (nat_lt m 1) 0 (cond (nat_lt m 2) 31 (cond (nat_lt m 3) 59 (cond (nat_lt m 4) 90 (cond (nat_lt m 5) 120 (cond (nat_lt m 6) 151 (cond (nat_lt m 7) 181 (cond (nat_lt m 8) 212 (cond (nat_lt m 9) 243 (cond (nat_lt m 10) 273 (cond (nat_lt m 11) 304 334))))))))))
+by_tests zero h = refl
+by_tests (suc zero) h = refl
+by_tests (suc (suc zero)) h = refl
+by_tests (suc (suc (suc zero))) h = refl
+by_tests (suc (suc (suc (suc zero)))) h = refl
+by_tests (suc (suc (suc (suc (suc zero))))) h = refl
+by_tests (suc (suc (suc (suc (suc (suc zero)))))) h = refl
+by_tests (suc (suc (suc (suc (suc (suc (suc zero))))))) h = refl
+by_tests (suc (suc (suc (suc (suc (suc (suc (suc zero)))))))) h = refl
+by_tests (suc (suc (suc (suc (suc (suc (suc (suc (suc zero))))))))) h = refl
+by_tests (suc (suc (suc (suc (suc (suc (suc (suc (suc (suc zero)))))))))) h = refl
+by_tests (suc (suc (suc (suc (suc (suc (suc (suc (suc (suc (suc zero))))))))))) h = refl
+by_tests (suc (suc (suc (suc (suc (suc (suc (suc (suc (suc (suc (suc n)))))))))))) h = absurd (omega arith)
+
 -- 30.436875 days a month, with three days less or one more
 pub table_bounds : (r : ℕ) → r < 12 → (146_097 * r ≤ 4800 * days_before_month r + 10_560) × (4800 * days_before_month r ≤ 146_097 * r + 2736)
-table_bounds r h = grind (arith, nat_tests)
+table_bounds r h = rw (by_tests r h) (grind (arith, nat_tests))
 
 pub month_bounds : (k : ℕ) → (146_097 * k ≤ 4800 * day_of_month k + 15_360) × (4800 * day_of_month k ≤ 146_097 * k + 15_936)
 month_bounds k =
@@ -31,11 +47,11 @@ month_days-zero y = grind arith
 
 month_days-rise : (y r : ℕ) → r < 11 → month_days y r < month_days y (r + 1)
 unfolding month_days
-month_days-rise y r h = grind (arith, nat_tests)
+month_days-rise y r h = rw (by_tests r (omega arith), by_tests (r + 1) (omega arith)) (grind (arith, nat_tests))
 
 month_days-end : (y r : ℕ) → r < 12 → month_days y r < 365 + leap y
 unfolding month_days
-month_days-end y r h = grind (arith, nat_tests)
+month_days-end y r h = rw (by_tests r h) (grind (arith, nat_tests))
 
 leap_cycle : (y : ℕ) → is_leap (y + 400) ≡ is_leap y
 leap_cycle y = grind (arith, nat_tests)

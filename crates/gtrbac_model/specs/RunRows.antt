@@ -1,5 +1,5 @@
 -- Worked rows of whole histories: bases, signals, drops, charges and replies.
-use Rattle.std.specs.Prelude.{◌≡◌, ℕ, Bool, true, false, not, nat_eq, List, [], ◌∷◌, Some, None, length, nat_le, if◌then◌else◌}
+use Rattle.std.specs.Prelude.{◌≡◌, ℕ, Bool, true, false, not, ◌&&◌, nat_eq, List, [], ◌∷◌, Some, None, length, nat_le, if◌then◌else◌}
 use Rattle.gt_base.specs.declared.events.SessionId.{SessionId}
 use Rattle.gt_base.specs.declared.events.Fluent.TheVariants.{Enabled, Assigned, Granted, Limit, Edge}
 use Rattle.gt_base.specs.declared.events.Prioritised.{Prioritised}
@@ -179,11 +179,10 @@ limited = record {
 }
 
 abbrev pub busy_model : Model
-busy_model t = elim (inside busy t) [
-  | true ↦ elim (nat_le 13_681_929 t)
-      [ true ↦ events (at 60 (on 0) ∷ at 40 (off 0) ∷ []) | false ↦ events (at 60 (on 0) ∷ []) ]
-  | false ↦ elim (nat_eq t 13_681_940) [ true ↦ events (at 40 (off 0) ∷ []) | false ↦ nothing ]
-]
+busy_model t =
+    if inside busy t && nat_le 13_681_929 t then events (at 60 (on 0) ∷ at 40 (off 0) ∷ [])
+    else if inside busy t then events (at 60 (on 0) ∷ [])
+    else if nat_eq t 13_681_940 then events (at 40 (off 0) ∷ []) else nothing
 
 -- the day after, past a tick of 958 minutes that stirs nothing
 abbrev pub next_day : List Entry

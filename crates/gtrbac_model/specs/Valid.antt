@@ -1,7 +1,7 @@
 -- Which expressions and periods are valid.
 use Rattle.std.specs.Prelude.{ℕ, Bool, true, false, ◌&&◌, ◌||◌, not, List, [], ◌∷◌, nat_le, nat_lt, Option, Some, None, is_some}
 use Rattle.std.specs.List.{list_all}
-use Rattle.gt_base.specs.Bounds.{last_minute}
+use Rattle.gt_base.specs.declared.limits.TheConstants.{LAST_MINUTE}
 use Rattle.gtrbac_model.specs.declared.calendars.Calendar.{Calendar}
 use Rattle.gtrbac_model.specs.declared.calendars.Calendar.TheVariants.{Years, Months, Weeks, Days, Hours, Minutes}
 use Rattle.gtrbac_model.specs.Period.{Part, Expr, Period}
@@ -60,4 +60,4 @@ abbrev pub is_expr : Expr → Bool
 is_expr e = from_all e.parts e.unit && nat_le 1 e.count && nat_le e.count 1000
 
 abbrev pub is_period : Period → Bool
-is_period p = nat_le p.first p.last && nat_le p.last last_minute && is_expr p.expr
+is_period p = nat_le p.first p.last && nat_le p.last LAST_MINUTE && is_expr p.expr

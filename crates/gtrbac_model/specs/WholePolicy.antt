@@ -1,7 +1,6 @@
 -- What every policy keeps.
 use Rattle.std.specs.Prelude.{◌≡◌, ℕ, ◌+◌, ◌-◌, ◌<◌, ◌≤◌, Bool, true, false, ◌&&◌, ◌||◌, not, List, [], ◌∷◌, ◌++◌, length, map, count_by, nat_le, nat_lt, Option, Some, None, IsTrue}
 use Rattle.std.specs.List.{list_all, list_any}
-use Rattle.gt_base.specs.Bounds.{last_minute}
 use Rattle.gt_base.specs.Held.{TriggerView}
 use Rattle.gt_base.specs.Happening.{HappenedView, nothing}
 use Rattle.gt_base.specs.Machines.{ticked}
@@ -18,6 +17,7 @@ use Rattle.gt_base.specs.declared.policies.HierEdge.{HierEdge}
 use Rattle.gt_base.specs.declared.policies.Caps.{Caps}
 use Rattle.gt_base.specs.declared.requests.Who.{Who}
 use Rattle.gt_base.specs.declared.requests.Entry.{Entry}
+use Rattle.gt_base.specs.declared.limits.TheConstants.{LAST_MINUTE, MAX_COUNT}
 use Rattle.gtrbac_model.specs.Same.{same_role}
 use Rattle.gtrbac_model.specs.Policy.{Policy}
 use Rattle.gtrbac_model.specs.Conflict.{Status, after}
@@ -50,7 +50,7 @@ module _ (p : Policy) where
   -- a limit is of 1 to 1,000,000 minutes
   abbrev pub is_limit : LimitRule → Bool
   is_limit l =
-      is_fluent l.cond.fluent && nat_le l.prio 99 && nat_le 1 l.most && nat_le l.most 1_000_000
+      is_fluent l.cond.fluent && nat_le l.prio 99 && nat_le 1 l.most && nat_le l.most MAX_COUNT
       && elim l.period [ None ↦ true | Some q ↦ nat_lt q.0 (length p.periods) ]
 
   -- an edge inherits, or activates, or both
@@ -63,7 +63,7 @@ module _ (p : Policy) where
       list_all (λ e. is_fluent e.fluent) r.events && list_all is_signal r.signals
       && list_all (λ c. is_fluent c.fluent) r.conds
       && list_all (λ c. is_fluent c.fluent) r.settled && is_head r.head
-      && nat_le r.delay last_minute
+      && nat_le r.delay LAST_MINUTE
       && nat_le (length r.events + length r.signals + length r.conds + length r.settled) 16
 
 -- the body has an event or a signal
@@ -79,7 +79,7 @@ joined_twice (e ∷ es) = list_any (joins_same e) es || joined_twice es
 
 abbrev pub is_most : Option ℕ → Bool
 is_most None = true
-is_most (Some n) = nat_le 1 n && nat_le n 1_000_000
+is_most (Some n) = nat_le 1 n && nat_le n MAX_COUNT
 
 abbrev pub are_caps : Caps → Bool
 are_caps c = is_most c.total && is_most c.user && is_most c.length && is_most c.day

@@ -5,20 +5,20 @@ use Rattle.std.specs.Io.KnownBytes.{IsAtEnd}
 use Rattle.gt_io.specs.Causes.{Rose}
 use Rattle.gt_io.specs.Shelf.{Contents}
 use Rattle.gt_text.specs.Lines.{lines_of}
-use Rattle.policy_commands.specs.Ends.{Told, seen_end}
-use Rattle.policy_commands.specs.Finding.{IsPolicyText, MissesText}
+use Rattle.policy_commands.specs.Ends.{EndView, seen_end}
+use Rattle.policy_commands.specs.Finding.{IsStoredText, MissesText}
 use Rattle.policy_commands.specs.Printing.{IsPrinted, WantsMemory}
-use Rattle.gtrbac_tool.specs.Told.{usage}
+use Rattle.gtrbac_tool.specs.EndTexts.{usage}
 use Rattle.gtrbac_tool.specs.Script.{IsRunStatus}
 use Rattle.gtrbac_tool.specs.Summary.{Gen, IsGen, GenEnds}
 use Rattle.gtrbac_tool.specs.Commands.{Command, named_by, command_of, plays_script, IsPlainRun}
 use Rattle.gtrbac_tool.specs.declared.answers.Answer.{Answer}
 use Rattle.gtrbac_tool.specs.declared.answers.Answer.TheVariants.{Ended, Script}
 use Rattle.gtrbac_tool.specs.Writing.{Prints, IsCutShort}
-use Rattle.gtrbac_tool.specs.Answers.{Gives, IsSteadyAt, IsCountedAt, IsReadAt, TellsAnswer}
+use Rattle.gtrbac_tool.specs.Answers.{GivesEnds, IsSteadyAt, IsCountedAt, IsReadAt, TellsAnswer}
 use Rattle.gtrbac_tool.specs.Ends.{TextEnds, FoundEnds, IsNoCommand, generated, unspoken, spoken}
 use Rattle.gtrbac_tool.specs.Scenes.{Scene}
-use Rattle.gtrbac_tool.specs.Causes.{perhaps, OnShelf, Short, Asks}
+use Rattle.gtrbac_tool.specs.Causes.{perhaps, OnShelf, Short, AsksForScript}
 use Rattle.gtrbac_tool.specs.Tool.{Answers, Leaves, RunsTool}
 use Rattle.gtrbac_tool.proofs.Causing.{gen_no_command, played_status, status_of}
 use Rattle.gtrbac_tool.proofs.Answering.{gives_so, counted_text}
@@ -43,7 +43,7 @@ module _ {S I : Type 0} (words : List (List ℕ)) (status : ℕ) (a : Scene S I)
         counted = λ four. absurd (other four);
       }
 
-  printed_other : (end : Told) → (end.status ≡ 4 → ⊥) → IsPrinted status end a.written w a.written_faults n → status ≡ 4 → ⊥
+  printed_other : (end : EndView) → (end.status ≡ 4 → ⊥) → IsPrinted status end a.written w a.written_faults n → status ≡ 4 → ⊥
   printed_other end other (inl p) four = other (sym p.0 ∙ four)
   printed_other end other (inr p) four = cc (p.0, four)
 
@@ -62,7 +62,7 @@ module _ {S I : Type 0} (words : List (List ℕ)) (status : ℕ) (a : Scene S I)
     gen_answers (inl wants) = inl ((λ none. none.1 g is), wants)
     gen_answers (inr h) = inr (h.0, generated g is h.1, inr (refl, refl), inl h.2)
 
-    no_four : (end : Told) → GenEnds g end → end.status ≡ 4 → ⊥
+    no_four : (end : EndView) → GenEnds g end → end.status ≡ 4 → ⊥
     no_four end ends four = let zero = gen_succeeds g is.low is.high end ends in cc (zero, four)
 
     gen_other : Prints (GenEnds g) status a.written w a.written_faults n → status ≡ 4 → ⊥
@@ -74,19 +74,19 @@ module _ {S I : Type 0} (words : List (List ℕ)) (status : ℕ) (a : Scene S I)
 
 -- a call of a command over a policy
 module _ {S I : Type 0} (words : List (List ℕ)) (c : Command) (is : command_of words ≡ Some c) (a b : Scene S I) where
-  abbrev Ending : Told → Type 0
+  abbrev Ending : EndView → Type 0
   Ending end = FoundEnds (Rose a.hard_faults b.hard_faults) (Rose a.input_faults b.input_faults) c a.texts a.script end
 
   pub starved : (status : ℕ) → WantsMemory status a.written b.written a.written_faults b.written_faults → Answers words status a b
   starved status wants = inl ((λ none. none_apart (command_of words) c none.0 is), wants)
 
-  module _ (same : b.texts ≡ a.texts) (kept : (b.input ≡ a.input) ⊎ OnShelf perhaps a.texts (Short Asks) c) where
+  module _ (same : b.texts ≡ a.texts) (kept : (b.input ≡ a.input) ⊎ OnShelf perhaps a.texts (Short AsksForScript) c) where
     leaves : (status : ℕ) → (Playing c → IsRunStatus status → IsAtEnd b.script) → (status ≡ 4 → Rose a.shelf_faults b.shelf_faults ⊎ Rose a.input_faults b.input_faults) → Leaves words status a b
     leaves status read counted =
         record {
           texts = same;
           unread = λ none. absurd (none_apart (command_of words) c none is);
-          untouched = elim kept [ inl e ↦ inl e | inr due ↦ inr (has_some (OnShelf perhaps a.texts (Short Asks)) (command_of words) c is due) ];
+          untouched = elim kept [ inl e ↦ inl e | inr due ↦ inr (has_some (OnShelf perhaps a.texts (Short AsksForScript)) (command_of words) c is due) ];
           read = λ h ran. read (subst (λ (o : Option Command). IsSomeAnd o Playing) is h) ran;
           counted = counted;
         }
@@ -128,15 +128,15 @@ module _ {S I : Type 0} (words : List (List ℕ)) (c : Command) (is : command_of
     abbrev Tells : Answer → ℕ → Type 0
     Tells answer status = TellsAnswer answer status a.written b.written a.written_faults b.written_faults
 
-    abbrev How : ℕ → Told → Type 0
+    abbrev How : ℕ → EndView → Type 0
     How status end = IsPrinted status end a.written b.written a.written_faults b.written_faults ⊎ IsCutShort status end a.written b.written a.written_faults b.written_faults
 
-    plainly : (status : ℕ) (end : Told) → IsPlainRun c → How status end
+    plainly : (status : ℕ) (end : EndView) → IsPlainRun c → How status end
         → IsPrinted status end a.written b.written a.written_faults b.written_faults ⊎ (IsSomeAnd (command_of words) IsPlainRun × IsCutShort status end a.written b.written a.written_faults b.written_faults)
     plainly status end plain (inl printed) = inl printed
     plainly status end plain (inr short) = inr (has_some IsPlainRun (command_of words) c is plain, short)
 
-    pub answers : (status : ℕ) (answer : Answer) → Tells answer status → Gives (IsPlainRun c) Ending answer → IsSteadyAt SameFaults answer → Answers words status a b
+    pub answers : (status : ℕ) (answer : Answer) → Tells answer status → GivesEnds (IsPlainRun c) Ending answer → IsSteadyAt SameFaults answer → Answers words status a b
     answers status (Ended end) tells gives steady = inr (seen_end end, spoken c is gives, steady, inl tells)
     answers status (Script np text) tells gives steady =
         inr (tells.0, spoken c is (gives.2 tells.0 tells.1), inr steady, plainly status tells.0 gives.0 tells.2)
@@ -146,7 +146,7 @@ module _ {S I : Type 0} (words : List (List ℕ)) (c : Command) (is : command_of
     read_after status (Ended end) (inr p) read plays ran = absurd (five_run status p.0 ran)
     read_after status (Script np text) tells read plays ran = read plays
 
-    not_four : (status : ℕ) (end : Told) → IsRunStatus end.status → How status end → status ≡ 4 → ⊥
+    not_four : (status : ℕ) (end : EndView) → IsRunStatus end.status → How status end → status ≡ 4 → ⊥
     not_four status end ran (inl (inl p)) four = run_four status (subst IsRunStatus (sym p.0) ran) four
     not_four status end ran (inl (inr p)) four = five_four status p.0 four
     not_four status end ran (inr p) four = eight_four (sym p.0 ∙ four)
@@ -161,21 +161,21 @@ module _ {S I : Type 0} (words : List (List ℕ)) (c : Command) (is : command_of
 
 -- a command over what the shelf has by its name
 module _ (hard failed : Type 0) (c : Command) (texts : Contents) (input : Option (List ℕ)) (name : List ℕ) (named : name ≡ named_by c) where
-  module _ (text : List ℕ) (there : IsPolicyText texts name text) where
-    here : IsPolicyText texts (named_by c) text
-    here = subst (λ (n : List ℕ). IsPolicyText texts n text) named there
+  module _ (text : List ℕ) (there : IsStoredText texts name text) where
+    here : IsStoredText texts (named_by c) text
+    here = subst (λ (n : List ℕ). IsStoredText texts n text) named there
 
-    pub over_text : {E : Type 0} (P : Type 0) (r : Result Answer E) → IfOk r (Gives P (TextEnds failed c text input)) → IfOk r (Gives P (FoundEnds hard failed c texts input))
+    pub over_text : {E : Type 0} (P : Type 0) (r : Result Answer E) → IfOk r (GivesEnds P (TextEnds failed c text input)) → IfOk r (GivesEnds P (FoundEnds hard failed c texts input))
     over_text P r h = gives_so P P (TextEnds failed c text input) (FoundEnds hard failed c texts input) (λ p. p) (λ end ends. inr (text, here, ends)) r h
 
-    pub asked_there : (Same : Type 0) → Same ⊎ Asks c text → Same ⊎ OnShelf perhaps texts (Short Asks) c
+    pub asked_there : (Same : Type 0) → Same ⊎ AsksForScript c text → Same ⊎ OnShelf perhaps texts (Short AsksForScript) c
     asked_there Same (inl same) = inl same
-    asked_there Same (inr asks) = inr (on_shelf (Short Asks) c text texts here.found (here.short, asks))
+    asked_there Same (inr asks) = inr (on_shelf (Short AsksForScript) c text texts here.found (here.short, asks))
 
-  pub missed_ends : (end : Told) → MissesText hard texts name end → FoundEnds hard failed c texts input end
+  pub missed_ends : (end : EndView) → MissesText hard texts name end → FoundEnds hard failed c texts input end
   missed_ends end h = inl (subst (λ (n : List ℕ). MissesText hard texts n end) named h)
 
-pub missed_run : (hard : Type 0) (texts : Contents) (name : List ℕ) (end : Told) (Read : Type 0) → MissesText hard texts name end → IsRunStatus end.status → Read
+pub missed_run : (hard : Type 0) (texts : Contents) (name : List ℕ) (end : EndView) (Read : Type 0) → MissesText hard texts name end → IsRunStatus end.status → Read
 missed_run hard texts name end Read (inl m) (inl z) = let is : end.status ≡ 4 = status_of end _ m.0 in absurd (cc (is, z))
 missed_run hard texts name end Read (inl m) (inr (inl z)) = let is : end.status ≡ 4 = status_of end _ m.0 in absurd (cc (is, z))
 missed_run hard texts name end Read (inl m) (inr (inr z)) = let is : end.status ≡ 4 = status_of end _ m.0 in absurd (cc (is, z))
@@ -184,5 +184,5 @@ missed_run hard texts name end Read (inr m) (inr (inl z)) = let is : end.status 
 missed_run hard texts name end Read (inr m) (inr (inr z)) = let is : end.status ≡ 6 = status_of end _ m.0 in absurd (cc (is, z))
 
 pub text_counted : {E : Type 0} (P shelf failed : Type 0) (c : Command) (text : List ℕ) (input : Option (List ℕ)) (r : Result Answer E)
-    → IfOk r (Gives P (TextEnds failed c text input)) → IfOk r (IsCountedAt (shelf ⊎ failed))
+    → IfOk r (GivesEnds P (TextEnds failed c text input)) → IfOk r (IsCountedAt (shelf ⊎ failed))
 text_counted P shelf failed c text input r h = counted_text P (TextEnds failed c text input) (shelf ⊎ failed) (λ end four ends. inr (text_four failed input end four c text ends)) r h

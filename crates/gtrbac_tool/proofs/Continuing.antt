@@ -2,7 +2,6 @@
 use Rattle.std.proofs.Common.{◌≡◌, ℕ, zero, suc, ◌+◌, ◌-◌, ◌<◌, ◌≤◌, Bool, true, false, List, [], ◌∷◌, ◌++◌, length, map, ◌⊎◌, inl, inr, refl, sym, ◌∙◌, ap, subst, arith, append_assoc, append-nil, length-append, MatchBool}
 use Rattle.std.proofs.lemmas.Bool.{leb-true, leb-false}
 use Rattle.std.specs.Prelude.{nat_le}
-use Rattle.gt_base.specs.Bounds.{max_steps}
 use Rattle.gt_base.specs.Machines.{ticked, asked}
 use Rattle.gt_base.specs.declared.requests.Actor.{Actor}
 use Rattle.gt_base.specs.declared.requests.Request.{Request}
@@ -11,6 +10,7 @@ use Rattle.gt_base.specs.declared.requests.Who.{Who}
 use Rattle.gt_base.specs.declared.requests.Entry.{Entry}
 use Rattle.gt_base.specs.declared.requests.Step.{Step}
 use Rattle.gt_base.specs.declared.requests.Step.TheVariants.{Tick, Ask}
+use Rattle.gt_base.specs.declared.limits.TheConstants.{MAX_STEPS}
 use Rattle.gtrbac_model.specs.Policy.{Policy}
 use Rattle.gtrbac_model.specs.Safety.{IsSafe}
 use Rattle.gtrbac_model.specs.Status.{Model}
@@ -82,8 +82,8 @@ pub record TicksOn (p : Policy) (birth minute : ℕ) (g : List Entry) : Type 0 w
   pub model : Model
   pub are_ticks : AreTicks minute ticks
   pub legal : Legal p birth (g ++ ticks) model
-  pub short : length (g ++ ticks) ≤ max_steps
-  pub done : (minute ≤ now_of birth (g ++ ticks)) ⊎ ((now_of birth (g ++ ticks) < minute) × (length (g ++ ticks) ≡ max_steps))
+  pub short : length (g ++ ticks) ≤ MAX_STEPS
+  pub done : (minute ≤ now_of birth (g ++ ticks)) ⊎ ((now_of birth (g ++ ticks) < minute) × (length (g ++ ticks) ≡ MAX_STEPS))
 
 module _ (p : Policy) (birth : ℕ) where
   pub record Next (g : List Entry) (q : Move) : Type 0 where
@@ -118,7 +118,7 @@ module _ (p : Policy) (birth : ℕ) where
         let is = by_ask actor request e.entry.who e.entry.what e.who e.what in
         (is.0, e.model, subst (λ (x : Entry). Legal p birth (g ++ x ∷ []) e.model) is.1 e.legal)
 
-    none_yet : (minute : ℕ) (g : List Entry) (m : Model) → Legal p birth g m → length g ≤ max_steps → (minute ≤ now_of birth g) ⊎ ((now_of birth g < minute) × (length g ≡ max_steps)) → TicksOn p birth minute g
+    none_yet : (minute : ℕ) (g : List Entry) (m : Model) → Legal p birth g m → length g ≤ MAX_STEPS → (minute ≤ now_of birth g) ⊎ ((now_of birth g < minute) × (length g ≡ MAX_STEPS)) → TicksOn p birth minute g
     none_yet minute g m legal short done =
         let same : g ≡ g ++ [] = sym (append-nil g) in
         record {
@@ -126,8 +126,8 @@ module _ (p : Policy) (birth : ℕ) where
           model = m;
           are_ticks = tt;
           legal = subst (λ (k : List Entry). Legal p birth k m) same legal;
-          short = subst (λ (k : List Entry). length k ≤ max_steps) same short;
-          done = subst (λ (k : List Entry). (minute ≤ now_of birth k) ⊎ ((now_of birth k < minute) × (length k ≡ max_steps))) same done;
+          short = subst (λ (k : List Entry). length k ≤ MAX_STEPS) same short;
+          done = subst (λ (k : List Entry). (minute ≤ now_of birth k) ⊎ ((now_of birth k < minute) × (length k ≡ MAX_STEPS))) same done;
         }
 
     one_more : (minute : ℕ) (g : List Entry) (e : Entry) → ((to : ℕ) × (e ≡ ticked scripts_who minute to)) → TicksOn p birth minute (g ++ e ∷ []) → TicksOn p birth minute g
@@ -138,11 +138,11 @@ module _ (p : Policy) (birth : ℕ) where
           model = on.model;
           are_ticks = (is, on.are_ticks);
           legal = subst (λ (k : List Entry). Legal p birth k on.model) same on.legal;
-          short = subst (λ (k : List Entry). length k ≤ max_steps) same on.short;
-          done = subst (λ (k : List Entry). (minute ≤ now_of birth k) ⊎ ((now_of birth k < minute) × (length k ≡ max_steps))) same on.done;
+          short = subst (λ (k : List Entry). length k ≤ MAX_STEPS) same on.short;
+          done = subst (λ (k : List Entry). (minute ≤ now_of birth k) ⊎ ((now_of birth k < minute) × (length k ≡ MAX_STEPS))) same on.done;
         }
 
-    ticks_on : (minute k : ℕ) (g : List Entry) (m : Model) → Legal p birth g m → length g + k ≡ max_steps → TicksOn p birth minute g
+    ticks_on : (minute k : ℕ) (g : List Entry) (m : Model) → Legal p birth g m → length g + k ≡ MAX_STEPS → TicksOn p birth minute g
     ticks_on minute zero g m legal room =
         split (nat_le minute (now_of birth g))
         (λ there. none_yet minute g m legal (omega (arith, room)) (inl (leb-true minute (now_of birth g) there)))
@@ -155,7 +155,7 @@ module _ (p : Policy) (birth : ℕ) where
         one_more minute g e.entry (by_tick minute e.entry.who e.entry.what e.who e.what)
         (ticks_on minute k (g ++ e.entry ∷ []) e.model e.legal (omega (arith, room, length-append g (e.entry ∷ [])))))
 
-pub ticks_go_on : (p : Policy) (birth : ℕ) → IsSafe p.triggers → (minute : ℕ) (g : List Entry) (m : Model) → Legal p birth g m → length g ≤ max_steps → TicksOn p birth minute g
+pub ticks_go_on : (p : Policy) (birth : ℕ) → IsSafe p.triggers → (minute : ℕ) (g : List Entry) (m : Model) → Legal p birth g m → length g ≤ MAX_STEPS → TicksOn p birth minute g
 ticks_go_on p birth safe minute g m legal short =
-    let k : ℕ = max_steps - length g in
+    let k : ℕ = MAX_STEPS - length g in
     ticks_on p birth safe minute k g m legal (omega (arith, short))

@@ -8,17 +8,18 @@ use Rattle.gtrbac_model.specs.Safety.{IsSafe, the_cycle}
 use Rattle.walk_laws.proofs.Closing.{tells}
 use Rattle.policy_words.specs.Naming.{NamedPolicy}
 use Rattle.policy_words.specs.PolicyRead.{PolicyFault, policy_read}
-use Rattle.policy_commands.specs.Ends.{Told, told}
-use Rattle.policy_commands.specs.Finding.{max_policy, IsLongPolicy, IsPolicyText, MissesText}
+use Rattle.policy_commands.specs.Ends.{EndView, told}
+use Rattle.policy_commands.specs.Finding.{IsLongPolicy, IsStoredText, MissesText}
 use Rattle.policy_commands.specs.Printing.{IsPrinted}
-use Rattle.policy_commands.specs.Policies.{read_or_told, policy_in, safe_or_told, judged, judged_or_told, safe_in, HasFault, IsUnsafeText}
+use Rattle.policy_commands.specs.Policies.{read_or_told, policy_in, safe_or_told, judged, judged_or_told, safe_in, HasTextFault, IsUnsafeText}
 use Rattle.policy_commands.specs.Commands.{laid_or_told, fmt_end, safe_or_end, check_end}
 use Rattle.policy_commands.specs.Meanings.{IsSafeText}
 use Rattle.policy_commands.proofs.Answered.{safe_means, unsafe_means, fault_means, fmt_fault_means}
+use Rattle.policy_commands.specs.declared.finding.TheConstants.{MAX_POLICY}
 use Rattle.gtrbac_tool.specs.declared.questions.Question.{Question}
-use Rattle.gtrbac_tool.specs.declared.ahead.Asked.{Asked}
+use Rattle.gtrbac_tool.specs.declared.ahead.Inquiry.{Inquiry}
 use Rattle.gtrbac_tool.specs.Late.{asks_of}
-use Rattle.gtrbac_tool.specs.Script.{IsRunStatus, start_of, EndsFrom, max_script}
+use Rattle.gtrbac_tool.specs.Script.{IsRunStatus, start_of, EndsFrom}
 use Rattle.gtrbac_tool.specs.Meanings.{MeetsFault, MeetsFull, IsWhole, RunMeans}
 use Rattle.gtrbac_tool.specs.Summary.{Gen, IsGen}
 use Rattle.gtrbac_tool.specs.Commands.{Command, check, fmt, run, named_by, command_of, IsPlainRun}
@@ -31,9 +32,10 @@ use Rattle.gtrbac_tool.proofs.Causing.{played_status, status_of, gen_no_command}
 use Rattle.gtrbac_tool.proofs.Limits.{ran_to}
 use Rattle.gtrbac_tool.proofs.OneEnd.{means_so}
 use Rattle.gtrbac_tool.proofs.Succeeding.{gen_succeeds}
+use Rattle.gtrbac_tool.specs.declared.top.TheConstants.{MAX_SCRIPT}
 
 -- a policy that is refused ends with this status
-abbrev EndsWith : ℕ → Result NamedPolicy Told → Type 0
+abbrev EndsWith : ℕ → Result NamedPolicy EndView → Type 0
 EndsWith s (Ok np) = ⊥
 EndsWith s (Err t) = t.status ≡ s
 
@@ -51,7 +53,7 @@ module _ (text : List ℕ) where
   pub safe_found : (np : NamedPolicy) → IsSafeOf text np → safe_in text ≡ Ok np
   safe_found np s = judged_is np None s.is ((tells np.policy.triggers).0 s.safe)
 
-  fault_found : HasFault text → EndsWith 2 (safe_in text)
+  fault_found : HasTextFault text → EndsWith 2 (safe_in text)
   fault_found f = subst (EndsWith 2) (sym (safe_is (Err f.fault) f.is)) refl
 
   cycle_found : IsUnsafeText text → EndsWith 3 (safe_in text)
@@ -65,15 +67,15 @@ module _ (text : List ℕ) where
   unfolding fmt_end policy_in
   laid_found np e = ap (λ x. (laid_or_told (read_or_told x)).status) e
 
-  sort_of : (r : Result NamedPolicy PolicyFault) → policy_read text ≡ r → HasFault text ⊎ IsUnsafeText text ⊎ ((np : NamedPolicy) × IsSafeOf text np)
+  sort_of : (r : Result NamedPolicy PolicyFault) → policy_read text ≡ r → HasTextFault text ⊎ IsUnsafeText text ⊎ ((np : NamedPolicy) × IsSafeOf text np)
   sort_of (Err f) e = inl (record { fault = f; is = e })
   sort_of (Ok np) e = by (the_cycle np.policy.triggers) refl
     where
-      by : (c : Option (List ℕ)) → the_cycle np.policy.triggers ≡ c → HasFault text ⊎ IsUnsafeText text ⊎ ((q : NamedPolicy) × IsSafeOf text q)
+      by : (c : Option (List ℕ)) → the_cycle np.policy.triggers ≡ c → HasTextFault text ⊎ IsUnsafeText text ⊎ ((q : NamedPolicy) × IsSafeOf text q)
       by None c = inr (inr (np, record { is = e; safe = (tells np.policy.triggers).1 c }))
       by (Some es) c = inr (inl (record { policy = np; is = e; unsafe = λ good. let is : Some es ≡ None = sym c ∙ (tells np.policy.triggers).0 good in cc (is) }))
 
-  pub sort : HasFault text ⊎ IsUnsafeText text ⊎ ((np : NamedPolicy) × IsSafeOf text np)
+  pub sort : HasTextFault text ⊎ IsUnsafeText text ⊎ ((np : NamedPolicy) × IsSafeOf text np)
   sort = sort_of (policy_read text) refl
 
   check_safe : (np : NamedPolicy) → safe_in text ≡ Ok np → check_end text ≡ told 0 (codes "safe\n")
@@ -84,7 +86,7 @@ module _ (text : List ℕ) where
   pub safe_text : (np : NamedPolicy) → safe_in text ≡ Ok np → IsSafeText text
   safe_text np e = (safe_means text).0 (check_safe np e)
 
-  ok_same : (np q : NamedPolicy) → ◌≡◌ {A = Result NamedPolicy Told} (Ok np) (Ok q) → np ≡ q
+  ok_same : (np q : NamedPolicy) → ◌≡◌ {A = Result NamedPolicy EndView} (Ok np) (Ok q) → np ≡ q
   ok_same np q e = cc
 
   -- and the text is of it
@@ -111,8 +113,8 @@ none_apart {A} o x e n = let no : ◌≡◌ {A = Option A} None (Some x) = sym e
 
 -- what the status of a script says
 
-module _ (np : NamedPolicy) (good : IsSafe np.policy.triggers) (script : List ℕ) (short : length script ≤ max_script) (asked : Option Asked) (end : Told) (is : PlaysTo np asked script end) where
-  ran : (ran : Told) × EndsFrom np (start_of np 1 (lines_of script)) ran × (end.status ≡ ran.status)
+module _ (np : NamedPolicy) (good : IsSafe np.policy.triggers) (script : List ℕ) (short : length script ≤ MAX_SCRIPT) (asked : Option Inquiry) (end : EndView) (is : PlaysTo np asked script end) where
+  ran : (ran : EndView) × EndsFrom np (start_of np 1 (lines_of script)) ran × (end.status ≡ ran.status)
   ran = ran_to np script short asked end is
 
   means : RunMeans np script ran.0
@@ -128,11 +130,11 @@ on_shelf Holds c text None found h = tt
 on_shelf Holds c text (Some text_of) found h = has_some (Holds c) (text_of (named_by c)) text found h
 
 -- over a text a command ends with 4 by its input alone
-module _ (failed : Type 0) (input : Option (List ℕ)) (end : Told) (four : end.status ≡ 4) where
-  played_four : (np : NamedPolicy) → IsSafe np.policy.triggers → (asked : Option Asked) (script : List ℕ) → length script ≤ max_script → PlaysTo np asked script end → failed
+module _ (failed : Type 0) (input : Option (List ℕ)) (end : EndView) (four : end.status ≡ 4) where
+  played_four : (np : NamedPolicy) → IsSafe np.policy.triggers → (asked : Option Inquiry) (script : List ℕ) → length script ≤ MAX_SCRIPT → PlaysTo np asked script end → failed
   played_four np good asked script short plays = by (one_of_three np good script short asked end plays)
     where
-      r : (q : Told) × EndsFrom np (start_of np 1 (lines_of script)) q × (end.status ≡ q.status)
+      r : (q : EndView) × EndsFrom np (start_of np 1 (lines_of script)) q × (end.status ≡ q.status)
       r = ran np good script short asked end plays
 
       by : IsRunStatus r.0.status → failed
@@ -140,7 +142,7 @@ module _ (failed : Type 0) (input : Option (List ℕ)) (end : Told) (four : end.
       by (inr (inl z)) = let e : end.status ≡ 7 = r.2 ∙ z in absurd (cc (e, four))
       by (inr (inr z)) = let e : end.status ≡ 9 = r.2 ∙ z in absurd (cc (e, four))
 
-  asked_four : (np : NamedPolicy) → IsSafe np.policy.triggers → (o : Option (Option Asked)) → AskedEnds failed np o input end → failed
+  asked_four : (np : NamedPolicy) → IsSafe np.policy.triggers → (o : Option (Option Inquiry)) → AskedEnds failed np o input end → failed
   asked_four np good None e = let is : end.status ≡ 13 = status_of end _ e in absurd (cc (is, four))
   asked_four np good (Some asked) (inl e) = e.1
   asked_four np good (Some asked) (inr (inl e)) = let is : end.status ≡ 6 = status_of end _ e.0 in absurd (cc (is, four))
@@ -151,10 +153,10 @@ module _ (failed : Type 0) (input : Option (List ℕ)) (end : Told) (four : end.
       elim (sort text) [
         | inl f ↦ refused_four 2 (λ is. cc (is, four)) (safe_in text) (fault_found text f) e
         | inr (inl u) ↦ refused_four 3 (λ is. cc (is, four)) (safe_in text) (cycle_found text u) e
-        | inr (inr s) ↦ asked_four s.0 s.1.safe (asks_of s.0 question) (subst (λ (r : Result NamedPolicy Told). JudgedEnds failed question r input end) (safe_found text s.0 s.1) e)
+        | inr (inr s) ↦ asked_four s.0 s.1.safe (asks_of s.0 question) (subst (λ (r : Result NamedPolicy EndView). JudgedEnds failed question r input end) (safe_found text s.0 s.1) e)
       ]
     where
-      refused_four : (s : ℕ) → (end.status ≡ s → ⊥) → (r : Result NamedPolicy Told) → EndsWith s r → JudgedEnds failed question r input end → failed
+      refused_four : (s : ℕ) → (end.status ≡ s → ⊥) → (r : Result NamedPolicy EndView) → EndsWith s r → JudgedEnds failed question r input end → failed
       refused_four s other (Ok np) ends is = absurd ends
       refused_four s other (Err t) ends is = absurd (other (status_of end t is ∙ ends))
 
@@ -188,28 +190,28 @@ module _ {S I : Type 0} (words : List (List ℕ)) (a b : Scene S I) where
   over : (Holds : Command → List ℕ → Type 0) (c : Command) → command_of words ≡ Some c → OnShelf perhaps a.texts Holds c → Over perhaps words a.texts Holds
   over Holds c is h = has_some (OnShelf perhaps a.texts Holds) (command_of words) c is h
 
-  of_text : (Holds : Command → List ℕ → Type 0) (c : Command) (text : List ℕ) → command_of words ≡ Some c → IsPolicyText a.texts (named_by c) text → Holds c text → Text perhaps words a.texts Holds
+  of_text : (Holds : Command → List ℕ → Type 0) (c : Command) (text : List ℕ) → command_of words ≡ Some c → IsStoredText a.texts (named_by c) text → Holds c text → Text perhaps words a.texts Holds
   of_text Holds c text is there h = over (Short Holds) c is (on_shelf (Short Holds) c text a.texts there.found (there.short, h))
 
   sees : (o : Option (List ℕ)) (script : List ℕ) (Holds : List ℕ → Type 0) → IfSome o (λ left. script ≡ left) → Holds script → Sees perhaps o Holds
   sees None script Holds is h = tt
   sees (Some left) script Holds is h = subst Holds is h
 
-  long_sees : (o : Option (List ℕ)) (np : NamedPolicy) → IfSome o (λ left. max_script < length left) → Sees perhaps o (IsLongScript np)
+  long_sees : (o : Option (List ℕ)) (np : NamedPolicy) → IfSome o (λ left. MAX_SCRIPT < length left) → Sees perhaps o (IsLongScript np)
   long_sees None np h = tt
   long_sees (Some left) np h = h
 
-  module _ (name : List ℕ) (question : Option Question) (text : List ℕ) (is : command_of words ≡ Some (run name question)) (there : IsPolicyText a.texts name text) (np : NamedPolicy) (of : IsSafeOf text np) (end : Told) where
-    over_script : (asked : Option Asked) → asks_of np question ≡ Some asked → (Holds : NamedPolicy → List ℕ → Type 0) → Sees perhaps a.script (Holds np) → Script perhaps words a.texts a.script Holds
+  module _ (name : List ℕ) (question : Option Question) (text : List ℕ) (is : command_of words ≡ Some (run name question)) (there : IsStoredText a.texts name text) (np : NamedPolicy) (of : IsSafeOf text np) (end : EndView) where
+    over_script : (asked : Option Inquiry) → asks_of np question ≡ Some asked → (Holds : NamedPolicy → List ℕ → Type 0) → Sees perhaps a.script (Holds np) → Script perhaps words a.texts a.script Holds
     over_script asked e Holds h =
         of_text (Plays (λ p o. IsSome o × Sees perhaps a.script (Holds p))) (run name question) text is there
-        (np, of, (subst (λ (o : Option (Option Asked)). IsSome o) (sym e) refl, h))
+        (np, of, (subst (λ (o : Option (Option Inquiry)). IsSome o) (sym e) refl, h))
 
-    played_cause : (asked : Option Asked) → asks_of np question ≡ Some asked → (script : List ℕ) → IfSome a.script (λ left. script ≡ left) → (short : length script ≤ max_script)
+    played_cause : (asked : Option Inquiry) → asks_of np question ≡ Some asked → (script : List ℕ) → IfSome a.script (λ left. script ≡ left) → (short : length script ≤ MAX_SCRIPT)
         → PlaysTo np asked script end → Has end.status
     played_cause asked e script same short plays = by (one_of_three np of.safe script short asked end plays)
       where
-        r : (q : Told) × EndsFrom np (start_of np 1 (lines_of script)) q × (end.status ≡ q.status)
+        r : (q : EndView) × EndsFrom np (start_of np 1 (lines_of script)) q × (end.status ≡ q.status)
         r = ran np of.safe script short asked end plays
 
         m : RunMeans np script r.0
@@ -220,23 +222,23 @@ module _ {S I : Type 0} (words : List (List ℕ)) (a b : Scene S I) where
         by (inr (inl z)) = bad_line (r.2 ∙ z) (over_script asked e (Within MeetsFault) (sees a.script script (Within MeetsFault np) same (short, m.fault.0 z)))
         by (inr (inr z)) = full (r.2 ∙ z) (over_script asked e (Within MeetsFull) (sees a.script script (Within MeetsFull np) same (short, m.full.0 z)))
 
-    asked_cause : (o : Option (Option Asked)) → asks_of np question ≡ o → AskedEnds Lost np o a.script end → Has end.status
+    asked_cause : (o : Option (Option Inquiry)) → asks_of np question ≡ o → AskedEnds Lost np o a.script end → Has end.status
     asked_cause None e ends = unknown (status_of end _ ends) (of_text (Plays (λ p o. o ≡ None)) (run name question) text is there (np, of, e))
     asked_cause (Some asked) e (inl ends) = unread (status_of end _ ends.0) (subst (λ (o : Option Command). IsSome o) (sym is) refl) (inr ends.1)
     asked_cause (Some asked) e (inr (inl ends)) = long_script (status_of end _ ends.0) (over_script asked e IsLongScript (long_sees a.script np ends.1))
     asked_cause (Some asked) e (inr (inr ends)) = played_cause asked e ends.0 ends.1 ends.2 ends.3
 
-  refused : (question : Option Question) (r : Result NamedPolicy Told) (end : Told) (s : ℕ) → EndsWith s r → JudgedEnds Lost question r a.script end → end.status ≡ s
+  refused : (question : Option Question) (r : Result NamedPolicy EndView) (end : EndView) (s : ℕ) → EndsWith s r → JudgedEnds Lost question r a.script end → end.status ≡ s
   refused question (Ok np) end s ends is = absurd ends
   refused question (Err t) end s ends is = status_of end t is ∙ ends
 
-  judged_by : (question : Option Question) (text : List ℕ) (np : NamedPolicy) (end : Told) → IsSafeOf text np → JudgedEnds Lost question (safe_in text) a.script end → AskedEnds Lost np (asks_of np question) a.script end
-  judged_by question text np end of is = subst (λ (r : Result NamedPolicy Told). JudgedEnds Lost question r a.script end) (safe_found text np of) is
+  judged_by : (question : Option Question) (text : List ℕ) (np : NamedPolicy) (end : EndView) → IsSafeOf text np → JudgedEnds Lost question (safe_in text) a.script end → AskedEnds Lost np (asks_of np question) a.script end
+  judged_by question text np end of is = subst (λ (r : Result NamedPolicy EndView). JudgedEnds Lost question r a.script end) (safe_found text np of) is
 
-  text_cause : (c : Command) (text : List ℕ) → command_of words ≡ Some c → IsPolicyText a.texts (named_by c) text → (end : Told) → TextEnds Lost c text a.script end → Has end.status
+  text_cause : (c : Command) (text : List ℕ) → command_of words ≡ Some c → IsStoredText a.texts (named_by c) text → (end : EndView) → TextEnds Lost c text a.script end → Has end.status
   text_cause (check name) text is there end ends =
       elim (sort text) [
-        | inl f ↦ faulty (status_of end _ ends ∙ (fault_means text).1 f) (of_text (λ c t. HasFault t) (check name) text is there f)
+        | inl f ↦ faulty (status_of end _ ends ∙ (fault_means text).1 f) (of_text (λ c t. HasTextFault t) (check name) text is there f)
         | inr (inl u) ↦ unsafe (status_of end _ ends ∙ (unsafe_means text).1 u) (of_text (Judges IsUnsafeText) (check name) text is there u)
         | inr (inr s) ↦
             let so : IsSafeText text = safe_text text s.0 (safe_found text s.0 s.1) in
@@ -244,18 +246,18 @@ module _ {S I : Type 0} (words : List (List ℕ)) (a b : Scene S I) where
       ]
   text_cause (fmt name) text is there end ends =
       elim (sort text) [
-        | inl f ↦ faulty (status_of end _ ends ∙ (fmt_fault_means text).1 f) (of_text (λ c t. HasFault t) (fmt name) text is there f)
+        | inl f ↦ faulty (status_of end _ ends ∙ (fmt_fault_means text).1 f) (of_text (λ c t. HasTextFault t) (fmt name) text is there f)
         | inr (inl u) ↦ laid (status_of end _ ends ∙ laid_found text u.policy u.is) (of_text (Lays HasPolicy) (fmt name) text is there (u.policy, u.is))
         | inr (inr s) ↦ laid (status_of end _ ends ∙ laid_found text s.0 s.1.is) (of_text (Lays HasPolicy) (fmt name) text is there (s.0, s.1.is))
       ]
   text_cause (run name question) text is there end ends =
       elim (sort text) [
-        | inl f ↦ faulty (refused question (safe_in text) end 2 (fault_found text f) ends) (of_text (λ c t. HasFault t) (run name question) text is there f)
+        | inl f ↦ faulty (refused question (safe_in text) end 2 (fault_found text f) ends) (of_text (λ c t. HasTextFault t) (run name question) text is there f)
         | inr (inl u) ↦ unsafe (refused question (safe_in text) end 3 (cycle_found text u) ends) (of_text (Judges IsUnsafeText) (run name question) text is there u)
         | inr (inr s) ↦ asked_cause name question text is there s.0 s.1 end (asks_of s.0 question) refl (judged_by question text s.0 end s.1 ends)
       ]
 
-  found_cause : (c : Command) → command_of words ≡ Some c → (end : Told) → FoundEnds Hard Lost c a.texts a.script end → Has end.status
+  found_cause : (c : Command) → command_of words ≡ Some c → (end : EndView) → FoundEnds Hard Lost c a.texts a.script end → Has end.status
   found_cause c is end (inl (inl m)) =
       elim m.1 [
         | inl rose ↦ unread (status_of end _ m.0) (subst (λ (o : Option Command). IsSome o) (sym is) refl) (inl rose)
@@ -264,7 +266,7 @@ module _ {S I : Type 0} (words : List (List ℕ)) (a b : Scene S I) where
   found_cause c is end (inl (inr m)) = long_policy (status_of end _ m.0) (over IsTooLong c is m.1)
   found_cause c is end (inr m) = text_cause c m.0 is m.1 end m.2
 
-  end_cause : (end : Told) → WordsEnd Hard Lost words a.texts a.script end → Has end.status
+  end_cause : (end : EndView) → WordsEnd Hard Lost words a.texts a.script end → Has end.status
   end_cause end (generated g is ends) = made (gen_succeeds g is.low is.high end ends) g is
   end_cause end (unspoken none ends) = no_command (status_of end _ ends) none
   end_cause end (spoken c is ends) = found_cause c is end ends
@@ -280,7 +282,7 @@ module _ {S I : Type 0} (words : List (List ℕ)) (a b : Scene S I) where
 
   -- and a cause its status
 
-  abbrev pub Fits : ℕ → Told → Type 0
+  abbrev pub Fits : ℕ → EndView → Type 0
   Fits s end = (end.status ≡ s) ⊎ ((end.status ≡ 4) × (Hard ⊎ Lost))
 
   -- over a text that the shelf surely has
@@ -301,9 +303,9 @@ module _ {S I : Type 0} (words : List (List ℕ)) (a b : Scene S I) where
       record { command = one.0; is = one.1; text_of = two.0; told = two.1; text = three.0; found = three.1; holds = three.2 }
 
   -- the command ends over this text, or it is too long, or the shelf failed
-  module _ (Holds : Command → List ℕ → Type 0) (t : At Holds) (end : Told) where
+  module _ (Holds : Command → List ℕ → Type 0) (t : At Holds) (end : EndView) where
     abbrev Ending : Type 0
-    Ending = ((end.status ≡ 4) × Hard) ⊎ ((end.status ≡ 6) × (max_policy < length t.text)) ⊎ ((length t.text ≤ max_policy) × TextEnds Lost t.command t.text a.script end)
+    Ending = ((end.status ≡ 4) × Hard) ⊎ ((end.status ≡ 6) × (MAX_POLICY < length t.text)) ⊎ ((length t.text ≤ MAX_POLICY) × TextEnds Lost t.command t.text a.script end)
 
     missed : MissesText Hard a.texts (named_by t.command) end → Ending
     missed (inl (m, inl rose)) = inl (status_of end _ m, rose)
@@ -314,11 +316,11 @@ module _ {S I : Type 0} (words : List (List ℕ)) (a b : Scene S I) where
         let here : IsSomeAnd (t.text_of (named_by t.command)) IsLongPolicy = subst (λ (o : Contents). IfSome o (λ text_of. IsSomeAnd (text_of (named_by t.command)) IsLongPolicy)) t.told long in
         inr (inl (status_of end _ m, subst (λ (o : Option (List ℕ)). IsSomeAnd o IsLongPolicy) t.found here))
 
-    over_it : (text : List ℕ) → IsPolicyText a.texts (named_by t.command) text → TextEnds Lost t.command text a.script end → Ending
+    over_it : (text : List ℕ) → IsStoredText a.texts (named_by t.command) text → TextEnds Lost t.command text a.script end → Ending
     over_it text there ends =
         let here : t.text_of (named_by t.command) ≡ Some text = subst (λ (o : Contents). IfSome o (λ text_of. text_of (named_by t.command) ≡ Some text)) t.told there.found in
         let same : text ≡ t.text = one_some (t.text_of (named_by t.command)) text t.text here t.found in
-        inr (inr (subst (λ (x : List ℕ). length x ≤ max_policy) same there.short, subst (λ (x : List ℕ). TextEnds Lost t.command x a.script end) same ends))
+        inr (inr (subst (λ (x : List ℕ). length x ≤ MAX_POLICY) same there.short, subst (λ (x : List ℕ). TextEnds Lost t.command x a.script end) same ends))
 
     of_found : FoundEnds Hard Lost t.command a.texts a.script end → Ending
     of_found (inl m) = missed m
@@ -329,7 +331,7 @@ module _ {S I : Type 0} (words : List (List ℕ)) (a b : Scene S I) where
     ending (unspoken none ends) = absurd (none_apart (command_of words) t.command none.0 t.is)
     ending (spoken c is ends) = of_found (subst (λ (k : Command). FoundEnds Hard Lost k a.texts a.script end) (one_some (command_of words) c t.command is t.is) ends)
 
-  module _ (end : Told) (ends : WordsEnd Hard Lost words a.texts a.script end) where
+  module _ (end : EndView) (ends : WordsEnd Hard Lost words a.texts a.script end) where
     -- of a text that is not too long
     pub text_fits : (s : ℕ) (Holds : Command → List ℕ → Type 0) → ((c : Command) (text : List ℕ) → Holds c text → TextEnds Lost c text a.script end → Fits s end) → Text surely words a.texts Holds → Fits s end
     text_fits s Holds so h = by (ending (Short Holds) t end ends)
@@ -363,7 +365,7 @@ module _ {S I : Type 0} (words : List (List ℕ)) (a b : Scene S I) where
     lays_fits (fmt name) text h e = inl (status_of end _ e ∙ laid_found text h.0 h.1)
     lays_fits (run name question) text h e = absurd h
 
-    fault_fits : (c : Command) (text : List ℕ) → HasFault text → TextEnds Lost c text a.script end → Fits 2 end
+    fault_fits : (c : Command) (text : List ℕ) → HasTextFault text → TextEnds Lost c text a.script end → Fits 2 end
     fault_fits (check name) text h e = inl (status_of end _ e ∙ (fault_means text).1 h)
     fault_fits (fmt name) text h e = inl (status_of end _ e ∙ (fmt_fault_means text).1 h)
     fault_fits (run name question) text h e = inl (refused question (safe_in text) end 2 (fault_found text h) e)
@@ -373,7 +375,7 @@ module _ {S I : Type 0} (words : List (List ℕ)) (a b : Scene S I) where
     judges_fits (fmt name) text h e = absurd h
     judges_fits (run name question) text h e = inl (refused question (safe_in text) end 3 (cycle_found text h) e)
 
-    none_asked : (np : NamedPolicy) (o : Option (Option Asked)) → o ≡ None → AskedEnds Lost np o a.script end → Fits 13 end
+    none_asked : (np : NamedPolicy) (o : Option (Option Inquiry)) → o ≡ None → AskedEnds Lost np o a.script end → Fits 13 end
     none_asked np None e is = inl (status_of end _ is)
     none_asked np (Some asked) e is = absurd (cc (e))
 
@@ -385,16 +387,16 @@ module _ {S I : Type 0} (words : List (List ℕ)) (a b : Scene S I) where
     -- of a script that the input surely has
     module _ (np : NamedPolicy) (left : List ℕ) (told : a.script ≡ Some left) where
       abbrev pub Played : Type 0
-      Played = ((end.status ≡ 4) × Lost) ⊎ ((end.status ≡ 6) × (max_script < length left)) ⊎ ((asked : Option Asked) × (length left ≤ max_script) × PlaysTo np asked left end)
+      Played = ((end.status ≡ 4) × Lost) ⊎ ((end.status ≡ 6) × (MAX_SCRIPT < length left)) ⊎ ((asked : Option Inquiry) × (length left ≤ MAX_SCRIPT) × PlaysTo np asked left end)
 
-      script_ends : (asked : Option Asked) → ScriptEnds Lost np asked a.script end → Played
+      script_ends : (asked : Option Inquiry) → ScriptEnds Lost np asked a.script end → Played
       script_ends asked (inl e) = inl (status_of end _ e.0, e.1)
-      script_ends asked (inr (inl e)) = inr (inl (status_of end _ e.0, subst (λ (o : Option (List ℕ)). IfSome o (λ x. max_script < length x)) told e.1))
+      script_ends asked (inr (inl e)) = inr (inl (status_of end _ e.0, subst (λ (o : Option (List ℕ)). IfSome o (λ x. MAX_SCRIPT < length x)) told e.1))
       script_ends asked (inr (inr e)) =
           let same : e.0 ≡ left = subst (λ (o : Option (List ℕ)). IfSome o (λ x. e.0 ≡ x)) told e.1 in
-          inr (inr (asked, subst (λ (x : List ℕ). length x ≤ max_script) same e.2, subst (λ (x : List ℕ). PlaysTo np asked x end) same e.3))
+          inr (inr (asked, subst (λ (x : List ℕ). length x ≤ MAX_SCRIPT) same e.2, subst (λ (x : List ℕ). PlaysTo np asked x end) same e.3))
 
-      some_asked : (o : Option (Option Asked)) → IsSome o → AskedEnds Lost np o a.script end → Played
+      some_asked : (o : Option (Option Inquiry)) → IsSome o → AskedEnds Lost np o a.script end → Played
       some_asked None there e = absurd (cc (there))
       some_asked (Some asked) there e = script_ends asked e
 
@@ -416,7 +418,7 @@ module _ {S I : Type 0} (words : List (List ℕ)) (a b : Scene S I) where
       long_script_fits h (inr (inl long)) = inl long.0
       long_script_fits h (inr (inr p)) = absurd (omega (arith, h, p.1))
 
-      pub within_fits : (s : ℕ) (Holds : NamedPolicy → List ℕ → Type 0) → ((other : Told) → IsRunStatus other.status → RunMeans np left other → Holds np left → other.status ≡ s) → Within Holds np left → Played np left told → Fits s end
+      pub within_fits : (s : ℕ) (Holds : NamedPolicy → List ℕ → Type 0) → ((other : EndView) → IsRunStatus other.status → RunMeans np left other → Holds np left → other.status ≡ s) → Within Holds np left → Played np left told → Fits s end
       within_fits s Holds so h (inl lost) = inr (lost.0, inr lost.1)
       within_fits s Holds so h (inr (inl long)) = absurd (omega (arith, h.0, long.1))
       within_fits s Holds so h (inr (inr p)) =
@@ -465,7 +467,7 @@ module _ {S I : Type 0} (words : List (List ℕ)) (a b : Scene S I) where
         subst (λ (n : ℕ). Fits n end) (sym z) (script_fits 0 (Within IsWhole) (λ np left told good w p. within_fits np left told good 0 IsWhole (λ o ran m. m.whole.1) w p) h)
     cause_fits s (made z g is) steady same = subst (λ (n : ℕ). Fits n end) (sym z) (made_fits g is ends)
     cause_fits s (no_command z none) steady same = subst (λ (n : ℕ). Fits n end) (sym z) (no_command_fits none ends)
-    cause_fits s (faulty z h) steady same = subst (λ (n : ℕ). Fits n end) (sym z) (text_fits 2 (λ c text. HasFault text) fault_fits h)
+    cause_fits s (faulty z h) steady same = subst (λ (n : ℕ). Fits n end) (sym z) (text_fits 2 (λ c text. HasTextFault text) fault_fits h)
     cause_fits s (unsafe z h) steady same = subst (λ (n : ℕ). Fits n end) (sym z) (text_fits 3 (Judges IsUnsafeText) judges_fits h)
     cause_fits s (missing z h) steady same = subst (λ (n : ℕ). Fits n end) (sym z) (missing_fits h ends)
     cause_fits s (unread z some h) steady same = subst (λ (n : ℕ). Fits n end) (sym z) (unread_fits h steady)

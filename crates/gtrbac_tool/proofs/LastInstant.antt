@@ -1,5 +1,5 @@
 -- What a book's trace says of its last instant, and of the status before it.
-use Rattle.std.proofs.Common.{◌≡◌, ℕ, suc, ◌+◌, ◌-◌, ◌<◌, ◌≤◌, true, false, nat_eq, nat_lt, List, [], ◌∷◌, ◌++◌, codes, Some, None, refl, sym, ◌∙◌, ap, arith}
+use Rattle.std.proofs.Common.{◌≡◌, ℕ, suc, ◌+◌, ◌-◌, ◌<◌, ◌≤◌, true, false, nat_eq, nat_lt, List, [], ◌∷◌, ◌++◌, codes, Some, None, refl, sym, ◌∙◌, ap, arith, if◌then◌else◌}
 use Rattle.std.proofs.lemmas.Bool.{ne_eqb, eq-eqb, eqb-true, ltb-true, ltb-false, lt-ltb, le-ltb}
 use Rattle.gtrbac_model.proofs.Elements.{split}
 use Rattle.gt_base.specs.Held.{TriggerView}
@@ -28,8 +28,8 @@ pub set_there : (cs : List ClosedSet) (t : ℕ) (c : ClosedSet) → closed_at cs
 set_there [] t c e = cc
 set_there (d ∷ cs) t c e =
     split (nat_eq d.at t)
-    (λ same. (λ i. elim (same i) [ true ↦ d.set | false ↦ model_of cs t ]) ∙ ap (λ x. x.set) (some_same d c (sym (λ i. elim (same i) [ true ↦ Some d | false ↦ closed_at cs t ]) ∙ e)))
-    (λ apart. (λ i. elim (apart i) [ true ↦ d.set | false ↦ model_of cs t ]) ∙ set_there cs t c (sym (λ i. elim (apart i) [ true ↦ Some d | false ↦ closed_at cs t ]) ∙ e))
+    (λ same. (λ i. if same i then d.set else model_of cs t) ∙ ap (λ x. x.set) (some_same d c (sym (λ i. if same i then Some d else closed_at cs t) ∙ e)))
+    (λ apart. (λ i. if apart i then d.set else model_of cs t) ∙ set_there cs t c (sym (λ i. if apart i then Some d else closed_at cs t) ∙ e))
   where
     some_same : (a b : ClosedSet) → Some a ≡ Some b → a ≡ b
     some_same a b h = cc
@@ -39,8 +39,8 @@ pub set_nowhere : (cs : List ClosedSet) (t : ℕ) → closed_at cs t ≡ None �
 set_nowhere [] t e = refl
 set_nowhere (d ∷ cs) t e =
     split (nat_eq d.at t)
-    (λ same. absurd (some_none d (sym (λ i. elim (same i) [ true ↦ Some d | false ↦ closed_at cs t ]) ∙ e)))
-    (λ apart. (λ i. elim (apart i) [ true ↦ d.set | false ↦ model_of cs t ]) ∙ set_nowhere cs t (sym (λ i. elim (apart i) [ true ↦ Some d | false ↦ closed_at cs t ]) ∙ e))
+    (λ same. absurd (some_none d (sym (λ i. if same i then Some d else closed_at cs t) ∙ e)))
+    (λ apart. (λ i. if apart i then d.set else model_of cs t) ∙ set_nowhere cs t (sym (λ i. if apart i then Some d else closed_at cs t) ∙ e))
   where
     some_none : (a : ClosedSet) → Some a ≡ None → ⊥
     some_none a h = cc
@@ -51,9 +51,9 @@ base_there p birth m h [] t c b e = cc
 base_there p birth m h (d ∷ cs) t c b e =
     split (nat_eq d.at t)
     (λ same.
-    let is : d ≡ c = some_same d c (sym (λ i. elim (same i) [ true ↦ Some d | false ↦ closed_at cs t ]) ∙ e) in
+    let is : d ≡ c = some_same d c (sym (λ i. if same i then Some d else closed_at cs t) ∙ e) in
     ap (λ x. x.base) (sym is) ∙ b.0 ∙ ap (base_at p birth m h) (eqb-true d.at t same))
-    (λ apart. base_there p birth m h cs t c b.1 (sym (λ i. elim (apart i) [ true ↦ Some d | false ↦ closed_at cs t ]) ∙ e))
+    (λ apart. base_there p birth m h cs t c b.1 (sym (λ i. if apart i then Some d else closed_at cs t) ∙ e))
   where
     some_same : (a b : ClosedSet) → Some a ≡ Some b → a ≡ b
     some_same a b h = cc
@@ -63,12 +63,12 @@ early : (cs : List ClosedSet) (low u : ℕ) → Ascends low cs → u ≤ low →
 early [] low u a le = refl
 early (c ∷ cs) low u a le =
     let apart : nat_eq c.at u ≡ false = ne_eqb c.at u (λ e. omega (arith, e, a.0)) in
-    (λ i. elim (apart i) [ true ↦ c.set | false ↦ model_of cs u ]) ∙ early cs c.at u a.1 (omega (arith, a.0))
+    (λ i. if apart i then c.set else model_of cs u) ∙ early cs c.at u a.1 (omega (arith, a.0))
 
 before_first : (c : ClosedSet) (cs : List ClosedSet) (u : ℕ) → Ascends c.at cs → u < c.at → model_of (c ∷ cs) u ≡ nothing
 before_first c cs u a lt =
     let apart : nat_eq c.at u ≡ false = ne_eqb c.at u (λ e. omega (arith, e)) in
-    (λ i. elim (apart i) [ true ↦ c.set | false ↦ model_of cs u ]) ∙ early cs c.at u a (omega arith)
+    (λ i. if apart i then c.set else model_of cs u) ∙ early cs c.at u a (omega arith)
 
 module _ (p : Policy) (birth : ℕ) (m : Model) (t : ℕ) where
   -- where nothing happens before t, the status before t is the one of earlier
@@ -82,7 +82,7 @@ module _ (p : Policy) (birth : ℕ) (m : Model) (t : ℕ) where
   closes : (c : ClosedSet) (cs : List ClosedSet) (low : ℕ) → birth ≤ low → low < c.at → Ascends c.at cs → ((u : ℕ) → low < u → m u ≡ model_of (c ∷ cs) u)
       → status p birth m c.at ≡ after c.set (status p birth m low)
   closes c cs low born lt a same =
-      let there : m c.at ≡ c.set = same c.at lt ∙ (λ i. elim (eq-eqb c.at c.at refl i) [ true ↦ c.set | false ↦ model_of cs c.at ]) in
+      let there : m c.at ≡ c.set = same c.at lt ∙ (λ i. if eq-eqb c.at c.at refl i then c.set else model_of cs c.at) in
       let j : ℕ = c.at - 1 - birth in
       let here : c.at - birth ≡ suc j = omega (arith, born, lt) in
       let at : birth + suc j ≡ c.at = omega (arith, born, lt) in
@@ -99,13 +99,13 @@ module _ (p : Policy) (birth : ℕ) (m : Model) (t : ℕ) where
       split (nat_lt c.at t)
       (λ before.
       let lt : c.at < t = ltb-true c.at t before in
-      made_from cs c.at (omega (arith, born, a.0)) lt a.1 (λ u x. same u (omega (arith, a.0, x)) ∙ (λ i. elim (ne_eqb c.at u (λ e. omega (arith, e, x)) i) [ true ↦ c.set | false ↦ model_of cs u ]))
+      made_from cs c.at (omega (arith, born, a.0)) lt a.1 (λ u x. same u (omega (arith, a.0, x)) ∙ (λ i. if ne_eqb c.at u (λ e. omega (arith, e, x)) i then c.set else model_of cs u))
       ∙ ap (made_before t cs) (closes c cs low born a.0 a.1 same)
-      ∙ sym (λ i. elim (before i) [ true ↦ made_before t cs (after c.set (status p birth m low)) | false ↦ status p birth m low ]))
+      ∙ sym (λ i. if before i then made_before t cs (after c.set (status p birth m low)) else status p birth m low))
       (λ past.
       let le : t ≤ c.at = ltb-false c.at t past in
       stays low born later (λ u x y. same u x ∙ before_first c cs u a.1 (omega (arith, y, le)))
-      ∙ sym (λ i. elim (past i) [ true ↦ made_before t cs (after c.set (status p birth m low)) | false ↦ status p birth m low ]))
+      ∙ sym (λ i. if past i then made_before t cs (after c.set (status p birth m low)) else status p birth m low))
 
 -- the status before an instant is the one that the sets before it make of the opening status
 pub status_made : (p : Policy) (birth t : ℕ) (cs : List ClosedSet) → birth < t → Ascends birth cs → status p birth (model_of cs) (t - 1) ≡ made_before t cs (has p.opening)
@@ -117,13 +117,13 @@ status_made p birth t cs later a =
 pub step_before : (t : ℕ) (c : ClosedSet) (cs : List ClosedSet) (s s' : Status) → c.at < t → ((f : Fluent) → s' f ≡ after c.set s f) → made_before t cs s' ≡ made_before t (c ∷ cs) s
 step_before t c cs s s' lt h =
     let before : nat_lt c.at t ≡ true = lt-ltb c.at t lt in
-    ap (made_before t cs) (λ i f. h f i) ∙ sym (λ i. elim (before i) [ true ↦ made_before t cs (after c.set s) | false ↦ s ])
+    ap (made_before t cs) (λ i f. h f i) ∙ sym (λ i. if before i then made_before t cs (after c.set s) else s)
 
 -- nothing of the trace is before the instant
 pub past_all : (t : ℕ) (c : ClosedSet) (cs : List ClosedSet) (s : Status) → t ≤ c.at → made_before t (c ∷ cs) s ≡ s
 past_all t c cs s le =
     let past : nat_lt c.at t ≡ false = le-ltb c.at t le in
-    λ i. elim (past i) [ true ↦ made_before t cs (after c.set s) | false ↦ s ]
+    λ i. if past i then made_before t cs (after c.set s) else s
 
 -- an instant that the trace has is after the birth
 later_there : (cs : List ClosedSet) (low t : ℕ) (c : ClosedSet) → Ascends low cs → closed_at cs t ≡ Some c → low < t
@@ -132,19 +132,19 @@ later_there (d ∷ cs) low t c a e =
     split (nat_eq d.at t)
     (λ same. let is : d.at ≡ t = eqb-true d.at t same in omega (arith, is, a.0))
     (λ apart.
-    let on : d.at < t = later_there cs d.at t c a.1 (sym (λ i. elim (apart i) [ true ↦ Some d | false ↦ closed_at cs t ]) ∙ e) in
+    let on : d.at < t = later_there cs d.at t c a.1 (sym (λ i. if apart i then Some d else closed_at cs t) ∙ e) in
     omega (arith, on, a.0))
 
 -- after the birth requests are answered from the set of now
 point_there : (p : Policy) (birth : ℕ) (m : Model) (h : List Entry) → birth < now_of birth h → (point_after p birth m h).set ≡ m (now_of birth h)
-point_there p birth m h lt = λ i. elim (lt-ltb birth (now_of birth h) lt i) [ true ↦ m (now_of birth h) | false ↦ nothing ]
+point_there p birth m h lt = λ i. if lt-ltb birth (now_of birth h) lt i then m (now_of birth h) else nothing
 
 -- and from no set where that one is none
 point_nowhere : (p : Policy) (birth : ℕ) (m : Model) (h : List Entry) → m (now_of birth h) ≡ nothing → (point_after p birth m h).set ≡ nothing
 point_nowhere p birth m h none_so =
     split (nat_lt birth (now_of birth h))
-    (λ later. (λ i. elim (later i) [ true ↦ m (now_of birth h) | false ↦ nothing ]) ∙ none_so)
-    (λ born. λ i. elim (born i) [ true ↦ m (now_of birth h) | false ↦ nothing ])
+    (λ later. (λ i. if later i then m (now_of birth h) else nothing) ∙ none_so)
+    (λ born. λ i. if born i then m (now_of birth h) else nothing)
 
 -- of nothing nothing is seen
 absent : (e : Event) → seen nothing e ≡ Absent

@@ -1,5 +1,5 @@
 -- The listings of a trace's sets make a certificate of the history.
-use Rattle.std.proofs.Common.{◌≡◌, ℕ, suc, ◌+◌, ◌-◌, ◌<◌, ◌≤◌, Bool, true, false, ◌||◌, nat_eq, nat_lt, List, [], ◌∷◌, ◌++◌, append_assoc, Option, Some, None, Result, Ok, Err, IfOk, OnOk, IsTrue, refl, sym, ◌∙◌, ap, subst, arith}
+use Rattle.std.proofs.Common.{◌≡◌, ℕ, suc, ◌+◌, ◌-◌, ◌<◌, ◌≤◌, Bool, true, false, ◌||◌, nat_eq, nat_lt, List, [], ◌∷◌, ◌++◌, append_assoc, Option, Some, None, Result, Ok, Err, IfOk, OnOk, IsTrue, refl, sym, ◌∙◌, ap, subst, arith, if◌then◌else◌}
 use Rattle.std.specs.List.{All}
 use Rattle.std.specs.Cmp.{both_ways}
 use Rattle.std.proofs.lemmas.Bool.{ne_eqb, eq-eqb, eqb-true, eqb-false, ltb-true, ltb-false}
@@ -24,9 +24,9 @@ use Rattle.gtrbac_model.proofs.Elements.{split}
 use Rattle.history_laws.specs.Pending.{NothingBetween}
 use Rattle.history_laws.proofs.OnItsWay.{stretch_stays}
 use Rattle.instant_bases.specs.Timelines.{ClosedSet}
-use Rattle.time_engine.specs.Traces.{model_of, is_something, Ascends, AreSome, EndsBy}
+use Rattle.time_engine.specs.Traces.{model_of, is_something, Ascends, AreSome, AreClosedBy}
 use Rattle.core_machine.specs.Books.{HasBases}
-use Rattle.why_check.specs.Certificates.{Listed, Accepts, IsRight, listed_at, model_in, set_at, set_in, says_something, Ascends as ListingsAscend}
+use Rattle.why_check.specs.Certificates.{Listed, Accepts, IsRight, listed_at, model_in, set_at, set_in, says_something, ListedAscend}
 use Rattle.gtrbac_tool.specs.Listing.{AreListings, AreSettled, IsListing, AddsListing}
 use Rattle.gtrbac_tool.proofs.ListingOrder.{base_in}
 
@@ -81,20 +81,20 @@ same_model rules s (c ∷ cs) [] a t = absurd a
 same_model rules s (c ∷ cs) (l ∷ ls) a t =
     split (nat_eq c.at t)
     (λ same.
-    (λ i. elim (same i) [ true ↦ c.set | false ↦ model_of cs t ])
+    (λ i. if same i then c.set else model_of cs t)
     ∙ sym (a.0.set)
-    ∙ sym (λ i. set_at (elim ((ap (λ n. nat_eq n t) a.0.at ∙ same) i) [ true ↦ Some l | false ↦ listed_at ls t ])))
+    ∙ sym (λ i. set_at (if (ap (λ n. nat_eq n t) a.0.at ∙ same) i then Some l else listed_at ls t)))
     (λ apart.
-    (λ i. elim (apart i) [ true ↦ c.set | false ↦ model_of cs t ])
+    (λ i. if apart i then c.set else model_of cs t)
     ∙ same_model rules (after c.set s) cs ls a.1 t
-    ∙ sym (λ i. set_at (elim ((ap (λ n. nat_eq n t) a.0.at ∙ apart) i) [ true ↦ Some l | false ↦ listed_at ls t ])))
+    ∙ sym (λ i. set_at (if (ap (λ n. nat_eq n t) a.0.at ∙ apart) i then Some l else listed_at ls t)))
 
-pub listings_ascend : (rules : List TriggerView) (s : Status) (cs : List ClosedSet) (ls : List Listed) (low top : ℕ) → AreListings rules s cs ls → Ascends low cs → EndsBy top cs → ListingsAscend low top ls
+pub listings_ascend : (rules : List TriggerView) (s : Status) (cs : List ClosedSet) (ls : List Listed) (low top : ℕ) → AreListings rules s cs ls → Ascends low cs → AreClosedBy top cs → ListedAscend low top ls
 listings_ascend rules s [] [] low top a up ends = tt
 listings_ascend rules s [] (l ∷ ls) low top a up ends = absurd a
 listings_ascend rules s (c ∷ cs) [] low top a up ends = absurd a
 listings_ascend rules s (c ∷ cs) (l ∷ ls) low top a up ends =
-    (omega (arith, a.0.at, up.0), omega (arith, a.0.at, ends.0), subst (λ n. ListingsAscend n top ls) (sym a.0.at) (listings_ascend rules (after c.set s) cs ls c.at top a.1 up.1 ends.1))
+    (omega (arith, a.0.at, up.0), omega (arith, a.0.at, ends.0), subst (λ n. ListedAscend n top ls) (sym a.0.at) (listings_ascend rules (after c.set s) cs ls c.at top a.1 up.1 ends.1))
 
 some_listed : (es : List Prioritised) (xs : List Signal) → is_something (record { events = set_of es; signals = set_of xs }) ≡ true → (is_some_item es || is_some_item xs) ≡ true
 unfolding members none
@@ -114,7 +114,7 @@ early : (cs : List ClosedSet) (low u : ℕ) → Ascends low cs → u ≤ low →
 early [] low u a le = refl
 early (c ∷ cs) low u a le =
     let apart : nat_eq c.at u ≡ false = ne_eqb c.at u (λ e. omega (arith, e, a.0)) in
-    (λ i. elim (apart i) [ true ↦ c.set | false ↦ model_of cs u ]) ∙ early cs c.at u a.1 (omega (arith, a.0))
+    (λ i. if apart i then c.set else model_of cs u) ∙ early cs c.at u a.1 (omega (arith, a.0))
 
 not_yet : (rules : List TriggerView) (s : Status) (cs : List ClosedSet) (ls : List Listed) (low u : ℕ) → AreListings rules s cs ls → Ascends low cs → u ≤ low → listed_at ls u ≡ None
 not_yet rules s [] [] low u a up le = refl
@@ -122,12 +122,12 @@ not_yet rules s [] (l ∷ ls) low u a up le = absurd a
 not_yet rules s (c ∷ cs) [] low u a up le = absurd a
 not_yet rules s (c ∷ cs) (l ∷ ls) low u a up le =
     let apart : nat_eq l.at u ≡ false = ne_eqb l.at u (λ e. omega (arith, e, a.0.at, up.0)) in
-    (λ i. elim (apart i) [ true ↦ Some l | false ↦ listed_at ls u ]) ∙ not_yet rules (after c.set s) cs ls c.at u a.1 up.1 (omega (arith, up.0))
+    (λ i. if apart i then Some l else listed_at ls u) ∙ not_yet rules (after c.set s) cs ls c.at u a.1 up.1 (omega (arith, up.0))
 
 before_first : (c : ClosedSet) (cs : List ClosedSet) (u : ℕ) → Ascends c.at cs → u < c.at → model_of (c ∷ cs) u ≡ nothing
 before_first c cs u a lt =
     let apart : nat_eq c.at u ≡ false = ne_eqb c.at u (λ e. omega (arith, e)) in
-    (λ i. elim (apart i) [ true ↦ c.set | false ↦ model_of cs u ]) ∙ early cs c.at u a (omega arith)
+    (λ i. if apart i then c.set else model_of cs u) ∙ early cs c.at u a (omega arith)
 
 module _ (p : Policy) (birth : ℕ) (h : List Entry) (m : Model) where
   -- over the minutes in which nothing happens the status stays
@@ -143,7 +143,7 @@ module _ (p : Policy) (birth : ℕ) (h : List Entry) (m : Model) where
   -- the first set of what is left, and the status before and after it
   module _ (c : ClosedSet) (cs : List ClosedSet) (low : ℕ) (born : birth ≤ low) (up : Ascends low (c ∷ cs)) (follows : Follows low (c ∷ cs)) where
     there : m c.at ≡ c.set
-    there = follows c.at up.0 ∙ (λ i. elim (eq-eqb c.at c.at refl i) [ true ↦ c.set | false ↦ model_of cs c.at ])
+    there = follows c.at up.0 ∙ (λ i. if eq-eqb c.at c.at refl i then c.set else model_of cs c.at)
 
     status_before : status p birth m (c.at - 1) ≡ status p birth m low
     status_before = stays low c.at born up.0 (λ u a b. follows u a ∙ before_first c cs u up.1 b)
@@ -156,9 +156,9 @@ module _ (p : Policy) (birth : ℕ) (h : List Entry) (m : Model) where
         ap (status_after p birth m) here ∙ (λ i. after (m (at i)) (status_after p birth m j)) ∙ (λ i. after (there i) (status_before i))
 
     later : Follows c.at cs
-    later u lt = follows u (omega (arith, up.0, lt)) ∙ (λ i. elim (ne_eqb c.at u (λ e. omega (arith, e, lt)) i) [ true ↦ c.set | false ↦ model_of cs u ])
+    later u lt = follows u (omega (arith, up.0, lt)) ∙ (λ i. if ne_eqb c.at u (λ e. omega (arith, e, lt)) i then c.set else model_of cs u)
 
-  pub settled_from : (cs : List ClosedSet) (low : ℕ) → birth ≤ low → Ascends low cs → EndsBy (now_of birth h) cs → Follows low cs → HasBases p birth m h cs → IsExecutionModel p birth h m → AreSettled p.triggers (status p birth m low) cs
+  pub settled_from : (cs : List ClosedSet) (low : ℕ) → birth ≤ low → Ascends low cs → AreClosedBy (now_of birth h) cs → Follows low cs → HasBases p birth m h cs → IsExecutionModel p birth h m → AreSettled p.triggers (status p birth m low) cs
   settled_from [] low born up ends follows bases model = tt
   settled_from (c ∷ cs) low born up ends follows bases model = (
     subst (λ b. Settled p.triggers b (status p birth m low) c.set) (sym bases.0)
@@ -181,8 +181,8 @@ module _ (p : Policy) (birth : ℕ) (h : List Entry) (m : Model) where
   found_from (c ∷ cs) [] low born up follows bases a t lt = absurd a
   found_from (c ∷ cs) (l ∷ ls) low born up follows bases a t lt =
       split (nat_eq c.at t)
-      (λ same. subst (IsFound t) (sym (λ i. elim ((ap (λ n. nat_eq n t) a.0.at ∙ same) i) [ true ↦ Some l | false ↦ listed_at ls t ])) (here (eqb-true c.at t same)))
-      (λ apart. subst (IsFound t) (sym (λ i. elim ((ap (λ n. nat_eq n t) a.0.at ∙ apart) i) [ true ↦ Some l | false ↦ listed_at ls t ]))
+      (λ same. subst (IsFound t) (sym (λ i. if (ap (λ n. nat_eq n t) a.0.at ∙ same) i then Some l else listed_at ls t)) (here (eqb-true c.at t same)))
+      (λ apart. subst (IsFound t) (sym (λ i. if (ap (λ n. nat_eq n t) a.0.at ∙ apart) i then Some l else listed_at ls t))
       (split (nat_lt c.at t)
       (λ past. found_from cs ls c.at (omega (arith, born, up.0)) up.1 (later c cs low born up follows) bases.1
       (subst (λ s. AreListings p.triggers s cs ls) (sym (status_then c cs low born up follows)) a.1) t (lt_of c.at t past))
@@ -218,7 +218,7 @@ module _ (p : Policy) (birth : ℕ) (h : List Entry) (m : Model) where
 
 -- the listings of the sets of a trace, in their order, are a certificate of the history
 pub accepts_listings : (p : Policy) (birth : ℕ) (h : List Entry) (cs : List ClosedSet) (ls : List Listed) → IsExecutionModel p birth h (model_of cs) → HasBases p birth (model_of cs) h cs
-    → Ascends birth cs → EndsBy (now_of birth h) cs → AreSome cs → AreListings p.triggers (has p.opening) cs ls → Accepts p birth h ls
+    → Ascends birth cs → AreClosedBy (now_of birth h) cs → AreSome cs → AreListings p.triggers (has p.opening) cs ls → Accepts p birth h ls
 accepts_listings p birth h cs ls model bases up ends some a =
     let zero_is : birth - birth ≡ 0 = omega arith in
     let first : status p birth (model_of cs) birth ≡ has p.opening = ap (status_after p birth (model_of cs)) zero_is in
@@ -233,7 +233,7 @@ accepts_listings p birth h cs ls model bases up ends some a =
     }
 
 pub all_settled : (p : Policy) (birth : ℕ) (h : List Entry) (cs : List ClosedSet) → IsExecutionModel p birth h (model_of cs) → HasBases p birth (model_of cs) h cs
-    → Ascends birth cs → EndsBy (now_of birth h) cs → AreSettled p.triggers (has p.opening) cs
+    → Ascends birth cs → AreClosedBy (now_of birth h) cs → AreSettled p.triggers (has p.opening) cs
 all_settled p birth h cs model bases up ends =
     let zero_is : birth - birth ≡ 0 = omega arith in
     let first : status p birth (model_of cs) birth ≡ has p.opening = ap (status_after p birth (model_of cs)) zero_is in

@@ -1,5 +1,5 @@
 -- The moves of a run name only what the policy has, so what is told at its end is explained.
-use Rattle.std.proofs.Common.{◌≡◌, ℕ, ◌+◌, ◌-◌, ◌<◌, Bool, true, false, nat_lt, List, [], ◌∷◌, ◌++◌, length, inl, inr, refl, sym, ◌∙◌, subst, arith}
+use Rattle.std.proofs.Common.{◌≡◌, ℕ, ◌+◌, ◌-◌, ◌<◌, Bool, true, false, nat_lt, List, [], ◌∷◌, ◌++◌, length, inl, inr, refl, sym, ◌∙◌, subst, arith, if◌then◌else◌}
 use Rattle.std.specs.Prelude.{Result, Ok, Err}
 use Rattle.std.proofs.lemmas.Bool.{ltb-true, false≢true}
 use Rattle.std.proofs.Common.{Option, Some, None, not}
@@ -20,7 +20,7 @@ use Rattle.gtrbac_model.specs.Status.{Model}
 use Rattle.history_laws.specs.Named.{IsNamedStep, AreNamed}
 use Rattle.policy_words.specs.Naming.{NamedPolicy}
 use Rattle.policy_words.specs.Valid.{IsWellFormed}
-use Rattle.policy_commands.specs.Ends.{Told}
+use Rattle.policy_commands.specs.Ends.{EndView}
 use Rattle.request_text.specs.declared.lines.Line.{Line}
 use Rattle.request_text.specs.declared.lines.Line.TheVariants.{Silent, At, Be, Ask}
 use Rattle.request_text.specs.declared.lines.LineFault.{LineFault}
@@ -86,7 +86,7 @@ module _ (np : NamedPolicy) (good : IsWellFormed np) (birth : ℕ) where
   from_birth front t plays = lines_on front (at_birth np birth) t plays (record { actor = (tt, tt); history = tt })
 
   -- the entries of a run are named
-  run_named : (n : ℕ) (lines : List (List ℕ)) (h : List Entry) (end : Told) → RunOver np birth n lines h end → AreNamed np.policy h
+  run_named : (n : ℕ) (lines : List (List ℕ)) (h : List Entry) (end : EndView) → RunOver np birth n lines h end → AreNamed np.policy h
   run_named n lines h end run =
       elim run.ends [
         | inl out ↦ subst (AreNamed np.policy) (sym out.history) (from_birth lines out.last out.plays).history
@@ -104,7 +104,7 @@ module _ (np : NamedPolicy) (good : IsWellFormed np) (birth : ℕ) where
       by at (Err fault) is stops = subst (AreNamed np.policy) (sym stops.0) (from_birth at.front at.before at.plays).history
 
   told_explained : (h : List Entry) (m : Model) → AreNamed np.policy h → Legal np.policy birth h m → (e : Event) → (b : Bool) → nat_lt birth (now_of birth h) ≡ b
-      → let x : HappenedView = elim b as (λ _. HappenedView) [ true ↦ m (now_of birth h) | false ↦ nothing ] in
+      → let x : HappenedView = if b then m (now_of birth h) else nothing in
       IsExplained np.policy.triggers (base_at np.policy birth m h (now_of birth h)) (status np.policy birth m (now_of birth h - 1)) x e (seen x e)
   told_explained h m named legal e true after =
       let now : ℕ = now_of birth h in

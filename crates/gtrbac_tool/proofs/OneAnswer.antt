@@ -20,18 +20,19 @@ use Rattle.walk_laws.proofs.Climbing.{safe_is_levelled}
 use Rattle.gt_text.specs.Lines.{lines_of, is_longer}
 use Rattle.policy_words.specs.Naming.{NamedPolicy}
 use Rattle.policy_words.specs.declared.parts.NamedEvent.{NamedEvent}
-use Rattle.policy_commands.specs.Ends.{Told, told}
+use Rattle.policy_commands.specs.Ends.{EndView, told}
 use Rattle.forecast.proofs.Answering.{change_is_one}
-use Rattle.why_check.specs.Certificates.{Listed, listed_at, says_something, Ascends, Accepts}
+use Rattle.why_check.specs.Certificates.{Listed, listed_at, says_something, ListedAscend, Accepts}
 use Rattle.why_check.proofs.Ascending.{at_first, past_first, none_before}
 use Rattle.why_check.proofs.Uniqueness.{RightAt, right_of, shown_over_nothing}
-use Rattle.gtrbac_tool.specs.declared.ahead.Asked.{Asked}
-use Rattle.gtrbac_tool.specs.declared.ahead.Asked.TheVariants.{Ahead, Standing}
+use Rattle.gtrbac_tool.specs.declared.ahead.Inquiry.{Inquiry}
+use Rattle.gtrbac_tool.specs.declared.ahead.Inquiry.TheVariants.{Ahead, Standing}
 use Rattle.gtrbac_tool.specs.Standing.{standing_line, TellsWhy}
-use Rattle.gtrbac_tool.specs.Script.{Start, never, born, failed, start_of, max_script}
-use Rattle.gtrbac_tool.specs.Late.{change_line, horizon, Tells, Follows, Answered, AnswersFrom, AnswersIf}
+use Rattle.gtrbac_tool.specs.Script.{ScriptStart, never, born, failed, start_of}
+use Rattle.gtrbac_tool.specs.Late.{change_line, horizon, TellsAsked, FollowsRun, Answered, AnswersFrom, AnswersIf}
 use Rattle.gtrbac_tool.specs.Meanings.{OneAnswer}
 use Rattle.gtrbac_tool.proofs.OneEnd.{same_run}
+use Rattle.gtrbac_tool.specs.declared.top.TheConstants.{MAX_SCRIPT}
 
 -- each of the list has an event or a signal
 abbrev Say : List Listed → Type 0
@@ -56,7 +57,7 @@ module _ (p : Policy) (is : IsPolicy p) (safe : IsSafe p.triggers) (birth : ℕ)
   on_right low l ls lt right = λ t a b.
       subst (λ o. RightAt p is safe birth h m of_m t o) (past_first l ls t (λ e. omega (arith, a, e))) (right t (omega (arith, lt, a)) b)
 
-  as_many : (low : ℕ) (xs ys : List Listed) → Ascends low (now_of birth h) xs → Ascends low (now_of birth h) ys → Say xs → Say ys → Right low xs → Right low ys → length xs ≡ length ys
+  as_many : (low : ℕ) (xs ys : List Listed) → ListedAscend low (now_of birth h) xs → ListedAscend low (now_of birth h) ys → Say xs → Say ys → Right low xs → Right low ys → length xs ≡ length ys
   as_many low [] [] a b s u r q = refl
   as_many low [] (y ∷ ys) a b s u r q = absurd (both_list y.at y (y ∷ ys) [] u.0 (q y.at b.0 b.1) (r y.at b.0 b.1) (at_first y ys y.at refl) refl)
   as_many low (x ∷ xs) [] a b s u r q = absurd (both_list x.at x (x ∷ xs) [] s.0 (r x.at a.0 a.1) (q x.at a.0 a.1) (at_first x xs x.at refl) refl)
@@ -73,7 +74,7 @@ module _ (p : Policy) (is : IsPolicy p) (safe : IsSafe p.triggers) (birth : ℕ)
       (λ not_more.
       let same : y.at ≡ x.at = omega (arith, ltb-false x.at y.at not_less, ltb-false y.at x.at not_more) in
       let rest : length xs ≡ length ys =
-      as_many x.at xs ys a.2 (subst (λ t. Ascends t (now_of birth h) ys) same b.2) s.1 u.1 (on_right low x xs a.0 r) (subst (λ t. Right t ys) same (on_right low y ys b.0 q)) in
+      as_many x.at xs ys a.2 (subst (λ t. ListedAscend t (now_of birth h) ys) same b.2) s.1 u.1 (on_right low x xs a.0 r) (subst (λ t. Right t ys) same (on_right low y ys b.0 q)) in
       omega (arith, rest)))
 
   -- certificates of one history list as many instants
@@ -97,33 +98,33 @@ module _ (p : Policy) (is : IsPolicy p) (safe : IsSafe p.triggers) (birth : ℕ)
       ∙ (λ i. (codes "certificate " ++ decimal (count i) ++ codes "\n") ++ standing_line p.triggers (base i) (before i) ((point i).set) named e (seen ((point i).set) e))
       ∙ sym y.text_is
 
-  tells_one : (asked : Asked) (text other : List ℕ) → Tells p asked birth h text → Tells p asked birth h other → text ≡ other
+  tells_one : (asked : Inquiry) (text other : List ℕ) → TellsAsked p asked birth h text → TellsAsked p asked birth h other → text ≡ other
   tells_one (Ahead days c) text other x y =
       let upto : ℕ = horizon (now_of birth h) days in
       x.line_is ∙ ap (change_line c upto) (change_is_one p safe birth h c.fluent upto x.change y.change x.first y.first) ∙ sym y.line_is
   tells_one (Standing named e) text other x y = why_one named e text other x y
 
-  follows_one : (asked : Asked) (ran end other : Told) → Follows p asked birth h ran end → Follows p asked birth h ran other → end ≡ other
+  follows_one : (asked : Inquiry) (ran end other : EndView) → FollowsRun p asked birth h ran end → FollowsRun p asked birth h ran other → end ≡ other
   follows_one asked ran end other (inl x) (inl y) = x.1.2 ∙ ap (λ (t : List ℕ). told 0 (ran.text ++ t)) (tells_one asked x.1.0 y.1.0 x.1.1 y.1.1) ∙ sym y.1.2
   follows_one asked ran end other (inl x) (inr y) = absurd (y.0 x.0)
   follows_one asked ran end other (inr x) (inl y) = absurd (x.0 y.0)
   follows_one asked ran end other (inr x) (inr y) = x.1 ∙ sym y.1
 
-module _ (np : NamedPolicy) (is : IsPolicy np.policy) (safe : IsSafe np.policy.triggers) (asked : Asked) where
-  answered_one : (birth n : ℕ) (lines : List (List ℕ)) (end other : Told) → Answered np asked birth n lines end → Answered np asked birth n lines other → end ≡ other
+module _ (np : NamedPolicy) (is : IsPolicy np.policy) (safe : IsSafe np.policy.triggers) (asked : Inquiry) where
+  answered_one : (birth n : ℕ) (lines : List (List ℕ)) (end other : EndView) → Answered np asked birth n lines end → Answered np asked birth n lines other → end ≡ other
   answered_one birth n lines end other x y =
       let same = same_run np safe birth n lines x.history y.history x.ran y.ran x.run y.run in
       follows_one np.policy is safe birth x.history asked x.ran end other x.follows
-      (subst (λ (h : List Entry). Follows np.policy asked birth h x.ran other) (sym same.0) (subst (λ (ran : Told). Follows np.policy asked birth y.history ran other) (sym same.1) y.follows))
+      (subst (λ (h : List Entry). FollowsRun np.policy asked birth h x.ran other) (sym same.0) (subst (λ (ran : EndView). FollowsRun np.policy asked birth y.history ran other) (sym same.1) y.follows))
 
-  from_one : (start : Start) (end other : Told) → AnswersFrom np asked start end → AnswersFrom np asked start other → end ≡ other
+  from_one : (start : ScriptStart) (end other : EndView) → AnswersFrom np asked start end → AnswersFrom np asked start other → end ≡ other
   from_one never end other x y = x ∙ sym y
   from_one (born birth n lines) end other x y = answered_one birth n lines end other x y
   from_one (failed t) end other x y = x ∙ sym y
 
-  if_one : (long : Bool) (script : List ℕ) (end other : Told) → AnswersIf long np asked script end → AnswersIf long np asked script other → end ≡ other
+  if_one : (long : Bool) (script : List ℕ) (end other : EndView) → AnswersIf long np asked script end → AnswersIf long np asked script other → end ≡ other
   if_one true script end other x y = x ∙ sym y
   if_one false script end other x y = from_one (start_of np 1 (lines_of script)) end other x y
 
 pub one_answer : OneAnswer
-one_answer np is safe asked script end other x y = if_one np is safe asked (is_longer max_script script) script end other x y
+one_answer np is safe asked script end other x y = if_one np is safe asked (is_longer MAX_SCRIPT script) script end other x y

@@ -2,11 +2,11 @@
 use Rattle.std.proofs.Common.{◌≡◌, ℕ, ◌<◌, ◌≤◌, Bool, true, false, List, [], ◌∷◌, ◌++◌, length, map, ◌⊎◌, inl, inr, refl, sym, ◌∙◌, ap, subst, arith, append_assoc, length-append, MatchBool}
 use Rattle.std.proofs.lemmas.Bool.{leb-true}
 use Rattle.std.specs.Prelude.{nat_le}
-use Rattle.gt_base.specs.Bounds.{max_steps}
 use Rattle.gt_base.specs.Machines.{ticked}
 use Rattle.gt_base.specs.declared.requests.Entry.{Entry}
 use Rattle.gt_base.specs.declared.requests.Step.{Step}
 use Rattle.gt_base.specs.declared.requests.Step.TheVariants.{Tick, Ask}
+use Rattle.gt_base.specs.declared.limits.TheConstants.{MAX_STEPS}
 use Rattle.gtrbac_model.specs.Policy.{Policy}
 use Rattle.gtrbac_model.specs.Safety.{IsSafe}
 use Rattle.gtrbac_model.specs.Status.{Model}
@@ -85,11 +85,11 @@ module _ (p : Policy) (birth : ℕ) where
 -- ticks with a bound that lead there, or fill the history
 
 abbrev pub IsDone : ℕ → ℕ → List Entry → Type 0
-IsDone birth minute h = (minute ≤ now_of birth h) ⊎ (length h ≡ max_steps)
+IsDone birth minute h = (minute ≤ now_of birth h) ⊎ (length h ≡ MAX_STEPS)
 
 module _ (p : Policy) (birth minute : ℕ) where
   -- behind a history that is done no tick more is legal and short
-  none_more : (m : Model) (g es r : List Entry) (e : Entry) → ((to : ℕ) × (e ≡ ticked scripts_who minute to)) → Legal p birth (g ++ e ∷ r) m → IsDone birth minute g → length (g ++ e ∷ es) ≤ max_steps → ⊥
+  none_more : (m : Model) (g es r : List Entry) (e : Entry) → ((to : ℕ) × (e ≡ ticked scripts_who minute to)) → Legal p birth (g ++ e ∷ r) m → IsDone birth minute g → length (g ++ e ∷ es) ≤ MAX_STEPS → ⊥
   none_more m g es r e is legal (inl there) short =
       let stop : IsLegalStep p birth m g (ticked scripts_who minute is.0).what = subst (λ (x : Entry). IsLegalStep p birth m g x.what) is.1 (step_legal p birth m g e r legal) in
       omega (arith, stop.later, stop.bounded, there)
@@ -98,7 +98,7 @@ module _ (p : Policy) (birth minute : ℕ) where
   module _ (safe : IsSafe p.triggers) where
     pub ticks_same : (m n : Model) (ts ts' g r r' : List Entry) → AreTicks minute ts → AreTicks minute ts'
         → Legal p birth (g ++ (ts ++ r)) m → Legal p birth (g ++ (ts' ++ r')) n → IsDone birth minute (g ++ ts) → IsDone birth minute (g ++ ts')
-        → length (g ++ ts) ≤ max_steps → length (g ++ ts') ≤ max_steps → ts ≡ ts'
+        → length (g ++ ts) ≤ MAX_STEPS → length (g ++ ts') ≤ MAX_STEPS → ts ≡ ts'
     ticks_same m n [] [] g r r' a a' l l' d d' s s' = refl
     ticks_same m n [] (e' ∷ es') g r r' a a' l l' d d' s s' =
         absurd (none_more n g es' (es' ++ r') e' a'.0 l' (subst (λ (k : List Entry). IsDone birth minute k) (append-nil g) d) s')
@@ -113,6 +113,6 @@ module _ (p : Policy) (birth minute : ℕ) where
         (subst (λ (k : List Entry). Legal p birth k n) (from (es' ++ r')) l')
         (subst (λ (k : List Entry). IsDone birth minute k) (again e es) d)
         (subst (λ (k : List Entry). IsDone birth minute k) (from es') d')
-        (subst (λ (k : List Entry). length k ≤ max_steps) (again e es) s)
-        (subst (λ (k : List Entry). length k ≤ max_steps) (from es') s') in
+        (subst (λ (k : List Entry). length k ≤ MAX_STEPS) (again e es) s)
+        (subst (λ (k : List Entry). length k ≤ MAX_STEPS) (from es') s') in
         λ i. first i ∷ rest i

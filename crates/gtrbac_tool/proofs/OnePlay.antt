@@ -9,7 +9,7 @@ use Rattle.gtrbac_model.proofs.Append.{append-nil}
 use Rattle.gtrbac_model.specs.Status.{Model}
 use Rattle.gtrbac_model.specs.History.{Legal, Move}
 use Rattle.policy_words.specs.Naming.{NamedPolicy}
-use Rattle.policy_commands.specs.Ends.{Told}
+use Rattle.policy_commands.specs.Ends.{EndView}
 use Rattle.request_text.specs.declared.lines.Line.{Line}
 use Rattle.request_text.specs.declared.lines.Line.TheVariants.{Silent, At, Be, Ask}
 use Rattle.request_text.specs.declared.lines.LineFault.{LineFault}
@@ -76,11 +76,11 @@ module _ (np : NamedPolicy) (birth : ℕ) where
   from_birth : (front : List (List ℕ)) (t : Going) → Plays np birth front (at_birth np birth) t → LinesAsk np Operator front (map move_of t.history) t.actor
   from_birth front t plays = let to = lines_ask front (at_birth np birth) t plays in subst (λ (h : List Entry). LinesAsk np Operator front (map move_of h) t.actor) (sym to.all) to.asks
 
-  whole_play : (lines : List (List ℕ)) (h : List Entry) (end : Told) (m : Model) → Legal np.policy birth h m → PlayedOut np birth lines h end → IsPlayOf np birth lines h
+  whole_play : (lines : List (List ℕ)) (h : List Entry) (end : EndView) (m : Model) → Legal np.policy birth h m → PlayedOut np birth lines h end → IsPlayOf np birth lines h
   whole_play lines h end m legal out =
       play_of lines lines [] h m out.last.actor legal (sym (append-nil lines)) (subst (λ (k : List Entry). LinesAsk np Operator lines (map move_of k) out.last.actor) (sym out.history) (from_birth lines out.last out.plays))
 
-  stopped_play : (n : ℕ) (lines : List (List ℕ)) (h : List Entry) (end : Told) (m : Model) → Legal np.policy birth h m → StoppedAt np birth n lines h end → IsPlayOf np birth lines h
+  stopped_play : (n : ℕ) (lines : List (List ℕ)) (h : List Entry) (end : EndView) (m : Model) → Legal np.policy birth h m → StoppedAt np birth n lines h end → IsPlayOf np birth lines h
   stopped_play n lines h end m legal at = by (said np at.line) refl at.stops
     where
       kept : h ≡ at.before.history → IsPlayOf np birth lines h

@@ -2,38 +2,39 @@
 use Rattle.std.proofs.Common.{◌≡◌, ℕ, ◌+◌, ◌<◌, ◌≤◌, true, false, List, [], ◌∷◌, ◌++◌, length, ◌⊎◌, inl, inr, refl, sym, ◌∙◌, ap, subst, arith, append_assoc, append-nil, length-append}
 use Rattle.std.proofs.lemmas.Bool.{ltb-true, ltb-false}
 use Rattle.std.specs.Prelude.{Bool, nat_lt, codes, Result, Ok, Err}
-use Rattle.gt_base.specs.Bounds.{max_steps}
 use Rattle.gt_base.specs.Happening.{nothing}
 use Rattle.gt_base.specs.Machines.{asked}
 use Rattle.gt_base.specs.declared.requests.Entry.{Entry}
+use Rattle.gt_base.specs.declared.limits.TheConstants.{MAX_STEPS}
 use Rattle.gtrbac_model.specs.Safety.{IsSafe}
 use Rattle.gtrbac_model.specs.Status.{Model}
 use Rattle.gtrbac_model.specs.History.{Legal, now_of}
 use Rattle.gtrbac_model.proofs.Elements.{split}
 use Rattle.gt_text.specs.Lines.{lines_of, is_longer}
 use Rattle.policy_words.specs.Naming.{NamedPolicy}
-use Rattle.policy_commands.specs.Ends.{Told, told}
+use Rattle.policy_commands.specs.Ends.{EndView, told}
 use Rattle.policy_commands.specs.Finding.{too_long}
 use Rattle.request_text.specs.declared.lines.Line.{Line}
 use Rattle.request_text.specs.declared.lines.Line.TheVariants.{Silent, At, Be, Ask}
 use Rattle.request_text.specs.declared.lines.LineFault.{LineFault}
 use Rattle.request_text.specs.Replies.{reply_line, fault_word}
-use Rattle.gtrbac_tool.specs.Told.{behind, script_fault, steps_full}
-use Rattle.gtrbac_tool.specs.Script.{Going, Moves, Plays, Stops, Run, Start, never, born, failed, start_of, EndsFrom, EndsIf, said, scripts_who, at_birth, max_script}
+use Rattle.gtrbac_tool.specs.EndTexts.{behind, script_fault, steps_full}
+use Rattle.gtrbac_tool.specs.Script.{Going, Moves, Plays, Stops, Run, ScriptStart, never, born, failed, start_of, EndsFrom, EndsIf, said, scripts_who, at_birth}
 use Rattle.gtrbac_tool.specs.Meanings.{SomeEnd}
 use Rattle.gtrbac_tool.proofs.Continuing.{TicksOn, ticks_go_on, asks_on}
 use Rattle.gtrbac_tool.proofs.Steps.{plays_more}
+use Rattle.gtrbac_tool.specs.declared.top.TheConstants.{MAX_SCRIPT}
 
 -- how a run goes on from where it stands
 pub record EndsOn (np : NamedPolicy) (birth n : ℕ) (lines : List (List ℕ)) (s : Going) : Type 0 where
-  pub end : Told
+  pub end : EndView
   pub run : Run np birth n lines end
   pub more : List ℕ
   pub text : end.text ≡ s.text ++ more
 
 module _ (np : NamedPolicy) (birth n : ℕ) (safe : IsSafe np.policy.triggers) where
   abbrev Stands : List (List ℕ) → Going → Model → Type 0
-  Stands front s m = Plays np birth front (at_birth np birth) s × Legal np.policy birth s.history m × (length s.history ≤ max_steps)
+  Stands front s m = Plays np birth front (at_birth np birth) s × Legal np.policy birth s.history m × (length s.history ≤ MAX_STEPS)
 
   all_played : (front : List (List ℕ)) (s : Going) (m : Model) → Stands front s m → EndsOn np birth n (front ++ []) s
   all_played front s m is =
@@ -67,7 +68,7 @@ module _ (np : NamedPolicy) (birth n : ℕ) (safe : IsSafe np.policy.triggers) w
           text = rest.text ∙ ap (λ (x : List ℕ). x ++ rest.more) is ∙ append_assoc s.text more rest.more;
         }
 
-    stopped_so : (h : List Entry) (k : Model) (t : Told) → Plays np birth front (at_birth np birth) s → Legal np.policy birth h k → Stops np birth (said np line) (n + length front) s h (behind s.text t) → Here
+    stopped_so : (h : List Entry) (k : Model) (t : EndView) → Plays np birth front (at_birth np birth) s → Legal np.policy birth h k → Stops np birth (said np line) (n + length front) s h (behind s.text t) → Here
     stopped_so h k t plays legal stops =
         record {
           end = behind s.text t;
@@ -77,7 +78,7 @@ module _ (np : NamedPolicy) (birth n : ℕ) (safe : IsSafe np.policy.triggers) w
         }
 
     abbrev Goes : Type 0
-    Goes = (t : Going) (k : Model) → Moves np birth (said np line) s t → Legal np.policy birth t.history k → length t.history ≤ max_steps → There t
+    Goes = (t : Going) (k : Model) → Moves np birth (said np line) s t → Legal np.policy birth t.history k → length t.history ≤ MAX_STEPS → There t
 
     by_line : (m : Model) → Stands front s m → Goes → (r : Result Line LineFault) → said np line ≡ r → Here
     by_line m is on (Ok Silent) e =
@@ -96,7 +97,7 @@ module _ (np : NamedPolicy) (birth n : ℕ) (safe : IsSafe np.policy.triggers) w
         t : Going
         t = record { actor = s.actor; history = h; text = s.text }
 
-        by : (minute ≤ now_of birth h) ⊎ ((now_of birth h < minute) × (length h ≡ max_steps)) → Here
+        by : (minute ≤ now_of birth h) ⊎ ((now_of birth h < minute) × (length h ≡ MAX_STEPS)) → Here
         by (inl there) =
             moved_on t [] (sym (append-nil s.text))
             (on t go.model (subst (λ (r : Result Line LineFault). Moves np birth r s t) (sym e) (h, record { ticks = go.ticks; added = refl; are_ticks = go.are_ticks; there = there; room = go.short }, refl)) go.legal go.short)
@@ -104,19 +105,19 @@ module _ (np : NamedPolicy) (birth n : ℕ) (safe : IsSafe np.policy.triggers) w
             stopped_so h go.model (steps_full (n + length front)) is.0 go.legal
             (subst (λ (r : Result Line LineFault). Stops np birth r (n + length front) s h (behind s.text (steps_full (n + length front)))) (sym e)
             (record { ticks = go.ticks; added = refl; are_ticks = go.are_ticks; before = full.0; full = full.1 }, refl))
-    by_line m is on (Ok (Ask request)) e = split (nat_lt (length s.history) max_steps) room none
+    by_line m is on (Ok (Ask request)) e = split (nat_lt (length s.history) MAX_STEPS) room none
       where
-        room : nat_lt (length s.history) max_steps ≡ true → Here
+        room : nat_lt (length s.history) MAX_STEPS ≡ true → Here
         room y =
-            let lt : length s.history < max_steps = ltb-true (length s.history) max_steps y in
+            let lt : length s.history < MAX_STEPS = ltb-true (length s.history) MAX_STEPS y in
             let a = asks_on np.policy birth safe s.history m is.1 s.actor request in
             let t : Going = record { actor = s.actor; history = s.history ++ asked scripts_who s.actor request a.0 ∷ []; text = s.text ++ reply_line np a.0 } in
             moved_on t (reply_line np a.0) refl
             (on t a.1 (subst (λ (r : Result Line LineFault). Moves np birth r s t) (sym e) (a.0, lt, refl)) a.2 (omega (arith, lt, length-append s.history (asked scripts_who s.actor request a.0 ∷ []))))
 
-        none : nat_lt (length s.history) max_steps ≡ false → Here
+        none : nat_lt (length s.history) MAX_STEPS ≡ false → Here
         none y =
-            let full : length s.history ≡ max_steps = omega (arith, is.2, ltb-false (length s.history) max_steps y) in
+            let full : length s.history ≡ MAX_STEPS = omega (arith, is.2, ltb-false (length s.history) MAX_STEPS y) in
             stopped_so s.history m (steps_full (n + length front)) is.0 is.1
             (subst (λ (r : Result Line LineFault). Stops np birth r (n + length front) s s.history (behind s.text (steps_full (n + length front)))) (sym e) (full, refl, refl))
     by_line m is on (Err fault) e =
@@ -134,14 +135,14 @@ module _ (np : NamedPolicy) (birth n : ℕ) (safe : IsSafe np.policy.triggers) w
   pub ends_born : (lines : List (List ℕ)) → EndsOn np birth n lines (at_birth np birth)
   ends_born lines = ends_on lines [] (at_birth np birth) (λ t. nothing) (refl, record { model = λ t a b. absurd (omega (arith, a, b)); steps = tt }, omega arith)
 
-from_start : (np : NamedPolicy) → IsSafe np.policy.triggers → (start : Start) → (end : Told) × EndsFrom np start end
+from_start : (np : NamedPolicy) → IsSafe np.policy.triggers → (start : ScriptStart) → (end : EndView) × EndsFrom np start end
 from_start np safe never = (told 0 [], refl)
 from_start np safe (born birth n lines) = let on = ends_born np birth n safe lines in (on.end, on.run)
 from_start np safe (failed t) = (t, refl)
 
-some_if : (np : NamedPolicy) → IsSafe np.policy.triggers → (script : List ℕ) (b : Bool) → (end : Told) × EndsIf b np script end
+some_if : (np : NamedPolicy) → IsSafe np.policy.triggers → (script : List ℕ) (b : Bool) → (end : EndView) × EndsIf b np script end
 some_if np safe script true = (too_long (codes "script"), refl)
 some_if np safe script false = from_start np safe (start_of np 1 (lines_of script))
 
 pub some_end : SomeEnd
-some_end np safe script = some_if np safe script (is_longer max_script script)
+some_end np safe script = some_if np safe script (is_longer MAX_SCRIPT script)

@@ -1,23 +1,21 @@
 -- The steps of a run.
 use Rattle.std.proofs.Common.{◌≡◌, ℕ, ◌+◌, ◌<◌, ◌≤◌, true, false, List, [], ◌∷◌, ◌++◌, length, inl, inr, refl, sym, ◌∙◌, ap, subst, arith, append_assoc}
 use Rattle.std.specs.Prelude.{Bool, MatchBool, Result, Ok, Err, IfOk}
-use Rattle.gt_base.specs.Bounds.{max_steps}
 use Rattle.gt_base.specs.Machines.{ticked}
 use Rattle.gt_base.specs.declared.requests.Actor.{Actor}
 use Rattle.gt_base.specs.declared.requests.Entry.{Entry}
 use Rattle.gt_base.specs.declared.requests.Reply.{Reply}
 use Rattle.gt_base.specs.declared.requests.Request.{Request}
-use Rattle.gt_base.specs.declared.requests.Step.{Step}
-use Rattle.gt_base.specs.declared.requests.Step.TheVariants.{Tick, Ask as AskStep}
+use Rattle.gt_base.specs.declared.limits.TheConstants.{MAX_STEPS}
 use Rattle.gtrbac_model.proofs.Append.{append-nil}
 use Rattle.gtrbac_model.specs.History.{Legal, now_of}
 use Rattle.gtrbac_model.specs.Policy.{Policy}
-use Rattle.history_laws.specs.Named.{IsNamedStep as IsNamedStepOf, AreNamed as AreNamedOf}
+use Rattle.history_laws.specs.Named.{AreNamed}
 use Rattle.history_laws.proofs.NamedPoints.{points_are_named}
 use Rattle.policy_words.specs.Naming.{NamedPolicy}
 use Rattle.gtrbac_tool.specs.declared.script.Outcome.{Outcome}
-use Rattle.policy_commands.specs.Ends.{Told, told, seen_end}
-use Rattle.core_machine.specs.Books.{BookView, IsBook, IsLegalBook, IsNamedStep, AreNamed, SameRoot, SameRoot-refl, SameRoot-trans, GoesOn, Asks, now_in, model_in, point_in, reply_in}
+use Rattle.policy_commands.specs.Ends.{EndView, told, seen_end}
+use Rattle.core_machine.specs.Books.{BookView, IsBook, IsLegalBook, SameRoot, SameRoot-refl, SameRoot-trans, GoesOn, Asks, now_in, model_in, point_in, reply_in}
 use Rattle.request_text.specs.Laws.{CanBeWritten}
 use Rattle.request_text.specs.Replies.{reply_line}
 use Rattle.request_text.specs.declared.lines.Line.{Line}
@@ -27,9 +25,16 @@ use Rattle.request_text.proofs.BriefWalks.{brief_reply}
 use Rattle.request_text.proofs.SoundReplies.{reply_sounds}
 use Rattle.gtrbac_tool.specs.declared.script.Played.{Played}
 use Rattle.gtrbac_tool.specs.declared.script.Played.TheVariants.{On, Full}
-use Rattle.gtrbac_tool.specs.Told.{behind}
+use Rattle.gtrbac_tool.specs.EndTexts.{behind}
 use Rattle.gtrbac_tool.specs.Script.{Going, AreTicks, Arrives, IsFilled, Moves, Plays, Stops, RunOver, said, scripts_who, at_birth}
-use Rattle.gtrbac_tool.specs.Going.{going_of, played_as, PlaysAs, Ticked, IsOutcome}
+use Rattle.gtrbac_tool.specs.Going.{going_of, played_as, PlaysAs, IsOutcome}
+
+-- ticks with this bound were added
+pub record Ticked (bound : ℕ) (old new : BookView) : Type 0 where
+  pub root : SameRoot old new
+  pub ticks : List Entry
+  pub added : new.entries ≡ old.entries ++ ticks
+  pub are_ticks : AreTicks bound ticks
 
 -- ticks on the way
 
@@ -50,28 +55,20 @@ tick_more bound to b b' b'' way step =
       are_ticks = are_more bound to way.ticks way.are_ticks;
     }
 
-pub arrives : (minute : ℕ) (b b' : BookView) → Ticked minute b b' → minute ≤ now_in b' → length b'.entries ≤ max_steps → Arrives b.birth minute b.entries b'.entries
+pub arrives : (minute : ℕ) (b b' : BookView) → Ticked minute b b' → minute ≤ now_in b' → length b'.entries ≤ MAX_STEPS → Arrives b.birth minute b.entries b'.entries
 arrives minute b b' way le room =
     record { ticks = way.ticks; added = way.added; are_ticks = way.are_ticks; there = subst (λ (t : ℕ). minute ≤ now_of t b'.entries) (sym way.root.1) le; room = room }
 
-pub fills : (minute : ℕ) (b b' : BookView) → Ticked minute b b' → now_in b' < minute → length b'.entries ≡ max_steps → IsFilled b.birth minute b.entries b'.entries
+pub fills : (minute : ℕ) (b b' : BookView) → Ticked minute b b' → now_in b' < minute → length b'.entries ≡ MAX_STEPS → IsFilled b.birth minute b.entries b'.entries
 fills minute b b' way early full =
     record { ticks = way.ticks; added = way.added; are_ticks = way.are_ticks; before = subst (λ (t : ℕ). now_of t b'.entries < minute) (sym way.root.1) early; full = full }
 
 -- a reply of a book can be written
 
-same_step : (p : Policy) (s : Step) → IsNamedStep p s → IsNamedStepOf p s
-same_step p (Tick upto to) h = h
-same_step p (AskStep actor request reply) h = h
-
-same_named : (p : Policy) (h : List Entry) → AreNamed p h → AreNamedOf p h
-same_named p [] n = tt
-same_named p (e ∷ h) n = (same_step p e.what n.0, same_named p h n.1)
-
 pub can_write : (b : BookView) → IsBook b → (actor : Actor) (request : Request) → CanBeWritten b.named (reply_in b actor request)
 can_write b book actor request =
     let p : Policy = b.named.policy in
-    let named : AreNamedOf p (b.entries ++ []) = subst (λ (h : List Entry). AreNamedOf p h) (sym (append-nil b.entries)) (same_named p b.entries book.named) in
+    let named : AreNamed p (b.entries ++ []) = subst (λ (h : List Entry). AreNamed p h) (sym (append-nil b.entries)) book.named in
     let legal : Legal p b.birth (b.entries ++ []) (model_in b) = subst (λ (h : List Entry). Legal p b.birth h (model_in b)) (sym (append-nil b.entries)) book.legal in
     let is = reply_sounds p (point_in b) (points_are_named p b.birth b.entries [] (model_in b) book.well.policy book.birth named legal) actor request in
     record { named = is.named; sound = is.sound; brief = brief_reply b.named book.well _ is.named is.sound }
@@ -84,14 +81,14 @@ pub went : (b b' : BookView) (actor : Actor) (text : List ℕ) (minute : ℕ) (t
 went b b' actor text minute true h = (b'.entries, h, refl)
 went b b' actor text minute false h = (refl, λ n. (h, refl))
 
-pub was_asked : (b b' : BookView) (actor : Actor) (request : Request) (reply : Reply) (text text' line : List ℕ) → length b.entries < max_steps
+pub was_asked : (b b' : BookView) (actor : Actor) (request : Request) (reply : Reply) (text text' line : List ℕ) → length b.entries < MAX_STEPS
     → Asks b scripts_who actor request reply b' → line ≡ reply_line b'.named reply → text' ≡ text ++ line
     → PlaysAs b.named b.birth (Ok (Ask request)) On (going_of b actor text) (going_of b' actor text')
 was_asked b b' actor request reply text text' line room step line_is text_is =
     let all : text' ≡ text ++ reply_line b.named reply = text_is ∙ ap (λ (l : List ℕ). text ++ l) (line_is ∙ ap (λ (np : NamedPolicy). reply_line np reply) step.gains.named) in
     (reply, room, λ i. record { actor = actor; history = step.gains.entries i; text = all i })
 
-pub was_full : (b b' : BookView) (actor : Actor) (request : Request) (text : List ℕ) → b' ≡ b → length b.entries ≡ max_steps
+pub was_full : (b b' : BookView) (actor : Actor) (request : Request) (text : List ℕ) → b' ≡ b → length b.entries ≡ MAX_STEPS
     → PlaysAs b.named b.birth (Ok (Ask request)) Full (going_of b actor text) (going_of b' actor text)
 was_full b b' actor request text same full = (refl, λ n. (full, ap (λ (x : BookView). x.entries) same, refl))
 
@@ -114,7 +111,7 @@ legal_from b0 b root legal =
     subst (λ (np : NamedPolicy). Legal np.policy b0.birth b.entries (model_in b)) (sym root.0) (subst (λ (birth : ℕ). Legal b.named.policy birth b.entries (model_in b)) (sym root.1) legal)
 
 -- a line that ends the run
-pub stop_out : (b0 b : BookView) (before : Going) (text : List ℕ) (number at : ℕ) (lines later rest front : List (List ℕ)) (line : List ℕ) (kind : ℕ → Told) (end : Told)
+pub stop_out : (b0 b : BookView) (before : Going) (text : List ℕ) (number at : ℕ) (lines later rest front : List (List ℕ)) (line : List ℕ) (kind : ℕ → EndView) (end : EndView)
     → SameRoot b0 b → IsLegalBook b → lines ≡ front ++ later → later ≡ line ∷ rest → Plays b0.named b0.birth front (at_birth b0.named b0.birth) before → at ≡ number + length front
     → text ≡ before.text → ((n : ℕ) → Stops b0.named b0.birth (said b0.named line) n before b.entries (behind before.text (kind n))) → end ≡ behind text (kind (at + 1))
     → RunOver b0.named b0.birth (number + 1) lines b.entries end
@@ -131,12 +128,12 @@ stop_out b0 b before text number at lines later rest front line kind end root le
         parts = parts ∙ ap (λ (ls : List (List ℕ)). front ++ ls) steps;
         before = before;
         plays = plays;
-        stops = subst (λ (t : Told). Stops b0.named b0.birth (said b0.named line) ((number + 1) + length front) before b.entries t) end_is (stops ((number + 1) + length front));
+        stops = subst (λ (t : EndView). Stops b0.named b0.birth (said b0.named line) ((number + 1) + length front) before b.entries t) end_is (stops ((number + 1) + length front));
       });
     }
 
 -- behind the last line
-pub last_out : (b0 b : BookView) (actor : Actor) (text : List ℕ) (number : ℕ) (lines later front : List (List ℕ)) (end : Told)
+pub last_out : (b0 b : BookView) (actor : Actor) (text : List ℕ) (number : ℕ) (lines later front : List (List ℕ)) (end : EndView)
     → SameRoot b0 b → IsLegalBook b → lines ≡ front ++ later → later ≡ [] → Plays b0.named b0.birth front (at_birth b0.named b0.birth) (going_of b actor text) → end ≡ told 0 text
     → RunOver b0.named b0.birth (number + 1) lines b.entries end
 last_out b0 b actor text number lines later front end root legal parts none plays is =
@@ -148,11 +145,11 @@ last_out b0 b actor text number lines later front end root legal parts none play
     }
 
 -- the outcome of a run that left this book
-pub outcome : (b0 b : BookView) (n : ℕ) (lines : List (List ℕ)) (end : Told) → SameRoot b0 b → RunOver b0.named b0.birth n lines b.entries end → IsOutcome b0.named b0.birth n lines b end
+pub outcome : (b0 b : BookView) (n : ℕ) (lines : List (List ℕ)) (end : EndView) → SameRoot b0 b → RunOver b0.named b0.birth n lines b.entries end → IsOutcome b0.named b0.birth n lines b end
 outcome b0 b n lines end root run = record { of_policy = sym root.0; of_birth = sym root.1; run = run }
 
 -- what holds of the book and of the end that is told holds of the outcome that is answered
-pub of_outcome : (P : BookView → Told → Type 0) {E : Type 0} (r : Result Outcome E) (b : BookView) (x : Told) → IfOk r (λ o. (o.book ≡ b) × (seen_end o.end ≡ x)) → ((y : Told) → y ≡ x → P b y)
+pub of_outcome : (P : BookView → EndView → Type 0) {E : Type 0} (r : Result Outcome E) (b : BookView) (x : EndView) → IfOk r (λ o. (o.book ≡ b) × (seen_end o.end ≡ x)) → ((y : EndView) → y ≡ x → P b y)
     → IfOk r (λ o. P o.book (seen_end o.end))
 of_outcome P (Ok o) b x is h = subst (λ (b' : BookView). P b' (seen_end o.end)) (sym is.0) (h (seen_end o.end) is.1)
 of_outcome P (Err f) b x is h = tt

@@ -1,23 +1,23 @@
 -- What `gen` makes is read, judged safe and played to its end.
 use Rattle.std.proofs.Common.{◌≡◌, ◌⊎◌, inl, inr, ℕ, ◌+◌, ◌≤◌, ◌<◌, List, [], ◌∷◌, ◌++◌, map, length, Result, Ok, refl, sym, ap, ◌∙◌, subst, arith, append_assoc, append-nil}
-use Rattle.gt_base.specs.Bounds.{max_steps}
 use Rattle.gt_base.specs.Machines.{asked}
 use Rattle.gt_base.specs.declared.requests.Entry.{Entry}
+use Rattle.gt_base.specs.declared.limits.TheConstants.{MAX_STEPS}
 use Rattle.gtrbac_model.specs.Status.{Model}
 use Rattle.gtrbac_model.specs.History.{Legal}
 use Rattle.walk_laws.proofs.Closing.{tells}
 use Rattle.gt_text.specs.Lines.{lines_of}
 use Rattle.policy_words.specs.Naming.{NamedPolicy}
-use Rattle.policy_commands.specs.Ends.{Told}
+use Rattle.policy_commands.specs.Ends.{EndView}
 use Rattle.policy_commands.specs.Policies.{read_or_told, safe_or_told, judged, policy_in, judged_or_told, safe_in}
-use Rattle.policy_gen.specs.Draws.{first_minute}
 use Rattle.policy_gen.specs.Texts.{time_line, policy_text, script_text}
+use Rattle.policy_gen.specs.declared.scripts.TheConstants.{FIRST_MINUTE}
 use Rattle.request_text.specs.declared.lines.Line.{Line}
 use Rattle.request_text.specs.declared.lines.Line.TheVariants.{Silent, At, Be, Ask}
 use Rattle.request_text.specs.declared.lines.LineFault.{LineFault}
 use Rattle.gen_laws.specs.Made.{made_policy}
 use Rattle.gen_laws.specs.Played.{script_moves}
-use Rattle.gen_laws.specs.Following.{IsTickTo, AreTicksTo, Follows}
+use Rattle.gen_laws.specs.Following.{IsTickTo, AreTicksTo, FollowsLines}
 use Rattle.gen_laws.specs.Laws.{IsBorn}
 use Rattle.gen_laws.proofs.ReadPolicy.{policy_is_read, policy_is_safe}
 use Rattle.gen_laws.proofs.Script.{script_is_said, script_is_born}
@@ -62,8 +62,8 @@ in_parts rd (t ∷ ts) us (l ∷ ls) e =
 
 -- lines that follow one after another
 
-follows_both : (ls ms : List Line) (h g : List Entry) → Follows ls h → Follows ms g → Follows (ls ++ ms) (h ++ g)
-follows_both [] ms h g a b = subst (λ (x : List Entry). Follows ms (x ++ g)) (sym a) b
+follows_both : (ls ms : List Line) (h g : List Entry) → FollowsLines ls h → FollowsLines ms g → FollowsLines (ls ++ ms) (h ++ g)
+follows_both [] ms h g a b = subst (λ (x : List Entry). FollowsLines ms (x ++ g)) (sym a) b
 follows_both (Silent ∷ ls) ms h g a b = follows_both ls ms h g a b
 follows_both (Be actor ∷ ls) ms h g a b = follows_both ls ms h g a b
 follows_both (At minute ∷ ls) ms h g a b = (a.0, a.1 ++ g, ap (λ (x : List Entry). x ++ g) a.2 ∙ append_assoc a.0 a.1 g, a.3, follows_both ls ms a.1 g a.4 b)
@@ -78,7 +78,7 @@ module _ (np : NamedPolicy) (birth : ℕ) where
   pub record Added (ls : List Line) (s t : Going) : Type 0 where
     pub entries : List Entry
     pub added : t.history ≡ s.history ++ entries
-    pub follows : Follows ls entries
+    pub follows : FollowsLines ls entries
 
   one_move : (l : Line) (ls : List Line) (s m t : Going) → Moves np birth (Ok l) s m → Added ls m t → Added (l ∷ ls) s t
   one_move Silent ls s m t move rest =
@@ -120,62 +120,62 @@ module _ (seed size : ℕ) (low : 1 ≤ size) (high : size ≤ 100_000) where
   -- what the lines behind the birth say
   moves : map (said np) made.behind ≡ map (λ l. Ok l) (script_moves seed size)
   moves =
-      tail_same (said np (time_line first_minute)) (Ok (At first_minute)) (map (said np) made.behind) (map (λ l. Ok l) (script_moves seed size))
+      tail_same (said np (time_line FIRST_MINUTE)) (Ok (At FIRST_MINUTE)) (map (said np) made.behind) (map (λ l. Ok l) (script_moves seed size))
       (ap (map (said np)) (sym made.lines_are) ∙ script_is_said seed size low high)
 
-  never_full : (h : List Entry) → length h < max_steps → length h ≡ max_steps → ⊥
+  never_full : (h : List Entry) → length h < MAX_STEPS → length h ≡ MAX_STEPS → ⊥
   never_full h lt e = omega (arith, lt, e)
 
   -- no line stops the run
-  module _ (front : List (List ℕ)) (line : List ℕ) (rest : List (List ℕ)) (is : made.behind ≡ front ++ line ∷ rest) (before : Going) (plays : Plays np first_minute front (at_birth np first_minute) before)
-      (h : List Entry) (m : Model) (legal : Legal np.policy first_minute h m) where
+  module _ (front : List (List ℕ)) (line : List ℕ) (rest : List (List ℕ)) (is : made.behind ≡ front ++ line ∷ rest) (before : Going) (plays : Plays np FIRST_MINUTE front (at_birth np FIRST_MINUTE) before)
+      (h : List Entry) (m : Model) (legal : Legal np.policy FIRST_MINUTE h m) where
     cut : Parts (said np) front (line ∷ rest) (script_moves seed size)
     cut = in_parts (said np) front (line ∷ rest) (script_moves seed size) (ap (map (said np)) (sym is) ∙ moves)
 
-    so_far : Added np first_minute cut.front (at_birth np first_minute) before
-    so_far = run_added np first_minute front cut.front (at_birth np first_minute) before cut.of_front plays
+    so_far : Added np FIRST_MINUTE cut.front (at_birth np FIRST_MINUTE) before
+    so_far = run_added np FIRST_MINUTE front cut.front (at_birth np FIRST_MINUTE) before cut.of_front plays
 
     whole_front : before.history ≡ so_far.entries
     whole_front = so_far.added
 
-    no_stop : (back : List Line) → cut.back ≡ back → map (said np) (line ∷ rest) ≡ map (λ l. Ok l) back → (n : ℕ) (end : Told) → Stops np first_minute (said np line) n before h end → ⊥
+    no_stop : (back : List Line) → cut.back ≡ back → map (said np) (line ∷ rest) ≡ map (λ l. Ok l) back → (n : ℕ) (end : EndView) → Stops np FIRST_MINUTE (said np line) n before h end → ⊥
     no_stop [] e of n end stops = cc
-    no_stop (l ∷ ls) e of n end stops = by l e (subst (λ (r : Result Line LineFault). Stops np first_minute r n before h end) (head_same (said np line) (Ok l) (map (said np) rest) (map (λ l. Ok l) ls) of) stops)
+    no_stop (l ∷ ls) e of n end stops = by l e (subst (λ (r : Result Line LineFault). Stops np FIRST_MINUTE r n before h end) (head_same (said np line) (Ok l) (map (said np) rest) (map (λ l. Ok l) ls) of) stops)
       where
-        by : (l : Line) → cut.back ≡ l ∷ ls → Stops np first_minute (Ok l) n before h end → ⊥
+        by : (l : Line) → cut.back ≡ l ∷ ls → Stops np FIRST_MINUTE (Ok l) n before h end → ⊥
         by Silent e stops = stops
         by (Be actor) e stops = stops
         by (At minute) e stops =
-            let filled : IsFilled first_minute minute before.history h = stops.0 in
+            let filled : IsFilled FIRST_MINUTE minute before.history h = stops.0 in
             never_full h
             (history_is_short seed size low high (cut.front ++ At minute ∷ []) ls (append_assoc cut.front (At minute ∷ []) ls ∙ ap (λ (x : List Line). cut.front ++ x) (sym e) ∙ sym cut.parts) h m
-            (subst (λ (x : List Entry). Follows (cut.front ++ At minute ∷ []) x) (ap (λ (x : List Entry). x ++ filled.ticks) (sym whole_front) ∙ sym filled.added)
+            (subst (λ (x : List Entry). FollowsLines (cut.front ++ At minute ∷ []) x) (ap (λ (x : List Entry). x ++ filled.ticks) (sym whole_front) ∙ sym filled.added)
             (follows_both cut.front (At minute ∷ []) so_far.entries filled.ticks so_far.follows (filled.ticks, [], sym (append-nil filled.ticks), ticks_to minute filled.ticks filled.are_ticks, refl)))
             legal)
             filled.full
         by (Ask request) e stops =
             never_full before.history
-            (subst (λ (x : List Entry). length x < max_steps) stops.1
+            (subst (λ (x : List Entry). length x < MAX_STEPS) stops.1
             (history_is_short seed size low high cut.front (Ask request ∷ ls) (ap (λ (x : List Line). cut.front ++ x) (sym e) ∙ sym cut.parts) h m
-            (subst (λ (x : List Entry). Follows cut.front x) (sym (stops.1 ∙ whole_front)) so_far.follows) legal))
+            (subst (λ (x : List Entry). FollowsLines cut.front x) (sym (stops.1 ∙ whole_front)) so_far.follows) legal))
             stops.0
 
-  sums : (g : Gen) (end : Told) → Summed np g first_minute 2 made.behind end → end.status ≡ 0
-  sums g end s = ap (λ (t : Told). t.status) s.end_is ∙ by s.run.ends
+  sums : (g : Gen) (end : EndView) → Summed np g FIRST_MINUTE 2 made.behind end → end.status ≡ 0
+  sums g end s = ap (λ (t : EndView). t.status) s.end_is ∙ by s.run.ends
     where
-      by : PlayedOut np first_minute made.behind s.history s.ran ⊎ StoppedAt np first_minute 2 made.behind s.history s.ran → (summed np g first_minute s.history s.ran).status ≡ 0
-      by (inl played) = ap (λ (t : Told). (summed np g first_minute s.history t).status) played.end_is
+      by : PlayedOut np FIRST_MINUTE made.behind s.history s.ran ⊎ StoppedAt np FIRST_MINUTE 2 made.behind s.history s.ran → (summed np g FIRST_MINUTE s.history s.ran).status ≡ 0
+      by (inl played) = ap (λ (t : EndView). (summed np g FIRST_MINUTE s.history t).status) played.end_is
       by (inr stopped) = absurd (no_stop stopped.front stopped.line stopped.rest stopped.parts stopped.before stopped.plays s.history s.run.model s.run.legal
           (cut stopped.front stopped.line stopped.rest stopped.parts stopped.before stopped.plays s.history s.run.model s.run.legal).back refl
           (cut stopped.front stopped.line stopped.rest stopped.parts stopped.before stopped.plays s.history s.run.model s.run.legal).of_back
           (2 + length stopped.front) s.ran stopped.stops)
 
 -- `gen` ends with its summary
-pub gen_succeeds : (g : Gen) → 1 ≤ g.size → g.size ≤ 100_000 → (end : Told) → GenEnds g end → end.status ≡ 0
+pub gen_succeeds : (g : Gen) → 1 ≤ g.size → g.size ≤ 100_000 → (end : EndView) → GenEnds g end → end.status ≡ 0
 gen_succeeds g low high end ends =
     let np : NamedPolicy = made_policy g.size in
     let born_so : IsBorn g.seed g.size = made g.seed g.size low high in
     let read : SummedFrom np g (start_of np 1 (lines_of (script_text g.seed g.size))) end = subst (λ r. SummedOver g r end) (safe_made g.size low) ends in
-    let starts : start_of np 1 (lines_of (script_text g.seed g.size)) ≡ born first_minute 2 born_so.behind =
+    let starts : start_of np 1 (lines_of (script_text g.seed g.size)) ≡ born FIRST_MINUTE 2 born_so.behind =
     ap (start_of np 1) born_so.lines_are ∙ ap (λ r. begun np r 1 born_so.behind (start_of np 2 born_so.behind)) born_so.birth in
     sums g.seed g.size low high g end (subst (λ s. SummedFrom np g s end) starts read)

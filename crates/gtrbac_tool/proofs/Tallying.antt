@@ -1,5 +1,5 @@
 -- The counted replies by their texts, and how `gen` ends.
-use Rattle.std.proofs.Common.{◌≡◌, ℕ, List, ◌++◌, true, false, refl, sym, ap, ◌∙◌, subst}
+use Rattle.std.proofs.Common.{◌≡◌, ℕ, List, ◌++◌, true, false, refl, sym, ap, ◌∙◌, subst, if◌then◌else◌}
 use Rattle.std.specs.Prelude.{Bool, nat_eq, codes, decimal, Result, Ok as Fine, Err, IfOk}
 use Rattle.std.specs.List.{count_by}
 use Rattle.std.proofs.lemmas.Bool.{ne_eqb}
@@ -12,19 +12,19 @@ use Rattle.gt_base.specs.declared.requests.Step.TheVariants.{Tick, Ask}
 use Rattle.gt_base.specs.declared.requests.Entry.{Entry}
 use Rattle.policy_words.specs.Naming.{NamedPolicy}
 use Rattle.policy_commands.specs.declared.ends.End.{End}
-use Rattle.policy_commands.specs.Ends.{Told, told, seen_end}
+use Rattle.policy_commands.specs.Ends.{EndView, told, seen_end}
 use Rattle.request_text.specs.Replies.{reply_text}
-use Rattle.gtrbac_tool.specs.declared.summing.Word.{Word}
-use Rattle.gtrbac_tool.specs.declared.summing.Word.TheVariants.{Ok, Permit, Deny, Refused}
+use Rattle.gtrbac_tool.specs.declared.summing.ReplyWord.{ReplyWord}
+use Rattle.gtrbac_tool.specs.declared.summing.ReplyWord.TheVariants.{Ok, Permit, Deny, Refused}
 use Rattle.gtrbac_tool.specs.Script.{start_of}
-use Rattle.gtrbac_tool.specs.Summary.{Gen, begins, is_answered, count_line, summary, summed, SummedFrom, SummedOver, GenEnds, gen_line, steps_line, end_line}
+use Rattle.gtrbac_tool.specs.Summary.{Gen, has_front, is_answered, count_line, summary, summed, SummedFrom, SummedOver, GenEnds, gen_line, steps_line, end_line}
 use Rattle.gtrbac_tool.specs.Counted.{word_text, replies, counts, tally_line, tally}
 use Rattle.gt_text.specs.Lines.{lines_of}
 use Rattle.policy_commands.specs.Policies.{safe_in}
 use Rattle.policy_commands.specs.Admitting.{IsEnded}
 use Rattle.policy_gen.specs.Texts.{policy_text, script_text}
 
-replies_begin : (np : NamedPolicy) (w : Word) (r : Reply) → replies w r ≡ begins (word_text w) (reply_text np r)
+replies_begin : (np : NamedPolicy) (w : ReplyWord) (r : Reply) → replies w r ≡ has_front (word_text w) (reply_text np r)
 replies_begin np Ok (Now t) = refl
 replies_begin np Ok (Truth true) = refl
 replies_begin np Ok (Truth false) = refl
@@ -86,24 +86,24 @@ replies_begin np Refused (Decided NoGrant) = refl
 replies_begin np Refused (Decided (Shut n)) = refl
 replies_begin np Refused (IsRefused f) = refl
 
-counts_begin : (np : NamedPolicy) (w : Word) (s : Step) → counts w s ≡ is_answered np (word_text w) s
+counts_begin : (np : NamedPolicy) (w : ReplyWord) (s : Step) → counts w s ≡ is_answered np (word_text w) s
 counts_begin np w (Tick upto to) = refl
 counts_begin np w (Ask actor request reply) = replies_begin np w reply
 
-line_is : (np : NamedPolicy) (w : Word) (h : List Entry) → tally_line w h ≡ count_line np (word_text w) h
+line_is : (np : NamedPolicy) (w : ReplyWord) (h : List Entry) → tally_line w h ≡ count_line np (word_text w) h
 line_is np w h = λ i. word_text w ++ codes " " ++ decimal (count_by (λ (e : Entry). counts_begin np w e.what i) h) ++ codes "\n"
 
 tally_is : (np : NamedPolicy) (g : Gen) (birth : ℕ) (h : List Entry) → tally g birth h ≡ summary np g birth h
 tally_is np g birth h = λ i. gen_line g ++ steps_line h ++ line_is np Ok h i ++ line_is np Permit h i ++ line_is np Deny h i ++ line_is np Refused h i ++ end_line birth h
 
 -- the run's own end
-pub sums_otherwise : (np : NamedPolicy) (g : Gen) (birth : ℕ) (h : List Entry) (ran : Told) → nat_eq ran.status 0 ≡ false → ran ≡ summed np g birth h ran
-sums_otherwise np g birth h ran off = sym (ap (λ (b : Bool). elim b as (λ _. Told) [ true ↦ told 0 (summary np g birth h) | false ↦ ran ]) off)
+pub sums_otherwise : (np : NamedPolicy) (g : Gen) (birth : ℕ) (h : List Entry) (ran : EndView) → nat_eq ran.status 0 ≡ false → ran ≡ summed np g birth h ran
+sums_otherwise np g birth h ran off = sym (ap (λ (b : Bool). if b then told 0 (summary np g birth h) else ran) off)
 
 -- the summary in its place
-pub sums : (np : NamedPolicy) (g : Gen) (birth : ℕ) (h : List Entry) (ran : Told) (text : List ℕ) → nat_eq ran.status 0 ≡ true → text ≡ tally g birth h → told 0 text ≡ summed np g birth h ran
+pub sums : (np : NamedPolicy) (g : Gen) (birth : ℕ) (h : List Entry) (ran : EndView) (text : List ℕ) → nat_eq ran.status 0 ≡ true → text ≡ tally g birth h → told 0 text ≡ summed np g birth h ran
 sums np g birth h ran text on is =
-    ap (λ (t : List ℕ). told 0 t) (is ∙ tally_is np g birth h) ∙ sym (ap (λ (b : Bool). elim b as (λ _. Told) [ true ↦ told 0 (summary np g birth h) | false ↦ ran ]) on)
+    ap (λ (t : List ℕ). told 0 t) (is ∙ tally_is np g birth h) ∙ sym (ap (λ (b : Bool). if b then told 0 (summary np g birth h) else ran) on)
 
 pub other_status : (s : ℕ) → (s ≡ 0 → ⊥) → nat_eq s 0 ≡ false
 other_status s h = ne_eqb s 0 h
@@ -117,10 +117,10 @@ pub gen_safe : {E : Type 0} (g : Gen) (np : NamedPolicy) (policy script : List �
     → IfOk r (λ e. SummedFrom np g (start_of np 1 (lines_of script)) (seen_end e)) → IfOk r (λ e. GenEnds g (seen_end e))
 gen_safe g np policy script (Fine e) safe p s h =
     let admitted : safe_in (policy_text g.size) ≡ Fine np = ap safe_in (sym p) ∙ safe in
-    subst (λ (o : Result NamedPolicy Told). SummedOver g o (seen_end e)) (sym admitted) (subst (λ (t : List ℕ). SummedFrom np g (start_of np 1 (lines_of t)) (seen_end e)) s h)
+    subst (λ (o : Result NamedPolicy EndView). SummedOver g o (seen_end e)) (sym admitted) (subst (λ (t : List ℕ). SummedFrom np g (start_of np 1 (lines_of t)) (seen_end e)) s h)
 gen_safe g np policy script (Err f) safe p s h = tt
 
 pub gen_ended : (g : Gen) (policy : List ℕ) (end : End) → IsEnded policy end → policy ≡ policy_text g.size → GenEnds g (seen_end end)
 gen_ended g policy end is p =
     let refused : safe_in (policy_text g.size) ≡ Err (seen_end end) = ap safe_in (sym p) ∙ is.told in
-    subst (λ (o : Result NamedPolicy Told). SummedOver g o (seen_end end)) (sym refused) refl
+    subst (λ (o : Result NamedPolicy EndView). SummedOver g o (seen_end end)) (sym refused) refl

@@ -5,9 +5,9 @@ use Rattle.std.proofs.Math.Seq.{take-append_seam, take-append-add}
 use Rattle.std.specs.Io.KnownBytes.{Appends, Keeps}
 use Rattle.std.proofs.KnownBytes.{Appends-nil, Appends-trans, Appends-kept}
 use Rattle.gt_io.specs.Causes.{Rose, AppendsPart}
-use Rattle.policy_commands.specs.Ends.{Told}
+use Rattle.policy_commands.specs.Ends.{EndView}
 use Rattle.policy_commands.specs.Printing.{IsPrinted}
-use Rattle.gtrbac_tool.specs.Told.{behind}
+use Rattle.gtrbac_tool.specs.EndTexts.{behind}
 use Rattle.gtrbac_tool.specs.Writing.{Prints, AppendsPrefix, Writes, Sends}
 
 -- what was written so far is a prefix of each text that begins with it
@@ -36,29 +36,29 @@ part_before a b text more part =
     )
 
 -- what is printed behind what was written
-pub printed_behind : (status : ℕ) (a b c : Option (List ℕ)) (first before now : ℕ) (sent : List ℕ) (end : Told) → Appends a b sent → before ≡ first
+pub printed_behind : (status : ℕ) (a b c : Option (List ℕ)) (first before now : ℕ) (sent : List ℕ) (end : EndView) → Appends a b sent → before ≡ first
     → IsPrinted status end b c before now → IsPrinted status (behind sent end) a c first now
 printed_behind status a b c first before now sent end written steady (inl p) = inl (p.0, Appends-trans a b c sent end.text written p.1, p.2 ∙ steady)
 printed_behind status a b c first before now sent end written steady (inr p) =
     inr (p.0, subst (λ (n : ℕ). Rose n now) steady p.1, part_behind a b c sent end.text written p.2)
 
 -- the end at a line, behind what waits, which is behind what was written
-pub stop_written : (status : ℕ) (a b c : Option (List ℕ)) (first before now : ℕ) (sent page : List ℕ) (t : Told) (Ends : Told → Type 0) → Appends a b sent → before ≡ first
-    → Ends (behind (sent ++ page) t) → Prints (λ (end : Told). end ≡ behind page t) status b c before now → Writes Ends status a c first now
+pub stop_written : (status : ℕ) (a b c : Option (List ℕ)) (first before now : ℕ) (sent page : List ℕ) (t : EndView) (Ends : EndView → Type 0) → Appends a b sent → before ≡ first
+    → Ends (behind (sent ++ page) t) → Prints (λ (end : EndView). end ≡ behind page t) status b c before now → Writes Ends status a c first now
 stop_written status a b c first before now sent page t Ends written steady is (inl wants) = (
   behind (sent ++ page) t,
   is,
   inr (wants.0, prefix_of a c sent (page ++ t.text) ((sent ++ page) ++ t.text) (Appends-kept a b c sent written wants.1) (append_assoc sent page t.text), wants.2 ∙ steady),
 )
 stop_written status a b c first before now sent page t Ends written steady is (inr p) =
-    let printed : IsPrinted status (behind page t) b c before now = subst (λ (end : Told). IsPrinted status end b c before now) p.1 p.2 in
+    let printed : IsPrinted status (behind page t) b c before now = subst (λ (end : EndView). IsPrinted status end b c before now) p.1 p.2 in
     let all : behind sent (behind page t) ≡ behind (sent ++ page) t = λ i. record { status = t.status; text = sym (append_assoc sent page t.text) i } in
-    (behind (sent ++ page) t, is, inl (subst (λ (end : Told). IsPrinted status end a c first now) all (printed_behind status a b c first before now sent (behind page t) written steady printed)))
+    (behind (sent ++ page) t, is, inl (subst (λ (end : EndView). IsPrinted status end a c first now) all (printed_behind status a b c first before now sent (behind page t) written steady printed)))
 
 -- an end that is printed at once
-pub print_written : (status : ℕ) (a b : Option (List ℕ)) (before now : ℕ) (t : Told) (Ends : Told → Type 0) → Ends t → Prints (λ (end : Told). end ≡ t) status a b before now → Writes Ends status a b before now
+pub print_written : (status : ℕ) (a b : Option (List ℕ)) (before now : ℕ) (t : EndView) (Ends : EndView → Type 0) → Ends t → Prints (λ (end : EndView). end ≡ t) status a b before now → Writes Ends status a b before now
 print_written status a b before now t Ends is (inl wants) = (t, is, inr (wants.0, nothing_of a b t.text wants.1, wants.2))
-print_written status a b before now t Ends is (inr p) = (t, is, inl (subst (λ (end : Told). IsPrinted status end a b before now) p.1 p.2))
+print_written status a b before now t Ends is (inr p) = (t, is, inl (subst (λ (end : EndView). IsPrinted status end a b before now) p.1 p.2))
 
 -- a piece more was written
 pub sends_on : (a b c : Option (List ℕ)) (sent before after : List ℕ) → Appends a b sent → (s : Sends b c before after) → Appends a c (sent ++ s.sent) × (sent ++ before ≡ (sent ++ s.sent) ++ after)

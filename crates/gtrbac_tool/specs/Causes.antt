@@ -5,18 +5,18 @@ use Rattle.gt_io.specs.Shelf.{Contents, Lacks}
 use Rattle.gtrbac_model.specs.Safety.{IsSafe}
 use Rattle.policy_words.specs.Naming.{NamedPolicy}
 use Rattle.policy_words.specs.PolicyRead.{policy_read}
-use Rattle.policy_commands.specs.Finding.{max_policy}
-use Rattle.policy_commands.specs.Policies.{HasFault, IsUnsafeText}
+use Rattle.policy_commands.specs.Policies.{HasTextFault, IsUnsafeText}
 use Rattle.policy_commands.specs.Meanings.{IsSafeText}
+use Rattle.policy_commands.specs.declared.finding.TheConstants.{MAX_POLICY}
 use Rattle.gtrbac_tool.specs.declared.questions.Question.{Question}
-use Rattle.gtrbac_tool.specs.declared.ahead.Asked.{Asked}
+use Rattle.gtrbac_tool.specs.declared.ahead.Inquiry.{Inquiry}
 use Rattle.gtrbac_tool.specs.Late.{asks_of}
-use Rattle.gtrbac_tool.specs.Script.{max_script}
 use Rattle.gtrbac_tool.specs.Meanings.{MeetsFault, MeetsFull, IsWhole}
 use Rattle.gtrbac_tool.specs.Summary.{Gen, IsGen}
 use Rattle.gtrbac_tool.specs.Commands.{Command, check, fmt, run, named_by, command_of}
 use Rattle.gtrbac_tool.specs.Ends.{IsNoCommand}
 use Rattle.gtrbac_tool.specs.Scenes.{Scene}
+use Rattle.gtrbac_tool.specs.declared.top.TheConstants.{MAX_SCRIPT}
 
 -- Causes are seen surely, or perhaps: what shelf or input do not tell they may have, and a count of
 -- faults at the end of its type may have risen
@@ -60,7 +60,7 @@ Judges Holds (run name question) text = Holds text
 
 -- the command plays a script over a safe policy, and this holds of the policy and of what is asked,
 -- in numbers of the policy: none where it lacks a name
-abbrev pub Plays : (NamedPolicy → Option (Option Asked) → Type 0) → Command → List ℕ → Type 0
+abbrev pub Plays : (NamedPolicy → Option (Option Inquiry) → Type 0) → Command → List ℕ → Type 0
 Plays Holds (check name) text = ⊥
 Plays Holds (fmt name) text = ⊥
 Plays Holds (run name question) text =
@@ -72,12 +72,12 @@ IsAskedOf question text =
     (np : NamedPolicy) × IsSafeOf text np × IsSome (asks_of np question)
 
 -- the command asks for the script: it plays one, over such a text
-abbrev pub Asks : Command → List ℕ → Type 0
-Asks = Plays (λ np asked. IsSome asked)
+abbrev pub AsksForScript : Command → List ℕ → Type 0
+AsksForScript = Plays (λ np asked. IsSome asked)
 
 -- of a text that is not too long
 abbrev pub Short : (Command → List ℕ → Type 0) → Command → List ℕ → Type 0
-Short Holds c text = (length text ≤ max_policy) × Holds c text
+Short Holds c text = (length text ≤ MAX_POLICY) × Holds c text
 
 -- the shelf has the text of the command's policy, and this holds of both
 abbrev pub OnShelf : Sight → Contents → (Command → List ℕ → Type 0) → Command → Type 0
@@ -102,14 +102,14 @@ abbrev pub IsMissing : List (List ℕ) → Contents → Type 0
 IsMissing words texts = IsSomeAnd (command_of words) (λ c. Lacks texts (named_by c))
 
 abbrev pub IsTooLong : Command → List ℕ → Type 0
-IsTooLong c text = max_policy < length text
+IsTooLong c text = MAX_POLICY < length text
 
 abbrev pub IsLongScript : NamedPolicy → List ℕ → Type 0
-IsLongScript np script = max_script < length script
+IsLongScript np script = MAX_SCRIPT < length script
 
 -- of a script that is not too long
 abbrev pub Within : (NamedPolicy → List ℕ → Type 0) → NamedPolicy → List ℕ → Type 0
-Within Holds np script = (length script ≤ max_script) × Holds np script
+Within Holds np script = (length script ≤ MAX_SCRIPT) × Holds np script
 
 module _ {S I : Type 0} (sight : Sight) (words : List (List ℕ)) (status : ℕ) (a b : Scene S I) where
   -- Each status and its cause. These are all statuses
@@ -119,7 +119,7 @@ module _ {S I : Type 0} (sight : Sight) (words : List (List ℕ)) (status : ℕ)
     played : status ≡ 0 → Script sight words a.texts a.script (Within IsWhole) → Cause
     made : status ≡ 0 → (g : Gen) → IsGen words g → Cause
     no_command : status ≡ 1 → IsNoCommand words → Cause
-    faulty : status ≡ 2 → Text sight words a.texts (λ c text. HasFault text) → Cause
+    faulty : status ≡ 2 → Text sight words a.texts (λ c text. HasTextFault text) → Cause
     unsafe : status ≡ 3 → Text sight words a.texts (Judges IsUnsafeText) → Cause
     missing : status ≡ 4 → IsMissing words a.texts → Cause
     unread : status ≡ 4 → IsSome (command_of words)

@@ -8,15 +8,15 @@ use Rattle.gt_base.specs.declared.requests.Reply.{Reply}
 use Rattle.gt_base.specs.declared.requests.Reply.TheVariants.{Done, Active, Decided, Refused}
 use Rattle.gt_base.specs.declared.requests.Step.{Step}
 use Rattle.gt_base.specs.declared.requests.Step.TheVariants.{Tick, Ask}
-use Rattle.gtrbac_tool.specs.declared.summing.Word.{Word}
-use Rattle.gtrbac_tool.specs.declared.summing.Word.TheVariants as words
+use Rattle.gtrbac_tool.specs.declared.summing.ReplyWord.{ReplyWord}
+use Rattle.gtrbac_tool.specs.declared.summing.ReplyWord.TheVariants as words
 use Rattle.gtrbac_tool.specs.declared.summing.Recipe.{Recipe}
 use Rattle.gtrbac_tool.specs.Summary.{Gen, gen_line, steps_line, end_line}
 
 abbrev pub seen_recipe : Recipe → Gen
 seen_recipe r = record { seed = r.seed; size = r.size }
 
-abbrev pub word_text : Word → List ℕ
+abbrev pub word_text : ReplyWord → List ℕ
 word_text words.Ok = codes "ok"
 word_text words.Permit = codes "permit"
 word_text words.Deny = codes "deny"
@@ -43,17 +43,17 @@ abbrev pub is_refused : Reply → Bool
 is_refused (Refused r) = true
 is_refused _ = false
 
-abbrev pub replies : Word → Reply → Bool
+abbrev pub replies : ReplyWord → Reply → Bool
 replies words.Ok r = is_ok r
 replies words.Permit r = is_permit r
 replies words.Deny r = is_deny r
 replies words.Refused r = is_refused r
 
-abbrev pub counts : Word → Step → Bool
+abbrev pub counts : ReplyWord → Step → Bool
 counts w (Tick upto to) = false
 counts w (Ask actor request reply) = replies w reply
 
-abbrev pub tally_line : Word → List Entry → List ℕ
+abbrev pub tally_line : ReplyWord → List Entry → List ℕ
 tally_line w h =
     word_text w ++ codes " " ++ decimal (count_by (λ e. counts w e.what) h) ++ codes "\n"
 

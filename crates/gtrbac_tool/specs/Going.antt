@@ -1,27 +1,22 @@
 -- How a line moves a run over a book, or stops it.
-use Rattle.std.specs.Prelude.{◌≡◌, ℕ, ◌++◌, Bool, true, false, List, Result}
+use Rattle.std.specs.Prelude.{◌≡◌, ℕ, Bool, true, false, List, Result}
 use Rattle.gt_base.specs.declared.requests.Actor.{Actor}
 use Rattle.gt_base.specs.declared.requests.Request.TheVariants as requests
 use Rattle.gtrbac_model.specs.History.{IsNamedWish, ask}
 use Rattle.policy_words.specs.Naming.{NamedPolicy}
-use Rattle.gt_base.specs.declared.requests.Entry.{Entry}
-use Rattle.core_machine.specs.Books.{BookView, SameRoot}
-use Rattle.policy_commands.specs.Ends.{Told}
+use Rattle.core_machine.specs.Books.{BookView}
+use Rattle.policy_commands.specs.Ends.{EndView}
 use Rattle.request_text.specs.declared.lines.Line.{Line}
 use Rattle.request_text.specs.declared.lines.LineFault.{LineFault}
 use Rattle.request_text.specs.Replies.{fault_word}
 use Rattle.gtrbac_tool.specs.declared.script.Played.{Played}
 use Rattle.gtrbac_tool.specs.declared.script.Played.TheVariants.{On, Full, Bad}
-use Rattle.gtrbac_tool.specs.Told.{behind, script_fault, steps_full}
-use Rattle.gtrbac_tool.specs.Script.{Going, AreTicks, Moves, Stops, RunOver}
+use Rattle.gtrbac_tool.specs.EndTexts.{behind, script_fault, steps_full}
+use Rattle.gtrbac_tool.specs.Script.{Going, Moves, Stops, RunOver}
 
 -- where a run over a book stands
 abbrev pub going_of : BookView → Actor → List ℕ → Going
 going_of b actor text = record { actor = actor; history = b.entries; text = text }
-
--- the same with this text before it
-abbrev pub after : List ℕ → Going → Going
-after sent s = record { actor = s.actor; history = s.history; text = sent ++ s.text }
 
 -- the actor is one that the policy has
 abbrev pub IsActorOf : BookView → Actor → Type 0
@@ -41,17 +36,10 @@ PlaysAs np birth line (Bad f) s t =
     × ((n : ℕ)
     → Stops np birth line n s t.history (behind s.text (script_fault n (fault_word f))))
 
--- ticks with this bound were added
-pub record Ticked (bound : ℕ) (old new : BookView) : Type 0 where
-  pub root : SameRoot old new
-  pub ticks : List Entry
-  pub added : new.entries ≡ old.entries ++ ticks
-  pub are_ticks : AreTicks bound ticks
-
 -- what a run from its birth left: a book of its policy and its birth, over whose entries it ended
 -- so
 pub record IsOutcome (np : NamedPolicy) (birth n : ℕ) (lines : List (List ℕ)) (b : BookView)
-    (end : Told) : Type 0 where
+    (end : EndView) : Type 0 where
   pub of_policy : b.named ≡ np
   pub of_birth : b.birth ≡ birth
   pub run : RunOver np birth n lines b.entries end

@@ -1,10 +1,10 @@
 -- What may be asked behind a script: when the answer of a condition changes next, and why an event
 -- is in force or blocked.
 use Rattle.std.specs.Prelude.{◌≡◌, ◌⊎◌, ℕ, ◌+◌, ◌*◌, Bool, true, false, not, List, [], ◌∷◌, ◌++◌, codes, min, if◌then◌else◌, Option, Some, None}
-use Rattle.gt_base.specs.Bounds.{last_minute}
 use Rattle.gt_base.specs.Names.{number_from, name_in}
 use Rattle.gt_base.specs.declared.events.Cond.{Cond}
 use Rattle.gt_base.specs.declared.requests.Entry.{Entry}
+use Rattle.gt_base.specs.declared.limits.TheConstants.{LAST_MINUTE}
 use Rattle.gt_text.specs.Lines.{lines_of, is_longer}
 use Rattle.civil_time.specs.Text.{civil_text}
 use Rattle.gtrbac_model.specs.Policy.{Policy}
@@ -17,17 +17,18 @@ use Rattle.policy_words.specs.declared.parts.Sort.{Sort}
 use Rattle.policy_words.specs.declared.parts.Sort.TheVariants.{Enabling, Assigning, Granting, Arming, Linking}
 use Rattle.policy_words.specs.Wording.{◌>>=◌, verb_in, cond_verb, event_verb}
 use Rattle.policy_words.specs.Naming.{NamedPolicy, cond_of, event_of}
-use Rattle.policy_commands.specs.Ends.{Told, told}
+use Rattle.policy_commands.specs.Ends.{EndView, told}
 use Rattle.forecast.specs.Ahead.{IsFirstChange}
 use Rattle.forecast.specs.declared.changes.Change.{Change}
 use Rattle.gtrbac_tool.specs.declared.questions.Question.{Question}
 use Rattle.gtrbac_tool.specs.declared.questions.Question.TheVariants.{Forecast, Why}
-use Rattle.gtrbac_tool.specs.declared.ahead.Asked.{Asked}
-use Rattle.gtrbac_tool.specs.declared.ahead.Asked.TheVariants.{Ahead, Standing}
+use Rattle.gtrbac_tool.specs.declared.ahead.Inquiry.{Inquiry}
+use Rattle.gtrbac_tool.specs.declared.ahead.Inquiry.TheVariants.{Ahead, Standing}
 use Rattle.policy_commands.specs.Finding.{too_long}
-use Rattle.gtrbac_tool.specs.Told.{no_birth}
+use Rattle.gtrbac_tool.specs.EndTexts.{no_birth}
 use Rattle.gtrbac_tool.specs.Standing.{TellsWhy}
-use Rattle.gtrbac_tool.specs.Script.{Start, never, born, failed, start_of, RunOver, max_script}
+use Rattle.gtrbac_tool.specs.Script.{ScriptStart, never, born, failed, start_of, RunOver}
+use Rattle.gtrbac_tool.specs.declared.top.TheConstants.{MAX_SCRIPT}
 
 -- the words are one name
 abbrev pub one_said : List (List ℕ) → Option (List ℕ)
@@ -91,7 +92,7 @@ why_in words = do
   Some (Why e)
 
 -- the question in numbers of a policy: none where a name is not declared, or is no edge
-abbrev pub asked_of : NamedPolicy → Question → Option Asked
+abbrev pub asked_of : NamedPolicy → Question → Option Inquiry
 asked_of np (Forecast days c) = do
   g ← cond_of np.names c
   Some (Ahead days g)
@@ -100,7 +101,7 @@ asked_of np (Why e) = do
   Some (Standing e g)
 
 -- the same of what may be asked: none where a name is not declared
-abbrev pub asks_of : NamedPolicy → Option Question → Option (Option Asked)
+abbrev pub asks_of : NamedPolicy → Option Question → Option (Option Inquiry)
 asks_of np None = Some None
 asks_of np (Some question) = do
   asked ← asked_of np question
@@ -108,7 +109,7 @@ asks_of np (Some question) = do
 
 -- so many days after now, or the last instant where that is less
 abbrev pub horizon : ℕ → ℕ → ℕ
-horizon now days = min (now + 1_440 * days) last_minute
+horizon now days = min (now + 1_440 * days) LAST_MINUTE
 
 -- the answer of the condition where its fluent is on, or off
 abbrev pub answer_word : Cond → Bool → List ℕ
@@ -126,35 +127,35 @@ pub record TellsAhead (p : Policy) (birth : ℕ) (h : List Entry) (days : ℕ) (
   pub first : IsFirstChange p birth h c.fluent (horizon (now_of birth h) days) change
   pub line_is : line ≡ change_line c (horizon (now_of birth h) days) change
 
-abbrev pub Tells : Policy → Asked → ℕ → List Entry → List ℕ → Type 0
-Tells p (Ahead days c) birth h text = TellsAhead p birth h days c text
-Tells p (Standing named e) birth h text = TellsWhy p birth h named e text
+abbrev pub TellsAsked : Policy → Inquiry → ℕ → List Entry → List ℕ → Type 0
+TellsAsked p (Ahead days c) birth h text = TellsAhead p birth h days c text
+TellsAsked p (Standing named e) birth h text = TellsWhy p birth h named e text
 
 -- behind the replies of a run that was played to its end stands what was asked; another run has its
 -- own end
-abbrev pub Follows : Policy → Asked → ℕ → List Entry → Told → Told → Type 0
-Follows p asked birth h ran end =
+abbrev pub FollowsRun : Policy → Inquiry → ℕ → List Entry → EndView → EndView → Type 0
+FollowsRun p asked birth h ran end =
     ((ran.status ≡ 0)
-    × ((text : List ℕ) × Tells p asked birth h text × (end ≡ told 0 (ran.text ++ text))))
+    × ((text : List ℕ) × TellsAsked p asked birth h text × (end ≡ told 0 (ran.text ++ text))))
     ⊎ ((ran.status ≡ 0 → ⊥) × (end ≡ ran))
 
-pub record Answered (np : NamedPolicy) (asked : Asked) (birth n : ℕ) (lines : List (List ℕ))
-    (end : Told) : Type 0 where
+pub record Answered (np : NamedPolicy) (asked : Inquiry) (birth n : ℕ) (lines : List (List ℕ))
+    (end : EndView) : Type 0 where
   pub history : List Entry
-  pub ran : Told
+  pub ran : EndView
   pub run : RunOver np birth n lines history ran
-  pub follows : Follows np.policy asked birth history ran end
+  pub follows : FollowsRun np.policy asked birth history ran end
 
 -- a script in which no line says anything has no birth
-abbrev pub AnswersFrom : NamedPolicy → Asked → Start → Told → Type 0
+abbrev pub AnswersFrom : NamedPolicy → Inquiry → ScriptStart → EndView → Type 0
 AnswersFrom np asked never end = end ≡ no_birth
 AnswersFrom np asked (born birth n lines) end = Answered np asked birth n lines end
 AnswersFrom np asked (failed t) end = end ≡ t
 
-abbrev pub AnswersIf : Bool → NamedPolicy → Asked → List ℕ → Told → Type 0
+abbrev pub AnswersIf : Bool → NamedPolicy → Inquiry → List ℕ → EndView → Type 0
 AnswersIf true np asked script end = end ≡ too_long (codes "script")
 AnswersIf false np asked script end = AnswersFrom np asked (start_of np 1 (lines_of script)) end
 
 -- what a script and a question behind it end with over the policy
-abbrev pub AnswersScript : NamedPolicy → Asked → List ℕ → Told → Type 0
-AnswersScript np asked script end = AnswersIf (is_longer max_script script) np asked script end
+abbrev pub AnswersScript : NamedPolicy → Inquiry → List ℕ → EndView → Type 0
+AnswersScript np asked script end = AnswersIf (is_longer MAX_SCRIPT script) np asked script end

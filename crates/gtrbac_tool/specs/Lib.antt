@@ -1,4 +1,4 @@
-pub mod Told
+pub mod EndTexts
 pub mod Script
 pub mod Going
 pub mod Started

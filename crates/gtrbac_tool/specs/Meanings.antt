@@ -1,22 +1,23 @@
 -- What the end of a run means, and that there is just one.
 use Rattle.std.specs.Prelude.{◌≡◌, ◌↔◌, ◌⊎◌, ℕ, ◌≤◌, ◌<◌, List, [], ◌∷◌, ◌++◌, length, Result, Ok, Err}
-use Rattle.gt_base.specs.Bounds.{max_steps}
 use Rattle.gt_base.specs.declared.requests.Actor.{Actor}
 use Rattle.gt_base.specs.declared.requests.Actor.TheVariants.{Operator}
 use Rattle.gt_base.specs.declared.requests.Entry.{Entry}
+use Rattle.gt_base.specs.declared.limits.TheConstants.{MAX_STEPS}
 use Rattle.gtrbac_model.specs.Safety.{IsSafe}
 use Rattle.gtrbac_model.specs.Status.{Model}
 use Rattle.gtrbac_model.specs.WholePolicy.{IsPolicy}
 use Rattle.gtrbac_model.specs.History.{Legal, Move, tick, ask, Play}
 use Rattle.gt_text.specs.Lines.{lines_of}
 use Rattle.policy_words.specs.Naming.{NamedPolicy}
-use Rattle.policy_commands.specs.Ends.{Told}
+use Rattle.policy_commands.specs.Ends.{EndView}
 use Rattle.request_text.specs.declared.lines.Line.{Line}
 use Rattle.request_text.specs.declared.lines.Line.TheVariants.{Silent, At, Be, Ask}
 use Rattle.request_text.specs.declared.lines.LineFault.{LineFault}
-use Rattle.gtrbac_tool.specs.declared.ahead.Asked.{Asked}
+use Rattle.gtrbac_tool.specs.declared.ahead.Inquiry.{Inquiry}
 use Rattle.gtrbac_tool.specs.Late.{AnswersScript}
-use Rattle.gtrbac_tool.specs.Script.{Going, never, born, failed, start_of, IsFilled, Plays, at_birth, said, scripts_who, RunOver, max_script, Ends}
+use Rattle.gtrbac_tool.specs.Script.{Going, never, born, failed, start_of, IsFilled, Plays, at_birth, said, scripts_who, RunOver, Ends}
+use Rattle.gtrbac_tool.specs.declared.top.TheConstants.{MAX_SCRIPT}
 
 -- the first lines that say anything bear the script, and the lines behind before one that holds so
 -- are played, over a history that is legal with its execution model
@@ -47,13 +48,13 @@ abbrev pub IsFullAt : ℕ → Result Line LineFault → Going → List Entry →
 IsFullAt birth (Ok Silent) s h = ⊥
 IsFullAt birth (Ok (Be actor)) s h = ⊥
 IsFullAt birth (Ok (At minute)) s h = IsFilled birth minute s.history h
-IsFullAt birth (Ok (Ask request)) s h = (length s.history ≡ max_steps) × (h ≡ s.history)
+IsFullAt birth (Ok (Ask request)) s h = (length s.history ≡ MAX_STEPS) × (h ≡ s.history)
 IsFullAt birth (Err fault) s h = ⊥
 
 -- the first line that says anything is no minute, or the run comes to a line with a fault
 abbrev pub MeetsFault : NamedPolicy → List ℕ → Type 0
 MeetsFault np script =
-    ((end : Told) × (start_of np 1 (lines_of script) ≡ failed end)) ⊎ ComesTo np script IsFaulty
+    ((end : EndView) × (start_of np 1 (lines_of script) ≡ failed end)) ⊎ ComesTo np script IsFaulty
 
 -- the run comes to a line that asks for a step with a full history
 abbrev pub MeetsFull : NamedPolicy → List ℕ → Type 0
@@ -77,40 +78,40 @@ IsWhole np script = (start_of np 1 (lines_of script) ≡ never) ⊎ IsPlayedOut 
 -- over a safe policy a script has just one end
 abbrev pub OneEnd : Type 0
 OneEnd =
-    (np : NamedPolicy) → IsSafe np.policy.triggers → (script : List ℕ) (end other : Told)
+    (np : NamedPolicy) → IsSafe np.policy.triggers → (script : List ℕ) (end other : EndView)
     → Ends np script end → Ends np script other → end ≡ other
 
 -- and it has one
 abbrev pub SomeEnd : Type 0
 SomeEnd =
     (np : NamedPolicy) → IsSafe np.policy.triggers → (script : List ℕ)
-    → (end : Told) × Ends np script end
+    → (end : EndView) × Ends np script end
 
 -- and what is asked behind it has just one answer
 abbrev pub OneAnswer : Type 0
 OneAnswer =
     (np : NamedPolicy) → IsPolicy np.policy → IsSafe np.policy.triggers
-    → (asked : Asked) (script : List ℕ) (end other : Told)
+    → (asked : Inquiry) (script : List ℕ) (end other : EndView)
     → AnswersScript np asked script end → AnswersScript np asked script other → end ≡ other
 
 -- of a script within its limit: 7 exactly where its first fault comes before a full history, 9
 -- exactly where a step is asked for with a full history before a fault, and 0 exactly where all its
 -- lines are played
-pub record RunMeans (np : NamedPolicy) (script : List ℕ) (end : Told) : Type 0 where
+pub record RunMeans (np : NamedPolicy) (script : List ℕ) (end : EndView) : Type 0 where
   pub fault : (end.status ≡ 7) ↔ MeetsFault np script
   pub full : (end.status ≡ 9) ↔ MeetsFull np script
   pub whole : (end.status ≡ 0) ↔ IsWhole np script
 
 abbrev pub RunsMean : Type 0
 RunsMean =
-    (np : NamedPolicy) → IsSafe np.policy.triggers → (script : List ℕ) → length script ≤ max_script
-    → (end : Told) → Ends np script end → RunMeans np script end
+    (np : NamedPolicy) → IsSafe np.policy.triggers → (script : List ℕ) → length script ≤ MAX_SCRIPT
+    → (end : EndView) → Ends np script end → RunMeans np script end
 
 -- of one that is longer always 6
 abbrev pub LongMeans : Type 0
 LongMeans =
-    (np : NamedPolicy) (script : List ℕ) (end : Told) → Ends np script end
-    → (end.status ≡ 6) ↔ (max_script < length script)
+    (np : NamedPolicy) (script : List ℕ) (end : EndView) → Ends np script end
+    → (end.status ≡ 6) ↔ (MAX_SCRIPT < length script)
 
 -- ticks of the script with this bound
 abbrev pub AreTo : ℕ → List Move → Type 0
@@ -149,5 +150,5 @@ pub record IsPlayOf (np : NamedPolicy) (birth : ℕ) (lines : List (List ℕ)) (
 -- the history of a run is such a play
 abbrev pub RunsArePlays : Type 0
 RunsArePlays =
-    (np : NamedPolicy) (birth n : ℕ) (lines : List (List ℕ)) (history : List Entry) (end : Told)
+    (np : NamedPolicy) (birth n : ℕ) (lines : List (List ℕ)) (history : List Entry) (end : EndView)
     → RunOver np birth n lines history end → IsPlayOf np birth lines history

@@ -16,7 +16,7 @@ use Rattle.gtrbac_model.specs.Instant.{Settled}
 use Rattle.gtrbac_model.specs.Status.{Model}
 use Rattle.policy_words.specs.Naming.{NamedPolicy}
 use Rattle.policy_words.specs.Valid.{IsWellFormed}
-use Rattle.policy_commands.specs.Ends.{Told}
+use Rattle.policy_commands.specs.Ends.{EndView}
 use Rattle.why_check.specs.Priorities.{HasPriorities}
 use Rattle.gtrbac_tool.specs.Script.{RunOver}
 use Rattle.gtrbac_tool.specs.Standing.{at_prio, first_raising}
@@ -50,7 +50,7 @@ ReasonsExist =
 abbrev pub TellingsAreExplained : Type 0
 TellingsAreExplained =
     (np : NamedPolicy) → IsWellFormed np → (birth n : ℕ) (lines : List (List ℕ)) (h : List Entry)
-    (end : Told) → RunOver np birth n lines h end → (m : Model) → Legal np.policy birth h m
+    (end : EndView) → RunOver np birth n lines h end → (m : Model) → Legal np.policy birth h m
     → (e : Event)
     → IsExplained np.policy.triggers (base_at np.policy birth m h (now_of birth h))
     (status np.policy birth m (now_of birth h - 1)) (point_after np.policy birth m h).set e

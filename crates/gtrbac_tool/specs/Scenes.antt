@@ -1,7 +1,8 @@
 -- What is seen of the surroundings of a call.
 use Rattle.std.specs.Prelude.{ℕ, List}
 use Rattle.std.specs.declared.option.Option.{Option}
-use Rattle.gt_io.specs.Shelf.{Contents}
+use Rattle.gt_io.specs.Shelf.{Contents, Stock}
+use Rattle.gt_io.specs.Streams.{Intake, Output}
 
 -- The shelf, its texts, how often it failed, and how often but for what it lacks; the input, what
 -- it has left, and how often it failed; what was written, and how often that failed
@@ -16,19 +17,17 @@ pub record Scene (S I : Type 0) : Type 0 where
   pub written : Option (List ℕ)
   pub written_faults : ℕ
 
-module _ {S I K : Type 0} (contents : S → Contents) (faults hard : S → ℕ)
-    (left : I → Option (List ℕ)) (input_faults : I → ℕ)
-    (written : K → Option (List ℕ)) (written_faults : K → ℕ) where
+module _ {S I K : Type 0} (stock : S → Stock) (intake : I → Intake) (output : K → Output) where
   abbrev pub scene : S → I → K → Scene S I
   scene shelf input out =
       record {
         shelf = shelf;
-        texts = contents shelf;
-        shelf_faults = faults shelf;
-        hard_faults = hard shelf;
+        texts = (stock shelf).contents;
+        shelf_faults = (stock shelf).faults;
+        hard_faults = (stock shelf).hard_faults;
         input = input;
-        script = left input;
-        input_faults = input_faults input;
-        written = written out;
-        written_faults = written_faults out;
+        script = (intake input).left;
+        input_faults = (intake input).faults;
+        written = (output out).written;
+        written_faults = (output out).faults;
       }

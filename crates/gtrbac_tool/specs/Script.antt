@@ -1,25 +1,26 @@
 -- The run of a script: the replies of its lines, over a history that is legal with its execution
 -- model.
 use Rattle.std.specs.Prelude.{◌≡◌, ℕ, ◌+◌, ◌<◌, ◌≤◌, ◌⊎◌, Bool, true, false, List, [], ◌∷◌, ◌++◌, length, codes, Result, Ok, Err}
-use Rattle.gt_base.specs.Bounds.{max_steps}
 use Rattle.gt_base.specs.Machines.{ticked, asked}
 use Rattle.gt_base.specs.declared.requests.Who.{Who}
 use Rattle.gt_base.specs.declared.requests.Entry.{Entry}
 use Rattle.gt_base.specs.declared.requests.Actor.{Actor}
 use Rattle.gt_base.specs.declared.requests.Actor.TheVariants.{Operator}
 use Rattle.gt_base.specs.declared.requests.Reply.{Reply}
+use Rattle.gt_base.specs.declared.limits.TheConstants.{MAX_STEPS}
 use Rattle.gtrbac_model.specs.Status.{Model}
 use Rattle.gtrbac_model.specs.History.{Legal, now_of}
 use Rattle.gt_text.specs.Lines.{lines_of, is_longer}
 use Rattle.policy_words.specs.Naming.{NamedPolicy}
-use Rattle.policy_commands.specs.Ends.{Told, told}
+use Rattle.policy_commands.specs.Ends.{EndView, told}
 use Rattle.request_text.specs.declared.lines.Line.{Line}
 use Rattle.request_text.specs.declared.lines.Line.TheVariants.{Silent, At, Be, Ask}
 use Rattle.request_text.specs.declared.lines.LineFault.{LineFault}
 use Rattle.request_text.specs.Phrases.{read_line}
 use Rattle.request_text.specs.Replies.{reply_line, fault_word}
 use Rattle.policy_commands.specs.Finding.{too_long}
-use Rattle.gtrbac_tool.specs.Told.{behind, script_fault, steps_full}
+use Rattle.gtrbac_tool.specs.EndTexts.{behind, script_fault, steps_full}
+use Rattle.gtrbac_tool.specs.declared.top.TheConstants.{MAX_SCRIPT}
 
 -- a script has one worker and one connection
 abbrev pub scripts_who : Who
@@ -46,7 +47,7 @@ pub record Arrives (birth minute : ℕ) (old new : List Entry) : Type 0 where
   pub added : new ≡ old ++ ticks
   pub are_ticks : AreTicks minute ticks
   pub there : minute ≤ now_of birth new
-  pub room : length new ≤ max_steps
+  pub room : length new ≤ MAX_STEPS
 
 -- ticks fill the history before time comes to the minute
 pub record IsFilled (birth minute : ℕ) (old new : List Entry) : Type 0 where
@@ -54,7 +55,7 @@ pub record IsFilled (birth minute : ℕ) (old new : List Entry) : Type 0 where
   pub added : new ≡ old ++ ticks
   pub are_ticks : AreTicks minute ticks
   pub before : now_of birth new < minute
-  pub full : length new ≡ max_steps
+  pub full : length new ≡ MAX_STEPS
 
 module _ (np : NamedPolicy) (birth : ℕ) where
   -- how a line moves a run that goes on behind it
@@ -66,7 +67,7 @@ module _ (np : NamedPolicy) (birth : ℕ) where
       (h : List Entry) × Arrives birth minute s.history h
       × (t ≡ record { actor = s.actor; history = h; text = s.text })
   Moves (Ok (Ask request)) s t =
-      (reply : Reply) × (length s.history < max_steps)
+      (reply : Reply) × (length s.history < MAX_STEPS)
       × (t
       ≡ record {
         actor = s.actor;
@@ -82,13 +83,13 @@ module _ (np : NamedPolicy) (birth : ℕ) where
 
   -- how a line, with its number, ends a run: a line with a fault, or a step asked for with a full
   -- history
-  abbrev pub Stops : Result Line LineFault → ℕ → Going → List Entry → Told → Type 0
+  abbrev pub Stops : Result Line LineFault → ℕ → Going → List Entry → EndView → Type 0
   Stops (Ok Silent) n s h end = ⊥
   Stops (Ok (Be actor)) n s h end = ⊥
   Stops (Ok (At minute)) n s h end =
       IsFilled birth minute s.history h × (end ≡ behind s.text (steps_full n))
   Stops (Ok (Ask request)) n s h end =
-      (length s.history ≡ max_steps) × (h ≡ s.history) × (end ≡ behind s.text (steps_full n))
+      (length s.history ≡ MAX_STEPS) × (h ≡ s.history) × (end ≡ behind s.text (steps_full n))
   Stops (Err fault) n s h end =
       (h ≡ s.history) × (end ≡ behind s.text (script_fault n (fault_word fault)))
 
@@ -96,14 +97,15 @@ module _ (np : NamedPolicy) (birth : ℕ) where
   at_birth = record { actor = Operator; history = []; text = [] }
 
   -- all lines were played, with status 0
-  pub record PlayedOut (lines : List (List ℕ)) (h : List Entry) (end : Told) : Type 0 where
+  pub record PlayedOut (lines : List (List ℕ)) (h : List Entry) (end : EndView) : Type 0 where
     pub last : Going
     pub plays : Plays lines at_birth last
     pub history : h ≡ last.history
     pub end_is : end ≡ told 0 last.text
 
   -- a line ended the run; the lines are numbered from n
-  pub record StoppedAt (n : ℕ) (lines : List (List ℕ)) (h : List Entry) (end : Told) : Type 0 where
+  pub record StoppedAt (n : ℕ) (lines : List (List ℕ)) (h : List Entry)
+      (end : EndView) : Type 0 where
     pub front : List (List ℕ)
     pub line : List ℕ
     pub rest : List (List ℕ)
@@ -115,35 +117,35 @@ module _ (np : NamedPolicy) (birth : ℕ) where
 -- a run from its birth, with the lines behind the birth's numbered from n, over a history that is
 -- legal, with its execution model
 pub record RunOver (np : NamedPolicy) (birth n : ℕ) (lines : List (List ℕ)) (history : List Entry)
-    (end : Told) : Type 0 where
+    (end : EndView) : Type 0 where
   pub model : Model
   pub legal : Legal np.policy birth history model
   pub ends : PlayedOut np birth lines history end ⊎ StoppedAt np birth n lines history end
 
 -- a run over some history
-abbrev pub Run : NamedPolicy → ℕ → ℕ → List (List ℕ) → Told → Type 0
+abbrev pub Run : NamedPolicy → ℕ → ℕ → List (List ℕ) → EndView → Type 0
 Run np birth n lines end = (history : List Entry) × RunOver np birth n lines history end
 
 -- where a run begins: only silent lines; the birth, with the number of the line behind it and the
 -- lines from there; or the end at a first line that is no minute
-pub data Start : Type 0 where
-  never : Start
-  born : ℕ → ℕ → List (List ℕ) → Start
-  failed : Told → Start
+pub data ScriptStart : Type 0 where
+  never : ScriptStart
+  born : ℕ → ℕ → List (List ℕ) → ScriptStart
+  failed : EndView → ScriptStart
 
 module _ (np : NamedPolicy) where
-  abbrev pub begun : Result Line LineFault → ℕ → List (List ℕ) → Start → Start
+  abbrev pub begun : Result Line LineFault → ℕ → List (List ℕ) → ScriptStart → ScriptStart
   begun (Ok Silent) n lines later = later
   begun (Ok (At minute)) n lines later = born minute (n + 1) lines
   begun (Ok (Be actor)) n lines later = failed (script_fault n (codes "birth"))
   begun (Ok (Ask request)) n lines later = failed (script_fault n (codes "birth"))
   begun (Err fault) n lines later = failed (script_fault n (fault_word fault))
 
-  abbrev pub start_of : ℕ → List (List ℕ) → Start
+  abbrev pub start_of : ℕ → List (List ℕ) → ScriptStart
   start_of n [] = never
   start_of n (line ∷ lines) = begun (said np line) n lines (start_of (n + 1) lines)
 
-abbrev pub EndsFrom : NamedPolicy → Start → Told → Type 0
+abbrev pub EndsFrom : NamedPolicy → ScriptStart → EndView → Type 0
 EndsFrom np never end = end ≡ told 0 []
 EndsFrom np (born birth n lines) end = Run np birth n lines end
 EndsFrom np (failed t) end = end ≡ t
@@ -152,13 +154,10 @@ EndsFrom np (failed t) end = end ≡ t
 abbrev pub IsRunStatus : ℕ → Type 0
 IsRunStatus s = (s ≡ 0) ⊎ (s ≡ 7) ⊎ (s ≡ 9)
 
-abbrev pub max_script : ℕ
-max_script = 16_777_216
-
-abbrev pub EndsIf : Bool → NamedPolicy → List ℕ → Told → Type 0
+abbrev pub EndsIf : Bool → NamedPolicy → List ℕ → EndView → Type 0
 EndsIf true np script end = end ≡ too_long (codes "script")
 EndsIf false np script end = EndsFrom np (start_of np 1 (lines_of script)) end
 
 -- the script ends so over the policy
-abbrev pub Ends : NamedPolicy → List ℕ → Told → Type 0
-Ends np script end = EndsIf (is_longer max_script script) np script end
+abbrev pub Ends : NamedPolicy → List ℕ → EndView → Type 0
+Ends np script end = EndsIf (is_longer MAX_SCRIPT script) np script end

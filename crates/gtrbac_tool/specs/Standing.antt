@@ -1,5 +1,5 @@
 -- Why an event is in force or blocked at the end of a script, as it is told.
-use Rattle.std.specs.Prelude.{◌≡◌, ℕ, ◌+◌, ◌-◌, Bool, true, false, ◌&&◌, not, nat_eq, nat_lt, if◌then◌else◌, List, [], ◌∷◌, ◌++◌, length, codes, decimal, Option, Some, None}
+use Rattle.std.specs.Prelude.{◌≡◌, ℕ, ◌+◌, ◌-◌, Bool, ◌&&◌, not, nat_eq, nat_lt, if◌then◌else◌, List, [], ◌∷◌, ◌++◌, length, codes, decimal, Option, Some, None}
 use Rattle.gt_base.specs.Held.{TriggerView}
 use Rattle.gt_base.specs.Events.{converse}
 use Rattle.gt_base.specs.Happening.{HappenedView}
@@ -81,10 +81,9 @@ pub record TellsWhy (p : Policy) (birth : ℕ) (h : List Entry) (named : NamedEv
 -- what a trace has at an instant
 abbrev pub closed_at : List ClosedSet → ℕ → Option ClosedSet
 closed_at [] t = None
-closed_at (c ∷ cs) t = elim (nat_eq c.at t) [ true ↦ Some c | false ↦ closed_at cs t ]
+closed_at (c ∷ cs) t = if nat_eq c.at t then Some c else closed_at cs t
 
 -- the status that the sets of a trace before an instant make of one
 abbrev pub made_before : ℕ → List ClosedSet → Status → Status
 made_before t [] s = s
-made_before t (c ∷ cs) s = elim (nat_lt c.at t)
-    [ true ↦ made_before t cs (after c.set s) | false ↦ s ]
+made_before t (c ∷ cs) s = if nat_lt c.at t then made_before t cs (after c.set s) else s

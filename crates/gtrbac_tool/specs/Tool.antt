@@ -2,14 +2,14 @@
 use Rattle.std.specs.Prelude.{◌≡◌, ◌⊎◌, ℕ, List, None, IsTrue, IsSomeAnd}
 use Rattle.std.specs.Io.KnownBytes.{IsAtEnd}
 use Rattle.gt_io.specs.Causes.{Rose}
-use Rattle.policy_commands.specs.Ends.{Told}
+use Rattle.policy_commands.specs.Ends.{EndView}
 use Rattle.policy_commands.specs.Printing.{IsPrinted, WantsMemory}
 use Rattle.gtrbac_tool.specs.Script.{IsRunStatus}
 use Rattle.gtrbac_tool.specs.Commands.{command_of, plays_script, IsPlainRun}
 use Rattle.gtrbac_tool.specs.Writing.{IsCutShort}
 use Rattle.gtrbac_tool.specs.Ends.{IsNoCommand, WordsEnd}
 use Rattle.gtrbac_tool.specs.Scenes.{Scene}
-use Rattle.gtrbac_tool.specs.Causes.{perhaps, surely, Asks, Text, Cause}
+use Rattle.gtrbac_tool.specs.Causes.{perhaps, surely, AsksForScript, Text, Cause}
 
 module _ {S I : Type 0} where
   -- the shelf failed otherwise than by a missing name, or the input did
@@ -20,7 +20,7 @@ module _ {S I : Type 0} where
   IsUnwritten a b = Rose a.written_faults b.written_faults
 
   -- neither failed, but where the end is a read fault
-  abbrev pub IsSteady : Told → Scene S I → Scene S I → Type 0
+  abbrev pub IsSteady : EndView → Scene S I → Scene S I → Type 0
   IsSteady end a b =
       (end.status ≡ 4) ⊎ ((b.hard_faults ≡ a.hard_faults) × (b.input_faults ≡ a.input_faults))
 
@@ -30,7 +30,7 @@ module _ {S I : Type 0} where
   Answers words status a b =
       ((IsNoCommand words → ⊥)
       × WantsMemory status a.written b.written a.written_faults b.written_faults)
-      ⊎ ((end : Told)
+      ⊎ ((end : EndView)
       × WordsEnd (Rose a.hard_faults b.hard_faults) (Rose a.input_faults b.input_faults) words
       a.texts a.script end
       × IsSteady end a b
@@ -51,7 +51,7 @@ module _ {S I : Type 0} where
   pub record Leaves (words : List (List ℕ)) (status : ℕ) (a b : Scene S I) : Type 0 where
     pub texts : b.texts ≡ a.texts
     pub unread : command_of words ≡ None → (b.shelf ≡ a.shelf) × (b.input ≡ a.input)
-    pub untouched : (b.input ≡ a.input) ⊎ Text perhaps words a.texts Asks
+    pub untouched : (b.input ≡ a.input) ⊎ Text perhaps words a.texts AsksForScript
     pub read : IsSomeAnd (command_of words) (λ c. IsTrue (plays_script c)) → IsRunStatus status
         → IsAtEnd b.script
     pub counted : status ≡ 4

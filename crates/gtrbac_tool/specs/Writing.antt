@@ -2,28 +2,28 @@
 use Rattle.std.specs.Prelude.{◌≡◌, ◌⊎◌, ℕ, List, ◌++◌, take}
 use Rattle.std.specs.declared.option.Option.{Option}
 use Rattle.std.specs.Io.KnownBytes.{Appends}
-use Rattle.policy_commands.specs.Ends.{Told}
+use Rattle.policy_commands.specs.Ends.{EndView}
 use Rattle.policy_commands.specs.Printing.{IsPrinted, WantsMemory}
 
 -- a call that prints what it ends with, or finds no memory
-abbrev pub Prints : (Told → Type 0) → ℕ → Option (List ℕ) → Option (List ℕ) → ℕ → ℕ → Type 0
+abbrev pub Prints : (EndView → Type 0) → ℕ → Option (List ℕ) → Option (List ℕ) → ℕ → ℕ → Type 0
 Prints Ends status old new before now =
     WantsMemory status old new before now
-    ⊎ ((end : Told) × Ends end × IsPrinted status end old new before now)
+    ⊎ ((end : EndView) × Ends end × IsPrinted status end old new before now)
 
 -- a prefix of the text was written, where what is written is told
 abbrev pub AppendsPrefix : Option (List ℕ) → Option (List ℕ) → List ℕ → Type 0
 AppendsPrefix old new text = (n : ℕ) × Appends old new (take n text)
 
 -- for want of memory a prefix of the text was written, and perhaps no more
-abbrev pub IsCutShort : ℕ → Told → Option (List ℕ) → Option (List ℕ) → ℕ → ℕ → Type 0
+abbrev pub IsCutShort : ℕ → EndView → Option (List ℕ) → Option (List ℕ) → ℕ → ℕ → Type 0
 IsCutShort status end old new before now =
     (status ≡ 8) × AppendsPrefix old new end.text × (now ≡ before)
 
 -- a call that prints what it ends with, in pieces, or finds no memory on the way
-abbrev pub Writes : (Told → Type 0) → ℕ → Option (List ℕ) → Option (List ℕ) → ℕ → ℕ → Type 0
+abbrev pub Writes : (EndView → Type 0) → ℕ → Option (List ℕ) → Option (List ℕ) → ℕ → ℕ → Type 0
 Writes Ends status old new before now =
-    (end : Told) × Ends end
+    (end : EndView) × Ends end
     × (IsPrinted status end old new before now ⊎ IsCutShort status end old new before now)
 
 -- of a text that waits a part was written, and the rest waits on

@@ -2,7 +2,7 @@
 ghost use Rattle.std.specs.Prelude.{◌≡◌, ◌≤◌, ◌++◌, codes, IfOk};
 ghost use Rattle.core_machine.specs.Books.{now_in};
 ghost use Rattle.policy_commands.specs.Ends.{seen_end, told};
-ghost use Rattle.gtrbac_tool.specs.Late.{asked_of as asked_by, asks_of as asks_by, horizon as horizon_of, answer_word, change_line, TellsAhead, Tells, Follows};
+ghost use Rattle.gtrbac_tool.specs.Late.{asked_of, asks_of, horizon, answer_word, change_line, TellsAhead, TellsAsked, FollowsRun};
 
 use crate::questions::Question;
 use crate::script::Outcome;
@@ -10,7 +10,7 @@ use crate::standing::standing_text;
 use civil_time::write_civil;
 use core_machine::Book;
 use forecast::{Change, first_change};
-use gt_base::{Cond, Event, Instant, List, Memory};
+use gt_base::{Cond, Event, Instant, LAST_MINUTE, List, Memory};
 use policy_book::Policy;
 use policy_commands::End;
 use policy_words::NamedEvent;
@@ -18,7 +18,7 @@ use std::alloc::Global;
 
 /// What is asked, in numbers of a policy.
 #[derive(Clone, Copy)]
-pub(crate) enum Asked {
+pub(crate) enum Inquiry {
     /// When the answer of the condition changes, within so many days.
     Ahead(u32, Cond),
     /// Why the event is in force, or blocked, with its names.
@@ -26,18 +26,18 @@ pub(crate) enum Asked {
 }
 
 /// The question in numbers of the policy, none where a name is not declared or is no edge.
-fn asked_of(p: &Policy, question: Question) -> Option<Asked>
-    ensures { result ≡ asked_by p.now question }
+fn asked_of(p: &Policy, question: Question) -> Option<Inquiry>
+    ensures { result ≡ asked_of p.now question }
 {
     match question {
-        Question::Forecast(days, cond) => Some(Asked::Ahead(days, p.cond(&cond)?)),
-        Question::Why(event) => Some(Asked::Standing(event, p.event(&event)?)),
+        Question::Forecast(days, cond) => Some(Inquiry::Ahead(days, p.cond(&cond)?)),
+        Question::Why(event) => Some(Inquiry::Standing(event, p.event(&event)?)),
     }
 }
 
 /// The same of what may be asked, none where a name is not declared or is no edge.
-pub(crate) fn asks_of(p: &Policy, question: Option<Question>) -> Option<Option<Asked>>
-    ensures { result ≡ asks_by p.now question }
+pub(crate) fn asks_of(p: &Policy, question: Option<Question>) -> Option<Option<Inquiry>>
+    ensures { result ≡ asks_of p.now question }
 {
     match question {
         None => Some(None),
@@ -47,14 +47,14 @@ pub(crate) fn asks_of(p: &Policy, question: Option<Question>) -> Option<Option<A
 
 /// So many days after now, or the last instant where that is less.
 fn horizon(now: Instant, days: u32) -> Instant
-    ensures value { result ≡ horizon_of now days }
+    ensures value { result ≡ horizon now days }
     ensures later { now ≤ result }
 {
     let minute = u64::from(now.minute()) + 1_440 * u64::from(days);
-    if minute < 52_595_999 {
+    if minute < LAST_MINUTE as u64 {
         Instant::new(minute as u32).unwrap()
     } else {
-        Instant::new(52_595_999).unwrap()
+        Instant::new(LAST_MINUTE).unwrap()
     }
 }
 
@@ -103,13 +103,14 @@ fn ahead_text(alloc: Global, book: &Book, days: u32, cond: Cond) -> Result<Vec<u
 }
 
 /// What was asked of the book.
-fn asked_text(alloc: Global, book: &Book, asked: Asked) -> Result<Vec<u8>, Memory>
+fn asked_text(alloc: Global, book: &Book, asked: Inquiry) -> Result<Vec<u8>, Memory>
     ensures { IfOk result
-        (λ text. Tells book.now.named.policy asked book.now.birth book.now.entries text.items) }
+        (λ text. TellsAsked book.now.named.policy asked book.now.birth book.now.entries
+        text.items) }
 {
     match asked {
-        Asked::Ahead(days, cond) => ahead_text(alloc, book, days, cond),
-        Asked::Standing(named, event) => standing_text(alloc, book, named, event),
+        Inquiry::Ahead(days, cond) => ahead_text(alloc, book, days, cond),
+        Inquiry::Standing(named, event) => standing_text(alloc, book, named, event),
     }
 }
 
@@ -126,10 +127,10 @@ fn joined(alloc: Global, first: &List<u8>, more: &Vec<u8>) -> Result<End, Memory
 }
 
 /// The end of a run that was played to its end, with what was asked behind its replies.
-fn told_behind(alloc: Global, outcome: Outcome, asked: Asked) -> Result<End, Memory>
+fn told_behind(alloc: Global, outcome: Outcome, asked: Inquiry) -> Result<End, Memory>
     requires { outcome.end.status ≡ 0 }
     ensures { IfOk result
-        (λ end. Follows outcome.book.named.policy asked outcome.book.birth outcome.book.entries
+        (λ end. FollowsRun outcome.book.named.policy asked outcome.book.birth outcome.book.entries
         (seen_end outcome.end) (seen_end end)) }
 {
     let more = asked_text(alloc, &outcome.book, asked)?;
@@ -137,9 +138,9 @@ fn told_behind(alloc: Global, outcome: Outcome, asked: Asked) -> Result<End, Mem
 }
 
 /// The end of a run with what was asked behind it where it was played to its end, and else its own.
-pub(crate) fn answered(alloc: Global, outcome: Outcome, asked: Asked) -> Result<End, Memory>
+pub(crate) fn answered(alloc: Global, outcome: Outcome, asked: Inquiry) -> Result<End, Memory>
     ensures { IfOk result
-        (λ end. Follows outcome.book.named.policy asked outcome.book.birth outcome.book.entries
+        (λ end. FollowsRun outcome.book.named.policy asked outcome.book.birth outcome.book.entries
         (seen_end outcome.end) (seen_end end)) }
 {
     if outcome.end.status == 0 {

@@ -24,6 +24,7 @@ pub fn explain(alloc: Global, book: &Book) -> Result<Cert, Memory>
     ensures { IfOk result (λ cert. Accepts book.now.named.policy book.now.birth book.now.entries
         cert) }
 {
+    book.keeps();
     let cert = listed(alloc, book)?;
     let policy = book.ground().policy();
     if accept(policy, book.birth(), book.entries(), &cert)? {
@@ -38,6 +39,7 @@ fn listed(alloc: Global, book: &Book) -> Result<Cert, Memory>
     ensures { IfOk result (λ cert. Accepts book.now.named.policy book.now.birth book.now.entries
         cert) }
 {
+    book.keeps();
     book.timeline().keeps();
     let policy = book.policy();
     listings(

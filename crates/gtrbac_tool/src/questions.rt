@@ -3,7 +3,8 @@ ghost use Rattle.std.specs.Prelude.{◌≡◌, ◌∷◌, map, string_bytes};
 ghost use Rattle.gtrbac_tool.specs.Late.{one_said, two_said, fluent_said, cond_said, event_said, forecast_in, why_in};
 
 use gt_base::Name;
-use policy_lines::{cond_verb, event_verb, number_from, read_name};
+use gt_text::read_between;
+use policy_lines::{cond_verb, event_verb, read_name};
 use policy_words::{NamedCond, NamedEvent, NamedFluent, Sort};
 
 /// What is asked, by names.
@@ -84,7 +85,7 @@ fn cond(words: &[String]) -> Option<NamedCond>
 fn forecast_of(days: &[u8], words: &[String]) -> Option<Question>
     ensures { result ≡ forecast_in (days.now ∷ map string_bytes words.now) }
 {
-    let days = number_from(1, 36_525, days)?;
+    let days = read_between(1, 36_525, days)?;
     Some(Question::Forecast(days, cond(words)?))
 }
 

@@ -4,10 +4,11 @@ ghost use Rattle.gt_io.specs.Causes.{HasCause, AppendsPart};
 ghost use Rattle.gt_text.specs.Lines.{lines_of};
 ghost use Rattle.gtrbac_model.specs.Safety.{IsSafe};
 ghost use Rattle.policy_commands.specs.Ends.{told};
-ghost use Rattle.gtrbac_tool.specs.Told.{behind, script_line};
+ghost use Rattle.gtrbac_tool.specs.EndTexts.{behind, script_line};
 ghost use Rattle.gtrbac_tool.specs.Script.{Run as RunsTo, start_of, EndsFrom};
 ghost use Rattle.gtrbac_tool.specs.Writing.{Prints, Writes, Sends};
 ghost use Rattle.gtrbac_tool.specs.Answers.{IsWithin, TellsAnswer};
+ghost use Rattle.gtrbac_tool.specs.declared.top.TheConstants.{MAX_SCRIPT};
 
 use crate::answers::Answer;
 use crate::script::{Played, Run, fault_word, play_line, stopped};
@@ -26,10 +27,11 @@ const PIECE: usize = 65_536;
 /// Writes the text that waits, where it is long.
 fn hand_out<K: Sink>(text: &mut Vec<u8>, out: &mut K) -> Result<(), Failed>
     ensures sent { OnOk result
-        (Sends (K.written out.old) (K.written out.new) text.old.items text.new.items) }
+        (Sends (K.output out.old).written (K.output out.new).written text.old.items
+        text.new.items) }
     ensures part { OnErr result
-        (AppendsPart (K.written out.old) (K.written out.new) text.old.items) }
-    ensures cause { HasCause (K.faults out.old) (K.faults out.new) result }
+        (AppendsPart (K.output out.old).written (K.output out.new).written text.old.items) }
+    ensures cause { HasCause (K.output out.old).faults (K.output out.new).faults result }
 {
     if text.len() < PIECE {
         return Ok(());
@@ -42,7 +44,8 @@ fn hand_out<K: Sink>(text: &mut Vec<u8>, out: &mut K) -> Result<(), Failed>
 /// Prints the end at a line of a script, behind the text that waits.
 fn print_stop<K: Sink>(text: Vec<u8>, status: u8, number: u32, what: &[u8], out: &mut K) -> u8
     ensures { Prints (λ end. end ≡ behind text.items (told status (script_line number what.now)))
-        result (K.written out.old) (K.written out.new) (K.faults out.old) (K.faults out.new) }
+        result (K.output out.old).written (K.output out.new).written (K.output out.old).faults
+        (K.output out.new).faults }
 {
     match stopped(text, status, number, what) {
         Ok(end) => print(out, end.status, end.text.as_slice()),
@@ -58,35 +61,35 @@ fn write_out<K: Sink>(mut run: Run, mut lines: Lines<'_>, before: u32, out: &mut
     requires count { before + length lines < 2 ^ 32 }
     requires safe { IsSafe run.book.named.policy.triggers }
     ensures { Writes (RunsTo run.book.named run.book.birth (before + 1) lines.entry) result
-        (K.written out.old) (K.written out.new) (K.faults out.old) (K.faults out.new) }
+        (K.output out.old).written (K.output out.new).written (K.output out.old).faults
+        (K.output out.new).faults }
 {
     let mut number = before;
     while let Some(line) = lines.next() {
         number += 1;
-        // what a book keeps
-        let _before = run.book.entries();
+        run.book.keeps();
         match play_line(&mut run, line) {
             Ok(played) => match played {
                 Played::On => {
-                    let _entries = run.book.entries();
+                    run.book.keeps();
                     match hand_out(&mut run.text, out) {
                         Ok(()) => {}
                         Err(_) => return 5,
                     }
                 }
                 Played::Full => {
-                    let _entries = run.book.entries();
+                    run.book.keeps();
                     return print_stop(run.text, 9, number, b"steps full", out);
                 }
                 Played::Bad(fault) => {
-                    let _entries = run.book.entries();
+                    run.book.keeps();
                     return print_stop(run.text, 7, number, fault_word(fault), out);
                 }
             },
             Err(_) => return 8,
         }
     }
-    let _entries = run.book.entries();
+    run.book.keeps();
     print(out, 0, run.text.as_slice())
 }
 
@@ -101,11 +104,10 @@ fn write_from<K: Sink>(
     out: &mut K,
 ) -> u8
     requires count { before + length lines < 2 ^ 32 }
-    ensures { Writes (RunsTo safe birth (before + 1) lines.entry) result (K.written out.old)
-        (K.written out.new) (K.faults out.old) (K.faults out.new) }
+    ensures { Writes (RunsTo safe birth (before + 1) lines.entry) result (K.output out.old).written
+        (K.output out.new).written (K.output out.old).faults (K.output out.new).faults }
 {
-    // what a safe policy keeps
-    let _policy = safe.policy();
+    safe.keeps();
     match Book::new(alloc, safe, birth) {
         Ok(book) => {
             let run = Run {
@@ -121,9 +123,10 @@ fn write_from<K: Sink>(
 
 /// Plays a script over a safe policy, and writes the replies as they come.
 fn write_script<K: Sink>(alloc: Global, safe: Safe, script: &[u8], out: &mut K) -> u8
-    requires { length script.now ≤ 16_777_216 }
+    requires { length script.now ≤ MAX_SCRIPT }
     ensures { Writes (EndsFrom safe (start_of safe 1 (lines_of script.now))) result
-        (K.written out.old) (K.written out.new) (K.faults out.old) (K.faults out.new) }
+        (K.output out.old).written (K.output out.new).written (K.output out.old).faults
+        (K.output out.new).faults }
 {
     let mut lines = Lines::new(script);
     let text = Vec::new(alloc);
@@ -138,8 +141,8 @@ fn write_script<K: Sink>(alloc: Global, safe: Safe, script: &[u8], out: &mut K) 
 /// Prints the end, or plays the script and writes its replies as they come.
 pub(crate) fn tell<K: Sink>(alloc: Global, answer: Answer, out: &mut K) -> u8
     requires { IsWithin answer }
-    ensures { TellsAnswer answer result (K.written out.old) (K.written out.new)
-        (K.faults out.old) (K.faults out.new) }
+    ensures { TellsAnswer answer result (K.output out.old).written (K.output out.new).written
+        (K.output out.old).faults (K.output out.new).faults }
 {
     match answer {
         Answer::Ended(end) => print(out, end.status, end.text.as_slice()),

@@ -2,9 +2,9 @@
 ghost use Rattle.std.specs.Prelude.{◌≡◌, ◌+◌, ◌^◌, ◌<◌, ◌≤◌, ◌++◌, [], codes, length, decimal, Ok, OnOk, IfOk, MatchBool};
 ghost use Rattle.core_machine.specs.Books.{SameRoot, IsNamedFor};
 ghost use Rattle.request_text.specs.declared.lines.Line.TheVariants.{Ask};
-ghost use Rattle.request_text.specs.Replies.{fault_word as word_of_fault};
+ghost use Rattle.request_text.specs.Replies.{fault_word};
 ghost use Rattle.policy_commands.specs.Ends.{seen_end, told};
-ghost use Rattle.gtrbac_tool.specs.Told.{behind, script_line};
+ghost use Rattle.gtrbac_tool.specs.EndTexts.{behind, script_line};
 ghost use Rattle.gtrbac_tool.specs.Script.{Arrives, IsFilled, said};
 ghost use Rattle.gtrbac_tool.specs.Going.{going_of, IsActorOf, IsOutcome, played_as, PlaysAs};
 
@@ -52,8 +52,7 @@ fn go(book: &mut Book, minute: Instant) -> Result<bool, Memory>
             Err(StepFault::Memory) => return Err(AllocError),
         }
     }
-    // what a book keeps
-    let _entries = book.entries();
+    book.keeps();
     Ok(true)
 }
 
@@ -68,8 +67,7 @@ fn put(run: &mut Run, request: Request) -> Result<bool, Memory>
         (played_as done) (going_of run.old.book run.old.actor run.old.text.items)
         (going_of run.new.book run.new.actor run.new.text.items)) }
 {
-    // what a book keeps
-    let _policy = run.book.policy();
+    run.book.keeps();
     match run.book.ask(SCRIPT, run.actor, request) {
         Ok(reply) => {
             let line = write_reply(*run.text.allocator(), run.book.policy(), &reply)?;
@@ -87,7 +85,8 @@ fn after_step(done: bool) -> Played
     if done { Played::On } else { Played::Full }
 }
 
-/// Plays a line.
+/// Reads one line of the script and does what it says: nothing, a step to its minute, another
+/// actor, or a request, whose reply is written behind the text.
 pub(crate) fn play_line(run: &mut Run, line: &[u8]) -> Result<Played, Memory>
     requires { IsActorOf run.old.book run.old.actor }
     ensures root { OnOk result (SameRoot run.old.book run.new.book) }
@@ -114,7 +113,7 @@ pub(crate) fn play_line(run: &mut Run, line: &[u8]) -> Result<Played, Memory>
 
 /// The word of a line's fault.
 pub(crate) fn fault_word(fault: LineFault) -> &'static [u8]
-    ensures { result.now ≡ word_of_fault fault }
+    ensures { result.now ≡ fault_word fault }
 {
     match fault {
         LineFault::Long => b"long",
@@ -182,16 +181,16 @@ fn play_out(mut run: Run, mut lines: Lines<'_>, before: u32) -> Result<Outcome, 
         match play_line(&mut run, line)? {
             Played::On => {}
             Played::Full => {
-                let _entries = run.book.entries();
+                run.book.keeps();
                 return ended(run, 9, number, b"steps full");
             }
             Played::Bad(fault) => {
-                let _entries = run.book.entries();
+                run.book.keeps();
                 return ended(run, 7, number, fault_word(fault));
             }
         }
     }
-    let _entries = run.book.entries();
+    run.book.keeps();
     let Run {
         book,
         actor: _,

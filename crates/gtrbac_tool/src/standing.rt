@@ -3,7 +3,7 @@ ghost use Rattle.std.specs.Prelude.{◌≡◌, ◌++◌, IfOk, OnOk, option_map}
 ghost use Rattle.gt_base.specs.Sets.{has};
 ghost use Rattle.gtrbac_model.specs.Conflict.{after, seen as seen_in};
 ghost use Rattle.gt_base.specs.declared.events.Fluent.{Fluent as FluentOf};
-ghost use Rattle.gtrbac_tool.specs.Standing.{raises as is_raised, first_raising, reason, by_word as by_words, standing_line, certificate_line, TellsWhy, closed_at as closed_in, made_before};
+ghost use Rattle.gtrbac_tool.specs.Standing.{raises, first_raising, reason, by_word, standing_line, certificate_line, TellsWhy, closed_at, made_before};
 
 use crate::explaining::{explain, status_after};
 use core_machine::{Book, Closed};
@@ -40,7 +40,7 @@ fn set_of(closed: &Closed) -> &Happened
 
 /// What the trace has at the instant.
 fn closed_at(mut trace: &[Closed], t: Instant) -> Option<&Closed>
-    ensures { option_map (λ c. c.now) result ≡ closed_in trace.now t }
+    ensures { option_map (λ c. c.now) result ≡ closed_at trace.now t }
 {
     while let [first, rest @ ..] = trace {
         if at_of(first) == t {
@@ -84,7 +84,7 @@ fn take_in(alloc: Global, status: &mut Status, set: &Happened) -> Result<(), Mem
 
 /// Whether the trigger is immediate, has the event as its head and is met in the set.
 fn raises(r: &Trigger, x: &Contest, before: &Status, e: &Prioritised) -> bool
-    ensures { result ≡ is_raised x.now (has before.now.set) e.now r.now }
+    ensures { result ≡ raises x.now (has before.now.set) e.now r.now }
 {
     r.delay == 0 && r.head == *e && met_in(r, x, before)
 }
@@ -133,7 +133,7 @@ fn add_reason(
 
 /// Adds the converse of the event with this priority.
 fn add_blocker(text: &mut Vec<u8>, named: &NamedEvent, prio: Option<Prio>) -> Result<(), Memory>
-    ensures { OnOk result (text.new.items ≡ text.old.items ++ by_words named.now prio) }
+    ensures { OnOk result (text.new.items ≡ text.old.items ++ by_word named.now prio) }
 {
     match prio {
         Some(q) => {
@@ -248,6 +248,7 @@ pub(crate) fn standing_text(
         (λ text. TellsWhy book.now.named.policy book.now.birth book.now.entries named e
         text.items) }
 {
+    book.keeps();
     let policy = book.ground().policy();
     let cert = explain(alloc, book)?;
     let mut text = certificate_text(alloc, &cert)?;

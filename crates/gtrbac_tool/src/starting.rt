@@ -4,12 +4,13 @@ ghost use Rattle.gt_text.specs.Lines.{lines_of};
 ghost use Rattle.policy_commands.specs.Ends.{seen_end};
 ghost use Rattle.gtrbac_tool.specs.Script.{start_of};
 ghost use Rattle.gtrbac_tool.specs.Late.{AnswersFrom};
-ghost use Rattle.gtrbac_tool.specs.Told.{no_birth as born_never};
+ghost use Rattle.gtrbac_tool.specs.EndTexts.{no_birth};
 ghost use Rattle.gtrbac_tool.specs.Started.{IsUnborn, started_so, number_of, RanFrom};
 ghost use Rattle.gtrbac_tool.specs.Ends.{PlaysTo};
-ghost use Rattle.gtrbac_tool.specs.Answers.{Gives};
+ghost use Rattle.gtrbac_tool.specs.Answers.{GivesEnds};
+ghost use Rattle.gtrbac_tool.specs.declared.top.TheConstants.{MAX_SCRIPT};
 
-use crate::ahead::{Asked, answered};
+use crate::ahead::{Inquiry, answered};
 use crate::answers::Answer;
 use crate::script::{Outcome, fault_word, from_birth, stopped};
 use gt_base::{Actor, Instant, List, Memory};
@@ -83,7 +84,7 @@ pub(crate) fn begin(alloc: Global, safe: Safe, script: &[u8]) -> Result<Ran, Mem
 
 /// The end at a script in which no line says anything.
 fn no_birth(alloc: Global) -> Result<End, Memory>
-    ensures { IfOk result (λ end. seen_end end ≡ born_never) }
+    ensures { IfOk result (λ end. seen_end end ≡ no_birth) }
 {
     Ok(End {
         status: 0,
@@ -104,7 +105,7 @@ fn unborn(alloc: Global, end: End) -> Result<End, Memory>
 
 /// The end of a script over a safe policy, with what is asked behind it. The script has fewer than
 /// 4,294,967,296 bytes.
-fn play_and_answer(alloc: Global, safe: Safe, asked: Asked, script: &[u8]) -> Result<End, Memory>
+fn play_and_answer(alloc: Global, safe: Safe, asked: Inquiry, script: &[u8]) -> Result<End, Memory>
     requires { length script.now < 2 ^ 32 }
     ensures { IfOk result
         (λ end. AnswersFrom safe asked (start_of safe 1 (lines_of script.now)) (seen_end end)) }
@@ -123,11 +124,11 @@ fn play_and_answer(alloc: Global, safe: Safe, asked: Asked, script: &[u8]) -> Re
 pub(crate) fn play(
     alloc: Global,
     safe: Safe,
-    asked: Option<Asked>,
+    asked: Option<Inquiry>,
     script: Vec<u8>,
 ) -> Result<Answer, Memory>
-    requires { length script.items ≤ 16_777_216 }
-    ensures { IfOk result (Gives (asked ≡ None) (PlaysTo safe asked script.items)) }
+    requires { length script.items ≤ MAX_SCRIPT }
+    ensures { IfOk result (GivesEnds (asked ≡ None) (PlaysTo safe asked script.items)) }
 {
     match asked {
         None => Ok(Answer::Script(safe, script)),

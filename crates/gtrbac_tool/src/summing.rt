@@ -6,14 +6,14 @@ ghost use Rattle.policy_commands.specs.Ends.{seen_end};
 ghost use Rattle.gtrbac_tool.specs.Script.{start_of};
 ghost use Rattle.gtrbac_tool.specs.Summary.{IsGen, IsNoGen, GenEnds, SummedFrom, summed, gen_line, steps_line, end_line};
 ghost use Rattle.policy_words.specs.Naming.{NamedPolicy};
-ghost use Rattle.gtrbac_tool.specs.Counted.{seen_recipe, word_text, permits as decision_permits, replies, counts as counts_step, tally_line, tally as tally_of};
+ghost use Rattle.gtrbac_tool.specs.Counted.{seen_recipe, word_text, permits, replies, counts, tally_line, tally};
 
 use crate::script::Outcome;
 use crate::starting::{Ran, begin};
 use civil_time::write_civil;
 use core_machine::Book;
 use gt_base::{Decision, Entry, List, Memory, Reply, Step};
-use gt_text::{push_number, read_number, read_up_to};
+use gt_text::{push_number, read_between, read_number};
 use policy_commands::{Admitted, End, admit};
 use policy_gen::make;
 use policy_safety::Safe;
@@ -28,7 +28,7 @@ pub(crate) struct Recipe {
 
 /// The word that a reply begins with, where it is counted.
 #[derive(Clone, Copy)]
-pub(crate) enum Word {
+pub(crate) enum ReplyWord {
     Ok,
     Permit,
     Deny,
@@ -42,12 +42,8 @@ fn recipe_in(seed: &str, size: &str) -> Option<Recipe>
     ensures none { IfNone result (IsNoGen (codes "gen" ∷ seed.now ∷ size.now ∷ [])) }
 {
     let seed = read_number(seed.as_bytes())?;
-    let size = read_up_to(size.as_bytes(), 100_000)?;
-    if size == 0 {
-        None
-    } else {
-        Some(Recipe { seed, size })
-    }
+    let size = read_between(1, 100_000, size.as_bytes())?;
+    Some(Recipe { seed, size })
 }
 
 /// The recipe that the words are, none where they are no `gen`.
@@ -67,19 +63,19 @@ pub(crate) fn recipe_of(words: &[String]) -> Option<Recipe>
     }
 }
 
-fn text_of(word: Word) -> &'static [u8]
+fn text_of(word: ReplyWord) -> &'static [u8]
     ensures { result.now ≡ word_text word }
 {
     match word {
-        Word::Ok => b"ok",
-        Word::Permit => b"permit",
-        Word::Deny => b"deny",
-        Word::Refused => b"refused",
+        ReplyWord::Ok => b"ok",
+        ReplyWord::Permit => b"permit",
+        ReplyWord::Deny => b"deny",
+        ReplyWord::Refused => b"refused",
     }
 }
 
 fn permits(decision: &Decision) -> bool
-    ensures { result ≡ decision_permits decision.now }
+    ensures { result ≡ permits decision.now }
 {
     match decision {
         Decision::Permit { walk: _ } => true,
@@ -88,21 +84,21 @@ fn permits(decision: &Decision) -> bool
 }
 
 /// Whether a reply begins with the word.
-fn begins(word: Word, reply: &Reply) -> bool
+fn begins(word: ReplyWord, reply: &Reply) -> bool
     ensures { result ≡ replies word reply.now }
 {
     match (word, reply) {
-        (Word::Ok, Reply::Done | Reply::Active(_)) => true,
-        (Word::Permit, Reply::Decided(decision)) => permits(decision),
-        (Word::Deny, Reply::Decided(decision)) => !permits(decision),
-        (Word::Refused, Reply::Refused(_)) => true,
+        (ReplyWord::Ok, Reply::Done | Reply::Active(_)) => true,
+        (ReplyWord::Permit, Reply::Decided(decision)) => permits(decision),
+        (ReplyWord::Deny, Reply::Decided(decision)) => !permits(decision),
+        (ReplyWord::Refused, Reply::Refused(_)) => true,
         _ => false,
     }
 }
 
 /// Whether a step is a request whose reply begins with the word.
-fn counts(word: Word, step: &Step) -> bool
-    ensures { result ≡ counts_step word step.now }
+fn counts(word: ReplyWord, step: &Step) -> bool
+    ensures { result ≡ counts word step.now }
 {
     match step {
         Step::Tick { upto: _, to: _ } => false,
@@ -115,8 +111,8 @@ fn counts(word: Word, step: &Step) -> bool
 }
 
 /// How many requests have a reply that begins with the word.
-fn count(entries: &[Entry], word: Word) -> usize
-    ensures { result ≡ count_by (λ e. counts_step word e.what) entries.now }
+fn count(entries: &[Entry], word: ReplyWord) -> usize
+    ensures { result ≡ count_by (λ e. counts word e.what) entries.now }
 {
     entries
         .iter()
@@ -125,7 +121,7 @@ fn count(entries: &[Entry], word: Word) -> usize
 }
 
 /// Adds the line of a word, with how many replies begin with it.
-fn push_count(text: &mut Vec<u8>, entries: &[Entry], word: Word) -> Result<(), Memory>
+fn push_count(text: &mut Vec<u8>, entries: &[Entry], word: ReplyWord) -> Result<(), Memory>
     ensures { OnOk result (text.new.items ≡ text.old.items ++ tally_line word entries.now) }
 {
     text.extend_from_slice(text_of(word))?;
@@ -165,16 +161,16 @@ fn push_now(text: &mut Vec<u8>, book: &Book) -> Result<(), Memory>
 /// of the four words, and the instant now.
 fn tally(alloc: Global, recipe: Recipe, book: &Book) -> Result<Vec<u8>, Memory>
     ensures { IfOk result
-        (λ text. text.items ≡ tally_of (seen_recipe recipe) book.now.birth book.now.entries) }
+        (λ text. text.items ≡ tally (seen_recipe recipe) book.now.birth book.now.entries) }
 {
     let entries = book.entries().as_slice();
     let mut text = Vec::new(alloc);
     push_recipe(&mut text, recipe)?;
     push_steps(&mut text, entries)?;
-    push_count(&mut text, entries, Word::Ok)?;
-    push_count(&mut text, entries, Word::Permit)?;
-    push_count(&mut text, entries, Word::Deny)?;
-    push_count(&mut text, entries, Word::Refused)?;
+    push_count(&mut text, entries, ReplyWord::Ok)?;
+    push_count(&mut text, entries, ReplyWord::Permit)?;
+    push_count(&mut text, entries, ReplyWord::Deny)?;
+    push_count(&mut text, entries, ReplyWord::Refused)?;
     push_now(&mut text, book)?;
     Ok(text)
 }

@@ -3,18 +3,19 @@ ghost use Rattle.std.specs.Prelude.{◌≡◌, ◌⊎◌, ◌≤◌, None, map, 
 ghost use Rattle.std.specs.Io.KnownBytes.{IsAtEnd};
 ghost use Rattle.gt_io.specs.Causes.{Rose};
 ghost use Rattle.policy_commands.specs.Policies.{safe_in};
+ghost use Rattle.policy_commands.specs.declared.finding.TheConstants.{MAX_POLICY};
 ghost use Rattle.gtrbac_tool.specs.Commands.{plays_script, seen_command, IsPlainRun};
 ghost use Rattle.gtrbac_tool.specs.Counted.{seen_recipe};
 ghost use Rattle.gtrbac_tool.specs.Summary.{IsNoGen, GenEnds};
 ghost use Rattle.gtrbac_tool.specs.Ends.{ScriptEnds, AskedEnds, JudgedEnds, TextEnds, FoundEnds};
-ghost use Rattle.gtrbac_tool.specs.Late.{asks_of as asks_by};
+ghost use Rattle.gtrbac_tool.specs.Late.{asks_of};
 ghost use Rattle.gtrbac_tool.specs.Scenes.{scene};
-ghost use Rattle.gtrbac_tool.specs.Causes.{perhaps, Asks, IsAskedOf, OnShelf, Short};
+ghost use Rattle.gtrbac_tool.specs.Causes.{perhaps, AsksForScript, IsAskedOf, OnShelf, Short};
 ghost use Rattle.gtrbac_tool.specs.Writing.{Prints};
-ghost use Rattle.gtrbac_tool.specs.Answers.{Gives, IsSteadyAt, IsCountedAt, IsReadAt};
+ghost use Rattle.gtrbac_tool.specs.Answers.{GivesEnds, IsSteadyAt, IsCountedAt, IsReadAt};
 ghost use Rattle.gtrbac_tool.specs.Tool.{Answers, Leaves, RunsTool};
 
-use crate::ahead::{Asked, asks_of};
+use crate::ahead::{Inquiry, asks_of};
 use crate::answers::Answer;
 use crate::commands::{Command, spoken};
 use crate::questions::Question;
@@ -28,20 +29,21 @@ use policy_safety::Safe;
 use std::alloc::{AllocError, Global};
 
 /// The most bytes of a script.
-const MAX_SCRIPT: usize = 16_777_216;
+pub(crate) const MAX_SCRIPT: usize = 16_777_216;
 
 /// Reads the script; where something is asked behind it, runs it and tells that.
 fn run_script<I: Source>(
     alloc: Global,
     safe: Safe,
-    asked: Option<Asked>,
+    asked: Option<Inquiry>,
     input: &mut I,
 ) -> Result<Answer, Memory>
-    ensures end { IfOk result (Gives (asked ≡ None)
-        (ScriptEnds (Rose (I.faults input.old) (I.faults input.new)) safe asked
-        (I.left input.old))) }
-    ensures steady { IfOk result (IsSteadyAt (I.faults input.new ≡ I.faults input.old)) }
-    ensures read { IfOk result (IsReadAt (IsAtEnd (I.left input.new))) }
+    ensures end { IfOk result (GivesEnds (asked ≡ None)
+        (ScriptEnds (Rose (I.intake input.old).faults (I.intake input.new).faults) safe asked
+        (I.intake input.old).left)) }
+    ensures steady { IfOk result (IsSteadyAt ((I.intake input.new).faults
+        ≡ (I.intake input.old).faults)) }
+    ensures read { IfOk result (IsReadAt (IsAtEnd (I.intake input.new).left)) }
 {
     match read_all(alloc, input, MAX_SCRIPT) {
         Ok(script) => play(alloc, safe, asked, script),
@@ -58,12 +60,13 @@ fn run_safe<I: Source>(
     question: Option<Question>,
     input: &mut I,
 ) -> Result<Answer, Memory>
-    ensures end { IfOk result (Gives (question ≡ None)
-        (AskedEnds (Rose (I.faults input.old) (I.faults input.new)) safe
-        (asks_by safe question) (I.left input.old))) }
-    ensures steady { IfOk result (IsSteadyAt (I.faults input.new ≡ I.faults input.old)) }
-    ensures read { IfOk result (IsReadAt (IsAtEnd (I.left input.new))) }
-    ensures untouched { (input.new ≡ input.old) ⊎ IsSome (asks_by safe question) }
+    ensures end { IfOk result (GivesEnds (question ≡ None)
+        (AskedEnds (Rose (I.intake input.old).faults (I.intake input.new).faults) safe
+        (asks_of safe question) (I.intake input.old).left)) }
+    ensures steady { IfOk result (IsSteadyAt ((I.intake input.new).faults
+        ≡ (I.intake input.old).faults)) }
+    ensures read { IfOk result (IsReadAt (IsAtEnd (I.intake input.new).left)) }
+    ensures untouched { (input.new ≡ input.old) ⊎ IsSome (asks_of safe question) }
 {
     match asks_of(safe.policy(), question) {
         Some(asked) => run_script(alloc, safe, asked, input),
@@ -78,12 +81,13 @@ fn run<I: Source>(
     question: Option<Question>,
     input: &mut I,
 ) -> Result<Answer, Memory>
-    requires { length text.now ≤ 4_194_304 }
-    ensures end { IfOk result (Gives (question ≡ None)
-        (JudgedEnds (Rose (I.faults input.old) (I.faults input.new)) question
-        (safe_in text.now) (I.left input.old))) }
-    ensures steady { IfOk result (IsSteadyAt (I.faults input.new ≡ I.faults input.old)) }
-    ensures read { IfOk result (IsReadAt (IsAtEnd (I.left input.new))) }
+    requires { length text.now ≤ MAX_POLICY }
+    ensures end { IfOk result (GivesEnds (question ≡ None)
+        (JudgedEnds (Rose (I.intake input.old).faults (I.intake input.new).faults) question
+        (safe_in text.now) (I.intake input.old).left)) }
+    ensures steady { IfOk result (IsSteadyAt ((I.intake input.new).faults
+        ≡ (I.intake input.old).faults)) }
+    ensures read { IfOk result (IsReadAt (IsAtEnd (I.intake input.new).left)) }
     ensures untouched { (input.new ≡ input.old) ⊎ IsAskedOf question text.now }
 {
     match admit(alloc, text)? {
@@ -99,14 +103,16 @@ fn answer_text<I: Source>(
     text: &[u8],
     input: &mut I,
 ) -> Result<Answer, Memory>
-    requires { length text.now ≤ 4_194_304 }
-    ensures end { IfOk result (Gives (IsPlainRun (seen_command command.now))
-        (TextEnds (Rose (I.faults input.old) (I.faults input.new))
-        (seen_command command.now) text.now (I.left input.old))) }
-    ensures steady { IfOk result (IsSteadyAt (I.faults input.new ≡ I.faults input.old)) }
+    requires { length text.now ≤ MAX_POLICY }
+    ensures end { IfOk result (GivesEnds (IsPlainRun (seen_command command.now))
+        (TextEnds (Rose (I.intake input.old).faults (I.intake input.new).faults)
+        (seen_command command.now) text.now (I.intake input.old).left)) }
+    ensures steady { IfOk result (IsSteadyAt ((I.intake input.new).faults
+        ≡ (I.intake input.old).faults)) }
     ensures read { IsTrue (plays_script (seen_command command.now))
-        → IfOk result (IsReadAt (IsAtEnd (I.left input.new))) }
-    ensures untouched { (input.new ≡ input.old) ⊎ Asks (seen_command command.now) text.now }
+        → IfOk result (IsReadAt (IsAtEnd (I.intake input.new).left)) }
+    ensures untouched { (input.new ≡ input.old)
+        ⊎ AsksForScript (seen_command command.now) text.now }
 {
     match command {
         Command::Check(_) => Ok(Answer::Ended(check(alloc, text)?)),
@@ -122,21 +128,22 @@ fn answer<S: Shelf, I: Source>(
     shelf: &mut S,
     input: &mut I,
 ) -> Result<Answer, Memory>
-    ensures end { IfOk result (Gives (IsPlainRun (seen_command command.now))
-        (FoundEnds (Rose (S.hard_faults shelf.old) (S.hard_faults shelf.new))
-        (Rose (I.faults input.old) (I.faults input.new)) (seen_command command.now)
-        (S.contents shelf.old) (I.left input.old))) }
+    ensures end { IfOk result (GivesEnds (IsPlainRun (seen_command command.now))
+        (FoundEnds (Rose (S.stock shelf.old).hard_faults (S.stock shelf.new).hard_faults)
+        (Rose (I.intake input.old).faults (I.intake input.new).faults) (seen_command command.now)
+        (S.stock shelf.old).contents (I.intake input.old).left)) }
     ensures steady { IfOk result
-        (IsSteadyAt ((S.hard_faults shelf.new ≡ S.hard_faults shelf.old)
-        × (I.faults input.new ≡ I.faults input.old))) }
+        (IsSteadyAt (((S.stock shelf.new).hard_faults ≡ (S.stock shelf.old).hard_faults)
+        × ((I.intake input.new).faults ≡ (I.intake input.old).faults))) }
     ensures counted { IfOk result
-        (IsCountedAt (Rose (S.faults shelf.old) (S.faults shelf.new)
-        ⊎ Rose (I.faults input.old) (I.faults input.new))) }
-    ensures same { S.contents shelf.new ≡ S.contents shelf.old }
+        (IsCountedAt (Rose (S.stock shelf.old).faults (S.stock shelf.new).faults
+        ⊎ Rose (I.intake input.old).faults (I.intake input.new).faults)) }
+    ensures same { (S.stock shelf.new).contents ≡ (S.stock shelf.old).contents }
     ensures read { IsTrue (plays_script (seen_command command.now))
-        → IfOk result (IsReadAt (IsAtEnd (I.left input.new))) }
+        → IfOk result (IsReadAt (IsAtEnd (I.intake input.new).left)) }
     ensures untouched { (input.new ≡ input.old)
-        ⊎ OnShelf perhaps (S.contents shelf.old) (Short Asks) (seen_command command.now) }
+        ⊎ OnShelf perhaps (S.stock shelf.old).contents (Short AsksForScript)
+        (seen_command command.now) }
 {
     match find_text(alloc, shelf, command.name())? {
         Found::Text(text) => answer_text(alloc, command, &text, input),
@@ -155,15 +162,11 @@ fn run_command<S: Shelf, I: Source, K: Sink>(
 ) -> u8
     requires { IsNoGen (map string_bytes words.now) }
     ensures answers { Answers (map string_bytes words.now) result
-        (scene S.contents S.faults S.hard_faults I.left I.faults K.written K.faults
-        shelf.old input.old out.old)
-        (scene S.contents S.faults S.hard_faults I.left I.faults K.written K.faults
-        shelf.new input.new out.new) }
+        (scene S.stock I.intake K.output shelf.old input.old out.old)
+        (scene S.stock I.intake K.output shelf.new input.new out.new) }
     ensures leaves { Leaves (map string_bytes words.now) result
-        (scene S.contents S.faults S.hard_faults I.left I.faults K.written K.faults
-        shelf.old input.old out.old)
-        (scene S.contents S.faults S.hard_faults I.left I.faults K.written K.faults
-        shelf.new input.new out.new) }
+        (scene S.stock I.intake K.output shelf.old input.old out.old)
+        (scene S.stock I.intake K.output shelf.new input.new out.new) }
 {
     let Some(command) = spoken(words) else {
         return print(
@@ -181,8 +184,9 @@ fn run_command<S: Shelf, I: Source, K: Sink>(
 /// Runs `gen` and prints to `out`.
 fn run_gen<K: Sink>(alloc: Global, recipe: Recipe, out: &mut K) -> u8
     requires { (1 ≤ recipe.size) × (recipe.size ≤ 100_000) }
-    ensures { Prints (GenEnds (seen_recipe recipe)) result (K.written out.old) (K.written out.new)
-        (K.faults out.old) (K.faults out.new) }
+    ensures { Prints (GenEnds (seen_recipe recipe)) result (K.output out.old).written
+        (K.output out.new).written
+        (K.output out.old).faults (K.output out.new).faults }
 {
     match generate(alloc, recipe) {
         Ok(end) => print(out, end.status, end.text.as_slice()),
@@ -220,10 +224,8 @@ pub fn tool<S: Shelf, I: Source, K: Sink>(
     out: &mut K,
 ) -> u8
     ensures { RunsTool (map string_bytes words.now) result
-        (scene S.contents S.faults S.hard_faults I.left I.faults K.written K.faults
-        shelf.old input.old out.old)
-        (scene S.contents S.faults S.hard_faults I.left I.faults K.written K.faults
-        shelf.new input.new out.new) }
+        (scene S.stock I.intake K.output shelf.old input.old out.old)
+        (scene S.stock I.intake K.output shelf.new input.new out.new) }
 {
     match recipe_of(words) {
         Some(recipe) => run_gen(alloc, recipe, out),

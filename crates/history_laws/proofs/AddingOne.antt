@@ -1,5 +1,5 @@
 -- Between now and the stop nothing is settled but the empty set, so one set more makes the model of the longer history.
-use Rattle.std.proofs.Common.{◌≡◌, ℕ, ◌-◌, ◌<◌, ◌≤◌, Bool, true, false, nat_eq, nat_le, sym, subst, arith}
+use Rattle.std.proofs.Common.{◌≡◌, ℕ, ◌-◌, ◌<◌, ◌≤◌, Bool, true, false, nat_eq, nat_le, sym, subst, arith, if◌then◌else◌}
 use Rattle.std.proofs.lemmas.Bool.{leb-true, leb-false, eqb-true, eq-eqb}
 use Rattle.gt_base.specs.Happening.{HappenedView, nothing}
 use Rattle.gtrbac_model.specs.Instant.{Settled}
@@ -25,13 +25,13 @@ module _ (m : Model) (now to : ℕ) (x : HappenedView) where
   more = with_set m now to x
 
   as_before : (t : ℕ) → t ≤ now → m t ≡ more t
-  as_before t le = sym (λ i. elim (le_is t now le i) [ true ↦ m t | false ↦ elim (nat_eq t to) [ true ↦ x | false ↦ nothing ] ])
+  as_before t le = sym (λ i. if le_is t now le i then m t else if nat_eq t to then x else nothing)
 
   at_stop : (t : ℕ) → now < t → nat_eq t to ≡ true → more t ≡ x
-  at_stop t lt e = λ i. elim (le_is_not t now lt i) [ true ↦ m t | false ↦ elim (e i) [ true ↦ x | false ↦ nothing ] ]
+  at_stop t lt e = λ i. if le_is_not t now lt i then m t else if e i then x else nothing
 
   between : (t : ℕ) → now < t → nat_eq t to ≡ false → more t ≡ nothing
-  between t lt e = λ i. elim (le_is_not t now lt i) [ true ↦ m t | false ↦ elim (e i) [ true ↦ x | false ↦ nothing ] ]
+  between t lt e = λ i. if le_is_not t now lt i then m t else if e i then x else nothing
 
 pub tick_adds_one_set : TickAddsOneSet
 tick_adds_one_set p is birth h m legal who upto to x stop settled =

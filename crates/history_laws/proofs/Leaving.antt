@@ -1,5 +1,5 @@
 -- A history stays legal without a refused request, since no later step tells the two apart.
-use Rattle.std.proofs.Common.{◌≡◌, ℕ, ◌-◌, ◌≤◌, true, false, nat_lt, ◌||◌, List, [], ◌∷◌, ◌++◌, sym, ◌∙◌, ap, subst, append_assoc}
+use Rattle.std.proofs.Common.{◌≡◌, ℕ, ◌-◌, ◌≤◌, nat_lt, ◌||◌, List, [], ◌∷◌, ◌++◌, sym, ◌∙◌, ap, subst, append_assoc, if◌then◌else◌}
 use Rattle.gt_base.specs.Happening.{nothing}
 use Rattle.gt_base.specs.Machines.{asked}
 use Rattle.gt_base.specs.declared.requests.Who.{Who}
@@ -36,7 +36,7 @@ module _ (p : Policy) (birth : ℕ) (m : Model) where
       λ i. record {
         now = same.nows i;
         status = status p birth m (same.nows i);
-        set = elim (nat_lt birth (same.nows i)) [ true ↦ m (same.nows i) | false ↦ nothing ];
+        set = if nat_lt birth (same.nows i) then m (same.nows i) else nothing;
         table = tables i;
       }
 

@@ -1,11 +1,11 @@
 -- Requests are answered from named points.
 use Rattle.std.proofs.Common.{ℕ, ◌≤◌, List, [], ◌∷◌, ◌++◌, arith}
 use Rattle.std.proofs.lemmas.Bool.{ltb-true}
-use Rattle.gt_base.specs.Bounds.{last_minute}
 use Rattle.gt_base.specs.declared.events.Fluent.TheVariants.{Enabled}
 use Rattle.gt_base.specs.declared.requests.Step.{Step}
 use Rattle.gt_base.specs.declared.requests.Step.TheVariants.{Tick, Ask}
 use Rattle.gt_base.specs.declared.requests.Entry.{Entry}
+use Rattle.gt_base.specs.declared.limits.TheConstants.{LAST_MINUTE}
 use Rattle.gtrbac_model.specs.Policy.{Policy}
 use Rattle.gtrbac_model.specs.Status.{Model}
 use Rattle.gtrbac_model.specs.History.{Legal, AreLegalAfter, IsLegalStep, now_of, moved, point_after}
@@ -21,15 +21,15 @@ named_front p [] rest named = tt
 named_front p (e ∷ es) rest named = (named.0, named_front p es rest named.1)
 
 module _ (p : Policy) (birth : ℕ) (m : Model) where
-  low_step : (start : ℕ) (g : List Entry) (w : Step) → start ≤ last_minute → IsNamedStep p w → IsLegalStep p birth m g w → moved start w ≤ last_minute
+  low_step : (start : ℕ) (g : List Entry) (w : Step) → start ≤ LAST_MINUTE → IsNamedStep p w → IsLegalStep p birth m g w → moved start w ≤ LAST_MINUTE
   low_step start g (Tick upto to) le named legal = omega (arith, named, legal.bounded)
   low_step start g (Ask actor request reply) le named legal = le
 
-  low_now : (start : ℕ) (g h : List Entry) → start ≤ last_minute → AreNamed p h → AreLegalAfter p birth m g h → now_of start h ≤ last_minute
+  low_now : (start : ℕ) (g h : List Entry) → start ≤ LAST_MINUTE → AreNamed p h → AreLegalAfter p birth m g h → now_of start h ≤ LAST_MINUTE
   low_now start g [] le named legal = le
   low_now start g (e ∷ es) le named legal = low_now (moved start e.what) (g ++ e ∷ []) es (low_step start g e.what le named.0 legal.0) named.1 legal.1
 
-  pub after_named : (h : List Entry) → IsPolicy p → birth ≤ last_minute → AreNamed p h → Legal p birth h m → IsNamedPoint p (point_after p birth m h)
+  pub after_named : (h : List Entry) → IsPolicy p → birth ≤ LAST_MINUTE → AreNamed p h → Legal p birth h m → IsNamedPoint p (point_after p birth m h)
   after_named h good le named legal =
       let now : ℕ = now_of birth h in
       let later : birth ≤ now = goes_on p birth m [] h legal.steps in

@@ -1,5 +1,5 @@
 -- Only fluents of the policy are ever on in a history of named moves.
-use Rattle.std.proofs.Common.{◌≡◌, inl, inr, ℕ, zero, suc, ◌+◌, ◌-◌, ◌≤◌, Bool, true, false, cond, not, ◌&&◌, ◌||◌, List, [], ◌∷◌, ◌++◌, refl, sym, ◌∙◌, subst, arith}
+use Rattle.std.proofs.Common.{◌≡◌, inl, inr, ℕ, zero, suc, ◌+◌, ◌-◌, ◌≤◌, Bool, true, false, cond, not, ◌&&◌, ◌||◌, List, [], ◌∷◌, ◌++◌, refl, sym, ◌∙◌, subst, arith, if◌then◌else◌}
 use Rattle.std.specs.Prelude.{flat_map, nat_eq, nat_lt}
 use Rattle.std.specs.List.{list_all}
 use Rattle.std.proofs.lemmas.Bool.{false≢true, lt-ltb}
@@ -122,13 +122,10 @@ module _ (p : Policy) (good : IsPolicy p) where
 
   delayed_named : (birth : ℕ) (m : Model) (t : ℕ) (e : Prioritised) → Elem (delayed p birth m t) e → Named e
   delayed_named birth m t e there =
-      let (r, in_list, raised) = flat_elem (λ r. elim (nat_lt 0 r.delay && nat_lt birth (t - r.delay)) as (λ _. List Prioritised) [
-        | true ↦ when (met r (m (t - r.delay)) (status p birth m (t - r.delay - 1))) r.head
-        | false ↦ []
-      ]) p.triggers e there in
+      let (r, in_list, raised) = flat_elem (λ r. if nat_lt 0 r.delay && nat_lt birth (t - r.delay) then when (met r (m (t - r.delay)) (status p birth m (t - r.delay - 1))) r.head else []) p.triggers e there in
       by r (rule_head r in_list) (nat_lt 0 r.delay && nat_lt birth (t - r.delay)) raised
     where
-      by : (r : TriggerView) → Named r.head → (b : Bool) → Elem (elim b as (λ _. List Prioritised) [ true ↦ when (met r (m (t - r.delay)) (status p birth m (t - r.delay - 1))) r.head | false ↦ [] ]) e → Named e
+      by : (r : TriggerView) → Named r.head → (b : Bool) → Elem (if b then when (met r (m (t - r.delay)) (status p birth m (t - r.delay - 1))) r.head else []) e → Named e
       by r head true k = once _ r.head e head k
       by r head false k = elim k [ ]
 

@@ -1,5 +1,5 @@
 -- What is on its way is what is raised, since a trigger with a cause is met at no instant at which nothing happens.
-use Rattle.std.proofs.Common.{◌≡◌, ℕ, zero, suc, ◌+◌, ◌-◌, ◌<◌, ◌≤◌, Bool, true, false, nat_eq, nat_le, nat_lt, ◌&&◌, inl, inr, List, [], ◌∷◌, ◌++◌, flat_map, refl, sym, ◌∙◌, ap, arith, append_assoc}
+use Rattle.std.proofs.Common.{◌≡◌, ℕ, zero, suc, ◌+◌, ◌-◌, ◌<◌, ◌≤◌, Bool, true, false, nat_eq, nat_le, nat_lt, ◌&&◌, inl, inr, List, [], ◌∷◌, ◌++◌, flat_map, refl, sym, ◌∙◌, ap, arith, append_assoc, if◌then◌else◌}
 use Rattle.std.proofs.lemmas.Bool.{ltb-true, ltb-false, leb-true, leb-false, lt-ltb, eqb-true, eq-eqb}
 use Rattle.gt_base.specs.Held.{TriggerView}
 use Rattle.gt_base.specs.Happening.{nothing}
@@ -40,13 +40,13 @@ raises_nothing p birth m r u cause empty =
     ∙ ap (λ b. when b r.head) (not_met r (status p birth m (u - 1)) cause)
 
 -- a further test changes nothing where it fails only on nothing
-also_if : {A : Type 0} (a c : Bool) (xs : List A) → (a ≡ true → c ≡ false → xs ≡ []) → ◌≡◌ {A = List A} (elim a [ true ↦ xs | false ↦ [] ]) (elim (a && c) [ true ↦ xs | false ↦ [] ])
+also_if : {A : Type 0} (a c : Bool) (xs : List A) → (a ≡ true → c ≡ false → xs ≡ []) → ◌≡◌ {A = List A} (if a then xs else []) (if a && c then xs else [])
 also_if true true xs h = refl
 also_if true false xs h = h refl refl
 also_if false c xs h = refl
 
 or_if : {A : Type 0} (a c d : Bool) (xs : List A) → (d ≡ true → c ≡ true) → (a ≡ true → c ≡ true → d ≡ false → xs ≡ [])
-    → ◌≡◌ {A = List A} (elim (a && c) [ true ↦ xs | false ↦ [] ]) (elim (a && d) [ true ↦ xs | false ↦ [] ])
+    → ◌≡◌ {A = List A} (if a && c then xs else []) (if a && d then xs else [])
 or_if true true true xs f h = refl
 or_if true true false xs f h = h refl refl refl
 or_if true false true xs f h = cc (f refl)
@@ -100,11 +100,11 @@ heads_after_tick p birth m now to t r cause le lt none =
     apart q a e = clash (nat_eq u to) (eq-eqb u to e) (ap (λ b. b && nat_eq u to) (sym a) ∙ q)
 
     by : (b : Bool) → (nat_lt 0 r.delay && nat_eq (t - r.delay) to) ≡ b
-        → known_head p birth m to t r ≡ elim b [ true ↦ when (met r (m to) (status p birth m (to - 1))) r.head | false ↦ known_head p birth m now t r ]
+        → known_head p birth m to t r ≡ (if b then when (met r (m to) (status p birth m (to - 1))) r.head else known_head p birth m now t r)
     by true q =
         let both = both_true (nat_lt 0 r.delay) (nat_eq u to) q in
         let at_to : u ≡ to = eqb-true u to both.1 in
-        (λ i. elim (both.0 i && lt-ltb birth u (omega (arith, le, lt, at_to)) i && le_itself u to at_to i) [ true ↦ heads | false ↦ [] ])
+        (λ i. if both.0 i && lt-ltb birth u (omega (arith, le, lt, at_to)) i && le_itself u to at_to i then heads else [])
         ∙ ap (λ v. when (met r (m v) (status p birth m (v - 1))) r.head) at_to
     by false q =
         or_if is_after (nat_le u to) (nat_le u now) heads weaker

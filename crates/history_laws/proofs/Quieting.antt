@@ -1,5 +1,5 @@
 -- Over an empty base nothing but the empty set is grounded, so quiet minutes change nothing.
-use Rattle.std.proofs.Common.{◌≡◌, ℕ, suc, ◌+◌, ◌-◌, ◌<◌, ◌≤◌, Bool, true, false, ◌&&◌, ◌||◌, inl, inr, List, [], ◌∷◌, ◌++◌, refl, sym, ◌∙◌, ap, subst, arith, append_assoc}
+use Rattle.std.proofs.Common.{◌≡◌, ℕ, suc, ◌+◌, ◌-◌, ◌<◌, ◌≤◌, Bool, true, false, ◌&&◌, ◌||◌, inl, inr, List, [], ◌∷◌, ◌++◌, refl, sym, ◌∙◌, ap, subst, arith, append_assoc, if◌then◌else◌}
 use Rattle.std.specs.List.{list_all}
 use Rattle.gt_base.specs.Held.{TriggerView}
 use Rattle.gt_base.specs.Happening.{HappenedView, nothing}
@@ -95,7 +95,7 @@ quiet_at p birth m t after_birth empty =
       status_stays = ap (status_after p birth m) is ∙ same;
       since_stays = λ f.
           let still : differ (status_after p birth m (suc k) f) (status_after p birth m k f) ≡ false = ap (λ (s : Status). differ (s f) (status_after p birth m k f)) same ∙ not_differ (status_after p birth m k f) in
-          ap (changed_by p birth m f) is ∙ (λ i. elim (still i) [ true ↦ birth + suc k | false ↦ changed_by p birth m f k ]);
+          ap (changed_by p birth m f) is ∙ (λ i. if still i then birth + suc k else changed_by p birth m f k);
     }
 
 pub empty_is_quiet : EmptyIsQuiet

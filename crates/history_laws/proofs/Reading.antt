@@ -1,5 +1,5 @@
 -- Induction along a legal history: what holds of the empty table at the birth, and is kept by each close and each answered request, holds of the table of each instant.
-use Rattle.std.proofs.Common.{◌≡◌, ℕ, zero, suc, ◌+◌, ◌-◌, ◌<◌, ◌≤◌, true, false, nat_lt, List, [], ◌∷◌, ◌++◌, refl, sym, ◌∙◌, ap, subst, arith, append_assoc}
+use Rattle.std.proofs.Common.{◌≡◌, ℕ, zero, suc, ◌+◌, ◌-◌, ◌<◌, ◌≤◌, false, nat_lt, List, [], ◌∷◌, ◌++◌, refl, sym, ◌∙◌, ap, subst, arith, append_assoc, if◌then◌else◌}
 use Rattle.std.proofs.lemmas.Bool.{ltb-true, ltb-false}
 use Rattle.gt_base.specs.Machines.{asked, ticked}
 use Rattle.gt_base.specs.declared.policies.HierEdge.{HierEdge}
@@ -64,7 +64,7 @@ module _ (edges : List HierEdge) (caps : List Caps) (s : ℕ → Status) where
       ≡ close_minutes edges caps s (now_of (moved now w) h) (stop - now_of (moved now w) h) (whole (moved now w) (did now tb w) h)
   step_whole stop now tb (Tick upto to) h o le on =
       let within : nat_lt stop to ≡ false = split (nat_lt stop to) (λ q. absurd (omega (arith, ltb-true stop to q, reaches to h o, le))) (λ q. q) in
-      (λ i. elim (within i) [ true ↦ close_minutes edges caps s now (stop - now) tb | false ↦ read_table edges caps s stop to (close_minutes edges caps s now (to - now) tb) h ])
+      (λ i. if within i then close_minutes edges caps s now (stop - now) tb else read_table edges caps s stop to (close_minutes edges caps s now (to - now) tb) h)
       ∙ on to (close_minutes edges caps s now (to - now) tb) o le
   step_whole stop now tb (Ask actor request reply) h o le on = on now (applied now actor request reply tb) o le
 
@@ -139,11 +139,11 @@ module _ (p : Policy) (birth : ℕ) (m : Model) (h : List Entry) (legal : AreLeg
       (λ q. holds_at now t (after_all g) birth_le le (λ u a b. are u a (omega (arith, b, ltb-true t to q))) known)
       (λ q.
       let later : now < to = steps.0.later in
-      let then : P (now + (to - now)) (minutes_on now (to - now) (after_all g)) =
+      let at_to : P (now + (to - now)) (minutes_on now (to - now) (after_all g)) =
       minutes now (to - now) (after_all g) birth_le (λ j lt. are (now + j) (omega arith) (omega (arith, lt)) ∙ ap (λ k. minutes_on now k (after_all g)) (so_many now j)) known in
       on (append_assoc g (ticked who upto to ∷ []) es ∙ is) steps.1
       (subst (λ b. P (now_of birth (g ++ ticked who upto to ∷ [])) b) (sym (whole_snoc p.edges p.caps (status p birth m) birth empty_table g (ticked who upto to)))
-      (subst (λ u. P u (minutes_on now (to - now) (after_all g))) (there now to later ∙ sym (now_snoc birth g (ticked who upto to))) then))
+      (subst (λ u. P u (minutes_on now (to - now) (after_all g))) (there now to later ∙ sym (now_snoc birth g (ticked who upto to))) at_to))
       t (omega (arith, ltb-false t to q, now_snoc birth g (ticked who upto to))))
     where
       there : (n t : ℕ) → n < t → n + (t - n) ≡ t

@@ -1,5 +1,5 @@
 -- A refused request is read for no table and raises nothing.
-use Rattle.std.proofs.Common.{◌≡◌, ℕ, ◌-◌, true, false, nat_lt, List, [], ◌∷◌, ◌++◌, refl, sym, ◌∙◌, ap}
+use Rattle.std.proofs.Common.{◌≡◌, ℕ, ◌-◌, nat_lt, List, [], ◌∷◌, ◌++◌, refl, sym, ◌∙◌, ap, if◌then◌else◌}
 use Rattle.gt_base.specs.Machines.{asked}
 use Rattle.gt_base.specs.Sets.{set_of}
 use Rattle.gt_base.specs.declared.policies.HierEdge.{HierEdge}
@@ -38,7 +38,7 @@ module _ (edges : List HierEdge) (caps : List Caps) (s : ℕ → Status) (stop :
 
   step_on : (now : ℕ) (tb : Table) (w : Step) (go go' : ℕ → Table → Table) → ((l : ℕ) (tb : Table) → go l tb ≡ go' l tb) → read_step edges caps s stop now tb w go ≡ read_step edges caps s stop now tb w go'
   step_on now tb (Tick upto to) go go' same =
-      λ i. elim (nat_lt stop to) [ true ↦ close_minutes edges caps s now (stop - now) tb | false ↦ same to (close_minutes edges caps s now (to - now) tb) i ]
+      λ i. if nat_lt stop to then close_minutes edges caps s now (stop - now) tb else same to (close_minutes edges caps s now (to - now) tb) i
   step_on now tb (Ask actor request reply) go go' same = same now _
 
   -- a refused request is not read

@@ -1,10 +1,10 @@
 -- Histories of named moves, and what they turn on.
 use Rattle.std.specs.Prelude.{ℕ, ◌<◌, ◌≤◌, List, [], ◌∷◌, ◌++◌, IsTrue}
-use Rattle.gt_base.specs.Bounds.{last_minute}
 use Rattle.gt_base.specs.declared.events.Fluent.{Fluent}
 use Rattle.gt_base.specs.declared.requests.Step.{Step}
 use Rattle.gt_base.specs.declared.requests.Step.TheVariants.{Tick, Ask}
 use Rattle.gt_base.specs.declared.requests.Entry.{Entry}
+use Rattle.gt_base.specs.declared.limits.TheConstants.{LAST_MINUTE}
 use Rattle.gtrbac_model.specs.Policy.{Policy}
 use Rattle.gtrbac_model.specs.Status.{Model}
 use Rattle.gtrbac_model.specs.Base.{status}
@@ -33,7 +33,7 @@ OnlyNamedIsOn =
 
 -- the instant is a minute, and what is on and what is active is of the policy
 pub record IsNamedPoint (p : Policy) (pt : Point) : Type 0 where
-  pub now : pt.now ≤ last_minute
+  pub now : pt.now ≤ LAST_MINUTE
   pub on : (f : Fluent) → IsTrue (pt.status f) → IsTrue (is_fluent p f)
   pub active : (a : Activation) → IsIn pt.table.active a → a.role.0 < p.roles
 
@@ -41,5 +41,5 @@ pub record IsNamedPoint (p : Policy) (pt : Point) : Type 0 where
 abbrev pub PointsAreNamed : Type 0
 PointsAreNamed =
     (p : Policy) (birth : ℕ) (front rest : List Entry) (m : Model) → IsPolicy p
-    → birth ≤ last_minute → AreNamed p (front ++ rest) → Legal p birth (front ++ rest) m
+    → birth ≤ LAST_MINUTE → AreNamed p (front ++ rest) → Legal p birth (front ++ rest) m
     → IsNamedPoint p (point_after p birth m front)

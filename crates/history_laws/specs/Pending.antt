@@ -1,5 +1,5 @@
 -- The events that are on their way to a later instant, and stretches in which nothing happens.
-use Rattle.std.specs.Prelude.{◌≡◌, ℕ, ◌+◌, ◌-◌, ◌<◌, ◌≤◌, true, false, nat_eq, nat_le, nat_lt, ◌&&◌, List, [], ◌∷◌, ◌++◌, flat_map}
+use Rattle.std.specs.Prelude.{◌≡◌, ℕ, ◌+◌, ◌-◌, ◌<◌, ◌≤◌, true, nat_eq, nat_le, nat_lt, ◌&&◌, List, [], ◌∷◌, ◌++◌, flat_map, if◌then◌else◌}
 use Rattle.gt_base.specs.Held.{TriggerView}
 use Rattle.gt_base.specs.Happening.{nothing}
 use Rattle.gt_base.specs.Machines.{asked}
@@ -33,10 +33,8 @@ StretchStays =
 -- its delay before t
 abbrev pub known_head : Policy → ℕ → Model → ℕ → ℕ → TriggerView → List Prioritised
 known_head p birth m from t r =
-    elim (nat_lt 0 r.delay && nat_lt birth (t - r.delay) && nat_le (t - r.delay) from) [
-      | true ↦ when (met r (m (t - r.delay)) (status p birth m (t - r.delay - 1))) r.head
-      | false ↦ []
-    ]
+    if nat_lt 0 r.delay && nat_lt birth (t - r.delay) && nat_le (t - r.delay) from
+    then when (met r (m (t - r.delay)) (status p birth m (t - r.delay - 1))) r.head else []
 
 -- what is on its way to t: the requests queued for it, and the heads of delayed triggers
 abbrev pub pending : Policy → ℕ → Model → List Entry → ℕ → List Prioritised
@@ -68,7 +66,5 @@ HeadsAfterTick =
     (p : Policy) (birth : ℕ) (m : Model) (now to t : ℕ) (r : TriggerView) → has_cause r ≡ true
     → birth ≤ now → now < to → NothingBetween m now to
     → known_head p birth m to t r
-    ≡ elim (nat_lt 0 r.delay && nat_eq (t - r.delay) to) [
-      | true ↦ when (met r (m to) (status p birth m (to - 1))) r.head
-      | false ↦ known_head p birth m now t r
-    ]
+    ≡ (if nat_lt 0 r.delay && nat_eq (t - r.delay) to
+    then when (met r (m to) (status p birth m (to - 1))) r.head else known_head p birth m now t r)

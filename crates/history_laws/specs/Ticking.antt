@@ -1,5 +1,5 @@
 -- The law by which a tick adds one set to a history's model.
-use Rattle.std.specs.Prelude.{ℕ, ◌-◌, true, false, nat_eq, nat_le, List, [], ◌∷◌, ◌++◌}
+use Rattle.std.specs.Prelude.{ℕ, ◌-◌, nat_eq, nat_le, List, [], ◌∷◌, ◌++◌, if◌then◌else◌}
 use Rattle.gt_base.specs.Happening.{HappenedView, nothing}
 use Rattle.gt_base.specs.Machines.{ticked}
 use Rattle.gt_base.specs.declared.requests.Who.{Who}
@@ -13,8 +13,7 @@ use Rattle.gtrbac_model.specs.WholePolicy.{IsPolicy}
 
 -- the model up to now, and after it one set more, at `to`
 abbrev pub with_set : Model → ℕ → ℕ → HappenedView → Model
-with_set m now to x t = elim (nat_le t now)
-    [ true ↦ m t | false ↦ elim (nat_eq t to) [ true ↦ x | false ↦ nothing ] ]
+with_set m now to x t = if nat_le t now then m t else if nat_eq t to then x else nothing
 
 -- a tick to the next stop keeps a history legal with one set more, which is settled over the base
 -- of the stop

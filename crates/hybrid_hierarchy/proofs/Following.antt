@@ -8,10 +8,11 @@ use Rattle.gt_base.specs.declared.policies.HierEdge.{HierEdge}
 use Rattle.gtrbac_model.specs.Graph.{item_at}
 use Rattle.least_walk.proofs.Items.{item_within, item_read, item_front, one_item}
 use Rattle.hybrid_hierarchy.specs.declared.searching.Found.{Found}
-use Rattle.hybrid_hierarchy.specs.Searches.{no_edge, IsFirst, IsOutgoing, is_seen, HasSearched, Following, IsGoalBy}
-use Rattle.hybrid_hierarchy.proofs.Roles.{one_role}
+use Rattle.hybrid_hierarchy.specs.Searches.{IsFirstEdge, IsOutgoing, is_seen, HasSearched, Following, IsGoalBy}
+use Rattle.walk_laws.proofs.Roles.{one_role}
 use Rattle.hybrid_hierarchy.proofs.Seeking.{search_first, search_shut, search_skip, search_found, search_on}
 use Rattle.hybrid_hierarchy.proofs.Leading.{reached_is_least}
+use Rattle.hybrid_hierarchy.specs.declared.outgoing.TheConstants.{NO_EDGE}
 
 abbrev pub edge_at : List HierEdge → ℕ → HierEdge
 edge_at es n = slice_index_or es n (record { senior = record { 0 = 0 }; junior = record { 0 = 0 }; inherits = false; activates = false; strong = false })
@@ -22,7 +23,7 @@ pub record IsEdgeOf (es : List HierEdge) (v n : ℕ) : Type 0 where
   pub is : item_at es n ≡ Some (edge_at es n)
   pub from : (edge_at es n).senior.0 ≡ v
 
-pub edge_of : (es : List HierEdge) (v n : ℕ) → (n ≡ no_edge) ⊎ ((e : HierEdge) × (item_at es n ≡ Some e) × (e.senior.0 ≡ v)) → (n ≡ no_edge → ⊥) → IsEdgeOf es v n
+pub edge_of : (es : List HierEdge) (v n : ℕ) → (n ≡ NO_EDGE) ⊎ ((e : HierEdge) × (item_at es n ≡ Some e) × (e.senior.0 ≡ v)) → (n ≡ NO_EDGE → ⊥) → IsEdgeOf es v n
 edge_of es v n (inl e) ne = absurd (ne e)
 edge_of es v n (inr (e, is, from)) ne =
     let low : n < length es = item_within es n e is in
@@ -46,13 +47,13 @@ none_seen (suc n) zero h = cc
 none_seen (suc n) (suc v) h = none_seen n v h
 
 module _ (ok : ℕ → HierEdge → Bool) (goal : RoleId → Bool) (es : List HierEdge) (starts : List ℕ) (first next : List ℕ) (few : length es ≤ 4_000) (out : IsOutgoing es first next) where
-  pub following_start : (seen : List Bool) (queue : List Found) (head v n : ℕ) (d : Found) → head < length queue → v ≡ (slice_index_or queue head d).role → n ≡ slice_index_or first v no_edge
+  pub following_start : (seen : List Bool) (queue : List Found) (head v n : ℕ) (d : Found) → head < length queue → v ≡ (slice_index_or queue head d).role → n ≡ slice_index_or first v NO_EDGE
       → HasSearched ok goal es starts (length starts) seen queue head 0 → Following ok goal es starts seen queue head v n
   following_start seen queue head v n d low role is (ws, w) =
       let f : Found = slice_index_or queue head d in
       let (s, here, told) = w.tells.told head f (item_read queue head d low) in
       let node : s.node ≡ v = told.0 ∙ sym role in
-      let at : IsFirst es s.node 0 n = subst (IsFirst es s.node 0) (ap (λ v. slice_index_or first v no_edge) node ∙ sym is) (out.firsts s.node) in
+      let at : IsFirstEdge es s.node 0 n = subst (IsFirstEdge es s.node 0) (ap (λ v. slice_index_or first v NO_EDGE) node ∙ sym is) (out.firsts s.node) in
       record {
         walks = ws;
         stop = s;
@@ -62,9 +63,9 @@ module _ (ok : ℕ → HierEdge → Bool) (goal : RoleId → Bool) (es : List Hi
         searched = search_first ok goal es starts (length starts) seen queue ws head n s here at w;
       }
 
-  next_of : (v n n' d : ℕ) → IsEdgeOf es v n → n' ≡ slice_index_or next n d → IsFirst es v (n + 1) n'
+  next_of : (v n n' d : ℕ) → IsEdgeOf es v n → n' ≡ slice_index_or next n d → IsFirstEdge es v (n + 1) n'
   next_of v n n' d e is =
-      subst (λ u. IsFirst es u (n + 1) n') e.from (subst (IsFirst es (edge_at es n).senior.0 (n + 1)) (any n d (subst (λ k. n < k) (sym out.size) e.low) ∙ sym is) (out.nexts n (edge_at es n) e.is))
+      subst (λ u. IsFirstEdge es u (n + 1) n') e.from (subst (IsFirstEdge es (edge_at es n).senior.0 (n + 1)) (any n d (subst (λ k. n < k) (sym out.size) e.low) ∙ sym is) (out.nexts n (edge_at es n) e.is))
     where
       any : (n d : ℕ) → n < length next → slice_index_or next n 0 ≡ slice_index_or next n d
       any n d h = go next n h
@@ -74,14 +75,14 @@ module _ (ok : ℕ → HierEdge → Bool) (goal : RoleId → Bool) (es : List Hi
           go (x ∷ xs) zero h = refl
           go (x ∷ xs) (suc n) h = go xs n (omega (arith, h))
 
-  link_of : (v n n' : ℕ) → IsFirst es v (n + 1) n' → (n' ≡ no_edge) ⊎ ((e : HierEdge) × (item_at es n' ≡ Some e) × (e.senior.0 ≡ v))
+  link_of : (v n n' : ℕ) → IsFirstEdge es v (n + 1) n' → (n' ≡ NO_EDGE) ⊎ ((e : HierEdge) × (item_at es n' ≡ Some e) × (e.senior.0 ≡ v))
   link_of v n n' at = elim at.is [ inl e ↦ inl e | inr h ↦ inr h.1 ]
 
   -- going along the edges ends
-  pub goes_up : (v n n' d : ℕ) → IsEdgeOf es v n → n' ≡ slice_index_or next n d → (n < n') × (n < no_edge)
+  pub goes_up : (v n n' d : ℕ) → IsEdgeOf es v n → n' ≡ slice_index_or next n d → (n < n') × (n < NO_EDGE)
   goes_up v n n' d e is = (elim (next_of v n n' d e is).is [ inl h ↦ omega (arith, h, e.low, few) | inr h ↦ omega (arith, h.0) ], omega (arith, e.low, few))
 
-  module _ (seen : List Bool) (queue : List Found) (head v n n' d : ℕ) (ne : n ≡ no_edge → ⊥) (is : n' ≡ slice_index_or next n d) (w : Following ok goal es starts seen queue head v n) where
+  module _ (seen : List Bool) (queue : List Found) (head v n n' d : ℕ) (ne : n ≡ NO_EDGE → ⊥) (is : n' ≡ slice_index_or next n d) (w : Following ok goal es starts seen queue head v n) where
     pub here : IsEdgeOf es w.stop.node n
     here = edge_of es w.stop.node n w.link ne
 
@@ -105,11 +106,11 @@ module _ (ok : ℕ → HierEdge → Bool) (goal : RoleId → Bool) (es : List Hi
       searched = search_found ok goal es starts (length starts) seen queue w.walks head n n' w.stop (edge_at es n) few w.here here.is here.from (next_of w.stop.node n n' d here is) w.searched on inside off;
     }
 
-  pub following_end : (seen : List Bool) (queue : List Found) (head v n : ℕ) → n ≡ no_edge → Following ok goal es starts seen queue head v n → HasSearched ok goal es starts (length starts) seen queue (head + 1) 0
+  pub following_end : (seen : List Bool) (queue : List Found) (head v n : ℕ) → n ≡ NO_EDGE → Following ok goal es starts seen queue head v n → HasSearched ok goal es starts (length starts) seen queue (head + 1) 0
   following_end seen queue head v n whole w = (w.walks, search_on ok goal es starts (length starts) seen queue w.walks head n few whole w.searched)
 
   -- the edge n of the head leads to a goal
-  pub following_goal : (seen : List Bool) (queue : List Found) (head v n : ℕ) → (n ≡ no_edge → ⊥) → (w : Following ok goal es starts seen queue head v n) → ok n (edge_at es n) ≡ true → goal (edge_at es n).junior ≡ true → IsGoalBy ok goal es starts queue head n
+  pub following_goal : (seen : List Bool) (queue : List Found) (head v n : ℕ) → (n ≡ NO_EDGE → ⊥) → (w : Following ok goal es starts seen queue head v n) → ok n (edge_at es n) ≡ true → goal (edge_at es n).junior ≡ true → IsGoalBy ok goal es starts queue head n
   following_goal seen queue head v n ne w on reaches =
       let e = edge_of es w.stop.node n w.link ne in
       record {
@@ -127,7 +128,7 @@ module _ (ok : ℕ → HierEdge → Bool) (goal : RoleId → Bool) (es : List Hi
       let f : Found = slice_index_or queue head d in
       let (s, here, told) = w.tells.told head f (item_read queue head d low) in
       let node : s.node ≡ v = told.0 ∙ sym role in
-      (ws, search_on ok goal es starts (length starts) seen queue ws head no_edge few refl (search_shut ok goal es starts (length starts) seen queue ws head no_edge s here (λ m e is from on h. off m e (from ∙ node) on) w))
+      (ws, search_on ok goal es starts (length starts) seen queue ws head NO_EDGE few refl (search_shut ok goal es starts (length starts) seen queue ws head NO_EDGE s here (λ m e is from on h. off m e (from ∙ node) on) w))
     where
       off : (m : ℕ) (e : HierEdge) → e.senior.0 ≡ v → ok m e ≡ true → ⊥
       off m e from on = false≢true (sym (shut m e (one_role e.senior (record { 0 = v }) from)) ∙ on)

@@ -1,5 +1,5 @@
 -- A role from which no edge leads begins no walk but the one that stays there.
-use Rattle.std.proofs.Common.{◌≡◌, ℕ, zero, suc, ◌+◌, ◌<◌, ◌≤◌, Bool, true, false, cond, not, ◌&&◌, nat_eq, List, [], ◌∷◌, length, map, filter, flat_map, Option, Some, None, refl, sym, ◌∙◌, ap, arith}
+use Rattle.std.proofs.Common.{◌≡◌, ℕ, zero, suc, ◌+◌, ◌<◌, ◌≤◌, Bool, true, false, cond, not, ◌&&◌, nat_eq, List, [], ◌∷◌, length, map, filter, flat_map, Option, Some, None, refl, sym, ◌∙◌, ap, arith, if◌then◌else◌}
 use Rattle.std.specs.List.{enumerate_from, range_with_len, slice_index_or}
 use Rattle.std.proofs.lemmas.Bool.{eqb-true}
 use Rattle.gt_base.specs.declared.events.RoleId.{RoleId}
@@ -9,9 +9,11 @@ use Rattle.gtrbac_model.specs.Same.{same_role}
 use Rattle.gtrbac_model.specs.Hierarchy.{all_roles, role_arcs, least_role_walk}
 use Rattle.gt_base.specs.Held.{RoleWalk}
 use Rattle.least_walk.proofs.Items.{item_within, item_numbered, item_of_map}
-use Rattle.hybrid_hierarchy.specs.Searches.{no_edge, IsOutgoing, leads_on}
-use Rattle.hybrid_hierarchy.proofs.Roles.{number, is_same_role}
+use Rattle.hybrid_hierarchy.specs.Searches.{IsOutgoing, leads_on}
+use Rattle.walk_laws.proofs.Roles.{is_same_role}
+use Rattle.hybrid_hierarchy.proofs.Roles.{number}
 use Rattle.hybrid_hierarchy.proofs.Walking.{item_of_range}
+use Rattle.hybrid_hierarchy.specs.declared.outgoing.TheConstants.{NO_EDGE}
 
 not_off : (a b : ℕ) → not (nat_eq a b) ≡ false → a ≡ b
 not_off a b h = by (nat_eq a b) refl h
@@ -35,7 +37,7 @@ module _ (ok : ℕ → HierEdge → Bool) (es : List HierEdge) (first next : Lis
     where
       out_of : (e : HierEdge) → item_at es i ≡ Some e → e.senior.0 ≡ a.0 → ⊥
       out_of e at v =
-          let none : slice_index_or first a.0 no_edge ≡ no_edge = not_off _ _ off in
+          let none : slice_index_or first a.0 NO_EDGE ≡ NO_EDGE = not_off _ _ off in
           let low : i < length es = item_within es i e at in
           (out.firsts a.0).nothing i e (omega arith) (omega (arith, none, low, few)) at v
 
@@ -50,7 +52,7 @@ module _ (ok : ℕ → HierEdge → Bool) (es : List HierEdge) (first next : Lis
       (none_pass (λ e. e.1.is_open && same_role e.1.from a) 0 (role_arcs ok es) (λ i arc is k. no_arc i arc is k))
 
   pub none_ends : (goal : RoleId → Bool) → goal a ≡ false → (n : ℕ) → first_ending goal (walks_from same_role (role_arcs ok es) n a) ≡ None
-  none_ends goal far zero = ap (λ b. elim b [ true ↦ Some [] | false ↦ None ]) far
+  none_ends goal far zero = ap (λ b. if b then Some [] else None) far
   none_ends goal far (suc n) = ap (first_ending goal) (no_walks n)
 
 -- starts that begin no walk to a goal may be left out

@@ -6,16 +6,17 @@ use Rattle.gt_base.specs.declared.policies.HierEdge.{HierEdge}
 use Rattle.gtrbac_model.specs.Graph.{item_at}
 use Rattle.least_walk.proofs.Items.{item_within, item_read, one_item, any_default}
 use Rattle.hybrid_hierarchy.specs.Nets.{AreWithin}
-use Rattle.hybrid_hierarchy.specs.Searches.{no_edge, IsFirst, IsOutgoing}
+use Rattle.hybrid_hierarchy.specs.Searches.{IsFirstEdge, IsOutgoing}
 use Rattle.hybrid_hierarchy.proofs.Following.{edge_at}
+use Rattle.hybrid_hierarchy.specs.declared.outgoing.TheConstants.{NO_EDGE}
 
 -- linked are the edges from number n on
 pub record Linked (es : List HierEdge) (first next : List ℕ) (n : ℕ) : Type 0 where
   pub low : n ≤ length es
   pub nodes : length first ≡ 1_000
   pub size : length next ≡ length es
-  pub firsts : (v : ℕ) → IsFirst es v n (slice_index_or first v no_edge)
-  pub nexts : (m : ℕ) (e : HierEdge) → n ≤ m → item_at es m ≡ Some e → IsFirst es e.senior.0 (m + 1) (slice_index_or next m 0)
+  pub firsts : (v : ℕ) → IsFirstEdge es v n (slice_index_or first v NO_EDGE)
+  pub nexts : (m : ℕ) (e : HierEdge) → n ≤ m → item_at es m ≡ Some e → IsFirstEdge es e.senior.0 (m + 1) (slice_index_or next m 0)
 
 same_read : (k x v : ℕ) → slice_index_or (replicate k x) v x ≡ x
 same_read zero x v = refl
@@ -26,12 +27,12 @@ length_same : (k x : ℕ) → length (replicate k x) ≡ k
 length_same zero x = refl
 length_same (suc k) x = ap suc (length_same k x)
 
-pub linked_start : (es : List HierEdge) → Linked es (replicate 1_000 no_edge) (replicate (length es) no_edge) (length es)
+pub linked_start : (es : List HierEdge) → Linked es (replicate 1_000 NO_EDGE) (replicate (length es) NO_EDGE) (length es)
 linked_start es = record {
   low = here (length es);
-  nodes = length_same 1_000 no_edge;
-  size = length_same (length es) no_edge;
-  firsts = λ v. record { nothing = λ m e a b at from. past m e a at; is = inl (same_read 1_000 no_edge v) };
+  nodes = length_same 1_000 NO_EDGE;
+  size = length_same (length es) NO_EDGE;
+  firsts = λ v. record { nothing = λ m e a b at from. past m e a at; is = inl (same_read 1_000 NO_EDGE v) };
   nexts = λ m e a at. absurd (past m e a at);
 }
   where
@@ -63,7 +64,7 @@ module _ (es : List HierEdge) (first next : List ℕ) (n : ℕ) (within : AreWit
   next_one : k + 1 ≡ n
   next_one = omega (arith, some)
 
-  own : IsFirst es v k k
+  own : IsFirstEdge es v k k
   own = record { nothing = λ m e a b at from. none m a b; is = inr (here k, (edge_at es k, is, refl)) }
     where
       none : (m : ℕ) → k ≤ m → m < k → ⊥
@@ -72,7 +73,7 @@ module _ (es : List HierEdge) (first next : List ℕ) (n : ℕ) (within : AreWit
       here : (a : ℕ) → a ≤ a
       here a = omega arith
 
-  stays : (u x : ℕ) → u ≢ v → IsFirst es u n x → IsFirst es u k x
+  stays : (u x : ℕ) → u ≢ v → IsFirstEdge es u n x → IsFirstEdge es u k x
   stays u x ne f = record {
     nothing = λ m e a b at from. elim (cases_eq m k) [
       | inl q ↦ ne (sym from ∙ ap (λ e. e.senior.0) (one_item es k e (edge_at es k) (ap (item_at es) (sym q) ∙ at) is))
@@ -93,31 +94,31 @@ module _ (es : List HierEdge) (first next : List ℕ) (n : ℕ) (within : AreWit
     nodes = length-set first v k ∙ w.nodes;
     size = length-set next k x ∙ w.size;
     firsts = λ u. elim (cases_eq u v) [
-      | inl q ↦ subst (λ z. IsFirst es z k (slice_index_or (slice_set first v k) z no_edge)) (sym q) (subst (IsFirst es v k) (sym (get_or-set_same first v k no_edge v_low)) own)
-      | inr ne ↦ subst (IsFirst es u k) (sym (get_or-set_other first v u k no_edge ne)) (stays u (slice_index_or first u no_edge) ne (w.firsts u))
+      | inl q ↦ subst (λ z. IsFirstEdge es z k (slice_index_or (slice_set first v k) z NO_EDGE)) (sym q) (subst (IsFirstEdge es v k) (sym (get_or-set_same first v k NO_EDGE v_low)) own)
+      | inr ne ↦ subst (IsFirstEdge es u k) (sym (get_or-set_other first v u k NO_EDGE ne)) (stays u (slice_index_or first u NO_EDGE) ne (w.firsts u))
     ];
     nexts = λ m f a at. elim (cases_eq m k) [
       | inl q ↦ newest m f q at
-      | inr ne ↦ subst (IsFirst es f.senior.0 (m + 1)) (sym (get_or-set_other next k m x 0 ne)) (w.nexts m f (up m a ne) at)
+      | inr ne ↦ subst (IsFirstEdge es f.senior.0 (m + 1)) (sym (get_or-set_other next k m x 0 ne)) (w.nexts m f (up m a ne) at)
     ];
   }
     where
       up : (m : ℕ) → k ≤ m → (m ≡ k → ⊥) → n ≤ m
       up m a q = omega (arith, a, q, next_one)
 
-      newest : (m : ℕ) (f : HierEdge) → m ≡ k → item_at es m ≡ Some f → IsFirst es f.senior.0 (m + 1) (slice_index_or (slice_set next k x) m 0)
+      newest : (m : ℕ) (f : HierEdge) → m ≡ k → item_at es m ≡ Some f → IsFirstEdge es f.senior.0 (m + 1) (slice_index_or (slice_set next k x) m 0)
       newest m f q at =
           let same : edge_at es k ≡ f = one_item es k (edge_at es k) f is (ap (item_at es) (sym q) ∙ at) in
-          let read : slice_index_or (slice_set next k x) m 0 ≡ slice_index_or first v no_edge =
-          ap (λ z. slice_index_or (slice_set next k x) z 0) q ∙ get_or-set_same next k x 0 (subst (λ z. k < z) (sym w.size) inside) ∙ e ∙ any_default first v x no_edge v_low in
-          subst (IsFirst es f.senior.0 (m + 1)) (sym read)
-          (subst (λ z. IsFirst es z.senior.0 (m + 1) (slice_index_or first v no_edge)) same
-          (subst (λ z. IsFirst es v z (slice_index_or first v no_edge)) (sym (ap (λ z. z + 1) q ∙ next_one)) (w.firsts v)))
+          let read : slice_index_or (slice_set next k x) m 0 ≡ slice_index_or first v NO_EDGE =
+          ap (λ z. slice_index_or (slice_set next k x) z 0) q ∙ get_or-set_same next k x 0 (subst (λ z. k < z) (sym w.size) inside) ∙ e ∙ any_default first v x NO_EDGE v_low in
+          subst (IsFirstEdge es f.senior.0 (m + 1)) (sym read)
+          (subst (λ z. IsFirstEdge es z.senior.0 (m + 1) (slice_index_or first v NO_EDGE)) same
+          (subst (λ z. IsFirstEdge es v z (slice_index_or first v NO_EDGE)) (sym (ap (λ z. z + 1) q ∙ next_one)) (w.firsts v)))
 
 pub linked_all : (es : List HierEdge) (first next : List ℕ) (n : ℕ) → n ≤ 0 → Linked es first next n → IsOutgoing es first next
 linked_all es first next n none w = record {
   size = w.size;
-  firsts = λ v. subst (λ k. IsFirst es v k (slice_index_or first v no_edge)) zero_is (w.firsts v);
+  firsts = λ v. subst (λ k. IsFirstEdge es v k (slice_index_or first v NO_EDGE)) zero_is (w.firsts v);
   nexts = λ m e at. w.nexts m e (omega (arith, none)) at;
 }
   where

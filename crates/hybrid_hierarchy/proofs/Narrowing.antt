@@ -8,7 +8,7 @@ use Rattle.gtrbac_model.specs.Same.{same_role}
 use Rattle.gtrbac_model.specs.Hierarchy.{all_roles, role_arcs, least_role_walk}
 use Rattle.walk_laws.specs.Laws.{HasNoWalk}
 use Rattle.walk_laws.proofs.Computing.{least_walk_is}
-use Rattle.hybrid_hierarchy.proofs.Roles.{tells_apart}
+use Rattle.walk_laws.proofs.Roles.{tells_apart}
 use Rattle.hybrid_hierarchy.proofs.Seeking.{open_arc}
 use Rattle.hybrid_hierarchy.proofs.Leading.{arc_edge}
 use Rattle.hybrid_hierarchy.proofs.Walking.{walk_told}

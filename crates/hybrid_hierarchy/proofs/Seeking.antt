@@ -8,9 +8,10 @@ use Rattle.gtrbac_model.specs.Graph.{Arc, LeadsAlong, item_at}
 use Rattle.gtrbac_model.specs.Hierarchy.{role_arcs}
 use Rattle.least_walk.proofs.Items.{item_within, one_item, item_front, item_last, item_pushed, item_of_numbered}
 use Rattle.hybrid_hierarchy.specs.declared.searching.Found.{Found}
-use Rattle.hybrid_hierarchy.specs.Searches.{no_edge, IsFirst, Stop, Before, IsStop, Tells, Earlier, IsFound, is_seen, Searched}
+use Rattle.hybrid_hierarchy.specs.Searches.{IsFirstEdge, Stop, Before, IsStop, TellsWalks, Earlier, IsFound, is_seen, Searched}
 use Rattle.hybrid_hierarchy.proofs.Roles.{role}
 use Rattle.hybrid_hierarchy.proofs.Ranks.{before_push, before_own, before_more}
+use Rattle.hybrid_hierarchy.specs.declared.outgoing.TheConstants.{NO_EDGE}
 
 -- a walk that goes on by an edge
 pub leads_on : (arcs : List (Arc RoleId)) (a b c : RoleId) (ns : List ℕ) (n : ℕ) → LeadsAlong arcs a ns b → item_at arcs n ≡ Some (record { from = b; to = c; is_open = true }) → LeadsAlong arcs a (ns ++ n ∷ []) c
@@ -36,7 +37,7 @@ pub grown : {A : Type 0} (xs : List A) (y : A) → length (xs ++ y ∷ []) ≡ l
 grown [] y = refl
 grown (x ∷ xs) y = let k : length (xs ++ y ∷ []) ≡ length xs + 1 = grown xs y in omega (arith, k)
 
-tells_push : (queue : List Found) (ws : List Stop) (f : Found) (x : Stop) → Tells queue ws → IsStop ws (length queue) f x → Tells (queue ++ f ∷ []) (ws ++ x ∷ [])
+tells_push : (queue : List Found) (ws : List Stop) (f : Found) (x : Stop) → TellsWalks queue ws → IsStop ws (length queue) f x → TellsWalks (queue ++ f ∷ []) (ws ++ x ∷ [])
 tells_push queue ws f x t is = record {
   size = grown ws x ∙ ap (λ k. k + 1) t.size ∙ sym (grown queue f);
   told = λ i g at. elim (item_pushed queue f i g at) [
@@ -100,17 +101,17 @@ module _ (ok : ℕ → HierEdge → Bool) (goal : RoleId → Bool) (es : List Hi
             go (x ∷ xs) (suc i) h = go xs i (omega (arith, h))
 
         by : (f : Found) (t : Stop)
-            → (((f.by ≡ no_edge) × (t.start ≡ f.role) × (t.place ≡ f.before) × (t.arcs ≡ []))
-            ⊎ ((p : Stop) × (f.by < no_edge) × (f.before < i) × (item_at ws f.before ≡ Some p) × (t.start ≡ p.start) × (t.place ≡ p.place) × (t.arcs ≡ p.arcs ++ f.by ∷ [])))
-            → (f.by ≡ no_edge) ⊎ Earlier f.before f.by 0 0 → t.arcs ≡ []
+            → (((f.by ≡ NO_EDGE) × (t.start ≡ f.role) × (t.place ≡ f.before) × (t.arcs ≡ []))
+            ⊎ ((p : Stop) × (f.by < NO_EDGE) × (f.before < i) × (item_at ws f.before ≡ Some p) × (t.start ≡ p.start) × (t.place ≡ p.place) × (t.arcs ≡ p.arcs ++ f.by ∷ [])))
+            → (f.by ≡ NO_EDGE) ⊎ Earlier f.before f.by 0 0 → t.arcs ≡ []
         by f t (inl h) o = h.3
         by f t (inr h) (inl e) = absurd (omega (arith, e, h.1))
         by f t (inr h) (inr e) = absurd (none_earlier f.before f.by e)
 
     -- a start more
-    pub search_start : Searched ok goal es starts (begun + 1) (slice_set seen v true) (queue ++ record { role = v; by = no_edge; before = begun } ∷ []) (ws ++ new ∷ []) 0 0
+    pub search_start : Searched ok goal es starts (begun + 1) (slice_set seen v true) (queue ++ record { role = v; by = NO_EDGE; before = begun } ∷ []) (ws ++ new ∷ []) 0 0
     search_start = record {
-      tells = tells_push queue ws (record { role = v; by = no_edge; before = begun }) new w.tells (refl, inl (refl, refl, refl, refl));
+      tells = tells_push queue ws (record { role = v; by = NO_EDGE; before = begun }) new w.tells (refl, inl (refl, refl, refl, refl));
       leads = λ i s at. elim (item_pushed ws new i s at) [
         | inl k ↦ w.leads i s k
         | inr (last, same) ↦ subst (λ z. (item_at starts z.place ≡ Some z.start) × LeadsAlong (role_arcs ok es) (role z.start) z.arcs (role z.node)) same (is, refl)
@@ -138,7 +139,7 @@ module _ (ok : ℕ → HierEdge → Bool) (goal : RoleId → Bool) (es : List Hi
         | inl k ↦ found_front ws new u p [] (w.begins p u k at)
         | inr k ↦ newest p u (omega (arith, h, k)) at
       ];
-      older = λ k f at. elim (item_pushed queue (record { role = v; by = no_edge; before = begun }) k f at) [
+      older = λ k f at. elim (item_pushed queue (record { role = v; by = NO_EDGE; before = begun }) k f at) [
         | inl q ↦ w.older k f q
         | inr (last, same) ↦ inl (ap (λ g. g.by) (sym same))
       ];
@@ -176,7 +177,7 @@ module _ (ok : ℕ → HierEdge → Bool) (goal : RoleId → Bool) (es : List Hi
 
   -- the edge n of the head s
   module _ (begun : ℕ) (seen : List Bool) (queue : List Found) (ws : List Stop) (head n n' : ℕ) (s : Stop) (e : HierEdge)
-      (few : length es ≤ 4_000) (here : item_at ws head ≡ Some s) (is : item_at es n ≡ Some e) (from : e.senior.0 ≡ s.node) (next : IsFirst es s.node (n + 1) n')
+      (few : length es ≤ 4_000) (here : item_at ws head ≡ Some s) (is : item_at es n ≡ Some e) (from : e.senior.0 ≡ s.node) (next : IsFirstEdge es s.node (n + 1) n')
       (w : Searched ok goal es starts begun seen queue ws head n) where
     low : n < 4_000
     low = omega (arith, item_within es n e is, few)
@@ -184,7 +185,7 @@ module _ (ok : ℕ → HierEdge → Bool) (goal : RoleId → Bool) (es : List Hi
     beyond : n < n'
     beyond = elim next.is [ inl h ↦ omega (arith, low, h) | inr h ↦ omega (arith, h.0) ]
 
-    by_edge : (i : ℕ) (f : Found) (t : Stop) → IsStop ws i f t → (f.by ≡ no_edge) ⊎ Earlier f.before f.by head n → Before t.place t.arcs s.place (s.arcs ++ n ∷ [])
+    by_edge : (i : ℕ) (f : Found) (t : Stop) → IsStop ws i f t → (f.by ≡ NO_EDGE) ⊎ Earlier f.before f.by head n → Before t.place t.arcs s.place (s.arcs ++ n ∷ [])
     by_edge i f t (node, inl h) o = subst (λ xs. Before t.place xs s.place (s.arcs ++ n ∷ [])) (sym h.3) (before_more t.place s.place n s.arcs)
     by_edge i f t (node, inr h) (inl o) = absurd (omega (arith, o, h.1))
     by_edge i f t (node, inr (p, lowby, lt, isp, start, place, arcs)) (inr (inl o)) =
@@ -333,7 +334,7 @@ module _ (ok : ℕ → HierEdge → Bool) (goal : RoleId → Bool) (es : List Hi
             (record { at = length ws; stop = reached; is = item_last ws reached; ends = ap (λ g. g.junior.0) edge; rank = inl (refl, refl) }))
 
   -- the edges of the head are followed
-  pub search_on : (begun : ℕ) (seen : List Bool) (queue : List Found) (ws : List Stop) (head n : ℕ) → length es ≤ 4_000 → n ≡ no_edge → Searched ok goal es starts begun seen queue ws head n → Searched ok goal es starts begun seen queue ws (head + 1) 0
+  pub search_on : (begun : ℕ) (seen : List Bool) (queue : List Found) (ws : List Stop) (head n : ℕ) → length es ≤ 4_000 → n ≡ NO_EDGE → Searched ok goal es starts begun seen queue ws head n → Searched ok goal es starts begun seen queue ws (head + 1) 0
   search_on begun seen queue ws head n few whole w = record {
     tells = w.tells;
     leads = w.leads;
@@ -383,7 +384,7 @@ module _ (ok : ℕ → HierEdge → Bool) (goal : RoleId → Bool) (es : List Hi
       up i m (inr (q, h)) = absurd (omega (arith, h))
 
   -- the edges of the head from its first one on
-  pub search_first : (begun : ℕ) (seen : List Bool) (queue : List Found) (ws : List Stop) (head n : ℕ) (s : Stop) → item_at ws head ≡ Some s → IsFirst es s.node 0 n → Searched ok goal es starts begun seen queue ws head 0 → Searched ok goal es starts begun seen queue ws head n
+  pub search_first : (begun : ℕ) (seen : List Bool) (queue : List Found) (ws : List Stop) (head n : ℕ) (s : Stop) → item_at ws head ≡ Some s → IsFirstEdge es s.node 0 n → Searched ok goal es starts begun seen queue ws head 0 → Searched ok goal es starts begun seen queue ws head n
   search_first begun seen queue ws head n s here first w =
       search_shut begun seen queue ws head n s here (λ m e is from on h. first.nothing m e (low m) h is from) w
     where

@@ -14,7 +14,8 @@ use Rattle.walk_laws.proofs.Orders.{one_least_walk}
 use Rattle.least_walk.proofs.Items.{item_map}
 use Rattle.hybrid_hierarchy.specs.Lasting.{leads_to}
 use Rattle.hybrid_hierarchy.proofs.Seeking.{open_arc}
-use Rattle.hybrid_hierarchy.proofs.Roles.{number, one_role, is_same_role, same_role_of, tells_apart}
+use Rattle.walk_laws.proofs.Roles.{one_role, is_same_role, same_role_of, tells_apart}
+use Rattle.hybrid_hierarchy.proofs.Roles.{number}
 
 item_in_range : (a n i : ℕ) → i < n → item_at (range_with_len a n) i ≡ Some (a + i)
 item_in_range a zero i low = absurd (omega arith)

@@ -11,7 +11,8 @@ use Rattle.walk_laws.specs.Laws.{HasNoWalk}
 use Rattle.walk_laws.proofs.Computing.{least_walk_is}
 use Rattle.walk_laws.proofs.Orders.{one_least_walk}
 use Rattle.hybrid_hierarchy.specs.Searches.{roles_of}
-use Rattle.hybrid_hierarchy.proofs.Roles.{role, number, tells_apart}
+use Rattle.walk_laws.proofs.Roles.{tells_apart}
+use Rattle.hybrid_hierarchy.proofs.Roles.{role, number}
 
 -- the numbers of the roles that pass are the numbers that pass
 filter_numbers : (test : RoleId → Bool) (rs : List RoleId) → map number (filter test rs) ≡ filter (λ n. test (role n)) (map number rs)

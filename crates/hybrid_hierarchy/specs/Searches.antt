@@ -7,26 +7,23 @@ use Rattle.gtrbac_model.specs.Graph.{LeadsAlong, IsLeastWalk, item_at}
 use Rattle.gtrbac_model.specs.Hierarchy.{role_arcs}
 use Rattle.gtrbac_model.specs.Same.{same_role, lists}
 use Rattle.hybrid_hierarchy.specs.declared.searching.Found.{Found}
-
--- stands for no edge
-abbrev pub no_edge : ℕ
-no_edge = 4_294_967_295
+use Rattle.hybrid_hierarchy.specs.declared.outgoing.TheConstants.{NO_EDGE}
 
 -- the first edge of the role from number b on, or none
-pub record IsFirst (es : List HierEdge) (v b n : ℕ) : Type 0 where
+pub record IsFirstEdge (es : List HierEdge) (v b n : ℕ) : Type 0 where
   pub nothing : (m : ℕ) (e : HierEdge) → b ≤ m → m < n → item_at es m ≡ Some e → e.senior.0 ≡ v → ⊥
-  pub is : (n ≡ no_edge) ⊎ ((b ≤ n) × ((e : HierEdge) × (item_at es n ≡ Some e) × (e.senior.0 ≡ v)))
+  pub is : (n ≡ NO_EDGE) ⊎ ((b ≤ n) × ((e : HierEdge) × (item_at es n ≡ Some e) × (e.senior.0 ≡ v)))
 
 -- for each role its first edge, and for each edge the next one of the same role
 pub record IsOutgoing (es : List HierEdge) (first next : List ℕ) : Type 0 where
   pub size : length next ≡ length es
-  pub firsts : (v : ℕ) → IsFirst es v 0 (slice_index_or first v no_edge)
+  pub firsts : (v : ℕ) → IsFirstEdge es v 0 (slice_index_or first v NO_EDGE)
   pub nexts : (n : ℕ) (e : HierEdge) → item_at es n ≡ Some e
-      → IsFirst es e.senior.0 (n + 1) (slice_index_or next n 0)
+      → IsFirstEdge es e.senior.0 (n + 1) (slice_index_or next n 0)
 
 -- whether an edge leads from the role
 abbrev pub leads_on : List ℕ → ℕ → Bool
-leads_on first v = not (nat_eq (slice_index_or first v no_edge) no_edge)
+leads_on first v = not (nat_eq (slice_index_or first v NO_EDGE) NO_EDGE)
 
 -- the roles from which an edge leads, ascending
 unfoldable pub seniors_in : List ℕ → List ℕ
@@ -59,22 +56,22 @@ NotLater i xs j ys = ((i ≡ j) × (xs ≡ ys)) ⊎ Before i xs j ys
 abbrev pub IsStop : List Stop → ℕ → Found → Stop → Type 0
 IsStop ws i f s =
     (s.node ≡ f.role)
-    × (((f.by ≡ no_edge) × (s.start ≡ f.role) × (s.place ≡ f.before) × (s.arcs ≡ []))
-    ⊎ ((p : Stop) × (f.by < no_edge) × (f.before < i) × (item_at ws f.before ≡ Some p)
+    × (((f.by ≡ NO_EDGE) × (s.start ≡ f.role) × (s.place ≡ f.before) × (s.arcs ≡ []))
+    ⊎ ((p : Stop) × (f.by < NO_EDGE) × (f.before < i) × (item_at ws f.before ≡ Some p)
     × (s.start ≡ p.start) × (s.place ≡ p.place) × (s.arcs ≡ p.arcs ++ f.by ∷ [])))
 
 -- the walks of what was found
-pub record Tells (queue : List Found) (ws : List Stop) : Type 0 where
+pub record TellsWalks (queue : List Found) (ws : List Stop) : Type 0 where
   pub size : length ws ≡ length queue
   pub told : (i : ℕ) (f : Found) → item_at queue i ≡ Some f
       → (s : Stop) × (item_at ws i ≡ Some s) × IsStop ws i f s
 
 abbrev pub HasStops : List Found → Type 0
-HasStops queue = (ws : List Stop) × Tells queue ws
+HasStops queue = (ws : List Stop) × TellsWalks queue ws
 
 -- the walk of what was found at this place, and on by an edge
 abbrev pub IsWalkBy : List Found → ℕ → ℕ → ℕ → List ℕ → Type 0
-IsWalkBy queue at last start arcs = (ws : List Stop) (s : Stop) → Tells queue ws
+IsWalkBy queue at last start arcs = (ws : List Stop) (s : Stop) → TellsWalks queue ws
     → item_at ws at ≡ Some s → (start ≡ s.start) × (arcs ≡ s.arcs ++ last ∷ [])
 
 -- found earlier than the head, or at the head and by a lesser edge
@@ -97,7 +94,7 @@ is_seen seen v = slice_index_or seen v false
 pub record Searched (ok : ℕ → HierEdge → Bool) (goal : RoleId → Bool) (es : List HierEdge)
     (starts : List ℕ) (begun : ℕ) (seen : List Bool) (queue : List Found) (ws : List Stop)
     (head lim : ℕ) : Type 0 where
-  pub tells : Tells queue ws
+  pub tells : TellsWalks queue ws
   pub leads : (i : ℕ) (s : Stop) → item_at ws i ≡ Some s
       → (item_at starts s.place ≡ Some s.start)
       × LeadsAlong (role_arcs ok es) (record { 0 = s.start }) s.arcs (record { 0 = s.node })
@@ -109,7 +106,7 @@ pub record Searched (ok : ℕ → HierEdge → Bool) (goal : RoleId → Bool) (e
       → (j : ℕ) × (t : Stop) × (item_at ws j ≡ Some t) × (t.node ≡ v)
   pub begins : (p v : ℕ) → p < begun → item_at starts p ≡ Some v → IsFound ws v p []
   pub older : (k : ℕ) (f : Found) → item_at queue k ≡ Some f
-      → (f.by ≡ no_edge) ⊎ Earlier f.before f.by head lim
+      → (f.by ≡ NO_EDGE) ⊎ Earlier f.before f.by head lim
   pub done : (i n : ℕ) (s : Stop) (e : HierEdge) → item_at ws i ≡ Some s → item_at es n ≡ Some e
       → ok n e ≡ true → e.senior.0 ≡ s.node → Earlier i n head lim
       → IsFound ws e.junior.0 s.place (s.arcs ++ n ∷ [])
@@ -131,7 +128,7 @@ pub record Following (ok : ℕ → HierEdge → Bool) (goal : RoleId → Bool) (
   pub stop : Stop
   pub here : item_at walks head ≡ Some stop
   pub node : stop.node ≡ v
-  pub link : (n ≡ no_edge) ⊎ ((e : HierEdge) × (item_at es n ≡ Some e) × (e.senior.0 ≡ stop.node))
+  pub link : (n ≡ NO_EDGE) ⊎ ((e : HierEdge) × (item_at es n ≡ Some e) × (e.senior.0 ≡ stop.node))
   pub searched : Searched ok goal es starts (length starts) seen queue walks head n
 
 -- no start is a goal
@@ -143,7 +140,7 @@ pub record IsGoalBy (ok : ℕ → HierEdge → Bool) (goal : RoleId → Bool) (e
     (starts : List ℕ) (queue : List Found) (head n : ℕ) : Type 0 where
   pub walks : List Stop
   pub stop : Stop
-  pub tells : Tells queue walks
+  pub tells : TellsWalks queue walks
   pub here : item_at walks head ≡ Some stop
   pub least : IsLeastWalk (role_arcs ok es) goal (roles_of starts)
       (record { start = record { 0 = stop.start }; arcs = stop.arcs ++ n ∷ [] })

@@ -2,13 +2,13 @@
 ghost use Rattle.std.specs.Prelude.{◌≡◌, ℕ, ◌<◌, ◌≤◌, replicate, length, IfOk};
 ghost use Rattle.std.specs.List.{slice_index_or};
 ghost use Rattle.hybrid_hierarchy.specs.Nets.{IsHierarchy};
-ghost use Rattle.hybrid_hierarchy.specs.Searches.{no_edge, seniors_in, IsOutgoing};
+ghost use Rattle.hybrid_hierarchy.specs.Searches.{seniors_in, IsOutgoing};
 
 use gt_base::{HierEdge, Memory};
 use std::alloc::Global;
 
 /// Stands for no edge.
-pub(crate) const NONE: u32 = u32::MAX;
+pub(crate) const NO_EDGE: u32 = u32::MAX;
 
 /// For each role the first of its edges, for each edge the next one of the same senior role, and
 /// the roles that have edges, ascending.
@@ -44,9 +44,9 @@ pub(crate) fn outgoing_of(alloc: Global, edges: &[HierEdge]) -> Result<Outgoing,
 
 /// No edge, so many times.
 fn no_edges(alloc: Global, n: usize) -> Result<Vec<u32>, Memory>
-    ensures { IfOk result (λ none. none.items ≡ replicate n no_edge) }
+    ensures { IfOk result (λ none. none.items ≡ replicate n NO_EDGE) }
 {
-    vec![in alloc; NONE; n]
+    vec![in alloc; NO_EDGE; n]
 }
 
 /// The roles from which an edge leads, ascending.
@@ -55,23 +55,23 @@ fn seniors_of(alloc: Global, first: &[u32]) -> Result<Vec<u32>, Memory>
     ensures { IfOk result (λ seniors. seniors.items ≡ seniors_in first.now) }
 {
     (0..1_000)
-        .filter(|r| first_at(first, *r) != NONE)
+        .filter(|r| first_at(first, *r) != NO_EDGE)
         .collect(alloc)
 }
 
 /// The first edge of the role in this row of them.
 fn first_at(first: &[u32], role: u32) -> u32
-    ensures { result ≡ slice_index_or first.now role no_edge }
+    ensures { result ≡ slice_index_or first.now role NO_EDGE }
 {
     match first.get(role as usize) {
         Some(n) => *n,
-        None => NONE,
+        None => NO_EDGE,
     }
 }
 
 /// The first edge of the role.
 pub(crate) fn first_of(out: &Outgoing, role: u32) -> u32
-    ensures { result ≡ slice_index_or out.now.first.items role no_edge }
+    ensures { result ≡ slice_index_or out.now.first.items role NO_EDGE }
 {
     first_at(&out.first, role)
 }

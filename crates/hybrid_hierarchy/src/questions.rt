@@ -8,7 +8,7 @@ use crate::walks::usable;
 use gt_base::{Fluent, HierEdge, PermId, RoleId, Status};
 
 /// Tells which edges are open, by their numbers, and which roles are goals.
-pub(crate) trait Question {
+pub(crate) trait WalkQuestion {
     ghost use Rattle.gt_base.specs.declared.events.RoleId.{RoleId};
     ghost use Rattle.gt_base.specs.declared.policies.HierEdge.{HierEdge};
 
@@ -41,7 +41,7 @@ pub(crate) struct Activating<'a> {
     pub(crate) role: RoleId,
 }
 
-impl<'a> Question for Activating<'a> {
+impl<'a> WalkQuestion for Activating<'a> {
     ghost use Rattle.std.specs.Prelude.{true, false};
     ghost use Rattle.gt_base.specs.Sets.{has};
     ghost use Rattle.gtrbac_model.specs.Same.{same_role};
@@ -86,10 +86,11 @@ pub(crate) struct Lending<'a> {
     pub(crate) perm: PermId,
     /// To no other role is it granted.
     pub(crate) only: Option<RoleId>,
-    ghost alone: { (known r : RoleView) → only ≡ Some known → has status.now.set (Granted perm r) ≡ true → r ≡ known },
+    ghost alone: { (known r : RoleView) → only ≡ Some known
+        → has status.now.set (Granted perm r) ≡ true → r ≡ known },
 }
 
-impl<'a> Question for Lending<'a> {
+impl<'a> WalkQuestion for Lending<'a> {
     ghost use Rattle.std.specs.Prelude.{true};
     ghost use Rattle.gt_base.specs.Sets.{has};
     ghost use Rattle.gt_base.specs.declared.events.Fluent.TheVariants.{Enabled, Granted};
@@ -123,10 +124,11 @@ pub(crate) struct LendingByAny<'a> {
     pub(crate) perm: PermId,
     /// To no other role is it granted.
     pub(crate) only: Option<RoleId>,
-    ghost alone: { (known r : RoleView) → only ≡ Some known → has status.now.set (Granted perm r) ≡ true → r ≡ known },
+    ghost alone: { (known r : RoleView) → only ≡ Some known
+        → has status.now.set (Granted perm r) ≡ true → r ≡ known },
 }
 
-impl<'a> Question for LendingByAny<'a> {
+impl<'a> WalkQuestion for LendingByAny<'a> {
     ghost use Rattle.std.specs.Prelude.{true};
     ghost use Rattle.gt_base.specs.Sets.{has};
     ghost use Rattle.gt_base.specs.declared.events.Fluent.TheVariants.{Granted};

@@ -5,10 +5,10 @@ ghost use Rattle.gtrbac_model.specs.Graph.{IsLeastWalk, item_at};
 ghost use Rattle.gtrbac_model.specs.Hierarchy.{role_arcs};
 ghost use Rattle.walk_laws.specs.Laws.{HasNoWalk};
 ghost use Rattle.hybrid_hierarchy.specs.Nets.{AreWithin, IsHierarchy};
-ghost use Rattle.hybrid_hierarchy.specs.Searches.{no_edge, IsOutgoing, HasStops, IsWalkBy, HasSearched, IsGoalBy, AreNoGoals, is_seen, roles_of};
+ghost use Rattle.hybrid_hierarchy.specs.Searches.{IsOutgoing, HasStops, IsWalkBy, HasSearched, IsGoalBy, AreNoGoals, is_seen, roles_of};
 
-use crate::outgoing::{NONE, Outgoing, first_of};
-use crate::questions::Question;
+use crate::outgoing::{NO_EDGE, Outgoing, first_of};
+use crate::questions::WalkQuestion;
 use gt_base::{HierEdge, List, Memory, RoleId, Walk};
 use std::alloc::Global;
 
@@ -29,7 +29,7 @@ pub(crate) struct Found {
 
 /// The least walk over open edges from one of the starts to a goal: by the number of its edges,
 /// then by the place of its start, then by the numbers of its edges.
-pub(crate) fn least<Q: Question>(
+pub(crate) fn least<Q: WalkQuestion>(
     alloc: Global,
     edges: &[HierEdge],
     out: &Outgoing,
@@ -40,8 +40,10 @@ pub(crate) fn least<Q: Question>(
     requires outgoing { IsOutgoing edges.now out.now.first.items out.now.next.items }
     requires starts { (i s : ℕ) → item_at from.now i ≡ Some s → s < 1_000 }
     ensures { IfOk result (λ found. MatchOption found
-        (HasNoWalk (role_arcs (Q.passes asked.now) edges.now) (Q.goals asked.now) (roles_of from.now))
-        (λ walk. IsLeastWalk (role_arcs (Q.passes asked.now) edges.now) (Q.goals asked.now) (roles_of from.now) (record { start = walk.start; arcs = walk.edges }))) }
+        (HasNoWalk (role_arcs (Q.passes asked.now) edges.now) (Q.goals asked.now)
+        (roles_of from.now))
+        (λ walk. IsLeastWalk (role_arcs (Q.passes asked.now) edges.now) (Q.goals asked.now)
+        (roles_of from.now) (record { start = walk.start; arcs = walk.edges }))) }
 {
     match first_goal(edges, from, asked) {
         Some(role) => Ok(Some(Walk {
@@ -53,9 +55,10 @@ pub(crate) fn least<Q: Question>(
 }
 
 /// The first start that is a goal itself.
-fn first_goal<Q: Question>(edges: &[HierEdge], from: &[u32], asked: &Q) -> Option<RoleId>
+fn first_goal<Q: WalkQuestion>(edges: &[HierEdge], from: &[u32], asked: &Q) -> Option<RoleId>
     ensures { MatchOption result (AreNoGoals (Q.goals asked.now) from.now)
-        (λ role. IsLeastWalk (role_arcs (Q.passes asked.now) edges.now) (Q.goals asked.now) (roles_of from.now) (record { start = role; arcs = [] })) }
+        (λ role. IsLeastWalk (role_arcs (Q.passes asked.now) edges.now) (Q.goals asked.now)
+        (roles_of from.now) (record { start = role; arcs = [] })) }
 {
     for role in from {
         if asked.is_goal(RoleId(*role)) {
@@ -67,7 +70,7 @@ fn first_goal<Q: Question>(edges: &[HierEdge], from: &[u32], asked: &Q) -> Optio
 
 /// The same where no start is a goal. Each role is asked whether it is one when it is found, so
 /// that the search ends there.
-fn least_on<Q: Question>(
+fn least_on<Q: WalkQuestion>(
     alloc: Global,
     edges: &[HierEdge],
     out: &Outgoing,
@@ -79,8 +82,10 @@ fn least_on<Q: Question>(
     requires starts { (i s : ℕ) → item_at from.now i ≡ Some s → s < 1_000 }
     requires no_goals { AreNoGoals (Q.goals asked.now) from.now }
     ensures { IfOk result (λ found. MatchOption found
-        (HasNoWalk (role_arcs (Q.passes asked.now) edges.now) (Q.goals asked.now) (roles_of from.now))
-        (λ walk. IsLeastWalk (role_arcs (Q.passes asked.now) edges.now) (Q.goals asked.now) (roles_of from.now) (record { start = walk.start; arcs = walk.edges }))) }
+        (HasNoWalk (role_arcs (Q.passes asked.now) edges.now) (Q.goals asked.now)
+        (roles_of from.now))
+        (λ walk. IsLeastWalk (role_arcs (Q.passes asked.now) edges.now) (Q.goals asked.now)
+        (roles_of from.now) (record { start = walk.start; arcs = walk.edges }))) }
 {
     let mut seen = [false; 1_000];
     let mut queue = begun(alloc, edges, asked, from, &mut seen)?;
@@ -95,7 +100,7 @@ fn least_on<Q: Question>(
 }
 
 /// The starts, each of them marked.
-fn begun<Q: Question>(
+fn begun<Q: WalkQuestion>(
     alloc: Global,
     edges: &[HierEdge],
     asked: &Q,
@@ -114,7 +119,7 @@ fn begun<Q: Question>(
         seen[*role as usize] = true;
         queue.push(Found {
             role: *role,
-            by: NONE,
+            by: NO_EDGE,
             before: place,
         })?;
     }
@@ -123,7 +128,7 @@ fn begun<Q: Question>(
 
 /// Follows the open edges of what was found at the head to each role that was not seen, until one
 /// is a goal: then the edge that leads to it.
-fn follow<Q: Question>(
+fn follow<Q: WalkQuestion>(
     edges: &[HierEdge],
     out: &Outgoing,
     from: &[u32],
@@ -141,15 +146,17 @@ fn follow<Q: Question>(
     ensures fewer { OnOk result (length queue.new.items + count_by not seen.new
         ≤ length queue.old.items + count_by not seen.old) }
     ensures found { IfOk result (λ found. MatchOption found
-        (HasSearched (Q.passes asked.now) (Q.goals asked.now) edges.now from.now (length from.now) seen.new queue.new.items (head + 1) 0)
-        (λ n. IsGoalBy (Q.passes asked.now) (Q.goals asked.now) edges.now from.now queue.new.items head n)) }
+        (HasSearched (Q.passes asked.now) (Q.goals asked.now) edges.now from.now
+        (length from.now) seen.new queue.new.items (head + 1) 0)
+        (λ n. IsGoalBy (Q.passes asked.now) (Q.goals asked.now) edges.now from.now queue.new.items
+        head n)) }
 {
     let role = queue[head].role;
     if !asked.may_leave(RoleId(role)) {
         return Ok(None);
     }
     let mut n = first_of(out, role);
-    while n != NONE {
+    while n != NO_EDGE {
         let e = &edges[n as usize];
         let junior = e.junior.0;
         if !seen[junior as usize] && asked.may_pass(n, e) {
@@ -177,7 +184,7 @@ fn walk_by(alloc: Global, queue: &[Found], at: usize, last: u32) -> Result<Walk,
     let mut numbers = Vec::with_capacity(alloc, FEW)?;
     numbers.push(last)?;
     let mut i = at;
-    while queue[i].by != NONE {
+    while queue[i].by != NO_EDGE {
         numbers.push(queue[i].by)?;
         i = queue[i].before;
     }

@@ -9,7 +9,7 @@ ghost use Rattle.hybrid_hierarchy.specs.Nets.{IsHierarchy};
 ghost use Rattle.hybrid_hierarchy.specs.Searches.{IsOutgoing, leads_on, listed_from};
 
 use crate::outgoing::{Outgoing, outgoing_of};
-use crate::questions::{Activating, Lending, LendingByAny, Question};
+use crate::questions::{Activating, Lending, LendingByAny, WalkQuestion};
 use crate::searching::least;
 use gt_base::{Fluent, HierEdge, List, Memory, PermId, RoleId, Status, UserId, Walk};
 use std::alloc::Global;
@@ -160,7 +160,7 @@ pub(crate) fn activation(
 
 /// The least walk over open edges from one of the roles to a goal. One role alone takes no memory
 /// to be listed.
-fn least_from<Q: Question>(
+fn least_from<Q: WalkQuestion>(
     alloc: Global,
     edges: &[HierEdge],
     out: &Outgoing,

@@ -2,13 +2,13 @@
 use Rattle.std.proofs.Common.{◌≡◌, ℕ, ◌+◌, ◌-◌, ◌<◌, ◌≤◌, Bool, true, false, ◌&&◌, ◌||◌, not, nat_eq, nat_le, List, ◌++◌, length, take, get_or, flat_map, Option, Some, None, refl, sym, ◌∙◌, ap, subst, arith}
 use Rattle.std.specs.Prelude.{max, IfSome, IfNone}
 use Rattle.std.proofs.lemmas.Bool.{le-leb, leb-true}
-use Rattle.gt_base.specs.Bounds.{last_minute}
 use Rattle.gt_base.specs.declared.events.Prioritised.{Prioritised}
 use Rattle.gt_base.specs.declared.events.Fluent.{Fluent}
 use Rattle.gt_base.specs.declared.policies.Form.{Form}
 use Rattle.gt_base.specs.declared.policies.Form.TheVariants.{Each, Start, Span}
 use Rattle.gt_base.specs.declared.policies.LimitRule.{LimitRule}
 use Rattle.gt_base.specs.declared.policies.PeriodicEntry.{PeriodicEntry}
+use Rattle.gt_base.specs.declared.limits.TheConstants.{LAST_MINUTE}
 use Rattle.gtrbac_model.specs.Base.{when, turned, limited_from, is_ripe}
 use Rattle.gtrbac_model.specs.Conflict.{Status}
 use Rattle.gtrbac_model.specs.Graph.{item_at}
@@ -34,11 +34,11 @@ some_more f xs i d lt after r h =
     by_test _ _ after r (λ t. sym (is_some-append (flat_map (f t) (take i xs)) (f t (get_or xs i d))) ∙ ap is_some_item (sym (raised_more (f t) xs i d lt))) h
 
 -- a test that also waits for an instant
-pub waits : (aged q : ℕ → Bool) (from after now : ℕ) (r : Option ℕ) → after ≡ max (from - 1) now → ((t : ℕ) → now < t → t ≤ last_minute → aged t ≡ nat_le from t)
-    → IfSome r (λ t. t ≤ last_minute) → IsNextOf q after r → IsNextOf (λ t. aged t && q t) now r
+pub waits : (aged q : ℕ → Bool) (from after now : ℕ) (r : Option ℕ) → after ≡ max (from - 1) now → ((t : ℕ) → now < t → t ≤ LAST_MINUTE → aged t ≡ nat_le from t)
+    → IfSome r (λ t. t ≤ LAST_MINUTE) → IsNextOf q after r → IsNextOf (λ t. aged t && q t) now r
 waits aged q from after now None is same bound h = λ u low high. by u low high (nat_le from u) refl
   where
-    by : (u : ℕ) → now + 1 ≤ u → u ≤ last_minute → (b : Bool) → nat_le from u ≡ b → (aged u && q u) ≡ false
+    by : (u : ℕ) → now + 1 ≤ u → u ≤ LAST_MINUTE → (b : Bool) → nat_le from u ≡ b → (aged u && q u) ≡ false
     by u low high true e =
         let le : from ≤ u = leb-true from u e in
         ap (λ b. b && q u) (same u (omega (arith, low)) high ∙ e) ∙ h u (omega (arith, is, le, low)) high
@@ -55,10 +55,10 @@ waits aged q from after now (Some t) is same bound h =
     by : (u : ℕ) → now + 1 ≤ u → u < t → (b : Bool) → nat_le from u ≡ b → (aged u && q u) ≡ false
     by u low high true e =
         let le : from ≤ u = leb-true from u e in
-        let below : u ≤ last_minute = omega (arith, high, bound) in
+        let below : u ≤ LAST_MINUTE = omega (arith, high, bound) in
         ap (λ b. b && q u) (same u (omega (arith, low)) below ∙ e) ∙ h.least u (omega (arith, is, le, low)) high
     by u low high false e =
-        let below : u ≤ last_minute = omega (arith, high, bound) in
+        let below : u ≤ LAST_MINUTE = omega (arith, high, bound) in
         ap (λ b. b && q u) (same u (omega (arith, low)) below ∙ e)
 
 -- a span raises something where it turns, and in the first minute where it is there

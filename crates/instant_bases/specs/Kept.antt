@@ -5,6 +5,6 @@ use Rattle.instant_bases.specs.declared.kept.Kept.{Kept}
 use Rattle.instant_bases.specs.declared.kept.Kept.TheVariants.{Unasked, Next}
 
 -- what was asked is the next instant after this one that passes the test
-abbrev pub IsKept : (ℕ → Bool) → ℕ → Kept → Type 0
-IsKept test at Unasked = Unit {0}
-IsKept test at (Next t) = IsNextOf test at t
+abbrev pub IsNextKept : (ℕ → Bool) → ℕ → Kept → Type 0
+IsNextKept test at Unasked = Unit {0}
+IsNextKept test at (Next t) = IsNextOf test at t

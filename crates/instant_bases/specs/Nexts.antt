@@ -20,4 +20,7 @@ raises periods birth e t = is_some_item (raised_by periods birth t e)
 
 -- the converse of the limit's condition, at its priority
 abbrev pub ending : LimitRule → Prioritised
-ending l = record { prio = l.prio; event = converse (record { on = l.cond.on; fluent = l.cond.fluent }) }
+ending l = record {
+  prio = l.prio;
+  event = converse (record { on = l.cond.on; fluent = l.cond.fluent });
+}

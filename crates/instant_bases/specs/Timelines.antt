@@ -1,5 +1,5 @@
 -- What a clause sees of a timeline, and the base that it has at an instant after now.
-use Rattle.std.specs.Prelude.{◌≡◌, ℕ, ◌+◌, Bool, true, false, ◌||◌, nat_eq, List, [], ◌++◌, map, refl}
+use Rattle.std.specs.Prelude.{◌≡◌, ℕ, ◌+◌, Bool, ◌||◌, nat_eq, List, [], ◌++◌, map, refl, if◌then◌else◌}
 use Rattle.std.specs.Coded.{Coded, code_by, coded×, coded_ℕ, coded_list}
 use Rattle.gt_base.specs.declared.events.Fluent.{Fluent}
 use Rattle.gt_base.specs.declared.events.Prioritised.{Prioritised}
@@ -24,13 +24,16 @@ pub record ClosedSet : Type 0 where
 
 abbrev pub closed_set_code : Coded ClosedSet
 closed_set_code =
-    code_by (ℕ × (HappenedView × HappenedView)) (coded× coded_ℕ (coded× happening_code happening_code)) (λ c. (c.at, (c.base, c.set))) (λ (t, (b, s)). record { at = t; base = b; set = s }) (λ _. refl)
+    code_by (ℕ × (HappenedView × HappenedView))
+    (coded× coded_ℕ (coded× happening_code happening_code)) (λ c. (c.at, (c.base, c.set)))
+    (λ (t, (b, s)). record { at = t; base = b; set = s }) (λ _. refl)
 
 abbrev pub Signals : Type 0
 Signals = SetOf signal_cmp
 
--- a timeline: the periods of its policy, its birth and its instant, what is on, the fluents that have changed with the instants of their
--- last changes, the sets so far, the events that are due later, and the signals of the next minute
+-- a timeline: the periods of its policy, its birth and its instant, what is on, the fluents that
+-- have changed with the instants of their last changes, the sets so far, the events that are due
+-- later, and the signals of the next minute
 pub record TimelineView : Type 0 where
   pub periods : List Period
   pub birth : ℕ
@@ -43,10 +46,27 @@ pub record TimelineView : Type 0 where
 
 abbrev pub timeline_code : Coded TimelineView
 timeline_code =
-    code_by (List Period × (ℕ × (ℕ × (Fluents × (List (Fluent × ℕ) × (List ClosedSet × (Pendings × Signals)))))))
-    (coded× (coded_list period_code) (coded× coded_ℕ (coded× coded_ℕ (coded× fluents_code (coded× (coded_list (coded× fluent.the_row.coded coded_ℕ)) (coded× (coded_list closed_set_code) (coded× pendings_code (set_code signal.the_row.coded))))))))
+    code_by
+    (List Period
+    × (ℕ × (ℕ × (Fluents × (List (Fluent × ℕ) × (List ClosedSet × (Pendings × Signals)))))))
+    (coded× (coded_list period_code)
+    (coded× coded_ℕ
+    (coded× coded_ℕ
+    (coded× fluents_code
+    (coded× (coded_list (coded× fluent.the_row.coded coded_ℕ))
+    (coded× (coded_list closed_set_code)
+    (coded× pendings_code (set_code signal.the_row.coded))))))))
     (λ v. (v.periods, (v.birth, (v.now, (v.status, (v.ages, (v.trace, (v.pending, v.signals))))))))
-    (λ (ps, (b, (n, (s, (a, (t, (p, g))))))). record { periods = ps; birth = b; now = n; status = s; ages = a; trace = t; pending = p; signals = g })
+    (λ (ps, (b, (n, (s, (a, (t, (p, g))))))). record {
+      periods = ps;
+      birth = b;
+      now = n;
+      status = s;
+      ages = a;
+      trace = t;
+      pending = p;
+      signals = g;
+    })
     (λ _. refl)
 
 -- the timeline is one of the policy
@@ -63,12 +83,13 @@ due_events s t = map (λ q. q.event) (members (those s (is_due_at t)))
 
 -- signals stand in the base of the next minute alone
 abbrev pub signals_for : ℕ → Signals → ℕ → List Signal
-signals_for now s t = elim (nat_eq t (now + 1)) [ true ↦ members s | false ↦ [] ]
+signals_for now s t = if nat_eq t (now + 1) then members s else []
 
--- what the timeline raises at a later instant, while nothing happens before it: what the periodic entries raise, what is due, and the
--- limits that are ripe
+-- what the timeline raises at a later instant, while nothing happens before it: what the periodic
+-- entries raise, what is due, and the limits that are ripe
 abbrev pub raised_in : Policy → TimelineView → ℕ → List Prioritised
-raised_in p v t = periodic p v.birth t ++ due_events v.pending t ++ limited p (has v.status) (since_of v) t
+raised_in p v t =
+    periodic p v.birth t ++ due_events v.pending t ++ limited p (has v.status) (since_of v) t
 
 abbrev pub signals_in : TimelineView → ℕ → List Signal
 signals_in v t = signals_for v.now v.signals t

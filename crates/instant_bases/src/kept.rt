@@ -1,6 +1,6 @@
 //! Answers of a calendar that are kept.
 ghost use Rattle.std.specs.Prelude.{◌≡◌, ℕ, ◌<◌, ◌≤◌, ◌⊎◌, Bool, nat_eq, IfSome};
-ghost use Rattle.instant_bases.specs.Kept.{IsKept};
+ghost use Rattle.instant_bases.specs.Kept.{IsNextKept};
 
 use crate::least::inside as known_instant;
 use gt_base::Instant;
@@ -14,7 +14,7 @@ pub(crate) enum Kept {
 
 /// What an answer that was kept at one instant says after another.
 pub(crate) fn recalled(kept: Kept, at: Instant, after: Instant) -> Kept
-    ensures { (test : ℕ → Bool) → IsKept test at kept → IsKept test after result }
+    ensures { (test : ℕ → Bool) → IsNextKept test at kept → IsNextKept test after result }
 {
     if after < at {
         return Kept::Unasked;
@@ -35,7 +35,7 @@ fn until(kept: Kept, t: Instant, now: Instant) -> Kept
 
 /// Whether it is so at t, where an answer that was kept at an instant tells it.
 pub(crate) fn told(kept: Kept, at: Instant, t: Instant) -> Option<bool>
-    ensures { (test : ℕ → Bool) → IsKept test at kept → IfSome result (λ so. so ≡ test t) }
+    ensures { (test : ℕ → Bool) → IsNextKept test at kept → IfSome result (λ so. so ≡ test t) }
 {
     if t <= at {
         return None;

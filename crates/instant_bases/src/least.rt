@@ -1,13 +1,14 @@
 //! The lesser of two instants that may be missing, and the minute after one.
 ghost use Rattle.std.specs.Prelude.{◌≡◌, ℕ, ◌+◌, ◌-◌, ◌<◌, ◌≤◌, ◌||◌, ◌⊎◌, ◌↔◌, Bool, IsNone, IfSome};
-ghost use Rattle.gt_base.specs.Bounds.{last_minute};
+ghost use Rattle.gt_base.specs.declared.limits.TheConstants.{LAST_MINUTE};
 ghost use Rattle.instant_bases.specs.Nexts.{IsNextOf};
 
 use gt_base::Instant;
 
 /// The earlier of the two, where there is one.
 pub fn earlier(a: Option<Instant>, b: Option<Instant>) -> Option<Instant>
-    ensures { (f g : ℕ → Bool) (after : ℕ) → IsNextOf f after a → IsNextOf g after b → IsNextOf (λ t. f t || g t) after result }
+    ensures { (f g : ℕ → Bool) (after : ℕ) → IsNextOf f after a → IsNextOf g after b
+        → IsNextOf (λ t. f t || g t) after result }
 {
     match (a, b) {
         (Some(t), Some(u)) => Some(lesser(t, u)),
@@ -27,8 +28,9 @@ fn lesser(t: Instant, u: Instant) -> Instant
 /// The instant, which is not after the last one.
 pub(crate) fn inside(t: Instant) -> Instant
     ensures same { result ≡ t }
-    ensures bound { t ≤ last_minute }
+    ensures bound { t ≤ LAST_MINUTE }
 {
+    // the call tells that an instant is not after the last
     let _bound = t.minute();
     t
 }
@@ -36,7 +38,7 @@ pub(crate) fn inside(t: Instant) -> Instant
 /// The answer, which is not after the last instant.
 pub(crate) fn known(next: Option<Instant>) -> Option<Instant>
     ensures same { result ≡ next }
-    ensures bound { IfSome next (λ t. t ≤ last_minute) }
+    ensures bound { IfSome next (λ t. t ≤ LAST_MINUTE) }
 {
     match next {
         Some(t) => Some(inside(t)),
@@ -47,7 +49,7 @@ pub(crate) fn known(next: Option<Instant>) -> Option<Instant>
 /// The minute after the instant; none exactly after 2099-12-31T23:59.
 pub fn minute_after(t: Instant) -> Option<Instant>
     ensures some { IfSome result (λ u. u ≡ t + 1) }
-    ensures none { IsNone result ↔ (last_minute ≤ t) }
+    ensures none { IsNone result ↔ (LAST_MINUTE ≤ t) }
 {
     Instant::new(t.minute() + 1)
 }

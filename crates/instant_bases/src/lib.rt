@@ -1,5 +1,5 @@
-//! What a policy raises by itself at an instant, and when it raises something next: its periodic entries and its duration
-//! limits.
+//! What a policy raises by itself at an instant, and when it raises something next: its periodic
+//! entries and its duration limits.
 #![tactic(auto)]
 
 mod kept;

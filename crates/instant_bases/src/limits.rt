@@ -1,13 +1,13 @@
 //! What the duration limits raise at an instant, and when they raise something next.
 ghost use Rattle.std.specs.Prelude.{◌≡◌, ℕ, ◌<◌, ◌≤◌, ◌+◌, ◌-◌, ◌++◌, max, length, OnOk, IfSome};
-ghost use Rattle.gt_base.specs.Bounds.{last_minute};
 ghost use Rattle.gt_base.specs.declared.events.Fluent.{Fluent};
 ghost use Rattle.gt_base.specs.declared.policies.LimitRule.{LimitRule as LimitRuleOf};
 ghost use Rattle.gt_base.specs.Sets.{has};
-ghost use Rattle.gtrbac_model.specs.Base.{limited_from, is_ripe as ripe_at};
+ghost use Rattle.gt_base.specs.declared.limits.TheConstants.{LAST_MINUTE};
+ghost use Rattle.gtrbac_model.specs.Base.{limited_from, is_ripe};
 ghost use Rattle.gtrbac_model.specs.History.{is_some_item};
 ghost use Rattle.duration_limits.specs.Since.{since_in};
-ghost use Rattle.duration_limits.specs.Following.{in_period as within};
+ghost use Rattle.duration_limits.specs.Following.{in_period};
 ghost use Rattle.instant_bases.specs.Nexts.{IsNextOf, ending};
 
 use crate::least::{earlier, known, minute_after, minute_before};
@@ -27,7 +27,8 @@ pub fn push_limited(
     t: Instant,
 ) -> Result<(), Memory>
     requires { length limits.now ≤ 1_000 }
-    ensures { OnOk result (raised.new.items ≡ raised.old.items ++ limited_from periods.now (has status.now.set) (since_in ages.now) 0 limits.now t) }
+    ensures { OnOk result (raised.new.items ≡ raised.old.items
+        ++ limited_from periods.now (has status.now.set) (since_in ages.now) 0 limits.now t) }
 {
     for n in 0..limits.len() {
         let limit = &limits[n];
@@ -46,14 +47,15 @@ fn is_ripe(
     ages: &Ages,
     t: Instant,
 ) -> bool
-    ensures { result ≡ ripe_at periods.now (has status.now.set) (since_in ages.now) id.0 limit.now t }
+    ensures { result ≡ is_ripe periods.now (has status.now.set)
+        (since_in ages.now) id.0 limit.now t }
 {
     ages.ripe(id, limit, status, t) && is_there(periods, limit.period, t)
 }
 
 /// Whether the instant is in the period, if there is one.
 fn is_there(periods: &[Watch], period: Option<PeriodId>, t: Instant) -> bool
-    ensures { (l : LimitRuleOf) → l.period ≡ period → result ≡ within periods.now l t }
+    ensures { (l : LimitRuleOf) → l.period ≡ period → result ≡ in_period periods.now l t }
 {
     match period {
         Some(id) => is_inside(periods, id, t),
@@ -75,8 +77,8 @@ fn ended(limit: &LimitRule) -> Prioritised
     }
 }
 
-/// The least instant after now at which one of the duration limits ends its condition while the status stays, none exactly
-/// where there is none. It takes no memory.
+/// The least instant after now at which one of the duration limits ends its condition while the
+/// status stays, none exactly where there is none. It takes no memory.
 pub fn next_limited(
     periods: &[Watch],
     limits: &[LimitRule],
@@ -86,7 +88,8 @@ pub fn next_limited(
 ) -> Option<Instant>
     requires few { length limits.now ≤ 1_000 }
     requires past { (f : Fluent) → since_in ages.now f ≤ now }
-    ensures { IsNextOf (λ t. is_some_item (limited_from periods.now (has status.now.set) (since_in ages.now) 0 limits.now t)) now result }
+    ensures { IsNextOf (λ t. is_some_item (limited_from periods.now (has status.now.set)
+        (since_in ages.now) 0 limits.now t)) now result }
 {
     let mut next = None;
     for n in 0..limits.len() {
@@ -106,7 +109,8 @@ fn next_ripe(
     now: Instant,
 ) -> Option<Instant>
     requires { since_in ages.now limit.now.cond.fluent ≤ now }
-    ensures { IsNextOf (ripe_at periods.now (has status.now.set) (since_in ages.now) id.0 limit.now) now result }
+    ensures { IsNextOf (is_ripe periods.now (has status.now.set)
+        (since_in ages.now) id.0 limit.now) now result }
 {
     match ages.ripe_from(id, limit, status) {
         Some(from) => next_there(periods, limit.period, later_start(from, now)),
@@ -123,8 +127,9 @@ fn later_start(from: Instant, now: Instant) -> Instant
 
 /// The least instant after this one that is in the period, if there is one.
 fn next_there(periods: &[Watch], period: Option<PeriodId>, after: Instant) -> Option<Instant>
-    ensures next { (l : LimitRuleOf) → l.period ≡ period → IsNextOf (within periods.now l) after result }
-    ensures bound { IfSome result (λ t. t ≤ last_minute) }
+    ensures next { (l : LimitRuleOf) → l.period ≡ period
+        → IsNextOf (in_period periods.now l) after result }
+    ensures bound { IfSome result (λ t. t ≤ LAST_MINUTE) }
 {
     match period {
         Some(id) => known(next_within(periods, id, after)),

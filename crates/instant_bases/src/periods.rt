@@ -2,7 +2,7 @@
 ghost use Rattle.std.specs.Prelude.{◌≡◌, ◌-◌, MatchOption, None, Some, true};
 ghost use Rattle.gtrbac_model.specs.Base.{period_test};
 ghost use Rattle.gtrbac_model.specs.Graph.{item_at};
-ghost use Rattle.gtrbac_model.specs.Period.{inside as insides, starts as started};
+ghost use Rattle.gtrbac_model.specs.Period.{inside, starts};
 ghost use Rattle.instant_bases.specs.Nexts.{IsNextOf};
 
 use crate::watches::Watch;
@@ -10,14 +10,15 @@ use gt_base::{Instant, PeriodId};
 
 /// The period of this number, if there is one.
 pub(crate) fn period_at(periods: &[Watch], id: PeriodId) -> Option<&Watch>
-    ensures { MatchOption result (item_at periods.now id.0 ≡ None) (λ p. item_at periods.now id.0 ≡ Some p.now) }
+    ensures { MatchOption result (item_at periods.now id.0 ≡ None) (λ p. item_at periods.now id.0
+        ≡ Some p.now) }
 {
     periods.get(id.0 as usize)
 }
 
 /// Whether the period of this number is there at the instant.
 pub(crate) fn is_inside(periods: &[Watch], id: PeriodId, t: Instant) -> bool
-    ensures { result ≡ period_test insides periods.now id t }
+    ensures { result ≡ period_test inside periods.now id t }
 {
     match period_at(periods, id) {
         Some(p) => p.inside(t),
@@ -27,7 +28,7 @@ pub(crate) fn is_inside(periods: &[Watch], id: PeriodId, t: Instant) -> bool
 
 /// Whether the period of this number starts at the instant.
 pub(crate) fn is_start(periods: &[Watch], id: PeriodId, t: Instant) -> bool
-    ensures { result ≡ period_test started periods.now id t }
+    ensures { result ≡ period_test starts periods.now id t }
 {
     match period_at(periods, id) {
         Some(p) => p.starts(t),
@@ -35,9 +36,11 @@ pub(crate) fn is_start(periods: &[Watch], id: PeriodId, t: Instant) -> bool
     }
 }
 
-/// Whether it is known that the period of this number is there exactly where it is the minute before.
+/// Whether it is known that the period of this number is there exactly where it is the minute
+/// before.
 pub(crate) fn keeps_on(periods: &[Watch], id: PeriodId, t: Instant) -> bool
-    ensures { result ≡ true → period_test insides periods.now id t ≡ period_test insides periods.now id (t - 1) }
+    ensures { result ≡ true → period_test inside periods.now id t
+        ≡ period_test inside periods.now id (t - 1) }
 {
     match period_at(periods, id) {
         Some(p) => p.keeps_on(t),
@@ -47,7 +50,7 @@ pub(crate) fn keeps_on(periods: &[Watch], id: PeriodId, t: Instant) -> bool
 
 /// The least instant after this one that is in the period of this number.
 pub(crate) fn next_within(periods: &[Watch], id: PeriodId, after: Instant) -> Option<Instant>
-    ensures { IsNextOf (period_test insides periods.now id) after result }
+    ensures { IsNextOf (period_test inside periods.now id) after result }
 {
     match period_at(periods, id) {
         Some(p) => p.next_inside(after),
@@ -57,7 +60,7 @@ pub(crate) fn next_within(periods: &[Watch], id: PeriodId, after: Instant) -> Op
 
 /// The least instant after this one at which the period of this number starts.
 pub(crate) fn next_begin(periods: &[Watch], id: PeriodId, after: Instant) -> Option<Instant>
-    ensures { IsNextOf (period_test started periods.now id) after result }
+    ensures { IsNextOf (period_test starts periods.now id) after result }
 {
     match period_at(periods, id) {
         Some(p) => p.next_start(after),

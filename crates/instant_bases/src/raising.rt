@@ -1,8 +1,8 @@
 //! What the periodic entries raise at an instant, and when they raise something next.
 ghost use Rattle.std.specs.Prelude.{◌≡◌, ◌<◌, ◌≤◌, ◌+◌, ◌++◌, ◌&&◌, nat_eq, flat_map, OnOk};
-ghost use Rattle.gtrbac_model.specs.Base.{when, turned as turned_of, raised_by};
+ghost use Rattle.gtrbac_model.specs.Base.{when, turned, raised_by};
 ghost use Rattle.gtrbac_model.specs.History.{is_some_item};
-ghost use Rattle.gtrbac_model.specs.Period.{inside as insides};
+ghost use Rattle.gtrbac_model.specs.Period.{inside};
 ghost use Rattle.instant_bases.specs.Nexts.{IsNextOf, raises};
 
 use crate::least::{earlier, minute_after, minute_before};
@@ -26,7 +26,7 @@ pub(crate) fn push_if(
 
 /// The converse, at the same priority.
 fn turned(e: Prioritised) -> Prioritised
-    ensures { result ≡ turned_of e }
+    ensures { result ≡ turned e }
 {
     Prioritised {
         prio: e.prio,
@@ -43,7 +43,8 @@ pub fn push_periodic(
     t: Instant,
 ) -> Result<(), Memory>
     requires { birth < t }
-    ensures { OnOk result (raised.new.items ≡ raised.old.items ++ flat_map (raised_by periods.now birth t) entries.now) }
+    ensures { OnOk result (raised.new.items ≡ raised.old.items
+        ++ flat_map (raised_by periods.now birth t) entries.now) }
 {
     for e in entries {
         push_entry(raised, periods, *e, birth, t)?;
@@ -97,8 +98,8 @@ fn is_next(birth: Instant, t: Instant) -> bool
     t.minute() == birth.minute() + 1
 }
 
-/// The least instant after now at which one of the periodic entries raises something, none exactly where there is none.
-/// It takes no memory.
+/// The least instant after now at which one of the periodic entries raises something, none exactly
+/// where there is none. It takes no memory.
 pub fn next_periodic(
     periods: &[Watch],
     entries: &[PeriodicEntry],
@@ -106,7 +107,8 @@ pub fn next_periodic(
     now: Instant,
 ) -> Option<Instant>
     requires { birth ≤ now }
-    ensures { IsNextOf (λ t. is_some_item (flat_map (raised_by periods.now birth t) entries.now)) now result }
+    ensures { IsNextOf (λ t. is_some_item (flat_map (raised_by periods.now birth t) entries.now))
+        now result }
 {
     let mut next = None;
     for e in entries {
@@ -142,7 +144,7 @@ fn next_span(periods: &[Watch], e: PeriodicEntry, birth: Instant, now: Instant) 
 /// The minute after the birth where now is the birth and the period is there.
 fn first_minute(p: &Watch, birth: Instant, now: Instant) -> Option<Instant>
     requires { birth ≤ now }
-    ensures { IsNextOf (λ t. nat_eq t (birth + 1) && insides p.now t) now result }
+    ensures { IsNextOf (λ t. nat_eq t (birth + 1) && inside p.now t) now result }
 {
     if now != birth {
         return None;

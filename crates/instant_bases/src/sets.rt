@@ -12,7 +12,8 @@ use gt_base::{Happened, Prioritised, Signal};
 /// Adds the events, into room that was made before.
 pub fn add_events(into: &mut Happened, events: &[Prioritised])
     requires { length events.now ≤ into.old.spare }
-    ensures events { (e : Prioritised) → has into.new.set.events e ≡ (has into.old.set.events e || list_any (eq_by_cmp prioritised_cmp e) events.now) }
+    ensures events { (e : Prioritised) → has into.new.set.events e
+        ≡ (has into.old.set.events e || list_any (eq_by_cmp prioritised_cmp e) events.now) }
     ensures signals { into.new.set.signals ≡ into.old.set.signals }
     ensures spare { into.old.spare ≤ into.new.spare + length events.now }
 {
@@ -25,7 +26,8 @@ pub fn add_events(into: &mut Happened, events: &[Prioritised])
 pub fn add_signals(into: &mut Happened, signals: &[Signal])
     requires { length signals.now ≤ into.old.spare }
     ensures events { into.new.set.events ≡ into.old.set.events }
-    ensures signals { (x : Signal) → has into.new.set.signals x ≡ (has into.old.set.signals x || list_any (eq_by_cmp signal_cmp x) signals.now) }
+    ensures signals { (x : Signal) → has into.new.set.signals x
+        ≡ (has into.old.set.signals x || list_any (eq_by_cmp signal_cmp x) signals.now) }
     ensures spare { into.old.spare ≤ into.new.spare + length signals.now }
 {
     for x in signals {

@@ -1,8 +1,8 @@
 //! Periods that remember what was asked of them.
 ghost use Rattle.std.specs.Prelude.{◌≡◌, true, false, IfOk};
 ghost use Rattle.calendar_match.specs.Next.{turns as turned};
-ghost use Rattle.gtrbac_model.specs.Period.{inside as insides, starts as started};
-ghost use Rattle.instant_bases.specs.Kept.{IsKept};
+ghost use Rattle.gtrbac_model.specs.Period.{inside as insides, starts};
+ghost use Rattle.instant_bases.specs.Kept.{IsNextKept};
 ghost use Rattle.instant_bases.specs.Nexts.{IsNextOf};
 
 use crate::kept::{Kept, recalled, told};
@@ -12,7 +12,8 @@ use periodic_expr::Period;
 use std::alloc::Global;
 use std::marker::Model;
 
-/// A period with the next instants that were asked of it, each kept until it is past. It is seen as the period.
+/// A period with the next instants that were asked of it, each kept until it is past. It is seen as
+/// the period.
 pub struct Watch {
     period: Period,
     at: Instant,
@@ -23,8 +24,8 @@ pub struct Watch {
 
 impl Model for Watch {
     ghost use Rattle.calendar_match.specs.Next.{turns as turned};
-    ghost use Rattle.gtrbac_model.specs.Period.{Period as Bounded, period_code, inside as insides, starts as started};
-    ghost use Rattle.instant_bases.specs.Kept.{IsKept};
+    ghost use Rattle.gtrbac_model.specs.Period.{Period as Bounded, period_code, inside as insides, starts};
+    ghost use Rattle.instant_bases.specs.Kept.{IsNextKept};
 
     ghost Value = { Bounded };
 
@@ -32,7 +33,8 @@ impl Model for Watch {
 
     ghost view = { λ w. w.period };
 
-    ghost invariant = { λ w. IsKept (insides w.period) w.at w.inside × IsKept (started w.period) w.at w.start × IsKept (turned w.period) w.at w.edge };
+    ghost invariant = { λ w. IsNextKept (insides w.period) w.at w.inside
+        × IsNextKept (starts w.period) w.at w.start × IsNextKept (turned w.period) w.at w.edge };
 }
 
 impl Drop for Watch {
@@ -86,7 +88,7 @@ impl Watch {
 
     /// The least instant after this one at which the period starts.
     pub(crate) fn next_start(&self, after: Instant) -> Option<Instant>
-        ensures { IsNextOf (started self.now) after result }
+        ensures { IsNextOf (starts self.now) after result }
     {
         match recalled(self.start, self.at, after) {
             Kept::Next(t) => t,
@@ -94,7 +96,8 @@ impl Watch {
         }
     }
 
-    /// The least instant after this one that is inside where the minute before is not, or the other way round.
+    /// The least instant after this one that is inside where the minute before is not, or the other
+    /// way round.
     pub(crate) fn next_edge(&self, after: Instant) -> Option<Instant>
         ensures { IsNextOf (turned self.now) after result }
     {
@@ -116,7 +119,7 @@ impl Watch {
 
     /// Whether the period starts at the instant.
     pub(crate) fn starts(&self, t: Instant) -> bool
-        ensures { result ≡ started self.now t }
+        ensures { result ≡ starts self.now t }
     {
         match told(self.start, self.at, t) {
             Some(holds) => holds,
@@ -146,7 +149,7 @@ impl Watch {
     }
 
     fn inside_from(&self, now: Instant) -> Kept
-        ensures { IsKept (insides self.now) now result }
+        ensures { IsNextKept (insides self.now) now result }
     {
         match self.inside {
             Kept::Next(_) => Kept::Next(self.next_inside(now)),
@@ -155,7 +158,7 @@ impl Watch {
     }
 
     fn start_from(&self, now: Instant) -> Kept
-        ensures { IsKept (started self.now) now result }
+        ensures { IsNextKept (starts self.now) now result }
     {
         match self.start {
             Kept::Next(_) => Kept::Next(self.next_start(now)),
@@ -164,7 +167,7 @@ impl Watch {
     }
 
     fn edge_from(&self, now: Instant) -> Kept
-        ensures { IsKept (turned self.now) now result }
+        ensures { IsNextKept (turned self.now) now result }
     {
         match self.edge {
             Kept::Next(_) => Kept::Next(self.next_edge(now)),
@@ -208,7 +211,8 @@ pub fn copied_watches(alloc: Global, watches: &[Watch]) -> Result<Vec<Watch>, Me
     Ok(copies)
 }
 
-/// Asks what the entries and the limits want to know of their periods, once of each. It takes no memory.
+/// Asks what the entries and the limits want to know of their periods, once of each. It takes no
+/// memory.
 pub fn ask_all(watches: &mut [Watch], entries: &[PeriodicEntry], limits: &[LimitRule])
     ensures { watches.new ≡ watches.old }
 {

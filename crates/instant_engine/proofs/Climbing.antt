@@ -20,12 +20,13 @@ use Rattle.gtrbac_model.specs.Same.{same_event}
 use Rattle.gtrbac_model.specs.Conflict.{Status, blocked, won, after, turns_on, turns_off}
 use Rattle.gtrbac_model.specs.Trigger.{met, immediate, holds}
 use Rattle.gtrbac_model.specs.Instant.{stands, supported, grounded_after, Settled}
-use Rattle.gtrbac_model.specs.Safety.{is_node, is_levelled, is_decided, are_levels}
+use Rattle.gtrbac_model.specs.Safety.{is_node}
 use Rattle.gtrbac_model.proofs.Elements.{Elem, both_true, and_true, implied, split, any_elim, any_intro, all_elim, all_intro, tied}
 use Rattle.gtrbac_model.proofs.Meeting.{IsMet, parts_met, met_by}
 use Rattle.gtrbac_model.proofs.Uniqueness.{In, elem, of_elem, Goes, blocked_alike, holds_alike, is_same_event, head_node, support, only_base_along, in_order, from_base}
 use Rattle.gtrbac_model.proofs.Existence.{settled_set}
 use Rattle.instant_engine.specs.OnTheWay.{IsSettledBelow}
+use Rattle.gtrbac_model.proofs.Levels.{is_levelled, is_decided, are_levels}
 
 lower : (c h n : ℕ) → c < h → h ≤ n → c < n
 lower c h n p q = omega arith

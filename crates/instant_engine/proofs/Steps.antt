@@ -1,5 +1,5 @@
 -- One trigger looked at: what its head makes of a set, and which triggers may fire then.
-use Rattle.std.proofs.Common.{◌≡◌, ℕ, zero, suc, ◌+◌, ◌*◌, ◌<◌, ◌≤◌, Bool, true, false, cond, not, nat_eq, nat_lt, ◌&&◌, ◌||◌, inl, inr, List, [], ◌∷◌, ◌++◌, length, length-append, take, get_or, slice_get, Option, Some, None, refl, sym, ◌∙◌, ap, subst, arith, flat_map}
+use Rattle.std.proofs.Common.{◌≡◌, ℕ, zero, suc, ◌+◌, ◌*◌, ◌<◌, ◌≤◌, Bool, true, false, cond, not, nat_eq, nat_lt, ◌&&◌, ◌||◌, inl, inr, List, [], ◌∷◌, ◌++◌, length, length-append, take, get_or, slice_get, Option, Some, None, refl, sym, ◌∙◌, ap, subst, arith, flat_map, if◌then◌else◌}
 use Rattle.std.specs.List.{list_all}
 use Rattle.std.proofs.lemmas.Bool.{eqb-true, eq-eqb, ltb-true, not-true, false≢true}
 use Rattle.std.proofs.lemmas.List.{take_more, length-take-le, flat_map_more, take_all}
@@ -18,14 +18,15 @@ use Rattle.gtrbac_model.specs.Graph.{item_at}
 use Rattle.gtrbac_model.specs.Same.{same_prioritised, same_event, lists}
 use Rattle.gtrbac_model.specs.Conflict.{Status, blocked, won, after, turns_on, turns_off}
 use Rattle.gtrbac_model.specs.Trigger.{met, immediate, holds}
-use Rattle.gtrbac_model.specs.Safety.{are_levels, is_node, is_decided}
+use Rattle.gtrbac_model.specs.Safety.{is_node}
 use Rattle.gtrbac_model.proofs.Elements.{Elem, both_true, and_true, either_true, left_true, right_true, implied, split, any_elim, any_intro, all_elim, all_intro, tied}
 use Rattle.gtrbac_model.proofs.Meeting.{IsMet, parts_met, met_by}
 use Rattle.gtrbac_model.proofs.Uniqueness.{In, elem, of_elem, Agrees, blocked_goes, holds_alike, is_same_event, same_event_of, is_same_prioritised}
 use Rattle.trigger_rules.specs.Indexed.{numbers, has_event, with_event}
 use Rattle.trigger_rules.proofs.Keys.{numbers_push}
-use Rattle.instant_engine.specs.OnTheWay.{Keeps, is_due, is_level, fires, head_at, joined, waiting, missing}
+use Rattle.instant_engine.specs.OnTheWay.{KeepsSet, is_due, is_level, fires, head_at, head_joined, waiting_with}
 use Rattle.instant_engine.proofs.Climbing.{supports, next_level}
+use Rattle.gtrbac_model.proofs.Levels.{are_levels, is_decided}
 
 -- the parts of the items so far, and of the next one
 
@@ -67,6 +68,11 @@ fewer_later false false u v f h = omega arith
 
 abbrev Grows : HappenedView → HappenedView → Type 0
 Grows x y = (o : Prioritised) → In x o → In y o
+
+-- how many triggers have a head that is not there
+abbrev pub missing : List TriggerView → HappenedView → ℕ
+missing [] x = 0
+missing (r ∷ rs) x = (if has x.events r.head then 0 else 1) + missing rs x
 
 missing_falls : (rs : List TriggerView) (x y : HappenedView) → Grows x y → missing rs y ≤ missing rs x
 missing_falls [] x y g = omega arith
@@ -143,7 +149,7 @@ some_fails p (x ∷ xs) h = split (p x) (λ t. let (y, m, f) = some_fails p xs (
 
 module _ (x : HappenedView) (h : Prioritised) where
   abbrev more : HappenedView
-  more = joined x (Some h)
+  more = head_joined x (Some h)
 
   added : (o : Prioritised) → has more.events o ≡ (same_prioritised o h || has x.events o)
   added o = has-with_member prioritised_cmp_total x.events h o
@@ -241,12 +247,12 @@ module _ (rules : List TriggerView) (s : Status) (level : Event → ℕ) (n : �
 
   -- with each look there is less to do
   pub less_left : (x : HappenedView) (ts : List ℕ) (t : ℕ) (head : Option Prioritised) → head ≡ head_at s level n x (item_at rules t)
-      → missing rules (joined x head) * (length rules + 1) + length (waiting rules ts head) < missing rules x * (length rules + 1) + length (ts ++ t ∷ [])
+      → missing rules (head_joined x head) * (length rules + 1) + length (waiting_with rules ts head) < missing rules x * (length rules + 1) + length (ts ++ t ∷ [])
   less_left x ts t None e = omega (arith, length-append ts (t ∷ []))
   less_left x ts t (Some h) e =
       let (q, here, is_head, own) = found x h (item_at rules t) e in
-      product (missing rules (joined x (Some h))) (missing rules x) (length rules + 1) (length ts) (length (with_event rules h.event)) _ _
-      (missing_drops rules x (joined x (Some h)) (grows x h) q (elem_of rules t q here) own.3 (subst (λ z. In (joined x (Some h)) z) is_head (there x h)))
+      product (missing rules (head_joined x (Some h))) (missing rules x) (length rules + 1) (length ts) (length (with_event rules h.event)) _ _
+      (missing_drops rules x (head_joined x (Some h)) (grows x h) q (elem_of rules t q here) own.3 (subst (λ z. In (head_joined x (Some h)) z) is_head (there x h)))
       (omega (arith, numbers_few (has_event h.event) 0 rules)) (length-append ts (with_event rules h.event)) (length-append ts (t ∷ []))
 
   module _ (levelled : are_levels rules level ≡ true) where
@@ -255,7 +261,7 @@ module _ (rules : List TriggerView) (s : Status) (level : Event → ℕ) (n : �
 
     -- a head of the level turns no fluent of a settled condition of a trigger of the level
     settled_still : (x : HappenedView) (h : Prioritised) (q : TriggerView) → Elem rules q → immediate q ≡ true → level q.head.event ≡ n → h ≡ q.head
-        → (w : TriggerView) → Elem rules w → immediate w ≡ true → level w.head.event ≡ n → (c : Cond) → Elem w.settled c → holds (after (joined x (Some h)) s) c ≡ holds (after x s) c
+        → (w : TriggerView) → Elem rules w → immediate w ≡ true → level w.head.event ≡ n → (c : Cond) → Elem w.settled c → holds (after (head_joined x (Some h)) s) c ≡ holds (after x s) c
     settled_still x h q mq iq eq is w mw iw ew c mc =
         let decided = all_elim (is_decided rules level w) w.settled c (both_true _ _ (implied _ _ (all_elim _ rules w levelled mw) iw)).1 mc in
         let lv = both_true (not (is_node rules (turns_on c.fluent)) || nat_lt (level (turns_on c.fluent)) (level w.head.event)) (not (is_node rules (turns_off c.fluent)) || nat_lt (level (turns_off c.fluent)) (level w.head.event)) decided in
@@ -271,7 +277,7 @@ module _ (rules : List TriggerView) (s : Status) (level : Event → ℕ) (n : �
             too_low (level f) (level w.head.event) (level q.head.event) (ltb-true _ _ (implied _ _ low node)) ew eq (ap level is_f)
 
     -- with the last number looked at, those that fire still wait
-    pub still_wait : (x : HappenedView) (ts : List ℕ) (t : ℕ) (head : Option Prioritised) → head ≡ head_at s level n x (item_at rules t) → Waits x (ts ++ t ∷ []) → Waits (joined x head) (waiting rules ts head)
+    pub still_wait : (x : HappenedView) (ts : List ℕ) (t : ℕ) (head : Option Prioritised) → head ≡ head_at s level n x (item_at rules t) → Waits x (ts ++ t ∷ []) → Waits (head_joined x head) (waiting_with rules ts head)
     still_wait x ts t None e wait u w at f =
         last_or ts t u (wait u w at f) (λ m. m)
         (λ is.
@@ -281,7 +287,7 @@ module _ (rules : List TriggerView) (s : Status) (level : Event → ℕ) (n : �
         cc)
     still_wait x ts t (Some h) e wait u w at f =
         let (q, here, is_head, own) = found x h (item_at rules t) e in
-        let k : Fires (joined x (Some h)) w = fired (joined x (Some h)) w f in
+        let k : Fires (head_joined x (Some h)) w = fired (head_joined x (Some h)) w f in
         let absent : has x.events w.head ≡ false = split (has x.events w.head) (λ i. absurd (false≢true (sym k.3 ∙ grows x h w.head i))) (λ z. z) in
         list_any-append (nat_eq u) ts (with_event rules h.event)
         ∙ split (met w x s)
@@ -289,11 +295,11 @@ module _ (rules : List TriggerView) (s : Status) (level : Event → ℕ) (n : �
         last_or ts t u (wait u w at (does_fire x w (k.0, k.1, m, absent))) (λ i. left_true (lists nat_eq ts u) _ i)
         (λ is.
         let same : w ≡ q = one_item t q w here (subst (λ z. item_at rules z ≡ Some w) is at) in
-        absurd (false≢true (sym k.3 ∙ subst (λ z. has (joined x (Some h)).events z ≡ true) (is_head ∙ ap (λ r. r.head) (sym same)) (there x h)))))
+        absurd (false≢true (sym k.3 ∙ subst (λ z. has (head_joined x (Some h)).events z ≡ true) (is_head ∙ ap (λ r. r.head) (sym same)) (there x h)))))
         (λ m. right_true (lists nat_eq ts u) _ (numbered (has_event h.event) 0 rules u u w (omega arith) at (newly_met x h s w (settled_still x h q (elem_of rules t q here) own.0 own.1 is_head w (elem_of rules u w at) k.0 k.1) k.2 m)))
 
     -- a head that fires keeps the set on its way
-    pub keeps_on : (x : HappenedView) (head : Option Prioritised) (o : Option TriggerView) → ((q : TriggerView) → o ≡ Some q → Elem rules q) → head ≡ head_at s level n x o → Keeps rules s level n x n (joined x head)
+    pub keeps_on : (x : HappenedView) (head : Option Prioritised) (o : Option TriggerView) → ((q : TriggerView) → o ≡ Some q → Elem rules q) → head ≡ head_at s level n x o → KeepsSet rules s level n x n (head_joined x head)
     keeps_on x None o ours e base so_far = so_far
     keeps_on x (Some h) o ours e base so_far =
         let (q, here, is_head, own) = found x h o e in
@@ -306,7 +312,7 @@ module _ (rules : List TriggerView) (s : Status) (level : Event → ℕ) (n : �
         }
 
     -- where none waits, the level is done
-    pub done : (x : HappenedView) → Waits x [] → Keeps rules s level n x (n + 1) x
+    pub done : (x : HappenedView) → Waits x [] → KeepsSet rules s level n x (n + 1) x
     done x none base so_far = next_level rules base s level levelled x n so_far quiet
       where
         quiet : (r : TriggerView) → Elem rules r → immediate r ≡ true → level r.head.event ≡ n → met r x s ≡ true → In x r.head

@@ -19,7 +19,7 @@ use Rattle.gtrbac_model.specs.Conflict.{Status}
 use Rattle.gtrbac_model.specs.Trigger.{immediate, met}
 use Rattle.gtrbac_model.proofs.Elements.{both_true}
 use Rattle.trigger_rules.specs.Indexed.{numbers, with_event, with_signal}
-use Rattle.instant_engine.specs.OnTheWay.{is_due, fires, head_at, joined, waiting}
+use Rattle.instant_engine.specs.OnTheWay.{is_due, fires, head_at, head_joined, waiting_with}
 use Rattle.instant_engine.specs.Counted.{size, woken, first_looks, most_looks}
 use Rattle.instant_engine.proofs.Steps.{numbers_few}
 
@@ -62,12 +62,12 @@ module _ (rules : List TriggerView) where
   parts : (x : HappenedView) → woken rules x ≡ length (flat_map (λ o. with_event rules o.event) (members x.events)) + length (flat_map (with_signal rules) (members x.signals))
   parts x = length-append (flat_map (λ o. with_event rules o.event) (members x.events)) (flat_map (with_signal rules) (members x.signals))
 
-  woken_with : (x : HappenedView) (h : Prioritised) → has x.events h ≡ false → woken rules (joined x (Some h)) ≡ length (with_event rules h.event) + woken rules x
+  woken_with : (x : HappenedView) (h : Prioritised) → has x.events h ≡ false → woken rules (head_joined x (Some h)) ≡ length (with_event rules h.event) + woken rules x
   woken_with x h e =
       let more = many_with (λ o. with_event rules o.event) x.events h e in
-      omega (arith, more, parts x, parts (joined x (Some h)))
+      omega (arith, more, parts x, parts (head_joined x (Some h)))
 
-  size_with : (x : HappenedView) (h : Prioritised) → has x.events h ≡ false → size (joined x (Some h)) ≡ size x + 1
+  size_with : (x : HappenedView) (h : Prioritised) → has x.events h ≡ false → size (head_joined x (Some h)) ≡ size x + 1
   size_with x h e = let more = one_more x.events h e in omega (arith, more)
 
   module _ (s : Status) (level : Event → ℕ) (n : ℕ) (x : HappenedView) where
@@ -93,7 +93,7 @@ module _ (rules : List TriggerView) where
       pub woken_is : woken rules x ≤ woken rules y
       pub size_is : size x ≤ size y
 
-    pub grown : (ts : List ℕ) (o : Option TriggerView) (head : Option Prioritised) → head ≡ head_at s level n x o → Grown ts (joined x head) (waiting rules ts head)
+    pub grown : (ts : List ℕ) (o : Option TriggerView) (head : Option Prioritised) → head ≡ head_at s level n x o → Grown ts (head_joined x head) (waiting_with rules ts head)
     grown ts o None is = record { waits = omega arith; woken_is = omega arith; size_is = omega arith }
     grown ts o (Some h) is =
         let absent = absent_head o h (sym is) in

@@ -1,5 +1,5 @@
 -- A set on its way to the one that its base settles to, level by level.
-use Rattle.std.specs.Prelude.{◌≡◌, ℕ, ◌+◌, ◌<◌, Bool, true, false, not, ◌&&◌, nat_eq, List, [], ◌∷◌, ◌++◌, flat_map, Option, Some, None, if◌then◌else◌}
+use Rattle.std.specs.Prelude.{◌≡◌, ℕ, ◌+◌, ◌<◌, Bool, true, false, not, ◌&&◌, nat_eq, List, ◌++◌, flat_map, Option, Some, None, if◌then◌else◌}
 use Rattle.gt_base.specs.declared.events.Event.{Event}
 use Rattle.gt_base.specs.declared.events.Prioritised.{Prioritised}
 use Rattle.gt_base.specs.Held.{TriggerView}
@@ -24,9 +24,9 @@ pub record IsSettledBelow (rules : List TriggerView) (base : HappenedView) (s : 
   pub signals : x.signals ≡ base.signals
 
 -- from whichever base the one set comes, the other comes from it too
-abbrev pub Keeps : List TriggerView → Status → (Event → ℕ) → ℕ → HappenedView → ℕ → HappenedView
+abbrev pub KeepsSet : List TriggerView → Status → (Event → ℕ) → ℕ → HappenedView → ℕ → HappenedView
     → Type 0
-Keeps rules s level n x m y = (base : HappenedView) → IsSettledBelow rules base s level n x
+KeepsSet rules s level n x m y = (base : HappenedView) → IsSettledBelow rules base s level n x
     → IsSettledBelow rules base s level m y
 
 -- the trigger is immediate, and its head is of this level
@@ -49,21 +49,16 @@ head_at s level n x None = None
 head_at s level n x (Some r) = if fires s level n x r then Some r.head else None
 
 -- the set with the head
-abbrev pub joined : HappenedView → Option Prioritised → HappenedView
-joined x None = x
-joined x (Some h) = record { events = with_member x.events h; signals = x.signals }
+abbrev pub head_joined : HappenedView → Option Prioritised → HappenedView
+head_joined x None = x
+head_joined x (Some h) = record { events = with_member x.events h; signals = x.signals }
 
 -- with the triggers that have the head in their bodies
-abbrev pub waiting : List TriggerView → List ℕ → Option Prioritised → List ℕ
-waiting rules ts None = ts
-waiting rules ts (Some h) = ts ++ with_event rules h.event
+abbrev pub waiting_with : List TriggerView → List ℕ → Option Prioritised → List ℕ
+waiting_with rules ts None = ts
+waiting_with rules ts (Some h) = ts ++ with_event rules h.event
 
 -- the triggers that have an event or a signal of the set in their bodies
 abbrev pub prompted : List TriggerView → HappenedView → List ℕ
 prompted rules x = flat_map (λ o. with_event rules o.event) (members x.events)
     ++ flat_map (with_signal rules) (members x.signals)
-
--- how many triggers have a head that is not there
-abbrev pub missing : List TriggerView → HappenedView → ℕ
-missing [] x = 0
-missing (r ∷ rs) x = (if has x.events r.head then 0 else 1) + missing rs x

@@ -11,7 +11,7 @@ ghost use Rattle.dependency_graph.specs.Carried.{level_in};
 ghost use Rattle.trigger_rules.specs.Indexed.{numbers, under};
 ghost use Rattle.instant_engine.specs.TriggerLevels.{AreLevels};
 ghost use Rattle.dependency_graph.specs.Levelled.{IsLevelled};
-ghost use Rattle.instant_engine.specs.OnTheWay.{is_due as is_due_at, is_level};
+ghost use Rattle.instant_engine.specs.OnTheWay.{is_due, is_level};
 
 use dependency_graph::EventGraph;
 use gt_base::{Event, Memory, Trigger};
@@ -104,7 +104,7 @@ fn by_level(
 ) -> Result<IndexMap<u64, Vec<u32>>, Memory>
     requires { IsLevelled r.now g.now s.now }
     ensures { IfOk result (λ m. (n : ℕ) → under (get nat_eq m n) (λ v. v.items)
-        ≡ numbers (is_due_at (level_in g.now.events s.now) n) 0 r.now) }
+        ≡ numbers (is_due (level_in g.now.events s.now) n) 0 r.now) }
 {
     let mut index = IndexMap::new(alloc);
     let triggers = r.triggers().as_slice();
@@ -162,7 +162,7 @@ pub(crate) fn is_due(trigger: &Trigger, g: &EventGraph, s: &Strata, n: u64) -> b
     requires size { length s.now ≡ length g.now.events }
     requires node { immediate trigger.now ≡ true
         → lists same_event g.now.events trigger.now.head.event ≡ true }
-    ensures { result ≡ is_due_at (level_in g.now.events s.now) n trigger.now }
+    ensures { result ≡ is_due (level_in g.now.events s.now) n trigger.now }
 {
     due_level(trigger, g, s) == Some(n)
 }

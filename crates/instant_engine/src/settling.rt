@@ -8,7 +8,7 @@ ghost use Rattle.dependency_graph.specs.Carried.{level_in};
 ghost use Rattle.dependency_graph.specs.Levelled.{IsLevelled};
 ghost use Rattle.trigger_rules.specs.Indexed.{numbers, with_event, with_signal};
 ghost use Rattle.instant_engine.specs.TriggerLevels.{AreLevels};
-ghost use Rattle.instant_engine.specs.OnTheWay.{Keeps, head_at, is_due as is_due_at, joined, prompted, waiting};
+ghost use Rattle.instant_engine.specs.OnTheWay.{KeepsSet, head_at, is_due, head_joined, prompted, waiting_with};
 ghost use Rattle.instant_engine.specs.Counted.{size, woken, first_looks, most_looks};
 
 use crate::levels::{TriggerLevels, is_due};
@@ -132,14 +132,14 @@ fn settle_level<L: Ledger>(
     before: &Status,
     looks: &mut Looks<L>,
 ) -> Result<(), Memory>
-    ensures keeps { OnOk result (Keeps by.now.rules.now (has before.now.set)
+    ensures keeps { OnOk result (KeepsSet by.now.rules.now (has before.now.set)
         (level_in by.now.graph.now.events by.now.strata.now) n x.old (n + 1) x.new) }
     ensures grows { OnOk result ((size x.old ≤ size x.new)
         × (woken by.now.rules.now x.old ≤ woken by.now.rules.now x.new)) }
     ensures cost { OnOk result (looks.new + woken by.now.rules.now x.old ≤ looks.old
         + first_looks by.now.levels.now.caused
         (length (numbers
-        (is_due_at (level_in by.now.graph.now.events by.now.strata.now) n) 0 by.now.rules.now))
+        (is_due (level_in by.now.graph.now.events by.now.strata.now) n) 0 by.now.rules.now))
         by.now.rules.now x.old
         + woken by.now.rules.now x.new) }
 {
@@ -249,8 +249,8 @@ fn join(
     pending: &mut Vec<u32>,
     head: Option<Prioritised>,
 ) -> Result<(), Memory>
-    ensures set { OnOk result (x.new ≡ joined x.old head) }
-    ensures pending { OnOk result (pending.new.items ≡ waiting r.now pending.old.items head) }
+    ensures set { OnOk result (x.new ≡ head_joined x.old head) }
+    ensures pending { OnOk result (pending.new.items ≡ waiting_with r.now pending.old.items head) }
 {
     if let Some(head) = head {
         let event = head.event;

@@ -5,9 +5,9 @@ use Rattle.std.proofs.lemmas.List.{get_or-set_same, get_or-set_other, length-set
 use Rattle.std.proofs.lemmas.Bool.{cases_eq, cases_lt}
 use Rattle.gtrbac_model.specs.Graph.{item_at}
 use Rattle.least_walk.specs.declared.graphs.GraphEdge.{GraphEdge}
-use Rattle.least_walk.specs.Net.{no_edge}
 use Rattle.least_walk.specs.Chains.{IsLast, AreChains}
 use Rattle.least_walk.proofs.Items.{item_within, item_map, item_read, one_item, any_default}
+use Rattle.least_walk.specs.declared.chains.TheConstants.{NO_EDGE}
 
 abbrev pub edge_at : List GraphEdge → ℕ → GraphEdge
 edge_at edges n = slice_index_or edges n (record { from = 0; to = 0; marked = false })
@@ -30,9 +30,9 @@ index_last (x ∷ xs) y = index_last xs y
 
 -- no edge for each node
 abbrev pub no_edges : ℕ → List ℕ
-no_edges nodes = map (λ v. no_edge) (range_with_len 0 nodes)
+no_edges nodes = map (λ v. NO_EDGE) (range_with_len 0 nodes)
 
-index_none : (a n v : ℕ) → v < n → slice_index (map (λ u. no_edge) (range_with_len a n)) v ≡ no_edge
+index_none : (a n v : ℕ) → v < n → slice_index (map (λ u. NO_EDGE) (range_with_len a n)) v ≡ NO_EDGE
 index_none a zero v h = absurd (omega arith)
 index_none a (suc n) zero h = refl
 index_none a (suc n) (suc v) h = index_none (a + 1) n v (omega arith)
@@ -41,7 +41,7 @@ length_one_more : (xs : List ℕ) (y : ℕ) → length (xs ++ y ∷ []) ≡ leng
 length_one_more [] y = refl
 length_one_more (x ∷ xs) y = let k : length (xs ++ y ∷ []) ≡ length xs + 1 = length_one_more xs y in omega (arith, k)
 
-length_none : (a n : ℕ) → length (map (λ u. no_edge) (range_with_len a n)) ≡ n
+length_none : (a n : ℕ) → length (map (λ u. NO_EDGE) (range_with_len a n)) ≡ n
 length_none a zero = refl
 length_none a (suc n) = ap suc (length_none (a + 1) n)
 
@@ -115,33 +115,33 @@ chained_all keys nodes last before n a b within c = record {
     against v p q = omega arith
 
 -- the last number of a key, where chains begin
-pub begun_at : (keys last before : List ℕ) (v : ℕ) → AreChains keys last before → IsLast keys v (length keys) (slice_index_or last v no_edge)
+pub begun_at : (keys last before : List ℕ) (v : ℕ) → AreChains keys last before → IsLast keys v (length keys) (slice_index_or last v NO_EDGE)
 begun_at keys last before v c = elim (cases_lt v (length last)) [
-  | inl h ↦ subst (IsLast keys v (length keys)) (any_default last v 0 no_edge h) (c.lasts v h)
+  | inl h ↦ subst (IsLast keys v (length keys)) (any_default last v 0 NO_EDGE h) (c.lasts v h)
   | inr h ↦ inl (beyond last v h, c.rest v h)
 ]
   where
-    beyond : (xs : List ℕ) (v : ℕ) → length xs ≤ v → slice_index_or xs v no_edge ≡ no_edge
+    beyond : (xs : List ℕ) (v : ℕ) → length xs ≤ v → slice_index_or xs v NO_EDGE ≡ NO_EDGE
     beyond [] v h = refl
     beyond (x ∷ xs) zero h = absurd (omega arith)
     beyond (x ∷ xs) (suc v) h = beyond xs v (omega arith)
 
 -- a number of the key below b is not above the last one
-pub none_above : (keys : List ℕ) (v b n : ℕ) → IsLast keys v b n → b ≤ no_edge → (m : ℕ) → m < b → item_at keys m ≡ Some v → (n ≡ no_edge) ⊎ (n < m) → ⊥
+pub none_above : (keys : List ℕ) (v b n : ℕ) → IsLast keys v b n → b ≤ NO_EDGE → (m : ℕ) → m < b → item_at keys m ≡ Some v → (n ≡ NO_EDGE) ⊎ (n < m) → ⊥
 none_above keys v b n (inl (e, none)) few m low at _ = none m (omega arith) low at
 none_above keys v b n (inr (under, is, none)) few m low at (inl e) = omega (arith, under, few, e)
 none_above keys v b n (inr (under, is, none)) few m low at (inr h) = none m (omega (arith, h)) low at
 
 -- a link of a chain, or its end
 abbrev pub IsLink : List ℕ → ℕ → ℕ → Type 0
-IsLink keys v n = (n ≡ no_edge) ⊎ (item_at keys n ≡ Some v)
+IsLink keys v n = (n ≡ NO_EDGE) ⊎ (item_at keys n ≡ Some v)
 
 pub link_of : (keys : List ℕ) (v b n : ℕ) → IsLast keys v b n → IsLink keys v n
 link_of keys v b n (inl (e, none)) = inl e
 link_of keys v b n (inr (under, is, none)) = inr is
 
 -- going along a chain ends
-pub goes_down : (keys : List ℕ) (v n n' : ℕ) → n < no_edge → IsLast keys v n n' → (n' + 1) % 4_294_967_296 < (n + 1) % 4_294_967_296
+pub goes_down : (keys : List ℕ) (v n n' : ℕ) → n < NO_EDGE → IsLast keys v n n' → (n' + 1) % 4_294_967_296 < (n + 1) % 4_294_967_296
 goes_down keys v n n' low (inl (e, none)) = omega (arith, e, low)
 goes_down keys v n n' low (inr (under, is, none)) = omega (arith, under, low)
 
@@ -152,7 +152,7 @@ pub record IsEdgeOf (key : GraphEdge → ℕ) (edges : List GraphEdge) (v n : �
   pub has : key (edge_at edges n) ≡ v
   pub listed : item_at (map key edges) n ≡ Some v
 
-pub edge_of : (key : GraphEdge → ℕ) (edges : List GraphEdge) (v n : ℕ) → IsLink (map key edges) v n → (n ≡ no_edge → ⊥) → IsEdgeOf key edges v n
+pub edge_of : (key : GraphEdge → ℕ) (edges : List GraphEdge) (v n : ℕ) → IsLink (map key edges) v n → (n ≡ NO_EDGE → ⊥) → IsEdgeOf key edges v n
 edge_of key edges v n (inl e) ne = absurd (ne e)
 edge_of key edges v n (inr at) ne =
     let (e, is, same) = item_map key edges n v at in

@@ -9,9 +9,10 @@ use Rattle.std.proofs.lemmas.Bool.{cases_lt}
 use Rattle.least_walk.specs.declared.graphs.GraphEdge.{GraphEdge}
 use Rattle.std.specs.List.{enumerate_from}
 use Rattle.least_walk.specs.Net.{EndsIn, arc_of, arcs_of, arcs_by, every}
-use Rattle.least_walk.specs.Distances.{far, AreDistances}
+use Rattle.least_walk.specs.Distances.{AreDistances}
 use Rattle.least_walk.specs.Walks.{is_goal, HasNoWalk, Descends, IsNearest, AllFar}
 use Rattle.least_walk.proofs.Items.{item_numbered, item_of_numbered, one_item}
+use Rattle.least_walk.specs.declared.distances.TheConstants.{FAR}
 use Rattle.gtrbac_model.specs.Graph.{Arc, Path, LeadsAlong, IsWalk, NotAfter, IsLeastWalk, item_at}
 
 pub goal_read : (goal : List Bool) (v : ℕ) → slice_get goal v ≡ Some true → is_goal goal v ≡ true
@@ -36,12 +37,12 @@ module _ (ok : ℕ → Bool) (edges : List GraphEdge) (goal : List Bool) (ds : L
   edge_arc m e at = let k : 0 + m ≡ m = omega arith in item_of_numbered (λ e. record { from = e.1.from; to = e.1.to; is_open = ok e.0 }) 0 edges m e at ∙ ap (λ n. Some (record { from = e.from; to = e.to; is_open = ok n })) k
 
   -- from a node with a walk to a goal: it is at a distance, no greater than the walk
-  at_most_walk : (v : ℕ) (ms : List ℕ) (end : ℕ) → LeadsAlong (arcs) v ms end → is_goal goal end ≡ true → (slice_index ds v < far) × (slice_index ds v ≤ length ms)
+  at_most_walk : (v : ℕ) (ms : List ℕ) (end : ℕ) → LeadsAlong (arcs) v ms end → is_goal goal end ≡ true → (slice_index ds v < FAR) × (slice_index ds v ≤ length ms)
   at_most_walk v [] end leads g =
       let (inside, is) = goal_get goal end g in
       here _ _ (ap (slice_index ds) leads) ((dist.goals end inside).1 is)
     where
-      here : (a b : ℕ) → a ≡ b → b ≡ 0 → (a < far) × (a ≤ 0)
+      here : (a b : ℕ) → a ≡ b → b ≡ 0 → (a < FAR) × (a ≤ 0)
       here a b p q = (omega arith, omega arith)
   at_most_walk v (m ∷ ms) end (arc, is, may, from, rest) g =
       let (e, ise, same) = arc_edge m arc is in
@@ -49,10 +50,10 @@ module _ (ok : ℕ → Bool) (edges : List GraphEdge) (goal : List Bool) (ds : L
       let near = dist.nearby m e ise (ap (λ a. a.is_open) (sym same) ∙ may) (same_lt _ _ (ap (slice_index ds) (ap (λ a. a.to) same)) next.0) in
       here _ _ _ _ _ (ap (slice_index ds) (sym from ∙ ap (λ a. a.from) same)) (ap (slice_index ds) (ap (λ a. a.to) same)) near.reached near.near next.1
     where
-      same_lt : (a b : ℕ) → a ≡ b → a < far → b < far
+      same_lt : (a b : ℕ) → a ≡ b → a < FAR → b < FAR
       same_lt a b p q = omega arith
 
-      here : (v f t s n : ℕ) → v ≡ f → t ≡ s → f < far → f ≤ s + 1 → t ≤ n → (v < far) × (v ≤ suc n)
+      here : (v f t s n : ℕ) → v ≡ f → t ≡ s → f < FAR → f ≤ s + 1 → t ≤ n → (v < FAR) × (v ≤ suc n)
       here v f t s n p q r u w = (omega arith, omega arith)
 
   -- the first steps are a walk to a goal, as long as the distance
@@ -98,13 +99,13 @@ module _ (ok : ℕ → Bool) (edges : List GraphEdge) (goal : List Bool) (ds : L
       leaves : e.from ≡ v
       leaves = sym (ap (λ a. a.from) (arc_edge m arc is).2) ∙ from
 
-      next : (slice_index ds arc.to < far) × (slice_index ds arc.to ≤ length ms)
+      next : (slice_index ds arc.to < FAR) × (slice_index ds arc.to ≤ length ms)
       next = at_most_walk arc.to ms end rest g
 
       closer : slice_index ds e.to + 1 ≡ slice_index ds v
       closer = exact _ _ _ _ _ (ap (slice_index ds) to) next.1 size (dist.nearby m e ise on (same_lt _ _ (ap (slice_index ds) to) next.0)).near (ap (slice_index ds) leaves)
         where
-          same_lt : (a b : ℕ) → a ≡ b → a < far → b < far
+          same_lt : (a b : ℕ) → a ≡ b → a < FAR → b < FAR
           same_lt a b p q = omega arith
 
           exact : (a b l d f : ℕ) → a ≡ b → a ≤ l → suc l ≡ d → f ≤ b + 1 → f ≡ d → b + 1 ≡ d
@@ -160,7 +161,7 @@ module _ (ok : ℕ → Bool) (edges : List GraphEdge) (goal : List Bool) (ds : L
   pub no_walk : (starts : List ℕ) → AllFar starts ds → HasNoWalk (arcs) (is_goal goal) starts
   no_walk starts all place p w = against _ (at_most_walk p.start p.arcs w.end w.leads w.reaches).0 (all place p.start w.from_start)
     where
-      against : (a : ℕ) → a < far → far ≤ a → ⊥
+      against : (a : ℕ) → a < FAR → FAR ≤ a → ⊥
       against a p q = omega arith
 
 -- where each edge is open the arcs are those of the graph

@@ -5,23 +5,25 @@ use Rattle.std.proofs.lemmas.List.{get_or-set_same, get_or-set_other, length-set
 use Rattle.std.proofs.lemmas.List.Sums.{sum_by-set, count_by-le-length}
 use Rattle.std.proofs.lemmas.Bool.{cases_eq, cases_lt, eq-eqb, ne_eqb}
 use Rattle.least_walk.specs.declared.graphs.GraphEdge.{GraphEdge}
-use Rattle.least_walk.specs.Net.{no_edge, EndsIn}
+use Rattle.least_walk.specs.Net.{EndsIn}
 use Rattle.least_walk.specs.Chains.{IsLast, ends}
-use Rattle.least_walk.specs.Distances.{far, unreached, is_far, start_of, NearBy, HasStep, AreDistances, Spread}
+use Rattle.least_walk.specs.Distances.{unreached, is_far, start_of, NearBy, HasStep, AreDistances, Spread}
 use Rattle.least_walk.specs.Walks.{is_goal}
 use Rattle.gtrbac_model.specs.Graph.{item_at}
 use Rattle.least_walk.proofs.Items.{item_within, item_front, item_last, item_pushed, item_of_map, one_item}
 use Rattle.least_walk.proofs.Chaining.{IsLink, none_above}
+use Rattle.least_walk.specs.declared.chains.TheConstants.{NO_EDGE}
+use Rattle.least_walk.specs.declared.distances.TheConstants.{FAR}
 
 -- one fewer without a distance
-pub fewer_unreached : (ds : List ℕ) (v d : ℕ) → v < length ds → slice_index ds v ≡ far → d < far → unreached (slice_set ds v d) < unreached ds
+pub fewer_unreached : (ds : List ℕ) (v d : ℕ) → v < length ds → slice_index ds v ≡ FAR → d < FAR → unreached (slice_set ds v d) < unreached ds
 fewer_unreached ds v d h q lt =
-    less _ _ _ _ (sum_by-set weight ds v d 0 h) (ap weight q ∙ ap (λ b. cond b 1 0) (eq-eqb far far refl)) (ap (λ b. cond b 1 0) (ne_eqb d far (λ e. differ d e lt)))
+    less _ _ _ _ (sum_by-set weight ds v d 0 h) (ap weight q ∙ ap (λ b. cond b 1 0) (eq-eqb FAR FAR refl)) (ap (λ b. cond b 1 0) (ne_eqb d FAR (λ e. differ d e lt)))
   where
     weight : ℕ → ℕ
     weight d = cond (is_far d) 1 0
 
-    differ : (a : ℕ) → a ≡ far → a < far → ⊥
+    differ : (a : ℕ) → a ≡ FAR → a < FAR → ⊥
     differ a e l = omega arith
 
     less : (new old b a : ℕ) → new + b ≡ old + a → b ≡ 1 → a ≡ 0 → new < old
@@ -35,7 +37,7 @@ length_pushed [] y = refl
 length_pushed (x ∷ xs) y = let k : length (xs ++ y ∷ []) ≡ length xs + 1 = length_pushed xs y in omega (arith, k)
 
 -- an edge that gives its begin a distance
-module _ (ok : ℕ → Bool) (edges : List GraphEdge) (goal : List Bool) (ds queue : List ℕ) (head at n : ℕ) (e : GraphEdge) (is : item_at edges n ≡ Some e) (may : ok n ≡ true) (inside : e.from < length ds) (here : item_at queue head ≡ Some at) (to : e.to ≡ at) (new : slice_index ds e.from ≡ far) (small : length goal < far) (w : Spread ok edges goal ds queue head) where
+module _ (ok : ℕ → Bool) (edges : List GraphEdge) (goal : List Bool) (ds queue : List ℕ) (head at n : ℕ) (e : GraphEdge) (is : item_at edges n ≡ Some e) (may : ok n ≡ true) (inside : e.from < length ds) (here : item_at queue head ≡ Some at) (to : e.to ≡ at) (new : slice_index ds e.from ≡ FAR) (small : length goal < FAR) (w : Spread ok edges goal ds queue head) where
   abbrev near : ℕ
   near = slice_index ds at
 
@@ -45,13 +47,13 @@ module _ (ok : ℕ → Bool) (edges : List GraphEdge) (goal : List Bool) (ds que
   abbrev longer : List ℕ
   longer = queue ++ e.from ∷ []
 
-  near_far : near < far
+  near_far : near < FAR
   near_far = (w.members head at here).1
 
   some_unreached : unreached (slice_set ds e.from 0) < unreached ds
   some_unreached = fewer_unreached ds e.from 0 inside new (omega arith)
 
-  room : near + 1 < far
+  room : near + 1 < FAR
   room = omega (arith, w.few at near_far, some_unreached, small)
 
   fewer : unreached after < unreached ds
@@ -64,29 +66,29 @@ module _ (ok : ℕ → Bool) (edges : List GraphEdge) (goal : List Bool) (ds que
   there v h = get_or-set_other ds e.from v (near + 1) 0 h
 
   -- what had a distance keeps it
-  kept : (v : ℕ) → slice_index ds v < far → slice_index after v ≡ slice_index ds v
+  kept : (v : ℕ) → slice_index ds v < FAR → slice_index after v ≡ slice_index ds v
   kept v h = there v (λ q. no (slice_index ds v) (slice_index ds e.from) h (ap (slice_index ds) q) new)
     where
-      no : (a b : ℕ) → a < far → a ≡ b → b ≡ far → ⊥
+      no : (a b : ℕ) → a < FAR → a ≡ b → b ≡ FAR → ⊥
       no a b p q r = omega arith
 
   -- below `far` after: the new one, or as before
-  was : (v : ℕ) → slice_index after v < far → (v ≡ e.from) ⊎ ((v ≢ e.from) × (slice_index ds v < far))
+  was : (v : ℕ) → slice_index after v < FAR → (v ≡ e.from) ⊎ ((v ≢ e.from) × (slice_index ds v < FAR))
   was v h = elim (cases_eq v e.from) [ inl q ↦ inl q | inr n ↦ inr (n, lt _ _ (there v n) h) ]
     where
-      lt : (a b : ℕ) → a ≡ b → a < far → b < far
+      lt : (a b : ℕ) → a ≡ b → a < FAR → b < FAR
       lt a b p q = omega arith
 
-  pub nearby_kept : (f : GraphEdge) → slice_index ds f.to < far → NearBy ds f → NearBy after f
+  pub nearby_kept : (f : GraphEdge) → slice_index ds f.to < FAR → NearBy ds f → NearBy after f
   nearby_kept f h n = record { reached = lt _ _ (kept f.from n.reached) n.reached; near = le _ _ _ _ (kept f.from n.reached) (kept f.to h) n.near }
     where
-      lt : (a b : ℕ) → a ≡ b → b < far → a < far
+      lt : (a b : ℕ) → a ≡ b → b < FAR → a < FAR
       lt a b p q = omega arith
 
       le : (a b c d : ℕ) → a ≡ b → c ≡ d → b ≤ d + 1 → a ≤ c + 1
       le a b c d p q r = omega arith
 
-  step_kept : (v : ℕ) → slice_index ds v < far → HasStep ok edges ds v → HasStep ok edges after v
+  step_kept : (v : ℕ) → slice_index ds v < FAR → HasStep ok edges ds v → HasStep ok edges after v
   step_kept v h s = record {
     number = s.number;
     edge = s.edge;
@@ -96,14 +98,14 @@ module _ (ok : ℕ → Bool) (edges : List GraphEdge) (goal : List Bool) (ds que
     closer = eq _ _ _ _ (kept s.edge.to (lt _ _ h s.closer)) (kept v h) s.closer;
   }
     where
-      lt : (a b : ℕ) → a < far → b + 1 ≡ a → b < far
+      lt : (a b : ℕ) → a < FAR → b + 1 ≡ a → b < FAR
       lt a b p q = omega arith
 
       eq : (a b c d : ℕ) → a ≡ b → c ≡ d → b + 1 ≡ d → a + 1 ≡ c
       eq a b c d p q r = omega arith
 
   at_end : slice_index after e.to ≡ near
-  at_end = kept e.to (subst (λ u. slice_index ds u < far) (sym to) near_far) ∙ ap (slice_index ds) to
+  at_end = kept e.to (subst (λ u. slice_index ds u < FAR) (sym to) near_far) ∙ ap (slice_index ds) to
 
   own_step : HasStep ok edges after e.from
   own_step = record { number = n; edge = e; is = is; may = may; leaves = refl; closer = ap (λ k. k + 1) at_end ∙ sym own }
@@ -120,11 +122,11 @@ module _ (ok : ℕ → Bool) (edges : List GraphEdge) (goal : List Bool) (ds que
       no : (a b : ℕ) → a ≡ 0 → a ≡ b → b ≡ near + 1 → ⊥
       no a b p q r = omega arith
 
-      far_off : (a b : ℕ) → a ≡ 0 → a ≡ b → b ≡ far → ⊥
+      far_off : (a b : ℕ) → a ≡ 0 → a ≡ b → b ≡ FAR → ⊥
       far_off a b p q r = omega arith
 
   -- a place of the longer queue
-  placed : (i v : ℕ) → item_at longer i ≡ Some v → ((item_at queue i ≡ Some v) × (slice_index after v ≡ slice_index ds v) × (slice_index ds v < far)) ⊎ ((i ≡ length queue) × (v ≡ e.from) × (slice_index after v ≡ near + 1))
+  placed : (i v : ℕ) → item_at longer i ≡ Some v → ((item_at queue i ≡ Some v) × (slice_index after v ≡ slice_index ds v) × (slice_index ds v < FAR)) ⊎ ((i ≡ length queue) × (v ≡ e.from) × (slice_index after v ≡ near + 1))
   placed i v h = elim (item_pushed queue e.from i v h) [
     | inl k ↦ let low = (w.members i v k).1 in inl (k, kept v low, low)
     | inr k ↦ inr (k.0, sym k.1, ap (slice_index after) (sym k.1) ∙ own)
@@ -181,10 +183,10 @@ module _ (ok : ℕ → Bool) (edges : List GraphEdge) (goal : List Bool) (ds que
     ];
   }
     where
-      le_far : (a b : ℕ) → a ≡ b → b ≡ near + 1 → a ≤ far
+      le_far : (a b : ℕ) → a ≡ b → b ≡ near + 1 → a ≤ FAR
       le_far a b p q = omega (arith, room)
 
-      le_same : (a b : ℕ) → a ≡ b → b ≤ far → a ≤ far
+      le_same : (a b : ℕ) → a ≡ b → b ≤ FAR → a ≤ FAR
       le_same a b p q = omega arith
 
       pos : (a b : ℕ) → a ≡ b → 0 < a → 0 < b
@@ -196,10 +198,10 @@ module _ (ok : ℕ → Bool) (edges : List GraphEdge) (goal : List Bool) (ds que
       few_old : (a b u o : ℕ) → a ≡ b → u < o → b + o ≤ length goal → a + u ≤ length goal
       few_old a b u o p q r = omega arith
 
-      lt_eq : (a b : ℕ) → a ≡ b → b < far → a < far
+      lt_eq : (a b : ℕ) → a ≡ b → b < FAR → a < FAR
       lt_eq a b p q = omega arith
 
-      lt_room : (a : ℕ) → a ≡ near + 1 → a < far
+      lt_room : (a : ℕ) → a ≡ near + 1 → a < FAR
       lt_room a p = omega (arith, room)
 
       both : (a b c d : ℕ) → a ≡ b → c ≡ d → b ≤ d → a ≤ c
@@ -234,7 +236,7 @@ pub record Widened (ok : ℕ → Bool) (edges : List GraphEdge) (goal : List Boo
   pub spread : Spread ok edges goal ds queue head
   pub here : item_at queue head ≡ Some at
   pub link : IsLink (ends edges) at n
-  pub passed : (m : ℕ) (e : GraphEdge) → item_at edges m ≡ Some e → e.to ≡ at → (n ≡ no_edge) ⊎ (n < m) → ok m ≡ true → NearBy ds e
+  pub passed : (m : ℕ) (e : GraphEdge) → item_at edges m ≡ Some e → e.to ≡ at → (n ≡ NO_EDGE) ⊎ (n < m) → ok m ≡ true → NearBy ds e
   pub fewer : length queue + unreached ds ≤ total
 
 pub length_ends : (edges : List GraphEdge) → length (ends edges) ≡ length edges
@@ -244,19 +246,19 @@ end_at : (edges : List GraphEdge) (m : ℕ) (e : GraphEdge) (at : ℕ) → item_
 end_at edges m e at is to = item_of_map (λ e. e.to) edges m e is ∙ ap Some to
 
 pub widened_start : (ok : ℕ → Bool) (edges : List GraphEdge) (goal : List Bool) (ds queue : List ℕ) (head at n : ℕ) → Spread ok edges goal ds queue head → item_at queue head ≡ Some at
-    → IsLast (ends edges) at (length (ends edges)) n → IsLink (ends edges) at n → length edges ≤ no_edge → Widened ok edges goal ds queue head at n (length queue + unreached ds)
+    → IsLast (ends edges) at (length (ends edges)) n → IsLink (ends edges) at n → length edges ≤ NO_EDGE → Widened ok edges goal ds queue head at n (length queue + unreached ds)
 widened_start ok edges goal ds queue head at n s here last link few = record {
   spread = s;
   here = here;
   link = link;
   passed = λ m e is to above on.
-      absurd (none_above (ends edges) at (length (ends edges)) n last (subst (λ k. k ≤ no_edge) (sym (length_ends edges)) few) m (subst (λ k. m < k) (sym (length_ends edges)) (item_within edges m e is)) (end_at edges m e at is to) above);
+      absurd (none_above (ends edges) at (length (ends edges)) n last (subst (λ k. k ≤ NO_EDGE) (sym (length_ends edges)) few) m (subst (λ k. m < k) (sym (length_ends edges)) (item_within edges m e is)) (end_at edges m e at is to) above);
   fewer = omega arith;
 }
 
 -- the next edge of the chain
-module _ (ok : ℕ → Bool) (edges : List GraphEdge) (goal : List Bool) (ds queue : List ℕ) (head at n n' total : ℕ) (few : length edges ≤ no_edge) (e : GraphEdge) (is : item_at edges n ≡ Some e) (last : IsLast (ends edges) at n n') (link : IsLink (ends edges) at n') where
-  below : n ≤ no_edge
+module _ (ok : ℕ → Bool) (edges : List GraphEdge) (goal : List Bool) (ds queue : List ℕ) (head at n n' total : ℕ) (few : length edges ≤ NO_EDGE) (e : GraphEdge) (is : item_at edges n ≡ Some e) (last : IsLast (ends edges) at n n') (link : IsLink (ends edges) at n') where
+  below : n ≤ NO_EDGE
   below = omega (arith, item_within edges n e is, few)
 
   which : (m : ℕ) → (m < n) ⊎ ((m ≡ n) ⊎ (n < m))
@@ -277,7 +279,7 @@ module _ (ok : ℕ → Bool) (edges : List GraphEdge) (goal : List Bool) (ds que
   }
 
   -- it gives its begin a distance
-  pub widened_found : (may : ok n ≡ true) (inside : e.from < length ds) (to : e.to ≡ at) (new : slice_index ds e.from ≡ far) (small : length goal < far) → Widened ok edges goal ds queue head at n total
+  pub widened_found : (may : ok n ≡ true) (inside : e.from < length ds) (to : e.to ≡ at) (new : slice_index ds e.from ≡ FAR) (small : length goal < FAR) → Widened ok edges goal ds queue head at n total
       → Widened ok edges goal (slice_set ds e.from (slice_index ds at + 1)) (queue ++ e.from ∷ []) head at n' total
   widened_found may inside to new small w = record {
     spread = spread_found ok edges goal ds queue head at n e is may inside w.here to new small w.spread;
@@ -290,25 +292,25 @@ module _ (ok : ℕ → Bool) (edges : List GraphEdge) (goal : List Bool) (ds que
           (own_nearby ok edges goal ds queue head at n e is may inside w.here to new small w.spread)
       | inr (inr h) ↦
           nearby_kept ok edges goal ds queue head at n e is may inside w.here to new small w.spread f
-          (subst (λ u. slice_index ds u < far) (sym to_f) (w.spread.members head at w.here).1) (w.passed m f isf to_f (inr h) on)
+          (subst (λ u. slice_index ds u < FAR) (sym to_f) (w.spread.members head at w.here).1) (w.passed m f isf to_f (inr h) on)
     ];
     fewer = omega (arith, w.fewer, length_pushed queue e.from, fewer ok edges goal ds queue head at n e is may inside w.here to new small w.spread);
   }
 
 -- an edge to the node at the head whose begin has a distance
-pub near_already : (ok : ℕ → Bool) (edges : List GraphEdge) (goal : List Bool) (ds queue : List ℕ) (head at : ℕ) (e : GraphEdge) → Spread ok edges goal ds queue head → item_at queue head ≡ Some at → e.to ≡ at → slice_index ds e.from ≢ far → NearBy ds e
+pub near_already : (ok : ℕ → Bool) (edges : List GraphEdge) (goal : List Bool) (ds queue : List ℕ) (head at : ℕ) (e : GraphEdge) → Spread ok edges goal ds queue head → item_at queue head ≡ Some at → e.to ≡ at → slice_index ds e.from ≢ FAR → NearBy ds e
 near_already ok edges goal ds queue head at e s here to ne =
-    let r : slice_index ds e.from < far = lt _ (s.bound e.from) ne in
+    let r : slice_index ds e.from < FAR = lt _ (s.bound e.from) ne in
     record { reached = r; near = le _ _ _ (s.within head at e.from (omega arith) here r) (ap (slice_index ds) to) }
   where
-    lt : (a : ℕ) → a ≤ far → a ≢ far → a < far
+    lt : (a : ℕ) → a ≤ FAR → a ≢ FAR → a < FAR
     lt a h n = omega arith
 
     le : (a b c : ℕ) → a ≤ b + 1 → c ≡ b → a ≤ c + 1
     le a b c p q = omega arith
 
 -- all edges of the node at the head are looked at
-pub widened_end : (ok : ℕ → Bool) (edges : List GraphEdge) (goal : List Bool) (ds queue : List ℕ) (head at n total : ℕ) → n ≡ no_edge → Widened ok edges goal ds queue head at n total → Spread ok edges goal ds queue (head + 1)
+pub widened_end : (ok : ℕ → Bool) (edges : List GraphEdge) (goal : List Bool) (ds queue : List ℕ) (head at n total : ℕ) → n ≡ NO_EDGE → Widened ok edges goal ds queue head at n total → Spread ok edges goal ds queue (head + 1)
 widened_end ok edges goal ds queue head at n total none w =
     let s = w.spread in
     record {
@@ -359,7 +361,7 @@ marked_within [] v g = cc
 marked_within (x ∷ gs) zero g = omega arith
 marked_within (x ∷ gs) (suc v) g = let k : v < length gs = marked_within gs v g in omega (arith, k)
 
-marked : (goal : List Bool) (v : ℕ) → v < length goal → slice_index (map start_of goal) v < far → is_goal goal v ≡ true
+marked : (goal : List Bool) (v : ℕ) → v < length goal → slice_index (map start_of goal) v < FAR → is_goal goal v ≡ true
 marked [] v low h = absurd (omega arith)
 marked (true ∷ gs) zero low h = refl
 marked (false ∷ gs) zero low h = absurd (omega arith)
@@ -406,7 +408,7 @@ spread_start ok edges goal = record {
     none : (a : ℕ) → a < 0 → ⊥
     none a h = omega arith
 
-    zero_far : (a : ℕ) → a ≡ 0 → a < far
+    zero_far : (a : ℕ) → a ≡ 0 → a < FAR
     zero_far a h = omega arith
 
     least : (a b : ℕ) → a ≡ 0 → a ≤ b
@@ -418,7 +420,7 @@ spread_start ok edges goal = record {
     few_first : (a u n : ℕ) → a ≤ 0 → u ≤ n → n ≡ length goal → a + u ≤ length goal
     few_first a u n p q r = omega arith
 
-    at_most : (v : ℕ) (goal : List Bool) → slice_index (map start_of goal) v ≤ far
+    at_most : (v : ℕ) (goal : List Bool) → slice_index (map start_of goal) v ≤ FAR
     at_most v [] = omega arith
     at_most zero (true ∷ gs) = omega arith
     at_most zero (false ∷ gs) = omega arith
@@ -436,13 +438,13 @@ spread_start ok edges goal = record {
     at_goal zero (false ∷ gs) g = cc
     at_goal (suc v) (x ∷ gs) g = at_goal v gs g
 
-    neither : (v : ℕ) (goal : List Bool) → 0 < slice_index (map start_of goal) v → slice_index (map start_of goal) v < far → ⊥
+    neither : (v : ℕ) (goal : List Bool) → 0 < slice_index (map start_of goal) v → slice_index (map start_of goal) v < FAR → ⊥
     neither v [] s h = omega arith
     neither zero (true ∷ gs) s h = omega arith
     neither zero (false ∷ gs) s h = omega arith
     neither (suc v) (g ∷ gs) s h = neither v gs s h
 
-    zero_only : (v : ℕ) (goal : List Bool) → slice_index (map start_of goal) v < far → slice_index (map start_of goal) v ≤ 0
+    zero_only : (v : ℕ) (goal : List Bool) → slice_index (map start_of goal) v < FAR → slice_index (map start_of goal) v ≤ 0
     zero_only v [] h = omega arith
     zero_only zero (true ∷ gs) h = omega arith
     zero_only zero (false ∷ gs) h = omega arith

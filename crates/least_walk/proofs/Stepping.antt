@@ -3,12 +3,13 @@ use Rattle.std.proofs.Common.{◌≡◌, ℕ, ◌+◌, ◌<◌, ◌≤◌, ◌�
 use Rattle.std.proofs.lemmas.List.{length-map}
 use Rattle.std.proofs.lemmas.Bool.{cases_lt}
 use Rattle.least_walk.specs.declared.graphs.GraphEdge.{GraphEdge}
-use Rattle.least_walk.specs.Distances.{far, AreDistances}
-use Rattle.least_walk.specs.Net.{no_edge}
-use Rattle.least_walk.specs.Chains.{IsLast, begins}
+use Rattle.least_walk.specs.Distances.{AreDistances}
+use Rattle.least_walk.specs.Chains.{IsLast, edge_begins}
 use Rattle.least_walk.specs.Walks.{IsFirstStep, IsNearest, AllFar}
 use Rattle.least_walk.proofs.Items.{item_within, item_of_map, one_item}
 use Rattle.least_walk.proofs.Chaining.{IsLink, none_above}
+use Rattle.least_walk.specs.declared.chains.TheConstants.{NO_EDGE}
+use Rattle.least_walk.specs.declared.distances.TheConstants.{FAR}
 use Rattle.gtrbac_model.specs.Graph.{item_at}
 
 -- the best of the first i starts
@@ -17,11 +18,11 @@ pub record Best (starts ds : List ℕ) (least i s : ℕ) : Type 0 where
   pub earlier : place < i
   pub is : item_at starts place ≡ Some s
   pub tells : slice_index ds s ≡ least
-  pub reached : least < far
+  pub reached : least < FAR
   pub others : (j t : ℕ) → j < i → item_at starts j ≡ Some t → (least < slice_index ds t) ⊎ ((least ≡ slice_index ds t) × (place ≤ j))
 
 abbrev pub BestOf : List ℕ → List ℕ → ℕ → ℕ → Option ℕ → Type 0
-BestOf starts ds least i None = (least ≡ far) × ((j t : ℕ) → j < i → item_at starts j ≡ Some t → far ≤ slice_index ds t)
+BestOf starts ds least i None = (least ≡ FAR) × ((j t : ℕ) → j < i → item_at starts j ≡ Some t → FAR ≤ slice_index ds t)
 BestOf starts ds least i (Some s) = Best starts ds least i s
 
 next_or_before : (a n : ℕ) → a < n + 1 → (a < n) ⊎ (a ≡ n)
@@ -37,7 +38,7 @@ best_stays starts ds least i s None is le (a, b) = (
   ],
 )
   where
-    up : (a b d : ℕ) → a ≡ far → a ≤ b → b ≡ d → far ≤ d
+    up : (a b d : ℕ) → a ≡ FAR → a ≤ b → b ≡ d → FAR ≤ d
     up a b d p q r = omega arith
 best_stays starts ds least i s (Some b) is le w =
     record {
@@ -62,7 +63,7 @@ best_stays starts ds least i s (Some b) is le w =
     last j t k isj = order _ _ _ _ _ le (ap (slice_index ds) (one_item starts i s t is (ap (item_at starts) (sym k) ∙ isj))) w.earlier k
 
 -- the start at i is nearer
-pub best_found : (starts ds : List ℕ) (least i s : ℕ) (best : Option ℕ) → item_at starts i ≡ Some s → slice_index ds s < least → least ≤ far → BestOf starts ds least i best → BestOf starts ds (slice_index ds s) (i + 1) (Some s)
+pub best_found : (starts ds : List ℕ) (least i s : ℕ) (best : Option ℕ) → item_at starts i ≡ Some s → slice_index ds s < least → least ≤ FAR → BestOf starts ds least i best → BestOf starts ds (slice_index ds s) (i + 1) (Some s)
 best_found starts ds least i s best is lt le w =
     record {
       place = i;
@@ -79,13 +80,13 @@ best_found starts ds least i s best is lt le w =
     more_one : (n : ℕ) → n < n + 1
     more_one n = omega arith
 
-    below : (a b : ℕ) → a < b → b ≤ far → a < far
+    below : (a b : ℕ) → a < b → b ≤ FAR → a < FAR
     below a b p q = omega arith
 
     at_most : (j : ℕ) → j ≡ i → i ≤ j
     at_most j k = omega arith
 
-    under : (a b c : ℕ) → a < b → b ≤ far → far ≤ c → a < c
+    under : (a b c : ℕ) → a < b → b ≤ FAR → FAR ≤ c → a < c
     under a b c p q r = omega arith
 
     under_less : (a b c : ℕ) → a < b → b < c → a < c
@@ -120,7 +121,7 @@ best_some starts ds least i s le w =
     lt : (a b c : ℕ) → a < b → b ≤ c → a < c
     lt a b c p q = omega arith
 
-    below : (a b : ℕ) → a ≡ b → b < far → a < far
+    below : (a b : ℕ) → a ≡ b → b < FAR → a < FAR
     below a b p q = omega arith
 
     less : (a b c : ℕ) → a ≡ b → b < c → a < c
@@ -133,40 +134,40 @@ pub record BestStep (ok : ℕ → Bool) (edges : List GraphEdge) (ds : List ℕ)
   pub may : ok best ≡ true
   pub leaves : edge.from ≡ at
   pub closer : slice_index ds edge.to + 1 ≡ slice_index ds at
-  pub least : (m : ℕ) (e : GraphEdge) → item_at edges m ≡ Some e → ok m ≡ true → e.from ≡ at → slice_index ds e.to + 1 ≡ slice_index ds at → (n ≡ no_edge) ⊎ (n < m) → best ≤ m
+  pub least : (m : ℕ) (e : GraphEdge) → item_at edges m ≡ Some e → ok m ≡ true → e.from ≡ at → slice_index ds e.to + 1 ≡ slice_index ds at → (n ≡ NO_EDGE) ⊎ (n < m) → best ≤ m
 
 abbrev pub NoStep : (ℕ → Bool) → List GraphEdge → List ℕ → ℕ → ℕ → Type 0
-NoStep ok edges ds at n = (m : ℕ) (e : GraphEdge) → item_at edges m ≡ Some e → ok m ≡ true → e.from ≡ at → slice_index ds e.to + 1 ≡ slice_index ds at → (n ≡ no_edge) ⊎ (n < m) → ⊥
+NoStep ok edges ds at n = (m : ℕ) (e : GraphEdge) → item_at edges m ≡ Some e → ok m ≡ true → e.from ≡ at → slice_index ds e.to + 1 ≡ slice_index ds at → (n ≡ NO_EDGE) ⊎ (n < m) → ⊥
 
 pub record Stepped (ok : ℕ → Bool) (edges : List GraphEdge) (ds : List ℕ) (at n best : ℕ) : Type 0 where
-  pub link : IsLink (begins edges) at n
-  pub kept : ((best ≡ no_edge) × NoStep ok edges ds at n) ⊎ BestStep ok edges ds at n best
+  pub link : IsLink (edge_begins edges) at n
+  pub kept : ((best ≡ NO_EDGE) × NoStep ok edges ds at n) ⊎ BestStep ok edges ds at n best
 
-pub length_begins : (edges : List GraphEdge) → length (begins edges) ≡ length edges
+pub length_begins : (edges : List GraphEdge) → length (edge_begins edges) ≡ length edges
 length_begins edges = length-map edges (λ e. e.from)
 
-begin_at : (edges : List GraphEdge) (m : ℕ) (e : GraphEdge) (at : ℕ) → item_at edges m ≡ Some e → e.from ≡ at → item_at (begins edges) m ≡ Some at
+begin_at : (edges : List GraphEdge) (m : ℕ) (e : GraphEdge) (at : ℕ) → item_at edges m ≡ Some e → e.from ≡ at → item_at (edge_begins edges) m ≡ Some at
 begin_at edges m e at is from = item_of_map (λ e. e.from) edges m e is ∙ ap Some from
 
-pub stepped_start : (ok : ℕ → Bool) (edges : List GraphEdge) (ds : List ℕ) (at n : ℕ) → IsLast (begins edges) at (length (begins edges)) n → IsLink (begins edges) at n → length edges ≤ no_edge → Stepped ok edges ds at n no_edge
+pub stepped_start : (ok : ℕ → Bool) (edges : List GraphEdge) (ds : List ℕ) (at n : ℕ) → IsLast (edge_begins edges) at (length (edge_begins edges)) n → IsLink (edge_begins edges) at n → length edges ≤ NO_EDGE → Stepped ok edges ds at n NO_EDGE
 stepped_start ok edges ds at n last link few = record {
   link = link;
   kept = inl (
     refl,
     λ m e is on from closer above.
-        none_above (begins edges) at (length (begins edges)) n last (subst (λ k. k ≤ no_edge) (sym (length_begins edges)) few) m (subst (λ k. m < k) (sym (length_begins edges)) (item_within edges m e is)) (begin_at edges m e at is from) above,
+        none_above (edge_begins edges) at (length (edge_begins edges)) n last (subst (λ k. k ≤ NO_EDGE) (sym (length_begins edges)) few) m (subst (λ k. m < k) (sym (length_begins edges)) (item_within edges m e is)) (begin_at edges m e at is from) above,
   );
 }
 
-module _ (ok : ℕ → Bool) (edges : List GraphEdge) (ds : List ℕ) (at n n' : ℕ) (few : length edges ≤ no_edge) (e : GraphEdge) (is : item_at edges n ≡ Some e) (last : IsLast (begins edges) at n n') (link : IsLink (begins edges) at n') where
-  below : n ≤ no_edge
+module _ (ok : ℕ → Bool) (edges : List GraphEdge) (ds : List ℕ) (at n n' : ℕ) (few : length edges ≤ NO_EDGE) (e : GraphEdge) (is : item_at edges n ≡ Some e) (last : IsLast (edge_begins edges) at n n') (link : IsLink (edge_begins edges) at n') where
+  below : n ≤ NO_EDGE
   below = omega (arith, item_within edges n e is, few)
 
   which : (m : ℕ) → (m < n) ⊎ ((m ≡ n) ⊎ (n < m))
   which m = elim (cases_lt m n) [ inl k ↦ inl k | inr k ↦ elim (cases_lt n m) [ inl h ↦ inr (inr h) | inr h ↦ inr (inl (omega arith)) ] ]
 
-  low_none : (m : ℕ) (f : GraphEdge) → m < n → item_at edges m ≡ Some f → f.from ≡ at → (n' ≡ no_edge) ⊎ (n' < m) → ⊥
-  low_none m f low isf from above = none_above (begins edges) at n n' last below m low (begin_at edges m f at isf from) above
+  low_none : (m : ℕ) (f : GraphEdge) → m < n → item_at edges m ≡ Some f → f.from ≡ at → (n' ≡ NO_EDGE) ⊎ (n' < m) → ⊥
+  low_none m f low isf from above = none_above (edge_begins edges) at n n' last below m low (begin_at edges m f at isf from) above
 
   -- an edge that does not lead closer
   pub stepped_skip : (best : ℕ) → (ok n ≡ true → slice_index ds e.to + 1 ≡ slice_index ds at → ⊥) → Stepped ok edges ds at n best → Stepped ok edges ds at n' best
@@ -177,7 +178,7 @@ module _ (ok : ℕ → Bool) (edges : List GraphEdge) (ds : List ℕ) (at n n' :
           let same : e ≡ f = one_item edges m e f (ap (item_at edges) q ∙ is) isf in
           other (subst (λ k. ok k ≡ true) q on) (ap (λ g. slice_index ds g.to + 1) same ∙ closer)
 
-      on_with : ((best ≡ no_edge) × NoStep ok edges ds at n) ⊎ BestStep ok edges ds at n best → ((best ≡ no_edge) × NoStep ok edges ds at n') ⊎ BestStep ok edges ds at n' best
+      on_with : ((best ≡ NO_EDGE) × NoStep ok edges ds at n) ⊎ BestStep ok edges ds at n best → ((best ≡ NO_EDGE) × NoStep ok edges ds at n') ⊎ BestStep ok edges ds at n' best
       on_with (inl (vacant, none)) = inl (
         vacant,
         λ m f isf on from closer above. elim (which m) [
@@ -224,10 +225,10 @@ module _ (ok : ℕ → Bool) (edges : List GraphEdge) (ds : List ℕ) (at n n' :
       up m h = omega arith
 
 -- a node at a distance has a step, so the least is found
-pub stepped_all : (ok : ℕ → Bool) (edges : List GraphEdge) (goal : List Bool) (ds : List ℕ) (at n best : ℕ) → n ≡ no_edge → 0 < slice_index ds at → slice_index ds at < far → AreDistances ok edges goal ds → Stepped ok edges ds at n best → IsFirstStep ok edges ds at best
+pub stepped_all : (ok : ℕ → Bool) (edges : List GraphEdge) (goal : List Bool) (ds : List ℕ) (at n best : ℕ) → n ≡ NO_EDGE → 0 < slice_index ds at → slice_index ds at < FAR → AreDistances ok edges goal ds → Stepped ok edges ds at n best → IsFirstStep ok edges ds at best
 stepped_all ok edges goal ds at n best none some h dist s = go s.kept
   where
-    go : ((best ≡ no_edge) × NoStep ok edges ds at n) ⊎ BestStep ok edges ds at n best → IsFirstStep ok edges ds at best
+    go : ((best ≡ NO_EDGE) × NoStep ok edges ds at n) ⊎ BestStep ok edges ds at n best → IsFirstStep ok edges ds at best
     go (inl (vacant, nothing)) = let t = dist.steps at some h in absurd (nothing t.number t.edge t.is t.may t.leaves t.closer (inl none))
     go (inr b) = record {
       edge = b.edge;
@@ -243,7 +244,7 @@ pub one_closer : (ok : ℕ → Bool) (edges : List GraphEdge) (goal : List Bool)
 one_closer ok edges goal ds n at e dist is on from lt =
     exact _ _ _ (dist.nearby n e is on (near _ _ lt (dist.bound at))).near (ap (slice_index ds) from) lt
   where
-    near : (a b : ℕ) → a < b → b ≤ far → a < far
+    near : (a b : ℕ) → a < b → b ≤ FAR → a < FAR
     near a b p q = omega arith
 
     exact : (a b c : ℕ) → a ≤ b + 1 → a ≡ c → b < c → b + 1 ≡ c

@@ -3,7 +3,7 @@ use Rattle.std.specs.Prelude.{◌≡◌, ℕ, ◌+◌, ◌<◌, ◌≤◌, ◌�
 use Rattle.gtrbac_model.specs.Graph.{item_at}
 use Rattle.least_walk.specs.declared.graphs.GraphEdge.{GraphEdge}
 use Rattle.least_walk.specs.declared.chains.Adjacency.{Adjacency}
-use Rattle.least_walk.specs.Net.{no_edge}
+use Rattle.least_walk.specs.declared.chains.TheConstants.{NO_EDGE}
 
 -- of the numbers from a up to b none has this key
 abbrev pub NoneFrom : List ℕ → ℕ → ℕ → ℕ → Type 0
@@ -11,7 +11,7 @@ NoneFrom keys v a b = (m : ℕ) → a ≤ m → m < b → item_at keys m ≡ Som
 
 -- the last number below b that has the key, or none
 abbrev pub IsLast : List ℕ → ℕ → ℕ → ℕ → Type 0
-IsLast keys v b n = ((n ≡ no_edge) × NoneFrom keys v 0 b)
+IsLast keys v b n = ((n ≡ NO_EDGE) × NoneFrom keys v 0 b)
     ⊎ ((n < b) × (item_at keys n ≡ Some v) × NoneFrom keys v (n + 1) b)
 
 -- for each key its last number, and for each number the one before it with the same key
@@ -21,13 +21,13 @@ pub record AreChains (keys last before : List ℕ) : Type 0 where
   pub rest : (v : ℕ) → length last ≤ v → NoneFrom keys v 0 (length keys)
   pub befores : (n v : ℕ) → item_at keys n ≡ Some v → IsLast keys v n (slice_index before n)
 
-abbrev pub begins : List GraphEdge → List ℕ
-begins edges = map (λ e. e.from) edges
+abbrev pub edge_begins : List GraphEdge → List ℕ
+edge_begins edges = map (λ e. e.from) edges
 
 abbrev pub ends : List GraphEdge → List ℕ
 ends edges = map (λ e. e.to) edges
 
 -- the edges of each node by their begins and by their ends
 pub record IsAdjacency (edges : List GraphEdge) (a : Adjacency) : Type 0 where
-  pub out : AreChains (begins edges) a.out.last.items a.out.before.items
+  pub out : AreChains (edge_begins edges) a.out.last.items a.out.before.items
   pub into : AreChains (ends edges) a.into.last.items a.into.before.items

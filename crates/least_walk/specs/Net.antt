@@ -2,6 +2,7 @@
 use Rattle.std.specs.Prelude.{◌≡◌, ℕ, ◌<◌, ◌≤◌, Bool, true, false, List, length, map, Some, None}
 use Rattle.std.specs.List.{enumerate_from}
 use Rattle.least_walk.specs.declared.graphs.GraphEdge.{GraphEdge}
+use Rattle.least_walk.specs.declared.chains.TheConstants.{NO_EDGE}
 use Rattle.gtrbac_model.specs.Graph.{Arc, item_at}
 
 -- so many nodes, numbered from 0, and the edges among them, numbered from 0
@@ -20,7 +21,7 @@ EndsIn nodes edges = (n : ℕ) (e : GraphEdge) → item_at edges n ≡ Some e �
 -- each edge joins nodes, and each number of an edge is below 4,294,967,295
 pub record IsNet (g : Net) : Type 0 where
   pub ends : EndsIn g.nodes g.edges
-  pub few : length g.edges ≤ 4_294_967_295
+  pub few : length g.edges ≤ NO_EDGE
 
 abbrev pub arc_of : GraphEdge → Arc ℕ
 arc_of e = record { from = e.from; to = e.to; is_open = true }
@@ -28,10 +29,6 @@ arc_of e = record { from = e.from; to = e.to; is_open = true }
 -- the edges as arcs, all of them open
 abbrev pub arcs_of : List GraphEdge → List (Arc ℕ)
 arcs_of edges = map arc_of edges
-
--- what stands for no edge
-abbrev pub no_edge : ℕ
-no_edge = 4_294_967_295
 
 -- the edges as arcs, open where the test passes their number
 abbrev pub arcs_by : (ℕ → Bool) → List GraphEdge → List (Arc ℕ)

@@ -2,9 +2,9 @@
 use Rattle.std.specs.Prelude.{◌≡◌, ℕ, ◌+◌, ◌<◌, ◌≤◌, ◌⊎◌, Bool, true, false, List, [], ◌∷◌, length, slice_index, Some}
 use Rattle.std.specs.List.{slice_index_or}
 use Rattle.least_walk.specs.declared.graphs.GraphEdge.{GraphEdge}
-use Rattle.least_walk.specs.Distances.{far}
 use Rattle.gtrbac_model.specs.Graph.{Arc, Path, LeadsAlong, IsWalk, item_at}
 use Rattle.least_walk.specs.Net.{arcs_of}
+use Rattle.least_walk.specs.declared.distances.TheConstants.{FAR}
 
 -- whether the node is a goal
 abbrev pub is_goal : List Bool → ℕ → Bool
@@ -35,14 +35,14 @@ Descends ok edges ds v (n ∷ ns) = (step : IsFirstStep ok edges ds v n)
 pub record IsNearest (starts : List ℕ) (ds : List ℕ) (s : ℕ) : Type 0 where
   pub place : ℕ
   pub is : item_at starts place ≡ Some s
-  pub reached : slice_index ds s < far
+  pub reached : slice_index ds s < FAR
   pub least : (j t : ℕ) → item_at starts j ≡ Some t
       → (slice_index ds s < slice_index ds t)
       ⊎ ((slice_index ds s ≡ slice_index ds t) × (place ≤ j))
 
 -- no start is at a distance
 abbrev pub AllFar : List ℕ → List ℕ → Type 0
-AllFar starts ds = (j t : ℕ) → item_at starts j ≡ Some t → far ≤ slice_index ds t
+AllFar starts ds = (j t : ℕ) → item_at starts j ≡ Some t → FAR ≤ slice_index ds t
 
 -- marked are the nodes from which a walk leads to a goal: with the end of an edge its begin is
 -- marked, and from each a walk leads there

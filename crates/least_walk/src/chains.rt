@@ -2,14 +2,14 @@
 ghost use Rattle.std.specs.Prelude.{◌≡◌, ℕ, ◌<◌, ◌≤◌, map, length, IfOk, Some};
 ghost use Rattle.std.specs.List.{slice_index_or, range_with_len};
 ghost use Rattle.gtrbac_model.specs.Graph.{item_at};
-ghost use Rattle.least_walk.specs.Net.{EndsIn, no_edge};
-ghost use Rattle.least_walk.specs.Chains.{AreChains, IsAdjacency, begins, ends};
+ghost use Rattle.least_walk.specs.Net.{EndsIn};
+ghost use Rattle.least_walk.specs.Chains.{AreChains, IsAdjacency, edge_begins, ends};
 
 use crate::graphs::GraphEdge;
 use std::alloc::{AllocError, Global};
 
 /// Stands for no edge.
-pub(crate) const NONE: u32 = u32::MAX;
+pub(crate) const NO_EDGE: u32 = u32::MAX;
 
 /// For each node the last of its edges, and for each edge the one before it of the same node.
 #[derive(Drop)]
@@ -34,7 +34,7 @@ impl Adjacency {
     /// The edges by their nodes, of which there are so many.
     pub fn new(alloc: Global, nodes: u32, edges: &[GraphEdge]) -> Result<Adjacency, AllocError>
         requires ends { EndsIn nodes edges.now }
-        requires few { length edges.now ≤ no_edge }
+        requires few { length edges.now ≤ NO_EDGE }
         ensures { IfOk result (IsAdjacency edges.now) }
     {
         let begins = begins_of(alloc, edges)?;
@@ -47,7 +47,7 @@ impl Adjacency {
 
 /// Where the edges begin.
 fn begins_of(alloc: Global, edges: &[GraphEdge]) -> Result<Vec<u32>, AllocError>
-    ensures { IfOk result (λ nodes. nodes.items ≡ begins edges.now) }
+    ensures { IfOk result (λ nodes. nodes.items ≡ edge_begins edges.now) }
 {
     edges.iter().map(|e| e.from).collect(alloc)
 }
@@ -63,7 +63,7 @@ fn ends_of(alloc: Global, edges: &[GraphEdge]) -> Result<Vec<u32>, AllocError>
 /// key.
 fn chains_of(alloc: Global, nodes: u32, keys: &[u32]) -> Result<Chains, AllocError>
     requires keys { (n v : ℕ) → item_at keys.now n ≡ Some v → v < nodes }
-    requires few { length keys.now ≤ no_edge }
+    requires few { length keys.now ≤ NO_EDGE }
     ensures { IfOk result (λ chains. AreChains keys.now chains.last.items chains.before.items) }
 {
     let mut last = no_edges(alloc, nodes)?;
@@ -77,17 +77,17 @@ fn chains_of(alloc: Global, nodes: u32, keys: &[u32]) -> Result<Chains, AllocErr
 
 /// No edge for any node.
 fn no_edges(alloc: Global, nodes: u32) -> Result<Vec<u32>, AllocError>
-    ensures { IfOk result (λ none. none.items ≡ map (λ v. no_edge) (range_with_len 0 nodes)) }
+    ensures { IfOk result (λ none. none.items ≡ map (λ v. NO_EDGE) (range_with_len 0 nodes)) }
 {
-    (0..nodes).map(|_| NONE).collect(alloc)
+    (0..nodes).map(|_| NO_EDGE).collect(alloc)
 }
 
 /// The last edge of the node.
 pub(crate) fn last_of(chains: &Chains, v: u32) -> u32
-    ensures { result ≡ slice_index_or chains.now.last.items v no_edge }
+    ensures { result ≡ slice_index_or chains.now.last.items v NO_EDGE }
 {
     match chains.last.get(v as usize) {
         Some(n) => *n,
-        None => NONE,
+        None => NO_EDGE,
     }
 }

@@ -1,12 +1,12 @@
 //! How far each node is from the goals.
 ghost use Rattle.std.specs.Prelude.{◌≡◌, ◌+◌, ◌<◌, ◌≤◌, ◌^◌, map, filter, length, IfOk, OnOk, true, false};
 ghost use Rattle.std.specs.List.{range_with_len};
-ghost use Rattle.least_walk.specs.Net.{EndsIn, no_edge};
+ghost use Rattle.least_walk.specs.Net.{EndsIn};
 ghost use Rattle.least_walk.specs.Chains.{AreChains, ends};
 ghost use Rattle.least_walk.specs.Distances.{unreached, start_of, AreDistances, Spread};
 ghost use Rattle.least_walk.specs.Walks.{is_goal};
 
-use crate::chains::{Chains, NONE, last_of};
+use crate::chains::{Chains, NO_EDGE, last_of};
 use crate::graphs::GraphEdge;
 use crate::passing::Passable;
 use std::alloc::{AllocError, Global};
@@ -25,7 +25,7 @@ pub(crate) fn distances<P: Passable>(
 ) -> Result<Vec<usize>, AllocError>
     requires ends { EndsIn (length goal.now) edges.now }
     requires few { length goal.now < 2 ^ 32 }
-    requires edges { length edges.now ≤ no_edge }
+    requires edges { length edges.now ≤ NO_EDGE }
     requires chains { AreChains (ends edges.now) into.now.last.items into.now.before.items }
     ensures { IfOk result (λ ds. AreDistances (P.passes by.now) edges.now goal.now ds.items) }
 {
@@ -82,7 +82,7 @@ fn widen<P: Passable>(
 ) -> Result<(), AllocError>
     requires ends { EndsIn (length goal.now) edges.now }
     requires few { length goal.now < 2 ^ 32 }
-    requires edges { length edges.now ≤ no_edge }
+    requires edges { length edges.now ≤ NO_EDGE }
     requires chains { AreChains (ends edges.now) into.now.last.items into.now.before.items }
     requires head { head < length found.old.items }
     requires spread { Spread (P.passes by.now) edges.now goal.now dist.old found.old.items head }
@@ -93,7 +93,7 @@ fn widen<P: Passable>(
 {
     let at = found[head];
     let mut n = last_of(into, at);
-    while n != NONE {
+    while n != NO_EDGE {
         let from = edges[n as usize].from;
         if dist[from as usize] == FAR && by.may_pass(n) {
             dist[from as usize] = dist[at as usize] + 1;

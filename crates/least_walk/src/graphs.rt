@@ -52,7 +52,7 @@ impl Graph {
     /// was.
     pub fn add(&mut self, e: GraphEdge) -> Result<(), AllocError>
         requires ends { HasEnds self.old.nodes e }
-        requires room { length self.old.edges < 4_294_967_295 }
+        requires room { length self.old.edges < u32.MAX }
         ensures ok { OnOk result (self.new ≡ record {
           nodes = self.old.nodes;
           edges = self.old.edges

@@ -1,12 +1,12 @@
 //! The least walk from one of several starts to a goal.
 ghost use Rattle.std.specs.Prelude.{◌≡◌, ℕ, ◌<◌, ◌≤◌, ◌^◌, Bool, List, map, not, length, IfOk, IfSome, IfNone, MatchOption, Some, slice_index};
 ghost use Rattle.gtrbac_model.specs.Graph.{IsLeastWalk, item_at};
-ghost use Rattle.least_walk.specs.Net.{EndsIn, no_edge, arcs_of, arcs_by};
-ghost use Rattle.least_walk.specs.Chains.{AreChains, IsAdjacency, begins};
-ghost use Rattle.least_walk.specs.Distances.{far, is_far, AreDistances};
+ghost use Rattle.least_walk.specs.Net.{EndsIn, arcs_of, arcs_by};
+ghost use Rattle.least_walk.specs.Chains.{AreChains, IsAdjacency, edge_begins};
+ghost use Rattle.least_walk.specs.Distances.{is_far, AreDistances};
 ghost use Rattle.least_walk.specs.Walks.{IsReach, is_goal, HasNoWalk, IsFirstStep, Descends, IsNearest, AllFar};
 
-use crate::chains::{Adjacency, Chains, NONE, last_of};
+use crate::chains::{Adjacency, Chains, NO_EDGE, last_of};
 use crate::distances::{FAR, distances};
 use crate::graphs::{Graph, GraphEdge};
 use crate::passing::{Everywhere, Passable};
@@ -25,7 +25,8 @@ pub fn least_walk(
     requires goals { length goal.now ≡ g.now.nodes }
     requires starts { (i s : ℕ) → item_at from.now i ≡ Some s → s < g.now.nodes }
     ensures some { IfOk result (λ found. IfSome found (λ p.
-        IsLeastWalk (arcs_of g.now.edges) (is_goal goal.now) from.now (record { start = p.start; arcs = p.edges }))) }
+        IsLeastWalk (arcs_of g.now.edges) (is_goal goal.now) from.now
+        (record { start = p.start; arcs = p.edges }))) }
     ensures none { IfOk result (λ found. IfNone found
         (HasNoWalk (arcs_of g.now.edges) (is_goal goal.now) from.now)) }
 {
@@ -45,12 +46,13 @@ pub fn least_open_walk<P: Passable>(
     goal: &[bool],
 ) -> Result<Option<Path>, AllocError>
     requires sides { IsAdjacency edges.now sides.now }
-    requires edges { length edges.now ≤ no_edge }
+    requires edges { length edges.now ≤ NO_EDGE }
     requires ends { EndsIn (length goal.now) edges.now }
     requires few { length goal.now < 2 ^ 32 }
     requires starts { (i s : ℕ) → item_at from.now i ≡ Some s → s < length goal.now }
     ensures some { IfOk result (λ found. IfSome found (λ p.
-        IsLeastWalk (arcs_by (P.passes by.now) edges.now) (is_goal goal.now) from.now (record { start = p.start; arcs = p.edges }))) }
+        IsLeastWalk (arcs_by (P.passes by.now) edges.now) (is_goal goal.now) from.now
+        (record { start = p.start; arcs = p.edges }))) }
     ensures none { IfOk result (λ found. IfNone found
         (HasNoWalk (arcs_by (P.passes by.now) edges.now) (is_goal goal.now) from.now)) }
 {
@@ -91,17 +93,17 @@ fn first_step<P: Passable>(
     at: u32,
 ) -> u32
     requires ends { EndsIn (length goal.now) edges.now }
-    requires edges { length edges.now ≤ no_edge }
-    requires chains { AreChains (begins edges.now) out.now.last.items out.now.before.items }
+    requires edges { length edges.now ≤ NO_EDGE }
+    requires chains { AreChains (edge_begins edges.now) out.now.last.items out.now.before.items }
     requires dist { AreDistances (P.passes by.now) edges.now goal.now dist.now }
     requires inside { at < length dist.now }
     requires some { 0 < slice_index dist.now at }
-    requires reached { slice_index dist.now at < far }
+    requires reached { slice_index dist.now at < FAR }
     ensures { IsFirstStep (P.passes by.now) edges.now dist.now at result }
 {
-    let mut best = NONE;
+    let mut best = NO_EDGE;
     let mut n = last_of(out, at);
-    while n != NONE {
+    while n != NO_EDGE {
         if dist[edges[n as usize].to as usize] < dist[at as usize] && by.may_pass(n) {
             best = n;
         }
@@ -121,11 +123,11 @@ fn follow<P: Passable>(
     start: u32,
 ) -> Result<EdgeList, AllocError>
     requires ends { EndsIn (length goal.now) edges.now }
-    requires edges { length edges.now ≤ no_edge }
-    requires chains { AreChains (begins edges.now) out.now.last.items out.now.before.items }
+    requires edges { length edges.now ≤ NO_EDGE }
+    requires chains { AreChains (edge_begins edges.now) out.now.last.items out.now.before.items }
     requires dist { AreDistances (P.passes by.now) edges.now goal.now dist.now }
     requires inside { start < length dist.now }
-    requires reached { slice_index dist.now start < far }
+    requires reached { slice_index dist.now start < FAR }
     ensures { IfOk result (λ numbers. Descends (P.passes by.now) edges.now dist.now start numbers) }
 {
     let mut numbers = EdgeList::new(alloc);

@@ -1,7 +1,7 @@
 //! Replies, written into room that was taken before.
 ghost use Rattle.std.specs.Prelude.{◌≡◌, true, IsTrue};
 ghost use Rattle.std.specs.List.{list_all};
-ghost use Rattle.request_text.specs.Named.{has_edge, has_walk as has_walk_of, has_reply};
+ghost use Rattle.request_text.specs.Named.{has_edge, has_walk, has_reply};
 ghost use Rattle.request_text.specs.Sizes.{IsBrief};
 
 use gt_base::{Decision, Instant, List, Memory, Refusal, Reply, RoleId, Walk};
@@ -31,12 +31,13 @@ fn has_edges(p: &Policy, mut edges: &[u32]) -> bool
 }
 
 fn has_walk(p: &Policy, walk: &Walk) -> bool
-    ensures { result ≡ has_walk_of p.now.policy walk.now }
+    ensures { result ≡ has_walk p.now.policy walk.now }
 {
     walk.start.0 < p.role_count() && has_edges(p, walk.edges.as_slice())
 }
 
-/// Whether the reply is of this bench: one without a walk, or a permit by a short walk of the policy.
+/// Whether the reply is of this bench: one without a walk, or a permit by a short walk of the
+/// policy.
 fn is_fit(p: &Policy, reply: &Reply) -> bool
     ensures named { result ≡ true → IsTrue (has_reply p.now.policy reply.now) }
     ensures brief { result ≡ true → IsBrief reply.now }

@@ -6,18 +6,18 @@ use std::alloc::Global;
 
 /// What a line asks.
 #[derive(Clone, Copy)]
-pub enum Asked {
+pub enum AskedLine {
     Activate,
     Raise,
     Check,
 }
 
 /// A line of 40 bytes, and the place of a digit in it that may be any.
-fn line_of(asked: Asked) -> (&'static [u8], usize) {
+fn line_of(asked: AskedLine) -> (&'static [u8], usize) {
     match asked {
-        Asked::Activate => (b"activate 4294967290 head_nurse_on_ward_7", 18),
-        Asked::Raise => (b"request 50:enable doctor_on_duty after 1", 39),
-        Asked::Check => (b"check 4294967290 records_of_the_patients", 15),
+        AskedLine::Activate => (b"activate 4294967290 head_nurse_on_ward_7", 18),
+        AskedLine::Raise => (b"request 50:enable doctor_on_duty after 1", 39),
+        AskedLine::Check => (b"check 4294967290 records_of_the_patients", 15),
     }
 }
 
@@ -28,8 +28,9 @@ fn turn(line: &mut Vec<u8>, place: usize, n: u32) {
     }
 }
 
-/// Reads lines of the kind so many times, as on a connection. The number of those that ask something: all.
-pub fn read(alloc: Global, p: &Policy, asked: Asked, times: u32) -> Result<u64, Memory> {
+/// Reads lines of the kind so many times, as on a connection. The number of those that ask
+/// something: all.
+pub fn read(alloc: Global, p: &Policy, asked: AskedLine, times: u32) -> Result<u64, Memory> {
     let (text, place) = line_of(asked);
     let mut line = text.to_vec(alloc)?;
     let mut asking: u64 = 0;

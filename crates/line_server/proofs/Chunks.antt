@@ -11,18 +11,18 @@ use Rattle.connection_laws.specs.declared.ends.LinkEnd.{LinkEnd}
 use Rattle.connection_laws.specs.declared.ends.LinkEnd.TheVariants.{Ended, ReadFault, WriteFault, Spent, Worn}
 use Rattle.connection_laws.specs.Connection.{Acted}
 use Rattle.connection_laws.proofs.Prefixes.{prefix_trans}
-use Rattle.line_server.specs.Serving.{Point, HaltsBy, Serving, Halted, TakesOn, Goes}
+use Rattle.line_server.specs.Serving.{ServicePoint, HaltsBy, Serving, Halted, TakesOn, Goes}
 use Rattle.connection_laws.specs.Services.{service}
 
 halts_earlier : (end : LinkEnd) (f f' f'' draws : ℕ) → f' ≡ f → HaltsBy f' f'' draws end → HaltsBy f f'' draws end
 halts_earlier end f f' f'' draws same h = subst (λ (n : ℕ). HaltsBy n f'' draws end) same h
 
 module _ {M : Type 0} (np : NamedPolicy) (first : List Entry) (legal : List Entry → Type 0) (now : List Entry → ℕ) (who : Who) where
-  abbrev Gone : Point M → Point M → Frame → Frame → List ℕ → ℕ → ℕ → {T : Type 0} → Result T LinkEnd → Type 0
+  abbrev Gone : ServicePoint M → ServicePoint M → Frame → Frame → List ℕ → ℕ → ℕ → {T : Type 0} → Result T LinkEnd → Type 0
   Gone p p' frame frame' piece f f' result = Goes (service np first legal now) who p p' frame frame' piece f f' result
 
   -- the service was cut off in the second piece
-  pub cut_behind : (p q r : Point M) (frame frame' frame'' : Frame) (xs ys all : List ℕ) (e f f' : ℕ) (T : Type 0) (end : LinkEnd) → IsPrefix (xs ++ ys) all → f ≡ e → Gone p q frame frame' xs 0 0 {T = Unit {0}} (Ok tt) → Gone q r frame' frame'' ys f f' {T = T} (Err end)
+  pub cut_behind : (p q r : ServicePoint M) (frame frame' frame'' : Frame) (xs ys all : List ℕ) (e f f' : ℕ) (T : Type 0) (end : LinkEnd) → IsPrefix (xs ++ ys) all → f ≡ e → Gone p q frame frame' xs 0 0 {T = Unit {0}} (Ok tt) → Gone q r frame' frame'' ys f f' {T = T} (Err end)
       → Gone p r frame frame'' all e f' {T = T} (Err end)
   cut_behind p q r frame frame' frame'' xs ys all e f f' T end within low a b = λ o fed acted s.
       let x = a o fed acted s in

@@ -4,14 +4,15 @@ use mathlib.Core.List.{IsPrefix}
 use Rattle.gt_base.specs.declared.requests.Entry.{Entry}
 use Rattle.gt_io.specs.Links.{Traffic}
 use Rattle.turn_lock.specs.Turns.{part}
-use Rattle.turn_lock.specs.Holders.{Holder, IsTold}
+use Rattle.turn_lock.specs.Holders.{Holder, IsToldBy}
 use Rattle.locked_history.specs.Fronts.{by}
 use Rattle.policy_words.specs.Naming.{NamedPolicy}
 use Rattle.connection_laws.specs.Connection.{part_of}
 use Rattle.connection_laws.proofs.Places.{part_of-append, part_of-part, all_mine, none_mine}
 use Rattle.line_server.specs.declared.ended.Served.{Served}
 use Rattle.line_server.specs.declared.ended.WorkEnd.{WorkEnd}
-use Rattle.line_server.specs.Working.{Tale, begun_of, owns_of, Gives, Spot, AreServed, Works, AreParts, IsTellingOfWorkers}
+use Rattle.line_server.specs.Working.{Tale, begun_of, owns_of, WorkerSpot, AreServed, Works, AreOwnParts, IsTellingOfWorkers}
+use Rattle.connection_laws.specs.Doors.{Gives}
 use Rattle.line_server.proofs.Links.{served_longer}
 use Rattle.connection_laws.specs.Services.{service}
 
@@ -26,7 +27,7 @@ module _ {L : Type 0} (traffic : L → Traffic) (np : NamedPolicy) (first : List
       ∙ later_none h own (c + 1) k ss xs (omega (arith, far)) all.1
 
   parts_from : (es h own : List Entry) (c : ℕ) (ss : List (Served L)) (xs : List (Tale L)) → AreServed traffic (service np first legal now) w h own c ss xs
-      → ((k : ℕ) → c ≤ k → part_of (by w k) es ≡ part_of (by w k) (owns_of xs)) → AreParts es w c xs
+      → ((k : ℕ) → c ≤ k → part_of (by w k) es ≡ part_of (by w k) (owns_of xs)) → AreOwnParts es w c xs
   parts_from es h own c [] [] all same = tt
   parts_from es h own c [] (x ∷ xs) all same = absurd all
   parts_from es h own c (s ∷ ss) [] all same = absurd all

@@ -17,11 +17,13 @@ use Rattle.connection_laws.specs.declared.ends.LinkEnd.{LinkEnd}
 use Rattle.connection_laws.specs.declared.ends.LinkEnd.TheVariants.{Ended, ReadFault, WriteFault, Spent, Worn}
 use Rattle.connection_laws.specs.declared.ends.Report.{Report}
 use Rattle.connection_laws.specs.Cuts.{whole_lines}
-use Rattle.connection_laws.specs.Connection.{Acted, lines_of, readings_of, entries_of, IsGiven, IsTimed, placed, Conn}
+use Rattle.connection_laws.specs.Connection.{Acted, reply_lines, readings_of, entries_of, IsGiven, IsTimed, placed, Conn}
 use Rattle.connection_laws.proofs.Cutting.{lines_more}
 use Rattle.connection_laws.specs.declared.talk.Talk.{Talk}
-use Rattle.line_server.specs.Serving.{Point, point, link_view, IsStart, HaltsBy, HaveFailed, none_more, EndsBy, Going, Serving, Halted, Converses, Serves, most_bytes}
+use Rattle.line_server.specs.Serving.{ServicePoint, service_point, link_view, IsStart, HaltsBy, EndsBy, Going, Serving, Halted, Converses, Serves}
+use Rattle.connection_laws.specs.Doors.{HaveFailed, none_more}
 use Rattle.line_server.proofs.Completing.{complete_by}
+use Rattle.line_server.specs.declared.serve.TheConstants.{MOST_BYTES}
 use Rattle.connection_laws.proofs.Growing.{grown_none}
 use Rattle.connection_laws.specs.Services.{service}
 
@@ -52,9 +54,9 @@ cause_kept a b c taken draws (Worn n) r w h = (h.0, h.1, failed_kept a b c none_
 
 module _ {M : Type 0} (np : NamedPolicy) (first : List Entry) (legal : List Entry → Type 0) (now : List Entry → ℕ) (who : Who) where
   pub begins : (pass : Holder M) (talk : Talk) (clock : Option (ℕ → ℕ)) (given : Option (List ℕ)) (frame : Frame) → IsStart talk → frame ≡ blank_frame
-      → Serving (service np first legal now) who (point pass talk clock given) (point pass talk clock given) frame [] []
+      → Serving (service np first legal now) who (service_point pass talk clock given) (service_point pass talk clock given) frame [] []
   begins pass talk clock given frame start is =
-      subst (λ (f : Frame). Serving (service np first legal now) who (point pass talk clock given) (point pass talk clock given) f [] []) (sym is)
+      subst (λ (f : Frame). Serving (service np first legal now) who (service_point pass talk clock given) (service_point pass talk clock given) f [] []) (sym is)
       (record {
         going = record {
           grows = grown_none pass;
@@ -73,8 +75,8 @@ module _ {M : Type 0} (np : NamedPolicy) (first : List Entry) (legal : List Entr
         given = Appends-nil given;
       })
 
-  pub cut_off : (o p : Point M) (a b : Traffic) (f : ℕ) (fed part chunk : List ℕ) (acted : List Acted) (end : LinkEnd) → Halted (service np first legal now) who o p (fed ++ part) acted f b.write_faults end → IsPrefix part chunk
-      → b.read_faults ≡ a.read_faults → f ≡ a.write_faults → Appends a.taken b.taken (fed ++ chunk) → Consumes a.left b.left (fed ++ chunk) → length (fed ++ chunk) ≤ most_bytes → Converses (service np first legal now) who o p a b end
+  pub cut_off : (o p : ServicePoint M) (a b : Traffic) (f : ℕ) (fed part chunk : List ℕ) (acted : List Acted) (end : LinkEnd) → Halted (service np first legal now) who o p (fed ++ part) acted f b.write_faults end → IsPrefix part chunk
+      → b.read_faults ≡ a.read_faults → f ≡ a.write_faults → Appends a.taken b.taken (fed ++ chunk) → Consumes a.left b.left (fed ++ chunk) → length (fed ++ chunk) ≤ MOST_BYTES → Converses (service np first legal now) who o p a b end
   cut_off o p a b f fed part chunk acted end h within reads low taken left few =
       let whole : (fed ++ part) ++ within.0 ≡ fed ++ chunk = append_assoc fed part within.0 ∙ ap (λ (l : List ℕ). fed ++ l) within.1 in
       let more = lines_more (fed ++ part) within.0 in
@@ -93,14 +95,14 @@ module _ {M : Type 0} (np : NamedPolicy) (first : List Entry) (legal : List Entr
       }
 
   -- what is given to the link is kept by a read
-  pub serving_kept : (o : Point M) (pass : Holder M) (talk : Talk) (clock : Option (ℕ → ℕ)) (given given' : Option (List ℕ)) (frame : Frame) (fed : List ℕ) (acted : List Acted) → given' ≡ given
-      → Serving (service np first legal now) who o (point pass talk clock given) frame fed acted → Serving (service np first legal now) who o (point pass talk clock given') frame fed acted
+  pub serving_kept : (o : ServicePoint M) (pass : Holder M) (talk : Talk) (clock : Option (ℕ → ℕ)) (given given' : Option (List ℕ)) (frame : Frame) (fed : List ℕ) (acted : List Acted) → given' ≡ given
+      → Serving (service np first legal now) who o (service_point pass talk clock given) frame fed acted → Serving (service np first legal now) who o (service_point pass talk clock given') frame fed acted
   serving_kept o pass talk clock given given' frame fed acted same s =
-      subst (λ (x : Option (List ℕ)). Serving (service np first legal now) who o (point pass talk clock x) frame fed acted) (sym same) s
+      subst (λ (x : Option (List ℕ)). Serving (service np first legal now) who o (service_point pass talk clock x) frame fed acted) (sym same) s
 
   -- the report of a service
   pub reported : (before after : Holder M) (talk talk' : Talk) (clock clock' : Option (ℕ → ℕ)) (a b c : Traffic) (end : LinkEnd) → IsStart talk
-      → Converses (service np first legal now) who (point before talk clock a.given) (point after talk' clock' b.given) a b end → ReadsNothing b c → WritesNothing b c → c.finished ≡ true
+      → Converses (service np first legal now) who (service_point before talk clock a.given) (service_point after talk' clock' b.given) a b end → ReadsNothing b c → WritesNothing b c → c.finished ≡ true
       → Serves (service np first legal now) who (link_view before talk.calls clock a) (link_view after talk'.calls clock' c) (record { asked = talk'.asked; denied = talk'.denied; outcome = end })
   reported before after talk talk' clock clock' a b c end start x r w done =
       let connected : (birth : ℕ) → IsTimed birth legal now → Conn np birth who after.seen (placed who first before.own) x.taken (readings_of x.acted) (entries_of x.acted) x.text x.acted end =

@@ -23,33 +23,34 @@ use Rattle.request_text.proofs.ReadBySpelling.{long_read}
 use Rattle.connection_laws.specs.Desks.{IsNamedActor}
 use Rattle.connection_laws.specs.declared.ends.LinkEnd.{LinkEnd}
 use Rattle.connection_laws.specs.declared.ends.LinkEnd.TheVariants.{WriteFault, Worn}
-use Rattle.connection_laws.specs.Cuts.{is_feed, whole_lines, open_line}
+use Rattle.connection_laws.specs.Cuts.{whole_lines, open_line}
+use Rattle.gt_text.specs.Lines.{is_feed}
 use Rattle.connection_laws.specs.Fits.{FrameFits}
-use Rattle.connection_laws.specs.Connection.{Answer, worn, is_who, is_worn, is_accepted, is_denied, one_where, answer_text, Acted, Gets, actor_by, actor_after, lines_of, readings_of, entries_of, text_of, asked_in, denied_in, AreUnworn, IsGiven, IsTimed, placed}
+use Rattle.connection_laws.specs.Connection.{Answer, worn, is_who, is_worn, is_accepted, is_denied, one_where, answer_text, Acted, Gets, actor_by, actor_after, reply_lines, readings_of, entries_of, replies_text, asked_in, denied_in, AreUnworn, IsGiven, IsTimed, placed}
 use Rattle.connection_laws.proofs.Cutting.{lines_feed, lines_byte}
 use Rattle.connection_laws.proofs.Framing.{fits_feed, fits_byte}
 use Rattle.connection_laws.proofs.Longer.{acted_longer}
 use Rattle.connection_laws.proofs.Places.{placed_more}
 use Rattle.connection_laws.specs.declared.talk.Talk.{Talk}
-use Rattle.connection_laws.specs.declared.talk.Told.{Told}
-use Rattle.connection_laws.specs.declared.talk.Told.TheVariants.{Worn as ToldWorn}
+use Rattle.connection_laws.specs.declared.talk.LineAnswer.{LineAnswer}
+use Rattle.connection_laws.specs.declared.talk.LineAnswer.TheVariants.{Worn as ToldWorn}
 use Rattle.connection_laws.specs.Turns.{Grows, AreMine}
-use Rattle.connection_laws.specs.Acting.{counted, moment, Acts}
-use Rattle.line_server.specs.Serving.{Sent, Point, point, HaltsBy, Going, Serving, Halted, TakesOn}
+use Rattle.connection_laws.specs.Acting.{counted_talk, moment, Acts}
+use Rattle.line_server.specs.Serving.{Sent, ServicePoint, service_point, HaltsBy, Going, Serving, Halted, TakesOn}
 use Rattle.connection_laws.proofs.Growing.{grown_twice}
 use Rattle.connection_laws.specs.Services.{service}
 
-lines_on : (fed line : List ℕ) (byte : ℕ) (acted : List Acted) (a : Acted) → lines_of acted ≡ whole_lines fed → is_feed byte ≡ true → line ≡ open_line fed → a.line ≡ line → lines_of (a ∷ acted) ≡ whole_lines (fed ++ byte ∷ [])
+lines_on : (fed line : List ℕ) (byte : ℕ) (acted : List Acted) (a : Acted) → reply_lines acted ≡ whole_lines fed → is_feed byte ≡ true → line ≡ open_line fed → a.line ≡ line → reply_lines (a ∷ acted) ≡ whole_lines (fed ++ byte ∷ [])
 lines_on fed line byte acted a lines feed is line_is =
-    ap (λ (l : List ℕ). lines_of acted ++ l ∷ []) (line_is ∙ is) ∙ ap (λ (ls : List (List ℕ)). ls ++ open_line fed ∷ []) lines ∙ sym (lines_feed fed byte feed)
+    ap (λ (l : List ℕ). reply_lines acted ++ l ∷ []) (line_is ∙ is) ∙ ap (λ (ls : List (List ℕ)). ls ++ open_line fed ∷ []) lines ∙ sym (lines_feed fed byte feed)
 
 module _ {M : Type 0} (np : NamedPolicy) (first : List Entry) (legal : List Entry → Type 0) (now : List Entry → ℕ) (who : Who) where
-  abbrev Ands : Point M → Point M → List Acted → Type 0
+  abbrev Ands : ServicePoint M → ServicePoint M → List Acted → Type 0
   Ands o p acted = Going (service np first legal now) who o p acted
 
-  pub going_on : (o : Point M) (before after : Holder M) (talk talk1 talk2 : Talk) (clock clock' : Option (ℕ → ℕ)) (given given' : Option (List ℕ)) (line : List ℕ) (acted : List Acted) (told : Told)
-      → Ands o (point before talk clock given) acted → (x : Acts (service np first legal now) who (moment before talk clock) (moment after talk1 clock') line told) → talk2 ≡ counted talk1 x.acted.answer
-      → Ands o (point after talk2 clock' given') (x.acted ∷ acted)
+  pub going_on : (o : ServicePoint M) (before after : Holder M) (talk talk1 talk2 : Talk) (clock clock' : Option (ℕ → ℕ)) (given given' : Option (List ℕ)) (line : List ℕ) (acted : List Acted) (told : LineAnswer)
+      → Ands o (service_point before talk clock given) acted → (x : Acts (service np first legal now) who (moment before talk clock) (moment after talk1 clock') line told) → talk2 ≡ counted_talk talk1 x.acted.answer
+      → Ands o (service_point after talk2 clock' given') (x.acted ∷ acted)
   going_on o before after talk talk1 talk2 clock clock' given given' line acted told g x is =
       let a = x.acted in
       let said : Result Line LineFault = read_line np Nobody false line in
@@ -76,10 +77,10 @@ module _ {M : Type 0} (np : NamedPolicy) (first : List Entry) (legal : List Entr
       }
 
   -- the line that a byte ends was acted on, and its reply was sent as far as the link took it
-  pub line_done : (o : Point M) (before after : Holder M) (talk talk1 talk2 : Talk) (clock clock' : Option (ℕ → ℕ)) (a b : Traffic) (frame frame' : Frame) (fed line : List ℕ) (byte : ℕ) (acted : List Acted) (told : Told) {T : Type 0} (result : Result T LinkEnd)
-      → Serving (service np first legal now) who o (point before talk clock a.given) frame fed acted → is_feed byte ≡ true → line ≡ open_line fed → frame' ≡ pushed frame byte
-      → (x : Acts (service np first legal now) who (moment before talk clock) (moment after talk1 clock') line told) → talk2 ≡ counted talk1 x.acted.answer → Sent np x.acted.answer a b result → ((n : ℕ) → result ≡ Err (Worn n) → told ≡ ToldWorn n)
-      → TakesOn (service np first legal now) who o (point after talk2 clock' b.given) frame' fed (byte ∷ []) a.write_faults b.write_faults result
+  pub line_done : (o : ServicePoint M) (before after : Holder M) (talk talk1 talk2 : Talk) (clock clock' : Option (ℕ → ℕ)) (a b : Traffic) (frame frame' : Frame) (fed line : List ℕ) (byte : ℕ) (acted : List Acted) (told : LineAnswer) {T : Type 0} (result : Result T LinkEnd)
+      → Serving (service np first legal now) who o (service_point before talk clock a.given) frame fed acted → is_feed byte ≡ true → line ≡ open_line fed → frame' ≡ pushed frame byte
+      → (x : Acts (service np first legal now) who (moment before talk clock) (moment after talk1 clock') line told) → talk2 ≡ counted_talk talk1 x.acted.answer → Sent np x.acted.answer a b result → ((n : ℕ) → result ≡ Err (Worn n) → told ≡ ToldWorn n)
+      → TakesOn (service np first legal now) who o (service_point after talk2 clock' b.given) frame' fed (byte ∷ []) a.write_faults b.write_faults result
   line_done o before after talk talk1 talk2 clock clock' a b frame frame' fed line byte acted told {T} (Ok u) s feed is frame_is x talk_is sent wears = (
     x.acted ∷ acted,
     record {
@@ -87,7 +88,7 @@ module _ {M : Type 0} (np : NamedPolicy) (first : List Entry) (legal : List Entr
       frame_fits = subst (λ (f : Frame). FrameFits f (fed ++ byte ∷ [])) (sym frame_is) (fits_feed frame fed byte feed);
       lines = lines_on fed line byte acted x.acted s.lines feed is x.line_is;
       unworn = (sent.unworn, s.unworn);
-      given = Appends-trans o.given a.given b.given (text_of np acted) (answer_text np x.acted.answer) s.given sent.whole;
+      given = Appends-trans o.given a.given b.given (replies_text np acted) (answer_text np x.acted.answer) s.given sent.whole;
     },
   )
   line_done o before after talk talk1 talk2 clock clock' a b frame frame' fed line byte acted told {T} (Err e) s feed is frame_is x talk_is sent wears =
@@ -99,28 +100,28 @@ module _ {M : Type 0} (np : NamedPolicy) (first : List Entry) (legal : List Entr
         (
           x.acted ∷ acted,
           ⊎_elim (λ f.
-              let text : List ℕ = text_of np acted ++ take f.2.0 (answer_text np x.acted.answer) in
+              let text : List ℕ = replies_text np acted ++ take f.2.0 (answer_text np x.acted.answer) in
               record {
                 going = goes;
                 lines = lines;
                 text = text;
-                given = Appends-trans o.given a.given b.given (text_of np acted) (take f.2.0 (answer_text np x.acted.answer)) s.given f.2.2;
+                given = Appends-trans o.given a.given b.given (replies_text np acted) (take f.2.0 (answer_text np x.acted.answer)) s.given f.2.2;
                 given_is = subst (λ (end : LinkEnd). IsGiven np fed' text (x.acted ∷ acted) end) (sym f.0) ((f.1, s.unworn), (f.2.0, f.2.1, refl));
                 cause = subst (λ (end : LinkEnd). HaltsBy a.write_faults b.write_faults after.draws end) (sym f.0) f.3;
               }) (λ w.
               record {
                 going = goes;
                 lines = lines;
-                text = text_of np acted;
-                given = Appends-kept o.given a.given b.given (text_of np acted) s.given w.3;
-                given_is = subst (λ (end : LinkEnd). IsGiven np fed' (text_of np acted) (x.acted ∷ acted) end) (sym w.1) (w.2, s.unworn, refl);
+                text = replies_text np acted;
+                given = Appends-kept o.given a.given b.given (replies_text np acted) s.given w.3;
+                given_is = subst (λ (end : LinkEnd). IsGiven np fed' (replies_text np acted) (x.acted ∷ acted) end) (sym w.1) (w.2, s.unworn, refl);
                 cause = subst (λ (end : LinkEnd). HaltsBy a.write_faults b.write_faults after.draws end) (sym w.1) (let y = x.worn_out w.0 (wears w.0 (ap Err w.1)) in (y.0, y.1, w.4));
               }) (sent.ends e refl),
         ),
       )
 
   -- a byte within a line
-  pub byte_more : (o p : Point M) (frame frame' : Frame) (fed : List ℕ) (byte : ℕ) (acted : List Acted) → Serving (service np first legal now) who o p frame fed acted → is_feed byte ≡ false → frame' ≡ pushed frame byte
+  pub byte_more : (o p : ServicePoint M) (frame frame' : Frame) (fed : List ℕ) (byte : ℕ) (acted : List Acted) → Serving (service np first legal now) who o p frame fed acted → is_feed byte ≡ false → frame' ≡ pushed frame byte
       → Serving (service np first legal now) who o p frame' (fed ++ byte ∷ []) acted
   byte_more o p frame frame' fed byte acted s other frame_is =
       record {

@@ -22,7 +22,8 @@ use Rattle.line_server.specs.declared.ended.WorkEnd.{WorkEnd}
 use Rattle.line_server.specs.declared.ended.WorkEnd.TheVariants.{Fresh, Done, DoorFault, Enough, Worn, Memory}
 use Rattle.connection_laws.specs.Turns.{AreMine}
 use Rattle.line_server.specs.Serving.{link_view, Serves, is_worn_out}
-use Rattle.line_server.specs.Working.{Tale, begun_of, hours_of, owns_of, AllUnworn, Gives, Spot, WorksTo, IsServed, AreServed, Worked, WorksOn, Works}
+use Rattle.line_server.specs.Working.{Tale, begun_of, hours_of, owns_of, AllUnworn, WorkerSpot, WorksTo, IsServed, AreServed, Worked, WorksOn, Works}
+use Rattle.connection_laws.specs.Doors.{Gives}
 use Rattle.connection_laws.proofs.Growing.{grown_none, grown_twice}
 use Rattle.connection_laws.specs.Services.{service}
 
@@ -91,7 +92,7 @@ module _ {L : Type 0} where
 
 module _ {M L : Type 0} (traffic : L → Traffic) (np : NamedPolicy) (first : List Entry) (legal : List Entry → Type 0) (now : List Entry → ℕ) (number : ℕ) where
   -- one more link was served
-  pub link_done : (o p p' : Spot M L) (served : List (Served L)) (tales : List (Tale L)) (s : Served L) (begun : L) (conn calls calls' : ℕ) → Worked traffic (service np first legal now) number o p served tales
+  pub link_done : (o p p' : WorkerSpot M L) (served : List (Served L)) (tales : List (Tale L)) (s : Served L) (begun : L) (conn calls calls' : ℕ) → Worked traffic (service np first legal now) number o p served tales
       → Serves (service np first legal now) (by number conn) (link_view p.pass calls p.clock (traffic begun)) (link_view p'.pass calls' p'.clock (traffic s.link)) s.report → conn ≡ 1 + length served → GivesFirst p.door p'.door begun → IsFresh (traffic begun)
       → (tales' : List (Tale L)) × Worked traffic (service np first legal now) number o p' (served ++ s ∷ []) tales'
   link_done o p p' served tales s begun conn calls calls' w v at door fresh =
@@ -152,13 +153,13 @@ gives_none None = tt
 gives_none (Some ls) = (ls, refl, refl)
 
 module _ {M L : Type 0} (traffic : L → Traffic) (np : NamedPolicy) (first : List Entry) (legal : List Entry → Type 0) (now : List Entry → ℕ) where
-  pub no_links : (number : ℕ) (o : Spot M L) (served : List (Served L)) → served ≡ [] → Worked traffic (service np first legal now) number o o served []
+  pub no_links : (number : ℕ) (o : WorkerSpot M L) (served : List (Served L)) → served ≡ [] → Worked traffic (service np first legal now) number o o served []
   no_links number o served is =
       subst (λ (ss : List (Served L)). Worked traffic (service np first legal now) number o o ss []) (sym is)
       (record { links = tt; grows = grown_none o.pass; reads = Reads-nil o.clock; door = gives_none o.door })
 
   -- the next link, told from the begin of the work
-  pub next_done : (number number' : ℕ) (o p p' : Spot M L) (f f' f'' : ℕ) (items items' served : List (Served L)) (tales : List (Tale L)) (end : WorkEnd) → number' ≡ number → items' ≡ items → f' ≡ f
+  pub next_done : (number number' : ℕ) (o p p' : WorkerSpot M L) (f f' f'' : ℕ) (items items' served : List (Served L)) (tales : List (Tale L)) (end : WorkEnd) → number' ≡ number → items' ≡ items → f' ≡ f
       → Worked traffic (service np first legal now) number o p items tales → AllUnworn items → WorksOn traffic (service np first legal now) number' p p' f' f'' items' served (Some end)
       → Works traffic (service np first legal now) number o p' f f'' served end
   next_done number number' o p p' f f' f'' items items' served tales end same kept low w u on =
@@ -166,7 +167,7 @@ module _ {M L : Type 0} (traffic : L → Traffic) (np : NamedPolicy) (first : Li
       let d = on' o tales (subst (λ (ss : List (Served L)). Worked traffic (service np first legal now) number o p ss tales) (sym kept) w) (subst (λ (ss : List (Served L)). AllUnworn ss) (sym kept) u) in
       record { tales = d.0; worked = d.1; cause = works_earlier p'.door f f' f'' p'.pass.draws served end low d.2 }
 
-  pub goes_on : (number number' : ℕ) (o p p' : Spot M L) (f' f'' : ℕ) (items items' served : List (Served L)) (tales : List (Tale L)) → number' ≡ number → items' ≡ items
+  pub goes_on : (number number' : ℕ) (o p p' : WorkerSpot M L) (f' f'' : ℕ) (items items' served : List (Served L)) (tales : List (Tale L)) → number' ≡ number → items' ≡ items
       → Worked traffic (service np first legal now) number o p items tales → AllUnworn items → WorksOn traffic (service np first legal now) number' p p' f' f'' items' served None
       → (tales' : List (Tale L)) × Worked traffic (service np first legal now) number o p' served tales' × (AllUnworn served × (f'' ≡ f'))
   goes_on number number' o p p' f' f'' items items' served tales same kept w u on =

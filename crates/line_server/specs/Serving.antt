@@ -2,14 +2,15 @@
 use Rattle.std.specs.Prelude.{◌≡◌, ◌⊎◌, ℕ, ◌+◌, ◌*◌, ◌^◌, ◌<◌, ◌≤◌, Bool, true, false, ⊤, List, [], ◌∷◌, ◌++◌, length, None, OnOk, MatchResult, Result, Ok, Err}
 use Rattle.std.specs.declared.option.Option.{Option}
 use Rattle.std.specs.Io.KnownBytes.{Appends, Consumes, Keeps, IsAtEnd}
+use Rattle.line_server.specs.declared.serve.TheConstants.{MOST_BYTES}
 use mathlib.Core.List.{IsPrefix}
-use Rattle.gt_base.specs.Bounds.{max_steps}
 use Rattle.gt_base.specs.declared.requests.Who.{Who}
 use Rattle.gt_base.specs.declared.requests.Actor.TheVariants.{Nobody}
 use Rattle.gt_base.specs.declared.requests.Reply.{Reply}
 use Rattle.gt_base.specs.declared.requests.Actor.{Actor}
 use Rattle.gt_base.specs.declared.requests.Request.{Request}
 use Rattle.gt_base.specs.declared.requests.Entry.{Entry}
+use Rattle.gt_base.specs.declared.limits.TheConstants.{MAX_STEPS}
 use Rattle.gt_io.specs.Causes.{Rose, AppendsPart}
 use Rattle.gt_io.specs.Frames.{Frame}
 use Rattle.gt_io.specs.Links.{Traffic, ReadsNothing, Reads}
@@ -23,12 +24,13 @@ use Rattle.connection_laws.specs.declared.ends.LinkEnd.{LinkEnd}
 use Rattle.connection_laws.specs.declared.ends.Report.{Report}
 use Rattle.connection_laws.specs.declared.ends.LinkEnd.TheVariants.{Ended, ReadFault, WriteFault, Spent, Worn}
 use Rattle.connection_laws.specs.Cuts.{whole_lines}
-use Rattle.connection_laws.specs.Connection.{Answer, silence, agreed, bad, accepted, no_memory, no_steps, worn, is_accepted, is_denied, is_worn, answer_text, one_where, Acted, Asks, Gets, actor_by, actor_after, lines_of, readings_of, entries_of, text_of, asked_in, denied_in, AreUnworn, AreActed, IsGiven, IsTimed, placed, Conn}
+use Rattle.connection_laws.specs.Doors.{HaveFailed, none_more}
+use Rattle.connection_laws.specs.Connection.{Answer, silence, agreed, bad, accepted, no_memory, no_steps, worn, is_accepted, is_denied, is_worn, answer_text, one_where, Acted, Asks, Gets, actor_by, actor_after, reply_lines, readings_of, entries_of, replies_text, asked_in, denied_in, AreUnworn, AreActed, IsGiven, IsTimed, placed, Conn}
 use Rattle.connection_laws.specs.Fits.{FrameFits}
 use Rattle.connection_laws.specs.Desks.{IsNamedActor}
 use Rattle.connection_laws.specs.declared.talk.Talk.{Talk}
-use Rattle.connection_laws.specs.declared.talk.Told.{Told}
-use Rattle.connection_laws.specs.declared.talk.Told.TheVariants.{Silence, Agreed, Bad, Reply as ToldReply, NoMemory, NoSteps, Worn as ToldWorn}
+use Rattle.connection_laws.specs.declared.talk.LineAnswer.{LineAnswer}
+use Rattle.connection_laws.specs.declared.talk.LineAnswer.TheVariants.{Silence, Agreed, Bad, Reply as ToldReply, NoMemory, NoSteps, Worn as ToldWorn}
 use Rattle.connection_laws.specs.Services.{Service}
 use Rattle.connection_laws.specs.Turns.{Grows, AreMine}
 
@@ -53,14 +55,16 @@ pub record Sent (np : NamedPolicy) (answer : Answer) (a b : Traffic) {T : Type 0
   pub kept : OnOk result (b.write_faults ≡ a.write_faults)
 
 -- a moment of a service: the pass, the counts, the clock, and what the link was given
-pub record Point (M : Type 0) : Type 0 where
+pub record ServicePoint (M : Type 0) : Type 0 where
   pub pass : Holder M
   pub talk : Talk
   pub clock : Option (ℕ → ℕ)
   pub given : Option (List ℕ)
 
-abbrev pub point : {M : Type 0} → Holder M → Talk → Option (ℕ → ℕ) → Option (List ℕ) → Point M
-point pass talk clock given = record { pass = pass; talk = talk; clock = clock; given = given }
+abbrev pub service_point : {M : Type 0} → Holder M → Talk → Option (ℕ → ℕ) → Option (List ℕ)
+    → ServicePoint M
+service_point pass talk clock given =
+    record { pass = pass; talk = talk; clock = clock; given = given }
 
 -- a link and who serves it: the pass, how many request lines the worker had, the readings of its
 -- clock that are to come, where they are told, and the traffic of the link
@@ -81,25 +85,13 @@ HaltsBy faults faults' draws WriteFault = faults' ≡ one_more faults
 HaltsBy faults faults' draws (Worn n) = (n ≡ 2 ^ 40) × (draws ≡ 2 ^ 40) × (faults' ≡ faults)
 HaltsBy faults faults' draws _ = ⊥
 
--- how many bytes are taken from a link at most
-abbrev pub most_bytes : ℕ
-most_bytes = 67_108_864
-
--- how many reads and how many writes of a link failed
-pub record HaveFailed (a b : Traffic) (reads writes : ℕ → ℕ) : Type 0 where
-  pub reads_are : b.read_faults ≡ reads a.read_faults
-  pub writes_are : b.write_faults ≡ writes a.write_faults
-
-abbrev pub none_more : ℕ → ℕ
-none_more n = n
-
 -- each end has its cause; the first read or write that fails is the last one
 abbrev pub EndsBy : Traffic → Traffic → ℕ → List ℕ → LinkEnd → Type 0
 EndsBy a b draws taken Ended =
-    IsAtEnd b.left × (length taken < most_bytes) × HaveFailed a b none_more none_more
-EndsBy a b draws taken ReadFault = (length taken < most_bytes) × HaveFailed a b one_more none_more
+    IsAtEnd b.left × (length taken < MOST_BYTES) × HaveFailed a b none_more none_more
+EndsBy a b draws taken ReadFault = (length taken < MOST_BYTES) × HaveFailed a b one_more none_more
 EndsBy a b draws taken WriteFault = HaveFailed a b none_more one_more
-EndsBy a b draws taken Spent = (length taken ≡ most_bytes) × HaveFailed a b none_more none_more
+EndsBy a b draws taken Spent = (length taken ≡ MOST_BYTES) × HaveFailed a b none_more none_more
 EndsBy a b draws taken (Worn n) =
     (n ≡ 2 ^ 40) × (draws ≡ 2 ^ 40) × HaveFailed a b none_more none_more
 
@@ -112,14 +104,14 @@ is_worn_out _ = false
 pub record IsUnhindered (a b : Traffic) (taken : List ℕ) (end : LinkEnd) : Type 0 where
   pub reads : Rose a.read_faults b.read_faults → ⊥
   pub writes : Rose a.write_faults b.write_faults → ⊥
-  pub few : length taken < most_bytes
+  pub few : length taken < MOST_BYTES
   pub unworn : is_worn_out end ≡ false
 
 -- a request is accepted, or there was no memory, or the history is full
 abbrev pub IsAnswered : List Entry → Answer → Type 0
 IsAnswered h (accepted reply) = ⊤
 IsAnswered h no_memory = ⊤
-IsAnswered h no_steps = max_steps ≤ length h
+IsAnswered h no_steps = MAX_STEPS ≤ length h
 IsAnswered h _ = ⊥
 
 -- the link was read to its end, each of its whole lines was acted on, and each request among them
@@ -127,7 +119,7 @@ IsAnswered h _ = ⊥
 pub record IsComplete (np : NamedPolicy) (h : List Entry) (taken : List ℕ) (acted : List Acted)
     (end : LinkEnd) : Type 0 where
   pub ended : end ≡ Ended
-  pub lines : lines_of acted ≡ whole_lines taken
+  pub lines : reply_lines acted ≡ whole_lines taken
   pub answered : Each
       (λ (a : Acted). (request : Request) → read_line np Nobody false a.line ≡ Ok (Ask request)
       → IsAnswered h a.answer)
@@ -135,7 +127,7 @@ pub record IsComplete (np : NamedPolicy) (h : List Entry) (taken : List ℕ) (ac
 
 module _ {M : Type 0} (v : Service) (who : Who) where
   -- the lines so far
-  pub record Going (o p : Point M) (acted : List Acted) : Type 0 where
+  pub record Going (o p : ServicePoint M) (acted : List Acted) : Type 0 where
     pub grows : Grows o.pass p.pass (entries_of acted) (2 * length (readings_of acted))
     pub fits : (birth : ℕ) → IsTimed birth v.legal v.now
         → AreActed v.policy birth who p.pass.seen (placed who v.first o.pass.own) acted
@@ -148,26 +140,27 @@ module _ {M : Type 0} (v : Service) (who : Who) where
     pub reads : Reads o.clock p.clock (readings_of acted)
 
   -- all whole lines of these bytes were acted on and told their replies
-  pub record Serving (o p : Point M) (frame : Frame) (fed : List ℕ) (acted : List Acted)
+  pub record Serving (o p : ServicePoint M) (frame : Frame) (fed : List ℕ) (acted : List Acted)
       : Type 0 where
     pub going : Going o p acted
     pub frame_fits : FrameFits frame fed
-    pub lines : lines_of acted ≡ whole_lines fed
+    pub lines : reply_lines acted ≡ whole_lines fed
     pub unworn : AreUnworn acted
-    pub given : Appends o.given p.given (text_of v.policy acted)
+    pub given : Appends o.given p.given (replies_text v.policy acted)
 
   -- the service was cut off at the last line
-  pub record Halted (o p : Point M) (fed : List ℕ) (acted : List Acted) (faults faults' : ℕ)
+  pub record Halted (o p : ServicePoint M) (fed : List ℕ) (acted : List Acted) (faults faults' : ℕ)
       (end : LinkEnd) : Type 0 where
     pub going : Going o p acted
-    pub lines : lines_of acted ≡ whole_lines fed
+    pub lines : reply_lines acted ≡ whole_lines fed
     pub text : List ℕ
     pub given : Appends o.given p.given text
     pub given_is : IsGiven v.policy fed text acted end
     pub cause : HaltsBy faults faults' p.pass.draws end
 
   -- a piece of bytes was taken on, or the service was cut off in it
-  abbrev pub TakesOn : Point M → Point M → Frame → List ℕ → List ℕ → ℕ → ℕ → {T : Type 0}
+  abbrev pub TakesOn : ServicePoint M → ServicePoint M → Frame → List ℕ → List ℕ → ℕ → ℕ
+      → {T : Type 0}
       → Result T LinkEnd → Type 0
   TakesOn o p frame fed piece faults faults' result =
       MatchResult result (λ _. (acted : List Acted) × Serving o p frame (fed ++ piece) acted)
@@ -175,24 +168,24 @@ module _ {M : Type 0} (v : Service) (who : Who) where
       × ((acted : List Acted) × Halted o p (fed ++ part) acted faults faults' end))
 
   -- whatever was served before these bytes, the service goes on behind them
-  abbrev pub Goes : Point M → Point M → Frame → Frame → List ℕ → ℕ → ℕ → {T : Type 0}
+  abbrev pub Goes : ServicePoint M → ServicePoint M → Frame → Frame → List ℕ → ℕ → ℕ → {T : Type 0}
       → Result T LinkEnd → Type 0
   Goes p p' frame frame' piece faults faults' result =
-      (o : Point M) (fed : List ℕ) (acted : List Acted) → Serving o p frame fed acted
+      (o : ServicePoint M) (fed : List ℕ) (acted : List Acted) → Serving o p frame fed acted
       → TakesOn o p' frame' fed piece faults faults' result
 
   -- a service to its end
-  pub record Converses (o p : Point M) (a b : Traffic) (end : LinkEnd) : Type 0 where
+  pub record Converses (o p : ServicePoint M) (a b : Traffic) (end : LinkEnd) : Type 0 where
     pub taken : List ℕ
     pub acted : List Acted
     pub going : Going o p acted
-    pub lines : IsPrefix (lines_of acted) (whole_lines taken)
+    pub lines : IsPrefix (reply_lines acted) (whole_lines taken)
     pub text : List ℕ
     pub given : Appends o.given p.given text
     pub given_is : IsGiven v.policy taken text acted end
     pub taken_is : Appends a.taken b.taken taken
     pub left_is : Consumes a.left b.left taken
-    pub bounded : length taken ≤ most_bytes
+    pub bounded : length taken ≤ MOST_BYTES
     pub cause : EndsBy a b p.pass.draws taken end
 
   -- What the service of a link comes to: the bytes taken and given, the readings, the entries that
@@ -215,7 +208,7 @@ module _ {M : Type 0} (v : Service) (who : Who) where
     pub left_is : Consumes a.traffic.left b.traffic.left taken
     pub given_is : Appends a.traffic.given b.traffic.given given
     pub reads : Reads a.clock b.clock readings
-    pub bounded : length taken ≤ most_bytes
+    pub bounded : length taken ≤ MOST_BYTES
     pub cause : EndsBy a.traffic b.traffic b.pass.draws taken report.outcome
     pub finished : b.traffic.finished ≡ true
     pub complete : (birth : ℕ) → IsTimed birth v.legal v.now

@@ -1,16 +1,17 @@
 -- What a worker keeps from link to link.
-use Rattle.std.specs.Prelude.{◌≡◌, ℕ, ◌+◌, ◌*◌, ◌^◌, ◌<◌, ◌≤◌, Bool, true, false, ⊤, List, [], ◌∷◌, ◌++◌, length, drop, Some, None, IfSome, MatchOption}
+use Rattle.std.specs.Prelude.{◌≡◌, ℕ, ◌+◌, ◌*◌, ◌^◌, ◌<◌, ◌≤◌, Bool, true, false, List, [], ◌∷◌, ◌++◌, length, drop, IfSome, MatchOption}
 use Rattle.std.specs.declared.option.Option.{Option}
 use Rattle.std.specs.Io.KnownBytes.{Appends, Consumes}
 use Rattle.gt_base.specs.declared.requests.Entry.{Entry}
 use Rattle.gt_io.specs.Causes.{Rose}
 use Rattle.gt_io.specs.Links.{Traffic, IsFresh, Reads}
 use Rattle.turn_lock.specs.Turns.{Each, part}
-use Rattle.turn_lock.specs.Holders.{Site, Holder, IsTold}
+use Rattle.turn_lock.specs.Holders.{Site, Holder, IsToldBy}
 use Rattle.locked_history.specs.Fronts.{by}
 use Rattle.policy_words.specs.Naming.{NamedPolicy}
 use Rattle.connection_laws.specs.declared.ends.LinkEnd.{LinkEnd}
 use Rattle.connection_laws.specs.declared.ends.LinkEnd.TheVariants.{Ended, ReadFault, WriteFault, Spent, Worn as LinkWorn}
+use Rattle.connection_laws.specs.Doors.{Gives}
 use Rattle.connection_laws.specs.Connection.{Acted, asked_in, denied_in, part_of, IsTimed, placed, Conn}
 use Rattle.connection_laws.specs.Services.{Service}
 use Rattle.line_server.specs.declared.ended.Served.{Served}
@@ -19,11 +20,9 @@ use Rattle.line_server.specs.declared.ended.WorkEnd.TheVariants.{Fresh, Done, Do
 use Rattle.line_server.specs.declared.posts.Post.{Post}
 use Rattle.line_server.specs.declared.workers.Worker.{Worker}
 use Rattle.connection_laws.specs.Turns.{IsIdle, Grows, AreMine}
-use Rattle.line_server.specs.Serving.{EndsBy, is_worn_out, most_bytes}
-
--- how many links one worker serves at most
-abbrev pub most_links : ℕ
-most_links = 100_000
+use Rattle.line_server.specs.Serving.{EndsBy, is_worn_out}
+use Rattle.line_server.specs.declared.workers.TheConstants.{MOST_LINKS}
+use Rattle.line_server.specs.declared.serve.TheConstants.{MOST_BYTES}
 
 -- what there is to tell of a served link: the link as the door gave it, its bytes, readings, own
 -- entries and acted lines, and the draws at its end
@@ -51,18 +50,13 @@ owns_of (x ∷ xs) = x.own ++ owns_of xs
 abbrev pub AllUnworn : {L : Type 0} → List (Served L) → Type 0
 AllUnworn {L} served = Each (λ (s : Served L). is_worn_out s.report.outcome ≡ false) served
 
--- the door gave these links first, where it tells
-abbrev pub Gives : {L : Type 0} → Option (List L) → Option (List L) → List L → Type 0
-Gives {L} None new xs = ⊤
-Gives {L} (Some ls) new xs = (rest : List L) × (ls ≡ xs ++ rest) × (new ≡ Some rest)
-
 -- a moment of a worker: its pass, its clock and its door
-pub record Spot (M L : Type 0) : Type 0 where
+pub record WorkerSpot (M L : Type 0) : Type 0 where
   pub pass : Holder M
   pub clock : Option (ℕ → ℕ)
   pub door : Option (List L)
 
-abbrev pub spot : {M L : Type 0} → Holder M → Option (ℕ → ℕ) → Option (List L) → Spot M L
+abbrev pub spot : {M L : Type 0} → Holder M → Option (ℕ → ℕ) → Option (List L) → WorkerSpot M L
 spot pass clock door = record { pass = pass; clock = clock; door = door }
 
 -- a worker at its post: its pass, the readings of its clock and the links of its door that are to
@@ -95,17 +89,17 @@ at_post readings links faults p = post_view readings links faults p.pass p.worke
 abbrev pub WorksTo : {L : Type 0} → Option (List L) → ℕ → ℕ → ℕ → List (Served L) → WorkEnd
     → Type 0
 WorksTo {L} links faults faults' draws served Done =
-    AllUnworn served × (length served < most_links) × IfSome links (λ ls. ls ≡ [])
+    AllUnworn served × (length served < MOST_LINKS) × IfSome links (λ ls. ls ≡ [])
     × (faults' ≡ faults)
 WorksTo {L} links faults faults' draws served DoorFault =
-    AllUnworn served × (length served < most_links) × Rose faults faults'
+    AllUnworn served × (length served < MOST_LINKS) × Rose faults faults'
 WorksTo {L} links faults faults' draws served Enough =
-    AllUnworn served × (length served ≡ most_links) × (faults' ≡ faults)
+    AllUnworn served × (length served ≡ MOST_LINKS) × (faults' ≡ faults)
 WorksTo {L} links faults faults' draws served (Worn n) =
     (front : List (Served L)) × (last : Served L) × (served ≡ front ++ last ∷ []) × AllUnworn front
     × (last.report.outcome ≡ LinkWorn n) × (n ≡ 2 ^ 40) × (draws ≡ 2 ^ 40) × (faults' ≡ faults)
 WorksTo {L} links faults faults' draws served Memory =
-    AllUnworn served × (length served < most_links) × (faults' ≡ faults)
+    AllUnworn served × (length served < MOST_LINKS) × (faults' ≡ faults)
 WorksTo {L} links faults faults' draws served Fresh = ⊥
 
 module _ {L : Type 0} (traffic : L → Traffic) (v : Service) (number : ℕ) where
@@ -123,7 +117,7 @@ module _ {L : Type 0} (traffic : L → Traffic) (v : Service) (number : ℕ) whe
     pub taken_is : Appends (traffic x.begun).taken (traffic s.link).taken x.taken
     pub left_is : Consumes (traffic x.begun).left (traffic s.link).left x.taken
     pub given_is : Appends (traffic x.begun).given (traffic s.link).given x.given
-    pub bounded : length x.taken ≤ most_bytes
+    pub bounded : length x.taken ≤ MOST_BYTES
     pub cause : EndsBy (traffic x.begun) (traffic s.link) x.draws x.taken s.report.outcome
     pub finished : (traffic s.link).finished ≡ true
 
@@ -135,7 +129,7 @@ module _ {L : Type 0} (traffic : L → Traffic) (v : Service) (number : ℕ) whe
   AreServed h own c (s ∷ ss) (x ∷ xs) = IsServed h own c s x × AreServed h own (c + 1) ss xs
 
 module _ {M L : Type 0} (traffic : L → Traffic) (v : Service) (number : ℕ) where
-  pub record Worked (o p : Spot M L) (served : List (Served L)) (tales : List (Tale L))
+  pub record Worked (o p : WorkerSpot M L) (served : List (Served L)) (tales : List (Tale L))
       : Type 0 where
     pub links : AreServed traffic v number p.pass.seen o.pass.own 1 served tales
     pub grows : Grows o.pass p.pass (owns_of tales) (2 * length (hours_of tales))
@@ -143,16 +137,17 @@ module _ {M L : Type 0} (traffic : L → Traffic) (v : Service) (number : ℕ) w
     pub door : Gives o.door p.door (begun_of tales)
 
   -- what one more link comes to
-  abbrev pub WorksOn : Spot M L → Spot M L → ℕ → ℕ → List (Served L) → List (Served L)
+  abbrev pub WorksOn : WorkerSpot M L → WorkerSpot M L → ℕ → ℕ → List (Served L) → List (Served L)
       → Option WorkEnd → Type 0
   WorksOn p p' faults faults' served served' result =
-      (o : Spot M L) (tales : List (Tale L)) → Worked o p served tales → AllUnworn served
+      (o : WorkerSpot M L) (tales : List (Tale L)) → Worked o p served tales → AllUnworn served
       → (tales' : List (Tale L)) × Worked o p' served' tales'
       × MatchOption result (AllUnworn served' × (faults' ≡ faults))
       (λ end. WorksTo p'.door faults faults' p'.pass.draws served' end)
 
   -- all the work of a worker
-  pub record Works (o p : Spot M L) (faults faults' : ℕ) (served : List (Served L)) (end : WorkEnd)
+  pub record Works (o p : WorkerSpot M L) (faults faults' : ℕ) (served : List (Served L))
+      (end : WorkEnd)
       : Type 0 where
     pub tales : List (Tale L)
     pub worked : Worked o p served tales
@@ -167,18 +162,19 @@ module _ {M L : Type 0} (traffic : L → Traffic) (v : Service) where
     pub number_is : b.pass.number ≡ a.pass.number
 
 -- the own entries of each link are the part of its connection
-abbrev pub AreParts : {L : Type 0} → List Entry → ℕ → ℕ → List (Tale L) → Type 0
-AreParts es w c [] = Unit {0}
-AreParts es w c (x ∷ xs) = (part_of (by w c) es ≡ x.own) × AreParts es w (c + 1) xs
+abbrev pub AreOwnParts : {L : Type 0} → List Entry → ℕ → ℕ → List (Tale L) → Type 0
+AreOwnParts es w c [] = Unit {0}
+AreOwnParts es w c (x ∷ xs) = (part_of (by w c) es ≡ x.own) × AreOwnParts es w (c + 1) xs
 
 -- Over the history h of a closed desk, of a worker whose pass had no entry before: each of its
 -- links is told over h, its part of h is the own entries of its links one after the other, and the
 -- own entries of each link are the part of its connection
 abbrev pub IsTellingOfWorkers : (M : Type 0) {L : Type 0} → (L → Traffic) → Service → Type 0
 IsTellingOfWorkers M {L} traffic v =
-    (w : ℕ) (o p : Spot M L) (f f' : ℕ) (served : List (Served L)) (end : WorkEnd) (h : List Entry)
+    (w : ℕ) (o p : WorkerSpot M L) (f f' : ℕ) (served : List (Served L)) (end : WorkEnd)
+    (h : List Entry)
     → o.pass.own ≡ [] → p.pass.number ≡ w
-    → Works traffic v w o p f f' served end → IsTold v.first h p.pass
+    → Works traffic v w o p f f' served end → IsToldBy v.first h p.pass
     → (tales : List (Tale L)) × AreServed traffic v w h [] 1 served tales
     × (part w (drop (length v.first) h) ≡ owns_of tales)
-    × AreParts (drop (length v.first) h) w 1 tales × Gives o.door p.door (begun_of tales)
+    × AreOwnParts (drop (length v.first) h) w 1 tales × Gives o.door p.door (begun_of tales)

@@ -3,7 +3,7 @@ ghost use Rattle.std.specs.Prelude.{◌≡◌};
 ghost use Rattle.turn_lock.specs.Holders.{site_of};
 ghost use Rattle.connection_laws.specs.Turns.{IsIdle};
 
-use connection_laws::{Server, Told, reply_of};
+use connection_laws::{LineAnswer, Server, reply_of};
 use gt_base::Machine;
 use gt_io::Gate;
 use turn_lock::Pass;
@@ -26,7 +26,7 @@ pub(crate) fn keep_turns<M: Machine, R, G: Gate>(server: &Server<M, R, G>, pass:
 pub(crate) fn rest_before<M: Machine, R, G>(
     server: &Server<M, R, G>,
     pass: &mut Pass<M>,
-    told: &Told,
+    told: &LineAnswer,
 )
     requires { IsIdle (site_of server.now.desk.now) pass.old }
     ensures { pass.new ≡ pass.old }

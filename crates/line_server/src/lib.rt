@@ -14,5 +14,5 @@ pub use connection_laws::{LinkEnd, Report};
 pub use ended::{Served, WorkEnd};
 pub use laws::workers_are_told;
 pub use posts::{Post, run_posts, work_at};
-pub use serve::serve_link;
+pub use serve::{MOST_BYTES, serve_link};
 pub use workers::{Worker, work};

@@ -6,21 +6,21 @@ ghost use Rattle.locked_history.specs.Fronts.{by};
 ghost use Rattle.policy_words.specs.Naming.{NamedPolicy};
 ghost use Rattle.request_text.specs.Replies.{fault_word};
 ghost use Rattle.connection_laws.specs.Connection.{Answer};
-ghost use Rattle.connection_laws.specs.Desks.{IsNamedActor, AreNamed, RepliesCanBeTold};
+ghost use Rattle.connection_laws.specs.Desks.{IsNamedActor, MayBeAsked, RepliesCanBeTold};
 ghost use Rattle.connection_laws.specs.Services.{service_at};
 ghost use Rattle.connection_laws.specs.Turns.{IsIdle, IsReached};
-ghost use Rattle.connection_laws.specs.Acting.{moment, IsTold, Decides, Acts, counted, CanCount, HasRoom, CountsUp};
-ghost use Rattle.line_server.specs.Serving.{Sent, point, Goes};
+ghost use Rattle.connection_laws.specs.Acting.{moment, IsTold, Decides, Acts, counted_talk, CanCount, HasRoom, CountsUp};
+ghost use Rattle.line_server.specs.Serving.{Sent, service_point, Goes};
 
 use crate::keeping::rest_before;
-use connection_laws::{LinkEnd, Server, Talk, Told, act, count};
+use connection_laws::{LineAnswer, LinkEnd, Server, Talk, act, count};
 use gt_base::Machine;
 use gt_io::{Clock, Framed, Framer, Gate, Link, send_all};
 use request_text::LineFault;
 use std::sync::Wait;
 use turn_lock::Pass;
 
-// The reply to a line that says nothing.
+/// The reply to a line that says nothing.
 fn fault_reply(fault: LineFault) -> &'static [u8]
     ensures { result.now ≡ codes "bad " ++ fault_word fault ++ codes "\n" }
 {
@@ -31,20 +31,20 @@ fn fault_reply(fault: LineFault) -> &'static [u8]
     }
 }
 
-// Writes the reply of a line.
-fn send<L: Link>(link: &mut L, told: &Told) -> Result<(), LinkEnd>
+/// Writes the reply of a line.
+fn send<L: Link>(link: &mut L, told: &LineAnswer) -> Result<(), LinkEnd>
     ensures sent { (np : NamedPolicy) (answer : Answer) → IsTold np told.now answer
         → Sent np answer (L.traffic link.old) (L.traffic link.new) result }
-    ensures worn { (n : ℕ) → result ≡ Err (LinkEnd.Worn n) → told.now ≡ Told.Worn n }
+    ensures worn { (n : ℕ) → result ≡ Err (LinkEnd.Worn n) → told.now ≡ LineAnswer.Worn n }
 {
     let sent = match told {
-        Told::Silence => Ok(()),
-        Told::Agreed => send_all(link, b"ok\n"),
-        Told::Bad(fault) => send_all(link, fault_reply(*fault)),
-        Told::Reply(text) => send_all(link, text.as_slice()),
-        Told::NoMemory => send_all(link, b"no memory\n"),
-        Told::NoSteps => send_all(link, b"no steps\n"),
-        Told::Worn { draws } => return Err(LinkEnd::Worn { draws: *draws }),
+        LineAnswer::Silence => Ok(()),
+        LineAnswer::Agreed => send_all(link, b"ok\n"),
+        LineAnswer::Bad(fault) => send_all(link, fault_reply(*fault)),
+        LineAnswer::Reply(text) => send_all(link, text.as_slice()),
+        LineAnswer::NoMemory => send_all(link, b"no memory\n"),
+        LineAnswer::NoSteps => send_all(link, b"no steps\n"),
+        LineAnswer::Worn { draws } => return Err(LinkEnd::Worn { draws: *draws }),
     };
     match sent {
         Ok(()) => Ok(()),
@@ -52,29 +52,29 @@ fn send<L: Link>(link: &mut L, told: &Told) -> Result<(), LinkEnd>
     }
 }
 
-// Counts what a line got, and writes its reply.
-fn settle<L: Link>(link: &mut L, talk: &mut Talk, told: &Told) -> Result<(), LinkEnd>
+/// Counts what a line got, and writes its reply.
+fn settle<L: Link>(link: &mut L, talk: &mut Talk, told: &LineAnswer) -> Result<(), LinkEnd>
     requires { CanCount talk.old }
     ensures talk { (np : NamedPolicy) (answer : Answer) → IsTold np told.now answer
-        → talk.new ≡ counted talk.old answer }
+        → talk.new ≡ counted_talk talk.old answer }
     ensures sent { (np : NamedPolicy) (answer : Answer) → IsTold np told.now answer
         → Sent np answer (L.traffic link.old) (L.traffic link.new) result }
-    ensures worn { (n : ℕ) → result ≡ Err (LinkEnd.Worn n) → told.now ≡ Told.Worn n }
+    ensures worn { (n : ℕ) → result ≡ Err (LinkEnd.Worn n) → told.now ≡ LineAnswer.Worn n }
 {
     count(talk, told);
     send(link, told)
 }
 
-// Acts on a line, and keeps no turn where its reply is long.
+/// Acts on a line, and keeps no turn where its reply is long.
 fn act_on<M: Machine, R: Wait, C: Clock, G: Gate>(
     server: &Server<M, R, G>,
     pass: &mut Pass<M>,
     clock: &mut C,
     talk: &mut Talk,
     line: &[u8],
-) -> Told
+) -> LineAnswer
     requires idle { IsIdle (site_of server.now.desk.now) pass.old }
-    requires named { AreNamed server.now.policy.now (M.named server.now.desk.now.root) }
+    requires named { MayBeAsked server.now.policy.now (M.named server.now.desk.now.root) }
     requires replies { RepliesCanBeTold server.now.policy.now (M.legal server.now.desk.now.root) }
     requires actor { IsNamedActor server.now.policy.now talk.old.actor }
     requires room { HasRoom talk.old 1 }
@@ -103,7 +103,7 @@ pub(crate) fn take_byte<M: Machine, R: Wait, L: Link, C: Clock, G: Gate>(
     byte: u8,
 ) -> Result<(), LinkEnd>
     requires idle { IsIdle (site_of server.now.desk.now) pass.old }
-    requires named { AreNamed server.now.policy.now (M.named server.now.desk.now.root) }
+    requires named { MayBeAsked server.now.policy.now (M.named server.now.desk.now.root) }
     requires replies { RepliesCanBeTold server.now.policy.now (M.legal server.now.desk.now.root) }
     requires actor { IsNamedActor server.now.policy.now talk.old.actor }
     requires room { HasRoom talk.old 1 }
@@ -112,8 +112,8 @@ pub(crate) fn take_byte<M: Machine, R: Wait, L: Link, C: Clock, G: Gate>(
     ensures goes { Goes
         (service_at M.list M.legal M.now_of server.now.desk.now server.now.policy.now)
         (by pass.old.number server.now.conn)
-        (point pass.old talk.old (C.readings clock.old) (L.traffic link.old).given)
-        (point pass.new talk.new (C.readings clock.new) (L.traffic link.new).given)
+        (service_point pass.old talk.old (C.readings clock.old) (L.traffic link.old).given)
+        (service_point pass.new talk.new (C.readings clock.new) (L.traffic link.new).given)
         framer.old framer.new (byte ∷ []) (L.traffic link.old).write_faults
         (L.traffic link.new).write_faults result }
     ensures pass { IsIdle (site_of server.now.desk.now) pass.new
@@ -132,6 +132,6 @@ pub(crate) fn take_byte<M: Machine, R: Wait, L: Link, C: Clock, G: Gate>(
             let told = act_on(server, pass, clock, talk, framer.line());
             settle(link, talk, &told)
         }
-        Framed::Long => settle(link, talk, &Told::Bad(LineFault::Long)),
+        Framed::Long => settle(link, talk, &LineAnswer::Bad(LineFault::Long)),
     }
 }

@@ -3,7 +3,7 @@ ghost use Rattle.std.specs.Prelude.{◌≡◌, ◌<◌, ℕ, [], length, All, sl
 ghost use Rattle.turn_lock.specs.Holders.{site_of};
 ghost use Rattle.connection_laws.specs.Services.{service_at};
 ghost use Rattle.connection_laws.specs.Turns.{IsIdle};
-ghost use Rattle.connection_laws.specs.Desks.{AreNamed, RepliesCanBeTold};
+ghost use Rattle.connection_laws.specs.Desks.{MayBeAsked, RepliesCanBeTold};
 ghost use Rattle.line_server.specs.Working.{at_post, HasWorked};
 
 use crate::ended::WorkEnd;
@@ -33,7 +33,7 @@ pub fn work_at<M: Machine, R: Wait, D: Door, C: Clock, G: Gate>(
     post: &mut Post<M, D, C, G>,
 )
     requires idle { IsIdle (site_of desk.now) post.old.pass }
-    requires named { AreNamed policy.now (M.named desk.now.root) }
+    requires named { MayBeAsked policy.now (M.named desk.now.root) }
     requires replies { RepliesCanBeTold policy.now (M.legal desk.now.root) }
     requires fresh { (post.old.worker.outcome ≡ WorkEnd.Fresh)
         × (post.old.worker.served.items ≡ []) }
@@ -44,7 +44,7 @@ pub fn work_at<M: Machine, R: Wait, D: Door, C: Clock, G: Gate>(
     work(rt, alloc, desk, policy, &mut post.pass, &mut post.worker);
 }
 
-// Works at all posts at the same time.
+/// Works at all posts at the same time.
 fn work_at_all<
     R: Threads + Wait + Sync,
     M: Machine + Send,
@@ -58,7 +58,7 @@ where
         (λ p. IsIdle (site_of desk.now) p.pass × (p.worker.outcome ≡ WorkEnd.Fresh)
         × (p.worker.served.items ≡ []))
         posts.old }
-    requires named { AreNamed policy.now (M.named desk.now.root) }
+    requires named { MayBeAsked policy.now (M.named desk.now.root) }
     requires replies { RepliesCanBeTold policy.now (M.legal desk.now.root) }
     ensures { (i : ℕ) (d : _) → i < length posts.old
         → HasWorked D.L.traffic (service_at M.list M.legal M.now_of desk.now policy.now)
@@ -88,7 +88,7 @@ where
         (λ p. IsIdle (site_of desk.now) p.pass × (p.worker.outcome ≡ WorkEnd.Fresh)
         × (p.worker.served.items ≡ []))
         posts.old.items }
-    requires named { AreNamed policy.now (M.named desk.now.root) }
+    requires named { MayBeAsked policy.now (M.named desk.now.root) }
     requires replies { RepliesCanBeTold policy.now (M.legal desk.now.root) }
     ensures length { length posts.new.items ≡ length posts.old.items }
     ensures works { (i : ℕ) (d : _) → i < length posts.old.items

@@ -6,11 +6,11 @@ ghost use Rattle.gt_io.specs.Causes.{HasCause, RisesOnce};
 ghost use Rattle.gt_io.specs.Links.{ReadsNothing, WritesNothing};
 ghost use Rattle.turn_lock.specs.Holders.{site_of};
 ghost use Rattle.locked_history.specs.Fronts.{by};
-ghost use Rattle.connection_laws.specs.Desks.{IsNamedActor, AreNamed, RepliesCanBeTold};
+ghost use Rattle.connection_laws.specs.Desks.{IsNamedActor, MayBeAsked, RepliesCanBeTold};
 ghost use Rattle.connection_laws.specs.Services.{service_at};
 ghost use Rattle.connection_laws.specs.Turns.{IsIdle, IsReached};
 ghost use Rattle.connection_laws.specs.Acting.{HasRoom, CountsUp};
-ghost use Rattle.line_server.specs.Serving.{point, link_view, Goes, IsStart, Converses, Serves, most_bytes};
+ghost use Rattle.line_server.specs.Serving.{service_point, link_view, Goes, IsStart, Converses, Serves};
 
 use crate::keeping::keep_turns;
 use crate::lines::take_byte;
@@ -24,9 +24,9 @@ use std::sync::Wait;
 use turn_lock::Pass;
 
 /// How many bytes are taken from one link at most.
-const MOST_BYTES: usize = 67_108_864;
+pub const MOST_BYTES: usize = 67_108_864;
 
-// Takes on a piece of bytes, up to the line in which the service is cut off.
+/// Takes on a piece of bytes, up to the line in which the service is cut off.
 fn take_bytes<M: Machine, R: Wait, L: Link, C: Clock, G: Gate>(
     server: &Server<M, R, G>,
     pass: &mut Pass<M>,
@@ -37,7 +37,7 @@ fn take_bytes<M: Machine, R: Wait, L: Link, C: Clock, G: Gate>(
     chunk: &[u8],
 ) -> Result<(), LinkEnd>
     requires idle { IsIdle (site_of server.now.desk.now) pass.old }
-    requires named { AreNamed server.now.policy.now (M.named server.now.desk.now.root) }
+    requires named { MayBeAsked server.now.policy.now (M.named server.now.desk.now.root) }
     requires replies { RepliesCanBeTold server.now.policy.now (M.legal server.now.desk.now.root) }
     requires actor { IsNamedActor server.now.policy.now talk.old.actor }
     requires room { HasRoom talk.old (length chunk.now) }
@@ -46,8 +46,8 @@ fn take_bytes<M: Machine, R: Wait, L: Link, C: Clock, G: Gate>(
     ensures goes { Goes
         (service_at M.list M.legal M.now_of server.now.desk.now server.now.policy.now)
         (by pass.old.number server.now.conn)
-        (point pass.old talk.old (C.readings clock.old) (L.traffic link.old).given)
-        (point pass.new talk.new (C.readings clock.new) (L.traffic link.new).given)
+        (service_point pass.old talk.old (C.readings clock.old) (L.traffic link.old).given)
+        (service_point pass.new talk.new (C.readings clock.new) (L.traffic link.new).given)
         framer.old framer.new chunk.now (L.traffic link.old).write_faults
         (L.traffic link.new).write_faults result }
     ensures pass { IsIdle (site_of server.now.desk.now) pass.new
@@ -68,8 +68,8 @@ fn take_bytes<M: Machine, R: Wait, L: Link, C: Clock, G: Gate>(
     Ok(())
 }
 
-// The same, with one turn of the lock for many lines where that keeps nobody waiting for more than
-// the lines of the piece.
+/// The same, with one turn of the lock for many lines where that keeps nobody waiting for more than
+/// the lines of the piece.
 fn take_chunk<M: Machine, R: Wait, L: Link, C: Clock, G: Gate>(
     server: &Server<M, R, G>,
     pass: &mut Pass<M>,
@@ -80,7 +80,7 @@ fn take_chunk<M: Machine, R: Wait, L: Link, C: Clock, G: Gate>(
     chunk: &[u8],
 ) -> Result<(), LinkEnd>
     requires idle { IsIdle (site_of server.now.desk.now) pass.old }
-    requires named { AreNamed server.now.policy.now (M.named server.now.desk.now.root) }
+    requires named { MayBeAsked server.now.policy.now (M.named server.now.desk.now.root) }
     requires replies { RepliesCanBeTold server.now.policy.now (M.legal server.now.desk.now.root) }
     requires actor { IsNamedActor server.now.policy.now talk.old.actor }
     requires room { HasRoom talk.old (length chunk.now) }
@@ -89,8 +89,8 @@ fn take_chunk<M: Machine, R: Wait, L: Link, C: Clock, G: Gate>(
     ensures goes { Goes
         (service_at M.list M.legal M.now_of server.now.desk.now server.now.policy.now)
         (by pass.old.number server.now.conn)
-        (point pass.old talk.old (C.readings clock.old) (L.traffic link.old).given)
-        (point pass.new talk.new (C.readings clock.new) (L.traffic link.new).given)
+        (service_point pass.old talk.old (C.readings clock.old) (L.traffic link.old).given)
+        (service_point pass.new talk.new (C.readings clock.new) (L.traffic link.new).given)
         framer.old framer.new chunk.now (L.traffic link.old).write_faults
         (L.traffic link.new).write_faults result }
     ensures pass { IsIdle (site_of server.now.desk.now) pass.new
@@ -109,7 +109,7 @@ fn take_chunk<M: Machine, R: Wait, L: Link, C: Clock, G: Gate>(
     taken
 }
 
-// Reads some bytes, `left` at most.
+/// Reads some bytes, `left` at most.
 fn read_some<L: Link>(link: &mut L, buf: &mut [u8], left: usize) -> Result<usize, Failed>
     requires buf { 0 < length buf.old }
     requires left { 0 < left }
@@ -128,7 +128,7 @@ fn read_some<L: Link>(link: &mut L, buf: &mut [u8], left: usize) -> Result<usize
     link.read(&mut buf[..room])
 }
 
-// Serves a link to its end.
+/// Serves a link to its end.
 fn converse<M: Machine, R: Wait, L: Link, C: Clock, G: Gate>(
     server: &Server<M, R, G>,
     pass: &mut Pass<M>,
@@ -137,18 +137,18 @@ fn converse<M: Machine, R: Wait, L: Link, C: Clock, G: Gate>(
     talk: &mut Talk,
 ) -> LinkEnd
     requires idle { IsIdle (site_of server.now.desk.now) pass.old }
-    requires named { AreNamed server.now.policy.now (M.named server.now.desk.now.root) }
+    requires named { MayBeAsked server.now.policy.now (M.named server.now.desk.now.root) }
     requires replies { RepliesCanBeTold server.now.policy.now (M.legal server.now.desk.now.root) }
     requires start { IsStart talk.old }
     ensures goes { Converses
         (service_at M.list M.legal M.now_of server.now.desk.now server.now.policy.now)
         (by pass.old.number server.now.conn)
-        (point pass.old talk.old (C.readings clock.old) (L.traffic link.old).given)
-        (point pass.new talk.new (C.readings clock.new) (L.traffic link.new).given)
+        (service_point pass.old talk.old (C.readings clock.old) (L.traffic link.old).given)
+        (service_point pass.new talk.new (C.readings clock.new) (L.traffic link.new).given)
         (L.traffic link.old) (L.traffic link.new) result }
     ensures pass { IsIdle (site_of server.now.desk.now) pass.new
         × (pass.new.number ≡ pass.old.number) }
-    ensures calls { talk.new.calls ≤ talk.old.calls + most_bytes }
+    ensures calls { talk.new.calls ≤ talk.old.calls + MOST_BYTES }
 {
     let mut framer = Framer::new();
     let mut buf = [0u8; 512];
@@ -168,7 +168,7 @@ fn converse<M: Machine, R: Wait, L: Link, C: Clock, G: Gate>(
     LinkEnd::Spent
 }
 
-// Lets a link go, over which nothing more is to go.
+/// Lets a link go, over which nothing more is to go.
 fn let_go<L: Link>(link: &mut L)
     ensures reads { ReadsNothing (L.traffic link.old) (L.traffic link.new) }
     ensures writes { WritesNothing (L.traffic link.old) (L.traffic link.new) }
@@ -194,7 +194,7 @@ pub fn serve_link<M: Machine, R: Wait, L: Link, C: Clock, G: Gate>(
     calls: &mut u64,
 ) -> Report
     requires idle { IsIdle (site_of desk.now) pass.old }
-    requires named { AreNamed policy.now (M.named desk.now.root) }
+    requires named { MayBeAsked policy.now (M.named desk.now.root) }
     requires replies { RepliesCanBeTold policy.now (M.legal desk.now.root) }
     requires calls { calls.old < 2 ^ 63 }
     ensures serves { Serves (service_at M.list M.legal M.now_of desk.now policy.now)
@@ -202,7 +202,7 @@ pub fn serve_link<M: Machine, R: Wait, L: Link, C: Clock, G: Gate>(
         (link_view pass.old calls.old (C.readings clock.old) (L.traffic link.old))
         (link_view pass.new calls.new (C.readings clock.new) (L.traffic link.new)) result }
     ensures pass { IsIdle (site_of desk.now) pass.new × (pass.new.number ≡ pass.old.number) }
-    ensures few { calls.new ≤ calls.old + most_bytes }
+    ensures few { calls.new ≤ calls.old + MOST_BYTES }
 {
     let server = Server {
         rt,

@@ -3,9 +3,10 @@ ghost use Rattle.std.specs.Prelude.{◌≡◌, ◌+◌, ◌*◌, ◌<◌, ◌≤
 ghost use Rattle.turn_lock.specs.Holders.{site_of};
 ghost use Rattle.connection_laws.specs.Services.{service_at};
 ghost use Rattle.connection_laws.specs.Turns.{IsIdle};
-ghost use Rattle.connection_laws.specs.Desks.{AreNamed, RepliesCanBeTold};
-ghost use Rattle.line_server.specs.Serving.{most_bytes, is_worn_out};
-ghost use Rattle.line_server.specs.Working.{spot, post_view, WorksOn, Works, HasWorked, most_links};
+ghost use Rattle.connection_laws.specs.Desks.{MayBeAsked, RepliesCanBeTold};
+ghost use Rattle.line_server.specs.Serving.{is_worn_out};
+ghost use Rattle.line_server.specs.Working.{spot, post_view, WorksOn, Works, HasWorked};
+ghost use Rattle.line_server.specs.declared.serve.TheConstants.{MOST_BYTES};
 
 use crate::ended::{Served, WorkEnd};
 use crate::serve::serve_link;
@@ -19,7 +20,7 @@ use std::sync::Wait;
 use turn_lock::Pass;
 
 /// How many links one worker serves at most.
-const MOST_LINKS: usize = 100_000;
+pub(crate) const MOST_LINKS: usize = 100_000;
 
 /// A worker with its door, clock and gate, and what became of its links.
 pub struct Worker<D: Door, C: Clock, G: Gate> {
@@ -30,7 +31,7 @@ pub struct Worker<D: Door, C: Clock, G: Gate> {
     pub outcome: WorkEnd,
 }
 
-// Whether the pass of a link is worn.
+/// Whether the pass of a link is worn.
 fn worn_of(end: LinkEnd) -> Option<WorkEnd>
     ensures { MatchOption result (is_worn_out end ≡ false)
         (λ worn. (n : ℕ) × (end ≡ LinkEnd.Worn n) × (worn ≡ WorkEnd.Worn n)) }
@@ -41,7 +42,7 @@ fn worn_of(end: LinkEnd) -> Option<WorkEnd>
     }
 }
 
-// Serves the next link of the worker's door, for which there is room.
+/// Serves the next link of the worker's door, for which there is room.
 fn serve_next<M: Machine, R: Wait, D: Door, C: Clock, G: Gate>(
     rt: &R,
     alloc: Global,
@@ -52,18 +53,18 @@ fn serve_next<M: Machine, R: Wait, D: Door, C: Clock, G: Gate>(
     calls: &mut u64,
 ) -> Option<WorkEnd>
     requires idle { IsIdle (site_of desk.now) pass.old }
-    requires named { AreNamed policy.now (M.named desk.now.root) }
+    requires named { MayBeAsked policy.now (M.named desk.now.root) }
     requires replies { RepliesCanBeTold policy.now (M.legal desk.now.root) }
     requires calls { calls.old < 2 ^ 63 }
     requires room { 1 ≤ w.old.served.spare }
-    requires few { length w.old.served.items < most_links }
+    requires few { length w.old.served.items < MOST_LINKS }
     ensures works { WorksOn D.L.traffic (service_at M.list M.legal M.now_of desk.now policy.now)
         pass.old.number
         (spot pass.old (C.readings w.old.clock) (D.links w.old.door))
         (spot pass.new (C.readings w.new.clock) (D.links w.new.door))
         (D.faults w.old.door) (D.faults w.new.door) w.old.served.items w.new.served.items result }
     ensures pass { IsIdle (site_of desk.now) pass.new × (pass.new.number ≡ pass.old.number) }
-    ensures calls { calls.new ≤ calls.old + most_bytes }
+    ensures calls { calls.new ≤ calls.old + MOST_BYTES }
     ensures one { result ≡ None → length w.new.served.items ≡ length w.old.served.items + 1 }
 {
     match w.door.next() {
@@ -89,7 +90,7 @@ fn serve_next<M: Machine, R: Wait, D: Door, C: Clock, G: Gate>(
     }
 }
 
-// Serves the links of the worker's door until it ends.
+/// Serves the links of the worker's door until it ends.
 fn work_on<M: Machine, R: Wait, D: Door, C: Clock, G: Gate>(
     rt: &R,
     alloc: Global,
@@ -99,7 +100,7 @@ fn work_on<M: Machine, R: Wait, D: Door, C: Clock, G: Gate>(
     w: &mut Worker<D, C, G>,
 ) -> WorkEnd
     requires idle { IsIdle (site_of desk.now) pass.old }
-    requires named { AreNamed policy.now (M.named desk.now.root) }
+    requires named { MayBeAsked policy.now (M.named desk.now.root) }
     requires replies { RepliesCanBeTold policy.now (M.legal desk.now.root) }
     requires empty { w.old.served.items ≡ [] }
     ensures works { Works D.L.traffic (service_at M.list M.legal M.now_of desk.now policy.now)
@@ -133,7 +134,7 @@ pub fn work<M: Machine, R: Wait, D: Door, C: Clock, G: Gate>(
     w: &mut Worker<D, C, G>,
 )
     requires idle { IsIdle (site_of desk.now) pass.old }
-    requires named { AreNamed policy.now (M.named desk.now.root) }
+    requires named { MayBeAsked policy.now (M.named desk.now.root) }
     requires replies { RepliesCanBeTold policy.now (M.legal desk.now.root) }
     requires fresh { (w.old.outcome ≡ WorkEnd.Fresh) × (w.old.served.items ≡ []) }
     ensures { HasWorked D.L.traffic (service_at M.list M.legal M.now_of desk.now policy.now)

@@ -1,8 +1,8 @@
 -- A turn at the lock, from its draw to its end.
 use Rattle.std.proofs.Common.{◌≡◌, ◌⊎◌, ℕ, ◌+◌, ◌^◌, ◌<◌, ◌≤◌, List, [], ◌∷◌, ◌++◌, length, drop, None, Some, sym, ap, subst, ◌∙◌, arith, append_assoc, append-nil, Option, inl, inr}
 use mathlib.Core.List.{IsPrefix}
-use Rattle.gt_base.specs.Bounds.{max_steps}
 use Rattle.gt_base.specs.declared.requests.Entry.{Entry}
+use Rattle.gt_base.specs.declared.limits.TheConstants.{MAX_STEPS}
 use Rattle.turn_lock.specs.Turns.{part}
 use Rattle.turn_lock.specs.Holders.{Holder}
 use Rattle.locked_history.specs.Fronts.{Lands, Refuses}
@@ -79,7 +79,7 @@ module _ {M : Type 0} where
         draws = (room, draws);
       }
 
-  pub refused : (a b d : Holder M) (known : List Entry) → a.turn ≡ None → b ≡ record a { draws = a.draws + 1; turn = Some known } → IsPrefix a.seen known → length known ≤ max_steps
+  pub refused : (a b d : Holder M) (known : List Entry) → a.turn ≡ None → b ≡ record a { draws = a.draws + 1; turn = Some known } → IsPrefix a.seen known → length known ≤ MAX_STEPS
       → d ≡ record b { seen = known; turn = None } → Refuses a d
   refused a b d known free drawn seen short left =
       let whole = left_is a b d known drawn left in
@@ -87,7 +87,7 @@ module _ {M : Type 0} where
       let seen_is = ap (λ (p : Holder M). p.seen) whole in
       record {
         seen = subst (IsPrefix a.seen) (sym seen_is) seen;
-        long = inr (subst (λ (l : List Entry). length l ≤ max_steps) (sym seen_is) short);
+        long = inr (subst (λ (l : List Entry). length l ≤ MAX_STEPS) (sym seen_is) short);
         after_is = whole ∙ ap (λ (n : ℕ). record a { draws = n; seen = known; turn = None }) (sym draws)
             ∙ ap (λ (l : List Entry). record a { draws = d.draws; seen = l; turn = None }) (sym seen_is)
             ∙ ap (λ (t : Option (List Entry)). record a { draws = d.draws; seen = d.seen; turn = t }) (sym free);

@@ -1,9 +1,9 @@
 -- What a call at the desk tells of its front.
 use Rattle.std.specs.Prelude.{◌≡◌, ◌⊎◌, ℕ, ◌+◌, ◌^◌, ◌<◌, ◌≤◌, List, ◌++◌, length, drop}
 use mathlib.Core.List.{IsPrefix}
-use Rattle.gt_base.specs.Bounds.{max_steps}
 use Rattle.gt_base.specs.declared.requests.Entry.{Entry}
 use Rattle.gt_base.specs.declared.requests.Who.{Who}
+use Rattle.gt_base.specs.declared.limits.TheConstants.{MAX_STEPS}
 use Rattle.turn_lock.specs.Turns.{part}
 use Rattle.turn_lock.specs.Holders.{Holder}
 
@@ -26,6 +26,6 @@ module _ {M : Type 0} where
   -- drawn
   pub record Refuses (before after : Holder M) : Type 0 where
     pub seen : IsPrefix before.seen after.seen
-    pub long : (after.seen ≡ before.seen) ⊎ (length after.seen ≤ max_steps)
+    pub long : (after.seen ≡ before.seen) ⊎ (length after.seen ≤ MAX_STEPS)
     pub after_is : after ≡ record before { draws = after.draws; seen = after.seen }
     pub draws : (before.draws ≤ after.draws) × (after.draws ≤ before.draws + 1)

@@ -1,11 +1,11 @@
 //! The desk: many threads tick and ask one machine, each in a turn of its own.
 ghost use Rattle.std.specs.Prelude.{◌≡◌, ◌⊎◌, ◌+◌, ◌^◌, ◌<◌, ◌≤◌, ◌++◌, [], ◌∷◌, ℕ, List, length, drop, IfOk, IfErr, OnErr, None, Err};
 ghost use mathlib.Core.List.{IsPrefix};
-ghost use Rattle.gt_base.specs.Bounds.{max_steps};
 ghost use Rattle.gt_base.specs.Machines.{ticked, asked};
 ghost use Rattle.gt_base.specs.declared.requests.Entry.{Entry};
+ghost use Rattle.gt_base.specs.declared.limits.TheConstants.{MAX_STEPS};
 ghost use Rattle.turn_lock.specs.Turns.{Each, part};
-ghost use Rattle.turn_lock.specs.Holders.{site_of, newcomers, AreIdle, HasNumber, IsTold};
+ghost use Rattle.turn_lock.specs.Holders.{site_of, newcomers, AreIdle, HasNumber, IsToldBy};
 ghost use Rattle.locked_history.specs.Fronts.{by, Lands, Refuses};
 
 use crate::faults::DeskFault;
@@ -74,11 +74,11 @@ impl<M: Machine> Desk<M> {
             × (a.front
             ≡ before ++ asked (by pass.old.number conn) actor request a.reply ∷ [])) }
         ensures legal { IfOk result
-            (λ a. M.legal self.now.root a.front × (length a.front ≤ max_steps)
+            (λ a. M.legal self.now.root a.front × (length a.front ≤ MAX_STEPS)
             × (a.at ≡ M.now_of self.now.root a.front)) }
         ensures refused { OnErr result (Refuses pass.old pass.new) }
         ensures full { result ≡ Err DeskFault.StepsFull
-            → (length pass.new.seen ≡ max_steps) × (pass.old.draws < 2 ^ 40)
+            → (length pass.new.seen ≡ MAX_STEPS) × (pass.old.draws < 2 ^ 40)
             × (pass.new.draws ≡ pass.old.draws + 1) }
         ensures worn { (n : ℕ) → result ≡ Err (DeskFault.Worn n)
             → (n ≡ 2 ^ 40) × (pass.old.draws ≡ 2 ^ 40) × (pass.new ≡ pass.old) }
@@ -127,11 +127,11 @@ impl<M: Machine> Desk<M> {
             ⊎ ((before : List Entry)
             × (t.front ≡ before ++ ticked (by pass.old.number conn) upto t.now ∷ []))) }
         ensures legal { IfOk result
-            (λ t. M.legal self.now.root t.front × (length t.front ≤ max_steps)
+            (λ t. M.legal self.now.root t.front × (length t.front ≤ MAX_STEPS)
             × (t.now ≡ M.now_of self.now.root t.front)) }
         ensures refused { OnErr result (Refuses pass.old pass.new) }
         ensures full { result ≡ Err DeskFault.StepsFull
-            → (length pass.new.seen ≡ max_steps) × (M.now_of self.now.root pass.new.seen < upto)
+            → (length pass.new.seen ≡ MAX_STEPS) × (M.now_of self.now.root pass.new.seen < upto)
             × (pass.old.draws < 2 ^ 40) × (pass.new.draws ≡ pass.old.draws + 1) }
         ensures worn { (n : ℕ) → result ≡ Err (DeskFault.Worn n)
             → (n ≡ 2 ^ 40) × (pass.old.draws ≡ 2 ^ 40) × (pass.new ≡ pass.old) }
@@ -176,7 +176,7 @@ impl<M: Machine> Desk<M> {
         requires all { (n : ℕ) → n < self.passes → HasNumber n passes.items }
         ensures root { M.same_root self.root result }
         ensures first { IsPrefix (M.list self.root) (M.list result) }
-        ensures each { Each (IsTold (M.list self.root) (M.list result)) passes.items }
+        ensures each { Each (IsToldBy (M.list self.root) (M.list result)) passes.items }
         ensures others { (n : ℕ) → self.passes ≤ n
             → part n (drop (length (M.list self.root)) (M.list result)) ≡ [] }
     {

@@ -7,8 +7,8 @@ use Rattle.gtrbac_model.specs.Valid.{is_below, is_same}
 use Rattle.periodic_expr.specs.declared.faults.ExprFault.{ExprFault}
 use Rattle.periodic_expr.specs.declared.faults.ExprKind.{ExprKind}
 use Rattle.periodic_expr.specs.declared.faults.ExprKind.TheVariants.{Syntax, FirstNotAll, NotFiner, ZeroIndex, EmptySet, BadLength}
-use Rattle.periodic_expr.specs.declared.scan.Place.{Place}
-use Rattle.periodic_expr.specs.declared.scan.Place.TheVariants.{Start, PartDone, Finished}
+use Rattle.periodic_expr.specs.declared.scan.ScanPlace.{ScanPlace}
+use Rattle.periodic_expr.specs.declared.scan.ScanPlace.TheVariants.{Start, PartDone, Finished}
 use Rattle.periodic_expr.specs.declared.scan.Move.{Move}
 use Rattle.periodic_expr.specs.Scan.{moved}
 use Rattle.periodic_expr.specs.Sketch.{Sketch, empty, acted}
@@ -19,19 +19,19 @@ use Rattle.periodic_expr.proofs.Meant.{said, faulty, grammar_said, grammar_fault
 use Rattle.periodic_expr.proofs.Sound.{accepts, is_end, accepted_in_grammar}
 
 -- a text that the scan does not accept is refused for its syntax
-abbrev Refused : ℕ → Place → Sketch → List ℕ → Type 0
+abbrev Refused : ℕ → ScanPlace → Sketch → List ℕ → Type 0
 Refused at place s ys = (n : ℕ) × (read_from at place s ys ≡ syntax n)
 
-ends_badly : (at : ℕ) (place : Place) (s : Sketch) → is_end place ≡ false → Refused at place s []
+ends_badly : (at : ℕ) (place : ScanPlace) (s : Sketch) → is_end place ≡ false → Refused at place s []
 ends_badly at PartDone s h = absurd (false≢true (sym h))
 ends_badly at Finished s h = absurd (false≢true (sym h))
 ends_badly at _ s h = (at, refl)
 
-refused_by : (at : ℕ) (place : Place) (s : Sketch) (b : ℕ) (bs : List ℕ) (o : Option Move) → moved place b ≡ o → ((m : Move) → accepts m.place bs ≡ false → Refused (at + 1) m.place (acted m.act at s) bs) → elim o [ None ↦ false | Some m ↦ accepts m.place bs ] ≡ false → Refused at place s (b ∷ bs)
+refused_by : (at : ℕ) (place : ScanPlace) (s : Sketch) (b : ℕ) (bs : List ℕ) (o : Option Move) → moved place b ≡ o → ((m : Move) → accepts m.place bs ≡ false → Refused (at + 1) m.place (acted m.act at s) bs) → elim o [ None ↦ false | Some m ↦ accepts m.place bs ] ≡ false → Refused at place s (b ∷ bs)
 refused_by at place s b bs None e go h = (at, read_step at place s b bs None e)
 refused_by at place s b bs (Some m) e go h = let r = go m h in (r.0, read_step at place s b bs (Some m) e ∙ r.1)
 
-refused : (ys : List ℕ) (at : ℕ) (place : Place) (s : Sketch) → accepts place ys ≡ false → Refused at place s ys
+refused : (ys : List ℕ) (at : ℕ) (place : ScanPlace) (s : Sketch) → accepts place ys ≡ false → Refused at place s ys
 refused [] at place s h = ends_badly at place s h
 refused (b ∷ bs) at place s h = refused_by at place s b bs (moved place b) refl (λ m a. refused bs (at + 1) m.place (acted m.act at s) a) h
 

@@ -1,5 +1,5 @@
 -- What the scan has found of a tree is what the tree means, and its first fault is the tree's.
-use Rattle.std.proofs.Common.{◌≡◌, ℕ, Bool, true, false, not, ◌&&◌, ◌||◌, nat_le, nat_lt, nat_eq, List, [], ◌∷◌, ◌++◌, length, take, drop, map, Option, Some, None, refl, ap, sym, ◌∙◌, append_assoc}
+use Rattle.std.proofs.Common.{◌≡◌, ℕ, Bool, true, false, not, ◌&&◌, ◌||◌, nat_le, nat_lt, nat_eq, List, [], ◌∷◌, ◌++◌, length, take, drop, map, Option, Some, None, refl, ap, sym, ◌∙◌, append_assoc, if◌then◌else◌}
 use Rattle.std.specs.List.{list_any, insert, take_while}
 use Rattle.std.proofs.lemmas.Bool.{false≢true}
 use Rattle.gtrbac_model.specs.declared.calendars.Calendar.{Calendar}
@@ -70,7 +70,7 @@ some_put : (n : ℕ) (ks : List ℕ) → some (put_in n ks) ≡ true
 some_put n [] = refl
 some_put n (k ∷ ks) = chosen (list_any (nat_eq n) (k ∷ ks))
   where
-    chosen : (b : Bool) → some (elim b [ true ↦ k ∷ ks | false ↦ insert (k ∷ ks) (length (take_while (λ m. nat_lt m n) (k ∷ ks))) n ]) ≡ true
+    chosen : (b : Bool) → some (if b then k ∷ ks else insert (k ∷ ks) (length (take_while (λ m. nat_lt m n) (k ∷ ks))) n) ≡ true
     chosen true = refl
     chosen false = some_append (take (length (take_while (λ m. nat_lt m n) (k ∷ ks))) (k ∷ ks)) (n ∷ drop (length (take_while (λ m. nat_lt m n) (k ∷ ks))) (k ∷ ks)) refl
 

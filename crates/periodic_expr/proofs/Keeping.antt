@@ -11,7 +11,7 @@ use Rattle.periodic_expr.specs.declared.faults.ExprKind.TheVariants.{FirstNotAll
 use Rattle.periodic_expr.specs.declared.scan.Act.{Act}
 use Rattle.periodic_expr.specs.declared.scan.Act.TheVariants.{Nothing, Open, Begin, Index, Length, Part as PartEnds, Unit as UnitEnds}
 use Rattle.periodic_expr.specs.Scan.{IsSmall}
-use Rattle.periodic_expr.specs.Sketch.{Sketch, empty, noted, put_into, has_number, is_empty, is_rising, acted, IsSound, Keeps}
+use Rattle.periodic_expr.specs.Sketch.{Sketch, empty, noted, put_into, has_number, is_empty, is_rising, acted, IsSound, KeepsSketch}
 use Rattle.periodic_expr.proofs.Sets.{put_rises}
 use Rattle.periodic_expr.proofs.Chains.{same_itself, all_to, all_more, all_first, last_by_more}
 
@@ -56,10 +56,10 @@ longer (p ∷ ps) a q chain last first set below = record {
   last = ap (λ c. is_same c q.calendar) (last_by_more (p ∷ ps) q) ∙ same_itself q.calendar;
 }
 
-pub keeps_empty : Keeps empty
+pub keeps_empty : KeepsSketch empty
 keeps_empty h = record { chain = refl; last = refl; unit = refl; first = refl; rises = refl; least = omega arith; most = omega arith }
 
-pub keeps_acted : (act : Act) (at : ℕ) (s : Sketch) → IsSmall act → Keeps s → Keeps (acted act at s)
+pub keeps_acted : (act : Act) (at : ℕ) (s : Sketch) → IsSmall act → KeepsSketch s → KeepsSketch (acted act at s)
 keeps_acted Nothing at s small k h = k h
 keeps_acted Begin at s small k h =
     let v = k h in

@@ -1,10 +1,10 @@
 -- The tokens of a text, read one after another.
-use Rattle.std.proofs.Common.{◌≡◌, ℕ, suc, ◌+◌, Bool, true, false, List, [], ◌∷◌, ◌++◌, length, Option, None, refl, ap, sym, ◌∙◌, arith, append_assoc, codes, nat_eq, inl, inr, ◌⊎◌}
+use Rattle.std.proofs.Common.{◌≡◌, ℕ, suc, ◌+◌, Bool, true, false, List, [], ◌∷◌, ◌++◌, length, Option, None, refl, ap, sym, ◌∙◌, arith, append_assoc, codes, nat_eq, inl, inr, ◌⊎◌, if◌then◌else◌}
 use Rattle.std.specs.List.{list_all}
 use Rattle.std.proofs.lemmas.Bool.{and_parts, leb-true, or_cases, eqb-true, false≢true}
 use Rattle.gtrbac_model.specs.declared.calendars.Calendar.{Calendar}
-use Rattle.periodic_expr.specs.declared.scan.Place.{Place}
-use Rattle.periodic_expr.specs.declared.scan.Place.TheVariants.{PartNext, DotNext, CalendarNext, PartDone, PartPast, SetFirst, SetNext, Digits, NumberPast, LengthNext, LengthDot, UnitNext, Finished}
+use Rattle.periodic_expr.specs.declared.scan.ScanPlace.{ScanPlace}
+use Rattle.periodic_expr.specs.declared.scan.ScanPlace.TheVariants.{PartNext, DotNext, CalendarNext, PartDone, PartPast, SetFirst, SetNext, Digits, NumberPast, LengthNext, LengthDot, UnitNext, Finished}
 use Rattle.periodic_expr.specs.declared.scan.Act.{Act}
 use Rattle.periodic_expr.specs.declared.scan.Act.TheVariants.{Nothing, Open, Begin, Index, Length}
 use Rattle.periodic_expr.specs.declared.scan.Move.{Move}
@@ -16,21 +16,21 @@ use Rattle.periodic_expr.proofs.Steps.{read_step}
 use Rattle.periodic_expr.proofs.Tokens.{Stays, skip, part_ended, unit_ended, part_calendar, unit_calendar, Begins, number}
 
 -- the scan takes the first tokens, and the others lie on what is left
-pub record Reads (at : ℕ) (place : Place) (s : Sketch) (text : List ℕ) (tokens : List Token) (next : Place) (t : Sketch) : Type 0 where
+pub record Reads (at : ℕ) (place : ScanPlace) (s : Sketch) (text : List ℕ) (tokens : List Token) (next : ScanPlace) (t : Sketch) : Type 0 where
   pub to_at : ℕ
   pub rest : List ℕ
   pub lies : Lies to_at tokens rest
   pub same : read_from at place s text ≡ read_from to_at next t rest
 
 -- one reading after another
-pub and_then : (at : ℕ) (place : Place) (s : Sketch) (text : List ℕ) (us vs : List Token) (next last : Place) (t u : Sketch) → (r : Reads at place s text us next t) → Reads r.to_at next t r.rest vs last u → Reads at place s text vs last u
+pub and_then : (at : ℕ) (place : ScanPlace) (s : Sketch) (text : List ℕ) (us vs : List Token) (next last : ScanPlace) (t u : Sketch) → (r : Reads at place s text us next t) → Reads r.to_at next t r.rest vs last u → Reads at place s text vs last u
 and_then at place s text us vs next last t u r q = record { to_at = q.to_at; rest = q.rest; lies = q.lies; same = r.same ∙ q.same }
 
 regroup : (gap word rest : List ℕ) → gap ++ word ++ rest ≡ gap ++ (word ++ rest)
 regroup gap word rest = rw append_assoc
 
 -- a token that is taken whole behind blanks
-taken : (place : Place) → Stays place → (token : Token) (ts : List Token) (at : ℕ) (text : List ℕ) (s : Sketch) (next : Place) (after : ℕ → Sketch) → ((k : ℕ) (rest : List ℕ) → read_from k place s (token.text ++ rest) ≡ read_from (k + length token.text) next (after k) rest) → (t : Sketch) → ((k : ℕ) → IsAt token.place k → after k ≡ t) → Lies at (token ∷ ts) text → Reads at place s text ts next t
+taken : (place : ScanPlace) → Stays place → (token : Token) (ts : List Token) (at : ℕ) (text : List ℕ) (s : Sketch) (next : ScanPlace) (after : ℕ → Sketch) → ((k : ℕ) (rest : List ℕ) → read_from k place s (token.text ++ rest) ≡ read_from (k + length token.text) next (after k) rest) → (t : Sketch) → ((k : ℕ) → IsAt token.place k → after k ≡ t) → Lies at (token ∷ ts) text → Reads at place s text ts next t
 taken place stays token ts at text s next after takes t told (gap, rest, e, blanks, is_at, lies) =
     let k = at + length gap in
     record {
@@ -43,10 +43,10 @@ taken place stays token ts at text s next after takes t told (gap, rest, e, blan
 
 -- places between two tokens
 
-blank_keeps : (place : Place) (other : Option Move) (b : ℕ) → is_blank b ≡ true → elim (is_blank b) as (λ x. Option Move) [ true ↦ to place Nothing | false ↦ other ] ≡ to place Nothing
+blank_keeps : (place : ScanPlace) (other : Option Move) (b : ℕ) → is_blank b ≡ true → (if is_blank b then to place Nothing else other) ≡ to place Nothing
 blank_keeps place other b h = kept (is_blank b) h
   where
-    kept : (t : Bool) → t ≡ true → elim t as (λ x. Option Move) [ true ↦ to place Nothing | false ↦ other ] ≡ to place Nothing
+    kept : (t : Bool) → t ≡ true → (if t then to place Nothing else other) ≡ to place Nothing
     kept true e = refl
     kept false e = absurd (false≢true e)
 
@@ -93,7 +93,7 @@ pub unit : (c : Calendar) (n : ℕ) (ts : List Token) (at : ℕ) (text : List �
 unit c n ts at text s h =
     taken UnitNext unit_stays (placed n (calendar_word c)) ts at text s Finished (λ k. unit_ended c k s) (λ k rest. unit_calendar c k s rest) (unit_ended c n s) (λ k told. ap (λ x. unit_ended c x s) (sym told)) h
 
-pub counted : (span : Bool) (place : Place) → Stays place → Begins span place → (n : Number) → is_short n ≡ true → (ts : List Token) (at : ℕ) (text : List ℕ) (s : Sketch) → Lies at (number_token n ∷ ts) text → Reads at place s text ts (Digits span n.value) (acted Begin n.place s)
+pub counted : (span : Bool) (place : ScanPlace) → Stays place → Begins span place → (n : Number) → is_short n ≡ true → (ts : List Token) (at : ℕ) (text : List ℕ) (s : Sketch) → Lies at (number_token n ∷ ts) text → Reads at place s text ts (Digits span n.value) (acted Begin n.place s)
 counted span place stays begins n short ts at text s h =
     taken place stays (number_token n) ts at text s (Digits span n.value) (λ k. acted Begin k s) (λ k rest. number span place begins n.value (leb-true n.value 999_999_999 short) k s rest) (acted Begin n.place s) (λ k told. ap (λ x. acted Begin x s) (sym told)) h
 
@@ -114,7 +114,7 @@ closed ts at text s h = taken SetFirst first_stays (mark (codes "}")) ts at text
 -- behind a number of a set, and behind that of the length
 
 -- the byte leads on alike directly behind the number and after blanks
-after_digits : (span : Bool) (v : ℕ) (past : Place) (act : Act) (c : ℕ) (next : Place) → Stays past → ((b : ℕ) → is_blank b ≡ true → moved (Digits span v) b ≡ to past act) → moved (Digits span v) c ≡ to next act → moved past c ≡ to next Nothing
+after_digits : (span : Bool) (v : ℕ) (past : ScanPlace) (act : Act) (c : ℕ) (next : ScanPlace) → Stays past → ((b : ℕ) → is_blank b ≡ true → moved (Digits span v) b ≡ to past act) → moved (Digits span v) c ≡ to next act → moved past c ≡ to next Nothing
     → (acts : (k : ℕ) (s : Sketch) → acted act k s ≡ acted act 0 s) → (gap : List ℕ) (at : ℕ) (s : Sketch) (rest : List ℕ) → list_all is_blank gap ≡ true → read_from at (Digits span v) s (gap ++ c ∷ rest) ≡ read_from (at + length gap + 1) next (acted act 0 s) rest
 after_digits span v past act c next stays blank here there acts [] at s rest h =
     let e : at + 1 ≡ at + 0 + 1 = omega arith in
@@ -128,7 +128,7 @@ after_digits span v past act c next stays blank here there acts (g ∷ gs) at s 
     ∙ read_step (at + 1 + length gs) past (acted act 0 s) c rest (to next Nothing) there
     ∙ ap (λ k. read_from k next (acted act 0 s) rest) e
 
-behind : (span : Bool) (v : ℕ) (past : Place) (act : Act) (c : ℕ) (next : Place) → Stays past → ((b : ℕ) → is_blank b ≡ true → moved (Digits span v) b ≡ to past act) → moved (Digits span v) c ≡ to next act → moved past c ≡ to next Nothing
+behind : (span : Bool) (v : ℕ) (past : ScanPlace) (act : Act) (c : ℕ) (next : ScanPlace) → Stays past → ((b : ℕ) → is_blank b ≡ true → moved (Digits span v) b ≡ to past act) → moved (Digits span v) c ≡ to next act → moved past c ≡ to next Nothing
     → (acts : (k : ℕ) (s : Sketch) → acted act k s ≡ acted act 0 s) → (ts : List Token) (at : ℕ) (text : List ℕ) (s : Sketch) → Lies at (mark (c ∷ []) ∷ ts) text → Reads at (Digits span v) s text ts next (acted act 0 s)
 behind span v past act c next stays blank here there acts ts at text s (gap, rest, e, blanks, is_at, lies) = record {
   to_at = at + length gap + 1;
@@ -166,7 +166,7 @@ part_gap (g ∷ gs) at s c rest h =
     let e : at + 1 + length gs ≡ at + suc (length gs) = omega arith in
     read_step at PartDone s g (gs ++ c ∷ rest) (to PartPast Nothing) (past_stays g both.0) ∙ skip PartPast past_stays gs (at + 1) s (c ∷ rest) both.1 ∙ ap (λ k. read_from k PartPast s (c ∷ rest)) e
 
-pub behind_part : (c : ℕ) (next : Place) → moved PartPast c ≡ to next Nothing → (ts : List Token) (at : ℕ) (text : List ℕ) (s : Sketch) → Lies at (mark (c ∷ []) ∷ ts) text → Reads at PartDone s text ts next s
+pub behind_part : (c : ℕ) (next : ScanPlace) → moved PartPast c ≡ to next Nothing → (ts : List Token) (at : ℕ) (text : List ℕ) (s : Sketch) → Lies at (mark (c ∷ []) ∷ ts) text → Reads at PartDone s text ts next s
 behind_part c next goes ts at text s (gap, rest, e, blanks, is_at, lies) = record {
   to_at = at + length gap + 1;
   rest = rest;

@@ -1,5 +1,5 @@
 -- A set that is put together number by number ascends.
-use Rattle.std.proofs.Common.{◌≡◌, ℕ, zero, suc, ◌<◌, ◌≤◌, ◌+◌, Bool, true, false, cond, ◌&&◌, nat_eq, nat_lt, nat_le, List, [], ◌∷◌, length, refl, ap, ◌∙◌, arith, inl, inr}
+use Rattle.std.proofs.Common.{◌≡◌, ℕ, zero, suc, ◌<◌, ◌≤◌, ◌+◌, Bool, true, false, cond, ◌&&◌, nat_eq, nat_lt, nat_le, List, [], ◌∷◌, length, refl, ap, ◌∙◌, arith, inl, inr, if◌then◌else◌}
 use Rattle.std.proofs.lemmas.Bool.{and_parts, and_from, or_parts, ltb-true, ltb-false, lt-ltb, le-leb, eqb-false, cases_Bool}
 use Rattle.std.specs.List.{list_any, list_all, take_while, insert, prefix_len}
 use Rattle.std.proofs.lemmas.List.Folds.{length-prefix_len}
@@ -48,7 +48,7 @@ abbrev pub has_nine : ℕ → Bool
 has_nine m = nat_le m 999_999_999
 
 abbrev chosen : ℕ → List ℕ → Bool → List ℕ
-chosen n ns b = elim b [ true ↦ ns | false ↦ insert ns (length (take_while (below n) ns)) n ]
+chosen n ns b = if b then ns else insert ns (length (take_while (below n) ns)) n
 
 pub put_by : (n : ℕ) (ns : List ℕ) (b : Bool) → list_any (nat_eq n) ns ≡ b → put_in n ns ≡ chosen n ns b
 put_by n ns b e = ap (chosen n ns) e

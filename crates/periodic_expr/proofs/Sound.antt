@@ -1,13 +1,13 @@
 -- What the scan accepts is in the grammar.
-use Rattle.std.proofs.Common.{◌≡◌, ℕ, zero, suc, ◌+◌, ◌-◌, ◌*◌, ◌/◌, ◌%◌, ◌<◌, ◌≤◌, Bool, true, false, ◌&&◌, nat_le, nat_eq, List, [], ◌∷◌, ◌++◌, length, take, drop, drop-cons, get_or, flat_map, slice_index, Option, Some, None, refl, ap, sym, subst, ◌∙◌, arith, append_assoc, codes, decimal}
+use Rattle.std.proofs.Common.{◌≡◌, ℕ, zero, suc, ◌+◌, ◌-◌, ◌*◌, ◌/◌, ◌%◌, ◌<◌, ◌≤◌, Bool, true, false, ◌&&◌, nat_le, nat_eq, List, [], ◌∷◌, ◌++◌, length, take, drop, drop-cons, get_or, flat_map, slice_index, Option, Some, None, refl, ap, sym, subst, ◌∙◌, arith, append_assoc, codes, decimal, if◌then◌else◌}
 use Rattle.std.specs.List.{list_all}
 use Rattle.std.proofs.lemmas.Bool.{false≢true, and_parts, and_from, eqb-true, eqb-false, leb-true, le-leb}
 use Rattle.std.proofs.lemmas.Fmt.{decimal_digit, decimal_step}
 use Rattle.gt_base.specs.Names.{is_digit}
 use Rattle.gtrbac_model.specs.declared.calendars.Calendar.{Calendar}
 use Rattle.gtrbac_model.specs.declared.calendars.Calendar.TheVariants.{Years, Months, Weeks, Days, Hours, Minutes}
-use Rattle.periodic_expr.specs.declared.scan.Place.{Place}
-use Rattle.periodic_expr.specs.declared.scan.Place.TheVariants.{Start, PartNext, OneLetter, TwoLetters, DotNext, CalendarNext, Letters, PartDone, PartPast, SetFirst, Digits, NumberPast, SetNext, LengthNext, LengthDot, UnitNext, Finished}
+use Rattle.periodic_expr.specs.declared.scan.ScanPlace.{ScanPlace}
+use Rattle.periodic_expr.specs.declared.scan.ScanPlace.TheVariants.{Start, PartNext, OneLetter, TwoLetters, DotNext, CalendarNext, Letters, PartDone, PartPast, SetFirst, Digits, NumberPast, SetNext, LengthNext, LengthDot, UnitNext, Finished}
 use Rattle.periodic_expr.specs.declared.scan.Act.TheVariants.{Nothing, Open, Begin, Index, Length}
 use Rattle.periodic_expr.specs.declared.scan.Move.{Move}
 use Rattle.periodic_expr.specs.Scan.{is_blank, calendar_word, moved, to, on, part_start, calendar_start, calendar_end, next_letter, other_letters, number_start, after_index, after_number, after_part, set_first, IsSized}
@@ -211,14 +211,14 @@ more_digits v b P bs h low high i =
     let same : (decimal v ++ b ∷ []) ++ i.ds ≡ decimal v ++ b ∷ i.ds = rw append_assoc in
     record { value = i.value; ds = b ∷ i.ds; zs = i.zs; text = i.text ∙ ap (λ x. x ++ i.ds) step ∙ same; small = i.small; left = ap (λ x. b ∷ x) i.left; after = i.after }
 
-bool_case : (K : Option Move → Type 0) (t : Bool) (x y : Option Move) → (t ≡ true → K x) → K y → K (elim t [ true ↦ x | false ↦ y ])
+bool_case : (K : Option Move → Type 0) (t : Bool) (x y : Option Move) → (t ≡ true → K x) → K y → K (if t then x else y)
 bool_case K true x y f g = f refl
 bool_case K false x y f g = g
 
 index_digits : (v b : ℕ) (bs : List ℕ) → v ≤ 999_999_999 → Step (Digits false v) b bs (moved (Digits false v) b)
 index_digits v b bs small =
     let K = Step (Digits false v) b bs in
-    digit_case K b (elim (nat_le 1 v && nat_le v 99_999_999) [ true ↦ to (Digits false (10 * v + (b - 48))) Nothing | false ↦ None ]) (after_number false v b)
+    digit_case K b (if nat_le 1 v && nat_le v 99_999_999 then to (Digits false (10 * v + (b - 48))) Nothing else None) (after_number false v b)
     (λ h. bool_case K (nat_le 1 v && nat_le v 99_999_999) (to (Digits false (10 * v + (b - 48))) Nothing) None
     (λ t. (let both = and_parts (nat_le 1 v) (nat_le v 99_999_999) t in
     let low = leb-true 1 v both.0 in
@@ -232,7 +232,7 @@ index_digits v b bs small =
 length_digits : (v b : ℕ) (bs : List ℕ) → v ≤ 999_999_999 → Step (Digits true v) b bs (moved (Digits true v) b)
 length_digits v b bs small =
     let K = Step (Digits true v) b bs in
-    digit_case K b (elim (nat_le 1 v && nat_le v 99_999_999) [ true ↦ to (Digits true (10 * v + (b - 48))) Nothing | false ↦ None ]) (after_number true v b)
+    digit_case K b (if nat_le 1 v && nat_le v 99_999_999 then to (Digits true (10 * v + (b - 48))) Nothing else None) (after_number true v b)
     (λ h. bool_case K (nat_le 1 v && nat_le v 99_999_999) (to (Digits true (10 * v + (b - 48))) Nothing) None
     (λ t. (let both = and_parts (nat_le 1 v) (nat_le v 99_999_999) t in
     let low = leb-true 1 v both.0 in
@@ -313,11 +313,11 @@ letters_false c k b bs h =
     on_case K b (slice_index (calendar_word c) k) (next_letter false c k) (other_letters false c k b)
     (λ e. next_letters e (nat_eq (k + 1) (length (calendar_word c))) refl) (other c)
   where
-    next_letters : b ≡ slice_index (calendar_word c) k → (t : Bool) → nat_eq (k + 1) (length (calendar_word c)) ≡ t → Step (Letters false c k) b bs (elim t [ true ↦ calendar_end false c | false ↦ to (Letters false c (k + 1)) Nothing ])
+    next_letters : b ≡ slice_index (calendar_word c) k → (t : Bool) → nat_eq (k + 1) (length (calendar_word c)) ≡ t → Step (Letters false c k) b bs (if t then calendar_end false c else to (Letters false c (k + 1)) Nothing)
     next_letters e true ends = (tt, last_letter c k b (Fits IsRest) bs (eqb-true (k + 1) (length (calendar_word c)) ends) e)
     next_letters e false ends = let ne = eqb-false (k + 1) (length (calendar_word c)) ends in (omega arith, more_letters c k b (Fits IsRest) bs h e)
 
-    minutes : (t : Bool) → (nat_eq k 1 && nat_eq b 105) ≡ t → Step (Letters false Months k) b bs (elim t [ true ↦ to (Letters false Minutes 2) Nothing | false ↦ None ])
+    minutes : (t : Bool) → (nat_eq k 1 && nat_eq b 105) ≡ t → Step (Letters false Months k) b bs (if t then to (Letters false Minutes 2) Nothing else None)
     minutes true e =
         let both = and_parts (nat_eq k 1) (nat_eq b 105) e in
         (omega arith, mi_letters k b (Fits IsRest) bs (eqb-true k 1 both.0) (eqb-true b 105 both.1))
@@ -337,11 +337,11 @@ letters_true c k b bs h =
     on_case K b (slice_index (calendar_word c) k) (next_letter true c k) (other_letters true c k b)
     (λ e. next_letters e (nat_eq (k + 1) (length (calendar_word c))) refl) (other c)
   where
-    next_letters : b ≡ slice_index (calendar_word c) k → (t : Bool) → nat_eq (k + 1) (length (calendar_word c)) ≡ t → Step (Letters true c k) b bs (elim t [ true ↦ calendar_end true c | false ↦ to (Letters true c (k + 1)) Nothing ])
+    next_letters : b ≡ slice_index (calendar_word c) k → (t : Bool) → nat_eq (k + 1) (length (calendar_word c)) ≡ t → Step (Letters true c k) b bs (if t then calendar_end true c else to (Letters true c (k + 1)) Nothing)
     next_letters e true ends = (tt, last_letter c k b (λ zs. zs ≡ []) bs (eqb-true (k + 1) (length (calendar_word c)) ends) e)
     next_letters e false ends = let ne = eqb-false (k + 1) (length (calendar_word c)) ends in (omega arith, more_letters c k b (λ zs. zs ≡ []) bs h e)
 
-    minutes : (t : Bool) → (nat_eq k 1 && nat_eq b 105) ≡ t → Step (Letters true Months k) b bs (elim t [ true ↦ to (Letters true Minutes 2) Nothing | false ↦ None ])
+    minutes : (t : Bool) → (nat_eq k 1 && nat_eq b 105) ≡ t → Step (Letters true Months k) b bs (if t then to (Letters true Minutes 2) Nothing else None)
     minutes true e =
         let both = and_parts (nat_eq k 1) (nat_eq b 105) e in
         (omega arith, mi_letters k b (λ zs. zs ≡ []) bs (eqb-true k 1 both.0) (eqb-true b 105 both.1))
@@ -466,7 +466,7 @@ done_part b bs =
     (on_case K b 43 (to PartNext Nothing) (on b 62 (to LengthNext Nothing) None) (λ e. (tt, λ f. rest_of (b ∷ bs) (byte_fits IsPart IsMore b 43 bs plus_more e f)))
     (on_case K b 62 (to LengthNext Nothing) None (λ e. (tt, λ f. rest_of (b ∷ bs) (byte_fits IsLength IsMore b 62 bs length_more e f))) tt))
 
-every_step : (place : Place) (b : ℕ) (bs : List ℕ) → IsSized place → Step place b bs (moved place b)
+every_step : (place : ScanPlace) (b : ℕ) (bs : List ℕ) → IsSized place → Step place b bs (moved place b)
 every_step Start b bs h = start_step b bs
 every_step PartNext b bs h = part_step b bs
 every_step OneLetter b bs h = letter_step b bs
@@ -487,36 +487,36 @@ every_step LengthDot b bs h = length_dot_step b bs
 every_step UnitNext b bs h = unit_step b bs
 every_step Finished b bs h = tt
 
-sized_by : (place : Place) (b : ℕ) (bs : List ℕ) (o : Option Move) (m : Move) → Step place b bs o → o ≡ Some m → IsSized m.place
+sized_by : (place : ScanPlace) (b : ℕ) (bs : List ℕ) (o : Option Move) (m : Move) → Step place b bs o → o ≡ Some m → IsSized m.place
 sized_by place b bs None m s e = absurd (none_some e)
   where
     none_some : None ≡ Some m → ⊥
     none_some q = cc
 sized_by place b bs (Some n) m s e = let same : n ≡ m = cc e in subst (λ (x : Move). IsSized x.place) same s.0
 
-pub next_sized : (place : Place) (b : ℕ) (m : Move) → IsSized place → moved place b ≡ Some m → IsSized m.place
+pub next_sized : (place : ScanPlace) (b : ℕ) (m : Move) → IsSized place → moved place b ≡ Some m → IsSized m.place
 next_sized place b m h e = sized_by place b [] (moved place b) m (every_step place b [] h) e
 
 -- whether the text ends in the grammar
-abbrev pub is_end : Place → Bool
+abbrev pub is_end : ScanPlace → Bool
 is_end PartDone = true
 is_end Finished = true
 is_end _ = false
 
-abbrev pub accepts : Place → List ℕ → Bool
+abbrev pub accepts : ScanPlace → List ℕ → Bool
 accepts place [] = is_end place
 accepts place (b ∷ bs) = elim (moved place b) [ None ↦ false | Some m ↦ accepts m.place bs ]
 
-at_end : (place : Place) → is_end place ≡ true → Follows place []
+at_end : (place : ScanPlace) → is_end place ≡ true → Follows place []
 at_end PartDone h = λ at. ([], refl, record { raws = []; span = None; tokens = refl; short = refl; last = refl })
 at_end Finished h = refl
 at_end _ h = absurd (false≢true h)
 
-by_move : (place : Place) (b : ℕ) (bs : List ℕ) (o : Option Move) → Step place b bs o → ((m : Place) → IsSized m → accepts m bs ≡ true → Follows m bs) → elim o [ None ↦ false | Some m ↦ accepts m.place bs ] ≡ true → Follows place (b ∷ bs)
+by_move : (place : ScanPlace) (b : ℕ) (bs : List ℕ) (o : Option Move) → Step place b bs o → ((m : ScanPlace) → IsSized m → accepts m bs ≡ true → Follows m bs) → elim o [ None ↦ false | Some m ↦ accepts m.place bs ] ≡ true → Follows place (b ∷ bs)
 by_move place b bs None s go e = absurd (false≢true e)
 by_move place b bs (Some m) s go e = s.1 (go m.place s.0 e)
 
-follows : (ys : List ℕ) (place : Place) → IsSized place → accepts place ys ≡ true → Follows place ys
+follows : (ys : List ℕ) (place : ScanPlace) → IsSized place → accepts place ys ≡ true → Follows place ys
 follows [] place h a = at_end place a
 follows (b ∷ bs) place h a = by_move place b bs (moved place b) (every_step place b bs h) (follows bs) a
 

@@ -6,8 +6,8 @@ use Rattle.gtrbac_model.specs.declared.calendars.Calendar.TheVariants.{Years, Mo
 use Rattle.gtrbac_model.specs.Period.{Expr}
 use Rattle.periodic_expr.specs.declared.faults.ExprFault.{ExprFault}
 use Rattle.periodic_expr.specs.declared.faults.ExprKind.TheVariants.{Syntax}
-use Rattle.periodic_expr.specs.declared.scan.Place.{Place}
-use Rattle.periodic_expr.specs.declared.scan.Place.TheVariants.{Start, PartNext, OneLetter, TwoLetters, DotNext, CalendarNext, Letters, PartDone, PartPast, SetFirst, Digits, NumberPast, SetNext, LengthNext, LengthDot, UnitNext, Finished}
+use Rattle.periodic_expr.specs.declared.scan.ScanPlace.{ScanPlace}
+use Rattle.periodic_expr.specs.declared.scan.ScanPlace.TheVariants.{Start, PartNext, OneLetter, TwoLetters, DotNext, CalendarNext, Letters, PartDone, PartPast, SetFirst, Digits, NumberPast, SetNext, LengthNext, LengthDot, UnitNext, Finished}
 use Rattle.periodic_expr.specs.declared.scan.Move.{Move}
 use Rattle.periodic_expr.specs.Scan.{calendar_word, moved, IsSized}
 use Rattle.periodic_expr.specs.Sketch.{Sketch, empty, acted}
@@ -19,13 +19,13 @@ use Rattle.periodic_expr.proofs.Sound.{next_sized, accepts, is_end, accepted_in_
 use Rattle.periodic_expr.proofs.Accepted.{grammar_accepted, one_fault, no_syntax}
 
 -- how many bytes the scan takes
-abbrev taken : Place → List ℕ → ℕ
+abbrev taken : ScanPlace → List ℕ → ℕ
 taken place [] = 0
 taken place (b ∷ bs) = elim (moved place b) [ None ↦ 0 | Some m ↦ suc (taken m.place bs) ]
 
 -- each place can be continued to the end of an expression
 
-abbrev Ends : Place → Type 0
+abbrev Ends : ScanPlace → Type 0
 Ends place = (more : List ℕ) × (accepts place more ≡ true)
 
 abbrev Lettered : Bool → Calendar → ℕ → Type 0
@@ -59,7 +59,7 @@ letters_end span c k h = (drop k (calendar_word c), in_letters span c k (short c
     short Hours k h = omega arith
     short Minutes k h = omega arith
 
-finish : (place : Place) → IsSized place → Ends place
+finish : (place : ScanPlace) → IsSized place → Ends place
 finish Start h = (codes "all.Days", refl)
 finish PartNext h = (codes "all.Days", refl)
 finish OneLetter h = (codes "ll.Days", refl)
@@ -79,30 +79,30 @@ finish LengthDot h = (codes ".Days", refl)
 finish UnitNext h = (codes "Days", refl)
 finish Finished h = ([], refl)
 
-abbrev Continued : Place → List ℕ → Type 0
+abbrev Continued : ScanPlace → List ℕ → Type 0
 Continued place ys = (more : List ℕ) × (accepts place (take (taken place ys) ys ++ more) ≡ true)
 
 abbrev front_by : ℕ → List ℕ → (o : Option Move) → ℕ
 front_by b bs o = elim o [ None ↦ 0 | Some m ↦ suc (taken m.place bs) ]
 
-continued_by : (place : Place) → Ends place → (b : ℕ) (bs : List ℕ) (o : Option Move) → moved place b ≡ o → ((m : Move) → o ≡ Some m → Continued m.place bs) → (more : List ℕ) × (accepts place (take (front_by b bs o) (b ∷ bs) ++ more) ≡ true)
+continued_by : (place : ScanPlace) → Ends place → (b : ℕ) (bs : List ℕ) (o : Option Move) → moved place b ≡ o → ((m : Move) → o ≡ Some m → Continued m.place bs) → (more : List ℕ) × (accepts place (take (front_by b bs o) (b ∷ bs) ++ more) ≡ true)
 continued_by place ends b bs None e go = ends
 continued_by place ends b bs (Some m) e go =
     let r = go m refl in
     (r.0, ap (λ o. elim o as (λ x. Bool) [ None ↦ false | Some n ↦ accepts n.place (take (taken m.place bs) bs ++ r.0) ]) e ∙ r.1)
 
-continued : (ys : List ℕ) (place : Place) → IsSized place → Continued place ys
+continued : (ys : List ℕ) (place : ScanPlace) → IsSized place → Continued place ys
 continued [] place h = finish place h
 continued (b ∷ bs) place h =
     continued_by place (finish place h) b bs (moved place b) refl (λ m e. continued bs m.place (next_sized place b m h e))
 
 -- no longer front can be
 
-longest_by : (place : Place) (b : ℕ) (bs : List ℕ) (n : ℕ) (more : List ℕ) (o : Option Move) → elim o as (λ x. Bool) [ None ↦ false | Some m ↦ accepts m.place (take n bs ++ more) ] ≡ true → ((m : Move) → accepts m.place (take n bs ++ more) ≡ true → n ≤ taken m.place bs) → suc n ≤ front_by b bs o
+longest_by : (place : ScanPlace) (b : ℕ) (bs : List ℕ) (n : ℕ) (more : List ℕ) (o : Option Move) → elim o as (λ x. Bool) [ None ↦ false | Some m ↦ accepts m.place (take n bs ++ more) ] ≡ true → ((m : Move) → accepts m.place (take n bs ++ more) ≡ true → n ≤ taken m.place bs) → suc n ≤ front_by b bs o
 longest_by place b bs n more None a go = absurd (false≢true a)
 longest_by place b bs n more (Some m) a go = let le = go m a in omega arith
 
-longest : (ys : List ℕ) (place : Place) (n : ℕ) (more : List ℕ) → n ≤ length ys → accepts place (take n ys ++ more) ≡ true → n ≤ taken place ys
+longest : (ys : List ℕ) (place : ScanPlace) (n : ℕ) (more : List ℕ) → n ≤ length ys → accepts place (take n ys ++ more) ≡ true → n ≤ taken place ys
 longest [] place n more h a = h
 longest (b ∷ bs) place zero more h a = omega arith
 longest (b ∷ bs) place (suc n) more h a = longest_by place b bs n more (moved place b) a (λ m q. longest bs m.place n more (omega arith) q)
@@ -111,24 +111,24 @@ within_by : (b : ℕ) (bs : List ℕ) (o : Option Move) → ((m : Move) → take
 within_by b bs None go = omega arith
 within_by b bs (Some m) go = let le = go m in omega arith
 
-within : (ys : List ℕ) (place : Place) → taken place ys ≤ length ys
+within : (ys : List ℕ) (place : ScanPlace) → taken place ys ≤ length ys
 within [] place = omega arith
 within (b ∷ bs) place = within_by b bs (moved place b) (λ m. within bs m.place)
 
 -- and there the fault is
 
-bad_end : (at : ℕ) (place : Place) (s : Sketch) → is_end place ≡ false → read_from at place s [] ≡ syntax (at + 0)
+bad_end : (at : ℕ) (place : ScanPlace) (s : Sketch) → is_end place ≡ false → read_from at place s [] ≡ syntax (at + 0)
 bad_end at PartDone s h = absurd (false≢true (sym h))
 bad_end at Finished s h = absurd (false≢true (sym h))
 bad_end at _ s h = let e : at ≡ at + 0 = omega arith in ap syntax e
 
-stops_by : (at : ℕ) (place : Place) (s : Sketch) (b : ℕ) (bs : List ℕ) (o : Option Move) → moved place b ≡ o → ((m : Move) → accepts m.place bs ≡ false → read_from (at + 1) m.place (acted m.act at s) bs ≡ syntax (at + 1 + taken m.place bs)) → elim o as (λ x. Bool) [ None ↦ false | Some m ↦ accepts m.place bs ] ≡ false → read_from at place s (b ∷ bs) ≡ syntax (at + front_by b bs o)
+stops_by : (at : ℕ) (place : ScanPlace) (s : Sketch) (b : ℕ) (bs : List ℕ) (o : Option Move) → moved place b ≡ o → ((m : Move) → accepts m.place bs ≡ false → read_from (at + 1) m.place (acted m.act at s) bs ≡ syntax (at + 1 + taken m.place bs)) → elim o as (λ x. Bool) [ None ↦ false | Some m ↦ accepts m.place bs ] ≡ false → read_from at place s (b ∷ bs) ≡ syntax (at + front_by b bs o)
 stops_by at place s b bs None e go h = let z : at ≡ at + 0 = omega arith in read_step at place s b bs None e ∙ ap syntax z
 stops_by at place s b bs (Some m) e go h =
     let z : at + 1 + taken m.place bs ≡ at + suc (taken m.place bs) = omega arith in
     read_step at place s b bs (Some m) e ∙ go m h ∙ ap syntax z
 
-stops : (ys : List ℕ) (at : ℕ) (place : Place) (s : Sketch) → accepts place ys ≡ false → read_from at place s ys ≡ syntax (at + taken place ys)
+stops : (ys : List ℕ) (at : ℕ) (place : ScanPlace) (s : Sketch) → accepts place ys ≡ false → read_from at place s ys ≡ syntax (at + taken place ys)
 stops [] at place s h = bad_end at place s h
 stops (b ∷ bs) at place s h = stops_by at place s b bs (moved place b) refl (λ m a. stops bs (at + 1) m.place (acted m.act at s) a) h
 

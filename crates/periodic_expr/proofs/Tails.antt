@@ -1,11 +1,11 @@
 -- What may follow at each place of the scan.
-use Rattle.std.proofs.Common.{◌≡◌, ℕ, suc, ◌+◌, ◌≤◌, Bool, true, false, nat_eq, List, [], ◌∷◌, ◌++◌, length, take, drop, flat_map, Option, Some, None, refl, ap, sym, subst, arith, codes, decimal}
+use Rattle.std.proofs.Common.{◌≡◌, ℕ, suc, ◌+◌, ◌≤◌, Bool, true, false, nat_eq, List, [], ◌∷◌, ◌++◌, length, take, drop, flat_map, Option, Some, None, refl, ap, sym, subst, arith, codes, decimal, if◌then◌else◌}
 use Rattle.std.specs.List.{list_all}
 use Rattle.std.proofs.lemmas.Bool.{and_from, eqb-true}
 use Rattle.gt_base.specs.Names.{is_digit}
 use Rattle.gtrbac_model.specs.declared.calendars.Calendar.{Calendar}
-use Rattle.periodic_expr.specs.declared.scan.Place.{Place}
-use Rattle.periodic_expr.specs.declared.scan.Place.TheVariants.{Start, PartNext, OneLetter, TwoLetters, DotNext, CalendarNext, Letters, PartDone, PartPast, SetFirst, Digits, NumberPast, SetNext, LengthNext, LengthDot, UnitNext, Finished}
+use Rattle.periodic_expr.specs.declared.scan.ScanPlace.{ScanPlace}
+use Rattle.periodic_expr.specs.declared.scan.ScanPlace.TheVariants.{Start, PartNext, OneLetter, TwoLetters, DotNext, CalendarNext, Letters, PartDone, PartPast, SetFirst, Digits, NumberPast, SetNext, LengthNext, LengthDot, UnitNext, Finished}
 use Rattle.periodic_expr.specs.declared.scan.Act.TheVariants.{Nothing}
 use Rattle.periodic_expr.specs.declared.scan.Move.{Move}
 use Rattle.periodic_expr.specs.Scan.{is_blank, calendar_word, to, on, on_blank, on_digit, IsSized}
@@ -17,21 +17,21 @@ module _ (K : Option Move → Type 0) where
   pub on_case : (b c : ℕ) (x y : Option Move) → (b ≡ c → K x) → K y → K (on b c x y)
   on_case b c x y f g = by_test (nat_eq b c) refl
     where
-      by_test : (t : Bool) → nat_eq b c ≡ t → K (elim t [ true ↦ x | false ↦ y ])
+      by_test : (t : Bool) → nat_eq b c ≡ t → K (if t then x else y)
       by_test true e = f (eqb-true b c e)
       by_test false e = g
 
-  pub blank_case : (b : ℕ) (place : Place) (y : Option Move) → (is_blank b ≡ true → K (to place Nothing)) → K y → K (on_blank b place y)
+  pub blank_case : (b : ℕ) (place : ScanPlace) (y : Option Move) → (is_blank b ≡ true → K (to place Nothing)) → K y → K (on_blank b place y)
   blank_case b place y f g = by_test (is_blank b) refl
     where
-      by_test : (t : Bool) → is_blank b ≡ t → K (elim t [ true ↦ to place Nothing | false ↦ y ])
+      by_test : (t : Bool) → is_blank b ≡ t → K (if t then to place Nothing else y)
       by_test true e = f e
       by_test false e = g
 
   pub digit_case : (b : ℕ) (x y : Option Move) → (is_digit b ≡ true → K x) → K y → K (on_digit b x y)
   digit_case b x y f g = by_test (is_digit b) refl
     where
-      by_test : (t : Bool) → is_digit b ≡ t → K (elim t [ true ↦ x | false ↦ y ])
+      by_test : (t : Bool) → is_digit b ≡ t → K (if t then x else y)
       by_test true e = f e
       by_test false e = g
 
@@ -140,7 +140,7 @@ pub record Letter (n : ℕ) (P : List Token → Type 0) (ys : List ℕ) : Type 0
   pub after : Fits P zs
 
 -- what may follow at a place
-abbrev pub Follows : Place → List ℕ → Type 0
+abbrev pub Follows : ScanPlace → List ℕ → Type 0
 Follows Start ys = StartsPart ys
 Follows PartNext ys = Fits IsPart ys
 Follows OneLetter ys = Letter 2 IsDot ys
@@ -161,7 +161,7 @@ Follows LengthDot ys = Fits IsUnitDot ys
 Follows UnitNext ys = Fits IsUnit ys
 Follows Finished ys = ys ≡ []
 
-abbrev pub Step : Place → ℕ → List ℕ → Option Move → Type 0
+abbrev pub Step : ScanPlace → ℕ → List ℕ → Option Move → Type 0
 Step place b bs None = Unit {0}
 Step place b bs (Some m) = IsSized m.place × (Follows m.place bs → Follows place (b ∷ bs))
 

@@ -1,12 +1,12 @@
 -- How the scan takes whole tokens.
-use Rattle.std.proofs.Common.{◌≡◌, ℕ, zero, suc, ◌+◌, ◌*◌, ◌/◌, ◌%◌, ◌<◌, ◌≤◌, Bool, true, false, ◌&&◌, nat_le, List, [], ◌∷◌, ◌++◌, length, Option, None, refl, ap, ◌∙◌, arith, append_assoc, length-append, decimal}
+use Rattle.std.proofs.Common.{◌≡◌, ℕ, zero, suc, ◌+◌, ◌*◌, ◌/◌, ◌%◌, ◌<◌, ◌≤◌, Bool, true, false, ◌&&◌, nat_le, List, [], ◌∷◌, ◌++◌, length, Option, None, refl, ap, ◌∙◌, arith, append_assoc, length-append, decimal, if◌then◌else◌}
 use Rattle.std.specs.List.{list_all}
 use Rattle.std.proofs.lemmas.Bool.{and_parts, and_from, le-leb}
 use Rattle.std.proofs.lemmas.Fmt.{decimal_by_steps}
 use Rattle.gtrbac_model.specs.declared.calendars.Calendar.{Calendar}
 use Rattle.gtrbac_model.specs.declared.calendars.Calendar.TheVariants.{Years, Months, Weeks, Days, Hours, Minutes}
-use Rattle.periodic_expr.specs.declared.scan.Place.{Place}
-use Rattle.periodic_expr.specs.declared.scan.Place.TheVariants.{PartDone, CalendarNext, SetFirst, SetNext, Digits, LengthNext, UnitNext, Finished}
+use Rattle.periodic_expr.specs.declared.scan.ScanPlace.{ScanPlace}
+use Rattle.periodic_expr.specs.declared.scan.ScanPlace.TheVariants.{PartDone, CalendarNext, SetFirst, SetNext, Digits, LengthNext, UnitNext, Finished}
 use Rattle.periodic_expr.specs.declared.scan.Act.TheVariants.{Nothing, Begin, Part as PartEnds, Unit as UnitEnds}
 use Rattle.periodic_expr.specs.declared.scan.Move.{Move}
 use Rattle.periodic_expr.specs.Scan.{is_blank, calendar_word, moved, to}
@@ -15,10 +15,10 @@ use Rattle.periodic_expr.specs.Reading.{read_from}
 use Rattle.periodic_expr.proofs.Steps.{read_step}
 
 -- blanks leave the scan where it stands between two tokens
-abbrev pub Stays : Place → Type 0
+abbrev pub Stays : ScanPlace → Type 0
 Stays place = (b : ℕ) → is_blank b ≡ true → moved place b ≡ to place Nothing
 
-pub skip : (place : Place) → Stays place → (gap : List ℕ) (at : ℕ) (s : Sketch) (rest : List ℕ) → list_all is_blank gap ≡ true → read_from at place s (gap ++ rest) ≡ read_from (at + length gap) place s rest
+pub skip : (place : ScanPlace) → Stays place → (gap : List ℕ) (at : ℕ) (s : Sketch) (rest : List ℕ) → list_all is_blank gap ≡ true → read_from at place s (gap ++ rest) ≡ read_from (at + length gap) place s rest
 skip place stays [] at s rest h = let e : at ≡ at + 0 = omega arith in ap (λ n. read_from n place s rest) e
 skip place stays (b ∷ bs) at s rest h =
     let both = and_parts (is_blank b) (list_all is_blank bs) h in
@@ -75,7 +75,7 @@ ten P a b c d e f g h i j (suc (suc (suc (suc (suc (suc (suc (suc (suc zero)))))
 ten P a b c d e f g h i j (suc (suc (suc (suc (suc (suc (suc (suc (suc (suc n)))))))))) lt = absurd (omega arith)
 
 -- a digit begins a number
-abbrev pub Begins : Bool → Place → Type 0
+abbrev pub Begins : Bool → ScanPlace → Type 0
 Begins span place = (d : ℕ) → d < 10 → moved place (48 + d) ≡ to (Digits span d) Begin
 
 pub first_begins : Begins false SetFirst
@@ -88,18 +88,18 @@ pub length_begins : Begins true LengthNext
 length_begins = ten (λ d. moved LengthNext (48 + d) ≡ to (Digits true d) Begin) refl refl refl refl refl refl refl refl refl refl
 
 abbrev allowed : Bool → ℕ → ℕ → Bool → Option Move
-allowed span v d t = elim t [ true ↦ to (Digits span (10 * v + d)) Nothing | false ↦ None ]
+allowed span v d t = if t then to (Digits span (10 * v + d)) Nothing else None
 
 digit_goes : (span : Bool) (v : ℕ) → 1 ≤ v → v ≤ 99_999_999 → (d : ℕ) → d < 10 → moved (Digits span v) (48 + d) ≡ to (Digits span (10 * v + d)) Nothing
 digit_goes span v low high =
     let test : (nat_le 1 v && nat_le v 99_999_999) ≡ true = and_from (nat_le 1 v) (nat_le v 99_999_999) (le-leb 1 v low) (le-leb v 99_999_999 high) in
     ten (λ d. moved (Digits span v) (48 + d) ≡ to (Digits span (10 * v + d)) Nothing) (ap (allowed span v 0) test) (ap (allowed span v 1) test) (ap (allowed span v 2) test) (ap (allowed span v 3) test) (ap (allowed span v 4) test) (ap (allowed span v 5) test) (ap (allowed span v 6) test) (ap (allowed span v 7) test) (ap (allowed span v 8) test) (ap (allowed span v 9) test)
 
-abbrev Takes : Bool → Place → ℕ → List ℕ → Type 0
+abbrev Takes : Bool → ScanPlace → ℕ → List ℕ → Type 0
 Takes span place n ds = n ≤ 999_999_999 → (at : ℕ) (s : Sketch) (rest : List ℕ) → read_from at place s (ds ++ rest) ≡ read_from (at + length ds) (Digits span n) (acted Begin at s) rest
 
 -- a number of at most nine digits
-pub number : (span : Bool) (place : Place) → Begins span place → (n : ℕ) → Takes span place n (decimal n)
+pub number : (span : Bool) (place : ScanPlace) → Begins span place → (n : ℕ) → Takes span place n (decimal n)
 number span place begins n small = decimal_by_steps (Takes span place) one more n (omega arith) small
   where
     one : (n : ℕ) → n < 10 → Takes span place n ((48 + n) ∷ [])

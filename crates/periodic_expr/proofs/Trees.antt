@@ -2,8 +2,8 @@
 use Rattle.std.proofs.Common.{◌≡◌, ℕ, true, false, List, [], ◌∷◌, ◌++◌, length, flat_map, Option, Some, None, refl, ap, sym, subst, ◌∙◌, arith, append_assoc, codes}
 use Rattle.std.specs.List.{list_all}
 use Rattle.std.proofs.lemmas.Bool.{and_parts}
-use Rattle.periodic_expr.specs.declared.scan.Place.{Place}
-use Rattle.periodic_expr.specs.declared.scan.Place.TheVariants.{Start, PartNext, DotNext, CalendarNext, PartDone, SetFirst, SetNext, Digits, LengthNext, Finished}
+use Rattle.periodic_expr.specs.declared.scan.ScanPlace.{ScanPlace}
+use Rattle.periodic_expr.specs.declared.scan.ScanPlace.TheVariants.{Start, PartNext, DotNext, CalendarNext, PartDone, SetFirst, SetNext, Digits, LengthNext, Finished}
 use Rattle.periodic_expr.specs.declared.scan.Act.TheVariants.{Open, Begin, Index, Length}
 use Rattle.periodic_expr.specs.Scan.{calendar_word}
 use Rattle.periodic_expr.specs.Sketch.{Sketch, empty, acted}
@@ -81,10 +81,10 @@ abbrev plus : RawPart → List Token
 plus p = mark (codes "+") ∷ part_tokens p
 
 -- the end of the text, with what was found
-abbrev pub Ends : ℕ → Place → Sketch → List ℕ → Sketch → Type 0
+abbrev pub Ends : ℕ → ScanPlace → Sketch → List ℕ → Sketch → Type 0
 Ends at place s text t = (n : ℕ) × (read_from at place s text ≡ judged n t.parts t t.fault)
 
-ends_after : (at : ℕ) (place : Place) (s : Sketch) (text : List ℕ) (us : List Token) (next : Place) (t u : Sketch) → (r : Reads at place s text us next t) → Ends r.to_at next t r.rest u → Ends at place s text u
+ends_after : (at : ℕ) (place : ScanPlace) (s : Sketch) (text : List ℕ) (us : List Token) (next : ScanPlace) (t u : Sketch) → (r : Reads at place s text us next t) → Ends r.to_at next t r.rest u → Ends at place s text u
 ends_after at place s text us next t u r e = (e.0, r.same ∙ e.1)
 
 span_read : (span : Option RawLength) → short_span span ≡ true → (at : ℕ) (text : List ℕ) (s : Sketch) → Lies at (span_tokens span) text → Ends at PartDone s text (span_seen span s)

@@ -3,8 +3,8 @@ use Rattle.std.specs.Prelude.{ℕ, ◌+◌, List, [], ◌∷◌, Option, Some, N
 use Rattle.gtrbac_model.specs.Period.{Part, Expr}
 use Rattle.periodic_expr.specs.declared.faults.ExprFault.{ExprFault}
 use Rattle.periodic_expr.specs.declared.faults.ExprKind.TheVariants.{Syntax}
-use Rattle.periodic_expr.specs.declared.scan.Place.{Place}
-use Rattle.periodic_expr.specs.declared.scan.Place.TheVariants.{Start, PartDone, Finished}
+use Rattle.periodic_expr.specs.declared.scan.ScanPlace.{ScanPlace}
+use Rattle.periodic_expr.specs.declared.scan.ScanPlace.TheVariants.{Start, PartDone, Finished}
 use Rattle.periodic_expr.specs.Scan.{moved}
 use Rattle.periodic_expr.specs.Sketch.{Sketch, empty, acted}
 
@@ -18,12 +18,12 @@ judged at [] s None = syntax at
 judged at (p ∷ ps) s None = Ok (record { parts = s.parts; count = s.count; unit = s.unit })
 
 -- the text is in the grammar where it ends after a part or after the length
-abbrev pub ended : ℕ → Place → Sketch → Result Expr ExprFault
+abbrev pub ended : ℕ → ScanPlace → Sketch → Result Expr ExprFault
 ended at PartDone s = judged at s.parts s s.fault
 ended at Finished s = judged at s.parts s s.fault
 ended at _ s = syntax at
 
-abbrev pub read_from : ℕ → Place → Sketch → List ℕ → Result Expr ExprFault
+abbrev pub read_from : ℕ → ScanPlace → Sketch → List ℕ → Result Expr ExprFault
 read_from at place s [] = ended at place s
 read_from at place s (b ∷ bs) = elim (moved place b)
     [ None ↦ syntax at | Some m ↦ read_from (at + 1) m.place (acted m.act at s) bs ]

@@ -1,11 +1,11 @@
 -- How far a text can be continued to an expression: a scan that takes a byte a step. Each place
 -- that it reaches can be continued.
-use Rattle.std.specs.Prelude.{ℕ, ◌+◌, ◌-◌, ◌*◌, ◌<◌, ◌≤◌, Bool, true, false, ◌&&◌, ◌||◌, nat_eq, nat_le, List, length, codes, slice_index, Option, Some, None}
+use Rattle.std.specs.Prelude.{ℕ, ◌+◌, ◌-◌, ◌*◌, ◌<◌, ◌≤◌, Bool, true, false, ◌&&◌, ◌||◌, nat_eq, nat_le, List, length, codes, slice_index, Option, Some, None, if◌then◌else◌}
 use Rattle.gt_base.specs.Names.{is_digit}
 use Rattle.gtrbac_model.specs.declared.calendars.Calendar.{Calendar}
 use Rattle.gtrbac_model.specs.declared.calendars.Calendar.TheVariants.{Years, Months, Weeks, Days, Hours, Minutes}
-use Rattle.periodic_expr.specs.declared.scan.Place.{Place}
-use Rattle.periodic_expr.specs.declared.scan.Place.TheVariants.{Start, PartNext, OneLetter, TwoLetters, DotNext, CalendarNext, Letters, PartDone, PartPast, SetFirst, Digits, NumberPast, SetNext, LengthNext, LengthDot, UnitNext, Finished}
+use Rattle.periodic_expr.specs.declared.scan.ScanPlace.{ScanPlace}
+use Rattle.periodic_expr.specs.declared.scan.ScanPlace.TheVariants.{Start, PartNext, OneLetter, TwoLetters, DotNext, CalendarNext, Letters, PartDone, PartPast, SetFirst, Digits, NumberPast, SetNext, LengthNext, LengthDot, UnitNext, Finished}
 use Rattle.periodic_expr.specs.declared.scan.Act.{Act}
 use Rattle.periodic_expr.specs.declared.scan.Act.TheVariants.{Nothing, Open, Begin, Index, Length, Part, Unit as UnitEnds}
 use Rattle.periodic_expr.specs.declared.scan.Move.{Move}
@@ -22,18 +22,18 @@ calendar_word Days = codes "Days"
 calendar_word Hours = codes "Hours"
 calendar_word Minutes = codes "Minutes"
 
-abbrev pub to : Place → Act → Option Move
+abbrev pub to : ScanPlace → Act → Option Move
 to place act = Some (record { place = place; act = act })
 
 -- where the byte is this one
 abbrev pub on : ℕ → ℕ → Option Move → Option Move → Option Move
-on b c there other = elim (nat_eq b c) [ true ↦ there | false ↦ other ]
+on b c there other = if nat_eq b c then there else other
 
-abbrev pub on_blank : ℕ → Place → Option Move → Option Move
-on_blank b place other = elim (is_blank b) [ true ↦ to place Nothing | false ↦ other ]
+abbrev pub on_blank : ℕ → ScanPlace → Option Move → Option Move
+on_blank b place other = if is_blank b then to place Nothing else other
 
 abbrev pub on_digit : ℕ → Option Move → Option Move → Option Move
-on_digit b there other = elim (is_digit b) [ true ↦ there | false ↦ other ]
+on_digit b there other = if is_digit b then there else other
 
 -- `all` or a brace
 abbrev pub part_start : ℕ → Option Move
@@ -54,13 +54,14 @@ calendar_end false c = to PartDone (Part c)
 
 -- `Mi` turns Months into Minutes
 abbrev pub other_letters : Bool → Calendar → ℕ → ℕ → Option Move
-other_letters unit Months k b = elim (nat_eq k 1 && nat_eq b 105)
-    [ true ↦ to (Letters unit Minutes 2) Nothing | false ↦ None ]
+other_letters unit Months k b =
+    if nat_eq k 1 && nat_eq b 105 then to (Letters unit Minutes 2) Nothing else None
 other_letters unit _ k b = None
 
 abbrev pub next_letter : Bool → Calendar → ℕ → Option Move
-next_letter unit c k = elim (nat_eq (k + 1) (length (calendar_word c)))
-    [ true ↦ calendar_end unit c | false ↦ to (Letters unit c (k + 1)) Nothing ]
+next_letter unit c k =
+    if nat_eq (k + 1) (length (calendar_word c)) then calendar_end unit c
+    else to (Letters unit c (k + 1)) Nothing
 
 abbrev pub letters : Bool → Calendar → ℕ → ℕ → Option Move
 letters unit c k b = on b (slice_index (calendar_word c) k) (next_letter unit c k)
@@ -74,16 +75,16 @@ abbrev pub after_index : Act → ℕ → Option Move
 after_index act b = on b 44 (to SetNext act) (on b 125 (to DotNext act) None)
 
 abbrev pub after_number : Bool → ℕ → ℕ → Option Move
-after_number true v b = elim (is_blank b)
-    [ true ↦ to LengthDot (Length v) | false ↦ on b 46 (to UnitNext (Length v)) None ]
-after_number false v b = elim (is_blank b)
-    [ true ↦ to NumberPast (Index v) | false ↦ after_index (Index v) b ]
+after_number true v b =
+    if is_blank b then to LengthDot (Length v) else on b 46 (to UnitNext (Length v)) None
+after_number false v b = if is_blank b then to NumberPast (Index v) else after_index (Index v) b
 
 -- no digit after a leading 0, and none after nine
 abbrev pub digits : Bool → ℕ → ℕ → Option Move
 digits span v b =
-    on_digit b (elim (nat_le 1 v && nat_le v 99_999_999)
-    [ true ↦ to (Digits span (10 * v + (b - 48))) Nothing | false ↦ None ])
+    on_digit b
+    (if nat_le 1 v && nat_le v 99_999_999 then to (Digits span (10 * v + (b - 48))) Nothing
+    else None)
     (after_number span v b)
 
 abbrev pub after_part : ℕ → Option Move
@@ -93,7 +94,7 @@ abbrev pub set_first : ℕ → Option Move
 set_first b = on b 125 (to DotNext Nothing) (number_start false b)
 
 -- where a byte leads
-abbrev pub moved : Place → ℕ → Option Move
+abbrev pub moved : ScanPlace → ℕ → Option Move
 moved Start b = part_start b
 moved PartNext b = on_blank b PartNext (part_start b)
 moved OneLetter b = on b 108 (to TwoLetters Nothing) None
@@ -113,7 +114,7 @@ moved UnitNext b = on_blank b UnitNext (calendar_start true b)
 moved Finished b = None
 
 -- a calendar has so many letters, and a number is not too large
-abbrev pub IsSized : Place → Type 0
+abbrev pub IsSized : ScanPlace → Type 0
 IsSized (Letters unit c k) = k < length (calendar_word c)
 IsSized (Digits span v) = v ≤ 999_999_999
 IsSized _ = Unit {0}

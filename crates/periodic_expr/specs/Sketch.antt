@@ -1,5 +1,5 @@
 -- What a scan has found of an expression, up to a byte.
-use Rattle.std.specs.Prelude.{◌≡◌, ℕ, ◌≤◌, Bool, true, false, ◌&&◌, ◌||◌, not, nat_eq, nat_lt, nat_le, List, [], ◌∷◌, ◌++◌, length, Option, Some, None, is_some, IsTrue}
+use Rattle.std.specs.Prelude.{◌≡◌, ℕ, ◌≤◌, Bool, true, false, ◌&&◌, ◌||◌, not, nat_eq, nat_lt, nat_le, List, [], ◌∷◌, ◌++◌, length, Option, Some, None, is_some, IsTrue, if◌then◌else◌}
 use Rattle.std.specs.List.{list_any, list_all, take_while, insert}
 use Rattle.gtrbac_model.specs.declared.calendars.Calendar.{Calendar}
 use Rattle.gtrbac_model.specs.declared.calendars.Calendar.TheVariants.{Years}
@@ -44,8 +44,9 @@ noted None false at kind = Some (record { at = at; kind = kind })
 
 -- a set with one number more, ascending and without repeats
 abbrev pub put_in : ℕ → List ℕ → List ℕ
-put_in n ns = elim (list_any (nat_eq n) ns)
-    [ true ↦ ns | false ↦ insert ns (length (take_while (λ m. nat_lt m n) ns)) n ]
+put_in n ns =
+    if list_any (nat_eq n) ns then ns
+    else insert ns (length (take_while (λ m. nat_lt m n) ns)) n
 
 abbrev pub put_into : ℕ → Option (List ℕ) → Option (List ℕ)
 put_into n None = None
@@ -106,5 +107,5 @@ pub record IsSound (s : Sketch) : Type 0 where
   pub least : 1 ≤ s.count
   pub most : s.count ≤ 1000
 
-abbrev pub Keeps : Sketch → Type 0
-Keeps s = s.fault ≡ None → IsSound s
+abbrev pub KeepsSketch : Sketch → Type 0
+KeepsSketch s = s.fault ≡ None → IsSound s

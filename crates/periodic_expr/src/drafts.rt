@@ -1,8 +1,8 @@
 //! What a scan has found of an expression.
 ghost use Rattle.std.specs.Prelude.{◌≡◌, ◌≤◌, ◌&&◌, ◌||◌, not, nat_eq, nat_le, nat_lt, length, option_map, IfOk, is_some, [], Some, None};
 ghost use Rattle.std.specs.List.{list_any, take_while};
-ghost use Rattle.gtrbac_model.specs.Valid.{is_below as stands_below, is_same as is_one};
-ghost use Rattle.periodic_expr.specs.Sketch.{empty, noted as noted_by, put_in, put_into as puts_into, acted as acts, has_number as numbered, Keeps};
+ghost use Rattle.gtrbac_model.specs.Valid.{is_below, is_same};
+ghost use Rattle.periodic_expr.specs.Sketch.{empty, noted, put_in, put_into, acted, has_number, KeepsSketch};
 ghost use Rattle.periodic_expr.specs.Drafts.{seen};
 
 use crate::exprs::ExprPart;
@@ -15,7 +15,7 @@ use std::alloc::{AllocError, Global};
 /// The parts so far and the set of the part at hand, where its brace and where the token at hand
 /// stands, the calendar of the last part, the length, and the first fault.
 #[derive(Drop)]
-pub(crate) struct Draft {
+pub(crate) struct ExprDraft {
     pub parts: Vec<ExprPart>,
     pub set: Option<Vec<u32>>,
     pub brace: u32,
@@ -27,7 +27,7 @@ pub(crate) struct Draft {
 }
 
 fn is_below(above: Calendar, c: Calendar) -> bool
-    ensures { result ≡ stands_below above c }
+    ensures { result ≡ is_below above c }
 {
     match above {
         Calendar::Years => !matches!(c, Calendar::Years | Calendar::Weeks),
@@ -41,14 +41,14 @@ fn is_below(above: Calendar, c: Calendar) -> bool
 }
 
 fn is_same(a: Calendar, b: Calendar) -> bool
-    ensures { result ≡ is_one a b }
+    ensures { result ≡ is_same a b }
 {
     a == b
 }
 
-// The first fault stays.
+/// The first fault stays.
 fn noted(fault: Option<ExprFault>, good: bool, at: u32, kind: ExprKind) -> Option<ExprFault>
-    ensures { result ≡ noted_by fault good at kind }
+    ensures { result ≡ noted fault good at kind }
 {
     match fault {
         Some(first) => Some(first),
@@ -63,7 +63,7 @@ fn is_in(numbers: &[u32], n: u32) -> bool
     numbers.iter().any(|m| n == *m)
 }
 
-// How many of the numbers at the front are less.
+/// How many of the numbers at the front are less.
 fn place_of(numbers: &[u32], n: u32) -> usize
     ensures place { result ≡ length (take_while (λ m. nat_lt m n) numbers.now) }
     ensures bound { result ≤ length numbers.now }
@@ -71,7 +71,7 @@ fn place_of(numbers: &[u32], n: u32) -> usize
     numbers.iter().take_while(|m| **m < n).count()
 }
 
-// Puts the number in, so that the set stays ascending and without repeats.
+/// Puts the number in, so that the set stays ascending and without repeats.
 fn put(mut numbers: Vec<u32>, n: u32) -> Result<Vec<u32>, AllocError>
     ensures { IfOk result (λ set. set.items ≡ put_in n numbers.items) }
 {
@@ -83,9 +83,9 @@ fn put(mut numbers: Vec<u32>, n: u32) -> Result<Vec<u32>, AllocError>
     Ok(numbers)
 }
 
-// A set begins at this place.
-fn opened(alloc: Global, mut d: Draft, at: u32) -> Draft
-    ensures { seen result ≡ acts Act.Open at (seen d) }
+/// A set begins at this place.
+fn opened(alloc: Global, mut d: ExprDraft, at: u32) -> ExprDraft
+    ensures { seen result ≡ acted Act.Open at (seen d) }
 {
     d.fault = noted(d.fault, !d.parts.is_empty(), at, ExprKind::FirstNotAll);
     d.set = Some(Vec::new(alloc));
@@ -93,9 +93,9 @@ fn opened(alloc: Global, mut d: Draft, at: u32) -> Draft
     d
 }
 
-// A token begins at this place.
-fn begun(mut d: Draft, at: u32) -> Draft
-    ensures { seen result ≡ acts Act.Begin at (seen d) }
+/// A token begins at this place.
+fn begun(mut d: ExprDraft, at: u32) -> ExprDraft
+    ensures { seen result ≡ acted Act.Begin at (seen d) }
 {
     d.token = at;
     d
@@ -103,7 +103,7 @@ fn begun(mut d: Draft, at: u32) -> Draft
 
 fn put_into(set: Option<Vec<u32>>, n: u32) -> Result<Option<Vec<u32>>, AllocError>
     ensures { IfOk result (λ more. option_map (λ v. v.items) more
-        ≡ puts_into n (option_map (λ v. v.items) set)) }
+        ≡ put_into n (option_map (λ v. v.items) set)) }
 {
     match set {
         Some(numbers) => Ok(Some(put(numbers, n)?)),
@@ -111,9 +111,9 @@ fn put_into(set: Option<Vec<u32>>, n: u32) -> Result<Option<Vec<u32>>, AllocErro
     }
 }
 
-// A number of the set has ended.
-fn indexed(mut d: Draft, n: u32) -> Result<Draft, AllocError>
-    ensures { IfOk result (λ e. seen e ≡ acts (Act.Index n) 0 (seen d)) }
+/// A number of the set has ended.
+fn indexed(mut d: ExprDraft, n: u32) -> Result<ExprDraft, AllocError>
+    ensures { IfOk result (λ e. seen e ≡ acted (Act.Index n) 0 (seen d)) }
 {
     d.fault = noted(d.fault, n >= 1, d.token, ExprKind::ZeroIndex);
     let set = d.set.take();
@@ -121,9 +121,9 @@ fn indexed(mut d: Draft, n: u32) -> Result<Draft, AllocError>
     Ok(d)
 }
 
-// The length's number has ended.
-fn measured(mut d: Draft, n: u32) -> Draft
-    ensures { seen result ≡ acts (Act.Length n) 0 (seen d) }
+/// The length's number has ended.
+fn measured(mut d: ExprDraft, n: u32) -> ExprDraft
+    ensures { seen result ≡ acted (Act.Length n) 0 (seen d) }
 {
     d.fault = noted(d.fault, n >= 1 && n <= 1000, d.token, ExprKind::BadLength);
     d.count = n;
@@ -131,7 +131,7 @@ fn measured(mut d: Draft, n: u32) -> Draft
 }
 
 fn has_number(set: &Option<Vec<u32>>) -> bool
-    ensures { result ≡ numbered (option_map (λ v. v.items) set.now) }
+    ensures { result ≡ has_number (option_map (λ v. v.items) set.now) }
 {
     match set {
         None => true,
@@ -148,9 +148,9 @@ fn listed(set: Option<Vec<u32>>) -> Option<List<u32>>
     }
 }
 
-// A part has ended with its calendar.
-fn parted(mut d: Draft, c: Calendar) -> Result<Draft, AllocError>
-    ensures { IfOk result (λ e. seen e ≡ acts (Act.Part c) 0 (seen d)) }
+/// A part has ended with its calendar.
+fn parted(mut d: ExprDraft, c: Calendar) -> Result<ExprDraft, AllocError>
+    ensures { IfOk result (λ e. seen e ≡ acted (Act.Part c) 0 (seen d)) }
 {
     let fault = noted(d.fault, has_number(&d.set), d.brace, ExprKind::EmptySet);
     let finer = d.parts.is_empty() || is_below(d.above, c);
@@ -162,9 +162,9 @@ fn parted(mut d: Draft, c: Calendar) -> Result<Draft, AllocError>
     Ok(d)
 }
 
-// The length has ended with its calendar.
-fn united(mut d: Draft, c: Calendar) -> Draft
-    ensures { seen result ≡ acts (Act.Unit c) 0 (seen d) }
+/// The length has ended with its calendar.
+fn united(mut d: ExprDraft, c: Calendar) -> ExprDraft
+    ensures { seen result ≡ acted (Act.Unit c) 0 (seen d) }
 {
     let finer = is_same(d.above, c) || is_below(d.above, c);
     d.fault = noted(d.fault, finer, d.token, ExprKind::NotFiner);
@@ -172,12 +172,12 @@ fn united(mut d: Draft, c: Calendar) -> Draft
     d
 }
 
-impl Draft {
+impl ExprDraft {
     /// Nothing found yet.
-    pub(crate) fn new(alloc: Global) -> Draft
+    pub(crate) fn new(alloc: Global) -> ExprDraft
         ensures { seen result ≡ empty }
     {
-        Draft {
+        ExprDraft {
             parts: Vec::new(alloc),
             set: None,
             brace: 0,
@@ -191,8 +191,8 @@ impl Draft {
 }
 
 /// The draft after what a step tells, at its place.
-pub(crate) fn acted(alloc: Global, d: Draft, act: Act, at: u32) -> Result<Draft, AllocError>
-    ensures { IfOk result (λ e. seen e ≡ acts act at (seen d)) }
+pub(crate) fn acted(alloc: Global, d: ExprDraft, act: Act, at: u32) -> Result<ExprDraft, AllocError>
+    ensures { IfOk result (λ e. seen e ≡ acted act at (seen d)) }
 {
     match act {
         Act::Nothing => Ok(d),

@@ -104,7 +104,7 @@ impl Model for Expr {
 }
 
 impl Expr {
-    // The expression of these parts and this length.
+    /// The expression of these parts and this length.
     pub(crate) fn of(parts: Vec<ExprPart>, count: u32, unit: Calendar) -> Expr
         requires { IsTrue (is_expr (record { parts = parts.items; count = count; unit = unit })) }
         ensures { result ≡ record { parts = parts.items; count = count; unit = unit } }

@@ -17,7 +17,7 @@ fn push_number(text: &mut Vec<u8>, n: u32) -> Result<(), AllocError>
     text.extend_from_slice(buffer.format(n).as_bytes())
 }
 
-// A point and a calendar.
+/// A point and a calendar.
 fn push_calendar(text: &mut Vec<u8>, c: Calendar) -> Result<(), AllocError>
     ensures { OnOk result (text.new.items ≡ text.old.items ++ codes "." ++ calendar_word c) }
 {

@@ -1,13 +1,13 @@
 //! A text read as an expression, or its fault with its place.
 ghost use Rattle.std.specs.Prelude.{◌≡◌, ◌<◌, ◌^◌, ℕ, length, IfOk, IfErr, Ok, Err, ◌⊎◌};
-ghost use Rattle.periodic_expr.specs.Sketch.{Keeps};
+ghost use Rattle.periodic_expr.specs.Sketch.{KeepsSketch};
 ghost use Rattle.periodic_expr.specs.Drafts.{seen};
-ghost use Rattle.periodic_expr.specs.Reading.{judged as judges, ended as ends, read_expr};
+ghost use Rattle.periodic_expr.specs.Reading.{judged, ended, read_expr};
 
-use crate::drafts::{Draft, acted};
+use crate::drafts::{ExprDraft, acted};
 use crate::exprs::Expr;
 use crate::faults::{ExprFault, ExprKind};
-use crate::scan::{Place, moved};
+use crate::scan::{ScanPlace, moved};
 use std::alloc::{AllocError, Global};
 
 fn syntax(at: u32) -> Result<Expr, ExprFault>
@@ -19,10 +19,10 @@ fn syntax(at: u32) -> Result<Expr, ExprFault>
     })
 }
 
-// The first fault, or the expression, where there is a part.
-fn judged(d: Draft, at: u32) -> Result<Expr, ExprFault>
-    requires { Keeps (seen d) }
-    ensures { result ≡ judges at (seen d).parts (seen d) (seen d).fault }
+/// The first fault, or the expression, where there is a part.
+fn judged(d: ExprDraft, at: u32) -> Result<Expr, ExprFault>
+    requires { KeepsSketch (seen d) }
+    ensures { result ≡ judged at (seen d).parts (seen d) (seen d).fault }
 {
     match d.fault {
         Some(fault) => Err(fault),
@@ -31,23 +31,23 @@ fn judged(d: Draft, at: u32) -> Result<Expr, ExprFault>
     }
 }
 
-fn ended(place: Place, d: Draft, at: u32) -> Result<Expr, ExprFault>
-    requires { Keeps (seen d) }
-    ensures { result ≡ ends at place (seen d) }
+fn ended(place: ScanPlace, d: ExprDraft, at: u32) -> Result<Expr, ExprFault>
+    requires { KeepsSketch (seen d) }
+    ensures { result ≡ ended at place (seen d) }
 {
     match place {
-        Place::PartDone | Place::Finished => judged(d, at),
+        ScanPlace::PartDone | ScanPlace::Finished => judged(d, at),
         _ => syntax(at),
     }
 }
 
-// What the text says, or its fault.
+/// What the text says, or its fault.
 fn scanned(alloc: Global, text: &[u8]) -> Result<Result<Expr, ExprFault>, AllocError>
     requires { length text.now < 2 ^ 32 }
     ensures { IfOk result (λ said. said ≡ read_expr text.now) }
 {
-    let mut place = Place::Start;
-    let mut draft = Draft::new(alloc);
+    let mut place = ScanPlace::Start;
+    let mut draft = ExprDraft::new(alloc);
     'bytes: for (i, b) in text.iter().enumerate() {
         let Some(step) = moved(place, *b) else {
             return Ok(syntax(i as u32));

@@ -1,12 +1,12 @@
 //! How far a text can be continued to an expression: a scan that takes a byte a step.
 ghost use Rattle.std.specs.Prelude.{◌≡◌, ◌<◌, ◌≤◌, Some, None, length, IfSome};
-ghost use Rattle.periodic_expr.specs.Scan.{is_blank as blank, calendar_word as letters_of, moved as moves, part_start as starts_part, calendar_start as starts_calendar, calendar_end as ends_calendar, letters as in_letters, number_start as starts_number, after_index as after_indexed, after_number as after_digits, digits as in_number, after_part as after_whole, on_blank as on_blanks, on as on_byte, set_first as first_in_set, IsSized, IsSmall, IsFitting};
+ghost use Rattle.periodic_expr.specs.Scan.{is_blank, calendar_word, moved, part_start, calendar_start, calendar_end, letters, number_start, after_index, after_number, digits, after_part, on_blank, on, set_first, IsSized, IsSmall, IsFitting};
 
 use gtrbac_model::Calendar;
 
 /// Where a scan stands: what may come next.
 #[derive(Clone, Copy)]
-pub(crate) enum Place {
+pub(crate) enum ScanPlace {
     /// Nothing yet.
     Start,
     /// After `+`.
@@ -64,12 +64,12 @@ pub(crate) enum Act {
 /// A step: where the scan stands then, and what it tells.
 #[derive(Clone, Copy)]
 pub(crate) struct Move {
-    pub place: Place,
+    pub place: ScanPlace,
     pub act: Act,
 }
 
 pub(crate) fn name_of(c: Calendar) -> &'static [u8]
-    ensures { result.now ≡ letters_of c }
+    ensures { result.now ≡ calendar_word c }
 {
     match c {
         Calendar::Years => b"Years",
@@ -82,30 +82,30 @@ pub(crate) fn name_of(c: Calendar) -> &'static [u8]
 }
 
 fn is_blank(b: u8) -> bool
-    ensures { result ≡ blank b }
+    ensures { result ≡ is_blank b }
 {
     b == b' ' || b == b'\t'
 }
 
-fn to(place: Place, act: Act) -> Option<Move>
+fn to(place: ScanPlace, act: Act) -> Option<Move>
     ensures { result ≡ Some (record { place = place; act = act }) }
 {
     Some(Move { place, act })
 }
 
 fn part_start(b: u8) -> Option<Move>
-    ensures goes { result ≡ starts_part b }
+    ensures goes { result ≡ part_start b }
     ensures fits { IfSome result IsFitting }
 {
     match b {
-        b'a' => to(Place::OneLetter, Act::Nothing),
-        b'{' => to(Place::SetFirst, Act::Open),
+        b'a' => to(ScanPlace::OneLetter, Act::Nothing),
+        b'{' => to(ScanPlace::SetFirst, Act::Open),
         _ => None,
     }
 }
 
 fn calendar_start(unit: bool, b: u8) -> Option<Move>
-    ensures goes { result ≡ starts_calendar unit b }
+    ensures goes { result ≡ calendar_start unit b }
     ensures fits { IfSome result IsFitting }
 {
     let calendar = match b {
@@ -116,24 +116,24 @@ fn calendar_start(unit: bool, b: u8) -> Option<Move>
         b'H' => Calendar::Hours,
         _ => return None,
     };
-    to(Place::Letters(unit, calendar, 1), Act::Begin)
+    to(ScanPlace::Letters(unit, calendar, 1), Act::Begin)
 }
 
 fn calendar_end(unit: bool, c: Calendar) -> Option<Move>
-    ensures goes { result ≡ ends_calendar unit c }
+    ensures goes { result ≡ calendar_end unit c }
     ensures fits { IfSome result IsFitting }
 {
     if unit {
-        to(Place::Finished, Act::Unit(c))
+        to(ScanPlace::Finished, Act::Unit(c))
     } else {
-        to(Place::PartDone, Act::Part(c))
+        to(ScanPlace::PartDone, Act::Part(c))
     }
 }
 
-// Within a calendar after k letters; Months and Minutes part at the second.
+/// Within a calendar after k letters; Months and Minutes part at the second.
 fn letters(unit: bool, c: Calendar, k: usize, b: u8) -> Option<Move>
-    requires { k < length (letters_of c) }
-    ensures goes { result ≡ in_letters unit c k b }
+    requires { k < length (calendar_word c) }
+    ensures goes { result ≡ letters unit c k b }
     ensures fits { IfSome result IsFitting }
 {
     let name = name_of(c);
@@ -141,57 +141,57 @@ fn letters(unit: bool, c: Calendar, k: usize, b: u8) -> Option<Move>
         if k + 1 == name.len() {
             calendar_end(unit, c)
         } else {
-            to(Place::Letters(unit, c, k + 1), Act::Nothing)
+            to(ScanPlace::Letters(unit, c, k + 1), Act::Nothing)
         }
     } else if c == Calendar::Months && k == 1 && b == b'i' {
-        to(Place::Letters(unit, Calendar::Minutes, 2), Act::Nothing)
+        to(ScanPlace::Letters(unit, Calendar::Minutes, 2), Act::Nothing)
     } else {
         None
     }
 }
 
 fn number_start(span: bool, b: u8) -> Option<Move>
-    ensures goes { result ≡ starts_number span b }
+    ensures goes { result ≡ number_start span b }
     ensures fits { IfSome result IsFitting }
 {
     if b.is_ascii_digit() {
-        to(Place::Digits(span, u32::from(b - b'0')), Act::Begin)
+        to(ScanPlace::Digits(span, u32::from(b - b'0')), Act::Begin)
     } else {
         None
     }
 }
 
-// What may stand after a number of a set.
+/// What may stand after a number of a set.
 fn after_index(act: Act, b: u8) -> Option<Move>
     requires { IsSmall act }
-    ensures goes { result ≡ after_indexed act b }
+    ensures goes { result ≡ after_index act b }
     ensures fits { IfSome result IsFitting }
 {
     match b {
-        b',' => to(Place::SetNext, act),
-        b'}' => to(Place::DotNext, act),
+        b',' => to(ScanPlace::SetNext, act),
+        b'}' => to(ScanPlace::DotNext, act),
         _ => None,
     }
 }
 
 fn after_number(span: bool, v: u32, b: u8) -> Option<Move>
     requires { v ≤ 999_999_999 }
-    ensures goes { result ≡ after_digits span v b }
+    ensures goes { result ≡ after_number span v b }
     ensures fits { IfSome result IsFitting }
 {
     match (span, b) {
-        (true, b' ' | b'\t') => to(Place::LengthDot, Act::Length(v)),
-        (true, b'.') => to(Place::UnitNext, Act::Length(v)),
+        (true, b' ' | b'\t') => to(ScanPlace::LengthDot, Act::Length(v)),
+        (true, b'.') => to(ScanPlace::UnitNext, Act::Length(v)),
         (true, _) => None,
-        (false, b' ' | b'\t') => to(Place::NumberPast, Act::Index(v)),
+        (false, b' ' | b'\t') => to(ScanPlace::NumberPast, Act::Index(v)),
         (false, _) => after_index(Act::Index(v), b),
     }
 }
 
-// Within a number: no digit after a leading 0, and none after nine.
+/// Within a number: no digit after a leading 0, and none after nine.
 fn digits(span: bool, v: u32, b: u8) -> Option<Move>
     requires { v ≤ 999_999_999 }
-    ensures goes { result ≡ in_number span v b }
+    ensures goes { result ≡ digits span v b }
     ensures fits { IfSome result IsFitting }
 {
     if !b.is_ascii_digit() {
@@ -199,7 +199,7 @@ fn digits(span: bool, v: u32, b: u8) -> Option<Move>
     }
     if v >= 1 && v <= 99_999_999 {
         to(
-            Place::Digits(span, 10 * v + u32::from(b - b'0')),
+            ScanPlace::Digits(span, 10 * v + u32::from(b - b'0')),
             Act::Nothing,
         )
     } else {
@@ -208,21 +208,21 @@ fn digits(span: bool, v: u32, b: u8) -> Option<Move>
 }
 
 fn after_part(b: u8) -> Option<Move>
-    ensures goes { result ≡ after_whole b }
+    ensures goes { result ≡ after_part b }
     ensures fits { IfSome result IsFitting }
 {
     match b {
-        b'+' => to(Place::PartNext, Act::Nothing),
-        b'>' => to(Place::LengthNext, Act::Nothing),
+        b'+' => to(ScanPlace::PartNext, Act::Nothing),
+        b'>' => to(ScanPlace::LengthNext, Act::Nothing),
         _ => None,
     }
 }
 
-// A blank leaves the scan at the place, any other byte is as told.
-fn or_blank(b: u8, place: Place, other: Option<Move>) -> Option<Move>
+/// A blank leaves the scan at the place, any other byte is as told.
+fn or_blank(b: u8, place: ScanPlace, other: Option<Move>) -> Option<Move>
     requires place_in { IsSized place }
     requires other_in { IfSome other IsFitting }
-    ensures goes { result ≡ on_blanks b place other }
+    ensures goes { result ≡ on_blank b place other }
     ensures fits { IfSome result IsFitting }
 {
     if is_blank(b) {
@@ -232,50 +232,62 @@ fn or_blank(b: u8, place: Place, other: Option<Move>) -> Option<Move>
     }
 }
 
-// One byte alone leads on, to the place.
-fn only(b: u8, byte: u8, place: Place, act: Act) -> Option<Move>
+/// One byte alone leads on, to the place.
+fn only(b: u8, byte: u8, place: ScanPlace, act: Act) -> Option<Move>
     requires place_in { IsSized place }
     requires act_in { IsSmall act }
-    ensures goes { result ≡ on_byte b byte (Some (record { place = place; act = act })) None }
+    ensures goes { result ≡ on b byte (Some (record { place = place; act = act })) None }
     ensures fits { IfSome result IsFitting }
 {
     if b == byte { to(place, act) } else { None }
 }
 
-// After the brace of a set.
+/// After the brace of a set.
 fn set_first(b: u8) -> Option<Move>
-    ensures goes { result ≡ first_in_set b }
+    ensures goes { result ≡ set_first b }
     ensures fits { IfSome result IsFitting }
 {
     if b == b'}' {
-        to(Place::DotNext, Act::Nothing)
+        to(ScanPlace::DotNext, Act::Nothing)
     } else {
         number_start(false, b)
     }
 }
 
 /// Where a byte leads, none where no expression goes on so.
-pub(crate) fn moved(place: Place, b: u8) -> Option<Move>
+pub(crate) fn moved(place: ScanPlace, b: u8) -> Option<Move>
     requires { IsSized place }
-    ensures goes { result ≡ moves place b }
+    ensures goes { result ≡ moved place b }
     ensures fits { IfSome result IsFitting }
 {
     match place {
-        Place::Start => part_start(b),
-        Place::PartNext => or_blank(b, place, part_start(b)),
-        Place::OneLetter => only(b, b'l', Place::TwoLetters, Act::Nothing),
-        Place::TwoLetters => only(b, b'l', Place::DotNext, Act::Nothing),
-        Place::DotNext => or_blank(b, place, only(b, b'.', Place::CalendarNext, Act::Nothing)),
-        Place::CalendarNext => or_blank(b, place, calendar_start(false, b)),
-        Place::Letters(unit, c, k) => letters(unit, c, k, b),
-        Place::PartDone | Place::PartPast => or_blank(b, Place::PartPast, after_part(b)),
-        Place::SetFirst => or_blank(b, place, set_first(b)),
-        Place::Digits(span, v) => digits(span, v, b),
-        Place::NumberPast => or_blank(b, place, after_index(Act::Nothing, b)),
-        Place::SetNext => or_blank(b, place, number_start(false, b)),
-        Place::LengthNext => or_blank(b, place, number_start(true, b)),
-        Place::LengthDot => or_blank(b, place, only(b, b'.', Place::UnitNext, Act::Nothing)),
-        Place::UnitNext => or_blank(b, place, calendar_start(true, b)),
-        Place::Finished => None,
+        ScanPlace::Start => part_start(b),
+        ScanPlace::PartNext => or_blank(b, place, part_start(b)),
+        ScanPlace::OneLetter => only(b, b'l', ScanPlace::TwoLetters, Act::Nothing),
+        ScanPlace::TwoLetters => only(b, b'l', ScanPlace::DotNext, Act::Nothing),
+        ScanPlace::DotNext => or_blank(
+            b,
+            place,
+            only(b, b'.', ScanPlace::CalendarNext, Act::Nothing),
+        ),
+        ScanPlace::CalendarNext => or_blank(b, place, calendar_start(false, b)),
+        ScanPlace::Letters(unit, c, k) => letters(unit, c, k, b),
+        ScanPlace::PartDone | ScanPlace::PartPast => or_blank(
+            b,
+            ScanPlace::PartPast,
+            after_part(b),
+        ),
+        ScanPlace::SetFirst => or_blank(b, place, set_first(b)),
+        ScanPlace::Digits(span, v) => digits(span, v, b),
+        ScanPlace::NumberPast => or_blank(b, place, after_index(Act::Nothing, b)),
+        ScanPlace::SetNext => or_blank(b, place, number_start(false, b)),
+        ScanPlace::LengthNext => or_blank(b, place, number_start(true, b)),
+        ScanPlace::LengthDot => or_blank(
+            b,
+            place,
+            only(b, b'.', ScanPlace::UnitNext, Act::Nothing),
+        ),
+        ScanPlace::UnitNext => or_blank(b, place, calendar_start(true, b)),
+        ScanPlace::Finished => None,
     }
 }

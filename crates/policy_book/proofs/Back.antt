@@ -9,7 +9,6 @@ use Rattle.std.proofs.lemmas.Option.{unwrap_or-slice_get}
 use Rattle.std.proofs.lemmas.List.{append-nil, length-append, length-map, map-id}
 use Rattle.std.proofs.lemmas.List.Elements.{filter_map-append}
 use Rattle.std.proofs.lemmas.List.Folds.{list_any-append}
-use Rattle.gt_base.specs.Bounds.{last_minute}
 use Rattle.gt_base.specs.Held.{TriggerView}
 use Rattle.gt_base.specs.Names.{is_name}
 use Rattle.gt_base.specs.declared.events.RoleId.{RoleId}
@@ -24,19 +23,20 @@ use Rattle.gt_base.specs.declared.events.Signal.{Signal as BaseSignal}
 use Rattle.gt_base.specs.declared.events.Cond.{Cond as BaseCond}
 use Rattle.gt_base.specs.declared.events.Prioritised.{Prioritised}
 use Rattle.gt_base.specs.declared.policies.HierEdge.{HierEdge}
+use Rattle.gt_base.specs.declared.limits.TheConstants.{LAST_MINUTE}
 use Rattle.gtrbac_model.specs.Policy.{Policy}
 use Rattle.gtrbac_model.proofs.Elements.{both_true, and_true}
 use Rattle.gtrbac_model.specs.WholePolicy.{IsPolicy, is_fluent, is_signal, is_rule, is_edge, has_cause, joins_same, joined_twice}
 use Rattle.gtrbac_model.specs.WholePolicy as policies
-use Rattle.gtrbac_model.specs.History.{is_some_item as has_item}
+use Rattle.gtrbac_model.specs.History.{is_some_item}
 use Rattle.policy_words.specs.declared.parts.NamedFluent.TheVariants.{Edge}
 use Rattle.policy_words.specs.declared.parts.Item.{Item}
 use Rattle.policy_words.specs.declared.parts.Item.TheVariants.{Event, Signal, Cond, Settled}
 use Rattle.policy_words.specs.Wording.{◌>>=◌, fluent_names}
-use Rattle.policy_words.specs.Sayings.{trigger, is_saying, is_formed, is_head, is_item, is_some_item, is_cause, are_names as are_all_names}
+use Rattle.policy_words.specs.Sayings.{trigger, is_saying, is_formed, is_head, is_item, is_cause, are_names as are_all_names}
 use Rattle.policy_words.specs.Naming.{Names, NamePair, NamedPolicy, same_pair, pair_at, role_of, user_of, perm_of, period_of, limit_of, fluent_of, event_of, cond_of, signal_of, head_of, role_name, user_name, perm_name, period_name, limit_name, fluent_named, event_named, cond_named, signal_named, head_named}
 use Rattle.policy_words.specs.Making.{event_in, signal_in, cond_in, settled_in, rule_said}
-use Rattle.policy_words.specs.Book.{is_known, is_known_item}
+use Rattle.policy_words.specs.LinesTogether.{is_known, is_known_item}
 use Rattle.policy_words.specs.Canonical.{items_of}
 use Rattle.policy_words.specs.Valid.{IsWellFormed, are_names, pair_of}
 use Rattle.gtrbac_model.specs.Same.{same_role}
@@ -292,7 +292,7 @@ module _ (np : NamedPolicy) (is : IsWellFormed np) where
     pub conds : list_all (λ c. is_fluent p c.fluent) r.conds ≡ true
     pub settled : list_all (λ c. is_fluent p c.fluent) r.settled ≡ true
     pub head : policies.is_head p r.head ≡ true
-    pub delay : nat_le r.delay last_minute ≡ true
+    pub delay : nat_le r.delay LAST_MINUTE ≡ true
     pub few : length r.events + length r.signals + length r.conds + length r.settled ≤ 16
 
   seven : (a b c d e f g : Bool) → (a && b && c && d && e && f && g) ≡ true → (a ≡ true) × (b ≡ true) × (c ≡ true) × (d ≡ true) × (e ≡ true) × (f ≡ true) × (g ≡ true)
@@ -308,7 +308,7 @@ module _ (np : NamedPolicy) (is : IsWellFormed np) where
   rule_in : (r : TriggerView) → is_rule p r ≡ true → IsRuleIn r
   rule_in r h =
       let (a, b, c, s, d, e, f) =
-      seven (list_all (λ e. is_fluent p e.fluent) r.events) (list_all (is_signal p) r.signals) (list_all (λ c. is_fluent p c.fluent) r.conds) (list_all (λ c. is_fluent p c.fluent) r.settled) (policies.is_head p r.head) (nat_le r.delay last_minute)
+      seven (list_all (λ e. is_fluent p e.fluent) r.events) (list_all (is_signal p) r.signals) (list_all (λ c. is_fluent p c.fluent) r.conds) (list_all (λ c. is_fluent p c.fluent) r.settled) (policies.is_head p r.head) (nat_le r.delay LAST_MINUTE)
       (nat_le (length r.events + length r.signals + length r.conds + length r.settled) 16) h in
       record { events = a; signals = b; conds = c; settled = s; head = d; delay = e; few = leb-true _ _ f }
 
@@ -395,7 +395,7 @@ module _ (np : NamedPolicy) (is : IsWellFormed np) where
       ∙ or_left _ _
       (list_any-append is_cause (event_items r ++ signal_items r) (cond_items r) ∙ or_left _ _ (list_any-append is_cause (event_items r) (signal_items r) ∙ by r.events r.signals h))
     where
-      by : (es : List BaseEvent) (ss : List BaseSignal) → (has_item es || has_item ss) ≡ true
+      by : (es : List BaseEvent) (ss : List BaseSignal) → (is_some_item es || is_some_item ss) ≡ true
           → (list_any is_cause (map (λ e. Event (event_named ns e)) es) || list_any is_cause (map (λ s. Signal (signal_named ns s)) ss)) ≡ true
       by (e ∷ es) ss k = refl
       by [] (s ∷ ss) k = refl

@@ -1,5 +1,5 @@
 -- The caps and the administrators that lines make.
-use Rattle.std.proofs.Common.{◌≡◌, ℕ, zero, suc, ◌+◌, ◌≤◌, ◌<◌, Bool, true, false, cond, ◌&&◌, List, [], ◌∷◌, map, length, filter, Option, Some, None, refl, ap, ◌∙◌, arith, nat_lt}
+use Rattle.std.proofs.Common.{◌≡◌, ℕ, zero, suc, ◌+◌, ◌≤◌, ◌<◌, Bool, true, false, cond, List, [], ◌∷◌, map, length, filter, Option, Some, None, refl, ap, ◌∙◌, arith, nat_lt}
 use Rattle.std.specs.List.{list_all}
 use Rattle.std.proofs.lemmas.Bool.{lt-ltb}
 use Rattle.gt_base.specs.declared.events.RoleId.{RoleId}
@@ -7,13 +7,13 @@ use Rattle.gt_base.specs.declared.events.UserId.{UserId}
 use Rattle.gt_base.specs.declared.policies.Caps.{Caps}
 use Rattle.gtrbac_model.proofs.Elements.{both_true, and_true}
 use Rattle.gtrbac_model.specs.Valid.{rises_above}
-use Rattle.gtrbac_model.specs.WholePolicy.{is_most, are_caps, admins_rise}
-use Rattle.policy_words.specs.declared.sayings.CapKind.{CapKind}
-use Rattle.policy_words.specs.declared.sayings.CapKind.TheVariants as caps
+use Rattle.gtrbac_model.specs.WholePolicy.{are_caps, admins_rise}
 use Rattle.gt_base.specs.Names.{is_name}
-use Rattle.policy_words.specs.Sayings.{SaidView, cap, is_saying, is_count}
+use Rattle.policy_words.specs.Sayings.{SaidView, cap, is_saying}
 use Rattle.policy_words.specs.Naming.{Names, role_of}
-use Rattle.policy_words.specs.Making.{Draft, adding, drafted, changed_at, with_cap, capped, with_caps_said, no_caps, users_from}
+use Rattle.policy_words.specs.CapKinds.{no_caps, with_cap}
+use Rattle.policy_words.proofs.CapKinds.{cap_fine}
+use Rattle.policy_words.specs.Making.{DraftView, adding, drafted, changed_at, capped, with_caps_said, users_from}
 use Rattle.policy_book.proofs.Naming.{formed}
 
 pub length-changed_at : {A : Type 0} (f : A → A) (k : ℕ) (xs : List A) → length (changed_at f k xs) ≡ length xs
@@ -25,29 +25,6 @@ changed_all : {A : Type 0} (p : A → Bool) (f : A → A) → ((x : A) → p x �
 changed_all p f on k [] h = refl
 changed_all p f on zero (x ∷ xs) h = let parts = both_true (p x) _ h in and_true _ _ (on x parts.0) parts.1
 changed_all p f on (suc k) (x ∷ xs) h = let parts = both_true (p x) _ h in and_true _ _ parts.0 (changed_all p f on k xs parts.1)
-
-four : (a b c d : Bool) → (a && b && c && d) ≡ true → (a ≡ true) × (b ≡ true) × (c ≡ true) × (d ≡ true)
-four true true true true e = (refl, refl, refl, refl)
-four false b c d e = cc
-four true false c d e = cc
-four true true false d e = cc
-four true true true false e = cc
-
-all_four : (a b c d : Bool) → a ≡ true → b ≡ true → c ≡ true → d ≡ true → (a && b && c && d) ≡ true
-all_four true true true true p q r s = refl
-all_four false b c d p q r s = cc
-all_four true false c d p q r s = cc
-all_four true true false d p q r s = cc
-all_four true true true false p q r s = cc
-
-cap_fine : (kind : CapKind) (n : ℕ) → is_count n ≡ true → (c : Caps) → are_caps c ≡ true → are_caps (with_cap kind n c) ≡ true
-cap_fine kind n counts c h = by kind (four (is_most c.total) (is_most c.user) (is_most c.length) (is_most c.day) h)
-  where
-    by : (k : CapKind) → (is_most c.total ≡ true) × (is_most c.user ≡ true) × (is_most c.length ≡ true) × (is_most c.day ≡ true) → are_caps (with_cap k n c) ≡ true
-    by caps.Total (t, u, l, d) = all_four (is_count n) _ _ _ counts u l d
-    by caps.User (t, u, l, d) = all_four (is_most c.total) (is_count n) _ _ t counts l d
-    by caps.Length (t, u, l, d) = all_four (is_most c.total) (is_most c.user) (is_count n) _ t u counts d
-    by caps.Day (t, u, l, d) = all_four (is_most c.total) (is_most c.user) (is_most c.length) (is_count n) t u l counts
 
 step_length : (ns : Names) (x : SaidView) (cs : List Caps) → length (with_caps_said ns x cs) ≡ length cs
 step_length ns (cap kind r n) cs = by (role_of ns r)
@@ -65,11 +42,11 @@ step_fine ns (cap kind r n) cs said h = by (role_of ns r)
     by (Some q) = changed_all are_caps (with_cap kind n) (cap_fine kind n (both_true (is_name r) _ (formed (cap kind r n) said)).1) q.0 cs h
 step_fine ns _ cs said h = h
 
-pub caps_length : (ns : Names) (d : Draft) (xs : List SaidView) → length (drafted ns d xs).caps ≡ length d.caps
+pub caps_length : (ns : Names) (d : DraftView) (xs : List SaidView) → length (drafted ns d xs).caps ≡ length d.caps
 caps_length ns d [] = refl
 caps_length ns d (x ∷ xs) = caps_length ns (adding ns d x) xs ∙ step_length ns x d.caps
 
-pub caps_fine : (ns : Names) (d : Draft) (xs : List SaidView) → list_all is_saying xs ≡ true → list_all are_caps d.caps ≡ true → list_all are_caps (drafted ns d xs).caps ≡ true
+pub caps_fine : (ns : Names) (d : DraftView) (xs : List SaidView) → list_all is_saying xs ≡ true → list_all are_caps d.caps ≡ true → list_all are_caps (drafted ns d xs).caps ≡ true
 caps_fine ns d [] said h = h
 caps_fine ns d (x ∷ xs) said h = let parts = both_true (is_saying x) _ said in caps_fine ns (adding ns d x) xs parts.1 (step_fine ns x d.caps parts.0 h)
 

@@ -6,7 +6,7 @@ use Rattle.policy_words.specs.declared.sayings.Kind.TheVariants as kinds
 use Rattle.policy_words.specs.declared.parts.NamedFluent.TheVariants as fluents
 use Rattle.policy_words.specs.Sayings.{SaidView, opening}
 use Rattle.policy_words.specs.declared.claims.Claim.{Claim}
-use Rattle.policy_words.specs.Book.{claim_of, same_claim, is_claimed_by, is_claimed_again, may_be_again, is_twice, same_kind, is_of, counts_for}
+use Rattle.policy_words.specs.LinesTogether.{claim_of, same_claim, is_claimed_by, is_claimed_again, may_be_again, is_twice, same_kind, is_of, counts_for}
 
 -- the later line claims for itself what the earlier one claims
 abbrev pub clashes : SaidView → SaidView → Bool

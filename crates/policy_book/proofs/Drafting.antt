@@ -8,10 +8,10 @@ use Rattle.gt_base.specs.contracts.events.FluentOrd.TheImpl.Laws as fluent_laws
 use Rattle.gtrbac_model.specs.Same.{lists, same_fluent}
 use Rattle.indexmap.specs.IndexSet.{insert_key}
 use Rattle.policy_book.proofs.SameNames.{any_same}
-use Rattle.policy_words.specs.Making.{Draft, changed_at, with_new}
+use Rattle.policy_words.specs.Making.{DraftView, changed_at, with_new}
 
 -- drafts with the same parts are equal
-pub same_draft : {a b : Draft} → a.periods ≡ b.periods → a.limits ≡ b.limits → a.edges ≡ b.edges → a.caps ≡ b.caps → a.admins ≡ b.admins → a.on_at_first ≡ b.on_at_first
+pub same_draft : {a b : DraftView} → a.periods ≡ b.periods → a.limits ≡ b.limits → a.edges ≡ b.edges → a.caps ≡ b.caps → a.admins ≡ b.admins → a.on_at_first ≡ b.on_at_first
     → a.entries ≡ b.entries → a.triggers ≡ b.triggers → a ≡ b
 same_draft p l e c u f n t =
     λ i. record { periods = p i; limits = l i; edges = e i; caps = c i; admins = u i; on_at_first = f i; entries = n i; triggers = t i }

@@ -1,62 +1,17 @@
--- How many names and edges lines make, and where the edges end.
-use Rattle.std.proofs.Common.{◌≡◌, ℕ, ◌+◌, ◌<◌, ◌≤◌, Bool, true, false, cond, List, [], ◌∷◌, ◌++◌, length, length-append, Option, Some, None, refl, sym, subst, ◌∙◌, zero, suc, arith}
+-- How many edges lines make, and where they end.
+use Rattle.std.proofs.Common.{◌≡◌, ℕ, ◌+◌, ◌<◌, ◌≤◌, List, [], ◌∷◌, ◌++◌, length, length-append, Option, Some, None, refl, sym, subst, ◌∙◌, zero, suc, arith}
 use Rattle.std.specs.Prelude.{bytes_eq, IfSome}
 use Rattle.std.proofs.lemmas.List.Quantifiers.{position-Some}
 use Rattle.gt_base.specs.Names.{place_of}
 use Rattle.gt_base.specs.declared.policies.HierEdge.{HierEdge}
 use Rattle.gtrbac_model.specs.Graph.{item_at}
-use Rattle.policy_book.specs.Nets.{HasRoles, AreWithin}
-use Rattle.gt_base.specs.Names.{lists_name, with_name}
+use Rattle.hybrid_hierarchy.specs.Nets.{HasRoles, AreWithin}
 use Rattle.policy_words.specs.Sayings.{SaidView, version, role, user, perm, period, limit, edge, cap, admin, opening, entry, trigger}
 use Rattle.policy_words.specs.Reading.{Numbered}
-use Rattle.policy_words.specs.Naming.{Names, same_pair}
-use Rattle.policy_words.specs.Making.{Draft, naming, names_in, names_of, no_names, with_item, edge_said, adding, drafted}
-use Rattle.policy_words.specs.Book.{said_in, edges_at}
-use Rattle.std.specs.List.{cons_option, list_any}
-use Rattle.policy_book.specs.Numbers.{AreFew}
-
--- names
-
-with_one_few : {A : Type 0} (b : Bool) (xs : List A) (x : A) (most : ℕ) → length xs ≤ most → length (cond b xs (xs ++ x ∷ [])) ≤ most + 1
-with_one_few true xs x most h = omega arith
-with_one_few false xs x most h = omega (arith, length-append xs (x ∷ []))
-
-with_name_few : (ns : List (List ℕ)) (n : List ℕ) (most : ℕ) → length ns ≤ most → length (with_name ns n) ≤ most + 1
-with_name_few ns n most h = with_one_few (lists_name ns n) ns n most h
-
-up : {a b : ℕ} → a ≤ b → a ≤ b + 1
-up h = omega arith
-
-wider : {most : ℕ} {ns : Names} → AreFew most ns → AreFew (most + 1) ns
-wider few = record { roles = up few.roles; users = up few.users; perms = up few.perms; periods = up few.periods; limits = up few.limits; edges = up few.edges }
-
-naming_few : (most : ℕ) (ns : Names) (s : SaidView) → AreFew most ns → AreFew (most + 1) (naming ns s)
-naming_few most ns (role n) few = record { roles = with_name_few ns.roles n most few.roles; users = up few.users; perms = up few.perms; periods = up few.periods; limits = up few.limits; edges = up few.edges }
-naming_few most ns (user n) few = record { roles = up few.roles; users = with_name_few ns.users n most few.users; perms = up few.perms; periods = up few.periods; limits = up few.limits; edges = up few.edges }
-naming_few most ns (perm n) few = record { roles = up few.roles; users = up few.users; perms = with_name_few ns.perms n most few.perms; periods = up few.periods; limits = up few.limits; edges = up few.edges }
-naming_few most ns (period n first last e) few = record { roles = up few.roles; users = up few.users; perms = up few.perms; periods = with_name_few ns.periods n most few.periods; limits = up few.limits; edges = up few.edges }
-naming_few most ns (limit n prio c longest during) few = record { roles = up few.roles; users = up few.users; perms = up few.perms; periods = up few.periods; limits = with_name_few ns.limits n most few.limits; edges = up few.edges }
-naming_few most ns (version n) few = wider few
-naming_few most ns (edge kind strong s j) few =
-    record { roles = up few.roles; users = up few.users; perms = up few.perms; periods = up few.periods; limits = up few.limits; edges = with_one_few (list_any (same_pair (s, j)) ns.edges) ns.edges (s, j) most few.edges }
-naming_few most ns (cap kind r n) few = wider few
-naming_few most ns (admin u) few = wider few
-naming_few most ns (opening f) few = wider few
-naming_few most ns (entry f p h) few = wider few
-naming_few most ns (trigger items h d) few = wider few
-
-names_few : (n most : ℕ) (ns : Names) (ss : List (Numbered SaidView)) → AreFew n ns → n + length ss ≤ most → AreFew most (names_in ns (said_in ss))
-names_few n most ns [] few h =
-    record { roles = far few.roles; users = far few.users; perms = far few.perms; periods = far few.periods; limits = far few.limits; edges = far few.edges }
-  where
-    far : {a : ℕ} → a ≤ n → a ≤ most
-    far k = omega (arith, h)
-names_few n most ns (s ∷ ss) few h = names_few (n + 1) most (naming ns s.it) ss (naming_few n ns s.it few) (omega arith)
-
-pub few_names : (most : ℕ) (ss : List (Numbered SaidView)) → length ss ≤ most → AreFew most (names_of (said_in ss))
-few_names most ss h = names_few 0 most no_names ss (record { roles = omega arith; users = omega arith; perms = omega arith; periods = omega arith; limits = omega arith; edges = omega arith }) (omega (arith, h))
-
--- edges
+use Rattle.policy_words.specs.Naming.{Names}
+use Rattle.policy_words.specs.Making.{DraftView, with_item, edge_said, adding, drafted}
+use Rattle.policy_words.specs.LinesTogether.{said_in, edges_at}
+use Rattle.std.specs.List.{cons_option}
 
 place_in : (names : List (List ℕ)) (n : List ℕ) (k : ℕ) → place_of names n ≡ Some k → k < length names
 place_in names n k h = (position-Some (bytes_eq n) names k [] h).0
@@ -90,19 +45,19 @@ with_edge_within : (roles : ℕ) (es : List HierEdge) (o : Option HierEdge) → 
 with_edge_within roles es None within has = within
 with_edge_within roles es (Some e) within has = pushed_within roles es e within has
 
-within_after : (ns : Names) (d : Draft) (ss : List (Numbered SaidView)) → AreWithin (length ns.roles) d.edges → AreWithin (length ns.roles) (drafted ns d (said_in ss)).edges
+within_after : (ns : Names) (d : DraftView) (ss : List (Numbered SaidView)) → AreWithin (length ns.roles) d.edges → AreWithin (length ns.roles) (drafted ns d (said_in ss)).edges
 within_after ns d [] within = within
 within_after ns d (s ∷ ss) within =
     within_after ns (adding ns d s.it) ss (with_edge_within (length ns.roles) d.edges (edge_said ns s.it) within (edge_within ns s.it))
 
-pub edges_within : (ns : Names) (d : Draft) (ss : List (Numbered SaidView)) → d.edges ≡ [] → AreWithin (length ns.roles) (drafted ns d (said_in ss)).edges
+pub edges_within : (ns : Names) (d : DraftView) (ss : List (Numbered SaidView)) → d.edges ≡ [] → AreWithin (length ns.roles) (drafted ns d (said_in ss)).edges
 edges_within ns d ss none = within_after ns d ss (subst (AreWithin (length ns.roles)) (sym none) (λ n e h. cc))
 
 with_item_few : {A : Type 0} (xs : List A) (o : Option A) → length (with_item o xs) ≤ length xs + 1
 with_item_few xs None = omega arith
 with_item_few xs (Some x) = omega (arith, length-append xs (x ∷ []))
 
-pub edges_few : (ns : Names) (d : Draft) (ss : List (Numbered SaidView)) → length (drafted ns d (said_in ss)).edges ≤ length d.edges + length ss
+pub edges_few : (ns : Names) (d : DraftView) (ss : List (Numbered SaidView)) → length (drafted ns d (said_in ss)).edges ≤ length d.edges + length ss
 edges_few ns d [] = omega arith
 edges_few ns d (s ∷ ss) =
     let more = edges_few ns (adding ns d s.it) ss in

@@ -8,7 +8,7 @@ use Rattle.policy_words.specs.declared.sayings.Kind.{Kind}
 use Rattle.policy_words.specs.Sayings.{SaidView}
 use Rattle.policy_words.specs.Reading.{Numbered}
 use Rattle.policy_words.specs.Naming.{Names}
-use Rattle.policy_words.specs.Book.{BookTrouble, unknown, twice, many_at, is_known, is_twice, many_of, is_claimed_again, kind_of, same_kind, is_of, counts_for, count_of, most_of, line_trouble, first_trouble, said_in}
+use Rattle.policy_words.specs.LinesTogether.{LinesFault, unknown, twice, many_at, is_known, is_twice, many_of, is_claimed_again, kind_of, same_kind, is_of, counts_for, count_of, most_of, fault_of_line, first_fault, said_in}
 use Rattle.policy_book.proofs.Lists.{repeats}
 use Rattle.policy_book.proofs.Clashes.{clashes, twice_any, is_plain, one_kind, counts_plain}
 use Rattle.policy_book.proofs.DraftedLines.{onto}
@@ -23,22 +23,22 @@ abbrev pub AreFine : Names → List SaidView → List SaidView → Type 0
 AreFine ns before [] = Unit {0}
 AreFine ns before (x ∷ xs) = IsFine ns before x × AreFine ns (x ∷ before) xs
 
-fine_line : (ns : Names) (before : List SaidView) (s : Numbered SaidView) → line_trouble ns before s ≡ None → IsFine ns before s.it
+fine_line : (ns : Names) (before : List SaidView) (s : Numbered SaidView) → fault_of_line ns before s ≡ None → IsFine ns before s.it
 fine_line ns before s e = by (is_known ns s.it) (is_twice before s.it) (many_of before s.it) refl refl refl e
   where
     by : (k t : Bool) (m : Option Kind) → is_known ns s.it ≡ k → is_twice before s.it ≡ t → many_of before s.it ≡ m
-        → ◌≡◌ {A = Option BookTrouble} (elim k [ false ↦ Some (unknown s.line) | true ↦ elim t [ true ↦ Some (twice s.line) | false ↦ many_at s.line m ] ]) None → IsFine ns before s.it
+        → ◌≡◌ {A = Option LinesFault} (cond (not k) (Some (unknown s.line)) (cond t (Some (twice s.line)) (many_at s.line m))) None → IsFine ns before s.it
     by false t m p q r e = cc
     by true true m p q r e = cc
     by true false (Some k) p q r e = cc
     by true false None p q r e = record { known = p; once = q; few = r }
 
-pub fine_lines : (ns : Names) (before : List SaidView) (ss : List (Numbered SaidView)) → first_trouble ns before ss ≡ None → AreFine ns before (said_in ss)
+pub fine_lines : (ns : Names) (before : List SaidView) (ss : List (Numbered SaidView)) → first_fault ns before ss ≡ None → AreFine ns before (said_in ss)
 fine_lines ns before [] e = tt
-fine_lines ns before (s ∷ ss) e = by (line_trouble ns before s) refl e (fine_lines ns (s.it ∷ before) ss)
+fine_lines ns before (s ∷ ss) e = by (fault_of_line ns before s) refl e (fine_lines ns (s.it ∷ before) ss)
   where
-    by : (o : Option BookTrouble) → line_trouble ns before s ≡ o → ◌≡◌ {A = Option BookTrouble} (elim o [ Some t ↦ Some t | None ↦ first_trouble ns (s.it ∷ before) ss ]) None
-        → (first_trouble ns (s.it ∷ before) ss ≡ None → AreFine ns (s.it ∷ before) (said_in ss)) → IsFine ns before s.it × AreFine ns (s.it ∷ before) (said_in ss)
+    by : (o : Option LinesFault) → fault_of_line ns before s ≡ o → ◌≡◌ {A = Option LinesFault} (elim o [ Some t ↦ Some t | None ↦ first_fault ns (s.it ∷ before) ss ]) None
+        → (first_fault ns (s.it ∷ before) ss ≡ None → AreFine ns (s.it ∷ before) (said_in ss)) → IsFine ns before s.it × AreFine ns (s.it ∷ before) (said_in ss)
     by (Some t) p e on = cc
     by None p e on = (fine_line ns before s p, on e)
 

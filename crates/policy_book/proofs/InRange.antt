@@ -4,7 +4,6 @@ use Rattle.std.specs.List.{list_any, list_all, filter_map, cons_option}
 use Rattle.std.specs.Prelude.{position}
 use Rattle.std.proofs.lemmas.List.Quantifiers.{position-Some}
 use Rattle.std.proofs.lemmas.Bool.{lt-ltb, leb-true, le-leb, eqb-true, or_right}
-use Rattle.gt_base.specs.Bounds.{last_minute}
 use Rattle.gt_base.specs.Held.{TriggerView}
 use Rattle.gt_base.specs.Names.{is_name, place_of}
 use Rattle.gt_base.specs.declared.events.RoleId.{RoleId}
@@ -21,6 +20,7 @@ use Rattle.gt_base.specs.declared.events.Prioritised.{Prioritised}
 use Rattle.gt_base.specs.declared.policies.PeriodicEntry.{PeriodicEntry}
 use Rattle.gt_base.specs.declared.policies.LimitRule.{LimitRule}
 use Rattle.gt_base.specs.declared.policies.HierEdge.{HierEdge}
+use Rattle.gt_base.specs.declared.limits.TheConstants.{LAST_MINUTE}
 use Rattle.gtrbac_model.specs.Period.{Period}
 use Rattle.gtrbac_model.specs.Policy.{Policy}
 use Rattle.gtrbac_model.specs.Same.{same_role}
@@ -28,7 +28,7 @@ use Rattle.gtrbac_model.proofs.Elements.{both_true, and_true}
 use Rattle.gtrbac_model.specs.Valid.{is_period}
 use Rattle.gtrbac_model.specs.WholePolicy.{is_fluent, is_signal, is_entry, is_limit, is_edge, is_rule, has_cause, joins_same}
 use Rattle.gtrbac_model.specs.WholePolicy as policies
-use Rattle.gtrbac_model.specs.History.{is_some_item as has_item}
+use Rattle.gtrbac_model.specs.History.{is_some_item}
 use Rattle.policy_words.specs.declared.parts.NamedFluent.{NamedFluent}
 use Rattle.policy_words.specs.declared.parts.NamedFluent.TheVariants as fluents
 use Rattle.policy_words.specs.declared.parts.NamedEvent.{NamedEvent}
@@ -40,12 +40,12 @@ use Rattle.policy_words.specs.declared.parts.Item.TheVariants.{Event, Signal, Co
 use Rattle.policy_words.specs.declared.sayings.EdgeKind.{EdgeKind}
 use Rattle.policy_words.specs.declared.sayings.EdgeKind.TheVariants.{I, A, Ia}
 use Rattle.policy_words.specs.Wording.{fluent_names}
-use Rattle.policy_words.specs.Sayings.{SaidView, period, limit, edge, opening, entry, trigger, is_saying, is_formed, is_cause, is_head, is_item, is_some_item, is_count, are_names}
+use Rattle.policy_words.specs.Sayings.{SaidView, period, limit, edge, opening, entry, trigger, is_saying, is_formed, is_cause, is_head, is_item, is_count, are_names}
 use Rattle.policy_words.specs.declared.claims.Claim.TheVariants as claims
 use Rattle.policy_words.specs.Naming.{Names, same_pair, role_of, user_of, perm_of, period_of, limit_of, fluent_of, event_of, cond_of, signal_of, head_of}
 use Rattle.policy_words.specs.Making.{inherits, activates, period_said, during_of, limit_said, edge_said, entry_said, opening_said, event_in, signal_in, cond_in, settled_in, rule_said}
 use Rattle.policy_words.specs.declared.sayings.Kind.TheVariants as kinds
-use Rattle.policy_words.specs.Book.{is_known, is_known_item, claim_of, may_be_again, is_of}
+use Rattle.policy_words.specs.LinesTogether.{is_known, is_known_item, claim_of, may_be_again, is_of}
 use Rattle.policy_book.proofs.Lists.{bound, some_same, same_bytes}
 use Rattle.policy_book.proofs.Places.{place_below, one_place}
 use Rattle.policy_book.proofs.Naming.{formed}
@@ -190,10 +190,10 @@ module _ (ns : Names) (p : Policy) (sized : IsSized ns p) where
 
 pub period_there : (ns : Names) (x : SaidView) → is_saying x ≡ true → (g : Period) → period_said ns x ≡ Some g → is_period g ≡ true
 period_there ns (period n first last ex) said g e =
-    let parts = both_true (is_name n && nat_le first last_minute && nat_le last last_minute) _ (formed (period n first last ex) said) in
-    let ends = both_true (is_name n && nat_le first last_minute) _ parts.0 in
+    let parts = both_true (is_name n && nat_le first LAST_MINUTE && nat_le last LAST_MINUTE) _ (formed (period n first last ex) said) in
+    let ends = both_true (is_name n && nat_le first LAST_MINUTE) _ parts.0 in
     let order = (both_true (is_formed (period n first last ex)) _ (both_true (is_formed (period n first last ex) && nat_le first last) _ said).0).1 in
-    subst (λ z. is_period z ≡ true) (some_same _ _ e) (and_true (nat_le first last && nat_le last last_minute) _ (and_true (nat_le first last) _ order ends.1) parts.1)
+    subst (λ z. is_period z ≡ true) (some_same _ _ e) (and_true (nat_le first last && nat_le last LAST_MINUTE) _ (and_true (nat_le first last) _ order ends.1) parts.1)
 period_there ns _ said g e = cc
 
 -- edges of one pair clash
@@ -303,16 +303,16 @@ module _ (ns : Names) (p : Policy) (sized : IsSized ns p) where
       (le-leb _ _ (omega (arith, no_longer items, few))))
   rule_there _ said g e = cc
 
-  caused : (items : List Item) → list_all (is_known_item ns) items ≡ true → list_any is_cause items ≡ true → (has_item (events_of items) || has_item (signals_of items)) ≡ true
+  caused : (items : List Item) → list_all (is_known_item ns) items ≡ true → list_any is_cause items ≡ true → (is_some_item (events_of items) || is_some_item (signals_of items)) ≡ true
   caused [] known e = cc
   caused (Event i ∷ is) known e = by (event_of ns i) (both_true (is_some (event_of ns i)) _ known).0
     where
-      by : (o : Option BaseEvent) → is_some o ≡ true → (has_item (cons_option o (events_of is)) || has_item (signals_of is)) ≡ true
+      by : (o : Option BaseEvent) → is_some o ≡ true → (is_some_item (cons_option o (events_of is)) || is_some_item (signals_of is)) ≡ true
       by (Some g) h = refl
       by None h = cc
   caused (Signal i ∷ is) known e = by (signal_of ns i) (both_true (is_some (signal_of ns i)) _ known).0
     where
-      by : (o : Option BaseSignal) → is_some o ≡ true → (has_item (events_of is) || has_item (cons_option o (signals_of is))) ≡ true
+      by : (o : Option BaseSignal) → is_some o ≡ true → (is_some_item (events_of is) || is_some_item (cons_option o (signals_of is))) ≡ true
       by (Some g) h = or_right _ _ refl
       by None h = cc
   caused (Cond i ∷ is) known e = caused is (both_true (is_some (cond_of ns i)) _ known).1 e

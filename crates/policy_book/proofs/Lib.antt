@@ -21,7 +21,7 @@ pub mod SameNames
 pub mod Acyclic
 pub mod Carrying
 pub mod Closing
-pub mod Roles
+pub mod Crossing
 pub mod FirstFaults
 pub mod Mapped
 pub mod Back

@@ -3,17 +3,17 @@ use Rattle.std.proofs.Common.{◌≡◌, ℕ, Bool, true, false, ◌||◌, ◌&&
 use Rattle.std.specs.Prelude.{bytes_eq}
 use Rattle.std.specs.List.{list_any, filter_map, cons_option}
 use Rattle.gt_base.specs.Names.{is_name}
+use Rattle.gt_base.specs.declared.limits.TheConstants.{LAST_MINUTE}
 use Rattle.gtrbac_model.proofs.Elements.{both_true, and_true}
 use Rattle.policy_words.specs.declared.sayings.Kind.{Kind}
 use Rattle.policy_words.specs.declared.sayings.Kind.TheVariants as kinds
 use Rattle.policy_words.specs.Sayings.{SaidView, role, user, perm, period, limit, edge, is_saying, is_formed, is_bounded, are_names, is_count}
 use Rattle.policy_words.specs.Wording.{fluent_names}
-use Rattle.gt_base.specs.Bounds.{last_minute}
 use Rattle.policy_words.specs.declared.claims.Claim.{Claim}
 use Rattle.policy_words.specs.declared.claims.Claim.TheVariants as claims
 use Rattle.policy_words.specs.Naming.{Names, NamePair, same_pair}
 use Rattle.policy_words.specs.Making.{naming, names_in}
-use Rattle.policy_words.specs.Book.{claim_of, same_claim, may_be_again, is_of}
+use Rattle.policy_words.specs.LinesTogether.{claim_of, same_claim, may_be_again, is_of}
 use Rattle.policy_words.specs.Valid.{repeats_later}
 use Rattle.policy_book.proofs.Lists.{repeats, with_each, all_at_end, bytes_turned, none_repeats, some_same}
 use Rattle.policy_book.proofs.Clashes.{clashes, clash_by}
@@ -144,8 +144,8 @@ period_declares (period m f l ex) n e = record { claims = ap (λ z. Some (claims
 
     named : is_saying (period m f l ex) ≡ true → is_name m ≡ true
     named h =
-        let ends = both_true (is_name m && nat_le f last_minute && nat_le l last_minute) _ (formed (period m f l ex) h) in
-        (both_true (is_name m) _ (both_true (is_name m && nat_le f last_minute) _ ends.0).0).0
+        let ends = both_true (is_name m && nat_le f LAST_MINUTE && nat_le l LAST_MINUTE) _ (formed (period m f l ex) h) in
+        (both_true (is_name m) _ (both_true (is_name m && nat_le f LAST_MINUTE) _ ends.0).0).0
 period_declares _ n e = cc
 
 pub limit_declares : (x : SaidView) (n : List ℕ) → limit_in x ≡ Some n → Declares (λ m. claims.Limit m) kinds.Limits x n

@@ -20,15 +20,14 @@ use Rattle.gtrbac_model.proofs.Elements.{Elem, both_true, and_true, any_intro, a
 use Rattle.history_laws.proofs.Members.{clash, in_last}
 use Rattle.gtrbac_model.specs.WholePolicy.{is_assignment, is_grant}
 use Rattle.policy_words.specs.declared.parts.NamedFluent.TheVariants as fluents
-use Rattle.policy_words.specs.declared.sayings.CapKind.TheVariants as caps
 use Rattle.policy_words.specs.declared.sayings.Kind.{Kind}
 use Rattle.policy_words.specs.declared.sayings.Kind.TheVariants as kinds
-use Rattle.policy_words.specs.Sayings.{SaidView, cap, opening}
+use Rattle.policy_words.specs.Sayings.{SaidView, opening}
 use Rattle.policy_words.specs.declared.claims.Claim.{Claim}
 use Rattle.policy_words.specs.declared.claims.Claim.TheVariants as claims
 use Rattle.policy_words.specs.Naming.{Names, same_pair, role_of, user_of, perm_of, limit_of}
 use Rattle.policy_words.specs.Making.{with_new, opening_said, edges_from}
-use Rattle.policy_words.specs.Book.{is_claimed_by, is_claimed_again, is_of, counts_for, count_of}
+use Rattle.policy_words.specs.LinesTogether.{is_claimed_by, is_claimed_again, is_of, counts_for, count_of}
 use Rattle.policy_book.proofs.Lists.{bound, some_same, bytes_same}
 use Rattle.policy_book.proofs.DraftedLines.{opened}
 
@@ -168,10 +167,6 @@ assigned_by u r (opening (fluents.Assigned v s)) e =
 assigned_by u r (opening (fluents.Granted v s)) e = cc
 assigned_by u r (opening (fluents.Enabled s)) e = cc
 assigned_by u r (opening (fluents.Limit l)) e = cc
-assigned_by u r (cap caps.Total s n) e = cc
-assigned_by u r (cap caps.User s n) e = cc
-assigned_by u r (cap caps.Length s n) e = cc
-assigned_by u r (cap caps.Day s n) e = cc
 assigned_by u r _ e = cc
 
 granted_by : (q r : List ℕ) (y : SaidView) → is_claimed_by (claims.Granted q r) y ≡ true → y ≡ opening (fluents.Granted q r)
@@ -180,10 +175,6 @@ granted_by q r (opening (fluents.Granted v s)) e =
 granted_by q r (opening (fluents.Assigned v s)) e = cc
 granted_by q r (opening (fluents.Enabled s)) e = cc
 granted_by q r (opening (fluents.Limit l)) e = cc
-granted_by q r (cap caps.Total s n) e = cc
-granted_by q r (cap caps.User s n) e = cc
-granted_by q r (cap caps.Length s n) e = cc
-granted_by q r (cap caps.Day s n) e = cc
 granted_by q r _ e = cc
 
 listed_by : (ns : Names) (c : Claim) (x : SaidView) (f : Fluent) → opening_said ns x ≡ Some f → ((y : SaidView) → is_claimed_by c y ≡ true → y ≡ x)

@@ -3,10 +3,11 @@ use Rattle.std.proofs.Common.{◌≡◌, Some, cond, Bool, ◌&&◌, List, [], �
 use Rattle.std.specs.List.{list_any}
 use Rattle.gtrbac_model.specs.Same.{lists}
 use Rattle.policy_book.proofs.SameNames.{same_names, any_same}
+use Rattle.policy_words.proofs.CapKinds.{same_kinds}
 use Rattle.policy_words.specs.declared.claims.Claim.{Claim}
 use Rattle.policy_words.specs.declared.claims.Claim.TheVariants as claims
 use Rattle.policy_words.specs.Making.{with_new}
-use Rattle.policy_words.specs.Book.{same_claim}
+use Rattle.policy_words.specs.LinesTogether.{same_claim}
 use Rattle.indexmap.specs.IndexSet.{insert_key}
 use Rattle.policy_words.specs.contracts.claims.ClaimPartialEq.TheImpl.{eq-value}
 
@@ -21,10 +22,7 @@ same_claims (claims.Perm n) (claims.Perm m) = same_names n m
 same_claims (claims.Period n) (claims.Period m) = same_names n m
 same_claims (claims.Limit n) (claims.Limit m) = same_names n m
 same_claims (claims.Edge s j) (claims.Edge s' j') = λ i. same_names s s' i && same_names j j' i
-same_claims (claims.Total n) (claims.Total m) = same_names n m
-same_claims (claims.PerUser n) (claims.PerUser m) = same_names n m
-same_claims (claims.Length n) (claims.Length m) = same_names n m
-same_claims (claims.Day n) (claims.Day m) = same_names n m
+same_claims (claims.Cap k n) (claims.Cap l m) = λ i. same_kinds k l i && same_names n m i
 same_claims (claims.Assigned s j) (claims.Assigned s' j') = λ i. same_names s s' i && same_names j j' i
 same_claims (claims.Granted s j) (claims.Granted s' j') = λ i. same_names s s' i && same_names j j' i
 same_claims _ _ = refl

@@ -9,15 +9,16 @@ use Rattle.policy_words.specs.declared.sayings.Kind.{Kind}
 use Rattle.policy_words.specs.declared.sayings.Kind.TheVariants as kinds
 use Rattle.policy_words.specs.Sayings.{SaidView}
 use Rattle.policy_words.specs.Reading.{Numbered}
+use Rattle.policy_words.proofs.CapKinds.{one_kind}
 use Rattle.policy_words.specs.declared.claims.Claim.{Claim}
 use Rattle.policy_words.specs.declared.claims.Claim.TheVariants as claims
 use Rattle.policy_words.specs.Naming.{Names}
 use Rattle.policy_words.specs.Making.{with_new}
-use Rattle.policy_words.specs.Book.{BookTrouble, unknown, twice, is_known, claim_of, same_claim, is_claimed_by, is_claimed_again, may_be_again, kind_of, most_of, same_kind, count_of, many_of, many_at, line_trouble, first_trouble}
+use Rattle.policy_words.specs.LinesTogether.{LinesFault, unknown, twice, is_known, claim_of, same_claim, is_claimed_by, is_claimed_again, may_be_again, kind_of, most_of, same_kind, count_of, many_of, many_at, fault_of_line, first_fault}
 use Rattle.policy_book.specs.declared.tallies.Counts.{Counts}
-use Rattle.policy_book.specs.declared.tallies.Trouble.{Trouble}
-use Rattle.policy_book.specs.declared.tallies.Trouble.TheVariants.{Unknown, Twice, TooMany}
-use Rattle.policy_book.specs.Tallies.{Tallied, count_in, one_more, is_claimed, full_kind, trouble_in, with_count, tallied, told_at, first_told, nothing_told}
+use Rattle.policy_book.specs.declared.tallies.TallyFault.{TallyFault}
+use Rattle.policy_book.specs.declared.tallies.TallyFault.TheVariants.{Unknown, Twice, TooMany}
+use Rattle.policy_book.specs.Tallies.{Tallied, count_in, one_more, is_claimed, full_kind, fault_in, with_count, tallied, told_at, first_told, nothing_told}
 use Rattle.policy_book.proofs.Truth.{parted}
 
 -- claims
@@ -33,10 +34,8 @@ one_claim (claims.Period n) (claims.Period m) h = ap (λ x. claims.Period x) (on
 one_claim (claims.Limit n) (claims.Limit m) h = ap (λ x. claims.Limit x) (one_text n m h)
 one_claim (claims.Edge s j) (claims.Edge s' j') h =
     let both = parted _ _ h in λ i. claims.Edge (one_text s s' both.0 i) (one_text j j' both.1 i)
-one_claim (claims.Total n) (claims.Total m) h = ap (λ x. claims.Total x) (one_text n m h)
-one_claim (claims.PerUser n) (claims.PerUser m) h = ap (λ x. claims.PerUser x) (one_text n m h)
-one_claim (claims.Length n) (claims.Length m) h = ap (λ x. claims.Length x) (one_text n m h)
-one_claim (claims.Day n) (claims.Day m) h = ap (λ x. claims.Day x) (one_text n m h)
+one_claim (claims.Cap k n) (claims.Cap l m) h =
+    let both = parted _ _ h in λ i. claims.Cap (one_kind k l both.0 i) (one_text n m both.1 i)
 one_claim (claims.Assigned s j) (claims.Assigned s' j') h =
     let both = parted _ _ h in λ i. claims.Assigned (one_text s s' both.0 i) (one_text j j' both.1 i)
 one_claim (claims.Granted s j) (claims.Granted s' j') h =
@@ -165,32 +164,28 @@ full_same t before tells n s = go (kind_of s) refl
         ∙ ap (λ m. not (is_claimed_again before s) && nat_le (most_of k) m) (tells.counts k)
         ∙ ap (λ b. (b && not (is_claimed_again before s)) && nat_le (most_of k) (count_of k before)) (sym (ap (kind_is k) e ∙ same_itself k)))
 
-trouble_same : (ns : Names) (t : Tallied) (before : List SaidView) → Tells t before → (s : Numbered SaidView) → option_map (told_at s.line) (trouble_in ns t s.it) ≡ line_trouble ns before s
-trouble_same ns t before tells s =
+fault_same : (ns : Names) (t : Tallied) (before : List SaidView) → Tells t before → (s : Numbered SaidView) → option_map (told_at s.line) (fault_in ns t s.it) ≡ fault_of_line ns before s
+fault_same ns t before tells s =
     go (is_known ns s.it) (not (may_be_again s.it) && is_claimed t s.it) (full_kind t s.it (kind_of s.it)) _ (full_same t before tells s.line s.it)
-    ∙ ap (λ b. elim (is_known ns s.it) [
-      | false ↦ Some (unknown s.line)
-      | true ↦ elim (not (may_be_again s.it) && b) [ true ↦ Some (twice s.line) | false ↦ many_at s.line (many_of before s.it) ]
-    ]) (claimed_same t before tells s.it)
+    ∙ ap (λ b. cond (not (is_known ns s.it)) (Some (unknown s.line)) (cond (not (may_be_again s.it) && b) (Some (twice s.line)) (many_at s.line (many_of before s.it)))) (claimed_same t before tells s.it)
   where
-    go : (a b : Bool) (x : Option Trouble) (y : Option BookTrouble) → option_map (told_at s.line) x ≡ y
-        → option_map (told_at s.line) (elim a [ false ↦ Some Unknown | true ↦ elim b [ true ↦ Some Twice | false ↦ x ] ])
-        ≡ elim a [ false ↦ Some (unknown s.line) | true ↦ elim b [ true ↦ Some (twice s.line) | false ↦ y ] ]
+    go : (a b : Bool) (x : Option TallyFault) (y : Option LinesFault) → option_map (told_at s.line) x ≡ y
+        → option_map (told_at s.line) (cond (not a) (Some Unknown) (cond b (Some Twice) x)) ≡ cond (not a) (Some (unknown s.line)) (cond b (Some (twice s.line)) y)
     go false b x y e = refl
     go true true x y e = refl
     go true false x y e = e
 
-one_by_one : (n : ℕ) (x : Option Trouble) (y a b : Option BookTrouble) → option_map (told_at n) x ≡ y → a ≡ b
-    → ◌≡◌ {A = Option BookTrouble} (elim x [ Some f ↦ Some (told_at n f) | None ↦ a ]) (elim y [ Some f ↦ Some f | None ↦ b ])
+one_by_one : (n : ℕ) (x : Option TallyFault) (y a b : Option LinesFault) → option_map (told_at n) x ≡ y → a ≡ b
+    → ◌≡◌ {A = Option LinesFault} (elim x [ Some f ↦ Some (told_at n f) | None ↦ a ]) (elim y [ Some f ↦ Some f | None ↦ b ])
 one_by_one n None None a b e q = q
 one_by_one n (Some f) (Some g) a b e q = e
 one_by_one n None (Some g) a b e q = cc
 one_by_one n (Some f) None a b e q = cc
 
-told_after : (ns : Names) (t : Tallied) (before : List SaidView) → Tells t before → (ss : List (Numbered SaidView)) → first_told ns t ss ≡ first_trouble ns before ss
+told_after : (ns : Names) (t : Tallied) (before : List SaidView) → Tells t before → (ss : List (Numbered SaidView)) → first_told ns t ss ≡ first_fault ns before ss
 told_after ns t before tells [] = refl
 told_after ns t before tells (s ∷ ss) =
-    one_by_one s.line (trouble_in ns t s.it) (line_trouble ns before s) _ _ (trouble_same ns t before tells s)
+    one_by_one s.line (fault_in ns t s.it) (fault_of_line ns before s) _ _ (fault_same ns t before tells s)
     (told_after ns (tallied t s.it) (s.it ∷ before) (one_line t before tells s.it) ss)
 
 none_counted : (k : Kind) → count_in nothing_told.counts k ≡ 0
@@ -205,5 +200,5 @@ none_counted kinds.Triggers = refl
 none_counted kinds.Assigned = refl
 none_counted kinds.Granted = refl
 
-pub told_first : (ns : Names) (ss : List (Numbered SaidView)) → first_told ns nothing_told ss ≡ first_trouble ns [] ss
+pub told_first : (ns : Names) (ss : List (Numbered SaidView)) → first_told ns nothing_told ss ≡ first_fault ns [] ss
 told_first ns ss = told_after ns nothing_told [] (record { claims = λ c. refl; counts = none_counted }) ss

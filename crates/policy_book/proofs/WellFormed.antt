@@ -32,8 +32,8 @@ use Rattle.policy_words.specs.Wording.{◌>>=◌}
 use Rattle.policy_words.specs.declared.claims.Claim.{Claim}
 use Rattle.policy_words.specs.declared.claims.Claim.TheVariants as claims
 use Rattle.policy_words.specs.Naming.{Names, NamedPolicy, NamePair, same_pair, cond_of, period_of, role_of}
-use Rattle.policy_words.specs.Making.{no_names, names_of, Draft, fresh, drafted, are_second, linked_at_first, policy_of, named_policy, period_said, limit_said, edge_said, entry_said, rule_said, during_of}
-use Rattle.policy_words.specs.Book.{BookTrouble, same_claim, is_known, is_known_period, is_of, most_of, count_of, said_in, first_trouble, without_cycle, without_trouble, build}
+use Rattle.policy_words.specs.Making.{no_names, names_of, DraftView, fresh, drafted, are_second, linked_at_first, policy_of, named_policy, period_said, limit_said, edge_said, entry_said, rule_said, during_of}
+use Rattle.policy_words.specs.LinesTogether.{LinesFault, same_claim, is_known, is_known_period, is_of, most_of, count_of, said_in, first_fault, without_cycle, without_fault, build}
 use Rattle.policy_words.specs.Valid.{IsWellFormed, are_names, pair_of, repeats_later}
 use Rattle.policy_book.specs.Laws.{BuildIsWellFormed}
 use Rattle.policy_book.proofs.Lists.{repeats, some_same, all_at_end, all_kept, fewer_kept, as_many_kept, none_repeats}
@@ -124,7 +124,7 @@ module _ (xs : List SaidView) (said : list_all is_saying xs ≡ true) (fine : Ar
   abbrev names : Names
   names = names_of xs
 
-  abbrev draft : Draft
+  abbrev draft : DraftView
   draft = drafted names (fresh names) xs
 
   abbrev made : Policy
@@ -329,22 +329,22 @@ all_said : (ss : List (Numbered SaidView)) → AllByRecursion (λ s. IsTrue (is_
 all_said [] h = refl
 all_said (s ∷ ss) h = and_true _ _ h.0 (all_said ss h.1)
 
--- what is built had no trouble
+-- what is built had no fault
 pub was_built : (ss : List (Numbered SaidView)) (np : NamedPolicy) → build ss ≡ Ok np
-    → (first_trouble (names_of (said_in ss)) [] ss ≡ None) × (edge_cycle (named_policy (said_in ss)).policy.edges ≡ None) × (named_policy (said_in ss) ≡ np)
-was_built ss np e = by (first_trouble (names_of (said_in ss)) [] ss) (edge_cycle (named_policy (said_in ss)).policy.edges) refl refl e
+    → (first_fault (names_of (said_in ss)) [] ss ≡ None) × (edge_cycle (named_policy (said_in ss)).policy.edges ≡ None) × (named_policy (said_in ss) ≡ np)
+was_built ss np e = by (first_fault (names_of (said_in ss)) [] ss) (edge_cycle (named_policy (said_in ss)).policy.edges) refl refl e
   where
-    by : (t : Option BookTrouble) (c : Option (List ℕ)) → first_trouble (names_of (said_in ss)) [] ss ≡ t → edge_cycle (named_policy (said_in ss)).policy.edges ≡ c
-        → without_trouble t (named_policy (said_in ss)) ≡ Ok np → (first_trouble (names_of (said_in ss)) [] ss ≡ None) × (edge_cycle (named_policy (said_in ss)).policy.edges ≡ None) × (named_policy (said_in ss) ≡ np)
+    by : (t : Option LinesFault) (c : Option (List ℕ)) → first_fault (names_of (said_in ss)) [] ss ≡ t → edge_cycle (named_policy (said_in ss)).policy.edges ≡ c
+        → without_fault t (named_policy (said_in ss)) ≡ Ok np → (first_fault (names_of (said_in ss)) [] ss ≡ None) × (edge_cycle (named_policy (said_in ss)).policy.edges ≡ None) × (named_policy (said_in ss) ≡ np)
     by (Some t) c p q e = cc
     by None c p q e = no_cycle c q (ap (λ o. without_cycle (named_policy (said_in ss)) o) (sym q) ∙ e)
       where
         no_cycle : (c : Option (List ℕ)) → edge_cycle (named_policy (said_in ss)).policy.edges ≡ c → without_cycle (named_policy (said_in ss)) c ≡ Ok np
-            → (first_trouble (names_of (said_in ss)) [] ss ≡ None) × (edge_cycle (named_policy (said_in ss)).policy.edges ≡ None) × (named_policy (said_in ss) ≡ np)
+            → (first_fault (names_of (said_in ss)) [] ss ≡ None) × (edge_cycle (named_policy (said_in ss)).policy.edges ≡ None) × (named_policy (said_in ss) ≡ np)
         no_cycle (Some ns) q e = cc
         no_cycle None q e = (p, q, ok_same _ _ e)
           where
-            ok_same : (a b : NamedPolicy) → ◌≡◌ {A = Result NamedPolicy BookTrouble} (Ok a) (Ok b) → a ≡ b
+            ok_same : (a b : NamedPolicy) → ◌≡◌ {A = Result NamedPolicy LinesFault} (Ok a) (Ok b) → a ≡ b
             ok_same a b e = cc
 
 pub build_is_well_formed : BuildIsWellFormed

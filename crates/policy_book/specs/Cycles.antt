@@ -3,7 +3,7 @@ use Rattle.std.specs.Prelude.{◌≡◌, List, Option, Some, option_map}
 use Rattle.gt_base.specs.declared.policies.HierEdge.{HierEdge}
 use Rattle.gtrbac_model.specs.EdgeCycles.{edge_cycle}
 use Rattle.policy_words.specs.Naming.{Names}
-use Rattle.policy_words.specs.Book.{edges_at}
+use Rattle.policy_words.specs.LinesTogether.{edges_at}
 use Rattle.policy_book.specs.declared.faults.BookFault.{BookFault}
 use Rattle.policy_book.specs.declared.faults.BookFault.TheVariants.{HierarchyCycle, Memory}
 use Rattle.policy_book.specs.Faults.{seniors}

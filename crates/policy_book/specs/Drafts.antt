@@ -5,10 +5,10 @@ use Rattle.gt_base.specs.Happening.{Fluents}
 use Rattle.policy_words.specs.Naming.{Names, NamedPolicy}
 use Rattle.gtrbac_model.specs.Same.{same_user, same_fluent}
 use Rattle.policy_words.specs.Sayings.{SaidView}
-use Rattle.policy_words.specs.Making.{Draft as Making, policy_of, with_item, with_new, limit_said, edge_said, with_caps_said, admin_said, opening_said, entry_said, rule_said}
+use Rattle.policy_words.specs.Making.{DraftView, policy_of, with_item, with_new, limit_said, edge_said, with_caps_said, admin_said, opening_said, entry_said, rule_said}
 use Rattle.policy_book.specs.declared.drafts.Draft.{Draft}
 
-abbrev pub seen_draft : Draft → Making
+abbrev pub seen_draft : Draft → DraftView
 seen_draft d = record {
   periods = d.periods.items;
   limits = d.limits.items;
@@ -21,7 +21,7 @@ seen_draft d = record {
 }
 
 -- with what a line says but for its period
-abbrev pub adding_numbers : Names → Making → SaidView → Making
+abbrev pub adding_numbers : Names → DraftView → SaidView → DraftView
 adding_numbers ns d s = record {
   periods = d.periods;
   limits = with_item (limit_said ns s) d.limits;
@@ -34,11 +34,11 @@ adding_numbers ns d s = record {
 }
 
 -- the policy that a finished draft makes in version 2, or else 1, with its names
-abbrev pub made_policy : Names → Bool → Making → NamedPolicy
+abbrev pub made_policy : Names → Bool → DraftView → NamedPolicy
 made_policy ns second d = record { names = ns; policy = policy_of ns second d }
 
 -- the policy of a draft's rules with these names, administrators and what is on at first
-abbrev pub policy_with : Names → Making → List UserId → Fluents → NamedPolicy
+abbrev pub policy_with : Names → DraftView → List UserId → Fluents → NamedPolicy
 policy_with ns d admins opening = record {
   names = ns;
   policy = record {

@@ -5,7 +5,7 @@ use Rattle.policy_words.specs.Reading.{Numbered}
 use Rattle.gt_base.specs.declared.policies.HierEdge.{HierEdge}
 use Rattle.policy_words.specs.Naming.{Names, role_name}
 use Rattle.policy_words.specs.Making.{names_of}
-use Rattle.policy_words.specs.Book.{BookTrouble, unknown, twice, many, cycle, said_in, build}
+use Rattle.policy_words.specs.LinesTogether.{LinesFault, unknown, twice, many, cycle, said_in, build}
 use Rattle.policy_words.specs.PolicyRead.{again}
 use Rattle.policy_book.specs.declared.faults.BookFault.{BookFault}
 use Rattle.policy_book.specs.declared.faults.BookFault.TheVariants.{Unknown, Twice, TooMany, HierarchyCycle, Memory}
@@ -24,7 +24,7 @@ IsFault ss (HierarchyCycle es names) = (build ss ≡ Err (cycle es.items))
 IsFault ss Memory = Unit {0}
 
 -- the fault of a line is this
-abbrev pub IsLineFault : Option BookTrouble → BookFault → Type 0
+abbrev pub IsLineFault : Option LinesFault → BookFault → Type 0
 IsLineFault o (Unknown n) = o ≡ Some (unknown n)
 IsLineFault o (Twice n) = o ≡ Some (twice n)
 IsLineFault o (TooMany n k) = o ≡ Some (many n k)

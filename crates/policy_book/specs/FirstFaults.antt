@@ -7,7 +7,7 @@ use Rattle.policy_words.specs.Sayings.{SaidView}
 use Rattle.policy_words.specs.Reading.{Numbered}
 use Rattle.policy_words.specs.Naming.{Names}
 use Rattle.policy_words.specs.Making.{names_of, named_policy}
-use Rattle.policy_words.specs.Book.{BookTrouble, unknown, twice, many, cycle, is_known, claim_of, same_claim, may_be_again, kind_of, most_of, count_of, said_in, edges_at, build}
+use Rattle.policy_words.specs.LinesTogether.{LinesFault, unknown, twice, many, cycle, is_known, claim_of, same_claim, may_be_again, kind_of, most_of, count_of, said_in, edges_at, build}
 
 -- a line at an earlier place claims what this one claims
 pub record ClaimsAgain (ss : List (Numbered SaidView)) (k : ℕ) (x : SaidView) : Type 0 where
@@ -28,34 +28,34 @@ before_place before [] (suc k) = before
 before_place before (s ∷ ss) (suc k) = before_place (s.it ∷ before) ss k
 
 -- the fault of the line s at place k: the first of the three that it has
-abbrev pub HasFault : Names → List (Numbered SaidView) → ℕ → Numbered SaidView → BookTrouble
+abbrev pub HasLineFault : Names → List (Numbered SaidView) → ℕ → Numbered SaidView → LinesFault
     → Type 0
-HasFault ns ss k s (unknown n) = (n ≡ s.line) × (is_known ns s.it ≡ false)
-HasFault ns ss k s (twice n) = (n ≡ s.line) × (is_known ns s.it ≡ true)
+HasLineFault ns ss k s (unknown n) = (n ≡ s.line) × (is_known ns s.it ≡ false)
+HasLineFault ns ss k s (twice n) = (n ≡ s.line) × (is_known ns s.it ≡ true)
     × (may_be_again s.it ≡ false) × ClaimsAgain ss k s.it
-HasFault ns ss k s (many n kind) =
+HasLineFault ns ss k s (many n kind) =
     (n ≡ s.line) × (is_known ns s.it ≡ true) × (ClaimsAgain ss k s.it → ⊥)
     × (kind_of s.it ≡ Some kind) × (most_of kind ≤ count_of kind (before_place [] ss k))
-HasFault ns ss k s (cycle es) = ⊥
+HasLineFault ns ss k s (cycle es) = ⊥
 
 abbrev pub NoFaultBelow : Names → List (Numbered SaidView) → ℕ → Type 0
-NoFaultBelow ns ss k = (j : ℕ) (r : Numbered SaidView) (u : BookTrouble) → j < k
-    → item_at ss j ≡ Some r → HasFault ns ss j r u → ⊥
+NoFaultBelow ns ss k = (j : ℕ) (r : Numbered SaidView) (u : LinesFault) → j < k
+    → item_at ss j ≡ Some r → HasLineFault ns ss j r u → ⊥
 
 -- the fault is that of the least place whose line has one
 pub record IsFirstFault (ns : Names) (ss : List (Numbered SaidView))
-    (t : BookTrouble) : Type 0 where
+    (t : LinesFault) : Type 0 where
   pub place : ℕ
   pub line : Numbered SaidView
   pub stands : item_at ss place ≡ Some line
-  pub has : HasFault ns ss place line t
+  pub has : HasLineFault ns ss place line t
   pub least : NoFaultBelow ns ss place
 
 abbrev pub NoFault : Names → List (Numbered SaidView) → Type 0
 NoFault ns ss = (k : ℕ) → NoFaultBelow ns ss k
 
 -- the least cycle of the edges that the lines give
-pub record IsEdgeCycle (ss : List (Numbered SaidView)) (t : BookTrouble) : Type 0 where
+pub record IsEdgeCycle (ss : List (Numbered SaidView)) (t : LinesFault) : Type 0 where
   pub none : NoFault (names_of (said_in ss)) ss
   pub numbers : List ℕ
   pub is : edge_cycle (named_policy (said_in ss)).policy.edges ≡ Some numbers
@@ -64,5 +64,5 @@ pub record IsEdgeCycle (ss : List (Numbered SaidView)) (t : BookTrouble) : Type 
 -- what is built of lines is a fault just where it is their first fault, or where none has one, the
 -- least cycle of edges
 abbrev pub FaultsAreFirst : Type 0
-FaultsAreFirst = (ss : List (Numbered SaidView)) (t : BookTrouble)
+FaultsAreFirst = (ss : List (Numbered SaidView)) (t : LinesFault)
     → (build ss ≡ Err t) ↔ (IsFirstFault (names_of (said_in ss)) ss t ⊎ IsEdgeCycle ss t)

@@ -3,7 +3,7 @@ use Rattle.std.specs.Prelude.{◌≡◌, ℕ, ◌+◌, List, [], ◌∷◌, All,
 use Rattle.policy_words.specs.Sayings.{SaidView, is_saying}
 use Rattle.policy_words.specs.Reading.{Numbered}
 use Rattle.policy_words.specs.Naming.{NamedPolicy}
-use Rattle.policy_words.specs.Book.{build}
+use Rattle.policy_words.specs.LinesTogether.{build}
 use Rattle.policy_words.specs.Valid.{IsWellFormed}
 
 -- what lines in range without a fault make is well formed

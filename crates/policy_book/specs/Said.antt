@@ -2,6 +2,7 @@
 use Rattle.std.specs.Prelude.{◌≡◌, ℕ, ◌+◌, Bool, true, false, not, ◌&&◌, List, [], ◌∷◌, length, nat_le, nat_lt, ◌≤◌, IsTrue, refl}
 use Rattle.std.specs.List.{list_all}
 use Rattle.std.specs.Coded.{Coded, code_by, coded×, coded_ℕ}
+use Rattle.gt_base.specs.declared.limits.TheConstants.{MAX_NUMBER}
 use Rattle.policy_words.specs.contracts.sayings.Said as said
 use Rattle.policy_words.specs.declared.sayings.Said.{Said}
 use Rattle.policy_words.specs.declared.sayings.Said.TheVariants.{Version, Role, User, Perm, Period, Limit, Edge, Cap, Admin, Opening, Entry, When}
@@ -81,4 +82,4 @@ pub record AreParts (ss : List (Numbered SaidView)) : Type 0 where
   pub said : IsTrue (are_sayings ss)
   pub rise : IsTrue (rise_from 0 ss)
   pub placed : IsTrue (are_placed ss)
-  pub few : length ss ≤ 4_294_967_295
+  pub few : length ss ≤ MAX_NUMBER

@@ -1,6 +1,6 @@
 -- The first fault of the lines, by what is kept of the lines before: what they claim, and how many
 -- of each kind they have.
-use Rattle.std.specs.Prelude.{ℕ, ◌+◌, Bool, true, false, ◌&&◌, not, List, [], ◌∷◌, nat_le, Option, Some, None, if◌then◌else◌}
+use Rattle.std.specs.Prelude.{ℕ, ◌+◌, Bool, false, ◌&&◌, not, List, [], ◌∷◌, nat_le, Option, Some, None, if◌then◌else◌}
 use Rattle.gtrbac_model.specs.Same.{lists}
 use Rattle.policy_words.specs.declared.sayings.Kind.{Kind}
 use Rattle.policy_words.specs.declared.sayings.Kind.TheVariants as kinds
@@ -9,11 +9,11 @@ use Rattle.policy_words.specs.Reading.{Numbered}
 use Rattle.policy_words.specs.declared.claims.Claim.{Claim}
 use Rattle.policy_words.specs.Naming.{Names}
 use Rattle.policy_words.specs.Making.{with_new}
-use Rattle.policy_words.specs.Book.{BookTrouble, unknown, twice, many, is_known, claim_of, same_claim, may_be_again, kind_of, most_of}
+use Rattle.policy_words.specs.LinesTogether.{LinesFault, unknown, twice, many, is_known, claim_of, same_claim, may_be_again, kind_of, most_of}
 use Rattle.policy_book.specs.declared.tallies.Counts.{Counts}
 use Rattle.policy_book.specs.declared.tallies.Tally.{Tally}
-use Rattle.policy_book.specs.declared.tallies.Trouble.{Trouble}
-use Rattle.policy_book.specs.declared.tallies.Trouble.TheVariants.{Unknown, Twice, TooMany}
+use Rattle.policy_book.specs.declared.tallies.TallyFault.{TallyFault}
+use Rattle.policy_book.specs.declared.tallies.TallyFault.TheVariants.{Unknown, Twice, TooMany}
 
 pub record Tallied : Type 0 where
   pub claims : List Claim
@@ -66,19 +66,17 @@ is_claimed t s = elim (claim_of s) [ None ↦ false | Some c ↦ lists same_clai
 abbrev pub is_full : Counts → Kind → Bool
 is_full c k = nat_le (most_of k) (count_in c k)
 
-abbrev pub full_kind : Tallied → SaidView → Option Kind → Option Trouble
+abbrev pub full_kind : Tallied → SaidView → Option Kind → Option TallyFault
 full_kind t s None = None
 full_kind t s (Some k) = if not (is_claimed t s) && is_full t.counts k then Some (TooMany k)
     else None
 
 -- of one line: unknown, twice, too many
-abbrev pub trouble_in : Names → Tallied → SaidView → Option Trouble
-trouble_in ns t s =
-    elim (is_known ns s) [
-      | false ↦ Some Unknown
-      | true ↦ elim (not (may_be_again s) && is_claimed t s)
-          [ true ↦ Some Twice | false ↦ full_kind t s (kind_of s) ]
-    ]
+abbrev pub fault_in : Names → Tallied → SaidView → Option TallyFault
+fault_in ns t s =
+    if not (is_known ns s) then Some Unknown
+    else if not (may_be_again s) && is_claimed t s then Some Twice
+    else full_kind t s (kind_of s)
 
 abbrev pub with_count : Option Kind → Counts → Counts
 with_count None c = c
@@ -92,15 +90,15 @@ tallied t s = if is_claimed t s then t
       counts = with_count (kind_of s) t.counts;
     }
 
-abbrev pub told_at : ℕ → Trouble → BookTrouble
+abbrev pub told_at : ℕ → TallyFault → LinesFault
 told_at n Unknown = unknown n
 told_at n Twice = twice n
 told_at n (TooMany k) = many n k
 
 -- of all lines, after those of the tally
-abbrev pub first_told : Names → Tallied → List (Numbered SaidView) → Option BookTrouble
+abbrev pub first_told : Names → Tallied → List (Numbered SaidView) → Option LinesFault
 first_told ns t [] = None
-first_told ns t (s ∷ ss) = elim (trouble_in ns t s.it)
+first_told ns t (s ∷ ss) = elim (fault_in ns t s.it)
     [ Some f ↦ Some (told_at s.line f) | None ↦ first_told ns (tallied t s.it) ss ]
 
 abbrev pub nothing_told : Tallied

@@ -2,7 +2,7 @@
 ghost use Rattle.std.specs.Prelude.{◌≡◌, ◌<◌, ◌≤◌, length, position, slice_get, Some, Ok, IfOk, IfErr};
 ghost use Rattle.policy_words.specs.Naming.{role_of, user_of, perm_of, period_of, limit_of, event_of, cond_of, head_of};
 ghost use Rattle.policy_words.specs.Valid.{IsWellFormed};
-ghost use Rattle.policy_words.specs.Book.{build};
+ghost use Rattle.policy_words.specs.LinesTogether.{build};
 ghost use Rattle.policy_book.specs.Faults.{IsFault};
 ghost use Rattle.policy_book.specs.Pairs.{joins_pair};
 ghost use Rattle.gtrbac_model.specs.Same.{lists, same_user};
@@ -174,7 +174,7 @@ impl Policy {
         requires { r.0 < length self.now.names.roles }
         ensures { slice_get self.now.names.roles r.0 ≡ Some result }
     {
-        self.names.roles.name(r.0 as usize)
+        self.names.roles.name(r.0)
     }
 
     /// The name of a user of the policy.
@@ -182,7 +182,7 @@ impl Policy {
         requires { u.0 < length self.now.names.users }
         ensures { slice_get self.now.names.users u.0 ≡ Some result }
     {
-        self.names.users.name(u.0 as usize)
+        self.names.users.name(u.0)
     }
 
     /// The name of a permission of the policy.
@@ -190,7 +190,7 @@ impl Policy {
         requires { p.0 < length self.now.names.perms }
         ensures { slice_get self.now.names.perms p.0 ≡ Some result }
     {
-        self.names.perms.name(p.0 as usize)
+        self.names.perms.name(p.0)
     }
 
     /// The name of a period of the policy.
@@ -198,7 +198,7 @@ impl Policy {
         requires { p.0 < length self.now.names.periods }
         ensures { slice_get self.now.names.periods p.0 ≡ Some result }
     {
-        self.names.periods.name(p.0 as usize)
+        self.names.periods.name(p.0)
     }
 
     /// The name of a limit of the policy.
@@ -206,7 +206,7 @@ impl Policy {
         requires { l.0 < length self.now.names.limits }
         ensures { slice_get self.now.names.limits l.0 ≡ Some result }
     {
-        self.names.limits.name(l.0 as usize)
+        self.names.limits.name(l.0)
     }
 
     /// A period of the policy.
@@ -279,7 +279,7 @@ impl Policy {
         ensures value { result ≡ self.now.policy.roles }
         ensures names { result ≡ length self.now.names.roles }
     {
-        self.names.roles.len() as u32
+        self.names.roles.len()
     }
 
     /// How many users are declared.
@@ -287,7 +287,7 @@ impl Policy {
         ensures value { result ≡ self.now.policy.users }
         ensures names { result ≡ length self.now.names.users }
     {
-        self.names.users.len() as u32
+        self.names.users.len()
     }
 
     /// How many permissions are declared.
@@ -295,7 +295,7 @@ impl Policy {
         ensures value { result ≡ self.now.policy.perms }
         ensures names { result ≡ length self.now.names.perms }
     {
-        self.names.perms.len() as u32
+        self.names.perms.len()
     }
 
     /// How many periods are declared.
@@ -353,7 +353,7 @@ fn place_between(edges: &[HierEdge], senior: RoleId, junior: RoleId) -> Option<u
 
 /// The number of the first edge from the senior to the junior.
 fn number_between(edges: &[HierEdge], senior: RoleId, junior: RoleId) -> Option<u32>
-    requires { length edges.now ≤ 4_294_967_295 }
+    requires { length edges.now ≤ u32.MAX }
     ensures { result ≡ position (joins_pair senior junior) edges.now }
 {
     match place_between(edges, senior, junior) {

@@ -1,33 +1,33 @@
 //! From lines to what they make, or their first fault.
 ghost use Rattle.std.specs.Prelude.{◌≡◌, IfOk, IfErr};
-ghost use Rattle.policy_words.specs.Making.{names_of, is_second as second, are_second as have_second};
+ghost use Rattle.policy_words.specs.Making.{names_of, is_second, are_second};
 ghost use Rattle.policy_words.specs.Seen.{seen_said};
-ghost use Rattle.policy_words.specs.Book.{said_in};
+ghost use Rattle.policy_words.specs.LinesTogether.{said_in};
 ghost use Rattle.policy_book.specs.Said.{AreParts};
 ghost use Rattle.policy_book.specs.Seen.{seen_names};
 ghost use Rattle.policy_book.specs.Drafts.{seen_draft};
 ghost use Rattle.policy_book.specs.Faults.{IsFault};
 ghost use Rattle.policy_book.specs.Sound.{IsSound};
 
+use crate::checking::check_lines;
 use crate::cycles::check_edges;
 use crate::drafts::{Draft, draft_of};
 use crate::faults::BookFault;
 use crate::lines::Part;
 use crate::names::NameTables;
-use crate::troubles::check_lines;
 use policy_words::Said;
 use std::alloc::Global;
 
 /// Whether the line tells version 2.
 fn is_second(said: &Said) -> bool
-    ensures { result ≡ second (seen_said said.now) }
+    ensures { result ≡ is_second (seen_said said.now) }
 {
     matches!(said, Said::Version(2))
 }
 
 /// Whether the lines have version 2.
 pub(crate) fn are_second(parts: &[Part]) -> bool
-    ensures { result ≡ have_second (said_in parts.now) }
+    ensures { result ≡ are_second (said_in parts.now) }
 {
     for part in parts {
         if is_second(&part.said) {

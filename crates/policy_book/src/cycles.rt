@@ -2,12 +2,11 @@
 ghost use Rattle.std.specs.Prelude.{◌≡◌, ◌≤◌, ◌<◌, ◌++◌, length, map, None, OnOk, IfOk, IfErr};
 ghost use Rattle.gtrbac_model.specs.Graph.{item_at};
 ghost use Rattle.gtrbac_model.specs.EdgeCycles.{edge_cycle};
-ghost use Rattle.policy_book.specs.Nets.{AreWithin};
+ghost use Rattle.hybrid_hierarchy.specs.Nets.{AreWithin};
 ghost use Rattle.policy_words.specs.Naming.{role_name};
-ghost use Rattle.policy_words.specs.Book.{edges_at};
+ghost use Rattle.policy_words.specs.LinesTogether.{edges_at};
 ghost use Rattle.policy_words.specs.PolicyRead.{again};
 ghost use Rattle.policy_book.specs.Seen.{seen_names};
-ghost use Rattle.policy_book.specs.Numbers.{AreFew};
 ghost use Rattle.policy_book.specs.Faults.{seniors};
 ghost use Rattle.policy_book.specs.Cycles.{TellsEdges, IsCycleFault};
 
@@ -41,7 +40,7 @@ fn senior(names: &NameTables, edge: &HierEdge) -> Name
     requires { edge.now.senior.0 < length names.now.roles }
     ensures { result ≡ role_name (seen_names names.now) edge.now.senior }
 {
-    names.roles.name(edge.senior.0 as usize)
+    names.roles.name(edge.senior.0)
 }
 
 fn senior_names(alloc: Global, names: &NameTables, edges: &[HierEdge]) -> Result<Vec<Name>, Memory>
@@ -91,13 +90,12 @@ pub(crate) fn check_edges(
     names: &NameTables,
     edges: &[HierEdge],
 ) -> Result<(), BookFault>
-    requires few { AreFew 4_294_967_295 (seen_names names.now) }
-    requires short { length edges.now ≤ 4_294_967_295 }
+    requires short { length edges.now ≤ u32.MAX }
     requires within { AreWithin (length names.now.roles) edges.now }
     ensures ok { OnOk result (edge_cycle edges.now ≡ None) }
     ensures fault { IfErr result (IsCycleFault (seen_names names.now) edges.now) }
 {
-    let Some(numbers) = cycle_of(alloc, names.roles.len() as u32, edges)? else {
+    let Some(numbers) = cycle_of(alloc, names.roles.len(), edges)? else {
         return Ok(());
     };
     Err(cycle_fault(alloc, names, edges, numbers.as_slice())?)

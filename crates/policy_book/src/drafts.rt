@@ -3,12 +3,12 @@ ghost use Rattle.std.specs.Prelude.{◌≡◌, ◌<◌, [], length, replicate, O
 ghost use Rattle.gtrbac_model.specs.Same.{same_user, same_fluent};
 ghost use Rattle.policy_words.specs.Sayings.{is_saying};
 ghost use Rattle.policy_words.specs.Seen.{seen_said};
-ghost use Rattle.policy_words.specs.Making.{no_caps, with_cap as capped_by, changed_at, with_item, with_new, with_caps_said, fresh, adding, drafted};
+ghost use Rattle.policy_words.specs.CapKinds.{no_caps, with_cap};
+ghost use Rattle.policy_words.specs.Making.{changed_at, with_item, with_new, with_caps_said, fresh, adding, drafted};
 ghost use Rattle.policy_words.specs.Valid.{IsWellFormed};
-ghost use Rattle.policy_words.specs.Book.{said_in};
+ghost use Rattle.policy_words.specs.LinesTogether.{said_in};
 ghost use Rattle.policy_book.specs.Said.{are_sayings};
 ghost use Rattle.policy_book.specs.Seen.{seen_names};
-ghost use Rattle.policy_book.specs.Numbers.{AreFew};
 ghost use Rattle.policy_book.specs.Drafts.{seen_draft, adding_numbers, policy_with};
 
 use crate::books::Policy;
@@ -20,7 +20,7 @@ use gt_base::{
 };
 use indexmap::IndexSet;
 use periodic_expr::Period;
-use policy_words::{CapKind, Said};
+use policy_words::{CapKind, Said, uncapped};
 use std::alloc::Global;
 
 /// What the lines so far make.
@@ -80,41 +80,17 @@ fn add_fluent(fluents: &mut IndexSet<Fluent>, fluent: Option<Fluent>) -> Result<
     Ok(())
 }
 
-fn with_cap(kind: CapKind, n: u32, caps: Caps) -> Caps
-    ensures { result ≡ capped_by kind n caps }
-{
-    match kind {
-        CapKind::Total => Caps {
-            total: Some(n),
-            ..caps
-        },
-        CapKind::User => Caps {
-            user: Some(n),
-            ..caps
-        },
-        CapKind::Length => Caps {
-            length: Some(n),
-            ..caps
-        },
-        CapKind::Day => Caps {
-            day: Some(n),
-            ..caps
-        },
-    }
-}
-
 /// Changes the caps of one role.
 fn change(caps: &mut Vec<Caps>, role: usize, kind: CapKind, n: u32)
-    ensures { caps.new.items ≡ changed_at (capped_by kind n) role caps.old.items }
+    ensures { caps.new.items ≡ changed_at (with_cap kind n) role caps.old.items }
 {
     if role < caps.len() {
-        caps[role] = with_cap(kind, n, caps[role]);
+        caps[role] = kind.with(n, caps[role]);
     }
 }
 
 /// Changes the caps of the role that a line caps.
 fn cap(caps: &mut Vec<Caps>, names: &NameTables, said: &Said)
-    requires { AreFew 4_294_967_295 (seen_names names.now) }
     ensures { caps.new.items ≡ with_caps_said (seen_names names.now)
         (seen_said said.now) caps.old.items }
 {
@@ -132,12 +108,7 @@ fn no_caps_of(alloc: Global, roles: usize) -> Result<Vec<Caps>, Memory>
 {
     let mut caps = Vec::new(alloc);
     for _ in 0..roles {
-        caps.push(Caps {
-            total: None,
-            user: None,
-            length: None,
-            day: None,
-        })?;
+        caps.push(uncapped())?;
     }
     Ok(caps)
 }
@@ -151,7 +122,7 @@ impl Draft {
             periods: Vec::new(alloc),
             limits: Vec::new(alloc),
             edges: Vec::new(alloc),
-            caps: no_caps_of(alloc, names.roles.len())?,
+            caps: no_caps_of(alloc, names.roles.len() as usize)?,
             admins: IndexSet::new(alloc),
             on_at_first: IndexSet::new(alloc),
             entries: Vec::new(alloc),
@@ -161,7 +132,6 @@ impl Draft {
 
     /// Adds what a line says but for its period.
     fn add_numbers(&mut self, alloc: Global, names: &NameTables, said: &Said) -> Result<(), Memory>
-        requires { AreFew 4_294_967_295 (seen_names names.now) }
         ensures { OnOk result (seen_draft self.new ≡ adding_numbers (seen_names names.now)
             (seen_draft self.old) (seen_said said.now)) }
     {
@@ -178,8 +148,7 @@ impl Draft {
 
     /// Adds what a line says.
     fn add(&mut self, alloc: Global, names: &NameTables, said: Said) -> Result<(), Memory>
-        requires few { AreFew 4_294_967_295 (seen_names names.now) }
-        requires said { IsTrue (is_saying (seen_said said)) }
+        requires { IsTrue (is_saying (seen_said said)) }
         ensures { OnOk result (seen_draft self.new ≡ adding (seen_names names.now)
             (seen_draft self.old) (seen_said said)) }
     {
@@ -228,8 +197,7 @@ impl Draft {
 
 /// What all lines make.
 pub(crate) fn draft_of(alloc: Global, names: &NameTables, parts: Vec<Part>) -> Result<Draft, Memory>
-    requires few { AreFew 4_294_967_295 (seen_names names.now) }
-    requires said { IsTrue (are_sayings parts.items) }
+    requires { IsTrue (are_sayings parts.items) }
     ensures { IfOk result (λ draft. seen_draft draft
         ≡ drafted (seen_names names.now) (fresh (seen_names names.now)) (said_in parts.items)) }
 {

@@ -1,7 +1,8 @@
 //! The search for the least cycle.
 ghost use Rattle.std.specs.Prelude.{◌≡◌, ◌≤◌, length, IfOk};
 ghost use Rattle.gtrbac_model.specs.EdgeCycles.{edge_cycle};
-ghost use Rattle.policy_book.specs.Nets.{AreWithin, net_of};
+ghost use Rattle.policy_book.specs.Nets.{net_of};
+ghost use Rattle.hybrid_hierarchy.specs.Nets.{AreWithin};
 
 use gt_base::{HierEdge, Memory};
 use least_walk::{EdgeList, Graph, GraphEdge};
@@ -14,7 +15,7 @@ use std::alloc::{AllocError, Global};
 /// cycle by itself. Each role has a number below `roles`.
 pub fn cycle_of(alloc: Global, roles: u32, edges: &[HierEdge]) -> Result<Option<EdgeList>, Memory>
     requires ends { AreWithin roles edges.now }
-    requires few { length edges.now ≤ 4_294_967_295 }
+    requires few { length edges.now ≤ u32.MAX }
     ensures { IfOk result (λ found. found ≡ edge_cycle edges.now) }
 {
     let graph = graph_of(alloc, roles, edges)?;
@@ -28,7 +29,7 @@ pub fn cycle_of(alloc: Global, roles: u32, edges: &[HierEdge]) -> Result<Option<
 /// The graph with a node for each role and each edge from its senior to its junior, marked.
 fn graph_of(alloc: Global, roles: u32, edges: &[HierEdge]) -> Result<Graph, Memory>
     requires ends { AreWithin roles edges.now }
-    requires few { length edges.now ≤ 4_294_967_295 }
+    requires few { length edges.now ≤ u32.MAX }
     ensures { IfOk result (λ graph. graph ≡ net_of roles edges.now) }
 {
     let mut graph = Graph::new(alloc, roles);

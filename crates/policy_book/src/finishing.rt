@@ -5,7 +5,6 @@ ghost use Rattle.gtrbac_model.specs.Same.{lists, same_user};
 ghost use Rattle.policy_words.specs.Making.{users_from, edges_from, linked_at_first};
 ghost use Rattle.policy_words.specs.Valid.{IsWellFormed};
 ghost use Rattle.policy_book.specs.Seen.{seen_names};
-ghost use Rattle.policy_book.specs.Numbers.{AreFew};
 ghost use Rattle.policy_book.specs.Drafts.{seen_draft, made_policy};
 
 use crate::books::Policy;
@@ -77,7 +76,7 @@ fn opening_of(alloc: Global, fluents: &mut IndexSet<Fluent>, linked: u32) -> Res
 /// How many edges are linked at first, from number 0 on: in version 1 all, and in version 2 none
 /// but by lines.
 fn linked_count(second: bool, edges: &[HierEdge]) -> u32
-    requires { length edges.now ≤ 4_294_967_295 }
+    requires { length edges.now ≤ u32.MAX }
     ensures { edges_from 0 result ≡ linked_at_first second edges.now }
 {
     if second { 0 } else { edges.len() as u32 }
@@ -90,12 +89,11 @@ pub(crate) fn finished(
     second: bool,
     mut draft: Draft,
 ) -> Result<Policy, Memory>
-    requires few { AreFew 4_294_967_295 (seen_names names) }
-    requires well_formed { IsWellFormed (made_policy (seen_names names) second (seen_draft draft)) }
+    requires { IsWellFormed (made_policy (seen_names names) second (seen_draft draft)) }
     ensures { IfOk result (λ policy. policy ≡ made_policy (seen_names names) second
         (seen_draft draft)) }
 {
-    let admins = admins_of(alloc, names.users.len() as u32, &draft.admins)?;
+    let admins = admins_of(alloc, names.users.len(), &draft.admins)?;
     let linked = linked_count(second, &draft.edges);
     let opening = opening_of(alloc, &mut draft.on_at_first, linked)?;
     Ok(draft.with(alloc, names, admins, opening))

@@ -2,17 +2,15 @@
 ghost use Rattle.std.specs.Prelude.{◌≡◌};
 ghost use Rattle.std.specs.List.{list_all};
 ghost use Rattle.policy_words.specs.Seen.{seen_said};
-ghost use Rattle.policy_words.specs.Book.{is_known_item as item_known, is_known_period as period_known, is_known as known};
+ghost use Rattle.policy_words.specs.LinesTogether.{is_known_item, is_known_period, is_known};
 ghost use Rattle.policy_book.specs.Seen.{seen_names};
-ghost use Rattle.policy_book.specs.Numbers.{AreFew};
 
 use crate::names::NameTables;
 use gt_base::Name;
 use policy_words::{Item, Said};
 
 fn is_known_item(names: &NameTables, item: &Item) -> bool
-    requires { AreFew 4_294_967_295 (seen_names names.now) }
-    ensures { result ≡ item_known (seen_names names.now) item.now }
+    ensures { result ≡ is_known_item (seen_names names.now) item.now }
 {
     match item {
         Item::Event(event) => names.event(event).is_some(),
@@ -22,8 +20,7 @@ fn is_known_item(names: &NameTables, item: &Item) -> bool
 }
 
 fn are_known(names: &NameTables, items: &[Item]) -> bool
-    requires { AreFew 4_294_967_295 (seen_names names.now) }
-    ensures { result ≡ list_all (item_known (seen_names names.now)) items.now }
+    ensures { result ≡ list_all (is_known_item (seen_names names.now)) items.now }
 {
     for item in items {
         if !is_known_item(names, item) {
@@ -34,8 +31,7 @@ fn are_known(names: &NameTables, items: &[Item]) -> bool
 }
 
 fn is_known_period(names: &NameTables, period: &Option<Name>) -> bool
-    requires { AreFew 4_294_967_295 (seen_names names.now) }
-    ensures { result ≡ period_known (seen_names names.now) period.now }
+    ensures { result ≡ is_known_period (seen_names names.now) period.now }
 {
     match period {
         Some(name) => names.period(name).is_some(),
@@ -46,8 +42,7 @@ fn is_known_period(names: &NameTables, period: &Option<Name>) -> bool
 /// Whether each name of the line is declared by some line, and each pair of an edge that it
 /// switches is an edge's.
 pub(crate) fn is_known(names: &NameTables, said: &Said) -> bool
-    requires { AreFew 4_294_967_295 (seen_names names.now) }
-    ensures { result ≡ known (seen_names names.now) (seen_said said.now) }
+    ensures { result ≡ is_known (seen_names names.now) (seen_said said.now) }
 {
     match said {
         Said::Limit { cond, period, .. } => {

@@ -4,6 +4,7 @@
 
 mod books;
 mod building;
+mod checking;
 mod copying;
 mod cycle_laws;
 mod cycles;
@@ -20,7 +21,6 @@ mod names;
 mod rules;
 mod tables;
 mod tallies;
-mod troubles;
 
 pub use books::Policy;
 pub use cycle_laws::{computed_cycle_is_least, no_cycle_is_acyclic};

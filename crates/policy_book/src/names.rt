@@ -1,12 +1,11 @@
 //! The names that a policy declares.
-ghost use Rattle.std.specs.Prelude.{◌≡◌, ◌≤◌, IfOk, OnOk, length, position};
-ghost use Rattle.gt_base.specs.Names.{place_of};
+ghost use Rattle.std.specs.Prelude.{◌≡◌, IfOk, OnOk};
 ghost use Rattle.policy_words.specs.Seen.{seen_said};
-ghost use Rattle.policy_words.specs.Naming.{same_pair, role_of, user_of, perm_of, period_of, limit_of, fluent_of, event_of, cond_of, signal_of, head_of};
+ghost use Rattle.policy_words.specs.Naming.{role_of, user_of, perm_of, period_of, limit_of, fluent_of, event_of, cond_of, signal_of, head_of};
 ghost use Rattle.policy_words.specs.Making.{naming, no_names, names_of};
-ghost use Rattle.policy_words.specs.Book.{said_in};
+ghost use Rattle.policy_words.specs.LinesTogether.{said_in};
 ghost use Rattle.policy_book.specs.Seen.{seen_names};
-ghost use Rattle.policy_book.specs.Numbers.{AreFew, edge_number};
+ghost use Rattle.policy_book.specs.Numbers.{edge_number};
 
 use crate::lines::Part;
 use crate::tables::{PairTable, Table};
@@ -37,28 +36,6 @@ impl Drop for NameTables {
             limits: _,
             edges: _,
         } = self;
-    }
-}
-
-/// The number of a name in a table.
-fn number_in(table: &Table, name: &Name) -> Option<u32>
-    requires { length table.now ≤ 4_294_967_295 }
-    ensures { result ≡ place_of table.now name.now }
-{
-    match table.number(name) {
-        Some(k) => Some(k as u32),
-        None => None,
-    }
-}
-
-/// The number of a pair in a table.
-fn pair_number_in(table: &PairTable, senior: &Name, junior: &Name) -> Option<u32>
-    requires { length table.now ≤ 4_294_967_295 }
-    ensures { result ≡ position (same_pair (senior.now, junior.now)) table.now }
-{
-    match table.number(senior, junior) {
-        Some(k) => Some(k as u32),
-        None => None,
     }
 }
 
@@ -101,58 +78,51 @@ impl NameTables {
 
     /// The number of a role, none exactly where no line declares the name.
     pub(crate) fn role(&self, n: &Name) -> Option<RoleId>
-        requires { AreFew 4_294_967_295 (seen_names self.now) }
         ensures { result ≡ role_of (seen_names self.now) n.now }
     {
-        Some(RoleId(number_in(&self.roles, n)?))
+        Some(RoleId(self.roles.number(n)?))
     }
 
     /// The number of a user, none exactly where no line declares the name.
     pub(crate) fn user(&self, n: &Name) -> Option<UserId>
-        requires { AreFew 4_294_967_295 (seen_names self.now) }
         ensures { result ≡ user_of (seen_names self.now) n.now }
     {
-        Some(UserId(number_in(&self.users, n)?))
+        Some(UserId(self.users.number(n)?))
     }
 
     /// The number of a permission, none exactly where no line declares the name.
     pub(crate) fn perm(&self, n: &Name) -> Option<PermId>
-        requires { AreFew 4_294_967_295 (seen_names self.now) }
         ensures { result ≡ perm_of (seen_names self.now) n.now }
     {
-        Some(PermId(number_in(&self.perms, n)?))
+        Some(PermId(self.perms.number(n)?))
     }
 
     /// The number of a period, none exactly where no line declares the name.
     pub(crate) fn period(&self, n: &Name) -> Option<PeriodId>
-        requires { AreFew 4_294_967_295 (seen_names self.now) }
         ensures { result ≡ period_of (seen_names self.now) n.now }
     {
-        Some(PeriodId(number_in(&self.periods, n)?))
+        Some(PeriodId(self.periods.number(n)?))
     }
 
     /// The number of a limit, none exactly where no line declares the name.
     pub(crate) fn limit(&self, n: &Name) -> Option<LimitId>
-        requires { AreFew 4_294_967_295 (seen_names self.now) }
         ensures { result ≡ limit_of (seen_names self.now) n.now }
     {
-        Some(LimitId(number_in(&self.limits, n)?))
+        Some(LimitId(self.limits.number(n)?))
     }
 
     /// The number of the edge from a senior to a junior, none exactly where no line declares a name
     /// or no edge joins the two.
     fn edge(&self, senior: &Name, junior: &Name) -> Option<u32>
-        requires { AreFew 4_294_967_295 (seen_names self.now) }
         ensures { result ≡ edge_number (seen_names self.now) senior.now junior.now }
     {
         self.role(senior)?;
         self.role(junior)?;
-        pair_number_in(&self.edges, senior, junior)
+        self.edges.number(senior, junior)
     }
 
     /// The assignment in numbers.
     fn assigned(&self, u: &Name, r: &Name) -> Option<Fluent>
-        requires { AreFew 4_294_967_295 (seen_names self.now) }
         ensures { result ≡ fluent_of (seen_names self.now) (NamedFluent.Assigned u.now r.now) }
     {
         Some(Fluent::Assigned(self.user(u)?, self.role(r)?))
@@ -160,7 +130,6 @@ impl NameTables {
 
     /// The grant in numbers.
     fn granted(&self, p: &Name, r: &Name) -> Option<Fluent>
-        requires { AreFew 4_294_967_295 (seen_names self.now) }
         ensures { result ≡ fluent_of (seen_names self.now) (NamedFluent.Granted p.now r.now) }
     {
         Some(Fluent::Granted(self.perm(p)?, self.role(r)?))
@@ -169,7 +138,6 @@ impl NameTables {
     /// The fluent in numbers, none exactly where a name of it is not declared, or no edge has its
     /// pair.
     pub(crate) fn fluent(&self, f: &NamedFluent) -> Option<Fluent>
-        requires { AreFew 4_294_967_295 (seen_names self.now) }
         ensures { result ≡ fluent_of (seen_names self.now) f.now }
     {
         match f {
@@ -183,7 +151,6 @@ impl NameTables {
 
     /// The event in numbers, none exactly where a name of it is not declared.
     pub(crate) fn event(&self, e: &NamedEvent) -> Option<Event>
-        requires { AreFew 4_294_967_295 (seen_names self.now) }
         ensures { result ≡ event_of (seen_names self.now) e.now }
     {
         let fluent = self.fluent(&e.fluent)?;
@@ -192,7 +159,6 @@ impl NameTables {
 
     /// The condition in numbers, none exactly where a name of it is not declared.
     pub(crate) fn cond(&self, c: &NamedCond) -> Option<Cond>
-        requires { AreFew 4_294_967_295 (seen_names self.now) }
         ensures { result ≡ cond_of (seen_names self.now) c.now }
     {
         let fluent = self.fluent(&c.fluent)?;
@@ -201,7 +167,6 @@ impl NameTables {
 
     /// The signal in numbers, none exactly where a name of it is not declared.
     pub(crate) fn signal(&self, s: &NamedSignal) -> Option<Signal>
-        requires { AreFew 4_294_967_295 (seen_names self.now) }
         ensures { result ≡ signal_of (seen_names self.now) s.now }
     {
         let user = self.user(&s.user)?;
@@ -215,7 +180,6 @@ impl NameTables {
 
     /// The head in numbers, none exactly where a name of it is not declared.
     pub(crate) fn head(&self, h: &NamedHead) -> Option<Prioritised>
-        requires { AreFew 4_294_967_295 (seen_names self.now) }
         ensures { result ≡ head_of (seen_names self.now) h.now }
     {
         let event = self.event(&h.event)?;

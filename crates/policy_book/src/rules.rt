@@ -4,9 +4,8 @@ ghost use Rattle.std.specs.List.{filter_map};
 ghost use Rattle.policy_words.specs.Sayings.{is_saying};
 ghost use Rattle.policy_words.specs.Seen.{seen_said};
 ghost use Rattle.policy_words.specs.Naming.{Names};
-ghost use Rattle.policy_words.specs.Making.{inherits as does_inherit, activates as does_activate, period_said, during_of, limit_said, edge_said, admin_said, opening_said, entry_said, event_in as event_said, signal_in as signal_said, cond_in as cond_said, settled_in as settled_said, rule_said};
+ghost use Rattle.policy_words.specs.Making.{inherits as does_inherit, activates as does_activate, period_said, during_of, limit_said, edge_said, admin_said, opening_said, entry_said, event_in, signal_in, cond_in, settled_in, rule_said};
 ghost use Rattle.policy_book.specs.Seen.{seen_names};
-ghost use Rattle.policy_book.specs.Numbers.{AreFew};
 ghost use Rattle.policy_book.specs.Triggers.{trigger_with};
 
 use crate::names::NameTables;
@@ -35,7 +34,6 @@ pub(crate) fn period_in(said: Said) -> Option<Period>
 }
 
 fn during(names: &NameTables, period: &Option<Name>) -> Option<Option<PeriodId>>
-    requires { AreFew 4_294_967_295 (seen_names names.now) }
     ensures { result ≡ during_of (seen_names names.now) period.now }
 {
     match period {
@@ -46,7 +44,6 @@ fn during(names: &NameTables, period: &Option<Name>) -> Option<Option<PeriodId>>
 
 /// The duration limit that a line declares.
 pub(crate) fn limit_in(names: &NameTables, said: &Said) -> Option<LimitRule>
-    requires { AreFew 4_294_967_295 (seen_names names.now) }
     ensures { result ≡ limit_said (seen_names names.now) (seen_said said.now) }
 {
     let Said::Limit {
@@ -89,7 +86,6 @@ fn activates(kind: EdgeKind) -> bool
 
 /// The edge that a line gives.
 pub(crate) fn edge_in(names: &NameTables, said: &Said) -> Option<HierEdge>
-    requires { AreFew 4_294_967_295 (seen_names names.now) }
     ensures { result ≡ edge_said (seen_names names.now) (seen_said said.now) }
 {
     let Said::Edge {
@@ -114,7 +110,6 @@ pub(crate) fn edge_in(names: &NameTables, said: &Said) -> Option<HierEdge>
 
 /// The administrator that a line names.
 pub(crate) fn admin_in(names: &NameTables, said: &Said) -> Option<UserId>
-    requires { AreFew 4_294_967_295 (seen_names names.now) }
     ensures { result ≡ admin_said (seen_names names.now) (seen_said said.now) }
 {
     match said {
@@ -125,7 +120,6 @@ pub(crate) fn admin_in(names: &NameTables, said: &Said) -> Option<UserId>
 
 /// What a line turns on at first.
 pub(crate) fn opening_in(names: &NameTables, said: &Said) -> Option<Fluent>
-    requires { AreFew 4_294_967_295 (seen_names names.now) }
     ensures { result ≡ opening_said (seen_names names.now) (seen_said said.now) }
 {
     match said {
@@ -136,7 +130,6 @@ pub(crate) fn opening_in(names: &NameTables, said: &Said) -> Option<Fluent>
 
 /// The periodic entry that a line gives.
 pub(crate) fn entry_in(names: &NameTables, said: &Said) -> Option<PeriodicEntry>
-    requires { AreFew 4_294_967_295 (seen_names names.now) }
     ensures { result ≡ entry_said (seen_names names.now) (seen_said said.now) }
 {
     let Said::Entry { form, period, head } = said else {
@@ -152,8 +145,7 @@ pub(crate) fn entry_in(names: &NameTables, said: &Said) -> Option<PeriodicEntry>
 }
 
 fn event_in(names: &NameTables, item: &Item) -> Option<Event>
-    requires { AreFew 4_294_967_295 (seen_names names.now) }
-    ensures { result ≡ event_said (seen_names names.now) item.now }
+    ensures { result ≡ event_in (seen_names names.now) item.now }
 {
     match item {
         Item::Event(event) => names.event(event),
@@ -162,8 +154,7 @@ fn event_in(names: &NameTables, item: &Item) -> Option<Event>
 }
 
 fn signal_in(names: &NameTables, item: &Item) -> Option<Signal>
-    requires { AreFew 4_294_967_295 (seen_names names.now) }
-    ensures { result ≡ signal_said (seen_names names.now) item.now }
+    ensures { result ≡ signal_in (seen_names names.now) item.now }
 {
     match item {
         Item::Signal(signal) => names.signal(signal),
@@ -172,8 +163,7 @@ fn signal_in(names: &NameTables, item: &Item) -> Option<Signal>
 }
 
 fn cond_in(names: &NameTables, item: &Item) -> Option<Cond>
-    requires { AreFew 4_294_967_295 (seen_names names.now) }
-    ensures { result ≡ cond_said (seen_names names.now) item.now }
+    ensures { result ≡ cond_in (seen_names names.now) item.now }
 {
     match item {
         Item::Cond(cond) => names.cond(cond),
@@ -182,8 +172,7 @@ fn cond_in(names: &NameTables, item: &Item) -> Option<Cond>
 }
 
 fn settled_in(names: &NameTables, item: &Item) -> Option<Cond>
-    requires { AreFew 4_294_967_295 (seen_names names.now) }
-    ensures { result ≡ settled_said (seen_names names.now) item.now }
+    ensures { result ≡ settled_in (seen_names names.now) item.now }
 {
     match item {
         Item::Settled(cond) => names.cond(cond),
@@ -193,9 +182,8 @@ fn settled_in(names: &NameTables, item: &Item) -> Option<Cond>
 
 /// The events of a body, in the order of the line.
 fn events_in(alloc: Global, names: &NameTables, items: &[Item]) -> Result<Vec<Event>, Memory>
-    requires { AreFew 4_294_967_295 (seen_names names.now) }
     ensures { IfOk result (λ events. events.items ≡ filter_map
-        (event_said (seen_names names.now)) items.now) }
+        (event_in (seen_names names.now)) items.now) }
 {
     let mut events = Vec::new(alloc);
     for item in items {
@@ -208,9 +196,8 @@ fn events_in(alloc: Global, names: &NameTables, items: &[Item]) -> Result<Vec<Ev
 
 /// The signals of a body, in the order of the line.
 fn signals_in(alloc: Global, names: &NameTables, items: &[Item]) -> Result<Vec<Signal>, Memory>
-    requires { AreFew 4_294_967_295 (seen_names names.now) }
     ensures { IfOk result (λ signals. signals.items
-        ≡ filter_map (signal_said (seen_names names.now)) items.now) }
+        ≡ filter_map (signal_in (seen_names names.now)) items.now) }
 {
     let mut signals = Vec::new(alloc);
     for item in items {
@@ -223,9 +210,8 @@ fn signals_in(alloc: Global, names: &NameTables, items: &[Item]) -> Result<Vec<S
 
 /// The conditions of a body, in the order of the line.
 fn conds_in(alloc: Global, names: &NameTables, items: &[Item]) -> Result<Vec<Cond>, Memory>
-    requires { AreFew 4_294_967_295 (seen_names names.now) }
     ensures { IfOk result (λ conds. conds.items ≡ filter_map
-        (cond_said (seen_names names.now)) items.now) }
+        (cond_in (seen_names names.now)) items.now) }
 {
     let mut conds = Vec::new(alloc);
     for item in items {
@@ -238,9 +224,8 @@ fn conds_in(alloc: Global, names: &NameTables, items: &[Item]) -> Result<Vec<Con
 
 /// The settled conditions of a body, in the order of the line.
 fn settled_conds_in(alloc: Global, names: &NameTables, items: &[Item]) -> Result<Vec<Cond>, Memory>
-    requires { AreFew 4_294_967_295 (seen_names names.now) }
     ensures { IfOk result (λ conds. conds.items ≡ filter_map
-        (settled_said (seen_names names.now)) items.now) }
+        (settled_in (seen_names names.now)) items.now) }
 {
     let mut conds = Vec::new(alloc);
     for item in items {
@@ -259,7 +244,6 @@ fn trigger_of(
     head: Prioritised,
     delay: u32,
 ) -> Result<Trigger, Memory>
-    requires { AreFew 4_294_967_295 (seen_names names.now) }
     ensures { IfOk result (λ trigger. trigger ≡ trigger_with
         (seen_names names.now) items.now head delay) }
 {
@@ -283,7 +267,6 @@ pub(crate) fn trigger_in(
     names: &NameTables,
     said: &Said,
 ) -> Result<Option<Trigger>, Memory>
-    requires { AreFew 4_294_967_295 (seen_names names.now) }
     ensures { IfOk result (λ trigger. trigger ≡ rule_said (seen_names names.now)
         (seen_said said.now)) }
 {

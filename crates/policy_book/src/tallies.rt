@@ -3,21 +3,20 @@ ghost use Rattle.std.specs.Prelude.{◌≡◌, ◌<◌, None, OnOk};
 ghost use Rattle.gtrbac_model.specs.Same.{lists};
 ghost use Rattle.policy_words.specs.Seen.{seen_said};
 ghost use Rattle.policy_words.specs.Making.{with_new};
-ghost use Rattle.policy_words.specs.Book.{claim_of as claim_said, cap_claim as cap_claimed, fluent_claim as fluent_claimed, same_claim, may_be_again as may_again, kind_of as kind_said, fluent_kind as fluent_counted, most_of as most_allowed};
+ghost use Rattle.policy_words.specs.LinesTogether.{claim_of, fluent_claim, same_claim, may_be_again, kind_of, fluent_kind, most_of};
 ghost use Rattle.policy_book.specs.Seen.{seen_names};
-ghost use Rattle.policy_book.specs.Numbers.{AreFew};
-ghost use Rattle.policy_book.specs.Tallies.{seen_tally, count_in, one_more, no_counts, nothing_told, is_claimed as claimed_in, is_full as full, full_kind, trouble_in, with_count, tallied};
+ghost use Rattle.policy_book.specs.Tallies.{seen_tally, count_in, one_more, no_counts, nothing_told, is_claimed, is_full, full_kind, fault_in, with_count, tallied};
 
 use crate::known::is_known;
 use crate::names::NameTables;
-use gt_base::{Memory, Name};
+use gt_base::Memory;
 use indexmap::IndexSet;
-use policy_words::{CapKind, Claim, Kind, NamedFluent, Said};
+use policy_words::{Claim, Kind, NamedFluent, Said};
 use std::alloc::Global;
 
 /// What is wrong with a line beside the other lines.
 #[derive(Clone, Copy)]
-pub(crate) enum Trouble {
+pub(crate) enum TallyFault {
     Unknown,
     Twice,
     TooMany(Kind),
@@ -75,14 +74,14 @@ impl Counts {
 
     /// Whether there are as many of the kind as may be.
     fn is_full(&self, kind: Kind) -> bool
-        ensures { result ≡ full self.now kind }
+        ensures { result ≡ is_full self.now kind }
     {
         most_of(kind) <= self.of(kind)
     }
 
     /// One more of the kind.
     fn add(&mut self, kind: Kind)
-        requires { count_in self.old kind < 4_294_967_295 }
+        requires { count_in self.old kind < u32.MAX }
         ensures { self.new ≡ one_more self.old kind }
     {
         match kind {
@@ -102,7 +101,7 @@ impl Counts {
 
 /// How many lines of the kind a policy may have.
 fn most_of(kind: Kind) -> u32
-    ensures { result ≡ most_allowed kind }
+    ensures { result ≡ most_of kind }
 {
     match kind {
         Kind::Roles | Kind::Periods | Kind::Limits => 1_000,
@@ -112,19 +111,8 @@ fn most_of(kind: Kind) -> u32
     }
 }
 
-fn cap_claim(kind: CapKind, role: Name) -> Claim
-    ensures { result ≡ cap_claimed kind role }
-{
-    match kind {
-        CapKind::Total => Claim::Total(role),
-        CapKind::User => Claim::PerUser(role),
-        CapKind::Length => Claim::Length(role),
-        CapKind::Day => Claim::Day(role),
-    }
-}
-
 fn fluent_claim(fluent: &NamedFluent) -> Option<Claim>
-    ensures { result ≡ fluent_claimed fluent.now }
+    ensures { result ≡ fluent_claim fluent.now }
 {
     match fluent {
         NamedFluent::Assigned(user, role) => Some(Claim::Assigned(*user, *role)),
@@ -135,7 +123,7 @@ fn fluent_claim(fluent: &NamedFluent) -> Option<Claim>
 
 /// What a line claims.
 fn claim_of(said: &Said) -> Option<Claim>
-    ensures { result ≡ claim_said (seen_said said.now) }
+    ensures { result ≡ claim_of (seen_said said.now) }
 {
     match said {
         Said::Role(name) => Some(Claim::Role(*name)),
@@ -144,7 +132,7 @@ fn claim_of(said: &Said) -> Option<Claim>
         Said::Period { name, .. } => Some(Claim::Period(*name)),
         Said::Limit { name, .. } => Some(Claim::Limit(*name)),
         Said::Edge { senior, junior, .. } => Some(Claim::Edge(*senior, *junior)),
-        Said::Cap { kind, role, .. } => Some(cap_claim(*kind, *role)),
+        Said::Cap { kind, role, .. } => Some(Claim::Cap(*kind, *role)),
         Said::Opening(fluent) => fluent_claim(fluent),
         Said::Version(_) | Said::Admin(_) | Said::Entry { .. } | Said::When { .. } => None,
     }
@@ -152,13 +140,13 @@ fn claim_of(said: &Said) -> Option<Claim>
 
 /// Whether another line may claim the same.
 fn may_be_again(said: &Said) -> bool
-    ensures { result ≡ may_again (seen_said said.now) }
+    ensures { result ≡ may_be_again (seen_said said.now) }
 {
     matches!(said, Said::Opening(_))
 }
 
 fn fluent_kind(fluent: &NamedFluent) -> Option<Kind>
-    ensures { result ≡ fluent_counted fluent.now }
+    ensures { result ≡ fluent_kind fluent.now }
 {
     match fluent {
         NamedFluent::Assigned(..) => Some(Kind::Assigned),
@@ -169,7 +157,7 @@ fn fluent_kind(fluent: &NamedFluent) -> Option<Kind>
 
 /// The kind that a line counts for.
 fn kind_of(said: &Said) -> Option<Kind>
-    ensures { result ≡ kind_said (seen_said said.now) }
+    ensures { result ≡ kind_of (seen_said said.now) }
 {
     match said {
         Said::Role(_) => Some(Kind::Roles),
@@ -231,7 +219,7 @@ impl Tally {
 
     /// Whether a line before claims the same.
     fn is_claimed(&self, said: &Said) -> bool
-        ensures { result ≡ claimed_in (seen_tally self.now) (seen_said said.now) }
+        ensures { result ≡ is_claimed (seen_tally self.now) (seen_said said.now) }
     {
         match claim_of(said) {
             Some(claim) => has(&self.claims, &claim),
@@ -240,13 +228,13 @@ impl Tally {
     }
 
     /// The kind of the line, where there are as many before it as may be.
-    fn full_kind(&self, said: &Said) -> Option<Trouble>
+    fn full_kind(&self, said: &Said) -> Option<TallyFault>
         ensures { result ≡ full_kind (seen_tally self.now) (seen_said said.now)
-            (kind_said (seen_said said.now)) }
+            (kind_of (seen_said said.now)) }
     {
         let kind = kind_of(said)?;
         if !self.is_claimed(said) && self.counts.is_full(kind) {
-            Some(Trouble::TooMany(kind))
+            Some(TallyFault::TooMany(kind))
         } else {
             None
         }
@@ -254,16 +242,15 @@ impl Tally {
 
     /// What is wrong with a line, if anything: a name is unknown, what it claims is claimed, or it
     /// is one too many.
-    pub(crate) fn trouble(&self, names: &NameTables, said: &Said) -> Option<Trouble>
-        requires { AreFew 4_294_967_295 (seen_names names.now) }
-        ensures { result ≡ trouble_in (seen_names names.now) (seen_tally self.now)
+    pub(crate) fn fault(&self, names: &NameTables, said: &Said) -> Option<TallyFault>
+        ensures { result ≡ fault_in (seen_names names.now) (seen_tally self.now)
             (seen_said said.now) }
     {
         if !is_known(names, said) {
-            return Some(Trouble::Unknown);
+            return Some(TallyFault::Unknown);
         }
         if !may_be_again(said) && self.is_claimed(said) {
-            return Some(Trouble::Twice);
+            return Some(TallyFault::Twice);
         }
         self.full_kind(said)
     }
@@ -271,7 +258,7 @@ impl Tally {
     /// Adds a line with which nothing is wrong.
     pub(crate) fn add(&mut self, said: &Said) -> Result<(), Memory>
         requires { full_kind (seen_tally self.old) (seen_said said.now)
-            (kind_said (seen_said said.now)) ≡ None }
+            (kind_of (seen_said said.now)) ≡ None }
         ensures { OnOk result (seen_tally self.new ≡ tallied (seen_tally self.old)
             (seen_said said.now)) }
     {

@@ -190,7 +190,7 @@ impl Lines {
         Policy::build(self.alloc, self.parts)
     }
 
-    fn is(self, asked: Asked) -> bool {
+    fn is(self, asked: AskedOf) -> bool {
         match self.build() {
             Ok(policy) => policy_is(&policy, asked),
             Err(fault) => fault_is(&fault, asked),
@@ -198,21 +198,21 @@ impl Lines {
     }
 
     /// What is told of the lines.
-    fn told(self) -> Told {
+    fn told(self) -> BuildEnd {
         match self.build() {
-            Ok(_) => Told::Nothing,
-            Err(BookFault::Unknown { line }) => Told::Unknown(line),
-            Err(BookFault::Twice { line }) => Told::Twice(line),
-            Err(BookFault::TooMany { line, what }) => Told::TooMany(line, what),
-            Err(BookFault::HierarchyCycle { .. }) => Told::Cycle,
-            Err(BookFault::Memory) => Told::NoMemory,
+            Ok(_) => BuildEnd::Nothing,
+            Err(BookFault::Unknown { line }) => BuildEnd::Unknown(line),
+            Err(BookFault::Twice { line }) => BuildEnd::Twice(line),
+            Err(BookFault::TooMany { line, what }) => BuildEnd::TooMany(line, what),
+            Err(BookFault::HierarchyCycle { .. }) => BuildEnd::Cycle,
+            Err(BookFault::Memory) => BuildEnd::NoMemory,
         }
     }
 }
 
 /// What is asked of a policy, or of the fault of its lines.
 #[derive(Clone, Copy)]
-enum Asked {
+enum AskedOf {
     Names,
     Rules,
     Caps,
@@ -220,7 +220,7 @@ enum Asked {
 }
 
 #[derive(Clone, Copy, PartialEq, Eq, Debug)]
-enum Told {
+enum BuildEnd {
     Nothing,
     Unknown(u32),
     Twice(u32),
@@ -243,18 +243,18 @@ fn enable(role: Name) -> Result<NamedHead, Memory>
     })
 }
 
-fn policy_is(policy: &Policy, asked: Asked) -> bool {
+fn policy_is(policy: &Policy, asked: AskedOf) -> bool {
     match asked {
-        Asked::Names => are_named(policy) && are_once(policy),
-        Asked::Rules => has_rules(policy),
-        Asked::Caps => are_capped(policy),
-        Asked::CycleOfSecond => false,
+        AskedOf::Names => are_named(policy) && are_once(policy),
+        AskedOf::Rules => has_rules(policy),
+        AskedOf::Caps => are_capped(policy),
+        AskedOf::CycleOfSecond => false,
     }
 }
 
-fn fault_is(fault: &BookFault, asked: Asked) -> bool {
+fn fault_is(fault: &BookFault, asked: AskedOf) -> bool {
     match (asked, fault) {
-        (Asked::CycleOfSecond, BookFault::HierarchyCycle { edges, names }) => {
+        (AskedOf::CycleOfSecond, BookFault::HierarchyCycle { edges, names }) => {
             edges.len() == 1 && are_second(names.as_slice())
         }
         _ => false,
@@ -273,22 +273,22 @@ fn are_second(names: &[Name]) -> bool {
 fn the_first_fault(rt: HostRuntime) -> Result<(), Fail> {
     // unknown before twice
     let lines = Lines::new(rt.alloc()).role(b"a")?.edge(b"a", b"z")?;
-    assert_eq!(rt; lines.edge(b"a", b"z")?.told(), Told::Unknown(2));
+    assert_eq!(rt; lines.edge(b"a", b"z")?.told(), BuildEnd::Unknown(2));
     // a later line's fault is not told first
     let lines = Lines::new(rt.alloc()).role(b"a")?.role(b"a")?;
-    assert_eq!(rt; lines.admin(b"u")?.told(), Told::Twice(2));
+    assert_eq!(rt; lines.admin(b"u")?.told(), BuildEnd::Twice(2));
     Ok(())
 }
 
 #[test]
 fn limits_of_kinds(rt: HostRuntime) -> Result<(), Fail> {
     let lines = Lines::new(rt.alloc()).roles(1_000)?.edges(990)?;
-    assert_eq!(rt; lines.told(), Told::Nothing);
+    assert_eq!(rt; lines.told(), BuildEnd::Nothing);
     // twice before too many
     let lines = Lines::new(rt.alloc()).roles(1_000)?.role(b"r999")?;
-    assert_eq!(rt; lines.told(), Told::Twice(1_001));
+    assert_eq!(rt; lines.told(), BuildEnd::Twice(1_001));
     let lines = Lines::new(rt.alloc()).roles(1_001)?.role(b"r999")?;
-    assert_eq!(rt; lines.told(), Told::TooMany(1_001, Kind::Roles));
+    assert_eq!(rt; lines.told(), BuildEnd::TooMany(1_001, Kind::Roles));
     Ok(())
 }
 
@@ -317,7 +317,7 @@ fn used_before_declared(rt: HostRuntime) -> Result<(), Fail> {
     let lines = lines.role(b"a")?.user(b"t")?.role(b"b")?.user(b"u")?;
     // said again: an administrator and an assignment
     let lines = lines.admin(b"u")?.assigned(b"u", b"b")?.admin(b"t")?;
-    assert!(rt; lines.is(Asked::Names));
+    assert!(rt; lines.is(AskedOf::Names));
     Ok(())
 }
 
@@ -352,7 +352,7 @@ fn rules(rt: HostRuntime) -> Result<(), Fail> {
         .trigger(b"a", b"u")?
         .entry(b"p", b"a")?;
     let lines = lines.period(b"q")?.period(b"p")?.role(b"a")?.user(b"u")?;
-    assert!(rt; lines.is(Asked::Rules));
+    assert!(rt; lines.is(AskedOf::Rules));
     Ok(())
 }
 
@@ -360,7 +360,7 @@ fn rules(rt: HostRuntime) -> Result<(), Fail> {
 fn cycles(rt: HostRuntime) -> Result<(), Fail> {
     let lines = Lines::new(rt.alloc()).role(b"a")?.role(b"b")?;
     let lines = lines.edge(b"a", b"b")?.edge(b"b", b"b")?;
-    assert!(rt; lines.is(Asked::CycleOfSecond));
+    assert!(rt; lines.is(AskedOf::CycleOfSecond));
     Ok(())
 }
 
@@ -386,6 +386,6 @@ fn caps_of_a_role(rt: HostRuntime) -> Result<(), Fail> {
     let lines = Lines::new(rt.alloc()).role(b"a")?.role(b"b")?;
     let lines = lines.cap(CapKind::Day, b"b")?.cap(CapKind::Total, b"b")?;
     let lines = lines.cap(CapKind::Length, b"b")?.cap(CapKind::User, b"a")?;
-    assert!(rt; lines.is(Asked::Caps));
+    assert!(rt; lines.is(AskedOf::Caps));
     Ok(())
 }

@@ -23,7 +23,7 @@ fn is_syntax_at(alloc: Global, line: &[u8], at: u32) -> bool {
     has_fault(alloc, line, TextKind::Expr(ExprFault { at, kind }))
 }
 
-// The line that a line is written as once it is read, empty where it is silent.
+/// The line that a line is written as once it is read, empty where it is silent.
 fn again(alloc: Global, version: TextVersion, line: &[u8]) -> Result<Vec<u8>, TextKind> {
     let mut text = Vec::new(alloc);
     if let Some(said) = read_said(alloc, version, line)? {
@@ -45,7 +45,7 @@ fn is_written(alloc: Global, line: &[u8], written: &[u8]) -> bool {
     is_written_in(alloc, TextVersion::Open, line, written)
 }
 
-// A line with so many further items, and the rest of it.
+/// A line with so many further items, and the rest of it.
 fn long_body(alloc: Global, more: u32, rest: &[u8]) -> Result<Vec<u8>, Memory> {
     let mut line = b"when enable a".to_vec(alloc)?;
     for _ in 0..more {

@@ -19,18 +19,18 @@ use Rattle.policy_words.specs.Reading.{Numbered, read_said, and_then, read_lines
 use Rattle.policy_lines.proofs.SaidBySpelling.{read_in_range}
 use Rattle.policy_words.specs.Naming.{NamedPolicy}
 use Rattle.policy_words.specs.Making.{names_of}
-use Rattle.policy_words.specs.Book.{BookTrouble, said_in, build}
+use Rattle.policy_words.specs.LinesTogether.{LinesFault, said_in, build}
 use Rattle.policy_words.specs.Canonical.{canonical_text}
 use Rattle.policy_words.specs.PolicyRead.{PolicyFault, built, by_lines, policy_read}
 use Rattle.policy_words.specs.Valid.{IsWellFormed}
 use Rattle.policy_book.proofs.WellFormed.{build_is_well_formed}
 use Rattle.policy_text.proofs.CanonicalText.{canonical_is_read}
-use Rattle.policy_commands.specs.Ends.{Told, told}
-use Rattle.policy_commands.specs.Policies.{read_or_told, policy_in, safe_or_told, judged, judged_or_told, safe_in, HasFault, IsUnsafeText}
+use Rattle.policy_commands.specs.Ends.{EndView, told}
+use Rattle.policy_commands.specs.Policies.{read_or_told, policy_in, safe_or_told, judged, judged_or_told, safe_in, HasTextFault, IsUnsafeText}
 use Rattle.policy_commands.specs.Commands.{laid_or_told, fmt_end, safe_or_end, check_end}
 use Rattle.policy_commands.specs.Meanings.{IsSafeText, SafeMeans, UnsafeMeans, FaultMeans, FmtFaultMeans, FmtKeeps}
 
-status : Told → ℕ
+status : EndView → ℕ
 status t = t.status
 
 one_model : (p : Policy) → IsSafe p.triggers → HasOneModel p
@@ -54,8 +54,8 @@ module _ (text : List ℕ) where
     where
       by : (c : Option (List ℕ)) → the_cycle np.policy.triggers ≡ c → IsSafeText text
       by None c = let safe = (tells np.policy.triggers).1 c in record { policy = np; is = e; safe = safe; one = one_model np.policy safe }
-      by (Some es) c = let is : 0 ≡ 3 = sym (ap (λ (t : Told). t.status) h) ∙ ap (λ (t : Told). t.status) (check_read np (Some es) e c) in absurd (cc is)
-  to_safe h (Err f) e = let is : 0 ≡ 2 = sym (ap (λ (t : Told). t.status) h) ∙ ap (λ (t : Told). t.status) (check_is (Err f) e) in absurd (cc is)
+      by (Some es) c = let is : 0 ≡ 3 = sym (ap (λ (t : EndView). t.status) h) ∙ ap (λ (t : EndView). t.status) (check_read np (Some es) e c) in absurd (cc is)
+  to_safe h (Err f) e = let is : 0 ≡ 2 = sym (ap (λ (t : EndView). t.status) h) ∙ ap (λ (t : EndView). t.status) (check_is (Err f) e) in absurd (cc is)
 
   from_safe : IsSafeText text → check_end text ≡ told 0 (codes "safe\n")
   from_safe s = check_read s.policy None s.is ((tells s.policy.policy.triggers).0 s.safe)
@@ -64,34 +64,34 @@ module _ (text : List ℕ) where
   to_unsafe h (Ok np) e = by (the_cycle np.policy.triggers) refl
     where
       by : (c : Option (List ℕ)) → the_cycle np.policy.triggers ≡ c → IsUnsafeText text
-      by None c = let is : 0 ≡ 3 = sym (ap (λ (t : Told). t.status) (check_read np None e c)) ∙ h in absurd (cc is)
+      by None c = let is : 0 ≡ 3 = sym (ap (λ (t : EndView). t.status) (check_read np None e c)) ∙ h in absurd (cc is)
       by (Some es) c = record { policy = np; is = e; unsafe = λ safe. let is : Some es ≡ None = sym c ∙ (tells np.policy.triggers).0 safe in cc is }
-  to_unsafe h (Err f) e = let is : 2 ≡ 3 = sym (ap (λ (t : Told). t.status) (check_is (Err f) e)) ∙ h in absurd (cc is)
+  to_unsafe h (Err f) e = let is : 2 ≡ 3 = sym (ap (λ (t : EndView). t.status) (check_is (Err f) e)) ∙ h in absurd (cc is)
 
   from_unsafe : IsUnsafeText text → (check_end text).status ≡ 3
   from_unsafe u = by (the_cycle u.policy.policy.triggers) refl
     where
       by : (c : Option (List ℕ)) → the_cycle u.policy.policy.triggers ≡ c → (check_end text).status ≡ 3
       by None c = absurd (u.unsafe ((tells u.policy.policy.triggers).1 c))
-      by (Some es) c = ap (λ (t : Told). t.status) (check_read u.policy (Some es) u.is c)
+      by (Some es) c = ap (λ (t : EndView). t.status) (check_read u.policy (Some es) u.is c)
 
-  to_fault : (check_end text).status ≡ 2 → (r : Result NamedPolicy PolicyFault) → policy_read text ≡ r → HasFault text
+  to_fault : (check_end text).status ≡ 2 → (r : Result NamedPolicy PolicyFault) → policy_read text ≡ r → HasTextFault text
   to_fault h (Ok np) e = by (the_cycle np.policy.triggers) refl
     where
-      by : (c : Option (List ℕ)) → the_cycle np.policy.triggers ≡ c → HasFault text
-      by None c = let is : 0 ≡ 2 = sym (ap (λ (t : Told). t.status) (check_read np None e c)) ∙ h in absurd (cc is)
-      by (Some es) c = let is : 3 ≡ 2 = sym (ap (λ (t : Told). t.status) (check_read np (Some es) e c)) ∙ h in absurd (cc is)
+      by : (c : Option (List ℕ)) → the_cycle np.policy.triggers ≡ c → HasTextFault text
+      by None c = let is : 0 ≡ 2 = sym (ap (λ (t : EndView). t.status) (check_read np None e c)) ∙ h in absurd (cc is)
+      by (Some es) c = let is : 3 ≡ 2 = sym (ap (λ (t : EndView). t.status) (check_read np (Some es) e c)) ∙ h in absurd (cc is)
   to_fault h (Err f) e = record { fault = f; is = e }
 
-  from_fault : HasFault text → (check_end text).status ≡ 2
-  from_fault f = ap (λ (t : Told). t.status) (check_is (Err f.fault) f.is)
+  from_fault : HasTextFault text → (check_end text).status ≡ 2
+  from_fault f = ap (λ (t : EndView). t.status) (check_is (Err f.fault) f.is)
 
-  fmt_to_fault : (fmt_end text).status ≡ 2 → (r : Result NamedPolicy PolicyFault) → policy_read text ≡ r → HasFault text
-  fmt_to_fault h (Ok np) e = let is : 0 ≡ 2 = sym (ap (λ (t : Told). t.status) (fmt_is (Ok np) e)) ∙ h in absurd (cc is)
+  fmt_to_fault : (fmt_end text).status ≡ 2 → (r : Result NamedPolicy PolicyFault) → policy_read text ≡ r → HasTextFault text
+  fmt_to_fault h (Ok np) e = let is : 0 ≡ 2 = sym (ap (λ (t : EndView). t.status) (fmt_is (Ok np) e)) ∙ h in absurd (cc is)
   fmt_to_fault h (Err f) e = record { fault = f; is = e }
 
-  fmt_from_fault : HasFault text → (fmt_end text).status ≡ 2
-  fmt_from_fault f = ap (λ (t : Told). t.status) (fmt_is (Err f.fault) f.is)
+  fmt_from_fault : HasTextFault text → (fmt_end text).status ≡ 2
+  fmt_from_fault f = ap (λ (t : EndView). t.status) (fmt_is (Err f.fault) f.is)
 
 pub safe_means : SafeMeans
 safe_means text = (λ h. to_safe text h (policy_read text) refl, from_safe text)
@@ -129,7 +129,7 @@ in_range v n (l ∷ ls) = by (read_said v l) refl (in_range v (n + 1) ls) (λ s.
     by (Err t) e same later = tt
 
 module _ (text : List ℕ) (np : NamedPolicy) where
-  of_built : (ss : List (Numbered SaidView)) → InRange ss → (r : Result NamedPolicy BookTrouble) → build ss ≡ r → built (names_of (said_in ss)) r ≡ Ok np → IsWellFormed np
+  of_built : (ss : List (Numbered SaidView)) → InRange ss → (r : Result NamedPolicy LinesFault) → build ss ≡ r → built (names_of (said_in ss)) r ≡ Ok np → IsWellFormed np
   of_built ss all (Ok q) b e =
       build_is_well_formed ss np (All-from_recursion (λ s. IsTrue (is_saying s.it)) ss all) (b ∙ ap (λ (x : Result NamedPolicy PolicyFault). elim x [ Ok p ↦ Ok p | Err f ↦ Ok q ]) e)
   of_built ss all (Err t) b e = absurd (cc e)
@@ -146,7 +146,7 @@ fmt_keeps text out h short = by (policy_read text) refl
   where
     by : (r : Result NamedPolicy PolicyFault) → policy_read text ≡ r → (policy_read out ≡ policy_read text) × (fmt_end out ≡ told 0 out)
     by (Ok np) e =
-        let same : canonical_text np ≡ out = ap (λ (t : Told). t.text) (sym (fmt_is text (Ok np) e) ∙ h) in
+        let same : canonical_text np ≡ out = ap (λ (t : EndView). t.text) (sym (fmt_is text (Ok np) e) ∙ h) in
         let read : policy_read out ≡ Ok np = subst (λ (t : List ℕ). policy_read t ≡ Ok np) same (canonical_is_read np (well_formed text np e) (subst (λ (t : List ℕ). All (λ line. length line ≤ 4_096) (lines_of t)) (sym same) short)) in
         (read ∙ sym e, fmt_is out (Ok np) read ∙ ap (λ (t : List ℕ). told 0 t) same)
-    by (Err f) e = let is : 2 ≡ 0 = ap (λ (t : Told). t.status) (sym (fmt_is text (Err f) e) ∙ h) in absurd (cc is)
+    by (Err f) e = let is : 2 ≡ 0 = ap (λ (t : EndView). t.status) (sym (fmt_is text (Err f) e) ∙ h) in absurd (cc is)

@@ -8,8 +8,8 @@ use Rattle.policy_text.specs.Texts.{IsToldFault}
 use Rattle.policy_commands.specs.declared.ends.End.{End}
 use Rattle.policy_commands.specs.declared.judging.Admitted.{Admitted}
 use Rattle.policy_commands.specs.declared.judging.Admitted.TheVariants.{Safe, Ended}
-use Rattle.policy_commands.specs.Ends.{Told, told, seen_end}
-use Rattle.policy_commands.specs.Policies.{read_or_told, policy_in, judged, safe_or_told, judged_or_told, safe_in, HasFault, IsUnsafeText}
+use Rattle.policy_commands.specs.Ends.{EndView, told, seen_end}
+use Rattle.policy_commands.specs.Policies.{read_or_told, policy_in, judged, safe_or_told, judged_or_told, safe_in, HasTextFault, IsUnsafeText}
 use Rattle.policy_commands.specs.Commands.{laid_or_told, fmt_end, safe_or_end, check_end, IsLaid}
 use Rattle.policy_commands.specs.Admitting.{IsJudged, IsEnded, IsAdmitted}
 
@@ -22,7 +22,7 @@ module _ (text : List ℕ) where
   unfolding policy_in
   in_faulty t f = ap read_or_told f.is ∙ ap (λ (s : List ℕ). Err (told 2 s)) (sym f.told_so)
 
-  pub has_fault : (t : List ℕ) → IsToldFault text t → HasFault text
+  pub has_fault : (t : List ℕ) → IsToldFault text t → HasTextFault text
   has_fault t f = record { fault = f.fault; is = f.is }
 
   laid_is : (np : NamedPolicy) (end : End) → policy_read text ≡ Ok np → IsLaid np end → seen_end end ≡ fmt_end text
@@ -38,7 +38,7 @@ module _ (text : List ℕ) where
     laid_status (Ok end) h = inl h.zero
     laid_status (Err e) h = tt
 
-    pub laid_fault : (r : Result End E) → IfOk r (IsLaid np) → IfOk r (λ end. end.status ≡ 2 → HasFault text)
+    pub laid_fault : (r : Result End E) → IfOk r (IsLaid np) → IfOk r (λ end. end.status ≡ 2 → HasTextFault text)
     laid_fault (Ok end) h = λ two. absurd (zero_two h.zero two)
       where
         zero_two : {n : ℕ} → n ≡ 0 → n ≡ 2 → ⊥
@@ -81,7 +81,7 @@ module _ (text : List ℕ) where
   unfolding check_end
   check_ended end e = ap safe_or_end (sym e.told)
 
-  pub fault_of : (end : End) → IsEnded text end → end.status ≡ 2 → HasFault text
+  pub fault_of : (end : End) → IsEnded text end → end.status ≡ 2 → HasTextFault text
   fault_of end e two = elim e.cause [ inl h ↦ h.1 | inr h ↦ absurd (three_two h.0 two) ]
     where
       three_two : {n : ℕ} → n ≡ 3 → n ≡ 2 → ⊥
@@ -95,8 +95,8 @@ module _ (text : List ℕ) where
 
 -- a safe policy of a text is the policy of the text
 module _ (text : List ℕ) (np : NamedPolicy) where
-  same : (q : NamedPolicy) → ◌≡◌ {A = Result NamedPolicy Told} (Ok q) (Ok np) → ◌≡◌ {A = Result NamedPolicy PolicyFault} (Ok q) (Ok np)
-  same q e = ap (λ (x : Result NamedPolicy Told). elim x [ Ok p ↦ Ok p | Err f ↦ Ok q ]) e
+  same : (q : NamedPolicy) → ◌≡◌ {A = Result NamedPolicy EndView} (Ok q) (Ok np) → ◌≡◌ {A = Result NamedPolicy PolicyFault} (Ok q) (Ok np)
+  same q e = ap (λ (x : Result NamedPolicy EndView). elim x [ Ok p ↦ Ok p | Err f ↦ Ok q ]) e
 
   of_cycle : (q : NamedPolicy) (c : Option (List ℕ)) → safe_or_told q c ≡ Ok np → ◌≡◌ {A = Result NamedPolicy PolicyFault} (Ok q) (Ok np)
   of_cycle q None e = same q e

@@ -18,7 +18,7 @@ use Rattle.policy_words.specs.Spelling.{IsSaid, BeginsWith}
 use Rattle.policy_words.specs.Reading.{Numbered, read_said, and_then, read_lines}
 use Rattle.policy_words.specs.Naming.{Names, NamedPolicy}
 use Rattle.policy_words.specs.Making.{no_names, names_of, fresh, named_policy, period_said}
-use Rattle.policy_words.specs.Book.{BookTrouble, said_in, build}
+use Rattle.policy_words.specs.LinesTogether.{LinesFault, said_in, build}
 use Rattle.policy_words.specs.Canonical.{canonical_lines, canonical_text}
 use Rattle.policy_words.specs.PolicyRead.{PolicyFault, built, by_lines, policy_read}
 use Rattle.policy_words.specs.Valid.{IsWellFormed}
@@ -36,7 +36,7 @@ use Rattle.text_laws.specs.Lengths.{is_period_line}
 use Rattle.text_laws.proofs.Others.{others_short}
 use Rattle.text_laws.proofs.Periods.{periods_short}
 use Rattle.policy_commands.specs.Meanings.{CanonicalLinesFit, FmtKeepsBrief}
-use Rattle.policy_commands.specs.Ends.{Told}
+use Rattle.policy_commands.specs.Ends.{EndView}
 use Rattle.policy_commands.proofs.Answered.{well_formed, fmt_is, fmt_keeps}
 
 -- the sayings of period lines are told by the names and the periods of the policy that they make
@@ -172,7 +172,7 @@ module _ (text : List ℕ) (np : NamedPolicy) (well : IsWellFormed np) where
       let lines = All-from_recursion (λ (l : List ℕ). length l ≤ 4_096) (map line_of xs) (all_fit xs sayings short) in
       subst (λ (ls : List (List ℕ)). All (λ line. length line ≤ 4_096) ls) (sym (cut_lines (map line_of xs) (feedless xs sayings))) lines
 
-  of_built_sayings : (ss : List (Numbered SaidView)) → AllFit ss → (r : Result NamedPolicy BookTrouble) → build ss ≡ r → built (names_of (said_in ss)) r ≡ Ok np
+  of_built_sayings : (ss : List (Numbered SaidView)) → AllFit ss → (r : Result NamedPolicy LinesFault) → build ss ≡ r → built (names_of (said_in ss)) r ≡ Ok np
       → All (λ line. length line ≤ 4_096) (lines_of (canonical_text np))
   of_built_sayings ss fit (Ok q) b e =
       of_sayings ss fit (b ∙ ap (λ (x : Result NamedPolicy PolicyFault). elim x [ Ok p ↦ Ok p | Err f ↦ Ok q ]) e)
@@ -191,6 +191,6 @@ fmt_keeps_brief text out h brief = fmt_keeps text out h (by (policy_read text) r
   where
     by : (r : Result NamedPolicy PolicyFault) → policy_read text ≡ r → All (λ line. length line ≤ 4_096) (lines_of out)
     by (Ok np) e =
-        let same : canonical_text np ≡ out = ap (λ (t : Told). t.text) (sym (fmt_is text (Ok np) e) ∙ h) in
+        let same : canonical_text np ≡ out = ap (λ (t : EndView). t.text) (sym (fmt_is text (Ok np) e) ∙ h) in
         subst (λ (t : List ℕ). All (λ line. length line ≤ 4_096) (lines_of t)) same (canonical_lines_fit text np e brief)
-    by (Err f) e = let is : 2 ≡ 0 = ap (λ (t : Told). t.status) (sym (fmt_is text (Err f) e) ∙ h) in absurd (cc is)
+    by (Err f) e = let is : 2 ≡ 0 = ap (λ (t : EndView). t.status) (sym (fmt_is text (Err f) e) ∙ h) in absurd (cc is)

@@ -2,12 +2,12 @@
 use Rattle.std.specs.Prelude.{ℕ, List}
 use Rattle.policy_commands.specs.declared.ends.End.{End}
 
-pub record Told : Type 0 where
+pub record EndView : Type 0 where
   pub status : ℕ
   pub text : List ℕ
 
-abbrev pub told : ℕ → List ℕ → Told
+abbrev pub told : ℕ → List ℕ → EndView
 told s t = record { status = s; text = t }
 
-abbrev pub seen_end : End → Told
+abbrev pub seen_end : End → EndView
 seen_end e = told e.status e.text.items

@@ -3,29 +3,27 @@ use Rattle.std.specs.Prelude.{◌≡◌, ◌⊎◌, ◌<◌, ◌≤◌, ℕ, ⊤
 use Rattle.std.specs.declared.option.Option.{Option}
 use Rattle.gt_io.specs.Causes.{Rose}
 use Rattle.gt_io.specs.Shelf.{Contents, Lacks}
-use Rattle.policy_commands.specs.Ends.{Told, told, seen_end}
+use Rattle.policy_commands.specs.Ends.{EndView, told, seen_end}
 use Rattle.policy_commands.specs.declared.finding.Found.{Found}
 use Rattle.policy_commands.specs.declared.finding.Found.TheVariants.{Text, Ended}
+use Rattle.policy_commands.specs.declared.finding.TheConstants.{MAX_POLICY}
 
-abbrev pub read_fault : Told
+abbrev pub read_fault : EndView
 read_fault = told 4 (codes "read fault\n")
 
-abbrev pub too_long : List ℕ → Told
+abbrev pub too_long : List ℕ → EndView
 too_long what = told 6 (codes "too long: " ++ what ++ codes "\n")
 
-abbrev pub max_policy : ℕ
-max_policy = 4_194_304
-
 abbrev pub IsLongPolicy : List ℕ → Type 0
-IsLongPolicy text = max_policy < length text
+IsLongPolicy text = MAX_POLICY < length text
 
 -- the text of the name, where the shelf tells it, which is not too long
-pub record IsPolicyText (contents : Contents) (name text : List ℕ) : Type 0 where
+pub record IsStoredText (contents : Contents) (name text : List ℕ) : Type 0 where
   pub found : IfSome contents (λ text_of. text_of name ≡ Some text)
-  pub short : length text ≤ max_policy
+  pub short : length text ≤ MAX_POLICY
 
 -- the shelf failed or has no such text, or the text is too long, and this is told
-abbrev pub MissesText : Type 0 → Contents → List ℕ → Told → Type 0
+abbrev pub MissesText : Type 0 → Contents → List ℕ → EndView → Type 0
 MissesText hard contents name t =
     ((t ≡ read_fault) × (hard ⊎ Lacks contents name))
     ⊎ ((t ≡ too_long (codes "policy"))
@@ -33,7 +31,7 @@ MissesText hard contents name t =
 
 -- what is found by a name; `hard` says that the shelf failed
 abbrev pub IsFoundText : Type 0 → Contents → List ℕ → Found → Type 0
-IsFoundText hard contents name (Text text) = IsPolicyText contents name text.items
+IsFoundText hard contents name (Text text) = IsStoredText contents name text.items
 IsFoundText hard contents name (Ended end) = MissesText hard contents name (seen_end end)
 
 -- what was found ends with 4 only where this holds

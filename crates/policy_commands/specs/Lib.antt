@@ -5,4 +5,3 @@ pub mod Policies
 pub mod Commands
 pub mod Admitting
 pub mod Meanings
-pub mod Unsafety

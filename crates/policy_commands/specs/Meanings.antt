@@ -8,7 +8,7 @@ use Rattle.policy_words.specs.Naming.{NamedPolicy}
 use Rattle.policy_words.specs.PolicyRead.{policy_read}
 use Rattle.policy_words.specs.Spelling.{BeginsWith}
 use Rattle.policy_commands.specs.Ends.{told}
-use Rattle.policy_commands.specs.Policies.{HasFault, IsUnsafeText}
+use Rattle.policy_commands.specs.Policies.{HasTextFault, IsUnsafeText}
 use Rattle.policy_commands.specs.Commands.{fmt_end, check_end}
 
 -- the text is of a policy that is safe, and so has exactly one execution model
@@ -25,10 +25,10 @@ abbrev pub UnsafeMeans : Type 0
 UnsafeMeans = (text : List ℕ) → ((check_end text).status ≡ 3) ↔ IsUnsafeText text
 
 abbrev pub FaultMeans : Type 0
-FaultMeans = (text : List ℕ) → ((check_end text).status ≡ 2) ↔ HasFault text
+FaultMeans = (text : List ℕ) → ((check_end text).status ≡ 2) ↔ HasTextFault text
 
 abbrev pub FmtFaultMeans : Type 0
-FmtFaultMeans = (text : List ℕ) → ((fmt_end text).status ≡ 2) ↔ HasFault text
+FmtFaultMeans = (text : List ℕ) → ((fmt_end text).status ≡ 2) ↔ HasTextFault text
 
 -- what was written stands for the same policy and is written again
 abbrev pub FmtKeeps : Type 0

@@ -3,34 +3,34 @@ use Rattle.std.specs.Prelude.{◌≡◌, ℕ, List, Option, Some, None, Result, 
 use Rattle.gtrbac_model.specs.Safety.{the_cycle, IsSafe}
 use Rattle.policy_words.specs.Naming.{NamedPolicy}
 use Rattle.policy_words.specs.PolicyRead.{PolicyFault, policy_read, fault_text, unsafe_text}
-use Rattle.policy_commands.specs.Ends.{Told, told}
+use Rattle.policy_commands.specs.Ends.{EndView, told}
 
-abbrev pub read_or_told : Result NamedPolicy PolicyFault → Result NamedPolicy Told
+abbrev pub read_or_told : Result NamedPolicy PolicyFault → Result NamedPolicy EndView
 read_or_told (Ok np) = Ok np
 read_or_told (Err f) = Err (told 2 (fault_text f))
 
 -- the policy, or its fault with status 2
-unfoldable pub policy_in : List ℕ → Result NamedPolicy Told
+unfoldable pub policy_in : List ℕ → Result NamedPolicy EndView
 policy_in text = read_or_told (policy_read text)
 
-abbrev pub safe_or_told : NamedPolicy → Option (List ℕ) → Result NamedPolicy Told
+abbrev pub safe_or_told : NamedPolicy → Option (List ℕ) → Result NamedPolicy EndView
 safe_or_told np None = Ok np
 safe_or_told np (Some edges) = Err (told 3 (unsafe_text np edges))
 
 -- the policy where it is safe, or its least conflict cycle with status 3
-unfoldable pub judged : NamedPolicy → Result NamedPolicy Told
+unfoldable pub judged : NamedPolicy → Result NamedPolicy EndView
 judged np = safe_or_told np (the_cycle np.policy.triggers)
 
-abbrev pub judged_or_told : Result NamedPolicy Told → Result NamedPolicy Told
+abbrev pub judged_or_told : Result NamedPolicy EndView → Result NamedPolicy EndView
 judged_or_told (Ok np) = judged np
 judged_or_told (Err t) = Err t
 
 -- the safe policy of a text, or else the end: a fault first, then the cycle
-unfoldable pub safe_in : List ℕ → Result NamedPolicy Told
+unfoldable pub safe_in : List ℕ → Result NamedPolicy EndView
 safe_in text = judged_or_told (policy_in text)
 
 -- the text has a fault
-pub record HasFault (text : List ℕ) : Type 0 where
+pub record HasTextFault (text : List ℕ) : Type 0 where
   pub fault : PolicyFault
   pub is : policy_read text ≡ Err fault
 

@@ -2,15 +2,16 @@
 ghost use Rattle.std.specs.Prelude.{◌≡◌, ◌++◌, ◌+◌, if◌then◌else◌, [], ◌∷◌, codes, decimal, flat_map, OnOk};
 ghost use Rattle.gt_text.specs.Words.{spaced};
 ghost use Rattle.policy_words.specs.Wording.{event_verb};
+ghost use Rattle.policy_words.specs.Sorts.{fluent_sort};
 ghost use Rattle.policy_words.specs.Naming.{role_name, user_name, perm_name, limit_name, pair_at};
 ghost use Rattle.policy_words.specs.PolicyRead.{event_text, conflict_word, edge_text};
 ghost use Rattle.policy_safety.specs.Cycles.{seen_edge};
-ghost use Rattle.policy_commands.specs.Unsafety.{sort_of};
 
 use gt_base::{Event, Fluent, LimitId, Memory, PermId, RoleId, UserId};
 use gt_text::push_number;
 use policy_book::Policy;
 use policy_safety::CycleEdge;
+use policy_words::Sort;
 
 fn push_role(text: &mut Vec<u8>, p: &Policy, r: RoleId) -> Result<(), Memory>
     ensures { OnOk result (text.new.items ≡ text.old.items ++ role_name p.now.names r) }
@@ -60,25 +61,14 @@ fn push_end(text: &mut Vec<u8>, p: &Policy, n: u32, senior: bool) -> Result<(), 
     Ok(())
 }
 
-/// The verb that sets a fluent on or off.
-fn verb(on: bool, fluent: Fluent) -> &'static [u8]
-    ensures { result.now ≡ event_verb on (sort_of fluent) }
+/// The verb of an event.
+fn verb(e: Event) -> &'static [u8]
+    ensures { result.now ≡ event_verb e.on (fluent_sort e.fluent) }
 {
-    match (fluent, on) {
-        (Fluent::Enabled(_), true) => b"enable",
-        (Fluent::Enabled(_), false) => b"disable",
-        (Fluent::Assigned(_, _), true) => b"assign",
-        (Fluent::Assigned(_, _), false) => b"deassign",
-        (Fluent::Granted(_, _), true) => b"grant",
-        (Fluent::Granted(_, _), false) => b"revoke",
-        (Fluent::Limit(_), true) => b"arm",
-        (Fluent::Limit(_), false) => b"disarm",
-        (Fluent::Edge(_), true) => b"link",
-        (Fluent::Edge(_), false) => b"unlink",
-    }
+    policy_lines::event_text(e.on, Sort::of(e.fluent))
 }
 
-/// A verb with a role.
+/// Writes the verb of an event of roles and, behind a space, the name of its role.
 fn push_of_role(text: &mut Vec<u8>, p: &Policy, verb: &[u8], r: RoleId) -> Result<(), Memory>
     ensures { OnOk result (text.new.items ≡ text.old.items
         ++ spaced (verb.now ∷ role_name p.now.names r ∷ [])) }
@@ -150,7 +140,7 @@ fn push_of_edge(text: &mut Vec<u8>, p: &Policy, verb: &[u8], n: u32) -> Result<(
 fn push_event(text: &mut Vec<u8>, p: &Policy, e: Event) -> Result<(), Memory>
     ensures { OnOk result (text.new.items ≡ text.old.items ++ event_text p.now.names e) }
 {
-    let verb = verb(e.on, e.fluent);
+    let verb = verb(e);
     match e.fluent {
         Fluent::Enabled(r) => push_of_role(text, p, verb, r),
         Fluent::Assigned(u, r) => push_of_user(text, p, verb, u, r),

@@ -10,7 +10,7 @@ use gt_io::{ReadFault, Shelf, find_all};
 use std::alloc::{AllocError, Global};
 
 /// The most bytes of a policy.
-const MAX_POLICY: usize = 4_194_304;
+pub const MAX_POLICY: usize = 4_194_304;
 
 /// Whether a word begins with `-`, and so is no name of a policy.
 pub fn is_dashed(name: &str) -> bool
@@ -34,11 +34,13 @@ pub enum Found {
 /// bytes. Only want of memory is free.
 pub fn find_text<S: Shelf>(alloc: Global, shelf: &mut S, name: &str) -> Result<Found, Memory>
     ensures found { IfOk result
-        (IsFoundText (Rose (S.hard_faults shelf.old) (S.hard_faults shelf.new))
-        (S.contents shelf.old) name.now) }
-    ensures failed { IfOk result (IsFailure (Rose (S.faults shelf.old) (S.faults shelf.new))) }
-    ensures steady { IfOk result (IsSteady (S.hard_faults shelf.new ≡ S.hard_faults shelf.old)) }
-    ensures same { S.contents shelf.new ≡ S.contents shelf.old }
+        (IsFoundText (Rose (S.stock shelf.old).hard_faults (S.stock shelf.new).hard_faults)
+        (S.stock shelf.old).contents name.now) }
+    ensures failed { IfOk result (IsFailure (Rose (S.stock shelf.old).faults
+        (S.stock shelf.new).faults)) }
+    ensures steady { IfOk result (IsSteady ((S.stock shelf.new).hard_faults
+        ≡ (S.stock shelf.old).hard_faults)) }
+    ensures same { (S.stock shelf.new).contents ≡ (S.stock shelf.old).contents }
 {
     match find_all(alloc, shelf, name, MAX_POLICY) {
         Ok(text) => Ok(Found::Text(text)),

@@ -2,7 +2,7 @@
 ghost use Rattle.std.specs.Prelude.{◌≡◌, ◌<◌, ◌^◌, ◌⊎◌, length, codes, IfOk};
 ghost use Rattle.policy_safety.specs.Cycles.{IsCycleOf};
 ghost use Rattle.policy_commands.specs.Ends.{seen_end, told};
-ghost use Rattle.policy_commands.specs.Policies.{HasFault, IsUnsafeText};
+ghost use Rattle.policy_commands.specs.Policies.{HasTextFault, IsUnsafeText};
 ghost use Rattle.policy_commands.specs.Commands.{check_end};
 ghost use Rattle.policy_commands.specs.Admitting.{IsAdmitted, IsJudged, IsUnsafeEnd};
 
@@ -80,7 +80,7 @@ pub fn check(alloc: Global, text: &[u8]) -> Result<End, Memory>
     requires { length text.now < 2 ^ 32 }
     ensures end { IfOk result (λ end. seen_end end ≡ check_end text.now) }
     ensures status { IfOk result (λ end. (end.status ≡ 0) ⊎ (end.status ≡ 2) ⊎ (end.status ≡ 3)) }
-    ensures fault { IfOk result (λ end. end.status ≡ 2 → HasFault text.now) }
+    ensures fault { IfOk result (λ end. end.status ≡ 2 → HasTextFault text.now) }
     ensures cycle { IfOk result (λ end. end.status ≡ 3 → IsUnsafeText text.now) }
 {
     match admit(alloc, text)? {

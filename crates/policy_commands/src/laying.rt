@@ -1,7 +1,7 @@
 //! A policy in its canonical form.
 ghost use Rattle.std.specs.Prelude.{◌≡◌, ◌<◌, ◌^◌, ◌⊎◌, length, IfOk};
 ghost use Rattle.policy_commands.specs.Ends.{seen_end};
-ghost use Rattle.policy_commands.specs.Policies.{HasFault};
+ghost use Rattle.policy_commands.specs.Policies.{HasTextFault};
 ghost use Rattle.policy_commands.specs.Commands.{fmt_end, IsLaid};
 
 use crate::ends::End;
@@ -27,7 +27,7 @@ pub fn lay_out(alloc: Global, text: &[u8]) -> Result<End, Memory>
     requires { length text.now < 2 ^ 32 }
     ensures end { IfOk result (λ end. seen_end end ≡ fmt_end text.now) }
     ensures status { IfOk result (λ end. (end.status ≡ 0) ⊎ (end.status ≡ 2)) }
-    ensures fault { IfOk result (λ end. end.status ≡ 2 → HasFault text.now) }
+    ensures fault { IfOk result (λ end. end.status ≡ 2 → HasTextFault text.now) }
 {
     match policy_of(alloc, text)? {
         PolicyText::Policy(policy) => laid(alloc, &policy),

@@ -6,8 +6,9 @@ use gt_io::{Sink, write_all};
 
 /// Prints a text and answers the status; an output that fails has status 5.
 pub fn print<K: Sink>(out: &mut K, status: u8, text: &[u8]) -> u8
-    ensures { IsPrinted result (told status text.now) (K.written out.old) (K.written out.new)
-        (K.faults out.old) (K.faults out.new) }
+    ensures { IsPrinted result (told status text.now) (K.output out.old).written
+        (K.output out.new).written
+        (K.output out.old).faults (K.output out.new).faults }
 {
     match write_all(out, text) {
         Ok(()) => status,

@@ -4,9 +4,10 @@ use Rattle.std.specs.Prelude.{Bool, true, false, nat_eq, decimal, if◌then◌el
 use Rattle.std.specs.List.{range_with_len}
 use Rattle.std.proofs.lemmas.Fmt.{length-decimal-le}
 use Rattle.gt_text.specs.Words.{as_text}
-use Rattle.policy_gen.specs.Draws.{draw, first_minute, Round, round, minute_after}
+use Rattle.policy_gen.specs.Draws.{draw, Round, round, minute_after}
 use Rattle.policy_gen.specs.Texts.{count_of, one, two, for_each, all_for_each, name_lines, edge_lines, holding_lines, chain, policy_lines, opening, request_line, time_line, round_lines, script_lines, policy_text, script_text}
 use Rattle.policy_gen.proofs.Growing.{parts}
+use Rattle.policy_gen.specs.declared.scripts.TheConstants.{FIRST_MINUTE}
 
 digits : (i : ℕ) → i < 1_000 → length (decimal i) ≤ 3
 digits i lt = length-decimal-le 3 i (omega arith) lt (omega arith)
@@ -137,7 +138,7 @@ module _ (seed k : ℕ) (low : 1 ≤ k) (le : k ≤ 200) where
 
   pub script_short : (rounds : ℕ) → rounds ≤ 100_000 → length (as_text (script_lines seed k rounds)) < 5_000_000
   script_short rounds many =
-      let first = time_line first_minute in
+      let first = time_line FIRST_MINUTE in
       let opened = all_for_each opening k in
       let played = flat_map (round_lines seed k) (range_with_len 0 rounds) in
       let split : length (as_text (script_lines seed k rounds)) ≡ length (as_text (first ∷ opened)) + length (as_text played) = both_length (first ∷ opened) played in
@@ -145,7 +146,7 @@ module _ (seed k : ℕ) (low : 1 ≤ k) (le : k ≤ 200) where
         arith,
         split,
         line_length first opened,
-        time_short first_minute,
+        time_short FIRST_MINUTE,
         all_short opening 13 1 k (opening_short k le),
         all_short (round_lines seed k) 47 0 rounds (λ i lt. round_short i (omega (arith, lt, many))),
       )

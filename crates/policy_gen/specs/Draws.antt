@@ -1,5 +1,6 @@
 -- The numbers that a seed draws, and the rounds that they make.
 use Rattle.std.specs.Prelude.{ℕ, zero, suc, ◌+◌, ◌*◌, ◌%◌}
+use Rattle.policy_gen.specs.declared.scripts.TheConstants.{FIRST_MINUTE}
 
 -- the number that is drawn after x
 abbrev pub drawn_after : ℕ → ℕ
@@ -9,10 +10,6 @@ drawn_after x = (75 * x + 74) % 65_537
 abbrev pub draw : ℕ → ℕ → ℕ
 draw seed zero = seed % 65_537
 draw seed (suc n) = drawn_after (draw seed n)
-
--- the first minute of a script: 2026-01-05T08:00
-abbrev pub first_minute : ℕ
-first_minute = 13_681_920
 
 -- what a round does: how many minutes time goes on, a user with its session, a second number, and
 -- the choice of a request
@@ -34,5 +31,5 @@ module _ (seed k : ℕ) where
 
   -- the minute behind n rounds
   abbrev pub minute_after : ℕ → ℕ
-  minute_after zero = first_minute
+  minute_after zero = FIRST_MINUTE
   minute_after (suc n) = minute_after n + (round n).minutes

@@ -3,7 +3,8 @@ use Rattle.std.specs.Prelude.{ℕ, ◌+◌, ◌-◌, min, List, [], ◌∷◌, �
 use Rattle.std.specs.List.{range_with_len}
 use Rattle.gt_text.specs.Words.{as_text}
 use Rattle.civil_time.specs.Text.{civil_text}
-use Rattle.policy_gen.specs.Draws.{first_minute, Round, round, minute_after}
+use Rattle.policy_gen.specs.Draws.{Round, round, minute_after}
+use Rattle.policy_gen.specs.declared.scripts.TheConstants.{FIRST_MINUTE}
 
 -- how many roles, users and permissions there are, and sessions that the script opens
 abbrev pub count_of : ℕ → ℕ
@@ -73,7 +74,7 @@ module _ (seed k : ℕ) where
 
   -- the script of a number of rounds
   abbrev pub script_lines : ℕ → List (List ℕ)
-  script_lines rounds = time_line first_minute ∷ all_for_each opening k
+  script_lines rounds = time_line FIRST_MINUTE ∷ all_for_each opening k
       ++ flat_map round_lines (range_with_len 0 rounds)
 
 unfoldable pub policy_text : ℕ → List ℕ

@@ -7,6 +7,7 @@ mod policies;
 mod scripts;
 
 pub use made::{Made, make};
+pub use scripts::FIRST_MINUTE;
 
 #[cfg(test)]
 mod tests;

@@ -1,10 +1,10 @@
 //! The text of the made script, by the numbers that are drawn.
 ghost use Rattle.std.specs.Prelude.{◌≡◌, ◌≤◌, ◌<◌, ◌+◌, ◌*◌, ◌++◌, ◌∷◌, [], codes, flat_map, OnOk};
-ghost use Rattle.gt_base.specs.Bounds.{last_minute};
 ghost use Rattle.gt_text.specs.Words.{as_text};
 ghost use Rattle.policy_gen.specs.Draws.{draw};
 ghost use Rattle.policy_gen.specs.Texts.{one, opening, all_for_each, request_line, time_line, round_lines, script_lines};
 ghost use Rattle.std.specs.List.{range_with_len};
+ghost use Rattle.gt_base.specs.declared.limits.TheConstants.{LAST_MINUTE};
 ghost use Rattle.policy_gen.specs.Steps.{round_from, four_after, lines_at, seen_round};
 
 use crate::draws::Draws;
@@ -13,7 +13,7 @@ use civil_time::write_civil;
 use gt_base::{Instant, Memory};
 
 /// 2026-01-05T08:00, the minute of the script's first line.
-const FIRST_MINUTE: u32 = 13_681_920;
+pub const FIRST_MINUTE: u32 = 13_681_920;
 
 /// What a round does: how many minutes time goes on, the user with its session, a second number,
 /// and the choice of a request.
@@ -46,7 +46,7 @@ fn next_round(draws: &mut Draws, k: u32) -> Round
 
 /// Adds the line of a minute.
 fn push_time(text: &mut Vec<u8>, minute: u32) -> Result<(), Memory>
-    requires { minute ≤ last_minute }
+    requires { minute ≤ LAST_MINUTE }
     ensures { OnOk result (text.new.items ≡ text.old.items ++ (time_line minute ++ 10 ∷ [])) }
 {
     let time = write_civil(Instant::new(minute).unwrap());
@@ -78,7 +78,7 @@ fn push_request(text: &mut Vec<u8>, round: Round) -> Result<(), Memory>
 
 /// Adds the lines of a round that is played at the minute.
 fn push_round(text: &mut Vec<u8>, minute: u32, round: Round) -> Result<(), Memory>
-    requires { minute ≤ last_minute }
+    requires { minute ≤ LAST_MINUTE }
     ensures { OnOk result (text.new.items ≡ text.old.items
         ++ as_text (lines_at minute (seen_round round))) }
 {

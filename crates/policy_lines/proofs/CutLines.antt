@@ -9,8 +9,8 @@ use Rattle.std.proofs.lemmas.Bool.Decides.{Decides-eqb}
 use borrow.Author.Tests.{leb-true}
 use Rattle.gt_text.specs.Lines.{lines_of, is_feed, but_empty_last}
 use Rattle.gt_text.specs.Words.{spaced, as_text}
-use Rattle.gt_base.specs.Bounds.{last_minute}
 use Rattle.gt_base.specs.Names.{is_name}
+use Rattle.gt_base.specs.declared.limits.TheConstants.{LAST_MINUTE}
 use Rattle.gtrbac_model.specs.Valid.{is_expr}
 use Rattle.policy_words.specs.Sayings.{SaidView, version, role, user, perm, period, limit, edge, cap, admin, opening, entry, trigger, said_words, is_formed, is_bounded, is_bodied, is_saying}
 use Rattle.policy_lines.specs.Laws.{has_no_feed}
@@ -58,9 +58,9 @@ plain_said (role n) h = plain_spaced (said_words (role n)) (words_plain (said_wo
 plain_said (user n) h = plain_spaced (said_words (user n)) (words_plain (said_words (user n)) (solid_words (user n) h refl))
 plain_said (perm n) h = plain_spaced (said_words (perm n)) (words_plain (said_words (perm n)) (solid_words (perm n) h refl))
 plain_said (period n f l e) h =
-    let h3 = both (is_name n && nat_le f last_minute && nat_le l last_minute) (is_expr e) h in
-    let h2 = both (is_name n && nat_le f last_minute) (nat_le l last_minute) h3.0 in
-    plain_line n f l e (both (is_name n) (nat_le f last_minute) h2.0).0 h3.1
+    let h3 = both (is_name n && nat_le f LAST_MINUTE && nat_le l LAST_MINUTE) (is_expr e) h in
+    let h2 = both (is_name n && nat_le f LAST_MINUTE) (nat_le l LAST_MINUTE) h3.0 in
+    plain_line n f l e (both (is_name n) (nat_le f LAST_MINUTE) h2.0).0 h3.1
 plain_said (limit n prio c most during) h =
     plain_spaced (said_words (limit n prio c most during)) (words_plain (said_words (limit n prio c most during)) (solid_words (limit n prio c most during) h refl))
 plain_said (edge kind strong s j) h = plain_spaced (said_words (edge kind strong s j)) (words_plain (said_words (edge kind strong s j)) (solid_words (edge kind strong s j) h refl))

@@ -15,15 +15,15 @@ use Rattle.gt_base.specs.declared.policies.Form.{Form}
 use Rattle.policy_words.specs.declared.parts.NamedCond.{NamedCond}
 use Rattle.policy_words.specs.declared.parts.NamedHead.{NamedHead}
 use Rattle.policy_words.specs.declared.sayings.EdgeKind.TheVariants.{I, A, Ia}
-use Rattle.policy_words.specs.declared.sayings.CapKind.{CapKind}
-use Rattle.policy_words.specs.declared.sayings.CapKind.TheVariants as caps
 use Rattle.policy_words.specs.declared.parts.Sort.{Sort}
 use Rattle.policy_words.specs.declared.parts.Sort.TheVariants.{Enabling, Assigning, Granting, Arming, Linking}
 use Rattle.policy_words.specs.Wording.{◌>>=◌, event_verb, cond_verb, at_end, sort_of, fluent_names, cond_words, head_words, cond_at, head_at, event_at, is_colon}
 use Rattle.policy_words.specs.Sayings.{SaidView, version, limit, opening, entry, said_words, during_words, kind_word, strength_word, cap_word, is_formed, are_names, is_count, is_period_name, is_head}
+use Rattle.policy_words.specs.CapKinds.{cap_kinds}
 use Rattle.policy_words.specs.Reading.{one_name, most_at, during_in, limit_in, spelled_so, edge_in, cap_in, opening_by, entry_in, version_in}
-use Rattle.policy_lines.proofs.Truths.{and_true, some_is, none_some, where_true, chosen}
-use Rattle.policy_lines.proofs.Numbers.{number_from_is}
+use Rattle.policy_lines.proofs.Truths.{and_true, some_is, none_some, taken, chosen, where_true}
+use Rattle.policy_lines.proofs.ItemVerbs.{found_passes}
+use Rattle.gt_text.proofs.Decimals.{number_from_is}
 use Rattle.policy_lines.proofs.FrontWords.{event_at_is, cond_at_is}
 
 -- a step that came to something
@@ -37,7 +37,11 @@ came None f b e = absurd (none_some e)
 came (Some a) f b e = record { it = a; was = refl; then = e }
 
 pub name_in_is : (w n : List ℕ) → name_in w ≡ Some n → (is_name n ≡ true) × (w ≡ n)
-name_in_is w n e = let is = where_true (is_name w) w n e in (ap is_name (sym is.1) ∙ is.0, is.1)
+name_in_is w n e =
+    elim (chosen (is_name w) (Some w) None (Some n) e) [
+      | inl (t, is) ↦ (ap is_name (sym (some_is is)) ∙ t, some_is is)
+      | inr (f, is) ↦ absurd (none_some is)
+    ]
 
 pub at_end_is : {A : Type 0} (a b : A) (ws : List (List ℕ)) → at_end a ws ≡ Some b → (a ≡ b) × (ws ≡ [])
 at_end_is a b [] e = (some_is e, refl)
@@ -97,9 +101,9 @@ as_version w k n formed is e =
 pub version_is : (ws : List (List ℕ)) (n : ℕ) → version_in ws ≡ Some n → Formed (codes "policy") ws (version n)
 version_is [] n e = absurd (none_some e)
 version_is (w ∷ []) n e =
-    elim (chosen (bytes_eq w (codes "1")) _ _ (Some n) e) [
+    elim (taken (bytes_eq w (codes "1")) _ _ (Some n) e) [
       | inl (t, is) ↦ as_version w 1 n refl ((bytes_eq-Decides w (codes "1")).0 t ∙ sym (decimal_digit 1 (omega arith))) (some_is is)
-      | inr (f, go) ↦ elim (chosen (bytes_eq w (codes "2")) _ _ (Some n) go) [
+      | inr (f, go) ↦ elim (taken (bytes_eq w (codes "2")) _ _ (Some n) go) [
         | inl (t, is) ↦ as_version w 2 n refl ((bytes_eq-Decides w (codes "2")).0 t ∙ sym (decimal_digit 2 (omega arith))) (some_is is)
         | inr (g, end) ↦ absurd (none_some end)
       ]
@@ -136,12 +140,7 @@ limit_is (n ∷ p ∷ ws) s e =
     })
 
 pub spelled_is : {A : Type 0} (spell : A → List ℕ) (xs : List A) (w : List ℕ) (a : A) → spelled_so spell xs w ≡ Some a → spell a ≡ w
-spelled_is spell [] w a e = absurd (none_some e)
-spelled_is spell (b ∷ xs) w a e =
-    elim (chosen (bytes_eq (spell b) w) (Some b) (spelled_so spell xs w) (Some a) e) [
-      | inl (t, is) ↦ ap spell (sym (some_is is)) ∙ (bytes_eq-Decides (spell b) w).0 t
-      | inr (f, more) ↦ spelled_is spell xs w a more
-    ]
+spelled_is spell xs w a e = (bytes_eq-Decides (spell a) w).0 (found_passes (λ a. bytes_eq (spell a) w) xs a e)
 
 pub edge_is : (ws : List (List ℕ)) (s : SaidView) → edge_in ws ≡ Some s → Formed (codes "edge") ws s
 edge_is [] s e = absurd (none_some e)
@@ -165,15 +164,12 @@ edge_is (k ∷ st ∷ a ∷ b ∷ []) s e =
     })
 edge_is (k ∷ st ∷ a ∷ b ∷ v ∷ ws) s e = absurd (none_some e)
 
-abbrev caps_all : List CapKind
-caps_all = caps.Total ∷ caps.User ∷ caps.Length ∷ caps.Day ∷ []
-
 pub cap_is : (ws : List (List ℕ)) (s : SaidView) → cap_in ws ≡ Some s → Formed (codes "cap") ws s
 cap_is [] s e = absurd (none_some e)
 cap_is (k ∷ []) s e = absurd (none_some e)
 cap_is (k ∷ r ∷ []) s e = absurd (none_some e)
 cap_is (k ∷ r ∷ n ∷ []) s e =
-    let kind = came (spelled_so cap_word caps_all k) _ s e in
+    let kind = came (spelled_so cap_word cap_kinds k) _ s e in
     let name = came (name_in r) _ s kind.then in
     let most = came (number_from 1 1_000_000 n) _ s name.then in
     let r_is = name_in_is r name.it name.was in
@@ -181,7 +177,7 @@ cap_is (k ∷ r ∷ n ∷ []) s e =
     subst (Formed (codes "cap") (k ∷ r ∷ n ∷ [])) (some_is most.then)
     (record {
       formed = and_true (is_name name.it) (is_count most.it) r_is.0 (count_is most.it n_is.0 n_is.1);
-      words = ap (λ k. codes "cap" ∷ k ∷ r ∷ n ∷ []) (sym (spelled_is cap_word caps_all k kind.it kind.was)) ∙ ap (λ r. codes "cap" ∷ cap_word kind.it ∷ r ∷ n ∷ []) r_is.1
+      words = ap (λ k. codes "cap" ∷ k ∷ r ∷ n ∷ []) (sym (spelled_is cap_word cap_kinds k kind.it kind.was)) ∙ ap (λ r. codes "cap" ∷ cap_word kind.it ∷ r ∷ n ∷ []) r_is.1
           ∙ ap (λ n. codes "cap" ∷ cap_word kind.it ∷ name.it ∷ n ∷ []) n_is.2;
     })
 cap_is (k ∷ r ∷ n ∷ v ∷ ws) s e = absurd (none_some e)

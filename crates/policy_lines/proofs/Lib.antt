@@ -1,6 +1,4 @@
 pub mod Truths
-pub mod Numbers
-pub mod Counted
 pub mod Instants
 pub mod Colons
 pub mod ItemVerbs

@@ -1,5 +1,5 @@
 -- Items, one after another.
-use Rattle.std.proofs.Common.{◌≡◌, ℕ, zero, suc, ◌<◌, ◌≤◌, Bool, true, false, List, [], ◌∷◌, ◌++◌, length, Option, Some, None, refl, sym, ◌∙◌, ap, arith, append_assoc}
+use Rattle.std.proofs.Common.{◌≡◌, ℕ, zero, suc, ◌<◌, ◌≤◌, Bool, true, false, cond, List, [], ◌∷◌, ◌++◌, length, Option, Some, None, refl, sym, ◌∙◌, ap, arith, append_assoc}
 use Rattle.std.specs.Prelude.{codes, bytes_eq}
 use Rattle.gtrbac_model.proofs.Elements.{split}
 use Rattle.policy_words.specs.declared.parts.Item.{Item}
@@ -12,18 +12,15 @@ use Rattle.policy_lines.proofs.FrontWords.{item_shorter}
 -- items by their links
 abbrev after_link : Item → Option (Bool × List (List ℕ)) → (List (List ℕ) → Option (List Item × List (List ℕ))) → Option (List Item × List (List ℕ))
 after_link i None rest = None
-after_link i (Some l) rest = elim l.0 [ true ↦ Some (i ∷ [], l.1) | false ↦ onto (i ∷ []) (rest l.1) ]
+after_link i (Some l) rest = cond l.0 (Some (i ∷ [], l.1)) (onto (i ∷ []) (rest l.1))
 
 one_more : (i : Item) (r : Option (List Item × List (List ℕ))) → ◌>>=◌ {A = List Item × List (List ℕ)} r (λ rest. Some (i ∷ rest.0, rest.1)) ≡ onto (i ∷ []) r
 one_more i None = refl
 one_more i (Some r) = refl
 
 by_words : (a b : Bool) (i : Item) (more : List (List ℕ)) (f : List (List ℕ) → Option (List Item × List (List ℕ)))
-    → elim a as (λ _. Option (List Item × List (List ℕ))) [
-      | true ↦ ◌>>=◌ {A = List Item × List (List ℕ)} (f more) (λ rest. Some (i ∷ rest.0, rest.1))
-      | false ↦ elim b as (λ _. Option (List Item × List (List ℕ))) [ true ↦ Some (i ∷ [], more) | false ↦ None ]
-    ]
-    ≡ after_link i (elim a as (λ _. Option (Bool × List (List ℕ))) [ true ↦ Some (false, more) | false ↦ elim b as (λ _. Option (Bool × List (List ℕ))) [ true ↦ Some (true, more) | false ↦ None ] ]) f
+    → cond a (◌>>=◌ {A = List Item × List (List ℕ)} (f more) (λ rest. Some (i ∷ rest.0, rest.1))) (cond b (Some (i ∷ [], more)) None)
+    ≡ after_link i (cond a (Some (false, more)) (cond b (Some (true, more)) None)) f
 by_words true b i more f = one_more i (f more)
 by_words false true i more f = refl
 by_words false false i more f = refl
@@ -33,10 +30,7 @@ with_item k i =
     elim i.1 [
       | [] ↦ None
       | w ∷ more ↦
-          elim (bytes_eq w (codes "and")) [
-            | true ↦ ◌>>=◌ {A = List Item × List (List ℕ)} (items_at k more) (λ rest. Some (i.0 ∷ rest.0, rest.1))
-            | false ↦ elim (bytes_eq w (codes "then")) [ true ↦ Some (i.0 ∷ [], more) | false ↦ None ]
-          ]
+          cond (bytes_eq w (codes "and")) (◌>>=◌ {A = List Item × List (List ℕ)} (items_at k more) (λ rest. Some (i.0 ∷ rest.0, rest.1))) (cond (bytes_eq w (codes "then")) (Some (i.0 ∷ [], more)) None)
     ]
 
 by_link : (k : ℕ) (ws : List (List ℕ)) (i : Item) (rest : List (List ℕ)) → item_at ws ≡ Some (i, rest) → items_at (suc k) ws ≡ after_link i (link_at rest) (items_at k)

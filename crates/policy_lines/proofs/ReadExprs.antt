@@ -1,5 +1,5 @@
 -- An expression that is read is valid.
-use Rattle.std.proofs.Common.{◌≡◌, ℕ, zero, suc, ◌<◌, Bool, true, false, not, ◌&&◌, ◌||◌, List, [], ◌∷◌, ◌++◌, length, map, Option, Some, None, Ok, refl, ◌∙◌, ap, arith}
+use Rattle.std.proofs.Common.{◌≡◌, ℕ, zero, suc, ◌<◌, Bool, true, false, not, ◌&&◌, ◌||◌, List, [], ◌∷◌, ◌++◌, length, map, Option, Some, None, Ok, refl, ◌∙◌, ap, arith, if◌then◌else◌}
 use Rattle.std.specs.Prelude.{nat_eq, nat_le, nat_lt, is_some}
 use Rattle.std.specs.List.{list_all, list_any, insert, take_while}
 use Rattle.std.proofs.lemmas.Bool.{and_parts, and_from, leb-true, ltb-true, false≢true}
@@ -50,7 +50,7 @@ some_put n ns = by (list_any (nat_eq n) ns) refl
     found [] h = absurd (false≢true h)
     found (m ∷ ms) h = omega arith
 
-    by : (b : Bool) → list_any (nat_eq n) ns ≡ b → 0 < length (elim b as (λ _. List ℕ) [ true ↦ ns | false ↦ insert ns (length (take_while (λ m. nat_lt m n) ns)) n ])
+    by : (b : Bool) → list_any (nat_eq n) ns ≡ b → 0 < length (if b then ns else insert ns (length (take_while (λ m. nat_lt m n) ns)) n)
     by true e = found ns e
     by false e = some_insert ns (length (take_while (λ m. nat_lt m n) ns)) n
 

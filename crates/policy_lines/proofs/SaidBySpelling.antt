@@ -1,14 +1,14 @@
 -- Reading a line and the spellings of sayings say the same.
-use Rattle.std.proofs.Common.{◌≡◌, ◌≢◌, inl, inr, ℕ, zero, suc, ◌<◌, ◌≤◌, Bool, true, false, not, ◌&&◌, ◌||◌, List, [], ◌∷◌, ◌++◌, length, Option, Some, None, Result, Ok, Err, refl, sym, ◌∙◌, ap, subst, arith, decimal, IsTrue, ◌↔◌}
+use Rattle.std.proofs.Common.{◌≡◌, ◌≢◌, inl, inr, ℕ, zero, suc, ◌<◌, ◌≤◌, Bool, true, false, cond, not, ◌&&◌, ◌||◌, List, [], ◌∷◌, ◌++◌, length, Option, Some, None, Result, Ok, Err, refl, sym, ◌∙◌, ap, subst, arith, decimal, IsTrue, ◌↔◌}
 use Rattle.std.specs.List.{list_any}
 use Rattle.gtrbac_model.proofs.Elements.{split}
 use Rattle.std.specs.Prelude.{codes, bytes_eq, nat_le, nat_lt, map, take, drop, Contains, IfOk, IfSome, option_map}
 use Rattle.std.proofs.lemmas.Slice.Eq.{bytes_eq-Decides}
 use Rattle.std.proofs.lemmas.Bool.{false≢true, le-leb, lt-ltb, ltb-true, ltb-false}
 use Rattle.std.proofs.lemmas.Fmt.{decimal_digit}
-use Rattle.gt_base.specs.Bounds.{last_minute}
 use Rattle.gt_base.specs.Names.{is_name, name_in, number_from}
 use Rattle.gt_base.specs.declared.policies.Form.TheVariants.{Each, Start, Span}
+use Rattle.gt_base.specs.declared.limits.TheConstants.{LAST_MINUTE}
 use Rattle.gtrbac_model.specs.Period.{Expr}
 use Rattle.gtrbac_model.specs.Valid.{is_expr}
 use Rattle.gt_text.specs.Lines.{is_longer}
@@ -33,9 +33,9 @@ use Rattle.policy_words.specs.Reading.{Bounds, verbs, said_by, said_of, some_sai
 use Rattle.policy_words.specs.declared.versions.TextVersion.{TextVersion}
 use Rattle.policy_words.specs.declared.parts.NamedFluent.TheVariants.{Enabled, Assigned, Granted, Limit, Edge}
 use Rattle.policy_words.specs.Versions.{is_open, has_edges, is_allowed}
-use Rattle.policy_words.specs.Spelling.{IsLoud, IsSilent, IsBound, HasBounds, Spells, first_words, words_that_begin, BeginsWith, IsVersion, IsFirst, IsPlaced, ExprFails, HasNoForm, IsSaid}
-use Rattle.policy_lines.proofs.Truths.{and_true, not_true, some_is, none_some, chosen}
-use Rattle.policy_lines.proofs.Numbers.{number_from-decimal}
+use Rattle.policy_words.specs.Spelling.{IsLoud, IsSilent, IsBound, HasBounds, Spells, first_words, words_that_begin, BeginsWith, IsVersion, IsFirstLine, IsPlaced, ExprFails, HasNoForm, IsSaid}
+use Rattle.policy_lines.proofs.Truths.{and_true, not_true, some_is, none_some, taken, chosen}
+use Rattle.gt_text.proofs.Decimals.{number_from-decimal}
 use Rattle.policy_lines.proofs.ReadExprs.{read_valid}
 use Rattle.policy_lines.proofs.SayingReads.{judged, is_no_period, saying_reads, bounds_read, trigger_reads, version_reads}
 use Rattle.policy_lines.proofs.WrittenLines.{read_loud, judged_ok, allowed_ok, opening_ok, trigger_ok}
@@ -61,7 +61,7 @@ module _ (v : TextVersion) (line : List ℕ) where
       → said_of v line (words_of line) ≡ with_expr (record { name = n; first = f; last = l }) (read_expr (expr_of_line line))
   bounded_said n f l bounds le =
       bounds_read v line n f l bounds
-      ∙ ap (λ b. elim b as (λ _. Result SaidView TextKind) [ true ↦ Err faults.Bounds | false ↦ with_expr (record { name = n; first = f; last = l }) (read_expr (expr_of_line line)) ])
+      ∙ ap (λ b. cond b (Err faults.Bounds) (with_expr (record { name = n; first = f; last = l }) (read_expr (expr_of_line line))))
       (not_true (nat_lt l f) (λ t. absurd (omega (arith, le, ltb-true l f t))))
 
   spelled_said : (said : SaidView) → is_formed said ≡ true → Spells said line → is_bodied said ≡ true → IsPlaced v said → said_of v line (words_of line) ≡ Ok said
@@ -94,11 +94,11 @@ module _ (v : TextVersion) (line : List ℕ) where
 
   period_form : (b : Bounds) → period_by line (Some b) ≡ Err faults.Form → ⊥
   period_form b e =
-      elim (chosen (nat_lt b.last b.first) (Err faults.Bounds) (with_expr b (read_expr (expr_of_line line))) (Err faults.Form) e) [ inl (t, is) ↦ absurd (cc is) | inr (f, is) ↦ expr_form b (read_expr (expr_of_line line)) is ]
+      elim (taken (nat_lt b.last b.first) (Err faults.Bounds) (with_expr b (read_expr (expr_of_line line))) (Err faults.Form) e) [ inl (t, is) ↦ absurd (cc is) | inr (f, is) ↦ expr_form b (read_expr (expr_of_line line)) is ]
 
   body_form : (items : List Item) (h : NamedHead) (d : ℕ) → with_body (trigger items h d) ≡ Err faults.Form → ⊥
   body_form items h d e =
-      elim (chosen (is_body items) (Ok (trigger items h d)) (Err faults.Body) (Err faults.Form) e) [ inl (t, is) ↦ ok_form (trigger items h d) is | inr (f, is) ↦ absurd (cc is) ]
+      elim (taken (is_body items) (Ok (trigger items h d)) (Err faults.Body) (Err faults.Form) e) [ inl (t, is) ↦ ok_form (trigger items h d) is | inr (f, is) ↦ absurd (cc is) ]
 
   module _ (form : said_of v line (words_of line) ≡ Err faults.Form) where
     spelled_form : (said : SaidView) → is_formed said ≡ true → is_allowed (has_edges v) said ≡ true → Spells said line → ⊥
@@ -208,7 +208,7 @@ module _ (v : TextVersion) (line : List ℕ) (loud : IsLoud 4_096 line) where
   placed_as : (s : SaidView) → (IsVersion s → ⊥) → is_allowed (has_edges v) s ≡ true → IsPlaced v s
   placed_as s none allowed = (by (is_open v), allowed)
     where
-      by : (b : Bool) → IsFirst b s
+      by : (b : Bool) → IsFirstLine b s
       by true = tt
       by false = none
 
@@ -248,10 +248,10 @@ module _ (v : TextVersion) (line : List ℕ) (loud : IsLoud 4_096 line) where
       (loud, no_form v line (ap (said_of v line) words ∙ reads) w ws words (known_in (has_edges v) w known) (not_policy w other))
   formed_in_right w ws (Some s) words other known spells reads = by (is_allowed (has_edges v) s) refl
     where
-      by : (b : Bool) → is_allowed (has_edges v) s ≡ b → IsSaid v line (some_said (elim b as (λ _. Result SaidView TextKind) [ true ↦ Ok s | false ↦ Err faults.Form ]))
+      by : (b : Bool) → is_allowed (has_edges v) s ≡ b → IsSaid v line (some_said (cond b (Ok s) (Err faults.Form)))
       by true a = let is = spells s refl in other_said w ws s words other a is.formed is.words
       by false a =
-          (loud, no_form v line (ap (said_of v line) words ∙ reads ∙ ap (λ b. elim b as (λ _. Result SaidView TextKind) [ true ↦ Ok s | false ↦ Err faults.Form ]) a) w ws words (known_in (has_edges v) w known) (not_policy w other))
+          (loud, no_form v line (ap (said_of v line) words ∙ reads ∙ ap (λ b. cond b (Ok s) (Err faults.Form)) a) w ws words (known_in (has_edges v) w known) (not_policy w other))
 
   -- an edge that is linked at first
 
@@ -288,7 +288,7 @@ module _ (v : TextVersion) (line : List ℕ) (loud : IsLoud 4_096 line) where
       tail_is n e = cc
 
       by : (b : Bool) → is_open v ≡ b → (o : Option ℕ) → version_in ws ≡ o → IsSaid v line (some_said (version_by b o))
-      by true is (Some n) e = let f = version_is ws n e in (loud, f.formed, words ∙ f.words, refl, (subst (λ b. IsFirst b (version n)) (sym is) tt, refl))
+      by true is (Some n) e = let f = version_is ws n e in (loud, f.formed, words ∙ f.words, refl, (subst (λ b. IsFirstLine b (version n)) (sym is) tt, refl))
       by true is None e =
           (loud, (ws, words), λ opens n formed one. none_some (sym e ∙ ap version_in (tail_is n (sym words ∙ one)) ∙ version_reads n formed))
       by false is (Some n) e = (loud, (ws, words), λ opens n formed one. false≢true (sym is ∙ opens))
@@ -305,16 +305,16 @@ module _ (v : TextVersion) (line : List ℕ) (loud : IsLoud 4_096 line) where
 
       body : (items : List Item) (h : NamedHead) (d : ℕ) → is_formed (trigger items h d) ≡ true → is_allowed (has_edges v) (trigger items h d) ≡ true → Spells (trigger items h d) line
           → (b : Bool) → is_body items ≡ b
-          → IsSaid v line (some_said (elim b as (λ _. Result SaidView TextKind) [ true ↦ Ok (trigger items h d) | false ↦ Err faults.Body ]))
+          → IsSaid v line (some_said (cond b (Ok (trigger items h d)) (Err faults.Body)))
       body items h d is a spells true e = (loud, is, spells, e, placed_as (trigger items h d) (λ v. v) a)
       body items h d is a spells false e = (loud, (trigger items h d, is, a, spells, e))
 
       allow : (items : List Item) (h : NamedHead) (d : ℕ) → trigger_in ws ≡ Some (trigger items h d) → is_formed (trigger items h d) ≡ true → Spells (trigger items h d) line
           → (a : Bool) → is_allowed (has_edges v) (trigger items h d) ≡ a
-          → IsSaid v line (some_said (elim a as (λ _. Result SaidView TextKind) [ true ↦ with_body (trigger items h d) | false ↦ Err faults.Form ]))
+          → IsSaid v line (some_said (cond a (with_body (trigger items h d)) (Err faults.Form)))
       allow items h d read is spells true a = body items h d is a spells (is_body items) refl
       allow items h d read is spells false a =
-          no_trigger (ap (trigger_by (has_edges v)) read ∙ ap (λ a. elim a as (λ _. Result SaidView TextKind) [ true ↦ with_body (trigger items h d) | false ↦ Err faults.Form ]) a)
+          no_trigger (ap (trigger_by (has_edges v)) read ∙ ap (λ a. cond a (with_body (trigger items h d)) (Err faults.Form)) a)
 
       by : (o : Option SaidView) → trigger_in ws ≡ o → IsSaid v line (some_said (trigger_by (has_edges v) o))
       by None e = no_trigger (ap (trigger_by (has_edges v)) e)
@@ -327,14 +327,14 @@ module _ (v : TextVersion) (line : List ℕ) (loud : IsLoud 4_096 line) where
 
   first_is : (w : List ℕ) (t : ℕ) → first_in w ≡ Some t → IsBound 0 w t
   first_is w t e =
-      elim (chosen (bytes_eq w (codes "*")) (Some 0) (civil_in w) (Some t) e) [
+      elim (taken (bytes_eq w (codes "*")) (Some 0) (civil_in w) (Some t) e) [
         | inl (star, is) ↦ inl ((bytes_eq-Decides w (codes "*")).0 star, sym (some_is is))
         | inr (other, is) ↦ inr ((texts_are_read w t).0 is)
       ]
 
-  last_is : (w : List ℕ) (t : ℕ) → last_in w ≡ Some t → IsBound last_minute w t
+  last_is : (w : List ℕ) (t : ℕ) → last_in w ≡ Some t → IsBound LAST_MINUTE w t
   last_is w t e =
-      elim (chosen (bytes_eq w (codes "*")) (Some last_minute) (civil_in w) (Some t) e) [
+      elim (taken (bytes_eq w (codes "*")) (Some LAST_MINUTE) (civil_in w) (Some t) e) [
         | inl (star, is) ↦ inl ((bytes_eq-Decides w (codes "*")).0 star, sym (some_is is))
         | inr (other, is) ↦ inr ((texts_are_read w t).0 is)
       ]
@@ -358,7 +358,7 @@ module _ (v : TextVersion) (line : List ℕ) (loud : IsLoud 4_096 line) where
         is_last = last_is l end.it end.was;
       })
 
-  bound_low : (open_end : ℕ) (w : List ℕ) (t : ℕ) → open_end ≤ last_minute → IsBound open_end w t → t ≤ last_minute
+  bound_low : (open_end : ℕ) (w : List ℕ) (t : ℕ) → open_end ≤ LAST_MINUTE → IsBound open_end w t → t ≤ LAST_MINUTE
   bound_low open_end w t le (inl e) = omega (arith, le, e.1)
   bound_low open_end w t le (inr e) = e.0
 
@@ -386,10 +386,10 @@ module _ (v : TextVersion) (line : List ℕ) (loud : IsLoud 4_096 line) where
     where
       in_range : (b : Bounds) (x : Expr) → HasBounds line b.name b.first b.last → is_expr x ≡ true → is_formed (period b.name b.first b.last x) ≡ true
       in_range b x bounds valid =
-          and_true (is_name b.name && nat_le b.first last_minute && nat_le b.last last_minute) (is_expr x)
-          (and_true (is_name b.name && nat_le b.first last_minute) (nat_le b.last last_minute)
-          (and_true (is_name b.name) (nat_le b.first last_minute) bounds.name (le-leb b.first last_minute (bound_low 0 bounds.first_word b.first (omega arith) bounds.is_first)))
-          (le-leb b.last last_minute (bound_low last_minute bounds.last_word b.last (omega arith) bounds.is_last))) valid
+          and_true (is_name b.name && nat_le b.first LAST_MINUTE && nat_le b.last LAST_MINUTE) (is_expr x)
+          (and_true (is_name b.name && nat_le b.first LAST_MINUTE) (nat_le b.last LAST_MINUTE)
+          (and_true (is_name b.name) (nat_le b.first LAST_MINUTE) bounds.name (le-leb b.first LAST_MINUTE (bound_low 0 bounds.first_word b.first (omega arith) bounds.is_first)))
+          (le-leb b.last LAST_MINUTE (bound_low LAST_MINUTE bounds.last_word b.last (omega arith) bounds.is_last))) valid
 
       read : (b : Bounds) → HasBounds line b.name b.first b.last → b.first ≤ b.last → (r : Result Expr ExprFault) → read_expr (expr_of_line line) ≡ r → IsSaid v line (some_said (with_expr b r))
       read b bounds le (Ok x) e =
@@ -397,7 +397,7 @@ module _ (v : TextVersion) (line : List ℕ) (loud : IsLoud 4_096 line) where
       read b bounds le (Err t) e = (loud, (b.name, b.first, b.last, bounds, le, fails (expr_of_line line) t e))
 
       order : (b : Bounds) → HasBounds line b.name b.first b.last → (t : Bool) → nat_lt b.last b.first ≡ t
-          → IsSaid v line (some_said (elim t as (λ _. Result SaidView TextKind) [ true ↦ Err faults.Bounds | false ↦ with_expr b (read_expr (expr_of_line line)) ]))
+          → IsSaid v line (some_said (cond t (Err faults.Bounds) (with_expr b (read_expr (expr_of_line line)))))
       order b bounds true e = (loud, (b.name, b.first, b.last, bounds, ltb-true b.last b.first e))
       order b bounds false e = read b bounds (ltb-false b.last b.first e) (read_expr (expr_of_line line)) refl
 
@@ -486,7 +486,7 @@ module _ (v : TextVersion) (line : List ℕ) (loud : IsLoud 4_096 line) where
       by (λ e. among us w ws right.1 words (λ rest. none ((λ is. false≢true (sym e ∙ (bytes_eq-Decides u.0 w).1 is)), rest))) (bytes_eq u.0 w) refl
     where
       by : (bytes_eq u.0 w ≡ false → IsSaid v line (some_said (said_by (◌>>=◌ {A = List (List ℕ) → Option (Result SaidView TextKind)} (by_verb us w) (λ reads. reads ws))))) → (b : Bool) → bytes_eq u.0 w ≡ b
-          → IsSaid v line (some_said (said_by (◌>>=◌ {A = List (List ℕ) → Option (Result SaidView TextKind)} (elim b as (λ _. Option (List (List ℕ) → Option (Result SaidView TextKind))) [ true ↦ Some u.1 | false ↦ by_verb us w ]) (λ reads. reads ws))))
+          → IsSaid v line (some_said (said_by (◌>>=◌ {A = List (List ℕ) → Option (Result SaidView TextKind)} (cond b (Some u.1) (by_verb us w)) (λ reads. reads ws))))
       by more true e = right.0 ws (words ∙ ap (λ w. w ∷ ws) (sym ((bytes_eq-Decides u.0 w).0 e)))
       by more false e = more e
 
@@ -498,7 +498,7 @@ module _ (v : TextVersion) (line : List ℕ) (loud : IsLoud 4_096 line) where
   none_among : (us : List Verb) (w : List ℕ) → Absent (map (λ u. u.0) us) w → by_verb us w ≡ None
   none_among [] w none = refl
   none_among (u ∷ us) w none =
-      ap (λ b. elim b as (λ _. Option (List (List ℕ) → Option (Result SaidView TextKind))) [ true ↦ Some u.1 | false ↦ by_verb us w ])
+      ap (λ b. cond b (Some u.1) (by_verb us w))
       (not_true (bytes_eq u.0 w) (λ t. none.0 ((bytes_eq-Decides u.0 w).0 t))) ∙ none_among us w none.1
 
   no_word : ((w : List ℕ) → Contains (words_that_begin (has_edges v)) w → BeginsWith line w → ⊥) → (w : List ℕ) (ws : List (List ℕ)) → words_of line ≡ w ∷ ws → said_of v line (w ∷ ws) ≡ Err faults.Word
@@ -526,12 +526,12 @@ sound v line = by_length (is_longer 4_096 line) refl
     by_words_of [] e loud = absurd (false≢true (sym loud.loud ∙ ap are_silent e))
     by_words_of (w ∷ ws) e loud = said_right v line loud w ws e
 
-    by_silence : is_longer 4_096 line ≡ false → (b : Bool) → are_silent (words_of line) ≡ b → IsSaid v line (elim b as (λ _. Result (Option SaidView) TextKind) [ true ↦ Ok None | false ↦ some_said (said_of v line (words_of line)) ])
+    by_silence : is_longer 4_096 line ≡ false → (b : Bool) → are_silent (words_of line) ≡ b → IsSaid v line (cond b (Ok None) (some_said (said_of v line (words_of line))))
     by_silence short true e = record { short = ltb-false 4_096 (length line) short; silent = e }
     by_silence short false e = by_words_of (words_of line) refl (record { short = ltb-false 4_096 (length line) short; loud = e })
 
     by_length : (b : Bool) → is_longer 4_096 line ≡ b
-        → IsSaid v line (elim b as (λ _. Result (Option SaidView) TextKind) [ true ↦ Err faults.Long | false ↦ elim (are_silent (words_of line)) [ true ↦ Ok None | false ↦ some_said (said_of v line (words_of line)) ] ])
+        → IsSaid v line (cond b (Err faults.Long) (cond (are_silent (words_of line)) (Ok None) (some_said (said_of v line (words_of line)))))
     by_length true e = ltb-true 4_096 (length line) e
     by_length false e = by_silence e (are_silent (words_of line)) refl
 
@@ -556,18 +556,12 @@ form_read v line loud none =
 
 silent_read : (v : TextVersion) (line : List ℕ) → IsSilent 4_096 line → read_said v line ≡ Ok None
 silent_read v line is =
-    ap (λ b. elim b as (λ _. Result (Option SaidView) TextKind) [
-      | true ↦ Err faults.Long
-      | false ↦ elim (are_silent (words_of line)) [ true ↦ Ok None | false ↦ some_said (said_of v line (words_of line)) ]
-    ]) (not_true (is_longer 4_096 line) (λ t. absurd (omega (arith, is.short, ltb-true 4_096 (length line) t))))
-    ∙ ap (λ b. elim b as (λ _. Result (Option SaidView) TextKind) [ true ↦ Ok None | false ↦ some_said (said_of v line (words_of line)) ]) is.silent
+    ap (λ b. cond b (Err faults.Long) (cond (are_silent (words_of line)) (Ok None) (some_said (said_of v line (words_of line))))) (not_true (is_longer 4_096 line) (λ t. absurd (omega (arith, is.short, ltb-true 4_096 (length line) t))))
+    ∙ ap (λ b. cond b (Ok None) (some_said (said_of v line (words_of line)))) is.silent
 
 long_read : (v : TextVersion) (line : List ℕ) → 4_096 < length line → read_said v line ≡ Err faults.Long
 long_read v line long =
-    ap (λ b. elim b as (λ _. Result (Option SaidView) TextKind) [
-      | true ↦ Err faults.Long
-      | false ↦ elim (are_silent (words_of line)) [ true ↦ Ok None | false ↦ some_said (said_of v line (words_of line)) ]
-    ]) (lt-ltb 4_096 (length line) long)
+    ap (λ b. cond b (Err faults.Long) (cond (are_silent (words_of line)) (Ok None) (some_said (said_of v line (words_of line))))) (lt-ltb 4_096 (length line) long)
 
 version_read : (v : TextVersion) (line : List ℕ) (ws : List (List ℕ)) → words_of line ≡ codes "policy" ∷ ws
     → (IsTrue (is_open v) → (n : ℕ) → IsTrue (is_formed (version n)) → words_of line ≢ said_words (version n)) → said_of v line (words_of line) ≡ Err faults.Version
@@ -599,12 +593,12 @@ body_read v line (admin u) h a e b = absurd (false≢true (sym b))
 body_read v line (opening f) h a e b = absurd (false≢true (sym b))
 body_read v line (entry f p hd) h a e b = absurd (false≢true (sym b))
 body_read v line (trigger items hd d) h a e b =
-    spelled_trigger v line items hd d h e ∙ trigger_ok v items hd d a ∙ ap (λ t. elim t as (λ _. Result SaidView TextKind) [ true ↦ Ok (trigger items hd d) | false ↦ Err faults.Body ]) b
+    spelled_trigger v line items hd d h e ∙ trigger_ok v items hd d a ∙ ap (λ t. cond t (Ok (trigger items hd d)) (Err faults.Body)) b
 
 bounds_fault : (v : TextVersion) (line n : List ℕ) (f l : ℕ) → HasBounds line n f l → l < f → said_of v line (words_of line) ≡ Err faults.Bounds
 bounds_fault v line n f l bounds lt =
     bounds_read v line n f l bounds
-    ∙ ap (λ b. elim b as (λ _. Result SaidView TextKind) [ true ↦ Err faults.Bounds | false ↦ with_expr (record { name = n; first = f; last = l }) (read_expr (expr_of_line line)) ]) (lt-ltb l f lt)
+    ∙ ap (λ b. cond b (Err faults.Bounds) (with_expr (record { name = n; first = f; last = l }) (read_expr (expr_of_line line)))) (lt-ltb l f lt)
 
 expr_fault : (text : List ℕ) (t : ExprFault) → ExprFails text t → read_expr text ≡ Err t
 expr_fault text t (inl (kind, is)) = (syntax_both text t.at).1 is ∙ ap (λ (k : ExprKind). Err (record { at = t.at; kind = k })) (sym kind)

@@ -1,5 +1,5 @@
 -- A line that is spelled by a saying reads as it.
-use Rattle.std.proofs.Common.{◌≡◌, inl, inr, ℕ, ◌≤◌, Bool, true, false, ◌&&◌, List, [], ◌∷◌, ◌++◌, length, take, Option, Some, None, Result, Ok, Err, refl, sym, ◌∙◌, ap, arith, decimal, append_assoc, append-nil}
+use Rattle.std.proofs.Common.{◌≡◌, inl, inr, ℕ, ◌≤◌, Bool, true, false, cond, ◌&&◌, List, [], ◌∷◌, ◌++◌, length, take, Option, Some, None, Result, Ok, Err, refl, sym, ◌∙◌, ap, arith, decimal, append_assoc, append-nil}
 use Rattle.std.specs.Prelude.{codes, bytes_eq, nat_le, nat_eq}
 use Rattle.std.specs.List.{list_all}
 use Rattle.std.proofs.lemmas.Fmt.{decimal_digit}
@@ -8,10 +8,10 @@ use Rattle.std.proofs.lemmas.Bool.{false≢true}
 use Rattle.std.proofs.lemmas.Bool.Decides.{Decides-eqb}
 use borrow.Author.Tests.{leb-true}
 use Rattle.gtrbac_model.proofs.Elements.{either_true}
-use Rattle.gt_base.specs.Bounds.{last_minute}
 use Rattle.gt_base.specs.Names.{is_name, name_in, number_from}
 use Rattle.gt_base.specs.declared.policies.Form.{Form}
 use Rattle.gt_base.specs.declared.policies.Form.TheVariants.{Each, Start, Span}
+use Rattle.gt_base.specs.declared.limits.TheConstants.{LAST_MINUTE}
 use Rattle.gt_text.specs.Words.{words_of}
 use Rattle.civil_time.specs.Text.{civil_text, civil_in}
 use Rattle.civil_time.proofs.Texts.{texts_are_read}
@@ -26,21 +26,22 @@ use Rattle.policy_words.specs.declared.parts.Item.{Item}
 use Rattle.policy_words.specs.declared.sayings.EdgeKind.{EdgeKind}
 use Rattle.policy_words.specs.declared.sayings.EdgeKind.TheVariants.{I, A, Ia}
 use Rattle.policy_words.specs.declared.sayings.CapKind.{CapKind}
-use Rattle.policy_words.specs.declared.sayings.CapKind.TheVariants as caps
+use Rattle.policy_words.proofs.CapKinds.{kind_reads}
 use Rattle.policy_words.specs.Wording.{fluent_names, cond_words, head_words, cond_at, head_at, delay_in, delay_words}
-use Rattle.policy_words.specs.Sayings.{SaidView, version, role, user, perm, period, limit, edge, cap, admin, opening, entry, trigger, said_words, and_items, during_words, is_formed, are_names, is_count, is_period_name, is_head, is_item, is_some_item}
+use Rattle.policy_words.specs.Sayings.{SaidView, version, role, user, perm, period, limit, edge, cap, admin, opening, entry, trigger, said_words, and_items, during_words, is_formed, are_names, is_count, is_period_name, is_head, is_item}
+use Rattle.gtrbac_model.specs.History.{is_some_item}
 use Rattle.policy_words.specs.Reading.{said_of, one_name, first_in, last_in, period_by, during_in, most_at, limit_in, linked_by, entry_in, trigger_in, trigger_by, version_in, version_by, formed, formed_in}
 use Rattle.policy_words.specs.Versions.{is_open, has_edges, is_allowed}
 use Rattle.policy_words.specs.Spelling.{IsBound, HasBounds}
 use Rattle.policy_lines.specs.Cursors.{items_of}
 use Rattle.policy_lines.proofs.Truths.{both, not_true}
-use Rattle.policy_lines.proofs.Numbers.{number_from-decimal}
+use Rattle.gt_text.proofs.Decimals.{number_from-decimal}
 use Rattle.policy_lines.proofs.SpelledReads.{cond_reads, head_reads, items_read, delay_reads}
 
 -- what is answered where a saying is read that is no period
 abbrev pub judged : TextVersion → SaidView → Result SaidView TextKind
 judged v (version n) = version_by (is_open v) (Some n)
-judged v (opening f) = elim (is_allowed (has_edges v) (opening f)) [ true ↦ Ok (opening f) | false ↦ Err faults.Word ]
+judged v (opening f) = cond (is_allowed (has_edges v) (opening f)) (Ok (opening f)) (Err faults.Word)
 judged v (trigger items h d) = trigger_by (has_edges v) (Some (trigger items h d))
 judged v said = formed_in (has_edges v) (Some said)
 
@@ -100,10 +101,7 @@ edge_reads v line Ia false s j h = let names = both (is_name s) (is_name j) h in
 
 cap_reads : (v : TextVersion) (line : List ℕ) (kind : CapKind) (r : List ℕ) (n : ℕ) → is_formed (cap kind r n) ≡ true
     → said_of v line (said_words (cap kind r n)) ≡ Ok (cap kind r n)
-cap_reads v line caps.Total r n h = let parts = both (is_name r) (is_count n) h in rw (name_is r parts.0, count_reads n parts.1) refl
-cap_reads v line caps.User r n h = let parts = both (is_name r) (is_count n) h in rw (name_is r parts.0, count_reads n parts.1) refl
-cap_reads v line caps.Length r n h = let parts = both (is_name r) (is_count n) h in rw (name_is r parts.0, count_reads n parts.1) refl
-cap_reads v line caps.Day r n h = let parts = both (is_name r) (is_count n) h in rw (name_is r parts.0, count_reads n parts.1) refl
+cap_reads v line kind r n h = let parts = both (is_name r) (is_count n) h in rw (kind_reads kind, name_is r parts.0, count_reads n parts.1) refl
 
 status_reads : (f : NamedFluent) → are_names (fluent_names f) ≡ true → cond_at (cond_words (record { on = true; fluent = f })) ≡ Some (record { on = true; fluent = f }, [])
 status_reads f h = ap cond_at (sym (append-nil (cond_words (record { on = true; fluent = f })))) ∙ cond_reads (record { on = true; fluent = f }) [] h
@@ -115,7 +113,7 @@ opening_reads v line (Granted q r) h = rw (status_reads (Granted q r) h) refl
 opening_reads v line (Limit l) h = rw (status_reads (Limit l) h) refl
 opening_reads v line (Edge s j) h = rw (status_reads (Edge s j) h) (by (has_edges v))
   where
-    by : (edges : Bool) → linked_by edges (Some (opening (Edge s j))) ≡ elim edges as (λ _. Result SaidView TextKind) [ true ↦ Ok (opening (Edge s j)) | false ↦ Err faults.Word ]
+    by : (edges : Bool) → linked_by edges (Some (opening (Edge s j))) ≡ cond edges (Ok (opening (Edge s j))) (Err faults.Word)
     by true = refl
     by false = refl
 
@@ -135,7 +133,7 @@ pub trigger_reads : (items : List Item) (h : NamedHead) (d : ℕ) (ws : List (Li
     → trigger_in ((and_items items ++ codes "then" ∷ head_words h) ++ ws) ≡ Some (trigger items h d)
 unfolding items_of
 trigger_reads items h d ws is delay =
-    let p3 = both (is_some_item items && list_all is_item items && is_head h) (nat_le d last_minute) is in
+    let p3 = both (is_some_item items && list_all is_item items && is_head h) (nat_le d LAST_MINUTE) is in
     let p2 = both (is_some_item items && list_all is_item items) (is_head h) p3.0 in
     let p1 = both (is_some_item items) (list_all is_item items) p2.0 in
     let whole : (and_items items ++ codes "then" ∷ head_words h) ++ ws ≡ and_items items ++ codes "then" ∷ (head_words h ++ ws) =
@@ -156,7 +154,7 @@ saying_reads v line (admin u) h np = ap formed (one_name_reads (λ n. admin n) u
 saying_reads v line (opening f) h np = opening_reads v line f h
 saying_reads v line (entry f p h) is np = entry_reads v line f p h is
 saying_reads v line (trigger items h d) is np =
-    let le : d ≤ last_minute = leb-true d last_minute (both (is_some_item items && list_all is_item items && is_head h) (nat_le d last_minute) is).1 in
+    let le : d ≤ LAST_MINUTE = leb-true d LAST_MINUTE (both (is_some_item items && list_all is_item items && is_head h) (nat_le d LAST_MINUTE) is).1 in
     ap (trigger_by (has_edges v)) (trigger_reads items h d (delay_words d) is (delay_reads d le))
 
 -- a period by its bounds
@@ -169,11 +167,11 @@ no_star t = longer (civil_text t) refl
 
 pub first_reads : (w : List ℕ) (t : ℕ) → IsBound 0 w t → first_in w ≡ Some t
 first_reads w t (inl (star, is)) = ap first_in star ∙ ap (λ t. Some t) (sym is)
-first_reads w t (inr is) = ap first_in is.1 ∙ ap (λ b. elim b as (λ _. Option ℕ) [ true ↦ Some 0 | false ↦ civil_in (civil_text t) ]) (no_star t) ∙ ((texts_are_read (civil_text t) t).1 (is.0, refl))
+first_reads w t (inr is) = ap first_in is.1 ∙ ap (λ b. cond b (Some 0) (civil_in (civil_text t))) (no_star t) ∙ ((texts_are_read (civil_text t) t).1 (is.0, refl))
 
-pub last_reads : (w : List ℕ) (t : ℕ) → IsBound last_minute w t → last_in w ≡ Some t
+pub last_reads : (w : List ℕ) (t : ℕ) → IsBound LAST_MINUTE w t → last_in w ≡ Some t
 last_reads w t (inl (star, is)) = ap last_in star ∙ ap (λ t. Some t) (sym is)
-last_reads w t (inr is) = ap last_in is.1 ∙ ap (λ b. elim b as (λ _. Option ℕ) [ true ↦ Some last_minute | false ↦ civil_in (civil_text t) ]) (no_star t) ∙ ((texts_are_read (civil_text t) t).1 (is.0, refl))
+last_reads w t (inr is) = ap last_in is.1 ∙ ap (λ b. cond b (Some LAST_MINUTE) (civil_in (civil_text t))) (no_star t) ∙ ((texts_are_read (civil_text t) t).1 (is.0, refl))
 
 four : (ws : List (List ℕ)) (a b c d : List ℕ) → take 4 ws ≡ a ∷ b ∷ c ∷ d ∷ [] → (more : List (List ℕ)) × (ws ≡ a ∷ b ∷ c ∷ d ∷ more)
 four [] a b c d e = absurd (omega (arith, ap (λ ws. length ws) e))

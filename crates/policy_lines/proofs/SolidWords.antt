@@ -7,11 +7,10 @@ use Rattle.std.proofs.lemmas.Bool.{false≢true, lt-ltb}
 use Rattle.std.proofs.lemmas.Bool.Decides.{Decides-eqb}
 use borrow.Author.Tests.{leb-true}
 use Rattle.gtrbac_model.proofs.Elements.{split, either_true}
-use Rattle.gt_base.specs.Bounds.{last_minute}
 use Rattle.gt_base.specs.Names.{is_name, is_letter, is_digit, is_name_byte}
 use Rattle.civil_time.specs.declared.civil.Civil.{Civil}
 use Rattle.civil_time.specs.Minutes.{civil_at}
-use Rattle.civil_time.specs.Text.{civil_text, text_of}
+use Rattle.civil_time.specs.Text.{civil_text, text_of_civil}
 use Rattle.policy_words.specs.declared.parts.NamedCond.{NamedCond}
 use Rattle.policy_words.specs.declared.parts.NamedHead.{NamedHead}
 use Rattle.policy_words.specs.declared.parts.Item.{Item}
@@ -19,16 +18,18 @@ use Rattle.policy_words.specs.declared.parts.Item.TheVariants.{Event, Signal, Co
 use Rattle.policy_words.specs.declared.sayings.EdgeKind.{EdgeKind}
 use Rattle.policy_words.specs.declared.sayings.EdgeKind.TheVariants.{I, A, Ia}
 use Rattle.policy_words.specs.declared.sayings.CapKind.{CapKind}
-use Rattle.policy_words.specs.declared.sayings.CapKind.TheVariants as caps
 use Rattle.gt_base.specs.declared.policies.Form.{Form}
 use Rattle.gt_base.specs.declared.policies.Form.TheVariants.{Each, Start, Span}
+use Rattle.gt_base.specs.declared.limits.TheConstants.{LAST_MINUTE}
 use Rattle.policy_words.specs.declared.parts.Sort.{Sort}
 use Rattle.policy_words.specs.declared.parts.Sort.TheVariants.{Enabling, Assigning, Granting, Arming, Linking}
+use Rattle.policy_words.proofs.CapKinds.{each_kind}
 use Rattle.policy_words.specs.Wording.{event_verb, cond_verb, signal_verb, sort_of, fluent_names, cond_words, item_words, head_words, delay_words}
-use Rattle.policy_words.specs.Sayings.{SaidView, version, role, user, perm, period, limit, edge, cap, admin, opening, entry, trigger, said_words, and_items, during_words, kind_word, strength_word, cap_word, form_word, is_formed, are_names, is_count, is_period_name, is_head, is_item, is_some_item}
+use Rattle.policy_words.specs.Sayings.{SaidView, version, role, user, perm, period, limit, edge, cap, admin, opening, entry, trigger, said_words, and_items, during_words, kind_word, strength_word, cap_word, form_word, is_formed, are_names, is_count, is_period_name, is_head, is_item}
+use Rattle.gtrbac_model.specs.History.{is_some_item}
 use Rattle.policy_lines.specs.Plain.{is_solid, is_word}
 use Rattle.policy_lines.proofs.Truths.{both, and_true}
-use Rattle.policy_lines.proofs.Numbers.{all_digits}
+use Rattle.gt_text.proofs.Decimals.{all_digits}
 use Rattle.policy_lines.proofs.SpacedWords.{all_append}
 use Rattle.policy_lines.proofs.SayingReads.{is_no_period}
 
@@ -82,7 +83,7 @@ two_on : (n : ℕ) (r : Bool) → r ≡ true → (is_solid (48 + n / 10) && (is_
 two_on n r h =
     and_true (is_solid (48 + n / 10)) (is_solid (48 + n % 10) && r) (above_32 (48 + n / 10) (omega arith)) (and_true (is_solid (48 + n % 10)) r (above_32 (48 + n % 10) (omega arith)) h)
 
-solid_civil : (c : Civil) → list_all is_solid (text_of c) ≡ true
+solid_civil : (c : Civil) → list_all is_solid (text_of_civil c) ≡ true
 solid_civil c = two_on (c.year / 100) _ (two_on (c.year % 100) _ (two_on c.month _ (two_on c.day _ (two_on c.hour _ (two_on c.minute true refl)))))
 
 -- YYYY-MM-DDTHH:MM
@@ -158,7 +159,7 @@ words_items (i ∷ j ∷ is) h =
     let parts = both (is_item i) (list_all is_item (j ∷ is)) h in
     all_append is_word (item_words i) (codes "and" ∷ and_items (j ∷ is)) (words_item i parts.0) (behind (codes "and") (and_items (j ∷ is)) refl (words_items (j ∷ is) parts.1))
 
-pub words_delay : (d : ℕ) → d ≤ last_minute → list_all is_word (delay_words d) ≡ true
+pub words_delay : (d : ℕ) → d ≤ LAST_MINUTE → list_all is_word (delay_words d) ≡ true
 words_delay d le = split (nat_eq d 0) (λ t. rw (t, delay_words) refl) (λ f. rw (f, delay_words) (behind (decimal d) [] (word_decimal d (omega (arith, le))) refl))
 
 word_count : (n : ℕ) → is_count n ≡ true → is_word (decimal n) ≡ true
@@ -178,10 +179,7 @@ word_strength true = refl
 word_strength false = refl
 
 word_cap : (k : CapKind) → is_word (cap_word k) ≡ true
-word_cap caps.Total = refl
-word_cap caps.User = refl
-word_cap caps.Length = refl
-word_cap caps.Day = refl
+word_cap k = each_kind (λ k. is_word (cap_word k)) refl k
 
 word_form : (f : Form) → is_word (form_word f) ≡ true
 word_form Each = refl
@@ -220,8 +218,8 @@ solid_words (entry f p h) is np =
     let parts = both (is_name p) (is_head h) is in
     behind (form_word f) (p ∷ head_words h) (word_form f) (behind p (head_words h) (word_name p parts.0) (words_head h parts.1))
 solid_words (trigger items h d) is np =
-    let p3 = both (is_some_item items && list_all is_item items && is_head h) (nat_le d last_minute) is in
+    let p3 = both (is_some_item items && list_all is_item items && is_head h) (nat_le d LAST_MINUTE) is in
     let p2 = both (is_some_item items && list_all is_item items) (is_head h) p3.0 in
     let p1 = both (is_some_item items) (list_all is_item items) p2.0 in
     all_append is_word (and_items items ++ codes "then" ∷ head_words h) (delay_words d) (all_append is_word (and_items items) (codes "then" ∷ head_words h) (words_items items p1.1) (words_head h p2.1))
-    (words_delay d (leb-true d last_minute p3.1))
+    (words_delay d (leb-true d LAST_MINUTE p3.1))

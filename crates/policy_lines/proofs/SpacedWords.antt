@@ -90,10 +90,10 @@ past_solid : (w rest : List ℕ) → list_all is_solid w ≡ true → past_word 
 past_solid [] rest h = refl
 past_solid (b ∷ bs) rest h =
     let parts = both (is_solid b) (list_all is_solid bs) h in
-    ap (λ t. elim t as (λ _. List ℕ) [ true ↦ b ∷ (bs ++ 32 ∷ []) ++ rest | false ↦ past_word ((bs ++ 32 ∷ []) ++ rest) ]) (solid_is b parts.0) ∙ past_solid bs rest parts.1
+    ap (λ t. cond t (b ∷ (bs ++ 32 ∷ []) ++ rest) (past_word ((bs ++ 32 ∷ []) ++ rest))) (solid_is b parts.0) ∙ past_solid bs rest parts.1
 
 pub no_indent : (b : ℕ) (bs : List ℕ) → is_blank b ≡ false → unindented (b ∷ bs) ≡ b ∷ bs
-no_indent b bs h = ap (λ t. elim t as (λ _. List ℕ) [ true ↦ unindented bs | false ↦ b ∷ bs ]) h
+no_indent b bs h = ap (λ t. cond t (unindented bs) (b ∷ bs)) h
 
 word_first : (w rest : List ℕ) → is_word w ≡ true → unindented ((w ++ 32 ∷ []) ++ rest) ≡ (w ++ 32 ∷ []) ++ rest
 word_first [] rest h = absurd (false≢true h)
@@ -114,6 +114,6 @@ rest_past n w rest h =
 pub trimmed_behind : (front : List ℕ) (b : ℕ) (bs : List ℕ) → trimmed (b ∷ bs) ≡ b ∷ bs → trimmed (front ++ b ∷ bs) ≡ front ++ b ∷ bs
 trimmed_behind [] b bs h = h
 trimmed_behind (x ∷ []) b bs h =
-    ap (λ (rest : List ℕ). elim rest as (λ _. List ℕ) [ [] ↦ elim (is_blank x) as (λ _. List ℕ) [ true ↦ [] | false ↦ x ∷ [] ] | c ∷ cs ↦ x ∷ c ∷ cs ]) h
+    ap (λ (rest : List ℕ). elim rest as (λ _. List ℕ) [ [] ↦ cond (is_blank x) [] (x ∷ []) | c ∷ cs ↦ x ∷ c ∷ cs ]) h
 trimmed_behind (x ∷ y ∷ ys) b bs h =
-    ap (λ (rest : List ℕ). elim rest as (λ _. List ℕ) [ [] ↦ elim (is_blank x) as (λ _. List ℕ) [ true ↦ [] | false ↦ x ∷ [] ] | c ∷ cs ↦ x ∷ c ∷ cs ]) (trimmed_behind (y ∷ ys) b bs h)
+    ap (λ (rest : List ℕ). elim rest as (λ _. List ℕ) [ [] ↦ cond (is_blank x) [] (x ∷ []) | c ∷ cs ↦ x ∷ c ∷ cs ]) (trimmed_behind (y ∷ ys) b bs h)

@@ -1,5 +1,5 @@
 -- What is spelled by words is read from them.
-use Rattle.std.proofs.Common.{◌≡◌, ℕ, zero, suc, ◌+◌, ◌<◌, ◌≤◌, ◌^◌, Bool, true, false, ◌&&◌, List, [], ◌∷◌, ◌++◌, length, get_or, take, drop, Option, Some, None, refl, sym, ◌∙◌, ap, arith, decimal, append_assoc, length-append}
+use Rattle.std.proofs.Common.{◌≡◌, ℕ, zero, suc, ◌+◌, ◌<◌, ◌≤◌, ◌^◌, Bool, true, false, cond, ◌&&◌, List, [], ◌∷◌, ◌++◌, length, get_or, take, drop, Option, Some, None, refl, sym, ◌∙◌, ap, arith, decimal, append_assoc, length-append}
 use Rattle.std.specs.Prelude.{codes, nat_le, nat_eq}
 use Rattle.std.specs.List.{list_all, before_first, after_first, position_or_len}
 use Rattle.std.proofs.lemmas.List.Sums.{position_or_len_is}
@@ -20,11 +20,12 @@ use Rattle.policy_words.specs.declared.parts.Item.TheVariants.{Event, Signal, Co
 use Rattle.policy_words.specs.declared.parts.Sort.{Sort}
 use Rattle.policy_words.specs.declared.parts.Sort.TheVariants.{Enabling, Assigning, Granting, Arming, Linking}
 use Rattle.policy_words.specs.Wording.{◌>>=◌, event_verb, cond_verb, signal_verb, verb_in, or_else, sort_of, fluent_names, event_words, cond_words, signal_words, item_words, head_words, delay_words, fluent_at, verb_at, event_at, cond_at, signal_of, signal_at, settled_at, item_at, head_at, is_colon, delay_in}
-use Rattle.policy_words.specs.Sayings.{are_names, is_item, is_head, and_items, is_some_item}
+use Rattle.policy_words.specs.Sayings.{are_names, is_item, is_head, and_items}
+use Rattle.gtrbac_model.specs.History.{is_some_item}
 use Rattle.policy_lines.specs.Cursors.{items_of, onto}
 use Rattle.policy_lines.proofs.Truths.{both, and_true}
 use Rattle.policy_lines.proofs.Linked.{items_last, items_next}
-use Rattle.policy_lines.proofs.Numbers.{number_from-decimal, all_digits}
+use Rattle.gt_text.proofs.Decimals.{number_from-decimal, all_digits}
 
 one_true : (a : List ℕ) → are_names (a ∷ []) ≡ true → is_name a ≡ true
 one_true a h = (both (is_name a) true h).0
@@ -33,11 +34,11 @@ pair_true : (a b : List ℕ) → are_names (a ∷ b ∷ []) ≡ true → (is_nam
 pair_true a b h = let parts = both (is_name a) (is_name b && true) h in and_true (is_name a) (is_name b) parts.0 (both (is_name b) true parts.1).0
 
 pub fluent_reads : (f : NamedFluent) (rest : List (List ℕ)) → are_names (fluent_names f) ≡ true → fluent_at (sort_of f) (fluent_names f ++ rest) ≡ Some (f, rest)
-fluent_reads (Enabled a) rest h = ap (λ b. elim b as (λ _. Option (NamedFluent × List (List ℕ))) [ true ↦ Some (Enabled a, rest) | false ↦ None ]) (one_true a h)
-fluent_reads (Assigned a b) rest h = ap (λ t. elim t as (λ _. Option (NamedFluent × List (List ℕ))) [ true ↦ Some (Assigned a b, rest) | false ↦ None ]) (pair_true a b h)
-fluent_reads (Granted a b) rest h = ap (λ t. elim t as (λ _. Option (NamedFluent × List (List ℕ))) [ true ↦ Some (Granted a b, rest) | false ↦ None ]) (pair_true a b h)
-fluent_reads (Limit a) rest h = ap (λ b. elim b as (λ _. Option (NamedFluent × List (List ℕ))) [ true ↦ Some (Limit a, rest) | false ↦ None ]) (one_true a h)
-fluent_reads (Edge a b) rest h = ap (λ t. elim t as (λ _. Option (NamedFluent × List (List ℕ))) [ true ↦ Some (Edge a b, rest) | false ↦ None ]) (pair_true a b h)
+fluent_reads (Enabled a) rest h = ap (λ b. cond b (Some (Enabled a, rest)) None) (one_true a h)
+fluent_reads (Assigned a b) rest h = ap (λ t. cond t (Some (Assigned a b, rest)) None) (pair_true a b h)
+fluent_reads (Granted a b) rest h = ap (λ t. cond t (Some (Granted a b, rest)) None) (pair_true a b h)
+fluent_reads (Limit a) rest h = ap (λ b. cond b (Some (Limit a, rest)) None) (one_true a h)
+fluent_reads (Edge a b) rest h = ap (λ t. cond t (Some (Edge a b, rest)) None) (pair_true a b h)
 
 event_found : (on : Bool) (s : Sort) → verb_in event_verb (event_verb on s) ≡ Some (on, s)
 event_found true Enabling = refl
@@ -75,7 +76,7 @@ cond_reads c rest h = rw (verb_reads cond_verb c.on c.fluent rest (cond_found c.
 
 signal_read : (start : Bool) (a b : List ℕ) (rest : List (List ℕ)) → (is_name a && is_name b) ≡ true
     → signal_of start (a ∷ b ∷ rest) ≡ Some (record { start = start; user = a; role = b }, rest)
-signal_read start a b rest h = ap (λ t. elim t as (λ _. Option (NamedSignal × List (List ℕ))) [ true ↦ Some (record { start = start; user = a; role = b }, rest) | false ↦ None ]) h
+signal_read start a b rest h = ap (λ t. cond t (Some (record { start = start; user = a; role = b }, rest)) None) h
 
 signal_found : (start : Bool) (a b : List ℕ) (rest : List (List ℕ)) → signal_at (signal_verb start ∷ a ∷ b ∷ rest) ≡ signal_of start (a ∷ b ∷ rest)
 signal_found true a b rest = refl

@@ -1,5 +1,5 @@
 -- What is read from the words of a trigger is in range, and the words spell it.
-use Rattle.std.proofs.Common.{◌≡◌, ◌⊎◌, inl, inr, ℕ, zero, suc, ◌≤◌, true, false, ◌&&◌, List, [], ◌∷◌, ◌++◌, length, Some, None, refl, sym, ◌∙◌, ap, subst, arith, decimal, append_assoc}
+use Rattle.std.proofs.Common.{◌≡◌, ◌⊎◌, inl, inr, ℕ, zero, suc, ◌≤◌, true, false, cond, ◌&&◌, List, [], ◌∷◌, ◌++◌, length, Some, None, refl, sym, ◌∙◌, ap, subst, arith, decimal, append_assoc}
 use Rattle.std.specs.Prelude.{codes, bytes_eq, nat_le, nat_eq}
 use Rattle.std.specs.List.{list_all}
 use Rattle.std.proofs.lemmas.Slice.Eq.{bytes_eq-Decides}
@@ -7,17 +7,18 @@ use Rattle.std.proofs.lemmas.Bool.{false≢true, le-leb}
 use Rattle.std.proofs.lemmas.Bool.Decides.{Decides-eqb}
 use Rattle.std.proofs.lemmas.Fmt.{decimal_digit}
 use Rattle.gtrbac_model.proofs.Elements.{split}
-use Rattle.gt_base.specs.Bounds.{last_minute}
 use Rattle.gt_base.specs.Names.{number_from}
+use Rattle.gt_base.specs.declared.limits.TheConstants.{LAST_MINUTE}
 use Rattle.gt_text.specs.Words.{words_of}
 use Rattle.policy_words.specs.declared.parts.NamedHead.{NamedHead}
 use Rattle.policy_words.specs.declared.parts.Item.{Item}
 use Rattle.policy_words.specs.Wording.{item_at, item_words, head_at, head_words, delay_in, delay_words}
-use Rattle.policy_words.specs.Sayings.{SaidView, trigger, and_items, is_formed, is_item, is_some_item, is_head}
+use Rattle.policy_words.specs.Sayings.{SaidView, trigger, and_items, is_formed, is_item, is_head}
+use Rattle.gtrbac_model.specs.History.{is_some_item}
 use Rattle.policy_words.specs.Reading.{items_at, trigger_in}
 use Rattle.policy_words.specs.Spelling.{Spells}
-use Rattle.policy_lines.proofs.Truths.{and_true, some_is, none_some, chosen}
-use Rattle.policy_lines.proofs.Numbers.{number_from_is}
+use Rattle.policy_lines.proofs.Truths.{and_true, some_is, none_some, taken, chosen}
+use Rattle.gt_text.proofs.Decimals.{number_from_is}
 use Rattle.policy_lines.proofs.FrontWords.{item_at_is}
 use Rattle.policy_lines.proofs.Linked.{with_item}
 use Rattle.policy_lines.proofs.FormWords.{came, head_at_is}
@@ -35,7 +36,7 @@ items_after : (k : ℕ) (i : Item) (rest : List (List ℕ)) (r : List Item × Li
     → is_item i ≡ true → with_item k (i, rest) ≡ Some r → ItemsAt (item_words i ++ rest) r
 items_after k i [] r again is e = absurd (none_some e)
 items_after k i (w ∷ more) r again is e =
-    elim (chosen (bytes_eq w (codes "and")) _ _ (Some r) e) [
+    elim (taken (bytes_eq w (codes "and")) _ _ (Some r) e) [
       | inl (t, go) ↦
           (let c = came (items_at k more) (λ rest. Some (i ∷ rest.0, rest.1)) r go in
           let rest = again more c.it c.was in
@@ -47,7 +48,7 @@ items_after k i (w ∷ more) r again is e =
                 ∙ sym (append_assoc (item_words i) (codes "and" ∷ and_items c.it.0) (codes "then" ∷ c.it.1))
                 ∙ ap (λ ws. ws ++ codes "then" ∷ c.it.1) (sym (and_more i c.it.0 rest.some));
           }))
-      | inr (f, go) ↦ elim (chosen (bytes_eq w (codes "then")) _ _ (Some r) go) [
+      | inr (f, go) ↦ elim (taken (bytes_eq w (codes "then")) _ _ (Some r) go) [
         | inl (t, end) ↦
             subst (ItemsAt (item_words i ++ w ∷ more)) (some_is end)
             (record { some = refl; items = and_true (is_item i) true is refl; words = ap (λ w. item_words i ++ w ∷ more) ((bytes_eq-Decides w (codes "then")).0 t) })
@@ -71,13 +72,13 @@ delay_of : (d : ℕ) (n : List ℕ) → n ≡ decimal d → SpellsDelay d (codes
 delay_of d n e = split (nat_eq d 0)
     (λ t.
     let is : d ≡ 0 = (Decides-eqb d 0).0 t in inr (is, ap (λ n. codes "after" ∷ n ∷ []) (e ∙ ap decimal is ∙ decimal_digit 0 (omega arith))))
-    (λ f. inl (ap (λ n. codes "after" ∷ n ∷ []) e ∙ sym (ap (λ b. elim b as (λ _. List (List ℕ)) [ true ↦ [] | false ↦ codes "after" ∷ decimal d ∷ [] ]) f)))
+    (λ f. inl (ap (λ n. codes "after" ∷ n ∷ []) e ∙ sym (ap (λ b. cond b [] (codes "after" ∷ decimal d ∷ [])) f)))
 
-pub delay_is : (ws : List (List ℕ)) (d : ℕ) → delay_in ws ≡ Some d → (d ≤ last_minute) × SpellsDelay d ws
+pub delay_is : (ws : List (List ℕ)) (d : ℕ) → delay_in ws ≡ Some d → (d ≤ LAST_MINUTE) × SpellsDelay d ws
 delay_is [] d e = let none : 0 ≡ d = some_is e in (omega (arith, none), inl (sym (ap delay_words (sym none))))
 delay_is (w ∷ []) d e = absurd (none_some e)
 delay_is (w ∷ n ∷ []) d e =
-    elim (chosen (bytes_eq w (codes "after")) (number_from 0 52_595_999 n) None (Some d) e) [
+    elim (taken (bytes_eq w (codes "after")) (number_from 0 52_595_999 n) None (Some d) e) [
       | inl (t, go) ↦
           (let is = number_from_is 0 52_595_999 n d (omega arith) go in
           (is.1, subst (λ w. SpellsDelay d (w ∷ n ∷ [])) (sym ((bytes_eq-Decides w (codes "after")).0 t)) (delay_of d n is.2)))
@@ -115,9 +116,9 @@ trigger_is line ws s words e =
       head = head.it.0;
       delay = delay.it;
       built = some_is delay.then;
-      formed = and_true (is_some_item items.it.0 && list_all is_item items.it.0 && is_head head.it.0) (nat_le delay.it last_minute)
+      formed = and_true (is_some_item items.it.0 && list_all is_item items.it.0 && is_head head.it.0) (nat_le delay.it LAST_MINUTE)
           (and_true (is_some_item items.it.0 && list_all is_item items.it.0) (is_head head.it.0) (and_true (is_some_item items.it.0) (list_all is_item items.it.0) i_is.some i_is.items) h_is.head)
-          (le-leb delay.it last_minute d_is.0);
+          (le-leb delay.it LAST_MINUTE d_is.0);
       spelled = spells_trigger line items.it.0 head.it.0 delay.it head.it.1
           (words
           ∙ ap (λ ws. codes "when" ∷ ws)

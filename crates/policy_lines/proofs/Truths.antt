@@ -1,5 +1,5 @@
 -- Tests, and what they say.
-use Rattle.std.proofs.Common.{◌≡◌, ◌⊎◌, inl, inr, Bool, true, false, ◌&&◌, Option, Some, None, refl}
+use Rattle.std.proofs.Common.{◌≡◌, ◌⊎◌, inl, inr, Bool, true, false, cond, ◌&&◌, Some, None, refl, Option}
 
 pub not_true : (b : Bool) → (b ≡ true → ⊥) → b ≡ false
 not_true true h = absurd (h refl)
@@ -20,11 +20,16 @@ pub none_some : {A : Type 0} {a : A} → None ≡ Some a → ⊥
 none_some e = cc
 
 -- what is there only where a test holds
-pub where_true : {A : Type 0} (b : Bool) (a x : A) → elim b as (λ _. Option A) [ true ↦ Some a | false ↦ None ] ≡ Some x → (b ≡ true) × (a ≡ x)
+pub where_true : {A : Type 0} (b : Bool) (a x : A) → cond b (Some a) None ≡ Some x → (b ≡ true) × (a ≡ x)
 where_true true a x e = (refl, some_is e)
 where_true false a x e = absurd (none_some e)
 
--- what a test chose
+-- what a test took
+pub taken : {A : Type 0} (t : Bool) (x y r : A) → cond t x y ≡ r → ((t ≡ true) × (x ≡ r)) ⊎ ((t ≡ false) × (y ≡ r))
+taken true x y r e = inl (refl, e)
+taken false x y r e = inr (refl, e)
+
+-- the same of a test that a definition takes apart
 pub chosen : {A : Type 0} (t : Bool) (x y r : A) → elim t as (λ _. A) [ true ↦ x | false ↦ y ] ≡ r → ((t ≡ true) × (x ≡ r)) ⊎ ((t ≡ false) × (y ≡ r))
 chosen true x y r e = inl (refl, e)
 chosen false x y r e = inr (refl, e)

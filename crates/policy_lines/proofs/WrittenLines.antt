@@ -1,10 +1,9 @@
 -- A saying is read from the line that it writes.
-use Rattle.std.proofs.Common.{◌≡◌, inr, ℕ, ◌<◌, ◌≤◌, ◌^◌, true, false, not, ◌&&◌, List, [], ◌∷◌, ◌++◌, length, Option, Some, None, Result, Ok, Err, refl, sym, ◌∙◌, ap, arith, decimal, ltb}
+use Rattle.std.proofs.Common.{◌≡◌, inr, ℕ, ◌<◌, ◌≤◌, ◌^◌, true, false, cond, not, ◌&&◌, List, [], ◌∷◌, ◌++◌, length, Option, Some, None, Ok, Err, refl, sym, ◌∙◌, ap, arith, decimal, ltb}
 use Rattle.std.specs.Prelude.{codes, nat_le, nat_lt, flat_map, is_some, take}
 use Rattle.std.specs.List.{list_all}
 use Rattle.std.proofs.lemmas.Bool.{false≢true}
 use borrow.Author.Tests.{leb-true, ltb-true}
-use Rattle.gt_base.specs.Bounds.{last_minute}
 use Rattle.gt_base.specs.Names.{is_name}
 use Rattle.gtrbac_model.specs.declared.calendars.Calendar.{Calendar}
 use Rattle.gtrbac_model.specs.declared.calendars.Calendar.TheVariants.{Years, Months, Weeks, Days, Hours, Minutes}
@@ -17,7 +16,6 @@ use Rattle.periodic_expr.specs.Scan.{calendar_word}
 use Rattle.periodic_expr.specs.Printed.{expr_text, parts_text, part_text, later_part, set_text, numbers_text, later_number}
 use Rattle.periodic_expr.specs.Reading.{read_expr}
 use Rattle.periodic_expr.proofs.Again.{printed_is_read}
-use Rattle.policy_words.specs.declared.faults.TextKind.{TextKind}
 use Rattle.policy_words.specs.declared.faults.TextKind.TheVariants as faults
 use Rattle.policy_words.specs.Rests.{unindented, trimmed, rest_after}
 use Rattle.policy_words.specs.declared.parts.NamedFluent.{NamedFluent}
@@ -27,6 +25,7 @@ use Rattle.policy_words.specs.declared.parts.Item.{Item}
 use Rattle.policy_words.specs.declared.versions.TextVersion.{TextVersion}
 use Rattle.policy_words.specs.declared.versions.TextVersion.TheVariants.{Open, One, Two}
 use Rattle.gt_base.specs.declared.policies.Form.TheVariants.{Each, Start, Span}
+use Rattle.gt_base.specs.declared.limits.TheConstants.{LAST_MINUTE}
 use Rattle.policy_words.specs.Sayings.{SaidView, version, role, user, perm, period, limit, edge, cap, admin, opening, entry, trigger, said_words, is_formed, is_bounded, is_bodied, is_saying}
 use Rattle.policy_words.specs.Reading.{said_of, some_said, read_said, formed_in, trigger_by, with_body, with_expr, expr_of_line}
 use Rattle.policy_words.specs.Versions.{has_edges, is_allowed}
@@ -162,7 +161,7 @@ module _ (n : List ℕ) (f l : ℕ) (e : Expr) (name : is_name n ≡ true) (expr
       ∙ ap unindented text.starts ∙ sym text.starts)
       ∙ text.ends
 
-  period_bounds : f ≤ last_minute → l ≤ last_minute → HasBounds line n f l
+  period_bounds : f ≤ LAST_MINUTE → l ≤ LAST_MINUTE → HasBounds line n f l
   period_bounds low high = record {
     name = name;
     first_word = civil_text f;
@@ -172,10 +171,10 @@ module _ (n : List ℕ) (f l : ℕ) (e : Expr) (name : is_name n ≡ true) (expr
     is_last = inr (high, refl);
   }
 
-  pub period_said : (v : TextVersion) → f ≤ last_minute → l ≤ last_minute → f ≤ l → said_of v line (words_of line) ≡ Ok (period n f l e)
+  pub period_said : (v : TextVersion) → f ≤ LAST_MINUTE → l ≤ LAST_MINUTE → f ≤ l → said_of v line (words_of line) ≡ Ok (period n f l e)
   period_said v low high order =
       bounds_read v line n f l (period_bounds low high)
-      ∙ ap (λ b. elim b as (λ _. Result SaidView TextKind) [ true ↦ Err faults.Bounds | false ↦ with_expr (record { name = n; first = f; last = l }) (read_expr (expr_of_line line)) ])
+      ∙ ap (λ b. cond b (Err faults.Bounds) (with_expr (record { name = n; first = f; last = l }) (read_expr (expr_of_line line))))
       (not_true (ltb l f) (λ t. absurd (omega (arith, order, ltb-true l f t))))
       ∙ ap (λ text. with_expr (record { name = n; first = f; last = l }) (read_expr text)) period_expr
       ∙ ap (with_expr (record { name = n; first = f; last = l })) (printed_is_read e expr)
@@ -204,21 +203,18 @@ loud_words (trigger items h d) = refl
 
 pub read_loud : (v : TextVersion) (line : List ℕ) → length line ≤ 4_096 → are_silent (words_of line) ≡ false → read_said v line ≡ some_said (said_of v line (words_of line))
 read_loud v line short loud =
-    ap (λ b. elim b as (λ _. Result (Option SaidView) TextKind) [
-      | true ↦ Err faults.Long
-      | false ↦ elim (are_silent (words_of line)) [ true ↦ Ok None | false ↦ some_said (said_of v line (words_of line)) ]
-    ]) (not_true (is_longer 4_096 line) (λ t. absurd (omega (arith, short, ltb-true 4_096 (length line) t))))
-    ∙ ap (λ b. elim b as (λ _. Result (Option SaidView) TextKind) [ true ↦ Ok None | false ↦ some_said (said_of v line (words_of line)) ]) loud
+    ap (λ b. cond b (Err faults.Long) (cond (are_silent (words_of line)) (Ok None) (some_said (said_of v line (words_of line))))) (not_true (is_longer 4_096 line) (λ t. absurd (omega (arith, short, ltb-true 4_096 (length line) t))))
+    ∙ ap (λ b. cond b (Ok None) (some_said (said_of v line (words_of line)))) loud
 
 pub allowed_ok : (v : TextVersion) (said : SaidView) → is_allowed (has_edges v) said ≡ true → formed_in (has_edges v) (Some said) ≡ Ok said
-allowed_ok v said h = ap (λ b. elim b as (λ _. Result SaidView TextKind) [ true ↦ Ok said | false ↦ Err faults.Form ]) h
+allowed_ok v said h = ap (λ b. cond b (Ok said) (Err faults.Form)) h
 
 pub opening_ok : (v : TextVersion) (f : NamedFluent) → is_allowed (has_edges v) (opening f) ≡ true → judged v (opening f) ≡ Ok (opening f)
-opening_ok v f h = ap (λ b. elim b as (λ _. Result SaidView TextKind) [ true ↦ Ok (opening f) | false ↦ Err faults.Word ]) h
+opening_ok v f h = ap (λ b. cond b (Ok (opening f)) (Err faults.Word)) h
 
 pub trigger_ok : (v : TextVersion) (items : List Item) (h : NamedHead) (d : ℕ) → is_allowed (has_edges v) (trigger items h d) ≡ true
     → trigger_by (has_edges v) (Some (trigger items h d)) ≡ with_body (trigger items h d)
-trigger_ok v items h d allowed = ap (λ b. elim b as (λ _. Result SaidView TextKind) [ true ↦ with_body (trigger items h d) | false ↦ Err faults.Form ]) allowed
+trigger_ok v items h d allowed = ap (λ b. cond b (with_body (trigger items h d)) (Err faults.Form)) allowed
 
 pub judged_ok : (v : TextVersion) (said : SaidView) → is_formed said ≡ true → is_bodied said ≡ true → IsPlaced v said → judged v said ≡ Ok said
 judged_ok Open (version n) h b placed = refl
@@ -235,7 +231,7 @@ judged_ok v (admin u) h b placed = refl
 judged_ok v (opening f) h b placed = opening_ok v f placed.1
 judged_ok v (entry f p hd) h b placed = allowed_ok v (entry f p hd) placed.1
 judged_ok v (trigger items hd d) h b placed =
-    trigger_ok v items hd d placed.1 ∙ ap (λ t. elim t as (λ _. Result SaidView TextKind) [ true ↦ Ok (trigger items hd d) | false ↦ Err faults.Body ]) b
+    trigger_ok v items hd d placed.1 ∙ ap (λ t. cond t (Ok (trigger items hd d)) (Err faults.Body)) b
 
 written_words : (said : SaidView) (v : TextVersion) → is_no_period said ≡ true → is_formed said ≡ true → is_bodied said ≡ true → IsPlaced v said → length (spaced (said_words said)) ≤ 4_096
     → read_said v (spaced (said_words said)) ≡ Ok (Some said)
@@ -248,11 +244,11 @@ written_words said v np h b placed short =
 written_period : (n : List ℕ) (f l : ℕ) (e : Expr) (v : TextVersion) → is_formed (period n f l e) ≡ true → f ≤ l → length (spaced (said_words (period n f l e))) ≤ 4_096
     → read_said v (spaced (said_words (period n f l e))) ≡ Ok (Some (period n f l e))
 written_period n f l e v h order short =
-    let h3 = both (is_name n && nat_le f last_minute && nat_le l last_minute) (is_expr e) h in
-    let h2 = both (is_name n && nat_le f last_minute) (nat_le l last_minute) h3.0 in
-    let h1 = both (is_name n) (nat_le f last_minute) h2.0 in
+    let h3 = both (is_name n && nat_le f LAST_MINUTE && nat_le l LAST_MINUTE) (is_expr e) h in
+    let h2 = both (is_name n && nat_le f LAST_MINUTE) (nat_le l LAST_MINUTE) h3.0 in
+    let h1 = both (is_name n) (nat_le f LAST_MINUTE) h2.0 in
     read_loud v (spaced (said_words (period n f l e))) short (ap are_silent (period_words n f l e h1.0 h3.1))
-    ∙ ap some_said (period_said n f l e h1.0 h3.1 v (leb-true f last_minute h1.1) (leb-true l last_minute h2.1) order)
+    ∙ ap some_said (period_said n f l e h1.0 h3.1 v (leb-true f LAST_MINUTE h1.1) (leb-true l LAST_MINUTE h2.1) order)
 
 pub written_is_read : (said : SaidView) (v : TextVersion) → is_saying said ≡ true → IsPlaced v said → length (spaced (said_words said)) ≤ 4_096
     → read_said v (spaced (said_words said)) ≡ Ok (Some said)

@@ -1,5 +1,5 @@
 -- Words that are read from the front, beside those of the wording.
-use Rattle.std.specs.Prelude.{ℕ, Bool, true, false, List, [], ◌∷◌, ◌++◌, codes, bytes_eq, length, Option, Some, None}
+use Rattle.std.specs.Prelude.{ℕ, Bool, true, false, List, [], ◌∷◌, ◌++◌, codes, bytes_eq, length, Option, Some, None, if◌then◌else◌}
 use Rattle.gt_base.specs.Names.{name_in}
 use Rattle.policy_words.specs.declared.parts.Item.{Item}
 use Rattle.policy_words.specs.declared.parts.NamedCond.{NamedCond}
@@ -40,11 +40,10 @@ other_item_at ws = or_else (as_signal (signal_at ws))
 -- `and`, or `then`, which ends the items
 abbrev pub link_at : Read Bool
 link_at [] = None
-link_at (w ∷ ws) = elim (bytes_eq w (codes "and")) [
-  | true ↦ Some (false, ws)
-  | false ↦ elim (bytes_eq w (codes "then"))
-      [ true ↦ Some (true, ws) | false ↦ None ]
-]
+link_at (w ∷ ws) =
+    if bytes_eq w (codes "and") then Some (false, ws)
+    else if bytes_eq w (codes "then") then Some (true, ws)
+    else None
 
 -- the items up to `then`
 unfoldable pub items_of : Read (List Item)

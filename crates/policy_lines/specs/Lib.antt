@@ -1,5 +1,5 @@
 pub mod Cursors
-pub mod Counting
+pub mod FirstWords
 pub mod Answered
 pub mod Spaces
 pub mod Plain

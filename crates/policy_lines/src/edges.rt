@@ -1,16 +1,16 @@
 //! Sayings that name an edge of the hierarchy, which version 1 has no words for.
 ghost use Rattle.std.specs.Prelude.{◌≡◌, option_map};
 ghost use Rattle.std.specs.List.{list_any};
-ghost use Rattle.policy_words.specs.Sayings.{is_edge as edge_fluent, item_names_edge as item_of_edge, names_edge as names};
-ghost use Rattle.policy_words.specs.Versions.{is_allowed as allowed};
+ghost use Rattle.policy_words.specs.Sayings.{is_edge, item_names_edge, names_edge};
+ghost use Rattle.policy_words.specs.Versions.{is_allowed};
 ghost use Rattle.policy_words.specs.Seen.{seen_said};
-ghost use Rattle.policy_words.specs.Reading.{formed_in as formed_by};
-ghost use Rattle.policy_lines.specs.Answered.{Answers};
+ghost use Rattle.policy_words.specs.Reading.{formed_in};
+ghost use Rattle.policy_lines.specs.Answered.{ReadsAs};
 
 use policy_words::{Item, NamedFluent, Said, TextKind};
 
 fn is_edge(fluent: &NamedFluent) -> bool
-    ensures { result ≡ edge_fluent fluent.now }
+    ensures { result ≡ is_edge fluent.now }
 {
     match fluent {
         NamedFluent::Edge(_, _) => true,
@@ -19,7 +19,7 @@ fn is_edge(fluent: &NamedFluent) -> bool
 }
 
 fn item_names_edge(item: &Item) -> bool
-    ensures { result ≡ item_of_edge item.now }
+    ensures { result ≡ item_names_edge item.now }
 {
     match item {
         Item::Event(event) => is_edge(&event.fluent),
@@ -30,14 +30,14 @@ fn item_names_edge(item: &Item) -> bool
 }
 
 fn any_names_edge(items: &[Item]) -> bool
-    ensures { result ≡ list_any item_of_edge items.now }
+    ensures { result ≡ list_any item_names_edge items.now }
 {
     items.iter().any(|item| item_names_edge(item))
 }
 
 /// Whether a saying links, unlinks or asks for an edge, which version 1 has no words for.
 fn names_edge(said: &Said) -> bool
-    ensures { result ≡ names (seen_said said.now) }
+    ensures { result ≡ names_edge (seen_said said.now) }
 {
     match said {
         Said::Limit { cond, .. } => is_edge(&cond.fluent),
@@ -52,14 +52,14 @@ fn names_edge(said: &Said) -> bool
 
 /// Whether the version has words for a saying; `edges` is whether it has words for edges.
 pub(crate) fn is_allowed(edges: bool, said: &Said) -> bool
-    ensures { result ≡ allowed edges (seen_said said.now) }
+    ensures { result ≡ is_allowed edges (seen_said said.now) }
 {
     !names_edge(said) || edges
 }
 
 /// A saying, or that the words have no form; where `edges` is false no form names an edge.
 pub(crate) fn formed_in(edges: bool, said: Option<Said>) -> Result<Said, TextKind>
-    ensures { Answers result (formed_by edges (option_map seen_said said)) }
+    ensures { ReadsAs result (formed_in edges (option_map seen_said said)) }
 {
     let Some(said) = said else {
         return Err(TextKind::Form);

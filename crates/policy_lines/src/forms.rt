@@ -1,21 +1,28 @@
 //! Lines that say nothing of an expression: their words after the first.
 ghost use Rattle.std.specs.Prelude.{◌≡◌, ◌∷◌, [], List, ℕ, true, false, codes, option_map};
 ghost use Rattle.policy_words.specs.Wording.{cond_at, head_at};
+ghost use Rattle.policy_words.specs.CapKinds.{cap_kinds};
 ghost use Rattle.policy_words.specs.Sayings.{SaidView, kind_word, strength_word, cap_word};
 ghost use Rattle.policy_words.specs.Seen.{seen_said};
-ghost use Rattle.policy_words.specs.Reading.{formed as formed_by, one_name as named, most_at, during_in, limit_in, spelled_so, edge_in, cap_in, opening_by, linked_by, entry_in, version_in, version_by};
-ghost use Rattle.policy_lines.specs.Answered.{Answers};
+ghost use Rattle.policy_words.specs.Reading.{formed, one_name, most_at, during_in, limit_in, spelled_so, edge_in, cap_in, opening_by, linked_by, entry_in, version_in, version_by};
+ghost use Rattle.policy_lines.specs.Answered.{ReadsAs};
 ghost use Rattle.policy_lines.specs.Cursors.{limit_behind};
 
 use crate::parts::{cond_of, next_cond, next_head, read_prio};
-use crate::units::{next_name, number_from, read_name, same};
-use gt_base::{Form, Name, Prio};
-use gt_text::Words;
+use crate::units::{next_name, read_name};
+use crate::writing::{cap_text, kind_text, strength_text};
+use gt_base::{Form, MAX_COUNT, Name, Prio};
+use gt_text::{Words, read_between};
 use policy_words::{CapKind, EdgeKind, Said, TextKind};
+
+const EDGE_KINDS: [EdgeKind; 3] = [EdgeKind::I, EdgeKind::A, EdgeKind::Ia];
+
+/// Whether an edge is strong.
+const STRENGTHS: [bool; 2] = [true, false];
 
 /// A saying, or that the words have no form.
 pub(crate) fn formed(said: Option<Said>) -> Result<Said, TextKind>
-    ensures { Answers result (formed_by (option_map seen_said said)) }
+    ensures { ReadsAs result (formed (option_map seen_said said)) }
 {
     match said {
         Some(said) => Ok(said),
@@ -42,7 +49,7 @@ fn version_number(mut words: Words<'_>) -> Option<u32>
 
 /// What a line of a version says; `opens` is whether only silent lines stand before.
 pub(crate) fn version(opens: bool, words: Words<'_>) -> Result<Said, TextKind>
-    ensures { Answers result (version_by opens (version_in words.entry)) }
+    ensures { ReadsAs result (version_by opens (version_in words.entry)) }
 {
     match version_number(words) {
         Some(n) if opens => Ok(Said::Version(n)),
@@ -52,7 +59,7 @@ pub(crate) fn version(opens: bool, words: Words<'_>) -> Result<Said, TextKind>
 
 /// The one name of a line.
 pub(crate) fn one_name(mut words: Words<'_>) -> Option<Name>
-    ensures { (build : List ℕ → SaidView) → option_map build result ≡ named build words.entry }
+    ensures { (build : List ℕ → SaidView) → option_map build result ≡ one_name build words.entry }
 {
     let name = next_name(&mut words)?;
     if words.next().is_some() {
@@ -70,7 +77,7 @@ fn next_most(words: &mut Words<'_>) -> Option<u32>
     if max != b"max".as_slice() {
         return None;
     }
-    number_from(1, 1_000_000, most)
+    read_between(1, MAX_COUNT, most)
 }
 
 /// `during` and a period, or nothing.
@@ -114,30 +121,24 @@ pub(crate) fn limit(mut words: Words<'_>) -> Option<Said>
     limit_of(name, prio, words)
 }
 
+/// The kind of edge that a word is.
 fn edge_kind(word: &[u8]) -> Option<EdgeKind>
     ensures { result ≡ spelled_so kind_word (EdgeKind.I ∷ EdgeKind.A ∷ EdgeKind.Ia ∷ []) word.now }
 {
-    if same(b"i", word) {
-        Some(EdgeKind::I)
-    } else if same(b"a", word) {
-        Some(EdgeKind::A)
-    } else if same(b"ia", word) {
-        Some(EdgeKind::Ia)
-    } else {
-        None
-    }
+    EDGE_KINDS
+        .iter()
+        .copied()
+        .find(|kind| kind_text(*kind) == word)
 }
 
+/// Whether the word says that an edge is strong, or that it is weak.
 fn strength(word: &[u8]) -> Option<bool>
     ensures { result ≡ spelled_so strength_word (true ∷ false ∷ []) word.now }
 {
-    if same(b"strong", word) {
-        Some(true)
-    } else if same(b"weak", word) {
-        Some(false)
-    } else {
-        None
-    }
+    STRENGTHS
+        .iter()
+        .copied()
+        .find(|strong| strength_text(*strong) == word)
 }
 
 /// What the four words of an edge say.
@@ -171,21 +172,14 @@ pub(crate) fn edge(mut words: Words<'_>) -> Option<Said>
     }
 }
 
+/// The kind of cap that a word is.
 fn cap_kind(word: &[u8]) -> Option<CapKind>
-    ensures { result ≡ spelled_so cap_word
-        (CapKind.Total ∷ CapKind.User ∷ CapKind.Length ∷ CapKind.Day ∷ []) word.now }
+    ensures { result ≡ spelled_so cap_word cap_kinds word.now }
 {
-    if same(b"total", word) {
-        Some(CapKind::Total)
-    } else if same(b"user", word) {
-        Some(CapKind::User)
-    } else if same(b"length", word) {
-        Some(CapKind::Length)
-    } else if same(b"day", word) {
-        Some(CapKind::Day)
-    } else {
-        None
-    }
+    CapKind::all()
+        .iter()
+        .copied()
+        .find(|kind| cap_text(*kind) == word)
 }
 
 /// What the three words of a cap say.
@@ -194,7 +188,7 @@ fn cap_of(kind: &[u8], role: &[u8], n: &[u8]) -> Option<Said>
 {
     let kind = cap_kind(kind)?;
     let role = read_name(role)?;
-    let n = number_from(1, 1_000_000, n)?;
+    let n = read_between(1, MAX_COUNT, n)?;
     Some(Said::Cap { kind, role, n })
 }
 
@@ -224,7 +218,7 @@ pub(crate) fn opening(verb: &[u8], mut words: Words<'_>) -> Option<Said>
 
 /// What a line of an edge that is linked at first says, which version 2 alone has.
 pub(crate) fn linked(edges: bool, words: Words<'_>) -> Result<Said, TextKind>
-    ensures { Answers result (linked_by edges (opening_by
+    ensures { ReadsAs result (linked_by edges (opening_by
         (cond_at (codes "linked" ∷ words.entry)))) }
 {
     if edges {

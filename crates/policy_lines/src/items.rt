@@ -3,7 +3,6 @@ ghost use Rattle.std.specs.Prelude.{◌≡◌, ◌<◌, length, [], ◌∷◌, �
 ghost use Rattle.policy_lines.specs.Cursors.{link_at, items_of};
 
 use crate::parts::next_item;
-use crate::units::same;
 use gt_base::{List, Memory};
 use gt_text::Words;
 use policy_words::{Item, NamedCond, NamedEvent, NamedFluent, NamedSignal};
@@ -14,9 +13,9 @@ fn ends_items(words: &mut Words<'_>) -> Option<bool>
     ensures { option_map (λ l. (l, words.new)) result ≡ link_at words.old }
 {
     let word = words.next()?;
-    if same(word, b"and") {
+    if word == b"and".as_slice() {
         Some(false)
-    } else if same(word, b"then") {
+    } else if word == b"then".as_slice() {
         Some(true)
     } else {
         None
@@ -26,6 +25,7 @@ fn ends_items(words: &mut Words<'_>) -> Option<bool>
 fn add(items: &mut List<Item>, item: Item) -> Result<(), Memory>
     ensures { OnOk result (items.new.items ≡ items.old.items ++ item ∷ []) }
 {
+    // names the types of an item's parts, which the proof of the call below has to know
     let _parts: Option<(NamedEvent, NamedCond, NamedSignal, NamedFluent)> = None;
     items.reserve(1)?;
     items.push(item);

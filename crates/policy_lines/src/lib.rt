@@ -2,6 +2,7 @@
 #![tactic(auto)]
 
 mod edges;
+mod first_words;
 mod forms;
 mod items;
 mod laws;
@@ -19,6 +20,6 @@ pub use laws::{lines_are_cut, numbers_are_decimal, sayings_are_read, written_is_
 pub use part_texts::{push_cond, push_delay, push_event, push_head, push_signal};
 pub use parts::{next_cond, next_event, next_head, read_delay};
 pub use reading::read_said;
-pub use units::{is_comment, next_name, number_from, read_instant, read_name};
-pub use verbs::{cond_verb, event_verb};
+pub use units::{next_name, read_instant, read_name};
+pub use verbs::{cond_verb, event_text, event_verb};
 pub use writing::{push_period, push_said};

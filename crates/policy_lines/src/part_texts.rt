@@ -5,7 +5,7 @@ ghost use Rattle.policy_words.specs.Wording.{fluent_names, event_words, cond_wor
 ghost use Rattle.policy_words.specs.Sayings.{and_items};
 ghost use Rattle.policy_lines.specs.Spaces.{later, led, linked_item};
 
-use crate::verbs::{cond_text, event_text, signal_text, sort_of};
+use crate::verbs::{cond_text, event_text, signal_text};
 use gt_base::{Memory, Name};
 use gt_text::push_number;
 use policy_words::{Item, NamedCond, NamedEvent, NamedFluent, NamedHead, NamedSignal};
@@ -55,14 +55,14 @@ pub(crate) fn add_names(text: &mut Vec<u8>, fluent: &NamedFluent) -> Result<(), 
 fn write_event(text: &mut Vec<u8>, event: &NamedEvent) -> Result<(), Memory>
     ensures { OnOk result (text.new.items ≡ text.old.items ++ led (event_words event.now)) }
 {
-    text.extend_from_slice(event_text(event.on, sort_of(&event.fluent)))?;
+    text.extend_from_slice(event_text(event.on, event.fluent.sort()))?;
     add_names(text, &event.fluent)
 }
 
 fn write_cond(text: &mut Vec<u8>, cond: &NamedCond) -> Result<(), Memory>
     ensures { OnOk result (text.new.items ≡ text.old.items ++ led (cond_words cond.now)) }
 {
-    text.extend_from_slice(cond_text(cond.on, sort_of(&cond.fluent)))?;
+    text.extend_from_slice(cond_text(cond.on, cond.fluent.sort()))?;
     add_names(text, &cond.fluent)
 }
 

@@ -1,15 +1,15 @@
 //! Fluents, events, conditions, signals, heads and items, read from the front of the words.
 ghost use Rattle.std.specs.Prelude.{◌≡◌, ◌∷◌, ◌≤◌, [], MatchOption, option_map, Some};
 ghost use Rattle.std.specs.List.{before_first, after_first};
-ghost use Rattle.gt_base.specs.Names.{number_from as number_between};
-ghost use Rattle.policy_words.specs.Wording.{fluent_at, verb_in, event_verb as event_word, event_at, cond_at, signal_of, head_at, item_at, is_colon, delay_in};
+ghost use Rattle.gt_base.specs.Names.{number_from};
+ghost use Rattle.policy_words.specs.Wording.{fluent_at, verb_in, event_verb, event_at, cond_at, signal_of, head_at, item_at, is_colon, delay_in};
 ghost use Rattle.policy_lines.specs.Cursors.{as_signal, as_cond, as_settled, other_item_at};
 
-use crate::units::{next_name, number_from, same};
+use crate::units::next_name;
 use crate::verbs::{cond_verb, event_verb};
 use bstr::ByteSlice;
-use gt_base::Prio;
-use gt_text::Words;
+use gt_base::{LAST_MINUTE, Prio};
+use gt_text::{Words, read_between};
 use policy_words::{Item, NamedCond, NamedEvent, NamedFluent, NamedHead, NamedSignal, Sort};
 
 /// The fluent whose names stand at the front.
@@ -91,13 +91,13 @@ fn settled_item(words: &mut Words<'_>) -> Option<Item>
 fn other_item(verb: &[u8], words: &mut Words<'_>) -> Option<Item>
     ensures { option_map (λ i. (i, words.new)) result ≡ other_item_at (verb.now ∷ words.old) }
 {
-    if same(verb, b"activate") {
+    if verb == b"activate".as_slice() {
         return signal_item(true, words);
     }
-    if same(verb, b"deactivate") {
+    if verb == b"deactivate".as_slice() {
         return signal_item(false, words);
     }
-    if same(verb, b"settled") {
+    if verb == b"settled".as_slice() {
         return settled_item(words);
     }
     cond_item(verb, words)
@@ -105,7 +105,7 @@ fn other_item(verb: &[u8], words: &mut Words<'_>) -> Option<Item>
 
 /// The event of a verb whose names stand at the front.
 fn event_item(word: &[u8], verb: (bool, Sort), words: &mut Words<'_>) -> Option<Item>
-    requires { verb_in event_word word.now ≡ Some verb }
+    requires { verb_in event_verb word.now ≡ Some verb }
     ensures { option_map (λ i. (i, words.new)) result ≡ item_at (word.now ∷ words.old) }
 {
     let (on, sort) = verb;
@@ -129,7 +129,8 @@ pub(crate) fn next_item(words: &mut Words<'_>) -> Option<Item>
 /// What stands before and after the first colon.
 fn at_colon(word: &[u8]) -> Option<(&[u8], &[u8])>
     ensures { MatchOption result (after_first is_colon word.now ≡ [])
-        (λ cut. (cut.0.now ≡ before_first is_colon word.now) × (cut.1.now ≡ after_first is_colon word.now)) }
+        (λ cut. (cut.0.now ≡ before_first is_colon word.now)
+        × (cut.1.now ≡ after_first is_colon word.now)) }
 {
     let colon = word.find_byte(b':')?;
     let (front, rest) = word.split_at(colon);
@@ -140,9 +141,9 @@ fn at_colon(word: &[u8]) -> Option<(&[u8], &[u8])>
 /// The priority up to `most` that a word is.
 pub(crate) fn read_prio(most: u32, word: &[u8]) -> Option<Prio>
     requires { most ≤ 100 }
-    ensures { result ≡ number_between 0 most word.now }
+    ensures { result ≡ number_from 0 most word.now }
 {
-    let n = number_from(0, most, word)?;
+    let n = read_between(0, most, word)?;
     Prio::new(n as u8)
 }
 
@@ -166,8 +167,8 @@ pub fn read_delay(mut words: Words<'_>) -> Option<u32>
         return Some(0);
     };
     let delay = words.next()?;
-    if words.next().is_some() || !same(after, b"after") {
+    if words.next().is_some() || after != b"after".as_slice() {
         return None;
     }
-    number_from(0, 52_595_999, delay)
+    read_between(0, LAST_MINUTE, delay)
 }

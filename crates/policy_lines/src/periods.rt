@@ -1,13 +1,12 @@
 //! Lines of periods.
 ghost use Rattle.std.specs.Prelude.{◌≡◌, ◌≤◌, ◌∷◌, [], length, option_map, Ok, Err};
-ghost use Rattle.gt_base.specs.Bounds.{last_minute};
 ghost use Rattle.policy_words.specs.Reading.{first_in, last_in, bounds_in, with_expr, period_by};
 ghost use Rattle.periodic_expr.specs.Reading.{read_expr};
-ghost use Rattle.policy_lines.specs.Answered.{Answers, seen_bounds};
+ghost use Rattle.policy_lines.specs.Answered.{ReadsAs, seen_bounds};
 
 use crate::rests::expression;
-use crate::units::{read_instant, read_name, same};
-use gt_base::{Instant, Name};
+use crate::units::{read_instant, read_name};
+use gt_base::{Instant, LAST_MINUTE, Name};
 use gt_text::Words;
 use periodic_expr::{ExprKind, parse_expr};
 use policy_words::{Said, TextKind};
@@ -25,7 +24,7 @@ pub(crate) struct PeriodBounds {
 fn first_instant(word: &[u8]) -> Option<Instant>
     ensures { result ≡ first_in word.now }
 {
-    if same(word, b"*") {
+    if word == b"*".as_slice() {
         Instant::new(0)
     } else {
         read_instant(word)
@@ -36,8 +35,8 @@ fn first_instant(word: &[u8]) -> Option<Instant>
 fn last_instant(word: &[u8]) -> Option<Instant>
     ensures { result ≡ last_in word.now }
 {
-    if same(word, b"*") {
-        Instant::new(52_595_999)
+    if word == b"*".as_slice() {
+        Instant::new(LAST_MINUTE)
     } else {
         read_instant(word)
     }
@@ -66,7 +65,7 @@ fn bounds(mut words: Words<'_>) -> Option<PeriodBounds>
 /// The period with these bounds and the expression of a text.
 fn bounded(alloc: Global, bounds: PeriodBounds, text: &[u8]) -> Result<Said, TextKind>
     requires { length text.now ≤ 4096 }
-    ensures { Answers result (with_expr (seen_bounds bounds) (read_expr text.now)) }
+    ensures { ReadsAs result (with_expr (seen_bounds bounds) (read_expr text.now)) }
 {
     let PeriodBounds { name, first, last } = bounds;
     match parse_expr(alloc, text) {
@@ -86,7 +85,7 @@ fn bounded(alloc: Global, bounds: PeriodBounds, text: &[u8]) -> Result<Said, Tex
 /// What a line of a period says, whose words after the first are given.
 pub(crate) fn period(alloc: Global, line: &[u8], words: Words<'_>) -> Result<Said, TextKind>
     requires { length line.now ≤ 4096 }
-    ensures { Answers result (period_by line.now (bounds_in words.entry)) }
+    ensures { ReadsAs result (period_by line.now (bounds_in words.entry)) }
 {
     let Some(bounds) = bounds(words) else {
         return Err(TextKind::Form);

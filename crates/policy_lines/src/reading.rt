@@ -1,23 +1,24 @@
 //! What a line of a policy says.
-ghost use Rattle.std.specs.Prelude.{◌≡◌, ◌≤◌, ◌∷◌, ◌⊎◌, ℕ, List, length, option_map, IsTrue, IfOk, IfErr, IfSome, Ok, Err, drop};
-ghost use Rattle.policy_words.specs.Sayings.{role as role_said, user as user_said, perm as perm_said, admin as admin_said, is_saying};
+ghost use Rattle.std.specs.Prelude.{◌≡◌, ◌≤◌, ◌∷◌, ◌⊎◌, length, option_map, IsTrue, IfOk, IfErr, IfSome, Ok, Err};
+ghost use Rattle.policy_words.specs.Sayings.{is_saying};
 ghost use Rattle.policy_words.specs.Seen.{seen_said};
-ghost use Rattle.policy_words.specs.Versions.{is_open as is_open_text, has_edges as edges_in};
-ghost use Rattle.policy_words.specs.Reading.{verbs, one_name as named, formed as formed_by, said_of as said_by_words, read_said as said_by_line};
-ghost use Rattle.policy_lines.specs.Answered.{Answers, said_among};
+ghost use Rattle.policy_words.specs.Versions.{is_open, has_edges};
+ghost use Rattle.policy_words.specs.Reading.{said_of, read_said};
+ghost use Rattle.policy_lines.specs.Answered.{ReadsAs};
+ghost use Rattle.policy_lines.specs.FirstWords.{said_behind};
 
 use crate::edges::formed_in;
+use crate::first_words::{LineVerb, line_verb};
 use crate::forms::{cap, edge, entry, formed, limit, linked, one_name, opening, version};
 use crate::periods::period;
 use crate::triggers::trigger;
-use crate::units::{is_comment, same};
 use gt_base::Form;
-use gt_text::Words;
+use gt_text::{Words, begins};
 use policy_words::{Said, TextKind, TextVersion};
 use std::alloc::Global;
 
 fn is_open(version: TextVersion) -> bool
-    ensures { result ≡ is_open_text version }
+    ensures { result ≡ is_open version }
 {
     match version {
         TextVersion::Open => true,
@@ -27,7 +28,7 @@ fn is_open(version: TextVersion) -> bool
 
 /// Whether the text has words for edges that are linked and unlinked.
 fn has_edges(version: TextVersion) -> bool
-    ensures { result ≡ edges_in version }
+    ensures { result ≡ has_edges version }
 {
     match version {
         TextVersion::Open | TextVersion::One => false,
@@ -35,168 +36,73 @@ fn has_edges(version: TextVersion) -> bool
     }
 }
 
-fn role(words: Words<'_>) -> Result<Said, TextKind>
-    ensures { Answers result (formed_by (named (λ n. role_said n) words.entry)) }
-{
-    match one_name(words) {
-        Some(name) => Ok(Said::Role(name)),
-        None => Err(TextKind::Form),
-    }
-}
-
-fn user(words: Words<'_>) -> Result<Said, TextKind>
-    ensures { Answers result (formed_by (named (λ n. user_said n) words.entry)) }
-{
-    match one_name(words) {
-        Some(name) => Ok(Said::User(name)),
-        None => Err(TextKind::Form),
-    }
-}
-
-fn perm(words: Words<'_>) -> Result<Said, TextKind>
-    ensures { Answers result (formed_by (named (λ n. perm_said n) words.entry)) }
-{
-    match one_name(words) {
-        Some(name) => Ok(Said::Perm(name)),
-        None => Err(TextKind::Form),
-    }
-}
-
-fn admin(words: Words<'_>) -> Result<Said, TextKind>
-    ensures { Answers result (formed_by (named (λ n. admin_said n) words.entry)) }
-{
-    match one_name(words) {
-        Some(name) => Ok(Said::Admin(name)),
-        None => Err(TextKind::Form),
-    }
-}
-
-/// What a line of an entry or of a trigger says; another first word begins no line.
-fn caused(
-    alloc: Global,
-    version: TextVersion,
-    verb: &[u8],
-    words: Words<'_>,
-) -> Result<Said, TextKind>
-    ensures { (line : List ℕ) → Answers result
-        (said_among (drop 14 (verbs version line)) verb.now words.entry) }
-{
-    if same(b"each", verb) {
-        return formed_in(has_edges(version), entry(Form::Each, words));
-    }
-    if same(b"start", verb) {
-        return formed_in(has_edges(version), entry(Form::Start, words));
-    }
-    if same(b"span", verb) {
-        return formed_in(has_edges(version), entry(Form::Span, words));
-    }
-    if same(b"when", verb) {
-        return trigger(alloc, has_edges(version), words);
-    }
-    Err(TextKind::Word)
-}
-
-/// What a line of opening status says, or one of the lines above.
-fn opened(
-    alloc: Global,
-    version: TextVersion,
-    verb: &[u8],
-    words: Words<'_>,
-) -> Result<Said, TextKind>
-    ensures { (line : List ℕ) → Answers result
-        (said_among (drop 9 (verbs version line)) verb.now words.entry) }
-{
-    if same(b"enabled", verb) {
-        return formed(opening(b"enabled", words));
-    }
-    if same(b"assigned", verb) {
-        return formed(opening(b"assigned", words));
-    }
-    if same(b"granted", verb) {
-        return formed(opening(b"granted", words));
-    }
-    if same(b"armed", verb) {
-        return formed(opening(b"armed", words));
-    }
-    if same(b"linked", verb) {
-        return linked(has_edges(version), words);
-    }
-    caused(alloc, version, verb, words)
-}
-
-/// What a line of a period, a limit, an edge, a cap or an administrator says, or one of the lines
-/// above.
-fn ruled(
-    alloc: Global,
-    version: TextVersion,
-    line: &[u8],
-    verb: &[u8],
-    words: Words<'_>,
-) -> Result<Said, TextKind>
-    requires { length line.now ≤ 4096 }
-    ensures { Answers result (said_among (drop 4 (verbs version line.now)) verb.now words.entry) }
-{
-    if same(b"period", verb) {
-        return period(alloc, line, words);
-    }
-    if same(b"limit", verb) {
-        return formed_in(has_edges(version), limit(words));
-    }
-    if same(b"edge", verb) {
-        return formed(edge(words));
-    }
-    if same(b"cap", verb) {
-        return formed(cap(words));
-    }
-    if same(b"admin", verb) {
-        return admin(words);
-    }
-    opened(alloc, version, verb, words)
-}
-
-/// What a line says that is not silent, by its first word and the words after it.
-fn said_of(
+/// What a line says, by its first word and the words after it.
+fn said_after(
     alloc: Global,
     text_version: TextVersion,
     line: &[u8],
-    verb: &[u8],
+    verb: LineVerb,
     words: Words<'_>,
 ) -> Result<Said, TextKind>
     requires { length line.now ≤ 4096 }
-    ensures { Answers result (said_by_words text_version line.now (verb.now ∷ words.entry)) }
+    ensures { ReadsAs result (said_behind text_version line.now verb words.entry) }
 {
-    if same(b"policy", verb) {
-        return version(is_open(text_version), words);
+    match verb {
+        LineVerb::Policy => version(is_open(text_version), words),
+        LineVerb::Role => formed(one_name(words).map(|name| Said::Role(name))),
+        LineVerb::User => formed(one_name(words).map(|name| Said::User(name))),
+        LineVerb::Perm => formed(one_name(words).map(|name| Said::Perm(name))),
+        LineVerb::Period => period(alloc, line, words),
+        LineVerb::Limit => formed_in(has_edges(text_version), limit(words)),
+        LineVerb::Edge => formed(edge(words)),
+        LineVerb::Cap => formed(cap(words)),
+        LineVerb::Admin => formed(one_name(words).map(|name| Said::Admin(name))),
+        LineVerb::Enabled => formed(opening(b"enabled", words)),
+        LineVerb::Assigned => formed(opening(b"assigned", words)),
+        LineVerb::Granted => formed(opening(b"granted", words)),
+        LineVerb::Armed => formed(opening(b"armed", words)),
+        LineVerb::Linked => linked(has_edges(text_version), words),
+        LineVerb::Each => formed_in(has_edges(text_version), entry(Form::Each, words)),
+        LineVerb::Start => formed_in(has_edges(text_version), entry(Form::Start, words)),
+        LineVerb::Span => formed_in(has_edges(text_version), entry(Form::Span, words)),
+        LineVerb::When => trigger(alloc, has_edges(text_version), words),
     }
-    if same(b"role", verb) {
-        return role(words);
+}
+
+/// What a line says that is not silent. A first word that is no verb begins no line.
+fn said_of(
+    alloc: Global,
+    version: TextVersion,
+    line: &[u8],
+    word: &[u8],
+    words: Words<'_>,
+) -> Result<Said, TextKind>
+    requires { length line.now ≤ 4096 }
+    ensures { ReadsAs result (said_of version line.now (word.now ∷ words.entry)) }
+{
+    match line_verb(word) {
+        Some(verb) => said_after(alloc, version, line, verb, words),
+        None => Err(TextKind::Word),
     }
-    if same(b"user", verb) {
-        return user(words);
-    }
-    if same(b"perm", verb) {
-        return perm(words);
-    }
-    ruled(alloc, text_version, line, verb, words)
 }
 
 fn read_line(alloc: Global, version: TextVersion, line: &[u8]) -> Result<Option<Said>, TextKind>
-    ensures ok { IfOk result (λ said. said_by_line version line.now
+    ensures ok { IfOk result (λ said. read_said version line.now
         ≡ Ok (option_map seen_said said)) }
     ensures fault { IfErr result (λ f. (f ≡ TextKind.Memory)
-        ⊎ (said_by_line version line.now ≡ Err f)) }
+        ⊎ (read_said version line.now ≡ Err f)) }
 {
     if line.len() > 4096 {
         return Err(TextKind::Long);
     }
     let mut words = Words::new(line);
-    let Some(verb) = words.next() else {
+    let Some(word) = words.next() else {
         return Ok(None);
     };
-    if is_comment(verb) {
+    if begins(word, b'#') {
         return Ok(None);
     }
-    match said_of(alloc, version, line, verb, words) {
+    match said_of(alloc, version, line, word, words) {
         Ok(said) => Ok(Some(said)),
         Err(fault) => Err(fault),
     }
@@ -206,10 +112,10 @@ fn read_line(alloc: Global, version: TextVersion, line: &[u8]) -> Result<Option<
 /// whose lines before it tell this version. Want of memory is `TextKind::Memory`, also where the
 /// expression of a period wants it.
 pub fn read_said(alloc: Global, version: TextVersion, line: &[u8]) -> Result<Option<Said>, TextKind>
-    ensures ok { IfOk result (λ said. said_by_line version line.now
+    ensures ok { IfOk result (λ said. read_said version line.now
         ≡ Ok (option_map seen_said said)) }
     ensures fault { IfErr result (λ f. (f ≡ TextKind.Memory)
-        ⊎ (said_by_line version line.now ≡ Err f)) }
+        ⊎ (read_said version line.now ≡ Err f)) }
     ensures saying { IfOk result (λ said. IfSome said (λ s. IsTrue (is_saying (seen_said s)))) }
 {
     read_line(alloc, version, line)

@@ -1,20 +1,13 @@
 //! The rest of a line after some words.
 ghost use Rattle.std.specs.Prelude.{◌≡◌, ◌≤◌, length};
-ghost use Rattle.gt_text.specs.Words.{is_blank as blank};
-ghost use Rattle.policy_words.specs.Rests.{unindented as without_indent, past_word as rest_past_word, trimmed as without_end, rest_after};
+ghost use Rattle.policy_words.specs.Rests.{unindented, past_word, trimmed, rest_after};
 ghost use Rattle.policy_words.specs.Reading.{expr_of_line};
 
-use gt_text::without_return;
-
-fn is_blank(b: u8) -> bool
-    ensures { result ≡ blank b }
-{
-    b == b' ' || b == b'\t'
-}
+use gt_text::{is_blank, without_return};
 
 /// The text without the blanks before it.
 fn unindented(mut text: &[u8]) -> &[u8]
-    ensures rest { result.now ≡ without_indent text.now }
+    ensures rest { result.now ≡ unindented text.now }
     ensures fewer { length result.now ≤ length text.now }
 {
     while let [b, rest @ ..] = text {
@@ -28,7 +21,7 @@ fn unindented(mut text: &[u8]) -> &[u8]
 
 /// What follows the first word.
 fn past_word(mut text: &[u8]) -> &[u8]
-    ensures rest { result.now ≡ rest_past_word text.now }
+    ensures rest { result.now ≡ past_word text.now }
     ensures fewer { length result.now ≤ length text.now }
 {
     while let [b, rest @ ..] = text {
@@ -42,7 +35,7 @@ fn past_word(mut text: &[u8]) -> &[u8]
 
 /// The text without the blanks at its end.
 fn trimmed(mut text: &[u8]) -> &[u8]
-    ensures rest { result.now ≡ without_end text.now }
+    ensures rest { result.now ≡ trimmed text.now }
     ensures fewer { length result.now ≤ length text.now }
 {
     while let [front @ .., b] = text {

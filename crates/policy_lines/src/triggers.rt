@@ -1,10 +1,10 @@
 //! Lines of triggers.
 ghost use Rattle.std.specs.Prelude.{◌≡◌, option_map, Some, IfOk};
 ghost use Rattle.std.specs.List.{list_any};
-ghost use Rattle.policy_words.specs.Sayings.{is_cause as causes, is_body as body, is_bodied as bodied};
+ghost use Rattle.policy_words.specs.Sayings.{is_cause, is_body, is_bodied};
 ghost use Rattle.policy_words.specs.Seen.{seen_said};
 ghost use Rattle.policy_words.specs.Reading.{trigger_in, trigger_by};
-ghost use Rattle.policy_lines.specs.Answered.{Answers};
+ghost use Rattle.policy_lines.specs.Answered.{ReadsAs};
 
 use crate::edges::is_allowed;
 use crate::items::read_items;
@@ -15,7 +15,7 @@ use policy_words::{Item, Said, TextKind};
 use std::alloc::Global;
 
 fn is_cause(item: &Item) -> bool
-    ensures { result ≡ causes item.now }
+    ensures { result ≡ is_cause item.now }
 {
     match item {
         Item::Event(_) | Item::Signal(_) => true,
@@ -24,20 +24,20 @@ fn is_cause(item: &Item) -> bool
 }
 
 fn has_cause(items: &[Item]) -> bool
-    ensures { result ≡ list_any causes items.now }
+    ensures { result ≡ list_any is_cause items.now }
 {
     items.iter().any(|item| is_cause(item))
 }
 
 /// At most 16 items, of which one is an event or a signal.
 fn is_body(items: &[Item]) -> bool
-    ensures { result ≡ body items.now }
+    ensures { result ≡ is_body items.now }
 {
     items.len() <= 16 && has_cause(items)
 }
 
 fn is_bodied(said: &Said) -> bool
-    ensures { result ≡ bodied (seen_said said.now) }
+    ensures { result ≡ is_bodied (seen_said said.now) }
 {
     match said {
         Said::When { items, .. } => is_body(items.as_slice()),
@@ -64,7 +64,7 @@ fn when(alloc: Global, mut words: Words<'_>) -> Result<Option<Said>, Memory>
 
 /// A trigger, or what is wrong with it: first that version 1 has no form for it, then its body.
 fn judged(edges: bool, said: Said) -> Result<Said, TextKind>
-    ensures { Answers result (trigger_by edges (Some (seen_said said))) }
+    ensures { ReadsAs result (trigger_by edges (Some (seen_said said))) }
 {
     if !is_allowed(edges, &said) {
         return Err(TextKind::Form);
@@ -78,7 +78,7 @@ fn judged(edges: bool, said: Said) -> Result<Said, TextKind>
 
 /// What a line of a trigger says.
 pub(crate) fn trigger(alloc: Global, edges: bool, words: Words<'_>) -> Result<Said, TextKind>
-    ensures { Answers result (trigger_by edges (trigger_in words.entry)) }
+    ensures { ReadsAs result (trigger_by edges (trigger_in words.entry)) }
 {
     match when(alloc, words) {
         Err(_) => Err(TextKind::Memory),

@@ -1,8 +1,8 @@
 //! The verbs of events and conditions: the words of each, and the verb that a word is.
 ghost use Rattle.std.specs.Prelude.{◌≡◌, bytes_eq, find};
-ghost use Rattle.policy_words.specs.Wording.{verb_in, event_verb as event_word, cond_verb as cond_word, signal_verb as signal_word, sort_of as sort_by_name};
+ghost use Rattle.policy_words.specs.Wording.{verb_in, event_verb, cond_verb, signal_verb, sort_of};
 
-use policy_words::{NamedFluent, Sort};
+use policy_words::Sort;
 
 /// All verbs: whether each sets on, and the sort of its fluents.
 const VERBS: [(bool, Sort); 10] = [
@@ -18,21 +18,9 @@ const VERBS: [(bool, Sort); 10] = [
     (false, Sort::Linking),
 ];
 
-pub(crate) fn sort_of(fluent: &NamedFluent) -> Sort
-    ensures { result ≡ sort_by_name fluent.now }
-{
-    match fluent {
-        NamedFluent::Enabled(_) => Sort::Enabling,
-        NamedFluent::Assigned(_, _) => Sort::Assigning,
-        NamedFluent::Granted(_, _) => Sort::Granting,
-        NamedFluent::Limit(_) => Sort::Arming,
-        NamedFluent::Edge(_, _) => Sort::Linking,
-    }
-}
-
 /// The word of an event's verb.
-pub(crate) fn event_text(on: bool, sort: Sort) -> &'static [u8]
-    ensures { result.now ≡ event_word on sort }
+pub fn event_text(on: bool, sort: Sort) -> &'static [u8]
+    ensures { result.now ≡ event_verb on sort }
 {
     match (on, sort) {
         (true, Sort::Enabling) => b"enable",
@@ -50,7 +38,7 @@ pub(crate) fn event_text(on: bool, sort: Sort) -> &'static [u8]
 
 /// The word of a condition's verb.
 pub(crate) fn cond_text(on: bool, sort: Sort) -> &'static [u8]
-    ensures { result.now ≡ cond_word on sort }
+    ensures { result.now ≡ cond_verb on sort }
 {
     match (on, sort) {
         (true, Sort::Enabling) => b"enabled",
@@ -68,45 +56,27 @@ pub(crate) fn cond_text(on: bool, sort: Sort) -> &'static [u8]
 
 /// The word of a signal's verb.
 pub(crate) fn signal_text(start: bool) -> &'static [u8]
-    ensures { result.now ≡ signal_word start }
+    ensures { result.now ≡ signal_verb start }
 {
     if start { b"activate" } else { b"deactivate" }
 }
 
-fn event_among(mut verbs: &[(bool, Sort)], word: &[u8]) -> Option<(bool, Sort)>
-    ensures { result ≡ find (λ v. bytes_eq (event_word v.0 v.1) word.now) verbs.now }
-{
-    while let [(on, sort), rest @ ..] = verbs {
-        if event_text(*on, *sort) == word {
-            return Some((*on, *sort));
-        }
-        verbs = rest;
-    }
-    None
-}
-
-fn cond_among(mut verbs: &[(bool, Sort)], word: &[u8]) -> Option<(bool, Sort)>
-    ensures { result ≡ find (λ v. bytes_eq (cond_word v.0 v.1) word.now) verbs.now }
-{
-    while let [(on, sort), rest @ ..] = verbs {
-        if cond_text(*on, *sort) == word {
-            return Some((*on, *sort));
-        }
-        verbs = rest;
-    }
-    None
-}
-
 /// The verb of an event that a word is.
 pub fn event_verb(word: &[u8]) -> Option<(bool, Sort)>
-    ensures { result ≡ verb_in event_word word.now }
+    ensures { result ≡ verb_in event_verb word.now }
 {
-    event_among(&VERBS, word)
+    VERBS
+        .iter()
+        .copied()
+        .find(|verb| event_text(verb.0, verb.1) == word)
 }
 
 /// The verb of a condition that a word is.
 pub fn cond_verb(word: &[u8]) -> Option<(bool, Sort)>
-    ensures { result ≡ verb_in cond_word word.now }
+    ensures { result ≡ verb_in cond_verb word.now }
 {
-    cond_among(&VERBS, word)
+    VERBS
+        .iter()
+        .copied()
+        .find(|verb| cond_text(verb.0, verb.1) == word)
 }

@@ -11,7 +11,7 @@ ghost use Rattle.policy_lines.specs.Spaces.{later, led};
 use crate::part_texts::{
     add_cond, add_head, add_items, add_name, add_names, add_number, add_pair, add_word, push_delay,
 };
-use crate::verbs::{cond_text, sort_of};
+use crate::verbs::cond_text;
 use civil_time::write_civil;
 use gt_base::{Form, Instant, Memory, Name, Prio};
 use periodic_expr::{Expr, print_expr};
@@ -105,7 +105,8 @@ fn write_version(text: &mut Vec<u8>, n: u32) -> Result<(), Memory>
     add_number(text, n)
 }
 
-fn kind_text(kind: EdgeKind) -> &'static [u8]
+/// The word of a kind of edge.
+pub(crate) fn kind_text(kind: EdgeKind) -> &'static [u8]
     ensures { result.now ≡ kind_word kind }
 {
     match kind {
@@ -115,13 +116,15 @@ fn kind_text(kind: EdgeKind) -> &'static [u8]
     }
 }
 
-fn strength_text(strong: bool) -> &'static [u8]
+/// The word of an edge's strength.
+pub(crate) fn strength_text(strong: bool) -> &'static [u8]
     ensures { result.now ≡ strength_word strong }
 {
     if strong { b"strong" } else { b"weak" }
 }
 
-fn cap_text(kind: CapKind) -> &'static [u8]
+/// The word of a kind of cap.
+pub(crate) fn cap_text(kind: CapKind) -> &'static [u8]
     ensures { result.now ≡ cap_word kind }
 {
     match kind {
@@ -132,7 +135,8 @@ fn cap_text(kind: CapKind) -> &'static [u8]
     }
 }
 
-fn form_text(form: Form) -> &'static [u8]
+/// The word of an entry's form.
+pub(crate) fn form_text(form: Form) -> &'static [u8]
     ensures { result.now ≡ form_word form }
 {
     match form {
@@ -172,7 +176,7 @@ fn write_opening(text: &mut Vec<u8>, fluent: &NamedFluent) -> Result<(), Memory>
     ensures { OnOk result (text.new.items ≡ text.old.items
         ++ led (said_words (opening fluent.now))) }
 {
-    text.extend_from_slice(cond_text(true, sort_of(fluent)))?;
+    text.extend_from_slice(cond_text(true, fluent.sort()))?;
     add_names(text, fluent)
 }
 

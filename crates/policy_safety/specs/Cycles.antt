@@ -35,8 +35,8 @@ AddsTold g old n new =
     → map seen_edge new ++ dependencies_at rules later ≡ map seen_edge old
     ++ dependencies_at rules (n ∷ later)
 
-abbrev pub IsTold : EventNet → CycleEdge → ℕ → Type 0
-IsTold g edge n = (rules : List TriggerView) → IsGraphOf rules g
+abbrev pub IsToldEdge : EventNet → CycleEdge → ℕ → Type 0
+IsToldEdge g edge n = (rules : List TriggerView) → IsGraphOf rules g
     → item_at (dependencies rules) n ≡ Some (seen_edge edge)
 
 -- the edges are the least cycle with a conflict, so the rules are not safe

@@ -124,10 +124,16 @@ impl Safe {
         }
     }
 
-    /// The policy, which is safe.
+    /// What every safe policy keeps.
+    pub fn keeps(&self)
+        ensures { IsSafe self.now.policy.triggers }
+    {
+        let _ = &self.strata;
+    }
+
+    /// The policy.
     pub fn policy(&self) -> &Policy
         ensures value { result.now ≡ self.now }
-        ensures safe { IsSafe self.now.policy.triggers }
     {
         &self.policy
     }

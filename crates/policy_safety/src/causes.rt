@@ -1,6 +1,6 @@
 //! Why a policy is not safe.
 ghost use Rattle.std.specs.Prelude.{◌<◌, length, IfOk, OnOk};
-ghost use Rattle.policy_safety.specs.Cycles.{AreTold, AddsTold, IsTold};
+ghost use Rattle.policy_safety.specs.Cycles.{AreTold, AddsTold, IsToldEdge};
 
 use crate::admitting::CycleEdge;
 use dependency_graph::EventGraph;
@@ -35,7 +35,7 @@ fn tell(edges: &mut Vec<CycleEdge>, g: &EventGraph, n: u32) -> Result<(), Memory
 /// The edge of this number, as a dependency.
 fn edge_of(g: &EventGraph, n: u32) -> CycleEdge
     requires { n < length g.now.net.edges }
-    ensures { IsTold g.now result n }
+    ensures { IsToldEdge g.now result n }
 {
     let _ends = g.graph().edges();
     let e = g.graph().edge(n);

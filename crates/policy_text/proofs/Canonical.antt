@@ -26,9 +26,13 @@ use Rattle.policy_words.specs.Reading.{Numbered}
 use Rattle.policy_words.specs.Wording.{◌>>=◌}
 use Rattle.policy_words.specs.Sayings.{SaidView, version, role, user, perm, period, limit, edge, cap, admin, opening, entry, trigger, is_saying}
 use Rattle.policy_words.specs.Naming.{Names, NamedPolicy, same_pair, user_name, period_name, limit_name, role_name, fluent_named, head_named}
-use Rattle.policy_words.specs.Making.{no_names, names_of, Draft, fresh, drafted, policy_of, named_policy, inherits, activates, no_caps, period_said, during_of, limit_said, edge_said, entry_said, rule_said, admin_said, opening_said, users_from, is_second, are_second, linked_at_first}
-use Rattle.policy_words.specs.Book.{is_known, is_of, most_of, first_trouble, without_cycle, without_trouble, said_in, build}
-use Rattle.policy_words.specs.Canonical.{edge_kind, is_enabled, is_assigned, is_granted, is_armed, is_linked, is_version_one, period_line, limit_line, edge_line, cap_line, cap_lines, items_of, opening_lines, canonical_lines}
+use Rattle.policy_words.specs.CapKinds.{no_caps}
+use Rattle.policy_words.specs.Making.{no_names, names_of, DraftView, fresh, drafted, policy_of, named_policy, inherits, activates, period_said, during_of, limit_said, edge_said, entry_said, rule_said, admin_said, opening_said, users_from, is_second, are_second, linked_at_first}
+use Rattle.policy_words.specs.LinesTogether.{is_known, is_of, most_of, first_fault, without_cycle, without_fault, said_in, build}
+use Rattle.policy_words.specs.declared.parts.Sort.{Sort}
+use Rattle.policy_words.specs.declared.parts.Sort.TheVariants.{Enabling, Assigning, Granting, Arming, Linking}
+use Rattle.policy_words.specs.Sorts.{has_sort}
+use Rattle.policy_words.specs.Canonical.{edge_kind, is_version_one, period_line, limit_line, edge_line, cap_line, cap_lines, items_of, opening_lines, canonical_lines}
 use Rattle.policy_words.specs.Valid.{IsWellFormed, pair_of}
 use Rattle.policy_book.specs.Said.{is_version}
 use Rattle.policy_book.specs.Laws.{numbered_from}
@@ -40,7 +44,7 @@ use Rattle.policy_book.proofs.Places.{names_numbered}
 use Rattle.policy_book.proofs.DraftedLines.{drafted_periods, drafted_limits, drafted_edges, drafted_entries, drafted_triggers}
 use Rattle.policy_book.proofs.Mapped.{all_true, all_weaker, all_filter, all_map, all_flat_map, kept_map, items_of_numbered}
 use Rattle.policy_text.proofs.Sections.{section_of, joined, picked, kept_of, all_joined}
-use Rattle.policy_text.proofs.NoTrouble.{no_trouble}
+use Rattle.policy_text.proofs.Faultless.{has_no_fault}
 use Rattle.policy_book.proofs.Back.{good, pairs_once, role_back, user_back, period_back, fluent_back, cond_back, head_back, rule_back}
 use Rattle.policy_text.proofs.CanonicalCaps.{caps_after, cap_in, drafted_caps, caps_kept, caps_back, lines_all}
 use Rattle.policy_text.proofs.CanonicalMembers.{with_all, drafted_admins, drafted_on, by_sort, opening_back, admins_back}
@@ -161,15 +165,15 @@ no_versions np =
                   (
                     no_version (λ (u : UserId). admin (user_name ns u)) (λ _. refl) np.policy.admins,
                     (
-                      no_version (λ f. opening (fluent_named ns f)) (λ _. refl) (filter is_enabled ms),
+                      no_version (λ f. opening (fluent_named ns f)) (λ _. refl) (filter (has_sort Enabling) ms),
                       (
-                        no_version (λ f. opening (fluent_named ns f)) (λ _. refl) (filter is_assigned ms),
+                        no_version (λ f. opening (fluent_named ns f)) (λ _. refl) (filter (has_sort Assigning) ms),
                         (
-                          no_version (λ f. opening (fluent_named ns f)) (λ _. refl) (filter is_granted ms),
+                          no_version (λ f. opening (fluent_named ns f)) (λ _. refl) (filter (has_sort Granting) ms),
                           (
-                            no_version (λ f. opening (fluent_named ns f)) (λ _. refl) (filter is_armed ms),
+                            no_version (λ f. opening (fluent_named ns f)) (λ _. refl) (filter (has_sort Arming) ms),
                             (
-                              none_linked (is_version_one np.policy) (opening_lines ns is_linked ms) (no_version (λ f. opening (fluent_named ns f)) (λ _. refl) (filter is_linked ms)),
+                              none_linked (is_version_one np.policy) (opening_lines ns Linking ms) (no_version (λ f. opening (fluent_named ns f)) (λ _. refl) (filter (has_sort Linking) ms)),
                               (
                                 no_version (λ (e : PeriodicEntry). entry e.form (period_name ns e.period) (head_named ns e.head)) (λ _. refl) np.policy.entries,
                                 (no_version (λ (r : TriggerView). trigger (items_of ns r) (head_named ns r.head) r.delay) (λ _. refl) np.policy.triggers, tt),
@@ -305,11 +309,11 @@ module _ (np : NamedPolicy) (is : IsWellFormed np) where
       taken (admin_said ns) (nat_eq 8) (no_admin_said ns)
       ∙ of_section (admin_said ns) (λ (u : UserId). admin (user_name ns u)) (λ u. u) (λ u. nat_lt u.0 p.users) (user_back np is) p.admins (admins_in np is) ∙ map-id p.admins
 
-  read_sort : (of_sort : Fluent → Bool) → filter_map (opening_said ns) (opening_lines ns of_sort (members p.opening)) ≡ filter of_sort (members p.opening)
-  read_sort of_sort =
-      kept_map (λ f. opening (fluent_named ns f)) (opening_said ns) (λ f. f) (λ f. of_sort f && is_fluent p f) (λ f h. fluent_back np is f (both_true (of_sort f) _ h).1) (filter of_sort (members p.opening))
-      (all_filter of_sort (is_fluent p) (members p.opening) is.policy.opening)
-      ∙ map-id (filter of_sort (members p.opening))
+  read_sort : (s : Sort) → filter_map (opening_said ns) (opening_lines ns s (members p.opening)) ≡ filter (has_sort s) (members p.opening)
+  read_sort s =
+      kept_map (λ f. opening (fluent_named ns f)) (opening_said ns) (λ f. f) (λ f. has_sort s f && is_fluent p f) (λ f h. fluent_back np is f (both_true (has_sort s f) _ h).1) (filter (has_sort s) (members p.opening))
+      (all_filter (has_sort s) (is_fluent p) (members p.opening) is.policy.opening)
+      ∙ map-id (filter (has_sort s) (members p.opening))
 
   abbrev one : Bool
   one = is_version_one p
@@ -318,24 +322,24 @@ module _ (np : NamedPolicy) (is : IsWellFormed np) where
   read_opening =
       let ms : List Fluent = members p.opening in
       taken (opening_said ns) (λ t. nat_le 9 t && nat_le t 13) (no_opening_said ns)
-      ∙ next is_enabled (opening_lines ns is_assigned ms ++ (opening_lines ns is_granted ms ++ (opening_lines ns is_armed ms ++ (linked ms one ++ []))))
-      (next is_assigned (opening_lines ns is_granted ms ++ (opening_lines ns is_armed ms ++ (linked ms one ++ [])))
-      (next is_granted (opening_lines ns is_armed ms ++ (linked ms one ++ [])) (next is_armed (linked ms one ++ []) (last one))))
+      ∙ next Enabling (opening_lines ns Assigning ms ++ (opening_lines ns Granting ms ++ (opening_lines ns Arming ms ++ (linked ms one ++ []))))
+      (next Assigning (opening_lines ns Granting ms ++ (opening_lines ns Arming ms ++ (linked ms one ++ [])))
+      (next Granting (opening_lines ns Arming ms ++ (linked ms one ++ [])) (next Arming (linked ms one ++ []) (last one))))
     where
       linked : List Fluent → Bool → List SaidView
-      linked ms b = cond b [] (opening_lines ns is_linked ms)
+      linked ms b = cond b [] (opening_lines ns Linking ms)
 
-      next : (of_sort : Fluent → Bool) (xs : List SaidView) {fs : List Fluent} → filter_map (opening_said ns) xs ≡ fs
-          → filter_map (opening_said ns) (opening_lines ns of_sort (members p.opening) ++ xs) ≡ filter of_sort (members p.opening) ++ fs
-      next of_sort xs e = filter_map-append (opening_said ns) (opening_lines ns of_sort (members p.opening)) xs ∙ (λ i. read_sort of_sort i ++ e i)
+      next : (s : Sort) (xs : List SaidView) {fs : List Fluent} → filter_map (opening_said ns) xs ≡ fs
+          → filter_map (opening_said ns) (opening_lines ns s (members p.opening) ++ xs) ≡ filter (has_sort s) (members p.opening) ++ fs
+      next s xs e = filter_map-append (opening_said ns) (opening_lines ns s (members p.opening)) xs ∙ (λ i. read_sort s i ++ e i)
 
-      last : (b : Bool) → filter_map (opening_said ns) (linked (members p.opening) b ++ []) ≡ cond b [] (filter is_linked (members p.opening)) ++ []
+      last : (b : Bool) → filter_map (opening_said ns) (linked (members p.opening) b ++ []) ≡ cond b [] (filter (has_sort Linking) (members p.opening)) ++ []
       last true = refl
-      last false = next is_linked [] refl
+      last false = next Linking [] refl
 
   -- the policy
 
-  abbrev draft : Draft
+  abbrev draft : DraftView
   draft = drafted ns (fresh ns) lines
 
   caps_read : draft.caps ≡ p.caps
@@ -392,14 +396,14 @@ module _ (np : NamedPolicy) (is : IsWellFormed np) where
   policy_named =
       (λ i. record { names = names_read i; policy = policy_of (names_read i) (are_second lines) (drafted (names_read i) (fresh (names_read i)) lines) }) ∙ (λ i. record { names = ns; policy = policy_read i })
 
-  -- no trouble
+  -- no fault
 
   right : list_all (is_right ns) lines ≡ true
   right = ap (list_all (is_right ns)) (lines_joined np) ∙ all_right np is
 
-  clear : first_trouble ns [] (numbered_from 1 lines) ≡ None
+  clear : first_fault ns [] (numbered_from 1 lines) ≡ None
   clear =
-      no_trouble ns [] lines 1 (all_weaker (is_right ns) (is_known ns) (λ x h. (both_true (is_saying x) _ h).1) lines right) (ap (repeats clashes) (lines_joined np) ∙ all_apart np is) (λ z m. absurd m)
+      has_no_fault ns [] lines 1 (all_weaker (is_right ns) (is_known ns) (λ x h. (both_true (is_saying x) _ h).1) lines right) (ap (repeats clashes) (lines_joined np) ∙ all_apart np is) (λ z m. absurd m)
       (λ k. subst (λ xs. 0 + length (filter (is_of k) xs) ≤ most_of k) (sym (lines_joined np)) (omega (arith, few_lines np is k)))
 
   acyclic : edge_cycle p.edges ≡ None
@@ -408,8 +412,8 @@ module _ (np : NamedPolicy) (is : IsWellFormed np) where
   pub canonical_built : build (numbered_from 1 lines) ≡ Ok np
   canonical_built =
       let numbered : List (Numbered SaidView) = numbered_from 1 lines in
-      (λ i. without_trouble (first_trouble (names_of (said_numbered 1 lines i)) [] numbered) (named_policy (said_numbered 1 lines i)))
-      ∙ (λ i. without_trouble (first_trouble (names_read i) [] numbered) (policy_named i)) ∙ (λ i. without_trouble (clear i) np) ∙ (λ i. without_cycle np (acyclic i))
+      (λ i. without_fault (first_fault (names_of (said_numbered 1 lines i)) [] numbered) (named_policy (said_numbered 1 lines i)))
+      ∙ (λ i. without_fault (first_fault (names_read i) [] numbered) (policy_named i)) ∙ (λ i. without_fault (clear i) np) ∙ (λ i. without_cycle np (acyclic i))
 
   pub canonical_said : list_all is_saying lines ≡ true
   canonical_said = all_weaker (is_right ns) is_saying (λ x h. (both_true (is_saying x) _ h).0) lines right

@@ -1,21 +1,23 @@
 -- The lines of caps make the caps again.
-use Rattle.std.proofs.Common.{◌≡◌, ℕ, zero, suc, ◌+◌, ◌≤◌, ◌<◌, Bool, true, false, not, List, [], ◌∷◌, ◌++◌, map, length, Option, Some, None, refl, sym, ap, ◌∙◌, arith, append_assoc}
+use Rattle.std.proofs.Common.{◌≡◌, ℕ, zero, suc, ◌+◌, ◌≤◌, ◌<◌, Bool, true, false, not, ◌&&◌, List, [], ◌∷◌, ◌++◌, map, length, Option, Some, None, refl, sym, ap, ◌∙◌, arith, append_assoc}
 use Rattle.std.specs.Prelude.{bytes_eq}
 use Rattle.std.specs.List.{list_all, list_any, filter_map, cons_option, flat_map, enumerate_from}
-use Rattle.std.proofs.lemmas.Bool.{false_from_ne_true, not-true, or_from}
+use Rattle.std.proofs.lemmas.Bool.{false_from_ne_true, not-true, or_parts, or_from}
 use Rattle.std.proofs.lemmas.List.{length-append}
+use Rattle.std.proofs.lemmas.List.Folds.{list_any-append}
 use Rattle.gt_base.specs.declared.events.RoleId.{RoleId}
 use Rattle.gt_base.specs.declared.policies.Caps.{Caps}
 use Rattle.gtrbac_model.proofs.Elements.{both_true, and_true, all_elim}
 use Rattle.policy_words.specs.declared.sayings.CapKind.{CapKind}
-use Rattle.policy_words.specs.declared.sayings.CapKind.TheVariants as kinds
+use Rattle.policy_words.specs.CapKinds.{cap_kinds, same_cap_kind, no_caps, cap_of, with_cap}
+use Rattle.policy_words.proofs.CapKinds.{with_some, with_kinds, all_set}
 use Rattle.policy_words.specs.Sayings.{SaidView, cap}
 use Rattle.policy_words.specs.Naming.{Names, role_of, role_name}
-use Rattle.policy_words.specs.Making.{Draft, adding, drafted, changed_at, with_cap, capped, with_caps_said, no_caps}
-use Rattle.policy_words.specs.Canonical.{cap_line, cap_lines}
+use Rattle.policy_words.specs.Making.{DraftView, adding, drafted, changed_at, capped, with_caps_said}
+use Rattle.policy_words.specs.Canonical.{cap_line, kind_line, cap_lines}
 use Rattle.policy_book.proofs.Lists.{repeats, bytes_same, same_bytes, some_same}
 use Rattle.policy_book.proofs.Clashes.{clashes}
-use Rattle.policy_book.proofs.Mapped.{all_join}
+use Rattle.policy_book.proofs.Mapped.{all_join, all_flat_map}
 use Rattle.policy_text.proofs.Sections.{apart_join}
 
 -- the caps after some lines
@@ -23,7 +25,7 @@ abbrev pub caps_after : Names → List SaidView → List Caps → List Caps
 caps_after ns [] cs = cs
 caps_after ns (x ∷ xs) cs = caps_after ns xs (with_caps_said ns x cs)
 
-pub drafted_caps : (ns : Names) (d : Draft) (xs : List SaidView) → (drafted ns d xs).caps ≡ caps_after ns xs d.caps
+pub drafted_caps : (ns : Names) (d : DraftView) (xs : List SaidView) → (drafted ns d xs).caps ≡ caps_after ns xs d.caps
 drafted_caps ns d [] = refl
 drafted_caps ns d (x ∷ xs) = drafted_caps ns (adding ns d x) xs
 
@@ -50,44 +52,20 @@ changed_end f [] x rest (suc n) e = absurd (omega arith)
 changed_end f (y ∷ front) x rest zero e = absurd (omega arith)
 changed_end f (y ∷ front) x rest (suc n) e = ap (λ zs. y ∷ zs) (changed_end f front x rest n (omega arith))
 
-abbrev with_some : CapKind → Option ℕ → Caps → Caps
-with_some kind None c = c
-with_some kind (Some n) c = with_cap kind n c
-
-all_set : (t u l d : Option ℕ) → with_some kinds.Day d (with_some kinds.Length l (with_some kinds.User u (with_some kinds.Total t no_caps))) ≡ record { total = t; user = u; length = l; day = d }
-all_set None None None None = refl
-all_set None None None (Some d) = refl
-all_set None None (Some l) None = refl
-all_set None None (Some l) (Some d) = refl
-all_set None (Some u) None None = refl
-all_set None (Some u) None (Some d) = refl
-all_set None (Some u) (Some l) None = refl
-all_set None (Some u) (Some l) (Some d) = refl
-all_set (Some t) None None None = refl
-all_set (Some t) None None (Some d) = refl
-all_set (Some t) None (Some l) None = refl
-all_set (Some t) None (Some l) (Some d) = refl
-all_set (Some t) (Some u) None None = refl
-all_set (Some t) (Some u) None (Some d) = refl
-all_set (Some t) (Some u) (Some l) None = refl
-all_set (Some t) (Some u) (Some l) (Some d) = refl
-
 -- lines of one role change its caps
 module _ (ns : Names) (r : List ℕ) (n : ℕ) (found : role_of ns r ≡ Some (record { 0 = n })) (front rest : List Caps) (place : length front ≡ n) where
   one_line : (kind : CapKind) (o : Option ℕ) (c : Caps) → caps_after ns (cap_line ns kind r o) (front ++ c ∷ rest) ≡ front ++ with_some kind o c ∷ rest
   one_line kind None c = refl
   one_line kind (Some m) c = ap (λ q. capped ns kind m q (front ++ c ∷ rest)) found ∙ changed_end (with_cap kind m) front c rest n place
 
-  more_lines : (kind : CapKind) (o : Option ℕ) (xs : List SaidView) (b c : Caps) → caps_after ns xs (front ++ b ∷ rest) ≡ front ++ c ∷ rest
-      → caps_after ns (xs ++ cap_line ns kind r o) (front ++ b ∷ rest) ≡ front ++ with_some kind o c ∷ rest
-  more_lines kind o xs b c e = after_join ns xs (cap_line ns kind r o) (front ++ b ∷ rest) ∙ ap (λ cs. caps_after ns (cap_line ns kind r o) cs) e ∙ one_line kind o c
+  kind_lines : (ks : List CapKind) (c b : Caps) → caps_after ns (flat_map (λ k. cap_line ns k r (cap_of k c)) ks) (front ++ b ∷ rest) ≡ front ++ with_kinds ks c b ∷ rest
+  kind_lines [] c b = refl
+  kind_lines (k ∷ ks) c b =
+      after_join ns (cap_line ns k r (cap_of k c)) (flat_map (λ k. cap_line ns k r (cap_of k c)) ks) (front ++ b ∷ rest)
+      ∙ ap (λ cs. caps_after ns (flat_map (λ k. cap_line ns k r (cap_of k c)) ks) cs) (one_line k (cap_of k c) b) ∙ kind_lines ks c (with_some k (cap_of k c) b)
 
-  role_lines : (c : Caps)
-      → caps_after ns (cap_line ns kinds.Total r c.total ++ cap_line ns kinds.User r c.user ++ cap_line ns kinds.Length r c.length ++ cap_line ns kinds.Day r c.day) (front ++ no_caps ∷ rest) ≡ front ++ c ∷ rest
-  role_lines c =
-      more_lines kinds.Day c.day (cap_line ns kinds.Total r c.total ++ cap_line ns kinds.User r c.user ++ cap_line ns kinds.Length r c.length) no_caps _
-      (more_lines kinds.Length c.length (cap_line ns kinds.Total r c.total ++ cap_line ns kinds.User r c.user) no_caps _ (more_lines kinds.User c.user (cap_line ns kinds.Total r c.total) no_caps _ (one_line kinds.Total c.total no_caps)))
-      ∙ ap (λ z. front ++ z ∷ rest) (all_set c.total c.user c.length c.day)
+  role_lines : (c : Caps) → caps_after ns (flat_map (λ k. cap_line ns k r (cap_of k c)) cap_kinds) (front ++ no_caps ∷ rest) ≡ front ++ c ∷ rest
+  role_lines c = kind_lines cap_kinds c no_caps ∙ ap (λ z. front ++ z ∷ rest) (all_set c)
 
 -- the lines of all roles make the caps
 module _ (ns : Names) (found : (n : ℕ) → n < length ns.roles → role_of ns (role_name ns (record { 0 = n })) ≡ Some (record { 0 = n })) where
@@ -105,23 +83,34 @@ module _ (ns : Names) (found : (n : ℕ) → n < length ns.roles → role_of ns 
 
 -- lines of caps do not clash
 
-block_apart : (ns : Names) (r : List ℕ) (t u l d : Option ℕ) → repeats clashes (cap_line ns kinds.Total r t ++ cap_line ns kinds.User r u ++ cap_line ns kinds.Length r l ++ cap_line ns kinds.Day r d) ≡ false
-block_apart ns r None None None None = refl
-block_apart ns r None None None (Some d) = refl
-block_apart ns r None None (Some l) None = refl
-block_apart ns r None None (Some l) (Some d) = refl
-block_apart ns r None (Some u) None None = refl
-block_apart ns r None (Some u) None (Some d) = refl
-block_apart ns r None (Some u) (Some l) None = refl
-block_apart ns r None (Some u) (Some l) (Some d) = refl
-block_apart ns r (Some t) None None None = refl
-block_apart ns r (Some t) None None (Some d) = refl
-block_apart ns r (Some t) None (Some l) None = refl
-block_apart ns r (Some t) None (Some l) (Some d) = refl
-block_apart ns r (Some t) (Some u) None None = refl
-block_apart ns r (Some t) (Some u) None (Some d) = refl
-block_apart ns r (Some t) (Some u) (Some l) None = refl
-block_apart ns r (Some t) (Some u) (Some l) (Some d) = refl
+never : (a : Bool) → (a && false) ≡ false
+never true = refl
+never false = refl
+
+-- nor does one with lines of other kinds of its role
+beside_kinds : (ns : Names) (r : List ℕ) (c : Caps) (k : CapKind) (n : ℕ) (ks : List CapKind) → list_any (λ l. same_cap_kind l k) ks ≡ false
+    → list_any (clashes (cap k r n)) (flat_map (λ l. cap_line ns l r (cap_of l c)) ks) ≡ false
+beside_kinds ns r c k n [] h = refl
+beside_kinds ns r c k n (l ∷ ks) h =
+    let parts = or_parts (same_cap_kind l k) _ h in
+    list_any-append (clashes (cap k r n)) (cap_line ns l r (cap_of l c)) (flat_map (λ l. cap_line ns l r (cap_of l c)) ks)
+    ∙ or_from _ _ (by (cap_of l c) parts.0) (beside_kinds ns r c k n ks parts.1)
+  where
+    by : (o : Option ℕ) → same_cap_kind l k ≡ false → list_any (clashes (cap k r n)) (cap_line ns l r o) ≡ false
+    by None e = refl
+    by (Some m) e = or_from (same_cap_kind l k && bytes_eq r r) false (ap (λ b. b && bytes_eq r r) e) refl
+
+block_apart : (ns : Names) (r : List ℕ) (c : Caps) (ks : List CapKind) → repeats (λ k l. same_cap_kind l k) ks ≡ false
+    → repeats clashes (flat_map (λ l. cap_line ns l r (cap_of l c)) ks) ≡ false
+block_apart ns r c [] h = refl
+block_apart ns r c (k ∷ ks) h =
+    let parts = or_parts (list_any (λ l. same_cap_kind l k) ks) _ h in
+    by (cap_of k c) parts.0 (block_apart ns r c ks parts.1)
+  where
+    by : (o : Option ℕ) → list_any (λ l. same_cap_kind l k) ks ≡ false → repeats clashes (flat_map (λ l. cap_line ns l r (cap_of l c)) ks) ≡ false
+        → repeats clashes (cap_line ns k r o ++ flat_map (λ l. cap_line ns l r (cap_of l c)) ks) ≡ false
+    by None e apart = apart
+    by (Some n) e apart = or_from (list_any (clashes (cap k r n)) (flat_map (λ l. cap_line ns l r (cap_of l c)) ks)) _ (beside_kinds ns r c k n ks e) apart
 
 -- a cap of this role, and of another
 abbrev is_cap_of : List ℕ → SaidView → Bool
@@ -133,28 +122,10 @@ is_cap_beside r (cap kind s n) = not (bytes_eq s r)
 is_cap_beside r _ = false
 
 caps_apart : (r : List ℕ) (x y : SaidView) → is_cap_of r x ≡ true → is_cap_beside r y ≡ true → clashes x y ≡ false
-caps_apart r (cap k s n) (cap l t m) e f = by k l
+caps_apart r (cap k s n) (cap l t m) e f = ap (λ b. same_cap_kind l k && b) other ∙ never (same_cap_kind l k)
   where
     other : bytes_eq t s ≡ false
     other = ap (bytes_eq t) (bytes_same s r e) ∙ not-true _ f
-
-    by : (k l : CapKind) → clashes (cap k s n) (cap l t m) ≡ false
-    by kinds.Total kinds.Total = other
-    by kinds.User kinds.User = other
-    by kinds.Length kinds.Length = other
-    by kinds.Day kinds.Day = other
-    by kinds.Total kinds.User = refl
-    by kinds.Total kinds.Length = refl
-    by kinds.Total kinds.Day = refl
-    by kinds.User kinds.Total = refl
-    by kinds.User kinds.Length = refl
-    by kinds.User kinds.Day = refl
-    by kinds.Length kinds.Total = refl
-    by kinds.Length kinds.User = refl
-    by kinds.Length kinds.Day = refl
-    by kinds.Day kinds.Total = refl
-    by kinds.Day kinds.User = refl
-    by kinds.Day kinds.Length = refl
 caps_apart r (cap k s n) _ e f = cc
 caps_apart r _ y e f = cc
 
@@ -164,12 +135,7 @@ line_all ns p kind r (Some n) on = and_true _ _ (on n refl) refl
 
 -- a test of all lines of a role
 pub lines_all : (ns : Names) (p : SaidView → Bool) (n : ℕ) (c : Caps) → ((kind : CapKind) (o : Option ℕ) → list_all p (cap_line ns kind (role_name ns (record { 0 = n })) o) ≡ true) → list_all p (cap_lines ns (n, c)) ≡ true
-lines_all ns p n c on =
-    let r : List ℕ = role_name ns (record { 0 = n }) in
-    all_join p (cap_line ns kinds.Total r c.total ++ cap_line ns kinds.User r c.user ++ cap_line ns kinds.Length r c.length) (cap_line ns kinds.Day r c.day)
-    (all_join p (cap_line ns kinds.Total r c.total ++ cap_line ns kinds.User r c.user) (cap_line ns kinds.Length r c.length)
-    (all_join p (cap_line ns kinds.Total r c.total) (cap_line ns kinds.User r c.user) (on kinds.Total c.total) (on kinds.User c.user)) (on kinds.Length c.length))
-    (on kinds.Day c.day)
+lines_all ns p n c on = all_flat_map (kind_line ns (n, c)) p (λ _. true) (λ k _. on k (cap_of k c)) cap_kinds refl
 
 module _ (ns : Names) (found : (n : ℕ) → n < length ns.roles → role_of ns (role_name ns (record { 0 = n })) ≡ Some (record { 0 = n })) where
   other_name : (n m : ℕ) → n < m → m < length ns.roles → bytes_eq (role_name ns (record { 0 = m })) (role_name ns (record { 0 = n })) ≡ false
@@ -202,5 +168,5 @@ module _ (ns : Names) (found : (n : ℕ) → n < length ns.roles → role_of ns 
   all_caps_apart n [] le = refl
   all_caps_apart n (c ∷ cs) le =
       let r : List ℕ = role_name ns (record { 0 = n }) in
-      apart_join clashes (cap_lines ns (n, c)) (flat_map (cap_lines ns) (enumerate_from (n + 1) cs)) (block_apart ns r c.total c.user c.length c.day) (all_caps_apart (n + 1) cs (omega arith))
+      apart_join clashes (cap_lines ns (n, c)) (flat_map (cap_lines ns) (enumerate_from (n + 1) cs)) (block_apart ns r c cap_kinds refl) (all_caps_apart (n + 1) cs (omega arith))
       (λ x m. none_beside r x (all_elim (is_cap_of r) (cap_lines ns (n, c)) x (of_role n c) m) (flat_map (cap_lines ns) (enumerate_from (n + 1) cs)) (beside n (n + 1) cs (omega arith) (omega arith)))

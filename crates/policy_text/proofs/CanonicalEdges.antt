@@ -18,7 +18,10 @@ use Rattle.policy_words.specs.declared.parts.Item.TheVariants.{Event, Signal, Co
 use Rattle.policy_words.specs.declared.sayings.CapKind.{CapKind}
 use Rattle.policy_words.specs.Sayings.{SaidView, role, user, perm, admin, opening, entry, trigger, is_edge, item_names_edge, names_edge}
 use Rattle.policy_words.specs.Naming.{Names, NamedPolicy, role_name, user_name, period_name, fluent_named, event_named, signal_named, cond_named, head_named}
-use Rattle.policy_words.specs.Canonical.{is_enabled, is_assigned, is_granted, is_armed, is_linked, is_version_one, switches_edges, rule_names_edge, period_line, limit_line, edge_line, cap_line, cap_lines, items_of, opening_lines}
+use Rattle.policy_words.specs.declared.parts.Sort.{Sort}
+use Rattle.policy_words.specs.declared.parts.Sort.TheVariants.{Enabling, Assigning, Granting, Arming, Linking}
+use Rattle.policy_words.specs.Sorts.{same_sort, has_sort}
+use Rattle.policy_words.specs.Canonical.{is_version_one, switches_edges, rule_names_edge, period_line, limit_line, edge_line, cap_line, cap_lines, items_of, opening_lines}
 use Rattle.policy_book.proofs.Mapped.{all_true, all_filter, all_map, all_flat_map}
 use Rattle.policy_text.proofs.Sections.{joined, all_joined}
 use Rattle.policy_text.proofs.CanonicalCaps.{lines_all}
@@ -48,7 +51,7 @@ or_none true = refl
 or_none false = refl
 
 module _ (ns : Names) where
-  edge_named : (f : Fluent) → is_edge (fluent_named ns f) ≡ is_linked f
+  edge_named : (f : Fluent) → is_edge (fluent_named ns f) ≡ has_sort Linking f
   edge_named (base.Enabled r) = refl
   edge_named (base.Assigned u r) = refl
   edge_named (base.Granted q r) = refl
@@ -61,11 +64,11 @@ module _ (ns : Names) where
       let signals : List Item = map (λ s. Signal (signal_named ns s)) r.signals in
       let conds : List Item = map (λ c. Cond (cond_named ns c)) r.conds in
       let settled : List Item = map (λ c. Settled (cond_named ns c)) r.settled in
-      let e = any_map (λ (e : BaseEvent). Event (event_named ns e)) item_names_edge (λ e. is_linked e.fluent) (λ e. edge_named e.fluent) r.events in
+      let e = any_map (λ (e : BaseEvent). Event (event_named ns e)) item_names_edge (λ e. has_sort Linking e.fluent) (λ e. edge_named e.fluent) r.events in
       let s = none_map (λ (s : BaseSignal). Signal (signal_named ns s)) item_names_edge (λ _. refl) r.signals in
-      let c = any_map (λ (c : BaseCond). Cond (cond_named ns c)) item_names_edge (λ c. is_linked c.fluent) (λ c. edge_named c.fluent) r.conds in
-      let t = any_map (λ (c : BaseCond). Settled (cond_named ns c)) item_names_edge (λ c. is_linked c.fluent) (λ c. edge_named c.fluent) r.settled in
-      let first : list_any item_names_edge (events ++ signals) ≡ list_any (λ e. is_linked e.fluent) r.events = list_any-append item_names_edge events signals ∙ (λ i. e i || s i) ∙ or_none _ in
+      let c = any_map (λ (c : BaseCond). Cond (cond_named ns c)) item_names_edge (λ c. has_sort Linking c.fluent) (λ c. edge_named c.fluent) r.conds in
+      let t = any_map (λ (c : BaseCond). Settled (cond_named ns c)) item_names_edge (λ c. has_sort Linking c.fluent) (λ c. edge_named c.fluent) r.settled in
+      let first : list_any item_names_edge (events ++ signals) ≡ list_any (λ e. has_sort Linking e.fluent) r.events = list_any-append item_names_edge events signals ∙ (λ i. e i || s i) ∙ or_none _ in
       let all = list_any-append item_names_edge (events ++ signals ++ conds) settled ∙ (λ i. (list_any-append item_names_edge (events ++ signals) conds ∙ (λ j. first j || c j)) i || t i) in
       λ i. all i || edge_named r.head.event.fluent i
 
@@ -74,26 +77,17 @@ no_cap ns kind r None = refl
 no_cap ns kind r (Some n) = refl
 
 -- an opening fluent of another sort is no edge
-off_by : (of_sort : Fluent → Bool) → ((f : Fluent) → of_sort f ≡ true → is_linked f ≡ false) → (ns : Names) (ms : List Fluent) → list_all names_none (opening_lines ns of_sort ms) ≡ true
-off_by of_sort off ns ms =
-    all_map (λ f. opening (fluent_named ns f)) names_none (λ f. of_sort f && true) (λ f h. ap not (edge_named ns f ∙ off f (both_true (of_sort f) _ h).0)) (filter of_sort ms)
-    (all_filter of_sort (λ _. true) ms (all_true ms))
+off_sort : (s : Sort) → same_sort s Linking ≡ false → (f : Fluent) → has_sort s f ≡ true → has_sort Linking f ≡ false
+off_sort s off (base.Edge n) h = cc
+off_sort s off (base.Enabled r) h = refl
+off_sort s off (base.Assigned u r) h = refl
+off_sort s off (base.Granted q r) h = refl
+off_sort s off (base.Limit l) h = refl
 
-enabled_off : (f : Fluent) → is_enabled f ≡ true → is_linked f ≡ false
-enabled_off (base.Enabled r) h = refl
-enabled_off _ h = cc
-
-assigned_off : (f : Fluent) → is_assigned f ≡ true → is_linked f ≡ false
-assigned_off (base.Assigned u r) h = refl
-assigned_off _ h = cc
-
-granted_off : (f : Fluent) → is_granted f ≡ true → is_linked f ≡ false
-granted_off (base.Granted q r) h = refl
-granted_off _ h = cc
-
-armed_off : (f : Fluent) → is_armed f ≡ true → is_linked f ≡ false
-armed_off (base.Limit l) h = refl
-armed_off _ h = cc
+off_by : (s : Sort) → same_sort s Linking ≡ false → (ns : Names) (ms : List Fluent) → list_all names_none (opening_lines ns s ms) ≡ true
+off_by s off ns ms =
+    all_map (λ f. opening (fluent_named ns f)) names_none (λ f. has_sort s f && true) (λ f h. ap not (edge_named ns f ∙ off_sort s off f (both_true (has_sort s f) _ h).0)) (filter (has_sort s) ms)
+    (all_filter (has_sort s) (λ _. true) ms (all_true ms))
 
 pub no_edges : (np : NamedPolicy) → is_version_one np.policy ≡ true → list_all names_none (joined (sections_behind np)) ≡ true
 no_edges np one =
@@ -111,8 +105,8 @@ no_edges np one =
           (
             plain (period_line ns) (λ _. refl) (enumerate_from 0 np.policy.periods),
             (
-              all_map (limit_line ns) names_none (λ e. not (is_linked e.1.cond.fluent)) (λ e h. ap not (edge_named ns e.1.cond.fluent) ∙ h) (enumerate_from 0 np.policy.limits)
-                  (none_numbered (λ l. is_linked l.cond.fluent) 0 np.policy.limits three.0),
+              all_map (limit_line ns) names_none (λ e. not (has_sort Linking e.1.cond.fluent)) (λ e h. ap not (edge_named ns e.1.cond.fluent) ∙ h) (enumerate_from 0 np.policy.limits)
+                  (none_numbered (λ l. has_sort Linking l.cond.fluent) 0 np.policy.limits three.0),
               (
                 plain (edge_line ns) (λ _. refl) np.policy.edges,
                 (
@@ -120,18 +114,18 @@ no_edges np one =
                   (
                     plain (λ (u : UserId). admin (user_name ns u)) (λ _. refl) np.policy.admins,
                     (
-                      off_by is_enabled enabled_off ns ms,
+                      off_by Enabling refl ns ms,
                       (
-                        off_by is_assigned assigned_off ns ms,
+                        off_by Assigning refl ns ms,
                         (
-                          off_by is_granted granted_off ns ms,
+                          off_by Granting refl ns ms,
                           (
-                            off_by is_armed armed_off ns ms,
+                            off_by Arming refl ns ms,
                             (
-                              ap (λ b. list_all names_none (cond b [] (opening_lines ns is_linked ms))) one,
+                              ap (λ b. list_all names_none (cond b [] (opening_lines ns Linking ms))) one,
                               (
-                                all_map (λ (e : PeriodicEntry). entry e.form (period_name ns e.period) (head_named ns e.head)) names_none (λ e. not (is_linked e.head.event.fluent))
-                                    (λ e h. ap not (edge_named ns e.head.event.fluent) ∙ h) np.policy.entries (none_all (λ e. is_linked e.head.event.fluent) np.policy.entries three.1),
+                                all_map (λ (e : PeriodicEntry). entry e.form (period_name ns e.period) (head_named ns e.head)) names_none (λ e. not (has_sort Linking e.head.event.fluent))
+                                    (λ e h. ap not (edge_named ns e.head.event.fluent) ∙ h) np.policy.entries (none_all (λ e. has_sort Linking e.head.event.fluent) np.policy.entries three.1),
                                 (
                                   all_map (λ (r : TriggerView). trigger (items_of ns r) (head_named ns r.head) r.delay) names_none (λ r. not (rule_names_edge r)) (λ r h. ap not (rule_named ns r) ∙ h)
                                       np.policy.triggers (none_all rule_names_edge np.policy.triggers two.1),

@@ -18,16 +18,17 @@ use Rattle.gtrbac_model.specs.Policy.{Policy}
 use Rattle.gtrbac_model.specs.WholePolicy.{admins_rise, is_fluent}
 use Rattle.policy_words.specs.Sayings.{SaidView}
 use Rattle.policy_words.specs.Naming.{Names}
-use Rattle.policy_words.specs.Making.{Draft, adding, drafted, with_new, admin_said, opening_said, users_from, edges_from, linked_at_first}
-use Rattle.policy_words.specs.Canonical.{is_enabled, is_assigned, is_granted, is_armed, is_linked}
+use Rattle.policy_words.specs.Making.{DraftView, adding, drafted, with_new, admin_said, opening_said, users_from, edges_from, linked_at_first}
+use Rattle.policy_words.specs.declared.parts.Sort.TheVariants.{Enabling, Assigning, Granting, Arming, Linking}
+use Rattle.policy_words.specs.Sorts.{has_sort}
 
 -- each item goes to the end, unless it is there
 abbrev pub with_all : {A : Type 0} → (A → A → Bool) → List A → List A → List A
 with_all same xs [] = xs
 with_all same xs (y ∷ ys) = with_all same (with_new same (Some y) xs) ys
 
-module _ (ns : Names) {A : Type 0} (same : A → A → Bool) (of : Draft → List A) (said : SaidView → Option A) (step : (d : Draft) (x : SaidView) → of (adding ns d x) ≡ with_new same (said x) (of d)) where
-  drafted_new : (d : Draft) (xs : List SaidView) → of (drafted ns d xs) ≡ with_all same (of d) (filter_map said xs)
+module _ (ns : Names) {A : Type 0} (same : A → A → Bool) (of : DraftView → List A) (said : SaidView → Option A) (step : (d : DraftView) (x : SaidView) → of (adding ns d x) ≡ with_new same (said x) (of d)) where
+  drafted_new : (d : DraftView) (xs : List SaidView) → of (drafted ns d xs) ≡ with_all same (of d) (filter_map said xs)
   drafted_new d [] = refl
   drafted_new d (x ∷ xs) = drafted_new (adding ns d x) xs ∙ ap (λ z. with_all same z (filter_map said xs)) (step d x) ∙ by (said x)
     where
@@ -35,10 +36,10 @@ module _ (ns : Names) {A : Type 0} (same : A → A → Bool) (of : Draft → Lis
       by None = refl
       by (Some a) = refl
 
-pub drafted_admins : (ns : Names) (d : Draft) (xs : List SaidView) → (drafted ns d xs).admins ≡ with_all same_user d.admins (filter_map (admin_said ns) xs)
+pub drafted_admins : (ns : Names) (d : DraftView) (xs : List SaidView) → (drafted ns d xs).admins ≡ with_all same_user d.admins (filter_map (admin_said ns) xs)
 drafted_admins ns d xs = drafted_new ns same_user (λ e. e.admins) (admin_said ns) (λ _ _. refl) d xs
 
-pub drafted_on : (ns : Names) (d : Draft) (xs : List SaidView) → (drafted ns d xs).on_at_first ≡ with_all same_fluent d.on_at_first (filter_map (opening_said ns) xs)
+pub drafted_on : (ns : Names) (d : DraftView) (xs : List SaidView) → (drafted ns d xs).on_at_first ≡ with_all same_fluent d.on_at_first (filter_map (opening_said ns) xs)
 drafted_on ns d xs = drafted_new ns same_fluent (λ e. e.on_at_first) (opening_said ns) (λ _ _. refl) d xs
 
 module _ {A : Type 0} (same : A → A → Bool) (tells : (a b : A) → same a b ≡ true → a ≡ b) where
@@ -100,24 +101,24 @@ fifth false b c d x e f = fourth b c d x e f
 
 module _ (q : Fluent → Bool) where
   abbrev any_sort : List Fluent → Bool
-  any_sort ms = list_any q (filter is_enabled ms) || (list_any q (filter is_assigned ms) || (list_any q (filter is_granted ms) || (list_any q (filter is_armed ms) || (list_any q (filter is_linked ms) || false))))
+  any_sort ms = list_any q (filter (has_sort Enabling) ms) || (list_any q (filter (has_sort Assigning) ms) || (list_any q (filter (has_sort Granting) ms) || (list_any q (filter (has_sort Arming) ms) || (list_any q (filter (has_sort Linking) ms) || false))))
 
   one_more : (n : Fluent) (ms : List Fluent) → any_sort (n ∷ ms) ≡ (q n || any_sort ms)
   one_more (base.Enabled r) ms =
-      first (q (base.Enabled r)) (list_any q (filter is_enabled ms))
-      (list_any q (filter is_assigned ms) || (list_any q (filter is_granted ms) || (list_any q (filter is_armed ms) || (list_any q (filter is_linked ms) || false))))
+      first (q (base.Enabled r)) (list_any q (filter (has_sort Enabling) ms))
+      (list_any q (filter (has_sort Assigning) ms) || (list_any q (filter (has_sort Granting) ms) || (list_any q (filter (has_sort Arming) ms) || (list_any q (filter (has_sort Linking) ms) || false))))
   one_more (base.Assigned u r) ms =
-      second (list_any q (filter is_enabled ms)) (q (base.Assigned u r)) (list_any q (filter is_assigned ms))
-      (list_any q (filter is_granted ms) || (list_any q (filter is_armed ms) || (list_any q (filter is_linked ms) || false)))
+      second (list_any q (filter (has_sort Enabling) ms)) (q (base.Assigned u r)) (list_any q (filter (has_sort Assigning) ms))
+      (list_any q (filter (has_sort Granting) ms) || (list_any q (filter (has_sort Arming) ms) || (list_any q (filter (has_sort Linking) ms) || false)))
   one_more (base.Granted p r) ms =
-      third (list_any q (filter is_enabled ms)) (list_any q (filter is_assigned ms)) (q (base.Granted p r)) (list_any q (filter is_granted ms))
-      (list_any q (filter is_armed ms) || (list_any q (filter is_linked ms) || false))
+      third (list_any q (filter (has_sort Enabling) ms)) (list_any q (filter (has_sort Assigning) ms)) (q (base.Granted p r)) (list_any q (filter (has_sort Granting) ms))
+      (list_any q (filter (has_sort Arming) ms) || (list_any q (filter (has_sort Linking) ms) || false))
   one_more (base.Limit l) ms =
-      fourth (list_any q (filter is_enabled ms)) (list_any q (filter is_assigned ms)) (list_any q (filter is_granted ms)) (q (base.Limit l)) (list_any q (filter is_armed ms))
-      (list_any q (filter is_linked ms) || false)
+      fourth (list_any q (filter (has_sort Enabling) ms)) (list_any q (filter (has_sort Assigning) ms)) (list_any q (filter (has_sort Granting) ms)) (q (base.Limit l)) (list_any q (filter (has_sort Arming) ms))
+      (list_any q (filter (has_sort Linking) ms) || false)
   one_more (base.Edge n) ms =
-      fifth (list_any q (filter is_enabled ms)) (list_any q (filter is_assigned ms)) (list_any q (filter is_granted ms)) (list_any q (filter is_armed ms)) (q (base.Edge n))
-      (list_any q (filter is_linked ms)) false
+      fifth (list_any q (filter (has_sort Enabling) ms)) (list_any q (filter (has_sort Assigning) ms)) (list_any q (filter (has_sort Granting) ms)) (list_any q (filter (has_sort Arming) ms)) (q (base.Edge n))
+      (list_any q (filter (has_sort Linking) ms)) false
 
   sorted : (ms : List Fluent) → any_sort ms ≡ list_any q ms
   sorted [] = refl
@@ -125,24 +126,24 @@ module _ (q : Fluent → Bool) where
 
 -- the opening fluents as they are written, edges in version 2 alone
 abbrev pub by_sort : Bool → List Fluent → List Fluent
-by_sort one ms = filter is_enabled ms ++ (filter is_assigned ms ++ (filter is_granted ms ++ (filter is_armed ms ++ (cond one [] (filter is_linked ms) ++ []))))
+by_sort one ms = filter (has_sort Enabling) ms ++ (filter (has_sort Assigning) ms ++ (filter (has_sort Granting) ms ++ (filter (has_sort Arming) ms ++ (cond one [] (filter (has_sort Linking) ms) ++ []))))
 
 module _ (q : Fluent → Bool) (ms : List Fluent) where
   any_written : (one : Bool) → list_any q (by_sort one ms)
-      ≡ (list_any q (filter is_enabled ms) || (list_any q (filter is_assigned ms) || (list_any q (filter is_granted ms) || (list_any q (filter is_armed ms) || list_any q (cond one [] (filter is_linked ms) ++ [])))))
+      ≡ (list_any q (filter (has_sort Enabling) ms) || (list_any q (filter (has_sort Assigning) ms) || (list_any q (filter (has_sort Granting) ms) || (list_any q (filter (has_sort Arming) ms) || list_any q (cond one [] (filter (has_sort Linking) ms) ++ [])))))
   any_written one =
-      list_any-append q (filter is_enabled ms) _
-      ∙ ap (λ b. list_any q (filter is_enabled ms) || b)
-      (list_any-append q (filter is_assigned ms) _
-      ∙ ap (λ b. list_any q (filter is_assigned ms) || b)
-      (list_any-append q (filter is_granted ms) _ ∙ ap (λ b. list_any q (filter is_granted ms) || b) (list_any-append q (filter is_armed ms) (cond one [] (filter is_linked ms) ++ []))))
+      list_any-append q (filter (has_sort Enabling) ms) _
+      ∙ ap (λ b. list_any q (filter (has_sort Enabling) ms) || b)
+      (list_any-append q (filter (has_sort Assigning) ms) _
+      ∙ ap (λ b. list_any q (filter (has_sort Assigning) ms) || b)
+      (list_any-append q (filter (has_sort Granting) ms) _ ∙ ap (λ b. list_any q (filter (has_sort Granting) ms) || b) (list_any-append q (filter (has_sort Arming) ms) (cond one [] (filter (has_sort Linking) ms) ++ []))))
 
   -- in version 2 all are written
   all_written : list_any q (by_sort false ms) ≡ list_any q ms
   all_written =
       any_written false
-      ∙ ap (λ b. list_any q (filter is_enabled ms) || (list_any q (filter is_assigned ms) || (list_any q (filter is_granted ms) || (list_any q (filter is_armed ms) || b))))
-      (list_any-append q (filter is_linked ms) [])
+      ∙ ap (λ b. list_any q (filter (has_sort Enabling) ms) || (list_any q (filter (has_sort Assigning) ms) || (list_any q (filter (has_sort Granting) ms) || (list_any q (filter (has_sort Arming) ms) || b))))
+      (list_any-append q (filter (has_sort Linking) ms) [])
       ∙ sorted q ms
 
   split_off : (a b c d l : Bool) → (a || (b || (c || (d || (l || false))))) ≡ ((a || (b || (c || (d || false)))) || l)
@@ -154,12 +155,12 @@ module _ (q : Fluent → Bool) (ms : List Fluent) where
   split_off false false false false false = refl
 
   -- in version 1 all but edges
-  but_edges : (list_any q (by_sort true ms) || list_any q (filter is_linked ms)) ≡ list_any q ms
+  but_edges : (list_any q (by_sort true ms) || list_any q (filter (has_sort Linking) ms)) ≡ list_any q ms
   but_edges =
-      ap (λ b. b || list_any q (filter is_linked ms)) (any_written true)
+      ap (λ b. b || list_any q (filter (has_sort Linking) ms)) (any_written true)
       ∙ sym
-      (split_off (list_any q (filter is_enabled ms)) (list_any q (filter is_assigned ms)) (list_any q (filter is_granted ms)) (list_any q (filter is_armed ms))
-      (list_any q (filter is_linked ms)))
+      (split_off (list_any q (filter (has_sort Enabling) ms)) (list_any q (filter (has_sort Assigning) ms)) (list_any q (filter (has_sort Granting) ms)) (list_any q (filter (has_sort Arming) ms))
+      (list_any q (filter (has_sort Linking) ms)))
       ∙ sorted q ms
 
 either : (e n l h : Bool) → (e ≡ true → h ≡ true) → (l ≡ true → e ≡ true) → (n || l) ≡ h → (e || n) ≡ h
@@ -182,7 +183,7 @@ module _ (p : Policy) (x : Fluent) where
       by false e later = on_right _ _ (later (omega (arith, low, eqb-false n from e)))
 
   -- a member that is an edge has a number of the policy
-  linked_listed : (ms : List Fluent) → list_all (is_fluent p) ms ≡ true → list_any (same_fluent x) (filter is_linked ms) ≡ true → list_any (same_fluent x) (edges_from 0 (length p.edges)) ≡ true
+  linked_listed : (ms : List Fluent) → list_all (is_fluent p) ms ≡ true → list_any (same_fluent x) (filter (has_sort Linking) ms) ≡ true → list_any (same_fluent x) (edges_from 0 (length p.edges)) ≡ true
   linked_listed [] all h = cc
   linked_listed (base.Enabled r ∷ ms) all h = linked_listed ms (both_true _ _ all).1 h
   linked_listed (base.Assigned u r ∷ ms) all h = linked_listed ms (both_true (is_fluent p (base.Assigned u r)) _ all).1 h
@@ -225,7 +226,7 @@ opening_back p one all linked = same_sets fluent_cmp_total fluent_cmp-IsAntisymm
         has-set_of fluent_cmp_total (edges ++ with_all same_fluent [] (by_sort true (members p.opening))) x
         ∙ list_any-append (same_fluent x) edges _
         ∙ ap (λ b. list_any (same_fluent x) edges || b) (listed x true)
-        ∙ either (list_any (same_fluent x) edges) (list_any (same_fluent x) (by_sort true (members p.opening))) (list_any (same_fluent x) (filter is_linked (members p.opening))) (has p.opening x)
+        ∙ either (list_any (same_fluent x) edges) (list_any (same_fluent x) (by_sort true (members p.opening))) (list_any (same_fluent x) (filter (has_sort Linking) (members p.opening))) (has p.opening x)
         (listed_on p x p.opening edges (on refl)) (linked_listed p x (members p.opening) all)
         (but_edges (same_fluent x) (members p.opening) ∙ sym (has-members p.opening x))
 

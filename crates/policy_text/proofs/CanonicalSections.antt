@@ -7,7 +7,6 @@ use Rattle.std.proofs.lemmas.Bool.{leb-true, le-leb, lt-ltb, eq-eqb, false_from_
 use Rattle.std.proofs.lemmas.List.{append-nil, length-map, map-id}
 use Rattle.std.proofs.lemmas.List.Elements.{filter_agree}
 use Rattle.std.proofs.lemmas.List.Sums.{length-filter}
-use Rattle.gt_base.specs.Bounds.{last_minute}
 use Rattle.gt_base.specs.Held.{TriggerView}
 use Rattle.gt_base.specs.Names.{is_name}
 use Rattle.gt_base.specs.Sets.{members}
@@ -21,6 +20,7 @@ use Rattle.gt_base.specs.declared.policies.PeriodicEntry.{PeriodicEntry}
 use Rattle.gt_base.specs.declared.policies.LimitRule.{LimitRule}
 use Rattle.gt_base.specs.declared.policies.HierEdge.{HierEdge}
 use Rattle.gt_base.specs.declared.policies.Caps.{Caps}
+use Rattle.gt_base.specs.declared.limits.TheConstants.{LAST_MINUTE}
 use Rattle.gtrbac_model.specs.Period.{Period}
 use Rattle.gtrbac_model.specs.Same.{same_role}
 use Rattle.gtrbac_model.proofs.Elements.{both_true, and_true}
@@ -28,20 +28,24 @@ use Rattle.history_laws.proofs.Members.{clash}
 use Rattle.gtrbac_model.specs.Valid.{is_period}
 use Rattle.gtrbac_model.specs.WholePolicy.{is_fluent, is_limit, is_edge, is_entry, is_rule, has_cause, is_most, are_caps, joins_same, is_assignment, is_grant}
 use Rattle.policy_words.specs.declared.sayings.CapKind.{CapKind}
-use Rattle.policy_words.specs.declared.sayings.CapKind.TheVariants as caps
+use Rattle.policy_words.specs.CapKinds.{cap_kinds, cap_of}
+use Rattle.policy_words.proofs.CapKinds.{each_most}
 use Rattle.policy_words.specs.declared.sayings.Kind.{Kind}
 use Rattle.policy_words.specs.declared.sayings.Kind.TheVariants as kinds
 use Rattle.policy_words.specs.Wording.{fluent_names}
 use Rattle.policy_words.specs.Sayings.{SaidView, version, role, user, perm, cap, admin, opening, entry, trigger, is_saying, is_formed, is_bounded, is_bodied, is_count, is_period_name, are_names}
 use Rattle.policy_words.specs.Naming.{Names, NamedPolicy, role_of, user_of, period_of, cond_of, fluent_of, role_name, user_name, period_name, limit_name, fluent_named, cond_named, head_named}
-use Rattle.policy_words.specs.Book.{is_known, is_known_period, is_of, most_of}
-use Rattle.policy_words.specs.Canonical.{is_enabled, is_assigned, is_granted, is_armed, is_linked, is_version_one, version_of, period_line, limit_line, edge_line, cap_line, cap_lines, items_of, opening_lines, canonical_lines}
+use Rattle.policy_words.specs.LinesTogether.{is_known, is_known_period, is_of, most_of}
+use Rattle.policy_words.specs.declared.parts.Sort.{Sort}
+use Rattle.policy_words.specs.declared.parts.Sort.TheVariants.{Enabling, Assigning, Granting, Arming, Linking}
+use Rattle.policy_words.specs.Sorts.{has_sort}
+use Rattle.policy_words.specs.Canonical.{is_version_one, version_of, period_line, limit_line, edge_line, cap_line, kind_line, cap_lines, items_of, opening_lines, canonical_lines}
 use Rattle.policy_words.specs.Valid.{IsWellFormed}
 use Rattle.policy_book.proofs.Lists.{repeats, bytes_same, bytes_turned, some_same}
 use Rattle.policy_book.proofs.Clashes.{clashes}
 use Rattle.policy_book.proofs.Places.{names_numbered}
 use Rattle.policy_book.proofs.WellFormed.{twice_joined}
-use Rattle.policy_book.proofs.Mapped.{all_true, all_join, all_filter, all_map, apart_map, all_flat_map, all_numbered}
+use Rattle.policy_book.proofs.Mapped.{all_true, all_filter, all_map, apart_map, all_flat_map, all_numbered}
 use Rattle.policy_text.proofs.Sections.{section_of_kind, kind_section, joined, picked, is_in, AreSections, few_of, all_joined, apart_joined}
 use Rattle.policy_book.proofs.Back.{good, role_back, user_back, period_back, role_named, user_named, period_named, limit_named, fluent_back, names_of_fluent, cond_back, head_back, head_said, rule_known, rule_is_said}
 use Rattle.policy_text.proofs.CanonicalCaps.{all_caps_apart}
@@ -53,8 +57,8 @@ sections np =
     let ms : List Fluent = members np.policy.opening in
     (0, version (version_of np.policy) ∷ []) ∷ (1, map (λ n. role n) ns.roles) ∷ (2, map (λ n. user n) ns.users) ∷ (3, map (λ n. perm n) ns.perms) ∷ (4, map (period_line ns) (enumerate_from 0 np.policy.periods))
     ∷ (5, map (limit_line ns) (enumerate_from 0 np.policy.limits)) ∷ (6, map (edge_line ns) np.policy.edges) ∷ (7, flat_map (cap_lines ns) (enumerate_from 0 np.policy.caps)) ∷ (8, map (λ u. admin (user_name ns u)) np.policy.admins)
-    ∷ (9, opening_lines ns is_enabled ms) ∷ (10, opening_lines ns is_assigned ms) ∷ (11, opening_lines ns is_granted ms) ∷ (12, opening_lines ns is_armed ms)
-    ∷ (13, cond (is_version_one np.policy) [] (opening_lines ns is_linked ms))
+    ∷ (9, opening_lines ns Enabling ms) ∷ (10, opening_lines ns Assigning ms) ∷ (11, opening_lines ns Granting ms) ∷ (12, opening_lines ns Arming ms)
+    ∷ (13, cond (is_version_one np.policy) [] (opening_lines ns Linking ms))
     ∷ (14, map (λ e. entry e.form (period_name ns e.period) (head_named ns e.head)) np.policy.entries) ∷ (15, map (λ r. trigger (items_of ns r) (head_named ns r.head) r.delay) np.policy.triggers) ∷ []
 
 in_a_row : (v : SaidView) (a b c d e f g h j k l m z n o : List SaidView)
@@ -68,8 +72,8 @@ lines_joined np =
     let ms : List Fluent = members np.policy.opening in
     in_a_row (version (version_of np.policy)) (map (λ n. role n) ns.roles) (map (λ n. user n) ns.users) (map (λ n. perm n) ns.perms) (map (period_line ns) (enumerate_from 0 np.policy.periods))
     (map (limit_line ns) (enumerate_from 0 np.policy.limits)) (map (edge_line ns) np.policy.edges) (flat_map (cap_lines ns) (enumerate_from 0 np.policy.caps)) (map (λ u. admin (user_name ns u)) np.policy.admins)
-    (opening_lines ns is_enabled ms) (opening_lines ns is_assigned ms) (opening_lines ns is_granted ms) (opening_lines ns is_armed ms)
-    (cond (is_version_one np.policy) [] (opening_lines ns is_linked ms))
+    (opening_lines ns Enabling ms) (opening_lines ns Assigning ms) (opening_lines ns Granting ms) (opening_lines ns Arming ms)
+    (cond (is_version_one np.policy) [] (opening_lines ns Linking ms))
     (map (λ e. entry e.form (period_name ns e.period) (head_named ns e.head)) np.policy.entries) (map (λ r. trigger (items_of ns r) (head_named ns r.head) r.delay) np.policy.triggers)
 
 -- what holds of no line holds where none is written
@@ -121,8 +125,8 @@ module _ (np : NamedPolicy) (is : IsWellFormed np) where
   abbrev ms : List Fluent
   ms = members np.policy.opening
 
-  opened : (of_sort : Fluent → Bool) → list_all (λ f. of_sort f && is_fluent np.policy f) (filter of_sort ms) ≡ true
-  opened of_sort = all_filter of_sort (is_fluent np.policy) ms is.policy.opening
+  opened : (s : Sort) → list_all (λ f. has_sort s f && is_fluent np.policy f) (filter (has_sort s) ms) ≡ true
+  opened s = all_filter (has_sort s) (is_fluent np.policy) ms is.policy.opening
 
   numbered_periods : list_all (λ e. nat_lt e.0 (length np.policy.periods) && is_period e.1) (enumerate_from 0 np.policy.periods) ≡ true
   numbered_periods = all_numbered is_period (length np.policy.periods) 0 np.policy.periods (omega arith) (both_true (nat_le (length np.policy.periods) 1_000) _ is.policy.periods).1
@@ -147,23 +151,23 @@ module _ (np : NamedPolicy) (is : IsWellFormed np) where
 
   -- sections
 
-  at_enabled : (f : Fluent) → (is_enabled f && is_fluent np.policy f) ≡ true → is_in 9 (opening (fluent_named ns f)) ≡ true
+  at_enabled : (f : Fluent) → (has_sort Enabling f && is_fluent np.policy f) ≡ true → is_in 9 (opening (fluent_named ns f)) ≡ true
   at_enabled (base.Enabled r) e = refl
   at_enabled _ e = cc
 
-  at_assigned : (f : Fluent) → (is_assigned f && is_fluent np.policy f) ≡ true → is_in 10 (opening (fluent_named ns f)) ≡ true
+  at_assigned : (f : Fluent) → (has_sort Assigning f && is_fluent np.policy f) ≡ true → is_in 10 (opening (fluent_named ns f)) ≡ true
   at_assigned (base.Assigned u r) e = refl
   at_assigned _ e = cc
 
-  at_granted : (f : Fluent) → (is_granted f && is_fluent np.policy f) ≡ true → is_in 11 (opening (fluent_named ns f)) ≡ true
+  at_granted : (f : Fluent) → (has_sort Granting f && is_fluent np.policy f) ≡ true → is_in 11 (opening (fluent_named ns f)) ≡ true
   at_granted (base.Granted q r) e = refl
   at_granted _ e = cc
 
-  at_armed : (f : Fluent) → (is_armed f && is_fluent np.policy f) ≡ true → is_in 12 (opening (fluent_named ns f)) ≡ true
+  at_armed : (f : Fluent) → (has_sort Arming f && is_fluent np.policy f) ≡ true → is_in 12 (opening (fluent_named ns f)) ≡ true
   at_armed (base.Limit l) e = refl
   at_armed _ e = cc
 
-  at_linked : (f : Fluent) → (is_linked f && is_fluent np.policy f) ≡ true → is_in 13 (opening (fluent_named ns f)) ≡ true
+  at_linked : (f : Fluent) → (has_sort Linking f && is_fluent np.policy f) ≡ true → is_in 13 (opening (fluent_named ns f)) ≡ true
   at_linked (base.Edge n) e = refl
   at_linked _ e = cc
 
@@ -178,16 +182,7 @@ module _ (np : NamedPolicy) (is : IsWellFormed np) where
       each : (e : ℕ × Caps) → (nat_lt e.0 np.policy.roles && are_caps e.1) ≡ true → list_all test (cap_lines ns e) ≡ true
       each e h =
           let parts = both_true (nat_lt e.0 np.policy.roles) _ h in
-          let three = both_true (is_most e.1.total && is_most e.1.user && is_most e.1.length) _ parts.1 in
-          let two = both_true (is_most e.1.total && is_most e.1.user) _ three.0 in
-          let one = both_true (is_most e.1.total) _ two.0 in
-          let r : RoleId = record { 0 = e.0 } in
-          let line : (kind : CapKind) (n : ℕ) → is_count n ≡ true → test (cap kind (role_name ns r) n) ≡ true = λ kind n c. on r kind n parts.0 c in
-          all_join test (cap_line ns caps.Total (role_name ns r) e.1.total ++ cap_line ns caps.User (role_name ns r) e.1.user ++ cap_line ns caps.Length (role_name ns r) e.1.length) _
-          (all_join test (cap_line ns caps.Total (role_name ns r) e.1.total ++ cap_line ns caps.User (role_name ns r) e.1.user) _
-          (all_join test (cap_line ns caps.Total (role_name ns r) e.1.total) _ (cap_all test caps.Total (role_name ns r) e.1.total (line caps.Total) one.0) (cap_all test caps.User (role_name ns r) e.1.user (line caps.User) one.1))
-          (cap_all test caps.Length (role_name ns r) e.1.length (line caps.Length) two.1))
-          (cap_all test caps.Day (role_name ns r) e.1.day (line caps.Day) three.1)
+          all_flat_map (kind_line ns e) test (λ _. true) (λ k _. cap_all test k (role_name ns (record { 0 = e.0 })) (cap_of k e.1) (λ n c. on (record { 0 = e.0 }) k n parts.0 c) (each_most e.1 parts.1 k)) cap_kinds refl
 
   pub are_sections : AreSections (sections np)
   are_sections = (
@@ -209,15 +204,15 @@ module _ (np : NamedPolicy) (is : IsWellFormed np) where
                   (
                     all_in 8 (λ (u : UserId). admin (user_name ns u)) (λ _. refl) np.policy.admins,
                     (
-                      all_map (λ f. opening (fluent_named ns f)) (is_in 9) (λ f. is_enabled f && is_fluent np.policy f) at_enabled (filter is_enabled ms) (opened is_enabled),
+                      all_map (λ f. opening (fluent_named ns f)) (is_in 9) (λ f. has_sort Enabling f && is_fluent np.policy f) at_enabled (filter (has_sort Enabling) ms) (opened Enabling),
                       (
-                        all_map (λ f. opening (fluent_named ns f)) (is_in 10) (λ f. is_assigned f && is_fluent np.policy f) at_assigned (filter is_assigned ms) (opened is_assigned),
+                        all_map (λ f. opening (fluent_named ns f)) (is_in 10) (λ f. has_sort Assigning f && is_fluent np.policy f) at_assigned (filter (has_sort Assigning) ms) (opened Assigning),
                         (
-                          all_map (λ f. opening (fluent_named ns f)) (is_in 11) (λ f. is_granted f && is_fluent np.policy f) at_granted (filter is_granted ms) (opened is_granted),
+                          all_map (λ f. opening (fluent_named ns f)) (is_in 11) (λ f. has_sort Granting f && is_fluent np.policy f) at_granted (filter (has_sort Granting) ms) (opened Granting),
                           (
-                            all_map (λ f. opening (fluent_named ns f)) (is_in 12) (λ f. is_armed f && is_fluent np.policy f) at_armed (filter is_armed ms) (opened is_armed),
+                            all_map (λ f. opening (fluent_named ns f)) (is_in 12) (λ f. has_sort Arming f && is_fluent np.policy f) at_armed (filter (has_sort Arming) ms) (opened Arming),
                             (
-                              all_or_none (is_in 13) (is_version_one np.policy) _ (all_map (λ f. opening (fluent_named ns f)) (is_in 13) (λ f. is_linked f && is_fluent np.policy f) at_linked (filter is_linked ms) (opened is_linked)),
+                              all_or_none (is_in 13) (is_version_one np.policy) _ (all_map (λ f. opening (fluent_named ns f)) (is_in 13) (λ f. has_sort Linking f && is_fluent np.policy f) at_linked (filter (has_sort Linking) ms) (opened Linking)),
                               (
                                 all_in 14 (λ (e : PeriodicEntry). entry e.form (period_name ns e.period) (head_named ns e.head)) (λ _. refl) np.policy.entries,
                                 (all_in 15 (λ (r : TriggerView). trigger (items_of ns r) (head_named ns r.head) r.delay) (λ _. refl) np.policy.triggers, tt),
@@ -249,14 +244,14 @@ module _ (np : NamedPolicy) (is : IsWellFormed np) where
   right_period : (e : ℕ × Period) → (nat_lt e.0 (length np.policy.periods) && is_period e.1) ≡ true → is_right ns (period_line ns e) ≡ true
   right_period e h =
       let parts = both_true (nat_lt e.0 (length np.policy.periods)) _ h in
-      let ends = both_true (nat_le e.1.first e.1.last && nat_le e.1.last last_minute) _ parts.1 in
+      let ends = both_true (nat_le e.1.first e.1.last && nat_le e.1.last LAST_MINUTE) _ parts.1 in
       let order = both_true (nat_le e.1.first e.1.last) _ ends.0 in
       let q : PeriodId = record { 0 = e.0 } in
-      let first_in : nat_le e.1.first last_minute ≡ true = le-leb _ _ (before _ _ _ (leb-true _ _ order.0) (leb-true _ _ order.1)) in
+      let first_in : nat_le e.1.first LAST_MINUTE ≡ true = le-leb _ _ (before _ _ _ (leb-true _ _ order.0) (leb-true _ _ order.1)) in
       right_by ns (period_line ns e)
       (said_by (period_line ns e)
-      (and_true (is_name (period_name ns q) && nat_le e.1.first last_minute && nat_le e.1.last last_minute) _
-      (and_true (is_name (period_name ns q) && nat_le e.1.first last_minute) _ (and_true (is_name (period_name ns q)) _ (period_named np is q parts.0) first_in) order.1) ends.1)
+      (and_true (is_name (period_name ns q) && nat_le e.1.first LAST_MINUTE && nat_le e.1.last LAST_MINUTE) _
+      (and_true (is_name (period_name ns q) && nat_le e.1.first LAST_MINUTE) _ (and_true (is_name (period_name ns q)) _ (period_named np is q parts.0) first_in) order.1) ends.1)
       order.0 refl) refl
     where
       before : (a b c : ℕ) → a ≤ b → b ≤ c → a ≤ c
@@ -306,9 +301,9 @@ module _ (np : NamedPolicy) (is : IsWellFormed np) where
   right_admin u e =
       right_by ns (admin (user_name ns u)) (said_by (admin (user_name ns u)) (user_named np is u e) refl refl) (known_by (user_of ns (user_name ns u)) u (user_back np is u e))
 
-  right_opening : (of_sort : Fluent → Bool) (f : Fluent) → (of_sort f && is_fluent np.policy f) ≡ true → is_right ns (opening (fluent_named ns f)) ≡ true
-  right_opening of_sort f h =
-      let e = (both_true (of_sort f) _ h).1 in
+  right_opening : (s : Sort) (f : Fluent) → (has_sort s f && is_fluent np.policy f) ≡ true → is_right ns (opening (fluent_named ns f)) ≡ true
+  right_opening s f h =
+      let e = (both_true (has_sort s f) _ h).1 in
       right_by ns (opening (fluent_named ns f)) (said_by (opening (fluent_named ns f)) (names_of_fluent np is f e) refl refl) (known_by (fluent_of ns (fluent_named ns f)) f (fluent_back np is f e))
 
   right_entry : (e : PeriodicEntry) → is_entry np.policy e ≡ true → is_right ns (entry e.form (period_name ns e.period) (head_named ns e.head)) ≡ true
@@ -349,15 +344,15 @@ module _ (np : NamedPolicy) (is : IsWellFormed np) where
                       (
                         all_map (λ u. admin (user_name ns u)) (is_right ns) (λ u. nat_lt u.0 np.policy.users) right_admin np.policy.admins admins_in,
                         (
-                          all_map (λ f. opening (fluent_named ns f)) (is_right ns) _ (right_opening is_enabled) (filter is_enabled ms) (opened is_enabled),
+                          all_map (λ f. opening (fluent_named ns f)) (is_right ns) _ (right_opening Enabling) (filter (has_sort Enabling) ms) (opened Enabling),
                           (
-                            all_map (λ f. opening (fluent_named ns f)) (is_right ns) _ (right_opening is_assigned) (filter is_assigned ms) (opened is_assigned),
+                            all_map (λ f. opening (fluent_named ns f)) (is_right ns) _ (right_opening Assigning) (filter (has_sort Assigning) ms) (opened Assigning),
                             (
-                              all_map (λ f. opening (fluent_named ns f)) (is_right ns) _ (right_opening is_granted) (filter is_granted ms) (opened is_granted),
+                              all_map (λ f. opening (fluent_named ns f)) (is_right ns) _ (right_opening Granting) (filter (has_sort Granting) ms) (opened Granting),
                               (
-                                all_map (λ f. opening (fluent_named ns f)) (is_right ns) _ (right_opening is_armed) (filter is_armed ms) (opened is_armed),
+                                all_map (λ f. opening (fluent_named ns f)) (is_right ns) _ (right_opening Arming) (filter (has_sort Arming) ms) (opened Arming),
                                 (
-                                  all_or_none (is_right ns) (is_version_one np.policy) _ (all_map (λ f. opening (fluent_named ns f)) (is_right ns) _ (right_opening is_linked) (filter is_linked ms) (opened is_linked)),
+                                  all_or_none (is_right ns) (is_version_one np.policy) _ (all_map (λ f. opening (fluent_named ns f)) (is_right ns) _ (right_opening Linking) (filter (has_sort Linking) ms) (opened Linking)),
                                   (
                                     all_map (λ e. entry e.form (period_name ns e.period) (head_named ns e.head)) (is_right ns) (is_entry np.policy) right_entry np.policy.entries entries_in,
                                     (all_map (λ r. trigger (items_of ns r) (head_named ns r.head) r.delay) (is_right ns) (λ r. is_rule np.policy r && has_cause r) right_rule np.policy.triggers (both_all np.policy.triggers rules_in is.policy.causes), tt),
@@ -435,15 +430,15 @@ module _ (np : NamedPolicy) (is : IsWellFormed np) where
                       (
                         free (λ u. admin (user_name ns u)) (λ a b e. e) np.policy.admins,
                         (
-                          free (λ f. opening (fluent_named ns f)) (λ a b e. e) (filter is_enabled ms),
+                          free (λ f. opening (fluent_named ns f)) (λ a b e. e) (filter (has_sort Enabling) ms),
                           (
-                            free (λ f. opening (fluent_named ns f)) (λ a b e. e) (filter is_assigned ms),
+                            free (λ f. opening (fluent_named ns f)) (λ a b e. e) (filter (has_sort Assigning) ms),
                             (
-                              free (λ f. opening (fluent_named ns f)) (λ a b e. e) (filter is_granted ms),
+                              free (λ f. opening (fluent_named ns f)) (λ a b e. e) (filter (has_sort Granting) ms),
                               (
-                                free (λ f. opening (fluent_named ns f)) (λ a b e. e) (filter is_armed ms),
+                                free (λ f. opening (fluent_named ns f)) (λ a b e. e) (filter (has_sort Arming) ms),
                                 (
-                                  apart_or_none (is_version_one np.policy) _ (free (λ f. opening (fluent_named ns f)) (λ a b e. e) (filter is_linked ms)),
+                                  apart_or_none (is_version_one np.policy) _ (free (λ f. opening (fluent_named ns f)) (λ a b e. e) (filter (has_sort Linking) ms)),
                                   (
                                     free (λ e. entry e.form (period_name ns e.period) (head_named ns e.head)) (λ a b e. e) np.policy.entries,
                                     (free (λ r. trigger (items_of ns r) (head_named ns r.head) r.delay) (λ a b e. e) np.policy.triggers, tt),
@@ -468,18 +463,18 @@ module _ (np : NamedPolicy) (is : IsWellFormed np) where
   as_many : {A : Type 0} (g : A → SaidView) (xs : List A) → length (map g xs ++ []) ≡ length xs
   as_many g xs = ap length (append-nil (map g xs)) ∙ length-map xs g
 
-  few_sorted : (of_sort test : Fluent → Bool) → ((f : Fluent) → of_sort f ≡ test f) → (most : ℕ) → count_by test ms ≤ most → length (opening_lines ns of_sort ms ++ []) ≤ most
-  few_sorted of_sort test alike most le =
-      let many : length (opening_lines ns of_sort ms ++ []) ≡ length (filter of_sort ms) = as_many (λ f. opening (fluent_named ns f)) (filter of_sort ms) in
-      let same : length (filter of_sort ms) ≡ length (filter test ms) = ap length (filter_agree of_sort test alike ms) in
+  few_sorted : (s : Sort) (test : Fluent → Bool) → ((f : Fluent) → has_sort s f ≡ test f) → (most : ℕ) → count_by test ms ≤ most → length (opening_lines ns s ms ++ []) ≤ most
+  few_sorted s test alike most le =
+      let many : length (opening_lines ns s ms ++ []) ≡ length (filter (has_sort s) ms) = as_many (λ f. opening (fluent_named ns f)) (filter (has_sort s) ms) in
+      let same : length (filter (has_sort s) ms) ≡ length (filter test ms) = ap length (filter_agree (has_sort s) test alike ms) in
       let counted : length (filter test ms) ≡ count_by test ms = length-filter test ms in
       omega (arith, many, same, counted, le)
 
-  assigned_alike : (f : Fluent) → is_assigned f ≡ is_assignment f
+  assigned_alike : (f : Fluent) → has_sort Assigning f ≡ is_assignment f
   assigned_alike (base.Assigned u r) = refl
   assigned_alike _ = refl
 
-  granted_alike : (f : Fluent) → is_granted f ≡ is_grant f
+  granted_alike : (f : Fluent) → has_sort Granting f ≡ is_grant f
   granted_alike (base.Granted q r) = refl
   granted_alike _ = refl
 
@@ -502,8 +497,8 @@ module _ (np : NamedPolicy) (is : IsWellFormed np) where
       few_listed (λ e. entry e.form (period_name ns e.period) (head_named ns e.head)) np.policy.entries 4_000 (leb-true _ _ (both_true (nat_le (length np.policy.entries) 4_000) _ is.policy.entries).0)
   few_picked kinds.Triggers =
       few_listed (λ r. trigger (items_of ns r) (head_named ns r.head) r.delay) np.policy.triggers 4_000 (leb-true _ _ (both_true (nat_le (length np.policy.triggers) 4_000) _ is.policy.triggers).0)
-  few_picked kinds.Assigned = few_sorted is_assigned is_assignment assigned_alike 50_000 is.policy.few_assigned
-  few_picked kinds.Granted = few_sorted is_granted is_grant granted_alike 50_000 is.policy.few_granted
+  few_picked kinds.Assigned = few_sorted Assigning is_assignment assigned_alike 50_000 is.policy.few_assigned
+  few_picked kinds.Granted = few_sorted Granting is_grant granted_alike 50_000 is.policy.few_granted
 
   pub few_lines : (k : Kind) → length (filter (is_of k) (joined (sections np))) ≤ most_of k
   few_lines k =

@@ -11,10 +11,10 @@ use Rattle.policy_words.specs.Reading.{and_then, read_lines}
 use Rattle.policy_words.specs.declared.versions.TextVersion.{TextVersion}
 use Rattle.policy_words.specs.declared.versions.TextVersion.TheVariants.{Open, One, Two}
 use Rattle.policy_words.specs.Versions.{is_open, has_edges, settled_version, version_after, is_allowed}
-use Rattle.policy_words.specs.Spelling.{IsFirst, IsPlaced}
+use Rattle.policy_words.specs.Spelling.{IsFirstLine, IsPlaced}
 use Rattle.policy_words.specs.Naming.{NamedPolicy}
 use Rattle.policy_words.specs.Making.{names_of}
-use Rattle.policy_words.specs.Book.{said_in}
+use Rattle.policy_words.specs.LinesTogether.{said_in}
 use Rattle.policy_words.specs.Canonical.{canonical_lines, canonical_text, is_version_one, version_of}
 use Rattle.policy_words.specs.PolicyRead.{policy_read, by_lines, built}
 use Rattle.policy_words.specs.Valid.{IsWellFormed}
@@ -33,7 +33,7 @@ abbrev line_of : SaidView → List ℕ
 line_of s = spaced (said_words s)
 
 -- a line that is no version may stand anywhere, where the version has words for it
-no_first : (s : SaidView) → not (is_version s) ≡ true → (first : Bool) → IsFirst first s
+no_first : (s : SaidView) → not (is_version s) ≡ true → (first : Bool) → IsFirstLine first s
 no_first s h true = tt
 no_first (version n) h false = absurd (cc h)
 no_first (role n) h false = λ v. v

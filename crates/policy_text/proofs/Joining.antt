@@ -3,7 +3,7 @@ use Rattle.std.proofs.Common.{◌≡◌, ℕ, List, [], ◌∷◌, ◌++◌, fla
 use Rattle.std.specs.Prelude.{codes}
 use Rattle.gtrbac_model.proofs.Append.{append-nil}
 use Rattle.gt_text.specs.Words.{joined_by}
-use Rattle.policy_text.specs.Told.{with_bar, joined}
+use Rattle.policy_text.specs.FaultTexts.{with_bar, joined}
 
 -- the first name, and each other with a bar before it
 first_joined : (n : List ℕ) (more : List (List ℕ)) → n ++ flat_map with_bar more ≡ joined_by (codes ">") (n ∷ more)

@@ -1,7 +1,7 @@
 pub mod Joining
 pub mod LineByLine
 pub mod Sections
-pub mod NoTrouble
+pub mod Faultless
 pub mod CanonicalCaps
 pub mod CanonicalMembers
 pub mod CanonicalSections

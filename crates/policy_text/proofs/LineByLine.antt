@@ -12,7 +12,7 @@ use Rattle.policy_words.specs.declared.versions.TextVersion.TheVariants.{Open, O
 use Rattle.policy_words.specs.Sayings.{SaidView, version, names_edge}
 use Rattle.policy_words.specs.Versions.{is_open, has_edges, settled_version, version_after, is_allowed}
 use Rattle.policy_words.specs.Making.{is_second}
-use Rattle.policy_words.specs.Spelling.{IsFirst, IsPlaced}
+use Rattle.policy_words.specs.Spelling.{IsFirstLine, IsPlaced}
 use Rattle.policy_lines.proofs.SaidBySpelling.{sayings_are_read}
 use Rattle.policy_words.specs.Reading.{Numbered, and_then, read_said, read_lines}
 use Rattle.policy_book.specs.Said.{are_before, is_version, is_placed}
@@ -90,7 +90,7 @@ edges_by (version n) = by (nat_eq n 2)
     by false = refl
 edges_by _ = refl
 
-no_version : (x : SaidView) → IsFirst false x → not (is_version x) ≡ true
+no_version : (x : SaidView) → IsFirstLine false x → not (is_version x) ≡ true
 no_version (version n) h = absurd (h tt)
 no_version _ h = refl
 
@@ -107,7 +107,7 @@ placed_there ss v line s told read = by ss told ((sayings_are_read v line (Ok (S
     by (x ∷ xs) e (first, allowed) =
         let open_is : is_open v ≡ false = ap is_open (sym e) ∙ never_open x.it in
         let edges : has_edges v ≡ is_second x.it = ap has_edges (sym e) ∙ edges_by x.it in
-        and_true _ _ (no_version s (subst (λ b. IsFirst b s) open_is first)) (ap (λ b. is_allowed b s) (sym edges) ∙ allowed)
+        and_true _ _ (no_version s (subst (λ b. IsFirstLine b s) open_is first)) (ap (λ b. is_allowed b s) (sym edges) ∙ allowed)
 
 pub plain_after : (v : TextVersion) (s : SaidView) → not (is_version s) ≡ true → version_after v s ≡ settled_version v
 plain_after v (version n) h = cc

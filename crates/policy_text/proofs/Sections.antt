@@ -9,13 +9,12 @@ use Rattle.std.proofs.lemmas.List.Folds.{list_all-append, list_any-append}
 use Rattle.gtrbac_model.proofs.Elements.{Elem, both_true, and_true, all_elim}
 use Rattle.history_laws.proofs.Members.{clash}
 use Rattle.policy_words.specs.declared.parts.NamedFluent.TheVariants as fluents
-use Rattle.policy_words.specs.declared.sayings.CapKind.TheVariants as caps
 use Rattle.policy_words.specs.declared.sayings.Kind.{Kind}
 use Rattle.policy_words.specs.declared.sayings.Kind.TheVariants as kinds
 use Rattle.policy_words.specs.Sayings.{SaidView, version, role, user, perm, period, limit, edge, cap, admin, opening, entry, trigger}
 use Rattle.policy_words.specs.declared.claims.Claim.{Claim}
 use Rattle.policy_words.specs.declared.claims.Claim.TheVariants as claims
-use Rattle.policy_words.specs.Book.{claim_of, same_claim, is_claimed_by, may_be_again, kind_of, same_kind, is_of}
+use Rattle.policy_words.specs.LinesTogether.{claim_of, same_claim, is_claimed_by, may_be_again, kind_of, same_kind, is_of}
 use Rattle.policy_book.proofs.Lists.{repeats, some_same}
 use Rattle.policy_book.proofs.Clashes.{clashes, one_kind}
 
@@ -46,10 +45,7 @@ section_of_claim (claims.Perm n) = 3
 section_of_claim (claims.Period n) = 4
 section_of_claim (claims.Limit n) = 5
 section_of_claim (claims.Edge s j) = 6
-section_of_claim (claims.Total r) = 7
-section_of_claim (claims.PerUser r) = 7
-section_of_claim (claims.Length r) = 7
-section_of_claim (claims.Day r) = 7
+section_of_claim (claims.Cap k r) = 7
 section_of_claim (claims.Assigned u r) = 10
 section_of_claim (claims.Granted q r) = 11
 
@@ -60,10 +56,7 @@ at_claim (perm n) c e = ap section_of_claim (some_same (claims.Perm n) c e)
 at_claim (period n f l ex) c e = ap section_of_claim (some_same (claims.Period n) c e)
 at_claim (limit n p co most d) c e = ap section_of_claim (some_same (claims.Limit n) c e)
 at_claim (edge k st s j) c e = ap section_of_claim (some_same (claims.Edge s j) c e)
-at_claim (cap caps.Total r n) c e = ap section_of_claim (some_same (claims.Total r) c e)
-at_claim (cap caps.User r n) c e = ap section_of_claim (some_same (claims.PerUser r) c e)
-at_claim (cap caps.Length r n) c e = ap section_of_claim (some_same (claims.Length r) c e)
-at_claim (cap caps.Day r n) c e = ap section_of_claim (some_same (claims.Day r) c e)
+at_claim (cap k r n) c e = ap section_of_claim (some_same (claims.Cap k r) c e)
 at_claim (opening (fluents.Assigned u r)) c e = ap section_of_claim (some_same (claims.Assigned u r) c e)
 at_claim (opening (fluents.Granted q r)) c e = ap section_of_claim (some_same (claims.Granted q r) c e)
 at_claim (opening (fluents.Enabled r)) c e = cc
@@ -78,10 +71,7 @@ same_section (claims.Perm n) (claims.Perm m) e = refl
 same_section (claims.Period n) (claims.Period m) e = refl
 same_section (claims.Limit n) (claims.Limit m) e = refl
 same_section (claims.Edge s j) (claims.Edge t k) e = refl
-same_section (claims.Total n) (claims.Total m) e = refl
-same_section (claims.PerUser n) (claims.PerUser m) e = refl
-same_section (claims.Length n) (claims.Length m) e = refl
-same_section (claims.Day n) (claims.Day m) e = refl
+same_section (claims.Cap k n) (claims.Cap l m) e = refl
 same_section (claims.Assigned s j) (claims.Assigned t k) e = refl
 same_section (claims.Granted s j) (claims.Granted t k) e = refl
 same_section _ _ e = cc

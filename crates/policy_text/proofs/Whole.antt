@@ -7,11 +7,15 @@ use Rattle.gt_base.specs.Sets.{members}
 use Rattle.gt_base.specs.declared.events.Fluent.{Fluent}
 use Rattle.gt_base.specs.declared.policies.Caps.{Caps}
 use Rattle.gt_text.specs.Words.{spaced}
-use Rattle.policy_words.specs.declared.sayings.CapKind.TheVariants as caps
+use Rattle.policy_words.specs.declared.sayings.CapKind.{CapKind}
+use Rattle.policy_words.specs.CapKinds.{cap_kinds}
 use Rattle.policy_words.specs.Sayings.{SaidView, version, role, user, perm, said_words}
-use Rattle.policy_words.specs.Naming.{Names, NamedPolicy, role_name}
-use Rattle.policy_words.specs.Canonical.{canonical_lines, canonical_text, period_line, limit_line, edge_line, cap_line, cap_lines, opening_lines, is_enabled, is_assigned, is_granted, is_armed, is_linked, is_version_one, version_of}
-use Rattle.policy_text.specs.Sections.{line_text, written, lines_by, numbered, caps_text, admin_line, opening_line, opening_text, entry_line, trigger_line, named_text, timed_text, ranked_text, opened_text, ruled_text}
+use Rattle.policy_words.specs.Naming.{Names, NamedPolicy}
+use Rattle.policy_words.specs.declared.parts.Sort.{Sort}
+use Rattle.policy_words.specs.declared.parts.Sort.TheVariants.{Enabling, Assigning, Granting, Arming, Linking}
+use Rattle.policy_words.specs.Sorts.{has_sort}
+use Rattle.policy_words.specs.Canonical.{canonical_lines, canonical_text, period_line, limit_line, edge_line, kind_line, cap_lines, opening_lines, is_version_one, version_of}
+use Rattle.policy_text.specs.Sections.{line_text, written, lines_by, numbered, kind_text, caps_text, admin_line, opening_line, opening_text, entry_line, trigger_line, named_text, timed_text, ranked_text, opened_text, ruled_text}
 
 joined : (a b : List SaidView) (s t : List ℕ) → written a ≡ s → written b ≡ t → written (a ++ b) ≡ s ++ t
 joined a b s t e f = flat_map-append line_text a b ∙ (λ i. e i ++ f i)
@@ -20,13 +24,11 @@ by_line : {A : Type 0} (f : A → SaidView) (xs : List A) → written (map f xs)
 by_line f xs = flat_map-map line_text f xs
 
 caps_of : (ns : Names) (n : ℕ) (c : Caps) → written (cap_lines ns (n, c)) ≡ caps_text ns (n, c)
-caps_of ns n c =
-    let r : List ℕ = role_name ns (record { 0 = n }) in
-    let total : List SaidView = cap_line ns caps.Total r c.total in
-    let user : List SaidView = cap_line ns caps.User r c.user in
-    let length : List SaidView = cap_line ns caps.Length r c.length in
-    let day : List SaidView = cap_line ns caps.Day r c.day in
-    joined (total ++ user ++ length) day _ _ (joined (total ++ user) length _ _ (joined total user _ _ refl refl) refl) refl
+caps_of ns n c = by cap_kinds
+  where
+    by : (ks : List CapKind) → written (flat_map (kind_line ns (n, c)) ks) ≡ flat_map (kind_text ns (n, c)) ks
+    by [] = refl
+    by (k ∷ ks) = joined (kind_line ns (n, c) k) (flat_map (kind_line ns (n, c)) ks) _ _ refl (by ks)
 
 all_caps : (ns : Names) (xs : List (ℕ × Caps)) → written (flat_map (cap_lines ns) xs) ≡ flat_map (caps_text ns) xs
 all_caps ns [] = refl
@@ -34,13 +36,13 @@ all_caps ns ((n, c) ∷ xs) = joined (cap_lines ns (n, c)) (flat_map (cap_lines 
 
 module _ (ns : Names) where
   one_more : (b : Bool) (f : Fluent) (fs : List Fluent) (t : List ℕ) → written (map (opening_line ns) fs) ≡ t
-      → written (map (opening_line ns) (cond b (f ∷ fs) fs)) ≡ elim b as (λ _. List ℕ) [ true ↦ line_text (opening_line ns f) | false ↦ [] ] ++ t
+      → written (map (opening_line ns) (cond b (f ∷ fs) fs)) ≡ cond b (line_text (opening_line ns f)) [] ++ t
   one_more true f fs t e = ap (λ s. line_text (opening_line ns f) ++ s) e
   one_more false f fs t e = e
 
-  opened : (p : Fluent → Bool) (fs : List Fluent) → written (opening_lines ns p fs) ≡ flat_map (opening_text ns p) fs
-  opened p [] = refl
-  opened p (f ∷ fs) = one_more (p f) f (filter p fs) _ (opened p fs)
+  opened : (s : Sort) (fs : List Fluent) → written (opening_lines ns s fs) ≡ flat_map (opening_text ns s) fs
+  opened s [] = refl
+  opened s (f ∷ fs) = one_more (has_sort s f) f (filter (has_sort s) fs) _ (opened s fs)
 
 linked : (one : Bool) (ss : List SaidView) (t : List ℕ) → written ss ≡ t → written (cond one [] ss) ≡ cond one [] t
 linked true ss t e = refl
@@ -65,11 +67,11 @@ in_sections np =
     (by_line (edge_line ns) np.policy.edges))
     (all_caps ns (numbered np.policy.caps)))
     (by_line (admin_line ns) np.policy.admins))
-    (opened ns is_enabled fs))
-    (opened ns is_assigned fs))
-    (opened ns is_granted fs))
-    (opened ns is_armed fs))
-    (linked (is_version_one np.policy) (opening_lines ns is_linked fs) _ (opened ns is_linked fs)))
+    (opened ns Enabling fs))
+    (opened ns Assigning fs))
+    (opened ns Granting fs))
+    (opened ns Arming fs))
+    (linked (is_version_one np.policy) (opening_lines ns Linking fs) _ (opened ns Linking fs)))
     (by_line (entry_line ns) np.policy.entries))
     (by_line (trigger_line ns) np.policy.triggers))
     ∙ grouped (line_text (version (version_of np.policy))) _ _ _ _ _ _ _ _ _ _ _ _ _ _ _

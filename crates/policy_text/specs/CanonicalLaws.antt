@@ -2,7 +2,7 @@
 use Rattle.std.specs.Prelude.{◌≡◌, not, List, ◌∷◌, All, Ok, IsTrue}
 use Rattle.policy_words.specs.Sayings.{SaidView, version, is_saying}
 use Rattle.policy_words.specs.Naming.{NamedPolicy}
-use Rattle.policy_words.specs.Book.{build}
+use Rattle.policy_words.specs.LinesTogether.{build}
 use Rattle.policy_words.specs.Canonical.{canonical_lines}
 use Rattle.policy_words.specs.Valid.{IsWellFormed}
 use Rattle.policy_words.specs.Canonical.{version_of}

@@ -1,8 +1,7 @@
 pub mod Faults
 pub mod Lines
-pub mod Told
+pub mod FaultTexts
 pub mod Laws
 pub mod CanonicalLaws
 pub mod Sections
-pub mod Sorts
 pub mod Texts

@@ -1,5 +1,5 @@
 -- The canonical text in its sections, as they are written.
-use Rattle.std.specs.Prelude.{ℕ, Bool, true, false, List, [], ◌∷◌, ◌++◌, flat_map, if◌then◌else◌}
+use Rattle.std.specs.Prelude.{ℕ, List, [], ◌∷◌, ◌++◌, flat_map, if◌then◌else◌}
 use Rattle.std.specs.List.{enumerate_from}
 use Rattle.gt_base.specs.Held.{TriggerView}
 use Rattle.gt_base.specs.Sets.{members}
@@ -13,10 +13,14 @@ use Rattle.gt_base.specs.declared.policies.Caps.{Caps}
 use Rattle.gt_text.specs.Words.{spaced}
 use Rattle.policy_words.specs.declared.parts.Item.{Item}
 use Rattle.policy_words.specs.declared.parts.Item.TheVariants.{Event, Signal, Cond, Settled}
-use Rattle.policy_words.specs.declared.sayings.CapKind.TheVariants as caps
+use Rattle.policy_words.specs.declared.sayings.CapKind.{CapKind}
+use Rattle.policy_words.specs.CapKinds.{cap_kinds}
 use Rattle.policy_words.specs.Sayings.{SaidView, version, role, user, perm, said_words, admin, opening, entry, trigger}
-use Rattle.policy_words.specs.Naming.{Names, NamedPolicy, role_name, user_name, period_name, fluent_named, event_named, signal_named, cond_named, head_named}
-use Rattle.policy_words.specs.Canonical.{period_line, limit_line, edge_line, cap_line, is_enabled, is_assigned, is_granted, is_armed, is_linked, items_of, version_of, is_version_one}
+use Rattle.policy_words.specs.Naming.{Names, NamedPolicy, user_name, period_name, fluent_named, event_named, signal_named, cond_named, head_named}
+use Rattle.policy_words.specs.declared.parts.Sort.{Sort}
+use Rattle.policy_words.specs.declared.parts.Sort.TheVariants.{Enabling, Assigning, Granting, Arming, Linking}
+use Rattle.policy_words.specs.Sorts.{has_sort}
+use Rattle.policy_words.specs.Canonical.{period_line, limit_line, edge_line, kind_line, items_of, version_of, is_version_one}
 
 -- a line with its line feed
 abbrev pub line_text : SaidView → List ℕ
@@ -34,12 +38,12 @@ abbrev pub numbered : {A : Type 0} → List A → List (ℕ × A)
 numbered xs = enumerate_from 0 xs
 
 module _ (ns : Names) where
+  abbrev pub kind_text : (ℕ × Caps) → CapKind → List ℕ
+  kind_text capped kind = written (kind_line ns capped kind)
+
   -- the caps of a role, in the order of their kinds
   abbrev pub caps_text : (ℕ × Caps) → List ℕ
-  caps_text (n, c) =
-      let r : List ℕ = role_name ns (record { 0 = n }) in
-      written (cap_line ns caps.Total r c.total) ++ written (cap_line ns caps.User r c.user)
-      ++ written (cap_line ns caps.Length r c.length) ++ written (cap_line ns caps.Day r c.day)
+  caps_text capped = flat_map (kind_text capped) cap_kinds
 
   abbrev pub admin_line : UserId → SaidView
   admin_line u = admin (user_name ns u)
@@ -48,8 +52,8 @@ module _ (ns : Names) where
   opening_line f = opening (fluent_named ns f)
 
   -- its line, if it is of the sort
-  abbrev pub opening_text : (Fluent → Bool) → Fluent → List ℕ
-  opening_text of_sort f = elim (of_sort f) [ true ↦ line_text (opening_line f) | false ↦ [] ]
+  abbrev pub opening_text : Sort → Fluent → List ℕ
+  opening_text sort f = if has_sort sort f then line_text (opening_line f) else []
 
   abbrev pub entry_line : PeriodicEntry → SaidView
   entry_line e = entry e.form (period_name ns e.period) (head_named ns e.head)
@@ -83,27 +87,27 @@ ranked_text np = lines_by (edge_line np.names) np.policy.edges
     ++ lines_by (admin_line np.names) np.policy.admins
 
 -- those of one sort
-abbrev pub opened_by : Names → (Fluent → Bool) → List Fluent → List ℕ
-opened_by ns of_sort fs = flat_map (opening_text ns of_sort) fs
+abbrev pub opened_by : Names → Sort → List Fluent → List ℕ
+opened_by ns sort fs = flat_map (opening_text ns sort) fs
 
 -- the edges that are linked, in version 2
 abbrev pub linked_from : NamedPolicy → List Fluent → List ℕ
-linked_from np fs = if is_version_one np.policy then [] else opened_by np.names is_linked fs
+linked_from np fs = if is_version_one np.policy then [] else opened_by np.names Linking fs
 
 -- the fluents, a sort after another
 abbrev pub opened_from : NamedPolicy → List Fluent → List ℕ
-opened_from np fs = opened_by np.names is_enabled fs ++ opened_by np.names is_assigned fs
-    ++ opened_by np.names is_granted fs ++ opened_by np.names is_armed fs ++ linked_from np fs
+opened_from np fs = opened_by np.names Enabling fs ++ opened_by np.names Assigning fs
+    ++ opened_by np.names Granting fs ++ opened_by np.names Arming fs ++ linked_from np fs
 
 -- what is on at first, of one sort
-abbrev pub opened_of : (Fluent → Bool) → NamedPolicy → List ℕ
-opened_of of_sort np = opened_by np.names of_sort (members np.policy.opening)
+abbrev pub opened_of : Sort → NamedPolicy → List ℕ
+opened_of sort np = opened_by np.names sort (members np.policy.opening)
 
 abbrev pub opened_text : NamedPolicy → List ℕ
 opened_text np =
-    opened_of is_enabled np ++ opened_of is_assigned np ++ opened_of is_granted np
-    ++ opened_of is_armed np
-    ++ (if is_version_one np.policy then [] else opened_of is_linked np)
+    opened_of Enabling np ++ opened_of Assigning np ++ opened_of Granting np
+    ++ opened_of Arming np
+    ++ (if is_version_one np.policy then [] else opened_of Linking np)
 
 abbrev pub ruled_text : NamedPolicy → List ℕ
 ruled_text np = lines_by (entry_line np.names) np.policy.entries

@@ -2,16 +2,16 @@
 //! writing the canonical text.
 #![tactic(auto)]
 
+mod declarations;
 mod faults;
+mod hierarchy;
 mod laws;
-mod named;
-mod opened;
+mod opening;
+mod periods;
 mod policies;
-mod ranked;
 mod reading;
-mod ruled;
+mod rules;
 mod telling;
-mod timed;
 mod versions;
 mod writing;
 

@@ -3,9 +3,9 @@ ghost use Rattle.std.specs.Prelude.{◌≡◌, ◌<◌, ◌^◌, ◌++◌, true,
 ghost use Rattle.gt_text.specs.Lines.{lines_of};
 ghost use Rattle.policy_words.specs.Reading.{read_lines};
 ghost use Rattle.policy_words.specs.declared.versions.TextVersion.TheVariants.{Open};
-ghost use Rattle.policy_words.specs.PolicyRead.{at_line, trouble_text};
-ghost use Rattle.policy_text.specs.Faults.{IsTextFault, is_memory as is_memory_kind};
-ghost use Rattle.policy_text.specs.Told.{text_of_book};
+ghost use Rattle.policy_words.specs.PolicyRead.{at_line, text_kind_text};
+ghost use Rattle.policy_text.specs.Faults.{IsTextFault, is_memory};
+ghost use Rattle.policy_text.specs.FaultTexts.{text_of_book};
 ghost use Rattle.policy_text.specs.Texts.{IsPolicyText, IsBookFault, is_want};
 
 use crate::{TextFault, TextKind, push_book_fault, push_text_fault, read_policy};
@@ -21,7 +21,7 @@ pub enum PolicyText {
 }
 
 fn line_fault(alloc: Global, fault: TextFault) -> Result<Vec<u8>, Memory>
-    ensures { IfOk result (λ told. told.items ≡ at_line fault.line (trouble_text fault.kind)) }
+    ensures { IfOk result (λ told. told.items ≡ at_line fault.line (text_kind_text fault.kind)) }
 {
     let mut told = Vec::new(alloc);
     push_text_fault(&mut told, fault)?;
@@ -38,7 +38,7 @@ fn book_fault(alloc: Global, fault: &BookFault) -> Result<Vec<u8>, Memory>
 
 /// Whether a line's fault is want of memory.
 fn is_wanting(kind: TextKind) -> bool
-    ensures { result ≡ is_memory_kind kind }
+    ensures { result ≡ is_memory kind }
 {
     match kind {
         TextKind::Memory => true,

@@ -1,7 +1,7 @@
 //! The texts by which the faults of policies are told.
 ghost use Rattle.std.specs.Prelude.{◌≡◌, ◌++◌, codes, decimal, flat_map, OnOk};
-ghost use Rattle.policy_words.specs.PolicyRead.{at_line, trouble_text, expr_kind_word, kind_word};
-ghost use Rattle.policy_text.specs.Told.{with_bar, joined, cycle_of_names, text_of_book};
+ghost use Rattle.policy_words.specs.PolicyRead.{at_line, text_kind_text, expr_kind_word, kind_word};
+ghost use Rattle.policy_text.specs.FaultTexts.{with_bar, joined, cycle_of_names, text_of_book};
 
 use crate::faults::TextFault;
 use gt_base::{Memory, Name};
@@ -35,8 +35,8 @@ fn push_expr_fault(text: &mut Vec<u8>, fault: ExprFault) -> Result<(), Memory>
     push_number(text, u64::from(fault.at))
 }
 
-fn push_trouble(text: &mut Vec<u8>, kind: TextKind) -> Result<(), Memory>
-    ensures { OnOk result (text.new.items ≡ text.old.items ++ trouble_text kind) }
+fn push_kind(text: &mut Vec<u8>, kind: TextKind) -> Result<(), Memory>
+    ensures { OnOk result (text.new.items ≡ text.old.items ++ text_kind_text kind) }
 {
     match kind {
         TextKind::Long => text.extend_from_slice(b"long"),
@@ -63,10 +63,10 @@ fn push_line_head(text: &mut Vec<u8>, line: u32) -> Result<(), Memory>
 /// Adds the text of a fault of a line.
 pub fn push_text_fault(text: &mut Vec<u8>, fault: TextFault) -> Result<(), Memory>
     ensures { OnOk result (text.new.items ≡ text.old.items
-        ++ at_line fault.line (trouble_text fault.kind)) }
+        ++ at_line fault.line (text_kind_text fault.kind)) }
 {
     push_line_head(text, fault.line)?;
-    push_trouble(text, fault.kind)?;
+    push_kind(text, fault.kind)?;
     text.extend_from_slice(b"\n")
 }
 

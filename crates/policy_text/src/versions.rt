@@ -2,34 +2,37 @@
 ghost use Rattle.std.specs.Prelude.{◌≡◌, ◌||◌, true, length};
 ghost use Rattle.std.specs.List.{list_all, list_any};
 ghost use Rattle.gt_base.specs.Sets.{has};
+ghost use Rattle.policy_words.specs.declared.parts.Sort.TheVariants.{Linking};
+ghost use Rattle.policy_words.specs.Sorts.{has_sort};
 ghost use Rattle.policy_words.specs.Making.{edges_from};
-ghost use Rattle.policy_words.specs.Canonical.{is_linked as is_edge, rule_names_edge, switches_edges, is_version_one as is_written_in_one, version_of as version_to_write};
+ghost use Rattle.policy_words.specs.Canonical.{rule_names_edge, switches_edges, is_version_one, version_of};
 
 use gt_base::{Cond, Event, Fluent, LimitRule, PeriodicEntry, Status, Trigger};
 use policy_book::Policy;
+use policy_words::Sort;
 
 fn is_linked(f: Fluent) -> bool
-    ensures { result ≡ is_edge f }
+    ensures { result ≡ has_sort Linking f }
 {
-    matches!(f, Fluent::Edge(_))
+    Sort::Linking.has(f)
 }
 
 fn some_event(events: &[Event]) -> bool
-    ensures { result ≡ list_any (λ e. is_edge e.fluent) events.now }
+    ensures { result ≡ list_any (λ e. has_sort Linking e.fluent) events.now }
 {
     events.iter().any(
         |e: &Event| -> bool
-            ensures { result ≡ is_edge e.now.fluent }
+            ensures { result ≡ has_sort Linking e.now.fluent }
         { is_linked(e.fluent) },
     )
 }
 
 fn some_cond(conds: &[Cond]) -> bool
-    ensures { result ≡ list_any (λ c. is_edge c.fluent) conds.now }
+    ensures { result ≡ list_any (λ c. has_sort Linking c.fluent) conds.now }
 {
     conds.iter().any(
         |c: &Cond| -> bool
-            ensures { result ≡ is_edge c.now.fluent }
+            ensures { result ≡ has_sort Linking c.now.fluent }
         { is_linked(c.fluent) },
     )
 }
@@ -44,21 +47,21 @@ fn trigger_names_edge(trigger: &Trigger) -> bool
 }
 
 fn some_limit(limits: &[LimitRule]) -> bool
-    ensures { result ≡ list_any (λ l. is_edge l.cond.fluent) limits.now }
+    ensures { result ≡ list_any (λ l. has_sort Linking l.cond.fluent) limits.now }
 {
     limits.iter().any(
         |l: &LimitRule| -> bool
-            ensures { result ≡ is_edge l.now.cond.fluent }
+            ensures { result ≡ has_sort Linking l.now.cond.fluent }
         { is_linked(l.cond.fluent) },
     )
 }
 
 fn some_entry(entries: &[PeriodicEntry]) -> bool
-    ensures { result ≡ list_any (λ e. is_edge e.head.event.fluent) entries.now }
+    ensures { result ≡ list_any (λ e. has_sort Linking e.head.event.fluent) entries.now }
 {
     entries.iter().any(
         |e: &PeriodicEntry| -> bool
-            ensures { result ≡ is_edge e.now.head.event.fluent }
+            ensures { result ≡ has_sort Linking e.now.head.event.fluent }
         { is_linked(e.head.event.fluent) },
     )
 }
@@ -106,14 +109,14 @@ fn edge_count(p: &Policy) -> u32
 /// Whether the policy is written in version 1: every edge is linked at first, and nothing else
 /// names an edge.
 pub(crate) fn is_version_one(p: &Policy) -> bool
-    ensures { result ≡ is_written_in_one p.now.policy }
+    ensures { result ≡ is_version_one p.now.policy }
 {
     are_linked(p.opening(), edge_count(p)) && !names_edges(p)
 }
 
 /// The version that the policy is written in, 1 or 2.
 pub(crate) fn version_of(p: &Policy) -> u32
-    ensures { result ≡ version_to_write p.now.policy }
+    ensures { result ≡ version_of p.now.policy }
 {
     if is_version_one(p) { 1 } else { 2 }
 }

@@ -2,11 +2,11 @@
 ghost use Rattle.std.specs.Prelude.{◌≡◌, ◌++◌, IfOk, OnOk};
 ghost use Rattle.policy_words.specs.Canonical.{canonical_text};
 
-use crate::named::push_named;
-use crate::opened::push_opened;
-use crate::ranked::push_ranked;
-use crate::ruled::push_ruled;
-use crate::timed::push_timed;
+use crate::declarations::push_named;
+use crate::hierarchy::push_ranked;
+use crate::opening::push_opened;
+use crate::periods::push_timed;
+use crate::rules::push_ruled;
 use gt_base::{List, Memory};
 use policy_book::Policy;
 use std::alloc::Global;

@@ -1,22 +1,24 @@
 -- The canonical text of a policy.
-use Rattle.std.specs.Prelude.{ℕ, ◌+◌, Bool, true, false, not, ◌&&◌, ◌||◌, List, [], ◌∷◌, ◌++◌, length, map, filter, flat_map, Option, Some, None, option_map, if◌then◌else◌}
+use Rattle.std.specs.Prelude.{ℕ, Bool, true, false, not, ◌&&◌, ◌||◌, List, [], ◌∷◌, ◌++◌, length, map, filter, flat_map, Option, Some, None, option_map, if◌then◌else◌}
 use Rattle.std.specs.List.{enumerate_from, list_all, list_any}
 use Rattle.gt_base.specs.Held.{TriggerView}
 use Rattle.gt_base.specs.Sets.{members, has}
 use Rattle.gt_base.specs.declared.events.Fluent.{Fluent}
-use Rattle.gt_base.specs.declared.events.Fluent.TheVariants as fluents
 use Rattle.gt_base.specs.declared.policies.LimitRule.{LimitRule}
 use Rattle.gt_base.specs.declared.policies.HierEdge.{HierEdge}
 use Rattle.gt_base.specs.declared.policies.Caps.{Caps}
 use Rattle.gtrbac_model.specs.Period.{Period}
 use Rattle.gtrbac_model.specs.Policy.{Policy}
+use Rattle.policy_words.specs.declared.parts.Sort.{Sort}
+use Rattle.policy_words.specs.declared.parts.Sort.TheVariants.{Enabling, Assigning, Granting, Arming, Linking}
 use Rattle.policy_words.specs.declared.parts.Item.{Item}
 use Rattle.policy_words.specs.declared.parts.Item.TheVariants.{Event, Signal, Cond, Settled}
 use Rattle.policy_words.specs.declared.sayings.EdgeKind.{EdgeKind}
 use Rattle.policy_words.specs.declared.sayings.EdgeKind.TheVariants.{I, A, Ia}
 use Rattle.policy_words.specs.declared.sayings.CapKind.{CapKind}
-use Rattle.policy_words.specs.declared.sayings.CapKind.TheVariants as caps
 use Rattle.gt_text.specs.Words.{spaced, as_text}
+use Rattle.policy_words.specs.Sorts.{has_sort}
+use Rattle.policy_words.specs.CapKinds.{cap_kinds, cap_of}
 use Rattle.policy_words.specs.Making.{edges_from}
 use Rattle.policy_words.specs.Naming.{Names, NamedPolicy, role_name, user_name, period_name, limit_name, fluent_named, event_named, cond_named, signal_named, head_named}
 use Rattle.policy_words.specs.Sayings.{SaidView, version, role, user, perm, period, limit, edge, cap, admin, opening, entry, trigger, said_words}
@@ -26,38 +28,20 @@ edge_kind true true = Ia
 edge_kind true false = I
 edge_kind false activates = A
 
-abbrev pub is_enabled : Fluent → Bool
-is_enabled (fluents.Enabled r) = true
-is_enabled _ = false
-
-abbrev pub is_assigned : Fluent → Bool
-is_assigned (fluents.Assigned u r) = true
-is_assigned _ = false
-
-abbrev pub is_granted : Fluent → Bool
-is_granted (fluents.Granted q r) = true
-is_granted _ = false
-
-abbrev pub is_armed : Fluent → Bool
-is_armed (fluents.Limit l) = true
-is_armed _ = false
-
-abbrev pub is_linked : Fluent → Bool
-is_linked (fluents.Edge n) = true
-is_linked _ = false
-
 -- which version a policy is written in: 1 where every edge is linked at first and nothing else
 -- names an edge
 
 abbrev pub rule_names_edge : TriggerView → Bool
 rule_names_edge r =
-    list_any (λ e. is_linked e.fluent) r.events || list_any (λ c. is_linked c.fluent) r.conds
-    || list_any (λ c. is_linked c.fluent) r.settled || is_linked r.head.event.fluent
+    list_any (λ e. has_sort Linking e.fluent) r.events
+    || list_any (λ c. has_sort Linking c.fluent) r.conds
+    || list_any (λ c. has_sort Linking c.fluent) r.settled
+    || has_sort Linking r.head.event.fluent
 
 abbrev pub switches_edges : Policy → Bool
 switches_edges p =
-    list_any (λ l. is_linked l.cond.fluent) p.limits
-    || list_any (λ e. is_linked e.head.event.fluent) p.entries
+    list_any (λ l. has_sort Linking l.cond.fluent) p.limits
+    || list_any (λ e. has_sort Linking e.head.event.fluent) p.entries
     || list_any rule_names_edge p.triggers
 
 abbrev pub is_version_one : Policy → Bool
@@ -83,11 +67,12 @@ module _ (ns : Names) where
   cap_line kind r None = []
   cap_line kind r (Some n) = cap kind r n ∷ []
 
+  abbrev pub kind_line : (ℕ × Caps) → CapKind → List SaidView
+  kind_line (n, c) kind = cap_line kind (role_name ns (record { 0 = n })) (cap_of kind c)
+
+  -- the caps of a role, in the order of their kinds
   abbrev pub cap_lines : (ℕ × Caps) → List SaidView
-  cap_lines (n, c) =
-      let r : List ℕ = role_name ns (record { 0 = n }) in
-      cap_line caps.Total r c.total ++ cap_line caps.User r c.user
-      ++ cap_line caps.Length r c.length ++ cap_line caps.Day r c.day
+  cap_lines capped = flat_map (kind_line capped) cap_kinds
 
   abbrev pub items_of : TriggerView → List Item
   items_of r = map (λ e. Event (event_named ns e)) r.events
@@ -96,8 +81,8 @@ module _ (ns : Names) where
       ++ map (λ c. Settled (cond_named ns c)) r.settled
 
   -- the opening fluents of a sort; the set has them by sort, then by their numbers
-  abbrev pub opening_lines : (Fluent → Bool) → List Fluent → List SaidView
-  opening_lines of_sort fs = map (λ f. opening (fluent_named ns f)) (filter of_sort fs)
+  abbrev pub opening_lines : Sort → List Fluent → List SaidView
+  opening_lines sort fs = map (λ f. opening (fluent_named ns f)) (filter (has_sort sort) fs)
 
 -- the lines in their order
 abbrev pub canonical_lines : NamedPolicy → List SaidView
@@ -111,9 +96,9 @@ canonical_lines np =
     ++ map (edge_line ns) np.policy.edges
     ++ flat_map (cap_lines ns) (enumerate_from 0 np.policy.caps)
     ++ map (λ u. admin (user_name ns u)) np.policy.admins
-    ++ opening_lines ns is_enabled opening ++ opening_lines ns is_assigned opening
-    ++ opening_lines ns is_granted opening ++ opening_lines ns is_armed opening
-    ++ (if is_version_one np.policy then [] else opening_lines ns is_linked opening)
+    ++ opening_lines ns Enabling opening ++ opening_lines ns Assigning opening
+    ++ opening_lines ns Granting opening ++ opening_lines ns Arming opening
+    ++ (if is_version_one np.policy then [] else opening_lines ns Linking opening)
     ++ map (λ e. entry e.form (period_name ns e.period) (head_named ns e.head)) np.policy.entries
     ++ map (λ r. trigger (items_of ns r) (head_named ns r.head) r.delay) np.policy.triggers
 

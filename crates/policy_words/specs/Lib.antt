@@ -1,11 +1,13 @@
 pub mod Rests
 pub mod Wording
+pub mod Sorts
 pub mod Sayings
+pub mod CapKinds
 pub mod Versions
 pub mod Seen
 pub mod Reading
 pub mod Spelling
-pub mod Book
+pub mod LinesTogether
 pub mod Canonical
 pub mod Making
 pub mod Naming

@@ -1,5 +1,5 @@
 -- The policy that lines make, in the order of the lines.
-use Rattle.std.specs.Prelude.{ℕ, zero, suc, ◌+◌, Bool, true, false, not, nat_eq, List, [], ◌∷◌, ◌++◌, length, map, filter, filter_map, Option, Some, None, if◌then◌else◌}
+use Rattle.std.specs.Prelude.{ℕ, zero, suc, ◌+◌, Bool, true, false, nat_eq, List, [], ◌∷◌, ◌++◌, length, map, filter, filter_map, Option, Some, None, if◌then◌else◌}
 use Rattle.gt_base.specs.Held.{TriggerView}
 use Rattle.gt_base.specs.Sets.{set_of}
 use Rattle.gt_base.specs.declared.events.RoleId.{RoleId}
@@ -24,7 +24,7 @@ use Rattle.policy_words.specs.declared.parts.Item.TheVariants.{Event, Signal, Co
 use Rattle.policy_words.specs.declared.sayings.EdgeKind.{EdgeKind}
 use Rattle.policy_words.specs.declared.sayings.EdgeKind.TheVariants.{I, A, Ia}
 use Rattle.policy_words.specs.declared.sayings.CapKind.{CapKind}
-use Rattle.policy_words.specs.declared.sayings.CapKind.TheVariants as caps
+use Rattle.policy_words.specs.CapKinds.{no_caps, with_cap}
 use Rattle.policy_words.specs.Wording.{◌>>=◌}
 use Rattle.policy_words.specs.Sayings.{SaidView, version, role, user, perm, period, limit, edge, cap, admin, opening, entry, trigger}
 use Rattle.policy_words.specs.Naming.{Names, NamedPolicy, NamePair, same_pair, role_of, user_of, period_of, fluent_of, event_of, cond_of, signal_of, head_of}
@@ -110,15 +110,6 @@ abbrev pub activates : EdgeKind → Bool
 activates I = false
 activates A = true
 activates Ia = true
-
-abbrev pub no_caps : Caps
-no_caps = record { total = None; user = None; length = None; day = None }
-
-abbrev pub with_cap : CapKind → ℕ → Caps → Caps
-with_cap caps.Total n c = record { total = Some n; user = c.user; length = c.length; day = c.day }
-with_cap caps.User n c = record { total = c.total; user = Some n; length = c.length; day = c.day }
-with_cap caps.Length n c = record { total = c.total; user = c.user; length = Some n; day = c.day }
-with_cap caps.Day n c = record { total = c.total; user = c.user; length = c.length; day = Some n }
 
 -- the list with one item changed
 abbrev pub changed_at : {A : Type 0} → (A → A) → ℕ → List A → List A
@@ -221,7 +212,7 @@ module _ (ns : Names) where
   rule_said _ = None
 
 -- what the lines so far make, over all names
-pub record Draft : Type 0 where
+pub record DraftView : Type 0 where
   pub periods : List Period
   pub limits : List LimitRule
   pub edges : List HierEdge
@@ -232,7 +223,7 @@ pub record Draft : Type 0 where
   pub triggers : List TriggerView
 
 -- no caps for each role, and nothing else
-abbrev pub fresh : Names → Draft
+abbrev pub fresh : Names → DraftView
 fresh ns = record {
   periods = [];
   limits = [];
@@ -245,7 +236,7 @@ fresh ns = record {
 }
 
 -- with what a line says
-abbrev pub adding : Names → Draft → SaidView → Draft
+abbrev pub adding : Names → DraftView → SaidView → DraftView
 adding ns d s =
     record {
       periods = with_item (period_said ns s) d.periods;
@@ -258,7 +249,7 @@ adding ns d s =
       triggers = with_item (rule_said ns s) d.triggers;
     }
 
-abbrev pub drafted : Names → Draft → List SaidView → Draft
+abbrev pub drafted : Names → DraftView → List SaidView → DraftView
 drafted ns d [] = d
 drafted ns d (s ∷ ss) = drafted ns (adding ns d s) ss
 
@@ -286,7 +277,7 @@ users_from n zero = []
 users_from n (suc k) = record { 0 = n } ∷ users_from (n + 1) k
 
 -- the administrators by number, each once
-abbrev pub policy_of : Names → Bool → Draft → Policy
+abbrev pub policy_of : Names → Bool → DraftView → Policy
 policy_of ns second d =
     record {
       roles = length ns.roles;

@@ -18,14 +18,14 @@ use Rattle.policy_words.specs.Sayings.{SaidView}
 use Rattle.policy_words.specs.Reading.{Numbered, read_lines}
 use Rattle.policy_words.specs.Naming.{Names, NamedPolicy, role_name, event_named}
 use Rattle.policy_words.specs.Making.{names_of}
-use Rattle.policy_words.specs.Book.{BookTrouble, unknown, twice, many, cycle, said_in, build}
+use Rattle.policy_words.specs.LinesTogether.{LinesFault, unknown, twice, many, cycle, said_in, build}
 
 -- a fault of some line, or of the lines together; a cycle is told by names
 pub data PolicyFault : Type 0 where
   of_line : Numbered TextKind → PolicyFault
-  of_book : Names → BookTrouble → PolicyFault
+  of_book : Names → LinesFault → PolicyFault
 
-abbrev pub built : Names → Result NamedPolicy BookTrouble → Result NamedPolicy PolicyFault
+abbrev pub built : Names → Result NamedPolicy LinesFault → Result NamedPolicy PolicyFault
 built ns (Ok np) = Ok np
 built ns (Err t) = Err (of_book ns t)
 
@@ -50,16 +50,16 @@ expr_kind_word expr_kinds.EmptySet = codes "empty-set"
 expr_kind_word expr_kinds.BadLength = codes "bad-length"
 expr_kind_word expr_kinds.Memory = []
 
-abbrev pub trouble_text : TextKind → List ℕ
-trouble_text faults.Long = codes "long"
-trouble_text faults.Version = codes "version"
-trouble_text faults.Word = codes "word"
-trouble_text faults.Form = codes "form"
-trouble_text faults.Body = codes "body"
-trouble_text faults.Bounds = codes "bounds"
-trouble_text (faults.Expr f) = codes "expr " ++ expr_kind_word f.kind ++ codes " at "
+abbrev pub text_kind_text : TextKind → List ℕ
+text_kind_text faults.Long = codes "long"
+text_kind_text faults.Version = codes "version"
+text_kind_text faults.Word = codes "word"
+text_kind_text faults.Form = codes "form"
+text_kind_text faults.Body = codes "body"
+text_kind_text faults.Bounds = codes "bounds"
+text_kind_text (faults.Expr f) = codes "expr " ++ expr_kind_word f.kind ++ codes " at "
     ++ decimal f.at
-trouble_text faults.Memory = []
+text_kind_text faults.Memory = []
 
 abbrev pub kind_word : Kind → List ℕ
 kind_word kinds.Roles = codes "roles"
@@ -85,14 +85,14 @@ abbrev pub cycle_text : Names → List HierEdge → List ℕ
 cycle_text ns es = codes "policy: cycle "
     ++ joined_by (codes ">") (map (λ e. role_name ns e.senior) (es ++ again es)) ++ codes "\n"
 
-abbrev pub book_text : Names → BookTrouble → List ℕ
+abbrev pub book_text : Names → LinesFault → List ℕ
 book_text ns (unknown n) = at_line n (codes "unknown")
 book_text ns (twice n) = at_line n (codes "twice")
 book_text ns (many n k) = at_line n (codes "many " ++ kind_word k)
 book_text ns (cycle es) = cycle_text ns es
 
 abbrev pub fault_text : PolicyFault → List ℕ
-fault_text (of_line t) = at_line t.line (trouble_text t.it)
+fault_text (of_line t) = at_line t.line (text_kind_text t.it)
 fault_text (of_book ns t) = book_text ns t
 
 -- the text of a policy that is not safe: each edge of its cycle by trigger and place, from 1

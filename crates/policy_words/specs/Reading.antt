@@ -1,9 +1,9 @@
 -- What a line of a policy says, or its fault, by reading its words.
-use Rattle.std.specs.Prelude.{ℕ, zero, suc, ◌+◌, Bool, true, false, ◌&&◌, List, [], ◌∷◌, length, codes, bytes_eq, nat_lt, Option, Some, None, Result, Ok, Err}
-use Rattle.gt_base.specs.Bounds.{last_minute}
+use Rattle.std.specs.Prelude.{ℕ, zero, suc, ◌+◌, Bool, true, false, List, [], ◌∷◌, length, codes, bytes_eq, nat_lt, Option, Some, None, Result, Ok, Err, if◌then◌else◌, ◌&&◌, find}
 use Rattle.gt_base.specs.Names.{name_in, number_from}
 use Rattle.gt_base.specs.declared.policies.Form.{Form}
 use Rattle.gt_base.specs.declared.policies.Form.TheVariants.{Each, Start, Span}
+use Rattle.gt_base.specs.declared.limits.TheConstants.{LAST_MINUTE, MAX_COUNT}
 use Rattle.gtrbac_model.specs.Period.{Expr}
 use Rattle.gt_text.specs.Lines.{without_return, is_longer}
 use Rattle.gt_text.specs.Words.{words_of, are_silent}
@@ -16,7 +16,7 @@ use Rattle.policy_words.specs.declared.parts.NamedCond.{NamedCond}
 use Rattle.policy_words.specs.declared.versions.TextVersion.{TextVersion}
 use Rattle.policy_words.specs.declared.parts.Item.{Item}
 use Rattle.policy_words.specs.declared.sayings.EdgeKind.TheVariants.{I, A, Ia}
-use Rattle.policy_words.specs.declared.sayings.CapKind.TheVariants as caps
+use Rattle.policy_words.specs.CapKinds.{cap_kinds}
 use Rattle.policy_words.specs.Rests.{rest_after, trimmed}
 use Rattle.policy_words.specs.Wording.{◌>>=◌, Read, cond_at, head_at, item_at, at_end, by_verb, delay_in}
 use Rattle.policy_words.specs.Sayings.{SaidView, version, role, user, perm, period, limit, edge, cap, admin, opening, entry, trigger, kind_word, strength_word, cap_word, is_body}
@@ -29,7 +29,7 @@ formed (Some s) = Ok s
 -- version 1 has no form that names an edge
 abbrev pub formed_in : Bool → Option SaidView → Result SaidView TextKind
 formed_in edges None = Err faults.Form
-formed_in edges (Some s) = elim (is_allowed edges s) [ true ↦ Ok s | false ↦ Err faults.Form ]
+formed_in edges (Some s) = if is_allowed edges s then Ok s else Err faults.Form
 
 abbrev pub one_name : (List ℕ → SaidView) → List (List ℕ) → Option SaidView
 one_name build [] = None
@@ -38,10 +38,10 @@ one_name build (w ∷ ws) = do
   at_end (build n) ws
 
 abbrev pub first_in : List ℕ → Option ℕ
-first_in w = elim (bytes_eq w (codes "*")) [ true ↦ Some 0 | false ↦ civil_in w ]
+first_in w = if bytes_eq w (codes "*") then Some 0 else civil_in w
 
 abbrev pub last_in : List ℕ → Option ℕ
-last_in w = elim (bytes_eq w (codes "*")) [ true ↦ Some last_minute | false ↦ civil_in w ]
+last_in w = if bytes_eq w (codes "*") then Some LAST_MINUTE else civil_in w
 
 -- the words of a period before its expression
 pub record Bounds : Type 0 where
@@ -68,19 +68,20 @@ expr_of_line line = trimmed (rest_after 4 (without_return line))
 -- the words before the expression, then the bounds, then the expression
 abbrev pub period_by : List ℕ → Option Bounds → Result SaidView TextKind
 period_by line None = Err faults.Form
-period_by line (Some b) = elim (nat_lt b.last b.first)
-    [ true ↦ Err faults.Bounds | false ↦ with_expr b (read_expr (expr_of_line line)) ]
+period_by line (Some b) =
+    if nat_lt b.last b.first then Err faults.Bounds
+    else with_expr b (read_expr (expr_of_line line))
 
 abbrev pub during_in : List (List ℕ) → Option (Option (List ℕ))
 during_in [] = Some None
-during_in (w ∷ p ∷ []) = elim (bytes_eq w (codes "during"))
-    [ true ↦ (do n ← name_in p; Some (Some n)) | false ↦ None ]
+during_in (w ∷ p ∷ []) =
+    if bytes_eq w (codes "during") then (do n ← name_in p; Some (Some n)) else None
 during_in _ = None
 
 -- `max MOST`, and the rest
 abbrev pub most_at : Read ℕ
-most_at (w ∷ n ∷ ws) = elim (bytes_eq w (codes "max"))
-    [ true ↦ (do m ← number_from 1 1_000_000 n; Some (m, ws)) | false ↦ None ]
+most_at (w ∷ n ∷ ws) =
+    if bytes_eq w (codes "max") then (do m ← number_from 1 MAX_COUNT n; Some (m, ws)) else None
 most_at _ = None
 
 abbrev pub limit_in : List (List ℕ) → Option SaidView
@@ -93,10 +94,9 @@ limit_in (n ∷ p ∷ ws) = do
   Some (limit name prio c.0 most.0 during)
 limit_in _ = None
 
+-- the first of these values whose word it is
 abbrev pub spelled_so : {A : Type 0} → (A → List ℕ) → List A → List ℕ → Option A
-spelled_so spell [] w = None
-spelled_so spell (a ∷ more) w = elim (bytes_eq (spell a) w)
-    [ true ↦ Some a | false ↦ spelled_so spell more w ]
+spelled_so spell values w = find (λ a. bytes_eq (spell a) w) values
 
 abbrev pub edge_in : List (List ℕ) → Option SaidView
 edge_in (k ∷ st ∷ s ∷ j ∷ []) = do
@@ -109,9 +109,9 @@ edge_in _ = None
 
 abbrev pub cap_in : List (List ℕ) → Option SaidView
 cap_in (k ∷ r ∷ n ∷ []) = do
-  kind ← spelled_so cap_word (caps.Total ∷ caps.User ∷ caps.Length ∷ caps.Day ∷ []) k
+  kind ← spelled_so cap_word cap_kinds k
   name ← name_in r
-  most ← number_from 1 1_000_000 n
+  most ← number_from 1 MAX_COUNT n
   Some (cap kind name most)
 cap_in _ = None
 
@@ -139,10 +139,10 @@ items_at (suc k) ws = do
   elim i.1 [
     | [] ↦ None
     | w ∷ more ↦
-        elim (bytes_eq w (codes "and")) [
-          | true ↦ (do rest ← items_at k more; Some (i.0 ∷ rest.0, rest.1))
-          | false ↦ elim (bytes_eq w (codes "then")) [ true ↦ Some (i.0 ∷ [], more) | false ↦ None ]
-        ]
+        if bytes_eq w (codes "and") then
+        (do rest ← items_at k more; Some (i.0 ∷ rest.0, rest.1))
+        else if bytes_eq w (codes "then") then Some (i.0 ∷ [], more)
+        else None
   ]
 
 abbrev pub trigger_in : List (List ℕ) → Option SaidView
@@ -153,18 +153,16 @@ trigger_in ws = do
   Some (trigger items.0 h.0 d)
 
 abbrev pub with_body : SaidView → Result SaidView TextKind
-with_body (trigger items h d) = elim (is_body items)
-    [ true ↦ Ok (trigger items h d) | false ↦ Err faults.Body ]
+with_body (trigger items h d) = if is_body items then Ok (trigger items h d) else Err faults.Body
 with_body s = Ok s
 
 abbrev pub trigger_by : Bool → Option SaidView → Result SaidView TextKind
 trigger_by edges None = Err faults.Form
-trigger_by edges (Some s) = elim (is_allowed edges s)
-    [ true ↦ with_body s | false ↦ Err faults.Form ]
+trigger_by edges (Some s) = if is_allowed edges s then with_body s else Err faults.Form
 
 abbrev pub version_in : List (List ℕ) → Option ℕ
-version_in (w ∷ []) = elim (bytes_eq w (codes "1"))
-    [ true ↦ Some 1 | false ↦ elim (bytes_eq w (codes "2")) [ true ↦ Some 2 | false ↦ None ] ]
+version_in (w ∷ []) =
+    if bytes_eq w (codes "1") then Some 1 else if bytes_eq w (codes "2") then Some 2 else None
 version_in _ = None
 
 -- a version stands before all lines that are not silent
@@ -215,11 +213,9 @@ some_said (Err t) = Err t
 -- what a line says, nothing where it is silent, in a text whose lines before it tell this version
 abbrev pub read_said : TextVersion → List ℕ → Result (Option SaidView) TextKind
 read_said v line =
-    elim (is_longer 4096 line) [
-      | true ↦ Err faults.Long
-      | false ↦ elim (are_silent (words_of line))
-          [ true ↦ Ok None | false ↦ some_said (said_of v line (words_of line)) ]
-    ]
+    if is_longer 4096 line then Err faults.Long
+    else if are_silent (words_of line) then Ok None
+    else some_said (said_of v line (words_of line))
 
 -- the lines that say something, with their numbers; or the first fault, with the number of its line
 

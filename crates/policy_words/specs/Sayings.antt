@@ -1,11 +1,12 @@
 -- What a line of a policy says, the words that spell it, and which sayings are in range.
 use Rattle.std.specs.Prelude.{ℕ, Bool, true, false, ◌&&◌, ◌||◌, List, [], ◌∷◌, ◌++◌, length, codes, decimal, nat_eq, nat_le, Option, Some, None}
 use Rattle.std.specs.List.{list_all, list_any}
-use Rattle.gt_base.specs.Bounds.{last_minute}
 use Rattle.gt_base.specs.Names.{is_name}
 use Rattle.gt_base.specs.declared.policies.Form.{Form}
 use Rattle.gt_base.specs.declared.policies.Form.TheVariants.{Each, Start, Span}
+use Rattle.gt_base.specs.declared.limits.TheConstants.{LAST_MINUTE, MAX_COUNT}
 use Rattle.gtrbac_model.specs.Period.{Expr}
+use Rattle.gtrbac_model.specs.History.{is_some_item}
 use Rattle.gtrbac_model.specs.Valid.{is_expr}
 use Rattle.civil_time.specs.Text.{civil_text}
 use Rattle.periodic_expr.specs.Printed.{expr_text}
@@ -105,11 +106,7 @@ is_period_name None = true
 is_period_name (Some p) = is_name p
 
 abbrev pub is_count : ℕ → Bool
-is_count n = nat_le 1 n && nat_le n 1_000_000
-
-abbrev pub is_some_item : List Item → Bool
-is_some_item [] = false
-is_some_item (i ∷ is) = true
+is_count n = nat_le 1 n && nat_le n MAX_COUNT
 
 abbrev pub is_cause : Item → Bool
 is_cause (Event e) = true
@@ -127,7 +124,7 @@ is_formed (version n) = nat_eq n 1 || nat_eq n 2
 is_formed (role n) = is_name n
 is_formed (user n) = is_name n
 is_formed (perm n) = is_name n
-is_formed (period n first last e) = is_name n && nat_le first last_minute && nat_le last last_minute
+is_formed (period n first last e) = is_name n && nat_le first LAST_MINUTE && nat_le last LAST_MINUTE
     && is_expr e
 is_formed (limit n prio c most during) = is_name n && nat_le prio 99
     && are_names (fluent_names c.fluent) && is_count most && is_period_name during
@@ -137,7 +134,7 @@ is_formed (admin u) = is_name u
 is_formed (opening f) = are_names (fluent_names f)
 is_formed (entry f p h) = is_name p && is_head h
 is_formed (trigger items h d) = is_some_item items && list_all is_item items && is_head h
-    && nat_le d last_minute
+    && nat_le d LAST_MINUTE
 
 -- a period's first instant is not after its last
 abbrev pub is_bounded : SaidView → Bool

@@ -1,7 +1,7 @@
 -- What a line of a policy says, as a relation: by the words that spell it, and not by reading.
 use Rattle.std.specs.Prelude.{◌≡◌, ◌≢◌, ◌⊎◌, ℕ, zero, ◌≤◌, ◌<◌, Bool, true, false, List, [], ◌∷◌, ◌++◌, length, take, codes, Option, Some, None, Result, Ok, Err, IsTrue, Contains, if◌then◌else◌}
-use Rattle.gt_base.specs.Bounds.{last_minute}
 use Rattle.gt_base.specs.Names.{is_name}
+use Rattle.gt_base.specs.declared.limits.TheConstants.{LAST_MINUTE}
 use Rattle.gtrbac_model.specs.Period.{Expr}
 use Rattle.gt_text.specs.Words.{words_of, are_silent}
 use Rattle.civil_time.specs.Text.{civil_text}
@@ -27,7 +27,7 @@ pub record IsSilent (most : ℕ) (line : List ℕ) : Type 0 where
 
 -- the words before the expression: `*` is instant 0 as the first, and the last instant as the last
 abbrev pub IsBound : ℕ → List ℕ → ℕ → Type 0
-IsBound open_end w t = ((w ≡ codes "*") × (t ≡ open_end)) ⊎ ((t ≤ last_minute) × (w ≡ civil_text t))
+IsBound open_end w t = ((w ≡ codes "*") × (t ≡ open_end)) ⊎ ((t ≤ LAST_MINUTE) × (w ≡ civil_text t))
 
 pub record HasBounds (line : List ℕ) (n : List ℕ) (first last : ℕ) : Type 0 where
   pub name : IsTrue (is_name n)
@@ -35,7 +35,7 @@ pub record HasBounds (line : List ℕ) (n : List ℕ) (first last : ℕ) : Type 
   pub last_word : List ℕ
   pub words : take 4 (words_of line) ≡ codes "period" ∷ n ∷ first_word ∷ last_word ∷ []
   pub is_first : IsBound 0 first_word first
-  pub is_last : IsBound last_minute last_word last
+  pub is_last : IsBound LAST_MINUTE last_word last
 
 abbrev pub SpellsPeriod : List ℕ → List ℕ → ℕ → ℕ → Expr → Type 0
 SpellsPeriod line n first last e = HasBounds line n first last × (first ≤ last)
@@ -70,13 +70,13 @@ IsVersion (version n) = Unit {0}
 IsVersion _ = ⊥
 
 -- the version stands as the first line that is not silent
-abbrev pub IsFirst : Bool → SaidView → Type 0
-IsFirst true said = Unit {0}
-IsFirst false said = IsVersion said → ⊥
+abbrev pub IsFirstLine : Bool → SaidView → Type 0
+IsFirstLine true said = Unit {0}
+IsFirstLine false said = IsVersion said → ⊥
 
 -- and in version 1 no line names an edge
 abbrev pub IsPlaced : TextVersion → SaidView → Type 0
-IsPlaced v said = IsFirst (is_open v) said × IsTrue (is_allowed (has_edges v) said)
+IsPlaced v said = IsFirstLine (is_open v) said × IsTrue (is_allowed (has_edges v) said)
 
 abbrev pub ExprFails : List ℕ → ExprFault → Type 0
 ExprFails text f = ((f.kind ≡ Syntax) × IsSyntaxFault text f.at)

@@ -1,5 +1,5 @@
 -- The version of a text, as its lines tell it.
-use Rattle.std.specs.Prelude.{ℕ, Bool, true, false, ◌||◌, not, nat_eq, if◌then◌else◌}
+use Rattle.std.specs.Prelude.{Bool, true, false, ◌||◌, not, nat_eq, if◌then◌else◌}
 use Rattle.policy_words.specs.declared.versions.TextVersion.{TextVersion}
 use Rattle.policy_words.specs.declared.versions.TextVersion.TheVariants.{Open, One, Two}
 use Rattle.policy_words.specs.Sayings.{SaidView, version, names_edge}

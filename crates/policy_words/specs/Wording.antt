@@ -1,5 +1,5 @@
 -- The words of events, conditions and signals, by names.
-use Rattle.std.specs.Prelude.{ℕ, Bool, true, false, ◌&&◌, List, [], ◌∷◌, ◌++◌, codes, decimal, bytes_eq, nat_eq, Option, Some, None, find}
+use Rattle.std.specs.Prelude.{ℕ, Bool, true, false, ◌&&◌, List, [], ◌∷◌, ◌++◌, codes, decimal, bytes_eq, nat_eq, Option, Some, None, find, if◌then◌else◌}
 use Rattle.std.specs.List.{before_first, after_first}
 use Rattle.policy_words.specs.declared.parts.NamedFluent.{NamedFluent}
 use Rattle.policy_words.specs.declared.parts.NamedFluent.TheVariants.{Enabled, Assigned, Granted, Limit, Edge}
@@ -12,6 +12,7 @@ use Rattle.policy_words.specs.declared.parts.NamedHead.{NamedHead}
 use Rattle.policy_words.specs.declared.parts.Item.{Item}
 use Rattle.policy_words.specs.declared.parts.Item.TheVariants.{Event, Signal, Cond, Settled}
 use Rattle.gt_base.specs.Names.{is_name, number_from}
+use Rattle.gt_base.specs.declared.limits.TheConstants.{LAST_MINUTE}
 
 infixl 10 ◌>>=◌
 abbrev pub ◌>>=◌ : {A B : Type 0} → Option A → (A → Option B) → Option B
@@ -99,13 +100,12 @@ verb_in verb word = find (λ v. bytes_eq (verb v.0 v.1) word) all_verbs
 
 abbrev pub one_name : (List ℕ → NamedFluent) → Read NamedFluent
 one_name build [] = None
-one_name build (a ∷ ws) = elim (is_name a) [ true ↦ Some (build a, ws) | false ↦ None ]
+one_name build (a ∷ ws) = if is_name a then Some (build a, ws) else None
 
 abbrev pub two_names : (List ℕ → List ℕ → NamedFluent) → Read NamedFluent
 two_names build [] = None
 two_names build (a ∷ []) = None
-two_names build (a ∷ b ∷ ws) = elim (is_name a && is_name b)
-    [ true ↦ Some (build a b, ws) | false ↦ None ]
+two_names build (a ∷ b ∷ ws) = if is_name a && is_name b then Some (build a b, ws) else None
 
 abbrev pub fluent_at : Sort → Read NamedFluent
 fluent_at Enabling ws = one_name (λ r. Enabled r) ws
@@ -135,16 +135,15 @@ cond_at ws = do
 abbrev pub signal_of : Bool → Read NamedSignal
 signal_of start [] = None
 signal_of start (a ∷ []) = None
-signal_of start (a ∷ b ∷ ws) = elim (is_name a && is_name b)
-    [ true ↦ Some (record { start = start; user = a; role = b }, ws) | false ↦ None ]
+signal_of start (a ∷ b ∷ ws) =
+    if is_name a && is_name b then Some (record { start = start; user = a; role = b }, ws) else None
 
 abbrev pub signal_at : Read NamedSignal
 signal_at [] = None
 signal_at (w ∷ ws) =
-    elim (bytes_eq w (signal_verb true)) [
-      | true ↦ signal_of true ws
-      | false ↦ elim (bytes_eq w (signal_verb false)) [ true ↦ signal_of false ws | false ↦ None ]
-    ]
+    if bytes_eq w (signal_verb true) then signal_of true ws
+    else if bytes_eq w (signal_verb false) then signal_of false ws
+    else None
 
 abbrev pub is_colon : ℕ → Bool
 is_colon b = nat_eq b 58
@@ -164,7 +163,7 @@ or_else None b = b
 -- `settled COND`
 abbrev pub settled_at : Read NamedCond
 settled_at [] = None
-settled_at (w ∷ ws) = elim (bytes_eq w (codes "settled")) [ true ↦ cond_at ws | false ↦ None ]
+settled_at (w ∷ ws) = if bytes_eq w (codes "settled") then cond_at ws else None
 
 -- an event, a signal, a condition or a settled condition; no first word is of two of them
 abbrev pub item_at : Read Item
@@ -183,15 +182,14 @@ at_end a (w ∷ ws) = None
 abbrev pub by_verb : {A : Type 0} → List (List ℕ × (List (List ℕ) → Option A)) → List ℕ
     → Option (List (List ℕ) → Option A)
 by_verb [] word = None
-by_verb (v ∷ vs) word = elim (bytes_eq v.0 word) [ true ↦ Some v.1 | false ↦ by_verb vs word ]
+by_verb (v ∷ vs) word = if bytes_eq v.0 word then Some v.1 else by_verb vs word
 
 -- `after DELAY`, or nothing for 0
 abbrev pub delay_words : ℕ → List (List ℕ)
-delay_words d = elim (nat_eq d 0) [ true ↦ [] | false ↦ codes "after" ∷ decimal d ∷ [] ]
+delay_words d = if nat_eq d 0 then [] else codes "after" ∷ decimal d ∷ []
 
 abbrev pub delay_in : List (List ℕ) → Option ℕ
 delay_in [] = Some 0
 delay_in (w ∷ []) = None
-delay_in (w ∷ n ∷ []) = elim (bytes_eq w (codes "after"))
-    [ true ↦ number_from 0 52_595_999 n | false ↦ None ]
+delay_in (w ∷ n ∷ []) = if bytes_eq w (codes "after") then number_from 0 LAST_MINUTE n else None
 delay_in (w ∷ n ∷ more ∷ ws) = None

@@ -1,4 +1,5 @@
 //! What a line claims for itself, so that no other line may have it.
+use crate::sayings::CapKind;
 use gt_base::Name;
 
 /// What a line claims for itself: a name that it declares, the ordered pair of an edge, or the kind
@@ -12,10 +13,7 @@ pub enum Claim {
     Period(Name),
     Limit(Name),
     Edge(Name, Name),
-    Total(Name),
-    PerUser(Name),
-    Length(Name),
-    Day(Name),
+    Cap(CapKind, Name),
     Assigned(Name, Name),
     Granted(Name, Name),
 }

@@ -2,12 +2,15 @@
 //! for together, and the canonical text.
 #![tactic(auto)]
 
+mod cap_kinds;
 mod claims;
 mod faults;
 mod parts;
 mod sayings;
+mod sorts;
 mod versions;
 
+pub use cap_kinds::uncapped;
 pub use claims::Claim;
 pub use faults::TextKind;
 pub use parts::{Item, NamedCond, NamedEvent, NamedFluent, NamedHead, NamedSignal, Sort};

@@ -14,7 +14,7 @@ pub enum EdgeKind {
 
 /// What a cap counts: activations at once over all sessions or of one user, the minutes of one
 /// activation, or the charged minutes of a user in a civil day.
-#[derive(Clone, Copy, PartialEq, Eq, Debug)]
+#[derive(Clone, Copy, PartialEq, Eq, Hash, Debug)]
 pub enum CapKind {
     Total,
     User,

@@ -13,9 +13,9 @@ use poll_front::{PollEnd, Polled};
 use std::alloc::{AllocError, Global};
 use std::sync::Wait;
 
-/// What a link sends; how many of these bytes have come each time that it is ready; whether its peer
-/// ends it; and the numbers of the read and of the write that fail, and of those that find nothing
-/// yet, 0 where none is to.
+/// What a link sends; how many of these bytes have come each time that it is ready; whether its
+/// peer ends it; and the numbers of the read and of the write that fail, and of those that find
+/// nothing yet, 0 where none is to.
 #[derive(Clone, Copy)]
 pub struct Wire<'a> {
     pub sends: &'a [u8],
@@ -27,7 +27,8 @@ pub struct Wire<'a> {
     pub late_write: u64,
 }
 
-/// The links of a run, its events, and the number of the call of `next` that fails, 0 where none is to.
+/// The links of a run, its events, and the number of the call of `next` that fails, 0 where none is
+/// to.
 #[derive(Clone, Copy)]
 pub struct Poll<'a> {
     pub wires: &'a [Wire<'a>],
@@ -133,8 +134,8 @@ fn tell(
     Ok(text.into())
 }
 
-/// Plays a run: what was given to each link, how the first two and the last one ended, the log and the
-/// status.
+/// Plays a run: what was given to each link, how the first two and the last one ended, the log and
+/// the status.
 pub fn play<R: Wait>(rt: &R, alloc: Global, poll: &Poll<'_>) -> Result<List<u8>, Memory> {
     let verb = String::from_str(alloc, "poll")?;
     let name = String::from_str(alloc, "P")?;

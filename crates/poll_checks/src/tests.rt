@@ -5,7 +5,7 @@ use std::alloc::Global;
 use std::sync::Wait;
 use std::test::Fail;
 
-// 2026-01-05T10:00
+/// 2026-01-05T10:00
 const TEN: u32 = 13_682_040;
 
 /// A link without a hitch that sends nothing.

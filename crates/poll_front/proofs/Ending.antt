@@ -1,5 +1,5 @@
 -- A run to its end.
-use Rattle.std.proofs.Common.{◌≡◌, ◌⊎◌, ℕ, ◌+◌, ◌<◌, ◌≤◌, ◌^◌, false, true, List, [], length, slice_get, refl, sym, ap, subst, ◌∙◌, arith, ⊎_elim, Option, Some, None}
+use Rattle.std.proofs.Common.{◌≡◌, ◌⊎◌, ℕ, ◌+◌, ◌-◌, ◌<◌, ◌≤◌, ◌^◌, false, true, List, [], length, slice_get, refl, sym, ap, subst, ◌∙◌, arith, ⊎_elim, Option, Some, None}
 use Rattle.std.proofs.lemmas.Option.{slice_get_cases, slice_get_within}
 use Rattle.gt_base.specs.declared.requests.Entry.{Entry}
 use Rattle.gt_io.specs.Causes.{Rose}
@@ -16,8 +16,9 @@ use Rattle.poll_front.specs.declared.ends.PollEnd.TheVariants.{Ended, ReadFault,
 use Rattle.poll_front.specs.declared.parties.Pace.{Pace}
 use Rattle.poll_front.specs.declared.seats.Seat.{Seat}
 use Rattle.poll_front.specs.declared.seats.Seat.TheVariants.{Open, Over}
-use Rattle.poll_front.specs.Fronts.{Turn, Spot, acted_of, Ends, HasOwnEnd}
-use Rattle.poll_front.specs.Tables.{Sits, IsLetIn, IsLetGo, EndsSeatAt, LetsGo, Tabled, Went, Ran, GoesTo, RunsTo, IsUnwornSeat, AreUnwornSeats, AreUnwornEnds, is_worn_end, first_spot}
+use Rattle.poll_front.specs.Fronts.{Turn, FrontSpot, acted_of, EndsLink, HasOwnEnd}
+use Rattle.poll_front.specs.Tables.{Sits, IsLetIn, IsLetGo, EndsSeatAt, LetsGo, Tabled, Went, Ran, GoesTo, RunsTo, IsUnwornSeat, AreUnwornSeats, AreUnwornEnds, FaultsAreLast, faults_among, faults_told, is_worn_end, first_spot}
+use Rattle.poll_front.proofs.Counting.{faults_same}
 use Rattle.poll_front.proofs.Seating.{ends_stopped}
 
 let_go_by : (nexts : ℕ) (q : Port) (end : PollEnd) → HasOwnEnd end → (n : ℕ) × (q.finished ≡ Some n) → IsLetGo nexts q end
@@ -30,7 +31,7 @@ let_go_by nexts q (Worn n) own f = f
 let_go_by nexts q Stopped own f = absurd own
 
 abbrev Has : NamedPolicy → Port → Port → ℕ → List Acted → Polled → Type 0
-Has np start q nexts acted e = Ends np start q e.asked e.denied acted e.outcome × IsLetIn q e.outcome × IsLetGo nexts q e.outcome
+Has np start q nexts acted e = EndsLink np start q e.asked e.denied acted e.outcome × IsLetIn q e.outcome × IsLetGo nexts q e.outcome
 
 link_ended : (np : NamedPolicy) (start q q' : Port) (nexts : ℕ) (acted : List Acted) (s : Seat) (e : Polled) → Sits np start q acted s → EndsSeatAt q q' nexts s e → Has np start q' nexts acted e
 link_ended np start q q' nexts acted (Open b) e x at =
@@ -46,6 +47,10 @@ calm_end : (q q' : Port) (nexts : ℕ) (s : Seat) (e : Polled) → IsUnwornSeat 
 calm_end q q' nexts (Open b) e u at = ap (λ (z : Polled). is_worn_end z.outcome) at.0
 calm_end q q' nexts (Over polled) e u at = ap (λ (z : Polled). is_worn_end z.outcome) at.0 ∙ u
 
+same_last : (q q' : Port) (nexts : ℕ) (s : Seat) (e : Polled) → EndsSeatAt q q' nexts s e → q'.last ≡ q.last
+same_last q q' nexts (Open b) e at = ap (λ (r : Port). r.last) at.1
+same_last q q' nexts (Over polled) e at = ap (λ (r : Port). r.last) at.1
+
 module _ (a b : Harbour) (seats : List Seat) (ends : List Polled) (l : LetsGo a b seats ends) where
   seat_of : (i : ℕ) (e : Polled) → slice_get ends i ≡ Some e → (s : Seat) × (slice_get seats i ≡ Some s)
   seat_of i e at =
@@ -58,6 +63,22 @@ module _ (a b : Harbour) (seats : List Seat) (ends : List Polled) (l : LetsGo a 
       let within = slice_get_within seats i s at in
       let count = l.count in
       ⊎_elim (λ some. (some.0, some.2)) (λ none. let past = none.0 in absurd (omega (arith, within, count, past))) (slice_get_cases ends i).1
+
+  last_kept : (k : ℕ) → 1 ≤ k → k ≤ length seats → (b.port k).last ≡ (a.port k).last
+  last_kept k first low =
+      let back : k - 1 + 1 ≡ k = omega (arith, first) in
+      ⊎_elim (λ some.
+      let e = end_of_seat (k - 1) some.0 some.2 in
+      subst (λ (j : ℕ). (b.port j).last ≡ (a.port j).last) back (same_last (a.port (k - 1 + 1)) (b.port (k - 1 + 1)) a.nexts some.0 e.0 (l.each (k - 1) some.0 e.0 some.2 e.1))) (λ none.
+      let past = none.0 in absurd (omega (arith, past, first, low))) (slice_get_cases seats (k - 1)).1
+
+  faults_last : (start : Harbour) → a.opened ≡ length seats → FaultsAreLast start a → FaultsAreLast start b
+  faults_last start opened f =
+      let same = l.faults in
+      let told = ap faults_told l.told in
+      let all = ap (faults_among b.port) l.opened in
+      let shown = faults_same a.port b.port a.opened (λ k first low. last_kept k first (omega (arith, low, opened))) in
+      omega (arith, f, same, told, all, shown)
 
   calm_ends : AreUnwornSeats seats → AreUnwornEnds ends
   calm_ends calm = λ i e at. let s = seat_of i e at in calm_end (a.port (i + 1)) (b.port (i + 1)) a.nexts s.0 e (calm i s.0 s.1) (l.each i s.0 e s.1 at)
@@ -90,4 +111,5 @@ ran_of np first legal now number before after clock clock' pace start a b seats 
           (link_ended np (start.port (i + 1)) (a.port (i + 1)) (b.port (i + 1)) a.nexts (acted_of (i + 1) w.turns) s.0 e (t.sits i s.0 s.1) (l.each i s.0 e s.1 at));
       range = subst (λ (n : ℕ). Each (λ (z : Turn). (1 ≤ z.link) × (z.link ≤ n)) w.turns) (sym same) t.range;
       runs = runs_to a b seats ends l start after.draws end t.opened w.goes;
+      faults = faults_last a b seats ends l start t.opened t.faults;
     }

@@ -10,15 +10,15 @@ use Rattle.request_text.specs.Phrases.{read_line}
 use Rattle.connection_laws.specs.Connection.{Gets, actor_by, placed, one_where, is_accepted, is_denied}
 use Rattle.connection_laws.specs.Desks.{IsNamedActor}
 use Rattle.connection_laws.specs.Services.{service}
-use Rattle.connection_laws.specs.Acting.{moment, Acts, counted}
+use Rattle.connection_laws.specs.Acting.{moment, Acts, counted_talk}
 use Rattle.connection_laws.specs.declared.talk.Talk.{Talk}
-use Rattle.connection_laws.specs.declared.talk.Told.{Told}
+use Rattle.connection_laws.specs.declared.talk.LineAnswer.{LineAnswer}
 use Rattle.poll_front.specs.declared.parties.Pace.{Pace}
 use Rattle.poll_front.specs.Fronts.{Hears}
 
 module _ {M : Type 0} (np : NamedPolicy) (first : List Entry) (legal : List Entry → Type 0) (now : List Entry → ℕ) (who : Who) where
-  pub hears_acts : (before after : Holder M) (talk talk0 talk1 talk2 : Talk) (pace pace' : Pace) (clock clock' : Option (ℕ → ℕ)) (line : List ℕ) (told : Told) → talk0 ≡ record talk { calls = pace.calls; reached = pace.reached }
-      → (x : Acts (service np first legal now) who (moment before talk0 clock) (moment after talk1 clock') line told) → pace'.calls ≡ talk1.calls → talk2 ≡ counted talk1 x.acted.answer
+  pub hears_acts : (before after : Holder M) (talk talk0 talk1 talk2 : Talk) (pace pace' : Pace) (clock clock' : Option (ℕ → ℕ)) (line : List ℕ) (told : LineAnswer) → talk0 ≡ record talk { calls = pace.calls; reached = pace.reached }
+      → (x : Acts (service np first legal now) who (moment before talk0 clock) (moment after talk1 clock') line told) → pace'.calls ≡ talk1.calls → talk2 ≡ counted_talk talk1 x.acted.answer
       → Hears np first legal now who before after talk talk2 pace pace' clock clock' line told
   hears_acts before after talk talk0 talk1 talk2 pace pace' clock clock' line told begun x calls is =
       let a = x.acted in

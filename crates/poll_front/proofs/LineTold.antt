@@ -6,17 +6,18 @@ use Rattle.gt_io.specs.Ports.{Port, Harbour}
 use Rattle.turn_lock.specs.Turns.{Each}
 use Rattle.locked_history.specs.Fronts.{by}
 use Rattle.policy_words.specs.Naming.{NamedPolicy}
-use Rattle.connection_laws.specs.Cuts.{is_feed, open_line}
+use Rattle.connection_laws.specs.Cuts.{open_line}
+use Rattle.gt_text.specs.Lines.{is_feed}
 use Rattle.connection_laws.specs.Connection.{Acted, Answer, is_worn, is_accepted, is_denied, one_where}
 use Rattle.connection_laws.specs.Acting.{told_bytes}
 use Rattle.connection_laws.specs.declared.talk.Talk.{Talk}
-use Rattle.connection_laws.specs.declared.talk.Told.{Told}
-use Rattle.connection_laws.specs.declared.talk.Told.TheVariants.{Silence, Agreed, Bad, Reply as ToldReply, NoMemory, NoSteps, Worn as ToldWorn}
+use Rattle.connection_laws.specs.declared.talk.LineAnswer.{LineAnswer}
+use Rattle.connection_laws.specs.declared.talk.LineAnswer.TheVariants.{Silence, Agreed, Bad, Reply as ToldReply, NoMemory, NoSteps, Worn as ToldWorn}
 use Rattle.poll_front.specs.declared.ends.PollEnd.TheVariants.{Worn}
 use Rattle.poll_front.specs.declared.parties.Party.{Party}
 use Rattle.poll_front.specs.declared.parties.Pause.{Pause}
 use Rattle.poll_front.specs.declared.parties.Pause.TheVariants.{End}
-use Rattle.poll_front.specs.Fronts.{Turn, Spot, acted_of, Running, Stands, Ends, IsWhole, Comes, PushesOut, Tells, Hears, Gone}
+use Rattle.poll_front.specs.Fronts.{Turn, FrontSpot, acted_of, Running, PartyStands, EndsLink, IsWrittenWhole, Comes, PushesOut, TellsLine, Hears, Gone}
 use Rattle.gt_base.specs.declared.requests.Actor.TheVariants.{Nobody}
 use Rattle.request_text.specs.declared.lines.LineFault.TheVariants.{Long}
 use Rattle.request_text.proofs.ReadBySpelling.{long_read}
@@ -29,16 +30,16 @@ pub pushes_unworn : (a b : Harbour) (c : ℕ) (text : List ℕ) (at at' n : ℕ)
 pushes_unworn a b c text at at' n {T} result p is =
     let q : PushesOut a b c text at at' {T = T} (Err (End (Worn n))) = subst (λ (r : Result T Pause). PushesOut a b c text at at' r) is p in q.pushed
 
-module _ {M : Type 0} (np : NamedPolicy) (first : List Entry) (legal : List Entry → Type 0) (now : List Entry → ℕ) (number : ℕ) (o p p' : Spot M) (start : Port) (a b : Harbour) (c : ℕ) (turns : List Turn) (s : Party) (fed line : List ℕ) (byte : ℕ) (frame : Frame) (talk : Talk)
-    (g : Running np first legal now number o p turns) (stands : Stands np start (a.port c) s fed (acted_of c turns)) (whole : IsWhole np (acted_of c turns) s.at)
+module _ {M : Type 0} (np : NamedPolicy) (first : List Entry) (legal : List Entry → Type 0) (now : List Entry → ℕ) (number : ℕ) (o p p' : FrontSpot M) (start : Port) (a b : Harbour) (c : ℕ) (turns : List Turn) (s : Party) (fed line : List ℕ) (byte : ℕ) (frame : Frame) (talk : Talk)
+    (g : Running np first legal now number o p turns) (stands : PartyStands np start (a.port c) s fed (acted_of c turns)) (whole : IsWrittenWhole np (acted_of c turns) s.at)
     (some : s.from < s.upto) (within : s.upto ≤ length s.chunk) (is : byte ≡ get_or s.chunk s.from 0) (feed : is_feed byte ≡ true) (line_is : line ≡ open_line fed) (framed : frame ≡ pushed s.framer byte) where
-  abbrev Heard : Told → Type 0
+  abbrev Heard : LineAnswer → Type 0
   Heard told = Hears np first legal now (by number c) p.pass p'.pass s.talk talk p.pace p'.pace p.clock p'.clock line told
 
-  abbrev after : Told → ℕ → Party
+  abbrev after : LineAnswer → ℕ → Party
   after told at = record s { framer = frame; from = s.from + 1; talk = talk; told = told; at = at }
 
-  line_unworn : (told : Told) (at : ℕ) {T : Type 0} (result : Result T Pause) → IsUnwornTold told → (x : Heard told) → PushesOut a b c (told_bytes told) 0 at result
+  line_unworn : (told : LineAnswer) (at : ℕ) {T : Type 0} (result : Result T Pause) → IsUnwornTold told → (x : Heard told) → PushesOut a b c (told_bytes told) 0 at result
       → Gone np first legal now number o p' start (b.port c) c turns (after told at) result
   line_unworn told at {T} result unworn x push =
       let turn : Turn = record { link = c; acted = x.acted } in
@@ -60,8 +61,8 @@ module _ {M : Type 0} (np : NamedPolicy) (first : List Entry) (legal : List Entr
       let here : acted_of c (turn ∷ turns) ≡ x.acted ∷ acted_of c turns = acted_here c turn turns refl in
       let full = x.worn_out m refl in
       let e = ends_worn np start (a.port c) s fed line (acted_of c turns) x.acted byte m talk.asked talk.denied stands whole some within is feed line_is x.line_is x.told_is full.0 x.asked x.denied in
-      let e1 : Ends np start (b.port c) talk.asked talk.denied (acted_of c (turn ∷ turns)) (Worn m) =
-      subst (λ (l : List Acted). Ends np start (b.port c) talk.asked talk.denied l (Worn m)) (sym here) (subst (λ (h : Harbour). Ends np start (h.port c) talk.asked talk.denied (x.acted ∷ acted_of c turns) (Worn m)) (sym same) e) in
+      let e1 : EndsLink np start (b.port c) talk.asked talk.denied (acted_of c (turn ∷ turns)) (Worn m) =
+      subst (λ (l : List Acted). EndsLink np start (b.port c) talk.asked talk.denied l (Worn m)) (sym here) (subst (λ (h : Harbour). EndsLink np start (h.port c) talk.asked talk.denied (x.acted ∷ acted_of c turns) (Worn m)) (sym same) e) in
       record {
         more = turn ∷ [];
         own = (refl, tt);
@@ -71,7 +72,7 @@ module _ {M : Type 0} (np : NamedPolicy) (first : List Entry) (legal : List Entr
       }
 
   -- the line was heard, and told what it is told
-  pub line_told : (told : Told) (at : ℕ) {T : Type 0} (result : Result T Pause) → (x : Heard told) → Tells a b c told at result
+  pub line_told : (told : LineAnswer) (at : ℕ) {T : Type 0} (result : Result T Pause) → (x : Heard told) → TellsLine a b c told at result
       → Gone np first legal now number o p' start (b.port c) c turns (after told at) result
   line_told Silence at result x t = line_unworn Silence at result tt x t
   line_told Agreed at result x t = line_unworn Agreed at result tt x t
@@ -82,7 +83,7 @@ module _ {M : Type 0} (np : NamedPolicy) (first : List Entry) (legal : List Entr
   line_told (ToldWorn m) at result x t = line_worn m at result x t.0 t.2
 
 -- a line that is too long is heard without the desk
-pub long_heard : {M : Type 0} (np : NamedPolicy) (first : List Entry) (legal : List Entry → Type 0) (now : List Entry → ℕ) (number c : ℕ) (p : Spot M) (talk : Talk) (line : List ℕ) → IsNamedActor np talk.actor → 512 < length line
+pub long_heard : {M : Type 0} (np : NamedPolicy) (first : List Entry) (legal : List Entry → Type 0) (now : List Entry → ℕ) (number c : ℕ) (p : FrontSpot M) (talk : Talk) (line : List ℕ) → IsNamedActor np talk.actor → 512 < length line
     → Hears np first legal now (by number c) p.pass p.pass talk talk p.pace p.pace p.clock p.clock line (Bad Long)
 long_heard np first legal now number c p talk line named long =
     let x = acts_bad np first legal now (by number c) p.clock p.clock line (record talk { calls = p.pace.calls; reached = p.pace.reached }) p.pass Long (long_read np Nobody false line long) named in

@@ -14,12 +14,13 @@ use Rattle.poll_front.specs.declared.ends.PollEnd.{PollEnd}
 use Rattle.poll_front.specs.declared.ends.PollEnd.TheVariants.{Ended, ReadFault, WriteFault, Spent, Full, Stopped, Worn}
 use Rattle.poll_front.specs.declared.seats.Seat.{Seat}
 use Rattle.poll_front.specs.declared.seats.Seat.TheVariants.{Open, Over}
-use Rattle.poll_front.specs.Fronts.{Turn, Spot, acted_of, Running, most_open}
-use Rattle.poll_front.specs.Tables.{Sits, IsFreshSeat, SameBytes, SeatGone, SeatServed, Tabled, IsUnwornSeat, AreUnwornSeats, is_worn_end}
+use Rattle.poll_front.specs.Fronts.{Turn, FrontSpot, acted_of, Running}
+use Rattle.poll_front.specs.Tables.{Sits, IsFreshSeat, SameBytes, SeatGone, SeatServed, Tabled, IsUnwornSeat, AreUnwornSeats, faults_told, is_worn_end}
 use Rattle.poll_front.proofs.Counting.{count_less}
 use Rattle.poll_front.proofs.Seating.{sits_first, ends_full}
 use Rattle.poll_front.proofs.ListSteps.{set_cases, push_cases}
 use Rattle.poll_front.proofs.Tabling.{tabled_owed, tabled_served, tabled_seated, ready_owed, ready_away, opened_away, opened_here}
+use Rattle.poll_front.specs.declared.front.TheConstants.{MOST_OPEN}
 
 -- the last seat is not worn, nor were the others
 unworn_push : (seats : List Seat) (s : Seat) → AreUnwornSeats seats → IsUnwornSeat s → AreUnwornSeats (seats ++ s ∷ [])
@@ -32,7 +33,7 @@ fresh_unworn : (s : Seat) → IsFreshSeat s → IsUnwornSeat s
 fresh_unworn (Open b) f = tt
 fresh_unworn (Over e) f = absurd f
 
-fresh_sits : (np : NamedPolicy) (start p : Port) (others : ℕ) (s : Seat) → IsFreshSeat s → SameBytes start p → others < most_open → Sits np start (newly others p) [] s
+fresh_sits : (np : NamedPolicy) (start p : Port) (others : ℕ) (s : Seat) → IsFreshSeat s → SameBytes start p → others < MOST_OPEN → Sits np start (newly others p) [] s
 fresh_sits np start p others (Open b) f same few = (sits_first np start p others b.value f same few, refl, few)
 fresh_sits np start p others (Over e) f same few = absurd f
 
@@ -42,8 +43,8 @@ false_true e = absurd cc
 pub over_unworn : (s : Seat) (e : Polled) (end : PollEnd) → s ≡ Over e → e.outcome ≡ end → is_worn_end end ≡ false → IsUnwornSeat s
 over_unworn s e end is ends calm = subst IsUnwornSeat (sym is) (ap is_worn_end ends ∙ calm)
 
-module _ {M : Type 0} (np : NamedPolicy) (first : List Entry) (legal : List Entry → Type 0) (now : List Entry → ℕ) (number : ℕ) (o p : Spot M) (start a b : Harbour) (seats : List Seat) (busy : ℕ) (turns : List Turn)
-    (x : Tabled np first legal now number o p start a seats busy turns) (unowed_all : NoneOwed a) (unworn_all : AreUnwornSeats seats) where
+module _ {M : Type 0} (np : NamedPolicy) (first : List Entry) (legal : List Entry → Type 0) (now : List Entry → ℕ) (number : ℕ) (o p : FrontSpot M) (start a b : Harbour) (seats : List Seat) (busy : ℕ) (turns : List Turn)
+    (x : Tabled np first legal now number o p start a seats busy turns) (unowed_all : NoneOwed a) (unworn_all : AreUnwornSeats seats) (sound : faults_told a.told ≡ 0) where
   -- the table behind the opening of a link
   pub record Seated (d : Harbour) (seats' : List Seat) (busy' : ℕ) : Type 0 where
     pub tabled : Tabled np first legal now number o p start d seats' busy' turns
@@ -65,7 +66,7 @@ module _ {M : Type 0} (np : NamedPolicy) (first : List Entry) (legal : List Entr
     here_is : b.port (a.opened + 1) ≡ newly (open_among a.port a.opened) (a.port (a.opened + 1))
     here_is = subst (λ (j : ℕ). b.port j ≡ newly (open_among a.port a.opened) (a.port j)) is (opened_here a b c h)
 
-    pub opened_full : (d : Harbour) (seats' : List Seat) (busy' : ℕ) → most_open ≤ busy → busy ≤ 1024 → Finishes b d c → busy' ≡ busy → seats' ≡ seats ++ Over (record { asked = 0; denied = 0; outcome = Full }) ∷ []
+    pub opened_full : (d : Harbour) (seats' : List Seat) (busy' : ℕ) → MOST_OPEN ≤ busy → busy ≤ 1024 → Finishes b d c → busy' ≡ busy → seats' ≡ seats ++ Over (record { asked = 0; denied = 0; outcome = Full }) ∷ []
         → Seated d seats' busy'
     opened_full d seats' busy' many low f busy_is seats_are =
         let s : Seat = Over (record { asked = 0; denied = 0; outcome = Full }) in
@@ -78,9 +79,10 @@ module _ {M : Type 0} (np : NamedPolicy) (first : List Entry) (legal : List Entr
         let same = x.ahead (a.opened + 1) (omega arith) in
         let l1 = h.cause.later in
         let l2 = f.faults in
+        let l3 = h.cause.kept in
         let none : (if is_none (d.port (a.opened + 1)).finished then 1 else 0) ≡ 0 = ap {B = ℕ} (λ (q : Port). if is_none q.finished then 1 else 0) port in
         let t : Tabled np first legal now number o p start d (seats ++ s ∷ []) busy' turns =
-        tabled_seated np first legal now number o p start a d seats busy busy' turns s x opened (omega (arith, l1, l2)) (λ k other. away k (λ e. other (e ∙ is)))
+        tabled_seated np first legal now number o p start a d seats busy busy' turns s x opened (omega (arith, l1, l2)) sound (omega (arith, l2, l3)) (λ k other. away k (λ e. other (e ∙ is)))
         (subst (λ (q : Port). Sits np (start.port (a.opened + 1)) q [] s) (sym port) (ends_full np (start.port (a.opened + 1)) (a.port (a.opened + 1)) n b.nexts same (omega (arith, many, count)), (b.nexts, refl), omega (arith, many, count), tt))
         (omega (arith, busy_is, count, none)) in
         record {
@@ -92,7 +94,7 @@ module _ {M : Type 0} (np : NamedPolicy) (first : List Entry) (legal : List Entr
           told = f.rest.told;
         }
 
-    pub opened_seated : (d : Harbour) (seats' : List Seat) (busy' : ℕ) (s : Seat) → busy < most_open → d ≡ b → busy' ≡ busy + 1 → IsFreshSeat s → seats' ≡ seats ++ s ∷ [] → Seated d seats' busy'
+    pub opened_seated : (d : Harbour) (seats' : List Seat) (busy' : ℕ) (s : Seat) → busy < MOST_OPEN → d ≡ b → busy' ≡ busy + 1 → IsFreshSeat s → seats' ≡ seats ++ s ∷ [] → Seated d seats' busy'
     opened_seated d seats' busy' s few d_is busy_is fresh seats_are =
         let n = open_among a.port a.opened in
         let count = x.count in
@@ -101,7 +103,7 @@ module _ {M : Type 0} (np : NamedPolicy) (first : List Entry) (legal : List Entr
         let away : (k : ℕ) → k ≢ c → b.port k ≡ a.port k = λ k other. opened_away a b c k h other in
         let one : (if is_none (b.port (a.opened + 1)).finished then 1 else 0) ≡ 1 = ap {B = ℕ} (λ (q : Port). if is_none q.finished then 1 else 0) here_is in
         let t : Tabled np first legal now number o p start b (seats ++ s ∷ []) busy' turns =
-        tabled_seated np first legal now number o p start a b seats busy busy' turns s x opened h.cause.later (λ k other. away k (λ e. other (e ∙ is)))
+        tabled_seated np first legal now number o p start a b seats busy busy' turns s x opened h.cause.later sound (let kept = h.cause.kept in omega (arith, kept)) (λ k other. away k (λ e. other (e ∙ is)))
         (subst (λ (q : Port). Sits np (start.port (a.opened + 1)) q [] s) (sym here_is) (fresh_sits np (start.port (a.opened + 1)) (a.port (a.opened + 1)) n s fresh same (omega (arith, few, count))))
         (omega (arith, busy_is, count, one)) in
         let r : Seated b seats' busy' = record {
@@ -117,14 +119,14 @@ module _ {M : Type 0} (np : NamedPolicy) (first : List Entry) (legal : List Entr
   -- the table behind the service of a link that was ready
   module _ (c : ℕ) (h : Happens a b (Ok (Ready c))) where
     pub tabled_ready : Tabled np first legal now number o p start b seats busy turns
-    tabled_ready = tabled_owed np first legal now number o p start a b seats busy turns x h.opened h.cause.later (λ k. ready_owed a b c k h)
+    tabled_ready = tabled_owed np first legal now number o p start a b seats busy turns x h.opened h.cause.later sound (let kept = h.cause.kept in omega (arith, kept)) (λ k. ready_owed a b c k h)
 
     pub ready_sits : (seat : Seat) → 1 ≤ c → slice_get seats (c - 1) ≡ Some seat → Sits np (start.port c) (b.port c) (acted_of c turns) seat
     ready_sits seat one at =
         let e : c - 1 + 1 ≡ c = omega (arith, one) in
         subst (λ (j : ℕ). Sits np (start.port j) (b.port j) (acted_of j turns) seat) e (tabled_ready.sits (c - 1) seat at)
 
-    pub record Served (p' : Spot M) (d : Harbour) (seat' : Seat) (busy' : ℕ) : Type 0 where
+    pub record Served (p' : FrontSpot M) (d : Harbour) (seat' : Seat) (busy' : ℕ) : Type 0 where
       pub turns' : List Turn
       pub tabled : Tabled np first legal now number o p' start d (set seats (c - 1) seat') busy' turns'
       pub unworn : IsUnwornSeat seat' → AreUnwornSeats (set seats (c - 1) seat')
@@ -132,7 +134,7 @@ module _ {M : Type 0} (np : NamedPolicy) (first : List Entry) (legal : List Entr
       pub long : length (set seats (c - 1) seat') ≡ length seats
       pub told : d.told ≡ b.told
 
-    module _ (p' : Spot M) (d : Harbour) (seat seat' : Seat) (result : Option PollEnd) (low : c - 1 < length seats) (one : 1 ≤ c) (at : slice_get seats (c - 1) ≡ Some seat) (v : SeatServed np first legal now number p p' b d c seat seat' result) where
+    module _ (p' : FrontSpot M) (d : Harbour) (seat seat' : Seat) (result : Option PollEnd) (low : c - 1 < length seats) (one : 1 ≤ c) (at : slice_get seats (c - 1) ≡ Some seat) (v : SeatServed np first legal now number p p' b d c seat seat' result) where
       back : c - 1 + 1 ≡ c
       back = omega (arith, one)
 
@@ -146,7 +148,7 @@ module _ {M : Type 0} (np : NamedPolicy) (first : List Entry) (legal : List Entr
       served_next busy' count =
           record {
             turns' = gone.more ++ turns;
-            tabled = tabled_served np first legal now number o p p' start b d seats busy busy' (c - 1) turns seat seat' result tabled_ready at low gone_at.rest gone_at.later gone_at.ended count gone;
+            tabled = tabled_served np first legal now number o p p' start b d seats busy busy' (c - 1) turns seat seat' result tabled_ready at low gone_at.rest gone_at.later (gone_at.faults (start.port (c - 1 + 1)) (acted_of (c - 1 + 1) turns) (tabled_ready.sits (c - 1) seat at)) gone_at.ended count gone;
             unworn = λ one_more. unworn_set seats (c - 1) seat' low unworn_all one_more;
             unowed = λ k q.
                 let opened = v.rest.opened in

@@ -7,9 +7,14 @@ use Rattle.gt_io.specs.declared.source.Failed.{Failed}
 use Rattle.gt_io.specs.declared.port.Got.{Got}
 use Rattle.gt_io.specs.declared.port.Took.{Took}
 use Rattle.gt_io.specs.declared.port.Took.TheVariants.{Bytes, NotYet}
-use Rattle.gt_io.specs.declared.port.Called.TheVariants.{Wrote}
+use Rattle.gt_io.specs.declared.port.Called.{Called}
+use Rattle.gt_io.specs.declared.port.Called.TheVariants.{Nothing, Read, Wrote}
+use Rattle.gt_io.specs.Causes.{FailsOnce}
+use Rattle.gt_io.specs.Memory.{one_more}
 use Rattle.gt_io.specs.Ports.{Port, Harbour, IsOpen, KeepsRest, ReadsPort, WritesPort, Finishes, is_over}
-use Rattle.poll_front.specs.Fronts.{Tends}
+use Rattle.poll_front.specs.declared.parties.Pause.{Pause}
+use Rattle.poll_front.specs.declared.parties.Pause.TheVariants.{Later, End}
+use Rattle.poll_front.specs.Fronts.{Tends, FailsLast, StaysLive, PushesOut, Pushed, faults_by, faults_of}
 
 pub rest_twice : (a b d : Harbour) (c : ℕ) → KeepsRest a b c → KeepsRest b d c → KeepsRest a d c
 rest_twice a b d c x y =
@@ -50,3 +55,43 @@ given_grows start p q front text at n given more =
 
 pub given_stays : (start p q : Option (List ℕ)) (given : List ℕ) → Appends start p given → Appends p q [] → Appends start q given
 given_stays start p q given x more = subst (λ (l : List ℕ). Appends start q l) (append-nil given) (Appends-trans start p q given [] x more)
+
+by_call : (last : Called) → is_over last ≡ false → faults_by last ≡ 0
+by_call Nothing live = refl
+by_call (Read (Ok g)) live = refl
+by_call (Read (Err f)) live = absurd (cc live)
+by_call (Wrote (Ok t)) live = refl
+by_call (Wrote (Err f)) live = absurd (cc live)
+
+-- a link that has not come to its end shows no fault
+pub live_sound : (q : Port) → is_over q.last ≡ false → faults_of q ≡ 0
+live_sound q live = by_call q.last live
+
+pub fails_none : (a : Harbour) (c : ℕ) → FailsLast a a c
+fails_none a c = λ live. omega arith
+
+pub fails_twice : (a b d : Harbour) (c : ℕ) → FailsLast a b c → (is_over (a.port c).last ≡ false → is_over (b.port c).last ≡ false) → FailsLast b d c → FailsLast a d c
+fails_twice a b d c x mid y = λ live.
+    let l = x live in
+    let m = y (mid live) in
+    let none = live_sound (b.port c) (mid live) in
+    omega (arith, l, m, none)
+
+write_faults : (before now : ℕ) (q : Port) (result : Result Took Failed) → q.last ≡ Wrote result → FailsOnce before now result → now ≤ before + faults_of q
+write_faults before now q (Ok t) is x = let kept : now ≡ before = x.kept in omega (arith, kept)
+write_faults before now q (Err f) is x = let once : now ≡ one_more before = x.once in let one : faults_of q ≡ 1 = ap faults_by is in omega (arith, once, one)
+
+read_faults : (before now : ℕ) (q : Port) (result : Result Got Failed) → q.last ≡ Read result → FailsOnce before now result → now ≤ before + faults_of q
+read_faults before now q (Ok t) is x = let kept : now ≡ before = x.kept in omega (arith, kept)
+read_faults before now q (Err f) is x = let once : now ≡ one_more before = x.once in let one : faults_of q ≡ 1 = ap faults_by is in omega (arith, once, one)
+
+pub fails_write : (b d : Harbour) (c : ℕ) (piece : List ℕ) (result : Result Took Failed) → WritesPort b d c piece result → FailsLast b d c
+fails_write b d c piece result w = λ live. write_faults b.faults d.faults (d.port c) result (ap (λ (q : Port). q.last) w.port.rest) w.cause
+
+pub fails_read : (b d : Harbour) (c : ℕ) (buf : List ℕ) (result : Result Got Failed) → ReadsPort b d c buf result → FailsLast b d c
+fails_read b d c buf result r = λ live. read_faults b.faults d.faults (d.port c) result (ap (λ (q : Port). q.last) r.port.rest) r.cause
+
+-- what was written whole leaves the link as alive as it was
+pub pushed_live : (a b : Harbour) (c : ℕ) (text : List ℕ) (at at' : ℕ) {T : Type 0} (result : Result T Pause) → PushesOut a b c text at at' result → StaysLive (a.port c) (b.port c) result
+pushed_live a b c text at at' {T} (Ok t) p = p.pushed.1
+pushed_live a b c text at at' {T} (Err e) p = tt

@@ -14,9 +14,10 @@ use Rattle.poll_front.specs.declared.parties.Pause.TheVariants.{Later, End}
 use Rattle.poll_front.specs.declared.seats.Seat.{Seat}
 use Rattle.poll_front.specs.declared.seats.Seat.TheVariants.{Open, Over}
 use Rattle.std.specs.Global.{Box}
-use Rattle.poll_front.specs.Fronts.{Turn, Spot, acted_of, Running, Stands, Rests, Ends, PollsBy, Gone, Tends, Attends, HasOwnEnd, most_open}
+use Rattle.poll_front.specs.Fronts.{Turn, FrontSpot, acted_of, Running, PartyStands, Rests, EndsLink, PollsBy, Gone, Tends, FailsLast, Attends, HasOwnEnd, faults_by}
 use Rattle.poll_front.specs.Tables.{Sits, IsLetIn, IsUnwornSeat, SeatGone, SeatServed}
-use Rattle.poll_front.proofs.Pushing.{rest_twice, tends_none}
+use Rattle.poll_front.proofs.Pushing.{rest_twice, tends_none, live_sound}
+use Rattle.poll_front.specs.declared.front.TheConstants.{MOST_OPEN}
 
 done_polls : (q : Port) (n : ℕ) (taken : List ℕ) (end : PollEnd) → PollsBy q taken end → PollsBy (record q { owed = false; finished = Some n }) taken end
 done_polls q n taken Ended x = x
@@ -28,7 +29,7 @@ done_polls q n taken Stopped x = x
 done_polls q n taken (Worn m) x = x
 
 -- to be finished changes nothing of what a link came to
-pub ends_done : (np : NamedPolicy) (start q : Port) (n asked denied : ℕ) (acted : List Acted) (end : PollEnd) → Ends np start q asked denied acted end → Ends np start (record q { owed = false; finished = Some n }) asked denied acted end
+pub ends_done : (np : NamedPolicy) (start q : Port) (n asked denied : ℕ) (acted : List Acted) (end : PollEnd) → EndsLink np start q asked denied acted end → EndsLink np start (record q { owed = false; finished = Some n }) asked denied acted end
 ends_done np start q n asked denied acted end x =
     record {
       taken = x.taken;
@@ -45,7 +46,7 @@ ends_done np start q n asked denied acted end x =
       cause = done_polls q n x.taken end x.cause;
     }
 
-let_in_by : (q r : Port) (taken : List ℕ) (end : PollEnd) → PollsBy q taken end → r.others ≡ q.others → q.others < most_open → IsLetIn r end
+let_in_by : (q r : Port) (taken : List ℕ) (end : PollEnd) → PollsBy q taken end → r.others ≡ q.others → q.others < MOST_OPEN → IsLetIn r end
 let_in_by q r taken Full x same low = let many = x.1 in omega (arith, many, same)
 let_in_by q r taken Ended x same low = omega (arith, same, low)
 let_in_by q r taken ReadFault x same low = omega (arith, same, low)
@@ -68,13 +69,14 @@ some_none x e = absurd cc
 
 module _ {M : Type 0} (np : NamedPolicy) (first : List Entry) (legal : List Entry → Type 0) (now : List Entry → ℕ) (number : ℕ) where
   -- the link had ended before
-  pub seat_over : (p : Spot M) (a : Harbour) (c : ℕ) (e : Polled) → SeatServed np first legal now number p p a a c (Over e) (Over e) None
+  pub seat_over : (p : FrontSpot M) (a : Harbour) (c : ℕ) (e : Polled) → SeatServed np first legal now number p p a a c (Over e) (Over e) None
   seat_over p a c e =
       let t = tends_none a c in
       record {
         rest = t.rest;
         others = refl;
         later = t.later;
+        faults = λ start acted s. omega arith;
         ended = refl;
         over = λ end same. absurd (none_some end same);
         served = λ o start turns r s u.
@@ -90,13 +92,18 @@ module _ {M : Type 0} (np : NamedPolicy) (first : List Entry) (legal : List Entr
       }
 
   -- there is nothing to do for it yet
-  pub seat_later : (p p' : Spot M) (a b : Harbour) (c : ℕ) (s s' : Box Party) → Tends a b c → Attends np first legal now number p p' (a.port c) (b.port c) c s.value s'.value Later
+  pub seat_later : (p p' : FrontSpot M) (a b : Harbour) (c : ℕ) (s s' : Box Party) → Tends a b c → FailsLast a b c → Attends np first legal now number p p' (a.port c) (b.port c) c s.value s'.value Later
       → SeatServed np first legal now number p p' a b c (Open s) (Open s') None
-  seat_later p p' a b c s s' t attends =
+  seat_later p p' a b c s s' t fails attends =
       record {
         rest = t.rest;
         others = t.others;
         later = t.later;
+        faults = λ start acted x.
+            let live = x.0.stands.live in
+            let none = live_sound (a.port c) live in
+            let few = fails live in
+            omega (arith, none, few);
         ended = t.finished;
         over = λ end same. absurd (none_some end same);
         served = λ o start turns r x u.
@@ -115,15 +122,22 @@ module _ {M : Type 0} (np : NamedPolicy) (first : List Entry) (legal : List Entr
       }
 
   -- it has ended, and is let go
-  pub seat_ended : (p p' : Spot M) (a b d : Harbour) (c : ℕ) (s s' : Box Party) (end : PollEnd) (e : Polled) → IsOpen a c → Tends a b c → Attends np first legal now number p p' (a.port c) (b.port c) c s.value s'.value (End end)
+  pub seat_ended : (p p' : FrontSpot M) (a b d : Harbour) (c : ℕ) (s s' : Box Party) (end : PollEnd) (e : Polled) → IsOpen a c → Tends a b c → FailsLast a b c → Attends np first legal now number p p' (a.port c) (b.port c) c s.value s'.value (End end)
       → Finishes b d c → e ≡ record { asked = s'.value.talk.asked; denied = s'.value.talk.denied; outcome = end } → SeatServed np first legal now number p p' a d c (Open s) (Over e) (Some end)
-  seat_ended p p' a b d c s s' end e opened t attends f is =
+  seat_ended p p' a b d c s s' end e opened t fails attends f is =
       let done : Polled = record { asked = s'.value.talk.asked; denied = s'.value.talk.denied; outcome = end } in
       let other = ap (λ (q : Port). q.others) f.port in
       record {
         rest = rest_twice a b d c t.rest f.rest;
         others = other ∙ t.others;
         later = let l = t.later in let same = f.faults in omega (arith, l, same);
+        faults = λ start acted x.
+            let live = x.0.stands.live in
+            let none = live_sound (a.port c) live in
+            let few = fails live in
+            let kept = ap (λ (q : Port). faults_by q.last) f.port in
+            let same = f.faults in
+            omega (arith, none, few, kept, same);
         ended = (opened.unfinished, (b.nexts, ap (λ (q : Port). q.finished) f.port));
         over = λ end' same. (e, refl, ap (λ (x : Polled). x.outcome) is ∙ some_is end end' same);
         served = λ o start turns r x u.
@@ -132,7 +146,7 @@ module _ {M : Type 0} (np : NamedPolicy) (first : List Entry) (legal : List Entr
             let others = t.others in
             let ends = y.comes.0 in
             let z : Sits np start (d.port c) (acted_of c (y.more ++ turns)) (Over done) = (
-              subst (λ (q : Port). Ends np start q s'.value.talk.asked s'.value.talk.denied (acted_of c (y.more ++ turns)) end) (sym f.port) (ends_done np start (b.port c) b.nexts s'.value.talk.asked s'.value.talk.denied (acted_of c (y.more ++ turns)) end ends),
+              subst (λ (q : Port). EndsLink np start q s'.value.talk.asked s'.value.talk.denied (acted_of c (y.more ++ turns)) end) (sym f.port) (ends_done np start (b.port c) b.nexts s'.value.talk.asked s'.value.talk.denied (acted_of c (y.more ++ turns)) end ends),
               (b.nexts, ap (λ (q : Port). q.finished) f.port),
               let_in_by (b.port c) (d.port c) ends.taken end ends.cause other (omega (arith, others, few)),
               y.comes.1,

@@ -14,7 +14,7 @@ use Rattle.gt_io.specs.Frames.{Frame}
 use Rattle.connection_laws.specs.Cuts.{whole_lines}
 use Rattle.connection_laws.specs.Fits.{FrameFits}
 use Rattle.connection_laws.specs.Desks.{IsNamedActor}
-use Rattle.connection_laws.specs.Connection.{Acted, lines_of, text_of}
+use Rattle.connection_laws.specs.Connection.{Acted, reply_lines, replies_text}
 use Rattle.connection_laws.proofs.Cutting.{lines_more}
 use Rattle.poll_front.specs.declared.ends.Polled.{Polled}
 use Rattle.poll_front.specs.declared.ends.PollEnd.{PollEnd}
@@ -22,10 +22,12 @@ use Rattle.poll_front.specs.declared.ends.PollEnd.TheVariants.{Ended, ReadFault,
 use Rattle.poll_front.specs.declared.parties.Party.{Party}
 use Rattle.poll_front.specs.declared.seats.Seat.{Seat}
 use Rattle.poll_front.specs.declared.seats.Seat.TheVariants.{Open, Over}
-use Rattle.poll_front.specs.Fronts.{Turn, acted_of, waiting, Stands, Rests, Ends, IsPolled, PollsBy, IsWhole, IsCut, given_text, HasOwnEnd, most_bytes, most_open}
+use Rattle.poll_front.specs.Fronts.{Turn, acted_of, waiting_bytes, PartyStands, Rests, EndsLink, IsPolled, PollsBy, IsWrittenWhole, IsCut, given_text, HasOwnEnd}
 use Rattle.poll_front.specs.Tables.{IsFreshParty, Sits, IsLetIn, IsLetGo, SameBytes, EndsSeatAt}
 use Rattle.poll_front.proofs.Standing.{waits_none, ends_whole, part_given}
 use Rattle.poll_front.proofs.Turning.{acted_apart}
+use Rattle.poll_front.specs.declared.parties.TheConstants.{MOST_BYTES}
+use Rattle.poll_front.specs.declared.front.TheConstants.{MOST_OPEN}
 
 -- a link whose number is behind those of all turns has no line
 pub acted_none : (c n : ℕ) (turns : List Turn) → Each (λ (t : Turn). (1 ≤ t.link) × (t.link ≤ n)) turns → n < c → acted_of c turns ≡ []
@@ -34,7 +36,7 @@ acted_none c n (t ∷ ts) range ahead =
     acted_apart c t ts (λ same. let high = range.0.1 in absurd (omega (arith, same, high, ahead))) ∙ acted_none c n ts range.1 ahead
 
 -- whether it is owed is no part of what stands in a seat
-owed_stands : (np : NamedPolicy) (start q : Port) (o : Bool) (s : Party) (fed : List ℕ) (acted : List Acted) → Stands np start q s fed acted → Stands np start (record q { owed = o }) s fed acted
+owed_stands : (np : NamedPolicy) (start q : Port) (o : Bool) (s : Party) (fed : List ℕ) (acted : List Acted) → PartyStands np start q s fed acted → PartyStands np start (record q { owed = o }) s fed acted
 owed_stands np start q o s fed acted x =
     record {
       frame_fits = x.frame_fits;
@@ -72,7 +74,7 @@ owed_let q o Spent x = x
 owed_let q o Stopped x = x
 owed_let q o (Worn n) x = x
 
-owed_ends : (np : NamedPolicy) (start q : Port) (o : Bool) (asked denied : ℕ) (acted : List Acted) (end : PollEnd) → Ends np start q asked denied acted end → Ends np start (record q { owed = o }) asked denied acted end
+owed_ends : (np : NamedPolicy) (start q : Port) (o : Bool) (asked denied : ℕ) (acted : List Acted) (end : PollEnd) → EndsLink np start q asked denied acted end → EndsLink np start (record q { owed = o }) asked denied acted end
 owed_ends np start q o asked denied acted end x =
     record {
       taken = x.taken;
@@ -99,10 +101,10 @@ pub sits_owed : (np : NamedPolicy) (start q r : Port) (o : Bool) (acted : List A
 sits_owed np start q r o acted s is x = subst (λ (z : Port). Sits np start z acted s) (sym is) (owed_sits np start q o acted s x)
 
 -- a link that was just opened, in its seat
-pub sits_first : (np : NamedPolicy) (start p : Port) (others : ℕ) (s : Party) → IsFreshParty s → SameBytes start p → others < most_open
+pub sits_first : (np : NamedPolicy) (start p : Port) (others : ℕ) (s : Party) → IsFreshParty s → SameBytes start p → others < MOST_OPEN
     → Rests np start (newly others p) s []
 sits_first np start p others s f same few =
-    let none : waiting s ≡ [] = waits_none s (f.waits.0 ∙ sym f.waits.1) in
+    let none : waiting_bytes s ≡ [] = waits_none s (f.waits.0 ∙ sym f.waits.1) in
     let left = f.left in
     let upto = f.waits.1 in
     let from = f.waits.0 in
@@ -120,8 +122,8 @@ sits_first np start p others s f same few =
         denied = f.counts.1;
         told = f.told;
         given = subst (λ (o : Option (List ℕ)). Appends start.given o []) (sym same.given) (Appends-nil start.given);
-        taken = subst (λ (o : Option (List ℕ)). Appends start.taken o (waiting s)) (sym same.taken) (subst (λ (l : List ℕ). Appends start.taken start.taken l) (sym none) (Appends-nil start.taken));
-        left = subst (λ (o : Option (List ℕ)). Consumes start.left o (waiting s)) (sym same.left) (subst (λ (l : List ℕ). Consumes start.left start.left l) (sym none) (Consumes-nil start.left));
+        taken = subst (λ (o : Option (List ℕ)). Appends start.taken o (waiting_bytes s)) (sym same.taken) (subst (λ (l : List ℕ). Appends start.taken start.taken l) (sym none) (Appends-nil start.taken));
+        left = subst (λ (o : Option (List ℕ)). Consumes start.left o (waiting_bytes s)) (sym same.left) (subst (λ (l : List ℕ). Consumes start.left start.left l) (sym none) (Consumes-nil start.left));
         counted = omega (arith, left, l1);
         within = (omega (arith, upto, from), omega (arith, upto), omega (arith, upto));
         live = refl;
@@ -130,8 +132,8 @@ sits_first np start p others s f same few =
     }
 
 -- a link that was let go at once
-pub ends_full : (np : NamedPolicy) (start p : Port) (others nexts : ℕ) → SameBytes start p → most_open ≤ others
-    → Ends np start (record (newly others p) { owed = false; finished = Some nexts }) 0 0 [] Full
+pub ends_full : (np : NamedPolicy) (start p : Port) (others nexts : ℕ) → SameBytes start p → MOST_OPEN ≤ others
+    → EndsLink np start (record (newly others p) { owed = false; finished = Some nexts }) 0 0 [] Full
 ends_full np start p others nexts same many =
     record {
       taken = [];
@@ -150,17 +152,17 @@ ends_full np start p others nexts same many =
 
 -- a link that is open at the end
 pub ends_stopped : (np : NamedPolicy) (start q r : Port) (nexts : ℕ) (s : Party) (acted : List Acted) → Rests np start q s acted → r ≡ record q { owed = false; finished = Some nexts }
-    → Ends np start r s.talk.asked s.talk.denied acted Stopped
+    → EndsLink np start r s.talk.asked s.talk.denied acted Stopped
 ends_stopped np start q r nexts s acted x is =
     let t : Port = record q { owed = false; finished = Some nexts } in
     let y = x.stands in
     let counted = y.counted in
     let few = y.few in
-    let long = length-append x.fed (waiting s) in
-    let more = lines_more x.fed (waiting s) in
-    subst (λ (z : Port). Ends np start z s.talk.asked s.talk.denied acted Stopped) (sym is)
+    let long = length-append x.fed (waiting_bytes s) in
+    let more = lines_more x.fed (waiting_bytes s) in
+    subst (λ (z : Port). EndsLink np start z s.talk.asked s.talk.denied acted Stopped) (sym is)
     (⊎_elim (λ done. ends_whole np start q t s x.fed acted Stopped y done.0 done.1 refl (Appends-nil q.taken) (Consumes-nil q.left) (λ g. inl g) y.live) (λ cut. record {
-      taken = x.fed ++ waiting s;
+      taken = x.fed ++ waiting_bytes s;
       given = given_text np acted s.at;
       lines = (more.0, ap (λ (ls : List (List ℕ)). ls ++ more.0) y.lines ∙ more.1);
       polled = inr (part_given np acted s.at y.unworn cut.0, cut.1);

@@ -8,10 +8,11 @@ use Rattle.connection_laws.specs.Connection.{Acted, readings_of, asked_in, denie
 use Rattle.poll_front.specs.declared.seats.Seat.{Seat}
 use Rattle.poll_front.specs.declared.seats.Seat.TheVariants.{Open, Over}
 use Rattle.poll_front.specs.declared.parties.Pace.{Pace}
-use Rattle.poll_front.specs.Fronts.{Turn, Spot, acted_of, all_acted, waiting, Stands, Rests, Ends, Running, most_bytes}
+use Rattle.poll_front.specs.Fronts.{Turn, FrontSpot, acted_of, all_acted, waiting_bytes, PartyStands, Rests, EndsLink, Running}
 use Rattle.poll_front.specs.Tables.{Sits, CanServe, Tabled, IsOpenSeat, AreOpenSeats}
 use Rattle.poll_front.proofs.Standing.{last_within, waits_long}
 use Rattle.poll_front.proofs.Sums.{calls_few}
+use Rattle.poll_front.specs.declared.parties.TheConstants.{MOST_BYTES}
 
 one_few : (b : Bool) → one_where b ≤ 1
 one_few true = omega arith
@@ -34,7 +35,7 @@ lines_few np start q acted (Open b) x =
     let y = x.0.stands in
     let few = y.few in
     let counted = y.counted in
-    let long = length-append x.0.fed (waiting b.value) in
+    let long = length-append x.0.fed (waiting_bytes b.value) in
     omega (arith, few, counted, long)
 lines_few np start q acted (Over e) x = let few = x.0.few in let bounded = x.0.bounded in omega (arith, few, bounded)
 
@@ -45,7 +46,7 @@ can_serve np start a c pace acted (Open b) first last x calls =
     let y = x.0.stands in
     let few = y.few in
     let counted = y.counted in
-    let long = length-append x.0.fed (waiting s) in
+    let long = length-append x.0.fed (waiting_bytes s) in
     let within = y.within in
     let waits = waits_long s within.0 within.2 in
     let asked = y.asked in
@@ -69,7 +70,7 @@ open_seat : (np : NamedPolicy) (start q : Port) (acted : List Acted) (s : Seat) 
 open_seat np start q acted (Open b) x is = x.1
 open_seat np start q acted (Over e) x is = absurd is
 
-module _ {M : Type 0} (np : NamedPolicy) (first : List Entry) (legal : List Entry → Type 0) (now : List Entry → ℕ) (number : ℕ) (o p : Spot M) (start a : Harbour) (seats : List Seat) (busy : ℕ) (turns : List Turn) (x : Tabled np first legal now number o p start a seats busy turns) where
+module _ {M : Type 0} (np : NamedPolicy) (first : List Entry) (legal : List Entry → Type 0) (now : List Entry → ℕ) (number : ℕ) (o p : FrontSpot M) (start a : Harbour) (seats : List Seat) (busy : ℕ) (turns : List Turn) (x : Tabled np first legal now number o p start a seats busy turns) where
   sits_at : (k : ℕ) → 1 ≤ k → k ≤ a.opened → (s : Seat) × Sits np (start.port k) (a.port k) (acted_of k turns) s
   sits_at k first last =
       let opened = x.opened in

@@ -13,11 +13,11 @@ use Rattle.connection_laws.specs.Connection.{Acted}
 use Rattle.poll_front.specs.declared.ends.PollEnd.{PollEnd}
 use Rattle.poll_front.specs.declared.seats.Seat.{Seat}
 use Rattle.poll_front.specs.declared.seats.Seat.TheVariants.{Open, Over}
-use Rattle.poll_front.specs.Fronts.{Turn, Spot, acted_of, Running}
-use Rattle.poll_front.specs.Tables.{Sits, SameBytes, SeatGone, SeatServed, Tabled, IsUnwornSeat, AreUnwornSeats}
+use Rattle.poll_front.specs.Fronts.{Turn, FrontSpot, acted_of, faults_of, Running}
+use Rattle.poll_front.specs.Tables.{Sits, SameBytes, SeatGone, SeatServed, Tabled, IsUnwornSeat, AreUnwornSeats, faults_among, faults_told}
 use mathlib.Core.Logic.{dite}
 use native.Mathlib.Decide.{ℕ_discrete}
-use Rattle.poll_front.proofs.Counting.{count_same, count_less}
+use Rattle.poll_front.proofs.Counting.{count_same, count_less, faults_same, faults_moved}
 use Rattle.poll_front.proofs.Turning.{apart_all, running_none}
 use Rattle.poll_front.proofs.Seating.{sits_owed, acted_none}
 use Rattle.poll_front.proofs.ListSteps.{set_cases, push_cases}
@@ -42,13 +42,13 @@ counted_by a b c busy busy' count first last rest (Some end) ends is =
     e ∙ ap (open_among b.port) (sym rest.opened)
 
 module _ {M : Type 0} (np : NamedPolicy) (first : List Entry) (legal : List Entry → Type 0) (now : List Entry → ℕ) (number : ℕ) where
-  abbrev Is : Spot M → Spot M → Harbour → Harbour → List Seat → ℕ → List Turn → Type 0
+  abbrev Is : FrontSpot M → FrontSpot M → Harbour → Harbour → List Seat → ℕ → List Turn → Type 0
   Is o p start a seats busy turns = Tabled np first legal now number o p start a seats busy turns
 
   -- an event that opens no link changes at most who is owed
-  pub tabled_owed : (o p : Spot M) (start a b : Harbour) (seats : List Seat) (busy : ℕ) (turns : List Turn) → Is o p start a seats busy turns → b.opened ≡ a.opened → a.faults ≤ b.faults
+  pub tabled_owed : (o p : FrontSpot M) (start a b : Harbour) (seats : List Seat) (busy : ℕ) (turns : List Turn) → Is o p start a seats busy turns → b.opened ≡ a.opened → a.faults ≤ b.faults → faults_told a.told ≡ 0 → b.faults ≤ a.faults + faults_told b.told
       → ((k : ℕ) → b.port k ≡ record (a.port k) { owed = (b.port k).owed }) → Is o p start b seats busy turns
-  tabled_owed o p start a b seats busy turns x opened later same =
+  tabled_owed o p start a b seats busy turns x opened later calm few same =
       record {
         running = x.running;
         opened = opened ∙ x.opened;
@@ -63,15 +63,20 @@ module _ {M : Type 0} (np : NamedPolicy) (first : List Entry) (legal : List Entr
             };
         range = subst (λ (n : ℕ). Each (λ (t : Turn). (1 ≤ t.link) × (t.link ≤ n)) turns) (sym opened) x.range;
         later = let l = x.later in omega (arith, l, later);
+        faults =
+            let f = x.faults in
+            let shown = faults_same a.port b.port a.opened (λ k one low. ap (λ (q : Port). q.last) (same k)) in
+            let count = ap (faults_among b.port) opened in
+            omega (arith, f, calm, few, shown, count);
       }
 
   -- a link was served in its seat
-  pub tabled_served : (o p p' : Spot M) (start a b : Harbour) (seats : List Seat) (busy busy' i : ℕ) (turns : List Turn) (seat seat' : Seat) (result : Option PollEnd) → Is o p start a seats busy turns
-      → slice_get seats i ≡ Some seat → i < length seats → KeepsRest a b (i + 1) → a.faults ≤ b.faults
+  pub tabled_served : (o p p' : FrontSpot M) (start a b : Harbour) (seats : List Seat) (busy busy' i : ℕ) (turns : List Turn) (seat seat' : Seat) (result : Option PollEnd) → Is o p start a seats busy turns
+      → slice_get seats i ≡ Some seat → i < length seats → KeepsRest a b (i + 1) → a.faults ≤ b.faults → b.faults + faults_of (a.port (i + 1)) ≤ a.faults + faults_of (b.port (i + 1))
       → MatchOption result ((b.port (i + 1)).finished ≡ (a.port (i + 1)).finished) (λ end. ((a.port (i + 1)).finished ≡ None) × ((n : ℕ) × ((b.port (i + 1)).finished ≡ Some n)))
       → MatchOption result (busy' ≡ busy) (λ end. busy' + 1 ≡ busy)
       → (g : SeatGone np first legal now number o p' (start.port (i + 1)) (b.port (i + 1)) (i + 1) turns seat' result) → Is o p' start b (set seats i seat') busy' (g.more ++ turns)
-  tabled_served o p p' start a b seats busy busy' i turns seat seat' result x at low rest later ends count g =
+  tabled_served o p p' start a b seats busy busy' i turns seat seat' result x at low rest later shown ends count g =
       let opened = rest.opened in
       let seats_are = x.opened in
       record {
@@ -92,13 +97,19 @@ module _ {M : Type 0} (np : NamedPolicy) (first : List Entry) (legal : List Entr
             each-append (λ (t : Turn). (1 ≤ t.link) × (t.link ≤ b.opened)) g.more turns (own_range (i + 1) b.opened g.more g.own (omega arith) (omega (arith, opened, seats_are, low)))
             (subst (λ (n : ℕ). Each (λ (t : Turn). (1 ≤ t.link) × (t.link ≤ n)) turns) (sym rest.opened) r);
         later = let l = x.later in omega (arith, l, later);
+        faults =
+            let f = x.faults in
+            let moved = faults_moved a.port b.port (i + 1) a.opened (omega arith) (omega (arith, seats_are, low)) (λ k away. ap (λ (q : Port). q.last) (rest.others k away)) in
+            let told = ap faults_told rest.told in
+            let all = ap (faults_among b.port) opened in
+            omega (arith, f, shown, moved, told, all);
       }
 
   -- a link that was just opened has its seat
-  pub tabled_seated : (o p : Spot M) (start a d : Harbour) (seats : List Seat) (busy busy' : ℕ) (turns : List Turn) (s : Seat) → Is o p start a seats busy turns → d.opened ≡ a.opened + 1 → a.faults ≤ d.faults
+  pub tabled_seated : (o p : FrontSpot M) (start a d : Harbour) (seats : List Seat) (busy busy' : ℕ) (turns : List Turn) (s : Seat) → Is o p start a seats busy turns → d.opened ≡ a.opened + 1 → a.faults ≤ d.faults → faults_told a.told ≡ 0 → d.faults ≤ a.faults
       → ((k : ℕ) → k ≢ a.opened + 1 → d.port k ≡ a.port k) → Sits np (start.port (a.opened + 1)) (d.port (a.opened + 1)) [] s → busy' ≡ open_among a.port a.opened + (if is_none (d.port (a.opened + 1)).finished then 1 else 0)
       → Is o p start d (seats ++ s ∷ []) busy' turns
-  tabled_seated o p start a d seats busy busy' turns s x opened later others sits count =
+  tabled_seated o p start a d seats busy busy' turns s x opened later calm kept others sits count =
       let n = x.opened in
       let long = length-append seats (s ∷ []) in
       record {
@@ -119,10 +130,16 @@ module _ {M : Type 0} (np : NamedPolicy) (first : List Entry) (legal : List Entr
         ahead = λ k high. subst (λ (q : Port). SameBytes (start.port k) q) (sym (others k (λ same. absurd (omega (arith, same, high, opened))))) (x.ahead k (omega (arith, high, opened)));
         range = range_wider a.opened d.opened turns (omega (arith, opened)) x.range;
         later = let l = x.later in omega (arith, l, later);
+        faults =
+            let f = x.faults in
+            let e : d.opened ≡ suc a.opened = omega (arith, opened) in
+            let all : faults_among d.port d.opened ≡ faults_among d.port a.opened + faults_of (d.port (a.opened + 1)) = ap (faults_among d.port) e in
+            let shown = faults_same a.port d.port a.opened (λ k one low. ap (λ (q : Port). q.last) (others k (λ same. absurd (omega (arith, same, low))))) in
+            omega (arith, f, calm, kept, all, shown);
       }
 
   -- before the first event
-  pub tabled_none : (o : Spot M) (start : Harbour) (seats : List Seat) → start.opened ≡ 0 → seats ≡ [] → Is o o start start seats 0 []
+  pub tabled_none : (o : FrontSpot M) (start : Harbour) (seats : List Seat) → start.opened ≡ 0 → seats ≡ [] → Is o o start start seats 0 []
   tabled_none o start seats none empty =
       let e : start.opened ≡ length seats = none ∙ sym (ap (λ (l : List Seat). length l) empty) in
       record {
@@ -133,6 +150,7 @@ module _ {M : Type 0} (np : NamedPolicy) (first : List Entry) (legal : List Entr
         ahead = λ k high. record { left = refl; taken = refl; given = refl };
         range = tt;
         later = omega arith;
+        faults = omega arith;
       }
 
 -- what an event makes of the links

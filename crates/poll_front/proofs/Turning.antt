@@ -21,9 +21,9 @@ use Rattle.connection_laws.proofs.Places.{part_of-append, all_mine, none_mine}
 use Rattle.connection_laws.specs.Turns.{Grows, AreMine}
 use Rattle.connection_laws.proofs.Growing.{grown_none, grown_twice}
 use Rattle.connection_laws.specs.declared.talk.Talk.{Talk}
-use Rattle.connection_laws.specs.declared.talk.Told.{Told}
+use Rattle.connection_laws.specs.declared.talk.LineAnswer.{LineAnswer}
 use Rattle.poll_front.specs.declared.parties.Pace.{Pace}
-use Rattle.poll_front.specs.Fronts.{Turn, Spot, acted_of, all_acted, Running, Hears}
+use Rattle.poll_front.specs.Fronts.{Turn, FrontSpot, acted_of, all_acted, Running, Hears}
 
 part_here : (n k : ℕ) (t : Turn) (before : List Acted) (b : Bool) → (t.link == k) ≡ b → AreMine (by n t.link) t.acted.entries
     → entries_of before ++ part_of (by n k) t.acted.entries ≡ entries_of (cond b (t.acted ∷ before) before)
@@ -63,7 +63,7 @@ apart_all c k (t ∷ ts) turns own other =
     acted_apart k t (ts ++ turns) (λ same. other (sym same ∙ own.0)) ∙ apart_all c k ts turns own.1 other
 
 module _ {M : Type 0} (np : NamedPolicy) (first : List Entry) (legal : List Entry → Type 0) (now : List Entry → ℕ) (number : ℕ) where
-  fits_next : (k c : ℕ) (o p p' : Spot M) (turns : List Turn) (talk talk' : Talk) (line : List ℕ) (told : Told) (b : Bool) → (c == k) ≡ b
+  fits_next : (k c : ℕ) (o p p' : FrontSpot M) (turns : List Turn) (talk talk' : Talk) (line : List ℕ) (told : LineAnswer) (b : Bool) → (c == k) ≡ b
       → (g : Running np first legal now number o p turns) → talk.actor ≡ actor_after np (acted_of c turns)
       → (x : Hears np first legal now (by number c) p.pass p'.pass talk talk' p.pace p'.pace p.clock p'.clock line told)
       → (birth : ℕ) → IsTimed birth legal now
@@ -86,7 +86,7 @@ module _ {M : Type 0} (np : NamedPolicy) (first : List Entry) (legal : List Entr
       acted_longer np birth (by number k) p.pass.seen p'.pass.seen x.grows.seen (placed (by number k) first o.pass.own) (acted_of k turns) (g.fits k birth timed)
 
   -- a line of link c behind the lines so far
-  pub running_on : (c : ℕ) (o p p' : Spot M) (turns : List Turn) (talk talk' : Talk) (line : List ℕ) (told : Told)
+  pub running_on : (c : ℕ) (o p p' : FrontSpot M) (turns : List Turn) (talk talk' : Talk) (line : List ℕ) (told : LineAnswer)
       → (g : Running np first legal now number o p turns) → talk.actor ≡ actor_after np (acted_of c turns)
       → (x : Hears np first legal now (by number c) p.pass p'.pass talk talk' p.pace p'.pace p.clock p'.clock line told)
       → Running np first legal now number o p' (record { link = c; acted = x.acted } ∷ turns)
@@ -106,7 +106,7 @@ module _ {M : Type 0} (np : NamedPolicy) (first : List Entry) (legal : List Entr
       }
 
   -- before the first event
-  pub running_none : (o : Spot M) → Running np first legal now number o o []
+  pub running_none : (o : FrontSpot M) → Running np first legal now number o o []
   running_none o =
       record {
         grows = grown_none o.pass;

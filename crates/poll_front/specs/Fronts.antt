@@ -1,5 +1,5 @@
 -- What a front keeps from line to line.
-use Rattle.std.specs.Prelude.{◌≡◌, ◌⊎◌, ℕ, ◌+◌, ◌*◌, ◌^◌, ◌<◌, ◌≤◌, ◌==◌, Bool, true, false, cond, List, [], ◌∷◌, ◌++◌, ◌-◌, length, take, drop, None, Result, Ok, Err}
+use Rattle.std.specs.Prelude.{◌≡◌, ◌⊎◌, ℕ, ◌+◌, ◌*◌, ◌^◌, ◌<◌, ◌≤◌, ◌==◌, Bool, true, false, List, [], ◌∷◌, ◌++◌, ◌-◌, length, take, drop, None, OnOk, Result, Ok, Err, if◌then◌else◌}
 use Rattle.std.specs.declared.option.Option.{Option}
 use Rattle.std.specs.Io.KnownBytes.{Appends, Consumes, IsAtEnd}
 use mathlib.Core.List.{IsPrefix}
@@ -13,11 +13,11 @@ use Rattle.turn_lock.specs.Holders.{Holder}
 use Rattle.locked_history.specs.Fronts.{by}
 use Rattle.policy_words.specs.Naming.{NamedPolicy}
 use Rattle.request_text.specs.Phrases.{read_line}
-use Rattle.connection_laws.specs.declared.talk.Told.{Told}
+use Rattle.connection_laws.specs.declared.talk.LineAnswer.{LineAnswer}
 use Rattle.connection_laws.specs.declared.talk.Talk.{Talk}
-use Rattle.connection_laws.specs.declared.talk.Told.TheVariants.{Silence, Worn as ToldWorn}
+use Rattle.connection_laws.specs.declared.talk.LineAnswer.TheVariants.{Silence, Worn as ToldWorn}
 use Rattle.connection_laws.specs.Cuts.{whole_lines}
-use Rattle.connection_laws.specs.Connection.{Acted, Gets, is_accepted, is_denied, one_where, answer_text, actor_by, actor_after, lines_of, readings_of, entries_of, text_of, asked_in, denied_in, AreUnworn, AreActed, GivenAll, GivenPart, GivenBefore, IsTimed, placed}
+use Rattle.connection_laws.specs.Connection.{Acted, Gets, is_accepted, is_denied, one_where, answer_text, actor_by, actor_after, reply_lines, readings_of, entries_of, replies_text, asked_in, denied_in, AreUnworn, AreActed, GivenAll, GivenPart, GivenBefore, IsTimed, placed}
 use Rattle.connection_laws.specs.Fits.{FrameFits}
 use Rattle.connection_laws.specs.Desks.{IsNamedActor}
 use Rattle.connection_laws.specs.Turns.{Grows, AreMine, IsReached}
@@ -28,18 +28,13 @@ use Rattle.poll_front.specs.declared.parties.Party.{Party}
 use Rattle.poll_front.specs.declared.parties.Pace.{Pace}
 use Rattle.poll_front.specs.declared.parties.Pause.{Pause}
 use Rattle.poll_front.specs.declared.parties.Pause.TheVariants.{Later, End}
+use Rattle.poll_front.specs.declared.parties.TheConstants.{MOST_BYTES, MOST_READ}
+use Rattle.poll_front.specs.declared.front.TheConstants.{MOST_OPEN}
 use Rattle.gt_io.specs.declared.port.Got.TheVariants.{Finished}
 use Rattle.gt_io.specs.declared.port.Took.TheVariants.{NotYet}
 use Rattle.gt_io.specs.declared.port.Called.{Called}
 use Rattle.gt_io.specs.declared.port.Called.TheVariants.{Nothing, Read, Wrote}
 use Rattle.gt_io.specs.Ports.{Port, Harbour, KeepsRest, is_over}
-
--- how many bytes are taken from a link at most, and how many links are open at most
-abbrev pub most_bytes : ℕ
-most_bytes = 67_108_864
-
-abbrev pub most_open : ℕ
-most_open = 1024
 
 -- a line that was acted on, and the link that it came from
 pub record Turn : Type 0 where
@@ -51,7 +46,8 @@ pub record Turn : Type 0 where
 -- the lines of one link
 abbrev pub acted_of : ℕ → List Turn → List Acted
 acted_of c [] = []
-acted_of c (t ∷ before) = cond (t.link == c) (t.acted ∷ acted_of c before) (acted_of c before)
+acted_of c (t ∷ before) =
+    if t.link == c then t.acted ∷ acted_of c before else acted_of c before
 
 -- the lines of all links
 abbrev pub all_acted : List Turn → List Acted
@@ -59,10 +55,21 @@ all_acted [] = []
 all_acted (t ∷ before) = t.acted ∷ all_acted before
 
 -- a moment of a front: its pass, its clock, and its pace
-pub record Spot (M : Type 0) : Type 0 where
+pub record FrontSpot (M : Type 0) : Type 0 where
   pub pass : Holder M
   pub clock : Option (ℕ → ℕ)
   pub pace : Pace
+
+-- how many faults a link has shown: one where its last call failed
+abbrev pub faults_by : Called → ℕ
+faults_by Nothing = 0
+faults_by (Read (Ok g)) = 0
+faults_by (Read (Err f)) = 1
+faults_by (Wrote (Ok t)) = 0
+faults_by (Wrote (Err f)) = 1
+
+abbrev pub faults_of : Port → ℕ
+faults_of q = faults_by q.last
 
 -- a call on one link that is open before and after it
 pub record Tends (a b : Harbour) (c : ℕ) : Type 0 where
@@ -71,25 +78,34 @@ pub record Tends (a b : Harbour) (c : ℕ) : Type 0 where
   pub others : (b.port c).others ≡ (a.port c).others
   pub later : a.faults ≤ b.faults
 
+-- Of calls on one link that had not come to its end before, at most the last one failed
+abbrev pub FailsLast : Harbour → Harbour → ℕ → Type 0
+FailsLast a b c =
+    is_over (a.port c).last ≡ false → b.faults ≤ a.faults + faults_of (b.port c)
+
+-- and where it goes on, it has not come to its end
+abbrev pub StaysLive : Port → Port → {T : Type 0} → Result T Pause → Type 0
+StaysLive p q result = OnOk result (is_over p.last ≡ false → is_over q.last ≡ false)
+
 -- the bytes that wait to be acted on
-abbrev pub waiting : Party → List ℕ
-waiting s = drop s.from (take s.upto s.chunk)
+abbrev pub waiting_bytes : Party → List ℕ
+waiting_bytes s = drop s.from (take s.upto s.chunk)
 
 -- what was given where so many bytes of the last reply were written
 abbrev pub given_text : NamedPolicy → List Acted → ℕ → List ℕ
 given_text np [] at = []
-given_text np (a ∷ before) at = text_of np before ++ take at (answer_text np a.answer)
+given_text np (a ∷ before) at = replies_text np before ++ take at (answer_text np a.answer)
 
 -- what is told is the reply of the last line, of which so many bytes were written
-abbrev pub TellsLast : NamedPolicy → List Acted → Told → ℕ → Type 0
+abbrev pub TellsLast : NamedPolicy → List Acted → LineAnswer → ℕ → Type 0
 TellsLast np [] told at = (told ≡ Silence) × (at ≡ 0)
 TellsLast np (a ∷ before) told at =
     IsTold np told a.answer × (at ≤ length (answer_text np a.answer))
 
 -- the last reply was written whole
-abbrev pub IsWhole : NamedPolicy → List Acted → ℕ → Type 0
-IsWhole np [] at = Unit {0}
-IsWhole np (a ∷ before) at = at ≡ length (answer_text np a.answer)
+abbrev pub IsWrittenWhole : NamedPolicy → List Acted → ℕ → Type 0
+IsWrittenWhole np [] at = Unit {0}
+IsWrittenWhole np (a ∷ before) at = at ≡ length (answer_text np a.answer)
 
 -- it was not
 abbrev pub IsCut : NamedPolicy → List Acted → ℕ → Type 0
@@ -98,10 +114,10 @@ IsCut np (a ∷ before) at = at < length (answer_text np a.answer)
 
 -- An open link: fed are its bytes that were acted on, and these are its acted lines. It began as
 -- start, before anything was taken from it
-pub record Stands (np : NamedPolicy) (start now : Port) (s : Party) (fed : List ℕ)
+pub record PartyStands (np : NamedPolicy) (start now : Port) (s : Party) (fed : List ℕ)
     (acted : List Acted) : Type 0 where
   pub frame_fits : FrameFits s.framer fed
-  pub lines : lines_of acted ≡ whole_lines fed
+  pub lines : reply_lines acted ≡ whole_lines fed
   pub few : length acted ≤ length fed
   pub unworn : AreUnworn acted
   pub actor : s.talk.actor ≡ actor_after np acted
@@ -110,18 +126,18 @@ pub record Stands (np : NamedPolicy) (start now : Port) (s : Party) (fed : List 
   pub denied : s.talk.denied ≡ denied_in acted
   pub told : TellsLast np acted s.told s.at
   pub given : Appends start.given now.given (given_text np acted s.at)
-  pub taken : Appends start.taken now.taken (fed ++ waiting s)
-  pub left : Consumes start.left now.left (fed ++ waiting s)
-  pub counted : length (fed ++ waiting s) + s.left ≡ most_bytes
-  pub within : (s.from ≤ s.upto) × (s.upto ≤ 4096) × (s.upto ≤ length s.chunk)
+  pub taken : Appends start.taken now.taken (fed ++ waiting_bytes s)
+  pub left : Consumes start.left now.left (fed ++ waiting_bytes s)
+  pub counted : length (fed ++ waiting_bytes s) + s.left ≡ MOST_BYTES
+  pub within : (s.from ≤ s.upto) × (s.upto ≤ MOST_READ) × (s.upto ≤ length s.chunk)
   pub live : is_over now.last ≡ false
 
 -- it is left for another: all of its bytes were acted on and told, or its last reply waits for room
 pub record Rests (np : NamedPolicy) (start now : Port) (s : Party) (acted : List Acted)
     : Type 0 where
   pub fed : List ℕ
-  pub stands : Stands np start now s fed acted
-  pub waits : (IsWhole np acted s.at × (s.from ≡ s.upto))
+  pub stands : PartyStands np start now s fed acted
+  pub waits : (IsWrittenWhole np acted s.at × (s.from ≡ s.upto))
       ⊎ (IsCut np acted s.at × (now.last ≡ Wrote (Ok NotYet)))
 
 -- what was given by the end of a link
@@ -137,20 +153,20 @@ IsPolled np taken given acted last Full = (taken ≡ []) × (given ≡ []) × (a
 
 -- each end has its cause
 abbrev pub PollsBy : Port → List ℕ → PollEnd → Type 0
-PollsBy q taken Ended = (q.last ≡ Read (Ok Finished)) × IsAtEnd q.left × (length taken < most_bytes)
-PollsBy q taken ReadFault = (f : Failed) × (q.last ≡ Read (Err f)) × (length taken < most_bytes)
+PollsBy q taken Ended = (q.last ≡ Read (Ok Finished)) × IsAtEnd q.left × (length taken < MOST_BYTES)
+PollsBy q taken ReadFault = (f : Failed) × (q.last ≡ Read (Err f)) × (length taken < MOST_BYTES)
 PollsBy q taken WriteFault = (f : Failed) × (q.last ≡ Wrote (Err f))
-PollsBy q taken Spent = (is_over q.last ≡ false) × (length taken ≡ most_bytes)
-PollsBy q taken Full = (q.last ≡ Nothing) × (most_open ≤ q.others)
+PollsBy q taken Spent = (is_over q.last ≡ false) × (length taken ≡ MOST_BYTES)
+PollsBy q taken Full = (q.last ≡ Nothing) × (MOST_OPEN ≤ q.others)
 PollsBy q taken Stopped = is_over q.last ≡ false
 PollsBy q taken (Worn n) = (is_over q.last ≡ false) × (n ≡ 2 ^ 40)
 
 -- what a link came to
-pub record Ends (np : NamedPolicy) (start now : Port) (asked denied : ℕ) (acted : List Acted)
+pub record EndsLink (np : NamedPolicy) (start now : Port) (asked denied : ℕ) (acted : List Acted)
     (end : PollEnd) : Type 0 where
   pub taken : List ℕ
   pub given : List ℕ
-  pub lines : IsPrefix (lines_of acted) (whole_lines taken)
+  pub lines : IsPrefix (reply_lines acted) (whole_lines taken)
   pub polled : IsPolled np taken given acted now.last end
   pub taken_is : Appends start.taken now.taken taken
   pub left_is : Consumes start.left now.left taken
@@ -158,7 +174,7 @@ pub record Ends (np : NamedPolicy) (start now : Port) (asked denied : ℕ) (acte
   pub asked_is : asked ≡ asked_in acted
   pub denied_is : denied ≡ denied_in acted
   pub few : length acted ≤ length taken
-  pub bounded : length taken ≤ most_bytes
+  pub bounded : length taken ≤ MOST_BYTES
   pub cause : PollsBy now taken end
 
 -- the run has not ended for it
@@ -170,15 +186,15 @@ HasOwnEnd _ = Unit {0}
 abbrev pub Comes : NamedPolicy → Port → Port → Party → List Acted → {T : Type 0} → Result T Pause
     → Type 0
 Comes np start now s acted (Ok t) =
-    (fed : List ℕ) × Stands np start now s fed acted × IsWhole np acted s.at
+    (fed : List ℕ) × PartyStands np start now s fed acted × IsWrittenWhole np acted s.at
 Comes np start now s acted (Err Later) = Rests np start now s acted × (now.owed ≡ false)
 Comes np start now s acted (Err (End e)) =
-    Ends np start now s.talk.asked s.talk.denied acted e × HasOwnEnd e
+    EndsLink np start now s.talk.asked s.talk.denied acted e × HasOwnEnd e
 
 module _ {M : Type 0} (np : NamedPolicy) (first : List Entry) (legal : List Entry → Type 0)
     (now : List Entry → ℕ) (number : ℕ) where
   -- the lines so far, of all links
-  pub record Running (o p : Spot M) (turns : List Turn) : Type 0 where
+  pub record Running (o p : FrontSpot M) (turns : List Turn) : Type 0 where
     pub grows : Grows o.pass p.pass (entries_of (all_acted turns))
         (2 * length (readings_of (all_acted turns)))
     pub mine : Each (λ (t : Turn). AreMine (by number t.link) t.acted.entries) turns
@@ -190,7 +206,7 @@ module _ {M : Type 0} (np : NamedPolicy) (first : List Entry) (legal : List Entr
     pub calls : p.pace.calls ≡ o.pace.calls + length (readings_of (all_acted turns))
 
   -- some lines of this link were acted on, and this is what it came to
-  pub record Gone (o p : Spot M) (start q : Port) (c : ℕ) (turns : List Turn) (s : Party)
+  pub record Gone (o p : FrontSpot M) (start q : Port) (c : ℕ) (turns : List Turn) (s : Party)
       {T : Type 0} (result : Result T Pause) : Type 0 where
     pub more : List Turn
     pub own : Each (λ (t : Turn). t.link ≡ c) more
@@ -199,11 +215,11 @@ module _ {M : Type 0} (np : NamedPolicy) (first : List Entry) (legal : List Entr
     pub worn_out : (n : ℕ) → result ≡ Err (End (Worn n)) → p.pass.draws ≡ 2 ^ 40
 
   -- whatever went before, the link goes on behind it
-  abbrev pub Goes : Spot M → Spot M → Port → Port → ℕ → Party → Party → {T : Type 0}
+  abbrev pub Goes : FrontSpot M → FrontSpot M → Port → Port → ℕ → Party → Party → {T : Type 0}
       → Result T Pause → Type 0
   Goes p p' q q' c s s' result =
-      (o : Spot M) (start : Port) (turns : List Turn) (fed : List ℕ) → Running o p turns
-      → Stands np start q s fed (acted_of c turns) → IsWhole np (acted_of c turns) s.at
+      (o : FrontSpot M) (start : Port) (turns : List Turn) (fed : List ℕ) → Running o p turns
+      → PartyStands np start q s fed (acted_of c turns) → IsWrittenWhole np (acted_of c turns) s.at
       → Gone o p' start q' c turns s' result
 
 -- Writing goes on with the reply, from the bytes at which it stands
@@ -229,7 +245,7 @@ pub record PushesOut (a b : Harbour) (c : ℕ) (text : List ℕ) (at at' : ℕ) 
 -- A read gives the bytes that wait next
 abbrev pub Filled : Port → Party → Party → {T : Type 0} → Result T Pause → Type 0
 Filled q s s' (Ok t) =
-    (n : ℕ) × (n ≤ s.left) × (n ≤ 4096)
+    (n : ℕ) × (n ≤ s.left) × (n ≤ MOST_READ)
     × (s' ≡ record s { chunk = s'.chunk; from = 0; upto = n; left = s.left - n })
     × (is_over q.last ≡ false) × (0 < n)
 Filled q s s' (Err Later) =
@@ -244,14 +260,15 @@ pub record FillsUp (a b : Harbour) (c : ℕ) (s s' : Party) {T : Type 0} (result
     : Type 0 where
   pub tends : Tends a b c
   pub given : (b.port c).given ≡ (a.port c).given
-  pub taken : Appends (a.port c).taken (b.port c).taken (waiting s')
-  pub left : Consumes (a.port c).left (b.port c).left (waiting s')
+  pub taken : Appends (a.port c).taken (b.port c).taken (waiting_bytes s')
+  pub left : Consumes (a.port c).left (b.port c).left (waiting_bytes s')
   pub filled : Filled (b.port c) s s' result
 
 -- What acting on a line does, but for its reply
 pub record Hears {M : Type 0} (np : NamedPolicy) (first : List Entry) (legal : List Entry → Type 0)
     (now : List Entry → ℕ) (who : Who) (before after : Holder M) (talk talk' : Talk)
-    (pace pace' : Pace) (clock clock' : Option (ℕ → ℕ)) (line : List ℕ) (told : Told) : Type 0 where
+    (pace pace' : Pace) (clock clock' : Option (ℕ → ℕ)) (line : List ℕ)
+    (told : LineAnswer) : Type 0 where
   pub acted : Acted
   pub line_is : acted.line ≡ line
   pub told_is : IsTold np told acted.answer
@@ -280,15 +297,17 @@ Counts talk talk' pace pace' n =
     × (pace'.calls ≤ pace.calls + n)
 
 -- how the telling of a line went
-abbrev pub Tells : Harbour → Harbour → ℕ → Told → ℕ → {T : Type 0} → Result T Pause → Type 0
-Tells a b c (ToldWorn n) at result = (b ≡ a) × (at ≡ 0) × (result ≡ Err (End (Worn n)))
-Tells a b c told at result = PushesOut a b c (told_bytes told) 0 at result
+abbrev pub TellsLine : Harbour → Harbour → ℕ → LineAnswer → ℕ → {T : Type 0} → Result T Pause
+    → Type 0
+TellsLine a b c (ToldWorn n) at result = (b ≡ a) × (at ≡ 0) × (result ≡ Err (End (Worn n)))
+TellsLine a b c told at result = PushesOut a b c (told_bytes told) 0 at result
 
 module _ {M : Type 0} (np : NamedPolicy) (first : List Entry) (legal : List Entry → Type 0)
     (now : List Entry → ℕ) (number : ℕ) where
   -- whatever went before, a link that stands is served until it is left for another
-  abbrev pub Attends : Spot M → Spot M → Port → Port → ℕ → Party → Party → Pause → Type 0
+  abbrev pub Attends : FrontSpot M → FrontSpot M → Port → Port → ℕ → Party → Party → Pause → Type 0
   Attends p p' q q' c s s' pause =
-      (o : Spot M) (start : Port) (turns : List Turn) (fed : List ℕ)
-      → Running np first legal now number o p turns → Stands np start q s fed (acted_of c turns)
+      (o : FrontSpot M) (start : Port) (turns : List Turn) (fed : List ℕ)
+      → Running np first legal now number o p turns
+      → PartyStands np start q s fed (acted_of c turns)
       → Gone np first legal now number o p' start q' c turns s' {T = Unit {0}} (Err pause)

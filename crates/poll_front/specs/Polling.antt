@@ -10,7 +10,7 @@ use Rattle.gt_io.specs.declared.port.Called.{Called}
 use Rattle.gt_io.specs.declared.port.Called.TheVariants.{Wrote}
 use Rattle.gt_io.specs.Ports.{Port, Harbour}
 use Rattle.turn_lock.specs.Turns.{Each, part}
-use Rattle.turn_lock.specs.Holders.{Holder, IsTold}
+use Rattle.turn_lock.specs.Holders.{Holder, IsToldBy}
 use Rattle.locked_history.specs.Fronts.{by}
 use Rattle.policy_words.specs.Naming.{NamedPolicy}
 use Rattle.connection_laws.specs.declared.ends.LinkEnd.TheVariants.{Ended as LinkEnded, ReadFault as LinkReadFault, WriteFault as LinkWriteFault, Spent as LinkSpent, Worn as LinkWorn}
@@ -18,9 +18,10 @@ use Rattle.connection_laws.specs.Connection.{Acted, readings_of, entries_of, ask
 use Rattle.poll_front.specs.declared.ends.Polled.{Polled}
 use Rattle.poll_front.specs.declared.ends.PollEnd.{PollEnd}
 use Rattle.poll_front.specs.declared.ends.PollEnd.TheVariants.{Ended, ReadFault, WriteFault, Spent, Full, Stopped, Worn}
-use Rattle.poll_front.specs.Fronts.{Turn, acted_of, all_acted, PollsBy, most_bytes}
+use Rattle.poll_front.specs.Fronts.{Turn, acted_of, all_acted, PollsBy}
 use Rattle.poll_front.specs.declared.front.RunEnd.{RunEnd}
 use Rattle.poll_front.specs.Tables.{IsLetIn, IsLetGo, Ran}
+use Rattle.poll_front.specs.declared.parties.TheConstants.{MOST_BYTES}
 
 -- The link is a connection over the history, with its part of it as its own entries. One that was
 -- open at the end has the text of all its whole lines, or its last write found no room and the last
@@ -55,7 +56,7 @@ pub record IsPolledLink (np : NamedPolicy) (birth : ℕ) (h : List Entry) (nexts
   pub taken_is : Appends start.taken now.taken taken
   pub left_is : Consumes start.left now.left taken
   pub given_is : Appends start.given now.given given
-  pub bounded : length taken ≤ most_bytes
+  pub bounded : length taken ≤ MOST_BYTES
   pub cause : PollsBy now taken e.outcome
   pub let_in : IsLetIn now e.outcome
   pub let_go : IsLetGo nexts now e.outcome
@@ -81,4 +82,4 @@ IsTellingOfFronts M np legal now =
     → (h : List Entry) (before after : Holder M) (clock clock' : Option (ℕ → ℕ))
     (start b : Harbour) (ends : List Polled) (end : RunEnd)
     → Ran np [] legal now 0 before after clock clock' start b ends end → before.own ≡ []
-    → after.number ≡ 0 → IsTold [] h after → IsPolledFront np birth h clock clock' start b ends
+    → after.number ≡ 0 → IsToldBy [] h after → IsPolledFront np birth h clock clock' start b ends

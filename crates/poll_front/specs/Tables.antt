@@ -1,6 +1,7 @@
 -- The table of links.
-use Rattle.std.specs.Prelude.{◌≡◌, ◌≢◌, ◌⊎◌, ℕ, ◌+◌, ◌-◌, ◌*◌, ◌^◌, ◌<◌, ◌≤◌, Bool, true, false, List, [], ◌∷◌, ◌++◌, length, drop, take, slice_get, Some, None, Ok, Err, MatchOption}
+use Rattle.std.specs.Prelude.{◌≡◌, ◌≢◌, ◌⊎◌, ℕ, zero, suc, ◌+◌, ◌-◌, ◌*◌, ◌^◌, ◌<◌, ◌≤◌, Bool, true, false, List, [], ◌∷◌, ◌++◌, length, drop, take, slice_get, Some, None, Ok, Err, MatchOption}
 use Rattle.std.specs.declared.option.Option.{Option}
+use Rattle.std.specs.declared.result.Result.{Result}
 use Rattle.gt_base.specs.declared.requests.Entry.{Entry}
 use Rattle.gt_base.specs.declared.requests.Actor.TheVariants.{Nobody}
 use Rattle.turn_lock.specs.Turns.{Each}
@@ -9,7 +10,7 @@ use Rattle.policy_words.specs.Naming.{NamedPolicy}
 use Rattle.gt_io.specs.Frames.{blank_frame}
 use Rattle.gt_io.specs.Causes.{Rose}
 use Rattle.gt_io.specs.declared.source.Failed.{Failed}
-use Rattle.connection_laws.specs.declared.talk.Told.TheVariants.{Silence}
+use Rattle.connection_laws.specs.declared.talk.LineAnswer.TheVariants.{Silence}
 use Rattle.connection_laws.specs.Connection.{Acted}
 use Rattle.connection_laws.specs.Desks.{IsNamedActor}
 use Rattle.connection_laws.specs.Acting.{told_bytes}
@@ -22,13 +23,12 @@ use Rattle.poll_front.specs.declared.parties.Party.{Party}
 use Rattle.poll_front.specs.declared.parties.Pace.{Pace}
 use Rattle.poll_front.specs.declared.seats.Seat.{Seat}
 use Rattle.poll_front.specs.declared.seats.Seat.TheVariants.{Open, Over}
+use Rattle.gt_io.specs.declared.port.PortEvent.{PortEvent}
 use Rattle.gt_io.specs.declared.port.PortEvent.TheVariants.{Opened, Ready, Stop}
 use Rattle.gt_io.specs.Ports.{Port, Harbour, IsOpen, KeepsRest, open_among}
-use Rattle.poll_front.specs.Fronts.{Turn, Spot, acted_of, waiting, Rests, Ends, HasOwnEnd, HasPlaces, Running, most_bytes, most_open}
-
--- how many links are opened at most
-abbrev pub most_links : ℕ
-most_links = 100_000
+use Rattle.poll_front.specs.Fronts.{Turn, FrontSpot, acted_of, waiting_bytes, faults_of, Rests, EndsLink, HasOwnEnd, HasPlaces, Running}
+use Rattle.poll_front.specs.declared.front.TheConstants.{MOST_LINKS, MOST_OPEN}
+use Rattle.poll_front.specs.declared.parties.TheConstants.{MOST_BYTES, MOST_READ}
 
 -- a party before its first byte
 pub record IsFreshParty (s : Party) : Type 0 where
@@ -36,7 +36,7 @@ pub record IsFreshParty (s : Party) : Type 0 where
   pub actor : s.talk.actor ≡ Nobody
   pub counts : (s.talk.asked ≡ 0) × (s.talk.denied ≡ 0)
   pub told : (s.told ≡ Silence) × (s.at ≡ 0)
-  pub left : s.left ≡ most_bytes
+  pub left : s.left ≡ MOST_BYTES
   pub waits : (s.from ≡ 0) × (s.upto ≡ 0)
 
 abbrev pub IsFreshSeat : Seat → Type 0
@@ -48,20 +48,20 @@ abbrev pub CanServe : NamedPolicy → Harbour → ℕ → Pace → Seat → Type
 CanServe np a c pace (Open b) =
     let s =
     b.value in IsOpen a c × IsNamedActor np s.talk.actor × (s.at ≤ length (told_bytes s.told))
-    × (s.from ≤ s.upto) × (s.upto ≤ 4096) × HasPlaces s.talk pace (s.upto - s.from + s.left)
+    × (s.from ≤ s.upto) × (s.upto ≤ MOST_READ) × HasPlaces s.talk pace (s.upto - s.from + s.left)
 CanServe np a c pace (Over polled) = Unit {0}
 
 -- a link is let go at once exactly where as many others were open as may be
 abbrev pub IsLetIn : Port → PollEnd → Type 0
-IsLetIn q Full = most_open ≤ q.others
-IsLetIn q _ = q.others < most_open
+IsLetIn q Full = MOST_OPEN ≤ q.others
+IsLetIn q _ = q.others < MOST_OPEN
 
 -- what stands in the place of a link
 abbrev pub Sits : NamedPolicy → Port → Port → List Acted → Seat → Type 0
 Sits np start q acted (Open b) =
-    Rests np start q b.value acted × (q.finished ≡ None) × (q.others < most_open)
+    Rests np start q b.value acted × (q.finished ≡ None) × (q.others < MOST_OPEN)
 Sits np start q acted (Over e) =
-    Ends np start q e.asked e.denied acted e.outcome × ((n : ℕ) × (q.finished ≡ Some n))
+    EndsLink np start q e.asked e.denied acted e.outcome × ((n : ℕ) × (q.finished ≡ Some n))
     × IsLetIn q e.outcome × HasOwnEnd e.outcome
 
 abbrev pub is_worn_end : PollEnd → Bool
@@ -89,23 +89,40 @@ abbrev pub AreUnwornSeats : List Seat → Type 0
 AreUnwornSeats seats = (i : ℕ) (s : Seat) → slice_get seats i ≡ Some s → IsUnwornSeat s
 
 -- before the first event
-abbrev pub first_spot : {M : Type 0} → Holder M → Option (ℕ → ℕ) → Spot M
+abbrev pub first_spot : {M : Type 0} → Holder M → Option (ℕ → ℕ) → FrontSpot M
 first_spot pass clock =
     record { pass = pass; clock = clock; pace = record { calls = 0; reached = None } }
 
 abbrev pub GoesTo : Harbour → Harbour → ℕ → List Seat → RunEnd → Type 0
 GoesTo start b draws seats EndStopped =
-    (b.told ≡ Some (Ok Stop)) × (length seats < most_links) × AreUnwornSeats seats
+    (b.told ≡ Some (Ok Stop)) × (length seats < MOST_LINKS) × AreUnwornSeats seats
 GoesTo start b draws seats PortFault =
     ((f : Failed) × (b.told ≡ Some (Err f))) × Rose start.faults b.faults
-    × (length seats < most_links) × AreUnwornSeats seats
+    × (length seats < MOST_LINKS) × AreUnwornSeats seats
 GoesTo start b draws seats Enough =
-    ((c : ℕ) × (b.told ≡ Some (Ok (Opened c)))) × (length seats ≡ most_links)
+    ((c : ℕ) × (b.told ≡ Some (Ok (Opened c)))) × (length seats ≡ MOST_LINKS)
 GoesTo start b draws seats EndWorn =
     ((c : ℕ) × (b.told ≡ Some (Ok (Ready c)))) × (draws ≡ 2 ^ 40)
     × ((i : ℕ)
     × ((e : Polled) × (slice_get seats i ≡ Some (Over e)) × (is_worn_end e.outcome ≡ true)))
 GoesTo start b draws seats Memory = Unit {0}
+
+-- how many faults the first n links have shown
+abbrev pub faults_among : (ℕ → Port) → ℕ → ℕ
+faults_among port zero = 0
+faults_among port (suc n) = faults_among port n + faults_of (port (n + 1))
+
+-- and `next`, as it was last called
+abbrev pub faults_told : Option (Result PortEvent Failed) → ℕ
+faults_told None = 0
+faults_told (Some (Ok event)) = 0
+faults_told (Some (Err f)) = 1
+
+-- Each call that failed is the last read or write of its link, or the last call of `next`: the count
+-- rose by no more than these
+abbrev pub FaultsAreLast : Harbour → Harbour → Type 0
+FaultsAreLast start b =
+    b.faults ≤ start.faults + (faults_among b.port b.opened + faults_told b.told)
 
 -- how a link that is open is let go; one that has ended stays as it is
 abbrev pub EndsSeatAt : Port → Port → ℕ → Seat → Polled → Type 0
@@ -144,12 +161,12 @@ AreUnwornEnds ends =
 -- why a run ended
 abbrev pub RunsTo : Harbour → Harbour → ℕ → List Polled → RunEnd → Type 0
 RunsTo start b draws ends EndStopped =
-    (b.told ≡ Some (Ok Stop)) × (b.opened < most_links) × AreUnwornEnds ends
+    (b.told ≡ Some (Ok Stop)) × (b.opened < MOST_LINKS) × AreUnwornEnds ends
 RunsTo start b draws ends PortFault =
-    ((f : Failed) × (b.told ≡ Some (Err f))) × Rose start.faults b.faults × (b.opened < most_links)
+    ((f : Failed) × (b.told ≡ Some (Err f))) × Rose start.faults b.faults × (b.opened < MOST_LINKS)
     × AreUnwornEnds ends
 RunsTo start b draws ends Enough =
-    ((c : ℕ) × (b.told ≡ Some (Ok (Opened c)))) × (b.opened ≡ most_links)
+    ((c : ℕ) × (b.told ≡ Some (Ok (Opened c)))) × (b.opened ≡ MOST_LINKS)
 RunsTo start b draws ends EndWorn =
     ((c : ℕ) × (b.told ≡ Some (Ok (Ready c)))) × (draws ≡ 2 ^ 40)
     × ((i : ℕ) × ((e : Polled) × (slice_get ends i ≡ Some e) × (is_worn_end e.outcome ≡ true)))
@@ -158,7 +175,7 @@ RunsTo start b draws ends Memory = Unit {0}
 module _ {M : Type 0} (np : NamedPolicy) (first : List Entry) (legal : List Entry → Type 0)
     (now : List Entry → ℕ) (number : ℕ) where
   -- a link was served in its place, or had ended before
-  pub record SeatGone (o p : Spot M) (start q : Port) (c : ℕ) (turns : List Turn) (seat : Seat)
+  pub record SeatGone (o p : FrontSpot M) (start q : Port) (c : ℕ) (turns : List Turn) (seat : Seat)
       (result : Option PollEnd) : Type 0 where
     pub more : List Turn
     pub own : Each (λ (t : Turn). t.link ≡ c) more
@@ -168,22 +185,24 @@ module _ {M : Type 0} (np : NamedPolicy) (first : List Entry) (legal : List Entr
     pub unworn : result ≡ None → IsUnwornSeat seat
     pub unowed : q.finished ≡ None → q.owed ≡ false
 
-  pub record SeatServed (p p' : Spot M) (a b : Harbour) (c : ℕ) (seat seat' : Seat)
+  pub record SeatServed (p p' : FrontSpot M) (a b : Harbour) (c : ℕ) (seat seat' : Seat)
       (result : Option PollEnd) : Type 0 where
     pub rest : KeepsRest a b c
     pub others : (b.port c).others ≡ (a.port c).others
     pub later : a.faults ≤ b.faults
+    pub faults : (start : Port) (acted : List Acted) → Sits np start (a.port c) acted seat
+        → b.faults + faults_of (a.port c) ≤ a.faults + faults_of (b.port c)
     pub ended : MatchOption result ((b.port c).finished ≡ (a.port c).finished)
         (λ end. ((a.port c).finished ≡ None) × ((n : ℕ) × ((b.port c).finished ≡ Some n)))
     pub over : (end : PollEnd) → result ≡ Some end
         → (e : Polled) × (seat' ≡ Over e) × (e.outcome ≡ end)
-    pub served : (o : Spot M) (start : Port) (turns : List Turn)
+    pub served : (o : FrontSpot M) (start : Port) (turns : List Turn)
         → Running np first legal now number o p turns
         → Sits np start (a.port c) (acted_of c turns) seat → IsUnwornSeat seat
         → SeatGone o p' start (b.port c) c turns seat' result
 
   -- the table between two events
-  pub record Tabled (o p : Spot M) (start a : Harbour) (seats : List Seat) (busy : ℕ)
+  pub record Tabled (o p : FrontSpot M) (start a : Harbour) (seats : List Seat) (busy : ℕ)
       (turns : List Turn) : Type 0 where
     pub running : Running np first legal now number o p turns
     pub opened : a.opened ≡ length seats
@@ -193,9 +212,10 @@ module _ {M : Type 0} (np : NamedPolicy) (first : List Entry) (legal : List Entr
     pub ahead : (k : ℕ) → a.opened < k → SameBytes (start.port k) (a.port k)
     pub range : Each (λ (t : Turn). (1 ≤ t.link) × (t.link ≤ a.opened)) turns
     pub later : start.faults ≤ a.faults
+    pub faults : FaultsAreLast start a
 
   -- what a run comes to, before its open links are let go
-  pub record Went (o p : Spot M) (start b : Harbour) (seats : List Seat) (end : RunEnd)
+  pub record Went (o p : FrontSpot M) (start b : Harbour) (seats : List Seat) (end : RunEnd)
       : Type 0 where
     pub busy : ℕ
     pub turns : List Turn
@@ -211,8 +231,10 @@ module _ {M : Type 0} (np : NamedPolicy) (first : List Entry) (legal : List Entr
         (record { pass = after; clock = clock'; pace = pace }) turns
     pub count : length ends ≡ b.opened
     pub links : (i : ℕ) (e : Polled) → slice_get ends i ≡ Some e
-        → Ends np (start.port (i + 1)) (b.port (i + 1)) e.asked e.denied (acted_of (i + 1) turns)
+        → EndsLink np (start.port (i + 1)) (b.port (i + 1)) e.asked e.denied
+        (acted_of (i + 1) turns)
         e.outcome
         × IsLetIn (b.port (i + 1)) e.outcome × IsLetGo b.nexts (b.port (i + 1)) e.outcome
     pub range : Each (λ (t : Turn). (1 ≤ t.link) × (t.link ≤ b.opened)) turns
     pub runs : RunsTo start b after.draws ends end
+    pub faults : FaultsAreLast start b

@@ -3,23 +3,24 @@
 ghost use Rattle.std.specs.Prelude.{◌≡◌, ◌<◌, ◌≤◌, ◌^◌, ◌+◌, ℕ, length, false, Ok, Err, IfOk};
 ghost use Rattle.gt_io.specs.Links.{Reads};
 ghost use Rattle.turn_lock.specs.Holders.{site_of};
-ghost use Rattle.connection_laws.specs.Desks.{IsNamedActor, AreNamed, RepliesCanBeTold};
+ghost use Rattle.connection_laws.specs.Desks.{IsNamedActor, MayBeAsked, RepliesCanBeTold};
 ghost use Rattle.connection_laws.specs.Turns.{IsIdle, IsReached};
 ghost use Rattle.connection_laws.specs.Acting.{told_bytes};
 ghost use Rattle.gt_io.specs.Ports.{Port, IsOpen, ReadsPort};
-ghost use Rattle.poll_front.specs.Fronts.{Turn, Spot, Tends, Running, Stands, Gone, Goes, PushesOut, FillsUp, acted_of};
+ghost use Rattle.poll_front.specs.Fronts.{Turn, FrontSpot, Tends, FailsLast, Running, PartyStands, Gone, Goes, PushesOut, FillsUp, acted_of};
 
 use crate::ends::PollEnd;
 use crate::parties::{MOST_READ, Pace, Party, Pause};
 use connection_laws::reply_of;
 use gt_io::{Failed, Got, Ports, Took};
 
-// Writes the text from the byte `at` on, as far as the link takes it now.
+/// Writes the text from the byte `at` on, as far as the link takes it now.
 fn push_out<P: Ports>(ports: &mut P, link: u32, text: &[u8], at: &mut usize) -> Result<(), Pause>
     requires open { IsOpen (P.harbour ports.old) link }
     requires within { at.old ≤ length text.now }
-    ensures { PushesOut (P.harbour ports.old) (P.harbour ports.new) link text.now at.old
+    ensures pushes { PushesOut (P.harbour ports.old) (P.harbour ports.new) link text.now at.old
         at.new result }
+    ensures faults { FailsLast (P.harbour ports.old) (P.harbour ports.new) link }
 {
     while *at < text.len() {
         let (_, rest) = text.split_at(*at);
@@ -32,18 +33,19 @@ fn push_out<P: Ports>(ports: &mut P, link: u32, text: &[u8], at: &mut usize) -> 
     Ok(())
 }
 
-// Writes what is left of the reply to the last line.
+/// Writes what is left of the reply to the last line.
 pub(crate) fn write_out<P: Ports>(ports: &mut P, link: u32, party: &mut Party) -> Result<(), Pause>
     requires open { IsOpen (P.harbour ports.old) link }
     requires within { party.old.at ≤ length (told_bytes party.old.told) }
     ensures same { party.new ≡ record party.old { at = party.new.at } }
     ensures pushes { PushesOut (P.harbour ports.old) (P.harbour ports.new) link
         (told_bytes party.old.told) party.old.at party.new.at result }
+    ensures faults { FailsLast (P.harbour ports.old) (P.harbour ports.new) link }
 {
     push_out(ports, link, reply_of(&party.told), &mut party.at)
 }
 
-// Reads some bytes, `left` at most.
+/// Reads some bytes, `left` at most.
 fn read_some<P: Ports>(ports: &mut P, link: u32, buf: &mut [u8], left: usize) -> Result<Got, Failed>
     requires open { IsOpen (P.harbour ports.old) link }
     requires buf { 0 < length buf.old }
@@ -55,15 +57,16 @@ fn read_some<P: Ports>(ports: &mut P, link: u32, buf: &mut [u8], left: usize) ->
     ports.read(link, &mut buf[..room])
 }
 
-// Reads the bytes that are to be acted on next.
+/// Reads the bytes that are to be acted on next.
 pub(crate) fn fill<P: Ports>(ports: &mut P, link: u32, party: &mut Party) -> Result<(), Pause>
     requires open { IsOpen (P.harbour ports.old) link }
     requires left { 0 < party.old.left }
     requires none { party.old.from ≡ party.old.upto }
-    requires within { party.old.upto ≤ 4096 }
+    requires within { party.old.upto ≤ MOST_READ }
     ensures fills { FillsUp (P.harbour ports.old) (P.harbour ports.new) link party.old party.new
         result }
-    ensures size { length party.new.chunk ≡ 4096 }
+    ensures faults { FailsLast (P.harbour ports.old) (P.harbour ports.new) link }
+    ensures size { length party.new.chunk ≡ MOST_READ }
 {
     match read_some(ports, link, &mut party.chunk, party.left) {
         Ok(Got::Bytes(n)) => {

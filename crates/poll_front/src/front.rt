@@ -2,10 +2,9 @@
 //! served until it is left for another.
 ghost use Rattle.std.specs.Prelude.{◌≡◌, ◌≤◌, ◌<◌, ◌+◌, ◌-◌, ◌++◌, ◌∷◌, [], ℕ, length, vec_len, vec_capacity, OnOk, Some, None, IfSome, IsSomeAnd};
 ghost use Rattle.turn_lock.specs.Holders.{site_of};
-ghost use Rattle.connection_laws.specs.Desks.{AreNamed, RepliesCanBeTold};
+ghost use Rattle.connection_laws.specs.Desks.{MayBeAsked, RepliesCanBeTold};
 ghost use Rattle.connection_laws.specs.Turns.{IsIdle, IsReached};
 ghost use Rattle.gt_io.specs.Ports.{IsOpen, IsUncalled, Finishes};
-ghost use Rattle.poll_front.specs.Fronts.{most_open};
 ghost use Rattle.poll_front.specs.declared.seats.Seat.{Seat};
 ghost use Rattle.poll_front.specs.Tables.{CanServe, IsFreshParty, IsFreshSeat, SeatServed, Went, Ran, IsOpenSeat, EndsSeat, AreOpenSeats, LetsGo, is_worn_end, first_spot};
 
@@ -21,10 +20,10 @@ use std::sync::Wait;
 use turn_lock::Pass;
 
 /// How many links are open at most.
-const MOST_OPEN: usize = 1024;
+pub(crate) const MOST_OPEN: usize = 1024;
 
 /// How many links are opened at most.
-const MOST_LINKS: usize = 100_000;
+pub const MOST_LINKS: usize = 100_000;
 
 /// Why a run ended.
 #[derive(Clone, Copy, PartialEq, Eq, Debug)]
@@ -41,8 +40,8 @@ pub enum RunEnd {
     Memory,
 }
 
-// Serves the link of a seat, which is ready, where it is open. It answers how the link ended, none
-// where it goes on or had ended before.
+/// Serves the link of a seat, which is ready, where it is open. It answers how the link ended, none
+/// where it goes on or had ended before.
 fn serve_seat<M: Machine, R: Wait, P: Ports, C: Clock, G: Gate>(
     server: &Server<M, R, G>,
     pass: &mut Pass<M>,
@@ -52,7 +51,7 @@ fn serve_seat<M: Machine, R: Wait, P: Ports, C: Clock, G: Gate>(
     seat: &mut Seat,
 ) -> Option<PollEnd>
     requires idle { IsIdle (site_of server.now.desk.now) pass.old }
-    requires named { AreNamed server.now.policy.now (M.named server.now.desk.now.root) }
+    requires named { MayBeAsked server.now.policy.now (M.named server.now.desk.now.root) }
     requires replies { RepliesCanBeTold server.now.policy.now (M.legal server.now.desk.now.root) }
     requires reached { IsReached (M.legal server.now.desk.now.root)
         (M.now_of server.now.desk.now.root) pass.old.seen pace.old.reached }
@@ -86,7 +85,7 @@ fn serve_seat<M: Machine, R: Wait, P: Ports, C: Clock, G: Gate>(
     }
 }
 
-// Gives a link that was just opened its seat; lets it go at once where as many are open as may be.
+/// Gives a link that was just opened its seat; lets it go at once where as many are open as may be.
 fn seat_next<P: Ports>(
     link: u32,
     ports: &mut P,
@@ -97,16 +96,16 @@ fn seat_next<P: Ports>(
     requires open { IsOpen (P.harbour ports.old) link }
     requires room { vec_len seats.old < vec_capacity seats.old }
     requires spare { IsSomeAnd spare.old (λ b. IsFreshParty b.value) }
-    requires few { busy.old ≤ most_open }
+    requires few { busy.old ≤ MOST_OPEN }
     ensures fresh { IfSome spare.new (λ b. IsFreshParty b.value) }
-    ensures full { most_open ≤ busy.old
+    ensures full { MOST_OPEN ≤ busy.old
         → Finishes (P.harbour ports.old) (P.harbour ports.new) link × (busy.new ≡ busy.old)
         × (spare.new ≡ spare.old)
         × (seats.new.items
         ≡ seats.old.items
         ++ Seat.Over (record { asked = 0; denied = 0; outcome = PollEnd.Full })
         ∷ []) }
-    ensures seated { busy.old < most_open → (ports.new ≡ ports.old) × (busy.new ≡ busy.old + 1)
+    ensures seated { busy.old < MOST_OPEN → (ports.new ≡ ports.old) × (busy.new ≡ busy.old + 1)
         × ((s : Seat) × IsFreshSeat s × (seats.new.items ≡ seats.old.items ++ s ∷ [])) }
 {
     if *busy >= MOST_OPEN {
@@ -125,7 +124,7 @@ fn seat_next<P: Ports>(
     *busy += 1;
 }
 
-// Takes the memory that the next event may need.
+/// Takes the memory that the next event may need.
 fn make_room(
     alloc: Global,
     seats: &mut Vec<Seat>,
@@ -150,7 +149,7 @@ fn make_room(
     Ok(())
 }
 
-// How a link ended, or that it is let go now.
+/// How a link ended, or that it is let go now.
 fn end_of<P: Ports>(link: u32, ports: &mut P, seat: &Seat) -> Polled
     requires { IsOpenSeat seat.now → IsOpen (P.harbour ports.old) link }
     ensures { EndsSeat (P.harbour ports.old) (P.harbour ports.new) link seat.now result }
@@ -168,14 +167,14 @@ fn end_of<P: Ports>(link: u32, ports: &mut P, seat: &Seat) -> Polled
     }
 }
 
-// Whether the pass of a link is worn.
+/// Whether the pass of a link is worn.
 fn is_worn(end: PollEnd) -> bool
     ensures { result ≡ is_worn_end end }
 {
     matches!(end, PollEnd::Worn { .. })
 }
 
-// Serves the links until the run ends.
+/// Serves the links until the run ends.
 fn serve_all<M: Machine, R: Wait, P: Ports, C: Clock, G: Gate>(
     server: &Server<M, R, G>,
     pass: &mut Pass<M>,
@@ -186,7 +185,7 @@ fn serve_all<M: Machine, R: Wait, P: Ports, C: Clock, G: Gate>(
     ends: &mut List<Polled>,
 ) -> RunEnd
     requires idle { IsIdle (site_of server.now.desk.now) pass.old }
-    requires named { AreNamed server.now.policy.now (M.named server.now.desk.now.root) }
+    requires named { MayBeAsked server.now.policy.now (M.named server.now.desk.now.root) }
     requires replies { RepliesCanBeTold server.now.policy.now (M.legal server.now.desk.now.root) }
     requires none { (seats.old.items ≡ []) × (ends.old.items ≡ []) }
     requires ports { IsUncalled (P.harbour ports.old) }
@@ -196,7 +195,7 @@ fn serve_all<M: Machine, R: Wait, P: Ports, C: Clock, G: Gate>(
         (record { pass = pass.old; clock = C.readings clock.old; pace = pace.old })
         (record { pass = pass.new; clock = C.readings clock.new; pace = pace.new })
         (P.harbour ports.old) (P.harbour ports.new) seats.new.items result }
-    ensures few { length seats.new.items ≤ 100_000 }
+    ensures few { length seats.new.items ≤ MOST_LINKS }
     ensures room { length seats.new.items ≤ ends.new.spare }
     ensures ends { ends.new.items ≡ [] }
     ensures pass { IsIdle (site_of server.now.desk.now) pass.new
@@ -239,11 +238,11 @@ fn serve_all<M: Machine, R: Wait, P: Ports, C: Clock, G: Gate>(
     unreachable!()
 }
 
-// Lets the links go that are open, and tells how each link ended.
+/// Lets the links go that are open, and tells how each link ended.
 fn let_go<P: Ports>(ports: &mut P, seats: &[Seat], ends: &mut List<Polled>)
     requires room { length seats.now ≤ ends.old.spare }
     requires none { ends.old.items ≡ [] }
-    requires few { length seats.now ≤ 100_000 }
+    requires few { length seats.now ≤ MOST_LINKS }
     requires open { AreOpenSeats (P.harbour ports.old) 0 seats.now }
     ensures { LetsGo (P.harbour ports.old) (P.harbour ports.new) seats.now ends.new.items }
 {
@@ -253,10 +252,10 @@ fn let_go<P: Ports>(ports: &mut P, seats: &[Seat], ends: &mut List<Polled>)
     }
 }
 
-/// Serves the links of the ports until these stop or fail, 100,000 were opened, the pass is worn, or
-/// there is no memory for a further link; lets the links go that are then open; and tells how each
-/// link ended, in their order. The pass is the only one of its desk. Each link is served as the
-/// connection of its own number, whatever the number of the server that is handed in.
+/// Serves the links of the ports until these stop or fail, 100,000 were opened, the pass is worn,
+/// or there is no memory for a further link; lets the links go that are then open; and tells how
+/// each link ended, in their order. The pass is the only one of its desk. Each link is served as
+/// the connection of its own number, whatever the number of the server that is handed in.
 pub fn run<M: Machine, R: Wait, P: Ports, C: Clock, G: Gate>(
     server: &Server<M, R, G>,
     pass: &mut Pass<M>,
@@ -265,7 +264,7 @@ pub fn run<M: Machine, R: Wait, P: Ports, C: Clock, G: Gate>(
     ends: &mut List<Polled>,
 ) -> RunEnd
     requires idle { IsIdle (site_of server.now.desk.now) pass.old }
-    requires named { AreNamed server.now.policy.now (M.named server.now.desk.now.root) }
+    requires named { MayBeAsked server.now.policy.now (M.named server.now.desk.now.root) }
     requires replies { RepliesCanBeTold server.now.policy.now (M.legal server.now.desk.now.root) }
     requires none { ends.old.items ≡ [] }
     requires ports { IsUncalled (P.harbour ports.old) }

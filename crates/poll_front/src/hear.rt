@@ -2,12 +2,12 @@
 ghost use Rattle.std.specs.Prelude.{◌≡◌, ◌<◌, ◌≤◌, ◌^◌, ◌+◌, length};
 ghost use Rattle.turn_lock.specs.Holders.{site_of};
 ghost use Rattle.locked_history.specs.Fronts.{by};
-ghost use Rattle.connection_laws.specs.Desks.{IsNamedActor, AreNamed, RepliesCanBeTold};
+ghost use Rattle.connection_laws.specs.Desks.{IsNamedActor, MayBeAsked, RepliesCanBeTold};
 ghost use Rattle.connection_laws.specs.Turns.{IsIdle, IsReached};
 ghost use Rattle.poll_front.specs.Fronts.{Hears, HasPlaces};
 
 use crate::parties::Pace;
-use connection_laws::{Server, Talk, Told, act, count};
+use connection_laws::{LineAnswer, Server, Talk, act, count};
 use gt_base::Machine;
 use gt_io::{Clock, Gate};
 use std::sync::Wait;
@@ -21,9 +21,9 @@ pub(crate) fn hear<M: Machine, R: Wait, C: Clock, G: Gate>(
     pace: &mut Pace,
     talk: &mut Talk,
     line: &[u8],
-) -> Told
+) -> LineAnswer
     requires idle { IsIdle (site_of server.now.desk.now) pass.old }
-    requires named { AreNamed server.now.policy.now (M.named server.now.desk.now.root) }
+    requires named { MayBeAsked server.now.policy.now (M.named server.now.desk.now.root) }
     requires replies { RepliesCanBeTold server.now.policy.now (M.legal server.now.desk.now.root) }
     requires actor { IsNamedActor server.now.policy.now talk.old.actor }
     requires room { HasPlaces talk.old pace.old 1 }

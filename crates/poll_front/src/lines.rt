@@ -1,38 +1,47 @@
 //! The bytes of a link, one by one, up to the line in which it is left for another.
 ghost use Rattle.std.specs.Prelude.{◌≡◌, ◌<◌, ◌≤◌, ◌+◌, ◌*◌, ◌-◌, length, OnOk};
 ghost use Rattle.turn_lock.specs.Holders.{site_of};
-ghost use Rattle.connection_laws.specs.Desks.{IsNamedActor, AreNamed, RepliesCanBeTold};
+ghost use Rattle.connection_laws.specs.Desks.{IsNamedActor, MayBeAsked, RepliesCanBeTold};
 ghost use Rattle.connection_laws.specs.Turns.{IsIdle, IsReached};
 ghost use Rattle.gt_io.specs.Ports.{IsOpen};
-ghost use Rattle.poll_front.specs.Fronts.{Tends, Goes, Tells, HasPlaces, Counts};
+ghost use Rattle.poll_front.specs.Fronts.{Tends, StaysLive, FailsLast, Goes, TellsLine, HasPlaces, Counts};
+ghost use Rattle.poll_front.specs.declared.parties.TheConstants.{MOST_READ};
 
 use crate::attend::write_out;
 use crate::ends::PollEnd;
 use crate::hear::hear;
 use crate::parties::{Pace, Party, Pause};
-use connection_laws::{Server, Told};
+use connection_laws::{LineAnswer, Server};
 use gt_base::Machine;
 use gt_io::{Clock, Framed, Gate, Ports};
 use request_text::LineFault;
 use std::sync::Wait;
 use turn_lock::Pass;
 
-// Tells a link what its last line is told.
-fn tell<P: Ports>(ports: &mut P, link: u32, party: &mut Party, told: Told) -> Result<(), Pause>
+/// Tells a link what its last line is told.
+fn tell<P: Ports>(
+    ports: &mut P,
+    link: u32,
+    party: &mut Party,
+    told: LineAnswer,
+) -> Result<(), Pause>
     requires open { IsOpen (P.harbour ports.old) link }
     ensures same { party.new ≡ record party.old { told = told; at = party.new.at } }
-    ensures tells { Tells (P.harbour ports.old) (P.harbour ports.new) link told party.new.at
+    ensures tells { TellsLine (P.harbour ports.old) (P.harbour ports.new) link told party.new.at
         result }
+    ensures live { StaysLive ((P.harbour ports.old).port link) ((P.harbour ports.new).port link)
+        result }
+    ensures faults { FailsLast (P.harbour ports.old) (P.harbour ports.new) link }
 {
     party.told = told;
     party.at = 0;
-    if let Told::Worn { draws } = party.told {
+    if let LineAnswer::Worn { draws } = party.told {
         return Err(Pause::End(PollEnd::Worn { draws }));
     }
     write_out(ports, link, party)
 }
 
-// Takes the next byte, and acts on the line that it ends.
+/// Takes the next byte, and acts on the line that it ends.
 fn take_next<M: Machine, R: Wait, P: Ports, C: Clock, G: Gate>(
     server: &Server<M, R, G>,
     pass: &mut Pass<M>,
@@ -42,14 +51,14 @@ fn take_next<M: Machine, R: Wait, P: Ports, C: Clock, G: Gate>(
     party: &mut Party,
 ) -> Result<(), Pause>
     requires idle { IsIdle (site_of server.now.desk.now) pass.old }
-    requires named { AreNamed server.now.policy.now (M.named server.now.desk.now.root) }
+    requires named { MayBeAsked server.now.policy.now (M.named server.now.desk.now.root) }
     requires replies { RepliesCanBeTold server.now.policy.now (M.legal server.now.desk.now.root) }
     requires actor { IsNamedActor server.now.policy.now party.old.talk.actor }
     requires room { HasPlaces party.old.talk pace.old 1 }
     requires reached { IsReached (M.legal server.now.desk.now.root)
         (M.now_of server.now.desk.now.root) pass.old.seen pace.old.reached }
     requires open { IsOpen (P.harbour ports.old) server.now.conn }
-    requires some { (party.old.from < party.old.upto) × (party.old.upto ≤ 4096) }
+    requires some { (party.old.from < party.old.upto) × (party.old.upto ≤ MOST_READ) }
     ensures goes { Goes server.now.policy.now (M.list server.now.desk.now.root)
         (M.legal server.now.desk.now.root) (M.now_of server.now.desk.now.root) pass.old.number
         (record { pass = pass.old; clock = C.readings clock.old; pace = pace.old })
@@ -63,6 +72,9 @@ fn take_next<M: Machine, R: Wait, P: Ports, C: Clock, G: Gate>(
     ensures reached { IsReached (M.legal server.now.desk.now.root)
         (M.now_of server.now.desk.now.root) pass.new.seen pace.new.reached }
     ensures tends { Tends (P.harbour ports.old) (P.harbour ports.new) server.now.conn }
+    ensures live { StaysLive ((P.harbour ports.old).port server.now.conn)
+        ((P.harbour ports.new).port server.now.conn) result }
+    ensures faults { FailsLast (P.harbour ports.old) (P.harbour ports.new) server.now.conn }
     ensures one { (party.new.from ≡ party.old.from + 1) × (party.new.upto ≡ party.old.upto)
         × (party.new.left ≡ party.old.left) }
 {
@@ -81,11 +93,11 @@ fn take_next<M: Machine, R: Wait, P: Ports, C: Clock, G: Gate>(
             );
             tell(ports, server.conn, party, told)
         }
-        Framed::Long => tell(ports, server.conn, party, Told::Bad(LineFault::Long)),
+        Framed::Long => tell(ports, server.conn, party, LineAnswer::Bad(LineFault::Long)),
     }
 }
 
-// Takes the bytes that wait, up to the line in which the link is left for another.
+/// Takes the bytes that wait, up to the line in which the link is left for another.
 pub(crate) fn take_rest<M: Machine, R: Wait, P: Ports, C: Clock, G: Gate>(
     server: &Server<M, R, G>,
     pass: &mut Pass<M>,
@@ -95,14 +107,14 @@ pub(crate) fn take_rest<M: Machine, R: Wait, P: Ports, C: Clock, G: Gate>(
     party: &mut Party,
 ) -> Result<(), Pause>
     requires idle { IsIdle (site_of server.now.desk.now) pass.old }
-    requires named { AreNamed server.now.policy.now (M.named server.now.desk.now.root) }
+    requires named { MayBeAsked server.now.policy.now (M.named server.now.desk.now.root) }
     requires replies { RepliesCanBeTold server.now.policy.now (M.legal server.now.desk.now.root) }
     requires actor { IsNamedActor server.now.policy.now party.old.talk.actor }
     requires room { HasPlaces party.old.talk pace.old (party.old.upto - party.old.from) }
     requires reached { IsReached (M.legal server.now.desk.now.root)
         (M.now_of server.now.desk.now.root) pass.old.seen pace.old.reached }
     requires open { IsOpen (P.harbour ports.old) server.now.conn }
-    requires some { (party.old.from ≤ party.old.upto) × (party.old.upto ≤ 4096) }
+    requires some { (party.old.from ≤ party.old.upto) × (party.old.upto ≤ MOST_READ) }
     ensures goes { Goes server.now.policy.now (M.list server.now.desk.now.root)
         (M.legal server.now.desk.now.root) (M.now_of server.now.desk.now.root) pass.old.number
         (record { pass = pass.old; clock = C.readings clock.old; pace = pace.old })
@@ -117,6 +129,9 @@ pub(crate) fn take_rest<M: Machine, R: Wait, P: Ports, C: Clock, G: Gate>(
     ensures reached { IsReached (M.legal server.now.desk.now.root)
         (M.now_of server.now.desk.now.root) pass.new.seen pace.new.reached }
     ensures tends { Tends (P.harbour ports.old) (P.harbour ports.new) server.now.conn }
+    ensures live { StaysLive ((P.harbour ports.old).port server.now.conn)
+        ((P.harbour ports.new).port server.now.conn) result }
+    ensures faults { FailsLast (P.harbour ports.old) (P.harbour ports.new) server.now.conn }
     ensures all { OnOk result (party.new.from ≡ party.new.upto) }
     ensures kept { (party.new.upto ≡ party.old.upto) × (party.new.left ≡ party.old.left) }
 {

@@ -2,7 +2,7 @@
 ghost use Rattle.poll_front.specs.Tables.{IsFreshParty};
 
 use crate::ends::PollEnd;
-use connection_laws::{Talk, Told};
+use connection_laws::{LineAnswer, Talk};
 use gt_base::{Actor, Instant};
 use gt_io::Framer;
 
@@ -18,7 +18,7 @@ pub struct Party {
     pub framer: Framer,
     pub talk: Talk,
     /// What its last line is told, and how many bytes of that were written.
-    pub told: Told,
+    pub told: LineAnswer,
     pub at: usize,
     /// How many bytes may still be taken from it.
     pub left: usize,
@@ -59,7 +59,7 @@ impl Party {
                 calls: 0,
                 reached: None,
             },
-            told: Told::Silence,
+            told: LineAnswer::Silence,
             at: 0,
             left: MOST_BYTES,
             chunk: [0; 4096],

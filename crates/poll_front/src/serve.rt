@@ -1,11 +1,12 @@
 //! A link that is ready, until it is left for another.
 ghost use Rattle.std.specs.Prelude.{◌≡◌, ◌≤◌, ◌+◌, ◌-◌, ◌^◌, length};
 ghost use Rattle.turn_lock.specs.Holders.{site_of};
-ghost use Rattle.connection_laws.specs.Desks.{IsNamedActor, AreNamed, RepliesCanBeTold};
+ghost use Rattle.connection_laws.specs.Desks.{IsNamedActor, MayBeAsked, RepliesCanBeTold};
 ghost use Rattle.connection_laws.specs.Turns.{IsIdle, IsReached};
 ghost use Rattle.connection_laws.specs.Acting.{told_bytes};
 ghost use Rattle.gt_io.specs.Ports.{IsOpen};
-ghost use Rattle.poll_front.specs.Fronts.{Tends, Attends, HasPlaces, Counts};
+ghost use Rattle.poll_front.specs.Fronts.{Tends, FailsLast, Attends, HasPlaces, Counts};
+ghost use Rattle.poll_front.specs.declared.parties.TheConstants.{MOST_READ};
 
 use crate::attend::{fill, write_out};
 use crate::ends::PollEnd;
@@ -28,14 +29,14 @@ pub(crate) fn attend<M: Machine, R: Wait, P: Ports, C: Clock, G: Gate>(
     party: &mut Party,
 ) -> Pause
     requires idle { IsIdle (site_of server.now.desk.now) pass.old }
-    requires named { AreNamed server.now.policy.now (M.named server.now.desk.now.root) }
+    requires named { MayBeAsked server.now.policy.now (M.named server.now.desk.now.root) }
     requires replies { RepliesCanBeTold server.now.policy.now (M.legal server.now.desk.now.root) }
     requires actor { IsNamedActor server.now.policy.now party.old.talk.actor }
     requires reached { IsReached (M.legal server.now.desk.now.root)
         (M.now_of server.now.desk.now.root) pass.old.seen pace.old.reached }
     requires open { IsOpen (P.harbour ports.old) server.now.conn }
     requires within { party.old.at ≤ length (told_bytes party.old.told) }
-    requires waits { (party.old.from ≤ party.old.upto) × (party.old.upto ≤ 4096) }
+    requires waits { (party.old.from ≤ party.old.upto) × (party.old.upto ≤ MOST_READ) }
     requires room { HasPlaces party.old.talk pace.old
         (party.old.upto - party.old.from + party.old.left) }
     ensures attends { Attends server.now.policy.now (M.list server.now.desk.now.root)
@@ -51,6 +52,7 @@ pub(crate) fn attend<M: Machine, R: Wait, P: Ports, C: Clock, G: Gate>(
     ensures reached { IsReached (M.legal server.now.desk.now.root)
         (M.now_of server.now.desk.now.root) pass.new.seen pace.new.reached }
     ensures tends { Tends (P.harbour ports.old) (P.harbour ports.new) server.now.conn }
+    ensures faults { FailsLast (P.harbour ports.old) (P.harbour ports.new) server.now.conn }
 {
     if let Err(pause) = write_out(ports, server.conn, party) {
         return pause;

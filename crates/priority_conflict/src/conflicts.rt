@@ -4,7 +4,7 @@ ghost use Rattle.gt_base.specs.declared.events.Event.{Event};
 ghost use Rattle.gt_base.specs.declared.events.Fluent.{Fluent};
 ghost use Rattle.gt_base.specs.Events.{converse};
 ghost use Rattle.gt_base.specs.Sets.{has, members};
-ghost use Rattle.gtrbac_model.specs.Conflict.{beats as beats_at, blocked as is_blocked, won, won_at, stands_at, greatest_below, seen as seen_in};
+ghost use Rattle.gtrbac_model.specs.Conflict.{beats, blocked, won, won_at, stands_at, greatest_below, seen};
 ghost use Rattle.gtrbac_model.specs.Same.{same_event};
 ghost use Rattle.priority_conflict.specs.Winning.{IsApart, turned_by};
 
@@ -12,14 +12,14 @@ use gt_base::{Event, EventSet, Happened, Prio, Prioritised, Seen, Status};
 
 /// Whether the converse at priority q blocks an event that sets its fluent on or off at priority p.
 pub(crate) fn beats(on: bool, q: u8, p: u8) -> bool
-    ensures { result ≡ beats_at on q p }
+    ensures { result ≡ beats on q p }
 {
     if on { p <= q } else { p < q }
 }
 
 /// Whether `o` blocks `p`, whose converse is given.
 fn blocks(o: Prioritised, converse: Event, p: Prioritised) -> bool
-    ensures { result ≡ (same_event o.event converse && beats_at p.event.on o.prio p.prio) }
+    ensures { result ≡ (same_event o.event converse && beats p.event.on o.prio p.prio) }
 {
     o.event.cmp(&converse).is_eq() && beats(p.event.on, o.prio.get(), p.prio.get())
 }
@@ -27,7 +27,7 @@ fn blocks(o: Prioritised, converse: Event, p: Prioritised) -> bool
 /// Whether the event, at its priority, is blocked in the set: an on event by its converse at its
 /// own priority or a higher one, an off event by its converse at a higher one. It takes no memory.
 pub fn blocked(x: &Happened, p: Prioritised) -> bool
-    ensures { result ≡ is_blocked x.now.set p }
+    ensures { result ≡ blocked x.now.set p }
 {
     let converse = p.event.converse();
     x.events().iter().any(|o| blocks(*o, converse, p))
@@ -89,7 +89,7 @@ pub fn greatest(x: &Happened, e: Event, below: u8) -> Option<Prio>
 /// The greatest priority below a number at which the event stands in the set unblocked, else the
 /// greatest at which it stands there blocked, else that it is absent. It takes no memory.
 pub fn seen(x: &Happened, e: Event) -> Seen
-    ensures { result ≡ seen_in x.now.set e }
+    ensures { result ≡ seen x.now.set e }
 {
     if let Some(p) = greatest_free(x, e, 101) {
         return Seen::Unblocked(p);

@@ -81,6 +81,7 @@ fn events_of(alloc: Global, leaders: &IndexMap<Fluent, Prioritised>) -> Result<V
     ensures events { IfOk result (λ v. v.items ≡ map (λ p. p.event) (values leaders.now)) }
     ensures unique { IsUnique fluent_eq leaders.now }
 {
+    // the call tells that each fluent stands once
     let _many = leaders.len();
     leaders.values().map(|p| p.event).collect(alloc)
 }

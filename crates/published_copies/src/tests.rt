@@ -10,7 +10,7 @@ use std::collections::LinkedList;
 use std::sync::Wait;
 use std::test::Fail;
 
-// A list of what was played, which refuses an entry while `refusals` is positive.
+/// A list of what was played, which refuses an entry while `refusals` is positive.
 #[derive(Drop)]
 struct Fake {
     played: Vec<Entry>,
@@ -64,7 +64,7 @@ fn tick(minute: u32) -> Option<Entry> {
     })
 }
 
-// How many entries a reader sees.
+/// How many entries a reader sees.
 fn seen(sight: Sight<Fake>) -> (Sight<Fake>, usize) {
     match sight.look() {
         Ok(looking) => {
@@ -75,10 +75,10 @@ fn seen(sight: Sight<Fake>) -> (Sight<Fake>, usize) {
     }
 }
 
-// Whether a call caught up, and how many entries a reader saw after it.
+/// Whether a call caught up, and how many entries a reader saw after it.
 type Said = (bool, usize);
 
-// Catches up with the entries once.
+/// Catches up with the entries once.
 fn once<R: Wait>(
     rt: &R,
     copies: Copies<Fake>,
@@ -93,7 +93,7 @@ fn once<R: Wait>(
     (copies, sight, (done.is_ok(), n))
 }
 
-// Catches up with the first entry twice, and with all of them twice.
+/// Catches up with the first entry twice, and with all of them twice.
 fn four_times<R: Wait>(
     rt: &R,
     alloc: Global,
@@ -122,8 +122,8 @@ fn four_times<R: Wait>(
     }
 }
 
-// What is said where the first copy to be brought up refuses so many entries, and the other one so
-// many.
+/// What is said where the first copy to be brought up refuses so many entries, and the other one so
+/// many.
 fn played<R: Wait>(
     rt: &R,
     alloc: Global,
@@ -152,7 +152,7 @@ fn a_copy_that_refuses_once_is_brought_up_by_the_next_call(rt: HostRuntime) -> R
     Ok(())
 }
 
-// Where nothing is new the copy that is behind is not asked.
+/// Where nothing is new the copy that is behind is not asked.
 #[test]
 fn a_copy_that_is_behind_may_refuse_too(rt: HostRuntime) -> Result<(), Fail> {
     let said = played(&rt, rt.alloc(), 0, 1)?;

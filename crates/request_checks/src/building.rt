@@ -17,7 +17,8 @@ edge i weak b c
 limit top 1 enabled a max 5
 ";
 
-/// The policy that a text of at most 1,000,000 bytes stands for; anything else counts as want of memory.
+/// The policy that a text of at most 1,000,000 bytes stands for; anything else counts as want of
+/// memory.
 pub(crate) fn policy_by(alloc: Global, text: &[u8]) -> Result<Policy, Memory> {
     if text.len() > 1_000_000 {
         return Err(AllocError);

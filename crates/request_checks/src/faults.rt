@@ -1,4 +1,5 @@
-//! Lines that say nothing that can be done: too long, of no form, or with an unknown name, in this order.
+//! Lines that say nothing that can be done: too long, of no form, or with an unknown name, in this
+//! order.
 use crate::building::small;
 use crate::lines::{connection_fault, on_connection, script_fault};
 use gt_base::Memory;

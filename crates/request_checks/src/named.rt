@@ -1,8 +1,8 @@
 //! Whether the numbers of a reply or an entry are the policy's.
 ghost use Rattle.std.specs.Prelude.{◌≡◌};
 ghost use Rattle.std.specs.List.{list_all};
-ghost use Rattle.gtrbac_model.specs.WholePolicy.{is_fluent as is_fluent_of};
-ghost use Rattle.request_text.specs.Named.{has_edge, has_walk as has_walk_of, has_decision as has_decision_of, has_reply as has_reply_of, has_request as has_request_of, has_actor as has_actor_of, has_entry as has_entry_of};
+ghost use Rattle.gtrbac_model.specs.WholePolicy.{is_fluent};
+ghost use Rattle.request_text.specs.Named.{has_edge, has_walk, has_decision, has_reply, has_request, has_actor, has_entry};
 
 use gt_base::{Actor, Decision, Entry, Fluent, Reply, Request, Step, Walk};
 use policy_book::Policy;
@@ -20,13 +20,13 @@ fn has_edges(p: &Policy, mut edges: &[u32]) -> bool
 }
 
 fn has_walk(p: &Policy, walk: &Walk) -> bool
-    ensures { result ≡ has_walk_of p.now.policy walk.now }
+    ensures { result ≡ has_walk p.now.policy walk.now }
 {
     walk.start.0 < p.role_count() && has_edges(p, walk.edges.as_slice())
 }
 
 fn has_decision(p: &Policy, decision: &Decision) -> bool
-    ensures { result ≡ has_decision_of p.now.policy decision.now }
+    ensures { result ≡ has_decision p.now.policy decision.now }
 {
     match decision {
         Decision::Permit { walk } => has_walk(p, walk),
@@ -37,7 +37,7 @@ fn has_decision(p: &Policy, decision: &Decision) -> bool
 
 /// Whether a reply can be written.
 pub(crate) fn has_reply(p: &Policy, reply: &Reply) -> bool
-    ensures { result ≡ has_reply_of p.now.policy reply.now }
+    ensures { result ≡ has_reply p.now.policy reply.now }
 {
     match reply {
         Reply::Active(walk) => has_walk(p, walk),
@@ -53,7 +53,7 @@ pub(crate) fn has_reply(p: &Policy, reply: &Reply) -> bool
 }
 
 fn has_fluent(p: &Policy, f: Fluent) -> bool
-    ensures { result ≡ is_fluent_of p.now.policy f }
+    ensures { result ≡ is_fluent p.now.policy f }
 {
     match f {
         Fluent::Enabled(r) => r.0 < p.role_count(),
@@ -65,7 +65,7 @@ fn has_fluent(p: &Policy, f: Fluent) -> bool
 }
 
 fn has_request(p: &Policy, request: Request) -> bool
-    ensures { result ≡ has_request_of p.now.policy request }
+    ensures { result ≡ has_request p.now.policy request }
 {
     match request {
         Request::Status(c) => has_fluent(p, c.fluent),
@@ -80,7 +80,7 @@ fn has_request(p: &Policy, request: Request) -> bool
 }
 
 fn has_actor(p: &Policy, actor: Actor) -> bool
-    ensures { result ≡ has_actor_of p.now.policy actor }
+    ensures { result ≡ has_actor p.now.policy actor }
 {
     match actor {
         Actor::User(u) => u.0 < p.user_count(),
@@ -90,7 +90,7 @@ fn has_actor(p: &Policy, actor: Actor) -> bool
 
 /// Whether an entry can be written.
 pub(crate) fn has_entry(p: &Policy, entry: &Entry) -> bool
-    ensures { result ≡ has_entry_of p.now.policy entry.now }
+    ensures { result ≡ has_entry p.now.policy entry.now }
 {
     match &entry.what {
         Step::Tick { .. } => true,
@@ -104,7 +104,7 @@ pub(crate) fn has_entry(p: &Policy, entry: &Entry) -> bool
 
 /// Whether each of the entries can be written.
 pub(crate) fn has_entries(p: &Policy, mut entries: &[Entry]) -> bool
-    ensures { result ≡ list_all (has_entry_of p.now.policy) entries.now }
+    ensures { result ≡ list_all (has_entry p.now.policy) entries.now }
 {
     while let [e, rest @ ..] = entries {
         if !has_entry(p, e) {

@@ -26,6 +26,7 @@ use Rattle.gtrbac_model.specs.Decision.{decide}
 use Rattle.gtrbac_model.specs.Sessions.{caps_of, reached, is_of, is_active_in, owner_of}
 use Rattle.gtrbac_model.specs.Reply.{Point, unless, session_causes, roles_of, raise_causes, actor_causes, answer, reply_of}
 use Rattle.request_text.specs.Kinds.{IsAnswer}
+use Rattle.request_text.proofs.Refusals.{unless_keeps}
 
 record Answering (q : Request) (r : Reply) : Type 0 where
   it : IsAnswer q r
@@ -34,12 +35,7 @@ refused : (q : Request) (f : Refusal) → Answering q (Refused f)
 refused q f = record { it = inl (f, refl) }
 
 unless_answers : (q : Request) (cs : List (Bool × Refusal)) (r : Reply) → Answering q r → Answering q (unless cs r)
-unless_answers q [] r h = h
-unless_answers q (c ∷ cs) r h = by c.0 (unless_answers q cs r h)
-  where
-    by : (b : Bool) → Answering q (unless cs r) → Answering q (elim b as (λ _. Reply) [ true ↦ Refused c.1 | false ↦ unless cs r ])
-    by true more = refused q c.1
-    by false more = more
+unless_answers q = unless_keeps (Answering q) (refused q)
 
 abbrev by_walk : Option RoleWalk → Reply
 by_walk (Some w) = Active w

@@ -15,7 +15,7 @@ use Rattle.gt_base.specs.declared.requests.Reply.TheVariants.{Now, Truth, Event,
 use Rattle.gtrbac_model.specs.Graph.{Arc, item_at, LeadsAlong}
 use Rattle.gtrbac_model.specs.Hierarchy.{all_arcs}
 use Rattle.least_walk.proofs.Items.{item_get, item_of_map}
-use Rattle.policy_book.proofs.Roles.{one_role}
+use Rattle.walk_laws.proofs.Roles.{one_role}
 use Rattle.policy_lines.proofs.Truths.{both, not_true}
 use Rattle.policy_words.specs.Naming.{NamedPolicy}
 use Rattle.policy_words.specs.Valid.{IsWellFormed}

@@ -6,7 +6,7 @@ use Rattle.std.proofs.lemmas.Bool.{false≢true}
 use Rattle.std.proofs.lemmas.Bool.Decides.{Decides-eqb}
 use Rattle.gt_base.specs.Names.{is_name, is_name_byte, is_letter, is_digit}
 use Rattle.policy_lines.proofs.Truths.{both, and_true}
-use Rattle.policy_lines.proofs.Numbers.{all_digits}
+use Rattle.gt_text.proofs.Decimals.{all_digits}
 
 abbrev pub differs : ℕ → ℕ → Bool
 differs c b = not (nat_eq b c)

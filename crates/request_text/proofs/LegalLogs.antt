@@ -1,12 +1,12 @@
 -- The log of a legal history tells it.
 use Rattle.std.proofs.Common.{◌≡◌, ℕ, ◌≤◌, true, List, [], ◌∷◌, ◌++◌, sym, subst, arith, append_assoc}
-use Rattle.gt_base.specs.Bounds.{last_minute}
 use Rattle.gt_base.specs.declared.requests.Actor.{Actor}
 use Rattle.gt_base.specs.declared.requests.Actor.TheVariants.{Operator, User, Nobody}
 use Rattle.gt_base.specs.declared.requests.Request.{Request}
 use Rattle.gt_base.specs.declared.requests.Step.{Step}
 use Rattle.gt_base.specs.declared.requests.Step.TheVariants.{Tick, Ask}
 use Rattle.gt_base.specs.declared.requests.Entry.{Entry}
+use Rattle.gt_base.specs.declared.limits.TheConstants.{LAST_MINUTE}
 use Rattle.gtrbac_model.specs.Policy.{Policy}
 use Rattle.gtrbac_model.specs.WholePolicy.{IsPolicy}
 use Rattle.gtrbac_model.specs.Status.{Model}
@@ -17,7 +17,7 @@ use Rattle.history_laws.proofs.NamedPoints.{points_are_named}
 use Rattle.policy_words.specs.Naming.{NamedPolicy}
 use Rattle.policy_words.specs.Valid.{IsWellFormed}
 use Rattle.request_text.specs.Replies.{log_text}
-use Rattle.request_text.specs.Tellable.{IsStranger, IsTellableStep, AreTellable, IsNoOperator, IsPlainStep, ArePlain, IsTold}
+use Rattle.request_text.specs.Tellable.{IsStranger, IsTellableStep, AreTellable, IsNoOperator, IsPlainStep, ArePlain, IsToldHistory}
 use Rattle.request_text.specs.Named.{has_reply}
 use Rattle.request_text.specs.Kinds.{IsAnswer, IsSoundReply}
 use Rattle.request_text.proofs.Answering.{reply_answers}
@@ -45,7 +45,7 @@ module _ (p : Policy) (birth : ℕ) (m : Model) where
         record { named = subst (λ r. has_reply p r ≡ true) (sym legal) is.named; small = plain.1; sound = subst (IsSoundReply p) (sym legal) is.sound },
       )
 
-  tellable : (front rest : List Entry) → IsPolicy p → birth ≤ last_minute → AreNamed p (front ++ rest) → Legal p birth (front ++ rest) m → ArePlain rest → AreTellable p rest
+  tellable : (front rest : List Entry) → IsPolicy p → birth ≤ LAST_MINUTE → AreNamed p (front ++ rest) → Legal p birth (front ++ rest) m → ArePlain rest → AreTellable p rest
   tellable front [] good le named legal plain = tt
   tellable front (e ∷ es) good le named legal plain =
       let whole : (front ++ e ∷ []) ++ es ≡ front ++ e ∷ es = append_assoc front (e ∷ []) es in (
@@ -53,7 +53,7 @@ module _ (p : Policy) (birth : ℕ) (m : Model) where
         tellable (front ++ e ∷ []) es good le (subst (AreNamed p) (sym whole) named) (subst (λ h. Legal p birth h m) (sym whole) legal) plain.2,
       )
 
-pub legal_log_tells : (np : NamedPolicy) → IsWellFormed np → (birth dawn : ℕ) (h g : List Entry) → IsTold np.policy birth h → IsTold np.policy dawn g → log_text np birth h ≡ log_text np dawn g
+pub legal_log_tells : (np : NamedPolicy) → IsWellFormed np → (birth dawn : ℕ) (h g : List Entry) → IsToldHistory np.policy birth h → IsToldHistory np.policy dawn g → log_text np birth h ≡ log_text np dawn g
     → (birth ≡ dawn) × (h ≡ g)
 legal_log_tells np good birth dawn h g a b e =
     log_tells np good birth dawn h g a.minute b.minute (tellable np.policy birth a.model [] h good.policy a.minute a.named a.legal a.plain) (tellable np.policy dawn b.model [] g good.policy b.minute b.named b.legal b.plain) e

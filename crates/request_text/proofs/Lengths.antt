@@ -22,7 +22,7 @@ use Rattle.policy_words.specs.Naming.{NamedPolicy, role_name}
 use Rattle.policy_words.specs.Valid.{IsWellFormed}
 use Rattle.request_text.specs.Replies.{arrow, junior_text, edge_text, edge_at, junior_name, walk_text, decision_text, refusal_text, seen_text, reply_text, reply_line}
 use Rattle.request_text.specs.Walks.{step_name}
-use Rattle.request_text.specs.Sizes.{IsSmallSeen, IsSmallRefusal, IsSmall, IsBriefDecision, IsBrief, IsWalklessDecision, IsWalkless}
+use Rattle.request_text.specs.Sizes.{IsSmallSeen, IsSmallRefusal, IsSmall, IsBriefDecision, IsBrief, decision_edges, edge_count}
 use Rattle.request_text.proofs.Walks.{walk_is_led}
 
 pub short_name : (n : List ℕ) → is_name n ≡ true → length n ≤ 32
@@ -108,22 +108,27 @@ module _ (np : NamedPolicy) (good : IsWellFormed np) where
   pub longest : (r : Reply) → IsSmall r → IsBrief r → length (reply_line np r) ≤ 33_010
   longest r small brief = omega (arith, length-append (reply_text np r) (codes "\n"), short_reply r small brief)
 
-  -- a reply without a walk
+  -- by the edges of its walk
 
-  short_without : (d : Decision) → IsWalklessDecision d → length (decision_text np d) ≤ 80
-  short_without (Permit w) h = absurd h
-  short_without NoActive h = omega arith
-  short_without NoGrant h = omega arith
-  short_without (Shut n) h = omega (arith, short_edge n)
+  decision_within : (d : Decision) → length (decision_text np d) ≤ 80 + 33 * decision_edges d
+  decision_within (Permit w) = omega (arith, short_walk w)
+  decision_within NoActive = omega arith
+  decision_within NoGrant = omega arith
+  decision_within (Shut n) = omega (arith, short_edge n)
 
-  pub short_text : (r : Reply) → IsSmall r → IsWalkless r → length (reply_text np r) ≤ 80
-  short_text (Now t) small h = omega arith
-  short_text (Truth true) small h = omega arith
-  short_text (Truth false) small h = omega arith
-  short_text (Event s) small h = short_seen s small
-  short_text (Queued t) small h = omega arith
-  short_text (Session s) small h = omega (arith, ten s.0 small)
-  short_text Done small h = omega arith
-  short_text (Active w) small h = absurd h
-  short_text (Decided d) small h = short_without d h
-  short_text (Refused r) small h = omega (arith, short_refusal r small)
+  text_within : (r : Reply) → IsSmall r → length (reply_text np r) ≤ 80 + 33 * edge_count r
+  text_within (Now t) small = omega arith
+  text_within (Truth true) small = omega arith
+  text_within (Truth false) small = omega arith
+  text_within (Event s) small = omega (arith, short_seen s small)
+  text_within (Queued t) small = omega arith
+  text_within (Session s) small = omega (arith, ten s.0 small)
+  text_within Done small = omega arith
+  text_within (Active w) small = omega (arith, short_walk w)
+  text_within (Decided d) small = decision_within d
+  text_within (Refused r) small = omega (arith, short_refusal r small)
+
+  pub line_within : (r : Reply) → IsSmall r → length (reply_line np r) ≤ 81 + 33 * edge_count r
+  line_within r small = omega (arith, length-append (reply_text np r) (codes "\n"), text_within r small)
+
+pub ruleset line_bounds = (line_within)

@@ -15,6 +15,7 @@ pub mod NoEquals
 pub mod ShortRequests
 pub mod EntryLengths
 pub mod ToldEntries
+pub mod Refusals
 pub mod Answering
 pub mod SoundWalks
 pub mod SoundReplies

@@ -4,7 +4,6 @@ use Rattle.std.proofs.lemmas.List.{length-map}
 use Rattle.std.specs.Prelude.{nat_le, nat_lt}
 use Rattle.std.proofs.lemmas.Bool.{ltb-true}
 use borrow.Author.Tests.{leb-true}
-use Rattle.gt_base.specs.Bounds.{last_minute}
 use Rattle.gt_base.specs.Names.{is_name}
 use Rattle.gt_base.specs.declared.events.SessionId.{SessionId}
 use Rattle.gt_base.specs.declared.events.RoleId.{RoleId}
@@ -19,6 +18,7 @@ use Rattle.gt_base.specs.declared.requests.Actor.{Actor}
 use Rattle.gt_base.specs.declared.requests.Actor.TheVariants.{Operator, User, Nobody}
 use Rattle.gt_base.specs.declared.requests.Request.{Request}
 use Rattle.gt_base.specs.declared.requests.Request.TheVariants as requests
+use Rattle.gt_base.specs.declared.limits.TheConstants.{LAST_MINUTE}
 use Rattle.gtrbac_model.specs.Policy.{Policy}
 use Rattle.gtrbac_model.specs.History.{IsNamedWish, ask}
 use Rattle.gtrbac_model.specs.WholePolicy.{is_fluent}
@@ -40,7 +40,7 @@ use Rattle.request_text.specs.declared.phrases.NamedRequest.TheVariants.{Now, St
 use Rattle.request_text.specs.declared.phrases.Phrase.{Phrase}
 use Rattle.request_text.specs.declared.phrases.Phrase.TheVariants.{At, Be, Ask}
 use Rattle.request_text.specs.Phrases.{request_of, actor_of, line_of, read_line}
-use Rattle.request_text.specs.Spelling.{is_session, is_request, Fits, IsRead}
+use Rattle.request_text.specs.Spelling.{is_session, is_request, FitsPhrase, IsRead}
 use Rattle.request_text.specs.Lines.{IsOpening, IsNamedLine}
 use Rattle.request_text.proofs.ReadBySpelling.{lines_are_read}
 
@@ -87,7 +87,7 @@ module _ (np : NamedPolicy) (good : IsWellFormed np) where
       let f = came (fluent_of np.names c.fluent) _ g e in
       subst (λ (g : Event). Asks np.policy (requests.Seen g)) (some_is f.then) (status_named np.policy c.on f.it (fluent_in np.names np.policy sized c.fluent f.it f.was))
 
-  head_named : (h : NamedHead) (d : ℕ) (g : Prioritised) → h.prio ≤ 100 → d ≤ last_minute → head_of np.names h ≡ Some g → Asks np.policy (requests.Raise g d)
+  head_named : (h : NamedHead) (d : ℕ) (g : Prioritised) → h.prio ≤ 100 → d ≤ LAST_MINUTE → head_of np.names h ≡ Some g → Asks np.policy (requests.Raise g d)
   head_named h d g low short e =
       let f = came (event_of np.names h.event) _ g e in
       subst (λ (g : Prioritised). Asks np.policy (requests.Raise g d)) (some_is f.then) (tt, ((event_named h.event f.it f.was).1, low, short))
@@ -97,10 +97,10 @@ module _ (np : NamedPolicy) (good : IsWellFormed np) where
   request_named (Status c) q h e = let g = came (cond_of np.names c) _ q e in subst (Asks np.policy) (some_is g.then) (cond_named c g.it g.was)
   request_named (Seen s) q h e = let g = came (event_of np.names s) _ q e in subst (Asks np.policy) (some_is g.then) (event_named s g.it g.was)
   request_named (Raise hd d) q h e =
-      let outer = both (nat_le hd.prio 100 && are_names (fluent_names hd.event.fluent)) (nat_le d last_minute) h in
+      let outer = both (nat_le hd.prio 100 && are_names (fluent_names hd.event.fluent)) (nat_le d LAST_MINUTE) h in
       let low = leb-true hd.prio 100 (both (nat_le hd.prio 100) (are_names (fluent_names hd.event.fluent)) outer.0).0 in
       let g = came (head_of np.names hd) _ q e in
-      subst (Asks np.policy) (some_is g.then) (head_named hd d g.it low (leb-true d last_minute outer.1) g.was)
+      subst (Asks np.policy) (some_is g.then) (head_named hd d g.it low (leb-true d LAST_MINUTE outer.1) g.was)
   request_named OpenSession q h e = subst (Asks np.policy) (some_is e) (tt, tt)
   request_named (CloseSession s) q h e = subst (Asks np.policy) (some_is e) (tt, small_session s h)
   request_named (Activate s r) q h e =
@@ -127,7 +127,7 @@ module _ (np : NamedPolicy) (good : IsWellFormed np) where
       let g = came (user_of np.names u) _ a e in
       subst (λ a. IsNamedWish np.policy (ask a requests.Now)) (some_is g.then) (user_named u g.it g.was, tt)
 
-  line_named : (opening : Actor) (phrase : Phrase) (l : Line) → IsOpening opening → Fits phrase → line_of np opening phrase ≡ Some l → IsNamedLine np.policy l
+  line_named : (opening : Actor) (phrase : Phrase) (l : Line) → IsOpening opening → FitsPhrase phrase → line_of np opening phrase ≡ Some l → IsNamedLine np.policy l
   line_named opening (At t) l h fits e = subst (IsNamedLine np.policy) (some_is e) fits
   line_named opening (Be u) l h fits e = let g = came (actor_of np opening u) _ l e in subst (IsNamedLine np.policy) (some_is g.then) (actor_named opening u g.it h g.was)
   line_named opening (Ask r) l h fits e = let g = came (request_of np r) _ l e in subst (IsNamedLine np.policy) (some_is g.then) (request_named r g.it fits g.was)

@@ -1,12 +1,12 @@
 -- A phrase is read from the words that spell it.
-use Rattle.std.proofs.Common.{◌≡◌, inl, inr, ℕ, zero, suc, ◌≤◌, Bool, true, false, ◌&&◌, List, [], ◌∷◌, ◌++◌, Option, Some, None, refl, sym, ◌∙◌, ap, arith, decimal, append-nil}
+use Rattle.std.proofs.Common.{◌≡◌, inl, inr, ℕ, zero, suc, ◌≤◌, Bool, true, false, cond, ◌&&◌, List, [], ◌∷◌, ◌++◌, Option, Some, None, refl, sym, ◌∙◌, ap, arith, decimal, append-nil}
 use Rattle.std.specs.Prelude.{codes, bytes_eq, nat_le}
 use Rattle.std.proofs.lemmas.Slice.Eq.{bytes_eq-Decides}
 use Rattle.std.proofs.lemmas.Bool.{false≢true}
 use borrow.Author.Tests.{leb-true}
-use Rattle.gt_base.specs.Bounds.{last_minute}
 use Rattle.gt_base.specs.Names.{is_name, number_from}
 use Rattle.gt_base.specs.declared.events.SessionId.{SessionId}
+use Rattle.gt_base.specs.declared.limits.TheConstants.{LAST_MINUTE}
 use Rattle.civil_time.specs.Text.{civil_text, civil_in}
 use Rattle.civil_time.proofs.Texts.{texts_are_read}
 use Rattle.policy_words.specs.declared.parts.NamedCond.{NamedCond}
@@ -15,7 +15,7 @@ use Rattle.policy_words.specs.declared.parts.NamedHead.{NamedHead}
 use Rattle.policy_words.specs.Wording.{◌>>=◌, fluent_names, cond_words, event_words, head_words, cond_at, event_at, delay_in, delay_words}
 use Rattle.policy_words.specs.Sayings.{are_names}
 use Rattle.policy_lines.proofs.Truths.{both, not_true}
-use Rattle.policy_lines.proofs.Numbers.{number_from-decimal}
+use Rattle.gt_text.proofs.Decimals.{number_from-decimal}
 use Rattle.policy_lines.proofs.SpelledReads.{cond_reads, event_reads, head_reads_to, delay_reads}
 use Rattle.policy_lines.proofs.SayingReads.{name_is}
 use Rattle.request_text.specs.declared.phrases.NamedRequest.{NamedRequest}
@@ -49,18 +49,18 @@ session_name_reads s n h = let parts = both (is_session s) (is_name n) h in rw (
 -- a first word of a request, which is neither `@` nor `as`
 asks : (script : Bool) (w : List ℕ) (ws : List (List ℕ)) → bytes_eq w (codes "@") ≡ false → bytes_eq w (codes "as") ≡ false → phrase_by script w ws ≡ ask_request (request_in w ws)
 asks true w ws no_at no_as =
-    ap (λ b. elim b as (λ _. Option Phrase) [ true ↦ at_minute (minute_in ws) | false ↦ elim (bytes_eq w (codes "as")) as (λ _. Option Phrase) [ true ↦ be_actor (actor_in ws) | false ↦ ask_request (request_in w ws) ] ]) no_at
-    ∙ ap (λ b. elim b as (λ _. Option Phrase) [ true ↦ be_actor (actor_in ws) | false ↦ ask_request (request_in w ws) ]) no_as
-asks false w ws no_at no_as = ap (λ b. elim b as (λ _. Option Phrase) [ true ↦ be_actor (actor_in ws) | false ↦ ask_request (request_in w ws) ]) no_as
+    ap (λ b. cond b (at_minute (minute_in ws)) (cond (bytes_eq w (codes "as")) (be_actor (actor_in ws)) (ask_request (request_in w ws)))) no_at
+    ∙ ap (λ b. cond b (be_actor (actor_in ws)) (ask_request (request_in w ws))) no_as
+asks false w ws no_at no_as = ap (λ b. cond b (be_actor (actor_in ws)) (ask_request (request_in w ws))) no_as
 
 raised : (h : NamedHead) (d : ℕ) (ws : List (List ℕ)) → is_request (Raise h d) ≡ true → delay_in ws ≡ Some d → request_in (codes "request") (head_words h ++ ws) ≡ Some (Raise h d)
 raised h d ws is delay =
-    let outer = both (nat_le h.prio 100 && are_names (fluent_names h.event.fluent)) (nat_le d last_minute) is in
+    let outer = both (nat_le h.prio 100 && are_names (fluent_names h.event.fluent)) (nat_le d LAST_MINUTE) is in
     let parts = both (nat_le h.prio 100) (are_names (fluent_names h.event.fluent)) outer.0 in
     raise_reads h d ws (leb-true h.prio 100 parts.0) parts.1 delay
 
-short_delay : (h : NamedHead) (d : ℕ) → is_request (Raise h d) ≡ true → d ≤ last_minute
-short_delay h d is = leb-true d last_minute (both (nat_le h.prio 100 && are_names (fluent_names h.event.fluent)) (nat_le d last_minute) is).1
+short_delay : (h : NamedHead) (d : ℕ) → is_request (Raise h d) ≡ true → d ≤ LAST_MINUTE
+short_delay h d is = leb-true d LAST_MINUTE (both (nat_le h.prio 100 && are_names (fluent_names h.event.fluent)) (nat_le d LAST_MINUTE) is).1
 
 request_reads : (script : Bool) (r : NamedRequest) → is_request r ≡ true → phrase_in script (request_words r) ≡ Some (Ask r)
 request_reads script Now h = asks script (codes "now") [] refl refl
@@ -100,10 +100,10 @@ no_dash u h = not_true (bytes_eq u (codes "-")) (λ t. false≢true (sym (ap is_
 
 user_reads : (u : List ℕ) → is_name u ≡ true → actor_in (u ∷ []) ≡ Some (Some u)
 user_reads u h =
-    ap (λ b. elim b as (λ _. Option (Option (List ℕ))) [ true ↦ Some None | false ↦ named_actor u ]) (no_dash u h)
+    ap (λ b. cond b (Some None) (named_actor u)) (no_dash u h)
     ∙ ap (λ (o : Option (List ℕ)). ◌>>=◌ {A = List ℕ} {B = Option (List ℕ)} o (λ n. Some (Some n))) (name_is u h)
 
-civil_reads : (t : ℕ) → t ≤ last_minute → civil_in (civil_text t) ≡ Some t
+civil_reads : (t : ℕ) → t ≤ LAST_MINUTE → civil_in (civil_text t) ≡ Some t
 civil_reads t le = (texts_are_read (civil_text t) t).1 (le, refl)
 
 pub phrase_reads : (script : Bool) (ws : List (List ℕ)) (phrase : Phrase) → IsPhrase script ws phrase → phrase_in script ws ≡ Some phrase

@@ -1,19 +1,19 @@
 -- What is read from words is in range, and the words spell it.
-use Rattle.std.proofs.Common.{◌≡◌, inl, inr, ℕ, zero, suc, Bool, true, false, ◌&&◌, List, [], ◌∷◌, ◌++◌, Option, Some, None, refl, sym, ◌∙◌, ap, subst, arith, decimal, append-nil}
+use Rattle.std.proofs.Common.{◌≡◌, inl, inr, ℕ, zero, suc, Bool, true, false, cond, ◌&&◌, List, [], ◌∷◌, ◌++◌, Option, Some, None, refl, sym, ◌∙◌, ap, subst, arith, decimal, append-nil}
 use Rattle.std.specs.Prelude.{codes, bytes_eq, nat_le}
 use Rattle.std.proofs.lemmas.Slice.Eq.{bytes_eq-Decides}
 use Rattle.std.proofs.lemmas.Bool.{le-leb}
-use Rattle.gt_base.specs.Bounds.{last_minute}
 use Rattle.gt_base.specs.Names.{is_name, name_in, number_from}
 use Rattle.gt_base.specs.declared.events.SessionId.{SessionId}
+use Rattle.gt_base.specs.declared.limits.TheConstants.{LAST_MINUTE}
 use Rattle.civil_time.specs.Text.{civil_in}
 use Rattle.civil_time.proofs.Texts.{texts_are_read}
 use Rattle.policy_words.specs.declared.parts.NamedHead.{NamedHead}
 use Rattle.policy_words.specs.Wording.{◌>>=◌, at_end, fluent_names, cond_words, event_words, head_words, cond_at, event_at, head_at, delay_in}
 use Rattle.policy_words.specs.Sayings.{are_names}
 use Rattle.policy_lines.specs.Cursors.{name_at}
-use Rattle.policy_lines.proofs.Truths.{both, and_true, some_is, none_some, chosen}
-use Rattle.policy_lines.proofs.Numbers.{number_from_is}
+use Rattle.policy_lines.proofs.Truths.{both, and_true, some_is, none_some, taken}
+use Rattle.gt_text.proofs.Decimals.{number_from_is}
 use Rattle.policy_lines.proofs.ItemVerbs.{found_passes}
 use Rattle.policy_lines.proofs.FrontWords.{event_at_is, cond_at_is}
 use Rattle.policy_lines.proofs.FormWords.{came, name_in_is, at_end_is, head_up_to_is}
@@ -25,7 +25,7 @@ use Rattle.request_text.specs.declared.phrases.Phrase.TheVariants.{Be, Ask}
 use Rattle.request_text.specs.declared.verbs.RequestVerb.{RequestVerb}
 use Rattle.request_text.specs.declared.verbs.RequestVerb.TheVariants as verbs
 use Rattle.request_text.specs.Phrases.{verb_word, all_verbs, verb_in, session_at, session_in, session_name_in, raise_in, cond_in, event_in, of_session, of_session_name, request_by, request_in, ask_request, be_actor, at_minute, actor_in, named_actor, minute_in, phrase_by, phrase_in}
-use Rattle.request_text.specs.Spelling.{SpellsRequest, is_session, is_request, Stands, IsPhrase}
+use Rattle.request_text.specs.Spelling.{SpellsRequest, is_session, is_request, MayStand, IsPhrase}
 
 verb_is : (w : List ℕ) (v : RequestVerb) → verb_in w ≡ Some v → w ≡ verb_word v
 verb_is w v e = sym ((bytes_eq-Decides (verb_word v) w).0 (found_passes (λ v. bytes_eq (verb_word v) w) all_verbs v e))
@@ -130,8 +130,8 @@ raise_is ws r e =
     let d_is = delay_is head.it.1 delay.it delay.was in
     subst (Asked (codes "request") ws) (some_is delay.then)
     (record {
-      fits = and_true (nat_le head.it.0.prio 100 && are_names (fluent_names head.it.0.event.fluent)) (nat_le delay.it last_minute)
-          (and_true (nat_le head.it.0.prio 100) (are_names (fluent_names head.it.0.event.fluent)) (le-leb head.it.0.prio 100 h_is.prio) h_is.names) (le-leb delay.it last_minute d_is.0);
+      fits = and_true (nat_le head.it.0.prio 100 && are_names (fluent_names head.it.0.event.fluent)) (nat_le delay.it LAST_MINUTE)
+          (and_true (nat_le head.it.0.prio 100) (are_names (fluent_names head.it.0.event.fluent)) (le-leb head.it.0.prio 100 h_is.prio) h_is.names) (le-leb delay.it LAST_MINUTE d_is.0);
       spells = spells_raise head.it.0 delay.it ws head.it.1 h_is.words d_is.1;
     })
 
@@ -154,11 +154,11 @@ request_in_is w ws r e =
 
 -- phrases
 
-pub stands_as : (script : Bool) (r : NamedRequest) → Stands script (Ask r)
+pub stands_as : (script : Bool) (r : NamedRequest) → MayStand script (Ask r)
 stands_as true r = tt
 stands_as false r = tt
 
-stands_actor : (script : Bool) (u : Option (List ℕ)) → Stands script (Be u)
+stands_actor : (script : Bool) (u : Option (List ℕ)) → MayStand script (Be u)
 stands_actor true u = tt
 stands_actor false u = tt
 
@@ -184,7 +184,7 @@ actor_is : (script : Bool) (ws : List (List ℕ)) (phrase : Phrase) → be_actor
 actor_is script [] phrase e = absurd (none_some e)
 actor_is script (w ∷ []) phrase e = by (bytes_eq w (codes "-")) refl e
   where
-    by : (b : Bool) → bytes_eq w (codes "-") ≡ b → be_actor (elim b as (λ _. Option (Option (List ℕ))) [ true ↦ Some None | false ↦ named_actor w ]) ≡ Some phrase → IsPhrase script (codes "as" ∷ w ∷ []) phrase
+    by : (b : Bool) → bytes_eq w (codes "-") ≡ b → be_actor (cond b (Some None) (named_actor w)) ≡ Some phrase → IsPhrase script (codes "as" ∷ w ∷ []) phrase
     by true is e =
         subst (IsPhrase script (codes "as" ∷ w ∷ [])) (some_is e)
         (record { fits = tt; stands = stands_actor script None; spells = ap (λ w. codes "as" ∷ w ∷ []) ((bytes_eq-Decides w (codes "-")).0 is) })
@@ -204,13 +204,13 @@ minute_is (w ∷ v ∷ ws) phrase e = absurd (none_some e)
 
 phrase_by_is : (script : Bool) (w : List ℕ) (ws : List (List ℕ)) (phrase : Phrase) → phrase_by script w ws ≡ Some phrase → IsPhrase script (w ∷ ws) phrase
 phrase_by_is script w ws phrase e =
-    elim (chosen (script && bytes_eq w (codes "@")) _ _ (Some phrase) e) [
+    elim (taken (script && bytes_eq w (codes "@")) _ _ (Some phrase) e) [
       | inl (t, go) ↦
           (let parts = both script (bytes_eq w (codes "@")) t in
           let word : w ≡ codes "@" = (bytes_eq-Decides w (codes "@")).0 parts.1 in
           subst (λ b. IsPhrase b (w ∷ ws) phrase) (sym parts.0) (subst (λ w. IsPhrase true (w ∷ ws) phrase) (sym word) (minute_is ws phrase go)))
       | inr (f, go) ↦
-          elim (chosen (bytes_eq w (codes "as")) _ _ (Some phrase) go) [
+          elim (taken (bytes_eq w (codes "as")) _ _ (Some phrase) go) [
             | inl (t, act) ↦ subst (λ w. IsPhrase script (w ∷ ws) phrase) (sym ((bytes_eq-Decides w (codes "as")).0 t)) (actor_is script ws phrase act)
             | inr (g, asks) ↦ ask_is script w ws phrase asks
           ]

@@ -1,5 +1,5 @@
 -- Reading a line and the spellings of phrases say the same.
-use Rattle.std.proofs.Common.{◌≡◌, ℕ, ◌<◌, Bool, true, false, List, length, Option, Some, None, Result, Ok, Err, refl, sym, ◌∙◌, ap, subst, arith, ◌↔◌}
+use Rattle.std.proofs.Common.{◌≡◌, ℕ, ◌<◌, Bool, true, false, cond, List, length, Option, Some, None, Result, Ok, Err, refl, sym, ◌∙◌, ap, subst, arith, ◌↔◌}
 use Rattle.std.proofs.lemmas.Bool.{lt-ltb, ltb-true, ltb-false}
 use Rattle.gt_base.specs.declared.requests.Actor.{Actor}
 use Rattle.gt_text.specs.Lines.{is_longer}
@@ -16,7 +16,7 @@ use Rattle.request_text.specs.declared.phrases.Phrase.{Phrase}
 use Rattle.request_text.specs.declared.phrases.Phrase.TheVariants.{At, Be, Ask}
 use Rattle.gt_base.specs.declared.requests.Request.{Request}
 use Rattle.request_text.specs.Phrases.{phrase_in, request_of, actor_of, line_of, meant, said, read_line}
-use Rattle.request_text.specs.Spelling.{IsPhrase, Gives, IsRead}
+use Rattle.request_text.specs.Spelling.{IsPhrase, GivesLine, IsRead}
 use Rattle.request_text.proofs.PhraseReads.{phrase_reads}
 use Rattle.request_text.proofs.PhraseWords.{phrase_is}
 
@@ -50,17 +50,17 @@ module _ (np : NamedPolicy) (opening : Actor) (script : Bool) (line : List ℕ) 
   sound = by_length (is_longer 512 line) refl
     where
       by_silence : is_longer 512 line ≡ false → (b : Bool) → are_silent (words_of line) ≡ b
-          → IsRead np opening script line (elim b as (λ _. Result Line LineFault) [ true ↦ Ok lines.Silent | false ↦ said np opening (phrase_in script (words_of line)) ])
+          → IsRead np opening script line (cond b (Ok lines.Silent) (said np opening (phrase_in script (words_of line))))
       by_silence short true e = record { short = ltb-false 512 (length line) short; silent = e }
       by_silence short false e = said_right (record { short = ltb-false 512 (length line) short; loud = e }) (phrase_in script (words_of line)) refl
 
       by_length : (b : Bool) → is_longer 512 line ≡ b
-          → IsRead np opening script line (elim b as (λ _. Result Line LineFault) [ true ↦ Err faults.Long | false ↦ elim (are_silent (words_of line)) [ true ↦ Ok lines.Silent | false ↦ said np opening (phrase_in script (words_of line)) ] ])
+          → IsRead np opening script line (cond b (Err faults.Long) (cond (are_silent (words_of line)) (Ok lines.Silent) (said np opening (phrase_in script (words_of line)))))
       by_length true e = ltb-true 512 (length line) e
       by_length false e = by_silence e (are_silent (words_of line)) refl
 
   by_length_of : Bool → Bool → Result Line LineFault
-  by_length_of long silent = elim long [ true ↦ Err faults.Long | false ↦ elim silent [ true ↦ Ok lines.Silent | false ↦ said np opening (phrase_in script (words_of line)) ] ]
+  by_length_of long silent = cond long (Err faults.Long) (cond silent (Ok lines.Silent) (said np opening (phrase_in script (words_of line))))
 
   read_as : (long silent : Bool) → is_longer 512 line ≡ long → are_silent (words_of line) ≡ silent → read_line np opening script line ≡ by_length_of long silent
   unfolding by_length_of
@@ -78,7 +78,7 @@ module _ (np : NamedPolicy) (opening : Actor) (script : Bool) (line : List ℕ) 
   unfolding by_length_of
   long_read long = read_as true (are_silent (words_of line)) (lt-ltb 512 (length line) long) refl
 
-  gives_read : (o : Option Line) → IsLoud 512 line → Gives np opening script line o → read_line np opening script line ≡ meant np o
+  gives_read : (o : Option Line) → IsLoud 512 line → GivesLine np opening script line o → read_line np opening script line ≡ meant np o
   gives_read o loud (phrase, is, e) = loud_read loud ∙ ap (said np opening) (phrase_reads script (words_of line) phrase is) ∙ ap (meant np) e
 
   no_phrase : ((phrase : Phrase) → IsPhrase script (words_of line) phrase → ⊥) → phrase_in script (words_of line) ≡ None

@@ -4,9 +4,9 @@ use Rattle.std.specs.Prelude.{nat_le, nat_eq, codes}
 use Rattle.std.specs.List.{list_all}
 use borrow.Author.Tests.{leb-true}
 use Rattle.gtrbac_model.proofs.Elements.{split}
-use Rattle.gt_base.specs.Bounds.{last_minute}
 use Rattle.gt_base.specs.Names.{is_name}
 use Rattle.gt_base.specs.declared.events.SessionId.{SessionId}
+use Rattle.gt_base.specs.declared.limits.TheConstants.{LAST_MINUTE}
 use Rattle.policy_words.specs.declared.parts.Sort.{Sort}
 use Rattle.policy_words.specs.Wording.{event_words, cond_words, fluent_names, event_verb, cond_verb, sort_of, head_words, delay_words}
 use Rattle.policy_words.specs.Sayings.{are_names}
@@ -43,7 +43,7 @@ module _ (test : List ℕ → Bool) (passes : Passes test) where
   with_name : (s : SessionId) (n : List ℕ) → (is_session s && is_name n) ≡ true → list_all test (decimal s.0 ∷ n ∷ []) ≡ true
   with_name s n h = let parts = both (is_session s) (is_name n) h in on (decimal s.0) (n ∷ []) (session s parts.0) (on n [] (passes.name n parts.1) refl)
 
-  delay : (d : ℕ) → d ≤ last_minute → list_all test (delay_words d) ≡ true
+  delay : (d : ℕ) → d ≤ LAST_MINUTE → list_all test (delay_words d) ≡ true
   delay d le =
       split (nat_eq d 0) (λ t. rw (t, delay_words) refl)
       (λ f. rw (f, delay_words) (on (codes "after") (decimal d ∷ []) passes.later (on (decimal d) [] (passes.number d (omega (arith, le))) refl)))
@@ -53,12 +53,12 @@ module _ (test : List ℕ → Bool) (passes : Passes test) where
   all_words (Status c) h = on (codes "status") (cond_words c) (passes.firsts verbs.Status) (on (cond_verb c.on (sort_of c.fluent)) (fluent_names c.fluent) (passes.conds c.on (sort_of c.fluent)) (names (fluent_names c.fluent) h))
   all_words (Seen e) h = on (codes "event") (event_words e) (passes.firsts verbs.Event) (on (event_verb e.on (sort_of e.fluent)) (fluent_names e.fluent) (passes.events e.on (sort_of e.fluent)) (names (fluent_names e.fluent) h))
   all_words (Raise h d) is =
-      let outer = both (nat_le h.prio 100 && are_names (fluent_names h.event.fluent)) (nat_le d last_minute) is in
+      let outer = both (nat_le h.prio 100 && are_names (fluent_names h.event.fluent)) (nat_le d LAST_MINUTE) is in
       let parts = both (nat_le h.prio 100) (are_names (fluent_names h.event.fluent)) outer.0 in
       on (codes "request") (head_words h ++ delay_words d) (passes.firsts verbs.Request)
       (all_append test (head_words h) (delay_words d)
       (on (decimal h.prio ++ 58 ∷ event_verb h.event.on (sort_of h.event.fluent)) (fluent_names h.event.fluent) (passes.heads h.prio h.event.on (sort_of h.event.fluent) (leb-true h.prio 100 parts.0))
-      (names (fluent_names h.event.fluent) parts.1)) (delay d (leb-true d last_minute outer.1)))
+      (names (fluent_names h.event.fluent) parts.1)) (delay d (leb-true d LAST_MINUTE outer.1)))
   all_words OpenSession h = on (codes "open") [] (passes.firsts verbs.Open) refl
   all_words (CloseSession s) h = on (codes "close") (decimal s.0 ∷ []) (passes.firsts verbs.Close) (on (decimal s.0) [] (session s h) refl)
   all_words (Activate s r) h = on (codes "activate") (decimal s.0 ∷ r ∷ []) (passes.firsts verbs.Activate) (with_name s r h)

@@ -1,9 +1,8 @@
 -- What is answered from a named point has the policy's numbers, and its walks lead along.
-use Rattle.std.proofs.Common.{◌≡◌, ℕ, ◌+◌, ◌<◌, Bool, true, false, not, List, [], ◌∷◌, ◌++◌, length, Option, Some, None, refl, sym, ◌∙◌, subst, arith}
+use Rattle.std.proofs.Common.{◌≡◌, ℕ, ◌+◌, ◌<◌, Bool, true, false, not, List, [], ◌∷◌, ◌++◌, length, Option, Some, None, refl, sym, ◌∙◌, subst, arith, if◌then◌else◌}
 use Rattle.std.specs.Prelude.{nat_le, nat_lt, count_by, is_none, filter}
 use Rattle.std.specs.List.{list_all, list_any}
 use Rattle.std.proofs.lemmas.Bool.{ltb-true, ltb-false, lt-ltb}
-use Rattle.gt_base.specs.Bounds.{last_minute}
 use Rattle.gt_base.specs.Held.{RoleWalk}
 use Rattle.gt_base.specs.declared.events.UserId.{UserId}
 use Rattle.gt_base.specs.declared.events.RoleId.{RoleId}
@@ -21,6 +20,7 @@ use Rattle.gt_base.specs.declared.requests.Refusal.{Refusal}
 use Rattle.gt_base.specs.declared.requests.Refusal.TheVariants.{NoUser, NotAdmin, Beyond, SessionsFull, NoSession, NotActive, Already, Disabled, NotAssigned, RoleFull, UserFull, DaySpent}
 use Rattle.gt_base.specs.declared.requests.Reply.{Reply}
 use Rattle.gt_base.specs.declared.requests.Reply.TheVariants.{Truth, Queued, Session, Done, Active, Decided, Refused}
+use Rattle.gt_base.specs.declared.limits.TheConstants.{LAST_MINUTE}
 use Rattle.gtrbac_model.specs.Policy.{Policy}
 use Rattle.gtrbac_model.specs.Graph.{item_at}
 use Rattle.gtrbac_model.specs.Conflict.{Status}
@@ -36,7 +36,9 @@ use Rattle.history_laws.proofs.Members.{is_in, of_filter, of_map}
 use Rattle.policy_lines.proofs.Truths.{both}
 use Rattle.request_text.specs.Named.{has_edge, has_decision, has_reply}
 use Rattle.request_text.specs.Kinds.{FollowsDecision, IsSoundReply}
-use Rattle.request_text.proofs.SoundWalks.{Leads, found_leads, none_still, tells_apart}
+use Rattle.walk_laws.proofs.Roles.{is_same_role}
+use Rattle.request_text.proofs.Refusals.{unless_keeps}
+use Rattle.request_text.proofs.SoundWalks.{Leads, found_leads, none_still}
 
 pub record Sounds (p : Policy) (r : Reply) : Type 0 where
   pub named : has_reply p r ≡ true
@@ -50,12 +52,7 @@ refused : (p : Policy) (f : Refusal) → Sounds p (Refused f)
 refused p f = record { named = refl; sound = tt }
 
 unless_sounds : (p : Policy) (cs : List (Bool × Refusal)) (r : Reply) → Sounds p r → Sounds p (unless cs r)
-unless_sounds p [] r h = h
-unless_sounds p (c ∷ cs) r h = by c.0 (unless_sounds p cs r h)
-  where
-    by : (b : Bool) → Sounds p (unless cs r) → Sounds p (elim b as (λ _. Reply) [ true ↦ Refused c.1 | false ↦ unless cs r ])
-    by true more = refused p c.1
-    by false more = more
+unless_sounds p = unless_keeps (Sounds p) (refused p)
 
 -- copies of what the model keeps to itself
 
@@ -72,7 +69,7 @@ is_usable_edge s edges n = elim (item_at edges n) [ Some e ↦ usable s true n e
 
 abbrev first_unusable : Status → List HierEdge → List ℕ → ℕ
 first_unusable s edges [] = 0
-first_unusable s edges (n ∷ ns) = elim (is_usable_edge s edges n) [ true ↦ first_unusable s edges ns | false ↦ n ]
+first_unusable s edges (n ∷ ns) = if is_usable_edge s edges n then first_unusable s edges ns else n
 
 abbrev denied : Status → List HierEdge → Option RoleWalk → Decision
 denied s edges None = NoGrant
@@ -91,7 +88,7 @@ module _ (p : Policy) where
       parts : (has_edge p n ≡ true) × (list_all (has_edge p) ns ≡ true)
       parts = both (has_edge p n) (list_all (has_edge p) ns) are
 
-      by : (b : Bool) → has_edge p (first_unusable s p.edges ns) ≡ true → has_edge p (elim b as (λ _. ℕ) [ true ↦ first_unusable s p.edges ns | false ↦ n ]) ≡ true
+      by : (b : Bool) → has_edge p (first_unusable s p.edges ns) ≡ true → has_edge p (if b then first_unusable s p.edges ns else n) ≡ true
       by true rest = rest
       by false rest = parts.0
 
@@ -111,7 +108,7 @@ module _ (p : Policy) where
         let (a, held, of) = of_map (λ (a : Activation). a.role) (filter (λ a. same_session a.session n) pt.table.active) x there in
         let (active, mine) = of_filter (λ a. same_session a.session n) pt.table.active a held in
         let low : a.role.0 < p.roles = named.active a (is_in pt.table.active a active) in
-        subst (λ (x : RoleId). x.0 < p.roles) (sym (tells_apart.0 r x same ∙ of)) low
+        subst (λ (x : RoleId). x.0 < p.roles) (sym (is_same_role r x same ∙ of)) low
 
     activates : (n : SessionId) (r : RoleId) → Sounds p (answer p pt actor (requests.Activate n r))
     activates n r = by (owner_of pt.table n) refl
@@ -159,12 +156,12 @@ module _ (p : Policy) where
             }
 
     raises : (d : ℕ) → Sounds p (unless (raise_causes p actor (pt.now + 1 + d)) (Queued (pt.now + 1 + d)))
-    raises d = by (not (is_admin p actor)) (nat_lt last_minute (pt.now + 1 + d)) refl
+    raises d = by (not (is_admin p actor)) (nat_lt LAST_MINUTE (pt.now + 1 + d)) refl
       where
-        by : (a b : Bool) → nat_lt last_minute (pt.now + 1 + d) ≡ b → Sounds p (unless ((a, NotAdmin) ∷ (b, Beyond (pt.now + 1 + d)) ∷ []) (Queued (pt.now + 1 + d)))
+        by : (a b : Bool) → nat_lt LAST_MINUTE (pt.now + 1 + d) ≡ b → Sounds p (unless ((a, NotAdmin) ∷ (b, Beyond (pt.now + 1 + d)) ∷ []) (Queued (pt.now + 1 + d)))
         by true b late = refused p NotAdmin
         by false true late = refused p (Beyond (pt.now + 1 + d))
-        by false false late = record { named = refl; sound = ltb-false last_minute (pt.now + 1 + d) late }
+        by false false late = record { named = refl; sound = ltb-false LAST_MINUTE (pt.now + 1 + d) late }
 
     sounds : (q : Request) → Sounds p (answer p pt actor q)
     sounds requests.Now = record { named = refl; sound = named.now }

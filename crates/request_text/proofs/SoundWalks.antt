@@ -2,7 +2,7 @@
 use Rattle.std.proofs.Common.{◌≡◌, ℕ, zero, suc, ◌+◌, ◌<◌, Bool, true, false, cond, List, [], ◌∷◌, length, filter, Option, Some, None, MatchOption, refl, sym, ◌∙◌, ap, subst, arith}
 use Rattle.std.specs.Prelude.{slice_get, nat_lt}
 use Rattle.std.specs.List.{list_all, enumerate_from}
-use Rattle.std.proofs.lemmas.Bool.{lt-ltb, eqb-true, eq-eqb}
+use Rattle.std.proofs.lemmas.Bool.{lt-ltb}
 use Rattle.gt_base.specs.declared.events.RoleId.{RoleId}
 use Rattle.gt_base.specs.declared.policies.HierEdge.{HierEdge}
 use Rattle.gt_base.specs.Held.{RoleWalk}
@@ -10,16 +10,13 @@ use Rattle.gtrbac_model.specs.Policy.{Policy}
 use Rattle.gtrbac_model.specs.Graph.{Arc, Path, item_at, LeadsAlong, least_walk, IsLeastWalk}
 use Rattle.gtrbac_model.specs.Same.{same_role}
 use Rattle.gtrbac_model.specs.Hierarchy.{role_arcs, all_roles, least_role_walk}
-use Rattle.walk_laws.specs.Laws.{TellsApart, HasNoWalk}
+use Rattle.walk_laws.specs.Laws.{HasNoWalk}
 use Rattle.walk_laws.proofs.Computing.{least_walk_is}
+use Rattle.walk_laws.proofs.Roles.{tells_apart}
 use Rattle.least_walk.proofs.Items.{item_map, item_get, item_within}
 use Rattle.policy_lines.proofs.Truths.{and_true, some_is, none_some}
-use Rattle.policy_book.proofs.Roles.{one_role}
 use Rattle.request_text.specs.Named.{has_edge, has_walk}
 use Rattle.request_text.specs.Kinds.{Follows}
-
-pub tells_apart : TellsApart same_role
-tells_apart = (λ a b h. one_role a b (eqb-true a.0 b.0 h), λ a b e. eq-eqb a.0 b.0 (ap (λ (r : RoleId). r.0) e))
 
 -- items with their numbers
 

@@ -5,7 +5,6 @@ use Rattle.std.specs.List.{list_all}
 use Rattle.std.proofs.lemmas.Fmt.{decimal_injective}
 use Rattle.std.proofs.lemmas.List.{take_at}
 use Rattle.std.proofs.lemmas.Bool.{false≢true, lt-ltb}
-use Rattle.gt_base.specs.Bounds.{last_minute}
 use Rattle.gt_base.specs.Names.{is_name}
 use Rattle.gt_base.specs.declared.events.UserId.{UserId}
 use Rattle.gt_base.specs.declared.requests.Who.{Who}
@@ -16,6 +15,7 @@ use Rattle.gt_base.specs.declared.requests.Reply.{Reply}
 use Rattle.gt_base.specs.declared.requests.Step.{Step}
 use Rattle.gt_base.specs.declared.requests.Step.TheVariants.{Tick, Ask}
 use Rattle.gt_base.specs.declared.requests.Entry.{Entry}
+use Rattle.gt_base.specs.declared.limits.TheConstants.{LAST_MINUTE}
 use Rattle.civil_time.specs.Text.{civil_text}
 use Rattle.civil_time.proofs.Texts.{one_text}
 use Rattle.policy_lines.specs.Plain.{is_plain, is_solid}
@@ -199,7 +199,7 @@ module _ (np : NamedPolicy) (good : IsWellFormed np) where
   log_right : (birth : ℕ) (h : List Entry) → log_text np birth h ≡ codes "born " ++ (civil_text birth ++ 10 ∷ flat_map (entry_line np) h)
   log_right birth h = right4 (codes "born ") (civil_text birth) (codes "\n") (flat_map (entry_line np) h)
 
-  pub log_tells : (birth dawn : ℕ) (h g : List Entry) → birth ≤ last_minute → dawn ≤ last_minute → AreTellable np.policy h → AreTellable np.policy g → log_text np birth h ≡ log_text np dawn g
+  pub log_tells : (birth dawn : ℕ) (h g : List Entry) → birth ≤ LAST_MINUTE → dawn ≤ LAST_MINUTE → AreTellable np.policy h → AreTellable np.policy g → log_text np birth h ≡ log_text np dawn g
       → (birth ≡ dawn) × (h ≡ g)
   log_tells birth dawn h g le lf a b e =
       let whole = ap (drop 5) (sym (log_right birth h) ∙ e ∙ log_right dawn g) in

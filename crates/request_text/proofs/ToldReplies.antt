@@ -16,7 +16,7 @@ use Rattle.gt_base.specs.declared.requests.Refusal.TheVariants.{NoUser, NotAdmin
 use Rattle.gt_base.specs.declared.requests.Reply.{Reply}
 use Rattle.gt_base.specs.declared.requests.Reply.TheVariants.{Now, Truth, Event, Queued, Session, Done, Active, Decided, Refused}
 use Rattle.civil_time.proofs.Texts.{one_text}
-use Rattle.policy_lines.proofs.Numbers.{counted_decimal}
+use Rattle.gt_text.proofs.Decimals.{counted_decimal}
 use Rattle.policy_words.specs.Naming.{NamedPolicy}
 use Rattle.policy_words.specs.Valid.{IsWellFormed}
 use Rattle.request_text.specs.Replies.{refusal_text, seen_text, decision_text, reply_text}

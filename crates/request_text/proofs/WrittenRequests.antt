@@ -1,10 +1,9 @@
 -- A request is read from the line that it writes.
-use Rattle.std.proofs.Common.{◌≡◌, ℕ, zero, suc, ◌<◌, ◌≤◌, ◌^◌, Bool, true, false, ◌&&◌, List, [], ◌∷◌, ◌++◌, length, Option, Some, None, Result, Ok, Err, decimal, refl, inl, sym, ◌∙◌, ap, arith}
+use Rattle.std.proofs.Common.{◌≡◌, ℕ, zero, suc, ◌<◌, ◌≤◌, ◌^◌, Bool, true, false, cond, ◌&&◌, List, [], ◌∷◌, ◌++◌, length, Option, Some, None, Result, Ok, Err, decimal, refl, inl, sym, ◌∙◌, ap, arith}
 use Rattle.std.specs.Prelude.{nat_le, nat_lt, codes}
 use Rattle.std.specs.List.{list_all}
 use Rattle.std.proofs.lemmas.Bool.{le-leb, lt-ltb, ltb-true}
 use borrow.Author.Tests.{leb-true}
-use Rattle.gt_base.specs.Bounds.{last_minute}
 use Rattle.gt_base.specs.Names.{is_name}
 use Rattle.gt_base.specs.declared.events.SessionId.{SessionId}
 use Rattle.gt_base.specs.declared.events.Fluent.{Fluent}
@@ -14,6 +13,7 @@ use Rattle.gt_base.specs.declared.requests.Actor.{Actor}
 use Rattle.gt_base.specs.declared.requests.Actor.TheVariants.{Operator}
 use Rattle.gt_base.specs.declared.requests.Request.{Request}
 use Rattle.gt_base.specs.declared.requests.Request.TheVariants as requests
+use Rattle.gt_base.specs.declared.limits.TheConstants.{LAST_MINUTE}
 use Rattle.gtrbac_model.specs.Policy.{Policy}
 use Rattle.gtrbac_model.specs.History.{IsNamedWish, ask}
 use Rattle.gtrbac_model.specs.WholePolicy.{is_fluent}
@@ -79,10 +79,10 @@ solid_words (Status c) h =
 solid_words (Seen e) h =
     behind (codes "event") (event_words e) refl (behind (event_verb e.on (sort_of e.fluent)) (fluent_names e.fluent) (word_event_verb e.on (sort_of e.fluent)) (words_names (fluent_names e.fluent) h))
 solid_words (Raise h d) is =
-    let outer = both (nat_le h.prio 100 && are_names (fluent_names h.event.fluent)) (nat_le d last_minute) is in
+    let outer = both (nat_le h.prio 100 && are_names (fluent_names h.event.fluent)) (nat_le d LAST_MINUTE) is in
     let parts = both (nat_le h.prio 100) (are_names (fluent_names h.event.fluent)) outer.0 in
     behind (codes "request") (head_words h ++ delay_words d) refl
-    (all_append is_word (head_words h) (delay_words d) (solid_head h (leb-true h.prio 100 parts.0) parts.1) (words_delay d (leb-true d last_minute outer.1)))
+    (all_append is_word (head_words h) (delay_words d) (solid_head h (leb-true h.prio 100 parts.0) parts.1) (words_delay d (leb-true d LAST_MINUTE outer.1)))
 solid_words OpenSession h = refl
 solid_words (CloseSession s) h = behind (codes "close") (decimal s.0 ∷ []) refl (behind (decimal s.0) [] (solid_session s h) refl)
 solid_words (Activate s r) h = behind (codes "activate") (decimal s.0 ∷ r ∷ []) refl (solid_named s r h)
@@ -136,7 +136,7 @@ module _ (np : NamedPolicy) (good : IsWellFormed np) where
   request_fits (requests.Status c) h = names_of_fluent np good c.fluent (fluent_is np.policy c.on c.fluent h)
   request_fits (requests.Seen e) h = names_of_fluent np good e.fluent (fluent_is np.policy e.on e.fluent h)
   request_fits (requests.Raise h d) is =
-      and_true _ _ (and_true _ _ (le-leb h.prio 100 is.1.1) (names_of_fluent np good h.event.fluent (fluent_is np.policy h.event.on h.event.fluent (tt, is.1.0)))) (le-leb d last_minute is.1.2)
+      and_true _ _ (and_true _ _ (le-leb h.prio 100 is.1.1) (names_of_fluent np good h.event.fluent (fluent_is np.policy h.event.on h.event.fluent (tt, is.1.0)))) (le-leb d LAST_MINUTE is.1.2)
   request_fits requests.OpenSession h = refl
   request_fits (requests.CloseSession s) h = is_small s h.1
   request_fits (requests.Activate s r) h = and_true _ _ (is_small s h.1.0) (role_named np good r (lt-ltb r.0 np.policy.roles h.1.1))
@@ -157,11 +157,10 @@ module _ (np : NamedPolicy) (good : IsWellFormed np) where
 
   pub written_is_read : (opening : Actor) (script : Bool) (r : Request) → Asks np.policy r → length (request_text np r) ≤ 512 → read_line np opening script (request_text np r) ≡ Ok (lines.Ask r)
   written_is_read opening script r h short =
-      ap (λ b. elim b as (λ _. Result Line LineFault) [
-        | true ↦ Err faults.Long
-        | false ↦ elim (are_silent (words_of (request_text np r))) [ true ↦ Ok lines.Silent | false ↦ said np opening (phrase_in script (words_of (request_text np r))) ]
-      ]) (not_true (is_longer 512 (request_text np r)) (λ t. absurd (omega (arith, short, ltb-true 512 (length (request_text np r)) t))))
-      ∙ ap (λ b. elim b as (λ _. Result Line LineFault) [ true ↦ Ok lines.Silent | false ↦ said np opening (phrase_in script (words_of (request_text np r))) ]) (ap are_silent (words_back r h) ∙ loud_words (request_named np r))
+      let read = said np opening (phrase_in script (words_of (request_text np r))) in
+      ap (λ b. cond b (Err faults.Long) (cond (are_silent (words_of (request_text np r))) (Ok lines.Silent) read))
+      (not_true (is_longer 512 (request_text np r)) (λ t. absurd (omega (arith, short, ltb-true 512 (length (request_text np r)) t))))
+      ∙ ap (λ b. cond b (Ok lines.Silent) read) (ap are_silent (words_back r h) ∙ loud_words (request_named np r))
       ∙ ap (said np opening) (phrase_back script r h) ∙ ap (meant np) (line_back opening r h)
 
   -- what a line asks, where it asks

@@ -1,6 +1,5 @@
 -- Replies of a request's kind, as in each legal history, whose numbers are those of the policy.
 use Rattle.std.specs.Prelude.{◌≡◌, ◌⊎◌, ℕ, ◌≤◌, List, [], ◌∷◌, slice_get, Some, IsTrue}
-use Rattle.gt_base.specs.Bounds.{last_minute}
 use Rattle.gt_base.specs.declared.events.RoleId.{RoleId}
 use Rattle.gt_base.specs.declared.policies.HierEdge.{HierEdge}
 use Rattle.gt_base.specs.declared.requests.Request.{Request}
@@ -9,6 +8,7 @@ use Rattle.gt_base.specs.declared.requests.Decision.{Decision}
 use Rattle.gt_base.specs.declared.requests.Decision.TheVariants.{Permit, NoActive, NoGrant, Shut}
 use Rattle.gt_base.specs.declared.requests.Reply.{Reply}
 use Rattle.gt_base.specs.declared.requests.Reply.TheVariants.{Now, Truth, Event, Queued, Session, Done, Active, Decided, Refused}
+use Rattle.gt_base.specs.declared.limits.TheConstants.{LAST_MINUTE}
 use Rattle.gtrbac_model.specs.Policy.{Policy}
 use Rattle.request_text.specs.Named.{has_reply}
 use Rattle.request_text.specs.Sizes.{IsSmall}
@@ -37,7 +37,8 @@ module _ (p : Policy) where
   -- each edge leads on from where the one before it led
   abbrev pub Follows : RoleId → List ℕ → Type 0
   Follows a [] = Unit {0}
-  Follows a (n ∷ ns) = (e : HierEdge) × (slice_get p.edges n ≡ Some e) × (e.senior ≡ a) × Follows e.junior ns
+  Follows a (n ∷ ns) =
+      (e : HierEdge) × (slice_get p.edges n ≡ Some e) × (e.senior ≡ a) × Follows e.junior ns
 
   abbrev pub FollowsDecision : Decision → Type 0
   FollowsDecision (Permit w) = Follows w.start w.edges
@@ -47,8 +48,8 @@ module _ (p : Policy) where
 
   -- instants are minutes, and walks lead along
   abbrev pub IsSoundReply : Reply → Type 0
-  IsSoundReply (Now t) = t ≤ last_minute
-  IsSoundReply (Queued t) = t ≤ last_minute
+  IsSoundReply (Now t) = t ≤ LAST_MINUTE
+  IsSoundReply (Queued t) = t ≤ LAST_MINUTE
   IsSoundReply (Active w) = Follows w.start w.edges
   IsSoundReply (Decided d) = FollowsDecision d
   IsSoundReply (Truth b) = Unit {0}

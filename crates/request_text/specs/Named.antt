@@ -1,4 +1,5 @@
--- The numbers of roles, users, permissions, limits and edges in what is written are numbers of the policy.
+-- The numbers of roles, users, permissions, limits and edges in what is written are numbers of the
+-- policy.
 use Rattle.std.specs.Prelude.{ℕ, Bool, true, ◌&&◌, length, nat_lt}
 use Rattle.std.specs.List.{list_all}
 use Rattle.gt_base.specs.declared.requests.Actor.{Actor}

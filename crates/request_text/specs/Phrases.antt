@@ -1,11 +1,12 @@
 -- What a line of a script or of a connection says, by reading its words.
-use Rattle.std.specs.Prelude.{ℕ, Bool, true, false, ◌&&◌, List, [], ◌∷◌, ◌++◌, codes, decimal, bytes_eq, Option, Some, None, find, Result, Ok, Err}
+use Rattle.std.specs.Prelude.{ℕ, Bool, ◌&&◌, List, [], ◌∷◌, ◌++◌, codes, decimal, bytes_eq, Option, Some, None, find, Result, Ok, Err, if◌then◌else◌}
 use Rattle.gt_base.specs.Names.{name_in, number_from}
 use Rattle.gt_base.specs.declared.events.SessionId.{SessionId}
 use Rattle.gt_base.specs.declared.requests.Actor.{Actor}
 use Rattle.gt_base.specs.declared.requests.Actor.TheVariants.{User}
 use Rattle.gt_base.specs.declared.requests.Request.{Request}
 use Rattle.gt_base.specs.declared.requests.Request.TheVariants as requests
+use Rattle.gt_base.specs.declared.limits.TheConstants.{MAX_NUMBER}
 use Rattle.gt_text.specs.Lines.{is_longer}
 use Rattle.gt_text.specs.Words.{words_of, are_silent}
 use Rattle.civil_time.specs.Text.{civil_text, civil_in}
@@ -62,7 +63,8 @@ verb_word verbs.Check = codes "check"
 
 abbrev pub all_verbs : List RequestVerb
 all_verbs =
-    verbs.Now ∷ verbs.Status ∷ verbs.Event ∷ verbs.Request ∷ verbs.Open ∷ verbs.Close ∷ verbs.Activate ∷ verbs.Deactivate ∷ verbs.Active ∷ verbs.Check ∷ []
+    verbs.Now ∷ verbs.Status ∷ verbs.Event ∷ verbs.Request ∷ verbs.Open ∷ verbs.Close
+    ∷ verbs.Activate ∷ verbs.Deactivate ∷ verbs.Active ∷ verbs.Check ∷ []
 
 abbrev pub verb_in : List ℕ → Option RequestVerb
 verb_in word = find (λ v. bytes_eq (verb_word v) word) all_verbs
@@ -73,7 +75,7 @@ verb_in word = find (λ v. bytes_eq (verb_word v) word) all_verbs
 abbrev pub session_at : Read SessionId
 session_at [] = None
 session_at (w ∷ ws) = do
-  n ← number_from 0 4_294_967_295 w
+  n ← number_from 0 MAX_NUMBER w
   Some (record { 0 = n }, ws)
 
 abbrev pub session_in : List (List ℕ) → Option SessionId
@@ -108,7 +110,8 @@ of_session build ws = do
   s ← session_in ws
   Some (build s)
 
-abbrev pub of_session_name : (SessionId → List ℕ → NamedRequest) → List (List ℕ) → Option NamedRequest
+abbrev pub of_session_name : (SessionId → List ℕ → NamedRequest) → List (List ℕ)
+    → Option NamedRequest
 of_session_name build ws = do
   s ← session_name_in ws
   Some (build s.0 s.1)
@@ -137,7 +140,7 @@ named_actor w = do
 
 abbrev pub actor_in : List (List ℕ) → Option (Option (List ℕ))
 actor_in [] = None
-actor_in (w ∷ []) = elim (bytes_eq w (codes "-")) [ true ↦ Some None | false ↦ named_actor w ]
+actor_in (w ∷ []) = if bytes_eq w (codes "-") then Some None else named_actor w
 actor_in (w ∷ more ∷ ws) = None
 
 abbrev pub minute_in : List (List ℕ) → Option ℕ
@@ -160,10 +163,8 @@ ask_request (Some r) = Some (Ask r)
 -- what words say, by their first; `@` stands in scripts alone
 abbrev pub phrase_by : Bool → List ℕ → List (List ℕ) → Option Phrase
 phrase_by script w ws =
-    elim (script && bytes_eq w (codes "@")) [
-      | true ↦ at_minute (minute_in ws)
-      | false ↦ elim (bytes_eq w (codes "as")) [ true ↦ be_actor (actor_in ws) | false ↦ ask_request (request_in w ws) ]
-    ]
+    if script && bytes_eq w (codes "@") then at_minute (minute_in ws)
+    else if bytes_eq w (codes "as") then be_actor (actor_in ws) else ask_request (request_in w ws)
 
 abbrev pub phrase_in : Bool → List (List ℕ) → Option Phrase
 phrase_in script [] = None
@@ -225,7 +226,6 @@ module _ (np : NamedPolicy) where
   -- a line: its length is looked at before all else, then its form, then its names
   abbrev pub read_line : Actor → Bool → List ℕ → Result Line LineFault
   read_line opening script line =
-      elim (is_longer 512 line) [
-        | true ↦ Err faults.Long
-        | false ↦ elim (are_silent (words_of line)) [ true ↦ Ok lines.Silent | false ↦ said opening (phrase_in script (words_of line)) ]
-      ]
+      if is_longer 512 line then Err faults.Long
+      else if are_silent (words_of line) then Ok lines.Silent
+      else said opening (phrase_in script (words_of line))

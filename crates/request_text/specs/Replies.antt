@@ -77,7 +77,8 @@ module _ (np : NamedPolicy) where
 
   -- the senior and the junior of the edge with this number
   abbrev pub edge_text : ℕ → List ℕ
-  edge_text n = elim (edge_at n) as (λ _. List ℕ) [ Some e ↦ role_name np.names e.senior ++ arrow ++ junior_name e | None ↦ [] ]
+  edge_text n = elim (edge_at n) as (λ _. List ℕ)
+      [ Some e ↦ role_name np.names e.senior ++ arrow ++ junior_name e | None ↦ [] ]
 
   -- the names of a walk's roles
   abbrev pub walk_text : RoleWalk → List ℕ
@@ -127,9 +128,12 @@ module _ (np : NamedPolicy) where
   request_text r = spaced (request_words (request_named r))
 
   abbrev pub step_text : Who → Step → List ℕ
-  step_text who (Tick upto to) = codes "tick " ++ who_text who ++ codes " to " ++ civil_text to ++ codes " bound " ++ civil_text upto
+  step_text who (Tick upto to) =
+      codes "tick " ++ who_text who ++ codes " to " ++ civil_text to ++ codes " bound "
+      ++ civil_text upto
   step_text who (Ask actor request reply) =
-      codes "ask " ++ who_text who ++ codes " " ++ actor_text actor ++ codes " " ++ request_text request ++ codes " = " ++ reply_text reply
+      codes "ask " ++ who_text who ++ codes " " ++ actor_text actor ++ codes " "
+      ++ request_text request ++ codes " = " ++ reply_text reply
 
   -- an entry without its line feed
   abbrev pub entry_text : Entry → List ℕ

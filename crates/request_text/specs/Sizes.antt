@@ -1,5 +1,5 @@
 -- How long a reply can be.
-use Rattle.std.specs.Prelude.{◌≤◌, ◌<◌, ◌^◌, length}
+use Rattle.std.specs.Prelude.{ℕ, ◌≤◌, ◌<◌, ◌^◌, length}
 use Rattle.gt_base.specs.declared.requests.Seen.{Seen}
 use Rattle.gt_base.specs.declared.requests.Seen.TheVariants.{Unblocked, Blocked, Absent}
 use Rattle.gt_base.specs.declared.requests.Decision.{Decision}
@@ -61,21 +61,21 @@ IsBrief (Session s) = Unit {0}
 IsBrief Done = Unit {0}
 IsBrief (Refused r) = Unit {0}
 
--- it has no walk
+-- how many edges its walk has, none where it has no walk
 
-abbrev pub IsWalklessDecision : Decision → Type 0
-IsWalklessDecision (Permit w) = ⊥
-IsWalklessDecision NoActive = Unit {0}
-IsWalklessDecision NoGrant = Unit {0}
-IsWalklessDecision (Shut n) = Unit {0}
+abbrev pub decision_edges : Decision → ℕ
+decision_edges (Permit w) = length w.edges
+decision_edges NoActive = 0
+decision_edges NoGrant = 0
+decision_edges (Shut n) = 0
 
-abbrev pub IsWalkless : Reply → Type 0
-IsWalkless (Active w) = ⊥
-IsWalkless (Decided d) = IsWalklessDecision d
-IsWalkless (Now t) = Unit {0}
-IsWalkless (Truth b) = Unit {0}
-IsWalkless (Event s) = Unit {0}
-IsWalkless (Queued t) = Unit {0}
-IsWalkless (Session s) = Unit {0}
-IsWalkless Done = Unit {0}
-IsWalkless (Refused r) = Unit {0}
+abbrev pub edge_count : Reply → ℕ
+edge_count (Active w) = length w.edges
+edge_count (Decided d) = decision_edges d
+edge_count (Now t) = 0
+edge_count (Truth b) = 0
+edge_count (Event s) = 0
+edge_count (Queued t) = 0
+edge_count (Session s) = 0
+edge_count Done = 0
+edge_count (Refused r) = 0

@@ -1,9 +1,10 @@
--- What a line of a script or of a connection says, as a relation: by the words that spell it, and not by reading.
+-- What a line of a script or of a connection says, as a relation: by the words that spell it, and
+-- not by reading.
 use Rattle.std.specs.Prelude.{◌≡◌, ◌⊎◌, ℕ, zero, ◌≤◌, ◌<◌, Bool, true, false, ◌&&◌, List, [], ◌∷◌, ◌++◌, length, codes, nat_le, Option, Some, None, Result, Ok, Err, IsTrue}
-use Rattle.gt_base.specs.Bounds.{last_minute}
 use Rattle.gt_base.specs.Names.{is_name}
 use Rattle.gt_base.specs.declared.events.SessionId.{SessionId}
 use Rattle.gt_base.specs.declared.requests.Actor.{Actor}
+use Rattle.gt_base.specs.declared.limits.TheConstants.{LAST_MINUTE, MAX_NUMBER}
 use Rattle.gt_text.specs.Words.{words_of}
 use Rattle.policy_words.specs.Wording.{fluent_names, head_words}
 use Rattle.policy_words.specs.Sayings.{are_names}
@@ -21,7 +22,9 @@ use Rattle.request_text.specs.Phrases.{request_words, phrase_words, line_of}
 
 -- the words in which a request may be said: its own, and a delay of 0 written out
 abbrev pub SpellsRequest : NamedRequest → List (List ℕ) → Type 0
-SpellsRequest (Raise h zero) words = (words ≡ request_words (Raise h 0)) ⊎ (words ≡ codes "request" ∷ head_words h ++ codes "after" ∷ codes "0" ∷ [])
+SpellsRequest (Raise h zero) words =
+    (words ≡ request_words (Raise h 0))
+    ⊎ (words ≡ codes "request" ∷ head_words h ++ codes "after" ∷ codes "0" ∷ [])
 SpellsRequest r words = words ≡ request_words r
 
 abbrev pub Spells : Phrase → List (List ℕ) → Type 0
@@ -31,13 +34,14 @@ Spells phrase words = words ≡ phrase_words phrase
 -- names that are names, and numbers in range
 
 abbrev pub is_session : SessionId → Bool
-is_session s = nat_le s.0 4_294_967_295
+is_session s = nat_le s.0 MAX_NUMBER
 
 abbrev pub is_request : NamedRequest → Bool
 is_request Now = true
 is_request (Status c) = are_names (fluent_names c.fluent)
 is_request (Seen e) = are_names (fluent_names e.fluent)
-is_request (Raise h d) = nat_le h.prio 100 && are_names (fluent_names h.event.fluent) && nat_le d last_minute
+is_request (Raise h d) =
+    nat_le h.prio 100 && are_names (fluent_names h.event.fluent) && nat_le d LAST_MINUTE
 is_request OpenSession = true
 is_request (CloseSession s) = is_session s
 is_request (Activate s r) = is_session s && is_name r
@@ -45,35 +49,43 @@ is_request (Deactivate s r) = is_session s && is_name r
 is_request (Active s r) = is_session s && is_name r
 is_request (Check s q) = is_session s && is_name q
 
-abbrev pub Fits : Phrase → Type 0
-Fits (At t) = t ≤ last_minute
-Fits (Be None) = Unit {0}
-Fits (Be (Some u)) = IsTrue (is_name u)
-Fits (Ask r) = IsTrue (is_request r)
+abbrev pub FitsPhrase : Phrase → Type 0
+FitsPhrase (At t) = t ≤ LAST_MINUTE
+FitsPhrase (Be None) = Unit {0}
+FitsPhrase (Be (Some u)) = IsTrue (is_name u)
+FitsPhrase (Ask r) = IsTrue (is_request r)
 
 -- a minute stands in scripts alone
-abbrev pub Stands : Bool → Phrase → Type 0
-Stands true phrase = Unit {0}
-Stands false (At t) = ⊥
-Stands false (Be u) = Unit {0}
-Stands false (Ask r) = Unit {0}
+abbrev pub MayStand : Bool → Phrase → Type 0
+MayStand true phrase = Unit {0}
+MayStand false (At t) = ⊥
+MayStand false (Be u) = Unit {0}
+MayStand false (Ask r) = Unit {0}
 
 -- the words say the phrase
 pub record IsPhrase (script : Bool) (words : List (List ℕ)) (phrase : Phrase) : Type 0 where
-  pub fits : Fits phrase
-  pub stands : Stands script phrase
+  pub fits : FitsPhrase phrase
+  pub stands : MayStand script phrase
   pub spells : Spells phrase words
 
--- the line says a phrase that is this one in numbers of the policy, or none where a name of it is not declared
-abbrev pub Gives : NamedPolicy → Actor → Bool → List ℕ → Option Line → Type 0
-Gives np opening script line given = (phrase : Phrase) × IsPhrase script (words_of line) phrase × (line_of np opening phrase ≡ given)
+-- the line says a phrase that is this one in numbers of the policy, or none where a name of it is
+-- not declared
+abbrev pub GivesLine : NamedPolicy → Actor → Bool → List ℕ → Option Line → Type 0
+GivesLine np opening script line given =
+    (phrase : Phrase) × IsPhrase script (words_of line) phrase
+    × (line_of np opening phrase ≡ given)
 
 -- what reading a line answers
 abbrev pub IsRead : NamedPolicy → Actor → Bool → List ℕ → Result Line LineFault → Type 0
 IsRead np opening script line (Ok lines.Silent) = IsSilent 512 line
-IsRead np opening script line (Ok (lines.At t)) = IsLoud 512 line × Gives np opening script line (Some (lines.At t))
-IsRead np opening script line (Ok (lines.Be a)) = IsLoud 512 line × Gives np opening script line (Some (lines.Be a))
-IsRead np opening script line (Ok (lines.Ask r)) = IsLoud 512 line × Gives np opening script line (Some (lines.Ask r))
+IsRead np opening script line (Ok (lines.At t)) =
+    IsLoud 512 line × GivesLine np opening script line (Some (lines.At t))
+IsRead np opening script line (Ok (lines.Be a)) =
+    IsLoud 512 line × GivesLine np opening script line (Some (lines.Be a))
+IsRead np opening script line (Ok (lines.Ask r)) =
+    IsLoud 512 line × GivesLine np opening script line (Some (lines.Ask r))
 IsRead np opening script line (Err faults.Long) = 512 < length line
-IsRead np opening script line (Err faults.Syntax) = IsLoud 512 line × ((phrase : Phrase) → IsPhrase script (words_of line) phrase → ⊥)
-IsRead np opening script line (Err faults.Name) = IsLoud 512 line × Gives np opening script line None
+IsRead np opening script line (Err faults.Syntax) =
+    IsLoud 512 line × ((phrase : Phrase) → IsPhrase script (words_of line) phrase → ⊥)
+IsRead np opening script line (Err faults.Name) =
+    IsLoud 512 line × GivesLine np opening script line None

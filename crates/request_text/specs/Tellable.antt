@@ -1,12 +1,12 @@
 -- Histories whose log tells them: legal, of named moves, and without the operator.
 use Rattle.std.specs.Prelude.{ℕ, ◌<◌, ◌≤◌, ◌^◌, List, [], ◌∷◌}
-use Rattle.gt_base.specs.Bounds.{last_minute}
 use Rattle.gt_base.specs.declared.requests.Who.{Who}
 use Rattle.gt_base.specs.declared.requests.Actor.{Actor}
 use Rattle.gt_base.specs.declared.requests.Actor.TheVariants.{Operator, User, Nobody}
 use Rattle.gt_base.specs.declared.requests.Step.{Step}
 use Rattle.gt_base.specs.declared.requests.Step.TheVariants.{Tick, Ask}
 use Rattle.gt_base.specs.declared.requests.Entry.{Entry}
+use Rattle.gt_base.specs.declared.limits.TheConstants.{LAST_MINUTE}
 use Rattle.gtrbac_model.specs.Policy.{Policy}
 use Rattle.gtrbac_model.specs.Status.{Model}
 use Rattle.gtrbac_model.specs.History.{IsNamedWish, ask, Legal}
@@ -26,8 +26,10 @@ module _ (p : Policy) where
   IsStranger Nobody = Unit {0}
 
   abbrev pub IsTellableStep : Step → Type 0
-  IsTellableStep (Tick upto to) = (upto ≤ last_minute) × (to ≤ last_minute)
-  IsTellableStep (Ask actor request reply) = IsStranger actor × IsNamedWish p (ask Operator request) × IsAnswer request reply × IsTellable p reply
+  IsTellableStep (Tick upto to) = (upto ≤ LAST_MINUTE) × (to ≤ LAST_MINUTE)
+  IsTellableStep (Ask actor request reply) =
+      IsStranger actor × IsNamedWish p (ask Operator request) × IsAnswer request reply
+      × IsTellable p reply
 
   abbrev pub IsTellableEntry : Entry → Type 0
   IsTellableEntry e = IsSmallWho e.who × IsTellableStep e.what
@@ -52,9 +54,9 @@ ArePlain [] = Unit {0}
 ArePlain (e ∷ es) = IsSmallWho e.who × IsPlainStep e.what × ArePlain es
 
 -- a legal history of moves that the policy names, none of them the operator's
-pub record IsTold (p : Policy) (birth : ℕ) (h : List Entry) : Type 0 where
+pub record IsToldHistory (p : Policy) (birth : ℕ) (h : List Entry) : Type 0 where
   pub model : Model
-  pub minute : birth ≤ last_minute
+  pub minute : birth ≤ LAST_MINUTE
   pub named : AreNamed p h
   pub legal : Legal p birth h model
   pub plain : ArePlain h

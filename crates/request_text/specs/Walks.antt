@@ -10,7 +10,9 @@ use Rattle.request_text.specs.Replies.{arrow, junior_text, actor_text, request_t
 
 -- who let time go on, where it stopped, and the bound
 abbrev pub tick_text : Who → ℕ → ℕ → List ℕ
-tick_text who to upto = codes "tick " ++ who_text who ++ codes " to " ++ civil_text to ++ codes " bound " ++ civil_text upto
+tick_text who to upto =
+    codes "tick " ++ who_text who ++ codes " to " ++ civil_text to ++ codes " bound "
+    ++ civil_text upto
 
 -- a piece with the number behind it, if there is one
 abbrev pub with_number : List ℕ → Option ℕ → List ℕ
@@ -28,4 +30,6 @@ module _ (np : NamedPolicy) where
 
   -- who asked what, up to the reply
   abbrev pub asked_text : Who → Actor → Request → List ℕ
-  asked_text who actor request = codes "ask " ++ who_text who ++ codes " " ++ actor_text np actor ++ codes " " ++ request_text np request ++ codes " = "
+  asked_text who actor request =
+      codes "ask " ++ who_text who ++ codes " " ++ actor_text np actor ++ codes " "
+      ++ request_text np request ++ codes " = "

@@ -15,7 +15,8 @@ use std::alloc::Global;
 
 fn push_status(text: &mut Vec<u8>, p: &Policy, c: Cond) -> Result<(), Memory>
     requires { IsTrue (is_fluent p.now.policy c.fluent) }
-    ensures { OnOk result (text.new.items ≡ text.old.items ++ request_text p.now (Request.Status c)) }
+    ensures { OnOk result (text.new.items ≡ text.old.items
+        ++ request_text p.now (Request.Status c)) }
 {
     text.extend_from_slice(b"status ")?;
     push_cond(text, &named_cond(p, c))
@@ -31,7 +32,8 @@ fn push_seen(text: &mut Vec<u8>, p: &Policy, e: Event) -> Result<(), Memory>
 
 fn push_raise(text: &mut Vec<u8>, p: &Policy, h: Prioritised, delay: u32) -> Result<(), Memory>
     requires { IsTrue (is_fluent p.now.policy h.event.fluent) }
-    ensures { OnOk result (text.new.items ≡ text.old.items ++ request_text p.now (Request.Raise h delay)) }
+    ensures { OnOk result (text.new.items ≡ text.old.items
+        ++ request_text p.now (Request.Raise h delay)) }
 {
     text.extend_from_slice(b"request ")?;
     push_head(text, &named_head(p, h))?;
@@ -40,7 +42,8 @@ fn push_raise(text: &mut Vec<u8>, p: &Policy, h: Prioritised, delay: u32) -> Res
 
 /// Adds a verb and a session.
 fn push_verb(text: &mut Vec<u8>, verb: &[u8], session: SessionId) -> Result<(), Memory>
-    ensures { OnOk result (text.new.items ≡ text.old.items ++ spaced (verb.now ∷ decimal session.0 ∷ [])) }
+    ensures { OnOk result (text.new.items ≡ text.old.items
+        ++ spaced (verb.now ∷ decimal session.0 ∷ [])) }
 {
     text.extend_from_slice(verb)?;
     text.extend_from_slice(b" ")?;
@@ -54,7 +57,8 @@ fn push_session(
     session: SessionId,
     name: &Name,
 ) -> Result<(), Memory>
-    ensures { OnOk result (text.new.items ≡ text.old.items ++ spaced (verb.now ∷ decimal session.0 ∷ name.now ∷ [])) }
+    ensures { OnOk result (text.new.items ≡ text.old.items
+        ++ spaced (verb.now ∷ decimal session.0 ∷ name.now ∷ [])) }
 {
     push_verb(text, verb, session)?;
     text.extend_from_slice(b" ")?;
@@ -70,7 +74,8 @@ fn push_role(
     role: RoleId,
 ) -> Result<(), Memory>
     requires { role.0 < length p.now.names.roles }
-    ensures { OnOk result (text.new.items ≡ text.old.items ++ spaced (verb.now ∷ decimal session.0 ∷ role_name p.now.names role ∷ [])) }
+    ensures { OnOk result (text.new.items ≡ text.old.items
+        ++ spaced (verb.now ∷ decimal session.0 ∷ role_name p.now.names role ∷ [])) }
 {
     push_session(text, verb, session, &p.role_name(role))
 }

@@ -21,7 +21,7 @@ use policy_book::{
 };
 
 /// The most bytes of an entry's line, its line feed included.
-const LONGEST_ENTRY: usize = 33_584;
+pub const LONGEST_ENTRY: usize = 33_584;
 
 fn put_who(into: &mut Page, who: Who)
     requires { length (who_text who) ≤ into.old.spare }
@@ -36,12 +36,10 @@ fn put_actor(into: &mut Page, p: &Policy, actor: Actor)
     requires room { length (actor_text p.now actor) ≤ into.old.spare }
     ensures { Puts into.old into.new (actor_text p.now actor) }
 {
+    p.keeps();
     match actor {
         Actor::Operator | Actor::Nobody => into.put(b"-"),
-        Actor::User(u) => {
-            p.keeps();
-            into.put(p.user_name(u).bytes());
-        }
+        Actor::User(u) => into.put(p.user_name(u).bytes()),
     }
 }
 
@@ -263,6 +261,7 @@ fn put_entry(into: &mut Page, p: &Policy, e: &Entry)
 fn small_who(who: Who)
     ensures { IsSmallWho who }
 {
+    // to read a number tells that it fits its type
     let _worker = who.worker;
     let _conn = who.conn;
 }
@@ -279,7 +278,7 @@ fn small_step(step: &Step)
 /// The line of an entry has at most `LONGEST_ENTRY` bytes.
 fn entry_fits(p: &Policy, e: &Entry)
     requires { FitsPage p.now.policy e.now }
-    ensures { length (entry_line p.now e.now) ≤ 33_584 }
+    ensures { length (entry_line p.now e.now) ≤ LONGEST_ENTRY }
 {
     p.keeps();
     small_who(e.who);
@@ -289,7 +288,7 @@ fn entry_fits(p: &Policy, e: &Entry)
 /// Adds the line of an entry.
 fn put_line(into: &mut Page, p: &Policy, e: &Entry)
     requires fits { FitsPage p.now.policy e.now }
-    requires room { 33_584 ≤ into.old.spare }
+    requires room { LONGEST_ENTRY ≤ into.old.spare }
     ensures { Puts into.old into.new (entry_line p.now e.now) }
 {
     entry_fits(p, e);
@@ -310,7 +309,7 @@ pub fn put_birth(into: &mut Page, birth: Instant)
 /// that are left: none, or fewer. It takes no memory.
 pub fn put_entries<'a>(into: &mut Page, p: &Policy, entries: &'a [Entry]) -> &'a [Entry]
     requires fit { FitPages p.now.policy entries.now }
-    requires room { 33_584 ≤ into.old.spare }
+    requires room { LONGEST_ENTRY ≤ into.old.spare }
     ensures text { into.old.items ++ flat_map (entry_line p.now) entries.now
         ≡ into.new.items ++ flat_map (entry_line p.now) result.now }
     ensures fit { FitPages p.now.policy result.now }

@@ -4,11 +4,11 @@ ghost use Rattle.policy_words.specs.Wording.{at_end};
 ghost use Rattle.request_text.specs.Phrases.{session_at, session_in, session_name_in, raise_in, cond_in, event_in, request_by, actor_in, minute_in, at_minute, be_actor};
 
 use crate::phrases::{NamedRequest, Phrase};
-use crate::verbs::{RequestVerb, same};
+use crate::verbs::RequestVerb;
 use gt_base::{Instant, Name, SessionId};
-use gt_text::Words;
+use gt_text::{Words, read_between};
 use policy_lines::{
-    next_cond, next_event, next_head, next_name, number_from, read_delay, read_instant, read_name,
+    next_cond, next_event, next_head, next_name, read_delay, read_instant, read_name,
 };
 use policy_words::NamedHead;
 
@@ -17,7 +17,7 @@ fn next_session(words: &mut Words<'_>) -> Option<SessionId>
     ensures { option_map (λ s. (s, words.new)) result ≡ session_at words.old }
 {
     let word = words.next()?;
-    Some(SessionId(number_from(0, 4_294_967_295, word)?))
+    Some(SessionId(read_between(0, u32::MAX, word)?))
 }
 
 /// The session alone.
@@ -149,7 +149,7 @@ fn actor(mut words: Words<'_>) -> Option<Option<Name>>
     if words.next().is_some() {
         return None;
     }
-    if same(word, b"-") {
+    if word == b"-".as_slice() {
         return Some(None);
     }
     Some(Some(read_name(word)?))

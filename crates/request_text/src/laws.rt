@@ -6,8 +6,8 @@ pub fn phrases_are_spelled()
     ensures { PhrasesAreSpelled }
 {}
 
-/// Reading a line by its words is what the spellings of phrases say of it: nothing, just the phrase that it is spelled by
-/// in numbers of the policy, or the fault that comes first in their order.
+/// Reading a line by its words is what the spellings of phrases say of it: nothing, just the phrase
+/// that it is spelled by in numbers of the policy, or the fault that comes first in their order.
 pub fn lines_are_read()
     ensures { LinesAreRead }
 {}
@@ -27,14 +27,14 @@ pub fn replies_answer()
     ensures { RepliesAnswer }
 {}
 
-/// What is answered in a legal history of named moves can be written: its numbers are the policy's, and its walk leads along
-/// and has at most 999 edges.
+/// What is answered in a legal history of named moves can be written: its numbers are the policy's,
+/// and its walk leads along and has at most 999 edges.
 pub fn replies_can_be_written()
     ensures { RepliesCanBeWritten }
 {}
 
-/// A walk over the edges of a policy has at most 999 of them, since they have no cycle; so the line of a reply has at most
-/// `LONGEST_REPLY` bytes.
+/// A walk over the edges of a policy has at most 999 of them, since they have no cycle; so the line
+/// of a reply has at most `LONGEST_REPLY` bytes.
 pub fn walks_are_brief()
     ensures { WalksAreBrief }
 {}
@@ -44,7 +44,8 @@ pub fn replies_are_told()
     ensures { RepliesAreTold }
 {}
 
-/// The log of a legal history of named moves, none of them the operator's, tells its birth and its entries.
+/// The log of a legal history of named moves, none of them the operator's, tells its birth and its
+/// entries.
 pub fn logs_are_told()
     ensures { LogsAreTold }
 {}

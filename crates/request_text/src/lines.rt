@@ -1,7 +1,8 @@
 //! What a line of a script or of a connection says.
 use gt_base::{Actor, Instant, Request};
 
-/// What a line says: nothing, the minute that time is to reach, the actor of the lines that follow, or a request.
+/// What a line says: nothing, the minute that time is to reach, the actor of the lines that follow,
+/// or a request.
 #[derive(Clone, Copy, PartialEq, Eq, Debug)]
 pub enum Line {
     Silent,
@@ -10,8 +11,8 @@ pub enum Line {
     Ask(Request),
 }
 
-/// Why a line says nothing that can be done: it has more than 512 bytes, its words have no form, or a name is unknown to
-/// the policy. Where several hold, the earlier one of these is told.
+/// Why a line says nothing that can be done: it has more than 512 bytes, its words have no form, or
+/// a name is unknown to the policy. Where several hold, the earlier one of these is told.
 #[derive(Clone, Copy, PartialEq, Eq, Debug)]
 pub enum LineFault {
     Long,

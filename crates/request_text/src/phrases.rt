@@ -17,7 +17,8 @@ pub enum NamedRequest {
     Check(SessionId, Name),
 }
 
-/// What a line says that is not silent: a minute, an actor, where no name is the opening actor, or a request.
+/// What a line says that is not silent: a minute, an actor, where no name is the opening actor, or
+/// a request.
 #[derive(Clone, Copy, PartialEq, Eq, Debug)]
 pub enum Phrase {
     At(Instant),

@@ -1,16 +1,15 @@
 //! Lines, read over a policy.
 ghost use Rattle.std.specs.Prelude.{◌≡◌, ◌&&◌, bytes_eq, codes, IfOk};
-ghost use Rattle.request_text.specs.Phrases.{request_of, actor_of, line_of, said as said_by, ask_request, raise_in, request_in, phrase_by, read_line as read};
+ghost use Rattle.request_text.specs.Phrases.{request_of, actor_of, line_of, said, ask_request, raise_in, request_in, phrase_by, read_line};
 ghost use Rattle.request_text.specs.Lines.{IsOpening, IsNamedLine};
 
 use crate::forms::{at, be, raise, request_after};
 use crate::lines::{Line, LineFault};
 use crate::phrases::{NamedRequest, Phrase};
-use crate::verbs::{RequestVerb, request_verb, same};
+use crate::verbs::{RequestVerb, request_verb};
 use gt_base::{Actor, Name, Request};
-use gt_text::Words;
+use gt_text::{Words, begins};
 use policy_book::Policy;
-use policy_lines::is_comment;
 
 /// The request in numbers of the policy, none exactly where a name of it is not declared.
 fn numbered(p: &Policy, request: NamedRequest) -> Option<Request>
@@ -33,7 +32,8 @@ fn numbered(p: &Policy, request: NamedRequest) -> Option<Request>
     }
 }
 
-/// The actor of a name, the opening one where there is none; nobody is it exactly where the name is not declared.
+/// The actor of a name, the opening one where there is none; nobody is it exactly where the name is
+/// not declared.
 fn actor(p: &Policy, opening: Actor, user: Option<Name>) -> Option<Actor>
     ensures { result ≡ actor_of p.now opening user }
 {
@@ -55,7 +55,7 @@ fn line_by(p: &Policy, opening: Actor, phrase: Phrase) -> Option<Line>
 }
 
 fn said(p: &Policy, opening: Actor, phrase: Option<Phrase>) -> Result<Line, LineFault>
-    ensures { result ≡ said_by p.now opening phrase }
+    ensures { result ≡ said p.now opening phrase }
 {
     let Some(phrase) = phrase else {
         return Err(LineFault::Syntax);
@@ -68,7 +68,7 @@ fn said(p: &Policy, opening: Actor, phrase: Option<Phrase>) -> Result<Line, Line
 
 /// What a request asks over a policy, or why it asks nothing.
 fn asked(p: &Policy, request: Option<NamedRequest>) -> Result<Line, LineFault>
-    ensures { (opening : Actor) → result ≡ said_by p.now opening (ask_request request) }
+    ensures { (opening : Actor) → result ≡ said p.now opening (ask_request request) }
 {
     let Some(request) = request else {
         return Err(LineFault::Syntax);
@@ -81,7 +81,8 @@ fn asked(p: &Policy, request: Option<NamedRequest>) -> Result<Line, LineFault>
 
 /// The same of the words after `request`: its names are looked up where they were read.
 fn asked_raise(p: &Policy, words: Words<'_>) -> Result<Line, LineFault>
-    ensures { (opening : Actor) → result ≡ said_by p.now opening (ask_request (raise_in words.entry)) }
+    ensures { (opening : Actor)
+        → result ≡ said p.now opening (ask_request (raise_in words.entry)) }
 {
     let Some((head, delay)) = raise(words) else {
         return Err(LineFault::Syntax);
@@ -94,7 +95,8 @@ fn asked_raise(p: &Policy, words: Words<'_>) -> Result<Line, LineFault>
 
 /// What a first word and the words after it ask over a policy, or why they ask nothing.
 fn request_said(p: &Policy, word: &[u8], words: Words<'_>) -> Result<Line, LineFault>
-    ensures { (opening : Actor) → result ≡ said_by p.now opening (ask_request (request_in word.now words.entry)) }
+    ensures { (opening : Actor)
+        → result ≡ said p.now opening (ask_request (request_in word.now words.entry)) }
 {
     match request_verb(word) {
         None => Err(LineFault::Syntax),
@@ -107,7 +109,7 @@ fn request_said(p: &Policy, word: &[u8], words: Words<'_>) -> Result<Line, LineF
 fn is_at(script: bool, word: &[u8]) -> bool
     ensures { result ≡ (script && bytes_eq word.now (codes "@")) }
 {
-    script && same(word, b"@")
+    script && word == b"@".as_slice()
 }
 
 /// What a first word and the words after it say over a policy, or their fault.
@@ -118,12 +120,12 @@ fn words_said(
     word: &[u8],
     words: Words<'_>,
 ) -> Result<Line, LineFault>
-    ensures { result ≡ said_by p.now opening (phrase_by script word.now words.entry) }
+    ensures { result ≡ said p.now opening (phrase_by script word.now words.entry) }
 {
     if is_at(script, word) {
         return said(p, opening, at(words));
     }
-    if same(word, b"as") {
+    if word == b"as".as_slice() {
         return said(p, opening, be(words));
     }
     request_said(p, word, words)
@@ -131,7 +133,7 @@ fn words_said(
 
 /// What a line says over a policy, or its fault.
 fn line_said(p: &Policy, opening: Actor, script: bool, line: &[u8]) -> Result<Line, LineFault>
-    ensures { result ≡ read p.now opening script line.now }
+    ensures { result ≡ read_line p.now opening script line.now }
 {
     if line.len() > 512 {
         return Err(LineFault::Long);
@@ -140,17 +142,17 @@ fn line_said(p: &Policy, opening: Actor, script: bool, line: &[u8]) -> Result<Li
     let Some(word) = words.next() else {
         return Ok(Line::Silent);
     };
-    if is_comment(word) {
+    if begins(word, b'#') {
         return Ok(Line::Silent);
     }
     words_said(p, opening, script, word, words)
 }
 
-/// What a line of a script, or of a connection, says over a policy, or its fault. `opening` is the actor that `as -` stands
-/// for: the operator in a script, nobody on a connection.
+/// What a line of a script, or of a connection, says over a policy, or its fault. `opening` is the
+/// actor that `as -` stands for: the operator in a script, nobody on a connection.
 pub fn read_line(p: &Policy, opening: Actor, script: bool, line: &[u8]) -> Result<Line, LineFault>
     requires { IsOpening opening }
-    ensures value { result ≡ read p.now opening script line.now }
+    ensures value { result ≡ read_line p.now opening script line.now }
     ensures named { IfOk result (λ l. IsNamedLine p.now.policy l) }
 {
     p.keeps();

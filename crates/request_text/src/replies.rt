@@ -88,7 +88,7 @@ fn edge(p: &Policy, n: u32) -> HierEdge
 }
 
 /// The name of the junior of an edge.
-pub(crate) fn junior_of(p: &Policy, n: u32) -> Name
+fn junior_of(p: &Policy, n: u32) -> Name
     requires { IsTrue (has_edge p.now.policy n) }
     ensures { result ≡ junior_text p.now n }
 {
@@ -199,8 +199,8 @@ pub(crate) fn put_text<R: Room>(into: &mut R, p: &Policy, reply: &Reply)
     }
 }
 
-/// Adds the line of a reply, with its line feed, into room that was taken before: at most `LONGEST_REPLY` bytes where a
-/// walk has no more than 999 edges. It takes no memory.
+/// Adds the line of a reply, with its line feed, into room that was taken before: at most
+/// `LONGEST_REPLY` bytes where a walk has no more than 999 edges. It takes no memory.
 pub fn put_reply(p: &Policy, r: &Reply, into: &mut List<u8>)
     requires named { IsTrue (has_reply p.now.policy r.now) }
     requires room { length (reply_line p.now r.now) ≤ into.old.spare }

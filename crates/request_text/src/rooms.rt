@@ -8,7 +8,7 @@ use std::alloc::Global;
 use std::marker::Model;
 
 /// How many bytes a page has room for.
-const PAGE_SIZE: usize = 65_536;
+pub const PAGE_SIZE: usize = 65_536;
 
 /// Where bytes are put into room that was taken before.
 pub(crate) trait Room {
@@ -47,14 +47,17 @@ impl Model for Page {
 
     ghost Value = { Roomy ℕ };
 
-    ghost view = { λ p. record { items = p.bytes.items; spare = vec_capacity p.bytes - vec_len p.bytes } };
+    ghost view = { λ p. record {
+      items = p.bytes.items;
+      spare = vec_capacity p.bytes - vec_len p.bytes;
+    } };
 }
 
 impl Page {
     /// An empty page with room for 65,536 bytes.
     pub fn new(alloc: Global) -> Result<Page, Memory>
         ensures empty { IfOk result (λ page. page.items ≡ []) }
-        ensures room { IfOk result (λ page. page.spare ≡ 65_536) }
+        ensures room { IfOk result (λ page. page.spare ≡ PAGE_SIZE) }
     {
         Ok(Page {
             bytes: Vec::with_capacity(alloc, PAGE_SIZE)?,

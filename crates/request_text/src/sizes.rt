@@ -1,25 +1,22 @@
 //! How long replies are.
-ghost use Rattle.std.specs.Prelude.{◌≡◌, ◌++◌, ◌≤◌, ◌<◌, ◌^◌, length, MatchOption};
-ghost use Rattle.policy_words.specs.Naming.{NamedPolicy};
-ghost use Rattle.request_text.specs.Replies.{walk_text, reply_text, reply_line};
-ghost use Rattle.request_text.specs.Named.{has_walk, has_reply};
-ghost use Rattle.request_text.specs.Sizes.{IsSmallSeen, IsSmallRefusal, IsSmall, IsBrief, IsWalkless};
+ghost use Rattle.std.specs.Prelude.{◌≡◌, ◌≤◌, ◌<◌, ◌^◌, length, IfOk};
+ghost use Rattle.request_text.specs.Replies.{reply_line};
+ghost use Rattle.request_text.specs.Sizes.{IsSmallSeen, IsSmallRefusal, IsSmall, IsBrief, edge_count};
 
-use gt_base::{Decision, Refusal, Reply, Seen, SessionId, Walk};
+use gt_base::{Decision, Memory, Refusal, Reply, Seen, SessionId};
 use policy_book::Policy;
+use std::alloc::AllocError;
 
-/// The most bytes of a reply's line, its line feed included, where a walk has at most 999 edges: the words before a walk,
-/// 1,000 names of 32 bytes and the signs between them.
+/// The most bytes of a reply's line, its line feed included, where a walk has at most 999 edges:
+/// the words before a walk, 1,000 names of 32 bytes and the signs between them.
 pub const LONGEST_REPLY: usize = 33_010;
-
-/// Room for a reply without a walk.
-pub(crate) const SHORT_REPLY: usize = 80;
 
 fn small_seen(seen: Seen)
     ensures { IsSmallSeen seen }
 {
     match seen {
         Seen::Unblocked(prio) | Seen::Blocked(prio) => {
+            // to read a number tells that it fits its type
             let _level = prio.get();
         }
         Seen::Absent => {}
@@ -77,20 +74,19 @@ pub(crate) fn small(reply: &Reply)
 /// A reply whose walk has at most 999 edges has a line of at most `LONGEST_REPLY` bytes.
 pub fn reply_fits(p: &Policy, r: &Reply)
     requires { IsBrief r.now }
-    ensures { length (reply_line p.now r.now) ≤ 33_010 }
+    ensures { length (reply_line p.now r.now) ≤ LONGEST_REPLY }
 {
     p.keeps();
     small(r);
 }
 
-/// The words before the walk of a reply and its walk, none where it has no walk.
-pub(crate) fn walk_of(reply: &Reply) -> Option<(&[u8], &Walk)>
-    ensures { (np : NamedPolicy) → MatchOption result (IsWalkless reply.now)
-        (λ led. (has_reply np.policy reply.now ≡ has_walk np.policy led.1.now) × (reply_text np reply.now ≡ led.0.now ++ walk_text np led.1.now)) }
+/// How many edges the walk of a reply has, none where it has no walk.
+fn walk_len(reply: &Reply) -> usize
+    ensures { result ≡ edge_count reply.now }
 {
     match reply {
-        Reply::Active(walk) => Some((b"ok by ", walk)),
-        Reply::Decided(Decision::Permit { walk }) => Some((b"permit by ", walk)),
+        Reply::Active(walk) => walk.edges.len(),
+        Reply::Decided(Decision::Permit { walk }) => walk.edges.len(),
         Reply::Now(_)
         | Reply::Truth(_)
         | Reply::Event(_)
@@ -98,6 +94,23 @@ pub(crate) fn walk_of(reply: &Reply) -> Option<(&[u8], &Walk)>
         | Reply::Session(_)
         | Reply::Done
         | Reply::Decided(Decision::NoActive | Decision::NoGrant | Decision::Shut { .. })
-        | Reply::Refused(_) => None,
+        | Reply::Refused(_) => 0,
+    }
+}
+
+/// Room that the line of a reply surely fits into: an edge of its walk adds a sign and a name of 32
+/// bytes.
+#[tactic(auto, using(crate::proofs::Lengths::line_bounds))]
+pub(crate) fn reply_room(p: &Policy, reply: &Reply) -> Result<usize, Memory>
+    ensures { IfOk result (λ n. length (reply_line p.now reply.now) ≤ n) }
+{
+    p.keeps();
+    small(reply);
+    let Some(steps) = walk_len(reply).checked_mul(33) else {
+        return Err(AllocError);
+    };
+    match steps.checked_add(81) {
+        Some(room) => Ok(room),
+        None => Err(AllocError),
     }
 }

@@ -1,18 +1,16 @@
 //! Replies, entries and the log.
-ghost use Rattle.std.specs.Prelude.{◌≡◌, ◌++◌, codes, decimal, flat_map, IsTrue, OnOk, IfOk, MatchOption, length, ◌<◌, ◌≤◌};
+ghost use Rattle.std.specs.Prelude.{◌≡◌, ◌++◌, codes, decimal, flat_map, IsTrue, OnOk, IfOk};
 ghost use Rattle.std.specs.List.{list_all};
 ghost use Rattle.civil_time.specs.Text.{civil_text};
-ghost use Rattle.policy_words.specs.Naming.{role_name};
-ghost use Rattle.request_text.specs.Replies.{walk_text, reply_text, reply_line, actor_text, request_text as text_of_request, who_text, step_text, entry_text, entry_line, log_text};
-ghost use Rattle.request_text.specs.Named.{has_edge, has_walk, has_reply, has_actor, has_request, has_entry};
-ghost use Rattle.request_text.specs.Sizes.{IsWalkless};
-ghost use Rattle.request_text.specs.Walks.{step_name, tick_text, asked_text};
+ghost use Rattle.request_text.specs.Replies.{reply_text, reply_line, actor_text, request_text, who_text, step_text, entry_text, entry_line, log_text};
+ghost use Rattle.request_text.specs.Named.{has_reply, has_actor, has_request, has_entry};
+ghost use Rattle.request_text.specs.Walks.{tick_text, asked_text};
 
 use crate::asked::write_request;
-use crate::replies::{junior_of, put_text};
-use crate::sizes::{SHORT_REPLY, small, walk_of};
+use crate::replies::{put_reply, put_text};
+use crate::sizes::reply_room;
 use civil_time::write_civil;
-use gt_base::{Actor, Entry, Instant, List, Memory, Reply, Request, RoleId, Step, Walk, Who};
+use gt_base::{Actor, Entry, Instant, List, Memory, Reply, Request, Step, Who};
 use itoa::Buffer;
 use policy_book::Policy;
 use std::alloc::Global;
@@ -33,75 +31,14 @@ fn push_number(into: &mut List<u8>, n: u32) -> Result<(), Memory>
     push(into, buffer.format(n).as_bytes())
 }
 
-/// Adds the sign between two roles and the junior of an edge.
-fn push_junior(into: &mut List<u8>, p: &Policy, n: u32) -> Result<(), Memory>
-    requires { IsTrue (has_edge p.now.policy n) }
-    ensures { OnOk result (into.new.items ≡ into.old.items ++ step_name p.now n) }
-{
-    push(into, b">")?;
-    push(into, junior_of(p, n).bytes())
-}
-
-fn push_juniors(into: &mut List<u8>, p: &Policy, edges: &[u32]) -> Result<(), Memory>
-    requires { IsTrue (list_all (has_edge p.now.policy) edges.now) }
-    ensures { OnOk result (into.new.items ≡ into.old.items ++ flat_map (step_name p.now) edges.now) }
-{
-    for n in edges {
-        push_junior(into, p, *n)?;
-    }
-    Ok(())
-}
-
-/// Adds a piece and the role where a walk begins.
-fn push_start(into: &mut List<u8>, p: &Policy, piece: &[u8], start: RoleId) -> Result<(), Memory>
-    requires { start.0 < length p.now.names.roles }
-    ensures { OnOk result (into.new.items ≡ into.old.items ++ (piece.now ++ role_name p.now.names start)) }
-{
-    push(into, piece)?;
-    push(into, p.role_name(start).bytes())
-}
-
-/// Adds a piece and the names of a walk's roles.
-fn push_walk(into: &mut List<u8>, p: &Policy, piece: &[u8], walk: &Walk) -> Result<(), Memory>
-    requires { IsTrue (has_walk p.now.policy walk.now) }
-    ensures { OnOk result (into.new.items ≡ into.old.items ++ (piece.now ++ walk_text p.now walk.now)) }
-{
-    p.keeps();
-    push_start(into, p, piece, walk.start)?;
-    push_juniors(into, p, walk.edges.as_slice())
-}
-
-/// Adds the text of a reply without a walk.
-fn push_short(into: &mut List<u8>, p: &Policy, reply: &Reply) -> Result<(), Memory>
-    requires named { IsTrue (has_reply p.now.policy reply.now) }
-    requires walkless { IsWalkless reply.now }
-    ensures { OnOk result (into.new.items ≡ into.old.items ++ reply_text p.now reply.now) }
-{
-    p.keeps();
-    small(reply);
-    into.reserve(SHORT_REPLY)?;
-    put_text(into, p, reply);
-    Ok(())
-}
-
 /// Adds the text of a reply, without a line feed.
 fn push_text(into: &mut List<u8>, p: &Policy, reply: &Reply) -> Result<(), Memory>
     requires { IsTrue (has_reply p.now.policy reply.now) }
     ensures { OnOk result (into.new.items ≡ into.old.items ++ reply_text p.now reply.now) }
 {
-    match walk_of(reply) {
-        Some((piece, walk)) => push_walk(into, p, piece, walk),
-        None => push_short(into, p, reply),
-    }
-}
-
-/// Adds the line of a reply, with its line feed.
-fn push_reply(into: &mut List<u8>, p: &Policy, reply: &Reply) -> Result<(), Memory>
-    requires { IsTrue (has_reply p.now.policy reply.now) }
-    ensures { OnOk result (into.new.items ≡ into.old.items ++ reply_line p.now reply.now) }
-{
-    push_text(into, p, reply)?;
-    push(into, b"\n")
+    into.reserve(reply_room(p, reply)?)?;
+    put_text(into, p, reply);
+    Ok(())
 }
 
 /// The line of a reply, with its line feed.
@@ -110,7 +47,8 @@ pub fn write_reply(alloc: Global, p: &Policy, r: &Reply) -> Result<List<u8>, Mem
     ensures { IfOk result (λ text. text.items ≡ reply_line p.now r.now) }
 {
     let mut text = List::new(alloc);
-    push_reply(&mut text, p, r)?;
+    text.reserve(reply_room(p, r)?)?;
+    put_reply(p, r, &mut text);
     Ok(text)
 }
 
@@ -126,12 +64,10 @@ fn push_actor(into: &mut List<u8>, p: &Policy, actor: Actor) -> Result<(), Memor
     requires { IsTrue (has_actor p.now.policy actor) }
     ensures { OnOk result (into.new.items ≡ into.old.items ++ actor_text p.now actor) }
 {
+    p.keeps();
     match actor {
         Actor::Operator | Actor::Nobody => push(into, b"-"),
-        Actor::User(u) => {
-            p.keeps();
-            push(into, p.user_name(u).bytes())
-        }
+        Actor::User(u) => push(into, p.user_name(u).bytes()),
     }
 }
 
@@ -219,7 +155,8 @@ fn push_entries(
     entries: &[Entry],
 ) -> Result<(), Memory>
     requires { IsTrue (list_all (has_entry p.now.policy) entries.now) }
-    ensures { OnOk result (into.new.items ≡ into.old.items ++ flat_map (entry_line p.now) entries.now) }
+    ensures { OnOk result (into.new.items ≡ into.old.items
+        ++ flat_map (entry_line p.now) entries.now) }
 {
     for e in entries {
         push_line(alloc, into, p, e)?;
@@ -229,7 +166,8 @@ fn push_entries(
 
 /// Adds the line of a birth.
 fn push_birth(into: &mut List<u8>, birth: Instant) -> Result<(), Memory>
-    ensures { OnOk result (into.new.items ≡ into.old.items ++ (codes "born " ++ civil_text birth ++ codes "\n")) }
+    ensures { OnOk result (into.new.items ≡ into.old.items
+        ++ (codes "born " ++ civil_text birth ++ codes "\n")) }
 {
     push_instant(into, b"born ", birth)?;
     push(into, b"\n")

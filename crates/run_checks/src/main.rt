@@ -1,5 +1,5 @@
-//! Plays whole runs of the program `gtrbac`, which stand as cases in files of text, over a shelf, an input and an output in
-//! memory, and says of each whether it ended as it was to.
+//! Plays whole runs of the program `gtrbac`, which stand as cases in files of text, over a shelf,
+//! an input and an output in memory, and says of each whether it ended as it was to.
 #![tactic(auto)]
 
 mod runs;

@@ -11,7 +11,14 @@ use Rattle.least_walk.proofs.Descending.{goal_get}
 use Rattle.gtrbac_model.specs.Cycles.{Closes, NotLonger, IsLeastCycle, Climbs, AreLevels}
 use Rattle.walk_laws.proofs.Levels.{along, levels_leave_no_cycle}
 use Rattle.safety_cycle.specs.Judged.{IsStratified}
-use Rattle.safety_cycle.specs.Ranks.{AreRanks, IsLevelMark, lifted}
+use Rattle.safety_cycle.specs.Ranks.{AreRanks, lifted}
+
+-- the edge of this number is marked, and its ends have one rank
+pub record IsLevelMark (edges : List GraphEdge) (ranks : List ℕ) (n : ℕ) : Type 0 where
+  pub edge : GraphEdge
+  pub is : item_at edges n ≡ Some edge
+  pub marked : edge.marked ≡ true
+  pub level : slice_index ranks edge.from ≡ slice_index ranks edge.to
 
 -- what lifting does to a rank
 record Lift (rank r : ℕ) (marked : Bool) (l : ℕ) : Type 0 where

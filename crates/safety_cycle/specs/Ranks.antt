@@ -16,13 +16,6 @@ pub record AreRanks (nodes : ℕ) (edges : List GraphEdge) (ranks : List ℕ) (n
       → slice_index ranks e.from < slice_index ranks e.to
   pub bound : (v : ℕ) → slice_index ranks v + length edges ≤ 4_294_967_295 + n
 
--- the edge of this number is marked, and its ends have one rank
-pub record IsLevelMark (edges : List GraphEdge) (ranks : List ℕ) (n : ℕ) : Type 0 where
-  pub edge : GraphEdge
-  pub is : item_at edges n ≡ Some edge
-  pub marked : edge.marked ≡ true
-  pub level : slice_index ranks edge.from ≡ slice_index ranks edge.to
-
 -- one more above the rank, and at the rank where the node is not marked
 abbrev pub lifted : ℕ → ℕ → Bool → ℕ
 lifted rank r marked = if nat_lt rank r || (nat_eq r rank && not marked) then r + 1 else r

@@ -75,7 +75,7 @@ fn linked(
     edges: &[GraphEdge],
     backward: bool,
 ) -> Result<Links, AllocError>
-    requires { length edges.now ≤ 4_294_967_295 }
+    requires { length edges.now ≤ u32.MAX }
 {
     let mut first = filled(alloc, nodes, NONE)?;
     let mut next = Vec::new(alloc);

@@ -112,7 +112,7 @@ fn closed(alloc: Global, n: u32, walk: &EdgeList) -> Result<EdgeList, AllocError
 /// Lifts by one what has a greater rank, or has this rank and is not marked.
 fn lift(ranks: &mut [u32], reach: &[bool], rank: u32)
     requires size { length reach.now ≡ length ranks.old }
-    requires room { (v : ℕ) → slice_index ranks.old v < 4_294_967_295 }
+    requires room { (v : ℕ) → slice_index ranks.old v < u32.MAX }
     ensures { (v : ℕ) → v < length ranks.old
         → slice_index ranks.new v ≡ lifted rank (slice_index ranks.old v) (is_goal reach.now v) }
 {

@@ -4,7 +4,8 @@ use crate::full_table::opened;
 use gt_base::{Actor, Fluent, List, Refusal, RoleId, SessionId, UserId};
 use std::test::Fail;
 
-/// Sessions closed between others end their roles in the order in which they were activated, and leave those of the others.
+/// Sessions closed between others end their roles in the order in which they were activated, and
+/// leave those of the others.
 #[test]
 fn a_closed_session_leaves_the_others(rt: HostRuntime) -> Result<(), Fail> {
     let alloc = rt.alloc();

@@ -51,7 +51,8 @@ fn enabled(alloc: Global, roles: &[u32], edges: &[u32]) -> Result<Status, Memory
     with_on(alloc, &fluents)
 }
 
-/// Whether the chief is permitted the chart, and the first edge of the walk or the one at which it is shut; 99 for any other decision.
+/// Whether the chief is permitted the chart, and the first edge of the walk or the one at which it
+/// is shut; 99 for any other decision.
 fn told(alloc: Global, roles: &[u32], on: &[u32]) -> Result<(bool, u32), Memory> {
     let edges = ward(alloc)?;
     let status = enabled(alloc, roles, on)?;

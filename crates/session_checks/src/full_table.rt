@@ -6,7 +6,8 @@ use session_table::{SessionFault, Sessions};
 use std::alloc::Global;
 use std::test::Fail;
 
-/// A table in which so many sessions are open, the first one with the number 1; want of memory or a refusal ends it.
+/// A table in which so many sessions are open, the first one with the number 1; want of memory or a
+/// refusal ends it.
 pub(crate) fn opened(alloc: Global, sessions: u32) -> Result<Sessions, SessionFault>
     ensures { IfOk result (λ table. table.begun ≤ sessions) }
 {

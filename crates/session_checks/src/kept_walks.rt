@@ -4,7 +4,8 @@ use gt_base::{Actor, Fluent, List, RoleId, UserId};
 use session_table::Sessions;
 use std::test::Fail;
 
-/// A role that is active by an edge stays in a minute in which the edge is on, and is dropped in one in which it is off.
+/// A role that is active by an edge stays in a minute in which the edge is on, and is dropped in
+/// one in which it is off.
 #[test]
 fn a_role_stays_as_long_as_its_walk(rt: HostRuntime) -> Result<(), Fail> {
     let alloc = rt.alloc();

@@ -1,5 +1,5 @@
 -- The first cause that is there decides the reply.
-use Rattle.std.proofs.Common.{◌≡◌, ℕ, Bool, true, false, List, [], ◌∷◌, ◌++◌, count_by, Option, Some, None, is_none, refl, sym, ap, ◌∙◌, append_assoc}
+use Rattle.std.proofs.Common.{◌≡◌, ℕ, Bool, true, false, List, [], ◌∷◌, ◌++◌, count_by, Option, Some, None, is_none, refl, sym, ap, ◌∙◌, append_assoc, if◌then◌else◌}
 use Rattle.std.specs.List.{list_any}
 use Rattle.gt_base.specs.declared.events.RoleId.{RoleId}
 use Rattle.gt_base.specs.declared.events.UserId.{UserId}
@@ -31,8 +31,8 @@ pub unless_none : (cs : List (Bool × Refusal)) (a : Reply) → first_cause cs �
 unless_none [] a e = refl
 unless_none (c ∷ cs) a e = by c.1 cs a c.0 e (unless_none cs a)
   where
-    by : (x : Refusal) (cs : List (Bool × Refusal)) (a : Reply) (b : Bool) → ◌≡◌ {A = Option Refusal} (elim b [ true ↦ Some x | false ↦ first_cause cs ]) None → (first_cause cs ≡ None → unless cs a ≡ a)
-        → (elim b [ true ↦ Refused x | false ↦ unless cs a ]) ≡ a
+    by : (x : Refusal) (cs : List (Bool × Refusal)) (a : Reply) (b : Bool) → ◌≡◌ {A = Option Refusal} (if b then Some x else first_cause cs) None → (first_cause cs ≡ None → unless cs a ≡ a)
+        → (if b then Refused x else unless cs a) ≡ a
     by x cs a true e h = cc
     by x cs a false e h = h e
 
@@ -40,8 +40,8 @@ pub front_none : (xs ys : List (Bool × Refusal)) (a : Reply) → first_cause xs
 front_none [] ys a e = refl
 front_none (c ∷ cs) ys a e = by c.1 cs ys a c.0 e (front_none cs ys a)
   where
-    by : (x : Refusal) (cs ys : List (Bool × Refusal)) (a : Reply) (b : Bool) → ◌≡◌ {A = Option Refusal} (elim b [ true ↦ Some x | false ↦ first_cause cs ]) None → (first_cause cs ≡ None → unless (cs ++ ys) a ≡ unless ys a)
-        → (elim b [ true ↦ Refused x | false ↦ unless (cs ++ ys) a ]) ≡ unless ys a
+    by : (x : Refusal) (cs ys : List (Bool × Refusal)) (a : Reply) (b : Bool) → ◌≡◌ {A = Option Refusal} (if b then Some x else first_cause cs) None → (first_cause cs ≡ None → unless (cs ++ ys) a ≡ unless ys a)
+        → (if b then Refused x else unless (cs ++ ys) a) ≡ unless ys a
     by x cs ys a true e h = cc
     by x cs ys a false e h = h e
 
@@ -49,8 +49,8 @@ pub front_some : (xs ys : List (Bool × Refusal)) (a : Reply) (r : Refusal) → 
 front_some [] ys a r e = cc
 front_some (c ∷ cs) ys a r e = by c.1 cs ys a r c.0 e (front_some cs ys a r)
   where
-    by : (x : Refusal) (cs ys : List (Bool × Refusal)) (a : Reply) (r : Refusal) (b : Bool) → (elim b [ true ↦ Some x | false ↦ first_cause cs ]) ≡ Some r
-        → (first_cause cs ≡ Some r → unless (cs ++ ys) a ≡ Refused r) → (elim b [ true ↦ Refused x | false ↦ unless (cs ++ ys) a ]) ≡ Refused r
+    by : (x : Refusal) (cs ys : List (Bool × Refusal)) (a : Reply) (r : Refusal) (b : Bool) → (if b then Some x else first_cause cs) ≡ Some r
+        → (first_cause cs ≡ Some r → unless (cs ++ ys) a ≡ Refused r) → (if b then Refused x else unless (cs ++ ys) a) ≡ Refused r
     by x cs ys a r true e h = let same : x ≡ r = cc in ap Refused same
     by x cs ys a r false e h = h e
 
@@ -116,8 +116,8 @@ pub first_of_front : (xs ys : List (Bool × Refusal)) (x : Refusal) → first_ca
 first_of_front [] ys x e = cc
 first_of_front (c ∷ cs) ys x e = by c.1 cs ys x c.0 e (first_of_front cs ys x)
   where
-    by : (y : Refusal) (cs ys : List (Bool × Refusal)) (x : Refusal) (b : Bool) → (elim b [ true ↦ Some y | false ↦ first_cause cs ]) ≡ Some x
-        → (first_cause cs ≡ Some x → first_cause (cs ++ ys) ≡ Some x) → (elim b [ true ↦ Some y | false ↦ first_cause (cs ++ ys) ]) ≡ Some x
+    by : (y : Refusal) (cs ys : List (Bool × Refusal)) (x : Refusal) (b : Bool) → (if b then Some y else first_cause cs) ≡ Some x
+        → (first_cause cs ≡ Some x → first_cause (cs ++ ys) ≡ Some x) → (if b then Some y else first_cause (cs ++ ys)) ≡ Some x
     by y cs ys x true e h = e
     by y cs ys x false e h = h e
 
@@ -125,8 +125,8 @@ pub first_of_rest : (xs ys : List (Bool × Refusal)) → first_cause xs ≡ None
 first_of_rest [] ys e = refl
 first_of_rest (c ∷ cs) ys e = by c.1 cs ys c.0 e (first_of_rest cs ys)
   where
-    by : (y : Refusal) (cs ys : List (Bool × Refusal)) (b : Bool) → ◌≡◌ {A = Option Refusal} (elim b [ true ↦ Some y | false ↦ first_cause cs ]) None
-        → (first_cause cs ≡ None → first_cause (cs ++ ys) ≡ first_cause ys) → (elim b [ true ↦ Some y | false ↦ first_cause (cs ++ ys) ]) ≡ first_cause ys
+    by : (y : Refusal) (cs ys : List (Bool × Refusal)) (b : Bool) → ◌≡◌ {A = Option Refusal} (if b then Some y else first_cause cs) None
+        → (first_cause cs ≡ None → first_cause (cs ++ ys) ≡ first_cause ys) → (if b then Some y else first_cause (cs ++ ys)) ≡ first_cause ys
     by y cs ys true e h = cc
     by y cs ys false e h = h e
 

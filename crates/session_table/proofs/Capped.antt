@@ -1,5 +1,5 @@
 -- What a close leaves, and that caps hold after each step.
-use Rattle.std.proofs.Common.{◌≡◌, ℕ, zero, suc, ◌+◌, ◌-◌, ◌<◌, ◌≤◌, Bool, true, false, cond, not, ◌&&◌, ◌||◌, List, [], ◌∷◌, ◌++◌, filter, count_by, Option, Some, None, is_none, refl, sym, subst, arith}
+use Rattle.std.proofs.Common.{◌≡◌, ℕ, zero, suc, ◌+◌, ◌-◌, ◌<◌, ◌≤◌, Bool, true, false, cond, not, ◌&&◌, ◌||◌, List, [], ◌∷◌, ◌++◌, filter, count_by, Option, Some, None, is_none, refl, sym, subst, arith, if◌then◌else◌}
 use Rattle.std.specs.List.{list_any}
 use Rattle.std.proofs.lemmas.Bool.{leb-false, eqb-true}
 use Rattle.gt_base.specs.declared.events.RoleId.{RoleId}
@@ -23,6 +23,7 @@ use Rattle.gtrbac_model.specs.Policy.{Policy}
 use Rattle.gtrbac_model.specs.Reply.{Point, unless, session_causes, answer}
 use Rattle.gtrbac_model.specs.Same.{same_role, same_user}
 use Rattle.gtrbac_model.specs.Sessions.{Table, Activation, caps_of, reached, is_of, is_active_in, is_dropped, owner_of, applied}
+use Rattle.walk_laws.proofs.Roles.{is_same_role}
 use Rattle.session_table.specs.Tables.{charged_through}
 use Rattle.session_table.specs.Laws.{CloseLeaves, WithinCaps, CapsStay}
 use Rattle.session_table.specs.Opened.{in_session}
@@ -84,9 +85,6 @@ one_more p xs a n le room = subst (λ k. k ≤ n) (sym (count_added p xs a)) (by
     by true h = h refl
     by false h = omega (arith, le)
 
-one_role : (a b : RoleId) → same_role a b ≡ true → a ≡ b
-one_role a b h = let e : a.0 ≡ b.0 = eqb-true a.0 b.0 h in λ i. record { 0 = e i }
-
 one_user : (a b : UserId) → same_user a b ≡ true → a ≡ b
 one_user a b h = let e : a.0 ≡ b.0 = eqb-true a.0 b.0 h in λ i. record { 0 = e i }
 
@@ -99,7 +97,7 @@ no_refusal : (cs : List (Bool × Refusal)) (a : Reply) (w : RoleWalk) → unless
 no_refusal [] a w e i c at = cc
 no_refusal (d ∷ cs) a w e i c at = by d.0 refl e (λ h j f. no_refusal cs a w h j c f) i at
   where
-    by : (b : Bool) → d.0 ≡ b → (elim b [ true ↦ Refused d.1 | false ↦ unless cs a ]) ≡ Active w → (unless cs a ≡ Active w → (j : ℕ) → item_at cs j ≡ Some c → c.0 ≡ false) → (i : ℕ) → item_at (d ∷ cs) i ≡ Some c → c.0 ≡ false
+    by : (b : Bool) → d.0 ≡ b → (if b then Refused d.1 else unless cs a) ≡ Active w → (unless cs a ≡ Active w → (j : ℕ) → item_at cs j ≡ Some c → c.0 ≡ false) → (i : ℕ) → item_at (d ∷ cs) i ≡ Some c → c.0 ≡ false
     by true is h rest i at = cc
     by false is h rest zero at = let same : d ≡ c = cc in subst (λ x. x.0 ≡ false) same is
     by false is h rest (suc i) at = rest h i at
@@ -151,9 +149,9 @@ module _ (p : Policy) (pt : Point) (actor : Actor) (n : SessionId) (r : RoleId) 
     added : (u : UserId) → (reached (caps_of p.caps r).total all ≡ false) × (reached (caps_of p.caps r).user (own u) ≡ false)
         → WithinCaps p.caps (record tb { active = tb.active ++ activation n u r pt.now ∷ [] })
     added u free = record {
-      total = λ q k e. one_more (λ a. same_role a.role q) tb.active (activation n u r pt.now) k (within.total q k e) (λ same. for_role q k free.0 e (one_role r q same));
+      total = λ q k e. one_more (λ a. same_role a.role q) tb.active (activation n u r pt.now) k (within.total q k e) (λ same. for_role q k free.0 e (is_same_role r q same));
       user = λ v q k e. one_more (is_of v q) tb.active (activation n u r pt.now) k (within.user v q k e)
-          (λ same. let h = both_true (same_user u v) (same_role r q) same in for_user u v q k free.1 e (one_user u v h.0) (one_role r q h.1));
+          (λ same. let h = both_true (same_user u v) (same_role r q) same in for_user u v q k free.1 e (one_user u v h.0) (is_same_role r q h.1));
     }
 
     entered : (o : Option UserId) (reply : Reply) → owner_of tb n ≡ o → reply ≡ to_act o → WithinCaps p.caps (applied pt.now actor (Activate n r) reply tb)

@@ -11,7 +11,7 @@ use Rattle.history_laws.specs.Tables.{minutes_of_day}
 use Rattle.session_table.specs.declared.opened.Open.{Open}
 use Rattle.session_table.specs.Opened.{role_in}
 use Rattle.session_table.specs.Charges.{Charged, charged_in}
-use Rattle.session_table.specs.Kept.{IsKept, minutes_until}
+use Rattle.session_table.specs.Kept.{AreKeptRows, minutes_until}
 use Rattle.session_table.specs.Tables.{NotBefore}
 use Rattle.session_table.proofs.Charging.{split}
 use Rattle.session_table.proofs.Indexing.{count_cons, count_kept, session_itself, role_itself}
@@ -34,7 +34,7 @@ more_charged c m n a b e h k l few =
     let p : m * n ≤ m * 10_000 = mul-le-mul_left m few in
     omega (arith, p, h, k, l)
 
-module _ (os : List Open) (active : List Activation) (charges : Charged) (until : Option ℕ) (h : IsKept os active charges until)
+module _ (os : List Open) (active : List Activation) (charges : Charged) (until : Option ℕ) (h : AreKeptRows os active charges until)
     (now to : ℕ) (order : now < to) (not_before : NotBefore until now) where
   charged_after : (u : UserId) (r : RoleId) (d : ℕ) → charged_in charges u r d + minutes_of_day now (to - now) d * count_by (is_of u r) active ≤ 10_000 * minutes_until (Some to) d
   charged_after u r d =
@@ -129,7 +129,7 @@ all_kept (x ∷ xs) = ap (λ ys. x ∷ ys) (all_kept xs)
 pub each_kept : {A : Type 0} (p : A → Bool) (xs : List A) → ((i : ℕ) (a : A) → item_at xs i ≡ Some a → p a ≡ true) → xs ≡ filter p xs
 each_kept p xs h = sym (filter_by_items p (λ x. true) xs h ∙ all_kept xs)
 
-module _ (os : List Open) (active : List Activation) (charges : Charged) (until : Option ℕ) (h : IsKept os active charges until)
+module _ (os : List Open) (active : List Activation) (charges : Charged) (until : Option ℕ) (h : AreKeptRows os active charges until)
     (test : Activation → Bool) (gone : List Activation) (is_gone : gone ≡ filter test active)
     (os' : List Open) (roles : (n : SessionId) (r : RoleId) → role_in os' n r ≡ (not (list_any (is_active_in n r) gone) && role_in os n r)) where
   abbrev left : List Activation
@@ -152,7 +152,7 @@ module _ (os : List Open) (active : List Activation) (charges : Charged) (until 
 
   pub committed : count_by (λ (o : Open). o.is_open) os' ≡ count_by (λ (o : Open). o.is_open) os → (rows : Charged) (now to : ℕ) → now < to → NotBefore until now
       → ((u : UserId) (r : RoleId) (d : ℕ) → charged_in rows u r d ≡ charged_in charges u r d + minutes_of_day now (to - now) d * count_by (is_of u r) active)
-      → IsKept os' left rows (Some to)
+      → AreKeptRows os' left rows (Some to)
   committed len rows now to order not_before charged = record {
     few = subst (λ n. n ≤ 10_000) (sym len) h.few;
     index = λ n r.

@@ -14,7 +14,7 @@ use Rattle.session_table.specs.declared.opened.Open.{Open}
 use Rattle.session_table.specs.Charges.{Charged}
 use Rattle.session_table.specs.Opened.{numbered, in_session}
 use Rattle.session_table.specs.Causes.{StandsAt}
-use Rattle.session_table.specs.Kept.{IsKept}
+use Rattle.session_table.specs.Kept.{AreKeptRows}
 use Rattle.session_table.proofs.Charging.{split}
 use Rattle.session_table.proofs.Indexing.{count_cons, one_session}
 use Rattle.session_table.proofs.Keeping.{sum_plus, sum_same, at_most_one, some_counted, listed}
@@ -43,7 +43,7 @@ module _ (n : SessionId) (roles : List RoleId) where
       let f = by_roles xs (λ i. h (suc i)) in
       omega (arith, b, c, d, e, f)
 
-module _ (os : List Open) (active : List Activation) (charges : Charged) (to : Option ℕ) (h : IsKept os active charges to) (n : SessionId) where
+module _ (os : List Open) (active : List Activation) (charges : Charged) (to : Option ℕ) (h : AreKeptRows os active charges to) (n : SessionId) where
   there : (i : ℕ) (a : Activation) → item_at active i ≡ Some a → in_session n a ≡ true → list_any (is_active_in n a.role) active ≡ true
   there i a is on = ap (λ m. list_any (is_active_in m a.role) active) (sym (one_session a.session n on)) ∙ listed active i a is
 

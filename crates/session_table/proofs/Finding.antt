@@ -84,11 +84,7 @@ pub no_session : (os : List Open) (n : SessionId) → find (numbered n) os ≡ N
 no_session os n e actor tb = ap (λ o. first_cause (causes_of o actor)) (no_owner os n e tb)
 
 owned_causes : (owner : UserId) (actor : Actor) → first_cause (causes_of (Some owner) actor) ≡ cond (is_foreign owner actor) (Some NotYours) None
-owned_causes owner (User u) = by (is_foreign owner (User u))
-  where
-    by : (b : Bool) → (elim b [ true ↦ Some NotYours | false ↦ None ]) ≡ cond b (Some NotYours) None
-    by true = refl
-    by false = refl
+owned_causes owner (User u) = refl
 owned_causes owner Operator = refl
 owned_causes owner Nobody = refl
 

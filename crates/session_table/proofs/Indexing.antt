@@ -18,6 +18,7 @@ use Rattle.session_table.specs.RoleSets.{role_cmp, RoleSet}
 use Rattle.session_table.specs.Opened.{numbered, opened, still_open, role_in, in_session}
 use Rattle.session_table.specs.Causes.{StandsAt}
 use Rattle.session_table.proofs.Charging.{split}
+use Rattle.walk_laws.proofs.Roles.{is_same_role}
 use Rattle.session_table.proofs.RoleOrder.{role_cmp_total, tied_is_same}
 
 -- numbers and roles
@@ -225,11 +226,8 @@ module _ (os : List Open) (m : SessionId) (at : ℕ) (h : StandsAt os m at) (o :
       and_turned false true = refl
       and_turned false false = refl
 
-      one_role : (a b : RoleId) → role_cmp a b ≡ Equal → a ≡ b
-      one_role a b e = let n : a.0 ≡ b.0 = eqb-true a.0 b.0 (sym (tied_is_same a b) ∙ ap is_eq e) in λ i. record { 0 = n i }
-
       alike : (y : RoleId) → role_cmp r y ≡ Equal → not (eq_by_cmp role_cmp q y) ≡ not (eq_by_cmp role_cmp q r)
-      alike y e = ap (λ z. not (eq_by_cmp role_cmp q z)) (sym (one_role r y e))
+      alike y e = ap (λ z. not (eq_by_cmp role_cmp q z)) (sym (is_same_role r y (sym (tied_is_same r y) ∙ ap is_eq e)))
 
       on : same_session m n ≡ true → cond (same_session m n) (has (without o.roles q) r) (role_in os n r) ≡ (not (same_session m n && same_role q r) && role_in os n r)
       on e =

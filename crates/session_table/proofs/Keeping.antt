@@ -14,7 +14,7 @@ use Rattle.session_table.specs.declared.opened.Open.{Open}
 use Rattle.session_table.specs.Charges.{Charged}
 use Rattle.session_table.specs.Opened.{numbered, opened, still_open, role_in, in_session}
 use Rattle.session_table.specs.Causes.{StandsAt}
-use Rattle.session_table.specs.Kept.{IsKept}
+use Rattle.session_table.specs.Kept.{AreKeptRows}
 use Rattle.session_table.proofs.Charging.{split}
 use Rattle.session_table.proofs.Indexing.{pushed, shut, added, removed, any_shut, any_ended, any_added, count_cons, count_kept, count_added, count_set, count_again, open_role, number_is, once_more, session_itself, role_itself}
 
@@ -28,8 +28,8 @@ as_many_open os i o p at e =
     let b : ◌≡◌ {A = ℕ} (cond p.is_open 1 0) (cond o.is_open 1 0) = ap (λ b. cond b 1 0) e in
     omega (arith, a, b)
 
-module _ (os : List Open) (active : List Activation) (charges : Charged) (to : Option ℕ) (h : IsKept os active charges to) where
-  pub begun : (o : Open) → o.roles ≡ none → count_by is_open os < 10_000 → IsKept (os ++ o ∷ []) active charges to
+module _ (os : List Open) (active : List Activation) (charges : Charged) (to : Option ℕ) (h : AreKeptRows os active charges to) where
+  pub begun : (o : Open) → o.roles ≡ none → count_by is_open os < 10_000 → AreKeptRows (os ++ o ∷ []) active charges to
   begun o e few = record {
     few = let n = count_added is_open os o in let one = at_most o.is_open in omega (arith, n, one);
     index = λ n r. pushed os o e n r ∙ h.index n r;
@@ -41,7 +41,7 @@ module _ (os : List Open) (active : List Activation) (charges : Charged) (to : O
       at_most true = omega arith
       at_most false = omega arith
 
-  pub without_gaps : IsKept (still_open os) active charges to
+  pub without_gaps : AreKeptRows (still_open os) active charges to
   without_gaps = record {
     few = let n = count_kept is_open is_open os in omega (arith, n, h.few);
     index = λ n r. open_role os n r ∙ h.index n r;
@@ -49,7 +49,7 @@ module _ (os : List Open) (active : List Activation) (charges : Charged) (to : O
     bounded = h.bounded;
   }
 
-  pub finished : (m : SessionId) → IsKept (filter (λ o. not (numbered m o)) os) (filter (λ a. not (in_session m a)) active) charges to
+  pub finished : (m : SessionId) → AreKeptRows (filter (λ o. not (numbered m o)) os) (filter (λ a. not (in_session m a)) active) charges to
   finished m = record {
     few = let n = count_kept is_open (λ o. not (numbered m o)) os in omega (arith, n, h.few);
     index = λ n r. shut os m n r ∙ ap (λ b. not (same_session n m) && b) (h.index n r) ∙ sym (any_shut m n r active);
@@ -58,7 +58,7 @@ module _ (os : List Open) (active : List Activation) (charges : Charged) (to : O
   }
 
   module _ (m : SessionId) (at : ℕ) (stands : StandsAt os m at) (o : Open) (there : slice_get os at ≡ Some o) (q : RoleId) where
-    pub ended : IsKept (set os at (record o { roles = without o.roles q })) (filter (λ a. not (is_active_in m q a)) active) charges to
+    pub ended : AreKeptRows (set os at (record o { roles = without o.roles q })) (filter (λ a. not (is_active_in m q a)) active) charges to
     ended = record {
       few = subst (λ n. n ≤ 10_000) (sym (as_many_open os at o (record o { roles = without o.roles q }) there refl)) h.few;
       index = λ n r. removed os m at stands o there q n r ∙ ap (λ b. not (same_session m n && same_role q r) && b) (h.index n r) ∙ sym (any_ended m n q r active);
@@ -67,7 +67,7 @@ module _ (os : List Open) (active : List Activation) (charges : Charged) (to : O
     }
 
     pub entered : (u : UserId) (t : ℕ) → list_any (is_active_in m q) active ≡ false
-        → IsKept (set os at (record o { roles = with_member o.roles q })) (active ++ record { session = m; user = u; role = q; begun = t } ∷ []) charges to
+        → AreKeptRows (set os at (record o { roles = with_member o.roles q })) (active ++ record { session = m; user = u; role = q; begun = t } ∷ []) charges to
     entered u t fresh =
         let a : Activation = record { session = m; user = u; role = q; begun = t } in
         record {
@@ -78,7 +78,7 @@ module _ (os : List Open) (active : List Activation) (charges : Charged) (to : O
         }
 
 -- gaps among the sessions say nothing
-pub with_gaps : (os : List Open) (active : List Activation) (charges : Charged) (to : Option ℕ) → IsKept (still_open os) active charges to → IsKept os active charges to
+pub with_gaps : (os : List Open) (active : List Activation) (charges : Charged) (to : Option ℕ) → AreKeptRows (still_open os) active charges to → AreKeptRows os active charges to
 with_gaps os active charges to h = record {
   few = let n = count_again is_open os in omega (arith, n, h.few);
   index = λ n r. sym (open_role os n r) ∙ h.index n r;
@@ -168,7 +168,7 @@ role_there (o ∷ os) n r e = by o os n r (numbered n o) refl e (role_there os n
     by o os n r true is e h = ap (λ b. b || list_any (λ o. same_session n o.number) os) (ap (same_session n) (number_is n o is) ∙ session_itself n)
     by o os n r false is e h = or_true (same_session n o.number) (h e)
 
-pub few_of_role : (os : List Open) (active : List Activation) (charges : Charged) (to : Option ℕ) → IsKept os active charges to
+pub few_of_role : (os : List Open) (active : List Activation) (charges : Charged) (to : Option ℕ) → AreKeptRows os active charges to
     → (r : RoleId) → count_by (λ a. same_role a.role r) active ≤ 10_000
 few_of_role os active charges to h r =
     let a = covers (still_open os) r active (λ i a is. role_there (still_open os) a.session a.role (open_role os a.session a.role ∙ h.index a.session a.role ∙ listed active i a is)) in
@@ -190,7 +190,7 @@ less_of_both p q (x ∷ xs) =
     less false true = omega arith
     less false false = omega arith
 
-pub few_of : (os : List Open) (active : List Activation) (charges : Charged) (to : Option ℕ) → IsKept os active charges to → (u : UserId) (r : RoleId) → count_by (is_of u r) active ≤ 10_000
+pub few_of : (os : List Open) (active : List Activation) (charges : Charged) (to : Option ℕ) → AreKeptRows os active charges to → (u : UserId) (r : RoleId) → count_by (is_of u r) active ≤ 10_000
 few_of os active charges to h u r =
     let a = less_of_both (λ a. same_user a.user u) (λ a. same_role a.role r) active in
     let b = few_of_role os active charges to h r in

@@ -6,18 +6,18 @@ use Rattle.gt_base.specs.declared.events.SessionId.{SessionId}
 use Rattle.gtrbac_model.specs.Same.{same_session}
 use Rattle.gtrbac_model.specs.Sessions.{OpenedSession}
 use Rattle.session_table.specs.declared.opened.Open.{Open}
-use Rattle.session_table.specs.Opened.{numbered, opened, still_open, Numbered, AreNumbered, IsFirstFrom}
+use Rattle.session_table.specs.Opened.{numbered, opened, still_open, NumberedFrom, AreNumbered, IsFirstFrom}
 use Rattle.session_table.specs.Causes.{StandsAt}
 use Rattle.session_table.proofs.Charging.{split}
 use Rattle.session_table.proofs.Finding.{inside, standing}
 use Rattle.session_table.proofs.Indexing.{passes, both_true, number_is, count_set}
 
-above : (b top : ℕ) (os : List Open) → Numbered b (map opened os) top → (i : ℕ) (o : Open) → slice_get os i ≡ Some o → b < o.number.0
+above : (b top : ℕ) (os : List Open) → NumberedFrom b (map opened os) top → (i : ℕ) (o : Open) → slice_get os i ≡ Some o → b < o.number.0
 above b top [] h i o at = cc
 above b top (x ∷ os) h zero o at = let same : x ≡ o = cc in subst (λ z. b < z.number.0) same h.0
 above b top (x ∷ os) h (suc i) o at = let later : x.number.0 < o.number.0 = above x.number.0 top os h.1 i o at in omega (arith, later, h.0)
 
-rising : (b top : ℕ) (os : List Open) → Numbered b (map opened os) top → (i j : ℕ) (o p : Open) → i < j → slice_get os i ≡ Some o → slice_get os j ≡ Some p → o.number.0 < p.number.0
+rising : (b top : ℕ) (os : List Open) → NumberedFrom b (map opened os) top → (i j : ℕ) (o p : Open) → i < j → slice_get os i ≡ Some o → slice_get os j ≡ Some p → o.number.0 < p.number.0
 rising b top [] h i j o p lt at there = cc
 rising b top (x ∷ os) h i zero o p lt at there = absurd (omega arith)
 rising b top (x ∷ os) h zero (suc j) o p lt at there = let same : x ≡ o = cc in subst (λ z. z.number.0 < p.number.0) same (above x.number.0 top os h.1 j p there)
@@ -101,27 +101,27 @@ module _ (os : List Open) (num : AreNumbered (map opened os)) (mid here n : ℕ)
       (λ e. let upto : i ≤ mid = ltb-false mid i e in let is : i ≡ mid = omega (arith, upto, le) in let same = one o (ap (slice_get os) (sym is) ∙ there) in omega (arith, same, ge))
 
 -- what keeps them
-pub one_more : (b top n : ℕ) (os : List Open) (o : Open) → Numbered b (map opened os) top → top < o.number.0 → o.number.0 ≡ n → Numbered b (map opened (os ++ o ∷ [])) n
+pub one_more : (b top n : ℕ) (os : List Open) (o : Open) → NumberedFrom b (map opened os) top → top < o.number.0 → o.number.0 ≡ n → NumberedFrom b (map opened (os ++ o ∷ [])) n
 one_more b top n [] o h lt same = (omega (arith, h, lt), omega (arith, same))
 one_more b top n (x ∷ os) o h lt same = (h.0, one_more x.number.0 top n os o h.1 lt same)
 
-lower : (a b top : ℕ) (ss : List OpenedSession) → a ≤ b → Numbered b ss top → Numbered a ss top
+lower : (a b top : ℕ) (ss : List OpenedSession) → a ≤ b → NumberedFrom b ss top → NumberedFrom a ss top
 lower a b top [] le h = omega (arith, le, h)
 lower a b top (s ∷ ss) le h = (omega (arith, le, h.0), h.1)
 
-pub fewer : (p : OpenedSession → Bool) (b top : ℕ) (ss : List OpenedSession) → Numbered b ss top → Numbered b (filter p ss) top
+pub fewer : (p : OpenedSession → Bool) (b top : ℕ) (ss : List OpenedSession) → NumberedFrom b ss top → NumberedFrom b (filter p ss) top
 fewer p b top [] h = h
 fewer p b top (s ∷ ss) h = by (p s) (fewer p s.number.0 top ss h.1)
   where
-    by : (q : Bool) → Numbered s.number.0 (filter p ss) top → Numbered b (cond q (s ∷ filter p ss) (filter p ss)) top
+    by : (q : Bool) → NumberedFrom s.number.0 (filter p ss) top → NumberedFrom b (cond q (s ∷ filter p ss) (filter p ss)) top
     by true rest = (h.0, rest)
     by false rest = lower b s.number.0 top (filter p ss) (omega (arith, h.0)) rest
 
-pub fewer_rows : (p : Open → Bool) (b top : ℕ) (os : List Open) → Numbered b (map opened os) top → Numbered b (map opened (filter p os)) top
+pub fewer_rows : (p : Open → Bool) (b top : ℕ) (os : List Open) → NumberedFrom b (map opened os) top → NumberedFrom b (map opened (filter p os)) top
 fewer_rows p b top [] h = h
 fewer_rows p b top (o ∷ os) h = by (p o) (fewer_rows p o.number.0 top os h.1)
   where
-    by : (q : Bool) → Numbered o.number.0 (map opened (filter p os)) top → Numbered b (map opened (cond q (o ∷ filter p os) (filter p os))) top
+    by : (q : Bool) → NumberedFrom o.number.0 (map opened (filter p os)) top → NumberedFrom b (map opened (cond q (o ∷ filter p os) (filter p os))) top
     by true rest = (h.0, rest)
     by false rest = lower b o.number.0 top (map opened (filter p os)) (omega (arith, h.0)) rest
 

@@ -23,9 +23,9 @@ use Rattle.session_table.specs.declared.faults.SessionFault.{SessionFault}
 use Rattle.session_table.specs.declared.opened.Open.{Open}
 use Rattle.session_table.specs.Causes.{first_cause, StandsAt, early_causes, late_causes}
 use Rattle.session_table.specs.Charges.{Charged, charged_in}
-use Rattle.session_table.specs.Kept.{IsKept, IsTable}
-use Rattle.session_table.specs.Opened.{opened, still_open, Numbered}
-use Rattle.session_table.specs.Permits.{rows_table, walk_causes, IsReady, IsFirstCause, Lets, IsCauseOf, IsPermitted}
+use Rattle.session_table.specs.Kept.{AreKeptRows, IsTable}
+use Rattle.session_table.specs.Opened.{opened, still_open, NumberedFrom}
+use Rattle.session_table.specs.Permits.{rows_table, walk_causes, IsReadyUser, IsFirstCause, Lets, IsCauseOf, IsPermitted}
 use Rattle.session_table.specs.Replies.{AnswersAt, OrRefused}
 use Rattle.session_table.proofs.Entering.{activation}
 use Rattle.session_table.proofs.Finding.{inside}
@@ -34,13 +34,13 @@ use Rattle.session_table.proofs.Keeping.{as_many_open, entered}
 use Rattle.session_table.proofs.Answering.{refused_front, refused_rest, allowed, early_none, or_refused}
 
 module _ (edges : List HierEdge) (caps : List Caps) (s : Status) (now : ℕ) (actor : Actor) (n : SessionId) (r : RoleId) (os : List Open) (active : List Activation) (charges : Charged) (to : Option ℕ)
-    (kept : IsKept os active charges to) where
+    (kept : AreKeptRows os active charges to) where
   pub front_refuses : (x : Refusal) → IsFirstCause s actor n r os x → (begun : ℕ) → AnswersAt edges caps s now (rows_table os active charges begun) actor (Activate n r) (Refused x)
   front_refuses x h begun =
       let tb : Table = rows_table os active charges begun in
       refused_front edges caps s now tb actor n r x (ap (λ b. first_cause (session_causes tb actor n ++ early_causes s b r)) (sym (kept.index n r)) ∙ h tb)
 
-  module _ (at : ℕ) (u : UserId) (ready : IsReady s actor n r os at u) where
+  module _ (at : ℕ) (u : UserId) (ready : IsReadyUser s actor n r os at u) where
     pub walk_refuses : (fault : SessionFault) → IsCauseOf fault (walk_causes edges caps s now active charges u r)
         → (begun : ℕ) → OrRefused fault (AnswersAt edges caps s now (rows_table os active charges begun) actor (Activate n r))
     walk_refuses fault h begun =
@@ -87,9 +87,9 @@ module _ (os new : List Open) (n : SessionId) (at : ℕ) (stands : StandsAt os n
       let p : Open = record o { roles = with_member o.roles r } in
       let e : new ≡ set os at p = subst (λ x. IfSome x (λ (o : Open). new ≡ set os at (record o { roles = with_member o.roles r }))) there is in
       record {
-        kept = subst (λ os. IsKept os (active ++ activation n u r t ∷ []) charges to) (sym e) (entered os active charges to h.kept n at stands o there r u t fresh);
+        kept = subst (λ os. AreKeptRows os (active ++ activation n u r t ∷ []) charges to) (sym e) (entered os active charges to h.kept n at stands o there r u t fresh);
         counted = h.counted ∙ sym (as_many_open os at o p there refl) ∙ ap (count_by (λ (o : Open). o.is_open)) (sym e);
-        numbered = subst (λ ss. Numbered 0 ss begun) (sym (ap (map opened) e ∙ kept_opened os at o p there refl)) h.numbered;
+        numbered = subst (λ ss. NumberedFrom 0 ss begun) (sym (ap (map opened) e ∙ kept_opened os at o p there refl)) h.numbered;
       }
 
   pub stay_open : map opened (still_open new) ≡ map opened (still_open os)

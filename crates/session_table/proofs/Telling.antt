@@ -17,7 +17,7 @@ use Rattle.session_table.specs.Opened.{opened, still_open, role_in}
 use Rattle.session_table.specs.Causes.{first_cause, StandsAt, with_sessions}
 use Rattle.session_table.specs.Tables.{TableView, table_of}
 use Rattle.session_table.specs.Charges.{Charged}
-use Rattle.session_table.specs.Kept.{IsKept}
+use Rattle.session_table.specs.Kept.{AreKeptRows}
 use Rattle.session_table.proofs.RoleOrder.{tied_is_same}
 use Rattle.session_table.proofs.Finding.{standing}
 use Rattle.session_table.proofs.Indexing.{count_cons, eq_turned}
@@ -29,7 +29,7 @@ module _ (v : TableView) (os : List Open) (e : map opened (still_open os) ≡ v.
   pub causes : (actor : Actor) (n : SessionId) (x : Option Refusal) → ((tb : Table) → first_cause (session_causes (with_sessions os tb) actor n) ≡ x) → first_cause (session_causes (table_of v) actor n) ≡ x
   causes actor n x h = subst (λ ss. first_cause (session_causes (record (table_of v) { sessions = ss }) actor n) ≡ x) e (h (table_of v))
 
-pub listed_at : (os : List Open) (active : List Activation) (charges : Charged) (to : Option ℕ) → IsKept os active charges to → (n : SessionId) (at : ℕ) → StandsAt os n at
+pub listed_at : (os : List Open) (active : List Activation) (charges : Charged) (to : Option ℕ) → AreKeptRows os active charges to → (n : SessionId) (at : ℕ) → StandsAt os n at
     → (roles : List RoleId) → IfSome (slice_get os at) (λ o. roles ≡ members o.roles) → (r : RoleId) → lists same_role roles r ≡ list_any (is_active_in n r) active
 listed_at os active charges to h n at stands roles told r =
     let (o, is, there) = standing os n at stands in

@@ -1,5 +1,5 @@
 -- Causes of refusals, in their order.
-use Rattle.std.specs.Prelude.{◌≡◌, ℕ, ◌<◌, Bool, true, false, not, List, [], ◌∷◌, length, map, Option, Some, None}
+use Rattle.std.specs.Prelude.{◌≡◌, ℕ, ◌<◌, Bool, false, not, List, [], ◌∷◌, length, map, Option, Some, None, if◌then◌else◌}
 use Rattle.std.specs.List.{position_or_len}
 use Rattle.gt_base.specs.declared.events.RoleId.{RoleId}
 use Rattle.gt_base.specs.declared.events.UserId.{UserId}
@@ -19,7 +19,7 @@ use Rattle.session_table.specs.Opened.{numbered, opened, still_open}
 -- the first that is there
 abbrev pub first_cause : List (Bool × Refusal) → Option Refusal
 first_cause [] = None
-first_cause (c ∷ cs) = elim c.0 [ true ↦ Some c.1 | false ↦ first_cause cs ]
+first_cause (c ∷ cs) = if c.0 then Some c.1 else first_cause cs
 
 -- the first session of this number stands at the place
 pub record StandsAt (os : List Open) (n : SessionId) (at : ℕ) : Type 0 where
@@ -47,4 +47,4 @@ late_causes caps all own spent =
 
 -- the number, where the cap is reached by it
 abbrev pub full_at : Option ℕ → ℕ → Option ℕ
-full_at cap n = elim (reached cap n) [ true ↦ Some n | false ↦ None ]
+full_at cap n = if reached cap n then Some n else None

@@ -12,8 +12,8 @@ use Rattle.gtrbac_model.specs.Hierarchy.{activation_walk}
 use Rattle.gtrbac_model.specs.Sessions.{Activation, caps_of, reached, is_of}
 use Rattle.history_laws.specs.Tables.{minutes_of_day}
 use Rattle.session_table.specs.Charges.{Charged, charged_in}
-use Rattle.session_table.specs.declared.dropping.Asked.{Asked}
-use Rattle.session_table.specs.contracts.dropping.AskedPartialEq.TheImpl as asked_equality
+use Rattle.session_table.specs.declared.dropping.AskedWalk.{AskedWalk}
+use Rattle.session_table.specs.contracts.dropping.AskedWalkPartialEq.TheImpl as asked_equality
 
 -- what is charged on the civil day of `to`, where the minutes after now are charged to each
 -- activation
@@ -31,12 +31,12 @@ is_dropped edges caps s rows active now to a =
     || reached (caps_of caps a.role).length (to - a.begun)
     || reached (caps_of caps a.role).day (spent_by rows active now to a.user a.role)
 
-abbrev pub asked_eq : Asked → Asked → Bool
+abbrev pub asked_eq : AskedWalk → AskedWalk → Bool
 asked_eq = asked_equality.ghosts.eq
 
 -- what the rows say of a user and a role is whether no walk of usable edges lets the one activate
 -- the other
-abbrev pub AreBarred : List HierEdge → Status → List (Asked × Bool) → Type 0
+abbrev pub AreBarred : List HierEdge → Status → List (AskedWalk × Bool) → Type 0
 AreBarred edges s rows =
     (u : UserId) (r : RoleId)
     → IfSome (lookup (asked_eq (record { user = u; role = r })) rows)

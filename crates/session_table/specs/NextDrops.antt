@@ -1,8 +1,8 @@
 -- The least instant at which a cap drops an activation.
 use Rattle.std.specs.Prelude.{◌≡◌, ℕ, ◌+◌, ◌-◌, ◌*◌, ◌<◌, ◌≤◌, ◌||◌, Bool, true, false, count_by, is_some, List, Option, MatchOption}
 use Rattle.std.specs.List.{list_any}
-use Rattle.gt_base.specs.Bounds.{last_minute}
 use Rattle.gt_base.specs.declared.policies.Caps.{Caps}
+use Rattle.gt_base.specs.declared.limits.TheConstants.{LAST_MINUTE}
 use Rattle.gtrbac_model.specs.Calendar.{day_of}
 use Rattle.gtrbac_model.specs.Sessions.{Table, Activation, caps_of, reached, is_of}
 use Rattle.history_laws.specs.Tables.{minutes_of_day}
@@ -12,14 +12,14 @@ use Rattle.session_table.specs.Tables.{is_capped}
 -- the least instant after now, up to the last, at which the test holds
 pub record IsFirst (p : ℕ → Bool) (now t : ℕ) : Type 0 where
   pub after : now < t
-  pub inside : t ≤ last_minute
+  pub inside : t ≤ LAST_MINUTE
   pub here : p t ≡ true
   pub least : (u : ℕ) → now < u → u < t → p u ≡ false
 
 -- or none, where it holds at none of them
 abbrev pub IsFirstOrNone : (ℕ → Bool) → ℕ → Option ℕ → Type 0
 IsFirstOrNone p now o =
-    MatchOption o ((u : ℕ) → now < u → u ≤ last_minute → p u ≡ false) (IsFirst p now)
+    MatchOption o ((u : ℕ) → now < u → u ≤ LAST_MINUTE → p u ≡ false) (IsFirst p now)
 
 -- whether the role has a cap on the minutes of an activation or of a day, which alone end
 -- activations

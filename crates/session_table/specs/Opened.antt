@@ -29,12 +29,12 @@ abbrev pub role_in : List Open → SessionId → RoleId → Bool
 role_in os n r = elim (find (numbered n) os) [ Some o ↦ has o.roles r | None ↦ false ]
 
 -- the numbers rise from above b, none above top
-abbrev pub Numbered : ℕ → List OpenedSession → ℕ → Type 0
-Numbered b [] top = b ≤ top
-Numbered b (s ∷ ss) top = (b < s.number.0) × Numbered s.number.0 ss top
+abbrev pub NumberedFrom : ℕ → List OpenedSession → ℕ → Type 0
+NumberedFrom b [] top = b ≤ top
+NumberedFrom b (s ∷ ss) top = (b < s.number.0) × NumberedFrom s.number.0 ss top
 
 abbrev pub AreNumbered : List OpenedSession → Type 0
-AreNumbered ss = (top : ℕ) × Numbered 0 ss top
+AreNumbered ss = (top : ℕ) × NumberedFrom 0 ss top
 
 -- so many sessions have lesser numbers, and no later one has
 pub record IsFirstFrom (os : List Open) (n at : ℕ) : Type 0 where

@@ -38,7 +38,7 @@ rows_table os active charges begun =
     }
 
 -- the session stands at the place and is of the user, whom neither it nor the role's status refuses
-pub record IsReady (s : Status) (actor : Actor) (n : SessionId) (r : RoleId) (os : List Open)
+pub record IsReadyUser (s : Status) (actor : Actor) (n : SessionId) (r : RoleId) (os : List Open)
     (at : ℕ) (u : UserId) : Type 0 where
   pub stands : StandsAt os n at
   pub owner : (tb : Table) → owner_of (with_sessions os tb) n ≡ Some u

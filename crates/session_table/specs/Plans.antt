@@ -19,7 +19,8 @@ pub record DropsView : Type 0 where
   pub signals : List Signal
 
 -- what the close of `to` drops under these edges and caps, in this status
-pub record IsPlan (edges : List HierEdge) (caps : List Caps) (s : Status) (now to : ℕ) (tb : Table)
+pub record IsDropPlan (edges : List HierEdge) (caps : List Caps) (s : Status) (now to : ℕ)
+    (tb : Table)
     (d : DropsView) : Type 0 where
   pub from : d.after ≡ now
   pub upto : d.to ≡ to
@@ -38,7 +39,7 @@ AllStand edges s tb = (i : ℕ) (a : Activation) → item_at tb.active i ≡ Som
 -- the plan is so, for whichever edges and status let each activation stand
 abbrev pub IsPlanWhereAllStand : List Caps → ℕ → ℕ → Table → DropsView → Type 0
 IsPlanWhereAllStand caps now to tb d =
-    (edges : List HierEdge) (s : Status) → AllStand edges s tb → IsPlan edges caps s now to tb d
+    (edges : List HierEdge) (s : Status) → AllStand edges s tb → IsDropPlan edges caps s now to tb d
 
 -- for so many activations the minutes are charged
 abbrev pub need_of : ℕ → ℕ → TableView → ℕ
@@ -55,8 +56,8 @@ pub record IsPlanned (v : TableView) (d : DropsView) : Type 0 where
 
 -- after the commit the table is the closed one, for whichever edges, caps and status the drops are
 -- what the close drops
-abbrev pub Closes : TableView → DropsView → TableView → Type 0
-Closes before d after =
+abbrev pub ClosesTable : TableView → DropsView → TableView → Type 0
+ClosesTable before d after =
     (edges : List HierEdge) (caps : List Caps) (s : Status)
     → d.gone ≡ dropped_at edges caps s d.after d.to (table_of before)
     → record (table_of after) { signals = map (signal_of false) d.gone }

@@ -6,14 +6,15 @@ ghost use Rattle.gt_base.specs.declared.requests.Request.TheVariants.{Activate};
 ghost use Rattle.gtrbac_model.specs.Same.{same_role};
 ghost use Rattle.gtrbac_model.specs.Sessions.{is_of};
 ghost use Rattle.session_table.specs.Opened.{opened, AreNumbered};
-ghost use Rattle.session_table.specs.Kept.{IsKept};
-ghost use Rattle.session_table.specs.Permits.{rows_table, walk_causes, IsReady, IsPermitted, Lets, IsCauseOf, IsFirstCause};
+ghost use Rattle.session_table.specs.Kept.{AreKeptRows};
+ghost use Rattle.session_table.specs.Permits.{rows_table, walk_causes, IsReadyUser, IsPermitted, Lets, IsCauseOf, IsFirstCause};
 ghost use Rattle.session_table.specs.Replies.{AnswersAt, OrRefused};
+ghost use Rattle.session_table.specs.declared.tables.TheConstants.{MOST_SESSIONS};
 
 use crate::activations::Activation;
 use crate::active::ActiveRow;
 use crate::checks::{caps_of, early_refusal, late_refusal, owned};
-use crate::dropping::{Asked, remember};
+use crate::dropping::{AskedWalk, remember};
 use crate::faults::SessionFault;
 use crate::ledgers::Ledger;
 use crate::opened::{Open, add_role, has_role, owner_at};
@@ -49,7 +50,7 @@ pub(crate) fn permitted(
 ) -> Result<(usize, UserId, Walk), SessionFault>
     requires numbered { AreNumbered (map opened sessions.now) }
     requires kept { (to : Option ℕ)
-        × IsKept sessions.now by.now.active.now by.now.charges.now.charged to }
+        × AreKeptRows sessions.now by.now.active.now by.now.charges.now.charged to }
     ensures ok { IfOk result
         (λ r. IsPermitted by.now.hierarchy.now by.now.caps.now.items
         (has by.now.status.now.set) by.now.instant actor session role sessions.now
@@ -82,7 +83,7 @@ fn ready(
 ) -> Result<(usize, UserId), Refusal>
     requires { AreNumbered (map opened sessions.now) }
     ensures ok { IfOk result
-        (λ r. IsReady (has status.now.set) actor session role sessions.now r.0 r.1) }
+        (λ r. IsReadyUser (has status.now.set) actor session role sessions.now r.0 r.1) }
     ensures err { IfErr result (IsFirstCause (has status.now.set) actor session role sessions.now) }
 {
     let at = match owned(sessions, actor, session) {
@@ -97,8 +98,8 @@ fn ready(
 
 /// The walk that allows the user the role, where no cap refuses it.
 fn allowing(by: &Permitting, user: UserId, role: RoleId) -> Result<Walk, SessionFault>
-    requires all { count_by (λ a. same_role a.role role) by.now.active.now ≤ 10_000 }
-    requires own { count_by (is_of user role) by.now.active.now ≤ 10_000 }
+    requires all { count_by (λ a. same_role a.role role) by.now.active.now ≤ MOST_SESSIONS }
+    requires own { count_by (is_of user role) by.now.active.now ≤ MOST_SESSIONS }
     ensures ok { IfOk result
         (Lets by.now.hierarchy.now by.now.caps.now.items (has by.now.status.now.set)
         by.now.instant by.now.active.now by.now.charges.now.charged user role) }
@@ -123,7 +124,7 @@ fn allowing(by: &Permitting, user: UserId, role: RoleId) -> Result<Walk, Session
 pub(crate) fn enter(
     sessions: &mut Vec<Open>,
     active: &mut ActiveRow,
-    walks: &mut IndexMap<Asked, Walk>,
+    walks: &mut IndexMap<AskedWalk, Walk>,
     at: usize,
     a: Activation,
     walk: &Walk,
@@ -138,7 +139,7 @@ pub(crate) fn enter(
     ensures same { OnErr result (sessions.new.items ≡ sessions.old.items) }
     ensures same_active { OnErr result (active.new.items ≡ active.old.items) }
 {
-    let asked = Asked {
+    let asked = AskedWalk {
         user: a.user,
         role: a.role,
     };

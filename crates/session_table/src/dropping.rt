@@ -37,7 +37,7 @@ use std::alloc::Global;
 
 /// A user and a role of which it is asked whether a walk lets the one activate the other.
 #[derive(Clone, Copy, PartialEq, Eq, Hash)]
-pub(crate) struct Asked {
+pub(crate) struct AskedWalk {
     pub(crate) user: UserId,
     pub(crate) role: RoleId,
 }
@@ -50,6 +50,7 @@ fn spent_by(over: &Stretch, user: UserId, role: RoleId, count: u64) -> u64
         ≡ spent_by over.now.charges.now.charged over.now.active.now over.now.after over.now.to
         user role }
 {
+    // the call tells that an instant is not after the last
     let _bound = over.to.minute();
     let today = day(over.to);
     let before = u64::from(charged(over.charges, user, role, today));
@@ -99,10 +100,10 @@ fn is_assigned(status: &Status, user: UserId, role: RoleId) -> bool
 
 /// Whether the walk that was found before, if there is one, still lets the user activate the role.
 fn has_stood(
-    walks: &IndexMap<Asked, Walk>,
+    walks: &IndexMap<AskedWalk, Walk>,
     hierarchy: &Hierarchy,
     status: &Status,
-    asked: Asked,
+    asked: AskedWalk,
 ) -> bool
     ensures { result ≡ true
         → is_none (activation_walk hierarchy.now (has status.now.set) asked.user asked.role)
@@ -115,15 +116,15 @@ fn has_stood(
 }
 
 /// Keeps the walk for the minutes that follow.
-fn keep(walks: &mut IndexMap<Asked, Walk>, asked: Asked, walk: Walk) -> Result<(), Memory> {
+fn keep(walks: &mut IndexMap<AskedWalk, Walk>, asked: AskedWalk, walk: Walk) -> Result<(), Memory> {
     walks.insert(asked, walk)?;
     Ok(())
 }
 
 /// Keeps a copy of the walk, unless it only stays where it begins.
 pub(crate) fn remember(
-    walks: &mut IndexMap<Asked, Walk>,
-    asked: Asked,
+    walks: &mut IndexMap<AskedWalk, Walk>,
+    asked: AskedWalk,
     walk: &Walk,
 ) -> Result<(), Memory> {
     if walk.edges.len() > 0 {
@@ -141,7 +142,7 @@ fn copied(walk: &Walk) -> Result<Walk, Memory> {
 }
 
 /// Forgets the walks where they have become many more than so many activations.
-pub(crate) fn prune(walks: &mut IndexMap<Asked, Walk>, active: usize) {
+pub(crate) fn prune(walks: &mut IndexMap<AskedWalk, Walk>, active: usize) {
     if walks.len() / 2 > active {
         walks.clear();
     }
@@ -152,8 +153,8 @@ pub(crate) fn prune(walks: &mut IndexMap<Asked, Walk>, active: usize) {
 /// it may refuse.
 fn is_barred(
     alloc: Global,
-    walks: &mut IndexMap<Asked, Walk>,
-    known: &mut IndexMap<Asked, bool>,
+    walks: &mut IndexMap<AskedWalk, Walk>,
+    known: &mut IndexMap<AskedWalk, bool>,
     hierarchy: &Hierarchy,
     status: &Status,
     user: UserId,
@@ -168,7 +169,7 @@ fn is_barred(
     if is_assigned(status, user, role) {
         return Ok(false);
     }
-    let asked = Asked { user, role };
+    let asked = AskedWalk { user, role };
     if has_stood(walks, hierarchy, status, asked) {
         return Ok(false);
     }
@@ -183,10 +184,10 @@ fn is_barred(
 /// The same, told by the hierarchy alone. A walk that it finds is kept.
 fn ask(
     alloc: Global,
-    walks: &mut IndexMap<Asked, Walk>,
+    walks: &mut IndexMap<AskedWalk, Walk>,
     hierarchy: &Hierarchy,
     status: &Status,
-    asked: Asked,
+    asked: AskedWalk,
 ) -> Result<bool, Memory>
     ensures { IfOk result
         (λ b. b
@@ -236,8 +237,8 @@ fn found_on(before: Option<RoleId>, a: &Activation, is_gone: bool) -> Option<Rol
 /// on before is not asked again.
 fn is_dropped(
     at: &Closing,
-    walks: &mut IndexMap<Asked, Walk>,
-    known: &mut IndexMap<Asked, bool>,
+    walks: &mut IndexMap<AskedWalk, Walk>,
+    known: &mut IndexMap<AskedWalk, bool>,
     before: Option<RoleId>,
     a: &Activation,
     count: u64,
@@ -285,7 +286,7 @@ fn push_if(gone: &mut Vec<Activation>, a: &Activation, is_gone: bool) -> Result<
 /// before was of it and stays. For want of memory it may refuse.
 pub(crate) fn dropped(
     at: &Closing,
-    walks: &mut IndexMap<Asked, Walk>,
+    walks: &mut IndexMap<AskedWalk, Walk>,
 ) -> Result<Vec<Activation>, Memory>
     ensures { IfOk result
         (λ gone. gone.items ≡ filter (drops_at at.now) at.now.stretch.active.now) }
@@ -299,8 +300,8 @@ pub(crate) fn dropped(
 /// Adds them to the row, where what is told of a user and a role is kept.
 fn drop_each(
     at: &Closing,
-    walks: &mut IndexMap<Asked, Walk>,
-    known: &mut IndexMap<Asked, bool>,
+    walks: &mut IndexMap<AskedWalk, Walk>,
+    known: &mut IndexMap<AskedWalk, bool>,
     gone: &mut Vec<Activation>,
 ) -> Result<(), Memory>
     requires known { AreBarred at.now.hierarchy.now (has at.now.status.now.set) known.old.entries }
@@ -320,8 +321,8 @@ fn drop_each(
 /// Adds the activation to the row where it is dropped, and tells which role was found on last.
 fn drop_one(
     at: &Closing,
-    walks: &mut IndexMap<Asked, Walk>,
-    known: &mut IndexMap<Asked, bool>,
+    walks: &mut IndexMap<AskedWalk, Walk>,
+    known: &mut IndexMap<AskedWalk, bool>,
     gone: &mut Vec<Activation>,
     before: Option<RoleId>,
     a: &Activation,

@@ -5,7 +5,7 @@ ghost use Rattle.gt_base.specs.declared.events.SessionId.{SessionId};
 ghost use Rattle.gt_base.specs.Sets.{has, members, none, with_member, without, Rises};
 ghost use Rattle.session_table.specs.RoleSets.{role_cmp};
 ghost use Rattle.gtrbac_model.specs.Same.{same_role, same_session};
-ghost use Rattle.session_table.specs.Opened.{numbered, opened, still_open, Numbered, AreNumbered, IsFirstFrom};
+ghost use Rattle.session_table.specs.Opened.{numbered, opened, still_open, NumberedFrom, AreNumbered, IsFirstFrom};
 ghost use Rattle.session_table.specs.Causes.{StandsAt};
 
 use crate::roles::Roles;
@@ -159,8 +159,8 @@ fn leave_gap(alloc: Global, sessions: &mut Vec<Open>, at: usize)
 /// Takes the gaps out where they are more than the sessions, of which so many are open.
 pub(crate) fn close_up(sessions: &mut Vec<Open>, standing: usize)
     ensures standing { still_open sessions.new.items ≡ still_open sessions.old.items }
-    ensures numbered { (top : ℕ) → Numbered 0 (map opened sessions.old.items) top
-        → Numbered 0 (map opened sessions.new.items) top }
+    ensures numbered { (top : ℕ) → NumberedFrom 0 (map opened sessions.old.items) top
+        → NumberedFrom 0 (map opened sessions.new.items) top }
 {
     if sessions.len() / 2 > standing {
         keep_open(sessions);

@@ -1,7 +1,6 @@
 //! The table of sessions.
 ghost use Rattle.std.specs.Prelude.{◌≡◌, ℕ, ◌+◌, ◌-◌, ◌*◌, ◌<◌, ◌≤◌, ◌↔◌, [], ◌∷◌, true, false, not, map, filter, length, count_by, find, slice_get, Some, None, OnOk, OnErr, IfOk, IfErr, IfSome, IfNone};
 ghost use Rattle.std.specs.List.{list_any};
-ghost use Rattle.gt_base.specs.Bounds.{last_minute};
 ghost use Rattle.gt_base.specs.Sets.{has, Rises};
 ghost use Rattle.gtrbac_model.specs.Same.{same_role, lists};
 ghost use Rattle.session_table.specs.RoleSets.{role_cmp};
@@ -10,13 +9,14 @@ ghost use Rattle.gt_base.specs.declared.events.RoleId.{RoleId};
 ghost use Rattle.gt_base.specs.declared.requests.Actor.TheVariants.{User};
 ghost use Rattle.gt_base.specs.declared.requests.Request.TheVariants.{OpenSession, CloseSession, Activate, Deactivate, Active as AskActive, Check};
 ghost use Rattle.gt_base.specs.declared.requests.Reply.TheVariants.{Session, Done, Active, Truth, Refused as IsRefused};
+ghost use Rattle.gt_base.specs.declared.limits.TheConstants.{LAST_MINUTE};
 ghost use Rattle.gtrbac_model.specs.Calendar.{day_of};
 ghost use Rattle.gtrbac_model.specs.Sessions.{applied, empty_table, is_active_in, signal_of};
 ghost use Rattle.hybrid_hierarchy.specs.Nets.{IsHierarchy};
 ghost use Rattle.session_table.specs.Opened.{in_session, numbered, opened, role_in};
 ghost use Rattle.session_table.specs.Tables.{table_of, ForgetsDays, NotBefore, closed_at, is_capped};
 ghost use Rattle.session_table.specs.NextDrops.{IsFirstOrNone, is_any_capped};
-ghost use Rattle.session_table.specs.Plans.{need_of, IsPlan, IsPlanWhereAllStand, IsPlanned, Closes};
+ghost use Rattle.session_table.specs.Plans.{need_of, IsDropPlan, IsPlanWhereAllStand, IsPlanned, ClosesTable};
 ghost use Rattle.session_table.specs.Replies.{Answers, AnswersAt, OrRefused, IsRefusal, ChecksBy};
 
 use crate::activating::{Permitting, enter, permitted};
@@ -24,7 +24,7 @@ use crate::activations::{Activation, count_in, end_session, find_active, signal_
 use crate::active::ActiveRow;
 use crate::checks::{caps_of, early_refusal, late_refusal, owned};
 use crate::closings::{Closing, Stretch};
-use crate::dropping::{Asked, capped, dropped, prune, remember, signals_of, take_out};
+use crate::dropping::{AskedWalk, capped, dropped, prune, remember, signals_of, take_out};
 use crate::faults::SessionFault;
 use crate::ledgers::{
     Ledger, charge_stretch, copied as copied_charges, forget_days, no_charges, reserve_charges,
@@ -47,7 +47,7 @@ use std::alloc::Global;
 use std::marker::Model;
 
 /// So many sessions may be open at once.
-const MOST_SESSIONS: usize = 10_000;
+pub(crate) const MOST_SESSIONS: usize = 10_000;
 
 /// The open sessions with their owners, the roles that are active in them since when, and the
 /// minutes that are charged to users, roles and civil days. It is seen as these, with the number of
@@ -62,7 +62,7 @@ pub struct Sessions {
     charges: Ledger,
     begun: u32,
     charged_to: Option<Instant>,
-    walks: IndexMap<Asked, Walk>,
+    walks: IndexMap<AskedWalk, Walk>,
 }
 
 impl Model for Sessions {
@@ -144,7 +144,7 @@ impl Sessions {
     /// and one. No number is used again. Refused with `SessionsFull` exactly where 10,000 sessions
     /// are open, or for want of memory; the table is then as it was.
     pub fn begin(&mut self, user: UserId) -> Result<SessionId, SessionFault>
-        requires { self.old.begun < 4_294_967_295 }
+        requires { self.old.begun < u32.MAX }
         ensures answer { IfOk result
             (λ n. Answers (table_of self.old) (User user) OpenSession (Session n)) }
         ensures table { IfOk result
@@ -383,7 +383,7 @@ impl Sessions {
         ensures charged_to { self.new.charged_to ≡ self.old.charged_to }
         ensures room { OnOk result (need_of now to self.new ≤ self.new.room) }
         ensures plan { IfOk result
-            (IsPlan edges.now.items caps.now.items (has status.now.set) now to
+            (IsDropPlan edges.now.items caps.now.items (has status.now.set) now to
             (table_of self.old)) }
     {
         let hierarchy = Hierarchy::new(self.alloc, edges)?;
@@ -405,7 +405,7 @@ impl Sessions {
         ensures charged_to { self.new.charged_to ≡ self.old.charged_to }
         ensures room { OnOk result (need_of now to self.new ≤ self.new.room) }
         ensures plan { IfOk result
-            (IsPlan hierarchy.now caps.now.items (has status.now.set) now to
+            (IsDropPlan hierarchy.now caps.now.items (has status.now.set) now to
             (table_of self.old)) }
     {
         prune(&mut self.walks, self.active.len());
@@ -463,7 +463,7 @@ impl Sessions {
     /// no memory.
     pub fn commit_end(&mut self, d: Drops)
         requires { IsPlanned self.old d }
-        ensures table { Closes self.old d self.new }
+        ensures table { ClosesTable self.old d self.new }
         ensures charged_to { self.new.charged_to ≡ Some d.to }
     {
         charge_stretch(&mut self.charges, self.active.as_slice(), d.after, d.to);
@@ -500,8 +500,8 @@ impl Sessions {
         Ok(signals)
     }
 
-    /// Forgets what was charged on the civil days before that of the instant, which no later close and
-    /// no cap looks at. It takes no memory.
+    /// Forgets what was charged on the civil days before that of the instant, which no later close
+    /// and no cap looks at. It takes no memory.
     pub fn forget_days_before(&mut self, now: Instant)
         ensures table { ForgetsDays (day_of now) (table_of self.old) (table_of self.new) }
         ensures charged_to { self.new.charged_to ≡ self.old.charged_to }

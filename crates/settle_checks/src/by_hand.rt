@@ -9,7 +9,8 @@ use gt_base::{List, Memory, Prio, Prioritised, Status, Trigger};
 use std::alloc::Global;
 use std::test::Fail;
 
-/// When enable 2 then 50:enable 3, when enable 1 then disable 2 at this priority, when enable 0 then 50:enable 1.
+/// When enable 2 then 50:enable 3, when enable 1 then disable 2 at this priority, when enable 0
+/// then 50:enable 1.
 fn chain(alloc: Global, low: Prio, off: Prioritised) -> Result<List<Trigger>, Memory>
     ensures { IfOk result (λ list. IsWithinLimits list.items) }
 {
@@ -21,7 +22,8 @@ fn chain(alloc: Global, low: Prio, off: Prioritised) -> Result<List<Trigger>, Me
     )
 }
 
-/// When enable 0 then 50:enable 1, when enable 1 then 50:enable 0, when enable 0 then 50:enable 2 five minutes later.
+/// When enable 0 then 50:enable 1, when enable 1 then 50:enable 0, when enable 0 then 50:enable 2
+/// five minutes later.
 fn circle(alloc: Global, low: Prio) -> Result<List<Trigger>, Memory>
     ensures { IfOk result (λ list. IsWithinLimits list.items) }
 {
@@ -33,7 +35,8 @@ fn circle(alloc: Global, low: Prio) -> Result<List<Trigger>, Memory>
     )
 }
 
-/// When enable 0 and settled enabled 1 then 50:enable 2, when enable 3 then 60:disable 1, when enable 2 then 50:enable 4.
+/// When enable 0 and settled enabled 1 then 50:enable 2, when enable 3 then 60:disable 1, when
+/// enable 2 then 50:enable 4.
 fn guarded(alloc: Global, low: Prio, high: Prio) -> Result<List<Trigger>, Memory>
     ensures { IfOk result (λ list. IsWithinLimits list.items) }
 {

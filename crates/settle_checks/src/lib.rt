@@ -1,4 +1,5 @@
-//! Checks of `instant_engine::settle`: small rules by hand, and random ones against a search over all sets.
+//! Checks of `instant_engine::settle`: small rules by hand, and random ones against a search over
+//! all sets.
 #![tactic(auto)]
 
 #[cfg(test)]

@@ -7,8 +7,8 @@ use gt_base::{Cond, Event, Fluent, Happened, List, Memory, Prioritised, RoleId, 
 use std::alloc::Global;
 use std::test::Fail;
 
-/// A trigger by numbers. Events are numbered 0 to 7, from `disable 0`, `enable 0` to `enable 3`; prioritised events 0 to 15,
-/// first those of the low priority; conditions as events.
+/// A trigger by numbers. Events are numbered 0 to 7, from `disable 0`, `enable 0` to `enable 3`;
+/// prioritised events 0 to 15, first those of the low priority; conditions as events.
 #[derive(Clone, Copy)]
 struct Drawn {
     body: u32,
@@ -19,7 +19,8 @@ struct Drawn {
     delay: u32,
 }
 
-/// Four triggers, a base and a status; sets of prioritised events and of roles are kept as the bits of a word.
+/// Four triggers, a base and a status; sets of prioritised events and of roles are kept as the bits
+/// of a word.
 #[derive(Clone, Copy)]
 struct Case {
     rules: [Drawn; 4],
@@ -94,7 +95,8 @@ fn draw_case(state: &mut u64) -> Case {
     }
 }
 
-/// Whether the converse stands in the set at a priority that blocks the event: at equal priority a disable wins.
+/// Whether the converse stands in the set at a priority that blocks the event: at equal priority a
+/// disable wins.
 fn is_blocked(set: u32, n: u32) -> bool {
     let low = n % 8 ^ 1;
     let high = low + 8;
@@ -108,7 +110,8 @@ fn is_blocked(set: u32, n: u32) -> bool {
     }
 }
 
-/// Whether the event stands among the earlier ones at a priority at which it is not blocked in the set.
+/// Whether the event stands among the earlier ones at a priority at which it is not blocked in the
+/// set.
 fn stands(set: u32, earlier: u32, event: u32) -> bool {
     let low = event % 8;
     let high = low + 8;
@@ -322,7 +325,8 @@ fn judged(alloc: Global, prios: &Prios, case: &Case) -> Result<Outcome, Memory> 
     )
 }
 
-/// Eight thousand cases, or those before the first that differs: how many agreed, none where one differed.
+/// Eight thousand cases, or those before the first that differs: how many agreed, none where one
+/// differed.
 fn agreed(alloc: Global, prios: &Prios) -> Result<Option<u32>, Memory> {
     let mut state = 2026;
     let mut count = 0u32;

@@ -17,15 +17,15 @@ use Rattle.connection_laws.proofs.Prefixes.{prefix_self}
 use Rattle.snapshot_readers.specs.declared.glass.Glanced.{Glanced}
 use Rattle.snapshot_readers.specs.Glances.{IsReplyAt, IsGlance}
 use Rattle.snapshot_readers.specs.declared.showing.Showing.{Showing}
-use Rattle.snapshot_readers.specs.declared.showing.Told.{Told}
-use Rattle.snapshot_readers.specs.declared.showing.Told.TheVariants.{Silence, Agreed, Bad}
-use Rattle.snapshot_readers.specs.Viewed.{Answer, silence, agreed, bad, shown, is_denied, is_request, lens_in, Gets, Ascend}
-use Rattle.snapshot_readers.specs.Viewing.{IsTold, Shows, Answers, Acts}
+use Rattle.snapshot_readers.specs.declared.showing.ViewAnswer.{ViewAnswer}
+use Rattle.snapshot_readers.specs.declared.showing.ViewAnswer.TheVariants.{Silence, Agreed, Bad}
+use Rattle.snapshot_readers.specs.Viewed.{Glimpse, silence, agreed, bad, shown, is_glimpse_denied, says_request, lens_in, Gets, AscendBetween}
+use Rattle.snapshot_readers.specs.Viewing.{IsViewTold, Shows, AnswersView, Acts}
 use Rattle.snapshot_readers.proofs.Longer.{longer}
 
 -- a reply that a glance shows
-pub shows_glance : (np np' : NamedPolicy) (birth birth' : ℕ) (seen seen' : List Entry) (ns ns' : List ℕ) (actor : Actor) (request : Request) (told : Told) (g : Glanced) → np' ≡ np → birth' ≡ birth → IsPrefix seen seen'
-    → IsGlance np'.policy birth' seen' actor request g → ns' ≡ ns ++ g.len ∷ [] → IsTold np told (shown g.len g.reply) → Shows np birth seen seen' ns ns' actor request told
+pub shows_glance : (np np' : NamedPolicy) (birth birth' : ℕ) (seen seen' : List Entry) (ns ns' : List ℕ) (actor : Actor) (request : Request) (told : ViewAnswer) (g : Glanced) → np' ≡ np → birth' ≡ birth → IsPrefix seen seen'
+    → IsGlance np'.policy birth' seen' actor request g → ns' ≡ ns ++ g.len ∷ [] → IsViewTold np told (shown g.len g.reply) → Shows np birth seen seen' ns ns' actor request told
 shows_glance np np' birth birth' seen seen' ns ns' actor request told g same same' more is lens tells =
     let len = is.len in
     let low = longer seen seen' more in
@@ -42,8 +42,8 @@ shows_glance np np' birth birth' seen seen' ns ns' actor request told g same sam
     }
 
 module _ (np : NamedPolicy) (birth : ℕ) (line : List ℕ) where
-  pub acts_ask : (seen seen' : List Entry) (s s' : Showing) (request : Request) (told : Told) → read_line np Nobody false line ≡ Ok (Ask request) → IsNamedActor np s.actor
-      → Answers np birth seen seen' (record s { calls = s.calls + 1 }) s' request told → Acts np birth seen seen' s s' line told
+  pub acts_ask : (seen seen' : List Entry) (s s' : Showing) (request : Request) (told : ViewAnswer) → read_line np Nobody false line ≡ Ok (Ask request) → IsNamedActor np s.actor
+      → AnswersView np birth seen seen' (record s { calls = s.calls + 1 }) s' request told → Acts np birth seen seen' s s' line told
   acts_ask seen seen' s s' request told said named a =
       record {
         answer = a.answer;
@@ -53,13 +53,13 @@ module _ (np : NamedPolicy) (birth : ℕ) (line : List ℕ) where
         lens = a.lens;
         ascends = a.ascends;
         denied = a.denied;
-        calls = a.same.1 ∙ ap (λ (r : Result Line LineFault). s.calls + one_where (is_request r)) (sym said);
+        calls = a.same.1 ∙ ap (λ (r : Result Line LineFault). s.calls + one_where (says_request r)) (sym said);
         actor = a.same.0 ∙ ap (λ (r : Result Line LineFault). actor_by r s.actor) (sym said);
         named = subst (λ (y : Actor). IsNamedActor np y) (sym a.same.0) named;
       }
 
-  acts_plain : (seen : List Entry) (s : Showing) (said : Result Line LineFault) (told : Told) (answer : Answer) → read_line np Nobody false line ≡ said → IsTold np told answer → Gets np birth seen said s.actor answer
-      → lens_in answer ≡ [] → is_denied answer ≡ false → is_request said ≡ false → IsNamedActor np (actor_by said s.actor) → Acts np birth seen seen s (record s { actor = actor_by said s.actor }) line told
+  acts_plain : (seen : List Entry) (s : Showing) (said : Result Line LineFault) (told : ViewAnswer) (answer : Glimpse) → read_line np Nobody false line ≡ said → IsViewTold np told answer → Gets np birth seen said s.actor answer
+      → lens_in answer ≡ [] → is_glimpse_denied answer ≡ false → says_request said ≡ false → IsNamedActor np (actor_by said s.actor) → Acts np birth seen seen s (record s { actor = actor_by said s.actor }) line told
   acts_plain seen s said told answer is tells gets none fine plain named =
       let low : length seen ≤ length seen = omega arith in
       record {
@@ -68,9 +68,9 @@ module _ (np : NamedPolicy) (birth : ℕ) (line : List ℕ) where
         gets = subst (λ (r : Result Line LineFault). Gets np birth seen r s.actor answer) (sym is) gets;
         grows = prefix_self seen;
         lens = sym (append-nil s.lens.items) ∙ ap (λ (ns : List ℕ). s.lens.items ++ ns) (sym none);
-        ascends = subst (λ (ns : List ℕ). Ascend (length seen) ns (length seen)) (sym none) low;
+        ascends = subst (λ (ns : List ℕ). AscendBetween (length seen) ns (length seen)) (sym none) low;
         denied = sym (add-zero s.denied) ∙ ap (λ (b : Bool). s.denied + one_where b) (sym fine);
-        calls = sym (add-zero s.calls) ∙ ap (λ (b : Bool). s.calls + one_where b) (sym plain) ∙ ap (λ (r : Result Line LineFault). s.calls + one_where (is_request r)) (sym is);
+        calls = sym (add-zero s.calls) ∙ ap (λ (b : Bool). s.calls + one_where b) (sym plain) ∙ ap (λ (r : Result Line LineFault). s.calls + one_where (says_request r)) (sym is);
         actor = ap (λ (r : Result Line LineFault). actor_by r s.actor) (sym is);
         named = named;
       }

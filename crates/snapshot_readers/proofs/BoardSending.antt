@@ -19,7 +19,8 @@ use Rattle.published_copies.specs.declared.replica.Replica as replica
 use Rattle.published_copies.specs.Views.{Keeps, blank}
 use Rattle.snapshot_readers.specs.contracts.book_copy.BookCopy as copy
 use Rattle.snapshot_readers.proofs.GlassSending.{copy_sync}
-use Rattle.snapshot_readers.proofs.BookSending.{entry_send, book_send, ledger_send}
+use Rattle.gt_base.proofs.Crossing.{entry_send}
+use Rattle.snapshot_readers.proofs.BookCrossing.{book_send, ledger_send}
 use Rattle.snapshot_readers.specs.contracts.board.Board as board
 use Rattle.snapshot_readers.specs.contracts.board.Board.TheInside as board_inside
 

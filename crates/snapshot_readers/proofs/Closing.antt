@@ -15,10 +15,12 @@ use Rattle.connection_laws.proofs.Prefixes.{prefix_self}
 use Rattle.snapshot_readers.specs.declared.showing.Showing.{Showing}
 use Rattle.snapshot_readers.specs.declared.ends.ViewEnd.{ViewEnd}
 use Rattle.snapshot_readers.specs.declared.ends.ViewEnd.TheVariants.{Ended, ReadFault, WriteFault, Spent}
-use Rattle.snapshot_readers.specs.Boxes.{most_bytes, Stops}
-use Rattle.snapshot_readers.specs.Viewed.{Acted, lines_of, text_of, Ascend, IsGiven, View}
-use Rattle.snapshot_readers.specs.Viewing.{IsStart, Point, point, HaveFailed, none_more, EndsBy, Serving, Halted, Converses, Views}
+use Rattle.snapshot_readers.specs.Boxes.{Stops}
+use Rattle.snapshot_readers.specs.Viewed.{ViewActed, view_lines, view_text, AscendBetween, IsViewGiven, View}
+use Rattle.snapshot_readers.specs.Viewing.{IsViewStart, ViewPoint, view_point, ViewEndsBy, Serving, Halted, Converses, Views}
+use Rattle.connection_laws.specs.Doors.{HaveFailed, none_more}
 use Rattle.snapshot_readers.proofs.Completing.{complete_by}
+use Rattle.snapshot_readers.specs.declared.inbox.TheConstants.{MOST_BYTES}
 
 -- bytes that were read behind those that are held
 pub regroup : (fed rest got rest' : List ℕ) (byte : ℕ) → rest ++ got ≡ byte ∷ rest' → (fed ++ rest) ++ got ≡ (fed ++ byte ∷ []) ++ rest'
@@ -47,7 +49,7 @@ one_longer fed byte = omega (arith, length-append fed (byte ∷ []))
 pub all_fed : (fed rest got : List ℕ) → rest ≡ [] → got ≡ [] → (fed ++ rest) ++ got ≡ fed
 all_fed fed rest got e f = ap (λ (l : List ℕ). (fed ++ rest) ++ l) f ∙ append-nil (fed ++ rest) ∙ ap (λ (l : List ℕ). fed ++ l) e ∙ append-nil fed
 
-pub ends_so : (a m b : Traffic) (fed : List ℕ) (left : ℕ) (end : ViewEnd) → length fed + left ≡ most_bytes → m.read_faults ≡ a.read_faults → b.write_faults ≡ a.write_faults → Stops m b left end → EndsBy a b fed end
+pub ends_so : (a m b : Traffic) (fed : List ℕ) (left : ℕ) (end : ViewEnd) → length fed + left ≡ MOST_BYTES → m.read_faults ≡ a.read_faults → b.write_faults ≡ a.write_faults → Stops m b left end → ViewEndsBy a b fed end
 ends_so a m b fed left Ended count reads writes s =
     let more = s.1 in (s.0, omega (arith, count, more), record { reads_are = s.2 ∙ reads; writes_are = writes })
 ends_so a m b fed left ReadFault count reads writes s =
@@ -56,7 +58,7 @@ ends_so a m b fed left Spent count reads writes s =
     let full = s.0 in (omega (arith, count, full), record { reads_are = s.1 ∙ reads; writes_are = writes })
 ends_so a m b fed left WriteFault count reads writes s = absurd s
 
-pub given_all : (np : NamedPolicy) (a b : Traffic) (fed : List ℕ) (left : ℕ) (acted : List Acted) (end : ViewEnd) → Stops a b left end → lines_of acted ≡ whole_lines fed → IsGiven np fed (text_of np acted) acted end
+pub given_all : (np : NamedPolicy) (a b : Traffic) (fed : List ℕ) (left : ℕ) (acted : List ViewActed) (end : ViewEnd) → Stops a b left end → view_lines acted ≡ whole_lines fed → IsViewGiven np fed (view_text np acted) acted end
 given_all np a b fed left acted Ended s lines = (lines, refl)
 given_all np a b fed left acted ReadFault s lines = (lines, refl)
 given_all np a b fed left acted Spent s lines = (lines, refl)
@@ -66,17 +68,17 @@ failed_kept : (a b c : Traffic) (reads writes : ℕ → ℕ) → ReadsNothing b 
 failed_kept a b c reads writes r w h = record { reads_are = r.read_faults_are ∙ h.reads_are; writes_are = w.write_faults_are ∙ h.writes_are }
 
 -- what follows the last call changes nothing
-cause_kept : (a b c : Traffic) (taken : List ℕ) (end : ViewEnd) → ReadsNothing b c → WritesNothing b c → EndsBy a b taken end → EndsBy a c taken end
+cause_kept : (a b c : Traffic) (taken : List ℕ) (end : ViewEnd) → ReadsNothing b c → WritesNothing b c → ViewEndsBy a b taken end → ViewEndsBy a c taken end
 cause_kept a b c taken Ended r w h = (subst IsAtEnd (sym r.left_kept) h.0, h.1, failed_kept a b c none_more none_more r w h.2)
 cause_kept a b c taken ReadFault r w h = (h.0, failed_kept a b c one_more none_more r w h.1)
 cause_kept a b c taken WriteFault r w h = failed_kept a b c none_more one_more r w h
 cause_kept a b c taken Spent r w h = (h.0, failed_kept a b c none_more none_more r w h.1)
 
 module _ (np : NamedPolicy) (birth : ℕ) where
-  pub begins : (seen : List Entry) (s : Showing) (given : Option (List ℕ)) (frame : Frame) → IsStart s → frame ≡ blank_frame → Serving np birth (point seen s given) (point seen s given) frame [] []
+  pub begins : (seen : List Entry) (s : Showing) (given : Option (List ℕ)) (frame : Frame) → IsViewStart s → frame ≡ blank_frame → Serving np birth (view_point seen s given) (view_point seen s given) frame [] []
   begins seen s given frame start is =
       let low : length seen ≤ length seen = omega arith in
-      subst (λ (f : Frame). Serving np birth (point seen s given) (point seen s given) f [] []) (sym is)
+      subst (λ (f : Frame). Serving np birth (view_point seen s given) (view_point seen s given) f [] []) (sym is)
       (record {
         going = record {
           grows = prefix_self seen;
@@ -94,19 +96,19 @@ module _ (np : NamedPolicy) (birth : ℕ) where
       })
 
   -- what is given to the link is kept by a read
-  pub serving_kept : (o : Point) (seen : List Entry) (s : Showing) (given given' : Option (List ℕ)) (frame : Frame) (fed : List ℕ) (acted : List Acted) → given' ≡ given
-      → Serving np birth o (point seen s given) frame fed acted → Serving np birth o (point seen s given') frame fed acted
-  serving_kept o seen s given given' frame fed acted same v = subst (λ (x : Option (List ℕ)). Serving np birth o (point seen s x) frame fed acted) (sym same) v
+  pub serving_kept : (o : ViewPoint) (seen : List Entry) (s : Showing) (given given' : Option (List ℕ)) (frame : Frame) (fed : List ℕ) (acted : List ViewActed) → given' ≡ given
+      → Serving np birth o (view_point seen s given) frame fed acted → Serving np birth o (view_point seen s given') frame fed acted
+  serving_kept o seen s given given' frame fed acted same v = subst (λ (x : Option (List ℕ)). Serving np birth o (view_point seen s x) frame fed acted) (sym same) v
 
-  pub closed : (o p : Point) (frame : Frame) (a m b : Traffic) (fed : List ℕ) (left : ℕ) (acted : List Acted) (end : ViewEnd) → Serving np birth o p frame fed acted → Stops m b left end
-      → Appends a.taken b.taken fed → Consumes a.left b.left fed → length fed + left ≡ most_bytes → m.read_faults ≡ a.read_faults → b.write_faults ≡ a.write_faults → Converses np birth o p a b end
+  pub closed : (o p : ViewPoint) (frame : Frame) (a m b : Traffic) (fed : List ℕ) (left : ℕ) (acted : List ViewActed) (end : ViewEnd) → Serving np birth o p frame fed acted → Stops m b left end
+      → Appends a.taken b.taken fed → Consumes a.left b.left fed → length fed + left ≡ MOST_BYTES → m.read_faults ≡ a.read_faults → b.write_faults ≡ a.write_faults → Converses np birth o p a b end
   closed o p frame a m b fed left acted end v s taken consumed count reads writes =
       record {
         taken = fed;
         acted = acted;
         going = v.going;
-        lines = ([], append-nil (lines_of acted) ∙ v.lines);
-        text = text_of np acted;
+        lines = ([], append-nil (view_lines acted) ∙ v.lines);
+        text = view_text np acted;
         given = v.given;
         given_is = given_all np m b fed left acted end s v.lines;
         taken_is = taken;
@@ -115,8 +117,8 @@ module _ (np : NamedPolicy) (birth : ℕ) where
         cause = ends_so a m b fed left end count reads writes s;
       }
 
-  pub cut_off : (o p : Point) (a b : Traffic) (f : ℕ) (fed rest : List ℕ) (acted : List Acted) (end : ViewEnd) → Halted np birth o p fed acted f b.write_faults end → b.read_faults ≡ a.read_faults → f ≡ a.write_faults
-      → Appends a.taken b.taken (fed ++ rest) → Consumes a.left b.left (fed ++ rest) → length fed + length rest ≤ most_bytes → Converses np birth o p a b end
+  pub cut_off : (o p : ViewPoint) (a b : Traffic) (f : ℕ) (fed rest : List ℕ) (acted : List ViewActed) (end : ViewEnd) → Halted np birth o p fed acted f b.write_faults end → b.read_faults ≡ a.read_faults → f ≡ a.write_faults
+      → Appends a.taken b.taken (fed ++ rest) → Consumes a.left b.left (fed ++ rest) → length fed + length rest ≤ MOST_BYTES → Converses np birth o p a b end
   cut_off o p a b f fed rest acted end h reads low taken consumed few =
       let more = lines_more fed rest in
       let both = length-append fed rest in
@@ -127,15 +129,15 @@ module _ (np : NamedPolicy) (birth : ℕ) where
         lines = (more.0, ap (λ (ls : List (List ℕ)). ls ++ more.0) h.lines ∙ more.1);
         text = h.text;
         given = h.given;
-        given_is = subst (λ (e : ViewEnd). IsGiven np (fed ++ rest) h.text acted e) (sym h.end_is) h.part;
+        given_is = subst (λ (e : ViewEnd). IsViewGiven np (fed ++ rest) h.text acted e) (sym h.end_is) h.part;
         taken_is = taken;
         left_is = consumed;
         bounded = omega (arith, both, few);
-        cause = subst (λ (e : ViewEnd). EndsBy a b (fed ++ rest) e) (sym h.end_is) (record { reads_are = reads; writes_are = h.cause ∙ ap one_more low });
+        cause = subst (λ (e : ViewEnd). ViewEndsBy a b (fed ++ rest) e) (sym h.end_is) (record { reads_are = reads; writes_are = h.cause ∙ ap one_more low });
       }
 
   -- the report of a service
-  pub reported : (seen seen' : List Entry) (s s' : Showing) (a b c : Traffic) (end : ViewEnd) → IsStart s → Converses np birth (point seen s a.given) (point seen' s' b.given) a b end → ReadsNothing b c → WritesNothing b c
+  pub reported : (seen seen' : List Entry) (s s' : Showing) (a b c : Traffic) (end : ViewEnd) → IsViewStart s → Converses np birth (view_point seen s a.given) (view_point seen' s' b.given) a b end → ReadsNothing b c → WritesNothing b c
       → c.finished ≡ true → Views np birth seen seen' s'.lens.items s'.denied s.calls s'.calls a c end
   reported seen seen' s s' a b c end start x r w done =
       let told : View np birth seen' x.taken x.text x.acted end = record { lines = x.lines; fit = x.going.fits; given_is = x.given_is } in
@@ -147,7 +149,7 @@ module _ (np : NamedPolicy) (birth : ℕ) where
         view = told;
         grows = x.going.grows;
         lens_are = x.going.lens;
-        ascends = subst (λ (ns : List ℕ). Ascend (length seen) ns (length seen')) (sym x.going.lens) x.going.ascends;
+        ascends = subst (λ (ns : List ℕ). AscendBetween (length seen) ns (length seen')) (sym x.going.lens) x.going.ascends;
         denied_are = x.going.denied;
         calls_are = x.going.calls;
         taken_is = subst (λ (y : Option (List ℕ)). Appends a.taken y x.taken) (sym r.taken_kept) x.taken_is;

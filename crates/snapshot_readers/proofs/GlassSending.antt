@@ -18,7 +18,7 @@ use Rattle.left_right.specs.declared.Absorb as absorb
 use Rattle.published_copies.specs.declared.replica.Replica as replica
 use Rattle.published_copies.specs.contracts.looking.Sight as sight
 use Rattle.published_copies.specs.contracts.looking.Sight.TheInside as sight_inside
-use Rattle.snapshot_readers.proofs.BookSharing.{book_sync}
+use Rattle.snapshot_readers.proofs.BookCrossing.{book_sync}
 
 pub copy_sync : IsSync copy.the_row
 copy_sync = search (book_sync, sendable, crosses) depth 40

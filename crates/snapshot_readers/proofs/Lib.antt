@@ -1,7 +1,6 @@
-pub mod BookSharing
+pub mod BookCrossing
 pub mod GlassSending
 pub mod Serving
-pub mod BookSending
 pub mod BoardSending
 pub mod Ascending
 pub mod Longer

@@ -7,15 +7,15 @@ use Rattle.policy_words.specs.Naming.{NamedPolicy}
 use Rattle.connection_laws.proofs.Prefixes.{prefix_self, prefix_trans}
 use Rattle.snapshot_readers.specs.declared.ends.Viewed.{Viewed}
 use Rattle.snapshot_readers.specs.declared.ends.ViewerEnd.{ViewerEnd}
-use Rattle.snapshot_readers.specs.declared.ends.ViewerEnd.TheVariants.{Fresh, Done, DoorFault, Enough, Memory}
-use Rattle.snapshot_readers.specs.Viewed.{Ascend}
+use Rattle.snapshot_readers.specs.Viewed.{AscendBetween}
 use Rattle.snapshot_readers.specs.Viewing.{Views}
-use Rattle.snapshot_readers.specs.Crew.{Tale, begun_of, all_lens, Gives, AddUp, Spot, ViewsTo, IsViewed, AreViewed, Worked, WorksOn, Works}
+use Rattle.snapshot_readers.specs.Crew.{ViewTale, views_begun, all_lens, ViewerSpot, ViewsTo, IsViewed, AreViewed, Worked, WorksOn, Works}
+use Rattle.connection_laws.specs.Doors.{Gives, AddUp}
 use Rattle.snapshot_readers.proofs.Ascending.{ascend_on}
 use Rattle.snapshot_readers.proofs.Longer.{acted_longer}
 
 module _ {L : Type 0} where
-  begun_push : (xs : List (Tale L)) (x : Tale L) → begun_of (xs ++ x ∷ []) ≡ begun_of xs ++ x.begun ∷ []
+  begun_push : (xs : List (ViewTale L)) (x : ViewTale L) → views_begun (xs ++ x ∷ []) ≡ views_begun xs ++ x.begun ∷ []
   begun_push [] x = refl
   begun_push (y ∷ ys) x = ap (λ (ls : List L). y.begun ∷ ls) (begun_push ys x)
 
@@ -37,7 +37,7 @@ module _ {L : Type 0} where
   gives_none (Some ls) = (ls, refl, refl)
 
   module _ (traffic : L → Traffic) (np : NamedPolicy) (birth : ℕ) where
-    pub viewed_longer : (h h' : List Entry) (ss : List (Viewed L)) (xs : List (Tale L)) → IsPrefix h h' → AreViewed traffic np birth h ss xs → AreViewed traffic np birth h' ss xs
+    pub viewed_longer : (h h' : List Entry) (ss : List (Viewed L)) (xs : List (ViewTale L)) → IsPrefix h h' → AreViewed traffic np birth h ss xs → AreViewed traffic np birth h' ss xs
     viewed_longer h h' [] [] more all = tt
     viewed_longer h h' [] (x ∷ xs) more all = absurd all
     viewed_longer h h' (s ∷ ss) [] more all = absurd all
@@ -59,40 +59,40 @@ module _ {L : Type 0} where
           viewed_longer h h' ss xs more all.1,
         )
 
-    viewed_push : (h : List Entry) (ss : List (Viewed L)) (xs : List (Tale L)) (s : Viewed L) (x : Tale L) → AreViewed traffic np birth h ss xs → IsViewed traffic np birth h s x → AreViewed traffic np birth h (ss ++ s ∷ []) (xs ++ x ∷ [])
+    viewed_push : (h : List Entry) (ss : List (Viewed L)) (xs : List (ViewTale L)) (s : Viewed L) (x : ViewTale L) → AreViewed traffic np birth h ss xs → IsViewed traffic np birth h s x → AreViewed traffic np birth h (ss ++ s ∷ []) (xs ++ x ∷ [])
     viewed_push h [] [] s x all one = (one, tt)
     viewed_push h [] (y ∷ ys) s x all one = absurd all
     viewed_push h (t ∷ ts) [] s x all one = absurd all
     viewed_push h (t ∷ ts) (y ∷ ys) s x all one = (all.0, viewed_push h ts ys s x all.1 one)
 
     -- one more link was served
-    pub link_done : (o p p' : Spot L) (served : List (Viewed L)) (tales : List (Tale L)) (s : Viewed L) (begun : L) (calls calls' : ℕ) → Worked traffic np birth o p served tales
+    pub link_done : (o p p' : ViewerSpot L) (served : List (Viewed L)) (tales : List (ViewTale L)) (s : Viewed L) (begun : L) (calls calls' : ℕ) → Worked traffic np birth o p served tales
         → Views np birth p.seen p'.seen s.lens.items s.denied calls calls' (traffic begun) (traffic s.link) s.outcome → GivesFirst p.door p'.door begun → IsFresh (traffic begun)
-        → (tales' : List (Tale L)) × Worked traffic np birth o p' (served ++ s ∷ []) tales'
+        → (tales' : List (ViewTale L)) × Worked traffic np birth o p' (served ++ s ∷ []) tales'
     link_done o p p' served tales s begun calls calls' w v door fresh =
-        let x : Tale L = record { begun = begun; taken = v.taken; given = v.given; acted = v.acted } in
+        let x : ViewTale L = record { begun = begun; taken = v.taken; given = v.given; acted = v.acted } in
         let one : IsViewed traffic np birth p'.seen s x =
         record { fresh = fresh; view = v.view; lens = v.lens_are; denied = v.denied_are; taken_is = v.taken_is; left_is = v.left_is; given_is = v.given_is; bounded = v.bounded; cause = v.cause; finished = v.finished; complete = v.complete } in (
           tales ++ x ∷ [],
           record {
             links = viewed_push p'.seen served tales s x (viewed_longer p.seen p'.seen served tales v.grows w.links) one;
             grows = prefix_trans o.seen p.seen p'.seen w.grows v.grows;
-            ascends = subst (λ (ns : List ℕ). Ascend (length o.seen) ns (length p'.seen)) (sym (lens_push served s)) (ascend_on (length o.seen) (all_lens served) s.lens.items (length p.seen) (length p'.seen) w.ascends v.ascends);
-            door = subst (λ (ls : List L). Gives o.door p'.door ls) (sym (begun_push tales x)) (gives_more o.door p.door p'.door (begun_of tales) begun w.door door);
+            ascends = subst (λ (ns : List ℕ). AscendBetween (length o.seen) ns (length p'.seen)) (sym (lens_push served s)) (ascend_on (length o.seen) (all_lens served) s.lens.items (length p.seen) (length p'.seen) w.ascends v.ascends);
+            door = subst (λ (ls : List L). Gives o.door p'.door ls) (sym (begun_push tales x)) (gives_more o.door p.door p'.door (views_begun tales) begun w.door door);
           },
         )
 
     -- the door gave no link
-    pub no_link : (o : Spot L) (seen : List Entry) (door door' : Option (List L)) (served : List (Viewed L)) (tales : List (Tale L)) → door' ≡ door → Worked traffic np birth o (record { seen = seen; door = door }) served tales
+    pub no_link : (o : ViewerSpot L) (seen : List Entry) (door door' : Option (List L)) (served : List (Viewed L)) (tales : List (ViewTale L)) → door' ≡ door → Worked traffic np birth o (record { seen = seen; door = door }) served tales
         → Worked traffic np birth o (record { seen = seen; door = door' }) served tales
     no_link o seen door door' served tales same w = subst (λ (d : Option (List L)). Worked traffic np birth o (record { seen = seen; door = d }) served tales) (sym same) w
 
-    pub no_links : (o : Spot L) (served : List (Viewed L)) → served ≡ [] → Worked traffic np birth o o served []
+    pub no_links : (o : ViewerSpot L) (served : List (Viewed L)) → served ≡ [] → Worked traffic np birth o o served []
     no_links o served is =
         let low : length o.seen ≤ length o.seen = omega arith in
         subst (λ (ss : List (Viewed L)). Worked traffic np birth o o ss []) (sym is) (record { links = tt; grows = prefix_self o.seen; ascends = low; door = gives_none o.door })
 
-    lengths_agree : (h : List Entry) (ss : List (Viewed L)) (xs : List (Tale L)) → AreViewed traffic np birth h ss xs → length (begun_of xs) ≡ length ss
+    lengths_agree : (h : List Entry) (ss : List (Viewed L)) (xs : List (ViewTale L)) → AreViewed traffic np birth h ss xs → length (views_begun xs) ≡ length ss
     lengths_agree h [] [] all = refl
     lengths_agree h [] (x ∷ xs) all = absurd all
     lengths_agree h (s ∷ ss) [] all = absurd all
@@ -109,24 +109,20 @@ module _ {L : Type 0} where
     add_up (Some had) None served begun same g = tt
     add_up None left served begun same g = tt
 
-    pub counted_by : (o p : Spot L) (served : List (Viewed L)) (tales : List (Tale L)) → Worked traffic np birth o p served tales → AddUp o.door p.door served
-    counted_by o p served tales w = add_up o.door p.door served (begun_of tales) (lengths_agree p.seen served tales w.links) w.door
+    pub counted_by : (o p : ViewerSpot L) (served : List (Viewed L)) (tales : List (ViewTale L)) → Worked traffic np birth o p served tales → AddUp o.door p.door served
+    counted_by o p served tales w = add_up o.door p.door served (views_begun tales) (lengths_agree p.seen served tales w.links) w.door
 
-    views_earlier : (links : Option (List L)) (f f' f'' : ℕ) (served : List (Viewed L)) (end : ViewerEnd) → f ≤ f' → ViewsTo links f' f'' served end → ViewsTo links f f'' served end
-    views_earlier links f f' f'' served DoorFault low w = (w.0, let rose = w.1 in omega (arith, rose, low))
-    views_earlier links f f' f'' served Done low w = w
-    views_earlier links f f' f'' served Enough low w = w
-    views_earlier links f f' f'' served Memory low w = w
-    views_earlier links f f' f'' served Fresh low w = w
+    views_earlier : (links : Option (List L)) (f f' f'' : ℕ) (served : List (Viewed L)) (end : ViewerEnd) → f' ≡ f → ViewsTo links f' f'' served end → ViewsTo links f f'' served end
+    views_earlier links f f' f'' served end kept w = subst (λ (n : ℕ). ViewsTo links n f'' served end) kept w
 
     -- the next link, told from the begin of the work
-    pub next_done : (o p p' : Spot L) (f f' f'' : ℕ) (items items' served : List (Viewed L)) (tales : List (Tale L)) (end : ViewerEnd) → items' ≡ items → f ≤ f' → Worked traffic np birth o p items tales
+    pub next_done : (o p p' : ViewerSpot L) (f f' f'' : ℕ) (items items' served : List (Viewed L)) (tales : List (ViewTale L)) (end : ViewerEnd) → items' ≡ items → f' ≡ f → Worked traffic np birth o p items tales
         → WorksOn traffic np birth p p' f' f'' items' served (Some end) → Works traffic np birth o p' f f'' served end
     next_done o p p' f f' f'' items items' served tales end kept low w on =
         let d = on o tales (subst (λ (ss : List (Viewed L)). Worked traffic np birth o p ss tales) (sym kept) w) in
         record { tales = d.0; worked = d.1; counted = counted_by o p' served d.0 d.1; cause = views_earlier p'.door f f' f'' served end low d.2 }
 
-    pub goes_on : (o p p' : Spot L) (f' f'' : ℕ) (items items' served : List (Viewed L)) (tales : List (Tale L)) → items' ≡ items → Worked traffic np birth o p items tales
-        → WorksOn traffic np birth p p' f' f'' items' served None → (tales' : List (Tale L)) × Worked traffic np birth o p' served tales'
+    pub goes_on : (o p p' : ViewerSpot L) (f' f'' : ℕ) (items items' served : List (Viewed L)) (tales : List (ViewTale L)) → items' ≡ items → Worked traffic np birth o p items tales
+        → WorksOn traffic np birth p p' f' f'' items' served None → (tales' : List (ViewTale L)) × Worked traffic np birth o p' served tales' × (f'' ≡ f')
     goes_on o p p' f' f'' items items' served tales kept w on =
-        let d = on o tales (subst (λ (ss : List (Viewed L)). Worked traffic np birth o p ss tales) (sym kept) w) in (d.0, d.1)
+        on o tales (subst (λ (ss : List (Viewed L)). Worked traffic np birth o p ss tales) (sym kept) w)

@@ -4,7 +4,7 @@ use denote.Builtin.{u64}
 use denote.Param.Send.{IsSend, sendable, recorded_send, struct_send}
 use denote.Struct.Declared.{shape}
 use denote.Struct.Struct.{Struct}
-use Rattle.snapshot_readers.proofs.BookSending.{list_send}
+use Rattle.gt_base.proofs.Crossing.{list_send}
 use Rattle.snapshot_readers.specs.contracts.ends.Viewed as viewed
 use Rattle.snapshot_readers.specs.contracts.viewers.Viewer as viewer
 use Rattle.snapshot_readers.proofs.GlassSending.{glass_send}

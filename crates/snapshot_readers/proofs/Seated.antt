@@ -17,8 +17,8 @@ use Rattle.snapshot_readers.specs.Glances.{IsReplyAt}
 use Rattle.snapshot_readers.specs.Glazed.{Glazed, fresh_glass}
 use Rattle.snapshot_readers.specs.declared.viewers.Viewer.{Viewer}
 use Rattle.snapshot_readers.specs.declared.ends.Viewed.{Viewed}
-use Rattle.snapshot_readers.specs.Crew.{Tale, Works, AreViewed, all_lens}
-use Rattle.snapshot_readers.specs.Viewed.{Answer, silence, agreed, bad, shown, no_memory, view_only, Acted, Looks, Gets, actor_after, AreActed, Ascend}
+use Rattle.snapshot_readers.specs.Crew.{ViewTale, Works, AreViewed, all_lens}
+use Rattle.snapshot_readers.specs.Viewed.{Glimpse, silence, agreed, bad, shown, no_memory, view_only, ViewActed, Looks, Gets, view_actor, AreViewActed, AscendBetween}
 use Rattle.snapshot_readers.proofs.Ascending.{ascend_to}
 use Rattle.snapshot_readers.proofs.Longer.{take_longer, longer}
 use Rattle.snapshot_readers.proofs.Linking.{viewed_longer}
@@ -43,7 +43,7 @@ length_copies (suc n) x = ap suc (length_copies n x)
 
 -- what is shown of a longer list is, up to the length of its beginning, of that
 module _ (np : NamedPolicy) (birth : ℕ) (h seen : List Entry) (more : IsPrefix h seen) where
-  of_looks : (actor : Actor) (request : Request) (answer : Answer) → Looks np birth seen actor request answer → IsOf np birth h actor request answer
+  of_looks : (actor : Actor) (request : Request) (answer : Glimpse) → Looks np birth seen actor request answer → IsOf np birth h actor request answer
   of_looks actor request (shown n reply) l = λ low. subst (λ (g : List Entry). IsReplyAt np.policy birth g actor request reply) (take_longer n h seen more low) l.1
   of_looks actor request no_memory l = tt
   of_looks actor request silence l = tt
@@ -51,19 +51,19 @@ module _ (np : NamedPolicy) (birth : ℕ) (h seen : List Entry) (more : IsPrefix
   of_looks actor request (bad f) l = tt
   of_looks actor request view_only l = tt
 
-  by_look : (b : Bool) (actor : Actor) (request : Request) (answer : Answer) → MatchBool b (Looks np birth seen actor request answer) (answer ≡ view_only) → IsOf np birth h actor request answer
+  by_look : (b : Bool) (actor : Actor) (request : Request) (answer : Glimpse) → MatchBool b (Looks np birth seen actor request answer) (answer ≡ view_only) → IsOf np birth h actor request answer
   by_look true actor request answer l = of_looks actor request answer l
-  by_look false actor request answer l = subst (λ (x : Answer). IsOf np birth h actor request x) (sym l) tt
+  by_look false actor request answer l = subst (λ (x : Glimpse). IsOf np birth h actor request x) (sym l) tt
 
-  acted_of : (acted : List Acted) → AreActed np birth seen acted → AreOf np birth h acted
+  acted_of : (acted : List ViewActed) → AreViewActed np birth seen acted → AreOf np birth h acted
   acted_of [] all = tt
   acted_of (a ∷ before) all = (
     acted_of before all.0,
     λ request is.
-        by_look (is_look request) (actor_after np before) request a.answer (subst (λ (said : Result Line LineFault). Gets np birth seen said (actor_after np before) a.answer) is all.1),
+        by_look (is_look request) (view_actor np before) request a.answer (subst (λ (said : Result Line LineFault). Gets np birth seen said (view_actor np before) a.answer) is all.1),
   )
 
-  tales_of : {L : Type 0} (traffic : L → Traffic) (ss : List (Viewed L)) (xs : List (Tale L)) → AreViewed traffic np birth seen ss xs → AllAreOf np birth h xs
+  tales_of : {L : Type 0} (traffic : L → Traffic) (ss : List (Viewed L)) (xs : List (ViewTale L)) → AreViewed traffic np birth seen ss xs → AllAreOf np birth h xs
   tales_of traffic [] [] all = tt
   tales_of traffic [] (x ∷ xs) all = absurd all
   tales_of traffic (s ∷ ss) [] all = absurd all
@@ -121,7 +121,7 @@ module _ {D G L : Type 0} where
         record {
           tales = w.tales;
           links = w.worked.links;
-          ascends = subst (λ (es : List Entry). Ascend (length es) (all_lens z.viewer.served.items) (length z.glass.seen)) seen w.worked.ascends;
+          ascends = subst (λ (es : List Entry). AscendBetween (length es) (all_lens z.viewer.served.items) (length z.glass.seen)) seen w.worked.ascends;
           door = w.worked.door;
           cause = w.cause;
         }

@@ -1,33 +1,24 @@
 -- What connections can ask of a book, by what is legal for it.
 use Rattle.std.proofs.Common.{◌≡◌, ℕ, ◌≤◌, List, [], ◌∷◌, ◌++◌, refl, sym, ap, subst, ◌∙◌, arith, append-nil, append_assoc}
-use Rattle.gt_base.specs.Bounds.{last_minute}
 use Rattle.gt_base.specs.Machines.{asked}
 use Rattle.gt_base.specs.declared.requests.Entry.{Entry}
 use Rattle.gt_base.specs.declared.requests.Reply.{Reply}
 use Rattle.gt_base.specs.declared.requests.Step.{Step}
 use Rattle.gt_base.specs.declared.requests.Step.TheVariants.{Tick, Ask}
+use Rattle.gt_base.specs.declared.limits.TheConstants.{LAST_MINUTE}
 use Rattle.gtrbac_model.specs.Policy.{Policy}
 use Rattle.gtrbac_model.specs.Status.{Model}
 use Rattle.gtrbac_model.specs.Reply.{reply_of}
 use Rattle.gtrbac_model.specs.History.{AreLegalAfter, IsLegalStep, moved, now_of, point_after}
 use Rattle.gtrbac_model.proofs.Playing.{now_snoc}
-use Rattle.history_laws.specs.Named.{IsNamedStep as IsNamedStepOf, AreNamed as AreNamedOf}
 use Rattle.history_laws.proofs.NamedPoints.{points_are_named}
 use Rattle.policy_words.specs.Valid.{IsWellFormed}
-use Rattle.core_machine.specs.Books.{BookView, IsBook, IsNamedStep, AreNamed, IsNamedFor, now_after}
+use Rattle.core_machine.specs.Books.{BookView, IsBook, IsNamedFor, now_after}
 use Rattle.request_text.proofs.BriefWalks.{brief_reply}
 use Rattle.request_text.proofs.SoundReplies.{reply_sounds}
 use Rattle.connection_laws.specs.Connection.{Rises, IsTimed}
 use Rattle.connection_laws.specs.Desks.{CanBeTold, RepliesCanBeTold}
 use Rattle.snapshot_readers.specs.Ledgers.{IsLegalLedger, CanBeServed}
-
-same_step : (p : Policy) (s : Step) → IsNamedStep p s → IsNamedStepOf p s
-same_step p (Tick upto to) h = h
-same_step p (Ask actor request reply) h = h
-
-same_named : (p : Policy) (h : List Entry) → AreNamed p h → AreNamedOf p h
-same_named p [] n = tt
-same_named p (e ∷ h) n = (same_step p e.what n.0, same_named p h n.1)
 
 module _ (p : Policy) (birth : ℕ) (m : Model) where
   step_rises : (g : List Entry) (s : Step) → IsLegalStep p birth m g s → now_of birth g ≤ moved (now_of birth g) s
@@ -45,13 +36,13 @@ module _ (p : Policy) (birth : ℕ) (m : Model) where
   last_step g (f ∷ fs) e l = subst (λ (h : List Entry). IsLegalStep p birth m h e.what) (append_assoc g (f ∷ []) fs) (last_step (g ++ f ∷ []) fs e l.1)
 
 -- the reply of the last step is the model's, from a named point
-told : (b : BookView) → IsWellFormed b.named → b.birth ≤ last_minute → RepliesCanBeTold b.named (IsLegalLedger b)
+told : (b : BookView) → IsWellFormed b.named → b.birth ≤ LAST_MINUTE → RepliesCanBeTold b.named (IsLegalLedger b)
 told b well low before who actor request reply l =
     let p : Policy = b.named.policy in
     let m : Model = l.legal.model in
     let e : Entry = asked who actor request reply in
     let is : reply ≡ reply_of p (point_after p b.birth m before) actor request = last_step p b.birth m [] before e l.legal.legal.steps in
-    let point = points_are_named p b.birth before (e ∷ []) m well.policy low (same_named p (before ++ e ∷ []) l.named) l.legal.legal in
+    let point = points_are_named p b.birth before (e ∷ []) m well.policy low l.named l.legal.legal in
     let s = reply_sounds p (point_after p b.birth m before) point actor request in
     subst (λ (r : Reply). CanBeTold b.named r) (sym is) (record { named = s.named; brief = brief_reply b.named well _ s.named s.sound })
 

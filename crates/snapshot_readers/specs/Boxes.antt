@@ -5,10 +5,7 @@ use Rattle.gt_io.specs.Links.{Traffic}
 use Rattle.gt_io.specs.Memory.{one_more}
 use Rattle.snapshot_readers.specs.declared.ends.ViewEnd.{ViewEnd}
 use Rattle.snapshot_readers.specs.declared.ends.ViewEnd.TheVariants.{Ended, ReadFault, WriteFault, Spent}
-
--- how many bytes are taken from a link at most
-abbrev pub most_bytes : ℕ
-most_bytes = 67_108_864
+use Rattle.snapshot_readers.specs.declared.inbox.TheConstants.{MOST_BYTES}
 
 -- the bytes that are held, and how many more may be read
 pub record Box : Type 0 where
@@ -16,7 +13,7 @@ pub record Box : Type 0 where
   pub left : ℕ
 
 abbrev pub full_box : Box
-full_box = record { rest = []; left = most_bytes }
+full_box = record { rest = []; left = MOST_BYTES }
 
 -- what a read of so many bytes brings
 abbrev pub Brings : Box → List ℕ → Traffic → Traffic → {E : Type 0} → Result ℕ E → Type 0

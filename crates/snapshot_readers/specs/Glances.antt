@@ -8,7 +8,7 @@ use Rattle.gtrbac_model.specs.Policy.{Policy}
 use Rattle.gtrbac_model.specs.Status.{Model}
 use Rattle.gtrbac_model.specs.History.{Legal, now_of, point_after}
 use Rattle.gtrbac_model.specs.Reply.{reply_of}
-use Rattle.core_machine.specs.Books.{AreNamed}
+use Rattle.history_laws.specs.Named.{AreNamed}
 use Rattle.snapshot_readers.specs.declared.glass.Glanced.{Glanced}
 
 -- The history is legal and of named moves, with a model by which the request is replied so at its

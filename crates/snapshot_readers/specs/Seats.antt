@@ -13,15 +13,16 @@ use Rattle.gtrbac_model.specs.History.{Legal}
 use Rattle.policy_words.specs.Naming.{NamedPolicy}
 use Rattle.request_text.specs.declared.lines.Line.TheVariants.{Ask}
 use Rattle.request_text.specs.Phrases.{read_line}
-use Rattle.core_machine.specs.Books.{AreNamed}
+use Rattle.history_laws.specs.Named.{AreNamed}
 use Rattle.snapshot_readers.specs.Glances.{IsReplyAt}
 use Rattle.snapshot_readers.specs.Glazed.{Glazed}
 use Rattle.snapshot_readers.specs.declared.ends.Viewed.{Viewed}
 use Rattle.snapshot_readers.specs.declared.ends.ViewerEnd.{ViewerEnd}
 use Rattle.snapshot_readers.specs.declared.ends.ViewerEnd.TheVariants.{Fresh}
 use Rattle.snapshot_readers.specs.declared.viewers.Viewer.{Viewer}
-use Rattle.snapshot_readers.specs.Crew.{Tale, Works, AreViewed, ViewsTo, Gives, begun_of, all_lens}
-use Rattle.snapshot_readers.specs.Viewed.{Answer, shown, Acted, actor_after, Ascend}
+use Rattle.snapshot_readers.specs.Crew.{ViewTale, Works, AreViewed, ViewsTo, views_begun, all_lens}
+use Rattle.connection_laws.specs.Doors.{Gives}
+use Rattle.snapshot_readers.specs.Viewed.{Glimpse, shown, ViewActed, view_actor, AscendBetween}
 use Rattle.snapshot_readers.specs.Viewing.{GlancesCanBeTold, SameGlass}
 use Rattle.snapshot_readers.specs.declared.seats.Seat.{Seat}
 
@@ -59,7 +60,7 @@ abbrev pub IsNewViewer : {D G L : Type 0} → Viewer D G L → Type 0
 IsNewViewer v = (v.outcome ≡ Fresh) × (v.served.items ≡ [])
 
 -- the viewer has not begun, and the glass is one of this policy, whose glances can be told
-pub record IsReady {D G L : Type 0} (np : NamedPolicy) (s : Seat D G L) : Type 0 where
+pub record IsReadySeat {D G L : Type 0} (np : NamedPolicy) (s : Seat D G L) : Type 0 where
   pub named : s.glass.named ≡ np
   pub replies : GlancesCanBeTold np s.glass.birth
   pub number : s.number ≤ 7
@@ -89,20 +90,20 @@ pub record HasSettled {D G L : Type 0} (h : List Entry) (x y : Seat D G L) : Typ
 module _ (np : NamedPolicy) (birth : ℕ) (h : List Entry) where
   -- a reply of a number that is not above the length of the history is the reply at that many
   -- entries
-  abbrev pub IsOf : Actor → Request → Answer → Type 0
+  abbrev pub IsOf : Actor → Request → Glimpse → Type 0
   IsOf actor request (shown n reply) =
       n ≤ length h → IsReplyAt np.policy birth (take n h) actor request reply
   IsOf actor request _ = ⊤
 
   -- so for what each line asks
-  abbrev pub AreOf : List Acted → Type 0
+  abbrev pub AreOf : List ViewActed → Type 0
   AreOf [] = ⊤
   AreOf (a ∷ before) =
       AreOf before
       × ((request : Request) → read_line np Nobody false a.line ≡ Ok (Ask request)
-      → IsOf (actor_after np before) request a.answer)
+      → IsOf (view_actor np before) request a.answer)
 
-  abbrev pub AllAreOf : {L : Type 0} → List (Tale L) → Type 0
+  abbrev pub AllAreOf : {L : Type 0} → List (ViewTale L) → Type 0
   AllAreOf [] = ⊤
   AllAreOf (x ∷ xs) = AreOf x.acted × AllAreOf xs
 
@@ -110,10 +111,10 @@ module _ {L : Type 0} (traffic : L → Traffic) (np : NamedPolicy) (birth : ℕ)
   -- What a viewer did, over one list: each of its links was shown replies of beginnings of the
   -- list, whose numbers never fall from link to link
   pub record HasViewed (a b : Watcher L) (seen : List Entry) : Type 0 where
-    pub tales : List (Tale L)
+    pub tales : List (ViewTale L)
     pub links : AreViewed traffic np birth seen b.served tales
-    pub ascends : Ascend 0 (all_lens b.served) (length seen)
-    pub door : Gives a.door b.door (begun_of tales)
+    pub ascends : AscendBetween 0 (all_lens b.served) (length seen)
+    pub door : Gives a.door b.door (views_begun tales)
     pub cause : ViewsTo b.door a.faults b.faults b.served b.outcome
 
   -- The list has the history as its beginning and is legal itself; so the replies of numbers that

@@ -15,6 +15,7 @@ use Rattle.gt_io.specs.Memory.{one_more}
 use Rattle.policy_words.specs.Naming.{NamedPolicy}
 use Rattle.connection_laws.specs.Connection.{one_where, actor_by}
 use Rattle.connection_laws.specs.Cuts.{whole_lines}
+use Rattle.connection_laws.specs.Doors.{HaveFailed, none_more}
 use Rattle.connection_laws.specs.Desks.{IsNamedActor, CanBeTold}
 use Rattle.gtrbac_model.specs.History.{IsNamedWish, ask}
 use Rattle.core_machine.specs.Looks.{is_look}
@@ -24,34 +25,34 @@ use Rattle.connection_laws.specs.Fits.{FrameFits}
 use Rattle.request_text.specs.declared.lines.Line.TheVariants.{Ask}
 use Rattle.request_text.specs.Phrases.{read_line}
 use Rattle.snapshot_readers.specs.declared.showing.Showing.{Showing}
-use Rattle.snapshot_readers.specs.declared.showing.Told.{Told}
-use Rattle.snapshot_readers.specs.declared.showing.Told.TheVariants.{Silence, Agreed, Bad, Reply as ToldReply, NoMemory, ViewOnly}
+use Rattle.snapshot_readers.specs.declared.showing.ViewAnswer.{ViewAnswer}
+use Rattle.snapshot_readers.specs.declared.showing.ViewAnswer.TheVariants.{Silence, Agreed, Bad, Reply as ToldReply, NoMemory, ViewOnly}
 use Rattle.snapshot_readers.specs.declared.ends.ViewEnd.{ViewEnd}
 use Rattle.snapshot_readers.specs.declared.ends.ViewEnd.TheVariants.{Ended, ReadFault, WriteFault, Spent}
-use Rattle.snapshot_readers.specs.Boxes.{most_bytes}
-use Rattle.snapshot_readers.specs.Viewed.{Answer, silence, agreed, bad, shown, no_memory, view_only, answer_text, is_denied, is_request, lens_in, Acted, Looks, Gets, actor_after, lines_of, lens_of, text_of, denied_in, asked_in, AreActed, Ascend, GivenPart, IsGiven, View}
+use Rattle.snapshot_readers.specs.Viewed.{Glimpse, silence, agreed, bad, shown, no_memory, view_only, glimpse_text, is_glimpse_denied, says_request, lens_in, ViewActed, Looks, Gets, view_actor, view_lines, lens_of, view_text, view_denials, view_requests, AreViewActed, AscendBetween, ViewGivenPart, IsViewGiven, View}
+use Rattle.snapshot_readers.specs.declared.inbox.TheConstants.{MOST_BYTES}
 
 -- what is told is this answer
-abbrev pub IsTold : NamedPolicy → Told → Answer → Type 0
-IsTold np Silence answer = answer ≡ silence
-IsTold np Agreed answer = answer ≡ agreed
-IsTold np (Bad f) answer = answer ≡ bad f
-IsTold np (ToldReply text) answer =
+abbrev pub IsViewTold : NamedPolicy → ViewAnswer → Glimpse → Type 0
+IsViewTold np Silence answer = answer ≡ silence
+IsViewTold np Agreed answer = answer ≡ agreed
+IsViewTold np (Bad f) answer = answer ≡ bad f
+IsViewTold np (ToldReply text) answer =
     (n : ℕ) × (reply : Reply) × (answer ≡ shown n reply)
-    × (text.items ≡ answer_text np (shown n reply))
-IsTold np NoMemory answer = answer ≡ no_memory
-IsTold np ViewOnly answer = answer ≡ view_only
+    × (text.items ≡ glimpse_text np (shown n reply))
+IsViewTold np NoMemory answer = answer ≡ no_memory
+IsViewTold np ViewOnly answer = answer ≡ view_only
 
 -- before the first line of a link
-abbrev pub IsStart : Showing → Type 0
-IsStart s = (s.actor ≡ Nobody) × (s.lens.items ≡ []) × (s.denied ≡ 0) × (s.calls < 2 ^ 63)
+abbrev pub IsViewStart : Showing → Type 0
+IsViewStart s = (s.actor ≡ Nobody) × (s.lens.items ≡ []) × (s.denied ≡ 0) × (s.calls < 2 ^ 63)
 
 -- the counts have room for so many more lines
-abbrev pub HasRoom : Showing → ℕ → Type 0
-HasRoom s n = (s.denied + n < 2 ^ 63) × (s.calls + n < 2 ^ 64)
+abbrev pub HasViewRoom : Showing → ℕ → Type 0
+HasViewRoom s n = (s.denied + n < 2 ^ 63) × (s.calls + n < 2 ^ 64)
 
-abbrev pub CountsUp : Showing → Showing → ℕ → Type 0
-CountsUp s s' n = (s'.denied ≤ s.denied + n) × (s'.calls ≤ s.calls + n)
+abbrev pub ViewCountsUp : Showing → Showing → ℕ → Type 0
+ViewCountsUp s s' n = (s'.denied ≤ s.denied + n) × (s'.calls ≤ s.calls + n)
 
 -- the history that a glass has seen grew from the one to the other
 abbrev pub Grows : List Entry → List Entry → Type 0
@@ -70,161 +71,155 @@ SameGlass a b = (b.named ≡ a.named) × (b.birth ≡ a.birth)
 
 -- what a glance, or want of memory for it, does to the numbers, and what is told
 pub record Shows (np : NamedPolicy) (birth : ℕ) (seen seen' : List Entry) (ns ns' : List ℕ)
-    (actor : Actor) (request : Request) (told : Told) : Type 0 where
-  pub answer : Answer
-  pub told_is : IsTold np told answer
+    (actor : Actor) (request : Request) (told : ViewAnswer) : Type 0 where
+  pub answer : Glimpse
+  pub told_is : IsViewTold np told answer
   pub looks : Looks np birth seen' actor request answer
   pub grows : Grows seen seen'
   pub lens : ns' ≡ ns ++ lens_in answer
-  pub ascends : Ascend (length seen) (lens_in answer) (length seen')
+  pub ascends : AscendBetween (length seen) (lens_in answer) (length seen')
 
 -- what answering a request does
-pub record Answers (np : NamedPolicy) (birth : ℕ) (seen seen' : List Entry) (s s' : Showing)
-    (request : Request) (told : Told) : Type 0 where
-  pub answer : Answer
-  pub told_is : IsTold np told answer
+pub record AnswersView (np : NamedPolicy) (birth : ℕ) (seen seen' : List Entry) (s s' : Showing)
+    (request : Request) (told : ViewAnswer) : Type 0 where
+  pub answer : Glimpse
+  pub told_is : IsViewTold np told answer
   pub gets : MatchBool (is_look request) (Looks np birth seen' s.actor request answer)
       (answer ≡ view_only)
   pub grows : Grows seen seen'
   pub lens : s'.lens.items ≡ s.lens.items ++ lens_in answer
-  pub ascends : Ascend (length seen) (lens_in answer) (length seen')
-  pub denied : s'.denied ≡ s.denied + one_where (is_denied answer)
+  pub ascends : AscendBetween (length seen) (lens_in answer) (length seen')
+  pub denied : s'.denied ≡ s.denied + one_where (is_glimpse_denied answer)
   pub same : (s'.actor ≡ s.actor) × (s'.calls ≡ s.calls)
 
 -- what acting on a line does, but for its reply
 pub record Acts (np : NamedPolicy) (birth : ℕ) (seen seen' : List Entry) (s s' : Showing)
-    (line : List ℕ) (told : Told) : Type 0 where
-  pub answer : Answer
-  pub told_is : IsTold np told answer
+    (line : List ℕ) (told : ViewAnswer) : Type 0 where
+  pub answer : Glimpse
+  pub told_is : IsViewTold np told answer
   pub gets : Gets np birth seen' (read_line np Nobody false line) s.actor answer
   pub grows : Grows seen seen'
   pub lens : s'.lens.items ≡ s.lens.items ++ lens_in answer
-  pub ascends : Ascend (length seen) (lens_in answer) (length seen')
-  pub denied : s'.denied ≡ s.denied + one_where (is_denied answer)
-  pub calls : s'.calls ≡ s.calls + one_where (is_request (read_line np Nobody false line))
+  pub ascends : AscendBetween (length seen) (lens_in answer) (length seen')
+  pub denied : s'.denied ≡ s.denied + one_where (is_glimpse_denied answer)
+  pub calls : s'.calls ≡ s.calls + one_where (says_request (read_line np Nobody false line))
   pub actor : s'.actor ≡ actor_by (read_line np Nobody false line) s.actor
   pub named : IsNamedActor np s'.actor
 
 -- how the sending of an answer went
-pub record Sent (np : NamedPolicy) (answer : Answer) (a b : Traffic) {T : Type 0}
+pub record ViewSent (np : NamedPolicy) (answer : Glimpse) (a b : Traffic) {T : Type 0}
     (result : Result T ViewEnd) : Type 0 where
-  pub whole : OnOk result (Appends a.given b.given (answer_text np answer))
+  pub whole : OnOk result (Appends a.given b.given (glimpse_text np answer))
   pub part : (e : ViewEnd) → result ≡ Err e
-      → (e ≡ WriteFault) × AppendsPart a.given b.given (answer_text np answer)
+      → (e ≡ WriteFault) × AppendsPart a.given b.given (glimpse_text np answer)
       × (b.write_faults ≡ one_more a.write_faults)
 
 -- a moment of a service: the history that the glass has seen, the counts, and what the link was
 -- given
-pub record Point : Type 0 where
+pub record ViewPoint : Type 0 where
   pub seen : List Entry
   pub showing : Showing
   pub given : Option (List ℕ)
 
-abbrev pub point : List Entry → Showing → Option (List ℕ) → Point
-point seen showing given = record { seen = seen; showing = showing; given = given }
+abbrev pub view_point : List Entry → Showing → Option (List ℕ) → ViewPoint
+view_point seen showing given = record { seen = seen; showing = showing; given = given }
 
 module _ (np : NamedPolicy) (birth : ℕ) where
   -- the lines so far
-  pub record Going (o p : Point) (acted : List Acted) : Type 0 where
+  pub record Going (o p : ViewPoint) (acted : List ViewActed) : Type 0 where
     pub grows : Grows o.seen p.seen
-    pub fits : AreActed np birth p.seen acted
-    pub actor : p.showing.actor ≡ actor_after np acted
+    pub fits : AreViewActed np birth p.seen acted
+    pub actor : p.showing.actor ≡ view_actor np acted
     pub named : IsNamedActor np p.showing.actor
     pub lens : p.showing.lens.items ≡ lens_of acted
-    pub ascends : Ascend (length o.seen) (lens_of acted) (length p.seen)
-    pub denied : p.showing.denied ≡ denied_in acted
-    pub calls : p.showing.calls ≡ o.showing.calls + asked_in np acted
+    pub ascends : AscendBetween (length o.seen) (lens_of acted) (length p.seen)
+    pub denied : p.showing.denied ≡ view_denials acted
+    pub calls : p.showing.calls ≡ o.showing.calls + view_requests np acted
 
   -- all whole lines of these bytes were acted on and told their replies
-  pub record Serving (o p : Point) (frame : Frame) (fed : List ℕ) (acted : List Acted)
+  pub record Serving (o p : ViewPoint) (frame : Frame) (fed : List ℕ) (acted : List ViewActed)
       : Type 0 where
     pub going : Going o p acted
     pub frame_fits : FrameFits frame fed
-    pub lines : lines_of acted ≡ whole_lines fed
-    pub given : Appends o.given p.given (text_of np acted)
+    pub lines : view_lines acted ≡ whole_lines fed
+    pub given : Appends o.given p.given (view_text np acted)
 
   -- the service was cut off at the last line, where a write failed
-  pub record Halted (o p : Point) (fed : List ℕ) (acted : List Acted) (faults faults' : ℕ)
+  pub record Halted (o p : ViewPoint) (fed : List ℕ) (acted : List ViewActed) (faults faults' : ℕ)
       (end : ViewEnd) : Type 0 where
     pub going : Going o p acted
-    pub lines : lines_of acted ≡ whole_lines fed
+    pub lines : view_lines acted ≡ whole_lines fed
     pub text : List ℕ
     pub given : Appends o.given p.given text
-    pub part : GivenPart np text acted
+    pub part : ViewGivenPart np text acted
     pub end_is : end ≡ WriteFault
     pub cause : faults' ≡ one_more faults
 
   -- whatever was served before this byte, the service goes on behind it, or is cut off at the line
   -- that it ends
-  abbrev pub Goes : Point → Point → Frame → Frame → ℕ → ℕ → ℕ → {T : Type 0} → Result T ViewEnd
+  abbrev pub Goes : ViewPoint → ViewPoint → Frame → Frame → ℕ → ℕ → ℕ → {T : Type 0}
+      → Result T ViewEnd
       → Type 0
   Goes p p' frame frame' byte faults faults' result =
-      (o : Point) (fed : List ℕ) (acted : List Acted) → Serving o p frame fed acted
+      (o : ViewPoint) (fed : List ℕ) (acted : List ViewActed) → Serving o p frame fed acted
       → MatchResult result
-      (λ _. (acted' : List Acted) × Serving o p' frame' (fed ++ byte ∷ []) acted')
-      (λ end. (acted' : List Acted) × Halted o p' (fed ++ byte ∷ []) acted' faults faults' end)
-
--- how many reads and how many writes of a link failed
-pub record HaveFailed (a b : Traffic) (reads writes : ℕ → ℕ) : Type 0 where
-  pub reads_are : b.read_faults ≡ reads a.read_faults
-  pub writes_are : b.write_faults ≡ writes a.write_faults
-
-abbrev pub none_more : ℕ → ℕ
-none_more n = n
+      (λ _. (acted' : List ViewActed) × Serving o p' frame' (fed ++ byte ∷ []) acted')
+      (λ end. (acted' : List ViewActed) × Halted o p' (fed ++ byte ∷ []) acted' faults faults' end)
 
 -- each end has its cause; the first read or write that fails is the last one
-abbrev pub EndsBy : Traffic → Traffic → List ℕ → ViewEnd → Type 0
-EndsBy a b taken Ended =
-    IsAtEnd b.left × (length taken < most_bytes) × HaveFailed a b none_more none_more
-EndsBy a b taken ReadFault = (length taken < most_bytes) × HaveFailed a b one_more none_more
-EndsBy a b taken WriteFault = HaveFailed a b none_more one_more
-EndsBy a b taken Spent = (length taken ≡ most_bytes) × HaveFailed a b none_more none_more
+abbrev pub ViewEndsBy : Traffic → Traffic → List ℕ → ViewEnd → Type 0
+ViewEndsBy a b taken Ended =
+    IsAtEnd b.left × (length taken < MOST_BYTES) × HaveFailed a b none_more none_more
+ViewEndsBy a b taken ReadFault = (length taken < MOST_BYTES) × HaveFailed a b one_more none_more
+ViewEndsBy a b taken WriteFault = HaveFailed a b none_more one_more
+ViewEndsBy a b taken Spent = (length taken ≡ MOST_BYTES) × HaveFailed a b none_more none_more
 
 -- no read and no write failed, and fewer bytes were taken than a link may send
-pub record IsUnhindered (a b : Traffic) (taken : List ℕ) : Type 0 where
+pub record IsViewUnhindered (a b : Traffic) (taken : List ℕ) : Type 0 where
   pub reads : Rose a.read_faults b.read_faults → ⊥
   pub writes : Rose a.write_faults b.write_faults → ⊥
-  pub few : length taken < most_bytes
+  pub few : length taken < MOST_BYTES
 
 -- a request that only looks is shown a reply, or there was no memory; any other is refused
-abbrev pub IsAnswered : Request → Answer → Type 0
-IsAnswered request (shown n reply) = is_look request ≡ true
-IsAnswered request no_memory = is_look request ≡ true
-IsAnswered request view_only = is_look request ≡ false
-IsAnswered request silence = ⊥
-IsAnswered request agreed = ⊥
-IsAnswered request (bad f) = ⊥
+abbrev pub IsViewAnswered : Request → Glimpse → Type 0
+IsViewAnswered request (shown n reply) = is_look request ≡ true
+IsViewAnswered request no_memory = is_look request ≡ true
+IsViewAnswered request view_only = is_look request ≡ false
+IsViewAnswered request silence = ⊥
+IsViewAnswered request agreed = ⊥
+IsViewAnswered request (bad f) = ⊥
 
 -- so is each request among the lines
-abbrev pub AreAnswered : NamedPolicy → List Acted → Type 0
+abbrev pub AreAnswered : NamedPolicy → List ViewActed → Type 0
 AreAnswered np [] = Unit {0}
 AreAnswered np (a ∷ before) =
     AreAnswered np before
     × ((request : Request) → read_line np Nobody false a.line ≡ Ok (Ask request)
-    → IsAnswered request a.answer)
+    → IsViewAnswered request a.answer)
 
 -- the link was read to its end, each of its whole lines was acted on, and each request among them
 -- is answered
-pub record IsComplete (np : NamedPolicy) (taken : List ℕ) (acted : List Acted) (end : ViewEnd)
-    : Type 0 where
+pub record IsViewComplete (np : NamedPolicy) (taken : List ℕ) (acted : List ViewActed)
+    (end : ViewEnd) : Type 0 where
   pub ended : end ≡ Ended
-  pub lines : lines_of acted ≡ whole_lines taken
+  pub lines : view_lines acted ≡ whole_lines taken
   pub answered : AreAnswered np acted
 
 -- a service to its end
-pub record Converses (np : NamedPolicy) (birth : ℕ) (o p : Point) (a b : Traffic) (end : ViewEnd)
+pub record Converses (np : NamedPolicy) (birth : ℕ) (o p : ViewPoint) (a b : Traffic)
+    (end : ViewEnd)
     : Type 0 where
   pub taken : List ℕ
-  pub acted : List Acted
+  pub acted : List ViewActed
   pub going : Going np birth o p acted
-  pub lines : IsPrefix (lines_of acted) (whole_lines taken)
+  pub lines : IsPrefix (view_lines acted) (whole_lines taken)
   pub text : List ℕ
   pub given : Appends o.given p.given text
-  pub given_is : IsGiven np taken text acted end
+  pub given_is : IsViewGiven np taken text acted end
   pub taken_is : Appends a.taken b.taken taken
   pub left_is : Consumes a.left b.left taken
-  pub bounded : length taken ≤ most_bytes
-  pub cause : EndsBy a b taken end
+  pub bounded : length taken ≤ MOST_BYTES
+  pub cause : ViewEndsBy a b taken end
 
 -- What the service of a link comes to, over the history that the glass has then seen: the bytes
 -- taken and given, the acted lines, and how many of them are requests. The link was let go
@@ -232,17 +227,17 @@ pub record Views (np : NamedPolicy) (birth : ℕ) (seen seen' : List Entry) (ns 
     (denials calls calls' : ℕ) (a b : Traffic) (end : ViewEnd) : Type 0 where
   pub taken : List ℕ
   pub given : List ℕ
-  pub acted : List Acted
+  pub acted : List ViewActed
   pub view : View np birth seen' taken given acted end
   pub grows : Grows seen seen'
   pub lens_are : ns ≡ lens_of acted
-  pub ascends : Ascend (length seen) ns (length seen')
-  pub denied_are : denials ≡ denied_in acted
-  pub calls_are : calls' ≡ calls + asked_in np acted
+  pub ascends : AscendBetween (length seen) ns (length seen')
+  pub denied_are : denials ≡ view_denials acted
+  pub calls_are : calls' ≡ calls + view_requests np acted
   pub taken_is : Appends a.taken b.taken taken
   pub left_is : Consumes a.left b.left taken
   pub given_is : Appends a.given b.given given
-  pub bounded : length taken ≤ most_bytes
-  pub cause : EndsBy a b taken end
+  pub bounded : length taken ≤ MOST_BYTES
+  pub cause : ViewEndsBy a b taken end
   pub finished : b.finished ≡ true
-  pub complete : IsUnhindered a b taken → IsComplete np taken acted end
+  pub complete : IsViewUnhindered a b taken → IsViewComplete np taken acted end

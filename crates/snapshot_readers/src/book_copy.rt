@@ -47,6 +47,7 @@ impl Absorb<Entry> for BookCopy {
     ghost applied = { λ s e. (s.0, s.1 ++ e ∷ []) };
 
     fn absorb_first(&mut self, entry: &Entry, _other: &BookCopy) -> Result<(), AllocError> {
+        self.book.keeps();
         if self.good != self.book.entries().len() {
             return Err(AllocError);
         }

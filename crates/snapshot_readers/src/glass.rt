@@ -61,6 +61,7 @@ fn peek_at(copy: &BookCopy, actor: Actor, request: Request) -> Result<Glanced, M
         (λ g. IsGlance copy.now.book.named.policy copy.now.book.birth
         (take copy.now.good copy.now.book.entries) actor request g) }
 {
+    copy.book.keeps();
     if copy.good != copy.book.entries().len() {
         return Err(AllocError);
     }

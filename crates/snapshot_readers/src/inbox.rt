@@ -10,7 +10,7 @@ use gt_io::{Failed, Link};
 use std::marker::Model;
 
 /// How many bytes are taken from one link at most.
-const MOST_BYTES: usize = 67_108_864;
+pub(crate) const MOST_BYTES: usize = 67_108_864;
 
 /// Bytes that were read and not handed out. It is seen as these, and how many more may be read.
 #[derive(Drop)]
@@ -33,7 +33,7 @@ impl Model for Inbox {
     ghost invariant = { λ b. (b.at ≤ b.end) × (b.end ≤ 512) };
 }
 
-// Reads some bytes, `left` at most.
+/// Reads some bytes, `left` at most.
 fn read_some<L: Link>(link: &mut L, buf: &mut [u8], left: usize) -> Result<usize, Failed>
     requires buf { 0 < length buf.old }
     requires left { 0 < left }
@@ -65,7 +65,7 @@ impl Inbox {
         }
     }
 
-    // Hands out the first byte that is held.
+    /// Hands out the first byte that is held.
     fn hand_out(&mut self) -> u8
         requires { 0 < length self.old.rest }
         ensures { (self.old.rest ≡ result ∷ self.new.rest) × (self.new.left ≡ self.old.left) }
@@ -75,7 +75,7 @@ impl Inbox {
         byte
     }
 
-    // Reads some bytes, none of which are held, and answers how many.
+    /// Reads some bytes, none of which are held, and answers how many.
     fn fill<L: Link>(&mut self, link: &mut L) -> Result<usize, Failed>
         requires rest { self.old.rest ≡ [] }
         requires left { 0 < self.old.left }
@@ -90,7 +90,7 @@ impl Inbox {
         Ok(n)
     }
 
-    // The next byte, where none is held, or the end of the service where none comes.
+    /// The next byte, where none is held, or the end of the service where none comes.
     fn read_next<L: Link>(&mut self, link: &mut L) -> Result<u8, ViewEnd>
         requires rest { self.old.rest ≡ [] }
         ensures feeds { Feeds self.old self.new (L.traffic link.old) (L.traffic link.new) result }

@@ -1,5 +1,6 @@
 //! A book as the machine that connections ask.
 ghost use Rattle.std.specs.Prelude.{◌≡◌, IfOk};
+ghost use Rattle.core_machine.specs.Books.{IsBook, HasOnlyModel};
 ghost use Rattle.snapshot_readers.specs.Ledgers.{CanBeServed};
 
 use core_machine::Book;
@@ -35,10 +36,17 @@ impl Ledger {
         ensures book { IfOk result (λ ledger. ledger ≡ book) }
         ensures served { IfOk result (λ ledger. CanBeServed ledger) }
     {
-        // what each book keeps
-        let _policy = book.policy();
+        book.keeps();
         let book = Box::new(alloc, book)?;
         Ok(Ledger { book })
+    }
+
+    /// What every ledger keeps.
+    pub fn keeps(&self)
+        ensures kept { IsBook self.now }
+        ensures only { HasOnlyModel self.now }
+    {
+        self.book.keeps();
     }
 
     /// The book.

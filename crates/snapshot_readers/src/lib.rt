@@ -1,5 +1,5 @@
-//! A book as connections meet it. A `Ledger` is the machine under the lock, whose legal lists are of
-//! named moves, so that every reply in it can be told. A `Board` is a ledger whose entries are
+//! A book as connections meet it. A `Ledger` is the machine under the lock, whose legal lists are
+//! of named moves, so that every reply in it can be told. A `Board` is a ledger whose entries are
 //! published on two copies, and a `Glass` looks at the copy that was published last, without the
 //! lock. A `Viewer` serves links by glances, and seats let viewers run in threads of their own.
 #![tactic(auto)]

@@ -7,12 +7,12 @@ ghost use Rattle.request_text.specs.Replies.{fault_word};
 ghost use Rattle.connection_laws.specs.Desks.{IsNamedActor};
 ghost use Rattle.gtrbac_model.specs.History.{IsNamedWish, ask};
 ghost use Rattle.core_machine.specs.Looks.{is_look};
-ghost use Rattle.snapshot_readers.specs.Viewed.{Answer};
-ghost use Rattle.snapshot_readers.specs.Viewing.{GlancesCanBeTold, IsTold, SameGlass, Shows, Answers, Acts, Sent, HasRoom, CountsUp, Goes, point};
+ghost use Rattle.snapshot_readers.specs.Viewed.{Glimpse};
+ghost use Rattle.snapshot_readers.specs.Viewing.{GlancesCanBeTold, IsViewTold, SameGlass, Shows, AnswersView, Acts, ViewSent, HasViewRoom, ViewCountsUp, Goes, view_point};
 
 use crate::ends::ViewEnd;
 use crate::glass::Glass;
-use crate::showing::{Showing, Told};
+use crate::showing::{Showing, ViewAnswer};
 use crate::station::Station;
 use gt_base::{Actor, List, Request};
 use gt_io::{Framed, Framer, Gate, Link, send_all};
@@ -20,7 +20,7 @@ use policy_book::Policy;
 use request_text::{LONGEST_REPLY, Line, LineFault, put_reply, read_line, reply_fits};
 use std::alloc::Global;
 
-// The reply to a line that says nothing.
+/// The reply to a line that says nothing.
 fn fault_reply(fault: LineFault) -> &'static [u8]
     ensures { result.now ≡ codes "bad " ++ fault_word fault ++ codes "\n" }
 {
@@ -31,21 +31,21 @@ fn fault_reply(fault: LineFault) -> &'static [u8]
     }
 }
 
-// Writes the reply of a line.
-fn send<L: Link>(link: &mut L, told: &Told) -> Result<(), ViewEnd>
-    ensures sent { (np : NamedPolicy) (answer : Answer) → IsTold np told.now answer
-        → Sent np answer (L.traffic link.old) (L.traffic link.new) result }
+/// Writes the reply of a line.
+fn send<L: Link>(link: &mut L, told: &ViewAnswer) -> Result<(), ViewEnd>
+    ensures sent { (np : NamedPolicy) (answer : Glimpse) → IsViewTold np told.now answer
+        → ViewSent np answer (L.traffic link.old) (L.traffic link.new) result }
     ensures reads { ReadsNothing (L.traffic link.old) (L.traffic link.new) }
     ensures kept { OnOk result
         ((L.traffic link.new).write_faults ≡ (L.traffic link.old).write_faults) }
 {
     let sent = match told {
-        Told::Silence => Ok(()),
-        Told::Agreed => send_all(link, b"ok\n"),
-        Told::Bad(fault) => send_all(link, fault_reply(*fault)),
-        Told::Reply(text) => send_all(link, text.as_slice()),
-        Told::NoMemory => send_all(link, b"no memory\n"),
-        Told::ViewOnly => send_all(link, b"view only\n"),
+        ViewAnswer::Silence => Ok(()),
+        ViewAnswer::Agreed => send_all(link, b"ok\n"),
+        ViewAnswer::Bad(fault) => send_all(link, fault_reply(*fault)),
+        ViewAnswer::Reply(text) => send_all(link, text.as_slice()),
+        ViewAnswer::NoMemory => send_all(link, b"no memory\n"),
+        ViewAnswer::ViewOnly => send_all(link, b"view only\n"),
     };
     match sent {
         Ok(()) => Ok(()),
@@ -53,7 +53,7 @@ fn send<L: Link>(link: &mut L, told: &Told) -> Result<(), ViewEnd>
     }
 }
 
-// Whether a request only looks.
+/// Whether a request only looks.
 fn only_looks(request: &Request) -> bool
     ensures { result ≡ is_look request.now }
 {
@@ -67,7 +67,7 @@ fn only_looks(request: &Request) -> bool
     }
 }
 
-// Answers a request that only looks, with room for the reply and for its number taken before.
+/// Answers a request that only looks, with room for the reply and for its number taken before.
 fn show(
     alloc: Global,
     glass: &mut Glass,
@@ -75,7 +75,7 @@ fn show(
     actor: Actor,
     request: Request,
     lens: &mut List<u64>,
-) -> Told
+) -> ViewAnswer
     requires policy { glass.old.named ≡ policy.now }
     requires looks { is_look request ≡ true }
     requires named { IsNamedWish policy.now.policy (ask actor request) }
@@ -86,37 +86,38 @@ fn show(
 {
     let mut text = List::new(alloc);
     if text.reserve(LONGEST_REPLY).is_err() || lens.reserve(1).is_err() {
-        return Told::NoMemory;
+        return ViewAnswer::NoMemory;
     }
     match glass.glance(actor, request) {
         Ok(glanced) => {
             reply_fits(policy, &glanced.reply);
             put_reply(policy, &glanced.reply, &mut text);
             lens.push(glanced.len);
-            Told::Reply(text)
+            ViewAnswer::Reply(text)
         }
-        Err(_) => Told::NoMemory,
+        Err(_) => ViewAnswer::NoMemory,
     }
 }
 
-// Answers a request.
+/// Answers a request.
 fn answer(
     alloc: Global,
     glass: &mut Glass,
     policy: &Policy,
     showing: &mut Showing,
     request: Request,
-) -> Told
+) -> ViewAnswer
     requires policy { glass.old.named ≡ policy.now }
     requires named { IsNamedWish policy.now.policy (ask showing.old.actor request) }
     requires replies { GlancesCanBeTold policy.now glass.old.birth }
     requires room { showing.old.denied + 1 < 2 ^ 63 }
     ensures glass { SameGlass glass.old glass.new }
-    ensures answers { Answers policy.now glass.old.birth glass.old.seen glass.new.seen showing.old
+    ensures answers { AnswersView policy.now glass.old.birth glass.old.seen glass.new.seen
+        showing.old
         showing.new request result }
 {
     if !only_looks(&request) {
-        return Told::ViewOnly;
+        return ViewAnswer::ViewOnly;
     }
     let told = show(
         alloc,
@@ -126,28 +127,28 @@ fn answer(
         request,
         &mut showing.lens,
     );
-    if let Told::NoMemory = told {
+    if let ViewAnswer::NoMemory = told {
         showing.denied += 1;
     }
     told
 }
 
-// Acts on a line, but for its reply.
+/// Acts on a line, but for its reply.
 fn act<G: Gate>(
     glass: &mut Glass,
     policy: &Policy,
     station: &Station<'_, G>,
     showing: &mut Showing,
     line: &[u8],
-) -> Told
+) -> ViewAnswer
     requires policy { glass.old.named ≡ policy.now }
     requires actor { IsNamedActor policy.now showing.old.actor }
     requires replies { GlancesCanBeTold policy.now glass.old.birth }
-    requires room { HasRoom showing.old 1 }
+    requires room { HasViewRoom showing.old 1 }
     ensures glass { SameGlass glass.old glass.new }
     ensures acts { Acts policy.now glass.old.birth glass.old.seen glass.new.seen showing.old
         showing.new line.now result }
-    ensures counts { CountsUp showing.old showing.new 1 }
+    ensures counts { ViewCountsUp showing.old showing.new 1 }
 {
     match read_line(policy, Actor::Nobody, false, line) {
         Ok(Line::Ask(request)) => {
@@ -157,11 +158,11 @@ fn act<G: Gate>(
         }
         Ok(Line::Be(actor)) => {
             showing.actor = actor;
-            Told::Agreed
+            ViewAnswer::Agreed
         }
-        Ok(Line::Silent) => Told::Silence,
+        Ok(Line::Silent) => ViewAnswer::Silence,
         Ok(Line::At(_)) => unreachable!(),
-        Err(fault) => Told::Bad(fault),
+        Err(fault) => ViewAnswer::Bad(fault),
     }
 }
 
@@ -178,15 +179,15 @@ pub(crate) fn take_byte<L: Link, G: Gate>(
     requires policy { glass.old.named ≡ policy.now }
     requires actor { IsNamedActor policy.now showing.old.actor }
     requires replies { GlancesCanBeTold policy.now glass.old.birth }
-    requires room { HasRoom showing.old 1 }
+    requires room { HasViewRoom showing.old 1 }
     ensures glass { SameGlass glass.old glass.new }
     ensures goes { Goes policy.now glass.old.birth
-        (point glass.old.seen showing.old (L.traffic link.old).given)
-        (point glass.new.seen showing.new (L.traffic link.new).given)
+        (view_point glass.old.seen showing.old (L.traffic link.old).given)
+        (view_point glass.new.seen showing.new (L.traffic link.new).given)
         framer.old framer.new byte (L.traffic link.old).write_faults
         (L.traffic link.new).write_faults result }
     ensures actor { IsNamedActor policy.now showing.new.actor }
-    ensures counts { CountsUp showing.old showing.new 1 }
+    ensures counts { ViewCountsUp showing.old showing.new 1 }
     ensures reads { ReadsNothing (L.traffic link.old) (L.traffic link.new) }
     ensures faults { OnOk result
         ((L.traffic link.new).write_faults ≡ (L.traffic link.old).write_faults) }
@@ -197,6 +198,6 @@ pub(crate) fn take_byte<L: Link, G: Gate>(
             let told = act(glass, policy, station, showing, framer.line());
             send(link, &told)
         }
-        Framed::Long => send(link, &Told::Bad(LineFault::Long)),
+        Framed::Long => send(link, &ViewAnswer::Bad(LineFault::Long)),
     }
 }

@@ -39,7 +39,7 @@ impl Machine for Ledger {
     ghost now_root = { now_after-by_root };
 
     fn now(&self) -> Instant {
-        let _entries = self.book.entries();
+        self.keeps();
         Machine::now(&*self.book)
     }
 

@@ -5,7 +5,7 @@ ghost use Rattle.gt_base.specs.declared.requests.Actor.TheVariants.{Operator};
 ghost use Rattle.gt_base.specs.declared.requests.Request.TheVariants.{Now, Status};
 ghost use Rattle.gtrbac_model.specs.History.{IsNamedWish, ask};
 
-use gt_base::{Actor, Fluent, Request, SessionId};
+use gt_base::{Actor, Fluent, LAST_MINUTE, Request, SessionId};
 use policy_book::Policy;
 
 fn names_actor(policy: &Policy, actor: Actor) -> bool
@@ -33,7 +33,7 @@ fn names_fluent(policy: &Policy, fluent: Fluent) -> bool
     }
 }
 
-// what each session's number is
+/// what each session's number is
 fn is_session(session: SessionId) -> bool
     ensures { result ≡ true → session.0 < 2 ^ 32 }
 {
@@ -51,7 +51,7 @@ fn names_request(policy: &Policy, request: &Request) -> bool
         Request::Raise { head, delay } => {
             names_fluent(policy, head.event.fluent)
                 && head.prio.get() <= 100
-                && *delay <= 52_595_999
+                && *delay <= LAST_MINUTE
         }
         Request::OpenSession => true,
         Request::CloseSession(session) => is_session(*session),

@@ -3,7 +3,7 @@ ghost use Rattle.std.specs.Prelude.{◌≡◌, ◌<◌, ◌≤◌, ℕ, [], true
 ghost use Rattle.std.specs.List.{list_all};
 ghost use mathlib.Core.List.{IsPrefix};
 ghost use Rattle.snapshot_readers.specs.Viewing.{SameGlass};
-ghost use Rattle.snapshot_readers.specs.Seats.{glasses_of, viewers_of, HasLooked, HasSettled, IsHistory, IsReady};
+ghost use Rattle.snapshot_readers.specs.Seats.{glasses_of, viewers_of, HasLooked, HasSettled, IsHistory, IsReadySeat};
 
 use crate::glass::Glass;
 use crate::glasses::Glasses;
@@ -73,7 +73,7 @@ pub fn leave_seats<D: Door, G: Gate>(viewers: &mut Vec<Viewer<D, G>>, mut seats:
 
 /// Serves the links of the viewer of one seat.
 fn look_at<D: Door, G: Gate>(alloc: Global, policy: &Policy, seat: &mut Seat<D, G>)
-    requires ready { IsReady policy.now seat.old }
+    requires ready { IsReadySeat policy.now seat.old }
     ensures { HasLooked D.links D.faults D.L.traffic policy.now seat.old seat.new }
 {
     view(
@@ -94,7 +94,7 @@ fn look_at_all<R: Threads + Wait + Sync, D: Door + Send, G: Gate + Send>(
 )
 where
     D::L: Send,
-    requires ready { All (λ s. IsReady policy.now s) seats.old }
+    requires ready { All (λ s. IsReadySeat policy.now s) seats.old }
     ensures { (i : ℕ) (d : _) → i < length seats.old
         → HasLooked D.links D.faults D.L.traffic policy.now (slice_index_or seats.old i d)
         (slice_index_or seats.new i d) }
@@ -112,7 +112,7 @@ pub fn run_seats<R: Threads + Wait + Sync, D: Door + Send, G: Gate + Send>(
 )
 where
     D::L: Send,
-    requires ready { All (λ s. IsReady policy.now s) seats.old.items }
+    requires ready { All (λ s. IsReadySeat policy.now s) seats.old.items }
     ensures length { length seats.new.items ≡ length seats.old.items }
     ensures looked { (i : ℕ) (d : _) → i < length seats.old.items
         → HasLooked D.links D.faults D.L.traffic policy.now (slice_index_or seats.old.items i d)

@@ -1,7 +1,7 @@
 //! A viewer's link, from its first byte to its end.
 ghost use Rattle.std.specs.Prelude.{◌≡◌, ◌+◌, ◌<◌, ◌≤◌, ◌^◌};
-ghost use Rattle.snapshot_readers.specs.Boxes.{most_bytes};
-ghost use Rattle.snapshot_readers.specs.Viewing.{GlancesCanBeTold, IsStart, SameGlass, Converses, Views, point};
+ghost use Rattle.snapshot_readers.specs.Viewing.{GlancesCanBeTold, IsViewStart, SameGlass, Converses, Views, view_point};
+ghost use Rattle.snapshot_readers.specs.declared.inbox.TheConstants.{MOST_BYTES};
 
 use crate::ends::{ViewEnd, Viewed};
 use crate::glass::Glass;
@@ -13,7 +13,7 @@ use gt_base::{Actor, List};
 use gt_io::{Framer, Gate, Link};
 use policy_book::Policy;
 
-// Serves a link to its end.
+/// Serves a link to its end.
 fn converse<L: Link, G: Gate>(
     glass: &mut Glass,
     policy: &Policy,
@@ -23,13 +23,13 @@ fn converse<L: Link, G: Gate>(
 ) -> ViewEnd
     requires policy { glass.old.named ≡ policy.now }
     requires replies { GlancesCanBeTold policy.now glass.old.birth }
-    requires start { IsStart showing.old }
+    requires start { IsViewStart showing.old }
     ensures glass { SameGlass glass.old glass.new }
     ensures converses { Converses policy.now glass.old.birth
-        (point glass.old.seen showing.old (L.traffic link.old).given)
-        (point glass.new.seen showing.new (L.traffic link.new).given)
+        (view_point glass.old.seen showing.old (L.traffic link.old).given)
+        (view_point glass.new.seen showing.new (L.traffic link.new).given)
         (L.traffic link.old) (L.traffic link.new) result }
-    ensures calls { showing.new.calls ≤ showing.old.calls + most_bytes }
+    ensures calls { showing.new.calls ≤ showing.old.calls + MOST_BYTES }
 {
     let mut framer = Framer::new();
     let mut inbox = Inbox::new();
@@ -62,7 +62,7 @@ pub fn view_link<L: Link, G: Gate>(
     ensures views { Views policy.now glass.old.birth glass.old.seen glass.new.seen
         result.lens.items result.denied calls.old calls.new (L.traffic link)
         (L.traffic result.link) result.outcome }
-    ensures few { calls.new ≤ calls.old + most_bytes }
+    ensures few { calls.new ≤ calls.old + MOST_BYTES }
 {
     let mut showing = Showing {
         actor: Actor::Nobody,

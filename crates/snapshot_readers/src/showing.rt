@@ -14,7 +14,7 @@ pub struct Showing {
 
 /// What a line is told.
 #[derive(Drop)]
-pub enum Told {
+pub enum ViewAnswer {
     Silence,
     Agreed,
     Bad(LineFault),

@@ -1,8 +1,8 @@
 //! The links of a viewer's door, one after the other.
 ghost use Rattle.std.specs.Prelude.{◌≡◌, ◌+◌, ◌<◌, ◌≤◌, ◌^◌, [], length, None};
-ghost use Rattle.snapshot_readers.specs.Boxes.{most_bytes};
-ghost use Rattle.snapshot_readers.specs.Crew.{WorksOn, Works, most_links};
+ghost use Rattle.snapshot_readers.specs.Crew.{WorksOn, Works};
 ghost use Rattle.snapshot_readers.specs.Viewing.{GlancesCanBeTold, SameGlass};
+ghost use Rattle.snapshot_readers.specs.declared.inbox.TheConstants.{MOST_BYTES};
 
 use crate::ends::{Viewed, ViewerEnd};
 use crate::glass::Glass;
@@ -14,7 +14,7 @@ use policy_book::Policy;
 use std::alloc::Global;
 
 /// How many links one viewer serves at most.
-const MOST_LINKS: usize = 100_000;
+pub(crate) const MOST_LINKS: usize = 100_000;
 
 /// A viewer with its door and gate, and what became of its links.
 pub struct Viewer<D: Door, G: Gate> {
@@ -24,7 +24,7 @@ pub struct Viewer<D: Door, G: Gate> {
     pub outcome: ViewerEnd,
 }
 
-// Serves the next link of the door, for which there is room.
+/// Serves the next link of the door, for which there is room.
 fn view_next<D: Door, G: Gate>(
     glass: &mut Glass,
     policy: &Policy,
@@ -37,14 +37,13 @@ fn view_next<D: Door, G: Gate>(
     requires replies { GlancesCanBeTold policy.now glass.old.birth }
     requires calls { calls.old < 2 ^ 63 }
     requires room { 1 ≤ served.old.spare }
-    requires few { length served.old.items < most_links }
+    requires few { length served.old.items < MOST_LINKS }
     ensures glass { SameGlass glass.old glass.new }
     ensures works { WorksOn D.L.traffic policy.now glass.old.birth
         (record { seen = glass.old.seen; door = D.links door.old })
         (record { seen = glass.new.seen; door = D.links door.new })
         (D.faults door.old) (D.faults door.new) served.old.items served.new.items result }
-    ensures calls { calls.new ≤ calls.old + most_bytes }
-    ensures faults { D.faults door.old ≤ D.faults door.new }
+    ensures calls { calls.new ≤ calls.old + MOST_BYTES }
     ensures one { result ≡ None → length served.new.items ≡ length served.old.items + 1 }
 {
     match door.next() {
@@ -57,7 +56,7 @@ fn view_next<D: Door, G: Gate>(
     }
 }
 
-// Serves the links of the door until it ends.
+/// Serves the links of the door until it ends.
 fn view_on<D: Door, G: Gate>(
     glass: &mut Glass,
     policy: &Policy,

@@ -120,7 +120,7 @@ indented (x ∷ xs) = by (is_blank x) refl (indented xs)
     here : is_blank x ≡ false → Indented (x ∷ xs) (x ∷ xs)
     here e = record { gap = []; whole = refl; blank = refl; begins = λ b bs same. subst (λ c. is_blank c ≡ false) (head_of x b xs bs same) e }
 
-    by : (b : Bool) → is_blank x ≡ b → Indented xs (unindented xs) → Indented (x ∷ xs) (elim (is_blank x) [ true ↦ unindented xs | false ↦ x ∷ xs ])
+    by : (b : Bool) → is_blank x ≡ b → Indented xs (unindented xs) → Indented (x ∷ xs) (cond (is_blank x) (unindented xs) (x ∷ xs))
     by true e i = rw e (deeper e i)
     by false e i = rw e (here e)
 
@@ -145,7 +145,7 @@ word_cut (x ∷ xs) = by (is_blank x) refl (word_cut xs)
       next = w.next;
     }
 
-    by : (b : Bool) → is_blank x ≡ b → WordCut xs (past_word xs) → WordCut (x ∷ xs) (elim (is_blank x) [ true ↦ x ∷ xs | false ↦ past_word xs ])
+    by : (b : Bool) → is_blank x ≡ b → WordCut xs (past_word xs) → WordCut (x ∷ xs) (cond (is_blank x) (x ∷ xs) (past_word xs))
     by true e w = rw e (here e)
     by false e w = rw e (deeper e w)
 
@@ -194,12 +194,12 @@ trimmed_to (x ∷ xs) = by (trimmed xs) refl (trimmed_to xs)
         ends [] b same = absurd (let e : c ∷ cs ≡ [] = tail_of x b (c ∷ cs) [] same in cc)
         ends (d ∷ bs) b same = t.ends bs b (tail_of x d (c ∷ cs) (bs ++ b ∷ []) same)
 
-    empty : (b : Bool) → is_blank x ≡ b → TrimmedTo xs [] → TrimmedTo (x ∷ xs) (elim (is_blank x) [ true ↦ [] | false ↦ x ∷ [] ])
+    empty : (b : Bool) → is_blank x ≡ b → TrimmedTo xs [] → TrimmedTo (x ∷ xs) (cond (is_blank x) [] (x ∷ []))
     empty true e t = rw e (none e t)
     empty false e t = rw e (one e t)
 
     by : (ts : List ℕ) → trimmed xs ≡ ts → TrimmedTo xs (trimmed xs)
-        → TrimmedTo (x ∷ xs) (elim (trimmed xs) [ [] ↦ elim (is_blank x) [ true ↦ [] | false ↦ x ∷ [] ] | c ∷ cs ↦ x ∷ c ∷ cs ])
+        → TrimmedTo (x ∷ xs) (elim (trimmed xs) [ [] ↦ cond (is_blank x) [] (x ∷ []) | c ∷ cs ↦ x ∷ c ∷ cs ])
     by [] e t = rw e (empty (is_blank x) refl (subst (TrimmedTo xs) e t))
     by (c ∷ cs) e t = rw e (more c cs (subst (TrimmedTo xs) e t))
 

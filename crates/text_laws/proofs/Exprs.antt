@@ -1,5 +1,5 @@
 -- An expression that is written is hardly longer than the text that it was read from.
-use Rattle.std.proofs.Common.{◌≡◌, ℕ, ◌+◌, ◌*◌, ◌≤◌, Bool, true, false, nat_eq, nat_lt, List, [], ◌∷◌, ◌++◌, length, map, flat_map, Option, Some, None, Ok, refl, ◌∙◌, ap, arith, length-append}
+use Rattle.std.proofs.Common.{◌≡◌, ℕ, ◌+◌, ◌*◌, ◌≤◌, Bool, true, false, nat_eq, nat_lt, List, [], ◌∷◌, ◌++◌, length, map, flat_map, Option, Some, None, Ok, refl, ◌∙◌, ap, arith, length-append, if◌then◌else◌}
 use Rattle.std.specs.Prelude.{codes, decimal}
 use Rattle.std.specs.List.{sum_by, insert, list_any, take_while}
 use Rattle.std.proofs.lemmas.List.Sums.{sum_by-cons, sum_by-insert}
@@ -55,7 +55,7 @@ numbers_cost n ns = omega (arith, length-append (decimal n) (flat_map later_numb
 put_cost : (n : ℕ) (ns : List ℕ) → cost (put_in n ns) ≤ cost ns + length (decimal n) + 1
 put_cost n ns = by (list_any (nat_eq n) ns)
   where
-    by : (b : Bool) → cost (elim b [ true ↦ ns | false ↦ insert ns (length (take_while (λ m. nat_lt m n) ns)) n ]) ≤ cost ns + length (decimal n) + 1
+    by : (b : Bool) → cost (if b then ns else insert ns (length (take_while (λ m. nat_lt m n) ns)) n) ≤ cost ns + length (decimal n) + 1
     by true = omega arith
     by false =
         let at = length (take_while (λ m. nat_lt m n) ns) in

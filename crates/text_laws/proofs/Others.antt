@@ -1,15 +1,15 @@
 -- Lines that are written, but those of periods, are short.
-use Rattle.std.proofs.Common.{◌≡◌, ℕ, ◌+◌, ◌*◌, ◌<◌, ◌≤◌, ◌^◌, Bool, true, false, ◌&&◌, ◌||◌, nat_eq, nat_le, nat_lt, List, [], ◌∷◌, ◌++◌, length, Option, Some, None, arith, length-append, inl, inr}
+use Rattle.std.proofs.Common.{◌≡◌, ℕ, ◌+◌, ◌*◌, ◌<◌, ◌≤◌, ◌^◌, Bool, true, false, cond, ◌&&◌, ◌||◌, nat_eq, nat_le, nat_lt, List, [], ◌∷◌, ◌++◌, length, Option, Some, None, refl, arith, length-append, inl, inr}
 use Rattle.std.specs.Prelude.{codes, decimal}
 use Rattle.std.specs.List.{list_all, list_any}
 use Rattle.std.proofs.lemmas.Bool.{leb-true, ltb-true, eqb-true}
 use Rattle.std.proofs.lemmas.Fmt.{length-decimal-le}
-use Rattle.gt_base.specs.Bounds.{last_minute}
 use Rattle.gt_base.specs.Names.{is_letter, is_name_byte, is_name}
 use Rattle.gt_text.specs.Words.{spaced}
 use Rattle.gtrbac_model.proofs.Elements.{both_true, either_true}
 use Rattle.gt_base.specs.declared.policies.Form.{Form}
 use Rattle.gt_base.specs.declared.policies.Form.TheVariants.{Each, Start, Span}
+use Rattle.gt_base.specs.declared.limits.TheConstants.{LAST_MINUTE}
 use Rattle.policy_words.specs.declared.parts.NamedFluent.{NamedFluent}
 use Rattle.policy_words.specs.declared.parts.NamedFluent.TheVariants as fluents
 use Rattle.policy_words.specs.declared.parts.Sort.{Sort}
@@ -21,9 +21,10 @@ use Rattle.policy_words.specs.declared.parts.Item.TheVariants.{Event, Signal, Co
 use Rattle.policy_words.specs.declared.sayings.EdgeKind.{EdgeKind}
 use Rattle.policy_words.specs.declared.sayings.EdgeKind.TheVariants.{I, A, Ia}
 use Rattle.policy_words.specs.declared.sayings.CapKind.{CapKind}
-use Rattle.policy_words.specs.declared.sayings.CapKind.TheVariants as caps
+use Rattle.policy_words.proofs.CapKinds.{each_kind}
 use Rattle.policy_words.specs.Wording.{event_verb, cond_verb, signal_verb, sort_of, fluent_names, cond_words, head_words, item_words, delay_words}
-use Rattle.policy_words.specs.Sayings.{SaidView, version, role, user, perm, period, limit, edge, cap, admin, opening, entry, trigger, kind_word, strength_word, cap_word, form_word, during_words, and_items, said_words, are_names, is_head, is_item, is_period_name, is_count, is_some_item, is_cause, is_formed, is_bounded, is_bodied, is_saying}
+use Rattle.policy_words.specs.Sayings.{SaidView, version, role, user, perm, period, limit, edge, cap, admin, opening, entry, trigger, kind_word, strength_word, cap_word, form_word, during_words, and_items, said_words, are_names, is_head, is_item, is_period_name, is_count, is_cause, is_formed, is_bounded, is_bodied, is_saying}
+use Rattle.gtrbac_model.specs.History.{is_some_item}
 use Rattle.text_laws.specs.Lengths.{is_period_line}
 
 -- each word with a space
@@ -115,13 +116,13 @@ head_room h e =
     let prio = digits 2 h.prio 99 (omega arith) both.0 (omega arith) (omega arith) in
     omega (arith, prio, names_room h.event.fluent both.1, event_short h.event.on (sort_of h.event.fluent), length-append (decimal h.prio) (58 ∷ event_verb h.event.on (sort_of h.event.fluent)))
 
-delay_room : (d : ℕ) → nat_le d last_minute ≡ true → room (delay_words d) ≤ 16
+delay_room : (d : ℕ) → nat_le d LAST_MINUTE ≡ true → room (delay_words d) ≤ 16
 delay_room d h = by (nat_eq d 0)
   where
     short : length (decimal d) ≤ 9
-    short = digits 9 d last_minute (omega arith) h (omega arith) (omega arith)
+    short = digits 9 d LAST_MINUTE (omega arith) h (omega arith) (omega arith)
 
-    by : (b : Bool) → room (elim b [ true ↦ [] | false ↦ codes "after" ∷ decimal d ∷ [] ]) ≤ 16
+    by : (b : Bool) → room (cond b [] (codes "after" ∷ decimal d ∷ [])) ≤ 16
     by true = omega arith
     by false = omega (arith, short)
 
@@ -139,10 +140,7 @@ strength_short true = omega arith
 strength_short false = omega arith
 
 cap_short : (k : CapKind) → length (cap_word k) ≤ 6
-cap_short caps.Total = omega arith
-cap_short caps.User = omega arith
-cap_short caps.Length = omega arith
-cap_short caps.Day = omega arith
+cap_short k = leb-true (length (cap_word k)) 6 (each_kind (λ k. nat_le (length (cap_word k)) 6) refl k)
 
 form_short : (f : Form) → length (form_word f) ≤ 5
 form_short Each = omega arith
@@ -181,7 +179,7 @@ said_room (admin u) f b p = omega (arith, short_name u f)
 said_room (opening g) f b p = omega (arith, cond_short true (sort_of g), names_room g f)
 said_room (entry form q h) f b p = let both = both_true (is_name q) (is_head h) f in omega (arith, form_short form, short_name q both.0, head_room h both.1)
 said_room (trigger items h d) f b p =
-    let h2 = both_true (is_some_item items && list_all is_item items && is_head h) (nat_le d last_minute) f in
+    let h2 = both_true (is_some_item items && list_all is_item items && is_head h) (nat_le d LAST_MINUTE) f in
     let h1 = both_true (is_some_item items && list_all is_item items) (is_head h) h2.0 in
     let some = both_true (is_some_item items) (list_all is_item items) h1.0 in
     let few = leb-true (length items) 16 (both_true (nat_le (length items) 16) (list_any is_cause items) b).0 in

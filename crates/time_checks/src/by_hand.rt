@@ -72,7 +72,8 @@ fn a_plan_changes_nothing(rt: HostRuntime) -> Result<(), Fail> {
     Ok(())
 }
 
-/// Whether the two have the same instant, the same status of the role and the same trace of single events.
+/// Whether the two have the same instant, the same status of the role and the same trace of single
+/// events.
 fn is_alike(one: &Timeline, other: &Timeline) -> bool {
     one.now() == other.now()
         && one.status().is_on(ROLE) == other.status().is_on(ROLE)

@@ -1,4 +1,5 @@
-//! A timeline that jumps from one stirring instant to the next, against one that is closed minute after minute.
+//! A timeline that jumps from one stirring instant to the next, against one that is closed minute
+//! after minute.
 ghost use Rattle.std.specs.Prelude.{◌≡◌, ◌≤◌, IfOk, OnOk};
 ghost use Rattle.instant_bases.specs.Timelines.{StandsFor};
 
@@ -51,7 +52,8 @@ fn are_alike(one: &Timeline, other: &Timeline) -> Result<bool, Memory> {
     )
 }
 
-/// Closes minute after minute up to the one before this. Whether nothing happened and the status stayed.
+/// Closes minute after minute up to the one before this. Whether nothing happened and the status
+/// stayed.
 fn is_quiet_before(
     g: &Ground,
     steps: &mut Timeline,
@@ -70,8 +72,8 @@ fn is_quiet_before(
     Ok(true)
 }
 
-/// Jumps once, and closes the other timeline minute after minute up to there. Whether nothing happened in between, and just
-/// there the same, unless it is the bound.
+/// Jumps once, and closes the other timeline minute after minute up to there. Whether nothing
+/// happened in between, and just there the same, unless it is the bound.
 fn goes_on(
     g: &Ground,
     jumps: &mut Timeline,
@@ -150,8 +152,8 @@ fn is_stirred(
     Ok(one == other)
 }
 
-/// Three stretches of up to 60 minutes, before each of which something is requested or signalled. The number of sets that
-/// happened; none where the timelines differ.
+/// Three stretches of up to 60 minutes, before each of which something is requested or signalled.
+/// The number of sets that happened; none where the timelines differ.
 fn agreed(g: &Ground, state: &mut u64, alloc: Global) -> Result<Option<usize>, Memory> {
     let birth = at(NOON)?;
     let mut jumps = Timeline::new(alloc, g, birth)?;

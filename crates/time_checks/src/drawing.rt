@@ -1,6 +1,6 @@
 //! Random policies, requests and signals, by a linear congruential generator.
 ghost use Rattle.std.specs.Prelude.{◌<◌, ◌≤◌, IfOk};
-ghost use Rattle.gt_base.specs.Bounds.{last_minute};
+ghost use Rattle.gt_base.specs.declared.limits.TheConstants.{LAST_MINUTE};
 
 use crate::building::prio;
 use gt_base::{Event, Fluent, LimitId, Memory, PermId, Prioritised, RoleId, Signal, UserId};
@@ -165,7 +165,8 @@ impl Draft {
         self.put(b"\n")
     }
 
-    /// Adds what a body has beside its event or signal: a further event, a condition, a settled one.
+    /// Adds what a body has beside its event or signal: a further event, a condition, a settled
+    /// one.
     fn put_items(&mut self) -> Result<(), Memory> {
         if self.chance(4) {
             self.put(b" and ")?;

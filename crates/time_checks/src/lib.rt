@@ -1,5 +1,5 @@
-//! Checks of timelines: single calls on one small policy, and random policies whose timelines jump from one stirring instant to
-//! the next, against closing minute after minute.
+//! Checks of timelines: single calls on one small policy, and random policies whose timelines jump
+//! from one stirring instant to the next, against closing minute after minute.
 #![tactic(auto)]
 
 #[cfg(test)]

@@ -1,6 +1,6 @@
 //! Goes on with a timeline, from one stirring instant to the next or minute after minute.
 ghost use Rattle.std.specs.Prelude.{◌≡◌, ℕ, ◌<◌, ◌≤◌, Bool, IfOk, OnErr};
-ghost use Rattle.gt_base.specs.Bounds.{last_minute};
+ghost use Rattle.gt_base.specs.declared.limits.TheConstants.{LAST_MINUTE};
 ghost use Rattle.gtrbac_model.specs.History.{IsNextStop};
 ghost use Rattle.instant_bases.specs.Nexts.{IsNextOf};
 ghost use Rattle.instant_bases.specs.Timelines.{StandsFor};
@@ -8,9 +8,11 @@ ghost use Rattle.instant_bases.specs.Timelines.{StandsFor};
 use gt_base::{Instant, Memory, Prioritised, Signal};
 use time_engine::{Ground, RequestFault, Timeline};
 
-/// Where a timeline stops that is to go on to the bound: at the next stirring instant, where it is before the bound.
+/// Where a timeline stops that is to go on to the bound: at the next stirring instant, where it is
+/// before the bound.
 fn stop(next: Option<Instant>, bound: Instant) -> Instant
-    ensures { (test : ℕ → Bool) (now : ℕ) → IsNextOf test now next → now < bound → IsNextStop test now bound result }
+    ensures { (test : ℕ → Bool) (now : ℕ) → IsNextOf test now next → now < bound
+        → IsNextStop test now bound result }
 {
     let _bound = bound.minute();
     match next {
@@ -71,7 +73,7 @@ pub(crate) fn request(
     delay: u32,
 ) -> Result<Instant, RequestFault>
     requires stands { StandsFor g.now.policy line.old.line }
-    requires delay { delay ≤ last_minute }
+    requires delay { delay ≤ LAST_MINUTE }
     ensures stands { StandsFor g.now.policy line.new.line }
 {
     let _policy = g.policy();

@@ -1,13 +1,13 @@
 -- What is on its way, as pairs of a timeline, and the same under models that agree.
-use Rattle.std.proofs.Common.{◌≡◌, ℕ, ◌+◌, ◌-◌, ◌<◌, ◌≤◌, Bool, true, false, nat_eq, nat_le, nat_lt, ◌&&◌, ◌||◌, List, [], ◌∷◌, flat_map, inl, inr, refl, sym, ◌∙◌, ap, arith}
+use Rattle.std.proofs.Common.{◌≡◌, ℕ, ◌+◌, ◌-◌, ◌<◌, ◌≤◌, Bool, true, false, nat_eq, nat_le, nat_lt, ◌&&◌, ◌||◌, List, [], ◌∷◌, flat_map, inl, inr, refl, sym, ◌∙◌, ap, arith, if◌then◌else◌}
 use Rattle.std.specs.List.{list_any}
 use Rattle.std.specs.Ordering.{eq_by_cmp}
 use Rattle.std.proofs.lemmas.Bool.{ltb-true, leb-true, le-leb, eqb-true, eq-eqb, ne_eqb}
-use Rattle.gt_base.specs.Bounds.{last_minute}
 use Rattle.gt_base.specs.Held.{TriggerView}
 use Rattle.gt_base.specs.Happening.{HappenedView}
 use Rattle.gt_base.specs.Orders.{prioritised_cmp}
 use Rattle.gt_base.specs.declared.events.Prioritised.{Prioritised}
+use Rattle.gt_base.specs.declared.limits.TheConstants.{LAST_MINUTE}
 use Rattle.gtrbac_model.specs.Policy.{Policy}
 use Rattle.gtrbac_model.specs.Base.{status, when}
 use Rattle.gtrbac_model.specs.Conflict.{Status}
@@ -30,8 +30,8 @@ known_same p birth m n from t r same = by (nat_lt 0 r.delay && nat_lt birth (t -
     u = t - r.delay
 
     by : (b : Bool) → (nat_lt 0 r.delay && nat_lt birth (t - r.delay) && nat_le (t - r.delay) from) ≡ b
-        → ◌≡◌ {A = List Prioritised} (elim b [ true ↦ when (met r (m (t - r.delay)) (status p birth m (t - r.delay - 1))) r.head | false ↦ [] ])
-        (elim b [ true ↦ when (met r (n (t - r.delay)) (status p birth n (t - r.delay - 1))) r.head | false ↦ [] ])
+        → ◌≡◌ {A = List Prioritised} (if b then when (met r (m (t - r.delay)) (status p birth m (t - r.delay - 1))) r.head else [])
+        (if b then when (met r (n (t - r.delay)) (status p birth n (t - r.delay - 1))) r.head else [])
     by false q = refl
     by true q =
         let parts = both_true (nat_lt 0 r.delay && nat_lt birth u) (nat_le u from) q in
@@ -50,7 +50,7 @@ pub pair_elsewhere : (t u : ℕ) (e : Prioritised) (b : Bool) (head : Prioritise
 pair_elsewhere t u e false head ne = refl
 pair_elsewhere t u e true head ne = ap (λ c. c || false) (sym (tied_at t e (pending_at u head)) ∙ ap (λ c. c && eq_by_cmp prioritised_cmp e head) (ne_eqb u t ne))
 
-module _ (p : Policy) (birth : ℕ) (n : Model) (now to t : ℕ) (e : Prioritised) (lt : now < to) (past : to < t) (within : t ≤ last_minute) where
+module _ (p : Policy) (birth : ℕ) (n : Model) (now to t : ℕ) (e : Prioritised) (lt : now < to) (past : to < t) (within : t ≤ LAST_MINUTE) where
   abbrev lists_e : List Prioritised → Bool
   lists_e = list_any (eq_by_cmp prioritised_cmp e)
 
@@ -59,7 +59,7 @@ module _ (p : Policy) (birth : ℕ) (n : Model) (now to t : ℕ) (e : Prioritise
 
   -- what one trigger puts on its way at the stop is what joins, and the rest stays
   pub one_joins : (r : TriggerView) (x : HappenedView) (before : Status) → n to ≡ x → status p birth n (to - 1) ≡ before
-      → known_head p birth n to t r ≡ elim (nat_lt 0 r.delay && nat_eq (t - r.delay) to) [ true ↦ when (met r (n to) (status p birth n (to - 1))) r.head | false ↦ known_head p birth n now t r ]
+      → known_head p birth n to t r ≡ (if nat_lt 0 r.delay && nat_eq (t - r.delay) to then when (met r (n to) (status p birth n (to - 1))) r.head else known_head p birth n now t r)
       → (lists_e (known_head p birth n now t r) || lists_pair (joins_of before x to r)) ≡ lists_e (known_head p birth n to t r)
   one_joins r x before set st heads =
       by (nat_lt 0 r.delay && nat_eq (t - r.delay) to) refl ∙ ap lists_e (sym heads)
@@ -68,7 +68,7 @@ module _ (p : Policy) (birth : ℕ) (n : Model) (now to t : ℕ) (e : Prioritise
       u = t - r.delay
 
       late : Bool
-      late = nat_lt 0 r.delay && nat_le (to + r.delay) last_minute
+      late = nat_lt 0 r.delay && nat_le (to + r.delay) LAST_MINUTE
 
       at_now : nat_lt 0 r.delay ≡ true → u ≡ to → known_head p birth n now t r ≡ []
       at_now d at = gone (nat_lt 0 r.delay && nat_lt birth u) (nat_le u now) (leb-not u now (omega (arith, at, lt))) (when (met r (n u) (status p birth n (u - 1))) r.head)
@@ -76,18 +76,18 @@ module _ (p : Policy) (birth : ℕ) (n : Model) (now to t : ℕ) (e : Prioritise
           leb-not : (a b : ℕ) → b < a → nat_le a b ≡ false
           leb-not a b l = is_false (nat_le a b) (λ q. omega (arith, l, leb-true a b q))
 
-          gone : (a b : Bool) → b ≡ false → (ys : List Prioritised) → ◌≡◌ {A = List Prioritised} (elim (a && b) [ true ↦ ys | false ↦ [] ]) []
-          gone true b q ys = λ i. elim (q i) [ true ↦ ys | false ↦ [] ]
+          gone : (a b : Bool) → b ≡ false → (ys : List Prioritised) → ◌≡◌ {A = List Prioritised} (if a && b then ys else []) []
+          gone true b q ys = λ i. (if q i then ys else [])
           gone false b q ys = refl
 
       by : (b : Bool) → (nat_lt 0 r.delay && nat_eq u to) ≡ b
-          → (lists_e (known_head p birth n now t r) || lists_pair (joins_of before x to r)) ≡ lists_e (elim b [ true ↦ when (met r (n to) (status p birth n (to - 1))) r.head | false ↦ known_head p birth n now t r ])
+          → (lists_e (known_head p birth n now t r) || lists_pair (joins_of before x to r)) ≡ lists_e (if b then when (met r (n to) (status p birth n (to - 1))) r.head else known_head p birth n now t r)
       by true q =
           let parts = both_true (nat_lt 0 r.delay) (nat_eq u to) q in
           let at : u ≡ to = eqb-true u to parts.1 in
           let d : 0 < r.delay = ltb-true 0 r.delay parts.0 in
           let due : to + r.delay ≡ t = omega (arith, at, past, lt) in
-          let in_time : late ≡ true = (λ i. parts.0 i && le-leb (to + r.delay) last_minute (omega (arith, due, within)) i) in
+          let in_time : late ≡ true = (λ i. parts.0 i && le-leb (to + r.delay) LAST_MINUTE (omega (arith, due, within)) i) in
           (λ i. lists_e (at_now parts.0 at i) || lists_pair (when (in_time i && met r x before) (pending_at (due i) r.head)))
           ∙ pair_listed t e (met r x before) r.head
           ∙ (λ i. lists_e (when (met r (sym set i) (sym st i)) r.head))

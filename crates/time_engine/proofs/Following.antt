@@ -3,12 +3,12 @@ use Rattle.std.proofs.Common.{◌≡◌, ℕ, ◌+◌, ◌<◌, ◌≤◌, Bool,
 use Rattle.std.specs.List.{list_any}
 use Rattle.std.specs.Ordering.{eq_by_cmp}
 use Rattle.std.proofs.lemmas.Bool.{ltb-true, ltb-false, leb-true, leb-false, eq-eqb}
-use Rattle.gt_base.specs.Bounds.{last_minute}
 use Rattle.gt_base.specs.Held.{TriggerView}
 use Rattle.gt_base.specs.Happening.{HappenedView}
 use Rattle.gt_base.specs.Sets.{has}
 use Rattle.gt_base.proofs.SetLaws.{has-with_member}
 use Rattle.gt_base.specs.declared.events.Prioritised.{Prioritised}
+use Rattle.gt_base.specs.declared.limits.TheConstants.{LAST_MINUTE}
 use Rattle.gtrbac_model.specs.Policy.{Policy}
 use Rattle.gtrbac_model.specs.Base.{periodic, limited, when}
 use Rattle.gtrbac_model.specs.Conflict.{Status}
@@ -20,7 +20,7 @@ use Rattle.delay_agenda.specs.Due.{pending_cmp, pending_at, is_due_at}
 use Rattle.delay_agenda.specs.declared.pairs.Pending.{Pending}
 use Rattle.delay_agenda.proofs.PendingLaws.{pending_cmp_total, pending_cmp-IsAntisymmetric}
 use Rattle.instant_bases.specs.Timelines.{TimelineView, stirs_in, due_events, since_of}
-use Rattle.time_engine.specs.Traces.{Ascends, EndsBy, AreSome, traced}
+use Rattle.time_engine.specs.Traces.{Ascends, AreClosedBy, AreSome, traced}
 use Rattle.time_engine.specs.Plans.{PlanView, joins_of, joins, IsPlan, Fits, IsAfter, IsTimeline, NoneStirs, with_pending}
 use Rattle.time_engine.proofs.Booleans.{any-append, some-append, clash}
 use Rattle.time_engine.proofs.DueEvents.{some_due}
@@ -40,11 +40,11 @@ pub joins_later : (rules : List TriggerView) (before : Status) (x : HappenedView
 joins_later [] before x at q e = cc
 joins_later (r ∷ rules) before x at q e =
     elim (either_true _ _ (sym (any-append (eq_by_cmp pending_cmp q) (joins_of before x at r) (joins rules before x at)) ∙ e)) [
-      | inl h ↦ by (nat_lt 0 r.delay && nat_le (at + r.delay) last_minute && met r x before) refl h
+      | inl h ↦ by (nat_lt 0 r.delay && nat_le (at + r.delay) LAST_MINUTE && met r x before) refl h
       | inr h ↦ joins_later rules before x at q h
     ]
   where
-    by : (b : Bool) → (nat_lt 0 r.delay && nat_le (at + r.delay) last_minute && met r x before) ≡ b → list_any (eq_by_cmp pending_cmp q) (when b (pending_at (at + r.delay) r.head)) ≡ true → at < q.due
+    by : (b : Bool) → (nat_lt 0 r.delay && nat_le (at + r.delay) LAST_MINUTE && met r x before) ≡ b → list_any (eq_by_cmp pending_cmp q) (when b (pending_at (at + r.delay) r.head)) ≡ true → at < q.due
     by false _ h = cc
     by true test h =
         elim (either_true (eq_by_cmp pending_cmp q (pending_at (at + r.delay) r.head)) false h) [
@@ -94,7 +94,7 @@ after_kept v w plan kept fits after =
             | inr joined ↦ fits.joins_later q joined
           ]);
       ascends = subst (Ascends w.birth) (sym after.trace) (subst (λ b. Ascends b (v.trace ++ traced plan.at plan.base plan.set)) (sym after.birth) (traced_ascends v.trace plan.at plan.base plan.set v.birth v.now kept.born later kept.ascends kept.ends));
-      ends = subst (EndsBy w.now) (sym after.trace) (subst (λ n. EndsBy n (v.trace ++ traced plan.at plan.base plan.set)) (sym now) (traced_ends v.trace plan.at plan.base plan.set v.now later kept.ends));
+      ends = subst (AreClosedBy w.now) (sym after.trace) (subst (λ n. AreClosedBy n (v.trace ++ traced plan.at plan.base plan.set)) (sym now) (traced_ends v.trace plan.at plan.base plan.set v.now later kept.ends));
       some = subst AreSome (sym after.trace) (traced_some v.trace plan.at plan.base plan.set kept.some);
     }
   where

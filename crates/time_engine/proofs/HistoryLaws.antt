@@ -1,9 +1,8 @@
 -- A timeline that follows a history: its bases, and what steps do.
-use Rattle.std.proofs.Common.{◌≡◌, ℕ, suc, ◌+◌, ◌-◌, ◌<◌, ◌≤◌, Bool, true, false, cond, not, nat_eq, nat_le, nat_lt, ◌&&◌, ◌||◌, List, [], ◌∷◌, ◌++◌, flat_map, inl, inr, refl, sym, ◌∙◌, ap, subst, arith}
+use Rattle.std.proofs.Common.{◌≡◌, ℕ, suc, ◌+◌, ◌-◌, ◌<◌, ◌≤◌, Bool, true, false, cond, not, nat_eq, nat_le, nat_lt, ◌&&◌, ◌||◌, List, [], ◌∷◌, ◌++◌, flat_map, inl, inr, refl, sym, ◌∙◌, ap, subst, arith, if◌then◌else◌}
 use Rattle.std.specs.List.{list_any}
 use Rattle.std.specs.Ordering.{eq_by_cmp}
 use Rattle.std.proofs.lemmas.Bool.{ltb-true, ltb-false, leb-true, leb-false, eqb-true, eqb-false, eq-eqb, ne_eqb}
-use Rattle.gt_base.specs.Bounds.{last_minute}
 use Rattle.gt_base.specs.Held.{TriggerView}
 use Rattle.gt_base.specs.Happening.{HappenedView, nothing}
 use Rattle.gt_base.specs.Machines.{ticked, asked}
@@ -18,6 +17,7 @@ use Rattle.gt_base.specs.declared.requests.Entry.{Entry}
 use Rattle.gt_base.proofs.OrderLaws.{prioritised_cmp-IsAntisymmetric, signal_cmp-IsAntisymmetric}
 use Rattle.gt_base.proofs.SetLaws.{same_sets, has-members, has-none, has-set_of, has-with_member}
 use Rattle.gt_base.proofs.SetSteps.{prioritised_cmp_total, signal_cmp_total}
+use Rattle.gt_base.specs.declared.limits.TheConstants.{LAST_MINUTE}
 use Rattle.gtrbac_model.specs.Policy.{Policy}
 use Rattle.gtrbac_model.specs.Base.{status, base_at, raised_at, signals_at, drops_at, periodic, limited, requested, when}
 use Rattle.gtrbac_model.specs.Conflict.{after}
@@ -42,7 +42,7 @@ use Rattle.duration_limits.proofs.Steps.{by_steps}
 use Rattle.instant_bases.specs.Timelines.{TimelineView, base_in, raised_in, signals_in, due_events, since_of, stirs_in, ClosedSet}
 use Rattle.time_engine.specs.Histories.{Follows, BornFollows, BaseFollows, RaisedFollows, CloseIsLegal, CloseFollows, AskKeepsFollowing}
 use Rattle.time_engine.specs.Plans.{joins}
-use Rattle.time_engine.specs.Traces.{model_of, is_something, traced, EndsBy}
+use Rattle.time_engine.specs.Traces.{model_of, is_something, traced, AreClosedBy}
 use Rattle.time_engine.proofs.Booleans.{any-append, both, is_false}
 use Rattle.time_engine.proofs.DueEvents.{due_listed}
 use Rattle.time_engine.proofs.FollowSteps.{known_same, one_joins, all_join}
@@ -64,7 +64,7 @@ itself_x : (x : Signal) → eq_by_cmp signal_cmp x x ≡ true
 itself_x x = tied signal_cmp_total signal_cmp-IsAntisymmetric x x refl
 
 module _ (p : Policy) (is : IsPolicy p) (birth : ℕ) (h : List Entry) (m : Model) (v : TimelineView) (f : Follows p birth h m v) (t : ℕ)
-    (born : birth ≤ v.now) (later : v.now < t) (within : t ≤ last_minute) (quiet : NothingBetween m v.now t) where
+    (born : birth ≤ v.now) (later : v.now < t) (within : t ≤ LAST_MINUTE) (quiet : NothingBetween m v.now t) where
   abbrev k : ℕ
   k = t - 1 - v.now
 
@@ -124,7 +124,7 @@ no_heads : (p : Policy) (birth : ℕ) (m : Model) (t : ℕ) (r : TriggerView) �
 no_heads p birth m t r = by (nat_lt 0 r.delay) (nat_lt birth (t - r.delay)) (nat_le (t - r.delay) birth) refl refl
   where
     by : (a b c : Bool) → nat_lt birth (t - r.delay) ≡ b → nat_le (t - r.delay) birth ≡ c
-        → ◌≡◌ {A = List Prioritised} (elim ((a && b) && c) [ true ↦ when (met r (m (t - r.delay)) (status p birth m (t - r.delay - 1))) r.head | false ↦ [] ]) []
+        → ◌≡◌ {A = List Prioritised} (if (a && b) && c then when (met r (m (t - r.delay)) (status p birth m (t - r.delay - 1))) r.head else []) []
     by true true true x y = absurd (omega (arith, ltb-true birth (t - r.delay) x, leb-true (t - r.delay) birth y))
     by true true false x y = refl
     by true false c x y = refl
@@ -175,20 +175,20 @@ module _ (m : Model) (now to : ℕ) (x : HappenedView) where
   pub more_before : (t : ℕ) → t ≤ now → m t ≡ more t
   more_before t le = by (nat_le t now) refl
     where
-      by : (b : Bool) → nat_le t now ≡ b → m t ≡ elim b [ true ↦ m t | false ↦ elim (nat_eq t to) [ true ↦ x | false ↦ nothing ] ]
+      by : (b : Bool) → nat_le t now ≡ b → m t ≡ (if b then m t else if nat_eq t to then x else nothing)
       by true q = refl
       by false q = absurd (omega (arith, le, leb-false t now q))
 
   pub more_at : now < to → more to ≡ x
   more_at lt =
       let late : nat_le to now ≡ false = is_false (nat_le to now) (λ q. omega (arith, lt, leb-true to now q)) in
-      λ i. elim (late i) [ true ↦ m to | false ↦ elim (eq-eqb to to refl i) [ true ↦ x | false ↦ nothing ] ]
+      λ i. if late i then m to else if eq-eqb to to refl i then x else nothing
 
   pub more_between : (t : ℕ) → now < t → t < to → more t ≡ nothing
   more_between t lt before =
       let late : nat_le t now ≡ false = is_false (nat_le t now) (λ q. omega (arith, lt, leb-true t now q)) in
       let apart : nat_eq t to ≡ false = ne_eqb t to (λ q. omega (arith, q, before)) in
-      λ i. elim (late i) [ true ↦ m t | false ↦ elim (apart i) [ true ↦ x | false ↦ nothing ] ]
+      λ i. if late i then m t else if apart i then x else nothing
 
 -- a timeline also follows the model with one set more
 pub follows_more : (p : Policy) (birth : ℕ) (h : List Entry) (m : Model) (v : TimelineView) (to : ℕ) (x : HappenedView) → Follows p birth h m v → Follows p birth h (with_set m (now_of birth h) to x) v
@@ -239,7 +239,7 @@ nothing_there x e =
     nowhere test (y ∷ ys) q = cc
 
 -- the trace after a close stands for the model with one set more
-traced_more : (cs : List ClosedSet) (m : Model) (birth now to : ℕ) (base x : HappenedView) → now < to → EndsBy now cs → ((t : ℕ) → birth < t → t ≤ now → model_of cs t ≡ m t)
+traced_more : (cs : List ClosedSet) (m : Model) (birth now to : ℕ) (base x : HappenedView) → now < to → AreClosedBy now cs → ((t : ℕ) → birth < t → t ≤ now → model_of cs t ≡ m t)
     → (t : ℕ) → birth < t → t ≤ to → model_of (cs ++ traced to base x) t ≡ with_set m now to x t
 traced_more cs m birth now to base x lt ends sets t a le =
     split (nat_le t now)
@@ -325,7 +325,7 @@ close_follows p is birth h m v w plan who upto kept f plans later ends =
     n_is : Model
     n_is = with_set m (now_of birth h) plan.at plan.set
 
-    on_way : (t : ℕ) (e : Prioritised) → plan.at < t → t ≤ last_minute → status p birth n_is (plan.at - 1) ≡ has v.status → n_is plan.at ≡ plan.set
+    on_way : (t : ℕ) (e : Prioritised) → plan.at < t → t ≤ LAST_MINUTE → status p birth n_is (plan.at - 1) ≡ has v.status → n_is plan.at ≡ plan.set
         → (list_any (eq_by_cmp prioritised_cmp e) (pending p birth n_is h t) || list_any (eq_by_cmp pending_cmp (pending_at t e)) (joins p.triggers (has v.status) plan.set plan.at))
         ≡ list_any (eq_by_cmp prioritised_cmp e) (pending p birth n_is (h ++ ticked who upto plan.at ∷ []) t)
     on_way t e after_to within st set =

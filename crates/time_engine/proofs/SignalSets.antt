@@ -1,16 +1,16 @@
 -- Lists of signals as sets, and when they stand in a base.
-use Rattle.std.proofs.Common.{◌≡◌, ℕ, ◌+◌, ◌≤◌, Bool, true, false, ◌||◌, nat_eq, List, [], ◌∷◌, ◌++◌, Option, Some, None, refl, sym, ◌∙◌, ap, arith}
+use Rattle.std.proofs.Common.{◌≡◌, ℕ, ◌+◌, ◌≤◌, Bool, true, false, ◌||◌, nat_eq, List, [], ◌∷◌, ◌++◌, Option, Some, None, refl, sym, ◌∙◌, ap, arith, if◌then◌else◌}
 use Rattle.std.specs.Prelude.{◌↔◌, IsNone, IfSome}
 use Rattle.std.specs.List.{list_any}
 use Rattle.std.specs.Ordering.{eq_by_cmp}
 use Rattle.std.proofs.lemmas.Bool.{eq-eqb, ne_eqb}
-use Rattle.gt_base.specs.Bounds.{last_minute}
 use Rattle.gt_base.specs.Orders.{signal_cmp}
 use Rattle.gt_base.specs.Sets.{has, members, none, set_of, with_member}
 use Rattle.gt_base.specs.declared.events.Signal.{Signal}
 use Rattle.gt_base.proofs.OrderLaws.{signal_cmp-IsAntisymmetric}
 use Rattle.gt_base.proofs.SetLaws.{same_sets, has-members, has-set_of, has-with_member, members-none}
 use Rattle.gt_base.proofs.SetSteps.{signal_cmp_total}
+use Rattle.gt_base.specs.declared.limits.TheConstants.{LAST_MINUTE}
 use Rattle.gtrbac_model.specs.History.{is_some_item}
 use Rattle.gtrbac_model.proofs.Elements.{tied, left_true}
 use Rattle.instant_bases.specs.Nexts.{IsNextOf}
@@ -47,14 +47,14 @@ some_listed (x ∷ xs) s e =
 
 -- signals stand in the base of the next minute
 pub for_next : (now t : ℕ) (s : Signals) → t ≡ now + 1 → signals_for now s t ≡ members s
-for_next now t s e = λ i. elim (eq-eqb t (now + 1) e i) [ true ↦ members s | false ↦ [] ]
+for_next now t s e = λ i. if eq-eqb t (now + 1) e i then members s else []
 
 -- and in no other
 pub for_other : (now t : ℕ) (s : Signals) → (t ≡ now + 1 → ⊥) → signals_for now s t ≡ []
-for_other now t s ne = λ i. elim (ne_eqb t (now + 1) ne i) [ true ↦ members s | false ↦ [] ]
+for_other now t s ne = λ i. if ne_eqb t (now + 1) ne i then members s else []
 
 -- so the next minute is the next instant where there is one
-pub signals_next : (now : ℕ) (s : Signals) (r : Option ℕ) → is_some_item (members s) ≡ true → IfSome r (λ u. u ≡ now + 1) → (IsNone r ↔ (last_minute ≤ now))
+pub signals_next : (now : ℕ) (s : Signals) (r : Option ℕ) → is_some_item (members s) ≡ true → IfSome r (λ u. u ≡ now + 1) → (IsNone r ↔ (LAST_MINUTE ≤ now))
     → IsNextOf (λ t. is_some_item (signals_for now s t)) now r
 signals_next now s None some at ends = λ u low high. absurd (omega (arith, ends.0 refl, low, high))
 signals_next now s (Some t) some at ends = record {
@@ -67,6 +67,6 @@ signals_next now s (Some t) some at ends = record {
 pub none_next : (now : ℕ) (s : Signals) (u : ℕ) → is_some_item (members s) ≡ false → is_some_item (signals_for now s u) ≡ false
 none_next now s u none = by (nat_eq u (now + 1))
   where
-    by : (b : Bool) → ◌≡◌ {A = Bool} (is_some_item {A = Signal} (elim b [ true ↦ members s | false ↦ [] ])) false
+    by : (b : Bool) → ◌≡◌ {A = Bool} (is_some_item {A = Signal} (if b then members s else [])) false
     by true = none
     by false = refl

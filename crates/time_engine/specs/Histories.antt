@@ -3,7 +3,6 @@
 use Rattle.std.specs.Prelude.{◌≡◌, ℕ, ◌-◌, ◌<◌, ◌≤◌, ◌||◌, List, [], ◌∷◌, ◌++◌}
 use Rattle.std.specs.List.{list_any}
 use Rattle.std.specs.Ordering.{eq_by_cmp}
-use Rattle.gt_base.specs.Bounds.{last_minute}
 use Rattle.gt_base.specs.Machines.{ticked, asked}
 use Rattle.gt_base.specs.Orders.{prioritised_cmp, signal_cmp}
 use Rattle.gt_base.specs.Sets.{has, none}
@@ -17,6 +16,7 @@ use Rattle.gt_base.specs.declared.requests.Request.TheVariants.{Raise}
 use Rattle.gt_base.specs.declared.requests.Reply.{Reply}
 use Rattle.gt_base.specs.declared.requests.Reply.TheVariants.{Queued}
 use Rattle.gt_base.specs.declared.requests.Entry.{Entry}
+use Rattle.gt_base.specs.declared.limits.TheConstants.{LAST_MINUTE}
 use Rattle.gtrbac_model.specs.Policy.{Policy}
 use Rattle.gtrbac_model.specs.Base.{status, base_at, raised_at, signals_at, drops_at, table_at, queued_at}
 use Rattle.gtrbac_model.specs.History.{Legal, IsNextStop, is_some_item, now_of}
@@ -40,7 +40,7 @@ pub record Follows (p : Policy) (birth : ℕ) (h : List Entry) (m : Model)
   pub status : (f : Fluent) → has v.status f ≡ status p birth m v.now f
   pub since : (f : Fluent) → since_of v f ≡ since p birth m f v.now
   pub sets : (t : ℕ) → birth < t → t ≤ v.now → model_of v.trace t ≡ m t
-  pub pending : (t : ℕ) (e : Prioritised) → v.now < t → t ≤ last_minute
+  pub pending : (t : ℕ) (e : Prioritised) → v.now < t → t ≤ LAST_MINUTE
       → has v.pending (pending_at t e)
       ≡ list_any (eq_by_cmp prioritised_cmp e) (pending p birth m h t)
 
@@ -63,7 +63,7 @@ abbrev pub BaseFollows : Type 0
 BaseFollows =
     (p : Policy) → IsPolicy p → (birth : ℕ) (h : List Entry) (m : Model) (v : TimelineView)
     → Follows p birth h m v
-    → (t : ℕ) → birth ≤ v.now → v.now < t → t ≤ last_minute → NothingBetween m v.now t
+    → (t : ℕ) → birth ≤ v.now → v.now < t → t ≤ LAST_MINUTE → NothingBetween m v.now t
     → SignalsFollow p birth m h v t → base_at p birth m h t ≡ base_in p v t
 
 -- and raises something exactly where the timeline does
@@ -71,7 +71,7 @@ abbrev pub RaisedFollows : Type 0
 RaisedFollows =
     (p : Policy) → IsPolicy p → (birth : ℕ) (h : List Entry) (m : Model) (v : TimelineView)
     → Follows p birth h m v
-    → (t : ℕ) → birth ≤ v.now → v.now < t → t ≤ last_minute → NothingBetween m v.now t
+    → (t : ℕ) → birth ≤ v.now → v.now < t → t ≤ LAST_MINUTE → NothingBetween m v.now t
     → is_some_item (raised_at p birth m h t) ≡ is_some_item (raised_in p v t)
 
 -- a tick to the instant of a plan, where that is the next at which the timeline raises something or
@@ -87,7 +87,7 @@ CloseIsLegal =
     (p : Policy) → IsPolicy p → (birth : ℕ) (h : List Entry) (m : Model) (v : TimelineView)
     (plan : PlanView) (who : Who) (upto : ℕ)
     → Legal p birth h m → IsTimeline v → Follows p birth h m v → IsPlan p v plan
-    → plan.at ≤ last_minute
+    → plan.at ≤ LAST_MINUTE
     → SignalsFollow p birth (with_set m (now_of birth h) plan.at plan.set) h v plan.at
     → IsNextStop (λ t. stirs_in p v t || is_some_item
     (drops_at p birth (with_set m (now_of birth h) plan.at plan.set) h t)) v.now upto plan.at

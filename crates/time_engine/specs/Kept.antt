@@ -1,9 +1,9 @@
 -- What a timeline's parts are seen as.
 use Rattle.std.specs.Prelude.{ℕ, min}
 use Rattle.instant_bases.specs.Timelines.{TimelineView}
-use Rattle.time_engine.specs.declared.states.State.{State}
+use Rattle.time_engine.specs.declared.states.TimelineState.{TimelineState}
 
-abbrev pub view_of : State → TimelineView
+abbrev pub view_of : TimelineState → TimelineView
 view_of s = record {
   periods = s.watches.items;
   birth = s.ages.birth;
@@ -15,5 +15,5 @@ view_of s = record {
   signals = s.signals.set;
 }
 
-abbrev pub room_of : State → ℕ
+abbrev pub room_of : TimelineState → ℕ
 room_of s = min s.pending.spare (min s.ages.spare s.trace.spare)

@@ -3,13 +3,13 @@ use Rattle.std.specs.Prelude.{◌≡◌, ℕ, ◌+◌, ◌<◌, ◌≤◌, true,
 use Rattle.std.specs.Coded.{Coded, code_by, coded×, coded_ℕ, coded_list}
 use Rattle.std.specs.List.{list_any}
 use Rattle.std.specs.Ordering.{eq_by_cmp}
-use Rattle.gt_base.specs.Bounds.{last_minute}
 use Rattle.gt_base.specs.Held.{TriggerView}
 use Rattle.gt_base.specs.Happening.{HappenedView, Fluents, happening_code, fluents_code}
 use Rattle.gt_base.specs.Sets.{has, none, with_member}
 use Rattle.gt_base.specs.declared.events.Fluent.{Fluent}
 use Rattle.gt_base.specs.declared.events.Signal.{Signal}
 use Rattle.gt_base.specs.declared.events.Prioritised.{Prioritised}
+use Rattle.gt_base.specs.declared.limits.TheConstants.{LAST_MINUTE}
 use Rattle.gtrbac_model.specs.Policy.{Policy}
 use Rattle.gtrbac_model.specs.Base.{when}
 use Rattle.gtrbac_model.specs.Conflict.{Status, after}
@@ -20,12 +20,12 @@ use Rattle.delay_agenda.specs.Due.{pending_cmp, pending_at, is_due_at}
 use Rattle.delay_agenda.specs.declared.pairs.Pending.{Pending}
 use Rattle.delay_agenda.specs.contracts.pairs.Pending as pending
 use Rattle.instant_bases.specs.Timelines.{ClosedSet, TimelineView, timeline_code, base_in, stirs_in, since_of}
-use Rattle.time_engine.specs.Traces.{Ascends, EndsBy, AreSome, traced}
+use Rattle.time_engine.specs.Traces.{Ascends, AreClosedBy, AreSome, traced}
 
 -- the head of a delayed trigger that is met at the instant, with its due instant, where that is not
 -- after the last one
 abbrev pub joins_of : Status → HappenedView → ℕ → TriggerView → List Pending
-joins_of before x at r = when (nat_lt 0 r.delay && nat_le (at + r.delay) last_minute
+joins_of before x at r = when (nat_lt 0 r.delay && nat_le (at + r.delay) LAST_MINUTE
     && met r x before) (pending_at (at + r.delay) r.head)
 
 abbrev pub joins : List TriggerView → Status → HappenedView → ℕ → List Pending
@@ -83,7 +83,7 @@ pub record IsAfter (v : TimelineView) (plan : PlanView) (w : TimelineView) : Typ
   pub signals : w.signals ≡ none
 
 -- the timeline is closed at the instant
-pub record Closes (p : Policy) (v : TimelineView) (to : ℕ) (w : TimelineView) : Type 0 where
+pub record ClosesTimeline (p : Policy) (v : TimelineView) (to : ℕ) (w : TimelineView) : Type 0 where
   pub plan : PlanView
   pub at : plan.at ≡ to
   pub is_plan : IsPlan p v plan
@@ -99,7 +99,7 @@ pub record IsTimeline (v : TimelineView) : Type 0 where
   pub ages : (f : Fluent) → since_of v f ≤ v.now
   pub pending : (q : Pending) → has v.pending q ≡ true → v.now < q.due
   pub ascends : Ascends v.birth v.trace
-  pub ends : EndsBy v.now v.trace
+  pub ends : AreClosedBy v.now v.trace
   pub some : AreSome v.trace
 
 -- a timeline with its room: how many signals it can take, and how large a plan it can follow
@@ -120,7 +120,7 @@ with_pending v due e = record v { pending = with_member v.pending (pending_at du
 -- with one signal more, which after the last instant there is none for
 abbrev pub with_signal : TimelineView → Signal → TimelineView
 with_signal v s = record v {
-  signals = if nat_lt v.now last_minute then with_member v.signals s
+  signals = if nat_lt v.now LAST_MINUTE then with_member v.signals s
       else v.signals;
 }
 

@@ -1,6 +1,6 @@
 -- Traces: the nonempty sets of a run, each with its instant and its base, and the model that they
 -- stand for.
-use Rattle.std.specs.Prelude.{◌≡◌, ℕ, ◌<◌, ◌≤◌, Bool, true, false, ◌||◌, nat_eq, List, [], ◌∷◌}
+use Rattle.std.specs.Prelude.{◌≡◌, ℕ, ◌<◌, ◌≤◌, Bool, true, ◌||◌, nat_eq, List, [], ◌∷◌, if◌then◌else◌}
 use Rattle.gt_base.specs.Happening.{HappenedView, nothing}
 use Rattle.gt_base.specs.Sets.{members}
 use Rattle.gtrbac_model.specs.Base.{when}
@@ -10,7 +10,7 @@ use Rattle.instant_bases.specs.Timelines.{ClosedSet}
 -- the set of each instant: nothing where the trace has none
 abbrev pub model_of : List ClosedSet → ℕ → HappenedView
 model_of [] t = nothing
-model_of (c ∷ cs) t = elim (nat_eq c.at t) [ true ↦ c.set | false ↦ model_of cs t ]
+model_of (c ∷ cs) t = if nat_eq c.at t then c.set else model_of cs t
 
 -- the instants rise
 abbrev pub Ascends : ℕ → List ClosedSet → Type 0
@@ -18,9 +18,9 @@ Ascends low [] = Unit {0}
 Ascends low (c ∷ cs) = (low < c.at) × Ascends c.at cs
 
 -- no set is later than this instant
-abbrev pub EndsBy : ℕ → List ClosedSet → Type 0
-EndsBy top [] = Unit {0}
-EndsBy top (c ∷ cs) = (c.at ≤ top) × EndsBy top cs
+abbrev pub AreClosedBy : ℕ → List ClosedSet → Type 0
+AreClosedBy top [] = Unit {0}
+AreClosedBy top (c ∷ cs) = (c.at ≤ top) × AreClosedBy top cs
 
 -- whether something happens
 abbrev pub is_something : HappenedView → Bool

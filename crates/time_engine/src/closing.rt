@@ -21,7 +21,7 @@ ghost use Rattle.time_engine.specs.Plans.{joins, joins_of, IsPlan, Fits, IsAfter
 use crate::dues::base;
 use crate::grounds::Ground;
 use crate::plans::Plan;
-use crate::states::State;
+use crate::states::TimelineState;
 use crate::traces::push_closed;
 use delay_agenda::{Agenda, Pending};
 use duration_limits::Ages;
@@ -32,7 +32,7 @@ use std::alloc::Global;
 use trigger_rules::met_in;
 
 /// What closing the timeline at the instant would give.
-pub(crate) fn planned(s: &State, g: &Ground, to: Instant) -> Result<Plan, Memory>
+pub(crate) fn planned(s: &TimelineState, g: &Ground, to: Instant) -> Result<Plan, Memory>
     requires stands { StandsFor g.now.policy (view_of s.now) }
     requires kept { IsTimeline (view_of s.now) }
     requires later { s.now.present < to }
@@ -44,7 +44,7 @@ pub(crate) fn planned(s: &State, g: &Ground, to: Instant) -> Result<Plan, Memory
 }
 
 /// The same, over its base.
-fn planned_over(s: &State, g: &Ground, base: Happened, to: Instant) -> Result<Plan, Memory>
+fn planned_over(s: &TimelineState, g: &Ground, base: Happened, to: Instant) -> Result<Plan, Memory>
     requires { base.set ≡ base_in g.now.policy (view_of s.now) to }
     ensures at { IfOk result (λ plan. plan.at ≡ to) }
     ensures plan { IfOk result (IsPlan g.now.policy (view_of s.now)) }
@@ -55,7 +55,7 @@ fn planned_over(s: &State, g: &Ground, base: Happened, to: Instant) -> Result<Pl
 
 /// The same, by the one set that its base settles to.
 fn planned_by(
-    s: &State,
+    s: &TimelineState,
     g: &Ground,
     base: Happened,
     x: &Contest,
@@ -143,7 +143,7 @@ pub(crate) fn later(t: Instant, minutes: u32) -> Option<Instant>
 }
 
 /// Makes room for a plan that needs this much.
-pub(crate) fn make_room(s: &mut State, need: usize) -> Result<(), Memory>
+pub(crate) fn make_room(s: &mut TimelineState, need: usize) -> Result<(), Memory>
     ensures view { view_of s.new ≡ view_of s.old }
     ensures spare { s.new.signals.spare ≡ s.old.signals.spare }
     ensures low { room_of s.old ≤ room_of s.new }
@@ -156,7 +156,7 @@ pub(crate) fn make_room(s: &mut State, need: usize) -> Result<(), Memory>
 }
 
 /// Follows a plan, into room that was made before.
-pub(crate) fn follow(s: &mut State, p: Plan)
+pub(crate) fn follow(s: &mut TimelineState, p: Plan)
     requires fits { Fits (view_of s.old) p }
     requires room { p.need ≤ room_of s.old }
     ensures after { IsAfter (view_of s.old) p (view_of s.new) }

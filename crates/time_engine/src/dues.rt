@@ -15,7 +15,7 @@ ghost use Rattle.instant_bases.specs.Timelines.{StandsFor, base_in, due_events, 
 ghost use Rattle.time_engine.specs.Kept.{view_of};
 ghost use Rattle.time_engine.specs.Plans.{IsTimeline};
 
-use crate::states::State;
+use crate::states::TimelineState;
 use crate::traces::has_item;
 use gt_base::{Happened, Instant, Memory, Prioritised};
 use instant_bases::{
@@ -25,7 +25,7 @@ use instant_bases::{
 use policy_book::Policy;
 
 /// The least instant after now at which something is raised, none exactly where there is none.
-pub(crate) fn due(s: &State, policy: &Policy) -> Option<Instant>
+pub(crate) fn due(s: &TimelineState, policy: &Policy) -> Option<Instant>
     requires stands { StandsFor policy.now.policy (view_of s.now) }
     requires kept { IsTimeline (view_of s.now) }
     ensures { IsNextOf (stirs_in policy.now.policy (view_of s.now)) s.now.present result }
@@ -35,7 +35,7 @@ pub(crate) fn due(s: &State, policy: &Policy) -> Option<Instant>
 }
 
 /// The least instant after now at which the policy raises something by itself.
-fn next_raised(s: &State, policy: &Policy) -> Option<Instant>
+fn next_raised(s: &TimelineState, policy: &Policy) -> Option<Instant>
     requires stands { StandsFor policy.now.policy (view_of s.now) }
     requires kept { IsTimeline (view_of s.now) }
     ensures { IsNextOf (λ t. is_some_item (periodic policy.now.policy s.now.ages.birth t)
@@ -54,7 +54,7 @@ fn next_raised(s: &State, policy: &Policy) -> Option<Instant>
 }
 
 /// The least instant at which something is due.
-fn next_pending(s: &State) -> Option<Instant>
+fn next_pending(s: &TimelineState) -> Option<Instant>
     requires { IsTimeline (view_of s.now) }
     ensures { IsNextOf (λ t. is_some_item (due_events s.now.pending.set t)) s.now.present result }
 {
@@ -62,7 +62,7 @@ fn next_pending(s: &State) -> Option<Instant>
 }
 
 /// The minute after now, where a signal waits.
-fn next_signals(s: &State) -> Option<Instant>
+fn next_signals(s: &TimelineState) -> Option<Instant>
     ensures { IsNextOf (λ t. is_some_item (signals_for s.now.present s.now.signals.set t))
         s.now.present result }
 {
@@ -74,7 +74,7 @@ fn next_signals(s: &State) -> Option<Instant>
 }
 
 /// The base at an instant after now.
-pub(crate) fn base(s: &State, policy: &Policy, t: Instant) -> Result<Happened, Memory>
+pub(crate) fn base(s: &TimelineState, policy: &Policy, t: Instant) -> Result<Happened, Memory>
     requires stands { StandsFor policy.now.policy (view_of s.now) }
     requires born { s.now.ages.birth ≤ s.now.present }
     requires later { s.now.present < t }
@@ -87,7 +87,7 @@ pub(crate) fn base(s: &State, policy: &Policy, t: Instant) -> Result<Happened, M
 }
 
 /// What the policy raises by itself.
-fn raised(s: &State, policy: &Policy, t: Instant) -> Result<Happened, Memory>
+fn raised(s: &TimelineState, policy: &Policy, t: Instant) -> Result<Happened, Memory>
     requires stands { StandsFor policy.now.policy (view_of s.now) }
     requires later { s.now.ages.birth < t }
     ensures events { IfOk result (λ b. (e : Prioritised)
@@ -104,7 +104,7 @@ fn raised(s: &State, policy: &Policy, t: Instant) -> Result<Happened, Memory>
 }
 
 /// The same as a list.
-fn raised_list(s: &State, policy: &Policy, t: Instant) -> Result<Vec<Prioritised>, Memory>
+fn raised_list(s: &TimelineState, policy: &Policy, t: Instant) -> Result<Vec<Prioritised>, Memory>
     requires stands { StandsFor policy.now.policy (view_of s.now) }
     requires later { s.now.ages.birth < t }
     ensures { IfOk result (λ xs. xs.items ≡ periodic policy.now.policy s.now.ages.birth t
@@ -132,7 +132,7 @@ fn raised_list(s: &State, policy: &Policy, t: Instant) -> Result<Vec<Prioritised
 }
 
 /// Adds what is due.
-fn add_due(s: &State, t: Instant, base: &mut Happened) -> Result<(), Memory>
+fn add_due(s: &TimelineState, t: Instant, base: &mut Happened) -> Result<(), Memory>
     ensures events { OnOk result ((e : Prioritised)
         → has base.new.set.events e ≡ (has base.old.set.events e
         || has s.now.pending.set (pending_at t e))) }
@@ -144,7 +144,7 @@ fn add_due(s: &State, t: Instant, base: &mut Happened) -> Result<(), Memory>
 }
 
 /// Adds the signals that wait, in the minute after now.
-fn add_waiting(s: &State, t: Instant, base: &mut Happened) -> Result<(), Memory>
+fn add_waiting(s: &TimelineState, t: Instant, base: &mut Happened) -> Result<(), Memory>
     ensures events { OnOk result (base.new.set.events ≡ base.old.set.events) }
     ensures signals { OnOk result ((x : Signal) → has base.new.set.signals x
         ≡ (has base.old.set.signals x

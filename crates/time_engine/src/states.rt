@@ -9,7 +9,7 @@ use std::alloc::Global;
 
 /// The periods, the instant now, the status after it and when its fluents changed, the sets so far,
 /// what is due later, the signals of the next minute, and the empty set.
-pub(crate) struct State {
+pub(crate) struct TimelineState {
     pub alloc: Global,
     pub watches: Vec<Watch>,
     pub present: Instant,
@@ -21,9 +21,9 @@ pub(crate) struct State {
     pub quiet: Happened,
 }
 
-impl Drop for State {
+impl Drop for TimelineState {
     fn drop(self) {
-        let State {
+        let TimelineState {
             alloc: _,
             watches: _,
             present: _,

@@ -1,6 +1,5 @@
 //! The timeline of a policy: closed from one instant that stirs to the next.
 ghost use Rattle.std.specs.Prelude.{◌≡◌, ℕ, ◌<◌, ◌≤◌, ◌+◌, nat_eq, cond, [], IfOk, IfErr, OnOk, OnErr};
-ghost use Rattle.gt_base.specs.Bounds.{last_minute};
 ghost use Rattle.gt_base.specs.declared.events.Fluent.{Fluent};
 ghost use Rattle.gt_base.specs.Happening.{nothing};
 ghost use Rattle.gt_base.specs.Sets.{none};
@@ -8,7 +7,7 @@ ghost use Rattle.instant_bases.specs.Nexts.{IsNextOf};
 ghost use Rattle.instant_bases.specs.Timelines.{StandsFor, since_of, stirs_in};
 ghost use Rattle.time_engine.specs.Faults.{IsBeyond};
 ghost use Rattle.time_engine.specs.Kept.{view_of};
-ghost use Rattle.time_engine.specs.Plans.{Closes, Fits, IsAfter, IsPlan, IsTimeline, NoneStirs, with_pending, with_signal, with_trace};
+ghost use Rattle.time_engine.specs.Plans.{ClosesTimeline, Fits, IsAfter, IsPlan, IsTimeline, NoneStirs, with_pending, with_signal, with_trace};
 ghost use Rattle.time_engine.specs.Traces.{model_of};
 
 use crate::closing::{follow, later, make_room, planned};
@@ -16,12 +15,12 @@ use crate::copying::copied_trace;
 use crate::dues::due;
 use crate::grounds::Ground;
 use crate::plans::Plan;
-use crate::states::State;
+use crate::states::TimelineState;
 use crate::traces::{Closed, Trace};
 use crate::waiting::Waiting;
 use delay_agenda::Agenda;
 use duration_limits::Ages;
-use gt_base::{Happened, Instant, List, Memory, Prioritised, Signal, Status};
+use gt_base::{Happened, Instant, LAST_MINUTE, List, Memory, Prioritised, Signal, Status};
 use instant_bases::{Watch, ask_all, copied_watches, watch_all};
 use policy_book::Policy;
 use std::alloc::Global;
@@ -41,7 +40,7 @@ pub enum RequestFault {
 /// sets so far, the events that are due later, and the signals of the next minute. It is seen with
 /// its room.
 pub struct Timeline {
-    state: State,
+    state: TimelineState,
 }
 
 impl Model for Timeline {
@@ -84,7 +83,7 @@ impl Timeline {
         let policy = g.policy();
         let watches = asked(alloc, policy, birth)?;
         let status = policy.opening().copied()?;
-        let state = State {
+        let state = TimelineState {
             alloc,
             watches,
             present: birth,
@@ -148,7 +147,7 @@ impl Timeline {
         requires stands { StandsFor g.now.policy self.old.line }
         requires later { self.old.line.now < to }
         requires skipped { NoneStirs g.now.policy self.old.line to }
-        ensures ok { OnOk result (Closes g.now.policy self.old.line to self.new.line) }
+        ensures ok { OnOk result (ClosesTimeline g.now.policy self.old.line to self.new.line) }
         ensures err { OnErr result (self.new.line ≡ self.old.line) }
         ensures spare { self.new.spare ≡ self.old.spare }
     {
@@ -206,7 +205,7 @@ impl Timeline {
         ensures room { self.new.room ≡ self.old.room }
         ensures spare { self.old.spare ≤ self.new.spare + 1 }
     {
-        if self.state.present.minute() < 52_595_999 {
+        if self.state.present.minute() < LAST_MINUTE {
             self.state.signals.add(s);
         }
     }
@@ -215,9 +214,9 @@ impl Timeline {
     /// that instant. It is refused exactly where the instant would be after 2099-12-31T23:59, or
     /// for want of memory; the timeline is then as it was.
     pub fn request(&mut self, p: Prioritised, delay: u32) -> Result<Instant, RequestFault>
-        requires { delay ≤ last_minute }
+        requires { delay ≤ LAST_MINUTE }
         ensures due { IfOk result (λ due. due ≡ self.old.line.now + 1 + delay) }
-        ensures within { OnOk result (self.old.line.now + 1 + delay ≤ last_minute) }
+        ensures within { OnOk result (self.old.line.now + 1 + delay ≤ LAST_MINUTE) }
         ensures line { IfOk result (λ due. self.new.line ≡ with_pending self.old.line due p) }
         ensures err { OnErr result (self.new.line ≡ self.old.line) }
         ensures beyond { IfErr result (IsBeyond (self.old.line.now + 1 + delay)) }
@@ -246,8 +245,8 @@ impl Timeline {
         Ok(Timeline { state })
     }
 
-    /// An equal timeline but for its trace, which is empty, and its room, which may differ. For want
-    /// of memory it may refuse.
+    /// An equal timeline but for its trace, which is empty, and its room, which may differ. For
+    /// want of memory it may refuse.
     pub fn copied_without_trace(&self) -> Result<Timeline, Memory>
         ensures { IfOk result (λ copy. copy.line ≡ with_trace self.now.line []) }
     {
@@ -267,11 +266,11 @@ impl Timeline {
 }
 
 /// An equal state but for its trace, which is this one.
-fn copied_over(s: &State, trace: Trace) -> Result<State, Memory>
+fn copied_over(s: &TimelineState, trace: Trace) -> Result<TimelineState, Memory>
     ensures view { IfOk result (λ copy. view_of copy ≡ with_trace (view_of s.now) trace.items) }
     ensures quiet { IfOk result (λ copy. copy.quiet.set ≡ nothing) }
 {
-    Ok(State {
+    Ok(TimelineState {
         alloc: s.alloc,
         watches: copied_watches(s.alloc, &s.watches)?,
         present: s.present,
@@ -298,7 +297,7 @@ fn asked(alloc: Global, policy: &Policy, birth: Instant) -> Result<Vec<Watch>, M
 }
 
 /// The set of now: the last one of the trace, where that is its instant.
-fn happened(s: &State) -> &Happened
+fn happened(s: &TimelineState) -> &Happened
     requires kept { IsTimeline (view_of s.now) }
     requires quiet { s.now.quiet.set ≡ nothing }
     ensures { result.now.set ≡ model_of s.now.trace.items s.now.present }

@@ -1,7 +1,7 @@
 //! Traces: the sets of a run.
 ghost use Rattle.std.specs.Prelude.{◌≡◌, ◌≤◌, ◌+◌, ◌++◌, IfOk};
 ghost use Rattle.gtrbac_model.specs.History.{is_some_item};
-ghost use Rattle.time_engine.specs.Traces.{is_something as happens, traced};
+ghost use Rattle.time_engine.specs.Traces.{is_something, traced};
 
 use gt_base::{Happened, Instant, List, Memory};
 use std::marker::Model;
@@ -38,7 +38,7 @@ pub type Trace = List<Closed>;
 
 /// Whether the set has an event or a signal.
 pub(crate) fn is_something(set: &Happened) -> bool
-    ensures { result ≡ happens set.now.set }
+    ensures { result ≡ is_something set.now.set }
 {
     has_item(set.events()) || has_item(set.signals())
 }

@@ -4,7 +4,7 @@ ghost use Rattle.std.specs.List.{list_any};
 ghost use Rattle.gt_base.specs.declared.events.Event.{Event};
 ghost use Rattle.gt_base.specs.declared.events.Signal.{Signal};
 ghost use Rattle.indexmap.specs.IndexMap.{get};
-ghost use Rattle.trigger_rules.specs.Indexed.{event_eq, signal_eq, with_event, with_signal, under, ended_by, ends_in as ends_in_number};
+ghost use Rattle.trigger_rules.specs.Indexed.{event_eq, signal_eq, with_event, with_signal, under, ended_by, ends_in};
 
 use gt_base::{Event, Memory, Signal, Trigger};
 use indexmap::IndexMap;
@@ -52,7 +52,7 @@ fn add_number<K: Eq + Hash + Copy + Drop>(
     n: u32,
     keys: &[K],
 ) -> Result<(), Memory>
-    requires { (k : K) → ends_in_number n (under (get K.eq index.old k) (λ v. v.items)) ≡ false }
+    requires { (k : K) → ends_in n (under (get K.eq index.old k) (λ v. v.items)) ≡ false }
     ensures { OnOk result ((k : K) → under (get K.eq index.new k) (λ v. v.items)
         ≡ under (get K.eq index.old k) (λ v. v.items)
         ++ cond (list_any (K.eq k) keys.now) (n ∷ []) []) }
@@ -89,7 +89,7 @@ fn push_once(numbers: &mut Vec<u32>, n: u32) -> Result<(), Memory>
 
 /// Whether the last number is this one.
 fn ends_in(numbers: &[u32], n: u32) -> bool
-    ensures { result ≡ ends_in_number n numbers.now }
+    ensures { result ≡ ends_in n numbers.now }
 {
     match numbers {
         [.., last] => *last == n,

@@ -2,6 +2,8 @@
 #![tactic(auto)]
 
 mod index;
+mod laws;
 mod rules;
 
+pub use laws::indexes_tell;
 pub use rules::{Rules, met, met_in};

@@ -6,7 +6,7 @@ ghost use Rattle.gt_base.specs.Held.{TriggerView};
 ghost use Rattle.gt_base.specs.Sets.{has};
 ghost use Rattle.gtrbac_model.specs.Conflict.{won as is_won, after};
 ghost use Rattle.gtrbac_model.specs.Graph.{item_at};
-ghost use Rattle.gtrbac_model.specs.Trigger.{met as is_met, holds as holds_in};
+ghost use Rattle.gtrbac_model.specs.Trigger.{met, holds};
 ghost use Rattle.priority_conflict.specs.Winning.{turned_by};
 ghost use Rattle.trigger_rules.specs.Indexed.{with_event, with_signal};
 
@@ -47,8 +47,10 @@ impl Model for Rules {
     ghost view = { λ r. r.triggers.items };
 
     ghost invariant = { λ r. (length r.triggers.items ≤ 4_000)
-        × ((e : Event) → under (get event_eq r.events e) (λ v. v.items) ≡ with_event r.triggers.items e)
-        × ((s : Signal) → under (get signal_eq r.signals s) (λ v. v.items) ≡ with_signal r.triggers.items s) };
+        × ((e : Event) → under (get event_eq r.events e) (λ v. v.items)
+        ≡ with_event r.triggers.items e)
+        × ((s : Signal) → under (get signal_eq r.signals s) (λ v. v.items)
+        ≡ with_signal r.triggers.items s) };
 }
 
 impl Rules {
@@ -115,7 +117,7 @@ pub fn met(r: &Rules, n: u32, won: &EventSet, x: &Happened, before: &Status) -> 
     requires trigger { n < length r.now }
     requires won { (e : Event) → has won.now.set e ≡ is_won x.now.set e }
     ensures { (t : TriggerView) → item_at r.now n ≡ Some t
-        → result ≡ is_met t x.now.set (has before.now.set) }
+        → result ≡ met t x.now.set (has before.now.set) }
 {
     body_met(&r.triggers.as_slice()[n as usize], won, x, before)
 }
@@ -124,8 +126,8 @@ pub fn met(r: &Rules, n: u32, won: &EventSet, x: &Happened, before: &Status) -> 
 fn body_met(t: &Trigger, won: &EventSet, x: &Happened, before: &Status) -> bool
     ensures { result ≡ (list_all (has won.now.set) t.now.events
         && list_all (has x.now.set.signals) t.now.signals
-        && list_all (holds_in (has before.now.set)) t.now.conds
-        && list_all (holds_in (turned_by (has won.now.set) (has before.now.set))) t.now.settled) }
+        && list_all (holds (has before.now.set)) t.now.conds
+        && list_all (holds (turned_by (has won.now.set) (has before.now.set))) t.now.settled) }
 {
     if !all_won(t.events.as_slice(), won) {
         return false;
@@ -139,7 +141,7 @@ fn body_met(t: &Trigger, won: &EventSet, x: &Happened, before: &Status) -> bool
 /// Whether the body of the trigger is met in the set, as `met` says it of a kept trigger. It takes
 /// no memory.
 pub fn met_in(t: &Trigger, x: &Contest, before: &Status) -> bool
-    ensures { result ≡ is_met t.now x.now (has before.now.set) }
+    ensures { result ≡ met t.now x.now (has before.now.set) }
 {
     if !all_lead(t.events.as_slice(), x) {
         return false;
@@ -173,14 +175,14 @@ fn all_there(signals: &[Signal], x: &Happened) -> bool
 
 /// Whether each of the conditions held before.
 fn all_held(conds: &[Cond], before: &Status) -> bool
-    ensures { result ≡ list_all (holds_in (has before.now.set)) conds.now }
+    ensures { result ≡ list_all (holds (has before.now.set)) conds.now }
 {
     conds.iter().all(|c| is_so(*c, before.is_on(c.fluent)))
 }
 
 /// Whether each of the conditions holds after the winners.
 fn all_turned(conds: &[Cond], won: &EventSet, before: &Status) -> bool
-    ensures { result ≡ list_all (holds_in (turned_by (has won.now.set) (has before.now.set)))
+    ensures { result ≡ list_all (holds (turned_by (has won.now.set) (has before.now.set)))
         conds.now }
 {
     conds
@@ -190,7 +192,7 @@ fn all_turned(conds: &[Cond], won: &EventSet, before: &Status) -> bool
 
 /// Whether each of the conditions holds after the set.
 fn all_settled(conds: &[Cond], x: &Contest, before: &Status) -> bool
-    ensures { result ≡ list_all (holds_in (after x.now (has before.now.set))) conds.now }
+    ensures { result ≡ list_all (holds (after x.now (has before.now.set))) conds.now }
 {
     conds
         .iter()

@@ -18,7 +18,7 @@ use Rattle.turn_lock.specs.declared.view.View.{View}
 use Rattle.turn_lock.specs.declared.view.Spot.{Spot}
 use Rattle.turn_lock.specs.declared.view.Spot.TheVariants.{Home, Told}
 use Rattle.turn_lock.specs.declared.view.Origin.{Origin}
-use Rattle.turn_lock.specs.Turns.{part, total, Each, is_waiting, is_holding, is_served, FitsAccount, FitsStage, FitsView, draws_of, accounts_of, next_of, waits, holds_slot, AtHome, Kept, with_ticket, drawn, with_turn, looked, counted, grown, added, rested, passed, staying, stayed, resumed, released, split_left, split_right, joined, spent_view, first_view, plain, Has, Ends}
+use Rattle.turn_lock.specs.Turns.{part, total, Each, is_waiting, is_holding, FitsAccount, FitsStage, FitsView, draws_of, accounts_of, next_of, waits, holds_slot, AtHome, KeptRule, with_ticket, drawn, with_turn, looked, counted, grown, added, rested, passed, staying, stayed, resumed, released, split_left, split_right, joined, spent_view, first_view, plain, Has, EndsPasses}
 use Rattle.turn_lock.proofs.Totals.{total_set, total_snoc, total_at, total_finds, total_within, each_set, each_maps, each-append, put, put_here, put_else, at_end, total-append}
 
 -- another seat's stage, where a ticket is drawn
@@ -37,6 +37,13 @@ holder_of log tickets serving drawer seat Idle h z = absurd (omega arith)
 holder_of log tickets serving drawer seat (Waits t) h z = absurd (omega arith)
 holder_of log tickets serving drawer seat (Keeps t) h z = absurd (omega arith)
 holder_of log tickets serving drawer seat (Holds t known) h z = ap drawer (sym h.0) ∙ h.2
+
+-- whether the ticket is known to be served
+abbrev is_served : Stage → ℕ
+is_served Idle = 0
+is_served (Waits t) = 0
+is_served (Keeps t) = 1
+is_served (Holds t known) = 1
 
 -- a stage whose ticket is not served, where serving moves on past another ticket
 stage_else : (log log' : List Entry) (tickets tickets' serving serving' : ℕ) (drawer : ℕ → ℕ) (k : ℕ) (st : Stage) → ((t : ℕ) → t < tickets → t < tickets') → ((t : ℕ) → serving ≤ t → drawer t ≡ k → serving' ≤ t) → is_served st ≡ 0
@@ -69,7 +76,7 @@ module _ {M : Type 0} (list : M → List Entry) (same : M → M → Type 0) (o :
   St = State (Spot M) (View M)
 
   abbrev Rule : St → Type 0
-  Rule = Kept list same o
+  Rule = KeptRule list same o
 
   abbrev root : M
   root = o.value.value
@@ -655,7 +662,7 @@ module _ {M : Type 0} (list : M → List Entry) (same : M → M → Type 0) (o :
   holding_waits (Holds t known) h = h
 
   pub ends : (s : St) (r : Rule s) (id : ℕ) (v : View M) → get_elem? s.views id ≡ some v → v.stage ≡ Idle → ((n : ℕ) → n < o.passes → Has n v.accounts)
-      → (x : M) × (get_elem? s.homes 0 ≡ some (some (Home x))) × Ends list same root o.passes v.accounts x
+      → (x : M) × (get_elem? s.homes 0 ≡ some (some (Home x))) × EndsPasses list same root o.passes v.accounts x
   ends s r id v at idle covers =
       let f = r.each id v at in let log : List Entry = list root ++ r.added in
       ⊎_elim

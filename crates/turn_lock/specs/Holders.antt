@@ -62,8 +62,8 @@ AreIdle site ps = Each (λ p. (p.site ≡ site) × (p.turn ≡ None)) ps
 
 -- The list of a closed lock's value has what the pass has seen as a prefix. Its own entries are
 -- those of its number after the first front
-abbrev pub IsTold : {M : Type 0} → List Entry → List Entry → Holder M → Type 0
-IsTold first log p = IsPrefix p.seen log × (p.own ≡ part p.number (drop (length first) log))
+abbrev pub IsToldBy : {M : Type 0} → List Entry → List Entry → Holder M → Type 0
+IsToldBy first log p = IsPrefix p.seen log × (p.own ≡ part p.number (drop (length first) log))
 
 module _ {M : Type 0} where
   -- a pass that has drawn nothing

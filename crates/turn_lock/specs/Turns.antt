@@ -41,13 +41,6 @@ is_holding (Waits t) = 0
 is_holding (Keeps t) = 0
 is_holding (Holds t known) = 1
 
--- whether the ticket is known to be served
-abbrev pub is_served : Stage → ℕ
-is_served Idle = 0
-is_served (Waits t) = 0
-is_served (Keeps t) = 1
-is_served (Holds t known) = 1
-
 -- What a pass has drawn and seen, and its own entries. log is the history, added are its entries
 -- after the first front, given is the number of passes so far, and owner tells the seat that keeps
 -- the account of a number
@@ -103,7 +96,7 @@ AtHome {M} list same root log homes =
     (x : M) × (get_elem? homes 0 ≡ some (some (Home x))) × (list x ≡ log) × same root x
 
 -- The rule, which holds between any two steps
-pub record Kept {M : Type 0} (list : M → List Entry) (same : M → M → Type 0) (o : Origin M)
+pub record KeptRule {M : Type 0} (list : M → List Entry) (same : M → M → Type 0) (o : Origin M)
     (s : State (Spot M) (View M)) : Type 0 where
   -- the entries after the first front, and what the words and the views come to
   pub added : List Entry
@@ -292,7 +285,8 @@ Has n [] = ⊥
 Has n (a ∷ more) = (a.number ≡ n) ⊎ Has n more
 
 -- what the value tells at the end of the passes with these accounts
-pub record Ends {M : Type 0} (list : M → List Entry) (same : M → M → Type 0) (root : M) (passes : ℕ)
+pub record EndsPasses {M : Type 0} (list : M → List Entry) (same : M → M → Type 0) (root : M)
+    (passes : ℕ)
     (accounts : List Account) (x : M) : Type 0 where
   pub root_is : same root x
   pub first : IsPrefix (list root) (list x)

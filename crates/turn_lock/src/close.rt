@@ -1,9 +1,9 @@
 //! The end of a lock: all passes are back, and the value is handed out.
 ghost use Rattle.std.specs.Prelude.{◌≡◌, ◌<◌, ◌≤◌, ◌++◌, [], ◌∷◌, ℕ, None, Some, map, length, drop};
 ghost use mathlib.Core.List.{IsPrefix};
-ghost use Rattle.turn_lock.specs.Turns.{Each, Has, Ends, part, undrawn};
+ghost use Rattle.turn_lock.specs.Turns.{Each, Has, EndsPasses, part, undrawn};
 ghost use Rattle.turn_lock.specs.Seats.{IsSized, IsSameSeat, IsMany};
-ghost use Rattle.turn_lock.specs.Holders.{Lock, site_of, AreIdle, HasNumber, IsTold, account_of};
+ghost use Rattle.turn_lock.specs.Holders.{Lock, site_of, AreIdle, HasNumber, IsToldBy, account_of};
 
 use crate::lock::TurnLock;
 use crate::pass::Pass;
@@ -14,7 +14,7 @@ use crate::steps::{Tabletop, release};
 use crate::view::Spot;
 use gt_base::Keeps;
 
-// The seat of a pass, which gives its turn on where it has kept it.
+/// The seat of a pass, which gives its turn on where it has kept it.
 fn seat_of<M: Keeps>(top: &Tabletop<M>, pass: Pass<M>) -> Place<M>
     requires fits { (pass.site
         ≡ record { table = top.now.table_id; root = Some top.now.key.value.value })
@@ -31,7 +31,7 @@ fn seat_of<M: Keeps>(top: &Tabletop<M>, pass: Pass<M>) -> Place<M>
     seat
 }
 
-// Joins all passes to the seat.
+/// Joins all passes to the seat.
 fn gather<M: Keeps>(top: &Tabletop<M>, seat: &mut Place<M>, mut all: Vec<Pass<M>>)
     requires fits { (seat.old.table_id ≡ top.now.table_id) × IsSized top.now.table_id }
     requires seat { IsMany top.now.key.value.value seat.old.me.0.accounts seat.old }
@@ -50,12 +50,12 @@ fn gather<M: Keeps>(top: &Tabletop<M>, seat: &mut Place<M>, mut all: Vec<Pass<M>
     all.destroy_empty();
 }
 
-// Takes the value out.
+/// Takes the value out.
 fn finish<M: Keeps>(table: TurnTable<M>, seat: Place<M>) -> M
     requires fits { (seat.table_id ≡ table.shared.table_id) × IsSized table.shared.table_id }
     requires seat { IsMany table.shared.key.value.value seat.me.0.accounts seat }
     requires all { (n : ℕ) → n < table.shared.key.passes → Has n seat.me.0.accounts }
-    ensures { Ends M.list M.same_root table.shared.key.value.value table.shared.key.passes
+    ensures { EndsPasses M.list M.same_root table.shared.key.value.value table.shared.key.passes
         seat.me.0.accounts result }
 {
     let mut closed = table.close_with(seat);
@@ -74,7 +74,7 @@ impl<M: Keeps> TurnLock<M> {
         requires all { (n : ℕ) → n < self.passes → HasNumber n passes.items }
         ensures root { M.same_root self.root result }
         ensures first { IsPrefix (M.list self.root) (M.list result) }
-        ensures each { Each (IsTold (M.list self.root) (M.list result)) passes.items }
+        ensures each { Each (IsToldBy (M.list self.root) (M.list result)) passes.items }
         ensures others { (n : ℕ) → self.passes ≤ n
             → part n (drop (length (M.list self.root)) (M.list result)) ≡ [] }
     {

@@ -23,7 +23,7 @@ pub struct NewFault<M> {
     pub value: M,
 }
 
-// The value in the one slot.
+/// The value in the one slot.
 fn only<M>(mut slots: Vec<Spot<M>>) -> M
     requires { (x : M) × (slots.items ≡ Spot.Home x ∷ []) }
     ensures { slots.items ≡ Spot.Home result ∷ [] }
@@ -37,7 +37,7 @@ fn only<M>(mut slots: Vec<Spot<M>>) -> M
     value
 }
 
-// The table, with the value home, and the seat of the first pass.
+/// The table, with the value home, and the seat of the first pass.
 fn open<M: Keeps>(
     alloc: Global,
     value: M,
@@ -65,7 +65,7 @@ fn open<M: Keeps>(
     }
 }
 
-// The seat of the next pass.
+/// The seat of the next pass.
 fn cut<M: Keeps>(top: &Tabletop<M>, seat: &mut Place<M>) -> Place<M>
     requires fits { (seat.old.table_id ≡ top.now.table_id) × IsSized top.now.table_id }
     requires idle { IsAt top.now.key.value.value (mine seat.old) Idle [] seat.old }
@@ -87,7 +87,7 @@ fn cut<M: Keeps>(top: &Tabletop<M>, seat: &mut Place<M>) -> Place<M>
     top.split_seat::<Cut>(seat)
 }
 
-// Makes the passes of the numbers from 1 on, and puts that of number 0 before them.
+/// Makes the passes of the numbers from 1 on, and puts that of number 0 before them.
 fn deal<M: Keeps>(top: &Tabletop<M>, mut seat: Place<M>, passes: u32, all: &mut Vec<Pass<M>>)
     requires fits { (seat.table_id ≡ top.now.table_id) × IsSized top.now.table_id
         × (passes ≡ top.now.key.passes) × (1 ≤ passes) }

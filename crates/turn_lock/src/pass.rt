@@ -76,7 +76,8 @@ impl<M> Pass<M> {
         ensures site { (result.0.table_id ≡ self.site.table)
             × (result.0.me.0.root ≡ self.site.root) }
         ensures stage { (turn_of result.0.me.0.stage ≡ self.turn)
-            × HandFits result.0.me.0.stage result.0.me.1 × (result.1 ≡ is_kept result.0.me.0.stage) }
+            × HandFits result.0.me.0.stage result.0.me.1
+            × (result.1 ≡ is_kept result.0.me.0.stage) }
         ensures account { (result.0.me.0.accounts ≡ mine result.0 ∷ [])
             × (undrawn (mine result.0) ≡ account_of self) }
     {

@@ -12,9 +12,9 @@ pub struct Turns<M> {
 }
 
 impl<M: Keeps> TableRule<Spot<M>, View<M>, Origin<M>> for Turns<M> {
-    ghost use Rattle.turn_lock.specs.Turns.{Kept, first_view};
+    ghost use Rattle.turn_lock.specs.Turns.{KeptRule, first_view};
 
-    ghost holds = { Kept M.list M.same_root };
+    ghost holds = { KeptRule M.list M.same_root };
 
     ghost first = { first_view M.list };
 }

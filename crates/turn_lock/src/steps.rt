@@ -35,9 +35,9 @@ pub fn draw<M: Keeps>(top: &Tabletop<M>, seat: &mut Place<M>) -> u64
 /// How often a seat looks whether its ticket is served before it sleeps.
 const LOOKS: u32 = 100;
 
-// Waits a little, or sleeps where it has looked often, until `serving` moves on. It never yields
-// the processor: on a busy machine a yield gives a whole slice of time away, also that of the next
-// ticket.
+/// Waits a little, or sleeps where it has looked often, until `serving` moves on. It never yields
+/// the processor: on a busy machine a yield gives a whole slice of time away, also that of the next
+/// ticket.
 fn pause<M: Keeps, R: Wait>(rt: &R, top: &Tabletop<M>, serving: u64, looks: u32)
     requires { top.now.table_id.words ≡ 3 }
 {
@@ -121,7 +121,7 @@ pub fn give_back<M: Keeps>(top: &Tabletop<M>, seat: &mut Place<M>, value: M)
     wake(top, seat, served);
 }
 
-// Wakes those who sleep, where a ticket was drawn behind the one that was served.
+/// Wakes those who sleep, where a ticket was drawn behind the one that was served.
 fn wake<M: Keeps>(top: &Tabletop<M>, seat: &mut Place<M>, served: u64)
     requires fits { (seat.old.table_id ≡ top.now.table_id) × IsSized top.now.table_id }
     requires hand { seat.old.me.1 ≡ [] }

@@ -15,16 +15,16 @@ use std::collections::VecDeque;
 use std::sync::Wait;
 use std::thread::Threads;
 
-/// What the one link of a door sends, none where the door has no link, and the number of the call of
-/// the door that fails, 0 where none is to.
+/// What the one link of a door sends, none where the door has no link, and the number of the call
+/// of the door that fails, 0 where none is to.
 #[derive(Clone, Copy)]
 pub struct Party<'a> {
     pub sends: Option<&'a [u8]>,
     pub bad_call: u64,
 }
 
-/// The words after the program's name, the text of the policy P, the minutes of the birth and of the
-/// worker's clock, the worker and the viewer.
+/// The words after the program's name, the text of the policy P, the minutes of the birth and of
+/// the worker's clock, the worker and the viewer.
 #[derive(Clone, Copy)]
 pub struct Views<'a> {
     pub words: &'a [&'a str],

@@ -7,7 +7,7 @@ use std::alloc::{AllocError, Global};
 use std::sync::atomic::{AtomicU64, Ordering};
 use std::test::Fail;
 
-// 2026-01-05T10:00
+/// 2026-01-05T10:00
 const TEN: u32 = 13_682_040;
 
 const NOBODY: Party<'static> = Party {

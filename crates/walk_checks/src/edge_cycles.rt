@@ -1,5 +1,5 @@
 ghost use Rattle.std.specs.Prelude.{◌≡◌, true};
-ghost use Rattle.policy_book.specs.Nets.{AreWithin};
+ghost use Rattle.hybrid_hierarchy.specs.Nets.{AreWithin};
 
 use gt_base::{HierEdge, Memory, RoleId};
 use policy_book::cycle_of;

@@ -1,4 +1,5 @@
-//! Tests of walks, cycles and levels: by hand, and on random graphs against a plain listing of all walks.
+//! Tests of walks, cycles and levels: by hand, and on random graphs against a plain listing of all
+//! walks.
 #![tactic(auto)]
 
 #[cfg(test)]

@@ -1,4 +1,5 @@
-//! The least walk and the judge against a plain listing of all walks, on ten thousand random small graphs.
+//! The least walk and the judge against a plain listing of all walks, on ten thousand random small
+//! graphs.
 ghost use Rattle.std.specs.Prelude.{◌≡◌, ◌<◌, ◌≤◌, length, IfOk};
 
 use least_walk::{Graph, GraphEdge, Path, least_walk};
@@ -6,7 +7,8 @@ use safety_cycle::{Strata, Verdict, judge};
 use std::alloc::{AllocError, Global};
 use std::test::Fail;
 
-/// A walk of so many edges, whose numbers are the digits of the code; one digit can be the number of any edge.
+/// A walk of so many edges, whose numbers are the digits of the code; one digit can be the number
+/// of any edge.
 #[derive(Clone, Copy)]
 struct Listed {
     start: u32,
@@ -42,7 +44,8 @@ fn spells(edges: &[GraphEdge], walk: Listed, numbers: &[u32]) -> bool {
     numbers.len() == walk.length as usize
 }
 
-/// The first walk to one of the ends, where walks are listed by length, then by start, then by the numbers of their edges.
+/// The first walk to one of the ends, where walks are listed by length, then by start, then by the
+/// numbers of their edges.
 fn listed_walk(g: &Graph, from: &[u32], ends: &[u32]) -> Option<Listed> {
     let edges = g.edges();
     let mut codes = 1;

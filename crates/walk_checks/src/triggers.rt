@@ -131,7 +131,8 @@ fn cycles_of_triggers(rt: HostRuntime) -> Result<(), Fail> {
 fn cycles_of_settled_conditions(rt: HostRuntime) -> Result<(), Fail> {
     let alloc = rt.alloc();
     let prio = Prio::new(50).ok_or("no priority")?;
-    // when enable 0 and settled disabled 1 then enable 1: its own conflict, at the place after the body event
+    // when enable 0 and settled disabled 1 then enable 1: its own conflict, at the place after the
+    // body event
     let undone = two(
         alloc,
         when(alloc, set(true, 5), prio, set(true, 6), 0)?,

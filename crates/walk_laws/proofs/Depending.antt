@@ -47,6 +47,34 @@ plain head b t p = record { source = b; target = head; conflict = false; trigger
 abbrev rival : Event → Event → ℕ → ℕ → Dependency
 rival head b t p = record { source = b; target = head; conflict = true; trigger = t; place = p }
 
+item_is : {A : Type 0} (x y : A) → Some x ≡ Some y → x ≡ y
+item_is x y e = ap (λ o. unwrap_or o x) e
+
+-- what stands in the list of all items comes from one of them, by its number
+from_one : {A : Type 0} (one : ℕ → A → List Dependency) (all : ℕ → List A → List Dependency) → ((n : ℕ) → all n [] ≡ []) → ((n : ℕ) (x : A) (xs : List A) → all n (x ∷ xs) ≡ one n x ++ all (n + 1) xs)
+    → (n : ℕ) (xs : List A) (d : Dependency) → Elem (all n xs) d → (x : A) × (k : ℕ) × (item_at xs k ≡ Some x) × Elem (one (n + k) x) d
+from_one one all ends goes n [] d m = elim (subst (λ l. Elem l d) (ends n) m) [ ]
+from_one one all ends goes n (y ∷ ys) d m =
+    let here : n ≡ n + 0 = omega arith in
+    elim (parted (one n y) (all (n + 1) ys) d (subst (λ l. Elem l d) (goes n y ys) m)) [
+      | inl front ↦ (y, 0, refl, subst (λ u. Elem (one u y) d) here front)
+      | inr back ↦
+          let (x, k, at, there) = from_one one all ends goes (n + 1) ys d back in
+          let later : n + 1 + k ≡ n + suc k = omega arith in
+          (x, suc k, at, subst (λ u. Elem (one u x) d) later there)
+    ]
+
+-- and what comes from one of them stands there
+to_all : {A : Type 0} (one : ℕ → A → List Dependency) (all : ℕ → List A → List Dependency) → ((n : ℕ) (x : A) (xs : List A) → all n (x ∷ xs) ≡ one n x ++ all (n + 1) xs)
+    → (n : ℕ) (xs : List A) (k : ℕ) (x : A) (q : ℕ) (d : Dependency) → item_at xs k ≡ Some x → n + k ≡ q → Elem (one q x) d → Elem (all n xs) d
+to_all one all goes n [] k x q d at e m = cc
+to_all one all goes n (y ∷ ys) zero x q d at e m =
+    let same : x ≡ y = sym (item_is y x at) in
+    let number : q ≡ n = omega (arith, e) in
+    subst (λ l. Elem l d) (sym (goes n y ys)) (in_left (one n y) (all (n + 1) ys) d (subst (λ z. Elem (one n z) d) same (subst (λ u. Elem (one u x) d) number m)))
+to_all one all goes n (y ∷ ys) (suc k) x q d at e m =
+    subst (λ l. Elem l d) (sym (goes n y ys)) (in_right (one n y) (all (n + 1) ys) d (to_all one all goes (n + 1) ys k x q d at (omega (arith, e)) m))
+
 module _ (triggers : List TriggerView) where
   an_edge : (d : Dependency) → is_node triggers d.source ≡ true → Elem (edge_if_node triggers d) d
   an_edge d n = subst (λ b. Elem (cond b (d ∷ []) []) d) (sym n) (inl refl)
@@ -59,60 +87,66 @@ module _ (triggers : List TriggerView) where
         | inr none ↦ elim none [ ]
       ]
 
+  -- the two edges of a part, where they come from nodes
+  abbrev two : {A : Type 0} → (ℕ → A → Dependency) → (ℕ → A → Dependency) → ℕ → A → List Dependency
+  two f g p x = edge_if_node triggers (f p x) ++ edge_if_node triggers (g p x)
+
+  of_two : {A : Type 0} (f g : ℕ → A → Dependency) (p : ℕ) (x : A) (d : Dependency) → Elem (two f g p x) d → (is_node triggers d.source ≡ true) × ((d ≡ f p x) ⊎ (d ≡ g p x))
+  of_two f g p x d m = elim (parted (edge_if_node triggers (f p x)) (edge_if_node triggers (g p x)) d m) [
+    | inl k ↦ let (same, node) = of_edge (f p x) d k in (node, inl same)
+    | inr k ↦ let (same, node) = of_edge (g p x) d k in (node, inr same)
+  ]
+
+  first_there : {A : Type 0} (f g : ℕ → A → Dependency) (p : ℕ) (x : A) → is_node triggers (f p x).source ≡ true → Elem (two f g p x) (f p x)
+  first_there f g p x node = in_left (edge_if_node triggers (f p x)) (edge_if_node triggers (g p x)) (f p x) (an_edge (f p x) node)
+
+  second_there : {A : Type 0} (f g : ℕ → A → Dependency) (p : ℕ) (x : A) → is_node triggers (g p x).source ≡ true → Elem (two f g p x) (g p x)
+  second_there f g p x node = in_right (edge_if_node triggers (f p x)) (edge_if_node triggers (g p x)) (g p x) (an_edge (g p x) node)
+
+  -- of a body event, and of a settled condition
+  module _ (head : Event) (t : ℕ) where
+    abbrev agrees : ℕ → Event → Dependency
+    agrees p b = plain head b t p
+
+    abbrev differs : ℕ → Event → Dependency
+    differs p b = rival head (converse b) t p
+
+    abbrev on : ℕ → Cond → Dependency
+    on p c = rival head (turns_on c.fluent) t p
+
+    abbrev off : ℕ → Cond → Dependency
+    off p c = rival head (turns_off c.fluent) t p
+
+    of_bodies : (bs : List Event) (d : Dependency) → Elem (of_body triggers head t 0 bs) d
+        → (b : Event) × (k : ℕ) × (item_at bs k ≡ Some b) × (is_node triggers d.source ≡ true) × ((d ≡ agrees (0 + k) b) ⊎ (d ≡ differs (0 + k) b))
+    of_bodies bs d m =
+        let (b, k, at, there) = from_one (two agrees differs) (of_body triggers head t) (λ p. refl) (λ p c cs. refl) 0 bs d m in
+        let (node, which) = of_two agrees differs (0 + k) b d there in
+        (b, k, at, node, which)
+
+    of_conds : (p : ℕ) (cs : List Cond) (d : Dependency) → Elem (of_settled triggers head t p cs) d
+        → (c : Cond) × (k : ℕ) × (item_at cs k ≡ Some c) × (is_node triggers d.source ≡ true) × ((d ≡ on (p + k) c) ⊎ (d ≡ off (p + k) c))
+    of_conds p cs d m =
+        let (c, k, at, there) = from_one (two on off) (of_settled triggers head t) (λ p. refl) (λ p b bs. refl) p cs d m in
+        let (node, which) = of_two on off (p + k) c d there in
+        (c, k, at, node, which)
+
+    has_body : (bs : List Event) (k : ℕ) (b : Event) (d : Dependency) → item_at bs k ≡ Some b → Elem (two agrees differs k b) d → Elem (of_body triggers head t 0 bs) d
+    has_body bs k b d at m = to_all (two agrees differs) (of_body triggers head t) (λ p c cs. refl) 0 bs k b k d at (omega arith) m
+
+    has_cond : (p : ℕ) (cs : List Cond) (k : ℕ) (c : Cond) (q : ℕ) (d : Dependency) → item_at cs k ≡ Some c → p + k ≡ q → Elem (two on off q c) d → Elem (of_settled triggers head t p cs) d
+    has_cond p cs k c q d at e m = to_all (two on off) (of_settled triggers head t) (λ p b bs. refl) p cs k c q d at e m
+
   -- ---- what is there
-  of_bodies : (head : Event) (t p : ℕ) (bs : List Event) (d : Dependency) → Elem (of_body triggers head t p bs) d
-      → (b : Event) × (k : ℕ) × (item_at bs k ≡ Some b) × (is_node triggers d.source ≡ true) × ((d ≡ plain head b t (p + k)) ⊎ (d ≡ rival head (converse b) t (p + k)))
-  of_bodies head t p [] d m = elim m [ ]
-  of_bodies head t p (c ∷ bs) d m =
-      let here : p ≡ p + 0 = omega arith in
-      elim (parted (edge_if_node triggers (plain head c t p) ++ edge_if_node triggers (rival head (converse c) t p)) (of_body triggers head t (p + 1) bs) d m) [
-        | inl front ↦ elim (parted (edge_if_node triggers (plain head c t p)) (edge_if_node triggers (rival head (converse c) t p)) d front) [
-          | inl k ↦ let (same, node) = of_edge (plain head c t p) d k in (c, 0, refl, node, inl (same ∙ ap (plain head c t) here))
-          | inr k ↦ let (same, node) = of_edge (rival head (converse c) t p) d k in (c, 0, refl, node, inr (same ∙ ap (rival head (converse c) t) here))
-        ]
-        | inr back ↦
-            let (b, k, at, node, which) = of_bodies head t (p + 1) bs d back in
-            let later : p + 1 + k ≡ p + suc k = omega arith in
-            (b, suc k, at, node, elim which [ inl e ↦ inl (e ∙ ap (plain head b t) later) | inr e ↦ inr (e ∙ ap (rival head (converse b) t) later) ])
-      ]
-
-  of_conds : (head : Event) (t p : ℕ) (cs : List Cond) (d : Dependency) → Elem (of_settled triggers head t p cs) d
-      → (c : Cond) × (k : ℕ) × (item_at cs k ≡ Some c) × (is_node triggers d.source ≡ true) × ((d ≡ rival head (turns_on c.fluent) t (p + k)) ⊎ (d ≡ rival head (turns_off c.fluent) t (p + k)))
-  of_conds head t p [] d m = elim m [ ]
-  of_conds head t p (c ∷ cs) d m =
-      let here : p ≡ p + 0 = omega arith in
-      elim (parted (edge_if_node triggers (rival head (turns_on c.fluent) t p) ++ edge_if_node triggers (rival head (turns_off c.fluent) t p)) (of_settled triggers head t (p + 1) cs) d m) [
-        | inl front ↦ elim (parted (edge_if_node triggers (rival head (turns_on c.fluent) t p)) (edge_if_node triggers (rival head (turns_off c.fluent) t p)) d front) [
-          | inl k ↦ let (same, node) = of_edge (rival head (turns_on c.fluent) t p) d k in (c, 0, refl, node, inl (same ∙ ap (rival head (turns_on c.fluent) t) here))
-          | inr k ↦ let (same, node) = of_edge (rival head (turns_off c.fluent) t p) d k in (c, 0, refl, node, inr (same ∙ ap (rival head (turns_off c.fluent) t) here))
-        ]
-        | inr back ↦
-            let (b, k, at, node, which) = of_conds head t (p + 1) cs d back in
-            let later : p + 1 + k ≡ p + suc k = omega arith in
-            (b, suc k, at, node, elim which [ inl e ↦ inl (e ∙ ap (rival head (turns_on b.fluent) t) later) | inr e ↦ inr (e ∙ ap (rival head (turns_off b.fluent) t) later) ])
-      ]
-
-  of_rules : (t : ℕ) (rs : List TriggerView) (d : Dependency) → Elem (of_triggers triggers t rs) d → (r : TriggerView) × (k : ℕ) × (item_at rs k ≡ Some r) × Elem (of_trigger triggers (t + k) r) d
-  of_rules t [] d m = elim m [ ]
-  of_rules t (r ∷ rs) d m =
-      let here : t ≡ t + 0 = omega arith in
-      elim (parted (of_trigger triggers t r) (of_triggers triggers (t + 1) rs) d m) [
-        | inl front ↦ (r, 0, refl, subst (λ u. Elem (of_trigger triggers u r) d) here front)
-        | inr back ↦
-            let (q, k, at, there) = of_rules (t + 1) rs d back in
-            let later : t + 1 + k ≡ t + suc k = omega arith in
-            (q, suc k, at, subst (λ u. Elem (of_trigger triggers u q) d) later there)
-      ]
-
   told : (d : Dependency) → Elem (dependencies triggers) d → IsDependency triggers d
   told d m =
-      let (r, k, at, there) = of_rules 0 triggers d m in
+      let (r, k, at, there) = from_one (of_trigger triggers) (of_triggers triggers) (λ t. refl) (λ t r rs. refl) 0 triggers d m in
       let (now, edges) = if_true (immediate r) (of_body triggers r.head.event (0 + k) 0 r.events ++ of_settled triggers r.head.event (0 + k) (length r.events) r.settled) d there in
       let number : k ≡ 0 + k = omega arith in
       let numbered : (t : ℕ) → t ≡ 0 + k → item_at triggers t ≡ Some r = λ t e. subst (λ u. item_at triggers u ≡ Some r) (number ∙ sym e) at in
       elim (parted (of_body triggers r.head.event (0 + k) 0 r.events) (of_settled triggers r.head.event (0 + k) (length r.events) r.settled) d edges) [
         | inl body ↦
-            let (b, j, stands, node, which) = of_bodies r.head.event (0 + k) 0 r.events d body in
+            let (b, j, stands, node, which) = of_bodies r.head.event (0 + k) r.events d body in
             let place : (p : ℕ) → p ≡ 0 + j → item_at r.events p ≡ Some b = λ p e. let same : j ≡ p = omega (arith, e) in subst (λ q. item_at r.events q ≡ Some b) same stands in
             elim which [
               | inl e ↦ record {
@@ -155,93 +189,29 @@ module _ (triggers : List TriggerView) where
       ]
 
   -- ---- what is due
-  item_is : {A : Type 0} (x y : A) → Some x ≡ Some y → x ≡ y
-  item_is x y e = ap (λ o. unwrap_or o x) e
-
-  has_plain : (head : Event) (t p : ℕ) (bs : List Event) (k : ℕ) (b : Event) (q : ℕ) → item_at bs k ≡ Some b → is_node triggers b ≡ true → p + k ≡ q
-      → Elem (of_body triggers head t p bs) (plain head b t q)
-  has_plain head t p [] k b q at node e = cc
-  has_plain head t p (c ∷ bs) zero b q at node e =
-      let same : c ≡ b = item_is c b at in
-      let place : p ≡ q = omega (arith, e) in
-      in_left (edge_if_node triggers (plain head c t p) ++ edge_if_node triggers (rival head (converse c) t p)) (of_body triggers head t (p + 1) bs) (plain head b t q)
-      (in_left (edge_if_node triggers (plain head c t p)) (edge_if_node triggers (rival head (converse c) t p)) (plain head b t q)
-      (subst (λ z. Elem (edge_if_node triggers (plain head c t p)) z) (λ i. plain head (same i) t (place i)) (an_edge (plain head c t p) (subst (λ z. is_node triggers z ≡ true) (sym same) node))))
-  has_plain head t p (c ∷ bs) (suc k) b q at node e =
-      in_right (edge_if_node triggers (plain head c t p) ++ edge_if_node triggers (rival head (converse c) t p)) (of_body triggers head t (p + 1) bs) (plain head b t q)
-      (has_plain head t (p + 1) bs k b q at node (omega (arith, e)))
-
-  has_rival : (head : Event) (t p : ℕ) (bs : List Event) (k : ℕ) (b : Event) (q : ℕ) → item_at bs k ≡ Some b → is_node triggers (converse b) ≡ true → p + k ≡ q
-      → Elem (of_body triggers head t p bs) (rival head (converse b) t q)
-  has_rival head t p [] k b q at node e = cc
-  has_rival head t p (c ∷ bs) zero b q at node e =
-      let same : c ≡ b = item_is c b at in
-      let place : p ≡ q = omega (arith, e) in
-      in_left (edge_if_node triggers (plain head c t p) ++ edge_if_node triggers (rival head (converse c) t p)) (of_body triggers head t (p + 1) bs) (rival head (converse b) t q)
-      (in_right (edge_if_node triggers (plain head c t p)) (edge_if_node triggers (rival head (converse c) t p)) (rival head (converse b) t q)
-      (subst (λ z. Elem (edge_if_node triggers (rival head (converse c) t p)) z) (λ i. rival head (converse (same i)) t (place i)) (an_edge (rival head (converse c) t p) (subst (λ z. is_node triggers (converse z) ≡ true) (sym same) node))))
-  has_rival head t p (c ∷ bs) (suc k) b q at node e =
-      in_right (edge_if_node triggers (plain head c t p) ++ edge_if_node triggers (rival head (converse c) t p)) (of_body triggers head t (p + 1) bs) (rival head (converse b) t q)
-      (has_rival head t (p + 1) bs k b q at node (omega (arith, e)))
-
-  has_on : (head : Event) (t p : ℕ) (cs : List Cond) (k : ℕ) (b : Cond) (q : ℕ) → item_at cs k ≡ Some b → is_node triggers (turns_on b.fluent) ≡ true → p + k ≡ q
-      → Elem (of_settled triggers head t p cs) (rival head (turns_on b.fluent) t q)
-  has_on head t p [] k b q at node e = cc
-  has_on head t p (c ∷ cs) zero b q at node e =
-      let same : c ≡ b = item_is c b at in
-      let place : p ≡ q = omega (arith, e) in
-      in_left (edge_if_node triggers (rival head (turns_on c.fluent) t p) ++ edge_if_node triggers (rival head (turns_off c.fluent) t p)) (of_settled triggers head t (p + 1) cs) (rival head (turns_on b.fluent) t q)
-      (in_left (edge_if_node triggers (rival head (turns_on c.fluent) t p)) (edge_if_node triggers (rival head (turns_off c.fluent) t p)) (rival head (turns_on b.fluent) t q)
-      (subst (λ z. Elem (edge_if_node triggers (rival head (turns_on c.fluent) t p)) z) (λ i. rival head (turns_on (same i).fluent) t (place i)) (an_edge (rival head (turns_on c.fluent) t p) (subst (λ z. is_node triggers (turns_on z.fluent) ≡ true) (sym same) node))))
-  has_on head t p (c ∷ cs) (suc k) b q at node e =
-      in_right (edge_if_node triggers (rival head (turns_on c.fluent) t p) ++ edge_if_node triggers (rival head (turns_off c.fluent) t p)) (of_settled triggers head t (p + 1) cs) (rival head (turns_on b.fluent) t q)
-      (has_on head t (p + 1) cs k b q at node (omega (arith, e)))
-
-  has_off : (head : Event) (t p : ℕ) (cs : List Cond) (k : ℕ) (b : Cond) (q : ℕ) → item_at cs k ≡ Some b → is_node triggers (turns_off b.fluent) ≡ true → p + k ≡ q
-      → Elem (of_settled triggers head t p cs) (rival head (turns_off b.fluent) t q)
-  has_off head t p [] k b q at node e = cc
-  has_off head t p (c ∷ cs) zero b q at node e =
-      let same : c ≡ b = item_is c b at in
-      let place : p ≡ q = omega (arith, e) in
-      in_left (edge_if_node triggers (rival head (turns_on c.fluent) t p) ++ edge_if_node triggers (rival head (turns_off c.fluent) t p)) (of_settled triggers head t (p + 1) cs) (rival head (turns_off b.fluent) t q)
-      (in_right (edge_if_node triggers (rival head (turns_on c.fluent) t p)) (edge_if_node triggers (rival head (turns_off c.fluent) t p)) (rival head (turns_off b.fluent) t q)
-      (subst (λ z. Elem (edge_if_node triggers (rival head (turns_off c.fluent) t p)) z) (λ i. rival head (turns_off (same i).fluent) t (place i)) (an_edge (rival head (turns_off c.fluent) t p) (subst (λ z. is_node triggers (turns_off z.fluent) ≡ true) (sym same) node))))
-  has_off head t p (c ∷ cs) (suc k) b q at node e =
-      in_right (edge_if_node triggers (rival head (turns_on c.fluent) t p) ++ edge_if_node triggers (rival head (turns_off c.fluent) t p)) (of_settled triggers head t (p + 1) cs) (rival head (turns_off b.fluent) t q)
-      (has_off head t (p + 1) cs k b q at node (omega (arith, e)))
-
-  has_rule : (t : ℕ) (rs : List TriggerView) (k : ℕ) (r : TriggerView) (q : ℕ) (d : Dependency) → item_at rs k ≡ Some r → t + k ≡ q → Elem (of_trigger triggers q r) d → Elem (of_triggers triggers t rs) d
-  has_rule t [] k r q d at e m = cc
-  has_rule t (s ∷ rs) zero r q d at e m =
-      let same : r ≡ s = sym (item_is s r at) in
-      let number : q ≡ t = omega (arith, e) in
-      in_left (of_trigger triggers t s) (of_triggers triggers (t + 1) rs) d (subst (λ z. Elem (of_trigger triggers t z) d) same (subst (λ u. Elem (of_trigger triggers u r) d) number m))
-  has_rule t (s ∷ rs) (suc k) r q d at e m = in_right (of_trigger triggers t s) (of_triggers triggers (t + 1) rs) d (has_rule (t + 1) rs k r q d at (omega (arith, e)) m)
-
   due : (d : Dependency) → IsDependency triggers d → Elem (dependencies triggers) d
   due d h =
       let r : TriggerView = h.rule in
       let head : Event = r.head.event in
       let bodies : List Dependency = of_body triggers head d.trigger 0 r.events in
       let conds : List Dependency = of_settled triggers head d.trigger (length r.events) r.settled in
-      let placed : 0 + d.place ≡ d.place = omega arith in
       let edges : Elem (bodies ++ conds) d =
       elim h.cause [
         | inl b ↦ in_left bodies conds d (elim b.source [
           | inl s ↦ subst (λ z. Elem bodies z) (λ i. record { source = sym s.1 i; target = sym h.target i; conflict = sym s.0 i; trigger = d.trigger; place = d.place })
-              (has_plain head d.trigger 0 r.events d.place b.event d.place b.stands (subst (λ z. is_node triggers z ≡ true) s.1 h.from_node) placed)
+              (has_body head d.trigger r.events d.place b.event _ b.stands (first_there (agrees head d.trigger) (differs head d.trigger) d.place b.event (subst (λ z. is_node triggers z ≡ true) s.1 h.from_node)))
           | inr s ↦ subst (λ z. Elem bodies z) (λ i. record { source = sym s.1 i; target = sym h.target i; conflict = sym s.0 i; trigger = d.trigger; place = d.place })
-              (has_rival head d.trigger 0 r.events d.place b.event d.place b.stands (subst (λ z. is_node triggers z ≡ true) s.1 h.from_node) placed)
+              (has_body head d.trigger r.events d.place b.event _ b.stands (second_there (agrees head d.trigger) (differs head d.trigger) d.place b.event (subst (λ z. is_node triggers z ≡ true) s.1 h.from_node)))
         ])
         | inr c ↦ in_right bodies conds d (elim c.source [
           | inl s ↦ subst (λ z. Elem conds z) (λ i. record { source = sym s i; target = sym h.target i; conflict = sym c.conflict i; trigger = d.trigger; place = d.place })
-              (has_on head d.trigger (length r.events) r.settled c.number c.cond d.place c.stands (subst (λ z. is_node triggers z ≡ true) s h.from_node) (sym c.place))
+              (has_cond head d.trigger (length r.events) r.settled c.number c.cond d.place _ c.stands (sym c.place) (first_there (on head d.trigger) (off head d.trigger) d.place c.cond (subst (λ z. is_node triggers z ≡ true) s h.from_node)))
           | inr s ↦ subst (λ z. Elem conds z) (λ i. record { source = sym s i; target = sym h.target i; conflict = sym c.conflict i; trigger = d.trigger; place = d.place })
-              (has_off head d.trigger (length r.events) r.settled c.number c.cond d.place c.stands (subst (λ z. is_node triggers z ≡ true) s h.from_node) (sym c.place))
+              (has_cond head d.trigger (length r.events) r.settled c.number c.cond d.place _ c.stands (sym c.place) (second_there (on head d.trigger) (off head d.trigger) d.place c.cond (subst (λ z. is_node triggers z ≡ true) s h.from_node)))
         ])
       ] in
       let numbered : 0 + d.trigger ≡ d.trigger = omega arith in
-      has_rule 0 triggers d.trigger r d.trigger d h.stands numbered (subst (λ b. Elem (cond b (bodies ++ conds) []) d) (sym h.immediate) edges)
+      to_all (of_trigger triggers) (of_triggers triggers) (λ t r rs. refl) 0 triggers d.trigger r d.trigger d h.stands numbered (subst (λ b. Elem (cond b (bodies ++ conds) []) d) (sym h.immediate) edges)
 
 pub tells : (triggers : List TriggerView) (d : Dependency) → ((n : ℕ) × (item_at (dependencies triggers) n ≡ Some d)) ↔ IsDependency triggers d
 tells triggers d = (λ p. told triggers d (elem_at (dependencies triggers) p.0 d p.1), λ h. at_elem (dependencies triggers) d (due triggers d h))

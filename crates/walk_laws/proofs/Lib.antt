@@ -4,6 +4,8 @@ pub mod Listing
 pub mod Shortest
 pub mod Cutting
 pub mod Computing
+pub mod LeastCycle
+pub mod Roles
 pub mod Closing
 pub mod Climbing
 pub mod Bodies

@@ -1,5 +1,5 @@
 -- The walks that are listed: the first that ends at a goal is the least of its length.
-use Rattle.std.proofs.Common.{◌≡◌, ℕ, zero, suc, ◌+◌, ◌<◌, ◌≤◌, inl, inr, Bool, true, false, cond, ◌&&◌, List, [], ◌∷◌, ◌++◌, length, map, filter, flat_map, Option, Some, None, refl, sym, ◌∙◌, ap, subst, arith, add-zero, zero-add}
+use Rattle.std.proofs.Common.{◌≡◌, ℕ, zero, suc, ◌+◌, ◌<◌, ◌≤◌, inl, inr, Bool, true, false, cond, ◌&&◌, List, [], ◌∷◌, ◌++◌, length, map, filter, flat_map, Option, Some, None, refl, sym, ◌∙◌, ap, subst, arith, add-zero, zero-add, if◌then◌else◌}
 use Rattle.std.specs.List.{enumerate_from}
 use Rattle.std.specs.Option.{option_map}
 use Rattle.std.specs.Ordering.{nat_cmp, is_le, ordering_then}
@@ -20,7 +20,7 @@ first_append goal [] ys = refl
 first_append goal (w ∷ xs) ys = go (goal w.1) (first_append goal xs ys)
   where
     go : (b : Bool) → first_ending goal (xs ++ ys) ≡ or_else (first_ending goal xs) (first_ending goal ys)
-        → elim b [ true ↦ Some w.0 | false ↦ first_ending goal (xs ++ ys) ] ≡ or_else (elim b [ true ↦ Some w.0 | false ↦ first_ending goal xs ]) (first_ending goal ys)
+        → (if b then Some w.0 else first_ending goal (xs ++ ys)) ≡ or_else (if b then Some w.0 else first_ending goal xs) (first_ending goal ys)
     go true h = refl
     go false h = h
 
@@ -29,7 +29,7 @@ first_prefixed goal k [] = refl
 first_prefixed goal k (w ∷ ws) = go (goal w.1) (first_prefixed goal k ws)
   where
     go : (b : Bool) → first_ending goal (map (λ w. (k ∷ w.0, w.1)) ws) ≡ option_map (λ ns. k ∷ ns) (first_ending goal ws)
-        → elim b [ true ↦ Some (k ∷ w.0) | false ↦ first_ending goal (map (λ w. (k ∷ w.0, w.1)) ws) ] ≡ option_map (λ ns. k ∷ ns) (elim b [ true ↦ Some w.0 | false ↦ first_ending goal ws ])
+        → (if b then Some (k ∷ w.0) else first_ending goal (map (λ w. (k ∷ w.0, w.1)) ws)) ≡ option_map (λ ns. k ∷ ns) (if b then Some w.0 else first_ending goal ws)
     go true h = refl
     go false h = h
 
@@ -206,7 +206,7 @@ module _ {N : Type 0} (same : N → N → Bool) (apart : TellsApart same) (arcs 
       empty [] size = refl
       empty (m ∷ ns) size = refl
 
-      go : (b : Bool) → goal a ≡ b → Answers 0 a (elim b [ true ↦ Some [] | false ↦ None ])
+      go : (b : Bool) → goal a ≡ b → Answers 0 a (if b then Some [] else None)
       go true q = record { end = a; leads = refl; size = refl; reaches = q; least = λ ns b leads size g. empty ns size }
       go false q = λ ns b leads size g. false≢true (sym q ∙ ap goal (start ns b leads size) ∙ g)
   answers (suc n) a = one_more n a _ (begins n (answers n) a 0 arcs)

@@ -23,8 +23,9 @@ use Rattle.history_laws.proofs.OnItsWay.{pending_after_ask}
 use Rattle.duration_limits.specs.Since.{AgesView, since_in}
 use Rattle.session_table.specs.Tables.{NotBefore}
 use Rattle.time_engine.proofs.Booleans.{any-append, swap_last}
-use Rattle.why_check.specs.Kept.{due_in, table_in, IsReplay, IsAsked}
+use Rattle.why_check.specs.Kept.{due_in, table_in, IsAsked}
 use Rattle.why_check.specs.declared.replays.Replay.{Replay}
+use Rattle.why_check.proofs.Replaying.{IsReplay}
 
 abbrev any_of : Prioritised → List Prioritised → Bool
 any_of e = list_any (eq_by_cmp prioritised_cmp e)

@@ -17,7 +17,7 @@ use Rattle.gt_base.specs.declared.requests.Request.{Request}
 use Rattle.gtrbac_model.specs.Conflict.{Status}
 use Rattle.gtrbac_model.specs.Reply.{answer, unless, actor_causes}
 use Rattle.session_table.specs.Replies.{Answers, AnswersAt}
-use Rattle.why_check.specs.Kept.{IsAnswered, IsAnsweredAt}
+use Rattle.why_check.specs.Kept.{IsTableReply, IsAnsweredAt}
 use Rattle.gtrbac_model.proofs.Append.{append-nil}
 use Rattle.gtrbac_model.specs.Sessions.{Table, applied, owner_of}
 
@@ -62,7 +62,7 @@ refused_so (User u) a reply r e is = ap is_refusal (is ∙ e)
 refused_so Operator a reply r e is = ap is_refusal (is ∙ e)
 refused_so Nobody a reply r e is = ap is_refusal is
 
-pub refused_over : (tb : Table) (actor : Actor) (request : Request) (reply : Reply) (r : Refusal) → IsAnswered tb actor request reply → Answers tb actor request (Refused r) → is_refusal reply ≡ true
+pub refused_over : (tb : Table) (actor : Actor) (request : Request) (reply : Reply) (r : Refusal) → IsTableReply tb actor request reply → Answers tb actor request (Refused r) → is_refusal reply ≡ true
 refused_over tb actor request reply r a other = refused_so actor (answer a.policy (record a.point { table = tb }) actor request) reply r (other a.policy a.point) a.is
 
 pub refused_at : (edges : List HierEdge) (caps : List Caps) (s : Status) (now : ℕ) (tb : Table) (actor : Actor) (request : Request) (reply : Reply) (r : Refusal)
@@ -80,8 +80,8 @@ pub no_active : (w : RoleWalk) → is_refusal (Active w) ≡ true → ⊥
 no_active w e = cc
 
 -- the number that the session got
-pub same_number : (tb : Table) (u : UserId) (n k : SessionId) → IsAnswered tb (User u) OpenSession (Session n) → Answers tb (User u) OpenSession (Session k) → k ≡ n
+pub same_number : (tb : Table) (u : UserId) (n k : SessionId) → IsTableReply tb (User u) OpenSession (Session n) → Answers tb (User u) OpenSession (Session k) → k ≡ n
 same_number tb u n k a other = λ i. record { 0 = sym (ap number_of (a.is ∙ other a.policy a.point)) i }
 
-pub over_of_at : (edges : List HierEdge) (caps : List Caps) (s : Status) (now : ℕ) (tb : Table) (actor : Actor) (request : Request) (reply : Reply) → IsAnsweredAt edges caps s now tb actor request reply → IsAnswered tb actor request reply
+pub over_of_at : (edges : List HierEdge) (caps : List Caps) (s : Status) (now : ℕ) (tb : Table) (actor : Actor) (request : Request) (reply : Reply) → IsAnsweredAt edges caps s now tb actor request reply → IsTableReply tb actor request reply
 over_of_at edges caps s now tb actor request reply a = record { policy = record a.policy { edges = edges; caps = caps }; point = record a.point { now = now; status = s; table = tb }; is = a.is }

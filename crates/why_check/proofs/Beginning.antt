@@ -1,5 +1,5 @@
 -- The running state at the birth.
-use Rattle.std.proofs.Common.{◌≡◌, ℕ, ◌-◌, Bool, true, false, nat_le, nat_lt, ◌&&◌, List, [], ◌∷◌, ◌++◌, flat_map, IsTrue, refl, sym, ◌∙◌, ap, subst, arith}
+use Rattle.std.proofs.Common.{◌≡◌, ℕ, ◌-◌, Bool, true, false, nat_le, nat_lt, ◌&&◌, List, [], ◌∷◌, ◌++◌, flat_map, IsTrue, refl, sym, ◌∙◌, ap, subst, arith, if◌then◌else◌}
 use Rattle.std.specs.List.{list_any}
 use Rattle.std.specs.Ordering.{eq_by_cmp}
 use Rattle.std.proofs.lemmas.Bool.{ltb-true, leb-true}
@@ -19,14 +19,14 @@ use Rattle.duration_limits.proofs.Steps.{by_steps}
 use Rattle.session_table.specs.Tables.{NotBefore}
 use Rattle.why_check.specs.Certificates.{says_something}
 use Rattle.why_check.specs.Kept.{IsBegun}
-use Rattle.why_check.specs.Steps.{HasReached}
 use Rattle.why_check.specs.declared.replays.Replay.{Replay}
+use Rattle.why_check.proofs.Replaying.{HasReached}
 
 no_heads : (p : Policy) (birth : ℕ) (m : Model) (t : ℕ) (r : TriggerView) → known_head p birth m birth t r ≡ []
 no_heads p birth m t r = by (nat_lt 0 r.delay) (nat_lt birth (t - r.delay)) (nat_le (t - r.delay) birth) refl refl
   where
     by : (a b c : Bool) → nat_lt birth (t - r.delay) ≡ b → nat_le (t - r.delay) birth ≡ c
-        → ◌≡◌ {A = List Prioritised} (elim ((a && b) && c) [ true ↦ when (met r (m (t - r.delay)) (status p birth m (t - r.delay - 1))) r.head | false ↦ [] ]) []
+        → ◌≡◌ {A = List Prioritised} (if (a && b) && c then when (met r (m (t - r.delay)) (status p birth m (t - r.delay - 1))) r.head else []) []
     by true true true x y = absurd (omega (arith, ltb-true birth (t - r.delay) x, leb-true (t - r.delay) birth y))
     by true true false x y = refl
     by true false c x y = refl

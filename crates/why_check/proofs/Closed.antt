@@ -1,18 +1,18 @@
 -- What is due and what waits after an instant is closed.
 use Rattle.std.proofs.Common.{◌≡◌, ℕ, ◌≤◌, List, ◌++◌, flat_map, Result, Ok, Err, IfOk, OnOk, ap, ◌∙◌}
-use Rattle.gt_base.specs.Bounds.{last_minute}
 use Rattle.gt_base.specs.Held.{TriggerView}
 use Rattle.gt_base.specs.Happening.{HappenedView}
 use Rattle.gt_base.specs.declared.events.Prioritised.{Prioritised}
 use Rattle.gt_base.specs.declared.events.Signal.{Signal}
+use Rattle.gt_base.specs.declared.limits.TheConstants.{LAST_MINUTE}
 use Rattle.gtrbac_model.specs.Conflict.{Status}
 use Rattle.gtrbac_model.specs.Sessions.{Table}
 use Rattle.why_check.specs.Kept.{joins_at, with_signals}
 
 -- the heads that join are those of the set and of the triggers that these are
 pub joined : {T E : Type 0} (r : Result T E) (new old : ℕ → List Prioritised) (before : Status) (x y : HappenedView) (at : ℕ) (rs qs : List TriggerView)
-    → OnOk r ((k : ℕ) → k ≤ last_minute → new k ≡ old k ++ flat_map (joins_at before x at k) rs) → x ≡ y → rs ≡ qs
-    → OnOk r ((k : ℕ) → k ≤ last_minute → new k ≡ old k ++ flat_map (joins_at before y at k) qs)
+    → OnOk r ((k : ℕ) → k ≤ LAST_MINUTE → new k ≡ old k ++ flat_map (joins_at before x at k) rs) → x ≡ y → rs ≡ qs
+    → OnOk r ((k : ℕ) → k ≤ LAST_MINUTE → new k ≡ old k ++ flat_map (joins_at before y at k) qs)
 joined (Ok v) new old before x y at rs qs e f g = λ k within. e k within ∙ (λ i. old k ++ flat_map (joins_at before (f i) at k) (g i))
 joined (Err w) new old before x y at rs qs e f g = tt
 

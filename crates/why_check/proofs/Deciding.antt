@@ -16,11 +16,12 @@ use Rattle.gtrbac_model.specs.Status.{Model}
 use Rattle.gtrbac_model.specs.WholePolicy.{IsPolicy}
 use Rattle.gtrbac_model.proofs.Elements.{split}
 use Rattle.why_check.specs.Certificates.{Listed, Accepts}
-use Rattle.why_check.specs.Steps.{IsPlayed, IsReady, HasReached, counted}
+use Rattle.why_check.specs.Steps.{IsPlayed, IsReadyStep, held_count}
 use Rattle.why_check.specs.declared.checking.Held.{Held}
 use Rattle.why_check.specs.declared.checking.Held.TheVariants.{Listed as IsListed, Passed, Wrong}
 use Rattle.why_check.specs.declared.replays.Replay.{Replay}
 use Rattle.why_check.proofs.Reaching.{asked_so, head_of, whole, left_over, later, after_birth, passes, lists, refuses, asks}
+use Rattle.why_check.proofs.Replaying.{HasReached}
 
 head_drop : (xs : List Listed) (i : ℕ) → head_of (drop i xs) ≡ slice_get xs i
 head_drop [] zero = refl
@@ -36,7 +37,7 @@ taken xs i l e =
 module _ (p : Policy) (is : IsPolicy p) (safe : IsSafe p.triggers) (birth : ℕ) (h : List Entry) (m : Model) (legal : Legal p birth h m) (cert : List Listed) where
   -- one entry more, whose step is not wrong
   abbrev Goes : (place i : ℕ) (s s' : Replay) → Held → Type 0
-  Goes place i s s' held = HasReached p birth h m (take (i + 1) h) (take (place + counted held) cert) s' × (place + counted held ≤ length cert)
+  Goes place i s s' held = HasReached p birth h m (take (i + 1) h) (take (place + held_count held) cert) s' × (place + held_count held ≤ length cert)
 
   module _ (place i : ℕ) (within : place ≤ length cert) (s : Replay) (k : HasReached p birth h m (take i h) (take place cert) s) where
     step_goes : (who : Who) (w : Step) (rest : List Entry) → take i h ++ record { who = who; what = w } ∷ rest ≡ h → take (i + 1) h ≡ take i h ++ record { who = who; what = w } ∷ []
@@ -72,7 +73,7 @@ module _ (p : Policy) (is : IsPolicy p) (safe : IsSafe p.triggers) (birth : ℕ)
         (subst (Accepts p birth h) (sym (take-append-drop place cert)) good)
     step_refuses who (Ask actor request reply) rest cut s' played good = let clash : Wrong ≡ Passed = played.0 in cc
 
-    step_ready : (who : Who) (w : Step) (rest : List Entry) → take i h ++ record { who = who; what = w } ∷ rest ≡ h → s.table.begun < 2 ^ 32 - 1 → IsReady p s w
+    step_ready : (who : Who) (w : Step) (rest : List Entry) → take i h ++ record { who = who; what = w } ∷ rest ≡ h → s.table.begun < 2 ^ 32 - 1 → IsReadyStep p s w
     step_ready who (Tick upto to) rest cut few =
         (later p is safe birth h m legal (take i h) rest who upto to cut (take place cert) s k, omega (arith, k.replay.born, after_birth p is safe birth h m legal (take i h) rest who upto to cut (take place cert) s k), k.replay.charged)
     step_ready who (Ask actor request reply) rest cut few = (few, asked_so p birth h m legal (take i h) rest who actor request reply cut (take place cert) s k)
@@ -93,7 +94,7 @@ module _ (p : Policy) (is : IsPolicy p) (safe : IsSafe p.triggers) (birth : ℕ)
       step_refuses place i within s k e.who e.what (drop (suc i) h) (cut_at i e lt at) s'
       (subst (λ o. IsPlayed p s e.what o Wrong s') n (subst (λ x. IsPlayed p s e.what next x s') wrong played))
 
-  pub ready : (place i : ℕ) → place ≤ length cert → (s : Replay) → HasReached p birth h m (take i h) (take place cert) s → (e : Entry) → i < length h → e ≡ get_or h i e → length h ≤ 1_000_000 → IsReady p s e.what
+  pub ready : (place i : ℕ) → place ≤ length cert → (s : Replay) → HasReached p birth h m (take i h) (take place cert) s → (e : Entry) → i < length h → e ≡ get_or h i e → length h ≤ 1_000_000 → IsReadyStep p s e.what
   ready place i within s k e lt at few = step_ready place i within s k e.who e.what (drop (suc i) h) (cut_at i e lt at) (omega (arith, k.replay.few, few, lt, length-take-le i h (omega (arith, lt))))
 
   -- at the end the certificate is right exactly where nothing of it is left

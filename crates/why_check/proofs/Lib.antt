@@ -1,6 +1,7 @@
 pub mod Uniqueness
 pub mod Ascending
 pub mod Shown
+pub mod Replaying
 pub mod Stopping
 pub mod Answering
 pub mod Applying

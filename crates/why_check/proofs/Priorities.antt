@@ -1,5 +1,5 @@
 -- The priorities of the sets of a history of named moves.
-use Rattle.std.proofs.Common.{◌≡◌, inl, inr, ℕ, ◌+◌, ◌-◌, ◌≤◌, Bool, true, false, not, ◌&&◌, ◌||◌, List, [], ◌∷◌, ◌++◌, refl, sym, ◌∙◌, subst, arith}
+use Rattle.std.proofs.Common.{◌≡◌, inl, inr, ℕ, ◌+◌, ◌-◌, ◌≤◌, Bool, true, false, not, ◌&&◌, ◌||◌, List, [], ◌∷◌, ◌++◌, refl, sym, ◌∙◌, subst, arith, if◌then◌else◌}
 use Rattle.std.specs.Prelude.{flat_map, nat_eq, nat_le, nat_lt}
 use Rattle.std.specs.List.{list_all}
 use Rattle.std.proofs.lemmas.Bool.{false≢true, leb-true, ltb-true}
@@ -115,13 +115,10 @@ module _ (p : Policy) (good : IsPolicy p) where
 
   delayed_low : (birth : ℕ) (m : Model) (t : ℕ) (e : Prioritised) → Elem (delayed p birth m t) e → IsLow e
   delayed_low birth m t e there =
-      let (r, in_list, raised) = flat_elem (λ r. elim (nat_lt 0 r.delay && nat_lt birth (t - r.delay)) as (λ _. List Prioritised) [
-        | true ↦ when (met r (m (t - r.delay)) (status p birth m (t - r.delay - 1))) r.head
-        | false ↦ []
-      ]) p.triggers e there in
+      let (r, in_list, raised) = flat_elem (λ r. if nat_lt 0 r.delay && nat_lt birth (t - r.delay) then when (met r (m (t - r.delay)) (status p birth m (t - r.delay - 1))) r.head else []) p.triggers e there in
       by r (rule_head r in_list) (nat_lt 0 r.delay && nat_lt birth (t - r.delay)) raised
     where
-      by : (r : TriggerView) → IsLow r.head → (b : Bool) → Elem (elim b as (λ _. List Prioritised) [ true ↦ when (met r (m (t - r.delay)) (status p birth m (t - r.delay - 1))) r.head | false ↦ [] ]) e → IsLow e
+      by : (r : TriggerView) → IsLow r.head → (b : Bool) → Elem (if b then when (met r (m (t - r.delay)) (status p birth m (t - r.delay - 1))) r.head else []) e → IsLow e
       by r head true k = once _ r.head e head k
       by r head false k = elim k [ ]
 
@@ -186,6 +183,6 @@ priorities_are_low p good birth h m named legal t after now = set_low p good bir
 pub answers_are_low : AnswersAreLow
 answers_are_low p good birth h m named legal = by (nat_lt birth (now_of birth h)) refl
   where
-    by : (b : Bool) → nat_lt birth (now_of birth h) ≡ b → HasPriorities (elim b as (λ _. HappenedView) [ true ↦ m (now_of birth h) | false ↦ nothing ])
+    by : (b : Bool) → nat_lt birth (now_of birth h) ≡ b → HasPriorities (if b then m (now_of birth h) else nothing)
     by true is = priorities_are_low p good birth h m named legal (now_of birth h) (ltb-true birth (now_of birth h) is) (omega arith)
     by false is = nothing_low

@@ -3,7 +3,6 @@ use Rattle.std.proofs.Common.{◌≡◌, ℕ, ◌-◌, ◌<◌, ◌≤◌, true,
 use Rattle.std.specs.Prelude.{All}
 use Rattle.std.proofs.lemmas.Bool.{ltb-true, leb-true, leb-false, eqb-true, eqb-false}
 use Rattle.std.proofs.lemmas.List.Elements.{All-push, All-tail, All-head}
-use Rattle.gt_base.specs.Bounds.{last_minute}
 use Rattle.gt_base.specs.Happening.{HappenedView, nothing}
 use Rattle.gt_base.specs.Machines.{ticked, asked}
 use Rattle.gt_base.specs.declared.events.Signal.{Signal}
@@ -13,6 +12,7 @@ use Rattle.gt_base.specs.declared.requests.Actor.{Actor}
 use Rattle.gt_base.specs.declared.requests.Request.{Request}
 use Rattle.gt_base.specs.declared.requests.Reply.{Reply}
 use Rattle.gt_base.specs.declared.requests.Entry.{Entry}
+use Rattle.gt_base.specs.declared.limits.TheConstants.{LAST_MINUTE}
 use Rattle.gtrbac_model.specs.Policy.{Policy}
 use Rattle.gtrbac_model.specs.Base.{status, base_at, table_at}
 use Rattle.gtrbac_model.specs.History.{Legal, now_of, point_after}
@@ -24,14 +24,15 @@ use Rattle.gtrbac_model.proofs.Elements.{split}
 use Rattle.gtrbac_model.proofs.Playing.{now_snoc}
 use Rattle.history_laws.proofs.Lasting.{of_longer, front_steps, steps_after}
 use Rattle.session_table.specs.Tables.{table_of}
-use Rattle.why_check.specs.Certificates.{Listed, set_in, says_something, listed_at, Ascends, IsShown, IsRight, Accepts}
-use Rattle.why_check.specs.Kept.{IsReplay, IsAnsweredAt, table_in, IsClosed, IsAsked, IsGood, base_in}
-use Rattle.why_check.specs.Steps.{IsWrong, HasReached}
+use Rattle.why_check.specs.Certificates.{Listed, set_in, says_something, listed_at, ListedAscend, IsShown, IsRight, Accepts}
+use Rattle.why_check.specs.Kept.{IsAnsweredAt, table_in, IsClosed, IsAsked, IsGood, base_in}
+use Rattle.why_check.specs.Steps.{IsWrong}
 use Rattle.why_check.specs.declared.replays.Replay.{Replay}
 use Rattle.why_check.proofs.Uniqueness.{right_is, right_of, accepts_of, shown_over_nothing}
 use Rattle.why_check.proofs.Ascending.{at_first, none_before, none_after, later_than, listed_there, not_in_front, rest_decides, back, ascends_more, ascends_on, front_stays}
 use Rattle.why_check.proofs.Stopping as stopping
 use Rattle.why_check.proofs.Answering.{replay_asked}
+use Rattle.why_check.proofs.Replaying.{IsReplay, HasReached}
 
 -- the history up to an entry is legal
 pub legal_front : (p : Policy) (birth : ℕ) (m : Model) (g rest : List Entry) (e : Entry) → Legal p birth (g ++ e ∷ rest) m → Legal p birth (g ++ e ∷ []) m
@@ -150,7 +151,7 @@ module _ (p : Policy) (is : IsPolicy p) (safe : IsSafe p.triggers) (birth : ℕ)
     replay_more : (s' : Replay) (x : HappenedView) → x ≡ m to → IsClosed p s x to s' → IsReplay p birth (g ++ e ∷ []) m s'
     replay_more s' x set c = stopping.replay_ticked p is birth m g rest who upto to legal_cut s k.replay s' x set c (legal_front p birth m g rest e legal_cut)
 
-    module _ (within : to ≤ last_minute) where
+    module _ (within : to ≤ LAST_MINUTE) where
       base_is : base_at p birth m h to ≡ base_in p s to
       base_is = subst (λ x. base_at p birth m x to ≡ base_in p s to) cut (stopping.base_is p is birth m g rest who upto to legal_cut s k.replay within)
 
@@ -179,7 +180,7 @@ module _ (p : Policy) (is : IsPolicy p) (safe : IsSafe p.triggers) (birth : ℕ)
           record {
             replay = replay_more s' (set_in l) (right_is p is safe birth h m legal.model to after_birth reached (Some l) shown) c;
             born = omega (arith, after_birth, now_to);
-            ascends = subst (λ u. Ascends birth u (front ++ l ∷ [])) (good.at ∙ sym now_to) (ascends_more birth (now_of birth g) front l k.ascends k.born (omega (arith, later, now_is, good.at)));
+            ascends = subst (λ u. ListedAscend birth u (front ++ l ∷ [])) (good.at ∙ sym now_to) (ascends_more birth (now_of birth g) front l k.ascends k.born (omega (arith, later, now_is, good.at)));
             some = All-push (λ x. IsTrue (says_something x)) front l k.some good.says;
             right = λ t a b.
                 split (nat_eq t to)
@@ -229,7 +230,7 @@ module _ (p : Policy) (is : IsPolicy p) (safe : IsSafe p.triggers) (birth : ℕ)
                 ]
           ]
         where
-          none_later : (ls : List Listed) (l : Listed) → to < l.at → Ascends l.at (now_of birth h) ls → listed_at (l ∷ ls) to ≡ None
+          none_later : (ls : List Listed) (l : Listed) → to < l.at → ListedAscend l.at (now_of birth h) ls → listed_at (l ∷ ls) to ≡ None
           none_later ls l lt more = rest_decides (l ∷ []) ls to (at_other lt) ∙ none_before l.at (now_of birth h) to ls more (omega (arith, lt))
             where
               at_other : to < l.at → listed_at (l ∷ []) to ≡ None
@@ -244,7 +245,7 @@ module _ (p : Policy) (is : IsPolicy p) (safe : IsSafe p.triggers) (birth : ℕ)
       record {
         replay = replay_asked p birth m g who actor request reply (legal_front p birth m g rest e (subst (λ x. Legal p birth x m) (sym cut) legal)) s s' k.replay c;
         born = omega (arith, k.born, stays);
-        ascends = subst (λ u. Ascends birth u front) stays k.ascends;
+        ascends = subst (λ u. ListedAscend birth u front) stays k.ascends;
         some = k.some;
         right = λ t a b. k.right t a (omega (arith, b, stays));
       }

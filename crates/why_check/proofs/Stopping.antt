@@ -1,9 +1,8 @@
 -- The running state at a tick: the base of its stop, and the state after it.
-use Rattle.std.proofs.Common.{◌≡◌, ℕ, suc, ◌+◌, ◌-◌, ◌<◌, ◌≤◌, Bool, true, false, cond, nat_eq, nat_le, nat_lt, ◌&&◌, ◌||◌, List, [], ◌∷◌, ◌++◌, length, flat_map, inl, inr, refl, sym, ◌∙◌, ap, subst, arith, length-append, append_assoc}
+use Rattle.std.proofs.Common.{◌≡◌, ℕ, suc, ◌+◌, ◌-◌, ◌<◌, ◌≤◌, Bool, true, false, cond, nat_eq, nat_le, nat_lt, ◌&&◌, ◌||◌, List, [], ◌∷◌, ◌++◌, length, flat_map, inl, inr, refl, sym, ◌∙◌, ap, subst, arith, length-append, append_assoc, if◌then◌else◌}
 use Rattle.std.specs.List.{list_any}
 use Rattle.std.specs.Ordering.{eq_by_cmp}
 use Rattle.std.proofs.lemmas.Bool.{leb-true, eqb-true, eqb-false, eq-eqb, ne_eqb}
-use Rattle.gt_base.specs.Bounds.{last_minute}
 use Rattle.gt_base.specs.Held.{TriggerView}
 use Rattle.gt_base.specs.Happening.{HappenedView, nothing}
 use Rattle.gt_base.specs.Machines.{ticked}
@@ -17,6 +16,7 @@ use Rattle.gt_base.specs.declared.requests.Entry.{Entry}
 use Rattle.gt_base.proofs.OrderLaws.{prioritised_cmp-IsAntisymmetric}
 use Rattle.gt_base.proofs.SetLaws.{same_sets, has-set_of}
 use Rattle.gt_base.proofs.SetSteps.{prioritised_cmp_total}
+use Rattle.gt_base.specs.declared.limits.TheConstants.{LAST_MINUTE}
 use Rattle.gtrbac_model.specs.Policy.{Policy}
 use Rattle.gtrbac_model.specs.Base.{status, base_at, raised_at, signals_at, drops_at, table_at, periodic, limited, requested, when}
 use Rattle.gtrbac_model.specs.Conflict.{Status, after}
@@ -42,8 +42,9 @@ use Rattle.session_table.specs.Tables.{NotBefore, table_of, closed_at}
 use Rattle.session_table.proofs.Closing.{stretches_close}
 use Rattle.time_engine.proofs.Booleans.{any-append, is_false, clash}
 use Rattle.time_engine.proofs.WaitingLaws.{table_later}
-use Rattle.why_check.specs.Kept.{due_in, waiting_for, raised_in, base_in, table_in, IsReplay, joins_at, IsClosed}
+use Rattle.why_check.specs.Kept.{due_in, waiting_for, raised_in, base_in, table_in, joins_at, IsClosed}
 use Rattle.why_check.specs.declared.replays.Replay.{Replay}
+use Rattle.why_check.proofs.Replaying.{IsReplay}
 
 abbrev any_of : Prioritised → List Prioritised → Bool
 any_of e = list_any (eq_by_cmp prioritised_cmp e)
@@ -58,15 +59,15 @@ last_false true b c e = cc
 last_false false true c e = cc
 
 waiting_next : (now t : ℕ) (w : List Signal) → t ≡ now + 1 → waiting_for now w t ≡ w
-waiting_next now t w at = λ i. elim (eq-eqb t (now + 1) at i) [ true ↦ w | false ↦ [] ]
+waiting_next now t w at = λ i. if eq-eqb t (now + 1) at i then w else []
 
 waiting_other : (now t : ℕ) (w : List Signal) → (t ≡ now + 1 → ⊥) → waiting_for now w t ≡ []
-waiting_other now t w ne = λ i. elim (ne_eqb t (now + 1) ne i) [ true ↦ w | false ↦ [] ]
+waiting_other now t w ne = λ i. if ne_eqb t (now + 1) ne i then w else []
 
 -- the heads that one trigger has on their way to t after the stop, those before and the one that joins
 module _ (p : Policy) (birth : ℕ) (m : Model) (now to t : ℕ) (e : Prioritised) (lt : now < to) (past : to < t) (before : Status) (st : status p birth m (to - 1) ≡ before) where
   one_joins : (r : TriggerView)
-      → known_head p birth m to t r ≡ elim (nat_lt 0 r.delay && nat_eq (t - r.delay) to) [ true ↦ when (met r (m to) (status p birth m (to - 1))) r.head | false ↦ known_head p birth m now t r ]
+      → known_head p birth m to t r ≡ (if nat_lt 0 r.delay && nat_eq (t - r.delay) to then when (met r (m to) (status p birth m (to - 1))) r.head else known_head p birth m now t r)
       → (any_of e (known_head p birth m now t r) || any_of e (joins_at before (m to) to t r)) ≡ any_of e (known_head p birth m to t r)
   one_joins r heads = by (nat_lt 0 r.delay && nat_eq (t - r.delay) to) refl ∙ ap (any_of e) (sym heads)
     where
@@ -76,8 +77,8 @@ module _ (p : Policy) (birth : ℕ) (m : Model) (now to t : ℕ) (e : Prioritise
       at_now : u ≡ to → known_head p birth m now t r ≡ []
       at_now at = gone (nat_lt 0 r.delay && nat_lt birth u) (nat_le u now) (is_false (nat_le u now) (λ q. omega (arith, at, lt, leb-true u now q))) (when (met r (m u) (status p birth m (u - 1))) r.head)
         where
-          gone : (a b : Bool) → b ≡ false → (ys : List Prioritised) → ◌≡◌ {A = List Prioritised} (elim (a && b) [ true ↦ ys | false ↦ [] ]) []
-          gone true b q ys = λ i. elim (q i) [ true ↦ ys | false ↦ [] ]
+          gone : (a b : Bool) → b ≡ false → (ys : List Prioritised) → ◌≡◌ {A = List Prioritised} (if a && b then ys else []) []
+          gone true b q ys = λ i. (if q i then ys else [])
           gone false b q ys = refl
 
       or_false : (b : Bool) → (b || false) ≡ b
@@ -85,7 +86,7 @@ module _ (p : Policy) (birth : ℕ) (m : Model) (now to t : ℕ) (e : Prioritise
       or_false false = refl
 
       by : (b : Bool) → (nat_lt 0 r.delay && nat_eq u to) ≡ b
-          → (any_of e (known_head p birth m now t r) || any_of e (joins_at before (m to) to t r)) ≡ any_of e (elim b [ true ↦ when (met r (m to) (status p birth m (to - 1))) r.head | false ↦ known_head p birth m now t r ])
+          → (any_of e (known_head p birth m now t r) || any_of e (joins_at before (m to) to t r)) ≡ any_of e (if b then when (met r (m to) (status p birth m (to - 1))) r.head else known_head p birth m now t r)
       by true q =
           let parts = both_true (nat_lt 0 r.delay) (nat_eq u to) q in
           let at : u ≡ to = eqb-true u to parts.1 in
@@ -180,7 +181,7 @@ module _ (p : Policy) (is : IsPolicy p) (birth : ℕ) (m : Model) (g rest : List
       pending_is_raised p is birth g m to (λ u a b. quiet u (omega (arith, a, r.now)) b)
       ∙ (λ i. (periodic p birth to ++ pending p birth m g to) ++ limited p (status_before i) (since_before i) to)
 
-  raised_listed : to ≤ last_minute → (x : Prioritised) → any_of x (raised_at p birth m g to) ≡ any_of x (raised_in p s to)
+  raised_listed : to ≤ LAST_MINUTE → (x : Prioritised) → any_of x (raised_at p birth m g to) ≡ any_of x (raised_in p s to)
   raised_listed within x =
       let ps : List Prioritised = periodic p birth to in
       let ls : List Prioritised = limited p (has s.status.set) (since_in s.ages) to in
@@ -226,7 +227,7 @@ module _ (p : Policy) (is : IsPolicy p) (birth : ℕ) (m : Model) (g rest : List
       ∙ sym (waiting_other s.present to s.waiting.items apart))
 
   -- the base of the stop is the one that the state says
-  pub base_is : to ≤ last_minute → base_at p birth m h to ≡ base_in p s to
+  pub base_is : to ≤ LAST_MINUTE → base_at p birth m h to ≡ base_in p s to
   base_is within =
       let events : set_of (raised_at p birth m g to) ≡ set_of {R = prioritised_cmp} (raised_in p s to) =
       same_sets prioritised_cmp_total prioritised_cmp-IsAntisymmetric _ _
@@ -256,7 +257,7 @@ module _ (p : Policy) (is : IsPolicy p) (birth : ℕ) (m : Model) (g rest : List
         ∙ stretch.closes
         ∙ (λ i. closed_at p.edges p.caps (λ f. sym (status_same f) i) (sym r.now i) to (table_now i))
 
-    due_same : (t : ℕ) (y : Prioritised) → to < t → t ≤ last_minute → any_of y (due_in s' t) ≡ any_of y (pending p birth m (g ++ e ∷ []) t)
+    due_same : (t : ℕ) (y : Prioritised) → to < t → t ≤ LAST_MINUTE → any_of y (due_in s' t) ≡ any_of y (pending p birth m (g ++ e ∷ []) t)
     due_same t y past within =
         let n : ℕ = now_of birth g in
         let old : List Prioritised = flat_map (known_head p birth m n t) p.triggers in

@@ -26,7 +26,7 @@ use Rattle.gtrbac_model.proofs.Quiet as quiet
 use Rattle.gtrbac_model.proofs.Uniqueness.{settles_to_one}
 use Rattle.walk_laws.proofs.Climbing.{safe_is_levelled}
 use Rattle.history_laws.proofs.Quieting.{settles_nothing}
-use Rattle.why_check.specs.Certificates.{Listed, set_in, set_at, says_something, listed_at, model_in, Ascends, IsShown, IsRight, Accepts}
+use Rattle.why_check.specs.Certificates.{Listed, set_in, set_at, says_something, listed_at, model_in, ListedAscend, IsShown, IsRight, Accepts}
 use Rattle.why_check.specs.Laws.{AcceptedIsModel, AcceptedIsTheModel, AcceptedTells}
 
 shown_settled : (rules : List TriggerView) (base : HappenedView) (s : Status) (l : Listed) → IsShown rules base s l → Settled rules base s (set_in l)
@@ -92,7 +92,7 @@ module _ (p : Policy) (is : IsPolicy p) (safe : IsSafe p.triggers) (birth : ℕ)
       settles_to_one p.triggers (base_at p birth m h t) (status p birth m (t - 1)) levels.0 (by_trigger p.triggers levels.0 levels.1) (set_at o) (m t)
       (right_settled p is (base_at p birth m h t) (status p birth m (t - 1)) o right) (of_m t a b)
 
-  pub accepts_of : (cert : List Listed) → Ascends birth (now_of birth h) cert → All (λ l. IsTrue (says_something l)) cert → AllRight (now_of birth h) cert → Accepts p birth h cert
+  pub accepts_of : (cert : List Listed) → ListedAscend birth (now_of birth h) cert → All (λ l. IsTrue (says_something l)) cert → AllRight (now_of birth h) cert → Accepts p birth h cert
   accepts_of cert ascends some right = record {
     ascends = ascends;
     some = some;

@@ -1,5 +1,5 @@
 -- Certificates: what is said to happen at each instant of a history, in an order that shows why.
-use Rattle.std.specs.Prelude.{◌≡◌, ℕ, ◌-◌, ◌<◌, ◌≤◌, Bool, true, false, ◌||◌, nat_eq, List, [], ◌∷◌, Option, Some, None, IsTrue, All}
+use Rattle.std.specs.Prelude.{◌≡◌, ℕ, ◌-◌, ◌<◌, ◌≤◌, Bool, ◌||◌, nat_eq, List, [], ◌∷◌, Option, Some, None, IsTrue, All, if◌then◌else◌}
 use Rattle.gt_base.specs.Held.{TriggerView}
 use Rattle.gt_base.specs.Happening.{HappenedView, nothing}
 use Rattle.gt_base.specs.Sets.{set_of}
@@ -30,7 +30,7 @@ says_something l = is_some_item l.events || is_some_item l.signals
 -- what the certificate lists at an instant
 abbrev pub listed_at : List Listed → ℕ → Option Listed
 listed_at [] t = None
-listed_at (l ∷ ls) t = elim (nat_eq l.at t) [ true ↦ Some l | false ↦ listed_at ls t ]
+listed_at (l ∷ ls) t = if nat_eq l.at t then Some l else listed_at ls t
 
 -- the certificate as a model: nothing at an instant that it does not list
 abbrev pub set_at : Option Listed → HappenedView
@@ -41,9 +41,9 @@ abbrev pub model_in : List Listed → Model
 model_in cert t = set_at (listed_at cert t)
 
 -- the instants ascend, after the first and up to the last
-abbrev pub Ascends : ℕ → ℕ → List Listed → Type 0
-Ascends first last [] = Unit {0}
-Ascends first last (l ∷ ls) = (first < l.at) × (l.at ≤ last) × Ascends l.at last ls
+abbrev pub ListedAscend : ℕ → ℕ → List Listed → Type 0
+ListedAscend first last [] = Unit {0}
+ListedAscend first last (l ∷ ls) = (first < l.at) × (l.at ≤ last) × ListedAscend l.at last ls
 
 -- the set is closed over the base, its signals are those of the base, and its order supports it
 pub record IsShown (rules : List TriggerView) (base : HappenedView) (s : Status)
@@ -60,7 +60,7 @@ IsRight rules base s (Some l) = IsShown rules base s l
 -- the certificate is one of the history: each minute is right over its base and the status that the
 -- sets before it make
 pub record Accepts (p : Policy) (birth : ℕ) (h : List Entry) (cert : List Listed) : Type 0 where
-  pub ascends : Ascends birth (now_of birth h) cert
+  pub ascends : ListedAscend birth (now_of birth h) cert
   pub some : All (λ l. IsTrue (says_something l)) cert
   pub minutes : (t : ℕ) → birth < t → t ≤ now_of birth h
       → IsRight p.triggers (base_at p birth (model_in cert) h t)

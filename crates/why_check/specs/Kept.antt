@@ -1,11 +1,7 @@
 -- The running state of the checker, and what it says of a history.
-use Rattle.std.specs.Prelude.{◌≡◌, ℕ, ◌+◌, ◌<◌, ◌≤◌, true, false, ◌&&◌, nat_eq, nat_lt, List, [], ◌++◌, flat_map, length, Option, Some, None, IsTrue, if◌then◌else◌}
-use Rattle.std.specs.List.{list_any}
-use Rattle.std.specs.Ordering.{eq_by_cmp}
-use Rattle.gt_base.specs.Bounds.{last_minute}
+use Rattle.std.specs.Prelude.{◌≡◌, ℕ, ◌+◌, ◌<◌, ◌≤◌, ◌&&◌, nat_eq, nat_lt, List, [], ◌++◌, flat_map, Option, Some, None, IsTrue, if◌then◌else◌}
 use Rattle.gt_base.specs.Held.{TriggerView}
 use Rattle.gt_base.specs.Happening.{HappenedView}
-use Rattle.gt_base.specs.Orders.{prioritised_cmp}
 use Rattle.gt_base.specs.Sets.{has, set_of}
 use Rattle.gt_base.specs.declared.events.Fluent.{Fluent}
 use Rattle.gt_base.specs.declared.events.Prioritised.{Prioritised}
@@ -15,19 +11,17 @@ use Rattle.gt_base.specs.declared.policies.Caps.{Caps}
 use Rattle.gt_base.specs.declared.requests.Actor.{Actor}
 use Rattle.gt_base.specs.declared.requests.Request.{Request}
 use Rattle.gt_base.specs.declared.requests.Reply.{Reply}
-use Rattle.gt_base.specs.declared.requests.Entry.{Entry}
+use Rattle.gt_base.specs.declared.limits.TheConstants.{LAST_MINUTE}
 use Rattle.gtrbac_model.specs.Policy.{Policy}
-use Rattle.gtrbac_model.specs.Base.{status, table_at, periodic, limited, queued_at, when}
+use Rattle.gtrbac_model.specs.Base.{periodic, limited, queued_at, when}
 use Rattle.gtrbac_model.specs.Conflict.{Status, after}
-use Rattle.gtrbac_model.specs.History.{now_of}
 use Rattle.gtrbac_model.specs.Reply.{Point, reply_of}
 use Rattle.gtrbac_model.specs.Sessions.{Table, applied, empty_table}
-use Rattle.gtrbac_model.specs.Status.{Model, since, differ}
+use Rattle.gtrbac_model.specs.Status.{differ}
 use Rattle.gtrbac_model.specs.Trigger.{met}
-use Rattle.history_laws.specs.Pending.{pending}
 use Rattle.duration_limits.specs.Since.{since_in}
 use Rattle.indexmap.specs.IndexMap.{get}
-use Rattle.session_table.specs.Tables.{NotBefore, table_of, closed_at}
+use Rattle.session_table.specs.Tables.{table_of, closed_at}
 use Rattle.why_check.specs.Certificates.{Listed, says_something, IsShown}
 use Rattle.why_check.specs.declared.replays.Replay.{Replay}
 
@@ -41,7 +35,7 @@ due_in s t = under (get nat_eq s.due t) (λ v. v.items)
 
 -- signals stand in the base of the next minute alone
 abbrev pub waiting_for : ℕ → List Signal → ℕ → List Signal
-waiting_for now waiting t = elim (nat_eq t (now + 1)) [ true ↦ waiting | false ↦ [] ]
+waiting_for now waiting t = if nat_eq t (now + 1) then waiting else []
 
 -- the base of a later instant before which nothing happens
 abbrev pub raised_in : Policy → Replay → ℕ → List Prioritised
@@ -61,20 +55,6 @@ with_signals tb waiting = record tb { signals = waiting }
 abbrev pub table_in : Replay → Table
 table_in s = record (table_of s.table) { signals = s.waiting.items }
 
--- what the state says is what the model says at the now of these entries
-pub record IsReplay (p : Policy) (birth : ℕ) (g : List Entry) (m : Model)
-    (s : Replay) : Type 0 where
-  pub now : s.present ≡ now_of birth g
-  pub born : s.ages.birth ≡ birth
-  pub status : (f : Fluent) → has s.status.set f ≡ status p birth m s.present f
-  pub since : (f : Fluent) → since_in s.ages f ≡ since p birth m f s.present
-  pub due : (t : ℕ) (e : Prioritised) → s.present < t → t ≤ last_minute
-      → list_any (eq_by_cmp prioritised_cmp e) (due_in s t)
-      ≡ list_any (eq_by_cmp prioritised_cmp e) (pending p birth m g t)
-  pub table : table_in s ≡ table_at p birth m g s.present
-  pub charged : NotBefore s.table.charged_to s.present
-  pub few : s.table.begun ≤ length g
-
 -- the state at the birth
 pub record IsBegun (p : Policy) (birth : ℕ) (s : Replay) : Type 0 where
   pub now : s.present ≡ birth
@@ -86,7 +66,7 @@ pub record IsBegun (p : Policy) (birth : ℕ) (s : Replay) : Type 0 where
   pub charged : s.table.charged_to ≡ None
 
 -- the request is answered so over this table, the signals that wait left out
-pub record IsAnswered (tb : Table) (actor : Actor) (request : Request)
+pub record IsTableReply (tb : Table) (actor : Actor) (request : Request)
     (reply : Reply) : Type 0 where
   pub policy : Policy
   pub point : Point
@@ -113,7 +93,7 @@ pub record IsClosed (p : Policy) (s : Replay) (x : HappenedView) (to : ℕ)
   pub status : (f : Fluent) → has s'.status.set f ≡ after x (has s.status.set) f
   pub since : (f : Fluent) → since_in s'.ages f
       ≡ (if differ (has s'.status.set f) (has s.status.set f) then to else since_in s.ages f)
-  pub due : (t : ℕ) → t ≤ last_minute
+  pub due : (t : ℕ) → t ≤ LAST_MINUTE
       → due_in s' t ≡ due_in s t ++ flat_map (joins_at (has s.status.set) x to t) p.triggers
   pub table : table_in s' ≡ closed_at p.edges p.caps (has s'.status.set) s.present to
       (table_of s.table)

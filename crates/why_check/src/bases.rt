@@ -1,7 +1,7 @@
 //! The base of an instant, from the running state, and what comes to be due.
 ghost use Rattle.std.specs.Prelude.{◌≡◌, ℕ, ◌<◌, ◌≤◌, ◌++◌, [], ◌∷◌, cond, nat_eq, flat_map, IfOk, OnOk};
-ghost use Rattle.gt_base.specs.Bounds.{last_minute};
 ghost use Rattle.gt_base.specs.Sets.{has};
+ghost use Rattle.gt_base.specs.declared.limits.TheConstants.{LAST_MINUTE};
 ghost use Rattle.duration_limits.specs.Aged.{minute_after};
 ghost use Rattle.gtrbac_model.specs.Base.{queued_at};
 ghost use Rattle.indexmap.specs.IndexMap.{get};
@@ -121,7 +121,7 @@ pub(crate) fn put_heads(
     before: &Status,
     at: Instant,
 ) -> Result<(), Memory>
-    ensures { OnOk result ((k : ℕ) → k ≤ last_minute
+    ensures { OnOk result ((k : ℕ) → k ≤ LAST_MINUTE
         → under (get nat_eq due.new k) (λ v. v.items) ≡ under (get nat_eq due.old k) (λ v. v.items)
         ++ flat_map (joins_at (has before.now.set) x.now at k) rules.now) }
 {
@@ -140,7 +140,7 @@ fn put_head(
     before: &Status,
     at: Instant,
 ) -> Result<(), Memory>
-    ensures { OnOk result ((k : ℕ) → k ≤ last_minute
+    ensures { OnOk result ((k : ℕ) → k ≤ LAST_MINUTE
         → under (get nat_eq due.new k) (λ v. v.items) ≡ under (get nat_eq due.old k) (λ v. v.items)
         ++ joins_at (has before.now.set) x.now at k r.now) }
 {

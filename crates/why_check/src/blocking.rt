@@ -3,7 +3,7 @@ ghost use Rattle.std.specs.Prelude.{◌≡◌, cond, Some, IfOk, OnOk};
 ghost use Rattle.gt_base.specs.declared.events.Event.{Event as EventOf};
 ghost use Rattle.gt_base.specs.Happening.{HappenedView};
 ghost use Rattle.gt_base.specs.Sets.{members};
-ghost use Rattle.gtrbac_model.specs.Conflict.{blocked as is_blocked};
+ghost use Rattle.gtrbac_model.specs.Conflict.{blocked};
 ghost use Rattle.indexmap.specs.IndexMap.{get};
 ghost use Rattle.trigger_rules.specs.Indexed.{event_eq};
 ghost use Rattle.why_check.specs.Peaks.{ArePeaks, peak_with, beaten_from};
@@ -35,7 +35,7 @@ impl Peaks {
     /// Whether the event, at its priority, is blocked in each set whose events have these peaks.
     pub fn blocks(&self, e: &Prioritised) -> bool
         ensures { (x : HappenedView) → ArePeaks (members x.events) self.now
-            → result ≡ is_blocked x e.now }
+            → result ≡ blocked x e.now }
     {
         let against = self.greatest.get(&e.event.converse()).copied();
         is_beaten(e.event.on, e.prio.get(), against)

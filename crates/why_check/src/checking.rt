@@ -1,13 +1,13 @@
 //! Checking a certificate: the entries are played once, and at each instant at which a tick stopped
 //! the listed set is held against the definitions.
 ghost use Rattle.std.specs.Prelude.{Option as OptionOf, ◌≡◌, ◌<◌, ◌≤◌, ◌↔◌, IsTrue, length, slice_get, Some, IfOk, OnOk};
-ghost use Rattle.gt_base.specs.Bounds.{max_steps};
 ghost use Rattle.gt_base.specs.Sets.{has};
+ghost use Rattle.gt_base.specs.declared.limits.TheConstants.{MAX_STEPS};
 ghost use Rattle.gtrbac_model.specs.Safety.{IsSafe};
 ghost use Rattle.session_table.specs.Tables.{NotBefore};
-ghost use Rattle.why_check.specs.Certificates.{Listed as ListedOf, Accepts, IsLegal, set_in, says_something as says};
+ghost use Rattle.why_check.specs.Certificates.{Listed as ListedOf, Accepts, IsLegal, set_in, says_something};
 ghost use Rattle.why_check.specs.Kept.{base_in, IsBegun, IsClosed, IsGood, IsLater};
-ghost use Rattle.why_check.specs.Steps.{IsReady, IsHeld, IsPlayed, counted};
+ghost use Rattle.why_check.specs.Steps.{IsReadyStep, IsHeld, IsPlayed, held_count};
 
 use crate::bases::base;
 use crate::certificates::{Cert, Listing};
@@ -50,7 +50,7 @@ pub fn accept(
 ) -> Result<bool, Memory>
     requires legal { IsLegal policy.now.policy birth entries.now.items }
     requires safe { IsSafe policy.now.policy.triggers }
-    requires few { length entries.now.items ≤ max_steps }
+    requires few { length entries.now.items ≤ MAX_STEPS }
     ensures { IfOk result (λ yes. IsTrue yes ↔ Accepts policy.now.policy birth entries.now.items
         cert.now) }
 {
@@ -82,7 +82,7 @@ fn is_wrong(held: Held) -> bool
 
 /// How many listings were held against the step.
 fn count(held: Held) -> usize
-    ensures { result ≡ counted held }
+    ensures { result ≡ held_count held }
 {
     match held {
         Held::Listed => 1,
@@ -113,12 +113,13 @@ fn step(
     cert: &Cert,
     place: usize,
 ) -> Result<Held, Memory>
-    requires { IsReady by.now.policy.now.policy s.old entry.now.what }
+    requires { IsReadyStep by.now.policy.now.policy s.old entry.now.what }
     ensures { IfOk result (λ held. IsPlayed by.now.policy.now.policy s.old entry.now.what
         (slice_get cert.now place) held s.new) }
 {
     match &entry.what {
         Step::Tick { upto: _, to } => {
+            // the call tells that an instant is not after the last
             let _bound = to.minute();
             tick(s, by, *to, cert, place)
         }
@@ -228,7 +229,7 @@ fn is_good(s: &Replay, by: &Judging, base: &Happened, listing: &Listing) -> Resu
 
 /// Whether the listing has an event or a signal.
 fn says_something(listing: &Listing) -> bool
-    ensures { result ≡ says listing.now }
+    ensures { result ≡ says_something listing.now }
 {
     has_item(listing.events.as_slice()) || has_item(listing.signals.as_slice())
 }

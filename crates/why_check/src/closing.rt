@@ -4,11 +4,11 @@ ghost use Rattle.std.specs.List.{list_any};
 ghost use Rattle.gt_base.specs.declared.events.Event.{Event as EventOf};
 ghost use Rattle.gt_base.specs.declared.events.Fluent.{Fluent as FluentOf};
 ghost use Rattle.gt_base.specs.Sets.{has, members};
+ghost use Rattle.gt_base.specs.declared.limits.TheConstants.{LAST_MINUTE};
 ghost use Rattle.gtrbac_model.specs.Conflict.{won as is_won, after};
 ghost use Rattle.gtrbac_model.specs.Same.{same_fluent};
 ghost use Rattle.gtrbac_model.specs.Status.{differ};
 ghost use Rattle.duration_limits.specs.Since.{since_in};
-ghost use Rattle.gt_base.specs.Bounds.{last_minute};
 ghost use Rattle.indexmap.specs.IndexMap.{get};
 ghost use Rattle.session_table.specs.Tables.{NotBefore, table_of, closed_at};
 ghost use Rattle.why_check.specs.Kept.{IsAnsweredAt, IsClosed, IsAsked, under, joins_at, with_signals};
@@ -40,8 +40,8 @@ pub(crate) fn ask(
         (has s.old.status.set) s.old.present (table_of s.old.table) actor request.now reply.now }
     ensures { OnOk result (IsAsked s.old actor request.now reply.now s.new) }
 {
-    queue(s.alloc, &mut s.due, *request, reply)?;
     policy.keeps();
+    queue(s.alloc, &mut s.due, *request, reply)?;
     let by = Answering {
         edges: policy.edges(),
         caps: policy.caps(),
@@ -79,7 +79,7 @@ fn put_delayed(
     before: &Status,
     at: Instant,
 ) -> Result<(), Memory>
-    ensures { OnOk result ((k : ℕ) → k ≤ last_minute
+    ensures { OnOk result ((k : ℕ) → k ≤ LAST_MINUTE
         → under (get nat_eq due.new k) (λ v. v.items) ≡ under (get nat_eq due.old k) (λ v. v.items)
         ++ flat_map (joins_at (has before.now.set) set.now.set at k) policy.now.policy.triggers) }
 {

@@ -37,7 +37,8 @@ impl Model for Headed {
 
     ghost view = { λ h. h.rules };
 
-    ghost invariant = { λ h. (e : Event) → under (get event_eq h.heads e) (λ v. v.items) ≡ numbers (is_headed e) 0 h.rules };
+    ghost invariant = { λ h. (e : Event) → under (get event_eq h.heads e) (λ v. v.items)
+        ≡ numbers (is_headed e) 0 h.rules };
 }
 
 impl Headed {

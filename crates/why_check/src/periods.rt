@@ -2,11 +2,11 @@
 ghost use Rattle.std.specs.Prelude.{◌≡◌, ℕ, ◌<◌, ◌≤◌, ◌+◌, ◌-◌, ◌++◌, nat_eq, flat_map, length, MatchOption, None, Some, OnOk};
 ghost use Rattle.gt_base.specs.declared.policies.LimitRule.{LimitRule as LimitRuleOf};
 ghost use Rattle.gt_base.specs.Sets.{has};
-ghost use Rattle.gtrbac_model.specs.Base.{when, turned as turned_of, raised_by, period_test, limited_from, is_ripe as ripe_at};
+ghost use Rattle.gtrbac_model.specs.Base.{when, turned, raised_by, period_test, limited_from, is_ripe};
 ghost use Rattle.gtrbac_model.specs.Graph.{item_at};
-ghost use Rattle.gtrbac_model.specs.Period.{inside as insides, starts as started};
+ghost use Rattle.gtrbac_model.specs.Period.{inside, starts};
 ghost use Rattle.duration_limits.specs.Since.{since_in};
-ghost use Rattle.duration_limits.specs.Following.{in_period as within};
+ghost use Rattle.duration_limits.specs.Following.{in_period};
 ghost use Rattle.instant_bases.specs.Nexts.{ending};
 
 use calendar_match::{inside, starts};
@@ -26,7 +26,7 @@ fn period_at(periods: &[Period], id: PeriodId) -> Option<&Period>
 
 /// Whether the period of this number is there at the instant.
 fn is_inside(periods: &[Period], id: PeriodId, t: Instant) -> bool
-    ensures { result ≡ period_test insides periods.now id t }
+    ensures { result ≡ period_test inside periods.now id t }
 {
     match period_at(periods, id) {
         Some(p) => inside(p, t),
@@ -36,7 +36,7 @@ fn is_inside(periods: &[Period], id: PeriodId, t: Instant) -> bool
 
 /// Whether the period of this number starts at the instant.
 fn is_start(periods: &[Period], id: PeriodId, t: Instant) -> bool
-    ensures { result ≡ period_test started periods.now id t }
+    ensures { result ≡ period_test starts periods.now id t }
 {
     match period_at(periods, id) {
         Some(p) => starts(p, t),
@@ -56,7 +56,7 @@ fn push_if(raised: &mut Vec<Prioritised>, holds: bool, e: Prioritised) -> Result
 
 /// The converse, at the same priority.
 fn turned(e: Prioritised) -> Prioritised
-    ensures { result ≡ turned_of e }
+    ensures { result ≡ turned e }
 {
     Prioritised {
         prio: e.prio,
@@ -163,7 +163,7 @@ fn is_ripe(
     ages: &Ages,
     t: Instant,
 ) -> bool
-    ensures { result ≡ ripe_at periods.now (has status.now.set)
+    ensures { result ≡ is_ripe periods.now (has status.now.set)
         (since_in ages.now) id.0 limit.now t }
 {
     ages.ripe(id, limit, status, t) && is_there(periods, limit.period, t)
@@ -171,7 +171,7 @@ fn is_ripe(
 
 /// Whether the instant is in the period, if there is one.
 fn is_there(periods: &[Period], period: Option<PeriodId>, t: Instant) -> bool
-    ensures { (l : LimitRuleOf) → l.period ≡ period → result ≡ within periods.now l t }
+    ensures { (l : LimitRuleOf) → l.period ≡ period → result ≡ in_period periods.now l t }
 {
     match period {
         Some(id) => is_inside(periods, id, t),

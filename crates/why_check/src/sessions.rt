@@ -8,7 +8,7 @@ ghost use Rattle.gtrbac_model.specs.Sessions.{applied};
 ghost use Rattle.hybrid_hierarchy.specs.Nets.{IsHierarchy};
 ghost use Rattle.gt_base.specs.Sets.{has};
 ghost use Rattle.session_table.specs.Tables.{table_of};
-ghost use Rattle.why_check.specs.Kept.{IsAnswered, IsAnsweredAt};
+ghost use Rattle.why_check.specs.Kept.{IsTableReply, IsAnsweredAt};
 
 use gt_base::{
     Actor, Caps, HierEdge, Instant, List, Memory, Reply, Request, RoleId, SessionId, Signal,
@@ -69,7 +69,7 @@ fn open(
     actor: Actor,
     reply: &Reply,
 ) -> Result<(), Memory>
-    requires answered { IsAnswered (table_of table.old) actor OpenSession reply.now }
+    requires answered { IsTableReply (table_of table.old) actor OpenSession reply.now }
     requires few { table.old.begun < 2 ^ 32 - 1 }
     ensures table { OnOk result (record (table_of table.new) { signals = waiting.new.items }
         ≡ applied now actor OpenSession reply.now
@@ -88,7 +88,7 @@ fn open(
 
 /// Begins the session of this number.
 fn begin(table: &mut Sessions, user: UserId, number: SessionId) -> Result<(), Memory>
-    requires answered { IsAnswered (table_of table.old) (User user) OpenSession (Session number) }
+    requires answered { IsTableReply (table_of table.old) (User user) OpenSession (Session number) }
     requires few { table.old.begun < 2 ^ 32 - 1 }
     ensures table { OnOk result (table_of table.new
         ≡ applied 0 (User user) OpenSession (Session number) (table_of table.old)) }
@@ -110,7 +110,7 @@ fn close(
     session: SessionId,
     reply: &Reply,
 ) -> Result<(), Memory>
-    requires { IsAnswered (table_of table.old) actor (CloseSession session) reply.now }
+    requires { IsTableReply (table_of table.old) actor (CloseSession session) reply.now }
     ensures table { OnOk result (record (table_of table.new) { signals = waiting.new.items }
         ≡ applied now actor (CloseSession session) reply.now
         (record (table_of table.old) { signals = waiting.old.items })) }
@@ -190,7 +190,7 @@ fn deactivate(
     role: RoleId,
     reply: &Reply,
 ) -> Result<(), Memory>
-    requires { IsAnswered (table_of table.old) actor (IsDeactivate session role) reply.now }
+    requires { IsTableReply (table_of table.old) actor (IsDeactivate session role) reply.now }
     ensures table { OnOk result (record (table_of table.new) { signals = waiting.new.items }
         ≡ applied now actor (IsDeactivate session role) reply.now
         (record (table_of table.old) { signals = waiting.old.items })) }

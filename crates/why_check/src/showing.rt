@@ -9,12 +9,12 @@ ghost use Rattle.gt_base.specs.Sets.{has, members, set_of};
 ghost use Rattle.gt_base.specs.declared.events.Event.{Event as EventOf};
 ghost use Rattle.gt_base.specs.declared.events.Prioritised.{Prioritised as PrioritisedOf};
 ghost use Rattle.gt_base.specs.declared.events.Signal.{Signal as SignalOf};
-ghost use Rattle.gtrbac_model.specs.Conflict.{blocked as is_blocked};
+ghost use Rattle.gtrbac_model.specs.Conflict.{blocked};
 ghost use Rattle.gtrbac_model.specs.Graph.{item_at};
 ghost use Rattle.gtrbac_model.specs.History.{is_some_item};
 ghost use Rattle.gtrbac_model.specs.Instant.{closed, grounded_after};
 ghost use Rattle.gtrbac_model.specs.Same.{same_event, same_prioritised};
-ghost use Rattle.gtrbac_model.specs.Trigger.{met as is_met, immediate};
+ghost use Rattle.gtrbac_model.specs.Trigger.{met, immediate};
 ghost use Rattle.time_engine.specs.Traces.{is_something};
 ghost use Rattle.why_check.specs.Certificates.{IsShown, set_in};
 ghost use Rattle.why_check.specs.Heads.{passes};
@@ -142,7 +142,7 @@ fn is_closed(rules: &Headed, base: &Happened, before: &Status, x: &Contest) -> b
 
 /// Whether the set has the head of each immediate trigger that is met in it.
 fn has_heads(rules: &Headed, before: &Status, x: &Contest) -> bool
-    ensures { result ≡ list_all (λ r. not (immediate r && is_met r x.now (has before.now.set))
+    ensures { result ≡ list_all (λ r. not (immediate r && met r x.now (has before.now.set))
         || has x.now.events r.head) rules.now }
 {
     rules.triggers().iter().all(|r| has_head(r, before, x))
@@ -150,7 +150,7 @@ fn has_heads(rules: &Headed, before: &Status, x: &Contest) -> bool
 
 /// Whether the set has the head of the trigger, if that is immediate and met in it.
 fn has_head(r: &Trigger, before: &Status, x: &Contest) -> bool
-    ensures { result ≡ (not (immediate r.now && is_met r.now x.now (has before.now.set))
+    ensures { result ≡ (not (immediate r.now && met r.now x.now (has before.now.set))
         || has x.now.events r.now.head) }
 {
     !fires(r, x, before) || x.set().has(r.head)
@@ -165,7 +165,7 @@ fn has_all(x: &Happened, events: &[Prioritised]) -> bool
 
 /// Whether the trigger is immediate and met in the set.
 fn fires(r: &Trigger, x: &Contest, before: &Status) -> bool
-    ensures { result ≡ (immediate r.now && is_met r.now x.now (has before.now.set)) }
+    ensures { result ≡ (immediate r.now && met r.now x.now (has before.now.set)) }
 {
     r.delay == 0 && met_in(r, x, before)
 }
@@ -200,7 +200,7 @@ fn note(standing: &mut EventSet, peaks: &Peaks, e: &Prioritised)
     requires { 1 ≤ standing.old.spare }
     ensures events { (x : HappenedView) → ArePeaks (members x.events) peaks.now
         → (f : EventOf) → has standing.new.set f
-        ≡ ((same_event e.now.event f && not (is_blocked x e.now)) || has standing.old.set f) }
+        ≡ ((same_event e.now.event f && not (blocked x e.now)) || has standing.old.set f) }
     ensures spare { standing.old.spare ≤ standing.new.spare + 1 }
 {
     if !peaks.blocks(e) {
@@ -220,7 +220,7 @@ fn has_support(
 ) -> bool
     ensures { result ≡ (has base.now.set.events e.now
         || list_any (λ r. immediate r && same_prioritised r.head e.now
-        && is_met r x.now (has before.now.set) && list_all (has standing.now.set) r.events)
+        && met r x.now (has before.now.set) && list_all (has standing.now.set) r.events)
         rules.now) }
 {
     base.has(*e) || is_head(rules, before, x, standing, e)
@@ -235,7 +235,7 @@ fn is_head(
     e: &Prioritised,
 ) -> bool
     ensures { result ≡ list_any (λ r. immediate r && same_prioritised r.head e.now
-        && is_met r x.now (has before.now.set) && list_all (has standing.now.set) r.events)
+        && met r x.now (has before.now.set) && list_all (has standing.now.set) r.events)
         rules.now }
 {
     let numbers = rules.by_head(e.event);
@@ -252,7 +252,7 @@ fn is_headed_by(
     e: Prioritised,
 ) -> bool
     ensures { result ≡ list_any (λ n. passes (λ r. immediate r && same_prioritised r.head e
-        && is_met r x.now (has before.now.set) && list_all (has standing.now.set) r.events)
+        && met r x.now (has before.now.set) && list_all (has standing.now.set) r.events)
         (item_at rules.now n)) numbers.now }
 {
     numbers
@@ -270,7 +270,7 @@ fn supports_at(
     e: Prioritised,
 ) -> bool
     ensures { result ≡ passes (λ r. immediate r && same_prioritised r.head e
-        && is_met r x.now (has before.now.set) && list_all (has standing.now.set) r.events)
+        && met r x.now (has before.now.set) && list_all (has standing.now.set) r.events)
         (item_at rules.now n) }
 {
     match rules.at(n) {
@@ -282,7 +282,7 @@ fn supports_at(
 /// Whether the trigger supports the event.
 fn supports(r: &Trigger, before: &Status, x: &Contest, standing: &EventSet, e: Prioritised) -> bool
     ensures { result ≡ (immediate r.now && same_prioritised r.now.head e
-        && is_met r.now x.now (has before.now.set)
+        && met r.now x.now (has before.now.set)
         && list_all (has standing.now.set) r.now.events) }
 {
     if r.delay != 0 || !r.head.cmp(&e).is_eq() {

@@ -1,18 +1,18 @@
 use Rattle.std.proofs.Common.{◌≡◌, ℕ, ◌+◌, ◌<◌, ◌≤◌, Bool, false, ◌||◌, List, [], ◌∷◌, ◌++◌, length, map, filter, Option, Some, refl, sym, ap, subst, ◌∙◌, arith}
 use Rattle.std.specs.List.{list_any}
 use Rattle.std.specs.Ordering.{eq_by_cmp}
-use Rattle.gt_base.specs.Bounds.{last_minute}
 use Rattle.gt_base.specs.Machines.{ticked}
 use Rattle.gt_base.specs.Orders.{signal_cmp}
 use Rattle.gt_base.specs.Sets.{has}
 use Rattle.gt_base.specs.declared.events.Signal.{Signal}
 use Rattle.gt_base.specs.declared.requests.Entry.{Entry}
 use Rattle.gt_base.proofs.SetLaws.{has-none}
+use Rattle.gt_base.specs.declared.limits.TheConstants.{LAST_MINUTE}
 use Rattle.gtrbac_model.specs.Conflict.{Status}
 use Rattle.gtrbac_model.specs.Policy.{Policy}
 use Rattle.gtrbac_model.specs.Sessions.{Table, Activation, is_dropped, signal_of}
 use Rattle.instant_bases.specs.Timelines.{TimelineView, Signals}
-use Rattle.session_table.specs.Plans.{DropsView, IsPlan as IsPlanOfDrops, need_of}
+use Rattle.session_table.specs.Plans.{DropsView, IsDropPlan, need_of}
 use Rattle.session_table.specs.Tables.{TableView, NotBefore, table_of, charged_through, dropped_at, closed_at}
 use Rattle.core_machine.specs.Books.{BookView, GoesOn}
 use Rattle.core_machine.specs.Kept.{Kept}
@@ -53,7 +53,7 @@ module _ (c : After-push) where
       ∙ c.commit_end.ensures.table p.edges p.caps st gone
       ∙ (λ i. closed_at p.edges p.caps st (from i) (upto i) tb)
 
-  waits : c.args.plan.at < last_minute → (x : Signal) → list_any (eq_by_cmp signal_cmp x) c.as_slice.result.now ≡ has (with_signals c.commit.new.self.line c.as_slice.result.now).signals x
+  waits : c.args.plan.at < LAST_MINUTE → (x : Signal) → list_any (eq_by_cmp signal_cmp x) c.as_slice.result.now ≡ has (with_signals c.commit.new.self.line c.as_slice.result.now).signals x
   waits lt x =
       let w : TimelineView = c.commit.new.self.line in
       let told_any : Bool = list_any (eq_by_cmp signal_cmp x) c.as_slice.result.now in

@@ -1,12 +1,12 @@
 use Rattle.std.proofs.Common.{◌≡◌, ℕ, ◌<◌, ◌≤◌, List, length, refl, sym, ap, subst, ◌∙◌, arith}
-use Rattle.gt_base.specs.Bounds.{max_steps}
 use Rattle.gt_base.specs.Sets.{has}
 use Rattle.gt_base.specs.declared.events.Signal.{Signal}
 use Rattle.gt_base.specs.declared.requests.Entry.{Entry}
+use Rattle.gt_base.specs.declared.limits.TheConstants.{MAX_STEPS}
 use Rattle.gtrbac_model.specs.History.{IsNextStop}
 use Rattle.instant_bases.specs.Timelines.{TimelineView, stirs_in}
 use Rattle.session_table.specs.NextDrops.{is_any_capped}
-use Rattle.session_table.specs.Plans.{IsPlan as IsPlanOfDrops, need_of}
+use Rattle.session_table.specs.Plans.{IsDropPlan, need_of}
 use Rattle.session_table.specs.Tables.{table_of}
 use Rattle.session_table.specs.declared.tables.Sessions.{Sessions}
 use Rattle.core_machine.specs.Books.{BookView, GoesOn}
@@ -43,7 +43,7 @@ pub close-requires-clause-kept : goal.close-requires-clause-kept
 close-requires-clause-kept c = same_kept c.args.s.now c.make_room.new.s (all_same (goal.at.close-requires-clause-kept c).In_ok-make_room) c.requires.kept
 
 pub close-requires-clause-room : goal.close-requires-clause-room
-close-requires-clause-room c = subst (λ (h : List Entry). length h < max_steps) (sym (all_same (goal.at.close-requires-clause-room c).In_ok-make_room).entries) c.requires.room
+close-requires-clause-room c = subst (λ (h : List Entry). length h < MAX_STEPS) (sym (all_same (goal.at.close-requires-clause-room c).In_ok-make_room).entries) c.requires.room
 
 pub close-requires-clause-closing : goal.close-requires-clause-closing
 close-requires-clause-closing c =
@@ -54,7 +54,7 @@ close-requires-clause-closing c =
       stop = subst (λ (t : ℕ). IsNextStop (moves p s.line.line (table_of s.table)) s.line.line.now c.args.upto t) (sym c.in_ok-plan.ensures.at) c.stop-to.ensures;
       plans = c.in_ok-plan.ensures.plan;
       fits = c.in_ok-plan.ensures.fits;
-      ends = subst (λ (t : ℕ). IsPlanOfDrops p.edges p.caps (has c.in_ok-plan.plan.status) s.line.line.now t (table_of s.table) c.in_ok-plan.drops) (sym c.in_ok-plan.ensures.at) c.in_ok-plan.ensures.drops;
+      ends = subst (λ (t : ℕ). IsDropPlan p.edges p.caps (has c.in_ok-plan.plan.status) s.line.line.now t (table_of s.table) c.in_ok-plan.drops) (sym c.in_ok-plan.ensures.at) c.in_ok-plan.ensures.drops;
     })
 
 pub close-requires-clause-plan_room : goal.close-requires-clause-plan_room

@@ -4,7 +4,7 @@ use Rattle.gt_base.specs.Happening.{Fluents, HappenedView}
 use Rattle.gt_base.specs.Sets.{has, members}
 use Rattle.gt_base.specs.declared.policies.Caps.{Caps}
 use Rattle.gt_base.specs.declared.policies.HierEdge.{HierEdge}
-use Rattle.session_table.specs.Plans.{AllStand, IsPlan as IsPlanOfDrops, need_of}
+use Rattle.session_table.specs.Plans.{AllStand, IsDropPlan, need_of}
 use Rattle.session_table.specs.Tables.{table_of}
 use Rattle.policy_words.specs.Naming.{NamedPolicy}
 use Rattle.instant_bases.specs.Timelines.{TimelineView}
@@ -23,7 +23,7 @@ end_of-requires-clause-later c = subst (λ (t : ℕ). t < c.args.to) (sym (now_i
 pub end_of-requires-clause-still : goal.end_of-requires-clause-still
 end_of-requires-clause-still c = λ e.
     let s = c.args.s.now in
-    let line : IsTimeline s.line.line = subst IsTimeline c.in_ok-plan.ensures.line c.keeps.ensures in
+    let line : IsTimeline s.line.line = c.keeps.ensures in
     let plans : IsPlan s.ground.policy s.line.line c.in_ok-plan.plan = subst (λ (g : NamedPolicy). IsPlan g.policy s.line.line c.in_ok-plan.plan) c.ground.ensures c.in_ok-plan.ensures.plan in
     let alike : list_all (agrees (has s.line.line.status)) (members c.in_ok-plan.plan.set.events) ≡ true =
     ap (λ (x : HappenedView). list_all (agrees (has s.line.line.status)) (members x.events)) (sym c.happened-set.ensures)
@@ -49,10 +49,10 @@ returns-clause-drops c =
     let p = c.args.s.now.ground.policy in
     let tb = table_of c.args.s.now.table in
     let ds = c.in_ok-drops.drops in
-    subst (λ (t : ℕ). IsPlanOfDrops p.edges p.caps (has c.in_ok-plan.plan.status) t c.args.to tb ds) (now_is (goal.at.returns-clause-drops c).After-now-now)
-    (subst (λ (s : Fluents). IsPlanOfDrops p.edges p.caps (has s) c.now-now.result c.args.to tb ds) c.status.ensures
-    (subst (λ (cs : List Caps). IsPlanOfDrops p.edges cs (has c.status.result.now.set) c.now-now.result c.args.to tb ds) (c.caps.ensures ∙ ap (λ (g : NamedPolicy). g.policy.caps) c.policy-policy.ensures)
-    (subst (λ (es : List HierEdge). IsPlanOfDrops es c.caps.result.now.items (has c.status.result.now.set) c.now-now.result c.args.to tb ds) c.hierarchy-hierarchy.ensures
+    subst (λ (t : ℕ). IsDropPlan p.edges p.caps (has c.in_ok-plan.plan.status) t c.args.to tb ds) (now_is (goal.at.returns-clause-drops c).After-now-now)
+    (subst (λ (s : Fluents). IsDropPlan p.edges p.caps (has s) c.now-now.result c.args.to tb ds) c.status.ensures
+    (subst (λ (cs : List Caps). IsDropPlan p.edges cs (has c.status.result.now.set) c.now-now.result c.args.to tb ds) (c.caps.ensures ∙ ap (λ (g : NamedPolicy). g.policy.caps) c.policy-policy.ensures)
+    (subst (λ (es : List HierEdge). IsDropPlan es c.caps.result.now.items (has c.status.result.now.set) c.now-now.result c.args.to tb ds) c.hierarchy-hierarchy.ensures
     c.in_ok-drops.ensures.plan)))
 
 pub returns-clause-drops_room : goal.returns-clause-drops_room

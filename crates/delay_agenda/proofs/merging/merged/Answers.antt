@@ -1,8 +1,8 @@
 use Rattle.std.proofs.Common.{◌≡◌, ◌++◌, length, drop, get_or, ap, subst, ◌∙◌, arith}
 use Rattle.gt_base.specs.Sets.{set_of_rising}
 use Rattle.delay_agenda.specs.Due.{pending_cmp}
-use Rattle.delay_agenda.specs.Rows.{IsMerging, IsPlaced}
-use Rattle.delay_agenda.proofs.MergeLaws.{ends, goes_on}
+use Rattle.delay_agenda.specs.Rows.{IsPlaced}
+use Rattle.delay_agenda.proofs.MergeLaws.{ends, goes_on, IsMerging}
 use Rattle.delay_agenda.proofs.merging.merged.Goals as goal
 
 pub loop-k-preserved : goal.loop-k-preserved

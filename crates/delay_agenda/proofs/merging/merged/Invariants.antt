@@ -1,4 +1,4 @@
-use Rattle.delay_agenda.specs.Rows.{IsMerging}
+use Rattle.delay_agenda.proofs.MergeLaws.{IsMerging}
 use Rattle.delay_agenda.proofs.merging.merged.Given as goal
 
 -- the row is made of the first of both

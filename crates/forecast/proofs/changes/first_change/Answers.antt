@@ -1,8 +1,6 @@
 use Rattle.std.proofs.Common.{ℕ, [], Option, sym, ap, subst, ◌∙◌}
 use Rattle.gtrbac_model.specs.Sessions.{Table}
-use Rattle.gtrbac_model.specs.WholePolicy.{IsPolicy}
 use Rattle.history_laws.proofs.Reading.{legal_onward, reaches}
-use Rattle.policy_words.specs.Naming.{NamedPolicy}
 use Rattle.instant_bases.specs.Timelines.{TimelineView}
 use Rattle.session_table.specs.Tables.{NotBefore}
 use Rattle.core_machine.specs.Books.{IsTableIn, model_in, now_in}
@@ -13,10 +11,10 @@ use Rattle.forecast.proofs.Unraised.{unraised_stays}
 use Rattle.forecast.proofs.changes.first_change.Goals as goal
 
 pub returns-in_err-line-clause-one : goal.returns-in_err-line-clause-one
-returns-in_err-line-clause-one c = let b = c.args.book.now in ahead_is_one b.named.policy c.ground-ground.ensures.safe b.birth b.entries c.args.upto
+returns-in_err-line-clause-one c = let b = c.args.book.now in ahead_is_one b.named.policy c.keeps.ensures.safe b.birth b.entries c.args.upto
 
 pub returns-in_err-table-clause-one : goal.returns-in_err-table-clause-one
-returns-in_err-table-clause-one c = let b = c.args.book.now in ahead_is_one b.named.policy c.ground-ground.ensures.safe b.birth b.entries c.args.upto
+returns-in_err-table-clause-one c = let b = c.args.book.now in ahead_is_one b.named.policy c.keeps.ensures.safe b.birth b.entries c.args.upto
 
 pub walk-requires-clause-way : goal.walk-requires-clause-way
 walk-requires-clause-way c =
@@ -25,17 +23,17 @@ walk-requires-clause-way c =
     (begins b c.timeline-timeline.result.now.line c.in_ok-table.table c.keeps-2.ensures c.timeline-timeline.ensures.trace c.timeline-timeline.ensures.follows c.timeline-timeline.ensures.waiting
     (subst (λ (t : Table). IsTableIn b t) (sym c.in_ok-table.ensures.table) c.sessions.ensures.table)
     (subst (λ (o : Option ℕ). NotBefore o (now_in b)) (sym c.in_ok-table.ensures.charged_to) c.sessions.ensures.charged)
-    c.entries-entries.ensures.legal)
+    c.keeps.ensures.kept.legal)
 
 pub returns-clause-one : goal.returns-clause-one
-returns-clause-one c = let b = c.args.book.now in ahead_is_one b.named.policy c.ground-ground.ensures.safe b.birth b.entries c.args.upto
+returns-clause-one c = let b = c.args.book.now in ahead_is_one b.named.policy c.keeps.ensures.safe b.birth b.entries c.args.upto
 
 pub returns-then-not-is_raised-clause-first : goal.returns-then-not-is_raised-clause-first
 returns-then-not-is_raised-clause-first c =
     let b = c.args.book.now in
-    unraised_stays b.named.policy c.ground-ground.ensures.safe (subst (λ (g : NamedPolicy). IsPolicy g.policy) c.policy.ensures.value c.keeps.ensures.policy) b.birth b.entries c.args.f c.args.upto
-    (reaches b.birth b.entries (legal_onward b.named.policy b.birth (model_in b) [] b.entries c.entries-entries.ensures.legal.steps)) c.requires
+    unraised_stays b.named.policy c.keeps.ensures.safe c.keeps.ensures.kept.well.policy b.birth b.entries c.args.f c.args.upto
+    (reaches b.birth b.entries (legal_onward b.named.policy b.birth (model_in b) [] b.entries c.keeps.ensures.kept.legal.steps)) c.requires
     (sym c.is_raised.ensures ∙ c.if-not-is_raised.true)
 
 pub returns-then-not-is_raised-clause-one : goal.returns-then-not-is_raised-clause-one
-returns-then-not-is_raised-clause-one c = let b = c.args.book.now in ahead_is_one b.named.policy c.ground-ground.ensures.safe b.birth b.entries c.args.upto
+returns-then-not-is_raised-clause-one c = let b = c.args.book.now in ahead_is_one b.named.policy c.keeps.ensures.safe b.birth b.entries c.args.upto

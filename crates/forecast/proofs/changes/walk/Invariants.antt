@@ -1,6 +1,7 @@
 use Rattle.std.proofs.Common.{◌-◌}
-use Rattle.forecast.specs.Going.{IsOnWay, StayedSo}
+use Rattle.forecast.specs.Going.{IsOnWay}
 use Rattle.forecast.proofs.changes.walk.Given as goal
+use Rattle.forecast.proofs.Agreeing.{StayedSo}
 
 abbrev pub invariant-loop-f : goal.invariant-loop-f
 invariant-loop-f l =

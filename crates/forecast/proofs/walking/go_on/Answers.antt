@@ -12,7 +12,9 @@ use Rattle.forecast.proofs.Stepping.{stepped}
 use Rattle.forecast.proofs.walking.go_on.Goals as goal
 
 pub end_instants-requires-clause-edges : goal.end_instants-requires-clause-edges
-end_instants-requires-clause-edges c = subst (λ (es : List HierEdge). IsHierarchy es) (sym c.edges.ensures) (hierarchy_of c.policy-policy.result.now.policy c.keeps.ensures.policy)
+end_instants-requires-clause-edges c =
+    let is = c.policy-policy.ensures ∙ c.ground-ground.ensures.value in
+    subst (λ (es : List HierEdge). IsHierarchy es) (sym (c.edges.ensures ∙ ap (λ (g : NamedPolicy). g.policy.edges) is)) (hierarchy_of c.args.book.now.named.policy c.keeps.ensures.kept.well.policy)
 
 pub returns : goal.returns
 returns c =
@@ -20,7 +22,7 @@ returns c =
     let edges : c.edges.result.now.items ≡ np.policy.edges = c.edges.ensures ∙ ap (λ (g : NamedPolicy). g.policy.edges) c.policy-policy.ensures in
     let caps : c.caps.result.now.items ≡ np.policy.caps = c.caps.ensures ∙ ap (λ (g : NamedPolicy). g.policy.caps) c.policy-policy.ensures in
     let status : c.status.result.now.set ≡ c.close.new.self.line.status = c.status.ensures ∙ ap (λ (v : TimelineView). v.status) c.forget_trace.ensures.line in
-    stepped c.args.book.now np c.ground-ground.ensures.value (subst (λ (g : NamedPolicy). IsPolicy g.policy) c.policy-policy.ensures c.keeps.ensures.policy)
+    stepped c.args.book.now np c.ground-ground.ensures.value (subst (λ (g : NamedPolicy). IsPolicy g.policy) (sym c.ground-ground.ensures.value) c.keeps.ensures.kept.well.policy)
     c.args.line.now.line c.close.new.self.line c.add_signals.new.line.line c.args.table.now c.end_instants.new.self c.forget_days_before.new.self c.requires.way
     c.args.upto c.stop-to.result (omega (arith, c.minute-bound.ensures.value, c.minute-bound.ensures.bound)) c.stop-to.ensures c.in_ok-close.ensures.ok
     c.in_ok-signals.signals.items

@@ -3,7 +3,7 @@ use Rattle.std.specs.Option.{is_some}
 use Rattle.gt_io.specs.Ports.{Port}
 use Rattle.gt_io.proofs.PortLists.{in_get}
 use Rattle.gt_host.specs.declared.port.HostPort.{HostPort}
-use Rattle.gt_host.specs.HostPorts.{port_of, no_port}
+use Rattle.gt_host.specs.HostPorts.{host_port, no_host_port}
 use Rattle.gt_host.proofs.tests.is_open.Goals as goal
 
 none_of : (o : Option ℕ) → is_some o ≡ false → o ≡ None
@@ -23,5 +23,5 @@ returns g c =
     record {
       first = first;
       last = last;
-      unfinished = ap (λ (p : Port). p.finished) (in_get port_of no_port xs c.args.link x first last) ∙ ap (λ (z : HostPort). z.finished) (sym c.index.ensures) ∙ none_of x.finished (c.is_none.ensures ∙ ap not is);
+      unfinished = ap (λ (p : Port). p.finished) (in_get host_port no_host_port xs c.args.link x first last) ∙ ap (λ (z : HostPort). z.finished) (sym c.index.ensures) ∙ none_of x.finished (c.is_none.ensures ∙ ap not is);
     }

@@ -13,9 +13,9 @@ put_past line n b long high =
     take_all 513 line (omega (arith, long))
     ∙ sym (ap (λ xs. take 512 (xs ++ b ∷ [])) (take_all n line (omega (arith, long))) ∙ take-append-le 512 line (b ∷ []) (omega (arith, long)) ∙ take_all 512 line (omega (arith, long)))
 
-pub returns-then-number-lt-LONGEST-clause-bytes : goal.returns-then-number-lt-LONGEST-clause-bytes
-returns-then-number-lt-LONGEST-clause-bytes c =
-    put_in c.args.line.now c.args.number c.args.b c.requires.room c.if-number-lt-LONGEST.true
+pub returns-then-number-lt-LONGEST_LINE-clause-bytes : goal.returns-then-number-lt-LONGEST_LINE-clause-bytes
+returns-then-number-lt-LONGEST_LINE-clause-bytes c =
+    put_in c.args.line.now c.args.number c.args.b c.requires.room c.if-number-lt-LONGEST_LINE.true
 
 pub returns-clause-bytes : goal.returns-clause-bytes
-returns-clause-bytes c = put_past c.args.line.now c.args.number c.args.b c.requires.room c.if-number-lt-LONGEST.false
+returns-clause-bytes c = put_past c.args.line.now c.args.number c.args.b c.requires.room c.if-number-lt-LONGEST_LINE.false

@@ -7,7 +7,7 @@ returns-in_err-n-clause-same g c = c.in_err-n.ensures.same ∙ c.pieces.invarian
 
 pub returns-then-n-eq0-clause-whole : goal.returns-then-n-eq0-clause-whole
 returns-then-n-eq0-clause-whole g c =
-    all_found (g.S.Shelf.contents c.args.shelf.now) c.args.name.now _ _ _ c.pieces.bytes.items _ c.in_ok-find.ensures.found c.pieces.invariant.found c.in_ok-n.ensures.bytes.0
+    all_found (g.S.Shelf.stock c.args.shelf.now).contents c.args.name.now _ _ _ c.pieces.bytes.items _ c.in_ok-find.ensures.found c.pieces.invariant.found c.in_ok-n.ensures.bytes.0
     (ap (λ n. take n c.read.new.buf) c.if-n-eq0.true) (c.in_ok-n.ensures.bytes.1 c.if-n-eq0.true (omega arith))
 
 pub returns-then-n-eq0-clause-end : goal.returns-then-n-eq0-clause-end
@@ -30,7 +30,7 @@ add_piece-requires g c = c.pieces.invariant.within
 
 pub pieces-preserved : goal.pieces-preserved
 pieces-preserved g c = record {
-  found = more_found (g.S.Shelf.contents c.args.shelf.now) c.args.name.now _ _ c.pieces.bytes.items _ _ c.pieces.invariant.found c.in_ok-n.ensures.bytes.0 c.in_ok-add_piece.ensures.added;
+  found = more_found (g.S.Shelf.stock c.args.shelf.now).contents c.args.name.now _ _ c.pieces.bytes.items _ _ c.pieces.invariant.found c.in_ok-n.ensures.bytes.0 c.in_ok-add_piece.ensures.added;
   same = c.in_ok-n.ensures.same ∙ c.pieces.invariant.same;
   within = c.in_ok-add_piece.ensures.within;
   kept = c.in_ok-n.ensures.cause.kept ∙ c.pieces.invariant.kept;

@@ -6,11 +6,11 @@ abbrev pub invariant-pieces : goal.invariant-pieces
 invariant-pieces g l =
     let shelf = g.S.Shelf in
     record {
-      found : IfSome (shelf.contents l.fn.shelf) (λ text_of. Consumes (text_of l.name) (shelf.left l.shelf) l.bytes.items);
-      same : shelf.contents l.shelf ≡ shelf.contents l.fn.shelf;
+      found : IfSome (shelf.stock l.fn.shelf).contents (λ text_of. Consumes (text_of l.name) (shelf.stock l.shelf).left l.bytes.items);
+      same : (shelf.stock l.shelf).contents ≡ (shelf.stock l.fn.shelf).contents;
       within : vec_len l.bytes ≤ l.limit;
-      kept : shelf.faults l.shelf ≡ shelf.faults l.fn.shelf;
-      hard_kept : shelf.hard_faults l.shelf ≡ shelf.hard_faults l.fn.shelf;
+      kept : (shelf.stock l.shelf).faults ≡ (shelf.stock l.fn.shelf).faults;
+      hard_kept : (shelf.stock l.shelf).hard_faults ≡ (shelf.stock l.fn.shelf).hard_faults;
     }
 
 abbrev pub decreases-pieces : goal.decreases-pieces

@@ -8,7 +8,7 @@ returns-in_err-n-clause-front g c = (_, Consumes-kept _ _ _ _ c.loop-bytes.invar
 
 pub returns-then-n-eq0-clause-whole : goal.returns-then-n-eq0-clause-whole
 returns-then-n-eq0-clause-whole g c =
-    all_taken (g.S.Source.left c.args.source.now) _ _ c.loop-bytes.bytes.items _ c.loop-bytes.invariant.taken c.in_ok-n.ensures.bytes.0 (ap (λ n. take n c.read.new.buf) c.if-n-eq0.true)
+    all_taken (g.S.Source.intake c.args.source.now).left _ _ c.loop-bytes.bytes.items _ c.loop-bytes.invariant.taken c.in_ok-n.ensures.bytes.0 (ap (λ n. take n c.read.new.buf) c.if-n-eq0.true)
     (c.in_ok-n.ensures.bytes.1 c.if-n-eq0.true (omega arith))
 
 pub returns-then-n-eq0-clause-end : goal.returns-then-n-eq0-clause-end
@@ -28,7 +28,7 @@ add_piece-requires g c = c.loop-bytes.invariant.within
 
 pub loop-bytes-preserved : goal.loop-bytes-preserved
 loop-bytes-preserved g c = record {
-  taken = more_taken (g.S.Source.left c.args.source.now) _ _ c.loop-bytes.bytes.items _ _ c.loop-bytes.invariant.taken c.in_ok-n.ensures.bytes.0 c.in_ok-add_piece.ensures.added;
+  taken = more_taken (g.S.Source.intake c.args.source.now).left _ _ c.loop-bytes.bytes.items _ _ c.loop-bytes.invariant.taken c.in_ok-n.ensures.bytes.0 c.in_ok-add_piece.ensures.added;
   within = c.in_ok-add_piece.ensures.within;
   kept = c.in_ok-n.ensures.cause.kept ∙ c.loop-bytes.invariant.kept;
 }

@@ -6,9 +6,9 @@ abbrev pub invariant-loop-bytes : goal.invariant-loop-bytes
 invariant-loop-bytes g l =
     let source = g.S.Source in
     record {
-      taken : Consumes (source.left l.fn.source) (source.left l.source) l.bytes.items;
+      taken : Consumes (source.intake l.fn.source).left (source.intake l.source).left l.bytes.items;
       within : vec_len l.bytes ≤ l.limit;
-      kept : source.faults l.source ≡ source.faults l.fn.source;
+      kept : (source.intake l.source).faults ≡ (source.intake l.fn.source).faults;
     }
 
 abbrev pub decreases-loop-bytes : goal.decreases-loop-bytes

@@ -9,8 +9,8 @@ invariant-loop-rest g l =
       n : ℕ;
       left : l.rest ≡ drop n l.text;
       within : n ≤ length l.text;
-      written : Appends (sink.written l.fn.sink) (sink.written l.sink) (take n l.text);
-      kept : sink.faults l.sink ≡ sink.faults l.fn.sink;
+      written : Appends (sink.output l.fn.sink).written (sink.output l.sink).written (take n l.text);
+      kept : (sink.output l.sink).faults ≡ (sink.output l.fn.sink).faults;
     }
 
 abbrev pub decreases-loop-rest : goal.decreases-loop-rest

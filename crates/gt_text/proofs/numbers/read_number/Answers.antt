@@ -1,26 +1,20 @@
-use Rattle.std.proofs.Common.{◌≡◌, subst, sym, ap, ◌∙◌, decimal}
-use Rattle.std.proofs.lemmas.Bool.{false≢true}
-use Rattle.std.proofs.lemmas.Bool.Decides.{Decides-eqb}
-use Rattle.std.proofs.lemmas.Fmt.{IsAscii-decimal, parse-decimal}
-use Rattle.std.proofs.lemmas.Str.{IsUtf8-from_ascii}
-use Rattle.std.proofs.lemmas.Slice.Eq.{slice_eq-Decides}
-use Rattle.std.specs.Str.{IsUtf8}
+use Rattle.std.proofs.Common.{◌≡◌, ◌≢◌, ◌<◌, ◌^◌, ℕ, List, Option, Some, None, decimal, IfSome, IfNone, sym, arith}
+use Rattle.gt_base.specs.Names.{number_from}
+use Rattle.gt_text.proofs.Decimals.{number_from_is, number_from_none}
 use Rattle.gt_text.proofs.numbers.read_number.Goals as goal
 
--- the text of a number is UTF-8
-pub returns-in_default-clause-none : goal.returns-in_default-clause-none
-returns-in_default-clause-none c n h e = c.in_default.ensures.cases.0 (subst IsUtf8 (sym e) (IsUtf8-from_ascii _ (IsAscii-decimal n h)))
+some_read : (w : List ℕ) (r : Option ℕ) → r ≡ number_from 0 18_446_744_073_709_551_615 w → IfSome r (λ n. (n < 2 ^ 64) × (w ≡ decimal n))
+some_read w None e = tt
+some_read w (Some n) e =
+    let is = number_from_is 0 18_446_744_073_709_551_615 w n (omega arith) (sym e) in
+    (omega arith, is.2)
 
--- it is read
-pub returns-in_default-parse-clause-none : goal.returns-in_default-parse-clause-none
-returns-in_default-parse-clause-none c n h e =
-    let read = parse-decimal 64 n c.in-Ok.digits.now c.parse.result h h (c.in-Ok.ensures.cases.0 ∙ e) c.parse.ensures.value.0 in
-    c.in_default-parse.not-Ok n read
+none_read : (w : List ℕ) (r : Option ℕ) → r ≡ number_from 0 18_446_744_073_709_551_615 w → IfNone r ((n : ℕ) → n < 2 ^ 64 → w ≢ decimal n)
+none_read w None e = λ n small. number_from_none 18_446_744_073_709_551_615 w n (omega arith) e (omega arith)
+none_read w (Some n) e = tt
 
--- it is the text of what was read
-pub returns-else-eq-clause-none : goal.returns-else-eq-clause-none
-returns-else-eq-clause-none c n h e =
-    let read = parse-decimal 64 n c.in-Ok.digits.now c.parse.result h h (c.in-Ok.ensures.cases.0 ∙ e) c.parse.ensures.value.0 in
-    let same : c.in-Ok-parse.n ≡ n = cc in
-    let equal = slice_eq-Decides Decides-eqb _ _ _ c.if-eq.ensures in
-    false≢true (equal.1 (c.as_bytes.ensures.value ∙ c.format.ensures.text ∙ ap decimal same ∙ sym e))
+pub returns-clause-some : goal.returns-clause-some
+returns-clause-some c = some_read c.args.text.now c.number_to.result c.number_to.ensures
+
+pub returns-clause-none : goal.returns-clause-none
+returns-clause-none c = none_read c.args.text.now c.number_to.result c.number_to.ensures

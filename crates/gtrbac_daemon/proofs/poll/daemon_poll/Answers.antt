@@ -10,7 +10,7 @@ returns-in-Ok g c =
     let old = c.args.shelf.now in
     let new = c.find_policy.new.shelf in
     runs_named (map string_bytes c.args.words.now) _ _ _ c.in-Some.name.now (sym c.in-Some.ensures) c.requires.ports c.requires.none
-    (c.poll_found.ensures (s.contents old) (s.contents new) (s.faults old) (s.faults new) (s.hard_faults old) (s.hard_faults new) c.in-Some.name.now c.in-Ok.ensures.found c.in-Ok.ensures.failed c.in-Ok.ensures.steady)
+    (c.poll_found.ensures (s.stock old) (s.stock new) c.in-Some.name.now c.in-Ok.ensures.found c.in-Ok.ensures.failed c.in-Ok.ensures.steady)
     c.find_policy.ensures.same
 
 pub returns-in-Err : goal.returns-in-Err

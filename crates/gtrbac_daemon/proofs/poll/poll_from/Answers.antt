@@ -9,5 +9,5 @@ returns-in-Ok-new-clause-headline g c =
     let k = g.C.Clock in
     let t = c.poll_and_close-closed in
     let root = c.in-Ok-new.ensures.desk.0 in
-    poll_headline_of (k.readings c.args.clock.now) (k.readings t.new.clock) (h c.args.ports.now) (h t.new.ports) t.new.ends.items t.result.1 c.args.safe c.args.birth c.in-Ok-new.desk.root t.result.0 c.policy.ensures.safe
-    (ap (λ (b : BookView). b.named) root ∙ c.in-Ok-open.ensures.root.0) (ap (λ (b : BookView). b.birth) root ∙ c.in-Ok-open.ensures.root.1) t.ensures.root c.keeps.ensures.book c.keeps.ensures.only t.ensures.polled t.ensures.others
+    poll_headline_of (k.readings c.args.clock.now) (k.readings t.new.clock) (h c.args.ports.now) (h t.new.ports) t.new.ends.items t.result.1 c.args.safe c.args.birth c.in-Ok-new.desk.root t.result.0 c.keeps.ensures
+    (ap (λ (b : BookView). b.named) root ∙ c.in-Ok-open.ensures.root.0) (ap (λ (b : BookView). b.birth) root ∙ c.in-Ok-open.ensures.root.1) t.ensures.root c.keeps-in-Ok-new.ensures.kept c.keeps-in-Ok-new.ensures.only t.ensures.polled t.ensures.others

@@ -6,22 +6,22 @@ use Rattle.gtrbac_daemon.specs.Daemon.{IsWritten}
 use Rattle.gtrbac_daemon.proofs.poll.poll_serve.Goals as goal
 
 pub returns-in_default : goal.returns-in_default
-returns-in_default g c = λ texts texts' m m' n n'.
+returns-in_default g c = λ stock stock'.
     record {
       birth = c.now-minute.result;
       reads = c.now-minute.ensures;
-      ends = inr (record { nothing = (refl, Keeps-refl (g.K.Sink.written c.args.out.now), refl); clock = refl; ports = refl; ends = refl });
+      ends = inr (record { nothing = (refl, Keeps-refl (g.K.Sink.output c.args.out.now).written, refl); clock = refl; ports = refl; ends = refl });
     }
 
 pub returns-in-Ok-poll_from : goal.returns-in-Ok-poll_from
-returns-in-Ok-poll_from g c = λ texts texts' m m' n n'.
+returns-in-Ok-poll_from g c = λ stock stock'.
     let o = g.K.Sink in
     let es = c.in-Ok-poll_from.closed.entries in
     let s = c.write_up.result in
-    let w0 = o.written c.args.out.now in
-    let w1 = o.written c.write_up.new.out in
-    let f0 = o.faults c.args.out.now in
-    let f1 = o.faults c.write_up.new.out in
+    let w0 = (o.output c.args.out.now).written in
+    let w1 = (o.output c.write_up.new.out).written in
+    let f0 = (o.output c.args.out.now).faults in
+    let f1 = (o.output c.write_up.new.out).faults in
     let root = c.in-Ok-poll_from.ensures.root in
     record {
       birth = c.now-minute.result;
@@ -39,13 +39,13 @@ returns-in-Ok-poll_from g c = λ texts texts' m m' n n'.
     }
 
 pub returns : goal.returns
-returns g c = λ texts texts' m m' n n'.
+returns g c = λ stock stock'.
     record {
       birth = c.now-minute.result;
       reads = c.now-minute.ensures;
       ends =
           inr (record {
-            nothing = (refl, Keeps-refl (g.K.Sink.written c.args.out.now), refl);
+            nothing = (refl, Keeps-refl (g.K.Sink.output c.args.out.now).written, refl);
             clock = ap g.C.Clock.readings c.in-Err.ensures.err.2;
             ports = ap g.P.Ports.harbour c.in-Err.ensures.err.0;
             ends = λ i. (c.in-Err.ensures.err.1 i).items;

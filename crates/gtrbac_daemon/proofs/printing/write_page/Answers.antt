@@ -8,8 +8,8 @@ use Rattle.gtrbac_daemon.proofs.printing.write_page.Goals as goal
 pub returns-in_err-write_all-clause-part : goal.returns-in_err-write_all-clause-part
 returns-in_err-write_all-clause-part g c =
     let o = g.K.Sink in
-    let a = o.written c.args.out.now in
-    let b = o.written c.write_all.new.sink in
+    let a = (o.output c.args.out.now).written in
+    let b = (o.output c.write_all.new.sink).written in
     let put = c.put_entries-left in
     on_err _ (subst (AppendsPart a b) (sym put.ensures.text)
     (part_first a b put.new.into.items (flat_map (entry_line c.args.policy.now) put.result.now) (subst (AppendsPart a b) c.as_slice.ensures c.in_err-write_all.ensures.part)))
@@ -21,7 +21,7 @@ returns-clause-page g c =
     record {
       text = put.new.into.items;
       all = put.ensures.text;
-      written = subst (Appends (o.written c.args.out.now) (o.written c.write_all.new.sink)) c.as_slice.ensures c.in_ok-write_all.ensures.all;
+      written = subst (Appends (o.output c.args.out.now).written (o.output c.write_all.new.sink).written) c.as_slice.ensures c.in_ok-write_all.ensures.all;
       fit = put.ensures.fit;
       fewer = put.ensures.fewer;
       empty = c.clear.ensures.empty;

@@ -37,5 +37,5 @@ returns-in_err-left-2-clause-part g c =
     let o = g.K.Sink in
     let inv = c.loop-left.invariant in
     let np = c.args.policy.now in
-    on_err _ (page_part np (text_from np c.args.page.now.items c.args.entries.now) inv.text c.loop-left.page.items c.loop-left.left.now (o.written c.args.out.now) (o.written c.loop-left.out) (o.written c.write_page-in-loop-left.new.out)
+    on_err _ (page_part np (text_from np c.args.page.now.items c.args.entries.now) inv.text c.loop-left.page.items c.loop-left.left.now (o.output c.args.out.now).written (o.output c.loop-left.out).written (o.output c.write_page-in-loop-left.new.out).written
     inv.all inv.empty inv.written c.in_err-left-2.ensures.part)

@@ -10,11 +10,11 @@ invariant-loop-left g l =
     record {
       text : List ℕ;
       all : text_from l.policy l.fn.page.items l.entries ≡ text_from l.policy text l.left;
-      written : Appends (sink.written l.fn.out) (sink.written l.out) text;
+      written : Appends (sink.output l.fn.out).written (sink.output l.out).written text;
       fit : FitPages l.policy.policy l.left;
       empty : l.page.items ≡ [];
       room : 33_584 ≤ l.page.spare;
-      kept : sink.faults l.out ≡ sink.faults l.fn.out;
+      kept : (sink.output l.out).faults ≡ (sink.output l.fn.out).faults;
     }
 
 abbrev pub decreases-loop-left : goal.decreases-loop-left

@@ -11,7 +11,7 @@ pub write_pages-requires-clause-fit : goal.write_pages-requires-clause-fit
 write_pages-requires-clause-fit g c =
     let b = c.book-book.result.now in
     subst (λ (p : NamedPolicy). FitPages p.policy c.as_slice.result.now) (sym c.policy.ensures.value)
-    (subst (λ (es : List Entry). FitPages b.named.policy es) (sym (c.as_slice.ensures ∙ c.entries.ensures.value)) (entries_fit b c.policy.ensures.kept))
+    (subst (λ (es : List Entry). FitPages b.named.policy es) (sym (c.as_slice.ensures ∙ c.entries.ensures.value)) (entries_fit b c.keeps.ensures.kept))
 
 pub write_pages-requires-clause-room : goal.write_pages-requires-clause-room
 write_pages-requires-clause-room g c =
@@ -22,7 +22,7 @@ returns-in-Ok g c =
     let o = g.K.Sink in
     let np = c.policy.result.now in
     let es = c.as_slice.result.now in
-    all_written c.args.due c.args.due (text_from np c.put_birth.new.into.items es) _ (o.written c.args.out.now) (o.written c.write_pages.new.out) (o.faults c.args.out.now) (o.faults c.write_pages.new.out)
+    all_written c.args.due c.args.due (text_from np c.put_birth.new.into.items es) _ (o.output c.args.out.now).written (o.output c.write_pages.new.out).written (o.output c.args.out.now).faults (o.output c.write_pages.new.out).faults
     (log_is np c.birth.result c.args.page.now c.put_birth.new.into _ es c.put_birth.ensures c.requires.0 refl
     ∙ log_of np c.birth.result es c.book-book.result.now c.args.ledger.now c.policy.ensures.value c.birth.ensures (c.as_slice.ensures ∙ c.entries.ensures.value) c.book-book.ensures)
     refl c.in-Ok.ensures.all c.in-Ok.ensures.cause.kept
@@ -32,7 +32,7 @@ returns-in-Err g c =
     let o = g.K.Sink in
     let np = c.policy.result.now in
     let es = c.as_slice.result.now in
-    part_written c.args.due c.failed_at.result (text_from np c.put_birth.new.into.items es) _ (o.written c.args.out.now) (o.written c.write_pages.new.out) (o.faults c.args.out.now) (o.faults c.write_pages.new.out)
+    part_written c.args.due c.failed_at.result (text_from np c.put_birth.new.into.items es) _ (o.output c.args.out.now).written (o.output c.write_pages.new.out).written (o.output c.args.out.now).faults (o.output c.write_pages.new.out).faults
     (log_is np c.birth.result c.args.page.now c.put_birth.new.into _ es c.put_birth.ensures c.requires.0 refl
     ∙ log_of np c.birth.result es c.book-book.result.now c.args.ledger.now c.policy.ensures.value c.birth.ensures (c.as_slice.ensures ∙ c.entries.ensures.value) c.book-book.ensures)
     c.failed_at.ensures c.in-Err.ensures.part c.in-Err.ensures.cause.failed

@@ -1,7 +1,7 @@
 use Rattle.std.proofs.Common.{◌≡◌, ℕ, ◌<◌, ◌≤◌, List, [], length, drop, sym, ap, subst, ◌∙◌}
 use Rattle.gt_base.specs.declared.requests.Entry.{Entry}
 use Rattle.turn_lock.specs.Turns.{Each, part}
-use Rattle.turn_lock.specs.Holders.{Holder, site_of, newcomers, IsTold}
+use Rattle.turn_lock.specs.Holders.{Holder, site_of, newcomers, IsToldBy}
 use Rattle.turn_lock.proofs.PassLists.{new_all, length_new}
 use Rattle.policy_words.specs.Naming.{NamedPolicy}
 use Rattle.connection_laws.specs.Desks.{RepliesCanBeTold}
@@ -57,7 +57,7 @@ returns-clause-worked g c =
     let o1 : P root.named root.entries c.args.passes.items = subst (λ (p : NamedPolicy). P p root.entries c.args.passes.items) c.requires.policy o in
     let o2 : P root.named [] c.args.passes.items = subst (λ (es : List Entry). P root.named es c.args.passes.items) c.requires.empty o1 in
     let o3 : P root.named [] (newcomers c.args.desk [] 0 n) = subst (λ (ps : List (Holder BookView)). P root.named [] ps) c.requires.passes o2 in
-    let told : Each (IsTold [] h) qs = subst (λ (es : List Entry). Each (IsTold es h) qs) c.requires.empty c.close.ensures.each in
+    let told : Each (IsToldBy [] h) qs = subst (λ (es : List Entry). Each (IsToldBy es h) qs) c.requires.empty c.close.ensures.each in
     crew_is_told g.D.L.Link.traffic g.C.Clock.readings g.D.Door.links g.D.Door.faults root.named (IsLegalLedger root) (now_after root) (site_of c.args.desk) root.birth c.requires.served.timed h
     c.args.desk n qs c.args.crew.now.items c.relieve.new.crew.items o3 told
 

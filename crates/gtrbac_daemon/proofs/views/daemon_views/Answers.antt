@@ -5,7 +5,7 @@ use Rattle.policy_commands.specs.declared.judging.Admitted.{Admitted}
 use Rattle.policy_commands.specs.declared.judging.Admitted.TheVariants.{Ended}
 use Rattle.policy_commands.specs.Ends.{told, seen_end}
 use Rattle.policy_commands.specs.Printing.{IsPrinted}
-use Rattle.gtrbac_daemon.specs.Words.{IsFound, IsFailure, IsSteadyFor}
+use Rattle.gtrbac_daemon.specs.Words.{IsFound, IsAdmitFailure, IsSteadyFor}
 use Rattle.gtrbac_daemon.proofs.ViewServed.{fresh_crew, some_crew, fresh_viewers, view_kept, view_served, view_starved}
 use Rattle.gtrbac_daemon.proofs.ViewTelling.{runs_named, runs_unnamed}
 use Rattle.gtrbac_daemon.proofs.views.daemon_views.Goals as goal
@@ -26,13 +26,13 @@ returns-in-Ok-Safe-clause-runs g c =
     let s = g.S.Shelf in
     let old = c.args.shelf.now in
     let new = c.find_policy.new.shelf in
-    let hard = Rose (s.hard_faults old) (s.hard_faults new) in
+    let hard = Rose (s.stock old).hard_faults (s.stock new).hard_faults in
     runs_named g.D.L.Link.traffic (map string_bytes c.args.words.now) _ _ _ (fresh_crew k l f c.args.crew.now.items c.requires.fresh) (some_crew k l f c.args.crew.now.items c.requires.size.0)
     (fresh_viewers k l f c.args.viewers.now.items c.requires.new) c.in-Some.name.now (sym c.in-Some.ensures)
     (view_served _ _ _ _ (Some c.in-Some.name.now) c.in-Ok-Safe.safe
-    (subst (λ (a : Admitted). IsFound hard (s.contents old) c.in-Some.name.now a) c.in-Ok-Safe.field-0-is c.in-Ok-Safe.ensures.found)
-    (subst (λ (a : Admitted). IsSteadyFor (s.hard_faults new ≡ s.hard_faults old) a) c.in-Ok-Safe.field-0-is c.in-Ok-Safe.ensures.steady)
-    (c.serve_views.ensures (s.contents old) (s.contents new) (s.faults old) (s.hard_faults old) (s.faults new) (s.hard_faults new)))
+    (subst (λ (a : Admitted). IsFound hard (s.stock old).contents c.in-Some.name.now a) c.in-Ok-Safe.field-0-is c.in-Ok-Safe.ensures.found)
+    (subst (λ (a : Admitted). IsSteadyFor ((s.stock new).hard_faults ≡ (s.stock old).hard_faults) a) c.in-Ok-Safe.field-0-is c.in-Ok-Safe.ensures.steady)
+    (c.serve_views.ensures (s.stock old) (s.stock new)))
     c.in-Ok-Safe.ensures.same
 
 pub returns-in-Ok-Ended-clause-runs : goal.returns-in-Ok-Ended-clause-runs
@@ -43,17 +43,17 @@ returns-in-Ok-Ended-clause-runs g c =
     let s = g.S.Shelf in
     let old = c.args.shelf.now in
     let new = c.find_policy.new.shelf in
-    let hard = Rose (s.hard_faults old) (s.hard_faults new) in
-    let rose = Rose (s.faults old) (s.faults new) in
+    let hard = Rose (s.stock old).hard_faults (s.stock new).hard_faults in
+    let rose = Rose (s.stock old).faults (s.stock new).faults in
     let o = g.K.Sink in
     let end = c.in-Ok-Ended.end in
-    let failed : IsFailure rose (Ended end) = subst (λ (a : Admitted). IsFailure rose a) c.in-Ok-Ended.field-0-is c.in-Ok-Ended.ensures.failed in
+    let failed : IsAdmitFailure rose (Ended end) = subst (λ (a : Admitted). IsAdmitFailure rose a) c.in-Ok-Ended.field-0-is c.in-Ok-Ended.ensures.failed in
     runs_named g.D.L.Link.traffic (map string_bytes c.args.words.now) _ _ _ (fresh_crew k l f c.args.crew.now.items c.requires.fresh) (some_crew k l f c.args.crew.now.items c.requires.size.0)
     (fresh_viewers k l f c.args.viewers.now.items c.requires.new) c.in-Some.name.now (sym c.in-Some.ensures)
     (view_kept _ _ _ _ (Some c.in-Some.name.now) (seen_end end)
-    (subst (λ (a : Admitted). IsFound hard (s.contents old) c.in-Some.name.now a) c.in-Ok-Ended.field-0-is c.in-Ok-Ended.ensures.found) failed
-    (subst (λ (a : Admitted). IsSteadyFor (s.hard_faults new ≡ s.hard_faults old) a) c.in-Ok-Ended.field-0-is c.in-Ok-Ended.ensures.steady)
-    (subst (λ (t : List ℕ). IsPrinted c.print-in-Ok-Ended.result (told end.status t) (o.written c.args.out.now) (o.written c.print-in-Ok-Ended.new.out) (o.faults c.args.out.now) (o.faults c.print-in-Ok-Ended.new.out)) c.as_slice.ensures c.print-in-Ok-Ended.ensures) refl refl refl)
+    (subst (λ (a : Admitted). IsFound hard (s.stock old).contents c.in-Some.name.now a) c.in-Ok-Ended.field-0-is c.in-Ok-Ended.ensures.found) failed
+    (subst (λ (a : Admitted). IsSteadyFor ((s.stock new).hard_faults ≡ (s.stock old).hard_faults) a) c.in-Ok-Ended.field-0-is c.in-Ok-Ended.ensures.steady)
+    (subst (λ (t : List ℕ). IsPrinted c.print-in-Ok-Ended.result (told end.status t) (o.output c.args.out.now).written (o.output c.print-in-Ok-Ended.new.out).written (o.output c.args.out.now).faults (o.output c.print-in-Ok-Ended.new.out).faults) c.as_slice.ensures c.print-in-Ok-Ended.ensures) refl refl refl)
     c.in-Ok-Ended.ensures.same
 
 pub returns-in-Err-clause-runs : goal.returns-in-Err-clause-runs

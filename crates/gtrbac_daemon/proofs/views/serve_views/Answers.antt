@@ -14,7 +14,7 @@ use Rattle.gtrbac_daemon.proofs.ViewServed.{numbers_same, status_same, has_serve
 use Rattle.gtrbac_daemon.proofs.views.serve_views.Goals as goal
 
 pub returns-in-Ok-serve_views_from : goal.returns-in-Ok-serve_views_from
-returns-in-Ok-serve_views_from g c = λ texts texts' m n m' n'.
+returns-in-Ok-serve_views_from g c = λ stock stock'.
     let k = g.C.Clock.readings in
     let l = g.D.Door.links in
     let f = g.D.Door.faults in
@@ -51,14 +51,14 @@ returns-in-Ok-serve_views_from g c = λ texts texts' m n m' n'.
     )
 
 pub returns-in_default : goal.returns-in_default
-returns-in_default g c = λ texts texts' m n m' n'. (
+returns-in_default g c = λ stock stock'. (
   [],
   record {
     birth = c.now-minute.result;
     reads = c.now-minute.ensures;
     ends =
         inr (record {
-          nothing = (refl, Keeps-refl (g.K.Sink.written c.args.out.now), refl);
+          nothing = (refl, Keeps-refl (g.K.Sink.output c.args.out.now).written, refl);
           crew = refl;
           viewers = refl;
         });
@@ -66,7 +66,7 @@ returns-in_default g c = λ texts texts' m n m' n'. (
 )
 
 pub returns : goal.returns
-returns g c = λ texts texts' m n m' n'.
+returns g c = λ stock stock'.
     let err = c.in-Err.ensures.err in
     let K = crewmen g.C.Clock.readings g.D.Door.links g.D.Door.faults in
     let V = watchers g.D.Door.links g.D.Door.faults in (
@@ -76,7 +76,7 @@ returns g c = λ texts texts' m n m' n'.
         reads = c.now-minute.ensures;
         ends =
             inr (record {
-              nothing = (refl, Keeps-refl (g.K.Sink.written c.args.out.now), refl);
+              nothing = (refl, Keeps-refl (g.K.Sink.output c.args.out.now).written, refl);
               crew = λ i. K (err.0 i).items;
               viewers = λ i. V (err.1 i).items;
             });

@@ -1,7 +1,8 @@
 use denote.Param.Send.{sendable}
 use Rattle.std.proofs.Crossing.{crosses}
 use Rattle.locked_history.proofs.Crossing.{desk_sync}
-use Rattle.line_server.proofs.Crossing.{post_row_send, policy_sync, heap_sync}
+use Rattle.policy_book.proofs.Crossing.{policy_sync}
+use Rattle.line_server.proofs.Crossing.{post_row_send, heap_sync}
 use Rattle.snapshot_readers.proofs.SeatSending.{seat_row_send}
 use Rattle.gtrbac_daemon.proofs.views_serving.run_both.Goals as goal
 

@@ -1,7 +1,7 @@
 use Rattle.std.proofs.Common.{◌≡◌, ℕ, ◌<◌, ◌≤◌, List, [], length, drop, sym, ap, subst, ◌∙◌}
 use Rattle.gt_base.specs.declared.requests.Entry.{Entry}
 use Rattle.turn_lock.specs.Turns.{Each, part}
-use Rattle.turn_lock.specs.Holders.{Holder, site_of, newcomers, IsTold}
+use Rattle.turn_lock.specs.Holders.{Holder, site_of, newcomers, IsToldBy}
 use Rattle.turn_lock.proofs.PassLists.{new_all, length_new}
 use Rattle.gtrbac_daemon.proofs.Posted.{ready, InOrder, in_order, all_idle, none_missing, crew_is_told}
 use Rattle.gtrbac_daemon.proofs.views_serving.serve_and_close.Goals as goal
@@ -52,7 +52,7 @@ returns-clause-worked g c =
     c.man.ensures.passes_are c.man.ensures.workers_are c.relieve.ensures.passes_are c.relieve.ensures.crew_is c.run_both.ensures.posts c.run_both.ensures.works in
     let o2 : P [] c.args.opened.1.items = subst (λ (es : List Entry). P es c.args.opened.1.items) c.requires.empty o in
     let o3 : P [] (newcomers c.args.opened.0 [] 0 n) = subst (λ (ps : List (Holder g.row.M.Denot)). P [] ps) c.requires.passes o2 in
-    let told : Each (IsTold [] h) qs = subst (λ (es : List Entry). Each (IsTold es h) qs) c.requires.empty c.close.ensures.each in
+    let told : Each (IsToldBy [] h) qs = subst (λ (es : List Entry). Each (IsToldBy es h) qs) c.requires.empty c.close.ensures.each in
     λ birth timed.
     crew_is_told g.D.L.Link.traffic g.C.Clock.readings g.D.Door.links g.D.Door.faults c.args.policy.now legal now (site_of c.args.opened.0) birth timed h
     c.args.opened.0 n qs c.args.crew.now.items c.relieve.new.crew.items o3 told

@@ -5,7 +5,7 @@ use Rattle.gt_base.specs.declared.requests.Entry.{Entry}
 use Rattle.turn_lock.specs.Turns.{part}
 use Rattle.turn_lock.specs.Holders.{newcomers}
 use Rattle.policy_words.specs.Naming.{NamedPolicy}
-use Rattle.connection_laws.specs.Desks.{AreNamed, RepliesCanBeTold}
+use Rattle.connection_laws.specs.Desks.{MayBeAsked, RepliesCanBeTold}
 use Rattle.core_machine.specs.Books.{BookView, SameRoot, IsNamedFor, now_after}
 use Rattle.snapshot_readers.specs.Ledgers.{IsLegalLedger, CanBeServed}
 use Rattle.snapshot_readers.specs.Glazed.{Glazed, fresh_glass}
@@ -26,8 +26,8 @@ serve_and_close-board-requires-send-M g c κs within = search (board_send, senda
 
 pub serve_and_close-board-requires-clause-named : goal.serve_and_close-board-requires-clause-named
 serve_and_close-board-requires-clause-named g c κs within =
-    subst (λ (b : BookView). AreNamed c.args.policy.now (IsNamedFor b)) (sym c.in-Ok-new.ensures.desk.0)
-    (subst (λ (p : NamedPolicy). AreNamed p (IsNamedFor c.args.board)) (sym c.requires.policy) c.requires.served.named)
+    subst (λ (b : BookView). MayBeAsked c.args.policy.now (IsNamedFor b)) (sym c.in-Ok-new.ensures.desk.0)
+    (subst (λ (p : NamedPolicy). MayBeAsked p (IsNamedFor c.args.board)) (sym c.requires.policy) c.requires.served.named)
 
 pub serve_and_close-board-requires-clause-replies : goal.serve_and_close-board-requires-clause-replies
 serve_and_close-board-requires-clause-replies g c κs within =

@@ -21,8 +21,8 @@ returns-in-Ok-serve_at-clause-headline g c =
     let named : c.in-Ok.policy ≡ board.named = (c.in-Ok.ensures ∙ c.policy.ensures.value) ∙ sym c.in_ok-board.ensures.root.0 in
     let worked : HaveWorked g.D.L.Link.traffic board.named board.birth closed.entries 0 (K c.args.crew.now.items) (K c.serve_at.new.crew.items) =
     subst (λ (p : NamedPolicy). HaveWorked g.D.L.Link.traffic p board.birth closed.entries 0 (K c.args.crew.now.items) (K c.serve_at.new.crew.items)) named c.in-Ok-serve_at.ensures.worked in
-    headline_of g.D.L.Link.traffic c.args.safe c.args.birth (K c.args.crew.now.items) (K c.serve_at.new.crew.items) board closed c.policy.ensures.safe
-    c.in_ok-board.ensures.root.0 c.in_ok-board.ensures.root.1 c.in-Ok-serve_at.ensures.root c.keeps.ensures.book c.keeps.ensures.only worked
+    headline_of g.D.L.Link.traffic c.args.safe c.args.birth (K c.args.crew.now.items) (K c.serve_at.new.crew.items) board closed c.keeps.ensures
+    c.in_ok-board.ensures.root.0 c.in_ok-board.ensures.root.1 c.in-Ok-serve_at.ensures.root c.keeps-in-Ok-serve_at.ensures.kept c.keeps-in-Ok-serve_at.ensures.only worked
     (λ n low. c.in-Ok-serve_at.ensures.others n (subst (λ (k : ℕ). k ≤ n) (as_long g.C.Clock.readings g.D.Door.links g.D.Door.faults c.args.crew.now.items) low))
 
 pub returns-in-Ok-serve_at-clause-told : goal.returns-in-Ok-serve_at-clause-told

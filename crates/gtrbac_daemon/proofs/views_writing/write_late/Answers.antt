@@ -6,12 +6,12 @@ pub returns-then-status-eq14 : goal.returns-then-status-eq14
 returns-then-status-eq14 g c =
     let l = c.args.ledger.now in
     let o = g.K.Sink in
-    written_on (log_text l.named l.birth l.entries) c.args.line.now c.write_up-status.result c.print.result (o.written c.args.out.now) (o.written c.write_up-status.new.out) (o.written c.print.new.out)
-    (o.faults c.args.out.now) (o.faults c.write_up-status.new.out) (o.faults c.print.new.out) c.if-status-eq14.true c.write_up-status.ensures c.print.ensures
+    written_on (log_text l.named l.birth l.entries) c.args.line.now c.write_up-status.result c.print.result (o.output c.args.out.now).written (o.output c.write_up-status.new.out).written (o.output c.print.new.out).written
+    (o.output c.args.out.now).faults (o.output c.write_up-status.new.out).faults (o.output c.print.new.out).faults c.if-status-eq14.true c.write_up-status.ensures c.print.ensures
 
 pub returns-else-status-eq14 : goal.returns-else-status-eq14
 returns-else-status-eq14 g c =
     let l = c.args.ledger.now in
     let o = g.K.Sink in
-    written_short (log_text l.named l.birth l.entries) c.args.line.now c.write_up-status.result c.write_up-status.result (o.written c.args.out.now) (o.written c.write_up-status.new.out) (o.written c.write_up-status.new.out)
-    (o.faults c.args.out.now) (o.faults c.write_up-status.new.out) (o.faults c.write_up-status.new.out) c.if-status-eq14.false c.write_up-status.ensures
+    written_short (log_text l.named l.birth l.entries) c.args.line.now c.write_up-status.result c.write_up-status.result (o.output c.args.out.now).written (o.output c.write_up-status.new.out).written (o.output c.write_up-status.new.out).written
+    (o.output c.args.out.now).faults (o.output c.write_up-status.new.out).faults (o.output c.write_up-status.new.out).faults c.if-status-eq14.false c.write_up-status.ensures

@@ -18,7 +18,7 @@ returns-in-Ok g c =
     let line : c.as_slice.result.now ≡ late_line c.args.late (length l.entries) = c.as_slice.ensures.value ∙ (c.in-Ok.ensures ∙ λ i. late_line (sym c.in-Some.is i) (len i)) in (
       14,
       inl (sym c.if-due-eq14.true),
-      subst (λ (t : List ℕ). IsWritten 14 (log ++ t) c.write_late.result (o.written c.args.out.now) (o.written c.write_late.new.out) (o.faults c.args.out.now) (o.faults c.write_late.new.out)) line c.write_late.ensures,
+      subst (λ (t : List ℕ). IsWritten 14 (log ++ t) c.write_late.result (o.output c.args.out.now).written (o.output c.write_late.new.out).written (o.output c.args.out.now).faults (o.output c.write_late.new.out).faults) line c.write_late.ensures,
     )
 
 pub returns-in_default : goal.returns-in_default
@@ -32,6 +32,6 @@ returns-in_default g c =
     ] in (
       c.args.due,
       inl refl,
-      subst (λ (t : List ℕ). IsWritten c.args.due t c.write_up-in_default.result (o.written c.args.out.now) (o.written c.write_up-in_default.new.out) (o.faults c.args.out.now) (o.faults c.write_up-in_default.new.out))
+      subst (λ (t : List ℕ). IsWritten c.args.due t c.write_up-in_default.result (o.output c.args.out.now).written (o.output c.write_up-in_default.new.out).written (o.output c.args.out.now).faults (o.output c.write_up-in_default.new.out).faults)
           (sym (plain_text l.named l.birth l.entries c.args.due c.args.late none)) c.write_up-in_default.ensures,
     )

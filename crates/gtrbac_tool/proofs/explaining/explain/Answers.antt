@@ -13,10 +13,10 @@ accept-requires-clause-legal c =
       model = model_in b;
       legal = subst (λ (np : NamedPolicy). Legal np.policy c.birth.result c.entries.result.now.items (model_in b)) (sym policy_is)
           (subst (λ t. Legal b.named.policy t c.entries.result.now.items (model_in b)) (sym c.birth.ensures)
-          (subst (λ h. Legal b.named.policy b.birth h (model_in b)) (sym c.entries.ensures.value) c.entries.ensures.legal));
+          (subst (λ h. Legal b.named.policy b.birth h (model_in b)) (sym c.entries.ensures.value) c.keeps.ensures.kept.legal));
     }
 
 pub accept-requires-clause-safe : goal.accept-requires-clause-safe
 accept-requires-clause-safe c =
     let policy_is : c.policy-policy.result.now ≡ c.args.book.now.named = c.policy-policy.ensures ∙ c.ground.ensures.value in
-    subst (λ (np : NamedPolicy). IsSafe np.policy.triggers) (sym policy_is) c.ground.ensures.safe
+    subst (λ (np : NamedPolicy). IsSafe np.policy.triggers) (sym policy_is) c.keeps.ensures.safe

@@ -18,8 +18,8 @@ invariant-loop-line g l =
       plays : Plays l.initial.run.book.named l.initial.run.book.birth front (at_birth l.initial.run.book.named l.initial.run.book.birth) (going_of l.run.book l.run.actor (sent ++ l.run.text.items));
       at : l.number ≡ l.before + length front;
       count : l.number + length l.lines < 2 ^ 32;
-      written : Appends (sink.written l.fn.out) (sink.written l.out) sent;
-      steady : sink.faults l.out ≡ sink.faults l.fn.out;
+      written : Appends (sink.output l.fn.out).written (sink.output l.out).written sent;
+      steady : (sink.output l.out).faults ≡ (sink.output l.fn.out).faults;
     }
 
 abbrev pub decreases-loop-line : goal.decreases-loop-line

@@ -28,4 +28,4 @@ pub returns-clause-root : goal.returns-clause-root
 returns-clause-root c = c.loop-minute.invariant.root
 
 pub returns-clause-way : goal.returns-clause-way
-returns-clause-way c = arrives c.args.minute c.args.book.now c.loop-minute.book c.loop-minute.invariant (omega arith) c.entries-entries.ensures.short
+returns-clause-way c = arrives c.args.minute c.args.book.now c.loop-minute.book c.loop-minute.invariant (omega arith) c.keeps.ensures.kept.short

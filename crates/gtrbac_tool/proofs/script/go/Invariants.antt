@@ -1,7 +1,7 @@
 use Rattle.std.proofs.Common.{◌-◌}
 use Rattle.core_machine.specs.Books.{now_in}
-use Rattle.gtrbac_tool.specs.Going.{Ticked}
 use Rattle.gtrbac_tool.proofs.script.go.Given as goal
+use Rattle.gtrbac_tool.proofs.Steps.{Ticked}
 
 -- the ticks so far lead there
 abbrev pub invariant-loop-minute : goal.invariant-loop-minute

@@ -1,11 +1,11 @@
 use Rattle.std.proofs.Common.{ℕ, ◌+◌, List, [], ◌∷◌, ◌++◌, length, refl, sym, ◌∙◌, ap, subst, arith, append_assoc, length-append}
 use Rattle.gt_base.specs.declared.requests.Actor.{Actor}
 use Rattle.core_machine.specs.Books.{BookView, SameRoot-refl, SameRoot-trans}
-use Rattle.policy_commands.specs.Ends.{Told, told}
+use Rattle.policy_commands.specs.Ends.{EndView, told}
 use Rattle.request_text.specs.Replies.{fault_word}
 use Rattle.gtrbac_tool.specs.declared.script.Played.{Played}
 use Rattle.gtrbac_tool.specs.declared.script.Played.TheVariants.{On, Full, Bad}
-use Rattle.gtrbac_tool.specs.Told.{behind, script_fault, steps_full}
+use Rattle.gtrbac_tool.specs.EndTexts.{behind, script_fault, steps_full}
 use Rattle.gtrbac_tool.specs.Script.{said, at_birth}
 use Rattle.gtrbac_tool.specs.Going.{going_of, IsActorOf, PlaysAs, IsOutcome}
 use Rattle.gtrbac_tool.proofs.Steps.{plays_more, rooted, stop_out, last_out, outcome, of_outcome}
@@ -55,10 +55,10 @@ returns-in-Full c =
     let root = SameRoot-trans b0 old.book new.book inv.root c.in_ok-play_line.ensures.root in
     let did = rooted b0 old.book line Full s t inv.root
     (subst (λ (how : Played). PlaysAs old.book.named old.book.birth (said old.book.named line) how s t) c.in-Full.is c.in_ok-play_line.ensures.did) in
-    of_outcome (λ (b : BookView) (end : Told). IsOutcome b0.named b0.birth (c.args.before + 1) c.args.lines b end) c.ended.result new.book (behind new.text.items (steps_full (c.loop-line.number + 1))) c.ended.ensures
-    (λ (y : Told) is. outcome b0 new.book (c.args.before + 1) c.args.lines y root
+    of_outcome (λ (b : BookView) (end : EndView). IsOutcome b0.named b0.birth (c.args.before + 1) c.args.lines b end) c.ended.result new.book (behind new.text.items (steps_full (c.loop-line.number + 1))) c.ended.ensures
+    (λ (y : EndView) is. outcome b0 new.book (c.args.before + 1) c.args.lines y root
     (stop_out b0 new.book s new.text.items c.args.before c.loop-line.number c.args.lines c.loop-line.lines c.next.new.self inv.front line steps_full y
-    root c.entries-entries.ensures.legal inv.parts c.in-Some.ensures.steps inv.plays inv.at did.0 did.1 is))
+    root c.keeps.ensures.kept.legal inv.parts c.in-Some.ensures.steps inv.plays inv.at did.0 did.1 is))
 
 pub returns-in-Bad : goal.returns-in-Bad
 returns-in-Bad c =
@@ -72,12 +72,12 @@ returns-in-Bad c =
     let root = SameRoot-trans b0 old.book new.book inv.root c.in_ok-play_line.ensures.root in
     let did = rooted b0 old.book line (Bad c.in-Bad.fault) s t inv.root
     (subst (λ (how : Played). PlaysAs old.book.named old.book.birth (said old.book.named line) how s t) c.in-Bad.is c.in_ok-play_line.ensures.did) in
-    let kind : ℕ → Told = λ n. script_fault n (fault_word c.in-Bad.fault) in
-    of_outcome (λ (b : BookView) (end : Told). IsOutcome b0.named b0.birth (c.args.before + 1) c.args.lines b end) c.ended-in-Bad.result new.book
+    let kind : ℕ → EndView = λ n. script_fault n (fault_word c.in-Bad.fault) in
+    of_outcome (λ (b : BookView) (end : EndView). IsOutcome b0.named b0.birth (c.args.before + 1) c.args.lines b end) c.ended-in-Bad.result new.book
     (behind new.text.items (script_fault (c.loop-line.number + 1) c.fault_word.result.now)) c.ended-in-Bad.ensures
-    (λ (y : Told) is. outcome b0 new.book (c.args.before + 1) c.args.lines y root
+    (λ (y : EndView) is. outcome b0 new.book (c.args.before + 1) c.args.lines y root
     (stop_out b0 new.book s new.text.items c.args.before c.loop-line.number c.args.lines c.loop-line.lines c.next.new.self inv.front line kind y
-    root c.entries-entries-in-Bad.ensures.legal inv.parts c.in-Some.ensures.steps inv.plays inv.at did.0 did.1
+    root c.keeps-in-Bad.ensures.kept.legal inv.parts c.in-Some.ensures.steps inv.plays inv.at did.0 did.1
     (is ∙ ap (λ (w : List ℕ). behind new.text.items (script_fault (c.loop-line.number + 1) w)) c.fault_word.ensures)))
 
 pub returns : goal.returns
@@ -85,5 +85,5 @@ returns c =
     let inv = c.loop-line.invariant in
     let run = c.loop-line.run in
     outcome c.args.run.book run.book (c.args.before + 1) c.args.lines (told 0 c.from.result.items) inv.root
-    (last_out c.args.run.book run.book run.actor run.text.items c.args.before c.args.lines c.loop-line.lines inv.front (told 0 c.from.result.items) inv.root c.entries-entries-2.ensures.legal inv.parts c.in_default.ensures.steps.0
+    (last_out c.args.run.book run.book run.actor run.text.items c.args.before c.args.lines c.loop-line.lines inv.front (told 0 c.from.result.items) inv.root c.keeps-2.ensures.kept.legal inv.parts c.in_default.ensures.steps.0
     inv.plays (ap (λ (ts : List ℕ). told 0 ts) c.from.ensures))

@@ -13,4 +13,4 @@ write_reply-requires c =
     let actor = c.args.run.now.actor in
     let ok = c.in-Ok.ensures.ok in
     subst (λ (r : Reply). IsTrue (has_reply c.policy.result.now.policy r)) (sym ok.reply_is)
-    (subst (λ (np : NamedPolicy). IsTrue (has_reply np.policy (reply_in b actor c.args.request))) (sym (c.policy.ensures.value ∙ ok.gains.named)) (can_write b c.policy-policy.ensures.kept actor c.args.request).named)
+    (subst (λ (np : NamedPolicy). IsTrue (has_reply np.policy (reply_in b actor c.args.request))) (sym (c.policy.ensures.value ∙ ok.gains.named)) (can_write b c.keeps.ensures.kept actor c.args.request).named)

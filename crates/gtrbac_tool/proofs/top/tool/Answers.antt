@@ -9,12 +9,12 @@ use Rattle.gtrbac_tool.proofs.top.tool.Goals as goal
 pub returns-in-Some : goal.returns-in-Some
 returns-in-Some g c =
     gen_runs (map string_bytes c.args.words.now) c.run_gen.result
-    (scene g.S.Shelf.contents g.S.Shelf.faults g.S.Shelf.hard_faults g.I.Source.left g.I.Source.faults g.K.Sink.written g.K.Sink.faults c.args.shelf.now c.args.input.now c.args.out.now)
-    (g.K.Sink.written c.run_gen.new.out) (g.K.Sink.faults c.run_gen.new.out) (seen_recipe c.in-Some.recipe) c.in-Some.ensures.some c.run_gen.ensures
+    (scene g.S.Shelf.stock g.I.Source.intake g.K.Sink.output c.args.shelf.now c.args.input.now c.args.out.now)
+    (g.K.Sink.output c.run_gen.new.out).written (g.K.Sink.output c.run_gen.new.out).faults (seen_recipe c.in-Some.recipe) c.in-Some.ensures.some c.run_gen.ensures
 
 pub returns-in-None : goal.returns-in-None
 returns-in-None g c =
     runs (map string_bytes c.args.words.now)
-    (scene g.S.Shelf.contents g.S.Shelf.faults g.S.Shelf.hard_faults g.I.Source.left g.I.Source.faults g.K.Sink.written g.K.Sink.faults c.args.shelf.now c.args.input.now c.args.out.now)
-    (scene g.S.Shelf.contents g.S.Shelf.faults g.S.Shelf.hard_faults g.I.Source.left g.I.Source.faults g.K.Sink.written g.K.Sink.faults c.run_command.new.shelf c.run_command.new.input c.run_command.new.out)
+    (scene g.S.Shelf.stock g.I.Source.intake g.K.Sink.output c.args.shelf.now c.args.input.now c.args.out.now)
+    (scene g.S.Shelf.stock g.I.Source.intake g.K.Sink.output c.run_command.new.shelf c.run_command.new.input c.run_command.new.out)
     c.run_command.result c.run_command.ensures.answers c.run_command.ensures.leaves

@@ -1,12 +1,13 @@
 use Rattle.std.proofs.Common.{◌≡◌, ℕ, ◌-◌, ◌<◌, length, replicate, slice_index_or, sym, ◌∙◌, ap, subst, arith}
-use Rattle.hybrid_hierarchy.specs.Searches.{no_edge, seniors_in, IsFirst}
+use Rattle.hybrid_hierarchy.specs.Searches.{seniors_in, IsFirstEdge}
 use Rattle.hybrid_hierarchy.proofs.Linking.{Linked, linked_start, senior_low, linked_step}
 use Rattle.hybrid_hierarchy.proofs.outgoing.outgoing_of.Goals as goal
+use Rattle.hybrid_hierarchy.specs.declared.outgoing.TheConstants.{NO_EDGE}
 
 pub loop-n-init : goal.loop-n-init
 loop-n-init c =
     let w = subst (λ xs. Linked c.args.edges.now xs c.in_ok-next.next.items (length c.args.edges.now)) (sym c.in_ok-first.ensures)
-    (subst (λ xs. Linked c.args.edges.now (replicate 1_000 no_edge) xs (length c.args.edges.now)) (sym c.in_ok-next.ensures) (linked_start c.args.edges.now)) in
+    (subst (λ xs. Linked c.args.edges.now (replicate 1_000 NO_EDGE) xs (length c.args.edges.now)) (sym c.in_ok-next.ensures) (linked_start c.args.edges.now)) in
     record { low = w.low; nodes = w.nodes; size = w.size; firsts = w.firsts; nexts = w.nexts }
 
 pub index-requires : goal.index-requires
@@ -34,6 +35,6 @@ returns c =
     let none : c.loop-n.n ≡ 0 = omega (arith, c.loop-n-test.false) in
     record {
       size = c.loop-n.invariant.size;
-      firsts = subst (λ k. (v : ℕ) → IsFirst c.args.edges.now v k (slice_index_or c.loop-n.first.items v no_edge)) none c.loop-n.invariant.firsts;
+      firsts = subst (λ k. (v : ℕ) → IsFirstEdge c.args.edges.now v k (slice_index_or c.loop-n.first.items v NO_EDGE)) none c.loop-n.invariant.firsts;
       nexts = λ m e is. c.loop-n.invariant.nexts m e (omega (arith, none)) is;
     }

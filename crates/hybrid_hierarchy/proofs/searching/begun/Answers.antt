@@ -8,8 +8,8 @@ use Rattle.hybrid_hierarchy.proofs.searching.begun.Goals as goal
 
 pub loop-place-init : goal.loop-place-init
 loop-place-init g c =
-    let ok = g.Q.Question.passes c.args.asked.now in
-    let goals = g.Q.Question.goals c.args.asked.now in
+    let ok = g.Q.WalkQuestion.passes c.args.asked.now in
+    let goals = g.Q.WalkQuestion.goals c.args.asked.now in
     record {
       size = refl;
       searched = ([], subst (λ q. Searched ok goals c.args.edges.now c.args.from.now 0 c.args.seen.now q [] 0 0) (sym c.in_ok-queue.ensures.items) (search_nothing ok goals c.args.edges.now c.args.from.now c.args.seen.now c.requires.unmarked));
@@ -22,8 +22,8 @@ bounds-seen-role g c =
 
 pub loop-place-preserved : goal.loop-place-preserved
 loop-place-preserved g c =
-    let ok = g.Q.Question.passes c.args.asked.now in
-    let goals = g.Q.Question.goals c.args.asked.now in
+    let ok = g.Q.WalkQuestion.passes c.args.asked.now in
+    let goals = g.Q.WalkQuestion.goals c.args.asked.now in
     let v : ℕ = slice_index_or c.args.from.now c.loop-place.place 0 in
     let is : item_at c.args.from.now c.loop-place.place ≡ _ = item_read c.args.from.now c.loop-place.place 0 c.loop-place-test.true in
     let low : v < length c.loop-place.seen = subst (λ k. v < k) (sym c.loop-place.invariant.size) (c.requires.starts c.loop-place.place v is) in

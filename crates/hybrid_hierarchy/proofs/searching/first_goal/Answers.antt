@@ -8,7 +8,7 @@ use Rattle.hybrid_hierarchy.proofs.searching.first_goal.Goals as goal
 pub returns-then-is_goal : goal.returns-then-is_goal
 returns-then-is_goal g c =
     let i : ℕ = c.loop-role.role-index in
-    start_is_least (g.Q.Question.passes c.args.asked.now) (g.Q.Question.goals c.args.asked.now) c.args.edges.now c.args.from.now i (slice_index_or c.args.from.now i 0)
+    start_is_least (g.Q.WalkQuestion.passes c.args.asked.now) (g.Q.WalkQuestion.goals c.args.asked.now) c.args.edges.now c.args.from.now i (slice_index_or c.args.from.now i 0)
     (item_read c.args.from.now i 0 c.loop-role-test.true) (sym c.is_goal.ensures ∙ c.if-is_goal.true) c.loop-role.invariant
 
 pub loop-role-preserved : goal.loop-role-preserved
@@ -18,7 +18,7 @@ loop-role-preserved g c = λ j s low at. elim (cases_lt j c.loop-role.role-index
       let i : ℕ = c.loop-role.role-index in
       let last : j ≡ i = as_last j i low k in
       let same : slice_index_or c.args.from.now i 0 ≡ s = one_item c.args.from.now i (slice_index_or c.args.from.now i 0) s (item_read c.args.from.now i 0 c.loop-role-test.true) (ap (item_at c.args.from.now) (sym last) ∙ at) in
-      ap (λ v. g.Q.Question.goals c.args.asked.now (record { 0 = v })) (sym same) ∙ sym c.is_goal.ensures ∙ c.if-is_goal.false
+      ap (λ v. g.Q.WalkQuestion.goals c.args.asked.now (record { 0 = v })) (sym same) ∙ sym c.is_goal.ensures ∙ c.if-is_goal.false
 ]
   where
     as_last : (j i : ℕ) → j < i + 1 → i ≤ j → j ≡ i

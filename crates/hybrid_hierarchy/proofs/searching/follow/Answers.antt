@@ -6,7 +6,7 @@ use Rattle.gt_base.specs.declared.events.RoleId.{RoleId}
 use Rattle.gt_base.specs.declared.policies.HierEdge.{HierEdge}
 use Rattle.hybrid_hierarchy.specs.declared.searching.Found.{Found}
 use Rattle.hybrid_hierarchy.specs.Searches.{is_seen, Following}
-use Rattle.hybrid_hierarchy.proofs.Roles.{one_role}
+use Rattle.walk_laws.proofs.Roles.{one_role}
 use Rattle.hybrid_hierarchy.proofs.Seeking.{grown}
 use Rattle.hybrid_hierarchy.proofs.Following.{edge_at, edge_of, fewer_unseen, following_start, goes_up, following_skip, following_found, following_end, following_goal, following_none}
 use Rattle.hybrid_hierarchy.proofs.searching.follow.Goals as goal
@@ -17,7 +17,7 @@ loop-n-init g c =
     record {
       size = refl;
       fewer = omega arith;
-      following = following_start (g.Q.Question.passes c.args.asked.now) (g.Q.Question.goals c.args.asked.now) c.args.edges.now c.args.from.now c.args.out.now.first.items c.args.out.now.next.items c.requires.hierarchy.0 c.requires.outgoing
+      following = following_start (g.Q.WalkQuestion.passes c.args.asked.now) (g.Q.WalkQuestion.goals c.args.asked.now) c.args.edges.now c.args.from.now c.args.out.now.first.items c.args.out.now.next.items c.requires.hierarchy.0 c.requires.outgoing
           c.args.seen.now c.args.queue.now.items c.args.head c.index.result.now.role c.first_of-n.result c.index.result.now c.requires.head (ap (λ f. f.role) c.index.ensures) c.first_of-n.ensures c.requires.searched;
     }
 
@@ -25,16 +25,16 @@ pub may_pass-requires : goal.may_pass-requires
 may_pass-requires g c =
     let w = c.loop-n.invariant.following in
     let e = edge_of c.args.edges.now w.stop.node c.loop-n.n w.link c.loop-n-test.true in
-    ap (g.Q.Question.leaves c.args.asked.now) (one_role (edge_at c.args.edges.now c.loop-n.n).senior (record { 0 = c.index.result.now.role }) (e.from ∙ w.node)) ∙ sym c.may_leave.ensures.asked ∙ c.if-not-may_leave.false
+    ap (g.Q.WalkQuestion.leaves c.args.asked.now) (one_role (edge_at c.args.edges.now c.loop-n.n).senior (record { 0 = c.index.result.now.role }) (e.from ∙ w.node)) ∙ sym c.may_leave.ensures.asked ∙ c.if-not-may_leave.false
 
 pub returns-then-not-may_leave-clause-found : goal.returns-then-not-may_leave-clause-found
 returns-then-not-may_leave-clause-found g c =
-    following_none (g.Q.Question.passes c.args.asked.now) (g.Q.Question.goals c.args.asked.now) c.args.edges.now c.args.from.now c.args.out.now.first.items c.args.out.now.next.items c.requires.hierarchy.0 c.requires.outgoing
+    following_none (g.Q.WalkQuestion.passes c.args.asked.now) (g.Q.WalkQuestion.goals c.args.asked.now) c.args.edges.now c.args.from.now c.args.out.now.first.items c.args.out.now.next.items c.requires.hierarchy.0 c.requires.outgoing
     c.args.seen.now c.args.queue.now.items c.args.head c.index.result.now.role c.index.result.now c.requires.head (ap (λ f. f.role) c.index.ensures) (c.may_leave.ensures.shut c.if-not-may_leave.true) c.requires.searched
 
 pub returns-then-is_goal-clause-found : goal.returns-then-is_goal-clause-found
 returns-then-is_goal-clause-found g c =
-    following_goal (g.Q.Question.passes c.args.asked.now) (g.Q.Question.goals c.args.asked.now) c.args.edges.now c.args.from.now c.args.out.now.first.items c.args.out.now.next.items c.requires.hierarchy.0 c.requires.outgoing
+    following_goal (g.Q.WalkQuestion.passes c.args.asked.now) (g.Q.WalkQuestion.goals c.args.asked.now) c.args.edges.now c.args.from.now c.args.out.now.first.items c.args.out.now.next.items c.requires.hierarchy.0 c.requires.outgoing
     c.loop-n.seen c.loop-n.queue.items c.args.head c.index.result.now.role c.loop-n.n c.loop-n-test.true c.loop-n.invariant.following (sym c.may_pass.ensures ∙ c.if-may_pass.true) (sym c.is_goal.ensures ∙ c.if-is_goal.true)
 
 pub bounds-edges-n : goal.bounds-edges-n
@@ -58,7 +58,7 @@ index-n-requires g c =
 pub loop-n-smaller : goal.loop-n-smaller
 loop-n-smaller g c =
     let e = edge_of c.args.edges.now c.loop-n.invariant.following.stop.node c.loop-n.n c.loop-n.invariant.following.link c.loop-n-test.true in
-    let up = goes_up (g.Q.Question.passes c.args.asked.now) (g.Q.Question.goals c.args.asked.now) c.args.edges.now c.args.from.now c.args.out.now.first.items c.args.out.now.next.items c.requires.hierarchy.0 c.requires.outgoing
+    let up = goes_up (g.Q.WalkQuestion.passes c.args.asked.now) (g.Q.WalkQuestion.goals c.args.asked.now) c.args.edges.now c.args.from.now c.args.out.now.first.items c.args.out.now.next.items c.requires.hierarchy.0 c.requires.outgoing
     c.loop-n.invariant.following.stop.node c.loop-n.n c.index-n.result.now _ e c.index-n.ensures in
     omega (arith, up.0, up.1)
 
@@ -70,8 +70,8 @@ record Kept (ok : ℕ → HierEdge → Bool) (goals : RoleId → Bool) (es : Lis
 
 pub loop-n-preserved : goal.loop-n-preserved
 loop-n-preserved g c =
-    let ok : ℕ → HierEdge → Bool = g.Q.Question.passes c.args.asked.now in
-    let goals : RoleId → Bool = g.Q.Question.goals c.args.asked.now in
+    let ok : ℕ → HierEdge → Bool = g.Q.WalkQuestion.passes c.args.asked.now in
+    let goals : RoleId → Bool = g.Q.WalkQuestion.goals c.args.asked.now in
     let edges : List HierEdge = c.args.edges.now in
     let starts : List ℕ = c.args.from.now in
     let first : List ℕ = c.args.out.now.first.items in
@@ -113,5 +113,5 @@ loop-n-preserved g c =
 
 pub returns-clause-found : goal.returns-clause-found
 returns-clause-found g c =
-    following_end (g.Q.Question.passes c.args.asked.now) (g.Q.Question.goals c.args.asked.now) c.args.edges.now c.args.from.now c.args.out.now.first.items c.args.out.now.next.items c.requires.hierarchy.0 c.requires.outgoing
+    following_end (g.Q.WalkQuestion.passes c.args.asked.now) (g.Q.WalkQuestion.goals c.args.asked.now) c.args.edges.now c.args.from.now c.args.out.now.first.items c.args.out.now.next.items c.requires.hierarchy.0 c.requires.outgoing
     c.loop-n.seen c.loop-n.queue.items c.args.head c.index.result.now.role c.loop-n.n c.loop-n-test.false c.loop-n.invariant.following

@@ -8,7 +8,7 @@ invariant-loop-n g l =
     record {
       size : length l.seen ≡ length l.fn.seen;
       fewer : length l.queue.items + count_by not l.seen ≤ length l.fn.queue.items + count_by not l.fn.seen;
-      following : Following (g.Q.Question.passes l.asked) (g.Q.Question.goals l.asked) l.edges l.from l.seen l.queue.items l.head l.role l.n;
+      following : Following (g.Q.WalkQuestion.passes l.asked) (g.Q.WalkQuestion.goals l.asked) l.edges l.from l.seen l.queue.items l.head l.role l.n;
     }
 
 abbrev pub decreases-loop-n : goal.decreases-loop-n

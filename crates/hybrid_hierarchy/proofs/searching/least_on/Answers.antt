@@ -7,7 +7,7 @@ use Rattle.gtrbac_model.specs.Hierarchy.{role_arcs}
 use Rattle.least_walk.proofs.Items.{item_within}
 use Rattle.hybrid_hierarchy.specs.declared.searching.Found.{Found}
 use Rattle.hybrid_hierarchy.specs.Nets.{AreWithin}
-use Rattle.hybrid_hierarchy.specs.Searches.{Tells, IsWalkBy, IsGoalBy, roles_of}
+use Rattle.hybrid_hierarchy.specs.Searches.{TellsWalks, IsWalkBy, IsGoalBy, roles_of}
 use Rattle.hybrid_hierarchy.proofs.Leading.{none_ahead}
 use Rattle.hybrid_hierarchy.proofs.Following.{none_seen}
 use Rattle.hybrid_hierarchy.proofs.searching.least_on.Goals as goal
@@ -48,18 +48,18 @@ follow-requires-clause-searched g c = c.loop-head.invariant.searched
 
 pub walk_by-requires-clause-tells : goal.walk_by-requires-clause-tells
 walk_by-requires-clause-tells g c =
-    let by : IsGoalBy (g.Q.Question.passes c.args.asked.now) (g.Q.Question.goals c.args.asked.now) c.args.edges.now c.args.from.now c.follow.new.queue.items c.loop-head.head c.in-Some.n = the_some _ _ _ c.in-Some.n c.in-Some.is c.in_ok-n.ensures.found in
-    (by.walks, subst (λ (q : List Found). Tells q by.walks) (sym c.deref.ensures.value) by.tells)
+    let by : IsGoalBy (g.Q.WalkQuestion.passes c.args.asked.now) (g.Q.WalkQuestion.goals c.args.asked.now) c.args.edges.now c.args.from.now c.follow.new.queue.items c.loop-head.head c.in-Some.n = the_some _ _ _ c.in-Some.n c.in-Some.is c.in_ok-n.ensures.found in
+    (by.walks, subst (λ (q : List Found). TellsWalks q by.walks) (sym c.deref.ensures.value) by.tells)
 
 pub walk_by-requires-clause-inside : goal.walk_by-requires-clause-inside
 walk_by-requires-clause-inside g c =
-    let by : IsGoalBy (g.Q.Question.passes c.args.asked.now) (g.Q.Question.goals c.args.asked.now) c.args.edges.now c.args.from.now c.follow.new.queue.items c.loop-head.head c.in-Some.n = the_some _ _ _ c.in-Some.n c.in-Some.is c.in_ok-n.ensures.found in
+    let by : IsGoalBy (g.Q.WalkQuestion.passes c.args.asked.now) (g.Q.WalkQuestion.goals c.args.asked.now) c.args.edges.now c.args.from.now c.follow.new.queue.items c.loop-head.head c.in-Some.n = the_some _ _ _ c.in-Some.n c.in-Some.is c.in_ok-n.ensures.found in
     subst (λ (q : List Found). c.loop-head.head < length q) (sym c.deref.ensures.value) (omega (arith, item_within by.walks c.loop-head.head by.stop by.here, by.tells.size))
 
 pub returns-in-Some : goal.returns-in-Some
 returns-in-Some g c =
     let walk = c.in_ok-walk_by.field-0 in
-    found_by (g.Q.Question.passes c.args.asked.now) (g.Q.Question.goals c.args.asked.now) c.args.edges.now c.args.from.now c.follow.new.queue.items c.loop-head.head c.in-Some.n walk.start walk.edges
+    found_by (g.Q.WalkQuestion.passes c.args.asked.now) (g.Q.WalkQuestion.goals c.args.asked.now) c.args.edges.now c.args.from.now c.follow.new.queue.items c.loop-head.head c.in-Some.n walk.start walk.edges
     (the_some _ _ _ c.in-Some.n c.in-Some.is c.in_ok-n.ensures.found)
     (subst (λ (q : List Found). IsWalkBy q c.loop-head.head c.in-Some.n walk.start.0 walk.edges) c.deref.ensures.value c.in_ok-walk_by.ensures)
 
@@ -78,5 +78,5 @@ loop-head-preserved g c =
 pub returns : goal.returns
 returns g c =
     let (ws, w) = c.loop-head.invariant.searched in
-    none_ahead (g.Q.Question.passes c.args.asked.now) (g.Q.Question.goals c.args.asked.now) c.args.edges.now c.args.from.now c.loop-head.seen c.loop-head.queue.items ws c.loop-head.head 0 w
+    none_ahead (g.Q.WalkQuestion.passes c.args.asked.now) (g.Q.WalkQuestion.goals c.args.asked.now) c.args.edges.now c.args.from.now c.loop-head.seen c.loop-head.queue.items ws c.loop-head.head 0 w
     (omega (arith, c.loop-head-test.false, c.len.ensures, c.loop-head.queue.ok))

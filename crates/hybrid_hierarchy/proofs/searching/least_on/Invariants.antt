@@ -7,7 +7,7 @@ abbrev pub invariant-loop-head : goal.invariant-loop-head
 invariant-loop-head g l =
     record {
       size : length l.seen ≡ 1_000;
-      searched : HasSearched (g.Q.Question.passes l.asked) (g.Q.Question.goals l.asked) l.edges l.from (length l.from) l.seen l.queue.items l.head 0;
+      searched : HasSearched (g.Q.WalkQuestion.passes l.asked) (g.Q.WalkQuestion.goals l.asked) l.edges l.from (length l.from) l.seen l.queue.items l.head 0;
     }
 
 abbrev pub decreases-loop-head : goal.decreases-loop-head

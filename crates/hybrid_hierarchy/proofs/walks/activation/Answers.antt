@@ -10,7 +10,7 @@ use Rattle.gtrbac_model.specs.Graph.{item_at}
 use Rattle.gtrbac_model.specs.Hierarchy.{usable}
 use Rattle.hybrid_hierarchy.specs.Searches.{leads_on}
 use Rattle.hybrid_hierarchy.proofs.Leaving.{leaving}
-use Rattle.hybrid_hierarchy.proofs.Roles.{is_same_role}
+use Rattle.walk_laws.proofs.Roles.{is_same_role}
 use Rattle.hybrid_hierarchy.proofs.Walking.{nodes_that, whole, starts_low}
 use Rattle.hybrid_hierarchy.proofs.walks.activation.Goals as goal
 

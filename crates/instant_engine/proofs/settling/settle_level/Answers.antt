@@ -6,9 +6,9 @@ use Rattle.dependency_graph.specs.Carried.{level_in}
 use Rattle.gt_base.specs.Held.{TriggerView}
 use Rattle.gt_base.specs.Happening.{HappenedView}
 use Rattle.trigger_rules.specs.Indexed.{numbers}
-use Rattle.instant_engine.specs.OnTheWay.{Keeps, is_due, joined, waiting, missing}
+use Rattle.instant_engine.specs.OnTheWay.{KeepsSet, is_due, head_joined, waiting_with}
 use Rattle.instant_engine.specs.Counted.{first_looks}
-use Rattle.instant_engine.proofs.Steps.{Waits, first_wait, still_wait, keeps_on, less_left, done, elem_of}
+use Rattle.instant_engine.proofs.Steps.{Waits, first_wait, still_wait, keeps_on, less_left, done, elem_of, missing}
 use Rattle.instant_engine.proofs.Prompting.{prompted_wait}
 use Rattle.instant_engine.proofs.Waking.{Grown, grown}
 use Rattle.instant_engine.proofs.settling.settle_level.Goals as goal
@@ -42,8 +42,8 @@ loop-t-smaller g c =
     let head = c.head_if_firing-head.result in
     let most = missing rules c.loop-t.x * (length rules + 1) in
     subst (λ y. missing rules y * (length rules + 1) + length c.join.new.pending.items < most + length c.loop-t.pending.items) (sym c.in_ok-join.ensures.set)
-    (subst (λ (ts : List ℕ). missing rules (joined c.loop-t.x head) * (length rules + 1) + length ts < most + length c.loop-t.pending.items) (sym c.in_ok-join.ensures.pending)
-    (subst (λ (ts : List ℕ). missing rules (joined c.loop-t.x head) * (length rules + 1) + length (waiting rules c.pop.new.self.items head) < most + length ts) (sym c.in-Some.ensures.items)
+    (subst (λ (ts : List ℕ). missing rules (head_joined c.loop-t.x head) * (length rules + 1) + length ts < most + length c.loop-t.pending.items) (sym c.in_ok-join.ensures.pending)
+    (subst (λ (ts : List ℕ). missing rules (head_joined c.loop-t.x head) * (length rules + 1) + length (waiting_with rules c.pop.new.self.items head) < most + length ts) (sym c.in-Some.ensures.items)
     (less_left rules s level c.args.n c.loop-t.x c.pop.new.self.items c.in-Some.t head c.head_if_firing-head.ensures.head)))
 
 pub loop-t-preserved : goal.loop-t-preserved
@@ -54,14 +54,14 @@ loop-t-preserved g c =
     let grown_by = grown rules s level c.args.n c.loop-t.x c.pop.new.self.items (item_at rules c.in-Some.t) c.head_if_firing-head.result c.head_if_firing-head.ensures.head in
     let step : Grown rules s level c.args.n c.loop-t.x c.pop.new.self.items c.join.new.x c.join.new.pending.items =
     subst (λ y. Grown rules s level c.args.n c.loop-t.x c.pop.new.self.items y c.join.new.pending.items) (sym c.in_ok-join.ensures.set)
-    (subst (λ (us : List ℕ). Grown rules s level c.args.n c.loop-t.x c.pop.new.self.items (joined c.loop-t.x c.head_if_firing-head.result) us) (sym c.in_ok-join.ensures.pending) grown_by) in
+    (subst (λ (us : List ℕ). Grown rules s level c.args.n c.loop-t.x c.pop.new.self.items (head_joined c.loop-t.x c.head_if_firing-head.result) us) (sym c.in_ok-join.ensures.pending) grown_by) in
     record {
       keeps = λ base h.
-          subst (Keeps rules s level c.args.n c.loop-t.x c.args.n) (sym c.in_ok-join.ensures.set)
+          subst (KeepsSet rules s level c.args.n c.loop-t.x c.args.n) (sym c.in_ok-join.ensures.set)
           (keeps_on rules s level c.args.n (by_trigger rules level c.args.by.now.levelled.levelling) c.loop-t.x c.head_if_firing-head.result (item_at rules c.in-Some.t) (λ q. elem_of rules c.in-Some.t q) c.head_if_firing-head.ensures.head)
           base (c.loop-t.invariant.keeps base h);
       waits = subst (λ y. Waits rules s level c.args.n y c.join.new.pending.items) (sym c.in_ok-join.ensures.set)
-          (subst (Waits rules s level c.args.n (joined c.loop-t.x c.head_if_firing-head.result)) (sym c.in_ok-join.ensures.pending)
+          (subst (Waits rules s level c.args.n (head_joined c.loop-t.x c.head_if_firing-head.result)) (sym c.in_ok-join.ensures.pending)
           (still_wait rules s level c.args.n (by_trigger rules level c.args.by.now.levelled.levelling) c.loop-t.x c.pop.new.self.items c.in-Some.t c.head_if_firing-head.result c.head_if_firing-head.ensures.head
           (subst (Waits rules s level c.args.n c.loop-t.x) c.in-Some.ensures.items c.loop-t.invariant.waits)));
       sizes = let more = step.size_is in let so_far = c.loop-t.invariant.sizes in omega (arith, more, so_far);

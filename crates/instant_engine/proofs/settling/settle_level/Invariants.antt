@@ -2,16 +2,16 @@ use Rattle.std.proofs.Common.{◌+◌, ◌*◌, ◌≤◌, length}
 use Rattle.gt_base.specs.Sets.{has}
 use Rattle.dependency_graph.specs.Carried.{level_in}
 use Rattle.trigger_rules.specs.Indexed.{numbers}
-use Rattle.instant_engine.specs.OnTheWay.{Keeps, is_due, missing}
+use Rattle.instant_engine.specs.OnTheWay.{KeepsSet, is_due}
 use Rattle.instant_engine.specs.Counted.{size, woken, first_looks}
-use Rattle.instant_engine.proofs.Steps.{Waits}
+use Rattle.instant_engine.proofs.Steps.{Waits, missing}
 use Rattle.instant_engine.proofs.settling.settle_level.Given as goal
 
 -- the set is still on its way and each trigger that fires waits; and so often triggers were looked at
 abbrev pub invariant-loop-t : goal.invariant-loop-t
 invariant-loop-t g l =
     record {
-      keeps : Keeps l.by.rules.now (has l.before.set) (level_in l.by.graph.now.events l.by.strata.now) l.n l.initial.x l.n l.x;
+      keeps : KeepsSet l.by.rules.now (has l.before.set) (level_in l.by.graph.now.events l.by.strata.now) l.n l.initial.x l.n l.x;
       waits : Waits l.by.rules.now (has l.before.set) (level_in l.by.graph.now.events l.by.strata.now) l.n l.x l.pending.items;
       sizes : size l.initial.x ≤ size l.x;
       wakes : woken l.by.rules.now l.initial.x ≤ woken l.by.rules.now l.x;

@@ -1,6 +1,6 @@
 use Rattle.std.proofs.Common.{ℕ, ◌≡◌, ◌+◌, ◌<◌, ◌≤◌, slice_index, sym, subst, arith}
 use Rattle.gt_base.specs.Sets.{has}
-use Rattle.dependency_graph.specs.Carried.{level_in, place_of}
+use Rattle.dependency_graph.specs.Carried.{level_in, event_place}
 use Rattle.gtrbac_model.proofs.Levels.{by_trigger}
 use Rattle.instant_engine.specs.OnTheWay.{IsSettledBelow}
 use Rattle.instant_engine.specs.Counted.{most_looks}
@@ -38,14 +38,14 @@ returns-clause-settled g c =
     let s = has c.args.before.now.set in
     let level = level_in c.args.by.now.graph.now.events c.args.by.now.strata.now in
     (settles c.args.by.now.rules.now c.args.base.now.set s level (by_trigger c.args.by.now.rules.now level c.args.by.now.levelled.levelling) c.loop-n.x c.loop-n.n c.loop-n.invariant.so_far
-    (λ e _. lower _ _ _ (subst (λ k. slice_index c.args.by.now.strata.now (place_of c.args.by.now.graph.now.events e) < k) (sym c.count-n-end.ensures) (c.args.by.now.due.above (place_of c.args.by.now.graph.now.events e))) c.loop-n-test.false)).0
+    (λ e _. lower _ _ _ (subst (λ k. slice_index c.args.by.now.strata.now (event_place c.args.by.now.graph.now.events e) < k) (sym c.count-n-end.ensures) (c.args.by.now.due.above (event_place c.args.by.now.graph.now.events e))) c.loop-n-test.false)).0
 
 pub returns-clause-only : goal.returns-clause-only
 returns-clause-only g c = λ y is.
     let s = has c.args.before.now.set in
     let level = level_in c.args.by.now.graph.now.events c.args.by.now.strata.now in
     (settles c.args.by.now.rules.now c.args.base.now.set s level (by_trigger c.args.by.now.rules.now level c.args.by.now.levelled.levelling) c.loop-n.x c.loop-n.n c.loop-n.invariant.so_far
-    (λ e _. lower _ _ _ (subst (λ k. slice_index c.args.by.now.strata.now (place_of c.args.by.now.graph.now.events e) < k) (sym c.count-n-end.ensures) (c.args.by.now.due.above (place_of c.args.by.now.graph.now.events e))) c.loop-n-test.false)).1 y is
+    (λ e _. lower _ _ _ (subst (λ k. slice_index c.args.by.now.strata.now (event_place c.args.by.now.graph.now.events e) < k) (sym c.count-n-end.ensures) (c.args.by.now.due.above (event_place c.args.by.now.graph.now.events e))) c.loop-n-test.false)).1 y is
 
 pub returns-clause-cost : goal.returns-clause-cost
 returns-clause-cost g c =

@@ -1,10 +1,10 @@
 use Rattle.std.proofs.Common.{◌≡◌, ◌<◌, ◌≤◌, ◌+◌, ℕ, Bool, List, [], ◌∷◌, ◌++◌, length, sym, ◌∙◌, ap, subst, arith, slice_index, append_assoc, append-nil}
 use Rattle.least_walk.specs.declared.graphs.GraphEdge.{GraphEdge}
-use Rattle.least_walk.specs.Distances.{far}
 use Rattle.least_walk.specs.Walks.{IsFirstStep, Descends}
 use Rattle.least_walk.proofs.Items.{item_within, item_read, one_item}
 use Rattle.least_walk.proofs.Chaining.{edge_at}
 use Rattle.least_walk.proofs.walking.follow.Goals as goal
+use Rattle.least_walk.specs.declared.distances.TheConstants.{FAR}
 
 -- the edge that is read is that of the step
 the_edge : (ok : ℕ → Bool) (edges : List GraphEdge) (ds : List ℕ) (v n : ℕ) (step : IsFirstStep ok edges ds v n) → edge_at edges n ≡ step.edge
@@ -20,14 +20,14 @@ loop-at-preserved g c =
     let same : edge_at edges n ≡ step.edge = the_edge ok edges ds c.loop-at.at n step in
     record {
       inside = subst (λ e. e.to < length ds) (sym same) (subst (λ k. step.edge.to < k) (sym c.requires.dist.size) (c.requires.ends n step.edge step.is).to_in);
-      reached = subst (λ e. slice_index ds e.to < far) (sym same) (below _ _ step.closer c.loop-at.invariant.reached);
+      reached = subst (λ e. slice_index ds e.to < FAR) (sym same) (below _ _ step.closer c.loop-at.invariant.reached);
       whole = λ rest down.
           subst (λ ns. Descends ok edges ds c.args.start ns)
           (sym (ap (λ ns. ns ++ rest) c.in_ok-push.ensures.ok ∙ append_assoc c.loop-at.numbers (n ∷ []) rest))
           (c.loop-at.invariant.whole (n ∷ rest) (step, subst (λ e. Descends ok edges ds e.to rest) same down));
     }
   where
-    below : (a b : ℕ) → a + 1 ≡ b → b < far → a < far
+    below : (a b : ℕ) → a + 1 ≡ b → b < FAR → a < FAR
     below a b p q = omega arith
 
 pub bounds-edges-n : goal.bounds-edges-n

@@ -1,8 +1,9 @@
 use Rattle.std.proofs.Common.{◌<◌, ℕ, List, Bool, length, sym, ◌∙◌, ap, subst, slice_index}
-use Rattle.least_walk.specs.Distances.{far, AreDistances}
+use Rattle.least_walk.specs.Distances.{AreDistances}
 use Rattle.least_walk.specs.Walks.{IsNearest, AllFar, Descends}
 use Rattle.least_walk.proofs.Descending.{least_of, no_walk}
 use Rattle.least_walk.proofs.walking.least_open_walk.Goals as goal
+use Rattle.least_walk.specs.declared.distances.TheConstants.{FAR}
 
 pub nearest-requires : goal.nearest-requires
 nearest-requires g c = λ i s is. subst (λ k. s < k) (sym (ap (λ (ds : List ℕ). length ds) c.deref.ensures.value ∙ c.in_ok-dist.ensures.size)) (c.requires.starts i s is)
@@ -15,7 +16,7 @@ follow-requires-clause-inside g c =
     subst (λ k. c.in-Some.start < k) (sym (ap (λ (ds : List ℕ). length ds) c.deref-2.ensures.value ∙ c.in_ok-dist.ensures.size)) (c.requires.starts c.in-Some.ensures.place c.in-Some.start c.in-Some.ensures.is)
 
 pub follow-requires-clause-reached : goal.follow-requires-clause-reached
-follow-requires-clause-reached g c = subst (λ (ds : List ℕ). slice_index ds c.in-Some.start < far) (c.deref.ensures.value ∙ sym c.deref-2.ensures.value) c.in-Some.ensures.reached
+follow-requires-clause-reached g c = subst (λ (ds : List ℕ). slice_index ds c.in-Some.start < FAR) (c.deref.ensures.value ∙ sym c.deref-2.ensures.value) c.in-Some.ensures.reached
 
 pub returns-in_default-clause-none : goal.returns-in_default-clause-none
 returns-in_default-clause-none g c =

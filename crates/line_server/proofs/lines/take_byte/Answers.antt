@@ -9,9 +9,9 @@ use Rattle.connection_laws.specs.Cuts.{open_line}
 use Rattle.connection_laws.proofs.Framing.{more_is, whole_is, long_is}
 use Rattle.connection_laws.specs.Turns.{IsReached}
 use Rattle.connection_laws.specs.declared.talk.Talk.{Talk}
-use Rattle.connection_laws.specs.declared.talk.Told.TheVariants.{Bad}
+use Rattle.connection_laws.specs.declared.talk.LineAnswer.TheVariants.{Bad}
 use Rattle.connection_laws.proofs.Acting.{acts_bad}
-use Rattle.line_server.specs.Serving.{point}
+use Rattle.line_server.specs.Serving.{service_point}
 use Rattle.line_server.proofs.LineDone.{line_done, byte_more, long_line}
 use Rattle.line_server.proofs.lines.take_byte.Goals as goal
 
@@ -29,7 +29,7 @@ returns-in-More-clause-goes g c =
     λ o fed acted s. (
       acted,
       byte_more c.args.server.now.policy.now (g.M.Keeps.list c.args.server.now.desk.now.root) (m.legal c.args.server.now.desk.now.root) (m.now_of c.args.server.now.desk.now.root) (by c.args.pass.now.number c.args.server.now.conn) o
-          (point c.args.pass.now c.args.talk.now (g.C.Clock.readings c.args.clock.now) (g.L.Link.traffic c.args.link.now).given)
+          (service_point c.args.pass.now c.args.talk.now (g.C.Clock.readings c.args.clock.now) (g.L.Link.traffic c.args.link.now).given)
           c.args.framer.now c.push.new.self fed c.args.byte acted s (more_is c.args.framer.now c.args.byte (sym c.push.ensures.answer ∙ c.in-More.is)) c.push.ensures.frame,
     )
 

@@ -1,6 +1,7 @@
 use denote.Param.Send.{sendable}
 use Rattle.locked_history.proofs.Crossing.{desk_sync}
-use Rattle.line_server.proofs.Crossing.{post_send, post_row_send, policy_sync, heap_sync}
+use Rattle.policy_book.proofs.Crossing.{policy_sync}
+use Rattle.line_server.proofs.Crossing.{post_row_send, heap_sync}
 use Rattle.line_server.proofs.posts.work_at_all.Goals as goal
 
 pub for_each_mut-requires-send-T : goal.for_each_mut-requires-send-T

@@ -6,7 +6,7 @@ use Rattle.connection_laws.specs.Desks.{IsNamedActor}
 use Rattle.locked_history.specs.Fronts.{by}
 use Rattle.connection_laws.specs.Turns.{IsReached}
 use Rattle.line_server.specs.Serving.{Goes}
-use Rattle.line_server.specs.Serving.{point}
+use Rattle.line_server.specs.Serving.{service_point}
 use Rattle.line_server.proofs.Ends.{begins, cut_off, serving_kept}
 use Rattle.connection_laws.specs.Services.{service}
 use Rattle.line_server.proofs.serve.converse.Goals as goal
@@ -49,11 +49,11 @@ loop-left-preserved g c =
     let old = t.traffic c.loop-left.link in
     let mid = t.traffic c.read_some.new.link in
     let end = t.traffic c.take_chunk.new.link in
-    let origin = point c.args.pass.now c.args.talk.now (k.readings c.args.clock.now) start.given in
+    let origin = service_point c.args.pass.now c.args.talk.now (k.readings c.args.clock.now) start.given in
     let s = serving_kept c.args.server.now.policy.now (g.M.Keeps.list root) (m.legal root) (m.now_of root) (by c.args.pass.now.number c.args.server.now.conn) origin c.loop-left.pass c.loop-left.talk (k.readings c.loop-left.clock) old.given mid.given
     c.loop-left.framer inv.fed inv.acted r.writes.given_kept inv.serving in
     let goes = subst (λ (j : ℕ). Goes (service c.args.server.now.policy.now (g.M.Keeps.list root) (m.legal root) (m.now_of root)) (by j c.args.server.now.conn)
-    (point c.loop-left.pass c.loop-left.talk (k.readings c.loop-left.clock) mid.given) (point c.take_chunk.new.pass c.take_chunk.new.talk (k.readings c.take_chunk.new.clock) end.given)
+    (service_point c.loop-left.pass c.loop-left.talk (k.readings c.loop-left.clock) mid.given) (service_point c.take_chunk.new.pass c.take_chunk.new.talk (k.readings c.take_chunk.new.clock) end.given)
     c.loop-left.framer c.take_chunk.new.framer chunk mid.write_faults end.write_faults {T = Unit {0}} (Ok c.in_default-take_chunk.field-0)) inv.number c.in_default-take_chunk.ensures.goes in
     let y = goes origin inv.fed inv.acted s in
     let long : length chunk ≡ n = length-take-le n buf r.bound.1 in
@@ -94,12 +94,12 @@ returns-in-Err-clause-goes g c =
     let old = t.traffic c.loop-left.link in
     let mid = t.traffic c.read_some.new.link in
     let end = t.traffic c.take_chunk.new.link in
-    let origin = point c.args.pass.now c.args.talk.now (k.readings c.args.clock.now) start.given in
+    let origin = service_point c.args.pass.now c.args.talk.now (k.readings c.args.clock.now) start.given in
     let s = serving_kept c.args.server.now.policy.now (g.M.Keeps.list root) (m.legal root) (m.now_of root) (by c.args.pass.now.number c.args.server.now.conn) origin c.loop-left.pass c.loop-left.talk (k.readings c.loop-left.clock) old.given mid.given
     c.loop-left.framer inv.fed inv.acted r.writes.given_kept inv.serving in
-    let last = point c.take_chunk.new.pass c.take_chunk.new.talk (k.readings c.take_chunk.new.clock) end.given in
+    let last = service_point c.take_chunk.new.pass c.take_chunk.new.talk (k.readings c.take_chunk.new.clock) end.given in
     let goes = subst (λ (j : ℕ). Goes (service c.args.server.now.policy.now (g.M.Keeps.list root) (m.legal root) (m.now_of root)) (by j c.args.server.now.conn)
-    (point c.loop-left.pass c.loop-left.talk (k.readings c.loop-left.clock) mid.given) last
+    (service_point c.loop-left.pass c.loop-left.talk (k.readings c.loop-left.clock) mid.given) last
     c.loop-left.framer c.take_chunk.new.framer chunk mid.write_faults end.write_faults {T = Unit {0}} (Err c.in-Err.end)) inv.number c.in-Err.ensures.goes in
     let y = goes origin inv.fed inv.acted s in
     let long : length chunk ≡ n = length-take-le n buf r.bound.1 in

@@ -7,7 +7,7 @@ use Rattle.connection_laws.specs.Connection.{Acted}
 use Rattle.connection_laws.specs.Turns.{IsIdle, IsReached}
 use Rattle.connection_laws.specs.Acting.{CountsUp}
 use Rattle.line_server.specs.Serving.{Serving}
-use Rattle.line_server.specs.Serving.{point}
+use Rattle.line_server.specs.Serving.{service_point}
 use Rattle.connection_laws.specs.Services.{service}
 use Rattle.line_server.proofs.serve.converse.Given as goal
 
@@ -23,7 +23,7 @@ invariant-loop-left g l =
       fed : List ℕ;
       acted : List Acted;
       serving : Serving (service l.server.policy.now (g.M.Keeps.list root) (m.legal root) (m.now_of root)) (by l.fn.pass.number l.server.conn)
-          (point l.fn.pass l.fn.talk (k.readings l.fn.clock) a.given) (point l.pass l.talk (k.readings l.clock) b.given) l.framer fed acted;
+          (service_point l.fn.pass l.fn.talk (k.readings l.fn.clock) a.given) (service_point l.pass l.talk (k.readings l.clock) b.given) l.framer fed acted;
       taken : Appends a.taken b.taken fed;
       consumed : Consumes a.left b.left fed;
       counted : length fed + l.left ≡ 67_108_864;

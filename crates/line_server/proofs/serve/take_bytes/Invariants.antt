@@ -6,7 +6,7 @@ use Rattle.connection_laws.specs.Desks.{IsNamedActor}
 use Rattle.connection_laws.specs.Turns.{IsIdle, IsReached}
 use Rattle.connection_laws.specs.Acting.{CountsUp}
 use Rattle.line_server.specs.Serving.{Goes}
-use Rattle.line_server.specs.Serving.{point}
+use Rattle.line_server.specs.Serving.{service_point}
 use Rattle.connection_laws.specs.Services.{service}
 use Rattle.line_server.proofs.serve.take_bytes.Given as goal
 
@@ -18,7 +18,7 @@ invariant-loop-byte g l =
     let t = g.L.Link in
     record {
       goes : Goes (service l.server.policy.now (g.M.Keeps.list root) (m.legal root) (m.now_of root)) (by l.fn.pass.number l.server.conn)
-          (point l.fn.pass l.fn.talk (k.readings l.fn.clock) (t.traffic l.fn.link).given) (point l.pass l.talk (k.readings l.clock) (t.traffic l.link).given)
+          (service_point l.fn.pass l.fn.talk (k.readings l.fn.clock) (t.traffic l.fn.link).given) (service_point l.pass l.talk (k.readings l.clock) (t.traffic l.link).given)
           l.fn.framer l.framer (take l.byte-index l.chunk) 0 0 {T = Unit {0}} (Ok tt);
       idle : IsIdle (site_of l.server.desk.now) l.pass;
       number : l.pass.number ≡ l.fn.pass.number;

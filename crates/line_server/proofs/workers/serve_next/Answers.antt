@@ -2,7 +2,7 @@ use Rattle.std.proofs.Common.{◌≡◌, ◌+◌, ℕ, List, sym, ap, subst, ◌
 use Rattle.connection_laws.specs.declared.ends.LinkEnd.{LinkEnd}
 use Rattle.line_server.specs.declared.ended.Served.{Served}
 use Rattle.line_server.specs.Serving.{EndsBy}
-use Rattle.line_server.specs.Working.{Spot, Worked}
+use Rattle.line_server.specs.Working.{WorkerSpot, Worked}
 use Rattle.line_server.proofs.Links.{link_done, ends_of}
 use Rattle.connection_laws.specs.Services.{service}
 use Rattle.line_server.proofs.workers.serve_next.Goals as goal
@@ -18,8 +18,8 @@ returns-in-Ok-Some-clause-works g c =
     let v = c.serve_link-report.ensures.serves in
     let count = c.len.ensures in
     let old = c.args.w.now.served.items in
-    let p : Spot g.row.M.Denot g.row.D-L.Denot = record { pass = c.args.pass.now; clock = k.readings c.args.w.now.clock; door = g.D.Door.links c.args.w.now.door } in
-    let p' : Spot g.row.M.Denot g.row.D-L.Denot = record { pass = c.serve_link-report.new.pass; clock = k.readings c.serve_link-report.new.clock; door = g.D.Door.links c.next.new.self } in
+    let p : WorkerSpot g.row.M.Denot g.row.D-L.Denot = record { pass = c.args.pass.now; clock = k.readings c.args.w.now.clock; door = g.D.Door.links c.args.w.now.door } in
+    let p' : WorkerSpot g.row.M.Denot g.row.D-L.Denot = record { pass = c.serve_link-report.new.pass; clock = k.readings c.serve_link-report.new.clock; door = g.D.Door.links c.next.new.self } in
     let s : Served g.row.D-L.Denot = record { link = c.serve_link-report.new.link; report = c.serve_link-report.result } in
     λ o tales worked unworn.
     let d = link_done traffic c.args.policy.now (g.M.Keeps.list root) (m.legal root) (m.now_of root) c.args.pass.now.number o p p' old tales s c.in-Ok-Some.link (c.len.result + 1) c.args.calls.now c.serve_link-report.new.calls

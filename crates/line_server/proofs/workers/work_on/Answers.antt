@@ -1,6 +1,6 @@
 use Rattle.std.proofs.Common.{◌≡◌, ◌≤◌, ◌+◌, ◌*◌, List, [], length, sym, ap, subst, ◌∙◌, refl, arith}
 use Rattle.line_server.specs.declared.ended.Served.{Served}
-use Rattle.line_server.specs.Working.{Spot, AllUnworn}
+use Rattle.line_server.specs.Working.{WorkerSpot, AllUnworn}
 use Rattle.line_server.proofs.Links.{no_links, next_done, goes_on}
 use Rattle.line_server.proofs.workers.work_on.Goals as goal
 
@@ -10,7 +10,7 @@ loop-alloc-init g c =
     let root = c.args.desk.now.root in
     let empty = c.requires.empty in
     let none = ap (λ (ss : List (Served g.row.D-L.Denot)). length ss) empty in
-    let o : Spot g.row.M.Denot g.row.D-L.Denot = record { pass = c.args.pass.now; clock = g.C.Clock.readings c.args.w.now.clock; door = g.D.Door.links c.args.w.now.door } in
+    let o : WorkerSpot g.row.M.Denot g.row.D-L.Denot = record { pass = c.args.pass.now; clock = g.C.Clock.readings c.args.w.now.clock; door = g.D.Door.links c.args.w.now.door } in
     record {
       tales = [];
       worked = no_links g.D.L.Link.traffic c.args.policy.now (g.M.Keeps.list root) (m.legal root) (m.now_of root) c.args.pass.now.number o c.args.w.now.served.items empty;
@@ -29,9 +29,9 @@ returns-in-Some-clause-works g c =
     let inv = c.loop-alloc.invariant in
     let k = g.C.Clock in
     let d = g.D.Door in
-    let o : Spot g.row.M.Denot g.row.D-L.Denot = record { pass = c.args.pass.now; clock = k.readings c.args.w.now.clock; door = d.links c.args.w.now.door } in
-    let p : Spot g.row.M.Denot g.row.D-L.Denot = record { pass = c.loop-alloc.pass; clock = k.readings c.loop-alloc.w.clock; door = d.links c.loop-alloc.w.door } in
-    let p' : Spot g.row.M.Denot g.row.D-L.Denot = record { pass = c.serve_next.new.pass; clock = k.readings c.serve_next.new.w.clock; door = d.links c.serve_next.new.w.door } in
+    let o : WorkerSpot g.row.M.Denot g.row.D-L.Denot = record { pass = c.args.pass.now; clock = k.readings c.args.w.now.clock; door = d.links c.args.w.now.door } in
+    let p : WorkerSpot g.row.M.Denot g.row.D-L.Denot = record { pass = c.loop-alloc.pass; clock = k.readings c.loop-alloc.w.clock; door = d.links c.loop-alloc.w.door } in
+    let p' : WorkerSpot g.row.M.Denot g.row.D-L.Denot = record { pass = c.serve_next.new.pass; clock = k.readings c.serve_next.new.w.clock; door = d.links c.serve_next.new.w.door } in
     next_done g.D.L.Link.traffic c.args.policy.now (g.M.Keeps.list root) (m.legal root) (m.now_of root) c.args.pass.now.number c.loop-alloc.pass.number o p p'
     (d.faults c.args.w.now.door) (d.faults c.loop-alloc.w.door) (d.faults c.serve_next.new.w.door) c.loop-alloc.w.served.items c.reserve.new.self.items c.serve_next.new.w.served.items inv.tales c.in-Some.end
     inv.number c.reserve.ensures.items inv.faults inv.worked inv.unworn c.in-Some.ensures.works
@@ -43,9 +43,9 @@ loop-alloc-preserved g c =
     let inv = c.loop-alloc.invariant in
     let k = g.C.Clock in
     let d = g.D.Door in
-    let o : Spot g.row.M.Denot g.row.D-L.Denot = record { pass = c.args.pass.now; clock = k.readings c.args.w.now.clock; door = d.links c.args.w.now.door } in
-    let p : Spot g.row.M.Denot g.row.D-L.Denot = record { pass = c.loop-alloc.pass; clock = k.readings c.loop-alloc.w.clock; door = d.links c.loop-alloc.w.door } in
-    let p' : Spot g.row.M.Denot g.row.D-L.Denot = record { pass = c.serve_next.new.pass; clock = k.readings c.serve_next.new.w.clock; door = d.links c.serve_next.new.w.door } in
+    let o : WorkerSpot g.row.M.Denot g.row.D-L.Denot = record { pass = c.args.pass.now; clock = k.readings c.args.w.now.clock; door = d.links c.args.w.now.door } in
+    let p : WorkerSpot g.row.M.Denot g.row.D-L.Denot = record { pass = c.loop-alloc.pass; clock = k.readings c.loop-alloc.w.clock; door = d.links c.loop-alloc.w.door } in
+    let p' : WorkerSpot g.row.M.Denot g.row.D-L.Denot = record { pass = c.serve_next.new.pass; clock = k.readings c.serve_next.new.w.clock; door = d.links c.serve_next.new.w.door } in
     let y = goes_on g.D.L.Link.traffic c.args.policy.now (g.M.Keeps.list root) (m.legal root) (m.now_of root) c.args.pass.now.number c.loop-alloc.pass.number o p p'
     (d.faults c.loop-alloc.w.door) (d.faults c.serve_next.new.w.door) c.loop-alloc.w.served.items c.reserve.new.self.items c.serve_next.new.w.served.items inv.tales
     inv.number c.reserve.ensures.items inv.worked inv.unworn c.in_default.ensures.works in

@@ -1,6 +1,6 @@
 use Rattle.std.proofs.Common.{◌≡◌, Some, get_or, sym, subst}
 use Rattle.periodic_expr.specs.Scan.{moved}
-use Rattle.periodic_expr.specs.Sketch.{Keeps}
+use Rattle.periodic_expr.specs.Sketch.{KeepsSketch}
 use Rattle.periodic_expr.specs.Drafts.{seen}
 use Rattle.periodic_expr.proofs.Keeping.{keeps_acted}
 use Rattle.periodic_expr.proofs.Steps.{read_more}
@@ -15,6 +15,6 @@ bytes-preserved c =
     let goes : moved c.bytes.place (get_or c.args.text.now c.bytes.i 0) ≡ Some m = sym c.in-Some.ensures.goes in
     record {
       sized = fits.0;
-      sound = subst Keeps (sym draft) (keeps_acted m.act c.bytes.i (seen c.bytes.draft) fits.1 v.sound);
+      sound = subst KeepsSketch (sym draft) (keeps_acted m.act c.bytes.i (seen c.bytes.draft) fits.1 v.sound);
       same = read_more c.args.text.now c.bytes.i c.bytes.place (seen c.bytes.draft) (seen c.in_ok-draft.draft) m c.bytes-test.true goes draft v.same;
     }

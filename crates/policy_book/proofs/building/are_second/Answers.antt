@@ -1,7 +1,7 @@
 use Rattle.std.proofs.Common.{ap, sym, ◌∙◌}
 use Rattle.std.proofs.lemmas.List.{drop_all}
 use Rattle.policy_words.specs.Making.{are_second}
-use Rattle.policy_words.specs.Book.{said_in}
+use Rattle.policy_words.specs.LinesTogether.{said_in}
 use Rattle.policy_book.proofs.building.are_second.Goals as goal
 
 pub returns : goal.returns

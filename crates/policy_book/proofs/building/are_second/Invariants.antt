@@ -1,6 +1,6 @@
 use Rattle.std.proofs.Common.{◌≡◌, drop}
 use Rattle.policy_words.specs.Making.{are_second}
-use Rattle.policy_words.specs.Book.{said_in}
+use Rattle.policy_words.specs.LinesTogether.{said_in}
 use Rattle.policy_book.proofs.building.are_second.Given as goal
 
 abbrev pub invariant-loop-part : goal.invariant-loop-part

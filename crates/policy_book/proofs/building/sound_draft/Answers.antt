@@ -1,18 +1,9 @@
 use Rattle.std.proofs.Common.{length, refl, ap, sym, subst, ◌∙◌, arith}
-use Rattle.policy_book.specs.Nets.{AreWithin}
+use Rattle.hybrid_hierarchy.specs.Nets.{AreWithin}
 use Rattle.policy_words.specs.Making.{fresh}
 use Rattle.policy_book.specs.Seen.{seen_names}
-use Rattle.policy_book.proofs.Fewness.{few_names, edges_within, edges_few}
+use Rattle.policy_book.proofs.Fewness.{edges_within, edges_few}
 use Rattle.policy_book.proofs.building.sound_draft.Goals as goal
-
-pub check_lines-requires : goal.check_lines-requires
-check_lines-requires c = rw c.requires.named (few_names 4_294_967_295 c.args.parts.items c.requires.kept.few)
-
-pub draft_of-requires-clause-few : goal.draft_of-requires-clause-few
-draft_of-requires-clause-few c = rw c.requires.named (few_names 4_294_967_295 c.args.parts.items c.requires.kept.few)
-
-pub check_edges-requires-clause-few : goal.check_edges-requires-clause-few
-check_edges-requires-clause-few c = rw c.requires.named (few_names 4_294_967_295 c.args.parts.items c.requires.kept.few)
 
 pub check_edges-requires-clause-short : goal.check_edges-requires-clause-short
 check_edges-requires-clause-short c =

@@ -1,5 +1,5 @@
 use Rattle.std.proofs.Common.{length, ◌∙◌, sym, subst}
-use Rattle.policy_book.specs.Nets.{AreWithin}
+use Rattle.hybrid_hierarchy.specs.Nets.{AreWithin}
 use Rattle.policy_book.proofs.Fewness.{picked_within}
 use Rattle.policy_book.proofs.cycles.cycle_fault.Goals as goal
 

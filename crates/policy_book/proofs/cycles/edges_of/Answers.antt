@@ -1,7 +1,7 @@
 use Rattle.std.proofs.Common.{◌≡◌, ℕ, zero, suc, ◌<◌, List, [], ◌∷◌, length, get_or, ap, sym, refl, append-nil, ◌++◌, ◌∙◌, arith}
 use Rattle.std.proofs.lemmas.List.{drop_all}
 use Rattle.gtrbac_model.specs.Graph.{item_at}
-use Rattle.policy_words.specs.Book.{edges_at}
+use Rattle.policy_words.specs.LinesTogether.{edges_at}
 use Rattle.policy_book.proofs.Stepping.{kept_more, passed_over}
 use Rattle.policy_book.proofs.cycles.edges_of.Goals as goal
 use Rattle.policy_book.proofs.cycles.edges_of.Goals.{in-Some+in_ok-push, in_default}

@@ -1,5 +1,5 @@
 use Rattle.std.proofs.Common.{◌≡◌, ◌++◌, drop}
-use Rattle.policy_words.specs.Book.{edges_at}
+use Rattle.policy_words.specs.LinesTogether.{edges_at}
 use Rattle.policy_book.proofs.cycles.edges_of.Given as goal
 
 abbrev pub invariant-loop-number : goal.invariant-loop-number

@@ -2,7 +2,7 @@ use Rattle.std.proofs.Common.{◌≡◌}
 use Rattle.std.specs.Prelude.{IsTrue}
 use Rattle.std.specs.Vec.Iter.{into_iter_items, into_iter_len}
 use Rattle.policy_words.specs.Making.{fresh, drafted}
-use Rattle.policy_words.specs.Book.{said_in}
+use Rattle.policy_words.specs.LinesTogether.{said_in}
 use Rattle.policy_book.specs.Said.{are_sayings}
 use Rattle.policy_book.specs.Seen.{seen_names}
 use Rattle.policy_book.specs.Drafts.{seen_draft}

@@ -1,5 +1,5 @@
 use Rattle.std.proofs.Common.{◌≡◌, replicate}
-use Rattle.policy_words.specs.Making.{no_caps}
+use Rattle.policy_words.specs.CapKinds.{no_caps}
 use Rattle.policy_book.proofs.drafts.no_caps_of.Given as goal
 
 abbrev pub invariant-loop : goal.invariant-loop

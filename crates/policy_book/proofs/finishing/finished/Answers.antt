@@ -1,4 +1,4 @@
-use Rattle.std.proofs.Common.{◌≡◌, ◌≤◌, ◌&&◌, ℕ, true, arith, Fits, w32, Bool, List, ◌++◌, length, ap, sym, subst, ◌∙◌}
+use Rattle.std.proofs.Common.{◌≡◌, ◌≤◌, ◌&&◌, ℕ, true, arith, Bool, List, ◌++◌, length, ap, sym, subst, ◌∙◌}
 use Rattle.std.specs.Prelude.{filter, nat_le}
 use Rattle.std.proofs.lemmas.Bool.{leb-true}
 use Rattle.gtrbac_model.proofs.Elements.{both_true}
@@ -9,7 +9,7 @@ use Rattle.gt_base.specs.declared.policies.HierEdge.{HierEdge}
 use Rattle.gt_base.specs.declared.events.Fluent.{Fluent}
 use Rattle.gtrbac_model.specs.Same.{lists, same_user}
 use Rattle.policy_words.specs.Naming.{Names}
-use Rattle.policy_words.specs.Making.{Draft, users_from, linked_at_first}
+use Rattle.policy_words.specs.Making.{DraftView, users_from, linked_at_first}
 use Rattle.policy_words.specs.Valid.{IsWellFormed}
 use Rattle.policy_book.specs.Seen.{seen_names}
 use Rattle.policy_book.specs.Drafts.{seen_draft, policy_with, made_policy}
@@ -17,7 +17,7 @@ use Rattle.policy_book.proofs.finishing.finished.Goals as goal
 use Rattle.policy_book.proofs.finishing.finished.Goals.{In_ok-opening}
 
 -- the policy with what a finished draft gives
-finished_is : (ns : Names) (second : Bool) (d : Draft) (admins : List UserId) (opening : Fluents) → admins ≡ filter (lists same_user d.admins) (users_from 0 (length ns.users))
+finished_is : (ns : Names) (second : Bool) (d : DraftView) (admins : List UserId) (opening : Fluents) → admins ≡ filter (lists same_user d.admins) (users_from 0 (length ns.users))
     → opening ≡ set_of (linked_at_first second d.edges ++ d.on_at_first) → policy_with ns d admins opening ≡ made_policy ns second d
 finished_is ns second d admins opening a o =
     λ i. record {
@@ -45,7 +45,7 @@ whole c =
     (c.in_ok-opening.ensures ∙ ap (λ (es : List Fluent). set_of (es ++ d.on_at_first.keys)) (c.linked_count-linked.ensures ∙ ap (λ (es : List HierEdge). linked_at_first c.args.second es) c.deref.ensures.value))
 
 pub with-requires : goal.with-requires
-with-requires c = subst IsWellFormed (sym (whole c)) c.requires.well_formed
+with-requires c = subst IsWellFormed (sym (whole c)) c.requires
 
 pub returns : goal.returns
 returns c = c.with.ensures ∙ whole (goal.at.returns c).In_ok-opening
@@ -55,12 +55,6 @@ few n a b e =
     let le = leb-true n 4_000 (both_true _ _ (both_true _ _ e).0).0 in
     omega (arith, le)
 
-fits : (n m : ℕ) → n ≡ m → m ≤ 4_294_967_295 → Fits w32 n
-fits n m is le = omega arith
-
-pub overflow_cast-len : goal.overflow_cast-len
-overflow_cast-len c = fits _ _ c.len.ensures c.requires.few.users
-
 pub linked_count-linked-requires : goal.linked_count-linked-requires
 linked_count-linked-requires c =
-    subst (λ (es : List HierEdge). length es ≤ 4_294_967_295) (sym c.deref.ensures.value) (few _ _ _ c.requires.well_formed.policy.edges)
+    subst (λ (es : List HierEdge). length es ≤ 4_294_967_295) (sym c.deref.ensures.value) (few _ _ _ c.requires.policy.edges)

@@ -1,7 +1,7 @@
 use Rattle.std.proofs.Common.{ap, sym, ◌∙◌}
 use Rattle.std.specs.List.{list_all}
 use Rattle.std.proofs.lemmas.List.{drop_all}
-use Rattle.policy_words.specs.Book.{is_known_item}
+use Rattle.policy_words.specs.LinesTogether.{is_known_item}
 use Rattle.policy_book.specs.Seen.{seen_names}
 use Rattle.policy_book.proofs.known.are_known.Goals as goal
 

@@ -1,6 +1,6 @@
 use Rattle.std.proofs.Common.{◌≡◌, drop}
 use Rattle.std.specs.List.{list_all}
-use Rattle.policy_words.specs.Book.{is_known_item as item_known}
+use Rattle.policy_words.specs.LinesTogether.{is_known_item as item_known}
 use Rattle.policy_book.specs.Seen.{seen_names}
 use Rattle.policy_book.proofs.known.are_known.Given as goal
 

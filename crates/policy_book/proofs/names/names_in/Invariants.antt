@@ -1,6 +1,6 @@
 use Rattle.std.proofs.Common.{◌≡◌, drop}
 use Rattle.policy_words.specs.Making.{names_in as naming_all, names_of}
-use Rattle.policy_words.specs.Book.{said_in}
+use Rattle.policy_words.specs.LinesTogether.{said_in}
 use Rattle.policy_book.specs.Seen.{seen_names}
 use Rattle.policy_book.proofs.names.names_in.Given as goal
 

@@ -1,6 +1,6 @@
 use Rattle.std.proofs.Common.{ap, sym, ◌∙◌}
 use Rattle.policy_words.specs.Making.{with_new}
-use Rattle.policy_words.specs.Book.{same_claim}
+use Rattle.policy_words.specs.LinesTogether.{same_claim}
 use Rattle.policy_book.proofs.SameClaims.{pushed}
 use Rattle.policy_book.proofs.tallies.put.Goals as goal
 

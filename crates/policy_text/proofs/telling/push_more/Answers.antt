@@ -1,5 +1,5 @@
 use Rattle.std.proofs.Common.{append-nil, sym, refl}
-use Rattle.policy_text.specs.Told.{with_bar}
+use Rattle.policy_text.specs.FaultTexts.{with_bar}
 use Rattle.policy_text.proofs.Runs.{next_listed, further, whole_run}
 use Rattle.policy_text.proofs.telling.push_more.Goals as goal
 

@@ -1,5 +1,5 @@
 use Rattle.std.proofs.Common.{◌≡◌, ◌++◌, flat_map, take}
-use Rattle.policy_text.specs.Told.{with_bar}
+use Rattle.policy_text.specs.FaultTexts.{with_bar}
 use Rattle.policy_text.proofs.telling.push_more.Given as goal
 
 abbrev pub invariant-loop-name : goal.invariant-loop-name

@@ -1,8 +1,8 @@
-use Rattle.std.proofs.Common.{◌≡◌, ap, refl, sym, ◌∙◌, subst, List, ℕ, [], Ok}
+use Rattle.std.proofs.Common.{◌≡◌, ap, refl, sym, ◌∙◌, subst, List, ℕ, [], Ok, Err}
 use Rattle.std.specs.Io.KnownBytes.{Appends, Consumes}
-use Rattle.gt_io.specs.declared.port.Got.TheVariants.{Finished}
+use Rattle.gt_io.specs.declared.port.Got.TheVariants.{Bytes, Finished, NotYet}
 use Rattle.gt_io.specs.Ports.{Port}
-use Rattle.poll_front.proofs.Pushing.{tends_read}
+use Rattle.poll_front.proofs.Pushing.{tends_read, fails_read}
 use Rattle.poll_front.proofs.Standing.{waits_none}
 use Rattle.poll_front.proofs.attend.fill.Goals as goal
 
@@ -20,3 +20,22 @@ returns-in-Ok-Finished-clause-fills g c =
       left = subst (λ (l : List ℕ). Consumes (a.port c.args.link).left (b.port c.args.link).left l) (sym none) r.port.left;
       filled = (refl, ap (λ (q : Port). q.last) r.port.rest, r.port.end refl);
     }
+
+pub returns-in-Ok-Bytes-clause-faults : goal.returns-in-Ok-Bytes-clause-faults
+returns-in-Ok-Bytes-clause-faults g c =
+    let r = rw c.in-Ok-Bytes.field-0-is at c.in-Ok-Bytes.ensures.reads in
+    fails_read (g.P.Ports.harbour c.args.ports.now) (g.P.Ports.harbour c.read_some.new.ports) c.args.link c.read_some.new.buf (Ok (Bytes c.in-Ok-Bytes.n)) r
+
+pub returns-in-Ok-Finished-clause-faults : goal.returns-in-Ok-Finished-clause-faults
+returns-in-Ok-Finished-clause-faults g c =
+    let r = rw c.in-Ok-Finished.field-0-is at c.in-Ok-Finished.ensures.reads in
+    fails_read (g.P.Ports.harbour c.args.ports.now) (g.P.Ports.harbour c.read_some.new.ports) c.args.link c.read_some.new.buf (Ok Finished) r
+
+pub returns-in-Ok-NotYet-clause-faults : goal.returns-in-Ok-NotYet-clause-faults
+returns-in-Ok-NotYet-clause-faults g c =
+    let r = rw c.in-Ok-NotYet.field-0-is at c.in-Ok-NotYet.ensures.reads in
+    fails_read (g.P.Ports.harbour c.args.ports.now) (g.P.Ports.harbour c.read_some.new.ports) c.args.link c.read_some.new.buf (Ok NotYet) r
+
+pub returns-in-Err-clause-faults : goal.returns-in-Err-clause-faults
+returns-in-Err-clause-faults g c =
+    fails_read (g.P.Ports.harbour c.args.ports.now) (g.P.Ports.harbour c.read_some.new.ports) c.args.link c.read_some.new.buf (Err _) c.in-Err.ensures.reads

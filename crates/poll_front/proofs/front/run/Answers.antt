@@ -1,6 +1,6 @@
 use Rattle.std.proofs.Common.{◌≡◌, List, sym, subst, refl}
 use Rattle.poll_front.specs.declared.seats.Seat.{Seat}
-use Rattle.poll_front.specs.Fronts.{Spot}
+use Rattle.poll_front.specs.Fronts.{FrontSpot}
 use Rattle.poll_front.specs.Tables.{first_spot, AreOpenSeats, LetsGo}
 use Rattle.poll_front.proofs.Serving.{are_open}
 use Rattle.poll_front.proofs.Ending.{ran_of}
@@ -12,7 +12,7 @@ let_go-requires-clause-open g c =
     let k = g.C.Clock in
     let root = c.args.server.now.desk.now.root in
     let w = c.serve_all-end.ensures.went in
-    let p : Spot g.row.M.Denot = record { pass = c.serve_all-end.new.pass; clock = k.readings c.serve_all-end.new.clock; pace = c.serve_all-end.new.pace } in
+    let p : FrontSpot g.row.M.Denot = record { pass = c.serve_all-end.new.pass; clock = k.readings c.serve_all-end.new.clock; pace = c.serve_all-end.new.pace } in
     let a = g.P.Ports.harbour c.serve_all-end.new.ports in
     subst (λ (l : List Seat). AreOpenSeats a 0 l) (sym c.deref.ensures.value)
     (are_open c.args.server.now.policy.now (g.M.Keeps.list root) (m.legal root) (m.now_of root) c.args.pass.now.number (first_spot c.args.pass.now (k.readings c.args.clock.now)) p (g.P.Ports.harbour c.args.ports.now) a c.serve_all-end.new.seats.items w.busy w.turns w.tabled)

@@ -4,12 +4,13 @@ use Rattle.gt_io.specs.Ports.{Harbour}
 use Rattle.request_text.specs.declared.lines.LineFault.TheVariants.{Long}
 use Rattle.connection_laws.specs.Cuts.{open_line}
 use Rattle.connection_laws.proofs.Framing.{more_is, whole_is, long_is}
-use Rattle.connection_laws.specs.declared.talk.Told.TheVariants.{Bad}
+use Rattle.connection_laws.specs.declared.talk.LineAnswer.TheVariants.{Bad}
 use Rattle.poll_front.specs.declared.parties.Party.{Party}
-use Rattle.poll_front.specs.Fronts.{Spot, Gone}
+use Rattle.poll_front.specs.Fronts.{FrontSpot, Gone}
 use Rattle.poll_front.proofs.Going.{gone_ok}
 use Rattle.poll_front.proofs.Standing.{stands_byte}
 use Rattle.poll_front.proofs.LineTold.{line_told, long_heard}
+use Rattle.poll_front.proofs.Pushing.{fails_none}
 use Rattle.poll_front.proofs.lines.take_next.Goals as goal
 
 pub returns-in-More-clause-goes : goal.returns-in-More-clause-goes
@@ -17,7 +18,7 @@ returns-in-More-clause-goes g c =
     let m = g.M.Machine in
     let root = c.args.server.now.desk.now.root in
     let q = (g.P.Ports.harbour c.args.ports.now).port c.args.server.now.conn in
-    let p : Spot g.row.M.Denot = record { pass = c.args.pass.now; clock = g.C.Clock.readings c.args.clock.now; pace = c.args.pace.now } in
+    let p : FrontSpot g.row.M.Denot = record { pass = c.args.pass.now; clock = g.C.Clock.readings c.args.clock.now; pace = c.args.pace.now } in
     let party : Party = c.args.party.now in
     let byte : ℕ = get_or party.chunk party.from 0 in
     let party' : Party = record party { framer = c.push.new.self; from = party.from + 1 } in
@@ -32,8 +33,8 @@ returns-in-Whole-clause-goes g c =
     let m = g.M.Machine in
     let root = c.args.server.now.desk.now.root in
     let k = g.C.Clock in
-    let p : Spot g.row.M.Denot = record { pass = c.args.pass.now; clock = k.readings c.args.clock.now; pace = c.args.pace.now } in
-    let p' : Spot g.row.M.Denot = record { pass = c.hear-told.new.pass; clock = k.readings c.hear-told.new.clock; pace = c.hear-told.new.pace } in
+    let p : FrontSpot g.row.M.Denot = record { pass = c.args.pass.now; clock = k.readings c.args.clock.now; pace = c.args.pace.now } in
+    let p' : FrontSpot g.row.M.Denot = record { pass = c.hear-told.new.pass; clock = k.readings c.hear-told.new.clock; pace = c.hear-told.new.pace } in
     let b = g.P.Ports.harbour c.tell.new.ports in
     let party : Party = c.args.party.now in
     let byte : ℕ = get_or party.chunk party.from 0 in
@@ -49,7 +50,7 @@ returns-in-Long-clause-goes g c =
     let m = g.M.Machine in
     let root = c.args.server.now.desk.now.root in
     let k = g.C.Clock in
-    let p : Spot g.row.M.Denot = record { pass = c.args.pass.now; clock = k.readings c.args.clock.now; pace = c.args.pace.now } in
+    let p : FrontSpot g.row.M.Denot = record { pass = c.args.pass.now; clock = k.readings c.args.clock.now; pace = c.args.pace.now } in
     let b = g.P.Ports.harbour c.tell-in-Long.new.ports in
     let party : Party = c.args.party.now in
     let byte : ℕ = get_or party.chunk party.from 0 in
@@ -60,3 +61,6 @@ returns-in-Long-clause-goes g c =
     let gone = line_told c.args.server.now.policy.now (g.M.Keeps.list root) (m.legal root) (m.now_of root) c.args.pass.now.number o p p start (g.P.Ports.harbour c.args.ports.now) b c.args.server.now.conn turns party fed (open_line fed) byte c.push.new.self party.talk
     r s whole some.0 (omega (arith, some)) refl w.0 refl c.push.ensures.frame (Bad Long) c.tell-in-Long.new.party.at c.tell-in-Long.result x c.tell-in-Long.ensures.tells in
     subst (λ (z : Party). Gone c.args.server.now.policy.now (g.M.Keeps.list root) (m.legal root) (m.now_of root) c.args.pass.now.number o p start (b.port c.args.server.now.conn) c.args.server.now.conn turns z c.tell-in-Long.result) (sym c.tell-in-Long.ensures.same) gone
+
+pub returns-in-More-clause-faults : goal.returns-in-More-clause-faults
+returns-in-More-clause-faults g c = fails_none (g.P.Ports.harbour c.args.ports.now) c.args.server.now.conn

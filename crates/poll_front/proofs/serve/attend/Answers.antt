@@ -1,9 +1,9 @@
 use Rattle.std.proofs.Common.{◌≡◌, ◌∙◌, ◌≤◌, ◌<◌, ◌-◌, ◌+◌, ℕ, List, length, ap, sym, subst, refl, arith, Ok, Err}
 use Rattle.connection_laws.specs.Acting.{told_bytes}
 use Rattle.poll_front.specs.declared.parties.Party.{Party}
-use Rattle.poll_front.specs.Fronts.{Spot, Goes}
+use Rattle.poll_front.specs.Fronts.{FrontSpot, Goes}
 use Rattle.poll_front.proofs.Going.{goes_then}
-use Rattle.poll_front.proofs.Pushing.{tends_twice, open_kept}
+use Rattle.poll_front.proofs.Pushing.{tends_twice, open_kept, fails_twice}
 use Rattle.poll_front.proofs.Attending.{served_push, served_then, goes_fill, goes_spent}
 use Rattle.poll_front.proofs.serve.attend.Goals as goal
 
@@ -15,7 +15,7 @@ returns-in-Err-clause-attends g c =
     let h = g.P.Ports.harbour in
     let n = c.args.server.now.conn in
     let s = c.args.party.now in
-    let p : Spot g.row.M.Denot = record { pass = c.args.pass.now; clock = k.readings c.args.clock.now; pace = c.args.pace.now } in
+    let p : FrontSpot g.row.M.Denot = record { pass = c.args.pass.now; clock = k.readings c.args.clock.now; pace = c.args.pace.now } in
     served_push c.args.server.now.policy.now (g.M.Keeps.list root) (m.legal root) (m.now_of root) c.args.pass.now.number p (h c.args.ports.now) (h c.write_out.new.ports) n s c.write_out.new.party c.write_out.new.party.at (Err c.in-Err.pause) c.in-Err.ensures.pushes c.in-Err.ensures.same
 
 pub returns-in-Err-take_rest-clause-attends : goal.returns-in-Err-take_rest-clause-attends
@@ -26,8 +26,8 @@ returns-in-Err-take_rest-clause-attends g c =
     let h = g.P.Ports.harbour in
     let n = c.args.server.now.conn in
     let s = c.args.party.now in
-    let p : Spot g.row.M.Denot = record { pass = c.args.pass.now; clock = k.readings c.args.clock.now; pace = c.args.pace.now } in
-    let p' : Spot g.row.M.Denot = record { pass = c.take_rest.new.pass; clock = k.readings c.take_rest.new.clock; pace = c.take_rest.new.pace } in
+    let p : FrontSpot g.row.M.Denot = record { pass = c.args.pass.now; clock = k.readings c.args.clock.now; pace = c.args.pace.now } in
+    let p' : FrontSpot g.row.M.Denot = record { pass = c.take_rest.new.pass; clock = k.readings c.take_rest.new.clock; pace = c.take_rest.new.pace } in
     served_then c.args.server.now.policy.now (g.M.Keeps.list root) (m.legal root) (m.now_of root) c.args.pass.now.number p p p' ((h c.args.ports.now).port n) ((h c.write_out.new.ports).port n) ((h c.take_rest.new.ports).port n) n s c.write_out.new.party c.take_rest.new.party {T = Unit {0}} {U = Unit {0}} c.in_default.field-0 (Err c.in-Err-take_rest.pause)
     (served_push c.args.server.now.policy.now (g.M.Keeps.list root) (m.legal root) (m.now_of root) c.args.pass.now.number p (h c.args.ports.now) (h c.write_out.new.ports) n s c.write_out.new.party c.write_out.new.party.at (Ok c.in_default.field-0) c.in_default.ensures.pushes c.in_default.ensures.same)
     c.in-Err-take_rest.ensures.goes
@@ -40,8 +40,8 @@ loop-party-init g c =
     let h = g.P.Ports.harbour in
     let n = c.args.server.now.conn in
     let s = c.args.party.now in
-    let p : Spot g.row.M.Denot = record { pass = c.args.pass.now; clock = k.readings c.args.clock.now; pace = c.args.pace.now } in
-    let p' : Spot g.row.M.Denot = record { pass = c.take_rest.new.pass; clock = k.readings c.take_rest.new.clock; pace = c.take_rest.new.pace } in
+    let p : FrontSpot g.row.M.Denot = record { pass = c.args.pass.now; clock = k.readings c.args.clock.now; pace = c.args.pace.now } in
+    let p' : FrontSpot g.row.M.Denot = record { pass = c.take_rest.new.pass; clock = k.readings c.take_rest.new.clock; pace = c.take_rest.new.pace } in
     let w = c.in_default.ensures in
     let e = c.in_default-take_rest.ensures in
     let t1 = w.pushes.tends in
@@ -63,6 +63,8 @@ loop-party-init g c =
       counts = (omega (arith, counts, upto, from, left, asked, kept), omega (arith, counts, upto, from, left, denied, kept), omega (arith, counts, upto, from, left, kept));
       reached = e.reached;
       tends = tends_twice (h c.args.ports.now) (h c.write_out.new.ports) (h c.take_rest.new.ports) n t1 e.tends;
+      live = λ l. e.live (w.pushes.pushed.1 l);
+      faults = fails_twice (h c.args.ports.now) (h c.write_out.new.ports) (h c.take_rest.new.ports) n w.faults w.pushes.pushed.1 e.faults;
       opened = open_kept (h c.args.ports.now) (h c.take_rest.new.ports) n (tends_twice (h c.args.ports.now) (h c.write_out.new.ports) (h c.take_rest.new.ports) n t1 e.tends) c.requires.open;
       none = e.all;
       within = omega (arith, kept, upto, within);
@@ -77,8 +79,8 @@ returns-in-Err-fill-clause-attends g c =
     let h = g.P.Ports.harbour in
     let n = c.args.server.now.conn in
     let s = c.args.party.now in
-    let p : Spot g.row.M.Denot = record { pass = c.args.pass.now; clock = k.readings c.args.clock.now; pace = c.args.pace.now } in
-    let p' : Spot g.row.M.Denot = record { pass = c.loop-party.pass; clock = k.readings c.loop-party.clock; pace = c.loop-party.pace } in
+    let p : FrontSpot g.row.M.Denot = record { pass = c.args.pass.now; clock = k.readings c.args.clock.now; pace = c.args.pace.now } in
+    let p' : FrontSpot g.row.M.Denot = record { pass = c.loop-party.pass; clock = k.readings c.loop-party.clock; pace = c.loop-party.pace } in
     let inv = c.loop-party.invariant in
     let some = c.loop-party-test.true in
     served_then c.args.server.now.policy.now (g.M.Keeps.list root) (m.legal root) (m.now_of root) c.args.pass.now.number p p' p' ((h c.args.ports.now).port n) ((h c.loop-party.ports).port n) ((h c.fill.new.ports).port n) n s c.loop-party.party c.fill.new.party {T = Unit {0}} {U = Unit {0}} tt (Err c.in-Err-fill.pause) inv.served
@@ -92,9 +94,9 @@ returns-in-Err-take_rest-2-clause-attends g c =
     let h = g.P.Ports.harbour in
     let n = c.args.server.now.conn in
     let s = c.args.party.now in
-    let p : Spot g.row.M.Denot = record { pass = c.args.pass.now; clock = k.readings c.args.clock.now; pace = c.args.pace.now } in
-    let p' : Spot g.row.M.Denot = record { pass = c.loop-party.pass; clock = k.readings c.loop-party.clock; pace = c.loop-party.pace } in
-    let p'' : Spot g.row.M.Denot = record { pass = c.take_rest-in-loop-party.new.pass; clock = k.readings c.take_rest-in-loop-party.new.clock; pace = c.take_rest-in-loop-party.new.pace } in
+    let p : FrontSpot g.row.M.Denot = record { pass = c.args.pass.now; clock = k.readings c.args.clock.now; pace = c.args.pace.now } in
+    let p' : FrontSpot g.row.M.Denot = record { pass = c.loop-party.pass; clock = k.readings c.loop-party.clock; pace = c.loop-party.pace } in
+    let p'' : FrontSpot g.row.M.Denot = record { pass = c.take_rest-in-loop-party.new.pass; clock = k.readings c.take_rest-in-loop-party.new.clock; pace = c.take_rest-in-loop-party.new.pace } in
     let inv = c.loop-party.invariant in
     let some = c.loop-party-test.true in
     let next = subst (λ (j : ℕ). Goes c.args.server.now.policy.now (g.M.Keeps.list root) (m.legal root) (m.now_of root) j p' p'' ((h c.fill.new.ports).port n) ((h c.take_rest-in-loop-party.new.ports).port n) n c.fill.new.party c.take_rest-in-loop-party.new.party {T = Unit {0}} (Err c.in-Err-take_rest-2.pause)) inv.number c.in-Err-take_rest-2.ensures.goes in
@@ -119,13 +121,14 @@ loop-party-preserved g c =
     let h = g.P.Ports.harbour in
     let n = c.args.server.now.conn in
     let s = c.args.party.now in
-    let p : Spot g.row.M.Denot = record { pass = c.args.pass.now; clock = k.readings c.args.clock.now; pace = c.args.pace.now } in
-    let p' : Spot g.row.M.Denot = record { pass = c.loop-party.pass; clock = k.readings c.loop-party.clock; pace = c.loop-party.pace } in
-    let p'' : Spot g.row.M.Denot = record { pass = c.take_rest-in-loop-party.new.pass; clock = k.readings c.take_rest-in-loop-party.new.clock; pace = c.take_rest-in-loop-party.new.pace } in
+    let p : FrontSpot g.row.M.Denot = record { pass = c.args.pass.now; clock = k.readings c.args.clock.now; pace = c.args.pace.now } in
+    let p' : FrontSpot g.row.M.Denot = record { pass = c.loop-party.pass; clock = k.readings c.loop-party.clock; pace = c.loop-party.pace } in
+    let p'' : FrontSpot g.row.M.Denot = record { pass = c.take_rest-in-loop-party.new.pass; clock = k.readings c.take_rest-in-loop-party.new.clock; pace = c.take_rest-in-loop-party.new.pace } in
     let inv = c.loop-party.invariant in
     let some = c.loop-party-test.true in
     let e = c.in_default-take_rest-2.ensures in
     let f = c.in_default-fill.ensures.fills.filled in
+    let f1 = fails_twice (h c.loop-party.ports) (h c.fill.new.ports) (h c.take_rest-in-loop-party.new.ports) n c.in_default-fill.ensures.faults (λ l. f.4) e.faults in
     let t1 = tends_twice (h c.loop-party.ports) (h c.fill.new.ports) (h c.take_rest-in-loop-party.new.ports) n c.in_default-fill.ensures.fills.tends e.tends in
     let next = subst (λ (j : ℕ). Goes c.args.server.now.policy.now (g.M.Keeps.list root) (m.legal root) (m.now_of root) j p' p'' ((h c.fill.new.ports).port n) ((h c.take_rest-in-loop-party.new.ports).port n) n c.fill.new.party c.take_rest-in-loop-party.new.party {T = Unit {0}} (Ok c.in_default-take_rest-2.field-0)) inv.number e.goes in
     let left = ap (λ (z : Party). z.left) f.3 in
@@ -149,6 +152,8 @@ loop-party-preserved g c =
       counts = (omega (arith, counts, more, upto, from, left, asked, kept, few, before), omega (arith, counts, more, upto, from, left, denied, kept, few, before), omega (arith, counts, more, upto, from, left, kept, few, before));
       reached = e.reached;
       tends = tends_twice (h c.args.ports.now) (h c.loop-party.ports) (h c.take_rest-in-loop-party.new.ports) n inv.tends t1;
+      live = λ l. e.live f.4;
+      faults = fails_twice (h c.args.ports.now) (h c.loop-party.ports) (h c.take_rest-in-loop-party.new.ports) n inv.faults inv.live f1;
       opened = open_kept (h c.loop-party.ports) (h c.take_rest-in-loop-party.new.ports) n t1 inv.opened;
       none = e.all;
       within = omega (arith, kept, upto, low);
@@ -163,9 +168,30 @@ returns-clause-attends g c =
     let h = g.P.Ports.harbour in
     let n = c.args.server.now.conn in
     let s = c.args.party.now in
-    let p : Spot g.row.M.Denot = record { pass = c.args.pass.now; clock = k.readings c.args.clock.now; pace = c.args.pace.now } in
-    let p' : Spot g.row.M.Denot = record { pass = c.loop-party.pass; clock = k.readings c.loop-party.clock; pace = c.loop-party.pace } in
+    let p : FrontSpot g.row.M.Denot = record { pass = c.args.pass.now; clock = k.readings c.args.clock.now; pace = c.args.pace.now } in
+    let p' : FrontSpot g.row.M.Denot = record { pass = c.loop-party.pass; clock = k.readings c.loop-party.clock; pace = c.loop-party.pace } in
     let inv = c.loop-party.invariant in
     let spent = c.loop-party-test.false in
     served_then c.args.server.now.policy.now (g.M.Keeps.list root) (m.legal root) (m.now_of root) c.args.pass.now.number p p' p' ((h c.args.ports.now).port n) ((h c.loop-party.ports).port n) ((h c.loop-party.ports).port n) n s c.loop-party.party c.loop-party.party {T = Unit {0}} {U = Unit {0}} tt (Err _) inv.served
     (goes_spent c.args.server.now.policy.now (g.M.Keeps.list root) (m.legal root) (m.now_of root) c.args.pass.now.number p' ((h c.loop-party.ports).port n) n c.loop-party.party inv.none (omega (arith, spent)))
+
+pub returns-in-Err-take_rest-clause-faults : goal.returns-in-Err-take_rest-clause-faults
+returns-in-Err-take_rest-clause-faults g c =
+    let h = g.P.Ports.harbour in
+    let w = c.in_default.ensures in
+    fails_twice (h c.args.ports.now) (h c.write_out.new.ports) (h c.take_rest.new.ports) c.args.server.now.conn w.faults w.pushes.pushed.1 c.in-Err-take_rest.ensures.faults
+
+pub returns-in-Err-fill-clause-faults : goal.returns-in-Err-fill-clause-faults
+returns-in-Err-fill-clause-faults g c =
+    let h = g.P.Ports.harbour in
+    let inv = c.loop-party.invariant in
+    fails_twice (h c.args.ports.now) (h c.loop-party.ports) (h c.fill.new.ports) c.args.server.now.conn inv.faults inv.live c.in-Err-fill.ensures.faults
+
+pub returns-in-Err-take_rest-2-clause-faults : goal.returns-in-Err-take_rest-2-clause-faults
+returns-in-Err-take_rest-2-clause-faults g c =
+    let h = g.P.Ports.harbour in
+    let inv = c.loop-party.invariant in
+    let n = c.args.server.now.conn in
+    let f = c.in_default-fill.ensures.fills.filled in
+    fails_twice (h c.args.ports.now) (h c.loop-party.ports) (h c.take_rest-in-loop-party.new.ports) n inv.faults inv.live
+    (fails_twice (h c.loop-party.ports) (h c.fill.new.ports) (h c.take_rest-in-loop-party.new.ports) n c.in_default-fill.ensures.faults (λ l. f.4) c.in-Err-take_rest-2.ensures.faults)

@@ -3,7 +3,7 @@ use Rattle.gt_io.specs.Ports.{Port, IsOpen}
 use Rattle.turn_lock.specs.Holders.{site_of}
 use Rattle.connection_laws.specs.Desks.{IsNamedActor}
 use Rattle.connection_laws.specs.Turns.{IsIdle, IsReached}
-use Rattle.poll_front.specs.Fronts.{Tends, Counts}
+use Rattle.poll_front.specs.Fronts.{Tends, StaysLive, FailsLast, Counts}
 use Rattle.poll_front.proofs.Attending.{Served}
 use Rattle.poll_front.proofs.serve.attend.Given as goal
 
@@ -23,6 +23,8 @@ invariant-loop-party g l =
       counts : Counts l.fn.party.talk l.party.talk l.fn.pace l.pace (l.fn.party.upto - l.fn.party.from + l.fn.party.left - l.party.left);
       reached : IsReached (m.legal root) (m.now_of root) l.pass.seen l.pace.reached;
       tends : Tends a b l.server.conn;
+      live : StaysLive (a.port l.server.conn) (b.port l.server.conn) {T = Unit {0}} (Ok tt);
+      faults : FailsLast a b l.server.conn;
       opened : IsOpen b l.server.conn;
       none : l.party.from ≡ l.party.upto;
       within : l.party.upto ≤ 4096;

@@ -5,8 +5,8 @@ use Rattle.least_walk.specs.Net.{Net, IsNet, arcs_of, is_marked}
 use Rattle.least_walk.specs.Walks.{is_goal, IsReach, HasNoWalk}
 use Rattle.least_walk.proofs.Items.{item_get}
 use Rattle.gtrbac_model.specs.Cycles.{IsLeastCycle}
-use Rattle.safety_cycle.specs.Ranks.{AreRanks, IsLevelMark, lifted}
-use Rattle.safety_cycle.proofs.Parting.{IsOnly, parted, told, end_is_out}
+use Rattle.safety_cycle.specs.Ranks.{AreRanks, lifted}
+use Rattle.safety_cycle.proofs.Parting.{IsOnly, parted, told, end_is_out, IsLevelMark}
 use Rattle.safety_cycle.proofs.judging.look.Goals as goal
 
 -- the cycle, from what the calls told

@@ -16,7 +16,7 @@ returns c =
     let whole : take n b.entries ≡ b.entries = take_all n b.entries (omega (arith, all)) in
     subst (λ (h : List Entry). IsGlance b.named.policy b.birth h c.args.actor c.args.request (record { reply = c.in_ok-reply.reply; at = c.now.result; len = n })) (sym whole)
     (record {
-      reply = record { model = model_in b; legal = c.entries.ensures.legal; named = c.entries.ensures.named; reply_is = c.in_ok-reply.ensures };
+      reply = record { model = model_in b; legal = c.keeps.ensures.kept.legal; named = c.keeps.ensures.kept.named; reply_is = c.in_ok-reply.ensures };
       at = c.now.ensures;
       len = all;
     })

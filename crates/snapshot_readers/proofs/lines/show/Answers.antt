@@ -1,7 +1,7 @@
 use Rattle.std.proofs.Common.{◌≡◌, ℕ, List, ◌∷◌, [], ◌++◌, refl, ap, ◌∙◌}
 use Rattle.snapshot_readers.proofs.Acting.{shows_glance}
 use Rattle.request_text.specs.Replies.{reply_line}
-use Rattle.snapshot_readers.specs.declared.showing.Told.TheVariants.{Reply}
+use Rattle.snapshot_readers.specs.declared.showing.ViewAnswer.TheVariants.{Reply}
 use Rattle.snapshot_readers.proofs.lines.show.Goals as goal
 
 pub returns-in-Ok-clause-shows : goal.returns-in-Ok-clause-shows

@@ -3,8 +3,8 @@ use Rattle.gt_io.specs.Frames.{Frame}
 use Rattle.request_text.specs.declared.lines.LineFault.TheVariants.{Long}
 use Rattle.connection_laws.specs.Cuts.{open_line}
 use Rattle.connection_laws.proofs.Framing.{more_is, whole_is, long_is}
-use Rattle.snapshot_readers.specs.declared.showing.Told.TheVariants.{Bad}
-use Rattle.snapshot_readers.specs.Viewing.{point}
+use Rattle.snapshot_readers.specs.declared.showing.ViewAnswer.TheVariants.{Bad}
+use Rattle.snapshot_readers.specs.Viewing.{view_point}
 use Rattle.snapshot_readers.proofs.Acting.{acts_bad}
 use Rattle.snapshot_readers.proofs.LineDone.{line_done, byte_more, long_line}
 use Rattle.snapshot_readers.proofs.lines.take_byte.Goals as goal
@@ -13,7 +13,7 @@ pub returns-in-More-clause-goes : goal.returns-in-More-clause-goes
 returns-in-More-clause-goes g c =
     λ o fed acted s. (
       acted,
-      byte_more c.args.policy.now c.args.glass.now.birth o (point c.args.glass.now.seen c.args.showing.now (g.L.Link.traffic c.args.link.now).given) c.args.framer.now c.push.new.self fed c.args.byte acted s
+      byte_more c.args.policy.now c.args.glass.now.birth o (view_point c.args.glass.now.seen c.args.showing.now (g.L.Link.traffic c.args.link.now).given) c.args.framer.now c.push.new.self fed c.args.byte acted s
           (more_is c.args.framer.now c.args.byte (sym c.push.ensures.answer ∙ c.in-More.is)) c.push.ensures.frame,
     )
 

@@ -1,5 +1,5 @@
 use denote.Param.Send.{sendable}
-use Rattle.snapshot_readers.proofs.BookSharing.{entry_sync}
+use Rattle.gt_base.proofs.Crossing.{entry_sync}
 use Rattle.snapshot_readers.proofs.SeatSending.{seat_row_send}
 use Rattle.snapshot_readers.proofs.seats.settle_all.Goals as goal
 

@@ -2,7 +2,7 @@ use Rattle.std.proofs.Common.{ℕ, List, [], ◌∷◌, ◌++◌, length, refl, 
 use Rattle.std.specs.Io.KnownBytes.{Appends, Consumes}
 use Rattle.std.proofs.KnownBytes.{Appends-nil, Appends-trans, Consumes-nil, Consumes-trans}
 use Rattle.snapshot_readers.specs.Boxes.{Box}
-use Rattle.snapshot_readers.specs.Viewing.{GlancesCanBeTold, Goes, point}
+use Rattle.snapshot_readers.specs.Viewing.{GlancesCanBeTold, Goes, view_point}
 use Rattle.snapshot_readers.proofs.Closing.{begins, serving_kept, closed, cut_off, all_fed, taken_on, consumed_on, one_less, one_longer}
 use Rattle.snapshot_readers.proofs.serve.converse.Goals as goal
 
@@ -42,10 +42,10 @@ returns-in-Err-take_byte-clause-converses g c =
     let old = t.traffic c.loop-byte.link in
     let mid = t.traffic c.next.new.link in
     let end = t.traffic c.take_byte.new.link in
-    let o = point c.args.glass.now.seen c.args.showing.now start.given in
-    let last = point c.take_byte.new.glass.seen c.take_byte.new.showing end.given in
+    let o = view_point c.args.glass.now.seen c.args.showing.now start.given in
+    let last = view_point c.take_byte.new.glass.seen c.take_byte.new.showing end.given in
     let s = serving_kept np birth o c.loop-byte.glass.seen c.loop-byte.showing old.given mid.given c.loop-byte.framer inv.fed inv.acted c.in-Ok.ensures.writes.given_kept inv.serving in
-    let goes = subst (λ (b : ℕ). Goes np b (point c.loop-byte.glass.seen c.loop-byte.showing mid.given) last c.loop-byte.framer c.take_byte.new.framer byte mid.write_faults end.write_faults {T = Unit {0}} (Err c.in-Err-take_byte.end)) inv.glass.1 c.in-Err-take_byte.ensures.goes in
+    let goes = subst (λ (b : ℕ). Goes np b (view_point c.loop-byte.glass.seen c.loop-byte.showing mid.given) last c.loop-byte.framer c.take_byte.new.framer byte mid.write_faults end.write_faults {T = Unit {0}} (Err c.in-Err-take_byte.end)) inv.glass.1 c.in-Err-take_byte.ensures.goes in
     let y = goes o inv.fed inv.acted s in
     let less = one_less rest f.got rest' byte f.feeds.0 in
     let more = one_longer inv.fed byte in
@@ -69,8 +69,8 @@ returns-in-Err-clause-converses g c =
     let start = t.traffic c.args.link.now in
     let old = t.traffic c.loop-byte.link in
     let mid = t.traffic c.next.new.link in
-    let o = point c.args.glass.now.seen c.args.showing.now start.given in
-    let last = point c.loop-byte.glass.seen c.loop-byte.showing mid.given in
+    let o = view_point c.args.glass.now.seen c.args.showing.now start.given in
+    let last = view_point c.loop-byte.glass.seen c.loop-byte.showing mid.given in
     let s = serving_kept np birth o c.loop-byte.glass.seen c.loop-byte.showing old.given mid.given c.loop-byte.framer inv.fed inv.acted c.in-Err.ensures.writes.given_kept inv.serving in
     let same = all_fed inv.fed rest f.got f.feeds.0 f.feeds.1 in
     let none = ap (λ (l : List ℕ). length l) f.feeds.0 in
@@ -101,10 +101,10 @@ loop-byte-preserved g c =
     let old = t.traffic c.loop-byte.link in
     let mid = t.traffic c.next.new.link in
     let end = t.traffic c.take_byte.new.link in
-    let o = point c.args.glass.now.seen c.args.showing.now start.given in
-    let last = point c.take_byte.new.glass.seen c.take_byte.new.showing end.given in
+    let o = view_point c.args.glass.now.seen c.args.showing.now start.given in
+    let last = view_point c.take_byte.new.glass.seen c.take_byte.new.showing end.given in
     let s = serving_kept np birth o c.loop-byte.glass.seen c.loop-byte.showing old.given mid.given c.loop-byte.framer inv.fed inv.acted c.in-Ok.ensures.writes.given_kept inv.serving in
-    let goes = subst (λ (b : ℕ). Goes np b (point c.loop-byte.glass.seen c.loop-byte.showing mid.given) last c.loop-byte.framer c.take_byte.new.framer byte mid.write_faults end.write_faults {T = Unit {0}} (Ok c.in_default.field-0)) inv.glass.1 c.in_default.ensures.goes in
+    let goes = subst (λ (b : ℕ). Goes np b (view_point c.loop-byte.glass.seen c.loop-byte.showing mid.given) last c.loop-byte.framer c.take_byte.new.framer byte mid.write_faults end.write_faults {T = Unit {0}} (Ok c.in_default.field-0)) inv.glass.1 c.in_default.ensures.goes in
     let y = goes o inv.fed inv.acted s in
     let less = one_less rest f.got rest' byte f.feeds.0 in
     let more = one_longer inv.fed byte in

@@ -1,7 +1,7 @@
 use Rattle.std.proofs.Common.{◌≡◌, ◌+◌, ℕ, List, ◌++◌, length}
 use Rattle.std.specs.Io.KnownBytes.{Appends, Consumes}
-use Rattle.snapshot_readers.specs.Viewed.{Acted}
-use Rattle.snapshot_readers.specs.Viewing.{SameGlass, CountsUp, Serving, point}
+use Rattle.snapshot_readers.specs.Viewed.{ViewActed}
+use Rattle.snapshot_readers.specs.Viewing.{SameGlass, ViewCountsUp, Serving, view_point}
 use Rattle.snapshot_readers.proofs.serve.converse.Given as goal
 
 abbrev pub invariant-loop-byte : goal.invariant-loop-byte
@@ -11,13 +11,13 @@ invariant-loop-byte g l =
     let b = t.traffic l.link in
     record {
       fed : List ℕ;
-      acted : List Acted;
-      serving : Serving l.policy l.fn.glass.birth (point l.fn.glass.seen l.fn.showing a.given) (point l.glass.seen l.showing b.given) l.framer fed acted;
+      acted : List ViewActed;
+      serving : Serving l.policy l.fn.glass.birth (view_point l.fn.glass.seen l.fn.showing a.given) (view_point l.glass.seen l.showing b.given) l.framer fed acted;
       glass : SameGlass l.fn.glass l.glass;
       taken : Appends a.taken b.taken (fed ++ l.inbox.rest);
       consumed : Consumes a.left b.left (fed ++ l.inbox.rest);
       counted : length fed + length l.inbox.rest + l.inbox.left ≡ 67_108_864;
-      counts : CountsUp l.fn.showing l.showing (length fed);
+      counts : ViewCountsUp l.fn.showing l.showing (length fed);
       reads : b.read_faults ≡ a.read_faults;
       writes : b.write_faults ≡ a.write_faults;
     }

@@ -1,20 +1,22 @@
-use Rattle.std.proofs.Common.{◌≤◌, ◌-◌, ◌*◌, List, length}
-use Rattle.snapshot_readers.specs.Crew.{Tale, AddUp, Worked, most_links}
+use Rattle.std.proofs.Common.{◌≡◌, ◌≤◌, ◌-◌, ◌*◌, List, length}
+use Rattle.snapshot_readers.specs.Crew.{ViewTale, Worked}
+use Rattle.connection_laws.specs.Doors.{AddUp}
 use Rattle.snapshot_readers.specs.Viewing.{SameGlass}
 use Rattle.snapshot_readers.proofs.viewers.view_on.Given as goal
+use Rattle.snapshot_readers.specs.declared.viewers.TheConstants.{MOST_LINKS}
 
 abbrev pub invariant-loop-served : goal.invariant-loop-served
 invariant-loop-served g l =
     let d = g.D.Door in
     record {
-      tales : List (Tale g.row.D-L.Denot);
+      tales : List (ViewTale g.row.D-L.Denot);
       worked : Worked g.D.L.Link.traffic l.policy l.fn.glass.birth (record { seen = l.fn.glass.seen; door = d.links l.fn.door }) (record { seen = l.glass.seen; door = d.links l.door }) l.served.items tales;
       counted : AddUp (d.links l.fn.door) (d.links l.door) l.served.items;
       glass : SameGlass l.fn.glass l.glass;
       calls : l.calls ≤ 67_108_864 * length l.served.items;
-      few : length l.served.items ≤ most_links;
-      faults : d.faults l.fn.door ≤ d.faults l.door;
+      few : length l.served.items ≤ MOST_LINKS;
+      faults : d.faults l.door ≡ d.faults l.fn.door;
     }
 
 abbrev pub decreases-loop-served : goal.decreases-loop-served
-decreases-loop-served g l = most_links - length l.served.items
+decreases-loop-served g l = MOST_LINKS - length l.served.items

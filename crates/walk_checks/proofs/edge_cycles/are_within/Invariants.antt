@@ -1,7 +1,7 @@
 use Rattle.std.proofs.Common.{◌≡◌, ℕ, ◌<◌, Some}
 use Rattle.gt_base.specs.declared.policies.HierEdge.{HierEdge}
 use Rattle.gtrbac_model.specs.Graph.{item_at}
-use Rattle.policy_book.specs.Nets.{HasRoles}
+use Rattle.hybrid_hierarchy.specs.Nets.{HasRoles}
 use Rattle.walk_checks.proofs.edge_cycles.are_within.Given as goal
 
 abbrev pub invariant-loop-e : goal.invariant-loop-e

@@ -5,11 +5,12 @@ use Rattle.gtrbac_model.specs.History.{Legal}
 use Rattle.gtrbac_model.specs.Policy.{Policy}
 use Rattle.gtrbac_model.specs.Status.{Model}
 use Rattle.why_check.specs.Certificates.{Accepts}
-use Rattle.why_check.specs.Steps.{HasReached, counted}
+use Rattle.why_check.specs.Steps.{held_count}
 use Rattle.why_check.specs.declared.checking.Held.TheVariants.{Wrong}
 use Rattle.why_check.proofs.Beginning.{begins}
 use Rattle.why_check.proofs.Deciding.{goes, stops, ready, decides}
 use Rattle.why_check.proofs.checking.accept.Goals as goal
+use Rattle.why_check.proofs.Replaying.{HasReached}
 
 pub loop-entry-init : goal.loop-entry-init
 loop-entry-init c = record {
@@ -48,7 +49,7 @@ overflow_add-place c =
     let given = c.requires.legal in
     let lt : c.loop-entry.entry-index < length h = subst (λ xs. c.loop-entry.entry-index < length xs) c.as_slice-entry-items.ensures c.loop-entry-test.true in
     let at : c.entry-item.result ≡ get_or h c.loop-entry.entry-index c.entry-item.result = c.entry-item.is ∙ ap (λ xs. get_or xs c.loop-entry.entry-index c.entry-item.result) c.as_slice-entry-items.ensures in
-    let most : c.loop-entry.place + counted c.in_ok-held.held ≤ length c.args.cert.now =
+    let most : c.loop-entry.place + held_count c.in_ok-held.held ≤ length c.args.cert.now =
     (goes p c.keeps.ensures.policy c.requires.safe c.args.birth h given.model given.legal c.args.cert.now c.loop-entry.place c.loop-entry.entry-index c.loop-entry.invariant.within c.loop-entry.replay
     (c.loop-entry.invariant.reached given.model given.legal) c.entry-item.result lt at (slice_get c.args.cert.now c.loop-entry.place) refl c.in_ok-held.held c.step.new.s c.in_ok-held.ensures
     (λ w. let so : c.is_wrong.result ≡ true = c.is_wrong.ensures.1 w in let not_so : c.is_wrong.result ≡ false = c.if-is_wrong.false in cc)).1 in
@@ -63,8 +64,8 @@ loop-entry-preserved c =
     let at : c.entry-item.result ≡ get_or h c.loop-entry.entry-index c.entry-item.result = c.entry-item.is ∙ ap (λ xs. get_or xs c.loop-entry.entry-index c.entry-item.result) c.as_slice-entry-items.ensures in
     let fine : c.in_ok-held.held ≡ Wrong → ⊥ = λ w. let so : c.is_wrong.result ≡ true = c.is_wrong.ensures.1 w in let not_so : c.is_wrong.result ≡ false = c.if-is_wrong.false in cc in
     let on : (m : Model) (legal : Legal p c.args.birth h m)
-    → HasReached p c.args.birth h m (take (c.loop-entry.entry-index + 1) h) (take (c.loop-entry.place + counted c.in_ok-held.held) c.args.cert.now) c.step.new.s
-    × (c.loop-entry.place + counted c.in_ok-held.held ≤ length c.args.cert.now) =
+    → HasReached p c.args.birth h m (take (c.loop-entry.entry-index + 1) h) (take (c.loop-entry.place + held_count c.in_ok-held.held) c.args.cert.now) c.step.new.s
+    × (c.loop-entry.place + held_count c.in_ok-held.held ≤ length c.args.cert.now) =
     λ m legal.
     goes p c.keeps.ensures.policy c.requires.safe c.args.birth h m legal c.args.cert.now c.loop-entry.place c.loop-entry.entry-index c.loop-entry.invariant.within c.loop-entry.replay
     (c.loop-entry.invariant.reached m legal) c.entry-item.result lt at (slice_get c.args.cert.now c.loop-entry.place) refl c.in_ok-held.held c.step.new.s c.in_ok-held.ensures fine in

@@ -1,8 +1,8 @@
 use Rattle.std.proofs.Common.{◌≤◌, length, take}
 use Rattle.gtrbac_model.specs.History.{Legal}
 use Rattle.gtrbac_model.specs.Status.{Model}
-use Rattle.why_check.specs.Steps.{HasReached}
 use Rattle.why_check.proofs.checking.accept.Given as goal
+use Rattle.why_check.proofs.Replaying.{HasReached}
 
 -- the front of the certificate is right up to the entries so far
 abbrev pub invariant-loop-entry : goal.invariant-loop-entry

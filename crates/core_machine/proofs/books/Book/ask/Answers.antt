@@ -1,7 +1,7 @@
 use Rattle.std.proofs.Common.{◌≡◌, ℕ, ◌<◌, ◌≤◌, ◌⊎◌, inl, inr, length, refl, sym, ap, subst, ◌∙◌, arith}
 use Rattle.std.specs.Prelude.{IfOk, OnOk, OnErr, Result}
 use Rattle.std.proofs.lemmas.Result.{IfOk-weaker, on_err_weaker}
-use Rattle.gt_base.specs.Bounds.{max_steps}
+use Rattle.gt_base.specs.declared.limits.TheConstants.{MAX_STEPS}
 use Rattle.gtrbac_model.specs.History.{IsNamedWish, ask}
 use Rattle.core_machine.specs.Books.{Asks, BookView, GoesOn, IsLegalBook, Ticks, now_in}
 use Rattle.core_machine.specs.Kept.{view_of}
@@ -33,10 +33,10 @@ pub returns-clause-full : goal.returns-clause-full
 returns-clause-full c = λ e. absurd (step_not_full c.answer.result (sym c.or_memory.ensures ∙ e))
 
 pub returns-clause-room : goal.returns-clause-room
-returns-clause-room c = on_ok c.or_memory.result (length c.args.self.now.entries < max_steps) (omega (arith, c.len.ensures, ap (λ (b : BookView). length b.entries) c.self.view_is))
+returns-clause-room c = on_ok c.or_memory.result (length c.args.self.now.entries < MAX_STEPS) (omega (arith, c.len.ensures, ap (λ (b : BookView). length b.entries) c.self.view_is))
 
-pub returns-then-len-ge1000000-clause-legal : goal.returns-then-len-ge1000000-clause-legal
-returns-then-len-ge1000000-clause-legal c = subst IsLegalBook c.self.view_is c.self.invariant.legal
+pub returns-then-len-ge-MAX_STEPS-clause-legal : goal.returns-then-len-ge-MAX_STEPS-clause-legal
+returns-then-len-ge-MAX_STEPS-clause-legal c = subst IsLegalBook c.self.view_is c.self.invariant.legal
 
-pub returns-then-len-ge1000000-clause-full : goal.returns-then-len-ge1000000-clause-full
-returns-then-len-ge1000000-clause-full c = λ e. omega (arith, c.len.ensures, c.self.invariant.short, ap (λ (b : BookView). length b.entries) c.self.view_is)
+pub returns-then-len-ge-MAX_STEPS-clause-full : goal.returns-then-len-ge-MAX_STEPS-clause-full
+returns-then-len-ge-MAX_STEPS-clause-full c = λ e. omega (arith, c.len.ensures, c.self.invariant.short, ap (λ (b : BookView). length b.entries) c.self.view_is)

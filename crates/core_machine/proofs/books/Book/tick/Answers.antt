@@ -1,11 +1,11 @@
 use Rattle.std.proofs.Common.{◌≡◌, ℕ, ◌<◌, ◌≤◌, ◌⊎◌, inl, inr, length, refl, sym, ap, subst, ◌∙◌, arith}
 use Rattle.std.specs.Prelude.{IfOk, OnOk, OnErr, Result}
 use Rattle.std.proofs.lemmas.Result.{IfOk-weaker, on_err_weaker}
-use Rattle.gt_base.specs.Bounds.{max_steps}
 use Rattle.gtrbac_model.specs.History.{IsNamedWish, ask}
 use Rattle.core_machine.specs.Books.{Asks, BookView, GoesOn, IsLegalBook, Ticks, now_in}
 use Rattle.core_machine.specs.Kept.{view_of}
 use Rattle.std.proofs.lemmas.Map.Keys.{le_from_is_le}
+use Rattle.gt_base.specs.declared.limits.TheConstants.{MAX_STEPS}
 use Rattle.core_machine.proofs.Stops.{past}
 use Rattle.core_machine.proofs.Sames.{on_ok, step_err, step_not_full, step_ok}
 use Rattle.core_machine.proofs.books.Book.tick.Goals as goal
@@ -30,11 +30,11 @@ pub returns-then-le-clause-room : goal.returns-then-le-clause-room
 returns-then-le-clause-room c =
     inl (omega (arith, now_is (goal.at.returns-then-le-clause-room c).After-le, le_from_is_le c.args.upto c.now-now.result (sym c.le.ensures ∙ c.if-le.true)))
 
-pub returns-then-len-ge1000000-clause-legal : goal.returns-then-len-ge1000000-clause-legal
-returns-then-len-ge1000000-clause-legal c = subst IsLegalBook c.self.view_is c.self.invariant.legal
+pub returns-then-len-ge-MAX_STEPS-clause-legal : goal.returns-then-len-ge-MAX_STEPS-clause-legal
+returns-then-len-ge-MAX_STEPS-clause-legal c = subst IsLegalBook c.self.view_is c.self.invariant.legal
 
-pub returns-then-len-ge1000000-clause-full : goal.returns-then-len-ge1000000-clause-full
-returns-then-len-ge1000000-clause-full c = λ e. (omega (arith, now_is (goal.at.returns-then-len-ge1000000-clause-full c).After-le, past c.args.upto c.now-now.result (sym c.le.ensures ∙ c.if-le.false)), omega (arith, c.len.ensures, c.self.invariant.short, ap (λ (b : BookView). length b.entries) c.self.view_is))
+pub returns-then-len-ge-MAX_STEPS-clause-full : goal.returns-then-len-ge-MAX_STEPS-clause-full
+returns-then-len-ge-MAX_STEPS-clause-full c = λ e. (omega (arith, now_is (goal.at.returns-then-len-ge-MAX_STEPS-clause-full c).After-le, past c.args.upto c.now-now.result (sym c.le.ensures ∙ c.if-le.false)), omega (arith, c.len.ensures, c.self.invariant.short, ap (λ (b : BookView). length b.entries) c.self.view_is))
 
 pub returns-clause-ok : goal.returns-clause-ok
 returns-clause-ok c =
@@ -55,4 +55,4 @@ pub returns-clause-full : goal.returns-clause-full
 returns-clause-full c = λ e. absurd (step_not_full c.go_on.result (sym c.or_memory.ensures ∙ e))
 
 pub returns-clause-room : goal.returns-clause-room
-returns-clause-room c = on_ok c.or_memory.result ((c.args.upto ≤ now_in c.args.self.now) ⊎ (length c.args.self.now.entries < max_steps)) (inr (omega (arith, c.len.ensures, ap (λ (b : BookView). length b.entries) c.self.view_is)))
+returns-clause-room c = on_ok c.or_memory.result ((c.args.upto ≤ now_in c.args.self.now) ⊎ (length c.args.self.now.entries < MAX_STEPS)) (inr (omega (arith, c.len.ensures, ap (λ (b : BookView). length b.entries) c.self.view_is)))

@@ -1,17 +1,7 @@
-use Rattle.std.proofs.Common.{◌≡◌, ◌≤◌, ℕ, List, length, sym, ap, subst, ◌∙◌}
-use Rattle.instant_bases.specs.Timelines.{ClosedSet}
+use Rattle.std.proofs.Common.{◌≡◌, ℕ, subst}
 use Rattle.time_engine.specs.Traces.{AreSome, Ascends}
-use Rattle.core_machine.specs.Books.{BookView, HasBases, HasOnlyModel, IsLegalBook, model_in}
-use Rattle.core_machine.proofs.Births.{only_one}
+use Rattle.core_machine.specs.Books.{BookView, HasBases, model_in}
 use Rattle.core_machine.proofs.books.Book.trace.Goals as goal
-
-pub returns-clause-legal : goal.returns-clause-legal
-returns-clause-legal c = subst IsLegalBook c.self.view_is c.self.invariant.legal
-
-pub returns-clause-only : goal.returns-clause-only
-returns-clause-only c =
-    let s = c.self.inside.state in
-    subst HasOnlyModel c.self.view_is (only_one s.ground.policy c.self.invariant.safe s.birth s.entries.items _ c.self.invariant.legal)
 
 pub returns-clause-bases : goal.returns-clause-bases
 returns-clause-bases c = subst (λ (b : BookView). HasBases b.named.policy b.birth (model_in b) b.entries b.trace) c.self.view_is c.self.invariant.bases

@@ -1,16 +1,16 @@
-use Rattle.std.proofs.Common.{sym, ap, subst, Ok, Err, ℕ, length, arith}
-use Rattle.gt_io.specs.Causes.{Rose}
+use Rattle.std.proofs.Common.{◌≡◌, ◌∙◌, sym, ap, subst, Ok, Err, length, arith}
+use Rattle.gt_io.specs.Memory.{one_more}
 use Rattle.gt_io.specs.Ports.{Harbour, Happens}
 use Rattle.gt_io.specs.declared.port.PortEvent.TheVariants.{Stop}
 use Rattle.gt_io.proofs.PortLists.{happens_stop, happens_fault}
-use Rattle.gt_host.specs.HostPorts.{port_of, no_port, harbour_of}
+use Rattle.gt_host.specs.HostPorts.{host_port, no_host_port, host_harbour}
 use Rattle.gt_host.proofs.ports.HostPorts.answer.Goals as goal
 
 pub returns-in-Ok-Stop-clause-happens : goal.returns-in-Ok-Stop-clause-happens
 returns-in-Ok-Stop-clause-happens g c =
     let s = c.args.self.now in
-    subst (λ (h : Harbour). Happens (harbour_of s.told s.nexts s.ports.items s.faults) h (Ok Stop)) (sym c.found.ensures.same)
-    (happens_stop port_of no_port s.told s.nexts (length s.ports.items) s.faults s.ports.items)
+    subst (λ (h : Harbour). Happens (host_harbour s.told s.nexts s.ports.items s.faults) h (Ok Stop)) (sym c.found.ensures.same)
+    (happens_stop host_port no_host_port s.told s.nexts (length s.ports.items) s.faults s.ports.items)
 
 pub returns-in-Err-clause-happens : goal.returns-in-Err-clause-happens
 returns-in-Err-clause-happens g c =
@@ -18,6 +18,6 @@ returns-in-Err-clause-happens g c =
     let same = c.found.ensures.same in
     let before = ap (λ (h : Harbour). h.faults) same in
     let later = c.raised-self.ensures.later in
-    let rose : Rose s.faults c.raised-self.result = subst (λ (n : ℕ). Rose n c.raised-self.result) before c.raised-self.ensures.rose in
-    subst (λ (h : Harbour). Happens (harbour_of s.told s.nexts s.ports.items s.faults) h (Err (record {}))) (sym (ap (λ (h : Harbour). record h { faults = c.raised-self.result }) same))
-    (happens_fault port_of no_port s.told s.nexts (length s.ports.items) s.faults c.raised-self.result s.ports.items (record {}) (omega (arith, later, before)) rose)
+    let rose : c.raised-self.result ≡ one_more s.faults = c.raised-self.ensures.rose ∙ ap one_more before in
+    subst (λ (h : Harbour). Happens (host_harbour s.told s.nexts s.ports.items s.faults) h (Err (record {}))) (sym (ap (λ (h : Harbour). record h { faults = c.raised-self.result }) same))
+    (happens_fault host_port no_host_port s.told s.nexts (length s.ports.items) s.faults c.raised-self.result s.ports.items (record {}) (omega (arith, later, before)) rose)

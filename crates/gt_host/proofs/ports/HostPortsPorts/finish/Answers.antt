@@ -1,7 +1,7 @@
 use Rattle.std.proofs.Common.{◌-◌, ap, length, arith}
 use Rattle.gt_io.specs.Ports.{Port, Harbour, Finishes}
 use Rattle.gt_io.proofs.PortLists.{finishes_port}
-use Rattle.gt_host.specs.HostPorts.{port_of, no_port, harbour_of}
+use Rattle.gt_host.specs.HostPorts.{host_port, no_host_port, host_harbour}
 use Rattle.gt_host.proofs.HostLists.{count_end, resized}
 use Rattle.gt_host.proofs.ports.HostPortsPorts.finish.Goals as goal
 
@@ -16,5 +16,5 @@ invariant_of-self-clause-counted g c =
 pub returns : goal.returns
 returns g c =
     let s = c.args.self.now in
-    resized (λ (h : Harbour). Finishes (harbour_of s.told s.nexts s.ports.items s.faults) h c.args.link) s.told s.nexts s.faults s.ports.items (c.args.link - 1) c.end.new.self
-    (finishes_port port_of no_port s.told s.nexts (length s.ports.items) s.faults s.ports.items c.args.link c.index_mut.result.now c.end.new.self c.requires.first c.requires.last c.index_mut.ensures.value c.end.ensures)
+    resized (λ (h : Harbour). Finishes (host_harbour s.told s.nexts s.ports.items s.faults) h c.args.link) s.told s.nexts s.faults s.ports.items (c.args.link - 1) c.end.new.self
+    (finishes_port host_port no_host_port s.told s.nexts (length s.ports.items) s.faults s.ports.items c.args.link c.index_mut.result.now c.end.new.self c.requires.first c.requires.last c.index_mut.ensures.value c.end.ensures)

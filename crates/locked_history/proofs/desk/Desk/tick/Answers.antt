@@ -1,8 +1,8 @@
 use Rattle.std.proofs.Common.{◌≡◌, ◌≤◌, ◌+◌, ℕ, List, [], ◌∷◌, ◌++◌, length, ap, sym, subst, ◌∙◌, None, Some, inl, inr}
 use mathlib.Core.List.{IsPrefix}
-use Rattle.gt_base.specs.Bounds.{max_steps}
 use Rattle.gt_base.specs.Machines.{ticked}
 use Rattle.gt_base.specs.declared.requests.Entry.{Entry}
+use Rattle.gt_base.specs.declared.limits.TheConstants.{MAX_STEPS}
 use Rattle.turn_lock.specs.Holders.{Holder, Lock, site_of}
 use Rattle.locked_history.specs.Fronts.{by, Lands}
 use Rattle.locked_history.proofs.Landing.{idle, landed, refused, prefix_grown, drawn_site, drawn_number, drawn_turn, stepped_site, stepped_turn, early_is, grown_when, same_when}
@@ -134,7 +134,7 @@ returns-after-minute-clause-legal g c =
     let root = c.args.self.now.root in
     let back = k.same_sym root new (subst (λ (l : Lock g.row.M.Denot). g.M.Keeps.same_root l.root new) c.self.view_is same) in (
       subst (g.M.Machine.legal root) told (m.legal_root new root front back now.legal),
-      subst (λ (l : List Entry). length l ≤ max_steps) told now.bound,
+      subst (λ (l : List Entry). length l ≤ MAX_STEPS) told now.bound,
       now.now ∙ m.now_root new root front back ∙ ap (g.M.Machine.now_of root) told,
     )
 

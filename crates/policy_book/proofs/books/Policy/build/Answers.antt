@@ -2,20 +2,16 @@ use Rattle.std.proofs.Common.{◌≡◌, ap, sym, subst, ◌∙◌}
 use Rattle.std.specs.Prelude.{Ok}
 use Rattle.policy_words.specs.Naming.{NamedPolicy}
 use Rattle.policy_words.specs.Making.{names_of, are_second}
-use Rattle.policy_words.specs.Book.{said_in, build}
+use Rattle.policy_words.specs.LinesTogether.{said_in, build}
 use Rattle.policy_book.proofs.WellFormed.{build_is_well_formed}
 use Rattle.policy_book.specs.Seen.{seen_names}
 use Rattle.policy_words.specs.Valid.{IsWellFormed}
 use Rattle.policy_book.specs.Drafts.{seen_draft, made_policy}
-use Rattle.policy_book.proofs.Fewness.{few_names}
 use Rattle.policy_book.proofs.Joining.{built, is_well_formed}
 use Rattle.policy_book.proofs.books.Policy.build.Goals as goal
 
-pub finished-requires-clause-few : goal.finished-requires-clause-few
-finished-requires-clause-few c = rw (c.in_ok-names.ensures, c.deref.ensures.value) (few_names 4_294_967_295 c.parts.inside.parts.items c.parts.invariant.few)
-
-pub finished-requires-clause-well_formed : goal.finished-requires-clause-well_formed
-finished-requires-clause-well_formed c =
+pub finished-requires : goal.finished-requires
+finished-requires c =
     let ss = c.parts.inside.parts.items in
     let ns = seen_names c.in_ok-names.names in
     let sound = c.in-Ok.ensures.ok in

@@ -1,6 +1,6 @@
 use Rattle.std.proofs.Common.{sym, ◌∙◌}
 use Rattle.std.proofs.lemmas.Simd.{splat_is_map}
-use Rattle.policy_words.specs.Making.{no_caps}
+use Rattle.policy_words.specs.CapKinds.{no_caps}
 use Rattle.policy_book.proofs.Drafting.{same_draft}
 use Rattle.policy_book.proofs.drafts.Draft.new.Goals as goal
 

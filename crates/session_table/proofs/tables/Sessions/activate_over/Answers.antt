@@ -6,8 +6,8 @@ use Rattle.gt_base.specs.declared.requests.Reply.TheVariants.{Active}
 use Rattle.gtrbac_model.specs.Sessions.{Table, is_active_in, owner_of}
 use Rattle.session_table.specs.Causes.{StandsAt}
 use Rattle.session_table.specs.Charges.{charged_in}
-use Rattle.session_table.specs.Kept.{IsKept, IsTable}
-use Rattle.session_table.specs.Opened.{opened, Numbered}
+use Rattle.session_table.specs.Kept.{AreKeptRows, IsTable}
+use Rattle.session_table.specs.Opened.{opened, NumberedFrom}
 use Rattle.session_table.specs.Permits.{rows_table}
 use Rattle.session_table.specs.Replies.{AnswersAt, OrRefused}
 use Rattle.session_table.specs.Tables.{table_of}
@@ -54,13 +54,13 @@ returns-clause-table c =
     (ap (λ x. x ∷ []) (sym c.signal_of.ensures))
 
 pub permitted-requires-clause-numbered : goal.permitted-requires-clause-numbered
-permitted-requires-clause-numbered c = (c.self.inside.begun, subst (λ os. Numbered 0 (map opened os) c.self.inside.begun) (sym c.deref.ensures.value) c.self.invariant.numbered)
+permitted-requires-clause-numbered c = (c.self.inside.begun, subst (λ os. NumberedFrom 0 (map opened os) c.self.inside.begun) (sym c.deref.ensures.value) c.self.invariant.numbered)
 
 pub permitted-requires-clause-kept : goal.permitted-requires-clause-kept
 permitted-requires-clause-kept c = (
   c.self.inside.charged_to,
-  subst (λ os. IsKept os c.as_slice.result.now c.self.inside.charges.charged c.self.inside.charged_to) (sym c.deref.ensures.value)
-      (subst (λ xs. IsKept c.self.inside.sessions.items xs c.self.inside.charges.charged c.self.inside.charged_to) (sym c.as_slice.ensures) c.self.invariant.kept),
+  subst (λ os. AreKeptRows os c.as_slice.result.now c.self.inside.charges.charged c.self.inside.charged_to) (sym c.deref.ensures.value)
+      (subst (λ xs. AreKeptRows c.self.inside.sessions.items xs c.self.inside.charges.charged c.self.inside.charged_to) (sym c.as_slice.ensures) c.self.invariant.kept),
 )
 
 pub enter-requires : goal.enter-requires

@@ -4,9 +4,9 @@ use Rattle.gt_base.specs.declared.events.UserId.{UserId}
 use Rattle.gtrbac_model.specs.Sessions.{Activation, is_of, is_dropped, signal_of}
 use Rattle.history_laws.specs.Tables.{minutes_of_day}
 use Rattle.session_table.specs.declared.opened.Open.{Open}
-use Rattle.session_table.specs.Opened.{role_in, Numbered}
+use Rattle.session_table.specs.Opened.{role_in, NumberedFrom}
 use Rattle.session_table.specs.Charges.{Charged, charged_in}
-use Rattle.session_table.specs.Kept.{IsKept}
+use Rattle.session_table.specs.Kept.{AreKeptRows}
 use Rattle.session_table.specs.Plans.{DropsView}
 use Rattle.session_table.specs.Tables.{TableView, NotBefore, table_of, charged_through}
 use Rattle.session_table.proofs.Committing.{charges_fit, committed, survivors}
@@ -51,11 +51,11 @@ invariant_of-self c =
     let kept : c.take_out.new.active.items ≡ filter (λ a. role_in os' a.session a.role) active = c.take_out.ensures.active in
     let gone : c.deref.result.now ≡ filter c.requires.test active = listed ∙ c.requires.gone ∙ ap (λ (v : TableView). filter c.requires.test v.active) (sym c.self.view_is) in
     record {
-      kept = subst (λ xs. IsKept os' xs c.charge_stretch.new.charges.charged (Some c.d.inside.to)) (sym kept)
+      kept = subst (λ xs. AreKeptRows os' xs c.charge_stretch.new.charges.charged (Some c.d.inside.to)) (sym kept)
           (committed os active rows c.self.inside.charged_to c.self.invariant.kept c.requires.test c.deref.result.now gone os' c.take_out.ensures.roles c.take_out.ensures.count
           c.charge_stretch.new.charges.charged c.d.inside.after c.d.inside.to order not_before charged);
       counted = c.self.invariant.counted ∙ sym c.take_out.ensures.count;
-      numbered = subst (λ ss. Numbered 0 ss c.self.inside.begun) (sym c.take_out.ensures.opened) c.self.invariant.numbered;
+      numbered = subst (λ ss. NumberedFrom 0 ss c.self.inside.begun) (sym c.take_out.ensures.opened) c.self.invariant.numbered;
     }
 
 pub returns-clause-table : goal.returns-clause-table

@@ -6,7 +6,7 @@ use Rattle.gt_base.specs.declared.requests.Refusal.TheVariants.{NotActive}
 use Rattle.gtrbac_model.specs.Sessions.{is_active_in, signal_of}
 use Rattle.gtrbac_model.specs.Reply.{session_causes, unless}
 use Rattle.session_table.specs.declared.opened.Open.{Open}
-use Rattle.session_table.specs.Opened.{opened, still_open, Numbered}
+use Rattle.session_table.specs.Opened.{opened, still_open, NumberedFrom}
 use Rattle.session_table.specs.Causes.{StandsAt}
 use Rattle.session_table.specs.Charges.{charged_in}
 use Rattle.session_table.specs.Tables.{table_of}
@@ -46,7 +46,7 @@ invariant_of-self c =
     record {
       kept = rw (new, c.end_role.ensures) (ended c.self.inside.sessions.items c.self.inside.active.items c.self.inside.charges.charged c.self.inside.charged_to c.self.invariant.kept c.args.session c.in-Ok.at stands o there c.args.role);
       counted = c.self.invariant.counted ∙ sym (as_many_open c.self.inside.sessions.items c.in-Ok.at o _ there refl) ∙ ap (count_by (λ (o : Open). o.is_open)) (sym new);
-      numbered = subst (λ ss. Numbered 0 ss c.self.inside.begun)
+      numbered = subst (λ ss. NumberedFrom 0 ss c.self.inside.begun)
           (sym (ap (map opened) new ∙ kept_opened c.self.inside.sessions.items c.in-Ok.at o (record o { roles = without o.roles c.args.role }) there refl)) c.self.invariant.numbered;
     }
 

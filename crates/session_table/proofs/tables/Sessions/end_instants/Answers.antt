@@ -5,7 +5,7 @@ use Rattle.gt_base.specs.declared.policies.Caps.{Caps}
 use Rattle.gt_base.specs.declared.policies.HierEdge.{HierEdge}
 use Rattle.gtrbac_model.specs.Conflict.{Status}
 use Rattle.gtrbac_model.specs.Sessions.{Table, Activation, is_dropped, signal_of}
-use Rattle.session_table.specs.Plans.{IsPlan, need_of}
+use Rattle.session_table.specs.Plans.{IsDropPlan, need_of}
 use Rattle.session_table.specs.Tables.{TableView, NotBefore, table_of, charged_through, dropped_at, closed_at}
 use Rattle.session_table.proofs.tables.Sessions.end_instants.Goals as goal
 
@@ -14,7 +14,7 @@ commit_end-requires c =
     let edges : List HierEdge = c.args.edges.now.items in
     let caps : List Caps = c.args.caps.now.items in
     let s : Status = has c.args.status.now.set in
-    let plan : IsPlan edges caps s c.args.now c.args.to (table_of c.args.self.now) c.in_ok-d.d = c.in_ok-d.ensures.plan in
+    let plan : IsDropPlan edges caps s c.args.now c.args.to (table_of c.args.self.now) c.in_ok-d.d = c.in_ok-d.ensures.plan in
     let mid : TableView = c.plan_end.new.self in
     let test : Activation → Bool = is_dropped edges caps s c.args.to (charged_through c.args.now c.args.to (table_of c.args.self.now)) in
     record {
@@ -30,7 +30,7 @@ returns-clause-table c =
     let edges : List HierEdge = c.args.edges.now.items in
     let caps : List Caps = c.args.caps.now.items in
     let s : Status = has c.args.status.now.set in
-    let plan : IsPlan edges caps s c.args.now c.args.to (table_of c.args.self.now) c.in_ok-d.d = c.in_ok-d.ensures.plan in
+    let plan : IsDropPlan edges caps s c.args.now c.args.to (table_of c.args.self.now) c.in_ok-d.d = c.in_ok-d.ensures.plan in
     let same : table_of c.plan_end.new.self ≡ table_of c.args.self.now = c.in_ok-d.ensures.same in
     let gone : c.in_ok-d.d.gone ≡ dropped_at edges caps s c.in_ok-d.d.after c.in_ok-d.d.to (table_of c.plan_end.new.self) =
     plan.gone ∙ (λ i. dropped_at edges caps s (sym plan.from i) (sym plan.upto i) (sym same i)) in

@@ -6,7 +6,7 @@ use Rattle.gtrbac_model.specs.Same.{same_session}
 use Rattle.gtrbac_model.specs.Sessions.{signal_of}
 use Rattle.gtrbac_model.specs.Reply.{session_causes}
 use Rattle.session_table.specs.declared.opened.Open.{Open}
-use Rattle.session_table.specs.Opened.{numbered, opened, still_open, in_session, Numbered}
+use Rattle.session_table.specs.Opened.{numbered, opened, still_open, in_session, NumberedFrom}
 use Rattle.session_table.specs.Causes.{StandsAt}
 use Rattle.session_table.specs.Charges.{charged_in}
 use Rattle.session_table.specs.Tables.{table_of}
@@ -46,7 +46,7 @@ invariant_of-self c =
       counted = let one = c.shut.ensures.count c.args.session stands in
           let all = sum_open c.close_up.new.sessions.items c.shut.new.sessions.items c.close_up.ensures.standing in
           omega (arith, one, all, c.self.invariant.counted);
-      numbered = c.close_up.ensures.numbered c.self.inside.begun (subst (λ ss. Numbered 0 ss c.self.inside.begun) (sym c.shut.ensures.opened) c.self.invariant.numbered);
+      numbered = c.close_up.ensures.numbered c.self.inside.begun (subst (λ ss. NumberedFrom 0 ss c.self.inside.begun) (sym c.shut.ensures.opened) c.self.invariant.numbered);
     }
 
 pub returns-clause-answer : goal.returns-clause-answer

@@ -4,7 +4,7 @@ use Rattle.gtrbac_model.specs.Conflict.{Status}
 use Rattle.session_table.specs.Dropping.{is_dropped}
 use Rattle.session_table.specs.Kept.{IsTable}
 use Rattle.session_table.specs.Permits.{rows_table}
-use Rattle.session_table.specs.Plans.{IsPlan}
+use Rattle.session_table.specs.Plans.{IsDropPlan}
 use Rattle.session_table.specs.Tables.{table_of, dropped_at}
 use Rattle.session_table.proofs.Keeping.{few_of}
 use Rattle.session_table.proofs.Permitting.{if_ok}
@@ -20,7 +20,7 @@ pub returns-clause-plan : goal.returns-clause-plan
 returns-clause-plan c =
     let s : Status = has c.args.status.now.set in
     if_ok c.new.result c.new.ensures (λ d e.
-    subst (IsPlan c.args.hierarchy.now c.args.caps.now.items s c.args.now c.args.to (table_of c.args.self.now)) (sym e) (record {
+    subst (IsDropPlan c.args.hierarchy.now c.args.caps.now.items s c.args.now c.args.to (table_of c.args.self.now)) (sym e) (record {
       from = refl;
       upto = refl;
       gone = c.in_ok-gone.ensures

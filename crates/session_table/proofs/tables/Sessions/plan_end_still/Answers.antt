@@ -2,7 +2,7 @@ use Rattle.std.proofs.Common.{◌≡◌, filter, refl, sym, ap, subst, ◌∙◌
 use Rattle.session_table.specs.NextDrops.{capped_in}
 use Rattle.session_table.specs.Kept.{IsTable}
 use Rattle.session_table.specs.Permits.{rows_table}
-use Rattle.session_table.specs.Plans.{IsPlan}
+use Rattle.session_table.specs.Plans.{IsDropPlan}
 use Rattle.session_table.specs.Tables.{TableView, table_of, is_capped}
 use Rattle.session_table.proofs.Keeping.{few_of}
 use Rattle.session_table.proofs.Permitting.{if_ok}
@@ -29,7 +29,7 @@ returns-clause-gone c = if_ok c.new.result c.new.ensures (λ d e. ap (λ d. d.go
 
 pub returns-clause-plan : goal.returns-clause-plan
 returns-clause-plan c = if_ok c.new.result c.new.ensures (λ d e edges s stand.
-    subst (IsPlan edges c.args.caps.now.items s c.args.now c.args.to (table_of c.args.self.now)) (sym e) (record {
+    subst (IsDropPlan edges c.args.caps.now.items s c.args.now c.args.to (table_of c.args.self.now)) (sym e) (record {
       from = refl;
       upto = refl;
       gone = gone_is (goal.at.returns-clause-plan c).In_ok-gone ∙ still_drops edges c.args.caps.now.items s c.args.now c.args.to c.args.self.now stand;

@@ -7,4 +7,4 @@ use Rattle.snapshot_readers.proofs.ledgers.Ledger.new.Goals as goal
 pub returns-clause-served : goal.returns-clause-served
 returns-clause-served c =
     subst (λ (b : BookView). CanBeServed b) (sym c.in_ok-book.ensures.ok)
-    (book_is_served c.args.book c.policy-policy.ensures.kept)
+    (book_is_served c.args.book c.keeps.ensures.kept)

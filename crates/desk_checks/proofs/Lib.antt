@@ -1,0 +1,2 @@
+pub mod PostFacts
+pub mod Pushes

@@ -1,0 +1,4 @@
+pub mod PostLists
+pub mod Posts
+pub mod Requests
+pub mod Tallies

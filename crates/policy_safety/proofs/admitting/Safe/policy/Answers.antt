@@ -1,8 +1,0 @@
-use Rattle.std.proofs.Common.{subst}
-use Rattle.gtrbac_model.specs.Safety.{IsSafe}
-use Rattle.policy_safety.proofs.Answering.{safe}
-use Rattle.policy_safety.proofs.admitting.Safe.policy.Goals as goal
-
-pub returns-clause-safe : goal.returns-clause-safe
-returns-clause-safe c =
-    subst (λ p. IsSafe p.policy.triggers) c.self.view_is (safe c.self.inside.policy.policy.triggers c.self.inside.graph c.self.inside.strata c.self.invariant)

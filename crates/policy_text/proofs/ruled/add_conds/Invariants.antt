@@ -1,6 +1,0 @@
-use Rattle.std.proofs.Common.{◌≡◌, ◌++◌, take, map}
-use Rattle.policy_text.specs.Sections.{cond_item}
-use Rattle.policy_text.proofs.ruled.add_conds.Given as goal
-
-abbrev pub invariant-loop-cond : goal.invariant-loop-cond
-invariant-loop-cond l = l.items.items ≡ l.fn.items.items ++ map (cond_item l.p.names) (take l.cond-index l.conds)

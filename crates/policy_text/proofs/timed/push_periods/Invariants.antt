@@ -1,7 +1,0 @@
-use Rattle.std.proofs.Common.{◌≡◌, ◌++◌, take}
-use Rattle.policy_words.specs.Canonical.{period_line}
-use Rattle.policy_text.specs.Sections.{lines_by, numbered}
-use Rattle.policy_text.proofs.timed.push_periods.Given as goal
-
-abbrev pub invariant-loop-n : goal.invariant-loop-n
-invariant-loop-n l = l.text.items ≡ l.fn.text.items ++ lines_by (period_line l.p.names) (take l.n (numbered l.p.policy.periods))
