@@ -1,5 +1,6 @@
 -- What the searches for begins find.
 use Rattle.std.specs.Prelude.{◌≡◌, ℕ, ◌+◌, ◌≤◌, ◌<◌, true, false}
+use Rattle.gt_base.specs.declared.limits.TheConstants.{MAX_LENGTH}
 use Rattle.gtrbac_model.specs.Calendar.{first_minute}
 use Rattle.gtrbac_model.specs.Period.{Expr, begins, begun_within}
 
@@ -28,5 +29,5 @@ pub record IsLastBegin (e : Expr) (from upto m : ℕ) : Type 0 where
 -- each unit from k to before j lies within the length of a begin
 pub record IsCovered (e : Expr) (k j : ℕ) : Type 0 where
   pub later : k < j
-  pub near : j ≤ k + 1000
+  pub near : j ≤ k + MAX_LENGTH
   pub within : (h : ℕ) → k ≤ h → h < j → begun_within e e.count h ≡ true

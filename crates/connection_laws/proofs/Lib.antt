@@ -10,3 +10,4 @@ pub mod Asking
 pub mod Deciding
 pub mod Acting
 pub mod NoMinutes
+pub mod Lending

@@ -14,10 +14,11 @@ AddUp (Some had) (Some left) served = length served + length left ≡ length had
 AddUp (Some had) None served = ⊤
 AddUp None left served = ⊤
 
--- how many reads and how many writes of a link failed
-pub record HaveFailed (a b : Traffic) (reads writes : ℕ → ℕ) : Type 0 where
+-- how many reads and how many writes of a link failed, and how many reads told the end
+pub record HaveFailed (a b : Traffic) (reads writes ends : ℕ → ℕ) : Type 0 where
   pub reads_are : b.read_faults ≡ reads a.read_faults
   pub writes_are : b.write_faults ≡ writes a.write_faults
+  pub ends_are : b.ends ≡ ends a.ends
 
 abbrev pub none_more : ℕ → ℕ
 none_more n = n

@@ -7,3 +7,4 @@ pub mod Front
 pub mod Services
 pub mod Turns
 pub mod Acting
+pub mod Rooms

@@ -9,6 +9,7 @@ ghost use Rattle.connection_laws.specs.Desks.{IsNamedActor, MayBeAsked, RepliesC
 ghost use Rattle.connection_laws.specs.Services.{service_at};
 ghost use Rattle.connection_laws.specs.Turns.{IsIdle, IsReached};
 ghost use Rattle.connection_laws.specs.Acting.{IsTold, Decides, Acts, moment, counted_talk, CanCount, HasRoom, told_bytes};
+ghost use Rattle.connection_laws.specs.Rooms.{text_in, LendsRoom, TakesBack};
 
 use crate::asks::ask_at;
 use crate::server::Server;
@@ -17,6 +18,7 @@ use gt_base::{Actor, Instant, List, Machine, Request};
 use gt_io::{Clock, Gate};
 use locked_history::DeskFault;
 use request_text::{LONGEST_REPLY, Line, LineFault, put_reply, read_line, reply_fits};
+use std::mem::replace;
 use std::sync::Wait;
 use turn_lock::Pass;
 
@@ -59,7 +61,19 @@ pub fn count(talk: &mut Talk, told: &LineAnswer)
     }
 }
 
-/// Takes room for the longest reply, brings the history to the reading, and asks.
+/// Takes the buffer of a connection back from a reply, which was written, and empties it. Where the
+/// line was told no reply, the buffer has stayed, and stays as it is.
+pub fn take_back(room: &mut List<u8>, told: LineAnswer)
+    ensures { TakesBack room.old room.new (text_in told) }
+{
+    if let LineAnswer::Reply(mut text) = told {
+        text.clear();
+        *room = text;
+    }
+}
+
+/// Makes room for the longest reply, where the buffer has less, brings the history to the reading,
+/// and asks. A reply goes out in the buffer, and one without room is left in its place.
 fn decide<M: Machine, R: Wait, G>(
     server: &Server<M, R, G>,
     pass: &mut Pass<M>,
@@ -67,6 +81,7 @@ fn decide<M: Machine, R: Wait, G>(
     actor: Actor,
     request: Request,
     reached: &mut Option<Instant>,
+    room: &mut List<u8>,
 ) -> LineAnswer
     requires idle { IsIdle (site_of server.now.desk.now) pass.old }
     requires named { M.named server.now.desk.now.root actor request }
@@ -78,16 +93,17 @@ fn decide<M: Machine, R: Wait, G>(
     ensures decides { Decides
         (service_at M.list M.legal M.now_of server.now.desk.now server.now.policy.now)
         (by pass.old.number server.now.conn) reading actor request pass.old pass.new result }
+    ensures lends { LendsRoom room.old room.new (text_in result) }
 {
-    let mut text = List::new(server.alloc);
-    if text.reserve(LONGEST_REPLY).is_err() {
+    room.clear();
+    if room.reserve(LONGEST_REPLY).is_err() {
         return LineAnswer::NoMemory;
     }
     match ask_at(server, pass, reading, actor, request, reached) {
         Ok(reply) => {
             reply_fits(server.policy, &reply);
-            put_reply(server.policy, &reply, &mut text);
-            LineAnswer::Reply(text)
+            put_reply(server.policy, &reply, room);
+            LineAnswer::Reply(replace(room, List::new(server.alloc)))
         }
         Err(DeskFault::Memory) => LineAnswer::NoMemory,
         Err(DeskFault::StepsFull) => LineAnswer::NoSteps,
@@ -97,11 +113,17 @@ fn decide<M: Machine, R: Wait, G>(
 
 /// Acts on a line, but for its reply: a line that asks passes the gate, reads the clock, brings the
 /// history to that minute and asks.
+///
+/// `room` is the buffer of the connection, whatever it holds. A line that asks needs room there for
+/// the longest reply, which the first one takes and later ones find. The reply goes out in it, and
+/// `take_back` brings it home. Every other answer leaves it where it is, with all of its room. For
+/// want of room the line is told `NoMemory` and is not accepted, and the next one tries again.
 pub fn act<M: Machine, R: Wait, C: Clock, G: Gate>(
     server: &Server<M, R, G>,
     pass: &mut Pass<M>,
     clock: &mut C,
     talk: &mut Talk,
+    room: &mut List<u8>,
     line: &[u8],
 ) -> LineAnswer
     requires idle { IsIdle (site_of server.now.desk.now) pass.old }
@@ -117,6 +139,7 @@ pub fn act<M: Machine, R: Wait, C: Clock, G: Gate>(
         (service_at M.list M.legal M.now_of server.now.desk.now server.now.policy.now)
         (by pass.old.number server.now.conn) (moment pass.old talk.old (C.readings clock.old))
         (moment pass.new talk.new (C.readings clock.new)) line.now result }
+    ensures lends { LendsRoom room.old room.new (text_in result) }
 {
     match read_line(server.policy, Actor::Nobody, false, line) {
         Ok(Line::Ask(request)) => {
@@ -130,6 +153,7 @@ pub fn act<M: Machine, R: Wait, C: Clock, G: Gate>(
                 talk.actor,
                 request,
                 &mut talk.reached,
+                room,
             )
         }
         Ok(Line::Be(actor)) => {

@@ -9,7 +9,7 @@ mod laws;
 mod server;
 mod talk;
 
-pub use acts::{act, count, reply_of};
+pub use acts::{act, count, reply_of, take_back};
 pub use ends::{LinkEnd, Report};
 pub use laws::connections_are_told;
 pub use server::Server;

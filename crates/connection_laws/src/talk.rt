@@ -20,7 +20,7 @@ pub enum LineAnswer {
     Silence,
     Agreed,
     Bad(LineFault),
-    /// The text of its reply.
+    /// The text of its reply, in the buffer of the connection.
     Reply(List<u8>),
     NoMemory,
     NoSteps,

@@ -123,8 +123,7 @@ impl Book {
         ensures safe { IsSafe self.now.named.policy.triggers }
     {
         self.state.ground.policy().keeps();
-        // the call tells that an instant is not after the last
-        let _birth = self.state.birth.minute();
+        self.state.birth.keeps();
     }
 
     /// The policy.

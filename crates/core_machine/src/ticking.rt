@@ -139,8 +139,7 @@ fn first_of(next: Option<Instant>, upto: Instant) -> Instant
     ensures drops { (test : ℕ → Bool) (now : ℕ) → IsFirstOrNone test now next → now < upto
         → IsNextStop test now upto result }
 {
-    // the call tells that an instant is not after the last
-    let _bound = upto.minute();
+    upto.keeps();
     match next {
         Some(t) if t < upto => t,
         _ => upto,
@@ -161,7 +160,7 @@ fn close(s: &mut State, who: Who, upto: Instant, plan: Plan, drops: Drops)
     ensures ok { GoesOn (view_of s.old) (view_of s.new) who upto plan.at }
 {
     s.line.keeps();
-    let _bound = upto.minute();
+    upto.keeps();
     let to = plan.at();
     s.line.commit(plan);
     add_signals(&mut s.line, drops.signals().as_slice());

@@ -253,6 +253,20 @@ status 0
 }
 
 #[test]
+fn a_door_that_gave_none_is_not_asked_again(rt: HostRuntime) -> Result<(), Fail> {
+    let text = told(&rt, rt.alloc(), &alone(Man { bad_call: 2, ..MAN }))?;
+    assert_eq!(rt;
+        text.as_slice(),
+        b"0 links, done
+born 2026-01-05T10:00
+status 0
+"
+            .as_slice()
+    );
+    Ok(())
+}
+
+#[test]
 fn a_door_that_fails_ends_its_worker(rt: HostRuntime) -> Result<(), Fail> {
     let wires = [wire(b"frob\n"), wire(b"frob\n")];
     let broken = Man {

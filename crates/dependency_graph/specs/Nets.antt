@@ -4,7 +4,7 @@ use Rattle.std.specs.List.{slice_index_or}
 use Rattle.gt_base.specs.declared.events.Event.{Event}
 use Rattle.gt_base.specs.declared.events.Fluent.TheVariants.{Enabled}
 use Rattle.gt_base.specs.Held.{TriggerView}
-use Rattle.gt_base.specs.declared.limits.TheConstants.{MAX_NUMBER}
+use Rattle.gt_base.specs.declared.limits.TheConstants.{MAX_ITEMS, MAX_NUMBER, MAX_TRIGGERS}
 use Rattle.least_walk.specs.declared.graphs.GraphEdge.{GraphEdge}
 use Rattle.least_walk.specs.Net.{Net, IsNet}
 use Rattle.gtrbac_model.specs.Graph.{item_at}
@@ -54,9 +54,9 @@ pub record IsGraphOf (triggers : List TriggerView) (g : EventNet) : Type 0 where
   pub nodes : (e : Event) → lists same_event g.events e ≡ is_node triggers e
   pub edges : read_off g.events g.net.edges g.places ≡ dependencies triggers
 
--- the limits of a policy: at most 4,000 triggers, each of at most 16 body events and settled
--- conditions
+-- as many triggers as a policy may have, at most, and no more body events and settled conditions
+-- in each than a body may have items
 pub record IsWithinLimits (triggers : List TriggerView) : Type 0 where
-  pub few : length triggers ≤ 4_000
+  pub few : length triggers ≤ MAX_TRIGGERS
   pub short : (n : ℕ) (r : TriggerView) → item_at triggers n ≡ Some r
-      → length r.events + length r.settled ≤ 16
+      → length r.events + length r.settled ≤ MAX_ITEMS

@@ -53,7 +53,7 @@ fn edges_among(
     for (t, trigger) in triggers.iter().enumerate() {
         add_trigger(trigger, t as u32, events, &mut graph, &mut places)?;
     }
-    let _edges = graph.edges();
+    graph.keeps();
     Ok((graph, places))
 }
 

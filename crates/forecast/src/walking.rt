@@ -26,8 +26,7 @@ pub(crate) fn go_on(
     ensures { OnOk result (StepsTo book.now line.old.line line.new.line table.new upto) }
 {
     book.keeps();
-    // the call tells that an instant is not after the last
-    let _bound = upto.minute();
+    upto.keeps();
     let now = line.now();
     let ground = book.ground();
     let policy = ground.policy();
@@ -60,7 +59,7 @@ fn earlier(next: Option<Instant>, bound: Instant) -> Instant
     ensures dropped { (test : ℕ → Bool) (now : ℕ) → IsFirstOrNone test now next → now < bound
         → IsNextStop test now bound result }
 {
-    let _bound = bound.minute();
+    bound.keeps();
     match next {
         Some(t) if t < bound => t,
         _ => bound,

@@ -10,6 +10,7 @@ use Rattle.gt_text.specs.Lines.{lines_of}
 use Rattle.policy_words.specs.PolicyRead.{policy_read}
 use Rattle.policy_words.specs.Valid.{IsWellFormed}
 use Rattle.policy_gen.specs.Texts.{time_line, policy_text, script_text}
+use Rattle.policy_gen.specs.declared.made.TheConstants.{MAX_SIZE}
 use Rattle.policy_gen.specs.declared.scripts.TheConstants.{FIRST_MINUTE}
 use Rattle.request_text.specs.declared.lines.Line.{Line}
 use Rattle.request_text.specs.declared.lines.Line.TheVariants.{At}
@@ -32,7 +33,7 @@ PolicyIsSafe = (size : ℕ) → IsSafe (made_policy size).policy.triggers
 -- over this policy each line of the script says its move, and so none has a fault
 abbrev pub ScriptIsSaid : Type 0
 ScriptIsSaid =
-    (seed size : ℕ) → 1 ≤ size → size ≤ 100_000
+    (seed size : ℕ) → 1 ≤ size → size ≤ MAX_SIZE
     → map (read_line (made_policy size) Operator true) (lines_of (script_text seed size))
     ≡ map (λ l. Ok l) (script_said seed size)
 
@@ -45,13 +46,13 @@ pub record IsBorn (seed size : ℕ) : Type 0 where
   pub no_fault : All (λ line. IsOk (read_line (made_policy size) Operator true line)) behind
 
 abbrev pub ScriptIsBorn : Type 0
-ScriptIsBorn = (seed size : ℕ) → 1 ≤ size → size ≤ 100_000 → IsBorn seed size
+ScriptIsBorn = (seed size : ℕ) → 1 ≤ size → size ≤ MAX_SIZE → IsBorn seed size
 
 -- a legal history that the lines behind the birth, or the first of them, make does not come to the
 -- limit
 abbrev pub HistoryIsShort : Type 0
 HistoryIsShort =
-    (seed size : ℕ) → 1 ≤ size → size ≤ 100_000 → (front rest : List Line)
+    (seed size : ℕ) → 1 ≤ size → size ≤ MAX_SIZE → (front rest : List Line)
     → front ++ rest ≡ script_moves seed size
     → (h : List Entry) (m : Model) → FollowsLines front h
     → Legal (made_policy size).policy FIRST_MINUTE h m → length h < MAX_STEPS

@@ -1,7 +1,7 @@
 //! Civil minutes and priorities.
 ghost use Rattle.std.specs.Prelude.{◌≡◌, ◌↔◌, ◌≤◌, ◌<◌, IsNone, IfSome};
 
-use crate::limits::LAST_MINUTE;
+use crate::limits::{LAST_MINUTE, MAX_PRIO};
 use std::marker::Model;
 
 /// A civil minute of the years 2000 to 2099, seen as its number.
@@ -44,6 +44,13 @@ impl Instant {
     {
         self.minute
     }
+
+    /// What every instant keeps: it is not after the last.
+    pub fn keeps(self)
+        ensures { self ≤ LAST_MINUTE }
+    {
+        let _ = self.minute;
+    }
 }
 
 /// A priority, 0 to 100, seen as its number.
@@ -54,12 +61,13 @@ pub struct Prio {
 
 impl Model for Prio {
     ghost use Rattle.std.specs.Prelude.{ℕ, ◌≤◌};
+    ghost use Rattle.gt_base.specs.declared.limits.TheConstants.{MAX_PRIO};
 
     ghost Value = { ℕ };
 
     ghost view = { λ p. p.level };
 
-    ghost invariant = { λ p. p.level ≤ 100 };
+    ghost invariant = { λ p. p.level ≤ MAX_PRIO };
 
     ghost inverse = { λ p. record { level = p } };
 }
@@ -67,10 +75,10 @@ impl Model for Prio {
 impl Prio {
     /// The priority of this number; none exactly above 100.
     pub fn new(p: u8) -> Option<Prio>
-        ensures none { IsNone result ↔ (100 < p) }
+        ensures none { IsNone result ↔ (MAX_PRIO < p) }
         ensures some { IfSome result (λ q. q ≡ p) }
     {
-        if p <= 100 {
+        if p <= MAX_PRIO {
             Some(Prio { level: p })
         } else {
             None
@@ -80,7 +88,7 @@ impl Prio {
     /// Its number, 0 to 100.
     pub fn get(self) -> u8
         ensures value { result ≡ self }
-        ensures bound { result ≤ 100 }
+        ensures bound { result ≤ MAX_PRIO }
     {
         self.level
     }

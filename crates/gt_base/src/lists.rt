@@ -1,5 +1,5 @@
 //! Lists whose room is taken ahead.
-ghost use Rattle.std.specs.Prelude.{◌≡◌, ◌≤◌, ◌+◌, ◌<◌, [], ◌∷◌, ◌++◌, length, slice_get, Some, None, OnOk, IfOk, IfSome, IfNone};
+ghost use Rattle.std.specs.Prelude.{◌≡◌, ◌≤◌, ◌+◌, ◌<◌, [], ◌∷◌, ◌++◌, length, slice_get, Some, None, OnOk, OnErr, IfOk, IfSome, IfNone};
 
 use std::alloc::{AllocError, Global};
 use std::marker::Model;
@@ -100,6 +100,17 @@ impl<T: Copy> List<T> {
             Ok(()) => {}
             Err(_) => unreachable!(),
         }
+    }
+
+    /// Takes room for copies of the items, and adds them at the end. After a refusal the list is as
+    /// it was.
+    pub fn push_all(&mut self, items: &[T]) -> Result<(), Memory>
+        ensures ok { OnOk result (self.new.items ≡ self.old.items ++ items.now) }
+        ensures err { OnErr result (self.new.items ≡ self.old.items) }
+    {
+        self.reserve(items.len())?;
+        self.extend_from_slice(items);
+        Ok(())
     }
 
     /// A list with the same items.

@@ -3,19 +3,21 @@ ghost use Rattle.std.specs.Prelude.{◌≡◌, ◌↔◌, true, IsSome, IfSome};
 ghost use Rattle.std.specs.List.{list_all};
 ghost use Rattle.gt_base.specs.Names.{is_letter, is_name_byte, is_name};
 
+use crate::limits::LONGEST_NAME;
 use std::marker::Model;
 
 /// A name: 1 to 32 bytes, of which the first is a letter and the others are letters, digits, `_`,
 /// `-` or `.`. It is seen as the list of its bytes.
 #[derive(Clone, Copy, Debug, PartialEq, Eq, Hash)]
 pub struct Name {
-    bytes: [u8; 32],
+    bytes: [u8; LONGEST_NAME],
     len: u8,
 }
 
 impl Model for Name {
     ghost use Rattle.std.specs.Prelude.{ℕ, ◌-◌, List, ◌++◌, length, take, replicate};
     ghost use Rattle.gt_base.specs.Names.{IsStored};
+    ghost use Rattle.gt_base.specs.declared.limits.TheConstants.{LONGEST_NAME};
 
     ghost Value = { List ℕ };
 
@@ -25,7 +27,10 @@ impl Model for Name {
 
     ghost invariant = { λ s. IsStored s.bytes s.len };
 
-    ghost inverse = { λ n. record { bytes = n ++ replicate (32 - length n) 0; len = length n } };
+    ghost inverse = { λ n. record {
+      bytes = n ++ replicate (LONGEST_NAME - length n) 0;
+      len = length n;
+    } };
 
     ghost inverse_ok = { stored_again };
 }
@@ -54,7 +59,9 @@ fn is_name(text: &[u8]) -> bool
 {
     match text.split_first() {
         None => false,
-        Some((first, others)) => is_letter(*first) && are_name_bytes(others) && others.len() < 32,
+        Some((first, others)) => is_letter(*first)
+            && are_name_bytes(others)
+            && others.len() < LONGEST_NAME,
     }
 }
 
@@ -68,7 +75,7 @@ impl Name {
             return None;
         }
         let len = text.len();
-        let mut bytes = [0; 32];
+        let mut bytes = [0; LONGEST_NAME];
         bytes[..len].copy_from_slice(text);
         Some(Name {
             bytes,

@@ -11,14 +11,14 @@ use std::io::{ErrorKind, Read, Write};
 use std::net::Shutdown;
 
 /// How many bytes of replies are held back at most, but for the last one.
-const MOST_HELD: usize = 16_384;
+const MAX_HELD: usize = 16_384;
 
 /// How many bytes are read from a link before the others have their turn.
-const MOST_AT_ONCE: usize = 4096;
+const MAX_AT_ONCE: usize = 4096;
 
 /// How many looks for the stop file a client may be silent for, four in a second: the link of one
 /// that is silent for ten minutes is at its end.
-const MOST_LOOKS: u64 = 2400;
+const MAX_LOOKS: u64 = 2400;
 
 /// What is told of a link that has something to do.
 #[derive(Clone, Copy)]
@@ -106,7 +106,7 @@ impl Conn {
 
     /// Whether its client was silent for too long.
     pub(crate) fn is_late(&self, looks: u64) -> bool {
-        looks.saturating_sub(self.heard) > MOST_LOOKS
+        looks.saturating_sub(self.heard) > MAX_LOOKS
     }
 
     /// Begins a turn.
@@ -147,7 +147,7 @@ impl Conn {
         if !clear || self.dry {
             return Ok(Got::NotYet);
         }
-        if self.read >= MOST_AT_ONCE {
+        if self.read >= MAX_AT_ONCE {
             return self.give_way(registry, link);
         }
         match self.stream.read(buf) {
@@ -178,7 +178,7 @@ impl Conn {
         requires { 0 < length piece.now }
         ensures { IfOk result (FitsTook (length piece.now)) }
     {
-        if self.held.len() >= MOST_HELD && !self.hand_over()? {
+        if self.held.len() >= MAX_HELD && !self.hand_over()? {
             return self.not_yet();
         }
         match self.held.extend_from_slice(piece) {

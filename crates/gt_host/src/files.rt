@@ -1,7 +1,7 @@
 //! A shelf whose texts are files of the folder that the program runs in.
 ghost use Rattle.std.specs.Prelude.{◌≡◌, None};
 
-use gt_io::{Failed, Shelf};
+use gt_io::{Failed, Shelf, count_end};
 use std::fs::File;
 use std::io::Read;
 use std::rt::Files;
@@ -13,6 +13,8 @@ pub struct HostShelf<'a, R> {
     rt: &'a R,
     file: Option<File>,
     faults: u64,
+    asked: u64,
+    ends: u64,
 }
 
 impl<'a, R: Files<File = File>> HostShelf<'a, R> {
@@ -27,6 +29,8 @@ impl<'a, R: Files<File = File>> HostShelf<'a, R> {
             rt,
             file: None,
             faults: 0,
+            asked: 0,
+            ends: 0,
         }
     }
 }
@@ -37,9 +41,12 @@ impl<'a, R: Files<File = File>> Shelf for HostShelf<'a, R> {
       left = None;
       faults = s.faults;
       hard_faults = s.faults;
+      asked = s.asked;
+      ends = s.ends;
     } };
 
     fn find(&mut self, name: &str) -> Result<(), Failed> {
+        self.asked = self.asked.saturating_add(1);
         match File::open(self.rt, name) {
             Ok(file) => {
                 self.file = Some(file);
@@ -54,10 +61,14 @@ impl<'a, R: Files<File = File>> Shelf for HostShelf<'a, R> {
 
     fn read(&mut self, buf: &mut [u8]) -> Result<usize, Failed> {
         let Some(file) = &mut self.file else {
+            self.ends = count_end(self.ends, 0);
             return Ok(0);
         };
         match file.read(buf) {
-            Ok(count) => Ok(count),
+            Ok(count) => {
+                self.ends = count_end(self.ends, count);
+                Ok(count)
+            }
             Err(_) => {
                 self.faults = self.faults.saturating_add(1);
                 Err(Failed)

@@ -4,7 +4,8 @@ ghost use Rattle.gt_host.specs.Lookouts.{FitsFound};
 
 use crate::conn::{Conn, Sign, both_ways};
 use crate::port::HostPort;
-use crate::stop::{MOST_LINKS, WAIT_MILLIS, Watch, is_lasting, is_stopped};
+use crate::stop::{WAIT_MILLIS, Watch, is_lasting, is_stopped};
+use gt_base::MAX_LINKS;
 use mio::net::{TcpListener, TcpStream};
 use mio::{Events, Interest, Poll, Registry, Token};
 use std::alloc::Global;
@@ -15,13 +16,13 @@ use std::rt::{self, Files};
 use std::time::Duration;
 
 /// How many events one wait tells at most.
-const MOST_EVENTS: usize = 1024;
+const MAX_EVENTS: usize = 1024;
 
 /// How many connections are taken between two waits at most.
-const MOST_ACCEPTED: u32 = 64;
+const MAX_ACCEPTED: u32 = 64;
 
 /// How many links are looked at for silence at each look for the stop file.
-const MOST_SWEPT: usize = 1024;
+const MAX_SWEPT: usize = 1024;
 
 /// How many milliseconds pass before an accept that failed is tried again, where nothing else is to
 /// be done.
@@ -125,7 +126,7 @@ impl<'a, R: Files + rt::Clock + Net> Lookout<'a, R> {
         let poll = Poll::new(self.watch.rt)?;
         poll.registry()
             .register(&mut listener, DOOR, Interest::READABLE)?;
-        let Ok(events) = Events::with_capacity(self.alloc, MOST_EVENTS) else {
+        let Ok(events) = Events::with_capacity(self.alloc, MAX_EVENTS) else {
             return Err(io::Error::from(ErrorKind::OutOfMemory));
         };
         self.poll = Some(poll);
@@ -144,10 +145,10 @@ impl<'a, R: Files + rt::Clock + Net> Lookout<'a, R> {
 
     /// The next of the links to be looked at whose client was silent for too long.
     fn next_late(&mut self, ports: &[HostPort]) -> Option<u32>
-        requires { length ports.now ≤ MOST_LINKS }
+        requires { length ports.now ≤ MAX_LINKS }
         ensures { IfSome result (λ k. (1 ≤ k) × (k ≤ length ports.now)) }
     {
-        for _ in 0..MOST_SWEPT {
+        for _ in 0..MAX_SWEPT {
             if self.unswept == 0 || ports.is_empty() {
                 return None;
             }
@@ -178,7 +179,7 @@ impl<'a, R: Files + rt::Clock + Net> Lookout<'a, R> {
 
     /// What an event tells, if there is anything to do.
     fn told_by(&mut self, token: Token, ended: bool, ports: &[HostPort]) -> Option<Found>
-        requires { length ports.now ≤ MOST_LINKS }
+        requires { length ports.now ≤ MAX_LINKS }
         ensures { IfSome result (FitsFound (length ports.now)) }
     {
         let link = token.0;
@@ -214,7 +215,7 @@ impl<'a, R: Files + rt::Clock + Net> Lookout<'a, R> {
     /// where one had to be dropped. An accept that failed for a reason that passes is tried again
     /// behind the next wait.
     fn next_conn(&mut self, number: usize) -> io::Result<Option<Box<Conn>>> {
-        if self.queue != Queue::Waiting || self.accepted >= MOST_ACCEPTED {
+        if self.queue != Queue::Waiting || self.accepted >= MAX_ACCEPTED {
             return Ok(None);
         }
         let Some(listener) = &self.listener else {
@@ -242,7 +243,7 @@ impl<'a, R: Files + rt::Clock + Net> Lookout<'a, R> {
     fn next_fresh(&mut self, opened: usize) -> io::Result<Option<Found>>
         ensures { IfOk result (λ found. IfSome found (FitsFound opened)) }
     {
-        if opened >= MOST_LINKS {
+        if opened >= MAX_LINKS {
             return Ok(None);
         }
         let Some(conn) = self.next_conn(opened + 1)? else {
@@ -251,7 +252,7 @@ impl<'a, R: Files + rt::Clock + Net> Lookout<'a, R> {
         if is_stopped(self.watch.rt)? {
             return Ok(Some(Found::Stop));
         }
-        if opened + 1 == MOST_LINKS {
+        if opened + 1 == MAX_LINKS {
             self.listener = None;
         }
         Ok(Some(Found::Fresh(conn)))
@@ -279,7 +280,7 @@ impl<'a, R: Files + rt::Clock + Net> Lookout<'a, R> {
     /// One step: a look for the stop file where it is time, a link that was silent for too long, an
     /// event of the last wait, a connection, or a wait.
     fn step(&mut self, ports: &[HostPort]) -> io::Result<Option<Found>>
-        requires { length ports.now ≤ MOST_LINKS }
+        requires { length ports.now ≤ MAX_LINKS }
         ensures { IfOk result (λ found. IfSome found (FitsFound (length ports.now))) }
     {
         if self.watch.is_due() {
@@ -287,7 +288,7 @@ impl<'a, R: Files + rt::Clock + Net> Lookout<'a, R> {
                 return Ok(Some(Found::Stop));
             }
             self.looks = self.looks.saturating_add(1);
-            self.unswept = ports.len().min(MOST_SWEPT);
+            self.unswept = ports.len().min(MAX_SWEPT);
         }
         if let Some(link) = self.next_late(ports) {
             let sign = Sign {
@@ -309,7 +310,7 @@ impl<'a, R: Files + rt::Clock + Net> Lookout<'a, R> {
 
     /// What is to be done next.
     pub(crate) fn advance(&mut self, ports: &[HostPort]) -> io::Result<Found>
-        requires { length ports.now ≤ MOST_LINKS }
+        requires { length ports.now ≤ MAX_LINKS }
         ensures { IfOk result (FitsFound (length ports.now)) }
     {
         self.listen()?;

@@ -1,12 +1,12 @@
 //! Links over TCP that are served side by side on one thread, on this machine alone.
 ghost use Rattle.std.specs.Prelude.{◌≡◌, ◌<◌, ◌≤◌, length, vec_len, vec_capacity, OnOk, IfOk};
 ghost use Rattle.std.specs.Prelude.{[], None, Some, Ok, false};
+ghost use Rattle.gt_base.specs.declared.limits.TheConstants.{MAX_LINKS};
 ghost use Rattle.gt_io.specs.Ports.{PortReads, PortWrites, FitsGot, FitsTook, readied};
 ghost use Rattle.gt_io.specs.Ports.{open_among, Happens, IsUncalled};
 ghost use Rattle.gt_io.specs.Memory.{one_more};
 ghost use Rattle.gt_host.specs.HostPorts.{host_port, host_port_in, host_harbour};
 ghost use Rattle.gt_host.specs.Lookouts.{FitsFound};
-ghost use Rattle.gt_host.specs.declared.stop.TheConstants.{MOST_LINKS};
 
 use crate::conn::{Conn, Sign};
 use crate::lookout::{Found, Lookout};
@@ -140,7 +140,7 @@ pub struct HostPorts<'a, R> {
     told: Option<Result<PortEvent, Failed>>,
     nexts: u64,
     faults: u64,
-    ghost few: { length ports.items ≤ MOST_LINKS },
+    ghost few: { length ports.items ≤ MAX_LINKS },
     ghost counted: { busy ≡ open_among (host_port_in ports.items) (length ports.items) },
 }
 
@@ -185,7 +185,7 @@ impl<'a, R: Files + rt::Clock + Net> HostPorts<'a, R> {
     /// Opens the link of a connection.
     fn begin(&mut self, conn: Box<Conn>) -> PortEvent
         requires room { vec_len self.old.ports < vec_capacity self.old.ports }
-        requires few { length self.old.ports.items < MOST_LINKS }
+        requires few { length self.old.ports.items < MAX_LINKS }
         ensures kept { (self.new.told ≡ self.old.told) × (self.new.nexts ≡ self.old.nexts) }
         ensures happens { Happens (⟦<HostPorts<'a, R> as Ports>⟧.harbour self.old)
             (⟦<HostPorts<'a, R> as Ports>⟧.harbour self.new) (Ok result) }

@@ -11,9 +11,6 @@ const STOP_FILE: &str = "gtrbacd.stop";
 /// file at a client that is never silent.
 pub(crate) const WAIT_MILLIS: u64 = 250;
 
-/// How many connections a door gives at most, and how many links ports open at most.
-pub(crate) const MOST_LINKS: usize = 100_000;
-
 /// How long one wait lasts at most.
 pub(crate) fn one_wait() -> Duration {
     Duration::from_millis(WAIT_MILLIS)

@@ -1,7 +1,7 @@
 //! Readers and writers of std.
 ghost use Rattle.std.specs.Prelude.{◌≡◌};
 
-use gt_io::{Failed, Sink, Source};
+use gt_io::{Failed, Sink, Source, count_end};
 use std::io::{Read, Write};
 
 /// A reader of std as a source. It tells what the reader tells.
@@ -9,6 +9,7 @@ use std::io::{Read, Write};
 pub struct Reading<R> {
     inner: R,
     faults: u64,
+    ends: u64,
 }
 
 impl<R: Read> Reading<R> {
@@ -17,16 +18,27 @@ impl<R: Read> Reading<R> {
         ensures left { (⟦<Reading<R> as Source>⟧.intake result).left ≡ R.remaining inner }
         ensures faults { (⟦<Reading<R> as Source>⟧.intake result).faults ≡ 0 }
     {
-        Reading { inner, faults: 0 }
+        Reading {
+            inner,
+            faults: 0,
+            ends: 0,
+        }
     }
 }
 
 impl<R: Read> Source for Reading<R> {
-    ghost intake = { λ s. record { left = R.remaining s.inner; faults = s.faults } };
+    ghost intake = { λ s. record {
+      left = R.remaining s.inner;
+      faults = s.faults;
+      ends = s.ends;
+    } };
 
     fn read(&mut self, buf: &mut [u8]) -> Result<usize, Failed> {
         match self.inner.read(buf) {
-            Ok(count) => Ok(count),
+            Ok(count) => {
+                self.ends = count_end(self.ends, count);
+                Ok(count)
+            }
             Err(_) => {
                 self.faults = self.faults.saturating_add(1);
                 Err(Failed)

@@ -3,8 +3,9 @@ ghost use Rattle.std.specs.Prelude.{◌≡◌, ◌<◌, ◌≤◌, None, Some, t
 ghost use Rattle.std.specs.Io.{ReadsAtMost};
 ghost use Rattle.gt_io.specs.Links.{ReadsNothing, WritesNothing};
 
-use crate::stop::{MOST_LINKS, Watch, is_lasting, is_over, is_stopped, must_stop, one_wait};
-use gt_io::{Door, Failed, Link};
+use crate::stop::{Watch, is_lasting, is_over, is_stopped, must_stop, one_wait};
+use gt_base::MAX_LINKS;
+use gt_io::{Door, Failed, Link, count_end};
 use std::alloc::Global;
 use std::io;
 use std::io::{ErrorKind, Read, Write};
@@ -14,15 +15,15 @@ use std::rt::{self, Files};
 use std::time::Duration;
 
 /// How many bytes of replies are held back at most.
-const MOST_HELD: usize = 4096;
+const MAX_HELD: usize = 4096;
 
 /// How many waits in a row may bring no byte: the link of a client that is silent for ten minutes
 /// is at its end.
-const MOST_SILENT_WAITS: u32 = 2400;
+const MAX_SILENT_WAITS: u32 = 2400;
 
 /// How many waits in a row may take no byte: the link of a client that takes nothing for a minute
 /// fails.
-const MOST_STILL_WAITS: u32 = 240;
+const MAX_STILL_WAITS: u32 = 240;
 
 /// How many milliseconds pass before an accept that failed is tried again.
 const PAUSE_MILLIS: u64 = 20;
@@ -32,7 +33,7 @@ const PAUSE_MILLIS: u64 = 20;
 fn read_some<R: Files>(rt: &R, stream: &mut TcpStream, buf: &mut [u8]) -> io::Result<usize>
     ensures { ReadsAtMost result buf.new }
 {
-    for _ in 0..MOST_SILENT_WAITS {
+    for _ in 0..MAX_SILENT_WAITS {
         match stream.read(buf) {
             Ok(count) => return Ok(count),
             Err(fault) if is_over(&fault) => {
@@ -51,7 +52,7 @@ fn read_some<R: Files>(rt: &R, stream: &mut TcpStream, buf: &mut [u8]) -> io::Re
 fn write_some<R: Files>(rt: &R, stream: &mut TcpStream, piece: &[u8]) -> io::Result<usize>
     ensures { IfOk result (λ n. (0 < n) × (n ≤ length piece.now)) }
 {
-    for _ in 0..MOST_STILL_WAITS {
+    for _ in 0..MAX_STILL_WAITS {
         match stream.write(piece) {
             Ok(0) => return Err(io::Error::from(ErrorKind::WriteZero)),
             Ok(count) => return Ok(count),
@@ -93,6 +94,7 @@ pub struct HostLink<'a, R> {
     held: Vec<u8>,
     read_faults: u64,
     write_faults: u64,
+    ends: u64,
     /// Whether it was let go.
     pub(crate) finished: bool,
 }
@@ -105,6 +107,7 @@ impl<'a, R> Drop for HostLink<'a, R> {
             held: _,
             read_faults: _,
             write_faults: _,
+            ends: _,
             finished: _,
         } = self;
     }
@@ -128,6 +131,7 @@ impl<'a, R: Files + rt::Clock> HostLink<'a, R> {
             held: Vec::new(alloc),
             read_faults: 0,
             write_faults: 0,
+            ends: 0,
             finished: false,
         }
     }
@@ -135,6 +139,7 @@ impl<'a, R: Files + rt::Clock> HostLink<'a, R> {
     /// Hands what is held to the stream. Where that fails, the stream is let go.
     fn hand_over(&mut self) -> Result<(), Failed>
         ensures read_faults { self.new.read_faults ≡ self.old.read_faults }
+        ensures ends { self.new.ends ≡ self.old.ends }
         ensures write_faults { self.new.write_faults ≡ self.old.write_faults }
         ensures held { self.new.finished ≡ self.old.finished }
     {
@@ -155,6 +160,7 @@ impl<'a, R: Files + rt::Clock> HostLink<'a, R> {
     fn draw(&mut self, buf: &mut [u8]) -> Result<usize, Failed>
         ensures bound { IfOk result (λ n. n ≤ length buf.new) }
         ensures read_faults { self.new.read_faults ≡ self.old.read_faults }
+        ensures ends { self.new.ends ≡ self.old.ends }
         ensures write_faults { self.new.write_faults ≡ self.old.write_faults }
         ensures held { self.new.finished ≡ self.old.finished }
     {
@@ -174,13 +180,14 @@ impl<'a, R: Files + rt::Clock> HostLink<'a, R> {
     /// Holds the piece back, or hands it over with what is held where there is no room for it.
     fn take(&mut self, piece: &[u8]) -> Result<(), Failed>
         ensures read_faults { self.new.read_faults ≡ self.old.read_faults }
+        ensures ends { self.new.ends ≡ self.old.ends }
         ensures write_faults { self.new.write_faults ≡ self.old.write_faults }
         ensures held { self.new.finished ≡ self.old.finished }
     {
         if self.stream.is_none() {
             return Err(Failed);
         }
-        if self.held.len() >= MOST_HELD {
+        if self.held.len() >= MAX_HELD {
             self.hand_over()?;
         }
         match self.held.extend_from_slice(piece) {
@@ -192,6 +199,7 @@ impl<'a, R: Files + rt::Clock> HostLink<'a, R> {
     /// Hands over what is held, and then the piece.
     fn pass_on(&mut self, piece: &[u8]) -> Result<(), Failed>
         ensures read_faults { self.new.read_faults ≡ self.old.read_faults }
+        ensures ends { self.new.ends ≡ self.old.ends }
         ensures write_faults { self.new.write_faults ≡ self.old.write_faults }
         ensures held { self.new.finished ≡ self.old.finished }
     {
@@ -213,12 +221,16 @@ impl<'a, R: Files + rt::Clock> Link for HostLink<'a, R> {
       given = None;
       read_faults = l.read_faults;
       write_faults = l.write_faults;
+      ends = l.ends;
       finished = l.finished;
     } };
 
     fn read(&mut self, buf: &mut [u8]) -> Result<usize, Failed> {
         match self.draw(buf) {
-            Ok(count) => Ok(count),
+            Ok(count) => {
+                self.ends = count_end(self.ends, count);
+                Ok(count)
+            }
             Err(fault) => {
                 self.read_faults = self.read_faults.saturating_add(1);
                 Err(fault)
@@ -365,7 +377,7 @@ impl<'a, R: Files + rt::Clock + Net<Listener = TcpListener, Stream = TcpStream>>
         ensures { self.new.faults ≡ self.old.faults }
     {
         self.given = self.given.saturating_add(1);
-        if self.given >= MOST_LINKS {
+        if self.given >= MAX_LINKS {
             self.listener = None;
         }
     }

@@ -1,10 +1,12 @@
 -- Texts that are read piece by piece.
-use Rattle.std.proofs.Common.{◌≡◌, ℕ, [], ◌++◌, List, Some, None, IfSome, ap, sym, subst, ◌∙◌, append-nil}
+use Rattle.std.proofs.Common.{◌≡◌, ◌≤◌, ◌+◌, ℕ, [], ◌++◌, List, length, take, Some, None, IfSome, ap, sym, subst, ◌∙◌, append-nil, length-append, arith}
+use Rattle.std.proofs.lemmas.List.{length-take-le}
 use Rattle.std.specs.Prelude.{IsSome}
 use Rattle.std.specs.declared.option.Option.{Option}
 use Rattle.std.specs.Io.KnownBytes.{Consumes, IsAtEnd}
 use Rattle.std.proofs.KnownBytes.{Consumes-trans}
 use Rattle.gt_io.specs.Shelf.{Contents}
+use Rattle.gt_io.specs.declared.source.TheConstants.{PIECE}
 
 -- a piece more
 pub more_taken : (told mid after : Option (List ℕ)) (old new piece : List ℕ) → Consumes told mid old → Consumes mid after piece → new ≡ old ++ piece → Consumes told after new
@@ -32,3 +34,13 @@ pub all_found : (contents : Contents) (name : List ℕ) (first mid after : Optio
 all_found None name first mid after bytes piece there p q none end = tt
 all_found (Some text_of) name first mid after bytes piece there p q none end =
     is_that (text_of name) bytes there.0 (all_taken (text_of name) mid after bytes piece p q none end)
+
+-- at most a piece more than the limit was taken
+pub kept_short : (items : List ℕ) (len limit : ℕ) → len ≡ length items → len ≤ limit → length items ≤ limit + PIECE
+kept_short items len limit is within = omega (arith, is, within)
+
+pub more_short : (items buf : List ℕ) (n len limit : ℕ) → n ≤ length buf → length buf ≤ PIECE → len ≡ length items → len ≤ limit → length (items ++ take n buf) ≤ limit + PIECE
+more_short items buf n len limit bound short is within =
+    let long : length (take n buf) ≡ n = length-take-le n buf bound in
+    let both = length-append items (take n buf) in
+    omega (arith, long, both, bound, short, is, within)

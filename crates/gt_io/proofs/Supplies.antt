@@ -1,13 +1,14 @@
 -- What a call on bytes in memory answers and leaves.
 use Rattle.std.proofs.Common.{◌≡◌, ◌≤◌, ◌<◌, ◌-◌, ℕ, ◌++◌, List, length, take, drop, min, true, false, Ok, Err, inl, inr, refl, ap, sym, ◌∙◌, arith}
+use Rattle.std.specs.Prelude.{◌==◌, if◌then◌else◌}
 use Rattle.std.proofs.lemmas.Grind.{common_steps}
 use Rattle.gt_io.specs.declared.source.Failed.{Failed}
 use Rattle.gt_io.specs.Causes.{HasCause}
 use Rattle.gt_io.specs.Memory.{FailingCalls, Supply, Store, GivesPiece, TakesPiece, fails_next, refused, answered, one_more, space}
 
 -- bytes of which those before a place were taken
-abbrev pub supply_at : List ℕ → ℕ → ℕ → FailingCalls → Supply
-supply_at bytes at piece calls = record { taken = take at bytes; left = drop at bytes; piece = piece; calls = calls }
+abbrev pub supply_at : List ℕ → ℕ → ℕ → FailingCalls → ℕ → Supply
+supply_at bytes at piece calls ends = record { taken = take at bytes; left = drop at bytes; piece = piece; calls = calls; ends = ends }
 
 pub refused_cause : (o p : FailingCalls) (e : Failed) → p ≡ refused o → o.faults ≤ p.faults → HasCause {T = ℕ} o.faults p.faults (Err e)
 refused_cause o p e made later =
@@ -17,11 +18,12 @@ refused_cause o p e made later =
 pub refused_piece : (o : Supply) (calls : FailingCalls) (room : ℕ) (e : Failed) → true ≡ fails_next o.calls → calls ≡ refused o.calls → GivesPiece o (record o { calls = calls }) room (Err e)
 refused_piece o calls room e listed made = record { listed = grind (arith, common_steps); gives = λ i. record o { calls = made i } }
 
-pub answered_piece : (o : Supply) (calls : FailingCalls) (n room : ℕ) (taken left : List ℕ) → false ≡ fails_next o.calls → calls ≡ answered o.calls → n ≡ min (length o.left) (min room o.piece)
-    → taken ≡ o.taken ++ take n o.left → left ≡ drop n o.left → GivesPiece {E = Failed} o (record { taken = taken; left = left; piece = o.piece; calls = calls }) room (Ok n)
-answered_piece o calls n room taken left listed made number took rest = record {
+pub answered_piece : (o : Supply) (calls : FailingCalls) (n room : ℕ) (taken left : List ℕ) (ends : ℕ) → false ≡ fails_next o.calls → calls ≡ answered o.calls → n ≡ min (length o.left) (min room o.piece)
+    → taken ≡ o.taken ++ take n o.left → left ≡ drop n o.left → ends ≡ (if n == 0 then one_more o.ends else o.ends)
+    → GivesPiece {E = Failed} o (record { taken = taken; left = left; piece = o.piece; calls = calls; ends = ends }) room (Ok n)
+answered_piece o calls n room taken left ends listed made number took rest told = record {
   listed = grind (arith, common_steps);
-  gives = (number, λ i. record { taken = took i; left = rest i; piece = o.piece; calls = made i });
+  gives = (number, λ i. record { taken = took i; left = rest i; piece = o.piece; calls = made i; ends = told i });
 }
 
 -- what a write leaves

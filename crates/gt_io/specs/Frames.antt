@@ -2,7 +2,7 @@
 use Rattle.std.specs.Prelude.{ℕ, ◌+◌, ◌==◌, List, [], ◌∷◌, ◌++◌, length, take, min, nat_le, Bool, true, false, if◌then◌else◌}
 use Rattle.gt_io.specs.declared.framer.Framed.{Framed}
 use Rattle.gt_io.specs.declared.framer.Framed.TheVariants.{More, Whole, Long}
-use Rattle.gt_io.specs.declared.framer.TheConstants.{LONGEST_LINE}
+use Rattle.gt_base.specs.declared.limits.TheConstants.{LONGEST_LINE}
 
 -- the number of the line's bytes, kept up to 513; the first 512 of them; whether its line feed has
 -- come
@@ -22,7 +22,7 @@ begun f = if f.ended then blank_frame else f
 abbrev pub longer : Frame → ℕ → Frame
 longer f b =
     record {
-      number = min (f.number + 1) 513;
+      number = min (f.number + 1) (LONGEST_LINE + 1);
       bytes = take LONGEST_LINE (f.bytes ++ b ∷ []);
       ended = false;
     }
@@ -38,4 +38,8 @@ framed f b =
 -- the frame of a line that has these bytes so far
 abbrev pub frame_of : List ℕ → Frame
 frame_of line =
-    record { number = min (length line) 513; bytes = take LONGEST_LINE line; ended = false }
+    record {
+      number = min (length line) (LONGEST_LINE + 1);
+      bytes = take LONGEST_LINE line;
+      ended = false;
+    }

@@ -3,13 +3,15 @@ use Rattle.std.specs.Prelude.{◌≡◌, ℕ, ◌+◌, Bool, false, ⊤, List, [
 use Rattle.std.specs.declared.option.Option.{Option}
 
 -- the bytes that a link has left, and those that were taken from it and given to it, where it
--- tells; how often a read and a write failed; and whether it was let go
+-- tells; how often a read and a write failed, and how often a read told the end; and whether it
+-- was let go
 pub record Traffic : Type 0 where
   pub left : Option (List ℕ)
   pub taken : Option (List ℕ)
   pub given : Option (List ℕ)
   pub read_faults : ℕ
   pub write_faults : ℕ
+  pub ends : ℕ
   pub finished : Bool
 
 -- nothing was read, and nothing was written
@@ -17,6 +19,7 @@ pub record ReadsNothing (a b : Traffic) : Type 0 where
   pub left_kept : b.left ≡ a.left
   pub taken_kept : b.taken ≡ a.taken
   pub read_faults_are : b.read_faults ≡ a.read_faults
+  pub ends_are : b.ends ≡ a.ends
 
 pub record WritesNothing (a b : Traffic) : Type 0 where
   pub given_kept : b.given ≡ a.given

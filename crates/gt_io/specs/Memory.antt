@@ -1,5 +1,5 @@
 -- Sources and sinks in memory: what they hold, and what each of their calls answers and leaves.
-use Rattle.std.specs.Prelude.{◌≡◌, ◌==◌, ◌⊎◌, ◌↔◌, ◌+◌, ◌-◌, ◌^◌, ℕ, Bool, List, [], ◌++◌, length, take, drop, min, IsTrue, IsErr, MatchResult}
+use Rattle.std.specs.Prelude.{◌≡◌, ◌==◌, ◌⊎◌, ◌↔◌, ◌+◌, ◌-◌, ◌^◌, ℕ, Bool, if◌then◌else◌, List, [], ◌++◌, length, take, drop, min, IsTrue, IsErr, MatchResult}
 use Rattle.std.specs.List.{list_any}
 use Rattle.std.specs.declared.result.Result.{Result}
 
@@ -28,16 +28,18 @@ answered c = record c { made = one_more c.made }
 abbrev pub refused : FailingCalls → FailingCalls
 refused c = record c { made = one_more c.made; faults = one_more c.faults }
 
--- bytes to read: those taken and those left, and the most that one call gives
+-- bytes to read: those taken and those left, the most that one call gives, the calls, and how many
+-- of them told the end
 pub record Supply : Type 0 where
   pub taken : List ℕ
   pub left : List ℕ
   pub piece : ℕ
   pub calls : FailingCalls
+  pub ends : ℕ
 
 abbrev pub supply_of : List ℕ → ℕ → List ℕ → Supply
 supply_of bytes piece failing =
-    record { taken = []; left = bytes; piece = piece; calls = none_made failing }
+    record { taken = []; left = bytes; piece = piece; calls = none_made failing; ends = 0 }
 
 -- a read fails where its number is listed, and gives a piece otherwise, or what is left or what the
 -- buffer holds where that is less
@@ -50,6 +52,7 @@ pub record GivesPiece {E : Type 0} (o p : Supply) (room : ℕ) (result : Result 
         taken = o.taken ++ take n o.left;
         left = drop n o.left;
         calls = answered o.calls;
+        ends = if n == 0 then one_more o.ends else o.ends;
       }))
       (λ _. p ≡ record o { calls = refused o.calls })
 

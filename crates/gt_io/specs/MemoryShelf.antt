@@ -18,16 +18,17 @@ bytes_at [] i = []
 bytes_at (file ∷ files) zero = file.bytes.items
 bytes_at (file ∷ files) (suc i) = bytes_at files i
 
--- texts by their names, the one that was found last, as far as it was read, and how often a call
--- failed that was listed; the calls are numbered together
+-- texts by their names, the one that was found last, as far as it was read, how often a call failed
+-- that was listed, and how often a text was asked for; the calls are numbered together
 pub record Texts : Type 0 where
   pub files : List MemFile
   pub text : Supply
   pub hard_faults : ℕ
+  pub asked : ℕ
 
 abbrev pub texts_of : List MemFile → ℕ → List ℕ → Texts
 texts_of files piece failing =
-    record { files = files; text = supply_of [] piece failing; hard_faults = 0 }
+    record { files = files; text = supply_of [] piece failing; hard_faults = 0; asked = 0 }
 
 -- after a call that has not failed yet, after a listed one, after a name that no file has, and
 -- after one that was found
@@ -47,22 +48,33 @@ unfound t = record t { text = record (t.text) { calls = refused t.text.calls } }
 abbrev pub text_opened : Texts → List ℕ → Texts
 text_opened t bytes =
     record t {
-      text = record
-          { taken = []; left = bytes; piece = t.text.piece; calls = answered t.text.calls };
+      text = record {
+        taken = [];
+        left = bytes;
+        piece = t.text.piece;
+        calls = answered t.text.calls;
+        ends = t.text.ends;
+      };
     }
+
+-- a text was asked for
+abbrev pub asked_for : Texts → Texts
+asked_for t = record t { asked = one_more t.asked }
 
 -- a search fails where its number is listed, else where no file has the name
 pub record FindsText {T E : Type 0} (o p : Texts) (name : List ℕ) (result : Result T E)
     : Type 0 where
-  pub listed : fails_next o.text.calls ≡ true → IsErr result × (p ≡ broken o)
+  pub listed : fails_next o.text.calls ≡ true → IsErr result × (p ≡ asked_for (broken o))
   pub missing : fails_next o.text.calls ≡ false → file_text o.files name ≡ None
-      → IsErr result × (p ≡ unfound o)
+      → IsErr result × (p ≡ asked_for (unfound o))
   pub found : fails_next o.text.calls ≡ false
-      → IfSome (file_text o.files name) (λ bytes. IsOk result × (p ≡ text_opened o bytes))
+      → IfSome (file_text o.files name)
+      (λ bytes. IsOk result × (p ≡ asked_for (text_opened o bytes)))
 
 -- a read goes on where the text was left
 pub record ReadsText {E : Type 0} (o p : Texts) (room : ℕ) (result : Result ℕ E) : Type 0 where
   pub gives : GivesPiece o.text p.text room result
   pub files_are : p.files ≡ o.files
+  pub asked_is : p.asked ≡ o.asked
   pub hard_faults_are : p.hard_faults
       ≡ (if fails_next o.text.calls then one_more o.hard_faults else o.hard_faults)

@@ -1,8 +1,8 @@
 -- Texts by their names, and why one was not found.
-use Rattle.std.specs.Prelude.{◌≡◌, ◌⊎◌, ℕ, List, None, IsSomeAnd, MatchResult}
+use Rattle.std.specs.Prelude.{◌≡◌, ◌⊎◌, ◌+◌, ℕ, List, None, IsSomeAnd, MatchResult}
 use Rattle.std.specs.declared.option.Option.{Option}
 use Rattle.std.specs.declared.result.Result.{Result}
-use Rattle.gt_io.specs.Causes.{Rose}
+use Rattle.gt_io.specs.Causes.{AtMostOnce, Rose}
 use Rattle.gt_io.specs.declared.source.ReadFault.{ReadFault}
 use Rattle.gt_io.specs.declared.source.ReadFault.TheVariants.{Memory, Failed, TooLong}
 
@@ -11,13 +11,21 @@ abbrev pub Contents : Type 0
 Contents = Option (List ℕ → Option (List ℕ))
 
 -- what is seen of a shelf: the text of each name and the bytes left of the text that was found
--- last, where that is told, how often it has failed, missing names among the failures, and how
--- often but for names that it tells to be missing
+-- last, where that is told, how often it has failed, missing names among the failures, how often
+-- but for names that it tells to be missing, how often a text was asked for, and how often a read
+-- has told the end
 pub record Stock : Type 0 where
   pub contents : Contents
   pub left : Option (List ℕ)
   pub faults : ℕ
   pub hard_faults : ℕ
+  pub asked : ℕ
+  pub ends : ℕ
+
+-- one text was asked for, and nothing more behind a call that failed or told the end
+pub record AsksOnce (a b : Stock) : Type 0 where
+  pub one : AtMostOnce a.asked b.asked
+  pub stopped : AtMostOnce (a.faults + a.ends) (b.faults + b.ends)
 
 -- the shelf tells that it has no text of the name
 abbrev pub Lacks : Contents → List ℕ → Type 0

@@ -22,6 +22,14 @@ impl Model for Calls {
     ghost view = { λ c. record { failing = c.failing.items; made = c.made; faults = c.faults } };
 }
 
+/// How many reads have told the end, behind one that gave `n` bytes, up to the end of its type.
+pub fn count_end(ends: u64, n: usize) -> u64
+    ensures end { n ≡ 0 → result ≡ one_more ends }
+    ensures more { (n ≡ 0 → ⊥) → result ≡ ends }
+{
+    if n == 0 { ends.saturating_add(1) } else { ends }
+}
+
 impl Calls {
     pub fn new(failing: List<u64>) -> Calls
         ensures { result ≡ none_made failing.items }

@@ -2,10 +2,8 @@
 ghost use Rattle.std.specs.Prelude.{◌≡◌, ◌+◌, ◌≤◌, ◌++◌, ◌∷◌, [], length, take, min};
 ghost use Rattle.gt_io.specs.Frames.{blank_frame, begun, pushed, framed};
 
+use gt_base::LONGEST_LINE;
 use std::marker::Model;
-
-/// The longest line, without its line feed.
-pub(crate) const LONGEST_LINE: usize = 512;
 
 /// What a byte did to the line.
 #[derive(Clone, Copy, PartialEq, Eq, Debug)]
@@ -23,7 +21,7 @@ pub enum Framed {
 /// its line feed has come.
 #[derive(Drop)]
 pub struct Framer {
-    line: [u8; 512],
+    line: [u8; LONGEST_LINE],
     number: usize,
     ended: bool,
 }
@@ -33,7 +31,8 @@ impl Model for Framer {
 
     ghost Value = { Frame };
 
-    ghost use Rattle.std.specs.Prelude.{◌≤◌, take};
+    ghost use Rattle.std.specs.Prelude.{◌+◌, ◌≤◌, take};
+    ghost use Rattle.gt_base.specs.declared.limits.TheConstants.{LONGEST_LINE};
 
     ghost view = { λ f. record {
       number = f.number;
@@ -41,16 +40,16 @@ impl Model for Framer {
       ended = f.ended;
     } };
 
-    ghost invariant = { λ f. f.number ≤ 513 };
+    ghost invariant = { λ f. f.number ≤ LONGEST_LINE + 1 };
 }
 
 /// Puts a byte behind the first `number` ones, where there is room, and answers how many there are
 /// now, up to 513.
 fn put(line: &mut [u8], number: usize, b: u8) -> usize
-    requires number { number ≤ 513 }
-    requires room { length line.old ≡ 512 }
-    ensures number { result ≡ min (number + 1) 513 }
-    ensures bytes { take result line.new ≡ take 512 (take number line.old ++ b ∷ []) }
+    requires number { number ≤ LONGEST_LINE + 1 }
+    requires room { length line.old ≡ LONGEST_LINE }
+    ensures number { result ≡ min (number + 1) (LONGEST_LINE + 1) }
+    ensures bytes { take result line.new ≡ take LONGEST_LINE (take number line.old ++ b ∷ []) }
 {
     if number < LONGEST_LINE {
         line[number] = b;
@@ -65,7 +64,7 @@ impl Framer {
         ensures { result ≡ blank_frame }
     {
         Framer {
-            line: [0; 512],
+            line: [0; LONGEST_LINE],
             number: 0,
             ended: false,
         }

@@ -1,24 +1,26 @@
 //! Connections, where they come from, and what a worker asks the outside between two requests.
-ghost use Rattle.std.specs.Prelude.{◌≡◌, ◌<◌, ◌≤◌, ℕ, true, List, [], ◌∷◌, length, IfOk, IfSome, OnOk, OnErr, MatchResult, MatchOption};
+ghost use Rattle.std.specs.Prelude.{◌≡◌, ◌<◌, ◌≤◌, ℕ, true, false, List, [], ◌∷◌, length, IfOk, IfSome, OnOk, OnErr, MatchResult, MatchOption};
 ghost use Rattle.std.specs.declared.option.Option.{Option};
 ghost use Rattle.std.specs.Io.{ReadsAtMost};
 ghost use Rattle.std.specs.Io.KnownBytes.{ReadConsumes, WriteAppends, Appends};
-ghost use Rattle.gt_io.specs.Causes.{HasCause, RisesOnce, AppendsPart};
+ghost use Rattle.gt_io.specs.Causes.{CountsEnd, HasCause, RisesOnce, AppendsPart};
 ghost use Rattle.gt_io.specs.Links.{Traffic, ReadsNothing, WritesNothing, IsFresh, GivesFirst, GivesNone, Reads};
 
 use crate::source::Failed;
 use gt_base::Instant;
 
 /// A connection. It has two counts, of the reads and of the writes that failed; each call raises
-/// its own by one where it fails, and nothing else does. `finish`, and no other call, lets it go.
+/// its own by one where it fails, and nothing else does. `finish`, and no other call, lets it go,
+/// and is the last call on it.
 pub trait Link {
-    /// What went over it and what is left, where it tells, how often it failed, and whether it was
-    /// let go.
+    /// What went over it and what is left, where it tells, how often it failed and told the end,
+    /// and whether it was let go.
     ghost traffic: { Self → Traffic };
 
     /// Reads some bytes; none exactly at the end.
     fn read(&mut self, buf: &mut [u8]) -> Result<usize, Failed>
-        requires { 0 < length buf.old }
+        requires room { 0 < length buf.old }
+        requires open { (traffic self.old).finished ≡ false }
         ensures bound { ReadsAtMost result buf.new }
         ensures bytes { ReadConsumes (traffic self.old).left
             (traffic self.new).left result buf.new }
@@ -28,12 +30,14 @@ pub trait Link {
             (traffic self.new).read_faults result }
         ensures once { RisesOnce (traffic self.old).read_faults
             (traffic self.new).read_faults result }
+        ensures ends { CountsEnd (traffic self.old).ends (traffic self.new).ends result }
         ensures writes { WritesNothing (traffic self.old) (traffic self.new) }
         ensures held { (traffic self.new).finished ≡ (traffic self.old).finished };
 
     /// Writes some of the piece, at least a byte.
     fn write(&mut self, piece: &[u8]) -> Result<usize, Failed>
-        requires { 0 < length piece.now }
+        requires some { 0 < length piece.now }
+        requires open { (traffic self.old).finished ≡ false }
         ensures bound { IfOk result (λ n. (0 < n) × (n ≤ length piece.now)) }
         ensures bytes { WriteAppends (traffic self.old).given
             (traffic self.new).given result piece.now }
@@ -44,8 +48,9 @@ pub trait Link {
         ensures reads { ReadsNothing (traffic self.old) (traffic self.new) }
         ensures held { (traffic self.new).finished ≡ (traffic self.old).finished };
 
-    /// Lets the connection go.
+    /// Lets the connection go. No call follows it.
     fn finish(&mut self)
+        requires open { (traffic self.old).finished ≡ false }
         ensures reads { ReadsNothing (traffic self.old) (traffic self.new) }
         ensures writes { WritesNothing (traffic self.old) (traffic self.new) }
         ensures finished { (traffic self.new).finished ≡ true };
@@ -53,6 +58,7 @@ pub trait Link {
 
 /// Writes the whole text to a link, or up to the first failure.
 pub fn send_all<L: Link>(link: &mut L, text: &[u8]) -> Result<(), Failed>
+    requires { (L.traffic link.old).finished ≡ false }
     ensures all { OnOk result (Appends (L.traffic link.old).given
         (L.traffic link.new).given text.now) }
     ensures part { OnErr result (AppendsPart (L.traffic link.old).given

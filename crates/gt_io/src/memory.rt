@@ -2,10 +2,10 @@
 ghost use Rattle.std.specs.Prelude.{◌≡◌, ◌<◌, ◌≤◌, ◌+◌, ◌++◌, [], length, take, drop, min, Some, IfOk};
 ghost use Rattle.std.specs.Io.{ReadsAtMost};
 ghost use Rattle.std.specs.Io.KnownBytes.{ReadConsumes, WriteAppends};
-ghost use Rattle.gt_io.specs.Causes.{HasCause};
+ghost use Rattle.gt_io.specs.Causes.{AtMostOnce, CountsEnd, HasCause};
 ghost use Rattle.gt_io.specs.Memory.{supply_of, store_of, GivesPiece, TakesPiece};
 
-use crate::calls::Calls;
+use crate::calls::{Calls, count_end};
 use crate::source::{Failed, Sink, Source};
 use gt_base::{List, Memory};
 use std::alloc::Global;
@@ -30,13 +30,14 @@ pub(crate) fn give(bytes: &[u8], at: usize, buf: &mut [u8], piece: usize) -> usi
 }
 
 /// Bytes to read, of which one call gives a piece at most. It is seen as the bytes taken, those
-/// left, the piece and the calls.
+/// left, the piece, the calls and how many of them told the end.
 #[derive(Drop)]
 pub struct MemSource {
     bytes: List<u8>,
     at: usize,
     piece: usize,
     calls: Calls,
+    ends: u64,
 }
 
 impl Model for MemSource {
@@ -50,6 +51,7 @@ impl Model for MemSource {
       left = drop s.at s.bytes.items;
       piece = s.piece;
       calls = s.calls;
+      ends = s.ends;
     } };
 
     ghost invariant = { λ s. (0 < s.piece) × (s.at ≤ length s.bytes.items) };
@@ -67,18 +69,21 @@ impl MemSource {
             at: 0,
             piece,
             calls: Calls::new(failing),
+            ends: 0,
         }
     }
 }
 
 impl Source for MemSource {
-    ghost intake = { λ s. record { left = Some s.left; faults = s.calls.faults } };
+    ghost intake = { λ s. record { left = Some s.left; faults = s.calls.faults; ends = s.ends } };
 
     fn read(&mut self, buf: &mut [u8]) -> Result<usize, Failed>
         requires { 0 < length buf.old }
         ensures bound { ReadsAtMost result buf.new }
         ensures bytes { ReadConsumes (Some self.old.left) (Some self.new.left) result buf.new }
         ensures cause { HasCause self.old.calls.faults self.new.calls.faults result }
+        ensures once { AtMostOnce self.old.calls.faults self.new.calls.faults }
+        ensures ends { CountsEnd self.old.ends self.new.ends result }
         ensures piece { GivesPiece self.old self.new (length buf.old) result }
     {
         if self.calls.begin() {
@@ -86,6 +91,8 @@ impl Source for MemSource {
         }
         let n = give(self.bytes.as_slice(), self.at, buf, self.piece);
         self.at += n;
+        let ends = count_end(self.ends, n);
+        self.ends = ends;
         Ok(n)
     }
 }
@@ -156,6 +163,7 @@ impl Sink for MemSink {
         ensures bytes { WriteAppends (Some self.old.written)
             (Some self.new.written) result piece.now }
         ensures cause { HasCause self.old.calls.faults self.new.calls.faults result }
+        ensures once { AtMostOnce self.old.calls.faults self.new.calls.faults }
         ensures piece { TakesPiece self.old self.new piece.now result }
     {
         if self.calls.begin() {

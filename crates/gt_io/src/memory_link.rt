@@ -2,7 +2,7 @@
 ghost use Rattle.std.specs.Prelude.{◌≡◌, ◌<◌, ◌≤◌, ◌+◌, ◌-◌, ◌↔◌, true, false, length, min, Some, IfOk, IfSome, IsErr, IsTrue, All, MatchResult, MatchOption, slice_index, if◌then◌else◌};
 ghost use Rattle.std.specs.Io.{ReadsAtMost};
 ghost use Rattle.std.specs.Io.KnownBytes.{ReadConsumes, WriteAppends};
-ghost use Rattle.gt_io.specs.Causes.{HasCause, RisesOnce};
+ghost use Rattle.gt_io.specs.Causes.{CountsEnd, HasCause, RisesOnce};
 ghost use Rattle.gt_io.specs.Links.{IsFresh, GivesFirst, GivesNone, ReadsNothing, WritesNothing};
 ghost use Rattle.gt_io.specs.Memory.{supply_of, store_of, none_made, fails_next, answered, refused, GivesPiece, TakesPiece};
 
@@ -71,6 +71,7 @@ impl Link for MemLink {
       given = Some l.sink.written;
       read_faults = l.source.calls.faults;
       write_faults = l.sink.calls.faults;
+      ends = l.source.ends;
       finished = l.finished;
     } };
 
@@ -85,6 +86,7 @@ impl Link for MemLink {
         ensures once { RisesOnce self.old.source.calls.faults self.new.source.calls.faults result }
         ensures writes { WritesNothing (⟦<MemLink as Link>⟧.traffic self.old)
             (⟦<MemLink as Link>⟧.traffic self.new) }
+        ensures ends { CountsEnd self.old.source.ends self.new.source.ends result }
         ensures source { GivesPiece self.old.source self.new.source (length buf.old) result }
         ensures held { self.new.finished ≡ self.old.finished }
         ensures sink { self.new.sink ≡ self.old.sink }

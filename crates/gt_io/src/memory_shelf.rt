@@ -2,12 +2,12 @@
 ghost use Rattle.std.specs.Prelude.{◌≡◌, ◌<◌, ◌≤◌, if◌then◌else◌, length, None, Some, IsSome, IfNone, IfSome, OnOk};
 ghost use Rattle.std.specs.Io.{ReadsAtMost};
 ghost use Rattle.std.specs.Io.KnownBytes.{ReadConsumes};
-ghost use Rattle.gt_io.specs.Causes.{HasCause};
+ghost use Rattle.gt_io.specs.Causes.{AtMostOnce, CountsEnd, HasCause};
 ghost use Rattle.gt_io.specs.Shelf.{HasFindCause};
-ghost use Rattle.gt_io.specs.Memory.{fails_next};
-ghost use Rattle.gt_io.specs.MemoryShelf.{broken, begun, file_text, bytes_at, texts_of, FindsText, ReadsText};
+ghost use Rattle.gt_io.specs.Memory.{one_more, fails_next};
+ghost use Rattle.gt_io.specs.MemoryShelf.{asked_for, broken, begun, file_text, bytes_at, texts_of, FindsText, ReadsText};
 
-use crate::calls::Calls;
+use crate::calls::{Calls, count_end};
 use crate::memory::give;
 use crate::shelf::Shelf;
 use crate::source::Failed;
@@ -47,7 +47,8 @@ fn bytes_of(files: &[MemFile], place: usize) -> &[u8]
 }
 
 /// Texts in memory, which fail at the calls that they are told. It is seen as the files, the text
-/// that was found last, with the calls, and the number of hard faults.
+/// that was found last, with the calls and how many of them told an end, the number of hard faults,
+/// and how often a text was asked for.
 #[derive(Drop)]
 pub struct MemShelf {
     files: List<MemFile>,
@@ -55,7 +56,9 @@ pub struct MemShelf {
     at: usize,
     piece: usize,
     calls: Calls,
+    ends: u64,
     hard_faults: u64,
+    asked: u64,
 }
 
 impl Model for MemShelf {
@@ -71,8 +74,10 @@ impl Model for MemShelf {
         left = drop s.at (bytes_at s.files.items s.place);
         piece = s.piece;
         calls = s.calls;
+        ends = s.ends;
       };
       hard_faults = s.hard_faults;
+      asked = s.asked;
     } };
 
     ghost invariant = { λ s. (0 < s.piece) × (s.at ≤ length (bytes_at s.files.items s.place)) };
@@ -92,8 +97,22 @@ impl MemShelf {
             at: 0,
             piece,
             calls: Calls::new(failing),
+            ends: 0,
             hard_faults: 0,
+            asked: 0,
         }
+    }
+
+    /// Counts one more call, by which a text is asked for.
+    fn begin_search(&mut self) -> bool
+        ensures listed { result ≡ fails_next self.old.text.calls }
+        ensures made { self.new ≡ asked_for (if result then broken self.old else begun self.old) }
+        ensures later { (self.old.text.calls.faults ≤ self.new.text.calls.faults)
+            × (self.old.hard_faults ≤ self.new.hard_faults) }
+    {
+        let fails = self.begin();
+        self.asked = self.asked.saturating_add(1);
+        fails
     }
 
     /// Counts one more call; where it is to fail, that is a hard fault.
@@ -117,6 +136,8 @@ impl Shelf for MemShelf {
       left = Some s.text.left;
       faults = s.text.calls.faults;
       hard_faults = s.hard_faults;
+      asked = s.asked;
+      ends = s.text.ends;
     } };
 
     fn find(&mut self, name: &str) -> Result<(), Failed>
@@ -125,12 +146,15 @@ impl Shelf for MemShelf {
             × (Some self.new.text.left ≡ file_text self.old.files name.now)) }
         ensures same { self.new.files ≡ self.old.files }
         ensures cause { HasCause self.old.text.calls.faults self.new.text.calls.faults result }
+        ensures once { AtMostOnce self.old.text.calls.faults self.new.text.calls.faults }
         ensures hard_cause { HasFindCause
             (Some (file_text self.old.files)) name.now self.old.hard_faults
             self.new.hard_faults result }
+        ensures asked { self.new.asked ≡ one_more self.old.asked }
+        ensures ends { self.new.text.ends ≡ self.old.text.ends }
         ensures finds { FindsText self.old self.new name.now result }
     {
-        if self.begin() {
+        if self.begin_search() {
             return Err(Failed);
         }
         let Some(place) = place_of(self.files.as_slice(), name.as_bytes()) else {
@@ -149,7 +173,10 @@ impl Shelf for MemShelf {
             (Some self.new.text.left) result buf.new }
         ensures same { self.new.files ≡ self.old.files }
         ensures cause { HasCause self.old.text.calls.faults self.new.text.calls.faults result }
+        ensures once { AtMostOnce self.old.text.calls.faults self.new.text.calls.faults }
         ensures hard_cause { HasCause self.old.hard_faults self.new.hard_faults result }
+        ensures asked { self.new.asked ≡ self.old.asked }
+        ensures ends { CountsEnd self.old.text.ends self.new.text.ends result }
         ensures reads { ReadsText self.old self.new (length buf.old) result }
     {
         if self.begin() {
@@ -158,6 +185,8 @@ impl Shelf for MemShelf {
         let bytes = bytes_of(self.files.as_slice(), self.place);
         let n = give(bytes, self.at, buf, self.piece);
         self.at += n;
+        let ends = count_end(self.ends, n);
+        self.ends = ends;
         Ok(n)
     }
 }

@@ -2,8 +2,9 @@
 ghost use Rattle.std.specs.Prelude.{◌≡◌, ◌+◌, ◌++◌, ◌<◌, ◌≤◌, ℕ, List, length, vec_len, OnOk, OnErr, IfOk, IfErr, IfSome, IsErrOf};
 ghost use Rattle.std.specs.Io.{ReadsAtMost};
 ghost use Rattle.std.specs.Io.KnownBytes.{ReadConsumes, WriteAppends, Appends, IsAtEnd};
-ghost use Rattle.gt_io.specs.Causes.{HasCause, HasReadCause, TakesFront, AppendsPart, IsNoRoom};
-ghost use Rattle.gt_io.specs.Streams.{Intake, Output};
+ghost use Rattle.gt_io.specs.Causes.{AtMostOnce, CountsEnd, HasCause, HasReadCause, TakesFront, AppendsPart, IsNoRoom};
+ghost use Rattle.gt_io.specs.Streams.{Intake, Output, stops};
+ghost use Rattle.gt_io.specs.declared.source.TheConstants.{PIECE};
 ghost use Rattle.gt_io.specs.declared.source.ReadFault.TheVariants.{Memory, Failed as ReadFailed};
 
 use std::alloc::{AllocError, Global};
@@ -15,7 +16,7 @@ pub struct Failed;
 
 /// Where bytes come from.
 pub trait Source {
-    /// The bytes left, where it tells, and how often it has failed.
+    /// The bytes left, where it tells, how often it has failed, and how often it has told the end.
     ghost intake: { Self → Intake };
 
     /// Reads some bytes; none exactly at the end.
@@ -23,7 +24,9 @@ pub trait Source {
         requires { 0 < length buf.old }
         ensures bound { ReadsAtMost result buf.new }
         ensures bytes { ReadConsumes (intake self.old).left (intake self.new).left result buf.new }
-        ensures cause { HasCause (intake self.old).faults (intake self.new).faults result };
+        ensures cause { HasCause (intake self.old).faults (intake self.new).faults result }
+        ensures once { AtMostOnce (intake self.old).faults (intake self.new).faults }
+        ensures ends { CountsEnd (intake self.old).ends (intake self.new).ends result };
 }
 
 /// Where bytes go.
@@ -37,7 +40,8 @@ pub trait Sink {
         ensures bound { IfOk result (λ n. (0 < n) × (n ≤ length piece.now)) }
         ensures bytes { WriteAppends (output self.old).written
             (output self.new).written result piece.now }
-        ensures cause { HasCause (output self.old).faults (output self.new).faults result };
+        ensures cause { HasCause (output self.old).faults (output self.new).faults result }
+        ensures once { AtMostOnce (output self.old).faults (output self.new).faults };
 }
 
 /// Why a text was not read whole.
@@ -67,6 +71,9 @@ impl From<Failed> for ReadFault {
     }
 }
 
+/// The most bytes of one read of a text.
+pub const PIECE: usize = 4096;
+
 /// Adds a piece to what was read, where that is at most `limit` bytes with it.
 pub(crate) fn add_piece(bytes: &mut Vec<u8>, piece: &[u8], limit: usize) -> Result<(), ReadFault>
     requires { vec_len bytes.old ≤ limit }
@@ -82,7 +89,8 @@ pub(crate) fn add_piece(bytes: &mut Vec<u8>, piece: &[u8], limit: usize) -> Resu
     Ok(())
 }
 
-/// All that is left, if it is at most `limit` bytes. After a fault a front of it was taken.
+/// All that is left, if it is at most `limit` bytes. After a fault a front of it was taken, of at
+/// most `PIECE` bytes more than the limit. Behind a read that failed or told the end there is none.
 pub fn read_all<S: Source>(
     alloc: Global,
     source: &mut S,
@@ -94,11 +102,13 @@ pub fn read_all<S: Source>(
     ensures within { IfOk result (λ bytes. vec_len bytes ≤ limit) }
     ensures long { IsErrOf result ReadFault.TooLong
         → IfSome (S.intake source.old).left (λ xs. limit < length xs) }
-    ensures front { TakesFront (S.intake source.old).left (S.intake source.new).left }
+    ensures front { TakesFront (limit + PIECE) (S.intake source.old).left
+        (S.intake source.new).left }
     ensures cause { HasReadCause (S.intake source.old).faults (S.intake source.new).faults result }
+    ensures once { AtMostOnce (stops (S.intake source.old)) (stops (S.intake source.new)) }
 {
     let mut bytes = Vec::new(alloc);
-    let mut buf = [0u8; 4096];
+    let mut buf = [0u8; PIECE];
     loop {
         let n = source.read(&mut buf)?;
         if n == 0 {
@@ -115,6 +125,7 @@ pub fn write_all<K: Sink>(sink: &mut K, text: &[u8]) -> Result<(), Failed>
     ensures part { OnErr result (AppendsPart (K.output sink.old).written
         (K.output sink.new).written text.now) }
     ensures cause { HasCause (K.output sink.old).faults (K.output sink.new).faults result }
+    ensures once { AtMostOnce (K.output sink.old).faults (K.output sink.new).faults }
 {
     let mut rest = text;
     while !rest.is_empty() {

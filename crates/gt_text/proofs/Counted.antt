@@ -1,5 +1,5 @@
 -- What is counted from the front is the number that the word is.
-use Rattle.std.proofs.Common.{◌≡◌, ℕ, ◌+◌, ◌-◌, ◌*◌, ◌≤◌, Bool, true, false, cond, ◌&&◌, List, [], ◌∷◌, Option, Some, None, refl, sym, ap, ◌∙◌, arith, leb, ltb, inl, inr}
+use Rattle.std.proofs.Common.{if◌then◌else◌, ◌≡◌, ℕ, ◌+◌, ◌-◌, ◌*◌, ◌≤◌, Bool, true, false, cond, ◌&&◌, List, [], ◌∷◌, Option, Some, None, refl, sym, ap, ◌∙◌, arith, leb, ltb, inl, inr}
 use Rattle.std.specs.List.{list_all}
 use Rattle.std.proofs.lemmas.Bool.{false≢true, le-leb, leb-true, and_parts, and_from, cases_Bool, false_from_ne_true}
 use Rattle.gt_base.specs.Names.{is_digit, counted, is_number, number_from}
@@ -11,7 +11,7 @@ counted_up n [] = omega arith
 counted_up n (b ∷ bs) = omega (arith, counted_up (10 * n + (b - 48)) bs)
 
 abbrev found : Bool → ℕ → Option ℕ
-found t n = elim t as (λ _. Option ℕ) [ true ↦ Some n | false ↦ None ]
+found t n = if t then Some n else None
 
 abbrev kept : ℕ → ℕ → List ℕ → Option ℕ
 kept most n ds = found (list_all is_digit ds && leb (counted n ds) most) (counted n ds)

@@ -1,5 +1,5 @@
 -- A word is a number exactly where it is the decimal text of the number.
-use Rattle.std.proofs.Common.{◌≡◌, ◌≢◌, ℕ, zero, suc, ◌≤◌, ◌<◌, ◌^◌, Bool, true, false, ◌&&◌, List, [], ◌∷◌, length, get_or, Option, Some, None, decimal, refl, sym, ap, ◌∙◌, arith, rules, ◌↔◌, ltb, leb, inl, inr}
+use Rattle.std.proofs.Common.{if◌then◌else◌, ◌≡◌, ◌≢◌, ℕ, zero, suc, ◌≤◌, ◌<◌, ◌^◌, Bool, true, false, ◌&&◌, List, [], ◌∷◌, length, get_or, Option, Some, None, decimal, refl, sym, ap, ◌∙◌, arith, rules, ◌↔◌, ltb, leb, inl, inr}
 use Rattle.std.specs.List.{list_all}
 use Rattle.std.proofs.lemmas.Str.Parse.{IsNumeralModel, numerals_by_fold}
 use Rattle.std.proofs.lemmas.Fmt.{digits_decimal, digits_value-decimal, decimal-digits_value, decimal_nonempty, first_decimal, decimal_digit}
@@ -37,8 +37,8 @@ number_of_digits (b ∷ c ∷ bs) h some first =
 
 counted_is : (w : List ℕ) (n : ℕ) → number_in w ≡ Some n → (is_number w ≡ true) × (counted 0 w ≡ n)
 counted_is w n e = elim (cases_Bool (is_number w)) [
-  | inl t ↦ (t, some_is (sym (ap (λ b. elim b [ true ↦ Some (counted 0 w) | false ↦ None ]) t) ∙ e))
-  | inr f ↦ absurd (none_some (sym (ap (λ b. elim b [ true ↦ Some (counted 0 w) | false ↦ None ]) f) ∙ e))
+  | inl t ↦ (t, some_is (sym (ap (λ b. if b then Some (counted 0 w) else None) t) ∙ e))
+  | inr f ↦ absurd (none_some (sym (ap (λ b. if b then Some (counted 0 w) else None) f) ∙ e))
 ]
   where
     some_is : {m : ℕ} → Some m ≡ Some n → m ≡ n
@@ -64,7 +64,7 @@ counted_decimal n small = digits_value-decimal own n small
 
 pub number_in-decimal : (n : ℕ) → n < 2 ^ 64 → number_in (decimal n) ≡ Some n
 number_in-decimal n small =
-    ap (λ b. elim b [ true ↦ Some (counted 0 (decimal n)) | false ↦ None ]) (is_number-decimal n small) ∙ ap (λ k. Some k) (counted_decimal n small)
+    ap (λ b. if b then Some (counted 0 (decimal n)) else None) (is_number-decimal n small) ∙ ap (λ k. Some k) (counted_decimal n small)
 
 pub numbers_are_decimal : (word : List ℕ) (n : ℕ) → n < 2 ^ 64 → (number_in word ≡ Some n) ↔ (word ≡ decimal n)
 numbers_are_decimal word n small = (number_text word n small, λ e. ap number_in e ∙ number_in-decimal n small)
@@ -73,18 +73,18 @@ numbers_are_decimal word n small = (number_text word n small, λ e. ap number_in
 
 pub number_from-decimal : (least most n : ℕ) → least ≤ n → n ≤ most → most < 2 ^ 64 → number_from least most (decimal n) ≡ Some n
 number_from-decimal least most n low high small =
-    ap (λ (r : Option ℕ). elim r [ None ↦ None | Some n ↦ elim (leb least n && leb n most) [ true ↦ Some n | false ↦ None ] ]) (number_in-decimal n (omega arith))
-    ∙ ap (λ b. elim b [ true ↦ Some n | false ↦ None ]) (and_from (leb least n) (leb n most) (le-leb least n low) (le-leb n most high))
+    ap (λ (r : Option ℕ). elim r [ None ↦ None | Some n ↦ if leb least n && leb n most then Some n else None ]) (number_in-decimal n (omega arith))
+    ∙ ap (λ b. if b then Some n else None) (and_from (leb least n) (leb n most) (le-leb least n low) (le-leb n most high))
 
 number_from-low : (least most n : ℕ) → n < least → n ≤ most → most < 2 ^ 64 → number_from least most (decimal n) ≡ None
 number_from-low least most n low high small =
-    ap (λ (r : Option ℕ). elim r [ None ↦ None | Some n ↦ elim (leb least n && leb n most) [ true ↦ Some n | false ↦ None ] ]) (number_in-decimal n (omega arith))
-    ∙ ap (λ b. elim b [ true ↦ Some n | false ↦ None ]) (false_from_ne_true (leb least n && leb n most) (λ t. absurd (omega (arith, low, leb-true least n (and_parts (leb least n) (leb n most) t).0))))
+    ap (λ (r : Option ℕ). elim r [ None ↦ None | Some n ↦ if leb least n && leb n most then Some n else None ]) (number_in-decimal n (omega arith))
+    ∙ ap (λ b. if b then Some n else None) (false_from_ne_true (leb least n && leb n most) (λ t. absurd (omega (arith, low, leb-true least n (and_parts (leb least n) (leb n most) t).0))))
 
 pub number_from_is : (least most : ℕ) (w : List ℕ) (n : ℕ) → most < 2 ^ 64 → number_from least most w ≡ Some n → (least ≤ n) × (n ≤ most) × (w ≡ decimal n)
 number_from_is least most w n small e = by (number_in w) refl
   where
-    within : (k : ℕ) → number_in w ≡ Some k → (b : Bool) → (leb least k && leb k most) ≡ b → elim b [ true ↦ Some k | false ↦ None ] ≡ Some n → (least ≤ n) × (n ≤ most) × (w ≡ decimal n)
+    within : (k : ℕ) → number_in w ≡ Some k → (b : Bool) → (leb least k && leb k most) ≡ b → if b then Some k else None ≡ Some n → (least ≤ n) × (n ≤ most) × (w ≡ decimal n)
     within k is true t e =
         let same : k ≡ n = cc in
         let bounds = and_parts (leb least k) (leb k most) t in
@@ -97,11 +97,11 @@ number_from_is least most w n small e = by (number_in w) refl
         none_is e = cc
 
     by : (r : Option ℕ) → number_in w ≡ r → (least ≤ n) × (n ≤ most) × (w ≡ decimal n)
-    by None is = absurd (none_is (sym (ap (λ (r : Option ℕ). elim r [ None ↦ None | Some n ↦ elim (leb least n && leb n most) [ true ↦ Some n | false ↦ None ] ]) is) ∙ e))
+    by None is = absurd (none_is (sym (ap (λ (r : Option ℕ). elim r [ None ↦ None | Some n ↦ if leb least n && leb n most then Some n else None ]) is) ∙ e))
       where
         none_is : None ≡ Some n → ⊥
         none_is e = cc
-    by (Some k) is = within k is (leb least k && leb k most) refl (sym (ap (λ (r : Option ℕ). elim r [ None ↦ None | Some n ↦ elim (leb least n && leb n most) [ true ↦ Some n | false ↦ None ] ]) is) ∙ e)
+    by (Some k) is = within k is (leb least k && leb k most) refl (sym (ap (λ (r : Option ℕ). elim r [ None ↦ None | Some n ↦ if leb least n && leb n most then Some n else None ]) is) ∙ e)
 
 -- what is read as no number up to `most` is the text of none
 pub number_from_none : (most : ℕ) (w : List ℕ) (n : ℕ) → most < 2 ^ 64 → None ≡ number_from 0 most w → n ≤ most → w ≢ decimal n

@@ -1,6 +1,7 @@
 -- What the status of a run over ports tells.
 use Rattle.std.proofs.Common.{◌≡◌, ◌⊎◌, ℕ, ◌<◌, true, false, List, [], Option, Some, None, inl, inr, refl, sym, ap, subst, ◌∙◌, arith, slice_get}
 use Rattle.std.specs.Prelude.{Result, Ok, Err}
+use Rattle.gt_base.specs.declared.limits.TheConstants.{MAX_LINKS}
 use Rattle.gt_io.specs.Causes.{Rose}
 use Rattle.gt_io.specs.declared.port.PortEvent.{PortEvent}
 use Rattle.gt_io.specs.declared.port.PortEvent.TheVariants.{Opened, Ready, Stop}
@@ -12,7 +13,6 @@ use Rattle.poll_front.specs.declared.ends.Polled.{Polled}
 use Rattle.poll_front.specs.declared.front.RunEnd.{RunEnd}
 use Rattle.poll_front.specs.declared.front.RunEnd.TheVariants.{Stopped, PortFault, Enough, Worn, Memory}
 use Rattle.poll_front.specs.Tables.{RunsTo, AreUnwornEnds}
-use Rattle.poll_front.specs.declared.front.TheConstants.{MOST_LINKS}
 use Rattle.policy_commands.specs.Finding.{IsLongPolicy}
 use Rattle.policy_commands.specs.Printing.{IsPrinted}
 use Rattle.gtrbac_daemon.specs.Words.{usage, poll_named, Refuses, HasText, LacksText}
@@ -34,7 +34,7 @@ none_apart : {A : Type 0} (o : Option A) (x : A) → o ≡ None → o ≡ Some x
 none_apart o x e n = let no : ◌≡◌ {A = Option _} None (Some x) = sym e ∙ n in absurd (cc no)
 
 -- nothing is used up where the run has stopped or failed
-module _ (b : PollScene) (few : b.ports.opened < MOST_LINKS) (calm : AreUnwornEnds b.ends) where
+module _ (b : PollScene) (few : b.ports.opened < MAX_LINKS) (calm : AreUnwornEnds b.ends) where
   not_used_up : IsUsedUp b → ⊥
   not_used_up (inl all) = absurd (omega (arith, few, all))
   not_used_up (inr x) = let off = calm x.0 x.1.0 x.1.1 in let no : true ≡ false = sym x.1.2 ∙ off in absurd (cc no)

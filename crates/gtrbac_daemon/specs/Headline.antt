@@ -2,7 +2,7 @@
 use Rattle.std.specs.Prelude.{◌≡◌, ℕ, ◌+◌, ◌*◌, ◌≤◌, true, List, [], ◌∷◌, ◌++◌, length}
 use Rattle.std.specs.Io.KnownBytes.{Appends, Consumes}
 use Rattle.gt_base.specs.declared.requests.Entry.{Entry}
-use Rattle.gt_base.specs.declared.limits.TheConstants.{LAST_MINUTE, MAX_STEPS}
+use Rattle.gt_base.specs.declared.limits.TheConstants.{LAST_MINUTE, MAX_BYTES, MAX_STEPS}
 use Rattle.gt_io.specs.Links.{Traffic, IsFresh, Reads}
 use Rattle.gtrbac_model.specs.Safety.{IsSafe}
 use Rattle.gtrbac_model.specs.Status.{Model}
@@ -17,7 +17,6 @@ use Rattle.line_server.specs.declared.ended.Served.{Served}
 use Rattle.line_server.specs.Serving.{EndsBy, IsUnhindered, IsComplete}
 use Rattle.line_server.specs.Working.{Tale, begun_of, hours_of, WorksTo}
 use Rattle.connection_laws.specs.Doors.{Gives, AddUp}
-use Rattle.line_server.specs.declared.serve.TheConstants.{MOST_BYTES}
 use Rattle.gtrbac_daemon.specs.Crew.{Crewman}
 
 module _ {L : Type 0} (traffic : L → Traffic) (np : NamedPolicy) (birth : ℕ) (h : List Entry)
@@ -34,7 +33,7 @@ module _ {L : Type 0} (traffic : L → Traffic) (np : NamedPolicy) (birth : ℕ)
     pub taken_is : Appends (traffic x.begun).taken (traffic s.link).taken x.taken
     pub left_is : Consumes (traffic x.begun).left (traffic s.link).left x.taken
     pub given_is : Appends (traffic x.begun).given (traffic s.link).given x.given
-    pub bounded : length x.taken ≤ MOST_BYTES
+    pub bounded : length x.taken ≤ MAX_BYTES
     pub cause : EndsBy (traffic x.begun) (traffic s.link) x.draws x.taken s.report.outcome
     pub finished : (traffic s.link).finished ≡ true
     pub complete : IsUnhindered (traffic x.begun) (traffic s.link) x.taken s.report.outcome

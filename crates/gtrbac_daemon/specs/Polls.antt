@@ -2,7 +2,7 @@
 use Rattle.std.specs.Prelude.{◌≡◌, ◌⊎◌, ◌≤◌, ◌<◌, ◌+◌, ◌*◌, ℕ, List, [], ◌∷◌, length, slice_get, true, None, Some, Ok, Err}
 use Rattle.std.specs.declared.option.Option.{Option}
 use Rattle.gt_base.specs.declared.requests.Entry.{Entry}
-use Rattle.gt_base.specs.declared.limits.TheConstants.{LAST_MINUTE, MAX_STEPS}
+use Rattle.gt_base.specs.declared.limits.TheConstants.{LAST_MINUTE, MAX_LINKS, MAX_STEPS}
 use Rattle.gt_io.specs.Causes.{Rose}
 use Rattle.gt_io.specs.Links.{Reads}
 use Rattle.gt_io.specs.declared.source.Failed.{Failed}
@@ -30,7 +30,6 @@ use Rattle.poll_front.specs.declared.front.RunEnd.TheVariants.{Stopped, PortFaul
 use Rattle.poll_front.specs.Fronts.{all_acted}
 use Rattle.poll_front.specs.Tables.{RunsTo, FaultsAreLast, is_worn_end, AreUnwornEnds}
 use Rattle.poll_front.specs.Polling.{IsPolledFront}
-use Rattle.poll_front.specs.declared.front.TheConstants.{MOST_LINKS}
 use Rattle.gtrbac_daemon.specs.Words.{poll_named, Refuses, Admits, IsFound, IsAdmitFailure, IsSteadyFor, HasText, LacksText}
 use Rattle.gtrbac_daemon.specs.Daemon.{IsWritten}
 
@@ -43,8 +42,9 @@ poll_status Worn = 11
 poll_status Memory = 8
 
 -- What one pass has served: all links are told over the history, which has no other entries of it;
--- and why the run ended. It drew a turn for each entry, and at most two more for each reading. No
--- read and no write came after one of the same link that failed, and no `next` after one that failed
+-- and why the run ended. It drew a turn for each entry, and at most two more for each reading.
+-- After a read or write that failed there was no other of the same link, and no `next` after one
+-- that failed
 pub record HasPolled (np : NamedPolicy) (birth : ℕ) (clock clock' : Option (ℕ → ℕ)) (a b : Harbour)
     (ends : List Polled) (h : List Entry) (end : RunEnd) : Type 0 where
   pub front : IsPolledFront np birth h clock clock' a b ends
@@ -166,13 +166,13 @@ HasFailedToTell b = (f : Failed) × (b.ports.told ≡ Some (Err f))
 
 -- as many links were opened as may be, or a link found the pass worn
 abbrev pub IsUsedUp : PollScene → Type 0
-IsUsedUp b = (b.ports.opened ≡ MOST_LINKS)
+IsUsedUp b = (b.ports.opened ≡ MAX_LINKS)
     ⊎ ((i : ℕ) × ((e : Polled) × (slice_get b.ends i ≡ Some e) × (is_worn_end e.outcome ≡ true)))
 
 module _ (name : Option (List ℕ)) (status : ℕ) (a b : PollScene) where
   -- Each status has its cause. These are all statuses
   pub data PollCause : Type 0 where
-    stopped : status ≡ 0 → HasStopped b → b.ports.opened < MOST_LINKS → AreUnwornEnds b.ends
+    stopped : status ≡ 0 → HasStopped b → b.ports.opened < MAX_LINKS → AreUnwornEnds b.ends
         → PollCause
     no_command : status ≡ 1 → name ≡ None → PollCause
     faulty : status ≡ 2 → HasText name a.texts HasTextFault → PollCause

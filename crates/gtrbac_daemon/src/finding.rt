@@ -1,6 +1,7 @@
 //! The policy that the server is to serve.
 ghost use Rattle.std.specs.Prelude.{◌≡◌, IfOk};
 ghost use Rattle.gt_io.specs.Causes.{Rose};
+ghost use Rattle.gt_io.specs.Shelf.{AsksOnce};
 ghost use Rattle.gtrbac_daemon.specs.Words.{IsFound, IsAdmitFailure, IsSteadyFor};
 
 use gt_base::Memory;
@@ -22,6 +23,7 @@ pub(crate) fn find_policy<S: Shelf>(
     ensures steady { IfOk result
         (IsSteadyFor ((S.stock shelf.new).hard_faults ≡ (S.stock shelf.old).hard_faults)) }
     ensures same { (S.stock shelf.new).contents ≡ (S.stock shelf.old).contents }
+    ensures once { AsksOnce (S.stock shelf.old) (S.stock shelf.new) }
 {
     match find_text(alloc, shelf, name)? {
         Found::Text(text) => admit(alloc, &text),

@@ -1,7 +1,7 @@
 //! The one call of the polling server: from words, policy, clocks and ports to the log and the exit
 //! status.
 ghost use Rattle.std.specs.Prelude.{◌≡◌, ◌⊎◌, ◌≤◌, [], ℕ, List, Some, None, map, string_bytes, length, IfOk, OnErr};
-ghost use Rattle.gt_io.specs.Shelf.{Stock};
+ghost use Rattle.gt_io.specs.Shelf.{AsksOnce, Stock};
 ghost use Rattle.turn_lock.specs.Holders.{newcomers};
 ghost use Rattle.turn_lock.specs.Turns.{part};
 ghost use Rattle.request_text.specs.Replies.{log_text};
@@ -206,11 +206,12 @@ pub fn daemon_poll<R: Wait, S: Shelf, B: Clock, P: Ports, C: Clock, G: Gate, K: 
 ) -> u8
     requires none { ends.old.items ≡ [] }
     requires ports { IsUncalled (P.harbour ports.old) }
-    ensures { RunsPoll (map string_bytes words.now) result
+    ensures runs { RunsPoll (map string_bytes words.now) result
         (poll_scene (S.stock shelf.old) (B.readings birth.old)
         (C.readings clock.old) (P.harbour ports.old) ends.old.items (K.output out.old))
         (poll_scene (S.stock shelf.new) (B.readings birth.new)
         (C.readings clock.new) (P.harbour ports.new) ends.new.items (K.output out.new)) }
+    ensures once { AsksOnce (S.stock shelf.old) (S.stock shelf.new) }
 {
     match poll_word(words) {
         Some(name) => match find_policy(alloc, name, shelf) {

@@ -1,7 +1,7 @@
 //! The one call of the server: from words, policy, clocks and links to the log and the exit status.
 ghost use Rattle.std.specs.Prelude.{◌≡◌, ◌≤◌, ℕ, List, Some, None, map, string_bytes, length, All};
 ghost use Rattle.gt_io.specs.Causes.{Rose};
-ghost use Rattle.gt_io.specs.Shelf.{Stock};
+ghost use Rattle.gt_io.specs.Shelf.{AsksOnce, Stock};
 ghost use Rattle.gtrbac_daemon.specs.Words.{policy_named};
 ghost use Rattle.gtrbac_daemon.specs.Crew.{IsNew, crewmen};
 ghost use Rattle.gtrbac_daemon.specs.Daemon.{scene, Serves, Answers, RunsServer};
@@ -88,6 +88,7 @@ where
         (crewmen C.readings D.links D.faults crew.new.items) (K.output out.new)) }
     ensures failed { result ≡ 4 → Rose (S.stock shelf.old).faults (S.stock shelf.new).faults }
     ensures same { (S.stock shelf.new).contents ≡ (S.stock shelf.old).contents }
+    ensures once { AsksOnce (S.stock shelf.old) (S.stock shelf.new) }
 {
     match find_policy(alloc, name, shelf) {
         Ok(found) => match found {
@@ -144,6 +145,7 @@ where
         (crewmen C.readings D.links D.faults crew.new.items) (K.output out.new)) }
     ensures unread { policy_named (map string_bytes words.now) ≡ None
         → (shelf.new ≡ shelf.old) × (birth.new ≡ birth.old) × (crew.new ≡ crew.old) }
+    ensures once { AsksOnce (S.stock shelf.old) (S.stock shelf.new) }
 {
     match policy_word(words) {
         Some(name) => serve_named(rt, alloc, name, shelf, birth, crew, out),

@@ -2,7 +2,7 @@
 //! exit status.
 ghost use Rattle.std.specs.Prelude.{◌≡◌, ◌≤◌, ℕ, List, None, map, string_bytes, length, All};
 ghost use Rattle.gt_base.specs.declared.requests.Entry.{Entry};
-ghost use Rattle.gt_io.specs.Shelf.{Stock};
+ghost use Rattle.gt_io.specs.Shelf.{AsksOnce, Stock};
 ghost use Rattle.snapshot_readers.specs.Seats.{watchers, IsNewViewer};
 ghost use Rattle.gtrbac_daemon.specs.Crew.{IsNew, crewmen};
 ghost use Rattle.gtrbac_daemon.specs.Views.{view_scene, ViewServes, RunsViews};
@@ -123,6 +123,7 @@ where
     ensures unread { views_named (map string_bytes words.now) ≡ None
         → (shelf.new ≡ shelf.old) × (birth.new ≡ birth.old) × (crew.new ≡ crew.old)
         × (viewers.new ≡ viewers.old) }
+    ensures once { AsksOnce (S.stock shelf.old) (S.stock shelf.new) }
 {
     let Some(name) = views_word(words) else {
         return print(out, 1, USAGE);

@@ -1,7 +1,7 @@
 -- Which expressions and periods are valid.
 use Rattle.std.specs.Prelude.{ℕ, Bool, true, false, ◌&&◌, ◌||◌, not, List, [], ◌∷◌, nat_le, nat_lt, Option, Some, None, is_some}
 use Rattle.std.specs.List.{list_all}
-use Rattle.gt_base.specs.declared.limits.TheConstants.{LAST_MINUTE}
+use Rattle.gt_base.specs.declared.limits.TheConstants.{LAST_MINUTE, MAX_LENGTH}
 use Rattle.gtrbac_model.specs.declared.calendars.Calendar.{Calendar}
 use Rattle.gtrbac_model.specs.declared.calendars.Calendar.TheVariants.{Years, Months, Weeks, Days, Hours, Minutes}
 use Rattle.gtrbac_model.specs.Period.{Part, Expr, Period}
@@ -57,7 +57,7 @@ from_all (p ∷ ps) unit = not (is_some p.set) && goes_down p.calendar ps unit
 
 -- the first part takes all, the others go down from it, and the length is 1 to 1,000
 abbrev pub is_expr : Expr → Bool
-is_expr e = from_all e.parts e.unit && nat_le 1 e.count && nat_le e.count 1000
+is_expr e = from_all e.parts e.unit && nat_le 1 e.count && nat_le e.count MAX_LENGTH
 
 abbrev pub is_period : Period → Bool
 is_period p = nat_le p.first p.last && nat_le p.last LAST_MINUTE && is_expr p.expr

@@ -17,7 +17,7 @@ use Rattle.gt_base.specs.declared.policies.HierEdge.{HierEdge}
 use Rattle.gt_base.specs.declared.policies.Caps.{Caps}
 use Rattle.gt_base.specs.declared.requests.Who.{Who}
 use Rattle.gt_base.specs.declared.requests.Entry.{Entry}
-use Rattle.gt_base.specs.declared.limits.TheConstants.{LAST_MINUTE, MAX_COUNT}
+use Rattle.gt_base.specs.declared.limits.TheConstants.{LAST_MINUTE, MAX_ASSIGNED, MAX_COUNT, MAX_EDGES, MAX_ENTRIES, MAX_GRANTED, MAX_ITEMS, MAX_LIMITS, MAX_PERIODS, MAX_PERMS, MAX_POLICY_PRIO, MAX_ROLES, MAX_TRIGGERS, MAX_USERS}
 use Rattle.gtrbac_model.specs.Same.{same_role}
 use Rattle.gtrbac_model.specs.Policy.{Policy}
 use Rattle.gtrbac_model.specs.Conflict.{Status, after}
@@ -39,7 +39,7 @@ module _ (p : Policy) where
   is_fluent (Edge n) = nat_lt n (length p.edges)
 
   abbrev pub is_head : Prioritised → Bool
-  is_head h = nat_le h.prio 99 && is_fluent h.event.fluent
+  is_head h = nat_le h.prio MAX_POLICY_PRIO && is_fluent h.event.fluent
 
   abbrev pub is_signal : Signal → Bool
   is_signal s = nat_lt s.user.0 p.users && nat_lt s.role.0 p.roles
@@ -50,7 +50,8 @@ module _ (p : Policy) where
   -- a limit is of 1 to 1,000,000 minutes
   abbrev pub is_limit : LimitRule → Bool
   is_limit l =
-      is_fluent l.cond.fluent && nat_le l.prio 99 && nat_le 1 l.most && nat_le l.most MAX_COUNT
+      is_fluent l.cond.fluent && nat_le l.prio MAX_POLICY_PRIO && nat_le 1 l.most
+      && nat_le l.most MAX_COUNT
       && elim l.period [ None ↦ true | Some q ↦ nat_lt q.0 (length p.periods) ]
 
   -- an edge inherits, or activates, or both
@@ -64,7 +65,7 @@ module _ (p : Policy) where
       && list_all (λ c. is_fluent c.fluent) r.conds
       && list_all (λ c. is_fluent c.fluent) r.settled && is_head r.head
       && nat_le r.delay LAST_MINUTE
-      && nat_le (length r.events + length r.signals + length r.conds + length r.settled) 16
+      && nat_le (length r.events + length r.signals + length r.conds + length r.settled) MAX_ITEMS
 
 -- the body has an event or a signal
 abbrev pub has_cause : TriggerView → Bool
@@ -104,20 +105,20 @@ HasNoRing edges = (r : RoleId) (walk : List ℕ) → LeadsAlong (all_arcs edges)
 -- role to another and no ring of edges, a caps record for each role, and an event or a signal in
 -- each trigger's body
 pub record IsPolicy (p : Policy) : Type 0 where
-  pub roles : p.roles ≤ 1_000
-  pub users : p.users ≤ 10_000
-  pub perms : p.perms ≤ 10_000
-  pub periods : IsTrue (nat_le (length p.periods) 1_000 && list_all is_period p.periods)
-  pub limits : IsTrue (nat_le (length p.limits) 1_000 && list_all (is_limit p) p.limits)
-  pub edges : IsTrue (nat_le (length p.edges) 4_000 && list_all (is_edge p) p.edges
+  pub roles : p.roles ≤ MAX_ROLES
+  pub users : p.users ≤ MAX_USERS
+  pub perms : p.perms ≤ MAX_PERMS
+  pub periods : IsTrue (nat_le (length p.periods) MAX_PERIODS && list_all is_period p.periods)
+  pub limits : IsTrue (nat_le (length p.limits) MAX_LIMITS && list_all (is_limit p) p.limits)
+  pub edges : IsTrue (nat_le (length p.edges) MAX_EDGES && list_all (is_edge p) p.edges
       && not (joined_twice p.edges))
   pub no_ring : HasNoRing p.edges
   pub caps_a_role : length p.caps ≡ p.roles
   pub caps : IsTrue (list_all are_caps p.caps)
   pub admins : IsTrue (list_all (λ u. nat_lt u.0 p.users) p.admins && admins_rise p.admins)
   pub opening : IsTrue (list_all (is_fluent p) (members p.opening))
-  pub few_assigned : count_by is_assignment (members p.opening) ≤ 50_000
-  pub few_granted : count_by is_grant (members p.opening) ≤ 50_000
-  pub entries : IsTrue (nat_le (length p.entries) 4_000 && list_all (is_entry p) p.entries)
-  pub triggers : IsTrue (nat_le (length p.triggers) 4_000 && list_all (is_rule p) p.triggers)
+  pub few_assigned : count_by is_assignment (members p.opening) ≤ MAX_ASSIGNED
+  pub few_granted : count_by is_grant (members p.opening) ≤ MAX_GRANTED
+  pub entries : IsTrue (nat_le (length p.entries) MAX_ENTRIES && list_all (is_entry p) p.entries)
+  pub triggers : IsTrue (nat_le (length p.triggers) MAX_TRIGGERS && list_all (is_rule p) p.triggers)
   pub causes : IsTrue (list_all has_cause p.triggers)

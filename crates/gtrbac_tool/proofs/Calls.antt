@@ -1,8 +1,10 @@
 -- What the parts of a call say together.
-use Rattle.std.proofs.Common.{◌≡◌, ℕ, List, Option, Some, None, ◌⊎◌, inl, inr, refl, sym, ◌∙◌, subst}
+use Rattle.std.proofs.Common.{arith, ◌≡◌, ◌+◌, ℕ, List, [], Option, Some, None, ◌⊎◌, inl, inr, refl, sym, ◌∙◌, subst}
 use Rattle.std.specs.Prelude.{Result, IfOk, IsTrue, IsSomeAnd}
 use Rattle.std.specs.Io.KnownBytes.{IsAtEnd}
-use Rattle.gt_io.specs.Causes.{Rose}
+use Rattle.std.proofs.KnownBytes.{Consumes-nil}
+use Rattle.gt_io.specs.Causes.{Rose, TakesFront}
+use Rattle.gt_io.specs.declared.source.TheConstants.{PIECE}
 use Rattle.gt_io.specs.Shelf.{Contents}
 use Rattle.gt_text.specs.Lines.{lines_of}
 use Rattle.policy_commands.specs.Ends.{EndView, seen_end}
@@ -18,8 +20,9 @@ use Rattle.gtrbac_tool.specs.Writing.{Prints, IsCutShort}
 use Rattle.gtrbac_tool.specs.Answers.{GivesEnds, IsSteadyAt, IsCountedAt, IsReadAt, TellsAnswer}
 use Rattle.gtrbac_tool.specs.Ends.{TextEnds, FoundEnds, IsNoCommand, generated, unspoken, spoken}
 use Rattle.gtrbac_tool.specs.Scenes.{Scene}
+use Rattle.gtrbac_tool.specs.declared.top.TheConstants.{MAX_SCRIPT}
 use Rattle.gtrbac_tool.specs.Causes.{perhaps, OnShelf, Short, AsksForScript}
-use Rattle.gtrbac_tool.specs.Tool.{Answers, Leaves, RunsTool}
+use Rattle.gtrbac_tool.specs.Tool.{Answers, IsAskedOnce, Leaves, RunsTool}
 use Rattle.gtrbac_tool.proofs.Causing.{gen_no_command, played_status, status_of}
 use Rattle.gtrbac_tool.proofs.Answering.{gives_so, counted_text}
 use Rattle.gtrbac_tool.proofs.Exactness.{none_apart, has_some, on_shelf, text_four, runs}
@@ -27,6 +30,13 @@ use Rattle.gtrbac_tool.proofs.Succeeding.{gen_succeeds}
 
 abbrev Playing : Command → Type 0
 Playing c = IsTrue (plays_script c)
+
+-- nothing was asked
+asked_none : {S I : Type 0} (a b : Scene S I) → b.asked ≡ a.asked → b.shelf_stops ≡ a.shelf_stops → b.input_stops ≡ a.input_stops → IsAskedOnce a b
+asked_none a b one shelf input = record { one = omega (arith, one); shelf = omega (arith, shelf); input = omega (arith, input) }
+
+pub takes_none : (most : ℕ) (left : Option (List ℕ)) → TakesFront most left left
+takes_none most left = ([], omega arith, Consumes-nil left)
 
 -- a call that touches its output alone
 module _ {S I : Type 0} (words : List (List ℕ)) (status : ℕ) (a : Scene S I) (w : Option (List ℕ)) (n : ℕ) where
@@ -41,6 +51,8 @@ module _ {S I : Type 0} (words : List (List ℕ)) (status : ℕ) (a : Scene S I)
         untouched = inl refl;
         read = λ h ran. absurd (subst (λ (o : Option Command). IsSomeAnd o Playing) none h);
         counted = λ four. absurd (other four);
+        once = asked_none a After refl refl refl;
+        short = takes_none _ a.script;
       }
 
   printed_other : (end : EndView) → (end.status ≡ 4 → ⊥) → IsPrinted status end a.written w a.written_faults n → status ≡ 4 → ⊥
@@ -81,14 +93,16 @@ module _ {S I : Type 0} (words : List (List ℕ)) (c : Command) (is : command_of
   starved status wants = inl ((λ none. none_apart (command_of words) c none.0 is), wants)
 
   module _ (same : b.texts ≡ a.texts) (kept : (b.input ≡ a.input) ⊎ OnShelf perhaps a.texts (Short AsksForScript) c) where
-    leaves : (status : ℕ) → (Playing c → IsRunStatus status → IsAtEnd b.script) → (status ≡ 4 → Rose a.shelf_faults b.shelf_faults ⊎ Rose a.input_faults b.input_faults) → Leaves words status a b
-    leaves status read counted =
+    leaves : IsAskedOnce a b → TakesFront (MAX_SCRIPT + PIECE) a.script b.script → (status : ℕ) → (Playing c → IsRunStatus status → IsAtEnd b.script) → (status ≡ 4 → Rose a.shelf_faults b.shelf_faults ⊎ Rose a.input_faults b.input_faults) → Leaves words status a b
+    leaves once short status read counted =
         record {
           texts = same;
           unread = λ none. absurd (none_apart (command_of words) c none is);
           untouched = elim kept [ inl e ↦ inl e | inr due ↦ inr (has_some (OnShelf perhaps a.texts (Short AsksForScript)) (command_of words) c is due) ];
           read = λ h ran. read (subst (λ (o : Option Command). IsSomeAnd o Playing) is h) ran;
           counted = counted;
+          once = once;
+          short = short;
         }
 
     no_run : IsRunStatus 8 → ⊥
@@ -99,8 +113,8 @@ module _ {S I : Type 0} (words : List (List ℕ)) (c : Command) (is : command_of
     eight_four : ◌≡◌ {A = ℕ} 8 4 → ⊥
     eight_four e = cc (e)
 
-    pub starved_leaves : Leaves words 8 a b
-    starved_leaves = leaves 8 (λ plays ran. absurd (no_run ran)) (λ four. absurd (eight_four four))
+    pub starved_leaves : IsAskedOnce a b → TakesFront (MAX_SCRIPT + PIECE) a.script b.script → Leaves words 8 a b
+    starved_leaves once short = leaves once short 8 (λ plays ran. absurd (no_run ran)) (λ four. absurd (eight_four four))
 
     five_run : (status : ℕ) → status ≡ 5 → IsRunStatus status → ⊥
     five_run status five (inl e) = cc (five, e)
@@ -156,8 +170,8 @@ module _ {S I : Type 0} (words : List (List ℕ)) (c : Command) (is : command_of
     counted_after status (Ended end) (inr p) counted four = absurd (five_four status p.0 four)
     counted_after status (Script np text) tells counted four = absurd (not_four status tells.0 (played_status np (lines_of text.items) tells.0 tells.1) tells.2 four)
 
-    pub all_leaves : (status : ℕ) (answer : Answer) → Tells answer status → (Playing c → IsReadAt ReadAtEnd answer) → IsCountedAt Counted answer → Leaves words status a b
-    all_leaves status answer tells read counted = leaves status (read_after status answer tells read) (counted_after status answer tells counted)
+    pub all_leaves : IsAskedOnce a b → TakesFront (MAX_SCRIPT + PIECE) a.script b.script → (status : ℕ) (answer : Answer) → Tells answer status → (Playing c → IsReadAt ReadAtEnd answer) → IsCountedAt Counted answer → Leaves words status a b
+    all_leaves once short status answer tells read counted = leaves once short status (read_after status answer tells read) (counted_after status answer tells counted)
 
 -- a command over what the shelf has by its name
 module _ (hard failed : Type 0) (c : Command) (texts : Contents) (input : Option (List ℕ)) (name : List ℕ) (named : name ≡ named_by c) where

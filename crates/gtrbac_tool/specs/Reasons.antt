@@ -1,5 +1,5 @@
 -- That what is told of an event of a settled set has a reason, and a converse where it is blocked.
-use Rattle.std.specs.Prelude.{◌≡◌, ◌⊎◌, ℕ, ◌-◌, ◌≤◌, true, ⊤, List, length, Some}
+use Rattle.std.specs.Prelude.{◌≡◌, ◌⊎◌, ℕ, ◌+◌, ◌-◌, ◌≤◌, true, ⊤, List, length, Some}
 use Rattle.gt_base.specs.Held.{TriggerView}
 use Rattle.gt_base.specs.Events.{converse}
 use Rattle.gt_base.specs.Happening.{HappenedView}
@@ -9,6 +9,7 @@ use Rattle.gt_base.specs.declared.events.Prioritised.{Prioritised}
 use Rattle.gt_base.specs.declared.requests.Entry.{Entry}
 use Rattle.gt_base.specs.declared.requests.Seen.{Seen}
 use Rattle.gt_base.specs.declared.requests.Seen.TheVariants.{Unblocked, Blocked, Absent}
+use Rattle.gt_base.specs.declared.limits.TheConstants.{MAX_PRIO}
 use Rattle.gtrbac_model.specs.Base.{status, base_at}
 use Rattle.gtrbac_model.specs.Conflict.{Status, greatest_below, seen, stands_at}
 use Rattle.gtrbac_model.specs.History.{Legal, now_of, point_after}
@@ -30,7 +31,8 @@ HasReason rules base before x e =
 
 -- the converse is in the set, and so at a greatest priority
 abbrev pub HasConverse : HappenedView → Event → Type 0
-HasConverse x e = (q : ℕ) × (q ≤ 100) × (greatest_below (stands_at x (converse e)) 101 ≡ Some q)
+HasConverse x e = (q : ℕ) × (q ≤ MAX_PRIO)
+    × (greatest_below (stands_at x (converse e)) (MAX_PRIO + 1) ≡ Some q)
 
 abbrev pub IsExplained : List TriggerView → HappenedView → Status → HappenedView → Event → Seen
     → Type 0

@@ -6,6 +6,7 @@ use Rattle.gt_base.specs.Happening.{HappenedView}
 use Rattle.gt_base.specs.Sets.{has}
 use Rattle.gt_base.specs.declared.events.Event.{Event}
 use Rattle.gt_base.specs.declared.events.Prioritised.{Prioritised}
+use Rattle.gt_base.specs.declared.limits.TheConstants.{MAX_PRIO}
 use Rattle.gt_base.specs.declared.requests.Entry.{Entry}
 use Rattle.gt_base.specs.declared.requests.Seen.{Seen}
 use Rattle.gt_base.specs.declared.requests.Seen.TheVariants.{Unblocked, Blocked, Absent}
@@ -58,7 +59,7 @@ standing_line rules base before x named e (Unblocked p) =
     codes "yes " ++ decimal p ++ codes " " ++ reason rules base before x (at_prio p e) ++ codes "\n"
 standing_line rules base before x named e (Blocked p) =
     codes "blocked " ++ decimal p ++ codes " " ++ reason rules base before x (at_prio p e)
-    ++ by_word named (greatest_below (stands_at x (converse e)) 101) ++ codes "\n"
+    ++ by_word named (greatest_below (stands_at x (converse e)) (MAX_PRIO + 1)) ++ codes "\n"
 
 abbrev pub certificate_line : List Listed → List ℕ
 certificate_line cert = codes "certificate " ++ decimal (length cert) ++ codes "\n"

@@ -10,6 +10,7 @@ use Rattle.civil_time.specs.Text.{civil_text}
 use Rattle.policy_words.specs.Naming.{NamedPolicy}
 use Rattle.policy_commands.specs.Ends.{EndView, told}
 use Rattle.policy_commands.specs.Policies.{safe_in}
+use Rattle.policy_gen.specs.declared.made.TheConstants.{MAX_SIZE}
 use Rattle.policy_gen.specs.Texts.{policy_text, script_text}
 use Rattle.request_text.specs.Replies.{reply_text}
 use Rattle.gtrbac_tool.specs.Script.{ScriptStart, never, born, failed, start_of, RunOver}
@@ -24,7 +25,7 @@ pub record IsGen (words : List (List ℕ)) (g : Gen) : Type 0 where
   pub words_are : words ≡ codes "gen" ∷ decimal g.seed ∷ decimal g.size ∷ []
   pub seed : g.seed < 2 ^ 64
   pub low : 1 ≤ g.size
-  pub high : g.size ≤ 100_000
+  pub high : g.size ≤ MAX_SIZE
 
 abbrev pub IsNoGen : List (List ℕ) → Type 0
 IsNoGen words = (g : Gen) → IsGen words g → ⊥

@@ -1,9 +1,11 @@
 -- What a call of the program promises.
-use Rattle.std.specs.Prelude.{◌≡◌, ◌⊎◌, ℕ, List, None, IsTrue, IsSomeAnd}
+use Rattle.std.specs.Prelude.{◌≡◌, ◌⊎◌, ◌+◌, ℕ, List, None, IsTrue, IsSomeAnd}
 use Rattle.std.specs.Io.KnownBytes.{IsAtEnd}
-use Rattle.gt_io.specs.Causes.{Rose}
+use Rattle.gt_io.specs.Causes.{AtMostOnce, Rose, TakesFront}
+use Rattle.gt_io.specs.declared.source.TheConstants.{PIECE}
 use Rattle.policy_commands.specs.Ends.{EndView}
 use Rattle.policy_commands.specs.Printing.{IsPrinted, WantsMemory}
+use Rattle.gtrbac_tool.specs.declared.top.TheConstants.{MAX_SCRIPT}
 use Rattle.gtrbac_tool.specs.Script.{IsRunStatus}
 use Rattle.gtrbac_tool.specs.Commands.{command_of, plays_script, IsPlainRun}
 use Rattle.gtrbac_tool.specs.Writing.{IsCutShort}
@@ -45,9 +47,17 @@ module _ {S I : Type 0} where
       (status ≡ s) ⊎ ((status ≡ 4) × IsUnread a b) ⊎ ((status ≡ 5) × IsUnwritten a b)
       ⊎ (status ≡ 8)
 
+  -- one text was asked for at most, and behind a call of the shelf or of the input that failed or
+  -- told the end there was none
+  pub record IsAskedOnce (a b : Scene S I) : Type 0 where
+    pub one : AtMostOnce a.asked b.asked
+    pub shelf : AtMostOnce a.shelf_stops b.shelf_stops
+    pub input : AtMostOnce a.input_stops b.input_stops
+
   -- What is read and what is left: the texts stay; words that are no command over a policy touch
   -- neither shelf nor input; the input is untouched but where a script is due, and read to its end
-  -- where that was run; and at 4 the shelf or the input counts a failure
+  -- where that was run; at 4 the shelf or the input counts a failure; nothing is asked for twice; and
+  -- a script that is too long is read no further than the piece that shows it
   pub record Leaves (words : List (List ℕ)) (status : ℕ) (a b : Scene S I) : Type 0 where
     pub texts : b.texts ≡ a.texts
     pub unread : command_of words ≡ None → (b.shelf ≡ a.shelf) × (b.input ≡ a.input)
@@ -56,6 +66,8 @@ module _ {S I : Type 0} where
         → IsAtEnd b.script
     pub counted : status ≡ 4
         → Rose a.shelf_faults b.shelf_faults ⊎ Rose a.input_faults b.input_faults
+    pub once : IsAskedOnce a b
+    pub short : TakesFront (MAX_SCRIPT + PIECE) a.script b.script
 
   -- What `tool` promises over the words, by its status, from its surroundings before to those
   -- after: what it ends with is printed; the status has its cause; a cause has its status; where it

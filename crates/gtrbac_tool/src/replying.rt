@@ -14,7 +14,7 @@ use crate::answers::Answer;
 use crate::script::{Played, Run, fault_word, play_line, stopped};
 use crate::starting::{Start, find_start};
 use core_machine::Book;
-use gt_base::{Actor, Instant};
+use gt_base::{Actor, Instant, List};
 use gt_io::{Failed, Sink, write_all};
 use gt_text::Lines;
 use policy_commands::print;
@@ -25,12 +25,13 @@ use std::alloc::Global;
 const PIECE: usize = 65_536;
 
 /// Writes the text that waits, where it is long.
-fn hand_out<K: Sink>(text: &mut Vec<u8>, out: &mut K) -> Result<(), Failed>
+fn hand_out<K: Sink>(text: &mut List<u8>, out: &mut K) -> Result<(), Failed>
     ensures sent { OnOk result
         (Sends (K.output out.old).written (K.output out.new).written text.old.items
         text.new.items) }
     ensures part { OnErr result
         (AppendsPart (K.output out.old).written (K.output out.new).written text.old.items) }
+    ensures short { OnOk result (length text.new.items < PIECE) }
     ensures cause { HasCause (K.output out.old).faults (K.output out.new).faults result }
 {
     if text.len() < PIECE {
@@ -42,12 +43,19 @@ fn hand_out<K: Sink>(text: &mut Vec<u8>, out: &mut K) -> Result<(), Failed>
 }
 
 /// Prints the end at a line of a script, behind the text that waits.
-fn print_stop<K: Sink>(text: Vec<u8>, status: u8, number: u32, what: &[u8], out: &mut K) -> u8
+fn print_stop<K: Sink>(
+    alloc: Global,
+    text: List<u8>,
+    status: u8,
+    number: u32,
+    what: &[u8],
+    out: &mut K,
+) -> u8
     ensures { Prints (λ end. end ≡ behind text.items (told status (script_line number what.now)))
         result (K.output out.old).written (K.output out.new).written (K.output out.old).faults
         (K.output out.new).faults }
 {
-    match stopped(text, status, number, what) {
+    match stopped(alloc, text, status, number, what) {
         Ok(end) => print(out, end.status, end.text.as_slice()),
         Err(_) => 8,
     }
@@ -79,11 +87,11 @@ fn write_out<K: Sink>(mut run: Run, mut lines: Lines<'_>, before: u32, out: &mut
                 }
                 Played::Full => {
                     run.book.keeps();
-                    return print_stop(run.text, 9, number, b"steps full", out);
+                    return print_stop(run.alloc, run.text, 9, number, b"steps full", out);
                 }
                 Played::Bad(fault) => {
                     run.book.keeps();
-                    return print_stop(run.text, 7, number, fault_word(fault), out);
+                    return print_stop(run.alloc, run.text, 7, number, fault_word(fault), out);
                 }
             },
             Err(_) => return 8,
@@ -111,9 +119,10 @@ fn write_from<K: Sink>(
     match Book::new(alloc, safe, birth) {
         Ok(book) => {
             let run = Run {
+                alloc,
                 book,
                 actor: Actor::Operator,
-                text: Vec::new(alloc),
+                text: List::new(alloc),
             };
             write_out(run, lines, before, out)
         }
@@ -129,12 +138,12 @@ fn write_script<K: Sink>(alloc: Global, safe: Safe, script: &[u8], out: &mut K) 
         (K.output out.new).faults }
 {
     let mut lines = Lines::new(script);
-    let text = Vec::new(alloc);
+    let text = List::new(alloc);
     match find_start(safe.policy(), &mut lines) {
         Start::Never => print(out, 0, b""),
         Start::Born(birth, number) => write_from(alloc, safe, birth, lines, number, out),
-        Start::Bad(fault, number) => print_stop(text, 7, number, fault_word(fault), out),
-        Start::Unborn(number) => print_stop(text, 7, number, b"birth", out),
+        Start::Bad(fault, number) => print_stop(alloc, text, 7, number, fault_word(fault), out),
+        Start::Unborn(number) => print_stop(alloc, text, 7, number, b"birth", out),
     }
 }
 

@@ -13,7 +13,7 @@ use gt_base::{Actor, Instant, List, Memory, Request, StepFault, Who};
 use gt_text::{Lines, push_number};
 use policy_commands::End;
 use policy_safety::Safe;
-use request_text::{Line, LineFault, read_line, write_reply};
+use request_text::{Line, LineFault, push_reply, read_line};
 use std::alloc::{AllocError, Global};
 
 /// The one worker and the one connection of a script.
@@ -22,9 +22,10 @@ const SCRIPT: Who = Who { worker: 0, conn: 1 };
 /// Where a run stands: its book, who acts, and the replies so far.
 #[derive(Drop)]
 pub(crate) struct Run {
+    pub(crate) alloc: Global,
     pub(crate) book: Book,
     pub(crate) actor: Actor,
-    pub(crate) text: Vec<u8>,
+    pub(crate) text: List<u8>,
 }
 
 /// How a line was played: the run goes on, a step was asked for with a full history, or the line is
@@ -70,8 +71,7 @@ fn put(run: &mut Run, request: Request) -> Result<bool, Memory>
     run.book.keeps();
     match run.book.ask(SCRIPT, run.actor, request) {
         Ok(reply) => {
-            let line = write_reply(*run.text.allocator(), run.book.policy(), &reply)?;
-            run.text.extend_from_slice(line.as_slice())?;
+            push_reply(&mut run.text, run.book.policy(), &reply)?;
             Ok(true)
         }
         Err(StepFault::StepsFull) => Ok(false),
@@ -101,7 +101,7 @@ pub(crate) fn play_line(run: &mut Run, line: &[u8]) -> Result<Played, Memory>
             Line::Silent => Ok(Played::On),
             Line::Be(actor) => {
                 run.actor = actor;
-                run.text.extend_from_slice(b"ok\n")?;
+                run.text.push_all(b"ok\n")?;
                 Ok(Played::On)
             }
             Line::At(minute) => Ok(after_step(go(&mut run.book, minute)?)),
@@ -122,9 +122,23 @@ pub(crate) fn fault_word(fault: LineFault) -> &'static [u8]
     }
 }
 
+/// What is told of a line of a script at which a run stops.
+fn stop_line(alloc: Global, number: u32, what: &[u8]) -> Result<Vec<u8>, Memory>
+    ensures { IfOk result (λ line. line.items ≡ script_line number what.now) }
+{
+    let mut line = Vec::new(alloc);
+    line.extend_from_slice(b"script ")?;
+    push_number(&mut line, u64::from(number))?;
+    line.extend_from_slice(b": ")?;
+    line.extend_from_slice(what)?;
+    line.extend_from_slice(b"\n")?;
+    Ok(line)
+}
+
 /// The end at a line of a script, behind the text so far.
 pub(crate) fn stopped(
-    mut text: Vec<u8>,
+    alloc: Global,
+    mut text: List<u8>,
     status: u8,
     number: u32,
     what: &[u8],
@@ -132,15 +146,9 @@ pub(crate) fn stopped(
     ensures { IfOk result
         (λ end. seen_end end ≡ behind text.items (told status (script_line number what.now))) }
 {
-    text.extend_from_slice(b"script ")?;
-    push_number(&mut text, u64::from(number))?;
-    text.extend_from_slice(b": ")?;
-    text.extend_from_slice(what)?;
-    text.extend_from_slice(b"\n")?;
-    Ok(End {
-        status,
-        text: List::from(text),
-    })
+    let line = stop_line(alloc, number, what)?;
+    text.push_all(line.as_slice())?;
+    Ok(End { status, text })
 }
 
 /// What a run left: its book, and its end.
@@ -158,11 +166,12 @@ fn ended(run: Run, status: u8, number: u32, what: &[u8]) -> Result<Outcome, Memo
         ≡ behind run.text.items (told status (script_line number what.now)))) }
 {
     let Run {
+        alloc,
         book,
         actor: _,
         text,
     } = run;
-    let end = stopped(text, status, number, what)?;
+    let end = stopped(alloc, text, status, number, what)?;
     Ok(Outcome { book, end })
 }
 
@@ -192,16 +201,14 @@ fn play_out(mut run: Run, mut lines: Lines<'_>, before: u32) -> Result<Outcome, 
     }
     run.book.keeps();
     let Run {
+        alloc: _,
         book,
         actor: _,
         text,
     } = run;
     Ok(Outcome {
         book,
-        end: End {
-            status: 0,
-            text: List::from(text),
-        },
+        end: End { status: 0, text },
     })
 }
 
@@ -220,9 +227,10 @@ pub(crate) fn from_birth(
     match Book::new(alloc, safe, birth) {
         Ok(book) => {
             let run = Run {
+                alloc,
                 book,
                 actor: Actor::Operator,
-                text: Vec::new(alloc),
+                text: List::new(alloc),
             };
             play_out(run, lines, before)
         }

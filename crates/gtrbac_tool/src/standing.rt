@@ -7,7 +7,9 @@ ghost use Rattle.gtrbac_tool.specs.Standing.{raises, first_raising, reason, by_w
 
 use crate::explaining::{explain, status_after};
 use core_machine::{Book, Closed};
-use gt_base::{Event, Happened, Instant, Memory, Prio, Prioritised, Seen, Status, Trigger};
+use gt_base::{
+    Event, Happened, Instant, MAX_PRIO, Memory, Prio, Prioritised, Seen, Status, Trigger,
+};
 use gt_text::push_number;
 use policy_book::Policy;
 use policy_lines::push_event;
@@ -192,7 +194,7 @@ fn add_standing(
             add_blocker(
                 text,
                 &subject.named,
-                greatest(x.set(), event.converse(), 101),
+                greatest(x.set(), event.converse(), MAX_PRIO + 1),
             )?;
             text.extend_from_slice(b"\n")
         }

@@ -76,9 +76,15 @@ pub(crate) fn begin(alloc: Global, safe: Safe, script: &[u8]) -> Result<Ran, Mem
             Ok(Ran::Born(from_birth(alloc, safe, birth, lines, number)?))
         }
         Start::Bad(fault, number) => {
-            Ok(Ran::Unborn(stopped(Vec::new(alloc), 7, number, fault_word(fault))?))
+            Ok(Ran::Unborn(stopped(alloc, List::new(alloc), 7, number, fault_word(fault))?))
         }
-        Start::Unborn(number) => Ok(Ran::Unborn(stopped(Vec::new(alloc), 7, number, b"birth")?)),
+        Start::Unborn(number) => Ok(Ran::Unborn(stopped(
+            alloc,
+            List::new(alloc),
+            7,
+            number,
+            b"birth",
+        )?)),
     }
 }
 

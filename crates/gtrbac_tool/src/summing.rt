@@ -15,7 +15,7 @@ use core_machine::Book;
 use gt_base::{Decision, Entry, List, Memory, Reply, Step};
 use gt_text::{push_number, read_between, read_number};
 use policy_commands::{Admitted, End, admit};
-use policy_gen::make;
+use policy_gen::{MAX_SIZE, make};
 use policy_safety::Safe;
 use std::alloc::Global;
 
@@ -42,7 +42,7 @@ fn recipe_in(seed: &str, size: &str) -> Option<Recipe>
     ensures none { IfNone result (IsNoGen (codes "gen" ∷ seed.now ∷ size.now ∷ [])) }
 {
     let seed = read_number(seed.as_bytes())?;
-    let size = read_between(1, 100_000, size.as_bytes())?;
+    let size = read_between(1, MAX_SIZE, size.as_bytes())?;
     Some(Recipe { seed, size })
 }
 
@@ -212,7 +212,7 @@ fn play_and_sum(alloc: Global, recipe: Recipe, safe: Safe, script: &[u8]) -> Res
 /// Makes the policy and the script of a recipe, plays them, and sums up. It reads nothing.
 #[tactic(auto, using(crate::proofs::Tallying::gen_safe, crate::proofs::Tallying::gen_ended))]
 pub(crate) fn generate(alloc: Global, recipe: Recipe) -> Result<End, Memory>
-    requires { (1 ≤ recipe.size) × (recipe.size ≤ 100_000) }
+    requires { (1 ≤ recipe.size) × (recipe.size ≤ MAX_SIZE) }
     ensures { IfOk result (λ end. GenEnds (seen_recipe recipe) (seen_end end)) }
 {
     let made = make(alloc, recipe.seed, recipe.size)?;

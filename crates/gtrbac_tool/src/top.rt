@@ -1,9 +1,14 @@
 //! The one call of the program: from words, shelf and input to the output and the exit status.
-ghost use Rattle.std.specs.Prelude.{◌≡◌, ◌⊎◌, ◌≤◌, None, map, string_bytes, length, IfOk, IsSome, IsTrue};
+ghost use Rattle.std.specs.Prelude.{◌≡◌, ◌⊎◌, ◌≤◌, ◌+◌, None, map, string_bytes, length, IfOk, IsSome, IsTrue};
 ghost use Rattle.std.specs.Io.KnownBytes.{IsAtEnd};
-ghost use Rattle.gt_io.specs.Causes.{Rose};
+ghost use Rattle.gt_io.specs.Causes.{AtMostOnce, Rose, TakesFront};
+ghost use Rattle.gt_io.specs.Shelf.{AsksOnce};
+ghost use Rattle.gt_io.specs.Streams.{stops};
+ghost use Rattle.gt_io.specs.declared.source.TheConstants.{PIECE};
+ghost use Rattle.gtrbac_tool.specs.declared.top.TheConstants.{MAX_SCRIPT};
 ghost use Rattle.policy_commands.specs.Policies.{safe_in};
 ghost use Rattle.policy_commands.specs.declared.finding.TheConstants.{MAX_POLICY};
+ghost use Rattle.policy_gen.specs.declared.made.TheConstants.{MAX_SIZE};
 ghost use Rattle.gtrbac_tool.specs.Commands.{plays_script, seen_command, IsPlainRun};
 ghost use Rattle.gtrbac_tool.specs.Counted.{seen_recipe};
 ghost use Rattle.gtrbac_tool.specs.Summary.{IsNoGen, GenEnds};
@@ -44,6 +49,9 @@ fn run_script<I: Source>(
     ensures steady { IfOk result (IsSteadyAt ((I.intake input.new).faults
         ≡ (I.intake input.old).faults)) }
     ensures read { IfOk result (IsReadAt (IsAtEnd (I.intake input.new).left)) }
+    ensures once { AtMostOnce (stops (I.intake input.old)) (stops (I.intake input.new)) }
+    ensures taken { TakesFront (MAX_SCRIPT + PIECE) (I.intake input.old).left
+        (I.intake input.new).left }
 {
     match read_all(alloc, input, MAX_SCRIPT) {
         Ok(script) => play(alloc, safe, asked, script),
@@ -66,6 +74,9 @@ fn run_safe<I: Source>(
     ensures steady { IfOk result (IsSteadyAt ((I.intake input.new).faults
         ≡ (I.intake input.old).faults)) }
     ensures read { IfOk result (IsReadAt (IsAtEnd (I.intake input.new).left)) }
+    ensures once { AtMostOnce (stops (I.intake input.old)) (stops (I.intake input.new)) }
+    ensures taken { TakesFront (MAX_SCRIPT + PIECE) (I.intake input.old).left
+        (I.intake input.new).left }
     ensures untouched { (input.new ≡ input.old) ⊎ IsSome (asks_of safe question) }
 {
     match asks_of(safe.policy(), question) {
@@ -88,6 +99,9 @@ fn run<I: Source>(
     ensures steady { IfOk result (IsSteadyAt ((I.intake input.new).faults
         ≡ (I.intake input.old).faults)) }
     ensures read { IfOk result (IsReadAt (IsAtEnd (I.intake input.new).left)) }
+    ensures once { AtMostOnce (stops (I.intake input.old)) (stops (I.intake input.new)) }
+    ensures taken { TakesFront (MAX_SCRIPT + PIECE) (I.intake input.old).left
+        (I.intake input.new).left }
     ensures untouched { (input.new ≡ input.old) ⊎ IsAskedOf question text.now }
 {
     match admit(alloc, text)? {
@@ -111,6 +125,9 @@ fn answer_text<I: Source>(
         ≡ (I.intake input.old).faults)) }
     ensures read { IsTrue (plays_script (seen_command command.now))
         → IfOk result (IsReadAt (IsAtEnd (I.intake input.new).left)) }
+    ensures once { AtMostOnce (stops (I.intake input.old)) (stops (I.intake input.new)) }
+    ensures taken { TakesFront (MAX_SCRIPT + PIECE) (I.intake input.old).left
+        (I.intake input.new).left }
     ensures untouched { (input.new ≡ input.old)
         ⊎ AsksForScript (seen_command command.now) text.now }
 {
@@ -141,6 +158,10 @@ fn answer<S: Shelf, I: Source>(
     ensures same { (S.stock shelf.new).contents ≡ (S.stock shelf.old).contents }
     ensures read { IsTrue (plays_script (seen_command command.now))
         → IfOk result (IsReadAt (IsAtEnd (I.intake input.new).left)) }
+    ensures asks { AsksOnce (S.stock shelf.old) (S.stock shelf.new) }
+    ensures once { AtMostOnce (stops (I.intake input.old)) (stops (I.intake input.new)) }
+    ensures taken { TakesFront (MAX_SCRIPT + PIECE) (I.intake input.old).left
+        (I.intake input.new).left }
     ensures untouched { (input.new ≡ input.old)
         ⊎ OnShelf perhaps (S.stock shelf.old).contents (Short AsksForScript)
         (seen_command command.now) }
@@ -183,7 +204,7 @@ fn run_command<S: Shelf, I: Source, K: Sink>(
 
 /// Runs `gen` and prints to `out`.
 fn run_gen<K: Sink>(alloc: Global, recipe: Recipe, out: &mut K) -> u8
-    requires { (1 ≤ recipe.size) × (recipe.size ≤ 100_000) }
+    requires { (1 ≤ recipe.size) × (recipe.size ≤ MAX_SIZE) }
     ensures { Prints (GenEnds (seen_recipe recipe)) result (K.output out.old).written
         (K.output out.new).written
         (K.output out.old).faults (K.output out.new).faults }

@@ -5,6 +5,7 @@ use Rattle.gt_base.specs.declared.events.UserId.{UserId}
 use Rattle.gt_base.specs.declared.events.Fluent.TheVariants.{Assigned}
 use Rattle.gt_base.specs.declared.policies.HierEdge.{HierEdge}
 use Rattle.gt_base.specs.Held.{RoleWalk}
+use Rattle.gt_base.specs.declared.limits.TheConstants.{MAX_ROLES}
 use Rattle.gtrbac_model.specs.Conflict.{Status}
 use Rattle.gtrbac_model.specs.Graph.{item_at}
 use Rattle.gtrbac_model.specs.Hierarchy.{usable}
@@ -24,5 +25,5 @@ leads_to ok es at (n ∷ ns) role = elim (step_of ok es at n)
 -- whether the walk begins at a role to which the user is assigned, and leads to the role by edges
 -- that allow activation
 abbrev pub still_lets : List HierEdge → Status → UserId → RoleId → RoleWalk → Bool
-still_lets es s user role w = (nat_lt w.start.0 1_000 && s (Assigned user w.start))
+still_lets es s user role w = (nat_lt w.start.0 MAX_ROLES && s (Assigned user w.start))
     && leads_to (usable s false) es w.start w.edges role

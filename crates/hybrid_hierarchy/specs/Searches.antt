@@ -3,6 +3,7 @@ use Rattle.std.specs.Prelude.{◌≡◌, ℕ, ◌+◌, ◌-◌, ◌<◌, ◌≤�
 use Rattle.std.specs.List.{slice_index_or, range_with_len}
 use Rattle.gt_base.specs.declared.events.RoleId.{RoleId}
 use Rattle.gt_base.specs.declared.policies.HierEdge.{HierEdge}
+use Rattle.gt_base.specs.declared.limits.TheConstants.{MAX_ROLES}
 use Rattle.gtrbac_model.specs.Graph.{LeadsAlong, IsLeastWalk, item_at}
 use Rattle.gtrbac_model.specs.Hierarchy.{role_arcs}
 use Rattle.gtrbac_model.specs.Same.{same_role, lists}
@@ -27,7 +28,7 @@ leads_on first v = not (nat_eq (slice_index_or first v NO_EDGE) NO_EDGE)
 
 -- the roles from which an edge leads, ascending
 unfoldable pub seniors_in : List ℕ → List ℕ
-seniors_in first = filter (leads_on first) (range_with_len 0 1_000)
+seniors_in first = filter (leads_on first) (range_with_len 0 MAX_ROLES)
 
 -- a walk: where it ends and where it begins, the place of its begin among the starts, and the
 -- numbers of its edges
@@ -148,4 +149,4 @@ pub record IsGoalBy (ok : ℕ → HierEdge → Bool) (goal : RoleId → Bool) (e
 -- the roles of the list from number low on, ascending and each once
 unfoldable pub listed_from : List RoleId → ℕ → List ℕ
 listed_from roles low = filter (λ n. lists same_role roles (record { 0 = n }))
-    (range_with_len low (1_000 - low))
+    (range_with_len low (MAX_ROLES - low))

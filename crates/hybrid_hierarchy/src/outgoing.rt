@@ -4,7 +4,7 @@ ghost use Rattle.std.specs.List.{slice_index_or};
 ghost use Rattle.hybrid_hierarchy.specs.Nets.{IsHierarchy};
 ghost use Rattle.hybrid_hierarchy.specs.Searches.{seniors_in, IsOutgoing};
 
-use gt_base::{HierEdge, Memory};
+use gt_base::{HierEdge, MAX_ROLES, Memory};
 use std::alloc::Global;
 
 /// Stands for no edge.
@@ -25,7 +25,7 @@ pub(crate) fn outgoing_of(alloc: Global, edges: &[HierEdge]) -> Result<Outgoing,
     requires { IsHierarchy edges.now }
     ensures { IfOk result (λ out. IsOutgoing edges.now out.first.items out.next.items) }
 {
-    let mut first = no_edges(alloc, 1_000)?;
+    let mut first = no_edges(alloc, MAX_ROLES as usize)?;
     let mut next = no_edges(alloc, edges.len())?;
     let mut n = edges.len();
     while n > 0 {
@@ -54,7 +54,7 @@ fn no_edges(alloc: Global, n: usize) -> Result<Vec<u32>, Memory>
 fn seniors_of(alloc: Global, first: &[u32]) -> Result<Vec<u32>, Memory>
     ensures { IfOk result (λ seniors. seniors.items ≡ seniors_in first.now) }
 {
-    (0..1_000)
+    (0..MAX_ROLES)
         .filter(|r| first_at(first, *r) != NO_EDGE)
         .collect(alloc)
 }

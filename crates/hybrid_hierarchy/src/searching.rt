@@ -1,6 +1,7 @@
 //! The least walk by a search from its starts outward, which asks of no edge and no role more than
 //! it needs.
 ghost use Rattle.std.specs.Prelude.{◌≡◌, ℕ, Bool, ◌+◌, ◌<◌, ◌≤◌, ◌⊎◌, [], ◌∷◌, ◌++◌, true, false, replicate, not, length, count_by, IfOk, OnOk, MatchOption, Some};
+ghost use Rattle.gt_base.specs.declared.limits.TheConstants.{MAX_EDGES, MAX_ROLES};
 ghost use Rattle.gtrbac_model.specs.Graph.{IsLeastWalk, item_at};
 ghost use Rattle.gtrbac_model.specs.Hierarchy.{role_arcs};
 ghost use Rattle.walk_laws.specs.Laws.{HasNoWalk};
@@ -38,7 +39,7 @@ pub(crate) fn least<Q: WalkQuestion>(
 ) -> Result<Option<Walk>, Memory>
     requires hierarchy { IsHierarchy edges.now }
     requires outgoing { IsOutgoing edges.now out.now.first.items out.now.next.items }
-    requires starts { (i s : ℕ) → item_at from.now i ≡ Some s → s < 1_000 }
+    requires starts { (i s : ℕ) → item_at from.now i ≡ Some s → s < MAX_ROLES }
     ensures { IfOk result (λ found. MatchOption found
         (HasNoWalk (role_arcs (Q.passes asked.now) edges.now) (Q.goals asked.now)
         (roles_of from.now))
@@ -79,7 +80,7 @@ fn least_on<Q: WalkQuestion>(
 ) -> Result<Option<Walk>, Memory>
     requires hierarchy { IsHierarchy edges.now }
     requires outgoing { IsOutgoing edges.now out.now.first.items out.now.next.items }
-    requires starts { (i s : ℕ) → item_at from.now i ≡ Some s → s < 1_000 }
+    requires starts { (i s : ℕ) → item_at from.now i ≡ Some s → s < MAX_ROLES }
     requires no_goals { AreNoGoals (Q.goals asked.now) from.now }
     ensures { IfOk result (λ found. MatchOption found
         (HasNoWalk (role_arcs (Q.passes asked.now) edges.now) (Q.goals asked.now)
@@ -137,7 +138,7 @@ fn follow<Q: WalkQuestion>(
     seen: &mut [bool],
     queue: &mut Vec<Found>,
 ) -> Result<Option<u32>, Memory>
-    requires hierarchy { (length edges.now ≤ 4_000) × AreWithin (length seen.old) edges.now }
+    requires hierarchy { (length edges.now ≤ MAX_EDGES) × AreWithin (length seen.old) edges.now }
     requires outgoing { IsOutgoing edges.now out.now.first.items out.now.next.items }
     requires head { head < length queue.old.items }
     requires searched { HasSearched (Q.passes asked.now) (Q.goals asked.now) edges.now from.now

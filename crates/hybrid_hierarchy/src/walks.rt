@@ -11,11 +11,8 @@ ghost use Rattle.hybrid_hierarchy.specs.Searches.{IsOutgoing, leads_on, listed_f
 use crate::outgoing::{Outgoing, outgoing_of};
 use crate::questions::{Activating, Lending, LendingByAny, WalkQuestion};
 use crate::searching::least;
-use gt_base::{Fluent, HierEdge, List, Memory, PermId, RoleId, Status, UserId, Walk};
+use gt_base::{Fluent, HierEdge, List, MAX_ROLES, Memory, PermId, RoleId, Status, UserId, Walk};
 use std::alloc::Global;
-
-/// One more than the greatest number of a role.
-const ROLES: u32 = 1_000;
 
 /// Whether edge n is on and usable in the status: to lend permissions where `inherits`, else to
 /// allow activation. A weak edge that lends needs its senior enabled, a weak one that allows
@@ -57,7 +54,7 @@ fn assigned_roles(
 ) -> Result<Vec<u32>, Memory>
     ensures { IfOk result (λ roles. roles.items ≡ filter
         (λ r. leads_on out.now.first.items r
-        && has status.now.set (Assigned user (record { 0 = r }))) (range_with_len 0 1_000)) }
+        && has status.now.set (Assigned user (record { 0 = r }))) (range_with_len 0 MAX_ROLES)) }
 {
     assigned_among(alloc, &out.seniors, status, user)
 }
@@ -82,7 +79,7 @@ fn assigned_among(
 /// The roles of the list, ascending and each once.
 fn listed_roles(alloc: Global, roles: &[RoleId]) -> Result<Vec<u32>, Memory>
     ensures { IfOk result (λ listed. listed.items ≡ filter
-        (λ r. lists same_role roles.now (record { 0 = r })) (range_with_len 0 1_000)) }
+        (λ r. lists same_role roles.now (record { 0 = r })) (range_with_len 0 MAX_ROLES)) }
 {
     let mut listed = Vec::new(alloc);
     let mut low = 0;
@@ -95,16 +92,16 @@ fn listed_roles(alloc: Global, roles: &[RoleId]) -> Result<Vec<u32>, Memory>
 
 /// The least role of the list from `low` on.
 fn next_listed(roles: &[RoleId], low: u32) -> Option<u32>
-    requires { low ≤ 1_000 }
+    requires { low ≤ MAX_ROLES }
     ensures { MatchOption result (listed_from roles.now low ≡ [])
-        (λ r. (low ≤ r) × (r < 1_000)
+        (λ r. (low ≤ r) × (r < MAX_ROLES)
         × (listed_from roles.now low ≡ r ∷ listed_from roles.now (r + 1))) }
 {
-    let mut next = ROLES;
+    let mut next = MAX_ROLES;
     for r in roles {
         next = nearer(low, next, r);
     }
-    if next >= ROLES {
+    if next >= MAX_ROLES {
         return None;
     }
     Some(next)
@@ -123,9 +120,9 @@ fn nearer(low: u32, next: u32, role: &RoleId) -> u32
 
 /// Whether the user is assigned to the role itself.
 pub(crate) fn is_assigned(status: &Status, user: UserId, role: RoleId) -> bool
-    ensures { result ≡ (nat_lt role.0 1_000 && has status.now.set (Assigned user role)) }
+    ensures { result ≡ (nat_lt role.0 MAX_ROLES && has status.now.set (Assigned user role)) }
 {
-    role.0 < ROLES && status.is_on(Fluent::Assigned(user, role))
+    role.0 < MAX_ROLES && status.is_on(Fluent::Assigned(user, role))
 }
 
 /// The walk that stays where it begins.
@@ -150,7 +147,8 @@ pub(crate) fn activation(
 ) -> Result<Option<Walk>, Memory>
     requires hierarchy { IsHierarchy edges.now }
     requires outgoing { IsOutgoing edges.now out.now.first.items out.now.next.items }
-    requires elsewhere { (nat_lt role.0 1_000 && has status.now.set (Assigned user role)) ≡ false }
+    requires elsewhere { (nat_lt role.0 MAX_ROLES && has status.now.set (Assigned user role))
+        ≡ false }
     ensures { IfOk result (λ walk. walk ≡ activation_walk edges.now
         (has status.now.set) user role) }
 {
@@ -173,7 +171,7 @@ fn least_from<Q: WalkQuestion>(
         (lists same_role roles.now) (Q.goals asked.now)) }
 {
     match roles {
-        [role] if role.0 < ROLES => least(alloc, edges, out, &[role.0], asked),
+        [role] if role.0 < MAX_ROLES => least(alloc, edges, out, &[role.0], asked),
         _ => {
             let from = listed_roles(alloc, roles)?;
             least(alloc, edges, out, &from, asked)

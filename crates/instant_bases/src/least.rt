@@ -30,8 +30,7 @@ pub(crate) fn inside(t: Instant) -> Instant
     ensures same { result ≡ t }
     ensures bound { t ≤ LAST_MINUTE }
 {
-    // the call tells that an instant is not after the last
-    let _bound = t.minute();
+    t.keeps();
     t
 }
 

@@ -11,7 +11,7 @@ mod sets;
 mod watches;
 
 pub use least::{earlier, minute_after};
-pub use limits::{next_limited, push_limited};
-pub use raising::{next_periodic, push_periodic};
+pub use limits::{next_limited_in_looks, push_limited};
+pub use raising::{next_periodic_in_looks, push_periodic};
 pub use sets::{add_events, add_signals};
 pub use watches::{Watch, ask_all, copied_watches, pass_all, watch_all};

@@ -1,9 +1,9 @@
 //! What the duration limits raise at an instant, and when they raise something next.
-ghost use Rattle.std.specs.Prelude.{◌≡◌, ℕ, ◌<◌, ◌≤◌, ◌+◌, ◌-◌, ◌++◌, max, length, OnOk, IfSome};
+ghost use Rattle.std.specs.Prelude.{◌≡◌, ℕ, ◌<◌, ◌≤◌, ◌+◌, ◌*◌, ◌-◌, ◌++◌, max, length, OnOk, IfSome};
 ghost use Rattle.gt_base.specs.declared.events.Fluent.{Fluent};
 ghost use Rattle.gt_base.specs.declared.policies.LimitRule.{LimitRule as LimitRuleOf};
 ghost use Rattle.gt_base.specs.Sets.{has};
-ghost use Rattle.gt_base.specs.declared.limits.TheConstants.{LAST_MINUTE};
+ghost use Rattle.gt_base.specs.declared.limits.TheConstants.{LAST_MINUTE, MAX_LIMITS};
 ghost use Rattle.gtrbac_model.specs.Base.{limited_from, is_ripe};
 ghost use Rattle.gtrbac_model.specs.History.{is_some_item};
 ghost use Rattle.duration_limits.specs.Since.{since_in};
@@ -15,7 +15,8 @@ use crate::periods::{is_inside, next_within};
 use crate::raising::push_if;
 use crate::watches::Watch;
 use duration_limits::Ages;
-use gt_base::{Event, Instant, LimitId, LimitRule, Memory, PeriodId, Prioritised, Status};
+use gt_base::{Event, Instant, LimitId, LimitRule, Looks, Memory, PeriodId, Prioritised, Status};
+use std::sync::ledger::Ledger;
 
 /// Adds what the duration limits raise at t, on the status before it, in their order.
 pub fn push_limited(
@@ -26,7 +27,7 @@ pub fn push_limited(
     ages: &Ages,
     t: Instant,
 ) -> Result<(), Memory>
-    requires { length limits.now ≤ 1_000 }
+    requires { length limits.now ≤ MAX_LIMITS }
     ensures { OnOk result (raised.new.items ≡ raised.old.items
         ++ limited_from periods.now (has status.now.set) (since_in ages.now) 0 limits.now t) }
 {
@@ -78,42 +79,49 @@ fn ended(limit: &LimitRule) -> Prioritised
 }
 
 /// The least instant after now at which one of the duration limits ends its condition while the
-/// status stays, none exactly where there is none. It takes no memory.
-pub fn next_limited(
+/// status stays, none exactly where there is none, and how often limits are asked for their age and
+/// periods for their minutes: at most each limit once and its period once. It takes no memory.
+pub fn next_limited_in_looks<L: Ledger>(
     periods: &[Watch],
     limits: &[LimitRule],
     status: &Status,
     ages: &Ages,
     now: Instant,
+    looks: &mut Looks<L>,
 ) -> Option<Instant>
-    requires few { length limits.now ≤ 1_000 }
+    requires few { length limits.now ≤ MAX_LIMITS }
     requires past { (f : Fluent) → since_in ages.now f ≤ now }
-    ensures { IsNextOf (λ t. is_some_item (limited_from periods.now (has status.now.set)
+    ensures next { IsNextOf (λ t. is_some_item (limited_from periods.now (has status.now.set)
         (since_in ages.now) 0 limits.now t)) now result }
+    ensures cost { looks.new ≤ looks.old + 2 * length limits.now }
 {
     let mut next = None;
     for n in 0..limits.len() {
         let id = LimitId(n as u32);
-        next = earlier(next, next_ripe(periods, id, &limits[n], status, ages, now));
+        let ripe = next_ripe(periods, id, &limits[n], status, ages, now, looks);
+        next = earlier(next, ripe);
     }
     next
 }
 
 /// The least instant after now at which the limit of this number ends its condition.
-fn next_ripe(
+fn next_ripe<L: Ledger>(
     periods: &[Watch],
     id: LimitId,
     limit: &LimitRule,
     status: &Status,
     ages: &Ages,
     now: Instant,
+    looks: &mut Looks<L>,
 ) -> Option<Instant>
     requires { since_in ages.now limit.now.cond.fluent ≤ now }
-    ensures { IsNextOf (is_ripe periods.now (has status.now.set)
+    ensures next { IsNextOf (is_ripe periods.now (has status.now.set)
         (since_in ages.now) id.0 limit.now) now result }
+    ensures cost { looks.new ≤ looks.old + 2 }
 {
+    looks.look();
     match ages.ripe_from(id, limit, status) {
-        Some(from) => next_there(periods, limit.period, later_start(from, now)),
+        Some(from) => next_there(periods, limit.period, later_start(from, now), looks),
         None => None,
     }
 }
@@ -126,13 +134,19 @@ fn later_start(from: Instant, now: Instant) -> Instant
 }
 
 /// The least instant after this one that is in the period, if there is one.
-fn next_there(periods: &[Watch], period: Option<PeriodId>, after: Instant) -> Option<Instant>
+fn next_there<L: Ledger>(
+    periods: &[Watch],
+    period: Option<PeriodId>,
+    after: Instant,
+    looks: &mut Looks<L>,
+) -> Option<Instant>
     ensures next { (l : LimitRuleOf) → l.period ≡ period
         → IsNextOf (in_period periods.now l) after result }
     ensures bound { IfSome result (λ t. t ≤ LAST_MINUTE) }
+    ensures cost { looks.new ≤ looks.old + 1 }
 {
     match period {
-        Some(id) => known(next_within(periods, id, after)),
+        Some(id) => known(next_within(periods, id, after, looks)),
         None => known(minute_after(after)),
     }
 }

@@ -1,12 +1,13 @@
 //! The periods of a policy, by number.
-ghost use Rattle.std.specs.Prelude.{◌≡◌, ◌-◌, MatchOption, None, Some, true};
+ghost use Rattle.std.specs.Prelude.{◌≡◌, ◌≤◌, ◌+◌, ◌-◌, MatchOption, None, Some, true};
 ghost use Rattle.gtrbac_model.specs.Base.{period_test};
 ghost use Rattle.gtrbac_model.specs.Graph.{item_at};
 ghost use Rattle.gtrbac_model.specs.Period.{inside, starts};
 ghost use Rattle.instant_bases.specs.Nexts.{IsNextOf};
 
 use crate::watches::Watch;
-use gt_base::{Instant, PeriodId};
+use gt_base::{Instant, Looks, PeriodId};
+use std::sync::ledger::Ledger;
 
 /// The period of this number, if there is one.
 pub(crate) fn period_at(periods: &[Watch], id: PeriodId) -> Option<&Watch>
@@ -49,21 +50,33 @@ pub(crate) fn keeps_on(periods: &[Watch], id: PeriodId, t: Instant) -> bool
 }
 
 /// The least instant after this one that is in the period of this number.
-pub(crate) fn next_within(periods: &[Watch], id: PeriodId, after: Instant) -> Option<Instant>
-    ensures { IsNextOf (period_test inside periods.now id) after result }
+pub(crate) fn next_within<L: Ledger>(
+    periods: &[Watch],
+    id: PeriodId,
+    after: Instant,
+    looks: &mut Looks<L>,
+) -> Option<Instant>
+    ensures next { IsNextOf (period_test inside periods.now id) after result }
+    ensures cost { looks.new ≤ looks.old + 1 }
 {
     match period_at(periods, id) {
-        Some(p) => p.next_inside(after),
+        Some(p) => p.look_inside(after, looks),
         None => None,
     }
 }
 
 /// The least instant after this one at which the period of this number starts.
-pub(crate) fn next_begin(periods: &[Watch], id: PeriodId, after: Instant) -> Option<Instant>
-    ensures { IsNextOf (period_test starts periods.now id) after result }
+pub(crate) fn next_begin<L: Ledger>(
+    periods: &[Watch],
+    id: PeriodId,
+    after: Instant,
+    looks: &mut Looks<L>,
+) -> Option<Instant>
+    ensures next { IsNextOf (period_test starts periods.now id) after result }
+    ensures cost { looks.new ≤ looks.old + 1 }
 {
     match period_at(periods, id) {
-        Some(p) => p.next_start(after),
+        Some(p) => p.look_start(after, looks),
         None => None,
     }
 }

@@ -1,5 +1,5 @@
 //! What the periodic entries raise at an instant, and when they raise something next.
-ghost use Rattle.std.specs.Prelude.{◌≡◌, ◌<◌, ◌≤◌, ◌+◌, ◌++◌, ◌&&◌, nat_eq, flat_map, OnOk};
+ghost use Rattle.std.specs.Prelude.{◌≡◌, ◌<◌, ◌≤◌, ◌+◌, ◌*◌, ◌++◌, ◌&&◌, nat_eq, flat_map, length, OnOk};
 ghost use Rattle.gtrbac_model.specs.Base.{when, turned, raised_by};
 ghost use Rattle.gtrbac_model.specs.History.{is_some_item};
 ghost use Rattle.gtrbac_model.specs.Period.{inside};
@@ -8,7 +8,8 @@ ghost use Rattle.instant_bases.specs.Nexts.{IsNextOf, raises};
 use crate::least::{earlier, minute_after, minute_before};
 use crate::periods::{is_inside, is_start, keeps_on, next_begin, next_within, period_at};
 use crate::watches::Watch;
-use gt_base::{Form, Instant, Memory, PeriodId, PeriodicEntry, Prioritised};
+use gt_base::{Form, Instant, Looks, Memory, PeriodId, PeriodicEntry, Prioritised};
+use std::sync::ledger::Ledger;
 
 /// Adds the event at the end where the test is true.
 pub(crate) fn push_if(
@@ -99,58 +100,84 @@ fn is_next(birth: Instant, t: Instant) -> bool
 }
 
 /// The least instant after now at which one of the periodic entries raises something, none exactly
-/// where there is none. It takes no memory.
-pub fn next_periodic(
+/// where there is none, and how often periods are asked for it: at most twice for each entry. It
+/// takes no memory.
+pub fn next_periodic_in_looks<L: Ledger>(
     periods: &[Watch],
     entries: &[PeriodicEntry],
     birth: Instant,
     now: Instant,
+    looks: &mut Looks<L>,
 ) -> Option<Instant>
     requires { birth ≤ now }
-    ensures { IsNextOf (λ t. is_some_item (flat_map (raised_by periods.now birth t) entries.now))
-        now result }
+    ensures next { IsNextOf (λ t. is_some_item
+        (flat_map (raised_by periods.now birth t) entries.now)) now result }
+    ensures cost { looks.new ≤ looks.old + 2 * length entries.now }
 {
     let mut next = None;
     for e in entries {
-        next = earlier(next, next_entry(periods, *e, birth, now));
+        next = earlier(next, next_entry(periods, *e, birth, now, looks));
     }
     next
 }
 
 /// The least instant after now at which the entry raises something.
-fn next_entry(periods: &[Watch], e: PeriodicEntry, birth: Instant, now: Instant) -> Option<Instant>
+fn next_entry<L: Ledger>(
+    periods: &[Watch],
+    e: PeriodicEntry,
+    birth: Instant,
+    now: Instant,
+    looks: &mut Looks<L>,
+) -> Option<Instant>
     requires { birth ≤ now }
-    ensures { IsNextOf (raises periods.now birth e) now result }
+    ensures next { IsNextOf (raises periods.now birth e) now result }
+    ensures cost { looks.new ≤ looks.old + 2 }
 {
     match e.form {
-        Form::Each => next_within(periods, e.period, now),
-        Form::Start => next_begin(periods, e.period, now),
-        Form::Span => next_span(periods, e, birth, now),
+        Form::Each => next_within(periods, e.period, now, looks),
+        Form::Start => next_begin(periods, e.period, now, looks),
+        Form::Span => next_span(periods, e, birth, now, looks),
     }
 }
 
 /// The least instant after now at which a span begins or ends.
-fn next_span(periods: &[Watch], e: PeriodicEntry, birth: Instant, now: Instant) -> Option<Instant>
+fn next_span<L: Ledger>(
+    periods: &[Watch],
+    e: PeriodicEntry,
+    birth: Instant,
+    now: Instant,
+    looks: &mut Looks<L>,
+) -> Option<Instant>
     requires after { birth ≤ now }
     requires span { e.form ≡ Form.Span }
-    ensures { IsNextOf (raises periods.now birth e) now result }
+    ensures next { IsNextOf (raises periods.now birth e) now result }
+    ensures cost { looks.new ≤ looks.old + 2 }
 {
     match period_at(periods, e.period) {
-        Some(p) => earlier(p.next_edge(now), first_minute(p, birth, now)),
+        Some(p) => {
+            let edge = p.look_edge(now, looks);
+            earlier(edge, first_minute(p, birth, now, looks))
+        }
         None => None,
     }
 }
 
 /// The minute after the birth where now is the birth and the period is there.
-fn first_minute(p: &Watch, birth: Instant, now: Instant) -> Option<Instant>
+fn first_minute<L: Ledger>(
+    p: &Watch,
+    birth: Instant,
+    now: Instant,
+    looks: &mut Looks<L>,
+) -> Option<Instant>
     requires { birth ≤ now }
-    ensures { IsNextOf (λ t. nat_eq t (birth + 1) && inside p.now t) now result }
+    ensures next { IsNextOf (λ t. nat_eq t (birth + 1) && inside p.now t) now result }
+    ensures cost { looks.new ≤ looks.old + 1 }
 {
     if now != birth {
         return None;
     }
     match minute_after(now) {
-        Some(t) if p.inside(t) => Some(t),
+        Some(t) if p.look_at(t, looks) => Some(t),
         _ => None,
     }
 }

@@ -1,5 +1,5 @@
 //! Periods that remember what was asked of them.
-ghost use Rattle.std.specs.Prelude.{◌≡◌, true, false, IfOk};
+ghost use Rattle.std.specs.Prelude.{◌≡◌, ◌+◌, true, false, IfOk};
 ghost use Rattle.calendar_match.specs.Next.{turns as turned};
 ghost use Rattle.gtrbac_model.specs.Period.{inside as insides, starts};
 ghost use Rattle.instant_bases.specs.Kept.{IsNextKept};
@@ -7,10 +7,11 @@ ghost use Rattle.instant_bases.specs.Nexts.{IsNextOf};
 
 use crate::kept::{Kept, recalled, told};
 use calendar_match::{inside, next_edge, next_inside, next_start, starts};
-use gt_base::{Form, Instant, LimitRule, Memory, PeriodId, PeriodicEntry};
+use gt_base::{Form, Instant, LimitRule, Looks, Memory, PeriodId, PeriodicEntry};
 use periodic_expr::Period;
 use std::alloc::Global;
 use std::marker::Model;
+use std::sync::ledger::Ledger;
 
 /// A period with the next instants that were asked of it, each kept until it is past. It is seen as
 /// the period.
@@ -77,7 +78,7 @@ impl Watch {
     }
 
     /// The least instant after this one that is inside.
-    pub(crate) fn next_inside(&self, after: Instant) -> Option<Instant>
+    fn next_inside(&self, after: Instant) -> Option<Instant>
         ensures { IsNextOf (insides self.now) after result }
     {
         match recalled(self.inside, self.at, after) {
@@ -87,7 +88,7 @@ impl Watch {
     }
 
     /// The least instant after this one at which the period starts.
-    pub(crate) fn next_start(&self, after: Instant) -> Option<Instant>
+    fn next_start(&self, after: Instant) -> Option<Instant>
         ensures { IsNextOf (starts self.now) after result }
     {
         match recalled(self.start, self.at, after) {
@@ -98,7 +99,7 @@ impl Watch {
 
     /// The least instant after this one that is inside where the minute before is not, or the other
     /// way round.
-    pub(crate) fn next_edge(&self, after: Instant) -> Option<Instant>
+    fn next_edge(&self, after: Instant) -> Option<Instant>
         ensures { IsNextOf (turned self.now) after result }
     {
         match recalled(self.edge, self.at, after) {
@@ -125,6 +126,55 @@ impl Watch {
             Some(holds) => holds,
             None => starts(&self.period, t),
         }
+    }
+
+    /// The least instant after this one that is inside, asked in one look. What the watch remembers
+    /// answers it, or one search of the calendar, whose steps are not counted.
+    pub(crate) fn look_inside<L: Ledger>(
+        &self,
+        after: Instant,
+        looks: &mut Looks<L>,
+    ) -> Option<Instant>
+        ensures next { IsNextOf (insides self.now) after result }
+        ensures cost { looks.new ≡ looks.old + 1 }
+    {
+        looks.look();
+        self.next_inside(after)
+    }
+
+    /// The least instant after this one at which the period starts, asked in one look.
+    pub(crate) fn look_start<L: Ledger>(
+        &self,
+        after: Instant,
+        looks: &mut Looks<L>,
+    ) -> Option<Instant>
+        ensures next { IsNextOf (starts self.now) after result }
+        ensures cost { looks.new ≡ looks.old + 1 }
+    {
+        looks.look();
+        self.next_start(after)
+    }
+
+    /// The least instant after this one at which the period turns, asked in one look.
+    pub(crate) fn look_edge<L: Ledger>(
+        &self,
+        after: Instant,
+        looks: &mut Looks<L>,
+    ) -> Option<Instant>
+        ensures next { IsNextOf (turned self.now) after result }
+        ensures cost { looks.new ≡ looks.old + 1 }
+    {
+        looks.look();
+        self.next_edge(after)
+    }
+
+    /// Whether the instant is inside, asked in one look.
+    pub(crate) fn look_at<L: Ledger>(&self, t: Instant, looks: &mut Looks<L>) -> bool
+        ensures same { result ≡ insides self.now t }
+        ensures cost { looks.new ≡ looks.old + 1 }
+    {
+        looks.look();
+        self.inside(t)
     }
 
     /// Whether it is known that the instant is inside exactly where the minute before is.

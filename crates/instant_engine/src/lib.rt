@@ -2,9 +2,7 @@
 #![tactic(auto)]
 
 mod levels;
-mod looks;
 mod settling;
 
 pub use levels::TriggerLevels;
-pub use looks::Looks;
 pub use settling::{Stratified, settle, settled_contest, settled_in_looks};

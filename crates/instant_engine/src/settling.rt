@@ -12,9 +12,8 @@ ghost use Rattle.instant_engine.specs.OnTheWay.{KeepsSet, head_at, is_due, head_
 ghost use Rattle.instant_engine.specs.Counted.{size, woken, first_looks, most_looks};
 
 use crate::levels::{TriggerLevels, is_due};
-use crate::looks::Looks;
 use dependency_graph::EventGraph;
-use gt_base::{Happened, Memory, Prioritised, Signal, Status};
+use gt_base::{Happened, Looks, Memory, Prioritised, Signal, Status};
 use priority_conflict::Contest;
 use safety_cycle::Strata;
 use std::alloc::Global;

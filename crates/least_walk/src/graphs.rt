@@ -64,6 +64,14 @@ impl Graph {
         Ok(())
     }
 
+    /// What every graph keeps: both ends of each edge are nodes, and the number of each edge is
+    /// below 4,294,967,295.
+    pub fn keeps(&self)
+        ensures { IsNet self.now }
+    {
+        let _ = &self.edges;
+    }
+
     /// How many nodes it has.
     pub fn nodes(&self) -> u32
         ensures { result ≡ self.now.nodes }

@@ -6,6 +6,7 @@ use mathlib.Core.List.{IsPrefix}
 use Rattle.gt_base.specs.declared.requests.Who.{Who}
 use Rattle.gt_base.specs.declared.requests.Actor.{Actor}
 use Rattle.gt_base.specs.declared.requests.Entry.{Entry}
+use Rattle.gt_base.specs.declared.limits.TheConstants.{MAX_BYTES}
 use Rattle.gt_io.specs.Frames.{Frame, blank_frame}
 use Rattle.gt_io.specs.Links.{Traffic, ReadsNothing, WritesNothing}
 use Rattle.gt_io.specs.Memory.{one_more}
@@ -23,7 +24,6 @@ use Rattle.connection_laws.specs.declared.talk.Talk.{Talk}
 use Rattle.line_server.specs.Serving.{ServicePoint, service_point, link_view, IsStart, HaltsBy, EndsBy, Going, Serving, Halted, Converses, Serves}
 use Rattle.connection_laws.specs.Doors.{HaveFailed, none_more}
 use Rattle.line_server.proofs.Completing.{complete_by}
-use Rattle.line_server.specs.declared.serve.TheConstants.{MOST_BYTES}
 use Rattle.connection_laws.proofs.Growing.{grown_none}
 use Rattle.connection_laws.specs.Services.{service}
 
@@ -34,23 +34,23 @@ given_same np xs ys text acted f f' draws Ended h g = absurd h
 given_same np xs ys text acted f f' draws ReadFault h g = absurd h
 given_same np xs ys text acted f f' draws Spent h g = absurd h
 
-cause_of : (a b : Traffic) (taken : List ℕ) (f draws : ℕ) (end : LinkEnd) → b.read_faults ≡ a.read_faults → f ≡ a.write_faults → HaltsBy f b.write_faults draws end → EndsBy a b draws taken end
-cause_of a b taken f draws WriteFault reads low h = record { reads_are = reads; writes_are = h ∙ ap one_more low }
-cause_of a b taken f draws (Worn n) reads low h = (h.0, h.1, record { reads_are = reads; writes_are = h.2 ∙ low })
-cause_of a b taken f draws Ended reads low h = absurd h
-cause_of a b taken f draws ReadFault reads low h = absurd h
-cause_of a b taken f draws Spent reads low h = absurd h
+cause_of : (a b : Traffic) (taken : List ℕ) (f draws : ℕ) (end : LinkEnd) → b.read_faults ≡ a.read_faults → b.ends ≡ a.ends → f ≡ a.write_faults → HaltsBy f b.write_faults draws end → EndsBy a b draws taken end
+cause_of a b taken f draws WriteFault reads ends low h = record { reads_are = reads; writes_are = h ∙ ap one_more low; ends_are = ends }
+cause_of a b taken f draws (Worn n) reads ends low h = (h.0, h.1, record { reads_are = reads; writes_are = h.2 ∙ low; ends_are = ends })
+cause_of a b taken f draws Ended reads ends low h = absurd h
+cause_of a b taken f draws ReadFault reads ends low h = absurd h
+cause_of a b taken f draws Spent reads ends low h = absurd h
 
-failed_kept : (a b c : Traffic) (reads writes : ℕ → ℕ) → ReadsNothing b c → WritesNothing b c → HaveFailed a b reads writes → HaveFailed a c reads writes
-failed_kept a b c reads writes r w h = record { reads_are = r.read_faults_are ∙ h.reads_are; writes_are = w.write_faults_are ∙ h.writes_are }
+failed_kept : (a b c : Traffic) (reads writes ends : ℕ → ℕ) → ReadsNothing b c → WritesNothing b c → HaveFailed a b reads writes ends → HaveFailed a c reads writes ends
+failed_kept a b c reads writes ends r w h = record { reads_are = r.read_faults_are ∙ h.reads_are; writes_are = w.write_faults_are ∙ h.writes_are; ends_are = r.ends_are ∙ h.ends_are }
 
 -- what follows the last call changes nothing
 cause_kept : (a b c : Traffic) (taken : List ℕ) (draws : ℕ) (end : LinkEnd) → ReadsNothing b c → WritesNothing b c → EndsBy a b draws taken end → EndsBy a c draws taken end
-cause_kept a b c taken draws Ended r w h = (subst IsAtEnd (sym r.left_kept) h.0, h.1, failed_kept a b c none_more none_more r w h.2)
-cause_kept a b c taken draws ReadFault r w h = (h.0, failed_kept a b c one_more none_more r w h.1)
-cause_kept a b c taken draws WriteFault r w h = failed_kept a b c none_more one_more r w h
-cause_kept a b c taken draws Spent r w h = (h.0, failed_kept a b c none_more none_more r w h.1)
-cause_kept a b c taken draws (Worn n) r w h = (h.0, h.1, failed_kept a b c none_more none_more r w h.2)
+cause_kept a b c taken draws Ended r w h = (subst IsAtEnd (sym r.left_kept) h.0, h.1, failed_kept a b c none_more none_more one_more r w h.2)
+cause_kept a b c taken draws ReadFault r w h = (h.0, failed_kept a b c one_more none_more none_more r w h.1)
+cause_kept a b c taken draws WriteFault r w h = failed_kept a b c none_more one_more none_more r w h
+cause_kept a b c taken draws Spent r w h = (h.0, failed_kept a b c none_more none_more none_more r w h.1)
+cause_kept a b c taken draws (Worn n) r w h = (h.0, h.1, failed_kept a b c none_more none_more none_more r w h.2)
 
 module _ {M : Type 0} (np : NamedPolicy) (first : List Entry) (legal : List Entry → Type 0) (now : List Entry → ℕ) (who : Who) where
   pub begins : (pass : Holder M) (talk : Talk) (clock : Option (ℕ → ℕ)) (given : Option (List ℕ)) (frame : Frame) → IsStart talk → frame ≡ blank_frame
@@ -76,8 +76,8 @@ module _ {M : Type 0} (np : NamedPolicy) (first : List Entry) (legal : List Entr
       })
 
   pub cut_off : (o p : ServicePoint M) (a b : Traffic) (f : ℕ) (fed part chunk : List ℕ) (acted : List Acted) (end : LinkEnd) → Halted (service np first legal now) who o p (fed ++ part) acted f b.write_faults end → IsPrefix part chunk
-      → b.read_faults ≡ a.read_faults → f ≡ a.write_faults → Appends a.taken b.taken (fed ++ chunk) → Consumes a.left b.left (fed ++ chunk) → length (fed ++ chunk) ≤ MOST_BYTES → Converses (service np first legal now) who o p a b end
-  cut_off o p a b f fed part chunk acted end h within reads low taken left few =
+      → b.read_faults ≡ a.read_faults → b.ends ≡ a.ends → f ≡ a.write_faults → Appends a.taken b.taken (fed ++ chunk) → Consumes a.left b.left (fed ++ chunk) → length (fed ++ chunk) ≤ MAX_BYTES → Converses (service np first legal now) who o p a b end
+  cut_off o p a b f fed part chunk acted end h within reads ends low taken left few =
       let whole : (fed ++ part) ++ within.0 ≡ fed ++ chunk = append_assoc fed part within.0 ∙ ap (λ (l : List ℕ). fed ++ l) within.1 in
       let more = lines_more (fed ++ part) within.0 in
       record {
@@ -91,7 +91,7 @@ module _ {M : Type 0} (np : NamedPolicy) (first : List Entry) (legal : List Entr
         taken_is = taken;
         left_is = left;
         bounded = few;
-        cause = cause_of a b (fed ++ chunk) f p.pass.draws end reads low h.cause;
+        cause = cause_of a b (fed ++ chunk) f p.pass.draws end reads ends low h.cause;
       }
 
   -- what is given to the link is kept by a read

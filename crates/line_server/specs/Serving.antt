@@ -2,7 +2,6 @@
 use Rattle.std.specs.Prelude.{◌≡◌, ◌⊎◌, ℕ, ◌+◌, ◌*◌, ◌^◌, ◌<◌, ◌≤◌, Bool, true, false, ⊤, List, [], ◌∷◌, ◌++◌, length, None, OnOk, MatchResult, Result, Ok, Err}
 use Rattle.std.specs.declared.option.Option.{Option}
 use Rattle.std.specs.Io.KnownBytes.{Appends, Consumes, Keeps, IsAtEnd}
-use Rattle.line_server.specs.declared.serve.TheConstants.{MOST_BYTES}
 use mathlib.Core.List.{IsPrefix}
 use Rattle.gt_base.specs.declared.requests.Who.{Who}
 use Rattle.gt_base.specs.declared.requests.Actor.TheVariants.{Nobody}
@@ -10,7 +9,7 @@ use Rattle.gt_base.specs.declared.requests.Reply.{Reply}
 use Rattle.gt_base.specs.declared.requests.Actor.{Actor}
 use Rattle.gt_base.specs.declared.requests.Request.{Request}
 use Rattle.gt_base.specs.declared.requests.Entry.{Entry}
-use Rattle.gt_base.specs.declared.limits.TheConstants.{MAX_STEPS}
+use Rattle.gt_base.specs.declared.limits.TheConstants.{MAX_BYTES, MAX_STEPS}
 use Rattle.gt_io.specs.Causes.{Rose, AppendsPart}
 use Rattle.gt_io.specs.Frames.{Frame}
 use Rattle.gt_io.specs.Links.{Traffic, ReadsNothing, Reads}
@@ -85,15 +84,18 @@ HaltsBy faults faults' draws WriteFault = faults' ≡ one_more faults
 HaltsBy faults faults' draws (Worn n) = (n ≡ 2 ^ 40) × (draws ≡ 2 ^ 40) × (faults' ≡ faults)
 HaltsBy faults faults' draws _ = ⊥
 
--- each end has its cause; the first read or write that fails is the last one
+-- each end has its cause; the first read or write that fails, and the read that tells the end, is
+-- the last one
 abbrev pub EndsBy : Traffic → Traffic → ℕ → List ℕ → LinkEnd → Type 0
 EndsBy a b draws taken Ended =
-    IsAtEnd b.left × (length taken < MOST_BYTES) × HaveFailed a b none_more none_more
-EndsBy a b draws taken ReadFault = (length taken < MOST_BYTES) × HaveFailed a b one_more none_more
-EndsBy a b draws taken WriteFault = HaveFailed a b none_more one_more
-EndsBy a b draws taken Spent = (length taken ≡ MOST_BYTES) × HaveFailed a b none_more none_more
+    IsAtEnd b.left × (length taken < MAX_BYTES) × HaveFailed a b none_more none_more one_more
+EndsBy a b draws taken ReadFault =
+    (length taken < MAX_BYTES) × HaveFailed a b one_more none_more none_more
+EndsBy a b draws taken WriteFault = HaveFailed a b none_more one_more none_more
+EndsBy a b draws taken Spent =
+    (length taken ≡ MAX_BYTES) × HaveFailed a b none_more none_more none_more
 EndsBy a b draws taken (Worn n) =
-    (n ≡ 2 ^ 40) × (draws ≡ 2 ^ 40) × HaveFailed a b none_more none_more
+    (n ≡ 2 ^ 40) × (draws ≡ 2 ^ 40) × HaveFailed a b none_more none_more none_more
 
 abbrev pub is_worn_out : LinkEnd → Bool
 is_worn_out (Worn n) = true
@@ -104,7 +106,7 @@ is_worn_out _ = false
 pub record IsUnhindered (a b : Traffic) (taken : List ℕ) (end : LinkEnd) : Type 0 where
   pub reads : Rose a.read_faults b.read_faults → ⊥
   pub writes : Rose a.write_faults b.write_faults → ⊥
-  pub few : length taken < MOST_BYTES
+  pub few : length taken < MAX_BYTES
   pub unworn : is_worn_out end ≡ false
 
 -- a request is accepted, or there was no memory, or the history is full
@@ -185,7 +187,7 @@ module _ {M : Type 0} (v : Service) (who : Who) where
     pub given_is : IsGiven v.policy taken text acted end
     pub taken_is : Appends a.taken b.taken taken
     pub left_is : Consumes a.left b.left taken
-    pub bounded : length taken ≤ MOST_BYTES
+    pub bounded : length taken ≤ MAX_BYTES
     pub cause : EndsBy a b p.pass.draws taken end
 
   -- What the service of a link comes to: the bytes taken and given, the readings, the entries that
@@ -208,7 +210,7 @@ module _ {M : Type 0} (v : Service) (who : Who) where
     pub left_is : Consumes a.traffic.left b.traffic.left taken
     pub given_is : Appends a.traffic.given b.traffic.given given
     pub reads : Reads a.clock b.clock readings
-    pub bounded : length taken ≤ MOST_BYTES
+    pub bounded : length taken ≤ MAX_BYTES
     pub cause : EndsBy a.traffic b.traffic b.pass.draws taken report.outcome
     pub finished : b.traffic.finished ≡ true
     pub complete : (birth : ℕ) → IsTimed birth v.legal v.now

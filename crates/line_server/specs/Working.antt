@@ -3,6 +3,7 @@ use Rattle.std.specs.Prelude.{◌≡◌, ℕ, ◌+◌, ◌*◌, ◌^◌, ◌<◌
 use Rattle.std.specs.declared.option.Option.{Option}
 use Rattle.std.specs.Io.KnownBytes.{Appends, Consumes}
 use Rattle.gt_base.specs.declared.requests.Entry.{Entry}
+use Rattle.gt_base.specs.declared.limits.TheConstants.{MAX_BYTES, MAX_LINKS}
 use Rattle.gt_io.specs.Causes.{Rose}
 use Rattle.gt_io.specs.Links.{Traffic, IsFresh, Reads}
 use Rattle.turn_lock.specs.Turns.{Each, part}
@@ -21,8 +22,6 @@ use Rattle.line_server.specs.declared.posts.Post.{Post}
 use Rattle.line_server.specs.declared.workers.Worker.{Worker}
 use Rattle.connection_laws.specs.Turns.{IsIdle, Grows, AreMine}
 use Rattle.line_server.specs.Serving.{EndsBy, is_worn_out}
-use Rattle.line_server.specs.declared.workers.TheConstants.{MOST_LINKS}
-use Rattle.line_server.specs.declared.serve.TheConstants.{MOST_BYTES}
 
 -- what there is to tell of a served link: the link as the door gave it, its bytes, readings, own
 -- entries and acted lines, and the draws at its end
@@ -89,17 +88,17 @@ at_post readings links faults p = post_view readings links faults p.pass p.worke
 abbrev pub WorksTo : {L : Type 0} → Option (List L) → ℕ → ℕ → ℕ → List (Served L) → WorkEnd
     → Type 0
 WorksTo {L} links faults faults' draws served Done =
-    AllUnworn served × (length served < MOST_LINKS) × IfSome links (λ ls. ls ≡ [])
+    AllUnworn served × (length served < MAX_LINKS) × IfSome links (λ ls. ls ≡ [])
     × (faults' ≡ faults)
 WorksTo {L} links faults faults' draws served DoorFault =
-    AllUnworn served × (length served < MOST_LINKS) × Rose faults faults'
+    AllUnworn served × (length served < MAX_LINKS) × Rose faults faults'
 WorksTo {L} links faults faults' draws served Enough =
-    AllUnworn served × (length served ≡ MOST_LINKS) × (faults' ≡ faults)
+    AllUnworn served × (length served ≡ MAX_LINKS) × (faults' ≡ faults)
 WorksTo {L} links faults faults' draws served (Worn n) =
     (front : List (Served L)) × (last : Served L) × (served ≡ front ++ last ∷ []) × AllUnworn front
     × (last.report.outcome ≡ LinkWorn n) × (n ≡ 2 ^ 40) × (draws ≡ 2 ^ 40) × (faults' ≡ faults)
 WorksTo {L} links faults faults' draws served Memory =
-    AllUnworn served × (length served < MOST_LINKS) × (faults' ≡ faults)
+    AllUnworn served × (length served < MAX_LINKS) × (faults' ≡ faults)
 WorksTo {L} links faults faults' draws served Fresh = ⊥
 
 module _ {L : Type 0} (traffic : L → Traffic) (v : Service) (number : ℕ) where
@@ -117,7 +116,7 @@ module _ {L : Type 0} (traffic : L → Traffic) (v : Service) (number : ℕ) whe
     pub taken_is : Appends (traffic x.begun).taken (traffic s.link).taken x.taken
     pub left_is : Consumes (traffic x.begun).left (traffic s.link).left x.taken
     pub given_is : Appends (traffic x.begun).given (traffic s.link).given x.given
-    pub bounded : length x.taken ≤ MOST_BYTES
+    pub bounded : length x.taken ≤ MAX_BYTES
     pub cause : EndsBy (traffic x.begun) (traffic s.link) x.draws x.taken s.report.outcome
     pub finished : (traffic s.link).finished ≡ true
 

@@ -3,6 +3,7 @@
 #![tactic(auto)]
 
 mod ended;
+mod hearing;
 mod keeping;
 mod laws;
 mod lines;
@@ -14,5 +15,5 @@ pub use connection_laws::{LinkEnd, Report};
 pub use ended::{Served, WorkEnd};
 pub use laws::workers_are_told;
 pub use posts::{Post, run_posts, work_at};
-pub use serve::{MOST_BYTES, serve_link};
+pub use serve::serve_link;
 pub use workers::{Worker, work};

@@ -1,26 +1,23 @@
 //! The links of a door, one after the other.
 ghost use Rattle.std.specs.Prelude.{◌≡◌, ◌+◌, ◌*◌, ◌<◌, ◌≤◌, ◌^◌, ℕ, false, [], length, None, MatchOption};
+ghost use Rattle.gt_base.specs.declared.limits.TheConstants.{MAX_BYTES};
 ghost use Rattle.turn_lock.specs.Holders.{site_of};
 ghost use Rattle.connection_laws.specs.Services.{service_at};
 ghost use Rattle.connection_laws.specs.Turns.{IsIdle};
 ghost use Rattle.connection_laws.specs.Desks.{MayBeAsked, RepliesCanBeTold};
 ghost use Rattle.line_server.specs.Serving.{is_worn_out};
 ghost use Rattle.line_server.specs.Working.{spot, post_view, WorksOn, Works, HasWorked};
-ghost use Rattle.line_server.specs.declared.serve.TheConstants.{MOST_BYTES};
 
 use crate::ended::{Served, WorkEnd};
 use crate::serve::serve_link;
 use connection_laws::LinkEnd;
-use gt_base::{List, Machine};
+use gt_base::{List, MAX_LINKS, Machine};
 use gt_io::{Clock, Door, Gate};
 use locked_history::Desk;
 use policy_book::Policy;
 use std::alloc::Global;
 use std::sync::Wait;
 use turn_lock::Pass;
-
-/// How many links one worker serves at most.
-pub(crate) const MOST_LINKS: usize = 100_000;
 
 /// A worker with its door, clock and gate, and what became of its links.
 pub struct Worker<D: Door, C: Clock, G: Gate> {
@@ -57,14 +54,14 @@ fn serve_next<M: Machine, R: Wait, D: Door, C: Clock, G: Gate>(
     requires replies { RepliesCanBeTold policy.now (M.legal desk.now.root) }
     requires calls { calls.old < 2 ^ 63 }
     requires room { 1 ≤ w.old.served.spare }
-    requires few { length w.old.served.items < MOST_LINKS }
+    requires few { length w.old.served.items < MAX_LINKS }
     ensures works { WorksOn D.L.traffic (service_at M.list M.legal M.now_of desk.now policy.now)
         pass.old.number
         (spot pass.old (C.readings w.old.clock) (D.links w.old.door))
         (spot pass.new (C.readings w.new.clock) (D.links w.new.door))
         (D.faults w.old.door) (D.faults w.new.door) w.old.served.items w.new.served.items result }
     ensures pass { IsIdle (site_of desk.now) pass.new × (pass.new.number ≡ pass.old.number) }
-    ensures calls { calls.new ≤ calls.old + MOST_BYTES }
+    ensures calls { calls.new ≤ calls.old + MAX_BYTES }
     ensures one { result ≡ None → length w.new.served.items ≡ length w.old.served.items + 1 }
 {
     match w.door.next() {
@@ -111,7 +108,7 @@ fn work_on<M: Machine, R: Wait, D: Door, C: Clock, G: Gate>(
     ensures pass { IsIdle (site_of desk.now) pass.new × (pass.new.number ≡ pass.old.number) }
 {
     let mut calls = 0;
-    while w.served.len() < MOST_LINKS {
+    while w.served.len() < MAX_LINKS {
         if w.served.reserve(1).is_err() {
             return WorkEnd::Memory;
         }

@@ -1,6 +1,7 @@
 -- The grammar of expressions, and their faults, by places in the text.
 use Rattle.std.specs.Prelude.{◌≡◌, ℕ, ◌+◌, ◌≤◌, Bool, true, false, ◌&&◌, ◌||◌, List, [], ◌∷◌, ◌++◌, length, take, map, flat_map, codes, decimal, nat_le, nat_lt, Option, Some, None, IsTrue}
 use Rattle.std.specs.List.{list_all}
+use Rattle.gt_base.specs.declared.limits.TheConstants.{MAX_LENGTH}
 use Rattle.gtrbac_model.specs.declared.calendars.Calendar.{Calendar}
 use Rattle.gtrbac_model.specs.Period.{Part, Expr}
 use Rattle.gtrbac_model.specs.Valid.{is_below, is_same}
@@ -140,7 +141,7 @@ first_faults place (Some ns) = record { at = place; kind = FirstNotAll } ∷ zer
 abbrev pub span_faults : Calendar → Option RawLength → List ExprFault
 span_faults above None = []
 span_faults above (Some l) =
-    where_not (nat_le 1 l.count.value && nat_le l.count.value 1000) l.count.place BadLength
+    where_not (nat_le 1 l.count.value && nat_le l.count.value MAX_LENGTH) l.count.place BadLength
     ++ where_not (is_same above l.unit || is_below above l.unit) l.unit_place NotFiner
 
 abbrev pub later_faults : Calendar → List RawPart → Option RawLength → List ExprFault

@@ -1,6 +1,7 @@
 -- What a scan has found of an expression, up to a byte.
 use Rattle.std.specs.Prelude.{◌≡◌, ℕ, ◌≤◌, Bool, true, false, ◌&&◌, ◌||◌, not, nat_eq, nat_lt, nat_le, List, [], ◌∷◌, ◌++◌, length, Option, Some, None, is_some, IsTrue, if◌then◌else◌}
 use Rattle.std.specs.List.{list_any, list_all, take_while, insert}
+use Rattle.gt_base.specs.declared.limits.TheConstants.{MAX_LENGTH}
 use Rattle.gtrbac_model.specs.declared.calendars.Calendar.{Calendar}
 use Rattle.gtrbac_model.specs.declared.calendars.Calendar.TheVariants.{Years}
 use Rattle.gtrbac_model.specs.Period.{Part}
@@ -76,7 +77,7 @@ acted (Index n) at s = record s {
 acted (Length n) at s = record s {
   count = n;
   fault = noted s.fault
-      (nat_le 1 n && nat_le n 1000) s.token BadLength;
+      (nat_le 1 n && nat_le n MAX_LENGTH) s.token BadLength;
 }
 acted (PartEnds c) at s = record s {
   parts = s.parts ++ record { calendar = c; set = s.set } ∷ [];
@@ -105,7 +106,7 @@ pub record IsSound (s : Sketch) : Type 0 where
   pub first : IsTrue (not (is_empty s.parts) || not (is_some s.set))
   pub rises : IsTrue (is_rising s.set)
   pub least : 1 ≤ s.count
-  pub most : s.count ≤ 1000
+  pub most : s.count ≤ MAX_LENGTH
 
 abbrev pub KeepsSketch : Sketch → Type 0
 KeepsSketch s = s.fault ≡ None → IsSound s

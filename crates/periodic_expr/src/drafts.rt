@@ -8,7 +8,7 @@ ghost use Rattle.periodic_expr.specs.Drafts.{seen};
 use crate::exprs::ExprPart;
 use crate::faults::{ExprFault, ExprKind};
 use crate::scan::Act;
-use gt_base::List;
+use gt_base::{List, MAX_LENGTH};
 use gtrbac_model::Calendar;
 use std::alloc::{AllocError, Global};
 
@@ -125,7 +125,12 @@ fn indexed(mut d: ExprDraft, n: u32) -> Result<ExprDraft, AllocError>
 fn measured(mut d: ExprDraft, n: u32) -> ExprDraft
     ensures { seen result ≡ acted (Act.Length n) 0 (seen d) }
 {
-    d.fault = noted(d.fault, n >= 1 && n <= 1000, d.token, ExprKind::BadLength);
+    d.fault = noted(
+        d.fault,
+        n >= 1 && n <= MAX_LENGTH,
+        d.token,
+        ExprKind::BadLength,
+    );
     d.count = n;
     d
 }

@@ -127,6 +127,13 @@ impl Expr {
         })
     }
 
+    /// What every expression keeps: it is valid.
+    pub fn keeps(&self)
+        ensures { IsTrue (is_expr self.now) }
+    {
+        let _ = &self.parts;
+    }
+
     /// The parts, each of a calendar below the one before it.
     pub fn parts(&self) -> &List<ExprPart>
         ensures parts { result.now.items ≡ self.now.parts }
@@ -190,9 +197,11 @@ impl Period {
     }
 
     /// What every period keeps: bounds in order, within the instants, and a valid expression.
-    pub fn valid(&self)
+    pub fn keeps(&self)
         ensures { IsTrue (is_period self.now) }
     {
-        let _ = (self.first.minute(), self.last.minute(), self.expr.length());
+        self.first.keeps();
+        self.last.keeps();
+        self.expr.keeps();
     }
 }

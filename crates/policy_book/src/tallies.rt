@@ -9,7 +9,10 @@ ghost use Rattle.policy_book.specs.Tallies.{seen_tally, count_in, one_more, no_c
 
 use crate::known::is_known;
 use crate::names::NameTables;
-use gt_base::Memory;
+use gt_base::{
+    MAX_ASSIGNED, MAX_EDGES, MAX_ENTRIES, MAX_GRANTED, MAX_LIMITS, MAX_PERIODS, MAX_PERMS,
+    MAX_ROLES, MAX_TRIGGERS, MAX_USERS, Memory,
+};
 use indexmap::IndexSet;
 use policy_words::{Claim, Kind, NamedFluent, Said};
 use std::alloc::Global;
@@ -104,10 +107,16 @@ fn most_of(kind: Kind) -> u32
     ensures { result ≡ most_of kind }
 {
     match kind {
-        Kind::Roles | Kind::Periods | Kind::Limits => 1_000,
-        Kind::Users | Kind::Perms => 10_000,
-        Kind::Edges | Kind::Entries | Kind::Triggers => 4_000,
-        Kind::Assigned | Kind::Granted => 50_000,
+        Kind::Roles => MAX_ROLES,
+        Kind::Users => MAX_USERS,
+        Kind::Perms => MAX_PERMS,
+        Kind::Periods => MAX_PERIODS,
+        Kind::Limits => MAX_LIMITS,
+        Kind::Edges => MAX_EDGES,
+        Kind::Entries => MAX_ENTRIES,
+        Kind::Triggers => MAX_TRIGGERS,
+        Kind::Assigned => MAX_ASSIGNED,
+        Kind::Granted => MAX_GRANTED,
     }
 }
 

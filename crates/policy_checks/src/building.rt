@@ -123,7 +123,7 @@ impl Lines {
         let Ok(expr) = parse_expr(self.alloc, b"all.Years > 10.Minutes") else {
             return Err(AllocError);
         };
-        let _length = expr.length();
+        expr.keeps();
         self.put(Said::Period {
             name,
             first,

@@ -1,5 +1,6 @@
 -- What the answers of `check` and `fmt` mean.
 use Rattle.std.specs.Prelude.{◌≡◌, ◌≤◌, ◌↔◌, ℕ, List, length, codes, All, Ok}
+use Rattle.gt_base.specs.declared.limits.TheConstants.{LONGEST_POLICY_LINE}
 use Rattle.gt_text.specs.Lines.{lines_of}
 use Rattle.gtrbac_model.specs.Safety.{IsSafe}
 use Rattle.gtrbac_model.specs.Theorems.{HasOneModel}
@@ -34,7 +35,7 @@ FmtFaultMeans = (text : List ℕ) → ((fmt_end text).status ≡ 2) ↔ HasTextF
 abbrev pub FmtKeeps : Type 0
 FmtKeeps =
     (text out : List ℕ) → fmt_end text ≡ told 0 out
-    → All (λ line. length line ≤ 4_096) (lines_of out)
+    → All (λ line. length line ≤ LONGEST_POLICY_LINE) (lines_of out)
     → (policy_read out ≡ policy_read text) × (fmt_end out ≡ told 0 out)
 
 -- each period line has at most 4,040 bytes
@@ -46,7 +47,7 @@ HasBriefPeriods text =
 abbrev pub CanonicalLinesFit : Type 0
 CanonicalLinesFit =
     (text : List ℕ) (np : NamedPolicy) → policy_read text ≡ Ok np → HasBriefPeriods text
-    → All (λ line. length line ≤ 4_096) (lines_of (canonical_text np))
+    → All (λ line. length line ≤ LONGEST_POLICY_LINE) (lines_of (canonical_text np))
 
 -- and so what was written stands for the same policy and is written again
 abbrev pub FmtKeepsBrief : Type 0

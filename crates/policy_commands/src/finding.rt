@@ -1,6 +1,7 @@
 //! The policy that a program is called over.
 ghost use Rattle.std.specs.Prelude.{◌≡◌, IfOk};
 ghost use Rattle.gt_io.specs.Causes.{Rose};
+ghost use Rattle.gt_io.specs.Shelf.{AsksOnce};
 ghost use Rattle.gt_text.specs.Words.{begins_with};
 ghost use Rattle.policy_commands.specs.Finding.{IsFoundText, IsFailure, IsSteady};
 
@@ -31,7 +32,8 @@ pub enum Found {
 
 /// The text of the name on the shelf. Else the end: `read fault` with status 4 where the shelf
 /// failed or has no such text, `too long: policy` with status 6 where that has more than 4,194,304
-/// bytes. Only want of memory is free.
+/// bytes. Only want of memory is free. The shelf is asked for one text, and behind a call that
+/// failed or told the end for nothing.
 pub fn find_text<S: Shelf>(alloc: Global, shelf: &mut S, name: &str) -> Result<Found, Memory>
     ensures found { IfOk result
         (IsFoundText (Rose (S.stock shelf.old).hard_faults (S.stock shelf.new).hard_faults)
@@ -41,6 +43,7 @@ pub fn find_text<S: Shelf>(alloc: Global, shelf: &mut S, name: &str) -> Result<F
     ensures steady { IfOk result (IsSteady ((S.stock shelf.new).hard_faults
         ≡ (S.stock shelf.old).hard_faults)) }
     ensures same { (S.stock shelf.new).contents ≡ (S.stock shelf.old).contents }
+    ensures once { AsksOnce (S.stock shelf.old) (S.stock shelf.new) }
 {
     match find_all(alloc, shelf, name, MAX_POLICY) {
         Ok(text) => Ok(Found::Text(text)),

@@ -6,7 +6,7 @@ mod made;
 mod policies;
 mod scripts;
 
-pub use made::{Made, make};
+pub use made::{MAX_SIZE, Made, make};
 pub use scripts::FIRST_MINUTE;
 
 #[cfg(test)]

@@ -7,6 +7,9 @@ use crate::scripts::push_script;
 use gt_base::{List, Memory};
 use std::alloc::Global;
 
+/// The greatest size, which is the number of rounds that are played.
+pub const MAX_SIZE: u32 = 100_000;
+
 /// The text of a policy, and that of a script over it.
 #[derive(Drop)]
 pub struct Made {
@@ -17,10 +20,10 @@ pub struct Made {
 /// Makes a policy of as many roles, users and permissions as the size says, at most 200, whose
 /// roles are enabled one by the other from 8 to 16 each day, and a script in which each user opens
 /// a session and then as many rounds are played as the size says: each goes 1 to 60 minutes on and
-/// asks one request. The seed decides the rounds. The size is 1 to 100,000.
+/// asks one request. The seed decides the rounds. The size is 1 to `MAX_SIZE`.
 #[tactic(auto, unfolding(crate::specs::Texts::policy_text, crate::specs::Texts::script_text))]
 pub fn make(alloc: Global, seed: u64, size: u32) -> Result<Made, Memory>
-    requires { (1 ≤ size) × (size ≤ 100_000) }
+    requires { (1 ≤ size) × (size ≤ MAX_SIZE) }
     ensures policy { IfOk result (λ made. made.policy.items ≡ policy_text size) }
     ensures script { IfOk result (λ made. made.script.items ≡ script_text seed size) }
     ensures short_policy { IfOk result (λ made. length made.policy.items ≤ 40_000) }

@@ -2,6 +2,7 @@
 ghost use Rattle.std.specs.Prelude.{◌≡◌, ◌≤◌, ◌<◌, ◌+◌, ◌*◌, ◌++◌, ◌∷◌, [], codes, flat_map, OnOk};
 ghost use Rattle.gt_text.specs.Words.{as_text};
 ghost use Rattle.policy_gen.specs.Draws.{draw};
+ghost use Rattle.policy_gen.specs.declared.made.TheConstants.{MAX_SIZE};
 ghost use Rattle.policy_gen.specs.Texts.{one, opening, all_for_each, request_line, time_line, round_lines, script_lines};
 ghost use Rattle.std.specs.List.{range_with_len};
 ghost use Rattle.gt_base.specs.declared.limits.TheConstants.{LAST_MINUTE};
@@ -110,7 +111,7 @@ fn push_openings(text: &mut Vec<u8>, k: u32) -> Result<(), Memory>
 /// Adds the rounds.
 fn push_rounds(text: &mut Vec<u8>, seed: u64, k: u32, rounds: u32) -> Result<(), Memory>
     requires users { (1 ≤ k) × (k ≤ 200) }
-    requires rounds { rounds ≤ 100_000 }
+    requires rounds { rounds ≤ MAX_SIZE }
     ensures { OnOk result (text.new.items ≡ text.old.items
         ++ as_text (flat_map (round_lines seed k) (range_with_len 0 rounds))) }
 {
@@ -127,7 +128,7 @@ fn push_rounds(text: &mut Vec<u8>, seed: u64, k: u32, rounds: u32) -> Result<(),
 /// Adds the script of k users and of as many rounds.
 pub(crate) fn push_script(text: &mut Vec<u8>, seed: u64, k: u32, rounds: u32) -> Result<(), Memory>
     requires users { (1 ≤ k) × (k ≤ 200) }
-    requires rounds { rounds ≤ 100_000 }
+    requires rounds { rounds ≤ MAX_SIZE }
     ensures { OnOk result (text.new.items ≡ text.old.items
         ++ as_text (script_lines seed k rounds)) }
 {

@@ -21,7 +21,7 @@ use Rattle.policy_words.specs.Wording.{◌>>=◌, event_verb, cond_verb, at_end,
 use Rattle.policy_words.specs.Sayings.{SaidView, version, limit, opening, entry, said_words, during_words, kind_word, strength_word, cap_word, is_formed, are_names, is_count, is_period_name, is_head}
 use Rattle.policy_words.specs.CapKinds.{cap_kinds}
 use Rattle.policy_words.specs.Reading.{one_name, most_at, during_in, limit_in, spelled_so, edge_in, cap_in, opening_by, entry_in, version_in}
-use Rattle.policy_lines.proofs.Truths.{and_true, some_is, none_some, taken, chosen, where_true}
+use Rattle.policy_lines.proofs.Truths.{and_true, some_is, none_some, taken, where_true}
 use Rattle.policy_lines.proofs.ItemVerbs.{found_passes}
 use Rattle.gt_text.proofs.Decimals.{number_from_is}
 use Rattle.policy_lines.proofs.FrontWords.{event_at_is, cond_at_is}
@@ -38,7 +38,7 @@ came (Some a) f b e = record { it = a; was = refl; then = e }
 
 pub name_in_is : (w n : List ℕ) → name_in w ≡ Some n → (is_name n ≡ true) × (w ≡ n)
 name_in_is w n e =
-    elim (chosen (is_name w) (Some w) None (Some n) e) [
+    elim (taken (is_name w) (Some w) None (Some n) e) [
       | inl (t, is) ↦ (ap is_name (sym (some_is is)) ∙ t, some_is is)
       | inr (f, is) ↦ absurd (none_some is)
     ]

@@ -34,7 +34,7 @@ use Rattle.policy_words.specs.declared.versions.TextVersion.{TextVersion}
 use Rattle.policy_words.specs.declared.parts.NamedFluent.TheVariants.{Enabled, Assigned, Granted, Limit, Edge}
 use Rattle.policy_words.specs.Versions.{is_open, has_edges, is_allowed}
 use Rattle.policy_words.specs.Spelling.{IsLoud, IsSilent, IsBound, HasBounds, Spells, first_words, words_that_begin, BeginsWith, IsVersion, IsFirstLine, IsPlaced, ExprFails, HasNoForm, IsSaid}
-use Rattle.policy_lines.proofs.Truths.{and_true, not_true, some_is, none_some, taken, chosen}
+use Rattle.policy_lines.proofs.Truths.{and_true, not_true, some_is, none_some, taken}
 use Rattle.gt_text.proofs.Decimals.{number_from-decimal}
 use Rattle.policy_lines.proofs.ReadExprs.{read_valid}
 use Rattle.policy_lines.proofs.SayingReads.{judged, is_no_period, saying_reads, bounds_read, trigger_reads, version_reads}

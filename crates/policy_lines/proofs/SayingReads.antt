@@ -1,5 +1,5 @@
 -- A line that is spelled by a saying reads as it.
-use Rattle.std.proofs.Common.{◌≡◌, inl, inr, ℕ, ◌≤◌, Bool, true, false, cond, ◌&&◌, List, [], ◌∷◌, ◌++◌, length, take, Option, Some, None, Result, Ok, Err, refl, sym, ◌∙◌, ap, arith, decimal, append_assoc, append-nil}
+use Rattle.std.proofs.Common.{if◌then◌else◌, ◌≡◌, inl, inr, ℕ, ◌≤◌, Bool, true, false, cond, ◌&&◌, List, [], ◌∷◌, ◌++◌, length, take, Option, Some, None, Result, Ok, Err, refl, sym, ◌∙◌, ap, arith, decimal, append_assoc, append-nil}
 use Rattle.std.specs.Prelude.{codes, bytes_eq, nat_le, nat_eq}
 use Rattle.std.specs.List.{list_all}
 use Rattle.std.proofs.lemmas.Fmt.{decimal_digit}
@@ -50,7 +50,7 @@ is_no_period (period n first last e) = false
 is_no_period said = true
 
 pub name_is : (n : List ℕ) → is_name n ≡ true → name_in n ≡ Some n
-name_is n h = ap (λ b. elim b as (λ _. Option (List ℕ)) [ true ↦ Some n | false ↦ None ]) h
+name_is n h = ap (λ b. if b then Some n else None) h
 
 pub one_name_reads : (build : List ℕ → SaidView) (n : List ℕ) → is_name n ≡ true → one_name build (n ∷ []) ≡ Some (build n)
 one_name_reads build n h = rw (name_is n h) refl

@@ -17,7 +17,7 @@ use Rattle.policy_words.specs.Sayings.{SaidView, trigger, and_items, is_formed, 
 use Rattle.gtrbac_model.specs.History.{is_some_item}
 use Rattle.policy_words.specs.Reading.{items_at, trigger_in}
 use Rattle.policy_words.specs.Spelling.{Spells}
-use Rattle.policy_lines.proofs.Truths.{and_true, some_is, none_some, taken, chosen}
+use Rattle.policy_lines.proofs.Truths.{and_true, some_is, none_some, taken}
 use Rattle.gt_text.proofs.Decimals.{number_from_is}
 use Rattle.policy_lines.proofs.FrontWords.{item_at_is}
 use Rattle.policy_lines.proofs.Linked.{with_item}

@@ -28,8 +28,3 @@ where_true false a x e = absurd (none_some e)
 pub taken : {A : Type 0} (t : Bool) (x y r : A) → cond t x y ≡ r → ((t ≡ true) × (x ≡ r)) ⊎ ((t ≡ false) × (y ≡ r))
 taken true x y r e = inl (refl, e)
 taken false x y r e = inr (refl, e)
-
--- the same of a test that a definition takes apart
-pub chosen : {A : Type 0} (t : Bool) (x y r : A) → elim t as (λ _. A) [ true ↦ x | false ↦ y ] ≡ r → ((t ≡ true) × (x ≡ r)) ⊎ ((t ≡ false) × (y ≡ r))
-chosen true x y r e = inl (refl, e)
-chosen false x y r e = inr (refl, e)

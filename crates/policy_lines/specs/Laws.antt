@@ -2,6 +2,7 @@
 use Rattle.std.specs.Prelude.{◌≡◌, ◌↔◌, ℕ, ◌<◌, ◌≤◌, ◌^◌, Bool, not, List, length, decimal, Option, Some, Result, Ok, IsTrue}
 use Rattle.std.specs.List.{list_all, list_any}
 use Rattle.gt_base.specs.Names.{number_in}
+use Rattle.gt_base.specs.declared.limits.TheConstants.{LONGEST_POLICY_LINE}
 use Rattle.gt_text.specs.Lines.{lines_of, is_feed}
 use Rattle.gt_text.specs.Words.{spaced, as_text}
 use Rattle.policy_words.specs.declared.faults.TextKind.{TextKind}
@@ -24,7 +25,7 @@ SayingsAreRead = (v : TextVersion) (line : List ℕ) (r : Result (Option SaidVie
 abbrev pub WrittenIsRead : Type 0
 WrittenIsRead =
     (said : SaidView) (v : TextVersion) → IsTrue (is_saying said) → IsPlaced v said
-    → length (spaced (said_words said)) ≤ 4_096
+    → length (spaced (said_words said)) ≤ LONGEST_POLICY_LINE
     → read_said v (spaced (said_words said)) ≡ Ok (Some said)
 
 abbrev pub has_no_feed : List ℕ → Bool

@@ -11,7 +11,7 @@ ghost use Rattle.policy_lines.specs.Cursors.{limit_behind};
 use crate::parts::{cond_of, next_cond, next_head, read_prio};
 use crate::units::{next_name, read_name};
 use crate::writing::{cap_text, kind_text, strength_text};
-use gt_base::{Form, MAX_COUNT, Name, Prio};
+use gt_base::{Form, MAX_COUNT, MAX_POLICY_PRIO, Name, Prio};
 use gt_text::{Words, read_between};
 use policy_words::{CapKind, EdgeKind, Said, TextKind};
 
@@ -117,7 +117,7 @@ pub(crate) fn limit(mut words: Words<'_>) -> Option<Said>
     let name = words.next()?;
     let prio = words.next()?;
     let name = read_name(name)?;
-    let prio = read_prio(99, prio)?;
+    let prio = read_prio(MAX_POLICY_PRIO, prio)?;
     limit_of(name, prio, words)
 }
 
@@ -234,7 +234,7 @@ pub(crate) fn entry(form: Form, mut words: Words<'_>) -> Option<Said>
 {
     let period = words.next()?;
     let period = read_name(period)?;
-    let head = next_head(99, &mut words)?;
+    let head = next_head(MAX_POLICY_PRIO, &mut words)?;
     if words.next().is_some() {
         return None;
     }

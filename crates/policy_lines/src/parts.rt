@@ -2,6 +2,7 @@
 ghost use Rattle.std.specs.Prelude.{◌≡◌, ◌∷◌, ◌≤◌, [], MatchOption, option_map, Some};
 ghost use Rattle.std.specs.List.{before_first, after_first};
 ghost use Rattle.gt_base.specs.Names.{number_from};
+ghost use Rattle.gt_base.specs.declared.limits.TheConstants.{MAX_PRIO};
 ghost use Rattle.policy_words.specs.Wording.{fluent_at, verb_in, event_verb, event_at, cond_at, signal_of, head_at, item_at, is_colon, delay_in};
 ghost use Rattle.policy_lines.specs.Cursors.{as_signal, as_cond, as_settled, other_item_at};
 
@@ -139,17 +140,17 @@ fn at_colon(word: &[u8]) -> Option<(&[u8], &[u8])>
 }
 
 /// The priority up to `most` that a word is.
-pub(crate) fn read_prio(most: u32, word: &[u8]) -> Option<Prio>
-    requires { most ≤ 100 }
+pub(crate) fn read_prio(most: u8, word: &[u8]) -> Option<Prio>
+    requires { most ≤ MAX_PRIO }
     ensures { result ≡ number_from 0 most word.now }
 {
-    let n = read_between(0, most, word)?;
+    let n = read_between(0, most as u32, word)?;
     Prio::new(n as u8)
 }
 
 /// The prioritised event at the front, with a priority up to `most`.
-pub fn next_head(most: u32, words: &mut Words<'_>) -> Option<NamedHead>
-    requires { most ≤ 100 }
+pub fn next_head(most: u8, words: &mut Words<'_>) -> Option<NamedHead>
+    requires { most ≤ MAX_PRIO }
     ensures { option_map (λ h. (h, words.new)) result ≡ head_at most words.old }
 {
     let word = words.next()?;

@@ -1,5 +1,6 @@
 //! Lines of periods.
 ghost use Rattle.std.specs.Prelude.{◌≡◌, ◌≤◌, ◌∷◌, [], length, option_map, Ok, Err};
+ghost use Rattle.gt_base.specs.declared.limits.TheConstants.{LONGEST_POLICY_LINE};
 ghost use Rattle.policy_words.specs.Reading.{first_in, last_in, bounds_in, with_expr, period_by};
 ghost use Rattle.periodic_expr.specs.Reading.{read_expr};
 ghost use Rattle.policy_lines.specs.Answered.{ReadsAs, seen_bounds};
@@ -64,7 +65,7 @@ fn bounds(mut words: Words<'_>) -> Option<PeriodBounds>
 
 /// The period with these bounds and the expression of a text.
 fn bounded(alloc: Global, bounds: PeriodBounds, text: &[u8]) -> Result<Said, TextKind>
-    requires { length text.now ≤ 4096 }
+    requires { length text.now ≤ LONGEST_POLICY_LINE }
     ensures { ReadsAs result (with_expr (seen_bounds bounds) (read_expr text.now)) }
 {
     let PeriodBounds { name, first, last } = bounds;
@@ -84,7 +85,7 @@ fn bounded(alloc: Global, bounds: PeriodBounds, text: &[u8]) -> Result<Said, Tex
 
 /// What a line of a period says, whose words after the first are given.
 pub(crate) fn period(alloc: Global, line: &[u8], words: Words<'_>) -> Result<Said, TextKind>
-    requires { length line.now ≤ 4096 }
+    requires { length line.now ≤ LONGEST_POLICY_LINE }
     ensures { ReadsAs result (period_by line.now (bounds_in words.entry)) }
 {
     let Some(bounds) = bounds(words) else {

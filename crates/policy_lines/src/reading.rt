@@ -12,7 +12,7 @@ use crate::first_words::{LineVerb, line_verb};
 use crate::forms::{cap, edge, entry, formed, limit, linked, one_name, opening, version};
 use crate::periods::period;
 use crate::triggers::trigger;
-use gt_base::Form;
+use gt_base::{Form, LONGEST_POLICY_LINE};
 use gt_text::{Words, begins};
 use policy_words::{Said, TextKind, TextVersion};
 use std::alloc::Global;
@@ -44,7 +44,7 @@ fn said_after(
     verb: LineVerb,
     words: Words<'_>,
 ) -> Result<Said, TextKind>
-    requires { length line.now ≤ 4096 }
+    requires { length line.now ≤ LONGEST_POLICY_LINE }
     ensures { ReadsAs result (said_behind text_version line.now verb words.entry) }
 {
     match verb {
@@ -77,7 +77,7 @@ fn said_of(
     word: &[u8],
     words: Words<'_>,
 ) -> Result<Said, TextKind>
-    requires { length line.now ≤ 4096 }
+    requires { length line.now ≤ LONGEST_POLICY_LINE }
     ensures { ReadsAs result (said_of version line.now (word.now ∷ words.entry)) }
 {
     match line_verb(word) {
@@ -92,7 +92,7 @@ fn read_line(alloc: Global, version: TextVersion, line: &[u8]) -> Result<Option<
     ensures fault { IfErr result (λ f. (f ≡ TextKind.Memory)
         ⊎ (read_said version line.now ≡ Err f)) }
 {
-    if line.len() > 4096 {
+    if line.len() > LONGEST_POLICY_LINE {
         return Err(TextKind::Long);
     }
     let mut words = Words::new(line);

@@ -9,7 +9,7 @@ ghost use Rattle.policy_lines.specs.Answered.{ReadsAs};
 use crate::edges::is_allowed;
 use crate::items::read_items;
 use crate::parts::{next_head, read_delay};
-use gt_base::Memory;
+use gt_base::{MAX_ITEMS, MAX_POLICY_PRIO, Memory};
 use gt_text::Words;
 use policy_words::{Item, Said, TextKind};
 use std::alloc::Global;
@@ -33,7 +33,7 @@ fn has_cause(items: &[Item]) -> bool
 fn is_body(items: &[Item]) -> bool
     ensures { result ≡ is_body items.now }
 {
-    items.len() <= 16 && has_cause(items)
+    items.len() <= MAX_ITEMS && has_cause(items)
 }
 
 fn is_bodied(said: &Said) -> bool
@@ -53,7 +53,7 @@ fn when(alloc: Global, mut words: Words<'_>) -> Result<Option<Said>, Memory>
     let Some(items) = read_items(alloc, &mut words)? else {
         return Ok(None);
     };
-    let Some(head) = next_head(99, &mut words) else {
+    let Some(head) = next_head(MAX_POLICY_PRIO, &mut words) else {
         return Ok(None);
     };
     let Some(delay) = read_delay(words) else {

@@ -37,7 +37,7 @@ fn edge_of(g: &EventGraph, n: u32) -> CycleEdge
     requires { n < length g.now.net.edges }
     ensures { IsToldEdge g.now result n }
 {
-    let _ends = g.graph().edges();
+    g.graph().keeps();
     let e = g.graph().edge(n);
     let (trigger, place) = g.place(n);
     CycleEdge {

@@ -1,5 +1,6 @@
 -- What holds of canonical texts.
 use Rattle.std.specs.Prelude.{◌≡◌, ◌≤◌, length, All, Ok}
+use Rattle.gt_base.specs.declared.limits.TheConstants.{LONGEST_POLICY_LINE}
 use Rattle.gt_text.specs.Lines.{lines_of}
 use Rattle.policy_words.specs.Naming.{NamedPolicy}
 use Rattle.policy_words.specs.Canonical.{canonical_text}
@@ -10,5 +11,5 @@ use Rattle.policy_words.specs.Valid.{IsWellFormed}
 -- bytes
 abbrev pub CanonicalIsRead : Type 0
 CanonicalIsRead = (np : NamedPolicy) → IsWellFormed np
-    → All (λ line. length line ≤ 4_096) (lines_of (canonical_text np))
+    → All (λ line. length line ≤ LONGEST_POLICY_LINE) (lines_of (canonical_text np))
     → policy_read (canonical_text np) ≡ Ok np

@@ -2,6 +2,7 @@
 use Rattle.std.specs.Prelude.{ℕ, ◌+◌, Bool, true, false, ◌&&◌, not, List, [], ◌∷◌, map, filter_map, bytes_eq, nat_le, Option, Some, None, Result, Ok, Err, is_some, if◌then◌else◌}
 use Rattle.std.specs.List.{list_any, list_all}
 use Rattle.gt_base.specs.declared.policies.HierEdge.{HierEdge}
+use Rattle.gt_base.specs.declared.limits.TheConstants.{MAX_ASSIGNED, MAX_EDGES, MAX_ENTRIES, MAX_GRANTED, MAX_LIMITS, MAX_PERIODS, MAX_PERMS, MAX_ROLES, MAX_TRIGGERS, MAX_USERS}
 use Rattle.gtrbac_model.specs.Graph.{item_at}
 use Rattle.gtrbac_model.specs.EdgeCycles.{edge_cycle}
 use Rattle.policy_words.specs.declared.parts.NamedFluent.{NamedFluent}
@@ -120,16 +121,16 @@ kind_of (opening f) = fluent_kind f
 kind_of _ = None
 
 abbrev pub most_of : Kind → ℕ
-most_of kinds.Roles = 1_000
-most_of kinds.Users = 10_000
-most_of kinds.Perms = 10_000
-most_of kinds.Periods = 1_000
-most_of kinds.Limits = 1_000
-most_of kinds.Edges = 4_000
-most_of kinds.Entries = 4_000
-most_of kinds.Triggers = 4_000
-most_of kinds.Assigned = 50_000
-most_of kinds.Granted = 50_000
+most_of kinds.Roles = MAX_ROLES
+most_of kinds.Users = MAX_USERS
+most_of kinds.Perms = MAX_PERMS
+most_of kinds.Periods = MAX_PERIODS
+most_of kinds.Limits = MAX_LIMITS
+most_of kinds.Edges = MAX_EDGES
+most_of kinds.Entries = MAX_ENTRIES
+most_of kinds.Triggers = MAX_TRIGGERS
+most_of kinds.Assigned = MAX_ASSIGNED
+most_of kinds.Granted = MAX_GRANTED
 
 abbrev pub same_kind : Kind → Kind → Bool
 same_kind kinds.Roles kinds.Roles = true

@@ -3,7 +3,7 @@ use Rattle.std.specs.Prelude.{ℕ, zero, suc, ◌+◌, Bool, true, false, List, 
 use Rattle.gt_base.specs.Names.{name_in, number_from}
 use Rattle.gt_base.specs.declared.policies.Form.{Form}
 use Rattle.gt_base.specs.declared.policies.Form.TheVariants.{Each, Start, Span}
-use Rattle.gt_base.specs.declared.limits.TheConstants.{LAST_MINUTE, MAX_COUNT}
+use Rattle.gt_base.specs.declared.limits.TheConstants.{LAST_MINUTE, LONGEST_POLICY_LINE, MAX_COUNT, MAX_POLICY_PRIO}
 use Rattle.gtrbac_model.specs.Period.{Expr}
 use Rattle.gt_text.specs.Lines.{without_return, is_longer}
 use Rattle.gt_text.specs.Words.{words_of, are_silent}
@@ -87,7 +87,7 @@ most_at _ = None
 abbrev pub limit_in : List (List ℕ) → Option SaidView
 limit_in (n ∷ p ∷ ws) = do
   name ← name_in n
-  prio ← number_from 0 99 p
+  prio ← number_from 0 MAX_POLICY_PRIO p
   c ← cond_at ws
   most ← most_at c.1
   during ← during_in most.1
@@ -128,7 +128,7 @@ abbrev pub entry_in : Form → List (List ℕ) → Option SaidView
 entry_in f [] = None
 entry_in f (p ∷ ws) = do
   name ← name_in p
-  h ← head_at 99 ws
+  h ← head_at MAX_POLICY_PRIO ws
   at_end (entry f name h.0) h.1
 
 -- items with `and` between them, up to `then`; with so many words left there are no more items
@@ -148,7 +148,7 @@ items_at (suc k) ws = do
 abbrev pub trigger_in : List (List ℕ) → Option SaidView
 trigger_in ws = do
   items ← items_at (length ws) ws
-  h ← head_at 99 items.1
+  h ← head_at MAX_POLICY_PRIO items.1
   d ← delay_in h.1
   Some (trigger items.0 h.0 d)
 
@@ -213,7 +213,7 @@ some_said (Err t) = Err t
 -- what a line says, nothing where it is silent, in a text whose lines before it tell this version
 abbrev pub read_said : TextVersion → List ℕ → Result (Option SaidView) TextKind
 read_said v line =
-    if is_longer 4096 line then Err faults.Long
+    if is_longer LONGEST_POLICY_LINE line then Err faults.Long
     else if are_silent (words_of line) then Ok None
     else some_said (said_of v line (words_of line))
 

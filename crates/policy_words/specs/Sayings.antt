@@ -4,7 +4,7 @@ use Rattle.std.specs.List.{list_all, list_any}
 use Rattle.gt_base.specs.Names.{is_name}
 use Rattle.gt_base.specs.declared.policies.Form.{Form}
 use Rattle.gt_base.specs.declared.policies.Form.TheVariants.{Each, Start, Span}
-use Rattle.gt_base.specs.declared.limits.TheConstants.{LAST_MINUTE, MAX_COUNT}
+use Rattle.gt_base.specs.declared.limits.TheConstants.{LAST_MINUTE, MAX_COUNT, MAX_ITEMS, MAX_POLICY_PRIO}
 use Rattle.gtrbac_model.specs.Period.{Expr}
 use Rattle.gtrbac_model.specs.History.{is_some_item}
 use Rattle.gtrbac_model.specs.Valid.{is_expr}
@@ -93,7 +93,7 @@ abbrev pub are_names : List (List ℕ) → Bool
 are_names ns = list_all is_name ns
 
 abbrev pub is_head : NamedHead → Bool
-is_head h = nat_le h.prio 99 && are_names (fluent_names h.event.fluent)
+is_head h = nat_le h.prio MAX_POLICY_PRIO && are_names (fluent_names h.event.fluent)
 
 abbrev pub is_item : Item → Bool
 is_item (Event e) = are_names (fluent_names e.fluent)
@@ -116,7 +116,7 @@ is_cause (Settled c) = false
 
 -- at most 16 items, of which one is an event or a signal
 abbrev pub is_body : List Item → Bool
-is_body items = nat_le (length items) 16 && list_any is_cause items
+is_body items = nat_le (length items) MAX_ITEMS && list_any is_cause items
 
 -- the names and numbers of a saying; bounds and bodies are not asked
 abbrev pub is_formed : SaidView → Bool
@@ -126,7 +126,7 @@ is_formed (user n) = is_name n
 is_formed (perm n) = is_name n
 is_formed (period n first last e) = is_name n && nat_le first LAST_MINUTE && nat_le last LAST_MINUTE
     && is_expr e
-is_formed (limit n prio c most during) = is_name n && nat_le prio 99
+is_formed (limit n prio c most during) = is_name n && nat_le prio MAX_POLICY_PRIO
     && are_names (fluent_names c.fluent) && is_count most && is_period_name during
 is_formed (edge kind strong s j) = is_name s && is_name j
 is_formed (cap kind r n) = is_name r && is_count n

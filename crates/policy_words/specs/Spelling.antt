@@ -1,7 +1,7 @@
 -- What a line of a policy says, as a relation: by the words that spell it, and not by reading.
 use Rattle.std.specs.Prelude.{◌≡◌, ◌≢◌, ◌⊎◌, ℕ, zero, ◌≤◌, ◌<◌, Bool, true, false, List, [], ◌∷◌, ◌++◌, length, take, codes, Option, Some, None, Result, Ok, Err, IsTrue, Contains, if◌then◌else◌}
 use Rattle.gt_base.specs.Names.{is_name}
-use Rattle.gt_base.specs.declared.limits.TheConstants.{LAST_MINUTE}
+use Rattle.gt_base.specs.declared.limits.TheConstants.{LAST_MINUTE, LONGEST_POLICY_LINE}
 use Rattle.gtrbac_model.specs.Period.{Expr}
 use Rattle.gt_text.specs.Words.{words_of, are_silent}
 use Rattle.civil_time.specs.Text.{civil_text}
@@ -92,23 +92,24 @@ pub record HasNoForm (edges : Bool) (line : List ℕ) : Type 0 where
 
 -- what reading a line answers in a text of this version: nothing, a saying, or why not
 abbrev pub IsSaid : TextVersion → List ℕ → Result (Option SaidView) TextKind → Type 0
-IsSaid v line (Ok None) = IsSilent 4096 line
-IsSaid v line (Ok (Some said)) = IsLoud 4096 line × IsTrue (is_formed said) × Spells said line
+IsSaid v line (Ok None) = IsSilent LONGEST_POLICY_LINE line
+IsSaid v line (Ok (Some said)) =
+    IsLoud LONGEST_POLICY_LINE line × IsTrue (is_formed said) × Spells said line
     × IsTrue (is_bodied said) × IsPlaced v said
-IsSaid v line (Err faults.Long) = 4096 < length line
+IsSaid v line (Err faults.Long) = LONGEST_POLICY_LINE < length line
 IsSaid v line (Err faults.Version) =
-    IsLoud 4096 line × BeginsWith line (codes "policy")
+    IsLoud LONGEST_POLICY_LINE line × BeginsWith line (codes "policy")
     × (IsTrue (is_open v) → (n : ℕ) → IsTrue (is_formed (version n))
     → words_of line ≢ said_words (version n))
-IsSaid v line (Err faults.Word) = IsLoud 4096 line
+IsSaid v line (Err faults.Word) = IsLoud LONGEST_POLICY_LINE line
     × ((w : List ℕ) → Contains (words_that_begin (has_edges v)) w → BeginsWith line w → ⊥)
-IsSaid v line (Err faults.Form) = IsLoud 4096 line × HasNoForm (has_edges v) line
+IsSaid v line (Err faults.Form) = IsLoud LONGEST_POLICY_LINE line × HasNoForm (has_edges v) line
 IsSaid v line (Err faults.Body) =
-    IsLoud 4096 line × ((said : SaidView) × IsTrue (is_formed said)
+    IsLoud LONGEST_POLICY_LINE line × ((said : SaidView) × IsTrue (is_formed said)
     × IsTrue (is_allowed (has_edges v) said) × Spells said line × (is_bodied said ≡ false))
-IsSaid v line (Err faults.Bounds) = IsLoud 4096 line
+IsSaid v line (Err faults.Bounds) = IsLoud LONGEST_POLICY_LINE line
     × ((n : List ℕ) × (f : ℕ) × (l : ℕ) × HasBounds line n f l × (l < f))
-IsSaid v line (Err (faults.Expr t)) = IsLoud 4096 line
+IsSaid v line (Err (faults.Expr t)) = IsLoud LONGEST_POLICY_LINE line
     × ((n : List ℕ) × (f : ℕ) × (l : ℕ) × HasBounds line n f l × (f ≤ l)
     × ExprFails (expr_of_line line) t)
 IsSaid v line (Err faults.Memory) = ⊥

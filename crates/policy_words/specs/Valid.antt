@@ -4,6 +4,7 @@ use Rattle.std.specs.List.{list_all, list_any}
 use Rattle.gt_base.specs.Names.{is_name}
 use Rattle.gtrbac_model.specs.WholePolicy.{IsPolicy}
 use Rattle.gt_base.specs.declared.policies.HierEdge.{HierEdge}
+use Rattle.gt_base.specs.declared.limits.TheConstants.{MAX_LIMITS, MAX_PERIODS, MAX_PERMS, MAX_ROLES, MAX_USERS}
 use Rattle.policy_words.specs.Naming.{Names, NamePair, NamedPolicy, role_name}
 
 abbrev pub repeats_later : List (List ℕ) → Bool
@@ -19,11 +20,11 @@ pair_of ns e = (role_name ns e.senior, role_name ns e.junior)
 
 -- the names are those of the numbers, and the policy keeps what every policy keeps
 pub record IsWellFormed (np : NamedPolicy) : Type 0 where
-  pub roles : IsTrue (are_names 1_000 np.names.roles)
-  pub users : IsTrue (are_names 10_000 np.names.users)
-  pub perms : IsTrue (are_names 10_000 np.names.perms)
-  pub periods : IsTrue (are_names 1_000 np.names.periods)
-  pub limits : IsTrue (are_names 1_000 np.names.limits)
+  pub roles : IsTrue (are_names MAX_ROLES np.names.roles)
+  pub users : IsTrue (are_names MAX_USERS np.names.users)
+  pub perms : IsTrue (are_names MAX_PERMS np.names.perms)
+  pub periods : IsTrue (are_names MAX_PERIODS np.names.periods)
+  pub limits : IsTrue (are_names MAX_LIMITS np.names.limits)
   pub role_count : np.policy.roles ≡ length np.names.roles
   pub user_count : np.policy.users ≡ length np.names.users
   pub perm_count : np.policy.perms ≡ length np.names.perms

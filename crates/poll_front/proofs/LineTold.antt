@@ -1,6 +1,7 @@
 -- A line of a link behind those that were acted on, and the telling of its reply.
 use Rattle.std.proofs.Common.{◌≡◌, ℕ, ◌+◌, ◌^◌, ◌<◌, ◌≤◌, true, false, List, [], ◌∷◌, ◌++◌, length, get_or, refl, sym, ap, subst, ◌∙◌, arith, Option, Result, Ok, Err}
 use Rattle.gt_base.specs.declared.requests.Entry.{Entry}
+use Rattle.gt_base.specs.Roomy.{Roomy}
 use Rattle.gt_io.specs.Frames.{Frame, pushed}
 use Rattle.gt_io.specs.Ports.{Port, Harbour}
 use Rattle.turn_lock.specs.Turns.{Each}
@@ -30,21 +31,21 @@ pub pushes_unworn : (a b : Harbour) (c : ℕ) (text : List ℕ) (at at' n : ℕ)
 pushes_unworn a b c text at at' n {T} result p is =
     let q : PushesOut a b c text at at' {T = T} (Err (End (Worn n))) = subst (λ (r : Result T Pause). PushesOut a b c text at at' r) is p in q.pushed
 
-module _ {M : Type 0} (np : NamedPolicy) (first : List Entry) (legal : List Entry → Type 0) (now : List Entry → ℕ) (number : ℕ) (o p p' : FrontSpot M) (start : Port) (a b : Harbour) (c : ℕ) (turns : List Turn) (s : Party) (fed line : List ℕ) (byte : ℕ) (frame : Frame) (talk : Talk)
+module _ {M : Type 0} (np : NamedPolicy) (first : List Entry) (legal : List Entry → Type 0) (now : List Entry → ℕ) (number : ℕ) (o p p' : FrontSpot M) (start : Port) (a b : Harbour) (c : ℕ) (turns : List Turn) (s : Party) (fed line : List ℕ) (byte : ℕ) (frame : Frame) (talk : Talk) (room : Roomy ℕ)
     (g : Running np first legal now number o p turns) (stands : PartyStands np start (a.port c) s fed (acted_of c turns)) (whole : IsWrittenWhole np (acted_of c turns) s.at)
     (some : s.from < s.upto) (within : s.upto ≤ length s.chunk) (is : byte ≡ get_or s.chunk s.from 0) (feed : is_feed byte ≡ true) (line_is : line ≡ open_line fed) (framed : frame ≡ pushed s.framer byte) where
   abbrev Heard : LineAnswer → Type 0
   Heard told = Hears np first legal now (by number c) p.pass p'.pass s.talk talk p.pace p'.pace p.clock p'.clock line told
 
   abbrev after : LineAnswer → ℕ → Party
-  after told at = record s { framer = frame; from = s.from + 1; talk = talk; told = told; at = at }
+  after told at = record s { framer = frame; from = s.from + 1; talk = talk; told = told; at = at; room = room }
 
   line_unworn : (told : LineAnswer) (at : ℕ) {T : Type 0} (result : Result T Pause) → IsUnwornTold told → (x : Heard told) → PushesOut a b c (told_bytes told) 0 at result
       → Gone np first legal now number o p' start (b.port c) c turns (after told at) result
   line_unworn told at {T} result unworn x push =
       let turn : Turn = record { link = c; acted = x.acted } in
       let here : acted_of c (turn ∷ turns) ≡ x.acted ∷ acted_of c turns = acted_here c turn turns refl in
-      let y = stands_line np start (a.port c) s (after told 0) fed line (acted_of c turns) x.acted byte frame talk told stands whole some within is feed line_is framed x.line_is x.told_is
+      let y = stands_line np start (a.port c) s (after told 0) fed line (acted_of c turns) x.acted byte frame talk told room stands whole some within is feed line_is framed x.line_is x.told_is
       (told_unworn np told x.acted.answer x.told_is unworn) x.actor x.named x.asked x.denied refl in
       record {
         more = turn ∷ [];

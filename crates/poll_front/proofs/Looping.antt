@@ -20,7 +20,7 @@ use Rattle.poll_front.proofs.Counting.{count_less}
 use Rattle.poll_front.proofs.Seating.{sits_first, ends_full}
 use Rattle.poll_front.proofs.ListSteps.{set_cases, push_cases}
 use Rattle.poll_front.proofs.Tabling.{tabled_owed, tabled_served, tabled_seated, ready_owed, ready_away, opened_away, opened_here}
-use Rattle.poll_front.specs.declared.front.TheConstants.{MOST_OPEN}
+use Rattle.poll_front.specs.declared.front.TheConstants.{MAX_OPEN}
 
 -- the last seat is not worn, nor were the others
 unworn_push : (seats : List Seat) (s : Seat) → AreUnwornSeats seats → IsUnwornSeat s → AreUnwornSeats (seats ++ s ∷ [])
@@ -33,7 +33,7 @@ fresh_unworn : (s : Seat) → IsFreshSeat s → IsUnwornSeat s
 fresh_unworn (Open b) f = tt
 fresh_unworn (Over e) f = absurd f
 
-fresh_sits : (np : NamedPolicy) (start p : Port) (others : ℕ) (s : Seat) → IsFreshSeat s → SameBytes start p → others < MOST_OPEN → Sits np start (newly others p) [] s
+fresh_sits : (np : NamedPolicy) (start p : Port) (others : ℕ) (s : Seat) → IsFreshSeat s → SameBytes start p → others < MAX_OPEN → Sits np start (newly others p) [] s
 fresh_sits np start p others (Open b) f same few = (sits_first np start p others b.value f same few, refl, few)
 fresh_sits np start p others (Over e) f same few = absurd f
 
@@ -66,7 +66,7 @@ module _ {M : Type 0} (np : NamedPolicy) (first : List Entry) (legal : List Entr
     here_is : b.port (a.opened + 1) ≡ newly (open_among a.port a.opened) (a.port (a.opened + 1))
     here_is = subst (λ (j : ℕ). b.port j ≡ newly (open_among a.port a.opened) (a.port j)) is (opened_here a b c h)
 
-    pub opened_full : (d : Harbour) (seats' : List Seat) (busy' : ℕ) → MOST_OPEN ≤ busy → busy ≤ 1024 → Finishes b d c → busy' ≡ busy → seats' ≡ seats ++ Over (record { asked = 0; denied = 0; outcome = Full }) ∷ []
+    pub opened_full : (d : Harbour) (seats' : List Seat) (busy' : ℕ) → MAX_OPEN ≤ busy → busy ≤ 1024 → Finishes b d c → busy' ≡ busy → seats' ≡ seats ++ Over (record { asked = 0; denied = 0; outcome = Full }) ∷ []
         → Seated d seats' busy'
     opened_full d seats' busy' many low f busy_is seats_are =
         let s : Seat = Over (record { asked = 0; denied = 0; outcome = Full }) in
@@ -94,7 +94,7 @@ module _ {M : Type 0} (np : NamedPolicy) (first : List Entry) (legal : List Entr
           told = f.rest.told;
         }
 
-    pub opened_seated : (d : Harbour) (seats' : List Seat) (busy' : ℕ) (s : Seat) → busy < MOST_OPEN → d ≡ b → busy' ≡ busy + 1 → IsFreshSeat s → seats' ≡ seats ++ s ∷ [] → Seated d seats' busy'
+    pub opened_seated : (d : Harbour) (seats' : List Seat) (busy' : ℕ) (s : Seat) → busy < MAX_OPEN → d ≡ b → busy' ≡ busy + 1 → IsFreshSeat s → seats' ≡ seats ++ s ∷ [] → Seated d seats' busy'
     opened_seated d seats' busy' s few d_is busy_is fresh seats_are =
         let n = open_among a.port a.opened in
         let count = x.count in

@@ -17,7 +17,7 @@ use Rattle.std.specs.Global.{Box}
 use Rattle.poll_front.specs.Fronts.{Turn, FrontSpot, acted_of, Running, PartyStands, Rests, EndsLink, PollsBy, Gone, Tends, FailsLast, Attends, HasOwnEnd, faults_by}
 use Rattle.poll_front.specs.Tables.{Sits, IsLetIn, IsUnwornSeat, SeatGone, SeatServed}
 use Rattle.poll_front.proofs.Pushing.{rest_twice, tends_none, live_sound}
-use Rattle.poll_front.specs.declared.front.TheConstants.{MOST_OPEN}
+use Rattle.poll_front.specs.declared.front.TheConstants.{MAX_OPEN}
 
 done_polls : (q : Port) (n : ℕ) (taken : List ℕ) (end : PollEnd) → PollsBy q taken end → PollsBy (record q { owed = false; finished = Some n }) taken end
 done_polls q n taken Ended x = x
@@ -46,7 +46,7 @@ ends_done np start q n asked denied acted end x =
       cause = done_polls q n x.taken end x.cause;
     }
 
-let_in_by : (q r : Port) (taken : List ℕ) (end : PollEnd) → PollsBy q taken end → r.others ≡ q.others → q.others < MOST_OPEN → IsLetIn r end
+let_in_by : (q r : Port) (taken : List ℕ) (end : PollEnd) → PollsBy q taken end → r.others ≡ q.others → q.others < MAX_OPEN → IsLetIn r end
 let_in_by q r taken Full x same low = let many = x.1 in omega (arith, many, same)
 let_in_by q r taken Ended x same low = omega (arith, same, low)
 let_in_by q r taken ReadFault x same low = omega (arith, same, low)

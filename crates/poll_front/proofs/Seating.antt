@@ -10,6 +10,7 @@ use Rattle.gt_io.specs.Ports.{Port, Harbour, is_over, newly, readied}
 use Rattle.turn_lock.specs.Turns.{Each}
 use Rattle.policy_words.specs.Naming.{NamedPolicy}
 use Rattle.gt_base.specs.declared.requests.Actor.{Actor}
+use Rattle.gt_base.specs.declared.limits.TheConstants.{MAX_BYTES}
 use Rattle.gt_io.specs.Frames.{Frame}
 use Rattle.connection_laws.specs.Cuts.{whole_lines}
 use Rattle.connection_laws.specs.Fits.{FrameFits}
@@ -26,8 +27,7 @@ use Rattle.poll_front.specs.Fronts.{Turn, acted_of, waiting_bytes, PartyStands, 
 use Rattle.poll_front.specs.Tables.{IsFreshParty, Sits, IsLetIn, IsLetGo, SameBytes, EndsSeatAt}
 use Rattle.poll_front.proofs.Standing.{waits_none, ends_whole, part_given}
 use Rattle.poll_front.proofs.Turning.{acted_apart}
-use Rattle.poll_front.specs.declared.parties.TheConstants.{MOST_BYTES}
-use Rattle.poll_front.specs.declared.front.TheConstants.{MOST_OPEN}
+use Rattle.poll_front.specs.declared.front.TheConstants.{MAX_OPEN}
 
 -- a link whose number is behind those of all turns has no line
 pub acted_none : (c n : ℕ) (turns : List Turn) → Each (λ (t : Turn). (1 ≤ t.link) × (t.link ≤ n)) turns → n < c → acted_of c turns ≡ []
@@ -101,7 +101,7 @@ pub sits_owed : (np : NamedPolicy) (start q r : Port) (o : Bool) (acted : List A
 sits_owed np start q r o acted s is x = subst (λ (z : Port). Sits np start z acted s) (sym is) (owed_sits np start q o acted s x)
 
 -- a link that was just opened, in its seat
-pub sits_first : (np : NamedPolicy) (start p : Port) (others : ℕ) (s : Party) → IsFreshParty s → SameBytes start p → others < MOST_OPEN
+pub sits_first : (np : NamedPolicy) (start p : Port) (others : ℕ) (s : Party) → IsFreshParty s → SameBytes start p → others < MAX_OPEN
     → Rests np start (newly others p) s []
 sits_first np start p others s f same few =
     let none : waiting_bytes s ≡ [] = waits_none s (f.waits.0 ∙ sym f.waits.1) in
@@ -132,7 +132,7 @@ sits_first np start p others s f same few =
     }
 
 -- a link that was let go at once
-pub ends_full : (np : NamedPolicy) (start p : Port) (others nexts : ℕ) → SameBytes start p → MOST_OPEN ≤ others
+pub ends_full : (np : NamedPolicy) (start p : Port) (others nexts : ℕ) → SameBytes start p → MAX_OPEN ≤ others
     → EndsLink np start (record (newly others p) { owed = false; finished = Some nexts }) 0 0 [] Full
 ends_full np start p others nexts same many =
     record {

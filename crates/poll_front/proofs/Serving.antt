@@ -2,6 +2,7 @@
 use Rattle.std.proofs.Common.{◌≡◌, ◌≢◌, ◌⊎◌, ℕ, ◌+◌, ◌-◌, ◌*◌, ◌^◌, ◌<◌, ◌≤◌, Bool, true, false, List, [], ◌∷◌, ◌++◌, length, slice_get, refl, sym, ap, subst, ◌∙◌, arith, length-append, ⊎_elim, Option, Some, None}
 use Rattle.std.proofs.lemmas.Option.{slice_get_within, slice_get_cases}
 use Rattle.gt_base.specs.declared.requests.Entry.{Entry}
+use Rattle.gt_base.specs.declared.limits.TheConstants.{MAX_BYTES}
 use Rattle.gt_io.specs.Ports.{Port, Harbour, IsOpen, is_over, NoneOwed, AreFinished}
 use Rattle.policy_words.specs.Naming.{NamedPolicy}
 use Rattle.connection_laws.specs.Connection.{Acted, readings_of, asked_in, denied_in, is_accepted, is_denied, one_where}
@@ -12,7 +13,6 @@ use Rattle.poll_front.specs.Fronts.{Turn, FrontSpot, acted_of, all_acted, waitin
 use Rattle.poll_front.specs.Tables.{Sits, CanServe, Tabled, IsOpenSeat, AreOpenSeats}
 use Rattle.poll_front.proofs.Standing.{last_within, waits_long}
 use Rattle.poll_front.proofs.Sums.{calls_few}
-use Rattle.poll_front.specs.declared.parties.TheConstants.{MOST_BYTES}
 
 one_few : (b : Bool) → one_where b ≤ 1
 one_few true = omega arith

@@ -8,8 +8,10 @@ use Rattle.gt_io.specs.Frames.{Frame, pushed}
 use Rattle.gt_io.specs.declared.source.Failed.{Failed}
 use Rattle.policy_words.specs.Naming.{NamedPolicy}
 use Rattle.request_text.specs.Phrases.{read_line}
+use Rattle.gt_base.specs.Roomy.{Roomy}
 use Rattle.gt_base.specs.declared.requests.Actor.{Actor}
 use Rattle.gt_base.specs.declared.requests.Actor.TheVariants.{Nobody}
+use Rattle.gt_base.specs.declared.limits.TheConstants.{MAX_BYTES}
 use Rattle.connection_laws.specs.Cuts.{whole_lines, open_line}
 use Rattle.gt_text.specs.Lines.{is_feed}
 use Rattle.connection_laws.specs.Fits.{FrameFits}
@@ -28,7 +30,6 @@ use Rattle.poll_front.specs.declared.parties.Pause.{Pause}
 use Rattle.poll_front.specs.declared.parties.Pause.TheVariants.{Later, End}
 use Rattle.gt_io.specs.Ports.{Port, Harbour, is_over}
 use Rattle.poll_front.specs.Fronts.{PartyStands, Rests, EndsLink, Comes, TellsLast, IsWrittenWhole, IsCut, given_text, waiting_bytes, PushesOut, Pushed, FillsUp, Filled, IsPolled, PollsBy}
-use Rattle.poll_front.specs.declared.parties.TheConstants.{MOST_BYTES}
 
 -- the byte that waits next, and the others
 pub waits_next : (s : Party) → s.from < s.upto → s.upto ≤ length s.chunk → waiting_bytes s ≡ get_or s.chunk s.from 0 ∷ drop (s.from + 1) (take s.upto s.chunk)
@@ -149,19 +150,19 @@ stands_byte np start q s s' fed acted byte frame x some within is other framed i
     subst (λ (z : Party). PartyStands np start q z (fed ++ byte ∷ []) acted) (sym is') y
 
 -- a line was acted on, and nothing of its reply is written yet
-pub stands_line : (np : NamedPolicy) (start q : Port) (s s' : Party) (fed line : List ℕ) (acted : List Acted) (a : Acted) (byte : ℕ) (frame : Frame) (talk : Talk) (told : LineAnswer) → PartyStands np start q s fed acted → IsWrittenWhole np acted s.at
+pub stands_line : (np : NamedPolicy) (start q : Port) (s s' : Party) (fed line : List ℕ) (acted : List Acted) (a : Acted) (byte : ℕ) (frame : Frame) (talk : Talk) (told : LineAnswer) (room : Roomy ℕ) → PartyStands np start q s fed acted → IsWrittenWhole np acted s.at
     → s.from < s.upto → s.upto ≤ length s.chunk → byte ≡ get_or s.chunk s.from 0 → is_feed byte ≡ true → line ≡ open_line fed → frame ≡ pushed s.framer byte
     → a.line ≡ line → IsTold np told a.answer → is_worn a.answer ≡ false → talk.actor ≡ actor_by (read_line np Nobody false line) s.talk.actor → IsNamedActor np talk.actor
     → talk.asked ≡ s.talk.asked + one_where (is_accepted a.answer) → talk.denied ≡ s.talk.denied + one_where (is_denied a.answer)
-    → s' ≡ record s { framer = frame; from = s.from + 1; talk = talk; told = told; at = 0 }
+    → s' ≡ record s { framer = frame; from = s.from + 1; talk = talk; told = told; at = 0; room = room }
     → PartyStands np start q s' (fed ++ byte ∷ []) (a ∷ acted)
-stands_line np start q s s' fed line acted a byte frame talk told x whole some within is feed line_is framed a_line tells unworn speaks named asked denied is' =
+stands_line np start q s s' fed line acted a byte frame talk told room x whole some within is feed line_is framed a_line tells unworn speaks named asked denied is' =
     let next : waiting_bytes s ≡ byte ∷ drop (s.from + 1) (take s.upto s.chunk) = waits_next s some within ∙ ap (λ (b : ℕ). b ∷ drop (s.from + 1) (take s.upto s.chunk)) (sym is) in
     let same : fed ++ waiting_bytes s ≡ (fed ++ byte ∷ []) ++ drop (s.from + 1) (take s.upto s.chunk) = ap (λ (l : List ℕ). fed ++ l) next ∙ sym (append_assoc fed (byte ∷ []) (drop (s.from + 1) (take s.upto s.chunk))) in
     let few = x.few in
     let long = length-append fed (byte ∷ []) in
     let w = x.within in
-    let moved : Party = record s { framer = frame; from = s.from + 1; talk = talk; told = told; at = 0 } in
+    let moved : Party = record s { framer = frame; from = s.from + 1; talk = talk; told = told; at = 0; room = room } in
     let y : PartyStands np start q moved (fed ++ byte ∷ []) (a ∷ acted) = record {
       frame_fits = subst (λ (f : Frame). FrameFits f (fed ++ byte ∷ [])) (sym framed) (fits_feed s.framer fed byte feed);
       lines = ap (λ (l : List ℕ). reply_lines acted ++ l ∷ []) (a_line ∙ line_is) ∙ ap (λ (ls : List (List ℕ)). ls ++ open_line fed ∷ []) x.lines ∙ sym (lines_feed fed byte feed);

@@ -6,6 +6,7 @@ use mathlib.Core.List.{IsPrefix}
 use Rattle.gt_base.specs.declared.requests.Who.{Who}
 use Rattle.gt_base.specs.declared.requests.Actor.TheVariants.{Nobody}
 use Rattle.gt_base.specs.declared.requests.Entry.{Entry}
+use Rattle.gt_base.specs.declared.limits.TheConstants.{MAX_BYTES}
 use Rattle.gt_io.specs.Links.{Reads}
 use Rattle.gt_io.specs.declared.source.Failed.{Failed}
 use Rattle.turn_lock.specs.Turns.{Each}
@@ -28,8 +29,8 @@ use Rattle.poll_front.specs.declared.parties.Party.{Party}
 use Rattle.poll_front.specs.declared.parties.Pace.{Pace}
 use Rattle.poll_front.specs.declared.parties.Pause.{Pause}
 use Rattle.poll_front.specs.declared.parties.Pause.TheVariants.{Later, End}
-use Rattle.poll_front.specs.declared.parties.TheConstants.{MOST_BYTES, MOST_READ}
-use Rattle.poll_front.specs.declared.front.TheConstants.{MOST_OPEN}
+use Rattle.poll_front.specs.declared.parties.TheConstants.{MAX_READ}
+use Rattle.poll_front.specs.declared.front.TheConstants.{MAX_OPEN}
 use Rattle.gt_io.specs.declared.port.Got.TheVariants.{Finished}
 use Rattle.gt_io.specs.declared.port.Took.TheVariants.{NotYet}
 use Rattle.gt_io.specs.declared.port.Called.{Called}
@@ -128,8 +129,8 @@ pub record PartyStands (np : NamedPolicy) (start now : Port) (s : Party) (fed : 
   pub given : Appends start.given now.given (given_text np acted s.at)
   pub taken : Appends start.taken now.taken (fed ++ waiting_bytes s)
   pub left : Consumes start.left now.left (fed ++ waiting_bytes s)
-  pub counted : length (fed ++ waiting_bytes s) + s.left ≡ MOST_BYTES
-  pub within : (s.from ≤ s.upto) × (s.upto ≤ MOST_READ) × (s.upto ≤ length s.chunk)
+  pub counted : length (fed ++ waiting_bytes s) + s.left ≡ MAX_BYTES
+  pub within : (s.from ≤ s.upto) × (s.upto ≤ MAX_READ) × (s.upto ≤ length s.chunk)
   pub live : is_over now.last ≡ false
 
 -- it is left for another: all of its bytes were acted on and told, or its last reply waits for room
@@ -153,11 +154,11 @@ IsPolled np taken given acted last Full = (taken ≡ []) × (given ≡ []) × (a
 
 -- each end has its cause
 abbrev pub PollsBy : Port → List ℕ → PollEnd → Type 0
-PollsBy q taken Ended = (q.last ≡ Read (Ok Finished)) × IsAtEnd q.left × (length taken < MOST_BYTES)
-PollsBy q taken ReadFault = (f : Failed) × (q.last ≡ Read (Err f)) × (length taken < MOST_BYTES)
+PollsBy q taken Ended = (q.last ≡ Read (Ok Finished)) × IsAtEnd q.left × (length taken < MAX_BYTES)
+PollsBy q taken ReadFault = (f : Failed) × (q.last ≡ Read (Err f)) × (length taken < MAX_BYTES)
 PollsBy q taken WriteFault = (f : Failed) × (q.last ≡ Wrote (Err f))
-PollsBy q taken Spent = (is_over q.last ≡ false) × (length taken ≡ MOST_BYTES)
-PollsBy q taken Full = (q.last ≡ Nothing) × (MOST_OPEN ≤ q.others)
+PollsBy q taken Spent = (is_over q.last ≡ false) × (length taken ≡ MAX_BYTES)
+PollsBy q taken Full = (q.last ≡ Nothing) × (MAX_OPEN ≤ q.others)
 PollsBy q taken Stopped = is_over q.last ≡ false
 PollsBy q taken (Worn n) = (is_over q.last ≡ false) × (n ≡ 2 ^ 40)
 
@@ -174,7 +175,7 @@ pub record EndsLink (np : NamedPolicy) (start now : Port) (asked denied : ℕ) (
   pub asked_is : asked ≡ asked_in acted
   pub denied_is : denied ≡ denied_in acted
   pub few : length acted ≤ length taken
-  pub bounded : length taken ≤ MOST_BYTES
+  pub bounded : length taken ≤ MAX_BYTES
   pub cause : PollsBy now taken end
 
 -- the run has not ended for it
@@ -245,7 +246,7 @@ pub record PushesOut (a b : Harbour) (c : ℕ) (text : List ℕ) (at at' : ℕ) 
 -- A read gives the bytes that wait next
 abbrev pub Filled : Port → Party → Party → {T : Type 0} → Result T Pause → Type 0
 Filled q s s' (Ok t) =
-    (n : ℕ) × (n ≤ s.left) × (n ≤ MOST_READ)
+    (n : ℕ) × (n ≤ s.left) × (n ≤ MAX_READ)
     × (s' ≡ record s { chunk = s'.chunk; from = 0; upto = n; left = s.left - n })
     × (is_over q.last ≡ false) × (0 < n)
 Filled q s s' (Err Later) =

@@ -4,6 +4,7 @@ use Rattle.std.specs.declared.option.Option.{Option}
 use Rattle.std.specs.Io.KnownBytes.{Appends, Consumes}
 use Rattle.gt_base.specs.declared.requests.Who.{Who}
 use Rattle.gt_base.specs.declared.requests.Entry.{Entry}
+use Rattle.gt_base.specs.declared.limits.TheConstants.{MAX_BYTES}
 use Rattle.gt_io.specs.Links.{Reads}
 use Rattle.gt_io.specs.declared.port.Took.TheVariants.{NotYet}
 use Rattle.gt_io.specs.declared.port.Called.{Called}
@@ -21,7 +22,6 @@ use Rattle.poll_front.specs.declared.ends.PollEnd.TheVariants.{Ended, ReadFault,
 use Rattle.poll_front.specs.Fronts.{Turn, acted_of, all_acted, PollsBy}
 use Rattle.poll_front.specs.declared.front.RunEnd.{RunEnd}
 use Rattle.poll_front.specs.Tables.{IsLetIn, IsLetGo, Ran}
-use Rattle.poll_front.specs.declared.parties.TheConstants.{MOST_BYTES}
 
 -- The link is a connection over the history, with its part of it as its own entries. One that was
 -- open at the end has the text of all its whole lines, or its last write found no room and the last
@@ -56,7 +56,7 @@ pub record IsPolledLink (np : NamedPolicy) (birth : ℕ) (h : List Entry) (nexts
   pub taken_is : Appends start.taken now.taken taken
   pub left_is : Consumes start.left now.left taken
   pub given_is : Appends start.given now.given given
-  pub bounded : length taken ≤ MOST_BYTES
+  pub bounded : length taken ≤ MAX_BYTES
   pub cause : PollsBy now taken e.outcome
   pub let_in : IsLetIn now e.outcome
   pub let_go : IsLetGo nexts now e.outcome

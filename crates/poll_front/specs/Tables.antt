@@ -4,6 +4,7 @@ use Rattle.std.specs.declared.option.Option.{Option}
 use Rattle.std.specs.declared.result.Result.{Result}
 use Rattle.gt_base.specs.declared.requests.Entry.{Entry}
 use Rattle.gt_base.specs.declared.requests.Actor.TheVariants.{Nobody}
+use Rattle.gt_base.specs.declared.limits.TheConstants.{MAX_BYTES, MAX_LINKS}
 use Rattle.turn_lock.specs.Turns.{Each}
 use Rattle.turn_lock.specs.Holders.{Holder}
 use Rattle.policy_words.specs.Naming.{NamedPolicy}
@@ -27,8 +28,8 @@ use Rattle.gt_io.specs.declared.port.PortEvent.{PortEvent}
 use Rattle.gt_io.specs.declared.port.PortEvent.TheVariants.{Opened, Ready, Stop}
 use Rattle.gt_io.specs.Ports.{Port, Harbour, IsOpen, KeepsRest, open_among}
 use Rattle.poll_front.specs.Fronts.{Turn, FrontSpot, acted_of, waiting_bytes, faults_of, Rests, EndsLink, HasOwnEnd, HasPlaces, Running}
-use Rattle.poll_front.specs.declared.front.TheConstants.{MOST_LINKS, MOST_OPEN}
-use Rattle.poll_front.specs.declared.parties.TheConstants.{MOST_BYTES, MOST_READ}
+use Rattle.poll_front.specs.declared.front.TheConstants.{MAX_OPEN}
+use Rattle.poll_front.specs.declared.parties.TheConstants.{MAX_READ}
 
 -- a party before its first byte
 pub record IsFreshParty (s : Party) : Type 0 where
@@ -36,7 +37,7 @@ pub record IsFreshParty (s : Party) : Type 0 where
   pub actor : s.talk.actor ≡ Nobody
   pub counts : (s.talk.asked ≡ 0) × (s.talk.denied ≡ 0)
   pub told : (s.told ≡ Silence) × (s.at ≡ 0)
-  pub left : s.left ≡ MOST_BYTES
+  pub left : s.left ≡ MAX_BYTES
   pub waits : (s.from ≡ 0) × (s.upto ≡ 0)
 
 abbrev pub IsFreshSeat : Seat → Type 0
@@ -48,18 +49,18 @@ abbrev pub CanServe : NamedPolicy → Harbour → ℕ → Pace → Seat → Type
 CanServe np a c pace (Open b) =
     let s =
     b.value in IsOpen a c × IsNamedActor np s.talk.actor × (s.at ≤ length (told_bytes s.told))
-    × (s.from ≤ s.upto) × (s.upto ≤ MOST_READ) × HasPlaces s.talk pace (s.upto - s.from + s.left)
+    × (s.from ≤ s.upto) × (s.upto ≤ MAX_READ) × HasPlaces s.talk pace (s.upto - s.from + s.left)
 CanServe np a c pace (Over polled) = Unit {0}
 
 -- a link is let go at once exactly where as many others were open as may be
 abbrev pub IsLetIn : Port → PollEnd → Type 0
-IsLetIn q Full = MOST_OPEN ≤ q.others
-IsLetIn q _ = q.others < MOST_OPEN
+IsLetIn q Full = MAX_OPEN ≤ q.others
+IsLetIn q _ = q.others < MAX_OPEN
 
 -- what stands in the place of a link
 abbrev pub Sits : NamedPolicy → Port → Port → List Acted → Seat → Type 0
 Sits np start q acted (Open b) =
-    Rests np start q b.value acted × (q.finished ≡ None) × (q.others < MOST_OPEN)
+    Rests np start q b.value acted × (q.finished ≡ None) × (q.others < MAX_OPEN)
 Sits np start q acted (Over e) =
     EndsLink np start q e.asked e.denied acted e.outcome × ((n : ℕ) × (q.finished ≡ Some n))
     × IsLetIn q e.outcome × HasOwnEnd e.outcome
@@ -95,12 +96,12 @@ first_spot pass clock =
 
 abbrev pub GoesTo : Harbour → Harbour → ℕ → List Seat → RunEnd → Type 0
 GoesTo start b draws seats EndStopped =
-    (b.told ≡ Some (Ok Stop)) × (length seats < MOST_LINKS) × AreUnwornSeats seats
+    (b.told ≡ Some (Ok Stop)) × (length seats < MAX_LINKS) × AreUnwornSeats seats
 GoesTo start b draws seats PortFault =
     ((f : Failed) × (b.told ≡ Some (Err f))) × Rose start.faults b.faults
-    × (length seats < MOST_LINKS) × AreUnwornSeats seats
+    × (length seats < MAX_LINKS) × AreUnwornSeats seats
 GoesTo start b draws seats Enough =
-    ((c : ℕ) × (b.told ≡ Some (Ok (Opened c)))) × (length seats ≡ MOST_LINKS)
+    ((c : ℕ) × (b.told ≡ Some (Ok (Opened c)))) × (length seats ≡ MAX_LINKS)
 GoesTo start b draws seats EndWorn =
     ((c : ℕ) × (b.told ≡ Some (Ok (Ready c)))) × (draws ≡ 2 ^ 40)
     × ((i : ℕ)
@@ -118,8 +119,8 @@ faults_told None = 0
 faults_told (Some (Ok event)) = 0
 faults_told (Some (Err f)) = 1
 
--- Each call that failed is the last read or write of its link, or the last call of `next`: the count
--- rose by no more than these
+-- Each call that failed is the last read or write of its link, or the last call of `next`: the
+-- count rose by no more than these
 abbrev pub FaultsAreLast : Harbour → Harbour → Type 0
 FaultsAreLast start b =
     b.faults ≤ start.faults + (faults_among b.port b.opened + faults_told b.told)
@@ -161,12 +162,12 @@ AreUnwornEnds ends =
 -- why a run ended
 abbrev pub RunsTo : Harbour → Harbour → ℕ → List Polled → RunEnd → Type 0
 RunsTo start b draws ends EndStopped =
-    (b.told ≡ Some (Ok Stop)) × (b.opened < MOST_LINKS) × AreUnwornEnds ends
+    (b.told ≡ Some (Ok Stop)) × (b.opened < MAX_LINKS) × AreUnwornEnds ends
 RunsTo start b draws ends PortFault =
-    ((f : Failed) × (b.told ≡ Some (Err f))) × Rose start.faults b.faults × (b.opened < MOST_LINKS)
+    ((f : Failed) × (b.told ≡ Some (Err f))) × Rose start.faults b.faults × (b.opened < MAX_LINKS)
     × AreUnwornEnds ends
 RunsTo start b draws ends Enough =
-    ((c : ℕ) × (b.told ≡ Some (Ok (Opened c)))) × (b.opened ≡ MOST_LINKS)
+    ((c : ℕ) × (b.told ≡ Some (Ok (Opened c)))) × (b.opened ≡ MAX_LINKS)
 RunsTo start b draws ends EndWorn =
     ((c : ℕ) × (b.told ≡ Some (Ok (Ready c)))) × (draws ≡ 2 ^ 40)
     × ((i : ℕ) × ((e : Polled) × (slice_get ends i ≡ Some e) × (is_worn_end e.outcome ≡ true)))

@@ -10,7 +10,7 @@ ghost use Rattle.gt_io.specs.Ports.{Port, IsOpen, ReadsPort};
 ghost use Rattle.poll_front.specs.Fronts.{Turn, FrontSpot, Tends, FailsLast, Running, PartyStands, Gone, Goes, PushesOut, FillsUp, acted_of};
 
 use crate::ends::PollEnd;
-use crate::parties::{MOST_READ, Pace, Party, Pause};
+use crate::parties::{MAX_READ, Pace, Party, Pause};
 use connection_laws::reply_of;
 use gt_io::{Failed, Got, Ports, Took};
 
@@ -62,11 +62,11 @@ pub(crate) fn fill<P: Ports>(ports: &mut P, link: u32, party: &mut Party) -> Res
     requires open { IsOpen (P.harbour ports.old) link }
     requires left { 0 < party.old.left }
     requires none { party.old.from ≡ party.old.upto }
-    requires within { party.old.upto ≤ MOST_READ }
+    requires within { party.old.upto ≤ MAX_READ }
     ensures fills { FillsUp (P.harbour ports.old) (P.harbour ports.new) link party.old party.new
         result }
     ensures faults { FailsLast (P.harbour ports.old) (P.harbour ports.new) link }
-    ensures size { length party.new.chunk ≡ MOST_READ }
+    ensures size { length party.new.chunk ≡ MAX_READ }
 {
     match read_some(ports, link, &mut party.chunk, party.left) {
         Ok(Got::Bytes(n)) => {

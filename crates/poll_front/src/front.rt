@@ -13,17 +13,14 @@ use crate::parties::{Pace, Party, Pause};
 use crate::seats::Seat;
 use crate::serve::attend;
 use connection_laws::Server;
-use gt_base::{List, Machine, Memory};
+use gt_base::{List, MAX_LINKS, Machine, Memory};
 use gt_io::{Clock, Gate, PortEvent, Ports};
 use std::alloc::Global;
 use std::sync::Wait;
 use turn_lock::Pass;
 
 /// How many links are open at most.
-pub(crate) const MOST_OPEN: usize = 1024;
-
-/// How many links are opened at most.
-pub const MOST_LINKS: usize = 100_000;
+pub(crate) const MAX_OPEN: usize = 1024;
 
 /// Why a run ended.
 #[derive(Clone, Copy, PartialEq, Eq, Debug)]
@@ -96,19 +93,19 @@ fn seat_next<P: Ports>(
     requires open { IsOpen (P.harbour ports.old) link }
     requires room { vec_len seats.old < vec_capacity seats.old }
     requires spare { IsSomeAnd spare.old (λ b. IsFreshParty b.value) }
-    requires few { busy.old ≤ MOST_OPEN }
+    requires few { busy.old ≤ MAX_OPEN }
     ensures fresh { IfSome spare.new (λ b. IsFreshParty b.value) }
-    ensures full { MOST_OPEN ≤ busy.old
+    ensures full { MAX_OPEN ≤ busy.old
         → Finishes (P.harbour ports.old) (P.harbour ports.new) link × (busy.new ≡ busy.old)
         × (spare.new ≡ spare.old)
         × (seats.new.items
         ≡ seats.old.items
         ++ Seat.Over (record { asked = 0; denied = 0; outcome = PollEnd.Full })
         ∷ []) }
-    ensures seated { busy.old < MOST_OPEN → (ports.new ≡ ports.old) × (busy.new ≡ busy.old + 1)
+    ensures seated { busy.old < MAX_OPEN → (ports.new ≡ ports.old) × (busy.new ≡ busy.old + 1)
         × ((s : Seat) × IsFreshSeat s × (seats.new.items ≡ seats.old.items ++ s ∷ [])) }
 {
-    if *busy >= MOST_OPEN {
+    if *busy >= MAX_OPEN {
         ports.finish(link);
         seats.push_reserved(Seat::Over(Polled {
             asked: 0,
@@ -144,7 +141,7 @@ fn make_room(
     seats.reserve(1)?;
     ends.reserve(seats.len() + 1)?;
     if spare.is_none() {
-        *spare = Some(Box::new(alloc, Party::new())?);
+        *spare = Some(Box::new(alloc, Party::new(alloc))?);
     }
     Ok(())
 }
@@ -195,7 +192,7 @@ fn serve_all<M: Machine, R: Wait, P: Ports, C: Clock, G: Gate>(
         (record { pass = pass.old; clock = C.readings clock.old; pace = pace.old })
         (record { pass = pass.new; clock = C.readings clock.new; pace = pace.new })
         (P.harbour ports.old) (P.harbour ports.new) seats.new.items result }
-    ensures few { length seats.new.items ≤ MOST_LINKS }
+    ensures few { length seats.new.items ≤ MAX_LINKS }
     ensures room { length seats.new.items ≤ ends.new.spare }
     ensures ends { ends.new.items ≡ [] }
     ensures pass { IsIdle (site_of server.now.desk.now) pass.new
@@ -210,7 +207,7 @@ fn serve_all<M: Machine, R: Wait, P: Ports, C: Clock, G: Gate>(
         match ports.next() {
             Ok(PortEvent::Opened(link)) => {
                 seat_next(link, ports, seats, &mut busy, &mut spare);
-                if seats.len() == MOST_LINKS {
+                if seats.len() == MAX_LINKS {
                     return RunEnd::Enough;
                 }
             }
@@ -242,7 +239,7 @@ fn serve_all<M: Machine, R: Wait, P: Ports, C: Clock, G: Gate>(
 fn let_go<P: Ports>(ports: &mut P, seats: &[Seat], ends: &mut List<Polled>)
     requires room { length seats.now ≤ ends.old.spare }
     requires none { ends.old.items ≡ [] }
-    requires few { length seats.now ≤ MOST_LINKS }
+    requires few { length seats.now ≤ MAX_LINKS }
     requires open { AreOpenSeats (P.harbour ports.old) 0 seats.now }
     ensures { LetsGo (P.harbour ports.old) (P.harbour ports.new) seats.now ends.new.items }
 {

@@ -4,11 +4,12 @@ ghost use Rattle.turn_lock.specs.Holders.{site_of};
 ghost use Rattle.locked_history.specs.Fronts.{by};
 ghost use Rattle.connection_laws.specs.Desks.{IsNamedActor, MayBeAsked, RepliesCanBeTold};
 ghost use Rattle.connection_laws.specs.Turns.{IsIdle, IsReached};
+ghost use Rattle.connection_laws.specs.Rooms.{text_in, LendsRoom};
 ghost use Rattle.poll_front.specs.Fronts.{Hears, HasPlaces};
 
 use crate::parties::Pace;
 use connection_laws::{LineAnswer, Server, Talk, act, count};
-use gt_base::Machine;
+use gt_base::{List, Machine};
 use gt_io::{Clock, Gate};
 use std::sync::Wait;
 use turn_lock::Pass;
@@ -20,6 +21,7 @@ pub(crate) fn hear<M: Machine, R: Wait, C: Clock, G: Gate>(
     clock: &mut C,
     pace: &mut Pace,
     talk: &mut Talk,
+    room: &mut List<u8>,
     line: &[u8],
 ) -> LineAnswer
     requires idle { IsIdle (site_of server.now.desk.now) pass.old }
@@ -35,10 +37,11 @@ pub(crate) fn hear<M: Machine, R: Wait, C: Clock, G: Gate>(
         (M.legal server.now.desk.now.root) (M.now_of server.now.desk.now.root)
         (by pass.old.number server.now.conn) pass.old pass.new talk.old talk.new pace.old pace.new
         (C.readings clock.old) (C.readings clock.new) line.now result }
+    ensures lends { LendsRoom room.old room.new (text_in result) }
 {
     talk.calls = pace.calls;
     talk.reached = pace.reached;
-    let told = act(server, pass, clock, talk, line);
+    let told = act(server, pass, clock, talk, room, line);
     pace.calls = talk.calls;
     pace.reached = talk.reached;
     count(talk, &told);

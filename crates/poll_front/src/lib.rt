@@ -13,5 +13,5 @@ mod seats;
 mod serve;
 
 pub use ends::{PollEnd, Polled};
-pub use front::{MOST_LINKS, RunEnd, run};
+pub use front::{RunEnd, run};
 pub use laws::fronts_are_told;

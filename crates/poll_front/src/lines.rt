@@ -3,20 +3,30 @@ ghost use Rattle.std.specs.Prelude.{◌≡◌, ◌<◌, ◌≤◌, ◌+◌, ◌*
 ghost use Rattle.turn_lock.specs.Holders.{site_of};
 ghost use Rattle.connection_laws.specs.Desks.{IsNamedActor, MayBeAsked, RepliesCanBeTold};
 ghost use Rattle.connection_laws.specs.Turns.{IsIdle, IsReached};
+ghost use Rattle.connection_laws.specs.Rooms.{text_in, room_with, TakesBack};
 ghost use Rattle.gt_io.specs.Ports.{IsOpen};
 ghost use Rattle.poll_front.specs.Fronts.{Tends, StaysLive, FailsLast, Goes, TellsLine, HasPlaces, Counts};
-ghost use Rattle.poll_front.specs.declared.parties.TheConstants.{MOST_READ};
+ghost use Rattle.poll_front.specs.declared.parties.TheConstants.{MAX_READ};
 
 use crate::attend::write_out;
 use crate::ends::PollEnd;
 use crate::hear::hear;
 use crate::parties::{Pace, Party, Pause};
-use connection_laws::{LineAnswer, Server};
-use gt_base::Machine;
+use connection_laws::{LineAnswer, Server, take_back};
+use gt_base::{List, Machine};
 use gt_io::{Clock, Framed, Gate, Ports};
 use request_text::LineFault;
+use std::mem::replace;
 use std::sync::Wait;
 use turn_lock::Pass;
+
+/// Takes the buffer of a link back from its last reply, which was written.
+fn free_room(room: &mut List<u8>, last: &mut LineAnswer)
+    ensures last { last.new ≡ LineAnswer.Silence }
+    ensures back { TakesBack room.old room.new (text_in last.old) }
+{
+    take_back(room, replace(last, LineAnswer::Silence));
+}
 
 /// Tells a link what its last line is told.
 fn tell<P: Ports>(
@@ -58,7 +68,7 @@ fn take_next<M: Machine, R: Wait, P: Ports, C: Clock, G: Gate>(
     requires reached { IsReached (M.legal server.now.desk.now.root)
         (M.now_of server.now.desk.now.root) pass.old.seen pace.old.reached }
     requires open { IsOpen (P.harbour ports.old) server.now.conn }
-    requires some { (party.old.from < party.old.upto) × (party.old.upto ≤ MOST_READ) }
+    requires some { (party.old.from < party.old.upto) × (party.old.upto ≤ MAX_READ) }
     ensures goes { Goes server.now.policy.now (M.list server.now.desk.now.root)
         (M.legal server.now.desk.now.root) (M.now_of server.now.desk.now.root) pass.old.number
         (record { pass = pass.old; clock = C.readings clock.old; pace = pace.old })
@@ -77,23 +87,30 @@ fn take_next<M: Machine, R: Wait, P: Ports, C: Clock, G: Gate>(
     ensures faults { FailsLast (P.harbour ports.old) (P.harbour ports.new) server.now.conn }
     ensures one { (party.new.from ≡ party.old.from + 1) × (party.new.upto ≡ party.old.upto)
         × (party.new.left ≡ party.old.left) }
+    ensures kept { room_with (text_in party.old.told) party.old.room
+        ≤ room_with (text_in party.new.told) party.new.room }
 {
     let byte = party.chunk[party.from];
     party.from += 1;
     match party.framer.push(byte) {
         Framed::More => Ok(()),
         Framed::Whole => {
+            free_room(&mut party.room, &mut party.told);
             let told = hear(
                 server,
                 pass,
                 clock,
                 pace,
                 &mut party.talk,
+                &mut party.room,
                 party.framer.line(),
             );
             tell(ports, server.conn, party, told)
         }
-        Framed::Long => tell(ports, server.conn, party, LineAnswer::Bad(LineFault::Long)),
+        Framed::Long => {
+            free_room(&mut party.room, &mut party.told);
+            tell(ports, server.conn, party, LineAnswer::Bad(LineFault::Long))
+        }
     }
 }
 
@@ -114,7 +131,7 @@ pub(crate) fn take_rest<M: Machine, R: Wait, P: Ports, C: Clock, G: Gate>(
     requires reached { IsReached (M.legal server.now.desk.now.root)
         (M.now_of server.now.desk.now.root) pass.old.seen pace.old.reached }
     requires open { IsOpen (P.harbour ports.old) server.now.conn }
-    requires some { (party.old.from ≤ party.old.upto) × (party.old.upto ≤ MOST_READ) }
+    requires some { (party.old.from ≤ party.old.upto) × (party.old.upto ≤ MAX_READ) }
     ensures goes { Goes server.now.policy.now (M.list server.now.desk.now.root)
         (M.legal server.now.desk.now.root) (M.now_of server.now.desk.now.root) pass.old.number
         (record { pass = pass.old; clock = C.readings clock.old; pace = pace.old })

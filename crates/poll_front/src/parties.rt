@@ -3,14 +3,12 @@ ghost use Rattle.poll_front.specs.Tables.{IsFreshParty};
 
 use crate::ends::PollEnd;
 use connection_laws::{LineAnswer, Talk};
-use gt_base::{Actor, Instant};
+use gt_base::{Actor, Instant, List, MAX_BYTES};
 use gt_io::Framer;
+use std::alloc::Global;
 
 /// How many bytes one read takes at most.
-pub(crate) const MOST_READ: usize = 4096;
-
-/// How many bytes are taken from one link at most.
-pub(crate) const MOST_BYTES: usize = 67_108_864;
+pub(crate) const MAX_READ: usize = 4096;
 
 /// What is kept of an open link.
 #[derive(Drop)]
@@ -20,10 +18,13 @@ pub struct Party {
     /// What its last line is told, and how many bytes of that were written.
     pub told: LineAnswer,
     pub at: usize,
+    /// The buffer in which its replies go out, one after the other. The first request line takes
+    /// its room, and later ones use it again. A reply in `told` has it until the next line ends.
+    pub room: List<u8>,
     /// How many bytes may still be taken from it.
     pub left: usize,
     /// The bytes of the last read; those from `from` up to `upto` wait to be acted on.
-    pub chunk: [u8; 4096],
+    pub chunk: [u8; MAX_READ],
     pub from: usize,
     pub upto: usize,
 }
@@ -47,7 +48,7 @@ pub enum Pause {
 
 impl Party {
     /// Before the first byte.
-    pub(crate) fn new() -> Party
+    pub(crate) fn new(alloc: Global) -> Party
         ensures { IsFreshParty result }
     {
         Party {
@@ -61,8 +62,9 @@ impl Party {
             },
             told: LineAnswer::Silence,
             at: 0,
-            left: MOST_BYTES,
-            chunk: [0; 4096],
+            room: List::new(alloc),
+            left: MAX_BYTES,
+            chunk: [0; MAX_READ],
             from: 0,
             upto: 0,
         }

@@ -6,7 +6,7 @@ ghost use Rattle.connection_laws.specs.Turns.{IsIdle, IsReached};
 ghost use Rattle.connection_laws.specs.Acting.{told_bytes};
 ghost use Rattle.gt_io.specs.Ports.{IsOpen};
 ghost use Rattle.poll_front.specs.Fronts.{Tends, FailsLast, Attends, HasPlaces, Counts};
-ghost use Rattle.poll_front.specs.declared.parties.TheConstants.{MOST_READ};
+ghost use Rattle.poll_front.specs.declared.parties.TheConstants.{MAX_READ};
 
 use crate::attend::{fill, write_out};
 use crate::ends::PollEnd;
@@ -36,7 +36,7 @@ pub(crate) fn attend<M: Machine, R: Wait, P: Ports, C: Clock, G: Gate>(
         (M.now_of server.now.desk.now.root) pass.old.seen pace.old.reached }
     requires open { IsOpen (P.harbour ports.old) server.now.conn }
     requires within { party.old.at ≤ length (told_bytes party.old.told) }
-    requires waits { (party.old.from ≤ party.old.upto) × (party.old.upto ≤ MOST_READ) }
+    requires waits { (party.old.from ≤ party.old.upto) × (party.old.upto ≤ MAX_READ) }
     requires room { HasPlaces party.old.talk pace.old
         (party.old.upto - party.old.from + party.old.left) }
     ensures attends { Attends server.now.policy.now (M.list server.now.desk.now.root)

@@ -8,7 +8,7 @@ ghost use Rattle.gtrbac_model.specs.Conflict.{beats, blocked, won, won_at, stand
 ghost use Rattle.gtrbac_model.specs.Same.{same_event};
 ghost use Rattle.priority_conflict.specs.Winning.{IsApart, turned_by};
 
-use gt_base::{Event, EventSet, Happened, Prio, Prioritised, Seen, Status};
+use gt_base::{Event, EventSet, Happened, MAX_PRIO, Prio, Prioritised, Seen, Status};
 
 /// Whether the converse at priority q blocks an event that sets its fluent on or off at priority p.
 pub(crate) fn beats(on: bool, q: u8, p: u8) -> bool
@@ -55,7 +55,7 @@ fn is_free(x: &Happened, e: Event, prio: Prio) -> bool
 
 /// The greatest priority below a number at which the event stands in the set unblocked.
 fn greatest_free(x: &Happened, e: Event, below: u8) -> Option<Prio>
-    requires { below ≤ 101 }
+    requires { below ≤ MAX_PRIO + 1 }
     ensures { result ≡ greatest_below (won_at x.now.set e) below }
 {
     let mut above = below;
@@ -72,7 +72,7 @@ fn greatest_free(x: &Happened, e: Event, below: u8) -> Option<Prio>
 /// The greatest priority below a number at which the event stands in the set, blocked or not. It
 /// takes no memory.
 pub fn greatest(x: &Happened, e: Event, below: u8) -> Option<Prio>
-    requires { below ≤ 101 }
+    requires { below ≤ MAX_PRIO + 1 }
     ensures { result ≡ greatest_below (stands_at x.now.set e) below }
 {
     let mut above = below;
@@ -91,10 +91,10 @@ pub fn greatest(x: &Happened, e: Event, below: u8) -> Option<Prio>
 pub fn seen(x: &Happened, e: Event) -> Seen
     ensures { result ≡ seen x.now.set e }
 {
-    if let Some(p) = greatest_free(x, e, 101) {
+    if let Some(p) = greatest_free(x, e, MAX_PRIO + 1) {
         return Seen::Unblocked(p);
     }
-    match greatest(x, e, 101) {
+    match greatest(x, e, MAX_PRIO + 1) {
         Some(p) => Seen::Blocked(p),
         None => Seen::Absent,
     }

@@ -5,6 +5,7 @@ use Rattle.gt_base.specs.declared.requests.Actor.TheVariants.{Operator}
 use Rattle.gt_base.specs.declared.requests.Request.{Request}
 use Rattle.gt_base.specs.declared.requests.Reply.{Reply}
 use Rattle.gt_base.specs.declared.requests.Entry.{Entry}
+use Rattle.gt_base.specs.declared.limits.TheConstants.{LONGEST_LINE}
 use Rattle.gtrbac_model.specs.History.{IsNamedWish, ask}
 use Rattle.gtrbac_model.specs.Policy.{Policy}
 use Rattle.gtrbac_model.specs.Reply.{Point, reply_of}
@@ -40,8 +41,8 @@ LinesAreRead =
 -- a line that is too long has just that fault, also where its words are silent
 abbrev pub LongIsTold : Type 0
 LongIsTold =
-    (np : NamedPolicy) (opening : Actor) (script : Bool) (line : List ℕ) → 512 < length line
-    → read_line np opening script line ≡ Err Long
+    (np : NamedPolicy) (opening : Actor) (script : Bool) (line : List ℕ)
+    → LONGEST_LINE < length line → read_line np opening script line ≡ Err Long
 
 -- a request is read from the line that it writes, whoever opens, and the line is short enough; so
 -- the line tells the request
@@ -70,8 +71,8 @@ RepliesCanBeWritten =
     (np : NamedPolicy) → IsWellFormed np → (pt : Point) → IsNamedPoint np.policy pt
     → (actor : Actor) (q : Request) → CanBeWritten np (reply_of np.policy pt actor q)
 
--- a walk that leads along over the edges of a policy has at most 999 of them, so such a reply has at
--- most 33,010 bytes
+-- a walk that leads along over the edges of a policy has at most 999 of them, so such a reply has
+-- at most 33,010 bytes
 abbrev pub WalksAreBrief : Type 0
 WalksAreBrief =
     (np : NamedPolicy) → IsWellFormed np → (r : Reply) → IsTellable np.policy r

@@ -6,7 +6,7 @@ use Rattle.gt_base.specs.declared.requests.Actor.{Actor}
 use Rattle.gt_base.specs.declared.requests.Actor.TheVariants.{User}
 use Rattle.gt_base.specs.declared.requests.Request.{Request}
 use Rattle.gt_base.specs.declared.requests.Request.TheVariants as requests
-use Rattle.gt_base.specs.declared.limits.TheConstants.{MAX_NUMBER}
+use Rattle.gt_base.specs.declared.limits.TheConstants.{LONGEST_LINE, MAX_NUMBER, MAX_PRIO}
 use Rattle.gt_text.specs.Lines.{is_longer}
 use Rattle.gt_text.specs.Words.{words_of, are_silent}
 use Rattle.civil_time.specs.Text.{civil_text, civil_in}
@@ -91,7 +91,7 @@ session_name_in ws = do
 
 abbrev pub raise_in : List (List ℕ) → Option NamedRequest
 raise_in ws = do
-  h ← head_at 100 ws
+  h ← head_at MAX_PRIO ws
   d ← delay_in h.1
   Some (Raise h.0 d)
 
@@ -226,6 +226,6 @@ module _ (np : NamedPolicy) where
   -- a line: its length is looked at before all else, then its form, then its names
   abbrev pub read_line : Actor → Bool → List ℕ → Result Line LineFault
   read_line opening script line =
-      if is_longer 512 line then Err faults.Long
+      if is_longer LONGEST_LINE line then Err faults.Long
       else if are_silent (words_of line) then Ok lines.Silent
       else said opening (phrase_in script (words_of line))

@@ -8,12 +8,13 @@ use Rattle.gt_base.specs.declared.requests.Refusal.{Refusal}
 use Rattle.gt_base.specs.declared.requests.Refusal.TheVariants.{NoUser, NotAdmin, Beyond, SessionsFull, NoSession, NotYours, NotActive, Already, Disabled, NotAssigned, RoleFull, UserFull, DaySpent}
 use Rattle.gt_base.specs.declared.requests.Reply.{Reply}
 use Rattle.gt_base.specs.declared.requests.Reply.TheVariants.{Now, Truth, Event, Queued, Session, Done, Active, Decided, Refused}
+use Rattle.gt_base.specs.declared.limits.TheConstants.{LONGEST_WALK, MAX_PRIO}
 
 -- numbers are those that the types hold: of 32 bits, and priorities of at most 100
 
 abbrev pub IsSmallSeen : Seen → Type 0
-IsSmallSeen (Unblocked p) = p ≤ 100
-IsSmallSeen (Blocked p) = p ≤ 100
+IsSmallSeen (Unblocked p) = p ≤ MAX_PRIO
+IsSmallSeen (Blocked p) = p ≤ MAX_PRIO
 IsSmallSeen Absent = Unit {0}
 
 abbrev pub IsSmallRefusal : Refusal → Type 0
@@ -45,13 +46,13 @@ IsSmall (Decided d) = Unit {0}
 -- a walk of a policy without a ring has at most 999 edges
 
 abbrev pub IsBriefDecision : Decision → Type 0
-IsBriefDecision (Permit w) = length w.edges ≤ 999
+IsBriefDecision (Permit w) = length w.edges ≤ LONGEST_WALK
 IsBriefDecision NoActive = Unit {0}
 IsBriefDecision NoGrant = Unit {0}
 IsBriefDecision (Shut n) = Unit {0}
 
 abbrev pub IsBrief : Reply → Type 0
-IsBrief (Active w) = length w.edges ≤ 999
+IsBrief (Active w) = length w.edges ≤ LONGEST_WALK
 IsBrief (Decided d) = IsBriefDecision d
 IsBrief (Now t) = Unit {0}
 IsBrief (Truth b) = Unit {0}

@@ -4,7 +4,7 @@ use Rattle.std.specs.Prelude.{◌≡◌, ◌⊎◌, ℕ, zero, ◌≤◌, ◌<�
 use Rattle.gt_base.specs.Names.{is_name}
 use Rattle.gt_base.specs.declared.events.SessionId.{SessionId}
 use Rattle.gt_base.specs.declared.requests.Actor.{Actor}
-use Rattle.gt_base.specs.declared.limits.TheConstants.{LAST_MINUTE, MAX_NUMBER}
+use Rattle.gt_base.specs.declared.limits.TheConstants.{LAST_MINUTE, LONGEST_LINE, MAX_NUMBER, MAX_PRIO}
 use Rattle.gt_text.specs.Words.{words_of}
 use Rattle.policy_words.specs.Wording.{fluent_names, head_words}
 use Rattle.policy_words.specs.Sayings.{are_names}
@@ -41,7 +41,7 @@ is_request Now = true
 is_request (Status c) = are_names (fluent_names c.fluent)
 is_request (Seen e) = are_names (fluent_names e.fluent)
 is_request (Raise h d) =
-    nat_le h.prio 100 && are_names (fluent_names h.event.fluent) && nat_le d LAST_MINUTE
+    nat_le h.prio MAX_PRIO && are_names (fluent_names h.event.fluent) && nat_le d LAST_MINUTE
 is_request OpenSession = true
 is_request (CloseSession s) = is_session s
 is_request (Activate s r) = is_session s && is_name r
@@ -77,15 +77,15 @@ GivesLine np opening script line given =
 
 -- what reading a line answers
 abbrev pub IsRead : NamedPolicy → Actor → Bool → List ℕ → Result Line LineFault → Type 0
-IsRead np opening script line (Ok lines.Silent) = IsSilent 512 line
+IsRead np opening script line (Ok lines.Silent) = IsSilent LONGEST_LINE line
 IsRead np opening script line (Ok (lines.At t)) =
-    IsLoud 512 line × GivesLine np opening script line (Some (lines.At t))
+    IsLoud LONGEST_LINE line × GivesLine np opening script line (Some (lines.At t))
 IsRead np opening script line (Ok (lines.Be a)) =
-    IsLoud 512 line × GivesLine np opening script line (Some (lines.Be a))
+    IsLoud LONGEST_LINE line × GivesLine np opening script line (Some (lines.Be a))
 IsRead np opening script line (Ok (lines.Ask r)) =
-    IsLoud 512 line × GivesLine np opening script line (Some (lines.Ask r))
-IsRead np opening script line (Err faults.Long) = 512 < length line
+    IsLoud LONGEST_LINE line × GivesLine np opening script line (Some (lines.Ask r))
+IsRead np opening script line (Err faults.Long) = LONGEST_LINE < length line
 IsRead np opening script line (Err faults.Syntax) =
-    IsLoud 512 line × ((phrase : Phrase) → IsPhrase script (words_of line) phrase → ⊥)
+    IsLoud LONGEST_LINE line × ((phrase : Phrase) → IsPhrase script (words_of line) phrase → ⊥)
 IsRead np opening script line (Err faults.Name) =
-    IsLoud 512 line × GivesLine np opening script line None
+    IsLoud LONGEST_LINE line × GivesLine np opening script line None

@@ -14,7 +14,7 @@ ghost use Rattle.request_text.specs.Walks.{tick_text, asked_text};
 
 use crate::replies::{put_instant, put_number, put_text};
 use crate::rooms::{Page, Room};
-use crate::sizes::small;
+use crate::sizes::{small, small_number};
 use gt_base::{Actor, Entry, Instant, Name, Request, SessionId, Step, Who};
 use policy_book::{
     NamedCond, NamedEvent, NamedFluent, NamedHead, Policy, named_cond, named_event, named_head,
@@ -261,9 +261,8 @@ fn put_entry(into: &mut Page, p: &Policy, e: &Entry)
 fn small_who(who: Who)
     ensures { IsSmallWho who }
 {
-    // to read a number tells that it fits its type
-    let _worker = who.worker;
-    let _conn = who.conn;
+    small_number(who.worker);
+    small_number(who.conn);
 }
 
 fn small_step(step: &Step)

@@ -5,7 +5,7 @@ ghost use Rattle.request_text.specs.Phrases.{session_at, session_in, session_nam
 
 use crate::phrases::{NamedRequest, Phrase};
 use crate::verbs::RequestVerb;
-use gt_base::{Instant, Name, SessionId};
+use gt_base::{Instant, MAX_PRIO, Name, SessionId};
 use gt_text::{Words, read_between};
 use policy_lines::{
     next_cond, next_event, next_head, next_name, read_delay, read_instant, read_name,
@@ -67,7 +67,7 @@ fn seen(mut words: Words<'_>) -> Option<NamedRequest>
 pub(crate) fn raise(mut words: Words<'_>) -> Option<(NamedHead, u32)>
     ensures { option_map (λ r. NamedRequest.Raise r.0 r.1) result ≡ raise_in words.entry }
 {
-    let head = next_head(100, &mut words)?;
+    let head = next_head(MAX_PRIO, &mut words)?;
     let delay = read_delay(words)?;
     Some((head, delay))
 }

@@ -26,4 +26,4 @@ pub use reading::read_line;
 pub use replies::put_reply;
 pub use rooms::{PAGE_SIZE, Page};
 pub use sizes::{LONGEST_REPLY, reply_fits};
-pub use writing::{write_entry, write_log, write_reply};
+pub use writing::{push_reply, write_entry, write_log, write_reply};

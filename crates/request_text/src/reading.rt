@@ -7,7 +7,7 @@ use crate::forms::{at, be, raise, request_after};
 use crate::lines::{Line, LineFault};
 use crate::phrases::{NamedRequest, Phrase};
 use crate::verbs::{RequestVerb, request_verb};
-use gt_base::{Actor, Name, Request};
+use gt_base::{Actor, LONGEST_LINE, Name, Request};
 use gt_text::{Words, begins};
 use policy_book::Policy;
 
@@ -135,7 +135,7 @@ fn words_said(
 fn line_said(p: &Policy, opening: Actor, script: bool, line: &[u8]) -> Result<Line, LineFault>
     ensures { result ≡ read_line p.now opening script line.now }
 {
-    if line.len() > 512 {
+    if line.len() > LONGEST_LINE {
         return Err(LineFault::Long);
     }
     let mut words = Words::new(line);

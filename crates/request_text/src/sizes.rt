@@ -3,7 +3,7 @@ ghost use Rattle.std.specs.Prelude.{◌≡◌, ◌≤◌, ◌<◌, ◌^◌, leng
 ghost use Rattle.request_text.specs.Replies.{reply_line};
 ghost use Rattle.request_text.specs.Sizes.{IsSmallSeen, IsSmallRefusal, IsSmall, IsBrief, edge_count};
 
-use gt_base::{Decision, Memory, Refusal, Reply, Seen, SessionId};
+use gt_base::{Decision, MAX_PRIO, Memory, Prio, Refusal, Reply, Seen, SessionId};
 use policy_book::Policy;
 use std::alloc::AllocError;
 
@@ -11,14 +11,25 @@ use std::alloc::AllocError;
 /// the words before a walk, 1,000 names of 32 bytes and the signs between them.
 pub const LONGEST_REPLY: usize = 33_010;
 
+/// What a number of four bytes keeps.
+pub(crate) fn small_number(n: u32)
+    ensures { n < 2 ^ 32 }
+{
+    let _ = n;
+}
+
+/// What a priority keeps.
+fn small_prio(prio: Prio)
+    ensures { prio ≤ MAX_PRIO }
+{
+    let _ = prio.get();
+}
+
 fn small_seen(seen: Seen)
     ensures { IsSmallSeen seen }
 {
     match seen {
-        Seen::Unblocked(prio) | Seen::Blocked(prio) => {
-            // to read a number tells that it fits its type
-            let _level = prio.get();
-        }
+        Seen::Unblocked(prio) | Seen::Blocked(prio) => small_prio(prio),
         Seen::Absent => {}
     }
 }
@@ -27,15 +38,9 @@ fn small_refusal(refusal: Refusal)
     ensures { IsSmallRefusal refusal }
 {
     match refusal {
-        Refusal::Beyond { due } => {
-            let _due = due;
-        }
-        Refusal::RoleFull { n } | Refusal::UserFull { n } => {
-            let _most = n;
-        }
-        Refusal::DaySpent { minutes } => {
-            let _most = minutes;
-        }
+        Refusal::Beyond { due } => small_number(due),
+        Refusal::RoleFull { n } | Refusal::UserFull { n } => small_number(n),
+        Refusal::DaySpent { minutes } => small_number(minutes),
         Refusal::NoUser
         | Refusal::NotAdmin
         | Refusal::SessionsFull
@@ -51,7 +56,7 @@ fn small_refusal(refusal: Refusal)
 fn small_session(session: SessionId)
     ensures { session.0 < 2 ^ 32 }
 {
-    let _number = session.0;
+    small_number(session.0);
 }
 
 /// The numbers of a reply are those that its types hold.

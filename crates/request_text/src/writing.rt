@@ -1,5 +1,5 @@
 //! Replies, entries and the log.
-ghost use Rattle.std.specs.Prelude.{◌≡◌, ◌++◌, codes, decimal, flat_map, IsTrue, OnOk, IfOk};
+ghost use Rattle.std.specs.Prelude.{◌≡◌, ◌++◌, codes, decimal, flat_map, IsTrue, OnOk, OnErr, IfOk};
 ghost use Rattle.std.specs.List.{list_all};
 ghost use Rattle.civil_time.specs.Text.{civil_text};
 ghost use Rattle.request_text.specs.Replies.{reply_text, reply_line, actor_text, request_text, who_text, step_text, entry_text, entry_line, log_text};
@@ -15,20 +15,11 @@ use itoa::Buffer;
 use policy_book::Policy;
 use std::alloc::Global;
 
-/// Adds a piece at the end.
-fn push(into: &mut List<u8>, piece: &[u8]) -> Result<(), Memory>
-    ensures { OnOk result (into.new.items ≡ into.old.items ++ piece.now) }
-{
-    into.reserve(piece.len())?;
-    into.extend_from_slice(piece);
-    Ok(())
-}
-
 fn push_number(into: &mut List<u8>, n: u32) -> Result<(), Memory>
     ensures { OnOk result (into.new.items ≡ into.old.items ++ decimal n) }
 {
     let mut buffer = Buffer::new();
-    push(into, buffer.format(n).as_bytes())
+    into.push_all(buffer.format(n).as_bytes())
 }
 
 /// Adds the text of a reply, without a line feed.
@@ -41,14 +32,25 @@ fn push_text(into: &mut List<u8>, p: &Policy, reply: &Reply) -> Result<(), Memor
     Ok(())
 }
 
+/// Adds the line of a reply, with its line feed. For want of memory it may refuse, and then the
+/// text is as it was.
+pub fn push_reply(into: &mut List<u8>, p: &Policy, r: &Reply) -> Result<(), Memory>
+    requires { IsTrue (has_reply p.now.policy r.now) }
+    ensures added { OnOk result (into.new.items ≡ into.old.items ++ reply_line p.now r.now) }
+    ensures kept { OnErr result (into.new.items ≡ into.old.items) }
+{
+    into.reserve(reply_room(p, r)?)?;
+    put_reply(p, r, into);
+    Ok(())
+}
+
 /// The line of a reply, with its line feed.
 pub fn write_reply(alloc: Global, p: &Policy, r: &Reply) -> Result<List<u8>, Memory>
     requires { IsTrue (has_reply p.now.policy r.now) }
     ensures { IfOk result (λ text. text.items ≡ reply_line p.now r.now) }
 {
     let mut text = List::new(alloc);
-    text.reserve(reply_room(p, r)?)?;
-    put_reply(p, r, &mut text);
+    push_reply(&mut text, p, r)?;
     Ok(text)
 }
 
@@ -56,7 +58,7 @@ fn push_who(into: &mut List<u8>, who: Who) -> Result<(), Memory>
     ensures { OnOk result (into.new.items ≡ into.old.items ++ who_text who) }
 {
     push_number(into, who.worker)?;
-    push(into, b".")?;
+    into.push_all(b".")?;
     push_number(into, who.conn)
 }
 
@@ -66,8 +68,8 @@ fn push_actor(into: &mut List<u8>, p: &Policy, actor: Actor) -> Result<(), Memor
 {
     p.keeps();
     match actor {
-        Actor::Operator | Actor::Nobody => push(into, b"-"),
-        Actor::User(u) => push(into, p.user_name(u).bytes()),
+        Actor::Operator | Actor::Nobody => into.push_all(b"-"),
+        Actor::User(u) => into.push_all(p.user_name(u).bytes()),
     }
 }
 
@@ -75,14 +77,14 @@ fn push_actor(into: &mut List<u8>, p: &Policy, actor: Actor) -> Result<(), Memor
 fn push_instant(into: &mut List<u8>, piece: &[u8], t: Instant) -> Result<(), Memory>
     ensures { OnOk result (into.new.items ≡ into.old.items ++ (piece.now ++ civil_text t)) }
 {
-    push(into, piece)?;
-    push(into, &write_civil(t))
+    into.push_all(piece)?;
+    into.push_all(&write_civil(t))
 }
 
 fn push_tick(into: &mut List<u8>, who: Who, to: Instant, upto: Instant) -> Result<(), Memory>
     ensures { OnOk result (into.new.items ≡ into.old.items ++ tick_text who to upto) }
 {
-    push(into, b"tick ")?;
+    into.push_all(b"tick ")?;
     push_who(into, who)?;
     push_instant(into, b" to ", to)?;
     push_instant(into, b" bound ", upto)
@@ -102,13 +104,13 @@ fn push_asked(
     ensures { OnOk result (into.new.items ≡ into.old.items ++ asked_text p.now who actor request) }
 {
     let request = write_request(alloc, p, request)?;
-    push(into, b"ask ")?;
+    into.push_all(b"ask ")?;
     push_who(into, who)?;
-    push(into, b" ")?;
+    into.push_all(b" ")?;
     push_actor(into, p, actor)?;
-    push(into, b" ")?;
-    push(into, request.as_slice())?;
-    push(into, b" = ")
+    into.push_all(b" ")?;
+    into.push_all(request.as_slice())?;
+    into.push_all(b" = ")
 }
 
 /// Adds the text of an entry, without a line feed.
@@ -145,7 +147,7 @@ fn push_line(alloc: Global, into: &mut List<u8>, p: &Policy, e: &Entry) -> Resul
     ensures { OnOk result (into.new.items ≡ into.old.items ++ entry_line p.now e.now) }
 {
     push_entry(alloc, into, p, e)?;
-    push(into, b"\n")
+    into.push_all(b"\n")
 }
 
 fn push_entries(
@@ -170,7 +172,7 @@ fn push_birth(into: &mut List<u8>, birth: Instant) -> Result<(), Memory>
         ++ (codes "born " ++ civil_text birth ++ codes "\n")) }
 {
     push_instant(into, b"born ", birth)?;
-    push(into, b"\n")
+    into.push_all(b"\n")
 }
 
 /// The log of a history: the line of its birth, then a line for each entry.

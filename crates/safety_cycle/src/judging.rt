@@ -68,7 +68,7 @@ fn look(alloc: Global, g: &Graph, ranks: &mut [u32], n: u32) -> Result<(), Verdi
     ensures ok { OnOk result (AreRanks g.now.nodes g.now.edges ranks.new (n + 1)) }
     ensures cycle { IfErr result (IsVerdict g.now) }
 {
-    let _edges = g.edges();
+    g.keeps();
     let e = g.edge(n);
     let rank = ranks[e.from as usize];
     if !e.marked || rank != ranks[e.to as usize] {

@@ -8,7 +8,7 @@ use Rattle.gtrbac_model.specs.Sessions.{Activation, is_active_in}
 use Rattle.session_table.specs.declared.opened.Open.{Open}
 use Rattle.session_table.specs.Opened.{opened, role_in, NumberedFrom}
 use Rattle.session_table.specs.Charges.{Charged, charged_in}
-use Rattle.session_table.specs.declared.tables.TheConstants.{MOST_SESSIONS}
+use Rattle.gt_base.specs.declared.limits.TheConstants.{MAX_SESSIONS}
 
 -- how many minutes of a civil day have passed at the close of an instant
 abbrev pub minutes_until : Option ℕ → ℕ → ℕ
@@ -20,11 +20,11 @@ minutes_until (Some t) d = min (t + 1) (1440 * d + 1440) - 1440 * d
 pub record AreKeptRows (os : List Open) (active : List Activation) (charges : Charged)
     (to : Option ℕ)
     : Type 0 where
-  pub few : count_by (λ o. o.is_open) os ≤ MOST_SESSIONS
+  pub few : count_by (λ o. o.is_open) os ≤ MAX_SESSIONS
   pub index : (n : SessionId) (r : RoleId) → role_in os n r ≡ list_any (is_active_in n r) active
   pub once : (n : SessionId) (r : RoleId) → count_by (is_active_in n r) active ≤ 1
   pub bounded : (u : UserId) (r : RoleId) (d : ℕ)
-      → charged_in charges u r d ≤ MOST_SESSIONS * minutes_until to d
+      → charged_in charges u r d ≤ MAX_SESSIONS * minutes_until to d
 
 -- and the numbers of the sessions and of the gaps between them rise, up to that of the last one
 -- begun, and so many are open

@@ -9,7 +9,7 @@ ghost use Rattle.session_table.specs.Opened.{opened, AreNumbered};
 ghost use Rattle.session_table.specs.Kept.{AreKeptRows};
 ghost use Rattle.session_table.specs.Permits.{rows_table, walk_causes, IsReadyUser, IsPermitted, Lets, IsCauseOf, IsFirstCause};
 ghost use Rattle.session_table.specs.Replies.{AnswersAt, OrRefused};
-ghost use Rattle.session_table.specs.declared.tables.TheConstants.{MOST_SESSIONS};
+ghost use Rattle.gt_base.specs.declared.limits.TheConstants.{MAX_SESSIONS};
 
 use crate::activations::Activation;
 use crate::active::ActiveRow;
@@ -98,8 +98,8 @@ fn ready(
 
 /// The walk that allows the user the role, where no cap refuses it.
 fn allowing(by: &Permitting, user: UserId, role: RoleId) -> Result<Walk, SessionFault>
-    requires all { count_by (λ a. same_role a.role role) by.now.active.now ≤ MOST_SESSIONS }
-    requires own { count_by (is_of user role) by.now.active.now ≤ MOST_SESSIONS }
+    requires all { count_by (λ a. same_role a.role role) by.now.active.now ≤ MAX_SESSIONS }
+    requires own { count_by (is_of user role) by.now.active.now ≤ MAX_SESSIONS }
     ensures ok { IfOk result
         (Lets by.now.hierarchy.now by.now.caps.now.items (has by.now.status.now.set)
         by.now.instant by.now.active.now by.now.charges.now.charged user role) }

@@ -12,7 +12,7 @@ ghost use Rattle.session_table.specs.Opened.{opened, AreNumbered};
 ghost use Rattle.session_table.specs.Charges.{charged_in};
 ghost use Rattle.session_table.specs.NextDrops.{limits_minutes};
 ghost use Rattle.session_table.specs.Causes.{first_cause, is_foreign, StandsAt, with_sessions, early_causes, late_causes, full_at};
-ghost use Rattle.session_table.specs.declared.tables.TheConstants.{MOST_SESSIONS};
+ghost use Rattle.gt_base.specs.declared.limits.TheConstants.{MAX_SESSIONS};
 
 use crate::activations::{Activation, count_of, count_role};
 use crate::ledgers::{Ledger, charged};
@@ -108,8 +108,8 @@ pub(crate) fn late_refusal(
     role: RoleId,
     today: u32,
 ) -> Option<Refusal>
-    requires all { count_by (λ a. same_role a.role role) active.now ≤ MOST_SESSIONS }
-    requires own { count_by (is_of user role) active.now ≤ MOST_SESSIONS }
+    requires all { count_by (λ a. same_role a.role role) active.now ≤ MAX_SESSIONS }
+    requires own { count_by (is_of user role) active.now ≤ MAX_SESSIONS }
     ensures { result
         ≡ first_cause
         (late_causes caps (count_by (λ a. same_role a.role role) active.now)
@@ -130,7 +130,7 @@ pub(crate) fn late_refusal(
 
 /// How many activations of the role stand, if they are as many as the cap allows.
 fn full_role(cap: Option<u32>, active: &[Activation], role: RoleId) -> Option<u32>
-    requires { count_by (λ a. same_role a.role role) active.now ≤ MOST_SESSIONS }
+    requires { count_by (λ a. same_role a.role role) active.now ≤ MAX_SESSIONS }
     ensures { result ≡ full_at cap (count_by (λ a. same_role a.role role) active.now) }
 {
     match cap {
@@ -141,7 +141,7 @@ fn full_role(cap: Option<u32>, active: &[Activation], role: RoleId) -> Option<u3
 
 /// How many activations of the user and the role stand, if they are as many as the cap allows.
 fn full_user(cap: Option<u32>, active: &[Activation], user: UserId, role: RoleId) -> Option<u32>
-    requires { count_by (is_of user role) active.now ≤ MOST_SESSIONS }
+    requires { count_by (is_of user role) active.now ≤ MAX_SESSIONS }
     ensures { result ≡ full_at cap (count_by (is_of user role) active.now) }
 {
     match cap {

@@ -1,6 +1,6 @@
 //! What decides on each activation at the close of an instant.
 ghost use Rattle.std.specs.Prelude.{◌≤◌, count_by};
-ghost use Rattle.session_table.specs.declared.tables.TheConstants.{MOST_SESSIONS};
+ghost use Rattle.gt_base.specs.declared.limits.TheConstants.{MAX_SESSIONS};
 ghost use Rattle.gt_base.specs.declared.events.RoleId.{RoleId as RoleView};
 ghost use Rattle.gt_base.specs.declared.events.UserId.{UserId};
 ghost use Rattle.gtrbac_model.specs.Sessions.{is_of};
@@ -19,7 +19,7 @@ pub(crate) struct Stretch<'a> {
     pub(crate) active: &'a [Activation],
     pub(crate) after: Instant,
     pub(crate) to: Instant,
-    ghost few: { (u : UserId) (r : RoleView) → count_by (is_of u r) active.now ≤ MOST_SESSIONS },
+    ghost few: { (u : UserId) (r : RoleView) → count_by (is_of u r) active.now ≤ MAX_SESSIONS },
 }
 
 /// The close of the last instant of a stretch: what decides on each activation there.

@@ -29,7 +29,7 @@ use crate::ledgers::charged;
 use crate::opened::{Open, has_role, place, remove_role};
 use civil_time::day;
 use gt_base::{
-    Caps, Fluent, Instant, List, Memory, RoleId, SessionId, Signal, Status, UserId, Walk,
+    Caps, Fluent, Instant, List, MAX_ROLES, Memory, RoleId, SessionId, Signal, Status, UserId, Walk,
 };
 use hybrid_hierarchy::Hierarchy;
 use indexmap::IndexMap;
@@ -50,8 +50,7 @@ fn spent_by(over: &Stretch, user: UserId, role: RoleId, count: u64) -> u64
         ≡ spent_by over.now.charges.now.charged over.now.active.now over.now.after over.now.to
         user role }
 {
-    // the call tells that an instant is not after the last
-    let _bound = over.to.minute();
+    over.to.keeps();
     let today = day(over.to);
     let before = u64::from(charged(over.charges, user, role, today));
     let minutes = u64::from(minutes_on(over.after, over.to, today));
@@ -93,9 +92,9 @@ fn age(a: &Activation, to: Instant) -> u32
 
 /// Whether the user is assigned to the role itself.
 fn is_assigned(status: &Status, user: UserId, role: RoleId) -> bool
-    ensures { result ≡ (nat_lt role.0 1_000 && has status.now.set (Assigned user role)) }
+    ensures { result ≡ (nat_lt role.0 MAX_ROLES && has status.now.set (Assigned user role)) }
 {
-    role.0 < 1_000 && status.is_on(Fluent::Assigned(user, role))
+    role.0 < MAX_ROLES && status.is_on(Fluent::Assigned(user, role))
 }
 
 /// Whether the walk that was found before, if there is one, still lets the user activate the role.

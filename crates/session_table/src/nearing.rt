@@ -8,7 +8,7 @@ ghost use Rattle.gtrbac_model.specs.Sessions.{reached, is_of};
 ghost use Rattle.history_laws.specs.Tables.{minutes_of_day};
 ghost use Rattle.session_table.specs.NextDrops.{IsFirstOrNone, capped_in};
 ghost use Rattle.session_table.specs.Charges.{charged_in};
-ghost use Rattle.session_table.specs.declared.tables.TheConstants.{MOST_SESSIONS};
+ghost use Rattle.gt_base.specs.declared.limits.TheConstants.{MAX_SESSIONS};
 
 use crate::activations::Activation;
 use crate::checks::{caps_of, limit_minutes};
@@ -72,7 +72,7 @@ fn next_at_age(most: u32, begun: Instant, now: Instant) -> Option<Instant>
 /// How many minutes, at least one, of n charges each reach x.
 fn rounds(x: u64, n: u64) -> u64
     requires some { 1 ≤ n }
-    requires few { n ≤ MOST_SESSIONS }
+    requires few { n ≤ MAX_SESSIONS }
     requires bound { x < 4_294_967_296 }
     ensures some { 1 ≤ result }
     ensures bound { result < 4_294_967_297 }
@@ -87,7 +87,7 @@ fn rounds(x: u64, n: u64) -> u64
 /// days.
 fn next_reached(most: u32, spent: u32, n: u64, now: Instant) -> Option<Instant>
     requires some { 1 ≤ n }
-    requires few { n ≤ MOST_SESSIONS }
+    requires few { n ≤ MAX_SESSIONS }
     ensures { (charge : ℕ → ℕ) → charge (day_of (now + 1)) ≡ spent
         → ((d : ℕ) → day_of (now + 1) < d → charge d ≡ 0)
         → IsFirstOrNone
@@ -120,7 +120,7 @@ fn next_for(
     requires count { IfSome caps.day
         (λ _. count ≡ count_by (is_of a.now.user a.now.role) active.now) }
     requires some { 1 ≤ count_by (is_of a.now.user a.now.role) active.now }
-    requires few { count_by (is_of a.now.user a.now.role) active.now ≤ MOST_SESSIONS }
+    requires few { count_by (is_of a.now.user a.now.role) active.now ≤ MAX_SESSIONS }
     requires later { (d : ℕ) → day_of (now + 1) < d
         → charged_in charges.now.charged a.now.user a.now.role d ≡ 0 }
     ensures { IsFirstOrNone
@@ -149,7 +149,7 @@ fn next_spent(
 ) -> Option<Instant>
     requires count { IfSome cap (λ _. count ≡ count_by (is_of user role) active.now) }
     requires some { 1 ≤ count_by (is_of user role) active.now }
-    requires few { count_by (is_of user role) active.now ≤ MOST_SESSIONS }
+    requires few { count_by (is_of user role) active.now ≤ MAX_SESSIONS }
     requires later { (d : ℕ) → day_of (now + 1) < d
         → charged_in charges.now.charged user role d ≡ 0 }
     ensures { IsFirstOrNone
@@ -177,7 +177,7 @@ pub(crate) fn next_capped(
     caps: &[Caps],
     now: Instant,
 ) -> Option<Instant>
-    requires few { (u : UserId) (r : RoleId) → count_by (is_of u r) active.now ≤ MOST_SESSIONS }
+    requires few { (u : UserId) (r : RoleId) → count_by (is_of u r) active.now ≤ MAX_SESSIONS }
     requires later { (u : UserId) (r : RoleId) (d : ℕ) → day_of (now + 1) < d
         → charged_in charges.now.charged u r d ≡ 0 }
     ensures { IsFirstOrNone

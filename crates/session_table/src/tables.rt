@@ -38,16 +38,13 @@ use crate::plans::Drops;
 use crate::roles::Roles;
 use civil_time::day;
 use gt_base::{
-    Actor, Caps, HierEdge, Instant, List, Memory, Refusal, RoleId, SessionId, Signal, Status,
-    UserId, Walk,
+    Actor, Caps, HierEdge, Instant, List, MAX_SESSIONS, Memory, Refusal, RoleId, SessionId, Signal,
+    Status, UserId, Walk,
 };
 use hybrid_hierarchy::Hierarchy;
 use indexmap::IndexMap;
 use std::alloc::Global;
 use std::marker::Model;
-
-/// So many sessions may be open at once.
-pub(crate) const MOST_SESSIONS: usize = 10_000;
 
 /// The open sessions with their owners, the roles that are active in them since when, and the
 /// minutes that are charged to users, roles and civil days. It is seen as these, with the number of
@@ -155,7 +152,7 @@ impl Sessions {
             (λ fault. OrRefused fault (Answers (table_of self.old) (User user) OpenSession)) }
         ensures same { OnErr result (table_of self.new ≡ table_of self.old) }
     {
-        if self.standing >= MOST_SESSIONS {
+        if self.standing >= MAX_SESSIONS {
             return Err(SessionFault::Refused(Refusal::SessionsFull));
         }
         let number = SessionId(self.begun + 1);

@@ -2,6 +2,7 @@
 use Rattle.std.proofs.Common.{◌≡◌, ℕ, ◌+◌, ◌≤◌, Bool, false, List, [], ◌∷◌, ◌++◌, length, refl, sym, ap, subst, ◌∙◌, arith, add-zero, append-nil, take, Result, Ok, Err}
 use Rattle.std.proofs.lemmas.List.{take_all}
 use mathlib.Core.List.{IsPrefix}
+use Rattle.gt_base.specs.Roomy.{Roomy}
 use Rattle.gt_base.specs.declared.requests.Actor.{Actor}
 use Rattle.gt_base.specs.declared.requests.Actor.TheVariants.{Nobody}
 use Rattle.gt_base.specs.declared.requests.Request.{Request}
@@ -42,6 +43,22 @@ shows_glance np np' birth birth' seen seen' ns ns' actor request told g same sam
     }
 
 module _ (np : NamedPolicy) (birth : ℕ) (line : List ℕ) where
+  -- whatever becomes of the buffer then
+  pub acts_roomed : (seen seen' : List Entry) (s s' : Showing) (room : Roomy ℕ) (told : ViewAnswer) → Acts np birth seen seen' s s' line told → Acts np birth seen seen' s (record s' { room = room }) line told
+  acts_roomed seen seen' s s' room told x =
+      record {
+        answer = x.answer;
+        told_is = x.told_is;
+        gets = x.gets;
+        grows = x.grows;
+        lens = x.lens;
+        ascends = x.ascends;
+        denied = x.denied;
+        calls = x.calls;
+        actor = x.actor;
+        named = x.named;
+      }
+
   pub acts_ask : (seen seen' : List Entry) (s s' : Showing) (request : Request) (told : ViewAnswer) → read_line np Nobody false line ≡ Ok (Ask request) → IsNamedActor np s.actor
       → AnswersView np birth seen seen' (record s { calls = s.calls + 1 }) s' request told → Acts np birth seen seen' s s' line told
   acts_ask seen seen' s s' request told said named a =

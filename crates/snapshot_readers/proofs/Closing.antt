@@ -4,6 +4,7 @@ use Rattle.std.specs.Io.KnownBytes.{Appends, Consumes, IsAtEnd}
 use Rattle.std.proofs.KnownBytes.{Appends-nil, Appends-trans, Consumes-trans}
 use Rattle.gt_base.specs.declared.requests.Actor.{Actor}
 use Rattle.gt_base.specs.declared.requests.Entry.{Entry}
+use Rattle.gt_base.specs.declared.limits.TheConstants.{MAX_BYTES}
 use Rattle.gt_io.specs.Frames.{Frame, blank_frame}
 use Rattle.gt_io.specs.Links.{Traffic, ReadsNothing, WritesNothing}
 use Rattle.gt_io.specs.Memory.{one_more}
@@ -20,7 +21,6 @@ use Rattle.snapshot_readers.specs.Viewed.{ViewActed, view_lines, view_text, Asce
 use Rattle.snapshot_readers.specs.Viewing.{IsViewStart, ViewPoint, view_point, ViewEndsBy, Serving, Halted, Converses, Views}
 use Rattle.connection_laws.specs.Doors.{HaveFailed, none_more}
 use Rattle.snapshot_readers.proofs.Completing.{complete_by}
-use Rattle.snapshot_readers.specs.declared.inbox.TheConstants.{MOST_BYTES}
 
 -- bytes that were read behind those that are held
 pub regroup : (fed rest got rest' : List ℕ) (byte : ℕ) → rest ++ got ≡ byte ∷ rest' → (fed ++ rest) ++ got ≡ (fed ++ byte ∷ []) ++ rest'
@@ -49,14 +49,14 @@ one_longer fed byte = omega (arith, length-append fed (byte ∷ []))
 pub all_fed : (fed rest got : List ℕ) → rest ≡ [] → got ≡ [] → (fed ++ rest) ++ got ≡ fed
 all_fed fed rest got e f = ap (λ (l : List ℕ). (fed ++ rest) ++ l) f ∙ append-nil (fed ++ rest) ∙ ap (λ (l : List ℕ). fed ++ l) e ∙ append-nil fed
 
-pub ends_so : (a m b : Traffic) (fed : List ℕ) (left : ℕ) (end : ViewEnd) → length fed + left ≡ MOST_BYTES → m.read_faults ≡ a.read_faults → b.write_faults ≡ a.write_faults → Stops m b left end → ViewEndsBy a b fed end
-ends_so a m b fed left Ended count reads writes s =
-    let more = s.1 in (s.0, omega (arith, count, more), record { reads_are = s.2 ∙ reads; writes_are = writes })
-ends_so a m b fed left ReadFault count reads writes s =
-    let more = s.0 in (omega (arith, count, more), record { reads_are = s.1 ∙ ap one_more reads; writes_are = writes })
-ends_so a m b fed left Spent count reads writes s =
-    let full = s.0 in (omega (arith, count, full), record { reads_are = s.1 ∙ reads; writes_are = writes })
-ends_so a m b fed left WriteFault count reads writes s = absurd s
+pub ends_so : (a m b : Traffic) (fed : List ℕ) (left : ℕ) (end : ViewEnd) → length fed + left ≡ MAX_BYTES → m.read_faults ≡ a.read_faults → m.ends ≡ a.ends → b.write_faults ≡ a.write_faults → Stops m b left end → ViewEndsBy a b fed end
+ends_so a m b fed left Ended count reads ends writes s =
+    let more = s.1 in (s.0, omega (arith, count, more), record { reads_are = s.2 ∙ reads; writes_are = writes; ends_are = s.3 ∙ ap one_more ends })
+ends_so a m b fed left ReadFault count reads ends writes s =
+    let more = s.0 in (omega (arith, count, more), record { reads_are = s.1 ∙ ap one_more reads; writes_are = writes; ends_are = s.2 ∙ ends })
+ends_so a m b fed left Spent count reads ends writes s =
+    let full = s.0 in (omega (arith, count, full), record { reads_are = s.1 ∙ reads; writes_are = writes; ends_are = s.2 ∙ ends })
+ends_so a m b fed left WriteFault count reads ends writes s = absurd s
 
 pub given_all : (np : NamedPolicy) (a b : Traffic) (fed : List ℕ) (left : ℕ) (acted : List ViewActed) (end : ViewEnd) → Stops a b left end → view_lines acted ≡ whole_lines fed → IsViewGiven np fed (view_text np acted) acted end
 given_all np a b fed left acted Ended s lines = (lines, refl)
@@ -64,15 +64,15 @@ given_all np a b fed left acted ReadFault s lines = (lines, refl)
 given_all np a b fed left acted Spent s lines = (lines, refl)
 given_all np a b fed left acted WriteFault s lines = absurd s
 
-failed_kept : (a b c : Traffic) (reads writes : ℕ → ℕ) → ReadsNothing b c → WritesNothing b c → HaveFailed a b reads writes → HaveFailed a c reads writes
-failed_kept a b c reads writes r w h = record { reads_are = r.read_faults_are ∙ h.reads_are; writes_are = w.write_faults_are ∙ h.writes_are }
+failed_kept : (a b c : Traffic) (reads writes ends : ℕ → ℕ) → ReadsNothing b c → WritesNothing b c → HaveFailed a b reads writes ends → HaveFailed a c reads writes ends
+failed_kept a b c reads writes ends r w h = record { reads_are = r.read_faults_are ∙ h.reads_are; writes_are = w.write_faults_are ∙ h.writes_are; ends_are = r.ends_are ∙ h.ends_are }
 
 -- what follows the last call changes nothing
 cause_kept : (a b c : Traffic) (taken : List ℕ) (end : ViewEnd) → ReadsNothing b c → WritesNothing b c → ViewEndsBy a b taken end → ViewEndsBy a c taken end
-cause_kept a b c taken Ended r w h = (subst IsAtEnd (sym r.left_kept) h.0, h.1, failed_kept a b c none_more none_more r w h.2)
-cause_kept a b c taken ReadFault r w h = (h.0, failed_kept a b c one_more none_more r w h.1)
-cause_kept a b c taken WriteFault r w h = failed_kept a b c none_more one_more r w h
-cause_kept a b c taken Spent r w h = (h.0, failed_kept a b c none_more none_more r w h.1)
+cause_kept a b c taken Ended r w h = (subst IsAtEnd (sym r.left_kept) h.0, h.1, failed_kept a b c none_more none_more one_more r w h.2)
+cause_kept a b c taken ReadFault r w h = (h.0, failed_kept a b c one_more none_more none_more r w h.1)
+cause_kept a b c taken WriteFault r w h = failed_kept a b c none_more one_more none_more r w h
+cause_kept a b c taken Spent r w h = (h.0, failed_kept a b c none_more none_more none_more r w h.1)
 
 module _ (np : NamedPolicy) (birth : ℕ) where
   pub begins : (seen : List Entry) (s : Showing) (given : Option (List ℕ)) (frame : Frame) → IsViewStart s → frame ≡ blank_frame → Serving np birth (view_point seen s given) (view_point seen s given) frame [] []
@@ -101,8 +101,8 @@ module _ (np : NamedPolicy) (birth : ℕ) where
   serving_kept o seen s given given' frame fed acted same v = subst (λ (x : Option (List ℕ)). Serving np birth o (view_point seen s x) frame fed acted) (sym same) v
 
   pub closed : (o p : ViewPoint) (frame : Frame) (a m b : Traffic) (fed : List ℕ) (left : ℕ) (acted : List ViewActed) (end : ViewEnd) → Serving np birth o p frame fed acted → Stops m b left end
-      → Appends a.taken b.taken fed → Consumes a.left b.left fed → length fed + left ≡ MOST_BYTES → m.read_faults ≡ a.read_faults → b.write_faults ≡ a.write_faults → Converses np birth o p a b end
-  closed o p frame a m b fed left acted end v s taken consumed count reads writes =
+      → Appends a.taken b.taken fed → Consumes a.left b.left fed → length fed + left ≡ MAX_BYTES → m.read_faults ≡ a.read_faults → m.ends ≡ a.ends → b.write_faults ≡ a.write_faults → Converses np birth o p a b end
+  closed o p frame a m b fed left acted end v s taken consumed count reads ends writes =
       record {
         taken = fed;
         acted = acted;
@@ -114,12 +114,12 @@ module _ (np : NamedPolicy) (birth : ℕ) where
         taken_is = taken;
         left_is = consumed;
         bounded = omega (arith, count);
-        cause = ends_so a m b fed left end count reads writes s;
+        cause = ends_so a m b fed left end count reads ends writes s;
       }
 
-  pub cut_off : (o p : ViewPoint) (a b : Traffic) (f : ℕ) (fed rest : List ℕ) (acted : List ViewActed) (end : ViewEnd) → Halted np birth o p fed acted f b.write_faults end → b.read_faults ≡ a.read_faults → f ≡ a.write_faults
-      → Appends a.taken b.taken (fed ++ rest) → Consumes a.left b.left (fed ++ rest) → length fed + length rest ≤ MOST_BYTES → Converses np birth o p a b end
-  cut_off o p a b f fed rest acted end h reads low taken consumed few =
+  pub cut_off : (o p : ViewPoint) (a b : Traffic) (f : ℕ) (fed rest : List ℕ) (acted : List ViewActed) (end : ViewEnd) → Halted np birth o p fed acted f b.write_faults end → b.read_faults ≡ a.read_faults → b.ends ≡ a.ends → f ≡ a.write_faults
+      → Appends a.taken b.taken (fed ++ rest) → Consumes a.left b.left (fed ++ rest) → length fed + length rest ≤ MAX_BYTES → Converses np birth o p a b end
+  cut_off o p a b f fed rest acted end h reads ends low taken consumed few =
       let more = lines_more fed rest in
       let both = length-append fed rest in
       record {
@@ -133,7 +133,7 @@ module _ (np : NamedPolicy) (birth : ℕ) where
         taken_is = taken;
         left_is = consumed;
         bounded = omega (arith, both, few);
-        cause = subst (λ (e : ViewEnd). ViewEndsBy a b (fed ++ rest) e) (sym h.end_is) (record { reads_are = reads; writes_are = h.cause ∙ ap one_more low });
+        cause = subst (λ (e : ViewEnd). ViewEndsBy a b (fed ++ rest) e) (sym h.end_is) (record { reads_are = reads; writes_are = h.cause ∙ ap one_more low; ends_are = ends });
       }
 
   -- the report of a service

@@ -3,6 +3,7 @@ use Rattle.std.specs.Prelude.{◌≡◌, ℕ, ◌+◌, ◌<◌, ◌≤◌, true,
 use Rattle.std.specs.declared.option.Option.{Option}
 use Rattle.std.specs.Io.KnownBytes.{Appends, Consumes}
 use Rattle.gt_base.specs.declared.requests.Entry.{Entry}
+use Rattle.gt_base.specs.declared.limits.TheConstants.{MAX_BYTES, MAX_LINKS}
 use Rattle.gt_io.specs.Causes.{Rose}
 use Rattle.gt_io.specs.Links.{Traffic, IsFresh}
 use Rattle.policy_words.specs.Naming.{NamedPolicy}
@@ -12,8 +13,6 @@ use Rattle.snapshot_readers.specs.declared.ends.ViewerEnd.{ViewerEnd}
 use Rattle.snapshot_readers.specs.declared.ends.ViewerEnd.TheVariants.{Fresh, Done, DoorFault, Enough, Memory}
 use Rattle.snapshot_readers.specs.Viewed.{ViewActed, lens_of, view_denials, AscendBetween, View}
 use Rattle.snapshot_readers.specs.Viewing.{ViewEndsBy, IsViewUnhindered, IsViewComplete, Grows}
-use Rattle.snapshot_readers.specs.declared.viewers.TheConstants.{MOST_LINKS}
-use Rattle.snapshot_readers.specs.declared.inbox.TheConstants.{MOST_BYTES}
 
 -- what there is to tell of a served link: the link as the door gave it, its bytes and acted lines
 pub record ViewTale (L : Type 0) : Type 0 where
@@ -34,13 +33,13 @@ all_lens (s ∷ ss) = s.lens.items ++ all_lens ss
 -- each end has its cause; a door that has failed is asked no more, and that ends the work
 abbrev pub ViewsTo : {L : Type 0} → Option (List L) → ℕ → ℕ → List (Viewed L) → ViewerEnd → Type 0
 ViewsTo {L} links faults faults' served Done =
-    (length served < MOST_LINKS) × IfSome links (λ ls. ls ≡ []) × (faults' ≡ faults)
+    (length served < MAX_LINKS) × IfSome links (λ ls. ls ≡ []) × (faults' ≡ faults)
 ViewsTo {L} links faults faults' served DoorFault =
-    (length served < MOST_LINKS) × Rose faults faults'
+    (length served < MAX_LINKS) × Rose faults faults'
 ViewsTo {L} links faults faults' served Enough =
-    (length served ≡ MOST_LINKS) × (faults' ≡ faults)
+    (length served ≡ MAX_LINKS) × (faults' ≡ faults)
 ViewsTo {L} links faults faults' served Memory =
-    (length served < MOST_LINKS) × (faults' ≡ faults)
+    (length served < MAX_LINKS) × (faults' ≡ faults)
 ViewsTo {L} links faults faults' served Fresh = ⊥
 
 -- a moment of a viewer: the history that its glass has seen, and its door
@@ -59,7 +58,7 @@ module _ {L : Type 0} (traffic : L → Traffic) (np : NamedPolicy) (birth : ℕ)
     pub taken_is : Appends (traffic x.begun).taken (traffic s.link).taken x.taken
     pub left_is : Consumes (traffic x.begun).left (traffic s.link).left x.taken
     pub given_is : Appends (traffic x.begun).given (traffic s.link).given x.given
-    pub bounded : length x.taken ≤ MOST_BYTES
+    pub bounded : length x.taken ≤ MAX_BYTES
     pub cause : ViewEndsBy (traffic x.begun) (traffic s.link) x.taken s.outcome
     pub finished : (traffic s.link).finished ≡ true
     pub complete : IsViewUnhindered (traffic x.begun) (traffic s.link) x.taken

@@ -1,13 +1,15 @@
 -- What a viewer keeps from line to line.
-use Rattle.std.specs.Prelude.{◌≡◌, ℕ, ◌+◌, ◌^◌, ◌<◌, ◌≤◌, true, false, List, [], ◌∷◌, ◌++◌, length, OnOk, MatchResult, MatchBool, Result, Ok, Err}
+use Rattle.std.specs.Prelude.{◌≡◌, ℕ, ◌+◌, ◌^◌, ◌<◌, ◌≤◌, true, false, List, [], ◌∷◌, ◌++◌, length, Some, None, OnOk, MatchResult, MatchBool, Result, Ok, Err}
 use Rattle.std.specs.declared.option.Option.{Option}
 use Rattle.std.specs.Io.KnownBytes.{Appends, Consumes, IsAtEnd}
 use mathlib.Core.List.{IsPrefix}
+use Rattle.gt_base.specs.Roomy.{Roomy}
 use Rattle.gt_base.specs.declared.requests.Actor.{Actor}
 use Rattle.gt_base.specs.declared.requests.Actor.TheVariants.{Nobody}
 use Rattle.gt_base.specs.declared.requests.Request.{Request}
 use Rattle.gt_base.specs.declared.requests.Reply.{Reply}
 use Rattle.gt_base.specs.declared.requests.Entry.{Entry}
+use Rattle.gt_base.specs.declared.limits.TheConstants.{MAX_BYTES}
 use Rattle.gt_io.specs.Causes.{Rose, AppendsPart}
 use Rattle.gt_io.specs.Frames.{Frame}
 use Rattle.gt_io.specs.Links.{Traffic}
@@ -30,7 +32,6 @@ use Rattle.snapshot_readers.specs.declared.showing.ViewAnswer.TheVariants.{Silen
 use Rattle.snapshot_readers.specs.declared.ends.ViewEnd.{ViewEnd}
 use Rattle.snapshot_readers.specs.declared.ends.ViewEnd.TheVariants.{Ended, ReadFault, WriteFault, Spent}
 use Rattle.snapshot_readers.specs.Viewed.{Glimpse, silence, agreed, bad, shown, no_memory, view_only, glimpse_text, is_glimpse_denied, says_request, lens_in, ViewActed, Looks, Gets, view_actor, view_lines, lens_of, view_text, view_denials, view_requests, AreViewActed, AscendBetween, ViewGivenPart, IsViewGiven, View}
-use Rattle.snapshot_readers.specs.declared.inbox.TheConstants.{MOST_BYTES}
 
 -- what is told is this answer
 abbrev pub IsViewTold : NamedPolicy → ViewAnswer → Glimpse → Type 0
@@ -42,6 +43,15 @@ IsViewTold np (ToldReply text) answer =
     × (text.items ≡ glimpse_text np (shown n reply))
 IsViewTold np NoMemory answer = answer ≡ no_memory
 IsViewTold np ViewOnly answer = answer ≡ view_only
+
+-- the buffer that an answer has taken along, where it has one
+abbrev pub view_text_in : ViewAnswer → Option (Roomy ℕ)
+view_text_in Silence = None
+view_text_in Agreed = None
+view_text_in (Bad f) = None
+view_text_in (ToldReply text) = Some text
+view_text_in NoMemory = None
+view_text_in ViewOnly = None
 
 -- before the first line of a link
 abbrev pub IsViewStart : Showing → Type 0
@@ -166,19 +176,22 @@ module _ (np : NamedPolicy) (birth : ℕ) where
       (λ _. (acted' : List ViewActed) × Serving o p' frame' (fed ++ byte ∷ []) acted')
       (λ end. (acted' : List ViewActed) × Halted o p' (fed ++ byte ∷ []) acted' faults faults' end)
 
--- each end has its cause; the first read or write that fails is the last one
+-- each end has its cause; the first read or write that fails, and the read that tells the end, is
+-- the last one
 abbrev pub ViewEndsBy : Traffic → Traffic → List ℕ → ViewEnd → Type 0
 ViewEndsBy a b taken Ended =
-    IsAtEnd b.left × (length taken < MOST_BYTES) × HaveFailed a b none_more none_more
-ViewEndsBy a b taken ReadFault = (length taken < MOST_BYTES) × HaveFailed a b one_more none_more
-ViewEndsBy a b taken WriteFault = HaveFailed a b none_more one_more
-ViewEndsBy a b taken Spent = (length taken ≡ MOST_BYTES) × HaveFailed a b none_more none_more
+    IsAtEnd b.left × (length taken < MAX_BYTES) × HaveFailed a b none_more none_more one_more
+ViewEndsBy a b taken ReadFault =
+    (length taken < MAX_BYTES) × HaveFailed a b one_more none_more none_more
+ViewEndsBy a b taken WriteFault = HaveFailed a b none_more one_more none_more
+ViewEndsBy a b taken Spent =
+    (length taken ≡ MAX_BYTES) × HaveFailed a b none_more none_more none_more
 
 -- no read and no write failed, and fewer bytes were taken than a link may send
 pub record IsViewUnhindered (a b : Traffic) (taken : List ℕ) : Type 0 where
   pub reads : Rose a.read_faults b.read_faults → ⊥
   pub writes : Rose a.write_faults b.write_faults → ⊥
-  pub few : length taken < MOST_BYTES
+  pub few : length taken < MAX_BYTES
 
 -- a request that only looks is shown a reply, or there was no memory; any other is refused
 abbrev pub IsViewAnswered : Request → Glimpse → Type 0
@@ -218,7 +231,7 @@ pub record Converses (np : NamedPolicy) (birth : ℕ) (o p : ViewPoint) (a b : T
   pub given_is : IsViewGiven np taken text acted end
   pub taken_is : Appends a.taken b.taken taken
   pub left_is : Consumes a.left b.left taken
-  pub bounded : length taken ≤ MOST_BYTES
+  pub bounded : length taken ≤ MAX_BYTES
   pub cause : ViewEndsBy a b taken end
 
 -- What the service of a link comes to, over the history that the glass has then seen: the bytes
@@ -237,7 +250,7 @@ pub record Views (np : NamedPolicy) (birth : ℕ) (seen seen' : List Entry) (ns 
   pub taken_is : Appends a.taken b.taken taken
   pub left_is : Consumes a.left b.left taken
   pub given_is : Appends a.given b.given given
-  pub bounded : length taken ≤ MOST_BYTES
+  pub bounded : length taken ≤ MAX_BYTES
   pub cause : ViewEndsBy a b taken end
   pub finished : b.finished ≡ true
   pub complete : IsViewUnhindered a b taken → IsViewComplete np taken acted end

@@ -1,16 +1,14 @@
 //! The bytes of a link, one by one.
-ghost use Rattle.std.specs.Prelude.{◌≡◌, ◌≤◌, ◌<◌, ◌∷◌, [], length, IfOk};
+ghost use Rattle.std.specs.Prelude.{◌≡◌, ◌≤◌, ◌<◌, false, ◌∷◌, [], length, IfOk};
 ghost use Rattle.std.specs.Io.KnownBytes.{ReadConsumes, WriteAppends};
-ghost use Rattle.gt_io.specs.Causes.{HasCause, RisesOnce};
+ghost use Rattle.gt_io.specs.Causes.{CountsEnd, HasCause, RisesOnce};
 ghost use Rattle.gt_io.specs.Links.{WritesNothing};
 ghost use Rattle.snapshot_readers.specs.Boxes.{full_box, Fills, Feeds};
 
 use crate::ends::ViewEnd;
+use gt_base::MAX_BYTES;
 use gt_io::{Failed, Link};
 use std::marker::Model;
-
-/// How many bytes are taken from one link at most.
-pub(crate) const MOST_BYTES: usize = 67_108_864;
 
 /// Bytes that were read and not handed out. It is seen as these, and how many more may be read.
 #[derive(Drop)]
@@ -37,6 +35,7 @@ impl Model for Inbox {
 fn read_some<L: Link>(link: &mut L, buf: &mut [u8], left: usize) -> Result<usize, Failed>
     requires buf { 0 < length buf.old }
     requires left { 0 < left }
+    requires open { (L.traffic link.old).finished ≡ false }
     ensures bound { IfOk result (λ n. (n ≤ left) × (n ≤ length buf.new)) }
     ensures bytes { ReadConsumes (L.traffic link.old).left (L.traffic link.new).left result
         buf.new }
@@ -46,7 +45,9 @@ fn read_some<L: Link>(link: &mut L, buf: &mut [u8], left: usize) -> Result<usize
         result }
     ensures once { RisesOnce (L.traffic link.old).read_faults (L.traffic link.new).read_faults
         result }
+    ensures ends { CountsEnd (L.traffic link.old).ends (L.traffic link.new).ends result }
     ensures writes { WritesNothing (L.traffic link.old) (L.traffic link.new) }
+    ensures held { (L.traffic link.new).finished ≡ (L.traffic link.old).finished }
 {
     let room = left.min(buf.len());
     link.read(&mut buf[..room])
@@ -61,7 +62,7 @@ impl Inbox {
             buf: [0; 512],
             at: 0,
             end: 0,
-            left: MOST_BYTES,
+            left: MAX_BYTES,
         }
     }
 
@@ -79,8 +80,10 @@ impl Inbox {
     fn fill<L: Link>(&mut self, link: &mut L) -> Result<usize, Failed>
         requires rest { self.old.rest ≡ [] }
         requires left { 0 < self.old.left }
+        requires open { (L.traffic link.old).finished ≡ false }
         ensures fills { Fills self.old self.new (L.traffic link.old) (L.traffic link.new) result }
         ensures writes { WritesNothing (L.traffic link.old) (L.traffic link.new) }
+        ensures held { (L.traffic link.new).finished ≡ (L.traffic link.old).finished }
     {
         self.at = 0;
         self.end = 0;
@@ -93,8 +96,10 @@ impl Inbox {
     /// The next byte, where none is held, or the end of the service where none comes.
     fn read_next<L: Link>(&mut self, link: &mut L) -> Result<u8, ViewEnd>
         requires rest { self.old.rest ≡ [] }
+        requires open { (L.traffic link.old).finished ≡ false }
         ensures feeds { Feeds self.old self.new (L.traffic link.old) (L.traffic link.new) result }
         ensures writes { WritesNothing (L.traffic link.old) (L.traffic link.new) }
+        ensures held { (L.traffic link.new).finished ≡ (L.traffic link.old).finished }
     {
         if self.left == 0 {
             return Err(ViewEnd::Spent);
@@ -110,8 +115,10 @@ impl Inbox {
 
     /// The next byte, which is read where none is held, or the end of the service where none comes.
     pub(crate) fn next<L: Link>(&mut self, link: &mut L) -> Result<u8, ViewEnd>
+        requires { (L.traffic link.old).finished ≡ false }
         ensures feeds { Feeds self.old self.new (L.traffic link.old) (L.traffic link.new) result }
         ensures writes { WritesNothing (L.traffic link.old) (L.traffic link.new) }
+        ensures held { (L.traffic link.new).finished ≡ (L.traffic link.old).finished }
     {
         if self.at == self.end {
             return self.read_next(link);

@@ -1,14 +1,15 @@
 //! What one line of a viewer's link comes to: it is read, answered by a glance where it only looks,
 //! and told its reply.
-ghost use Rattle.std.specs.Prelude.{◌≡◌, ◌+◌, ◌<◌, ◌^◌, ◌++◌, true, OnOk, codes};
+ghost use Rattle.std.specs.Prelude.{◌≡◌, ◌+◌, ◌<◌, ◌≤◌, ◌^◌, ◌++◌, true, false, OnOk, codes};
 ghost use Rattle.gt_io.specs.Links.{ReadsNothing};
 ghost use Rattle.policy_words.specs.Naming.{NamedPolicy};
 ghost use Rattle.request_text.specs.Replies.{fault_word};
 ghost use Rattle.connection_laws.specs.Desks.{IsNamedActor};
+ghost use Rattle.connection_laws.specs.Rooms.{room_in, LendsRoom, TakesBack};
 ghost use Rattle.gtrbac_model.specs.History.{IsNamedWish, ask};
 ghost use Rattle.core_machine.specs.Looks.{is_look};
 ghost use Rattle.snapshot_readers.specs.Viewed.{Glimpse};
-ghost use Rattle.snapshot_readers.specs.Viewing.{GlancesCanBeTold, IsViewTold, SameGlass, Shows, AnswersView, Acts, ViewSent, HasViewRoom, ViewCountsUp, Goes, view_point};
+ghost use Rattle.snapshot_readers.specs.Viewing.{GlancesCanBeTold, IsViewTold, view_text_in, SameGlass, Shows, AnswersView, Acts, ViewSent, HasViewRoom, ViewCountsUp, Goes, view_point};
 
 use crate::ends::ViewEnd;
 use crate::glass::Glass;
@@ -19,6 +20,7 @@ use gt_io::{Framed, Framer, Gate, Link, send_all};
 use policy_book::Policy;
 use request_text::{LONGEST_REPLY, Line, LineFault, put_reply, read_line, reply_fits};
 use std::alloc::Global;
+use std::mem::replace;
 
 /// The reply to a line that says nothing.
 fn fault_reply(fault: LineFault) -> &'static [u8]
@@ -33,11 +35,13 @@ fn fault_reply(fault: LineFault) -> &'static [u8]
 
 /// Writes the reply of a line.
 fn send<L: Link>(link: &mut L, told: &ViewAnswer) -> Result<(), ViewEnd>
+    requires { (L.traffic link.old).finished ≡ false }
     ensures sent { (np : NamedPolicy) (answer : Glimpse) → IsViewTold np told.now answer
         → ViewSent np answer (L.traffic link.old) (L.traffic link.new) result }
     ensures reads { ReadsNothing (L.traffic link.old) (L.traffic link.new) }
     ensures kept { OnOk result
         ((L.traffic link.new).write_faults ≡ (L.traffic link.old).write_faults) }
+    ensures held { (L.traffic link.new).finished ≡ (L.traffic link.old).finished }
 {
     let sent = match told {
         ViewAnswer::Silence => Ok(()),
@@ -67,7 +71,19 @@ fn only_looks(request: &Request) -> bool
     }
 }
 
-/// Answers a request that only looks, with room for the reply and for its number taken before.
+/// Takes the buffer of a connection back from a reply, which was written, and empties it. Where the
+/// line was told no reply, the buffer has stayed, and stays as it is.
+fn take_back(room: &mut List<u8>, told: ViewAnswer)
+    ensures { TakesBack room.old room.new (view_text_in told) }
+{
+    if let ViewAnswer::Reply(mut text) = told {
+        text.clear();
+        *room = text;
+    }
+}
+
+/// Answers a request that only looks, with room for the reply and for its number made before. A
+/// reply goes out in the buffer, and one without room is left in its place.
 fn show(
     alloc: Global,
     glass: &mut Glass,
@@ -75,6 +91,7 @@ fn show(
     actor: Actor,
     request: Request,
     lens: &mut List<u64>,
+    room: &mut List<u8>,
 ) -> ViewAnswer
     requires policy { glass.old.named ≡ policy.now }
     requires looks { is_look request ≡ true }
@@ -83,17 +100,18 @@ fn show(
     ensures glass { SameGlass glass.old glass.new }
     ensures shows { Shows policy.now glass.old.birth glass.old.seen glass.new.seen lens.old.items
         lens.new.items actor request result }
+    ensures lends { LendsRoom room.old room.new (view_text_in result) }
 {
-    let mut text = List::new(alloc);
-    if text.reserve(LONGEST_REPLY).is_err() || lens.reserve(1).is_err() {
+    room.clear();
+    if room.reserve(LONGEST_REPLY).is_err() || lens.reserve(1).is_err() {
         return ViewAnswer::NoMemory;
     }
     match glass.glance(actor, request) {
         Ok(glanced) => {
             reply_fits(policy, &glanced.reply);
-            put_reply(policy, &glanced.reply, &mut text);
+            put_reply(policy, &glanced.reply, room);
             lens.push(glanced.len);
-            ViewAnswer::Reply(text)
+            ViewAnswer::Reply(replace(room, List::new(alloc)))
         }
         Err(_) => ViewAnswer::NoMemory,
     }
@@ -115,6 +133,7 @@ fn answer(
     ensures answers { AnswersView policy.now glass.old.birth glass.old.seen glass.new.seen
         showing.old
         showing.new request result }
+    ensures lends { LendsRoom showing.old.room showing.new.room (view_text_in result) }
 {
     if !only_looks(&request) {
         return ViewAnswer::ViewOnly;
@@ -126,6 +145,7 @@ fn answer(
         showing.actor,
         request,
         &mut showing.lens,
+        &mut showing.room,
     );
     if let ViewAnswer::NoMemory = told {
         showing.denied += 1;
@@ -149,6 +169,7 @@ fn act<G: Gate>(
     ensures acts { Acts policy.now glass.old.birth glass.old.seen glass.new.seen showing.old
         showing.new line.now result }
     ensures counts { ViewCountsUp showing.old showing.new 1 }
+    ensures lends { LendsRoom showing.old.room showing.new.room (view_text_in result) }
 {
     match read_line(policy, Actor::Nobody, false, line) {
         Ok(Line::Ask(request)) => {
@@ -180,6 +201,7 @@ pub(crate) fn take_byte<L: Link, G: Gate>(
     requires actor { IsNamedActor policy.now showing.old.actor }
     requires replies { GlancesCanBeTold policy.now glass.old.birth }
     requires room { HasViewRoom showing.old 1 }
+    requires open { (L.traffic link.old).finished ≡ false }
     ensures glass { SameGlass glass.old glass.new }
     ensures goes { Goes policy.now glass.old.birth
         (view_point glass.old.seen showing.old (L.traffic link.old).given)
@@ -191,12 +213,16 @@ pub(crate) fn take_byte<L: Link, G: Gate>(
     ensures reads { ReadsNothing (L.traffic link.old) (L.traffic link.new) }
     ensures faults { OnOk result
         ((L.traffic link.new).write_faults ≡ (L.traffic link.old).write_faults) }
+    ensures kept { room_in showing.old.room ≤ room_in showing.new.room }
+    ensures held { (L.traffic link.new).finished ≡ (L.traffic link.old).finished }
 {
     match framer.push(byte) {
         Framed::More => Ok(()),
         Framed::Whole => {
             let told = act(glass, policy, station, showing, framer.line());
-            send(link, &told)
+            let sent = send(link, &told);
+            take_back(&mut showing.room, told);
+            sent
         }
         Framed::Long => send(link, &ViewAnswer::Bad(LineFault::Long)),
     }

@@ -5,7 +5,7 @@ ghost use Rattle.gt_base.specs.declared.requests.Actor.TheVariants.{Operator};
 ghost use Rattle.gt_base.specs.declared.requests.Request.TheVariants.{Now, Status};
 ghost use Rattle.gtrbac_model.specs.History.{IsNamedWish, ask};
 
-use gt_base::{Actor, Fluent, LAST_MINUTE, Request, SessionId};
+use gt_base::{Actor, Fluent, LAST_MINUTE, MAX_PRIO, Request, SessionId};
 use policy_book::Policy;
 
 fn names_actor(policy: &Policy, actor: Actor) -> bool
@@ -50,7 +50,7 @@ fn names_request(policy: &Policy, request: &Request) -> bool
         Request::Seen(event) => names_fluent(policy, event.fluent),
         Request::Raise { head, delay } => {
             names_fluent(policy, head.event.fluent)
-                && head.prio.get() <= 100
+                && head.prio.get() <= MAX_PRIO
                 && *delay <= LAST_MINUTE
         }
         Request::OpenSession => true,

@@ -1,7 +1,7 @@
 //! A viewer's link, from its first byte to its end.
-ghost use Rattle.std.specs.Prelude.{◌≡◌, ◌+◌, ◌<◌, ◌≤◌, ◌^◌};
+ghost use Rattle.std.specs.Prelude.{◌≡◌, ◌+◌, ◌<◌, ◌≤◌, ◌^◌, false};
+ghost use Rattle.gt_base.specs.declared.limits.TheConstants.{MAX_BYTES};
 ghost use Rattle.snapshot_readers.specs.Viewing.{GlancesCanBeTold, IsViewStart, SameGlass, Converses, Views, view_point};
-ghost use Rattle.snapshot_readers.specs.declared.inbox.TheConstants.{MOST_BYTES};
 
 use crate::ends::{ViewEnd, Viewed};
 use crate::glass::Glass;
@@ -24,12 +24,14 @@ fn converse<L: Link, G: Gate>(
     requires policy { glass.old.named ≡ policy.now }
     requires replies { GlancesCanBeTold policy.now glass.old.birth }
     requires start { IsViewStart showing.old }
+    requires open { (L.traffic link.old).finished ≡ false }
     ensures glass { SameGlass glass.old glass.new }
     ensures converses { Converses policy.now glass.old.birth
         (view_point glass.old.seen showing.old (L.traffic link.old).given)
         (view_point glass.new.seen showing.new (L.traffic link.new).given)
         (L.traffic link.old) (L.traffic link.new) result }
-    ensures calls { showing.new.calls ≤ showing.old.calls + MOST_BYTES }
+    ensures calls { showing.new.calls ≤ showing.old.calls + MAX_BYTES }
+    ensures held { (L.traffic link.new).finished ≡ (L.traffic link.old).finished }
 {
     let mut framer = Framer::new();
     let mut inbox = Inbox::new();
@@ -45,8 +47,8 @@ fn converse<L: Link, G: Gate>(
 }
 
 /// Serves one link of a viewer, line by line: it passes the gate, and answers by a glance what only
-/// looks. After the first read or write that fails it makes no further one. At the end it lets the
-/// link go. `calls` counts the request lines of the viewer. Want of memory shows in the reply to a
+/// looks. After the first read or write that fails it makes no further one, nor a read behind the one
+/// that told the end. At the end it lets the link go, which is the last call on it. `calls` counts the request lines of the viewer. Want of memory shows in the reply to a
 /// line.
 pub fn view_link<L: Link, G: Gate>(
     glass: &mut Glass,
@@ -58,17 +60,19 @@ pub fn view_link<L: Link, G: Gate>(
     requires policy { glass.old.named ≡ policy.now }
     requires replies { GlancesCanBeTold policy.now glass.old.birth }
     requires calls { calls.old < 2 ^ 63 }
+    requires open { (L.traffic link).finished ≡ false }
     ensures glass { SameGlass glass.old glass.new }
     ensures views { Views policy.now glass.old.birth glass.old.seen glass.new.seen
         result.lens.items result.denied calls.old calls.new (L.traffic link)
         (L.traffic result.link) result.outcome }
-    ensures few { calls.new ≤ calls.old + MOST_BYTES }
+    ensures few { calls.new ≤ calls.old + MAX_BYTES }
 {
     let mut showing = Showing {
         actor: Actor::Nobody,
         lens: List::new(station.alloc),
         denied: 0,
         calls: *calls,
+        room: List::new(station.alloc),
     };
     let outcome = converse(glass, policy, station, &mut link, &mut showing);
     link.finish();
@@ -77,6 +81,7 @@ pub fn view_link<L: Link, G: Gate>(
         lens,
         denied,
         calls: asked,
+        room: _,
     } = showing;
     *calls = asked;
     Viewed {

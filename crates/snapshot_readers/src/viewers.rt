@@ -1,20 +1,17 @@
 //! The links of a viewer's door, one after the other.
 ghost use Rattle.std.specs.Prelude.{◌≡◌, ◌+◌, ◌<◌, ◌≤◌, ◌^◌, [], length, None};
+ghost use Rattle.gt_base.specs.declared.limits.TheConstants.{MAX_BYTES};
 ghost use Rattle.snapshot_readers.specs.Crew.{WorksOn, Works};
 ghost use Rattle.snapshot_readers.specs.Viewing.{GlancesCanBeTold, SameGlass};
-ghost use Rattle.snapshot_readers.specs.declared.inbox.TheConstants.{MOST_BYTES};
 
 use crate::ends::{Viewed, ViewerEnd};
 use crate::glass::Glass;
 use crate::serve::view_link;
 use crate::station::Station;
-use gt_base::List;
+use gt_base::{List, MAX_LINKS};
 use gt_io::{Door, Gate};
 use policy_book::Policy;
 use std::alloc::Global;
-
-/// How many links one viewer serves at most.
-pub(crate) const MOST_LINKS: usize = 100_000;
 
 /// A viewer with its door and gate, and what became of its links.
 pub struct Viewer<D: Door, G: Gate> {
@@ -37,13 +34,13 @@ fn view_next<D: Door, G: Gate>(
     requires replies { GlancesCanBeTold policy.now glass.old.birth }
     requires calls { calls.old < 2 ^ 63 }
     requires room { 1 ≤ served.old.spare }
-    requires few { length served.old.items < MOST_LINKS }
+    requires few { length served.old.items < MAX_LINKS }
     ensures glass { SameGlass glass.old glass.new }
     ensures works { WorksOn D.L.traffic policy.now glass.old.birth
         (record { seen = glass.old.seen; door = D.links door.old })
         (record { seen = glass.new.seen; door = D.links door.new })
         (D.faults door.old) (D.faults door.new) served.old.items served.new.items result }
-    ensures calls { calls.new ≤ calls.old + MOST_BYTES }
+    ensures calls { calls.new ≤ calls.old + MAX_BYTES }
     ensures one { result ≡ None → length served.new.items ≡ length served.old.items + 1 }
 {
     match door.next() {
@@ -74,7 +71,7 @@ fn view_on<D: Door, G: Gate>(
         (D.faults door.old) (D.faults door.new) served.new.items result }
 {
     let mut calls = 0;
-    while served.len() < MOST_LINKS {
+    while served.len() < MAX_LINKS {
         if served.reserve(1).is_err() {
             return ViewerEnd::Memory;
         }

@@ -14,7 +14,7 @@ fn stop(next: Option<Instant>, bound: Instant) -> Instant
     ensures { (test : ℕ → Bool) (now : ℕ) → IsNextOf test now next → now < bound
         → IsNextStop test now bound result }
 {
-    let _bound = bound.minute();
+    bound.keeps();
     match next {
         Some(t) if t < bound => t,
         _ => bound,

@@ -1,5 +1,5 @@
 //! When a timeline raises something next, and its base at an instant.
-ghost use Rattle.std.specs.Prelude.{◌≡◌, ℕ, ◌<◌, ◌≤◌, ◌+◌, ◌++◌, ◌||◌, IfOk, OnOk};
+ghost use Rattle.std.specs.Prelude.{◌≡◌, ℕ, ◌<◌, ◌≤◌, ◌+◌, ◌*◌, ◌++◌, ◌||◌, length, IfOk, OnOk};
 ghost use Rattle.std.specs.List.{list_any};
 ghost use Rattle.std.specs.Ordering.{eq_by_cmp};
 ghost use Rattle.gt_base.specs.declared.events.Fluent.{Fluent};
@@ -17,12 +17,14 @@ ghost use Rattle.time_engine.specs.Plans.{IsTimeline};
 
 use crate::states::TimelineState;
 use crate::traces::has_item;
-use gt_base::{Happened, Instant, Memory, Prioritised};
+use gt_base::{Happened, Instant, Looks, Memory, Prioritised};
 use instant_bases::{
-    add_events, add_signals, earlier, minute_after, next_limited, next_periodic, push_limited,
-    push_periodic,
+    add_events, add_signals, earlier, minute_after, next_limited_in_looks, next_periodic_in_looks,
+    push_limited, push_periodic,
 };
 use policy_book::Policy;
+use std::marker::Brand;
+use std::sync::ledger::{Blank, Ledger};
 
 /// The least instant after now at which something is raised, none exactly where there is none.
 pub(crate) fn due(s: &TimelineState, policy: &Policy) -> Option<Instant>
@@ -30,42 +32,83 @@ pub(crate) fn due(s: &TimelineState, policy: &Policy) -> Option<Instant>
     requires kept { IsTimeline (view_of s.now) }
     ensures { IsNextOf (stirs_in policy.now.policy (view_of s.now)) s.now.present result }
 {
-    let later = earlier(next_raised(s, policy), next_pending(s));
-    earlier(later, next_signals(s))
+    due_over::<Brand>(s, policy, Blank::new(1))
+}
+
+/// The same instant, where nobody asks how often something is looked at.
+fn due_over<L: Ledger>(s: &TimelineState, policy: &Policy, blank: Blank) -> Option<Instant>
+    requires stands { StandsFor policy.now.policy (view_of s.now) }
+    requires kept { IsTimeline (view_of s.now) }
+    requires name { blank.name ≡ L.name }
+    requires parts { blank.parts ≡ L.parts }
+    requires some { 0 < blank.parts }
+    ensures { IsNextOf (stirs_in policy.now.policy (view_of s.now)) s.now.present result }
+{
+    let mut looks: Looks<L> = Looks::new(blank);
+    due_in_looks(s, policy, &mut looks)
+}
+
+/// The same instant, and how often something is looked at for it: at most twice for each entry and
+/// for each limit, and once at what is due later and at the signals.
+pub(crate) fn due_in_looks<L: Ledger>(
+    s: &TimelineState,
+    policy: &Policy,
+    looks: &mut Looks<L>,
+) -> Option<Instant>
+    requires stands { StandsFor policy.now.policy (view_of s.now) }
+    requires kept { IsTimeline (view_of s.now) }
+    ensures next { IsNextOf (stirs_in policy.now.policy (view_of s.now)) s.now.present result }
+    ensures cost { looks.new ≤ looks.old
+        + 2 * (length policy.now.policy.entries + length policy.now.policy.limits + 1) }
+{
+    let raised = next_raised(s, policy, looks);
+    let later = earlier(raised, next_pending(s, looks));
+    earlier(later, next_signals(s, looks))
 }
 
 /// The least instant after now at which the policy raises something by itself.
-fn next_raised(s: &TimelineState, policy: &Policy) -> Option<Instant>
+fn next_raised<L: Ledger>(
+    s: &TimelineState,
+    policy: &Policy,
+    looks: &mut Looks<L>,
+) -> Option<Instant>
     requires stands { StandsFor policy.now.policy (view_of s.now) }
     requires kept { IsTimeline (view_of s.now) }
-    ensures { IsNextOf (λ t. is_some_item (periodic policy.now.policy s.now.ages.birth t)
+    ensures next { IsNextOf (λ t. is_some_item (periodic policy.now.policy s.now.ages.birth t)
         || is_some_item (limited policy.now.policy (has s.now.status.set)
         (since_of (view_of s.now)) t)) s.now.present result }
+    ensures cost { looks.new ≤ looks.old
+        + 2 * (length policy.now.policy.entries + length policy.now.policy.limits) }
 {
     policy.keeps();
     let periods = s.watches.as_slice();
     let entries = policy.entries().as_slice();
     let limits = policy.limits().as_slice();
-    let next = next_periodic(periods, entries, s.ages.birth(), s.present);
+    let next = next_periodic_in_looks(periods, entries, s.ages.birth(), s.present, looks);
     earlier(
         next,
-        next_limited(periods, limits, &s.status, &s.ages, s.present),
+        next_limited_in_looks(periods, limits, &s.status, &s.ages, s.present, looks),
     )
 }
 
-/// The least instant at which something is due.
-fn next_pending(s: &TimelineState) -> Option<Instant>
+/// The least instant at which something is due, in one look at the front.
+fn next_pending<L: Ledger>(s: &TimelineState, looks: &mut Looks<L>) -> Option<Instant>
     requires { IsTimeline (view_of s.now) }
-    ensures { IsNextOf (λ t. is_some_item (due_events s.now.pending.set t)) s.now.present result }
+    ensures next { IsNextOf (λ t. is_some_item (due_events s.now.pending.set t))
+        s.now.present result }
+    ensures cost { looks.new ≡ looks.old + 1 }
 {
+    looks.look();
     s.pending.next_due()
 }
 
-/// The minute after now, where a signal waits.
-fn next_signals(s: &TimelineState) -> Option<Instant>
-    ensures { IsNextOf (λ t. is_some_item (signals_for s.now.present s.now.signals.set t))
+/// The minute after now, where a signal waits, in one look at them.
+fn next_signals<L: Ledger>(s: &TimelineState, looks: &mut Looks<L>) -> Option<Instant>
+    ensures next { IsNextOf (λ t. is_some_item (signals_for s.now.present s.now.signals.set t))
         s.now.present result }
+    ensures cost { looks.new ≡ looks.old + 1 }
 {
+    looks.look();
     if has_item(s.signals.as_slice()) {
         minute_after(s.present)
     } else {

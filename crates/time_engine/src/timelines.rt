@@ -1,5 +1,5 @@
 //! The timeline of a policy: closed from one instant that stirs to the next.
-ghost use Rattle.std.specs.Prelude.{◌≡◌, ℕ, ◌<◌, ◌≤◌, ◌+◌, nat_eq, cond, [], IfOk, IfErr, OnOk, OnErr};
+ghost use Rattle.std.specs.Prelude.{◌≡◌, ℕ, ◌<◌, ◌≤◌, ◌+◌, ◌*◌, nat_eq, cond, length, [], IfOk, IfErr, OnOk, OnErr};
 ghost use Rattle.gt_base.specs.declared.events.Fluent.{Fluent};
 ghost use Rattle.gt_base.specs.Happening.{nothing};
 ghost use Rattle.gt_base.specs.Sets.{none};
@@ -12,7 +12,7 @@ ghost use Rattle.time_engine.specs.Traces.{model_of};
 
 use crate::closing::{follow, later, make_room, planned};
 use crate::copying::copied_trace;
-use crate::dues::due;
+use crate::dues::{due, due_in_looks};
 use crate::grounds::Ground;
 use crate::plans::Plan;
 use crate::states::TimelineState;
@@ -20,11 +20,12 @@ use crate::traces::{Closed, Trace};
 use crate::waiting::Waiting;
 use delay_agenda::Agenda;
 use duration_limits::Ages;
-use gt_base::{Happened, Instant, LAST_MINUTE, List, Memory, Prioritised, Signal, Status};
+use gt_base::{Happened, Instant, LAST_MINUTE, List, Looks, Memory, Prioritised, Signal, Status};
 use instant_bases::{Watch, ask_all, copied_watches, watch_all};
 use policy_book::Policy;
 use std::alloc::Global;
 use std::marker::Model;
+use std::sync::ledger::Ledger;
 
 /// Why an event was not queued. The timeline is then as it was.
 #[derive(Clone, Copy, PartialEq, Eq, Debug)]
@@ -139,6 +140,19 @@ impl Timeline {
         ensures { IsNextOf (stirs_in g.now.policy self.now.line) self.now.line.now result }
     {
         due(&self.state, g.policy())
+    }
+
+    /// The same instant, and how often something is looked at for it, however many minutes pass up
+    /// to it: at most twice for each entry (its period is asked) and for each limit (its age and
+    /// its period are), and once at the front of what is due later and at the signals that wait.
+    /// The steps inside one search of the calendar are not counted.
+    pub fn due_in_looks<L: Ledger>(&self, g: &Ground, looks: &mut Looks<L>) -> Option<Instant>
+        requires stands { StandsFor g.now.policy self.now.line }
+        ensures next { IsNextOf (stirs_in g.now.policy self.now.line) self.now.line.now result }
+        ensures cost { looks.new ≤ looks.old
+            + 2 * (length g.now.policy.entries + length g.now.policy.limits + 1) }
+    {
+        due_in_looks(&self.state, g.policy(), looks)
     }
 
     /// Closes the timeline at an instant after now that is not after the next one at which

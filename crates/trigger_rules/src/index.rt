@@ -3,6 +3,7 @@ ghost use Rattle.std.specs.Prelude.{◌≡◌, ◌≤◌, ◌++◌, [], ◌∷�
 ghost use Rattle.std.specs.List.{list_any};
 ghost use Rattle.gt_base.specs.declared.events.Event.{Event};
 ghost use Rattle.gt_base.specs.declared.events.Signal.{Signal};
+ghost use Rattle.gt_base.specs.declared.limits.TheConstants.{MAX_TRIGGERS};
 ghost use Rattle.indexmap.specs.IndexMap.{get};
 ghost use Rattle.trigger_rules.specs.Indexed.{event_eq, signal_eq, with_event, with_signal, under, ended_by, ends_in};
 
@@ -16,7 +17,7 @@ pub(crate) fn event_index(
     alloc: Global,
     triggers: &[Trigger],
 ) -> Result<IndexMap<Event, Vec<u32>>, Memory>
-    requires { length triggers.now ≤ 4_000 }
+    requires { length triggers.now ≤ MAX_TRIGGERS }
     ensures { IfOk result (λ m. (e : Event) → under (get event_eq m e) (λ v. v.items)
         ≡ with_event triggers.now e) }
 {
@@ -33,7 +34,7 @@ pub(crate) fn signal_index(
     alloc: Global,
     triggers: &[Trigger],
 ) -> Result<IndexMap<Signal, Vec<u32>>, Memory>
-    requires { length triggers.now ≤ 4_000 }
+    requires { length triggers.now ≤ MAX_TRIGGERS }
     ensures { IfOk result (λ m. (s : Signal) → under (get signal_eq m s) (λ v. v.items)
         ≡ with_signal triggers.now s) }
 {

@@ -4,6 +4,7 @@ ghost use Rattle.std.specs.List.{list_all};
 ghost use Rattle.gt_base.specs.declared.events.Event.{Event};
 ghost use Rattle.gt_base.specs.Held.{TriggerView};
 ghost use Rattle.gt_base.specs.Sets.{has};
+ghost use Rattle.gt_base.specs.declared.limits.TheConstants.{MAX_TRIGGERS};
 ghost use Rattle.gtrbac_model.specs.Conflict.{won as is_won, after};
 ghost use Rattle.gtrbac_model.specs.Graph.{item_at};
 ghost use Rattle.gtrbac_model.specs.Trigger.{met, holds};
@@ -36,6 +37,7 @@ impl Drop for Rules {
 
 impl Model for Rules {
     ghost use Rattle.std.specs.Prelude.{List, length, ◌≤◌, ◌≡◌};
+    ghost use Rattle.gt_base.specs.declared.limits.TheConstants.{MAX_TRIGGERS};
     ghost use Rattle.gt_base.specs.declared.events.Event.{Event};
     ghost use Rattle.gt_base.specs.declared.events.Signal.{Signal};
     ghost use Rattle.gt_base.specs.Held.{TriggerView};
@@ -46,7 +48,7 @@ impl Model for Rules {
 
     ghost view = { λ r. r.triggers.items };
 
-    ghost invariant = { λ r. (length r.triggers.items ≤ 4_000)
+    ghost invariant = { λ r. (length r.triggers.items ≤ MAX_TRIGGERS)
         × ((e : Event) → under (get event_eq r.events e) (λ v. v.items)
         ≡ with_event r.triggers.items e)
         × ((s : Signal) → under (get signal_eq r.signals s) (λ v. v.items)
@@ -56,7 +58,7 @@ impl Model for Rules {
 impl Rules {
     /// Keeps equal triggers, which are at most 4,000.
     pub fn new(alloc: Global, triggers: &List<Trigger>) -> Result<Rules, Memory>
-        requires { length triggers.now.items ≤ 4_000 }
+        requires { length triggers.now.items ≤ MAX_TRIGGERS }
         ensures { IfOk result (λ r. r ≡ triggers.now.items) }
     {
         let triggers = copied(alloc, triggers)?;
@@ -72,7 +74,7 @@ impl Rules {
     /// The triggers, in their order.
     pub fn triggers(&self) -> &List<Trigger>
         ensures triggers { result.now.items ≡ self.now }
-        ensures few { length self.now ≤ 4_000 }
+        ensures few { length self.now ≤ MAX_TRIGGERS }
     {
         &self.triggers
     }

@@ -16,5 +16,5 @@ mod view;
 pub use front::Front;
 pub use lock::{TurnLock, Worn};
 pub use make::NewFault;
-pub use pass::{MOST_DRAWS, Pass};
+pub use pass::{MAX_DRAWS, Pass};
 pub use passes::Passes;

@@ -6,7 +6,7 @@ ghost use Rattle.turn_lock.specs.Turns.{part};
 ghost use Rattle.turn_lock.specs.Holders.{site_of};
 
 use crate::front::Front;
-use crate::pass::{MOST_DRAWS, Pass};
+use crate::pass::{MAX_DRAWS, Pass};
 use crate::rule::TurnTable;
 use crate::steps::{append, draw, give_back, release, resume, stay, take};
 use gt_base::Keeps;
@@ -37,7 +37,7 @@ impl<M: Keeps> Model for TurnLock<M> {
 }
 
 /// How many turns in a row a pass keeps.
-const MOST_KEPT: u32 = 64;
+const MAX_KEPT: u32 = 64;
 
 /// The pass has drawn as many turns as a pass may, which is 2^40.
 #[derive(Clone, Copy, PartialEq, Eq, Debug)]
@@ -63,7 +63,7 @@ impl<M: Keeps> TurnLock<M> {
             (λ worn. (worn.draws ≡ 2 ^ 40) × (pass.old.draws ≡ 2 ^ 40)
             × (pass.new ≡ pass.old)) }
     {
-        if pass.draws >= MOST_DRAWS {
+        if pass.draws >= MAX_DRAWS {
             return Err(Worn { draws: pass.draws });
         }
         pass.draws += 1;
@@ -106,7 +106,7 @@ impl<M: Keeps> TurnLock<M> {
             ≡ part pass.new.number (drop (length (M.list self.now.root)) (M.list value)) }
     {
         let front = Front::of(&value);
-        if pass.stays && pass.run < MOST_KEPT {
+        if pass.stays && pass.run < MAX_KEPT {
             pass.run += 1;
             pass.kept = true;
             stay(&self.table.shared, &mut pass.seat, value);

@@ -8,7 +8,7 @@ use crate::rule::Place;
 use std::marker::Model;
 
 /// How many turns a pass may draw.
-pub const MOST_DRAWS: u64 = 1 << 40;
+pub const MAX_DRAWS: u64 = 1 << 40;
 
 /// What a thread takes turns with. One that is dropped keeps its lock from being closed, and others
 /// from their turns where it has kept its own.

@@ -4,6 +4,7 @@ use Rattle.gt_base.specs.Happening.{HappenedView}
 use Rattle.gt_base.specs.Sets.{has}
 use Rattle.gt_base.specs.declared.events.Prioritised.{Prioritised}
 use Rattle.gt_base.specs.declared.requests.Entry.{Entry}
+use Rattle.gt_base.specs.declared.limits.TheConstants.{MAX_PRIO}
 use Rattle.gtrbac_model.specs.Policy.{Policy}
 use Rattle.gtrbac_model.specs.Status.{Model}
 use Rattle.gtrbac_model.specs.History.{Legal, now_of, point_after}
@@ -12,7 +13,7 @@ use Rattle.history_laws.specs.Named.{AreNamed}
 
 -- the priorities of the set are those that lines can say
 abbrev pub HasPriorities : HappenedView → Type 0
-HasPriorities x = (e : Prioritised) → has x.events e ≡ true → e.prio ≤ 100
+HasPriorities x = (e : Prioritised) → has x.events e ≡ true → e.prio ≤ MAX_PRIO
 
 -- so it is of each set of a history whose moves name only what the policy has
 abbrev pub PrioritiesAreLow : Type 0

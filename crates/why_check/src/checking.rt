@@ -119,8 +119,7 @@ fn step(
 {
     match &entry.what {
         Step::Tick { upto: _, to } => {
-            // the call tells that an instant is not after the last
-            let _bound = to.minute();
+            to.keeps();
             tick(s, by, *to, cert, place)
         }
         Step::Ask {

@@ -1,6 +1,7 @@
 //! The triggers of a policy by the events that they head.
 ghost use Rattle.std.specs.Prelude.{◌≡◌, ◌≤◌, ◌++◌, [], ◌∷◌, cond, length, None, Some, MatchOption, IfOk, OnOk};
 ghost use Rattle.gt_base.specs.declared.events.Event.{Event as EventOf};
+ghost use Rattle.gt_base.specs.declared.limits.TheConstants.{MAX_TRIGGERS};
 ghost use Rattle.gtrbac_model.specs.Graph.{item_at};
 ghost use Rattle.indexmap.specs.IndexMap.{get};
 ghost use Rattle.trigger_rules.specs.Indexed.{event_eq, numbers, under};
@@ -44,7 +45,7 @@ impl Model for Headed {
 impl Headed {
     /// Keeps equal triggers.
     pub(crate) fn new(alloc: Global, triggers: &List<Trigger>) -> Result<Headed, Memory>
-        requires { length triggers.now.items ≤ 4_000 }
+        requires { length triggers.now.items ≤ MAX_TRIGGERS }
         ensures { IfOk result (λ h. h ≡ triggers.now.items) }
     {
         Ok(Headed {
@@ -81,7 +82,7 @@ impl Headed {
 
 /// Under each event, the numbers of the immediate triggers that head it, ascending.
 fn head_index(alloc: Global, triggers: &[Trigger]) -> Result<IndexMap<Event, Vec<u32>>, Memory>
-    requires { length triggers.now ≤ 4_000 }
+    requires { length triggers.now ≤ MAX_TRIGGERS }
     ensures { IfOk result (λ m. (e : EventOf) → under (get event_eq m e) (λ v. v.items)
         ≡ numbers (is_headed e) 0 triggers.now) }
 {

@@ -2,6 +2,7 @@
 ghost use Rattle.std.specs.Prelude.{◌≡◌, ℕ, ◌<◌, ◌≤◌, ◌+◌, ◌-◌, ◌++◌, nat_eq, flat_map, length, MatchOption, None, Some, OnOk};
 ghost use Rattle.gt_base.specs.declared.policies.LimitRule.{LimitRule as LimitRuleOf};
 ghost use Rattle.gt_base.specs.Sets.{has};
+ghost use Rattle.gt_base.specs.declared.limits.TheConstants.{MAX_LIMITS};
 ghost use Rattle.gtrbac_model.specs.Base.{when, turned, raised_by, period_test, limited_from, is_ripe};
 ghost use Rattle.gtrbac_model.specs.Graph.{item_at};
 ghost use Rattle.gtrbac_model.specs.Period.{inside, starts};
@@ -142,7 +143,7 @@ pub(crate) fn push_limited(
     ages: &Ages,
     t: Instant,
 ) -> Result<(), Memory>
-    requires { length limits.now ≤ 1_000 }
+    requires { length limits.now ≤ MAX_LIMITS }
     ensures { OnOk result (raised.new.items ≡ raised.old.items
         ++ limited_from periods.now (has status.now.set) (since_in ages.now) 0 limits.now t) }
 {

@@ -1,5 +1,6 @@
 use Rattle.std.proofs.Common.{◌≡◌, ◌∙◌, ◌++◌, [], ◌∷◌, ap, refl, List, ℕ}
 use Rattle.request_text.specs.Replies.{reply_line}
+use Rattle.gt_base.specs.Roomy.{Roomy}
 use Rattle.connection_laws.proofs.Deciding.{decides_nothing, decides_reply}
 use Rattle.locked_history.specs.Fronts.{by}
 use Rattle.connection_laws.proofs.acts.decide.Goals as goal
@@ -24,5 +25,5 @@ pub returns-in-Ok-clause-decides : goal.returns-in-Ok-clause-decides
 returns-in-Ok-clause-decides g c =
     let m = g.M.Machine in
     decides_reply c.args.server.now.policy.now (g.M.Keeps.list c.args.server.now.desk.now.root) (m.legal c.args.server.now.desk.now.root) (m.now_of c.args.server.now.desk.now.root) (by c.args.pass.now.number c.args.server.now.conn) c.args.reading c.args.actor c.args.request
-    c.args.pass.now c.ask_at.new.pass c.in-Ok.reply c.put_reply.new.into c.in-Ok.ensures.asked
-    (c.put_reply.ensures.items ∙ ap (λ (l : List ℕ). l ++ reply_line c.args.server.now.policy.now c.in-Ok.reply) (c.reserve.ensures.items ∙ c.new-text.ensures))
+    c.args.pass.now c.ask_at.new.pass c.in-Ok.reply c.replace.result c.in-Ok.ensures.asked
+    (ap (λ (r : Roomy ℕ). r.items) c.replace.ensures.value ∙ c.put_reply.ensures.items ∙ ap (λ (l : List ℕ). l ++ reply_line c.args.server.now.policy.now c.in-Ok.reply) (c.reserve.ensures.items ∙ c.clear.ensures.items))

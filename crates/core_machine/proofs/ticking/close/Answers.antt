@@ -70,7 +70,7 @@ returns-clause-kept c =
     let w : TimelineView = c.commit.new.self.line in
     let xs : List Signal = c.as_slice.result.now in
     kept_again s.ground.policy s.birth _ _ _ _ _ _ _ _ (entries_are c) (c.add_signals.ensures ∙ signals_only w xs) refl (c.commit_end.ensures.charged_to ∙ ap (λ (t : ℕ). Some t) c.requires.closing.ends.upto)
-    (kept_tick s.ground.policy s.birth s.entries.items s.line.line (table_of s.table) s.table.charged_to c.requires.kept c.keeps.ensures c.args.who c.args.upto (omega (arith, c.minute-bound.ensures.value, c.minute-bound.ensures.bound))
+    (kept_tick s.ground.policy s.birth s.entries.items s.line.line (table_of s.table) s.table.charged_to c.requires.kept c.keeps.ensures c.args.who c.args.upto c.keeps-2.ensures
     c.args.plan c.requires.closing.plans c.requires.closing.stop w c.commit.ensures.after (with_signals w xs).signals (table_of c.commit_end.new.self) xs (closed c) (waits c) c.requires.room)
 
 pub returns-clause-ok : goal.returns-clause-ok
@@ -83,5 +83,5 @@ returns-clause-ok c =
     let is : record { named = s.ground; birth = s.birth; entries = c.push.new.self.items; trace = c.add_signals.new.line.line.trace } ≡ new =
     λ i. record { named = s.ground; birth = s.birth; entries = entries_are c i; trace = ((c.add_signals.ensures ∙ signals_only w xs) i).trace } in
     subst (λ (b : BookView). GoesOn old b c.args.who c.args.upto c.args.plan.at) (sym is)
-    (goes_tick s.ground.policy s.birth s.entries.items s.line.line (table_of s.table) s.table.charged_to c.requires.kept c.keeps.ensures c.args.who c.args.upto (omega (arith, c.minute-bound.ensures.value, c.minute-bound.ensures.bound))
+    (goes_tick s.ground.policy s.birth s.entries.items s.line.line (table_of s.table) s.table.charged_to c.requires.kept c.keeps.ensures c.args.who c.args.upto c.keeps-2.ensures
     c.args.plan c.requires.closing.plans c.requires.closing.stop w c.commit.ensures.after (with_signals w xs).signals (table_of c.commit_end.new.self) xs (closed c) (waits c) c.requires.room s.ground refl)

@@ -1,4 +1,4 @@
-use Rattle.std.proofs.Common.{◌≡◌, List, sym, ap, subst, ◌∙◌, arith}
+use Rattle.std.proofs.Common.{◌≡◌, List, sym, ap, subst, ◌∙◌}
 use Rattle.gt_base.specs.Sets.{has}
 use Rattle.gt_base.specs.declared.policies.HierEdge.{HierEdge}
 use Rattle.gtrbac_model.specs.WholePolicy.{IsPolicy}
@@ -24,7 +24,7 @@ returns c =
     let status : c.status.result.now.set ≡ c.close.new.self.line.status = c.status.ensures ∙ ap (λ (v : TimelineView). v.status) c.forget_trace.ensures.line in
     stepped c.args.book.now np c.ground-ground.ensures.value (subst (λ (g : NamedPolicy). IsPolicy g.policy) (sym c.ground-ground.ensures.value) c.keeps.ensures.kept.well.policy)
     c.args.line.now.line c.close.new.self.line c.add_signals.new.line.line c.args.table.now c.end_instants.new.self c.forget_days_before.new.self c.requires.way
-    c.args.upto c.stop-to.result (omega (arith, c.minute-bound.ensures.value, c.minute-bound.ensures.bound)) c.stop-to.ensures c.in_ok-close.ensures.ok
+    c.args.upto c.stop-to.result c.keeps-2.ensures c.stop-to.ensures c.in_ok-close.ensures.ok
     c.in_ok-signals.signals.items
     (c.in_ok-signals.ensures.table ∙ (λ i. closed_at (edges i) (caps i) (has (status i)) (c.now-now.ensures i) c.stop-to.result (table_of c.args.table.now)))
     c.forget_days_before.ensures.table

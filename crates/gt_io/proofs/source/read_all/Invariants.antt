@@ -9,6 +9,7 @@ invariant-loop-bytes g l =
       taken : Consumes (source.intake l.fn.source).left (source.intake l.source).left l.bytes.items;
       within : vec_len l.bytes ≤ l.limit;
       kept : (source.intake l.source).faults ≡ (source.intake l.fn.source).faults;
+      no_end : (source.intake l.source).ends ≡ (source.intake l.fn.source).ends;
     }
 
 abbrev pub decreases-loop-bytes : goal.decreases-loop-bytes

@@ -123,7 +123,7 @@ pub returns : goal.returns
 returns g c =
     let inv = c.loop-line.invariant in
     let run = c.loop-line.run in
-    let printed = subst (λ (x : List ℕ). IsPrinted c.print.result (told 0 x) (g.K.Sink.output c.loop-line.out).written (g.K.Sink.output c.print.new.out).written (g.K.Sink.output c.loop-line.out).faults (g.K.Sink.output c.print.new.out).faults) c.as_slice.ensures.value c.print.ensures in
+    let printed = subst (λ (x : List ℕ). IsPrinted c.print.result (told 0 x) (g.K.Sink.output c.loop-line.out).written (g.K.Sink.output c.print.new.out).written (g.K.Sink.output c.loop-line.out).faults (g.K.Sink.output c.print.new.out).faults) c.as_slice.ensures c.print.ensures in
     finishes c.args.run.book run.book inv.root c.keeps-2.ensures.kept.legal c.args.before c.args.lines inv.front c.loop-line.lines inv.parts run.actor inv.sent run.text.items inv.plays
     (g.K.Sink.output c.args.out.now).written (g.K.Sink.output c.loop-line.out).written (g.K.Sink.output c.args.out.now).faults (g.K.Sink.output c.loop-line.out).faults inv.written inv.steady
     c.print.result (g.K.Sink.output c.print.new.out).written (g.K.Sink.output c.print.new.out).faults c.in_default.ensures.steps.0 printed

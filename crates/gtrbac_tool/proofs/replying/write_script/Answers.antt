@@ -24,10 +24,10 @@ pub returns-in-Bad : goal.returns-in-Bad
 returns-in-Bad g c =
     failed_written c.args.safe (start_of c.args.safe 1 (lines_of c.args.script.now)) c.print_stop.result (g.K.Sink.output c.args.out.now).written (g.K.Sink.output c.print_stop.new.out).written (g.K.Sink.output c.args.out.now).faults (g.K.Sink.output c.print_stop.new.out).faults
     (script_fault c.in-Bad.number (fault_word c.in-Bad.fault)) (script_fault c.in-Bad.number c.fault_word.result.now) c.new-text.result.items
-    ((λ i. start_of (sym c.policy.ensures.value i) 1 (sym c.new-lines.ensures.value i)) ∙ c.find_start.ensures.start ∙ ap (λ (f : Found). started_so f c.find_start.new.lines) c.in-Bad.is) c.new-text.ensures.items (ap (script_fault c.in-Bad.number) c.fault_word.ensures) c.print_stop.ensures
+    ((λ i. start_of (sym c.policy.ensures.value i) 1 (sym c.new-lines.ensures.value i)) ∙ c.find_start.ensures.start ∙ ap (λ (f : Found). started_so f c.find_start.new.lines) c.in-Bad.is) c.new-text.ensures (ap (script_fault c.in-Bad.number) c.fault_word.ensures) c.print_stop.ensures
 
 pub returns-in-Unborn : goal.returns-in-Unborn
 returns-in-Unborn g c =
     failed_written c.args.safe (start_of c.args.safe 1 (lines_of c.args.script.now)) c.print_stop-in-Unborn.result (g.K.Sink.output c.args.out.now).written (g.K.Sink.output c.print_stop-in-Unborn.new.out).written (g.K.Sink.output c.args.out.now).faults (g.K.Sink.output c.print_stop-in-Unborn.new.out).faults
     (script_fault c.in-Unborn.number (codes "birth")) (script_fault c.in-Unborn.number (codes "birth")) c.new-text.result.items
-    ((λ i. start_of (sym c.policy.ensures.value i) 1 (sym c.new-lines.ensures.value i)) ∙ c.find_start.ensures.start ∙ ap (λ (f : Found). started_so f c.find_start.new.lines) c.in-Unborn.is) c.new-text.ensures.items refl c.print_stop-in-Unborn.ensures
+    ((λ i. start_of (sym c.policy.ensures.value i) 1 (sym c.new-lines.ensures.value i)) ∙ c.find_start.ensures.start ∙ ap (λ (f : Found). started_so f c.find_start.new.lines) c.in-Unborn.is) c.new-text.ensures refl c.print_stop-in-Unborn.ensures

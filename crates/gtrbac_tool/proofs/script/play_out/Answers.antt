@@ -84,6 +84,6 @@ pub returns : goal.returns
 returns c =
     let inv = c.loop-line.invariant in
     let run = c.loop-line.run in
-    outcome c.args.run.book run.book (c.args.before + 1) c.args.lines (told 0 c.from.result.items) inv.root
-    (last_out c.args.run.book run.book run.actor run.text.items c.args.before c.args.lines c.loop-line.lines inv.front (told 0 c.from.result.items) inv.root c.keeps-2.ensures.kept.legal inv.parts c.in_default.ensures.steps.0
-    inv.plays (ap (λ (ts : List ℕ). told 0 ts) c.from.ensures))
+    outcome c.args.run.book run.book (c.args.before + 1) c.args.lines (told 0 run.text.items) inv.root
+    (last_out c.args.run.book run.book run.actor run.text.items c.args.before c.args.lines c.loop-line.lines inv.front (told 0 run.text.items) inv.root c.keeps-2.ensures.kept.legal inv.parts c.in_default.ensures.steps.0
+    inv.plays refl)

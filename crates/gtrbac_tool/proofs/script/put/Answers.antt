@@ -7,8 +7,8 @@ use Rattle.request_text.specs.Named.{has_reply}
 use Rattle.gtrbac_tool.proofs.Steps.{can_write}
 use Rattle.gtrbac_tool.proofs.script.put.Goals as goal
 
-pub write_reply-requires : goal.write_reply-requires
-write_reply-requires c =
+pub push_reply-requires : goal.push_reply-requires
+push_reply-requires c =
     let b = c.args.run.now.book in
     let actor = c.args.run.now.actor in
     let ok = c.in-Ok.ensures.ok in

@@ -27,7 +27,7 @@ returns-in-Ok-clause-leaves g c =
     all_leaves (map string_bytes c.args.words.now) (seen_command c.in-Some.command) (sym c.in-Some.ensures)
     (scene g.S.Shelf.stock g.I.Source.intake g.K.Sink.output c.args.shelf.now c.args.input.now c.args.out.now)
     (scene g.S.Shelf.stock g.I.Source.intake g.K.Sink.output c.answer.new.shelf c.answer.new.input c.tell.new.out)
-    c.answer.ensures.same c.answer.ensures.untouched c.tell.result c.in-Ok.answer c.tell.ensures c.in-Ok.ensures.read c.in-Ok.ensures.counted
+    c.answer.ensures.same c.answer.ensures.untouched (record { one = c.answer.ensures.asks.one; shelf = c.answer.ensures.asks.stopped; input = c.answer.ensures.once }) c.answer.ensures.taken c.tell.result c.in-Ok.answer c.tell.ensures c.in-Ok.ensures.read c.in-Ok.ensures.counted
 
 pub returns-in_default-clause-answers : goal.returns-in_default-clause-answers
 returns-in_default-clause-answers g c =

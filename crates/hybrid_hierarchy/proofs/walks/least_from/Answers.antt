@@ -16,7 +16,7 @@ pub returns-in-len1 : goal.returns-in-len1
 returns-in-len1 g c =
     let role : RoleId = slice_index_or c.args.roles.now 0 (record { 0 = 0 }) in
     let starts : role.0 ∷ [] ≡ nodes_that (lists same_role c.args.roles.now) =
-    listed_one role c.if-role-lt-ROLES.true ∙ ap (λ (rs : List RoleId). nodes_that (lists same_role rs)) (alone c.args.roles.now (record { 0 = 0 }) c.in-len1.len_at_least c.in-len1.len_below) in
+    listed_one role c.if-role-lt-MAX_ROLES.true ∙ ap (λ (rs : List RoleId). nodes_that (lists same_role rs)) (alone c.args.roles.now (record { 0 = 0 }) c.in-len1.len_at_least c.in-len1.len_below) in
     whole c.args.edges.now (g.Q.WalkQuestion.passes c.args.asked.now) (lists same_role c.args.roles.now) (g.Q.WalkQuestion.goals c.args.asked.now) (role.0 ∷ []) starts c.least.result c.least.ensures
 
 pub returns-in_ok-from-in_default : goal.returns-in_ok-from-in_default

@@ -13,12 +13,12 @@ loop-r-preserved c =
     subst (λ (n : ℕ). Nearest (take (c.loop-r.r-index + 1) c.args.roles.now) c.args.low n)
     (sym c.nearer-next.ensures) (nearest_more c.args.roles.now c.args.low next c.loop-r.r-index (record { 0 = 0 }) c.loop-r-test.true c.loop-r.invariant)
 
-pub returns-then-next-ge-ROLES : goal.returns-then-next-ge-ROLES
-returns-then-next-ge-ROLES c =
+pub returns-then-next-ge-MAX_ROLES : goal.returns-then-next-ge-MAX_ROLES
+returns-then-next-ge-MAX_ROLES c =
     let whole = subst (λ (rs : List RoleId). Nearest rs c.args.low c.loop-r.next) (take_all c.loop-r.r-index c.args.roles.now c.loop-r-test.false) c.loop-r.invariant in
-    listed_no_more c.args.roles.now c.args.low c.loop-r.next whole c.if-next-ge-ROLES.true
+    listed_no_more c.args.roles.now c.args.low c.loop-r.next whole c.if-next-ge-MAX_ROLES.true
 
 pub returns : goal.returns
 returns c =
     let whole = subst (λ (rs : List RoleId). Nearest rs c.args.low c.loop-r.next) (take_all c.loop-r.r-index c.args.roles.now c.loop-r-test.false) c.loop-r.invariant in
-    (c.loop-r.invariant.above, c.if-next-ge-ROLES.false, listed_next c.args.roles.now c.args.low c.loop-r.next whole c.if-next-ge-ROLES.false)
+    (c.loop-r.invariant.above, c.if-next-ge-MAX_ROLES.false, listed_next c.args.roles.now c.args.low c.loop-r.next whole c.if-next-ge-MAX_ROLES.false)

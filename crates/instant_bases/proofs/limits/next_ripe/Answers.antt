@@ -10,8 +10,8 @@ use Rattle.duration_limits.proofs.Steps.{and_assoc}
 use Rattle.instant_bases.proofs.Nexts.{by_test, waits}
 use Rattle.instant_bases.proofs.limits.next_ripe.Goals as goal
 
-pub returns-in-Some : goal.returns-in-Some
-returns-in-Some c =
+pub returns-in-Some-clause-next : goal.returns-in-Some-clause-next
+returns-in-Some-clause-next g c =
     let before : Fluent → Bool = has c.args.status.now.set in
     let since : Fluent → ℕ = since_in c.args.ages.now in
     let l = c.args.limit.now in

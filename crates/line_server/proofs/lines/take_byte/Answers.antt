@@ -7,6 +7,8 @@ use Rattle.connection_laws.specs.Desks.{IsNamedActor}
 use Rattle.connection_laws.specs.Connection.{bad}
 use Rattle.connection_laws.specs.Cuts.{open_line}
 use Rattle.connection_laws.proofs.Framing.{more_is, whole_is, long_is}
+use Rattle.connection_laws.proofs.Lending.{lent_and_back}
+use Rattle.connection_laws.specs.Rooms.{text_in}
 use Rattle.connection_laws.specs.Turns.{IsReached}
 use Rattle.connection_laws.specs.declared.talk.Talk.{Talk}
 use Rattle.connection_laws.specs.declared.talk.LineAnswer.TheVariants.{Bad}
@@ -15,8 +17,8 @@ use Rattle.line_server.specs.Serving.{service_point}
 use Rattle.line_server.proofs.LineDone.{line_done, byte_more, long_line}
 use Rattle.line_server.proofs.lines.take_byte.Goals as goal
 
-pub settle-requires : goal.settle-requires
-settle-requires g c =
+pub settle-requires-clause-count : goal.settle-requires-clause-count
+settle-requires-clause-count g c =
     let e = c.act_on-told.ensures.acts.talk_is in
     let a = ap (λ (t : Talk). t.asked) e in
     let d = ap (λ (t : Talk). t.denied) e in
@@ -29,8 +31,8 @@ returns-in-More-clause-goes g c =
     λ o fed acted s. (
       acted,
       byte_more c.args.server.now.policy.now (g.M.Keeps.list c.args.server.now.desk.now.root) (m.legal c.args.server.now.desk.now.root) (m.now_of c.args.server.now.desk.now.root) (by c.args.pass.now.number c.args.server.now.conn) o
-          (service_point c.args.pass.now c.args.talk.now (g.C.Clock.readings c.args.clock.now) (g.L.Link.traffic c.args.link.now).given)
-          c.args.framer.now c.push.new.self fed c.args.byte acted s (more_is c.args.framer.now c.args.byte (sym c.push.ensures.answer ∙ c.in-More.is)) c.push.ensures.frame,
+          (service_point c.args.pass.now c.args.hearing.now.talk (g.C.Clock.readings c.args.clock.now) (g.L.Link.traffic c.args.link.now).given)
+          c.args.hearing.now.framer c.push.new.self fed c.args.byte acted s (more_is c.args.hearing.now.framer c.args.byte (sym c.push.ensures.answer ∙ c.in-More.is)) c.push.ensures.frame,
     )
 
 pub returns-in-Whole-clause-goes : goal.returns-in-Whole-clause-goes
@@ -38,10 +40,10 @@ returns-in-Whole-clause-goes g c =
     let m = g.M.Machine in
     let x = c.act_on-told.ensures.acts in
     λ o fed acted s.
-    let w = whole_is c.args.framer.now fed c.args.byte s.frame_fits (sym c.push.ensures.answer ∙ c.in-Whole.is) in
+    let w = whole_is c.args.hearing.now.framer fed c.args.byte s.frame_fits (sym c.push.ensures.answer ∙ c.in-Whole.is) in
     line_done c.args.server.now.policy.now (g.M.Keeps.list c.args.server.now.desk.now.root) (m.legal c.args.server.now.desk.now.root) (m.now_of c.args.server.now.desk.now.root) (by c.args.pass.now.number c.args.server.now.conn) o
-    c.args.pass.now c.act_on-told.new.pass c.args.talk.now c.act_on-told.new.talk c.settle.new.talk (g.C.Clock.readings c.args.clock.now) (g.C.Clock.readings c.act_on-told.new.clock)
-    (g.L.Link.traffic c.args.link.now) (g.L.Link.traffic c.settle.new.link) c.args.framer.now c.push.new.self fed c.line.result.now c.args.byte acted c.act_on-told.result c.settle.result
+    c.args.pass.now c.act_on-told.new.pass c.args.hearing.now.talk c.act_on-told.new.talk c.settle.new.talk (g.C.Clock.readings c.args.clock.now) (g.C.Clock.readings c.act_on-told.new.clock)
+    (g.L.Link.traffic c.args.link.now) (g.L.Link.traffic c.settle.new.link) c.args.hearing.now.framer c.push.new.self fed c.line.result.now c.args.byte acted c.act_on-told.result c.settle.result
     s w.0 (c.line.ensures ∙ ap (λ (f : Frame). f.bytes) c.push.ensures.frame ∙ w.1) c.push.ensures.frame x (c.settle.ensures.talk c.args.server.now.policy.now x.acted.answer x.told_is) (c.settle.ensures.sent c.args.server.now.policy.now x.acted.answer x.told_is) c.settle.ensures.worn
 
 pub returns-in-Long-clause-goes : goal.returns-in-Long-clause-goes
@@ -49,12 +51,12 @@ returns-in-Long-clause-goes g c =
     let m = g.M.Machine in
     let k = g.C.Clock.readings c.args.clock.now in
     λ o fed acted s.
-    let w = long_is c.args.framer.now fed c.args.byte s.frame_fits (sym c.push.ensures.answer ∙ c.in-Long.is) in
+    let w = long_is c.args.hearing.now.framer fed c.args.byte s.frame_fits (sym c.push.ensures.answer ∙ c.in-Long.is) in
     let x = acts_bad c.args.server.now.policy.now (g.M.Keeps.list c.args.server.now.desk.now.root) (m.legal c.args.server.now.desk.now.root) (m.now_of c.args.server.now.desk.now.root) (by c.args.pass.now.number c.args.server.now.conn)
-    k k (open_line fed) c.args.talk.now c.args.pass.now Long (long_line c.args.server.now.policy.now (open_line fed) w.1) c.requires.actor in
+    k k (open_line fed) c.args.hearing.now.talk c.args.pass.now Long (long_line c.args.server.now.policy.now (open_line fed) w.1) c.requires.actor in
     line_done c.args.server.now.policy.now (g.M.Keeps.list c.args.server.now.desk.now.root) (m.legal c.args.server.now.desk.now.root) (m.now_of c.args.server.now.desk.now.root) (by c.args.pass.now.number c.args.server.now.conn) o
-    c.args.pass.now c.args.pass.now c.args.talk.now c.args.talk.now c.settle-in-Long.new.talk k k
-    (g.L.Link.traffic c.args.link.now) (g.L.Link.traffic c.settle-in-Long.new.link) c.args.framer.now c.push.new.self fed (open_line fed) c.args.byte acted (Bad Long) c.settle-in-Long.result
+    c.args.pass.now c.args.pass.now c.args.hearing.now.talk c.args.hearing.now.talk c.settle-in-Long.new.talk k k
+    (g.L.Link.traffic c.args.link.now) (g.L.Link.traffic c.settle-in-Long.new.link) c.args.hearing.now.framer c.push.new.self fed (open_line fed) c.args.byte acted (Bad Long) c.settle-in-Long.result
     s w.0 refl c.push.ensures.frame x (c.settle-in-Long.ensures.talk c.args.server.now.policy.now x.acted.answer x.told_is) (c.settle-in-Long.ensures.sent c.args.server.now.policy.now x.acted.answer x.told_is) c.settle-in-Long.ensures.worn
 
 pub returns-in-Long-clause-actor : goal.returns-in-Long-clause-actor
@@ -81,3 +83,7 @@ returns-in-Long-clause-reached g c =
     let m = g.M.Machine in
     let e = c.settle-in-Long.ensures.talk c.args.server.now.policy.now (bad Long) refl in
     subst (λ (t : Option ℕ). IsReached (m.legal c.args.server.now.desk.now.root) (m.now_of c.args.server.now.desk.now.root) c.args.pass.now.seen t) (sym (ap (λ (t : Talk). t.reached) e)) c.requires.reached
+
+pub returns-in-Whole-clause-kept : goal.returns-in-Whole-clause-kept
+returns-in-Whole-clause-kept g c =
+    lent_and_back c.args.hearing.now.room c.act_on-told.new.room c.settle.new.room (text_in c.act_on-told.result) c.act_on-told.ensures.lends c.settle.ensures.back

@@ -16,7 +16,7 @@ loop-left-init g c =
     let m = g.M.Machine in
     let root = c.args.server.now.desk.now.root in
     let t = g.L.Link.traffic c.args.link.now in
-    let s = begins c.args.server.now.policy.now (g.M.Keeps.list root) (m.legal root) (m.now_of root) (by c.args.pass.now.number c.args.server.now.conn) c.args.pass.now c.args.talk.now (g.C.Clock.readings c.args.clock.now) t.given c.new-framer.result c.requires.start c.new-framer.ensures in
+    let s = begins c.args.server.now.policy.now (g.M.Keeps.list root) (m.legal root) (m.now_of root) (by c.args.pass.now.number c.args.server.now.conn) c.args.pass.now c.args.hearing.now.talk (g.C.Clock.readings c.args.clock.now) t.given c.args.hearing.now.framer c.requires.start c.requires.frame in
     record {
       fed = [];
       acted = [];
@@ -31,6 +31,8 @@ loop-left-init g c =
       reached = subst (λ (t : Option ℕ). IsReached (m.legal root) (m.now_of root) c.args.pass.now.seen t) (sym c.requires.start.4) tt;
       reads = refl;
       writes = refl;
+      ends = refl;
+      held = refl;
     }
 
 pub loop-left-preserved : goal.loop-left-preserved
@@ -49,12 +51,12 @@ loop-left-preserved g c =
     let old = t.traffic c.loop-left.link in
     let mid = t.traffic c.read_some.new.link in
     let end = t.traffic c.take_chunk.new.link in
-    let origin = service_point c.args.pass.now c.args.talk.now (k.readings c.args.clock.now) start.given in
-    let s = serving_kept c.args.server.now.policy.now (g.M.Keeps.list root) (m.legal root) (m.now_of root) (by c.args.pass.now.number c.args.server.now.conn) origin c.loop-left.pass c.loop-left.talk (k.readings c.loop-left.clock) old.given mid.given
-    c.loop-left.framer inv.fed inv.acted r.writes.given_kept inv.serving in
+    let origin = service_point c.args.pass.now c.args.hearing.now.talk (k.readings c.args.clock.now) start.given in
+    let s = serving_kept c.args.server.now.policy.now (g.M.Keeps.list root) (m.legal root) (m.now_of root) (by c.args.pass.now.number c.args.server.now.conn) origin c.loop-left.pass c.loop-left.hearing.talk (k.readings c.loop-left.clock) old.given mid.given
+    c.loop-left.hearing.framer inv.fed inv.acted r.writes.given_kept inv.serving in
     let goes = subst (λ (j : ℕ). Goes (service c.args.server.now.policy.now (g.M.Keeps.list root) (m.legal root) (m.now_of root)) (by j c.args.server.now.conn)
-    (service_point c.loop-left.pass c.loop-left.talk (k.readings c.loop-left.clock) mid.given) (service_point c.take_chunk.new.pass c.take_chunk.new.talk (k.readings c.take_chunk.new.clock) end.given)
-    c.loop-left.framer c.take_chunk.new.framer chunk mid.write_faults end.write_faults {T = Unit {0}} (Ok c.in_default-take_chunk.field-0)) inv.number c.in_default-take_chunk.ensures.goes in
+    (service_point c.loop-left.pass c.loop-left.hearing.talk (k.readings c.loop-left.clock) mid.given) (service_point c.take_chunk.new.pass c.take_chunk.new.hearing.talk (k.readings c.take_chunk.new.clock) end.given)
+    c.loop-left.hearing.framer c.take_chunk.new.hearing.framer chunk mid.write_faults end.write_faults {T = Unit {0}} (Ok c.in_default-take_chunk.field-0)) inv.number c.in_default-take_chunk.ensures.goes in
     let y = goes origin inv.fed inv.acted s in
     let long : length chunk ≡ n = length-take-le n buf r.bound.1 in
     let both = length-append inv.fed chunk in
@@ -76,6 +78,8 @@ loop-left-preserved g c =
       reached = after.reached;
       reads = after.reads.read_faults_are ∙ r.cause.kept ∙ inv.reads;
       writes = c.in_default-take_chunk.ensures.faults ∙ r.writes.write_faults_are ∙ inv.writes;
+      ends = after.reads.ends_are ∙ r.ends.1 c.if-n-eq0.false ∙ inv.ends;
+      held = after.held ∙ c.read_some.ensures.held ∙ inv.held;
     }
 
 pub returns-in-Err-clause-goes : goal.returns-in-Err-clause-goes
@@ -94,20 +98,20 @@ returns-in-Err-clause-goes g c =
     let old = t.traffic c.loop-left.link in
     let mid = t.traffic c.read_some.new.link in
     let end = t.traffic c.take_chunk.new.link in
-    let origin = service_point c.args.pass.now c.args.talk.now (k.readings c.args.clock.now) start.given in
-    let s = serving_kept c.args.server.now.policy.now (g.M.Keeps.list root) (m.legal root) (m.now_of root) (by c.args.pass.now.number c.args.server.now.conn) origin c.loop-left.pass c.loop-left.talk (k.readings c.loop-left.clock) old.given mid.given
-    c.loop-left.framer inv.fed inv.acted r.writes.given_kept inv.serving in
-    let last = service_point c.take_chunk.new.pass c.take_chunk.new.talk (k.readings c.take_chunk.new.clock) end.given in
+    let origin = service_point c.args.pass.now c.args.hearing.now.talk (k.readings c.args.clock.now) start.given in
+    let s = serving_kept c.args.server.now.policy.now (g.M.Keeps.list root) (m.legal root) (m.now_of root) (by c.args.pass.now.number c.args.server.now.conn) origin c.loop-left.pass c.loop-left.hearing.talk (k.readings c.loop-left.clock) old.given mid.given
+    c.loop-left.hearing.framer inv.fed inv.acted r.writes.given_kept inv.serving in
+    let last = service_point c.take_chunk.new.pass c.take_chunk.new.hearing.talk (k.readings c.take_chunk.new.clock) end.given in
     let goes = subst (λ (j : ℕ). Goes (service c.args.server.now.policy.now (g.M.Keeps.list root) (m.legal root) (m.now_of root)) (by j c.args.server.now.conn)
-    (service_point c.loop-left.pass c.loop-left.talk (k.readings c.loop-left.clock) mid.given) last
-    c.loop-left.framer c.take_chunk.new.framer chunk mid.write_faults end.write_faults {T = Unit {0}} (Err c.in-Err.end)) inv.number c.in-Err.ensures.goes in
+    (service_point c.loop-left.pass c.loop-left.hearing.talk (k.readings c.loop-left.clock) mid.given) last
+    c.loop-left.hearing.framer c.take_chunk.new.hearing.framer chunk mid.write_faults end.write_faults {T = Unit {0}} (Err c.in-Err.end)) inv.number c.in-Err.ensures.goes in
     let y = goes origin inv.fed inv.acted s in
     let long : length chunk ≡ n = length-take-le n buf r.bound.1 in
     let both = length-append inv.fed chunk in
     let counted = inv.counted in
     let low = r.bound.0 in
     cut_off c.args.server.now.policy.now (g.M.Keeps.list root) (m.legal root) (m.now_of root) (by c.args.pass.now.number c.args.server.now.conn) origin last start end mid.write_faults inv.fed y.0 chunk y.2.0 c.in-Err.end y.2.1 y.1
-    (after.reads.read_faults_are ∙ r.cause.kept ∙ inv.reads) (r.writes.write_faults_are ∙ inv.writes)
+    (after.reads.read_faults_are ∙ r.cause.kept ∙ inv.reads) (after.reads.ends_are ∙ r.ends.1 c.if-n-eq0.false ∙ inv.ends) (r.writes.write_faults_are ∙ inv.writes)
     (subst (λ (x : Option (List ℕ)). Appends start.taken x (inv.fed ++ chunk)) (sym after.reads.taken_kept) (Appends-trans start.taken old.taken mid.taken inv.fed chunk inv.taken r.taken))
     (subst (λ (x : Option (List ℕ)). Consumes start.left x (inv.fed ++ chunk)) (sym after.reads.left_kept) (Consumes-trans start.left old.left mid.left inv.fed chunk inv.consumed r.bytes.0))
     (omega (arith, both, long, counted, low))

@@ -23,17 +23,19 @@ invariant-loop-left g l =
       fed : List ℕ;
       acted : List Acted;
       serving : Serving (service l.server.policy.now (g.M.Keeps.list root) (m.legal root) (m.now_of root)) (by l.fn.pass.number l.server.conn)
-          (service_point l.fn.pass l.fn.talk (k.readings l.fn.clock) a.given) (service_point l.pass l.talk (k.readings l.clock) b.given) l.framer fed acted;
+          (service_point l.fn.pass l.fn.hearing.talk (k.readings l.fn.clock) a.given) (service_point l.pass l.hearing.talk (k.readings l.clock) b.given) l.hearing.framer fed acted;
       taken : Appends a.taken b.taken fed;
       consumed : Consumes a.left b.left fed;
       counted : length fed + l.left ≡ 67_108_864;
       idle : IsIdle (site_of l.server.desk.now) l.pass;
       number : l.pass.number ≡ l.fn.pass.number;
-      actor : IsNamedActor l.server.policy.now l.talk.actor;
-      counts : CountsUp l.fn.talk l.talk (length fed);
-      reached : IsReached (m.legal root) (m.now_of root) l.pass.seen l.talk.reached;
+      actor : IsNamedActor l.server.policy.now l.hearing.talk.actor;
+      counts : CountsUp l.fn.hearing.talk l.hearing.talk (length fed);
+      reached : IsReached (m.legal root) (m.now_of root) l.pass.seen l.hearing.talk.reached;
       reads : b.read_faults ≡ a.read_faults;
       writes : b.write_faults ≡ a.write_faults;
+      ends : b.ends ≡ a.ends;
+      held : b.finished ≡ a.finished;
     }
 
 abbrev pub decreases-loop-left : goal.decreases-loop-left

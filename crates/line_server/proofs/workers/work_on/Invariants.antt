@@ -1,10 +1,10 @@
 use Rattle.std.proofs.Common.{◌≡◌, ◌≤◌, ◌+◌, ◌-◌, ◌*◌, ℕ, List, length}
+use Rattle.gt_base.specs.declared.limits.TheConstants.{MAX_LINKS}
 use Rattle.turn_lock.specs.Holders.{site_of}
 use Rattle.connection_laws.specs.Turns.{IsIdle}
 use Rattle.line_server.specs.Working.{WorkerSpot, Tale, Worked, AllUnworn}
 use Rattle.connection_laws.specs.Services.{service}
 use Rattle.line_server.proofs.workers.work_on.Given as goal
-use Rattle.line_server.specs.declared.workers.TheConstants.{MOST_LINKS}
 
 abbrev pub invariant-loop-alloc : goal.invariant-loop-alloc
 invariant-loop-alloc g l =
@@ -20,9 +20,9 @@ invariant-loop-alloc g l =
       idle : IsIdle (site_of l.desk) l.pass;
       number : l.pass.number ≡ l.fn.pass.number;
       calls : l.calls ≤ 67_108_864 * length l.w.served.items;
-      few : length l.w.served.items ≤ MOST_LINKS;
+      few : length l.w.served.items ≤ MAX_LINKS;
       faults : d.faults l.w.door ≡ d.faults l.fn.w.door;
     }
 
 abbrev pub decreases-loop-alloc : goal.decreases-loop-alloc
-decreases-loop-alloc g l = MOST_LINKS - length l.w.served.items
+decreases-loop-alloc g l = MAX_LINKS - length l.w.served.items

@@ -52,8 +52,8 @@ next-requires-in-loop-clause-finished g c =
     let a = h c.loop.ports in
     are_finished c.args.server.now.policy.now (g.M.Keeps.list root) (m.legal root) (m.now_of root) c.args.pass.now.number o p start a c.loop.seats.items c.loop.busy inv.turns inv.tabled
 
-pub returns-then-len-eq-MOST_LINKS-clause-went : goal.returns-then-len-eq-MOST_LINKS-clause-went
-returns-then-len-eq-MOST_LINKS-clause-went g c =
+pub returns-then-len-eq-MAX_LINKS-clause-went : goal.returns-then-len-eq-MAX_LINKS-clause-went
+returns-then-len-eq-MAX_LINKS-clause-went g c =
     let m = g.M.Machine in
     let k = g.C.Clock in
     let root = c.args.server.now.desk.now.root in
@@ -79,13 +79,13 @@ returns-then-len-eq-MOST_LINKS-clause-went g c =
     let t : Seated c.args.server.now.policy.now (g.M.Keeps.list root) (m.legal root) (m.now_of root) c.args.pass.now.number o p start a b seats busy turns x inv.unowed calm inv.sound d c.seat_next.new.seats.items c.seat_next.new.busy =
     dite (dec_lt busy 1024) (λ few_open. let q = c.seat_next.ensures.seated few_open in opened_seated c.args.server.now.policy.now (g.M.Keeps.list root) (m.legal root) (m.now_of root) c.args.pass.now.number o p start a b seats busy turns x inv.unowed calm inv.sound link is n.happens d c.seat_next.new.seats.items c.seat_next.new.busy q.2.0 few_open (ap h q.0) q.1 q.2.1 q.2.2) (λ many.
     let q = c.seat_next.ensures.full (omega (arith, many)) in opened_full c.args.server.now.policy.now (g.M.Keeps.list root) (m.legal root) (m.now_of root) c.args.pass.now.number o p start a b seats busy turns x inv.unowed calm inv.sound link is n.happens d c.seat_next.new.seats.items c.seat_next.new.busy (omega (arith, many)) low q.0 q.1 q.3) in
-    let all = c.if-len-eq-MOST_LINKS.true in
+    let all = c.if-len-eq-MAX_LINKS.true in
     let count = c.len.ensures in
     let ok = c.seat_next.new.seats.ok.0 in
     record { busy = c.seat_next.new.busy; turns = turns; tabled = t.tabled; goes = ((link, t.told ∙ n.told), omega (arith, all, count, ok)) }
 
-pub loop-preserved-else-len-eq-MOST_LINKS : goal.loop-preserved-else-len-eq-MOST_LINKS
-loop-preserved-else-len-eq-MOST_LINKS g c =
+pub loop-preserved-else-len-eq-MAX_LINKS : goal.loop-preserved-else-len-eq-MAX_LINKS
+loop-preserved-else-len-eq-MAX_LINKS g c =
     let m = g.M.Machine in
     let k = g.C.Clock in
     let root = c.args.server.now.desk.now.root in
@@ -114,7 +114,7 @@ loop-preserved-else-len-eq-MOST_LINKS g c =
     let room = ok_by c.make_room.result ((vec_len c.make_room.new.seats < vec_capacity c.make_room.new.seats) × (vec_len c.make_room.new.seats + 1 ≤ c.make_room.new.ends.spare)) (sym c.is_err.ensures.value ∙ c.if-is_err.false) c.make_room.ensures.room in
     let long_seats = c.make_room.new.seats.ok.0 in
     let spare = room.1 in
-    let all = c.if-len-eq-MOST_LINKS.false in
+    let all = c.if-len-eq-MAX_LINKS.false in
     let count = c.len.ensures in
     let ok = c.seat_next.new.seats.ok.0 in
     let long = t.long in

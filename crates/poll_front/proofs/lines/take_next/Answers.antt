@@ -4,6 +4,8 @@ use Rattle.gt_io.specs.Ports.{Harbour}
 use Rattle.request_text.specs.declared.lines.LineFault.TheVariants.{Long}
 use Rattle.connection_laws.specs.Cuts.{open_line}
 use Rattle.connection_laws.proofs.Framing.{more_is, whole_is, long_is}
+use Rattle.connection_laws.proofs.Lending.{lent_with, back_with}
+use Rattle.connection_laws.specs.Rooms.{text_in, room_with}
 use Rattle.connection_laws.specs.declared.talk.LineAnswer.TheVariants.{Bad}
 use Rattle.poll_front.specs.declared.parties.Party.{Party}
 use Rattle.poll_front.specs.Fronts.{FrontSpot, Gone}
@@ -41,7 +43,7 @@ returns-in-Whole-clause-goes g c =
     let some = c.requires.some in
     λ o start turns fed r s whole.
     let w = whole_is party.framer fed byte s.frame_fits (sym c.push.ensures.answer ∙ c.in-Whole.is) in
-    let gone = line_told c.args.server.now.policy.now (g.M.Keeps.list root) (m.legal root) (m.now_of root) c.args.pass.now.number o p p' start (g.P.Ports.harbour c.args.ports.now) b c.args.server.now.conn turns party fed c.line.result.now byte c.push.new.self c.hear-told.new.talk
+    let gone = line_told c.args.server.now.policy.now (g.M.Keeps.list root) (m.legal root) (m.now_of root) c.args.pass.now.number o p p' start (g.P.Ports.harbour c.args.ports.now) b c.args.server.now.conn turns party fed c.line.result.now byte c.push.new.self c.hear-told.new.talk c.hear-told.new.room
     r s whole some.0 (omega (arith, some)) refl w.0 (c.line.ensures ∙ ap (λ (f : Frame). f.bytes) c.push.ensures.frame ∙ w.1) c.push.ensures.frame c.hear-told.result c.tell.new.party.at c.tell.result c.hear-told.ensures.hears c.tell.ensures.tells in
     subst (λ (z : Party). Gone c.args.server.now.policy.now (g.M.Keeps.list root) (m.legal root) (m.now_of root) c.args.pass.now.number o p' start (b.port c.args.server.now.conn) c.args.server.now.conn turns z c.tell.result) (sym c.tell.ensures.same) gone
 
@@ -58,9 +60,24 @@ returns-in-Long-clause-goes g c =
     λ o start turns fed r s whole.
     let w = long_is party.framer fed byte s.frame_fits (sym c.push.ensures.answer ∙ c.in-Long.is) in
     let x = long_heard c.args.server.now.policy.now (g.M.Keeps.list root) (m.legal root) (m.now_of root) c.args.pass.now.number c.args.server.now.conn p party.talk (open_line fed) c.requires.actor w.1 in
-    let gone = line_told c.args.server.now.policy.now (g.M.Keeps.list root) (m.legal root) (m.now_of root) c.args.pass.now.number o p p start (g.P.Ports.harbour c.args.ports.now) b c.args.server.now.conn turns party fed (open_line fed) byte c.push.new.self party.talk
+    let gone = line_told c.args.server.now.policy.now (g.M.Keeps.list root) (m.legal root) (m.now_of root) c.args.pass.now.number o p p start (g.P.Ports.harbour c.args.ports.now) b c.args.server.now.conn turns party fed (open_line fed) byte c.push.new.self party.talk c.free_room-in-Long.new.room
     r s whole some.0 (omega (arith, some)) refl w.0 refl c.push.ensures.frame (Bad Long) c.tell-in-Long.new.party.at c.tell-in-Long.result x c.tell-in-Long.ensures.tells in
     subst (λ (z : Party). Gone c.args.server.now.policy.now (g.M.Keeps.list root) (m.legal root) (m.now_of root) c.args.pass.now.number o p start (b.port c.args.server.now.conn) c.args.server.now.conn turns z c.tell-in-Long.result) (sym c.tell-in-Long.ensures.same) gone
 
 pub returns-in-More-clause-faults : goal.returns-in-More-clause-faults
 returns-in-More-clause-faults g c = fails_none (g.P.Ports.harbour c.args.ports.now) c.args.server.now.conn
+
+pub returns-in-Whole-clause-kept : goal.returns-in-Whole-clause-kept
+returns-in-Whole-clause-kept g c =
+    let party : Party = c.args.party.now in
+    let back = back_with party.room c.free_room.new.room (text_in party.told) c.free_room.ensures.back in
+    let lent = lent_with c.free_room.new.room c.hear-told.new.room (text_in c.hear-told.result) c.hear-told.ensures.lends in
+    let same = ap (λ (z : Party). room_with (text_in z.told) z.room) c.tell.ensures.same in
+    omega (arith, back, lent, same)
+
+pub returns-in-Long-clause-kept : goal.returns-in-Long-clause-kept
+returns-in-Long-clause-kept g c =
+    let party : Party = c.args.party.now in
+    let back = back_with party.room c.free_room-in-Long.new.room (text_in party.told) c.free_room-in-Long.ensures.back in
+    let same = ap (λ (z : Party). room_with (text_in z.told) z.room) c.tell-in-Long.ensures.same in
+    omega (arith, back, same)

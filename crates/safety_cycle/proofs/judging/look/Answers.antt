@@ -32,7 +32,7 @@ pub returns-in-Some-clause-cycle : goal.returns-in-Some-clause-cycle
 returns-in-Some-clause-cycle c =
     let g = c.args.g.now in
     let mark : IsLevelMark g.edges c.args.ranks.now c.args.n = record { edge = c.edge-e.result; is = item_get g.edges c.args.n ∙ c.edge-e.ensures; marked = c.if-not-e.false; level = c.if-rank-ranks.false } in
-    cycle g c.args.ranks.now c.args.n mark c.in_ok-goal.goal.items _ (record { start = c.in-Some.path.start; arcs = c.in-Some.path.edges }) c.in_ok-closed.field-0 c.edges-edges.ensures.net c.requires.ranks
+    cycle g c.args.ranks.now c.args.n mark c.in_ok-goal.goal.items _ (record { start = c.in-Some.path.start; arcs = c.in-Some.path.edges }) c.in_ok-closed.field-0 c.keeps.ensures c.requires.ranks
     (c.in_ok-goal.ensures.size ∙ c.nodes.ensures) (λ v h. c.in_ok-goal.ensures.one v (subst (λ k. v < k) (sym c.nodes.ensures) h)) c.deref.ensures.value
     (rw c.in-Some.is at c.in_ok-path.ensures.some)
     c.in_ok-closed.ensures
@@ -41,7 +41,7 @@ pub returns-clause-ok : goal.returns-clause-ok
 returns-clause-ok c =
     let g = c.args.g.now in
     let mark : IsLevelMark g.edges c.args.ranks.now c.args.n = record { edge = c.edge-e.result; is = item_get g.edges c.args.n ∙ c.edge-e.ensures; marked = c.if-not-e.false; level = c.if-rank-ranks.false } in
-    lift_parts g c.args.ranks.now c.lift.new.ranks c.args.n mark c.in_ok-goal.goal.items _ _ c.in_ok-reach.reach.items _ _ c.edges-edges.ensures.net c.requires.ranks
+    lift_parts g c.args.ranks.now c.lift.new.ranks c.args.n mark c.in_ok-goal.goal.items _ _ c.in_ok-reach.reach.items _ _ c.keeps.ensures c.requires.ranks
     (c.in_ok-goal.ensures.size ∙ c.nodes.ensures) (λ v h. c.in_ok-goal.ensures.one v (subst (λ k. v < k) (sym c.nodes.ensures) h))
     refl c.lift.auto.ranks c.deref.ensures.value
     (rw c.in_default.is at c.in_ok-path.ensures.none)

@@ -1,4 +1,5 @@
 use Rattle.std.proofs.Common.{◌≡◌, ℕ, List, ◌∷◌, [], ◌++◌, refl, ap, ◌∙◌}
+use Rattle.gt_base.specs.Roomy.{Roomy}
 use Rattle.snapshot_readers.proofs.Acting.{shows_glance}
 use Rattle.request_text.specs.Replies.{reply_line}
 use Rattle.snapshot_readers.specs.declared.showing.ViewAnswer.TheVariants.{Reply}
@@ -9,7 +10,8 @@ returns-in-Ok-clause-shows c =
     let g = c.in-Ok.glanced in
     let np = c.args.policy.now in
     let new = c.glance.new.self in
-    let text : c.put_reply.new.into.items ≡ reply_line np g.reply = c.put_reply.ensures.items ∙ ap (λ (l : List ℕ). l ++ reply_line np g.reply) (c.reserve.ensures.items ∙ c.new-text.ensures) in
+    let text : c.replace.result.items ≡ reply_line np g.reply =
+    ap (λ (r : Roomy ℕ). r.items) c.replace.ensures.value ∙ c.put_reply.ensures.items ∙ ap (λ (l : List ℕ). l ++ reply_line np g.reply) (c.reserve.ensures.items ∙ c.clear.ensures.items) in
     let lens = c.push.ensures.items ∙ ap (λ (l : List ℕ). l ++ g.len ∷ []) c.reserve-else-is_err.ensures.items in
-    shows_glance np new.named c.args.glass.now.birth new.birth c.args.glass.now.seen new.seen c.args.lens.now.items c.push.new.self.items c.args.actor c.args.request (Reply c.put_reply.new.into) g
+    shows_glance np new.named c.args.glass.now.birth new.birth c.args.glass.now.seen new.seen c.args.lens.now.items c.push.new.self.items c.args.actor c.args.request (Reply c.replace.result) g
     (c.in-Ok.ensures.root.0 ∙ c.requires.policy) c.in-Ok.ensures.root.1 c.in-Ok.ensures.seen c.in-Ok.ensures.ok lens (g.len, g.reply, refl, text)

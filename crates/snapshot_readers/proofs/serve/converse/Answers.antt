@@ -23,6 +23,8 @@ loop-byte-init g c =
       counts = (omega arith, omega arith);
       reads = refl;
       writes = refl;
+      ends = refl;
+      held = refl;
     }
 
 pub take_byte-requires-clause-replies : goal.take_byte-requires-clause-replies
@@ -53,6 +55,7 @@ returns-in-Err-take_byte-clause-converses g c =
     let left = f.reads.counted in
     cut_off np birth o last start end mid.write_faults (inv.fed ++ byte ∷ []) rest' y.0 c.in-Err-take_byte.end y.1
     (c.take_byte.ensures.reads.read_faults_are ∙ f.feeds.1 ∙ inv.reads)
+    (c.take_byte.ensures.reads.ends_are ∙ f.feeds.2 ∙ inv.ends)
     (c.in-Ok.ensures.writes.write_faults_are ∙ inv.writes)
     (taken_on start old mid end inv.fed rest f.got rest' byte f.feeds.0 inv.taken f.reads.taken c.take_byte.ensures.reads)
     (consumed_on start old mid end inv.fed rest f.got rest' byte f.feeds.0 inv.consumed f.reads.consumed c.take_byte.ensures.reads)
@@ -78,7 +81,7 @@ returns-in-Err-clause-converses g c =
     closed np birth o last c.loop-byte.framer start old mid inv.fed c.loop-byte.inbox.left inv.acted c.in-Err.end s f.feeds.3
     (subst (λ (l : List ℕ). Appends start.taken mid.taken l) same (Appends-trans start.taken old.taken mid.taken (inv.fed ++ rest) f.got inv.taken f.reads.taken))
     (subst (λ (l : List ℕ). Consumes start.left mid.left l) same (Consumes-trans start.left old.left mid.left (inv.fed ++ rest) f.got inv.consumed f.reads.consumed))
-    (omega (arith, counted, none)) inv.reads (c.in-Err.ensures.writes.write_faults_are ∙ inv.writes)
+    (omega (arith, counted, none)) inv.reads inv.ends (c.in-Err.ensures.writes.write_faults_are ∙ inv.writes)
 
 pub loop-byte-smaller : goal.loop-byte-smaller
 loop-byte-smaller g c =
@@ -123,4 +126,6 @@ loop-byte-preserved g c =
       counts = (omega (arith, up, up', more), omega (arith, up, up', more));
       reads = c.take_byte.ensures.reads.read_faults_are ∙ f.feeds.1 ∙ inv.reads;
       writes = c.in_default.ensures.faults ∙ c.in-Ok.ensures.writes.write_faults_are ∙ inv.writes;
+      ends = c.take_byte.ensures.reads.ends_are ∙ f.feeds.2 ∙ inv.ends;
+      held = c.take_byte.ensures.held ∙ c.in-Ok.ensures.held ∙ inv.held;
     }

@@ -20,6 +20,8 @@ invariant-loop-byte g l =
       counts : ViewCountsUp l.fn.showing l.showing (length fed);
       reads : b.read_faults ≡ a.read_faults;
       writes : b.write_faults ≡ a.write_faults;
+      ends : b.ends ≡ a.ends;
+      held : b.finished ≡ a.finished;
     }
 
 abbrev pub decreases-loop-byte : goal.decreases-loop-byte

@@ -1,6 +1,4 @@
-use Rattle.std.specs.Prelude.{ℕ}
-use Rattle.std.proofs.Common.{◌≡◌, ◌≤◌, subst}
-use Rattle.gt_base.specs.declared.limits.TheConstants.{LAST_MINUTE}
+use Rattle.std.proofs.Common.{◌≡◌, subst}
 use Rattle.gtrbac_model.specs.Safety.{IsSafe}
 use Rattle.policy_words.specs.Valid.{IsWellFormed}
 use Rattle.core_machine.specs.Books.{BookView, HasOnlyModel, IsBook}
@@ -14,7 +12,7 @@ returns-clause-kept c =
       legal = c.self.invariant.legal;
       named = c.self.invariant.named;
       well = subst IsWellFormed c.policy.ensures c.keeps.ensures;
-      birth = subst (λ (n : ℕ). n ≤ LAST_MINUTE) c.minute-birth.ensures.value c.minute-birth.ensures.bound;
+      birth = c.keeps-2.ensures;
       short = c.self.invariant.short;
     })
 

@@ -1,5 +1,6 @@
 use Rattle.std.proofs.Common.{◌≡◌, ◌+◌, ◌++◌, [], length, take, drop, min, ap, subst, sym, ◌∙◌}
 use Rattle.gt_io.specs.MemoryShelf.{Texts, bytes_at}
+use Rattle.gt_io.proofs.Stops.{counted_end}
 use Rattle.gt_io.proofs.Supplies.{supply_at}
 use Rattle.gt_io.proofs.Shelves.{broken_read, read_on}
 use Rattle.gt_io.proofs.memory_shelf.MemShelfShelf.read.Goals as goal
@@ -22,7 +23,7 @@ returns-clause-reads c =
     let n = c.give-n.result in
     let whole = bytes_at s.files.items s.place in
     let same : c.bytes_of-bytes.result.now ≡ whole = c.bytes_of-bytes.ensures ∙ ap (λ fs. bytes_at fs s.place) c.as_slice.ensures in
-    let v : Texts = record { files = s.files.items; text = supply_at whole s.at s.piece s.calls; hard_faults = s.hard_faults } in
-    read_on c.args.self.now v n (length c.args.buf.now) (take (s.at + n) whole) (drop (s.at + n) whole) c.if-begin.ensures.listed (c.self.view_is ∙ c.if-begin.ensures.made)
+    let v : Texts = record { files = s.files.items; text = supply_at whole s.at s.piece s.calls s.ends; hard_faults = s.hard_faults; asked = s.asked } in
+    read_on c.args.self.now v n (length c.args.buf.now) (take (s.at + n) whole) (drop (s.at + n) whole) c.count_end-ends.result c.if-begin.ensures.listed (c.self.view_is ∙ c.if-begin.ensures.made)
     (c.give-n.ensures.number ∙ (λ i. min (length (drop s.at (same i))) (min (c.give-n.auto.buf i) s.piece)))
-    (subst (λ bs. take (s.at + n) bs ≡ take s.at bs ++ take n (drop s.at bs)) same c.give-n.ensures.taken) (subst (λ bs. drop (s.at + n) bs ≡ drop n (drop s.at bs)) same c.give-n.ensures.left)
+    (subst (λ bs. take (s.at + n) bs ≡ take s.at bs ++ take n (drop s.at bs)) same c.give-n.ensures.taken) (subst (λ bs. drop (s.at + n) bs ≡ drop n (drop s.at bs)) same c.give-n.ensures.left) (counted_end n _ _ c.count_end-ends.ensures.end c.count_end-ends.ensures.more)

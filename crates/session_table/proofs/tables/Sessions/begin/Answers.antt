@@ -18,16 +18,16 @@ full n h = split (nat_le 10_000 n) (λ e. e) (λ e. let lt : n < 10_000 = leb-fa
 not_full : (n : ℕ) → n < 10_000 → nat_le 10_000 n ≡ false
 not_full n h = split (nat_le 10_000 n) (λ e. let le : 10_000 ≤ n = leb-true 10_000 n e in absurd (omega (arith, le, h))) (λ e. e)
 
-pub returns-then-self-ge-MOST_SESSIONS-clause-refused : goal.returns-then-self-ge-MOST_SESSIONS-clause-refused
-returns-then-self-ge-MOST_SESSIONS-clause-refused c = λ p pt.
+pub returns-then-self-ge-MAX_SESSIONS-clause-refused : goal.returns-then-self-ge-MAX_SESSIONS-clause-refused
+returns-then-self-ge-MAX_SESSIONS-clause-refused c = λ p pt.
     let seen : length c.args.self.now.sessions ≡ c.self.inside.standing =
     ap (λ (v : TableView). length v.sessions) (sym c.self.view_is) ∙ opened_counted c.self.inside.sessions.items ∙ sym c.self.invariant.counted in
     ap (λ b. unless ((false, NoUser) ∷ (b, SessionsFull) ∷ []) (Session (record { 0 = c.args.self.now.begun + 1 })))
-    (full (length c.args.self.now.sessions) (omega (arith, seen, c.if-self-ge-MOST_SESSIONS.true)))
+    (full (length c.args.self.now.sessions) (omega (arith, seen, c.if-self-ge-MAX_SESSIONS.true)))
 
 pub invariant_of-self-2 : goal.invariant_of-self-2
 invariant_of-self-2 c =
-    let few : count_by (λ (o : Open). o.is_open) c.self.inside.sessions.items < 10_000 = omega (arith, c.if-self-ge-MOST_SESSIONS.false, c.self.invariant.counted) in
+    let few : count_by (λ (o : Open). o.is_open) c.self.inside.sessions.items < 10_000 = omega (arith, c.if-self-ge-MAX_SESSIONS.false, c.self.invariant.counted) in
     let o : Open = record { number = record { 0 = c.self.inside.begun + 1 }; owner = c.args.user; roles = c.new.result; is_open = true } in
     subst (λ os. IsTable os (c.self.inside.standing + 1) c.self.inside.active.items c.self.inside.charges.charged c.self.inside.charged_to (c.self.inside.begun + 1)) (sym c.in_ok-push.ensures.ok)
     (record {
@@ -41,5 +41,5 @@ returns-clause-answer c = λ p pt.
     let seen : length c.args.self.now.sessions ≡ c.self.inside.standing =
     ap (λ (v : TableView). length v.sessions) (sym c.self.view_is) ∙ opened_counted c.self.inside.sessions.items ∙ sym c.self.invariant.counted in
     ap (λ b. unless ((false, NoUser) ∷ (b, SessionsFull) ∷ []) (Session (record { 0 = c.args.self.now.begun + 1 })))
-    (not_full (length c.args.self.now.sessions) (omega (arith, seen, c.if-self-ge-MOST_SESSIONS.false)))
+    (not_full (length c.args.self.now.sessions) (omega (arith, seen, c.if-self-ge-MAX_SESSIONS.false)))
     ∙ ap (λ (v : TableView). Session (record { 0 = v.begun + 1 })) (sym c.self.view_is)

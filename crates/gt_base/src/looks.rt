@@ -1,10 +1,10 @@
-//! How often triggers are looked at.
+//! How often something is looked at.
 ghost use Rattle.std.specs.Prelude.{◌≡◌, ◌+◌, ◌<◌, ℕ};
 
 use std::marker::Model;
 use std::sync::ledger::{Blank, Book, Ledger, Share};
 
-/// How often a trigger was looked at. It takes no bytes, and only `look` changes it.
+/// How often something was looked at. It takes no bytes, and only `look` changes it.
 #[derive(Drop)]
 pub struct Looks<L: Ledger> {
     book: Book<L>,
@@ -32,7 +32,7 @@ impl<L: Ledger> Looks<L> {
     }
 
     /// One more.
-    pub(crate) fn look(&mut self)
+    pub fn look(&mut self)
         ensures { self.new ≡ self.old + 1 }
     {
         self.book.add(&mut self.share, 1);
