@@ -122,11 +122,7 @@ fn queue(
     ensures { IsStep s.old s.new who actor (Raise head delay) result }
 {
     s.line.keeps();
-    // a copy by parts: what is passed on by value may not be lent, and the request keeps the head
-    let event = Prioritised {
-        prio: head.prio,
-        event: head.event,
-    };
+    let event = head;
     let request = Request::Raise { head, delay };
     match s.line.request(event, delay) {
         Ok(due) => {
