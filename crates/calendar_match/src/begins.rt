@@ -38,6 +38,7 @@ pub(crate) fn begins(e: &Expr, m: u64) -> bool
     }
 }
 
+/// The calendar of the last of these parts, or the one above where there is none.
 fn last_of(above: Calendar, parts: &[ExprPart]) -> Calendar
     ensures { result ≡ last_of above parts.now }
 {
@@ -57,6 +58,7 @@ fn last_calendar(e: &Expr) -> Calendar
     }
 }
 
+/// Whether each of the further parts takes every interval, be it as `all` or number by number.
 fn take_all(above: Calendar, parts: &[ExprPart]) -> bool
     ensures { result ≡ take_all above parts.now }
 {
@@ -105,6 +107,7 @@ fn never_pauses(e: &Expr, reach: u64) -> bool
     }
 }
 
+/// Whether two calendars are one, case by case, as the definition has it.
 fn is_same(c: Calendar, unit: Calendar) -> bool
     ensures { result ≡ is_same c unit }
 {
@@ -133,6 +136,7 @@ pub(crate) fn fills(e: &Expr) -> bool
         || (is_same(last, unit) && never_pauses(e, count))
 }
 
+/// Whether all intervals of a calendar are of one length: of years and months they are not.
 fn is_fixed(c: Calendar) -> bool
     ensures { result ≡ is_fixed c }
 {
@@ -142,6 +146,7 @@ fn is_fixed(c: Calendar) -> bool
     }
 }
 
+/// Whether all is taken from here down to a calendar of fixed length, so that weeks are alike.
 fn repeats_from(above: Calendar, parts: &[ExprPart]) -> bool
     ensures { result ≡ repeats_from above parts.now }
 {

@@ -10,6 +10,7 @@ pub(crate) const END: u64 = 2_147_483_648;
 
 const MINUTES_OF_DAY: u64 = 1440;
 
+/// Whether a year, counted from the year 0, has a 29th of February.
 fn is_leap(y: u64) -> bool
     ensures { result ≡ is_leap y }
 {

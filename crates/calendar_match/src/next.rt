@@ -54,6 +54,7 @@ fn unit_of(p: &Period, m: u64) -> u64
     unit_at(&p.expr, m)
 }
 
+/// The first minute of an interval of the length's calendar, by its number.
 fn unit_start_of(p: &Period, k: u64) -> u64
     requires { k ≤ END }
     ensures { result ≡ unit_first p.now.expr k }

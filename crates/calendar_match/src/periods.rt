@@ -19,6 +19,7 @@ pub(crate) fn minute_of(t: Instant) -> u64
     FIRST_MINUTE + u64::from(t.minute())
 }
 
+/// Whether an instant lies in the bounds of a period, both included.
 fn in_bounds(p: &Period, t: Instant) -> bool
     ensures { result ≡ in_bounds p.now t }
 {

@@ -7,6 +7,7 @@ ghost use Rattle.calendar_match.specs.Steps.{IsNextPicked, PicksNoneFrom, IsLast
 
 use gt_base::List;
 
+/// Whether a number is one of these, which may be in any order.
 fn has(numbers: &[u32], n: u64) -> bool
     ensures { result ≡ list_any (nat_eq n) numbers.now }
 {
@@ -75,6 +76,7 @@ pub(crate) fn is_dense(reach: u64, most: u64, set: &Option<List<u32>>) -> bool
     }
 }
 
+/// Whether one of the numbers is at most this.
 fn has_low(numbers: &[u32], most: u64) -> bool
     ensures { result ≡ list_any (λ m. nat_le m most) numbers.now }
 {
@@ -99,6 +101,7 @@ fn count_below(numbers: &[u32], n: u64) -> usize
     numbers.partition_point(|m| u64::from(*m) < n)
 }
 
+/// The least of the ascending numbers from n on; None where all are less.
 fn first_from(numbers: &[u32], n: u64) -> Option<u64>
     requires { IsTrue (is_set (Some numbers.now)) }
     ensures { result ≡ find (nat_le n) numbers.now }

@@ -99,6 +99,7 @@ fn behind_in_set(outer: Calendar, inner: Calendar, set: &Option<List<u32>>, m: u
     }
 }
 
+/// None where the part picks at the minute, else the first minute at which it may pick again.
 fn ahead_in_part(outer: Calendar, part: &ExprPart, m: u64) -> Option<u64>
     requires low { 2880 ≤ m }
     requires high { m < END }
@@ -110,6 +111,7 @@ fn ahead_in_part(outer: Calendar, part: &ExprPart, m: u64) -> Option<u64>
     ahead_in_set(outer, part.calendar, &part.set, m)
 }
 
+/// None where the part picks at the minute, else the last minute before at which it may pick.
 fn behind_in_part(outer: Calendar, part: &ExprPart, m: u64) -> Option<u64>
     requires low { 2880 ≤ m }
     requires high { m < END }
@@ -210,6 +212,7 @@ pub(crate) fn most_in(outer: Calendar, inner: Calendar) -> u64
     }
 }
 
+/// Whether the further parts pick a number that their intervals can have; else nothing ever begins.
 fn can_select(above: Calendar, parts: &[ExprPart]) -> bool
     ensures { result ≡ can_select above parts.now }
 {

@@ -34,6 +34,7 @@ fn bound(word: &[u8], star: u32) -> Option<Instant> {
     read_civil(word)
 }
 
+/// The word of a fault, `memory` among them.
 fn kind_word(kind: ExprKind) -> &'static str {
     match kind {
         ExprKind::Syntax => "syntax",
@@ -46,11 +47,13 @@ fn kind_word(kind: ExprKind) -> &'static str {
     }
 }
 
+/// Adds `yes` or `no` and a space.
 fn put_truth(out: &mut Vec<u8>, truth: bool) -> Result<(), AllocError> {
     let word: &[u8] = if truth { b"yes " } else { b"no " };
     out.extend_from_slice(word)
 }
 
+/// Adds a minute, or `-` for none, and a byte behind it.
 fn put_instant(out: &mut Vec<u8>, t: Option<Instant>, end: u8) -> Result<(), AllocError> {
     match t {
         Some(t) => out.extend_from_slice(write_civil(t).as_slice())?,
@@ -59,6 +62,7 @@ fn put_instant(out: &mut Vec<u8>, t: Option<Instant>, end: u8) -> Result<(), All
     out.extend_from_slice(&[end])
 }
 
+/// Adds the line of an expression's fault.
 fn put_fault(alloc: Global, out: &mut Vec<u8>, fault: ExprFault) -> Result<(), AllocError> {
     let word = kind_word(fault.kind);
     let at = fault.at;
@@ -66,6 +70,7 @@ fn put_fault(alloc: Global, out: &mut Vec<u8>, fault: ExprFault) -> Result<(), A
     out.extend_from_slice(text.as_bytes())
 }
 
+/// Adds the answers about a minute: inside, a start, and the next of each kind after it.
 fn put_answers(out: &mut Vec<u8>, p: &Period, after: Instant) -> Result<(), AllocError> {
     put_truth(out, inside(p, after))?;
     put_truth(out, starts(p, after))?;
@@ -81,6 +86,7 @@ enum Call {
     Edge,
 }
 
+/// Which question is asked over and over; None for a word that is none.
 fn call_of(word: &[u8]) -> Option<Call> {
     match word {
         b"start" => Some(Call::Start),
@@ -90,6 +96,7 @@ fn call_of(word: &[u8]) -> Option<Call> {
     }
 }
 
+/// The value of a digit of base 10.
 fn digit(b: u8) -> Option<u32> {
     match b {
         b'0'..=b'9' => Some(u32::from(b - b'0')),
@@ -97,6 +104,7 @@ fn digit(b: u8) -> Option<u32> {
     }
 }
 
+/// The number of decimal digits; one that is too great is the greatest. None for other bytes.
 fn number(word: &[u8]) -> Option<u32> {
     let mut n: u32 = 0;
     for b in word {
@@ -112,6 +120,7 @@ fn repeated(line: &[u8]) -> Option<(u32, Call, &[u8])> {
     Some((number(times)?, call_of(word)?, line))
 }
 
+/// The answer to one question after an instant.
 fn asked(call: Call, p: &Period, after: Instant) -> Option<Instant> {
     match call {
         Call::Start => next_start(p, after),
@@ -120,6 +129,7 @@ fn asked(call: Call, p: &Period, after: Instant) -> Option<Instant> {
     }
 }
 
+/// The last answer, each asked after the one before; after none, anew from the first.
 fn asked_often(times: u32, call: Call, p: &Period, after: Instant) -> Option<Instant> {
     let mut last = None;
     for _ in 0..times {
@@ -138,6 +148,7 @@ fn parted(line: &[u8]) -> Option<(Instant, Instant, Instant, &[u8])> {
     Some((first, last, read_civil(after)?, text))
 }
 
+/// Adds the answer to a line.
 fn answer(alloc: Global, out: &mut Vec<u8>, line: &[u8]) -> Result<(), AllocError> {
     let (repeat, line) = match repeated(line) {
         Some((times, call, line)) => (Some((times, call)), line),
@@ -159,6 +170,7 @@ fn answer(alloc: Global, out: &mut Vec<u8>, line: &[u8]) -> Result<(), AllocErro
     }
 }
 
+/// Answers the lines of the standard input, blank ones aside.
 fn main(rt: HostRuntime) -> io::Result<()> {
     let alloc = rt.alloc();
     let mut text = Vec::new(alloc);

@@ -23,6 +23,7 @@ fn next_random(seed: &mut u64) -> u64 {
     *seed >> 33
 }
 
+/// A random number below a bound; 0 where the bound is 0.
 fn random(seed: &mut u64, below: u32) -> u32 {
     if below == 0 {
         return 0;
@@ -30,6 +31,7 @@ fn random(seed: &mut u64, below: u32) -> u32 {
     (next_random(seed) % u64::from(below)) as u32
 }
 
+/// The name of a calendar in an expression.
 fn word(c: Calendar) -> &'static str {
     match c {
         Calendar::Years => "Years",
@@ -76,6 +78,7 @@ fn top(above: Calendar, c: Calendar) -> u32 {
     }
 }
 
+/// Adds a further part up to its calendar: `all`, or one to four numbers up to the most.
 fn put_set(alloc: Global, text: &mut Vec<u8>, seed: &mut u64, most: u32) -> Result<(), AllocError> {
     if random(seed, 6) == 0 {
         return text.extend_from_slice(b" + all.");
@@ -91,6 +94,7 @@ fn put_set(alloc: Global, text: &mut Vec<u8>, seed: &mut u64, most: u32) -> Resu
     text.extend_from_slice(b"}.")
 }
 
+/// Adds a length of this calendar, none beyond `longest`.
 fn put_length(
     alloc: Global,
     text: &mut Vec<u8>,
@@ -133,6 +137,7 @@ fn random_text(alloc: Global, seed: &mut u64) -> Result<(Vec<u8>, Calendar), All
     Ok((text, unit))
 }
 
+/// The period of an expression from the first minute of all to the last.
 fn whole(expr: Expr) -> Option<Period> {
     Some(Period {
         first: Instant::new(0)?,
@@ -141,6 +146,7 @@ fn whole(expr: Expr) -> Option<Period> {
     })
 }
 
+/// The same of a text, which is to be an expression.
 fn read_whole(alloc: Global, text: &[u8]) -> Result<Period, Fail> {
     if text.len() > 4096 {
         return Err("too long".into());
@@ -148,6 +154,7 @@ fn read_whole(alloc: Global, text: &[u8]) -> Result<Period, Fail> {
     Ok(whole(parse_expr(alloc, text)?).ok_or("bounds")?)
 }
 
+/// Whether the period starts at a minute; false beyond the last one.
 fn starts_at(p: &Period, m: u32) -> bool {
     match Instant::new(m) {
         Some(t) => starts(p, t),
@@ -199,16 +206,19 @@ impl Seen {
         })
     }
 
+    /// Whether the period starts at a minute, by what was seen.
     fn starts(&self, p: &Period, m: u32) -> bool {
         let begins = self.begins.get(m.saturating_sub(self.from) as usize);
         p.first.minute() <= m && m <= p.last.minute() && begins.copied().unwrap_or(false)
     }
 
+    /// Whether a minute is inside the period, by what was seen.
     fn inside(&self, p: &Period, m: u32) -> bool {
         let lasts = self.lasts.get(m.saturating_sub(self.from) as usize);
         p.first.minute() <= m && m <= p.last.minute() && lasts.copied().unwrap_or(false)
     }
 
+    /// The next start, minute after minute; None behind what was looked at.
     fn next_start(&self, p: &Period, after: u32) -> Option<u32> {
         for m in after.saturating_add(1)..self.from.saturating_add(LENGTH) {
             if self.starts(p, m) {
@@ -218,6 +228,7 @@ impl Seen {
         None
     }
 
+    /// The next minute inside, minute after minute; None behind what was looked at.
     fn next_inside(&self, p: &Period, after: u32) -> Option<u32> {
         for m in after.saturating_add(1)..self.from.saturating_add(LENGTH) {
             if self.inside(p, m) {
@@ -227,6 +238,7 @@ impl Seen {
         None
     }
 
+    /// The next edge, minute after minute; None behind what was looked at.
     fn next_edge(&self, p: &Period, after: u32) -> Option<u32> {
         for m in after.saturating_add(1)..self.from.saturating_add(LENGTH) {
             if self.inside(p, m) != self.inside(p, m.saturating_sub(1)) {
@@ -237,6 +249,7 @@ impl Seen {
     }
 }
 
+/// The number of an instant's minute.
 fn minute(t: Option<Instant>) -> Option<u32> {
     match t {
         Some(t) => Some(t.minute()),
@@ -244,6 +257,7 @@ fn minute(t: Option<Instant>) -> Option<u32> {
     }
 }
 
+/// Stops where an answer of the library is not that of the minutes looked at.
 fn compare(rt: &impl Abort, seen: &Seen, p: &Period, after: Instant) {
     let m = after.minute();
     assert_eq!(rt; inside(p, after), seen.inside(p, m));

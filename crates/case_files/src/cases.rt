@@ -122,6 +122,7 @@ fn cut(line: &[u8]) -> (&[u8], &[u8]) {
     }
 }
 
+/// The status that is wanted, 0 to 255.
 fn read_status(text: &[u8]) -> Said<'_> {
     match read_between(0, 255, text) {
         Some(n) => Said::Status(n as u8),
@@ -129,6 +130,7 @@ fn read_status(text: &[u8]) -> Said<'_> {
     }
 }
 
+/// A line that stands for lines: the two bounds of its `{i}`, and its text behind them.
 fn read_repeated<'a>(text: &'a [u8], end: &'a [u8]) -> Said<'a> {
     let (from, rest) = cut(text);
     let (to, text) = cut(rest);
@@ -146,6 +148,7 @@ fn read_repeated<'a>(text: &'a [u8], end: &'a [u8]) -> Said<'a> {
     }
 }
 
+/// `fails N`: the call of this side that is to fail, from 1; 0 is none.
 fn read_fails(failing: Failing, text: &[u8]) -> Said<'_> {
     match cut(text) {
         (b"fails", number) => match read_between(0, 20_000_000, number) {
@@ -156,6 +159,7 @@ fn read_fails(failing: Failing, text: &[u8]) -> Said<'_> {
     }
 }
 
+/// How many bytes the output takes before it fails.
 fn read_room(text: &[u8]) -> Said<'_> {
     match read_between(0, ROOM, text) {
         Some(n) => Said::Room(n),
@@ -163,6 +167,7 @@ fn read_room(text: &[u8]) -> Said<'_> {
     }
 }
 
+/// The head of a part, which stands alone on its line.
 fn read_part(part: Part, rest: &[u8]) -> Said<'_> {
     if rest.is_empty() {
         Said::Of(part)
@@ -209,6 +214,7 @@ pub(crate) fn read_line(line: &[u8]) -> Said<'_> {
 }
 
 impl Case {
+    /// The text that the lines at hand are added to.
     fn text(&mut self) -> &mut Vec<u8> {
         match self.part {
             Part::Policy => &mut self.policy,
@@ -217,6 +223,7 @@ impl Case {
         }
     }
 
+    /// Notes which call of one side is to fail.
     fn fail(&mut self, failing: Failing, call: u32) {
         match failing {
             Failing::Shelf => self.shelf_fails = call,
@@ -226,6 +233,7 @@ impl Case {
     }
 }
 
+/// Adds a word of the command.
 fn add_word(words: &mut Vec<String>, word: String) -> Result<(), AllocError> {
     words.push(word)?;
     Ok(())

@@ -8,6 +8,7 @@ ghost use Rattle.civil_time.specs.Text.{two_digits, text_of_civil, civil_text, I
 use crate::civil::{Civil, civil_of, instant};
 use gt_base::Instant;
 
+/// The digits of a number below 100, with a leading 0.
 fn two_digits(n: u8) -> [u8; 2]
     requires { n < 100 }
     ensures { result ≡ two_digits n }
@@ -15,6 +16,7 @@ fn two_digits(n: u8) -> [u8; 2]
     [b'0' + n / 10, b'0' + n % 10]
 }
 
+/// `YYYY-MM-DDThh:mm`; the text of an instant by its parts.
 fn civil_text(c: Civil) -> [u8; 16]
     requires { IsPrintable c }
     ensures { result ≡ text_of_civil c }

@@ -3,6 +3,7 @@ use gt_base::{Fluent, Instant, Memory, RoleId};
 use std::alloc::AllocError;
 use std::test::Fail;
 
+/// The instant of a minute; for a minute beyond the last, a test that fails.
 fn at(minute: u32) -> Result<Instant, Memory> {
     match Instant::new(minute) {
         Some(t) => Ok(t),
@@ -10,6 +11,7 @@ fn at(minute: u32) -> Result<Instant, Memory> {
     }
 }
 
+/// That a role is enabled, as a fluent.
 fn role(n: u32) -> Fluent {
     Fluent::Enabled(RoleId(n))
 }
@@ -22,6 +24,7 @@ fn with(ages: Ages, f: Fluent, t: Instant) -> Result<Ages, Memory> {
     Ok(ages)
 }
 
+/// 300 fluents change a minute apart; a copy knows when, and the birth of one that never did.
 #[test]
 fn ample_memory_gives_room_and_copies(rt: HostRuntime) -> Result<(), Fail> {
     let mut ages = Ages::new(rt.alloc(), at(1_000)?);

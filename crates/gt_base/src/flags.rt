@@ -81,6 +81,7 @@ impl Flags {
         }
     }
 
+    /// Where the fluent's flag stands; None where it has none.
     fn place(&self, f: Fluent) -> Option<usize>
         ensures { IsPlace self.now.known f result }
     {
@@ -152,6 +153,7 @@ impl Flags {
     }
 }
 
+/// The flag at a place, which must be one of them.
 fn flag_at(on: &[bool], at: usize) -> bool
     requires { at < length on.now }
     ensures { result ≡ slice_index_or on.now at false }
@@ -159,6 +161,7 @@ fn flag_at(on: &[bool], at: usize) -> bool
     on[at]
 }
 
+/// Sets the flag at a place, which must be one of them.
 fn put_flag(on: &mut Vec<bool>, at: usize, is_set: bool)
     requires { at < length on.old.items }
     ensures { on.new.items ≡ slice_set on.old.items at is_set }

@@ -143,6 +143,7 @@ fn place_in(names: &[u32], name: u32) -> usize
     names.partition_point(|n| *n < name)
 }
 
+/// How many fluents stand before a slot; 0 for a slot that is none, since it is a hint alone.
 fn start_at(starts: &[u32], slot: usize) -> usize {
     match starts.get(slot) {
         Some(start) => *start as usize,
@@ -180,6 +181,7 @@ fn count(starts: &mut [u32], slot: usize) {
     }
 }
 
+/// The second name of each fluent, 0 where it has none.
 fn seconds_of(alloc: Global, fluents: &[Fluent]) -> Result<Vec<u32>, Memory> {
     fluents.iter().map(|f| names_of(*f).2).collect(alloc)
 }

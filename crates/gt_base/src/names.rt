@@ -35,18 +35,21 @@ impl Model for Name {
     ghost inverse_ok = { stored_again };
 }
 
+/// Whether a byte may begin a name: a letter of ASCII.
 fn is_letter(b: u8) -> bool
     ensures { result ≡ is_letter b }
 {
     b.is_ascii_alphabetic()
 }
 
+/// Whether a byte may stand in a name behind the first.
 fn is_name_byte(b: u8) -> bool
     ensures { result ≡ is_name_byte b }
 {
     is_letter(b) || b.is_ascii_digit() || b == b'_' || b == b'-' || b == b'.'
 }
 
+/// Whether each of the bytes may stand in a name behind the first.
 fn are_name_bytes(bytes: &[u8]) -> bool
     ensures { result ≡ list_all is_name_byte bytes.now }
 {

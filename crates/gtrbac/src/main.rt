@@ -17,6 +17,7 @@ fn words(rt: &HostRuntime) -> Result<Vec<String>, AllocError> {
     }
 }
 
+/// One call of `tool` over this machine; status 8 where there is no memory for the words.
 fn main(rt: HostRuntime) -> ExitCode {
     let Ok(words) = words(&rt) else {
         return ExitCode::from(8);

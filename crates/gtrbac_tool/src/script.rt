@@ -79,6 +79,7 @@ fn put(run: &mut Run, request: Request) -> Result<bool, Memory>
     }
 }
 
+/// On where the step was made; else the history is full.
 fn after_step(done: bool) -> Played
     ensures { result ≡ played_as done }
 {

@@ -63,6 +63,7 @@ pub(crate) fn recipe_of(words: &[String]) -> Option<Recipe>
     }
 }
 
+/// The word that a line of the summary begins with, the first word of the replies that it counts.
 fn text_of(word: ReplyWord) -> &'static [u8]
     ensures { result.now ≡ word_text word }
 {
@@ -74,6 +75,7 @@ fn text_of(word: ReplyWord) -> &'static [u8]
     }
 }
 
+/// Whether a decision is a permit, whichever its walk.
 fn permits(decision: &Decision) -> bool
     ensures { result ≡ permits decision.now }
 {
@@ -130,6 +132,7 @@ fn push_count(text: &mut Vec<u8>, entries: &[Entry], word: ReplyWord) -> Result<
     text.extend_from_slice(b"\n")
 }
 
+/// Adds the first line of the summary: `gen SEED SIZE`.
 fn push_recipe(text: &mut Vec<u8>, recipe: Recipe) -> Result<(), Memory>
     ensures { OnOk result (text.new.items ≡ text.old.items ++ gen_line (seen_recipe recipe)) }
 {
@@ -140,6 +143,7 @@ fn push_recipe(text: &mut Vec<u8>, recipe: Recipe) -> Result<(), Memory>
     text.extend_from_slice(b"\n")
 }
 
+/// Adds the line of the length of the history, in entries.
 fn push_steps(text: &mut Vec<u8>, entries: &[Entry]) -> Result<(), Memory>
     ensures { OnOk result (text.new.items ≡ text.old.items ++ steps_line entries.now) }
 {
@@ -148,6 +152,7 @@ fn push_steps(text: &mut Vec<u8>, entries: &[Entry]) -> Result<(), Memory>
     text.extend_from_slice(b"\n")
 }
 
+/// Adds the last line of the summary: the minute now.
 fn push_now(text: &mut Vec<u8>, book: &Book) -> Result<(), Memory>
     ensures { OnOk result (text.new.items ≡ text.old.items
         ++ end_line book.now.birth book.now.entries) }

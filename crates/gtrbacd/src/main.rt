@@ -145,6 +145,7 @@ fn serve_views<'a, R: Threads + Wait + Sync>(
     status
 }
 
+/// One call of the server in the mode of its words; status 8 where there is no memory to begin.
 fn main(rt: HostRuntime) -> ExitCode {
     let Ok(words) = words(&rt) else {
         return ExitCode::from(8);

@@ -15,6 +15,7 @@ fn is_hierarchy(edges: &[HierEdge]) -> bool
     edges.len() <= 4_000 && are_within(edges)
 }
 
+/// Whether all roles of the edges are below 1,000, as the index asks.
 fn are_within(edges: &[HierEdge]) -> bool
     ensures { result ≡ true → AreWithin 1_000 edges.now }
 {
@@ -26,6 +27,7 @@ fn are_within(edges: &[HierEdge]) -> bool
     true
 }
 
+/// An edge that lends and allows.
 fn edge(senior: u32, junior: u32, strong: bool) -> HierEdge {
     HierEdge {
         senior: RoleId(senior),
@@ -49,6 +51,7 @@ fn edges(alloc: Global) -> Result<List<HierEdge>, Memory> {
     Ok(List::from(Vec::from_slice(alloc, &edges)?))
 }
 
+/// Sets a fluent on or off, with room taken for it.
 fn turn(status: &mut Status, f: Fluent, on: bool) -> Result<(), Memory> {
     status.reserve(1)?;
     status.set(f, on);
@@ -69,6 +72,7 @@ fn status(alloc: Global, off: u32, shut: u32) -> Result<Status, Memory> {
     Ok(status)
 }
 
+/// Whether a walk was found with this start and these edges.
 fn is_walk(found: Option<Walk>, start: u32, numbers: &[u32]) -> bool {
     match found {
         Some(walk) => walk.start.0 == start && walk.edges.as_slice() == numbers,
@@ -98,6 +102,7 @@ fn leads(alloc: Global, off: u32, shut: u32, numbers: &[u32]) -> Result<bool, Me
     )
 }
 
+/// The fewest edges, then the least numbers, round a role or an edge that is off.
 #[test]
 fn least_walks(rt: HostRuntime) -> Result<(), Fail> {
     let alloc = rt.alloc();
@@ -108,6 +113,7 @@ fn least_walks(rt: HostRuntime) -> Result<(), Fail> {
     Ok(())
 }
 
+/// Where a shut edge leaves no path, none is told; any path over all edges, shut or not, still is.
 #[test]
 fn none_and_any(rt: HostRuntime) -> Result<(), Fail> {
     let alloc = rt.alloc();

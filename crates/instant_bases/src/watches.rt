@@ -198,6 +198,7 @@ impl Watch {
         }
     }
 
+    /// What is kept of the next minute inside, looked for anew; what nobody asks stays unasked.
     fn inside_from(&self, now: Instant) -> Kept
         ensures { IsNextKept (insides self.now) now result }
     {
@@ -207,6 +208,7 @@ impl Watch {
         }
     }
 
+    /// What is kept of the next start, looked for anew; what nobody asks stays unasked.
     fn start_from(&self, now: Instant) -> Kept
         ensures { IsNextKept (starts self.now) now result }
     {
@@ -216,6 +218,7 @@ impl Watch {
         }
     }
 
+    /// What is kept of the next edge, looked for anew; what nobody asks stays unasked.
     fn edge_from(&self, now: Instant) -> Kept
         ensures { IsNextKept (turned self.now) now result }
     {
@@ -270,6 +273,7 @@ pub fn ask_all(watches: &mut [Watch], entries: &[PeriodicEntry], limits: &[Limit
     ask_limits(watches, limits);
 }
 
+/// Has the watches keep what the periodic entries ask of their periods.
 fn ask_entries(watches: &mut [Watch], entries: &[PeriodicEntry])
     ensures { watches.new ≡ watches.old }
 {
@@ -278,6 +282,7 @@ fn ask_entries(watches: &mut [Watch], entries: &[PeriodicEntry])
     }
 }
 
+/// Has the watches keep what the limits ask: the next minute inside, where a limit has a period.
 fn ask_limits(watches: &mut [Watch], limits: &[LimitRule])
     ensures { watches.new ≡ watches.old }
 {
@@ -288,6 +293,7 @@ fn ask_limits(watches: &mut [Watch], limits: &[LimitRule])
     }
 }
 
+/// Has one watch keep what a form asks; a number that is no period's changes nothing.
 fn ask_one(watches: &mut [Watch], id: PeriodId, form: Form)
     ensures { watches.new ≡ watches.old }
 {

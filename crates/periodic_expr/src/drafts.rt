@@ -26,6 +26,7 @@ pub(crate) struct ExprDraft {
     pub fault: Option<ExprFault>,
 }
 
+/// Whether `c` stands strictly below `above`; weeks stand below nothing.
 fn is_below(above: Calendar, c: Calendar) -> bool
     ensures { result ≡ is_below above c }
 {
@@ -40,6 +41,7 @@ fn is_below(above: Calendar, c: Calendar) -> bool
     }
 }
 
+/// Whether two calendars are one, as the definition of a valid expression has it.
 fn is_same(a: Calendar, b: Calendar) -> bool
     ensures { result ≡ is_same a b }
 {
@@ -57,6 +59,7 @@ fn noted(fault: Option<ExprFault>, good: bool, at: u32, kind: ExprKind) -> Optio
     }
 }
 
+/// Whether a number is one of a set.
 fn is_in(numbers: &[u32], n: u32) -> bool
     ensures { result ≡ list_any (nat_eq n) numbers.now }
 {
@@ -101,6 +104,7 @@ fn begun(mut d: ExprDraft, at: u32) -> ExprDraft
     d
 }
 
+/// Puts a number into the set at hand; None, which is `all`, stays.
 fn put_into(set: Option<Vec<u32>>, n: u32) -> Result<Option<Vec<u32>>, AllocError>
     ensures { IfOk result (λ more. option_map (λ v. v.items) more
         ≡ put_into n (option_map (λ v. v.items) set)) }
@@ -135,6 +139,7 @@ fn measured(mut d: ExprDraft, n: u32) -> ExprDraft
     d
 }
 
+/// Whether a set picks anything; None, which is `all`, does.
 fn has_number(set: &Option<Vec<u32>>) -> bool
     ensures { result ≡ has_number (option_map (λ v. v.items) set.now) }
 {
@@ -144,6 +149,7 @@ fn has_number(set: &Option<Vec<u32>>) -> bool
     }
 }
 
+/// The set as it is kept in an expression; None is `all`.
 fn listed(set: Option<Vec<u32>>) -> Option<List<u32>>
     ensures { option_map (λ l. l.items) result ≡ option_map (λ v. v.items) set }
 {

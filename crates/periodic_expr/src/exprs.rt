@@ -34,6 +34,7 @@ impl Model for ExprPart {
     ghost view = { λ p. record { calendar = p.calendar; set = option_map (λ l. l.items) p.set } };
 }
 
+/// A copy of a set; None is `all`.
 fn copied_set(set: &Option<List<u32>>) -> Result<Option<List<u32>>, Memory>
     ensures { IfOk result (λ copy. option_map (λ l. l.items) copy
         ≡ option_map (λ l. l.items) set.now) }
@@ -56,6 +57,7 @@ impl ExprPart {
     }
 }
 
+/// A copy of the parts, each with a set of its own.
 fn copied_parts(alloc: Global, parts: &[ExprPart]) -> Result<Vec<ExprPart>, Memory>
     ensures { IfOk result (λ copies. copies.items ≡ parts.now) }
 {

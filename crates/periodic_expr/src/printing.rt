@@ -10,6 +10,7 @@ use gtrbac_model::Calendar;
 use itoa::Buffer;
 use std::alloc::{AllocError, Global};
 
+/// Adds a number in decimal.
 fn push_number(text: &mut Vec<u8>, n: u32) -> Result<(), AllocError>
     ensures { OnOk result (text.new.items ≡ text.old.items ++ decimal n) }
 {
@@ -25,6 +26,7 @@ fn push_calendar(text: &mut Vec<u8>, c: Calendar) -> Result<(), AllocError>
     text.extend_from_slice(name_of(c))
 }
 
+/// Adds a comma and a number: one behind the first of a set.
 fn push_later_number(text: &mut Vec<u8>, n: u32) -> Result<(), AllocError>
     ensures { OnOk result (text.new.items ≡ text.old.items ++ later_number n) }
 {
@@ -32,6 +34,7 @@ fn push_later_number(text: &mut Vec<u8>, n: u32) -> Result<(), AllocError>
     push_number(text, n)
 }
 
+/// Adds the numbers behind the first, with a comma before each.
 fn push_later_numbers(text: &mut Vec<u8>, numbers: &[u32]) -> Result<(), AllocError>
     ensures { OnOk result (text.new.items ≡ text.old.items ++ flat_map later_number numbers.now) }
 {
@@ -41,6 +44,7 @@ fn push_later_numbers(text: &mut Vec<u8>, numbers: &[u32]) -> Result<(), AllocEr
     Ok(())
 }
 
+/// Adds the numbers of a set, with commas between them; nothing for the empty set.
 fn push_numbers(text: &mut Vec<u8>, numbers: &[u32]) -> Result<(), AllocError>
     ensures { OnOk result (text.new.items ≡ text.old.items ++ numbers_text numbers.now) }
 {
@@ -53,6 +57,7 @@ fn push_numbers(text: &mut Vec<u8>, numbers: &[u32]) -> Result<(), AllocError>
     }
 }
 
+/// Adds `all` for None, else the numbers in braces.
 fn push_set(text: &mut Vec<u8>, set: &Option<List<u32>>) -> Result<(), AllocError>
     ensures { OnOk result (text.new.items ≡ text.old.items
         ++ set_text (option_map (λ l. l.items) set.now)) }
@@ -67,6 +72,7 @@ fn push_set(text: &mut Vec<u8>, set: &Option<List<u32>>) -> Result<(), AllocErro
     }
 }
 
+/// Adds a part: its set, a point and its calendar.
 fn push_part(text: &mut Vec<u8>, part: &ExprPart) -> Result<(), AllocError>
     ensures { OnOk result (text.new.items ≡ text.old.items ++ part_text part.now) }
 {
@@ -74,6 +80,7 @@ fn push_part(text: &mut Vec<u8>, part: &ExprPart) -> Result<(), AllocError>
     push_calendar(text, part.calendar)
 }
 
+/// Adds ` + ` and a part: one behind the first.
 fn push_later_part(text: &mut Vec<u8>, part: &ExprPart) -> Result<(), AllocError>
     ensures { OnOk result (text.new.items ≡ text.old.items ++ later_part part.now) }
 {
@@ -81,6 +88,7 @@ fn push_later_part(text: &mut Vec<u8>, part: &ExprPart) -> Result<(), AllocError
     push_part(text, part)
 }
 
+/// Adds the parts behind the first, with ` + ` before each.
 fn push_later_parts(text: &mut Vec<u8>, parts: &[ExprPart]) -> Result<(), AllocError>
     ensures { OnOk result (text.new.items ≡ text.old.items ++ flat_map later_part parts.now) }
 {
@@ -90,6 +98,7 @@ fn push_later_parts(text: &mut Vec<u8>, parts: &[ExprPart]) -> Result<(), AllocE
     Ok(())
 }
 
+/// Adds the parts, with ` + ` between them.
 fn push_parts(text: &mut Vec<u8>, parts: &[ExprPart]) -> Result<(), AllocError>
     ensures { OnOk result (text.new.items ≡ text.old.items ++ parts_text parts.now) }
 {

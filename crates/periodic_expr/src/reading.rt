@@ -10,6 +10,7 @@ use crate::faults::{ExprFault, ExprKind};
 use crate::scan::{ScanPlace, moved};
 use std::alloc::{AllocError, Global};
 
+/// A fault of the grammar; `at` is the length of the longest front that can be continued.
 fn syntax(at: u32) -> Result<Expr, ExprFault>
     ensures { result ≡ Err (record { at = at; kind = ExprKind.Syntax }) }
 {
@@ -31,6 +32,7 @@ fn judged(d: ExprDraft, at: u32) -> Result<Expr, ExprFault>
     }
 }
 
+/// What the text says that ends here; one that breaks off has a fault of the grammar at its end.
 fn ended(place: ScanPlace, d: ExprDraft, at: u32) -> Result<Expr, ExprFault>
     requires { KeepsSketch (seen d) }
     ensures { result ≡ ended at place (seen d) }

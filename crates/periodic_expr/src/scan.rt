@@ -68,6 +68,7 @@ pub(crate) struct Move {
     pub act: Act,
 }
 
+/// The name of a calendar in an expression.
 pub(crate) fn name_of(c: Calendar) -> &'static [u8]
     ensures { result.now ≡ calendar_word c }
 {
@@ -81,18 +82,21 @@ pub(crate) fn name_of(c: Calendar) -> &'static [u8]
     }
 }
 
+/// Whether a byte may stand between two tokens: a space or a tab.
 fn is_blank(b: u8) -> bool
     ensures { result ≡ is_blank b }
 {
     b == b' ' || b == b'\t'
 }
 
+/// A step to a place, as the answers of the functions below give it.
 fn to(place: ScanPlace, act: Act) -> Option<Move>
     ensures { result ≡ Some (record { place = place; act = act }) }
 {
     Some(Move { place, act })
 }
 
+/// What may begin a part: the first letter of `all`, or the brace of a set.
 fn part_start(b: u8) -> Option<Move>
     ensures goes { result ≡ part_start b }
     ensures fits { IfSome result IsFitting }
@@ -104,6 +108,7 @@ fn part_start(b: u8) -> Option<Move>
     }
 }
 
+/// What may begin a calendar, by its first letter; `M` is Months until `letters` sees an `i`.
 fn calendar_start(unit: bool, b: u8) -> Option<Move>
     ensures goes { result ≡ calendar_start unit b }
     ensures fits { IfSome result IsFitting }
@@ -119,6 +124,7 @@ fn calendar_start(unit: bool, b: u8) -> Option<Move>
     to(ScanPlace::Letters(unit, calendar, 1), Act::Begin)
 }
 
+/// The step that ends a calendar: of the length where `unit` holds, else of a part.
 fn calendar_end(unit: bool, c: Calendar) -> Option<Move>
     ensures goes { result ≡ calendar_end unit c }
     ensures fits { IfSome result IsFitting }
@@ -150,6 +156,7 @@ fn letters(unit: bool, c: Calendar, k: usize, b: u8) -> Option<Move>
     }
 }
 
+/// The first digit of a number: of the length where `span` holds, else of a set.
 fn number_start(span: bool, b: u8) -> Option<Move>
     ensures goes { result ≡ number_start span b }
     ensures fits { IfSome result IsFitting }
@@ -174,6 +181,7 @@ fn after_index(act: Act, b: u8) -> Option<Move>
     }
 }
 
+/// What may stand behind a number: of the length where `span` holds, else of a set.
 fn after_number(span: bool, v: u32, b: u8) -> Option<Move>
     requires { v ≤ 999_999_999 }
     ensures goes { result ≡ after_number span v b }
@@ -207,6 +215,7 @@ fn digits(span: bool, v: u32, b: u8) -> Option<Move>
     }
 }
 
+/// What may stand behind a part: a further part or the length.
 fn after_part(b: u8) -> Option<Move>
     ensures goes { result ≡ after_part b }
     ensures fits { IfSome result IsFitting }

@@ -11,6 +11,7 @@ use crate::names::NameTables;
 use crate::tallies::{Tally, TallyFault};
 use std::alloc::Global;
 
+/// A fault of a line beside the others, with the line's number, from 1.
 fn fault_at(line: u32, fault: TallyFault) -> BookFault
     ensures { IsLineFault (Some (told_at line fault)) result }
 {

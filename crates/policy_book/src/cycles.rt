@@ -16,6 +16,7 @@ use crate::names::NameTables;
 use gt_base::{HierEdge, List, Memory, Name};
 use std::alloc::Global;
 
+/// The edge with this number, from 0; None where there are not so many.
 #[tactic(auto, using(least_walk::proofs::Items::item_get))]
 fn edge_at(edges: &[HierEdge], number: u32) -> Option<HierEdge>
     ensures { result ≡ item_at edges.now number }
@@ -36,6 +37,7 @@ fn edges_of(alloc: Global, edges: &[HierEdge], numbers: &[u32]) -> Result<Vec<Hi
     Ok(found)
 }
 
+/// The name of an edge's senior.
 fn senior(names: &NameTables, edge: &HierEdge) -> Name
     requires { edge.now.senior.0 < length names.now.roles }
     ensures { result ≡ role_name (seen_names names.now) edge.now.senior }
@@ -43,6 +45,7 @@ fn senior(names: &NameTables, edge: &HierEdge) -> Name
     names.roles.name(edge.senior.0)
 }
 
+/// The names of the edges' seniors, in the order of the edges.
 fn senior_names(alloc: Global, names: &NameTables, edges: &[HierEdge]) -> Result<Vec<Name>, Memory>
     requires { AreWithin (length names.now.roles) edges.now }
     ensures { IfOk result (λ found. found.items ≡ map
@@ -67,6 +70,7 @@ fn names_round(alloc: Global, names: &NameTables, edges: &[HierEdge]) -> Result<
     Ok(found)
 }
 
+/// The fault of a cycle: its edges by number, and the names that it leads along.
 fn cycle_fault(
     alloc: Global,
     names: &NameTables,

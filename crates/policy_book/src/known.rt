@@ -9,6 +9,7 @@ use crate::names::NameTables;
 use gt_base::Name;
 use policy_words::{Item, Said};
 
+/// Whether each name in an item is declared, and the pair of an edge in it is an edge's.
 fn is_known_item(names: &NameTables, item: &Item) -> bool
     ensures { result ≡ is_known_item (seen_names names.now) item.now }
 {
@@ -19,6 +20,7 @@ fn is_known_item(names: &NameTables, item: &Item) -> bool
     }
 }
 
+/// Whether each name in the items of a body is declared.
 fn are_known(names: &NameTables, items: &[Item]) -> bool
     ensures { result ≡ list_all (is_known_item (seen_names names.now)) items.now }
 {
@@ -30,6 +32,7 @@ fn are_known(names: &NameTables, items: &[Item]) -> bool
     true
 }
 
+/// Whether a limit's period is declared; None, for a limit that holds at all times, needs no name.
 fn is_known_period(names: &NameTables, period: &Option<Name>) -> bool
     ensures { result ≡ is_known_period (seen_names names.now) period.now }
 {

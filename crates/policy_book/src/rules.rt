@@ -33,6 +33,7 @@ pub(crate) fn period_in(said: Said) -> Option<Period>
     }
 }
 
+/// The number of a limit's period; the outer None is an unknown name, the inner one no period.
 fn during(names: &NameTables, period: &Option<Name>) -> Option<Option<PeriodId>>
     ensures { result ≡ during_of (seen_names names.now) period.now }
 {
@@ -66,6 +67,7 @@ pub(crate) fn limit_in(names: &NameTables, said: &Said) -> Option<LimitRule>
     })
 }
 
+/// Whether an edge of this kind lends permissions.
 fn inherits(kind: EdgeKind) -> bool
     ensures { result ≡ does_inherit kind }
 {
@@ -75,6 +77,7 @@ fn inherits(kind: EdgeKind) -> bool
     }
 }
 
+/// Whether an edge of this kind allows activation.
 fn activates(kind: EdgeKind) -> bool
     ensures { result ≡ does_activate kind }
 {
@@ -144,6 +147,7 @@ pub(crate) fn entry_in(names: &NameTables, said: &Said) -> Option<PeriodicEntry>
     })
 }
 
+/// The event that an item is; None where it is of another kind, or a name is unknown.
 fn event_in(names: &NameTables, item: &Item) -> Option<Event>
     ensures { result ≡ event_in (seen_names names.now) item.now }
 {
@@ -153,6 +157,7 @@ fn event_in(names: &NameTables, item: &Item) -> Option<Event>
     }
 }
 
+/// The signal that an item is; None where it is of another kind, or a name is unknown.
 fn signal_in(names: &NameTables, item: &Item) -> Option<Signal>
     ensures { result ≡ signal_in (seen_names names.now) item.now }
 {
@@ -162,6 +167,7 @@ fn signal_in(names: &NameTables, item: &Item) -> Option<Signal>
     }
 }
 
+/// The plain condition that an item is; None where it is of another kind, or a name is unknown.
 fn cond_in(names: &NameTables, item: &Item) -> Option<Cond>
     ensures { result ≡ cond_in (seen_names names.now) item.now }
 {
@@ -171,6 +177,7 @@ fn cond_in(names: &NameTables, item: &Item) -> Option<Cond>
     }
 }
 
+/// The settled condition that an item is; None where it is of another kind, or a name is unknown.
 fn settled_in(names: &NameTables, item: &Item) -> Option<Cond>
     ensures { result ≡ settled_in (seen_names names.now) item.now }
 {

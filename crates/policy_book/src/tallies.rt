@@ -41,6 +41,7 @@ pub(crate) struct Counts {
 }
 
 impl Counts {
+    /// The counts of no line.
     fn none() -> Counts
         ensures { result ≡ no_counts }
     {
@@ -58,6 +59,7 @@ impl Counts {
         }
     }
 
+    /// How many lines of this kind there are; of assignments and grants, how many distinct pairs.
     fn of(&self, kind: Kind) -> u32
         ensures { result ≡ count_in self.now kind }
     {
@@ -120,6 +122,7 @@ fn most_of(kind: Kind) -> u32
     }
 }
 
+/// The pair that an opening line claims, which counts once; None where nothing is counted.
 fn fluent_claim(fluent: &NamedFluent) -> Option<Claim>
     ensures { result ≡ fluent_claim fluent.now }
 {
@@ -154,6 +157,7 @@ fn may_be_again(said: &Said) -> bool
     matches!(said, Said::Opening(_))
 }
 
+/// The kind that an opening line counts for; None where such lines are not counted.
 fn fluent_kind(fluent: &NamedFluent) -> Option<Kind>
     ensures { result ≡ fluent_kind fluent.now }
 {

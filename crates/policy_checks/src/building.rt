@@ -23,6 +23,7 @@ struct Lines {
     ghost later: { IsTrue (are_before line parts) },
 }
 
+/// A name, which the tests write in order; one that is none fails as memory does.
 fn name(text: &[u8]) -> Result<Name, Memory>
     ensures { IfOk result (λ n. IsTrue (is_name n)) }
 {
@@ -32,6 +33,7 @@ fn name(text: &[u8]) -> Result<Name, Memory>
     }
 }
 
+/// A priority, the same for all.
 fn prio() -> Result<Prio, Memory>
     ensures { IfOk result (λ p. p ≤ 99) }
 {
@@ -42,6 +44,7 @@ fn prio() -> Result<Prio, Memory>
 }
 
 impl Lines {
+    /// No line yet; the first one is line 1.
     fn new(alloc: Global) -> Lines {
         Lines {
             alloc,
@@ -50,6 +53,7 @@ impl Lines {
         }
     }
 
+    /// Adds a line, numbered behind the last one.
     fn put(self, said: Said) -> Result<Lines, Memory>
         requires said { IsTrue (is_saying (seen_said said)) }
         requires version { is_version (seen_said said) ≡ false }
@@ -71,23 +75,28 @@ impl Lines {
         })
     }
 
+    /// A line that declares a role.
     fn role(self, n: &[u8]) -> Result<Lines, Memory> {
         self.put(Said::Role(name(n)?))
     }
 
+    /// A line that declares a user.
     fn user(self, n: &[u8]) -> Result<Lines, Memory> {
         self.put(Said::User(name(n)?))
     }
 
+    /// A line of an administrator.
     fn admin(self, n: &[u8]) -> Result<Lines, Memory> {
         self.put(Said::Admin(name(n)?))
     }
 
+    /// A line of an assignment at first.
     fn assigned(self, user: &[u8], role: &[u8]) -> Result<Lines, Memory> {
         let fluent = NamedFluent::Assigned(name(user)?, name(role)?);
         self.put(Said::Opening(fluent))
     }
 
+    /// A line of an edge, of a kind and a strength that play no part.
     fn edge(self, senior: &[u8], junior: &[u8]) -> Result<Lines, Memory> {
         let (senior, junior) = (name(senior)?, name(junior)?);
         self.put(Said::Edge {
@@ -98,6 +107,7 @@ impl Lines {
         })
     }
 
+    /// A line of a cap, 5 of its kind.
     fn cap(self, kind: CapKind, role: &[u8]) -> Result<Lines, Memory> {
         let role = name(role)?;
         self.put(Said::Cap { kind, role, n: 5 })
@@ -186,10 +196,12 @@ impl Lines {
         Ok(self)
     }
 
+    /// What the lines make, or their fault.
     fn build(self) -> Result<Policy, BookFault> {
         Policy::build(self.alloc, self.parts)
     }
 
+    /// Whether the lines make what is asked, a policy or a fault.
     fn is(self, asked: AskedOf) -> bool {
         match self.build() {
             Ok(policy) => policy_is(&policy, asked),
@@ -243,6 +255,7 @@ fn enable(role: Name) -> Result<NamedHead, Memory>
     })
 }
 
+/// Whether a policy is what is asked.
 fn policy_is(policy: &Policy, asked: AskedOf) -> bool {
     match asked {
         AskedOf::Names => are_named(policy) && are_once(policy),
@@ -252,6 +265,7 @@ fn policy_is(policy: &Policy, asked: AskedOf) -> bool {
     }
 }
 
+/// Whether a fault is what is asked.
 fn fault_is(fault: &BookFault, asked: AskedOf) -> bool {
     match (asked, fault) {
         (AskedOf::CycleOfSecond, BookFault::HierarchyCycle { edges, names }) => {
@@ -332,6 +346,7 @@ fn is_split(policy: &Policy) -> bool {
     first.on && !second.on && trigger.signals.len() == 1 && trigger.conds.len() == 1
 }
 
+/// Whether the one entry is of the period that was declared second.
 fn is_of_second_period(policy: &Policy) -> bool {
     let [entry] = policy.entries().as_slice() else {
         return false;
@@ -339,6 +354,7 @@ fn is_of_second_period(policy: &Policy) -> bool {
     entry.period == PeriodId(1) && entry.form == Form::Start && policy.period_count() == 2
 }
 
+/// Whether a copy of the policy has the trigger and the entry that were said.
 fn has_rules(policy: &Policy) -> bool {
     match policy.copied() {
         Ok(copy) => is_split(&copy) && is_of_second_period(&copy),

@@ -10,14 +10,17 @@ use policy_words::{
 use std::alloc::Global;
 use std::test::Fail;
 
+/// The fault of a line behind such a version, if it has one.
 fn fault(alloc: Global, version: TextVersion, line: &[u8]) -> Option<TextKind> {
     read_said(alloc, version, line).err()
 }
 
+/// Whether a line has this fault where only silent lines stand before it.
 fn has_fault(alloc: Global, line: &[u8], kind: TextKind) -> bool {
     fault(alloc, TextVersion::Open, line) == Some(kind)
 }
 
+/// Whether the expression of a line has a fault of the grammar at this byte of it.
 fn is_syntax_at(alloc: Global, line: &[u8], at: u32) -> bool {
     let kind = ExprKind::Syntax;
     has_fault(alloc, line, TextKind::Expr(ExprFault { at, kind }))
@@ -34,6 +37,7 @@ fn again(alloc: Global, version: TextVersion, line: &[u8]) -> Result<Vec<u8>, Te
     Ok(text)
 }
 
+/// Whether a line, read behind such a version and written again, is this text.
 fn is_written_in(alloc: Global, version: TextVersion, line: &[u8], written: &[u8]) -> bool {
     match again(alloc, version, line) {
         Ok(text) => text.as_slice() == written,
@@ -41,6 +45,7 @@ fn is_written_in(alloc: Global, version: TextVersion, line: &[u8], written: &[u8
     }
 }
 
+/// The same where only silent lines stand before it.
 fn is_written(alloc: Global, line: &[u8], written: &[u8]) -> bool {
     is_written_in(alloc, TextVersion::Open, line, written)
 }
@@ -55,6 +60,7 @@ fn long_body(alloc: Global, more: u32, rest: &[u8]) -> Result<Vec<u8>, Memory> {
     Ok(line)
 }
 
+/// An event, a condition, a signal and two delays, with nothing between them.
 fn parts(alloc: Global, x: &Name) -> Result<Vec<u8>, Memory> {
     let mut text = Vec::new(alloc);
     let event = NamedEvent {
@@ -78,6 +84,7 @@ fn parts(alloc: Global, x: &Name) -> Result<Vec<u8>, Memory> {
     Ok(text)
 }
 
+/// A prioritised event, written.
 fn head(alloc: Global, x: &Name, prio: Prio) -> Result<Vec<u8>, Memory> {
     let mut text = Vec::new(alloc);
     let event = NamedEvent {

@@ -13,6 +13,7 @@ use policy_book::Policy;
 use policy_safety::CycleEdge;
 use policy_words::Sort;
 
+/// Adds a role's name; nothing for a number that is none.
 fn push_role(text: &mut Vec<u8>, p: &Policy, r: RoleId) -> Result<(), Memory>
     ensures { OnOk result (text.new.items ≡ text.old.items ++ role_name p.now.names r) }
 {
@@ -22,6 +23,7 @@ fn push_role(text: &mut Vec<u8>, p: &Policy, r: RoleId) -> Result<(), Memory>
     Ok(())
 }
 
+/// Adds a user's name; nothing for a number that is none.
 fn push_user(text: &mut Vec<u8>, p: &Policy, u: UserId) -> Result<(), Memory>
     ensures { OnOk result (text.new.items ≡ text.old.items ++ user_name p.now.names u) }
 {
@@ -31,6 +33,7 @@ fn push_user(text: &mut Vec<u8>, p: &Policy, u: UserId) -> Result<(), Memory>
     Ok(())
 }
 
+/// Adds a permission's name; nothing for a number that is none.
 fn push_perm(text: &mut Vec<u8>, p: &Policy, q: PermId) -> Result<(), Memory>
     ensures { OnOk result (text.new.items ≡ text.old.items ++ perm_name p.now.names q) }
 {
@@ -40,6 +43,7 @@ fn push_perm(text: &mut Vec<u8>, p: &Policy, q: PermId) -> Result<(), Memory>
     Ok(())
 }
 
+/// Adds a limit's name; nothing for a number that is none.
 fn push_limit(text: &mut Vec<u8>, p: &Policy, l: LimitId) -> Result<(), Memory>
     ensures { OnOk result (text.new.items ≡ text.old.items ++ limit_name p.now.names l) }
 {
@@ -160,6 +164,7 @@ fn push_place(text: &mut Vec<u8>, trigger: u32, place: u32) -> Result<(), Memory
     push_number(text, u64::from(place) + 1)
 }
 
+/// The word of an edge's kind, with a space behind it.
 fn kind(conflict: bool) -> &'static [u8]
     ensures { result.now ≡ conflict_word conflict }
 {
@@ -180,6 +185,7 @@ fn push_edge(text: &mut Vec<u8>, p: &Policy, edge: CycleEdge) -> Result<(), Memo
     text.extend_from_slice(b"\n")
 }
 
+/// Adds the lines of a cycle's edges, in the order of the cycle.
 fn push_edges(text: &mut Vec<u8>, p: &Policy, edges: &[CycleEdge]) -> Result<(), Memory>
     ensures { OnOk result (text.new.items ≡ text.old.items
         ++ flat_map (λ e. edge_text p.now.names (seen_edge e)) edges.now) }

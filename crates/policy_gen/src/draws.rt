@@ -21,6 +21,7 @@ impl Model for Draws {
 }
 
 impl Draws {
+    /// Draws that begin with this seed, modulo 65,537.
     pub fn new(seed: u64) -> Draws
         ensures { result ≡ draw seed zero }
     {

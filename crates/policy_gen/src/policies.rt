@@ -28,6 +28,7 @@ pub(crate) fn push_two(
     push_one(text, second, j)
 }
 
+/// Adds a line that ends with a number.
 fn push_one_line(text: &mut Vec<u8>, piece: &[u8], i: u32) -> Result<(), Memory>
     ensures { OnOk result (text.new.items ≡ text.old.items ++ (one piece.now i ++ 10 ∷ [])) }
 {
@@ -35,6 +36,7 @@ fn push_one_line(text: &mut Vec<u8>, piece: &[u8], i: u32) -> Result<(), Memory>
     text.extend_from_slice(b"\n")
 }
 
+/// Adds a line with two numbers, each behind its piece.
 fn push_two_line(
     text: &mut Vec<u8>,
     first: &[u8],

@@ -1,6 +1,7 @@
 use super::*;
 use std::test::Fail;
 
+/// All of what seed 1 and size 1 make.
 #[test]
 fn one_round(rt: HostRuntime) -> Result<(), Fail> {
     let made = make(rt.alloc(), 1, 1)?;
@@ -26,6 +27,7 @@ activate 1 r1
     Ok(())
 }
 
+/// All of what seed 1 and size 2 make: an edge, the triggers of the second role, two rounds.
 #[test]
 fn two_roles(rt: HostRuntime) -> Result<(), Fail> {
     let made = make(rt.alloc(), 1, 2)?;
@@ -64,6 +66,7 @@ check 2 p2
     Ok(())
 }
 
+/// Above a size of 200 the policy stays, and the script alone grows.
 #[test]
 fn sizes_are_those_of_the_largest(rt: HostRuntime) -> Result<(), Fail> {
     let made = make(rt.alloc(), 18_446_744_073_709_551_615, 201)?;

@@ -9,6 +9,7 @@ ghost use Rattle.policy_lines.specs.Answered.{ReadsAs};
 
 use policy_words::{Item, NamedFluent, Said, TextKind};
 
+/// Whether a fluent is of an edge, and so has words in version 2 alone.
 fn is_edge(fluent: &NamedFluent) -> bool
     ensures { result ≡ is_edge fluent.now }
 {
@@ -18,6 +19,7 @@ fn is_edge(fluent: &NamedFluent) -> bool
     }
 }
 
+/// Whether an item of a body names an edge; a signal never does.
 fn item_names_edge(item: &Item) -> bool
     ensures { result ≡ item_names_edge item.now }
 {
@@ -29,6 +31,7 @@ fn item_names_edge(item: &Item) -> bool
     }
 }
 
+/// Whether one of the items of a body names an edge.
 fn any_names_edge(items: &[Item]) -> bool
     ensures { result ≡ list_any item_names_edge items.now }
 {

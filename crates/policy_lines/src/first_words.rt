@@ -46,6 +46,7 @@ const LINE_VERBS: [LineVerb; 18] = [
     LineVerb::When,
 ];
 
+/// The word of a verb, by which `line_verb` finds the verb that a word is.
 fn verb_text(verb: LineVerb) -> &'static [u8]
     ensures { result.now ≡ verb_word verb }
 {

@@ -22,6 +22,7 @@ fn ends_items(words: &mut Words<'_>) -> Option<bool>
     }
 }
 
+/// Adds an item at the end; apart, since the kinds of items have to be named for its proof.
 fn add(items: &mut List<Item>, item: Item) -> Result<(), Memory>
     ensures { OnOk result (items.new.items ≡ items.old.items ++ item ∷ []) }
 {

@@ -18,12 +18,14 @@ pub(crate) fn add_word(text: &mut Vec<u8>, word: &[u8]) -> Result<(), Memory>
     text.extend_from_slice(word)
 }
 
+/// Adds a space and a name.
 pub(crate) fn add_name(text: &mut Vec<u8>, name: &Name) -> Result<(), Memory>
     ensures { OnOk result (text.new.items ≡ text.old.items ++ later (name.now ∷ [])) }
 {
     add_word(text, name.bytes())
 }
 
+/// Adds a space and a number, in decimal.
 pub(crate) fn add_number(text: &mut Vec<u8>, n: u32) -> Result<(), Memory>
     ensures { OnOk result (text.new.items ≡ text.old.items ++ later (decimal n ∷ [])) }
 {
@@ -52,6 +54,7 @@ pub(crate) fn add_names(text: &mut Vec<u8>, fluent: &NamedFluent) -> Result<(), 
     }
 }
 
+/// Adds an event without a space before it: its verb and its names.
 fn write_event(text: &mut Vec<u8>, event: &NamedEvent) -> Result<(), Memory>
     ensures { OnOk result (text.new.items ≡ text.old.items ++ led (event_words event.now)) }
 {
@@ -59,6 +62,7 @@ fn write_event(text: &mut Vec<u8>, event: &NamedEvent) -> Result<(), Memory>
     add_names(text, &event.fluent)
 }
 
+/// Adds a condition without a space before it: its verb and its names.
 fn write_cond(text: &mut Vec<u8>, cond: &NamedCond) -> Result<(), Memory>
     ensures { OnOk result (text.new.items ≡ text.old.items ++ led (cond_words cond.now)) }
 {
@@ -66,6 +70,7 @@ fn write_cond(text: &mut Vec<u8>, cond: &NamedCond) -> Result<(), Memory>
     add_names(text, &cond.fluent)
 }
 
+/// Adds a signal without a space before it: its verb, its user and its role.
 fn write_signal(text: &mut Vec<u8>, signal: &NamedSignal) -> Result<(), Memory>
     ensures { OnOk result (text.new.items ≡ text.old.items ++ led (signal_words signal.now)) }
 {
@@ -73,6 +78,7 @@ fn write_signal(text: &mut Vec<u8>, signal: &NamedSignal) -> Result<(), Memory>
     add_pair(text, &signal.user, &signal.role)
 }
 
+/// Adds `PRIO:` and an event, without a space before them.
 fn write_head(text: &mut Vec<u8>, head: &NamedHead) -> Result<(), Memory>
     ensures { OnOk result (text.new.items ≡ text.old.items ++ led (head_words head.now)) }
 {
@@ -81,6 +87,7 @@ fn write_head(text: &mut Vec<u8>, head: &NamedHead) -> Result<(), Memory>
     write_event(text, &head.event)
 }
 
+/// Adds `settled` and a condition, without a space before them.
 fn write_settled(text: &mut Vec<u8>, cond: &NamedCond) -> Result<(), Memory>
     ensures { OnOk result (text.new.items ≡ text.old.items
         ++ led (codes "settled" ∷ cond_words cond.now)) }
@@ -89,6 +96,7 @@ fn write_settled(text: &mut Vec<u8>, cond: &NamedCond) -> Result<(), Memory>
     add_cond(text, cond)
 }
 
+/// Adds an item of a body, without a space before it.
 fn write_item(text: &mut Vec<u8>, item: &Item) -> Result<(), Memory>
     ensures { OnOk result (text.new.items ≡ text.old.items ++ led (item_words item.now)) }
 {
@@ -111,6 +119,7 @@ pub fn push_delay(text: &mut Vec<u8>, delay: u32) -> Result<(), Memory>
     add_number(text, delay)
 }
 
+/// Adds a space and a condition.
 pub(crate) fn add_cond(text: &mut Vec<u8>, cond: &NamedCond) -> Result<(), Memory>
     ensures { OnOk result (text.new.items ≡ text.old.items ++ later (cond_words cond.now)) }
 {
@@ -118,6 +127,7 @@ pub(crate) fn add_cond(text: &mut Vec<u8>, cond: &NamedCond) -> Result<(), Memor
     write_cond(text, cond)
 }
 
+/// Adds a space, a priority with its colon, and an event.
 pub(crate) fn add_head(text: &mut Vec<u8>, head: &NamedHead) -> Result<(), Memory>
     ensures { OnOk result (text.new.items ≡ text.old.items ++ later (head_words head.now)) }
 {
@@ -125,6 +135,7 @@ pub(crate) fn add_head(text: &mut Vec<u8>, head: &NamedHead) -> Result<(), Memor
     write_head(text, head)
 }
 
+/// Adds a space and an item of a body.
 fn add_item(text: &mut Vec<u8>, item: &Item) -> Result<(), Memory>
     ensures { OnOk result (text.new.items ≡ text.old.items ++ later (item_words item.now)) }
 {
@@ -132,6 +143,7 @@ fn add_item(text: &mut Vec<u8>, item: &Item) -> Result<(), Memory>
     write_item(text, item)
 }
 
+/// Adds ` and ` and an item: one behind the first.
 fn add_linked(text: &mut Vec<u8>, item: &Item) -> Result<(), Memory>
     ensures { OnOk result (text.new.items ≡ text.old.items ++ linked_item item.now) }
 {
@@ -139,6 +151,7 @@ fn add_linked(text: &mut Vec<u8>, item: &Item) -> Result<(), Memory>
     add_item(text, item)
 }
 
+/// Adds the items behind the first, with ` and ` before each.
 fn add_more(text: &mut Vec<u8>, items: &[Item]) -> Result<(), Memory>
     ensures { OnOk result (text.new.items ≡ text.old.items ++ flat_map linked_item items.now) }
 {

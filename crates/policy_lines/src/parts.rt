@@ -70,18 +70,21 @@ fn signal(start: bool, words: &mut Words<'_>) -> Option<NamedSignal>
     Some(NamedSignal { start, user, role })
 }
 
+/// A signal as an item, its verb read before; None where two names do not follow.
 fn signal_item(start: bool, words: &mut Words<'_>) -> Option<Item>
     ensures { option_map (λ i. (i, words.new)) result ≡ as_signal (signal_of start words.old) }
 {
     Some(Item::Signal(signal(start, words)?))
 }
 
+/// A condition as an item, its verb read before; None where that is none, or a name is missing.
 fn cond_item(verb: &[u8], words: &mut Words<'_>) -> Option<Item>
     ensures { option_map (λ i. (i, words.new)) result ≡ as_cond (cond_at (verb.now ∷ words.old)) }
 {
     Some(Item::Cond(cond_of(verb, words)?))
 }
 
+/// A settled condition as an item, `settled` read before; None where no condition follows.
 fn settled_item(words: &mut Words<'_>) -> Option<Item>
     ensures { option_map (λ i. (i, words.new)) result ≡ as_settled (cond_at words.old) }
 {

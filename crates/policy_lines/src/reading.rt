@@ -17,6 +17,7 @@ use gt_text::{Words, begins};
 use policy_words::{Said, TextKind, TextVersion};
 use std::alloc::Global;
 
+/// Whether only silent lines stand before, so that a version may be said here.
 fn is_open(version: TextVersion) -> bool
     ensures { result ≡ is_open version }
 {
@@ -86,6 +87,7 @@ fn said_of(
     }
 }
 
+/// What a line says; None where it is blank or a comment, which may be too long all the same.
 fn read_line(alloc: Global, version: TextVersion, line: &[u8]) -> Result<Option<Said>, TextKind>
     ensures ok { IfOk result (λ said. read_said version line.now
         ≡ Ok (option_map seen_said said)) }

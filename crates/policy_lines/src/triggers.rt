@@ -14,6 +14,7 @@ use gt_text::Words;
 use policy_words::{Item, Said, TextKind};
 use std::alloc::Global;
 
+/// Whether an item brings a trigger about: an event or a signal, not a condition.
 fn is_cause(item: &Item) -> bool
     ensures { result ≡ is_cause item.now }
 {
@@ -23,6 +24,7 @@ fn is_cause(item: &Item) -> bool
     }
 }
 
+/// Whether one of the items is an event or a signal, without which no trigger can fire.
 fn has_cause(items: &[Item]) -> bool
     ensures { result ≡ list_any is_cause items.now }
 {
@@ -36,6 +38,7 @@ fn is_body(items: &[Item]) -> bool
     items.len() <= MAX_ITEMS && has_cause(items)
 }
 
+/// Whether the body of a trigger is in order; other sayings have none.
 fn is_bodied(said: &Said) -> bool
     ensures { result ≡ is_bodied (seen_said said.now) }
 {

@@ -17,6 +17,7 @@ use gt_base::{Form, Instant, Memory, Name, Prio};
 use periodic_expr::{Expr, print_expr};
 use policy_words::{CapKind, EdgeKind, Item, NamedCond, NamedFluent, NamedHead, Said};
 
+/// Adds a verb and one name: the form of declarations and of administrators.
 fn write_named(text: &mut Vec<u8>, verb: &[u8], name: &Name) -> Result<(), Memory>
     ensures { OnOk result (text.new.items ≡ text.old.items ++ led (verb.now ∷ name.now ∷ [])) }
 {
@@ -24,12 +25,14 @@ fn write_named(text: &mut Vec<u8>, verb: &[u8], name: &Name) -> Result<(), Memor
     add_name(text, name)
 }
 
+/// Adds a space and a minute; the first and the last one of all too, never `*`.
 fn add_instant(text: &mut Vec<u8>, t: Instant) -> Result<(), Memory>
     ensures { OnOk result (text.new.items ≡ text.old.items ++ later (civil_text t ∷ [])) }
 {
     add_word(text, &write_civil(t))
 }
 
+/// Adds a space and an expression with its length, also one that was left out.
 fn add_expr(text: &mut Vec<u8>, expr: &Expr) -> Result<(), Memory>
     ensures { OnOk result (text.new.items ≡ text.old.items ++ later (expr_text expr.now ∷ [])) }
 {
@@ -37,6 +40,7 @@ fn add_expr(text: &mut Vec<u8>, expr: &Expr) -> Result<(), Memory>
     add_word(text, printed.as_slice())
 }
 
+/// Adds the two bounds and the expression of a period.
 fn add_period(text: &mut Vec<u8>, first: Instant, last: Instant, expr: &Expr) -> Result<(), Memory>
     ensures { OnOk result (text.new.items ≡ text.old.items
         ++ later (civil_text first ∷ civil_text last ∷ expr_text expr.now ∷ [])) }
@@ -46,6 +50,7 @@ fn add_period(text: &mut Vec<u8>, first: Instant, last: Instant, expr: &Expr) ->
     add_expr(text, expr)
 }
 
+/// Adds the line of a period.
 fn write_period(
     text: &mut Vec<u8>,
     name: &Name,
@@ -60,6 +65,7 @@ fn write_period(
     add_period(text, first, last, expr)
 }
 
+/// Adds `during` and a period; nothing where a limit holds at all times.
 fn add_during(text: &mut Vec<u8>, period: &Option<Name>) -> Result<(), Memory>
     ensures { OnOk result (text.new.items ≡ text.old.items ++ later (during_words period.now)) }
 {
@@ -72,6 +78,7 @@ fn add_during(text: &mut Vec<u8>, period: &Option<Name>) -> Result<(), Memory>
     }
 }
 
+/// Adds `max`, the minutes, and the period where there is one.
 fn add_most(text: &mut Vec<u8>, most: u32, period: &Option<Name>) -> Result<(), Memory>
     ensures { OnOk result (text.new.items ≡ text.old.items
         ++ later (codes "max" ∷ decimal most ∷ during_words period.now)) }
@@ -81,6 +88,7 @@ fn add_most(text: &mut Vec<u8>, most: u32, period: &Option<Name>) -> Result<(), 
     add_during(text, period)
 }
 
+/// Adds the line of a limit.
 fn write_limit(
     text: &mut Vec<u8>,
     name: &Name,
@@ -98,6 +106,7 @@ fn write_limit(
     add_most(text, most, period)
 }
 
+/// Adds the line of a version.
 fn write_version(text: &mut Vec<u8>, n: u32) -> Result<(), Memory>
     ensures { OnOk result (text.new.items ≡ text.old.items ++ led (said_words (version n))) }
 {
@@ -146,6 +155,7 @@ pub(crate) fn form_text(form: Form) -> &'static [u8]
     }
 }
 
+/// Adds the line of an edge.
 fn write_edge(
     text: &mut Vec<u8>,
     kind: EdgeKind,
@@ -162,6 +172,7 @@ fn write_edge(
     add_pair(text, senior, junior)
 }
 
+/// Adds the line of a cap; `n` counts activations or minutes, by its kind.
 fn write_cap(text: &mut Vec<u8>, kind: CapKind, role: &Name, n: u32) -> Result<(), Memory>
     ensures { OnOk result (text.new.items ≡ text.old.items
         ++ led (said_words (cap kind role.now n))) }
@@ -172,6 +183,7 @@ fn write_cap(text: &mut Vec<u8>, kind: CapKind, role: &Name, n: u32) -> Result<(
     add_number(text, n)
 }
 
+/// Adds the line that says that a fluent is on at first, with the verb of its condition.
 fn write_opening(text: &mut Vec<u8>, fluent: &NamedFluent) -> Result<(), Memory>
     ensures { OnOk result (text.new.items ≡ text.old.items
         ++ led (said_words (opening fluent.now))) }
@@ -180,6 +192,7 @@ fn write_opening(text: &mut Vec<u8>, fluent: &NamedFluent) -> Result<(), Memory>
     add_names(text, fluent)
 }
 
+/// Adds the line of a periodic entry, whose form is its first word.
 fn write_entry(
     text: &mut Vec<u8>,
     form: Form,
@@ -193,6 +206,7 @@ fn write_entry(
     add_head(text, head)
 }
 
+/// Adds what stands behind a body: `then`, the head and the delay, where it is not 0.
 fn add_effect(text: &mut Vec<u8>, head: &NamedHead, delay: u32) -> Result<(), Memory>
     ensures { OnOk result (text.new.items ≡ text.old.items
         ++ later (codes "then" ∷ head_words head.now ++ delay_words delay)) }
@@ -202,6 +216,7 @@ fn add_effect(text: &mut Vec<u8>, head: &NamedHead, delay: u32) -> Result<(), Me
     push_delay(text, delay)
 }
 
+/// Adds the line of a trigger.
 fn write_trigger(
     text: &mut Vec<u8>,
     items: &[Item],

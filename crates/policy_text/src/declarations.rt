@@ -20,6 +20,7 @@ pub(crate) fn push_line(text: &mut Vec<u8>, said: &Said) -> Result<(), Memory>
     text.extend_from_slice(b"\n")
 }
 
+/// Adds the first line: the version that the policy needs, whichever its own text had.
 fn push_version(text: &mut Vec<u8>, p: &Policy) -> Result<(), Memory>
     ensures { OnOk result (text.new.items ≡ text.old.items
         ++ line_text (version (version_of p.now.policy))) }
@@ -27,6 +28,7 @@ fn push_version(text: &mut Vec<u8>, p: &Policy) -> Result<(), Memory>
     push_line(text, &Said::Version(version_of(p)))
 }
 
+/// Adds the line of one role by its number, which is a declared one.
 fn push_role(text: &mut Vec<u8>, p: &Policy, r: RoleId) -> Result<(), Memory>
     requires { r.0 < length p.now.names.roles }
     ensures { OnOk result (text.new.items ≡ text.old.items
@@ -35,6 +37,7 @@ fn push_role(text: &mut Vec<u8>, p: &Policy, r: RoleId) -> Result<(), Memory>
     push_line(text, &Said::Role(p.role_name(r)))
 }
 
+/// Adds the line of one user by its number, which is a declared one.
 fn push_user(text: &mut Vec<u8>, p: &Policy, u: UserId) -> Result<(), Memory>
     requires { u.0 < length p.now.names.users }
     ensures { OnOk result (text.new.items ≡ text.old.items
@@ -43,6 +46,7 @@ fn push_user(text: &mut Vec<u8>, p: &Policy, u: UserId) -> Result<(), Memory>
     push_line(text, &Said::User(p.user_name(u)))
 }
 
+/// Adds the line of one permission by its number, which is a declared one.
 fn push_perm(text: &mut Vec<u8>, p: &Policy, q: PermId) -> Result<(), Memory>
     requires { q.0 < length p.now.names.perms }
     ensures { OnOk result (text.new.items ≡ text.old.items
@@ -51,6 +55,7 @@ fn push_perm(text: &mut Vec<u8>, p: &Policy, q: PermId) -> Result<(), Memory>
     push_line(text, &Said::Perm(p.perm_name(q)))
 }
 
+/// Adds the lines of all roles by number, which is the order of their declarations.
 fn push_roles(text: &mut Vec<u8>, p: &Policy) -> Result<(), Memory>
     ensures { OnOk result (text.new.items ≡ text.old.items
         ++ lines_by (λ n. role n) p.now.names.roles) }
@@ -62,6 +67,7 @@ fn push_roles(text: &mut Vec<u8>, p: &Policy) -> Result<(), Memory>
     Ok(())
 }
 
+/// Adds the lines of all users by number, which is the order of their declarations.
 fn push_users(text: &mut Vec<u8>, p: &Policy) -> Result<(), Memory>
     ensures { OnOk result (text.new.items ≡ text.old.items
         ++ lines_by (λ n. user n) p.now.names.users) }
@@ -73,6 +79,7 @@ fn push_users(text: &mut Vec<u8>, p: &Policy) -> Result<(), Memory>
     Ok(())
 }
 
+/// Adds the lines of all permissions by number, which is the order of their declarations.
 fn push_perms(text: &mut Vec<u8>, p: &Policy) -> Result<(), Memory>
     ensures { OnOk result (text.new.items ≡ text.old.items
         ++ lines_by (λ n. perm n) p.now.names.perms) }

@@ -10,6 +10,7 @@ use gt_base::{Caps, HierEdge, Memory, RoleId, UserId};
 use policy_book::Policy;
 use policy_words::{CapKind, EdgeKind, Said};
 
+/// The kind with these two flags; an edge with neither, which no policy has, is told as `a`.
 fn edge_kind(inherits: bool, activates: bool) -> EdgeKind
     ensures { result ≡ edge_kind inherits activates }
 {
@@ -20,6 +21,7 @@ fn edge_kind(inherits: bool, activates: bool) -> EdgeKind
     }
 }
 
+/// Adds the line of one edge; whether it is linked is said by lines of their own.
 fn push_edge(text: &mut Vec<u8>, p: &Policy, edge: HierEdge) -> Result<(), Memory>
     requires { IsTrue (is_edge p.now.policy edge) }
     ensures { OnOk result (text.new.items ≡ text.old.items
@@ -37,6 +39,7 @@ fn push_edge(text: &mut Vec<u8>, p: &Policy, edge: HierEdge) -> Result<(), Memor
     )
 }
 
+/// Adds the lines of all edges by number, on or off.
 fn push_edges(text: &mut Vec<u8>, p: &Policy) -> Result<(), Memory>
     ensures { OnOk result (text.new.items ≡ text.old.items
         ++ lines_by (edge_line p.now.names) p.now.policy.edges) }
@@ -86,6 +89,7 @@ fn push_kinds(
     Ok(())
 }
 
+/// Adds the lines of a role's caps: total, user, length, day; none where it has no cap.
 fn push_role_caps(text: &mut Vec<u8>, p: &Policy, r: RoleId, caps: Caps) -> Result<(), Memory>
     requires { r.0 < length p.now.names.roles }
     ensures { OnOk result (text.new.items ≡ text.old.items ++ caps_text p.now.names (r.0, caps)) }
@@ -93,6 +97,7 @@ fn push_role_caps(text: &mut Vec<u8>, p: &Policy, r: RoleId, caps: Caps) -> Resu
     push_kinds(text, p, r, caps, &CapKind::all())
 }
 
+/// Adds the lines of all caps, by role.
 fn push_caps(text: &mut Vec<u8>, p: &Policy) -> Result<(), Memory>
     ensures { OnOk result (text.new.items ≡ text.old.items
         ++ flat_map (caps_text p.now.names) (numbered p.now.policy.caps)) }
@@ -105,6 +110,7 @@ fn push_caps(text: &mut Vec<u8>, p: &Policy) -> Result<(), Memory>
     Ok(())
 }
 
+/// Adds the line of one administrator, a declared user.
 fn push_admin(text: &mut Vec<u8>, p: &Policy, u: UserId) -> Result<(), Memory>
     requires { u.0 < p.now.policy.users }
     ensures { OnOk result (text.new.items ≡ text.old.items
@@ -114,6 +120,7 @@ fn push_admin(text: &mut Vec<u8>, p: &Policy, u: UserId) -> Result<(), Memory>
     push_line(text, &Said::Admin(p.user_name(u)))
 }
 
+/// Adds the lines of all administrators, in the order of the policy's list.
 fn push_admins(text: &mut Vec<u8>, p: &Policy) -> Result<(), Memory>
     ensures { OnOk result (text.new.items ≡ text.old.items
         ++ lines_by (admin_line p.now.names) p.now.policy.admins) }

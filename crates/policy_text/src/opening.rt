@@ -10,6 +10,7 @@ use gt_base::{Fluent, Memory};
 use policy_book::{Policy, named_fluent};
 use policy_words::{Said, Sort};
 
+/// Adds the line that says that a fluent is on at first.
 fn push_opening(text: &mut Vec<u8>, p: &Policy, f: Fluent) -> Result<(), Memory>
     requires { IsTrue (is_fluent p.now.policy f) }
     ensures { OnOk result (text.new.items ≡ text.old.items

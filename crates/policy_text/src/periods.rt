@@ -12,6 +12,7 @@ use policy_book::{Policy, named_cond};
 use policy_lines::push_period;
 use policy_words::Said;
 
+/// Adds the line of one period, written from the period itself: a saying would need a copy of it.
 fn push_period_line(
     text: &mut Vec<u8>,
     p: &Policy,
@@ -32,6 +33,7 @@ fn push_period_line(
     text.extend_from_slice(b"\n")
 }
 
+/// Adds the lines of all periods, by number.
 fn push_periods(text: &mut Vec<u8>, p: &Policy) -> Result<(), Memory>
     ensures { OnOk result (text.new.items ≡ text.old.items
         ++ lines_by (period_line p.now.names) (numbered p.now.policy.periods)) }
@@ -59,6 +61,7 @@ fn named_period(p: &Policy, period: Option<PeriodId>) -> Option<Name>
     }
 }
 
+/// Adds the line of one limit; whether it is armed at first is said by a line of its own.
 fn push_limit(text: &mut Vec<u8>, p: &Policy, n: LimitId, limit: LimitRule) -> Result<(), Memory>
     requires number { n.0 < length p.now.names.limits }
     requires rule { IsTrue (is_limit p.now.policy limit) }
@@ -77,6 +80,7 @@ fn push_limit(text: &mut Vec<u8>, p: &Policy, n: LimitId, limit: LimitRule) -> R
     )
 }
 
+/// Adds the lines of all limits, by number.
 fn push_limits(text: &mut Vec<u8>, p: &Policy) -> Result<(), Memory>
     ensures { OnOk result (text.new.items ≡ text.old.items
         ++ lines_by (limit_line p.now.names) (numbered p.now.policy.limits)) }

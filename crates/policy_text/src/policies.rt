@@ -20,6 +20,7 @@ pub enum PolicyText {
     Fault(Vec<u8>),
 }
 
+/// The text of a line's fault, made anew.
 fn line_fault(alloc: Global, fault: TextFault) -> Result<Vec<u8>, Memory>
     ensures { IfOk result (λ told. told.items ≡ at_line fault.line (text_kind_text fault.kind)) }
 {
@@ -28,6 +29,7 @@ fn line_fault(alloc: Global, fault: TextFault) -> Result<Vec<u8>, Memory>
     Ok(told)
 }
 
+/// The text of a fault of the lines together, made anew; empty for want of memory.
 fn book_fault(alloc: Global, fault: &BookFault) -> Result<Vec<u8>, Memory>
     ensures { IfOk result (λ told. told.items ≡ text_of_book fault.now) }
 {

@@ -11,6 +11,7 @@ use policy_book::{Policy, named_cond, named_event, named_head, named_signal};
 use policy_words::{Item, NamedCond, NamedEvent, NamedFluent, NamedSignal, Said};
 use std::alloc::Global;
 
+/// Adds the line of one periodic entry.
 fn push_entry(text: &mut Vec<u8>, p: &Policy, entry: PeriodicEntry) -> Result<(), Memory>
     requires { IsTrue (is_entry p.now.policy entry) }
     ensures { OnOk result (text.new.items ≡ text.old.items
@@ -27,6 +28,7 @@ fn push_entry(text: &mut Vec<u8>, p: &Policy, entry: PeriodicEntry) -> Result<()
     )
 }
 
+/// Adds the lines of all periodic entries, in the order of the policy, which numbers them.
 fn push_entries(text: &mut Vec<u8>, p: &Policy) -> Result<(), Memory>
     ensures { OnOk result (text.new.items ≡ text.old.items
         ++ lines_by (entry_line p.now.names) p.now.policy.entries) }
@@ -49,6 +51,7 @@ fn add_item(items: &mut Vec<Item>, item: Item) -> Result<(), Memory>
     Ok(())
 }
 
+/// Adds the body events, in their order.
 fn add_events(items: &mut Vec<Item>, p: &Policy, events: &[Event]) -> Result<(), Memory>
     requires { IsTrue (list_all (λ e. is_fluent p.now.policy e.fluent) events.now) }
     ensures { OnOk result (items.new.items ≡ items.old.items
@@ -60,6 +63,7 @@ fn add_events(items: &mut Vec<Item>, p: &Policy, events: &[Event]) -> Result<(),
     Ok(())
 }
 
+/// Adds the signals, in their order.
 fn add_signals(items: &mut Vec<Item>, p: &Policy, signals: &[Signal]) -> Result<(), Memory>
     requires { IsTrue (list_all (is_signal p.now.policy) signals.now) }
     ensures { OnOk result (items.new.items ≡ items.old.items
@@ -71,6 +75,7 @@ fn add_signals(items: &mut Vec<Item>, p: &Policy, signals: &[Signal]) -> Result<
     Ok(())
 }
 
+/// Adds the conditions on the status before, in their order.
 fn add_conds(items: &mut Vec<Item>, p: &Policy, conds: &[Cond]) -> Result<(), Memory>
     requires { IsTrue (list_all (λ c. is_fluent p.now.policy c.fluent) conds.now) }
     ensures { OnOk result (items.new.items ≡ items.old.items
@@ -82,6 +87,7 @@ fn add_conds(items: &mut Vec<Item>, p: &Policy, conds: &[Cond]) -> Result<(), Me
     Ok(())
 }
 
+/// Adds the conditions on the status after, each behind `settled`, in their order.
 fn add_settled(items: &mut Vec<Item>, p: &Policy, conds: &[Cond]) -> Result<(), Memory>
     requires { IsTrue (list_all (λ c. is_fluent p.now.policy c.fluent) conds.now) }
     ensures { OnOk result (items.new.items ≡ items.old.items
@@ -115,6 +121,7 @@ fn items_of(alloc: Global, p: &Policy, trigger: &Trigger) -> Result<List<Item>, 
     Ok(List::from(items))
 }
 
+/// Adds the line of one trigger; its items are gathered first, since a saying owns them.
 fn push_trigger(text: &mut Vec<u8>, p: &Policy, trigger: &Trigger) -> Result<(), Memory>
     requires { IsTrue (is_rule p.now.policy trigger.now) }
     ensures { OnOk result (text.new.items ≡ text.old.items
@@ -131,6 +138,7 @@ fn push_trigger(text: &mut Vec<u8>, p: &Policy, trigger: &Trigger) -> Result<(),
     )
 }
 
+/// Adds the lines of all triggers, in the order of the policy, which numbers them.
 fn push_triggers(text: &mut Vec<u8>, p: &Policy) -> Result<(), Memory>
     ensures { OnOk result (text.new.items ≡ text.old.items
         ++ lines_by (trigger_line p.now.names) p.now.policy.triggers) }

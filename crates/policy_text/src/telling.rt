@@ -25,6 +25,7 @@ fn expr_word(kind: ExprKind) -> &'static [u8]
     }
 }
 
+/// Adds `expr KIND at N`; N is a byte of the expression, counted from 0.
 fn push_expr_fault(text: &mut Vec<u8>, fault: ExprFault) -> Result<(), Memory>
     ensures { OnOk result (text.new.items ≡ text.old.items
         ++ (codes "expr " ++ expr_kind_word fault.kind ++ codes " at " ++ decimal fault.at)) }
@@ -35,6 +36,7 @@ fn push_expr_fault(text: &mut Vec<u8>, fault: ExprFault) -> Result<(), Memory>
     push_number(text, u64::from(fault.at))
 }
 
+/// Adds the word of a line's fault; nothing for want of memory, which no text tells.
 fn push_kind(text: &mut Vec<u8>, kind: TextKind) -> Result<(), Memory>
     ensures { OnOk result (text.new.items ≡ text.old.items ++ text_kind_text kind) }
 {
@@ -50,7 +52,7 @@ fn push_kind(text: &mut Vec<u8>, kind: TextKind) -> Result<(), Memory>
     }
 }
 
-/// `policy LINE: ` and what is at fault there, with a line feed.
+/// Adds `policy LINE: `, the front of what is told of a line, counted from 1.
 fn push_line_head(text: &mut Vec<u8>, line: u32) -> Result<(), Memory>
     ensures { OnOk result (text.new.items ≡ text.old.items
         ++ (codes "policy " ++ decimal line ++ codes ": ")) }
@@ -88,6 +90,7 @@ fn many_of(kind: Kind) -> &'static [u8]
     }
 }
 
+/// Adds the line of the first line that exceeds the limit of its kind.
 fn push_many(text: &mut Vec<u8>, line: u32, what: Kind) -> Result<(), Memory>
     ensures { OnOk result (text.new.items ≡ text.old.items
         ++ at_line line (codes "many " ++ kind_word what)) }
@@ -95,6 +98,7 @@ fn push_many(text: &mut Vec<u8>, line: u32, what: Kind) -> Result<(), Memory>
     push_at_line(text, line, many_of(what))
 }
 
+/// Adds `policy LINE: ` and what is at fault there, with a line feed.
 fn push_at_line(text: &mut Vec<u8>, line: u32, what: &[u8]) -> Result<(), Memory>
     ensures { OnOk result (text.new.items ≡ text.old.items ++ at_line line what.now) }
 {
@@ -116,6 +120,7 @@ fn push_joined(text: &mut Vec<u8>, names: &[Name]) -> Result<(), Memory>
     }
 }
 
+/// Adds names with a `>` before each, the first one too.
 fn push_more(text: &mut Vec<u8>, names: &[Name]) -> Result<(), Memory>
     ensures { OnOk result (text.new.items ≡ text.old.items ++ flat_map with_bar names.now) }
 {
@@ -125,6 +130,7 @@ fn push_more(text: &mut Vec<u8>, names: &[Name]) -> Result<(), Memory>
     Ok(())
 }
 
+/// Adds `>` and a name.
 fn push_with_bar(text: &mut Vec<u8>, name: &Name) -> Result<(), Memory>
     ensures { OnOk result (text.new.items ≡ text.old.items ++ with_bar name.now) }
 {

@@ -11,12 +11,14 @@ use gt_base::{Cond, Event, Fluent, LimitRule, PeriodicEntry, Status, Trigger};
 use policy_book::Policy;
 use policy_words::Sort;
 
+/// Whether a fluent is of an edge, whichever its state is.
 fn is_linked(f: Fluent) -> bool
     ensures { result ≡ has_sort Linking f }
 {
     Sort::Linking.has(f)
 }
 
+/// Whether an event of a body is of an edge.
 fn some_event(events: &[Event]) -> bool
     ensures { result ≡ list_any (λ e. has_sort Linking e.fluent) events.now }
 {
@@ -27,6 +29,7 @@ fn some_event(events: &[Event]) -> bool
     )
 }
 
+/// Whether a condition, settled or not, asks for an edge.
 fn some_cond(conds: &[Cond]) -> bool
     ensures { result ≡ list_any (λ c. has_sort Linking c.fluent) conds.now }
 {
@@ -37,6 +40,7 @@ fn some_cond(conds: &[Cond]) -> bool
     )
 }
 
+/// Whether the body or the head of a trigger names an edge; signals have none.
 fn trigger_names_edge(trigger: &Trigger) -> bool
     ensures { result ≡ rule_names_edge trigger.now }
 {
@@ -46,6 +50,7 @@ fn trigger_names_edge(trigger: &Trigger) -> bool
         || is_linked(trigger.head.event.fluent)
 }
 
+/// Whether a limit watches an edge.
 fn some_limit(limits: &[LimitRule]) -> bool
     ensures { result ≡ list_any (λ l. has_sort Linking l.cond.fluent) limits.now }
 {
@@ -56,6 +61,7 @@ fn some_limit(limits: &[LimitRule]) -> bool
     )
 }
 
+/// Whether a periodic entry switches an edge.
 fn some_entry(entries: &[PeriodicEntry]) -> bool
     ensures { result ≡ list_any (λ e. has_sort Linking e.head.event.fluent) entries.now }
 {
@@ -66,6 +72,7 @@ fn some_entry(entries: &[PeriodicEntry]) -> bool
     )
 }
 
+/// Whether a trigger names an edge, in its body or as its head.
 fn some_trigger(triggers: &[Trigger]) -> bool
     ensures { result ≡ list_any rule_names_edge triggers.now }
 {
@@ -99,6 +106,7 @@ fn are_linked(status: &Status, count: u32) -> bool
     true
 }
 
+/// The number of edges; a policy has at most 4,000, so none is lost in 32 bits.
 fn edge_count(p: &Policy) -> u32
     ensures { result ≡ length p.now.policy.edges }
 {

@@ -46,6 +46,7 @@ impl Replica for Fake {
     ghost adds = { λ s e. (refl, refl) };
 }
 
+/// A list of nothing, which refuses so many times.
 fn make_fake(alloc: Global, refusals: u32) -> Fake
     ensures { result.played.items ≡ [] }
 {
@@ -55,6 +56,7 @@ fn make_fake(alloc: Global, refusals: u32) -> Fake
     }
 }
 
+/// An entry that is a tick to this minute; None for a minute beyond the last.
 fn tick(minute: u32) -> Option<Entry> {
     let at = Instant::new(minute)?;
     let who = Who { worker: 0, conn: 1 };
@@ -145,6 +147,7 @@ fn played<R: Wait>(
     four_times(rt, alloc, first, second, entries.as_slice())
 }
 
+/// The call that is refused says so; readers see its entry from the next call on.
 #[test]
 fn a_copy_that_refuses_once_is_brought_up_by_the_next_call(rt: HostRuntime) -> Result<(), Fail> {
     let said = played(&rt, rt.alloc(), 1, 0)?;
@@ -160,6 +163,7 @@ fn a_copy_that_is_behind_may_refuse_too(rt: HostRuntime) -> Result<(), Fail> {
     Ok(())
 }
 
+/// Each call with a further entry is refused, and readers stay at the first one.
 #[test]
 fn past_a_copy_that_refuses_for_good_readers_see_nothing_new(rt: HostRuntime) -> Result<(), Fail> {
     let said = played(&rt, rt.alloc(), 0, 100)?;

@@ -42,6 +42,7 @@ pub(crate) fn after_eight(minutes: u32) -> Result<Instant, Memory> {
     }
 }
 
+/// The priority of this level; one above 100 fails as memory does.
 pub(crate) fn prio(level: u8) -> Result<Prio, Memory> {
     match Prio::new(level) {
         Some(p) => Ok(p),
@@ -49,10 +50,12 @@ pub(crate) fn prio(level: u8) -> Result<Prio, Memory> {
     }
 }
 
+/// An event without a priority.
 pub(crate) fn event(on: bool, fluent: Fluent) -> Event {
     Event { on, fluent }
 }
 
+/// A prioritised event.
 pub(crate) fn head(level: u8, event: Event) -> Result<Prioritised, Memory> {
     Ok(Prioritised {
         prio: prio(level)?,

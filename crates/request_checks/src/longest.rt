@@ -14,12 +14,14 @@ fn put_name(text: &mut Vec<u8>, n: u64) -> Result<(), Memory> {
     push_number(text, n)
 }
 
+/// Adds the line of a role with a name of 32 bytes.
 fn put_role(text: &mut Vec<u8>, n: u64) -> Result<(), Memory> {
     text.extend_from_slice(b"role ")?;
     put_name(text, n)?;
     text.extend_from_slice(b"\n")
 }
 
+/// Adds the line of an edge from a role to the next one.
 fn put_edge(text: &mut Vec<u8>, n: u64) -> Result<(), Memory> {
     text.extend_from_slice(b"edge ia weak ")?;
     put_name(text, n)?;

@@ -7,6 +7,7 @@ ghost use Rattle.request_text.specs.Named.{has_edge, has_walk, has_decision, has
 use gt_base::{Actor, Decision, Entry, Fluent, Reply, Request, Step, Walk};
 use policy_book::Policy;
 
+/// Whether the policy has edges of these numbers, as the contracts of texts ask.
 fn has_edges(p: &Policy, mut edges: &[u32]) -> bool
     ensures { result ≡ list_all (has_edge p.now.policy) edges.now }
 {
@@ -19,12 +20,14 @@ fn has_edges(p: &Policy, mut edges: &[u32]) -> bool
     true
 }
 
+/// Whether the policy has the start and the edges of a walk.
 fn has_walk(p: &Policy, walk: &Walk) -> bool
     ensures { result ≡ has_walk p.now.policy walk.now }
 {
     walk.start.0 < p.role_count() && has_edges(p, walk.edges.as_slice())
 }
 
+/// Whether the policy has what a decision names.
 fn has_decision(p: &Policy, decision: &Decision) -> bool
     ensures { result ≡ has_decision p.now.policy decision.now }
 {
@@ -52,6 +55,7 @@ pub(crate) fn has_reply(p: &Policy, reply: &Reply) -> bool
     }
 }
 
+/// Whether the policy has what a fluent names.
 fn has_fluent(p: &Policy, f: Fluent) -> bool
     ensures { result ≡ is_fluent p.now.policy f }
 {
@@ -64,6 +68,7 @@ fn has_fluent(p: &Policy, f: Fluent) -> bool
     }
 }
 
+/// Whether the policy has what a request names.
 fn has_request(p: &Policy, request: Request) -> bool
     ensures { result ≡ has_request p.now.policy request }
 {
@@ -79,6 +84,7 @@ fn has_request(p: &Policy, request: Request) -> bool
     }
 }
 
+/// Whether the policy has the user who acts; the operator and nobody need none.
 fn has_actor(p: &Policy, actor: Actor) -> bool
     ensures { result ≡ has_actor p.now.policy actor }
 {

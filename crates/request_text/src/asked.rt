@@ -13,6 +13,7 @@ use policy_book::{Policy, named_cond, named_event, named_head};
 use policy_lines::{push_cond, push_delay, push_event, push_head};
 use std::alloc::Global;
 
+/// Adds `status` and a condition.
 fn push_status(text: &mut Vec<u8>, p: &Policy, c: Cond) -> Result<(), Memory>
     requires { IsTrue (is_fluent p.now.policy c.fluent) }
     ensures { OnOk result (text.new.items ≡ text.old.items
@@ -22,6 +23,7 @@ fn push_status(text: &mut Vec<u8>, p: &Policy, c: Cond) -> Result<(), Memory>
     push_cond(text, &named_cond(p, c))
 }
 
+/// Adds `event` and an event.
 fn push_seen(text: &mut Vec<u8>, p: &Policy, e: Event) -> Result<(), Memory>
     requires { IsTrue (is_fluent p.now.policy e.fluent) }
     ensures { OnOk result (text.new.items ≡ text.old.items ++ request_text p.now (Request.Seen e)) }
@@ -30,6 +32,7 @@ fn push_seen(text: &mut Vec<u8>, p: &Policy, e: Event) -> Result<(), Memory>
     push_event(text, &named_event(p, e))
 }
 
+/// Adds `request`, a prioritised event and its delay, where that is not 0.
 fn push_raise(text: &mut Vec<u8>, p: &Policy, h: Prioritised, delay: u32) -> Result<(), Memory>
     requires { IsTrue (is_fluent p.now.policy h.event.fluent) }
     ensures { OnOk result (text.new.items ≡ text.old.items
@@ -80,6 +83,7 @@ fn push_role(
     push_session(text, verb, session, &p.role_name(role))
 }
 
+/// Adds a request as a line of a script or a connection has it, without a line feed.
 fn push_request(text: &mut Vec<u8>, p: &Policy, request: Request) -> Result<(), Memory>
     requires { IsTrue (has_request p.now.policy request) }
     ensures { OnOk result (text.new.items ≡ text.old.items ++ request_text p.now request) }

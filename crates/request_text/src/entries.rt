@@ -23,6 +23,7 @@ use policy_book::{
 /// The most bytes of an entry's line, its line feed included.
 pub const LONGEST_ENTRY: usize = 33_584;
 
+/// Adds `W.C`: the worker from 0, its connection from 1.
 fn put_who(into: &mut Page, who: Who)
     requires { length (who_text who) ≤ into.old.spare }
     ensures { Puts into.old into.new (who_text who) }
@@ -31,6 +32,7 @@ fn put_who(into: &mut Page, who: Who)
     put_number(into, b".", who.conn);
 }
 
+/// Adds who asked; the operator and nobody are both told as `-`.
 fn put_actor(into: &mut Page, p: &Policy, actor: Actor)
     requires named { IsTrue (has_actor p.now.policy actor) }
     requires room { length (actor_text p.now actor) ≤ into.old.spare }
@@ -43,6 +45,7 @@ fn put_actor(into: &mut Page, p: &Policy, actor: Actor)
     }
 }
 
+/// Adds a tick: where it stopped, then its bound.
 fn put_tick(into: &mut Page, who: Who, to: Instant, upto: Instant)
     requires { length (tick_text who to upto) ≤ into.old.spare }
     ensures { Puts into.old into.new (tick_text who to upto) }
@@ -258,6 +261,7 @@ fn put_entry(into: &mut Page, p: &Policy, e: &Entry)
     }
 }
 
+/// What a worker's and a connection's number keep, by which an entry's line has a longest length.
 fn small_who(who: Who)
     ensures { IsSmallWho who }
 {
@@ -265,6 +269,7 @@ fn small_who(who: Who)
     small_number(who.conn);
 }
 
+/// What the numbers in a step keep, as far as its text depends on them.
 fn small_step(step: &Step)
     ensures { IsSmallStep step.now }
 {

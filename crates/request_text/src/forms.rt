@@ -43,6 +43,7 @@ fn session_name(mut words: Words<'_>) -> Option<(SessionId, Name)>
     Some((session, name))
 }
 
+/// A condition and no further word.
 fn status(mut words: Words<'_>) -> Option<NamedRequest>
     ensures { result ≡ cond_in words.entry }
 {
@@ -53,6 +54,7 @@ fn status(mut words: Words<'_>) -> Option<NamedRequest>
     Some(NamedRequest::Status(cond))
 }
 
+/// An event and no further word.
 fn seen(mut words: Words<'_>) -> Option<NamedRequest>
     ensures { result ≡ event_in words.entry }
 {
@@ -72,6 +74,7 @@ pub(crate) fn raise(mut words: Words<'_>) -> Option<(NamedHead, u32)>
     Some((head, delay))
 }
 
+/// A prioritised event, with or without `after DELAY`, and no further word.
 fn raised(words: Words<'_>) -> Option<NamedRequest>
     ensures { result ≡ raise_in words.entry }
 {
@@ -89,12 +92,14 @@ fn alone(request: NamedRequest, mut words: Words<'_>) -> Option<NamedRequest>
     Some(request)
 }
 
+/// A session and no further word.
 fn close(words: Words<'_>) -> Option<NamedRequest>
     ensures { result ≡ request_by RequestVerb.Close words.entry }
 {
     Some(NamedRequest::CloseSession(session(words)?))
 }
 
+/// A session, a role and no further word.
 fn activate(words: Words<'_>) -> Option<NamedRequest>
     ensures { result ≡ request_by RequestVerb.Activate words.entry }
 {
@@ -102,6 +107,7 @@ fn activate(words: Words<'_>) -> Option<NamedRequest>
     Some(NamedRequest::Activate(session, role))
 }
 
+/// A session, a role and no further word.
 fn deactivate(words: Words<'_>) -> Option<NamedRequest>
     ensures { result ≡ request_by RequestVerb.Deactivate words.entry }
 {
@@ -109,6 +115,7 @@ fn deactivate(words: Words<'_>) -> Option<NamedRequest>
     Some(NamedRequest::Deactivate(session, role))
 }
 
+/// A session, a role and no further word.
 fn active(words: Words<'_>) -> Option<NamedRequest>
     ensures { result ≡ request_by RequestVerb.Active words.entry }
 {
@@ -116,6 +123,7 @@ fn active(words: Words<'_>) -> Option<NamedRequest>
     Some(NamedRequest::Active(session, role))
 }
 
+/// A session, a permission and no further word.
 fn check(words: Words<'_>) -> Option<NamedRequest>
     ensures { result ≡ request_by RequestVerb.Check words.entry }
 {
@@ -155,6 +163,7 @@ fn actor(mut words: Words<'_>) -> Option<Option<Name>>
     Some(Some(read_name(word)?))
 }
 
+/// A minute and no further word.
 fn minute(mut words: Words<'_>) -> Option<Instant>
     ensures { result ≡ minute_in words.entry }
 {

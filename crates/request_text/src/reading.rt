@@ -54,6 +54,7 @@ fn line_by(p: &Policy, opening: Actor, phrase: Phrase) -> Option<Line>
     }
 }
 
+/// The line that a phrase is; no phrase is a fault of syntax, an unknown name one of names.
 fn said(p: &Policy, opening: Actor, phrase: Option<Phrase>) -> Result<Line, LineFault>
     ensures { result ≡ said p.now opening phrase }
 {

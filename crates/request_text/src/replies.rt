@@ -33,6 +33,7 @@ pub(crate) fn put_instant<R: Room>(into: &mut R, piece: &[u8], t: Instant)
     into.put(&write_civil(t));
 }
 
+/// Adds the answer to `event`, with its priority where the event was there.
 fn put_seen<R: Room>(into: &mut R, seen: Seen)
     requires { length (seen_text seen) ≤ (R.room into.old).spare }
     ensures { Puts (R.room into.old) (R.room into.new) (seen_text seen) }
@@ -65,6 +66,7 @@ fn refusal_parts(refusal: Refusal) -> (&'static [u8], Option<u32>)
     }
 }
 
+/// Adds the word of a refusal, with its number where it has one.
 fn put_refusal<R: Room>(into: &mut R, refusal: Refusal)
     requires { length (refusal_text refusal) ≤ (R.room into.old).spare }
     ensures { Puts (R.room into.old) (R.room into.new) (refusal_text refusal) }
@@ -115,6 +117,7 @@ fn put_start<R: Room>(into: &mut R, p: &Policy, piece: &[u8], start: RoleId)
     into.put(p.role_name(start).bytes());
 }
 
+/// Adds the juniors of a walk's edges, each with `>` before it.
 fn put_juniors<R: Room>(into: &mut R, p: &Policy, edges: &[u32])
     requires edges { IsTrue (list_all (has_edge p.now.policy) edges.now) }
     requires room { length (flat_map (step_name p.now) edges.now) ≤ (R.room into.old).spare }
@@ -136,6 +139,7 @@ fn put_walk<R: Room>(into: &mut R, p: &Policy, piece: &[u8], walk: &Walk)
     put_juniors(into, p, walk.edges.as_slice());
 }
 
+/// Adds `deny shut` and the edge with this number, the first that is not usable.
 fn put_shut<R: Room>(into: &mut R, p: &Policy, n: u32)
     requires edge { IsTrue (has_edge p.now.policy n) }
     requires room { length (codes "deny shut " ++ edge_text p.now n) ≤ (R.room into.old).spare }
@@ -148,6 +152,7 @@ fn put_shut<R: Room>(into: &mut R, p: &Policy, n: u32)
     into.put(p.role_name(edge.junior).bytes());
 }
 
+/// Adds the answer to `check`.
 fn put_decision<R: Room>(into: &mut R, p: &Policy, decision: &Decision)
     requires named { IsTrue (has_decision p.now.policy decision.now) }
     requires room { length (decision_text p.now decision.now) ≤ (R.room into.old).spare }
@@ -161,6 +166,7 @@ fn put_decision<R: Room>(into: &mut R, p: &Policy, decision: &Decision)
     }
 }
 
+/// Adds the answer to a question of yes or no.
 fn put_truth<R: Room>(into: &mut R, truth: bool)
     requires { length (yes_or_no truth) ≤ (R.room into.old).spare }
     ensures { Puts (R.room into.old) (R.room into.new) (yes_or_no truth) }
@@ -172,6 +178,7 @@ fn put_truth<R: Room>(into: &mut R, truth: bool)
     }
 }
 
+/// Adds `refused` and the refusal.
 fn put_refused<R: Room>(into: &mut R, refusal: Refusal)
     requires { length (codes "refused " ++ refusal_text refusal) ≤ (R.room into.old).spare }
     ensures { Puts (R.room into.old) (R.room into.new) (codes "refused " ++ refusal_text refusal) }

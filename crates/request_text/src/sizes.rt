@@ -25,6 +25,7 @@ fn small_prio(prio: Prio)
     let _ = prio.get();
 }
 
+/// What the priority in an answer to `event` keeps.
 fn small_seen(seen: Seen)
     ensures { IsSmallSeen seen }
 {
@@ -34,6 +35,7 @@ fn small_seen(seen: Seen)
     }
 }
 
+/// What the number in a refusal keeps, where it has one.
 fn small_refusal(refusal: Refusal)
     ensures { IsSmallRefusal refusal }
 {
@@ -53,6 +55,7 @@ fn small_refusal(refusal: Refusal)
     }
 }
 
+/// What the number of a session keeps.
 fn small_session(session: SessionId)
     ensures { session.0 < 2 ^ 32 }
 {

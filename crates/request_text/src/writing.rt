@@ -15,6 +15,7 @@ use itoa::Buffer;
 use policy_book::Policy;
 use std::alloc::Global;
 
+/// Adds a number in decimal; unlike `put_number` it takes the room for it.
 fn push_number(into: &mut List<u8>, n: u32) -> Result<(), Memory>
     ensures { OnOk result (into.new.items ≡ into.old.items ++ decimal n) }
 {
@@ -54,6 +55,7 @@ pub fn write_reply(alloc: Global, p: &Policy, r: &Reply) -> Result<List<u8>, Mem
     Ok(text)
 }
 
+/// Adds `W.C`: the worker from 0, its connection from 1.
 fn push_who(into: &mut List<u8>, who: Who) -> Result<(), Memory>
     ensures { OnOk result (into.new.items ≡ into.old.items ++ who_text who) }
 {
@@ -62,6 +64,7 @@ fn push_who(into: &mut List<u8>, who: Who) -> Result<(), Memory>
     push_number(into, who.conn)
 }
 
+/// Adds who asked; the operator and nobody are both told as `-`.
 fn push_actor(into: &mut List<u8>, p: &Policy, actor: Actor) -> Result<(), Memory>
     requires { IsTrue (has_actor p.now.policy actor) }
     ensures { OnOk result (into.new.items ≡ into.old.items ++ actor_text p.now actor) }
@@ -81,6 +84,7 @@ fn push_instant(into: &mut List<u8>, piece: &[u8], t: Instant) -> Result<(), Mem
     into.push_all(&write_civil(t))
 }
 
+/// Adds a tick: where it stopped, then its bound.
 fn push_tick(into: &mut List<u8>, who: Who, to: Instant, upto: Instant) -> Result<(), Memory>
     ensures { OnOk result (into.new.items ≡ into.old.items ++ tick_text who to upto) }
 {
@@ -150,6 +154,7 @@ fn push_line(alloc: Global, into: &mut List<u8>, p: &Policy, e: &Entry) -> Resul
     into.push_all(b"\n")
 }
 
+/// Adds the lines of entries, each with its line feed.
 fn push_entries(
     alloc: Global,
     into: &mut List<u8>,

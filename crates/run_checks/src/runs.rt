@@ -14,6 +14,7 @@ fn call(alloc: Global, failing: u32) -> Result<List<u64>, AllocError> {
     Ok(vec![in alloc; u64::from(failing)]?.into())
 }
 
+/// The shelf of a case: its policy as the file P, and the call that fails.
 fn shelf_of(alloc: Global, case: &Case) -> Result<MemShelf, AllocError> {
     let file = MemFile {
         name: b"P".to_vec(alloc)?.into(),

@@ -24,6 +24,7 @@ impl<M: Keeps> Model for Front<M> {
 }
 
 impl<M: Keeps> Front<M> {
+    /// The front of a value as it stands: its snapshot, and how many entries it keeps.
     pub(crate) fn of(value: &M) -> Front<M>
         ensures { result ≡ M.list value.now }
     {

@@ -6,6 +6,7 @@ use policy_book::cycle_of;
 use std::alloc::Global;
 use std::test::Fail;
 
+/// A weak edge that lends and allows.
 fn edge(senior: u32, junior: u32) -> HierEdge {
     HierEdge {
         senior: RoleId(senior),
@@ -16,6 +17,7 @@ fn edge(senior: u32, junior: u32) -> HierEdge {
     }
 }
 
+/// Whether all roles of the edges are below this number.
 fn are_within(roles: u32, edges: &[HierEdge]) -> bool
     ensures { result ≡ true → AreWithin roles edges.now }
 {

@@ -82,6 +82,7 @@ fn listed_cycle(g: &Graph) -> Option<(u32, Listed)> {
     None
 }
 
+/// Whether what was found is what the list of all walks begins with, or both are none.
 fn is_same_walk(g: &Graph, found: Option<Path>, listed: Option<Listed>) -> bool {
     match (found, listed) {
         (Some(path), Some(walk)) => {
@@ -105,6 +106,7 @@ fn climbs(g: &Graph, strata: &Strata) -> bool
     true
 }
 
+/// Whether a graph is judged as by the list of all walks: strata that climb, or its least cycle.
 fn is_judged(alloc: Global, g: &Graph) -> bool {
     match (judge(alloc, g), listed_cycle(g)) {
         (Ok(strata), None) => climbs(g, &strata),

@@ -8,6 +8,7 @@ use policy_safety::{NoLevels, levels};
 use std::alloc::{AllocError, Global};
 use std::test::Fail;
 
+/// The event that enables or disables a role.
 fn set(on: bool, role: u32) -> Event {
     Event {
         on,
@@ -15,6 +16,7 @@ fn set(on: bool, role: u32) -> Event {
     }
 }
 
+/// A trigger with one body event and no condition.
 fn when(
     alloc: Global,
     body: Event,
@@ -66,6 +68,7 @@ fn when_off(
     })
 }
 
+/// The triggers in this order, by which edges are numbered.
 fn two(alloc: Global, a: Trigger, b: Trigger) -> Result<List<Trigger>, AllocError>
     requires a { length a.events + length a.settled ≤ 16 }
     requires b { length b.events + length b.settled ≤ 16 }
@@ -78,10 +81,12 @@ fn two(alloc: Global, a: Trigger, b: Trigger) -> Result<List<Trigger>, AllocErro
     Ok(list)
 }
 
+/// How many edges, and the numbers of the first two.
 fn numbers(edges: &EdgeList) -> (usize, Option<u32>, Option<u32>) {
     (edges.len(), edges.get(0).copied(), edges.get(1).copied())
 }
 
+/// The least conflict cycle, by `numbers`; 0 edges where there is none, 99 for want of memory.
 fn cycle(alloc: Global, triggers: &List<Trigger>) -> (usize, Option<u32>, Option<u32>)
     requires { IsWithinLimits triggers.now.items }
 {
