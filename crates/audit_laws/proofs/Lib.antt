@@ -1,2 +1,6 @@
 pub mod Silent
 pub mod Foreign
+pub mod Answered
+pub mod Walking
+pub mod Denying
+pub mod Checked

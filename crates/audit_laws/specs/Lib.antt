@@ -1,1 +1,3 @@
 pub mod NoChange
+pub mod Walks
+pub mod Denials
