@@ -13,11 +13,10 @@ use Rattle.gtrbac_model.specs.Graph.{item_at, LeadsAlong}
 use Rattle.gtrbac_model.specs.Hierarchy.{usable, role_arcs, all_roles, permission_walk, permission_walk_of_any}
 use Rattle.gtrbac_model.specs.Same.{same_role, lists}
 use Rattle.gtrbac_model.specs.Decision.{decide}
-use Rattle.gtrbac_model.proofs.Elements.{Elem, any_elim, any_intro}
-use Rattle.walk_laws.proofs.Roles.{is_same_role, same_role_of}
+use Rattle.gtrbac_model.proofs.Elements.{Elem}
 use Rattle.history_laws.proofs.Members.{elem_of, is_in, of_filter}
 use Rattle.audit_laws.specs.Denials.{IsEdge, NoneLends, IsRightDenial, is_permit}
-use Rattle.audit_laws.proofs.Walking.{arc_edge, edge_arc, found, not_found}
+use Rattle.audit_laws.proofs.Walking.{arc_edge, edge_arc, listed, of_listed, found, not_found}
 
 -- the words of the decision, as the model has them
 abbrev is_usable_edge : Status → List HierEdge → ℕ → Bool
@@ -72,12 +71,6 @@ module _ (edges : List HierEdge) (s : Status) where
   module _ (perm : PermId) where
     abbrev Low : List RoleId → Type 0
     Low active = (r : RoleId) → Elem active r → r.0 < MAX_ROLES
-
-    listed : (active : List RoleId) (r : RoleId) → Elem active r → lists same_role active r ≡ true
-    listed active r there = any_intro (same_role r) active r there (same_role_of r r refl)
-
-    of_listed : (active : List RoleId) (r : RoleId) → lists same_role active r ≡ true → Elem active r
-    of_listed active r h = let (x, there, same) = any_elim (same_role r) active h in subst (λ x. Elem active x) (sym (is_same_role r x same)) there
 
     none_lends : (active : List RoleId) → Low active → permission_walk edges s active perm ≡ None → NoneLends edges s active perm (usable s true)
     none_lends active low none walk there lends =

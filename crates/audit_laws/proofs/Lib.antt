@@ -4,3 +4,5 @@ pub mod Answered
 pub mod Walking
 pub mod Denying
 pub mod Checked
+pub mod Earning
+pub mod Permitting

@@ -8,12 +8,12 @@ use Rattle.gt_base.specs.declared.limits.TheConstants.{MAX_ROLES}
 use Rattle.gt_base.specs.Held.{RoleWalk}
 use Rattle.gtrbac_model.specs.Graph.{Arc, Path, item_at, least_walk, LeadsAlong, IsLeastWalk}
 use Rattle.gtrbac_model.specs.Hierarchy.{role_arcs, all_roles, least_role_walk}
-use Rattle.gtrbac_model.specs.Same.{same_role}
-use Rattle.gtrbac_model.proofs.Elements.{Elem}
+use Rattle.gtrbac_model.specs.Same.{same_role, lists}
+use Rattle.gtrbac_model.proofs.Elements.{Elem, any_elim, any_intro}
 use Rattle.walk_laws.specs.Laws.{HasNoWalk}
 use Rattle.walk_laws.proofs.Computing.{least_walk_is}
 use Rattle.walk_laws.proofs.LeastCycle.{item_map, item_of_map}
-use Rattle.walk_laws.proofs.Roles.{tells_apart, one_role}
+use Rattle.walk_laws.proofs.Roles.{tells_apart, one_role, is_same_role, same_role_of}
 use Rattle.history_laws.proofs.Members.{clash, of_map, is_in}
 
 -- arcs and their edges
@@ -75,6 +75,14 @@ in_filter {A} test (y ∷ ys) x there passes = by (test y) refl there (λ k. in_
     by true e (inr k) on = inr (on k)
     by false e (inl same) on = absurd (clash (test x) passes (ap test same ∙ e))
     by false e (inr k) on = on k
+
+-- roles of a list
+
+pub listed : (active : List RoleId) (r : RoleId) → Elem active r → lists same_role active r ≡ true
+listed active r there = any_intro (same_role r) active r there (same_role_of r r refl)
+
+pub of_listed : (active : List RoleId) (r : RoleId) → lists same_role active r ≡ true → Elem active r
+of_listed active r h = let (x, there, same) = any_elim (same_role r) active h in subst (λ x. Elem active x) (sym (is_same_role r x same)) there
 
 -- the walk that the definitions compute
 

@@ -4,5 +4,5 @@
 mod decisions;
 mod no_change;
 
-pub use decisions::denials_are_right;
+pub use decisions::{denials_are_right, permits_are_earned};
 pub use no_change::{looks_change_nothing, nobody_acts_in_anothers};
