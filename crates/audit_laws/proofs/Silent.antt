@@ -1,0 +1,137 @@
+-- A request that is read for no table and queues nothing may be left out of a history.
+use Rattle.std.proofs.Common.{◌≡◌, ℕ, ◌-◌, ◌≤◌, ◌||◌, true, nat_lt, List, [], ◌∷◌, ◌++◌, refl, sym, ◌∙◌, ap, subst, append_assoc, if◌then◌else◌}
+use Rattle.gt_base.specs.Happening.{nothing}
+use Rattle.gt_base.specs.Machines.{asked}
+use Rattle.gt_base.specs.Sets.{set_of}
+use Rattle.gt_base.specs.declared.policies.HierEdge.{HierEdge}
+use Rattle.gt_base.specs.declared.policies.Caps.{Caps}
+use Rattle.gt_base.specs.declared.requests.Who.{Who}
+use Rattle.gt_base.specs.declared.requests.Actor.{Actor}
+use Rattle.gt_base.specs.declared.requests.Request.{Request}
+use Rattle.gt_base.specs.declared.requests.Request.TheVariants.{Now, Status, Seen, Raise, OpenSession, CloseSession, Activate, Deactivate, Active, Check}
+use Rattle.gt_base.specs.declared.requests.Reply.{Reply}
+use Rattle.gt_base.specs.declared.requests.Step.{Step}
+use Rattle.gt_base.specs.declared.requests.Step.TheVariants.{Tick, Ask}
+use Rattle.gt_base.specs.declared.requests.Entry.{Entry}
+use Rattle.gtrbac_model.specs.Policy.{Policy}
+use Rattle.gtrbac_model.specs.Conflict.{Status as StatusOf}
+use Rattle.gtrbac_model.specs.Instant.{Settled}
+use Rattle.gtrbac_model.specs.Status.{Model, since}
+use Rattle.gtrbac_model.specs.Sessions.{Table, applied, read_table, read_step, close_minutes, empty_table, drops}
+use Rattle.gtrbac_model.specs.Base.{status, periodic, requested, delayed, limited, queued_at, table_at}
+use Rattle.gtrbac_model.specs.Reply.{reply_of}
+use Rattle.gtrbac_model.specs.History.{Legal, AreLegalAfter, IsLegalStep, IsNextStop, is_some_item, stirs, now_of, moved, point_after}
+use Rattle.gtrbac_model.proofs.Append.{append-nil, requested-append}
+use Rattle.history_laws.specs.Histories.{TellSame}
+use Rattle.history_laws.proofs.Lasting.{steps_after, front_steps}
+use Rattle.audit_laws.specs.NoChange.{ChangesNothing, only_asks, LooksChangeNothing}
+
+-- a request that is read for no table and queues nothing
+pub record IsSilent (actor : Actor) (request : Request) (reply : Reply) : Type 0 where
+  pub leaves : (now : ℕ) (tb : Table) → applied now actor request reply tb ≡ tb
+  pub raises : (t : ℕ) → queued_at t request reply ≡ []
+
+-- histories that tell the same stir at the same instants, are answered from the same point, and allow the same steps
+module _ (p : Policy) (birth : ℕ) (m : Model) (h k : List Entry) (same : TellSame p birth m h k) where
+  stirs_same : stirs p birth m h ≡ stirs p birth m k
+  stirs_same =
+      λ i t. is_some_item (periodic p birth t ++ same.queues t i ++ delayed p birth m t ++ limited p (status p birth m (t - 1)) (λ f. since p birth m f (t - 1)) t)
+      || is_some_item ((same.tables (t - 1) i).signals)
+      || is_some_item (drops p.edges p.caps (status p birth m t) t (same.tables (t - 1) i))
+
+  point_same : point_after p birth m h ≡ point_after p birth m k
+  point_same =
+      let tables : table_at p birth m h (now_of birth h) ≡ table_at p birth m k (now_of birth k) = ap (table_at p birth m h) same.nows ∙ same.tables (now_of birth k) in
+      λ i. record {
+        now = same.nows i;
+        status = status p birth m (same.nows i);
+        set = if nat_lt birth (same.nows i) then m (same.nows i) else nothing;
+        table = tables i;
+      }
+
+  step_same : (w : Step) → IsLegalStep p birth m h w → IsLegalStep p birth m k w
+  step_same (Tick upto to) l = subst (λ f. IsNextStop f (now_of birth k) upto to) stirs_same (subst (λ n. IsNextStop (stirs p birth m h) n upto to) same.nows l)
+  step_same (Ask actor request reply) l = l ∙ ap (λ pt. reply_of p pt actor request) point_same
+
+joined : (p : Policy) (birth : ℕ) (m : Model) (g h hs : List Entry) → AreLegalAfter p birth m g h → AreLegalAfter p birth m (g ++ h) hs → AreLegalAfter p birth m g (h ++ hs)
+joined p birth m g [] hs a b = subst (λ k. AreLegalAfter p birth m k hs) (append-nil g) b
+joined p birth m g (e ∷ h) hs a b = (a.0, joined p birth m (g ++ e ∷ []) h hs a.1 (subst (λ k. AreLegalAfter p birth m k hs) (sym (append_assoc g (e ∷ []) h)) b))
+
+module _ (edges : List HierEdge) (caps : List Caps) (s : ℕ → StatusOf) (stop : ℕ) where
+  abbrev read : ℕ → Table → List Entry → Table
+  read now tb h = read_table edges caps s stop now tb h
+
+  step_on : (now : ℕ) (tb : Table) (w : Step) (go go' : ℕ → Table → Table) → ((l : ℕ) (tb : Table) → go l tb ≡ go' l tb) → read_step edges caps s stop now tb w go ≡ read_step edges caps s stop now tb w go'
+  step_on now tb (Tick upto to) go go' same =
+      λ i. if nat_lt stop to then close_minutes edges caps s now (stop - now) tb else same to (close_minutes edges caps s now (to - now) tb) i
+  step_on now tb (Ask actor request reply) go go' same = same now _
+
+module _ (who : Who) (actor : Actor) (request : Request) (reply : Reply) (silent : IsSilent actor request reply) where
+  abbrev it : Entry
+  it = asked who actor request reply
+
+  not_read : (edges : List HierEdge) (caps : List Caps) (s : ℕ → StatusOf) (stop : ℕ) (g h : List Entry) (now : ℕ) (tb : Table) → read edges caps s stop now tb (g ++ it ∷ h) ≡ read edges caps s stop now tb (g ++ h)
+  not_read edges caps s stop [] h now tb = ap (λ b. read edges caps s stop now b h) (silent.leaves now tb)
+  not_read edges caps s stop (e ∷ g) h now tb = step_on edges caps s stop now tb e.what _ _ (not_read edges caps s stop g h)
+
+  now_stays : (g h : List Entry) (now : ℕ) → now_of now (g ++ it ∷ h) ≡ now_of now (g ++ h)
+  now_stays [] h now = refl
+  now_stays (e ∷ g) h now = now_stays g h (moved now e.what)
+
+  module _ (p : Policy) (birth : ℕ) (m : Model) (g : List Entry) where
+    tell_same : (h : List Entry) → TellSame p birth m (g ++ it ∷ h) (g ++ h)
+    tell_same h =
+        record {
+          tables = tables;
+          queues = heads;
+          bases = λ t i. record {
+            events = set_of (periodic p birth t ++ heads t i ++ delayed p birth m t ++ limited p (status p birth m (t - 1)) (λ f. since p birth m f (t - 1)) t);
+            signals = set_of ((tables (t - 1) i).signals);
+          };
+          nows = now_stays g h birth;
+        }
+      where
+        tables : (t : ℕ) → table_at p birth m (g ++ it ∷ h) t ≡ table_at p birth m (g ++ h) t
+        tables t = not_read p.edges p.caps (status p birth m) t g h birth empty_table
+
+        heads : (t : ℕ) → requested (g ++ it ∷ h) t ≡ requested (g ++ h) t
+        heads t = requested-append g (it ∷ h) t ∙ ap (λ xs. requested g t ++ (xs ++ requested h t)) (silent.raises t) ∙ sym (requested-append g h t)
+
+    -- what is legal after entries with it is legal without it
+    without : (f h : List Entry) → AreLegalAfter p birth m (g ++ it ∷ f) h → AreLegalAfter p birth m (g ++ f) h
+    without f [] l = tt
+    without f (e ∷ h) l = (
+      step_same p birth m (g ++ it ∷ f) (g ++ f) (tell_same f) e.what l.0,
+      subst (λ k. AreLegalAfter p birth m k h) (sym (append_assoc g f (e ∷ [])))
+          (without (f ++ e ∷ []) h (subst (λ k. AreLegalAfter p birth m k h) (append_assoc g (it ∷ f) (e ∷ [])) l.1)),
+    )
+
+    legal_without : (h : List Entry) → Legal p birth (g ++ it ∷ h) m → Legal p birth (g ++ h) m
+    legal_without h legal =
+        let same : TellSame p birth m (g ++ it ∷ h) (g ++ h) = tell_same h in
+        let after_g : AreLegalAfter p birth m g (it ∷ h) = steps_after p birth m [] g (it ∷ h) legal.steps in
+        let rest : AreLegalAfter p birth m (g ++ []) h = without [] h after_g.1 in
+        record {
+          model = λ t after_birth le.
+              subst (λ b. Settled p.triggers b (status p birth m (t - 1)) (m t)) (same.bases t)
+              (legal.model t after_birth (subst (λ n. t ≤ n) (sym same.nows) le));
+          steps = joined p birth m [] g h (front_steps p birth m [] g (it ∷ h) legal.steps) (subst (λ k. AreLegalAfter p birth m k h) (append-nil g) rest);
+        }
+
+    pub changes_nothing : (h : List Entry) → ChangesNothing p birth m g it h
+    changes_nothing h = record { same = tell_same h; legal = legal_without h }
+
+look_is_silent : (actor : Actor) (request : Request) (reply : Reply) → only_asks request ≡ true → IsSilent actor request reply
+look_is_silent actor Now reply is = record { leaves = λ now tb. refl; raises = λ t. refl }
+look_is_silent actor (Status cond) reply is = record { leaves = λ now tb. refl; raises = λ t. refl }
+look_is_silent actor (Seen event) reply is = record { leaves = λ now tb. refl; raises = λ t. refl }
+look_is_silent actor (Active n r) reply is = record { leaves = λ now tb. refl; raises = λ t. refl }
+look_is_silent actor (Check n q) reply is = record { leaves = λ now tb. refl; raises = λ t. refl }
+look_is_silent actor (Raise head delay) reply is = cc
+look_is_silent actor OpenSession reply is = cc
+look_is_silent actor (CloseSession n) reply is = cc
+look_is_silent actor (Activate n r) reply is = cc
+look_is_silent actor (Deactivate n r) reply is = cc
+
+pub looks_change_nothing : LooksChangeNothing
+looks_change_nothing p birth m g h who actor request reply is = changes_nothing who actor request reply (look_is_silent actor request reply is) p birth m g h

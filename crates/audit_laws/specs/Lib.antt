@@ -1,0 +1,4 @@
+pub mod NoChange
+pub mod Walks
+pub mod Denials
+pub mod Permits

@@ -1,0 +1,8 @@
+//! Laws of legal histories that an auditor asks for.
+#![tactic(auto)]
+
+mod decisions;
+mod no_change;
+
+pub use decisions::{denials_are_right, permits_are_earned};
+pub use no_change::{looks_change_nothing, nobody_acts_in_anothers};
