@@ -1,5 +1,5 @@
 -- What an answer that is no refusal tells of its causes.
-use Rattle.std.proofs.Common.{◌≡◌, Bool, true, false, inl, inr, List, [], ◌∷◌, ap}
+use Rattle.std.proofs.Common.{◌≡◌, Bool, true, false, inl, inr, List, [], ◌∷◌, refl, ap}
 use Rattle.gt_base.specs.declared.requests.Refusal.{Refusal}
 use Rattle.gt_base.specs.declared.requests.Reply.{Reply}
 use Rattle.gt_base.specs.declared.requests.Reply.TheVariants.{Refused}
@@ -20,3 +20,10 @@ passed ((true, why) ∷ cs) reply answer ok e = let h : is_refused reply ≡ tru
 passed ((false, why) ∷ cs) reply answer ok e =
     let rest = passed cs reply answer ok e in
     record { is = rest.is; none = λ c m. elim m [ inl same ↦ ap (λ d. d.0) same | inr k ↦ rest.none c k ] }
+
+-- of the first cause, and of the second
+pub first_is : {c : Bool × Refusal} {cs : List (Bool × Refusal)} {reply answer : Reply} → IsPassed (c ∷ cs) reply answer → c.0 ≡ false
+first_is {c} ok = ok.none c (inl refl)
+
+pub second_is : {b c : Bool × Refusal} {cs : List (Bool × Refusal)} {reply answer : Reply} → IsPassed (b ∷ c ∷ cs) reply answer → c.0 ≡ false
+second_is {c = c} ok = ok.none c (inr (inl refl))

@@ -6,3 +6,5 @@ pub mod Denying
 pub mod Checked
 pub mod Earning
 pub mod Permitting
+pub mod Causing
+pub mod Turned

@@ -12,8 +12,6 @@ use Rattle.gt_base.specs.declared.requests.Actor.{Actor}
 use Rattle.gt_base.specs.declared.requests.Actor.TheVariants.{User, Operator, Nobody}
 use Rattle.gt_base.specs.declared.requests.Decision.{Decision}
 use Rattle.gt_base.specs.declared.requests.Decision.TheVariants.{Permit, NoGrant, Shut}
-use Rattle.gt_base.specs.declared.requests.Refusal.{Refusal}
-use Rattle.gt_base.specs.declared.requests.Reply.{Reply}
 use Rattle.gt_base.specs.declared.requests.Request.TheVariants.{Check}
 use Rattle.gt_base.specs.declared.requests.Reply.TheVariants.{Decided}
 use Rattle.gt_base.specs.declared.requests.Entry.{Entry}
@@ -32,7 +30,7 @@ use Rattle.history_laws.proofs.Members.{elem_of, is_in, of_map, of_filter}
 use Rattle.history_laws.proofs.InOrder.{active_in_order}
 use Rattle.history_laws.proofs.Lasting.{steps_after}
 use Rattle.audit_laws.specs.Permits.{PermitsAreEarned}
-use Rattle.audit_laws.proofs.Answered.{IsPassed}
+use Rattle.audit_laws.proofs.Answered.{first_is, second_is}
 use Rattle.audit_laws.proofs.Checked.{IsChecked, checked}
 use Rattle.audit_laws.proofs.Earning.{legal_front, earned}
 use Rattle.audit_laws.proofs.Walking.{of_listed, found}
@@ -47,12 +45,6 @@ is_foreign _ _ = false
 abbrev is_nobody : Actor → Bool
 is_nobody Nobody = true
 is_nobody _ = false
-
-first_is : {c : Bool × Refusal} {cs : List (Bool × Refusal)} {reply answer : Reply} → IsPassed (c ∷ cs) reply answer → c.0 ≡ false
-first_is {c} ok = ok.none c (inl refl)
-
-second_is : {b c : Bool × Refusal} {cs : List (Bool × Refusal)} {reply answer : Reply} → IsPassed (b ∷ c ∷ cs) reply answer → c.0 ≡ false
-second_is {c = c} ok = ok.none c (inr (inl refl))
 
 one_user : (a b : UserId) → not (same_user a b) ≡ false → b ≡ a
 one_user a b e = λ i. record { 0 = sym (eqb-true a.0 b.0 (is_true (same_user a b) e)) i }

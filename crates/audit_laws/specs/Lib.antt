@@ -2,3 +2,4 @@ pub mod NoChange
 pub mod Walks
 pub mod Denials
 pub mod Permits
+pub mod Turning
