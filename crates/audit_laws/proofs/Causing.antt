@@ -1,5 +1,5 @@
 -- Each event of a set has its cause: it is raised from outside the set, or a trigger met in it adds it.
-use Rattle.std.proofs.Common.{◌≡◌, ℕ, suc, ◌+◌, ◌-◌, ◌<◌, Bool, true, false, not, nat_eq, nat_lt, ◌&&◌, inl, inr, List, [], ◌∷◌, ◌++◌, flat_map, Some, refl, sym, ◌∙◌, ap, subst, arith, append_assoc, if◌then◌else◌}
+use Rattle.std.proofs.Common.{◌≡◌, ℕ, suc, ◌+◌, ◌-◌, ◌<◌, Bool, true, false, nat_eq, nat_lt, ◌&&◌, inl, inr, List, [], ◌∷◌, ◌++◌, flat_map, Some, refl, sym, ◌∙◌, ap, subst, arith, append_assoc, if◌then◌else◌}
 use Rattle.std.proofs.lemmas.Bool.{eqb-true, ltb-true}
 use Rattle.std.specs.List.{list_all}
 use Rattle.gt_base.specs.declared.events.Fluent.{Fluent}
@@ -33,6 +33,7 @@ use Rattle.gtrbac_model.specs.History.{Legal, AreLegalAfter, IsLegalStep, point_
 use Rattle.gtrbac_model.proofs.Elements.{Elem, both_true, either_true, any_elim, equal_by, elem_of_set_of}
 use Rattle.history_laws.proofs.Members.{is_in, of_join}
 use Rattle.audit_laws.specs.Turning.{ByEntry, ByLimit, ByTrigger, ByRequest, HasCause, EachHasCause}
+use Rattle.audit_laws.proofs.Activating.{is_true}
 use Rattle.audit_laws.proofs.Answered.{passed, first_is}
 
 flat_elem : {A B : Type 0} (f : A → List B) (xs : List A) (y : B) → Elem (flat_map f xs) y → (x : A) × Elem xs x × Elem (f x) y
@@ -64,10 +65,6 @@ is_asked t o _ _ there = elim there [ ]
 abbrev due_in : ℕ → Reply → ℕ
 due_in n (Queued t) = t
 due_in n _ = n
-
-is_true : (b : Bool) → not b ≡ false → b ≡ true
-is_true true e = refl
-is_true false e = cc
 
 -- who was told that an event is queued may ask for it
 queued : (p : Policy) (pt : Point) (actor : Actor) (o : Prioritised) (delay t : ℕ) → Queued t ≡ reply_of p pt actor (Raise o delay) → (is_admin p actor ≡ true) × (t ≡ pt.now + 1 + delay)

@@ -18,10 +18,10 @@ use Rattle.gtrbac_model.specs.Sessions.{owner_of}
 use Rattle.gtrbac_model.specs.Reply.{Point, unless, session_causes, reply_of}
 use Rattle.gtrbac_model.specs.History.{AreLegalAfter, point_after}
 use Rattle.gtrbac_model.proofs.Elements.{split}
-use Rattle.history_laws.proofs.Refusing.{refused_changes_nothing}
-use Rattle.history_laws.proofs.Leaving.{legal_without_refused}
+use Rattle.history_laws.proofs.Refusing.{refused_leaves, refused_raises}
 use Rattle.history_laws.proofs.Lasting.{steps_after}
 use Rattle.audit_laws.specs.NoChange.{ChangesNothing, session_of, NobodyActsInAnothers}
+use Rattle.audit_laws.proofs.Silent.{changes_nothing}
 
 -- users of one number are one
 other_number : (a b : UserId) → a ≢ b → same_user a b ≡ false
@@ -54,5 +54,5 @@ nobody_acts_in_anothers p birth m g h who u request reply legal is =
     record {
       refused = away;
       nothing = subst (λ r. ChangesNothing p birth m g (asked who (User u) request r) h) (sym away)
-          (record { same = refused_changes_nothing p birth m g h who (User u) request NotYours; legal = legal_without_refused p birth m g h who (User u) request NotYours });
+          (changes_nothing who (User u) request (Refused NotYours) (record { leaves = λ now tb. refused_leaves now (User u) request NotYours tb; raises = λ t. refused_raises t request NotYours }) p birth m g h);
     }

@@ -3,6 +3,7 @@ pub mod Foreign
 pub mod Answered
 pub mod Walking
 pub mod Denying
+pub mod Activating
 pub mod Checked
 pub mod Earning
 pub mod Permitting

@@ -1,5 +1,5 @@
 -- A permit stands on an open session, an activation that is earned, and a walk that lends now.
-use Rattle.std.proofs.Common.{◌≡◌, ◌⊎◌, ℕ, Bool, true, false, not, inl, inr, List, [], ◌∷◌, filter, Option, Some, None, is_none, refl, sym, ◌∙◌, ap}
+use Rattle.std.proofs.Common.{◌≡◌, ℕ, true, false, List, [], ◌∷◌, filter, Option, Some, None, is_none, refl, sym, ◌∙◌, ap}
 use Rattle.std.proofs.lemmas.Bool.{eqb-true}
 use Rattle.std.specs.Option.{unwrap_or}
 use Rattle.gt_base.specs.declared.events.RoleId.{RoleId}
@@ -8,8 +8,6 @@ use Rattle.gt_base.specs.declared.events.SessionId.{SessionId}
 use Rattle.gt_base.specs.declared.events.PermId.{PermId}
 use Rattle.gt_base.specs.declared.events.Fluent.TheVariants.{Granted}
 use Rattle.gt_base.specs.declared.policies.HierEdge.{HierEdge}
-use Rattle.gt_base.specs.declared.requests.Actor.{Actor}
-use Rattle.gt_base.specs.declared.requests.Actor.TheVariants.{User, Operator, Nobody}
 use Rattle.gt_base.specs.declared.requests.Decision.{Decision}
 use Rattle.gt_base.specs.declared.requests.Decision.TheVariants.{Permit, NoGrant, Shut}
 use Rattle.gt_base.specs.declared.requests.Request.TheVariants.{Check}
@@ -18,7 +16,7 @@ use Rattle.gt_base.specs.declared.requests.Entry.{Entry}
 use Rattle.gt_base.specs.Held.{RoleWalk}
 use Rattle.gt_base.specs.Machines.{asked}
 use Rattle.gtrbac_model.specs.Conflict.{Status}
-use Rattle.gtrbac_model.specs.Same.{same_role, same_user, same_session, lists}
+use Rattle.gtrbac_model.specs.Same.{same_role, same_session, lists}
 use Rattle.gtrbac_model.specs.Hierarchy.{usable, all_roles, permission_walk, permission_walk_of_any}
 use Rattle.gtrbac_model.specs.Sessions.{Activation, owner_of}
 use Rattle.gtrbac_model.specs.Decision.{decide}
@@ -30,33 +28,11 @@ use Rattle.history_laws.proofs.Members.{elem_of, is_in, of_map, of_filter}
 use Rattle.history_laws.proofs.InOrder.{active_in_order}
 use Rattle.history_laws.proofs.Lasting.{steps_after}
 use Rattle.audit_laws.specs.Permits.{PermitsAreEarned}
+use Rattle.audit_laws.proofs.Activating.{asker}
 use Rattle.audit_laws.proofs.Answered.{first_is, second_is}
 use Rattle.audit_laws.proofs.Checked.{IsChecked, checked}
 use Rattle.audit_laws.proofs.Earning.{legal_front, earned}
 use Rattle.audit_laws.proofs.Walking.{of_listed, found}
-
--- who may ask
-
--- a user other than the owner, as the model has it
-abbrev is_foreign : Option UserId → Actor → Bool
-is_foreign (Some owner) (User u) = not (same_user owner u)
-is_foreign _ _ = false
-
-abbrev is_nobody : Actor → Bool
-is_nobody Nobody = true
-is_nobody _ = false
-
-one_user : (a b : UserId) → not (same_user a b) ≡ false → b ≡ a
-one_user a b e = λ i. record { 0 = sym (eqb-true a.0 b.0 (is_true (same_user a b) e)) i }
-  where
-    is_true : (b : Bool) → not b ≡ false → b ≡ true
-    is_true true e = refl
-    is_true false e = cc
-
-asker : (owner : UserId) (actor : Actor) → is_nobody actor ≡ false → is_foreign (Some owner) actor ≡ false → (actor ≡ User owner) ⊎ (actor ≡ Operator)
-asker owner (User u) somebody own = inl (ap User (one_user owner u own))
-asker owner Operator somebody own = inr refl
-asker owner Nobody somebody own = cc
 
 owned : (o : Option UserId) → is_none o ≡ false → (u : UserId) × (o ≡ Some u)
 owned None e = cc
@@ -102,7 +78,7 @@ permits_are_earned p birth m g h who actor n perm walk legal =
     record {
       owner = owner;
       is_open = is_open;
-      may_ask = asker owner actor (first_is c.actor_passes) (ap (λ o. is_foreign o actor) (sym is_open) ∙ second_is c.session_passes);
+      may_ask = asker (owner_of pt.table n) owner actor is_open (first_is c.actor_passes) (second_is c.session_passes);
       activation = a;
       is_active = is_in pt.table.active a is_active;
       of_session = same;

@@ -15,15 +15,18 @@ use Rattle.gt_base.specs.Machines.{asked}
 use Rattle.gtrbac_model.specs.Policy.{Policy}
 use Rattle.gtrbac_model.specs.Status.{Model}
 use Rattle.gtrbac_model.specs.Sessions.{Table, owner_of}
-use Rattle.gtrbac_model.specs.History.{Legal, point_after}
+use Rattle.gtrbac_model.specs.History.{Legal, IsLegalStep, point_after}
 use Rattle.history_laws.specs.Histories.{TellSame}
 
 -- with and without the entry between these a history has the same tables, queues and bases at each
--- instant, and it is legal without it where it is legal with it
+-- instant, and where it is legal with the entry it is legal without it; where it is legal without
+-- the entry it is legal with it, if the entry is what its step must find there
 pub record ChangesNothing (p : Policy) (birth : ℕ) (m : Model) (g : List Entry) (e : Entry)
     (h : List Entry) : Type 0 where
   pub same : TellSame p birth m (g ++ e ∷ h) (g ++ h)
-  pub legal : Legal p birth (g ++ e ∷ h) m → Legal p birth (g ++ h) m
+  pub without : Legal p birth (g ++ e ∷ h) m → Legal p birth (g ++ h) m
+  pub within : IsLegalStep p birth m g e.what → Legal p birth (g ++ h) m
+      → Legal p birth (g ++ e ∷ h) m
 
 -- the instant, a condition, an event of now, an active role, a permission
 abbrev pub only_asks : Request → Bool

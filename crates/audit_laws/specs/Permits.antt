@@ -1,5 +1,5 @@
 -- Permits: each is earned by an activation that was answered for, and allowed ever since.
-use Rattle.std.specs.Prelude.{◌≡◌, ◌⊎◌, ℕ, ◌≤◌, true, false, List, ◌∷◌, ◌++◌, Some, IsTrue}
+use Rattle.std.specs.Prelude.{◌≡◌, ◌⊎◌, ℕ, ◌<◌, ◌≤◌, true, false, List, ◌∷◌, ◌++◌, Some, IsTrue}
 use Rattle.gt_base.specs.declared.events.RoleId.{RoleId}
 use Rattle.gt_base.specs.declared.events.UserId.{UserId}
 use Rattle.gt_base.specs.declared.events.SessionId.{SessionId}
@@ -25,15 +25,19 @@ use Rattle.gtrbac_model.specs.History.{Legal, now_of, point_after}
 use Rattle.history_laws.specs.Activations.{IsIn}
 use Rattle.audit_laws.specs.Walks.{Lends}
 
--- the role is on, and by usable edges a walk leads to it from a role to which the user is assigned
-pub record IsAllowed (p : Policy) (s : Status) (u : UserId) (r : RoleId) : Type 0 where
+-- the role is on, and by usable edges the walk leads to it from a role to which the user is assigned
+pub record Allows (p : Policy) (s : Status) (u : UserId) (r : RoleId) (walk : RoleWalk)
+    : Type 0 where
   pub is_on : IsTrue (s (Enabled r))
-  pub walk : RoleWalk
   pub assigned : IsTrue (s (Assigned u walk.start))
   pub leads : LeadsAlong (role_arcs (usable s false) p.edges) walk.start walk.edges r
 
--- a request of the history began the activation: it was answered with a walk, and from then on up
--- to now the activation was allowed, at the request and at each close
+-- the user asks, or the operator
+abbrev pub MayAsk : UserId → Actor → Type 0
+MayAsk u actor = (actor ≡ User u) ⊎ (actor ≡ Operator)
+
+-- a request of the history began the activation: its user or the operator asked, it was answered
+-- with a walk that allowed it then, and some walk allowed it at each close since then
 pub record IsEarned (p : Policy) (birth : ℕ) (m : Model) (h : List Entry) (a : Activation)
     : Type 0 where
   pub front : List Entry
@@ -43,8 +47,10 @@ pub record IsEarned (p : Policy) (birth : ℕ) (m : Model) (h : List Entry) (a :
   pub walk : RoleWalk
   pub is_part : front ++ asked who actor (Activate a.session a.role) (Active walk) ∷ rest ≡ h
   pub begun : now_of birth front ≡ a.begun
-  pub since : (t : ℕ) → a.begun ≤ t → t ≤ now_of birth h
-      → IsAllowed p (status p birth m t) a.user a.role
+  pub may_ask : MayAsk a.user actor
+  pub at_first : Allows p (status p birth m a.begun) a.user a.role walk
+  pub since : (t : ℕ) → a.begun < t → t ≤ now_of birth h
+      → (w : RoleWalk) × Allows p (status p birth m t) a.user a.role w
 
 -- the session is open, and the asker's or the operator asks; one of its activations is earned; and
 -- by edges that are usable now the walk leads from that role to one to which the permission is
@@ -53,7 +59,7 @@ pub record IsRightPermit (p : Policy) (birth : ℕ) (m : Model) (h : List Entry)
     (n : SessionId) (perm : PermId) (walk : RoleWalk) : Type 0 where
   pub owner : UserId
   pub is_open : owner_of (point_after p birth m h).table n ≡ Some owner
-  pub may_ask : (actor ≡ User owner) ⊎ (actor ≡ Operator)
+  pub may_ask : MayAsk owner actor
   pub activation : Activation
   pub is_active : IsIn (point_after p birth m h).table.active activation
   pub of_session : activation.session ≡ n

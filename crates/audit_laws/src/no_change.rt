@@ -2,7 +2,7 @@
 ghost use Rattle.audit_laws.specs.NoChange.{LooksChangeNothing, NobodyActsInAnothers};
 
 /// With or without a request that only asks a history has the same tables, queues and bases at each
-/// instant, and it is legal without it where it is legal with it.
+/// instant, and stays legal.
 pub fn looks_change_nothing()
     ensures { LooksChangeNothing }
 {}
