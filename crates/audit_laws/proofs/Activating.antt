@@ -1,13 +1,11 @@
--- What an answered activation tells: who asked, and that the walk of the answer allowed it.
+-- What an answered activation tells: that the walk of the answer allowed it.
 use Rattle.std.proofs.Common.{◌≡◌, Bool, true, false, not, inl, inr, count_by, List, [], ◌∷◌, ◌++◌, filter, Option, Some, None, refl, sym, ◌∙◌, ap, subst}
-use Rattle.std.proofs.lemmas.Bool.{eqb-true}
 use Rattle.std.specs.List.{list_any}
 use Rattle.gt_base.specs.declared.events.RoleId.{RoleId}
 use Rattle.gt_base.specs.declared.events.UserId.{UserId}
 use Rattle.gt_base.specs.declared.events.SessionId.{SessionId}
 use Rattle.gt_base.specs.declared.events.Fluent.TheVariants.{Enabled, Assigned}
 use Rattle.gt_base.specs.declared.requests.Actor.{Actor}
-use Rattle.gt_base.specs.declared.requests.Actor.TheVariants.{User, Operator, Nobody}
 use Rattle.gt_base.specs.declared.requests.Refusal.{Refusal}
 use Rattle.gt_base.specs.declared.requests.Refusal.TheVariants.{Already, Disabled, NotAssigned, RoleFull, UserFull, DaySpent}
 use Rattle.gt_base.specs.declared.requests.Request.TheVariants.{Activate}
@@ -16,7 +14,7 @@ use Rattle.gt_base.specs.declared.requests.Reply.TheVariants.{Active, Refused}
 use Rattle.gt_base.specs.Held.{RoleWalk}
 use Rattle.gtrbac_model.specs.Policy.{Policy}
 use Rattle.gtrbac_model.specs.Conflict.{Status}
-use Rattle.gtrbac_model.specs.Same.{same_role, same_user}
+use Rattle.gtrbac_model.specs.Same.{same_role}
 use Rattle.gtrbac_model.specs.Calendar.{day_of}
 use Rattle.gtrbac_model.specs.Graph.{LeadsAlong}
 use Rattle.gtrbac_model.specs.Hierarchy.{usable, role_arcs, all_roles, activation_walk}
@@ -24,35 +22,13 @@ use Rattle.gtrbac_model.specs.Sessions.{owner_of, reached, caps_of, is_of, is_ac
 use Rattle.gtrbac_model.specs.Reply.{Point, unless, actor_causes, session_causes, answer, reply_of}
 use Rattle.walk_laws.proofs.Roles.{is_same_role}
 use Rattle.history_laws.proofs.Members.{elem_of, of_filter}
-use Rattle.audit_laws.specs.Permits.{Allows, MayAsk}
-use Rattle.audit_laws.proofs.Answered.{IsPassed, passed, first_is, second_is}
+use Rattle.audit_laws.specs.Permits.{Allows}
+use Rattle.audit_laws.proofs.Answered.{IsPassed, passed}
 use Rattle.audit_laws.proofs.Walking.{found}
-
--- who may ask
-
--- a user other than the owner, as the model has it
-abbrev pub is_foreign : Option UserId → Actor → Bool
-is_foreign (Some owner) (User u) = not (same_user owner u)
-is_foreign _ _ = false
-
-abbrev pub is_nobody : Actor → Bool
-is_nobody Nobody = true
-is_nobody _ = false
 
 pub is_true : (b : Bool) → not b ≡ false → b ≡ true
 is_true true e = refl
 is_true false e = cc
-
-one_user : (a b : UserId) → not (same_user a b) ≡ false → b ≡ a
-one_user a b e = λ i. record { 0 = sym (eqb-true a.0 b.0 (is_true (same_user a b) e)) i }
-
-asker_of : (owner : UserId) (actor : Actor) → is_nobody actor ≡ false → is_foreign (Some owner) actor ≡ false → MayAsk owner actor
-asker_of owner (User u) somebody own = inl (ap User (one_user owner u own))
-asker_of owner Operator somebody own = inr refl
-asker_of owner Nobody somebody own = cc
-
-pub asker : (o : Option UserId) (owner : UserId) (actor : Actor) → o ≡ Some owner → is_nobody actor ≡ false → is_foreign o actor ≡ false → MayAsk owner actor
-asker o owner actor is somebody own = asker_of owner actor somebody (ap (λ o. is_foreign o actor) (sym is) ∙ own)
 
 -- by the walk of the definitions
 
@@ -62,10 +38,6 @@ allowed_by p s u r w is on =
     let (was, assigned) = of_filter (λ q. s (Assigned u q)) all_roles w.start (elem_of (filter (λ q. s (Assigned u q)) all_roles) w.start (least.place, least.is_walk.from_start)) in
     let at : r ≡ least.is_walk.end = is_same_role r least.is_walk.end least.is_walk.reaches in
     record { is_on = on; assigned = assigned; leads = subst (λ q. LeadsAlong (role_arcs (usable s false) p.edges) w.start w.edges q) (sym at) least.is_walk.leads }
-
-pub record IsActivated (p : Policy) (s : Status) (u : UserId) (r : RoleId) (actor : Actor) (walk : RoleWalk) : Type 0 where
-  pub may_ask : MayAsk u actor
-  pub allows : Allows p s u r walk
 
 abbrev walk_in : RoleWalk → Reply → RoleWalk
 walk_in v (Active w) = w
@@ -90,19 +62,16 @@ module _ (p : Policy) (pt : Point) (actor : Actor) (n : SessionId) (r : RoleId) 
   by_none : activation_walk p.edges pt.status u r ≡ None → answer p pt actor (Activate n r) ≡ unless (causes true) (Refused NotAssigned)
   by_none none = rw owner (rw none (rw owner refl))
 
-  pub activated : (w : RoleWalk) → Active w ≡ reply_of p pt actor (Activate n r) → IsActivated p pt.status u r actor w
+  pub activated : (w : RoleWalk) → Active w ≡ reply_of p pt actor (Activate n r) → Allows p pt.status u r w
   activated w e = by (activation_walk p.edges pt.status u r) refl first.is
     where
       first : IsPassed (actor_causes actor) (Active w) (answer p pt actor (Activate n r))
       first = passed (actor_causes actor) (Active w) (answer p pt actor (Activate n r)) refl e
 
-      by : (o : Option RoleWalk) → activation_walk p.edges pt.status u r ≡ o → Active w ≡ answer p pt actor (Activate n r) → IsActivated p pt.status u r actor w
+      by : (o : Option RoleWalk) → activation_walk p.edges pt.status u r ≡ o → Active w ≡ answer p pt actor (Activate n r) → Allows p pt.status u r w
       by (Some v) walk a =
           let c : IsPassed (causes false) (Active w) (Active v) = passed (causes false) (Active w) (Active v) refl (a ∙ by_walk_of v walk) in
           let same : w ≡ v = ap (walk_in v) c.is in
           let on : pt.status (Enabled r) ≡ true = is_true (pt.status (Enabled r)) (c.none (not (pt.status (Enabled r)), Disabled) (inr (inr (inr (inl refl))))) in
-          record {
-            may_ask = asker (owner_of pt.table n) u actor owner (first_is first) (second_is c);
-            allows = allowed_by p pt.status u r w (walk ∙ ap Some (sym same)) on;
-          }
+          allowed_by p pt.status u r w (walk ∙ ap Some (sym same)) on
       by None walk a = let c = passed (causes true) (Active w) (Refused NotAssigned) refl (a ∙ by_none walk) in let same : Active w ≡ Refused NotAssigned = c.is in cc

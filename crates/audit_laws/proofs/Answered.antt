@@ -2,13 +2,9 @@
 use Rattle.std.proofs.Common.{◌≡◌, Bool, true, false, inl, inr, List, [], ◌∷◌, refl, ap}
 use Rattle.gt_base.specs.declared.requests.Refusal.{Refusal}
 use Rattle.gt_base.specs.declared.requests.Reply.{Reply}
-use Rattle.gt_base.specs.declared.requests.Reply.TheVariants.{Refused}
 use Rattle.gtrbac_model.specs.Reply.{unless}
 use Rattle.gtrbac_model.proofs.Elements.{Elem}
-
-abbrev pub is_refused : Reply → Bool
-is_refused (Refused why) = true
-is_refused _ = false
+use Rattle.audit_laws.specs.Owners.{is_refused}
 
 pub record IsPassed (cs : List (Bool × Refusal)) (reply answer : Reply) : Type 0 where
   pub is : reply ≡ answer
@@ -21,9 +17,5 @@ passed ((false, why) ∷ cs) reply answer ok e =
     let rest = passed cs reply answer ok e in
     record { is = rest.is; none = λ c m. elim m [ inl same ↦ ap (λ d. d.0) same | inr k ↦ rest.none c k ] }
 
--- of the first cause, and of the second
 pub first_is : {c : Bool × Refusal} {cs : List (Bool × Refusal)} {reply answer : Reply} → IsPassed (c ∷ cs) reply answer → c.0 ≡ false
 first_is {c} ok = ok.none c (inl refl)
-
-pub second_is : {b c : Bool × Refusal} {cs : List (Bool × Refusal)} {reply answer : Reply} → IsPassed (b ∷ c ∷ cs) reply answer → c.0 ≡ false
-second_is {c = c} ok = ok.none c (inr (inl refl))

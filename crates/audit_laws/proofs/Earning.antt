@@ -1,6 +1,7 @@
 -- Each activation of a legal history was begun by an answered request, and was allowed ever since.
 use Rattle.std.proofs.Common.{◌≡◌, ℕ, suc, ◌-◌, ◌<◌, ◌≤◌, nat_le, Bool, true, false, not, ◌||◌, ◌⊎◌, inl, inr, List, [], ◌∷◌, ◌++◌, Option, Some, None, is_none, refl, sym, ◌∙◌, ap, subst, arith}
 use Rattle.std.proofs.lemmas.Bool.{leb-true, leb-false}
+use Rattle.std.specs.Option.{unwrap_or}
 use Rattle.gt_base.specs.declared.events.RoleId.{RoleId}
 use Rattle.gt_base.specs.declared.events.UserId.{UserId}
 use Rattle.gt_base.specs.declared.events.Fluent.TheVariants.{Enabled}
@@ -30,8 +31,10 @@ use Rattle.history_laws.proofs.Members.{of_join, of_filter}
 use Rattle.history_laws.proofs.Applying.{begun_by, active_some, active_none}
 use Rattle.history_laws.proofs.Lasting.{front_steps, of_longer}
 use Rattle.history_laws.proofs.Reading.{along}
-use Rattle.audit_laws.specs.Permits.{Allows, MayAsk, IsEarned}
-use Rattle.audit_laws.proofs.Activating.{allowed_by, IsActivated, activated}
+use Rattle.audit_laws.specs.Owners.{MayAsk, IsOwn}
+use Rattle.audit_laws.specs.Permits.{Allows, IsEarned}
+use Rattle.audit_laws.proofs.Owning.{own}
+use Rattle.audit_laws.proofs.Activating.{allowed_by, activated}
 
 abbrev IsAllowed : Policy → Status → UserId → RoleId → Type 0
 IsAllowed p s u r = (w : RoleWalk) × Allows p s u r w
@@ -130,7 +133,8 @@ module _ (p : Policy) (birth : ℕ) (m : Model) (h : List Entry) (legal : Legal 
             let now : ℕ = now_of birth g in
             let told : Active b.walk ≡ reply_of p (point_after p birth m g) actor (Activate a.session a.role) = sym b.answered ∙ answered ∙ ap (reply_of p (point_after p birth m g) actor) b.asked_so in
             let owner : owner_of (table_at p birth m g now) a.session ≡ Some a.user = ap (λ b. owner_of b a.session) at_now ∙ b.owned in
-            let done : IsActivated p (status p birth m now) a.user a.role actor b.walk = activated p (point_after p birth m g) actor a.session a.role a.user owner b.walk told in
+            let done : Allows p (status p birth m now) a.user a.role b.walk = activated p (point_after p birth m g) actor a.session a.role a.user owner b.walk told in
+            let by : IsOwn (table_at p birth m g now) actor a.session = own p (point_after p birth m g) a.session actor (Activate a.session a.role) (Active b.walk) (owner_of (table_at p birth m g now) a.session) refl refl refl told in
             record {
               front = g;
               rest = rest;
@@ -139,8 +143,8 @@ module _ (p : Policy) (birth : ℕ) (m : Model) (h : List Entry) (legal : Legal 
               walk = b.walk;
               is_part = (λ i. g ++ asked who actor (sym b.asked_so i) (sym b.answered i) ∷ rest) ∙ is;
               begun = sym b.at_now;
-              may_ask = done.may_ask;
-              at_first = subst (λ u. Allows p (status p birth m u) a.user a.role b.walk) (sym b.at_now) done.allows;
+              may_ask = subst (λ v. MayAsk v actor) (ap (λ o. unwrap_or o a.user) (sym by.is_open ∙ owner)) by.may_ask;
+              at_first = subst (λ u. Allows p (status p birth m u) a.user a.role b.walk) (sym b.at_now) done;
               since = λ u from le. absurd (never u now a.begun b.at_now from le);
             }
       ]

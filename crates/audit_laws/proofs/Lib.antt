@@ -1,5 +1,5 @@
 pub mod Silent
-pub mod Foreign
+pub mod Owning
 pub mod Answered
 pub mod Walking
 pub mod Denying

@@ -1,4 +1,5 @@
 pub mod NoChange
+pub mod Owners
 pub mod Walks
 pub mod Denials
 pub mod Permits
