@@ -22,7 +22,7 @@ use Rattle.gtrbac_model.specs.Sessions.{owner_of, reached, caps_of, is_of, is_ac
 use Rattle.gtrbac_model.specs.Reply.{Point, unless, actor_causes, session_causes, answer, reply_of}
 use Rattle.walk_laws.proofs.Roles.{is_same_role}
 use Rattle.history_laws.proofs.Members.{elem_of, of_filter}
-use Rattle.audit_laws.specs.Permits.{Allows}
+use Rattle.audit_laws.specs.Walks.{Allows}
 use Rattle.audit_laws.proofs.Answered.{IsPassed, passed}
 use Rattle.audit_laws.proofs.Walking.{found}
 

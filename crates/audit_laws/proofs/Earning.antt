@@ -32,7 +32,8 @@ use Rattle.history_laws.proofs.Applying.{begun_by, active_some, active_none}
 use Rattle.history_laws.proofs.Lasting.{front_steps, of_longer}
 use Rattle.history_laws.proofs.Reading.{along}
 use Rattle.audit_laws.specs.Owners.{MayAsk, IsOwn}
-use Rattle.audit_laws.specs.Permits.{Allows, IsEarned}
+use Rattle.audit_laws.specs.Walks.{Allows}
+use Rattle.audit_laws.specs.Permits.{IsEarned}
 use Rattle.audit_laws.proofs.Owning.{own}
 use Rattle.audit_laws.proofs.Activating.{allowed_by, activated}
 

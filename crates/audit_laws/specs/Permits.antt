@@ -1,10 +1,7 @@
 -- Permits: each is earned by an activation that was answered for, and allowed ever since.
-use Rattle.std.specs.Prelude.{◌≡◌, ℕ, ◌<◌, ◌≤◌, true, false, List, ◌∷◌, ◌++◌, IsTrue}
-use Rattle.gt_base.specs.declared.events.RoleId.{RoleId}
-use Rattle.gt_base.specs.declared.events.UserId.{UserId}
+use Rattle.std.specs.Prelude.{◌≡◌, ℕ, ◌<◌, ◌≤◌, true, List, ◌∷◌, ◌++◌}
 use Rattle.gt_base.specs.declared.events.SessionId.{SessionId}
 use Rattle.gt_base.specs.declared.events.PermId.{PermId}
-use Rattle.gt_base.specs.declared.events.Fluent.TheVariants.{Enabled, Assigned}
 use Rattle.gt_base.specs.declared.requests.Who.{Who}
 use Rattle.gt_base.specs.declared.requests.Actor.{Actor}
 use Rattle.gt_base.specs.declared.requests.Decision.TheVariants.{Permit}
@@ -14,23 +11,14 @@ use Rattle.gt_base.specs.declared.requests.Entry.{Entry}
 use Rattle.gt_base.specs.Held.{RoleWalk}
 use Rattle.gt_base.specs.Machines.{asked}
 use Rattle.gtrbac_model.specs.Policy.{Policy}
-use Rattle.gtrbac_model.specs.Conflict.{Status}
 use Rattle.gtrbac_model.specs.Status.{Model}
-use Rattle.gtrbac_model.specs.Graph.{LeadsAlong}
-use Rattle.gtrbac_model.specs.Hierarchy.{usable, role_arcs}
+use Rattle.gtrbac_model.specs.Hierarchy.{usable}
 use Rattle.gtrbac_model.specs.Sessions.{Activation}
 use Rattle.gtrbac_model.specs.Base.{status}
 use Rattle.gtrbac_model.specs.History.{Legal, now_of, point_after}
 use Rattle.history_laws.specs.Activations.{IsIn}
 use Rattle.audit_laws.specs.Owners.{MayAsk, IsOwn}
-use Rattle.audit_laws.specs.Walks.{Lends}
-
--- the role is on, and by usable edges the walk leads to it from a role to which the user is assigned
-pub record Allows (p : Policy) (s : Status) (u : UserId) (r : RoleId) (walk : RoleWalk)
-    : Type 0 where
-  pub is_on : IsTrue (s (Enabled r))
-  pub assigned : IsTrue (s (Assigned u walk.start))
-  pub leads : LeadsAlong (role_arcs (usable s false) p.edges) walk.start walk.edges r
+use Rattle.audit_laws.specs.Walks.{Lends, Allows}
 
 -- a request of the history began the activation: its user or the operator asked, it was answered
 -- with a walk that allowed it then, and some walk allowed it at each close since then
