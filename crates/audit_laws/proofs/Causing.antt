@@ -31,8 +31,8 @@ use Rattle.gtrbac_model.specs.Base.{when, raised_by, periodic, queued_at, queued
 use Rattle.gtrbac_model.specs.Reply.{Point, is_admin, actor_causes, raise_causes, answer, reply_of}
 use Rattle.gtrbac_model.specs.History.{Legal, AreLegalAfter, IsLegalStep, point_after}
 use Rattle.gtrbac_model.proofs.Elements.{Elem, both_true, either_true, any_elim, equal_by, elem_of_set_of}
-use Rattle.history_laws.proofs.Members.{is_in, of_join}
-use Rattle.audit_laws.specs.Turning.{ByEntry, ByLimit, ByTrigger, ByRequest, HasCause, EachHasCause}
+use Rattle.history_laws.proofs.Members.{elem_of, is_in, of_join}
+use Rattle.audit_laws.specs.Turning.{ByEntry, ByLimit, ByTrigger, ByRequest, HasCause, EachHasCause, OnlyRequestsRaise}
 use Rattle.audit_laws.proofs.Activating.{is_true}
 use Rattle.audit_laws.proofs.Answered.{passed, first_is}
 
@@ -188,3 +188,6 @@ each_has_cause p birth m h legal t after_birth le o there =
     let settled : Settled p.triggers (base_at p birth m h t) (status p birth m (t - 1)) (m t) = legal.model t after_birth le in
     by_ground p birth m h t o legal after_birth [] settled.order settled.grounding.grounds
     (elem_of_set_of prioritised_cmp_total prioritised_cmp-IsAntisymmetric settled.order o (subst (λ es. has es o ≡ true) settled.grounding.lists there))
+
+pub only_requests_raise : OnlyRequestsRaise
+only_requests_raise p birth m h legal t o there = by_request p birth m h t o [] h refl legal.steps (elem_of (requested h t) o there)

@@ -20,7 +20,7 @@ use Rattle.gtrbac_model.specs.Conflict.{turns_on, turns_off, won, won_at}
 use Rattle.gtrbac_model.specs.Trigger.{met}
 use Rattle.gtrbac_model.specs.Status.{Model, since}
 use Rattle.gtrbac_model.specs.Graph.{item_at}
-use Rattle.gtrbac_model.specs.Base.{status, raised_by, is_ripe}
+use Rattle.gtrbac_model.specs.Base.{status, raised_by, is_ripe, requested}
 use Rattle.gtrbac_model.specs.Reply.{is_admin}
 use Rattle.gtrbac_model.specs.History.{Legal, now_of}
 use Rattle.history_laws.specs.Activations.{IsIn}
@@ -73,6 +73,12 @@ EachHasCause =
     (p : Policy) (birth : ℕ) (m : Model) (h : List Entry) → Legal p birth h m
     → (t : ℕ) → birth < t → t ≤ now_of birth h → (o : Prioritised) → IsTrue (has (m t).events o)
     → HasCause p birth m h t o
+
+-- the entries of a legal history raise nothing else than what was so asked for
+abbrev pub OnlyRequestsRaise : Type 0
+OnlyRequestsRaise =
+    (p : Policy) (birth : ℕ) (m : Model) (h : List Entry) → Legal p birth h m
+    → (t : ℕ) (o : Prioritised) → IsIn (requested h t) o → ByRequest p birth m h t o
 
 -- no set after the one instant, up to the other, wins an event of the fluent
 abbrev pub IsUnturned : Model → Fluent → ℕ → ℕ → Type 0
