@@ -1,14 +1,10 @@
 -- What an answer that is no refusal tells of its causes.
-use Rattle.std.proofs.Common.{◌≡◌, Bool, true, false, inl, inr, List, [], ◌∷◌, ap}
+use Rattle.std.proofs.Common.{◌≡◌, Bool, true, false, inl, inr, List, [], ◌∷◌, refl, ap}
 use Rattle.gt_base.specs.declared.requests.Refusal.{Refusal}
 use Rattle.gt_base.specs.declared.requests.Reply.{Reply}
-use Rattle.gt_base.specs.declared.requests.Reply.TheVariants.{Refused}
 use Rattle.gtrbac_model.specs.Reply.{unless}
 use Rattle.gtrbac_model.proofs.Elements.{Elem}
-
-abbrev pub is_refused : Reply → Bool
-is_refused (Refused why) = true
-is_refused _ = false
+use Rattle.audit_laws.specs.Owners.{is_refused}
 
 pub record IsPassed (cs : List (Bool × Refusal)) (reply answer : Reply) : Type 0 where
   pub is : reply ≡ answer
@@ -20,3 +16,6 @@ passed ((true, why) ∷ cs) reply answer ok e = let h : is_refused reply ≡ tru
 passed ((false, why) ∷ cs) reply answer ok e =
     let rest = passed cs reply answer ok e in
     record { is = rest.is; none = λ c m. elim m [ inl same ↦ ap (λ d. d.0) same | inr k ↦ rest.none c k ] }
+
+pub first_is : {c : Bool × Refusal} {cs : List (Bool × Refusal)} {reply answer : Reply} → IsPassed (c ∷ cs) reply answer → c.0 ≡ false
+first_is {c} ok = ok.none c (inl refl)

@@ -1,4 +1,4 @@
--- What an answered check tells.
+-- An answered check has the decision of the definitions; where that is a denial, it is right.
 use Rattle.std.proofs.Common.{◌≡◌, ◌<◌, [], ◌∷◌, filter, refl, ap, arith}
 use Rattle.gt_base.specs.declared.events.RoleId.{RoleId}
 use Rattle.gt_base.specs.declared.events.SessionId.{SessionId}
@@ -20,24 +20,19 @@ use Rattle.history_laws.proofs.Members.{is_in, of_map, of_filter}
 use Rattle.history_laws.proofs.NamedPoints.{points_are_named}
 use Rattle.history_laws.proofs.Lasting.{steps_after}
 use Rattle.audit_laws.specs.Denials.{DenialsAreRight}
-use Rattle.audit_laws.proofs.Answered.{IsPassed, passed}
+use Rattle.audit_laws.proofs.Answered.{passed}
 use Rattle.audit_laws.proofs.Denying.{right_denial}
 
 abbrev decision_in : Decision → Reply → Decision
 decision_in d (Decided e) = e
 decision_in d _ = d
 
--- the decision is that of the definitions, and no cause of a refusal is there
-pub record IsChecked (p : Policy) (pt : Point) (actor : Actor) (n : SessionId) (perm : PermId) (d : Decision) : Type 0 where
-  pub actor_passes : IsPassed (actor_causes actor) (Decided d) (answer p pt actor (Check n perm))
-  pub session_passes : IsPassed (session_causes pt.table actor n) (Decided d) (Decided (decide p.edges pt.status (roles_of pt.table n) perm))
-  pub is : d ≡ decide p.edges pt.status (roles_of pt.table n) perm
-
-pub checked : (p : Policy) (pt : Point) (actor : Actor) (n : SessionId) (perm : PermId) (d : Decision) → Decided d ≡ reply_of p pt actor (Check n perm) → IsChecked p pt actor n perm d
+-- the decision is that of the definitions
+pub checked : (p : Policy) (pt : Point) (actor : Actor) (n : SessionId) (perm : PermId) (d : Decision) → Decided d ≡ reply_of p pt actor (Check n perm) → d ≡ decide p.edges pt.status (roles_of pt.table n) perm
 checked p pt actor n perm d e =
-    let a : IsPassed (actor_causes actor) (Decided d) (answer p pt actor (Check n perm)) = passed (actor_causes actor) (Decided d) (answer p pt actor (Check n perm)) refl e in
+    let a = passed (actor_causes actor) (Decided d) (answer p pt actor (Check n perm)) refl e in
     let b = passed (session_causes pt.table actor n) (Decided d) (Decided (decide p.edges pt.status (roles_of pt.table n) perm)) refl a.is in
-    record { actor_passes = a; session_passes = b; is = ap (decision_in d) b.is }
+    ap (decision_in d) b.is
 
 pub denials_are_right : DenialsAreRight
 denials_are_right p birth m g h who actor n perm d good since named legal not_permit =
@@ -51,4 +46,4 @@ denials_are_right p birth m g h who actor n perm d good since named legal not_pe
     let (was, of_session) = of_filter (λ a. same_session a.session n) pt.table.active a among in
     let low : a.role.0 < p.roles = point.active a (is_in pt.table.active a was) in
     omega (arith, low, good.roles, ap (λ (r : RoleId). r.0) same))
-    d not_permit (checked p pt actor n perm d steps.0).is
+    d not_permit (checked p pt actor n perm d steps.0)

@@ -1,9 +1,10 @@
 -- Each activation of a legal history was begun by an answered request, and was allowed ever since.
-use Rattle.std.proofs.Common.{◌≡◌, ℕ, suc, ◌-◌, ◌<◌, ◌≤◌, nat_le, Bool, true, false, not, ◌||◌, ◌⊎◌, inl, inr, List, [], ◌∷◌, ◌++◌, filter, Option, Some, None, is_none, refl, sym, ◌∙◌, ap, subst, arith, append_assoc, IsSome}
+use Rattle.std.proofs.Common.{◌≡◌, ℕ, suc, ◌-◌, ◌<◌, ◌≤◌, nat_le, Bool, true, false, not, ◌||◌, ◌⊎◌, inl, inr, List, [], ◌∷◌, ◌++◌, Option, Some, None, is_none, refl, sym, ◌∙◌, ap, subst, arith}
 use Rattle.std.proofs.lemmas.Bool.{leb-true, leb-false}
+use Rattle.std.specs.Option.{unwrap_or}
 use Rattle.gt_base.specs.declared.events.RoleId.{RoleId}
 use Rattle.gt_base.specs.declared.events.UserId.{UserId}
-use Rattle.gt_base.specs.declared.events.Fluent.TheVariants.{Enabled, Assigned}
+use Rattle.gt_base.specs.declared.events.Fluent.TheVariants.{Enabled}
 use Rattle.gt_base.specs.declared.requests.Who.{Who}
 use Rattle.gt_base.specs.declared.requests.Actor.{Actor}
 use Rattle.gt_base.specs.declared.requests.Actor.TheVariants.{User, Operator, Nobody}
@@ -17,9 +18,8 @@ use Rattle.gt_base.specs.Machines.{asked}
 use Rattle.gtrbac_model.specs.Policy.{Policy}
 use Rattle.gtrbac_model.specs.Conflict.{Status}
 use Rattle.gtrbac_model.specs.Status.{Model}
-use Rattle.gtrbac_model.specs.Graph.{LeadsAlong}
-use Rattle.gtrbac_model.specs.Same.{same_session, same_role}
-use Rattle.gtrbac_model.specs.Hierarchy.{usable, role_arcs, all_roles, activation_walk}
+use Rattle.gtrbac_model.specs.Same.{same_session}
+use Rattle.gtrbac_model.specs.Hierarchy.{activation_walk}
 use Rattle.gtrbac_model.specs.Calendar.{day_of}
 use Rattle.gtrbac_model.specs.Sessions.{Table, Activation, applied, owner_of, charge, is_dropped, close_minute, reached, caps_of, is_active_in}
 use Rattle.gtrbac_model.specs.Base.{status, table_at}
@@ -27,29 +27,22 @@ use Rattle.gtrbac_model.specs.Reply.{reply_of}
 use Rattle.gtrbac_model.specs.History.{Legal, now_of, point_after}
 use Rattle.gtrbac_model.proofs.Elements.{Elem, split}
 use Rattle.gtrbac_model.proofs.Playing.{goes_on}
-use Rattle.walk_laws.proofs.Roles.{is_same_role}
-use Rattle.history_laws.specs.Activations.{IsInOrder}
-use Rattle.history_laws.proofs.Members.{elem_of, is_in, of_join, of_filter}
+use Rattle.history_laws.proofs.Members.{of_join, of_filter}
 use Rattle.history_laws.proofs.Applying.{begun_by, active_some, active_none}
-use Rattle.history_laws.proofs.InOrder.{active_in_order}
 use Rattle.history_laws.proofs.Lasting.{front_steps, of_longer}
 use Rattle.history_laws.proofs.Reading.{along}
-use Rattle.audit_laws.specs.Permits.{IsAllowed, IsEarned}
-use Rattle.audit_laws.proofs.Walking.{found}
+use Rattle.audit_laws.specs.Owners.{MayAsk, IsOwn}
+use Rattle.audit_laws.specs.Walks.{Allows}
+use Rattle.audit_laws.specs.Permits.{IsEarned}
+use Rattle.audit_laws.proofs.Owning.{own}
+use Rattle.audit_laws.proofs.Activating.{allowed_by, activated}
 
--- by the walk of the definitions
+abbrev IsAllowed : Policy → Status → UserId → RoleId → Type 0
+IsAllowed p s u r = (w : RoleWalk) × Allows p s u r w
 
-allowed_by : (p : Policy) (s : Status) (u : UserId) (r : RoleId) (o : Option RoleWalk) → activation_walk p.edges s u r ≡ o → s (Enabled r) ≡ true → is_none o ≡ false → IsAllowed p s u r
-allowed_by p s u r None is on there = cc
-allowed_by p s u r (Some w) is on there =
-    let least = found p.edges (usable s false) (λ q. s (Assigned u q)) (same_role r) w is in
-    let (was, assigned) = of_filter (λ q. s (Assigned u q)) all_roles w.start (elem_of (filter (λ q. s (Assigned u q)) all_roles) w.start (least.place, least.is_walk.from_start)) in
-    let at : r ≡ least.is_walk.end = is_same_role r least.is_walk.end least.is_walk.reaches in
-    record { is_on = on; walk = w; assigned = assigned; leads = subst (λ q. LeadsAlong (role_arcs (usable s false) p.edges) w.start w.edges q) (sym at) least.is_walk.leads }
-
-some_is : {A : Type 0} (o : Option A) → IsSome o → is_none o ≡ false
-some_is None h = cc
-some_is (Some x) h = refl
+some_walk : (p : Policy) (s : Status) (u : UserId) (r : RoleId) (o : Option RoleWalk) → activation_walk p.edges s u r ≡ o → s (Enabled r) ≡ true → is_none o ≡ false → IsAllowed p s u r
+some_walk p s u r None is on there = cc
+some_walk p s u r (Some w) is on there = (w, allowed_by p s u r w is on)
 
 -- an activation after a request was there before it, or the request began it
 
@@ -57,6 +50,7 @@ record IsBegun (now : ℕ) (tb : Table) (request : Request) (reply : Reply) (a :
   walk : RoleWalk
   asked_so : request ≡ Activate a.session a.role
   answered : reply ≡ Active walk
+  owned : owner_of tb a.session ≡ Some a.user
   at_now : a.begun ≡ now
 
 was_or_begun : (now : ℕ) (actor : Actor) (request : Request) (reply : Reply) (tb : Table) (a : Activation) → Elem (applied now actor request reply tb).active a → Elem tb.active a ⊎ IsBegun now tb request reply a
@@ -71,7 +65,7 @@ was_or_begun now actor (Activate n r) (Active w) tb a there = by (owner_of tb n)
     by (Some u) e =
         elim (of_join tb.active (begun_by now actor n r w tb u ∷ []) a (subst (λ xs. Elem xs a) (active_some now actor n r w tb u e) there)) [
           | inl was ↦ inl was
-          | inr (inl is) ↦ inr (record { walk = w; asked_so = ap (λ (b : Activation). Activate b.session b.role) (sym is); answered = refl; at_now = ap (λ (b : Activation). b.begun) is })
+          | inr (inl is) ↦ inr (record { walk = w; asked_so = ap (λ (b : Activation). Activate b.session b.role) (sym is); answered = refl; owned = ap (λ (b : Activation). owner_of tb b.session) is ∙ e ∙ ap (λ (b : Activation). Some b.user) (sym is); at_now = ap (λ (b : Activation). b.begun) is })
           | inr (inr none) ↦ absurd none
         ]
 was_or_begun now actor (Deactivate n r) Done tb a there = inl (of_filter (λ a. not (is_active_in n r a)) tb.active a there).0
@@ -90,7 +84,9 @@ module _ (p : Policy) (birth : ℕ) (m : Model) (h : List Entry) (legal : Legal 
     walk : RoleWalk
     is_part : front ++ asked who actor (Activate a.session a.role) (Active walk) ∷ rest ≡ h
     begun : now_of birth front ≡ a.begun
-    since : (u : ℕ) → a.begun ≤ u → u ≤ t → IsAllowed p (status p birth m u) a.user a.role
+    may_ask : MayAsk a.user actor
+    at_first : Allows p (status p birth m a.begun) a.user a.role walk
+    since : (u : ℕ) → a.begun < u → u ≤ t → IsAllowed p (status p birth m u) a.user a.role
 
   abbrev Kept : ℕ → Table → Type 0
   Kept t tb = (a : Activation) → Elem tb.active a → Since t a
@@ -116,10 +112,12 @@ module _ (p : Policy) (birth : ℕ) (m : Model) (h : List Entry) (legal : Legal 
         walk = k.walk;
         is_part = k.is_part;
         begun = k.begun;
+        may_ask = k.may_ask;
+        at_first = k.at_first;
         since = λ u from le.
             split (nat_le u t)
             (λ q. k.since u from (leb-true u t q))
-            (λ q. subst (λ v. IsAllowed p (status p birth m v) a.user a.role) (last u le (leb-false u t q)) (allowed_by p s a.user a.role _ refl on walk));
+            (λ q. subst (λ v. IsAllowed p (status p birth m v) a.user a.role) (last u le (leb-false u t q)) (some_walk p s a.user a.role _ refl on walk));
       }
     where
       last : (u : ℕ) → u ≤ suc t → t < u → suc t ≡ u
@@ -133,11 +131,11 @@ module _ (p : Policy) (birth : ℕ) (m : Model) (h : List Entry) (legal : Legal 
       elim (was_or_begun (now_of birth g) actor request reply tb a there) [
         | inl was ↦ kept a was
         | inr b ↦
-            let e : Entry = asked who actor request reply in
-            let upto : Legal p birth (g ++ e ∷ []) m = legal_front p birth m (g ++ e ∷ []) rest (subst (λ k. Legal p birth k m) (sym is ∙ sym (append_assoc g (e ∷ []) rest)) legal) in
-            let order : IsInOrder p (status p birth m (now_of birth g)) (table_at p birth m (g ++ e ∷ []) (now_of birth g)) a =
-            active_in_order p birth (g ++ e ∷ []) m upto (now_of birth g) (goes_on p birth m [] g (front_steps p birth m [] g (e ∷ []) upto.steps)) a
-            (is_in _ a (subst (λ b. Elem b.active a) (sym next) there)) in
+            let now : ℕ = now_of birth g in
+            let told : Active b.walk ≡ reply_of p (point_after p birth m g) actor (Activate a.session a.role) = sym b.answered ∙ answered ∙ ap (reply_of p (point_after p birth m g) actor) b.asked_so in
+            let owner : owner_of (table_at p birth m g now) a.session ≡ Some a.user = ap (λ b. owner_of b a.session) at_now ∙ b.owned in
+            let done : Allows p (status p birth m now) a.user a.role b.walk = activated p (point_after p birth m g) actor a.session a.role a.user owner b.walk told in
+            let by : IsOwn (table_at p birth m g now) actor a.session = own p (point_after p birth m g) a.session actor (Activate a.session a.role) (Active b.walk) (owner_of (table_at p birth m g now) a.session) refl refl refl told in
             record {
               front = g;
               rest = rest;
@@ -146,15 +144,16 @@ module _ (p : Policy) (birth : ℕ) (m : Model) (h : List Entry) (legal : Legal 
               walk = b.walk;
               is_part = (λ i. g ++ asked who actor (sym b.asked_so i) (sym b.answered i) ∷ rest) ∙ is;
               begun = sym b.at_now;
-              since = λ u from le. subst (λ v. IsAllowed p (status p birth m v) a.user a.role) (here u (now_of birth g) a.begun b.at_now from le)
-                  (allowed_by p (status p birth m (now_of birth g)) a.user a.role _ refl order.role_is_on (some_is _ order.may_activate));
+              may_ask = subst (λ v. MayAsk v actor) (ap (λ o. unwrap_or o a.user) (sym by.is_open ∙ owner)) by.may_ask;
+              at_first = subst (λ u. Allows p (status p birth m u) a.user a.role b.walk) (sym b.at_now) done;
+              since = λ u from le. absurd (never u now a.begun b.at_now from le);
             }
       ]
     where
-      here : (u now begun : ℕ) → begun ≡ now → begun ≤ u → u ≤ now → now ≡ u
-      here u now begun same from le = omega (arith, same, from, le)
+      never : (u now begun : ℕ) → begun ≡ now → begun < u → u ≤ now → ⊥
+      never u now begun same from le = omega (arith, same, from, le)
 
   pub earned : (a : Activation) → Elem (table_at p birth m h (now_of birth h)).active a → IsEarned p birth m h a
   earned a there =
       let k : Since (now_of birth h) a = along p birth m h legal.steps Kept (λ a k. elim k [ ]) closes asks (now_of birth h) (goes_on p birth m [] h legal.steps) a there in
-      record { front = k.front; rest = k.rest; who = k.who; actor = k.actor; walk = k.walk; is_part = k.is_part; begun = k.begun; since = k.since }
+      record { front = k.front; rest = k.rest; who = k.who; actor = k.actor; walk = k.walk; is_part = k.is_part; begun = k.begun; may_ask = k.may_ask; at_first = k.at_first; since = k.since }

@@ -1,8 +1,11 @@
 pub mod Silent
-pub mod Foreign
+pub mod Owning
 pub mod Answered
 pub mod Walking
 pub mod Denying
+pub mod Activating
 pub mod Checked
 pub mod Earning
 pub mod Permitting
+pub mod Causing
+pub mod Turned

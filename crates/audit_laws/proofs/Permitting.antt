@@ -1,26 +1,21 @@
 -- A permit stands on an open session, an activation that is earned, and a walk that lends now.
-use Rattle.std.proofs.Common.{◌≡◌, ◌⊎◌, ℕ, Bool, true, false, not, inl, inr, List, [], ◌∷◌, filter, Option, Some, None, is_none, refl, sym, ◌∙◌, ap}
+use Rattle.std.proofs.Common.{◌≡◌, ℕ, true, List, [], ◌∷◌, filter, Option, Some, None, refl, sym, ◌∙◌, ap}
 use Rattle.std.proofs.lemmas.Bool.{eqb-true}
 use Rattle.std.specs.Option.{unwrap_or}
 use Rattle.gt_base.specs.declared.events.RoleId.{RoleId}
-use Rattle.gt_base.specs.declared.events.UserId.{UserId}
 use Rattle.gt_base.specs.declared.events.SessionId.{SessionId}
 use Rattle.gt_base.specs.declared.events.PermId.{PermId}
 use Rattle.gt_base.specs.declared.events.Fluent.TheVariants.{Granted}
 use Rattle.gt_base.specs.declared.policies.HierEdge.{HierEdge}
-use Rattle.gt_base.specs.declared.requests.Actor.{Actor}
-use Rattle.gt_base.specs.declared.requests.Actor.TheVariants.{User, Operator, Nobody}
 use Rattle.gt_base.specs.declared.requests.Decision.{Decision}
 use Rattle.gt_base.specs.declared.requests.Decision.TheVariants.{Permit, NoGrant, Shut}
-use Rattle.gt_base.specs.declared.requests.Refusal.{Refusal}
-use Rattle.gt_base.specs.declared.requests.Reply.{Reply}
 use Rattle.gt_base.specs.declared.requests.Request.TheVariants.{Check}
 use Rattle.gt_base.specs.declared.requests.Reply.TheVariants.{Decided}
 use Rattle.gt_base.specs.declared.requests.Entry.{Entry}
 use Rattle.gt_base.specs.Held.{RoleWalk}
 use Rattle.gt_base.specs.Machines.{asked}
 use Rattle.gtrbac_model.specs.Conflict.{Status}
-use Rattle.gtrbac_model.specs.Same.{same_role, same_user, same_session, lists}
+use Rattle.gtrbac_model.specs.Same.{same_role, same_session, lists}
 use Rattle.gtrbac_model.specs.Hierarchy.{usable, all_roles, permission_walk, permission_walk_of_any}
 use Rattle.gtrbac_model.specs.Sessions.{Activation, owner_of}
 use Rattle.gtrbac_model.specs.Decision.{decide}
@@ -31,44 +26,12 @@ use Rattle.history_laws.specs.Activations.{IsInOrder}
 use Rattle.history_laws.proofs.Members.{elem_of, is_in, of_map, of_filter}
 use Rattle.history_laws.proofs.InOrder.{active_in_order}
 use Rattle.history_laws.proofs.Lasting.{steps_after}
+use Rattle.audit_laws.specs.Owners.{IsOwn}
 use Rattle.audit_laws.specs.Permits.{PermitsAreEarned}
-use Rattle.audit_laws.proofs.Answered.{IsPassed}
-use Rattle.audit_laws.proofs.Checked.{IsChecked, checked}
+use Rattle.audit_laws.proofs.Owning.{own}
+use Rattle.audit_laws.proofs.Checked.{checked}
 use Rattle.audit_laws.proofs.Earning.{legal_front, earned}
 use Rattle.audit_laws.proofs.Walking.{of_listed, found}
-
--- who may ask
-
--- a user other than the owner, as the model has it
-abbrev is_foreign : Option UserId → Actor → Bool
-is_foreign (Some owner) (User u) = not (same_user owner u)
-is_foreign _ _ = false
-
-abbrev is_nobody : Actor → Bool
-is_nobody Nobody = true
-is_nobody _ = false
-
-first_is : {c : Bool × Refusal} {cs : List (Bool × Refusal)} {reply answer : Reply} → IsPassed (c ∷ cs) reply answer → c.0 ≡ false
-first_is {c} ok = ok.none c (inl refl)
-
-second_is : {b c : Bool × Refusal} {cs : List (Bool × Refusal)} {reply answer : Reply} → IsPassed (b ∷ c ∷ cs) reply answer → c.0 ≡ false
-second_is {c = c} ok = ok.none c (inr (inl refl))
-
-one_user : (a b : UserId) → not (same_user a b) ≡ false → b ≡ a
-one_user a b e = λ i. record { 0 = sym (eqb-true a.0 b.0 (is_true (same_user a b) e)) i }
-  where
-    is_true : (b : Bool) → not b ≡ false → b ≡ true
-    is_true true e = refl
-    is_true false e = cc
-
-asker : (owner : UserId) (actor : Actor) → is_nobody actor ≡ false → is_foreign (Some owner) actor ≡ false → (actor ≡ User owner) ⊎ (actor ≡ Operator)
-asker owner (User u) somebody own = inl (ap User (one_user owner u own))
-asker owner Operator somebody own = inr refl
-asker owner Nobody somebody own = cc
-
-owned : (o : Option UserId) → is_none o ≡ false → (u : UserId) × (o ≡ Some u)
-owned None e = cc
-owned (Some u) e = (u, refl)
 
 -- a permit is by the walk of the definitions
 
@@ -98,23 +61,20 @@ permits_are_earned p birth m g h who actor n perm walk legal =
     let steps : AreLegalAfter p birth m g (e ∷ h) = steps_after p birth m [] g (e ∷ h) legal.steps in
     let upto : Legal p birth g m = legal_front p birth m g (e ∷ h) legal in
     let pt : Point = point_after p birth m g in
-    let c : IsChecked p pt actor n perm (Permit walk) = checked p pt actor n perm (Permit walk) steps.0 in
-    let (owner, is_open) = owned (owner_of pt.table n) (first_is c.session_passes) in
+    let here : IsOwn pt.table actor n = own p pt n actor (Check n perm) (Decided (Permit walk)) (owner_of pt.table n) refl refl refl steps.0 in
     let active = roles_of pt.table n in
-    let least = found p.edges (usable pt.status true) (lists same_role active) (λ r. pt.status (Granted perm r)) walk (permitted p.edges pt.status active perm walk c.is) in
+    let least = found p.edges (usable pt.status true) (lists same_role active) (λ r. pt.status (Granted perm r)) walk (permitted p.edges pt.status active perm walk (checked p pt actor n perm (Permit walk) steps.0)) in
     let (among, passes) = of_filter (lists same_role active) all_roles walk.start (elem_of (filter (lists same_role active) all_roles) walk.start (least.place, least.is_walk.from_start)) in
     let (a, there, of_role) = of_map (λ (a : Activation). a.role) (filter (λ a. same_session a.session n) pt.table.active) walk.start (of_listed active walk.start passes) in
     let (is_active, of_session) = of_filter (λ a. same_session a.session n) pt.table.active a there in
     let same : a.session ≡ n = one_session a.session n of_session in
     let order : IsInOrder p pt.status pt.table a = active_in_order p birth g m upto pt.now (goes_on p birth m [] g upto.steps) a (is_in pt.table.active a is_active) in
     record {
-      owner = owner;
-      is_open = is_open;
-      may_ask = asker owner actor (first_is c.actor_passes) (ap (λ o. is_foreign o actor) (sym is_open) ∙ second_is c.session_passes);
+      own = here;
       activation = a;
       is_active = is_in pt.table.active a is_active;
       of_session = same;
-      of_owner = ap (λ o. unwrap_or o owner) (sym order.session_is_its_users ∙ ap (owner_of pt.table) same ∙ is_open);
+      of_owner = ap (λ o. unwrap_or o here.owner) (sym order.session_is_its_users ∙ ap (owner_of pt.table) same ∙ here.is_open);
       of_role = sym of_role;
       is_earned = earned p birth m g upto a is_active;
       lends = record { end = least.is_walk.end; leads = least.is_walk.leads; granted = least.is_walk.reaches };

@@ -20,7 +20,7 @@ use Rattle.gtrbac_model.specs.Status.{Model, since}
 use Rattle.gtrbac_model.specs.Sessions.{Table, applied, read_table, read_step, close_minutes, empty_table, drops}
 use Rattle.gtrbac_model.specs.Base.{status, periodic, requested, delayed, limited, queued_at, table_at}
 use Rattle.gtrbac_model.specs.Reply.{reply_of}
-use Rattle.gtrbac_model.specs.History.{Legal, AreLegalAfter, IsLegalStep, IsNextStop, is_some_item, stirs, now_of, moved, point_after}
+use Rattle.gtrbac_model.specs.History.{Legal, IsExecutionModel, AreLegalAfter, IsLegalStep, IsNextStop, is_some_item, stirs, now_of, moved, point_after}
 use Rattle.gtrbac_model.proofs.Append.{append-nil, requested-append}
 use Rattle.history_laws.specs.Histories.{TellSame}
 use Rattle.history_laws.proofs.Lasting.{steps_after, front_steps}
@@ -56,6 +56,15 @@ module _ (p : Policy) (birth : ℕ) (m : Model) (h k : List Entry) (same : TellS
 joined : (p : Policy) (birth : ℕ) (m : Model) (g h hs : List Entry) → AreLegalAfter p birth m g h → AreLegalAfter p birth m (g ++ h) hs → AreLegalAfter p birth m g (h ++ hs)
 joined p birth m g [] hs a b = subst (λ k. AreLegalAfter p birth m k hs) (append-nil g) b
 joined p birth m g (e ∷ h) hs a b = (a.0, joined p birth m (g ++ e ∷ []) h hs a.1 (subst (λ k. AreLegalAfter p birth m k hs) (sym (append_assoc g (e ∷ []) h)) b))
+
+-- where two fronts tell the same, whatever follows them, what is legal after the one is legal after the other
+carried : (p : Policy) (birth : ℕ) (m : Model) (a b : List Entry → List Entry) → ((f : List Entry) (e : Entry) → a f ++ e ∷ [] ≡ a (f ++ e ∷ [])) → ((f : List Entry) (e : Entry) → b f ++ e ∷ [] ≡ b (f ++ e ∷ []))
+    → ((f : List Entry) → TellSame p birth m (a f) (b f)) → (f h : List Entry) → AreLegalAfter p birth m (a f) h → AreLegalAfter p birth m (b f) h
+carried p birth m a b on_a on_b same f [] l = tt
+carried p birth m a b on_a on_b same f (e ∷ h) l = (
+  step_same p birth m (a f) (b f) (same f) e.what l.0,
+  subst (λ k. AreLegalAfter p birth m k h) (sym (on_b f e)) (carried p birth m a b on_a on_b same (f ++ e ∷ []) h (subst (λ k. AreLegalAfter p birth m k h) (on_a f e) l.1)),
+)
 
 module _ (edges : List HierEdge) (caps : List Caps) (s : ℕ → StatusOf) (stop : ℕ) where
   abbrev read : ℕ → Table → List Entry → Table
@@ -97,29 +106,33 @@ module _ (who : Who) (actor : Actor) (request : Request) (reply : Reply) (silent
         heads : (t : ℕ) → requested (g ++ it ∷ h) t ≡ requested (g ++ h) t
         heads t = requested-append g (it ∷ h) t ∙ ap (λ xs. requested g t ++ (xs ++ requested h t)) (silent.raises t) ∙ sym (requested-append g h t)
 
-    -- what is legal after entries with it is legal without it
-    without : (f h : List Entry) → AreLegalAfter p birth m (g ++ it ∷ f) h → AreLegalAfter p birth m (g ++ f) h
-    without f [] l = tt
-    without f (e ∷ h) l = (
-      step_same p birth m (g ++ it ∷ f) (g ++ f) (tell_same f) e.what l.0,
-      subst (λ k. AreLegalAfter p birth m k h) (sym (append_assoc g f (e ∷ [])))
-          (without (f ++ e ∷ []) h (subst (λ k. AreLegalAfter p birth m k h) (append_assoc g (it ∷ f) (e ∷ [])) l.1)),
-    )
+    legal_model : (h k : List Entry) → TellSame p birth m h k → IsExecutionModel p birth h m → IsExecutionModel p birth k m
+    legal_model h k same model t after_birth le =
+        subst (λ b. Settled p.triggers b (status p birth m (t - 1)) (m t)) (same.bases t) (model t after_birth (subst (λ n. t ≤ n) (sym same.nows) le))
 
     legal_without : (h : List Entry) → Legal p birth (g ++ it ∷ h) m → Legal p birth (g ++ h) m
     legal_without h legal =
-        let same : TellSame p birth m (g ++ it ∷ h) (g ++ h) = tell_same h in
         let after_g : AreLegalAfter p birth m g (it ∷ h) = steps_after p birth m [] g (it ∷ h) legal.steps in
-        let rest : AreLegalAfter p birth m (g ++ []) h = without [] h after_g.1 in
+        let rest : AreLegalAfter p birth m (g ++ []) h = carried p birth m (λ f. g ++ it ∷ f) (λ f. g ++ f) (λ f e. append_assoc g (it ∷ f) (e ∷ [])) (λ f e. append_assoc g f (e ∷ [])) tell_same [] h after_g.1 in
         record {
-          model = λ t after_birth le.
-              subst (λ b. Settled p.triggers b (status p birth m (t - 1)) (m t)) (same.bases t)
-              (legal.model t after_birth (subst (λ n. t ≤ n) (sym same.nows) le));
+          model = legal_model (g ++ it ∷ h) (g ++ h) (tell_same h) legal.model;
           steps = joined p birth m [] g h (front_steps p birth m [] g (it ∷ h) legal.steps) (subst (λ k. AreLegalAfter p birth m k h) (append-nil g) rest);
         }
 
+    legal_within : (h : List Entry) → IsLegalStep p birth m g it.what → Legal p birth (g ++ h) m → Legal p birth (g ++ it ∷ h) m
+    legal_within h step legal =
+        let after_g : AreLegalAfter p birth m (g ++ []) h = subst (λ k. AreLegalAfter p birth m k h) (sym (append-nil g)) (steps_after p birth m [] g h legal.steps) in
+        let rest : AreLegalAfter p birth m (g ++ it ∷ []) h = carried p birth m (λ f. g ++ f) (λ f. g ++ it ∷ f) (λ f e. append_assoc g f (e ∷ [])) (λ f e. append_assoc g (it ∷ f) (e ∷ [])) (λ f. turned_round (tell_same f)) [] h after_g in
+        record {
+          model = legal_model (g ++ h) (g ++ it ∷ h) (turned_round (tell_same h)) legal.model;
+          steps = joined p birth m [] g (it ∷ h) (front_steps p birth m [] g h legal.steps) (step, rest);
+        }
+      where
+        turned_round : {h k : List Entry} → TellSame p birth m h k → TellSame p birth m k h
+        turned_round same = record { tables = λ t. sym (same.tables t); queues = λ t. sym (same.queues t); bases = λ t. sym (same.bases t); nows = sym same.nows }
+
     pub changes_nothing : (h : List Entry) → ChangesNothing p birth m g it h
-    changes_nothing h = record { same = tell_same h; legal = legal_without h }
+    changes_nothing h = record { same = tell_same h; without = legal_without h; within = legal_within h }
 
 look_is_silent : (actor : Actor) (request : Request) (reply : Reply) → only_asks request ≡ true → IsSilent actor request reply
 look_is_silent actor Now reply is = record { leaves = λ now tb. refl; raises = λ t. refl }

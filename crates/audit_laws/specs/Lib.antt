@@ -1,4 +1,6 @@
 pub mod NoChange
+pub mod Owners
 pub mod Walks
 pub mod Denials
 pub mod Permits
+pub mod Turning

@@ -1,13 +1,9 @@
 -- Permits: each is earned by an activation that was answered for, and allowed ever since.
-use Rattle.std.specs.Prelude.{◌≡◌, ◌⊎◌, ℕ, ◌≤◌, true, false, List, ◌∷◌, ◌++◌, Some, IsTrue}
-use Rattle.gt_base.specs.declared.events.RoleId.{RoleId}
-use Rattle.gt_base.specs.declared.events.UserId.{UserId}
+use Rattle.std.specs.Prelude.{◌≡◌, ℕ, ◌<◌, ◌≤◌, true, List, ◌∷◌, ◌++◌}
 use Rattle.gt_base.specs.declared.events.SessionId.{SessionId}
 use Rattle.gt_base.specs.declared.events.PermId.{PermId}
-use Rattle.gt_base.specs.declared.events.Fluent.TheVariants.{Enabled, Assigned}
 use Rattle.gt_base.specs.declared.requests.Who.{Who}
 use Rattle.gt_base.specs.declared.requests.Actor.{Actor}
-use Rattle.gt_base.specs.declared.requests.Actor.TheVariants.{User, Operator}
 use Rattle.gt_base.specs.declared.requests.Decision.TheVariants.{Permit}
 use Rattle.gt_base.specs.declared.requests.Request.TheVariants.{Activate, Check}
 use Rattle.gt_base.specs.declared.requests.Reply.TheVariants.{Active, Decided}
@@ -15,25 +11,17 @@ use Rattle.gt_base.specs.declared.requests.Entry.{Entry}
 use Rattle.gt_base.specs.Held.{RoleWalk}
 use Rattle.gt_base.specs.Machines.{asked}
 use Rattle.gtrbac_model.specs.Policy.{Policy}
-use Rattle.gtrbac_model.specs.Conflict.{Status}
 use Rattle.gtrbac_model.specs.Status.{Model}
-use Rattle.gtrbac_model.specs.Graph.{LeadsAlong}
-use Rattle.gtrbac_model.specs.Hierarchy.{usable, role_arcs}
-use Rattle.gtrbac_model.specs.Sessions.{Activation, owner_of}
+use Rattle.gtrbac_model.specs.Hierarchy.{usable}
+use Rattle.gtrbac_model.specs.Sessions.{Activation}
 use Rattle.gtrbac_model.specs.Base.{status}
 use Rattle.gtrbac_model.specs.History.{Legal, now_of, point_after}
 use Rattle.history_laws.specs.Activations.{IsIn}
-use Rattle.audit_laws.specs.Walks.{Lends}
+use Rattle.audit_laws.specs.Owners.{MayAsk, IsOwn}
+use Rattle.audit_laws.specs.Walks.{Lends, Allows}
 
--- the role is on, and by usable edges a walk leads to it from a role to which the user is assigned
-pub record IsAllowed (p : Policy) (s : Status) (u : UserId) (r : RoleId) : Type 0 where
-  pub is_on : IsTrue (s (Enabled r))
-  pub walk : RoleWalk
-  pub assigned : IsTrue (s (Assigned u walk.start))
-  pub leads : LeadsAlong (role_arcs (usable s false) p.edges) walk.start walk.edges r
-
--- a request of the history began the activation: it was answered with a walk, and from then on up
--- to now the activation was allowed, at the request and at each close
+-- a request of the history began the activation: its user or the operator asked, it was answered
+-- with a walk that allowed it then, and some walk allowed it at each close since then
 pub record IsEarned (p : Policy) (birth : ℕ) (m : Model) (h : List Entry) (a : Activation)
     : Type 0 where
   pub front : List Entry
@@ -43,21 +31,21 @@ pub record IsEarned (p : Policy) (birth : ℕ) (m : Model) (h : List Entry) (a :
   pub walk : RoleWalk
   pub is_part : front ++ asked who actor (Activate a.session a.role) (Active walk) ∷ rest ≡ h
   pub begun : now_of birth front ≡ a.begun
-  pub since : (t : ℕ) → a.begun ≤ t → t ≤ now_of birth h
-      → IsAllowed p (status p birth m t) a.user a.role
+  pub may_ask : MayAsk a.user actor
+  pub at_first : Allows p (status p birth m a.begun) a.user a.role walk
+  pub since : (t : ℕ) → a.begun < t → t ≤ now_of birth h
+      → (w : RoleWalk) × Allows p (status p birth m t) a.user a.role w
 
--- the session is open, and the asker's or the operator asks; one of its activations is earned; and
--- by edges that are usable now the walk leads from that role to one to which the permission is
--- granted now
+-- the session is open, and its owner asks or the operator; one of its activations is earned; and by
+-- edges that are usable now the walk leads from that role to one to which the permission is granted
+-- now
 pub record IsRightPermit (p : Policy) (birth : ℕ) (m : Model) (h : List Entry) (actor : Actor)
     (n : SessionId) (perm : PermId) (walk : RoleWalk) : Type 0 where
-  pub owner : UserId
-  pub is_open : owner_of (point_after p birth m h).table n ≡ Some owner
-  pub may_ask : (actor ≡ User owner) ⊎ (actor ≡ Operator)
+  pub own : IsOwn (point_after p birth m h).table actor n
   pub activation : Activation
   pub is_active : IsIn (point_after p birth m h).table.active activation
   pub of_session : activation.session ≡ n
-  pub of_owner : activation.user ≡ owner
+  pub of_owner : activation.user ≡ own.owner
   pub of_role : activation.role ≡ walk.start
   pub is_earned : IsEarned p birth m h activation
   pub lends : Lends p.edges (usable (point_after p birth m h).status true)

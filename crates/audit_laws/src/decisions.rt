@@ -2,7 +2,7 @@
 ghost use Rattle.audit_laws.specs.Denials.{DenialsAreRight};
 ghost use Rattle.audit_laws.specs.Permits.{PermitsAreEarned};
 
-/// Each permit stands on an open session that is the asker's, where no operator asks, on an
+/// Each permit is for an open session whose owner asks, or the operator, and stands on an
 /// activation in it that the history answered for and that was allowed ever since, and on a walk
 /// that lends the permission now.
 pub fn permits_are_earned()
