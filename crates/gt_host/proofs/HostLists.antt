@@ -95,22 +95,22 @@ past_end : (xs : List HostPort) → host_port_in xs (length xs + 1) ≡ no_host_
 past_end xs = let e : length xs + 1 ≡ suc (length xs) = omega arith in ap (host_port_in xs) e ∙ at_end xs
 
 -- a link is opened
-pub opens : (told : Option (Result PortEvent Failed)) (nexts faults n m : ℕ) (xs ys : List HostPort) (y : HostPort) → ys ≡ xs ++ y ∷ [] → m ≡ length ys → n ≡ open_among (host_port_in xs) (length xs) → host_port y ≡ newly n no_host_port
-    → Happens (host_harbour told nexts xs faults) (host_harbour told nexts ys faults) (Ok (Opened m))
-opens told nexts faults n m xs ys y is len count fresh =
+pub opens : (told : Option (Result PortEvent Failed)) (nexts faults ends n m : ℕ) (xs ys : List HostPort) (y : HostPort) → ys ≡ xs ++ y ∷ [] → m ≡ length ys → n ≡ open_among (host_port_in xs) (length xs) → host_port y ≡ newly n no_host_port
+    → Happens (host_harbour told nexts xs faults ends) (host_harbour told nexts ys faults ends) (Ok (Opened m))
+opens told nexts faults ends n m xs ys y is len count fresh =
     let l : length xs + 1 ≡ length ys = sym (ap length is ∙ len_push xs y) in
     let none = past_end xs in
-    let base = happens_opened host_port no_host_port told nexts (length xs) faults n xs ys
+    let base = happens_opened host_port no_host_port told nexts (length xs) faults ends n xs ys
     (λ k away. ap (λ (zs : List HostPort). host_port_in zs k) is ∙ in_front host_port no_host_port xs y k away)
     (ap (λ (zs : List HostPort). host_port_in zs (length xs + 1)) is ∙ in_push host_port no_host_port xs y (length xs + 1) refl ∙ fresh ∙ ap (newly n) (sym none))
     count
     (subst (λ (p : Port). IsNothing p.taken) (sym none) tt)
     (subst (λ (p : Port). IsNothing p.given) (sym none) tt) in
-    subst (λ (j : ℕ). Happens (host_harbour told nexts xs faults) (host_harbour told nexts ys faults) (Ok (Opened j))) (sym len)
-    (subst (λ (j : ℕ). Happens (host_harbour told nexts xs faults) (record { told = told; nexts = nexts; opened = j; port = host_port_in ys; faults = faults }) (Ok (Opened j))) l base)
+    subst (λ (j : ℕ). Happens (host_harbour told nexts xs faults ends) (host_harbour told nexts ys faults ends) (Ok (Opened j))) (sym len)
+    (subst (λ (j : ℕ). Happens (host_harbour told nexts xs faults ends) (record { told = told; nexts = nexts; opened = j; port = host_port_in ys; faults = faults; ends = ends }) (Ok (Opened j))) l base)
 
 -- what holds of a changed list of links is said with as many links as there were
-pub resized : (P : Harbour → Type 0) (told : Option (Result PortEvent Failed)) (nexts faults : ℕ) (xs : List HostPort) (i : ℕ) (y : HostPort)
-    → P (record { told = told; nexts = nexts; opened = length xs; port = host_port_in (set xs i y); faults = faults }) → P (host_harbour told nexts (set xs i y) faults)
-resized P told nexts faults xs i y holds =
-    subst (λ (n : ℕ). P (record { told = told; nexts = nexts; opened = n; port = host_port_in (set xs i y); faults = faults })) (sym (length-set xs i y)) holds
+pub resized : (P : Harbour → Type 0) (told : Option (Result PortEvent Failed)) (nexts faults ends : ℕ) (xs : List HostPort) (i : ℕ) (y : HostPort)
+    → P (record { told = told; nexts = nexts; opened = length xs; port = host_port_in (set xs i y); faults = faults; ends = ends }) → P (host_harbour told nexts (set xs i y) faults ends)
+resized P told nexts faults ends xs i y holds =
+    subst (λ (n : ℕ). P (record { told = told; nexts = nexts; opened = n; port = host_port_in (set xs i y); faults = faults; ends = ends })) (sym (length-set xs i y)) holds

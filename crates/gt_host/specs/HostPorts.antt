@@ -37,13 +37,14 @@ no_host_port =
 abbrev pub host_port_in : List HostPort → ℕ → Port
 host_port_in ps k = told_in host_port no_host_port ps k
 
-abbrev pub host_harbour : Option (Result PortEvent Failed) → ℕ → List HostPort → ℕ
+abbrev pub host_harbour : Option (Result PortEvent Failed) → ℕ → List HostPort → ℕ → ℕ
     → Harbour
-host_harbour told nexts ports faults =
+host_harbour told nexts ports faults ends =
     record {
       told = told;
       nexts = nexts;
       opened = length ports;
       port = host_port_in ports;
       faults = faults;
+      ends = ends;
     }

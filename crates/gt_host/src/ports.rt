@@ -4,14 +4,13 @@ ghost use Rattle.std.specs.Prelude.{[], None, Some, Ok, false};
 ghost use Rattle.gt_base.specs.declared.limits.TheConstants.{MAX_LINKS};
 ghost use Rattle.gt_io.specs.Ports.{PortReads, PortWrites, FitsGot, FitsTook, readied};
 ghost use Rattle.gt_io.specs.Ports.{open_among, Happens, IsUncalled};
-ghost use Rattle.gt_io.specs.Memory.{one_more};
 ghost use Rattle.gt_host.specs.HostPorts.{host_port, host_port_in, host_harbour};
 ghost use Rattle.gt_host.specs.Lookouts.{FitsFound};
 
 use crate::conn::{Conn, Sign};
 use crate::lookout::{Found, Lookout};
 use crate::port::HostPort;
-use gt_io::{Called, Failed, Got, PortEvent, Ports, Took};
+use gt_io::{Called, Failed, Got, PortEvent, Ports, Took, count_fault, count_finished};
 use mio::Registry;
 use std::alloc::Global;
 use std::io;
@@ -140,6 +139,7 @@ pub struct HostPorts<'a, R> {
     told: Option<Result<PortEvent, Failed>>,
     nexts: u64,
     faults: u64,
+    ends: u64,
     ghost few: { length ports.items ≤ MAX_LINKS },
     ghost counted: { busy ≡ open_among (host_port_in ports.items) (length ports.items) },
 }
@@ -153,23 +153,16 @@ impl<'a, R> Drop for HostPorts<'a, R> {
             told: _,
             nexts: _,
             faults: _,
+            ends: _,
         } = self;
     }
-}
-
-/// A count of faults that has risen.
-fn raised(faults: u64) -> u64
-    ensures later { faults ≤ result }
-    ensures rose { result ≡ one_more faults }
-{
-    faults.saturating_add(1)
 }
 
 impl<'a, R: Files + rt::Clock + Net> HostPorts<'a, R> {
     /// Ports on 127.0.0.1 at the port.
     pub fn new(rt: &'a R, alloc: Global, port: u16) -> Self
         ensures port { result.lookout.port ≡ Some port }
-        ensures harbour { ⟦<HostPorts<'a, R> as Ports>⟧.harbour result ≡ host_harbour None 0 [] 0 }
+        ensures harbour { ⟦<HostPorts<'a, R> as Ports>⟧.harbour result ≡ host_harbour None 0 [] 0 0 }
         ensures uncalled { IsUncalled (⟦<HostPorts<'a, R> as Ports>⟧.harbour result) }
     {
         HostPorts {
@@ -179,6 +172,7 @@ impl<'a, R: Files + rt::Clock + Net> HostPorts<'a, R> {
             told: None,
             nexts: 0,
             faults: 0,
+            ends: 0,
         }
     }
 
@@ -240,15 +234,17 @@ impl<'a, R: Files + rt::Clock + Net> HostPorts<'a, R> {
             }
             Err(_) => {
                 self.lookout.close();
-                self.faults = raised(self.faults);
-                Err(Failed)
+                let fault = Err(Failed);
+                self.faults = count_fault(self.faults, &fault);
+                fault
             }
         }
     }
 }
 
 impl<'a, R: Files + rt::Clock + Net> Ports for HostPorts<'a, R> {
-    ghost harbour = { λ p. host_harbour p.told p.nexts p.ports.items p.faults };
+    ghost harbour = { λ p. host_harbour p.told p.nexts p.ports.items p.faults
+        p.ends };
 
     fn next(&mut self) -> Result<PortEvent, Failed> {
         self.nexts = self.nexts.saturating_add(1);
@@ -259,17 +255,14 @@ impl<'a, R: Files + rt::Clock + Net> Ports for HostPorts<'a, R> {
 
     fn read(&mut self, link: u32, buf: &mut [u8]) -> Result<Got, Failed> {
         let answer = self.ports[link as usize - 1].read(self.lookout.registry(), link, buf);
-        if answer.is_err() {
-            self.faults = raised(self.faults);
-        }
+        self.faults = count_fault(self.faults, &answer);
+        self.ends = count_finished(self.ends, answer);
         answer
     }
 
     fn write(&mut self, link: u32, piece: &[u8]) -> Result<Took, Failed> {
         let answer = self.ports[link as usize - 1].write(piece);
-        if answer.is_err() {
-            self.faults = raised(self.faults);
-        }
+        self.faults = count_fault(self.faults, &answer);
         answer
     }
 

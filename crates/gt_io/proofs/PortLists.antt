@@ -1,5 +1,5 @@
 -- What a list of links tells where one of them was changed.
-use Rattle.std.proofs.Common.{◌≡◌, ◌≢◌, ℕ, zero, suc, ◌+◌, ◌-◌, ◌<◌, ◌≤◌, ◌==◌, Bool, true, false, List, [], ◌∷◌, ◌++◌, length, set, get_or, drop, All, length-drop, refl, sym, ap, subst, ◌∙◌, arith, eq-eqb, ne_eqb, ◌^◌, min, is_err, Option, Result, Ok, Err, Some, None, IfOk}
+use Rattle.std.proofs.Common.{◌≡◌, ◌≢◌, ℕ, zero, suc, ◌+◌, ◌-◌, ◌<◌, ◌≤◌, ◌==◌, Bool, true, false, List, [], ◌∷◌, ◌++◌, length, set, get_or, drop, All, length-drop, refl, sym, ap, subst, ◌∙◌, arith, eq-eqb, ne_eqb, Option, Result, Ok, Err, Some, IfOk}
 use Rattle.std.proofs.lemmas.List.{get_or-drop, get_or-set_other, length-set}
 use Rattle.gt_io.specs.declared.source.Failed.{Failed}
 use Rattle.gt_io.specs.declared.port.PortEvent.{PortEvent}
@@ -7,8 +7,7 @@ use Rattle.gt_io.specs.declared.port.PortEvent.TheVariants.{Opened, Ready, Stop}
 use Rattle.gt_io.specs.declared.port.Got.{Got}
 use Rattle.gt_io.specs.declared.port.Took.{Took}
 use Rattle.gt_io.specs.Causes.{FailsOnce}
-use Rattle.gt_io.specs.Memory.{one_more}
-use Rattle.gt_io.specs.Ports.{Port, Harbour, told_at, told_in, KeepsRest, PortReads, ReadsPort, FitsGot, PortWrites, WritesPort, FitsTook, Finishes, Happens, open_among, is_none, newly, readied, port_by}
+use Rattle.gt_io.specs.Ports.{Port, Harbour, told_at, told_in, KeepsRest, PortReads, ReadsPort, FitsGot, PortWrites, WritesPort, FitsTook, Finishes, Happens, open_among, is_none, newly, readied, port_by, ends_by}
 use Rattle.gt_io.specs.Links.{IsNothing}
 use Rattle.std.specs.Prelude.{if◌then◌else◌}
 use mathlib.Core.Logic.{dite}
@@ -64,48 +63,51 @@ module _ {A : Type 0} (tells : A → Port) (other : Port) where
   in_front xs y zero away = refl
   in_front xs y (suc i) away = at_front xs y i (λ same. away (omega (arith, same)))
 
-  abbrev Are : Option (Result PortEvent Failed) → ℕ → ℕ → List A → ℕ → Harbour
-  Are told nexts opened xs faults = record { told = told; nexts = nexts; opened = opened; port = told_in tells other xs; faults = faults }
+  abbrev Are : Option (Result PortEvent Failed) → ℕ → ℕ → List A → ℕ → ℕ → Harbour
+  Are told nexts opened xs faults ends = record { told = told; nexts = nexts; opened = opened; port = told_in tells other xs; faults = faults; ends = ends }
 
-  rest_of : (told : Option (Result PortEvent Failed)) (nexts opened faults faults' : ℕ) (xs : List A) (c : ℕ) (y : A) → 1 ≤ c → KeepsRest (Are told nexts opened xs faults) (Are told nexts opened (set xs (c - 1) y) faults') c
-  rest_of told nexts opened faults faults' xs c y first =
+  rest_of : (told : Option (Result PortEvent Failed)) (nexts opened faults faults' ends ends' : ℕ) (xs : List A) (c : ℕ) (y : A) → 1 ≤ c → KeepsRest (Are told nexts opened xs faults ends) (Are told nexts opened (set xs (c - 1) y) faults' ends') c
+  rest_of told nexts opened faults faults' ends ends' xs c y first =
       record { told = refl; nexts = refl; opened = refl; others = λ k away. in_away xs c k y first away }
 
   -- a call on one link of the list
-  pub reads_port : (told : Option (Result PortEvent Failed)) (nexts opened faults faults' : ℕ) (xs : List A) (c : ℕ) (x y : A) (buf : List ℕ) (result : Result Got Failed) → 1 ≤ c → c ≤ length xs → x ≡ get_or xs (c - 1) x
-      → IfOk result (FitsGot (length buf)) → PortReads (tells x) (tells y) buf result → FailsOnce faults faults' result
-      → ReadsPort (Are told nexts opened xs faults) (Are told nexts opened (set xs (c - 1) y) faults') c buf result
-  reads_port told nexts opened faults faults' xs c x y buf result first last is bound reads cause =
+  pub reads_port : (told : Option (Result PortEvent Failed)) (nexts opened faults faults' ends ends' : ℕ) (xs : List A) (c : ℕ) (x y : A) (buf : List ℕ) (result : Result Got Failed) → 1 ≤ c → c ≤ length xs → x ≡ get_or xs (c - 1) x
+      → IfOk result (FitsGot (length buf)) → PortReads (tells x) (tells y) buf result → FailsOnce faults faults' result → ends' ≡ ends_by result ends
+      → ReadsPort (Are told nexts opened xs faults ends) (Are told nexts opened (set xs (c - 1) y) faults' ends') c buf result
+  reads_port told nexts opened faults faults' ends ends' xs c x y buf result first last is bound reads cause ended =
       let before : told_in tells other xs c ≡ tells x = in_get xs c x first last ∙ ap tells (sym is) in
       let after = in_set xs c y first last in
       record {
         bound = bound;
         port = subst (λ (p : Port). PortReads p (told_in tells other (set xs (c - 1) y) c) buf result) (sym before) (subst (λ (q : Port). PortReads (tells x) q buf result) (sym after) reads);
-        rest = rest_of told nexts opened faults faults' xs c y first;
+        rest = rest_of told nexts opened faults faults' ends ends' xs c y first;
         cause = cause;
+        ends = ended;
       }
 
-  pub writes_port : (told : Option (Result PortEvent Failed)) (nexts opened faults faults' : ℕ) (xs : List A) (c : ℕ) (x y : A) (piece : List ℕ) (result : Result Took Failed) → 1 ≤ c → c ≤ length xs → x ≡ get_or xs (c - 1) x
+  pub writes_port : (told : Option (Result PortEvent Failed)) (nexts opened faults faults' ends : ℕ) (xs : List A) (c : ℕ) (x y : A) (piece : List ℕ) (result : Result Took Failed) → 1 ≤ c → c ≤ length xs → x ≡ get_or xs (c - 1) x
       → IfOk result (FitsTook (length piece)) → PortWrites (tells x) (tells y) piece result → FailsOnce faults faults' result
-      → WritesPort (Are told nexts opened xs faults) (Are told nexts opened (set xs (c - 1) y) faults') c piece result
-  writes_port told nexts opened faults faults' xs c x y piece result first last is bound writes cause =
+      → WritesPort (Are told nexts opened xs faults ends) (Are told nexts opened (set xs (c - 1) y) faults' ends) c piece result
+  writes_port told nexts opened faults faults' ends xs c x y piece result first last is bound writes cause =
       let before : told_in tells other xs c ≡ tells x = in_get xs c x first last ∙ ap tells (sym is) in
       let after = in_set xs c y first last in
       record {
         bound = bound;
         port = subst (λ (p : Port). PortWrites p (told_in tells other (set xs (c - 1) y) c) piece result) (sym before) (subst (λ (q : Port). PortWrites (tells x) q piece result) (sym after) writes);
-        rest = rest_of told nexts opened faults faults' xs c y first;
+        rest = rest_of told nexts opened faults faults' ends ends xs c y first;
         cause = cause;
+        ends = refl;
       }
 
-  pub finishes_port : (told : Option (Result PortEvent Failed)) (nexts opened faults : ℕ) (xs : List A) (c : ℕ) (x y : A) → 1 ≤ c → c ≤ length xs → x ≡ get_or xs (c - 1) x
-      → tells y ≡ record (tells x) { owed = false; finished = Some nexts } → Finishes (Are told nexts opened xs faults) (Are told nexts opened (set xs (c - 1) y) faults) c
-  finishes_port told nexts opened faults xs c x y first last is ends =
+  pub finishes_port : (told : Option (Result PortEvent Failed)) (nexts opened faults ends : ℕ) (xs : List A) (c : ℕ) (x y : A) → 1 ≤ c → c ≤ length xs → x ≡ get_or xs (c - 1) x
+      → tells y ≡ record (tells x) { owed = false; finished = Some nexts } → Finishes (Are told nexts opened xs faults ends) (Are told nexts opened (set xs (c - 1) y) faults ends) c
+  finishes_port told nexts opened faults ends xs c x y first last is over =
       let before : told_in tells other xs c ≡ tells x = in_get xs c x first last ∙ ap tells (sym is) in
       record {
-        port = in_set xs c y first last ∙ ends ∙ ap (λ (p : Port). record p { owed = false; finished = Some nexts }) (sym before);
-        rest = rest_of told nexts opened faults faults xs c y first;
+        port = in_set xs c y first last ∙ over ∙ ap (λ (p : Port). record p { owed = false; finished = Some nexts }) (sym before);
+        rest = rest_of told nexts opened faults faults ends ends xs c y first;
         faults = refl;
+        ends = refl;
       }
 
   by_opened : (n c k : ℕ) (p : Port) (b : Bool) → (k == c) ≡ b → port_by (Ok (Opened c)) n k p ≡ (if b then newly n p else p)
@@ -115,11 +117,11 @@ module _ {A : Type 0} (tells : A → Port) (other : Port) where
   by_ready n c k p b is = ap (λ (v : Bool). if v then readied p else p) is
 
   -- the link of the next number is opened
-  pub happens_opened : (told : Option (Result PortEvent Failed)) (nexts opened faults n : ℕ) (xs ys : List A) → ((k : ℕ) → k ≢ opened + 1 → told_in tells other ys k ≡ told_in tells other xs k)
+  pub happens_opened : (told : Option (Result PortEvent Failed)) (nexts opened faults ends n : ℕ) (xs ys : List A) → ((k : ℕ) → k ≢ opened + 1 → told_in tells other ys k ≡ told_in tells other xs k)
       → told_in tells other ys (opened + 1) ≡ newly n (told_in tells other xs (opened + 1)) → n ≡ open_among (told_in tells other xs) opened
       → IsNothing (told_in tells other xs (opened + 1)).taken → IsNothing (told_in tells other xs (opened + 1)).given
-      → Happens (Are told nexts opened xs faults) (Are told nexts (opened + 1) ys faults) (Ok (Opened (opened + 1)))
-  happens_opened told nexts opened faults n xs ys away here count taken given =
+      → Happens (Are told nexts opened xs faults ends) (Are told nexts (opened + 1) ys faults ends) (Ok (Opened (opened + 1)))
+  happens_opened told nexts opened faults ends n xs ys away here count taken given =
       record {
         opened = refl;
         number = λ c same. cc;
@@ -133,12 +135,13 @@ module _ {A : Type 0} (tells : A → Port) (other : Port) where
             ∙ sym (by_opened (open_among (told_in tells other xs) opened) (opened + 1) k p true (eq-eqb k (opened + 1) is))) (λ other_one.
             away k other_one ∙ sym (by_opened (open_among (told_in tells other xs) opened) (opened + 1) k (told_in tells other xs k) false (ne_eqb k (opened + 1) other_one)));
         cause = record { later = omega arith; kept = refl; once = tt };
+        ends = refl;
       }
 
   -- a link that was opened is ready
-  pub happens_ready : (told : Option (Result PortEvent Failed)) (nexts opened faults c : ℕ) (xs : List A) (x y : A) → 1 ≤ c → c ≤ opened → c ≤ length xs → x ≡ get_or xs (c - 1) x → tells y ≡ readied (tells x)
-      → Happens (Are told nexts opened xs faults) (Are told nexts opened (set xs (c - 1) y) faults) (Ok (Ready c))
-  happens_ready told nexts opened faults c xs x y first last within is wakes =
+  pub happens_ready : (told : Option (Result PortEvent Failed)) (nexts opened faults ends c : ℕ) (xs : List A) (x y : A) → 1 ≤ c → c ≤ opened → c ≤ length xs → x ≡ get_or xs (c - 1) x → tells y ≡ readied (tells x)
+      → Happens (Are told nexts opened xs faults ends) (Are told nexts opened (set xs (c - 1) y) faults ends) (Ok (Ready c))
+  happens_ready told nexts opened faults ends c xs x y first last within is wakes =
       let before : told_in tells other xs c ≡ tells x = in_get xs c x first within ∙ ap tells (sym is) in
       let n = open_among (told_in tells other xs) opened in
       record {
@@ -153,11 +156,12 @@ module _ {A : Type 0} (tells : A → Port) (other : Port) where
             ∙ sym (by_ready n c k p true (eq-eqb k c here))) (λ away.
             in_away xs c k y first away ∙ sym (by_ready n c k (told_in tells other xs k) false (ne_eqb k c away)));
         cause = record { later = omega arith; kept = refl; once = tt };
+        ends = refl;
       }
 
   -- there is nothing more to do
-  pub happens_stop : (told : Option (Result PortEvent Failed)) (nexts opened faults : ℕ) (xs : List A) → Happens (Are told nexts opened xs faults) (Are told nexts opened xs faults) (Ok Stop)
-  happens_stop told nexts opened faults xs =
+  pub happens_stop : (told : Option (Result PortEvent Failed)) (nexts opened faults ends : ℕ) (xs : List A) → Happens (Are told nexts opened xs faults ends) (Are told nexts opened xs faults ends) (Ok Stop)
+  happens_stop told nexts opened faults ends xs =
       record {
         opened = refl;
         number = λ d same. absurd cc;
@@ -165,27 +169,20 @@ module _ {A : Type 0} (tells : A → Port) (other : Port) where
         fresh = λ d same. absurd cc;
         ports = λ k. refl;
         cause = record { later = omega arith; kept = refl; once = tt };
+        ends = refl;
       }
 
-  pub happens_fault : (told : Option (Result PortEvent Failed)) (nexts opened faults faults' : ℕ) (xs : List A) (f : Failed) → faults ≤ faults' → faults' ≡ one_more faults → Happens (Are told nexts opened xs faults) (Are told nexts opened xs faults') (Err f)
-  happens_fault told nexts opened faults faults' xs f later rose =
+  pub happens_fault : (told : Option (Result PortEvent Failed)) (nexts opened faults faults' ends : ℕ) (xs : List A) (f : Failed) → FailsOnce {T = PortEvent} faults faults' (Err f) → Happens (Are told nexts opened xs faults ends) (Are told nexts opened xs faults' ends) (Err f)
+  happens_fault told nexts opened faults faults' ends xs f cause =
       record {
         opened = refl;
         number = λ d same. absurd cc;
         known = λ d same. absurd cc;
         fresh = λ d same. absurd cc;
         ports = λ k. refl;
-        cause = record { later = later; kept = tt; once = rose };
+        cause = cause;
+        ends = refl;
       }
-
--- the count of faults rises where a call fails
-pub cause_err : {T : Type 0} (before now : ℕ) (result : Result T Failed) → is_err result ≡ true → before ≤ now → now ≡ one_more before → FailsOnce before now result
-cause_err before now (Ok x) e later rose = absurd cc
-cause_err before now (Err f) e later rose = record { later = later; kept = tt; once = rose }
-
-pub cause_ok : {T : Type 0} (before : ℕ) (result : Result T Failed) → is_err result ≡ false → FailsOnce before before result
-cause_ok before (Ok x) e = record { later = omega arith; kept = refl; once = tt }
-cause_ok before (Err f) e = absurd cc
 
 -- links that nothing went over, behind the one that is opened next
 pub unused_next : {A : Type 0} (P : A → Type 0) (xs : List A) (i : ℕ) (y : A) → i < length xs → All P (drop i xs) → All P (drop (i + 1) (set xs i y))

@@ -1,5 +1,5 @@
 -- What ports in memory tell.
-use Rattle.std.specs.Prelude.{◌≡◌, ℕ, zero, suc, false, List, [], ◌∷◌, take, drop, Some, None}
+use Rattle.std.specs.Prelude.{◌≡◌, ℕ, false, List, [], take, drop, Some, None}
 use Rattle.std.specs.declared.option.Option.{Option}
 use Rattle.std.specs.declared.result.Result.{Result}
 use Rattle.gt_io.specs.declared.source.Failed.{Failed}
@@ -37,9 +37,17 @@ no_port =
 abbrev pub port_in : List MemPort → ℕ → Port
 port_in ps k = told_in port_of no_port ps k
 
-abbrev pub harbour_of : Option (Result PortEvent Failed) → ℕ → ℕ → List MemPort → ℕ → Harbour
-harbour_of told nexts opened ports faults =
-    record { told = told; nexts = nexts; opened = opened; port = port_in ports; faults = faults }
+abbrev pub harbour_of : Option (Result PortEvent Failed) → ℕ → ℕ → List MemPort → ℕ → ℕ
+    → Harbour
+harbour_of told nexts opened ports faults ends =
+    record {
+      told = told;
+      nexts = nexts;
+      opened = opened;
+      port = port_in ports;
+      faults = faults;
+      ends = ends;
+    }
 
 -- nothing was taken from it and nothing was given to it
 abbrev pub IsUnused : MemPort → Type 0

@@ -1,5 +1,5 @@
 -- What ports tell of their links.
-use Rattle.std.specs.Prelude.{◌≡◌, ◌≢◌, ℕ, zero, suc, ◌+◌, ◌^◌, ◌<◌, ◌≤◌, ◌==◌, Bool, true, false, List, [], ◌∷◌, length, take, min, if◌then◌else◌, Some, None, Ok, Err, IfOk}
+use Rattle.std.specs.Prelude.{◌≡◌, ◌≢◌, ℕ, zero, suc, ◌+◌, ◌<◌, ◌≤◌, ◌==◌, Bool, true, false, List, [], ◌∷◌, length, take, if◌then◌else◌, Some, None, Ok, Err, IfOk}
 use Rattle.std.specs.declared.option.Option.{Option}
 use Rattle.std.specs.declared.result.Result.{Result}
 use Rattle.std.specs.Io.KnownBytes.{Appends, Consumes, IsAtEnd}
@@ -29,13 +29,14 @@ pub record Port : Type 0 where
   pub finished : Option ℕ
 
 -- All links: the last answer of `next`, how often it was called, how many links were opened, each
--- link by its number, and the faults
+-- link by its number, the faults, and how often a read told the end of a link
 pub record Harbour : Type 0 where
   pub told : Option (Result PortEvent Failed)
   pub nexts : ℕ
   pub opened : ℕ
   pub port : ℕ → Port
   pub faults : ℕ
+  pub ends : ℕ
 
 abbrev pub is_none : {A : Type 0} → Option A → Bool
 is_none None = true
@@ -104,6 +105,7 @@ pub record Happens (a b : Harbour) (result : Result PortEvent Failed) : Type 0 w
       → IsNothing (a.port c).taken × IsNothing (a.port c).given
   pub ports : (k : ℕ) → b.port k ≡ port_by result (open_among a.port a.opened) k (a.port k)
   pub cause : FailsOnce a.faults b.faults result
+  pub ends : b.ends ≡ a.ends
 
 pub record Nexts (a b : Harbour) (result : Result PortEvent Failed) : Type 0 where
   pub told : b.told ≡ Some result
@@ -131,6 +133,14 @@ owed_by_read (Ok Finished) owed = false
 owed_by_read (Ok NothingYet) owed = false
 owed_by_read (Err f) owed = false
 
+-- a read that tells the end of a link, and nothing else, raises the count, by one up to the end of
+-- its type
+abbrev pub ends_by : Result Got Failed → ℕ → ℕ
+ends_by (Ok (GotBytes n)) ends = ends
+ends_by (Ok Finished) ends = one_more ends
+ends_by (Ok NothingYet) ends = ends
+ends_by (Err f) ends = ends
+
 -- at least a byte, and at most so many
 abbrev pub FitsGot : ℕ → Got → Type 0
 FitsGot room (GotBytes n) = (0 < n) × (n ≤ room)
@@ -155,6 +165,7 @@ pub record ReadsPort (a b : Harbour) (c : ℕ) (buf : List ℕ) (result : Result
   pub port : PortReads (a.port c) (b.port c) buf result
   pub rest : KeepsRest a b c
   pub cause : FailsOnce a.faults b.faults result
+  pub ends : b.ends ≡ ends_by result a.ends
 
 -- the bytes that a write took
 abbrev pub took_bytes : Result Took Failed → List ℕ → List ℕ
@@ -182,12 +193,14 @@ pub record WritesPort (a b : Harbour) (c : ℕ) (piece : List ℕ) (result : Res
   pub port : PortWrites (a.port c) (b.port c) piece result
   pub rest : KeepsRest a b c
   pub cause : FailsOnce a.faults b.faults result
+  pub ends : b.ends ≡ a.ends
 
 -- it is owed no longer
 pub record Finishes (a b : Harbour) (c : ℕ) : Type 0 where
   pub port : b.port c ≡ record (a.port c) { owed = false; finished = Some a.nexts }
   pub rest : KeepsRest a b c
   pub faults : b.faults ≡ a.faults
+  pub ends : b.ends ≡ a.ends
 
 -- what each of a list tells, by its number from 1
 abbrev pub told_at : {A : Type 0} → (A → Port) → Port → List A → ℕ → Port

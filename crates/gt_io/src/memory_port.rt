@@ -2,23 +2,14 @@
 ghost use Rattle.std.specs.Prelude.{◌≡◌, ◌<◌, ◌≤◌, ◌+◌, ◌++◌, ◌^◌, ℕ, [], length, take, drop, slice_get, vec_capacity, false, All, IfOk, IfSome, OnOk, OnErr, IsOk, Some, None, if◌then◌else◌};
 ghost use Rattle.std.specs.Io.KnownBytes.{Appends, Consumes, IsAtEnd};
 ghost use Rattle.gt_io.specs.Links.{IsNothing};
-ghost use Rattle.gt_io.specs.Memory.{one_more};
 ghost use Rattle.gt_io.specs.Ports.{PortReads, PortWrites, FitsGot, FitsTook, newly, readied, is_none, open_among, got_bytes, took_bytes, Happens};
 ghost use Rattle.gt_io.specs.MemoryPorts.{port_of, port_in, harbour_of, IsUnused};
 
 use crate::memory_ports::{Hitches, MemEvent, MemPort, MemPorts};
-use crate::port::{Called, Got, PortEvent, Ports, Took};
+use crate::port::{Called, Got, PortEvent, Ports, Took, count_fault, count_finished};
 use crate::source::Failed;
 use gt_base::{List, Memory};
 use std::alloc::Global;
-
-/// A count of faults that has risen.
-fn raised(faults: u64) -> u64
-    ensures later { faults ≤ result }
-    ensures rose { result ≡ one_more faults }
-{
-    faults.saturating_add(1)
-}
 
 /// Copies the bytes from `at` up to `upto`, as far as the buffer goes, and answers how many.
 fn give(bytes: &[u8], at: usize, upto: usize, buf: &mut [u8]) -> usize
@@ -240,6 +231,7 @@ impl MemPorts {
               opened = 0;
               port = port_in ports.items;
               faults = 0;
+              ends = 0;
             } }
     {
         MemPorts {
@@ -251,6 +243,7 @@ impl MemPorts {
             nexts: 0,
             bad_nexts,
             faults: 0,
+            ends: 0,
         }
     }
 
@@ -303,8 +296,9 @@ impl MemPorts {
             (⟦<MemPorts as Ports>⟧.harbour self.new) result }
     {
         if self.bad_nexts.as_slice().contains(&self.nexts) {
-            self.faults = raised(self.faults);
-            return Err(Failed);
+            let fault = Err(Failed);
+            self.faults = count_fault(self.faults, &fault);
+            return fault;
         }
         let Some(event) = self.events.get(self.at) else {
             return Ok(PortEvent::Stop);
@@ -319,7 +313,7 @@ impl MemPorts {
 }
 
 impl Ports for MemPorts {
-    ghost harbour = { λ p. harbour_of p.told p.nexts p.opened p.ports.items p.faults };
+    ghost harbour = { λ p. harbour_of p.told p.nexts p.opened p.ports.items p.faults p.ends };
 
     fn next(&mut self) -> Result<PortEvent, Failed> {
         self.nexts = self.nexts.saturating_add(1);
@@ -330,17 +324,14 @@ impl Ports for MemPorts {
 
     fn read(&mut self, link: u32, buf: &mut [u8]) -> Result<Got, Failed> {
         let answer = self.ports[link as usize - 1].read(buf);
-        if answer.is_err() {
-            self.faults = raised(self.faults);
-        }
+        self.faults = count_fault(self.faults, &answer);
+        self.ends = count_finished(self.ends, answer);
         answer
     }
 
     fn write(&mut self, link: u32, piece: &[u8]) -> Result<Took, Failed> {
         let answer = self.ports[link as usize - 1].write(piece);
-        if answer.is_err() {
-            self.faults = raised(self.faults);
-        }
+        self.faults = count_fault(self.faults, &answer);
         answer
     }
 

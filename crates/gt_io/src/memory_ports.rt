@@ -60,6 +60,7 @@ pub struct MemPorts {
     pub(crate) nexts: u64,
     pub(crate) bad_nexts: List<u64>,
     pub(crate) faults: u64,
+    pub(crate) ends: u64,
     ghost few: { length ports.items < 2 ^ 32 },
     ghost within: { opened ≤ length ports.items },
     ghost unused: { All (λ p. (p.at ≡ 0) × (p.given.items ≡ [])) (drop opened ports.items) },

@@ -1,6 +1,7 @@
 //! Many connections at one place: which of them has something to do, and what goes over each.
 ghost use Rattle.std.specs.Prelude.{◌≡◌, ◌<◌, length};
-ghost use Rattle.gt_io.specs.Ports.{Harbour, IsOpen, NoneOwed, AreFinished, Nexts, ReadsPort, WritesPort, Finishes};
+ghost use Rattle.gt_io.specs.Causes.{FailsOnce};
+ghost use Rattle.gt_io.specs.Ports.{Harbour, IsOpen, NoneOwed, AreFinished, Nexts, ReadsPort, WritesPort, Finishes, ends_by};
 
 use crate::source::Failed;
 
@@ -44,8 +45,32 @@ pub enum Called {
     Wrote(Result<Took, Failed>),
 }
 
+/// How often calls have failed, behind one with this answer, up to the end of its type.
+pub fn count_fault<T>(faults: u64, answer: &Result<T, Failed>) -> u64
+    ensures { FailsOnce faults result answer.now }
+{
+    match answer {
+        Ok(_) => faults,
+        Err(_) => faults.saturating_add(1),
+    }
+}
+
+/// How often reads have told the end of a link, behind one with this answer, up to the end of its
+/// type.
+pub fn count_finished(ends: u64, answer: Result<Got, Failed>) -> u64
+    ensures { result ≡ ends_by answer ends }
+{
+    match answer {
+        Ok(Got::Bytes(_)) => ends,
+        Ok(Got::Finished) => ends.saturating_add(1),
+        Ok(Got::NotYet) => ends,
+        Err(_) => ends,
+    }
+}
+
 /// Links that are served side by side. There is one count of faults, and each call raises it by one
-/// where it fails, and nothing else does.
+/// where it fails, and nothing else does. So does a read that tells the end of a link, and nothing
+/// else, with the one count of ends.
 pub trait Ports {
     /// What is told of the links.
     ghost harbour: { Self → Harbour };

@@ -1,7 +1,6 @@
-use Rattle.std.proofs.Common.{◌≡◌, ◌≤◌, ◌<◌, ◌+◌, ◌-◌, ◌∙◌, sym, ap, arith, get_or, suc}
+use Rattle.std.proofs.Common.{◌≡◌, ◌+◌, ◌-◌, ◌∙◌, sym, ap, arith, get_or, suc}
 use Rattle.std.specs.Prelude.{if◌then◌else◌}
 use Rattle.gt_io.specs.Ports.{Port, is_none, open_among}
-use Rattle.gt_io.specs.declared.memory_ports.MemPort.{MemPort}
 use Rattle.gt_io.specs.MemoryPorts.{port_of, no_port, port_in}
 use Rattle.gt_io.proofs.PortLists.{in_get, one_opened}
 use Rattle.gt_io.proofs.memory_port.count_open.Goals as goal

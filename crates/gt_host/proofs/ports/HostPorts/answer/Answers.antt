@@ -1,5 +1,6 @@
-use Rattle.std.proofs.Common.{◌≡◌, ◌∙◌, sym, ap, subst, Ok, Err, length, arith}
-use Rattle.gt_io.specs.Memory.{one_more}
+use Rattle.std.proofs.Common.{ℕ, sym, ap, subst, Ok, Err, length}
+use Rattle.gt_io.specs.Causes.{FailsOnce}
+use Rattle.gt_io.specs.declared.port.PortEvent.{PortEvent}
 use Rattle.gt_io.specs.Ports.{Harbour, Happens}
 use Rattle.gt_io.specs.declared.port.PortEvent.TheVariants.{Stop}
 use Rattle.gt_io.proofs.PortLists.{happens_stop, happens_fault}
@@ -9,15 +10,13 @@ use Rattle.gt_host.proofs.ports.HostPorts.answer.Goals as goal
 pub returns-in-Ok-Stop-clause-happens : goal.returns-in-Ok-Stop-clause-happens
 returns-in-Ok-Stop-clause-happens g c =
     let s = c.args.self.now in
-    subst (λ (h : Harbour). Happens (host_harbour s.told s.nexts s.ports.items s.faults) h (Ok Stop)) (sym c.found.ensures.same)
-    (happens_stop host_port no_host_port s.told s.nexts (length s.ports.items) s.faults s.ports.items)
+    subst (λ (h : Harbour). Happens (host_harbour s.told s.nexts s.ports.items s.faults s.ends) h (Ok Stop)) (sym c.found.ensures.same)
+    (happens_stop host_port no_host_port s.told s.nexts (length s.ports.items) s.faults s.ends s.ports.items)
 
 pub returns-in-Err-clause-happens : goal.returns-in-Err-clause-happens
 returns-in-Err-clause-happens g c =
     let s = c.args.self.now in
     let same = c.found.ensures.same in
-    let before = ap (λ (h : Harbour). h.faults) same in
-    let later = c.raised-self.ensures.later in
-    let rose : c.raised-self.result ≡ one_more s.faults = c.raised-self.ensures.rose ∙ ap one_more before in
-    subst (λ (h : Harbour). Happens (host_harbour s.told s.nexts s.ports.items s.faults) h (Err (record {}))) (sym (ap (λ (h : Harbour). record h { faults = c.raised-self.result }) same))
-    (happens_fault host_port no_host_port s.told s.nexts (length s.ports.items) s.faults c.raised-self.result s.ports.items (record {}) (omega (arith, later, before)) rose)
+    let cause = subst (λ (n : ℕ). FailsOnce {T = PortEvent} n c.count_fault-self.result (Err (record {}))) (ap (λ (h : Harbour). h.faults) same) c.count_fault-self.ensures in
+    subst (λ (h : Harbour). Happens (host_harbour s.told s.nexts s.ports.items s.faults s.ends) h (Err (record {}))) (sym (ap (λ (h : Harbour). record h { faults = c.count_fault-self.result }) same))
+    (happens_fault host_port no_host_port s.told s.nexts (length s.ports.items) s.faults c.count_fault-self.result s.ends s.ports.items (record {}) cause)

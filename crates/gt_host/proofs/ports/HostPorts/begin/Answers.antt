@@ -25,4 +25,4 @@ returns-clause-happens g c =
     let y : HostPort = record { conn = Some c.args.conn; last = Nothing; owed = false; others = s.busy; finished = None } in
     let len = c.len.ensures in
     let same : c.len.result ≡ length c.push_reserved.new.self.items = omega (arith, len) in
-    opens s.told s.nexts s.faults s.busy c.len.result s.ports.items c.push_reserved.new.self.items y c.push_reserved.ensures.items same s.counted refl
+    opens s.told s.nexts s.faults s.ends s.busy c.len.result s.ports.items c.push_reserved.new.self.items y c.push_reserved.ensures.items same s.counted refl

@@ -14,5 +14,5 @@ invariant_of-self-clause-counted g c =
 pub returns-clause-happens : goal.returns-clause-happens
 returns-clause-happens g c =
     let s = c.args.self.now in
-    resized (λ (h : Harbour). Happens (host_harbour s.told s.nexts s.ports.items s.faults) h (Ok (Ready c.args.link))) s.told s.nexts s.faults s.ports.items (c.args.link - 1) c.wake.new.self
-    (happens_ready host_port no_host_port s.told s.nexts (length s.ports.items) s.faults c.args.link s.ports.items c.index_mut.result.now c.wake.new.self c.requires.known.0 c.requires.known.1 c.requires.known.1 c.index_mut.ensures.value c.wake.ensures)
+    resized (λ (h : Harbour). Happens (host_harbour s.told s.nexts s.ports.items s.faults s.ends) h (Ok (Ready c.args.link))) s.told s.nexts s.faults s.ends s.ports.items (c.args.link - 1) c.wake.new.self
+    (happens_ready host_port no_host_port s.told s.nexts (length s.ports.items) s.faults s.ends c.args.link s.ports.items c.index_mut.result.now c.wake.new.self c.requires.known.0 c.requires.known.1 c.requires.known.1 c.index_mut.ensures.value c.wake.ensures)

@@ -16,5 +16,5 @@ invariant_of-self-clause-counted g c =
 pub returns : goal.returns
 returns g c =
     let s = c.args.self.now in
-    resized (λ (h : Harbour). Finishes (host_harbour s.told s.nexts s.ports.items s.faults) h c.args.link) s.told s.nexts s.faults s.ports.items (c.args.link - 1) c.end.new.self
-    (finishes_port host_port no_host_port s.told s.nexts (length s.ports.items) s.faults s.ports.items c.args.link c.index_mut.result.now c.end.new.self c.requires.first c.requires.last c.index_mut.ensures.value c.end.ensures)
+    resized (λ (h : Harbour). Finishes (host_harbour s.told s.nexts s.ports.items s.faults s.ends) h c.args.link) s.told s.nexts s.faults s.ends s.ports.items (c.args.link - 1) c.end.new.self
+    (finishes_port host_port no_host_port s.told s.nexts (length s.ports.items) s.faults s.ends s.ports.items c.args.link c.index_mut.result.now c.end.new.self c.requires.first c.requires.last c.index_mut.ensures.value c.end.ensures)

@@ -1,6 +1,6 @@
 use Rattle.std.proofs.Common.{◌-◌, sym, ap, ◌∙◌, length}
 use Rattle.gt_io.specs.Ports.{Port, Harbour, ReadsPort}
-use Rattle.gt_io.proofs.PortLists.{reads_port, cause_err, cause_ok}
+use Rattle.gt_io.proofs.PortLists.{reads_port}
 use Rattle.gt_host.specs.HostPorts.{host_port, no_host_port, host_harbour}
 use Rattle.gt_host.proofs.HostLists.{count_set, resized}
 use Rattle.gt_host.proofs.ports.HostPortsPorts.read.Goals as goal
@@ -10,23 +10,9 @@ invariant_of-self-clause-counted g c =
     let s = c.args.self.now in
     s.counted ∙ sym (count_set s.ports.items c.args.link c.index_mut.result.now c.read-answer.new.self c.requires.open.first c.requires.open.last c.index_mut.ensures.value (ap (λ (p : Port). p.finished) c.read-answer.ensures.port.rest))
 
-pub invariant_of-self-else-is_err-clause-counted : goal.invariant_of-self-else-is_err-clause-counted
-invariant_of-self-else-is_err-clause-counted g c =
+pub returns : goal.returns
+returns g c =
     let s = c.args.self.now in
-    s.counted ∙ sym (count_set s.ports.items c.args.link c.index_mut.result.now c.read-answer.new.self c.requires.open.first c.requires.open.last c.index_mut.ensures.value (ap (λ (p : Port). p.finished) c.read-answer.ensures.port.rest))
-
-pub returns-then-is_err : goal.returns-then-is_err
-returns-then-is_err g c =
-    let s = c.args.self.now in
-    resized (λ (h : Harbour). ReadsPort (host_harbour s.told s.nexts s.ports.items s.faults) h c.args.link c.read-answer.new.buf c.read-answer.result) s.told s.nexts c.raised-self.result s.ports.items (c.args.link - 1) c.read-answer.new.self
-    (reads_port host_port no_host_port s.told s.nexts (length s.ports.items) s.faults c.raised-self.result s.ports.items c.args.link c.index_mut.result.now c.read-answer.new.self c.read-answer.new.buf c.read-answer.result
-    c.requires.open.first c.requires.open.last c.index_mut.ensures.value c.read-answer.ensures.bound c.read-answer.ensures.port
-    (cause_err s.faults c.raised-self.result c.read-answer.result (sym c.is_err.ensures.value ∙ c.if-is_err.true) c.raised-self.ensures.later c.raised-self.ensures.rose))
-
-pub returns-else-is_err : goal.returns-else-is_err
-returns-else-is_err g c =
-    let s = c.args.self.now in
-    resized (λ (h : Harbour). ReadsPort (host_harbour s.told s.nexts s.ports.items s.faults) h c.args.link c.read-answer.new.buf c.read-answer.result) s.told s.nexts s.faults s.ports.items (c.args.link - 1) c.read-answer.new.self
-    (reads_port host_port no_host_port s.told s.nexts (length s.ports.items) s.faults s.faults s.ports.items c.args.link c.index_mut.result.now c.read-answer.new.self c.read-answer.new.buf c.read-answer.result
-    c.requires.open.first c.requires.open.last c.index_mut.ensures.value c.read-answer.ensures.bound c.read-answer.ensures.port
-    (cause_ok s.faults c.read-answer.result (sym c.is_err.ensures.value ∙ c.if-is_err.false)))
+    resized (λ (h : Harbour). ReadsPort (host_harbour s.told s.nexts s.ports.items s.faults s.ends) h c.args.link c.read-answer.new.buf c.read-answer.result) s.told s.nexts c.count_fault-self.result c.count_finished-self.result s.ports.items (c.args.link - 1) c.read-answer.new.self
+    (reads_port host_port no_host_port s.told s.nexts (length s.ports.items) s.faults c.count_fault-self.result s.ends c.count_finished-self.result s.ports.items c.args.link c.index_mut.result.now c.read-answer.new.self c.read-answer.new.buf c.read-answer.result
+    c.requires.open.first c.requires.open.last c.index_mut.ensures.value c.read-answer.ensures.bound c.read-answer.ensures.port c.count_fault-self.ensures c.count_finished-self.ensures)

@@ -1,4 +1,4 @@
-use Rattle.std.proofs.Common.{◌≡◌, ◌≤◌, ◌<◌, ◌-◌, ◌+◌, ℕ, List, [], length, take, set, get_or, refl, sym, ap, subst, ◌∙◌, arith, Some}
+use Rattle.std.proofs.Common.{◌≡◌, ◌<◌, ◌-◌, ◌+◌, ℕ, List, [], length, take, set, get_or, sym, ap, subst, ◌∙◌, arith}
 use Rattle.std.proofs.lemmas.List.{length-set}
 use Rattle.gt_io.specs.Links.{IsNothing}
 use Rattle.gt_io.specs.Ports.{Port, newly, open_among, told_in}
@@ -43,7 +43,7 @@ returns-clause-happens c =
     let to : set xs (i + 1 - 1) y ≡ ys = ap (λ (j : ℕ). set xs j y) e in
     let old : told_in port_of no_port xs (i + 1) ≡ port_of x = in_get port_of no_port xs (i + 1) x (omega arith) (omega (arith, low)) ∙ ap (λ (j : ℕ). port_of (get_or xs j x)) e ∙ ap port_of (sym c.index_mut.ensures.value) in
     let unused : Unused x = subst Unused (sym c.index_mut.ensures.value) (unused_first Unused xs i x low s.unused) in
-    happens_opened port_of no_port s.told s.nexts i s.faults c.count_open-others.result xs ys
+    happens_opened port_of no_port s.told s.nexts i s.faults s.ends c.count_open-others.result xs ys
     (λ k other. sym (ap (λ (zs : List MemPort). told_in port_of no_port zs k) to) ∙ in_away port_of no_port xs (i + 1) k y (omega arith) other)
     (sym (ap (λ (zs : List MemPort). told_in port_of no_port zs (i + 1)) to) ∙ in_set port_of no_port xs (i + 1) y (omega arith) (omega (arith, low)) ∙ c.begin.ensures ∙ ap (newly c.count_open-others.result) (sym old))
     (c.count_open-others.ensures ∙ ap (λ (zs : List MemPort). open_among (port_in zs) i) c.deref.ensures.value)
