@@ -162,7 +162,8 @@ impl<'a, R: Files + rt::Clock + Net> HostPorts<'a, R> {
     /// Ports on 127.0.0.1 at the port.
     pub fn new(rt: &'a R, alloc: Global, port: u16) -> Self
         ensures port { result.lookout.port ≡ Some port }
-        ensures harbour { ⟦<HostPorts<'a, R> as Ports>⟧.harbour result ≡ host_harbour None 0 [] 0 0 }
+        ensures harbour { ⟦<HostPorts<'a, R> as Ports>⟧.harbour result
+            ≡ host_harbour None 0 [] 0 0 }
         ensures uncalled { IsUncalled (⟦<HostPorts<'a, R> as Ports>⟧.harbour result) }
     {
         HostPorts {

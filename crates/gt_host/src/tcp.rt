@@ -321,6 +321,7 @@ pub struct HostDoor<'a, R> {
     pub(crate) listener: Option<TcpListener>,
     given: usize,
     faults: u64,
+    ends: u64,
 }
 
 impl<'a, R: Files + rt::Clock + Net<Listener = TcpListener, Stream = TcpStream>> HostDoor<'a, R> {
@@ -329,6 +330,7 @@ impl<'a, R: Files + rt::Clock + Net<Listener = TcpListener, Stream = TcpStream>>
         ensures port { result.port ≡ Some port }
         ensures links { ⟦<HostDoor<'a, R> as Door>⟧.links result ≡ None }
         ensures faults { ⟦<HostDoor<'a, R> as Door>⟧.faults result ≡ 0 }
+        ensures ends { ⟦<HostDoor<'a, R> as Door>⟧.ends result ≡ 0 }
     {
         HostDoor {
             rt,
@@ -337,12 +339,14 @@ impl<'a, R: Files + rt::Clock + Net<Listener = TcpListener, Stream = TcpStream>>
             listener: None,
             given: 0,
             faults: 0,
+            ends: 0,
         }
     }
 
     /// Begins to listen, where it has not yet.
     pub(crate) fn listen(&mut self) -> io::Result<()>
-        ensures { self.new.faults ≡ self.old.faults }
+        ensures faults { self.new.faults ≡ self.old.faults }
+        ensures ends { self.new.ends ≡ self.old.ends }
     {
         if let Some(port) = self.port.take() {
             let listener = TcpListener::bind(self.rt, (Ipv4Addr::LOCALHOST, port))?;
@@ -354,6 +358,7 @@ impl<'a, R: Files + rt::Clock + Net<Listener = TcpListener, Stream = TcpStream>>
     /// The next connection; none where the stop file stands before the wait, in it or after it.
     fn accepted(&mut self) -> io::Result<Option<HostLink<'a, R>>>
         ensures faults { self.new.faults ≡ self.old.faults }
+        ensures ends { self.new.ends ≡ self.old.ends }
         ensures open { IfOk result (λ next. IfSome next (λ link. link.finished ≡ false)) }
     {
         if is_stopped(self.rt)? {
@@ -374,7 +379,8 @@ impl<'a, R: Files + rt::Clock + Net<Listener = TcpListener, Stream = TcpStream>>
 
     /// Counts a connection, and listens no more where it is the last.
     fn count(&mut self)
-        ensures { self.new.faults ≡ self.old.faults }
+        ensures faults { self.new.faults ≡ self.old.faults }
+        ensures ends { self.new.ends ≡ self.old.ends }
     {
         self.given = self.given.saturating_add(1);
         if self.given >= MAX_LINKS {
@@ -391,6 +397,8 @@ impl<'a, R: Files + rt::Clock + Net<Listener = TcpListener, Stream = TcpStream>>
 
     ghost faults = { λ d. d.faults };
 
+    ghost ends = { λ d. d.ends };
+
     fn next(&mut self) -> Result<Option<HostLink<'a, R>>, Failed> {
         match self.accepted() {
             Ok(Some(link)) => {
@@ -399,6 +407,7 @@ impl<'a, R: Files + rt::Clock + Net<Listener = TcpListener, Stream = TcpStream>>
             }
             Ok(None) => {
                 self.listener = None;
+                self.ends = self.ends.saturating_add(1);
                 Ok(None)
             }
             Err(_) => {

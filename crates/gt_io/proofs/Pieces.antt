@@ -6,7 +6,7 @@ use Rattle.std.specs.declared.option.Option.{Option}
 use Rattle.std.specs.Io.KnownBytes.{Consumes, IsAtEnd}
 use Rattle.std.proofs.KnownBytes.{Consumes-trans}
 use Rattle.gt_io.specs.Shelf.{Contents}
-use Rattle.gt_io.specs.declared.source.TheConstants.{PIECE}
+use Rattle.gt_io.specs.declared.source.TheConstants.{READ_PIECE}
 
 -- a piece more
 pub more_taken : (told mid after : Option (List ℕ)) (old new piece : List ℕ) → Consumes told mid old → Consumes mid after piece → new ≡ old ++ piece → Consumes told after new
@@ -36,10 +36,10 @@ all_found (Some text_of) name first mid after bytes piece there p q none end =
     is_that (text_of name) bytes there.0 (all_taken (text_of name) mid after bytes piece p q none end)
 
 -- at most a piece more than the limit was taken
-pub kept_short : (items : List ℕ) (len limit : ℕ) → len ≡ length items → len ≤ limit → length items ≤ limit + PIECE
+pub kept_short : (items : List ℕ) (len limit : ℕ) → len ≡ length items → len ≤ limit → length items ≤ limit + READ_PIECE
 kept_short items len limit is within = omega (arith, is, within)
 
-pub more_short : (items buf : List ℕ) (n len limit : ℕ) → n ≤ length buf → length buf ≤ PIECE → len ≡ length items → len ≤ limit → length (items ++ take n buf) ≤ limit + PIECE
+pub more_short : (items buf : List ℕ) (n len limit : ℕ) → n ≤ length buf → length buf ≤ READ_PIECE → len ≡ length items → len ≤ limit → length (items ++ take n buf) ≤ limit + READ_PIECE
 more_short items buf n len limit bound short is within =
     let long : length (take n buf) ≡ n = length-take-le n buf bound in
     let both = length-append items (take n buf) in

@@ -13,7 +13,7 @@ use Rattle.std.specs.Prelude.{if◌then◌else◌}
 use mathlib.Core.Logic.{dite}
 use native.Mathlib.Decide.{ℕ_discrete}
 
-module _ {A : Type 0} (tells : A → Port) (other : Port) where
+module _ {A B : Type 0} (tells : A → B) (other : B) where
   at_set : (xs : List A) (i : ℕ) (y : A) → i < length xs → told_at tells other (set xs i y) i ≡ tells y
   at_set [] i y low = absurd (omega (arith, low))
   at_set (x ∷ xs) zero y low = refl
@@ -63,20 +63,21 @@ module _ {A : Type 0} (tells : A → Port) (other : Port) where
   in_front xs y zero away = refl
   in_front xs y (suc i) away = at_front xs y i (λ same. away (omega (arith, same)))
 
+module _ {A : Type 0} (tells : A → Port) (other : Port) where
   abbrev Are : Option (Result PortEvent Failed) → ℕ → ℕ → List A → ℕ → ℕ → Harbour
   Are told nexts opened xs faults ends = record { told = told; nexts = nexts; opened = opened; port = told_in tells other xs; faults = faults; ends = ends }
 
   rest_of : (told : Option (Result PortEvent Failed)) (nexts opened faults faults' ends ends' : ℕ) (xs : List A) (c : ℕ) (y : A) → 1 ≤ c → KeepsRest (Are told nexts opened xs faults ends) (Are told nexts opened (set xs (c - 1) y) faults' ends') c
   rest_of told nexts opened faults faults' ends ends' xs c y first =
-      record { told = refl; nexts = refl; opened = refl; others = λ k away. in_away xs c k y first away }
+      record { told = refl; nexts = refl; opened = refl; others = λ k away. in_away tells other xs c k y first away }
 
   -- a call on one link of the list
   pub reads_port : (told : Option (Result PortEvent Failed)) (nexts opened faults faults' ends ends' : ℕ) (xs : List A) (c : ℕ) (x y : A) (buf : List ℕ) (result : Result Got Failed) → 1 ≤ c → c ≤ length xs → x ≡ get_or xs (c - 1) x
       → IfOk result (FitsGot (length buf)) → PortReads (tells x) (tells y) buf result → FailsOnce faults faults' result → ends' ≡ ends_by result ends
       → ReadsPort (Are told nexts opened xs faults ends) (Are told nexts opened (set xs (c - 1) y) faults' ends') c buf result
   reads_port told nexts opened faults faults' ends ends' xs c x y buf result first last is bound reads cause ended =
-      let before : told_in tells other xs c ≡ tells x = in_get xs c x first last ∙ ap tells (sym is) in
-      let after = in_set xs c y first last in
+      let before : told_in tells other xs c ≡ tells x = in_get tells other xs c x first last ∙ ap tells (sym is) in
+      let after = in_set tells other xs c y first last in
       record {
         bound = bound;
         port = subst (λ (p : Port). PortReads p (told_in tells other (set xs (c - 1) y) c) buf result) (sym before) (subst (λ (q : Port). PortReads (tells x) q buf result) (sym after) reads);
@@ -89,8 +90,8 @@ module _ {A : Type 0} (tells : A → Port) (other : Port) where
       → IfOk result (FitsTook (length piece)) → PortWrites (tells x) (tells y) piece result → FailsOnce faults faults' result
       → WritesPort (Are told nexts opened xs faults ends) (Are told nexts opened (set xs (c - 1) y) faults' ends) c piece result
   writes_port told nexts opened faults faults' ends xs c x y piece result first last is bound writes cause =
-      let before : told_in tells other xs c ≡ tells x = in_get xs c x first last ∙ ap tells (sym is) in
-      let after = in_set xs c y first last in
+      let before : told_in tells other xs c ≡ tells x = in_get tells other xs c x first last ∙ ap tells (sym is) in
+      let after = in_set tells other xs c y first last in
       record {
         bound = bound;
         port = subst (λ (p : Port). PortWrites p (told_in tells other (set xs (c - 1) y) c) piece result) (sym before) (subst (λ (q : Port). PortWrites (tells x) q piece result) (sym after) writes);
@@ -102,9 +103,9 @@ module _ {A : Type 0} (tells : A → Port) (other : Port) where
   pub finishes_port : (told : Option (Result PortEvent Failed)) (nexts opened faults ends : ℕ) (xs : List A) (c : ℕ) (x y : A) → 1 ≤ c → c ≤ length xs → x ≡ get_or xs (c - 1) x
       → tells y ≡ record (tells x) { owed = false; finished = Some nexts } → Finishes (Are told nexts opened xs faults ends) (Are told nexts opened (set xs (c - 1) y) faults ends) c
   finishes_port told nexts opened faults ends xs c x y first last is over =
-      let before : told_in tells other xs c ≡ tells x = in_get xs c x first last ∙ ap tells (sym is) in
+      let before : told_in tells other xs c ≡ tells x = in_get tells other xs c x first last ∙ ap tells (sym is) in
       record {
-        port = in_set xs c y first last ∙ over ∙ ap (λ (p : Port). record p { owed = false; finished = Some nexts }) (sym before);
+        port = in_set tells other xs c y first last ∙ over ∙ ap (λ (p : Port). record p { owed = false; finished = Some nexts }) (sym before);
         rest = rest_of told nexts opened faults faults ends ends xs c y first;
         faults = refl;
         ends = refl;
@@ -142,7 +143,7 @@ module _ {A : Type 0} (tells : A → Port) (other : Port) where
   pub happens_ready : (told : Option (Result PortEvent Failed)) (nexts opened faults ends c : ℕ) (xs : List A) (x y : A) → 1 ≤ c → c ≤ opened → c ≤ length xs → x ≡ get_or xs (c - 1) x → tells y ≡ readied (tells x)
       → Happens (Are told nexts opened xs faults ends) (Are told nexts opened (set xs (c - 1) y) faults ends) (Ok (Ready c))
   happens_ready told nexts opened faults ends c xs x y first last within is wakes =
-      let before : told_in tells other xs c ≡ tells x = in_get xs c x first within ∙ ap tells (sym is) in
+      let before : told_in tells other xs c ≡ tells x = in_get tells other xs c x first within ∙ ap tells (sym is) in
       let n = open_among (told_in tells other xs) opened in
       record {
         opened = refl;
@@ -152,9 +153,9 @@ module _ {A : Type 0} (tells : A → Port) (other : Port) where
         ports = λ k.
             dite (ℕ_discrete k c) (λ here.
             let p = told_in tells other xs k in
-            ap (told_in tells other (set xs (c - 1) y)) here ∙ in_set xs c y first within ∙ wakes ∙ ap readied (sym before) ∙ ap (λ (j : ℕ). readied (told_in tells other xs j)) (sym here)
+            ap (told_in tells other (set xs (c - 1) y)) here ∙ in_set tells other xs c y first within ∙ wakes ∙ ap readied (sym before) ∙ ap (λ (j : ℕ). readied (told_in tells other xs j)) (sym here)
             ∙ sym (by_ready n c k p true (eq-eqb k c here))) (λ away.
-            in_away xs c k y first away ∙ sym (by_ready n c k (told_in tells other xs k) false (ne_eqb k c away)));
+            in_away tells other xs c k y first away ∙ sym (by_ready n c k (told_in tells other xs k) false (ne_eqb k c away)));
         cause = record { later = omega arith; kept = refl; once = tt };
         ends = refl;
       }

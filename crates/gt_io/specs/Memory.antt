@@ -17,9 +17,13 @@ none_made failing = record { failing = failing; made = 0; faults = 0 }
 abbrev pub one_more : ℕ → ℕ
 one_more n = min (n + 1) (2 ^ 64 - 1)
 
--- whether the number of the next call is listed
+-- whether the number of the call behind so many is listed
+abbrev pub is_listed : ℕ → List ℕ → Bool
+is_listed made numbers = list_any (λ n. n == one_more made) numbers
+
+-- whether the next call fails
 abbrev pub fails_next : FailingCalls → Bool
-fails_next c = list_any (λ n. n == one_more c.made) c.failing
+fails_next c = is_listed c.made c.failing
 
 -- after a call that has not failed, and after one that has
 abbrev pub answered : FailingCalls → FailingCalls

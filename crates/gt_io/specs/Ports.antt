@@ -203,11 +203,11 @@ pub record Finishes (a b : Harbour) (c : ℕ) : Type 0 where
   pub ends : b.ends ≡ a.ends
 
 -- what each of a list tells, by its number from 1
-abbrev pub told_at : {A : Type 0} → (A → Port) → Port → List A → ℕ → Port
+abbrev pub told_at : {A B : Type 0} → (A → B) → B → List A → ℕ → B
 told_at tells other [] i = other
 told_at tells other (x ∷ xs) zero = tells x
 told_at tells other (x ∷ xs) (suc i) = told_at tells other xs i
 
-abbrev pub told_in : {A : Type 0} → (A → Port) → Port → List A → ℕ → Port
+abbrev pub told_in : {A B : Type 0} → (A → B) → B → List A → ℕ → B
 told_in tells other xs zero = other
 told_in tells other xs (suc i) = told_at tells other xs i

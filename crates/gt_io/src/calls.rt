@@ -1,6 +1,6 @@
 //! The numbered calls of an object in memory.
-ghost use Rattle.std.specs.Prelude.{◌≡◌, ◌≤◌, if◌then◌else◌};
-ghost use Rattle.gt_io.specs.Memory.{none_made, one_more, fails_next, answered, refused};
+ghost use Rattle.std.specs.Prelude.{◌≡◌, ◌≤◌, if◌then◌else◌, MatchOption};
+ghost use Rattle.gt_io.specs.Memory.{none_made, one_more, is_listed, fails_next, answered, refused};
 
 use gt_base::List;
 use std::marker::Model;
@@ -22,12 +22,29 @@ impl Model for Calls {
     ghost view = { λ c. record { failing = c.failing.items; made = c.made; faults = c.faults } };
 }
 
+/// Whether the number of the call behind so many is listed.
+pub(crate) fn is_listed(numbers: &List<u64>, made: u64) -> bool
+    ensures { result ≡ is_listed made numbers.now.items }
+{
+    numbers.as_slice().contains(&made.saturating_add(1))
+}
+
 /// How many reads have told the end, behind one that gave `n` bytes, up to the end of its type.
 pub fn count_end(ends: u64, n: usize) -> u64
     ensures end { n ≡ 0 → result ≡ one_more ends }
     ensures more { (n ≡ 0 → ⊥) → result ≡ ends }
 {
     if n == 0 { ends.saturating_add(1) } else { ends }
+}
+
+/// How many calls gave none, behind one that gave this, up to the end of its type.
+pub fn count_none<T>(ends: u64, given: &Option<T>) -> u64
+    ensures { MatchOption given.now (result ≡ one_more ends) (λ _. result ≡ ends) }
+{
+    match given {
+        Some(_) => ends,
+        None => ends.saturating_add(1),
+    }
 }
 
 impl Calls {

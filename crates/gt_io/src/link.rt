@@ -3,7 +3,7 @@ ghost use Rattle.std.specs.Prelude.{◌≡◌, ◌<◌, ◌≤◌, ℕ, true, fa
 ghost use Rattle.std.specs.declared.option.Option.{Option};
 ghost use Rattle.std.specs.Io.{ReadsAtMost};
 ghost use Rattle.std.specs.Io.KnownBytes.{ReadConsumes, WriteAppends, Appends};
-ghost use Rattle.gt_io.specs.Causes.{CountsEnd, HasCause, RisesOnce, AppendsPart};
+ghost use Rattle.gt_io.specs.Causes.{CountsNone, CountsEnd, HasCause, RisesOnce, AppendsPart};
 ghost use Rattle.gt_io.specs.Links.{Traffic, ReadsNothing, WritesNothing, IsFresh, GivesFirst, GivesNone, Reads};
 
 use crate::source::Failed;
@@ -89,6 +89,9 @@ pub trait Door {
     /// How often it has failed.
     ghost faults: { Self → ℕ };
 
+    /// How often it gave none.
+    ghost ends: { Self → ℕ };
+
     /// The next link, from which nothing was read and to which nothing was written; none where
     /// there is none to come.
     fn next(&mut self) -> Result<Option<Self::L>, Failed>
@@ -97,7 +100,8 @@ pub trait Door {
             (λ link. GivesFirst (links self.old) (links self.new) link))
             (λ _. links self.new ≡ links self.old) }
         ensures fresh { IfOk result (λ next. IfSome next (λ link. IsFresh (Self.L.traffic link))) }
-        ensures cause { HasCause (faults self.old) (faults self.new) result };
+        ensures cause { HasCause (faults self.old) (faults self.new) result }
+        ensures ends { CountsNone (ends self.old) (ends self.new) result };
 }
 
 /// Tells the time.

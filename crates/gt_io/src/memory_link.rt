@@ -2,11 +2,11 @@
 ghost use Rattle.std.specs.Prelude.{◌≡◌, ◌<◌, ◌≤◌, ◌+◌, ◌-◌, ◌↔◌, true, false, length, min, Some, IfOk, IfSome, IsErr, IsTrue, All, MatchResult, MatchOption, slice_index, if◌then◌else◌};
 ghost use Rattle.std.specs.Io.{ReadsAtMost};
 ghost use Rattle.std.specs.Io.KnownBytes.{ReadConsumes, WriteAppends};
-ghost use Rattle.gt_io.specs.Causes.{CountsEnd, HasCause, RisesOnce};
+ghost use Rattle.gt_io.specs.Causes.{CountsEnd, CountsNone, HasCause, RisesOnce};
 ghost use Rattle.gt_io.specs.Links.{IsFresh, GivesFirst, GivesNone, ReadsNothing, WritesNothing};
 ghost use Rattle.gt_io.specs.Memory.{supply_of, store_of, none_made, fails_next, answered, refused, GivesPiece, TakesPiece};
 
-use crate::calls::Calls;
+use crate::calls::{Calls, count_none};
 use crate::link::{Clock, Door, Gate, Link};
 use crate::memory::{MemSink, MemSource};
 use crate::source::{Failed, Sink, Source};
@@ -127,6 +127,7 @@ impl Link for MemLink {
 pub struct MemDoor {
     links: VecDeque<MemLink>,
     calls: Calls,
+    ends: u64,
     ghost fresh: { All (λ l. IsFresh (⟦<MemLink as Link>⟧.traffic l)) links.items },
 }
 
@@ -136,10 +137,12 @@ impl MemDoor {
         requires { All (λ l. IsFresh (⟦<MemLink as Link>⟧.traffic l)) links.items }
         ensures links { result.links.items ≡ links.items }
         ensures calls { result.calls ≡ none_made failing.items }
+        ensures ends { result.ends ≡ 0 }
     {
         MemDoor {
             links,
             calls: Calls::new(failing),
+            ends: 0,
         }
     }
 }
@@ -151,6 +154,8 @@ impl Door for MemDoor {
 
     ghost faults = { λ d. d.calls.faults };
 
+    ghost ends = { λ d. d.ends };
+
     fn next(&mut self) -> Result<Option<MemLink>, Failed>
         ensures links { MatchResult result
             (λ next. MatchOption next
@@ -161,6 +166,7 @@ impl Door for MemDoor {
         ensures fresh { IfOk result (λ next. IfSome next
             (λ link. IsFresh (⟦<MemLink as Link>⟧.traffic link))) }
         ensures cause { HasCause self.old.calls.faults self.new.calls.faults result }
+        ensures ends { CountsNone self.old.ends self.new.ends result }
         ensures listed { IsErr result ↔ IsTrue (fails_next self.old.calls) }
         ensures calls { self.new.calls
             ≡ (if fails_next self.old.calls then refused self.old.calls else answered
@@ -169,7 +175,9 @@ impl Door for MemDoor {
         if self.calls.begin() {
             return Err(Failed);
         }
-        Ok(self.links.pop_front())
+        let next = self.links.pop_front();
+        self.ends = count_none(self.ends, &next);
+        Ok(next)
     }
 }
 

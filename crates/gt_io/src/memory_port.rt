@@ -1,10 +1,12 @@
 //! Ports in memory.
-ghost use Rattle.std.specs.Prelude.{◌≡◌, ◌<◌, ◌≤◌, ◌+◌, ◌++◌, ◌^◌, ℕ, [], length, take, drop, slice_get, vec_capacity, false, All, IfOk, IfSome, OnOk, OnErr, IsOk, Some, None, if◌then◌else◌};
+ghost use Rattle.std.specs.Prelude.{◌≡◌, ◌<◌, ◌≤◌, ◌+◌, ◌-◌, ◌++◌, ◌^◌, ◌↔◌, ℕ, min, IsSome, [], length, take, drop, slice_get, vec_capacity, false, All, IfOk, IfSome, OnOk, OnErr, IsOk, Some, None, if◌then◌else◌};
 ghost use Rattle.std.specs.Io.KnownBytes.{Appends, Consumes, IsAtEnd};
 ghost use Rattle.gt_io.specs.Links.{IsNothing};
-ghost use Rattle.gt_io.specs.Ports.{PortReads, PortWrites, FitsGot, FitsTook, newly, readied, is_none, open_among, got_bytes, took_bytes, Happens};
-ghost use Rattle.gt_io.specs.MemoryPorts.{port_of, port_in, harbour_of, IsUnused};
+ghost use Rattle.gt_io.specs.Memory.{is_listed};
+ghost use Rattle.gt_io.specs.Ports.{PortReads, PortWrites, FitsGot, FitsTook, newly, readied, is_none, open_among, got_bytes, took_bytes, Happens, Nexts, ReadsPort, WritesPort, Finishes, IsOpen, told_in};
+ghost use Rattle.gt_io.specs.MemoryPorts.{port_of, port_in, harbour_of, IsUnused, wire_of, no_wire, come_of, coming, is_at_end, got_of, got_count, read_answer, read_from, fitting, took_of, write_answer, written_to, woken, plan_of, plan_by, opening, waking, GivesEvent, GivesGot, GivesTook};
 
+use crate::calls::is_listed;
 use crate::memory_ports::{Hitches, MemEvent, MemPort, MemPorts};
 use crate::port::{Called, Got, PortEvent, Ports, Took, count_fault, count_finished};
 use crate::source::Failed;
@@ -14,6 +16,7 @@ use std::alloc::Global;
 /// Copies the bytes from `at` up to `upto`, as far as the buffer goes, and answers how many.
 fn give(bytes: &[u8], at: usize, upto: usize, buf: &mut [u8]) -> usize
     requires { at ≤ length bytes.now }
+    ensures number { result ≡ min (length (drop at bytes.now)) (min (length buf.new) (upto - at)) }
     ensures fits { (result ≤ length buf.new) × (at + result ≤ length bytes.now) }
     ensures given { drop at bytes.now ≡ take result buf.new ++ drop (at + result) bytes.now }
     ensures taken { take (at + result) bytes.now ≡ take at bytes.now ++ take result buf.new }
@@ -41,6 +44,20 @@ impl MemPort {
         requires { 0 < most }
         ensures unused { IfOk result IsUnused }
         ensures bytes { IfOk result (λ p. (port_of p).left ≡ Some bytes.items) }
+        ensures wire { IfOk result (λ p. wire_of p
+            ≡ record {
+              bytes = bytes.items;
+              at = 0;
+              marks = marks.items;
+              readies = 0;
+              ends = ends;
+              given = [];
+              room = room;
+              most = most;
+              reads = 0;
+              writes = 0;
+              hitches = hitches;
+            }) }
     {
         Ok(MemPort {
             bytes,
@@ -69,23 +86,60 @@ impl MemPort {
     }
 
     /// How many bytes have come.
-    fn come(&self) -> usize {
-        if self.readies > 0 && self.readies <= self.marks.len() {
-            self.marks.as_slice()[self.readies - 1]
-        } else if self.readies > 0 {
-            self.bytes.len()
-        } else {
-            0
+    fn come(&self) -> usize
+        ensures { result ≡ come_of (wire_of self.now) }
+    {
+        if self.readies == 0 {
+            return 0;
+        }
+        match self.marks.get(self.readies - 1) {
+            Some(mark) => *mark,
+            None => self.bytes.len(),
         }
     }
 
-    /// Whether its peer has ended it, once its bytes are taken.
-    fn is_ended(&self) -> bool {
-        self.ends && self.readies > self.marks.len()
+    /// Whether its bytes were taken, and its peer has ended it.
+    fn is_at_end(&self) -> bool
+        ensures { result ≡ is_at_end (wire_of self.now) }
+    {
+        self.at == self.bytes.len() && self.ends && self.readies > self.marks.len()
+    }
+
+    /// What a read gives that does not fail and is not late.
+    fn pass_on(&mut self, buf: &mut [u8]) -> Got
+        requires { 0 < length buf.old }
+        ensures answer { result
+            ≡ got_of (wire_of self.old) (coming (wire_of self.old) (length buf.old)) }
+        ensures wire { wire_of self.new ≡ record (wire_of self.old)
+            { at = self.old.at + got_count (Ok result) } }
+        ensures bound { FitsGot (length buf.new) result }
+        ensures taken { Appends (port_of self.old).taken (port_of self.new).taken
+            (got_bytes (Ok result) buf.new) }
+        ensures left { Consumes (port_of self.old).left (port_of self.new).left
+            (got_bytes (Ok result) buf.new) }
+        ensures end { result ≡ Got.Finished → IsAtEnd (port_of self.new).left }
+        ensures rest { port_of self.new
+            ≡ record (port_of self.old) {
+              left = (port_of self.new).left;
+              taken = (port_of self.new).taken;
+            } }
+    {
+        let upto = self.come();
+        let n = give(self.bytes.as_slice(), self.at, upto, buf);
+        if n > 0 {
+            self.at += n;
+            return Got::Bytes(n);
+        }
+        if self.is_at_end() {
+            return Got::Finished;
+        }
+        Got::NotYet
     }
 
     fn draw(&mut self, buf: &mut [u8]) -> Result<Got, Failed>
         requires { 0 < length buf.old }
+        ensures answer { result ≡ read_answer (wire_of self.old) (length buf.old) }
+        ensures wire { wire_of self.new ≡ read_from (wire_of self.old) result }
         ensures bound { IfOk result (FitsGot (length buf.new)) }
         ensures taken { Appends (port_of self.old).taken (port_of self.new).taken
             (got_bytes result buf.new) }
@@ -98,27 +152,21 @@ impl MemPort {
               taken = (port_of self.new).taken;
             } }
     {
-        self.reads = self.reads.saturating_add(1);
-        if self.hitches.bad_reads.as_slice().contains(&self.reads) {
+        let made = self.reads;
+        self.reads = made.saturating_add(1);
+        if is_listed(&self.hitches.bad_reads, made) {
             return Err(Failed);
         }
-        if self.hitches.late_reads.as_slice().contains(&self.reads) {
+        if is_listed(&self.hitches.late_reads, made) {
             return Ok(Got::NotYet);
         }
-        let upto = self.come();
-        let n = give(self.bytes.as_slice(), self.at, upto, buf);
-        self.at += n;
-        if n > 0 {
-            return Ok(Got::Bytes(n));
-        }
-        if self.at == self.bytes.len() && self.is_ended() {
-            return Ok(Got::Finished);
-        }
-        Ok(Got::NotYet)
+        Ok(self.pass_on(buf))
     }
 
     fn read(&mut self, buf: &mut [u8]) -> Result<Got, Failed>
         requires { 0 < length buf.old }
+        ensures answer { result ≡ read_answer (wire_of self.old) (length buf.old) }
+        ensures wire { wire_of self.new ≡ read_from (wire_of self.old) result }
         ensures bound { IfOk result (FitsGot (length buf.new)) }
         ensures port { PortReads (port_of self.old) (port_of self.new) buf.new result }
     {
@@ -133,25 +181,19 @@ impl MemPort {
         answer
     }
 
-    fn take(&mut self, piece: &[u8]) -> Result<Took, Failed>
+    /// What a write takes that is neither listed to fail nor late.
+    fn take_up(&mut self, piece: &[u8]) -> Result<Took, Failed>
         requires { 0 < length piece.now }
+        ensures answer { result ≡ took_of (fitting (wire_of self.old) (length piece.now)) }
+        ensures wire { wire_of self.new ≡ record (wire_of self.old)
+            { given = self.old.given.items ++ took_bytes result piece.now } }
         ensures bound { IfOk result (FitsTook (length piece.now)) }
-        ensures given { Appends (port_of self.old).given (port_of self.new).given
-            (took_bytes result piece.now) }
         ensures rest { port_of self.new
             ≡ record (port_of self.old) { given = (port_of self.new).given } }
     {
-        self.writes = self.writes.saturating_add(1);
-        if self.hitches.bad_writes.as_slice().contains(&self.writes) {
-            return Err(Failed);
-        }
-        if self.hitches.late_writes.as_slice().contains(&self.writes) {
-            return Ok(Took::NotYet);
-        }
         let n = piece
             .len()
-            .min(self.most)
-            .min(self.room.saturating_sub(self.given.len()));
+            .min(self.most.min(self.room.saturating_sub(self.given.len())));
         if n == 0 {
             return Err(Failed);
         }
@@ -160,8 +202,31 @@ impl MemPort {
         Ok(Took::Bytes(n))
     }
 
+    fn take(&mut self, piece: &[u8]) -> Result<Took, Failed>
+        requires { 0 < length piece.now }
+        ensures answer { result ≡ write_answer (wire_of self.old) (length piece.now) }
+        ensures wire { wire_of self.new ≡ written_to (wire_of self.old) piece.now result }
+        ensures bound { IfOk result (FitsTook (length piece.now)) }
+        ensures given { Appends (port_of self.old).given (port_of self.new).given
+            (took_bytes result piece.now) }
+        ensures rest { port_of self.new
+            ≡ record (port_of self.old) { given = (port_of self.new).given } }
+    {
+        let made = self.writes;
+        self.writes = made.saturating_add(1);
+        if is_listed(&self.hitches.bad_writes, made) {
+            return Err(Failed);
+        }
+        if is_listed(&self.hitches.late_writes, made) {
+            return Ok(Took::NotYet);
+        }
+        self.take_up(piece)
+    }
+
     fn write(&mut self, piece: &[u8]) -> Result<Took, Failed>
         requires { 0 < length piece.now }
+        ensures answer { result ≡ write_answer (wire_of self.old) (length piece.now) }
+        ensures wire { wire_of self.new ≡ written_to (wire_of self.old) piece.now result }
         ensures bound { IfOk result (FitsTook (length piece.now)) }
         ensures port { PortWrites (port_of self.old) (port_of self.new) piece.now result }
     {
@@ -176,7 +241,8 @@ impl MemPort {
     }
 
     fn begin(&mut self, others: u64)
-        ensures { port_of self.new ≡ newly others (port_of self.old) }
+        ensures port { port_of self.new ≡ newly others (port_of self.old) }
+        ensures wire { wire_of self.new ≡ wire_of self.old }
     {
         self.last = Called::Nothing;
         self.owed = false;
@@ -185,15 +251,17 @@ impl MemPort {
     }
 
     fn wake(&mut self)
-        ensures { port_of self.new ≡ readied (port_of self.old) }
+        ensures port { port_of self.new ≡ readied (port_of self.old) }
+        ensures wire { wire_of self.new ≡ woken (wire_of self.old) }
     {
         self.readies = self.readies.saturating_add(1);
         self.owed = self.finished.is_none();
     }
 
     fn end(&mut self, nexts: u64)
-        ensures { port_of self.new ≡ record (port_of self.old)
+        ensures port { port_of self.new ≡ record (port_of self.old)
             { owed = false; finished = Some nexts } }
+        ensures wire { wire_of self.new ≡ wire_of self.old }
     {
         self.owed = false;
         self.finished = Some(nexts);
@@ -233,6 +301,13 @@ impl MemPorts {
               faults = 0;
               ends = 0;
             } }
+        ensures plan { plan_of result
+            ≡ record {
+              left = events.items;
+              bad_nexts = bad_nexts.items;
+              count = length ports.items;
+              wire = told_in wire_of no_wire ports.items;
+            } }
     {
         MemPorts {
             events,
@@ -248,20 +323,22 @@ impl MemPorts {
     }
 
     /// What was written to a link, none where there is no such link.
-    pub fn given(&self, link: u32) -> Option<&[u8]> {
-        if link == 0 {
+    pub fn given(&self, link: u32) -> Option<&[u8]>
+        ensures there { IsSome result ↔ ((1 ≤ link) × (link ≤ (plan_of self.now).count)) }
+        ensures given { IfSome result (λ text. text.now ≡ ((plan_of self.now).wire link).given) }
+    {
+        if link == 0 || link as usize > self.ports.len() {
             return None;
         }
-        match self.ports.get(link as usize - 1) {
-            Some(port) => Some(port.given()),
-            None => None,
-        }
+        Some(self.ports[link as usize - 1].given())
     }
 }
 
 impl MemPorts {
     /// Opens the next link; stops where none is left.
     fn open(&mut self) -> PortEvent
+        ensures answer { result ≡ opening (length self.old.ports.items) self.old.opened }
+        ensures plan { plan_of self.new ≡ plan_by result (plan_of self.old) }
         ensures kept { (self.new.told ≡ self.old.told) × (self.new.nexts ≡ self.old.nexts) }
         ensures happens { Happens (⟦<MemPorts as Ports>⟧.harbour self.old)
             (⟦<MemPorts as Ports>⟧.harbour self.new) (Ok result) }
@@ -278,6 +355,8 @@ impl MemPorts {
 
     /// Has a link be ready; stops where it is not opened.
     fn wake(&mut self, link: u32) -> PortEvent
+        ensures answer { result ≡ waking self.old.opened link }
+        ensures plan { plan_of self.new ≡ plan_by result (plan_of self.old) }
         ensures kept { (self.new.told ≡ self.old.told) × (self.new.nexts ≡ self.old.nexts) }
         ensures happens { Happens (⟦<MemPorts as Ports>⟧.harbour self.old)
             (⟦<MemPorts as Ports>⟧.harbour self.new) (Ok result) }
@@ -289,22 +368,24 @@ impl MemPorts {
         PortEvent::Ready(link)
     }
 
-    /// The answer to a call whose number counts.
-    fn answer(&mut self) -> Result<PortEvent, Failed>
+    /// The answer to the call behind so many.
+    fn answer(&mut self, made: u64) -> Result<PortEvent, Failed>
+        ensures event { GivesEvent (plan_of self.old) (plan_of self.new)
+            made self.old.opened result }
         ensures kept { (self.new.told ≡ self.old.told) × (self.new.nexts ≡ self.old.nexts) }
         ensures happens { Happens (⟦<MemPorts as Ports>⟧.harbour self.old)
             (⟦<MemPorts as Ports>⟧.harbour self.new) result }
     {
-        if self.bad_nexts.as_slice().contains(&self.nexts) {
+        if is_listed(&self.bad_nexts, made) {
             let fault = Err(Failed);
             self.faults = count_fault(self.faults, &fault);
             return fault;
         }
-        let Some(event) = self.events.get(self.at) else {
+        if self.at >= self.events.len() {
             return Ok(PortEvent::Stop);
-        };
-        let event = *event;
-        self.at = self.at.saturating_add(1);
+        }
+        let event = self.events.as_slice()[self.at];
+        self.at += 1;
         match event {
             MemEvent::Open => Ok(self.open()),
             MemEvent::Ready(link) => Ok(self.wake(link)),
@@ -315,27 +396,51 @@ impl MemPorts {
 impl Ports for MemPorts {
     ghost harbour = { λ p. harbour_of p.told p.nexts p.opened p.ports.items p.faults p.ends };
 
-    fn next(&mut self) -> Result<PortEvent, Failed> {
-        self.nexts = self.nexts.saturating_add(1);
-        let answer = self.answer();
+    fn next(&mut self) -> Result<PortEvent, Failed>
+        ensures next { Nexts (⟦<MemPorts as Ports>⟧.harbour self.old)
+            (⟦<MemPorts as Ports>⟧.harbour self.new) result }
+        ensures event { GivesEvent (plan_of self.old) (plan_of self.new)
+            self.old.nexts self.old.opened result }
+    {
+        let made = self.nexts;
+        self.nexts = made.saturating_add(1);
+        let answer = self.answer(made);
         self.told = Some(answer);
         answer
     }
 
-    fn read(&mut self, link: u32, buf: &mut [u8]) -> Result<Got, Failed> {
+    fn read(&mut self, link: u32, buf: &mut [u8]) -> Result<Got, Failed>
+        requires open { IsOpen (⟦<MemPorts as Ports>⟧.harbour self.old) link }
+        requires buf { 0 < length buf.old }
+        ensures reads { ReadsPort (⟦<MemPorts as Ports>⟧.harbour self.old)
+            (⟦<MemPorts as Ports>⟧.harbour self.new) link buf.new result }
+        ensures gives { GivesGot (plan_of self.old) (plan_of self.new)
+            link (length buf.old) result }
+    {
         let answer = self.ports[link as usize - 1].read(buf);
         self.faults = count_fault(self.faults, &answer);
         self.ends = count_finished(self.ends, answer);
         answer
     }
 
-    fn write(&mut self, link: u32, piece: &[u8]) -> Result<Took, Failed> {
+    fn write(&mut self, link: u32, piece: &[u8]) -> Result<Took, Failed>
+        requires open { IsOpen (⟦<MemPorts as Ports>⟧.harbour self.old) link }
+        requires piece { 0 < length piece.now }
+        ensures writes { WritesPort (⟦<MemPorts as Ports>⟧.harbour self.old)
+            (⟦<MemPorts as Ports>⟧.harbour self.new) link piece.now result }
+        ensures takes { GivesTook (plan_of self.old) (plan_of self.new) link piece.now result }
+    {
         let answer = self.ports[link as usize - 1].write(piece);
         self.faults = count_fault(self.faults, &answer);
         answer
     }
 
-    fn finish(&mut self, link: u32) {
+    fn finish(&mut self, link: u32)
+        requires { IsOpen (⟦<MemPorts as Ports>⟧.harbour self.old) link }
+        ensures finished { Finishes (⟦<MemPorts as Ports>⟧.harbour self.old)
+            (⟦<MemPorts as Ports>⟧.harbour self.new) link }
+        ensures plan { plan_of self.new ≡ plan_of self.old }
+    {
         self.ports[link as usize - 1].end(self.nexts);
     }
 }

@@ -6,7 +6,7 @@ ghost use Rattle.gt_io.specs.Causes.{AtMostOnce, CountsEnd, HasCause, HasReadCau
 ghost use Rattle.gt_io.specs.Memory.{one_more};
 ghost use Rattle.gt_io.specs.Shelf.{Stock, AsksOnce, HasFindCause, HasTextCause};
 
-use crate::source::{Failed, PIECE, ReadFault, add_piece};
+use crate::source::{Failed, READ_PIECE, ReadFault, add_piece};
 use std::alloc::Global;
 
 /// Texts by their names. What is read is what is left of the text that was found last. A name that
@@ -70,7 +70,7 @@ pub fn find_all<S: Shelf>(
 {
     shelf.find(name)?;
     let mut bytes = Vec::new(alloc);
-    let mut buf = [0u8; PIECE];
+    let mut buf = [0u8; READ_PIECE];
     'pieces: loop {
         let n = shelf.read(&mut buf)?;
         if n == 0 {

@@ -4,7 +4,7 @@ ghost use Rattle.std.specs.Io.{ReadsAtMost};
 ghost use Rattle.std.specs.Io.KnownBytes.{ReadConsumes, WriteAppends, Appends, IsAtEnd};
 ghost use Rattle.gt_io.specs.Causes.{AtMostOnce, CountsEnd, HasCause, HasReadCause, TakesFront, AppendsPart, IsNoRoom};
 ghost use Rattle.gt_io.specs.Streams.{Intake, Output, stops};
-ghost use Rattle.gt_io.specs.declared.source.TheConstants.{PIECE};
+ghost use Rattle.gt_io.specs.declared.source.TheConstants.{READ_PIECE};
 ghost use Rattle.gt_io.specs.declared.source.ReadFault.TheVariants.{Memory, Failed as ReadFailed};
 
 use std::alloc::{AllocError, Global};
@@ -72,7 +72,7 @@ impl From<Failed> for ReadFault {
 }
 
 /// The most bytes of one read of a text.
-pub const PIECE: usize = 4096;
+pub const READ_PIECE: usize = 4096;
 
 /// Adds a piece to what was read, where that is at most `limit` bytes with it.
 pub(crate) fn add_piece(bytes: &mut Vec<u8>, piece: &[u8], limit: usize) -> Result<(), ReadFault>
@@ -89,8 +89,9 @@ pub(crate) fn add_piece(bytes: &mut Vec<u8>, piece: &[u8], limit: usize) -> Resu
     Ok(())
 }
 
-/// All that is left, if it is at most `limit` bytes. After a fault a front of it was taken, of at
-/// most `PIECE` bytes more than the limit. Behind a read that failed or told the end there is none.
+/// All that is left, if it is at most `limit` bytes. After a fault a prefix of it was taken, of at
+/// most `READ_PIECE` bytes more than the limit. Behind a read that failed or told the end there is
+/// none.
 pub fn read_all<S: Source>(
     alloc: Global,
     source: &mut S,
@@ -102,13 +103,13 @@ pub fn read_all<S: Source>(
     ensures within { IfOk result (λ bytes. vec_len bytes ≤ limit) }
     ensures long { IsErrOf result ReadFault.TooLong
         → IfSome (S.intake source.old).left (λ xs. limit < length xs) }
-    ensures front { TakesFront (limit + PIECE) (S.intake source.old).left
+    ensures front { TakesFront (limit + READ_PIECE) (S.intake source.old).left
         (S.intake source.new).left }
     ensures cause { HasReadCause (S.intake source.old).faults (S.intake source.new).faults result }
     ensures once { AtMostOnce (stops (S.intake source.old)) (stops (S.intake source.new)) }
 {
     let mut bytes = Vec::new(alloc);
-    let mut buf = [0u8; PIECE];
+    let mut buf = [0u8; READ_PIECE];
     loop {
         let n = source.read(&mut buf)?;
         if n == 0 {

@@ -4,7 +4,7 @@ use Rattle.std.specs.Prelude.{Result, IfOk, IsTrue, IsSomeAnd}
 use Rattle.std.specs.Io.KnownBytes.{IsAtEnd}
 use Rattle.std.proofs.KnownBytes.{Consumes-nil}
 use Rattle.gt_io.specs.Causes.{Rose, TakesFront}
-use Rattle.gt_io.specs.declared.source.TheConstants.{PIECE}
+use Rattle.gt_io.specs.declared.source.TheConstants.{READ_PIECE}
 use Rattle.gt_io.specs.Shelf.{Contents}
 use Rattle.gt_text.specs.Lines.{lines_of}
 use Rattle.policy_commands.specs.Ends.{EndView, seen_end}
@@ -93,7 +93,7 @@ module _ {S I : Type 0} (words : List (List ℕ)) (c : Command) (is : command_of
   starved status wants = inl ((λ none. none_apart (command_of words) c none.0 is), wants)
 
   module _ (same : b.texts ≡ a.texts) (kept : (b.input ≡ a.input) ⊎ OnShelf perhaps a.texts (Short AsksForScript) c) where
-    leaves : IsAskedOnce a b → TakesFront (MAX_SCRIPT + PIECE) a.script b.script → (status : ℕ) → (Playing c → IsRunStatus status → IsAtEnd b.script) → (status ≡ 4 → Rose a.shelf_faults b.shelf_faults ⊎ Rose a.input_faults b.input_faults) → Leaves words status a b
+    leaves : IsAskedOnce a b → TakesFront (MAX_SCRIPT + READ_PIECE) a.script b.script → (status : ℕ) → (Playing c → IsRunStatus status → IsAtEnd b.script) → (status ≡ 4 → Rose a.shelf_faults b.shelf_faults ⊎ Rose a.input_faults b.input_faults) → Leaves words status a b
     leaves once short status read counted =
         record {
           texts = same;
@@ -113,7 +113,7 @@ module _ {S I : Type 0} (words : List (List ℕ)) (c : Command) (is : command_of
     eight_four : ◌≡◌ {A = ℕ} 8 4 → ⊥
     eight_four e = cc (e)
 
-    pub starved_leaves : IsAskedOnce a b → TakesFront (MAX_SCRIPT + PIECE) a.script b.script → Leaves words 8 a b
+    pub starved_leaves : IsAskedOnce a b → TakesFront (MAX_SCRIPT + READ_PIECE) a.script b.script → Leaves words 8 a b
     starved_leaves once short = leaves once short 8 (λ plays ran. absurd (no_run ran)) (λ four. absurd (eight_four four))
 
     five_run : (status : ℕ) → status ≡ 5 → IsRunStatus status → ⊥
@@ -170,7 +170,7 @@ module _ {S I : Type 0} (words : List (List ℕ)) (c : Command) (is : command_of
     counted_after status (Ended end) (inr p) counted four = absurd (five_four status p.0 four)
     counted_after status (Script np text) tells counted four = absurd (not_four status tells.0 (played_status np (lines_of text.items) tells.0 tells.1) tells.2 four)
 
-    pub all_leaves : IsAskedOnce a b → TakesFront (MAX_SCRIPT + PIECE) a.script b.script → (status : ℕ) (answer : Answer) → Tells answer status → (Playing c → IsReadAt ReadAtEnd answer) → IsCountedAt Counted answer → Leaves words status a b
+    pub all_leaves : IsAskedOnce a b → TakesFront (MAX_SCRIPT + READ_PIECE) a.script b.script → (status : ℕ) (answer : Answer) → Tells answer status → (Playing c → IsReadAt ReadAtEnd answer) → IsCountedAt Counted answer → Leaves words status a b
     all_leaves once short status answer tells read counted = leaves once short status (read_after status answer tells read) (counted_after status answer tells counted)
 
 -- a command over what the shelf has by its name

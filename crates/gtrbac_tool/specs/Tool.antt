@@ -2,7 +2,7 @@
 use Rattle.std.specs.Prelude.{◌≡◌, ◌⊎◌, ◌+◌, ℕ, List, None, IsTrue, IsSomeAnd}
 use Rattle.std.specs.Io.KnownBytes.{IsAtEnd}
 use Rattle.gt_io.specs.Causes.{AtMostOnce, Rose, TakesFront}
-use Rattle.gt_io.specs.declared.source.TheConstants.{PIECE}
+use Rattle.gt_io.specs.declared.source.TheConstants.{READ_PIECE}
 use Rattle.policy_commands.specs.Ends.{EndView}
 use Rattle.policy_commands.specs.Printing.{IsPrinted, WantsMemory}
 use Rattle.gtrbac_tool.specs.declared.top.TheConstants.{MAX_SCRIPT}
@@ -67,7 +67,7 @@ module _ {S I : Type 0} where
     pub counted : status ≡ 4
         → Rose a.shelf_faults b.shelf_faults ⊎ Rose a.input_faults b.input_faults
     pub once : IsAskedOnce a b
-    pub short : TakesFront (MAX_SCRIPT + PIECE) a.script b.script
+    pub short : TakesFront (MAX_SCRIPT + READ_PIECE) a.script b.script
 
   -- What `tool` promises over the words, by its status, from its surroundings before to those
   -- after: what it ends with is printed; the status has its cause; a cause has its status; where it

@@ -22,7 +22,7 @@ use policy_safety::Safe;
 use std::alloc::Global;
 
 /// How many bytes of replies may wait before they are written.
-const PIECE: usize = 65_536;
+const REPLY_PIECE: usize = 65_536;
 
 /// Writes the text that waits, where it is long.
 fn hand_out<K: Sink>(text: &mut List<u8>, out: &mut K) -> Result<(), Failed>
@@ -31,10 +31,10 @@ fn hand_out<K: Sink>(text: &mut List<u8>, out: &mut K) -> Result<(), Failed>
         text.new.items) }
     ensures part { OnErr result
         (AppendsPart (K.output out.old).written (K.output out.new).written text.old.items) }
-    ensures short { OnOk result (length text.new.items < PIECE) }
+    ensures short { OnOk result (length text.new.items < REPLY_PIECE) }
     ensures cause { HasCause (K.output out.old).faults (K.output out.new).faults result }
 {
-    if text.len() < PIECE {
+    if text.len() < REPLY_PIECE {
         return Ok(());
     }
     write_all(out, text.as_slice())?;

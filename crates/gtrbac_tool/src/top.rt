@@ -4,7 +4,7 @@ ghost use Rattle.std.specs.Io.KnownBytes.{IsAtEnd};
 ghost use Rattle.gt_io.specs.Causes.{AtMostOnce, Rose, TakesFront};
 ghost use Rattle.gt_io.specs.Shelf.{AsksOnce};
 ghost use Rattle.gt_io.specs.Streams.{stops};
-ghost use Rattle.gt_io.specs.declared.source.TheConstants.{PIECE};
+ghost use Rattle.gt_io.specs.declared.source.TheConstants.{READ_PIECE};
 ghost use Rattle.gtrbac_tool.specs.declared.top.TheConstants.{MAX_SCRIPT};
 ghost use Rattle.policy_commands.specs.Policies.{safe_in};
 ghost use Rattle.policy_commands.specs.declared.finding.TheConstants.{MAX_POLICY};
@@ -50,7 +50,7 @@ fn run_script<I: Source>(
         ≡ (I.intake input.old).faults)) }
     ensures read { IfOk result (IsReadAt (IsAtEnd (I.intake input.new).left)) }
     ensures once { AtMostOnce (stops (I.intake input.old)) (stops (I.intake input.new)) }
-    ensures taken { TakesFront (MAX_SCRIPT + PIECE) (I.intake input.old).left
+    ensures taken { TakesFront (MAX_SCRIPT + READ_PIECE) (I.intake input.old).left
         (I.intake input.new).left }
 {
     match read_all(alloc, input, MAX_SCRIPT) {
@@ -75,7 +75,7 @@ fn run_safe<I: Source>(
         ≡ (I.intake input.old).faults)) }
     ensures read { IfOk result (IsReadAt (IsAtEnd (I.intake input.new).left)) }
     ensures once { AtMostOnce (stops (I.intake input.old)) (stops (I.intake input.new)) }
-    ensures taken { TakesFront (MAX_SCRIPT + PIECE) (I.intake input.old).left
+    ensures taken { TakesFront (MAX_SCRIPT + READ_PIECE) (I.intake input.old).left
         (I.intake input.new).left }
     ensures untouched { (input.new ≡ input.old) ⊎ IsSome (asks_of safe question) }
 {
@@ -100,7 +100,7 @@ fn run<I: Source>(
         ≡ (I.intake input.old).faults)) }
     ensures read { IfOk result (IsReadAt (IsAtEnd (I.intake input.new).left)) }
     ensures once { AtMostOnce (stops (I.intake input.old)) (stops (I.intake input.new)) }
-    ensures taken { TakesFront (MAX_SCRIPT + PIECE) (I.intake input.old).left
+    ensures taken { TakesFront (MAX_SCRIPT + READ_PIECE) (I.intake input.old).left
         (I.intake input.new).left }
     ensures untouched { (input.new ≡ input.old) ⊎ IsAskedOf question text.now }
 {
@@ -126,7 +126,7 @@ fn answer_text<I: Source>(
     ensures read { IsTrue (plays_script (seen_command command.now))
         → IfOk result (IsReadAt (IsAtEnd (I.intake input.new).left)) }
     ensures once { AtMostOnce (stops (I.intake input.old)) (stops (I.intake input.new)) }
-    ensures taken { TakesFront (MAX_SCRIPT + PIECE) (I.intake input.old).left
+    ensures taken { TakesFront (MAX_SCRIPT + READ_PIECE) (I.intake input.old).left
         (I.intake input.new).left }
     ensures untouched { (input.new ≡ input.old)
         ⊎ AsksForScript (seen_command command.now) text.now }
@@ -160,7 +160,7 @@ fn answer<S: Shelf, I: Source>(
         → IfOk result (IsReadAt (IsAtEnd (I.intake input.new).left)) }
     ensures asks { AsksOnce (S.stock shelf.old) (S.stock shelf.new) }
     ensures once { AtMostOnce (stops (I.intake input.old)) (stops (I.intake input.new)) }
-    ensures taken { TakesFront (MAX_SCRIPT + PIECE) (I.intake input.old).left
+    ensures taken { TakesFront (MAX_SCRIPT + READ_PIECE) (I.intake input.old).left
         (I.intake input.new).left }
     ensures untouched { (input.new ≡ input.old)
         ⊎ OnShelf perhaps (S.stock shelf.old).contents (Short AsksForScript)

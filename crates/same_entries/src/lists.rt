@@ -1,5 +1,5 @@
 //! Whether a list begins another.
-ghost use Rattle.std.specs.Prelude.{◌≡◌, true};
+ghost use Rattle.std.specs.Prelude.{◌↔◌, IsTrue};
 ghost use mathlib.Core.List.{IsPrefix};
 
 use crate::same::same_entry;
@@ -7,7 +7,7 @@ use gt_base::Entry;
 
 /// Whether the entries are the first ones of the others.
 pub fn begins(entries: &[Entry], others: &[Entry]) -> bool
-    ensures { result ≡ true → IsPrefix entries.now others.now }
+    ensures { IsTrue result ↔ IsPrefix entries.now others.now }
 {
     if others.len() < entries.len() {
         return false;

@@ -4,3 +4,5 @@ pub mod Others
 pub mod Periods
 pub mod Texts
 pub mod Made
+pub mod MadeCaps
+pub mod MadeSets

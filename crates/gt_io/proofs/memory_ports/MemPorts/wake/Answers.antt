@@ -1,6 +1,7 @@
-use Rattle.std.proofs.Common.{arith}
-use Rattle.gt_io.specs.MemoryPorts.{port_of, no_port}
+use Rattle.std.proofs.Common.{◌≤◌, length, drop, sym, ap, ◌∙◌, arith}
+use Rattle.gt_io.specs.MemoryPorts.{port_of, no_port, woken}
 use Rattle.gt_io.proofs.PortLists.{happens_ready}
+use Rattle.gt_io.proofs.Plans.{wires, one_changed, wire_at}
 use Rattle.gt_io.proofs.memory_ports.MemPorts.wake.Goals as goal
 
 pub returns-clause-happens : goal.returns-clause-happens
@@ -9,4 +10,17 @@ returns-clause-happens c =
     let some = c.if-link-eq0.false in
     let low = c.if-link-self.false in
     let within = s.within in
-    happens_ready port_of no_port s.told s.nexts s.opened s.faults s.ends c.args.link s.ports.items c.index_mut.result.now c.wake.new.self (omega (arith, some)) (omega (arith, low)) (omega (arith, low, within)) c.index_mut.ensures.value c.wake.ensures
+    happens_ready port_of no_port s.told s.nexts s.opened s.faults s.ends c.args.link s.ports.items c.index_mut.result.now c.wake.new.self (omega (arith, some)) (omega (arith, low)) (omega (arith, low, within)) c.index_mut.ensures.value c.wake.ensures.port
+
+pub returns-clause-plan : goal.returns-clause-plan
+returns-clause-plan c =
+    let s = c.args.self.now in
+    let xs = s.ports.items in
+    let k = c.args.link in
+    let x = c.index_mut.result.now in
+    let some = c.if-link-eq0.false in
+    let low = c.if-link-self.false in
+    let within = s.within in
+    let first : 1 ≤ k = omega (arith, some) in
+    let last : k ≤ length xs = omega (arith, low, within) in
+    one_changed (drop s.at s.events.items) s.bad_nexts.items xs k c.wake.new.self (woken (wires xs k)) first last (c.wake.ensures.wire ∙ ap woken (sym (wire_at xs k x first last c.index_mut.ensures.value)))
