@@ -1,5 +1,6 @@
 //! The graph made from triggers.
 ghost use Rattle.std.specs.Prelude.{◌≡◌, ℕ, ◌+◌, ◌*◌, ◌≤◌, ◌<◌, ◌++◌, length, true, false, Some, IfOk, OnOk, MatchOption};
+ghost use Rattle.gt_base.specs.declared.limits.TheConstants.{MAX_ITEMS};
 ghost use Rattle.gtrbac_model.specs.Graph.{item_at};
 ghost use Rattle.gtrbac_model.specs.Same.{lists, same_event};
 ghost use Rattle.gtrbac_model.specs.Trigger.{immediate};
@@ -97,11 +98,11 @@ fn add_trigger(
     requires head { immediate trigger.now ≡ true
         → lists same_event events.now.keys trigger.now.head.event ≡ true }
     requires sizes { length places.old.items ≡ length graph.old.edges }
-    requires short { length trigger.now.events + length trigger.now.settled ≤ 16 }
-    requires room { length graph.old.edges + 32 ≤ u32.MAX }
+    requires short { length trigger.now.events + length trigger.now.settled ≤ MAX_ITEMS }
+    requires room { length graph.old.edges + 2 * MAX_ITEMS ≤ u32.MAX }
     ensures nodes { OnOk result (graph.new.nodes ≡ graph.old.nodes) }
     ensures sizes { OnOk result (length places.new.items ≡ length graph.new.edges) }
-    ensures room { OnOk result (length graph.new.edges ≤ length graph.old.edges + 32) }
+    ensures room { OnOk result (length graph.new.edges ≤ length graph.old.edges + 2 * MAX_ITEMS) }
     ensures edges { OnOk result (Adds events.now.keys
         (read_off events.now.keys graph.old.edges places.old.items)
         (read_off events.now.keys graph.new.edges places.new.items)
@@ -139,7 +140,7 @@ fn add_body(
     requires few { length events.now.keys ≤ u32.MAX }
     requires end { head < length events.now.keys }
     requires sizes { length places.old.items ≡ length graph.old.edges }
-    requires short { length body.now ≤ 16 }
+    requires short { length body.now ≤ MAX_ITEMS }
     requires room { length graph.old.edges + 2 * length body.now ≤ u32.MAX }
     ensures nodes { OnOk result (graph.new.nodes ≡ graph.old.nodes) }
     ensures sizes { OnOk result (length places.new.items ≡ length graph.new.edges) }
@@ -173,7 +174,7 @@ fn add_settled(
     requires few { length events.now.keys ≤ u32.MAX }
     requires end { head < length events.now.keys }
     requires sizes { length places.old.items ≡ length graph.old.edges }
-    requires short { first + length conds.now ≤ 16 }
+    requires short { first + length conds.now ≤ MAX_ITEMS }
     requires room { length graph.old.edges + 2 * length conds.now ≤ u32.MAX }
     ensures nodes { OnOk result (graph.new.nodes ≡ graph.old.nodes) }
     ensures sizes { OnOk result (length places.new.items ≡ length graph.new.edges) }

@@ -32,6 +32,28 @@ pub struct Stratified<'a> {
     ghost due: { AreLevels rules.now graph.now strata.now levels.now },
 }
 
+impl<'a> Stratified<'a> {
+    /// The graph and the levels are those of the rules.
+    pub fn new(
+        rules: &'a Rules,
+        graph: &'a EventGraph,
+        strata: &'a Strata,
+        levels: &'a TriggerLevels,
+    ) -> Stratified<'a>
+        requires levelled { IsLevelled rules.now graph.now strata.now }
+        requires levels { AreLevels rules.now graph.now strata.now levels.now }
+        ensures rules { result.rules.now ≡ rules.now }
+        ensures levels { result.levels.now ≡ levels.now }
+    {
+        Stratified {
+            rules,
+            graph,
+            strata,
+            levels,
+        }
+    }
+}
+
 /// The one closed and grounded set of the rules over this base, under the status before the
 /// instant. The graph and the levels are those of the rules.
 pub fn settle(
@@ -68,12 +90,7 @@ pub fn settled_contest(
     ensures only { IfOk result (λ x. (y : HappenedView)
         → Settled r.now base.now.set (has before.now.set) y → y ≡ x) }
 {
-    let by = Stratified {
-        rules: r,
-        graph: g,
-        strata: s,
-        levels,
-    };
+    let by = Stratified::new(r, g, s, levels);
     settled_over::<Brand>(alloc, &by, base, before, Blank::new(1))
 }
 

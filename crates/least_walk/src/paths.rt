@@ -50,14 +50,6 @@ impl EdgeList {
         self.numbers.as_slice()
     }
 
-    /// The numbers as a row of their own. It takes no memory.
-    pub fn into_vec(self) -> Vec<u32>
-        ensures { result.items ≡ self }
-    {
-        let EdgeList { numbers } = self;
-        numbers
-    }
-
     /// Adds a number at the end. After a refusal the list is as it was.
     pub fn push(&mut self, n: u32) -> Result<(), AllocError>
         ensures ok { OnOk result (self.new ≡ self.old ++ n ∷ []) }

@@ -179,7 +179,7 @@ abbrev pub expr_of : RawExpr → Expr
 expr_of e = with_span (map part_of (e.first ∷ e.more))
     (last_calendar e.first.calendar e.more) e.span
 
--- what a text says, as the papers have it
+-- what a text says, as the grammar has it
 
 -- the text is an expression without faults, which means this
 pub record Says (text : List ℕ) (x : Expr) : Type 0 where

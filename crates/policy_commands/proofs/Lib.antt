@@ -1,5 +1,4 @@
 pub mod Cycles
 pub mod Ending
 pub mod Answered
-pub mod EdgeNames
 pub mod Fitting

@@ -6,7 +6,7 @@ use Rattle.gt_io.specs.Causes.{Rose, AppendsPart}
 use Rattle.policy_commands.specs.Ends.{EndView}
 
 -- the end was printed whole by an output that failed nowhere; or the output failed, and a proper
--- front of the text was written
+-- prefix of the text was written
 abbrev pub IsPrinted : ℕ → EndView → Option (List ℕ) → Option (List ℕ) → ℕ → ℕ → Type 0
 IsPrinted status end old new before now =
     ((status ≡ end.status) × Appends old new end.text × (now ≡ before))

@@ -1,5 +1,5 @@
--- What a policy has that lines make: its lists are what the lines say, in their order, and its caps,
--- administrators and opening status what they say one by one.
+-- What a policy has that lines make: its lists are what the lines say, in their order, and its
+-- caps, administrators and opening status what they say one by one.
 use Rattle.std.specs.Prelude.{◌≡◌, ℕ, ◌&&◌, ◌||◌, Bool, false, List, [], ◌∷◌, length, if◌then◌else◌, Option, Some, None}
 use Rattle.std.specs.List.{filter_map}
 use Rattle.gt_base.specs.Sets.{has}

@@ -6,4 +6,4 @@ mod laws;
 mod rules;
 
 pub use laws::indexes_tell;
-pub use rules::{Rules, met, met_in};
+pub use rules::{Rules, met_in};

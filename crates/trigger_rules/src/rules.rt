@@ -1,18 +1,16 @@
 //! Triggers that are kept, and when the body of one is met.
-ghost use Rattle.std.specs.Prelude.{◌≡◌, ◌<◌, ◌≤◌, ◌&&◌, not, cond, length, Some, IfOk};
+ghost use Rattle.std.specs.Prelude.{◌≡◌, ◌≤◌, not, cond, length, IfOk};
 ghost use Rattle.std.specs.List.{list_all};
 ghost use Rattle.gt_base.specs.declared.events.Event.{Event};
 ghost use Rattle.gt_base.specs.Held.{TriggerView};
 ghost use Rattle.gt_base.specs.Sets.{has};
 ghost use Rattle.gt_base.specs.declared.limits.TheConstants.{MAX_TRIGGERS};
 ghost use Rattle.gtrbac_model.specs.Conflict.{won as is_won, after};
-ghost use Rattle.gtrbac_model.specs.Graph.{item_at};
 ghost use Rattle.gtrbac_model.specs.Trigger.{met, holds};
-ghost use Rattle.priority_conflict.specs.Winning.{turned_by};
 ghost use Rattle.trigger_rules.specs.Indexed.{with_event, with_signal};
 
 use crate::index::{event_index, signal_index};
-use gt_base::{Cond, Event, EventSet, Fluent, Happened, List, Memory, Signal, Status, Trigger};
+use gt_base::{Cond, Event, Happened, List, Memory, Signal, Status, Trigger};
 use indexmap::IndexMap;
 use priority_conflict::Contest;
 use std::alloc::Global;
@@ -112,36 +110,9 @@ fn copied(alloc: Global, triggers: &List<Trigger>) -> Result<List<Trigger>, Memo
     Ok(copy)
 }
 
-/// Whether the body of the trigger of this number is met at the instant: each of its events is
-/// among the winners, each of its signals is there, each of its conditions held before the instant,
-/// and each of its settled conditions holds after it. It takes no memory.
-pub fn met(r: &Rules, n: u32, won: &EventSet, x: &Happened, before: &Status) -> bool
-    requires trigger { n < length r.now }
-    requires won { (e : Event) → has won.now.set e ≡ is_won x.now.set e }
-    ensures { (t : TriggerView) → item_at r.now n ≡ Some t
-        → result ≡ met t x.now.set (has before.now.set) }
-{
-    body_met(&r.triggers.as_slice()[n as usize], won, x, before)
-}
-
-/// Whether the body is met, by the winners.
-fn body_met(t: &Trigger, won: &EventSet, x: &Happened, before: &Status) -> bool
-    ensures { result ≡ (list_all (has won.now.set) t.now.events
-        && list_all (has x.now.set.signals) t.now.signals
-        && list_all (holds (has before.now.set)) t.now.conds
-        && list_all (holds (turned_by (has won.now.set) (has before.now.set))) t.now.settled) }
-{
-    if !all_won(t.events.as_slice(), won) {
-        return false;
-    }
-    if !all_there(t.signals.as_slice(), x) {
-        return false;
-    }
-    all_held(t.conds.as_slice(), before) && all_turned(t.settled.as_slice(), won, before)
-}
-
-/// Whether the body of the trigger is met in the set, as `met` says it of a kept trigger. It takes
-/// no memory.
+/// Whether the body of the trigger is met in the set: each of its events is won, each of its
+/// signals is there, each of its conditions held before the instant, and each of its settled
+/// conditions holds after it. It takes no memory.
 pub fn met_in(t: &Trigger, x: &Contest, before: &Status) -> bool
     ensures { result ≡ met t.now x.now (has before.now.set) }
 {
@@ -161,13 +132,6 @@ fn all_lead(events: &[Event], x: &Contest) -> bool
     events.iter().all(|e| x.is_won(*e))
 }
 
-/// Whether each of the events is among the winners.
-fn all_won(events: &[Event], won: &EventSet) -> bool
-    ensures { result ≡ list_all (has won.now.set) events.now }
-{
-    events.iter().all(|e| won.has(*e))
-}
-
 /// Whether each of the signals is there.
 fn all_there(signals: &[Signal], x: &Happened) -> bool
     ensures { result ≡ list_all (has x.now.set.signals) signals.now }
@@ -182,16 +146,6 @@ fn all_held(conds: &[Cond], before: &Status) -> bool
     conds.iter().all(|c| is_so(*c, before.is_on(c.fluent)))
 }
 
-/// Whether each of the conditions holds after the winners.
-fn all_turned(conds: &[Cond], won: &EventSet, before: &Status) -> bool
-    ensures { result ≡ list_all (holds (turned_by (has won.now.set) (has before.now.set)))
-        conds.now }
-{
-    conds
-        .iter()
-        .all(|c| is_so(*c, is_on_then(c.fluent, won, before)))
-}
-
 /// Whether each of the conditions holds after the set.
 fn all_settled(conds: &[Cond], x: &Contest, before: &Status) -> bool
     ensures { result ≡ list_all (holds (after x.now (has before.now.set))) conds.now }
@@ -199,16 +153,6 @@ fn all_settled(conds: &[Cond], x: &Contest, before: &Status) -> bool
     conds
         .iter()
         .all(|c| is_so(*c, x.is_on_after(c.fluent, before)))
-}
-
-/// Whether the fluent is on after the winners.
-fn is_on_then(fluent: Fluent, won: &EventSet, before: &Status) -> bool
-    ensures { result ≡ turned_by (has won.now.set) (has before.now.set) fluent }
-{
-    if won.has(Event { on: true, fluent }) {
-        return true;
-    }
-    !won.has(Event { on: false, fluent }) && before.is_on(fluent)
 }
 
 /// Whether the condition holds, given whether its fluent is on.
