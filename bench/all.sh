@@ -1,5 +1,5 @@
 #!/bin/sh
-# Measures all, and writes the tables of docs/PERFORMANCE.md: bench/all.sh [--short] [SCRIPT..]
+# Writes the tables of docs/PERFORMANCE.md, but for that of proofs: bench/all.sh [--short] [SCRIPT..]
 # Each SCRIPT is a name here without `.sh`; without any all are run, within half an hour. Only what is
 # built is measured: `make` builds gtrbac and gtrbacd, and `rt run` in crates/part_bench, line_bench,
 # desk_bench and calendar_probe the programs of the parts. A script that can't run is named at the end,
@@ -13,11 +13,8 @@ if [ "${1:-}" = --short ]; then
     shift
     export SHORT=1
 fi
-if [ $# -eq 0 ]; then
-    set -- serve poll sessions time ward run late agenda charges edges policies lines status calendar \
-        walks desk
-    [ ! -x "$here/front.sh" ] || set -- "$@" front
-fi
+[ $# -gt 0 ] || set -- serve poll sessions time ward run late agenda charges edges policies lines status \
+    calendar walks desk
 
 model=$(sed -n 's/^model name[^:]*: //p' /proc/cpuinfo | head -n 1)
 memory=$(awk '/^MemTotal/ { printf "%.0f GB", $2 / 1048576 }' /proc/meminfo)
@@ -25,10 +22,6 @@ printf '| machine | is | measured |\n|---|---|---|\n'
 printf '| %s | %s processors (%s), %s | %s |\n' "$MACHINE" "$(nproc)" "${model:-unknown}" "$memory" "$(date +%F)"
 left=
 for script in "$@"; do
-    if [ ! -x "$here/$script.sh" ]; then
-        left="$left $script"
-        continue
-    fi
     printf '\n`bench/%s.sh`:\n\n' "$script"
     "$here/$script.sh" || left="$left $script"
 done
