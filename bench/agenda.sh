@@ -1,19 +1,18 @@
 #!/bin/sh
 # Times requests with a delay: bench/agenda.sh [COUNT]
 # So many requests (200,000 if left out), each with a delay of its own, in rising, falling and mixed
-# order, then also all of them due; and a quarter and a half of them, so that it is seen how the
-# time grows. GTRBAC names the program where it is not the built one of this repository.
+# order, then all of them due; and half of them, so that it is seen how the time grows.
 set -eu
 here=$(cd "$(dirname "$0")" && pwd)
 work=$(mktemp -d)
+trap 'rm -rf "$work"' EXIT
 cd "$work"
-PYTHONPATH="$here" python3 - "${1:-200000}" <<'PY'
+PYTHONPATH="$here" python3 - "$@" <<'PY'
 import random
 import sys
-from measure import run
+from measure import head, memory, row, run, sized, span
 
-COUNT = int(sys.argv[1])
-POLICY = 'policy 1\nrole desk\n'
+COUNT = int(sys.argv[1]) if len(sys.argv) > 1 else sized(200_000, 2_000)
 
 
 def script(delays, end=None):
@@ -21,13 +20,12 @@ def script(delays, end=None):
     return lines + (['@ ' + end] if end else [])
 
 
-for count in COUNT // 4, COUNT // 2, COUNT:
+head('requests with a delay', 'rising', 'falling', 'mixed', 'mixed, all due', 'memory')
+for count in COUNT // 2, COUNT:
     rising = list(range(1, count + 1))
     mixed = rising[:]
     random.Random(38).shuffle(mixed)
-    run('rising delays', POLICY, script(rising))
-    run('falling delays', POLICY, script(rising[::-1]))
-    run('mixed delays', POLICY, script(mixed))
-run('mixed delays, each of them due', POLICY, script(mixed, '2027-01-05T00:00'))
+    scripts = script(rising), script(rising[::-1]), script(mixed), script(mixed, '2027-01-05T00:00')
+    took = [run('policy 1\nrole desk\n', lines) for lines in scripts]
+    row('{:,}'.format(count), *(span(t.seconds) for t in took), memory(took[-1].kilobytes))
 PY
-rm -rf "$work"

@@ -1,18 +1,18 @@
 #!/bin/sh
 # Times the minutes that are charged to activations: bench/charges.sh [COUNT]
 # A century in one line over 1,000 users with an activation each, with and without a cap on the
-# minutes of a day; and ticks over so many activations of one user (10,000 if left out) without a
-# cap, with a cap on how many a user has, and with one on the minutes of a day, the same of ten
-# roles in turn. GTRBAC names the program where it is not the built one of this repository.
+# minutes of a day; and a tick over so many activations of one user (10,000 if left out) in ten roles,
+# without a cap, with a cap on how many a user has, and with one on the minutes of a day.
 set -eu
 here=$(cd "$(dirname "$0")" && pwd)
 work=$(mktemp -d)
+trap 'rm -rf "$work"' EXIT
 cd "$work"
-PYTHONPATH="$here" python3 - "${1:-10000}" <<'PY'
+PYTHONPATH="$here" python3 - "$@" <<'PY'
 import sys
-from measure import run
+from measure import head, memory, row, run, sized, span
 
-COUNT = int(sys.argv[1])
+COUNT = int(sys.argv[1]) if len(sys.argv) > 1 else sized(10_000, 100)
 
 
 def century(cap):
@@ -21,8 +21,9 @@ def century(cap):
     lines = ['@ 2000-01-01T00:01']
     for i in range(1000):
         lines += ['as u%d' % i, 'open', 'activate %d desk' % (i + 1)]
-    name = 'a century in one line ' + (cap.strip() or 'without caps')
-    run(name, policy, lines + ['@ 2099-12-31T23:59'])
+    took = run(policy, lines + ['@ 2099-12-31T23:59'])
+    name = 'a century over 1,000 activations, ' + (' '.join(cap.split()[:2]) or 'no cap')
+    row(name, span(took.seconds), memory(took.kilobytes), '-')
 
 
 def ticks(cap, roles):
@@ -32,18 +33,15 @@ def ticks(cap, roles):
     policy += ''.join('assigned ada %s\n' % r for r in names)
     lines = ['@ 2026-01-05T00:01', 'as ada'] + ['open'] * (COUNT // roles)
     lines += ['activate %d %s' % (i + 1, r) for i in range(COUNT // roles) for r in names]
-    often = lines + ['@ 2026-01-05T00:%02d' % m for m in range(2, 12)]
-    what = '%s, %d role%s' % (cap.split('%s')[0].strip() or 'no cap', roles, 's'[:roles > 1])
-    first = run('%d activations of one user, %s' % (COUNT, what), policy, lines)
-    more = run('  and ten ticks', policy, often)
-    print('   a tick takes %.4f s' % ((more - first) / 10), flush=True)
+    first = run(policy, lines)
+    more = run(policy, lines + ['@ 2026-01-05T00:%02d' % m for m in range(2, 12)])
+    name = '{:,} activations of one user, {}'.format(COUNT, ' '.join(cap.split()[:2]) or 'no cap')
+    row(name, span(first.seconds), memory(first.kilobytes), span(max(more.seconds - first.seconds, 0) / 10))
 
 
+head('work', 'time', 'memory', 'a tick more')
 century('')
 century('cap day desk 1440\n')
-for roles in 1, 10:
-    ticks('', roles)
-    ticks('cap user %%s %d\n' % COUNT, roles)
-    ticks('cap day %s 1000000\n', roles)
+for cap in '', 'cap user %%s %d\n' % COUNT, 'cap day %s 1000000\n':
+    ticks(cap, 10)
 PY
-rm -rf "$work"

@@ -1,25 +1,21 @@
 #!/bin/sh
 # Times decisions and activations in hierarchies: bench/decisions.sh [TIMES]
-# A chain of 10, of 50, of 200 and of 1,000 roles, and 1,000 roles with four edges each to later roles at random. In each the first role is active
-# and its user's, and the permission is granted to the last role alone. `decide` looks for the walk of the first role to it, `none` asks for
-# the last role itself, `activate` whether the user of the first role may activate the last. Each is asked over a hierarchy that was made once,
-# and, as `decide-list` and the like, over the list of edges, TIMES times (3000 if left out; once more for the time that the making takes).
-# What is told is processor time.
-# Run it at the top of the repository, after `rt run` has built crates/part_bench once.
+# Chains, and 1,000 roles with four edges each to later roles at random. In each the first role is
+# active and its user's, and the permission is granted to the last role alone. A decision looks for
+# the walk of the first role to it, or is asked of the last role itself; an activation is of the last
+# role. Each is asked over a hierarchy that was made once, TIMES times (3,000 if left out).
 set -eu
-program=$(ls crates/part_bench/out/part_bench)
-python3 - "$program" "${1:-3000}" <<'PY'
-import resource, subprocess, sys
-program, often = sys.argv[1], int(sys.argv[2])
-def run(words, times):
-    before = resource.getrusage(resource.RUSAGE_CHILDREN)
-    told = subprocess.run([program, 'decisions', *words, str(times)], capture_output=True, text=True, check=True).stdout.strip()
-    after = resource.getrusage(resource.RUSAGE_CHILDREN)
-    return after.ru_utime - before.ru_utime + after.ru_stime - before.ru_stime, told
-for shape, roles in ('chain', 10), ('chain', 50), ('chain', 200), ('chain', 1000), ('random', 1000):
-    for kind in 'decide', 'none', 'activate', 'decide-list', 'none-list', 'activate-list':
-        words = [kind, shape, str(roles)]
-        once = min(run(words, 1)[0] for _ in range(3))
-        took, told = min(run(words, often + 1) for _ in range(3))
-        print(f'{kind} in {shape} of {roles}: {told}, {max(took - once, 0) / often * 1e6:.2f} microseconds')
+here=$(cd "$(dirname "$0")" && pwd)
+PYTHONPATH="$here" python3 - "$@" <<'PY'
+import sys
+from measure import each, head, program, row, sized, span
+
+OFTEN = int(sys.argv[1]) if len(sys.argv) > 1 else sized(3_000, 10)
+BENCH = program('part_bench')
+head('one question over a prepared hierarchy', 'a decision by a walk', 'of the role itself', 'an activation')
+for shape, roles, name in (('chain', 10, 'a chain of 10'), ('chain', 50, 'a chain of 50'),
+                           ('chain', 200, 'a chain of 200'), ('chain', 1000, 'a chain of 1,000'),
+                           ('random', 1000, '1,000 roles, 4,000 edges at random')):
+    words = [[BENCH, 'decisions', kind, shape, str(roles)] for kind in ('decide', 'none', 'activate')]
+    row(name, *(span(each(asked, OFTEN)) for asked in words))
 PY

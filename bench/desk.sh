@@ -1,17 +1,26 @@
 #!/bin/sh
-# Times asks under a plain mutex, at a desk, and at one whose passes keep their turns: bench/desk.sh [ASKS]
-# ASKS (200000 if left out) is the number of all asks, divided among 1, 2 and 4 threads.
-# Run it at the top of the repository, after `rt run` has built crates/desk_bench once.
-set -e
-program=$(ls crates/desk_bench/out/desk_bench)
-all=${1:-200000}
-for kind in mutex desk stay; do
-    for threads in 1 2 4; do
-        each=$((all / threads))
-        start=$(date +%s%N)
-        "$program" "$kind" "$threads" "$each" >/dev/null
-        end=$(date +%s%N)
-        took=$(((end - start) / 1000))
-        echo "$kind, $threads threads: $((each * threads)) asks in $((took / 1000)) ms, $((each * threads * 1000 / (took / 1000 + 1))) asks a second"
-    done
-done
+# Times asks at a desk, at one whose passes keep their turns, and under a plain mutex: bench/desk.sh [ASKS]
+# ASKS (200,000 if left out) is the number of all asks, divided among 1, 2 and 4 threads.
+set -eu
+here=$(cd "$(dirname "$0")" && pwd)
+PYTHONPATH="$here" python3 - "$@" <<'PY'
+import subprocess
+import sys
+import time
+from measure import head, program, row, sized
+
+ALL = int(sys.argv[1]) if len(sys.argv) > 1 else sized(200_000, 2_000)
+BENCH = program('desk_bench')
+
+
+def rate(kind, threads):
+    since = time.monotonic()
+    words = [BENCH, kind, str(threads), str(ALL // threads)]
+    subprocess.run(words, stdout=subprocess.DEVNULL, check=True)
+    return '{:,.0f}'.format(ALL // threads * threads / (time.monotonic() - since))
+
+
+head('threads', 'a desk, asks a second', 'turns kept', 'a plain mutex')
+for threads in 1, 2, 4:
+    row(str(threads), *(rate(kind, threads) for kind in ('desk', 'stay', 'mutex')))
+PY

@@ -1,20 +1,18 @@
 #!/bin/sh
-# Times the reading of a line of 40 bytes and the writing of a reply: bench/lines.sh [TIMES]
-# Each is done TIMES times (3000000 if left out; once more for the time that the making takes), and what is told is processor time, the best
-# of five. Run it at the top of the repository, after `rt run` has built crates/line_bench once; LINE_BENCH names another program.
+# Times the reading of a line of 40 bytes, the writing of a reply, and the checking of a certificate
+# of 2,000 instants: bench/lines.sh [TIMES]
+# Lines and replies are done TIMES times (3,000,000 if left out), a certificate 50 times.
 set -eu
-program=${LINE_BENCH:-$(ls crates/line_bench/out/line_bench)}
-python3 - "$program" "${1:-3000000}" <<'PY'
-import resource, subprocess, sys
-program, often = sys.argv[1], int(sys.argv[2])
-def run(kind, times):
-    before = resource.getrusage(resource.RUSAGE_CHILDREN)
-    told = subprocess.run([program, kind, str(times)], capture_output=True, text=True, check=True).stdout.strip()
-    after = resource.getrusage(resource.RUSAGE_CHILDREN)
-    return after.ru_utime - before.ru_utime + after.ru_stime - before.ru_stime, told
-for what, kinds in ('reading a line', ('activate', 'request', 'check')), ('writing a reply', ('yes', 'now', 'refused', 'permit')):
-    for kind in kinds:
-        once = min(run(kind, 1)[0] for _ in range(5))
-        took, told = min(run(kind, often + 1) for _ in range(5))
-        print(f'{what}, {kind}: {told}, {max(took - once, 0) / often * 1e9:.0f} nanoseconds')
+here=$(cd "$(dirname "$0")" && pwd)
+PYTHONPATH="$here" python3 - "$@" <<'PY'
+import sys
+from measure import each, head, program, row, sized, span
+
+OFTEN = int(sys.argv[1]) if len(sys.argv) > 1 else sized(3_000_000, 1_000)
+BENCH = program('line_bench')
+head('`activate` read', '`request`', '`check`', '`yes` written', '`now`', '`refused`', '`permit`',
+     'an instant of a certificate')
+kinds = 'activate', 'request', 'check', 'yes', 'now', 'refused', 'permit'
+row(*(span(each([BENCH, kind], OFTEN, 5)) for kind in kinds),
+    span(each([BENCH, 'why'], sized(50, 2)) / 2_000))
 PY

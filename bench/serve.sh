@@ -1,212 +1,119 @@
 #!/bin/sh
-# Lines a second of the built gtrbacd over one, two and four connections, beside a Redis server's
-# inline PING over as many: bench/serve.sh [SECONDS]
-# Needs cc, and Debian's packages redis-server and redis-tools for Redis's rows; where they are not
-# there, it says so and leaves these out. A history holds 1,000,000 entries, and a line that asks adds
-# one, so the server is started anew for each cell and no cell may last longer than its history. A row
-# has the replies a second, and the median and the 99th percentile of a batch in microseconds, with 1
-# line in flight on each connection and with 64. Below stand the bytes that the server grew by for an
-# entry and for a connection that was served, and what a full history takes.
-# Where the server has the mode `views`, rows follow of one and two viewers, whose lines add no entry,
-# each beside Redis over as many connections; and of the workers in that mode, while nobody is at the
-# viewers, while two clients are connected to them and silent, and while both ask without a pause. A
-# row that begins with `ratio` divides the two rows that it names, of the same run. Below them stand
-# the bytes for an entry and for a viewer's reply, and what a full history takes there.
+# Lines a second of the built gtrbacd over one, two and four connections, one a port, and over its
+# viewers, beside a Redis server's inline PING over as many: bench/serve.sh [SECONDS]
+# Needs cc, and Debian's redis-server for the cells PING. A cell is the median of three rounds of so
+# many seconds (0.4 if left out). It has the replies a second, with 1 line in flight on each connection
+# and with 64, and the median and the 99th percentile of a batch in microseconds. With `views` stand
+# one and two viewers, whose lines add no entry, and the workers while nobody is at the viewers, while
+# two clients are connected to them and silent, and while both ask without a pause. Then come the bytes
+# of an entry, of a connection that was served and of a viewer's reply, and what a full history takes.
 set -eu
 here=$(cd "$(dirname "$0")" && pwd)
-top=$(cd "$here/.." && pwd)
-seconds=${1:-1}
-program=${GTRBACD:-$top/crates/gtrbacd/out/gtrbacd}
-if [ ! -x "$program" ]; then
-    echo "bench/serve.sh: $program is not built; bin/gtrbacd builds it" >&2
-    exit 1
-fi
 work=$(mktemp -d)
+trap 'rm -rf "$work"' EXIT
 cd "$work"
-cc -O2 -pthread -o load "$here/load.c"
+PYTHONPATH="$here" python3 - "$@" <<'PY'
+import contextlib
+import socket
+import subprocess
+import sys
+import threading
+from measure import head, program, row, sized
+from servers import BEN, COLUMNS, NURSE, PORT, REDIS, VIEWERS, WORKERS, Beside, Served
+from servers import asked, compiled, middle, say, told
 
-mode=
-server=
-beside=
-trap '[ -z "$server" ] || kill "$server"; [ -z "$beside" ] || kill "$beside"' EXIT
-resident() {
-    awk '/VmRSS/ { print $2 * 1024 }' "/proc/$server/status"
-}
-begin() {
-    rm -f gtrbacd.stop
-    # shellcheck disable=SC2086 # no word, or one
-    "$program" $mode "$top/examples/ward.policy" >log &
-    server=$!
-    # it listens once a line is answered that makes no entry
-    for port in 7743 ${mode:+7753 7754}; do
-        for _ in $(seq 100); do
-            ./load 1 0 'as -' "$port" >cell 2>&1 && break
-            sleep 0.1
-        done
-    done
-    before=$(resident)
-}
-end() {
-    touch gtrbacd.stop
-    wait "$server" || echo "bench/serve.sh: gtrbacd ended with status $?" >&2
-    server=
-}
+SECONDS = float(sys.argv[1]) if len(sys.argv) > 1 else sized(0.4, 0.3)
+DEPTHS = 1, 64
+CHECK = 'check 1 read-chart'
+WHAT = 'an entry', 'a connection', 'a reply', 'connections'
+sizes = {}
 
-# The name of a row and its number of connections, then its cells; the rates of the last row are in
-# one and many.
-head_of() {
-    printf '%-22s %d' "$1" "$(echo "$2" | wc -w)"
-}
-cell() {
-    awk '{ printf " %12d %9.1f %9.1f", $1, $2, $3 }' cell
-    if [ "$1" = 1 ]; then one=$(cut -d' ' -f1 cell); else many=$(cut -d' ' -f1 cell); fi
-}
-# ratio NAME ONE MANY: the last row's rates over these
-ratio() {
-    awk -v name="ratio: $1" -v a="$one" -v b="$2" -v c="$many" -v d="$3" \
-        'BEGIN { printf "%-24s %12.2f %32.2f\n", name, a / b, c / d }'
-}
 
-# row NAME LINE PORTS FIRST..: over workers' ports; at says what goes on at the viewers' ports
-at=
-row() {
-    name=$1 line=$2 ports=$3
-    shift 3
-    head_of "$name" "$ports"
-    for depth in 1 64; do
-        begin
-        reading=
-        longer=$(awk "BEGIN { print $seconds + 1 }")
-        case $at in
-        ask) ./load "$longer" 1 now 7753 7754 -- 'as ben' >glances & reading=$! ;;
-        silent) python3 -c "
-import socket, time
-links = [socket.create_connection(('127.0.0.1', port)) for port in (7753, 7754)]
-time.sleep($longer)" & reading=$! ;;
-        esac
-        # shellcheck disable=SC2086 # one word a port
-        ./load "$seconds" "$depth" "$line" $ports -- "$@" >cell
-        after=$(resident)
-        [ -z "$reading" ] || wait "$reading"
-        end
-        cell "$depth"
-        if grep -q '= no steps' log || [ "$(wc -l <log)" -gt 1000000 ]; then
-            echo "bench/serve.sh: the history was full; take fewer SECONDS" >&2
-        fi
-    done
-    grown=$(((after - before) / $(wc -l <log)))
-    echo
-}
+def load(depth, line, ports, first):
+    return asked(['./load', SECONDS, depth, line, *ports, '--', *first])
 
-# viewers LINE PORTS: a session is opened over a worker's port, and LINE is asked over the viewers'
-viewers() {
-    head_of "viewers: ${1%% *}" "$2"
-    for depth in 1 64; do
-        begin
-        ./load 0.001 1 now 7743 -- 'as ben' open 'activate 1 nurse' >cell
-        since=$(resident)
-        # shellcheck disable=SC2086 # one word a port
-        ./load "$seconds" "$depth" "$1" $2 -- 'as ben' >cell
-        kept=$(awk -v grown=$(($(resident) - since)) -v took="$seconds" '{ printf "%.1f", grown / ($1 * took) }' cell)
-        end
-        cell "$depth"
-    done
-    echo
-}
 
-# redis PORTS: its PING over as many connections
-redis() {
-    head_of 'redis: PING' "$1"
-    for depth in 1 64; do
-        # shellcheck disable=SC2046 # one word a port
-        ./load "$seconds" "$depth" PING $(echo "$1" | sed 's/77[0-9]*/7799/g') >cell
-        cell "$depth"
-    done
-    echo
-}
+@contextlib.contextmanager
+def silent():
+    links = [socket.create_connection(('127.0.0.1', port)) for port in VIEWERS]
+    yield
+    for link in links:
+        link.close()
 
-# What a full history takes: its bytes, and how long a stop takes.
-full() {
-    begin
-    python3 - <<'PY'
-import socket, threading
-link = socket.create_connection(('127.0.0.1', 7743))
-text = b'as ben\n' + b'now\n' * 1_000_001
-threading.Thread(target=link.sendall, args=(text,), daemon=True).start()
-lines, told = 0, b''
-while lines < 1_000_002:
-    told = link.recv(1 << 20)
-    lines += told.count(b'\n')
-if not told.endswith(b'no steps\n'):
-    raise SystemExit('the history is not full')
+
+@contextlib.contextmanager
+def asking():
+    words = ['./load', str(SECONDS + 1), '1', 'now', *map(str, VIEWERS), '--', *BEN]
+    with subprocess.Popen(words, stdout=subprocess.DEVNULL):
+        yield
+
+
+def working(line, ports, first, mode=(), beside=contextlib.nullcontext):
+    def measure(depth):
+        with Served(*mode) as server:
+            with beside():
+                found = load(depth, line, ports, first)
+        sizes['an entry', mode] = server.grown / max(server.entries, 1)
+        return found
+    return [middle(lambda: measure(depth)) for depth in DEPTHS]
+
+
+def viewing(line, ports):
+    def measure(depth):
+        with Served('views') as server:
+            say(PORT, NURSE)
+            before = server.resident()
+            found = load(depth, line, ports, BEN)
+            sizes['a reply', ('views',)] = (server.resident() - before) / (found[0] * SECONDS)
+        return found
+    return [middle(lambda: measure(depth)) for depth in DEPTHS]
+
+
+def full(mode):
+    count = sized(1_000_001, 1_001)
+    with Served(*mode) as server, socket.create_connection(('127.0.0.1', PORT)) as link:
+        text = b'as ben\n' + b'now\n' * count
+        threading.Thread(target=link.sendall, args=(text,), daemon=True).start()
+        lines = 0
+        while lines < count + 1:
+            lines += link.recv(1 << 20).count(b'\n')
+        held = server.resident()
+    return '%.0f MB' % (held / 1e6), '%.2f s' % server.stopped
+
+
+def sized_row(name, mode):
+    held, stopped = full(mode)
+    row(name, *('{:,.0f}'.format(sizes[what, mode]) if (what, mode) in sizes else '-' for what in WHAT), held, stopped)
+
+
+program('gtrbacd')
+compiled('load')
+with Beside() as redis:
+    def ping(ports):
+        if not redis.server:
+            return None, None
+        return [middle(lambda: load(depth, 'PING', [REDIS] * len(ports), [])) for depth in DEPTHS]
+
+    pings = {number: ping(WORKERS[:number]) for number in (1, 2, 4)}
+    head('lines, connections', *COLUMNS)
+    for number in 1, 2, 4:
+        for name, line, first in ('now', 'now', BEN), ('check', CHECK, NURSE):
+            told('`%s`, %d' % (name, number), working(line, WORKERS[:number], first), pings[number])
+    print()
+    head('with `views`: lines, connections', *COLUMNS)
+    for number in 1, 2:
+        for name, line in ('now', 'now'), ('check', CHECK):
+            told('viewers: `%s`, %d' % (name, number), viewing(line, VIEWERS[:number]), pings[number])
+    for name, beside in (('no viewers\' clients', contextlib.nullcontext), ('silent ones', silent), ('asking ones', asking)):
+        rates = working('now', WORKERS, BEN, ('views',), beside)
+        told('workers: `now`, 4; ' + name, rates, pings[4])
+with Served() as server:
+    number = sized(5_000, 10)
+    sizes['connections', ()], = asked(['./load', number, 0, 'as ben', *WORKERS])
+    sizes['a connection', ()] = (server.resident() - server.begun) / (4 * number)
+print()
+head('the server', 'bytes for an entry', 'for a connection served', "for a viewer's reply", 'connections a second',
+     'a full history', 'its stop')
+sized_row('`gtrbacd`', ())
+sized_row('`gtrbacd views`', ('views',))
 PY
-    held=$(resident)
-    start=$(date +%s.%N)
-    end
-    echo "a full history${mode:+ with $mode}: $((held / 1000000)) MB, stopped after $(echo "$(date +%s.%N) $start" | awk '{ printf "%.2f", $1 - $2 }') s"
-}
-
-echo "load $(cut -d' ' -f1 /proc/loadavg), $(nproc) processors, $seconds s a cell"
-printf '%-24s %12s %9s %9s %12s %9s %9s\n' '' '1: a second' 'median' '99 of 100' \
-    '64: a second' 'median' '99 of 100'
-if command -v redis-server >/dev/null; then
-    redis-server --port 7799 --save '' --appendonly no >redis.log &
-    beside=$!
-    sleep 0.5
-else
-    echo 'redis: no redis-server is installed, so nothing stands beside (Debian: apt install redis-server redis-tools)'
-fi
-for ports in 7743 '7743 7744' '7743 7744 7745 7746'; do
-    row 'gtrbacd: now' now "$ports" 'as ben'
-    entry=$grown
-    row 'gtrbacd: check' 'check 1 read-chart' "$ports" 'as ben' 'open' 'activate 1 nurse'
-    [ -z "$beside" ] || redis "$ports"
-done
-begin
-./load 5000 0 'as ben' 7743 7744 7745 7746 >cell
-echo "bytes for an entry: $entry; for a connection that was served: $((($(resident) - before) / 20000)); connections a second: $(cat cell)"
-end
-full
-code=0
-"$program" views nothing >log || code=$?
-if [ "$code" -eq 4 ]; then
-    mode=views
-    for ports in 7753 '7753 7754'; do
-        if [ -n "$beside" ]; then
-            redis "$ports"
-            ping_one=$one ping_many=$many
-        fi
-        for line in now 'check 1 read-chart'; do
-            viewers "$line" "$ports"
-            [ -z "$beside" ] || ratio "${line%% *} / PING" "$ping_one" "$ping_many"
-        done
-    done
-    reply=$kept
-    for ports in 7743 '7743 7744 7745 7746'; do
-        mode=
-        row 'gtrbacd: now' now "$ports" 'as ben'
-        plain_one=$one plain_many=$many
-        mode=views at=
-        row 'views: now' now "$ports" 'as ben'
-        entry=$grown alone_one=$one alone_many=$many
-        ratio 'views / gtrbacd' "$plain_one" "$plain_many"
-        at=silent
-        row 'views: now, connected' now "$ports" 'as ben'
-        ratio 'connected / views' "$alone_one" "$alone_many"
-        at=ask
-        row 'views: now, asked' now "$ports" 'as ben'
-        ratio 'asked / views' "$alone_one" "$alone_many"
-        at=
-    done
-    echo "bytes for an entry with views: $entry; for a viewer's reply: $reply"
-    full
-else
-    echo 'views: this server has no viewers, so their rows are left out'
-fi
-if [ -n "$beside" ]; then
-    kill "$beside"
-    wait "$beside" || true
-    beside=
-fi
-cd /
-rm -r "$work"

@@ -1,23 +1,30 @@
 #!/bin/sh
-# Times copies, questions and changes of a status of 60,000 fluents in three layouts: bench/status.sh [COPIES]
-# The status is copied COPIES times (2000 if left out); a fiftieth as many rounds ask for each of its fluents, or set each of them off or
-# on. What is told is processor time, the best of five, without the making of the status. Run it at the top of the repository, after
-# `rt run` has built crates/part_bench once; PART_BENCH names another program.
+# Times copies, questions and changes of a status of 60,000 fluents: bench/status.sh [COPIES]
+# In three layouts the status is copied COPIES times (2,000 if left out); a fiftieth as many rounds ask
+# for each of its fluents, or set each of them off or on, in random order. The making of the status is
+# left out.
 set -eu
-program=${PART_BENCH:-$(ls crates/part_bench/out/part_bench)}
-python3 - "$program" "${1:-2000}" <<'PY'
-import resource, subprocess, sys
-program, copies = sys.argv[1], int(sys.argv[2])
-FLUENTS = 60000
-def run(layout, kind, times):
-    before = resource.getrusage(resource.RUSAGE_CHILDREN)
-    told = subprocess.run([program, 'statuses', layout, kind, str(times)], capture_output=True, text=True, check=True).stdout.strip()
-    after = resource.getrusage(resource.RUSAGE_CHILDREN)
-    return after.ru_utime - before.ru_utime + after.ru_stime - before.ru_stime, told
-rounds = max(copies // 50, 1)
-for layout in 'side', 'policy', 'alone':
-    for kind, times, each in ('copy', copies, 1), ('ask', rounds, FLUENTS), ('set', rounds, FLUENTS):
-        once = min(run(layout, kind, 0)[0] for _ in range(5))
-        took, told = min(run(layout, kind, times) for _ in range(5))
-        print(f'{layout}, {kind}: {told}, {max(took - once, 0) / (times * each) * 1e9:.0f} nanoseconds')
+here=$(cd "$(dirname "$0")" && pwd)
+PYTHONPATH="$here" python3 - "$@" <<'PY'
+import sys
+from measure import best, head, program, row, sized, span
+
+COPIES = int(sys.argv[1]) if len(sys.argv) > 1 else sized(2_000, 50)
+BENCH = program('part_bench')
+FLUENTS = 60_000
+
+
+def one(layout, kind, times, number):
+    words = [BENCH, 'statuses', layout, kind]
+    least = best(words + ['0'], 5).seconds
+    return span((best(words + [str(times)], 5).seconds - least) / (times * number))
+
+
+head('60,000 fluents', 'a copy', 'one asked', 'one set')
+rounds = max(COPIES // 50, 1)
+for layout, name in (('side', 'side by side: 60 roles of 1,000 users'),
+                     ('policy', 'as in a policy near its limits, names at random'),
+                     ('alone', 'no two in one word: every 64th of 10,000 users')):
+    row(name, one(layout, 'copy', COPIES, 1), one(layout, 'ask', rounds, FLUENTS),
+        one(layout, 'set', rounds, FLUENTS))
 PY
