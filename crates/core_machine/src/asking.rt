@@ -28,6 +28,7 @@ pub(crate) fn answer(
     }
 }
 
+/// Whether nobody asks, who is refused everything; the operator is somebody.
 pub(crate) fn is_nobody(actor: Actor) -> bool
     ensures { result ≡ is_nobody actor }
 {

@@ -1,6 +1,7 @@
 use super::*;
 use gt_base::{Event, Fluent, Happened, Instant, Prio, Prioritised, RoleId};
 
+/// The event that enables a role, at a priority.
 fn enable(role: u32, prio: Prio) -> Prioritised {
     Prioritised {
         prio,
@@ -11,6 +12,7 @@ fn enable(role: u32, prio: Prio) -> Prioritised {
     }
 }
 
+/// Three events at two instants; a copy keeps what is taken out of the other.
 #[test]
 fn what_is_due_is_taken(rt: HostRuntime) {
     let soon = Instant::new(10).expect(&rt, "an instant");
@@ -44,6 +46,7 @@ fn what_is_due_is_taken(rt: HostRuntime) {
     assert!(&rt; copy.len() == 3);
 }
 
+/// 2,500 of 3,000 puts are new, two an instant, and come out by instant.
 #[test]
 fn many_come_in_any_order(rt: HostRuntime) {
     let prio = Prio::new(50).expect(&rt, "a priority");

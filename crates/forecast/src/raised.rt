@@ -25,24 +25,28 @@ fn is_same(a: Fluent, b: Fluent) -> bool
     a.cmp(&b).is_eq()
 }
 
+/// Whether a periodic entry raises an event of the fluent.
 fn is_in_entries(entries: &[PeriodicEntry], f: Fluent) -> bool
     ensures { result ≡ in_entries f entries.now }
 {
     entries.iter().any(|e| is_same(e.head.event.fluent, f))
 }
 
+/// Whether a trigger's head is an event of the fluent.
 fn is_in_triggers(triggers: &[Trigger], f: Fluent) -> bool
     ensures { result ≡ in_triggers f triggers.now }
 {
     triggers.iter().any(|t| is_same(t.head.event.fluent, f))
 }
 
+/// Whether a limit watches the fluent, and so may turn it.
 fn is_in_limits(limits: &[LimitRule], f: Fluent) -> bool
     ensures { result ≡ in_limits f limits.now }
 {
     limits.iter().any(|l| is_same(l.cond.fluent, f))
 }
 
+/// Whether some entry of the history asked for an event of the fluent.
 fn is_in_history(entries: &[Entry], f: Fluent) -> bool
     ensures { result ≡ in_history f entries.now }
 {

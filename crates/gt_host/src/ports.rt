@@ -26,6 +26,7 @@ impl HostPort {
         }
     }
 
+    /// Reads what is there; a connection that failed or was let go is not asked again.
     fn draw(
         &mut self,
         registry: Option<&Registry>,
@@ -48,6 +49,7 @@ impl HostPort {
         }
     }
 
+    /// Reads, and notes the answer; whatever is not bytes leaves no reading owed.
     fn read(
         &mut self,
         registry: Option<&Registry>,
@@ -69,6 +71,7 @@ impl HostPort {
         answer
     }
 
+    /// Gives what the system takes; a connection that failed is let go.
     fn take(&mut self, piece: &[u8]) -> Result<Took, Failed>
         requires { 0 < length piece.now }
         ensures bound { IfOk result (FitsTook (length piece.now)) }
@@ -86,6 +89,7 @@ impl HostPort {
         }
     }
 
+    /// Writes, and notes the answer; whatever is not bytes leaves no writing owed.
     fn write(&mut self, piece: &[u8]) -> Result<Took, Failed>
         requires { 0 < length piece.now }
         ensures bound { IfOk result (FitsTook (length piece.now)) }
@@ -101,6 +105,7 @@ impl HostPort {
         answer
     }
 
+    /// A sign of the system: the link is owed a call, unless its port is finished.
     fn wake(&mut self, sign: Sign)
         ensures { host_port self.new ≡ readied (host_port self.old) }
     {

@@ -399,6 +399,7 @@ impl<'a, R: Files + rt::Clock + Net<Listener = TcpListener, Stream = TcpStream>>
 
     ghost ends = { λ d. d.ends };
 
+    /// The next connection; none where the server is to stop, after which the port is closed.
     fn next(&mut self) -> Result<Option<HostLink<'a, R>>, Failed> {
         match self.accepted() {
             Ok(Some(link)) => {

@@ -49,6 +49,7 @@ impl Write for Breaking {
     }
 }
 
+/// A fault of the stream is one of the source.
 #[test]
 fn a_reader_that_breaks_fails(rt: HostRuntime) -> Result<(), Fail> {
     let mut source = Reading::new(Breaking { used: false });
@@ -56,6 +57,7 @@ fn a_reader_that_breaks_fails(rt: HostRuntime) -> Result<(), Fail> {
     Ok(())
 }
 
+/// A write of no bytes is a fault, not a wait.
 #[test]
 fn a_writer_that_takes_nothing_fails(rt: HostRuntime) -> Result<(), Fail> {
     let mut sink = Writing::new(Breaking { used: false });
@@ -64,6 +66,7 @@ fn a_writer_that_takes_nothing_fails(rt: HostRuntime) -> Result<(), Fail> {
     Ok(())
 }
 
+/// A file of the folder, and then none with this name.
 #[test]
 fn a_file_is_found_and_read(rt: HostRuntime) -> Result<(), Fail> {
     let name = "gt_host_test.txt";
@@ -214,6 +217,7 @@ fn port_of_ports<R: Files + rt::Clock + Net>(ports: &mut HostPorts<'_, R>) -> io
     }
 }
 
+/// All doors and ports end at the stop file, with links that wait closed.
 #[test]
 fn clients_are_served_until_the_stop_file_stands(rt: HostRuntime) -> Result<(), Fail> {
     let mut door = HostDoor::new(&rt, rt.alloc(), 0);
@@ -245,6 +249,7 @@ fn clients_are_served_until_the_stop_file_stands(rt: HostRuntime) -> Result<(), 
     Ok(())
 }
 
+/// The minute of the system's clock, and the first and the last one that an instant has.
 #[test]
 fn the_clock_tells_the_minute(rt: HostRuntime) -> Result<(), Fail> {
     let mut clock = HostClock::new(&rt);

@@ -48,6 +48,7 @@ pub fn count_none<T>(ends: u64, given: &Option<T>) -> u64
 }
 
 impl Calls {
+    /// No call made yet; the numbers are those of the calls that are to fail, from 1.
     pub fn new(failing: List<u64>) -> Calls
         ensures { result ≡ none_made failing.items }
     {

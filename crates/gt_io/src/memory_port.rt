@@ -136,6 +136,7 @@ impl MemPort {
         Got::NotYet
     }
 
+    /// Gives the bytes that have come by now; a failing and a late call are numbered from 1.
     fn draw(&mut self, buf: &mut [u8]) -> Result<Got, Failed>
         requires { 0 < length buf.old }
         ensures answer { result ≡ read_answer (wire_of self.old) (length buf.old) }
@@ -163,6 +164,7 @@ impl MemPort {
         Ok(self.pass_on(buf))
     }
 
+    /// Reads, and notes the answer; whatever is not bytes leaves no reading owed.
     fn read(&mut self, buf: &mut [u8]) -> Result<Got, Failed>
         requires { 0 < length buf.old }
         ensures answer { result ≡ read_answer (wire_of self.old) (length buf.old) }
@@ -202,6 +204,7 @@ impl MemPort {
         Ok(Took::Bytes(n))
     }
 
+    /// Takes at most `most` bytes and what room is left; none left is a fault.
     fn take(&mut self, piece: &[u8]) -> Result<Took, Failed>
         requires { 0 < length piece.now }
         ensures answer { result ≡ write_answer (wire_of self.old) (length piece.now) }
@@ -223,6 +226,7 @@ impl MemPort {
         self.take_up(piece)
     }
 
+    /// Writes, and notes the answer; whatever is not bytes leaves no writing owed.
     fn write(&mut self, piece: &[u8]) -> Result<Took, Failed>
         requires { 0 < length piece.now }
         ensures answer { result ≡ write_answer (wire_of self.old) (length piece.now) }
@@ -240,6 +244,7 @@ impl MemPort {
         answer
     }
 
+    /// A link that begins beside so many others, with nothing called and nothing owed.
     fn begin(&mut self, others: u64)
         ensures port { port_of self.new ≡ newly others (port_of self.old) }
         ensures wire { wire_of self.new ≡ wire_of self.old }
@@ -250,6 +255,7 @@ impl MemPort {
         self.finished = None;
     }
 
+    /// The link is ready: it is owed a call, unless it is finished.
     fn wake(&mut self)
         ensures port { port_of self.new ≡ readied (port_of self.old) }
         ensures wire { wire_of self.new ≡ woken (wire_of self.old) }
@@ -258,6 +264,7 @@ impl MemPort {
         self.owed = self.finished.is_none();
     }
 
+    /// The link is finished after so many events; nothing is owed any more.
     fn end(&mut self, nexts: u64)
         ensures port { port_of self.new ≡ record (port_of self.old)
             { owed = false; finished = Some nexts } }
@@ -268,6 +275,7 @@ impl MemPort {
     }
 }
 
+/// 1 for a link that is not finished, to be counted.
 fn one_if_open(port: &MemPort) -> u64
     ensures { result ≡ (if is_none (port_of port.now).finished then 1 else 0) }
 {

@@ -36,6 +36,7 @@ fn place_of(files: &[MemFile], name: &[u8]) -> Option<usize>
     None
 }
 
+/// The bytes of the file at a place; none for a place that has no file.
 #[tactic(auto, using(crate::proofs::Files::files))]
 fn bytes_of(files: &[MemFile], place: usize) -> &[u8]
     ensures { result.now ≡ bytes_at files.now place }

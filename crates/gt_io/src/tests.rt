@@ -3,6 +3,7 @@ use gt_base::{Instant, List};
 use std::collections::VecDeque;
 use std::test::Fail;
 
+/// Five bytes, two a call.
 #[test]
 fn a_source_is_read_in_pieces(rt: HostRuntime) -> Result<(), Fail> {
     let alloc = rt.alloc();
@@ -12,6 +13,7 @@ fn a_source_is_read_in_pieces(rt: HostRuntime) -> Result<(), Fail> {
     Ok(())
 }
 
+/// The third call fails; a limit of four bytes is exceeded.
 #[test]
 fn a_failing_call_and_a_limit_are_told(rt: HostRuntime) -> Result<(), Fail> {
     let alloc = rt.alloc();
@@ -22,6 +24,7 @@ fn a_failing_call_and_a_limit_are_told(rt: HostRuntime) -> Result<(), Fail> {
     Ok(())
 }
 
+/// Where a call fails, or no room is left, the bytes before stand.
 #[test]
 fn a_front_is_written_up_to_the_failure(rt: HostRuntime) -> Result<(), Fail> {
     let alloc = rt.alloc();
@@ -34,6 +37,7 @@ fn a_front_is_written_up_to_the_failure(rt: HostRuntime) -> Result<(), Fail> {
     Ok(())
 }
 
+/// Another name is not found.
 #[test]
 fn a_text_is_found_by_its_name(rt: HostRuntime) -> Result<(), Fail> {
     let alloc = rt.alloc();
@@ -53,6 +57,7 @@ fn a_text_is_found_by_its_name(rt: HostRuntime) -> Result<(), Fail> {
     Ok(())
 }
 
+/// Reads and writes that fail at their numbers, and a link that is finished.
 #[test]
 fn a_link_is_read_and_written_in_pieces(rt: HostRuntime) -> Result<(), Fail> {
     let alloc = rt.alloc();
@@ -74,6 +79,7 @@ fn a_link_is_read_and_written_in_pieces(rt: HostRuntime) -> Result<(), Fail> {
     Ok(())
 }
 
+/// One link, a failing call, and then no link.
 #[test]
 fn a_door_gives_its_links_in_order(rt: HostRuntime) -> Result<(), Fail> {
     let alloc = rt.alloc();
@@ -87,6 +93,7 @@ fn a_door_gives_its_links_in_order(rt: HostRuntime) -> Result<(), Fail> {
     Ok(())
 }
 
+/// Two readings, the later one earlier, and the last again.
 #[test]
 fn a_clock_repeats_its_last_reading(rt: HostRuntime) -> Result<(), Fail> {
     let alloc = rt.alloc();
@@ -103,6 +110,7 @@ fn a_clock_repeats_its_last_reading(rt: HostRuntime) -> Result<(), Fail> {
     Ok(())
 }
 
+/// A line of 512 bytes is whole, one of 513 too long, and the next one is whole again.
 #[test]
 fn a_framer_tells_lines_apart(rt: HostRuntime) -> Result<(), Fail> {
     let mut framer = Framer::new();

@@ -27,6 +27,7 @@ fn has_enough(end: WorkEnd) -> bool
     matches!(end, WorkEnd::Enough | WorkEnd::Worn { .. })
 }
 
+/// Whether a worker ended for want of memory: status 8.
 pub(crate) fn some_out_of_memory<D: Door, C: Clock, G: Gate>(crew: &[Worker<D, C, G>]) -> bool
     ensures { result ≡ list_any (λ w. is_memory w.outcome) crew.now }
 {
@@ -37,6 +38,7 @@ pub(crate) fn some_out_of_memory<D: Door, C: Clock, G: Gate>(crew: &[Worker<D, C
     )
 }
 
+/// Whether a worker's port failed: status 10.
 pub(crate) fn some_failed<D: Door, C: Clock, G: Gate>(crew: &[Worker<D, C, G>]) -> bool
     ensures { result ≡ list_any (λ w. is_door_fault w.outcome) crew.now }
 {
@@ -47,6 +49,7 @@ pub(crate) fn some_failed<D: Door, C: Clock, G: Gate>(crew: &[Worker<D, C, G>]) 
     )
 }
 
+/// Whether a worker served as many connections as it may, or took its last turn: status 11.
 pub(crate) fn some_spent<D: Door, C: Clock, G: Gate>(crew: &[Worker<D, C, G>]) -> bool
     ensures { result ≡ list_any (λ w. is_spent w.outcome) crew.now }
 {

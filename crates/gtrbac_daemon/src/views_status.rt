@@ -32,6 +32,7 @@ fn has_enough(end: ViewerEnd) -> bool
     matches!(end, ViewerEnd::Enough)
 }
 
+/// Whether a viewer ended for want of memory: status 8.
 fn some_viewer_out_of_memory<D: Door, G: Gate>(viewers: &[Viewer<D, G>]) -> bool
     ensures { result ≡ list_any (λ v. is_viewer_memory v.outcome) viewers.now }
 {
@@ -42,6 +43,7 @@ fn some_viewer_out_of_memory<D: Door, G: Gate>(viewers: &[Viewer<D, G>]) -> bool
     )
 }
 
+/// Whether a viewer's port failed: status 10.
 fn some_viewer_failed<D: Door, G: Gate>(viewers: &[Viewer<D, G>]) -> bool
     ensures { result ≡ list_any (λ v. is_viewer_fault v.outcome) viewers.now }
 {
@@ -52,6 +54,7 @@ fn some_viewer_failed<D: Door, G: Gate>(viewers: &[Viewer<D, G>]) -> bool
     )
 }
 
+/// Whether a viewer served as many connections as it may: status 11.
 fn some_viewer_spent<D: Door, G: Gate>(viewers: &[Viewer<D, G>]) -> bool
     ensures { result ≡ list_any (λ v. is_viewer_spent v.outcome) viewers.now }
 {

@@ -77,18 +77,21 @@ impl TriggerLevels {
     }
 }
 
+/// Whether each trigger has a cause: an event or a signal.
 fn are_caused(triggers: &[Trigger]) -> bool
     ensures { result ≡ list_all has_cause triggers.now }
 {
     triggers.iter().all(is_caused)
 }
 
+/// Whether a trigger has a cause: an event or a signal.
 fn is_caused(trigger: &Trigger) -> bool
     ensures { result ≡ has_cause trigger.now }
 {
     has_item(trigger.events.as_slice()) || has_item(trigger.signals.as_slice())
 }
 
+/// Whether there is an item; its kind plays no part.
 fn has_item<T>(items: &[T]) -> bool
     ensures { result ≡ is_some_item items.now }
 {

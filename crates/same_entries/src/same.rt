@@ -3,12 +3,14 @@ ghost use Rattle.std.specs.Prelude.{◌≡◌, ◌↔◌, IsTrue};
 
 use gt_base::{Actor, Decision, Entry, Reply, Request, Step, Walk};
 
+/// Whether two walks are one: the start, and the edges in their order.
 fn same_walk(a: &Walk, b: &Walk) -> bool
     ensures { IsTrue result ↔ (a.now ≡ b.now) }
 {
     a.start == b.start && a.edges.as_slice() == b.edges.as_slice()
 }
 
+/// Whether two decisions are one, with their walk or edge.
 fn same_decision(a: &Decision, b: &Decision) -> bool
     ensures { IsTrue result ↔ (a.now ≡ b.now) }
 {
@@ -74,6 +76,7 @@ fn same_question(x: Actor, y: Actor, q: Request, r: Request) -> bool
     x == y && q == r
 }
 
+/// Whether two steps are one: ticks by bound and stop, asks by actor, request and reply.
 fn same_step(a: &Step, b: &Step) -> bool
     ensures { IsTrue result ↔ (a.now ≡ b.now) }
 {

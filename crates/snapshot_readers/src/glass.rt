@@ -117,6 +117,7 @@ fn told_by<'a>(sight: Sight<BookCopy>, entries: &'a [Entry]) -> (Sight<BookCopy>
 }
 
 impl Glass {
+    /// A glass over what a reader sees, of a history of this policy since this birth.
     pub(crate) fn over(sight: Sight<BookCopy>, policy: &Policy, birth: Instant) -> Glass
         requires { sight.root ≡ Some (policy.now, birth) }
         ensures { result ≡ record { named = policy.now; birth = birth; seen = sight.seen } }

@@ -8,6 +8,7 @@ ghost use Rattle.gtrbac_model.specs.History.{IsNamedWish, ask};
 use gt_base::{Actor, Fluent, LAST_MINUTE, MAX_PRIO, Request, SessionId};
 use policy_book::Policy;
 
+/// Whether the policy has the user who acts; the operator and nobody need none.
 fn names_actor(policy: &Policy, actor: Actor) -> bool
     ensures { result ≡ true → IsNamedWish policy.now.policy (ask actor Now) }
 {
@@ -18,6 +19,7 @@ fn names_actor(policy: &Policy, actor: Actor) -> bool
     }
 }
 
+/// Whether the policy has what a fluent names.
 fn names_fluent(policy: &Policy, fluent: Fluent) -> bool
     ensures { result ≡ true
         → IsNamedWish policy.now.policy
@@ -40,6 +42,7 @@ fn is_session(session: SessionId) -> bool
     session.0 <= u32::MAX
 }
 
+/// Whether the policy has what a request names, and its numbers are in range.
 fn names_request(policy: &Policy, request: &Request) -> bool
     ensures { result ≡ true → IsNamedWish policy.now.policy (ask Operator request.now) }
 {
