@@ -34,7 +34,7 @@ def as_row(address):
 
 def rows_of(port):
     ending = ':%04X' % port
-    with open('/proc/net/tcp', encoding='ascii') as file:
+    with open('/proc/self/net/tcp', encoding='ascii') as file:
         rows = [line.split() for line in file if ending in line]
     return [row for row in rows if row[1].endswith(ending)]
 
