@@ -15,6 +15,7 @@ from .shares import MOST_ENTRIES, MOST_OPEN, NOBODY, Shares
 MOST_REPLY = 1 << 20            # bytes of a reply; the longest path has some 33,000
 MOST_SENT = 60_000_000          # bytes to one connection; the server takes 67,108,864
 TURNS = 32                      # batches that wait for replies at once, for each connection
+FEW = 4                         # batches behind which another connection is looked for
 STAY = 20                       # seconds until a silent connection to a server says something
 TOLD_AT = (50, 80, 90, 95)      # percent of a history at which it is said how full it is
 CLOCKS_APART = 2                # minutes between the server's clock and one's own that are borne
@@ -205,6 +206,7 @@ class House:
         # so the server is the same one.
         self.run = 0
         self.up, self.waiting = asyncio.Event(), deque()
+        self.last = {False: None, True: None}   # the worker and the viewer that were asked last
         self.turns = self.free = 0      # how many batches may wait for replies, in all and now
         self.gone = now()       # when a connection was last lost or retired
         self.told = {}          # by place: what was last told of it
@@ -282,14 +284,18 @@ class House:
         return any(link.stays() for link in self.links if not link.view)
 
     def pick(self, user, view):
-        """The connection with least to do, best one that is this user's already."""
+        """The one that was asked last, where it is this user's and has little to do; else the one with
+        the least to do."""
+        best = self.last[view]
+        if best and best.actor == user and len(best.batches) < FEW and best.usable():
+            return best
         best, least = None, 1 << 30
         for link in self.links:
-            if (link.view is view and link.serves and link.run == self.run and not link.retired
-                    and link.sent < MOST_SENT and not link.transport.is_closing()):
+            if link.view is view and link.usable():
                 load = 2 * len(link.batches) + (link.actor != user)
                 if load < least:
                     best, least = link, load
+        self.last[view] = best
         return best
 
     async def ask(self, user, lines, run=None, payer=NOBODY, view=False):

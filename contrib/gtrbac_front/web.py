@@ -95,7 +95,7 @@ class Reader:
     def on_header(self, name, value):
         request, name = self.request, name.lower()
         if request.reads_head:          # what stands behind chunks says nothing here
-            if name in request.headers and name in ONCE:
+            if name in ONCE and name in request.headers:
                 request.fault = 'a header stands twice'
             request.headers[name] = value.strip(b' \t')
 
