@@ -3,7 +3,7 @@ import asyncio
 import hmac
 import time
 
-from .base import NAME, NO_ROOM, Wrong, now
+from .base import MOST_ROLES, NAME, NO_ROOM, Wrong, now
 from .questions import Question, Template, look_at, look_at_context, look_at_part, parsed, several
 from .record import as_json, instant
 from .sessions import GONE, Sessions, Told
@@ -199,8 +199,12 @@ class Authzen(WebFace):
         return user
 
     def roles(self, user, context):
+        """Those of the context, else of the tables, else of the policy where it may be asked."""
         known = self.table['roles']
-        return tuple(dict.fromkeys(context.get('roles', known.get(user, known.get('*', ())))))
+        roles = context.get('roles', known.get(user))
+        if roles is None and self.table['assigned']:
+            roles = self.house.told_by_policy()[1].get(user, [])[:MOST_ROLES]
+        return tuple(dict.fromkeys(known.get('*', ()) if roles is None else roles))
 
     async def ask(self, questions, caller):
         """Asks what the server has to answer: in one piece for each session that is meant."""
@@ -279,7 +283,7 @@ class Authzen(WebFace):
         user, found = self.user(asked['subject']), []
         if user is not None:
             table = self.table['permissions']
-            texts = dict.fromkeys([*self.house.permissions(), *table])
+            texts = dict.fromkeys([*self.house.told_by_policy()[0], *table])
             pairs = self.template.actions(texts, asked['resource'])
             self.take(caller, max(1, len(pairs)))
             found = await self.permitted(pairs, user, context, caller)

@@ -49,7 +49,7 @@ class Link(asyncio.Protocol):
 
     def __init__(self, house, place, view):
         self.house, self.place, self.view = house, place, view
-        self.transport = self.ended = self.fault = None
+        self.transport = self.ended = self.fault = self.listener = None
         self.serves = self.retired = False
         self.batches, self.rest = deque(), b''
         self.actor = None       # whose it is once the server has read all that was written
@@ -153,7 +153,7 @@ class Link(asyncio.Protocol):
         try:
             async with asyncio.timeout(10):
                 await loop.sock_connect(made, self.place if unix else host_port(self.place))
-            await peers.prove(made, self.house.server)
+            self.listener = await peers.prove(made, self.house.server)
             self.ended, self.fault, self.rest = loop.create_future(), None, b''
             self.actor, self.sent, self.run = None, 0, self.house.run
             # A port that serves somebody else has taken the connection, and does not answer.
@@ -213,6 +213,8 @@ class House:
         self.apart = None       # minutes that the server's clock is before one's own
         self.looked = 0
         self.table = None
+        self.doubt, self.listeners = True, {}   # whether the server may be another one; by place
+        self.name_run()
         self.begin()
         self.set(table, limits)
 
@@ -224,7 +226,7 @@ class House:
         self.table, self.limits, self.server = table, limits, table['server']
         self.admins = frozenset(user.encode() for user in table['admins'])
         self.watcher = table['watcher'].encode()
-        self.names = None       # the permissions of the policy, once they are asked for
+        self.policy = None      # what is read of the policy, once it is asked for
         wanted = [(place, False) for place in table['at'] for _ in range(table['links'])]
         wanted += [(place, True) for place in table['views'] for _ in range(table['links'])]
         for link in list(self.links):
@@ -251,18 +253,26 @@ class House:
                 self.kept.remove((of, task))
                 task.cancel()
 
-    def begin(self):
-        """Another run of the server, perhaps: its history and its sessions begin anew."""
+    def name_run(self):
         self.mark = time.strftime('%Y%m%dT%H%M', time.gmtime()) + '-' + secrets.token_hex(4)
+
+    def begin(self):
+        """Another run of the server: its history and its sessions begin anew."""
         self.sent, self.since, self.full_told = 0, now(), 0
         self.room = 0           # how many lines users who are no administrators may send
         self.shares.renew()
 
     def renew(self):
-        self.run, self.gone = self.run + 1, now()
-        self.begin()
+        """Another run of the server, perhaps. Sessions of before are not used any more. What was
+        counted stands until it is seen who listens now."""
+        self.run, self.gone, self.doubt = self.run + 1, now(), True
+        self.name_run()
 
     def is_up(self, link):
+        same = link.listener and link.listener == self.listeners.get(link.place)
+        if self.doubt and not same:
+            self.begin()
+        self.doubt, self.listeners[link.place] = False, link.listener
         if self.told.get(link.place) != CONNECTED:
             tell('%s: connected to %s', self.name, link.place)
             self.told[link.place] = CONNECTED
@@ -284,8 +294,8 @@ class House:
         return any(link.stays() for link in self.links if not link.view)
 
     def pick(self, user, view):
-        """The one that was asked last, where it is this user's and has little to do; else the one with
-        the least to do."""
+        """The one that was asked last, where it is this user's and has little to do; else the one
+        with the least to do."""
         best = self.last[view]
         if best and best.actor == user and len(best.batches) < FEW and best.usable():
             return best
@@ -361,18 +371,22 @@ class House:
         except TimeoutError:
             return None
 
-    def permissions(self):
-        """The names of the policy's permissions, of the file that the table names; none where it
-        can't be read."""
-        if self.names is None:
+    def told_by_policy(self):
+        """The names of the policy's permissions, and by user the roles that are assigned at first;
+        none where the file that the table names can't be read."""
+        if self.policy is None:
+            permissions, assigned = [], {}
             try:
                 with open(self.table['policy'], encoding='utf-8', errors='replace') as file:
-                    lines = [line.split() for line in file]
-                self.names = [words[1] for words in lines if len(words) == 2 and words[0] == 'perm']
+                    for words in map(str.split, file):
+                        if words[:1] == ['perm'] and len(words) == 2:
+                            permissions.append(words[1])
+                        elif words[:1] == ['assigned'] and len(words) == 3:
+                            assigned.setdefault(words[1], []).append(words[2])
             except OSError as fault:
                 tell('%s: policy: %s', self.name, fault)
-                return []
-        return self.names
+            self.policy = permissions, assigned
+        return self.policy
 
     # ---- What is spent
 

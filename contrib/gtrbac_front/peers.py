@@ -40,20 +40,21 @@ def rows_of(port):
 
 
 def holders(mine, theirs):
-    """Of a connection from `mine` to `theirs` on this machine: the uids that listen there, and the
-    uid that took the connection, None where nobody has taken it yet.
+    """Of a connection from `mine` to `theirs` on this machine: the uids that listen there, the uid
+    that took the connection, None where nobody has taken it yet, and the sockets that listen.
 
     A connection that waits to be taken has no inode, and the number 0 in place of a uid: it would
     pass for root's. So the row of one that was taken counts, and the listening row until then.
     """
-    listening, taken = set(), None
+    listening, taken, sockets = set(), None, set()
     there, here = as_row(theirs), as_row(mine)
     for row in rows_of(theirs[1]):
         if row[3] == LISTENS and row[1].split(':')[0] in (there.split(':')[0], '00000000'):
             listening.add(int(row[7]))
+            sockets.add(row[9])
         elif (row[1], row[2]) == (there, here) and row[9] != '0':
             taken = int(row[7])
-    return listening, taken
+    return listening, taken, frozenset(sockets)
 
 
 def has_ended(made):
@@ -65,23 +66,24 @@ def has_ended(made):
 
 async def prove(made, accounts):
     """Raises ConnectionError unless it is one of these accounts that answers on the connection.
-    Nothing is sent before."""
+    Nothing is sent before. Which sockets listen there, which a server has as long as it runs; None
+    where that can't be seen."""
     uids = {uid for uid in await asyncio.to_thread(lambda: list(map(uid_of, accounts)))
             if uid is not None}
     due = ' or '.join(accounts)
     if made.family == socket.AF_UNIX:
         if peer_uid(made) not in uids:
             raise ConnectionError('uid %d listens there, and not %s' % (peer_uid(made), due))
-        return
+        return None
     wait, ends = 0.005, now() + LONGEST
     while True:
         mine, theirs = made.getsockname(), made.getpeername()
-        listening, taken = await asyncio.to_thread(holders, mine, theirs)
+        listening, taken, sockets = await asyncio.to_thread(holders, mine, theirs)
         other = (listening if taken is None else {taken}) - uids
         if other:
             raise ConnectionError('uid %d listens there, and not %s' % (min(other), due))
         if taken is not None:
-            return
+            return sockets
         if not listening or now() > ends or has_ended(made):
             raise ConnectionError('nobody takes the connection')
         await asyncio.sleep(wait)

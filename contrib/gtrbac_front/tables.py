@@ -22,7 +22,7 @@ FACES = {
     'authzen': PLACE | {'callers': [], 'token': '', 'anybody': False, 'url': '',
                         'permission': '{action.name}-{resource.type}', 'permissions': {},
                         'subject_type': 'user', 'subjects': {}, 'same_names': False, 'roles': {},
-                        'keep': 300, 'decisions': 'log'},
+                        'assigned': False, 'keep': 300, 'decisions': 'log'},
     'health': PLACE | {'callers': []}}
 
 
@@ -130,6 +130,8 @@ def authzen_table(told, where, house):
         raise Fault('%s: decisions is neither log nor view' % where)
     if told['decisions'] == 'view' and not (house['views'] and house['watcher']):
         raise Fault('%s: decisions by viewers need views and watcher of the house' % where)
+    if told['assigned'] and not house['policy']:
+        raise Fault('%s: assigned roles need the policy of the house' % where)
     told['secret'] = secret(told['token'], where) if told['token'] else b''
     leads_to_names(told['subjects'], where + ': subjects')
     leads_to_names(told['permissions'], where + ': permissions')
