@@ -1,0 +1,323 @@
+"""Requests and answers of HTTP/1.1, as much as is asked and answered here.
+
+What a request says is read by httptools. Before that a head must be of the one form that has one
+reading alone: no line ends by a line feed alone, none goes on in the next one, and each header that
+frames a request or says who asks stands once.
+"""
+import asyncio
+import itertools
+import json
+import re
+import secrets
+import time
+
+import httptools
+
+from .base import Wrong, now
+from .face import Face
+
+MOST_HEAD = 16384
+HEAD_TIME, BODY_TIME, READ_TIME = 60, 10, 30
+LINGER = 1                      # seconds that the rest of a refused request is read and dropped
+REASONS = {200: 'OK', 400: 'Bad Request', 401: 'Unauthorized', 403: 'Forbidden', 404: 'Not Found',
+           405: 'Method Not Allowed', 408: 'Request Timeout', 413: 'Content Too Large',
+           415: 'Unsupported Media Type', 421: 'Misdirected Request', 429: 'Too Many Requests',
+           431: 'Request Header Fields Too Large', 503: 'Service Unavailable'}
+ONCE = frozenset((b'authorization', b'connection', b'content-length', b'content-type', b'expect',
+                  b'host', b'transfer-encoding', b'x-request-id'))
+# Each part ends at a byte that it can't have, so a head is read once, however it is made.
+HEAD = re.compile(rb"[A-Z]{1,20} (?:https?://[^/ ?#\r\n]+)?/[!-~]* HTTP/1\.[01]"
+                  rb"(?:\r\n[!#$%&'*+.^_`|~0-9A-Za-z-]+:[\t -~\x80-\xff]*)*\r\n\r\n")
+REQUEST_ID = re.compile(rb'\r\nx-request-id:[ \t]*([!-~]{1,200})[ \t]*\r\n', re.I)
+# Another protocol is not offered, and a caller who would like one goes on without it.
+UPGRADE = re.compile(rb'\r\n(?:upgrade|http2-settings):[^\r]*', re.I)
+numbers = itertools.count(1)
+born = secrets.token_hex(4)
+
+
+class Request:
+    """The head of a request, and its body as it comes."""
+
+    def __init__(self, text):
+        self.headers, self.path, self.body = {}, '', b''
+        self.fault, self.whole, self.got, self.reads_head = None, False, 0, True
+        named = REQUEST_ID.search(text) if b'equest-' in text.lower() else None
+        self.id = named[1].decode() if named else '%s-%d' % (born, next(numbers))
+
+    def wrong(self, text, status=400):
+        return Wrong(text, status, request_id=self.id)
+
+    def settle(self, parser):
+        """What the head says, now that it is read."""
+        self.reads_head = False
+        self.method = parser.get_method().decode()
+        self.newer = parser.get_http_version() == '1.1'
+        self.goes_on = parser.should_keep_alive()
+        self.chunked = b'transfer-encoding' in self.headers
+        self.length = int(self.headers.get(b'content-length', b'0'))
+        if self.fault or (self.newer and b'host' not in self.headers):
+            raise self.wrong(self.fault or 'the header Host is missing')
+        if self.chunked and not (self.newer
+                                 and self.headers[b'transfer-encoding'].lower() == b'chunked'):
+            raise self.wrong('a body comes by its length, or in chunks and nothing else')
+
+    def said(self, name):
+        return self.headers.get(name, b'').decode('latin-1')
+
+
+class Reader:
+    """Reads the requests of one connection, one after the other, by httptools."""
+
+    def __init__(self):
+        self.request, self.parser = None, httptools.HttpRequestParser(self)
+
+    def begin(self, text):
+        text = text.lstrip(b'\r\n')
+        self.request = request = Request(text)
+        if not HEAD.fullmatch(text):
+            raise request.wrong('the head is malformed')
+        self.feed(UPGRADE.sub(b'', text) if b'pgrade' in text.lower() else text)
+        request.settle(self.parser)
+        return request
+
+    def feed(self, data):
+        try:
+            self.parser.feed_data(data)
+        except (httptools.HttpParserError, httptools.HttpParserUpgrade) as fault:
+            raise self.request.wrong('the request is malformed: %s' % fault) from fault
+
+    def on_url(self, url):
+        target = url.decode('latin-1')
+        if not target.startswith('/'):
+            target = '/' + target.split('/', 3)[3]
+        self.request.path = target.split('?', 1)[0]
+
+    def on_header(self, name, value):
+        request, name = self.request, name.lower()
+        if request.reads_head:          # what stands behind chunks says nothing here
+            if name in ONCE and name in request.headers:
+                request.fault = 'a header stands twice'
+            request.headers[name] = value.strip(b' \t')
+
+    def on_body(self, part):
+        self.request.got += len(part)
+        self.request.body += part
+
+    def on_message_complete(self):
+        self.request.whole = True
+
+
+class Talk(asyncio.Protocol):
+    """One connection: what has come and is not read yet, and how requests are taken from it."""
+
+    def __init__(self, most_body):
+        self.most_body, self.held = most_body, 2 * MOST_HEAD
+        self.data, self.ended, self.waiter = bytearray(), False, None
+        self.reader = Reader()
+        self.due = self.late = None     # until when something must have come
+        self.paused, self.room = False, None
+
+    def connection_made(self, transport):
+        self.transport = transport
+
+    def data_received(self, data):
+        self.data += data
+        if len(self.data) > self.held and not self.paused:
+            self.paused = True
+            self.transport.pause_reading()
+        self.wake()
+
+    def eof_received(self):
+        self.ended = True
+        self.wake()
+        return self.transport.get_extra_info('ssl_object') is None
+
+    def connection_lost(self, fault):
+        self.ended = True
+        self.wake()
+        self.resume_writing()
+
+    def pause_writing(self):
+        self.room = asyncio.get_running_loop().create_future()
+
+    def resume_writing(self):
+        if self.room and not self.room.done():
+            self.room.set_result(None)
+        self.room = None
+
+    def wake(self):
+        if self.waiter and not self.waiter.done():
+            self.waiter.set_result(None)
+
+    def look(self, at):
+        """Each second: what was due by now has not come."""
+        if self.due is not None and at > self.due and self.waiter and not self.waiter.done():
+            self.late = True
+            self.waiter.set_result(None)
+
+    async def more(self):
+        """Waits until more has come."""
+        if self.ended:
+            raise EOFError
+        if self.paused:
+            self.paused = False
+            self.transport.resume_reading()
+        self.waiter, before = asyncio.get_running_loop().create_future(), len(self.data)
+        await self.waiter
+        self.waiter = None
+        if self.late:
+            raise TimeoutError
+        if self.ended and len(self.data) == before:
+            raise EOFError
+
+    async def head(self):
+        start = 0
+        while (end := self.data.find(b'\r\n\r\n', start)) < 0 and len(self.data) < MOST_HEAD:
+            start = max(0, len(self.data) - 3)
+            await self.more()
+        if not 0 <= end <= MOST_HEAD - 4:
+            named = REQUEST_ID.search(self.data[:MOST_HEAD])
+            raise Wrong('the head is too long', 431, request_id=named and named[1].decode())
+        text = bytes(self.data[:end + 4])
+        del self.data[:end + 4]
+        return self.reader.begin(text)
+
+    async def read(self, request):
+        """The body; at most so many bytes, whether its length is told before or not."""
+        if request.length > self.most_body:
+            raise request.wrong('the body is too long', 413)
+        self.held = request.length + 2 * MOST_HEAD
+        left = request.length
+        while left:
+            if not self.data:
+                await self.more()
+            part = bytes(self.data[:left])
+            del self.data[:left]
+            left -= len(part)
+            self.reader.feed(part)
+        if request.chunked:
+            await self.read_chunks(request)
+        self.held = 2 * MOST_HEAD
+        return request.body
+
+    async def read_chunks(self, request):
+        """Line by line, so that the end of the body is the end of what the parser is given, and
+        nothing of the next request is."""
+        taken = 0
+        while not request.whole:
+            if not self.data:
+                await self.more()
+            part = bytes(self.data[:self.data.find(b'\n') + 1 or len(self.data)])
+            del self.data[:len(part)]
+            self.reader.feed(part)
+            taken += len(part)
+            if request.got > self.most_body or taken > 2 * self.most_body + MOST_HEAD:
+                raise request.wrong('the body is too long', 413)
+
+    async def give(self, text):
+        """Hands the text over; a caller who does not read is let go."""
+        self.transport.write(text)
+        if self.room:
+            async with asyncio.timeout(READ_TIME):
+                await self.room
+
+    async def linger(self):
+        """Ends one's own side, and drops what the caller still sends, lest the answer gets lost."""
+        if self.transport.can_write_eof():
+            self.transport.write_eof()
+        self.due, self.late = now() + LINGER, None
+        try:
+            for _ in range(64):
+                self.data.clear()
+                await self.more()
+        except (EOFError, TimeoutError):
+            pass
+
+
+stamp = (0, '')
+
+
+def date():
+    global stamp
+    at = int(time.time())
+    if stamp[0] != at:
+        stamp = at, time.strftime('%a, %d %b %Y %H:%M:%S GMT', time.gmtime(at))
+    return stamp[1]
+
+
+def response(status, told, request_id=None, headers=(), last=False, bare=False):
+    """An answer: an object as JSON, a text as text. A bare one has no body, as for HEAD."""
+    kind = 'text/plain; charset=utf-8'
+    if isinstance(told, dict):
+        told, kind = json.dumps(told), 'application/json'
+    body = told if isinstance(told, bytes) else told.encode() + b'\n'
+    lines = ['HTTP/1.1 %d %s\r\nDate: %s\r\nContent-Type: %s\r\nContent-Length: %d\r\n'
+             'Cache-Control: no-store\r\nX-Request-ID: %s'
+             % (status, REASONS[status], date(), kind, len(body),
+                request_id or '%s-%d' % (born, next(numbers))), *headers]
+    if status in (429, 503):
+        lines.append('Retry-After: 1')
+    if last:
+        lines.append('Connection: close')
+    return '\r\n'.join(lines).encode('latin-1') + b'\r\n\r\n' + (b'' if bare else body)
+
+
+class WebFace(Face):
+    """A face that speaks HTTP. What it answers to a request is each face's own."""
+
+    def protocol(self):
+        return Talk(self.limits['body'])
+
+    async def refuse(self, talk, word):
+        await talk.give(response(503 if word == 'no room' else 403, word, last=True))
+
+    async def serve(self, talk, caller):
+        """One request after the other, each answered before the next is read."""
+        self.front.talks.add(talk)
+        try:
+            while await self.serve_one(talk, caller):
+                pass
+        finally:
+            self.front.talks.discard(talk)
+
+    async def serve_one(self, talk, caller):
+        """Whether a further request may come."""
+        request, name, headers = None, None, ()
+        talk.due, talk.late = min(caller.until, now() + min(HEAD_TIME, self.limits['idle'])), False
+        try:
+            request = await talk.head()
+            status, told = 200, await self.answer(talk, request, caller)
+        except Wrong as fault:
+            status, told, headers = fault.status, str(fault), fault.headers
+            name = fault.request_id
+        except TimeoutError:
+            if not talk.late or request is None and not talk.data:
+                return False
+            status, told = 408, 'the request did not come in time'
+        unread = request is None or not request.whole
+        going = not unread and request.goes_on
+        talk.due = None
+        await talk.give(response(status, told, request.id if request else name, headers, not going,
+                                 request is not None and request.method == 'HEAD'))
+        if unread and not talk.ended:
+            await talk.linger()
+        return going
+
+    async def body(self, talk, request, caller):
+        """The body, once all that a head can show is right."""
+        if not request.whole:
+            size = self.limits['body'] if request.chunked else request.length
+            if size > self.limits['body']:
+                raise Wrong('the body is too long', 413)
+            if self.front.bodies + size > self.limits['bodies']:
+                raise Wrong('no room for the body', 503)
+            self.front.bodies += size
+            try:
+                if request.said(b'expect').lower() == '100-continue' and not talk.data:
+                    talk.transport.write(b'HTTP/1.1 100 Continue\r\n\r\n')
+                talk.due = min(caller.until, now() + BODY_TIME)
+                await talk.read(request)
+            finally:
+                self.front.bodies -= size
+        talk.due = None
+        return request.body
