@@ -3,7 +3,6 @@ pub mod Causing
 pub mod Reasons
 pub mod Dues
 pub mod Running
-pub mod Former
 pub mod Written
 pub mod Paging
 pub mod Told
