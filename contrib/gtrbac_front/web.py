@@ -40,7 +40,7 @@ class Request:
 
     def __init__(self, text):
         self.headers, self.path, self.body = {}, '', b''
-        self.fault, self.whole, self.got, self.reads_head = None, False, 0, True
+        self.fault, self.whole, self.got = None, False, 0
         named = REQUEST_ID.search(text) if b'equest-' in text.lower() else None
         self.id = named[1].decode() if named else '%s-%d' % (born, next(numbers))
 
@@ -49,7 +49,6 @@ class Request:
 
     def settle(self, parser):
         """What the head says, now that it is read."""
-        self.reads_head = False
         self.method = parser.get_method().decode()
         self.newer = parser.get_http_version() == '1.1'
         self.goes_on = parser.should_keep_alive()
@@ -70,13 +69,16 @@ class Reader:
 
     def __init__(self):
         self.request, self.parser = None, httptools.HttpRequestParser(self)
+        self.headers = {}       # of the head, and then those behind chunks, which say nothing
 
     def begin(self, text):
         text = text.lstrip(b'\r\n')
         self.request = request = Request(text)
+        self.headers = request.headers
         if not HEAD.fullmatch(text):
             raise request.wrong('the head is malformed')
         self.feed(UPGRADE.sub(b'', text) if b'pgrade' in text.lower() else text)
+        self.headers = {}
         request.settle(self.parser)
         return request
 
@@ -93,11 +95,10 @@ class Reader:
         self.request.path = target.split('?', 1)[0]
 
     def on_header(self, name, value):
-        request, name = self.request, name.lower()
-        if request.reads_head:          # what stands behind chunks says nothing here
-            if name in ONCE and name in request.headers:
-                request.fault = 'a header stands twice'
-            request.headers[name] = value.strip(b' \t')
+        headers, name = self.headers, name.lower()
+        if name in ONCE and name in headers:
+            self.request.fault = 'a header stands twice'
+        headers[name] = value.strip(b' \t')
 
     def on_body(self, part):
         self.request.got += len(part)
@@ -199,6 +200,12 @@ class Talk(asyncio.Protocol):
             await self.read_chunks(request)
         self.held = 2 * MOST_HEAD
         return request.body
+
+    def take(self, request):
+        """A body that is there."""
+        part = bytes(self.data[:request.length])
+        del self.data[:request.length]
+        self.reader.feed(part)
 
     async def read_chunks(self, request):
         """Line by line, so that the end of the body is the end of what the parser is given, and
@@ -305,7 +312,9 @@ class WebFace(Face):
 
     async def body(self, talk, request, caller):
         """The body, once all that a head can show is right."""
-        if not request.whole:
+        if 0 < request.length <= min(len(talk.data), self.limits['body']):
+            talk.take(request)          # it came with its head
+        elif not request.whole:
             size = self.limits['body'] if request.chunked else request.length
             if size > self.limits['body']:
                 raise Wrong('the body is too long', 413)
