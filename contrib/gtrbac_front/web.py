@@ -18,6 +18,7 @@ from .face import Face
 
 MOST_HEAD = 16384
 HEAD_TIME, BODY_TIME, READ_TIME = 60, 10, 30
+PIECES = 500                    # of a body in chunks, after which others have their turn
 LINGER = 1                      # seconds that the rest of a refused request is read and dropped
 REASONS = {200: 'OK', 400: 'Bad Request', 401: 'Unauthorized', 403: 'Forbidden', 404: 'Not Found',
            405: 'Method Not Allowed', 408: 'Request Timeout', 413: 'Content Too Large',
@@ -39,8 +40,8 @@ class Request:
     """The head of a request, and its body as it comes."""
 
     def __init__(self, text):
-        self.headers, self.path, self.body = {}, '', b''
-        self.fault, self.whole, self.got = None, False, 0
+        self.headers, self.path, self.body = {}, '', bytearray()
+        self.fault, self.whole = None, False
         named = REQUEST_ID.search(text) if b'equest-' in text.lower() else None
         self.id = named[1].decode() if named else '%s-%d' % (born, next(numbers))
 
@@ -101,7 +102,6 @@ class Reader:
         headers[name] = value.strip(b' \t')
 
     def on_body(self, part):
-        self.request.got += len(part)
         self.request.body += part
 
     def on_message_complete(self):
@@ -210,15 +210,18 @@ class Talk(asyncio.Protocol):
     async def read_chunks(self, request):
         """Line by line, so that the end of the body is the end of what the parser is given, and
         nothing of the next request is."""
-        taken = 0
+        taken = pieces = 0
         while not request.whole:
+            pieces += 1
             if not self.data:
                 await self.more()
+            elif pieces % PIECES == 0:
+                await asyncio.sleep(0)
             part = bytes(self.data[:self.data.find(b'\n') + 1 or len(self.data)])
             del self.data[:len(part)]
             self.reader.feed(part)
             taken += len(part)
-            if request.got > self.most_body or taken > 2 * self.most_body + MOST_HEAD:
+            if len(request.body) > self.most_body or taken > 2 * self.most_body + MOST_HEAD:
                 raise request.wrong('the body is too long', 413)
 
     async def give(self, text):
