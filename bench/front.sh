@@ -69,7 +69,7 @@ serve() {
     pids="$pids $server"
 }
 
-spent() { awk '{ print $14 + $15 }' "/proc/$1/stat"; }
+spent() { cut -d' ' -f1 "/proc/$1/schedstat"; }
 
 # one NAME PROCESS PORT CONNECTIONS
 one() {
@@ -77,9 +77,9 @@ one() {
     told=$(wrk -t1 -c"$4" -d"${SECONDS_EACH:-2}s" -s post.lua \
         "http://127.0.0.1:$3/access/v1/evaluation" | tail -1)
     after=$(spent "$2")
-    echo "$told" | awk -v name="$1" -v with="$4" -v ticks="$((after - before))" \
+    echo "$told" | awk -v name="$1" -v with="$4" -v spent="$((after - before))" \
         '{ printf "%-10s %3d connections %7d a second  p50 %7.2f  p99 %7.2f  %4d us  %d wrong\n",
-           name, with, $2, $3, $4, $1 ? ticks * 10000 / $1 : 0, $5 }'
+           name, with, $2, $3, $4, $1 ? spent / 1000 / $1 : 0, $5 }'
 }
 
 serve

@@ -108,7 +108,8 @@ class Authzen(WebFace):
     async def evaluation(self, asked, request, caller):
         self.take(caller, 1)
         question = self.understand(asked, caller)
-        await self.ask([question], caller)
+        if question.answer is None and question.fault is None:
+            await self.ask_group(*question.key(), [question], caller)
         told = self.decision(question)
         self.record([question], [told], request, caller)
         if question.fault:

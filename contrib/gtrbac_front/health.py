@@ -36,8 +36,9 @@ class Metrics:
 
     def count_time(self, face, seconds):
         name = face.house.name
-        counts = self.times.setdefault(name, [0] * (len(BOUNDS) + 1))
-        counts[bisect_left(BOUNDS, seconds)] += 1
+        if name not in self.times:
+            self.times[name] = [0] * (len(BOUNDS) + 1)
+        self.times[name][bisect_left(BOUNDS, seconds)] += 1
         self.sums[name] += seconds
 
     def collect(self):

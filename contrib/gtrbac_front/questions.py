@@ -72,10 +72,25 @@ def look_at_context(context):
         raise Wrong('context.run is no text that stands beside a session')
 
 
-def look_at(asked, parts=PARTS):
-    for part in parts:
-        look_at_part(asked, part, PARTS[part])
-    look_at_context(asked.get('context', {}))
+def is_plain(asked):
+    """Whether a request has what it must have and nothing else, as most do."""
+    try:
+        subject, action, resource = asked['subject'], asked['action'], asked['resource']
+        text = ''.join((subject['type'], subject['id'], action['name'], resource['type'],
+                        resource['id']))
+    except (KeyError, TypeError):
+        return False
+    return (len(text) <= MOST_TEXT and len(subject) == 2 and len(action) == 1
+            and len(resource) == 2 and 'context' not in asked
+            and type(subject) is dict and type(action) is dict and type(resource) is dict)
+
+
+def look_at(asked):
+    """Whether the parts have their form; what is wrong with one."""
+    if not is_plain(asked):
+        for part, fields in PARTS.items():
+            look_at_part(asked, part, fields)
+        look_at_context(asked.get('context', {}))
 
 
 def look_at_defaults(asked):
@@ -144,14 +159,12 @@ class Template:
 
 class Question:
     """One evaluation: whose it is, what is checked in which session, and what becomes of it."""
-    __slots__ = ('asked', 'user', 'permission', 'session', 'roles', 'run', 'answer', 'fault',
-                 'reply', 'number', 'became', 'by', 'twice')
+    user = permission = session = roles = run = None
+    answer = fault = reply = number = became = by = None
+    twice = False
 
     def __init__(self, asked):
         self.asked = asked
-        self.user = self.permission = self.session = self.roles = self.run = None
-        self.answer = self.fault = self.reply = self.number = self.by = None
-        self.became, self.twice = {}, False
 
     def key(self):
         """What those have in common that are asked in one piece."""

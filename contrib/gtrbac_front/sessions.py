@@ -43,20 +43,25 @@ class Sessions:
         self.kept.move_to_end((user, roles))
         kept.in_use += 1
         try:
-            for _ in range(3):          # a server may be started anew in between
-                fresh = kept.run != self.house.run
-                if fresh:
-                    refused = await self.begin(kept, user, roles, payer)
-                    if refused:
-                        return Told([refused] * len(permissions))
-                told = await self.ask(kept, user, roles, permissions, payer, view, fresh)
-                if told:
-                    return told
-                kept.run = None
-            return Told([NO_SERVER] * len(permissions))
+            told = None
+            if kept.run == self.house.run:
+                told = await self.ask(kept, user, roles, permissions, payer, view, False)
+            return told or await self.check_anew(kept, user, roles, permissions, payer, view)
         finally:
             kept.in_use -= 1
             kept.used = now()
+
+    async def check_anew(self, kept, user, roles, permissions, payer, view):
+        """The same where no session is open, or is not any more. A server may be started anew in
+        between."""
+        for _ in range(3):
+            refused = await self.begin(kept, user, roles, payer)
+            if refused:
+                return Told([refused] * len(permissions))
+            told = await self.ask(kept, user, roles, permissions, payer, view, True)
+            if told:
+                return told
+        return Told([NO_SERVER] * len(permissions))
 
     async def begin(self, kept, user, roles, payer):
         """Opens the session and activates the roles there. Why not, or None where it is open."""
@@ -88,16 +93,15 @@ class Sessions:
     async def ask(self, kept, user, roles, permissions, payer, view, fresh):
         """The checks; None where the session is gone. Where one is denied, roles that are not
         active are activated again, and it is asked once more: a role may be on again since."""
-        lines = [b'check %b %b' % (kept.number, permission) for permission in permissions]
-        run, mark = kept.run, self.house.mark
+        number, run, mark = kept.number, kept.run, self.house.mark
+        lines = [b'check %b %b' % (number, permission) for permission in permissions]
         replies = await self.asked(user, lines, run, payer, view)
         if replies is None:
             return None
-        denied = [place for place, reply in enumerate(replies)
-                  if reply.startswith(b'deny') or view and reply in GONE]
-        twice = ()
+        denied, twice = [place for place, reply in enumerate(replies)
+                         if reply.startswith(b'deny') or view and reply in GONE], ()
         if denied and self.may_activate(kept, view, fresh):
-            again = [b'activate %b %b' % (kept.number, role.encode()) for role in roles]
+            again = [b'activate %b %b' % (number, role.encode()) for role in roles]
             more = await self.asked(user, again + [lines[place] for place in denied], run, payer,
                                     False)
             if more is None:
@@ -106,9 +110,11 @@ class Sessions:
             for place, reply in zip(denied, more[len(roles):]):
                 replies[place] = reply
             view, twice = False, frozenset(() if view else denied)
-        if any(reply in GONE for reply in replies):
+        if GONE[0] in replies or GONE[1] in replies:
+            if kept.number is number:       # nobody has opened another one meanwhile
+                kept.run = None
             return None
-        return Told(replies, int(kept.number), mark, kept.became, view, twice)
+        return Told(replies, int(number), mark, kept.became, view, twice)
 
     def may_activate(self, kept, view, fresh):
         """Where a worker is asked each denial tries anew, but not just behind the opening; where a

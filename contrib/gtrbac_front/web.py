@@ -18,6 +18,7 @@ from .face import Face
 
 MOST_HEAD = 16384
 HEAD_TIME, BODY_TIME, READ_TIME = 60, 10, 30
+PIECES = 500                    # of a body in chunks, after which others have their turn
 LINGER = 1                      # seconds that the rest of a refused request is read and dropped
 REASONS = {200: 'OK', 400: 'Bad Request', 401: 'Unauthorized', 403: 'Forbidden', 404: 'Not Found',
            405: 'Method Not Allowed', 408: 'Request Timeout', 413: 'Content Too Large',
@@ -39,8 +40,8 @@ class Request:
     """The head of a request, and its body as it comes."""
 
     def __init__(self, text):
-        self.headers, self.path, self.body = {}, '', b''
-        self.fault, self.whole, self.got, self.reads_head = None, False, 0, True
+        self.headers, self.path, self.body = {}, '', bytearray()
+        self.fault, self.whole = None, False
         named = REQUEST_ID.search(text) if b'equest-' in text.lower() else None
         self.id = named[1].decode() if named else '%s-%d' % (born, next(numbers))
 
@@ -49,7 +50,6 @@ class Request:
 
     def settle(self, parser):
         """What the head says, now that it is read."""
-        self.reads_head = False
         self.method = parser.get_method().decode()
         self.newer = parser.get_http_version() == '1.1'
         self.goes_on = parser.should_keep_alive()
@@ -70,13 +70,16 @@ class Reader:
 
     def __init__(self):
         self.request, self.parser = None, httptools.HttpRequestParser(self)
+        self.headers = {}       # of the head, and then those behind chunks, which say nothing
 
     def begin(self, text):
         text = text.lstrip(b'\r\n')
         self.request = request = Request(text)
+        self.headers = request.headers
         if not HEAD.fullmatch(text):
             raise request.wrong('the head is malformed')
         self.feed(UPGRADE.sub(b'', text) if b'pgrade' in text.lower() else text)
+        self.headers = {}
         request.settle(self.parser)
         return request
 
@@ -93,14 +96,12 @@ class Reader:
         self.request.path = target.split('?', 1)[0]
 
     def on_header(self, name, value):
-        request, name = self.request, name.lower()
-        if request.reads_head:          # what stands behind chunks says nothing here
-            if name in ONCE and name in request.headers:
-                request.fault = 'a header stands twice'
-            request.headers[name] = value.strip(b' \t')
+        headers, name = self.headers, name.lower()
+        if name in ONCE and name in headers:
+            self.request.fault = 'a header stands twice'
+        headers[name] = value.strip(b' \t')
 
     def on_body(self, part):
-        self.request.got += len(part)
         self.request.body += part
 
     def on_message_complete(self):
@@ -200,18 +201,27 @@ class Talk(asyncio.Protocol):
         self.held = 2 * MOST_HEAD
         return request.body
 
+    def take(self, request):
+        """A body that is there."""
+        part = bytes(self.data[:request.length])
+        del self.data[:request.length]
+        self.reader.feed(part)
+
     async def read_chunks(self, request):
         """Line by line, so that the end of the body is the end of what the parser is given, and
         nothing of the next request is."""
-        taken = 0
+        taken = pieces = 0
         while not request.whole:
+            pieces += 1
             if not self.data:
                 await self.more()
+            elif pieces % PIECES == 0:
+                await asyncio.sleep(0)
             part = bytes(self.data[:self.data.find(b'\n') + 1 or len(self.data)])
             del self.data[:len(part)]
             self.reader.feed(part)
             taken += len(part)
-            if request.got > self.most_body or taken > 2 * self.most_body + MOST_HEAD:
+            if len(request.body) > self.most_body or taken > 2 * self.most_body + MOST_HEAD:
                 raise request.wrong('the body is too long', 413)
 
     async def give(self, text):
@@ -305,7 +315,9 @@ class WebFace(Face):
 
     async def body(self, talk, request, caller):
         """The body, once all that a head can show is right."""
-        if not request.whole:
+        if 0 < request.length <= min(len(talk.data), self.limits['body']):
+            talk.take(request)          # it came with its head
+        elif not request.whole:
             size = self.limits['body'] if request.chunked else request.length
             if size > self.limits['body']:
                 raise Wrong('the body is too long', 413)
