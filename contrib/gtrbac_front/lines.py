@@ -12,6 +12,7 @@ WORD = re.compile(rb'[ \t]*([^ \t]*)')
 SESSION = re.compile(rb'session ([0-9]{1,10})')
 CLOSED = re.compile(rb'[ \t]*close[ \t]+([0-9]{1,10})[ \t\r]*')
 NO_LOG = b'no log'
+NO_VERB = b'no verb'
 
 
 def cut(rest, chunk):
@@ -32,6 +33,12 @@ def own_reply(line, word):
     if not word or word.startswith(b'#'):
         return b''
     return b'bad as' if word == b'as' else None
+
+
+def is_kept_out(verbs, word):
+    """Whether a place that takes these requests alone, or all where there are none, has not this.
+    """
+    return bool(verbs) and word.decode('latin-1') not in verbs
 
 
 class Lines(Face):
@@ -60,6 +67,8 @@ class Lines(Face):
         for line in lines:
             word = first_word(line)
             reply = own_reply(line, word)
+            if reply is None and is_kept_out(self.table['verbs'], word):
+                reply = NO_VERB
             if reply is None:
                 reply = self.bar(word, payer, going)
                 going += reply is None

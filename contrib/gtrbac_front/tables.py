@@ -18,12 +18,16 @@ HOUSE = {'at': [], 'views': [], 'links': 1, 'server': [], 'admins': [], 'reserve
 PLACE = {'house': '', 'face': '', 'unix': '', 'tls': '', 'tcp': '', 'mode': 0o666,
          'certificate': '', 'key': '', 'ca': '', 'crl': ''}
 FACES = {
-    'lines': PLACE | {'users': {}},
+    'lines': PLACE | {'users': {}, 'verbs': []},
     'authzen': PLACE | {'callers': [], 'token': '', 'anybody': False, 'url': '',
                         'permission': '{action.name}-{resource.type}', 'permissions': {},
                         'subject_type': 'user', 'subjects': {}, 'same_names': False, 'roles': {},
                         'assigned': False, 'keep': 300, 'decisions': 'log'},
     'health': PLACE | {'callers': []}}
+
+
+VERBS = ('now', 'status', 'event', 'active', 'check', 'open', 'close', 'activate', 'deactivate',
+         'request')
 
 
 def words(table, where, keys):
@@ -109,6 +113,9 @@ def face_table(table, where, houses):
         if kinds[0] == 'tcp':
             raise Fault('%s: lines need unix or tls, where callers are known' % where)
         leads_to_names(told['users'], where + ': users')
+        for verb in told['verbs']:
+            if verb not in VERBS:
+                raise Fault('%s: verbs: %r is no request' % (where, verb))
     elif told['face'] == 'authzen':
         authzen_table(told, where, houses[told['house']])
     return told
