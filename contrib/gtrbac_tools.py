@@ -297,9 +297,8 @@ class Play:
             while said < len(self.lines) and self.lines[said][0] < minute:
                 at, line, reply, number = self.lines[said]
                 say(at, line)
+                due.append((reply, number))
                 said += 1
-                if reply is not None:
-                    due.append((reply, number))
             if size > MOST_SCRIPT - 1200:
                 break
             places.append(len(due))
