@@ -58,10 +58,10 @@ module _ {M : Type 0} (first : List Entry) (legal : List Entry → Type 0) (now 
         worn_out = λ n same. absurd cc;
       }
 
-  pub is_accepted : (ticks : List Entry) (reply : Reply) (front before : List Entry) → Each (IsTick (by a.number conn) reading) ticks → Grows a b ticks 1 → legal b.seen → reading ≤ now b.seen
+  pub is_replied : (ticks : List Entry) (reply : Reply) (front before : List Entry) → Each (IsTick (by a.number conn) reading) ticks → Grows a b ticks 1 → legal b.seen → reading ≤ now b.seen
       → Lands first b c front (asked (by b.number conn) actor request reply ∷ []) → front ≡ before ++ asked (by b.number conn) actor request reply ∷ [] → legal front
       → Told a.number (Ok reply)
-  is_accepted ticks reply front before each g fair late l last good =
+  is_replied ticks reply front before each g fair late l last good =
       let same = same_number ticks g in
       subst (λ (n : ℕ). Told n (Ok reply)) same
       (accepted_here ticks reply front before (subst (λ (n : ℕ). Each (IsTick (by n conn) reading) ticks) (sym same) each) g fair late l last good)

@@ -8,7 +8,7 @@ use Rattle.gt_base.specs.declared.requests.Entry.{Entry}
 use Rattle.gt_base.specs.Roomy.{Roomy}
 use Rattle.turn_lock.specs.Holders.{Holder}
 use Rattle.policy_words.specs.Naming.{NamedPolicy}
-use Rattle.connection_laws.specs.Connection.{accepted, no_memory, answer_text}
+use Rattle.connection_laws.specs.Lines.{accepted, no_memory, answer_text}
 use Rattle.connection_laws.specs.declared.talk.LineAnswer.TheVariants.{Reply as ToldReply, NoMemory}
 use Rattle.connection_laws.specs.Services.{service}
 use Rattle.connection_laws.specs.Turns.{Grows, AskedTurn}
@@ -35,7 +35,7 @@ module _ {M : Type 0} (np : NamedPolicy) (first : List Entry) (legal : List Entr
       record {
         answer = accepted reply;
         entries = r.entries;
-        told_is = (reply, refl, is);
+        told_is = (record { replied = refl; granted = refl; unworn = refl }, is);
         asks = r.asks;
         mine = r.mine;
         grows = r.grows;

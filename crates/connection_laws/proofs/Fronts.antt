@@ -14,7 +14,8 @@ use Rattle.request_text.specs.declared.lines.Line.{Line}
 use Rattle.request_text.specs.declared.lines.Line.TheVariants.{Silent, At, Be, Ask}
 use Rattle.request_text.specs.declared.lines.LineFault.{LineFault}
 use Rattle.request_text.specs.Phrases.{read_line}
-use Rattle.connection_laws.specs.Connection.{is_who, part_of, Answer, silence, agreed, bad, accepted, no_memory, no_steps, worn, Acted, IsTick, Answers, Asks, Gets, actor_by, actor_after, reply_lines, readings_of, entries_of, AreActed}
+use Rattle.connection_laws.specs.Lines.{Answer, shown, view_only, silence, agreed, bad, accepted, no_memory, no_steps, worn, Acted, actor_by, actor_after, reply_lines, readings_of, entries_of}
+use Rattle.connection_laws.specs.Connection.{is_who, part_of, IsTick, Answers, Asks, Gets, AreActed}
 use Rattle.connection_laws.specs.Front.{before_own, answers_of, AfterTicks, Answered, Requested, LineGets, Get}
 use Rattle.connection_laws.proofs.Places.{own_entry}
 
@@ -66,6 +67,8 @@ module _ (np : NamedPolicy) (birth : ℕ) (who : Who) (h : List Entry) where
   answered reading actor request silence n ticks entries more next a go_on = absurd a
   answered reading actor request agreed n ticks entries more next a go_on = absurd a
   answered reading actor request (bad f) n ticks entries more next a go_on = absurd a
+  answered reading actor request (shown k r) n ticks entries more next a go_on = absurd a
+  answered reading actor request view_only n ticks entries more next a go_on = absurd a
 
   quiet : (said : Result Line LineFault) (answer : Answer) (next : Actor → List ℕ → ℕ → List Entry → Type 0) (actor : Actor) (a : Acted) (readings : List ℕ) (n : ℕ) (more : List Entry) → a.answer ≡ answer → a.readings ≡ [] → a.entries ≡ []
       → LineGets np birth who h said answer next actor readings n more → LineGets np birth who h said a.answer next actor (a.readings ++ readings) n (a.entries ++ more)

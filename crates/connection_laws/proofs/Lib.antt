@@ -8,6 +8,15 @@ pub mod Fronts
 pub mod Growing
 pub mod Asking
 pub mod Deciding
-pub mod Acting
 pub mod NoMinutes
 pub mod Lending
+pub mod Telling
+pub mod Linking
+pub mod Chaining
+pub mod Acting
+pub mod Stepping
+pub mod ActingBy
+pub mod LineDoneBy
+pub mod ChunksBy
+pub mod EndsBy
+pub mod Lent

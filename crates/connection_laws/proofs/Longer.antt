@@ -12,7 +12,8 @@ use Rattle.request_text.specs.declared.lines.Line.TheVariants.{Silent, At, Be, A
 use Rattle.request_text.specs.declared.lines.LineFault.{LineFault}
 use Rattle.request_text.specs.Phrases.{read_line}
 use Rattle.connection_laws.specs.declared.ends.LinkEnd.{LinkEnd}
-use Rattle.connection_laws.specs.Connection.{Answer, silence, agreed, bad, accepted, no_memory, no_steps, worn, Acted, Stands, Answers, Asks, Gets, actor_after, entries_of, AreActed, Conn}
+use Rattle.connection_laws.specs.Lines.{Answer, shown, view_only, silence, agreed, bad, accepted, no_memory, no_steps, worn, Acted, actor_after, entries_of}
+use Rattle.connection_laws.specs.Connection.{Stands, Answers, Asks, Gets, AreActed, Conn}
 use Rattle.connection_laws.proofs.Prefixes.{prefix_trans, prefix_length}
 
 module _ (np : NamedPolicy) (birth : ℕ) (who : Who) (h h' : List Entry) (more : IsPrefix h h') where
@@ -28,6 +29,8 @@ module _ (np : NamedPolicy) (birth : ℕ) (who : Who) (h h' : List Entry) (more 
   answers_longer reading actor request silence n ticks entries a = a
   answers_longer reading actor request agreed n ticks entries a = a
   answers_longer reading actor request (bad f) n ticks entries a = a
+  answers_longer reading actor request (shown k r) n ticks entries a = a
+  answers_longer reading actor request view_only n ticks entries a = a
 
   pub asks_longer : (actor : Actor) (request : Request) (answer : Answer) (n : ℕ) (readings : List ℕ) (entries : List Entry)
       → Asks birth who h actor request answer n readings entries → Asks birth who h' actor request answer n readings entries

@@ -4,7 +4,6 @@ use Rattle.std.specs.declared.option.Option.{Option}
 use Rattle.gt_base.specs.declared.requests.Who.{Who}
 use Rattle.gt_base.specs.declared.requests.Actor.{Actor}
 use Rattle.gt_base.specs.declared.requests.Actor.TheVariants.{Nobody}
-use Rattle.gt_base.specs.declared.requests.Reply.{Reply}
 use Rattle.gt_base.specs.declared.requests.Request.{Request}
 use Rattle.gt_base.specs.declared.requests.Entry.{Entry}
 use Rattle.gt_io.specs.Links.{Reads}
@@ -12,11 +11,12 @@ use Rattle.turn_lock.specs.Holders.{Holder}
 use Rattle.policy_words.specs.Naming.{NamedPolicy}
 use Rattle.request_text.specs.Phrases.{read_line}
 use Rattle.request_text.specs.Replies.{fault_word}
-use Rattle.connection_laws.specs.Connection.{Answer, silence, agreed, bad, accepted, no_memory, no_steps, worn, is_accepted, is_denied, answer_text, one_where, Acted, Asks, Gets, actor_by, IsTimed, placed}
+use Rattle.connection_laws.specs.Lines.{Answer, silence, agreed, bad, no_memory, no_steps, view_only, worn, IsReply, is_replied, is_denied, answer_text, one_where, Acted, actor_by}
+use Rattle.connection_laws.specs.Connection.{Asks, Gets, IsTimed, placed}
 use Rattle.connection_laws.specs.Desks.{IsNamedActor}
 use Rattle.connection_laws.specs.declared.talk.Talk.{Talk}
 use Rattle.connection_laws.specs.declared.talk.LineAnswer.{LineAnswer}
-use Rattle.connection_laws.specs.declared.talk.LineAnswer.TheVariants.{Silence, Agreed, Bad, Reply as ToldReply, NoMemory, NoSteps, Worn as ToldWorn}
+use Rattle.connection_laws.specs.declared.talk.LineAnswer.TheVariants.{Silence, Agreed, Bad, Reply as ToldReply, NoMemory, NoSteps, ViewOnly, Worn as ToldWorn}
 use Rattle.connection_laws.specs.Services.{Service}
 use Rattle.connection_laws.specs.Turns.{Grows, AreMine}
 
@@ -26,16 +26,17 @@ IsTold np Silence answer = answer ≡ silence
 IsTold np Agreed answer = answer ≡ agreed
 IsTold np (Bad f) answer = answer ≡ bad f
 IsTold np (ToldReply text) answer =
-    (reply : Reply) × (answer ≡ accepted reply) × (text.items ≡ answer_text np (accepted reply))
+    IsReply answer × (text.items ≡ answer_text np answer)
 IsTold np NoMemory answer = answer ≡ no_memory
 IsTold np NoSteps answer = answer ≡ no_steps
+IsTold np ViewOnly answer = answer ≡ view_only
 IsTold np (ToldWorn draws) answer = answer ≡ worn
 
 -- the counts after an answer
 abbrev pub counted_talk : Talk → Answer → Talk
 counted_talk talk answer =
     record talk {
-      asked = talk.asked + one_where (is_accepted answer);
+      asked = talk.asked + one_where (is_replied answer);
       denied = talk.denied + one_where (is_denied answer);
     }
 
@@ -59,6 +60,7 @@ told_bytes (Bad f) = codes "bad " ++ fault_word f ++ codes "\n"
 told_bytes (ToldReply text) = text.items
 told_bytes NoMemory = codes "no memory\n"
 told_bytes NoSteps = codes "no steps\n"
+told_bytes ViewOnly = codes "view only\n"
 told_bytes (ToldWorn draws) = []
 
 -- a moment of a connection: the pass, what the connection has come to, and the readings of the
@@ -99,7 +101,6 @@ module _ {M : Type 0} (v : Service) (who : Who) where
         ≡ record a.talk {
           actor = actor_by (read_line v.policy Nobody false line) a.talk.actor;
           calls = a.talk.calls + length acted.readings;
-          reached = b.talk.reached;
         }
     pub few : length acted.readings ≤ 1
     pub named : IsNamedActor v.policy b.talk.actor

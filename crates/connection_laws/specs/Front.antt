@@ -14,7 +14,8 @@ use Rattle.request_text.specs.declared.lines.Line.{Line}
 use Rattle.request_text.specs.declared.lines.Line.TheVariants.{Silent, Be, Ask}
 use Rattle.request_text.specs.declared.lines.LineFault.{LineFault}
 use Rattle.request_text.specs.Phrases.{read_line}
-use Rattle.connection_laws.specs.Connection.{is_who, Answer, silence, agreed, bad, accepted, no_memory, no_steps, worn, Acted, reply_lines, readings_of, entries_of, AreActed, Conn}
+use Rattle.connection_laws.specs.Lines.{Answer, silence, agreed, bad, accepted, no_memory, no_steps, worn, Acted, reply_lines, readings_of, entries_of}
+use Rattle.connection_laws.specs.Connection.{is_who, AreActed, Conn}
 use mathlib.Core.List.{IsPrefix}
 use Rattle.connection_laws.specs.declared.ends.LinkEnd.{LinkEnd}
 

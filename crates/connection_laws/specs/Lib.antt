@@ -1,5 +1,6 @@
 pub mod Cuts
 pub mod Doors
+pub mod Lines
 pub mod Connection
 pub mod Fits
 pub mod Desks
@@ -8,3 +9,5 @@ pub mod Services
 pub mod Turns
 pub mod Acting
 pub mod Rooms
+pub mod Attending
+pub mod Clerks

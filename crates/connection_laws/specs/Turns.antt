@@ -14,7 +14,8 @@ use Rattle.turn_lock.specs.Holders.{Site, Holder}
 use Rattle.locked_history.specs.Fronts.{by}
 use Rattle.locked_history.specs.declared.faults.DeskFault.{DeskFault}
 use Rattle.locked_history.specs.declared.faults.DeskFault.TheVariants.{Worn, StepsFull, Memory}
-use Rattle.connection_laws.specs.Connection.{Answer, accepted, no_memory, no_steps, worn, is_who, IsTick, Asks, IsTimed, placed}
+use Rattle.connection_laws.specs.Lines.{Answer, accepted, no_memory, no_steps, worn}
+use Rattle.connection_laws.specs.Connection.{is_who, IsTick, Asks, IsTimed, placed}
 
 -- a pass of this desk that holds no turn
 abbrev pub IsIdle : {M : Type 0} → Site M → Holder M → Type 0

@@ -4,20 +4,19 @@ ghost use Rattle.turn_lock.specs.Holders.{site_of};
 ghost use Rattle.locked_history.specs.Fronts.{by};
 ghost use Rattle.policy_words.specs.Naming.{NamedPolicy};
 ghost use Rattle.request_text.specs.Replies.{fault_word};
-ghost use Rattle.connection_laws.specs.Connection.{Answer};
-ghost use Rattle.connection_laws.specs.Desks.{IsNamedActor, MayBeAsked, RepliesCanBeTold};
+ghost use Rattle.connection_laws.specs.Lines.{Answer};
+ghost use Rattle.connection_laws.specs.Desks.{RepliesCanBeTold};
 ghost use Rattle.connection_laws.specs.Services.{service_at};
 ghost use Rattle.connection_laws.specs.Turns.{IsIdle, IsReached};
-ghost use Rattle.connection_laws.specs.Acting.{IsTold, Decides, Acts, moment, counted_talk, CanCount, HasRoom, told_bytes};
+ghost use Rattle.connection_laws.specs.Acting.{IsTold, Decides, counted_talk, CanCount, told_bytes};
 ghost use Rattle.connection_laws.specs.Rooms.{text_in, LendsRoom, TakesBack};
 
 use crate::asks::ask_at;
 use crate::server::Server;
 use crate::talk::{LineAnswer, Talk};
 use gt_base::{Actor, Instant, List, Machine, Request};
-use gt_io::{Clock, Gate};
 use locked_history::DeskFault;
-use request_text::{LONGEST_REPLY, Line, LineFault, put_reply, read_line, reply_fits};
+use request_text::{LONGEST_REPLY, LineFault, put_reply, reply_fits};
 use std::mem::replace;
 use std::sync::Wait;
 use turn_lock::Pass;
@@ -44,6 +43,7 @@ pub fn reply_of(told: &LineAnswer) -> &[u8]
         LineAnswer::Reply(text) => text.as_slice(),
         LineAnswer::NoMemory => b"no memory\n",
         LineAnswer::NoSteps => b"no steps\n",
+        LineAnswer::ViewOnly => b"view only\n",
         LineAnswer::Worn { draws: _ } => b"",
     }
 }
@@ -74,7 +74,7 @@ pub fn take_back(room: &mut List<u8>, told: LineAnswer)
 
 /// Makes room for the longest reply, where the buffer has less, brings the history to the reading,
 /// and asks. A reply goes out in the buffer, and one without room is left in its place.
-fn decide<M: Machine, R: Wait, G>(
+pub(crate) fn decide<M: Machine, R: Wait, G>(
     server: &Server<M, R, G>,
     pass: &mut Pass<M>,
     reading: Instant,
@@ -108,60 +108,5 @@ fn decide<M: Machine, R: Wait, G>(
         Err(DeskFault::Memory) => LineAnswer::NoMemory,
         Err(DeskFault::StepsFull) => LineAnswer::NoSteps,
         Err(DeskFault::Worn { draws }) => LineAnswer::Worn { draws },
-    }
-}
-
-/// Acts on a line, but for its reply: a line that asks passes the gate, reads the clock, brings the
-/// history to that minute and asks.
-///
-/// `room` is the buffer of the connection, whatever it holds. A line that asks needs room there for
-/// the longest reply, which the first one takes and later ones find. The reply goes out in it, and
-/// `take_back` brings it home. Every other answer leaves it where it is, with all of its room. For
-/// want of room the line is told `NoMemory` and is not accepted, and the next one tries again.
-pub fn act<M: Machine, R: Wait, C: Clock, G: Gate>(
-    server: &Server<M, R, G>,
-    pass: &mut Pass<M>,
-    clock: &mut C,
-    talk: &mut Talk,
-    room: &mut List<u8>,
-    line: &[u8],
-) -> LineAnswer
-    requires idle { IsIdle (site_of server.now.desk.now) pass.old }
-    requires named { MayBeAsked server.now.policy.now (M.named server.now.desk.now.root) }
-    requires replies { RepliesCanBeTold server.now.policy.now (M.legal server.now.desk.now.root) }
-    requires actor { IsNamedActor server.now.policy.now talk.old.actor }
-    requires room { HasRoom talk.old 1 }
-    requires reached { IsReached (M.legal server.now.desk.now.root)
-        (M.now_of server.now.desk.now.root) pass.old.seen talk.old.reached }
-    ensures reached { IsReached (M.legal server.now.desk.now.root)
-        (M.now_of server.now.desk.now.root) pass.new.seen talk.new.reached }
-    ensures acts { Acts
-        (service_at M.list M.legal M.now_of server.now.desk.now server.now.policy.now)
-        (by pass.old.number server.now.conn) (moment pass.old talk.old (C.readings clock.old))
-        (moment pass.new talk.new (C.readings clock.new)) line.now result }
-    ensures lends { LendsRoom room.old room.new (text_in result) }
-{
-    match read_line(server.policy, Actor::Nobody, false, line) {
-        Ok(Line::Ask(request)) => {
-            talk.calls += 1;
-            server.gate.pass(pass.number(), talk.calls);
-            let reading = clock.now();
-            decide(
-                server,
-                pass,
-                reading,
-                talk.actor,
-                request,
-                &mut talk.reached,
-                room,
-            )
-        }
-        Ok(Line::Be(actor)) => {
-            talk.actor = actor;
-            LineAnswer::Agreed
-        }
-        Ok(Line::Silent) => LineAnswer::Silence,
-        Ok(Line::At(_)) => unreachable!(),
-        Err(fault) => LineAnswer::Bad(fault),
     }
 }

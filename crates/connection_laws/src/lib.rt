@@ -3,14 +3,20 @@
 #![tactic(auto)]
 
 mod acts;
+mod answerer;
 mod asks;
+mod clerk;
 mod ends;
 mod laws;
 mod server;
+mod service;
 mod talk;
 
-pub use acts::{act, count, reply_of, take_back};
+pub use acts::{count, reply_of, take_back};
+pub use answerer::{Answerer, act_by};
+pub use clerk::{Clerk, act_at};
 pub use ends::{LinkEnd, Report};
 pub use laws::connections_are_told;
 pub use server::Server;
+pub use service::{Hearing, attend};
 pub use talk::{LineAnswer, Talk};

@@ -1,5 +1,5 @@
 //! What a connection has come to, and what a line is told.
-use gt_base::{Actor, Instant, List};
+use gt_base::{Actor, List};
 use request_text::LineFault;
 
 /// The actor of the lines that follow, how many entries of requests there are, how many request
@@ -10,8 +10,6 @@ pub struct Talk {
     pub asked: u64,
     pub denied: u64,
     pub calls: u64,
-    /// A minute that the history has come to as far as the pass has seen it, where one is known.
-    pub reached: Option<Instant>,
 }
 
 /// What a line is told.
@@ -24,6 +22,7 @@ pub enum LineAnswer {
     Reply(List<u8>),
     NoMemory,
     NoSteps,
+    ViewOnly,
     /// Nothing, since the pass is worn.
     Worn { draws: u64 },
 }

@@ -3,3 +3,4 @@ pub mod Kept
 pub mod Steps
 pub mod Agreeing
 pub mod Looks
+pub mod Ledgers

@@ -5,8 +5,10 @@
 mod asking;
 mod books;
 mod entering;
+mod ledgers;
 mod looking;
 mod machine_book;
+mod machine_ledger;
 mod prepared;
 mod sessions;
 mod states;
@@ -14,5 +16,6 @@ mod telling;
 mod ticking;
 
 pub use books::{Book, BookMemory};
+pub use ledgers::Ledger;
 pub use policy_safety::{AdmitFault, CycleEdge, Safe};
 pub use time_engine::{Closed, Trace};

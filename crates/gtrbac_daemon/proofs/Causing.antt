@@ -9,7 +9,7 @@ use Rattle.policy_commands.specs.declared.judging.Admitted.TheVariants.{Safe, En
 use Rattle.policy_commands.specs.Ends.{EndView}
 use Rattle.policy_commands.specs.Finding.{IsLongPolicy}
 use Rattle.gtrbac_daemon.specs.Words.{HasText, IsAdmitFailure, IsSteadyFor}
-use Rattle.gtrbac_daemon.specs.Daemon.{or_failed, IsWritten}
+use Rattle.gtrbac_daemon.specs.Runs.{or_failed, IsWritten}
 
 -- a number is not two
 pub apart : (s m n : ℕ) → (m == n) ≡ false → s ≡ m → s ≡ n → ⊥

@@ -1,10 +1,11 @@
 -- What the status of a crew says of its workers.
-use Rattle.std.proofs.Common.{◌≡◌, ◌⊎◌, ℕ, ◌+◌, Bool, true, false, List, [], ◌∷◌, inl, inr, refl, sym, ap, ◌∙◌, map, Option}
+use Rattle.std.proofs.Common.{◌≡◌, ◌⊎◌, ℕ, ◌+◌, ◌≤◌, Bool, true, false, List, [], ◌∷◌, length, refl, sym, ap, ◌∙◌, map, Option}
 use Rattle.std.specs.Prelude.{◌||◌}
 use Rattle.std.specs.List.{list_any}
 use Rattle.gt_base.specs.declared.requests.Entry.{Entry}
 use Rattle.gt_io.specs.Causes.{Rose}
 use Rattle.gt_io.specs.Links.{Traffic}
+use Rattle.turn_lock.specs.Turns.{Each}
 use Rattle.policy_words.specs.Naming.{NamedPolicy}
 use Rattle.line_server.specs.declared.ended.Served.{Served}
 use Rattle.line_server.specs.declared.ended.WorkEnd.{WorkEnd}
@@ -13,24 +14,9 @@ use Rattle.line_server.specs.declared.workers.Worker.{Worker}
 use Rattle.line_server.specs.Working.{WorksTo}
 use Rattle.gtrbac_daemon.specs.Crew.{Crewman, crewman, crewmen, is_memory, is_door_fault, is_spent, status_by, status_of, status_among, ends_of, SomeOf, EachOf, HasFailed, LacksMemory, IsSpent, IsUnharmed, IsDone, IsSound}
 use Rattle.gtrbac_daemon.specs.Headline.{HaveWorked}
+use Rattle.gtrbac_daemon.proofs.Somebody.{some_by, each_by, any_by, none_by, both_of, some_idle, each_idle}
 
-both_off : (a b : Bool) → (a || b) ≡ false → (a ≡ false) × (b ≡ false)
-both_off true b e = absurd (cc e)
-both_off false b e = (refl, e)
-
-one_on : (a b : Bool) → (a || b) ≡ true → (a ≡ true) ⊎ (b ≡ true)
-one_on true b e = inl refl
-one_on false b e = inr e
-
-pub both_or : (a b : Bool) → b ≡ true → (a || b) ≡ true
-both_or true b e = refl
-both_or false b e = e
-
-none_on : (a b : Bool) → a ≡ false → b ≡ false → (a || b) ≡ false
-none_on true b a c = absurd (cc a)
-none_on false b a c = c
-
-any_map : {A B : Type 0} (p : B → Bool) (f : A → B) (xs : List A) → list_any p (map f xs) ≡ list_any (λ x. p (f x)) xs
+pub any_map : {A B : Type 0} (p : B → Bool) (f : A → B) (xs : List A) → list_any p (map f xs) ≡ list_any (λ x. p (f x)) xs
 any_map p f [] = refl
 any_map p f (x ∷ xs) = ap (λ (b : Bool). p (f x) || b) (any_map p f xs)
 
@@ -75,55 +61,79 @@ module _ {L : Type 0} (links : Option (List L)) (f f' draws : ℕ) (served : Lis
   sound_one (Worn n) k sound = refl
   sound_one Memory k sound = refl
 
+module _ {L : Type 0} where
+  abbrev outcome : Crewman L → WorkEnd
+  outcome k = k.outcome
+
+  abbrev pub IsFresh : Crewman L → Type 0
+  IsFresh k = k.outcome ≡ Fresh
+
+  -- from the causes to what the ends say
+  pub crew_memory : (js ks : List (Crewman L)) → SomeOf LacksMemory js ks → list_any is_memory (ends_of ks) ≡ true
+  crew_memory = any_by outcome is_memory LacksMemory (λ j k e. ap is_memory e)
+
+  pub crew_failed : (js ks : List (Crewman L)) → SomeOf HasFailed js ks → list_any is_door_fault (ends_of ks) ≡ true
+  crew_failed = any_by outcome is_door_fault HasFailed (λ j k e. ap is_door_fault e.0)
+
+  pub crew_spent : (js ks : List (Crewman L)) → SomeOf IsSpent js ks → list_any is_spent (ends_of ks) ≡ true
+  crew_spent = any_by outcome is_spent IsSpent (λ j k e. e)
+
+  pub crew_sound : (js ks : List (Crewman L)) → EachOf IsSound js ks → list_any is_door_fault (ends_of ks) ≡ false
+  crew_sound = none_by outcome is_door_fault IsSound (λ j k e. e)
+
+  pub crew_done : (js ks : List (Crewman L)) → EachOf IsDone js ks → (list_any is_memory (ends_of ks) ≡ false) × (list_any is_door_fault (ends_of ks) ≡ false) × (list_any is_spent (ends_of ks) ≡ false)
+  crew_done js ks all = (
+    none_by outcome is_memory IsDone (λ j k e. ap is_memory e) js ks all,
+    none_by outcome is_door_fault IsDone (λ j k e. ap is_door_fault e) js ks all,
+    none_by outcome is_spent IsDone (λ j k e. ap is_spent e) js ks all,
+  )
+
+  -- a crew that has not begun is neither done nor failed nor spent, nor did it lack memory
+  pub idle_done : (js ks : List (Crewman L)) → 1 ≤ length ks → Each IsFresh ks → EachOf IsDone js ks → ⊥
+  idle_done = each_idle IsFresh IsDone (λ j k fresh e. let no : ◌≡◌ {A = WorkEnd} Fresh Done = sym fresh ∙ e in cc no)
+
+  pub idle_memory : (js ks : List (Crewman L)) → Each IsFresh ks → SomeOf LacksMemory js ks → ⊥
+  idle_memory = some_idle IsFresh LacksMemory (λ j k fresh e. let no : ◌≡◌ {A = WorkEnd} Fresh Memory = sym fresh ∙ e in cc no)
+
+  pub idle_failed : (js ks : List (Crewman L)) → Each IsFresh ks → SomeOf HasFailed js ks → ⊥
+  idle_failed = some_idle IsFresh HasFailed (λ j k fresh e. let no : ◌≡◌ {A = WorkEnd} Fresh DoorFault = sym fresh ∙ e.0 in cc no)
+
+  pub idle_spent : (js ks : List (Crewman L)) → Each IsFresh ks → SomeOf IsSpent js ks → ⊥
+  idle_spent = some_idle IsFresh IsSpent (λ j k fresh e. let no : false ≡ true = ap is_spent (sym fresh) ∙ e in cc no)
+
 module _ {L : Type 0} (traffic : L → Traffic) (np : NamedPolicy) (birth : ℕ) (h : List Entry) where
+  -- how one of them ended
+  abbrev Did : Crewman L → Crewman L → Type 0
+  Did j k = (draws : ℕ) × WorksTo k.door j.faults k.faults draws k.served k.outcome
+
+  all_did : (w : ℕ) (js ks : List (Crewman L)) → HaveWorked traffic np birth h w js ks → EachOf Did js ks
+  all_did w [] [] all = tt
+  all_did w [] (k ∷ ks) all = absurd all
+  all_did w (j ∷ js) [] all = absurd all
+  all_did w (j ∷ js) (k ∷ ks) all = ((all.0.draws, all.0.cause), all_did (w + 1) js ks all.1)
+
   pub done_all : (w : ℕ) (js ks : List (Crewman L)) → HaveWorked traffic np birth h w js ks
       → list_any is_memory (ends_of ks) ≡ false → list_any is_door_fault (ends_of ks) ≡ false → list_any is_spent (ends_of ks) ≡ false → EachOf IsDone js ks
-  done_all w [] [] all m d p = tt
-  done_all w [] (k ∷ ks) all m d p = absurd all
-  done_all w (j ∷ js) [] all m d p = absurd all
-  done_all w (j ∷ js) (k ∷ ks) all m d p =
-      let m' = both_off (is_memory k.outcome) (list_any is_memory (ends_of ks)) m in
-      let d' = both_off (is_door_fault k.outcome) (list_any is_door_fault (ends_of ks)) d in
-      let p' = both_off (is_spent k.outcome) (list_any is_spent (ends_of ks)) p in
-      (done_one k.door j.faults k.faults all.0.draws k.served k.outcome all.0.cause m'.0 d'.0 p'.0, done_all (w + 1) js ks all.1 m'.1 d'.1 p'.1)
+  done_all w js ks all m d p =
+      let one = each_by outcome is_memory Did (λ j k. Did j k × (is_memory k.outcome ≡ false)) (λ j k a e. (a, e)) js ks (all_did w js ks all) m in
+      let two = each_by outcome is_door_fault (λ j k. Did j k × (is_memory k.outcome ≡ false)) (λ j k. (Did j k × (is_memory k.outcome ≡ false)) × (is_door_fault k.outcome ≡ false)) (λ j k a e. (a, e)) js ks one d in
+      each_by outcome is_spent (λ j k. (Did j k × (is_memory k.outcome ≡ false)) × (is_door_fault k.outcome ≡ false)) IsDone (λ j k a e. done_one k.door j.faults k.faults a.0.0.0 k.served k.outcome a.0.0.1 a.0.1 a.1 e) js ks two p
 
   pub failed_some : (w : ℕ) (js ks : List (Crewman L)) → HaveWorked traffic np birth h w js ks → list_any is_door_fault (ends_of ks) ≡ true → SomeOf HasFailed js ks
-  failed_some w [] [] all d = absurd (cc d)
-  failed_some w [] (k ∷ ks) all d = absurd all
-  failed_some w (j ∷ js) [] all d = absurd all
-  failed_some w (j ∷ js) (k ∷ ks) all d =
-      elim (one_on (is_door_fault k.outcome) (list_any is_door_fault (ends_of ks)) d) [
-        | inl one ↦ inl (failed_one k.door j.faults k.faults all.0.draws k.served k.outcome all.0.cause one)
-        | inr more ↦ inr (failed_some (w + 1) js ks all.1 more)
-      ]
+  failed_some w js ks all = some_by outcome is_door_fault Did HasFailed (λ j k a e. failed_one k.door j.faults k.faults a.0 k.served k.outcome a.1 e) js ks (all_did w js ks all)
 
   pub memory_some : (w : ℕ) (js ks : List (Crewman L)) → HaveWorked traffic np birth h w js ks → list_any is_memory (ends_of ks) ≡ true → SomeOf LacksMemory js ks
-  memory_some w [] [] all m = absurd (cc m)
-  memory_some w [] (k ∷ ks) all m = absurd all
-  memory_some w (j ∷ js) [] all m = absurd all
-  memory_some w (j ∷ js) (k ∷ ks) all m =
-      elim (one_on (is_memory k.outcome) (list_any is_memory (ends_of ks)) m) [ inl one ↦ inl (memory_one k.outcome one) | inr more ↦ inr (memory_some (w + 1) js ks all.1 more) ]
+  memory_some w js ks all = some_by outcome is_memory Did LacksMemory (λ j k a e. memory_one k.outcome e) js ks (all_did w js ks all)
 
   pub spent_some : (w : ℕ) (js ks : List (Crewman L)) → HaveWorked traffic np birth h w js ks → list_any is_spent (ends_of ks) ≡ true → SomeOf IsSpent js ks
-  spent_some w [] [] all p = absurd (cc p)
-  spent_some w [] (k ∷ ks) all p = absurd all
-  spent_some w (j ∷ js) [] all p = absurd all
-  spent_some w (j ∷ js) (k ∷ ks) all p =
-      elim (one_on (is_spent k.outcome) (list_any is_spent (ends_of ks)) p) [ inl one ↦ inl one | inr more ↦ inr (spent_some (w + 1) js ks all.1 more) ]
+  spent_some w js ks all = some_by outcome is_spent Did IsSpent (λ j k a e. e) js ks (all_did w js ks all)
 
   pub sound_all : (w : ℕ) (js ks : List (Crewman L)) → HaveWorked traffic np birth h w js ks → list_any is_door_fault (ends_of ks) ≡ false → EachOf IsSound js ks
-  sound_all w [] [] all d = tt
-  sound_all w [] (k ∷ ks) all d = absurd all
-  sound_all w (j ∷ js) [] all d = absurd all
-  sound_all w (j ∷ js) (k ∷ ks) all d = let d' = both_off (is_door_fault k.outcome) (list_any is_door_fault (ends_of ks)) d in (d'.0, sound_all (w + 1) js ks all.1 d'.1)
+  sound_all w js ks all = each_by outcome is_door_fault Did IsSound (λ j k a e. e) js ks (all_did w js ks all)
 
   pub unharmed : (w : ℕ) (js ks : List (Crewman L)) → HaveWorked traffic np birth h w js ks → EachOf IsUnharmed js ks
       → (list_any is_door_fault (ends_of ks) ≡ false) × (list_any is_spent (ends_of ks) ≡ false)
-  unharmed w [] [] all fine = (refl, refl)
-  unharmed w [] (k ∷ ks) all fine = absurd all
-  unharmed w (j ∷ js) [] all fine = absurd all
-  unharmed w (j ∷ js) (k ∷ ks) all fine =
-      let more = unharmed (w + 1) js ks all.1 fine.1 in (
-        none_on (is_door_fault k.outcome) (list_any is_door_fault (ends_of ks)) (sound_one k.door j.faults k.faults all.0.draws k.served k.outcome all.0.cause fine.0.0) more.0,
-        none_on (is_spent k.outcome) (list_any is_spent (ends_of ks)) fine.0.1 more.1,
-      )
+  unharmed w js ks all fine = (
+    none_by outcome is_door_fault (λ j k. Did j k × IsUnharmed j k) (λ j k a. sound_one k.door j.faults k.faults a.0.0 k.served k.outcome a.0.1 a.1.0) js ks (both_of Did IsUnharmed js ks (all_did w js ks all) fine),
+    none_by outcome is_spent IsUnharmed (λ j k a. a.1) js ks fine,
+  )

@@ -1,5 +1,7 @@
+pub mod Somebody
 pub mod CrewStatus
 pub mod Causing
+pub mod AnyRuns
 pub mod Reasons
 pub mod Dues
 pub mod Running

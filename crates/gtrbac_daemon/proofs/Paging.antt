@@ -11,7 +11,7 @@ use Rattle.policy_words.specs.Naming.{NamedPolicy}
 use Rattle.request_text.specs.Replies.{entry_line, log_text}
 use Rattle.request_text.specs.Rooms.{Puts}
 use Rattle.core_machine.specs.Books.{BookView}
-use Rattle.gtrbac_daemon.specs.Daemon.{or_failed, IsWritten}
+use Rattle.gtrbac_daemon.specs.Runs.{or_failed, IsWritten}
 use Rattle.gtrbac_daemon.specs.Pages.{text_from}
 
 take_past : (w r : List ℕ) (n : ℕ) → take (length w + n) (w ++ r) ≡ w ++ take n r

@@ -8,7 +8,8 @@ use Rattle.connection_laws.specs.Turns.{IsIdle}
 use Rattle.policy_words.specs.Naming.{NamedPolicy}
 use Rattle.poll_front.specs.declared.ends.Polled.{Polled}
 use Rattle.poll_front.specs.declared.front.RunEnd.{RunEnd}
-use Rattle.connection_laws.specs.Connection.{IsTimed, readings_of, entries_of}
+use Rattle.connection_laws.specs.Lines.{readings_of, entries_of}
+use Rattle.connection_laws.specs.Connection.{IsTimed}
 use Rattle.poll_front.specs.Fronts.{Turn, all_acted}
 use Rattle.poll_front.specs.Polling.{IsPolledFront}
 use Rattle.poll_front.specs.Tables.{Ran}
@@ -26,7 +27,8 @@ use Rattle.gt_io.specs.Causes.{Rose}
 use Rattle.policy_commands.specs.Ends.{EndView}
 use Rattle.policy_commands.specs.Printing.{IsPrinted}
 use Rattle.gtrbac_daemon.specs.Words.{Refuses, Admits}
-use Rattle.gtrbac_daemon.specs.Polls.{HasPolled, PollHeadline, PollScene, PollServes, PollAnswers}
+use Rattle.gtrbac_daemon.specs.Runs.{Headline}
+use Rattle.gtrbac_daemon.specs.Polls.{Polling, polling, HasPolled}
 
 -- a list of one, as a front and its last
 pub one_of_one : {A : Type 0} (x y : A) (rest : List A) → x ∷ [] ≡ rest ++ y ∷ [] → (rest ≡ []) × (y ≡ x)
@@ -38,8 +40,8 @@ only_idle l p is = (ap (λ (q : Holder _). q.site) is, ap (λ (q : Holder _). q.
 
 pub has_polled : {M : Type 0} (np p : NamedPolicy) (legal : List Entry → Type 0) (now : List Entry → ℕ) (birth : ℕ) → IsTimed birth legal now → (first h : List Entry) (l : Lock M) (before after : Holder M) (clock clock' : Option (ℕ → ℕ)) (start b : Harbour) (ends : List Polled) (end : RunEnd)
     → first ≡ [] → p ≡ np → before ≡ newcomer l [] 0 → after.number ≡ before.number → Ran p first legal now before.number before after clock clock' start b ends end → IsToldBy first h after
-    → HasPolled np birth clock clock' start b ends h end
-has_polled {M} np p legal now birth timed first h l before after clock clock' start b ends end empty named new number r told =
+    → (were : List Polled) → HasPolled np birth h (polling clock start were) (polling clock' b ends) end
+has_polled {M} np p legal now birth timed first h l before after clock clock' start b ends end empty named new number r told were =
     let zero : before.number ≡ 0 = ap (λ (q : Holder M). q.number) new in
     let r1 : Ran np first legal now before.number before after clock clock' start b ends end = subst (λ (n : NamedPolicy). Ran n first legal now before.number before after clock clock' start b ends end) named r in
     let r2 : Ran np [] legal now before.number before after clock clock' start b ends end = subst (λ (es : List Entry). Ran np es legal now before.number before after clock clock' start b ends end) empty r1 in
@@ -60,14 +62,15 @@ has_polled {M} np p legal now birth timed first h l before after clock clock' st
       few_draws = few;
       runs = r.runs;
       faults = r.faults;
+      ends_told = r.ends;
     }
 
 one_model : (p : Policy) → IsSafe p.triggers → HasOneModel p
 one_model p safe = let levels = safe_is_levelled p.triggers safe in levels_give_one_model p levels.0 (by_trigger p.triggers levels.0 levels.1)
 
-module _ (clock clock' : Option (ℕ → ℕ)) (start now : Harbour) (ends : List Polled) (end : RunEnd) where
-  headline_at : (b : BookView) → IsSafe b.named.policy.triggers → IsBook b → HasOnlyModel b → HasPolled b.named b.birth clock clock' start now ends b.entries end → ((n : ℕ) → 1 ≤ n → part n b.entries ≡ [])
-      → PollHeadline b.named b.birth clock clock' start now ends b.entries end
+module _ (p q : Polling) (end : RunEnd) where
+  headline_at : (b : BookView) → IsSafe b.named.policy.triggers → IsBook b → HasOnlyModel b → HasPolled b.named b.birth b.entries p q end → ((n : ℕ) → 1 ≤ n → part n b.entries ≡ [])
+      → Headline b.named b.birth b.entries 1 (HasPolled b.named b.birth b.entries p q end)
   headline_at b safe book only polled others =
       record {
         safe = safe;
@@ -78,32 +81,17 @@ module _ (clock clock' : Option (ℕ → ℕ)) (start now : Harbour) (ends : Lis
         only = only;
         named = book.named;
         bounded = book.short;
-        polled = polled;
+        worked = polled;
         others = others;
       }
 
   -- of a ledger l and the book b that it has become
   pub poll_headline_of : (np : NamedPolicy) (birth : ℕ) (l b : BookView) → IsSafe np.policy.triggers → l.named ≡ np → l.birth ≡ birth → SameRoot l b → IsBook b → HasOnlyModel b
-      → HasPolled l.named l.birth clock clock' start now ends b.entries end → ((n : ℕ) → 1 ≤ n → part n b.entries ≡ []) → PollHeadline np birth clock clock' start now ends b.entries end
+      → HasPolled l.named l.birth b.entries p q end → ((n : ℕ) → 1 ≤ n → part n b.entries ≡ []) → Headline np birth b.entries 1 (HasPolled np birth b.entries p q end)
   poll_headline_of np birth l b safe named born same book only polled others =
       let to : b.named ≡ np = sym same.0 ∙ named in
       let at : b.birth ≡ birth = sym same.1 ∙ born in
-      let polled' : HasPolled b.named b.birth clock clock' start now ends b.entries end =
-      subst (λ (p : NamedPolicy). HasPolled p b.birth clock clock' start now ends b.entries end) same.0 (subst (λ (t : ℕ). HasPolled l.named t clock clock' start now ends b.entries end) same.1 polled) in
-      subst (λ (p : NamedPolicy). PollHeadline p birth clock clock' start now ends b.entries end) to
-      (subst (λ (t : ℕ). PollHeadline b.named t clock clock' start now ends b.entries end) at (headline_at b (subst (λ (p : NamedPolicy). IsSafe p.policy.triggers) (sym to) safe) book only polled' others))
-
-module _ (s : ℕ) (a b : PollScene) where
-  pub poll_kept : (name : Option (List ℕ)) (t : EndView) → Refuses (Rose a.hard_faults b.hard_faults) a.texts name t → (t.status ≡ 4 → Rose a.shelf_faults b.shelf_faults) → (t.status ≡ 4) ⊎ (b.hard_faults ≡ a.hard_faults)
-      → IsPrinted s t a.written b.written a.faults b.faults → b.birth ≡ a.birth → b.clock ≡ a.clock → b.ports ≡ a.ports → b.ends ≡ a.ends
-      → PollAnswers name s a b
-  poll_kept name t cause failed steady printed birth clock ports ends =
-      record { runs = inr (inl (record { told = t; cause = cause; failed = failed; steady = steady; printed = printed; birth = birth; clock = clock; ports = ports; ends = ends })) }
-
-  pub poll_served : (name : Option (List ℕ)) (np : NamedPolicy) → Admits a.texts name np → b.hard_faults ≡ a.hard_faults → PollServes np s a b → PollAnswers name s a b
-  poll_served name np admits steady serves = record { runs = inl (np, admits, steady, serves) }
-
-  pub poll_starved : (name : Option (List ℕ)) → s ≡ 8 → b.written ≡ a.written → b.faults ≡ a.faults → b.clock ≡ a.clock → b.ports ≡ a.ports → b.ends ≡ a.ends → b.birth ≡ a.birth → PollAnswers name s a b
-  poll_starved name eight written faults clock ports ends birth =
-      let keeps : Keeps a.written b.written = subst (λ (w : Option (List ℕ)). Keeps a.written w) (sym written) (Keeps-refl a.written) in
-      record { runs = inr (inr (record { nothing = (eight, keeps, faults); clock = clock; ports = ports; ends = ends }, birth)) }
+      let polled' : HasPolled b.named b.birth b.entries p q end =
+      subst (λ (n : NamedPolicy). HasPolled n b.birth b.entries p q end) same.0 (subst (λ (t : ℕ). HasPolled l.named t b.entries p q end) same.1 polled) in
+      subst (λ (n : NamedPolicy). Headline n birth b.entries 1 (HasPolled n birth b.entries p q end)) to
+      (subst (λ (t : ℕ). Headline b.named t b.entries 1 (HasPolled b.named t b.entries p q end)) at (headline_at b (subst (λ (n : NamedPolicy). IsSafe n.policy.triggers) (sym to) safe) book only polled' others))

@@ -13,8 +13,9 @@ use Rattle.core_machine.specs.Books.{BookView, SameRoot, IsBook, HasOnlyModel, m
 use Rattle.request_text.specs.Replies.{log_text}
 use Rattle.line_server.specs.declared.workers.Worker.{Worker}
 use Rattle.gtrbac_daemon.specs.Crew.{Crewman, crewmen, status_of, ends_of}
-use Rattle.gtrbac_daemon.specs.Headline.{HaveWorked, Headline}
-use Rattle.gtrbac_daemon.specs.Daemon.{Scene, IsWritten, HasServed}
+use Rattle.gtrbac_daemon.specs.Headline.{HaveWorked, CrewHeadline}
+use Rattle.gtrbac_daemon.specs.Runs.{Scene, IsWritten}
+use Rattle.gtrbac_daemon.specs.Daemon.{CrewHasServed}
 
 pub as_long : {D C G L : Type 0} (readings : C → Option (ℕ → ℕ)) (links : D → Option (List L)) (faults : D → ℕ) (ws : List (Worker D C G L)) → length (crewmen readings links faults ws) ≡ length ws
 as_long readings links faults [] = refl
@@ -25,7 +26,7 @@ one_model p safe = let levels = safe_is_levelled p.triggers safe in levels_give_
 
 module _ {L : Type 0} (traffic : L → Traffic) where
   headline_at : (crew crew' : List (Crewman L)) (b : BookView) → IsSafe b.named.policy.triggers → IsBook b → HasOnlyModel b → HaveWorked traffic b.named b.birth b.entries 0 crew crew'
-      → ((n : ℕ) → length crew ≤ n → part n b.entries ≡ []) → Headline traffic b.named b.birth crew crew' b.entries
+      → ((n : ℕ) → length crew ≤ n → part n b.entries ≡ []) → CrewHeadline traffic b.named b.birth crew crew' b.entries
   headline_at crew crew' b safe book only worked others =
       record {
         safe = safe;
@@ -42,18 +43,18 @@ module _ {L : Type 0} (traffic : L → Traffic) where
 
   -- of a ledger l and the book b that it has become
   pub headline_of : (np : NamedPolicy) (birth : ℕ) (crew crew' : List (Crewman L)) (l b : BookView) → IsSafe np.policy.triggers → l.named ≡ np → l.birth ≡ birth → SameRoot l b → IsBook b → HasOnlyModel b
-      → HaveWorked traffic l.named l.birth b.entries 0 crew crew' → ((n : ℕ) → length crew ≤ n → part n b.entries ≡ []) → Headline traffic np birth crew crew' b.entries
+      → HaveWorked traffic l.named l.birth b.entries 0 crew crew' → ((n : ℕ) → length crew ≤ n → part n b.entries ≡ []) → CrewHeadline traffic np birth crew crew' b.entries
   headline_of np birth crew crew' l b safe named born same book only worked others =
       let to : b.named ≡ np = sym same.0 ∙ named in
       let at : b.birth ≡ birth = sym same.1 ∙ born in
       let worked' : HaveWorked traffic b.named b.birth b.entries 0 crew crew' =
       subst (λ (p : NamedPolicy). HaveWorked traffic p b.birth b.entries 0 crew crew') same.0 (subst (λ (t : ℕ). HaveWorked traffic l.named t b.entries 0 crew crew') same.1 worked) in
-      subst (λ (p : NamedPolicy). Headline traffic p birth crew crew' b.entries) to
-      (subst (λ (t : ℕ). Headline traffic b.named t crew crew' b.entries) at (headline_at crew crew' b (subst (λ (p : NamedPolicy). IsSafe p.policy.triggers) (sym to) safe) book only worked' others))
+      subst (λ (p : NamedPolicy). CrewHeadline traffic p birth crew crew' b.entries) to
+      (subst (λ (t : ℕ). CrewHeadline traffic b.named t crew crew' b.entries) at (headline_at crew crew' b (subst (λ (p : NamedPolicy). IsSafe p.policy.triggers) (sym to) safe) book only worked' others))
 
   -- the log of the book b
-  pub has_served : (np : NamedPolicy) (birth : ℕ) (s due : ℕ) (a c : Scene L) (b : BookView) → b.named ≡ np → b.birth ≡ birth → Headline traffic np birth a.crew c.crew b.entries → due ≡ status_of (ends_of c.crew)
-      → IsWritten due (log_text b.named b.birth b.entries) s a.written c.written a.faults c.faults → HasServed traffic np birth s a c
+  pub has_served : (np : NamedPolicy) (birth : ℕ) (s due : ℕ) (a c : Scene (List (Crewman L))) (b : BookView) → b.named ≡ np → b.birth ≡ birth → CrewHeadline traffic np birth a.server c.server b.entries → due ≡ status_of (ends_of c.server)
+      → IsWritten due (log_text b.named b.birth b.entries) s a.written c.written a.faults c.faults → CrewHasServed traffic np birth s a c
   has_served np birth s due a c b named born headline is written =
       record {
         history = b.entries;

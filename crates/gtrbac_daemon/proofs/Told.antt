@@ -45,18 +45,18 @@ module _ {L : Type 0} (traffic : L → Traffic) (np : NamedPolicy) (legal : List
         ∙ ap (λ (l : List Entry). l ++ part_of (by w c) (owns_of xs)) (all_mine (by w c) x.own i.mine)
         ∙ ap (λ (l : List Entry). x.own ++ l) (later_none (c + 1) c ss xs (omega arith) all.1) ∙ append-nil x.own in (
           record {
-            fresh = i.fresh;
             own = sym own;
-            conn = i.conn birth timed;
+            link =
+                record {
+                  fresh = i.fresh;
+                  conn = i.conn birth timed;
+                  carries = i.carries;
+                  cause = i.cause;
+                  finished = i.finished;
+                  complete = complete_by np birth (by w c) h 0 x.taken x.readings x.own x.given x.acted s.report.outcome (traffic x.begun) (traffic s.link) x.draws (i.conn birth timed) i.cause;
+                };
             asked = i.asked;
             denied = i.denied;
-            taken_is = i.taken_is;
-            left_is = i.left_is;
-            given_is = i.given_is;
-            bounded = i.bounded;
-            cause = i.cause;
-            finished = i.finished;
-            complete = complete_by np birth (by w c) h 0 x.taken x.readings x.own x.given x.acted s.report.outcome (traffic x.begun) (traffic s.link) x.draws (i.conn birth timed) i.cause;
           },
           links_told (c + 1) ss xs all.1 (λ k far. same k (omega (arith, far)) ∙ part_of-append (by w k) x.own (owns_of xs)
               ∙ ap (λ (l : List Entry). l ++ part_of (by w k) (owns_of xs)) (none_mine w c k x.own (λ e. absurd (omega (arith, e, far))) i.mine)),

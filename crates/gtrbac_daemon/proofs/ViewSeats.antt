@@ -8,7 +8,7 @@ use Rattle.gt_io.specs.Links.{Traffic}
 use Rattle.policy_words.specs.Naming.{NamedPolicy}
 use Rattle.snapshot_readers.specs.Glazed.{Glazed, fresh_glass}
 use Rattle.snapshot_readers.specs.declared.viewers.Viewer.{Viewer}
-use Rattle.snapshot_readers.specs.Viewing.{GlancesCanBeTold}
+use Rattle.connection_laws.specs.Desks.{GlancesCanBeTold}
 use Rattle.snapshot_readers.specs.declared.seats.Seat.{Seat}
 use Rattle.snapshot_readers.specs.Seats.{watchers, HasLooked, IsNewViewer, IsReadySeat, glasses_of, viewers_of, HasSettled, AreTold, HaveViewed}
 use Rattle.snapshot_readers.proofs.Seated.{ready, IsDone, seats_done}

@@ -7,6 +7,7 @@ use Rattle.std.proofs.KnownBytes.{Keeps-refl}
 use Rattle.gt_base.specs.declared.requests.Entry.{Entry}
 use Rattle.gt_io.specs.Causes.{Rose}
 use Rattle.gt_io.specs.Links.{Traffic, Reads}
+use Rattle.turn_lock.specs.Turns.{Each}
 use Rattle.policy_words.specs.Naming.{NamedPolicy}
 use Rattle.policy_commands.specs.Ends.{EndView}
 use Rattle.core_machine.specs.Books.{BookView}
@@ -18,16 +19,16 @@ use Rattle.snapshot_readers.specs.Crew.{all_lens}
 use Rattle.snapshot_readers.specs.Seats.{Watcher, watcher, watchers, AreTold, HaveViewed, IsNewViewer}
 use Rattle.policy_commands.specs.Printing.{IsPrinted}
 use Rattle.gtrbac_daemon.specs.Words.{Refuses, Admits}
-use Rattle.gtrbac_daemon.specs.Crew.{Crewman, crewman, crewmen, is_memory, is_door_fault, is_spent, ends_of, IsNew}
-use Rattle.gtrbac_daemon.specs.Headline.{Headline}
-use Rattle.gtrbac_daemon.specs.Daemon.{IsWritten}
+use Rattle.gtrbac_daemon.specs.Crew.{Crewman, crewman, crewmen, is_memory, is_door_fault, is_spent, ends_of}
+use Rattle.gtrbac_daemon.specs.Headline.{CrewHeadline}
+use Rattle.gtrbac_daemon.specs.Runs.{IsWritten}
 use Rattle.gtrbac_daemon.specs.ViewLists.{numbers_among}
-use Rattle.gtrbac_daemon.specs.Views.{is_viewer_memory, is_viewer_fault, is_viewer_spent, first_above, status_by, viewer_ends, numbers_of, first_late, views_status, views_text, ViewScene, ViewStarves, ViewHasServed, ViewServes, ViewIsKept, ViewAnswers}
-use Rattle.gtrbac_daemon.proofs.ViewStatus.{AreFresh, AreFreshViewers}
-
-any_map : {A B : Type 0} (p : B → Bool) (f : A → B) (xs : List A) → list_any p (map f xs) ≡ list_any (λ x. p (f x)) xs
-any_map p f [] = refl
-any_map p f (x ∷ xs) = ap (λ (b : Bool). p (f x) || b) (any_map p f xs)
+use Rattle.gtrbac_daemon.specs.Views.{is_viewer_memory, is_viewer_fault, is_viewer_spent, first_above, status_by, viewer_ends, numbers_of, first_late, views_status, views_text}
+use Rattle.gtrbac_daemon.specs.Runs.{Scene, Serves, Answers, served}
+use Rattle.gtrbac_daemon.specs.Views.{Company, seen, unnamed, unseen, ViewHasServed, view_way}
+use Rattle.gtrbac_daemon.proofs.AnyRuns as Any
+use Rattle.gtrbac_daemon.proofs.CrewStatus.{any_map}
+use Rattle.gtrbac_daemon.proofs.ViewStatus.{IsFreshViewer}
 
 module _ {D C G L : Type 0} (readings : C → Option (ℕ → ℕ)) (links : D → Option (List L)) (faults : D → ℕ) where
   abbrev K : List (Worker D C G L) → List (Crewman L)
@@ -61,15 +62,7 @@ module _ {D C G L : Type 0} (readings : C → Option (ℕ → ℕ)) (links : D �
       (sym (crew_says is_spent ws) i || sym (viewers_say is_viewer_spent vs) i)
       (is_some (is i))
 
-  pub fresh_crew : (ws : List (Worker D C G L)) → All (λ (w : Worker D C G L). IsNew w) ws → AreFresh (K ws)
-  fresh_crew [] all = tt
-  fresh_crew (w ∷ ws) all = ((all 0 w (omega arith)).0, fresh_crew ws (λ k d low. all (suc k) d (omega (arith, low))))
-
-  pub some_crew : (ws : List (Worker D C G L)) → 1 ≤ length ws → K ws ≡ [] → ⊥
-  some_crew [] low e = absurd (omega (arith, low))
-  some_crew (w ∷ ws) low e = absurd (cc e)
-
-  pub fresh_viewers : (vs : List (Viewer D G L)) → All (λ (v : Viewer D G L). IsNewViewer v) vs → AreFreshViewers (V vs)
+  pub fresh_viewers : (vs : List (Viewer D G L)) → All (λ (v : Viewer D G L). IsNewViewer v) vs → Each IsFreshViewer (V vs)
   fresh_viewers [] all = tt
   fresh_viewers (v ∷ vs) all = ((all 0 v (omega arith)).0, fresh_viewers vs (λ k d low. all (suc k) d (omega (arith, low))))
 
@@ -81,41 +74,35 @@ written_as np birth l named born d late late' same s old new before now w =
     (subst (λ (p : NamedPolicy). IsWritten d (views_text p birth l.entries d late) s old new before now) named
     (subst (λ (t : ℕ). IsWritten d (views_text l.named t l.entries d late) s old new before now) born w))
 
-module _ {L : Type 0} (traffic : L → Traffic) (np : NamedPolicy) (birth : ℕ) (s due : ℕ) (late : Option ℕ) (a b : ViewScene L) (l : BookView) where
+module _ {L : Type 0} (traffic : L → Traffic) (np : NamedPolicy) (birth : ℕ) (s due : ℕ) (late : Option ℕ) (a b : Scene (Company L)) (l : BookView) where
   -- by whether each glass was told
-  pub has_served : (told : Bool) → l.named ≡ np → l.birth ≡ birth → Headline traffic np birth a.crew b.crew l.entries → HaveViewed traffic np birth a.viewers b.viewers
-      → (told ≡ true → AreTold traffic np birth l.entries a.viewers b.viewers) → late ≡ first_late l.entries b.viewers
-      → (told ≡ true → due ≡ views_status l.entries b.crew b.viewers) → (told ≡ false → due ≡ 8)
-      → (d : ℕ) × ((d ≡ due) ⊎ (d ≡ 8)) × IsWritten d (views_text l.named l.birth l.entries d late) s a.written b.written a.faults b.faults
-      → ViewHasServed traffic np birth l.entries s a b
+  pub has_served : (told : Bool) → l.named ≡ np → l.birth ≡ birth → CrewHeadline traffic np birth a.server.crew b.server.crew l.entries → HaveViewed traffic np birth a.server.viewers b.server.viewers
+      → (told ≡ true → AreTold traffic np birth l.entries a.server.viewers b.server.viewers) → late ≡ first_late l.entries b.server.viewers
+      → (told ≡ true → due ≡ views_status l.entries b.server.crew b.server.viewers) → (told ≡ false → due ≡ 8)
+      → (d : ℕ) × ((d ≡ due) ⊎ ((d ≡ 8) × (due ≡ 14))) × IsWritten d (views_text l.named l.birth l.entries d late) s a.written b.written a.faults b.faults
+      → ViewHasServed traffic l.entries np birth s a b
   has_served true named born headline viewed are same said unsaid w =
       record {
         headline = headline;
         due = w.0;
-        due_is = elim w.1 [ inl e ↦ inl (e ∙ said refl) | inr e ↦ inr e ];
-        viewed = inl (are refl);
-        written = written_as np birth l named born w.0 late (first_late l.entries b.viewers) same s a.written b.written a.faults b.faults w.2;
+        compared = elim w.1 [ inl e ↦ seen (e ∙ said refl) (are refl) | inr e ↦ unnamed e.0 (sym (said refl) ∙ e.1) (are refl) ];
+        written = written_as np birth l named born w.0 late (first_late l.entries b.server.viewers) same s a.written b.written a.faults b.faults w.2;
       }
   has_served false named born headline viewed are same said unsaid w =
-      let eight : w.0 ≡ 8 = elim w.1 [ inl e ↦ e ∙ unsaid refl | inr e ↦ e ] in
       record {
         headline = headline;
         due = w.0;
-        due_is = inr eight;
-        viewed = inr (eight, viewed);
-        written = written_as np birth l named born w.0 late (first_late l.entries b.viewers) same s a.written b.written a.faults b.faults w.2;
+        compared = unseen (elim w.1 [ inl e ↦ e ∙ unsaid refl | inr e ↦ e.0 ]) viewed;
+        written = written_as np birth l named born w.0 late (first_late l.entries b.server.viewers) same s a.written b.written a.faults b.faults w.2;
       }
 
-module _ {L : Type 0} (traffic : L → Traffic) (s : ℕ) (a b : ViewScene L) where
+module _ {L : Type 0} (traffic : L → Traffic) (s : ℕ) (a b : Scene (Company L)) where
   pub view_kept : (name : Option (List ℕ)) (t : EndView) → Refuses (Rose a.hard_faults b.hard_faults) a.texts name t → (t.status ≡ 4 → Rose a.shelf_faults b.shelf_faults) → (t.status ≡ 4) ⊎ (b.hard_faults ≡ a.hard_faults)
-      → IsPrinted s t a.written b.written a.faults b.faults → b.birth ≡ a.birth → b.crew ≡ a.crew → b.viewers ≡ a.viewers
-      → (h : List Entry) × ViewAnswers traffic name h s a b
-  view_kept name t cause failed steady printed birth crew viewers =
-      ([], record { runs = inr (inl (record { told = t; cause = cause; failed = failed; steady = steady; printed = printed; birth = birth; crew = crew; viewers = viewers })) })
+      → IsPrinted s t a.written b.written a.faults b.faults → b.birth ≡ a.birth → b.server ≡ a.server → (h : List Entry) × Answers (view_way traffic h) name s a b
+  view_kept name t cause failed steady printed birth server = ([], Any.refused_as (view_way traffic []) name s a b t cause failed steady printed birth server)
 
-  pub view_served : (name : Option (List ℕ)) (np : NamedPolicy) → Admits a.texts name np → b.hard_faults ≡ a.hard_faults → (h : List Entry) × ViewServes traffic np h s a b → (h : List Entry) × ViewAnswers traffic name h s a b
-  view_served name np admits steady serves = (serves.0, record { runs = inl (np, admits, steady, serves.1) })
+  pub view_served : (name : Option (List ℕ)) (np : NamedPolicy) → Admits a.texts name np → b.hard_faults ≡ a.hard_faults → (h : List Entry) × Serves (view_way traffic h) np s a b → (h : List Entry) × Answers (view_way traffic h) name s a b
+  view_served name np admits steady serves = (serves.0, served np admits steady serves.1)
 
-  pub view_starved : (name : Option (List ℕ)) → s ≡ 8 → b.written ≡ a.written → b.faults ≡ a.faults → b.crew ≡ a.crew → b.viewers ≡ a.viewers → b.birth ≡ a.birth → (h : List Entry) × ViewAnswers traffic name h s a b
-  view_starved name eight written faults crew viewers birth =
-      ([], record { runs = inr (inr (record { nothing = (eight, subst (λ (w : Option (List ℕ)). Keeps a.written w) (sym written) (Keeps-refl a.written), faults); crew = crew; viewers = viewers }, birth)) })
+  pub view_starved : (name : Option (List ℕ)) → s ≡ 8 → b.written ≡ a.written → b.faults ≡ a.faults → b.server ≡ a.server → b.birth ≡ a.birth → (h : List Entry) × Answers (view_way traffic h) name s a b
+  view_starved name eight written faults server birth = ([], Any.starved_as (view_way traffic []) name s a b eight written faults server birth)

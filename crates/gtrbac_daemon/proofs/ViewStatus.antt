@@ -1,6 +1,6 @@
 -- What the status of a crew and viewers says of them.
 use Rattle.std.proofs.Common.{◌≡◌, ◌⊎◌, ℕ, Bool, true, false, List, [], ◌∷◌, ◌++◌, inl, inr, refl, sym, ap, subst, ◌∙◌, map, Option, Some, None}
-use Rattle.std.specs.Prelude.{◌||◌, is_some, All}
+use Rattle.std.specs.Prelude.{◌||◌, is_some}
 use Rattle.std.specs.List.{list_any}
 use Rattle.gt_base.specs.declared.requests.Entry.{Entry}
 use Rattle.gt_io.specs.Causes.{Rose}
@@ -11,30 +11,10 @@ use Rattle.snapshot_readers.specs.declared.ends.ViewerEnd.{ViewerEnd}
 use Rattle.snapshot_readers.specs.declared.ends.ViewerEnd.TheVariants.{Fresh, Done, DoorFault, Enough, Memory}
 use Rattle.snapshot_readers.specs.Crew.{ViewsTo}
 use Rattle.snapshot_readers.specs.Seats.{Watcher, AreTold, HaveViewed}
-use Rattle.line_server.specs.declared.ended.WorkEnd.TheVariants as worker_ends
-use Rattle.gtrbac_daemon.specs.Crew.{Crewman, is_memory, is_door_fault, is_spent, ends_of, SomeOf, EachOf, HasFailed, IsSpent, IsSound, IsDone, IsUnharmed}
-use Rattle.gtrbac_daemon.specs.Headline.{HaveWorked}
-use Rattle.gtrbac_daemon.specs.Views.{is_viewer_memory, is_viewer_fault, is_viewer_spent, status_by, viewer_ends, SomeViewer, EachViewer, IsDoneViewer, HasFailedViewer, IsSoundViewer, IsSpentViewer, IsUnharmedViewer}
-
-pub both_off : (a b : Bool) → (a || b) ≡ false → (a ≡ false) × (b ≡ false)
-both_off true b e = absurd (cc e)
-both_off false b e = (refl, e)
-
-pub one_on : (a b : Bool) → (a || b) ≡ true → (a ≡ true) ⊎ (b ≡ true)
-one_on true b e = inl refl
-one_on false b e = inr e
-
-pub none_on : (a b : Bool) → a ≡ false → b ≡ false → (a || b) ≡ false
-none_on true b a c = absurd (cc a)
-none_on false b a c = c
-
-pub left_on : (a b : Bool) → a ≡ true → (a || b) ≡ true
-left_on true b e = refl
-left_on false b e = absurd (cc e)
-
-pub right_on : (a b : Bool) → b ≡ true → (a || b) ≡ true
-right_on true b e = refl
-right_on false b e = e
+use Rattle.turn_lock.specs.Turns.{Each}
+use Rattle.gtrbac_daemon.specs.Crew.{SomeOf, EachOf}
+use Rattle.gtrbac_daemon.specs.Views.{is_viewer_memory, is_viewer_fault, is_viewer_spent, status_by, viewer_ends, IsDoneViewer, HasFailedViewer, IsSoundViewer, IsSpentViewer, IsUnharmedViewer, LacksViewerMemory}
+use Rattle.gtrbac_daemon.proofs.Somebody.{some_by, each_by, any_by, none_by, both_of, some_idle}
 
 -- the statuses that may be due where a door failed, where somebody is spent, and where neither is
 
@@ -100,7 +80,65 @@ spent_one DoorFault p = absurd (cc p)
 spent_one Enough p = refl
 spent_one Memory p = absurd (cc p)
 
+lacking_one : (end : ViewerEnd) → is_viewer_memory end ≡ true → end ≡ Memory
+lacking_one Fresh p = absurd (cc p)
+lacking_one Done p = absurd (cc p)
+lacking_one DoorFault p = absurd (cc p)
+lacking_one Enough p = absurd (cc p)
+lacking_one Memory p = refl
+
+-- 8 is the status of memory that was wanting alone, 14 that of a number above the length
+pub eight_says : (m d p l : Bool) → status_by m d p l ≡ 8 → m ≡ true
+eight_says true d p l e = refl
+eight_says false true p l e = absurd (cc e)
+eight_says false false true l e = absurd (cc e)
+eight_says false false false true e = absurd (cc e)
+eight_says false false false false e = absurd (cc e)
+
+pub fourteen_says : (m d p l : Bool) → status_by m d p l ≡ 14 → (m ≡ false) × (d ≡ false) × (p ≡ false) × (l ≡ true)
+fourteen_says true d p l e = absurd (cc e)
+fourteen_says false true p l e = absurd (cc e)
+fourteen_says false false true l e = absurd (cc e)
+fourteen_says false false false true e = (refl, refl, refl, refl)
+fourteen_says false false false false e = absurd (cc e)
+
+pub some_of : {A : Type 0} (o : Option A) → is_some o ≡ true → (x : A) × (o ≡ Some x)
+some_of None e = absurd (cc e)
+some_of (Some x) e = (x, refl)
+
 -- all viewers
+module _ {L : Type 0} where
+  abbrev outcome : Watcher L → ViewerEnd
+  outcome w = w.outcome
+
+  abbrev pub IsFreshViewer : Watcher L → Type 0
+  IsFreshViewer w = w.outcome ≡ Fresh
+
+  -- from the causes to what the ends say
+  pub views_failed : (vs ws : List (Watcher L)) → SomeOf HasFailedViewer vs ws → list_any is_viewer_fault (viewer_ends ws) ≡ true
+  views_failed = any_by outcome is_viewer_fault HasFailedViewer (λ v w e. ap is_viewer_fault e.0)
+
+  pub views_spent : (vs ws : List (Watcher L)) → SomeOf IsSpentViewer vs ws → list_any is_viewer_spent (viewer_ends ws) ≡ true
+  views_spent = any_by outcome is_viewer_spent IsSpentViewer (λ v w e. ap is_viewer_spent e)
+
+  pub views_sound : (vs ws : List (Watcher L)) → EachOf IsSoundViewer vs ws → list_any is_viewer_fault (viewer_ends ws) ≡ false
+  views_sound = none_by outcome is_viewer_fault IsSoundViewer (λ v w e. e)
+
+  pub views_done : (vs ws : List (Watcher L)) → EachOf IsDoneViewer vs ws
+      → (list_any is_viewer_memory (viewer_ends ws) ≡ false) × (list_any is_viewer_fault (viewer_ends ws) ≡ false) × (list_any is_viewer_spent (viewer_ends ws) ≡ false)
+  views_done vs ws all = (
+    none_by outcome is_viewer_memory IsDoneViewer (λ v w e. ap is_viewer_memory e) vs ws all,
+    none_by outcome is_viewer_fault IsDoneViewer (λ v w e. ap is_viewer_fault e) vs ws all,
+    none_by outcome is_viewer_spent IsDoneViewer (λ v w e. ap is_viewer_spent e) vs ws all,
+  )
+
+  -- before they begin
+  pub fresh_unfailed : (vs ws : List (Watcher L)) → Each IsFreshViewer ws → SomeOf HasFailedViewer vs ws → ⊥
+  fresh_unfailed = some_idle IsFreshViewer HasFailedViewer (λ v w fresh e. let no : ◌≡◌ {A = ViewerEnd} Fresh DoorFault = sym fresh ∙ e.0 in cc no)
+
+  pub fresh_unspent : (vs ws : List (Watcher L)) → Each IsFreshViewer ws → SomeOf IsSpentViewer vs ws → ⊥
+  fresh_unspent = some_idle IsFreshViewer IsSpentViewer (λ v w fresh e. let no : ◌≡◌ {A = ViewerEnd} Fresh Enough = sym fresh ∙ e in cc no)
+
 module _ {L : Type 0} (traffic : L → Traffic) (np : NamedPolicy) (birth : ℕ) where
   pub told_viewed : (h : List Entry) (vs ws : List (Watcher L)) → AreTold traffic np birth h vs ws → HaveViewed traffic np birth vs ws
   told_viewed h [] [] t = tt
@@ -108,151 +146,38 @@ module _ {L : Type 0} (traffic : L → Traffic) (np : NamedPolicy) (birth : ℕ)
   told_viewed h (v ∷ vs) [] t = absurd t
   told_viewed h (v ∷ vs) (w ∷ ws) t = ((t.0.seen, t.0.viewed), told_viewed h vs ws t.1)
 
+  -- how one of them ended
+  abbrev Did : Watcher L → Watcher L → Type 0
+  Did v w = ViewsTo w.door v.faults w.faults w.served w.outcome
+
+  all_did : (vs ws : List (Watcher L)) → HaveViewed traffic np birth vs ws → EachOf Did vs ws
+  all_did [] [] all = tt
+  all_did [] (w ∷ ws) all = absurd all
+  all_did (v ∷ vs) [] all = absurd all
+  all_did (v ∷ vs) (w ∷ ws) all = (all.0.1.cause, all_did vs ws all.1)
+
   pub viewers_done : (vs ws : List (Watcher L)) → HaveViewed traffic np birth vs ws
-      → list_any is_viewer_memory (viewer_ends ws) ≡ false → list_any is_viewer_fault (viewer_ends ws) ≡ false → list_any is_viewer_spent (viewer_ends ws) ≡ false → EachViewer IsDoneViewer vs ws
-  viewers_done [] [] all m d p = tt
-  viewers_done [] (w ∷ ws) all m d p = absurd all
-  viewers_done (v ∷ vs) [] all m d p = absurd all
-  viewers_done (v ∷ vs) (w ∷ ws) all m d p =
-      let m' = both_off (is_viewer_memory w.outcome) (list_any is_viewer_memory (viewer_ends ws)) m in
-      let d' = both_off (is_viewer_fault w.outcome) (list_any is_viewer_fault (viewer_ends ws)) d in
-      let p' = both_off (is_viewer_spent w.outcome) (list_any is_viewer_spent (viewer_ends ws)) p in
-      (done_one w.door v.faults w.faults w.served w.outcome all.0.1.cause m'.0 d'.0 p'.0, viewers_done vs ws all.1 m'.1 d'.1 p'.1)
+      → list_any is_viewer_memory (viewer_ends ws) ≡ false → list_any is_viewer_fault (viewer_ends ws) ≡ false → list_any is_viewer_spent (viewer_ends ws) ≡ false → EachOf IsDoneViewer vs ws
+  viewers_done vs ws all m d p =
+      let one = each_by outcome is_viewer_memory Did (λ v w. Did v w × (is_viewer_memory w.outcome ≡ false)) (λ v w a e. (a, e)) vs ws (all_did vs ws all) m in
+      let two = each_by outcome is_viewer_fault (λ v w. Did v w × (is_viewer_memory w.outcome ≡ false)) (λ v w. (Did v w × (is_viewer_memory w.outcome ≡ false)) × (is_viewer_fault w.outcome ≡ false)) (λ v w a e. (a, e)) vs ws one d in
+      each_by outcome is_viewer_spent (λ v w. (Did v w × (is_viewer_memory w.outcome ≡ false)) × (is_viewer_fault w.outcome ≡ false)) IsDoneViewer (λ v w a e. done_one w.door v.faults w.faults w.served w.outcome a.0.0 a.0.1 a.1 e) vs ws two p
 
-  pub viewers_failed : (vs ws : List (Watcher L)) → HaveViewed traffic np birth vs ws → list_any is_viewer_fault (viewer_ends ws) ≡ true → SomeViewer HasFailedViewer vs ws
-  viewers_failed [] [] all d = absurd (cc d)
-  viewers_failed [] (w ∷ ws) all d = absurd all
-  viewers_failed (v ∷ vs) [] all d = absurd all
-  viewers_failed (v ∷ vs) (w ∷ ws) all d =
-      elim (one_on (is_viewer_fault w.outcome) (list_any is_viewer_fault (viewer_ends ws)) d) [
-        | inl one ↦ inl (failed_one w.door v.faults w.faults w.served w.outcome all.0.1.cause one)
-        | inr more ↦ inr (viewers_failed vs ws all.1 more)
-      ]
+  pub viewers_failed : (vs ws : List (Watcher L)) → HaveViewed traffic np birth vs ws → list_any is_viewer_fault (viewer_ends ws) ≡ true → SomeOf HasFailedViewer vs ws
+  viewers_failed vs ws all = some_by outcome is_viewer_fault Did HasFailedViewer (λ v w a e. failed_one w.door v.faults w.faults w.served w.outcome a e) vs ws (all_did vs ws all)
 
-  pub viewers_spent : (vs ws : List (Watcher L)) → HaveViewed traffic np birth vs ws → list_any is_viewer_spent (viewer_ends ws) ≡ true → SomeViewer IsSpentViewer vs ws
-  viewers_spent [] [] all p = absurd (cc p)
-  viewers_spent [] (w ∷ ws) all p = absurd all
-  viewers_spent (v ∷ vs) [] all p = absurd all
-  viewers_spent (v ∷ vs) (w ∷ ws) all p =
-      elim (one_on (is_viewer_spent w.outcome) (list_any is_viewer_spent (viewer_ends ws)) p) [
-        | inl one ↦ inl (spent_one w.outcome one)
-        | inr more ↦ inr (viewers_spent vs ws all.1 more)
-      ]
+  pub viewers_spent : (vs ws : List (Watcher L)) → HaveViewed traffic np birth vs ws → list_any is_viewer_spent (viewer_ends ws) ≡ true → SomeOf IsSpentViewer vs ws
+  viewers_spent vs ws all = some_by outcome is_viewer_spent Did IsSpentViewer (λ v w a e. spent_one w.outcome e) vs ws (all_did vs ws all)
 
-  pub viewers_sound : (vs ws : List (Watcher L)) → HaveViewed traffic np birth vs ws → list_any is_viewer_fault (viewer_ends ws) ≡ false → EachViewer IsSoundViewer vs ws
-  viewers_sound [] [] all d = tt
-  viewers_sound [] (w ∷ ws) all d = absurd all
-  viewers_sound (v ∷ vs) [] all d = absurd all
-  viewers_sound (v ∷ vs) (w ∷ ws) all d =
-      let d' = both_off (is_viewer_fault w.outcome) (list_any is_viewer_fault (viewer_ends ws)) d in (d'.0, viewers_sound vs ws all.1 d'.1)
+  pub viewers_lacking : (vs ws : List (Watcher L)) → HaveViewed traffic np birth vs ws → list_any is_viewer_memory (viewer_ends ws) ≡ true → SomeOf LacksViewerMemory vs ws
+  viewers_lacking vs ws all = some_by outcome is_viewer_memory Did LacksViewerMemory (λ v w a e. lacking_one w.outcome e) vs ws (all_did vs ws all)
 
-  pub viewers_unharmed : (vs ws : List (Watcher L)) → HaveViewed traffic np birth vs ws → EachViewer IsUnharmedViewer vs ws
+  pub viewers_sound : (vs ws : List (Watcher L)) → HaveViewed traffic np birth vs ws → list_any is_viewer_fault (viewer_ends ws) ≡ false → EachOf IsSoundViewer vs ws
+  viewers_sound vs ws all = each_by outcome is_viewer_fault Did IsSoundViewer (λ v w a e. e) vs ws (all_did vs ws all)
+
+  pub viewers_unharmed : (vs ws : List (Watcher L)) → HaveViewed traffic np birth vs ws → EachOf IsUnharmedViewer vs ws
       → (list_any is_viewer_fault (viewer_ends ws) ≡ false) × (list_any is_viewer_spent (viewer_ends ws) ≡ false)
-  viewers_unharmed [] [] all fine = (refl, refl)
-  viewers_unharmed [] (w ∷ ws) all fine = absurd all
-  viewers_unharmed (v ∷ vs) [] all fine = absurd all
-  viewers_unharmed (v ∷ vs) (w ∷ ws) all fine =
-      let more = viewers_unharmed vs ws all.1 fine.1 in (
-        none_on (is_viewer_fault w.outcome) (list_any is_viewer_fault (viewer_ends ws)) (sound_one w.door v.faults w.faults w.served w.outcome all.0.1.cause fine.0.0) more.0,
-        none_on (is_viewer_spent w.outcome) (list_any is_viewer_spent (viewer_ends ws)) fine.0.1 more.1,
-      )
-
--- the other way: from the causes to what the ends say
-module _ {L : Type 0} where
-  pub crew_failed : (js ks : List (Crewman L)) → SomeOf HasFailed js ks → list_any is_door_fault (ends_of ks) ≡ true
-  crew_failed [] ks some = absurd some
-  crew_failed (j ∷ js) [] some = absurd some
-  crew_failed (j ∷ js) (k ∷ ks) (inl one) = left_on (is_door_fault k.outcome) (list_any is_door_fault (ends_of ks)) (ap is_door_fault one.0)
-  crew_failed (j ∷ js) (k ∷ ks) (inr more) = right_on (is_door_fault k.outcome) (list_any is_door_fault (ends_of ks)) (crew_failed js ks more)
-
-  pub crew_spent : (js ks : List (Crewman L)) → SomeOf IsSpent js ks → list_any is_spent (ends_of ks) ≡ true
-  crew_spent [] ks some = absurd some
-  crew_spent (j ∷ js) [] some = absurd some
-  crew_spent (j ∷ js) (k ∷ ks) (inl one) = left_on (is_spent k.outcome) (list_any is_spent (ends_of ks)) one
-  crew_spent (j ∷ js) (k ∷ ks) (inr more) = right_on (is_spent k.outcome) (list_any is_spent (ends_of ks)) (crew_spent js ks more)
-
-  pub crew_sound : (js ks : List (Crewman L)) → EachOf IsSound js ks → list_any is_door_fault (ends_of ks) ≡ false
-  crew_sound [] [] each = refl
-  crew_sound [] (k ∷ ks) each = absurd each
-  crew_sound (j ∷ js) [] each = absurd each
-  crew_sound (j ∷ js) (k ∷ ks) each = none_on (is_door_fault k.outcome) (list_any is_door_fault (ends_of ks)) each.0 (crew_sound js ks each.1)
-
-  pub crew_done : (js ks : List (Crewman L)) → EachOf IsDone js ks → (list_any is_memory (ends_of ks) ≡ false) × (list_any is_door_fault (ends_of ks) ≡ false) × (list_any is_spent (ends_of ks) ≡ false)
-  crew_done [] [] each = (refl, refl, refl)
-  crew_done [] (k ∷ ks) each = absurd each
-  crew_done (j ∷ js) [] each = absurd each
-  crew_done (j ∷ js) (k ∷ ks) each =
-      let more = crew_done js ks each.1 in (
-        none_on (is_memory k.outcome) (list_any is_memory (ends_of ks)) (ap is_memory each.0) more.0,
-        none_on (is_door_fault k.outcome) (list_any is_door_fault (ends_of ks)) (ap is_door_fault each.0) more.1,
-        none_on (is_spent k.outcome) (list_any is_spent (ends_of ks)) (ap is_spent each.0) more.2,
-      )
-
-  pub views_failed : (vs ws : List (Watcher L)) → SomeViewer HasFailedViewer vs ws → list_any is_viewer_fault (viewer_ends ws) ≡ true
-  views_failed [] ws some = absurd some
-  views_failed (v ∷ vs) [] some = absurd some
-  views_failed (v ∷ vs) (w ∷ ws) (inl one) = left_on (is_viewer_fault w.outcome) (list_any is_viewer_fault (viewer_ends ws)) (ap is_viewer_fault one.0)
-  views_failed (v ∷ vs) (w ∷ ws) (inr more) = right_on (is_viewer_fault w.outcome) (list_any is_viewer_fault (viewer_ends ws)) (views_failed vs ws more)
-
-  pub views_spent : (vs ws : List (Watcher L)) → SomeViewer IsSpentViewer vs ws → list_any is_viewer_spent (viewer_ends ws) ≡ true
-  views_spent [] ws some = absurd some
-  views_spent (v ∷ vs) [] some = absurd some
-  views_spent (v ∷ vs) (w ∷ ws) (inl one) = left_on (is_viewer_spent w.outcome) (list_any is_viewer_spent (viewer_ends ws)) (ap is_viewer_spent one)
-  views_spent (v ∷ vs) (w ∷ ws) (inr more) = right_on (is_viewer_spent w.outcome) (list_any is_viewer_spent (viewer_ends ws)) (views_spent vs ws more)
-
-  pub views_sound : (vs ws : List (Watcher L)) → EachViewer IsSoundViewer vs ws → list_any is_viewer_fault (viewer_ends ws) ≡ false
-  views_sound [] [] each = refl
-  views_sound [] (w ∷ ws) each = absurd each
-  views_sound (v ∷ vs) [] each = absurd each
-  views_sound (v ∷ vs) (w ∷ ws) each = none_on (is_viewer_fault w.outcome) (list_any is_viewer_fault (viewer_ends ws)) each.0 (views_sound vs ws each.1)
-
-  pub views_done : (vs ws : List (Watcher L)) → EachViewer IsDoneViewer vs ws
-      → (list_any is_viewer_memory (viewer_ends ws) ≡ false) × (list_any is_viewer_fault (viewer_ends ws) ≡ false) × (list_any is_viewer_spent (viewer_ends ws) ≡ false)
-  views_done [] [] each = (refl, refl, refl)
-  views_done [] (w ∷ ws) each = absurd each
-  views_done (v ∷ vs) [] each = absurd each
-  views_done (v ∷ vs) (w ∷ ws) each =
-      let more = views_done vs ws each.1 in (
-        none_on (is_viewer_memory w.outcome) (list_any is_viewer_memory (viewer_ends ws)) (ap is_viewer_memory each.0) more.0,
-        none_on (is_viewer_fault w.outcome) (list_any is_viewer_fault (viewer_ends ws)) (ap is_viewer_fault each.0) more.1,
-        none_on (is_viewer_spent w.outcome) (list_any is_viewer_spent (viewer_ends ws)) (ap is_viewer_spent each.0) more.2,
-      )
-
-  -- before they begin
-  abbrev pub AreFresh : List (Crewman L) → Type 0
-  AreFresh [] = Unit {0}
-  AreFresh (k ∷ ks) = (k.outcome ≡ worker_ends.Fresh) × AreFresh ks
-
-  abbrev pub AreFreshViewers : List (Watcher L) → Type 0
-  AreFreshViewers [] = Unit {0}
-  AreFreshViewers (w ∷ ws) = (w.outcome ≡ Fresh) × AreFreshViewers ws
-
-  pub fresh_unfailed : (js ks : List (Crewman L)) → AreFresh ks → SomeOf HasFailed js ks → ⊥
-  fresh_unfailed [] ks fresh some = some
-  fresh_unfailed (j ∷ js) [] fresh some = some
-  fresh_unfailed (j ∷ js) (k ∷ ks) fresh (inl one) = let no : worker_ends.Fresh ≡ worker_ends.DoorFault = sym fresh.0 ∙ one.0 in absurd (cc no)
-  fresh_unfailed (j ∷ js) (k ∷ ks) fresh (inr more) = fresh_unfailed js ks fresh.1 more
-
-  pub fresh_unspent : (js ks : List (Crewman L)) → AreFresh ks → SomeOf IsSpent js ks → ⊥
-  fresh_unspent [] ks fresh some = some
-  fresh_unspent (j ∷ js) [] fresh some = some
-  fresh_unspent (j ∷ js) (k ∷ ks) fresh (inl one) = let no : false ≡ true = ap is_spent (sym fresh.0) ∙ one in absurd (cc no)
-  fresh_unspent (j ∷ js) (k ∷ ks) fresh (inr more) = fresh_unspent js ks fresh.1 more
-
-  pub fresh_undone : (js ks : List (Crewman L)) → AreFresh ks → (ks ≡ [] → ⊥) → EachOf IsDone js ks → ⊥
-  fresh_undone [] [] fresh some each = some refl
-  fresh_undone [] (k ∷ ks) fresh some each = each
-  fresh_undone (j ∷ js) [] fresh some each = each
-  fresh_undone (j ∷ js) (k ∷ ks) fresh some each = let no : worker_ends.Fresh ≡ worker_ends.Done = sym fresh.0 ∙ each.0 in absurd (cc no)
-
-  pub fresh_viewers_unfailed : (vs ws : List (Watcher L)) → AreFreshViewers ws → SomeViewer HasFailedViewer vs ws → ⊥
-  fresh_viewers_unfailed [] ws fresh some = some
-  fresh_viewers_unfailed (v ∷ vs) [] fresh some = some
-  fresh_viewers_unfailed (v ∷ vs) (w ∷ ws) fresh (inl one) = let no : Fresh ≡ DoorFault = sym fresh.0 ∙ one.0 in absurd (cc no)
-  fresh_viewers_unfailed (v ∷ vs) (w ∷ ws) fresh (inr more) = fresh_viewers_unfailed vs ws fresh.1 more
-
-  pub fresh_viewers_unspent : (vs ws : List (Watcher L)) → AreFreshViewers ws → SomeViewer IsSpentViewer vs ws → ⊥
-  fresh_viewers_unspent [] ws fresh some = some
-  fresh_viewers_unspent (v ∷ vs) [] fresh some = some
-  fresh_viewers_unspent (v ∷ vs) (w ∷ ws) fresh (inl one) = let no : Fresh ≡ Enough = sym fresh.0 ∙ one in absurd (cc no)
-  fresh_viewers_unspent (v ∷ vs) (w ∷ ws) fresh (inr more) = fresh_viewers_unspent vs ws fresh.1 more
+  viewers_unharmed vs ws all fine = (
+    none_by outcome is_viewer_fault (λ v w. Did v w × IsUnharmedViewer v w) (λ v w a. sound_one w.door v.faults w.faults w.served w.outcome a.0 a.1.0) vs ws (both_of Did IsUnharmedViewer vs ws (all_did vs ws all) fine),
+    none_by outcome is_viewer_spent IsUnharmedViewer (λ v w a. a.1) vs ws fine,
+  )

@@ -10,7 +10,7 @@ use Rattle.policy_words.specs.Naming.{NamedPolicy}
 use Rattle.policy_commands.specs.Ends.{told}
 use Rattle.request_text.specs.Replies.{log_text}
 use Rattle.policy_commands.specs.Printing.{IsPrinted}
-use Rattle.gtrbac_daemon.specs.Daemon.{or_failed, IsWritten}
+use Rattle.gtrbac_daemon.specs.Runs.{or_failed, IsWritten}
 use Rattle.gtrbac_daemon.specs.Views.{first_above, late_line, views_text}
 
 -- an option that is not Some is None

@@ -22,8 +22,8 @@ use Rattle.request_text.specs.Named.{has_actor, has_request, has_reply, has_step
 use Rattle.core_machine.specs.Books.{BookView, IsBook, model_in}
 use Rattle.history_laws.specs.Named.{IsNamedStep, AreNamed}
 use Rattle.connection_laws.specs.Desks.{RepliesCanBeTold}
-use Rattle.snapshot_readers.specs.Ledgers.{IsLegalLedger}
-use Rattle.snapshot_readers.proofs.Serving.{book_is_served}
+use Rattle.core_machine.specs.Ledgers.{IsLegalLedger}
+use Rattle.ledger_laws.proofs.Serving.{book_is_served}
 
 module _ (p : Policy) where
   abbrev Asks : Actor → Request → Type 0

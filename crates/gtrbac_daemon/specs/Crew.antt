@@ -68,22 +68,21 @@ status_among ws =
     status_by (list_any (λ w. is_memory w.outcome) ws) (list_any (λ w. is_door_fault w.outcome) ws)
     (list_any (λ w. is_spent w.outcome) ws)
 
+module _ {A : Type 0} (P : A → A → Type 0) where
+  -- of some of those who serve, before and after
+  abbrev pub SomeOf : List A → List A → Type 0
+  SomeOf (j ∷ js) (k ∷ ks) = P j k ⊎ SomeOf js ks
+  SomeOf _ _ = ⊥
+
+  -- of each of them
+  abbrev pub EachOf : List A → List A → Type 0
+  EachOf [] [] = Unit {0}
+  EachOf (j ∷ js) (k ∷ ks) = P j k × EachOf js ks
+  EachOf _ _ = ⊥
+
 module _ {L : Type 0} where
   abbrev pub ends_of : List (Crewman L) → List WorkEnd
   ends_of crew = map (λ (k : Crewman L). k.outcome) crew
-
-  -- of some worker, before and after
-  abbrev pub SomeOf : (Crewman L → Crewman L → Type 0) → List (Crewman L) → List (Crewman L)
-      → Type 0
-  SomeOf P (j ∷ js) (k ∷ ks) = P j k ⊎ SomeOf P js ks
-  SomeOf P _ _ = ⊥
-
-  -- of each worker, before and after
-  abbrev pub EachOf : (Crewman L → Crewman L → Type 0) → List (Crewman L) → List (Crewman L)
-      → Type 0
-  EachOf P [] [] = Unit {0}
-  EachOf P (j ∷ js) (k ∷ ks) = P j k × EachOf P js ks
-  EachOf P _ _ = ⊥
 
   abbrev pub HasFailed : Crewman L → Crewman L → Type 0
   HasFailed j k = (k.outcome ≡ DoorFault) × Rose j.faults k.faults

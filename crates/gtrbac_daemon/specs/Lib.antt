@@ -1,6 +1,7 @@
 pub mod Words
 pub mod Crew
 pub mod PostLists
+pub mod Runs
 pub mod Headline
 pub mod Pages
 pub mod Daemon

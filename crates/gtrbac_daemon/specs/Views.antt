@@ -1,26 +1,20 @@
 -- What a run of the server with viewers leaves, and how it ends.
-use Rattle.std.specs.Prelude.{◌≡◌, ◌⊎◌, ◌≤◌, ◌<◌, ℕ, ◌==◌, ◌++◌, ◌||◌, Bool, true, false, List, [], ◌∷◌, map, length, None, Some, Ok, is_some, nat_lt, codes, decimal, if◌then◌else◌}
+use Rattle.std.specs.Prelude.{◌≡◌, ◌⊎◌, ◌<◌, ℕ, ◌==◌, ◌++◌, ◌||◌, Bool, true, false, List, [], ◌∷◌, map, length, None, Some, is_some, nat_lt, codes, decimal, if◌then◌else◌}
 use Rattle.std.specs.List.{list_any}
 use Rattle.std.specs.declared.option.Option.{Option}
 use Rattle.gt_base.specs.declared.requests.Entry.{Entry}
 use Rattle.gt_io.specs.Causes.{Rose}
-use Rattle.gt_io.specs.Links.{Traffic, Reads}
-use Rattle.gt_io.specs.Streams.{Output}
-use Rattle.gt_io.specs.Shelf.{Contents, Stock}
+use Rattle.gt_io.specs.Links.{Traffic}
 use Rattle.policy_words.specs.Naming.{NamedPolicy}
-use Rattle.policy_commands.specs.Ends.{EndView}
-use Rattle.policy_commands.specs.Policies.{safe_in, HasTextFault, IsUnsafeText}
 use Rattle.request_text.specs.Replies.{log_text}
 use Rattle.snapshot_readers.specs.declared.ends.ViewerEnd.{ViewerEnd}
-use Rattle.snapshot_readers.specs.declared.ends.ViewerEnd.TheVariants.{Fresh, Done, DoorFault, Enough, Memory}
+use Rattle.snapshot_readers.specs.declared.ends.ViewerEnd.TheVariants.{Done, DoorFault, Enough, Memory}
 use Rattle.snapshot_readers.specs.Crew.{all_lens}
 use Rattle.snapshot_readers.specs.Seats.{Watcher, AreTold, HaveViewed}
-use Rattle.policy_commands.specs.Finding.{IsLongPolicy}
-use Rattle.policy_commands.specs.Printing.{IsPrinted, WantsMemory}
-use Rattle.gtrbac_daemon.specs.Words.{views_named, Refuses, Admits, HasText, LacksText}
-use Rattle.gtrbac_daemon.specs.Crew.{Crewman, is_memory, is_door_fault, is_spent, ends_of, SomeOf, EachOf, HasFailed, IsSpent, IsSound, IsDone, IsUnharmed}
-use Rattle.gtrbac_daemon.specs.Headline.{Headline}
-use Rattle.gtrbac_daemon.specs.Daemon.{IsWritten}
+use Rattle.gtrbac_daemon.specs.Words.{views_named}
+use Rattle.gtrbac_daemon.specs.Crew.{Crewman, is_memory, is_door_fault, is_spent, ends_of, SomeOf, EachOf, HasFailed, LacksMemory, IsSpent, IsSound, IsDone, IsUnharmed}
+use Rattle.gtrbac_daemon.specs.Headline.{CrewHeadline}
+use Rattle.gtrbac_daemon.specs.Runs.{Scene, IsWritten, Starves, IsDue, Way, Runs}
 
 -- how a viewer ended, as of a worker
 
@@ -81,95 +75,15 @@ abbrev pub views_text : NamedPolicy → ℕ → List Entry → ℕ → Option �
 views_text np birth h due late =
     if due == 14 then log_text np birth h ++ late_line late (length h) else log_text np birth h
 
--- What is seen of a run's surroundings: the texts of the shelf, how often it failed and how often
--- of these but for what it lacks, the readings of the birth's clock, crew and viewers, what was
--- written, and how often that failed
-pub record ViewScene (L : Type 0) : Type 0 where
-  pub texts : Contents
-  pub shelf_faults : ℕ
-  pub hard_faults : ℕ
-  pub birth : Option (ℕ → ℕ)
+-- who serves: workers and viewers
+pub record Company (L : Type 0) : Type 0 where
   pub crew : List (Crewman L)
   pub viewers : List (Watcher L)
-  pub written : Option (List ℕ)
-  pub faults : ℕ
 
-abbrev pub view_scene : {L : Type 0} → Stock → Option (ℕ → ℕ) → List (Crewman L)
-    → List (Watcher L) → Output → ViewScene L
-view_scene stock birth crew viewers output =
-    record {
-      texts = stock.contents;
-      shelf_faults = stock.faults;
-      hard_faults = stock.hard_faults;
-      birth = birth;
-      crew = crew;
-      viewers = viewers;
-      written = output.written;
-      faults = output.faults;
-    }
+abbrev pub company : {L : Type 0} → List (Crewman L) → List (Watcher L) → Company L
+company crew viewers = record { crew = crew; viewers = viewers }
 
 module _ {L : Type 0} where
-  -- there was no memory, nothing was written, and nobody was served
-  pub record ViewStarves (status : ℕ) (a b : ViewScene L) : Type 0 where
-    pub nothing : WantsMemory status a.written b.written a.faults b.faults
-    pub crew : b.crew ≡ a.crew
-    pub viewers : b.viewers ≡ a.viewers
-
-  -- Crew and viewers have served from this birth, and the log of the crew's history is written with
-  -- its status, which for want of memory may be 8. Each viewer's replies are of beginnings of one
-  -- history that goes on from the crew's; where there was no memory to see to that, the status is 8
-  pub record ViewHasServed (traffic : L → Traffic) (np : NamedPolicy) (birth : ℕ) (h : List Entry)
-      (status : ℕ) (a b : ViewScene L) : Type 0 where
-    pub headline : Headline traffic np birth a.crew b.crew h
-    pub due : ℕ
-    pub due_is : (due ≡ views_status h b.crew b.viewers) ⊎ (due ≡ 8)
-    pub viewed : AreTold traffic np birth h a.viewers b.viewers
-        ⊎ ((due ≡ 8) × HaveViewed traffic np birth a.viewers b.viewers)
-    pub written : IsWritten due (views_text np birth h due (first_late h b.viewers)) status
-        a.written b.written a.faults b.faults
-
-  -- the birth is the one reading of its clock; for want of memory nobody was served
-  pub record ViewServes (traffic : L → Traffic) (np : NamedPolicy) (h : List Entry) (status : ℕ)
-      (a b : ViewScene L) : Type 0 where
-    pub birth : ℕ
-    pub reads : Reads a.birth b.birth (birth ∷ [])
-    pub ends : ViewHasServed traffic np birth h status a b ⊎ ViewStarves status a b
-
-  -- something keeps the program from serving, and is printed; no clock is read, and but for what
-  -- the shelf lacks it failed only where 4 is told
-  pub record ViewIsKept (name : Option (List ℕ)) (status : ℕ) (a b : ViewScene L) : Type 0 where
-    pub told : EndView
-    pub cause : Refuses (Rose a.hard_faults b.hard_faults) a.texts name told
-    pub failed : told.status ≡ 4 → Rose a.shelf_faults b.shelf_faults
-    pub steady : (told.status ≡ 4) ⊎ (b.hard_faults ≡ a.hard_faults)
-    pub printed : IsPrinted status told a.written b.written a.faults b.faults
-    pub birth : b.birth ≡ a.birth
-    pub crew : b.crew ≡ a.crew
-    pub viewers : b.viewers ≡ a.viewers
-
-  -- A run over the name that its words say, with the history that is served. It serves the policy
-  -- of that name, which is safe, from a shelf that did not fail; or it is kept from that; or there
-  -- was no memory to find out
-  pub record ViewAnswers (traffic : L → Traffic) (name : Option (List ℕ)) (h : List Entry)
-      (status : ℕ) (a b : ViewScene L) : Type 0 where
-    pub runs : ((np : NamedPolicy) × Admits a.texts name np × (b.hard_faults ≡ a.hard_faults)
-        × ViewServes traffic np h status a b)
-        ⊎ ViewIsKept name status a b
-        ⊎ (ViewStarves status a b × (b.birth ≡ a.birth))
-
-  -- of some viewer, before and after
-  abbrev pub SomeViewer : (Watcher L → Watcher L → Type 0) → List (Watcher L) → List (Watcher L)
-      → Type 0
-  SomeViewer P (v ∷ vs) (w ∷ ws) = P v w ⊎ SomeViewer P vs ws
-  SomeViewer P _ _ = ⊥
-
-  -- of each viewer, before and after
-  abbrev pub EachViewer : (Watcher L → Watcher L → Type 0) → List (Watcher L) → List (Watcher L)
-      → Type 0
-  EachViewer P [] [] = Unit {0}
-  EachViewer P (v ∷ vs) (w ∷ ws) = P v w × EachViewer P vs ws
-  EachViewer P _ _ = ⊥
-
   abbrev pub IsDoneViewer : Watcher L → Watcher L → Type 0
   IsDoneViewer v w = w.outcome ≡ Done
 
@@ -186,81 +100,100 @@ module _ {L : Type 0} where
   abbrev pub IsUnharmedViewer : Watcher L → Watcher L → Type 0
   IsUnharmedViewer v w = (Rose v.faults w.faults → ⊥) × (is_viewer_spent w.outcome ≡ false)
 
+  -- there was no memory for it
+  abbrev pub LacksViewerMemory : Watcher L → Watcher L → Type 0
+  LacksViewerMemory v w = w.outcome ≡ Memory
+
+  -- of somebody, before and after
+  abbrev pub AnyOf : (Crewman L → Crewman L → Type 0) → (Watcher L → Watcher L → Type 0)
+      → Company L → Company L → Type 0
+  AnyOf P Q c d = SomeOf P c.crew d.crew ⊎ SomeOf Q c.viewers d.viewers
+
+  -- of everybody
+  pub record AllOf (P : Crewman L → Crewman L → Type 0) (Q : Watcher L → Watcher L → Type 0)
+      (c d : Company L) : Type 0 where
+    pub crew : EachOf P c.crew d.crew
+    pub viewers : EachOf Q c.viewers d.viewers
+
   -- the doors of all were read to their ends
-  pub record AreDone (a b : ViewScene L) : Type 0 where
-    pub crew : EachOf IsDone a.crew b.crew
-    pub viewers : EachViewer IsDoneViewer a.viewers b.viewers
+  abbrev pub AreDone : Company L → Company L → Type 0
+  AreDone = AllOf IsDone IsDoneViewer
 
   -- no door failed
-  pub record AreSound (a b : ViewScene L) : Type 0 where
-    pub crew : EachOf IsSound a.crew b.crew
-    pub viewers : EachViewer IsSoundViewer a.viewers b.viewers
+  abbrev pub AreSound : Company L → Company L → Type 0
+  AreSound = AllOf IsSound IsSoundViewer
 
   -- a door failed
-  abbrev pub SomeFailed : ViewScene L → ViewScene L → Type 0
-  SomeFailed a b =
-      SomeOf HasFailed a.crew b.crew ⊎ SomeViewer HasFailedViewer a.viewers b.viewers
+  abbrev pub SomeFailed : Company L → Company L → Type 0
+  SomeFailed = AnyOf HasFailed HasFailedViewer
 
-  -- a worker or a viewer has served as many links as it may, or a pass is worn
-  abbrev pub SomeSpent : ViewScene L → ViewScene L → Type 0
-  SomeSpent a b = SomeOf IsSpent a.crew b.crew ⊎ SomeViewer IsSpentViewer a.viewers b.viewers
+  -- somebody has served as many links as it may, or a pass is worn
+  abbrev pub SomeSpent : Company L → Company L → Type 0
+  SomeSpent = AnyOf IsSpent IsSpentViewer
 
-  -- the words name a text that the shelf has, of a safe policy and not too long, and neither shelf
-  -- nor output nor a door failed, nor is a worker or a viewer spent
-  pub record GoesWell (name : Option (List ℕ)) (a b : ViewScene L) : Type 0 where
-    pub text_of : List ℕ → Option (List ℕ)
-    pub told : a.texts ≡ Some text_of
-    pub policy : NamedPolicy
-    pub admitted : Admits a.texts name policy
-    pub shelf : Rose a.hard_faults b.hard_faults → ⊥
-    pub output : Rose a.faults b.faults → ⊥
-    pub crew : EachOf IsUnharmed a.crew b.crew
-    pub viewers : EachViewer IsUnharmedViewer a.viewers b.viewers
+module _ {L : Type 0} (traffic : L → Traffic) (h : List Entry) where
+  -- What was told of the viewers, and which status is due. Each viewer's replies are of beginnings
+  -- of one history that goes on from the crew's, and the status is that of all; or there was no
+  -- memory to name the number that is above the length; or none to see to the replies
+  pub data Compared (np : NamedPolicy) (birth due : ℕ) (c d : Company L) : Type 0 where
+    seen : due ≡ views_status h d.crew d.viewers → AreTold traffic np birth h c.viewers d.viewers
+        → Compared np birth due c d
+    unnamed : due ≡ 8 → views_status h d.crew d.viewers ≡ 14
+        → AreTold traffic np birth h c.viewers d.viewers → Compared np birth due c d
+    unseen : due ≡ 8 → HaveViewed traffic np birth c.viewers d.viewers → Compared np birth due c d
 
-module _ {L : Type 0} (name : Option (List ℕ)) (h : List Entry) (status : ℕ) (a b : ViewScene L)
-  where
-    -- Each status has its cause. These are all statuses
+  -- crew and viewers have served from this birth, and the log of the crew's history is written with
+  -- its status
+  pub record ViewHasServed (np : NamedPolicy) (birth status : ℕ) (a b : Scene (Company L)) : Type 0
+      where
+    pub headline : CrewHeadline traffic np birth a.server.crew b.server.crew h
+    pub due : ℕ
+    pub compared : Compared np birth due a.server b.server
+    pub written : IsWritten due (views_text np birth h due (first_late h b.server.viewers)) status
+        a.written b.written a.faults b.faults
+
+  -- There was no memory: for a worker or a viewer, to name a number that is above the length, or to
+  -- see to the replies of the viewers
+  pub data Lacks (c d : Company L) : Type 0 where
+    for_somebody : AnyOf LacksMemory LacksViewerMemory c d → Lacks c d
+    to_name : (n : ℕ) → AreDone c d → first_late h d.viewers ≡ Some n → Lacks c d
+    to_compare : (np : NamedPolicy) (birth : ℕ) → HaveViewed traffic np birth c.viewers d.viewers
+        → Lacks c d
+
+  module _ (status : ℕ) (a b : Scene (Company L)) where
+    -- the statuses of a crew and its viewers, each with its cause
     pub data ViewCause : Type 0 where
-      done : status ≡ 0 → AreDone a b → first_late h b.viewers ≡ None → ViewCause
-      no_command : status ≡ 1 → name ≡ None → ViewCause
-      faulty : status ≡ 2 → HasText name a.texts HasTextFault → ViewCause
-      unsafe : status ≡ 3 → HasText name a.texts IsUnsafeText → ViewCause
-      unread : status ≡ 4 → Rose a.shelf_faults b.shelf_faults
-          → Rose a.hard_faults b.hard_faults ⊎ LacksText name a.texts → ViewCause
-      unwritten : status ≡ 5 → Rose a.faults b.faults → ViewCause
-      long : status ≡ 6 → HasText name a.texts IsLongPolicy → ViewCause
-      memory : status ≡ 8 → ViewCause
-      failed : status ≡ 10 → SomeFailed a b → ViewCause
-      spent : status ≡ 11 → SomeSpent a b → AreSound a b → ViewCause
-      late : (n : ℕ) → status ≡ 14 → AreDone a b → first_late h b.viewers ≡ Some n → ViewCause
+      done : status ≡ 0 → AreDone a.server b.server → first_late h b.server.viewers ≡ None
+          → ViewCause
+      memory : status ≡ 8 → Lacks a.server b.server ⊎ Starves status a b → ViewCause
+      failed : status ≡ 10 → SomeFailed a.server b.server → ViewCause
+      spent : status ≡ 11 → SomeSpent a.server b.server → AreSound a.server b.server → ViewCause
+      late : (n : ℕ) → status ≡ 14 → AreDone a.server b.server
+          → first_late h b.server.viewers ≡ Some n → ViewCause
 
-    -- the status is this one, but for an output that failed
-    abbrev pub IsToldAs : ℕ → Type 0
-    IsToldAs n = (status ≡ n) ⊎ ((status ≡ 5) × Rose a.faults b.faults)
-
-    -- and but for want of memory
-    abbrev pub IsDue : ℕ → Type 0
-    IsDue n = IsToldAs n ⊎ (status ≡ 8)
-
-    -- and each cause has its status
+    -- and each cause with its status; but for an output that failed, and want of memory
     pub record ViewDues : Type 0 where
-      pub no_command_is : name ≡ None → IsToldAs 1
-      pub failed_is : SomeFailed a b → IsDue 10
-      pub spent_is : SomeSpent a b → AreSound a b → IsDue 11
-      pub late_is : (n : ℕ) → AreDone a b → first_late h b.viewers ≡ Some n → IsDue 14
-      pub done_is : AreDone a b → first_late h b.viewers ≡ None → IsDue 0
+      pub failed_is : SomeFailed a.server b.server → IsDue (Lacks a.server b.server) status a b 10
+      pub spent_is : SomeSpent a.server b.server → AreSound a.server b.server
+          → IsDue (Lacks a.server b.server) status a b 11
+      pub late_is : (n : ℕ) → AreDone a.server b.server → first_late h b.server.viewers ≡ Some n
+          → IsDue (Lacks a.server b.server) status a b 14
+      pub done_is : AreDone a.server b.server → first_late h b.server.viewers ≡ None
+          → IsDue (Lacks a.server b.server) status a b 0
 
--- What `daemon_views` promises over the words, by its status, from its surroundings before to those
--- after: the history of the crew; what was served and written, why it has this status, which status
--- each cause has, that a run that goes well ends with 0 or 14 or for want of memory, and what is
--- left as it was
+  -- no door failed, nor is a worker or a viewer spent, in a run that goes well
+  abbrev pub view_way : Way (Company L)
+  view_way =
+      record {
+        HasServed = ViewHasServed;
+        OwnCause = ViewCause;
+        OwnDues = ViewDues;
+        IsUnharmed = AllOf IsUnharmed IsUnharmedViewer;
+        IsGood = λ status. (status ≡ 0) ⊎ (status ≡ 8) ⊎ (status ≡ 14);
+      }
+
+-- what `daemon_views` promises, over the history of the crew
 pub record RunsViews {L : Type 0} (traffic : L → Traffic) (words : List (List ℕ)) (status : ℕ)
-    (a b : ViewScene L) : Type 0 where
+    (a b : Scene (Company L)) : Type 0 where
   pub history : List Entry
-  pub answers : ViewAnswers traffic (views_named words) history status a b
-  pub cause : ViewCause (views_named words) history status a b
-  pub dues : ViewDues (views_named words) history status a b
-  pub complete : GoesWell (views_named words) a b → (status ≡ 0) ⊎ (status ≡ 8) ⊎ (status ≡ 14)
-  pub texts : b.texts ≡ a.texts
-  pub untouched : views_named words ≡ None
-      → b ≡ record a { written = b.written; faults = b.faults }
+  pub runs : Runs (view_way traffic history) (views_named words) status a b

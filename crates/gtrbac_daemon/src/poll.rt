@@ -6,15 +6,17 @@ ghost use Rattle.turn_lock.specs.Holders.{newcomers};
 ghost use Rattle.turn_lock.specs.Turns.{part};
 ghost use Rattle.request_text.specs.Replies.{log_text};
 ghost use Rattle.core_machine.specs.Books.{SameRoot};
-ghost use Rattle.snapshot_readers.specs.Ledgers.{CanBeServed};
+ghost use Rattle.ledger_laws.specs.Serving.{CanBeServed};
 ghost use Rattle.gt_io.specs.Ports.{IsUncalled};
-ghost use Rattle.gtrbac_daemon.specs.Polls.{poll_status, HasPolled, PollHeadline, PollScene, poll_scene, PollServes, AnswersFound, RunsPoll};
+ghost use Rattle.gtrbac_daemon.specs.Runs.{scene, Headline, Serves, AnswersFound};
+ghost use Rattle.gtrbac_daemon.specs.Polls.{poll_status, polling, HasPolled, poll_way, RunsPoll};
 
 use crate::finding::find_policy;
 use crate::printing::{USAGE, write_up};
 use crate::serving::open;
 use crate::words::poll_word;
 use connection_laws::Server;
+use core_machine::Ledger;
 use gt_base::{Instant, List, Memory};
 use gt_io::{Clock, Gate, Ports, Shelf, Sink};
 use locked_history::Desk;
@@ -23,7 +25,6 @@ use policy_commands::{Admitted, print};
 use policy_safety::Safe;
 use poll_front::{Polled, RunEnd, run};
 use request_text::Page;
-use snapshot_readers::Ledger;
 use std::alloc::{AllocError, Global};
 use std::sync::Wait;
 use turn_lock::Passes;
@@ -55,9 +56,9 @@ fn poll_and_close<R: Wait, P: Ports, C: Clock, G: Gate>(
     requires none { ends.old.items ≡ [] }
     requires ports { IsUncalled (P.harbour ports.old) }
     ensures root { SameRoot desk.root result.0 }
-    ensures polled { HasPolled desk.root.named desk.root.birth (C.readings clock.old)
-        (C.readings clock.new) (P.harbour ports.old) (P.harbour ports.new) ends.new.items
-        result.0.entries result.1 }
+    ensures polled { HasPolled desk.root.named desk.root.birth result.0.entries
+        (polling (C.readings clock.old) (P.harbour ports.old) ends.old.items)
+        (polling (C.readings clock.new) (P.harbour ports.new) ends.new.items) result.1 }
     ensures others { (n : ℕ) → 1 ≤ n → part n result.0.entries ≡ [] }
 {
     let last = passes.take();
@@ -93,8 +94,9 @@ fn poll_from<R: Wait, P: Ports, C: Clock, G: Gate>(
         × (clock.new ≡ clock.old)) }
     ensures root { IfOk result (λ t. (t.0.named ≡ safe) × (t.0.birth ≡ birth)) }
     ensures headline { IfOk result
-        (λ t. PollHeadline safe birth (C.readings clock.old) (C.readings clock.new)
-        (P.harbour ports.old) (P.harbour ports.new) ends.new.items t.0.entries t.1) }
+        (λ t. Headline safe birth t.0.entries 1 (HasPolled safe birth t.0.entries
+        (polling (C.readings clock.old) (P.harbour ports.old) ends.old.items)
+        (polling (C.readings clock.new) (P.harbour ports.new) ends.new.items) t.1)) }
 {
     safe.keeps();
     let Ok(policy) = safe.policy().copied() else {
@@ -138,11 +140,11 @@ fn poll_serve<R: Wait, B: Clock, P: Ports, C: Clock, G: Gate, K: Sink>(
 ) -> u8
     requires none { ends.old.items ≡ [] }
     requires ports { IsUncalled (P.harbour ports.old) }
-    ensures { (stock stock' : Stock) → PollServes safe result
-        (poll_scene stock (B.readings birth.old) (C.readings clock.old)
-        (P.harbour ports.old) ends.old.items (K.output out.old))
-        (poll_scene stock' (B.readings birth.new) (C.readings clock.new)
-        (P.harbour ports.new) ends.new.items (K.output out.new)) }
+    ensures { (stock stock' : Stock) → Serves poll_way safe result
+        (scene stock (B.readings birth.old)
+        (polling (C.readings clock.old) (P.harbour ports.old) ends.old.items) (K.output out.old))
+        (scene stock' (B.readings birth.new)
+        (polling (C.readings clock.new) (P.harbour ports.new) ends.new.items) (K.output out.new)) }
 {
     let minute = birth.now();
     let Ok(mut page) = Page::new(means.alloc) else {
@@ -167,11 +169,11 @@ fn poll_found<R: Wait, B: Clock, P: Ports, C: Clock, G: Gate, K: Sink>(
 ) -> u8
     requires none { ends.old.items ≡ [] }
     requires ports { IsUncalled (P.harbour ports.old) }
-    ensures { (stock stock' : Stock) → AnswersFound found result
-        (poll_scene stock (B.readings birth.old) (C.readings clock.old)
-        (P.harbour ports.old) ends.old.items (K.output out.old))
-        (poll_scene stock' (B.readings birth.new) (C.readings clock.new)
-        (P.harbour ports.new) ends.new.items (K.output out.new)) }
+    ensures { (stock stock' : Stock) → AnswersFound poll_way found result
+        (scene stock (B.readings birth.old)
+        (polling (C.readings clock.old) (P.harbour ports.old) ends.old.items) (K.output out.old))
+        (scene stock' (B.readings birth.new)
+        (polling (C.readings clock.new) (P.harbour ports.new) ends.new.items) (K.output out.new)) }
 {
     match found {
         Admitted::Safe(safe) => poll_serve(means, safe, birth, ports, clock, ends, out),
@@ -207,10 +209,10 @@ pub fn daemon_poll<R: Wait, S: Shelf, B: Clock, P: Ports, C: Clock, G: Gate, K: 
     requires none { ends.old.items ≡ [] }
     requires ports { IsUncalled (P.harbour ports.old) }
     ensures runs { RunsPoll (map string_bytes words.now) result
-        (poll_scene (S.stock shelf.old) (B.readings birth.old)
-        (C.readings clock.old) (P.harbour ports.old) ends.old.items (K.output out.old))
-        (poll_scene (S.stock shelf.new) (B.readings birth.new)
-        (C.readings clock.new) (P.harbour ports.new) ends.new.items (K.output out.new)) }
+        (scene (S.stock shelf.old) (B.readings birth.old)
+        (polling (C.readings clock.old) (P.harbour ports.old) ends.old.items) (K.output out.old))
+        (scene (S.stock shelf.new) (B.readings birth.new)
+        (polling (C.readings clock.new) (P.harbour ports.new) ends.new.items) (K.output out.new)) }
     ensures once { AsksOnce (S.stock shelf.old) (S.stock shelf.new) }
 {
     match poll_word(words) {

@@ -5,14 +5,14 @@ ghost use Rattle.gt_io.specs.Causes.{HasCause, AppendsPart};
 ghost use Rattle.request_text.specs.Fitting.{FitPages};
 ghost use Rattle.request_text.specs.Replies.{log_text};
 ghost use Rattle.request_text.specs.declared.entries.TheConstants.{LONGEST_ENTRY};
-ghost use Rattle.gtrbac_daemon.specs.Daemon.{or_failed, IsWritten};
+ghost use Rattle.gtrbac_daemon.specs.Runs.{or_failed, IsWritten};
 ghost use Rattle.gtrbac_daemon.specs.Pages.{IsBlank, WritesPage, text_from};
 
+use core_machine::Ledger;
 use gt_base::Entry;
 use gt_io::{Failed, Sink, write_all};
 use policy_book::Policy;
 use request_text::{Page, put_birth, put_entries};
-use snapshot_readers::Ledger;
 
 /// What is printed where the words are no command.
 pub(crate) const USAGE: &[u8] = b"usage: gtrbacd POLICY | views POLICY | poll POLICY\n";

@@ -3,19 +3,19 @@ ghost use Rattle.std.specs.Prelude.{◌≡◌, ◌≤◌, ℕ, [], length, vec_c
 ghost use Rattle.turn_lock.specs.Holders.{newcomers};
 ghost use Rattle.turn_lock.specs.Turns.{part};
 ghost use Rattle.core_machine.specs.Books.{SameRoot};
-ghost use Rattle.snapshot_readers.specs.Ledgers.{CanBeServed};
+ghost use Rattle.ledger_laws.specs.Serving.{CanBeServed};
 ghost use Rattle.gtrbac_daemon.specs.Crew.{IsNew, crewmen};
-ghost use Rattle.gtrbac_daemon.specs.Headline.{HaveWorked, Headline};
+ghost use Rattle.gtrbac_daemon.specs.Headline.{HaveWorked, CrewHeadline};
 
 use crate::crews::{man, relieve};
-use core_machine::Book;
+use core_machine::{Book, Ledger};
 use gt_base::{Instant, Memory};
 use gt_io::{Clock, Door, Gate};
+use ledger_laws::ledgers_can_be_served;
 use line_server::{Post, Worker, run_posts};
 use locked_history::Desk;
 use policy_book::Policy;
 use policy_safety::Safe;
-use snapshot_readers::Ledger;
 use std::alloc::{AllocError, Global};
 use std::sync::Wait;
 use std::thread::Threads;
@@ -96,7 +96,11 @@ pub(crate) fn open(alloc: Global, safe: Safe, birth: Instant) -> Result<Ledger, 
     ensures served { IfOk result (λ l. CanBeServed l) }
 {
     match Book::new(alloc, safe, birth) {
-        Ok(book) => Ledger::new(alloc, book),
+        Ok(book) => {
+            let ledger = Ledger::new(alloc, book)?;
+            ledgers_can_be_served(&ledger);
+            Ok(ledger)
+        }
         Err(_) => Err(AllocError),
     }
 }
@@ -117,7 +121,7 @@ where
     ensures err { OnErr result (crew.new ≡ crew.old) }
     ensures root { IfOk result (λ closed. (closed.named ≡ safe) × (closed.birth ≡ birth)) }
     ensures headline { IfOk result
-        (λ closed. Headline D.L.traffic safe birth
+        (λ closed. CrewHeadline D.L.traffic safe birth
         (crewmen C.readings D.links D.faults crew.old.items)
         (crewmen C.readings D.links D.faults crew.new.items) closed.entries) }
 {

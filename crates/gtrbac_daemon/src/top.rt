@@ -1,10 +1,10 @@
 //! The one call of the server: from words, policy, clocks and links to the log and the exit status.
 ghost use Rattle.std.specs.Prelude.{◌≡◌, ◌≤◌, ℕ, List, Some, None, map, string_bytes, length, All};
-ghost use Rattle.gt_io.specs.Causes.{Rose};
 ghost use Rattle.gt_io.specs.Shelf.{AsksOnce, Stock};
 ghost use Rattle.gtrbac_daemon.specs.Words.{policy_named};
 ghost use Rattle.gtrbac_daemon.specs.Crew.{IsNew, crewmen};
-ghost use Rattle.gtrbac_daemon.specs.Daemon.{scene, Serves, Answers, RunsServer};
+ghost use Rattle.gtrbac_daemon.specs.Runs.{scene, Serves, Answers};
+ghost use Rattle.gtrbac_daemon.specs.Daemon.{crew_way, RunsServer};
 
 use crate::finding::find_policy;
 use crate::printing::{USAGE, write_up};
@@ -40,7 +40,7 @@ where
     D::L: Send,
     requires size { (1 ≤ length crew.old.items) × (length crew.old.items ≤ 8) }
     requires fresh { All (λ w. IsNew w) crew.old.items }
-    ensures { (stock stock' : Stock) → Serves D.L.traffic safe result
+    ensures { (stock stock' : Stock) → Serves (crew_way D.L.traffic) safe result
         (scene stock (B.readings birth.old)
         (crewmen C.readings D.links D.faults crew.old.items) (K.output out.old))
         (scene stock' (B.readings birth.new)
@@ -81,12 +81,11 @@ where
     D::L: Send,
     requires size { (1 ≤ length crew.old.items) × (length crew.old.items ≤ 8) }
     requires fresh { All (λ w. IsNew w) crew.old.items }
-    ensures answers { Answers D.L.traffic (Some name.now) result
+    ensures answers { Answers (crew_way D.L.traffic) (Some name.now) result
         (scene (S.stock shelf.old) (B.readings birth.old)
         (crewmen C.readings D.links D.faults crew.old.items) (K.output out.old))
         (scene (S.stock shelf.new) (B.readings birth.new)
         (crewmen C.readings D.links D.faults crew.new.items) (K.output out.new)) }
-    ensures failed { result ≡ 4 → Rose (S.stock shelf.old).faults (S.stock shelf.new).faults }
     ensures same { (S.stock shelf.new).contents ≡ (S.stock shelf.old).contents }
     ensures once { AsksOnce (S.stock shelf.old) (S.stock shelf.new) }
 {

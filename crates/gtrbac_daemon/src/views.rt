@@ -5,7 +5,8 @@ ghost use Rattle.gt_base.specs.declared.requests.Entry.{Entry};
 ghost use Rattle.gt_io.specs.Shelf.{AsksOnce, Stock};
 ghost use Rattle.snapshot_readers.specs.Seats.{watchers, IsNewViewer};
 ghost use Rattle.gtrbac_daemon.specs.Crew.{IsNew, crewmen};
-ghost use Rattle.gtrbac_daemon.specs.Views.{view_scene, ViewServes, RunsViews};
+ghost use Rattle.gtrbac_daemon.specs.Runs.{scene, Serves};
+ghost use Rattle.gtrbac_daemon.specs.Views.{company, view_way, RunsViews};
 ghost use Rattle.gtrbac_daemon.specs.Words.{views_named};
 
 use crate::finding::find_policy;
@@ -48,13 +49,13 @@ where
     requires few { (1 ≤ length viewers.old.items) × (length viewers.old.items ≤ 8) }
     requires new { All (λ v. IsNewViewer v) viewers.old.items }
     ensures { (stock stock' : Stock) → (h : List Entry)
-        × ViewServes D.L.traffic safe h result
-        (view_scene stock (B.readings birth.old)
-        (crewmen C.readings D.links D.faults crew.old.items)
-        (watchers D.links D.faults viewers.old.items) (K.output out.old))
-        (view_scene stock' (B.readings birth.new)
-        (crewmen C.readings D.links D.faults crew.new.items)
-        (watchers D.links D.faults viewers.new.items) (K.output out.new)) }
+        × Serves (view_way D.L.traffic h) safe result
+        (scene stock (B.readings birth.old)
+        (company (crewmen C.readings D.links D.faults crew.old.items)
+        (watchers D.links D.faults viewers.old.items)) (K.output out.old))
+        (scene stock' (B.readings birth.new)
+        (company (crewmen C.readings D.links D.faults crew.new.items)
+        (watchers D.links D.faults viewers.new.items)) (K.output out.new)) }
 {
     let minute = birth.now();
     let Ok(mut page) = Page::new(alloc) else {
@@ -114,12 +115,12 @@ where
     requires few { (1 ≤ length viewers.old.items) × (length viewers.old.items ≤ 8) }
     requires new { All (λ v. IsNewViewer v) viewers.old.items }
     ensures runs { RunsViews D.L.traffic (map string_bytes words.now) result
-        (view_scene (S.stock shelf.old) (B.readings birth.old)
-        (crewmen C.readings D.links D.faults crew.old.items)
-        (watchers D.links D.faults viewers.old.items) (K.output out.old))
-        (view_scene (S.stock shelf.new) (B.readings birth.new)
-        (crewmen C.readings D.links D.faults crew.new.items)
-        (watchers D.links D.faults viewers.new.items) (K.output out.new)) }
+        (scene (S.stock shelf.old) (B.readings birth.old)
+        (company (crewmen C.readings D.links D.faults crew.old.items)
+        (watchers D.links D.faults viewers.old.items)) (K.output out.old))
+        (scene (S.stock shelf.new) (B.readings birth.new)
+        (company (crewmen C.readings D.links D.faults crew.new.items)
+        (watchers D.links D.faults viewers.new.items)) (K.output out.new)) }
     ensures unread { views_named (map string_bytes words.now) ≡ None
         → (shelf.new ≡ shelf.old) × (birth.new ≡ birth.old) × (crew.new ≡ crew.old)
         × (viewers.new ≡ viewers.old) }

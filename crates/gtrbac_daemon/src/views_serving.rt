@@ -5,30 +5,29 @@ ghost use Rattle.turn_lock.specs.Holders.{site_of, newcomers};
 ghost use Rattle.turn_lock.specs.Turns.{part};
 ghost use Rattle.connection_laws.specs.Turns.{IsIdle};
 ghost use Rattle.connection_laws.specs.Connection.{IsTimed};
-ghost use Rattle.connection_laws.specs.Desks.{MayBeAsked, RepliesCanBeTold};
+ghost use Rattle.connection_laws.specs.Desks.{MayBeAsked, RepliesCanBeTold, GlancesCanBeTold};
 ghost use Rattle.core_machine.specs.Books.{SameRoot};
-ghost use Rattle.snapshot_readers.specs.Ledgers.{CanBeServed};
+ghost use Rattle.ledger_laws.specs.Serving.{CanBeServed};
 ghost use Rattle.snapshot_readers.specs.Glazed.{fresh_glass};
 ghost use Rattle.connection_laws.specs.Services.{service_at};
 ghost use Rattle.line_server.specs.Working.{at_post, HasWorked};
-ghost use Rattle.snapshot_readers.specs.Viewing.{GlancesCanBeTold};
 ghost use Rattle.snapshot_readers.specs.Seats.{watchers, AreTold, HasLooked, HasSettled, HaveViewed, IsNewViewer, IsReadySeat};
 ghost use Rattle.gtrbac_daemon.specs.Crew.{IsNew, crewmen};
-ghost use Rattle.gtrbac_daemon.specs.Headline.{HaveWorked, Headline};
+ghost use Rattle.gtrbac_daemon.specs.Headline.{HaveWorked, CrewHeadline};
 
 use crate::crews::{man, relieve};
 use crate::serving::open;
 use crate::tasks::both;
-use core_machine::Book;
+use core_machine::{Book, Ledger};
 use gt_base::{Instant, Machine, Memory};
 use gt_io::{Clock, Door, Gate};
+use ledger_laws::glances_can_be_told;
 use line_server::{Post, WorkEnd, Worker, run_posts};
 use locked_history::Desk;
 use policy_book::Policy;
 use policy_safety::Safe;
 use snapshot_readers::{
-    Board, Glasses, Ledger, Seat, Viewer, all_told, glances_can_be_told, leave_seats, run_seats,
-    settle_all, take_seats,
+    Board, Glasses, Seat, Viewer, all_told, leave_seats, run_seats, settle_all, take_seats,
 };
 use std::alloc::{AllocError, Global};
 use std::sync::Wait;
@@ -61,9 +60,10 @@ fn open_board<'a, R: Wait>(
 ) -> Result<(Board<'a, R>, Glasses), Memory>
     requires viewers { (1 ≤ viewers) × (viewers ≤ 8) }
     ensures root { IfOk result
-        (λ t. (t.0.named ≡ safe) × (t.0.birth ≡ birth) × (t.0.entries ≡ [])) }
+        (λ t. (t.0.ledger.named ≡ safe) × (t.0.ledger.birth ≡ birth)
+        × (t.0.ledger.entries ≡ [])) }
     ensures glasses { IfOk result (λ t. t.1.items ≡ replicate viewers (fresh_glass safe birth)) }
-    ensures served { IfOk result (λ t. CanBeServed t.0) }
+    ensures served { IfOk result (λ t. CanBeServed t.0.ledger) }
     ensures told { IfOk result (λ t. GlancesCanBeTold safe birth) }
 {
     let left = copy_of(alloc, &safe, birth)?;
@@ -191,10 +191,10 @@ fn settle_up<'a, R: Threads + Wait + Sync, D: Door + Send, G: Gate + Send>(
 ) -> bool
 where
     D::L: Send,
-    ensures board { board.new ≡ board.old }
+    ensures board { board.new.ledger ≡ board.old.ledger }
     ensures seats { length seats.new.items ≡ length seats.old.items }
     ensures settled { (i : ℕ) (d : _) → i < length seats.old.items
-        → HasSettled board.old.entries (slice_index_or seats.old.items i d)
+        → HasSettled board.old.ledger.entries (slice_index_or seats.old.items i d)
         (slice_index_or seats.new.items i d) }
     ensures told { result ≡ list_all (λ s. s.told) seats.new.items }
 {
@@ -217,30 +217,30 @@ fn serve_at<'a, R: Threads + Wait + Sync, D: Door + Send, C: Clock + Send, G: Ga
 ) -> Result<(Ledger, bool), Memory>
 where
     D::L: Send,
-    requires policy { policy.now ≡ board.named }
-    requires served { CanBeServed board }
-    requires empty { board.entries ≡ [] }
-    requires replies { GlancesCanBeTold policy.now board.birth }
+    requires policy { policy.now ≡ board.ledger.named }
+    requires served { CanBeServed board.ledger }
+    requires empty { board.ledger.entries ≡ [] }
+    requires replies { GlancesCanBeTold policy.now board.ledger.birth }
     requires glasses { glasses.items
-        ≡ replicate (length viewers.old.items) (fresh_glass policy.now board.birth) }
+        ≡ replicate (length viewers.old.items) (fresh_glass policy.now board.ledger.birth) }
     requires size { (1 ≤ length crew.old.items) × (length crew.old.items ≤ 8) }
     requires fresh { All (λ w. IsNew w) crew.old.items }
     requires few { length viewers.old.items ≤ 8 }
     requires new { All (λ v. IsNewViewer v) viewers.old.items }
     ensures err { OnErr result ((crew.new ≡ crew.old) × (viewers.new ≡ viewers.old)) }
-    ensures root { IfOk result (λ t. SameRoot board.entry t.0) }
+    ensures root { IfOk result (λ t. SameRoot board.entry.ledger t.0) }
     ensures worked { IfOk result
-        (λ t. HaveWorked D.L.traffic policy.now board.entry.birth t.0.entries 0
+        (λ t. HaveWorked D.L.traffic policy.now board.entry.ledger.birth t.0.entries 0
         (crewmen C.readings D.links D.faults crew.old.items)
         (crewmen C.readings D.links D.faults crew.new.items)) }
     ensures others { IfOk result
         (λ t. (n : ℕ) → length crew.old.items ≤ n → part n t.0.entries ≡ []) }
     ensures viewed { IfOk result
-        (λ t. HaveViewed D.L.traffic policy.now board.entry.birth
+        (λ t. HaveViewed D.L.traffic policy.now board.entry.ledger.birth
         (watchers D.links D.faults viewers.old.items)
         (watchers D.links D.faults viewers.new.items)) }
     ensures told { IfOk result
-        (λ t. t.1 ≡ true → AreTold D.L.traffic policy.now board.entry.birth t.0.entries
+        (λ t. t.1 ≡ true → AreTold D.L.traffic policy.now board.entry.ledger.birth t.0.entries
         (watchers D.links D.faults viewers.old.items)
         (watchers D.links D.faults viewers.new.items)) }
 {
@@ -292,7 +292,7 @@ where
     ensures err { OnErr result ((crew.new ≡ crew.old) × (viewers.new ≡ viewers.old)) }
     ensures root { IfOk result (λ t. (t.0.named ≡ safe) × (t.0.birth ≡ birth)) }
     ensures headline { IfOk result
-        (λ t. Headline D.L.traffic safe birth
+        (λ t. CrewHeadline D.L.traffic safe birth
         (crewmen C.readings D.links D.faults crew.old.items)
         (crewmen C.readings D.links D.faults crew.new.items) t.0.entries) }
     ensures viewed { IfOk result

@@ -1,17 +1,17 @@
 //! What is written at the end of a run with viewers.
 ghost use Rattle.std.specs.Prelude.{◌≡◌, ◌⊎◌, ◌++◌, ℕ, Some, length, IfOk};
 ghost use Rattle.request_text.specs.Replies.{log_text};
-ghost use Rattle.gtrbac_daemon.specs.Daemon.{IsWritten};
+ghost use Rattle.gtrbac_daemon.specs.Runs.{IsWritten};
 ghost use Rattle.gtrbac_daemon.specs.Pages.{IsBlank};
 ghost use Rattle.gtrbac_daemon.specs.Views.{late_line, views_text};
 
 use crate::printing::write_up;
+use core_machine::Ledger;
 use gt_base::Memory;
 use gt_io::Sink;
 use gt_text::push_number;
 use policy_commands::print;
 use request_text::Page;
-use snapshot_readers::Ledger;
 use std::alloc::Global;
 
 /// The line that names a number above the length.
@@ -54,7 +54,7 @@ pub(crate) fn write_views<K: Sink>(
     out: &mut K,
 ) -> u8
     requires { IsBlank page.old }
-    ensures { (d : ℕ) × ((d ≡ due) ⊎ (d ≡ 8))
+    ensures { (d : ℕ) × ((d ≡ due) ⊎ ((d ≡ 8) × (due ≡ 14)))
         × IsWritten d
         (views_text ledger.now.named ledger.now.birth ledger.now.entries d late) result
         (K.output out.old).written (K.output out.new).written (K.output out.old).faults

@@ -1,5 +1,3 @@
-pub mod LineDone
-pub mod Chunks
 pub mod Completing
 pub mod Ends
 pub mod Links

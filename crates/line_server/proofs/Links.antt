@@ -1,7 +1,6 @@
 -- A link behind those that were served.
 use Rattle.std.proofs.Common.{◌≡◌, ◌≢◌, ℕ, ◌+◌, ◌*◌, ◌^◌, ◌<◌, ◌≤◌, Bool, true, false, cond, ◌==◌, ◌&&◌, List, [], ◌∷◌, ◌++◌, length, refl, sym, ap, subst, ◌∙◌, arith, append-nil, append_assoc, length-append, ne_eqb, Option, Some, None, IfSome, MatchOption}
 use Rattle.std.proofs.lemmas.Bool.{eqb-true}
-use Rattle.std.specs.Io.KnownBytes.{Appends, Consumes}
 use mathlib.Core.List.{IsPrefix}
 use Rattle.gt_base.specs.declared.requests.Who.{Who}
 use Rattle.gt_base.specs.declared.requests.Entry.{Entry}
@@ -21,7 +20,8 @@ use Rattle.line_server.specs.declared.ended.Served.{Served}
 use Rattle.line_server.specs.declared.ended.WorkEnd.{WorkEnd}
 use Rattle.line_server.specs.declared.ended.WorkEnd.TheVariants.{Fresh, Done, DoorFault, Enough, Worn, Memory}
 use Rattle.connection_laws.specs.Turns.{AreMine}
-use Rattle.line_server.specs.Serving.{link_view, Serves, is_worn_out}
+use Rattle.connection_laws.specs.Attending.{is_worn_out}
+use Rattle.line_server.specs.Serving.{link_view, Serves}
 use Rattle.line_server.specs.Working.{Tale, begun_of, hours_of, owns_of, AllUnworn, WorkerSpot, WorksTo, IsServed, AreServed, Worked, WorksOn, Works}
 use Rattle.connection_laws.specs.Doors.{Gives}
 use Rattle.connection_laws.proofs.Growing.{grown_none, grown_twice}
@@ -65,10 +65,7 @@ module _ {L : Type 0} where
             mine = i.mine;
             asked = i.asked;
             denied = i.denied;
-            taken_is = i.taken_is;
-            left_is = i.left_is;
-            given_is = i.given_is;
-            bounded = i.bounded;
+            carries = i.carries;
             cause = i.cause;
             finished = i.finished;
           },
@@ -108,10 +105,7 @@ module _ {M L : Type 0} (traffic : L → Traffic) (np : NamedPolicy) (first : Li
         mine = v.mine;
         asked = v.asked;
         denied = v.denied;
-        taken_is = v.taken_is;
-        left_is = v.left_is;
-        given_is = v.given_is;
-        bounded = v.bounded;
+        carries = v.carries;
         cause = v.cause;
         finished = v.finished;
       } in

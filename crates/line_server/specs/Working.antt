@@ -1,9 +1,8 @@
 -- What a worker keeps from link to link.
 use Rattle.std.specs.Prelude.{◌≡◌, ℕ, ◌+◌, ◌*◌, ◌^◌, ◌<◌, ◌≤◌, Bool, true, false, List, [], ◌∷◌, ◌++◌, length, drop, IfSome, MatchOption}
 use Rattle.std.specs.declared.option.Option.{Option}
-use Rattle.std.specs.Io.KnownBytes.{Appends, Consumes}
 use Rattle.gt_base.specs.declared.requests.Entry.{Entry}
-use Rattle.gt_base.specs.declared.limits.TheConstants.{MAX_BYTES, MAX_LINKS}
+use Rattle.gt_base.specs.declared.limits.TheConstants.{MAX_LINKS}
 use Rattle.gt_io.specs.Causes.{Rose}
 use Rattle.gt_io.specs.Links.{Traffic, IsFresh, Reads}
 use Rattle.turn_lock.specs.Turns.{Each, part}
@@ -13,7 +12,8 @@ use Rattle.policy_words.specs.Naming.{NamedPolicy}
 use Rattle.connection_laws.specs.declared.ends.LinkEnd.{LinkEnd}
 use Rattle.connection_laws.specs.declared.ends.LinkEnd.TheVariants.{Ended, ReadFault, WriteFault, Spent, Worn as LinkWorn}
 use Rattle.connection_laws.specs.Doors.{Gives}
-use Rattle.connection_laws.specs.Connection.{Acted, asked_in, denied_in, part_of, IsTimed, placed, Conn}
+use Rattle.connection_laws.specs.Lines.{Acted, asked_in, denied_in}
+use Rattle.connection_laws.specs.Connection.{part_of, IsTimed, placed, Conn}
 use Rattle.connection_laws.specs.Services.{Service}
 use Rattle.line_server.specs.declared.ended.Served.{Served}
 use Rattle.line_server.specs.declared.ended.WorkEnd.{WorkEnd}
@@ -21,7 +21,8 @@ use Rattle.line_server.specs.declared.ended.WorkEnd.TheVariants.{Fresh, Done, Do
 use Rattle.line_server.specs.declared.posts.Post.{Post}
 use Rattle.line_server.specs.declared.workers.Worker.{Worker}
 use Rattle.connection_laws.specs.Turns.{IsIdle, Grows, AreMine}
-use Rattle.line_server.specs.Serving.{EndsBy, is_worn_out}
+use Rattle.connection_laws.specs.Attending.{bytes_of, Carries, EndsBy, is_worn_out}
+use Rattle.connection_laws.specs.Clerks.{WearsAt}
 
 -- what there is to tell of a served link: the link as the door gave it, its bytes, readings, own
 -- entries and acted lines, and the draws at its end
@@ -113,11 +114,9 @@ module _ {L : Type 0} (traffic : L → Traffic) (v : Service) (number : ℕ) whe
     pub mine : AreMine (by number c) x.own
     pub asked : s.report.asked ≡ asked_in x.acted
     pub denied : s.report.denied ≡ denied_in x.acted
-    pub taken_is : Appends (traffic x.begun).taken (traffic s.link).taken x.taken
-    pub left_is : Consumes (traffic x.begun).left (traffic s.link).left x.taken
-    pub given_is : Appends (traffic x.begun).given (traffic s.link).given x.given
-    pub bounded : length x.taken ≤ MAX_BYTES
-    pub cause : EndsBy (traffic x.begun) (traffic s.link) x.draws x.taken s.report.outcome
+    pub carries : Carries (bytes_of (traffic x.begun)) (bytes_of (traffic s.link)) x.taken x.given
+    pub cause : EndsBy (WearsAt x.draws) (traffic x.begun) (traffic s.link) x.taken
+        s.report.outcome
     pub finished : (traffic s.link).finished ≡ true
 
   -- the links from number c on

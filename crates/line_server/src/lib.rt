@@ -1,12 +1,8 @@
-//! Serves connections: cuts their bytes into lines, acts on each line at the desk, and writes its
-//! reply before the next line is acted on.
+//! Serves connections at the desk, with a worker for each door, in threads of their own.
 #![tactic(auto)]
 
 mod ended;
-mod hearing;
-mod keeping;
 mod laws;
-mod lines;
 mod posts;
 mod serve;
 mod workers;

@@ -5,7 +5,7 @@ ghost use Rattle.turn_lock.specs.Holders.{site_of};
 ghost use Rattle.connection_laws.specs.Services.{service_at};
 ghost use Rattle.connection_laws.specs.Turns.{IsIdle};
 ghost use Rattle.connection_laws.specs.Desks.{MayBeAsked, RepliesCanBeTold};
-ghost use Rattle.line_server.specs.Serving.{is_worn_out};
+ghost use Rattle.connection_laws.specs.Attending.{is_worn_out};
 ghost use Rattle.line_server.specs.Working.{spot, post_view, WorksOn, Works, HasWorked};
 
 use crate::ended::{Served, WorkEnd};

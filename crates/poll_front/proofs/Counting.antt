@@ -4,8 +4,8 @@ use Rattle.std.specs.Prelude.{if◌then◌else◌}
 use mathlib.Core.Logic.{dite}
 use native.Mathlib.Decide.{ℕ_discrete}
 use Rattle.gt_io.specs.Ports.{Port, is_none, open_among}
-use Rattle.poll_front.specs.Fronts.{faults_by, faults_of}
-use Rattle.poll_front.specs.Tables.{faults_among}
+use Rattle.gt_io.specs.declared.port.Called.{Called}
+use Rattle.poll_front.specs.Tables.{count_among}
 
 abbrev one : Port → ℕ
 one p = if is_none p.finished then 1 else 0
@@ -33,23 +33,24 @@ count_less f g c m (suc n) first within unfinished over same =
     omega (arith, before, last))
 
 -- what the first n links have shown is told by their last calls
-pub faults_same : (f g : ℕ → Port) (n : ℕ) → ((k : ℕ) → 1 ≤ k → k ≤ n → (g k).last ≡ (f k).last) → faults_among g n ≡ faults_among f n
-faults_same f g zero same = refl
-faults_same f g (suc n) same =
-    let before = faults_same f g n (λ k first low. same k first (omega (arith, low))) in
-    let last : faults_of (g (n + 1)) ≡ faults_of (f (n + 1)) = ap faults_by (same (n + 1) (omega arith) (omega arith)) in
+pub shown_same : (by : Called → ℕ) (f g : ℕ → Port) (n : ℕ) → ((k : ℕ) → 1 ≤ k → k ≤ n → (g k).last ≡ (f k).last) → count_among (λ q. by q.last) g n ≡ count_among (λ q. by q.last) f n
+shown_same by f g zero same = refl
+shown_same by f g (suc n) same =
+    let before = shown_same by f g n (λ k first low. same k first (omega (arith, low))) in
+    let last : by (g (n + 1)).last ≡ by (f (n + 1)).last = ap by (same (n + 1) (omega arith) (omega arith)) in
     omega (arith, before, last)
 
 -- and where one link had calls, by those of that link
-pub faults_moved : (f g : ℕ → Port) (c n : ℕ) → 1 ≤ c → c ≤ n → ((k : ℕ) → k ≢ c → (g k).last ≡ (f k).last) → faults_among g n + faults_of (f c) ≡ faults_among f n + faults_of (g c)
-faults_moved f g c zero first within same = absurd (omega (arith, first, within))
-faults_moved f g c (suc n) first within same =
+pub shown_moved : (by : Called → ℕ) (f g : ℕ → Port) (c n : ℕ) → 1 ≤ c → c ≤ n → ((k : ℕ) → k ≢ c → (g k).last ≡ (f k).last)
+    → count_among (λ q. by q.last) g n + by (f c).last ≡ count_among (λ q. by q.last) f n + by (g c).last
+shown_moved by f g c zero first within same = absurd (omega (arith, first, within))
+shown_moved by f g c (suc n) first within same =
     dite (ℕ_discrete c (n + 1)) (λ here.
-    let before = faults_same f g n (λ k one low. same k (λ is. let e = is ∙ here in absurd (omega (arith, low, e)))) in
-    let f1 : faults_of (f c) ≡ faults_of (f (n + 1)) = ap (λ (k : ℕ). faults_of (f k)) here in
-    let g1 : faults_of (g c) ≡ faults_of (g (n + 1)) = ap (λ (k : ℕ). faults_of (g k)) here in
+    let before = shown_same by f g n (λ k one low. same k (λ is. let e = is ∙ here in absurd (omega (arith, low, e)))) in
+    let f1 : by (f c).last ≡ by (f (n + 1)).last = ap (λ (k : ℕ). by (f k).last) here in
+    let g1 : by (g c).last ≡ by (g (n + 1)).last = ap (λ (k : ℕ). by (g k).last) here in
     omega (arith, before, f1, g1)) (λ away.
     let low : c ≤ n = omega (arith, within, away) in
-    let before = faults_moved f g c n first low same in
-    let last : faults_of (g (n + 1)) ≡ faults_of (f (n + 1)) = ap faults_by (same (n + 1) (λ is. away (sym is))) in
+    let before = shown_moved by f g c n first low same in
+    let last : by (g (n + 1)).last ≡ by (f (n + 1)).last = ap by (same (n + 1) (λ is. away (sym is))) in
     omega (arith, before, last))

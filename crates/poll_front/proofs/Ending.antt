@@ -7,7 +7,7 @@ use Rattle.gt_io.specs.Ports.{Port, Harbour}
 use Rattle.turn_lock.specs.Turns.{Each}
 use Rattle.turn_lock.specs.Holders.{Holder}
 use Rattle.policy_words.specs.Naming.{NamedPolicy}
-use Rattle.connection_laws.specs.Connection.{Acted}
+use Rattle.connection_laws.specs.Lines.{Acted}
 use Rattle.poll_front.specs.declared.front.RunEnd.{RunEnd}
 use Rattle.poll_front.specs.declared.front.RunEnd.TheVariants.{Stopped as EndStopped, PortFault, Enough, Worn as EndWorn, Memory}
 use Rattle.poll_front.specs.declared.ends.Polled.{Polled}
@@ -16,9 +16,9 @@ use Rattle.poll_front.specs.declared.ends.PollEnd.TheVariants.{Ended, ReadFault,
 use Rattle.poll_front.specs.declared.parties.Pace.{Pace}
 use Rattle.poll_front.specs.declared.seats.Seat.{Seat}
 use Rattle.poll_front.specs.declared.seats.Seat.TheVariants.{Open, Over}
-use Rattle.poll_front.specs.Fronts.{Turn, FrontSpot, acted_of, EndsLink, HasOwnEnd}
-use Rattle.poll_front.specs.Tables.{Sits, IsLetIn, IsLetGo, EndsSeatAt, LetsGo, Tabled, Went, Ran, GoesTo, RunsTo, IsUnwornSeat, AreUnwornSeats, AreUnwornEnds, FaultsAreLast, faults_among, faults_told, is_worn_end, first_spot}
-use Rattle.poll_front.proofs.Counting.{faults_same}
+use Rattle.poll_front.specs.Fronts.{Turn, FrontSpot, acted_of, faults_by, faults_of, ended_by, ended_of, EndsLink, HasOwnEnd}
+use Rattle.poll_front.specs.Tables.{Sits, IsLetIn, IsLetGo, EndsSeatAt, LetsGo, Tabled, Went, Ran, MayGoOn, GoesTo, RunsTo, IsUnwornSeat, AreUnwornSeats, AreUnwornEnds, FaultsAreLast, EndsAreLast, count_among, faults_told, is_worn_end, first_spot}
+use Rattle.poll_front.proofs.Counting.{shown_same}
 use Rattle.poll_front.proofs.Seating.{ends_stopped}
 
 let_go_by : (nexts : ℕ) (q : Port) (end : PollEnd) → HasOwnEnd end → (n : ℕ) × (q.finished ≡ Some n) → IsLetGo nexts q end
@@ -76,9 +76,16 @@ module _ (a b : Harbour) (seats : List Seat) (ends : List Polled) (l : LetsGo a 
   faults_last start opened f =
       let same = l.faults in
       let told = ap faults_told l.told in
-      let all = ap (faults_among b.port) l.opened in
-      let shown = faults_same a.port b.port a.opened (λ k first low. last_kept k first (omega (arith, low, opened))) in
+      let all = ap (count_among faults_of b.port) l.opened in
+      let shown = shown_same faults_by a.port b.port a.opened (λ k first low. last_kept k first (omega (arith, low, opened))) in
       omega (arith, f, same, told, all, shown)
+
+  ends_last : (start : Harbour) → a.opened ≡ length seats → EndsAreLast start a → EndsAreLast start b
+  ends_last start opened f =
+      let same = l.ends in
+      let all = ap (count_among ended_of b.port) l.opened in
+      let shown = shown_same ended_by a.port b.port a.opened (λ k first low. last_kept k first (omega (arith, low, opened))) in
+      omega (arith, f, same, all, shown)
 
   calm_ends : AreUnwornSeats seats → AreUnwornEnds ends
   calm_ends calm = λ i e at. let s = seat_of i e at in calm_end (a.port (i + 1)) (b.port (i + 1)) a.nexts s.0 e (calm i s.0 s.1) (l.each i s.0 e s.1 at)
@@ -86,14 +93,14 @@ module _ (a b : Harbour) (seats : List Seat) (ends : List Polled) (l : LetsGo a 
   runs_to : (start : Harbour) (draws : ℕ) (end : RunEnd) → a.opened ≡ length seats → GoesTo start a draws seats end → RunsTo start b draws ends end
   runs_to start draws EndStopped opened g = let few = g.1 in let same = l.opened in (l.told ∙ g.0, omega (arith, few, same, opened), calm_ends g.2)
   runs_to start draws PortFault opened g = let few = g.2 in let same = l.opened in let rose = g.1 in let faults = l.faults in ((g.0.0, l.told ∙ g.0.1), omega (arith, rose, faults), omega (arith, few, same, opened), calm_ends g.3)
-  runs_to start draws Enough opened g = ((g.0.0, l.told ∙ g.0.1), l.opened ∙ opened ∙ g.1)
+  runs_to start draws Enough opened g = ((g.0.0, l.told ∙ g.0.1), l.opened ∙ opened ∙ g.1, calm_ends g.2)
   runs_to start draws EndWorn opened g =
       let i = g.2.0 in
       let polled = g.2.1.0 in
       let e = end_of_seat i (Over polled) g.2.1.1 in
       let at = l.each i (Over polled) e.0 g.2.1.1 e.1 in
       ((g.0.0, l.told ∙ g.0.1), g.1, (i, (e.0, e.1, ap (λ (z : Polled). is_worn_end z.outcome) at.0 ∙ g.2.1.2)))
-  runs_to start draws Memory opened g = tt
+  runs_to start draws Memory opened g = let few = g.1 in let same = l.opened in (subst MayGoOn (sym l.told) g.0, omega (arith, few, same, opened), calm_ends g.2)
 
 pub ran_of : {M : Type 0} (np : NamedPolicy) (first : List Entry) (legal : List Entry → Type 0) (now : List Entry → ℕ) (number : ℕ) (before after : Holder M) (clock clock' : Option (ℕ → ℕ)) (pace : Pace) (start a b : Harbour) (seats : List Seat) (ends : List Polled) (end : RunEnd)
     → Went np first legal now number (first_spot before clock) (record { pass = after; clock = clock'; pace = pace }) start a seats end → LetsGo a b seats ends → Ran np first legal now number before after clock clock' start b ends end
@@ -109,7 +116,9 @@ ran_of np first legal now number before after clock clock' pace start a b seats 
           let s = seat_of a b seats ends l i e at in
           subst (λ (n : ℕ). Has np (start.port (i + 1)) (b.port (i + 1)) n (acted_of (i + 1) w.turns) e) (sym l.nexts)
           (link_ended np (start.port (i + 1)) (a.port (i + 1)) (b.port (i + 1)) a.nexts (acted_of (i + 1) w.turns) s.0 e (t.sits i s.0 s.1) (l.each i s.0 e s.1 at));
+      fresh = λ k one low. t.fresh k one (omega (arith, low, same));
       range = subst (λ (n : ℕ). Each (λ (z : Turn). (1 ≤ z.link) × (z.link ≤ n)) w.turns) (sym same) t.range;
       runs = runs_to a b seats ends l start after.draws end t.opened w.goes;
       faults = faults_last a b seats ends l start t.opened t.faults;
+      ends = ends_last a b seats ends l start t.opened t.ends;
     }

@@ -7,7 +7,8 @@ use Rattle.gt_base.specs.declared.requests.Entry.{Entry}
 use Rattle.turn_lock.specs.Holders.{Holder}
 use Rattle.policy_words.specs.Naming.{NamedPolicy}
 use Rattle.request_text.specs.Phrases.{read_line}
-use Rattle.connection_laws.specs.Connection.{Gets, actor_by, placed, one_where, is_accepted, is_denied}
+use Rattle.connection_laws.specs.Lines.{actor_by, one_where, is_replied, is_denied}
+use Rattle.connection_laws.specs.Connection.{Gets, placed}
 use Rattle.connection_laws.specs.Desks.{IsNamedActor}
 use Rattle.connection_laws.specs.Services.{service}
 use Rattle.connection_laws.specs.Acting.{moment, Acts, counted_talk}
@@ -17,7 +18,7 @@ use Rattle.poll_front.specs.declared.parties.Pace.{Pace}
 use Rattle.poll_front.specs.Fronts.{Hears}
 
 module _ {M : Type 0} (np : NamedPolicy) (first : List Entry) (legal : List Entry → Type 0) (now : List Entry → ℕ) (who : Who) where
-  pub hears_acts : (before after : Holder M) (talk talk0 talk1 talk2 : Talk) (pace pace' : Pace) (clock clock' : Option (ℕ → ℕ)) (line : List ℕ) (told : LineAnswer) → talk0 ≡ record talk { calls = pace.calls; reached = pace.reached }
+  pub hears_acts : (before after : Holder M) (talk talk0 talk1 talk2 : Talk) (pace pace' : Pace) (clock clock' : Option (ℕ → ℕ)) (line : List ℕ) (told : LineAnswer) → talk0 ≡ record talk { calls = pace.calls }
       → (x : Acts (service np first legal now) who (moment before talk0 clock) (moment after talk1 clock') line told) → pace'.calls ≡ talk1.calls → talk2 ≡ counted_talk talk1 x.acted.answer
       → Hears np first legal now who before after talk talk2 pace pace' clock clock' line told
   hears_acts before after talk talk0 talk1 talk2 pace pace' clock clock' line told begun x calls is =
@@ -30,7 +31,7 @@ module _ {M : Type 0} (np : NamedPolicy) (first : List Entry) (legal : List Entr
         mine = x.mine;
         grows = x.grows;
         actor = ap (λ (t : Talk). t.actor) is ∙ ap (λ (t : Talk). t.actor) x.talk_is ∙ ap (actor_by (read_line np Nobody false line)) (ap (λ (t : Talk). t.actor) begun);
-        asked = ap (λ (t : Talk). t.asked) is ∙ ap (λ (n : ℕ). n + one_where (is_accepted a.answer)) (ap (λ (t : Talk). t.asked) x.talk_is ∙ ap (λ (t : Talk). t.asked) begun);
+        asked = ap (λ (t : Talk). t.asked) is ∙ ap (λ (n : ℕ). n + one_where (is_replied a.answer)) (ap (λ (t : Talk). t.asked) x.talk_is ∙ ap (λ (t : Talk). t.asked) begun);
         denied = ap (λ (t : Talk). t.denied) is ∙ ap (λ (n : ℕ). n + one_where (is_denied a.answer)) (ap (λ (t : Talk). t.denied) x.talk_is ∙ ap (λ (t : Talk). t.denied) begun);
         calls = calls ∙ ap (λ (t : Talk). t.calls) x.talk_is ∙ ap (λ (n : ℕ). n + length a.readings) (ap (λ (t : Talk). t.calls) begun);
         few = x.few;

@@ -13,6 +13,7 @@ pub record Letting (a b : Harbour) (seats : List Seat) (ends : List Polled) (n :
   pub nexts : b.nexts ≡ a.nexts
   pub opened : b.opened ≡ a.opened
   pub faults : b.faults ≡ a.faults
+  pub ends : b.ends ≡ a.ends
   pub count : length ends ≡ n
   pub each : (i : ℕ) (s : Seat) (e : Polled) → slice_get seats i ≡ Some s → slice_get ends i ≡ Some e → EndsSeatAt (a.port (i + 1)) (b.port (i + 1)) a.nexts s e
   pub ahead : (k : ℕ) → n < k → b.port k ≡ a.port k
@@ -24,6 +25,7 @@ letting_none a seats ends none =
       nexts = refl;
       opened = refl;
       faults = refl;
+      ends = refl;
       count = ap (λ (l : List Polled). length l) none;
       each = λ i s e x y.
           let within = slice_get_within ends i e y in
@@ -41,6 +43,7 @@ letting_next a b d seats ends n seat e x low is y =
       nexts = y.rest.nexts ∙ x.nexts;
       opened = y.rest.opened ∙ x.opened;
       faults = y.faults ∙ x.faults;
+      ends = y.ends ∙ x.ends;
       count = omega (arith, count, length-append ends (e ∷ []));
       each = λ i s z at told.
           ⊎_elim (λ here.
@@ -58,7 +61,7 @@ letting_next a b d seats ends n seat e x low is y =
 
 pub lets_go : (a b : Harbour) (seats : List Seat) (ends : List Polled) (n : ℕ) → Letting a b seats ends n → n ≡ length seats → LetsGo a b seats ends
 lets_go a b seats ends n x all =
-    record { told = x.told; nexts = x.nexts; opened = x.opened; faults = x.faults; count = x.count ∙ all; each = x.each }
+    record { told = x.told; nexts = x.nexts; opened = x.opened; faults = x.faults; ends = x.ends; count = x.count ∙ all; each = x.each }
 
 -- the seats behind stay open
 pub open_next : (b d : Harbour) (seats : List Seat) (n : ℕ) → AreOpenSeats b n seats → KeepsRest b d (n + 1) → AreOpenSeats d (n + 1) seats

@@ -9,11 +9,11 @@ use Rattle.locked_history.specs.Fronts.{by}
 use Rattle.policy_words.specs.Naming.{NamedPolicy}
 use Rattle.connection_laws.specs.Cuts.{open_line}
 use Rattle.gt_text.specs.Lines.{is_feed}
-use Rattle.connection_laws.specs.Connection.{Acted, Answer, is_worn, is_accepted, is_denied, one_where}
+use Rattle.connection_laws.specs.Lines.{Acted, Answer, is_worn, is_replied, is_denied, one_where}
 use Rattle.connection_laws.specs.Acting.{told_bytes}
 use Rattle.connection_laws.specs.declared.talk.Talk.{Talk}
 use Rattle.connection_laws.specs.declared.talk.LineAnswer.{LineAnswer}
-use Rattle.connection_laws.specs.declared.talk.LineAnswer.TheVariants.{Silence, Agreed, Bad, Reply as ToldReply, NoMemory, NoSteps, Worn as ToldWorn}
+use Rattle.connection_laws.specs.declared.talk.LineAnswer.TheVariants.{Silence, Agreed, Bad, Reply as ToldReply, NoMemory, NoSteps, ViewOnly, Worn as ToldWorn}
 use Rattle.poll_front.specs.declared.ends.PollEnd.TheVariants.{Worn}
 use Rattle.poll_front.specs.declared.parties.Party.{Party}
 use Rattle.poll_front.specs.declared.parties.Pause.{Pause}
@@ -23,9 +23,13 @@ use Rattle.gt_base.specs.declared.requests.Actor.TheVariants.{Nobody}
 use Rattle.request_text.specs.declared.lines.LineFault.TheVariants.{Long}
 use Rattle.request_text.proofs.ReadBySpelling.{long_read}
 use Rattle.connection_laws.specs.Desks.{IsNamedActor}
-use Rattle.connection_laws.proofs.Acting.{acts_bad}
+use Rattle.connection_laws.specs.Services.{service}
+use Rattle.connection_laws.specs.Clerks.{ClerkView, clerk_view, WearsClerk, ClerkAsks}
+use Rattle.connection_laws.proofs.Acting.{acts_of}
+use Rattle.connection_laws.proofs.ActingBy.{acts_bad}
 use Rattle.poll_front.proofs.Turning.{running_on, acted_here}
-use Rattle.poll_front.proofs.Standing.{IsUnwornTold, told_unworn, stands_line, comes_pushed, ends_worn}
+use Rattle.connection_laws.proofs.Telling.{IsUnwornTold, told_unworn}
+use Rattle.poll_front.proofs.Standing.{stands_line, comes_pushed, ends_worn}
 
 pub pushes_unworn : (a b : Harbour) (c : ℕ) (text : List ℕ) (at at' n : ℕ) {T : Type 0} (result : Result T Pause) → PushesOut a b c text at at' result → result ≡ Err (End (Worn n)) → ⊥
 pushes_unworn a b c text at at' n {T} result p is =
@@ -81,14 +85,18 @@ module _ {M : Type 0} (np : NamedPolicy) (first : List Entry) (legal : List Entr
   line_told (ToldReply text) at result x t = line_unworn (ToldReply text) at result tt x t
   line_told NoMemory at result x t = line_unworn NoMemory at result tt x t
   line_told NoSteps at result x t = line_unworn NoSteps at result tt x t
+  line_told ViewOnly at result x t = line_unworn ViewOnly at result tt x t
   line_told (ToldWorn m) at result x t = line_worn m at result x t.0 t.2
 
 -- a line that is too long is heard without the desk
 pub long_heard : {M : Type 0} (np : NamedPolicy) (first : List Entry) (legal : List Entry → Type 0) (now : List Entry → ℕ) (number c : ℕ) (p : FrontSpot M) (talk : Talk) (line : List ℕ) → IsNamedActor np talk.actor → 512 < length line
     → Hears np first legal now (by number c) p.pass p.pass talk talk p.pace p.pace p.clock p.clock line (Bad Long)
-long_heard np first legal now number c p talk line named long =
-    let x = acts_bad np first legal now (by number c) p.clock p.clock line (record talk { calls = p.pace.calls; reached = p.pace.reached }) p.pass Long (long_read np Nobody false line long) named in
-    let no_ask = ap (λ (y : Answer). one_where (is_accepted y)) x.told_is in
+long_heard {M} np first legal now number c p talk line named long =
+    let v = service np first legal now in
+    let k : ClerkView M = clerk_view p.pass p.clock in
+    let heard : Talk = record talk { calls = p.pace.calls } in
+    let x = acts_of v (by number c) k k heard heard line (Bad Long) (acts_bad np (ClerkAsks v (by number c)) (WearsClerk k) line heard k Long (long_read np Nobody false line long) named) in
+    let no_ask = ap (λ (y : Answer). one_where (is_replied y)) x.told_is in
     let no_denial = ap (λ (y : Answer). one_where (is_denied y)) x.told_is in
     record {
       acted = x.acted;

@@ -6,7 +6,9 @@ use Rattle.std.specs.Prelude.{if◌then◌else◌}
 use mathlib.Core.Logic.{dite}
 use native.Mathlib.Decide.{ℕ_discrete}
 use Rattle.gt_base.specs.declared.requests.Entry.{Entry}
-use Rattle.gt_io.specs.declared.port.PortEvent.TheVariants.{Opened, Ready}
+use Rattle.gt_io.specs.declared.port.PortEvent.TheVariants.{Opened, Ready, Stop}
+use Rattle.gt_io.specs.declared.port.PortEvent.{PortEvent}
+use Rattle.gt_io.specs.declared.source.Failed.{Failed}
 use Rattle.gt_io.specs.Ports.{Port, Harbour, IsOpen, KeepsRest, Happens, Finishes, NoneOwed, is_none, open_among, newly}
 use Rattle.policy_words.specs.Naming.{NamedPolicy}
 use Rattle.poll_front.specs.declared.ends.Polled.{Polled}
@@ -15,7 +17,7 @@ use Rattle.poll_front.specs.declared.ends.PollEnd.TheVariants.{Ended, ReadFault,
 use Rattle.poll_front.specs.declared.seats.Seat.{Seat}
 use Rattle.poll_front.specs.declared.seats.Seat.TheVariants.{Open, Over}
 use Rattle.poll_front.specs.Fronts.{Turn, FrontSpot, acted_of, Running}
-use Rattle.poll_front.specs.Tables.{Sits, IsFreshSeat, SameBytes, SeatGone, SeatServed, Tabled, IsUnwornSeat, AreUnwornSeats, faults_told, is_worn_end}
+use Rattle.poll_front.specs.Tables.{IsBlank, Sits, IsFreshSeat, SameBytes, SeatGone, SeatServed, Tabled, IsUnwornSeat, AreUnwornSeats, MayGoOn, faults_told, is_worn_end}
 use Rattle.poll_front.proofs.Counting.{count_less}
 use Rattle.poll_front.proofs.Seating.{sits_first, ends_full}
 use Rattle.poll_front.proofs.ListSteps.{set_cases, push_cases}
@@ -66,6 +68,9 @@ module _ {M : Type 0} (np : NamedPolicy) (first : List Entry) (legal : List Entr
     here_is : b.port (a.opened + 1) ≡ newly (open_among a.port a.opened) (a.port (a.opened + 1))
     here_is = subst (λ (j : ℕ). b.port j ≡ newly (open_among a.port a.opened) (a.port j)) is (opened_here a b c h)
 
+    blank_is : IsBlank (a.port (a.opened + 1))
+    blank_is = subst (λ (j : ℕ). IsBlank (a.port j)) is (h.fresh c refl)
+
     pub opened_full : (d : Harbour) (seats' : List Seat) (busy' : ℕ) → MAX_OPEN ≤ busy → busy ≤ 1024 → Finishes b d c → busy' ≡ busy → seats' ≡ seats ++ Over (record { asked = 0; denied = 0; outcome = Full }) ∷ []
         → Seated d seats' busy'
     opened_full d seats' busy' many low f busy_is seats_are =
@@ -82,8 +87,8 @@ module _ {M : Type 0} (np : NamedPolicy) (first : List Entry) (legal : List Entr
         let l3 = h.cause.kept in
         let none : (if is_none (d.port (a.opened + 1)).finished then 1 else 0) ≡ 0 = ap {B = ℕ} (λ (q : Port). if is_none q.finished then 1 else 0) port in
         let t : Tabled np first legal now number o p start d (seats ++ s ∷ []) busy' turns =
-        tabled_seated np first legal now number o p start a d seats busy busy' turns s x opened (omega (arith, l1, l2)) sound (omega (arith, l2, l3)) (λ k other. away k (λ e. other (e ∙ is)))
-        (subst (λ (q : Port). Sits np (start.port (a.opened + 1)) q [] s) (sym port) (ends_full np (start.port (a.opened + 1)) (a.port (a.opened + 1)) n b.nexts same (omega (arith, many, count)), (b.nexts, refl), omega (arith, many, count), tt))
+        tabled_seated np first legal now number o p start a d seats busy busy' turns s x opened (omega (arith, l1, l2)) sound (omega (arith, l2, l3)) (f.ends ∙ h.ends) blank_is (λ k other. away k (λ e. other (e ∙ is)))
+        (subst (λ (q : Port). Sits np (start.port (a.opened + 1)) q [] s) (sym port) (ends_full np (start.port (a.opened + 1)) (a.port (a.opened + 1)) n b.nexts same (omega (arith, many, count)), (b.nexts, refl), omega (arith, many, low, count), tt))
         (omega (arith, busy_is, count, none)) in
         record {
           tabled = subst (λ (l : List Seat). Tabled np first legal now number o p start d l busy' turns) (sym seats_are) t;
@@ -103,7 +108,7 @@ module _ {M : Type 0} (np : NamedPolicy) (first : List Entry) (legal : List Entr
         let away : (k : ℕ) → k ≢ c → b.port k ≡ a.port k = λ k other. opened_away a b c k h other in
         let one : (if is_none (b.port (a.opened + 1)).finished then 1 else 0) ≡ 1 = ap {B = ℕ} (λ (q : Port). if is_none q.finished then 1 else 0) here_is in
         let t : Tabled np first legal now number o p start b (seats ++ s ∷ []) busy' turns =
-        tabled_seated np first legal now number o p start a b seats busy busy' turns s x opened h.cause.later sound (let kept = h.cause.kept in omega (arith, kept)) (λ k other. away k (λ e. other (e ∙ is)))
+        tabled_seated np first legal now number o p start a b seats busy busy' turns s x opened h.cause.later sound (let kept = h.cause.kept in omega (arith, kept)) h.ends blank_is (λ k other. away k (λ e. other (e ∙ is)))
         (subst (λ (q : Port). Sits np (start.port (a.opened + 1)) q [] s) (sym here_is) (fresh_sits np (start.port (a.opened + 1)) (a.port (a.opened + 1)) n s fresh same (omega (arith, few, count))))
         (omega (arith, busy_is, count, one)) in
         let r : Seated b seats' busy' = record {
@@ -119,7 +124,7 @@ module _ {M : Type 0} (np : NamedPolicy) (first : List Entry) (legal : List Entr
   -- the table behind the service of a link that was ready
   module _ (c : ℕ) (h : Happens a b (Ok (Ready c))) where
     pub tabled_ready : Tabled np first legal now number o p start b seats busy turns
-    tabled_ready = tabled_owed np first legal now number o p start a b seats busy turns x h.opened h.cause.later sound (let kept = h.cause.kept in omega (arith, kept)) (λ k. ready_owed a b c k h)
+    tabled_ready = tabled_owed np first legal now number o p start a b seats busy turns x h.opened h.cause.later sound (let kept = h.cause.kept in omega (arith, kept)) h.ends (λ k. ready_owed a b c k h)
 
     pub ready_sits : (seat : Seat) → 1 ≤ c → slice_get seats (c - 1) ≡ Some seat → Sits np (start.port c) (b.port c) (acted_of c turns) seat
     ready_sits seat one at =
@@ -148,7 +153,7 @@ module _ {M : Type 0} (np : NamedPolicy) (first : List Entry) (legal : List Entr
       served_next busy' count =
           record {
             turns' = gone.more ++ turns;
-            tabled = tabled_served np first legal now number o p p' start b d seats busy busy' (c - 1) turns seat seat' result tabled_ready at low gone_at.rest gone_at.later (gone_at.faults (start.port (c - 1 + 1)) (acted_of (c - 1 + 1) turns) (tabled_ready.sits (c - 1) seat at)) gone_at.ended count gone;
+            tabled = tabled_served np first legal now number o p p' start b d seats busy busy' (c - 1) turns seat seat' result tabled_ready at low gone_at.rest gone_at.later (gone_at.faults (start.port (c - 1 + 1)) (acted_of (c - 1 + 1) turns) (tabled_ready.sits (c - 1) seat at)) (gone_at.ends (start.port (c - 1 + 1)) (acted_of (c - 1 + 1) turns) (tabled_ready.sits (c - 1) seat at)) gone_at.ended count gone;
             unworn = λ one_more. unworn_set seats (c - 1) seat' low unworn_all one_more;
             unowed = λ k q.
                 let opened = v.rest.opened in
@@ -176,6 +181,14 @@ module _ {M : Type 0} (np : NamedPolicy) (first : List Entry) (legal : List Entr
           let less = count_less b.port d.port c e.1.0 b.opened one (omega (arith, opened, low, one)) e.0 e.1.1 (λ k other. ap (λ (q : Port). q.finished) (v.rest.others k other)) in
           let count = tabled_ready.count in
           omega (arith, less, count)
+
+-- where a run may go on, no fault was told
+pub told_sound : (o : Option (Result PortEvent Failed)) → MayGoOn o → faults_told o ≡ 0
+told_sound None m = refl
+told_sound (Some (Ok (Opened c))) m = refl
+told_sound (Some (Ok (Ready c))) m = refl
+told_sound (Some (Ok Stop)) m = absurd m
+told_sound (Some (Err f)) m = absurd m
 
 pub worn_of : (end : PollEnd) → is_worn_end end ≡ true → (n : ℕ) × (end ≡ Worn n)
 worn_of (Worn n) e = (n, refl)

@@ -5,16 +5,17 @@ use Rattle.std.specs.Io.KnownBytes.{Appends, Consumes, IsAtEnd}
 use Rattle.std.proofs.KnownBytes.{Appends-trans}
 use Rattle.gt_io.specs.declared.source.Failed.{Failed}
 use Rattle.gt_io.specs.declared.port.Got.{Got}
+use Rattle.gt_io.specs.declared.port.Got.TheVariants.{Bytes as GotBytes, Finished, NotYet as GotNotYet}
 use Rattle.gt_io.specs.declared.port.Took.{Took}
 use Rattle.gt_io.specs.declared.port.Took.TheVariants.{Bytes, NotYet}
 use Rattle.gt_io.specs.declared.port.Called.{Called}
 use Rattle.gt_io.specs.declared.port.Called.TheVariants.{Nothing, Read, Wrote}
 use Rattle.gt_io.specs.Causes.{FailsOnce}
 use Rattle.gt_io.specs.Memory.{one_more}
-use Rattle.gt_io.specs.Ports.{Port, Harbour, IsOpen, KeepsRest, ReadsPort, WritesPort, Finishes, is_over}
+use Rattle.gt_io.specs.Ports.{Port, Harbour, IsOpen, KeepsRest, ReadsPort, WritesPort, Finishes, is_over, ends_by}
 use Rattle.poll_front.specs.declared.parties.Pause.{Pause}
 use Rattle.poll_front.specs.declared.parties.Pause.TheVariants.{Later, End}
-use Rattle.poll_front.specs.Fronts.{Tends, FailsLast, StaysLive, PushesOut, Pushed, faults_by, faults_of}
+use Rattle.poll_front.specs.Fronts.{Tends, StopsLast, StaysLive, PushesOut, Pushed, faults_by, faults_of, ended_by, ended_of}
 
 pub rest_twice : (a b d : Harbour) (c : ℕ) → KeepsRest a b c → KeepsRest b d c → KeepsRest a d c
 rest_twice a b d c x y =
@@ -63,19 +64,35 @@ by_call (Read (Err f)) live = absurd (cc live)
 by_call (Wrote (Ok t)) live = refl
 by_call (Wrote (Err f)) live = absurd (cc live)
 
--- a link that has not come to its end shows no fault
+by_end : (last : Called) → is_over last ≡ false → ended_by last ≡ 0
+by_end Nothing live = refl
+by_end (Read (Ok (GotBytes n))) live = refl
+by_end (Read (Ok Finished)) live = absurd (cc live)
+by_end (Read (Ok GotNotYet)) live = refl
+by_end (Read (Err f)) live = refl
+by_end (Wrote t) live = refl
+
+-- a link that has not come to its end shows no fault, and has told no end
 pub live_sound : (q : Port) → is_over q.last ≡ false → faults_of q ≡ 0
 live_sound q live = by_call q.last live
 
-pub fails_none : (a : Harbour) (c : ℕ) → FailsLast a a c
-fails_none a c = λ live. omega arith
+pub live_open : (q : Port) → is_over q.last ≡ false → ended_of q ≡ 0
+live_open q live = by_end q.last live
 
-pub fails_twice : (a b d : Harbour) (c : ℕ) → FailsLast a b c → (is_over (a.port c).last ≡ false → is_over (b.port c).last ≡ false) → FailsLast b d c → FailsLast a d c
+pub fails_none : (a : Harbour) (c : ℕ) → StopsLast a a c
+fails_none a c = λ live. (omega arith, omega arith)
+
+pub fails_twice : (a b d : Harbour) (c : ℕ) → StopsLast a b c → (is_over (a.port c).last ≡ false → is_over (b.port c).last ≡ false) → StopsLast b d c → StopsLast a d c
 fails_twice a b d c x mid y = λ live.
     let l = x live in
     let m = y (mid live) in
     let none = live_sound (b.port c) (mid live) in
-    omega (arith, l, m, none)
+    let open = live_open (b.port c) (mid live) in
+    let l0 = l.0 in
+    let l1 = l.1 in
+    let m0 = m.0 in
+    let m1 = m.1 in
+    (omega (arith, l0, m0, none), omega (arith, l1, m1, open))
 
 write_faults : (before now : ℕ) (q : Port) (result : Result Took Failed) → q.last ≡ Wrote result → FailsOnce before now result → now ≤ before + faults_of q
 write_faults before now q (Ok t) is x = let kept : now ≡ before = x.kept in omega (arith, kept)
@@ -85,11 +102,20 @@ read_faults : (before now : ℕ) (q : Port) (result : Result Got Failed) → q.l
 read_faults before now q (Ok t) is x = let kept : now ≡ before = x.kept in omega (arith, kept)
 read_faults before now q (Err f) is x = let once : now ≡ one_more before = x.once in let one : faults_of q ≡ 1 = ap faults_by is in omega (arith, once, one)
 
-pub fails_write : (b d : Harbour) (c : ℕ) (piece : List ℕ) (result : Result Took Failed) → WritesPort b d c piece result → FailsLast b d c
-fails_write b d c piece result w = λ live. write_faults b.faults d.faults (d.port c) result (ap (λ (q : Port). q.last) w.port.rest) w.cause
+read_ends : (before now : ℕ) (q : Port) (result : Result Got Failed) → q.last ≡ Read result → now ≡ ends_by result before → now ≤ before + ended_of q
+read_ends before now q (Ok (GotBytes n)) is x = omega (arith, x)
+read_ends before now q (Ok Finished) is x = let one : ended_of q ≡ 1 = ap ended_by is in omega (arith, x, one)
+read_ends before now q (Ok GotNotYet) is x = omega (arith, x)
+read_ends before now q (Err f) is x = omega (arith, x)
 
-pub fails_read : (b d : Harbour) (c : ℕ) (buf : List ℕ) (result : Result Got Failed) → ReadsPort b d c buf result → FailsLast b d c
-fails_read b d c buf result r = λ live. read_faults b.faults d.faults (d.port c) result (ap (λ (q : Port). q.last) r.port.rest) r.cause
+pub fails_write : (b d : Harbour) (c : ℕ) (piece : List ℕ) (result : Result Took Failed) → WritesPort b d c piece result → StopsLast b d c
+fails_write b d c piece result w = λ live. (write_faults b.faults d.faults (d.port c) result (ap (λ (q : Port). q.last) w.port.rest) w.cause, let same = w.ends in omega (arith, same))
+
+pub fails_read : (b d : Harbour) (c : ℕ) (buf : List ℕ) (result : Result Got Failed) → ReadsPort b d c buf result → StopsLast b d c
+fails_read b d c buf result r = λ live. (
+  read_faults b.faults d.faults (d.port c) result (ap (λ (q : Port). q.last) r.port.rest) r.cause,
+  read_ends b.ends d.ends (d.port c) result (ap (λ (q : Port). q.last) r.port.rest) r.ends,
+)
 
 -- what was written whole leaves the link as alive as it was
 pub pushed_live : (a b : Harbour) (c : ℕ) (text : List ℕ) (at at' : ℕ) {T : Type 0} (result : Result T Pause) → PushesOut a b c text at at' result → StaysLive (a.port c) (b.port c) result

@@ -4,7 +4,7 @@ use Rattle.gt_base.specs.declared.requests.Entry.{Entry}
 use Rattle.gt_io.specs.Ports.{Port, Harbour, IsOpen, KeepsRest, Finishes}
 use Rattle.turn_lock.specs.Turns.{Each}
 use Rattle.policy_words.specs.Naming.{NamedPolicy}
-use Rattle.connection_laws.specs.Connection.{Acted}
+use Rattle.connection_laws.specs.Lines.{Acted}
 use Rattle.poll_front.specs.declared.ends.Polled.{Polled}
 use Rattle.poll_front.specs.declared.ends.PollEnd.{PollEnd}
 use Rattle.poll_front.specs.declared.ends.PollEnd.TheVariants.{Ended, ReadFault, WriteFault, Spent, Full, Stopped, Worn}
@@ -14,9 +14,9 @@ use Rattle.poll_front.specs.declared.parties.Pause.TheVariants.{Later, End}
 use Rattle.poll_front.specs.declared.seats.Seat.{Seat}
 use Rattle.poll_front.specs.declared.seats.Seat.TheVariants.{Open, Over}
 use Rattle.std.specs.Global.{Box}
-use Rattle.poll_front.specs.Fronts.{Turn, FrontSpot, acted_of, Running, PartyStands, Rests, EndsLink, PollsBy, Gone, Tends, FailsLast, Attends, HasOwnEnd, faults_by}
+use Rattle.poll_front.specs.Fronts.{Turn, FrontSpot, acted_of, Running, PartyStands, Rests, EndsLink, PollsBy, Gone, Tends, StopsLast, Attends, HasOwnEnd, faults_by, ended_by}
 use Rattle.poll_front.specs.Tables.{Sits, IsLetIn, IsUnwornSeat, SeatGone, SeatServed}
-use Rattle.poll_front.proofs.Pushing.{rest_twice, tends_none, live_sound}
+use Rattle.poll_front.proofs.Pushing.{rest_twice, tends_none, live_sound, live_open}
 use Rattle.poll_front.specs.declared.front.TheConstants.{MAX_OPEN}
 
 done_polls : (q : Port) (n : ℕ) (taken : List ℕ) (end : PollEnd) → PollsBy q taken end → PollsBy (record q { owed = false; finished = Some n }) taken end
@@ -47,7 +47,7 @@ ends_done np start q n asked denied acted end x =
     }
 
 let_in_by : (q r : Port) (taken : List ℕ) (end : PollEnd) → PollsBy q taken end → r.others ≡ q.others → q.others < MAX_OPEN → IsLetIn r end
-let_in_by q r taken Full x same low = let many = x.1 in omega (arith, many, same)
+let_in_by q r taken Full x same low = let many = x.1 in absurd (omega (arith, many, low))
 let_in_by q r taken Ended x same low = omega (arith, same, low)
 let_in_by q r taken ReadFault x same low = omega (arith, same, low)
 let_in_by q r taken WriteFault x same low = omega (arith, same, low)
@@ -77,6 +77,7 @@ module _ {M : Type 0} (np : NamedPolicy) (first : List Entry) (legal : List Entr
         others = refl;
         later = t.later;
         faults = λ start acted s. omega arith;
+        ends = λ start acted s. omega arith;
         ended = refl;
         over = λ end same. absurd (none_some end same);
         served = λ o start turns r s u.
@@ -92,7 +93,7 @@ module _ {M : Type 0} (np : NamedPolicy) (first : List Entry) (legal : List Entr
       }
 
   -- there is nothing to do for it yet
-  pub seat_later : (p p' : FrontSpot M) (a b : Harbour) (c : ℕ) (s s' : Box Party) → Tends a b c → FailsLast a b c → Attends np first legal now number p p' (a.port c) (b.port c) c s.value s'.value Later
+  pub seat_later : (p p' : FrontSpot M) (a b : Harbour) (c : ℕ) (s s' : Box Party) → Tends a b c → StopsLast a b c → Attends np first legal now number p p' (a.port c) (b.port c) c s.value s'.value Later
       → SeatServed np first legal now number p p' a b c (Open s) (Open s') None
   seat_later p p' a b c s s' t fails attends =
       record {
@@ -102,7 +103,12 @@ module _ {M : Type 0} (np : NamedPolicy) (first : List Entry) (legal : List Entr
         faults = λ start acted x.
             let live = x.0.stands.live in
             let none = live_sound (a.port c) live in
-            let few = fails live in
+            let few = (fails live).0 in
+            omega (arith, none, few);
+        ends = λ start acted x.
+            let live = x.0.stands.live in
+            let none = live_open (a.port c) live in
+            let few = (fails live).1 in
             omega (arith, none, few);
         ended = t.finished;
         over = λ end same. absurd (none_some end same);
@@ -122,7 +128,7 @@ module _ {M : Type 0} (np : NamedPolicy) (first : List Entry) (legal : List Entr
       }
 
   -- it has ended, and is let go
-  pub seat_ended : (p p' : FrontSpot M) (a b d : Harbour) (c : ℕ) (s s' : Box Party) (end : PollEnd) (e : Polled) → IsOpen a c → Tends a b c → FailsLast a b c → Attends np first legal now number p p' (a.port c) (b.port c) c s.value s'.value (End end)
+  pub seat_ended : (p p' : FrontSpot M) (a b d : Harbour) (c : ℕ) (s s' : Box Party) (end : PollEnd) (e : Polled) → IsOpen a c → Tends a b c → StopsLast a b c → Attends np first legal now number p p' (a.port c) (b.port c) c s.value s'.value (End end)
       → Finishes b d c → e ≡ record { asked = s'.value.talk.asked; denied = s'.value.talk.denied; outcome = end } → SeatServed np first legal now number p p' a d c (Open s) (Over e) (Some end)
   seat_ended p p' a b d c s s' end e opened t fails attends f is =
       let done : Polled = record { asked = s'.value.talk.asked; denied = s'.value.talk.denied; outcome = end } in
@@ -134,9 +140,16 @@ module _ {M : Type 0} (np : NamedPolicy) (first : List Entry) (legal : List Entr
         faults = λ start acted x.
             let live = x.0.stands.live in
             let none = live_sound (a.port c) live in
-            let few = fails live in
+            let few = (fails live).0 in
             let kept = ap (λ (q : Port). faults_by q.last) f.port in
             let same = f.faults in
+            omega (arith, none, few, kept, same);
+        ends = λ start acted x.
+            let live = x.0.stands.live in
+            let none = live_open (a.port c) live in
+            let few = (fails live).1 in
+            let kept = ap (λ (q : Port). ended_by q.last) f.port in
+            let same = f.ends in
             omega (arith, none, few, kept, same);
         ended = (opened.unfinished, (b.nexts, ap (λ (q : Port). q.finished) f.port));
         over = λ end' same. (e, refl, ap (λ (x : Polled). x.outcome) is ∙ some_is end end' same);

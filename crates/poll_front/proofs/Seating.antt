@@ -15,7 +15,7 @@ use Rattle.gt_io.specs.Frames.{Frame}
 use Rattle.connection_laws.specs.Cuts.{whole_lines}
 use Rattle.connection_laws.specs.Fits.{FrameFits}
 use Rattle.connection_laws.specs.Desks.{IsNamedActor}
-use Rattle.connection_laws.specs.Connection.{Acted, reply_lines, replies_text}
+use Rattle.connection_laws.specs.Lines.{Acted, reply_lines, replies_text}
 use Rattle.connection_laws.proofs.Cutting.{lines_more}
 use Rattle.poll_front.specs.declared.ends.Polled.{Polled}
 use Rattle.poll_front.specs.declared.ends.PollEnd.{PollEnd}

@@ -5,7 +5,7 @@ use Rattle.gt_base.specs.declared.requests.Entry.{Entry}
 use Rattle.gt_base.specs.declared.limits.TheConstants.{MAX_BYTES}
 use Rattle.gt_io.specs.Ports.{Port, Harbour, IsOpen, is_over, NoneOwed, AreFinished}
 use Rattle.policy_words.specs.Naming.{NamedPolicy}
-use Rattle.connection_laws.specs.Connection.{Acted, readings_of, asked_in, denied_in, is_accepted, is_denied, one_where}
+use Rattle.connection_laws.specs.Lines.{Acted, readings_of, asked_in, denied_in, is_replied, is_denied, one_where}
 use Rattle.poll_front.specs.declared.seats.Seat.{Seat}
 use Rattle.poll_front.specs.declared.seats.Seat.TheVariants.{Open, Over}
 use Rattle.poll_front.specs.declared.parties.Pace.{Pace}
@@ -23,7 +23,7 @@ some_not_none y e = absurd cc
 
 asked_few : (acted : List Acted) → asked_in acted ≤ length acted
 asked_few [] = omega arith
-asked_few (a ∷ before) = let x = asked_few before in let y = one_few (is_accepted a.answer) in omega (arith, x, y)
+asked_few (a ∷ before) = let x = asked_few before in let y = one_few (is_replied a.answer) in omega (arith, x, y)
 
 denied_few : (acted : List Acted) → denied_in acted ≤ length acted
 denied_few [] = omega arith

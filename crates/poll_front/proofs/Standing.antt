@@ -16,11 +16,12 @@ use Rattle.connection_laws.specs.Cuts.{whole_lines, open_line}
 use Rattle.gt_text.specs.Lines.{is_feed}
 use Rattle.connection_laws.specs.Fits.{FrameFits}
 use Rattle.connection_laws.specs.Desks.{IsNamedActor}
-use Rattle.connection_laws.specs.Connection.{Answer, silence, agreed, bad, accepted, no_memory, no_steps, worn, is_worn, Acted, is_accepted, is_denied, one_where, answer_text, actor_by, actor_after, reply_lines, replies_text, asked_in, denied_in, AreUnworn, GivenAll, GivenPart, GivenBefore}
+use Rattle.connection_laws.specs.Lines.{Answer, silence, agreed, bad, accepted, no_memory, no_steps, worn, is_worn, Acted, is_replied, is_denied, one_where, answer_text, actor_by, actor_after, reply_lines, replies_text, asked_in, denied_in, AreUnworn, GivenAll, GivenPart, GivenBefore}
 use Rattle.connection_laws.specs.Acting.{IsTold, told_bytes}
 use Rattle.connection_laws.specs.declared.talk.Talk.{Talk}
 use Rattle.connection_laws.specs.declared.talk.LineAnswer.{LineAnswer}
 use Rattle.connection_laws.specs.declared.talk.LineAnswer.TheVariants.{Silence, Agreed, Bad, Reply as ToldReply, NoMemory, NoSteps, Worn as ToldWorn}
+use Rattle.connection_laws.proofs.Telling.{told_text, IsUnwornTold, told_unworn}
 use Rattle.connection_laws.proofs.Cutting.{lines_feed, lines_byte, lines_more}
 use Rattle.connection_laws.proofs.Framing.{fits_feed, fits_byte}
 use Rattle.poll_front.specs.declared.ends.PollEnd.{PollEnd}
@@ -45,30 +46,6 @@ waits_long s some within =
 
 pub waits_none : (s : Party) → s.from ≡ s.upto → waiting_bytes s ≡ []
 waits_none s none = drop_all s.from (take s.upto s.chunk) (let l = length-take s.upto s.chunk in omega (arith, l, none))
-
--- what is told has the bytes of its answer
-pub told_text : (np : NamedPolicy) (told : LineAnswer) (answer : Answer) → IsTold np told answer → told_bytes told ≡ answer_text np answer
-told_text np Silence answer is = ap (answer_text np) (sym is)
-told_text np Agreed answer is = ap (answer_text np) (sym is)
-told_text np (Bad f) answer is = ap (answer_text np) (sym is)
-told_text np (ToldReply text) answer is = is.2 ∙ ap (answer_text np) (sym is.1)
-told_text np NoMemory answer is = ap (answer_text np) (sym is)
-told_text np NoSteps answer is = ap (answer_text np) (sym is)
-told_text np (ToldWorn draws) answer is = ap (answer_text np) (sym is)
-
-abbrev pub IsUnwornTold : LineAnswer → Type 0
-IsUnwornTold (ToldWorn n) = ⊥
-IsUnwornTold _ = Unit {0}
-
--- only a worn pass has a line worn
-pub told_unworn : (np : NamedPolicy) (told : LineAnswer) (answer : Answer) → IsTold np told answer → IsUnwornTold told → is_worn answer ≡ false
-told_unworn np Silence answer is u = ap is_worn is
-told_unworn np Agreed answer is u = ap is_worn is
-told_unworn np (Bad f) answer is u = ap is_worn is
-told_unworn np (ToldReply text) answer is u = ap is_worn is.1
-told_unworn np NoMemory answer is u = ap is_worn is
-told_unworn np NoSteps answer is u = ap is_worn is
-told_unworn np (ToldWorn draws) answer is u = absurd u
 
 -- where the last reply was written whole, the text of all lines was given
 pub whole_text : (np : NamedPolicy) (acted : List Acted) (at : ℕ) → IsWrittenWhole np acted at → given_text np acted at ≡ replies_text np acted
@@ -153,7 +130,7 @@ stands_byte np start q s s' fed acted byte frame x some within is other framed i
 pub stands_line : (np : NamedPolicy) (start q : Port) (s s' : Party) (fed line : List ℕ) (acted : List Acted) (a : Acted) (byte : ℕ) (frame : Frame) (talk : Talk) (told : LineAnswer) (room : Roomy ℕ) → PartyStands np start q s fed acted → IsWrittenWhole np acted s.at
     → s.from < s.upto → s.upto ≤ length s.chunk → byte ≡ get_or s.chunk s.from 0 → is_feed byte ≡ true → line ≡ open_line fed → frame ≡ pushed s.framer byte
     → a.line ≡ line → IsTold np told a.answer → is_worn a.answer ≡ false → talk.actor ≡ actor_by (read_line np Nobody false line) s.talk.actor → IsNamedActor np talk.actor
-    → talk.asked ≡ s.talk.asked + one_where (is_accepted a.answer) → talk.denied ≡ s.talk.denied + one_where (is_denied a.answer)
+    → talk.asked ≡ s.talk.asked + one_where (is_replied a.answer) → talk.denied ≡ s.talk.denied + one_where (is_denied a.answer)
     → s' ≡ record s { framer = frame; from = s.from + 1; talk = talk; told = told; at = 0; room = room }
     → PartyStands np start q s' (fed ++ byte ∷ []) (a ∷ acted)
 stands_line np start q s s' fed line acted a byte frame talk told room x whole some within is feed line_is framed a_line tells unworn speaks named asked denied is' =
@@ -170,7 +147,7 @@ stands_line np start q s s' fed line acted a byte frame talk told room x whole s
       unworn = (unworn, x.unworn);
       actor = speaks ∙ ap (actor_by (read_line np Nobody false line)) x.actor ∙ ap (λ (l : List ℕ). actor_by (read_line np Nobody false l) (actor_after np acted)) (sym a_line);
       named = named;
-      asked = asked ∙ ap (λ (n : ℕ). n + one_where (is_accepted a.answer)) x.asked;
+      asked = asked ∙ ap (λ (n : ℕ). n + one_where (is_replied a.answer)) x.asked;
       denied = denied ∙ ap (λ (n : ℕ). n + one_where (is_denied a.answer)) x.denied;
       told = (tells, omega arith);
       given = subst (λ (l : List ℕ). Appends start.given q.given l) (whole_text np acted s.at whole ∙ sym (append-nil (replies_text np acted))) x.given;
@@ -252,7 +229,7 @@ comes_pushed np start a b c s fed acted at {T} (Err (End (Worn n))) x p = absurd
 -- the line wore the pass out: nothing of it was told
 pub ends_worn : (np : NamedPolicy) (start q : Port) (s : Party) (fed line : List ℕ) (acted : List Acted) (a : Acted) (byte n asked denied : ℕ) → PartyStands np start q s fed acted → IsWrittenWhole np acted s.at
     → s.from < s.upto → s.upto ≤ length s.chunk → byte ≡ get_or s.chunk s.from 0 → is_feed byte ≡ true → line ≡ open_line fed → a.line ≡ line → a.answer ≡ worn → n ≡ 2 ^ 40
-    → asked ≡ s.talk.asked + one_where (is_accepted a.answer) → denied ≡ s.talk.denied + one_where (is_denied a.answer)
+    → asked ≡ s.talk.asked + one_where (is_replied a.answer) → denied ≡ s.talk.denied + one_where (is_denied a.answer)
     → EndsLink np start q asked denied (a ∷ acted) (Worn n)
 ends_worn np start q s fed line acted a byte n asked denied x whole some within is feed line_is a_line wears full asked_is denied_is =
     let next : waiting_bytes s ≡ byte ∷ drop (s.from + 1) (take s.upto s.chunk) = waits_next s some within ∙ ap (λ (b : ℕ). b ∷ drop (s.from + 1) (take s.upto s.chunk)) (sym is) in
@@ -272,7 +249,7 @@ ends_worn np start q s fed line acted a byte n asked denied x whole some within 
       taken_is = x.taken;
       left_is = x.left;
       given_is = subst (λ (l : List ℕ). Appends start.given q.given l) (whole_text np acted s.at whole) x.given;
-      asked_is = asked_is ∙ ap (λ (m : ℕ). m + one_where (is_accepted a.answer)) x.asked;
+      asked_is = asked_is ∙ ap (λ (m : ℕ). m + one_where (is_replied a.answer)) x.asked;
       denied_is = denied_is ∙ ap (λ (m : ℕ). m + one_where (is_denied a.answer)) x.denied;
       few = omega (arith, few, l1, l2, l3);
       bounded = omega (arith, counted);

@@ -3,7 +3,7 @@ use Rattle.std.proofs.Common.{◌≡◌, ◌≢◌, ℕ, zero, suc, ◌+◌, ◌
 use mathlib.Core.Logic.{dite}
 use native.Mathlib.Decide.{ℕ_discrete}
 use Rattle.turn_lock.specs.Turns.{Each}
-use Rattle.connection_laws.specs.Connection.{Acted, readings_of}
+use Rattle.connection_laws.specs.Lines.{Acted, readings_of}
 use Rattle.poll_front.specs.Fronts.{Turn, acted_of, all_acted}
 use Rattle.poll_front.proofs.Turning.{acted_here, acted_apart}
 

@@ -5,19 +5,20 @@ use Rattle.gt_base.specs.declared.requests.Entry.{Entry}
 use Rattle.std.specs.Prelude.{if◌then◌else◌}
 use Rattle.std.proofs.lemmas.Option.{slice_get_within}
 use Rattle.gt_io.specs.declared.port.PortEvent.TheVariants.{Opened, Ready}
+use Rattle.gt_io.specs.Links.{IsNothing}
 use Rattle.gt_io.specs.Ports.{Port, Harbour, KeepsRest, Happens, is_none, open_among, newly, readied}
 use Rattle.turn_lock.specs.Turns.{Each}
 use Rattle.turn_lock.proofs.Totals.{each-append}
 use Rattle.policy_words.specs.Naming.{NamedPolicy}
-use Rattle.connection_laws.specs.Connection.{Acted}
+use Rattle.connection_laws.specs.Lines.{Acted}
 use Rattle.poll_front.specs.declared.ends.PollEnd.{PollEnd}
 use Rattle.poll_front.specs.declared.seats.Seat.{Seat}
 use Rattle.poll_front.specs.declared.seats.Seat.TheVariants.{Open, Over}
-use Rattle.poll_front.specs.Fronts.{Turn, FrontSpot, acted_of, faults_of, Running}
-use Rattle.poll_front.specs.Tables.{Sits, SameBytes, SeatGone, SeatServed, Tabled, IsUnwornSeat, AreUnwornSeats, faults_among, faults_told}
+use Rattle.poll_front.specs.Fronts.{Turn, FrontSpot, acted_of, faults_by, faults_of, ended_by, ended_of, Running}
+use Rattle.poll_front.specs.Tables.{Sits, SameBytes, IsBlank, SeatGone, SeatServed, Tabled, IsUnwornSeat, AreUnwornSeats, count_among, faults_told}
 use mathlib.Core.Logic.{dite}
 use native.Mathlib.Decide.{ℕ_discrete}
-use Rattle.poll_front.proofs.Counting.{count_same, count_less, faults_same, faults_moved}
+use Rattle.poll_front.proofs.Counting.{count_same, count_less, shown_same, shown_moved}
 use Rattle.poll_front.proofs.Turning.{apart_all, running_none}
 use Rattle.poll_front.proofs.Seating.{sits_owed, acted_none}
 use Rattle.poll_front.proofs.ListSteps.{set_cases, push_cases}
@@ -46,9 +47,9 @@ module _ {M : Type 0} (np : NamedPolicy) (first : List Entry) (legal : List Entr
   Is o p start a seats busy turns = Tabled np first legal now number o p start a seats busy turns
 
   -- an event that opens no link changes at most who is owed
-  pub tabled_owed : (o p : FrontSpot M) (start a b : Harbour) (seats : List Seat) (busy : ℕ) (turns : List Turn) → Is o p start a seats busy turns → b.opened ≡ a.opened → a.faults ≤ b.faults → faults_told a.told ≡ 0 → b.faults ≤ a.faults + faults_told b.told
+  pub tabled_owed : (o p : FrontSpot M) (start a b : Harbour) (seats : List Seat) (busy : ℕ) (turns : List Turn) → Is o p start a seats busy turns → b.opened ≡ a.opened → a.faults ≤ b.faults → faults_told a.told ≡ 0 → b.faults ≤ a.faults + faults_told b.told → b.ends ≡ a.ends
       → ((k : ℕ) → b.port k ≡ record (a.port k) { owed = (b.port k).owed }) → Is o p start b seats busy turns
-  tabled_owed o p start a b seats busy turns x opened later calm few same =
+  tabled_owed o p start a b seats busy turns x opened later calm few ends same =
       record {
         running = x.running;
         opened = opened ∙ x.opened;
@@ -61,22 +62,29 @@ module _ {M : Type 0} (np : NamedPolicy) (first : List Entry) (legal : List Entr
               taken = ap (λ (q : Port). q.taken) (same k) ∙ y.taken;
               given = ap (λ (q : Port). q.given) (same k) ∙ y.given;
             };
+        fresh = λ k one low. x.fresh k one (omega (arith, low, opened));
         range = subst (λ (n : ℕ). Each (λ (t : Turn). (1 ≤ t.link) × (t.link ≤ n)) turns) (sym opened) x.range;
         later = let l = x.later in omega (arith, l, later);
         faults =
             let f = x.faults in
-            let shown = faults_same a.port b.port a.opened (λ k one low. ap (λ (q : Port). q.last) (same k)) in
-            let count = ap (faults_among b.port) opened in
+            let shown = shown_same faults_by a.port b.port a.opened (λ k one low. ap (λ (q : Port). q.last) (same k)) in
+            let count = ap (count_among faults_of b.port) opened in
             omega (arith, f, calm, few, shown, count);
+        ends =
+            let f = x.ends in
+            let shown = shown_same ended_by a.port b.port a.opened (λ k one low. ap (λ (q : Port). q.last) (same k)) in
+            let count = ap (count_among ended_of b.port) opened in
+            omega (arith, f, ends, shown, count);
       }
 
   -- a link was served in its seat
   pub tabled_served : (o p p' : FrontSpot M) (start a b : Harbour) (seats : List Seat) (busy busy' i : ℕ) (turns : List Turn) (seat seat' : Seat) (result : Option PollEnd) → Is o p start a seats busy turns
       → slice_get seats i ≡ Some seat → i < length seats → KeepsRest a b (i + 1) → a.faults ≤ b.faults → b.faults + faults_of (a.port (i + 1)) ≤ a.faults + faults_of (b.port (i + 1))
+      → b.ends + ended_of (a.port (i + 1)) ≤ a.ends + ended_of (b.port (i + 1))
       → MatchOption result ((b.port (i + 1)).finished ≡ (a.port (i + 1)).finished) (λ end. ((a.port (i + 1)).finished ≡ None) × ((n : ℕ) × ((b.port (i + 1)).finished ≡ Some n)))
       → MatchOption result (busy' ≡ busy) (λ end. busy' + 1 ≡ busy)
       → (g : SeatGone np first legal now number o p' (start.port (i + 1)) (b.port (i + 1)) (i + 1) turns seat' result) → Is o p' start b (set seats i seat') busy' (g.more ++ turns)
-  tabled_served o p p' start a b seats busy busy' i turns seat seat' result x at low rest later shown ends count g =
+  tabled_served o p p' start a b seats busy busy' i turns seat seat' result x at low rest later shown told_ends ends count g =
       let opened = rest.opened in
       let seats_are = x.opened in
       record {
@@ -92,6 +100,7 @@ module _ {M : Type 0} (np : NamedPolicy) (first : List Entry) (legal : List Entr
         ahead = λ k high.
             let e : k ≢ i + 1 = λ same. absurd (omega (arith, same, high, opened, seats_are, low)) in
             subst (λ (q : Port). SameBytes (start.port k) q) (sym (rest.others k e)) (x.ahead k (omega (arith, high, opened)));
+        fresh = λ k one below. x.fresh k one (omega (arith, below, opened));
         range =
             let r = x.range in
             each-append (λ (t : Turn). (1 ≤ t.link) × (t.link ≤ b.opened)) g.more turns (own_range (i + 1) b.opened g.more g.own (omega arith) (omega (arith, opened, seats_are, low)))
@@ -99,17 +108,22 @@ module _ {M : Type 0} (np : NamedPolicy) (first : List Entry) (legal : List Entr
         later = let l = x.later in omega (arith, l, later);
         faults =
             let f = x.faults in
-            let moved = faults_moved a.port b.port (i + 1) a.opened (omega arith) (omega (arith, seats_are, low)) (λ k away. ap (λ (q : Port). q.last) (rest.others k away)) in
+            let moved = shown_moved faults_by a.port b.port (i + 1) a.opened (omega arith) (omega (arith, seats_are, low)) (λ k away. ap (λ (q : Port). q.last) (rest.others k away)) in
             let told = ap faults_told rest.told in
-            let all = ap (faults_among b.port) opened in
+            let all = ap (count_among faults_of b.port) opened in
             omega (arith, f, shown, moved, told, all);
+        ends =
+            let f = x.ends in
+            let moved = shown_moved ended_by a.port b.port (i + 1) a.opened (omega arith) (omega (arith, seats_are, low)) (λ k away. ap (λ (q : Port). q.last) (rest.others k away)) in
+            let all = ap (count_among ended_of b.port) opened in
+            omega (arith, f, told_ends, moved, all);
       }
 
   -- a link that was just opened has its seat
-  pub tabled_seated : (o p : FrontSpot M) (start a d : Harbour) (seats : List Seat) (busy busy' : ℕ) (turns : List Turn) (s : Seat) → Is o p start a seats busy turns → d.opened ≡ a.opened + 1 → a.faults ≤ d.faults → faults_told a.told ≡ 0 → d.faults ≤ a.faults
+  pub tabled_seated : (o p : FrontSpot M) (start a d : Harbour) (seats : List Seat) (busy busy' : ℕ) (turns : List Turn) (s : Seat) → Is o p start a seats busy turns → d.opened ≡ a.opened + 1 → a.faults ≤ d.faults → faults_told a.told ≡ 0 → d.faults ≤ a.faults → d.ends ≡ a.ends → IsBlank (a.port (a.opened + 1))
       → ((k : ℕ) → k ≢ a.opened + 1 → d.port k ≡ a.port k) → Sits np (start.port (a.opened + 1)) (d.port (a.opened + 1)) [] s → busy' ≡ open_among a.port a.opened + (if is_none (d.port (a.opened + 1)).finished then 1 else 0)
       → Is o p start d (seats ++ s ∷ []) busy' turns
-  tabled_seated o p start a d seats busy busy' turns s x opened later calm kept others sits count =
+  tabled_seated o p start a d seats busy busy' turns s x opened later calm kept ends blank others sits count =
       let n = x.opened in
       let long = length-append seats (s ∷ []) in
       record {
@@ -128,14 +142,24 @@ module _ {M : Type 0} (np : NamedPolicy) (first : List Entry) (legal : List Entr
             let under = before.0 in
             subst (λ (q : Port). Sits np (start.port (i + 1)) q (acted_of (i + 1) turns) z) (sym (others (i + 1) (λ same. absurd (omega (arith, same, under, n))))) (x.sits i z before.1)) (push_cases seats i s z at);
         ahead = λ k high. subst (λ (q : Port). SameBytes (start.port k) q) (sym (others k (λ same. absurd (omega (arith, same, high, opened))))) (x.ahead k (omega (arith, high, opened)));
+        fresh = λ k one low.
+            let bytes = x.ahead (a.opened + 1) (omega arith) in
+            let here : IsBlank (start.port (a.opened + 1)) = (subst IsNothing bytes.taken blank.0, subst IsNothing bytes.given blank.1) in
+            dite (ℕ_discrete k (a.opened + 1)) (λ is. subst (λ (j : ℕ). IsBlank (start.port j)) (sym is) here) (λ other. x.fresh k one (omega (arith, low, opened, other)));
         range = range_wider a.opened d.opened turns (omega (arith, opened)) x.range;
         later = let l = x.later in omega (arith, l, later);
         faults =
             let f = x.faults in
             let e : d.opened ≡ suc a.opened = omega (arith, opened) in
-            let all : faults_among d.port d.opened ≡ faults_among d.port a.opened + faults_of (d.port (a.opened + 1)) = ap (faults_among d.port) e in
-            let shown = faults_same a.port d.port a.opened (λ k one low. ap (λ (q : Port). q.last) (others k (λ same. absurd (omega (arith, same, low))))) in
+            let all : count_among faults_of d.port d.opened ≡ count_among faults_of d.port a.opened + faults_of (d.port (a.opened + 1)) = ap (count_among faults_of d.port) e in
+            let shown = shown_same faults_by a.port d.port a.opened (λ k one low. ap (λ (q : Port). q.last) (others k (λ same. absurd (omega (arith, same, low))))) in
             omega (arith, f, calm, kept, all, shown);
+        ends =
+            let f = x.ends in
+            let e : d.opened ≡ suc a.opened = omega (arith, opened) in
+            let all : count_among ended_of d.port d.opened ≡ count_among ended_of d.port a.opened + ended_of (d.port (a.opened + 1)) = ap (count_among ended_of d.port) e in
+            let shown = shown_same ended_by a.port d.port a.opened (λ k one low. ap (λ (q : Port). q.last) (others k (λ same. absurd (omega (arith, same, low))))) in
+            omega (arith, f, ends, all, shown);
       }
 
   -- before the first event
@@ -148,9 +172,11 @@ module _ {M : Type 0} (np : NamedPolicy) (first : List Entry) (legal : List Entr
         count = sym (ap (open_among start.port) none);
         sits = λ i s at. let within = slice_get_within seats i s at in absurd (omega (arith, within, e, none));
         ahead = λ k high. record { left = refl; taken = refl; given = refl };
+        fresh = λ k one low. absurd (omega (arith, one, low, none));
         range = tt;
         later = omega arith;
         faults = omega arith;
+        ends = omega arith;
       }
 
 -- what an event makes of the links

@@ -1,5 +1,6 @@
 -- What a front leaves, over the whole history.
 use Rattle.std.proofs.Common.{◌≡◌, ◌⊎◌, ℕ, ◌+◌, ◌≤◌, List, [], ◌∷◌, ◌++◌, length, drop, slice_get, refl, sym, ap, subst, ◌∙◌, arith, inl, inr, Option, Some, Ok, ⊎_elim}
+use Rattle.std.proofs.lemmas.Option.{slice_get_within}
 use mathlib.Core.List.{IsPrefix}
 use Rattle.gt_base.specs.declared.requests.Who.{Who}
 use Rattle.gt_base.specs.declared.requests.Entry.{Entry}
@@ -12,7 +13,8 @@ use Rattle.policy_words.specs.Naming.{NamedPolicy}
 use Rattle.connection_laws.specs.declared.ends.LinkEnd.{LinkEnd}
 use Rattle.connection_laws.specs.declared.ends.LinkEnd.TheVariants.{Ended as LinkEnded, ReadFault as LinkReadFault, WriteFault as LinkWriteFault, Spent as LinkSpent, Worn as LinkWorn}
 use Rattle.connection_laws.specs.Cuts.{whole_lines}
-use Rattle.connection_laws.specs.Connection.{Acted, reply_lines, readings_of, entries_of, part_of, AreActed, IsGiven, IsTimed, placed, Conn}
+use Rattle.connection_laws.specs.Lines.{Acted, reply_lines, readings_of, entries_of, IsGiven}
+use Rattle.connection_laws.specs.Connection.{part_of, AreActed, IsTimed, placed, Conn}
 use Rattle.connection_laws.proofs.Longer.{acted_longer}
 use Rattle.connection_laws.proofs.Places.{part_of-part}
 use Rattle.poll_front.specs.declared.ends.Polled.{Polled}
@@ -20,7 +22,7 @@ use Rattle.poll_front.specs.declared.ends.PollEnd.{PollEnd}
 use Rattle.poll_front.specs.declared.ends.PollEnd.TheVariants.{Ended, ReadFault, WriteFault, Spent, Full, Stopped, Worn}
 use Rattle.poll_front.specs.Fronts.{Turn, FrontSpot, acted_of, all_acted, IsPolled, EndsLink, Running}
 use Rattle.poll_front.specs.declared.front.RunEnd.{RunEnd}
-use Rattle.poll_front.specs.Tables.{IsLetIn, IsLetGo, Ran, first_spot}
+use Rattle.poll_front.specs.Tables.{IsBlank, IsLetIn, IsLetGo, Ran, first_spot}
 use Rattle.poll_front.specs.Polling.{PollConn, IsPolledLink, IsPolledFront}
 use Rattle.poll_front.proofs.Turning.{part_turns}
 
@@ -53,13 +55,14 @@ module _ {M : Type 0} (np : NamedPolicy) (legal : List Entry → Type 0) (now : 
       (subst (λ (own : List Entry). AreActed np birth (by 0 c) p.pass.seen (placed (by 0 c) [] own) (acted_of c turns)) fresh (g.fits c birth timed))
 
   -- each link is told over the history
-  link_told : (nexts : ℕ) (start q : Port) (i : ℕ) (e : Polled) → EndsLink np start q e.asked e.denied (acted_of (i + 1) turns) e.outcome × IsLetIn q e.outcome × IsLetGo nexts q e.outcome
+  link_told : (nexts : ℕ) (start q : Port) (i : ℕ) (e : Polled) → EndsLink np start q e.asked e.denied (acted_of (i + 1) turns) e.outcome × IsLetIn q e.outcome × IsLetGo nexts q e.outcome → IsBlank start
       → IsPolledLink np birth h nexts (i + 1) start q e (acted_of (i + 1) turns)
-  link_told nexts start q i e x =
+  link_told nexts start q i e x blank =
       let ends = x.0 in
       record {
         taken = ends.taken;
         given = ends.given;
+        fresh = blank;
         conn = poll_conn np birth (by 0 (i + 1)) h ends.taken ends.given (acted_of (i + 1) turns) q.last ends.lines (part_is (i + 1)) (fits_all (i + 1)) e.outcome ends.polled;
         asked = ends.asked_is;
         denied = ends.denied_is;
@@ -80,7 +83,8 @@ front_with np legal now birth timed h before after clock clock' start b ends end
       record {
         turns = r.turns;
         count = r.count;
-        links = λ i e at. link_told np legal now birth timed h (first_spot before clock) p r.turns r.running fresh number told b.nexts (start.port (i + 1)) (b.port (i + 1)) i e (r.links i e at);
+        links = λ i e at. link_told np legal now birth timed h (first_spot before clock) p r.turns r.running fresh number told b.nexts (start.port (i + 1)) (b.port (i + 1)) i e (r.links i e at)
+            (let within = slice_get_within ends i e at in let count = r.count in r.fresh (i + 1) (omega arith) (omega (arith, within, count)));
         range = r.range;
         readings = r.running.reads;
         entries = entries_are np legal now birth timed h (first_spot before clock) p r.turns r.running fresh number told;

@@ -15,7 +15,8 @@ use Rattle.policy_words.specs.Naming.{NamedPolicy}
 use Rattle.request_text.specs.declared.lines.Line.{Line}
 use Rattle.request_text.specs.declared.lines.LineFault.{LineFault}
 use Rattle.request_text.specs.Phrases.{read_line}
-use Rattle.connection_laws.specs.Connection.{Acted, Gets, is_who, part_of, actor_after, readings_of, entries_of, AreActed, IsTimed, placed}
+use Rattle.connection_laws.specs.Lines.{Acted, actor_after, readings_of, entries_of}
+use Rattle.connection_laws.specs.Connection.{Gets, is_who, part_of, AreActed, IsTimed, placed}
 use Rattle.connection_laws.proofs.Longer.{acted_longer}
 use Rattle.connection_laws.proofs.Places.{part_of-append, all_mine, none_mine}
 use Rattle.connection_laws.specs.Turns.{Grows, AreMine}

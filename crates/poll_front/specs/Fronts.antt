@@ -18,7 +18,8 @@ use Rattle.connection_laws.specs.declared.talk.LineAnswer.{LineAnswer}
 use Rattle.connection_laws.specs.declared.talk.Talk.{Talk}
 use Rattle.connection_laws.specs.declared.talk.LineAnswer.TheVariants.{Silence, Worn as ToldWorn}
 use Rattle.connection_laws.specs.Cuts.{whole_lines}
-use Rattle.connection_laws.specs.Connection.{Acted, Gets, is_accepted, is_denied, one_where, answer_text, actor_by, actor_after, reply_lines, readings_of, entries_of, replies_text, asked_in, denied_in, AreUnworn, AreActed, GivenAll, GivenPart, GivenBefore, IsTimed, placed}
+use Rattle.connection_laws.specs.Lines.{Acted, is_replied, is_denied, one_where, answer_text, actor_by, actor_after, reply_lines, readings_of, entries_of, replies_text, asked_in, denied_in, AreUnworn, GivenAll, GivenPart, GivenBefore}
+use Rattle.connection_laws.specs.Connection.{Gets, AreActed, IsTimed, placed}
 use Rattle.connection_laws.specs.Fits.{FrameFits}
 use Rattle.connection_laws.specs.Desks.{IsNamedActor}
 use Rattle.connection_laws.specs.Turns.{Grows, AreMine, IsReached}
@@ -31,7 +32,7 @@ use Rattle.poll_front.specs.declared.parties.Pause.{Pause}
 use Rattle.poll_front.specs.declared.parties.Pause.TheVariants.{Later, End}
 use Rattle.poll_front.specs.declared.parties.TheConstants.{MAX_READ}
 use Rattle.poll_front.specs.declared.front.TheConstants.{MAX_OPEN}
-use Rattle.gt_io.specs.declared.port.Got.TheVariants.{Finished}
+use Rattle.gt_io.specs.declared.port.Got.TheVariants.{Bytes as GotBytes, Finished, NotYet as GotNotYet}
 use Rattle.gt_io.specs.declared.port.Took.TheVariants.{NotYet}
 use Rattle.gt_io.specs.declared.port.Called.{Called}
 use Rattle.gt_io.specs.declared.port.Called.TheVariants.{Nothing, Read, Wrote}
@@ -72,6 +73,18 @@ faults_by (Wrote (Err f)) = 1
 abbrev pub faults_of : Port → ℕ
 faults_of q = faults_by q.last
 
+-- how many ends a link has told: one where its last call told it
+abbrev pub ended_by : Called → ℕ
+ended_by Nothing = 0
+ended_by (Read (Ok (GotBytes n))) = 0
+ended_by (Read (Ok Finished)) = 1
+ended_by (Read (Ok GotNotYet)) = 0
+ended_by (Read (Err f)) = 0
+ended_by (Wrote t) = 0
+
+abbrev pub ended_of : Port → ℕ
+ended_of q = ended_by q.last
+
 -- a call on one link that is open before and after it
 pub record Tends (a b : Harbour) (c : ℕ) : Type 0 where
   pub rest : KeepsRest a b c
@@ -79,10 +92,12 @@ pub record Tends (a b : Harbour) (c : ℕ) : Type 0 where
   pub others : (b.port c).others ≡ (a.port c).others
   pub later : a.faults ≤ b.faults
 
--- Of calls on one link that had not come to its end before, at most the last one failed
-abbrev pub FailsLast : Harbour → Harbour → ℕ → Type 0
-FailsLast a b c =
-    is_over (a.port c).last ≡ false → b.faults ≤ a.faults + faults_of (b.port c)
+-- Of calls on one link that had not come to its end before, at most the last one failed or told the
+-- end
+abbrev pub StopsLast : Harbour → Harbour → ℕ → Type 0
+StopsLast a b c =
+    is_over (a.port c).last ≡ false
+    → (b.faults ≤ a.faults + faults_of (b.port c)) × (b.ends ≤ a.ends + ended_of (b.port c))
 
 -- and where it goes on, it has not come to its end
 abbrev pub StaysLive : Port → Port → {T : Type 0} → Result T Pause → Type 0
@@ -279,7 +294,7 @@ pub record Hears {M : Type 0} (np : NamedPolicy) (first : List Entry) (legal : L
   pub mine : AreMine who acted.entries
   pub grows : Grows before after acted.entries (2 * length acted.readings)
   pub actor : talk'.actor ≡ actor_by (read_line np Nobody false line) talk.actor
-  pub asked : talk'.asked ≡ talk.asked + one_where (is_accepted acted.answer)
+  pub asked : talk'.asked ≡ talk.asked + one_where (is_replied acted.answer)
   pub denied : talk'.denied ≡ talk.denied + one_where (is_denied acted.answer)
   pub calls : pace'.calls ≡ pace.calls + length acted.readings
   pub few : length acted.readings ≤ 1

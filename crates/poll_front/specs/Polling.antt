@@ -15,13 +15,14 @@ use Rattle.turn_lock.specs.Holders.{Holder, IsToldBy}
 use Rattle.locked_history.specs.Fronts.{by}
 use Rattle.policy_words.specs.Naming.{NamedPolicy}
 use Rattle.connection_laws.specs.declared.ends.LinkEnd.TheVariants.{Ended as LinkEnded, ReadFault as LinkReadFault, WriteFault as LinkWriteFault, Spent as LinkSpent, Worn as LinkWorn}
-use Rattle.connection_laws.specs.Connection.{Acted, readings_of, entries_of, asked_in, denied_in, part_of, IsTimed, Conn}
+use Rattle.connection_laws.specs.Lines.{Acted, readings_of, entries_of, asked_in, denied_in}
+use Rattle.connection_laws.specs.Connection.{part_of, IsTimed, Conn}
 use Rattle.poll_front.specs.declared.ends.Polled.{Polled}
 use Rattle.poll_front.specs.declared.ends.PollEnd.{PollEnd}
 use Rattle.poll_front.specs.declared.ends.PollEnd.TheVariants.{Ended, ReadFault, WriteFault, Spent, Full, Stopped, Worn}
 use Rattle.poll_front.specs.Fronts.{Turn, acted_of, all_acted, PollsBy}
 use Rattle.poll_front.specs.declared.front.RunEnd.{RunEnd}
-use Rattle.poll_front.specs.Tables.{IsLetIn, IsLetGo, Ran}
+use Rattle.poll_front.specs.Tables.{IsBlank, IsLetIn, IsLetGo, Ran}
 
 -- The link is a connection over the history, with its part of it as its own entries. One that was
 -- open at the end has the text of all its whole lines, or its last write found no room and the last
@@ -50,6 +51,7 @@ pub record IsPolledLink (np : NamedPolicy) (birth : ℕ) (h : List Entry) (nexts
     (start now : Port) (e : Polled) (acted : List Acted) : Type 0 where
   pub taken : List ℕ
   pub given : List ℕ
+  pub fresh : IsBlank start
   pub conn : PollConn np birth (by 0 c) h taken given acted now.last e.outcome
   pub asked : e.asked ≡ asked_in acted
   pub denied : e.denied ≡ denied_in acted

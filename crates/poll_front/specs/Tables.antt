@@ -10,9 +10,10 @@ use Rattle.turn_lock.specs.Holders.{Holder}
 use Rattle.policy_words.specs.Naming.{NamedPolicy}
 use Rattle.gt_io.specs.Frames.{blank_frame}
 use Rattle.gt_io.specs.Causes.{Rose}
+use Rattle.gt_io.specs.Links.{IsNothing}
 use Rattle.gt_io.specs.declared.source.Failed.{Failed}
 use Rattle.connection_laws.specs.declared.talk.LineAnswer.TheVariants.{Silence}
-use Rattle.connection_laws.specs.Connection.{Acted}
+use Rattle.connection_laws.specs.Lines.{Acted}
 use Rattle.connection_laws.specs.Desks.{IsNamedActor}
 use Rattle.connection_laws.specs.Acting.{told_bytes}
 use Rattle.poll_front.specs.declared.ends.Polled.{Polled}
@@ -27,7 +28,7 @@ use Rattle.poll_front.specs.declared.seats.Seat.TheVariants.{Open, Over}
 use Rattle.gt_io.specs.declared.port.PortEvent.{PortEvent}
 use Rattle.gt_io.specs.declared.port.PortEvent.TheVariants.{Opened, Ready, Stop}
 use Rattle.gt_io.specs.Ports.{Port, Harbour, IsOpen, KeepsRest, open_among}
-use Rattle.poll_front.specs.Fronts.{Turn, FrontSpot, acted_of, waiting_bytes, faults_of, Rests, EndsLink, HasOwnEnd, HasPlaces, Running}
+use Rattle.poll_front.specs.Fronts.{Turn, FrontSpot, acted_of, waiting_bytes, faults_of, ended_of, Rests, EndsLink, HasOwnEnd, HasPlaces, Running}
 use Rattle.poll_front.specs.declared.front.TheConstants.{MAX_OPEN}
 use Rattle.poll_front.specs.declared.parties.TheConstants.{MAX_READ}
 
@@ -54,7 +55,7 @@ CanServe np a c pace (Over polled) = Unit {0}
 
 -- a link is let go at once exactly where as many others were open as may be
 abbrev pub IsLetIn : Port → PollEnd → Type 0
-IsLetIn q Full = MAX_OPEN ≤ q.others
+IsLetIn q Full = q.others ≡ MAX_OPEN
 IsLetIn q _ = q.others < MAX_OPEN
 
 -- what stands in the place of a link
@@ -80,6 +81,10 @@ pub record SameBytes (start q : Port) : Type 0 where
   pub taken : q.taken ≡ start.taken
   pub given : q.given ≡ start.given
 
+-- nothing has gone over the link yet
+abbrev pub IsBlank : Port → Type 0
+IsBlank q = IsNothing q.taken × IsNothing q.given
+
 -- when a link was finished: one that was open at the end was so behind the last call of `next`
 abbrev pub IsLetGo : ℕ → Port → PollEnd → Type 0
 IsLetGo nexts q Stopped = q.finished ≡ Some nexts
@@ -94,6 +99,14 @@ abbrev pub first_spot : {M : Type 0} → Holder M → Option (ℕ → ℕ) → F
 first_spot pass clock =
     record { pass = pass; clock = clock; pace = record { calls = 0; reached = None } }
 
+-- `next` was not called yet, or told last that a link was opened or is ready
+abbrev pub MayGoOn : Option (Result PortEvent Failed) → Type 0
+MayGoOn None = Unit {0}
+MayGoOn (Some (Ok (Opened c))) = Unit {0}
+MayGoOn (Some (Ok (Ready c))) = Unit {0}
+MayGoOn (Some (Ok Stop)) = ⊥
+MayGoOn (Some (Err f)) = ⊥
+
 abbrev pub GoesTo : Harbour → Harbour → ℕ → List Seat → RunEnd → Type 0
 GoesTo start b draws seats EndStopped =
     (b.told ≡ Some (Ok Stop)) × (length seats < MAX_LINKS) × AreUnwornSeats seats
@@ -102,16 +115,18 @@ GoesTo start b draws seats PortFault =
     × (length seats < MAX_LINKS) × AreUnwornSeats seats
 GoesTo start b draws seats Enough =
     ((c : ℕ) × (b.told ≡ Some (Ok (Opened c)))) × (length seats ≡ MAX_LINKS)
+    × AreUnwornSeats seats
 GoesTo start b draws seats EndWorn =
     ((c : ℕ) × (b.told ≡ Some (Ok (Ready c)))) × (draws ≡ 2 ^ 40)
     × ((i : ℕ)
     × ((e : Polled) × (slice_get seats i ≡ Some (Over e)) × (is_worn_end e.outcome ≡ true)))
-GoesTo start b draws seats Memory = Unit {0}
+GoesTo start b draws seats Memory =
+    MayGoOn b.told × (length seats < MAX_LINKS) × AreUnwornSeats seats
 
--- how many faults the first n links have shown
-abbrev pub faults_among : (ℕ → Port) → ℕ → ℕ
-faults_among port zero = 0
-faults_among port (suc n) = faults_among port n + faults_of (port (n + 1))
+-- how many of these the first n links have shown
+abbrev pub count_among : (Port → ℕ) → (ℕ → Port) → ℕ → ℕ
+count_among one port zero = 0
+count_among one port (suc n) = count_among one port n + one (port (n + 1))
 
 -- and `next`, as it was last called
 abbrev pub faults_told : Option (Result PortEvent Failed) → ℕ
@@ -123,7 +138,11 @@ faults_told (Some (Err f)) = 1
 -- count rose by no more than these
 abbrev pub FaultsAreLast : Harbour → Harbour → Type 0
 FaultsAreLast start b =
-    b.faults ≤ start.faults + (faults_among b.port b.opened + faults_told b.told)
+    b.faults ≤ start.faults + (count_among faults_of b.port b.opened + faults_told b.told)
+
+-- Each read that told the end of a link is its last call: the count rose by no more than these
+abbrev pub EndsAreLast : Harbour → Harbour → Type 0
+EndsAreLast start b = b.ends ≤ start.ends + count_among ended_of b.port b.opened
 
 -- how a link that is open is let go; one that has ended stays as it is
 abbrev pub EndsSeatAt : Port → Port → ℕ → Seat → Polled → Type 0
@@ -140,6 +159,7 @@ pub record EndsSeat (a b : Harbour) (c : ℕ) (seat : Seat) (e : Polled) : Type 
   pub at : EndsSeatAt (a.port c) (b.port c) a.nexts seat e
   pub rest : KeepsRest a b c
   pub faults : b.faults ≡ a.faults
+  pub ends : b.ends ≡ a.ends
 
 -- the links of the seats from number c on are open where their seats are
 abbrev pub AreOpenSeats : Harbour → ℕ → List Seat → Type 0
@@ -151,6 +171,7 @@ pub record LetsGo (a b : Harbour) (seats : List Seat) (ends : List Polled) : Typ
   pub nexts : b.nexts ≡ a.nexts
   pub opened : b.opened ≡ a.opened
   pub faults : b.faults ≡ a.faults
+  pub ends : b.ends ≡ a.ends
   pub count : length ends ≡ length seats
   pub each : (i : ℕ) (s : Seat) (e : Polled) → slice_get seats i ≡ Some s
       → slice_get ends i ≡ Some e → EndsSeatAt (a.port (i + 1)) (b.port (i + 1)) a.nexts s e
@@ -167,11 +188,12 @@ RunsTo start b draws ends PortFault =
     ((f : Failed) × (b.told ≡ Some (Err f))) × Rose start.faults b.faults × (b.opened < MAX_LINKS)
     × AreUnwornEnds ends
 RunsTo start b draws ends Enough =
-    ((c : ℕ) × (b.told ≡ Some (Ok (Opened c)))) × (b.opened ≡ MAX_LINKS)
+    ((c : ℕ) × (b.told ≡ Some (Ok (Opened c)))) × (b.opened ≡ MAX_LINKS) × AreUnwornEnds ends
 RunsTo start b draws ends EndWorn =
     ((c : ℕ) × (b.told ≡ Some (Ok (Ready c)))) × (draws ≡ 2 ^ 40)
     × ((i : ℕ) × ((e : Polled) × (slice_get ends i ≡ Some e) × (is_worn_end e.outcome ≡ true)))
-RunsTo start b draws ends Memory = Unit {0}
+RunsTo start b draws ends Memory =
+    MayGoOn b.told × (b.opened < MAX_LINKS) × AreUnwornEnds ends
 
 module _ {M : Type 0} (np : NamedPolicy) (first : List Entry) (legal : List Entry → Type 0)
     (now : List Entry → ℕ) (number : ℕ) where
@@ -193,6 +215,8 @@ module _ {M : Type 0} (np : NamedPolicy) (first : List Entry) (legal : List Entr
     pub later : a.faults ≤ b.faults
     pub faults : (start : Port) (acted : List Acted) → Sits np start (a.port c) acted seat
         → b.faults + faults_of (a.port c) ≤ a.faults + faults_of (b.port c)
+    pub ends : (start : Port) (acted : List Acted) → Sits np start (a.port c) acted seat
+        → b.ends + ended_of (a.port c) ≤ a.ends + ended_of (b.port c)
     pub ended : MatchOption result ((b.port c).finished ≡ (a.port c).finished)
         (λ end. ((a.port c).finished ≡ None) × ((n : ℕ) × ((b.port c).finished ≡ Some n)))
     pub over : (end : PollEnd) → result ≡ Some end
@@ -211,9 +235,11 @@ module _ {M : Type 0} (np : NamedPolicy) (first : List Entry) (legal : List Entr
     pub sits : (i : ℕ) (s : Seat) → slice_get seats i ≡ Some s
         → Sits np (start.port (i + 1)) (a.port (i + 1)) (acted_of (i + 1) turns) s
     pub ahead : (k : ℕ) → a.opened < k → SameBytes (start.port k) (a.port k)
+    pub fresh : (k : ℕ) → 1 ≤ k → k ≤ a.opened → IsBlank (start.port k)
     pub range : Each (λ (t : Turn). (1 ≤ t.link) × (t.link ≤ a.opened)) turns
     pub later : start.faults ≤ a.faults
     pub faults : FaultsAreLast start a
+    pub ends : EndsAreLast start a
 
   -- what a run comes to, before its open links are let go
   pub record Went (o p : FrontSpot M) (start b : Harbour) (seats : List Seat) (end : RunEnd)
@@ -236,6 +262,8 @@ module _ {M : Type 0} (np : NamedPolicy) (first : List Entry) (legal : List Entr
         (acted_of (i + 1) turns)
         e.outcome
         × IsLetIn (b.port (i + 1)) e.outcome × IsLetGo b.nexts (b.port (i + 1)) e.outcome
+    pub fresh : (k : ℕ) → 1 ≤ k → k ≤ b.opened → IsBlank (start.port k)
     pub range : Each (λ (t : Turn). (1 ≤ t.link) × (t.link ≤ b.opened)) turns
     pub runs : RunsTo start b after.draws ends end
     pub faults : FaultsAreLast start b
+    pub ends : EndsAreLast start b

@@ -7,7 +7,7 @@ ghost use Rattle.connection_laws.specs.Desks.{IsNamedActor, MayBeAsked, RepliesC
 ghost use Rattle.connection_laws.specs.Turns.{IsIdle, IsReached};
 ghost use Rattle.connection_laws.specs.Acting.{told_bytes};
 ghost use Rattle.gt_io.specs.Ports.{Port, IsOpen, ReadsPort};
-ghost use Rattle.poll_front.specs.Fronts.{Turn, FrontSpot, Tends, FailsLast, Running, PartyStands, Gone, Goes, PushesOut, FillsUp, acted_of};
+ghost use Rattle.poll_front.specs.Fronts.{Turn, FrontSpot, Tends, StopsLast, Running, PartyStands, Gone, Goes, PushesOut, FillsUp, acted_of};
 
 use crate::ends::PollEnd;
 use crate::parties::{MAX_READ, Pace, Party, Pause};
@@ -20,7 +20,7 @@ fn push_out<P: Ports>(ports: &mut P, link: u32, text: &[u8], at: &mut usize) -> 
     requires within { at.old ≤ length text.now }
     ensures pushes { PushesOut (P.harbour ports.old) (P.harbour ports.new) link text.now at.old
         at.new result }
-    ensures faults { FailsLast (P.harbour ports.old) (P.harbour ports.new) link }
+    ensures stops { StopsLast (P.harbour ports.old) (P.harbour ports.new) link }
 {
     while *at < text.len() {
         let (_, rest) = text.split_at(*at);
@@ -40,7 +40,7 @@ pub(crate) fn write_out<P: Ports>(ports: &mut P, link: u32, party: &mut Party) -
     ensures same { party.new ≡ record party.old { at = party.new.at } }
     ensures pushes { PushesOut (P.harbour ports.old) (P.harbour ports.new) link
         (told_bytes party.old.told) party.old.at party.new.at result }
-    ensures faults { FailsLast (P.harbour ports.old) (P.harbour ports.new) link }
+    ensures stops { StopsLast (P.harbour ports.old) (P.harbour ports.new) link }
 {
     push_out(ports, link, reply_of(&party.told), &mut party.at)
 }
@@ -65,7 +65,7 @@ pub(crate) fn fill<P: Ports>(ports: &mut P, link: u32, party: &mut Party) -> Res
     requires within { party.old.upto ≤ MAX_READ }
     ensures fills { FillsUp (P.harbour ports.old) (P.harbour ports.new) link party.old party.new
         result }
-    ensures faults { FailsLast (P.harbour ports.old) (P.harbour ports.new) link }
+    ensures stops { StopsLast (P.harbour ports.old) (P.harbour ports.new) link }
     ensures size { length party.new.chunk ≡ MAX_READ }
 {
     match read_some(ports, link, &mut party.chunk, party.left) {

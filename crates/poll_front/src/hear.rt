@@ -8,7 +8,7 @@ ghost use Rattle.connection_laws.specs.Rooms.{text_in, LendsRoom};
 ghost use Rattle.poll_front.specs.Fronts.{Hears, HasPlaces};
 
 use crate::parties::Pace;
-use connection_laws::{LineAnswer, Server, Talk, act, count};
+use connection_laws::{LineAnswer, Server, Talk, act_at, count};
 use gt_base::{List, Machine};
 use gt_io::{Clock, Gate};
 use std::sync::Wait;
@@ -40,10 +40,8 @@ pub(crate) fn hear<M: Machine, R: Wait, C: Clock, G: Gate>(
     ensures lends { LendsRoom room.old room.new (text_in result) }
 {
     talk.calls = pace.calls;
-    talk.reached = pace.reached;
-    let told = act(server, pass, clock, talk, room, line);
+    let told = act_at(server, pass, clock, &mut pace.reached, talk, room, line);
     pace.calls = talk.calls;
-    pace.reached = talk.reached;
     count(talk, &told);
     told
 }

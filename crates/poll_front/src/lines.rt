@@ -5,7 +5,7 @@ ghost use Rattle.connection_laws.specs.Desks.{IsNamedActor, MayBeAsked, RepliesC
 ghost use Rattle.connection_laws.specs.Turns.{IsIdle, IsReached};
 ghost use Rattle.connection_laws.specs.Rooms.{text_in, room_with, TakesBack};
 ghost use Rattle.gt_io.specs.Ports.{IsOpen};
-ghost use Rattle.poll_front.specs.Fronts.{Tends, StaysLive, FailsLast, Goes, TellsLine, HasPlaces, Counts};
+ghost use Rattle.poll_front.specs.Fronts.{Tends, StaysLive, StopsLast, Goes, TellsLine, HasPlaces, Counts};
 ghost use Rattle.poll_front.specs.declared.parties.TheConstants.{MAX_READ};
 
 use crate::attend::write_out;
@@ -41,7 +41,7 @@ fn tell<P: Ports>(
         result }
     ensures live { StaysLive ((P.harbour ports.old).port link) ((P.harbour ports.new).port link)
         result }
-    ensures faults { FailsLast (P.harbour ports.old) (P.harbour ports.new) link }
+    ensures stops { StopsLast (P.harbour ports.old) (P.harbour ports.new) link }
 {
     party.told = told;
     party.at = 0;
@@ -84,7 +84,7 @@ fn take_next<M: Machine, R: Wait, P: Ports, C: Clock, G: Gate>(
     ensures tends { Tends (P.harbour ports.old) (P.harbour ports.new) server.now.conn }
     ensures live { StaysLive ((P.harbour ports.old).port server.now.conn)
         ((P.harbour ports.new).port server.now.conn) result }
-    ensures faults { FailsLast (P.harbour ports.old) (P.harbour ports.new) server.now.conn }
+    ensures stops { StopsLast (P.harbour ports.old) (P.harbour ports.new) server.now.conn }
     ensures one { (party.new.from ≡ party.old.from + 1) × (party.new.upto ≡ party.old.upto)
         × (party.new.left ≡ party.old.left) }
     ensures kept { room_with (text_in party.old.told) party.old.room
@@ -148,7 +148,7 @@ pub(crate) fn take_rest<M: Machine, R: Wait, P: Ports, C: Clock, G: Gate>(
     ensures tends { Tends (P.harbour ports.old) (P.harbour ports.new) server.now.conn }
     ensures live { StaysLive ((P.harbour ports.old).port server.now.conn)
         ((P.harbour ports.new).port server.now.conn) result }
-    ensures faults { FailsLast (P.harbour ports.old) (P.harbour ports.new) server.now.conn }
+    ensures stops { StopsLast (P.harbour ports.old) (P.harbour ports.new) server.now.conn }
     ensures all { OnOk result (party.new.from ≡ party.new.upto) }
     ensures kept { (party.new.upto ≡ party.old.upto) × (party.new.left ≡ party.old.left) }
 {

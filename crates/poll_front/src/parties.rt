@@ -58,7 +58,6 @@ impl Party {
                 asked: 0,
                 denied: 0,
                 calls: 0,
-                reached: None,
             },
             told: LineAnswer::Silence,
             at: 0,

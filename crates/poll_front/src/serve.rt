@@ -5,7 +5,7 @@ ghost use Rattle.connection_laws.specs.Desks.{IsNamedActor, MayBeAsked, RepliesC
 ghost use Rattle.connection_laws.specs.Turns.{IsIdle, IsReached};
 ghost use Rattle.connection_laws.specs.Acting.{told_bytes};
 ghost use Rattle.gt_io.specs.Ports.{IsOpen};
-ghost use Rattle.poll_front.specs.Fronts.{Tends, FailsLast, Attends, HasPlaces, Counts};
+ghost use Rattle.poll_front.specs.Fronts.{Tends, StopsLast, Attends, HasPlaces, Counts};
 ghost use Rattle.poll_front.specs.declared.parties.TheConstants.{MAX_READ};
 
 use crate::attend::{fill, write_out};
@@ -52,7 +52,7 @@ pub(crate) fn attend<M: Machine, R: Wait, P: Ports, C: Clock, G: Gate>(
     ensures reached { IsReached (M.legal server.now.desk.now.root)
         (M.now_of server.now.desk.now.root) pass.new.seen pace.new.reached }
     ensures tends { Tends (P.harbour ports.old) (P.harbour ports.new) server.now.conn }
-    ensures faults { FailsLast (P.harbour ports.old) (P.harbour ports.new) server.now.conn }
+    ensures stops { StopsLast (P.harbour ports.old) (P.harbour ports.new) server.now.conn }
 {
     if let Err(pause) = write_out(ports, server.conn, party) {
         return pause;

@@ -22,8 +22,8 @@ use Rattle.instant_bases.specs.contracts.watches.Watch.TheInside as watch_inside
 use Rattle.session_table.specs.contracts.tables.Sessions as sessions
 use Rattle.core_machine.specs.contracts.books.Book as book
 use Rattle.core_machine.specs.contracts.books.Book.TheInside as book_inside
-use Rattle.snapshot_readers.specs.contracts.ledgers.Ledger as ledger
-use Rattle.snapshot_readers.specs.contracts.ledgers.Ledger.TheInside as ledger_inside
+use Rattle.core_machine.specs.contracts.ledgers.Ledger as ledger
+use Rattle.core_machine.specs.contracts.ledgers.Ledger.TheInside as ledger_inside
 
 graph_send : IsSend graph.the_row
 graph_send = search (sendable, crosses) depth 60

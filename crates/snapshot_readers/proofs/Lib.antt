@@ -1,15 +1,11 @@
 pub mod BookCrossing
 pub mod GlassSending
-pub mod Serving
 pub mod BoardSending
 pub mod Ascending
 pub mod Longer
-pub mod LineDone
-pub mod NoMinutes
-pub mod Acting
+pub mod GuideSteps
+pub mod Glancing
 pub mod Completing
-pub mod Closing
 pub mod Linking
 pub mod SeatSending
 pub mod Seated
-pub mod Telling

@@ -7,12 +7,13 @@ use Rattle.policy_words.specs.Naming.{NamedPolicy}
 use Rattle.connection_laws.proofs.Prefixes.{prefix_self, prefix_trans}
 use Rattle.snapshot_readers.specs.declared.ends.Viewed.{Viewed}
 use Rattle.snapshot_readers.specs.declared.ends.ViewerEnd.{ViewerEnd}
-use Rattle.snapshot_readers.specs.Viewed.{AscendBetween}
+use Rattle.connection_laws.proofs.Linking.{link_so}
+use Rattle.snapshot_readers.specs.Viewed.{link_end, AscendBetween, Sees}
 use Rattle.snapshot_readers.specs.Viewing.{Views}
 use Rattle.snapshot_readers.specs.Crew.{ViewTale, views_begun, all_lens, ViewerSpot, ViewsTo, IsViewed, AreViewed, Worked, WorksOn, Works}
 use Rattle.connection_laws.specs.Doors.{Gives, AddUp}
 use Rattle.snapshot_readers.proofs.Ascending.{ascend_on}
-use Rattle.snapshot_readers.proofs.Longer.{acted_longer}
+use Rattle.snapshot_readers.proofs.GuideSteps.{sees_longer}
 
 module _ {L : Type 0} where
   begun_push : (xs : List (ViewTale L)) (x : ViewTale L) → views_begun (xs ++ x ∷ []) ≡ views_begun xs ++ x.begun ∷ []
@@ -44,17 +45,17 @@ module _ {L : Type 0} where
     viewed_longer h h' (s ∷ ss) (x ∷ xs) more all =
         let i = all.0 in (
           record {
-            fresh = i.fresh;
-            view = record { lines = i.view.lines; fit = acted_longer np birth h h' more x.acted i.view.fit; given_is = i.view.given_is };
+            link =
+                record {
+                  fresh = i.link.fresh;
+                  conn = link_so (Sees np birth h) (Sees np birth h') (sees_longer np birth h h' more) np 0 x.taken [] [] x.given x.acted (link_end s.outcome) i.link.conn;
+                  carries = i.link.carries;
+                  cause = i.link.cause;
+                  finished = i.link.finished;
+                  complete = i.link.complete;
+                };
             lens = i.lens;
             denied = i.denied;
-            taken_is = i.taken_is;
-            left_is = i.left_is;
-            given_is = i.given_is;
-            bounded = i.bounded;
-            cause = i.cause;
-            finished = i.finished;
-            complete = i.complete;
           },
           viewed_longer h h' ss xs more all.1,
         )
@@ -72,7 +73,11 @@ module _ {L : Type 0} where
     link_done o p p' served tales s begun calls calls' w v door fresh =
         let x : ViewTale L = record { begun = begun; taken = v.taken; given = v.given; acted = v.acted } in
         let one : IsViewed traffic np birth p'.seen s x =
-        record { fresh = fresh; view = v.view; lens = v.lens_are; denied = v.denied_are; taken_is = v.taken_is; left_is = v.left_is; given_is = v.given_is; bounded = v.bounded; cause = v.cause; finished = v.finished; complete = v.complete } in (
+        record {
+          link = record { fresh = fresh; conn = v.view; carries = v.carries; cause = v.cause; finished = v.finished; complete = v.complete };
+          lens = v.lens_are;
+          denied = v.denied_are;
+        } in (
           tales ++ x ∷ [],
           record {
             links = viewed_push p'.seen served tales s x (viewed_longer p.seen p'.seen served tales v.grows w.links) one;

@@ -1,5 +1,5 @@
 -- From the seats of viewers, in their reversed order, to what the viewers have served.
-use Rattle.std.proofs.Common.{◌≡◌, ℕ, zero, suc, ◌<◌, Bool, true, false, List, [], ◌∷◌, ◌++◌, reverse, length, get_or, refl, sym, ap, subst, ◌∙◌, arith, Option, Result}
+use Rattle.std.proofs.Common.{◌≡◌, ℕ, zero, suc, ◌+◌, ◌<◌, Bool, true, false, List, [], ◌∷◌, ◌++◌, reverse, length, get_or, refl, sym, ap, subst, ◌∙◌, arith, Option, Result}
 use Rattle.std.specs.Prelude.{All, MatchBool, replicate, ◌&&◌}
 use Rattle.std.specs.List.{list_all}
 use mathlib.Core.List.{IsPrefix, reverse-cons, map-append}
@@ -13,12 +13,13 @@ use Rattle.policy_words.specs.Naming.{NamedPolicy}
 use Rattle.request_text.specs.declared.lines.Line.{Line}
 use Rattle.request_text.specs.declared.lines.LineFault.{LineFault}
 use Rattle.core_machine.specs.Looks.{is_look}
-use Rattle.snapshot_readers.specs.Glances.{IsReplyAt}
+use Rattle.connection_laws.specs.Desks.{IsReplyAt}
 use Rattle.snapshot_readers.specs.Glazed.{Glazed, fresh_glass}
 use Rattle.snapshot_readers.specs.declared.viewers.Viewer.{Viewer}
 use Rattle.snapshot_readers.specs.declared.ends.Viewed.{Viewed}
 use Rattle.snapshot_readers.specs.Crew.{ViewTale, Works, AreViewed, all_lens}
-use Rattle.snapshot_readers.specs.Viewed.{Glimpse, silence, agreed, bad, shown, no_memory, view_only, ViewActed, Looks, Gets, view_actor, AreViewActed, AscendBetween}
+use Rattle.connection_laws.specs.Lines.{Answer, silence, agreed, bad, accepted, shown, no_memory, no_steps, view_only, worn, Acted, actor_after, entries_of, GetsBy, AreActedBy}
+use Rattle.snapshot_readers.specs.Viewed.{Looks, Sees, AscendBetween}
 use Rattle.snapshot_readers.proofs.Ascending.{ascend_to}
 use Rattle.snapshot_readers.proofs.Longer.{take_longer, longer}
 use Rattle.snapshot_readers.proofs.Linking.{viewed_longer}
@@ -43,31 +44,35 @@ length_copies (suc n) x = ap suc (length_copies n x)
 
 -- what is shown of a longer list is, up to the length of its beginning, of that
 module _ (np : NamedPolicy) (birth : ℕ) (h seen : List Entry) (more : IsPrefix h seen) where
-  of_looks : (actor : Actor) (request : Request) (answer : Glimpse) → Looks np birth seen actor request answer → IsOf np birth h actor request answer
+  of_looks : (actor : Actor) (request : Request) (answer : Answer) → Looks np birth seen actor request answer → IsOf np birth h actor request answer
   of_looks actor request (shown n reply) l = λ low. subst (λ (g : List Entry). IsReplyAt np.policy birth g actor request reply) (take_longer n h seen more low) l.1
   of_looks actor request no_memory l = tt
   of_looks actor request silence l = tt
   of_looks actor request agreed l = tt
   of_looks actor request (bad f) l = tt
   of_looks actor request view_only l = tt
+  of_looks actor request (accepted reply) l = tt
+  of_looks actor request no_steps l = tt
+  of_looks actor request worn l = tt
 
-  by_look : (b : Bool) (actor : Actor) (request : Request) (answer : Glimpse) → MatchBool b (Looks np birth seen actor request answer) (answer ≡ view_only) → IsOf np birth h actor request answer
+  by_look : (b : Bool) (actor : Actor) (request : Request) (answer : Answer) → MatchBool b (Looks np birth seen actor request answer) (answer ≡ view_only) → IsOf np birth h actor request answer
   by_look true actor request answer l = of_looks actor request answer l
-  by_look false actor request answer l = subst (λ (x : Glimpse). IsOf np birth h actor request x) (sym l) tt
+  by_look false actor request answer l = subst (λ (x : Answer). IsOf np birth h actor request x) (sym l) tt
 
-  acted_of : (acted : List ViewActed) → AreViewActed np birth seen acted → AreOf np birth h acted
+  acted_of : (acted : List Acted) → AreActedBy (Sees np birth seen) np 0 acted → AreOf np birth h acted
   acted_of [] all = tt
   acted_of (a ∷ before) all = (
     acted_of before all.0,
     λ request is.
-        by_look (is_look request) (view_actor np before) request a.answer (subst (λ (said : Result Line LineFault). Gets np birth seen said (view_actor np before) a.answer) is all.1),
+        by_look (is_look request) (actor_after np before) request a.answer
+        (subst (λ (said : Result Line LineFault). GetsBy (Sees np birth seen) said (actor_after np before) (0 + length (entries_of before)) a) is all.1).0,
   )
 
   tales_of : {L : Type 0} (traffic : L → Traffic) (ss : List (Viewed L)) (xs : List (ViewTale L)) → AreViewed traffic np birth seen ss xs → AllAreOf np birth h xs
   tales_of traffic [] [] all = tt
   tales_of traffic [] (x ∷ xs) all = absurd all
   tales_of traffic (s ∷ ss) [] all = absurd all
-  tales_of traffic (s ∷ ss) (x ∷ xs) all = (acted_of x.acted all.0.view.fit, tales_of traffic ss xs all.1)
+  tales_of traffic (s ∷ ss) (x ∷ xs) all = (acted_of x.acted all.0.link.conn.fit, tales_of traffic ss xs all.1)
 
 -- what was done over a list was done over each longer one
 viewed_on : {L : Type 0} (traffic : L → Traffic) (np : NamedPolicy) (birth : ℕ) (a b : Watcher L) (seen seen' : List Entry) → IsPrefix seen seen' → HasViewed traffic np birth a b seen → HasViewed traffic np birth a b seen'

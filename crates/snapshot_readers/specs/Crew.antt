@@ -1,25 +1,25 @@
 -- What a viewer keeps from link to link.
 use Rattle.std.specs.Prelude.{◌≡◌, ℕ, ◌+◌, ◌<◌, ◌≤◌, true, ⊤, List, [], ◌∷◌, ◌++◌, length, Some, None, IfSome, MatchOption}
 use Rattle.std.specs.declared.option.Option.{Option}
-use Rattle.std.specs.Io.KnownBytes.{Appends, Consumes}
+use mathlib.Core.List.{IsPrefix}
 use Rattle.gt_base.specs.declared.requests.Entry.{Entry}
-use Rattle.gt_base.specs.declared.limits.TheConstants.{MAX_BYTES, MAX_LINKS}
+use Rattle.gt_base.specs.declared.limits.TheConstants.{MAX_LINKS}
 use Rattle.gt_io.specs.Causes.{Rose}
-use Rattle.gt_io.specs.Links.{Traffic, IsFresh}
+use Rattle.gt_io.specs.Links.{Traffic}
 use Rattle.policy_words.specs.Naming.{NamedPolicy}
+use Rattle.connection_laws.specs.Lines.{Acted, denied_in}
 use Rattle.connection_laws.specs.Doors.{Gives, AddUp}
 use Rattle.snapshot_readers.specs.declared.ends.Viewed.{Viewed}
 use Rattle.snapshot_readers.specs.declared.ends.ViewerEnd.{ViewerEnd}
 use Rattle.snapshot_readers.specs.declared.ends.ViewerEnd.TheVariants.{Fresh, Done, DoorFault, Enough, Memory}
-use Rattle.snapshot_readers.specs.Viewed.{ViewActed, lens_of, view_denials, AscendBetween, View}
-use Rattle.snapshot_readers.specs.Viewing.{ViewEndsBy, IsViewUnhindered, IsViewComplete, Grows}
+use Rattle.snapshot_readers.specs.Viewed.{lens_of, AscendBetween, IsViewedLink}
 
 -- what there is to tell of a served link: the link as the door gave it, its bytes and acted lines
 pub record ViewTale (L : Type 0) : Type 0 where
   pub begun : L
   pub taken : List ℕ
   pub given : List ℕ
-  pub acted : List ViewActed
+  pub acted : List Acted
 
 abbrev pub views_begun : {L : Type 0} → List (ViewTale L) → List L
 views_begun [] = []
@@ -48,21 +48,13 @@ pub record ViewerSpot (L : Type 0) : Type 0 where
   pub door : Option (List L)
 
 module _ {L : Type 0} (traffic : L → Traffic) (np : NamedPolicy) (birth : ℕ) where
-  -- A link was served as this is told, over a history: it came as the door had it, and it was let
-  -- go
+  -- A link was served as this is told, over a history, and its numbers and its count of denied
+  -- lines are those of its acted lines
   pub record IsViewed (h : List Entry) (s : Viewed L) (x : ViewTale L) : Type 0 where
-    pub fresh : IsFresh (traffic x.begun)
-    pub view : View np birth h x.taken x.given x.acted s.outcome
+    pub link : IsViewedLink np birth h (traffic x.begun) (traffic s.link) x.taken x.given x.acted
+        s.outcome
     pub lens : s.lens.items ≡ lens_of x.acted
-    pub denied : s.denied ≡ view_denials x.acted
-    pub taken_is : Appends (traffic x.begun).taken (traffic s.link).taken x.taken
-    pub left_is : Consumes (traffic x.begun).left (traffic s.link).left x.taken
-    pub given_is : Appends (traffic x.begun).given (traffic s.link).given x.given
-    pub bounded : length x.taken ≤ MAX_BYTES
-    pub cause : ViewEndsBy (traffic x.begun) (traffic s.link) x.taken s.outcome
-    pub finished : (traffic s.link).finished ≡ true
-    pub complete : IsViewUnhindered (traffic x.begun) (traffic s.link) x.taken
-        → IsViewComplete np x.taken x.acted s.outcome
+    pub denied : s.denied ≡ denied_in x.acted
 
   abbrev pub AreViewed : List Entry → List (Viewed L) → List (ViewTale L) → Type 0
   AreViewed h [] [] = Unit {0}
@@ -73,7 +65,7 @@ module _ {L : Type 0} (traffic : L → Traffic) (np : NamedPolicy) (birth : ℕ)
   pub record Worked (o p : ViewerSpot L) (served : List (Viewed L)) (tales : List (ViewTale L))
       : Type 0 where
     pub links : AreViewed p.seen served tales
-    pub grows : Grows o.seen p.seen
+    pub grows : IsPrefix o.seen p.seen
     pub ascends : AscendBetween (length o.seen) (all_lens served) (length p.seen)
     pub door : Gives o.door p.door (views_begun tales)
 

@@ -1,8 +1,8 @@
 pub mod Glances
 pub mod Glazed
-pub mod Ledgers
+pub mod Boards
 pub mod Viewed
-pub mod Boxes
+pub mod Guides
 pub mod Viewing
 pub mod Crew
 pub mod Seats

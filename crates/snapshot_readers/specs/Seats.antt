@@ -14,7 +14,7 @@ use Rattle.policy_words.specs.Naming.{NamedPolicy}
 use Rattle.request_text.specs.declared.lines.Line.TheVariants.{Ask}
 use Rattle.request_text.specs.Phrases.{read_line}
 use Rattle.history_laws.specs.Named.{AreNamed}
-use Rattle.snapshot_readers.specs.Glances.{IsReplyAt}
+use Rattle.connection_laws.specs.Desks.{IsReplyAt}
 use Rattle.snapshot_readers.specs.Glazed.{Glazed}
 use Rattle.snapshot_readers.specs.declared.ends.Viewed.{Viewed}
 use Rattle.snapshot_readers.specs.declared.ends.ViewerEnd.{ViewerEnd}
@@ -22,8 +22,10 @@ use Rattle.snapshot_readers.specs.declared.ends.ViewerEnd.TheVariants.{Fresh}
 use Rattle.snapshot_readers.specs.declared.viewers.Viewer.{Viewer}
 use Rattle.snapshot_readers.specs.Crew.{ViewTale, Works, AreViewed, ViewsTo, views_begun, all_lens}
 use Rattle.connection_laws.specs.Doors.{Gives}
-use Rattle.snapshot_readers.specs.Viewed.{Glimpse, shown, ViewActed, view_actor, AscendBetween}
-use Rattle.snapshot_readers.specs.Viewing.{GlancesCanBeTold, SameGlass}
+use Rattle.connection_laws.specs.Lines.{Answer, shown, Acted, actor_after}
+use Rattle.snapshot_readers.specs.Viewed.{AscendBetween}
+use Rattle.connection_laws.specs.Desks.{GlancesCanBeTold}
+use Rattle.snapshot_readers.specs.Viewing.{SameGlass}
 use Rattle.snapshot_readers.specs.declared.seats.Seat.{Seat}
 
 -- a viewer as it is seen: the links of its door that are to come, where they are told, how often
@@ -90,18 +92,18 @@ pub record HasSettled {D G L : Type 0} (h : List Entry) (x y : Seat D G L) : Typ
 module _ (np : NamedPolicy) (birth : ℕ) (h : List Entry) where
   -- a reply of a number that is not above the length of the history is the reply at that many
   -- entries
-  abbrev pub IsOf : Actor → Request → Glimpse → Type 0
+  abbrev pub IsOf : Actor → Request → Answer → Type 0
   IsOf actor request (shown n reply) =
       n ≤ length h → IsReplyAt np.policy birth (take n h) actor request reply
   IsOf actor request _ = ⊤
 
   -- so for what each line asks
-  abbrev pub AreOf : List ViewActed → Type 0
+  abbrev pub AreOf : List Acted → Type 0
   AreOf [] = ⊤
   AreOf (a ∷ before) =
       AreOf before
       × ((request : Request) → read_line np Nobody false a.line ≡ Ok (Ask request)
-      → IsOf (view_actor np before) request a.answer)
+      → IsOf (actor_after np before) request a.answer)
 
   abbrev pub AllAreOf : {L : Type 0} → List (ViewTale L) → Type 0
   AllAreOf [] = ⊤

@@ -1,14 +1,13 @@
 //! The board: a book whose entries are published on two copies.
-ghost use Rattle.std.specs.Prelude.{◌≡◌, ◌≤◌, ◌++◌, [], replicate, IfOk, IfErr};
+ghost use Rattle.std.specs.Prelude.{◌≡◌, ◌≤◌, ◌++◌, [], replicate, IfOk, OnOk, IfErr};
 ghost use mathlib.Core.List.{IsPrefix};
 ghost use Rattle.snapshot_readers.specs.Glazed.{fresh_glass};
 ghost use Rattle.core_machine.specs.Books.{SameRoot};
 
 use crate::book_copy::BookCopy;
 use crate::glasses::Glasses;
-use crate::ledgers::Ledger;
 use core::mem::replace_with;
-use core_machine::Book;
+use core_machine::{Book, Ledger};
 use gt_base::{Entry, Memory};
 use policy_book::Policy;
 use published_copies::Copies;
@@ -16,8 +15,9 @@ use std::alloc::Global;
 use std::marker::Model;
 use std::sync::Wait;
 
-/// A ledger, and the copies on which its entries are published. It is seen as the book. It keeps
-/// the runtime, since to publish may wait for a reader.
+/// A ledger, and the copies on which its entries are published. It is seen as the book, and the
+/// entries that are published, which are its first ones. It keeps the runtime, since to publish may
+/// wait for a reader.
 pub struct Board<'a, R: Wait> {
     pub(crate) rt: &'a R,
     pub(crate) ledger: Ledger,
@@ -25,16 +25,16 @@ pub struct Board<'a, R: Wait> {
 }
 
 impl<'a, R: Wait> Model for Board<'a, R> {
-    ghost use Rattle.core_machine.specs.Books.{BookView, book_code};
+    ghost use Rattle.snapshot_readers.specs.Boards.{BoardView, board_code};
 
-    ghost Value = { BookView };
+    ghost Value = { BoardView };
 
-    ghost coded = { book_code };
+    ghost coded = { board_code };
 
     ghost use Rattle.std.specs.Prelude.{◌≡◌, ◌++◌};
     ghost use mathlib.Core.List.{IsPrefix};
 
-    ghost view = { λ b. b.ledger };
+    ghost view = { λ b. record { ledger = b.ledger; shown = b.copies.shown } };
 
     ghost invariant = { λ b. (b.copies.root ≡ (b.ledger.named, b.ledger.birth))
         × IsPrefix (b.copies.shown ++ b.copies.waiting) b.ledger.entries };
@@ -71,7 +71,7 @@ impl<'a, R: Wait> Board<'a, R> {
         requires empty { (ledger.entries ≡ []) × (left.entries ≡ []) × (right.entries ≡ []) }
         requires alike { SameRoot ledger left × SameRoot ledger right }
         requires viewers { (1 ≤ viewers) × (viewers ≤ 8) }
-        ensures board { IfOk result (λ t. t.0 ≡ ledger) }
+        ensures board { IfOk result (λ t. t.0 ≡ record { ledger = ledger; shown = [] }) }
         ensures glasses { IfOk result
             (λ t. t.1.items ≡ replicate viewers (fresh_glass ledger.named ledger.birth)) }
         ensures err { IfErr result (λ e. e.ledger ≡ ledger) }
@@ -84,14 +84,15 @@ impl<'a, R: Wait> Board<'a, R> {
 
     /// The book.
     pub fn book(&self) -> &Book
-        ensures { result.now ≡ self.now }
+        ensures { result.now ≡ self.now.ledger }
     {
         self.ledger.book()
     }
 
     /// Publishes all entries. For want of memory some may wait for the next call.
     pub fn catch_up(&mut self) -> Result<(), Memory>
-        ensures { self.new ≡ self.old }
+        ensures ledger { self.new.ledger ≡ self.old.ledger }
+        ensures all { OnOk result (self.new.shown ≡ self.new.ledger.entries) }
     {
         let entries = self.ledger.book().entries().as_slice();
         replace_with(&mut self.copies, (self.rt, entries), brought_up)
@@ -99,14 +100,14 @@ impl<'a, R: Wait> Board<'a, R> {
 
     /// Publishes what there is memory for.
     pub(crate) fn follow(&mut self)
-        ensures { self.new ≡ self.old }
+        ensures { self.new.ledger ≡ self.old.ledger }
     {
         let _ = self.catch_up();
     }
 
     /// The ledger alone.
     pub fn into_ledger(self) -> Ledger
-        ensures { result ≡ self.entry }
+        ensures { result ≡ self.entry.ledger }
     {
         let Board { rt, ledger, copies } = self;
         copies.end(rt);
@@ -122,6 +123,7 @@ fn brought_up<R: Wait>(
     requires { IsPrefix (copies.shown ++ copies.waiting) with.1.now }
     ensures root { result.0.root ≡ copies.root }
     ensures front { IsPrefix (result.0.shown ++ result.0.waiting) with.entry.1.now }
+    ensures all { OnOk result.1 (result.0.shown ≡ with.entry.1.now) }
 {
     copies.catch_up(with.0, with.1)
 }

@@ -1,7 +1,6 @@
-//! A book as connections meet it. A `Ledger` is the machine under the lock, whose legal lists are
-//! of named moves, so that every reply in it can be told. A `Board` is a ledger whose entries are
-//! published on two copies, and a `Glass` looks at the copy that was published last, without the
-//! lock. A `Viewer` serves links by glances, and seats let viewers run in threads of their own.
+//! A `Board` is a ledger whose entries are published on two copies, and a `Glass` looks at the copy
+//! that was published last, without the lock. A `Viewer` serves links by glances, and seats let
+//! viewers run in threads of their own.
 #![tactic(auto)]
 
 mod board;
@@ -9,16 +8,11 @@ mod book_copy;
 mod ends;
 mod glass;
 mod glasses;
-mod inbox;
-mod laws;
-mod ledgers;
-mod lines;
+mod guide;
 mod machine_board;
-mod machine_ledger;
 mod named;
 mod seats;
 mod serve;
-mod showing;
 mod station;
 mod viewers;
 
@@ -27,8 +21,6 @@ pub use book_copy::BookCopy;
 pub use ends::{ViewEnd, Viewed, ViewerEnd};
 pub use glass::{Glanced, Glass};
 pub use glasses::Glasses;
-pub use laws::glances_can_be_told;
-pub use ledgers::Ledger;
 pub use seats::{Seat, all_told, leave_seats, run_seats, settle_all, take_seats};
 pub use serve::view_link;
 pub use station::Station;

@@ -6,17 +6,17 @@ use gt_base::{Actor, Instant, Keeps, Machine, Reply, Request, StepFault, Who};
 use std::sync::Wait;
 
 impl<'a, R: Wait> Keeps for Board<'a, R> {
-    ghost use Rattle.core_machine.specs.Books.{SameRoot, SameRoot-refl, SameRoot-sym, SameRoot-trans};
+    ghost use Rattle.snapshot_readers.specs.Boards.{SameBoard, SameBoard-refl, SameBoard-sym, SameBoard-trans};
 
-    ghost list = { λ b. b.entries };
+    ghost list = { λ b. b.ledger.entries };
 
-    ghost same_root = { SameRoot };
+    ghost same_root = { SameBoard };
 
-    ghost same_refl = { SameRoot-refl };
+    ghost same_refl = { SameBoard-refl };
 
-    ghost same_sym = { SameRoot-sym };
+    ghost same_sym = { SameBoard-sym };
 
-    ghost same_trans = { SameRoot-trans };
+    ghost same_trans = { SameBoard-trans };
 
     fn kept(&self) -> u64 {
         self.ledger.kept()
@@ -25,19 +25,19 @@ impl<'a, R: Wait> Keeps for Board<'a, R> {
 
 impl<'a, R: Wait> Machine for Board<'a, R> {
     ghost use Rattle.core_machine.specs.Books.{now_after, IsNamedFor, IsNamedFor-by_root, now_after-by_root};
-    ghost use Rattle.snapshot_readers.specs.Ledgers.{IsLegalLedger, IsLegalLedger-by_root};
+    ghost use Rattle.core_machine.specs.Ledgers.{IsLegalLedger, IsLegalLedger-by_root};
 
-    ghost legal = { IsLegalLedger };
+    ghost legal = { λ b. IsLegalLedger b.ledger };
 
-    ghost named = { IsNamedFor };
+    ghost named = { λ b. IsNamedFor b.ledger };
 
-    ghost now_of = { now_after };
+    ghost now_of = { λ b. now_after b.ledger };
 
-    ghost legal_root = { λ a b h s. IsLegalLedger-by_root a b h s };
+    ghost legal_root = { λ a b h s. IsLegalLedger-by_root a.ledger b.ledger h s };
 
-    ghost named_root = { IsNamedFor-by_root };
+    ghost named_root = { λ a b actor request s. IsNamedFor-by_root a.ledger b.ledger actor request s };
 
-    ghost now_root = { now_after-by_root };
+    ghost now_root = { λ a b h s. now_after-by_root a.ledger b.ledger h s };
 
     fn now(&self) -> Instant {
         Machine::now(&self.ledger)

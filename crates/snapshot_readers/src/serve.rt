@@ -1,55 +1,72 @@
 //! A viewer's link, from its first byte to its end.
-ghost use Rattle.std.specs.Prelude.{◌≡◌, ◌+◌, ◌<◌, ◌≤◌, ◌^◌, false};
+ghost use Rattle.std.specs.Prelude.{◌≡◌, ◌+◌, ◌<◌, ◌≤◌, ◌^◌, ℕ, true, false, []};
 ghost use Rattle.gt_base.specs.declared.limits.TheConstants.{MAX_BYTES};
-ghost use Rattle.snapshot_readers.specs.Viewing.{GlancesCanBeTold, IsViewStart, SameGlass, Converses, Views, view_point};
+ghost use Rattle.gt_io.specs.Frames.{blank_frame};
+ghost use Rattle.connection_laws.specs.Attending.{IsStart, spot, Attends};
+ghost use Rattle.snapshot_readers.specs.Viewed.{link_end};
+ghost use Rattle.snapshot_readers.specs.Guides.{guide_view, GuideAsks};
+ghost use Rattle.connection_laws.specs.Desks.{GlancesCanBeTold};
+ghost use Rattle.snapshot_readers.specs.Viewing.{SameGlass, Views};
 
 use crate::ends::{ViewEnd, Viewed};
 use crate::glass::Glass;
-use crate::inbox::Inbox;
-use crate::lines::take_byte;
-use crate::showing::Showing;
+use crate::guide::Guide;
 use crate::station::Station;
-use gt_base::{Actor, List};
-use gt_io::{Framer, Gate, Link};
+use connection_laws::{Hearing, LinkEnd, attend};
+use gt_base::List;
+use gt_io::{Gate, Link};
 use policy_book::Policy;
 
-/// Serves a link to its end.
-fn converse<L: Link, G: Gate>(
+/// Serves a link to its end by glances, and lets it go.
+fn attend_by<L: Link, G: Gate>(
     glass: &mut Glass,
     policy: &Policy,
     station: &Station<'_, G>,
     link: &mut L,
-    showing: &mut Showing,
-) -> ViewEnd
+    hearing: &mut Hearing,
+    lens: &mut List<u64>,
+) -> LinkEnd
     requires policy { glass.old.named ≡ policy.now }
     requires replies { GlancesCanBeTold policy.now glass.old.birth }
-    requires start { IsViewStart showing.old }
+    requires start { IsStart hearing.old.talk }
+    requires frame { hearing.old.framer ≡ blank_frame }
     requires open { (L.traffic link.old).finished ≡ false }
     ensures glass { SameGlass glass.old glass.new }
-    ensures converses { Converses policy.now glass.old.birth
-        (view_point glass.old.seen showing.old (L.traffic link.old).given)
-        (view_point glass.new.seen showing.new (L.traffic link.new).given)
-        (L.traffic link.old) (L.traffic link.new) result }
-    ensures calls { showing.new.calls ≤ showing.old.calls + MAX_BYTES }
-    ensures held { (L.traffic link.new).finished ≡ (L.traffic link.old).finished }
+    ensures attends { Attends policy.now (GuideAsks policy.now glass.old.birth) (λ g n. ⊥)
+        (spot (guide_view glass.old.seen lens.old.items) hearing.old.talk
+        (L.traffic link.old).given)
+        (spot (guide_view glass.new.seen lens.new.items) hearing.new.talk
+        (L.traffic link.new).given) (L.traffic link.old) (L.traffic link.new) result }
+    ensures calls { hearing.new.talk.calls ≤ hearing.old.talk.calls + MAX_BYTES }
+    ensures finished { (L.traffic link.new).finished ≡ true }
 {
-    let mut framer = Framer::new();
-    let mut inbox = Inbox::new();
-    loop {
-        let byte = match inbox.next(link) {
-            Ok(byte) => byte,
-            Err(end) => return end,
-        };
-        if let Err(end) = take_byte(glass, policy, station, link, &mut framer, showing, byte) {
-            return end;
-        }
+    let mut guide = Guide {
+        station,
+        policy,
+        glass,
+        lens,
+    };
+    attend(&mut guide, link, hearing)
+}
+
+/// The end of a viewer's link, which has no pass to be worn.
+fn view_end(end: LinkEnd) -> ViewEnd
+    requires { (n : ℕ) → end ≡ LinkEnd.Worn n → ⊥ }
+    ensures { link_end result ≡ end }
+{
+    match end {
+        LinkEnd::Ended => ViewEnd::Ended,
+        LinkEnd::ReadFault => ViewEnd::ReadFault,
+        LinkEnd::WriteFault => ViewEnd::WriteFault,
+        LinkEnd::Spent => ViewEnd::Spent,
+        LinkEnd::Worn { .. } => unreachable!(),
     }
 }
 
 /// Serves one link of a viewer, line by line: it passes the gate, and answers by a glance what only
-/// looks. After the first read or write that fails it makes no further one, nor a read behind the one
-/// that told the end. At the end it lets the link go, which is the last call on it. `calls` counts the request lines of the viewer. Want of memory shows in the reply to a
-/// line.
+/// looks. After the first read or write that fails it makes no further one, nor a read behind the
+/// one that told the end. At the end it lets the link go, which is the last call on it. `calls`
+/// counts the request lines of the viewer. Want of memory shows in the reply to a line.
 pub fn view_link<L: Link, G: Gate>(
     glass: &mut Glass,
     policy: &Policy,
@@ -67,27 +84,14 @@ pub fn view_link<L: Link, G: Gate>(
         (L.traffic result.link) result.outcome }
     ensures few { calls.new ≤ calls.old + MAX_BYTES }
 {
-    let mut showing = Showing {
-        actor: Actor::Nobody,
-        lens: List::new(station.alloc),
-        denied: 0,
-        calls: *calls,
-        room: List::new(station.alloc),
-    };
-    let outcome = converse(glass, policy, station, &mut link, &mut showing);
-    link.finish();
-    let Showing {
-        actor: _,
-        lens,
-        denied,
-        calls: asked,
-        room: _,
-    } = showing;
-    *calls = asked;
+    let mut hearing = Hearing::new(station.alloc, *calls);
+    let mut lens = List::new(station.alloc);
+    let end = attend_by(glass, policy, station, &mut link, &mut hearing, &mut lens);
+    *calls = hearing.talk.calls;
     Viewed {
         link,
         lens,
-        denied,
-        outcome,
+        denied: hearing.talk.denied,
+        outcome: view_end(end),
     }
 }

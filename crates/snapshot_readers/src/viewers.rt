@@ -2,7 +2,8 @@
 ghost use Rattle.std.specs.Prelude.{◌≡◌, ◌+◌, ◌<◌, ◌≤◌, ◌^◌, [], length, None};
 ghost use Rattle.gt_base.specs.declared.limits.TheConstants.{MAX_BYTES};
 ghost use Rattle.snapshot_readers.specs.Crew.{WorksOn, Works};
-ghost use Rattle.snapshot_readers.specs.Viewing.{GlancesCanBeTold, SameGlass};
+ghost use Rattle.connection_laws.specs.Desks.{GlancesCanBeTold};
+ghost use Rattle.snapshot_readers.specs.Viewing.{SameGlass};
 
 use crate::ends::{Viewed, ViewerEnd};
 use crate::glass::Glass;

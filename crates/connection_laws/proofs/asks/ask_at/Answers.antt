@@ -2,7 +2,7 @@ use Rattle.std.proofs.Common.{◌≡◌, ◌≤◌, length, ◌∙◌, arith, ap
 use Rattle.turn_lock.specs.Holders.{Holder}
 use Rattle.locked_history.specs.Fronts.{Refuses}
 use Rattle.connection_laws.proofs.Prefixes.{prefix_self}
-use Rattle.connection_laws.proofs.Asking.{is_accepted, is_refused}
+use Rattle.connection_laws.proofs.Asking.{is_replied, is_refused}
 use Rattle.connection_laws.proofs.asks.ask_at.Goals as goal
 
 -- no call at all is as good as one that was refused
@@ -33,7 +33,7 @@ returns-in-Ok-clause-asked g c =
     let r = c.in_default.ensures in
     let a = c.in-Ok.ensures in
     let m = g.M.Machine in
-    let t = is_accepted (g.M.Keeps.list c.args.server.now.desk.now.root) (m.legal c.args.server.now.desk.now.root) (m.now_of c.args.server.now.desk.now.root) c.args.server.now.conn c.args.reading c.args.actor c.args.request
+    let t = is_replied (g.M.Keeps.list c.args.server.now.desk.now.root) (m.legal c.args.server.now.desk.now.root) (m.now_of c.args.server.now.desk.now.root) c.args.server.now.conn c.args.reading c.args.actor c.args.request
     c.args.pass.now c.reach.new.pass c.ask.new.pass r.ticks c.in-Ok.asked.reply c.in-Ok.asked.front a.last.0 r.each r.grows r.reached.0 r.reached.1 a.ok a.last.1 a.legal.0 in
     rw c.into_reply.ensures t
 

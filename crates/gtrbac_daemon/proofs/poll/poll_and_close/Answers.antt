@@ -3,7 +3,7 @@ use Rattle.gt_base.specs.declared.requests.Entry.{Entry}
 use Rattle.turn_lock.specs.Turns.{Each, part}
 use Rattle.turn_lock.specs.Holders.{Holder, newcomer, IsToldBy}
 use Rattle.core_machine.specs.Books.{BookView, now_after}
-use Rattle.snapshot_readers.specs.Ledgers.{IsLegalLedger}
+use Rattle.core_machine.specs.Ledgers.{IsLegalLedger}
 use Rattle.gtrbac_daemon.proofs.Polled.{one_of_one, has_polled}
 use Rattle.gtrbac_daemon.proofs.poll.poll_and_close.Goals as goal
 
@@ -17,7 +17,7 @@ returns-clause-polled g c =
     let items : c.put.new.self.items ≡ after ∷ [] = c.put.ensures.items ∙ ap (λ (l : List (Holder BookView)). l ++ after ∷ []) one.0 in
     let told = subst (λ (l : List (Holder BookView)). Each (IsToldBy root.entries c.close.result.entries) l) items c.close.ensures.each in
     has_polled root.named c.args.policy.now (IsLegalLedger root) (now_after root) root.birth c.requires.served.timed root.entries c.close.result.entries c.args.desk c.in-Some.pass after (k.readings c.args.clock.now) (k.readings c.run-end.new.clock)
-    (h c.args.ports.now) (h c.run-end.new.ports) c.run-end.new.ends.items c.run-end.result c.requires.empty c.requires.policy one.1 c.run-end.ensures.pass.1 c.run-end.ensures.ran told.0
+    (h c.args.ports.now) (h c.run-end.new.ports) c.run-end.new.ends.items c.run-end.result c.requires.empty c.requires.policy one.1 c.run-end.ensures.pass.1 c.run-end.ensures.ran told.0 c.args.ends.now.items
 
 pub returns-clause-others : goal.returns-clause-others
 returns-clause-others g c = λ n low.

@@ -2,7 +2,8 @@ use Rattle.std.proofs.Common.{ℕ, ap, subst, refl, inl, inr}
 use Rattle.std.proofs.KnownBytes.{Keeps-refl}
 use Rattle.policy_words.specs.Naming.{NamedPolicy}
 use Rattle.request_text.specs.Replies.{log_text}
-use Rattle.gtrbac_daemon.specs.Daemon.{IsWritten}
+use Rattle.gtrbac_daemon.specs.Runs.{IsWritten}
+use Rattle.gtrbac_daemon.specs.Polls.{polling}
 use Rattle.gtrbac_daemon.proofs.poll.poll_serve.Goals as goal
 
 pub returns-in_default : goal.returns-in_default
@@ -10,7 +11,7 @@ returns-in_default g c = λ stock stock'.
     record {
       birth = c.now-minute.result;
       reads = c.now-minute.ensures;
-      ends = inr (record { nothing = (refl, Keeps-refl (g.K.Sink.output c.args.out.now).written, refl); clock = refl; ports = refl; ends = refl });
+      ends = inr ((refl, Keeps-refl (g.K.Sink.output c.args.out.now).written, refl), refl);
     }
 
 pub returns-in-Ok-poll_from : goal.returns-in-Ok-poll_from
@@ -44,10 +45,5 @@ returns g c = λ stock stock'.
       birth = c.now-minute.result;
       reads = c.now-minute.ensures;
       ends =
-          inr (record {
-            nothing = (refl, Keeps-refl (g.K.Sink.output c.args.out.now).written, refl);
-            clock = ap g.C.Clock.readings c.in-Err.ensures.err.2;
-            ports = ap g.P.Ports.harbour c.in-Err.ensures.err.0;
-            ends = λ i. (c.in-Err.ensures.err.1 i).items;
-          });
+          inr ((refl, Keeps-refl (g.K.Sink.output c.args.out.now).written, refl), λ i. polling (g.C.Clock.readings (c.in-Err.ensures.err.2 i)) (g.P.Ports.harbour (c.in-Err.ensures.err.0 i)) (c.in-Err.ensures.err.1 i).items);
     }

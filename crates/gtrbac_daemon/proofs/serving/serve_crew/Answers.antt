@@ -2,7 +2,7 @@ use Rattle.std.proofs.Common.{◌≡◌, ℕ, List, [], length, sym, ap, subst, 
 use Rattle.gt_base.specs.declared.requests.Entry.{Entry}
 use Rattle.turn_lock.specs.Holders.{newcomers}
 use Rattle.core_machine.specs.Books.{BookView, SameRoot}
-use Rattle.snapshot_readers.specs.Ledgers.{CanBeServed}
+use Rattle.ledger_laws.specs.Serving.{CanBeServed}
 use Rattle.gtrbac_daemon.specs.Crew.{crewmen}
 use Rattle.gtrbac_daemon.specs.Headline.{HaveWorked}
 use Rattle.gtrbac_daemon.proofs.serving.serve_crew.Goals as goal

@@ -6,7 +6,7 @@ use Rattle.turn_lock.proofs.PassLists.{new_all, length_new}
 use Rattle.policy_words.specs.Naming.{NamedPolicy}
 use Rattle.connection_laws.specs.Desks.{RepliesCanBeTold}
 use Rattle.core_machine.specs.Books.{BookView, now_after}
-use Rattle.snapshot_readers.specs.Ledgers.{IsLegalLedger}
+use Rattle.core_machine.specs.Ledgers.{IsLegalLedger}
 use Rattle.gtrbac_daemon.proofs.Posted.{ready, InOrder, in_order, all_idle, none_missing, crew_is_told}
 use Rattle.gtrbac_daemon.proofs.serving.work_and_close.Goals as goal
 

@@ -11,7 +11,7 @@ returns-in-Some-clause-runs g c =
     let d = g.D.Door in
     let ws = c.args.crew.now.items in
     runs_named g.D.L.Link.traffic (map string_bytes c.args.words.now) _ _ _ (some_crew k.readings d.links d.faults ws c.requires.size.0) (all_fresh k.readings d.links d.faults ws c.requires.fresh)
-    c.in-Some.name.now c.in-Some.ensures c.serve_named.ensures.answers c.serve_named.ensures.failed c.serve_named.ensures.same
+    c.in-Some.name.now c.in-Some.ensures c.serve_named.ensures.answers c.serve_named.ensures.same
 
 pub returns-in-Some-clause-unread : goal.returns-in-Some-clause-unread
 returns-in-Some-clause-unread g c = λ none. absurd (some_not_none (policy_named (map string_bytes c.args.words.now)) c.in-Some.name.now c.in-Some.ensures none)

@@ -2,7 +2,7 @@ use Rattle.std.proofs.Common.{List, refl, ap, ◌∙◌, inl, inr}
 use Rattle.std.proofs.KnownBytes.{Keeps-refl}
 use Rattle.line_server.specs.declared.workers.Worker.{Worker}
 use Rattle.gtrbac_daemon.specs.Crew.{crewmen, status_among}
-use Rattle.gtrbac_daemon.specs.Daemon.{scene}
+use Rattle.gtrbac_daemon.specs.Runs.{scene}
 use Rattle.gtrbac_daemon.proofs.CrewStatus.{same_status}
 use Rattle.gtrbac_daemon.proofs.Served.{has_served}
 use Rattle.gtrbac_daemon.proofs.top.serve.Goals as goal

@@ -5,9 +5,8 @@ use Rattle.policy_commands.specs.declared.judging.Admitted.TheVariants.{Ended}
 use Rattle.policy_commands.specs.Ends.{told, seen_end}
 use Rattle.policy_commands.specs.Printing.{IsPrinted}
 use Rattle.gtrbac_daemon.specs.Words.{IsFound, IsAdmitFailure, IsSteadyFor}
-use Rattle.gtrbac_daemon.specs.Daemon.{served}
-use Rattle.gtrbac_daemon.proofs.Reasons.{never_four}
-use Rattle.gtrbac_daemon.proofs.Running.{kept_by, starved_by}
+use Rattle.gtrbac_daemon.specs.Runs.{served}
+use Rattle.gtrbac_daemon.proofs.AnyRuns.{refused_as, starved_as}
 use Rattle.gtrbac_daemon.proofs.top.serve_named.Goals as goal
 
 pub returns-in-Safe-clause-answers : goal.returns-in-Safe-clause-answers
@@ -28,22 +27,11 @@ returns-in-Ended-clause-answers g c =
     let hard = Rose (s.stock old).hard_faults (s.stock new).hard_faults in
     let o = g.K.Sink in
     let end = c.in-Ended.end in
-    kept_by _ (Some c.args.name.now) _ _ _ (seen_end end) (subst (λ (a : Admitted). IsFound hard (s.stock old).contents c.args.name.now a) c.in-Ended.is c.in-Ok.ensures.found)
+    refused_as _ (Some c.args.name.now) _ _ _ (seen_end end) (subst (λ (a : Admitted). IsFound hard (s.stock old).contents c.args.name.now a) c.in-Ended.is c.in-Ok.ensures.found)
+    (subst (λ (a : Admitted). IsAdmitFailure (Rose (s.stock old).faults (s.stock new).faults) a) c.in-Ended.is c.in-Ok.ensures.failed)
     (subst (λ (a : Admitted). IsSteadyFor ((s.stock new).hard_faults ≡ (s.stock old).hard_faults) a) c.in-Ended.is c.in-Ok.ensures.steady)
     (subst (λ (t : List ℕ). IsPrinted c.print.result (told end.status t) (o.output c.args.out.now).written (o.output c.print.new.out).written (o.output c.args.out.now).faults (o.output c.print.new.out).faults) c.as_slice.ensures c.print.ensures) refl refl
 
 pub returns-in-Err-clause-answers : goal.returns-in-Err-clause-answers
-returns-in-Err-clause-answers g c = starved_by _ (Some c.args.name.now) _ _ _ refl refl refl refl refl
+returns-in-Err-clause-answers g c = starved_as _ (Some c.args.name.now) _ _ _ refl refl refl refl refl
 
-pub returns-in-Safe-clause-failed : goal.returns-in-Safe-clause-failed
-returns-in-Safe-clause-failed g c =
-    let s = g.S.Shelf in
-    let old = c.args.shelf.now in
-    let new = c.find_policy.new.shelf in
-    λ is. absurd (never_four _ _ _ _ _ (c.serve.ensures (s.stock old) (s.stock new)) is)
-
-pub returns-in-Ended-clause-failed : goal.returns-in-Ended-clause-failed
-returns-in-Ended-clause-failed g c =
-    let rose = Rose (g.S.Shelf.stock c.args.shelf.now).faults (g.S.Shelf.stock c.find_policy.new.shelf).faults in
-    let failed : IsAdmitFailure rose (Ended c.in-Ended.end) = subst (λ (a : Admitted). IsAdmitFailure rose a) c.in-Ended.is c.in-Ok.ensures.failed in
-    λ is. elim c.print.ensures [ inl p ↦ failed (sym p.0 ∙ is) | inr p ↦ absurd (cc (p.0, is)) ]

@@ -10,6 +10,7 @@ use Rattle.snapshot_readers.specs.Seats.{watchers}
 use Rattle.gtrbac_daemon.specs.Crew.{crewmen, is_memory, is_door_fault, is_spent}
 use Rattle.gtrbac_daemon.specs.ViewLists.{numbers_among}
 use Rattle.gtrbac_daemon.specs.Views.{is_viewer_memory, is_viewer_fault, is_viewer_spent, first_above, first_late, status_by, views_status}
+use Rattle.gtrbac_daemon.specs.Views.{company}
 use Rattle.gtrbac_daemon.proofs.ViewServed.{numbers_same, status_same, has_served}
 use Rattle.gtrbac_daemon.proofs.views.serve_views.Goals as goal
 
@@ -57,11 +58,7 @@ returns-in_default g c = λ stock stock'. (
     birth = c.now-minute.result;
     reads = c.now-minute.ensures;
     ends =
-        inr (record {
-          nothing = (refl, Keeps-refl (g.K.Sink.output c.args.out.now).written, refl);
-          crew = refl;
-          viewers = refl;
-        });
+        inr ((refl, Keeps-refl (g.K.Sink.output c.args.out.now).written, refl), refl);
   },
 )
 
@@ -75,10 +72,6 @@ returns g c = λ stock stock'.
         birth = c.now-minute.result;
         reads = c.now-minute.ensures;
         ends =
-            inr (record {
-              nothing = (refl, Keeps-refl (g.K.Sink.output c.args.out.now).written, refl);
-              crew = λ i. K (err.0 i).items;
-              viewers = λ i. V (err.1 i).items;
-            });
+            inr ((refl, Keeps-refl (g.K.Sink.output c.args.out.now).written, refl), λ i. company (K (err.0 i).items) (V (err.1 i).items));
       },
     )

@@ -1,12 +1,12 @@
 use Rattle.std.proofs.Common.{◌≡◌, ℕ, sym, subst}
 use Rattle.policy_words.specs.Naming.{NamedPolicy}
-use Rattle.core_machine.specs.Books.{BookView}
-use Rattle.snapshot_readers.specs.Ledgers.{CanBeServed}
-use Rattle.snapshot_readers.specs.Viewing.{GlancesCanBeTold}
+use Rattle.snapshot_readers.specs.Boards.{BoardView}
+use Rattle.ledger_laws.specs.Serving.{CanBeServed}
+use Rattle.connection_laws.specs.Desks.{GlancesCanBeTold}
 use Rattle.gtrbac_daemon.proofs.views_serving.open_board.Goals as goal
 
 pub returns-in-Ok-clause-served : goal.returns-in-Ok-clause-served
-returns-in-Ok-clause-served g c = subst (λ (b : BookView). CanBeServed b) (sym c.in-Ok.ensures.board) c.in_ok-ledger.ensures.served
+returns-in-Ok-clause-served g c = subst (λ (b : BoardView). CanBeServed b.ledger) (sym c.in-Ok.ensures.board) c.in_ok-ledger.ensures.served
 
 pub returns-in-Ok-clause-told : goal.returns-in-Ok-clause-told
 returns-in-Ok-clause-told g c =

@@ -7,8 +7,10 @@ use Rattle.turn_lock.specs.Holders.{newcomers}
 use Rattle.policy_words.specs.Naming.{NamedPolicy}
 use Rattle.connection_laws.specs.Desks.{MayBeAsked, RepliesCanBeTold}
 use Rattle.core_machine.specs.Books.{BookView, SameRoot, IsNamedFor, now_after}
-use Rattle.snapshot_readers.specs.Ledgers.{IsLegalLedger, CanBeServed}
+use Rattle.core_machine.specs.Ledgers.{IsLegalLedger}
+use Rattle.ledger_laws.specs.Serving.{CanBeServed}
 use Rattle.snapshot_readers.specs.Glazed.{Glazed, fresh_glass}
+use Rattle.snapshot_readers.specs.Boards.{BoardView}
 use Rattle.snapshot_readers.proofs.BoardSending.{board_send}
 use Rattle.snapshot_readers.specs.Seats.{watchers, AreTold, HaveViewed}
 use Rattle.snapshot_readers.proofs.Seated.{length_copies}
@@ -19,23 +21,23 @@ use Rattle.gtrbac_daemon.proofs.views_serving.serve_at.Goals as goal
 
 pub take_seats-requires-clause-pairs : goal.take_seats-requires-clause-pairs
 take_seats-requires-clause-pairs g c =
-    ap (λ (gs : List Glazed). length gs) c.requires.glasses ∙ length_copies (length c.args.viewers.now.items) (fresh_glass c.args.policy.now c.args.board.birth)
+    ap (λ (gs : List Glazed). length gs) c.requires.glasses ∙ length_copies (length c.args.viewers.now.items) (fresh_glass c.args.policy.now c.args.board.ledger.birth)
 
 pub serve_and_close-board-requires-send-M : goal.serve_and_close-board-requires-send-M
 serve_and_close-board-requires-send-M g c κs within = search (board_send, sendable) depth 20
 
 pub serve_and_close-board-requires-clause-named : goal.serve_and_close-board-requires-clause-named
 serve_and_close-board-requires-clause-named g c κs within =
-    subst (λ (b : BookView). MayBeAsked c.args.policy.now (IsNamedFor b)) (sym c.in-Ok-new.ensures.desk.0)
-    (subst (λ (p : NamedPolicy). MayBeAsked p (IsNamedFor c.args.board)) (sym c.requires.policy) c.requires.served.named)
+    subst (λ (b : BoardView). MayBeAsked c.args.policy.now (IsNamedFor b.ledger)) (sym c.in-Ok-new.ensures.desk.0)
+    (subst (λ (p : NamedPolicy). MayBeAsked p (IsNamedFor c.args.board.ledger)) (sym c.requires.policy) c.requires.served.named)
 
 pub serve_and_close-board-requires-clause-replies : goal.serve_and_close-board-requires-clause-replies
 serve_and_close-board-requires-clause-replies g c κs within =
-    subst (λ (b : BookView). RepliesCanBeTold c.args.policy.now (IsLegalLedger b)) (sym c.in-Ok-new.ensures.desk.0)
-    (subst (λ (p : NamedPolicy). RepliesCanBeTold p (IsLegalLedger c.args.board)) (sym c.requires.policy) c.requires.served.replies)
+    subst (λ (b : BoardView). RepliesCanBeTold c.args.policy.now (IsLegalLedger b.ledger)) (sym c.in-Ok-new.ensures.desk.0)
+    (subst (λ (p : NamedPolicy). RepliesCanBeTold p (IsLegalLedger c.args.board.ledger)) (sym c.requires.policy) c.requires.served.replies)
 
 pub serve_and_close-board-requires-clause-empty : goal.serve_and_close-board-requires-clause-empty
-serve_and_close-board-requires-clause-empty g c κs within = ap (λ (b : BookView). b.entries) c.in-Ok-new.ensures.desk.0 ∙ c.requires.empty
+serve_and_close-board-requires-clause-empty g c κs within = ap (λ (b : BoardView). b.ledger.entries) c.in-Ok-new.ensures.desk.0 ∙ c.requires.empty
 
 pub serve_and_close-board-requires-clause-count : goal.serve_and_close-board-requires-clause-count
 serve_and_close-board-requires-clause-count g c κs within =
@@ -48,7 +50,7 @@ serve_and_close-board-requires-clause-passes g c κs within =
 
 pub serve_and_close-board-requires-clause-ready : goal.serve_and_close-board-requires-clause-ready
 serve_and_close-board-requires-clause-ready g c κs within =
-    all_ready c.args.policy.now c.args.board.birth (length c.args.viewers.now.items) c.args.glasses.items c.args.viewers.now.items c.take_seats.new.seats.items c.requires.glasses
+    all_ready c.args.policy.now c.args.board.ledger.birth (length c.args.viewers.now.items) c.args.glasses.items c.args.viewers.now.items c.take_seats.new.seats.items c.requires.glasses
     c.take_seats.ensures.glasses_are c.take_seats.ensures.viewers_are c.requires.new c.take_seats.ensures.numbers c.requires.replies
 
 pub leave_seats-requires-clause-room : goal.leave_seats-requires-clause-room
@@ -63,37 +65,37 @@ leave_seats-requires-clause-room g c =
 
 pub returns-in-Ok-new-clause-root : goal.returns-in-Ok-new-clause-root
 returns-in-Ok-new-clause-root g c =
-    let same : c.into_ledger.result ≡ c.serve_and_close-board.result = c.into_ledger.ensures ∙ c.settle_up-told.ensures.board in
-    subst (λ (b : BookView). SameRoot c.args.board b) (sym same) (subst (λ (b : BookView). SameRoot b c.serve_and_close-board.result) c.in-Ok-new.ensures.desk.0 c.serve_and_close-board.ensures.root)
+    let same : c.into_ledger.result ≡ c.serve_and_close-board.result.ledger = c.into_ledger.ensures ∙ c.settle_up-told.ensures.board in
+    subst (λ (b : BookView). SameRoot c.args.board.ledger b) (sym same) (subst (λ (b : BoardView). SameRoot b.ledger c.serve_and_close-board.result.ledger) c.in-Ok-new.ensures.desk.0 c.serve_and_close-board.ensures.root)
 
 pub returns-in-Ok-new-clause-worked : goal.returns-in-Ok-new-clause-worked
 returns-in-Ok-new-clause-worked g c =
     let K = crewmen g.C.Clock.readings g.D.Door.links g.D.Door.faults in
-    let same : c.into_ledger.result ≡ c.serve_and_close-board.result = c.into_ledger.ensures ∙ c.settle_up-told.ensures.board in
-    let timed = subst (λ (b : BookView). CanBeServed b) (sym c.in-Ok-new.ensures.desk.0) c.requires.served in
-    let born : c.in-Ok-new.opened.0.root.birth ≡ c.args.board.birth = ap (λ (b : BookView). b.birth) c.in-Ok-new.ensures.desk.0 in
-    subst (λ (b : BookView). HaveWorked g.D.L.Link.traffic c.args.policy.now c.args.board.birth b.entries 0 (K c.args.crew.now.items) (K c.serve_and_close-board.new.crew.items)) (sym same)
-    (subst (λ (t : ℕ). HaveWorked g.D.L.Link.traffic c.args.policy.now t c.serve_and_close-board.result.entries 0 (K c.args.crew.now.items) (K c.serve_and_close-board.new.crew.items)) born
-    (c.serve_and_close-board.ensures.worked c.in-Ok-new.opened.0.root.birth timed.timed))
+    let same : c.into_ledger.result ≡ c.serve_and_close-board.result.ledger = c.into_ledger.ensures ∙ c.settle_up-told.ensures.board in
+    let timed = subst (λ (b : BoardView). CanBeServed b.ledger) (sym c.in-Ok-new.ensures.desk.0) c.requires.served in
+    let born : c.in-Ok-new.opened.0.root.ledger.birth ≡ c.args.board.ledger.birth = ap (λ (b : BoardView). b.ledger.birth) c.in-Ok-new.ensures.desk.0 in
+    subst (λ (b : BookView). HaveWorked g.D.L.Link.traffic c.args.policy.now c.args.board.ledger.birth b.entries 0 (K c.args.crew.now.items) (K c.serve_and_close-board.new.crew.items)) (sym same)
+    (subst (λ (t : ℕ). HaveWorked g.D.L.Link.traffic c.args.policy.now t c.serve_and_close-board.result.ledger.entries 0 (K c.args.crew.now.items) (K c.serve_and_close-board.new.crew.items)) born
+    (c.serve_and_close-board.ensures.worked c.in-Ok-new.opened.0.root.ledger.birth timed.timed))
 
 pub returns-in-Ok-new-clause-others : goal.returns-in-Ok-new-clause-others
 returns-in-Ok-new-clause-others g c =
-    let same : c.into_ledger.result ≡ c.serve_and_close-board.result = c.into_ledger.ensures ∙ c.settle_up-told.ensures.board in
+    let same : c.into_ledger.result ≡ c.serve_and_close-board.result.ledger = c.into_ledger.ensures ∙ c.settle_up-told.ensures.board in
     subst (λ (b : BookView). (n : ℕ) → length c.args.crew.now.items ≤ n → part n b.entries ≡ []) (sym same) c.serve_and_close-board.ensures.others
 
 pub returns-in-Ok-new-clause-viewed : goal.returns-in-Ok-new-clause-viewed
 returns-in-Ok-new-clause-viewed g c =
-    (all_served c.args.policy.now c.args.board.birth (length c.args.viewers.now.items) c.args.glasses.items c.args.viewers.now.items c.take_seats.new.seats.items c.requires.glasses
-    c.take_seats.ensures.glasses_are c.take_seats.ensures.viewers_are c.requires.new g.D.Door.links g.D.Door.faults g.D.L.Link.traffic c.serve_and_close-board.result.entries c.leave_seats.new.viewers.items
+    (all_served c.args.policy.now c.args.board.ledger.birth (length c.args.viewers.now.items) c.args.glasses.items c.args.viewers.now.items c.take_seats.new.seats.items c.requires.glasses
+    c.take_seats.ensures.glasses_are c.take_seats.ensures.viewers_are c.requires.new g.D.Door.links g.D.Door.faults g.D.L.Link.traffic c.serve_and_close-board.result.ledger.entries c.leave_seats.new.viewers.items
     c.serve_and_close-board.new.seats.items c.settle_up-told.new.seats.items c.leave_seats.ensures c.serve_and_close-board.ensures.seats c.settle_up-told.ensures.seats c.serve_and_close-board.ensures.looked c.settle_up-told.ensures.settled).0
 
 pub returns-in-Ok-new-clause-told : goal.returns-in-Ok-new-clause-told
 returns-in-Ok-new-clause-told g c =
     let V = watchers g.D.Door.links g.D.Door.faults in
-    let same : c.into_ledger.result ≡ c.serve_and_close-board.result = c.into_ledger.ensures ∙ c.settle_up-told.ensures.board in
+    let same : c.into_ledger.result ≡ c.serve_and_close-board.result.ledger = c.into_ledger.ensures ∙ c.settle_up-told.ensures.board in
     λ yes.
-    subst (λ (b : BookView). AreTold g.D.L.Link.traffic c.args.policy.now c.args.board.birth b.entries (V c.args.viewers.now.items) (V c.leave_seats.new.viewers.items)) (sym same)
-    ((all_served c.args.policy.now c.args.board.birth (length c.args.viewers.now.items) c.args.glasses.items c.args.viewers.now.items c.take_seats.new.seats.items c.requires.glasses
-    c.take_seats.ensures.glasses_are c.take_seats.ensures.viewers_are c.requires.new g.D.Door.links g.D.Door.faults g.D.L.Link.traffic c.serve_and_close-board.result.entries c.leave_seats.new.viewers.items
+    subst (λ (b : BookView). AreTold g.D.L.Link.traffic c.args.policy.now c.args.board.ledger.birth b.entries (V c.args.viewers.now.items) (V c.leave_seats.new.viewers.items)) (sym same)
+    ((all_served c.args.policy.now c.args.board.ledger.birth (length c.args.viewers.now.items) c.args.glasses.items c.args.viewers.now.items c.take_seats.new.seats.items c.requires.glasses
+    c.take_seats.ensures.glasses_are c.take_seats.ensures.viewers_are c.requires.new g.D.Door.links g.D.Door.faults g.D.L.Link.traffic c.serve_and_close-board.result.ledger.entries c.leave_seats.new.viewers.items
     c.serve_and_close-board.new.seats.items c.settle_up-told.new.seats.items c.leave_seats.ensures c.serve_and_close-board.ensures.seats c.settle_up-told.ensures.seats c.serve_and_close-board.ensures.looked c.settle_up-told.ensures.settled).1
     (sym c.settle_up-told.ensures.told ∙ yes))

@@ -1,6 +1,6 @@
 use Rattle.std.proofs.Common.{◌≡◌, ℕ, ◌≤◌, true, length, sym, subst, ◌∙◌}
 use Rattle.policy_words.specs.Naming.{NamedPolicy}
-use Rattle.snapshot_readers.specs.Viewing.{GlancesCanBeTold}
+use Rattle.connection_laws.specs.Desks.{GlancesCanBeTold}
 use Rattle.snapshot_readers.specs.Seats.{watchers, AreTold}
 use Rattle.gtrbac_daemon.specs.Crew.{crewmen}
 use Rattle.gtrbac_daemon.specs.Headline.{HaveWorked}
@@ -10,13 +10,13 @@ use Rattle.gtrbac_daemon.proofs.views_serving.serve_views_from.Goals as goal
 pub serve_at-requires-clause-replies : goal.serve_at-requires-clause-replies
 serve_at-requires-clause-replies g c κs within =
     let same : c.in-Ok.policy ≡ c.args.safe = c.in-Ok.ensures ∙ c.policy.ensures.value in
-    subst (λ (p : NamedPolicy). GlancesCanBeTold p c.in_ok-board.board.birth) (sym same)
+    subst (λ (p : NamedPolicy). GlancesCanBeTold p c.in_ok-board.board.ledger.birth) (sym same)
     (subst (λ (b : ℕ). GlancesCanBeTold c.args.safe b) (sym c.in_ok-board.ensures.root.1) c.in_ok-board.ensures.told)
 
 pub returns-in-Ok-serve_at-clause-headline : goal.returns-in-Ok-serve_at-clause-headline
 returns-in-Ok-serve_at-clause-headline g c =
     let K = crewmen g.C.Clock.readings g.D.Door.links g.D.Door.faults in
-    let board = c.in_ok-board.board in
+    let board = c.in_ok-board.board.ledger in
     let closed = c.in-Ok-serve_at.ledger in
     let named : c.in-Ok.policy ≡ board.named = (c.in-Ok.ensures ∙ c.policy.ensures.value) ∙ sym c.in_ok-board.ensures.root.0 in
     let worked : HaveWorked g.D.L.Link.traffic board.named board.birth closed.entries 0 (K c.args.crew.now.items) (K c.serve_at.new.crew.items) =

@@ -3,7 +3,7 @@ use Rattle.std.specs.Prelude.{◌==◌}
 use Rattle.gt_base.specs.declared.requests.Entry.{Entry}
 use Rattle.core_machine.specs.Books.{BookView}
 use Rattle.request_text.specs.Replies.{log_text}
-use Rattle.gtrbac_daemon.specs.Daemon.{IsWritten}
+use Rattle.gtrbac_daemon.specs.Runs.{IsWritten}
 use Rattle.gtrbac_daemon.specs.Views.{late_line}
 use Rattle.gtrbac_daemon.proofs.ViewWriting.{no_some, plain_text}
 use Rattle.gtrbac_daemon.proofs.views_writing.write_views.Goals.{in_default-via-in-Some+else-due-eq14, in_default-via-in_default}

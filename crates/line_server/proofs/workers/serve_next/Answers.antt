@@ -1,7 +1,8 @@
 use Rattle.std.proofs.Common.{◌≡◌, ◌+◌, ℕ, List, sym, ap, subst, ◌∙◌, refl, arith}
 use Rattle.connection_laws.specs.declared.ends.LinkEnd.{LinkEnd}
 use Rattle.line_server.specs.declared.ended.Served.{Served}
-use Rattle.line_server.specs.Serving.{EndsBy}
+use Rattle.connection_laws.specs.Attending.{EndsBy}
+use Rattle.connection_laws.specs.Clerks.{WearsAt}
 use Rattle.line_server.specs.Working.{WorkerSpot, Worked}
 use Rattle.line_server.proofs.Links.{link_done, ends_of}
 use Rattle.connection_laws.specs.Services.{service}
@@ -27,5 +28,5 @@ returns-in-Ok-Some-clause-works g c =
       d.0,
       subst (λ (items : List (Served g.row.D-L.Denot)). Worked traffic (service c.args.policy.now (g.M.Keeps.list root) (m.legal root) (m.now_of root)) c.args.pass.now.number o p' items d.0) (sym c.push.ensures.items) d.1,
       ends_of (g.D.Door.links c.next.new.self) (g.D.Door.faults c.args.w.now.door) (g.D.Door.faults c.next.new.self) c.serve_link-report.new.pass.draws old c.push.new.self.items s c.worn_of.result c.in-Ok-Some.ensures.cause.kept c.push.ensures.items unworn
-          (λ n is. let cause = subst (λ (e : LinkEnd). EndsBy (traffic c.in-Ok-Some.link) (traffic c.serve_link-report.new.link) c.serve_link-report.new.pass.draws v.taken e) is v.cause in (cause.0, cause.1)) c.worn_of.ensures,
+          (λ n is. let cause = subst (λ (e : LinkEnd). EndsBy (WearsAt c.serve_link-report.new.pass.draws) (traffic c.in-Ok-Some.link) (traffic c.serve_link-report.new.link) v.taken e) is v.cause in cause.0) c.worn_of.ensures,
     )

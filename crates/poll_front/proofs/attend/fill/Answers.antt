@@ -21,21 +21,21 @@ returns-in-Ok-Finished-clause-fills g c =
       filled = (refl, ap (λ (q : Port). q.last) r.port.rest, r.port.end refl);
     }
 
-pub returns-in-Ok-Bytes-clause-faults : goal.returns-in-Ok-Bytes-clause-faults
-returns-in-Ok-Bytes-clause-faults g c =
+pub returns-in-Ok-Bytes-clause-stops : goal.returns-in-Ok-Bytes-clause-stops
+returns-in-Ok-Bytes-clause-stops g c =
     let r = rw c.in-Ok-Bytes.field-0-is at c.in-Ok-Bytes.ensures.reads in
     fails_read (g.P.Ports.harbour c.args.ports.now) (g.P.Ports.harbour c.read_some.new.ports) c.args.link c.read_some.new.buf (Ok (Bytes c.in-Ok-Bytes.n)) r
 
-pub returns-in-Ok-Finished-clause-faults : goal.returns-in-Ok-Finished-clause-faults
-returns-in-Ok-Finished-clause-faults g c =
+pub returns-in-Ok-Finished-clause-stops : goal.returns-in-Ok-Finished-clause-stops
+returns-in-Ok-Finished-clause-stops g c =
     let r = rw c.in-Ok-Finished.field-0-is at c.in-Ok-Finished.ensures.reads in
     fails_read (g.P.Ports.harbour c.args.ports.now) (g.P.Ports.harbour c.read_some.new.ports) c.args.link c.read_some.new.buf (Ok Finished) r
 
-pub returns-in-Ok-NotYet-clause-faults : goal.returns-in-Ok-NotYet-clause-faults
-returns-in-Ok-NotYet-clause-faults g c =
+pub returns-in-Ok-NotYet-clause-stops : goal.returns-in-Ok-NotYet-clause-stops
+returns-in-Ok-NotYet-clause-stops g c =
     let r = rw c.in-Ok-NotYet.field-0-is at c.in-Ok-NotYet.ensures.reads in
     fails_read (g.P.Ports.harbour c.args.ports.now) (g.P.Ports.harbour c.read_some.new.ports) c.args.link c.read_some.new.buf (Ok NotYet) r
 
-pub returns-in-Err-clause-faults : goal.returns-in-Err-clause-faults
-returns-in-Err-clause-faults g c =
+pub returns-in-Err-clause-stops : goal.returns-in-Err-clause-stops
+returns-in-Err-clause-stops g c =
     fails_read (g.P.Ports.harbour c.args.ports.now) (g.P.Ports.harbour c.read_some.new.ports) c.args.link c.read_some.new.buf (Err _) c.in-Err.ensures.reads

@@ -17,7 +17,7 @@ loop-at-init g c =
       high = c.requires.within;
       given = λ start front x. x;
       live = λ e. e;
-      faults = fails_none a c.args.link;
+      stops = fails_none a c.args.link;
     }
 
 pub loop-at-preserved : goal.loop-at-preserved
@@ -40,20 +40,20 @@ loop-at-preserved g c =
           given_grows start (b.port c.args.link).given (d.port c.args.link).given front c.args.text.now c.loop-at.at n (inv.given start front x)
           (subst (λ (l : List ℕ). Appends (b.port c.args.link).given (d.port c.args.link).given (take n l)) back w.port.given);
       live = λ e. ap (λ (q : Port). is_over q.last) w.port.rest;
-      faults = fails_twice (g.P.Ports.harbour c.args.ports.now) b d c.args.link inv.faults inv.live (fails_write b d c.args.link c.split_at.result.1.now (Ok (Bytes c.in-Ok-Bytes.n)) w);
+      stops = fails_twice (g.P.Ports.harbour c.args.ports.now) b d c.args.link inv.stops inv.live (fails_write b d c.args.link c.split_at.result.1.now (Ok (Bytes c.in-Ok-Bytes.n)) w);
     }
 
-pub returns-in-Ok-NotYet-clause-faults : goal.returns-in-Ok-NotYet-clause-faults
-returns-in-Ok-NotYet-clause-faults g c =
+pub returns-in-Ok-NotYet-clause-stops : goal.returns-in-Ok-NotYet-clause-stops
+returns-in-Ok-NotYet-clause-stops g c =
     let inv = c.loop-at.invariant in
     let b = g.P.Ports.harbour c.loop-at.ports in
     let d = g.P.Ports.harbour c.write.new.self in
     let w = rw c.in-Ok-NotYet.field-0-is at c.in-Ok-NotYet.ensures in
-    fails_twice (g.P.Ports.harbour c.args.ports.now) b d c.args.link inv.faults inv.live (fails_write b d c.args.link c.split_at.result.1.now (Ok NotYet) w)
+    fails_twice (g.P.Ports.harbour c.args.ports.now) b d c.args.link inv.stops inv.live (fails_write b d c.args.link c.split_at.result.1.now (Ok NotYet) w)
 
-pub returns-in-Err-clause-faults : goal.returns-in-Err-clause-faults
-returns-in-Err-clause-faults g c =
+pub returns-in-Err-clause-stops : goal.returns-in-Err-clause-stops
+returns-in-Err-clause-stops g c =
     let inv = c.loop-at.invariant in
     let b = g.P.Ports.harbour c.loop-at.ports in
     let d = g.P.Ports.harbour c.write.new.self in
-    fails_twice (g.P.Ports.harbour c.args.ports.now) b d c.args.link inv.faults inv.live (fails_write b d c.args.link c.split_at.result.1.now (Err _) c.in-Err.ensures)
+    fails_twice (g.P.Ports.harbour c.args.ports.now) b d c.args.link inv.stops inv.live (fails_write b d c.args.link c.split_at.result.1.now (Err _) c.in-Err.ensures)

@@ -2,7 +2,7 @@ use Rattle.std.proofs.Common.{◌≡◌, ◌≤◌, ◌-◌, ◌++◌, ℕ, List
 use Rattle.std.specs.declared.option.Option.{Option}
 use Rattle.std.specs.Io.KnownBytes.{Appends}
 use Rattle.gt_io.specs.Ports.{IsOpen, is_over}
-use Rattle.poll_front.specs.Fronts.{Tends, FailsLast}
+use Rattle.poll_front.specs.Fronts.{Tends, StopsLast}
 use Rattle.poll_front.proofs.attend.push_out.Given as goal
 
 abbrev pub invariant-loop-at : goal.invariant-loop-at
@@ -18,7 +18,7 @@ invariant-loop-at g l =
       high : l.at ≤ length l.text;
       given : (start : Option (List ℕ)) (front : List ℕ) → Appends start (a.port l.link).given (front ++ take l.fn.at l.text) → Appends start (b.port l.link).given (front ++ take l.at l.text);
       live : is_over (a.port l.link).last ≡ false → is_over (b.port l.link).last ≡ false;
-      faults : FailsLast a b l.link;
+      stops : StopsLast a b l.link;
     }
 
 abbrev pub decreases-loop-at : goal.decreases-loop-at

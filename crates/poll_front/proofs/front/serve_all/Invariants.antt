@@ -3,7 +3,7 @@ use Rattle.gt_io.specs.Ports.{NoneOwed}
 use Rattle.turn_lock.specs.Holders.{site_of}
 use Rattle.connection_laws.specs.Turns.{IsIdle, IsReached}
 use Rattle.poll_front.specs.Fronts.{Turn}
-use Rattle.poll_front.specs.Tables.{Tabled, AreUnwornSeats, IsFreshParty, faults_told}
+use Rattle.poll_front.specs.Tables.{Tabled, AreUnwornSeats, IsFreshParty, MayGoOn}
 use Rattle.poll_front.proofs.front.serve_all.Given as goal
 
 abbrev pub invariant-loop : goal.invariant-loop
@@ -18,7 +18,7 @@ invariant-loop g l =
       unworn : AreUnwornSeats l.seats.items;
       few : length l.seats.items < 100_000;
       unowed : NoneOwed (g.P.Ports.harbour l.ports);
-      sound : faults_told (g.P.Ports.harbour l.ports).told ≡ 0;
+      sound : MayGoOn (g.P.Ports.harbour l.ports).told;
       idle : IsIdle (site_of l.server.desk.now) l.pass;
       number : l.pass.number ≡ l.fn.pass.number;
       reached : IsReached (m.legal root) (m.now_of root) l.pass.seen l.pace.reached;

@@ -28,7 +28,7 @@ returns-in-Later-clause-served g c =
     let p : FrontSpot g.row.M.Denot = record { pass = c.args.pass.now; clock = k.readings c.args.clock.now; pace = c.args.pace.now } in
     let p' : FrontSpot g.row.M.Denot = record { pass = c.attend.new.pass; clock = k.readings c.attend.new.clock; pace = c.attend.new.pace } in
     let attends = subst (λ (z : Party). Attends c.args.server.now.policy.now (g.M.Keeps.list root) (m.legal root) (m.now_of root) c.args.pass.now.number p p' ((h c.args.ports.now).port n) ((h c.attend.new.ports).port n) n z c.attend.new.party Later) c.deref_mut.ensures.value c.in-Later.ensures.attends in
-    rw c.in-Open.is (seat_later c.args.server.now.policy.now (g.M.Keeps.list root) (m.legal root) (m.now_of root) c.args.pass.now.number p p' (h c.args.ports.now) (h c.attend.new.ports) n c.in-Open.party (with_value c.in-Open.party c.attend.new.party) c.in-Later.ensures.tends c.in-Later.ensures.faults attends)
+    rw c.in-Open.is (seat_later c.args.server.now.policy.now (g.M.Keeps.list root) (m.legal root) (m.now_of root) c.args.pass.now.number p p' (h c.args.ports.now) (h c.attend.new.ports) n c.in-Open.party (with_value c.in-Open.party c.attend.new.party) c.in-Later.ensures.tends c.in-Later.ensures.stops attends)
 
 pub returns-in-End-clause-served : goal.returns-in-End-clause-served
 returns-in-End-clause-served g c =
@@ -42,4 +42,4 @@ returns-in-End-clause-served g c =
     let attends = subst (λ (z : Party). Attends c.args.server.now.policy.now (g.M.Keeps.list root) (m.legal root) (m.now_of root) c.args.pass.now.number p p' ((h c.args.ports.now).port n) ((h c.attend.new.ports).port n) n z c.attend.new.party (End c.in-End.outcome)) c.deref_mut.ensures.value c.in-End.ensures.attends in
     let open_seat = rw c.in-Open.is at c.requires.seat in
     let e : Polled = record { asked = c.deref.result.now.talk.asked; denied = c.deref-in-End.result.now.talk.denied; outcome = c.in-End.outcome } in
-    rw c.in-Open.is (seat_ended c.args.server.now.policy.now (g.M.Keeps.list root) (m.legal root) (m.now_of root) c.args.pass.now.number p p' (h c.args.ports.now) (h c.attend.new.ports) (h c.finish.new.self) n c.in-Open.party (with_value c.in-Open.party c.attend.new.party) c.in-End.outcome e open_seat.0 c.in-End.ensures.tends c.in-End.ensures.faults attends c.finish.ensures (λ i. record { asked = (c.deref.ensures i).talk.asked; denied = (c.deref-in-End.ensures i).talk.denied; outcome = c.in-End.outcome }))
+    rw c.in-Open.is (seat_ended c.args.server.now.policy.now (g.M.Keeps.list root) (m.legal root) (m.now_of root) c.args.pass.now.number p p' (h c.args.ports.now) (h c.attend.new.ports) (h c.finish.new.self) n c.in-Open.party (with_value c.in-Open.party c.attend.new.party) c.in-End.outcome e open_seat.0 c.in-End.ensures.tends c.in-End.ensures.stops attends c.finish.ensures (λ i. record { asked = (c.deref.ensures i).talk.asked; denied = (c.deref-in-End.ensures i).talk.denied; outcome = c.in-End.outcome }))

@@ -64,8 +64,8 @@ returns-in-Long-clause-goes g c =
     r s whole some.0 (omega (arith, some)) refl w.0 refl c.push.ensures.frame (Bad Long) c.tell-in-Long.new.party.at c.tell-in-Long.result x c.tell-in-Long.ensures.tells in
     subst (λ (z : Party). Gone c.args.server.now.policy.now (g.M.Keeps.list root) (m.legal root) (m.now_of root) c.args.pass.now.number o p start (b.port c.args.server.now.conn) c.args.server.now.conn turns z c.tell-in-Long.result) (sym c.tell-in-Long.ensures.same) gone
 
-pub returns-in-More-clause-faults : goal.returns-in-More-clause-faults
-returns-in-More-clause-faults g c = fails_none (g.P.Ports.harbour c.args.ports.now) c.args.server.now.conn
+pub returns-in-More-clause-stops : goal.returns-in-More-clause-stops
+returns-in-More-clause-stops g c = fails_none (g.P.Ports.harbour c.args.ports.now) c.args.server.now.conn
 
 pub returns-in-Whole-clause-kept : goal.returns-in-Whole-clause-kept
 returns-in-Whole-clause-kept g c =

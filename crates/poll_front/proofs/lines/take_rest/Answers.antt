@@ -20,7 +20,7 @@ loop-party-init g c =
       reached = c.requires.reached;
       tends = tends_none a c.args.server.now.conn;
       live = λ l. l;
-      faults = fails_none a c.args.server.now.conn;
+      stops = fails_none a c.args.server.now.conn;
       opened = c.requires.open;
       within = (omega arith, c.requires.some.0);
       kept = (refl, refl);
@@ -70,14 +70,14 @@ loop-party-preserved g c =
       reached = e.reached;
       tends = tends_twice (h c.args.ports.now) (h c.loop-party.ports) (h c.take_next.new.ports) n inv.tends e.tends;
       live = λ l. e.live (inv.live l);
-      faults = fails_twice (h c.args.ports.now) (h c.loop-party.ports) (h c.take_next.new.ports) n inv.faults inv.live e.faults;
+      stops = fails_twice (h c.args.ports.now) (h c.loop-party.ports) (h c.take_next.new.ports) n inv.stops inv.live e.stops;
       opened = open_kept (h c.loop-party.ports) (h c.take_next.new.ports) n e.tends inv.opened;
       within = (omega (arith, from, one), omega (arith, low, one));
       kept = (one.1 ∙ kept.0, one.2 ∙ kept.1);
     }
 
-pub returns-in-Err-clause-faults : goal.returns-in-Err-clause-faults
-returns-in-Err-clause-faults g c =
+pub returns-in-Err-clause-stops : goal.returns-in-Err-clause-stops
+returns-in-Err-clause-stops g c =
     let inv = c.loop-party.invariant in
     let h = g.P.Ports.harbour in
-    fails_twice (h c.args.ports.now) (h c.loop-party.ports) (h c.take_next.new.ports) c.args.server.now.conn inv.faults inv.live c.in-Err.ensures.faults
+    fails_twice (h c.args.ports.now) (h c.loop-party.ports) (h c.take_next.new.ports) c.args.server.now.conn inv.stops inv.live c.in-Err.ensures.stops

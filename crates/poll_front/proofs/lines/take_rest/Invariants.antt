@@ -3,7 +3,7 @@ use Rattle.gt_io.specs.Ports.{Port, IsOpen}
 use Rattle.turn_lock.specs.Holders.{site_of}
 use Rattle.connection_laws.specs.Desks.{IsNamedActor}
 use Rattle.connection_laws.specs.Turns.{IsIdle, IsReached}
-use Rattle.poll_front.specs.Fronts.{Tends, StaysLive, FailsLast, Goes, HasPlaces, Counts}
+use Rattle.poll_front.specs.Fronts.{Tends, StaysLive, StopsLast, Goes, HasPlaces, Counts}
 use Rattle.poll_front.proofs.lines.take_rest.Given as goal
 
 abbrev pub invariant-loop-party : goal.invariant-loop-party
@@ -23,7 +23,7 @@ invariant-loop-party g l =
       reached : IsReached (m.legal root) (m.now_of root) l.pass.seen l.pace.reached;
       tends : Tends a b l.server.conn;
       live : StaysLive (a.port l.server.conn) (b.port l.server.conn) {T = Unit {0}} (Ok tt);
-      faults : FailsLast a b l.server.conn;
+      stops : StopsLast a b l.server.conn;
       opened : IsOpen b l.server.conn;
       within : (l.fn.party.from ≤ l.party.from) × (l.party.from ≤ l.party.upto);
       kept : (l.party.upto ≡ l.fn.party.upto) × (l.party.left ≡ l.fn.party.left);

@@ -64,7 +64,7 @@ loop-party-init g c =
       reached = e.reached;
       tends = tends_twice (h c.args.ports.now) (h c.write_out.new.ports) (h c.take_rest.new.ports) n t1 e.tends;
       live = λ l. e.live (w.pushes.pushed.1 l);
-      faults = fails_twice (h c.args.ports.now) (h c.write_out.new.ports) (h c.take_rest.new.ports) n w.faults w.pushes.pushed.1 e.faults;
+      stops = fails_twice (h c.args.ports.now) (h c.write_out.new.ports) (h c.take_rest.new.ports) n w.stops w.pushes.pushed.1 e.stops;
       opened = open_kept (h c.args.ports.now) (h c.take_rest.new.ports) n (tends_twice (h c.args.ports.now) (h c.write_out.new.ports) (h c.take_rest.new.ports) n t1 e.tends) c.requires.open;
       none = e.all;
       within = omega (arith, kept, upto, within);
@@ -128,7 +128,7 @@ loop-party-preserved g c =
     let some = c.loop-party-test.true in
     let e = c.in_default-take_rest-2.ensures in
     let f = c.in_default-fill.ensures.fills.filled in
-    let f1 = fails_twice (h c.loop-party.ports) (h c.fill.new.ports) (h c.take_rest-in-loop-party.new.ports) n c.in_default-fill.ensures.faults (λ l. f.4) e.faults in
+    let f1 = fails_twice (h c.loop-party.ports) (h c.fill.new.ports) (h c.take_rest-in-loop-party.new.ports) n c.in_default-fill.ensures.stops (λ l. f.4) e.stops in
     let t1 = tends_twice (h c.loop-party.ports) (h c.fill.new.ports) (h c.take_rest-in-loop-party.new.ports) n c.in_default-fill.ensures.fills.tends e.tends in
     let next = subst (λ (j : ℕ). Goes c.args.server.now.policy.now (g.M.Keeps.list root) (m.legal root) (m.now_of root) j p' p'' ((h c.fill.new.ports).port n) ((h c.take_rest-in-loop-party.new.ports).port n) n c.fill.new.party c.take_rest-in-loop-party.new.party {T = Unit {0}} (Ok c.in_default-take_rest-2.field-0)) inv.number e.goes in
     let left = ap (λ (z : Party). z.left) f.3 in
@@ -153,7 +153,7 @@ loop-party-preserved g c =
       reached = e.reached;
       tends = tends_twice (h c.args.ports.now) (h c.loop-party.ports) (h c.take_rest-in-loop-party.new.ports) n inv.tends t1;
       live = λ l. e.live f.4;
-      faults = fails_twice (h c.args.ports.now) (h c.loop-party.ports) (h c.take_rest-in-loop-party.new.ports) n inv.faults inv.live f1;
+      stops = fails_twice (h c.args.ports.now) (h c.loop-party.ports) (h c.take_rest-in-loop-party.new.ports) n inv.stops inv.live f1;
       opened = open_kept (h c.loop-party.ports) (h c.take_rest-in-loop-party.new.ports) n t1 inv.opened;
       none = e.all;
       within = omega (arith, kept, upto, low);
@@ -175,23 +175,23 @@ returns-clause-attends g c =
     served_then c.args.server.now.policy.now (g.M.Keeps.list root) (m.legal root) (m.now_of root) c.args.pass.now.number p p' p' ((h c.args.ports.now).port n) ((h c.loop-party.ports).port n) ((h c.loop-party.ports).port n) n s c.loop-party.party c.loop-party.party {T = Unit {0}} {U = Unit {0}} tt (Err _) inv.served
     (goes_spent c.args.server.now.policy.now (g.M.Keeps.list root) (m.legal root) (m.now_of root) c.args.pass.now.number p' ((h c.loop-party.ports).port n) n c.loop-party.party inv.none (omega (arith, spent)))
 
-pub returns-in-Err-take_rest-clause-faults : goal.returns-in-Err-take_rest-clause-faults
-returns-in-Err-take_rest-clause-faults g c =
+pub returns-in-Err-take_rest-clause-stops : goal.returns-in-Err-take_rest-clause-stops
+returns-in-Err-take_rest-clause-stops g c =
     let h = g.P.Ports.harbour in
     let w = c.in_default.ensures in
-    fails_twice (h c.args.ports.now) (h c.write_out.new.ports) (h c.take_rest.new.ports) c.args.server.now.conn w.faults w.pushes.pushed.1 c.in-Err-take_rest.ensures.faults
+    fails_twice (h c.args.ports.now) (h c.write_out.new.ports) (h c.take_rest.new.ports) c.args.server.now.conn w.stops w.pushes.pushed.1 c.in-Err-take_rest.ensures.stops
 
-pub returns-in-Err-fill-clause-faults : goal.returns-in-Err-fill-clause-faults
-returns-in-Err-fill-clause-faults g c =
+pub returns-in-Err-fill-clause-stops : goal.returns-in-Err-fill-clause-stops
+returns-in-Err-fill-clause-stops g c =
     let h = g.P.Ports.harbour in
     let inv = c.loop-party.invariant in
-    fails_twice (h c.args.ports.now) (h c.loop-party.ports) (h c.fill.new.ports) c.args.server.now.conn inv.faults inv.live c.in-Err-fill.ensures.faults
+    fails_twice (h c.args.ports.now) (h c.loop-party.ports) (h c.fill.new.ports) c.args.server.now.conn inv.stops inv.live c.in-Err-fill.ensures.stops
 
-pub returns-in-Err-take_rest-2-clause-faults : goal.returns-in-Err-take_rest-2-clause-faults
-returns-in-Err-take_rest-2-clause-faults g c =
+pub returns-in-Err-take_rest-2-clause-stops : goal.returns-in-Err-take_rest-2-clause-stops
+returns-in-Err-take_rest-2-clause-stops g c =
     let h = g.P.Ports.harbour in
     let inv = c.loop-party.invariant in
     let n = c.args.server.now.conn in
     let f = c.in_default-fill.ensures.fills.filled in
-    fails_twice (h c.args.ports.now) (h c.loop-party.ports) (h c.take_rest-in-loop-party.new.ports) n inv.faults inv.live
-    (fails_twice (h c.loop-party.ports) (h c.fill.new.ports) (h c.take_rest-in-loop-party.new.ports) n c.in_default-fill.ensures.faults (λ l. f.4) c.in-Err-take_rest-2.ensures.faults)
+    fails_twice (h c.args.ports.now) (h c.loop-party.ports) (h c.take_rest-in-loop-party.new.ports) n inv.stops inv.live
+    (fails_twice (h c.loop-party.ports) (h c.fill.new.ports) (h c.take_rest-in-loop-party.new.ports) n c.in_default-fill.ensures.stops (λ l. f.4) c.in-Err-take_rest-2.ensures.stops)

@@ -3,7 +3,7 @@ use Rattle.gt_io.specs.Ports.{Port, IsOpen}
 use Rattle.turn_lock.specs.Holders.{site_of}
 use Rattle.connection_laws.specs.Desks.{IsNamedActor}
 use Rattle.connection_laws.specs.Turns.{IsIdle, IsReached}
-use Rattle.poll_front.specs.Fronts.{Tends, StaysLive, FailsLast, Counts}
+use Rattle.poll_front.specs.Fronts.{Tends, StaysLive, StopsLast, Counts}
 use Rattle.poll_front.proofs.Attending.{Served}
 use Rattle.poll_front.proofs.serve.attend.Given as goal
 
@@ -24,7 +24,7 @@ invariant-loop-party g l =
       reached : IsReached (m.legal root) (m.now_of root) l.pass.seen l.pace.reached;
       tends : Tends a b l.server.conn;
       live : StaysLive (a.port l.server.conn) (b.port l.server.conn) {T = Unit {0}} (Ok tt);
-      faults : FailsLast a b l.server.conn;
+      stops : StopsLast a b l.server.conn;
       opened : IsOpen b l.server.conn;
       none : l.party.from ≡ l.party.upto;
       within : l.party.upto ≤ 4096;

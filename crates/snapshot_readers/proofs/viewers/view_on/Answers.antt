@@ -1,7 +1,7 @@
 use Rattle.std.proofs.Common.{ℕ, List, [], length, sym, ap, subst, ◌∙◌, refl, arith, Some, None}
 use Rattle.snapshot_readers.specs.declared.ends.Viewed.{Viewed}
 use Rattle.snapshot_readers.specs.Crew.{ViewerSpot, WorksOn}
-use Rattle.snapshot_readers.specs.Viewing.{GlancesCanBeTold}
+use Rattle.connection_laws.specs.Desks.{GlancesCanBeTold}
 use Rattle.snapshot_readers.proofs.Linking.{no_links, counted_by, next_done, goes_on}
 use Rattle.snapshot_readers.proofs.viewers.view_on.Goals as goal
 

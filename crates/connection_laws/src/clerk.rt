@@ -1,0 +1,152 @@
+//! A worker that answers the requests of a link at the desk.
+ghost use Rattle.std.specs.Prelude.{◌≡◌};
+ghost use Rattle.turn_lock.specs.Holders.{site_of};
+ghost use Rattle.locked_history.specs.Fronts.{by};
+ghost use Rattle.connection_laws.specs.Desks.{IsNamedActor, MayBeAsked, RepliesCanBeTold};
+ghost use Rattle.connection_laws.specs.Acting.{HasRoom, moment, Acts};
+ghost use Rattle.connection_laws.specs.Rooms.{text_in, LendsRoom};
+ghost use Rattle.connection_laws.specs.Services.{service_at};
+ghost use Rattle.connection_laws.specs.Turns.{IsIdle, IsReached};
+ghost use Rattle.connection_laws.specs.Clerks.{WearsAt, ClerkAsks, clerk_view};
+
+use crate::acts::{decide, reply_of};
+use crate::answerer::{Answerer, act_by};
+use crate::server::Server;
+use crate::talk::{LineAnswer, Talk};
+use gt_base::{Actor, Instant, List, Machine, Request};
+use gt_io::{Clock, Gate};
+use policy_book::Policy;
+use std::sync::Wait;
+use turn_lock::Pass;
+
+/// The longest reply, in bytes, before which a turn is kept. A link of the host holds 4,096 bytes
+/// before it waits for its peer, and a piece of 512 bytes has at most 128 lines that are replied
+/// so, so no write waits for a peer while a turn is kept.
+const SHORT_REPLY: usize = 32;
+
+/// A worker that answers at the desk: it passes the gate, reads the clock, brings the history to
+/// that minute and asks.
+#[derive(Drop)]
+pub struct Clerk<'a, M: Machine, R, C, G> {
+    pub server: &'a Server<'a, M, R, G>,
+    pub pass: &'a mut Pass<M>,
+    pub clock: &'a mut C,
+    /// A minute that the history has come to as far as the pass has seen it, where one is known.
+    pub reached: Option<Instant>,
+}
+
+impl<'a, M: Machine, R: Wait, C: Clock, G: Gate> Answerer for Clerk<'a, M, R, C, G> {
+    ghost named = { λ k. k.server.now.policy.now };
+
+    ghost ready = { λ k. IsIdle (site_of k.server.now.desk.now) k.pass.now
+        × MayBeAsked k.server.now.policy.now (M.named k.server.now.desk.now.root)
+        × RepliesCanBeTold k.server.now.policy.now (M.legal k.server.now.desk.now.root)
+        × IsReached (M.legal k.server.now.desk.now.root) (M.now_of k.server.now.desk.now.root)
+        k.pass.now.seen k.reached };
+
+    ghost asks = { λ j k actor request answer readings entries. (k.server ≡ j.server)
+        × (k.pass.ghost_name ≡ j.pass.ghost_name) × (k.clock.ghost_name ≡ j.clock.ghost_name)
+        × ClerkAsks
+        (service_at M.list M.legal M.now_of j.server.now.desk.now j.server.now.policy.now)
+        (by j.pass.now.number j.server.now.conn)
+        (clerk_view j.pass.now (C.readings j.clock.now))
+        (clerk_view k.pass.now (C.readings k.clock.now)) actor request answer readings entries };
+
+    ghost wears = { λ k. WearsAt k.pass.now.draws };
+
+    ghost use Rattle.std.proofs.Common.{refl, ◌∙◌};
+
+    ghost keeps = { λ j k. (k.server ≡ j.server) × (k.pass.ghost_name ≡ j.pass.ghost_name)
+        × (k.clock.ghost_name ≡ j.clock.ghost_name) };
+
+    ghost keeps_refl = { λ k. (refl, refl, refl) };
+
+    ghost keeps_trans = { λ i j k x y. (y.0 ∙ x.0, y.1 ∙ x.1, y.2 ∙ x.2) };
+
+    ghost asks_keep = { λ j k actor request answer readings entries x. (x.0, x.1, x.2) };
+
+    fn policy(&self) -> &Policy {
+        self.server.policy
+    }
+
+    fn answer(
+        &mut self,
+        call: u64,
+        actor: Actor,
+        request: Request,
+        room: &mut List<u8>,
+    ) -> LineAnswer {
+        self.server.gate.pass(self.pass.number(), call);
+        let reading = self.clock.now();
+        decide(
+            self.server,
+            self.pass,
+            reading,
+            actor,
+            request,
+            &mut self.reached,
+            room,
+        )
+    }
+
+    /// Has the pass keep its turn from now on, unless its gate may wait for another worker.
+    fn begin_piece(&mut self) {
+        if !self.server.gate.may_wait() {
+            self.pass.stay();
+        }
+    }
+
+    /// Gives a kept turn on where the reply is long, since writing it may wait for the peer.
+    fn before_reply(&mut self, told: &LineAnswer) {
+        if reply_of(told).len() > SHORT_REPLY {
+            self.server.desk.rest(self.pass);
+        }
+    }
+
+    /// Gives a kept turn on.
+    fn end_piece(&mut self) {
+        self.server.desk.rest(self.pass);
+    }
+}
+
+/// Acts on a line at the desk, but for its reply: a line that asks passes the gate, reads the clock,
+/// brings the history to that minute and asks.
+///
+/// `room` is the buffer of the connection, whatever it holds. A line that asks needs room there for
+/// the longest reply, which the first one takes and later ones find. The reply goes out in it, and
+/// `take_back` brings it home. Every other answer leaves it where it is, with all of its room. For
+/// want of room the line is told `NoMemory` and is not accepted, and the next one tries again.
+pub fn act_at<M: Machine, R: Wait, C: Clock, G: Gate>(
+    server: &Server<M, R, G>,
+    pass: &mut Pass<M>,
+    clock: &mut C,
+    reached: &mut Option<Instant>,
+    talk: &mut Talk,
+    room: &mut List<u8>,
+    line: &[u8],
+) -> LineAnswer
+    requires idle { IsIdle (site_of server.now.desk.now) pass.old }
+    requires named { MayBeAsked server.now.policy.now (M.named server.now.desk.now.root) }
+    requires replies { RepliesCanBeTold server.now.policy.now (M.legal server.now.desk.now.root) }
+    requires actor { IsNamedActor server.now.policy.now talk.old.actor }
+    requires room { HasRoom talk.old 1 }
+    requires reached { IsReached (M.legal server.now.desk.now.root)
+        (M.now_of server.now.desk.now.root) pass.old.seen reached.old }
+    ensures reached { IsReached (M.legal server.now.desk.now.root)
+        (M.now_of server.now.desk.now.root) pass.new.seen reached.new }
+    ensures acts { Acts
+        (service_at M.list M.legal M.now_of server.now.desk.now server.now.policy.now)
+        (by pass.old.number server.now.conn) (moment pass.old talk.old (C.readings clock.old))
+        (moment pass.new talk.new (C.readings clock.new)) line.now result }
+    ensures lends { LendsRoom room.old room.new (text_in result) }
+{
+    let mut clerk = Clerk {
+        server,
+        pass,
+        clock,
+        reached: *reached,
+    };
+    let told = act_by(&mut clerk, talk, room, line);
+    *reached = clerk.reached;
+    told
+}

@@ -1,0 +1,257 @@
+//! What one byte of a link comes to, whoever answers its requests.
+ghost use Rattle.std.specs.Prelude.{◌≡◌, ◌+◌, ◌<◌, ◌≤◌, ◌^◌, ℕ, true, false, [], ◌∷◌, length, Err, IfOk, OnOk};
+ghost use Rattle.std.specs.Io.KnownBytes.{ReadConsumes, WriteAppends};
+ghost use Rattle.gt_io.specs.Causes.{CountsEnd, HasCause, RisesOnce};
+ghost use Rattle.gt_io.specs.Frames.{blank_frame};
+ghost use Rattle.gt_io.specs.Links.{ReadsNothing, WritesNothing};
+ghost use Rattle.policy_words.specs.Naming.{NamedPolicy};
+ghost use Rattle.connection_laws.specs.Lines.{Answer};
+ghost use Rattle.connection_laws.specs.Desks.{IsNamedActor};
+ghost use Rattle.connection_laws.specs.Rooms.{text_in, room_in, TakesBack};
+ghost use Rattle.connection_laws.specs.Acting.{IsTold, counted_talk, CanCount, HasRoom, CountsUp};
+ghost use Rattle.connection_laws.specs.Attending.{IsStart, Sent, spot, TakesBytes, Attends};
+
+use crate::acts::{count, reply_of, take_back};
+use crate::answerer::{Answerer, act_by};
+use crate::ends::LinkEnd;
+use crate::talk::{LineAnswer, Talk};
+use gt_base::{Actor, List, MAX_BYTES};
+use gt_io::{Failed, Framed, Framer, Link, send_all};
+use request_text::LineFault;
+use std::alloc::Global;
+
+/// The line that a link is in, what the link has come to, and the buffer in which its replies go
+/// out, one after the other. The first request line takes its room, and later ones use it again.
+#[derive(Drop)]
+pub struct Hearing {
+    pub framer: Framer,
+    pub talk: Talk,
+    pub room: List<u8>,
+}
+
+impl Hearing {
+    /// Before the first byte of a link, with so many calls of who answers.
+    pub fn new(alloc: Global, calls: u64) -> Hearing
+        requires { calls < 2 ^ 63 }
+        ensures start { IsStart result.talk }
+        ensures frame { result.framer ≡ blank_frame }
+        ensures calls { result.talk.calls ≡ calls }
+    {
+        Hearing {
+            framer: Framer::new(),
+            talk: Talk {
+                actor: Actor::Nobody,
+                asked: 0,
+                denied: 0,
+                calls,
+            },
+            room: List::new(alloc),
+        }
+    }
+}
+
+/// Writes the reply of a line.
+fn send<L: Link>(link: &mut L, told: &LineAnswer) -> Result<(), LinkEnd>
+    requires { (L.traffic link.old).finished ≡ false }
+    ensures sent { (np : NamedPolicy) (answer : Answer) → IsTold np told.now answer
+        → Sent np answer (L.traffic link.old) (L.traffic link.new) result }
+    ensures worn { (n : ℕ) → result ≡ Err (LinkEnd.Worn n) → told.now ≡ LineAnswer.Worn n }
+    ensures held { (L.traffic link.new).finished ≡ (L.traffic link.old).finished }
+{
+    if let LineAnswer::Worn { draws } = told {
+        return Err(LinkEnd::Worn { draws: *draws });
+    }
+    match send_all(link, reply_of(told)) {
+        Ok(()) => Ok(()),
+        Err(_) => Err(LinkEnd::WriteFault),
+    }
+}
+
+/// Counts what a line got, writes its reply, and takes the buffer of it back.
+fn settle<L: Link>(
+    link: &mut L,
+    talk: &mut Talk,
+    room: &mut List<u8>,
+    told: LineAnswer,
+) -> Result<(), LinkEnd>
+    requires count { CanCount talk.old }
+    requires open { (L.traffic link.old).finished ≡ false }
+    ensures talk { (np : NamedPolicy) (answer : Answer) → IsTold np told answer
+        → talk.new ≡ counted_talk talk.old answer }
+    ensures sent { (np : NamedPolicy) (answer : Answer) → IsTold np told answer
+        → Sent np answer (L.traffic link.old) (L.traffic link.new) result }
+    ensures worn { (n : ℕ) → result ≡ Err (LinkEnd.Worn n) → told ≡ LineAnswer.Worn n }
+    ensures held { (L.traffic link.new).finished ≡ (L.traffic link.old).finished }
+    ensures back { TakesBack room.old room.new (text_in told) }
+{
+    count(talk, &told);
+    let sent = send(link, &told);
+    take_back(room, told);
+    sent
+}
+
+/// Takes one more byte, and acts on the line that it ends.
+pub fn take_byte<A: Answerer, L: Link>(
+    answerer: &mut A,
+    link: &mut L,
+    hearing: &mut Hearing,
+    byte: u8,
+) -> Result<(), LinkEnd>
+    requires ready { A.ready answerer.old }
+    requires actor { IsNamedActor (A.named answerer.old) hearing.old.talk.actor }
+    requires room { HasRoom hearing.old.talk 1 }
+    requires open { (L.traffic link.old).finished ≡ false }
+    ensures goes { TakesBytes (A.named answerer.old) A.asks A.wears
+        (spot answerer.old hearing.old.talk (L.traffic link.old).given)
+        (spot answerer.new hearing.new.talk (L.traffic link.new).given)
+        hearing.old.framer hearing.new.framer (byte ∷ []) (L.traffic link.old).write_faults
+        (L.traffic link.new).write_faults result }
+    ensures ready { A.ready answerer.new }
+    ensures named { A.named answerer.new ≡ A.named answerer.old }
+    ensures actor { IsNamedActor (A.named answerer.old) hearing.new.talk.actor }
+    ensures counts { CountsUp hearing.old.talk hearing.new.talk 1 }
+    ensures reads { ReadsNothing (L.traffic link.old) (L.traffic link.new) }
+    ensures held { (L.traffic link.new).finished ≡ (L.traffic link.old).finished }
+    ensures faults { OnOk result
+        ((L.traffic link.new).write_faults ≡ (L.traffic link.old).write_faults) }
+    ensures kept { room_in hearing.old.room ≤ room_in hearing.new.room }
+{
+    match hearing.framer.push(byte) {
+        Framed::More => Ok(()),
+        Framed::Whole => {
+            let told = act_by(
+                answerer,
+                &mut hearing.talk,
+                &mut hearing.room,
+                hearing.framer.line(),
+            );
+            answerer.before_reply(&told);
+            settle(link, &mut hearing.talk, &mut hearing.room, told)
+        }
+        Framed::Long => {
+            let told = LineAnswer::Bad(LineFault::Long);
+            settle(link, &mut hearing.talk, &mut hearing.room, told)
+        }
+    }
+}
+
+/// Takes on a piece of bytes, up to the line in which the service is cut off.
+pub fn take_bytes<A: Answerer, L: Link>(
+    answerer: &mut A,
+    link: &mut L,
+    hearing: &mut Hearing,
+    piece: &[u8],
+) -> Result<(), LinkEnd>
+    requires ready { A.ready answerer.old }
+    requires actor { IsNamedActor (A.named answerer.old) hearing.old.talk.actor }
+    requires room { HasRoom hearing.old.talk (length piece.now) }
+    requires open { (L.traffic link.old).finished ≡ false }
+    ensures goes { TakesBytes (A.named answerer.old) A.asks A.wears
+        (spot answerer.old hearing.old.talk (L.traffic link.old).given)
+        (spot answerer.new hearing.new.talk (L.traffic link.new).given)
+        hearing.old.framer hearing.new.framer piece.now (L.traffic link.old).write_faults
+        (L.traffic link.new).write_faults result }
+    ensures ready { A.ready answerer.new }
+    ensures named { A.named answerer.new ≡ A.named answerer.old }
+    ensures actor { IsNamedActor (A.named answerer.old) hearing.new.talk.actor }
+    ensures counts { CountsUp hearing.old.talk hearing.new.talk (length piece.now) }
+    ensures reads { ReadsNothing (L.traffic link.old) (L.traffic link.new) }
+    ensures held { (L.traffic link.new).finished ≡ (L.traffic link.old).finished }
+    ensures faults { OnOk result
+        ((L.traffic link.new).write_faults ≡ (L.traffic link.old).write_faults) }
+    ensures kept { room_in hearing.old.room ≤ room_in hearing.new.room }
+{
+    answerer.begin_piece();
+    for byte in piece {
+        if let Err(end) = take_byte(answerer, link, hearing, *byte) {
+            answerer.end_piece();
+            return Err(end);
+        }
+    }
+    answerer.end_piece();
+    Ok(())
+}
+
+/// Reads some bytes, `left` at most.
+fn read_some<L: Link>(link: &mut L, buf: &mut [u8], left: usize) -> Result<usize, Failed>
+    requires buf { 0 < length buf.old }
+    requires left { 0 < left }
+    requires open { (L.traffic link.old).finished ≡ false }
+    ensures bound { IfOk result (λ n. (n ≤ left) × (n ≤ length buf.new)) }
+    ensures bytes { ReadConsumes (L.traffic link.old).left (L.traffic link.new).left result
+        buf.new }
+    ensures taken { WriteAppends (L.traffic link.old).taken (L.traffic link.new).taken result
+        buf.new }
+    ensures cause { HasCause (L.traffic link.old).read_faults (L.traffic link.new).read_faults
+        result }
+    ensures once { RisesOnce (L.traffic link.old).read_faults (L.traffic link.new).read_faults
+        result }
+    ensures ends { CountsEnd (L.traffic link.old).ends (L.traffic link.new).ends result }
+    ensures writes { WritesNothing (L.traffic link.old) (L.traffic link.new) }
+    ensures held { (L.traffic link.new).finished ≡ (L.traffic link.old).finished }
+{
+    let room = left.min(buf.len());
+    link.read(&mut buf[..room])
+}
+
+/// Takes the bytes of a link to its end.
+fn take_all<A: Answerer, L: Link>(
+    answerer: &mut A,
+    link: &mut L,
+    hearing: &mut Hearing,
+) -> LinkEnd
+    requires ready { A.ready answerer.old }
+    requires start { IsStart hearing.old.talk }
+    requires frame { hearing.old.framer ≡ blank_frame }
+    requires open { (L.traffic link.old).finished ≡ false }
+    ensures attends { Attends (A.named answerer.old) A.asks A.wears
+        (spot answerer.old hearing.old.talk (L.traffic link.old).given)
+        (spot answerer.new hearing.new.talk (L.traffic link.new).given)
+        (L.traffic link.old) (L.traffic link.new) result }
+    ensures ready { A.ready answerer.new }
+    ensures named { A.named answerer.new ≡ A.named answerer.old }
+    ensures calls { hearing.new.talk.calls ≤ hearing.old.talk.calls + MAX_BYTES }
+    ensures held { (L.traffic link.new).finished ≡ (L.traffic link.old).finished }
+{
+    let mut buf = [0u8; 512];
+    let mut left = MAX_BYTES;
+    while left > 0 {
+        let Ok(n) = read_some(link, &mut buf, left) else {
+            return LinkEnd::ReadFault;
+        };
+        if n == 0 {
+            return LinkEnd::Ended;
+        }
+        left -= n;
+        if let Err(end) = take_bytes(answerer, link, hearing, &buf[..n]) {
+            return end;
+        }
+    }
+    LinkEnd::Spent
+}
+
+/// Serves a link to its end, by who answers its requests. After the first read or write that fails
+/// it makes no further one, nor a read behind the one that told the end. Then it lets the link go,
+/// which is the last call on it.
+pub fn attend<A: Answerer, L: Link>(
+    answerer: &mut A,
+    link: &mut L,
+    hearing: &mut Hearing,
+) -> LinkEnd
+    requires ready { A.ready answerer.old }
+    requires start { IsStart hearing.old.talk }
+    requires frame { hearing.old.framer ≡ blank_frame }
+    requires open { (L.traffic link.old).finished ≡ false }
+    ensures keeps { A.keeps answerer.old answerer.new }
+    ensures attends { Attends (A.named answerer.old) A.asks A.wears
+        (spot answerer.old hearing.old.talk (L.traffic link.old).given)
+        (spot answerer.new hearing.new.talk (L.traffic link.new).given)
+        (L.traffic link.old) (L.traffic link.new) result }
+    ensures ready { A.ready answerer.new }
+    ensures calls { hearing.new.talk.calls ≤ hearing.old.talk.calls + MAX_BYTES }
+    ensures finished { (L.traffic link.new).finished ≡ true }
+{
+    let end = take_all(answerer, link, hearing);
+    link.finish();
+    end
+}

@@ -1,8 +1,0 @@
-use Rattle.std.proofs.Common.{◌≡◌, rules, subst}
-use Rattle.core_machine.specs.Books.{BookView, HasOnlyModel}
-use Rattle.snapshot_readers.proofs.ledgers.Ledger.keeps.Goals as goal
-
-pub returns-clause-only : goal.returns-clause-only
-returns-clause-only c =
-    let is : c.deref.result.now ≡ c.args.self.now = search rules in
-    subst (λ (b : BookView). HasOnlyModel b) is c.keeps.ensures.only

@@ -1,0 +1,28 @@
+-- What one request makes of a viewer that answers it.
+use Rattle.std.specs.Prelude.{◌≡◌, ℕ, List, ◌++◌, length}
+use mathlib.Core.List.{IsPrefix}
+use Rattle.gt_base.specs.declared.requests.Actor.{Actor}
+use Rattle.gt_base.specs.declared.requests.Request.{Request}
+use Rattle.gt_base.specs.declared.requests.Entry.{Entry}
+use Rattle.policy_words.specs.Naming.{NamedPolicy}
+use Rattle.connection_laws.specs.Lines.{Answer}
+use Rattle.snapshot_readers.specs.Viewed.{lens_in, AscendBetween, Sees}
+
+-- a viewer as it answers: the history that its glass has seen, and the numbers of entries that its
+-- replies are of
+pub record GuideView : Type 0 where
+  pub seen : List Entry
+  pub lens : List ℕ
+
+abbrev pub guide_view : List Entry → List ℕ → GuideView
+guide_view seen lens = record { seen = seen; lens = lens }
+
+module _ (np : NamedPolicy) (birth : ℕ) where
+  -- the request got what a viewer's request gets over the history that the glass has then seen,
+  -- which has grown, and the number was recorded
+  pub record GuideAsks (a b : GuideView) (actor : Actor) (request : Request) (answer : Answer)
+      (readings : List ℕ) (entries : List Entry) : Type 0 where
+    pub sees : (n : ℕ) → Sees np birth b.seen actor request answer n readings entries
+    pub grows : IsPrefix a.seen b.seen
+    pub lens : b.lens ≡ a.lens ++ lens_in answer
+    pub ascends : AscendBetween (length a.seen) (lens_in answer) (length b.seen)

@@ -1,0 +1,129 @@
+//! A viewer that answers the requests of a link by glances.
+ghost use Rattle.std.specs.Prelude.{◌≡◌, ℕ, true};
+ghost use Rattle.gtrbac_model.specs.History.{IsNamedWish, ask};
+ghost use Rattle.connection_laws.specs.Rooms.{text_in, LendsRoom};
+ghost use Rattle.core_machine.specs.Looks.{is_look};
+ghost use Rattle.snapshot_readers.specs.Guides.{guide_view, GuideAsks};
+ghost use Rattle.connection_laws.specs.Desks.{GlancesCanBeTold};
+ghost use Rattle.snapshot_readers.specs.Viewing.{SameGlass, Shows};
+
+use crate::glass::Glass;
+use crate::station::Station;
+use connection_laws::{Answerer, LineAnswer};
+use gt_base::{Actor, List, Request};
+use gt_io::Gate;
+use policy_book::Policy;
+use request_text::{LONGEST_REPLY, put_reply, reply_fits};
+use std::alloc::Global;
+use std::mem::replace;
+
+/// Whether a request only looks.
+fn only_looks(request: &Request) -> bool
+    ensures { result ≡ is_look request.now }
+{
+    match request {
+        Request::Now => true,
+        Request::Status(_) => true,
+        Request::Seen(_) => true,
+        Request::Active(_, _) => true,
+        Request::Check(_, _) => true,
+        _ => false,
+    }
+}
+
+/// Answers a request that only looks, with room for the reply and for its number made before. A
+/// reply goes out in the buffer, and one without room is left in its place.
+fn show(
+    alloc: Global,
+    glass: &mut Glass,
+    policy: &Policy,
+    actor: Actor,
+    request: Request,
+    lens: &mut List<u64>,
+    room: &mut List<u8>,
+) -> LineAnswer
+    requires policy { glass.old.named ≡ policy.now }
+    requires looks { is_look request ≡ true }
+    requires named { IsNamedWish policy.now.policy (ask actor request) }
+    requires replies { GlancesCanBeTold policy.now glass.old.birth }
+    ensures glass { SameGlass glass.old glass.new }
+    ensures shows { Shows policy.now glass.old.birth glass.old.seen glass.new.seen lens.old.items
+        lens.new.items actor request result }
+    ensures lends { LendsRoom room.old room.new (text_in result) }
+    ensures reply { (n : ℕ) → result ≡ LineAnswer.Worn n → ⊥ }
+{
+    room.clear();
+    if room.reserve(LONGEST_REPLY).is_err() || lens.reserve(1).is_err() {
+        return LineAnswer::NoMemory;
+    }
+    match glass.glance(actor, request) {
+        Ok(glanced) => {
+            reply_fits(policy, &glanced.reply);
+            put_reply(policy, &glanced.reply, room);
+            lens.push(glanced.len);
+            LineAnswer::Reply(replace(room, List::new(alloc)))
+        }
+        Err(_) => LineAnswer::NoMemory,
+    }
+}
+
+/// A viewer that answers by its glass: it passes its gate, and answers what only looks. It records
+/// of how many entries the history is that each reply is of.
+#[derive(Drop)]
+pub(crate) struct Guide<'a, G: Gate> {
+    pub(crate) station: &'a Station<'a, G>,
+    pub(crate) policy: &'a Policy,
+    pub(crate) glass: &'a mut Glass,
+    pub(crate) lens: &'a mut List<u64>,
+}
+
+impl<'a, G: Gate> Answerer for Guide<'a, G> {
+    ghost named = { λ k. k.policy.now };
+
+    ghost ready = { λ k. (k.glass.now.named ≡ k.policy.now)
+        × GlancesCanBeTold k.policy.now k.glass.now.birth };
+
+    ghost asks = { λ j k actor request answer readings entries. (k.policy ≡ j.policy)
+        × (k.glass.ghost_name ≡ j.glass.ghost_name) × (k.lens.ghost_name ≡ j.lens.ghost_name)
+        × SameGlass j.glass.now k.glass.now
+        × GuideAsks j.policy.now j.glass.now.birth
+        (guide_view j.glass.now.seen j.lens.now.items)
+        (guide_view k.glass.now.seen k.lens.now.items) actor request answer readings entries };
+
+    ghost wears = { λ k n. ⊥ };
+
+    fn policy(&self) -> &Policy {
+        self.policy
+    }
+
+    fn answer(
+        &mut self,
+        call: u64,
+        actor: Actor,
+        request: Request,
+        room: &mut List<u8>,
+    ) -> LineAnswer {
+        self.station.gate.pass(self.station.number, call);
+        if !only_looks(&request) {
+            return LineAnswer::ViewOnly;
+        }
+        show(
+            self.station.alloc,
+            self.glass,
+            self.policy,
+            actor,
+            request,
+            self.lens,
+            room,
+        )
+    }
+
+    /// Holds no turn.
+    fn begin_piece(&mut self) {}
+
+    /// Holds no turn.
+    fn before_reply(&mut self, _told: &LineAnswer) {}
+
+    /// Holds no turn.
+    fn end_piece(&mut self) {}
+}
