@@ -23,7 +23,7 @@ module _ {M R C G : Type 0} (list : M → List Entry) (legal : M → List Entry 
   seen = seen_clerk list legal now_of readings_by
 
   -- it serves at the same desk and as the same worker
-  abbrev Same : Clerk M R C G → Clerk M R C G → Type 0
+  abbrev pub Same : Clerk M R C G → Clerk M R C G → Type 0
   Same j k = (k.server ≡ j.server) × (k.pass.now.number ≡ j.pass.now.number)
 
   abbrev Asked : ClerkView M → ClerkView M → Actor → Request → Answer → List ℕ → List Entry → Type 0
@@ -40,9 +40,9 @@ module _ {M R C G : Type 0} (list : M → List Entry) (legal : M → List Entry 
 
   pub lent_attends : (p : Clerk M R C G) (talk talk' : Talk) (given given' : Option (List ℕ)) (a b : Traffic) (end : LinkEnd)
       → Attends np (ClerkGets list legal now_of readings_by) (λ k. WearsAt k.pass.now.draws) (spot o talk given) (spot p talk' given') a b end
-      → Attends np Asked WearsClerk (spot (seen o) talk given) (spot (seen p) talk' given') a b end
+      → Same o p × Attends np Asked WearsClerk (spot (seen o) talk given) (spot (seen p) talk' given') a b end
   lent_attends p talk talk' given given' a b end x =
-      (attends_so seen Same (λ k. (refl, refl)) np (ClerkGets list legal now_of readings_by) Asked o asked_so (λ k. WearsAt k.pass.now.draws) WearsClerk (λ k n w. w) p talk talk' given given' a b end x).1
+      attends_so seen Same (λ k. (refl, refl)) np (ClerkGets list legal now_of readings_by) Asked o asked_so (λ k. WearsAt k.pass.now.draws) WearsClerk (λ k n w. w) p talk talk' given given' a b end x
 
   pub lent_acts : (p : Clerk M R C G) (talk talk' : Talk) (line : List ℕ) (told : LineAnswer)
       → ActsBy np (ClerkGets list legal now_of readings_by) (WearsAt p.pass.now.draws) o p talk talk' line told

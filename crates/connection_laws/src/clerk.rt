@@ -7,7 +7,7 @@ ghost use Rattle.connection_laws.specs.Acting.{HasRoom, moment, Acts};
 ghost use Rattle.connection_laws.specs.Rooms.{text_in, LendsRoom};
 ghost use Rattle.connection_laws.specs.Services.{service_at};
 ghost use Rattle.connection_laws.specs.Turns.{IsIdle, IsReached};
-ghost use Rattle.connection_laws.specs.Clerks.{WearsAt, ClerkAsks, clerk_view};
+ghost use Rattle.connection_laws.specs.Clerks.{WearsAt, ClerkGets};
 
 use crate::acts::{decide, reply_of};
 use crate::answerer::{Answerer, act_by};
@@ -44,13 +44,7 @@ impl<'a, M: Machine, R: Wait, C: Clock, G: Gate> Answerer for Clerk<'a, M, R, C,
         × IsReached (M.legal k.server.now.desk.now.root) (M.now_of k.server.now.desk.now.root)
         k.pass.now.seen k.reached };
 
-    ghost asks = { λ j k actor request answer readings entries. (k.server ≡ j.server)
-        × (k.pass.ghost_name ≡ j.pass.ghost_name) × (k.clock.ghost_name ≡ j.clock.ghost_name)
-        × ClerkAsks
-        (service_at M.list M.legal M.now_of j.server.now.desk.now j.server.now.policy.now)
-        (by j.pass.now.number j.server.now.conn)
-        (clerk_view j.pass.now (C.readings j.clock.now))
-        (clerk_view k.pass.now (C.readings k.clock.now)) actor request answer readings entries };
+    ghost asks = { ClerkGets M.list M.legal M.now_of C.readings };
 
     ghost wears = { λ k. WearsAt k.pass.now.draws };
 
@@ -63,7 +57,7 @@ impl<'a, M: Machine, R: Wait, C: Clock, G: Gate> Answerer for Clerk<'a, M, R, C,
 
     ghost keeps_trans = { λ i j k x y. (y.0 ∙ x.0, y.1 ∙ x.1, y.2 ∙ x.2) };
 
-    ghost asks_keep = { λ j k actor request answer readings entries x. (x.0, x.1, x.2) };
+    ghost asks_keep = { λ j k actor request answer readings entries x. x.keeps };
 
     fn policy(&self) -> &Policy {
         self.server.policy

@@ -4,6 +4,7 @@ pub mod BoardSending
 pub mod Ascending
 pub mod Longer
 pub mod GuideSteps
+pub mod Lent
 pub mod Glancing
 pub mod Completing
 pub mod Linking

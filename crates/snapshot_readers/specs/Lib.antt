@@ -2,7 +2,7 @@ pub mod Glances
 pub mod Glazed
 pub mod Boards
 pub mod Viewed
-pub mod Guides
 pub mod Viewing
+pub mod Guides
 pub mod Crew
 pub mod Seats

@@ -3,7 +3,7 @@ ghost use Rattle.std.specs.Prelude.{◌≡◌, ℕ, true};
 ghost use Rattle.gtrbac_model.specs.History.{IsNamedWish, ask};
 ghost use Rattle.connection_laws.specs.Rooms.{text_in, LendsRoom};
 ghost use Rattle.core_machine.specs.Looks.{is_look};
-ghost use Rattle.snapshot_readers.specs.Guides.{guide_view, GuideAsks};
+ghost use Rattle.snapshot_readers.specs.Guides.{GuideGets};
 ghost use Rattle.connection_laws.specs.Desks.{GlancesCanBeTold};
 ghost use Rattle.snapshot_readers.specs.Viewing.{SameGlass, Shows};
 
@@ -83,14 +83,20 @@ impl<'a, G: Gate> Answerer for Guide<'a, G> {
     ghost ready = { λ k. (k.glass.now.named ≡ k.policy.now)
         × GlancesCanBeTold k.policy.now k.glass.now.birth };
 
-    ghost asks = { λ j k actor request answer readings entries. (k.policy ≡ j.policy)
-        × (k.glass.ghost_name ≡ j.glass.ghost_name) × (k.lens.ghost_name ≡ j.lens.ghost_name)
-        × SameGlass j.glass.now k.glass.now
-        × GuideAsks j.policy.now j.glass.now.birth
-        (guide_view j.glass.now.seen j.lens.now.items)
-        (guide_view k.glass.now.seen k.lens.now.items) actor request answer readings entries };
+    ghost asks = { GuideGets };
 
     ghost wears = { λ k n. ⊥ };
+
+    ghost use Rattle.std.proofs.Common.{refl, ◌∙◌};
+
+    ghost keeps = { λ j k. (k.policy ≡ j.policy) × (k.glass.ghost_name ≡ j.glass.ghost_name)
+        × (k.lens.ghost_name ≡ j.lens.ghost_name) };
+
+    ghost keeps_refl = { λ k. (refl, refl, refl) };
+
+    ghost keeps_trans = { λ i j k x y. (y.0 ∙ x.0, y.1 ∙ x.1, y.2 ∙ x.2) };
+
+    ghost asks_keep = { λ j k actor request answer readings entries x. x.keeps };
 
     fn policy(&self) -> &Policy {
         self.policy
