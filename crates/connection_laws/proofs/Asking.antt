@@ -1,5 +1,5 @@
 -- A request line behind its ticks.
-use Rattle.std.proofs.Common.{◌≡◌, ℕ, ◌+◌, ◌^◌, ◌≤◌, true, List, [], ◌∷◌, ◌++◌, length, drop, refl, sym, ap, subst, ◌∙◌, arith, append-nil, Ok, Err, Result}
+use Rattle.std.proofs.Common.{◌≡◌, ℕ, ◌+◌, ◌^◌, ◌≤◌, true, List, [], ◌∷◌, ◌++◌, length, refl, sym, ap, subst, ◌∙◌, arith, append-nil, Ok, Err, Result}
 use mathlib.Core.List.{IsPrefix}
 use Rattle.gt_base.specs.declared.requests.Who.{Who}
 use Rattle.gt_base.specs.declared.requests.Actor.{Actor}
@@ -9,13 +9,13 @@ use Rattle.gt_base.specs.declared.requests.Entry.{Entry}
 use Rattle.gt_base.specs.declared.requests.Step.TheVariants.{Tick}
 use Rattle.gt_base.specs.Machines.{asked}
 use Rattle.gt_base.specs.declared.limits.TheConstants.{MAX_STEPS}
-use Rattle.turn_lock.specs.Turns.{Each, part}
+use Rattle.turn_lock.specs.Turns.{Each}
 use Rattle.turn_lock.specs.Holders.{Holder}
 use Rattle.turn_lock.proofs.Totals.{each-append}
 use Rattle.locked_history.specs.Fronts.{by, Lands, Refuses}
 use Rattle.locked_history.specs.declared.faults.DeskFault.{DeskFault}
 use Rattle.locked_history.specs.declared.faults.DeskFault.TheVariants.{Worn, StepsFull, Memory}
-use Rattle.connection_laws.specs.Connection.{is_who, part_of, IsTick, Answers, Asks, Stands, IsTimed, placed}
+use Rattle.connection_laws.specs.Connection.{is_who, part_of, IsTick, Answers, placed}
 use Rattle.connection_laws.proofs.Places.{own_entry, placed_more, stands_at}
 use Rattle.connection_laws.proofs.Timing.{asked_in_time}
 use Rattle.connection_laws.specs.Turns.{answer_of, Grows, AreMine, AskedTurn}

@@ -1,13 +1,11 @@
 -- What the steps of a worker, line by line, come to.
-use Rattle.std.proofs.Common.{◌≡◌, ℕ, ◌+◌, ◌*◌, ◌≤◌, Bool, true, false, List, [], ◌∷◌, ◌++◌, length, refl, sym, ap, subst, ◌∙◌, arith, length-append, Option, Result, Ok, Err}
+use Rattle.std.proofs.Common.{◌≡◌, ℕ, ◌+◌, ◌*◌, true, false, List, [], ◌∷◌, ◌++◌, length, refl, sym, ap, subst, ◌∙◌, arith, length-append, Result, Ok, Err}
 use Rattle.gt_base.specs.declared.requests.Who.{Who}
 use Rattle.gt_base.specs.declared.requests.Actor.{Actor}
 use Rattle.gt_base.specs.declared.requests.Actor.TheVariants.{Nobody}
-use Rattle.gt_base.specs.declared.requests.Request.{Request}
 use Rattle.gt_base.specs.declared.requests.Entry.{Entry}
 use Rattle.gt_io.specs.Links.{Reads}
 use Rattle.gt_io.proofs.Readings.{Reads-nil, Reads-trans}
-use Rattle.turn_lock.specs.Turns.{Each}
 use Rattle.turn_lock.specs.Holders.{Holder}
 use Rattle.turn_lock.proofs.Totals.{each-append}
 use Rattle.policy_words.specs.Naming.{NamedPolicy}
@@ -15,7 +13,7 @@ use Rattle.request_text.specs.declared.lines.Line.{Line}
 use Rattle.request_text.specs.declared.lines.Line.TheVariants.{Silent, At, Be, Ask}
 use Rattle.request_text.specs.declared.lines.LineFault.{LineFault}
 use Rattle.request_text.specs.Phrases.{read_line}
-use Rattle.connection_laws.specs.Lines.{Answer, Acted, actor_after, readings_of, entries_of, says_request, one_where, requests_in}
+use Rattle.connection_laws.specs.Lines.{Acted, actor_after, readings_of, entries_of, says_request, one_where, requests_in}
 use Rattle.connection_laws.specs.Connection.{is_who, Gets, AreActed, IsTimed, placed}
 use Rattle.connection_laws.specs.Services.{Service}
 use Rattle.connection_laws.specs.Turns.{Grows, AreMine}

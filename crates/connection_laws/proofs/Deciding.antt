@@ -1,5 +1,5 @@
 -- What is told of a request.
-use Rattle.std.proofs.Common.{◌≡◌, ℕ, ◌≤◌, List, [], ◌∷◌, ◌++◌, refl, sym, ap, ◌∙◌, arith, Ok}
+use Rattle.std.proofs.Common.{◌≡◌, ℕ, List, [], refl, arith, Ok}
 use Rattle.gt_base.specs.declared.requests.Who.{Who}
 use Rattle.gt_base.specs.declared.requests.Actor.{Actor}
 use Rattle.gt_base.specs.declared.requests.Request.{Request}
@@ -11,7 +11,7 @@ use Rattle.policy_words.specs.Naming.{NamedPolicy}
 use Rattle.connection_laws.specs.Lines.{accepted, no_memory, answer_text}
 use Rattle.connection_laws.specs.declared.talk.LineAnswer.TheVariants.{Reply as ToldReply, NoMemory}
 use Rattle.connection_laws.specs.Services.{service}
-use Rattle.connection_laws.specs.Turns.{Grows, AskedTurn}
+use Rattle.connection_laws.specs.Turns.{AskedTurn}
 use Rattle.connection_laws.specs.Acting.{Decides}
 use Rattle.connection_laws.proofs.Growing.{grown_none}
 

@@ -1,5 +1,5 @@
 -- How a service begins and ends, whoever answers.
-use Rattle.std.proofs.Common.{◌≡◌, ℕ, ◌+◌, ◌≤◌, List, [], ◌∷◌, ◌++◌, length, refl, sym, ap, subst, ◌∙◌, append_assoc, add-zero, Option}
+use Rattle.std.proofs.Common.{◌≡◌, ℕ, ◌+◌, ◌≤◌, List, [], ◌++◌, length, refl, sym, ap, subst, ◌∙◌, append_assoc, add-zero, Option}
 use Rattle.std.specs.Io.KnownBytes.{Appends, Consumes, IsAtEnd}
 use Rattle.std.proofs.KnownBytes.{Appends-nil}
 use mathlib.Core.List.{IsPrefix}
@@ -18,7 +18,7 @@ use Rattle.connection_laws.specs.declared.talk.Talk.{Talk}
 use Rattle.connection_laws.specs.Cuts.{whole_lines}
 use Rattle.connection_laws.specs.Doors.{HaveFailed, none_more}
 use Rattle.connection_laws.specs.Lines.{Answer, Acted, IsGiven}
-use Rattle.connection_laws.specs.Attending.{IsStart, Spot, spot, Going, Serving, HaltsBy, Halted, EndsBy, Attends}
+use Rattle.connection_laws.specs.Attending.{IsStart, Spot, spot, Serving, HaltsBy, Halted, EndsBy, Attends}
 use Rattle.connection_laws.proofs.Cutting.{lines_more}
 
 given_same : (np : NamedPolicy) (xs ys text : List ℕ) (acted : List Acted) (Wears : ℕ → Type 0) (f f' : ℕ) (end : LinkEnd) → HaltsBy Wears f f' end → IsGiven np xs text acted end → IsGiven np ys text acted end

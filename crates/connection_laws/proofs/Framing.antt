@@ -1,5 +1,5 @@
 -- What a framer knows of the text so far.
-use Rattle.std.proofs.Common.{◌≡◌, ℕ, ◌+◌, ◌<◌, ◌≤◌, Bool, true, false, cond, List, [], ◌∷◌, ◌++◌, length, take, min, nat_le, refl, sym, ap, subst, ◌∙◌, arith, length-append}
+use Rattle.std.proofs.Common.{◌≡◌, ℕ, ◌+◌, ◌<◌, ◌≤◌, true, false, List, [], ◌∷◌, ◌++◌, length, take, min, nat_le, refl, sym, ap, ◌∙◌, arith, length-append}
 use Rattle.std.specs.Prelude.{if◌then◌else◌}
 use mathlib.Core.Logic.{dite}
 use native.Mathlib.Decide.{dec_le}
@@ -7,7 +7,7 @@ use Rattle.std.proofs.lemmas.Bool.{leb-true, leb-false}
 use Rattle.std.proofs.lemmas.List.{take_all, take-append-le, length-take-le}
 use Rattle.gt_io.specs.declared.framer.Framed.{Framed}
 use Rattle.gt_io.specs.declared.framer.Framed.TheVariants.{More, Whole, Long}
-use Rattle.gt_io.specs.Frames.{Frame, blank_frame, begun, longer, pushed, framed, frame_of}
+use Rattle.gt_io.specs.Frames.{Frame, begun, longer, pushed, framed, frame_of}
 use Rattle.connection_laws.specs.Cuts.{open_line}
 use Rattle.gt_text.specs.Lines.{is_feed}
 use Rattle.connection_laws.specs.Fits.{FrameFits}
@@ -30,9 +30,6 @@ frame_longer line b =
     let long = length-append line (b ∷ []) in
     let number : min (length (line ++ b ∷ [])) 513 ≡ min (min (length line) 513 + 1) 513 = omega (arith, long) in
     ap (λ n. of_parts n (take 512 (line ++ b ∷ []))) number ∙ ap (of_parts (min (min (length line) 513 + 1) 513)) (cut_again line b)
-
-pub fits_first : FrameFits blank_frame []
-fits_first = refl
 
 pub fits_byte : (f : Frame) (text : List ℕ) (b : ℕ) → FrameFits f text → is_feed b ≡ false → FrameFits (pushed f b) (text ++ b ∷ [])
 fits_byte f text b fits e =

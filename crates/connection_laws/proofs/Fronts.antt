@@ -1,12 +1,11 @@
 -- Acted lines, told from the first line on.
 use Rattle.std.proofs.Common.{◌≡◌, ℕ, zero, suc, ◌+◌, ◌≤◌, Bool, false, true, cond, List, [], ◌∷◌, ◌++◌, length, refl, sym, ap, subst, ◌∙◌, arith, inl, inr, add-zero, append_assoc, append-nil, length-append, Result, Ok, Err, if◌then◌else◌}
-use mathlib.Core.List.{IsPrefix}
 use Rattle.gt_base.specs.declared.requests.Who.{Who}
 use Rattle.gt_base.specs.declared.requests.Actor.{Actor}
 use Rattle.gt_base.specs.declared.requests.Actor.TheVariants.{Nobody}
 use Rattle.gt_base.specs.declared.requests.Request.{Request}
 use Rattle.gt_base.specs.declared.requests.Entry.{Entry}
-use Rattle.gt_base.specs.Machines.{ticked, asked}
+use Rattle.gt_base.specs.Machines.{asked}
 use Rattle.gtrbac_model.specs.History.{now_of}
 use Rattle.turn_lock.specs.Turns.{Each}
 use Rattle.policy_words.specs.Naming.{NamedPolicy}
@@ -15,7 +14,7 @@ use Rattle.request_text.specs.declared.lines.Line.TheVariants.{Silent, At, Be, A
 use Rattle.request_text.specs.declared.lines.LineFault.{LineFault}
 use Rattle.request_text.specs.Phrases.{read_line}
 use Rattle.connection_laws.specs.Lines.{Answer, shown, view_only, silence, agreed, bad, accepted, no_memory, no_steps, worn, Acted, actor_by, actor_after, reply_lines, readings_of, entries_of}
-use Rattle.connection_laws.specs.Connection.{is_who, part_of, IsTick, Answers, Asks, Gets, AreActed}
+use Rattle.connection_laws.specs.Connection.{is_who, part_of, IsTick, Answers, Gets, AreActed}
 use Rattle.connection_laws.specs.Front.{before_own, answers_of, AfterTicks, Answered, Requested, LineGets, Get}
 use Rattle.connection_laws.proofs.Places.{own_entry}
 

@@ -6,6 +6,7 @@ pub mod Places
 pub mod Timing
 pub mod Fronts
 pub mod Growing
+pub mod Giving
 pub mod Asking
 pub mod Deciding
 pub mod NoMinutes
@@ -13,7 +14,6 @@ pub mod Lending
 pub mod Telling
 pub mod Linking
 pub mod Chaining
-pub mod Acting
 pub mod Stepping
 pub mod ActingBy
 pub mod LineDoneBy

@@ -1,9 +1,8 @@
 -- Which entry of its connection an entry is.
-use Rattle.std.proofs.Common.{◌≡◌, ℕ, ◌+◌, ◌≤◌, Bool, true, false, cond, ◌==◌, ◌&&◌, List, [], ◌∷◌, ◌++◌, length, drop, refl, sym, ap, subst, ◌∙◌, arith, eq-eqb, length-append, ◌≢◌, ne_eqb}
+use Rattle.std.proofs.Common.{◌≡◌, ℕ, ◌+◌, Bool, true, false, cond, ◌==◌, ◌&&◌, List, [], ◌∷◌, ◌++◌, length, drop, refl, sym, ap, ◌∙◌, arith, eq-eqb, length-append, ◌≢◌, ne_eqb}
 use Rattle.std.proofs.lemmas.Bool.{eqb-true}
 use Rattle.locked_history.specs.Fronts.{by}
 use Rattle.connection_laws.specs.Turns.{AreMine}
-use Rattle.std.specs.List.{filter}
 use Rattle.std.proofs.lemmas.List.Elements.{filter-append}
 use Rattle.std.proofs.Math.Seq.{drop-append_seam}
 use mathlib.Core.List.{IsPrefix}

@@ -1,19 +1,14 @@
 -- What acting on one line does.
-use Rattle.std.specs.Prelude.{◌≡◌, ℕ, ◌+◌, ◌*◌, ◌^◌, ◌<◌, ◌≤◌, false, List, [], ◌∷◌, ◌++◌, length, codes}
-use Rattle.std.specs.declared.option.Option.{Option}
+use Rattle.std.specs.Prelude.{◌≡◌, ℕ, ◌+◌, ◌^◌, ◌<◌, ◌≤◌, List, [], ◌∷◌, ◌++◌, codes}
 use Rattle.gt_base.specs.declared.requests.Who.{Who}
 use Rattle.gt_base.specs.declared.requests.Actor.{Actor}
-use Rattle.gt_base.specs.declared.requests.Actor.TheVariants.{Nobody}
 use Rattle.gt_base.specs.declared.requests.Request.{Request}
 use Rattle.gt_base.specs.declared.requests.Entry.{Entry}
-use Rattle.gt_io.specs.Links.{Reads}
 use Rattle.turn_lock.specs.Holders.{Holder}
 use Rattle.policy_words.specs.Naming.{NamedPolicy}
-use Rattle.request_text.specs.Phrases.{read_line}
 use Rattle.request_text.specs.Replies.{fault_word}
-use Rattle.connection_laws.specs.Lines.{Answer, silence, agreed, bad, no_memory, no_steps, view_only, worn, IsReply, is_replied, is_denied, answer_text, one_where, Acted, actor_by}
-use Rattle.connection_laws.specs.Connection.{Asks, Gets, IsTimed, placed}
-use Rattle.connection_laws.specs.Desks.{IsNamedActor}
+use Rattle.connection_laws.specs.Lines.{Answer, silence, agreed, bad, no_memory, no_steps, view_only, worn, IsReply, is_replied, is_denied, answer_text, one_where}
+use Rattle.connection_laws.specs.Connection.{Asks, IsTimed, placed}
 use Rattle.connection_laws.specs.declared.talk.Talk.{Talk}
 use Rattle.connection_laws.specs.declared.talk.LineAnswer.{LineAnswer}
 use Rattle.connection_laws.specs.declared.talk.LineAnswer.TheVariants.{Silence, Agreed, Bad, Reply as ToldReply, NoMemory, NoSteps, ViewOnly, Worn as ToldWorn}
@@ -63,16 +58,6 @@ told_bytes NoSteps = codes "no steps\n"
 told_bytes ViewOnly = codes "view only\n"
 told_bytes (ToldWorn draws) = []
 
--- a moment of a connection: the pass, what the connection has come to, and the readings of the
--- clock that are to come, where they are told
-pub record Moment (M : Type 0) : Type 0 where
-  pub pass : Holder M
-  pub talk : Talk
-  pub clock : Option (ℕ → ℕ)
-
-abbrev pub moment : {M : Type 0} → Holder M → Talk → Option (ℕ → ℕ) → Moment M
-moment pass talk clock = record { pass = pass; talk = talk; clock = clock }
-
 module _ {M : Type 0} (v : Service) (who : Who) where
   -- what the desk gives to a request line
   pub record Decides (reading : ℕ) (actor : Actor) (request : Request) (before after : Holder M)
@@ -86,23 +71,3 @@ module _ {M : Type 0} (v : Service) (who : Who) where
     pub mine : AreMine who entries
     pub grows : Grows before after entries 2
     pub worn_out : (n : ℕ) → told ≡ ToldWorn n → (n ≡ 2 ^ 40) × (after.draws ≡ 2 ^ 40)
-
-  -- what acting on a line does, but for its reply
-  pub record Acts (a b : Moment M) (line : List ℕ) (told : LineAnswer) : Type 0 where
-    pub acted : Acted
-    pub line_is : acted.line ≡ line
-    pub told_is : IsTold v.policy told acted.answer
-    pub gets : (birth : ℕ) → IsTimed birth v.legal v.now
-        → Gets birth who b.pass.seen (read_line v.policy Nobody false line) a.talk.actor
-        (placed who v.first a.pass.own) acted
-    pub mine : AreMine who acted.entries
-    pub grows : Grows a.pass b.pass acted.entries (2 * length acted.readings)
-    pub talk_is : b.talk
-        ≡ record a.talk {
-          actor = actor_by (read_line v.policy Nobody false line) a.talk.actor;
-          calls = a.talk.calls + length acted.readings;
-        }
-    pub few : length acted.readings ≤ 1
-    pub named : IsNamedActor v.policy b.talk.actor
-    pub reads : Reads a.clock b.clock acted.readings
-    pub worn_out : (n : ℕ) → told ≡ ToldWorn n → (n ≡ 2 ^ 40) × (b.pass.draws ≡ 2 ^ 40)

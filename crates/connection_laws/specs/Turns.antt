@@ -11,7 +11,6 @@ use Rattle.gt_base.specs.Machines.{asked}
 use Rattle.gt_base.specs.declared.limits.TheConstants.{MAX_STEPS}
 use Rattle.turn_lock.specs.Turns.{Each}
 use Rattle.turn_lock.specs.Holders.{Site, Holder}
-use Rattle.locked_history.specs.Fronts.{by}
 use Rattle.locked_history.specs.declared.faults.DeskFault.{DeskFault}
 use Rattle.locked_history.specs.declared.faults.DeskFault.TheVariants.{Worn, StepsFull, Memory}
 use Rattle.connection_laws.specs.Lines.{Answer, accepted, no_memory, no_steps, worn}

@@ -1,5 +1,4 @@
 //! One request at the desk.
-ghost use Rattle.std.specs.Prelude.{◌≡◌};
 ghost use Rattle.turn_lock.specs.Holders.{site_of};
 ghost use Rattle.locked_history.specs.Fronts.{by};
 ghost use Rattle.connection_laws.specs.Turns.{IsIdle, IsReached, Reaches, AskedTurn};

@@ -1,18 +1,14 @@
 //! A worker that answers the requests of a link at the desk.
 ghost use Rattle.std.specs.Prelude.{◌≡◌};
 ghost use Rattle.turn_lock.specs.Holders.{site_of};
-ghost use Rattle.locked_history.specs.Fronts.{by};
-ghost use Rattle.connection_laws.specs.Desks.{IsNamedActor, MayBeAsked, RepliesCanBeTold};
-ghost use Rattle.connection_laws.specs.Acting.{HasRoom, moment, Acts};
-ghost use Rattle.connection_laws.specs.Rooms.{text_in, LendsRoom};
-ghost use Rattle.connection_laws.specs.Services.{service_at};
+ghost use Rattle.connection_laws.specs.Desks.{MayBeAsked, RepliesCanBeTold};
 ghost use Rattle.connection_laws.specs.Turns.{IsIdle, IsReached};
 ghost use Rattle.connection_laws.specs.Clerks.{WearsAt, ClerkGets};
 
 use crate::acts::{decide, reply_of};
-use crate::answerer::{Answerer, act_by};
+use crate::answerer::Answerer;
 use crate::server::Server;
-use crate::talk::{LineAnswer, Talk};
+use crate::talk::LineAnswer;
 use gt_base::{Actor, Instant, List, Machine, Request};
 use gt_io::{Clock, Gate};
 use policy_book::Policy;
@@ -101,46 +97,4 @@ impl<'a, M: Machine, R: Wait, C: Clock, G: Gate> Answerer for Clerk<'a, M, R, C,
     fn end_piece(&mut self) {
         self.server.desk.rest(self.pass);
     }
-}
-
-/// Acts on a line at the desk, but for its reply: a line that asks passes the gate, reads the clock,
-/// brings the history to that minute and asks.
-///
-/// `room` is the buffer of the connection, whatever it holds. A line that asks needs room there for
-/// the longest reply, which the first one takes and later ones find. The reply goes out in it, and
-/// `take_back` brings it home. Every other answer leaves it where it is, with all of its room. For
-/// want of room the line is told `NoMemory` and is not accepted, and the next one tries again.
-pub fn act_at<M: Machine, R: Wait, C: Clock, G: Gate>(
-    server: &Server<M, R, G>,
-    pass: &mut Pass<M>,
-    clock: &mut C,
-    reached: &mut Option<Instant>,
-    talk: &mut Talk,
-    room: &mut List<u8>,
-    line: &[u8],
-) -> LineAnswer
-    requires idle { IsIdle (site_of server.now.desk.now) pass.old }
-    requires named { MayBeAsked server.now.policy.now (M.named server.now.desk.now.root) }
-    requires replies { RepliesCanBeTold server.now.policy.now (M.legal server.now.desk.now.root) }
-    requires actor { IsNamedActor server.now.policy.now talk.old.actor }
-    requires room { HasRoom talk.old 1 }
-    requires reached { IsReached (M.legal server.now.desk.now.root)
-        (M.now_of server.now.desk.now.root) pass.old.seen reached.old }
-    ensures reached { IsReached (M.legal server.now.desk.now.root)
-        (M.now_of server.now.desk.now.root) pass.new.seen reached.new }
-    ensures acts { Acts
-        (service_at M.list M.legal M.now_of server.now.desk.now server.now.policy.now)
-        (by pass.old.number server.now.conn) (moment pass.old talk.old (C.readings clock.old))
-        (moment pass.new talk.new (C.readings clock.new)) line.now result }
-    ensures lends { LendsRoom room.old room.new (text_in result) }
-{
-    let mut clerk = Clerk {
-        server,
-        pass,
-        clock,
-        reached: *reached,
-    };
-    let told = act_by(&mut clerk, talk, room, line);
-    *reached = clerk.reached;
-    told
 }

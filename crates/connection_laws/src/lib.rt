@@ -14,7 +14,7 @@ mod talk;
 
 pub use acts::{count, reply_of, take_back};
 pub use answerer::{Answerer, act_by};
-pub use clerk::{Clerk, act_at};
+pub use clerk::Clerk;
 pub use ends::{LinkEnd, Report};
 pub use laws::connections_are_told;
 pub use server::Server;

@@ -29,20 +29,19 @@ use Rattle.gt_base.proofs.SetSteps.{signal_cmp_total}
 use Rattle.gt_base.specs.declared.limits.TheConstants.{LAST_MINUTE, MAX_STEPS}
 use Rattle.gtrbac_model.specs.Policy.{Policy}
 use Rattle.gtrbac_model.specs.Base.{status, table_at, queued_at, requested}
-use Rattle.gtrbac_model.specs.Conflict.{Status}
 use Rattle.gtrbac_model.specs.History.{Legal, now_of, point_after, IsNamedWish, ask}
 use Rattle.gtrbac_model.specs.Reply.{Point, answer, reply_of, unless, actor_causes}
 use Rattle.gtrbac_model.specs.Sessions.{Table, applied, owner_of}
 use Rattle.gtrbac_model.specs.Status.{Model}
 use Rattle.gtrbac_model.proofs.Append.{append-nil}
-use Rattle.gtrbac_model.proofs.Playing.{now_snoc, queues_later}
+use Rattle.gtrbac_model.proofs.Playing.{queues_later}
 use Rattle.gtrbac_model.proofs.Stepping.{ask_keeps_legal}
 use Rattle.history_laws.proofs.Continuing.{tables_go_on}
 use Rattle.history_laws.proofs.Refusing.{refused_leaves, refused_raises}
 use Rattle.delay_agenda.specs.Due.{Pendings}
 use Rattle.instant_bases.specs.Timelines.{TimelineView, Signals}
 use Rattle.policy_words.specs.Naming.{NamedPolicy}
-use Rattle.time_engine.specs.Histories.{Follows, AskFollows}
+use Rattle.time_engine.specs.Histories.{Follows}
 use Rattle.time_engine.specs.Plans.{IsTimeline, with_pending, with_signal}
 use Rattle.time_engine.specs.Traces.{model_of}
 use Rattle.time_engine.proofs.HistoryLaws.{asks_follow}

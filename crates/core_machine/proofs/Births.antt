@@ -1,5 +1,5 @@
 -- A book at its birth.
-use Rattle.std.proofs.Common.{◌≡◌, ℕ, ◌-◌, ◌<◌, ◌≤◌, List, [], refl, sym, ◌∙◌, ap, subst, arith, Option, None}
+use Rattle.std.proofs.Common.{◌≡◌, ℕ, ◌-◌, List, [], sym, ◌∙◌, ap, subst, arith, Option, None}
 use Rattle.gt_base.specs.Sets.{has, none}
 use Rattle.gt_base.specs.declared.events.Fluent.{Fluent}
 use Rattle.gt_base.specs.declared.requests.Entry.{Entry}
@@ -12,7 +12,7 @@ use Rattle.gtrbac_model.specs.Theorems.{IsOnlyModel}
 use Rattle.gtrbac_model.proofs.Levels.{by_trigger}
 use Rattle.gtrbac_model.proofs.OneModel.{only_model}
 use Rattle.walk_laws.proofs.Climbing.{safe_is_levelled}
-use Rattle.gtrbac_model.specs.Base.{status, table_at}
+use Rattle.gtrbac_model.specs.Base.{status}
 use Rattle.gtrbac_model.specs.Safety.{IsSafe}
 use Rattle.gtrbac_model.specs.Sessions.{Table, empty_table, close_minutes}
 use Rattle.gtrbac_model.specs.WholePolicy.{IsPolicy}

@@ -16,7 +16,7 @@ use Rattle.gtrbac_model.specs.Calendar.{day_of}
 use Rattle.gtrbac_model.specs.Conflict.{Status}
 use Rattle.gtrbac_model.specs.Graph.{item_at}
 use Rattle.gtrbac_model.specs.Hierarchy.{activation_walk}
-use Rattle.gtrbac_model.specs.History.{Legal, IsNextStop, stirs, is_some_item, now_of}
+use Rattle.gtrbac_model.specs.History.{Legal, IsNextStop, is_some_item, now_of}
 use Rattle.gtrbac_model.specs.Sessions.{Table, Activation, drops, close_minutes, caps_of, reached, is_dropped}
 use Rattle.gtrbac_model.specs.Status.{Model}
 use Rattle.gtrbac_model.proofs.Elements.{either_true, left_true, right_true}

@@ -1,5 +1,5 @@
 -- A tick keeps what holds between the parts of a book.
-use Rattle.std.proofs.Common.{◌≡◌, ℕ, ◌+◌, ◌-◌, ◌<◌, ◌≤◌, not, List, [], ◌∷◌, ◌++◌, length, Option, Some, refl, sym, ◌∙◌, ap, subst, arith}
+use Rattle.std.proofs.Common.{◌≡◌, ℕ, ◌+◌, ◌-◌, ◌<◌, ◌≤◌, List, [], ◌∷◌, ◌++◌, length, Option, Some, refl, sym, ◌∙◌, ap, subst, arith}
 use Rattle.std.specs.List.{list_any}
 use Rattle.std.specs.Ordering.{eq_by_cmp}
 use Rattle.gt_base.specs.Machines.{ticked}
@@ -11,7 +11,7 @@ use Rattle.gt_base.specs.declared.requests.Entry.{Entry}
 use Rattle.gt_base.specs.declared.limits.TheConstants.{LAST_MINUTE, MAX_STEPS}
 use Rattle.gtrbac_model.specs.Policy.{Policy}
 use Rattle.gtrbac_model.specs.Base.{status, base_at}
-use Rattle.gtrbac_model.specs.History.{Legal, IsNextStop, stirs, now_of}
+use Rattle.gtrbac_model.specs.History.{IsNextStop, stirs, now_of}
 use Rattle.gtrbac_model.specs.Sessions.{Table, empty_table}
 use Rattle.gtrbac_model.specs.Status.{Model}
 use Rattle.gtrbac_model.proofs.OneModel.{Agree}

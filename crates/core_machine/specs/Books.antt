@@ -20,7 +20,7 @@ use Rattle.policy_words.specs.Valid.{IsWellFormed}
 use Rattle.gtrbac_model.specs.Policy.{Policy}
 use Rattle.gtrbac_model.specs.Base.{base_at}
 use Rattle.gtrbac_model.specs.Reply.{Point, reply_of}
-use Rattle.gtrbac_model.specs.History.{Legal, IsNextStop, stirs, now_of, point_after, IsNamedWish, tick, ask}
+use Rattle.gtrbac_model.specs.History.{Legal, IsNextStop, stirs, now_of, point_after, IsNamedWish, ask}
 use Rattle.gtrbac_model.specs.Sessions.{Table}
 use Rattle.gtrbac_model.specs.Status.{Model}
 use Rattle.gtrbac_model.specs.Theorems.{IsOnlyModel}

@@ -1,6 +1,6 @@
 //! Answers a request by its kind; nobody is refused.
 ghost use Rattle.std.specs.Prelude.{◌≡◌};
-ghost use Rattle.gt_base.specs.declared.requests.Request.TheVariants.{Now as AskNow, Status as AskStatus, Seen as AskSeen, Raise, OpenSession, CloseSession, Activate, Deactivate, Active as AskActive, Check};
+ghost use Rattle.gt_base.specs.declared.requests.Request.TheVariants.{Raise, OpenSession, CloseSession, Activate, Deactivate, Check};
 ghost use Rattle.core_machine.specs.Kept.{IsReady};
 ghost use Rattle.core_machine.specs.Steps.{IsStep, MayAsk, is_nobody};
 

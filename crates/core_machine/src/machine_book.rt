@@ -1,5 +1,4 @@
 //! A book as a machine whose root is its policy and its birth.
-ghost use Rattle.std.specs.Prelude.{◌≡◌, length};
 
 use crate::books::Book;
 use gt_base::{Actor, Instant, Keeps, Machine, Reply, Request, StepFault, Who};

@@ -1,5 +1,4 @@
 //! A ledger as a machine: it is its book, and tells of each legal list that its moves are named.
-ghost use Rattle.std.specs.Prelude.{◌≡◌, length};
 
 use crate::ledgers::Ledger;
 use gt_base::{Actor, Instant, Keeps, Machine, Reply, Request, StepFault, Who};

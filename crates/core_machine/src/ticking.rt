@@ -2,7 +2,7 @@
 ghost use Rattle.std.specs.Prelude.{◌≡◌, ℕ, ◌<◌, ◌≤◌, Bool, true, length, IfOk, OnOk, OnErr};
 ghost use Rattle.std.specs.List.{list_all};
 ghost use Rattle.gt_base.specs.Sets.{has, members};
-ghost use Rattle.gt_base.specs.declared.limits.TheConstants.{LAST_MINUTE, MAX_STEPS};
+ghost use Rattle.gt_base.specs.declared.limits.TheConstants.{MAX_STEPS};
 ghost use Rattle.gtrbac_model.specs.History.{IsNextStop};
 ghost use Rattle.instant_bases.specs.Nexts.{IsNextOf};
 ghost use Rattle.session_table.specs.NextDrops.{IsFirstOrNone};

@@ -1,19 +1,10 @@
 -- Which status a run of the server has by what befell it, and how a run ends that goes well.
-use Rattle.std.proofs.Common.{◌≡◌, ◌⊎◌, ℕ, ◌≤◌, Bool, true, false, List, [], ◌∷◌, length, Option, Some, None, inl, inr, refl, sym, ap, subst, ◌∙◌, arith}
-use Rattle.std.specs.Prelude.{◌||◌, Result, Ok, Err, IsSomeAnd}
+use Rattle.std.proofs.Common.{◌≡◌, ◌⊎◌, ℕ, ◌≤◌, Bool, true, false, List, length, Option, inl, inr, refl, subst, ◌∙◌}
 use Rattle.std.specs.List.{list_any}
-use Rattle.gt_io.specs.Causes.{Rose}
 use Rattle.gt_io.specs.Links.{Traffic}
-use Rattle.gt_io.specs.Shelf.{Contents}
 use Rattle.turn_lock.specs.Turns.{Each}
 use Rattle.policy_words.specs.Naming.{NamedPolicy}
-use Rattle.policy_commands.specs.Ends.{EndView}
-use Rattle.policy_commands.specs.Policies.{safe_in}
-use Rattle.line_server.specs.declared.ended.WorkEnd.{WorkEnd}
-use Rattle.line_server.specs.declared.ended.WorkEnd.TheVariants.{Fresh, Done, DoorFault, Memory}
-use Rattle.policy_commands.specs.Finding.{IsLongPolicy}
-use Rattle.gtrbac_daemon.specs.Words.{Refuses, RefusesText, TellsText}
-use Rattle.gtrbac_daemon.specs.Crew.{Crewman, is_memory, is_door_fault, is_spent, status_by, status_of, ends_of, SomeOf, EachOf, HasFailed, LacksMemory, IsSpent, IsUnharmed, IsDone, IsSound}
+use Rattle.gtrbac_daemon.specs.Crew.{Crewman, is_memory, is_door_fault, is_spent, status_by, status_of, ends_of, SomeOf, EachOf, HasFailed, LacksMemory, IsSpent, IsUnharmed, IsDone}
 use Rattle.gtrbac_daemon.specs.Runs.{Scene, IsWell, Answers, IsToldAs, IsDue}
 use Rattle.gtrbac_daemon.specs.Daemon.{CrewHasServed, CrewDues, crew_way}
 use Rattle.gtrbac_daemon.proofs.AnyRuns as Any

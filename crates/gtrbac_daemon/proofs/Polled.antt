@@ -1,5 +1,5 @@
 -- What one pass leaves that has served ports.
-use Rattle.std.proofs.Common.{◌≡◌, ◌⊎◌, ℕ, ◌+◌, ◌*◌, ◌≤◌, List, [], ◌∷◌, ◌++◌, length, refl, sym, ap, subst, ◌∙◌, arith, length-append, inl, inr, Option}
+use Rattle.std.proofs.Common.{◌≡◌, ℕ, ◌+◌, ◌*◌, ◌≤◌, List, [], ◌∷◌, ◌++◌, length, refl, sym, ap, subst, ◌∙◌, arith, length-append, Option}
 use Rattle.gt_base.specs.declared.requests.Entry.{Entry}
 use Rattle.gt_io.specs.Ports.{Harbour}
 use Rattle.turn_lock.specs.Turns.{part}
@@ -21,12 +21,6 @@ use Rattle.gtrbac_model.specs.Theorems.{HasOneModel}
 use Rattle.gtrbac_model.specs.Policy.{Policy}
 use Rattle.walk_laws.proofs.Climbing.{safe_is_levelled}
 use Rattle.core_machine.specs.Books.{BookView, SameRoot, IsBook, HasOnlyModel, model_in}
-use Rattle.std.specs.Io.KnownBytes.{Keeps}
-use Rattle.std.proofs.KnownBytes.{Keeps-refl}
-use Rattle.gt_io.specs.Causes.{Rose}
-use Rattle.policy_commands.specs.Ends.{EndView}
-use Rattle.policy_commands.specs.Printing.{IsPrinted}
-use Rattle.gtrbac_daemon.specs.Words.{Refuses, Admits}
 use Rattle.gtrbac_daemon.specs.Runs.{Headline}
 use Rattle.gtrbac_daemon.specs.Polls.{Polling, polling, HasPolled}
 
@@ -34,9 +28,6 @@ use Rattle.gtrbac_daemon.specs.Polls.{Polling, polling, HasPolled}
 pub one_of_one : {A : Type 0} (x y : A) (rest : List A) → x ∷ [] ≡ rest ++ y ∷ [] → (rest ≡ []) × (y ≡ x)
 one_of_one x y [] is = (refl, cc)
 one_of_one x y (z ∷ zs) is = let long = ap (λ (l : List _). length l) is in absurd (omega (arith, long, length-append zs (y ∷ [])))
-
-pub only_idle : {M : Type 0} (l : Lock M) (p : Holder M) → p ≡ newcomer l [] 0 → IsIdle (site_of l) p
-only_idle l p is = (ap (λ (q : Holder _). q.site) is, ap (λ (q : Holder _). q.turn) is)
 
 pub has_polled : {M : Type 0} (np p : NamedPolicy) (legal : List Entry → Type 0) (now : List Entry → ℕ) (birth : ℕ) → IsTimed birth legal now → (first h : List Entry) (l : Lock M) (before after : Holder M) (clock clock' : Option (ℕ → ℕ)) (start b : Harbour) (ends : List Polled) (end : RunEnd)
     → first ≡ [] → p ≡ np → before ≡ newcomer l [] 0 → after.number ≡ before.number → Ran p first legal now before.number before after clock clock' start b ends end → IsToldBy first h after

@@ -1,21 +1,15 @@
 -- Why a run of the server has its status.
-use Rattle.std.proofs.Common.{◌≡◌, ℕ, Bool, true, false, List, Option, Some, None, inl, inr, refl, sym, subst, ◌∙◌}
-use Rattle.std.specs.Prelude.{◌==◌}
+use Rattle.std.proofs.Common.{◌≡◌, ℕ, Bool, true, false, List, Option, inl, inr, refl}
 use Rattle.std.specs.List.{list_any}
 use Rattle.gt_base.specs.declared.requests.Entry.{Entry}
-use Rattle.gt_io.specs.Causes.{Rose}
 use Rattle.gt_io.specs.Links.{Traffic}
 use Rattle.policy_words.specs.Naming.{NamedPolicy}
-use Rattle.policy_commands.specs.Ends.{EndView}
-use Rattle.policy_commands.specs.Policies.{HasTextFault, IsUnsafeText}
-use Rattle.policy_commands.specs.Finding.{IsLongPolicy}
-use Rattle.gtrbac_daemon.specs.Words.{Refuses, HasText, LacksText}
 use Rattle.gtrbac_daemon.specs.Crew.{Crewman, is_memory, is_door_fault, is_spent, status_by, status_of, ends_of}
 use Rattle.gtrbac_daemon.specs.Headline.{HaveWorked}
 use Rattle.gtrbac_daemon.specs.Runs.{Scene, Starves, Serves, Cause, unwritten, own}
 use Rattle.gtrbac_daemon.specs.Daemon.{CrewHasServed, CrewCause, done, memory, failed, spent, crew_way}
 use Rattle.gtrbac_daemon.proofs.CrewStatus.{done_all, memory_some, failed_some, spent_some, sound_all}
-use Rattle.gtrbac_daemon.proofs.Causing.{apart, status_in, written_says, text_told, long_told}
+use Rattle.gtrbac_daemon.proofs.Causing.{written_says}
 
 module _ {L : Type 0} (traffic : L → Traffic) (name : Option (List ℕ)) (s : ℕ) (a b : Scene (List (Crewman L))) where
   -- why a crew has its status

@@ -1,15 +1,11 @@
 -- A run of the server, over words that name a policy and over those that are no command.
-use Rattle.std.proofs.Common.{◌≡◌, ◌⊎◌, ℕ, suc, ◌≤◌, List, [], ◌∷◌, length, Option, Some, None, inl, inr, refl, sym, ap, subst, arith}
+use Rattle.std.proofs.Common.{◌≡◌, ℕ, suc, ◌≤◌, List, [], ◌∷◌, length, Option, Some, None, sym, subst, arith}
 use Rattle.std.specs.Prelude.{All}
-use Rattle.std.specs.Io.KnownBytes.{Keeps}
-use Rattle.std.proofs.KnownBytes.{Keeps-refl}
-use Rattle.gt_io.specs.Causes.{Rose}
 use Rattle.gt_io.specs.Links.{Traffic}
 use Rattle.turn_lock.specs.Turns.{Each}
-use Rattle.policy_commands.specs.Ends.{EndView}
 use Rattle.line_server.specs.declared.workers.Worker.{Worker}
 use Rattle.policy_commands.specs.Printing.{IsPrinted}
-use Rattle.gtrbac_daemon.specs.Words.{usage, policy_named, Refuses}
+use Rattle.gtrbac_daemon.specs.Words.{usage, policy_named}
 use Rattle.gtrbac_daemon.specs.Crew.{Crewman, crewmen, IsNew}
 use Rattle.gtrbac_daemon.specs.Runs.{Scene, Answers}
 use Rattle.gtrbac_daemon.specs.Daemon.{crew_way, RunsServer}
@@ -17,7 +13,6 @@ use Rattle.gtrbac_daemon.proofs.AnyRuns as Any
 use Rattle.gtrbac_daemon.proofs.Reasons.{of_serving, of_starved}
 use Rattle.gtrbac_daemon.proofs.CrewStatus.{IsFresh}
 use Rattle.gtrbac_daemon.proofs.Dues.{complete_of, dues_of}
-use Rattle.gtrbac_daemon.proofs.Causing.{apart, some_not_none}
 use Rattle.gtrbac_daemon.proofs.Served.{as_long}
 
 module _ {D C G L : Type 0} (readings : C → Option (ℕ → ℕ)) (links : D → Option (List L)) (faults : D → ℕ) where

@@ -1,21 +1,17 @@
 -- What the status of a run over ports tells.
-use Rattle.std.proofs.Common.{◌≡◌, ◌⊎◌, ℕ, ◌<◌, true, false, List, [], Option, Some, None, inl, inr, refl, sym, ap, subst, ◌∙◌, arith, slice_get}
+use Rattle.std.proofs.Common.{◌≡◌, ◌⊎◌, ℕ, ◌<◌, true, false, List, [], Option, Some, None, inl, inr, refl, sym, ap, ◌∙◌, arith, slice_get}
 use Rattle.std.specs.Prelude.{Result, Ok, Err}
 use Rattle.gt_base.specs.declared.limits.TheConstants.{MAX_LINKS}
-use Rattle.gt_io.specs.Causes.{Rose}
 use Rattle.gt_io.specs.declared.port.PortEvent.{PortEvent}
 use Rattle.gt_io.specs.declared.port.PortEvent.TheVariants.{Opened, Ready, Stop}
-use Rattle.gt_io.specs.Ports.{Harbour, IsUncalled}
+use Rattle.gt_io.specs.Ports.{IsUncalled}
 use Rattle.policy_words.specs.Naming.{NamedPolicy}
-use Rattle.policy_commands.specs.Ends.{EndView}
-use Rattle.policy_commands.specs.Policies.{HasTextFault, IsUnsafeText}
 use Rattle.poll_front.specs.declared.ends.Polled.{Polled}
 use Rattle.poll_front.specs.declared.front.RunEnd.{RunEnd}
 use Rattle.poll_front.specs.declared.front.RunEnd.TheVariants.{Stopped, PortFault, Enough, Worn, Memory}
 use Rattle.poll_front.specs.Tables.{RunsTo, AreUnwornEnds}
-use Rattle.policy_commands.specs.Finding.{IsLongPolicy}
 use Rattle.policy_commands.specs.Printing.{IsPrinted}
-use Rattle.gtrbac_daemon.specs.Words.{usage, poll_named, Refuses, HasText, LacksText}
+use Rattle.gtrbac_daemon.specs.Words.{usage, poll_named}
 use Rattle.gtrbac_daemon.specs.Runs.{Scene, Starves, IsDue, IsWell, Serves, Answers, Cause, unwritten, own}
 use Rattle.gtrbac_daemon.specs.Polls.{Polling, poll_status, PollHasServed, LacksLinkMemory, HasStopped, HasFailedToTell, IsUsedUp, PollCause, stopped, memory, failed, used_up, PollDues, poll_way, RunsPoll}
 use Rattle.gtrbac_daemon.proofs.Causing.{written_says, eight_says}

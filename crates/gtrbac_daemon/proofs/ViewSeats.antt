@@ -1,5 +1,5 @@
 -- From the seats of viewers to what they have served.
-use Rattle.std.proofs.Common.{◌≡◌, ℕ, ◌<◌, ◌≤◌, true, List, [], length, reverse, get_or, sym, ap, subst, ◌∙◌, Option}
+use Rattle.std.proofs.Common.{◌≡◌, ℕ, ◌<◌, ◌≤◌, true, List, length, reverse, get_or, sym, ap, subst, ◌∙◌, Option}
 use Rattle.std.specs.Prelude.{All, replicate}
 use Rattle.std.specs.List.{list_all}
 use Rattle.std.proofs.lemmas.List.{length-reverse, length-map}
@@ -11,7 +11,7 @@ use Rattle.snapshot_readers.specs.declared.viewers.Viewer.{Viewer}
 use Rattle.connection_laws.specs.Desks.{GlancesCanBeTold}
 use Rattle.snapshot_readers.specs.declared.seats.Seat.{Seat}
 use Rattle.snapshot_readers.specs.Seats.{watchers, HasLooked, IsNewViewer, IsReadySeat, glasses_of, viewers_of, HasSettled, AreTold, HaveViewed}
-use Rattle.snapshot_readers.proofs.Seated.{ready, IsDone, seats_done}
+use Rattle.snapshot_readers.proofs.Seated.{ready, seats_done}
 
 -- there are as many seats as viewers
 pub as_many : {D G L : Type 0} (xs : List (Seat D G L)) (vs : List (Viewer D G L)) → reverse (viewers_of xs) ≡ vs → length xs ≡ length vs

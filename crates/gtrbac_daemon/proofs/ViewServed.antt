@@ -1,12 +1,10 @@
 -- What a service with viewers comes to.
-use Rattle.std.proofs.Common.{◌≡◌, ◌⊎◌, ℕ, suc, ◌≤◌, Bool, true, false, List, [], ◌∷◌, length, map, Option, Some, None, inl, inr, refl, sym, ap, subst, ◌∙◌, arith}
+use Rattle.std.proofs.Common.{◌≡◌, ◌⊎◌, ℕ, suc, Bool, true, false, List, [], ◌∷◌, Option, inl, inr, refl, sym, ap, subst, ◌∙◌, arith}
 use Rattle.std.specs.Prelude.{◌||◌, ◌++◌, All, is_some}
 use Rattle.std.specs.List.{list_any}
-use Rattle.std.specs.Io.KnownBytes.{Keeps}
-use Rattle.std.proofs.KnownBytes.{Keeps-refl}
 use Rattle.gt_base.specs.declared.requests.Entry.{Entry}
 use Rattle.gt_io.specs.Causes.{Rose}
-use Rattle.gt_io.specs.Links.{Traffic, Reads}
+use Rattle.gt_io.specs.Links.{Traffic}
 use Rattle.turn_lock.specs.Turns.{Each}
 use Rattle.policy_words.specs.Naming.{NamedPolicy}
 use Rattle.policy_commands.specs.Ends.{EndView}
@@ -23,7 +21,7 @@ use Rattle.gtrbac_daemon.specs.Crew.{Crewman, crewman, crewmen, is_memory, is_do
 use Rattle.gtrbac_daemon.specs.Headline.{CrewHeadline}
 use Rattle.gtrbac_daemon.specs.Runs.{IsWritten}
 use Rattle.gtrbac_daemon.specs.ViewLists.{numbers_among}
-use Rattle.gtrbac_daemon.specs.Views.{is_viewer_memory, is_viewer_fault, is_viewer_spent, first_above, status_by, viewer_ends, numbers_of, first_late, views_status, views_text}
+use Rattle.gtrbac_daemon.specs.Views.{is_viewer_memory, is_viewer_fault, is_viewer_spent, status_by, viewer_ends, numbers_of, first_late, views_status, views_text}
 use Rattle.gtrbac_daemon.specs.Runs.{Scene, Serves, Answers, served}
 use Rattle.gtrbac_daemon.specs.Views.{Company, seen, unnamed, unseen, ViewHasServed, view_way}
 use Rattle.gtrbac_daemon.proofs.AnyRuns as Any

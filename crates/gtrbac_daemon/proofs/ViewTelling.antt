@@ -3,17 +3,16 @@ use Rattle.std.proofs.Common.{◌≡◌, ◌⊎◌, ℕ, ◌≤◌, Bool, true, 
 use Rattle.std.specs.Prelude.{◌||◌, is_some}
 use Rattle.std.specs.List.{list_any}
 use Rattle.gt_base.specs.declared.requests.Entry.{Entry}
-use Rattle.gt_io.specs.Causes.{Rose}
 use Rattle.gt_io.specs.Links.{Traffic}
 use Rattle.turn_lock.specs.Turns.{Each}
 use Rattle.policy_words.specs.Naming.{NamedPolicy}
 use Rattle.policy_commands.specs.Printing.{IsPrinted}
-use Rattle.snapshot_readers.specs.Seats.{AreTold, HaveViewed}
+use Rattle.snapshot_readers.specs.Seats.{HaveViewed}
 use Rattle.gtrbac_daemon.specs.Words.{usage, views_named}
-use Rattle.gtrbac_daemon.specs.Crew.{is_memory, is_door_fault, is_spent, ends_of, LacksMemory, IsUnharmed}
+use Rattle.gtrbac_daemon.specs.Crew.{is_memory, is_door_fault, is_spent, ends_of, IsUnharmed}
 use Rattle.gtrbac_daemon.specs.Views.{is_viewer_memory, is_viewer_fault, is_viewer_spent, status_by, viewer_ends, first_late, views_status, IsUnharmedViewer}
 use Rattle.gtrbac_daemon.specs.Runs.{Scene, Starves, IsDue, IsWell, Serves, Answers, Cause, unwritten, own}
-use Rattle.gtrbac_daemon.specs.Views.{Company, AnyOf, AllOf, AreDone, AreSound, SomeFailed, SomeSpent, LacksViewerMemory, Compared, seen, unnamed, unseen, ViewHasServed, Lacks, for_somebody, to_name, to_compare, ViewCause, done, memory, failed, spent, late, ViewDues, view_way, RunsViews}
+use Rattle.gtrbac_daemon.specs.Views.{Company, AllOf, AreDone, AreSound, SomeFailed, SomeSpent, Compared, seen, unnamed, unseen, ViewHasServed, Lacks, for_somebody, to_name, to_compare, ViewCause, done, memory, failed, spent, late, ViewDues, view_way, RunsViews}
 use Rattle.gtrbac_daemon.proofs.Causing.{written_says}
 use Rattle.gtrbac_daemon.proofs.AnyRuns as Any
 use Rattle.gtrbac_daemon.proofs.Somebody.{both_off, one_on, none_on, left_on, right_on}

@@ -1,6 +1,6 @@
 -- The first number above a length, and the log with a line after it.
-use Rattle.std.proofs.Common.{◌≡◌, ◌⊎◌, ℕ, zero, suc, ◌+◌, ◌<◌, ◌≤◌, Bool, true, false, List, [], ◌∷◌, ◌++◌, length, take, Option, Some, None, inl, inr, refl, sym, ap, subst, ◌∙◌, arith, length-append, append-nil}
-use Rattle.std.specs.Prelude.{◌==◌, nat_lt, if◌then◌else◌, codes}
+use Rattle.std.proofs.Common.{◌≡◌, ℕ, zero, suc, ◌+◌, ◌<◌, Bool, true, false, List, [], ◌∷◌, ◌++◌, length, take, Option, Some, None, inl, inr, refl, sym, ap, subst, ◌∙◌, arith, length-append, append-nil}
+use Rattle.std.specs.Prelude.{◌==◌, nat_lt, if◌then◌else◌}
 use Rattle.std.specs.Io.KnownBytes.{Appends}
 use Rattle.std.proofs.KnownBytes.{Appends-trans}
 use Rattle.std.proofs.lemmas.List.{take-append-le}
@@ -10,7 +10,7 @@ use Rattle.policy_words.specs.Naming.{NamedPolicy}
 use Rattle.policy_commands.specs.Ends.{told}
 use Rattle.request_text.specs.Replies.{log_text}
 use Rattle.policy_commands.specs.Printing.{IsPrinted}
-use Rattle.gtrbac_daemon.specs.Runs.{or_failed, IsWritten}
+use Rattle.gtrbac_daemon.specs.Runs.{IsWritten}
 use Rattle.gtrbac_daemon.specs.Views.{first_above, late_line, views_text}
 
 -- an option that is not Some is None

@@ -1,10 +1,9 @@
 //! The one call of the polling server: from words, policy, clocks and ports to the log and the exit
 //! status.
-ghost use Rattle.std.specs.Prelude.{◌≡◌, ◌⊎◌, ◌≤◌, [], ℕ, List, Some, None, map, string_bytes, length, IfOk, OnErr};
+ghost use Rattle.std.specs.Prelude.{◌≡◌, ◌≤◌, [], ℕ, List, Some, None, map, string_bytes, IfOk, OnErr};
 ghost use Rattle.gt_io.specs.Shelf.{AsksOnce, Stock};
 ghost use Rattle.turn_lock.specs.Holders.{newcomers};
 ghost use Rattle.turn_lock.specs.Turns.{part};
-ghost use Rattle.request_text.specs.Replies.{log_text};
 ghost use Rattle.core_machine.specs.Books.{SameRoot};
 ghost use Rattle.ledger_laws.specs.Serving.{CanBeServed};
 ghost use Rattle.gt_io.specs.Ports.{IsUncalled};

@@ -1,5 +1,5 @@
 //! The one call of the server: from words, policy, clocks and links to the log and the exit status.
-ghost use Rattle.std.specs.Prelude.{◌≡◌, ◌≤◌, ℕ, List, Some, None, map, string_bytes, length, All};
+ghost use Rattle.std.specs.Prelude.{◌≡◌, ◌≤◌, Some, None, map, string_bytes, length, All};
 ghost use Rattle.gt_io.specs.Shelf.{AsksOnce, Stock};
 ghost use Rattle.gtrbac_daemon.specs.Words.{policy_named};
 ghost use Rattle.gtrbac_daemon.specs.Crew.{IsNew, crewmen};

@@ -1,6 +1,6 @@
 //! The one call of the server with viewers: from words, policy, clocks and links to the log and the
 //! exit status.
-ghost use Rattle.std.specs.Prelude.{◌≡◌, ◌≤◌, ℕ, List, None, map, string_bytes, length, All};
+ghost use Rattle.std.specs.Prelude.{◌≡◌, ◌≤◌, List, None, map, string_bytes, length, All};
 ghost use Rattle.gt_base.specs.declared.requests.Entry.{Entry};
 ghost use Rattle.gt_io.specs.Shelf.{AsksOnce, Stock};
 ghost use Rattle.snapshot_readers.specs.Seats.{watchers, IsNewViewer};

@@ -1,5 +1,5 @@
 //! What is written at the end of a run with viewers.
-ghost use Rattle.std.specs.Prelude.{◌≡◌, ◌⊎◌, ◌++◌, ℕ, Some, length, IfOk};
+ghost use Rattle.std.specs.Prelude.{◌≡◌, ◌⊎◌, ◌++◌, ℕ, Some, IfOk};
 ghost use Rattle.request_text.specs.Replies.{log_text};
 ghost use Rattle.gtrbac_daemon.specs.Runs.{IsWritten};
 ghost use Rattle.gtrbac_daemon.specs.Pages.{IsBlank};

@@ -1,5 +1,5 @@
 -- What connections can ask of a book, by what is legal for it.
-use Rattle.std.proofs.Common.{◌≡◌, ℕ, ◌≤◌, List, [], ◌∷◌, ◌++◌, refl, sym, ap, subst, ◌∙◌, arith, append-nil, append_assoc}
+use Rattle.std.proofs.Common.{◌≡◌, ℕ, ◌≤◌, List, [], ◌∷◌, ◌++◌, refl, sym, subst, arith, append-nil, append_assoc}
 use Rattle.gt_base.specs.Machines.{asked}
 use Rattle.gt_base.specs.declared.requests.Entry.{Entry}
 use Rattle.gt_base.specs.declared.requests.Reply.{Reply}
@@ -13,7 +13,7 @@ use Rattle.gtrbac_model.specs.History.{AreLegalAfter, IsLegalStep, moved, now_of
 use Rattle.gtrbac_model.proofs.Playing.{now_snoc}
 use Rattle.history_laws.proofs.NamedPoints.{points_are_named}
 use Rattle.policy_words.specs.Valid.{IsWellFormed}
-use Rattle.core_machine.specs.Books.{BookView, IsBook, IsNamedFor, now_after}
+use Rattle.core_machine.specs.Books.{BookView, IsBook, now_after}
 use Rattle.request_text.proofs.BriefWalks.{brief_reply}
 use Rattle.request_text.proofs.SoundReplies.{reply_sounds}
 use Rattle.connection_laws.specs.Connection.{Rises, IsTimed}

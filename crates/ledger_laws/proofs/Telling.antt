@@ -1,16 +1,13 @@
 -- What a glance replies would be the reply of an ask there, which can be told.
-use Rattle.std.proofs.Common.{◌≡◌, ℕ, List, [], ◌∷◌, ◌++◌, sym, subst}
+use Rattle.std.proofs.Common.{[], ◌∷◌, ◌++◌, sym, subst}
 use Rattle.gt_base.specs.declared.requests.Who.{Who}
-use Rattle.gt_base.specs.declared.requests.Actor.{Actor}
-use Rattle.gt_base.specs.declared.requests.Request.{Request}
 use Rattle.gt_base.specs.declared.requests.Reply.{Reply}
-use Rattle.gt_base.specs.declared.requests.Entry.{Entry}
 use Rattle.gt_base.specs.Machines.{asked}
-use Rattle.gtrbac_model.specs.History.{Legal, IsNamedWish, ask}
+use Rattle.gtrbac_model.specs.History.{Legal}
 use Rattle.gtrbac_model.proofs.Stepping.{ask_keeps_legal}
-use Rattle.core_machine.specs.Books.{BookView, IsLegalFor}
+use Rattle.core_machine.specs.Books.{BookView}
 use Rattle.core_machine.proofs.Growing.{named_more}
-use Rattle.connection_laws.specs.Desks.{CanBeTold, IsReplyAt, GlancesCanBeTold}
+use Rattle.connection_laws.specs.Desks.{GlancesCanBeTold}
 use Rattle.core_machine.specs.Ledgers.{IsLegalLedger}
 use Rattle.ledger_laws.specs.Serving.{CanBeServed}
 

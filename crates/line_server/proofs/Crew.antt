@@ -1,17 +1,15 @@
 -- What the closed desk tells of a worker: its links over the whole history, and their parts of it one after the other.
-use Rattle.std.proofs.Common.{◌≡◌, ◌≢◌, ℕ, ◌+◌, ◌<◌, ◌≤◌, List, [], ◌∷◌, ◌++◌, length, drop, refl, sym, ap, subst, ◌∙◌, arith, append-nil, length-append, Option, Some, None, IfSome}
-use mathlib.Core.List.{IsPrefix}
+use Rattle.std.proofs.Common.{◌≡◌, ℕ, ◌+◌, ◌<◌, ◌≤◌, List, [], ◌∷◌, ◌++◌, length, drop, refl, sym, ap, subst, ◌∙◌, arith, append-nil, length-append, Option, Some}
 use Rattle.gt_base.specs.declared.requests.Entry.{Entry}
 use Rattle.gt_io.specs.Links.{Traffic}
 use Rattle.turn_lock.specs.Turns.{part}
-use Rattle.turn_lock.specs.Holders.{Holder, IsToldBy}
+use Rattle.turn_lock.specs.Holders.{Holder}
 use Rattle.locked_history.specs.Fronts.{by}
 use Rattle.policy_words.specs.Naming.{NamedPolicy}
 use Rattle.connection_laws.specs.Connection.{part_of}
 use Rattle.connection_laws.proofs.Places.{part_of-append, part_of-part, all_mine, none_mine}
 use Rattle.line_server.specs.declared.ended.Served.{Served}
-use Rattle.line_server.specs.declared.ended.WorkEnd.{WorkEnd}
-use Rattle.line_server.specs.Working.{Tale, begun_of, owns_of, WorkerSpot, AreServed, Works, AreOwnParts, IsTellingOfWorkers}
+use Rattle.line_server.specs.Working.{Tale, begun_of, owns_of, AreServed, AreOwnParts, IsTellingOfWorkers}
 use Rattle.connection_laws.specs.Doors.{Gives}
 use Rattle.line_server.proofs.Links.{served_longer}
 use Rattle.connection_laws.specs.Services.{service}

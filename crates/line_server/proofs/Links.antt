@@ -1,29 +1,25 @@
 -- A link behind those that were served.
-use Rattle.std.proofs.Common.{◌≡◌, ◌≢◌, ℕ, ◌+◌, ◌*◌, ◌^◌, ◌<◌, ◌≤◌, Bool, true, false, cond, ◌==◌, ◌&&◌, List, [], ◌∷◌, ◌++◌, length, refl, sym, ap, subst, ◌∙◌, arith, append-nil, append_assoc, length-append, ne_eqb, Option, Some, None, IfSome, MatchOption}
-use Rattle.std.proofs.lemmas.Bool.{eqb-true}
+use Rattle.std.proofs.Common.{◌≡◌, ℕ, ◌+◌, ◌*◌, ◌^◌, ◌≤◌, false, List, [], ◌∷◌, ◌++◌, length, refl, sym, ap, subst, ◌∙◌, arith, append-nil, append_assoc, length-append, Option, Some, None, MatchOption}
 use mathlib.Core.List.{IsPrefix}
-use Rattle.gt_base.specs.declared.requests.Who.{Who}
 use Rattle.gt_base.specs.declared.requests.Entry.{Entry}
 use Rattle.gt_io.specs.Links.{Traffic, IsFresh, GivesFirst, Reads}
 use Rattle.gt_io.proofs.Readings.{Reads-trans, Reads-nil}
-use Rattle.turn_lock.specs.Turns.{Each}
 use Rattle.turn_lock.specs.Holders.{Holder}
 use Rattle.turn_lock.proofs.Totals.{each-append}
 use Rattle.locked_history.specs.Fronts.{by}
 use Rattle.policy_words.specs.Naming.{NamedPolicy}
-use Rattle.connection_laws.specs.declared.ends.LinkEnd.{LinkEnd}
 use Rattle.connection_laws.specs.declared.ends.LinkEnd.TheVariants.{Worn as LinkWorn}
-use Rattle.connection_laws.specs.Connection.{is_who, part_of, IsTimed, placed, Conn}
+use Rattle.connection_laws.specs.Connection.{part_of, placed, Conn}
 use Rattle.connection_laws.proofs.Longer.{conn_longer}
 use Rattle.connection_laws.proofs.Places.{part_of-append, none_mine}
 use Rattle.line_server.specs.declared.ended.Served.{Served}
 use Rattle.line_server.specs.declared.ended.WorkEnd.{WorkEnd}
-use Rattle.line_server.specs.declared.ended.WorkEnd.TheVariants.{Fresh, Done, DoorFault, Enough, Worn, Memory}
-use Rattle.connection_laws.specs.Turns.{AreMine}
+use Rattle.line_server.specs.declared.ended.WorkEnd.TheVariants.{Worn}
 use Rattle.connection_laws.specs.Attending.{is_worn_out}
 use Rattle.line_server.specs.Serving.{link_view, Serves}
 use Rattle.line_server.specs.Working.{Tale, begun_of, hours_of, owns_of, AllUnworn, WorkerSpot, WorksTo, IsServed, AreServed, Worked, WorksOn, Works}
 use Rattle.connection_laws.specs.Doors.{Gives}
+use Rattle.connection_laws.proofs.Giving.{gives_none, gives_more}
 use Rattle.connection_laws.proofs.Growing.{grown_none, grown_twice}
 use Rattle.connection_laws.specs.Services.{service}
 
@@ -39,12 +35,6 @@ module _ {L : Type 0} where
   pub owns_push : (xs : List (Tale L)) (x : Tale L) → owns_of (xs ++ x ∷ []) ≡ owns_of xs ++ x.own
   owns_push [] x = append-nil x.own
   owns_push (y ∷ ys) x = ap (λ (es : List Entry). y.own ++ es) (owns_push ys x) ∙ sym (append_assoc y.own (owns_of ys) x.own)
-
-  gives_more : (old mid new : Option (List L)) (xs : List L) (x : L) → Gives old mid xs → GivesFirst mid new x → Gives old new (xs ++ x ∷ [])
-  gives_more None mid new xs x g f = tt
-  gives_more (Some ls) mid new xs x g f =
-      let f' : IfSome (Some g.0) (λ ys. (rest : List L) × (ys ≡ x ∷ rest) × (new ≡ Some rest)) = subst (λ (m : Option (List L)). IfSome m (λ ys. (rest : List L) × (ys ≡ x ∷ rest) × (new ≡ Some rest))) g.2 f in
-      (f'.0, g.1 ∙ ap (λ (l : List L). xs ++ l) f'.1 ∙ sym (append_assoc xs (x ∷ []) f'.0), f'.2)
 
   module _ (traffic : L → Traffic) (np : NamedPolicy) (first : List Entry) (legal : List Entry → Type 0) (now : List Entry → ℕ) (number : ℕ) where
     abbrev Is : List Entry → List Entry → ℕ → Served L → Tale L → Type 0
@@ -141,10 +131,6 @@ ends_of {L} links f f' draws ss served s (Some end) kept is all wears w =
 
 works_earlier : {L : Type 0} (links : Option (List L)) (f f' f'' draws : ℕ) (served : List (Served L)) (end : WorkEnd) → f' ≡ f → WorksTo links f' f'' draws served end → WorksTo links f f'' draws served end
 works_earlier links f f' f'' draws served end kept w = subst (λ (n : ℕ). WorksTo links n f'' draws served end) kept w
-
-gives_none : {L : Type 0} (d : Option (List L)) → Gives d d []
-gives_none None = tt
-gives_none (Some ls) = (ls, refl, refl)
 
 module _ {M L : Type 0} (traffic : L → Traffic) (np : NamedPolicy) (first : List Entry) (legal : List Entry → Type 0) (now : List Entry → ℕ) where
   pub no_links : (number : ℕ) (o : WorkerSpot M L) (served : List (Served L)) → served ≡ [] → Worked traffic (service np first legal now) number o o served []

@@ -1,5 +1,5 @@
 -- What a worker keeps from link to link.
-use Rattle.std.specs.Prelude.{◌≡◌, ℕ, ◌+◌, ◌*◌, ◌^◌, ◌<◌, ◌≤◌, Bool, true, false, List, [], ◌∷◌, ◌++◌, length, drop, IfSome, MatchOption}
+use Rattle.std.specs.Prelude.{◌≡◌, ℕ, ◌+◌, ◌*◌, ◌^◌, ◌<◌, true, false, List, [], ◌∷◌, ◌++◌, length, drop, IfSome, MatchOption}
 use Rattle.std.specs.declared.option.Option.{Option}
 use Rattle.gt_base.specs.declared.requests.Entry.{Entry}
 use Rattle.gt_base.specs.declared.limits.TheConstants.{MAX_LINKS}
@@ -8,9 +8,7 @@ use Rattle.gt_io.specs.Links.{Traffic, IsFresh, Reads}
 use Rattle.turn_lock.specs.Turns.{Each, part}
 use Rattle.turn_lock.specs.Holders.{Site, Holder, IsToldBy}
 use Rattle.locked_history.specs.Fronts.{by}
-use Rattle.policy_words.specs.Naming.{NamedPolicy}
-use Rattle.connection_laws.specs.declared.ends.LinkEnd.{LinkEnd}
-use Rattle.connection_laws.specs.declared.ends.LinkEnd.TheVariants.{Ended, ReadFault, WriteFault, Spent, Worn as LinkWorn}
+use Rattle.connection_laws.specs.declared.ends.LinkEnd.TheVariants.{Worn as LinkWorn}
 use Rattle.connection_laws.specs.Doors.{Gives}
 use Rattle.connection_laws.specs.Lines.{Acted, asked_in, denied_in}
 use Rattle.connection_laws.specs.Connection.{part_of, IsTimed, placed, Conn}

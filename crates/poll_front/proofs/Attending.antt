@@ -1,5 +1,5 @@
 -- The service of a link that is ready, from step to step.
-use Rattle.std.proofs.Common.{◌≡◌, ℕ, ◌+◌, ◌^◌, ◌<◌, ◌≤◌, List, [], ◌∷◌, ◌++◌, length, refl, sym, ap, subst, ◌∙◌, Result, Ok, Err}
+use Rattle.std.proofs.Common.{◌≡◌, ℕ, ◌+◌, ◌<◌, List, ◌++◌, length, sym, subst, Result, Ok, Err}
 use Rattle.gt_base.specs.declared.requests.Entry.{Entry}
 use Rattle.gt_io.specs.Ports.{Port, Harbour}
 use Rattle.policy_words.specs.Naming.{NamedPolicy}
@@ -8,8 +8,8 @@ use Rattle.poll_front.specs.declared.ends.PollEnd.{PollEnd}
 use Rattle.poll_front.specs.declared.ends.PollEnd.TheVariants.{Spent, Worn}
 use Rattle.poll_front.specs.declared.parties.Party.{Party}
 use Rattle.poll_front.specs.declared.parties.Pause.{Pause}
-use Rattle.poll_front.specs.declared.parties.Pause.TheVariants.{Later, End}
-use Rattle.poll_front.specs.Fronts.{Turn, FrontSpot, acted_of, Running, PartyStands, IsWrittenWhole, Comes, Gone, Goes, PushesOut, FillsUp}
+use Rattle.poll_front.specs.declared.parties.Pause.TheVariants.{End}
+use Rattle.poll_front.specs.Fronts.{Turn, FrontSpot, acted_of, Running, PartyStands, Gone, Goes, PushesOut, FillsUp}
 use Rattle.poll_front.proofs.Going.{gone_none, gone_then}
 use Rattle.poll_front.proofs.LineTold.{pushes_unworn}
 use Rattle.poll_front.proofs.Standing.{comes_pushed, comes_filled, ends_spent}

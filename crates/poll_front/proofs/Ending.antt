@@ -1,8 +1,7 @@
 -- A run to its end.
-use Rattle.std.proofs.Common.{◌≡◌, ◌⊎◌, ℕ, ◌+◌, ◌-◌, ◌<◌, ◌≤◌, ◌^◌, false, true, List, [], length, slice_get, refl, sym, ap, subst, ◌∙◌, arith, ⊎_elim, Option, Some, None}
+use Rattle.std.proofs.Common.{◌≡◌, ◌⊎◌, ℕ, ◌+◌, ◌-◌, ◌≤◌, false, List, length, slice_get, sym, ap, subst, ◌∙◌, arith, ⊎_elim, Option, Some}
 use Rattle.std.proofs.lemmas.Option.{slice_get_cases, slice_get_within}
 use Rattle.gt_base.specs.declared.requests.Entry.{Entry}
-use Rattle.gt_io.specs.Causes.{Rose}
 use Rattle.gt_io.specs.Ports.{Port, Harbour}
 use Rattle.turn_lock.specs.Turns.{Each}
 use Rattle.turn_lock.specs.Holders.{Holder}
@@ -16,8 +15,8 @@ use Rattle.poll_front.specs.declared.ends.PollEnd.TheVariants.{Ended, ReadFault,
 use Rattle.poll_front.specs.declared.parties.Pace.{Pace}
 use Rattle.poll_front.specs.declared.seats.Seat.{Seat}
 use Rattle.poll_front.specs.declared.seats.Seat.TheVariants.{Open, Over}
-use Rattle.poll_front.specs.Fronts.{Turn, FrontSpot, acted_of, faults_by, faults_of, ended_by, ended_of, EndsLink, HasOwnEnd}
-use Rattle.poll_front.specs.Tables.{Sits, IsLetIn, IsLetGo, EndsSeatAt, LetsGo, Tabled, Went, Ran, MayGoOn, GoesTo, RunsTo, IsUnwornSeat, AreUnwornSeats, AreUnwornEnds, FaultsAreLast, EndsAreLast, count_among, faults_told, is_worn_end, first_spot}
+use Rattle.poll_front.specs.Fronts.{Turn, acted_of, faults_by, faults_of, ended_by, ended_of, EndsLink, HasOwnEnd}
+use Rattle.poll_front.specs.Tables.{Sits, IsLetIn, IsLetGo, EndsSeatAt, LetsGo, Went, Ran, MayGoOn, GoesTo, RunsTo, IsUnwornSeat, AreUnwornSeats, AreUnwornEnds, FaultsAreLast, EndsAreLast, count_among, faults_told, is_worn_end, first_spot}
 use Rattle.poll_front.proofs.Counting.{shown_same}
 use Rattle.poll_front.proofs.Seating.{ends_stopped}
 

@@ -1,15 +1,14 @@
 -- Steps of a link one after another.
-use Rattle.std.proofs.Common.{◌≡◌, ℕ, ◌^◌, List, [], ◌∷◌, ◌++◌, sym, ap, subst, ◌∙◌, refl, append_assoc, Result, Ok, Err}
+use Rattle.std.proofs.Common.{◌≡◌, ℕ, ◌^◌, List, [], ◌++◌, sym, subst, append_assoc, Result, Ok, Err}
 use Rattle.gt_base.specs.declared.requests.Entry.{Entry}
-use Rattle.turn_lock.specs.Turns.{Each}
 use Rattle.turn_lock.proofs.Totals.{each-append}
 use Rattle.policy_words.specs.Naming.{NamedPolicy}
 use Rattle.poll_front.specs.declared.ends.PollEnd.TheVariants.{Worn}
 use Rattle.poll_front.specs.declared.parties.Party.{Party}
 use Rattle.poll_front.specs.declared.parties.Pause.{Pause}
-use Rattle.poll_front.specs.declared.parties.Pause.TheVariants.{Later, End}
+use Rattle.poll_front.specs.declared.parties.Pause.TheVariants.{End}
 use Rattle.gt_io.specs.Ports.{Port}
-use Rattle.poll_front.specs.Fronts.{Turn, FrontSpot, acted_of, Running, PartyStands, IsWrittenWhole, Comes, Gone, Goes, Attends}
+use Rattle.poll_front.specs.Fronts.{Turn, FrontSpot, acted_of, Running, PartyStands, IsWrittenWhole, Comes, Gone, Goes}
 
 ok_not_err : {T E : Type 0} (u : T) (x : E) → ◌≡◌ {A = Result T E} (Ok u) (Err x) → ⊥
 ok_not_err u x e = absurd (cc)

@@ -1,10 +1,10 @@
 -- The links that are open at the end are let go one after the other.
-use Rattle.std.proofs.Common.{◌≡◌, ◌≢◌, ◌⊎◌, ℕ, ◌+◌, ◌<◌, ◌≤◌, List, [], ◌∷◌, ◌++◌, length, get_or, slice_get, refl, sym, ap, subst, ◌∙◌, arith, length-append, ⊎_elim, inl, inr, Option, Some}
-use Rattle.std.proofs.lemmas.Option.{slice_get-get_or, slice_get_within, get_or_from_slice_get}
-use Rattle.gt_io.specs.Ports.{Port, Harbour, IsOpen, KeepsRest}
+use Rattle.std.proofs.Common.{◌≡◌, ◌≢◌, ◌⊎◌, ℕ, ◌+◌, ◌<◌, List, [], ◌∷◌, ◌++◌, length, get_or, slice_get, refl, sym, ap, subst, ◌∙◌, arith, length-append, ⊎_elim, Some}
+use Rattle.std.proofs.lemmas.Option.{slice_get_within, get_or_from_slice_get}
+use Rattle.gt_io.specs.Ports.{Port, Harbour, KeepsRest}
 use Rattle.poll_front.specs.declared.ends.Polled.{Polled}
 use Rattle.poll_front.specs.declared.seats.Seat.{Seat}
-use Rattle.poll_front.specs.Tables.{EndsSeat, EndsSeatAt, IsOpenSeat, AreOpenSeats, LetsGo}
+use Rattle.poll_front.specs.Tables.{EndsSeat, EndsSeatAt, AreOpenSeats, LetsGo}
 use Rattle.poll_front.proofs.ListSteps.{push_cases}
 
 -- the links of the first n seats were let go

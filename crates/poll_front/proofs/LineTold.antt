@@ -1,15 +1,14 @@
 -- A line of a link behind those that were acted on, and the telling of its reply.
-use Rattle.std.proofs.Common.{◌≡◌, ℕ, ◌+◌, ◌^◌, ◌<◌, ◌≤◌, true, false, List, [], ◌∷◌, ◌++◌, length, get_or, refl, sym, ap, subst, ◌∙◌, arith, Option, Result, Ok, Err}
+use Rattle.std.proofs.Common.{◌≡◌, ℕ, ◌+◌, ◌<◌, ◌≤◌, true, false, List, [], ◌∷◌, ◌++◌, length, get_or, refl, sym, ap, subst, arith, Result, Err}
 use Rattle.gt_base.specs.declared.requests.Entry.{Entry}
 use Rattle.gt_base.specs.Roomy.{Roomy}
 use Rattle.gt_io.specs.Frames.{Frame, pushed}
 use Rattle.gt_io.specs.Ports.{Port, Harbour}
-use Rattle.turn_lock.specs.Turns.{Each}
 use Rattle.locked_history.specs.Fronts.{by}
 use Rattle.policy_words.specs.Naming.{NamedPolicy}
 use Rattle.connection_laws.specs.Cuts.{open_line}
 use Rattle.gt_text.specs.Lines.{is_feed}
-use Rattle.connection_laws.specs.Lines.{Acted, Answer, is_worn, is_replied, is_denied, one_where}
+use Rattle.connection_laws.specs.Lines.{Acted, Answer, is_replied, is_denied, one_where}
 use Rattle.connection_laws.specs.Acting.{told_bytes}
 use Rattle.connection_laws.specs.declared.talk.Talk.{Talk}
 use Rattle.connection_laws.specs.declared.talk.LineAnswer.{LineAnswer}

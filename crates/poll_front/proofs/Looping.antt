@@ -1,5 +1,5 @@
 -- One event after another.
-use Rattle.std.proofs.Common.{◌≡◌, ◌≢◌, ◌⊎◌, ℕ, ◌+◌, ◌-◌, ◌^◌, ◌<◌, ◌≤◌, Bool, true, false, List, [], ◌∷◌, ◌++◌, length, set, get_or, slice_get, refl, sym, ap, subst, ◌∙◌, arith, length-append, ⊎_elim, inl, inr, Option, Some, None, Result, Ok, Err, OnOk, is_err, MatchOption}
+use Rattle.std.proofs.Common.{◌≡◌, ◌≢◌, ◌⊎◌, ℕ, ◌+◌, ◌-◌, ◌^◌, ◌<◌, ◌≤◌, Bool, true, false, List, [], ◌∷◌, ◌++◌, length, set, slice_get, refl, sym, ap, subst, ◌∙◌, arith, length-append, ⊎_elim, Option, Some, None, Result, Ok, Err, OnOk, is_err, MatchOption}
 use Rattle.std.proofs.lemmas.List.{length-set, get_or-set_same}
 use Rattle.std.proofs.lemmas.Option.{slice_get-get_or}
 use Rattle.std.specs.Prelude.{if◌then◌else◌}
@@ -9,14 +9,14 @@ use Rattle.gt_base.specs.declared.requests.Entry.{Entry}
 use Rattle.gt_io.specs.declared.port.PortEvent.TheVariants.{Opened, Ready, Stop}
 use Rattle.gt_io.specs.declared.port.PortEvent.{PortEvent}
 use Rattle.gt_io.specs.declared.source.Failed.{Failed}
-use Rattle.gt_io.specs.Ports.{Port, Harbour, IsOpen, KeepsRest, Happens, Finishes, NoneOwed, is_none, open_among, newly}
+use Rattle.gt_io.specs.Ports.{Port, Harbour, Happens, Finishes, NoneOwed, is_none, open_among, newly}
 use Rattle.policy_words.specs.Naming.{NamedPolicy}
 use Rattle.poll_front.specs.declared.ends.Polled.{Polled}
 use Rattle.poll_front.specs.declared.ends.PollEnd.{PollEnd}
 use Rattle.poll_front.specs.declared.ends.PollEnd.TheVariants.{Ended, ReadFault, WriteFault, Spent, Full, Stopped, Worn}
 use Rattle.poll_front.specs.declared.seats.Seat.{Seat}
 use Rattle.poll_front.specs.declared.seats.Seat.TheVariants.{Open, Over}
-use Rattle.poll_front.specs.Fronts.{Turn, FrontSpot, acted_of, Running}
+use Rattle.poll_front.specs.Fronts.{Turn, FrontSpot, acted_of}
 use Rattle.poll_front.specs.Tables.{IsBlank, Sits, IsFreshSeat, SameBytes, SeatGone, SeatServed, Tabled, IsUnwornSeat, AreUnwornSeats, MayGoOn, faults_told, is_worn_end}
 use Rattle.poll_front.proofs.Counting.{count_less}
 use Rattle.poll_front.proofs.Seating.{sits_first, ends_full}

@@ -1,21 +1,18 @@
 -- Calls on one open link, one after another.
-use Rattle.std.proofs.Common.{◌≡◌, ◌≢◌, ℕ, ◌+◌, ◌<◌, ◌≤◌, false, List, [], ◌∷◌, ◌++◌, length, take, drop, refl, sym, ap, subst, ◌∙◌, arith, append-nil, append_assoc, Option, Some, None, Result, Ok, Err}
+use Rattle.std.proofs.Common.{◌≡◌, ℕ, ◌+◌, ◌≤◌, false, List, ◌++◌, take, drop, refl, sym, ap, subst, ◌∙◌, arith, append_assoc, Option, Result, Ok, Err}
 use Rattle.std.proofs.Math.Seq.{take-add}
-use Rattle.std.specs.Io.KnownBytes.{Appends, Consumes, IsAtEnd}
+use Rattle.std.specs.Io.KnownBytes.{Appends}
 use Rattle.std.proofs.KnownBytes.{Appends-trans}
 use Rattle.gt_io.specs.declared.source.Failed.{Failed}
 use Rattle.gt_io.specs.declared.port.Got.{Got}
 use Rattle.gt_io.specs.declared.port.Got.TheVariants.{Bytes as GotBytes, Finished, NotYet as GotNotYet}
 use Rattle.gt_io.specs.declared.port.Took.{Took}
-use Rattle.gt_io.specs.declared.port.Took.TheVariants.{Bytes, NotYet}
 use Rattle.gt_io.specs.declared.port.Called.{Called}
 use Rattle.gt_io.specs.declared.port.Called.TheVariants.{Nothing, Read, Wrote}
 use Rattle.gt_io.specs.Causes.{FailsOnce}
 use Rattle.gt_io.specs.Memory.{one_more}
-use Rattle.gt_io.specs.Ports.{Port, Harbour, IsOpen, KeepsRest, ReadsPort, WritesPort, Finishes, is_over, ends_by}
-use Rattle.poll_front.specs.declared.parties.Pause.{Pause}
-use Rattle.poll_front.specs.declared.parties.Pause.TheVariants.{Later, End}
-use Rattle.poll_front.specs.Fronts.{Tends, StopsLast, StaysLive, PushesOut, Pushed, faults_by, faults_of, ended_by, ended_of}
+use Rattle.gt_io.specs.Ports.{Port, Harbour, IsOpen, KeepsRest, ReadsPort, WritesPort, is_over, ends_by}
+use Rattle.poll_front.specs.Fronts.{Tends, StopsLast, faults_by, faults_of, ended_by, ended_of}
 
 pub rest_twice : (a b d : Harbour) (c : ℕ) → KeepsRest a b c → KeepsRest b d c → KeepsRest a d c
 rest_twice a b d c x y =
@@ -53,9 +50,6 @@ pub given_grows : (start p q : Option (List ℕ)) (front text : List ℕ) (at n 
 given_grows start p q front text at n given more =
     subst (λ (l : List ℕ). Appends start q l) (append_assoc front (take at text) (take n (drop at text)) ∙ ap (λ (l : List ℕ). front ++ l) (sym (take-add at n text)))
     (Appends-trans start p q (front ++ take at text) (take n (drop at text)) given more)
-
-pub given_stays : (start p q : Option (List ℕ)) (given : List ℕ) → Appends start p given → Appends p q [] → Appends start q given
-given_stays start p q given x more = subst (λ (l : List ℕ). Appends start q l) (append-nil given) (Appends-trans start p q given [] x more)
 
 by_call : (last : Called) → is_over last ≡ false → faults_by last ≡ 0
 by_call Nothing live = refl
@@ -116,8 +110,3 @@ fails_read b d c buf result r = λ live. (
   read_faults b.faults d.faults (d.port c) result (ap (λ (q : Port). q.last) r.port.rest) r.cause,
   read_ends b.ends d.ends (d.port c) result (ap (λ (q : Port). q.last) r.port.rest) r.ends,
 )
-
--- what was written whole leaves the link as alive as it was
-pub pushed_live : (a b : Harbour) (c : ℕ) (text : List ℕ) (at at' : ℕ) {T : Type 0} (result : Result T Pause) → PushesOut a b c text at at' result → StaysLive (a.port c) (b.port c) result
-pushed_live a b c text at at' {T} (Ok t) p = p.pushed.1
-pushed_live a b c text at at' {T} (Err e) p = tt

@@ -1,8 +1,7 @@
 -- The service of a link in its seat.
-use Rattle.std.proofs.Common.{◌≡◌, ℕ, ◌+◌, ◌^◌, ◌<◌, ◌≤◌, true, false, List, [], ◌∷◌, ◌++◌, refl, sym, ap, subst, ◌∙◌, arith, Option, Some, None, Result, Ok, Err, MatchOption}
+use Rattle.std.proofs.Common.{◌≡◌, ℕ, ◌+◌, ◌<◌, false, List, [], ◌++◌, refl, sym, ap, subst, ◌∙◌, arith, Option, Some, None, Result, Err}
 use Rattle.gt_base.specs.declared.requests.Entry.{Entry}
-use Rattle.gt_io.specs.Ports.{Port, Harbour, IsOpen, KeepsRest, Finishes}
-use Rattle.turn_lock.specs.Turns.{Each}
+use Rattle.gt_io.specs.Ports.{Port, Harbour, IsOpen, Finishes}
 use Rattle.policy_words.specs.Naming.{NamedPolicy}
 use Rattle.connection_laws.specs.Lines.{Acted}
 use Rattle.poll_front.specs.declared.ends.Polled.{Polled}
@@ -11,11 +10,10 @@ use Rattle.poll_front.specs.declared.ends.PollEnd.TheVariants.{Ended, ReadFault,
 use Rattle.poll_front.specs.declared.parties.Party.{Party}
 use Rattle.poll_front.specs.declared.parties.Pause.{Pause}
 use Rattle.poll_front.specs.declared.parties.Pause.TheVariants.{Later, End}
-use Rattle.poll_front.specs.declared.seats.Seat.{Seat}
 use Rattle.poll_front.specs.declared.seats.Seat.TheVariants.{Open, Over}
 use Rattle.std.specs.Global.{Box}
-use Rattle.poll_front.specs.Fronts.{Turn, FrontSpot, acted_of, Running, PartyStands, Rests, EndsLink, PollsBy, Gone, Tends, StopsLast, Attends, HasOwnEnd, faults_by, ended_by}
-use Rattle.poll_front.specs.Tables.{Sits, IsLetIn, IsUnwornSeat, SeatGone, SeatServed}
+use Rattle.poll_front.specs.Fronts.{FrontSpot, acted_of, EndsLink, PollsBy, Tends, StopsLast, Attends, faults_by, ended_by}
+use Rattle.poll_front.specs.Tables.{Sits, IsLetIn, SeatServed}
 use Rattle.poll_front.proofs.Pushing.{rest_twice, tends_none, live_sound, live_open}
 use Rattle.poll_front.specs.declared.front.TheConstants.{MAX_OPEN}
 

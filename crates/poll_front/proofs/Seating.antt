@@ -1,30 +1,23 @@
 -- What stands in the place of a link, from its begin to its end.
-use Rattle.std.proofs.Common.{◌≡◌, ◌≢◌, ◌⊎◌, ℕ, ◌+◌, ◌-◌, ◌*◌, ◌^◌, ◌<◌, ◌≤◌, Bool, true, false, cond, ◌==◌, List, [], ◌∷◌, ◌++◌, length, take, drop, refl, sym, ap, subst, ◌∙◌, arith, append-nil, length-append, ⊎_elim, inl, inr, Option, Some, None, Ok, Err, Result}
+use Rattle.std.proofs.Common.{◌≡◌, ◌⊎◌, ℕ, ◌+◌, ◌<◌, ◌≤◌, Bool, false, List, [], ◌∷◌, ◌++◌, length, refl, sym, ap, subst, ◌∙◌, arith, length-append, ⊎_elim, inl, inr, Option, Some}
 use Rattle.std.specs.Io.KnownBytes.{Appends, Consumes}
 use Rattle.std.proofs.KnownBytes.{Appends-nil, Consumes-nil}
-use mathlib.Core.List.{IsPrefix}
-use Rattle.gt_io.specs.declared.port.Called.{Called}
-use Rattle.gt_io.specs.declared.port.Called.TheVariants.{Nothing, Wrote}
-use Rattle.gt_io.specs.declared.port.Took.TheVariants.{NotYet}
-use Rattle.gt_io.specs.Ports.{Port, Harbour, is_over, newly, readied}
+use Rattle.gt_io.specs.Ports.{Port, newly}
 use Rattle.turn_lock.specs.Turns.{Each}
 use Rattle.policy_words.specs.Naming.{NamedPolicy}
 use Rattle.gt_base.specs.declared.requests.Actor.{Actor}
-use Rattle.gt_base.specs.declared.limits.TheConstants.{MAX_BYTES}
 use Rattle.gt_io.specs.Frames.{Frame}
-use Rattle.connection_laws.specs.Cuts.{whole_lines}
 use Rattle.connection_laws.specs.Fits.{FrameFits}
 use Rattle.connection_laws.specs.Desks.{IsNamedActor}
-use Rattle.connection_laws.specs.Lines.{Acted, reply_lines, replies_text}
+use Rattle.connection_laws.specs.Lines.{Acted}
 use Rattle.connection_laws.proofs.Cutting.{lines_more}
-use Rattle.poll_front.specs.declared.ends.Polled.{Polled}
 use Rattle.poll_front.specs.declared.ends.PollEnd.{PollEnd}
 use Rattle.poll_front.specs.declared.ends.PollEnd.TheVariants.{Ended, ReadFault, WriteFault, Spent, Full, Stopped, Worn}
 use Rattle.poll_front.specs.declared.parties.Party.{Party}
 use Rattle.poll_front.specs.declared.seats.Seat.{Seat}
 use Rattle.poll_front.specs.declared.seats.Seat.TheVariants.{Open, Over}
-use Rattle.poll_front.specs.Fronts.{Turn, acted_of, waiting_bytes, PartyStands, Rests, EndsLink, IsPolled, PollsBy, IsWrittenWhole, IsCut, given_text, HasOwnEnd}
-use Rattle.poll_front.specs.Tables.{IsFreshParty, Sits, IsLetIn, IsLetGo, SameBytes, EndsSeatAt}
+use Rattle.poll_front.specs.Fronts.{Turn, acted_of, waiting_bytes, PartyStands, Rests, EndsLink, PollsBy, given_text}
+use Rattle.poll_front.specs.Tables.{IsFreshParty, Sits, IsLetIn, SameBytes}
 use Rattle.poll_front.proofs.Standing.{waits_none, ends_whole, part_given}
 use Rattle.poll_front.proofs.Turning.{acted_apart}
 use Rattle.poll_front.specs.declared.front.TheConstants.{MAX_OPEN}

@@ -1,15 +1,14 @@
 -- What the loop over events keeps.
-use Rattle.std.proofs.Common.{◌≡◌, ◌≢◌, ◌⊎◌, ℕ, ◌+◌, ◌-◌, ◌*◌, ◌^◌, ◌<◌, ◌≤◌, Bool, true, false, List, [], ◌∷◌, ◌++◌, length, slice_get, refl, sym, ap, subst, ◌∙◌, arith, length-append, ⊎_elim, Option, Some, None}
+use Rattle.std.proofs.Common.{◌≡◌, ◌⊎◌, ℕ, ◌+◌, ◌-◌, ◌*◌, ◌≤◌, Bool, true, false, List, [], ◌∷◌, length, sym, subst, ◌∙◌, arith, length-append, ⊎_elim, Some, None}
 use Rattle.std.proofs.lemmas.Option.{slice_get_within, slice_get_cases}
 use Rattle.gt_base.specs.declared.requests.Entry.{Entry}
-use Rattle.gt_base.specs.declared.limits.TheConstants.{MAX_BYTES}
-use Rattle.gt_io.specs.Ports.{Port, Harbour, IsOpen, is_over, NoneOwed, AreFinished}
+use Rattle.gt_io.specs.Ports.{Port, Harbour, is_over, AreFinished}
 use Rattle.policy_words.specs.Naming.{NamedPolicy}
-use Rattle.connection_laws.specs.Lines.{Acted, readings_of, asked_in, denied_in, is_replied, is_denied, one_where}
+use Rattle.connection_laws.specs.Lines.{Acted, asked_in, denied_in, is_replied, is_denied, one_where}
 use Rattle.poll_front.specs.declared.seats.Seat.{Seat}
 use Rattle.poll_front.specs.declared.seats.Seat.TheVariants.{Open, Over}
 use Rattle.poll_front.specs.declared.parties.Pace.{Pace}
-use Rattle.poll_front.specs.Fronts.{Turn, FrontSpot, acted_of, all_acted, waiting_bytes, PartyStands, Rests, EndsLink, Running}
+use Rattle.poll_front.specs.Fronts.{Turn, FrontSpot, acted_of, waiting_bytes}
 use Rattle.poll_front.specs.Tables.{Sits, CanServe, Tabled, IsOpenSeat, AreOpenSeats}
 use Rattle.poll_front.proofs.Standing.{last_within, waits_long}
 use Rattle.poll_front.proofs.Sums.{calls_few}

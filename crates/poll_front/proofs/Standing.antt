@@ -1,27 +1,23 @@
 -- What a link's lines and replies come to, step by step.
-use Rattle.std.proofs.Common.{◌≡◌, ◌⊎◌, ℕ, ◌+◌, ◌-◌, ◌*◌, ◌^◌, ◌<◌, ◌≤◌, Bool, true, false, List, [], ◌∷◌, ◌++◌, length, take, drop, get_or, refl, sym, ap, subst, ◌∙◌, arith, append-nil, append_assoc, length-append, length-drop, inl, inr, Option, Result, Ok, Err}
+use Rattle.std.proofs.Common.{◌≡◌, ℕ, ◌+◌, ◌-◌, ◌^◌, ◌<◌, ◌≤◌, true, false, List, [], ◌∷◌, ◌++◌, length, take, drop, get_or, refl, sym, ap, subst, ◌∙◌, arith, append-nil, append_assoc, length-append, length-drop, inl, inr, Option, Result, Ok, Err}
 use Rattle.std.proofs.lemmas.List.{take_all, drop_all, drop_more, get_or-take, length-take-le, length-take}
-use Rattle.std.specs.Io.KnownBytes.{Appends, Consumes, IsAtEnd}
+use Rattle.std.specs.Io.KnownBytes.{Appends, Consumes}
 use Rattle.std.proofs.KnownBytes.{Appends-trans, Appends-nil, Consumes-trans, Consumes-nil}
 use mathlib.Core.List.{IsPrefix}
 use Rattle.gt_io.specs.Frames.{Frame, pushed}
-use Rattle.gt_io.specs.declared.source.Failed.{Failed}
 use Rattle.policy_words.specs.Naming.{NamedPolicy}
 use Rattle.request_text.specs.Phrases.{read_line}
 use Rattle.gt_base.specs.Roomy.{Roomy}
-use Rattle.gt_base.specs.declared.requests.Actor.{Actor}
 use Rattle.gt_base.specs.declared.requests.Actor.TheVariants.{Nobody}
-use Rattle.gt_base.specs.declared.limits.TheConstants.{MAX_BYTES}
 use Rattle.connection_laws.specs.Cuts.{whole_lines, open_line}
 use Rattle.gt_text.specs.Lines.{is_feed}
 use Rattle.connection_laws.specs.Fits.{FrameFits}
 use Rattle.connection_laws.specs.Desks.{IsNamedActor}
-use Rattle.connection_laws.specs.Lines.{Answer, silence, agreed, bad, accepted, no_memory, no_steps, worn, is_worn, Acted, is_replied, is_denied, one_where, answer_text, actor_by, actor_after, reply_lines, replies_text, asked_in, denied_in, AreUnworn, GivenAll, GivenPart, GivenBefore}
+use Rattle.connection_laws.specs.Lines.{worn, is_worn, Acted, is_replied, is_denied, one_where, answer_text, actor_by, actor_after, reply_lines, replies_text, AreUnworn, GivenAll, GivenPart}
 use Rattle.connection_laws.specs.Acting.{IsTold, told_bytes}
 use Rattle.connection_laws.specs.declared.talk.Talk.{Talk}
 use Rattle.connection_laws.specs.declared.talk.LineAnswer.{LineAnswer}
-use Rattle.connection_laws.specs.declared.talk.LineAnswer.TheVariants.{Silence, Agreed, Bad, Reply as ToldReply, NoMemory, NoSteps, Worn as ToldWorn}
-use Rattle.connection_laws.proofs.Telling.{told_text, IsUnwornTold, told_unworn}
+use Rattle.connection_laws.proofs.Telling.{told_text}
 use Rattle.connection_laws.proofs.Cutting.{lines_feed, lines_byte, lines_more}
 use Rattle.connection_laws.proofs.Framing.{fits_feed, fits_byte}
 use Rattle.poll_front.specs.declared.ends.PollEnd.{PollEnd}
@@ -30,7 +26,7 @@ use Rattle.poll_front.specs.declared.parties.Party.{Party}
 use Rattle.poll_front.specs.declared.parties.Pause.{Pause}
 use Rattle.poll_front.specs.declared.parties.Pause.TheVariants.{Later, End}
 use Rattle.gt_io.specs.Ports.{Port, Harbour, is_over}
-use Rattle.poll_front.specs.Fronts.{PartyStands, Rests, EndsLink, Comes, TellsLast, IsWrittenWhole, IsCut, given_text, waiting_bytes, PushesOut, Pushed, FillsUp, Filled, IsPolled, PollsBy}
+use Rattle.poll_front.specs.Fronts.{PartyStands, EndsLink, Comes, TellsLast, IsWrittenWhole, IsCut, given_text, waiting_bytes, PushesOut, FillsUp, IsPolled, PollsBy}
 
 -- the byte that waits next, and the others
 pub waits_next : (s : Party) → s.from < s.upto → s.upto ≤ length s.chunk → waiting_bytes s ≡ get_or s.chunk s.from 0 ∷ drop (s.from + 1) (take s.upto s.chunk)

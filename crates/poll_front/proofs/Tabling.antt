@@ -1,5 +1,5 @@
 -- The table from event to event.
-use Rattle.std.proofs.Common.{◌≡◌, ◌≢◌, ◌⊎◌, ℕ, suc, ◌+◌, ◌-◌, ◌*◌, ◌^◌, ◌<◌, ◌≤◌, Bool, true, false, ◌==◌, List, [], ◌∷◌, ◌++◌, length, set, slice_get, refl, sym, ap, subst, ◌∙◌, arith, eq-eqb, ne_eqb, length-append, ⊎_elim, inl, inr, Option, Some, None, Ok, Err, Result, IfSome, MatchOption}
+use Rattle.std.proofs.Common.{◌≡◌, ◌≢◌, ◌⊎◌, ℕ, suc, ◌+◌, ◌<◌, ◌≤◌, Bool, true, false, ◌==◌, List, [], ◌∷◌, ◌++◌, length, set, slice_get, refl, sym, ap, subst, ◌∙◌, arith, eq-eqb, ne_eqb, length-append, ⊎_elim, Option, Some, None, Ok, MatchOption}
 use Rattle.std.proofs.lemmas.List.{length-set}
 use Rattle.gt_base.specs.declared.requests.Entry.{Entry}
 use Rattle.std.specs.Prelude.{if◌then◌else◌}
@@ -13,9 +13,8 @@ use Rattle.policy_words.specs.Naming.{NamedPolicy}
 use Rattle.connection_laws.specs.Lines.{Acted}
 use Rattle.poll_front.specs.declared.ends.PollEnd.{PollEnd}
 use Rattle.poll_front.specs.declared.seats.Seat.{Seat}
-use Rattle.poll_front.specs.declared.seats.Seat.TheVariants.{Open, Over}
-use Rattle.poll_front.specs.Fronts.{Turn, FrontSpot, acted_of, faults_by, faults_of, ended_by, ended_of, Running}
-use Rattle.poll_front.specs.Tables.{Sits, SameBytes, IsBlank, SeatGone, SeatServed, Tabled, IsUnwornSeat, AreUnwornSeats, count_among, faults_told}
+use Rattle.poll_front.specs.Fronts.{Turn, FrontSpot, acted_of, faults_by, faults_of, ended_by, ended_of}
+use Rattle.poll_front.specs.Tables.{Sits, SameBytes, IsBlank, SeatGone, Tabled, count_among, faults_told}
 use mathlib.Core.Logic.{dite}
 use native.Mathlib.Decide.{ℕ_discrete}
 use Rattle.poll_front.proofs.Counting.{count_same, count_less, shown_same, shown_moved}

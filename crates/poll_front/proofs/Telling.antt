@@ -1,12 +1,12 @@
 -- What a front leaves, over the whole history.
-use Rattle.std.proofs.Common.{◌≡◌, ◌⊎◌, ℕ, ◌+◌, ◌≤◌, List, [], ◌∷◌, ◌++◌, length, drop, slice_get, refl, sym, ap, subst, ◌∙◌, arith, inl, inr, Option, Some, Ok, ⊎_elim}
+use Rattle.std.proofs.Common.{◌≡◌, ◌⊎◌, ℕ, ◌+◌, List, [], ◌++◌, refl, sym, ap, subst, ◌∙◌, arith, inl, inr, Option, ⊎_elim}
 use Rattle.std.proofs.lemmas.Option.{slice_get_within}
 use mathlib.Core.List.{IsPrefix}
 use Rattle.gt_base.specs.declared.requests.Who.{Who}
 use Rattle.gt_base.specs.declared.requests.Entry.{Entry}
 use Rattle.gt_io.specs.declared.port.Called.{Called}
 use Rattle.gt_io.specs.Ports.{Port, Harbour}
-use Rattle.turn_lock.specs.Turns.{Each, part}
+use Rattle.turn_lock.specs.Turns.{part}
 use Rattle.turn_lock.specs.Holders.{Holder, IsToldBy}
 use Rattle.locked_history.specs.Fronts.{by}
 use Rattle.policy_words.specs.Naming.{NamedPolicy}

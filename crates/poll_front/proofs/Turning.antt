@@ -1,12 +1,9 @@
 -- A turn behind those that were made.
-use Rattle.std.proofs.Common.{◌≡◌, ◌≢◌, ◌⊎◌, ℕ, ◌+◌, ◌*◌, ◌^◌, ◌<◌, ◌≤◌, Bool, true, false, cond, ◌==◌, ◌&&◌, List, [], ◌∷◌, ◌++◌, length, refl, sym, ap, subst, ◌∙◌, arith, add-zero, append-nil, append_assoc, length-append, ne_eqb, eq-eqb, Option, Result, Ok, Err}
+use Rattle.std.proofs.Common.{◌≡◌, ◌≢◌, ℕ, ◌+◌, ◌*◌, Bool, true, false, cond, ◌==◌, List, [], ◌∷◌, ◌++◌, length, refl, sym, ap, subst, ◌∙◌, arith, add-zero, append-nil, length-append, ne_eqb, eq-eqb, Result}
 use Rattle.std.proofs.lemmas.Bool.{eqb-true, eqb-false}
-use mathlib.Core.List.{IsPrefix}
-use Rattle.gt_base.specs.declared.requests.Who.{Who}
 use Rattle.gt_base.specs.declared.requests.Actor.{Actor}
 use Rattle.gt_base.specs.declared.requests.Actor.TheVariants.{Nobody}
 use Rattle.gt_base.specs.declared.requests.Entry.{Entry}
-use Rattle.gt_io.specs.Links.{Reads}
 use Rattle.gt_io.proofs.Readings.{Reads-trans, Reads-nil}
 use Rattle.turn_lock.specs.Turns.{Each}
 use Rattle.turn_lock.specs.Holders.{Holder}
@@ -16,14 +13,13 @@ use Rattle.request_text.specs.declared.lines.Line.{Line}
 use Rattle.request_text.specs.declared.lines.LineFault.{LineFault}
 use Rattle.request_text.specs.Phrases.{read_line}
 use Rattle.connection_laws.specs.Lines.{Acted, actor_after, readings_of, entries_of}
-use Rattle.connection_laws.specs.Connection.{Gets, is_who, part_of, AreActed, IsTimed, placed}
+use Rattle.connection_laws.specs.Connection.{Gets, part_of, AreActed, IsTimed, placed}
 use Rattle.connection_laws.proofs.Longer.{acted_longer}
 use Rattle.connection_laws.proofs.Places.{part_of-append, all_mine, none_mine}
-use Rattle.connection_laws.specs.Turns.{Grows, AreMine}
+use Rattle.connection_laws.specs.Turns.{AreMine}
 use Rattle.connection_laws.proofs.Growing.{grown_none, grown_twice}
 use Rattle.connection_laws.specs.declared.talk.Talk.{Talk}
 use Rattle.connection_laws.specs.declared.talk.LineAnswer.{LineAnswer}
-use Rattle.poll_front.specs.declared.parties.Pace.{Pace}
 use Rattle.poll_front.specs.Fronts.{Turn, FrontSpot, acted_of, all_acted, Running, Hears}
 
 part_here : (n k : ℕ) (t : Turn) (before : List Acted) (b : Bool) → (t.link == k) ≡ b → AreMine (by n t.link) t.acted.entries

@@ -1,5 +1,5 @@
 -- What a front keeps from line to line.
-use Rattle.std.specs.Prelude.{◌≡◌, ◌⊎◌, ℕ, ◌+◌, ◌*◌, ◌^◌, ◌<◌, ◌≤◌, ◌==◌, Bool, true, false, List, [], ◌∷◌, ◌++◌, ◌-◌, length, take, drop, None, OnOk, Result, Ok, Err, if◌then◌else◌}
+use Rattle.std.specs.Prelude.{◌≡◌, ◌⊎◌, ℕ, ◌+◌, ◌*◌, ◌^◌, ◌<◌, ◌≤◌, ◌==◌, false, List, [], ◌∷◌, ◌++◌, ◌-◌, length, take, drop, OnOk, Result, Ok, Err, if◌then◌else◌}
 use Rattle.std.specs.declared.option.Option.{Option}
 use Rattle.std.specs.Io.KnownBytes.{Appends, Consumes, IsAtEnd}
 use mathlib.Core.List.{IsPrefix}
@@ -22,7 +22,7 @@ use Rattle.connection_laws.specs.Lines.{Acted, is_replied, is_denied, one_where,
 use Rattle.connection_laws.specs.Connection.{Gets, AreActed, IsTimed, placed}
 use Rattle.connection_laws.specs.Fits.{FrameFits}
 use Rattle.connection_laws.specs.Desks.{IsNamedActor}
-use Rattle.connection_laws.specs.Turns.{Grows, AreMine, IsReached}
+use Rattle.connection_laws.specs.Turns.{Grows, AreMine}
 use Rattle.connection_laws.specs.Acting.{IsTold, told_bytes}
 use Rattle.poll_front.specs.declared.ends.PollEnd.{PollEnd}
 use Rattle.poll_front.specs.declared.ends.PollEnd.TheVariants.{Ended, ReadFault, WriteFault, Spent, Full, Stopped, Worn}

@@ -1,5 +1,5 @@
 -- The table of links.
-use Rattle.std.specs.Prelude.{◌≡◌, ◌≢◌, ◌⊎◌, ℕ, zero, suc, ◌+◌, ◌-◌, ◌*◌, ◌^◌, ◌<◌, ◌≤◌, Bool, true, false, List, [], ◌∷◌, ◌++◌, length, drop, take, slice_get, Some, None, Ok, Err, MatchOption}
+use Rattle.std.specs.Prelude.{◌≡◌, ℕ, zero, suc, ◌+◌, ◌-◌, ◌^◌, ◌<◌, ◌≤◌, Bool, true, false, List, ◌++◌, length, slice_get, Some, None, Ok, Err, MatchOption}
 use Rattle.std.specs.declared.option.Option.{Option}
 use Rattle.std.specs.declared.result.Result.{Result}
 use Rattle.gt_base.specs.declared.requests.Entry.{Entry}
@@ -18,7 +18,7 @@ use Rattle.connection_laws.specs.Desks.{IsNamedActor}
 use Rattle.connection_laws.specs.Acting.{told_bytes}
 use Rattle.poll_front.specs.declared.ends.Polled.{Polled}
 use Rattle.poll_front.specs.declared.ends.PollEnd.{PollEnd}
-use Rattle.poll_front.specs.declared.ends.PollEnd.TheVariants.{Ended, ReadFault, WriteFault, Spent, Full, Stopped, Worn}
+use Rattle.poll_front.specs.declared.ends.PollEnd.TheVariants.{Full, Stopped, Worn}
 use Rattle.poll_front.specs.declared.front.RunEnd.{RunEnd}
 use Rattle.poll_front.specs.declared.front.RunEnd.TheVariants.{Stopped as EndStopped, PortFault, Enough, Worn as EndWorn, Memory}
 use Rattle.poll_front.specs.declared.parties.Party.{Party}
@@ -28,7 +28,7 @@ use Rattle.poll_front.specs.declared.seats.Seat.TheVariants.{Open, Over}
 use Rattle.gt_io.specs.declared.port.PortEvent.{PortEvent}
 use Rattle.gt_io.specs.declared.port.PortEvent.TheVariants.{Opened, Ready, Stop}
 use Rattle.gt_io.specs.Ports.{Port, Harbour, IsOpen, KeepsRest, open_among}
-use Rattle.poll_front.specs.Fronts.{Turn, FrontSpot, acted_of, waiting_bytes, faults_of, ended_of, Rests, EndsLink, HasOwnEnd, HasPlaces, Running}
+use Rattle.poll_front.specs.Fronts.{Turn, FrontSpot, acted_of, faults_of, ended_of, Rests, EndsLink, HasOwnEnd, HasPlaces, Running}
 use Rattle.poll_front.specs.declared.front.TheConstants.{MAX_OPEN}
 use Rattle.poll_front.specs.declared.parties.TheConstants.{MAX_READ}
 

@@ -1,13 +1,9 @@
 //! One open link: its bytes are read, its lines are acted on one by one, and each reply is written
 //! before the next line is acted on.
-ghost use Rattle.std.specs.Prelude.{◌≡◌, ◌<◌, ◌≤◌, ◌^◌, ◌+◌, ℕ, length, false, Ok, Err, IfOk};
-ghost use Rattle.gt_io.specs.Links.{Reads};
-ghost use Rattle.turn_lock.specs.Holders.{site_of};
-ghost use Rattle.connection_laws.specs.Desks.{IsNamedActor, MayBeAsked, RepliesCanBeTold};
-ghost use Rattle.connection_laws.specs.Turns.{IsIdle, IsReached};
+ghost use Rattle.std.specs.Prelude.{◌≡◌, ◌<◌, ◌≤◌, ◌+◌, ℕ, length, Ok, Err};
 ghost use Rattle.connection_laws.specs.Acting.{told_bytes};
-ghost use Rattle.gt_io.specs.Ports.{Port, IsOpen, ReadsPort};
-ghost use Rattle.poll_front.specs.Fronts.{Turn, FrontSpot, Tends, StopsLast, Running, PartyStands, Gone, Goes, PushesOut, FillsUp, acted_of};
+ghost use Rattle.gt_io.specs.Ports.{IsOpen, ReadsPort};
+ghost use Rattle.poll_front.specs.Fronts.{StopsLast, PushesOut, FillsUp};
 
 use crate::ends::PollEnd;
 use crate::parties::{MAX_READ, Pace, Party, Pause};

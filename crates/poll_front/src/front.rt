@@ -1,12 +1,12 @@
 //! The links of a front: what happens next is told by the ports, and each link that is ready is
 //! served until it is left for another.
-ghost use Rattle.std.specs.Prelude.{◌≡◌, ◌≤◌, ◌<◌, ◌+◌, ◌-◌, ◌++◌, ◌∷◌, [], ℕ, length, vec_len, vec_capacity, OnOk, Some, None, IfSome, IsSomeAnd};
+ghost use Rattle.std.specs.Prelude.{◌≡◌, ◌≤◌, ◌<◌, ◌+◌, ◌-◌, ◌++◌, ◌∷◌, [], length, vec_len, vec_capacity, OnOk, Some, None, IfSome, IsSomeAnd};
 ghost use Rattle.turn_lock.specs.Holders.{site_of};
 ghost use Rattle.connection_laws.specs.Desks.{MayBeAsked, RepliesCanBeTold};
 ghost use Rattle.connection_laws.specs.Turns.{IsIdle, IsReached};
 ghost use Rattle.gt_io.specs.Ports.{IsOpen, IsUncalled, Finishes};
 ghost use Rattle.poll_front.specs.declared.seats.Seat.{Seat};
-ghost use Rattle.poll_front.specs.Tables.{CanServe, IsFreshParty, IsFreshSeat, SeatServed, Went, Ran, IsOpenSeat, EndsSeat, AreOpenSeats, LetsGo, is_worn_end, first_spot};
+ghost use Rattle.poll_front.specs.Tables.{CanServe, IsFreshParty, IsFreshSeat, SeatServed, Went, Ran, IsOpenSeat, EndsSeat, AreOpenSeats, LetsGo, is_worn_end};
 
 use crate::ends::{PollEnd, Polled};
 use crate::parties::{Pace, Party, Pause};

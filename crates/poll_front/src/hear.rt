@@ -1,5 +1,5 @@
 //! A line of a link is heard, and what it is told is kept.
-ghost use Rattle.std.specs.Prelude.{◌≡◌, ◌<◌, ◌≤◌, ◌^◌, ◌+◌, length};
+ghost use Rattle.std.specs.Prelude.{◌<◌};
 ghost use Rattle.turn_lock.specs.Holders.{site_of};
 ghost use Rattle.locked_history.specs.Fronts.{by};
 ghost use Rattle.connection_laws.specs.Desks.{IsNamedActor, MayBeAsked, RepliesCanBeTold};
@@ -8,13 +8,18 @@ ghost use Rattle.connection_laws.specs.Rooms.{text_in, LendsRoom};
 ghost use Rattle.poll_front.specs.Fronts.{Hears, HasPlaces};
 
 use crate::parties::Pace;
-use connection_laws::{LineAnswer, Server, Talk, act_at, count};
+use connection_laws::{Clerk, LineAnswer, Server, Talk, act_by, count};
 use gt_base::{List, Machine};
 use gt_io::{Clock, Gate};
 use std::sync::Wait;
 use turn_lock::Pass;
 
-/// Acts on a line of a link, but for its reply.
+/// Acts on a line of a link at the desk, but for its reply, and counts what it is told.
+///
+/// `room` is the buffer of the link, whatever it holds. A line that asks needs room there for the
+/// longest reply, which the first one takes and later ones find. The reply goes out in it, and
+/// `take_back` brings it home. Every other answer leaves it where it is, with all of its room. For
+/// want of room the line is told `NoMemory` and is not accepted, and the next one tries again.
 pub(crate) fn hear<M: Machine, R: Wait, C: Clock, G: Gate>(
     server: &Server<M, R, G>,
     pass: &mut Pass<M>,
@@ -40,7 +45,14 @@ pub(crate) fn hear<M: Machine, R: Wait, C: Clock, G: Gate>(
     ensures lends { LendsRoom room.old room.new (text_in result) }
 {
     talk.calls = pace.calls;
-    let told = act_at(server, pass, clock, &mut pace.reached, talk, room, line);
+    let mut clerk = Clerk {
+        server,
+        pass,
+        clock,
+        reached: pace.reached,
+    };
+    let told = act_by(&mut clerk, talk, room, line);
+    pace.reached = clerk.reached;
     pace.calls = talk.calls;
     count(talk, &told);
     told

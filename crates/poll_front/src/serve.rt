@@ -1,5 +1,5 @@
 //! A link that is ready, until it is left for another.
-ghost use Rattle.std.specs.Prelude.{◌≡◌, ◌≤◌, ◌+◌, ◌-◌, ◌^◌, length};
+ghost use Rattle.std.specs.Prelude.{◌≡◌, ◌≤◌, ◌+◌, ◌-◌, length};
 ghost use Rattle.turn_lock.specs.Holders.{site_of};
 ghost use Rattle.connection_laws.specs.Desks.{IsNamedActor, MayBeAsked, RepliesCanBeTold};
 ghost use Rattle.connection_laws.specs.Turns.{IsIdle, IsReached};

@@ -1,5 +1,5 @@
 -- A link behind those that were served.
-use Rattle.std.proofs.Common.{◌≡◌, ℕ, ◌≤◌, List, [], ◌∷◌, ◌++◌, length, refl, sym, ap, subst, ◌∙◌, arith, append-nil, append_assoc, length-append, Option, Some, None, IfSome}
+use Rattle.std.proofs.Common.{◌≡◌, ℕ, ◌≤◌, List, [], ◌∷◌, ◌++◌, length, refl, sym, ap, subst, ◌∙◌, arith, append-nil, append_assoc, length-append, Option, Some, None}
 use mathlib.Core.List.{IsPrefix}
 use Rattle.gt_base.specs.declared.requests.Entry.{Entry}
 use Rattle.gt_io.specs.Links.{Traffic, IsFresh, GivesFirst}
@@ -12,6 +12,7 @@ use Rattle.snapshot_readers.specs.Viewed.{link_end, AscendBetween, Sees}
 use Rattle.snapshot_readers.specs.Viewing.{Views}
 use Rattle.snapshot_readers.specs.Crew.{ViewTale, views_begun, all_lens, ViewerSpot, ViewsTo, IsViewed, AreViewed, Worked, WorksOn, Works}
 use Rattle.connection_laws.specs.Doors.{Gives, AddUp}
+use Rattle.connection_laws.proofs.Giving.{gives_none, gives_more}
 use Rattle.snapshot_readers.proofs.Ascending.{ascend_on}
 use Rattle.snapshot_readers.proofs.GuideSteps.{sees_longer}
 
@@ -24,18 +25,8 @@ module _ {L : Type 0} where
   lens_push [] s = append-nil s.lens.items
   lens_push (t ∷ ts) s = ap (λ (ns : List ℕ). t.lens.items ++ ns) (lens_push ts s) ∙ sym (append_assoc t.lens.items (all_lens ts) s.lens.items)
 
-  gives_more : (old mid new : Option (List L)) (xs : List L) (x : L) → Gives old mid xs → GivesFirst mid new x → Gives old new (xs ++ x ∷ [])
-  gives_more None mid new xs x g f = tt
-  gives_more (Some ls) mid new xs x g f =
-      let f' : IfSome (Some g.0) (λ ys. (rest : List L) × (ys ≡ x ∷ rest) × (new ≡ Some rest)) = subst (λ (m : Option (List L)). IfSome m (λ ys. (rest : List L) × (ys ≡ x ∷ rest) × (new ≡ Some rest))) g.2 f in
-      (f'.0, g.1 ∙ ap (λ (l : List L). xs ++ l) f'.1 ∙ sym (append_assoc xs (x ∷ []) f'.0), f'.2)
-
   some_is : (xs ys : List L) → Some xs ≡ Some ys → xs ≡ ys
   some_is xs ys e = cc e
-
-  gives_none : (d : Option (List L)) → Gives d d []
-  gives_none None = tt
-  gives_none (Some ls) = (ls, refl, refl)
 
   module _ (traffic : L → Traffic) (np : NamedPolicy) (birth : ℕ) where
     pub viewed_longer : (h h' : List Entry) (ss : List (Viewed L)) (xs : List (ViewTale L)) → IsPrefix h h' → AreViewed traffic np birth h ss xs → AreViewed traffic np birth h' ss xs
@@ -86,11 +77,6 @@ module _ {L : Type 0} where
             door = subst (λ (ls : List L). Gives o.door p'.door ls) (sym (begun_push tales x)) (gives_more o.door p.door p'.door (views_begun tales) begun w.door door);
           },
         )
-
-    -- the door gave no link
-    pub no_link : (o : ViewerSpot L) (seen : List Entry) (door door' : Option (List L)) (served : List (Viewed L)) (tales : List (ViewTale L)) → door' ≡ door → Worked traffic np birth o (record { seen = seen; door = door }) served tales
-        → Worked traffic np birth o (record { seen = seen; door = door' }) served tales
-    no_link o seen door door' served tales same w = subst (λ (d : Option (List L)). Worked traffic np birth o (record { seen = seen; door = d }) served tales) (sym same) w
 
     pub no_links : (o : ViewerSpot L) (served : List (Viewed L)) → served ≡ [] → Worked traffic np birth o o served []
     no_links o served is =

@@ -1,6 +1,6 @@
 //! A book on which the entries of another are played. What comes of each is held against the entry,
 //! so that the entries that agree are those that were sent.
-ghost use Rattle.std.specs.Prelude.{◌≡◌, ◌+◌, ◌++◌, ◌∷◌, [], true, length, take};
+ghost use Rattle.std.specs.Prelude.{◌≡◌, ◌+◌, ◌++◌, ◌∷◌, [], true, take};
 ghost use mathlib.Core.List.{IsPrefix};
 ghost use Rattle.gt_base.specs.Machines.{ticked, asked};
 ghost use Rattle.core_machine.specs.Books.{SameRoot};

@@ -1,5 +1,4 @@
 //! A board as a machine: its steps are those of its ledger, and what comes of them is published.
-ghost use Rattle.std.specs.Prelude.{◌≡◌};
 
 use crate::board::Board;
 use gt_base::{Actor, Instant, Keeps, Machine, Reply, Request, StepFault, Who};

@@ -1,6 +1,5 @@
 //! Whether a request is named for a policy.
 ghost use Rattle.std.specs.Prelude.{◌≡◌, ◌<◌, ◌^◌, true};
-ghost use Rattle.gt_base.specs.declared.events.Cond.{Cond as ACond};
 ghost use Rattle.gt_base.specs.declared.requests.Actor.TheVariants.{Operator};
 ghost use Rattle.gt_base.specs.declared.requests.Request.TheVariants.{Now, Status};
 ghost use Rattle.gtrbac_model.specs.History.{IsNamedWish, ask};

@@ -1,5 +1,5 @@
 //! A viewer's link, from its first byte to its end.
-ghost use Rattle.std.specs.Prelude.{◌≡◌, ◌+◌, ◌<◌, ◌≤◌, ◌^◌, ℕ, true, false, []};
+ghost use Rattle.std.specs.Prelude.{◌≡◌, ◌+◌, ◌<◌, ◌≤◌, ◌^◌, ℕ, true, false};
 ghost use Rattle.gt_base.specs.declared.limits.TheConstants.{MAX_BYTES};
 ghost use Rattle.gt_io.specs.Frames.{blank_frame};
 ghost use Rattle.connection_laws.specs.Attending.{IsStart, spot, Attends};

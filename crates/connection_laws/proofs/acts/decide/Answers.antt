@@ -1,4 +1,4 @@
-use Rattle.std.proofs.Common.{◌≡◌, ◌∙◌, ◌++◌, [], ◌∷◌, ap, refl, List, ℕ}
+use Rattle.std.proofs.Common.{◌∙◌, ◌++◌, ap, refl, List, ℕ}
 use Rattle.request_text.specs.Replies.{reply_line}
 use Rattle.gt_base.specs.Roomy.{Roomy}
 use Rattle.connection_laws.proofs.Deciding.{decides_nothing, decides_reply}

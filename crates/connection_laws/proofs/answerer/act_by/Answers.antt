@@ -1,4 +1,4 @@
-use Rattle.std.proofs.Common.{◌≡◌, ◌∙◌, Bool, false, sym, ap, subst, Ok, Err}
+use Rattle.std.proofs.Common.{◌∙◌, false, sym, ap, subst, Ok}
 use Rattle.policy_words.specs.Naming.{NamedPolicy}
 use Rattle.request_text.specs.Phrases.{read_line}
 use Rattle.gt_base.specs.declared.requests.Actor.TheVariants.{Nobody}

@@ -1,4 +1,4 @@
-use Rattle.std.proofs.Common.{◌≡◌, ◌≤◌, length, ◌∙◌, arith, ap, refl, inl, Err}
+use Rattle.std.proofs.Common.{◌∙◌, arith, ap, refl, inl, Err}
 use Rattle.turn_lock.specs.Holders.{Holder}
 use Rattle.locked_history.specs.Fronts.{Refuses}
 use Rattle.connection_laws.proofs.Prefixes.{prefix_self}

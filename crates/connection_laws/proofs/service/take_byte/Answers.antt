@@ -1,15 +1,11 @@
-use Rattle.std.proofs.Common.{◌≡◌, ◌≤◌, ◌+◌, ℕ, Bool, false, ◌∙◌, sym, ap, subst, refl, arith}
-use Rattle.std.specs.Prelude.{Result}
+use Rattle.std.proofs.Common.{false, ◌∙◌, sym, ap, subst, refl, arith}
 use Rattle.gt_base.specs.declared.requests.Actor.{Actor}
 use Rattle.gt_base.specs.declared.requests.Actor.TheVariants.{Nobody}
 use Rattle.gt_io.specs.Frames.{Frame}
-use Rattle.request_text.specs.declared.lines.Line.{Line}
-use Rattle.request_text.specs.declared.lines.LineFault.{LineFault}
 use Rattle.request_text.specs.declared.lines.LineFault.TheVariants.{Long}
-use Rattle.request_text.specs.Phrases.{read_line}
 use Rattle.request_text.proofs.ReadBySpelling.{long_read}
 use Rattle.connection_laws.specs.Desks.{IsNamedActor}
-use Rattle.connection_laws.specs.Lines.{bad, one_where, says_request}
+use Rattle.connection_laws.specs.Lines.{bad}
 use Rattle.connection_laws.specs.Cuts.{open_line}
 use Rattle.connection_laws.proofs.Framing.{more_is, whole_is, long_is}
 use Rattle.connection_laws.proofs.Lending.{lent_and_back}

@@ -1,4 +1,4 @@
-use Rattle.std.proofs.Common.{◌≡◌, ℕ, take, get_or, subst, [], ◌∷◌, Err}
+use Rattle.std.proofs.Common.{take, get_or, sym, subst, [], ◌∷◌, Err}
 use Rattle.policy_words.specs.Naming.{NamedPolicy}
 use Rattle.connection_laws.specs.Attending.{spot, TakesBytes}
 use Rattle.connection_laws.proofs.ChunksBy.{cut_behind, next_within}

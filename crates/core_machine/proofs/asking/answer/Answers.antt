@@ -1,4 +1,4 @@
-use Rattle.std.proofs.Common.{◌≡◌, true, false, sym, ◌∙◌}
+use Rattle.std.proofs.Common.{true, false, sym, ◌∙◌}
 use Rattle.gtrbac_model.specs.Reply.{answer}
 use Rattle.session_table.specs.Tables.{table_of}
 use Rattle.core_machine.specs.Kept.{point_of}

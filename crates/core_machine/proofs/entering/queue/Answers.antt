@@ -1,4 +1,4 @@
-use Rattle.std.proofs.Common.{◌≡◌, refl, sym, ap, ◌∙◌}
+use Rattle.std.proofs.Common.{refl}
 use Rattle.gt_base.specs.declared.requests.Refusal.TheVariants.{Beyond}
 use Rattle.gt_base.specs.declared.requests.Reply.TheVariants.{Queued, Refused}
 use Rattle.gt_base.specs.declared.requests.Request.TheVariants.{Raise}

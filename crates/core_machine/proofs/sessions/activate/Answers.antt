@@ -1,4 +1,4 @@
-use Rattle.std.proofs.Common.{◌≡◌, ◌≤◌, List, length, ap, ◌∙◌, arith}
+use Rattle.std.proofs.Common.{◌≡◌, List, length, ap, ◌∙◌, arith}
 use Rattle.gt_base.specs.declared.policies.HierEdge.{HierEdge}
 use Rattle.policy_words.specs.Naming.{NamedPolicy}
 use Rattle.gt_base.specs.declared.requests.Request.TheVariants.{Activate}

@@ -1,4 +1,4 @@
-use Rattle.std.proofs.Common.{◌≡◌, ◌+◌, ◌<◌, [], refl, sym, ap, arith}
+use Rattle.std.proofs.Common.{[], refl, sym, ap, arith}
 use Rattle.gt_base.specs.declared.requests.Actor.TheVariants.{User}
 use Rattle.gt_base.specs.declared.requests.Reply.TheVariants.{Session}
 use Rattle.gt_base.specs.declared.requests.Request.TheVariants.{OpenSession}

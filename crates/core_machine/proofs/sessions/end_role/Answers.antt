@@ -1,4 +1,4 @@
-use Rattle.std.proofs.Common.{◌≡◌, ◌+◌, ◌≤◌, [], ◌∷◌, refl, ap, arith}
+use Rattle.std.proofs.Common.{[], ◌∷◌, refl, ap, arith}
 use Rattle.gt_base.specs.declared.requests.Reply.TheVariants.{Done}
 use Rattle.gt_base.specs.declared.requests.Request.TheVariants.{Deactivate}
 use Rattle.gtrbac_model.specs.Sessions.{Table}

@@ -1,11 +1,10 @@
-use Rattle.std.proofs.Common.{◌≡◌, ℕ, List, [], ◌∷◌, refl, sym, ap, subst, ◌∙◌}
-use Rattle.std.specs.Prelude.{Result, Ok, Err, IfOk, IfErr}
+use Rattle.std.proofs.Common.{◌≡◌, ℕ, sym, ap, ◌∙◌}
 use Rattle.gt_base.specs.Sets.{has}
 use Rattle.gt_base.specs.declared.requests.Reply.{Reply}
 use Rattle.gt_base.specs.declared.requests.Reply.TheVariants.{Active}
 use Rattle.gt_base.specs.declared.requests.Request.TheVariants.{Activate}
 use Rattle.gtrbac_model.specs.Reply.{answer}
-use Rattle.gtrbac_model.specs.Sessions.{Table, applied}
+use Rattle.gtrbac_model.specs.Sessions.{applied}
 use Rattle.session_table.specs.Replies.{AnswersAt, OrRefused}
 use Rattle.session_table.specs.Tables.{table_of}
 use Rattle.session_table.specs.declared.faults.SessionFault.{SessionFault}

@@ -1,11 +1,8 @@
-use Rattle.std.proofs.Common.{◌≡◌, List, refl, sym, ap, subst, ◌∙◌}
-use Rattle.gt_base.specs.Happening.{HappenedView, Fluents}
+use Rattle.std.proofs.Common.{sym, ap, ◌∙◌}
 use Rattle.gt_base.specs.Sets.{has}
 use Rattle.gt_base.specs.declared.requests.Decision.{Decision}
-use Rattle.gt_base.specs.declared.requests.Reply.TheVariants.{Now, Truth, Event, Decided}
-use Rattle.gtrbac_model.specs.Conflict.{seen}
+use Rattle.gt_base.specs.declared.requests.Reply.TheVariants.{Decided}
 use Rattle.gtrbac_model.specs.Decision.{decide}
-use Rattle.gtrbac_model.specs.Trigger.{holds}
 use Rattle.session_table.specs.Tables.{table_of}
 use Rattle.core_machine.specs.Kept.{point_of}
 use Rattle.core_machine.proofs.telling.decision.Goals as goal

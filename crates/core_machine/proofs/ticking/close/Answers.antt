@@ -1,21 +1,19 @@
-use Rattle.std.proofs.Common.{◌≡◌, ℕ, ◌+◌, ◌<◌, ◌≤◌, Bool, false, ◌||◌, List, [], ◌∷◌, ◌++◌, length, map, filter, Option, Some, refl, sym, ap, subst, ◌∙◌, arith}
+use Rattle.std.proofs.Common.{◌≡◌, ℕ, ◌+◌, ◌<◌, ◌≤◌, Bool, false, ◌||◌, List, [], ◌∷◌, ◌++◌, map, Some, refl, sym, ap, subst, ◌∙◌, arith}
 use Rattle.std.specs.List.{list_any}
 use Rattle.std.specs.Ordering.{eq_by_cmp}
 use Rattle.gt_base.specs.Machines.{ticked}
 use Rattle.gt_base.specs.Orders.{signal_cmp}
 use Rattle.gt_base.specs.Sets.{has}
 use Rattle.gt_base.specs.declared.events.Signal.{Signal}
-use Rattle.gt_base.specs.declared.requests.Entry.{Entry}
 use Rattle.gt_base.proofs.SetLaws.{has-none}
 use Rattle.gt_base.specs.declared.limits.TheConstants.{LAST_MINUTE}
 use Rattle.gtrbac_model.specs.Conflict.{Status}
 use Rattle.gtrbac_model.specs.Policy.{Policy}
 use Rattle.gtrbac_model.specs.Sessions.{Table, Activation, is_dropped, signal_of}
 use Rattle.instant_bases.specs.Timelines.{TimelineView, Signals}
-use Rattle.session_table.specs.Plans.{DropsView, IsDropPlan, need_of}
-use Rattle.session_table.specs.Tables.{TableView, NotBefore, table_of, charged_through, dropped_at, closed_at}
+use Rattle.session_table.specs.Plans.{DropsView, need_of}
+use Rattle.session_table.specs.Tables.{NotBefore, table_of, charged_through, dropped_at, closed_at}
 use Rattle.core_machine.specs.Books.{BookView, GoesOn}
-use Rattle.core_machine.specs.Kept.{Kept}
 use Rattle.core_machine.specs.Steps.{with_signals}
 use Rattle.core_machine.proofs.Asks.{signals_only, signals_told}
 use Rattle.core_machine.proofs.Ticks.{kept_tick, kept_again, goes_tick}

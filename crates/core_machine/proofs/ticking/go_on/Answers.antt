@@ -1,4 +1,4 @@
-use Rattle.std.proofs.Common.{◌≡◌, ℕ, ◌<◌, ◌≤◌, List, length, refl, sym, ap, subst, ◌∙◌, arith}
+use Rattle.std.proofs.Common.{ℕ, ◌<◌, ◌≤◌, List, length, sym, ap, subst, arith}
 use Rattle.gt_base.specs.Sets.{has}
 use Rattle.gt_base.specs.declared.events.Signal.{Signal}
 use Rattle.gt_base.specs.declared.requests.Entry.{Entry}
@@ -11,7 +11,7 @@ use Rattle.session_table.specs.Tables.{table_of}
 use Rattle.session_table.specs.declared.tables.Sessions.{Sessions}
 use Rattle.core_machine.specs.Books.{BookView, GoesOn}
 use Rattle.core_machine.specs.Kept.{Same, view_of}
-use Rattle.core_machine.specs.Steps.{IsClosing, moves}
+use Rattle.core_machine.specs.Steps.{moves}
 use Rattle.core_machine.proofs.Growing.{both_false}
 use Rattle.core_machine.proofs.Sames.{on_err, same_closing, same_kept, same_trans, same_view}
 use Rattle.core_machine.proofs.ticking.go_on.Goals as goal

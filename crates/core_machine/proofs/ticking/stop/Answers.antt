@@ -1,4 +1,4 @@
-use Rattle.std.proofs.Common.{◌≡◌, ℕ, Bool, List, refl, sym, ap, subst, ◌∙◌}
+use Rattle.std.proofs.Common.{◌≡◌, ℕ, List, sym, ap, subst, ◌∙◌}
 use Rattle.gt_base.specs.declared.policies.Caps.{Caps}
 use Rattle.gtrbac_model.specs.History.{IsNextStop}
 use Rattle.instant_bases.specs.Timelines.{stirs_in}
@@ -6,7 +6,6 @@ use Rattle.instant_bases.specs.Nexts.{IsNextOf}
 use Rattle.session_table.specs.NextDrops.{IsFirstOrNone, is_any_capped}
 use Rattle.session_table.specs.Tables.{NotBefore, table_of}
 use Rattle.policy_words.specs.Naming.{NamedPolicy}
-use Rattle.core_machine.specs.Steps.{moves}
 use Rattle.core_machine.proofs.Stops.{both_stop}
 use Rattle.core_machine.proofs.ticking.stop.Goals as goal
 

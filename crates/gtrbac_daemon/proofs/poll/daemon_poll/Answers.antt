@@ -1,4 +1,4 @@
-use Rattle.std.proofs.Common.{Some, refl, sym, map}
+use Rattle.std.proofs.Common.{Some, refl, map}
 use Rattle.std.specs.Prelude.{string_bytes}
 use Rattle.gtrbac_daemon.specs.Polls.{poll_way}
 use Rattle.gtrbac_daemon.proofs.AnyRuns.{starved_as}

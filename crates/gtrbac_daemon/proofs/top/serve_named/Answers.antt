@@ -1,7 +1,6 @@
-use Rattle.std.proofs.Common.{◌≡◌, ℕ, List, Some, inl, inr, refl, sym, subst, ◌∙◌}
+use Rattle.std.proofs.Common.{◌≡◌, ℕ, List, Some, refl, subst}
 use Rattle.gt_io.specs.Causes.{Rose}
 use Rattle.policy_commands.specs.declared.judging.Admitted.{Admitted}
-use Rattle.policy_commands.specs.declared.judging.Admitted.TheVariants.{Ended}
 use Rattle.policy_commands.specs.Ends.{told, seen_end}
 use Rattle.policy_commands.specs.Printing.{IsPrinted}
 use Rattle.gtrbac_daemon.specs.Words.{IsFound, IsAdmitFailure, IsSteadyFor}

@@ -1,4 +1,4 @@
-use Rattle.std.proofs.Common.{◌≡◌, ℕ, List, Some, refl, sym, map, subst}
+use Rattle.std.proofs.Common.{◌≡◌, ℕ, List, Some, refl, map, subst}
 use Rattle.std.specs.Prelude.{string_bytes}
 use Rattle.gt_io.specs.Causes.{Rose}
 use Rattle.policy_commands.specs.declared.judging.Admitted.{Admitted}

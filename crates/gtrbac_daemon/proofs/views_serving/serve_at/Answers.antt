@@ -1,18 +1,18 @@
 use denote.Param.Send.{sendable}
-use Rattle.std.proofs.Common.{◌≡◌, ℕ, ◌≤◌, true, List, [], length, sym, ap, subst, ◌∙◌, arith}
-use Rattle.std.specs.Prelude.{replicate, vec_capacity}
+use Rattle.std.proofs.Common.{◌≡◌, ℕ, ◌≤◌, List, [], length, sym, ap, subst, ◌∙◌, arith}
+use Rattle.std.specs.Prelude.{vec_capacity}
 use Rattle.gt_base.specs.declared.requests.Entry.{Entry}
 use Rattle.turn_lock.specs.Turns.{part}
 use Rattle.turn_lock.specs.Holders.{newcomers}
 use Rattle.policy_words.specs.Naming.{NamedPolicy}
 use Rattle.connection_laws.specs.Desks.{MayBeAsked, RepliesCanBeTold}
-use Rattle.core_machine.specs.Books.{BookView, SameRoot, IsNamedFor, now_after}
+use Rattle.core_machine.specs.Books.{BookView, SameRoot, IsNamedFor}
 use Rattle.core_machine.specs.Ledgers.{IsLegalLedger}
 use Rattle.ledger_laws.specs.Serving.{CanBeServed}
 use Rattle.snapshot_readers.specs.Glazed.{Glazed, fresh_glass}
 use Rattle.snapshot_readers.specs.Boards.{BoardView}
 use Rattle.snapshot_readers.proofs.BoardSending.{board_send}
-use Rattle.snapshot_readers.specs.Seats.{watchers, AreTold, HaveViewed}
+use Rattle.snapshot_readers.specs.Seats.{watchers, AreTold}
 use Rattle.snapshot_readers.proofs.Seated.{length_copies}
 use Rattle.gtrbac_daemon.specs.Crew.{crewmen}
 use Rattle.gtrbac_daemon.specs.Headline.{HaveWorked}

@@ -1,4 +1,4 @@
-use Rattle.std.proofs.Common.{◌≡◌, ℕ, List, Option, None, true, length, ◌++◌, inl, refl, sym, ap, subst, ◌∙◌, eqb-true}
+use Rattle.std.proofs.Common.{◌≡◌, ℕ, List, None, true, length, ◌++◌, inl, refl, sym, ap, subst, ◌∙◌, eqb-true}
 use Rattle.std.specs.Prelude.{◌==◌}
 use Rattle.gt_base.specs.declared.requests.Entry.{Entry}
 use Rattle.core_machine.specs.Books.{BookView}

@@ -1,4 +1,4 @@
-use Rattle.std.proofs.Common.{◌≡◌, ℕ, Option, ap, ◌∙◌, rules, subst, sym}
+use Rattle.std.proofs.Common.{◌≡◌, rules, subst}
 use Rattle.std.proofs.lemmas.Grind.{common_steps}
 use Rattle.turn_lock.specs.Holders.{Holder, site_of}
 use Rattle.locked_history.specs.Fronts.{by}

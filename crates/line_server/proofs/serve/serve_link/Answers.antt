@@ -1,7 +1,4 @@
-use Rattle.std.proofs.Common.{subst}
 use Rattle.locked_history.specs.Fronts.{by}
-use Rattle.connection_laws.specs.Services.{service_at}
-use Rattle.line_server.specs.Serving.{link_view, Serves}
 use Rattle.line_server.proofs.Ends.{reported}
 use Rattle.line_server.proofs.serve.serve_link.Goals as goal
 

@@ -1,4 +1,4 @@
-use Rattle.std.proofs.Common.{◌≡◌, ◌≤◌, ◌+◌, ◌*◌, List, [], length, sym, ap, subst, ◌∙◌, refl, arith}
+use Rattle.std.proofs.Common.{List, [], length, sym, ap, subst, ◌∙◌, refl, arith}
 use Rattle.line_server.specs.declared.ended.Served.{Served}
 use Rattle.line_server.specs.Working.{WorkerSpot, AllUnworn}
 use Rattle.line_server.proofs.Links.{no_links, next_done, goes_on}

@@ -1,8 +1,8 @@
-use Rattle.std.proofs.Common.{◌≡◌, ◌≤◌, ◌+◌, ◌-◌, ◌*◌, ℕ, List, length}
+use Rattle.std.proofs.Common.{◌≡◌, ◌≤◌, ◌-◌, ◌*◌, List, length}
 use Rattle.gt_base.specs.declared.limits.TheConstants.{MAX_LINKS}
 use Rattle.turn_lock.specs.Holders.{site_of}
 use Rattle.connection_laws.specs.Turns.{IsIdle}
-use Rattle.line_server.specs.Working.{WorkerSpot, Tale, Worked, AllUnworn}
+use Rattle.line_server.specs.Working.{Tale, Worked, AllUnworn}
 use Rattle.connection_laws.specs.Services.{service}
 use Rattle.line_server.proofs.workers.work_on.Given as goal
 

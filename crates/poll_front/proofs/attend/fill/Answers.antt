@@ -1,4 +1,4 @@
-use Rattle.std.proofs.Common.{◌≡◌, ap, refl, sym, ◌∙◌, subst, List, ℕ, [], Ok, Err}
+use Rattle.std.proofs.Common.{ap, refl, sym, subst, List, ℕ, Ok, Err}
 use Rattle.std.specs.Io.KnownBytes.{Appends, Consumes}
 use Rattle.gt_io.specs.declared.port.Got.TheVariants.{Bytes, Finished, NotYet}
 use Rattle.gt_io.specs.Ports.{Port}

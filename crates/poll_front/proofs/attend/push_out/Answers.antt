@@ -1,7 +1,7 @@
-use Rattle.std.proofs.Common.{◌≡◌, ◌≤◌, ◌+◌, ◌-◌, ◌++◌, ap, subst, sym, ◌∙◌, refl, arith, List, ℕ, take, drop, length, length-drop, Ok, Err}
+use Rattle.std.proofs.Common.{ap, subst, ◌∙◌, refl, arith, List, ℕ, take, length, length-drop, Ok, Err}
 use Rattle.std.specs.Io.KnownBytes.{Appends}
 use Rattle.gt_io.specs.declared.port.Took.TheVariants.{Bytes, NotYet}
-use Rattle.gt_io.specs.Ports.{Port, WritesPort, is_over}
+use Rattle.gt_io.specs.Ports.{Port, is_over}
 use Rattle.poll_front.proofs.Pushing.{tends_none, tends_write, tends_twice, open_kept, given_grows, fails_none, fails_write, fails_twice}
 use Rattle.poll_front.proofs.attend.push_out.Goals as goal
 

@@ -1,7 +1,5 @@
-use Rattle.std.proofs.Common.{◌≡◌, ◌∙◌, ◌≤◌, ◌+◌, List, ◌++◌, ◌∷◌, [], ap, sym, subst, refl, arith, length, Some}
-use Rattle.std.proofs.lemmas.Option.{slice_get-get_or}
+use Rattle.std.proofs.Common.{◌+◌, List, sym, subst, arith}
 use Rattle.poll_front.specs.declared.ends.Polled.{Polled}
-use Rattle.poll_front.specs.declared.seats.Seat.{Seat}
 use Rattle.poll_front.proofs.Letting.{Letting, letting_none, letting_next, lets_go, open_next}
 use Rattle.poll_front.proofs.front.let_go.Goals as goal
 

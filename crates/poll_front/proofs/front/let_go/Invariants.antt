@@ -1,4 +1,4 @@
-use Rattle.std.proofs.Common.{◌≡◌, ◌≤◌, ◌+◌, length}
+use Rattle.std.proofs.Common.{◌≤◌, ◌+◌, length}
 use Rattle.poll_front.specs.Tables.{AreOpenSeats}
 use Rattle.poll_front.proofs.Letting.{Letting}
 use Rattle.poll_front.proofs.front.let_go.Given as goal

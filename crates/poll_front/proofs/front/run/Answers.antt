@@ -1,4 +1,4 @@
-use Rattle.std.proofs.Common.{◌≡◌, List, sym, subst, refl}
+use Rattle.std.proofs.Common.{List, sym, subst}
 use Rattle.poll_front.specs.declared.seats.Seat.{Seat}
 use Rattle.poll_front.specs.Fronts.{FrontSpot}
 use Rattle.poll_front.specs.Tables.{first_spot, AreOpenSeats, LetsGo}

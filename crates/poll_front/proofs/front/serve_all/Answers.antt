@@ -1,16 +1,14 @@
-use Rattle.std.proofs.Common.{◌≡◌, ◌∙◌, ◌≤◌, ◌<◌, ◌+◌, ◌-◌, ◌^◌, ℕ, List, [], length, slice_get, sym, ap, subst, refl, arith, Some, None, Ok, Err, vec_len, vec_capacity, Option}
+use Rattle.std.proofs.Common.{◌≡◌, ◌∙◌, ◌≤◌, ◌<◌, ◌+◌, ◌-◌, ℕ, List, [], length, slice_get, sym, ap, subst, refl, arith, Some, None, vec_len, vec_capacity, Option}
 use Rattle.connection_laws.specs.Turns.{IsReached}
 use mathlib.Core.Logic.{dite}
 use native.Mathlib.Decide.{dec_lt}
 use Rattle.std.proofs.lemmas.Option.{slice_get-get_or, slice_get_within}
-use Rattle.gt_io.specs.Ports.{Port}
-use Rattle.poll_front.specs.declared.ends.PollEnd.{PollEnd}
 use Rattle.poll_front.specs.declared.seats.Seat.{Seat}
 use Rattle.poll_front.specs.Fronts.{FrontSpot, acted_of}
 use Rattle.poll_front.specs.Tables.{Tabled, SeatServed, AreUnwornSeats, MayGoOn, faults_told, is_worn_end}
 use Rattle.poll_front.proofs.Serving.{are_finished, can_serve, pace_few}
 use Rattle.poll_front.proofs.Tabling.{tabled_none, tabled_owed}
-use Rattle.poll_front.proofs.Looping.{Seated, opened_full, opened_seated, tabled_ready, ready_sits, served_next, worn_draws, still_unworn, some_busy, over_unworn, worn_of, over_at, same_owed, ok_by, told_sound}
+use Rattle.poll_front.proofs.Looping.{Seated, opened_full, opened_seated, ready_sits, served_next, worn_draws, still_unworn, some_busy, over_unworn, worn_of, over_at, same_owed, ok_by, told_sound}
 use Rattle.poll_front.proofs.front.serve_all.Goals as goal
 
 pub loop-init : goal.loop-init

@@ -1,9 +1,8 @@
-use Rattle.std.proofs.Common.{◌≡◌, ◌∙◌, sym, ap, subst, refl, Some}
+use Rattle.std.proofs.Common.{subst}
 use Rattle.std.specs.Box.{with_value}
 use Rattle.poll_front.specs.declared.ends.Polled.{Polled}
 use Rattle.poll_front.specs.declared.parties.Party.{Party}
 use Rattle.poll_front.specs.declared.parties.Pause.TheVariants.{Later, End}
-use Rattle.poll_front.specs.declared.seats.Seat.TheVariants.{Open, Over}
 use Rattle.poll_front.specs.Fronts.{FrontSpot, Attends}
 use Rattle.poll_front.proofs.SeatSteps.{seat_over, seat_later, seat_ended}
 use Rattle.poll_front.proofs.front.serve_seat.Goals as goal

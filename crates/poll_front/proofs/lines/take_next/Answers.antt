@@ -1,6 +1,5 @@
-use Rattle.std.proofs.Common.{◌≡◌, ◌∙◌, ◌<◌, ◌≤◌, ◌++◌, ◌∷◌, ◌+◌, [], ℕ, sym, ap, refl, arith, length, get_or, subst, Ok}
+use Rattle.std.proofs.Common.{◌∙◌, ◌++◌, ◌∷◌, ◌+◌, [], ℕ, sym, ap, refl, arith, get_or, subst}
 use Rattle.gt_io.specs.Frames.{Frame}
-use Rattle.gt_io.specs.Ports.{Harbour}
 use Rattle.request_text.specs.declared.lines.LineFault.TheVariants.{Long}
 use Rattle.connection_laws.specs.Cuts.{open_line}
 use Rattle.connection_laws.proofs.Framing.{more_is, whole_is, long_is}

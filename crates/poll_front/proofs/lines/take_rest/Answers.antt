@@ -1,5 +1,4 @@
-use Rattle.std.proofs.Common.{◌≡◌, ◌∙◌, ◌≤◌, ◌-◌, ◌+◌, ℕ, subst, refl, arith, Ok, Err}
-use Rattle.poll_front.specs.declared.parties.Party.{Party}
+use Rattle.std.proofs.Common.{◌∙◌, ℕ, subst, refl, arith, Ok, Err}
 use Rattle.poll_front.specs.Fronts.{FrontSpot, Goes}
 use Rattle.poll_front.proofs.Going.{goes_none, goes_then}
 use Rattle.poll_front.proofs.Pushing.{tends_none, tends_twice, open_kept, fails_none, fails_twice}

@@ -1,9 +1,9 @@
-use Rattle.std.proofs.Common.{◌≡◌, ◌≤◌, ◌-◌, ◌+◌, ℕ, List, Ok}
-use Rattle.gt_io.specs.Ports.{Port, IsOpen}
+use Rattle.std.proofs.Common.{◌≡◌, ◌≤◌, ◌-◌, Ok}
+use Rattle.gt_io.specs.Ports.{IsOpen}
 use Rattle.turn_lock.specs.Holders.{site_of}
 use Rattle.connection_laws.specs.Desks.{IsNamedActor}
 use Rattle.connection_laws.specs.Turns.{IsIdle, IsReached}
-use Rattle.poll_front.specs.Fronts.{Tends, StaysLive, StopsLast, Goes, HasPlaces, Counts}
+use Rattle.poll_front.specs.Fronts.{Tends, StaysLive, StopsLast, Goes, Counts}
 use Rattle.poll_front.proofs.lines.take_rest.Given as goal
 
 abbrev pub invariant-loop-party : goal.invariant-loop-party

@@ -1,5 +1,4 @@
-use Rattle.std.proofs.Common.{◌≡◌, ◌∙◌, ◌≤◌, ◌<◌, ◌-◌, ◌+◌, ℕ, List, length, ap, sym, subst, refl, arith, Ok, Err}
-use Rattle.connection_laws.specs.Acting.{told_bytes}
+use Rattle.std.proofs.Common.{◌∙◌, ℕ, ap, subst, arith, Ok, Err}
 use Rattle.poll_front.specs.declared.parties.Party.{Party}
 use Rattle.poll_front.specs.Fronts.{FrontSpot, Goes}
 use Rattle.poll_front.proofs.Going.{goes_then}

@@ -1,5 +1,5 @@
-use Rattle.std.proofs.Common.{◌≡◌, ◌≤◌, ◌-◌, ◌+◌, ℕ, List, Ok}
-use Rattle.gt_io.specs.Ports.{Port, IsOpen}
+use Rattle.std.proofs.Common.{◌≡◌, ◌≤◌, ◌-◌, ◌+◌, Ok}
+use Rattle.gt_io.specs.Ports.{IsOpen}
 use Rattle.turn_lock.specs.Holders.{site_of}
 use Rattle.connection_laws.specs.Desks.{IsNamedActor}
 use Rattle.connection_laws.specs.Turns.{IsIdle, IsReached}

@@ -1,4 +1,4 @@
-use Rattle.std.proofs.Common.{◌≡◌, ℕ, List, rules, subst, sym}
+use Rattle.std.proofs.Common.{◌≡◌, ℕ, rules, subst}
 use Rattle.std.proofs.lemmas.Grind.{common_steps}
 use Rattle.gt_base.specs.Roomy.{Roomy}
 use Rattle.connection_laws.specs.Attending.{spot, Attends}

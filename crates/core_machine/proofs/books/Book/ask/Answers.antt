@@ -1,9 +1,9 @@
-use Rattle.std.proofs.Common.{◌≡◌, ℕ, ◌<◌, ◌≤◌, ◌⊎◌, inl, inr, length, refl, sym, ap, subst, ◌∙◌, arith}
-use Rattle.std.specs.Prelude.{IfOk, OnOk, OnErr, Result}
-use Rattle.std.proofs.lemmas.Result.{IfOk-weaker, on_err_weaker}
+use Rattle.std.proofs.Common.{◌<◌, length, sym, ap, subst, ◌∙◌, arith}
+use Rattle.std.specs.Prelude.{IfOk}
+use Rattle.std.proofs.lemmas.Result.{on_err_weaker}
 use Rattle.gt_base.specs.declared.limits.TheConstants.{MAX_STEPS}
 use Rattle.gtrbac_model.specs.History.{IsNamedWish, ask}
-use Rattle.core_machine.specs.Books.{Asks, BookView, GoesOn, IsLegalBook, Ticks, now_in}
+use Rattle.core_machine.specs.Books.{Asks, BookView, IsLegalBook}
 use Rattle.core_machine.specs.Kept.{view_of}
 use Rattle.core_machine.proofs.Sames.{on_ok, step_err, step_not_full, step_ok}
 use Rattle.core_machine.proofs.books.Book.ask.Goals as goal

@@ -1,4 +1,4 @@
-use Rattle.std.proofs.Common.{◌≡◌, subst}
+use Rattle.std.proofs.Common.{subst}
 use Rattle.gtrbac_model.specs.Safety.{IsSafe}
 use Rattle.policy_words.specs.Valid.{IsWellFormed}
 use Rattle.core_machine.specs.Books.{BookView, HasOnlyModel, IsBook}

@@ -1,4 +1,4 @@
-use Rattle.std.proofs.Common.{◌≡◌, ap, ◌∙◌}
+use Rattle.std.proofs.Common.{ap, ◌∙◌}
 use Rattle.core_machine.specs.Books.{BookView, now_in}
 use Rattle.core_machine.proofs.books.Book.now.Goals as goal
 

@@ -1,4 +1,4 @@
-use Rattle.std.proofs.Common.{◌≡◌, sym, subst}
+use Rattle.std.proofs.Common.{sym, subst}
 use Rattle.gtrbac_model.specs.WholePolicy.{IsPolicy}
 use Rattle.session_table.specs.Tables.{table_of}
 use Rattle.policy_words.specs.Naming.{NamedPolicy}

@@ -1,5 +1,4 @@
-use Rattle.std.proofs.Common.{◌≡◌, ℕ, sym, subst, ap, ◌∙◌}
-use Rattle.gtrbac_model.specs.Sessions.{Table}
+use Rattle.std.proofs.Common.{ℕ, subst}
 use Rattle.session_table.specs.Tables.{NotBefore, table_of}
 use Rattle.core_machine.specs.Books.{BookView, IsTableIn, now_in}
 use Rattle.core_machine.proofs.Asks.{table_is}

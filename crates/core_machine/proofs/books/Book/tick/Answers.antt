@@ -1,8 +1,6 @@
-use Rattle.std.proofs.Common.{◌≡◌, ℕ, ◌<◌, ◌≤◌, ◌⊎◌, inl, inr, length, refl, sym, ap, subst, ◌∙◌, arith}
-use Rattle.std.specs.Prelude.{IfOk, OnOk, OnErr, Result}
+use Rattle.std.proofs.Common.{◌≡◌, ◌<◌, ◌≤◌, ◌⊎◌, inl, inr, length, refl, sym, ap, subst, ◌∙◌, arith}
 use Rattle.std.proofs.lemmas.Result.{IfOk-weaker, on_err_weaker}
-use Rattle.gtrbac_model.specs.History.{IsNamedWish, ask}
-use Rattle.core_machine.specs.Books.{Asks, BookView, GoesOn, IsLegalBook, Ticks, now_in}
+use Rattle.core_machine.specs.Books.{BookView, GoesOn, IsLegalBook, Ticks, now_in}
 use Rattle.core_machine.specs.Kept.{view_of}
 use Rattle.std.proofs.lemmas.Map.Keys.{le_from_is_le}
 use Rattle.gt_base.specs.declared.limits.TheConstants.{MAX_STEPS}

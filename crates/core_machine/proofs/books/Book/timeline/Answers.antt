@@ -1,4 +1,4 @@
-use Rattle.std.proofs.Common.{◌≡◌, subst, ap}
+use Rattle.std.proofs.Common.{subst}
 use Rattle.session_table.specs.Tables.{table_of}
 use Rattle.time_engine.specs.Histories.{Follows}
 use Rattle.core_machine.specs.Books.{BookView, HasWaiting, model_in}

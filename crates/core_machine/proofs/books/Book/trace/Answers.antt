@@ -1,4 +1,4 @@
-use Rattle.std.proofs.Common.{◌≡◌, ℕ, subst}
+use Rattle.std.proofs.Common.{ℕ, subst}
 use Rattle.time_engine.specs.Traces.{AreSome, Ascends}
 use Rattle.core_machine.specs.Books.{BookView, HasBases, model_in}
 use Rattle.core_machine.proofs.books.Book.trace.Goals as goal

@@ -1,4 +1,4 @@
-use Rattle.std.proofs.Common.{◌≡◌, ℕ, ◌++◌, sym, ap, ◌∙◌}
+use Rattle.std.proofs.Common.{ℕ, ◌++◌, sym, ap, ◌∙◌}
 use Rattle.policy_words.specs.Naming.{NamedPolicy}
 use Rattle.published_copies.specs.Copied.{Copied}
 use Rattle.snapshot_readers.proofs.board.Board.new.Goals as goal
