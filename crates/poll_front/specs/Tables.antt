@@ -166,15 +166,15 @@ abbrev pub AreOpenSeats : Harbour → ℕ → List Seat → Type 0
 AreOpenSeats a n seats =
     (i : ℕ) (s : Seat) → n ≤ i → slice_get seats i ≡ Some s → IsOpenSeat s → IsOpen a (i + 1)
 
-pub record LetsGo (a b : Harbour) (seats : List Seat) (ends : List Polled) : Type 0 where
+pub record LetsGo (a b : Harbour) (seats : List Seat) (polled : List Polled) : Type 0 where
   pub told : b.told ≡ a.told
   pub nexts : b.nexts ≡ a.nexts
   pub opened : b.opened ≡ a.opened
   pub faults : b.faults ≡ a.faults
   pub ends : b.ends ≡ a.ends
-  pub count : length ends ≡ length seats
+  pub count : length polled ≡ length seats
   pub each : (i : ℕ) (s : Seat) (e : Polled) → slice_get seats i ≡ Some s
-      → slice_get ends i ≡ Some e → EndsSeatAt (a.port (i + 1)) (b.port (i + 1)) a.nexts s e
+      → slice_get polled i ≡ Some e → EndsSeatAt (a.port (i + 1)) (b.port (i + 1)) a.nexts s e
 
 abbrev pub AreUnwornEnds : List Polled → Type 0
 AreUnwornEnds ends =
@@ -251,19 +251,19 @@ module _ {M : Type 0} (np : NamedPolicy) (first : List Entry) (legal : List Entr
 
   -- a run to its end
   pub record Ran (before after : Holder M) (clock clock' : Option (ℕ → ℕ)) (start b : Harbour)
-      (ends : List Polled) (end : RunEnd) : Type 0 where
+      (polled : List Polled) (end : RunEnd) : Type 0 where
     pub pace : Pace
     pub turns : List Turn
     pub running : Running np first legal now number (first_spot before clock)
         (record { pass = after; clock = clock'; pace = pace }) turns
-    pub count : length ends ≡ b.opened
-    pub links : (i : ℕ) (e : Polled) → slice_get ends i ≡ Some e
+    pub count : length polled ≡ b.opened
+    pub links : (i : ℕ) (e : Polled) → slice_get polled i ≡ Some e
         → EndsLink np (start.port (i + 1)) (b.port (i + 1)) e.asked e.denied
         (acted_of (i + 1) turns)
         e.outcome
         × IsLetIn (b.port (i + 1)) e.outcome × IsLetGo b.nexts (b.port (i + 1)) e.outcome
     pub fresh : (k : ℕ) → 1 ≤ k → k ≤ b.opened → IsBlank (start.port k)
     pub range : Each (λ (t : Turn). (1 ≤ t.link) × (t.link ≤ b.opened)) turns
-    pub runs : RunsTo start b after.draws ends end
+    pub runs : RunsTo start b after.draws polled end
     pub faults : FaultsAreLast start b
     pub ends : EndsAreLast start b

@@ -1,5 +1,4 @@
-use Rattle.std.proofs.Common.{◌≡◌, rules, subst}
-use Rattle.std.proofs.lemmas.Grind.{common_steps}
+use Rattle.std.proofs.Common.{◌≡◌, subst, sym}
 use Rattle.turn_lock.specs.Holders.{Holder, site_of}
 use Rattle.locked_history.specs.Fronts.{by}
 use Rattle.connection_laws.specs.Services.{service_at}
@@ -11,8 +10,8 @@ use Rattle.line_server.proofs.serve.attend_at.Goals as goal
 
 pub returns-clause-attends : goal.returns-clause-attends
 returns-clause-attends g c =
-    let pass_is : c.attend.new.answerer.pass.now ≡ c.pass-1.given = search (rules, common_steps) in
-    let clock_is : c.attend.new.answerer.clock.now ≡ c.clock-1.given = search (rules, common_steps) in
+    let pass_is = sym (c.pass-1.given.1 (sym c.attend.ensures.keeps.1)) in
+    let clock_is = sym (c.clock-1.given.1 (sym c.attend.ensures.keeps.2)) in
     let m = g.M.Machine in
     let k = g.C.Clock in
     let t = g.L.Link in
@@ -21,12 +20,12 @@ returns-clause-attends g c =
     let asks = ClerkAsks {M = g.row.M.Denot} (service_at g.M.Keeps.list m.legal m.now_of s.desk.now s.policy.now) (by c.args.pass.now.number s.conn) in
     let o = spot (clerk_view c.args.pass.now (k.readings c.args.clock.now)) c.args.hearing.now.talk (t.traffic c.args.link.now).given in
     let x = (lent_attends g.M.Keeps.list m.legal m.now_of k.readings s.policy.now _ clerk c.args.hearing.now.talk c.attend.new.hearing.talk (t.traffic c.args.link.now).given (t.traffic c.attend.new.link).given (t.traffic c.args.link.now) (t.traffic c.attend.new.link) c.attend.result c.attend.ensures.attends).1 in
-    subst (λ (p : Holder g.row.M.Denot). Attends s.policy.now asks WearsClerk o (spot (clerk_view p (k.readings c.clock-1.given)) c.attend.new.hearing.talk (t.traffic c.attend.new.link).given) (t.traffic c.args.link.now) (t.traffic c.attend.new.link) c.attend.result) pass_is
+    subst (λ (p : Holder g.row.M.Denot). Attends s.policy.now asks WearsClerk o (spot (clerk_view p (k.readings c.clock-1.given.0)) c.attend.new.hearing.talk (t.traffic c.attend.new.link).given) (t.traffic c.args.link.now) (t.traffic c.attend.new.link) c.attend.result) pass_is
     (subst (λ (q : g.row.C.Denot). Attends s.policy.now asks WearsClerk o (spot (clerk_view clerk.pass.now (k.readings q)) c.attend.new.hearing.talk (t.traffic c.attend.new.link).given) (t.traffic c.args.link.now) (t.traffic c.attend.new.link) c.attend.result) clock_is x)
 
 pub returns-clause-pass : goal.returns-clause-pass
 returns-clause-pass g c =
-    let pass_is : c.attend.new.answerer.pass.now ≡ c.pass-1.given = search (rules, common_steps) in
+    let pass_is = sym (c.pass-1.given.1 (sym c.attend.ensures.keeps.1)) in
     let m = g.M.Machine in
     let k = g.C.Clock in
     let t = g.L.Link in

@@ -1,5 +1,4 @@
-use Rattle.std.proofs.Common.{◌≡◌, refl, rules, subst}
-use Rattle.std.proofs.lemmas.Grind.{common_steps}
+use Rattle.std.proofs.Common.{refl, subst, sym}
 use Rattle.turn_lock.specs.Holders.{Holder}
 use Rattle.locked_history.specs.Fronts.{by}
 use Rattle.connection_laws.specs.Services.{service_at}
@@ -12,8 +11,8 @@ use Rattle.poll_front.proofs.hear.hear.Goals as goal
 
 pub returns-clause-hears : goal.returns-clause-hears
 returns-clause-hears g c =
-    let pass_is : c.act_by-told.new.answerer.pass.now ≡ c.pass-1.given = search (rules, common_steps) in
-    let clock_is : c.act_by-told.new.answerer.clock.now ≡ c.clock-1.given = search (rules, common_steps) in
+    let pass_is = sym (c.pass-1.given.1 (sym c.act_by-told.ensures.keeps.1)) in
+    let clock_is = sym (c.clock-1.given.1 (sym c.act_by-told.ensures.keeps.2)) in
     let m = g.M.Machine in
     let k = g.C.Clock in
     let s = c.args.server.now in
@@ -27,12 +26,12 @@ returns-clause-hears g c =
     let x = lent_acts g.M.Keeps.list m.legal m.now_of k.readings s.policy.now _ clerk talk0 c.act_by-told.new.talk c.args.line.now c.act_by-told.result c.act_by-told.ensures.acts in
     let y = hears_acts v who (clerk_view c.args.pass.now (k.readings c.args.clock.now)) (clerk_view clerk.pass.now (k.readings clerk.clock.now)) talk talk0 c.act_by-told.new.talk c.count.new.talk c.args.pace.now pace c.args.line.now c.act_by-told.result
     refl x refl (c.count.ensures s.policy.now x.acted.answer x.told_is) in
-    subst (λ (p : Holder g.row.M.Denot). Hears s.policy.now (g.M.Keeps.list root) (m.legal root) (m.now_of root) who c.args.pass.now p talk c.count.new.talk c.args.pace.now pace (k.readings c.args.clock.now) (k.readings c.clock-1.given) c.args.line.now c.act_by-told.result) pass_is
+    subst (λ (p : Holder g.row.M.Denot). Hears s.policy.now (g.M.Keeps.list root) (m.legal root) (m.now_of root) who c.args.pass.now p talk c.count.new.talk c.args.pace.now pace (k.readings c.args.clock.now) (k.readings c.clock-1.given.0) c.args.line.now c.act_by-told.result) pass_is
     (subst (λ (q : g.row.C.Denot). Hears s.policy.now (g.M.Keeps.list root) (m.legal root) (m.now_of root) who c.args.pass.now clerk.pass.now talk c.count.new.talk c.args.pace.now pace (k.readings c.args.clock.now) (k.readings q) c.args.line.now c.act_by-told.result) clock_is y)
 
 pub returns-clause-reached : goal.returns-clause-reached
 returns-clause-reached g c =
-    let pass_is : c.act_by-told.new.answerer.pass.now ≡ c.pass-1.given = search (rules, common_steps) in
+    let pass_is = sym (c.pass-1.given.1 (sym c.act_by-told.ensures.keeps.1)) in
     let clerk = c.act_by-told.new.answerer in
     subst (λ (p : Holder g.row.M.Denot). IsReached (g.M.Machine.legal c.args.server.now.desk.now.root) (g.M.Machine.now_of c.args.server.now.desk.now.root) p.seen clerk.reached) pass_is
     (subst (λ s. IsReached (g.M.Machine.legal s.now.desk.now.root) (g.M.Machine.now_of s.now.desk.now.root) clerk.pass.now.seen clerk.reached) c.act_by-told.ensures.keeps.0 c.act_by-told.ensures.ready.3)
