@@ -60,6 +60,7 @@ module _ {M R C G : Type 0} (list : M → List Entry) (legal : M → List Entry 
   KeepsLent j k =
       (k.server ≡ j.server) × (k.pass.ghost_name ≡ j.pass.ghost_name)
       × (k.clock.ghost_name ≡ j.clock.ghost_name)
+      × (k.reached.ghost_name ≡ j.reached.ghost_name)
 
   -- so it is behind a request, which got what it gets at the desk
   pub record ClerkGets (j k : Clerk M R C G) (actor : Actor) (request : Request) (answer : Answer)

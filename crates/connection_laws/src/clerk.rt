@@ -28,7 +28,7 @@ pub struct Clerk<'a, M: Machine, R, C, G> {
     pub pass: &'a mut Pass<M>,
     pub clock: &'a mut C,
     /// A minute that the history has come to as far as the pass has seen it, where one is known.
-    pub reached: Option<Instant>,
+    pub reached: &'a mut Option<Instant>,
 }
 
 impl<'a, M: Machine, R: Wait, C: Clock, G: Gate> Answerer for Clerk<'a, M, R, C, G> {
@@ -38,7 +38,7 @@ impl<'a, M: Machine, R: Wait, C: Clock, G: Gate> Answerer for Clerk<'a, M, R, C,
         × MayBeAsked k.server.now.policy.now (M.named k.server.now.desk.now.root)
         × RepliesCanBeTold k.server.now.policy.now (M.legal k.server.now.desk.now.root)
         × IsReached (M.legal k.server.now.desk.now.root) (M.now_of k.server.now.desk.now.root)
-        k.pass.now.seen k.reached };
+        k.pass.now.seen k.reached.now };
 
     ghost asks = { ClerkGets M.list M.legal M.now_of C.readings };
 
@@ -47,11 +47,12 @@ impl<'a, M: Machine, R: Wait, C: Clock, G: Gate> Answerer for Clerk<'a, M, R, C,
     ghost use Rattle.std.proofs.Common.{refl, ◌∙◌};
 
     ghost keeps = { λ j k. (k.server ≡ j.server) × (k.pass.ghost_name ≡ j.pass.ghost_name)
-        × (k.clock.ghost_name ≡ j.clock.ghost_name) };
+        × (k.clock.ghost_name ≡ j.clock.ghost_name)
+        × (k.reached.ghost_name ≡ j.reached.ghost_name) };
 
-    ghost keeps_refl = { λ k. (refl, refl, refl) };
+    ghost keeps_refl = { λ k. (refl, refl, refl, refl) };
 
-    ghost keeps_trans = { λ i j k x y. (y.0 ∙ x.0, y.1 ∙ x.1, y.2 ∙ x.2) };
+    ghost keeps_trans = { λ i j k x y. (y.0 ∙ x.0, y.1 ∙ x.1, y.2 ∙ x.2, y.3 ∙ x.3) };
 
     ghost asks_keep = { λ j k actor request answer readings entries x. x.keeps };
 
@@ -74,7 +75,7 @@ impl<'a, M: Machine, R: Wait, C: Clock, G: Gate> Answerer for Clerk<'a, M, R, C,
             reading,
             actor,
             request,
-            &mut self.reached,
+            self.reached,
             room,
         )
     }

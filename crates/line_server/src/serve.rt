@@ -1,5 +1,5 @@
 //! A link, from its first byte to its end.
-ghost use Rattle.std.specs.Prelude.{◌≡◌, ◌+◌, ◌<◌, ◌≤◌, ◌^◌, true, false};
+ghost use Rattle.std.specs.Prelude.{◌≡◌, ◌+◌, ◌<◌, ◌≤◌, ◌^◌, true, false, None};
 ghost use Rattle.gt_base.specs.declared.limits.TheConstants.{MAX_BYTES};
 ghost use Rattle.gt_io.specs.Frames.{blank_frame};
 ghost use Rattle.turn_lock.specs.Holders.{site_of};
@@ -12,7 +12,7 @@ ghost use Rattle.connection_laws.specs.Clerks.{clerk_view, WearsClerk, ClerkAsks
 ghost use Rattle.line_server.specs.Serving.{link_view, Serves};
 
 use connection_laws::{Clerk, Hearing, LinkEnd, Report, Server, attend};
-use gt_base::Machine;
+use gt_base::{Instant, Machine};
 use gt_io::{Clock, Gate, Link};
 use locked_history::Desk;
 use policy_book::Policy;
@@ -25,12 +25,14 @@ fn attend_at<M: Machine, R: Wait, L: Link, C: Clock, G: Gate>(
     server: &Server<M, R, G>,
     pass: &mut Pass<M>,
     clock: &mut C,
+    reached: &mut Option<Instant>,
     link: &mut L,
     hearing: &mut Hearing,
 ) -> LinkEnd
     requires idle { IsIdle (site_of server.now.desk.now) pass.old }
     requires named { MayBeAsked server.now.policy.now (M.named server.now.desk.now.root) }
     requires replies { RepliesCanBeTold server.now.policy.now (M.legal server.now.desk.now.root) }
+    requires reached { reached.old ≡ None }
     requires start { IsStart hearing.old.talk }
     requires frame { hearing.old.framer ≡ blank_frame }
     requires open { (L.traffic link.old).finished ≡ false }
@@ -51,7 +53,7 @@ fn attend_at<M: Machine, R: Wait, L: Link, C: Clock, G: Gate>(
         server,
         pass,
         clock,
-        reached: None,
+        reached,
     };
     attend(&mut clerk, link, hearing)
 }
@@ -94,7 +96,8 @@ pub fn serve_link<M: Machine, R: Wait, L: Link, C: Clock, G: Gate>(
         gate,
     };
     let mut hearing = Hearing::new(alloc, *calls);
-    let outcome = attend_at(&server, pass, clock, link, &mut hearing);
+    let mut reached = None;
+    let outcome = attend_at(&server, pass, clock, &mut reached, link, &mut hearing);
     *calls = hearing.talk.calls;
     Report {
         asked: hearing.talk.asked,

@@ -8,14 +8,14 @@ use Rattle.poll_front.specs.Tables.{EndsSeat, EndsSeatAt, AreOpenSeats, LetsGo}
 use Rattle.poll_front.proofs.ListSteps.{push_cases}
 
 -- the links of the first n seats were let go
-pub record Letting (a b : Harbour) (seats : List Seat) (ends : List Polled) (n : ℕ) : Type 0 where
+pub record Letting (a b : Harbour) (seats : List Seat) (polled : List Polled) (n : ℕ) : Type 0 where
   pub told : b.told ≡ a.told
   pub nexts : b.nexts ≡ a.nexts
   pub opened : b.opened ≡ a.opened
   pub faults : b.faults ≡ a.faults
   pub ends : b.ends ≡ a.ends
-  pub count : length ends ≡ n
-  pub each : (i : ℕ) (s : Seat) (e : Polled) → slice_get seats i ≡ Some s → slice_get ends i ≡ Some e → EndsSeatAt (a.port (i + 1)) (b.port (i + 1)) a.nexts s e
+  pub count : length polled ≡ n
+  pub each : (i : ℕ) (s : Seat) (e : Polled) → slice_get seats i ≡ Some s → slice_get polled i ≡ Some e → EndsSeatAt (a.port (i + 1)) (b.port (i + 1)) a.nexts s e
   pub ahead : (k : ℕ) → n < k → b.port k ≡ a.port k
 
 pub letting_none : (a : Harbour) (seats : List Seat) (ends : List Polled) → ends ≡ [] → Letting a a seats ends 0

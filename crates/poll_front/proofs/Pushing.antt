@@ -81,12 +81,12 @@ fails_twice a b d c x mid y = λ live.
     let l = x live in
     let m = y (mid live) in
     let none = live_sound (b.port c) (mid live) in
-    let open = live_open (b.port c) (mid live) in
+    let opened = live_open (b.port c) (mid live) in
     let l0 = l.0 in
     let l1 = l.1 in
     let m0 = m.0 in
     let m1 = m.1 in
-    (omega (arith, l0, m0, none), omega (arith, l1, m1, open))
+    (omega (arith, l0, m0, none), omega (arith, l1, m1, opened))
 
 write_faults : (before now : ℕ) (q : Port) (result : Result Took Failed) → q.last ≡ Wrote result → FailsOnce before now result → now ≤ before + faults_of q
 write_faults before now q (Ok t) is x = let kept : now ≡ before = x.kept in omega (arith, kept)
