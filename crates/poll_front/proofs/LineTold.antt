@@ -24,7 +24,8 @@ use Rattle.request_text.proofs.ReadBySpelling.{long_read}
 use Rattle.connection_laws.specs.Desks.{IsNamedActor}
 use Rattle.connection_laws.specs.Services.{service}
 use Rattle.connection_laws.specs.Clerks.{ClerkView, clerk_view, WearsClerk, ClerkAsks}
-use Rattle.connection_laws.proofs.Acting.{acts_of}
+use Rattle.connection_laws.specs.Acting.{counted_talk}
+use Rattle.poll_front.proofs.Hearing.{hears_acts}
 use Rattle.connection_laws.proofs.ActingBy.{acts_bad}
 use Rattle.poll_front.proofs.Turning.{running_on, acted_here}
 use Rattle.connection_laws.proofs.Telling.{IsUnwornTold, told_unworn}
@@ -94,7 +95,8 @@ long_heard {M} np first legal now number c p talk line named long =
     let v = service np first legal now in
     let k : ClerkView M = clerk_view p.pass p.clock in
     let heard : Talk = record talk { calls = p.pace.calls } in
-    let x = acts_of v (by number c) k k heard heard line (Bad Long) (acts_bad np (ClerkAsks v (by number c)) (WearsClerk k) line heard k Long (long_read np Nobody false line long) named) in
+    let a = acts_bad np (ClerkAsks v (by number c)) (WearsClerk k) line heard k Long (long_read np Nobody false line long) named in
+    let x = hears_acts v (by number c) k k talk heard heard (counted_talk heard a.acted.answer) p.pace p.pace line (Bad Long) refl a refl refl in
     let no_ask = ap (λ (y : Answer). one_where (is_replied y)) x.told_is in
     let no_denial = ap (λ (y : Answer). one_where (is_denied y)) x.told_is in
     record {
@@ -104,10 +106,10 @@ long_heard {M} np first legal now number c p talk line named long =
       gets = x.gets;
       mine = x.mine;
       grows = x.grows;
-      actor = ap (λ (t : Talk). t.actor) x.talk_is;
+      actor = x.actor;
       asked = omega (arith, no_ask);
       denied = omega (arith, no_denial);
-      calls = ap (λ (t : Talk). t.calls) x.talk_is;
+      calls = x.calls;
       few = x.few;
       named = x.named;
       reads = x.reads;
