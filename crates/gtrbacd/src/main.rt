@@ -3,7 +3,7 @@
 //! one thread at one port.
 #![tactic(auto)]
 
-ghost use Rattle.std.specs.Prelude.{◌≡◌, length, All, IfOk};
+ghost use Rattle.std.specs.Prelude.{◌≡◌, ◌+◌, length, map, [], ◌∷◌, All, IfOk, Some};
 ghost use Rattle.snapshot_readers.specs.Seats.{IsNewViewer};
 ghost use Rattle.gtrbac_daemon.specs.Crew.{IsNew};
 
@@ -43,7 +43,8 @@ fn words(rt: &HostRuntime) -> Result<Vec<String>, AllocError> {
 
 /// A worker with a door at the port, the wall clock and an open gate.
 fn worker<'a>(rt: &'a HostRuntime, port: u16) -> Hired<'a>
-    ensures { IsNew result }
+    ensures new { IsNew result }
+    ensures port { result.door.port ≡ Some port }
 {
     Worker {
         door: HostDoor::new(rt, rt.alloc(), port),
@@ -58,6 +59,9 @@ fn worker<'a>(rt: &'a HostRuntime, port: u16) -> Hired<'a>
 fn hire<'a>(rt: &'a HostRuntime) -> Result<Vec<Hired<'a>>, AllocError>
     ensures size { IfOk result (λ crew. length crew.items ≡ 4) }
     ensures fresh { IfOk result (λ crew. All (λ w. IsNew w) crew.items) }
+    ensures ports { IfOk result (λ crew. map (λ w. w.door.port) crew.items
+        ≡ Some FIRST_PORT ∷ Some (FIRST_PORT + 1) ∷ Some (FIRST_PORT + 2)
+        ∷ Some (FIRST_PORT + 3) ∷ []) }
 {
     let mut crew = Vec::with_capacity(rt.alloc(), 4)?;
     crew.push_reserved(worker(rt, FIRST_PORT));
@@ -83,7 +87,8 @@ fn let_go(mut crew: Vec<Hired<'_>>) {
 
 /// A viewer with a door at the port and an open gate.
 fn viewer<'a>(rt: &'a HostRuntime, port: u16) -> Watching<'a>
-    ensures { IsNewViewer result }
+    ensures new { IsNewViewer result }
+    ensures port { result.door.port ≡ Some port }
 {
     Viewer {
         door: HostDoor::new(rt, rt.alloc(), port),
@@ -97,6 +102,8 @@ fn viewer<'a>(rt: &'a HostRuntime, port: u16) -> Watching<'a>
 fn seat<'a>(rt: &'a HostRuntime) -> Result<Vec<Watching<'a>>, AllocError>
     ensures size { IfOk result (λ viewers. length viewers.items ≡ 2) }
     ensures fresh { IfOk result (λ viewers. All (λ v. IsNewViewer v) viewers.items) }
+    ensures ports { IfOk result (λ viewers. map (λ v. v.door.port) viewers.items
+        ≡ Some FIRST_VIEW ∷ Some (FIRST_VIEW + 1) ∷ []) }
 {
     let mut viewers = Vec::with_capacity(rt.alloc(), 2)?;
     viewers.push_reserved(viewer(rt, FIRST_VIEW));

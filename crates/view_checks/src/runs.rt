@@ -1,5 +1,5 @@
-//! Runs of one worker and one viewer, and how they are told.
-ghost use Rattle.std.specs.Prelude.{◌≡◌, length, All, IfOk};
+//! Runs of one or two workers and a viewer, and how they are told.
+ghost use Rattle.std.specs.Prelude.{◌≡◌, ◌≤◌, length, All, IfOk};
 ghost use Rattle.gt_io.specs.Links.{IsFresh};
 ghost use Rattle.snapshot_readers.specs.Seats.{IsNewViewer};
 ghost use Rattle.gtrbac_daemon.specs.Crew.{IsNew};
@@ -24,7 +24,7 @@ pub struct Party<'a> {
 }
 
 /// The words after the program's name, the text of the policy P, the minutes of the birth and of
-/// the worker's clock, the worker and the viewer.
+/// the workers' clocks, the worker, a second one if there is one, and the viewer.
 #[derive(Clone, Copy)]
 pub struct Views<'a> {
     pub words: &'a [&'a str],
@@ -32,6 +32,7 @@ pub struct Views<'a> {
     pub birth: u32,
     pub now: u32,
     pub worker: Party<'a>,
+    pub second: Option<Party<'a>>,
     pub viewer: Party<'a>,
 }
 
@@ -192,18 +193,21 @@ fn tell<G: Gate>(
     Ok(text.into())
 }
 
-/// A crew of one worker.
+/// A crew of one worker, or of two.
 fn hire<G: Gate + Copy>(
     alloc: Global,
-    door: MemDoor,
-    clock: MemClock,
+    first: (MemDoor, MemClock),
+    second: Option<(MemDoor, MemClock)>,
     gate: G,
 ) -> Result<Vec<Worker<MemDoor, MemClock, G>>, Memory>
-    ensures size { IfOk result (λ crew. length crew.items ≡ 1) }
+    ensures size { IfOk result (λ crew. (1 ≤ length crew.items) × (length crew.items ≤ 2)) }
     ensures fresh { IfOk result (λ crew. All (λ w. IsNew w) crew.items) }
 {
-    let mut crew = Vec::with_capacity(alloc, 1)?;
-    crew.push_reserved(worker(alloc, door, clock, gate));
+    let mut crew = Vec::with_capacity(alloc, 2)?;
+    crew.push_reserved(worker(alloc, first.0, first.1, gate));
+    if let Some((door, clock)) = second {
+        crew.push_reserved(worker(alloc, door, clock, gate));
+    }
     Ok(crew)
 }
 
@@ -274,7 +278,8 @@ fn serve<R: Threads + Wait + Sync, G: Gate + Copy + Send>(
     mut viewers: Vec<Viewer<MemDoor, G>>,
     scene: &mut Scene,
 ) -> Result<List<u8>, Memory>
-    requires size { (length crew.items ≡ 1) × (length viewers.items ≡ 1) }
+    requires size { (1 ≤ length crew.items) × (length crew.items ≤ 2) }
+    requires one { length viewers.items ≡ 1 }
     requires fresh { All (λ w. IsNew w) crew.items }
     requires new { All (λ v. IsNewViewer v) viewers.items }
 {
@@ -294,7 +299,17 @@ fn serve<R: Threads + Wait + Sync, G: Gate + Copy + Send>(
     text
 }
 
-/// Plays a run, with this gate for the worker and the viewer.
+/// The door and the clock of a second worker, if there is one.
+fn second(alloc: Global, run: &Views<'_>) -> Result<Option<(MemDoor, MemClock)>, Memory> {
+    let Some(party) = run.second else {
+        return Ok(None);
+    };
+    let door = door(alloc, &party)?;
+    let clock = clock(alloc, run.now)?;
+    Ok(Some((door, clock)))
+}
+
+/// Plays a run, with this gate for workers and viewer.
 pub fn play<R: Threads + Wait + Sync, G: Gate + Copy + Send>(
     rt: &R,
     alloc: Global,
@@ -305,7 +320,8 @@ pub fn play<R: Threads + Wait + Sync, G: Gate + Copy + Send>(
     let worker_door = door(alloc, &run.worker)?;
     let viewer_door = door(alloc, &run.viewer)?;
     let now = clock(alloc, run.now)?;
-    let crew = hire(alloc, worker_door, now, gate)?;
+    let second = second(alloc, run)?;
+    let crew = hire(alloc, (worker_door, now), second, gate)?;
     let Ok(viewers) = seat(alloc, viewer_door, gate) else {
         let_go(crew);
         return Err(AllocError);

@@ -21,6 +21,7 @@ const RUN: Views<'static> = Views {
     birth: TEN,
     now: TEN + 5,
     worker: NOBODY,
+    second: None,
     viewer: NOBODY,
 };
 
@@ -104,6 +105,80 @@ fn told(alloc: Global, entries: &[u8]) -> Result<Vec<u8>, Memory> {
         b" ended\nviewer done\nborn 2026-01-05T10:00\ntick 0.1 to 2026-01-05T10:05 bound 2026-01-05T10:05\nask 0.1 u now = now 2026-01-05T10:05\nask 0.1 u now = now 2026-01-05T10:05\nstatus 0\n",
     )?;
     Ok(text)
+}
+
+/// A gate that lets worker 0 make three requests, then worker 1 three, and then the viewer five; the
+/// fourth request of either worker waits for that.
+#[derive(Clone, Copy)]
+struct InTurn<'a> {
+    first: &'a AtomicU64,
+    second: &'a AtomicU64,
+    viewer: &'a AtomicU64,
+}
+
+/// Waits a while for so many calls.
+fn wait_for(calls: &AtomicU64, many: u64) {
+    for _ in 0..400_000_000u32 {
+        if calls.load(Ordering::SeqCst) >= many {
+            return;
+        }
+    }
+}
+
+impl Gate for InTurn<'_> {
+    fn pass(&self, worker: u32, call: u64) {
+        if worker == 1 && call == 1 {
+            wait_for(self.first, 4);
+        }
+        if worker >= 2 && call == 1 {
+            wait_for(self.second, 4);
+        }
+        let calls = match worker {
+            0 => self.first,
+            1 => self.second,
+            _ => self.viewer,
+        };
+        calls.store(call, Ordering::SeqCst);
+        if worker < 2 && call == 4 {
+            wait_for(self.viewer, 5);
+        }
+    }
+}
+
+const TEAM: &[u8] = b"role doctor\nrole nurse\nuser ada\nuser ben\nperm read\nadmin ada\nenabled doctor\nassigned ben doctor\ngranted read doctor\n";
+
+/// What two workers and a viewer are told over that policy, where worker 0 makes its last request
+/// before worker 1, or after it.
+fn told_in_turn(alloc: Global, first_first: bool) -> Result<Vec<u8>, Memory> {
+    let mut text = Vec::new(alloc);
+    text.extend_from_slice(
+        b"X",
+    )?;
+    Ok(text)
+}
+
+#[test]
+fn a_viewer_is_told_what_two_workers_have_done(rt: HostRuntime) -> Result<(), Fail> {
+    let run = Views {
+        policy: TEAM,
+        worker: sending(b"as ben\nopen\nactivate 1 doctor\ncheck 1 read\nnow\n"),
+        second: Some(sending(b"as ada\nopen\nrequest 50:enable nurse\nclose 2\nnow\n")),
+        viewer: sending(
+            b"as ben\nstatus enabled doctor\nevent enable doctor\nactive 1 doctor\ncheck 1 read\nopen\n",
+        ),
+        ..RUN
+    };
+    let first = AtomicU64::new(0);
+    let second = AtomicU64::new(0);
+    let viewer = AtomicU64::new(0);
+    let gate = InTurn {
+        first: &first,
+        second: &second,
+        viewer: &viewer,
+    };
+    let text = play(&rt, rt.alloc(), &run, gate)?;
+    assert_eq!(rt; text.as_slice(), told_in_turn(rt.alloc(), true)?.as_slice());
+    Ok(())
 }
 
 #[test]
