@@ -14,11 +14,13 @@ use Rattle.request_text.specs.Phrases.{read_line}
 use Rattle.core_machine.specs.Looks.{is_look}
 use Rattle.connection_laws.specs.Lines.{Answer, silence, agreed, bad, accepted, shown, no_memory, no_steps, view_only, worn, Acted, actor_after, readings_of, entries_of, GetsBy, AreActedBy}
 use Rattle.connection_laws.specs.Attending.{StepsBy, Steps}
+use Rattle.connection_laws.specs.declared.talk.LineAnswer.{LineAnswer}
 use Rattle.connection_laws.proofs.Linking.{acted_so}
 use Rattle.connection_laws.proofs.Prefixes.{prefix_trans}
 use Rattle.connection_laws.specs.Desks.{IsReplyAt}
 use Rattle.snapshot_readers.specs.Viewed.{lens_in, lens_of, AscendBetween, Looks, Sees}
 use Rattle.snapshot_readers.specs.Guides.{GuideView, GuideAsks}
+use Rattle.snapshot_readers.specs.Viewing.{Shows}
 use Rattle.snapshot_readers.proofs.Ascending.{ascend_on}
 use Rattle.snapshot_readers.proofs.Longer.{take_longer, longer}
 
@@ -101,6 +103,26 @@ module _ (np : NamedPolicy) (birth : ℕ) where
       (record { fits = tt; grows = prefix_same o.seen; lens = sym (append-nil o.lens); ascends = omega arith })
   goes_of o p (x ∷ before) steps =
       goes_next o steps.0 p x before (goes_of o steps.0 before steps.1) (step_of steps.0 p (read_line np Nobody false x.line) (actor_after np before) x steps.2)
+
+  -- a request that does more than look
+  pub asks_none : (g : GuideView) (actor : Actor) (request : Request) → false ≡ is_look request → GuideAsks np birth g g actor request view_only [] []
+  asks_none g actor request e =
+      record {
+        sees = λ n. (subst (λ (b : Bool). MatchBool b (Looks np birth g.seen actor request view_only) (view_only ≡ view_only)) e refl, refl, refl);
+        grows = prefix_same g.seen;
+        lens = sym (append-nil g.lens);
+        ascends = omega arith;
+      }
+
+  -- and one that only looks
+  pub asks_shown : (a b : GuideView) (actor : Actor) (request : Request) (told : LineAnswer) → true ≡ is_look request → (x : Shows np birth a.seen b.seen a.lens b.lens actor request told) → GuideAsks np birth a b actor request x.answer [] []
+  asks_shown a b actor request told e x =
+      record {
+        sees = λ n. (subst (λ (t : Bool). MatchBool t (Looks np birth b.seen actor request x.answer) (x.answer ≡ view_only)) e x.looks, refl, refl);
+        grows = x.grows;
+        lens = x.lens;
+        ascends = x.ascends;
+      }
 
   -- no line takes a reading or adds an entry
   line_quiet : (h : List Entry) (said : Result Line LineFault) (actor : Actor) (n : ℕ) (a : Acted) → GetsBy (Sees np birth h) said actor n a → (a.readings ≡ []) × (a.entries ≡ [])

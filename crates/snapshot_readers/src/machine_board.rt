@@ -1,4 +1,4 @@
-//! A board as a machine: its steps are those of its ledger, and what comes of them is published.
+//! A board as a machine: its steps are those of its ledger, and what they add is published.
 
 use crate::board::Board;
 use gt_base::{Actor, Instant, Keeps, Machine, Reply, Request, StepFault, Who};
@@ -43,9 +43,12 @@ impl<'a, R: Wait> Machine for Board<'a, R> {
     }
 
     fn tick(&mut self, who: Who, upto: Instant) -> Result<Instant, StepFault> {
+        let later = Machine::now(&self.ledger) < upto;
         match Machine::tick(&mut self.ledger, who, upto) {
             Ok(to) => {
-                self.follow();
+                if later {
+                    self.follow();
+                }
                 Ok(to)
             }
             Err(fault) => Err(fault),
