@@ -1,10 +1,14 @@
+use Rattle.std.proofs.Common.{ℕ, subst}
+use Rattle.snapshot_readers.specs.Viewing.{Views}
 use Rattle.snapshot_readers.proofs.Glancing.{viewed}
 use Rattle.snapshot_readers.proofs.serve.view_link.Goals as goal
 
 pub returns-clause-views : goal.returns-clause-views
 returns-clause-views g c =
     let t = g.L.Link in
+    let np = c.args.policy.now in
+    let glass = c.args.glass.now in
     let x = c.attend_by-end in
-    rw c.new-hearing.ensures.calls at
-    viewed c.args.policy.now c.args.glass.now.birth c.args.glass.now.seen x.new.glass.seen c.new-hearing.result.talk x.new.hearing.talk x.new.lens.items (t.traffic c.args.link) (t.traffic x.new.link) x.result c.view_end.result
-    c.view_end.ensures x.ensures.attends x.ensures.finished
+    subst (λ (n : ℕ). Views np glass.birth glass.seen x.new.glass.seen x.new.lens.items x.new.hearing.talk.denied n x.new.hearing.talk.calls (t.traffic c.args.link) (t.traffic x.new.link) c.view_end.result)
+    c.new-hearing.ensures.calls
+    (viewed np glass.birth glass.seen x.new.glass.seen c.new-hearing.result.talk x.new.hearing.talk x.new.lens.items (t.traffic c.args.link) (t.traffic x.new.link) x.result c.view_end.result c.view_end.ensures x.ensures.attends x.ensures.finished)
