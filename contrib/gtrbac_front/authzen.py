@@ -290,7 +290,7 @@ class Authzen(WebFace):
             found = await self.permitted(pairs, user, context, caller)
         told = {'results': [{'name': action} for action in found]}
         if self.front.record and not self.front.record.write([self.line(
-                request, caller, asked, None, [('user', user), ('actions', found)])]):
+                request, caller, asked, None, None, [('user', user), ('actions', found)])]):
             raise Wrong('the decision log can\'t be written', 503)
         return told
 
@@ -321,21 +321,22 @@ class Authzen(WebFace):
             reason = answer['context'].get('reason') or str(question.fault)
             self.front.metrics.count_decision(self, answer['decision'], reason)
             if self.front.record:
-                lines.append(self.line(request, caller, question.asked, answer['decision'], [
+                run = question.by and question.run      # the one in which it was asked
+                lines.append(self.line(request, caller, question.asked, run, answer['decision'], [
                     ('user', question.user), ('permission', question.permission),
                     ('reason', reason), ('session', question.number), ('by', question.by),
                     ('twice', question.twice or None)]))
         if lines and not self.front.record.write(lines):
             raise Wrong('the decision log can\'t be written', 503)
 
-    def line(self, request, caller, asked, decision, more):
+    def line(self, request, caller, asked, run, decision, more):
         def part(name):
             value = asked.get(name)
             return {key: value.get(key) for key in ('type', 'id')} if type(value) is dict else None
 
         action = asked.get('action')
         return as_json([
-            ('time', instant()), ('house', self.house.name), ('run', self.house.mark),
+            ('time', instant()), ('house', self.house.name), ('run', run or self.house.mark),
             ('face', 'authzen'), ('address', caller.address), ('caller', caller.names),
             ('request_id', request.id), ('subject', part('subject')),
             ('action', action.get('name') if type(action) is dict else None),
