@@ -44,7 +44,10 @@ class Authzen(WebFace):
     # ---- What a head can show
 
     def judge(self, request, caller):
-        """Which of the requests it is, by the head alone."""
+        """Which of the requests it is, by the head alone: by that of the request before where it
+        is the same one, and the tables are."""
+        if request.judged and request.judged[0] is self.table:
+            return request.judged[1]
         path = request.path
         if self.base and path.startswith(self.base + '/'):
             path = path.removeprefix(self.base)
@@ -64,6 +67,7 @@ class Authzen(WebFace):
         kind = request.headers.get(b'content-type', b'').split(b';')[0].strip().lower()
         if kind != b'application/json':
             raise Wrong('Content-Type is not application/json', 415)
+        request.judged = self.table, path
         return path
 
     def judge_token(self, request, caller):

@@ -19,6 +19,7 @@ from .face import Face
 MOST_HEAD = 16384
 HEAD_TIME, BODY_TIME, READ_TIME = 60, 10, 30
 PIECES = 500                    # of a body in chunks, after which others have their turn
+KEPT_HEAD = 2048                # bytes of a head that is kept, to know the same one again
 LINGER = 1                      # seconds that the rest of a refused request is read and dropped
 REASONS = {200: 'OK', 400: 'Bad Request', 401: 'Unauthorized', 403: 'Forbidden', 404: 'Not Found',
            405: 'Method Not Allowed', 408: 'Request Timeout', 413: 'Content Too Large',
@@ -39,11 +40,24 @@ born = secrets.token_hex(4)
 class Request:
     """The head of a request, and its body as it comes."""
 
+    judged = None               # by which table its head was found right, and what it asks for
+
     def __init__(self, text):
         self.headers, self.path, self.body = {}, '', bytearray()
-        self.fault, self.whole = None, False
-        named = REQUEST_ID.search(text) if b'equest-' in text.lower() else None
-        self.id = named[1].decode() if named else '%s-%d' % (born, next(numbers))
+        self.fault, self.whole, self.known = None, False, False
+        self.named = REQUEST_ID.search(text) if b'equest-' in text.lower() else None
+        self.name()
+
+    def name(self):
+        self.id = self.named[1].decode() if self.named else '%s-%d' % (born, next(numbers))
+
+    def again(self):
+        """A further request, with the very same head on the same connection."""
+        other = Request.__new__(Request)
+        other.__dict__ |= self.__dict__
+        other.body, other.known, other.whole = bytearray(), True, not self.length
+        other.name()
+        return other
 
     def wrong(self, text, status=400):
         return Wrong(text, status, request_id=self.id)
@@ -66,14 +80,20 @@ class Request:
 
 
 class Reader:
-    """Reads the requests of one connection, one after the other, by httptools."""
+    """Reads the requests of one connection, one after the other, by httptools. A head that has the
+    bytes of the one before it says the same, and is not read again."""
 
     def __init__(self):
         self.request, self.parser = None, httptools.HttpRequestParser(self)
         self.headers = {}       # of the head, and then those behind chunks, which say nothing
+        self.last = None        # the head before, where it may be known again
 
     def begin(self, text):
         text = text.lstrip(b'\r\n')
+        if text == self.last:
+            self.request = self.request.again()
+            return self.request
+        self.last = None
         self.request = request = Request(text)
         self.headers = request.headers
         if not HEAD.fullmatch(text):
@@ -81,7 +101,18 @@ class Reader:
         self.feed(UPGRADE.sub(b'', text) if b'pgrade' in text.lower() else text)
         self.headers = {}
         request.settle(self.parser)
+        if not request.chunked and len(text) <= KEPT_HEAD:
+            self.last = text
         return request
+
+    def take(self, part):
+        """A part of the body. The parser knows nothing of one whose head it was not given."""
+        request = self.request
+        if request.known:
+            request.body += part
+            request.whole = len(request.body) == request.length
+        else:
+            self.feed(part)
 
     def feed(self, data):
         try:
@@ -195,7 +226,7 @@ class Talk(asyncio.Protocol):
             part = bytes(self.data[:left])
             del self.data[:left]
             left -= len(part)
-            self.reader.feed(part)
+            self.reader.take(part)
         if request.chunked:
             await self.read_chunks(request)
         self.held = 2 * MOST_HEAD
@@ -205,7 +236,7 @@ class Talk(asyncio.Protocol):
         """A body that is there."""
         part = bytes(self.data[:request.length])
         del self.data[:request.length]
-        self.reader.feed(part)
+        self.reader.take(part)
 
     async def read_chunks(self, request):
         """Line by line, so that the end of the body is the end of what the parser is given, and
