@@ -24,6 +24,7 @@ class Authzen(WebFace):
             self.sessions = Sessions(self.house)
         self.sessions.keep, self.sessions.most = table['keep'], self.limits['sessions']
         self.view = table['decisions'] == 'view'
+        self.listed = {user: tuple(dict.fromkeys(roles)) for user, roles in table['roles'].items()}
         url = table['url']
         self.base = '/' + url.split('/', 3)[3] if url.count('/') > 2 else ''
         self.hosts = {'localhost', '127.0.0.1', '[::1]', url.split('/')[2].split(':')[0].lower()}
@@ -89,14 +90,15 @@ class Authzen(WebFace):
         if self.front.record.bars():
             raise Wrong('the decision log can\'t be written', 503)
         began = time.perf_counter()
-        asked = parsed(await self.body(talk, request, caller))
+        asked, plain = parsed(self.came(talk, request) or await self.body(talk, request, caller))
         if kind == ACTIONS:
             return await self.search(asked, request, caller)
         items, semantic = several(asked) if kind == SEVERAL else ([], None)
         if items:
             told = await self.evaluations(items, semantic, request, caller)
         else:
-            look_at(asked)
+            if not plain:
+                look_at(asked)
             told = await self.evaluation(asked, request, caller)
         self.front.metrics.count_time(self, time.perf_counter() - began)
         return told
@@ -185,8 +187,10 @@ class Authzen(WebFace):
         if not self.payer(caller, user).shares[0].decisions.take(1, now()):
             question.fault = Wrong('no room', 429)
         filled = self.template.fill(asked)
-        permission = table['permissions'].get(filled, filled)
-        if permission is None or not NAME.fullmatch(permission):
+        permission = table['permissions'].get(filled)
+        if permission is None and filled is not None and NAME.fullmatch(filled):
+            permission = filled
+        if permission is None:
             question.answer = 'unknown permission'
             return question
         question.permission = permission
@@ -198,18 +202,21 @@ class Authzen(WebFace):
     def user(self, subject):
         """The user that the subject stands for; None where it stands for none."""
         name, table = subject['id'], self.table
-        user = table['subjects'].get(name, name if table['same_names'] else '')
-        if subject['type'] != table['subject_type'] or not NAME.fullmatch(user):
+        if subject['type'] != table['subject_type']:
             return None
+        user = table['subjects'].get(name)
+        if user is None and table['same_names'] and NAME.fullmatch(name):
+            return name
         return user
 
     def roles(self, user, context):
         """Those of the context, else of the tables, else of the policy where it may be asked."""
-        known = self.table['roles']
-        roles = context.get('roles', known.get(user))
+        roles = context.get('roles', self.listed.get(user))
         if roles is None and self.table['assigned']:
             roles = self.house.told_by_policy()[1].get(user, [])[:MOST_ROLES]
-        return tuple(dict.fromkeys(known.get('*', ()) if roles is None else roles))
+        if roles is None:
+            roles = self.listed.get('*', ())
+        return roles if type(roles) is tuple else tuple(dict.fromkeys(roles))
 
     async def ask(self, questions, caller):
         """Asks what the server has to answer: in one piece for each session that is meant."""

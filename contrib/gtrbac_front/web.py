@@ -6,7 +6,6 @@ frames a request or says who asks stands once.
 """
 import asyncio
 import itertools
-import json
 import re
 import secrets
 import time
@@ -15,6 +14,7 @@ import httptools
 
 from .base import Wrong, now
 from .face import Face
+from .record import dumps
 
 MOST_HEAD = 16384
 HEAD_TIME, BODY_TIME, READ_TIME = 60, 10, 30
@@ -150,7 +150,7 @@ class Talk(asyncio.Protocol):
         self.paused, self.room = False, None
 
     def connection_made(self, transport):
-        self.transport = transport
+        self.transport, self.loop = transport, asyncio.get_running_loop()
 
     def data_received(self, data):
         self.data += data
@@ -194,7 +194,7 @@ class Talk(asyncio.Protocol):
         if self.paused:
             self.paused = False
             self.transport.resume_reading()
-        self.waiter, before = asyncio.get_running_loop().create_future(), len(self.data)
+        self.waiter, before = self.loop.create_future(), len(self.data)
         await self.waiter
         self.waiter = None
         if self.late:
@@ -275,36 +275,43 @@ class Talk(asyncio.Protocol):
             pass
 
 
-stamp = (0, '')
+openings = {}                   # of answers, by status and kind, with the second that they are of
 
 
-def date():
-    global stamp
-    at = int(time.time())
-    if stamp[0] != at:
-        stamp = at, time.strftime('%a, %d %b %Y %H:%M:%S GMT', time.gmtime(at))
-    return stamp[1]
+def opening(status, kind):
+    """How an answer begins: all that is the same within a second."""
+    at, made = int(time.time()), openings.get((status, kind))
+    if made is None or made[0] != at:
+        lines = ['HTTP/1.1 %d %s' % (status, REASONS[status]),
+                 time.strftime('Date: %a, %d %b %Y %H:%M:%S GMT', time.gmtime(at)),
+                 'Cache-Control: no-store', 'Content-Type: ' + kind]
+        if status in (429, 503):
+            lines.append('Retry-After: 1')
+        made = openings[status, kind] = at, '\r\n'.join(lines) + '\r\n'
+    return made[1]
 
 
 def response(status, told, request_id=None, headers=(), last=False, bare=False):
     """An answer: an object as JSON, a text as text. A bare one has no body, as for HEAD."""
     kind = 'text/plain; charset=utf-8'
     if isinstance(told, dict):
-        told, kind = json.dumps(told), 'application/json'
+        told, kind = dumps(told), 'application/json'
     body = told if isinstance(told, bytes) else told.encode() + b'\n'
-    lines = ['HTTP/1.1 %d %s\r\nDate: %s\r\nContent-Type: %s\r\nContent-Length: %d\r\n'
-             'Cache-Control: no-store\r\nX-Request-ID: %s'
-             % (status, REASONS[status], date(), kind, len(body),
-                request_id or '%s-%d' % (born, next(numbers))), *headers]
-    if status in (429, 503):
-        lines.append('Retry-After: 1')
+    head = '%sContent-Length: %d\r\nX-Request-ID: %s\r\n' % (
+        opening(status, kind), len(body), request_id or '%s-%d' % (born, next(numbers)))
+    for line in headers:
+        head += line + '\r\n'
     if last:
-        lines.append('Connection: close')
-    return '\r\n'.join(lines).encode('latin-1') + b'\r\n\r\n' + (b'' if bare else body)
+        head += 'Connection: close\r\n'
+    return head.encode('latin-1') + b'\r\n' + (b'' if bare else body)
 
 
 class WebFace(Face):
     """A face that speaks HTTP. What it answers to a request is each face's own."""
+
+    def set(self, table):
+        super().set(table)
+        self.head_time = min(HEAD_TIME, self.limits['idle'])
 
     def protocol(self):
         return Talk(self.limits['body'])
@@ -324,7 +331,7 @@ class WebFace(Face):
     async def serve_one(self, talk, caller):
         """Whether a further request may come."""
         request, name, headers = None, None, ()
-        talk.due, talk.late = min(caller.until, now() + min(HEAD_TIME, self.limits['idle'])), False
+        talk.due, talk.late = min(caller.until, now() + self.head_time), False
         try:
             request = await talk.head()
             status, told = 200, await self.answer(talk, request, caller)
@@ -344,11 +351,17 @@ class WebFace(Face):
             await talk.linger()
         return going
 
+    def came(self, talk, request):
+        """The body where it came with its head, as most do; else None."""
+        if not 0 < request.length <= min(len(talk.data), self.limits['body']):
+            return None
+        talk.take(request)
+        talk.due = None
+        return request.body
+
     async def body(self, talk, request, caller):
         """The body, once all that a head can show is right."""
-        if 0 < request.length <= min(len(talk.data), self.limits['body']):
-            talk.take(request)          # it came with its head
-        elif not request.whole:
+        if not request.whole and self.came(talk, request) is None:
             size = self.limits['body'] if request.chunked else request.length
             if size > self.limits['body']:
                 raise Wrong('the body is too long', 413)
