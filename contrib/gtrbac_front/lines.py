@@ -157,6 +157,8 @@ class Stream(asyncio.StreamReaderProtocol):
     async def give(self, text):
         if not text:
             return
+        if self.transport.is_closing():
+            raise EOFError      # to write to one that has ended would be a fault
         self.transport.write(text)
         async with asyncio.timeout(30):
             await self._drain_helper()

@@ -257,6 +257,8 @@ class Talk(asyncio.Protocol):
 
     async def give(self, text):
         """Hands the text over; a caller who does not read is let go."""
+        if self.transport.is_closing():
+            raise EOFError      # to write to one that has ended would be a fault
         self.transport.write(text)
         if self.room:
             async with asyncio.timeout(READ_TIME):
