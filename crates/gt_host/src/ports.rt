@@ -140,8 +140,8 @@ impl HostPort {
 /// Where the listener could not be made, or fails for good, they fail. Replies are held back until
 /// bytes are next read from their link, or many are held; those that a stream does not take as its
 /// link is let go are lost. A link that broke fails alone, and one whose client is silent for ten
-/// minutes is at its end. Where 1,024 links are open, or memory for a further one is short, the
-/// next client waits in the system's queue.
+/// minutes is at its end. Where 1,024 links are open, or their list finds no memory, the next
+/// client waits in the system's queue.
 pub struct HostPorts<'a, R> {
     pub(crate) lookout: Lookout<'a, R>,
     pub(crate) ports: Vec<HostPort>,
