@@ -24,7 +24,7 @@ CONDS = {words[1][at]: (at == 0, kind) for kind, words in KINDS.items() for at i
 ENTRIES = ('each', 'start', 'span')
 SPACES = ('role', 'user', 'perm', 'period', 'limit')
 # how many a policy has at most
-MOST = {'perm': 10_000, 'period': 1000, 'limit': 1000, 'entry': 4000, 'when': 4000}
+MOST = {'role': 1000, 'perm': 10_000, 'period': 1000, 'limit': 1000, 'entry': 4000, 'when': 4000}
 
 
 class Unread(Exception):
@@ -133,6 +133,10 @@ class Trigger:
     def signals(self):
         return {tuple(item[1:]) for item in self.items if item[0] in ('activate', 'deactivate')}
 
+    def begins(self):
+        """The pairs of a user and a role of whose activations' beginnings it is told."""
+        return {tuple(item[1:]) for item in self.items if item[0] == 'activate'}
+
 
 class Text:
     """A policy in its canonical form: the words of its lines by what they say."""
@@ -171,8 +175,9 @@ class Text:
         """The pairs of a user and a role of whose activations a trigger is told."""
         return set().union(*(trigger.signals() for trigger in self.triggers()))
 
-    def day_caps(self):
-        return {words[2]: int(words[3]) for words in self['cap'] if words[1] == 'day'}
+    def caps(self, kind):
+        """The caps of a kind, by role."""
+        return {words[2]: int(words[3]) for words in self['cap'] if words[1] == kind}
 
     def opening(self):
         return {tuple(words) for kind in KINDS for words in self[kind]}

@@ -24,6 +24,7 @@ class Authzen(WebFace):
             self.sessions = Sessions(self.house)
         self.sessions.keep, self.sessions.most = table['keep'], self.limits['sessions']
         self.view = table['decisions'] == 'view'
+        self.listed = {user: tuple(dict.fromkeys(roles)) for user, roles in table['roles'].items()}
         url = table['url']
         self.base = '/' + url.split('/', 3)[3] if url.count('/') > 2 else ''
         self.hosts = {'localhost', '127.0.0.1', '[::1]', url.split('/')[2].split(':')[0].lower()}
@@ -44,7 +45,10 @@ class Authzen(WebFace):
     # ---- What a head can show
 
     def judge(self, request, caller):
-        """Which of the requests it is, by the head alone."""
+        """Which of the requests it is, by the head alone: by that of the request before where it
+        is the same one, and the tables are."""
+        if request.judged and request.judged[0] is self.table:
+            return request.judged[1]
         path = request.path
         if self.base and path.startswith(self.base + '/'):
             path = path.removeprefix(self.base)
@@ -64,6 +68,7 @@ class Authzen(WebFace):
         kind = request.headers.get(b'content-type', b'').split(b';')[0].strip().lower()
         if kind != b'application/json':
             raise Wrong('Content-Type is not application/json', 415)
+        request.judged = self.table, path
         return path
 
     def judge_token(self, request, caller):
@@ -85,14 +90,15 @@ class Authzen(WebFace):
         if self.front.record.bars():
             raise Wrong('the decision log can\'t be written', 503)
         began = time.perf_counter()
-        asked = parsed(await self.body(talk, request, caller))
+        asked, plain = parsed(self.came(talk, request) or await self.body(talk, request, caller))
         if kind == ACTIONS:
             return await self.search(asked, request, caller)
         items, semantic = several(asked) if kind == SEVERAL else ([], None)
         if items:
             told = await self.evaluations(items, semantic, request, caller)
         else:
-            look_at(asked)
+            if not plain:
+                look_at(asked)
             told = await self.evaluation(asked, request, caller)
         self.front.metrics.count_time(self, time.perf_counter() - began)
         return told
@@ -181,8 +187,10 @@ class Authzen(WebFace):
         if not self.payer(caller, user).shares[0].decisions.take(1, now()):
             question.fault = Wrong('no room', 429)
         filled = self.template.fill(asked)
-        permission = table['permissions'].get(filled, filled)
-        if permission is None or not NAME.fullmatch(permission):
+        permission = table['permissions'].get(filled)
+        if permission is None and filled is not None and NAME.fullmatch(filled):
+            permission = filled
+        if permission is None:
             question.answer = 'unknown permission'
             return question
         question.permission = permission
@@ -194,18 +202,21 @@ class Authzen(WebFace):
     def user(self, subject):
         """The user that the subject stands for; None where it stands for none."""
         name, table = subject['id'], self.table
-        user = table['subjects'].get(name, name if table['same_names'] else '')
-        if subject['type'] != table['subject_type'] or not NAME.fullmatch(user):
+        if subject['type'] != table['subject_type']:
             return None
+        user = table['subjects'].get(name)
+        if user is None and table['same_names'] and NAME.fullmatch(name):
+            return name
         return user
 
     def roles(self, user, context):
         """Those of the context, else of the tables, else of the policy where it may be asked."""
-        known = self.table['roles']
-        roles = context.get('roles', known.get(user))
+        roles = context.get('roles', self.listed.get(user))
         if roles is None and self.table['assigned']:
             roles = self.house.told_by_policy()[1].get(user, [])[:MOST_ROLES]
-        return tuple(dict.fromkeys(known.get('*', ()) if roles is None else roles))
+        if roles is None:
+            roles = self.listed.get('*', ())
+        return roles if type(roles) is tuple else tuple(dict.fromkeys(roles))
 
     async def ask(self, questions, caller):
         """Asks what the server has to answer: in one piece for each session that is meant."""
@@ -290,7 +301,7 @@ class Authzen(WebFace):
             found = await self.permitted(pairs, user, context, caller)
         told = {'results': [{'name': action} for action in found]}
         if self.front.record and not self.front.record.write([self.line(
-                request, caller, asked, None, [('user', user), ('actions', found)])]):
+                request, caller, asked, None, None, [('user', user), ('actions', found)])]):
             raise Wrong('the decision log can\'t be written', 503)
         return told
 
@@ -321,21 +332,22 @@ class Authzen(WebFace):
             reason = answer['context'].get('reason') or str(question.fault)
             self.front.metrics.count_decision(self, answer['decision'], reason)
             if self.front.record:
-                lines.append(self.line(request, caller, question.asked, answer['decision'], [
+                run = question.by and question.run      # the one in which it was asked
+                lines.append(self.line(request, caller, question.asked, run, answer['decision'], [
                     ('user', question.user), ('permission', question.permission),
                     ('reason', reason), ('session', question.number), ('by', question.by),
                     ('twice', question.twice or None)]))
         if lines and not self.front.record.write(lines):
             raise Wrong('the decision log can\'t be written', 503)
 
-    def line(self, request, caller, asked, decision, more):
+    def line(self, request, caller, asked, run, decision, more):
         def part(name):
             value = asked.get(name)
             return {key: value.get(key) for key in ('type', 'id')} if type(value) is dict else None
 
         action = asked.get('action')
         return as_json([
-            ('time', instant()), ('house', self.house.name), ('run', self.house.mark),
+            ('time', instant()), ('house', self.house.name), ('run', run or self.house.mark),
             ('face', 'authzen'), ('address', caller.address), ('caller', caller.names),
             ('request_id', request.id), ('subject', part('subject')),
             ('action', action.get('name') if type(action) is dict else None),

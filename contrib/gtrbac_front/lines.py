@@ -97,7 +97,7 @@ class Lines(Face):
         payer = self.payer(caller)
         if self.front.record.bars():
             return [NO_LOG]
-        own = self.kept_back(lines, payer)
+        own, mark = self.kept_back(lines, payer), self.house.mark
         asked = [line for line, reply in zip(lines, own) if reply is None]
         replies = []
         if asked:
@@ -107,12 +107,13 @@ class Lines(Face):
         told = iter(replies)
         replies = [next(told) if reply is None else reply for reply in own]
         self.front.metrics.count_lines(self, replies)
-        if self.front.record and not self.write(caller, lines, replies):
+        if self.front.record and not self.write(caller, mark, lines, replies):
             return [NO_LOG]
         return replies
 
-    def write(self, caller, lines, replies):
-        head = as_json([('time', instant()), ('house', self.house.name), ('run', self.house.mark),
+    def write(self, caller, mark, lines, replies):
+        """Each line with its reply, and the run in which it was asked."""
+        head = as_json([('time', instant()), ('house', self.house.name), ('run', mark),
                         ('face', 'lines'), ('address', caller.address), ('caller', caller.names),
                         ('user', caller.user)])[:-1]
         return self.front.record.write([
@@ -156,6 +157,8 @@ class Stream(asyncio.StreamReaderProtocol):
     async def give(self, text):
         if not text:
             return
+        if self.transport.is_closing():
+            raise EOFError      # to write to one that has ended would be a fault
         self.transport.write(text)
         async with asyncio.timeout(30):
             await self._drain_helper()

@@ -24,16 +24,32 @@ def no_number(text):
 
 
 decoder = json.JSONDecoder(object_pairs_hook=once, parse_constant=no_number)
+quicker = json.JSONDecoder(parse_constant=no_number)
+
+
+def decoded(text):
+    """What the text says, and whether it is known to be a plain request. Eight keys and five texts
+    have 26 quotation marks where none is escaped: where a plain request is read of these, no key
+    stands twice."""
+    if text.count('"') == 26 and '\\' not in text:
+        try:
+            asked, end = quicker.raw_decode(text)
+        except ValueError:
+            end = None
+        if end == len(text) and type(asked) is dict and len(asked) == 3 and is_plain(asked):
+            return asked, True
+    return decoder.decode(text), False
 
 
 def parsed(body):
+    """The request, and whether it has its form for certain."""
     try:
-        asked = decoder.decode(body.decode())
+        asked, plain = decoded(body.decode())
     except (ValueError, RecursionError) as fault:
         raise Wrong('the body is no JSON: %s' % fault) from fault
     if not isinstance(asked, dict):
         raise Wrong('the body is no object')
-    return asked
+    return asked, plain
 
 
 def are_roles(roles):

@@ -13,6 +13,19 @@ JOURNAL = '/run/systemd/journal/socket'
 quoted = json.encoder.encode_basestring_ascii
 
 
+def made_once():
+    """What json.dumps does, which makes an encoder for each call; this one is made once."""
+    try:
+        parts = json.encoder.c_make_encoder(None, None, quoted, None, ': ', ', ', False, False,
+                                            True)
+        return lambda told: ''.join(parts(told, 0))
+    except TypeError:
+        return json.dumps
+
+
+dumps = made_once()
+
+
 def instant():
     """The time in UTC, with milliseconds."""
     at = time.time()
@@ -22,7 +35,7 @@ def instant():
 def as_json(fields):
     """Pairs of names and texts, numbers or None, as an object on one line; None is left out."""
     return '{%s}' % ', '.join(
-        '"%s": %s' % (name, quoted(value) if type(value) is str else json.dumps(value))
+        '"%s": %s' % (name, quoted(value) if type(value) is str else dumps(value))
         for name, value in fields if value is not None)
 
 

@@ -6,7 +6,6 @@ frames a request or says who asks stands once.
 """
 import asyncio
 import itertools
-import json
 import re
 import secrets
 import time
@@ -15,10 +14,12 @@ import httptools
 
 from .base import Wrong, now
 from .face import Face
+from .record import dumps
 
 MOST_HEAD = 16384
 HEAD_TIME, BODY_TIME, READ_TIME = 60, 10, 30
 PIECES = 500                    # of a body in chunks, after which others have their turn
+KEPT_HEAD = 2048                # bytes of a head that is kept, to know the same one again
 LINGER = 1                      # seconds that the rest of a refused request is read and dropped
 REASONS = {200: 'OK', 400: 'Bad Request', 401: 'Unauthorized', 403: 'Forbidden', 404: 'Not Found',
            405: 'Method Not Allowed', 408: 'Request Timeout', 413: 'Content Too Large',
@@ -39,11 +40,24 @@ born = secrets.token_hex(4)
 class Request:
     """The head of a request, and its body as it comes."""
 
+    judged = None               # by which table its head was found right, and what it asks for
+
     def __init__(self, text):
         self.headers, self.path, self.body = {}, '', bytearray()
-        self.fault, self.whole = None, False
-        named = REQUEST_ID.search(text) if b'equest-' in text.lower() else None
-        self.id = named[1].decode() if named else '%s-%d' % (born, next(numbers))
+        self.fault, self.whole, self.known = None, False, False
+        self.named = REQUEST_ID.search(text) if b'equest-' in text.lower() else None
+        self.name()
+
+    def name(self):
+        self.id = self.named[1].decode() if self.named else '%s-%d' % (born, next(numbers))
+
+    def again(self):
+        """A further request, with the very same head on the same connection."""
+        other = Request.__new__(Request)
+        other.__dict__ |= self.__dict__
+        other.body, other.known, other.whole = bytearray(), True, not self.length
+        other.name()
+        return other
 
     def wrong(self, text, status=400):
         return Wrong(text, status, request_id=self.id)
@@ -66,14 +80,20 @@ class Request:
 
 
 class Reader:
-    """Reads the requests of one connection, one after the other, by httptools."""
+    """Reads the requests of one connection, one after the other, by httptools. A head that has the
+    bytes of the one before it says the same, and is not read again."""
 
     def __init__(self):
         self.request, self.parser = None, httptools.HttpRequestParser(self)
         self.headers = {}       # of the head, and then those behind chunks, which say nothing
+        self.last = None        # the head before, where it may be known again
 
     def begin(self, text):
         text = text.lstrip(b'\r\n')
+        if text == self.last:
+            self.request = self.request.again()
+            return self.request
+        self.last = None
         self.request = request = Request(text)
         self.headers = request.headers
         if not HEAD.fullmatch(text):
@@ -81,7 +101,18 @@ class Reader:
         self.feed(UPGRADE.sub(b'', text) if b'pgrade' in text.lower() else text)
         self.headers = {}
         request.settle(self.parser)
+        if not request.chunked and len(text) <= KEPT_HEAD:
+            self.last = text
         return request
+
+    def take(self, part):
+        """A part of the body. The parser knows nothing of one whose head it was not given."""
+        request = self.request
+        if request.known:
+            request.body += part
+            request.whole = len(request.body) == request.length
+        else:
+            self.feed(part)
 
     def feed(self, data):
         try:
@@ -119,7 +150,7 @@ class Talk(asyncio.Protocol):
         self.paused, self.room = False, None
 
     def connection_made(self, transport):
-        self.transport = transport
+        self.transport, self.loop = transport, asyncio.get_running_loop()
 
     def data_received(self, data):
         self.data += data
@@ -163,7 +194,7 @@ class Talk(asyncio.Protocol):
         if self.paused:
             self.paused = False
             self.transport.resume_reading()
-        self.waiter, before = asyncio.get_running_loop().create_future(), len(self.data)
+        self.waiter, before = self.loop.create_future(), len(self.data)
         await self.waiter
         self.waiter = None
         if self.late:
@@ -195,7 +226,7 @@ class Talk(asyncio.Protocol):
             part = bytes(self.data[:left])
             del self.data[:left]
             left -= len(part)
-            self.reader.feed(part)
+            self.reader.take(part)
         if request.chunked:
             await self.read_chunks(request)
         self.held = 2 * MOST_HEAD
@@ -205,7 +236,7 @@ class Talk(asyncio.Protocol):
         """A body that is there."""
         part = bytes(self.data[:request.length])
         del self.data[:request.length]
-        self.reader.feed(part)
+        self.reader.take(part)
 
     async def read_chunks(self, request):
         """Line by line, so that the end of the body is the end of what the parser is given, and
@@ -226,6 +257,8 @@ class Talk(asyncio.Protocol):
 
     async def give(self, text):
         """Hands the text over; a caller who does not read is let go."""
+        if self.transport.is_closing():
+            raise EOFError      # to write to one that has ended would be a fault
         self.transport.write(text)
         if self.room:
             async with asyncio.timeout(READ_TIME):
@@ -244,36 +277,43 @@ class Talk(asyncio.Protocol):
             pass
 
 
-stamp = (0, '')
+openings = {}                   # of answers, by status and kind, with the second that they are of
 
 
-def date():
-    global stamp
-    at = int(time.time())
-    if stamp[0] != at:
-        stamp = at, time.strftime('%a, %d %b %Y %H:%M:%S GMT', time.gmtime(at))
-    return stamp[1]
+def opening(status, kind):
+    """How an answer begins: all that is the same within a second."""
+    at, made = int(time.time()), openings.get((status, kind))
+    if made is None or made[0] != at:
+        lines = ['HTTP/1.1 %d %s' % (status, REASONS[status]),
+                 time.strftime('Date: %a, %d %b %Y %H:%M:%S GMT', time.gmtime(at)),
+                 'Cache-Control: no-store', 'Content-Type: ' + kind]
+        if status in (429, 503):
+            lines.append('Retry-After: 1')
+        made = openings[status, kind] = at, '\r\n'.join(lines) + '\r\n'
+    return made[1]
 
 
 def response(status, told, request_id=None, headers=(), last=False, bare=False):
     """An answer: an object as JSON, a text as text. A bare one has no body, as for HEAD."""
     kind = 'text/plain; charset=utf-8'
     if isinstance(told, dict):
-        told, kind = json.dumps(told), 'application/json'
+        told, kind = dumps(told), 'application/json'
     body = told if isinstance(told, bytes) else told.encode() + b'\n'
-    lines = ['HTTP/1.1 %d %s\r\nDate: %s\r\nContent-Type: %s\r\nContent-Length: %d\r\n'
-             'Cache-Control: no-store\r\nX-Request-ID: %s'
-             % (status, REASONS[status], date(), kind, len(body),
-                request_id or '%s-%d' % (born, next(numbers))), *headers]
-    if status in (429, 503):
-        lines.append('Retry-After: 1')
+    head = '%sContent-Length: %d\r\nX-Request-ID: %s\r\n' % (
+        opening(status, kind), len(body), request_id or '%s-%d' % (born, next(numbers)))
+    for line in headers:
+        head += line + '\r\n'
     if last:
-        lines.append('Connection: close')
-    return '\r\n'.join(lines).encode('latin-1') + b'\r\n\r\n' + (b'' if bare else body)
+        head += 'Connection: close\r\n'
+    return head.encode('latin-1') + b'\r\n' + (b'' if bare else body)
 
 
 class WebFace(Face):
     """A face that speaks HTTP. What it answers to a request is each face's own."""
+
+    def set(self, table):
+        super().set(table)
+        self.head_time = min(HEAD_TIME, self.limits['idle'])
 
     def protocol(self):
         return Talk(self.limits['body'])
@@ -293,7 +333,7 @@ class WebFace(Face):
     async def serve_one(self, talk, caller):
         """Whether a further request may come."""
         request, name, headers = None, None, ()
-        talk.due, talk.late = min(caller.until, now() + min(HEAD_TIME, self.limits['idle'])), False
+        talk.due, talk.late = min(caller.until, now() + self.head_time), False
         try:
             request = await talk.head()
             status, told = 200, await self.answer(talk, request, caller)
@@ -313,11 +353,17 @@ class WebFace(Face):
             await talk.linger()
         return going
 
+    def came(self, talk, request):
+        """The body where it came with its head, as most do; else None."""
+        if not 0 < request.length <= min(len(talk.data), self.limits['body']):
+            return None
+        talk.take(request)
+        talk.due = None
+        return request.body
+
     async def body(self, talk, request, caller):
         """The body, once all that a head can show is right."""
-        if 0 < request.length <= min(len(talk.data), self.limits['body']):
-            talk.take(request)          # it came with its head
-        elif not request.whole:
+        if not request.whole and self.came(talk, request) is None:
             size = self.limits['body'] if request.chunked else request.length
             if size > self.limits['body']:
                 raise Wrong('the body is too long', 413)

@@ -1,1 +1,2 @@
+mod FoundLinks
 pub mod HostLists

@@ -1,2 +1,3 @@
 pub mod HostPorts
 pub mod Lookouts
+pub mod Sights

@@ -1,6 +1,7 @@
 //! The stream of a link that is served beside others: no call on it waits.
-ghost use Rattle.std.specs.Prelude.{◌≡◌, ◌<◌, ◌≤◌, length, vec_len, IfOk};
+ghost use Rattle.std.specs.Prelude.{◌≡◌, ◌<◌, ◌≤◌, true, false, length, vec_len, IfOk};
 ghost use Rattle.gt_io.specs.Ports.{FitsGot, FitsTook};
+ghost use Rattle.mio.specs.Interest.{is_readable, is_writable, is_priority};
 
 use gt_io::{Got, Took};
 use mio::net::TcpStream;
@@ -25,6 +26,8 @@ const MAX_LOOKS: u64 = 2400;
 pub(crate) struct Sign {
     /// Its peer has ended it, in one direction at least, or it broke.
     pub(crate) ended: bool,
+    /// An urgent byte of its client is not passed yet, and a read ends before that.
+    pub(crate) urgent: bool,
     /// Its client was silent for too long.
     pub(crate) late: bool,
     /// How many looks there were.
@@ -40,13 +43,16 @@ pub(crate) struct Conn {
     handed: usize,
     /// How many bytes were read in this turn.
     read: usize,
-    /// The last read took all that had come, so whatever comes then is told anew.
+    /// The last read took all that had come, so whatever comes then is told anew. One that came
+    /// short has, unless the link has ended or an urgent byte was told.
     dry: bool,
     ended: bool,
+    urgent: bool,
     late: bool,
     /// How many looks there were as it last had something to do.
     heard: u64,
     ghost within: { handed ≤ vec_len held },
+    ghost sure: { dry ≡ true → (ended ≡ false) × (urgent ≡ false) },
 }
 
 impl Drop for Conn {
@@ -58,15 +64,20 @@ impl Drop for Conn {
             read: _,
             dry: _,
             ended: _,
+            urgent: _,
             late: _,
             heard: _,
         } = self;
     }
 }
 
-/// Reading and writing.
-pub(crate) fn both_ways() -> Interest {
-    Interest::READABLE | Interest::WRITABLE
+/// Reading and writing, and urgent bytes.
+pub(crate) fn all_ways() -> Interest
+    ensures reads { is_readable result ≡ true }
+    ensures writes { is_writable result ≡ true }
+    ensures urgent { is_priority result ≡ true }
+{
+    Interest::READABLE | Interest::WRITABLE | Interest::PRIORITY
 }
 
 /// Writes what the stream takes at once, and answers how many bytes that were.
@@ -95,6 +106,7 @@ impl Conn {
             read: 0,
             dry: false,
             ended: false,
+            urgent: false,
             late: false,
             heard: looks,
         };
@@ -114,6 +126,7 @@ impl Conn {
         self.read = 0;
         self.dry = false;
         self.ended = self.ended || sign.ended;
+        self.urgent = sign.urgent;
         self.late = self.late || sign.late;
         self.heard = sign.looks;
     }
@@ -154,7 +167,7 @@ impl Conn {
             Ok(0) => Ok(Got::Finished),
             Ok(n) => {
                 self.read = self.read.saturating_add(n);
-                self.dry = n < buf.len() && !self.ended;
+                self.dry = n < buf.len() && !self.ended && !self.urgent;
                 Ok(Got::Bytes(n))
             }
             Err(fault) if fault.kind() == ErrorKind::WouldBlock => Ok(Got::NotYet),
@@ -169,7 +182,7 @@ impl Conn {
         let Some(registry) = registry else {
             return Err(io::Error::from(ErrorKind::NotConnected));
         };
-        registry.reregister(&mut self.stream, Token(link as usize), both_ways())?;
+        registry.reregister(&mut self.stream, Token(link as usize), all_ways())?;
         Ok(Got::NotYet)
     }
 

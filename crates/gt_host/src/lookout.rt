@@ -1,8 +1,8 @@
 //! What many links wait for together: connections, bytes, room for bytes, and the stop file.
-ghost use Rattle.std.specs.Prelude.{◌≡◌, ◌<◌, ◌≤◌, length, Some, IfOk, IfSome};
+ghost use Rattle.std.specs.Prelude.{◌≡◌, ◌<◌, ◌≤◌, true, false, length, Some, IfOk, IfSome};
 ghost use Rattle.gt_host.specs.Lookouts.{FitsFound};
 
-use crate::conn::{Conn, Sign, both_ways};
+use crate::conn::{Conn, Sign, all_ways};
 use crate::port::HostPort;
 use crate::stop::{WAIT_MILLIS, Watch, is_lasting, is_stopped};
 use gt_base::MAX_LINKS;
@@ -38,6 +38,28 @@ enum Queue {
     Waiting,
     /// One does, and an accept has failed since the last wait.
     Stuck,
+}
+
+/// What the system tells of a link or of the listener.
+#[derive(Clone, Copy)]
+struct Told {
+    token: Token,
+    /// The peer has ended.
+    ended: bool,
+    /// An urgent byte is not passed yet.
+    urgent: bool,
+}
+
+/// How long a wait lasts at most, in milliseconds. It is none where a connection waits for nothing
+/// else than to be taken; where its link can't be opened it waits on.
+fn wait_millis(queue: Queue, free: bool) -> u64
+    ensures { free ≡ false → 0 < result }
+{
+    match queue {
+        Queue::Waiting if free => 0,
+        Queue::Stuck => PAUSE_MILLIS,
+        _ => WAIT_MILLIS,
+    }
 }
 
 /// What is to be done next.
@@ -166,23 +188,26 @@ impl<'a, R: Files + rt::Clock + Net> Lookout<'a, R> {
         None
     }
 
-    /// The token of the next event of the last wait, and whether it tells that the peer has ended.
-    fn take_event(&mut self) -> Option<(Token, bool)> {
+    /// The next event of the last wait.
+    fn take_event(&mut self) -> Option<Told> {
         let Some(events) = &self.events else {
             return None;
         };
         let event = events.iter().as_slice().get(self.at)?;
         self.at = self.at.saturating_add(1);
-        let ended = event.is_read_closed() || event.is_write_closed() || event.is_error();
-        Some((event.token(), ended))
+        Some(Told {
+            token: event.token(),
+            ended: event.is_read_closed() || event.is_write_closed() || event.is_error(),
+            urgent: event.is_priority(),
+        })
     }
 
-    /// What an event tells, if there is anything to do.
-    fn told_by(&mut self, token: Token, ended: bool, ports: &[HostPort]) -> Option<Found>
+    /// The link that has something to do by an event, if any has, and what is told of it.
+    fn told_by(&mut self, told: Told, ports: &[HostPort]) -> Option<(u32, Sign)>
         requires { length ports.now ≤ MAX_LINKS }
-        ensures { IfSome result (FitsFound (length ports.now)) }
+        ensures { IfSome result (λ to. (1 ≤ to.0) × (to.0 ≤ length ports.now)) }
     {
-        let link = token.0;
+        let link = told.token.0;
         if link == 0 {
             self.queue = Queue::Waiting;
             return None;
@@ -191,11 +216,12 @@ impl<'a, R: Files + rt::Clock + Net> Lookout<'a, R> {
             return None;
         }
         let sign = Sign {
-            ended,
+            ended: told.ended,
+            urgent: told.urgent,
             late: false,
             looks: self.looks,
         };
-        Some(Found::Link(link as u32, sign))
+        Some((link as u32, sign))
     }
 
     /// Has the system tell of a stream under a number.
@@ -207,7 +233,7 @@ impl<'a, R: Files + rt::Clock + Net> Lookout<'a, R> {
         // the same.
         let _ = stream.set_nodelay(true);
         poll.registry()
-            .register(&mut stream, Token(number), both_ways())?;
+            .register(&mut stream, Token(number), all_ways())?;
         Conn::new(self.alloc, stream, self.looks)
     }
 
@@ -239,11 +265,13 @@ impl<'a, R: Files + rt::Clock + Net> Lookout<'a, R> {
         }
     }
 
-    /// Opens the link of a connection that waits, where the stop file does not stand.
-    fn next_fresh(&mut self, opened: usize) -> io::Result<Option<Found>>
-        ensures { IfOk result (λ found. IfSome found (FitsFound opened)) }
+    /// Opens the link of a connection that waits, where it can be opened and the stop file does not
+    /// stand. Where it can't, the connection waits on.
+    fn next_fresh(&mut self, opened: usize, free: bool) -> io::Result<Option<Found>>
+        requires { free ≡ true → opened < MAX_LINKS }
+        ensures { IfOk result (λ found. IfSome found (FitsFound (free ≡ true) opened)) }
     {
-        if opened >= MAX_LINKS {
+        if !free {
             return Ok(None);
         }
         let Some(conn) = self.next_conn(opened + 1)? else {
@@ -259,15 +287,11 @@ impl<'a, R: Files + rt::Clock + Net> Lookout<'a, R> {
     }
 
     /// Waits for events, for a moment at most.
-    fn wait(&mut self) -> io::Result<()> {
+    fn wait(&mut self, free: bool) -> io::Result<()> {
         let (Some(poll), Some(events)) = (&mut self.poll, &mut self.events) else {
             return Err(io::Error::from(ErrorKind::NotConnected));
         };
-        let millis = match self.queue {
-            Queue::Empty => WAIT_MILLIS,
-            Queue::Waiting => 0,
-            Queue::Stuck => PAUSE_MILLIS,
-        };
+        let millis = wait_millis(self.queue, free);
         poll.poll(events, Some(Duration::from_millis(millis)))?;
         self.at = 0;
         self.accepted = 0;
@@ -278,10 +302,12 @@ impl<'a, R: Files + rt::Clock + Net> Lookout<'a, R> {
     }
 
     /// One step: a look for the stop file where it is time, a link that was silent for too long, an
-    /// event of the last wait, a connection, or a wait.
-    fn step(&mut self, ports: &[HostPort]) -> io::Result<Option<Found>>
-        requires { length ports.now ≤ MAX_LINKS }
-        ensures { IfOk result (λ found. IfSome found (FitsFound (length ports.now))) }
+    /// event of the last wait, a connection where a link can be opened, or a wait.
+    pub(crate) fn step(&mut self, ports: &[HostPort], free: bool) -> io::Result<Option<Found>>
+        requires few { length ports.now ≤ MAX_LINKS }
+        requires free { free ≡ true → length ports.now < MAX_LINKS }
+        ensures { IfOk result
+            (λ found. IfSome found (FitsFound (free ≡ true) (length ports.now))) }
     {
         if self.watch.is_due() {
             if is_stopped(self.watch.rt)? {
@@ -293,33 +319,23 @@ impl<'a, R: Files + rt::Clock + Net> Lookout<'a, R> {
         if let Some(link) = self.next_late(ports) {
             let sign = Sign {
                 ended: false,
+                urgent: false,
                 late: true,
                 looks: self.looks,
             };
             return Ok(Some(Found::Link(link, sign)));
         }
-        if let Some((token, ended)) = self.take_event() {
-            return Ok(self.told_by(token, ended, ports));
+        if let Some(told) = self.take_event() {
+            return match self.told_by(told, ports) {
+                Some((link, sign)) => Ok(Some(Found::Link(link, sign))),
+                None => Ok(None),
+            };
         }
-        let fresh = self.next_fresh(ports.len())?;
+        let fresh = self.next_fresh(ports.len(), free)?;
         if fresh.is_none() {
-            self.wait()?;
+            self.wait(free)?;
         }
         Ok(fresh)
-    }
-
-    /// What is to be done next.
-    pub(crate) fn advance(&mut self, ports: &[HostPort]) -> io::Result<Found>
-        requires { length ports.now ≤ MAX_LINKS }
-        ensures { IfOk result (FitsFound (length ports.now)) }
-    {
-        self.listen()?;
-        for _ in 0..u64::MAX {
-            if let Some(found) = self.step(ports)? {
-                return Ok(found);
-            }
-        }
-        Ok(Found::Stop)
     }
 
     /// Listens no more.

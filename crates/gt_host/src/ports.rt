@@ -1,21 +1,26 @@
 //! Links over TCP that are served side by side on one thread, on this machine alone.
-ghost use Rattle.std.specs.Prelude.{◌≡◌, ◌<◌, ◌≤◌, length, vec_len, vec_capacity, OnOk, IfOk};
-ghost use Rattle.std.specs.Prelude.{[], None, Some, Ok, false};
+ghost use Rattle.std.specs.Prelude.{◌≡◌, ◌<◌, ◌≤◌, length, vec_capacity, IfOk, IfSome};
+ghost use Rattle.std.specs.Prelude.{[], None, Some, Ok, true, false};
 ghost use Rattle.gt_base.specs.declared.limits.TheConstants.{MAX_LINKS};
+ghost use Rattle.gt_host.specs.declared.ports.TheConstants.{MAX_OPEN};
 ghost use Rattle.gt_io.specs.Ports.{PortReads, PortWrites, FitsGot, FitsTook, readied};
 ghost use Rattle.gt_io.specs.Ports.{open_among, Happens, IsUncalled};
 ghost use Rattle.gt_host.specs.HostPorts.{host_port, host_port_in, host_harbour};
-ghost use Rattle.gt_host.specs.Lookouts.{FitsFound};
+ghost use Rattle.gt_host.specs.Lookouts.{FitsFound, MayOpen};
 
 use crate::conn::{Conn, Sign};
 use crate::lookout::{Found, Lookout};
 use crate::port::HostPort;
+use gt_base::MAX_LINKS;
 use gt_io::{Called, Failed, Got, PortEvent, Ports, Took, count_fault, count_finished};
 use mio::Registry;
 use std::alloc::Global;
 use std::io;
 use std::net::Net;
 use std::rt::{self, Files};
+
+/// How many links are open at most.
+pub(crate) const MAX_OPEN: u64 = 1024;
 
 impl HostPort {
     /// Whether it has a stream whose client was silent for too long.
@@ -135,7 +140,8 @@ impl HostPort {
 /// Where the listener could not be made, or fails for good, they fail. Replies are held back until
 /// bytes are next read from their link, or many are held; those that a stream does not take as its
 /// link is let go are lost. A link that broke fails alone, and one whose client is silent for ten
-/// minutes is at its end.
+/// minutes is at its end. Where 1,024 links are open, or their list finds no memory, the next
+/// client waits in the system's queue.
 pub struct HostPorts<'a, R> {
     pub(crate) lookout: Lookout<'a, R>,
     pub(crate) ports: Vec<HostPort>,
@@ -146,6 +152,7 @@ pub struct HostPorts<'a, R> {
     faults: u64,
     ends: u64,
     ghost few: { length ports.items ≤ MAX_LINKS },
+    ghost low: { busy ≤ MAX_OPEN },
     ghost counted: { busy ≡ open_among (host_port_in ports.items) (length ports.items) },
 }
 
@@ -184,8 +191,8 @@ impl<'a, R: Files + rt::Clock + Net> HostPorts<'a, R> {
 
     /// Opens the link of a connection.
     fn begin(&mut self, conn: Box<Conn>) -> PortEvent
-        requires room { vec_len self.old.ports < vec_capacity self.old.ports }
-        requires few { length self.old.ports.items < MAX_LINKS }
+        requires free { MayOpen (length self.old.ports.items) self.old.busy
+            (vec_capacity self.old.ports) }
         ensures kept { (self.new.told ≡ self.old.told) × (self.new.nexts ≡ self.old.nexts) }
         ensures happens { Happens (⟦<HostPorts<'a, R> as Ports>⟧.harbour self.old)
             (⟦<HostPorts<'a, R> as Ports>⟧.harbour self.new) (Ok result) }
@@ -212,17 +219,47 @@ impl<'a, R: Files + rt::Clock + Net> HostPorts<'a, R> {
         PortEvent::Ready(link)
     }
 
-    /// What is to be done next, with room for a further link.
+    /// Whether a further link can be opened now. The room for all that ever are is taken at the
+    /// first call.
+    fn is_free(&mut self) -> bool
+        ensures same { ⟦<HostPorts<'a, R> as Ports>⟧.harbour self.new
+            ≡ ⟦<HostPorts<'a, R> as Ports>⟧.harbour self.old }
+        ensures free { result ≡ true → MayOpen (length self.new.ports.items) self.new.busy
+            (vec_capacity self.new.ports) }
+    {
+        if self.busy >= MAX_OPEN || self.ports.len() >= MAX_LINKS {
+            return false;
+        }
+        self.ports.reserve(MAX_LINKS - self.ports.len()).is_ok()
+    }
+
+    /// One step, which opens a link where it can be opened.
+    fn step(&mut self) -> io::Result<Option<Found>>
+        ensures same { ⟦<HostPorts<'a, R> as Ports>⟧.harbour self.new
+            ≡ ⟦<HostPorts<'a, R> as Ports>⟧.harbour self.old }
+        ensures fits { IfOk result (λ found. IfSome found (FitsFound
+            (MayOpen (length self.new.ports.items) self.new.busy (vec_capacity self.new.ports))
+            (length self.new.ports.items))) }
+    {
+        let free = self.is_free();
+        self.lookout.step(&self.ports, free)
+    }
+
+    /// What is to be done next.
     fn found(&mut self) -> io::Result<Found>
         ensures same { ⟦<HostPorts<'a, R> as Ports>⟧.harbour self.new
             ≡ ⟦<HostPorts<'a, R> as Ports>⟧.harbour self.old }
-        ensures room { OnOk result (vec_len self.new.ports < vec_capacity self.new.ports) }
-        ensures fits { IfOk result (FitsFound (length self.new.ports.items)) }
+        ensures fits { IfOk result (FitsFound
+            (MayOpen (length self.new.ports.items) self.new.busy (vec_capacity self.new.ports))
+            (length self.new.ports.items)) }
     {
-        if self.ports.reserve(1).is_err() {
-            return Err(io::Error::from(io::ErrorKind::OutOfMemory));
+        self.lookout.listen()?;
+        for _ in 0..u64::MAX {
+            if let Some(found) = self.step()? {
+                return Ok(found);
+            }
         }
-        self.lookout.advance(&self.ports)
+        Ok(Found::Stop)
     }
 
     /// The answer to a call that was counted.

@@ -1,5 +1,8 @@
 //! The file by which the server is stopped, and how long the waits of the edge last, so that each
 //! of them sees it soon.
+ghost use Rattle.std.specs.Prelude.{◌≡◌, ◌≤◌, IfOk, OnErr};
+ghost use Rattle.gt_host.specs.Sights.{Sight, seen_by};
+
 use std::rt::{self, Files};
 use std::time::Duration;
 use std::{fs, io};
@@ -11,18 +14,88 @@ const STOP_FILE: &str = "gtrbacd.stop";
 /// file at a client that is never silent.
 pub(crate) const WAIT_MILLIS: u64 = 250;
 
+/// How many looks for the stop file in a row have to fail before that is believed.
+pub(crate) const MAX_FAILED: u32 = 20;
+
+/// How many milliseconds pass before a look that failed is tried again.
+const AGAIN_MILLIS: u64 = 50;
+
 /// How long one wait lasts at most.
 pub(crate) fn one_wait() -> Duration {
     Duration::from_millis(WAIT_MILLIS)
 }
 
-/// Whether the stop file stands.
-pub(crate) fn is_stopped<R: Files>(rt: &R) -> io::Result<bool> {
-    fs::exists(rt, STOP_FILE)
+/// A file that is looked for. Looks can fail.
+pub(crate) trait Sought {
+    /// What the last look that did not fail has told, and how many have failed since.
+    ghost sight: { Self → Sight };
+
+    /// Whether it stands.
+    fn look(&mut self) -> io::Result<bool>
+        ensures { sight self.new ≡ seen_by result (sight self.old) };
+
+    /// Lets a moment pass.
+    fn pause(&mut self)
+        ensures { sight self.new ≡ sight self.old };
+}
+
+/// Whether a file stands. A look that fails is tried again, since its cause may pass, and is
+/// believed where 20 in a row have failed.
+pub(crate) fn look_again<S: Sought>(file: &mut S) -> io::Result<bool>
+    ensures stands { IfOk result
+        (λ stands. S.sight file.new ≡ record { stands = stands; failed = 0 }) }
+    ensures failed { OnErr result (MAX_FAILED ≤ (S.sight file.new).failed) }
+{
+    for _ in 1..MAX_FAILED {
+        match file.look() {
+            Ok(stands) => return Ok(stands),
+            Err(_) => file.pause(),
+        }
+    }
+    file.look()
+}
+
+/// The stop file of the folder that the program runs in.
+#[derive(Drop)]
+struct StopFile<'a, R> {
+    rt: &'a R,
+    stands: bool,
+    failed: u32,
+}
+
+impl<'a, R: Files + rt::Clock> Sought for StopFile<'a, R> {
+    ghost sight = { λ f. record { stands = f.stands; failed = f.failed } };
+
+    fn look(&mut self) -> io::Result<bool> {
+        match fs::exists(self.rt, STOP_FILE) {
+            Ok(stands) => {
+                self.stands = stands;
+                self.failed = 0;
+                Ok(stands)
+            }
+            Err(fault) => {
+                self.failed = self.failed.saturating_add(1);
+                Err(fault)
+            }
+        }
+    }
+
+    fn pause(&mut self) {
+        self.rt.sleep(Duration::from_millis(AGAIN_MILLIS));
+    }
+}
+
+/// Whether the stop file stands. It fails only where 20 looks in a row have failed, for a second.
+pub(crate) fn is_stopped<R: Files + rt::Clock>(rt: &R) -> io::Result<bool> {
+    look_again(&mut StopFile {
+        rt,
+        stands: false,
+        failed: 0,
+    })
 }
 
 /// Whether the stop file stands, or can't be looked for.
-pub(crate) fn must_stop<R: Files>(rt: &R) -> bool {
+pub(crate) fn must_stop<R: Files + rt::Clock>(rt: &R) -> bool {
     is_stopped(rt).unwrap_or(true)
 }
 

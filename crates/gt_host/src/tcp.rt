@@ -30,7 +30,11 @@ const PAUSE_MILLIS: u64 = 20;
 
 /// Reads some bytes. None come at the end, which is also where the stop file stands or the client
 /// is silent for too long.
-fn read_some<R: Files>(rt: &R, stream: &mut TcpStream, buf: &mut [u8]) -> io::Result<usize>
+fn read_some<R: Files + rt::Clock>(
+    rt: &R,
+    stream: &mut TcpStream,
+    buf: &mut [u8],
+) -> io::Result<usize>
     ensures { ReadsAtMost result buf.new }
 {
     for _ in 0..MAX_SILENT_WAITS {
@@ -49,7 +53,11 @@ fn read_some<R: Files>(rt: &R, stream: &mut TcpStream, buf: &mut [u8]) -> io::Re
 
 /// Writes some of the piece, at least a byte. It fails where the stop file stands, or where the
 /// client takes nothing for too long.
-fn write_some<R: Files>(rt: &R, stream: &mut TcpStream, piece: &[u8]) -> io::Result<usize>
+fn write_some<R: Files + rt::Clock>(
+    rt: &R,
+    stream: &mut TcpStream,
+    piece: &[u8],
+) -> io::Result<usize>
     ensures { IfOk result (λ n. (0 < n) × (n ≤ length piece.now)) }
 {
     for _ in 0..MAX_STILL_WAITS {
@@ -69,7 +77,7 @@ fn write_some<R: Files>(rt: &R, stream: &mut TcpStream, piece: &[u8]) -> io::Res
 
 /// Writes the whole text. A write that takes a part has waited for the rest, so it looks for the
 /// stop file then too.
-fn write_text<R: Files>(rt: &R, stream: &mut TcpStream, text: &[u8]) -> io::Result<()> {
+fn write_text<R: Files + rt::Clock>(rt: &R, stream: &mut TcpStream, text: &[u8]) -> io::Result<()> {
     let mut rest = text;
     while !rest.is_empty() {
         let n = write_some(rt, stream, rest)?;

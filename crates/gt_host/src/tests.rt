@@ -1,8 +1,12 @@
 ghost use Rattle.std.specs.Prelude.{◌≡◌, ◌<◌, length, true, false};
 ghost use Rattle.gt_io.specs.Ports.{IsOpen};
+ghost use Rattle.gt_host.specs.Sights.{seen_by};
 
 use super::*;
 use crate::clock::minute_at;
+use crate::conn::{Conn, Sign};
+use crate::lookout::{Found, Lookout};
+use crate::stop::{MAX_FAILED, Sought, look_again};
 use gt_io::{
     Clock, Door, Failed, Got, Link, PortEvent, Ports, ReadFault, Took, find_all, read_all,
     send_all, write_all,
@@ -81,6 +85,110 @@ fn a_file_is_found_and_read(rt: HostRuntime) -> Result<(), Fail> {
             Err(ReadFault::Failed)
         )
     );
+    Ok(())
+}
+
+/// A file that stands, of which the first looks fail.
+#[derive(Drop)]
+struct Hazy {
+    fails: u32,
+    stands: bool,
+    failed: u32,
+    pauses: u32,
+}
+
+impl Sought for Hazy {
+    ghost sight = { λ f. record { stands = f.stands; failed = f.failed } };
+
+    fn look(&mut self) -> io::Result<bool> {
+        if self.fails > 0 {
+            self.fails -= 1;
+            self.failed = self.failed.saturating_add(1);
+            return Err(io::Error::from(io::ErrorKind::TimedOut));
+        }
+        self.stands = true;
+        self.failed = 0;
+        Ok(true)
+    }
+
+    fn pause(&mut self) {
+        self.pauses = self.pauses.saturating_add(1);
+    }
+}
+
+/// Looks that fail are passed over, behind a pause each, but for so many in a row.
+#[test]
+fn a_look_that_fails_is_tried_again(rt: HostRuntime) -> Result<(), Fail> {
+    let mut file = Hazy {
+        fails: MAX_FAILED - 1,
+        stands: false,
+        failed: 0,
+        pauses: 0,
+    };
+    assert!(rt; matches!(look_again(&mut file), Ok(true)));
+    assert_eq!(rt; file.pauses, MAX_FAILED - 1);
+    file.fails = MAX_FAILED;
+    assert!(rt; look_again(&mut file).is_err());
+    assert_eq!(rt; file.fails, 0);
+    Ok(())
+}
+
+/// The port that a lookout listens on.
+fn port_of_lookout<R: Files + rt::Clock + Net>(lookout: &mut Lookout<'_, R>) -> io::Result<u16> {
+    lookout.listen()?;
+    match &lookout.listener {
+        Some(listener) => Ok(listener.local_addr()?.port()),
+        None => Err(io::Error::from(io::ErrorKind::NotConnected)),
+    }
+}
+
+/// The connection that waits, within some steps.
+fn next_of<R: Files + rt::Clock + Net>(
+    lookout: &mut Lookout<'_, R>,
+    free: bool,
+    steps: u32,
+) -> Result<Option<Box<Conn>>, Fail> {
+    for _ in 0..steps {
+        match lookout.step(&[], free)? {
+            Some(Found::Fresh(conn)) => return Ok(Some(conn)),
+            Some(_) => return Err("no connection".into()),
+            None => {}
+        }
+    }
+    Ok(None)
+}
+
+/// A client waits where its link can't be opened, and is served once it can. A read that came short
+/// ends its turn, but where an urgent byte was told.
+#[test]
+fn a_client_waits_in_the_queue(rt: HostRuntime) -> Result<(), Fail> {
+    let mut lookout = Lookout::new(&rt, rt.alloc(), 0);
+    let port = port_of_lookout(&mut lookout)?;
+    let mut client = TcpStream::connect(&rt, (Ipv4Addr::LOCALHOST, port))?;
+    client.write(b"ab")?;
+    assert!(rt; next_of(&mut lookout, false, 6)?.is_none());
+    let mut conn = next_of(&mut lookout, true, 6)?.ok_or("no connection")?;
+    let mut buf = [0u8; 8];
+    let mut sign = Sign {
+        ended: false,
+        urgent: true,
+        late: false,
+        looks: 0,
+    };
+    conn.wake(sign);
+    assert_eq!(rt; conn.draw(None, 1, &mut buf)?, Got::Bytes(2));
+    client.write(b"c")?;
+    assert_eq!(rt; conn.draw(None, 1, &mut buf)?, Got::Bytes(1));
+    assert_eq!(rt; conn.draw(None, 1, &mut buf)?, Got::NotYet);
+    sign.urgent = false;
+    conn.wake(sign);
+    client.write(b"d")?;
+    assert_eq!(rt; conn.draw(None, 1, &mut buf)?, Got::Bytes(1));
+    client.write(b"e")?;
+    assert_eq!(rt; conn.draw(None, 1, &mut buf)?, Got::NotYet);
+    conn.wake(sign);
+    assert_eq!(rt; conn.draw(None, 1, &mut buf)?, Got::Bytes(1));
+    assert_eq!(rt; buf[0], b'e');
     Ok(())
 }
 

@@ -12,7 +12,7 @@ invariant_of-self-clause-counted g c =
     let xs = s.ports.items in
     let y : HostPort = record { conn = Some c.args.conn; last = Nothing; owed = false; others = s.busy; finished = None } in
     let most = count_most (host_port_in xs) (length xs) in
-    let few = c.requires.few in
+    let few = c.requires.free.0 in
     let counted = s.counted in
     let more = c.saturating_add-self.ensures in
     let push = count_push xs y refl in
