@@ -205,9 +205,10 @@ fn hire<G: Gate + Copy>(
 {
     let mut crew = Vec::with_capacity(alloc, 2)?;
     crew.push_reserved(worker(alloc, first.0, first.1, gate));
-    if let Some((door, clock)) = second {
-        crew.push_reserved(worker(alloc, door, clock, gate));
-    }
+    let Some((door, clock)) = second else {
+        return Ok(crew);
+    };
+    crew.push_reserved(worker(alloc, door, clock, gate));
     Ok(crew)
 }
 
