@@ -34,7 +34,7 @@ module _ {M R C G : Type 0} (list : M → List Entry) (legal : M → List Entry 
       let number : p.pass.now.number ≡ m.pass.now.number = ap (λ (h : Holder M). h.number) x.asks.grows.after_is in (
         (x.keeps.0 ∙ same.0, number ∙ same.1),
         subst (λ s. ClerkAsks {M = M} (service_at list legal now_of s.now.desk.now s.now.policy.now) (by o.pass.now.number s.now.conn) (seen m) (seen p) actor request answer readings entries) same.0
-        (subst (λ (n : ℕ). ClerkAsks {M = M} (service_of list legal now_of readings_by m) (by n m.server.now.conn) (seen m) (seen p) actor request answer readings entries) same.1 x.asks),
+            (subst (λ (n : ℕ). ClerkAsks {M = M} (service_of list legal now_of readings_by m) (by n m.server.now.conn) (seen m) (seen p) actor request answer readings entries) same.1 x.asks),
       )
 
   pub lent_attends : (p : Clerk M R C G) (talk talk' : Talk) (given given' : Option (List ℕ)) (a b : Traffic) (end : LinkEnd)

@@ -195,11 +195,7 @@ fn read_some<L: Link>(link: &mut L, buf: &mut [u8], left: usize) -> Result<usize
 }
 
 /// Takes the bytes of a link to its end.
-fn take_all<A: Answerer, L: Link>(
-    answerer: &mut A,
-    link: &mut L,
-    hearing: &mut Hearing,
-) -> LinkEnd
+fn take_all<A: Answerer, L: Link>(answerer: &mut A, link: &mut L, hearing: &mut Hearing) -> LinkEnd
     requires ready { A.ready answerer.old }
     requires start { IsStart hearing.old.talk }
     requires frame { hearing.old.framer ≡ blank_frame }

@@ -145,12 +145,12 @@ module _ {L : Type 0} (traffic : L → Traffic) (h : List Entry) where
   -- crew and viewers have served from this birth, and the log of the crew's history is written with
   -- its status
   pub record ViewHasServed (np : NamedPolicy) (birth status : ℕ) (a b : Scene (Company L)) : Type 0
-      where
-    pub headline : CrewHeadline traffic np birth a.server.crew b.server.crew h
-    pub due : ℕ
-    pub compared : Compared np birth due a.server b.server
-    pub written : IsWritten due (views_text np birth h due (first_late h b.server.viewers)) status
-        a.written b.written a.faults b.faults
+    where
+      pub headline : CrewHeadline traffic np birth a.server.crew b.server.crew h
+      pub due : ℕ
+      pub compared : Compared np birth due a.server b.server
+      pub written : IsWritten due (views_text np birth h due (first_late h b.server.viewers)) status
+          a.written b.written a.faults b.faults
 
   -- There was no memory: for a worker or a viewer, to name a number that is above the length, or to
   -- see to the replies of the viewers

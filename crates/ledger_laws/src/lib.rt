@@ -1,5 +1,6 @@
 //! What connections can ask of a ledger, and that its replies can be told: a law each.
 #![tactic(auto)]
+
 ghost use Rattle.connection_laws.specs.Desks.{GlancesCanBeTold};
 ghost use Rattle.ledger_laws.specs.Serving.{CanBeServed};
 

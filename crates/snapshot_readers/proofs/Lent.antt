@@ -21,9 +21,9 @@ module _ {G : Type 0} (o : Guide G) where
   asked_so : (m p : Guide G) (actor : Actor) (request : Request) (answer : Answer) (readings : List ℕ) (entries : List Entry) → Same o m → GuideGets m p actor request answer readings entries
       → Same o p × GuideAsks o.policy.now o.glass.now.birth (seen_guide m) (seen_guide p) actor request answer readings entries
   asked_so m p actor request answer readings entries same x = (
-      (x.keeps.0 ∙ same.0, (x.same.0 ∙ same.1.0, x.same.1 ∙ same.1.1)),
-      subst (λ q. GuideAsks q.now o.glass.now.birth (seen_guide m) (seen_guide p) actor request answer readings entries) same.0
-      (subst (λ (b : ℕ). GuideAsks m.policy.now b (seen_guide m) (seen_guide p) actor request answer readings entries) same.1.1 x.asks),
+    (x.keeps.0 ∙ same.0, (x.same.0 ∙ same.1.0, x.same.1 ∙ same.1.1)),
+    subst (λ q. GuideAsks q.now o.glass.now.birth (seen_guide m) (seen_guide p) actor request answer readings entries) same.0
+        (subst (λ (b : ℕ). GuideAsks m.policy.now b (seen_guide m) (seen_guide p) actor request answer readings entries) same.1.1 x.asks),
   )
 
   pub lent_attends : (p : Guide G) (talk talk' : Talk) (given given' : Option (List ℕ)) (a b : Traffic) (end : LinkEnd)

@@ -33,4 +33,3 @@ returns-in-Ended-clause-answers g c =
 
 pub returns-in-Err-clause-answers : goal.returns-in-Err-clause-answers
 returns-in-Err-clause-answers g c = starved_as _ (Some c.args.name.now) _ _ _ refl refl refl refl refl
-
