@@ -16,16 +16,13 @@ use Rattle.connection_laws.specs.Lines.{Answer, silence, agreed, bad, accepted, 
 use Rattle.connection_laws.specs.Attending.{StepsBy, Steps}
 use Rattle.connection_laws.specs.declared.talk.LineAnswer.{LineAnswer}
 use Rattle.connection_laws.proofs.Linking.{acted_so}
-use Rattle.connection_laws.proofs.Prefixes.{prefix_trans}
+use Rattle.connection_laws.proofs.Prefixes.{prefix_self, prefix_trans}
 use Rattle.connection_laws.specs.Desks.{IsReplyAt}
 use Rattle.snapshot_readers.specs.Viewed.{lens_in, lens_of, AscendBetween, Looks, Sees}
 use Rattle.snapshot_readers.specs.Guides.{GuideView, GuideAsks}
 use Rattle.snapshot_readers.specs.Viewing.{Shows}
 use Rattle.snapshot_readers.proofs.Ascending.{ascend_on}
 use Rattle.snapshot_readers.proofs.Longer.{take_longer, longer}
-
-prefix_same : (h : List Entry) → IsPrefix h h
-prefix_same h = ([], append-nil h)
 
 module _ (np : NamedPolicy) (birth : ℕ) where
   -- what was seen over a history is seen over a longer one
@@ -63,7 +60,7 @@ module _ (np : NamedPolicy) (birth : ℕ) where
       let empty : lens_in x.answer ≡ [] = ap lens_in is ∙ none in
       record {
         gets = gets;
-        grows = subst (λ (g : GuideView). IsPrefix a.seen g.seen) (sym same) (prefix_same a.seen);
+        grows = subst (λ (g : GuideView). IsPrefix a.seen g.seen) (sym same) (prefix_self a.seen);
         lens = ap (λ (g : GuideView). g.lens) same ∙ sym (ap (λ (ns : List ℕ). a.lens ++ ns) empty ∙ append-nil a.lens);
         ascends =
             subst (λ (ns : List ℕ). AscendBetween (length a.seen) ns (length b.seen)) (sym empty)
@@ -100,7 +97,7 @@ module _ (np : NamedPolicy) (birth : ℕ) where
   pub goes_of : (o p : GuideView) (acted : List Acted) → Steps np (GuideAsks np birth) o p acted → GuideGoes o p acted
   goes_of o p [] steps =
       subst (λ (g : GuideView). GuideGoes o g []) (sym steps)
-      (record { fits = tt; grows = prefix_same o.seen; lens = sym (append-nil o.lens); ascends = omega arith })
+      (record { fits = tt; grows = prefix_self o.seen; lens = sym (append-nil o.lens); ascends = omega arith })
   goes_of o p (x ∷ before) steps =
       goes_next o steps.0 p x before (goes_of o steps.0 before steps.1) (step_of steps.0 p (read_line np Nobody false x.line) (actor_after np before) x steps.2)
 
@@ -109,7 +106,7 @@ module _ (np : NamedPolicy) (birth : ℕ) where
   asks_none g actor request e =
       record {
         sees = λ n. (subst (λ (b : Bool). MatchBool b (Looks np birth g.seen actor request view_only) (view_only ≡ view_only)) e refl, refl, refl);
-        grows = prefix_same g.seen;
+        grows = prefix_self g.seen;
         lens = sym (append-nil g.lens);
         ascends = omega arith;
       }

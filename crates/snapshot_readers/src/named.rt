@@ -34,7 +34,7 @@ fn names_fluent(policy: &Policy, fluent: Fluent) -> bool
     }
 }
 
-/// what each session's number is
+/// Whether the number of a session is in range.
 fn is_session(session: SessionId) -> bool
     ensures { result ≡ true → session.0 < 2 ^ 32 }
 {
