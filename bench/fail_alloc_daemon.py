@@ -111,11 +111,11 @@ def judge(text):
     return status, sum(link[3] for link in zero + one)
 
 
-def run(number, shim):
+def run(number, shim, words=(PROGRAM, TEST)):
     """What the run tells where this allocation is refused, none for 0, and how many there were."""
     with tempfile.NamedTemporaryFile() as count:
-        words = dict(os.environ, LD_PRELOAD=shim, FAIL_ALLOC=str(number), COUNT_FILE=count.name)
-        done = subprocess.run([PROGRAM, TEST], env=words, stdout=subprocess.PIPE, stderr=subprocess.DEVNULL, timeout=60)
+        names = dict(os.environ, LD_PRELOAD=shim, FAIL_ALLOC=str(number), COUNT_FILE=count.name)
+        done = subprocess.run(words, env=names, stdout=subprocess.PIPE, stderr=subprocess.DEVNULL, timeout=60)
         # A test that fails does not come to its end, where the number is written: then it is not known.
         calls = int(count.read() or 0)
     return done.stdout.decode(), calls

@@ -1,5 +1,5 @@
 -- Calls at the desk one after another.
-use Rattle.std.proofs.Common.{◌≡◌, ℕ, ◌+◌, ◌≤◌, List, [], ◌∷◌, ◌++◌, sym, ap, subst, ◌∙◌, arith, append_assoc, append-nil, length-append, Ok}
+use Rattle.std.proofs.Common.{◌≡◌, ℕ, ◌+◌, ◌≤◌, Bool, List, [], ◌∷◌, ◌++◌, sym, ap, subst, ◌∙◌, arith, append_assoc, append-nil, length-append, Ok}
 use mathlib.Core.List.{IsPrefix}
 use Rattle.gt_base.specs.declared.requests.Entry.{Entry}
 use Rattle.gt_base.specs.declared.requests.Who.{Who}
@@ -7,7 +7,7 @@ use Rattle.gt_base.specs.Machines.{ticked}
 use Rattle.turn_lock.specs.Turns.{Each}
 use Rattle.turn_lock.proofs.Totals.{each-append}
 use Rattle.connection_laws.specs.Connection.{IsTick}
-use Rattle.turn_lock.specs.Holders.{Holder}
+use Rattle.turn_lock.specs.Holders.{Holder, rested}
 use Rattle.locked_history.specs.Fronts.{by, Lands, Refuses}
 use Rattle.connection_laws.proofs.Prefixes.{prefix_self, prefix_trans}
 use Rattle.connection_laws.specs.Turns.{Grows, Reaches}
@@ -26,8 +26,8 @@ module _ {M : Type 0} where
   grown_twice a b c more new k l g h =
       record {
         seen = prefix_trans a.seen b.seen c.seen g.seen h.seen;
-        after_is = h.after_is ∙ ap (λ (p : Holder M). record p { draws = c.draws; seen = c.seen; own = p.own ++ new }) g.after_is
-            ∙ ap (λ (own : List Entry). record a { draws = c.draws; seen = c.seen; own = own }) (append_assoc a.own more new);
+        after_is = h.after_is ∙ ap (λ (p : Holder M). record p { draws = c.draws; seen = c.seen; own = p.own ++ new; stays = c.stays; keeps = c.keeps }) g.after_is
+            ∙ ap (λ (own : List Entry). record a { draws = c.draws; seen = c.seen; own = own; stays = c.stays; keeps = c.keeps }) (append_assoc a.own more new);
         draws_low = let x = g.draws_low in let y = h.draws_low in omega (arith, x, y);
         draws_high = let x = g.draws_high in let y = h.draws_high in omega (arith, x, y, length-append more new);
       }
@@ -36,7 +36,8 @@ module _ {M : Type 0} where
   grown_refused b c r =
       record {
         seen = r.seen;
-        after_is = r.after_is ∙ ap (λ (own : List Entry). record b { draws = c.draws; seen = c.seen; own = own }) (sym (append-nil b.own));
+        after_is = r.after_is ∙ ap (λ (own : List Entry). record b { draws = c.draws; seen = c.seen; own = own; keeps = c.keeps }) (sym (append-nil b.own))
+            ∙ ap (λ (stays : Bool). record b { draws = c.draws; seen = c.seen; own = b.own ++ []; stays = stays; keeps = c.keeps }) (sym (ap (λ (p : Holder M). p.stays) r.after_is));
         draws_low = r.draws.0;
         draws_high = let x = r.draws.1 in omega (arith, x);
       }
@@ -45,7 +46,8 @@ module _ {M : Type 0} where
   grown_idle first b c front l =
       record {
         seen = subst (IsPrefix b.seen) (sym (ap (λ (p : Holder M). p.seen) l.after_is)) l.seen;
-        after_is = l.after_is ∙ ap (λ (seen : List Entry). record b { draws = c.draws; seen = seen; own = b.own ++ [] }) (sym (ap (λ (p : Holder M). p.seen) l.after_is));
+        after_is = l.after_is ∙ ap (λ (seen : List Entry). record b { draws = c.draws; seen = seen; own = b.own ++ []; keeps = c.keeps }) (sym (ap (λ (p : Holder M). p.seen) l.after_is))
+            ∙ ap (λ (stays : Bool). record b { draws = c.draws; seen = c.seen; own = b.own ++ []; stays = stays; keeps = c.keeps }) (sym (ap (λ (p : Holder M). p.stays) l.after_is));
         draws_low = let x = l.draws.1 in omega (arith, x);
         draws_high = let x = l.draws.1 in omega (arith, x);
       }
@@ -54,9 +56,30 @@ module _ {M : Type 0} where
   grown_one first b c front e l =
       record {
         seen = subst (IsPrefix b.seen) (sym (ap (λ (p : Holder M). p.seen) l.after_is)) l.seen;
-        after_is = l.after_is ∙ ap (λ (seen : List Entry). record b { draws = c.draws; seen = seen; own = b.own ++ e ∷ [] }) (sym (ap (λ (p : Holder M). p.seen) l.after_is));
+        after_is = l.after_is ∙ ap (λ (seen : List Entry). record b { draws = c.draws; seen = seen; own = b.own ++ e ∷ []; keeps = c.keeps }) (sym (ap (λ (p : Holder M). p.seen) l.after_is))
+            ∙ ap (λ (stays : Bool). record b { draws = c.draws; seen = c.seen; own = b.own ++ e ∷ []; stays = stays; keeps = c.keeps }) (sym (ap (λ (p : Holder M). p.stays) l.after_is));
         draws_low = let x = l.draws.1 in omega (arith, x);
         draws_high = let x = l.draws.1 in omega (arith, x);
+      }
+
+  -- told of the pass at rest
+  pub rested_grows : (a b : Holder M) (more : List Entry) (extra : ℕ) → Grows a b more extra → Grows (rested a) (rested b) more extra
+  rested_grows a b more extra g =
+      record {
+        seen = g.seen;
+        after_is = ap (λ (p : Holder M). rested p) g.after_is;
+        draws_low = g.draws_low;
+        draws_high = g.draws_high;
+      }
+
+  -- and of the pass as it is
+  pub grows_rested : (a b : Holder M) (more : List Entry) (extra : ℕ) → Grows (rested a) (rested b) more extra → Grows a b more extra
+  grows_rested a b more extra g =
+      record {
+        seen = g.seen;
+        after_is = ap (λ (p : Holder M). record p { stays = b.stays; keeps = b.keeps }) g.after_is;
+        draws_low = g.draws_low;
+        draws_high = g.draws_high;
       }
 
   -- ticks that go on, and a last call that adds nothing

@@ -1,5 +1,5 @@
 -- A worker that was lent its pass and its clock: what its steps come to for these.
-use Rattle.std.proofs.Common.{◌≡◌, ℕ, List, refl, ap, subst, ◌∙◌, Option}
+use Rattle.std.proofs.Common.{◌≡◌, ℕ, List, refl, sym, ap, subst, ◌∙◌, Option}
 use Rattle.gt_base.specs.declared.requests.Actor.{Actor}
 use Rattle.gt_base.specs.declared.requests.Request.{Request}
 use Rattle.gt_base.specs.declared.requests.Entry.{Entry}
@@ -13,8 +13,9 @@ use Rattle.connection_laws.specs.declared.talk.LineAnswer.{LineAnswer}
 use Rattle.connection_laws.specs.declared.ends.LinkEnd.{LinkEnd}
 use Rattle.connection_laws.specs.Lines.{Answer}
 use Rattle.connection_laws.specs.Services.{service_at}
+use Rattle.connection_laws.specs.Turns.{IsRested}
 use Rattle.connection_laws.specs.Attending.{spot, Attends, ActsBy}
-use Rattle.connection_laws.specs.Clerks.{ClerkView, WearsAt, WearsClerk, ClerkAsks, seen_clerk, service_of, who_of, ClerkGets}
+use Rattle.connection_laws.specs.Clerks.{ClerkView, WearsAt, WearsClerk, ClerkAsks, rested_clerk, seen_clerk, service_of, who_of, ClerkGets}
 use Rattle.connection_laws.proofs.Stepping.{attends_so, acts_so}
 
 module _ {M R C G : Type 0} (list : M → List Entry) (legal : M → List Entry → Type 0) (now_of : M → List Entry → ℕ) (readings_by : C → Option (ℕ → ℕ)) (np : NamedPolicy) (o : Clerk M R C G) where
@@ -48,3 +49,9 @@ module _ {M R C G : Type 0} (list : M → List Entry) (legal : M → List Entry 
       → ActsBy np Asked (WearsClerk (seen p)) (seen o) (seen p) talk talk' line told
   lent_acts p talk talk' line told x =
       (acts_so seen Same (λ k. (refl, refl)) np (ClerkGets list legal now_of readings_by) Asked o asked_so (λ k. WearsAt k.pass.now.draws) WearsClerk (λ k n w. w) p talk talk' line told x).1
+
+  -- where it is at rest again, so is its pass
+  pub lent_rests : (p : Clerk M R C G) → (rested_clerk o ≡ o → rested_clerk p ≡ p) → IsRested o.pass.now → IsRested p.pass.now
+  lent_rests p back rests =
+      let is = back (λ i. record o { pass = record o.pass { now = record o.pass.now { stays = (sym rests.0) i; keeps = (sym rests.1) i } } }) in
+      (sym (ap (λ (k : Clerk M R C G). k.pass.now.stays) is), sym (ap (λ (k : Clerk M R C G). k.pass.now.keeps) is))

@@ -6,7 +6,7 @@ use Rattle.gt_base.specs.declared.requests.Actor.{Actor}
 use Rattle.gt_base.specs.declared.requests.Request.{Request}
 use Rattle.gt_base.specs.declared.requests.Entry.{Entry}
 use Rattle.gt_io.specs.Links.{Reads}
-use Rattle.turn_lock.specs.Holders.{Holder}
+use Rattle.turn_lock.specs.Holders.{Holder, rested}
 use Rattle.connection_laws.specs.Lines.{Answer}
 use Rattle.connection_laws.specs.Connection.{Asks, IsTimed, placed}
 use Rattle.locked_history.specs.Fronts.{by}
@@ -14,14 +14,14 @@ use Rattle.connection_laws.specs.declared.clerk.Clerk.{Clerk}
 use Rattle.connection_laws.specs.Services.{Service, service_at}
 use Rattle.connection_laws.specs.Turns.{Grows, AreMine}
 
--- a worker as it answers: its pass, and the readings of its clock that are to come, where they are
--- told
+-- a worker as it answers: its pass, at rest, and the readings of its clock that are to come, where
+-- they are told
 pub record ClerkView (M : Type 0) : Type 0 where
   pub pass : Holder M
   pub clock : Option (ℕ → ℕ)
 
 abbrev pub clerk_view : {M : Type 0} → Holder M → Option (ℕ → ℕ) → ClerkView M
-clerk_view pass clock = record { pass = pass; clock = clock }
+clerk_view pass clock = record { pass = rested pass; clock = clock }
 
 -- a pass that has drawn so many turns is worn after n of them: it has drawn as many as a pass may
 abbrev pub WearsAt : ℕ → ℕ → Type 0
@@ -42,6 +42,10 @@ module _ {M : Type 0} (v : Service) (who : Who) where
     pub grows : Grows a.pass b.pass entries (2 * length readings)
     pub reads : Reads a.clock b.clock readings
     pub one : length readings ≡ 1
+
+-- it, with its pass at rest
+abbrev pub rested_clerk : {M R C G : Type 0} → Clerk M R C G → Clerk M R C G
+rested_clerk k = record k { pass = record k.pass { now = rested k.pass.now } }
 
 -- over what the machine of its desk tells, and the readings of its clock
 module _ {M R C G : Type 0} (list : M → List Entry) (legal : M → List Entry → Type 0)

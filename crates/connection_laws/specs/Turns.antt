@@ -1,5 +1,5 @@
 -- What the desk gives to one line.
-use Rattle.std.specs.Prelude.{◌≡◌, ℕ, ◌+◌, ◌^◌, ◌≤◌, true, List, [], ◌∷◌, ◌++◌, length, None, IfSome, OnOk, Result, Ok, Err}
+use Rattle.std.specs.Prelude.{◌≡◌, ℕ, ◌+◌, ◌^◌, ◌≤◌, true, false, List, [], ◌∷◌, ◌++◌, length, None, IfSome, OnOk, Result, Ok, Err}
 use Rattle.std.specs.declared.option.Option.{Option}
 use mathlib.Core.List.{IsPrefix}
 use Rattle.gt_base.specs.declared.requests.Who.{Who}
@@ -20,6 +20,10 @@ use Rattle.connection_laws.specs.Connection.{is_who, IsTick, Asks, IsTimed, plac
 abbrev pub IsIdle : {M : Type 0} → Site M → Holder M → Type 0
 IsIdle site p = (p.site ≡ site) × (p.turn ≡ None)
 
+-- a pass that keeps no turn, and is to keep none
+abbrev pub IsRested : {M : Type 0} → Holder M → Type 0
+IsRested p = (p.stays ≡ false) × (p.keeps ≡ false)
+
 -- what a request gets by what the desk answers
 abbrev pub answer_of : Result Reply DeskFault → Answer
 answer_of (Ok reply) = accepted reply
@@ -36,12 +40,18 @@ abbrev pub AreMine : Who → List Entry → Type 0
 AreMine who es = Each (λ (e : Entry). is_who who e ≡ true) es
 
 module _ {M : Type 0} where
-  -- The pass added these entries and is otherwise as it was, but that it may have seen more. It
-  -- drew one turn for each of them, and so many more at most
+  -- The pass added these entries and is otherwise as it was, but that it may have seen more, and
+  -- may keep a turn or not. It drew one turn for each of them, and so many more at most
   pub record Grows (before after : Holder M) (more : List Entry) (extra : ℕ) : Type 0 where
     pub seen : IsPrefix before.seen after.seen
     pub after_is : after
-        ≡ record before { draws = after.draws; seen = after.seen; own = before.own ++ more }
+        ≡ record before {
+          draws = after.draws;
+          seen = after.seen;
+          own = before.own ++ more;
+          stays = after.stays;
+          keeps = after.keeps;
+        }
     pub draws_low : before.draws ≤ after.draws
     pub draws_high : after.draws ≤ before.draws + length more + extra
 

@@ -25,9 +25,12 @@ pub trait Answerer {
     /// It may be asked. This holds between two requests.
     ghost ready: { Self → Type 0 };
 
-    /// What one request makes of it, from before to after: by whom, which, what it got, with these
+    /// What one request makes of it at rest, from before to after: by whom, which, what it got, with these
     /// readings of a clock and as these entries.
     ghost asks: { Self → Self → Actor → Request → Answer → List ℕ → List Entry → Type 0 };
+
+    /// It, at rest: it keeps no turn of the lock, and is to keep none.
+    ghost rested: { Self → Self };
 
     /// Its pass is worn, after so many draws.
     ghost wears: { Self → ℕ → Type 0 };
@@ -42,6 +45,8 @@ pub trait Answerer {
     ghost asks_keep: { (a b : Self) (actor : Actor) (request : Request) (answer : Answer)
         (readings : List ℕ) (entries : List Entry)
         → asks a b actor request answer readings entries → keeps a b };
+
+    ghost rested_keep: { (a b : Self) → keeps (rested a) (rested b) → keeps a b };
 
     /// The policy whose names are read.
     fn policy(&self) -> &Policy
@@ -60,23 +65,31 @@ pub trait Answerer {
         requires wish { IsNamedWish (named self.old).policy (ask actor request) }
         ensures ready { ready self.new }
         ensures named { named self.new ≡ named self.old }
-        ensures answers { AnswersOne (named self.old) (wears self.new)
-            (asks self.old self.new actor request) result }
+        ensures answers { AnswersOne (named self.old) (wears (rested self.new))
+            (asks (rested self.old) (rested self.new) actor request) result }
         ensures lends { LendsRoom room.old room.new (text_in result) };
 
     /// A piece of lines begins, whose replies go out one after the other.
     fn begin_piece(&mut self)
-        ensures { self.new ≡ self.old };
+        requires { ready self.old }
+        ensures ready { ready self.new }
+        ensures named { named self.new ≡ named self.old }
+        ensures same { rested self.new ≡ rested self.old };
 
     /// This is written next, which may wait for the peer.
     fn before_reply(&mut self, told: &LineAnswer)
         requires { ready self.old }
-        ensures { self.new ≡ self.old };
+        ensures ready { ready self.new }
+        ensures named { named self.new ≡ named self.old }
+        ensures same { rested self.new ≡ rested self.old };
 
     /// The piece is at its end, and the peer is waited for.
     fn end_piece(&mut self)
         requires { ready self.old }
-        ensures { self.new ≡ self.old };
+        ensures ready { ready self.new }
+        ensures named { named self.new ≡ named self.old }
+        ensures same { rested self.new ≡ rested self.old }
+        ensures rests { rested self.new ≡ self.new };
 }
 
 /// Acts on a line, but for its reply: a line that asks is answered.
@@ -92,8 +105,8 @@ pub fn act_by<A: Answerer>(
     ensures keeps { A.keeps answerer.old answerer.new }
     ensures ready { A.ready answerer.new }
     ensures named { A.named answerer.new ≡ A.named answerer.old }
-    ensures acts { ActsBy (A.named answerer.old) A.asks (A.wears answerer.new) answerer.old
-        answerer.new talk.old talk.new line.now result }
+    ensures acts { ActsBy (A.named answerer.old) A.asks (A.wears (A.rested answerer.new))
+        (A.rested answerer.old) (A.rested answerer.new) talk.old talk.new line.now result }
     ensures lends { LendsRoom room.old room.new (text_in result) }
 {
     match read_line(answerer.policy(), Actor::Nobody, false, line) {

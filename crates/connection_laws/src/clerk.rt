@@ -3,7 +3,7 @@ ghost use Rattle.std.specs.Prelude.{◌≡◌};
 ghost use Rattle.turn_lock.specs.Holders.{site_of};
 ghost use Rattle.connection_laws.specs.Desks.{MayBeAsked, RepliesCanBeTold};
 ghost use Rattle.connection_laws.specs.Turns.{IsIdle, IsReached};
-ghost use Rattle.connection_laws.specs.Clerks.{WearsAt, ClerkGets};
+ghost use Rattle.connection_laws.specs.Clerks.{WearsAt, ClerkGets, rested_clerk};
 
 use crate::acts::{decide, reply_of};
 use crate::answerer::Answerer;
@@ -42,6 +42,8 @@ impl<'a, M: Machine, R: Wait, C: Clock, G: Gate> Answerer for Clerk<'a, M, R, C,
 
     ghost asks = { ClerkGets M.list M.legal M.now_of C.readings };
 
+    ghost rested = { rested_clerk };
+
     ghost wears = { λ k. WearsAt k.pass.now.draws };
 
     ghost use Rattle.std.proofs.Common.{refl, ◌∙◌};
@@ -55,6 +57,8 @@ impl<'a, M: Machine, R: Wait, C: Clock, G: Gate> Answerer for Clerk<'a, M, R, C,
     ghost keeps_trans = { λ i j k x y. (y.0 ∙ x.0, y.1 ∙ x.1, y.2 ∙ x.2, y.3 ∙ x.3) };
 
     ghost asks_keep = { λ j k actor request answer readings entries x. x.keeps };
+
+    ghost rested_keep = { λ j k x. x };
 
     fn policy(&self) -> &Policy {
         self.server.policy

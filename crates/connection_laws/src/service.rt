@@ -102,8 +102,8 @@ pub fn take_byte<A: Answerer, L: Link>(
     requires room { HasRoom hearing.old.talk 1 }
     requires open { (L.traffic link.old).finished ≡ false }
     ensures goes { TakesBytes (A.named answerer.old) A.asks A.wears
-        (spot answerer.old hearing.old.talk (L.traffic link.old).given)
-        (spot answerer.new hearing.new.talk (L.traffic link.new).given)
+        (spot (A.rested answerer.old) hearing.old.talk (L.traffic link.old).given)
+        (spot (A.rested answerer.new) hearing.new.talk (L.traffic link.new).given)
         hearing.old.framer hearing.new.framer (byte ∷ []) (L.traffic link.old).write_faults
         (L.traffic link.new).write_faults result }
     ensures ready { A.ready answerer.new }
@@ -147,8 +147,8 @@ pub fn take_bytes<A: Answerer, L: Link>(
     requires room { HasRoom hearing.old.talk (length piece.now) }
     requires open { (L.traffic link.old).finished ≡ false }
     ensures goes { TakesBytes (A.named answerer.old) A.asks A.wears
-        (spot answerer.old hearing.old.talk (L.traffic link.old).given)
-        (spot answerer.new hearing.new.talk (L.traffic link.new).given)
+        (spot (A.rested answerer.old) hearing.old.talk (L.traffic link.old).given)
+        (spot (A.rested answerer.new) hearing.new.talk (L.traffic link.new).given)
         hearing.old.framer hearing.new.framer piece.now (L.traffic link.old).write_faults
         (L.traffic link.new).write_faults result }
     ensures ready { A.ready answerer.new }
@@ -160,6 +160,7 @@ pub fn take_bytes<A: Answerer, L: Link>(
     ensures faults { OnOk result
         ((L.traffic link.new).write_faults ≡ (L.traffic link.old).write_faults) }
     ensures kept { room_in hearing.old.room ≤ room_in hearing.new.room }
+    ensures rests { A.rested answerer.new ≡ answerer.new }
 {
     answerer.begin_piece();
     for byte in piece {
@@ -201,13 +202,14 @@ fn take_all<A: Answerer, L: Link>(answerer: &mut A, link: &mut L, hearing: &mut 
     requires frame { hearing.old.framer ≡ blank_frame }
     requires open { (L.traffic link.old).finished ≡ false }
     ensures attends { Attends (A.named answerer.old) A.asks A.wears
-        (spot answerer.old hearing.old.talk (L.traffic link.old).given)
-        (spot answerer.new hearing.new.talk (L.traffic link.new).given)
+        (spot (A.rested answerer.old) hearing.old.talk (L.traffic link.old).given)
+        (spot (A.rested answerer.new) hearing.new.talk (L.traffic link.new).given)
         (L.traffic link.old) (L.traffic link.new) result }
     ensures ready { A.ready answerer.new }
     ensures named { A.named answerer.new ≡ A.named answerer.old }
     ensures calls { hearing.new.talk.calls ≤ hearing.old.talk.calls + MAX_BYTES }
     ensures held { (L.traffic link.new).finished ≡ (L.traffic link.old).finished }
+    ensures rests { A.rested answerer.old ≡ answerer.old → A.rested answerer.new ≡ answerer.new }
 {
     let mut buf = [0u8; 512];
     let mut left = MAX_BYTES;
@@ -228,7 +230,7 @@ fn take_all<A: Answerer, L: Link>(answerer: &mut A, link: &mut L, hearing: &mut 
 
 /// Serves a link to its end, by who answers its requests. After the first read or write that fails
 /// it makes no further one, nor a read behind the one that told the end. Then it lets the link go,
-/// which is the last call on it.
+/// which is the last call on it. Who answers and was at rest is so again at the end.
 pub fn attend<A: Answerer, L: Link>(
     answerer: &mut A,
     link: &mut L,
@@ -240,12 +242,13 @@ pub fn attend<A: Answerer, L: Link>(
     requires open { (L.traffic link.old).finished ≡ false }
     ensures keeps { A.keeps answerer.old answerer.new }
     ensures attends { Attends (A.named answerer.old) A.asks A.wears
-        (spot answerer.old hearing.old.talk (L.traffic link.old).given)
-        (spot answerer.new hearing.new.talk (L.traffic link.new).given)
+        (spot (A.rested answerer.old) hearing.old.talk (L.traffic link.old).given)
+        (spot (A.rested answerer.new) hearing.new.talk (L.traffic link.new).given)
         (L.traffic link.old) (L.traffic link.new) result }
     ensures ready { A.ready answerer.new }
     ensures calls { hearing.new.talk.calls ≤ hearing.old.talk.calls + MAX_BYTES }
     ensures finished { (L.traffic link.new).finished ≡ true }
+    ensures rests { A.rested answerer.old ≡ answerer.old → A.rested answerer.new ≡ answerer.new }
 {
     let end = take_all(answerer, link, hearing);
     link.finish();

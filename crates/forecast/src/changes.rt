@@ -8,7 +8,9 @@ use crate::raised::is_raised;
 use crate::walking::go_on;
 use core_machine::Book;
 use gt_base::{Fluent, Instant, Memory};
+use hybrid_hierarchy::Hierarchy;
 use session_table::Sessions;
+use std::alloc::Global;
 use time_engine::Timeline;
 
 /// An instant at which a fluent is no longer as it was, and whether it is on there.
@@ -22,7 +24,12 @@ pub struct Change {
 /// now and up to the horizon at which it is not as at now, and None exactly where there is none.
 /// The horizon is not before now. Just one run lies ahead of a book. The book stays as it is, and
 /// however long its history is, it may be asked. Only want of memory is free.
-pub fn first_change(book: &Book, f: Fluent, upto: Instant) -> Result<Option<Change>, Memory>
+pub fn first_change(
+    alloc: Global,
+    book: &Book,
+    f: Fluent,
+    upto: Instant,
+) -> Result<Option<Change>, Memory>
     requires { now_in book.now ≤ upto }
     ensures first { IfOk result (IsFirstChange book.now.named.policy book.now.birth book.now.entries
         f upto) }
@@ -36,17 +43,20 @@ pub fn first_change(book: &Book, f: Fluent, upto: Instant) -> Result<Option<Chan
     timeline.keeps();
     let mut line = timeline.copied_without_trace()?;
     let mut table = book.sessions().copied()?;
-    walk(book, &mut line, &mut table, f, upto)
+    let hierarchy = Hierarchy::new(alloc, book.policy().edges())?;
+    walk(book, &hierarchy, &mut line, &mut table, f, upto)
 }
 
 /// Walks on from now until the fluent is not as it was, or to the horizon.
 fn walk(
     book: &Book,
+    hierarchy: &Hierarchy,
     line: &mut Timeline,
     table: &mut Sessions,
     f: Fluent,
     upto: Instant,
 ) -> Result<Option<Change>, Memory>
+    requires hierarchy { hierarchy.now ≡ book.now.named.policy.edges }
     requires way { IsOnWay book.now line.old.line table.old }
     requires now { line.old.line.now ≡ now_in book.now }
     requires within { now_in book.now ≤ upto }
@@ -56,7 +66,7 @@ fn walk(
     book.keeps();
     let was = line.status().is_on(f);
     while line.now().minute() < upto.minute() {
-        go_on(book, line, table, upto)?;
+        go_on(book, hierarchy, line, table, upto)?;
         let on = line.status().is_on(f);
         if on != was {
             let at = line.now();

@@ -1,53 +1,16 @@
 -- What the list of links tells, and how many of them are open, where one was added or changed.
-use Rattle.std.proofs.Common.{◌≡◌, ◌≢◌, ℕ, zero, suc, ◌+◌, ◌-◌, ◌≤◌, List, [], ◌∷◌, ◌++◌, length, set, get_or, refl, sym, ap, subst, ◌∙◌, arith, true, false, Option, Result, Ok, Some, None}
+use Rattle.std.proofs.Common.{◌≡◌, ℕ, suc, ◌+◌, ◌-◌, ◌≤◌, List, [], ◌∷◌, ◌++◌, length, set, get_or, refl, sym, ap, subst, ◌∙◌, arith, Option, Result, Ok, Some, None}
 use Rattle.std.specs.Prelude.{if◌then◌else◌}
 use Rattle.std.proofs.lemmas.List.{length-set}
-use mathlib.Core.Logic.{dite}
-use native.Mathlib.Decide.{ℕ_discrete}
 use Rattle.gt_io.specs.declared.source.Failed.{Failed}
 use Rattle.gt_io.specs.declared.port.PortEvent.{PortEvent}
 use Rattle.gt_io.specs.declared.port.PortEvent.TheVariants.{Opened}
 use Rattle.gt_io.specs.Links.{IsNothing}
 use Rattle.gt_io.specs.Ports.{Port, Harbour, is_none, open_among, told_at, newly, Happens}
-use Rattle.gt_io.proofs.PortLists.{in_set, in_away, in_get, in_push, in_front, happens_opened}
+use Rattle.gt_io.proofs.PortLists.{in_push, in_front, happens_opened}
+use Rattle.gt_io.proofs.Counting.{one, count_same, count_set as set_count, count_end as end_count}
 use Rattle.gt_host.specs.declared.port.HostPort.{HostPort}
 use Rattle.gt_host.specs.HostPorts.{host_port, no_host_port, host_port_in, host_harbour}
-
-abbrev one : Port → ℕ
-one p = if is_none p.finished then 1 else 0
-
--- whether each of the first n links is open, and nothing else, is counted
-count_same : (f g : ℕ → Port) (n : ℕ) → ((k : ℕ) → k ≤ n → (g k).finished ≡ (f k).finished) → open_among g n ≡ open_among f n
-count_same f g zero same = refl
-count_same f g (suc n) same =
-    let before = count_same f g n (λ k low. same k (omega (arith, low))) in
-    let last : one (g (n + 1)) ≡ one (f (n + 1)) = ap (λ o. if is_none o then 1 else 0) (same (n + 1) (omega arith)) in
-    omega (arith, before, last)
-
--- one fewer where an open link is finished
-count_less : (f g : ℕ → Port) (c m n : ℕ) → 1 ≤ c → c ≤ n → (f c).finished ≡ None → (g c).finished ≡ Some m → ((k : ℕ) → k ≢ c → (g k).finished ≡ (f k).finished) → open_among g n + 1 ≡ open_among f n
-count_less f g c m zero first within unfinished over same = absurd (omega (arith, first, within))
-count_less f g c m (suc n) first within unfinished over same =
-    dite (ℕ_discrete c (n + 1)) (λ here.
-    let before = count_same f g n (λ k low. same k (λ is. let e = is ∙ here in absurd (omega (arith, low, e)))) in
-    let f1 : one (f (n + 1)) ≡ 1 = ap (λ o. if is_none o then 1 else 0) (subst (λ (k : ℕ). (f k).finished ≡ None) here unfinished) in
-    let g1 : one (g (n + 1)) ≡ 0 = ap (λ o. if is_none o then 1 else 0) (subst (λ (k : ℕ). (g k).finished ≡ Some m) here over) in
-    omega (arith, before, f1, g1)) (λ away.
-    let low : c ≤ n = omega (arith, within, away) in
-    let before = count_less f g c m n first low unfinished over same in
-    let last : one (g (n + 1)) ≡ one (f (n + 1)) = ap (λ o. if is_none o then 1 else 0) (same (n + 1) (λ is. away (sym is))) in
-    omega (arith, before, last))
-
-one_most : (p : Port) → one p ≤ 1
-one_most p = elim (is_none p.finished) as (λ b. (if b then 1 else 0) ≤ 1) [ true ↦ omega arith | false ↦ omega arith ]
-
--- no more than there are
-pub count_most : (f : ℕ → Port) (n : ℕ) → open_among f n ≤ n
-count_most f zero = omega arith
-count_most f (suc n) =
-    let before = count_most f n in
-    let last = one_most (f (n + 1)) in
-    omega (arith, before, last)
 
 len_push : (xs : List HostPort) (y : HostPort) → length (xs ++ y ∷ []) ≡ length xs + 1
 len_push [] y = refl
@@ -66,26 +29,14 @@ count_push xs y unfinished =
 -- as many where one is changed and stays as open as it was
 pub count_set : (xs : List HostPort) (c : ℕ) (x y : HostPort) → 1 ≤ c → c ≤ length xs → x ≡ get_or xs (c - 1) x → y.finished ≡ x.finished → open_among (host_port_in (set xs (c - 1) y)) (length (set xs (c - 1) y)) ≡ open_among (host_port_in xs) (length xs)
 count_set xs c x y first last is same =
-    let ys = set xs (c - 1) y in
-    ap (open_among (host_port_in ys)) (length-set xs (c - 1) y)
-    ∙ count_same (host_port_in xs) (host_port_in ys) (length xs) (λ k low.
-    dite (ℕ_discrete k c) (λ here.
-    ap (λ (j : ℕ). (host_port_in ys j).finished) here
-    ∙ ap (λ (p : Port). p.finished) (in_set host_port no_host_port xs c y first last)
-    ∙ same
-    ∙ ap (λ (z : HostPort). z.finished) is
-    ∙ sym (ap (λ (p : Port). p.finished) (in_get host_port no_host_port xs c x first last))
-    ∙ ap (λ (j : ℕ). (host_port_in xs j).finished) (sym here)) (λ away.
-    ap (λ (p : Port). p.finished) (in_away host_port no_host_port xs c k y first away)))
+    ap (open_among (host_port_in (set xs (c - 1) y))) (length-set xs (c - 1) y)
+    ∙ set_count host_port no_host_port xs c first last (length xs) x y is same
 
 -- one fewer where an open one is finished
 pub count_end : (xs : List HostPort) (c m : ℕ) (y : HostPort) → 1 ≤ c → c ≤ length xs → (host_port_in xs c).finished ≡ None → y.finished ≡ Some m → open_among (host_port_in (set xs (c - 1) y)) (length (set xs (c - 1) y)) + 1 ≡ open_among (host_port_in xs) (length xs)
 count_end xs c m y first last unfinished over =
-    let ys = set xs (c - 1) y in
-    ap (λ (n : ℕ). open_among (host_port_in ys) n + 1) (length-set xs (c - 1) y)
-    ∙ count_less (host_port_in xs) (host_port_in ys) c m (length xs) first last unfinished
-    (ap (λ (p : Port). p.finished) (in_set host_port no_host_port xs c y first last) ∙ over)
-    (λ k away. ap (λ (p : Port). p.finished) (in_away host_port no_host_port xs c k y first away))
+    ap (λ (n : ℕ). open_among (host_port_in (set xs (c - 1) y)) n + 1) (length-set xs (c - 1) y)
+    ∙ end_count host_port no_host_port xs c first last (length xs) m y last unfinished over
 
 at_end : (xs : List HostPort) → told_at host_port no_host_port xs (length xs) ≡ no_host_port
 at_end [] = refl

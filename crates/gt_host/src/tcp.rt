@@ -28,6 +28,9 @@ const MAX_STILL_WAITS: u32 = 240;
 /// How many milliseconds pass before an accept that failed is tried again.
 const PAUSE_MILLIS: u64 = 20;
 
+/// How many milliseconds a door rests.
+const REST_MILLIS: u64 = 50;
+
 /// Reads some bytes. None come at the end, which is also where the stop file stands or the client
 /// is silent for too long.
 fn read_some<R: Files + rt::Clock>(
@@ -318,8 +321,9 @@ fn accept<R: Files + rt::Clock>(rt: &R, listener: &TcpListener) -> io::Result<Op
 /// A listener on a port of this machine as a door. It tells nothing. It begins to listen as it is
 /// first asked, so a door that nobody asks has no clients. It gives none where the stop file stands
 /// as it begins to wait, as it waits, or as a connection has come, which is then dropped. Where the
-/// listener could not be made, it fails. A door that gave none, has failed, or gave its 100,000th
-/// connection listens no more, so that clients are refused.
+/// listener could not be made, it fails. A door that gave none, has failed, gave its 100,000th
+/// connection or was closed listens no more, so that clients are refused. It rests for 50 ms, or not
+/// at all where the stop file stands.
 #[derive(Drop)]
 pub struct HostDoor<'a, R> {
     rt: &'a R,
@@ -330,15 +334,19 @@ pub struct HostDoor<'a, R> {
     given: usize,
     faults: u64,
     ends: u64,
+    closed: bool,
 }
 
 impl<'a, R: Files + rt::Clock + Net<Listener = TcpListener, Stream = TcpStream>> HostDoor<'a, R> {
     /// A door on 127.0.0.1 at the port.
     pub fn new(rt: &'a R, alloc: Global, port: u16) -> Self
         ensures port { result.port ≡ Some port }
-        ensures links { ⟦<HostDoor<'a, R> as Door>⟧.links result ≡ None }
-        ensures faults { ⟦<HostDoor<'a, R> as Door>⟧.faults result ≡ 0 }
-        ensures ends { ⟦<HostDoor<'a, R> as Door>⟧.ends result ≡ 0 }
+        ensures doorway { ⟦<HostDoor<'a, R> as Door>⟧.doorway result
+            ≡ record {
+              links = None;
+              tally = record { faults = 0; ends = 0 };
+              closed = false;
+            } }
     {
         HostDoor {
             rt,
@@ -348,13 +356,14 @@ impl<'a, R: Files + rt::Clock + Net<Listener = TcpListener, Stream = TcpStream>>
             given: 0,
             faults: 0,
             ends: 0,
+            closed: false,
         }
     }
 
     /// Begins to listen, where it has not yet.
     pub(crate) fn listen(&mut self) -> io::Result<()>
-        ensures faults { self.new.faults ≡ self.old.faults }
-        ensures ends { self.new.ends ≡ self.old.ends }
+        ensures same { ⟦<HostDoor<'a, R> as Door>⟧.doorway self.new
+            ≡ ⟦<HostDoor<'a, R> as Door>⟧.doorway self.old }
     {
         if let Some(port) = self.port.take() {
             let listener = TcpListener::bind(self.rt, (Ipv4Addr::LOCALHOST, port))?;
@@ -365,8 +374,8 @@ impl<'a, R: Files + rt::Clock + Net<Listener = TcpListener, Stream = TcpStream>>
 
     /// The next connection; none where the stop file stands before the wait, in it or after it.
     fn accepted(&mut self) -> io::Result<Option<HostLink<'a, R>>>
-        ensures faults { self.new.faults ≡ self.old.faults }
-        ensures ends { self.new.ends ≡ self.old.ends }
+        ensures same { ⟦<HostDoor<'a, R> as Door>⟧.doorway self.new
+            ≡ ⟦<HostDoor<'a, R> as Door>⟧.doorway self.old }
         ensures open { IfOk result (λ next. IfSome next (λ link. link.finished ≡ false)) }
     {
         if is_stopped(self.rt)? {
@@ -387,8 +396,8 @@ impl<'a, R: Files + rt::Clock + Net<Listener = TcpListener, Stream = TcpStream>>
 
     /// Counts a connection, and listens no more where it is the last.
     fn count(&mut self)
-        ensures faults { self.new.faults ≡ self.old.faults }
-        ensures ends { self.new.ends ≡ self.old.ends }
+        ensures same { ⟦<HostDoor<'a, R> as Door>⟧.doorway self.new
+            ≡ ⟦<HostDoor<'a, R> as Door>⟧.doorway self.old }
     {
         self.given = self.given.saturating_add(1);
         if self.given >= MAX_LINKS {
@@ -401,11 +410,11 @@ impl<'a, R: Files + rt::Clock + Net<Listener = TcpListener, Stream = TcpStream>>
     for HostDoor<'a, R> {
     type L = HostLink<'a, R>;
 
-    ghost links = { λ _. None };
-
-    ghost faults = { λ d. d.faults };
-
-    ghost ends = { λ d. d.ends };
+    ghost doorway = { λ d. record {
+      links = None;
+      tally = record { faults = d.faults; ends = d.ends };
+      closed = d.closed;
+    } };
 
     /// The next connection; none where the server is to stop, after which the port is closed.
     fn next(&mut self) -> Result<Option<HostLink<'a, R>>, Failed> {
@@ -425,5 +434,21 @@ impl<'a, R: Files + rt::Clock + Net<Listener = TcpListener, Stream = TcpStream>>
                 Err(Failed)
             }
         }
+    }
+
+    fn rest(&mut self) {
+        if !must_stop(self.rt) {
+            self.rt.sleep(Duration::from_millis(REST_MILLIS));
+        }
+    }
+
+    fn close(&mut self)
+        ensures doorway { ⟦<HostDoor<'a, R> as Door>⟧.doorway self.new
+            ≡ record (⟦<HostDoor<'a, R> as Door>⟧.doorway self.old) { closed = true } }
+        ensures dropped { (self.new.port ≡ None) × (self.new.listener ≡ None) }
+    {
+        self.port = None;
+        self.listener = None;
+        self.closed = true;
     }
 }

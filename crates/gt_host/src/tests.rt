@@ -325,6 +325,20 @@ fn port_of_ports<R: Files + rt::Clock + Net>(ports: &mut HostPorts<'_, R>) -> io
     }
 }
 
+/// Whoever connects to a door that was closed is refused.
+#[test]
+fn a_closed_door_refuses_clients(rt: HostRuntime) -> Result<(), Fail> {
+    let mut door = HostDoor::new(&rt, rt.alloc(), 0);
+    door.listen()?;
+    let port = port_of(&door)?;
+    door.rest();
+    let _client = TcpStream::connect(&rt, (Ipv4Addr::LOCALHOST, port))?;
+    door.close();
+    assert!(rt; TcpStream::connect(&rt, (Ipv4Addr::LOCALHOST, port)).is_err());
+    assert!(rt; matches!(door.next(), Err(Failed)));
+    Ok(())
+}
+
 /// All doors and ports end at the stop file, with links that wait closed.
 #[test]
 fn clients_are_served_until_the_stop_file_stands(rt: HostRuntime) -> Result<(), Fail> {

@@ -1,6 +1,9 @@
 -- What links, doors and clocks tell of what is to come, what they took and what they gave.
-use Rattle.std.specs.Prelude.{◌≡◌, ℕ, ◌+◌, Bool, false, ⊤, List, [], ◌∷◌, Some, None, IfSome}
+use Rattle.std.specs.Prelude.{◌≡◌, ℕ, ◌+◌, Bool, false, ⊤, List, [], ◌∷◌, Some, None, Ok, Err, IfSome}
 use Rattle.std.specs.declared.option.Option.{Option}
+use Rattle.std.specs.declared.result.Result.{Result}
+use Rattle.gt_io.specs.Memory.{one_more}
+use Rattle.gt_io.specs.declared.source.Failed.{Failed}
 
 -- the bytes that a link has left, and those that were taken from it and given to it, where it
 -- tells; how often a read and a write failed, and how often a read told the end; and whether it
@@ -13,6 +16,23 @@ pub record Traffic : Type 0 where
   pub write_faults : ℕ
   pub ends : ℕ
   pub finished : Bool
+
+-- how often a door failed, and how often it gave none
+pub record Tally : Type 0 where
+  pub faults : ℕ
+  pub ends : ℕ
+
+-- the links that a door has to come, where it tells; its counts; and whether it was closed
+pub record Doorway (L : Type 0) : Type 0 where
+  pub links : Option (List L)
+  pub tally : Tally
+  pub closed : Bool
+
+-- what asking a door adds to its counts, each up to the end of its type
+abbrev pub tallied : {L : Type 0} → Result (Option L) Failed → Tally → Tally
+tallied (Ok (Some link)) t = t
+tallied (Ok None) t = record t { ends = one_more t.ends }
+tallied (Err fault) t = record t { faults = one_more t.faults }
 
 -- nothing was read, and nothing was written
 pub record ReadsNothing (a b : Traffic) : Type 0 where

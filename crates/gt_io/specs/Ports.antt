@@ -211,3 +211,21 @@ told_at tells other (x ∷ xs) (suc i) = told_at tells other xs i
 abbrev pub told_in : {A B : Type 0} → (A → B) → B → List A → ℕ → B
 told_in tells other xs zero = other
 told_in tells other xs (suc i) = told_at tells other xs i
+
+-- a link of which nothing is told but whether it was finished
+abbrev pub unknown_but : Option ℕ → Port
+unknown_but finished =
+    record {
+      left = None;
+      taken = None;
+      given = None;
+      last = Nothing;
+      owed = false;
+      others = 0;
+      finished = finished;
+    }
+
+-- how many of the first n of a list are not finished
+abbrev pub open_in : {A : Type 0} → (A → Option ℕ) → List A → ℕ → ℕ
+open_in finished xs n =
+    open_among (told_in (λ x. unknown_but (finished x)) (unknown_but None) xs) n

@@ -3,11 +3,11 @@ ghost use Rattle.std.specs.Prelude.{◌≡◌, ◌<◌, ◌≤◌, ℕ, true, fa
 ghost use Rattle.std.specs.declared.option.Option.{Option};
 ghost use Rattle.std.specs.Io.{ReadsAtMost};
 ghost use Rattle.std.specs.Io.KnownBytes.{ReadConsumes, WriteAppends, Appends};
-ghost use Rattle.gt_io.specs.Causes.{CountsNone, CountsEnd, HasCause, RisesOnce, AppendsPart};
-ghost use Rattle.gt_io.specs.Links.{Traffic, ReadsNothing, WritesNothing, IsFresh, GivesFirst, GivesNone, Reads};
+ghost use Rattle.gt_io.specs.Causes.{CountsEnd, HasCause, RisesOnce, AppendsPart};
+ghost use Rattle.gt_io.specs.Links.{Traffic, Doorway, tallied, ReadsNothing, WritesNothing, IsFresh, GivesFirst, GivesNone, Reads};
 
 use crate::source::Failed;
-use gt_base::Instant;
+use gt_base::{Instant, List, Memory};
 
 /// A connection. It has two counts, of the reads and of the writes that failed; each call raises
 /// its own by one where it fails, and nothing else does. `finish`, and no other call, lets it go,
@@ -83,25 +83,49 @@ pub trait Door {
     /// The connections that it gives.
     type L: Link;
 
-    /// The links to come, where it tells.
-    ghost links: { Self → Option (List Self.L) };
-
-    /// How often it has failed.
-    ghost faults: { Self → ℕ };
-
-    /// How often it gave none.
-    ghost ends: { Self → ℕ };
+    /// The links to come, where it tells, how often it failed and gave none, and whether it was
+    /// closed.
+    ghost doorway: { Self → Doorway Self.L };
 
     /// The next link, from which nothing was read and to which nothing was written; none where
     /// there is none to come.
     fn next(&mut self) -> Result<Option<Self::L>, Failed>
         ensures links { MatchResult result
-            (λ next. MatchOption next (GivesNone (links self.old) (links self.new))
-            (λ link. GivesFirst (links self.old) (links self.new) link))
-            (λ _. links self.new ≡ links self.old) }
+            (λ next. MatchOption next
+            (GivesNone (doorway self.old).links (doorway self.new).links)
+            (λ link. GivesFirst (doorway self.old).links (doorway self.new).links link))
+            (λ _. (doorway self.new).links ≡ (doorway self.old).links) }
         ensures fresh { IfOk result (λ next. IfSome next (λ link. IsFresh (Self.L.traffic link))) }
-        ensures cause { HasCause (faults self.old) (faults self.new) result }
-        ensures ends { CountsNone (ends self.old) (ends self.new) result };
+        ensures tally { (doorway self.new).tally ≡ tallied result (doorway self.old).tally };
+
+    /// Waits a little for what was short to come back, or not at all where no link is to come.
+    fn rest(&mut self)
+        ensures { doorway self.new ≡ doorway self.old };
+
+    /// Listens no more, so that clients are refused.
+    fn close(&mut self)
+        ensures { doorway self.new ≡ record (doorway self.old) { closed = true } };
+}
+
+/// How often room for a link that is to come is asked for in vain, with a rest of the door between.
+const MAX_TRIES: u32 = 200;
+
+/// Makes room in the list for what will be told of the next link. The list grows once three
+/// quarters of its room are taken; a refusal is passed over while there is room, and else room is
+/// asked for 200 times, with a rest of the door before each further time.
+pub fn make_room<D: Door, T>(door: &mut D, list: &mut List<T>) -> Result<(), Memory>
+    ensures door { D.doorway door.new ≡ D.doorway door.old }
+    ensures items { list.new.items ≡ list.old.items }
+    ensures room { OnOk result (1 ≤ list.new.spare) }
+{
+    for _ in 1..MAX_TRIES {
+        let early = list.len() / 3 + 1;
+        if list.reserve(early).is_ok() || list.reserve(1).is_ok() {
+            return Ok(());
+        }
+        door.rest();
+    }
+    list.reserve(1)
 }
 
 /// Tells the time.

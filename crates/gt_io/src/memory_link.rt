@@ -2,8 +2,8 @@
 ghost use Rattle.std.specs.Prelude.{◌≡◌, ◌<◌, ◌≤◌, ◌+◌, ◌-◌, ◌↔◌, true, false, length, min, Some, IfOk, IfSome, IsErr, IsTrue, All, MatchResult, MatchOption, slice_index, if◌then◌else◌};
 ghost use Rattle.std.specs.Io.{ReadsAtMost};
 ghost use Rattle.std.specs.Io.KnownBytes.{ReadConsumes, WriteAppends};
-ghost use Rattle.gt_io.specs.Causes.{CountsEnd, CountsNone, HasCause, RisesOnce};
-ghost use Rattle.gt_io.specs.Links.{IsFresh, GivesFirst, GivesNone, ReadsNothing, WritesNothing};
+ghost use Rattle.gt_io.specs.Causes.{CountsEnd, HasCause, RisesOnce};
+ghost use Rattle.gt_io.specs.Links.{IsFresh, tallied, GivesFirst, GivesNone, ReadsNothing, WritesNothing};
 ghost use Rattle.gt_io.specs.Memory.{supply_of, store_of, none_made, fails_next, answered, refused, GivesPiece, TakesPiece};
 
 use crate::calls::{Calls, count_none};
@@ -122,12 +122,13 @@ impl Link for MemLink {
     }
 }
 
-/// A door whose links are given ahead.
+/// A door whose links are given ahead. It gives them also when it was closed.
 #[derive(Drop)]
 pub struct MemDoor {
     links: VecDeque<MemLink>,
     calls: Calls,
     ends: u64,
+    closed: bool,
     ghost fresh: { All (λ l. IsFresh (⟦<MemLink as Link>⟧.traffic l)) links.items },
 }
 
@@ -138,23 +139,32 @@ impl MemDoor {
         ensures links { result.links.items ≡ links.items }
         ensures calls { result.calls ≡ none_made failing.items }
         ensures ends { result.ends ≡ 0 }
+        ensures open { result.closed ≡ false }
     {
         MemDoor {
             links,
             calls: Calls::new(failing),
             ends: 0,
+            closed: false,
         }
+    }
+
+    /// Whether it was closed.
+    pub fn closed(&self) -> bool
+        ensures { result ≡ self.now.closed }
+    {
+        self.closed
     }
 }
 
 impl Door for MemDoor {
     type L = MemLink;
 
-    ghost links = { λ d. Some d.links.items };
-
-    ghost faults = { λ d. d.calls.faults };
-
-    ghost ends = { λ d. d.ends };
+    ghost doorway = { λ d. record {
+      links = Some d.links.items;
+      tally = record { faults = d.calls.faults; ends = d.ends };
+      closed = d.closed;
+    } };
 
     fn next(&mut self) -> Result<Option<MemLink>, Failed>
         ensures links { MatchResult result
@@ -165,12 +175,13 @@ impl Door for MemDoor {
             (λ _. Some self.new.links.items ≡ Some self.old.links.items) }
         ensures fresh { IfOk result (λ next. IfSome next
             (λ link. IsFresh (⟦<MemLink as Link>⟧.traffic link))) }
-        ensures cause { HasCause self.old.calls.faults self.new.calls.faults result }
-        ensures ends { CountsNone self.old.ends self.new.ends result }
+        ensures tally { (⟦<MemDoor as Door>⟧.doorway self.new).tally
+            ≡ tallied result (⟦<MemDoor as Door>⟧.doorway self.old).tally }
         ensures listed { IsErr result ↔ IsTrue (fails_next self.old.calls) }
         ensures calls { self.new.calls
             ≡ (if fails_next self.old.calls then refused self.old.calls else answered
             self.old.calls) }
+        ensures closed { self.new.closed ≡ self.old.closed }
     {
         if self.calls.begin() {
             return Err(Failed);
@@ -178,6 +189,16 @@ impl Door for MemDoor {
         let next = self.links.pop_front();
         self.ends = count_none(self.ends, &next);
         Ok(next)
+    }
+
+    fn rest(&mut self)
+        ensures { self.new ≡ self.old }
+    {}
+
+    fn close(&mut self)
+        ensures { self.new ≡ record self.old { closed = true } }
+    {
+        self.closed = true;
     }
 }
 

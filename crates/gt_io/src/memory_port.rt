@@ -275,25 +275,6 @@ impl MemPort {
     }
 }
 
-/// 1 for a link that is not finished, to be counted.
-fn one_if_open(port: &MemPort) -> u64
-    ensures { result ≡ (if is_none (port_of port.now).finished then 1 else 0) }
-{
-    if port.finished.is_none() { 1 } else { 0 }
-}
-
-/// How many of the first links are not finished.
-fn count_open(ports: &[MemPort], n: usize) -> u64
-    requires { n ≤ length ports.now }
-    ensures { result ≡ open_among (port_in ports.now) n }
-{
-    let mut count = 0;
-    for i in 0..n {
-        count += one_if_open(&ports[i]);
-    }
-    count
-}
-
 impl MemPorts {
     /// Ports of these links, in the order in which they are opened. The calls of `next` are
     /// numbered from 1, and those of `bad_nexts` fail.
@@ -322,6 +303,7 @@ impl MemPorts {
             at: 0,
             ports,
             opened: 0,
+            busy: 0,
             told: None,
             nexts: 0,
             bad_nexts,
@@ -355,9 +337,9 @@ impl MemPorts {
         if i == self.ports.len() {
             return PortEvent::Stop;
         }
-        let others = count_open(&self.ports, i);
-        self.ports[i].begin(others);
+        self.ports[i].begin(self.busy as u64);
         self.opened += 1;
+        self.busy += 1;
         PortEvent::Opened(self.opened)
     }
 
@@ -450,5 +432,6 @@ impl Ports for MemPorts {
         ensures plan { plan_of self.new ≡ plan_of self.old }
     {
         self.ports[link as usize - 1].end(self.nexts);
+        self.busy -= 1;
     }
 }

@@ -1,5 +1,6 @@
 //! What ports in memory keep.
 ghost use Rattle.std.specs.Prelude.{◌≡◌, ◌<◌, ◌≤◌, ◌^◌, [], length, drop, vec_capacity, All};
+ghost use Rattle.gt_io.specs.Ports.{open_in};
 
 use crate::port::{Called, PortEvent};
 use crate::source::Failed;
@@ -56,6 +57,8 @@ pub struct MemPorts {
     pub(crate) at: usize,
     pub(crate) ports: Vec<MemPort>,
     pub(crate) opened: u32,
+    /// How many of them are open.
+    pub(crate) busy: u32,
     pub(crate) told: Option<Result<PortEvent, Failed>>,
     pub(crate) nexts: u64,
     pub(crate) bad_nexts: List<u64>,
@@ -63,5 +66,6 @@ pub struct MemPorts {
     pub(crate) ends: u64,
     ghost few: { length ports.items < 2 ^ 32 },
     ghost within: { opened ≤ length ports.items },
+    ghost counted: { busy ≡ open_in (λ p. p.finished) ports.items opened },
     ghost unused: { All (λ p. (p.at ≡ 0) × (p.given.items ≡ [])) (drop opened ports.items) },
 }

@@ -90,6 +90,9 @@ fn a_door_gives_its_links_in_order(rt: HostRuntime) -> Result<(), Fail> {
     assert!(rt; matches!(door.next(), Ok(Some(_))));
     assert!(rt; matches!(door.next(), Err(Failed)));
     assert!(rt; matches!(door.next(), Ok(None)));
+    assert!(rt; !door.closed());
+    door.close();
+    assert!(rt; door.closed());
     Ok(())
 }
 

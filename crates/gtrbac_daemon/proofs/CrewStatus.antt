@@ -1,10 +1,11 @@
 -- What the status of a crew says of its workers.
-use Rattle.std.proofs.Common.{◌≡◌, ℕ, ◌+◌, ◌≤◌, Bool, true, false, List, [], ◌∷◌, length, refl, sym, ap, ◌∙◌, map, Option}
+use Rattle.std.proofs.Common.{◌≡◌, ℕ, ◌+◌, ◌≤◌, Bool, true, false, List, [], ◌∷◌, length, refl, sym, ap, ◌∙◌, arith, map, Option}
 use Rattle.std.specs.Prelude.{◌||◌}
 use Rattle.std.specs.List.{list_any}
+use Rattle.gt_io.specs.Memory.{one_more}
 use Rattle.gt_base.specs.declared.requests.Entry.{Entry}
 use Rattle.gt_io.specs.Causes.{Rose}
-use Rattle.gt_io.specs.Links.{Traffic}
+use Rattle.gt_io.specs.Links.{Traffic, Doorway, Tally}
 use Rattle.turn_lock.specs.Turns.{Each}
 use Rattle.policy_words.specs.Naming.{NamedPolicy}
 use Rattle.line_server.specs.declared.ended.Served.{Served}
@@ -21,11 +22,11 @@ any_map p f [] = refl
 any_map p f (x ∷ xs) = ap (λ (b : Bool). p (f x) || b) (any_map p f xs)
 
 -- the status of workers is that of what is seen of them
-pub same_status : {D C G L : Type 0} (readings : C → Option (ℕ → ℕ)) (links : D → Option (List L)) (faults : D → ℕ) (ws : List (Worker D C G L))
-    → status_among ws ≡ status_of (ends_of (crewmen readings links faults ws))
-same_status {D} {C} {G} {L} readings links faults ws =
-    let one : (p : WorkEnd → Bool) → list_any p (ends_of (crewmen readings links faults ws)) ≡ list_any (λ (w : Worker D C G L). p w.outcome) ws =
-    λ p. any_map p (λ (k : Crewman L). k.outcome) (crewmen readings links faults ws) ∙ any_map (λ (k : Crewman L). p k.outcome) (crewman readings links faults) ws in
+pub same_status : {D C G L : Type 0} (readings : C → Option (ℕ → ℕ)) (doorway : D → Doorway L) (ws : List (Worker D C G L))
+    → status_among ws ≡ status_of (ends_of (crewmen readings doorway ws))
+same_status {D} {C} {G} {L} readings doorway ws =
+    let one : (p : WorkEnd → Bool) → list_any p (ends_of (crewmen readings doorway ws)) ≡ list_any (λ (w : Worker D C G L). p w.outcome) ws =
+    λ p. any_map p (λ (k : Crewman L). k.outcome) (crewmen readings doorway ws) ∙ any_map (λ (k : Crewman L). p k.outcome) (crewman readings doorway) ws in
     λ i. status_by (sym (one is_memory) i) (sym (one is_door_fault) i) (sym (one is_spent) i)
 
 memory_one : (end : WorkEnd) → is_memory end ≡ true → end ≡ Memory
@@ -36,8 +37,12 @@ memory_one Enough m = absurd (cc m)
 memory_one (Worn n) m = absurd (cc m)
 memory_one Memory m = refl
 
-module _ {L : Type 0} (links : Option (List L)) (f f' draws : ℕ) (served : List (Served L)) where
-  done_one : (end : WorkEnd) → WorksTo links f f' draws served end → is_memory end ≡ false → is_door_fault end ≡ false → is_spent end ≡ false → end ≡ Done
+-- a count that was raised by one has risen
+pub has_risen : (t t' : Tally) → t' ≡ record t { faults = one_more t.faults } → Rose t.faults t'.faults
+has_risen t t' is = let e = ap (λ (u : Tally). u.faults) is in omega (arith, e)
+
+module _ {L : Type 0} (links : Option (List L)) (t t' : Tally) (draws : ℕ) (served : List (Served L)) where
+  done_one : (end : WorkEnd) → WorksTo links t t' draws served end → is_memory end ≡ false → is_door_fault end ≡ false → is_spent end ≡ false → end ≡ Done
   done_one Fresh k m d p = absurd k
   done_one Done k m d p = refl
   done_one DoorFault k m d p = absurd (cc d)
@@ -45,18 +50,18 @@ module _ {L : Type 0} (links : Option (List L)) (f f' draws : ℕ) (served : Lis
   done_one (Worn n) k m d p = absurd (cc p)
   done_one Memory k m d p = absurd (cc m)
 
-  failed_one : (end : WorkEnd) → WorksTo links f f' draws served end → is_door_fault end ≡ true → (end ≡ DoorFault) × Rose f f'
+  failed_one : (end : WorkEnd) → WorksTo links t t' draws served end → is_door_fault end ≡ true → (end ≡ DoorFault) × Rose t.faults t'.faults
   failed_one Fresh k d = absurd k
   failed_one Done k d = absurd (cc d)
-  failed_one DoorFault k d = (refl, k.2)
+  failed_one DoorFault k d = (refl, has_risen t t' k.2)
   failed_one Enough k d = absurd (cc d)
   failed_one (Worn n) k d = absurd (cc d)
   failed_one Memory k d = absurd (cc d)
 
-  sound_one : (end : WorkEnd) → WorksTo links f f' draws served end → (Rose f f' → ⊥) → is_door_fault end ≡ false
+  sound_one : (end : WorkEnd) → WorksTo links t t' draws served end → (Rose t.faults t'.faults → ⊥) → is_door_fault end ≡ false
   sound_one Fresh k sound = refl
   sound_one Done k sound = refl
-  sound_one DoorFault k sound = absurd (sound k.2)
+  sound_one DoorFault k sound = absurd (sound (has_risen t t' k.2))
   sound_one Enough k sound = refl
   sound_one (Worn n) k sound = refl
   sound_one Memory k sound = refl
@@ -104,7 +109,7 @@ module _ {L : Type 0} where
 module _ {L : Type 0} (traffic : L → Traffic) (np : NamedPolicy) (birth : ℕ) (h : List Entry) where
   -- how one of them ended
   abbrev Did : Crewman L → Crewman L → Type 0
-  Did j k = (draws : ℕ) × WorksTo k.door j.faults k.faults draws k.served k.outcome
+  Did j k = (draws : ℕ) × WorksTo k.door.links j.door.tally k.door.tally draws k.served k.outcome
 
   all_did : (w : ℕ) (js ks : List (Crewman L)) → HaveWorked traffic np birth h w js ks → EachOf Did js ks
   all_did w [] [] all = tt
@@ -117,10 +122,10 @@ module _ {L : Type 0} (traffic : L → Traffic) (np : NamedPolicy) (birth : ℕ)
   done_all w js ks all m d p =
       let one = each_by outcome is_memory Did (λ j k. Did j k × (is_memory k.outcome ≡ false)) (λ j k a e. (a, e)) js ks (all_did w js ks all) m in
       let two = each_by outcome is_door_fault (λ j k. Did j k × (is_memory k.outcome ≡ false)) (λ j k. (Did j k × (is_memory k.outcome ≡ false)) × (is_door_fault k.outcome ≡ false)) (λ j k a e. (a, e)) js ks one d in
-      each_by outcome is_spent (λ j k. (Did j k × (is_memory k.outcome ≡ false)) × (is_door_fault k.outcome ≡ false)) IsDone (λ j k a e. done_one k.door j.faults k.faults a.0.0.0 k.served k.outcome a.0.0.1 a.0.1 a.1 e) js ks two p
+      each_by outcome is_spent (λ j k. (Did j k × (is_memory k.outcome ≡ false)) × (is_door_fault k.outcome ≡ false)) IsDone (λ j k a e. done_one k.door.links j.door.tally k.door.tally a.0.0.0 k.served k.outcome a.0.0.1 a.0.1 a.1 e) js ks two p
 
   pub failed_some : (w : ℕ) (js ks : List (Crewman L)) → HaveWorked traffic np birth h w js ks → list_any is_door_fault (ends_of ks) ≡ true → SomeOf HasFailed js ks
-  failed_some w js ks all = some_by outcome is_door_fault Did HasFailed (λ j k a e. failed_one k.door j.faults k.faults a.0 k.served k.outcome a.1 e) js ks (all_did w js ks all)
+  failed_some w js ks all = some_by outcome is_door_fault Did HasFailed (λ j k a e. failed_one k.door.links j.door.tally k.door.tally a.0 k.served k.outcome a.1 e) js ks (all_did w js ks all)
 
   pub memory_some : (w : ℕ) (js ks : List (Crewman L)) → HaveWorked traffic np birth h w js ks → list_any is_memory (ends_of ks) ≡ true → SomeOf LacksMemory js ks
   memory_some w js ks all = some_by outcome is_memory Did LacksMemory (λ j k a e. memory_one k.outcome e) js ks (all_did w js ks all)
@@ -134,6 +139,6 @@ module _ {L : Type 0} (traffic : L → Traffic) (np : NamedPolicy) (birth : ℕ)
   pub unharmed : (w : ℕ) (js ks : List (Crewman L)) → HaveWorked traffic np birth h w js ks → EachOf IsUnharmed js ks
       → (list_any is_door_fault (ends_of ks) ≡ false) × (list_any is_spent (ends_of ks) ≡ false)
   unharmed w js ks all fine = (
-    none_by outcome is_door_fault (λ j k. Did j k × IsUnharmed j k) (λ j k a. sound_one k.door j.faults k.faults a.0.0 k.served k.outcome a.0.1 a.1.0) js ks (both_of Did IsUnharmed js ks (all_did w js ks all) fine),
+    none_by outcome is_door_fault (λ j k. Did j k × IsUnharmed j k) (λ j k a. sound_one k.door.links j.door.tally k.door.tally a.0.0 k.served k.outcome a.0.1 a.1.0) js ks (both_of Did IsUnharmed js ks (all_did w js ks all) fine),
     none_by outcome is_spent IsUnharmed (λ j k a. a.1) js ks fine,
   )

@@ -3,8 +3,7 @@ use Rattle.std.proofs.Common.{◌≡◌, ℕ, ◌+◌, ◌*◌, ◌≤◌, List,
 use Rattle.gt_base.specs.declared.requests.Entry.{Entry}
 use Rattle.gt_io.specs.Ports.{Harbour}
 use Rattle.turn_lock.specs.Turns.{part}
-use Rattle.turn_lock.specs.Holders.{Holder, Lock, site_of, newcomer, IsToldBy}
-use Rattle.connection_laws.specs.Turns.{IsIdle}
+use Rattle.turn_lock.specs.Holders.{Holder, Lock, newcomer, IsToldBy}
 use Rattle.policy_words.specs.Naming.{NamedPolicy}
 use Rattle.poll_front.specs.declared.ends.Polled.{Polled}
 use Rattle.poll_front.specs.declared.front.RunEnd.{RunEnd}

@@ -3,7 +3,7 @@ use Rattle.std.proofs.Common.{◌≡◌, ℕ, zero, suc, ◌+◌, ◌<◌, List,
 use Rattle.std.specs.Prelude.{All}
 use mathlib.Core.List.{reverse-cons, map-append}
 use Rattle.gt_base.specs.declared.requests.Entry.{Entry}
-use Rattle.gt_io.specs.Links.{Traffic}
+use Rattle.gt_io.specs.Links.{Traffic, Doorway}
 use Rattle.turn_lock.specs.Turns.{Each}
 use Rattle.turn_lock.specs.Holders.{Site, Lock, Holder, newcomer, newcomers, HasNumber, AreIdle, IsToldBy}
 use Rattle.turn_lock.proofs.PassLists.{each_unreverse, numbers, has_same}
@@ -48,10 +48,10 @@ module _ {M D C G L : Type 0} where
       let Q : Worker D C G L → Type 0 = λ (w : Worker D C G L). IsNew w in
       ready_at P Q xs (each_unreverse P (passes_of xs) (subst (Each P) (sym passes) idle)) (each_unreverse Q (workers_of xs) (subst (Each Q) (sym workers) (all_each Q crew new)))
 
-  module _ (traffic : L → Traffic) (readings : C → Option (ℕ → ℕ)) (links : D → Option (List L)) (faults : D → ℕ)
+  module _ (traffic : L → Traffic) (readings : C → Option (ℕ → ℕ)) (doorway : D → Doorway L)
       (np : NamedPolicy) (first : List Entry) (legal : List Entry → Type 0) (now : List Entry → ℕ) (site : Site M) where
     abbrev pub PostWorked : Post M D C G L → Post M D C G L → Type 0
-    PostWorked x y = HasWorkedAt traffic (service np first legal now) site (at_post readings links faults x) (at_post readings links faults y)
+    PostWorked x y = HasWorkedAt traffic (service np first legal now) site (at_post readings doorway x) (at_post readings doorway y)
 
     abbrev pub AllWorked : List (Post M D C G L) → List (Post M D C G L) → Type 0
     AllWorked [] [] = Unit {0}
@@ -123,19 +123,19 @@ module _ {M D C G L : Type 0} where
     none_missing ps qs crew crew' o m has =
         has_same m ps qs (ap numbers (sym o.passes) ∙ (sym (numbers_kept o.before o.after o.worked) ∙ ap numbers o.passes')) has
 
-  module _ (traffic : L → Traffic) (readings : C → Option (ℕ → ℕ)) (links : D → Option (List L)) (faults : D → ℕ)
+  module _ (traffic : L → Traffic) (readings : C → Option (ℕ → ℕ)) (doorway : D → Doorway L)
       (np : NamedPolicy) (legal : List Entry → Type 0) (now : List Entry → ℕ) (site : Site M) (birth : ℕ) (timed : IsTimed birth legal now) (h : List Entry) where
-    one_told : (l : Lock M) (k : ℕ) (x y : Post M D C G L) → x.pass ≡ newcomer l [] k → PostWorked traffic readings links faults np [] legal now site x y → IsToldBy [] h y.pass
-        → HasWorked traffic np birth h k (crewman readings links faults x.worker) (crewman readings links faults y.worker)
+    one_told : (l : Lock M) (k : ℕ) (x y : Post M D C G L) → x.pass ≡ newcomer l [] k → PostWorked traffic readings doorway np [] legal now site x y → IsToldBy [] h y.pass
+        → HasWorked traffic np birth h k (crewman readings doorway x.worker) (crewman readings doorway y.worker)
     one_told l k x y is a told =
         let number : x.pass.number ≡ k = ap (λ (q : Holder M). q.number) is in
-        let X = crewman readings links faults x.worker in
-        let Y = crewman readings links faults y.worker in
+        let X = crewman readings doorway x.worker in
+        let Y = crewman readings doorway y.worker in
         has_worked traffic np legal now k h birth timed x.pass y.pass X Y (ap (λ (q : Holder M). q.own) is) (ap (λ (q : Holder M). q.draws) is) (a.number_is ∙ number)
-        (subst (λ (n : ℕ). Works traffic (service np [] legal now) n (record { pass = x.pass; clock = X.clock; door = X.door }) (record { pass = y.pass; clock = Y.clock; door = Y.door }) X.faults Y.faults Y.served Y.outcome) number a.works) told
+        (subst (λ (n : ℕ). Works traffic (service np [] legal now) n (record { pass = x.pass; clock = X.clock; door = X.door }) (record { pass = y.pass; clock = Y.clock; door = Y.door }) Y.served Y.outcome) number a.works) a.closed told
 
-    crew_told : (l : Lock M) (k n : ℕ) (zs zs' : List (Post M D C G L)) → passes_of zs ≡ newcomers l [] k n → AllWorked traffic readings links faults np [] legal now site zs zs' → Each (IsToldBy [] h) (passes_of zs')
-        → HaveWorked traffic np birth h k (crewmen readings links faults (workers_of zs)) (crewmen readings links faults (workers_of zs'))
+    crew_told : (l : Lock M) (k n : ℕ) (zs zs' : List (Post M D C G L)) → passes_of zs ≡ newcomers l [] k n → AllWorked traffic readings doorway np [] legal now site zs zs' → Each (IsToldBy [] h) (passes_of zs')
+        → HaveWorked traffic np birth h k (crewmen readings doorway (workers_of zs)) (crewmen readings doorway (workers_of zs'))
     crew_told l k n [] [] e a told = tt
     crew_told l k n [] (y ∷ ys) e a told = absurd a
     crew_told l k n (x ∷ xs) [] e a told = absurd a
@@ -145,13 +145,13 @@ module _ {M D C G L : Type 0} where
         let rest : passes_of xs ≡ newcomers l [] (suc k) n = ap (λ (ps : List (Holder M)). drop 1 ps) e in
         let next : suc k ≡ k + 1 = omega arith in (
           one_told l k x y here a.0 told.0,
-          subst (λ (j : ℕ). HaveWorked traffic np birth h j (crewmen readings links faults (workers_of xs)) (crewmen readings links faults (workers_of ys))) next (crew_told l (suc k) n xs ys rest a.1 told.1),
+          subst (λ (j : ℕ). HaveWorked traffic np birth h j (crewmen readings doorway (workers_of xs)) (crewmen readings doorway (workers_of ys))) next (crew_told l (suc k) n xs ys rest a.1 told.1),
         )
 
     -- what the closed desk tells of the crew
-    pub crew_is_told : (l : Lock M) (n : ℕ) (qs : List (Holder M)) (crew crew' : List (Worker D C G L)) → InOrder traffic readings links faults np [] legal now site (newcomers l [] 0 n) qs crew crew' → Each (IsToldBy [] h) qs
-        → HaveWorked traffic np birth h 0 (crewmen readings links faults crew) (crewmen readings links faults crew')
+    pub crew_is_told : (l : Lock M) (n : ℕ) (qs : List (Holder M)) (crew crew' : List (Worker D C G L)) → InOrder traffic readings doorway np [] legal now site (newcomers l [] 0 n) qs crew crew' → Each (IsToldBy [] h) qs
+        → HaveWorked traffic np birth h 0 (crewmen readings doorway crew) (crewmen readings doorway crew')
     crew_is_told l n qs crew crew' o told =
-        let K : List (Worker D C G L) → List (Crewman L) = crewmen readings links faults in
+        let K : List (Worker D C G L) → List (Crewman L) = crewmen readings doorway in
         let all = crew_told l 0 n o.before o.after o.passes o.worked (subst (Each (IsToldBy [] h)) (sym o.passes') told) in
         subst (λ (ws : List (Worker D C G L)). HaveWorked traffic np birth h 0 (K crew) (K ws)) o.workers' (subst (λ (ws : List (Worker D C G L)). HaveWorked traffic np birth h 0 (K ws) (K (workers_of o.after))) o.workers all)

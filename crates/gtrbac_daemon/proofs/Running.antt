@@ -1,7 +1,7 @@
 -- A run of the server, over words that name a policy and over those that are no command.
 use Rattle.std.proofs.Common.{◌≡◌, ℕ, suc, ◌≤◌, List, [], ◌∷◌, length, Option, Some, None, sym, subst, arith}
 use Rattle.std.specs.Prelude.{All}
-use Rattle.gt_io.specs.Links.{Traffic}
+use Rattle.gt_io.specs.Links.{Traffic, Doorway}
 use Rattle.turn_lock.specs.Turns.{Each}
 use Rattle.line_server.specs.declared.workers.Worker.{Worker}
 use Rattle.policy_commands.specs.Printing.{IsPrinted}
@@ -15,13 +15,13 @@ use Rattle.gtrbac_daemon.proofs.CrewStatus.{IsFresh}
 use Rattle.gtrbac_daemon.proofs.Dues.{complete_of, dues_of}
 use Rattle.gtrbac_daemon.proofs.Served.{as_long}
 
-module _ {D C G L : Type 0} (readings : C → Option (ℕ → ℕ)) (links : D → Option (List L)) (faults : D → ℕ) where
-  pub all_fresh : (ws : List (Worker D C G L)) → All (λ (w : Worker D C G L). IsNew w) ws → Each (λ (j : Crewman L). IsFresh j) (crewmen readings links faults ws)
+module _ {D C G L : Type 0} (readings : C → Option (ℕ → ℕ)) (doorway : D → Doorway L) where
+  pub all_fresh : (ws : List (Worker D C G L)) → All (λ (w : Worker D C G L). IsNew w) ws → Each (λ (j : Crewman L). IsFresh j) (crewmen readings doorway ws)
   all_fresh [] new = tt
   all_fresh (w ∷ ws) new = ((new 0 w (omega arith)).0, all_fresh ws (λ k d low. new (suc k) d (omega (arith, low))))
 
-  pub some_crew : (ws : List (Worker D C G L)) → 1 ≤ length ws → 1 ≤ length (crewmen readings links faults ws)
-  some_crew ws some = subst (λ (n : ℕ). 1 ≤ n) (sym (as_long readings links faults ws)) some
+  pub some_crew : (ws : List (Worker D C G L)) → 1 ≤ length ws → 1 ≤ length (crewmen readings doorway ws)
+  some_crew ws some = subst (λ (n : ℕ). 1 ≤ n) (sym (as_long readings doorway ws)) some
 
 module _ {L : Type 0} (traffic : L → Traffic) (words : List (List ℕ)) (s : ℕ) (a b : Scene (List (Crewman L))) (some : 1 ≤ length a.server) (fresh : Each IsFresh a.server) where
   pub runs_named : (name : List ℕ) → Some name ≡ policy_named words → Answers (crew_way traffic) (Some name) s a b → b.texts ≡ a.texts → RunsServer traffic words s a b

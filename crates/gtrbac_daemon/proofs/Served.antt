@@ -1,6 +1,6 @@
 -- What a service comes to.
 use Rattle.std.proofs.Common.{◌≡◌, ℕ, suc, ◌≤◌, List, [], ◌∷◌, length, Option, refl, sym, ap, subst, ◌∙◌}
-use Rattle.gt_io.specs.Links.{Traffic}
+use Rattle.gt_io.specs.Links.{Traffic, Doorway}
 use Rattle.gtrbac_model.specs.Safety.{IsSafe}
 use Rattle.gtrbac_model.proofs.Levels.{by_trigger}
 use Rattle.gtrbac_model.proofs.Playing.{levels_give_one_model}
@@ -17,9 +17,9 @@ use Rattle.gtrbac_daemon.specs.Headline.{HaveWorked, CrewHeadline}
 use Rattle.gtrbac_daemon.specs.Runs.{Scene, IsWritten}
 use Rattle.gtrbac_daemon.specs.Daemon.{CrewHasServed}
 
-pub as_long : {D C G L : Type 0} (readings : C → Option (ℕ → ℕ)) (links : D → Option (List L)) (faults : D → ℕ) (ws : List (Worker D C G L)) → length (crewmen readings links faults ws) ≡ length ws
-as_long readings links faults [] = refl
-as_long readings links faults (w ∷ ws) = ap suc (as_long readings links faults ws)
+pub as_long : {D C G L : Type 0} (readings : C → Option (ℕ → ℕ)) (doorway : D → Doorway L) (ws : List (Worker D C G L)) → length (crewmen readings doorway ws) ≡ length ws
+as_long readings doorway [] = refl
+as_long readings doorway (w ∷ ws) = ap suc (as_long readings doorway ws)
 
 one_model : (p : Policy) → IsSafe p.triggers → HasOneModel p
 one_model p safe = let levels = safe_is_levelled p.triggers safe in levels_give_one_model p levels.0 (by_trigger p.triggers levels.0 levels.1)

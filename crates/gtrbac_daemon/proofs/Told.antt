@@ -1,5 +1,5 @@
 -- What a worker has served, over the whole history.
-use Rattle.std.proofs.Common.{◌≡◌, ℕ, ◌+◌, ◌<◌, ◌≤◌, List, [], ◌∷◌, ◌++◌, length, refl, sym, ap, subst, ◌∙◌, arith, append-nil, Option, Some, None}
+use Rattle.std.proofs.Common.{◌≡◌, ℕ, ◌+◌, ◌<◌, ◌≤◌, List, [], ◌∷◌, ◌++◌, length, refl, sym, ap, subst, ◌∙◌, arith, append-nil, true}
 use Rattle.gt_base.specs.declared.requests.Entry.{Entry}
 use Rattle.gt_io.specs.Links.{Traffic}
 use Rattle.turn_lock.specs.Turns.{part}
@@ -11,10 +11,9 @@ use Rattle.connection_laws.proofs.Places.{part_of-append, part_of-part, all_mine
 use Rattle.connection_laws.specs.Services.{service}
 use Rattle.line_server.specs.declared.ended.Served.{Served}
 use Rattle.line_server.specs.Working.{Tale, begun_of, owns_of, Works, AreServed as AreServedAt}
-use Rattle.connection_laws.specs.Doors.{Gives, AddUp}
 use Rattle.line_server.proofs.Completing.{complete_by}
 use Rattle.line_server.proofs.Links.{served_longer}
-use Rattle.line_server.proofs.Crew.{links_add_up}
+use Rattle.connection_laws.proofs.Giving.{add_up}
 use Rattle.gtrbac_daemon.specs.Crew.{Crewman}
 use Rattle.gtrbac_daemon.specs.Headline.{AreServed, parts_from, HasWorked}
 
@@ -69,22 +68,16 @@ module _ {L : Type 0} (traffic : L → Traffic) (np : NamedPolicy) (legal : List
     parts_are c (s ∷ ss) (x ∷ xs) all =
         ap (λ (l : List Entry). l ++ owns_of xs) all.0.own ∙ ap (λ (l : List Entry). part_of (by w c) h ++ l) (parts_are (c + 1) ss xs all.1)
 
-    as_many : (c : ℕ) (ss : List (Served L)) (xs : List (Tale L)) → AreServed traffic np birth h w c ss xs → length ss ≡ length xs
+    as_many : (c : ℕ) (ss : List (Served L)) (xs : List (Tale L)) → AreServed traffic np birth h w c ss xs → length (begun_of xs) ≡ length ss
     as_many c [] [] all = refl
     as_many c [] (x ∷ xs) all = absurd all
     as_many c (s ∷ ss) [] all = absurd all
     as_many c (s ∷ ss) (x ∷ xs) all = let e = as_many (c + 1) ss xs all.1 in omega (arith, e)
 
-    adds : (had left : Option (List L)) (ss : List (Served L)) (xs : List (Tale L)) → length ss ≡ length xs → Gives had left (begun_of xs) → AddUp had left ss
-    adds None None ss xs same g = tt
-    adds None (Some left) ss xs same g = tt
-    adds (Some had) None ss xs same g = tt
-    adds (Some had) (Some left) ss xs same g = let e = links_add_up had left (Some left) xs g refl in omega (arith, e, same)
-
     pub has_worked : {M : Type 0} (before after : Holder M) (a b : Crewman L) → before.own ≡ [] → before.draws ≡ 0 → after.number ≡ w
-        → Works traffic (service np [] legal now) w (record { pass = before; clock = a.clock; door = a.door }) (record { pass = after; clock = b.clock; door = b.door }) a.faults b.faults b.served b.outcome
-        → IsToldBy [] h after → HasWorked traffic np birth h w a b
-    has_worked {M} before after a b fresh zero number k told =
+        → Works traffic (service np [] legal now) w (record { pass = before; clock = a.clock; door = a.door }) (record { pass = after; clock = b.clock; door = b.door }) b.served b.outcome
+        → b.door.closed ≡ true → IsToldBy [] h after → HasWorked traffic np birth h w a b
+    has_worked {M} before after a b fresh zero number k shut told =
         let xs : List (Tale L) = k.tales in
         let own_is : after.own ≡ owns_of xs = ap (λ (q : Holder M). q.own) k.worked.grows.after_is ∙ ap (λ (es : List Entry). es ++ owns_of xs) fresh in
         let whole : part w h ≡ owns_of xs = ap (λ (n : ℕ). part n h) (sym number) ∙ sym told.1 ∙ own_is in
@@ -96,10 +89,11 @@ module _ {L : Type 0} (traffic : L → Traffic) (np : NamedPolicy) (legal : List
           tales = xs;
           links = links;
           door = k.worked.door;
-          counted = adds a.door b.door b.served xs (as_many 1 b.served xs links) k.worked.door;
+          counted = add_up a.door.links b.door.links b.served (begun_of xs) (as_many 1 b.served xs links) k.worked.door;
           readings = k.worked.reads;
           parts = whole ∙ parts_are 1 b.served xs links;
           draws = after.draws;
           few_draws = omega (arith, high, long, zero);
           cause = k.cause;
+          closed = shut;
         }

@@ -1,10 +1,10 @@
 -- From the seats of viewers to what they have served.
-use Rattle.std.proofs.Common.{◌≡◌, ℕ, ◌<◌, ◌≤◌, true, List, length, reverse, get_or, sym, ap, subst, ◌∙◌, Option}
+use Rattle.std.proofs.Common.{◌≡◌, ℕ, ◌<◌, ◌≤◌, true, List, length, reverse, get_or, sym, ap, subst, ◌∙◌}
 use Rattle.std.specs.Prelude.{All, replicate}
 use Rattle.std.specs.List.{list_all}
 use Rattle.std.proofs.lemmas.List.{length-reverse, length-map}
 use Rattle.gt_base.specs.declared.requests.Entry.{Entry}
-use Rattle.gt_io.specs.Links.{Traffic}
+use Rattle.gt_io.specs.Links.{Traffic, Doorway}
 use Rattle.policy_words.specs.Naming.{NamedPolicy}
 use Rattle.snapshot_readers.specs.Glazed.{Glazed, fresh_glass}
 use Rattle.snapshot_readers.specs.declared.viewers.Viewer.{Viewer}
@@ -30,14 +30,14 @@ module _ {D G L : Type 0} (np : NamedPolicy) (birth n : ℕ) (gs : List Glazed) 
         fresh = r.1;
       }
 
-  pub all_served : (links : D → Option (List L)) (faults : D → ℕ) (traffic : L → Traffic) (h : List Entry) (viewers' : List (Viewer D G L)) (ys us : List (Seat D G L))
+  pub all_served : (doorway : D → Doorway L) (traffic : L → Traffic) (h : List Entry) (viewers' : List (Viewer D G L)) (ys us : List (Seat D G L))
       → viewers' ≡ reverse (viewers_of us) → length ys ≡ length xs → length us ≡ length ys
-      → ((i : ℕ) (d : Seat D G L) → i < length xs → HasLooked links faults traffic np (get_or xs i d) (get_or ys i d))
+      → ((i : ℕ) (d : Seat D G L) → i < length xs → HasLooked doorway traffic np (get_or xs i d) (get_or ys i d))
       → ((i : ℕ) (d : Seat D G L) → i < length ys → HasSettled h (get_or ys i d) (get_or us i d))
-      → HaveViewed traffic np birth (watchers links faults viewers) (watchers links faults viewers')
-      × (list_all (λ (s : Seat D G L). s.told) us ≡ true → AreTold traffic np birth h (watchers links faults viewers) (watchers links faults viewers'))
-  all_served links faults traffic h viewers' ys us is' long more looked settled =
-      seats_done links faults traffic np birth h viewers viewers' xs us is is' (more ∙ long)
+      → HaveViewed traffic np birth (watchers doorway viewers) (watchers doorway viewers')
+      × (list_all (λ (s : Seat D G L). s.told) us ≡ true → AreTold traffic np birth h (watchers doorway viewers) (watchers doorway viewers'))
+  all_served doorway traffic h viewers' ys us is' long more looked settled =
+      seats_done doorway traffic np birth h viewers viewers' xs us is is' (more ∙ long)
       (λ i d low. record {
         fresh = (ready np birth n gs viewers xs all glasses is new i d low).0;
         mid = get_or ys i d;

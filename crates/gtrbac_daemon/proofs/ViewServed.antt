@@ -4,7 +4,7 @@ use Rattle.std.specs.Prelude.{◌||◌, ◌++◌, All, is_some}
 use Rattle.std.specs.List.{list_any}
 use Rattle.gt_base.specs.declared.requests.Entry.{Entry}
 use Rattle.gt_io.specs.Causes.{Rose}
-use Rattle.gt_io.specs.Links.{Traffic}
+use Rattle.gt_io.specs.Links.{Traffic, Doorway}
 use Rattle.turn_lock.specs.Turns.{Each}
 use Rattle.policy_words.specs.Naming.{NamedPolicy}
 use Rattle.policy_commands.specs.Ends.{EndView}
@@ -28,19 +28,19 @@ use Rattle.gtrbac_daemon.proofs.AnyRuns as Any
 use Rattle.gtrbac_daemon.proofs.CrewStatus.{any_map}
 use Rattle.gtrbac_daemon.proofs.ViewStatus.{IsFreshViewer}
 
-module _ {D C G L : Type 0} (readings : C → Option (ℕ → ℕ)) (links : D → Option (List L)) (faults : D → ℕ) where
+module _ {D C G L : Type 0} (readings : C → Option (ℕ → ℕ)) (doorway : D → Doorway L) where
   abbrev K : List (Worker D C G L) → List (Crewman L)
-  K = crewmen readings links faults
+  K = crewmen readings doorway
 
   abbrev V : List (Viewer D G L) → List (Watcher L)
-  V = watchers links faults
+  V = watchers doorway
 
   -- what is seen of workers and viewers says what they say themselves
   crew_says : (p : WorkEnd → Bool) (ws : List (Worker D C G L)) → list_any p (ends_of (K ws)) ≡ list_any (λ (w : Worker D C G L). p w.outcome) ws
-  crew_says p ws = any_map p (λ (k : Crewman L). k.outcome) (K ws) ∙ any_map (λ (k : Crewman L). p k.outcome) (crewman readings links faults) ws
+  crew_says p ws = any_map p (λ (k : Crewman L). k.outcome) (K ws) ∙ any_map (λ (k : Crewman L). p k.outcome) (crewman readings doorway) ws
 
   viewers_say : (p : ViewerEnd → Bool) (vs : List (Viewer D G L)) → list_any p (viewer_ends (V vs)) ≡ list_any (λ (v : Viewer D G L). p v.outcome) vs
-  viewers_say p vs = any_map p (λ (w : Watcher L). w.outcome) (V vs) ∙ any_map (λ (w : Watcher L). p w.outcome) (watcher links faults) vs
+  viewers_say p vs = any_map p (λ (w : Watcher L). w.outcome) (V vs) ∙ any_map (λ (w : Watcher L). p w.outcome) (watcher doorway) vs
 
   pub numbers_same : (vs : List (Viewer D G L)) → numbers_among vs ≡ numbers_of (V vs)
   numbers_same [] = refl

@@ -2,9 +2,10 @@
 use Rattle.std.proofs.Common.{◌≡◌, ◌⊎◌, ℕ, Bool, true, false, List, [], ◌∷◌, inl, inr, refl, sym, ap, ◌∙◌, Option, Some, None}
 use Rattle.std.specs.Prelude.{is_some}
 use Rattle.std.specs.List.{list_any}
+use Rattle.gtrbac_daemon.proofs.CrewStatus.{has_risen}
 use Rattle.gt_base.specs.declared.requests.Entry.{Entry}
 use Rattle.gt_io.specs.Causes.{Rose}
-use Rattle.gt_io.specs.Links.{Traffic}
+use Rattle.gt_io.specs.Links.{Traffic, Tally}
 use Rattle.policy_words.specs.Naming.{NamedPolicy}
 use Rattle.snapshot_readers.specs.declared.ends.Viewed.{Viewed}
 use Rattle.snapshot_readers.specs.declared.ends.ViewerEnd.{ViewerEnd}
@@ -51,25 +52,25 @@ well_by s false false false true is e f = inr (inr is)
 well_by s false false false false is e f = inl is
 
 -- one viewer
-module _ {L : Type 0} (links : Option (List L)) (f f' : ℕ) (served : List (Viewed L)) where
-  done_one : (end : ViewerEnd) → ViewsTo links f f' served end → is_viewer_memory end ≡ false → is_viewer_fault end ≡ false → is_viewer_spent end ≡ false → end ≡ Done
+module _ {L : Type 0} (links : Option (List L)) (t t' : Tally) (served : List (Viewed L)) where
+  done_one : (end : ViewerEnd) → ViewsTo links t t' served end → is_viewer_memory end ≡ false → is_viewer_fault end ≡ false → is_viewer_spent end ≡ false → end ≡ Done
   done_one Fresh k m d p = absurd k
   done_one Done k m d p = refl
   done_one DoorFault k m d p = absurd (cc d)
   done_one Enough k m d p = absurd (cc p)
   done_one Memory k m d p = absurd (cc m)
 
-  failed_one : (end : ViewerEnd) → ViewsTo links f f' served end → is_viewer_fault end ≡ true → (end ≡ DoorFault) × Rose f f'
+  failed_one : (end : ViewerEnd) → ViewsTo links t t' served end → is_viewer_fault end ≡ true → (end ≡ DoorFault) × Rose t.faults t'.faults
   failed_one Fresh k d = absurd k
   failed_one Done k d = absurd (cc d)
-  failed_one DoorFault k d = (refl, k.1)
+  failed_one DoorFault k d = (refl, has_risen t t' k.1)
   failed_one Enough k d = absurd (cc d)
   failed_one Memory k d = absurd (cc d)
 
-  sound_one : (end : ViewerEnd) → ViewsTo links f f' served end → (Rose f f' → ⊥) → is_viewer_fault end ≡ false
+  sound_one : (end : ViewerEnd) → ViewsTo links t t' served end → (Rose t.faults t'.faults → ⊥) → is_viewer_fault end ≡ false
   sound_one Fresh k sound = refl
   sound_one Done k sound = refl
-  sound_one DoorFault k sound = absurd (sound k.1)
+  sound_one DoorFault k sound = absurd (sound (has_risen t t' k.1))
   sound_one Enough k sound = refl
   sound_one Memory k sound = refl
 
@@ -148,7 +149,7 @@ module _ {L : Type 0} (traffic : L → Traffic) (np : NamedPolicy) (birth : ℕ)
 
   -- how one of them ended
   abbrev Did : Watcher L → Watcher L → Type 0
-  Did v w = ViewsTo w.door v.faults w.faults w.served w.outcome
+  Did v w = ViewsTo w.door.links v.door.tally w.door.tally w.served w.outcome
 
   all_did : (vs ws : List (Watcher L)) → HaveViewed traffic np birth vs ws → EachOf Did vs ws
   all_did [] [] all = tt
@@ -161,10 +162,10 @@ module _ {L : Type 0} (traffic : L → Traffic) (np : NamedPolicy) (birth : ℕ)
   viewers_done vs ws all m d p =
       let one = each_by outcome is_viewer_memory Did (λ v w. Did v w × (is_viewer_memory w.outcome ≡ false)) (λ v w a e. (a, e)) vs ws (all_did vs ws all) m in
       let two = each_by outcome is_viewer_fault (λ v w. Did v w × (is_viewer_memory w.outcome ≡ false)) (λ v w. (Did v w × (is_viewer_memory w.outcome ≡ false)) × (is_viewer_fault w.outcome ≡ false)) (λ v w a e. (a, e)) vs ws one d in
-      each_by outcome is_viewer_spent (λ v w. (Did v w × (is_viewer_memory w.outcome ≡ false)) × (is_viewer_fault w.outcome ≡ false)) IsDoneViewer (λ v w a e. done_one w.door v.faults w.faults w.served w.outcome a.0.0 a.0.1 a.1 e) vs ws two p
+      each_by outcome is_viewer_spent (λ v w. (Did v w × (is_viewer_memory w.outcome ≡ false)) × (is_viewer_fault w.outcome ≡ false)) IsDoneViewer (λ v w a e. done_one w.door.links v.door.tally w.door.tally w.served w.outcome a.0.0 a.0.1 a.1 e) vs ws two p
 
   pub viewers_failed : (vs ws : List (Watcher L)) → HaveViewed traffic np birth vs ws → list_any is_viewer_fault (viewer_ends ws) ≡ true → SomeOf HasFailedViewer vs ws
-  viewers_failed vs ws all = some_by outcome is_viewer_fault Did HasFailedViewer (λ v w a e. failed_one w.door v.faults w.faults w.served w.outcome a e) vs ws (all_did vs ws all)
+  viewers_failed vs ws all = some_by outcome is_viewer_fault Did HasFailedViewer (λ v w a e. failed_one w.door.links v.door.tally w.door.tally w.served w.outcome a e) vs ws (all_did vs ws all)
 
   pub viewers_spent : (vs ws : List (Watcher L)) → HaveViewed traffic np birth vs ws → list_any is_viewer_spent (viewer_ends ws) ≡ true → SomeOf IsSpentViewer vs ws
   viewers_spent vs ws all = some_by outcome is_viewer_spent Did IsSpentViewer (λ v w a e. spent_one w.outcome e) vs ws (all_did vs ws all)
@@ -178,6 +179,6 @@ module _ {L : Type 0} (traffic : L → Traffic) (np : NamedPolicy) (birth : ℕ)
   pub viewers_unharmed : (vs ws : List (Watcher L)) → HaveViewed traffic np birth vs ws → EachOf IsUnharmedViewer vs ws
       → (list_any is_viewer_fault (viewer_ends ws) ≡ false) × (list_any is_viewer_spent (viewer_ends ws) ≡ false)
   viewers_unharmed vs ws all fine = (
-    none_by outcome is_viewer_fault (λ v w. Did v w × IsUnharmedViewer v w) (λ v w a. sound_one w.door v.faults w.faults w.served w.outcome a.0 a.1.0) vs ws (both_of Did IsUnharmedViewer vs ws (all_did vs ws all) fine),
+    none_by outcome is_viewer_fault (λ v w. Did v w × IsUnharmedViewer v w) (λ v w a. sound_one w.door.links v.door.tally w.door.tally w.served w.outcome a.0 a.1.0) vs ws (both_of Did IsUnharmedViewer vs ws (all_did vs ws all) fine),
     none_by outcome is_viewer_spent IsUnharmedViewer (λ v w a. a.1) vs ws fine,
   )

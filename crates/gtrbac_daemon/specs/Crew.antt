@@ -2,29 +2,27 @@
 use Rattle.std.specs.Prelude.{◌≡◌, ◌⊎◌, ℕ, Bool, true, false, List, [], ◌∷◌, map}
 use Rattle.std.specs.List.{list_any}
 use Rattle.std.specs.declared.option.Option.{Option}
+use Rattle.gt_io.specs.Links.{Doorway}
 use Rattle.gt_io.specs.Causes.{Rose}
 use Rattle.line_server.specs.declared.ended.Served.{Served}
 use Rattle.line_server.specs.declared.ended.WorkEnd.{WorkEnd}
 use Rattle.line_server.specs.declared.ended.WorkEnd.TheVariants.{Fresh, Done, DoorFault, Enough, Worn, Memory}
 use Rattle.line_server.specs.declared.workers.Worker.{Worker}
 
--- a worker as it is seen: the readings of its clock and the links of its door that are to come,
--- where they are told, how often its door failed, its served links, and how it ended
+-- a worker as it is seen: the readings of its clock that are to come, where they are told, its door,
+-- its served links, and how it ended
 pub record Crewman (L : Type 0) : Type 0 where
   pub clock : Option (ℕ → ℕ)
-  pub door : Option (List L)
-  pub faults : ℕ
+  pub door : Doorway L
   pub served : List (Served L)
   pub outcome : WorkEnd
 
-module _ {D C G L : Type 0} (readings : C → Option (ℕ → ℕ)) (links : D → Option (List L))
-    (faults : D → ℕ) where
+module _ {D C G L : Type 0} (readings : C → Option (ℕ → ℕ)) (doorway : D → Doorway L) where
   abbrev pub crewman : Worker D C G L → Crewman L
   crewman w =
       record {
         clock = readings w.clock;
-        door = links w.door;
-        faults = faults w.door;
+        door = doorway w.door;
         served = w.served.items;
         outcome = w.outcome;
       }
@@ -80,12 +78,16 @@ module _ {A : Type 0} (P : A → A → Type 0) where
   EachOf (j ∷ js) (k ∷ ks) = P j k × EachOf js ks
   EachOf _ _ = ⊥
 
+-- a door has failed since
+abbrev pub DoorRose : {L : Type 0} → Doorway L → Doorway L → Type 0
+DoorRose d e = Rose d.tally.faults e.tally.faults
+
 module _ {L : Type 0} where
   abbrev pub ends_of : List (Crewman L) → List WorkEnd
   ends_of crew = map (λ (k : Crewman L). k.outcome) crew
 
   abbrev pub HasFailed : Crewman L → Crewman L → Type 0
-  HasFailed j k = (k.outcome ≡ DoorFault) × Rose j.faults k.faults
+  HasFailed j k = (k.outcome ≡ DoorFault) × DoorRose j.door k.door
 
   -- there was no memory for it
   abbrev pub LacksMemory : Crewman L → Crewman L → Type 0
@@ -96,7 +98,7 @@ module _ {L : Type 0} where
 
   -- neither its door failed nor is it spent
   abbrev pub IsUnharmed : Crewman L → Crewman L → Type 0
-  IsUnharmed j k = (Rose j.faults k.faults → ⊥) × (is_spent k.outcome ≡ false)
+  IsUnharmed j k = (DoorRose j.door k.door → ⊥) × (is_spent k.outcome ≡ false)
 
   -- its door was read to its end
   abbrev pub IsDone : Crewman L → Crewman L → Type 0

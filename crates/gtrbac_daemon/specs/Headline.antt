@@ -1,5 +1,5 @@
 -- What a crew leaves: one history with one model, and each link's part of it.
-use Rattle.std.specs.Prelude.{◌≡◌, ℕ, ◌+◌, ◌*◌, ◌≤◌, List, [], ◌∷◌, ◌++◌, length}
+use Rattle.std.specs.Prelude.{◌≡◌, ℕ, ◌+◌, ◌*◌, ◌≤◌, true, List, [], ◌∷◌, ◌++◌, length}
 use Rattle.gt_base.specs.declared.requests.Entry.{Entry}
 use Rattle.gt_io.specs.Links.{Traffic, Reads}
 use Rattle.turn_lock.specs.Turns.{part}
@@ -42,13 +42,14 @@ module _ {L : Type 0} (traffic : L → Traffic) (np : NamedPolicy) (birth : ℕ)
   pub record HasWorked (a b : Crewman L) : Type 0 where
     pub tales : List (Tale L)
     pub links : AreServed 1 b.served tales
-    pub door : Gives a.door b.door (begun_of tales)
-    pub counted : AddUp a.door b.door b.served
+    pub door : Gives a.door.links b.door.links (begun_of tales)
+    pub counted : AddUp a.door.links b.door.links b.served
     pub readings : Reads a.clock b.clock (hours_of tales)
     pub parts : part w h ≡ parts_from 1 b.served
     pub draws : ℕ
     pub few_draws : draws ≤ length (part w h) + 2 * length (hours_of tales)
-    pub cause : WorksTo b.door a.faults b.faults draws b.served b.outcome
+    pub cause : WorksTo b.door.links a.door.tally b.door.tally draws b.served b.outcome
+    pub closed : b.door.closed ≡ true
 
 -- the workers from number w on
 abbrev pub HaveWorked : {L : Type 0} → (L → Traffic) → NamedPolicy → ℕ → List Entry → ℕ

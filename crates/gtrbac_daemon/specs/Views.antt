@@ -3,7 +3,6 @@ use Rattle.std.specs.Prelude.{◌≡◌, ◌⊎◌, ℕ, ◌==◌, ◌++◌, ◌
 use Rattle.std.specs.List.{list_any}
 use Rattle.std.specs.declared.option.Option.{Option}
 use Rattle.gt_base.specs.declared.requests.Entry.{Entry}
-use Rattle.gt_io.specs.Causes.{Rose}
 use Rattle.gt_io.specs.Links.{Traffic}
 use Rattle.policy_words.specs.Naming.{NamedPolicy}
 use Rattle.request_text.specs.Replies.{log_text}
@@ -12,7 +11,7 @@ use Rattle.snapshot_readers.specs.declared.ends.ViewerEnd.TheVariants.{Done, Doo
 use Rattle.snapshot_readers.specs.Crew.{all_lens}
 use Rattle.snapshot_readers.specs.Seats.{Watcher, AreTold, HaveViewed}
 use Rattle.gtrbac_daemon.specs.Words.{views_named}
-use Rattle.gtrbac_daemon.specs.Crew.{Crewman, is_memory, is_door_fault, is_spent, ends_of, SomeOf, EachOf, HasFailed, LacksMemory, IsSpent, IsSound, IsDone, IsUnharmed}
+use Rattle.gtrbac_daemon.specs.Crew.{Crewman, is_memory, is_door_fault, is_spent, ends_of, SomeOf, EachOf, HasFailed, LacksMemory, IsSpent, IsSound, IsDone, IsUnharmed, DoorRose}
 use Rattle.gtrbac_daemon.specs.Headline.{CrewHeadline}
 use Rattle.gtrbac_daemon.specs.Runs.{Scene, IsWritten, Starves, IsDue, Way, Runs}
 
@@ -88,7 +87,7 @@ module _ {L : Type 0} where
   IsDoneViewer v w = w.outcome ≡ Done
 
   abbrev pub HasFailedViewer : Watcher L → Watcher L → Type 0
-  HasFailedViewer v w = (w.outcome ≡ DoorFault) × Rose v.faults w.faults
+  HasFailedViewer v w = (w.outcome ≡ DoorFault) × DoorRose v.door w.door
 
   abbrev pub IsSoundViewer : Watcher L → Watcher L → Type 0
   IsSoundViewer v w = is_viewer_fault w.outcome ≡ false
@@ -98,7 +97,7 @@ module _ {L : Type 0} where
 
   -- neither its door failed nor has it served as many links as it may
   abbrev pub IsUnharmedViewer : Watcher L → Watcher L → Type 0
-  IsUnharmedViewer v w = (Rose v.faults w.faults → ⊥) × (is_viewer_spent w.outcome ≡ false)
+  IsUnharmedViewer v w = (DoorRose v.door w.door → ⊥) × (is_viewer_spent w.outcome ≡ false)
 
   -- there was no memory for it
   abbrev pub LacksViewerMemory : Watcher L → Watcher L → Type 0

@@ -43,8 +43,8 @@ where
     requires fresh { All (λ w. IsNew w) crew.old.items }
     ensures root { SameRoot desk.root result }
     ensures worked { HaveWorked D.L.traffic desk.root.named desk.root.birth result.entries 0
-        (crewmen C.readings D.links D.faults crew.old.items)
-        (crewmen C.readings D.links D.faults crew.new.items) }
+        (crewmen C.readings D.doorway crew.old.items)
+        (crewmen C.readings D.doorway crew.new.items) }
     ensures others { (n : ℕ) → length crew.old.items ≤ n → part n result.entries ≡ [] }
 {
     man(&mut passes, crew, &mut posts);
@@ -73,8 +73,8 @@ where
     ensures root { IfOk result (λ closed. SameRoot ledger closed) }
     ensures worked { IfOk result
         (λ closed. HaveWorked D.L.traffic ledger.named ledger.birth closed.entries 0
-        (crewmen C.readings D.links D.faults crew.old.items)
-        (crewmen C.readings D.links D.faults crew.new.items)) }
+        (crewmen C.readings D.doorway crew.old.items)
+        (crewmen C.readings D.doorway crew.new.items)) }
     ensures others { IfOk result
         (λ closed. (n : ℕ) → length crew.old.items ≤ n → part n closed.entries ≡ []) }
 {
@@ -122,8 +122,8 @@ where
     ensures root { IfOk result (λ closed. (closed.named ≡ safe) × (closed.birth ≡ birth)) }
     ensures headline { IfOk result
         (λ closed. CrewHeadline D.L.traffic safe birth
-        (crewmen C.readings D.links D.faults crew.old.items)
-        (crewmen C.readings D.links D.faults crew.new.items) closed.entries) }
+        (crewmen C.readings D.doorway crew.old.items)
+        (crewmen C.readings D.doorway crew.new.items) closed.entries) }
 {
     safe.keeps();
     let Ok(policy) = safe.policy().copied() else {

@@ -42,9 +42,9 @@ where
     requires fresh { All (λ w. IsNew w) crew.old.items }
     ensures { (stock stock' : Stock) → Serves (crew_way D.L.traffic) safe result
         (scene stock (B.readings birth.old)
-        (crewmen C.readings D.links D.faults crew.old.items) (K.output out.old))
+        (crewmen C.readings D.doorway crew.old.items) (K.output out.old))
         (scene stock' (B.readings birth.new)
-        (crewmen C.readings D.links D.faults crew.new.items) (K.output out.new)) }
+        (crewmen C.readings D.doorway crew.new.items) (K.output out.new)) }
 {
     let minute = birth.now();
     let Ok(mut page) = Page::new(alloc) else {
@@ -83,9 +83,9 @@ where
     requires fresh { All (λ w. IsNew w) crew.old.items }
     ensures answers { Answers (crew_way D.L.traffic) (Some name.now) result
         (scene (S.stock shelf.old) (B.readings birth.old)
-        (crewmen C.readings D.links D.faults crew.old.items) (K.output out.old))
+        (crewmen C.readings D.doorway crew.old.items) (K.output out.old))
         (scene (S.stock shelf.new) (B.readings birth.new)
-        (crewmen C.readings D.links D.faults crew.new.items) (K.output out.new)) }
+        (crewmen C.readings D.doorway crew.new.items) (K.output out.new)) }
     ensures same { (S.stock shelf.new).contents ≡ (S.stock shelf.old).contents }
     ensures once { AsksOnce (S.stock shelf.old) (S.stock shelf.new) }
 {
@@ -139,9 +139,9 @@ where
     requires fresh { All (λ w. IsNew w) crew.old.items }
     ensures runs { RunsServer D.L.traffic (map string_bytes words.now) result
         (scene (S.stock shelf.old) (B.readings birth.old)
-        (crewmen C.readings D.links D.faults crew.old.items) (K.output out.old))
+        (crewmen C.readings D.doorway crew.old.items) (K.output out.old))
         (scene (S.stock shelf.new) (B.readings birth.new)
-        (crewmen C.readings D.links D.faults crew.new.items) (K.output out.new)) }
+        (crewmen C.readings D.doorway crew.new.items) (K.output out.new)) }
     ensures unread { policy_named (map string_bytes words.now) ≡ None
         → (shelf.new ≡ shelf.old) × (birth.new ≡ birth.old) × (crew.new ≡ crew.old) }
     ensures once { AsksOnce (S.stock shelf.old) (S.stock shelf.new) }

@@ -51,11 +51,11 @@ where
     ensures { (stock stock' : Stock) → (h : List Entry)
         × Serves (view_way D.L.traffic h) safe result
         (scene stock (B.readings birth.old)
-        (company (crewmen C.readings D.links D.faults crew.old.items)
-        (watchers D.links D.faults viewers.old.items)) (K.output out.old))
+        (company (crewmen C.readings D.doorway crew.old.items)
+        (watchers D.doorway viewers.old.items)) (K.output out.old))
         (scene stock' (B.readings birth.new)
-        (company (crewmen C.readings D.links D.faults crew.new.items)
-        (watchers D.links D.faults viewers.new.items)) (K.output out.new)) }
+        (company (crewmen C.readings D.doorway crew.new.items)
+        (watchers D.doorway viewers.new.items)) (K.output out.new)) }
 {
     let minute = birth.now();
     let Ok(mut page) = Page::new(alloc) else {
@@ -116,11 +116,11 @@ where
     requires new { All (λ v. IsNewViewer v) viewers.old.items }
     ensures runs { RunsViews D.L.traffic (map string_bytes words.now) result
         (scene (S.stock shelf.old) (B.readings birth.old)
-        (company (crewmen C.readings D.links D.faults crew.old.items)
-        (watchers D.links D.faults viewers.old.items)) (K.output out.old))
+        (company (crewmen C.readings D.doorway crew.old.items)
+        (watchers D.doorway viewers.old.items)) (K.output out.old))
         (scene (S.stock shelf.new) (B.readings birth.new)
-        (company (crewmen C.readings D.links D.faults crew.new.items)
-        (watchers D.links D.faults viewers.new.items)) (K.output out.new)) }
+        (company (crewmen C.readings D.doorway crew.new.items)
+        (watchers D.doorway viewers.new.items)) (K.output out.new)) }
     ensures unread { views_named (map string_bytes words.now) ≡ None
         → (shelf.new ≡ shelf.old) × (birth.new ≡ birth.old) × (crew.new ≡ crew.old)
         × (viewers.new ≡ viewers.old) }

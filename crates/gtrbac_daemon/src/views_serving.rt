@@ -105,11 +105,11 @@ where
     ensures works { (i : ℕ) (d : _) → i < length posts.old.items
         → HasWorked D.L.traffic (service_at M.list M.legal M.now_of desk.now policy.now)
         (site_of desk.now)
-        (at_post C.readings D.links D.faults (slice_index_or posts.old.items i d))
-        (at_post C.readings D.links D.faults (slice_index_or posts.new.items i d)) }
+        (at_post C.readings D.doorway (slice_index_or posts.old.items i d))
+        (at_post C.readings D.doorway (slice_index_or posts.new.items i d)) }
     ensures seats { length seats.new.items ≡ length seats.old.items }
     ensures looked { (i : ℕ) (d : _) → i < length seats.old.items
-        → HasLooked D.links D.faults D.L.traffic policy.now (slice_index_or seats.old.items i d)
+        → HasLooked D.doorway D.L.traffic policy.now (slice_index_or seats.old.items i d)
         (slice_index_or seats.new.items i d) }
 {
     let work = |posts: &mut Vec<Post<M, D, C, G>>|
@@ -124,14 +124,14 @@ where
             → HasWorked D.L.traffic
             (service_at M.list M.legal M.now_of desk.entry.now policy.entry.now)
             (site_of desk.entry.now)
-            (at_post C.readings D.links D.faults (slice_index_or posts.entry.now.items i d))
-            (at_post C.readings D.links D.faults (slice_index_or posts.exit.now.items i d))) }
+            (at_post C.readings D.doorway (slice_index_or posts.entry.now.items i d))
+            (at_post C.readings D.doorway (slice_index_or posts.exit.now.items i d))) }
     { run_posts(rt, alloc, desk, policy, posts) };
     let look = |seats: &mut Vec<Seat<D, G>>|
         requires { All (λ s. IsReadySeat policy.now s) seats.now.items }
         ensures { (length seats.exit.now.items ≡ length seats.entry.now.items)
             × ((i : ℕ) (d : _) → i < length seats.entry.now.items
-            → HasLooked D.links D.faults D.L.traffic policy.entry.now
+            → HasLooked D.doorway D.L.traffic policy.entry.now
             (slice_index_or seats.entry.now.items i d)
             (slice_index_or seats.exit.now.items i d)) }
     { run_seats(rt, alloc, policy, seats) };
@@ -168,12 +168,12 @@ where
     ensures root { M.same_root opened.0.root result }
     ensures worked { (birth : ℕ) → IsTimed birth (M.legal opened.0.root) (M.now_of opened.0.root)
         → HaveWorked D.L.traffic policy.now birth (M.list result) 0
-        (crewmen C.readings D.links D.faults crew.old.items)
-        (crewmen C.readings D.links D.faults crew.new.items) }
+        (crewmen C.readings D.doorway crew.old.items)
+        (crewmen C.readings D.doorway crew.new.items) }
     ensures others { (n : ℕ) → length crew.old.items ≤ n → part n (M.list result) ≡ [] }
     ensures seats { length seats.new.items ≡ length seats.old.items }
     ensures looked { (i : ℕ) (d : _) → i < length seats.old.items
-        → HasLooked D.links D.faults D.L.traffic policy.now (slice_index_or seats.old.items i d)
+        → HasLooked D.doorway D.L.traffic policy.now (slice_index_or seats.old.items i d)
         (slice_index_or seats.new.items i d) }
 {
     let (desk, mut passes) = opened;
@@ -231,18 +231,18 @@ where
     ensures root { IfOk result (λ t. SameRoot board.entry.ledger t.0) }
     ensures worked { IfOk result
         (λ t. HaveWorked D.L.traffic policy.now board.entry.ledger.birth t.0.entries 0
-        (crewmen C.readings D.links D.faults crew.old.items)
-        (crewmen C.readings D.links D.faults crew.new.items)) }
+        (crewmen C.readings D.doorway crew.old.items)
+        (crewmen C.readings D.doorway crew.new.items)) }
     ensures others { IfOk result
         (λ t. (n : ℕ) → length crew.old.items ≤ n → part n t.0.entries ≡ []) }
     ensures viewed { IfOk result
         (λ t. HaveViewed D.L.traffic policy.now board.entry.ledger.birth
-        (watchers D.links D.faults viewers.old.items)
-        (watchers D.links D.faults viewers.new.items)) }
+        (watchers D.doorway viewers.old.items)
+        (watchers D.doorway viewers.new.items)) }
     ensures told { IfOk result
         (λ t. t.1 ≡ true → AreTold D.L.traffic policy.now board.entry.ledger.birth t.0.entries
-        (watchers D.links D.faults viewers.old.items)
-        (watchers D.links D.faults viewers.new.items)) }
+        (watchers D.doorway viewers.old.items)
+        (watchers D.doorway viewers.new.items)) }
 {
     let Ok(posts) = Vec::with_capacity(alloc, crew.len()) else {
         return Err(AllocError);
@@ -293,15 +293,15 @@ where
     ensures root { IfOk result (λ t. (t.0.named ≡ safe) × (t.0.birth ≡ birth)) }
     ensures headline { IfOk result
         (λ t. CrewHeadline D.L.traffic safe birth
-        (crewmen C.readings D.links D.faults crew.old.items)
-        (crewmen C.readings D.links D.faults crew.new.items) t.0.entries) }
+        (crewmen C.readings D.doorway crew.old.items)
+        (crewmen C.readings D.doorway crew.new.items) t.0.entries) }
     ensures viewed { IfOk result
-        (λ t. HaveViewed D.L.traffic safe birth (watchers D.links D.faults viewers.old.items)
-        (watchers D.links D.faults viewers.new.items)) }
+        (λ t. HaveViewed D.L.traffic safe birth (watchers D.doorway viewers.old.items)
+        (watchers D.doorway viewers.new.items)) }
     ensures told { IfOk result
         (λ t. t.1 ≡ true → AreTold D.L.traffic safe birth t.0.entries
-        (watchers D.links D.faults viewers.old.items)
-        (watchers D.links D.faults viewers.new.items)) }
+        (watchers D.doorway viewers.old.items)
+        (watchers D.doorway viewers.new.items)) }
 {
     safe.keeps();
     let Ok(policy) = safe.policy().copied() else {

@@ -4,11 +4,11 @@ use Rattle.std.specs.Prelude.{Result, Ok, Err, IfOk}
 use Rattle.gt_base.specs.declared.requests.Entry.{Entry}
 use Rattle.gtrbac_model.specs.Policy.{Policy}
 use Rattle.policy_words.specs.Naming.{NamedPolicy}
+use Rattle.core_machine.specs.Books.{BookView}
 use Rattle.policy_commands.specs.declared.ends.End.{End}
 use Rattle.policy_commands.specs.Ends.{EndView, told, seen_end}
 use Rattle.gtrbac_tool.specs.declared.ahead.Inquiry.{Inquiry}
-use Rattle.gtrbac_tool.specs.declared.script.Outcome.{Outcome}
-use Rattle.gtrbac_tool.specs.declared.starting.Ran.TheVariants.{Unborn, Born}
+use Rattle.gtrbac_tool.specs.declared.script.Ran.TheVariants.{Unborn, Born}
 use Rattle.gtrbac_tool.specs.EndTexts.{no_birth}
 use Rattle.gtrbac_tool.specs.Script.{ScriptStart, never, born, failed, start_of, EndsFrom}
 use Rattle.gtrbac_tool.specs.Started.{IsUnborn, RanFrom}
@@ -27,7 +27,7 @@ ran_of np asked (failed t) end is = (t, refl, status_of end t is)
 
 -- how a script was run, with what is asked behind it
 
-unborn_end : (np : NamedPolicy) (asked : Inquiry) (start : ScriptStart) (end : End) (other : EndView) → FailsWith start → RanFrom np start (Unborn end) → IsUnborn (seen_end end) other → AnswersFrom np asked start other
+unborn_end : (np : NamedPolicy) (asked : Inquiry) (start : ScriptStart) (end : End) (other : EndView) → FailsWith start → RanFrom np start [] (Unborn end) → IsUnborn (seen_end end) other → AnswersFrom np asked start other
 unborn_end np asked never end other fails ran (inl h) = h.1
 unborn_end np asked never end other fails ran (inr h) = absurd (h.0 (status_of (seen_end end) _ ran))
 unborn_end np asked (born birth n lines) end other fails ran is = absurd ran
@@ -37,26 +37,26 @@ unborn_end np asked (failed t) end other fails ran (inl h) = absurd (clash (sym 
     clash e = cc (e)
 unborn_end np asked (failed t) end other fails ran (inr h) = h.1 ∙ ran
 
-pub unborn_answers : {E : Type 0} (np : NamedPolicy) (asked : Inquiry) (lines : List (List ℕ)) (end : End) (r : Result End E) → RanFrom np (start_of np 1 lines) (Unborn end)
+pub unborn_answers : {E : Type 0} (np : NamedPolicy) (asked : Inquiry) (lines : List (List ℕ)) (end : End) (r : Result End E) → RanFrom np (start_of np 1 lines) [] (Unborn end)
     → IfOk r (λ e. IsUnborn (seen_end end) (seen_end e)) → IfOk r (λ e. AnswersFrom np asked (start_of np 1 lines) (seen_end e))
 unborn_answers np asked lines end (Ok e) ran is = unborn_end np asked (start_of np 1 lines) end (seen_end e) (starts np 1 lines) ran is
 unborn_answers np asked lines end (Err f) ran is = tt
 
-born_end : (np : NamedPolicy) (asked : Inquiry) (start : ScriptStart) (out : Outcome) (end : EndView) → RanFrom np start (Born out)
-    → FollowsRun out.book.named.policy asked out.book.birth out.book.entries (seen_end out.end) end → AnswersFrom np asked start end
-born_end np asked never out end ran is = absurd ran
-born_end np asked (born birth n lines) out end ran is =
+born_end : (np : NamedPolicy) (asked : Inquiry) (start : ScriptStart) (book : BookView) (end : End) (other : EndView) → RanFrom np start [] (Born book end)
+    → FollowsRun book.named.policy asked book.birth book.entries (seen_end end) other → AnswersFrom np asked start other
+born_end np asked never book end other ran is = absurd ran
+born_end np asked (born birth n lines) book end other ran is =
     record {
-      history = out.book.entries;
-      ran = seen_end out.end;
+      history = book.entries;
+      ran = seen_end end;
       run = ran.run;
       follows =
-          subst (λ (q : NamedPolicy). FollowsRun q.policy asked birth out.book.entries (seen_end out.end) end) ran.of_policy
-          (subst (λ (t : ℕ). FollowsRun out.book.named.policy asked t out.book.entries (seen_end out.end) end) ran.of_birth is);
+          subst (λ (q : NamedPolicy). FollowsRun q.policy asked birth book.entries (seen_end end) other) ran.of_policy
+          (subst (λ (t : ℕ). FollowsRun book.named.policy asked t book.entries (seen_end end) other) ran.of_birth is);
     }
-born_end np asked (failed t) out end ran is = absurd ran
+born_end np asked (failed t) book end other ran is = absurd ran
 
-pub born_answers : {E : Type 0} (np : NamedPolicy) (asked : Inquiry) (start : ScriptStart) (out : Outcome) (r : Result End E) → RanFrom np start (Born out)
-    → IfOk r (λ e. FollowsRun out.book.named.policy asked out.book.birth out.book.entries (seen_end out.end) (seen_end e)) → IfOk r (λ e. AnswersFrom np asked start (seen_end e))
-born_answers np asked start out (Ok e) ran is = born_end np asked start out (seen_end e) ran is
-born_answers np asked start out (Err f) ran is = tt
+pub born_answers : {E : Type 0} (np : NamedPolicy) (asked : Inquiry) (start : ScriptStart) (book : BookView) (end : End) (r : Result End E) → RanFrom np start [] (Born book end)
+    → IfOk r (λ e. FollowsRun book.named.policy asked book.birth book.entries (seen_end end) (seen_end e)) → IfOk r (λ e. AnswersFrom np asked start (seen_end e))
+born_answers np asked start book end (Ok e) ran is = born_end np asked start book end (seen_end e) ran is
+born_answers np asked start book end (Err f) ran is = tt

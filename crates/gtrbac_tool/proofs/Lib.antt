@@ -20,5 +20,5 @@ pub mod Succeeding
 pub mod Tallying
 pub mod Writing
 pub mod Pieces
-pub mod Answering
+pub mod Reading
 pub mod Calls

@@ -1,25 +1,33 @@
--- Heads that are listed round by round: each list is supported, and one to which no trigger adds lists the whole set.
-use Rattle.std.proofs.Common.{◌≡◌, ◌≢◌, ℕ, ◌+◌, ◌<◌, ◌≤◌, Bool, true, false, cond, not, ◌&&◌, ◌||◌, ◌⊎◌, inl, inr, List, [], ◌∷◌, ◌++◌, length, length-append, append-nil, IsTrue, refl, sym, ◌∙◌, ap, subst, arith}
+-- Heads that are listed one by one: each list is supported, and one to which no trigger adds lists the whole set.
+use Rattle.std.proofs.Common.{◌≡◌, ℕ, suc, ◌+◌, ◌*◌, ◌<◌, ◌≤◌, Bool, true, false, cond, not, nat_eq, ◌&&◌, ◌||◌, ◌⊎◌, inl, inr, List, [], ◌∷◌, ◌++◌, flat_map, length, length-append, Option, Some, None, IsTrue, refl, sym, ◌∙◌, ap, subst, arith}
 use Rattle.std.specs.List.{list_any, list_all}
-use Rattle.std.specs.Cmp.{both_ways, eq_by_cmp_equiv}
+use Rattle.std.specs.Cmp.{both_ways}
+use Rattle.std.proofs.lemmas.Bool.{eqb-true}
 use Rattle.std.proofs.lemmas.List.Folds.{list_any-append}
+use Rattle.std.proofs.Math.Nat.{mul-le-mul_right, suc-mul}
 use Rattle.gt_base.specs.Held.{TriggerView}
 use Rattle.gt_base.specs.Happening.{HappenedView}
-use Rattle.gt_base.specs.Orders.{event_cmp, prioritised_cmp}
+use Rattle.gt_base.specs.Orders.{prioritised_cmp}
 use Rattle.gt_base.specs.Sets.{SetOf, has, members, set_of, with_member}
 use Rattle.gt_base.specs.declared.events.Event.{Event}
 use Rattle.gt_base.specs.declared.events.Prioritised.{Prioritised}
-use Rattle.gt_base.proofs.OrderLaws.{prioritised_cmp-IsAntisymmetric}
+use Rattle.gt_base.specs.declared.events.Signal.{Signal}
+use Rattle.gt_base.proofs.OrderLaws.{prioritised_cmp-IsAntisymmetric, signal_cmp-IsAntisymmetric}
 use Rattle.gt_base.proofs.SetLaws.{has-set_of, has-with_member, same_sets}
-use Rattle.gt_base.proofs.SetSteps.{event_cmp_total, prioritised_cmp_total}
-use Rattle.gtrbac_model.specs.Base.{when}
+use Rattle.gt_base.proofs.SetSteps.{prioritised_cmp_total, signal_cmp_total}
 use Rattle.gtrbac_model.specs.Conflict.{Status, blocked}
+use Rattle.gtrbac_model.specs.Graph.{item_at}
+use Rattle.gtrbac_model.specs.History.{is_some_item}
 use Rattle.gtrbac_model.specs.Instant.{closed, stands, supported, grounded_after, IsGrounding, Settled}
-use Rattle.gtrbac_model.specs.Same.{lists, same_event, same_prioritised}
+use Rattle.gtrbac_model.specs.Same.{lists, same_event, same_prioritised, same_signal}
 use Rattle.gtrbac_model.specs.Trigger.{met, immediate}
+use Rattle.gtrbac_model.specs.WholePolicy.{has_cause}
 use Rattle.gtrbac_model.proofs.Elements.{Elem, both_true, and_true, either_true, left_true, right_true, implied, split, any_elim, any_intro, all_elim, all_intro, tied, elem_of_has, has_of_elem, elem_of_set_of}
+use Rattle.gtrbac_model.proofs.Meeting.{parts_met}
 use Rattle.gtrbac_model.proofs.Uniqueness.{is_same_prioritised}
-use Rattle.gtrbac_tool.specs.Listing.{raises_next, with_head, with_heads}
+use Rattle.trigger_rules.specs.Indexed.{has_event, has_signal, with_event, with_signal}
+use Rattle.instant_engine.proofs.Steps.{elem_of, numbered, numbers_few}
+use Rattle.gtrbac_tool.specs.Listing.{raises_next, next_head, with_head, waiting_with}
 
 abbrev pub Here : List Prioritised → Prioritised → Type 0
 Here es e = lists same_prioritised es e ≡ true
@@ -88,25 +96,16 @@ there_more es fs s t e is add so_far o =
 stands_last : (x : HappenedView) (es : List Prioritised) (e : Prioritised) (f : Event) → stands x (es ++ e ∷ []) f ≡ ((same_event e.event f && not (blocked x e)) || stands x es f)
 stands_last x es e f = any_last (λ o. same_event o.event f && not (blocked x o)) es e
 
-pub stands_more : (x : HappenedView) (es fs : List Prioritised) (s t : SetOf event_cmp) (e : Prioritised) → fs ≡ es ++ e ∷ [] → t ≡ with_member s e.event → blocked x e ≡ false → ((f : Event) → has s f ≡ stands x es f) → (f : Event) → has t f ≡ stands x fs f
-stands_more x es fs s t e is add free so_far f =
-    ap (λ z. has z f) add ∙ added_event s e.event f ∙ noted (same_event e.event f) (blocked x e) (has s f) free ∙ ap (λ b. (same_event e.event f && not (blocked x e)) || b) (so_far f)
-    ∙ sym (ap (λ z. stands x z f) is ∙ stands_last x es e f)
-  where
-    added_event : (s : SetOf event_cmp) (e f : Event) → has (with_member s e) f ≡ (same_event e f || has s f)
-    added_event s e f = has-with_member event_cmp_total s e f ∙ ap (λ b. b || has s f) ((eq_by_cmp_equiv event_cmp_total).symm f e)
+pub stands_noted : (x : HappenedView) (es fs : List Prioritised) (e : Prioritised) (old new : Event → Bool) → fs ≡ es ++ e ∷ [] → ((f : Event) → new f ≡ ((same_event e.event f && not (blocked x e)) || old f))
+    → ((f : Event) → old f ≡ stands x es f) → (f : Event) → new f ≡ stands x fs f
+stands_noted x es fs e old new is more so_far f =
+    more f ∙ ap (λ b. (same_event e.event f && not (blocked x e)) || b) (so_far f) ∙ sym (ap (λ z. stands x z f) is ∙ stands_last x es e f)
 
-    noted : (same b there : Bool) → b ≡ false → (same || there) ≡ ((same && not b) || there)
-    noted true b there e = ap (λ c. not c || there) (sym e)
-    noted false b there e = refl
-
-pub stands_same : (x : HappenedView) (es fs : List Prioritised) (s : SetOf event_cmp) (e : Prioritised) → fs ≡ es ++ e ∷ [] → blocked x e ≡ true → ((f : Event) → has s f ≡ stands x es f) → (f : Event) → has s f ≡ stands x fs f
-stands_same x es fs s e is stuck so_far f =
-    so_far f ∙ off (same_event e.event f) (blocked x e) (stands x es f) stuck ∙ sym (ap (λ z. stands x z f) is ∙ stands_last x es e f)
-  where
-    off : (same b there : Bool) → b ≡ true → there ≡ ((same && not b) || there)
-    off true b there e = ap (λ c. not c || there) (sym e)
-    off false b there e = refl
+-- a trigger has a number
+number_of : {A : Type 0} (xs : List A) (a : A) → Elem xs a → (t : ℕ) × (item_at xs t ≡ Some a)
+number_of [] a m = elim m [ ]
+number_of (y ∷ ys) a (inl e) = (0, ap (λ z. Some z) (sym e))
+number_of (y ∷ ys) a (inr m) = let (t, e) = number_of ys a m in (suc t, e)
 
 -- how many triggers have heads that are not listed
 abbrev pub unlisted : List TriggerView → List Prioritised → ℕ
@@ -216,13 +215,6 @@ module _ (rules : List TriggerView) (base : HappenedView) (s : Status) (x : Happ
       in_base : (e : Prioritised) → Elem (members base.events) e → has base.events e ≡ true
       in_base e m = has_of_elem prioritised_cmp_total prioritised_cmp-IsAntisymmetric base.events e m
 
-  -- the trigger adds its head, or nothing
-  adds : (es : List Prioritised) (r : TriggerView) → raises_next s x es r ≡ true → with_head s x es r ≡ es ++ r.head ∷ []
-  adds es r h = ap (λ b. es ++ when b r.head) h
-
-  adds_nothing : (es : List Prioritised) (r : TriggerView) → raises_next s x es r ≡ false → with_head s x es r ≡ es
-  adds_nothing es r h = ap (λ b. es ++ when b r.head) h ∙ append-nil es
-
   elem_last : (es : List Prioritised) (e o : Prioritised) → Elem (es ++ e ∷ []) o → Elem es o ⊎ (o ≡ e)
   elem_last [] e o (inl q) = inr q
   elem_last [] e o (inr m) = elim m [ ]
@@ -246,72 +238,137 @@ module _ (rules : List TriggerView) (base : HappenedView) (s : Status) (x : Happ
         base_there = λ e b. here_left es (r.head ∷ []) e (w.base_there e b);
       }
 
-  pub goes_on : IsClosed → (es : List Prioritised) (r : TriggerView) → Elem rules r → IsOnWay es → IsOnWay (with_head s x es r)
-  goes_on c es r m w =
-      split (raises_next s x es r)
-      (λ h. subst IsOnWay (sym (adds es r h)) (goes_on_with c es r m w h))
-      (λ h. subst IsOnWay (sym (adds_nothing es r h)) w)
-
-  pub all_go_on : IsClosed → (es : List Prioritised) (rs : List TriggerView) → ((r : TriggerView) → Elem rs r → Elem rules r) → IsOnWay es → IsOnWay (with_heads s x es rs)
-  all_go_on c es [] of w = w
-  all_go_on c es (r ∷ rs) of w = all_go_on c (with_head s x es r) rs (λ q m. of q (inr m)) (goes_on c es r (of r (inl refl)) w)
-
-  here_on : (es : List Prioritised) (rs : List TriggerView) (e : Prioritised) → Here es e → Here (with_heads s x es rs) e
-  here_on es [] e h = h
-  here_on es (r ∷ rs) e h = here_on (with_head s x es r) rs e (here_left es (when (raises_next s x es r) r.head) e h)
-
-  longer : (es : List Prioritised) (rs : List TriggerView) → length es ≤ length (with_heads s x es rs)
-  longer es [] = omega arith
-  longer es (r ∷ rs) = omega (arith, longer (with_head s x es r) rs, length-append es (when (raises_next s x es r) r.head))
-
-  -- a round that adds something leaves fewer heads to be listed
-  record Grew (es fs : List Prioritised) : Type 0 where
-    longer : length es < length fs
-    fewer : unlisted rules fs < unlisted rules es
-
-  pub record Stayed (es : List Prioritised) (rs : List TriggerView) (fs : List Prioritised) : Type 0 where
-    pub same : fs ≡ es
-    pub none : (r : TriggerView) → Elem rs r → raises_next s x es r ≡ false
-
-  outcome : (es : List Prioritised) (rs : List TriggerView) → ((r : TriggerView) → Elem rs r → Elem rules r) → Grew es (with_heads s x es rs) ⊎ Stayed es rs (with_heads s x es rs)
-  outcome es [] of = inr (record { same = refl; none = λ r m. elim m [ ] })
-  outcome es (r ∷ rs) of =
-      split (raises_next s x es r)
-      (λ h. inl (grew h))
-      (λ h.
-      subst (λ ds. Grew es (with_heads s x ds rs) ⊎ Stayed es (r ∷ rs) (with_heads s x ds rs)) (sym (adds_nothing es r h))
-      (elim (outcome es rs (λ q m. of q (inr m))) [
-        | inl g ↦ inl g
-        | inr st ↦ inr (record { same = st.same; none = λ q m. either q m h st.none })
-      ]))
+  -- the trigger whose head was found
+  found : (es : List Prioritised) (h : Prioritised) (o : Option TriggerView) → Some h ≡ next_head s x es o → (q : TriggerView) × (o ≡ Some q) × (h ≡ q.head) × (raises_next s x es q ≡ true)
+  found es h None e = cc
+  found es h (Some q) e = by (raises_next s x es q) refl e
     where
-      either : (q : TriggerView) → Elem (r ∷ rs) q → raises_next s x es r ≡ false → ((p : TriggerView) → Elem rs p → raises_next s x es p ≡ false) → raises_next s x es q ≡ false
-      either q (inl e) h rest = subst (λ p. raises_next s x es p ≡ false) (sym e) h
-      either q (inr m) h rest = rest q m
+      by : (b : Bool) → raises_next s x es q ≡ b → Some h ≡ cond b (Some q.head) None → (p : TriggerView) × (Some q ≡ Some p) × (h ≡ p.head) × (raises_next s x es p ≡ true)
+      by true f e = (q, refl, cc, f)
+      by false f e = cc
 
-      grew : raises_next s x es r ≡ true → Grew es (with_heads s x (with_head s x es r) rs)
-      grew h =
-          let fs : List Prioritised = es ++ r.head ∷ [] in
-          subst (λ ds. Grew es (with_heads s x ds rs)) (sym (adds es r h))
-          (record {
-            longer = omega (arith, longer fs rs, length-append es (r.head ∷ []));
-            fewer = unlisted_drops rules es (with_heads s x fs rs) (λ e k. here_on fs rs e (here_left es (r.head ∷ []) e k)) r (of r (inl refl))
-                (not_true (lists same_prioritised es r.head) (raises_of es r h).absent) (here_on fs rs r.head (here_last es r.head));
-          })
+  pub goes_on : IsClosed → (es : List Prioritised) (t : ℕ) (head : Option Prioritised) → head ≡ next_head s x es (item_at rules t) → IsOnWay es → IsOnWay (with_head es head)
+  goes_on c es t None e w = w
+  goes_on c es t (Some h) e w =
+      let (q, here, is_head, raises) = found es h (item_at rules t) e in
+      subst (λ z. IsOnWay (es ++ z ∷ [])) (sym is_head) (goes_on_with c es q (elem_of rules t q here) w raises)
 
-  pub round_grows : (es fs : List Prioritised) (n : ℕ) → fs ≡ with_heads s x es rules → n ≡ length es → length fs ≢ n → unlisted rules fs < unlisted rules es
-  round_grows es fs n is many apart =
-      elim (outcome es rules (λ r m. m)) [
-        | inl g ↦ subst (λ ds. unlisted rules ds < unlisted rules es) (sym is) g.fewer
-        | inr st ↦ absurd (apart (ap length (is ∙ st.same) ∙ sym many))
+  -- each trigger that raises its head next is among the numbers
+  abbrev pub Waits : List Prioritised → List ℕ → Type 0
+  Waits es ts = (u : ℕ) (w : TriggerView) → item_at rules u ≡ Some w → raises_next s x es w ≡ true → lists nat_eq ts u ≡ true
+
+  does_raise : (es : List Prioritised) (r : TriggerView) → immediate r ≡ true → lists same_prioritised es r.head ≡ false → met r x s ≡ true → list_all (stands x es) r.events ≡ true → raises_next s x es r ≡ true
+  does_raise es r i out mt st =
+      and_true (immediate r && not (lists same_prioritised es r.head) && met r x s) _ (and_true (immediate r && not (lists same_prioritised es r.head)) _ (and_true (immediate r) _ i (ap not out)) mt) st
+
+  -- what is listed by one item is listed by all of them
+  listed_by : {A : Type 0} (f : A → List ℕ) (xs : List A) (a : A) (u : ℕ) → Elem xs a → lists nat_eq (f a) u ≡ true → lists nat_eq (flat_map f xs) u ≡ true
+  listed_by f [] a u m h = elim m [ ]
+  listed_by f (y ∷ ys) a u (inl e) h = list_any-append (nat_eq u) (f y) (flat_map f ys) ∙ left_true (lists nat_eq (f y) u) _ (subst (λ z. lists nat_eq (f z) u ≡ true) e h)
+  listed_by f (y ∷ ys) a u (inr m) h = list_any-append (nat_eq u) (f y) (flat_map f ys) ∙ right_true (lists nat_eq (f y) u) _ (listed_by f ys a u m h)
+
+  abbrev by_base : List ℕ
+  by_base = flat_map (λ (o : Prioritised). with_event rules o.event) (members base.events)
+
+  abbrev by_signals : List ℕ
+  by_signals = flat_map (with_signal rules) (members base.signals)
+
+  -- at first those wait that have an event or a signal of the base in their bodies
+  pub first_wait : list_all has_cause rules ≡ true → x.signals ≡ base.signals → Waits (members base.events) (by_signals ++ by_base)
+  first_wait caused same u w at h =
+      let q = raises_of (members base.events) w h in
+      list_any-append (nat_eq u) by_signals by_base
+      ∙ prompt w.events w.signals (λ e m. m) (λ t m. m) (all_elim has_cause rules w caused (elem_of rules u w at)) q.stands (parts_met w x s q.met).signals
+    where
+      prompt : (es : List Event) (ts : List Signal) → ((e : Event) → Elem es e → Elem w.events e) → ((t : Signal) → Elem ts t → Elem w.signals t) → (is_some_item es || is_some_item ts) ≡ true
+          → list_all (stands x (members base.events)) es ≡ true → list_all (has x.signals) ts ≡ true → (lists nat_eq by_signals u || lists nat_eq by_base u) ≡ true
+      prompt (e ∷ es) ts of_es of_ts some st there =
+          let (o, m, k) = any_elim (λ o. same_event o.event e && not (blocked x o)) (members base.events) (both_true (stands x (members base.events) e) _ st).0 in
+          right_true (lists nat_eq by_signals u) _
+          (listed_by (λ (o : Prioritised). with_event rules o.event) (members base.events) o u m
+          (numbered (has_event o.event) 0 rules u u w (omega arith) at (any_intro (same_event o.event) w.events e (of_es e (inl refl)) (both_true (same_event o.event e) _ k).0)))
+      prompt [] (t ∷ ts) of_es of_ts some st there =
+          let h : has base.signals t ≡ true = subst (λ z. has z t ≡ true) same (both_true (has x.signals t) _ there).0 in
+          left_true (lists nat_eq by_signals u) _
+          (listed_by (with_signal rules) (members base.signals) t u (elem_of_has signal_cmp_total signal_cmp-IsAntisymmetric base.signals t h)
+          (numbered (has_signal t) 0 rules u u w (omega arith) at (any_intro (same_signal t) w.signals t (of_ts t (inl refl)) (tied signal_cmp_total signal_cmp-IsAntisymmetric t t refl))))
+      prompt [] [] of_es of_ts some st there = cc
+
+  some_fails : {A : Type 0} (p : A → Bool) (xs : List A) → list_all p xs ≡ false → (a : A) × Elem xs a × (p a ≡ false)
+  some_fails p [] h = cc
+  some_fails p (y ∷ ys) h = split (p y) (λ t. let (a, m, f) = some_fails p ys (ap (λ b. b && list_all p ys) (sym t) ∙ h) in (a, inr m, f)) (λ f. (y, inl refl, f))
+
+  same_first : (e f : Event) → (a b : Bool) → ((same_event e f && a) || b) ≡ true → b ≡ false → same_event e f ≡ true
+  same_first e f a b h none = (both_true (same_event e f) a (by (same_event e f && a) b h none)).0
+    where
+      by : (c d : Bool) → (c || d) ≡ true → d ≡ false → c ≡ true
+      by true d h n = refl
+      by false d h n = sym n ∙ h
+
+  -- a trigger that raises its head once an event more is listed did so before, or has the event in its body
+  woken : (es : List Prioritised) (h : Prioritised) (w : TriggerView) → raises_next s x (es ++ h ∷ []) w ≡ true → (raises_next s x es w ≡ true) ⊎ (has_event h.event w ≡ true)
+  woken es h w r =
+      let q = raises_of (es ++ h ∷ []) w r in
+      let out : lists same_prioritised es w.head ≡ false = absent q.absent in
+      split (list_all (stands x es) w.events)
+      (λ st. inl (does_raise es w q.immediate out q.met st))
+      (λ f.
+      let (b, m, none) = some_fails (stands x es) w.events f in
+      let now : stands x (es ++ h ∷ []) b ≡ true = all_elim (stands x (es ++ h ∷ [])) w.events b q.stands m in
+      inr (any_intro (same_event h.event) w.events b m (same_first h.event b (not (blocked x h)) (stands x es b) (sym (stands_last x es h b) ∙ now) none)))
+    where
+      absent : not (lists same_prioritised (es ++ h ∷ []) w.head) ≡ true → lists same_prioritised es w.head ≡ false
+      absent n =
+          split (lists same_prioritised es w.head)
+          (λ i. absurd (clash (lists same_prioritised (es ++ h ∷ []) w.head) (here_left es (h ∷ []) w.head i) (not_true _ n)))
+          (λ z. z)
+
+  -- one of the numbers, or the last
+  last_or : {P : Type 0} (ts : List ℕ) (t u : ℕ) → lists nat_eq (ts ++ t ∷ []) u ≡ true → (lists nat_eq ts u ≡ true → P) → (u ≡ t → P) → P
+  last_or ts t u k old new =
+      elim (either_true (lists nat_eq ts u) _ (sym (list_any-append (nat_eq u) ts (t ∷ [])) ∙ k)) [
+        | inl m ↦ old m
+        | inr m ↦ elim (either_true (nat_eq u t) false m) [ inl e ↦ new (eqb-true u t e) | inr f ↦ cc ]
       ]
 
-  pub round_ends : (es fs : List Prioritised) (n : ℕ) → fs ≡ with_heads s x es rules → n ≡ length es → length fs ≡ n → Stayed es rules fs
-  round_ends es fs n is many same =
-      elim (outcome es rules (λ r m. m)) [
-        | inl g ↦ absurd (omega (arith, g.longer, ap length is, many, same))
-        | inr st ↦ subst (Stayed es rules) (sym is) st
+  one_item : (t : ℕ) (q w : TriggerView) → item_at rules t ≡ Some q → item_at rules t ≡ Some w → w ≡ q
+  one_item t q w a b = cc
+
+  -- with the last number looked at, those that raise their heads still wait
+  pub still_wait : (es : List Prioritised) (ts : List ℕ) (t : ℕ) (head : Option Prioritised) → head ≡ next_head s x es (item_at rules t) → Waits es (ts ++ t ∷ []) → Waits (with_head es head) (waiting_with rules ts head)
+  still_wait es ts t None e wait u w at r =
+      last_or ts t u (wait u w at r) (λ m. m)
+      (λ is.
+      let here : item_at rules t ≡ Some w = subst (λ k. item_at rules k ≡ Some w) is at in
+      let none : None ≡ cond (raises_next s x es w) (Some w.head) None = e ∙ ap (next_head s x es) here in
+      let some : None ≡ Some w.head = none ∙ ap (λ b. cond b (Some w.head) None) r in
+      cc)
+  still_wait es ts t (Some h) e wait u w at r =
+      let (q, here, is_head, raises) = found es h (item_at rules t) e in
+      list_any-append (nat_eq u) ts (with_event rules h.event)
+      ∙ elim (woken es h w r) [
+        | inl before ↦
+            last_or ts t u (wait u w at before) (λ m. left_true (lists nat_eq ts u) _ m)
+            (λ is.
+            let same : w ≡ q = one_item t q w here (subst (λ k. item_at rules k ≡ Some w) is at) in
+            absurd (clash (lists same_prioritised (es ++ h ∷ []) w.head) (subst (λ z. Here (es ++ h ∷ []) z) (is_head ∙ ap (λ (p : TriggerView). p.head) (sym same)) (here_last es h)) (not_true _ (raises_of (es ++ h ∷ []) w r).absent)))
+        | inr has_it ↦ right_true (lists nat_eq ts u) _ (numbered (has_event h.event) 0 rules u u w (omega arith) at has_it)
       ]
+
+  product : (a b m p k ps ts : ℕ) → a < b → k + 1 ≤ m → ps ≡ p + k → ts ≡ p + 1 → a * m + ps < b * m + ts
+  product a b m p k ps ts lt le e f =
+      let u : suc a * m ≤ b * m = mul-le-mul_right m lt in
+      omega (arith, suc-mul a m, u)
+
+  -- with each look there is less to do
+  pub less_left : (es : List Prioritised) (ts : List ℕ) (t : ℕ) (head : Option Prioritised) → head ≡ next_head s x es (item_at rules t)
+      → unlisted rules (with_head es head) * (length rules + 1) + length (waiting_with rules ts head) < unlisted rules es * (length rules + 1) + length (ts ++ t ∷ [])
+  less_left es ts t None e = omega (arith, length-append ts (t ∷ []))
+  less_left es ts t (Some h) e =
+      let (q, here, is_head, raises) = found es h (item_at rules t) e in
+      product (unlisted rules (es ++ h ∷ [])) (unlisted rules es) (length rules + 1) (length ts) (length (with_event rules h.event)) _ _
+      (unlisted_drops rules es (es ++ h ∷ []) (λ o k. here_left es (h ∷ []) o k) q (elem_of rules t q here) (not_true _ (raises_of es q raises).absent) (subst (λ z. Here (es ++ h ∷ []) z) is_head (here_last es h)))
+      (omega (arith, numbers_few (has_event h.event) 0 rules)) (length-append ts (with_event rules h.event)) (length-append ts (t ∷ []))
 
   -- a list that no trigger adds to has all that the set was grounded by
   module _ (es : List Prioritised) (w : IsOnWay es) (none : (r : TriggerView) → Elem rules r → raises_next s x es r ≡ false) where
@@ -359,7 +416,9 @@ module _ (rules : List TriggerView) (base : HappenedView) (s : Status) (x : Happ
         (elem_of_set_of prioritised_cmp_total prioritised_cmp-IsAntisymmetric is.order o (subst (λ z. has z o ≡ true) is.grounding.lists h)))
         (λ h. w.within o (elem_of_set_of prioritised_cmp_total prioritised_cmp-IsAntisymmetric es o h)))
 
-  pub grounds_all : (es fs : List Prioritised) (n : ℕ) → Settled rules base s x → IsOnWay es → fs ≡ with_heads s x es rules → n ≡ length es → length fs ≡ n → IsGrounding rules base s x fs
-  grounds_all es fs n is w made many same =
-      let st = round_ends es fs n made many same in
-      subst (IsGrounding rules base s x) (sym st.same) (record { lists = all_listed es w st.none is; grounds = w.grounded })
+  -- where none waits, the order grounds the set
+  pub grounds_all : (es : List Prioritised) → Settled rules base s x → IsOnWay es → Waits es [] → IsGrounding rules base s x es
+  grounds_all es is w none = record { lists = all_listed es w quiet is; grounds = w.grounded }
+    where
+      quiet : (r : TriggerView) → Elem rules r → raises_next s x es r ≡ false
+      quiet r m = split (raises_next s x es r) (λ h. let (u, at) = number_of rules r m in cc (none u r at h)) (λ z. z)

@@ -1,17 +1,18 @@
--- The run of a script whose replies are written as they come.
-use Rattle.std.proofs.Common.{◌≡◌, ℕ, ◌+◌, ◌≤◌, List, [], ◌∷◌, ◌++◌, length, Option, inl, inr, refl, sym, ◌∙◌, ap, subst, append_assoc}
-use Rattle.std.specs.Prelude.{Result, Ok, Err, codes}
-use Rattle.std.specs.Io.KnownBytes.{Appends}
+-- The run of a script whose replies are written as they come, or kept.
+use Rattle.std.proofs.Common.{◌≡◌, ℕ, ◌+◌, ◌≤◌, Bool, true, false, List, [], ◌∷◌, ◌++◌, length, inl, inr, refl, sym, ◌∙◌, ap, subst, append_assoc}
+use Rattle.std.specs.Prelude.{Result, Ok, Err, MatchResult, codes, ⊤}
 use Rattle.std.proofs.KnownBytes.{Keeps-refl}
 use Rattle.gt_base.specs.Machines.{asked}
 use Rattle.gt_base.specs.declared.requests.Actor.{Actor}
-use Rattle.gt_base.specs.declared.requests.Entry.{Entry}
 use Rattle.gt_base.specs.declared.limits.TheConstants.{MAX_STEPS}
 use Rattle.gt_io.specs.Causes.{Rose, AppendsPart}
+use Rattle.gt_io.specs.Streams.{Output}
 use Rattle.gtrbac_model.specs.Safety.{IsSafe}
+use Rattle.gt_base.specs.declared.requests.Entry.{Entry}
 use Rattle.policy_words.specs.Naming.{NamedPolicy}
-use Rattle.policy_commands.specs.Ends.{EndView, told}
-use Rattle.policy_commands.specs.Printing.{IsPrinted}
+use Rattle.policy_commands.specs.declared.ends.End.{End}
+use Rattle.policy_commands.specs.Ends.{EndView, told, seen_end}
+use Rattle.policy_commands.specs.Printing.{IsPrinted, WantsMemory}
 use Rattle.core_machine.specs.Books.{BookView, IsLegalBook, SameRoot, model_in}
 use Rattle.request_text.specs.declared.lines.Line.{Line}
 use Rattle.request_text.specs.declared.lines.Line.TheVariants.{Silent, At, Be, Ask}
@@ -19,13 +20,16 @@ use Rattle.request_text.specs.declared.lines.LineFault.{LineFault}
 use Rattle.request_text.specs.Replies.{reply_line, fault_word}
 use Rattle.gtrbac_tool.specs.declared.script.Played.{Played}
 use Rattle.gtrbac_tool.specs.declared.script.Played.TheVariants.{On, Full, Bad}
+use Rattle.gtrbac_tool.specs.declared.script.Ran.{Ran}
+use Rattle.gtrbac_tool.specs.declared.script.Ran.TheVariants.{Unborn, Born}
 use Rattle.gtrbac_tool.specs.EndTexts.{behind, script_fault, steps_full}
-use Rattle.gtrbac_tool.specs.Script.{Going, Moves, Plays, Stops, Run, ScriptStart, never, born, failed, EndsFrom, said, scripts_who, at_birth}
+use Rattle.gtrbac_tool.specs.Script.{Going, Moves, Plays, Stops, Run, ScriptStart, never, born, failed, EndsFrom, RunOver, said, scripts_who, at_birth}
 use Rattle.gtrbac_tool.specs.Going.{going_of, PlaysAs}
-use Rattle.gtrbac_tool.specs.Writing.{Prints, Writes}
-use Rattle.gtrbac_tool.proofs.Steps.{legal_from, stop_out, last_out}
-use Rattle.gtrbac_tool.proofs.SomeEnd.{EndsOn, ends_on, ends_born}
-use Rattle.gtrbac_tool.proofs.Writing.{prefix_of, nothing_of, part_before, part_behind, printed_behind, print_written, stop_written}
+use Rattle.gtrbac_tool.specs.Writing.{Tells, Hands}
+use Rattle.gtrbac_tool.specs.Started.{RanFrom, Leads}
+use Rattle.gtrbac_tool.proofs.Steps.{legal_from, stop_out, last_out, outcome}
+use Rattle.gtrbac_tool.proofs.SomeEnd.{EndsOn, ends_on}
+use Rattle.gtrbac_tool.proofs.Writing.{prefix_of, part_before, part_behind, printed_behind, hands_none, wants}
 
 -- where a run stands, with this text before it
 abbrev pub after : List ℕ → Going → Going
@@ -62,11 +66,25 @@ module _ (np : NamedPolicy) (birth : ℕ) (sent : List ℕ) where
   plays_after line Full s t h = (ap (λ (x : List ℕ). sent ++ x) h.0, λ n. stops_after line n s t.history (steps_full n) (h.1 n))
   plays_after line (Bad f) s t h = (ap (λ (x : List ℕ). sent ++ x) h.0, λ n. stops_after line n s t.history (script_fault n (fault_word f)) (h.1 n))
 
+-- a run that ends on the way
+pub breaks : (np : NamedPolicy) (start : ScriptStart) (pieces : Bool) (status : ℕ) (a b : Output)
+    → Tells ⊤ (EndsFrom np start) status a b → (pieces ≡ false → WantsMemory status a.written b.written a.faults b.faults) → Leads np start pieces (Err status) a b
+breaks np start true status a b tells wants = tells
+breaks np start false status a b tells wants = wants refl
+
+-- .. for want of memory, with nothing written
+pub starved_first : (np : NamedPolicy) (start : ScriptStart) (pieces : Bool) (status : ℕ) (a : Output) → status ≡ 8 → Leads np start pieces (Err status) a a
+starved_first np start pieces status a eight =
+    let none : WantsMemory status a.written a.written a.faults a.faults = (eight, Keeps-refl a.written, refl) in breaks np start pieces status a a (inl none) (λ _. none)
+
 -- where the lines of a front were played, with a text of which a part was written and the rest waits
 module _ (b0 b : BookView) (root : SameRoot b0 b) (legal : IsLegalBook b) (before : ℕ) (lines front later : List (List ℕ)) (parts : lines ≡ front ++ later) (actor : Actor) (sent page : List ℕ)
-    (plays : Plays b0.named b0.birth front (at_birth b0.named b0.birth) (going_of b actor (sent ++ page))) (a w : Option (List ℕ)) (first mid : ℕ) (written : Appends a w sent) (steady : mid ≡ first) where
-  abbrev Written : ℕ → Option (List ℕ) → ℕ → Type 0
-  Written status c now = Writes (Run b0.named b0.birth (before + 1) lines) status a c first now
+    (plays : Plays b0.named b0.birth front (at_birth b0.named b0.birth) (going_of b actor (sent ++ page))) (pieces : Bool) (a w : Output) (hands : Hands pieces a w sent) where
+  abbrev Comes : Result Ran ℕ → Output → Type 0
+  Comes result c = Leads b0.named (born b0.birth (before + 1) lines) pieces result a c
+
+  abbrev Start : ScriptStart
+  Start = born b0.birth (before + 1) lines
 
   module _ (safe : IsSafe b0.named.policy.triggers) (short : length b.entries ≤ MAX_STEPS) where
     on : EndsOn b0.named b0.birth (before + 1) lines (going_of b actor (sent ++ page))
@@ -75,68 +93,105 @@ module _ (b0 b : BookView) (root : SameRoot b0 b) (legal : IsLegalBook b) (befor
         (ends_on b0.named b0.birth (before + 1) safe later front (going_of b actor (sent ++ page)) (model_in b) (plays, legal_from b0 b root legal, short))
 
     -- there was no memory for more
-    pub starves : (status : ℕ) → status ≡ 8 → Written status w mid
-    starves status eight =
-        (on.end, on.run, inr (eight, prefix_of a w sent (page ++ on.more) on.end.text written (on.text ∙ append_assoc sent page on.more), steady))
+    pub starves : Comes (Err 8) w
+    starves =
+        breaks b0.named Start pieces 8 a w
+        (inr (on.end, on.run, inr (tt, (refl, prefix_of a.written w.written sent (page ++ on.more) on.end.text hands.written (on.text ∙ append_assoc sent page on.more), hands.steady))))
+        (wants pieces a w sent 8 hands refl)
 
     -- the output failed
-    pub fails : (status : ℕ) (c : Option (List ℕ)) (now : ℕ) → status ≡ 5 → Rose mid now → AppendsPart w c page → Written status c now
-    fails status c now five rose part = (
-      on.end,
-      on.run,
-      inl (inr (
-        five,
-        subst (λ (n : ℕ). Rose n now) steady rose,
-        subst (AppendsPart a c) (sym on.text) (part_before a c (sent ++ page) on.more (part_behind a w c sent page written part)),
-      )),
-    )
+    pub fails : (c : Output) → pieces ≡ true → Rose w.faults c.faults → AppendsPart w.written c.written page → Comes (Err 5) c
+    fails c whole rose part =
+        subst (λ (p : Bool). Leads b0.named Start p (Err 5) a c) (sym whole)
+        (inr (
+          on.end,
+          on.run,
+          inl (inr (
+            refl,
+            subst (λ (n : ℕ). Rose n c.faults) hands.steady rose,
+            subst (AppendsPart a.written c.written) (sym on.text) (part_before a.written c.written (sent ++ page) on.more (part_behind a.written w.written c.written sent page hands.written part)),
+          )),
+        ))
 
-  -- the rest was printed
-  pub finishes : (status : ℕ) (c : Option (List ℕ)) (now : ℕ) → later ≡ [] → IsPrinted status (told 0 page) w c mid now → Written status c now
-  finishes status c now none printed = (
-    told 0 (sent ++ page),
-    (b.entries, last_out b0 b actor (sent ++ page) before lines later front (told 0 (sent ++ page)) root legal parts none plays refl),
-    inl (printed_behind status a w c first mid now sent (told 0 page) written steady printed),
+  -- the rest waits
+  pub finishes : (end : End) → later ≡ [] → seen_end end ≡ told 0 page → Comes (Ok (Born b end)) w
+  finishes end none is = (
+    sent,
+    outcome b0 b (before + 1) lines (behind sent (seen_end end)) root
+        (last_out b0 b actor (sent ++ page) before lines later front (behind sent (seen_end end)) root legal parts none plays (ap (behind sent) is)),
+    hands,
   )
 
 -- a line that ends the run
 pub stops_there : (b0 old b : BookView) (root : SameRoot b0 b) (legal : IsLegalBook b) (before number : ℕ) (lines front later rest : List (List ℕ)) (line : List ℕ) (parts : lines ≡ front ++ later) (steps : later ≡ line ∷ rest)
     (actor : Actor) (sent page : List ℕ) (plays : Plays b0.named b0.birth front (at_birth b0.named b0.birth) (going_of old actor (sent ++ page))) (at : number ≡ before + length front)
-    (a w c : Option (List ℕ)) (first mid now : ℕ) (written : Appends a w sent) (steady : mid ≡ first) (next : List ℕ) (kind : ℕ → EndView)
+    (pieces : Bool) (a w : Output) (hands : Hands pieces a w sent) (next : List ℕ) (kind : ℕ → EndView)
     → (sent ++ next ≡ sent ++ page) × ((n : ℕ) → Stops b0.named b0.birth (said b0.named line) n (going_of old actor (sent ++ page)) b.entries (behind (sent ++ page) (kind n)))
-    → (status : ℕ) → Prints (λ (end : EndView). end ≡ behind next (kind (number + 1))) status w c mid now → Writes (Run b0.named b0.birth (before + 1) lines) status a c first now
-stops_there b0 old b root legal before number lines front later rest line parts steps actor sent page plays at a w c first mid now written steady next kind did status prints =
-    let end : EndView = behind (sent ++ next) (kind (number + 1)) in
-    stop_written status a w c first mid now sent next (kind (number + 1)) (Run b0.named b0.birth (before + 1) lines) written steady
-    (b.entries, stop_out b0 b (going_of old actor (sent ++ page)) (sent ++ next) before number lines later rest front line kind end root legal parts steps plays at did.0 did.1 refl) prints
+    → (result : Result Ran ℕ) → MatchResult result (λ ran. (end : End) × (ran ≡ Born b end) × (seen_end end ≡ behind next (kind (number + 1)))) (λ s. s ≡ 8)
+    → Leads b0.named (born b0.birth (before + 1) lines) pieces result a w
+stops_there b0 old b root legal before number lines front later rest line parts steps actor sent page plays at pieces a w hands next kind did result is = by result is
+  where
+    end : EndView
+    end = behind (sent ++ next) (kind (number + 1))
 
--- before the birth, and with no memory for a book
+    run : Run b0.named b0.birth (before + 1) lines end
+    run = (b.entries, stop_out b0 b (going_of old actor (sent ++ page)) (sent ++ next) before number lines later rest front line kind end root legal parts steps plays at did.0 did.1 refl)
 
-pub none_written : (np : NamedPolicy) (birth n : ℕ) (lines : List (List ℕ)) → IsSafe np.policy.triggers → (a : Option (List ℕ)) (now : ℕ) → Writes (Run np birth n lines) 8 a a now now
-none_written np birth n lines safe a now =
-    let on = ends_born np birth n safe lines in
-    (on.end, on.run, inr (refl, nothing_of a a on.end.text (Keeps-refl a), refl))
+    all : behind sent (behind next (kind (number + 1))) ≡ end
+    all = λ i. record { status = (kind (number + 1)).status; text = sym (append_assoc sent next (kind (number + 1)).text) i }
 
-pub rooted_written : (np other : NamedPolicy) (birth at n : ℕ) (lines : List (List ℕ)) (status : ℕ) (a b : Option (List ℕ)) (before now : ℕ) → other ≡ np → at ≡ birth
-    → Writes (Run other at n lines) status a b before now → Writes (Run np birth n lines) status a b before now
-rooted_written np other birth at n lines status a b before now named there h =
-    subst (λ (q : NamedPolicy). Writes (Run q birth n lines) status a b before now) named (subst (λ (t : ℕ). Writes (Run other t n lines) status a b before now) there h)
+    by : (r : Result Ran ℕ) → MatchResult r (λ ran. (e : End) × (ran ≡ Born b e) × (seen_end e ≡ behind next (kind (number + 1)))) (λ s. s ≡ 8) → Leads b0.named (born b0.birth (before + 1) lines) pieces r a w
+    by (Ok ran) h = (
+      sent,
+      subst (λ (r : Ran). RanFrom b0.named (born b0.birth (before + 1) lines) sent r) (sym h.1) (outcome b0 b (before + 1) lines (behind sent (seen_end h.0)) root (subst (λ (t : EndView). RunOver b0.named b0.birth (before + 1) lines b.entries t) (sym (ap (behind sent) h.2 ∙ all)) run.1)),
+      hands,
+    )
+    by (Err s) eight =
+        breaks b0.named (born b0.birth (before + 1) lines) pieces s a w
+        (inr (end, run, inr (tt, (eight, prefix_of a.written w.written sent (next ++ (kind (number + 1)).text) end.text hands.written (append_assoc sent next (kind (number + 1)).text), hands.steady))))
+        (wants pieces a w sent s hands eight)
 
-module _ (np : NamedPolicy) (start : ScriptStart) (status : ℕ) (a b : Option (List ℕ)) (before now : ℕ) where
-  abbrev Told_so : Type 0
-  Told_so = Writes (EndsFrom np start) status a b before now
+-- of the policy and the birth of the book
 
-  of_start : (other : ScriptStart) → start ≡ other → Writes (EndsFrom np other) status a b before now → Told_so
-  of_start other is h = subst (λ (s : ScriptStart). Writes (EndsFrom np s) status a b before now) (sym is) h
+pub rooted_written : (np other : NamedPolicy) (birth at n : ℕ) (lines : List (List ℕ)) (pieces : Bool) (result : Result Ran ℕ) (a b : Output) → other ≡ np → at ≡ birth
+    → Leads other (born at n lines) pieces result a b → Leads np (born birth n lines) pieces result a b
+rooted_written np other birth at n lines pieces result a b named there h =
+    subst (λ (q : NamedPolicy). Leads q (born birth n lines) pieces result a b) named (subst (λ (t : ℕ). Leads other (born t n lines) pieces result a b) there h)
 
-  pub never_written : start ≡ never → IsPrinted status (told 0 []) a b before now → Told_so
-  never_written is printed = of_start never is (told 0 [], refl, inl printed)
+-- a script that ended before a birth
+pub failed_first : (np : NamedPolicy) (start : ScriptStart) (t : EndView) (pieces : Bool) (a : Output) → start ≡ failed t → (result : Result Ran ℕ)
+    → MatchResult result (λ ran. (end : End) × (ran ≡ Unborn end) × (seen_end end ≡ t)) (λ s. s ≡ 8) → Leads np start pieces result a a
+failed_first np start t pieces a is (Ok ran) h = (
+  [],
+  subst (λ (s : ScriptStart). RanFrom np s [] ran) (sym is) (subst (λ (r : Ran). RanFrom np (failed t) [] r) (sym h.1) h.2),
+  hands_none pieces a,
+)
+failed_first np start t pieces a is (Err s) eight = starved_first np start pieces s a eight
 
-  pub born_written : (birth n : ℕ) (lines : List (List ℕ)) → start ≡ born birth n lines → Writes (Run np birth n lines) status a b before now → Told_so
-  born_written birth n lines is h = of_start (born birth n lines) is h
+-- how it was run, as it is told
 
-  pub failed_written : (t u : EndView) (front : List ℕ) → start ≡ failed t → front ≡ [] → u ≡ t → Prints (λ (end : EndView). end ≡ behind front u) status a b before now → Told_so
-  failed_written t u front is none same prints =
-      let all : behind front u ≡ t = (λ i. behind (none i) (same i)) in
-      of_start (failed t) is
-      (print_written status a b before now t (λ (end : EndView). end ≡ t) refl (subst (λ (x : EndView). Prints (λ (end : EndView). end ≡ x) status a b before now) all prints))
+abbrev pub end_of : Ran → End
+end_of (Unborn end) = end
+end_of (Born book end) = end
+
+ran_ends : (np : NamedPolicy) (start : ScriptStart) (sent : List ℕ) (ran : Ran) → RanFrom np start sent ran → EndsFrom np start (behind sent (seen_end (end_of ran)))
+ran_ends np never sent (Unborn end) h = h
+ran_ends np never sent (Born book end) h = absurd h
+ran_ends np (born birth n lines) sent (Unborn end) h = absurd h
+ran_ends np (born birth n lines) sent (Born book end) h = (book.entries, h.run)
+ran_ends np (failed t) sent (Unborn end) h = h
+ran_ends np (failed t) sent (Born book end) h = absurd h
+
+-- the rest of the replies was printed
+pub replied : (np : NamedPolicy) (start : ScriptStart) (status : ℕ) (a b c : Output) (ran : Ran) (end : End) → end_of ran ≡ end → Leads np start true (Ok ran) a b
+    → IsPrinted status (seen_end end) b.written c.written b.faults c.faults → Tells ⊤ (EndsFrom np start) status a c
+replied np start status a b c ran end is leads printed =
+    inr (
+      behind leads.0 (seen_end end),
+      subst (λ (e : End). EndsFrom np start (behind leads.0 (seen_end e))) is (ran_ends np start leads.0 ran leads.1),
+      inl (printed_behind status a.written b.written c.written a.faults b.faults c.faults leads.0 (seen_end end) leads.2.written leads.2.steady printed),
+    )
+
+-- nothing of it was written
+pub unsent : (np : NamedPolicy) (start : ScriptStart) (ran how : Ran) (a b : Output) → ran ≡ how → Leads np start false (Ok ran) a b → RanFrom np start [] how
+unsent np start ran how a b is leads = subst (λ (r : Ran). RanFrom np start [] r) is (subst (λ (s : List ℕ). RanFrom np start s ran) (leads.2.kept refl) leads.1)

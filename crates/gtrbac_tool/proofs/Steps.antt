@@ -1,6 +1,6 @@
 -- The steps of a run.
 use Rattle.std.proofs.Common.{◌≡◌, ℕ, ◌+◌, ◌<◌, ◌≤◌, true, false, List, [], ◌∷◌, ◌++◌, length, inl, inr, refl, sym, ◌∙◌, ap, subst, arith, append_assoc}
-use Rattle.std.specs.Prelude.{Bool, MatchBool, Result, Ok, Err, IfOk}
+use Rattle.std.specs.Prelude.{Bool, MatchBool, Result, Ok}
 use Rattle.gt_base.specs.Machines.{ticked}
 use Rattle.gt_base.specs.declared.requests.Actor.{Actor}
 use Rattle.gt_base.specs.declared.requests.Entry.{Entry}
@@ -13,8 +13,7 @@ use Rattle.gtrbac_model.specs.Policy.{Policy}
 use Rattle.history_laws.specs.Named.{AreNamed}
 use Rattle.history_laws.proofs.NamedPoints.{points_are_named}
 use Rattle.policy_words.specs.Naming.{NamedPolicy}
-use Rattle.gtrbac_tool.specs.declared.script.Outcome.{Outcome}
-use Rattle.policy_commands.specs.Ends.{EndView, told, seen_end}
+use Rattle.policy_commands.specs.Ends.{EndView, told}
 use Rattle.core_machine.specs.Books.{BookView, IsBook, IsLegalBook, SameRoot, SameRoot-refl, SameRoot-trans, GoesOn, Asks, now_in, model_in, point_in, reply_in}
 use Rattle.request_text.specs.Laws.{CanBeWritten}
 use Rattle.request_text.specs.Replies.{reply_line}
@@ -147,9 +146,3 @@ last_out b0 b actor text number lines later front end root legal parts none play
 -- the outcome of a run that left this book
 pub outcome : (b0 b : BookView) (n : ℕ) (lines : List (List ℕ)) (end : EndView) → SameRoot b0 b → RunOver b0.named b0.birth n lines b.entries end → IsOutcome b0.named b0.birth n lines b end
 outcome b0 b n lines end root run = record { of_policy = sym root.0; of_birth = sym root.1; run = run }
-
--- what holds of the book and of the end that is told holds of the outcome that is answered
-pub of_outcome : (P : BookView → EndView → Type 0) {E : Type 0} (r : Result Outcome E) (b : BookView) (x : EndView) → IfOk r (λ o. (o.book ≡ b) × (seen_end o.end ≡ x)) → ((y : EndView) → y ≡ x → P b y)
-    → IfOk r (λ o. P o.book (seen_end o.end))
-of_outcome P (Ok o) b x is h = subst (λ (b' : BookView). P b' (seen_end o.end)) (sym is.0) (h (seen_end o.end) is.1)
-of_outcome P (Err f) b x is h = tt

@@ -1,6 +1,6 @@
 -- The counted replies by their texts, and how `gen` ends.
 use Rattle.std.proofs.Common.{◌≡◌, ℕ, List, ◌++◌, true, false, refl, sym, ap, ◌∙◌, subst, if◌then◌else◌}
-use Rattle.std.specs.Prelude.{Bool, nat_eq, codes, decimal, Result, Ok as Fine, Err, IfOk}
+use Rattle.std.specs.Prelude.{Bool, nat_eq, codes, decimal, Result, Ok as Fine, Err}
 use Rattle.std.specs.List.{count_by}
 use Rattle.std.proofs.lemmas.Bool.{ne_eqb}
 use Rattle.gt_base.specs.declared.requests.Decision.TheVariants.{Permit as Permits, NoActive, NoGrant, Shut}
@@ -113,12 +113,11 @@ zero_status s h = ap (λ (x : ℕ). nat_eq x 0) h
 
 -- what `gen` makes
 
-pub gen_safe : {E : Type 0} (g : Gen) (np : NamedPolicy) (policy script : List ℕ) (r : Result End E) → safe_in policy ≡ Fine np → policy ≡ policy_text g.size → script ≡ script_text g.seed g.size
-    → IfOk r (λ e. SummedFrom np g (start_of np 1 (lines_of script)) (seen_end e)) → IfOk r (λ e. GenEnds g (seen_end e))
-gen_safe g np policy script (Fine e) safe p s h =
+pub gen_safe : (g : Gen) (np : NamedPolicy) (policy script : List ℕ) → safe_in policy ≡ Fine np → policy ≡ policy_text g.size → script ≡ script_text g.seed g.size
+    → (end : EndView) → SummedFrom np g (start_of np 1 (lines_of script)) end → GenEnds g end
+gen_safe g np policy script safe p s end h =
     let admitted : safe_in (policy_text g.size) ≡ Fine np = ap safe_in (sym p) ∙ safe in
-    subst (λ (o : Result NamedPolicy EndView). SummedOver g o (seen_end e)) (sym admitted) (subst (λ (t : List ℕ). SummedFrom np g (start_of np 1 (lines_of t)) (seen_end e)) s h)
-gen_safe g np policy script (Err f) safe p s h = tt
+    subst (λ (o : Result NamedPolicy EndView). SummedOver g o end) (sym admitted) (subst (λ (t : List ℕ). SummedFrom np g (start_of np 1 (lines_of t)) end) s h)
 
 pub gen_ended : (g : Gen) (policy : List ℕ) (end : End) → IsEnded policy end → policy ≡ policy_text g.size → GenEnds g (seen_end end)
 gen_ended g policy end is p =

@@ -1,6 +1,7 @@
 pub mod EndTexts
 pub mod Script
 pub mod Going
+pub mod Writing
 pub mod Started
 pub mod Summary
 pub mod Counted
@@ -10,9 +11,8 @@ pub mod Listing
 pub mod Late
 pub mod Commands
 pub mod Ends
+pub mod Reading
 pub mod Scenes
 pub mod Meanings
 pub mod Causes
-pub mod Writing
-pub mod Answers
 pub mod Tool

@@ -1,15 +1,18 @@
 -- Where a run begins, as it is found.
-use Rattle.std.specs.Prelude.{ℕ, ◌≡◌, ◌⊎◌, ◌+◌, List, [], codes}
+use Rattle.std.specs.Prelude.{ℕ, ◌≡◌, ◌⊎◌, ◌+◌, ⊤, Bool, List, [], codes, Result, Ok, Err, MatchBool}
+use Rattle.gt_io.specs.Streams.{Output}
 use Rattle.policy_words.specs.Naming.{NamedPolicy}
 use Rattle.policy_commands.specs.Ends.{EndView, told, seen_end}
+use Rattle.policy_commands.specs.Printing.{WantsMemory}
 use Rattle.request_text.specs.Replies.{fault_word}
 use Rattle.gtrbac_tool.specs.declared.starting.Start.{Start as Found}
 use Rattle.gtrbac_tool.specs.declared.starting.Start.TheVariants as found
-use Rattle.gtrbac_tool.specs.declared.starting.Ran.{Ran}
-use Rattle.gtrbac_tool.specs.declared.starting.Ran.TheVariants.{Unborn, Born}
-use Rattle.gtrbac_tool.specs.EndTexts.{script_fault, no_birth}
-use Rattle.gtrbac_tool.specs.Script.{ScriptStart, never, born, failed}
+use Rattle.gtrbac_tool.specs.declared.script.Ran.{Ran}
+use Rattle.gtrbac_tool.specs.declared.script.Ran.TheVariants.{Unborn, Born}
+use Rattle.gtrbac_tool.specs.EndTexts.{behind, script_fault, no_birth}
+use Rattle.gtrbac_tool.specs.Script.{ScriptStart, never, born, failed, EndsFrom}
 use Rattle.gtrbac_tool.specs.Going.{IsOutcome}
+use Rattle.gtrbac_tool.specs.Writing.{Hands, Tells}
 
 abbrev pub started_so : Found → List (List ℕ) → ScriptStart
 started_so found.Never later = never
@@ -23,12 +26,22 @@ number_of (found.Born birth number) = number
 number_of (found.Bad fault number) = number
 number_of (found.Unborn number) = number
 
--- how a script was run from where it begins
-abbrev pub RanFrom : NamedPolicy → ScriptStart → Ran → Type 0
-RanFrom np never (Unborn end) = seen_end end ≡ told 0 []
-RanFrom np (failed t) (Unborn end) = seen_end end ≡ t
-RanFrom np (born birth n lines) (Born out) = IsOutcome np birth n lines out.book (seen_end out.end)
-RanFrom np _ _ = ⊥
+-- how a script was run from where it begins, of whose text this was handed out
+abbrev pub RanFrom : NamedPolicy → ScriptStart → List ℕ → Ran → Type 0
+RanFrom np never sent (Unborn end) = behind sent (seen_end end) ≡ told 0 []
+RanFrom np (failed t) sent (Unborn end) = behind sent (seen_end end) ≡ t
+RanFrom np (born birth n lines) sent (Born book end) =
+    IsOutcome np birth n lines book (behind sent (seen_end end))
+RanFrom np _ _ _ = ⊥
+
+-- how a script is run from there, in pieces or not; where it ends on the way, a prefix of its text
+-- was written, or nothing
+abbrev pub Leads : NamedPolicy → ScriptStart → Bool → Result Ran ℕ → Output → Output → Type 0
+Leads np start pieces (Ok ran) a b =
+    (sent : List ℕ) × RanFrom np start sent ran × Hands pieces a b sent
+Leads np start pieces (Err status) a b =
+    MatchBool pieces (Tells ⊤ (EndsFrom np start) status a b)
+    (WantsMemory status a.written b.written a.faults b.faults)
 
 -- without a birth there is nothing to tell of what is asked
 abbrev pub IsUnborn : EndView → EndView → Type 0

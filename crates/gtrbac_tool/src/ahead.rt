@@ -1,11 +1,9 @@
 //! What is asked behind a script, as it is told.
-ghost use Rattle.std.specs.Prelude.{◌≡◌, ◌≤◌, ◌++◌, codes, IfOk};
-ghost use Rattle.core_machine.specs.Books.{now_in};
+ghost use Rattle.std.specs.Prelude.{◌≡◌, ◌≤◌, ◌++◌, IfOk};
 ghost use Rattle.policy_commands.specs.Ends.{seen_end, told};
 ghost use Rattle.gtrbac_tool.specs.Late.{asked_of, asks_of, horizon, answer_word, change_line, TellsAhead, TellsAsked, FollowsRun};
 
 use crate::questions::Question;
-use crate::script::Outcome;
 use crate::standing::standing_text;
 use civil_time::write_civil;
 use core_machine::Book;
@@ -98,7 +96,7 @@ fn ahead_text(alloc: Global, book: &Book, days: u32, cond: Cond) -> Result<Vec<u
         text.items) }
 {
     let upto = horizon(book.now(), days);
-    let change = first_change(book, cond.fluent, upto)?;
+    let change = first_change(alloc, book, cond.fluent, upto)?;
     change_text(alloc, cond, upto, change)
 }
 
@@ -127,25 +125,25 @@ fn joined(alloc: Global, first: &List<u8>, more: &Vec<u8>) -> Result<End, Memory
 }
 
 /// The end of a run that was played to its end, with what was asked behind its replies.
-fn told_behind(alloc: Global, outcome: Outcome, asked: Inquiry) -> Result<End, Memory>
-    requires { outcome.end.status ≡ 0 }
+fn told_behind(alloc: Global, book: &Book, end: &End, asked: Inquiry) -> Result<End, Memory>
+    requires { end.now.status ≡ 0 }
     ensures { IfOk result
-        (λ end. FollowsRun outcome.book.named.policy asked outcome.book.birth outcome.book.entries
-        (seen_end outcome.end) (seen_end end)) }
+        (λ told. FollowsRun book.now.named.policy asked book.now.birth book.now.entries
+        (seen_end end.now) (seen_end told)) }
 {
-    let more = asked_text(alloc, &outcome.book, asked)?;
-    joined(alloc, &outcome.end.text, &more)
+    let more = asked_text(alloc, book, asked)?;
+    joined(alloc, &end.text, &more)
 }
 
 /// The end of a run with what was asked behind it where it was played to its end, and else its own.
-pub(crate) fn answered(alloc: Global, outcome: Outcome, asked: Inquiry) -> Result<End, Memory>
+pub(crate) fn answered(alloc: Global, book: &Book, end: End, asked: Inquiry) -> Result<End, Memory>
     ensures { IfOk result
-        (λ end. FollowsRun outcome.book.named.policy asked outcome.book.birth outcome.book.entries
-        (seen_end outcome.end) (seen_end end)) }
+        (λ told. FollowsRun book.now.named.policy asked book.now.birth book.now.entries
+        (seen_end end) (seen_end told)) }
 {
-    if outcome.end.status == 0 {
-        told_behind(alloc, outcome, asked)
+    if end.status == 0 {
+        told_behind(alloc, book, &end, asked)
     } else {
-        Ok(outcome.end)
+        Ok(end)
     }
 }

@@ -1,20 +1,26 @@
 //! Certificates of what happened in a book's history.
-ghost use Rattle.std.specs.Prelude.{◌≡◌, ◌++◌, [], ◌∷◌, IfOk, OnOk};
+ghost use Rattle.std.specs.Prelude.{◌≡◌, ◌++◌, [], ◌∷◌, flat_map, true, IfOk, OnOk};
 ghost use Rattle.std.specs.List.{list_all};
 ghost use Rattle.gt_base.specs.declared.events.Event.{Event as EventOf};
 ghost use Rattle.gt_base.specs.declared.events.Fluent.{Fluent as FluentOf};
-ghost use Rattle.gt_base.specs.Sets.{has};
+ghost use Rattle.gt_base.specs.Happening.{HappenedView};
+ghost use Rattle.gt_base.specs.Sets.{has, members};
 ghost use Rattle.gtrbac_model.specs.Conflict.{won as is_won, after};
+ghost use Rattle.gtrbac_model.specs.Graph.{item_at};
 ghost use Rattle.gtrbac_model.specs.Instant.{IsGrounding, Settled};
+ghost use Rattle.gtrbac_model.specs.WholePolicy.{has_cause};
+ghost use Rattle.trigger_rules.specs.Indexed.{with_event, with_signal};
 ghost use Rattle.why_check.specs.Certificates.{Accepts};
-ghost use Rattle.gtrbac_tool.specs.Listing.{AddsListing, AreListings, AreSettled, Tracks, raises_next, with_head, with_heads};
+ghost use Rattle.why_check.specs.Peaks.{ArePeaks};
+ghost use Rattle.why_check.specs.Standing.{stands_in};
+ghost use Rattle.gtrbac_tool.specs.Listing.{AddsListing, AreListings, AreSettled, Tracks, raises_next, next_head, with_head, waiting_with};
 
 use core_machine::{Book, Closed};
-use gt_base::{Event, EventSet, Happened, List, Memory, Prioritised, Status, Trigger};
-use priority_conflict::{Contest, blocked, next_status, winners};
+use gt_base::{Event, EventSet, Happened, List, Memory, Prioritised, Signal, Status, Trigger};
+use priority_conflict::{Contest, next_status, winners};
 use std::alloc::Global;
-use trigger_rules::met_in;
-use why_check::{Cert, accept};
+use trigger_rules::{Rules, met_in};
+use why_check::{Cert, Peaks, Standing, accept};
 
 /// A certificate of the book's history. Each set of the trace is listed in an order that supports
 /// it: its base, and then head after head whose trigger is met and whose body events stand already.
@@ -42,22 +48,20 @@ fn listed(alloc: Global, book: &Book) -> Result<Cert, Memory>
     book.keeps();
     book.timeline().keeps();
     let policy = book.policy();
-    listings(
-        alloc,
-        policy.triggers().as_slice(),
-        policy.opening(),
-        book.trace().as_slice(),
-    )
+    policy.keeps();
+    let rules = Rules::new(alloc, policy.triggers())?;
+    listings(alloc, &rules, policy.opening(), book.trace().as_slice())
 }
 
 /// The sets in their orders, over the status before the first.
 fn listings(
     alloc: Global,
-    rules: &[Trigger],
+    rules: &Rules,
     opening: &Status,
     trace: &[Closed],
 ) -> Result<Cert, Memory>
-    requires { AreSettled rules.now (has opening.now.set) trace.now }
+    requires caused { list_all has_cause rules.now ≡ true }
+    requires settled { AreSettled rules.now (has opening.now.set) trace.now }
     ensures { IfOk result (λ cert. AreListings rules.now (has opening.now.set) trace.now cert) }
 {
     let mut cert = Cert::new(alloc);
@@ -73,11 +77,12 @@ fn listings(
 fn add(
     alloc: Global,
     cert: &mut Cert,
-    rules: &[Trigger],
+    rules: &Rules,
     closed: &Closed,
     before: &Status,
 ) -> Result<(), Memory>
-    requires { Settled rules.now closed.now.base (has before.now.set) closed.now.set }
+    requires caused { list_all has_cause rules.now ≡ true }
+    requires settled { Settled rules.now closed.now.base (has before.now.set) closed.now.set }
     ensures { OnOk result (AddsListing rules.now (has before.now.set) closed.now cert.old
         cert.new) }
 {
@@ -89,11 +94,12 @@ fn add(
 /// The events of the set in an order that supports them.
 fn ordered(
     alloc: Global,
-    rules: &[Trigger],
+    rules: &Rules,
     closed: &Closed,
     before: &Status,
 ) -> Result<List<Prioritised>, Memory>
-    requires { Settled rules.now closed.now.base (has before.now.set) closed.now.set }
+    requires caused { list_all has_cause rules.now ≡ true }
+    requires settled { Settled rules.now closed.now.base (has before.now.set) closed.now.set }
     ensures { IfOk result
         (λ es. IsGrounding rules.now closed.now.base (has before.now.set) closed.now.set
         es.items) }
@@ -128,34 +134,36 @@ fn turned(before: &Status, won: &EventSet, set: &Happened) -> Result<Status, Mem
 struct Order {
     events: Vec<Prioritised>,
     there: Happened,
-    standing: EventSet,
+    standing: Standing,
 }
 
-/// The events of the set, first those of the base, then round by round the heads that those before
-/// support.
+/// The events of the set, first those of the base, then the heads that those before support. Each
+/// trigger has an event or a signal in its body; it is looked at for each signal of its body that
+/// is there, and each time that an event of its body joins.
 fn support_order(
     alloc: Global,
-    rules: &[Trigger],
+    rules: &Rules,
     base: &Happened,
     before: &Status,
     x: &Contest,
 ) -> Result<List<Prioritised>, Memory>
-    requires { Settled rules.now base.now.set (has before.now.set) x.now }
+    requires caused { list_all has_cause rules.now ≡ true }
+    requires settled { Settled rules.now base.now.set (has before.now.set) x.now }
     ensures { IfOk result (λ es. IsGrounding rules.now base.now.set
         (has before.now.set) x.now es.items) }
 {
+    let peaks = Peaks::new(alloc, x)?;
     let mut order = Order {
         events: Vec::new(alloc),
         there: Happened::new(alloc),
-        standing: EventSet::new(alloc),
+        standing: Standing::new(alloc),
     };
-    push_all(&mut order, base.events(), x)?;
-    loop {
-        let had = order.events.len();
-        push_heads(&mut order, rules, before, x)?;
-        if order.events.len() == had {
-            break;
-        }
+    let mut pending = Vec::new(alloc);
+    wake_by_signals(&mut pending, rules, base.signals())?;
+    join_all(&mut order, &mut pending, rules, &peaks, base.events())?;
+    while let Some(t) = pending.pop() {
+        let head = head_next(&order, rules, t, before, x);
+        join_head(&mut order, &mut pending, rules, &peaks, head)?;
     }
     Ok(listed_in(order))
 }
@@ -172,49 +180,93 @@ fn listed_in(order: Order) -> List<Prioritised>
     List::from(events)
 }
 
-/// Adds the events.
-fn push_all(order: &mut Order, events: &[Prioritised], x: &Contest) -> Result<(), Memory>
-    requires { Tracks x.now order.old }
-    ensures tracks { OnOk result (Tracks x.now order.new) }
+/// Lets the triggers wait that have one of the signals in their bodies.
+fn wake_by_signals(pending: &mut Vec<u32>, rules: &Rules, signals: &[Signal]) -> Result<(), Memory>
+    ensures { OnOk result (pending.new.items ≡ pending.old.items
+        ++ flat_map (with_signal rules.now) signals.now) }
+{
+    for s in signals {
+        pending.extend_from_slice(rules.by_signal(*s))?;
+    }
+    Ok(())
+}
+
+/// Adds the events, and lets the triggers wait that have one of them in their bodies.
+fn join_all(
+    order: &mut Order,
+    pending: &mut Vec<u32>,
+    rules: &Rules,
+    peaks: &Peaks,
+    events: &[Prioritised],
+) -> Result<(), Memory>
+    ensures tracks { OnOk result ((x : HappenedView) → ArePeaks (members x.events) peaks.now
+        → Tracks x order.old → Tracks x order.new) }
     ensures events { OnOk result (order.new.events.items ≡ order.old.events.items ++ events.now) }
+    ensures pending { OnOk result (pending.new.items ≡ pending.old.items
+        ++ flat_map (λ o. with_event rules.now o.event) events.now) }
 {
     for e in events {
-        push(order, e, x)?;
+        join(order, pending, rules, peaks, e)?;
     }
     Ok(())
 }
 
-/// Adds the heads that stand by those before and are not there yet.
-fn push_heads(
+/// Adds the head, if there is one, and lets the triggers wait that have it in their bodies.
+fn join_head(
     order: &mut Order,
-    rules: &[Trigger],
+    pending: &mut Vec<u32>,
+    rules: &Rules,
+    peaks: &Peaks,
+    head: Option<Prioritised>,
+) -> Result<(), Memory>
+    ensures tracks { OnOk result ((x : HappenedView) → ArePeaks (members x.events) peaks.now
+        → Tracks x order.old → Tracks x order.new) }
+    ensures events { OnOk result (order.new.events.items ≡ with_head order.old.events.items head) }
+    ensures pending { OnOk result (pending.new.items
+        ≡ waiting_with rules.now pending.old.items head) }
+{
+    if let Some(head) = head {
+        join(order, pending, rules, peaks, &head)?;
+    }
+    Ok(())
+}
+
+/// Adds the event, and lets the triggers wait that have it in their bodies.
+fn join(
+    order: &mut Order,
+    pending: &mut Vec<u32>,
+    rules: &Rules,
+    peaks: &Peaks,
+    e: &Prioritised,
+) -> Result<(), Memory>
+    ensures tracks { OnOk result ((x : HappenedView) → ArePeaks (members x.events) peaks.now
+        → Tracks x order.old → Tracks x order.new) }
+    ensures events { OnOk result (order.new.events.items ≡ order.old.events.items ++ e.now ∷ []) }
+    ensures pending { OnOk result (pending.new.items
+        ≡ pending.old.items ++ with_event rules.now e.now.event) }
+{
+    push(order, peaks, e)?;
+    pending.extend_from_slice(rules.by_event(e.event))
+}
+
+/// The head of the trigger of this number, if it stands by those before and is not there yet.
+fn head_next(
+    order: &Order,
+    rules: &Rules,
+    t: u32,
     before: &Status,
     x: &Contest,
-) -> Result<(), Memory>
-    requires { Tracks x.now order.old }
-    ensures tracks { OnOk result (Tracks x.now order.new) }
-    ensures events { OnOk result
-        (order.new.events.items
-        ≡ with_heads (has before.now.set) x.now order.old.events.items rules.now) }
+) -> Option<Prioritised>
+    requires { Tracks x.now order.now }
+    ensures { result ≡ next_head (has before.now.set) x.now order.now.events.items
+        (item_at rules.now t) }
 {
-    for r in rules {
-        push_head(order, r, before, x)?;
-    }
-    Ok(())
-}
-
-/// Adds the head of the trigger, if it stands by those before and is not there yet.
-fn push_head(order: &mut Order, r: &Trigger, before: &Status, x: &Contest) -> Result<(), Memory>
-    requires { Tracks x.now order.old }
-    ensures tracks { OnOk result (Tracks x.now order.new) }
-    ensures events { OnOk result
-        (order.new.events.items
-        ≡ with_head (has before.now.set) x.now order.old.events.items r.now) }
-{
+    let r = rules.triggers().get(t as usize)?;
     if is_next(order, r, before, x) {
-        push(order, &r.head, x)?;
+        Some(r.head)
+    } else {
+        None
     }
-    Ok(())
 }
 
 /// Whether the head of the trigger stands by those before and is not there yet.
@@ -229,24 +281,20 @@ fn is_next(order: &Order, r: &Trigger, before: &Status, x: &Contest) -> bool
 }
 
 /// Whether each of the events is there.
-fn all_stand(events: &[Event], standing: &EventSet) -> bool
-    ensures { result ≡ list_all (has standing.now.set) events.now }
+fn all_stand(events: &[Event], standing: &Standing) -> bool
+    ensures { result ≡ list_all (stands_in standing.now) events.now }
 {
     events.iter().all(|e| standing.has(*e))
 }
 
 /// Adds the event.
-fn push(order: &mut Order, e: &Prioritised, x: &Contest) -> Result<(), Memory>
-    requires { Tracks x.now order.old }
-    ensures tracks { OnOk result (Tracks x.now order.new) }
+fn push(order: &mut Order, peaks: &Peaks, e: &Prioritised) -> Result<(), Memory>
+    ensures tracks { OnOk result ((x : HappenedView) → ArePeaks (members x.events) peaks.now
+        → Tracks x order.old → Tracks x order.new) }
     ensures events { OnOk result (order.new.events.items ≡ order.old.events.items ++ e.now ∷ []) }
 {
     order.events.push(*e)?;
     order.there.reserve(1)?;
     order.there.add(*e);
-    if !blocked(x.set(), *e) {
-        order.standing.reserve(1)?;
-        order.standing.add(e.event);
-    }
-    Ok(())
+    order.standing.note(peaks, e)
 }

@@ -2,7 +2,6 @@
 #![tactic(auto)]
 
 mod ahead;
-mod answers;
 mod commands;
 mod explaining;
 mod laws;

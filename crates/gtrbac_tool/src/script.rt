@@ -1,15 +1,21 @@
 //! The run of a script over a book.
-ghost use Rattle.std.specs.Prelude.{◌≡◌, ◌+◌, ◌^◌, ◌<◌, ◌≤◌, ◌++◌, [], codes, length, decimal, Ok, OnOk, IfOk, MatchBool};
+ghost use Rattle.std.specs.Prelude.{◌≡◌, ◌+◌, ◌^◌, ◌<◌, [], length, Ok, OnOk, IfOk, MatchBool, MatchResult};
 ghost use Rattle.core_machine.specs.Books.{SameRoot, IsNamedFor};
 ghost use Rattle.request_text.specs.declared.lines.Line.TheVariants.{Ask};
 ghost use Rattle.request_text.specs.Replies.{fault_word};
+ghost use Rattle.gtrbac_model.specs.Safety.{IsSafe};
+ghost use Rattle.policy_commands.specs.declared.ends.End.{End as EndOf};
 ghost use Rattle.policy_commands.specs.Ends.{seen_end, told};
+ghost use Rattle.gtrbac_tool.specs.declared.script.Ran.TheVariants.{Born};
 ghost use Rattle.gtrbac_tool.specs.EndTexts.{behind, script_line};
-ghost use Rattle.gtrbac_tool.specs.Script.{Arrives, IsFilled, said};
-ghost use Rattle.gtrbac_tool.specs.Going.{going_of, IsActorOf, IsOutcome, played_as, PlaysAs};
+ghost use Rattle.gtrbac_tool.specs.Script.{Arrives, IsFilled, born, said};
+ghost use Rattle.gtrbac_tool.specs.Going.{going_of, IsActorOf, played_as, PlaysAs};
+ghost use Rattle.gtrbac_tool.specs.Started.{Leads};
 
+use crate::replying::hand_out;
 use core_machine::Book;
 use gt_base::{Actor, Instant, List, Memory, Request, StepFault, Who};
+use gt_io::Sink;
 use gt_text::{Lines, push_number};
 use policy_commands::End;
 use policy_safety::Safe;
@@ -152,19 +158,20 @@ pub(crate) fn stopped(
     Ok(End { status, text })
 }
 
-/// What a run left: its book, and its end.
+/// How a script was run: it ended before a birth, or from its birth on, with its book. The end has
+/// what of the text was not handed out.
 #[derive(Drop)]
-pub(crate) struct Outcome {
-    pub(crate) book: Book,
-    pub(crate) end: End,
+pub(crate) enum Ran {
+    Unborn(End),
+    Born(Book, End),
 }
 
-/// The outcome of a run that ended at a line.
-fn ended(run: Run, status: u8, number: u32, what: &[u8]) -> Result<Outcome, Memory>
-    ensures { IfOk result
-        (λ out. (out.book ≡ run.book)
-        × (seen_end out.end
-        ≡ behind run.text.items (told status (script_line number what.now)))) }
+/// How a run ended at a line; 8 where there was no memory for that.
+fn ended(run: Run, status: u8, number: u32, what: &[u8]) -> Result<Ran, u8>
+    ensures { MatchResult result
+        (λ ran. (end : EndOf) × (ran ≡ Born run.book end)
+        × (seen_end end ≡ behind run.text.items (told status (script_line number what.now))))
+        (λ s. s ≡ 8) }
 {
     let Run {
         alloc,
@@ -172,32 +179,52 @@ fn ended(run: Run, status: u8, number: u32, what: &[u8]) -> Result<Outcome, Memo
         actor: _,
         text,
     } = run;
-    let end = stopped(alloc, text, status, number, what)?;
-    Ok(Outcome { book, end })
+    match stopped(alloc, text, status, number, what) {
+        Ok(end) => Ok(Ran::Born(book, end)),
+        Err(_) => Err(8),
+    }
 }
 
-/// Plays the lines out over a book without an entry; the line before them had this number.
-fn play_out(mut run: Run, mut lines: Lines<'_>, before: u32) -> Result<Outcome, Memory>
+/// Plays the lines out over a book without an entry; the line before them had this number. Where
+/// the replies leave in pieces, they are written as they come. Else the status with which it ended
+/// on the way: 5 where the output failed, 8 where there was no memory.
+fn play_out<K: Sink>(
+    mut run: Run,
+    mut lines: Lines<'_>,
+    before: u32,
+    pieces: bool,
+    out: &mut K,
+) -> Result<Ran, u8>
     requires actor { run.actor ≡ Actor.Operator }
     requires empty { (run.book.entries ≡ []) × (run.text.items ≡ []) }
     requires count { before + length lines < 2 ^ 32 }
-    ensures { IfOk result
-        (λ out. IsOutcome run.book.named run.book.birth (before + 1) lines.entry out.book
-        (seen_end out.end)) }
+    requires safe { IsSafe run.book.named.policy.triggers }
+    ensures { Leads run.book.named (born run.book.birth (before + 1) lines.entry) pieces result
+        (K.output out.old) (K.output out.new) }
 {
     let mut number = before;
     while let Some(line) = lines.next() {
         number += 1;
-        match play_line(&mut run, line)? {
-            Played::On => {}
-            Played::Full => {
-                run.book.keeps();
-                return ended(run, 9, number, b"steps full");
-            }
-            Played::Bad(fault) => {
-                run.book.keeps();
-                return ended(run, 7, number, fault_word(fault));
-            }
+        run.book.keeps();
+        match play_line(&mut run, line) {
+            Ok(played) => match played {
+                Played::On => {
+                    run.book.keeps();
+                    match hand_out(&mut run.text, pieces, out) {
+                        Ok(()) => {}
+                        Err(_) => return Err(5),
+                    }
+                }
+                Played::Full => {
+                    run.book.keeps();
+                    return ended(run, 9, number, b"steps full");
+                }
+                Played::Bad(fault) => {
+                    run.book.keeps();
+                    return ended(run, 7, number, fault_word(fault));
+                }
+            },
+            Err(_) => return Err(8),
         }
     }
     run.book.keeps();
@@ -207,24 +234,24 @@ fn play_out(mut run: Run, mut lines: Lines<'_>, before: u32) -> Result<Outcome, 
         actor: _,
         text,
     } = run;
-    Ok(Outcome {
-        book,
-        end: End { status: 0, text },
-    })
+    Ok(Ran::Born(book, End { status: 0, text }))
 }
 
 /// The run of the lines behind the birth's, which had this number, over a safe policy.
-pub(crate) fn from_birth(
+pub(crate) fn from_birth<K: Sink>(
     alloc: Global,
     safe: Safe,
     birth: Instant,
     lines: Lines<'_>,
     before: u32,
-) -> Result<Outcome, Memory>
+    pieces: bool,
+    out: &mut K,
+) -> Result<Ran, u8>
     requires count { before + length lines < 2 ^ 32 }
-    ensures { IfOk result
-        (λ out. IsOutcome safe birth (before + 1) lines.entry out.book (seen_end out.end)) }
+    ensures { Leads safe (born birth (before + 1) lines.entry) pieces result (K.output out.old)
+        (K.output out.new) }
 {
+    safe.keeps();
     match Book::new(alloc, safe, birth) {
         Ok(book) => {
             let run = Run {
@@ -233,8 +260,8 @@ pub(crate) fn from_birth(
                 actor: Actor::Operator,
                 text: List::new(alloc),
             };
-            play_out(run, lines, before)
+            play_out(run, lines, before, pieces, out)
         }
-        Err(_) => Err(AllocError),
+        Err(_) => Err(8),
     }
 }

@@ -1,19 +1,22 @@
-//! Where the run of a script begins.
-ghost use Rattle.std.specs.Prelude.{◌≡◌, ◌+◌, ◌^◌, ◌<◌, ◌≤◌, length, IfOk, None};
+//! Where the run of a script begins, and what is told of it.
+ghost use Rattle.std.specs.Prelude.{◌≡◌, ◌+◌, ◌^◌, ◌<◌, ◌≤◌, ⊤, length, IfOk, MatchResult, None};
 ghost use Rattle.gt_text.specs.Lines.{lines_of};
+ghost use Rattle.policy_commands.specs.declared.ends.End.{End as EndOf};
 ghost use Rattle.policy_commands.specs.Ends.{seen_end};
-ghost use Rattle.gtrbac_tool.specs.Script.{start_of};
-ghost use Rattle.gtrbac_tool.specs.Late.{AnswersFrom};
-ghost use Rattle.gtrbac_tool.specs.EndTexts.{no_birth};
-ghost use Rattle.gtrbac_tool.specs.Started.{IsUnborn, started_so, number_of, RanFrom};
-ghost use Rattle.gtrbac_tool.specs.Ends.{PlaysTo};
-ghost use Rattle.gtrbac_tool.specs.Answers.{GivesEnds};
+ghost use Rattle.gtrbac_tool.specs.declared.script.Ran.TheVariants.{Unborn};
 ghost use Rattle.gtrbac_tool.specs.declared.top.TheConstants.{MAX_SCRIPT};
+ghost use Rattle.gtrbac_tool.specs.EndTexts.{no_birth, script_fault};
+ghost use Rattle.gtrbac_tool.specs.Script.{start_of, EndsFrom};
+ghost use Rattle.gtrbac_tool.specs.Late.{AnswersFrom};
+ghost use Rattle.gtrbac_tool.specs.Started.{IsUnborn, started_so, number_of, Leads};
+ghost use Rattle.gtrbac_tool.specs.Ends.{PlaysTo};
+ghost use Rattle.gtrbac_tool.specs.Writing.{Tells};
 
 use crate::ahead::{Inquiry, answered};
-use crate::answers::Answer;
-use crate::script::{Outcome, fault_word, from_birth, stopped};
+use crate::replying::show;
+use crate::script::{Ran, fault_word, from_birth, stopped};
 use gt_base::{Actor, Instant, List, Memory};
+use gt_io::Sink;
 use gt_text::Lines;
 use policy_book::Policy;
 use policy_commands::End;
@@ -53,18 +56,31 @@ pub(crate) fn find_start(policy: &Policy, lines: &mut Lines<'_>) -> Start
     Start::Never
 }
 
-/// How a script was run: it ended before a birth, or from its birth on.
-#[derive(Drop)]
-pub(crate) enum Ran {
-    Unborn(End),
-    Born(Outcome),
+/// How a script ended at a first line that is no birth; 8 where there was no memory for that.
+fn unborn_at(alloc: Global, number: u32, what: &[u8]) -> Result<Ran, u8>
+    ensures { MatchResult result
+        (λ ran. (end : EndOf) × (ran ≡ Unborn end)
+        × (seen_end end ≡ script_fault number what.now)) (λ s. s ≡ 8) }
+{
+    match stopped(alloc, List::new(alloc), 7, number, what) {
+        Ok(end) => Ok(Ran::Unborn(end)),
+        Err(_) => Err(8),
+    }
 }
 
-/// Runs a script over a safe policy, and hands the book on. The script has fewer than 4,294,967,296
-/// bytes.
-pub(crate) fn begin(alloc: Global, safe: Safe, script: &[u8]) -> Result<Ran, Memory>
+/// Runs a script over a safe policy, and hands the book on. Where the replies leave in pieces, they
+/// are written as they come. Else the status with which it ended on the way: 5 where the output
+/// failed, 8 where there was no memory. The script has fewer than 4,294,967,296 bytes.
+pub(crate) fn begin<K: Sink>(
+    alloc: Global,
+    safe: Safe,
+    script: &[u8],
+    pieces: bool,
+    out: &mut K,
+) -> Result<Ran, u8>
     requires { length script.now < 2 ^ 32 }
-    ensures { IfOk result (RanFrom safe (start_of safe 1 (lines_of script.now))) }
+    ensures { Leads safe (start_of safe 1 (lines_of script.now)) pieces result (K.output out.old)
+        (K.output out.new) }
 {
     let mut lines = Lines::new(script);
     match find_start(safe.policy(), &mut lines) {
@@ -72,19 +88,23 @@ pub(crate) fn begin(alloc: Global, safe: Safe, script: &[u8]) -> Result<Ran, Mem
             status: 0,
             text: List::new(alloc),
         })),
-        Start::Born(birth, number) => {
-            Ok(Ran::Born(from_birth(alloc, safe, birth, lines, number)?))
-        }
-        Start::Bad(fault, number) => {
-            Ok(Ran::Unborn(stopped(alloc, List::new(alloc), 7, number, fault_word(fault))?))
-        }
-        Start::Unborn(number) => Ok(Ran::Unborn(stopped(
-            alloc,
-            List::new(alloc),
-            7,
-            number,
-            b"birth",
-        )?)),
+        Start::Born(birth, number) => from_birth(alloc, safe, birth, lines, number, pieces, out),
+        Start::Bad(fault, number) => unborn_at(alloc, number, fault_word(fault)),
+        Start::Unborn(number) => unborn_at(alloc, number, b"birth"),
+    }
+}
+
+/// Plays a script over a safe policy, and writes the replies as they come. The script has fewer
+/// than 4,294,967,296 bytes.
+fn play_and_reply<K: Sink>(alloc: Global, safe: Safe, script: &[u8], out: &mut K) -> u8
+    requires { length script.now < 2 ^ 32 }
+    ensures { Tells ⊤ (EndsFrom safe (start_of safe 1 (lines_of script.now))) result
+        (K.output out.old) (K.output out.new) }
+{
+    match begin(alloc, safe, script, true, out) {
+        Ok(Ran::Unborn(end)) => show(Ok(end), out),
+        Ok(Ran::Born(_, end)) => show(Ok(end), out),
+        Err(status) => status,
     }
 }
 
@@ -109,38 +129,41 @@ fn unborn(alloc: Global, end: End) -> Result<End, Memory>
     }
 }
 
-/// The end of a script over a safe policy, with what is asked behind it. The script has fewer than
-/// 4,294,967,296 bytes.
-fn play_and_answer(alloc: Global, safe: Safe, asked: Inquiry, script: &[u8]) -> Result<End, Memory>
+/// Plays a script over a safe policy, and prints its end with what is asked behind it. The script
+/// has fewer than 4,294,967,296 bytes.
+fn play_and_answer<K: Sink>(
+    alloc: Global,
+    safe: Safe,
+    asked: Inquiry,
+    script: &[u8],
+    out: &mut K,
+) -> u8
     requires { length script.now < 2 ^ 32 }
-    ensures { IfOk result
-        (λ end. AnswersFrom safe asked (start_of safe 1 (lines_of script.now)) (seen_end end)) }
+    ensures { Tells ⊥ (AnswersFrom safe asked (start_of safe 1 (lines_of script.now))) result
+        (K.output out.old) (K.output out.new) }
 {
-    match begin(alloc, safe, script) {
-        Ok(ran) => match ran {
-            Ran::Unborn(end) => unborn(alloc, end),
-            Ran::Born(outcome) => answered(alloc, outcome, asked),
-        },
-        Err(fault) => Err(fault),
+    match begin(alloc, safe, script, false, out) {
+        Ok(Ran::Unborn(end)) => show(unborn(alloc, end), out),
+        Ok(Ran::Born(book, end)) => show(answered(alloc, &book, end, asked), out),
+        Err(status) => status,
     }
 }
 
-/// The end of a script over a safe policy with what is asked behind it; where nothing is, the
-/// script is left to be played.
-pub(crate) fn play(
+/// Plays a script over a safe policy, and prints its end with what is asked behind it; where
+/// nothing is, it writes the replies as they come.
+pub(crate) fn play<K: Sink>(
     alloc: Global,
     safe: Safe,
     asked: Option<Inquiry>,
-    script: Vec<u8>,
-) -> Result<Answer, Memory>
-    requires { length script.items ≤ MAX_SCRIPT }
-    ensures { IfOk result (GivesEnds (asked ≡ None) (PlaysTo safe asked script.items)) }
+    script: &[u8],
+    out: &mut K,
+) -> u8
+    requires { length script.now ≤ MAX_SCRIPT }
+    ensures { Tells (asked ≡ None) (PlaysTo safe asked script.now) result (K.output out.old)
+        (K.output out.new) }
 {
     match asked {
-        None => Ok(Answer::Script(safe, script)),
-        Some(asked) => {
-            let end = play_and_answer(alloc, safe, asked, &script)?;
-            Ok(Answer::Ended(end))
-        }
+        None => play_and_reply(alloc, safe, script, out),
+        Some(asked) => play_and_answer(alloc, safe, asked, script, out),
     }
 }

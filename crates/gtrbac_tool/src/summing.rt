@@ -1,18 +1,21 @@
 //! The command `gen`.
-ghost use Rattle.std.specs.Prelude.{◌≡◌, ◌≢◌, ◌^◌, ◌<◌, ◌≤◌, ◌++◌, ◌∷◌, [], ℕ, codes, length, IfOk, IfSome, IfNone, OnOk, map, string_bytes};
+ghost use Rattle.std.specs.Prelude.{◌≡◌, ◌^◌, ◌<◌, ◌≤◌, ◌++◌, ◌∷◌, [], codes, length, IfOk, IfSome, IfNone, OnOk, map, string_bytes};
 ghost use Rattle.std.specs.List.{count_by};
 ghost use Rattle.gt_text.specs.Lines.{lines_of};
 ghost use Rattle.policy_commands.specs.Ends.{seen_end};
 ghost use Rattle.gtrbac_tool.specs.Script.{start_of};
 ghost use Rattle.gtrbac_tool.specs.Summary.{IsGen, IsNoGen, GenEnds, SummedFrom, summed, gen_line, steps_line, end_line};
 ghost use Rattle.policy_words.specs.Naming.{NamedPolicy};
+ghost use Rattle.gtrbac_tool.specs.Writing.{Tells};
 ghost use Rattle.gtrbac_tool.specs.Counted.{seen_recipe, word_text, permits, replies, counts, tally_line, tally};
 
-use crate::script::Outcome;
-use crate::starting::{Ran, begin};
+use crate::replying::show;
+use crate::script::Ran;
+use crate::starting::begin;
 use civil_time::write_civil;
 use core_machine::Book;
 use gt_base::{Decision, Entry, List, Memory, Reply, Step};
+use gt_io::Sink;
 use gt_text::{push_number, read_between, read_number};
 use policy_commands::{Admitted, End, admit};
 use policy_gen::{MAX_SIZE, make};
@@ -182,47 +185,52 @@ fn tally(alloc: Global, recipe: Recipe, book: &Book) -> Result<Vec<u8>, Memory>
 
 /// The summary in place of the replies where the script was played to its end, and else the run's
 /// own end.
-fn sum_up(alloc: Global, recipe: Recipe, outcome: Outcome) -> Result<End, Memory>
+fn sum_up(alloc: Global, recipe: Recipe, book: &Book, end: End) -> Result<End, Memory>
     ensures { IfOk result
-        (λ end. (np : NamedPolicy)
-        → seen_end end
-        ≡ summed np (seen_recipe recipe) outcome.book.birth outcome.book.entries
-        (seen_end outcome.end)) }
+        (λ told. (np : NamedPolicy)
+        → seen_end told
+        ≡ summed np (seen_recipe recipe) book.now.birth book.now.entries (seen_end end)) }
 {
-    if outcome.end.status != 0 {
-        return Ok(outcome.end);
+    if end.status != 0 {
+        return Ok(end);
     }
     Ok(End {
         status: 0,
-        text: List::from(tally(alloc, recipe, &outcome.book)?),
+        text: List::from(tally(alloc, recipe, book)?),
     })
 }
 
-/// Plays the script and sums it up. The script has fewer than 4,294,967,296 bytes.
-fn play_and_sum(alloc: Global, recipe: Recipe, safe: Safe, script: &[u8]) -> Result<End, Memory>
+/// Plays the script, and prints its summary. The script has fewer than 4,294,967,296 bytes.
+fn play_and_sum<K: Sink>(
+    alloc: Global,
+    recipe: Recipe,
+    safe: Safe,
+    script: &[u8],
+    out: &mut K,
+) -> u8
     requires { length script.now < 2 ^ 32 }
-    ensures { IfOk result
-        (λ end. SummedFrom safe (seen_recipe recipe) (start_of safe 1 (lines_of script.now))
-        (seen_end end)) }
+    ensures { Tells ⊥ (SummedFrom safe (seen_recipe recipe) (start_of safe 1 (lines_of script.now)))
+        result (K.output out.old) (K.output out.new) }
 {
-    match begin(alloc, safe, script) {
-        Ok(ran) => match ran {
-            Ran::Unborn(end) => Ok(end),
-            Ran::Born(outcome) => sum_up(alloc, recipe, outcome),
-        },
-        Err(fault) => Err(fault),
+    match begin(alloc, safe, script, false, out) {
+        Ok(Ran::Unborn(end)) => show(Ok(end), out),
+        Ok(Ran::Born(book, end)) => show(sum_up(alloc, recipe, &book, end), out),
+        Err(status) => status,
     }
 }
 
-/// Makes the policy and the script of a recipe, plays them, and sums up. It reads nothing.
-#[tactic(auto, using(crate::proofs::Tallying::gen_safe, crate::proofs::Tallying::gen_ended))]
-pub(crate) fn generate(alloc: Global, recipe: Recipe) -> Result<End, Memory>
+/// Makes the policy and the script of a recipe, plays them, and prints a summary. It reads nothing.
+pub(crate) fn generate<K: Sink>(alloc: Global, recipe: Recipe, out: &mut K) -> u8
     requires { (1 ≤ recipe.size) × (recipe.size ≤ MAX_SIZE) }
-    ensures { IfOk result (λ end. GenEnds (seen_recipe recipe) (seen_end end)) }
+    ensures { Tells ⊥ (GenEnds (seen_recipe recipe)) result (K.output out.old)
+        (K.output out.new) }
 {
-    let made = make(alloc, recipe.seed, recipe.size)?;
-    match admit(alloc, made.policy.as_slice())? {
-        Admitted::Safe(safe) => play_and_sum(alloc, recipe, safe, made.script.as_slice()),
-        Admitted::Ended(end) => Ok(end),
+    let Ok(made) = make(alloc, recipe.seed, recipe.size) else {
+        return 8;
+    };
+    match admit(alloc, made.policy.as_slice()) {
+        Ok(Admitted::Safe(safe)) => play_and_sum(alloc, recipe, safe, made.script.as_slice(), out),
+        Ok(Admitted::Ended(end)) => show(Ok(end), out),
+        Err(_) => 8,
     }
 }

@@ -1,174 +1,106 @@
 //! The one call of the program: from words, shelf and input to the output and the exit status.
-ghost use Rattle.std.specs.Prelude.{◌≡◌, ◌⊎◌, ◌≤◌, ◌+◌, None, map, string_bytes, length, IfOk, IsSome, IsTrue};
-ghost use Rattle.std.specs.Io.KnownBytes.{IsAtEnd};
-ghost use Rattle.gt_io.specs.Causes.{AtMostOnce, Rose, TakesFront};
-ghost use Rattle.gt_io.specs.Shelf.{AsksOnce};
-ghost use Rattle.gt_io.specs.Streams.{stops};
-ghost use Rattle.gt_io.specs.declared.source.TheConstants.{READ_PIECE};
-ghost use Rattle.gtrbac_tool.specs.declared.top.TheConstants.{MAX_SCRIPT};
+ghost use Rattle.std.specs.Prelude.{◌≡◌, ◌≤◌, ⊤, None, map, string_bytes, length, IsSome, IsTrue};
 ghost use Rattle.policy_commands.specs.Policies.{safe_in};
 ghost use Rattle.policy_commands.specs.declared.finding.TheConstants.{MAX_POLICY};
-ghost use Rattle.policy_gen.specs.declared.made.TheConstants.{MAX_SIZE};
 ghost use Rattle.gtrbac_tool.specs.Commands.{plays_script, seen_command, IsPlainRun};
-ghost use Rattle.gtrbac_tool.specs.Counted.{seen_recipe};
-ghost use Rattle.gtrbac_tool.specs.Summary.{IsNoGen, GenEnds};
-ghost use Rattle.gtrbac_tool.specs.Ends.{ScriptEnds, AskedEnds, JudgedEnds, TextEnds, FoundEnds};
+ghost use Rattle.gtrbac_tool.specs.Summary.{IsNoGen};
+ghost use Rattle.gtrbac_tool.specs.Ends.{ScriptEnds, AskedEnds, JudgedEnds, TextEnds};
 ghost use Rattle.gtrbac_tool.specs.Late.{asks_of};
 ghost use Rattle.gtrbac_tool.specs.Scenes.{scene};
-ghost use Rattle.gtrbac_tool.specs.Causes.{perhaps, AsksForScript, IsAskedOf, OnShelf, Short};
-ghost use Rattle.gtrbac_tool.specs.Writing.{Prints};
-ghost use Rattle.gtrbac_tool.specs.Answers.{GivesEnds, IsSteadyAt, IsCountedAt, IsReadAt};
-ghost use Rattle.gtrbac_tool.specs.Tool.{Answers, Leaves, RunsTool};
+ghost use Rattle.gtrbac_tool.specs.Causes.{AsksForScript, IsAskedOf};
+ghost use Rattle.gtrbac_tool.specs.Reading.{Works};
+ghost use Rattle.gtrbac_tool.specs.Tool.{RunsTool};
 
 use crate::ahead::{Inquiry, asks_of};
-use crate::answers::Answer;
 use crate::commands::{Command, spoken};
 use crate::questions::Question;
-use crate::replying::tell;
+use crate::replying::show;
 use crate::starting::play;
-use crate::summing::{Recipe, generate, recipe_of};
-use gt_base::Memory;
+use crate::summing::{generate, recipe_of};
 use gt_io::{ReadFault, Shelf, Sink, Source, read_all};
-use policy_commands::{Admitted, Found, admit, check, end_with, find_text, lay_out, print};
+use policy_commands::{Admitted, Found, admit, check, find_text, lay_out, print};
 use policy_safety::Safe;
-use std::alloc::{AllocError, Global};
+use std::alloc::Global;
 
 /// The most bytes of a script.
 pub(crate) const MAX_SCRIPT: usize = 16_777_216;
 
-/// Reads the script; where something is asked behind it, runs it and tells that.
-fn run_script<I: Source>(
+/// Reads the script, and plays it.
+fn run_script<I: Source, K: Sink>(
     alloc: Global,
     safe: Safe,
     asked: Option<Inquiry>,
     input: &mut I,
-) -> Result<Answer, Memory>
-    ensures end { IfOk result (GivesEnds (asked ≡ None)
-        (ScriptEnds (Rose (I.intake input.old).faults (I.intake input.new).faults) safe asked
-        (I.intake input.old).left)) }
-    ensures steady { IfOk result (IsSteadyAt ((I.intake input.new).faults
-        ≡ (I.intake input.old).faults)) }
-    ensures read { IfOk result (IsReadAt (IsAtEnd (I.intake input.new).left)) }
-    ensures once { AtMostOnce (stops (I.intake input.old)) (stops (I.intake input.new)) }
-    ensures taken { TakesFront (MAX_SCRIPT + READ_PIECE) (I.intake input.old).left
-        (I.intake input.new).left }
+    out: &mut K,
+) -> u8
+    ensures { Works I.intake (asked ≡ None) ⊤ ⊤ (λ failed. ScriptEnds failed safe asked) input.old
+        input.new result (K.output out.old) (K.output out.new) }
 {
     match read_all(alloc, input, MAX_SCRIPT) {
-        Ok(script) => play(alloc, safe, asked, script),
-        Err(ReadFault::Memory) => Err(AllocError),
-        Err(ReadFault::Failed) => Ok(Answer::Ended(end_with(alloc, 4, b"read fault\n")?)),
-        Err(ReadFault::TooLong) => Ok(Answer::Ended(end_with(alloc, 6, b"too long: script\n")?)),
+        Ok(script) => play(alloc, safe, asked, &script, out),
+        Err(ReadFault::Memory) => 8,
+        Err(ReadFault::Failed) => print(out, 4, b"read fault\n"),
+        Err(ReadFault::TooLong) => print(out, 6, b"too long: script\n"),
     }
 }
 
-/// Reads the script for a safe policy, where that has all the names of what is asked.
-fn run_safe<I: Source>(
+/// Plays a script over a safe policy, where that has all the names of what is asked.
+fn run_safe<I: Source, K: Sink>(
     alloc: Global,
     safe: Safe,
     question: Option<Question>,
     input: &mut I,
-) -> Result<Answer, Memory>
-    ensures end { IfOk result (GivesEnds (question ≡ None)
-        (AskedEnds (Rose (I.intake input.old).faults (I.intake input.new).faults) safe
-        (asks_of safe question) (I.intake input.old).left)) }
-    ensures steady { IfOk result (IsSteadyAt ((I.intake input.new).faults
-        ≡ (I.intake input.old).faults)) }
-    ensures read { IfOk result (IsReadAt (IsAtEnd (I.intake input.new).left)) }
-    ensures once { AtMostOnce (stops (I.intake input.old)) (stops (I.intake input.new)) }
-    ensures taken { TakesFront (MAX_SCRIPT + READ_PIECE) (I.intake input.old).left
-        (I.intake input.new).left }
-    ensures untouched { (input.new ≡ input.old) ⊎ IsSome (asks_of safe question) }
+    out: &mut K,
+) -> u8
+    ensures { Works I.intake (question ≡ None) ⊤ (IsSome (asks_of safe question))
+        (λ failed. AskedEnds failed safe (asks_of safe question)) input.old input.new result
+        (K.output out.old) (K.output out.new) }
 {
     match asks_of(safe.policy(), question) {
-        Some(asked) => run_script(alloc, safe, asked, input),
-        None => Ok(Answer::Ended(end_with(alloc, 13, b"unknown name\n")?)),
+        Some(asked) => run_script(alloc, safe, asked, input, out),
+        None => print(out, 13, b"unknown name\n"),
     }
 }
 
-/// Reads the script for the policy of a text.
-fn run<I: Source>(
+/// Plays a script over the policy of a text.
+fn run<I: Source, K: Sink>(
     alloc: Global,
     text: &[u8],
     question: Option<Question>,
     input: &mut I,
-) -> Result<Answer, Memory>
+    out: &mut K,
+) -> u8
     requires { length text.now ≤ MAX_POLICY }
-    ensures end { IfOk result (GivesEnds (question ≡ None)
-        (JudgedEnds (Rose (I.intake input.old).faults (I.intake input.new).faults) question
-        (safe_in text.now) (I.intake input.old).left)) }
-    ensures steady { IfOk result (IsSteadyAt ((I.intake input.new).faults
-        ≡ (I.intake input.old).faults)) }
-    ensures read { IfOk result (IsReadAt (IsAtEnd (I.intake input.new).left)) }
-    ensures once { AtMostOnce (stops (I.intake input.old)) (stops (I.intake input.new)) }
-    ensures taken { TakesFront (MAX_SCRIPT + READ_PIECE) (I.intake input.old).left
-        (I.intake input.new).left }
-    ensures untouched { (input.new ≡ input.old) ⊎ IsAskedOf question text.now }
+    ensures { Works I.intake (question ≡ None) ⊤ (IsAskedOf question text.now)
+        (λ failed. JudgedEnds failed question (safe_in text.now)) input.old input.new result
+        (K.output out.old) (K.output out.new) }
 {
-    match admit(alloc, text)? {
-        Admitted::Safe(safe) => run_safe(alloc, safe, question, input),
-        Admitted::Ended(end) => Ok(Answer::Ended(end)),
+    match admit(alloc, text) {
+        Ok(Admitted::Safe(safe)) => run_safe(alloc, safe, question, input, out),
+        Ok(Admitted::Ended(end)) => show(Ok(end), out),
+        Err(_) => 8,
     }
 }
 
-/// Answers a command over the text of its policy and the input.
-fn answer_text<I: Source>(
+/// Runs a command over the text of its policy and the input.
+fn run_over<I: Source, K: Sink>(
     alloc: Global,
     command: &Command<'_>,
     text: &[u8],
     input: &mut I,
-) -> Result<Answer, Memory>
+    out: &mut K,
+) -> u8
     requires { length text.now ≤ MAX_POLICY }
-    ensures end { IfOk result (GivesEnds (IsPlainRun (seen_command command.now))
-        (TextEnds (Rose (I.intake input.old).faults (I.intake input.new).faults)
-        (seen_command command.now) text.now (I.intake input.old).left)) }
-    ensures steady { IfOk result (IsSteadyAt ((I.intake input.new).faults
-        ≡ (I.intake input.old).faults)) }
-    ensures read { IsTrue (plays_script (seen_command command.now))
-        → IfOk result (IsReadAt (IsAtEnd (I.intake input.new).left)) }
-    ensures once { AtMostOnce (stops (I.intake input.old)) (stops (I.intake input.new)) }
-    ensures taken { TakesFront (MAX_SCRIPT + READ_PIECE) (I.intake input.old).left
-        (I.intake input.new).left }
-    ensures untouched { (input.new ≡ input.old)
-        ⊎ AsksForScript (seen_command command.now) text.now }
+    ensures { Works I.intake (IsPlainRun (seen_command command.now))
+        (IsTrue (plays_script (seen_command command.now)))
+        (AsksForScript (seen_command command.now) text.now)
+        (λ failed. TextEnds failed (seen_command command.now) text.now) input.old input.new result
+        (K.output out.old) (K.output out.new) }
 {
     match command {
-        Command::Check(_) => Ok(Answer::Ended(check(alloc, text)?)),
-        Command::Fmt(_) => Ok(Answer::Ended(lay_out(alloc, text)?)),
-        Command::Run(_, question) => run(alloc, text, *question, input),
-    }
-}
-
-/// Answers a command over the texts by their names and the input.
-fn answer<S: Shelf, I: Source>(
-    alloc: Global,
-    command: &Command<'_>,
-    shelf: &mut S,
-    input: &mut I,
-) -> Result<Answer, Memory>
-    ensures end { IfOk result (GivesEnds (IsPlainRun (seen_command command.now))
-        (FoundEnds (Rose (S.stock shelf.old).hard_faults (S.stock shelf.new).hard_faults)
-        (Rose (I.intake input.old).faults (I.intake input.new).faults) (seen_command command.now)
-        (S.stock shelf.old).contents (I.intake input.old).left)) }
-    ensures steady { IfOk result
-        (IsSteadyAt (((S.stock shelf.new).hard_faults ≡ (S.stock shelf.old).hard_faults)
-        × ((I.intake input.new).faults ≡ (I.intake input.old).faults))) }
-    ensures counted { IfOk result
-        (IsCountedAt (Rose (S.stock shelf.old).faults (S.stock shelf.new).faults
-        ⊎ Rose (I.intake input.old).faults (I.intake input.new).faults)) }
-    ensures same { (S.stock shelf.new).contents ≡ (S.stock shelf.old).contents }
-    ensures read { IsTrue (plays_script (seen_command command.now))
-        → IfOk result (IsReadAt (IsAtEnd (I.intake input.new).left)) }
-    ensures asks { AsksOnce (S.stock shelf.old) (S.stock shelf.new) }
-    ensures once { AtMostOnce (stops (I.intake input.old)) (stops (I.intake input.new)) }
-    ensures taken { TakesFront (MAX_SCRIPT + READ_PIECE) (I.intake input.old).left
-        (I.intake input.new).left }
-    ensures untouched { (input.new ≡ input.old)
-        ⊎ OnShelf perhaps (S.stock shelf.old).contents (Short AsksForScript)
-        (seen_command command.now) }
-{
-    match find_text(alloc, shelf, command.name())? {
-        Found::Text(text) => answer_text(alloc, command, &text, input),
-        Found::Ended(end) => Ok(Answer::Ended(end)),
+        Command::Check(_) => show(check(alloc, text), out),
+        Command::Fmt(_) => show(lay_out(alloc, text), out),
+        Command::Run(_, question) => run(alloc, text, *question, input, out),
     }
 }
 
@@ -182,10 +114,7 @@ fn run_command<S: Shelf, I: Source, K: Sink>(
     out: &mut K,
 ) -> u8
     requires { IsNoGen (map string_bytes words.now) }
-    ensures answers { Answers (map string_bytes words.now) result
-        (scene S.stock I.intake K.output shelf.old input.old out.old)
-        (scene S.stock I.intake K.output shelf.new input.new out.new) }
-    ensures leaves { Leaves (map string_bytes words.now) result
+    ensures { RunsTool (map string_bytes words.now) result
         (scene S.stock I.intake K.output shelf.old input.old out.old)
         (scene S.stock I.intake K.output shelf.new input.new out.new) }
 {
@@ -196,21 +125,9 @@ fn run_command<S: Shelf, I: Source, K: Sink>(
             b"usage: gtrbac check POLICY | fmt POLICY | run POLICY | gen SEED SIZE | forecast POLICY DAYS COND | why POLICY EVENT\n",
         );
     };
-    match answer(alloc, &command, shelf, input) {
-        Ok(answer) => tell(alloc, answer, out),
-        Err(_) => 8,
-    }
-}
-
-/// Runs `gen` and prints to `out`.
-fn run_gen<K: Sink>(alloc: Global, recipe: Recipe, out: &mut K) -> u8
-    requires { (1 ≤ recipe.size) × (recipe.size ≤ MAX_SIZE) }
-    ensures { Prints (GenEnds (seen_recipe recipe)) result (K.output out.old).written
-        (K.output out.new).written
-        (K.output out.old).faults (K.output out.new).faults }
-{
-    match generate(alloc, recipe) {
-        Ok(end) => print(out, end.status, end.text.as_slice()),
+    match find_text(alloc, shelf, command.name()) {
+        Ok(Found::Text(text)) => run_over(alloc, &command, &text, input, out),
+        Ok(Found::Ended(end)) => show(Ok(end), out),
         Err(_) => 8,
     }
 }
@@ -249,7 +166,7 @@ pub fn tool<S: Shelf, I: Source, K: Sink>(
         (scene S.stock I.intake K.output shelf.new input.new out.new) }
 {
     match recipe_of(words) {
-        Some(recipe) => run_gen(alloc, recipe, out),
+        Some(recipe) => generate(alloc, recipe, out),
         None => run_command(alloc, words, shelf, input, out),
     }
 }

@@ -1,5 +1,5 @@
 -- What the closed desk tells of a worker: its links over the whole history, and their parts of it one after the other.
-use Rattle.std.proofs.Common.{◌≡◌, ℕ, ◌+◌, ◌<◌, ◌≤◌, List, [], ◌∷◌, ◌++◌, length, drop, refl, sym, ap, subst, ◌∙◌, arith, append-nil, length-append, Option, Some}
+use Rattle.std.proofs.Common.{◌≡◌, ℕ, ◌+◌, ◌<◌, ◌≤◌, List, [], ◌∷◌, ◌++◌, length, drop, refl, sym, ap, subst, ◌∙◌, arith, append-nil}
 use Rattle.gt_base.specs.declared.requests.Entry.{Entry}
 use Rattle.gt_io.specs.Links.{Traffic}
 use Rattle.turn_lock.specs.Turns.{part}
@@ -9,8 +9,7 @@ use Rattle.policy_words.specs.Naming.{NamedPolicy}
 use Rattle.connection_laws.specs.Connection.{part_of}
 use Rattle.connection_laws.proofs.Places.{part_of-append, part_of-part, all_mine, none_mine}
 use Rattle.line_server.specs.declared.ended.Served.{Served}
-use Rattle.line_server.specs.Working.{Tale, begun_of, owns_of, AreServed, AreOwnParts, IsTellingOfWorkers}
-use Rattle.connection_laws.specs.Doors.{Gives}
+use Rattle.line_server.specs.Working.{Tale, owns_of, AreServed, AreOwnParts, IsTellingOfWorkers}
 use Rattle.line_server.proofs.Links.{served_longer}
 use Rattle.connection_laws.specs.Services.{service}
 
@@ -40,7 +39,7 @@ module _ {L : Type 0} (traffic : L → Traffic) (np : NamedPolicy) (first : List
 module _ {M L : Type 0} (traffic : L → Traffic) (np : NamedPolicy) (first : List Entry) (legal : List Entry → Type 0) (now : List Entry → ℕ) where
   -- the final history h, of a worker whose pass had no entry before
   pub worker_told : IsTellingOfWorkers M traffic (service np first legal now)
-  worker_told w o p f f' served end h fresh number k told =
+  worker_told w o p served end h fresh number k told =
       let t = k.tales in
       let own_is : p.pass.own ≡ owns_of t = ap (λ (q : Holder M). q.own) k.worked.grows.after_is ∙ ap (λ (es : List Entry). es ++ owns_of t) fresh in
       let whole : part w (drop (length first) h) ≡ owns_of t = ap (λ (n : ℕ). part n (drop (length first) h)) (sym number) ∙ sym told.1 ∙ own_is in
@@ -51,19 +50,3 @@ module _ {M L : Type 0} (traffic : L → Traffic) (np : NamedPolicy) (first : Li
         parts_from traffic np first legal now w (drop (length first) h) h [] 1 served t links (λ j far. sym (part_of-part (by w j) (drop (length first) h)) ∙ ap (part_of (by w j)) whole),
         k.worked.door,
       )
-
-same_some : {A : Type 0} (x y : A) → Some x ≡ Some y → x ≡ y
-same_some x y e = cc
-
-begun_long : {L : Type 0} (tales : List (Tale L)) → length (begun_of tales) ≡ length tales
-begun_long [] = refl
-begun_long (x ∷ xs) = let e = begun_long xs in omega (arith, e)
-
--- served and remaining links add up to those that the door had
-pub links_add_up : {L : Type 0} (had left : List L) (door : Option (List L)) (tales : List (Tale L)) → Gives (Some had) door (begun_of tales) → door ≡ Some left → length tales + length left ≡ length had
-links_add_up {L} had left door tales g is =
-    let same : g.0 ≡ left = same_some g.0 left (sym g.2 ∙ is) in
-    let all = ap (λ (ls : List L). length ls) (g.1 ∙ ap (λ (ls : List L). begun_of tales ++ ls) same) in
-    let both = length-append (begun_of tales) left in
-    let count = begun_long tales in
-    omega (arith, all, both, count)

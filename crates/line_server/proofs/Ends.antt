@@ -1,5 +1,5 @@
 -- What a worker's link comes to at its end.
-use Rattle.std.proofs.Common.{◌≡◌, ℕ, ◌+◌, true, List, refl, ◌∙◌, ap, Option}
+use Rattle.std.proofs.Common.{◌≡◌, ℕ, ◌+◌, ◌*◌, true, List, length, refl, ◌∙◌, ap, Option}
 use Rattle.gt_base.specs.declared.requests.Who.{Who}
 use Rattle.gt_base.specs.declared.requests.Entry.{Entry}
 use Rattle.gt_io.specs.Links.{Traffic}
@@ -12,6 +12,7 @@ use Rattle.connection_laws.specs.Connection.{IsTimed, placed, Conn}
 use Rattle.connection_laws.specs.Services.{service}
 use Rattle.connection_laws.specs.Attending.{spot, Attends}
 use Rattle.connection_laws.specs.Clerks.{clerk_view, WearsClerk, ClerkAsks}
+use Rattle.connection_laws.proofs.Growing.{grows_rested}
 use Rattle.connection_laws.proofs.Chaining.{goes_of}
 use Rattle.line_server.specs.Serving.{link_view, Serves}
 use Rattle.line_server.proofs.Completing.{complete_by}
@@ -32,7 +33,7 @@ module _ {M : Type 0} (np : NamedPolicy) (first : List Entry) (legal : List Entr
         own = entries_of x.acted;
         acted = x.acted;
         conn = connected;
-        grows = g.grows;
+        grows = grows_rested before after (entries_of x.acted) (2 * length (readings_of x.acted)) g.grows;
         mine = g.mine;
         asked = x.going.asked;
         denied = x.going.denied;

@@ -1,8 +1,8 @@
 -- A link behind those that were served.
-use Rattle.std.proofs.Common.{◌≡◌, ℕ, ◌+◌, ◌*◌, ◌^◌, ◌≤◌, false, List, [], ◌∷◌, ◌++◌, length, refl, sym, ap, subst, ◌∙◌, arith, append-nil, append_assoc, length-append, Option, Some, None, MatchOption}
+use Rattle.std.proofs.Common.{◌≡◌, ℕ, ◌+◌, ◌*◌, ◌^◌, ◌≤◌, true, false, List, [], ◌∷◌, ◌++◌, length, refl, sym, ap, subst, ◌∙◌, arith, append-nil, append_assoc, length-append, Option, Some, None, MatchOption}
 use mathlib.Core.List.{IsPrefix}
 use Rattle.gt_base.specs.declared.requests.Entry.{Entry}
-use Rattle.gt_io.specs.Links.{Traffic, IsFresh, GivesFirst, Reads}
+use Rattle.gt_io.specs.Links.{Traffic, Tally, Doorway, IsFresh, GivesFirst, Reads}
 use Rattle.gt_io.proofs.Readings.{Reads-trans, Reads-nil}
 use Rattle.turn_lock.specs.Holders.{Holder}
 use Rattle.turn_lock.proofs.Totals.{each-append}
@@ -21,7 +21,7 @@ use Rattle.line_server.specs.Working.{Tale, begun_of, hours_of, owns_of, AllUnwo
 use Rattle.connection_laws.specs.Doors.{Gives}
 use Rattle.connection_laws.proofs.Giving.{gives_none, gives_more}
 use Rattle.connection_laws.proofs.Growing.{grown_none, grown_twice}
-use Rattle.connection_laws.specs.Services.{service}
+use Rattle.connection_laws.specs.Services.{Service, service}
 
 module _ {L : Type 0} where
   pub begun_push : (xs : List (Tale L)) (x : Tale L) → begun_of (xs ++ x ∷ []) ≡ begun_of xs ++ x.begun ∷ []
@@ -80,7 +80,7 @@ module _ {L : Type 0} where
 module _ {M L : Type 0} (traffic : L → Traffic) (np : NamedPolicy) (first : List Entry) (legal : List Entry → Type 0) (now : List Entry → ℕ) (number : ℕ) where
   -- one more link was served
   pub link_done : (o p p' : WorkerSpot M L) (served : List (Served L)) (tales : List (Tale L)) (s : Served L) (begun : L) (conn calls calls' : ℕ) → Worked traffic (service np first legal now) number o p served tales
-      → Serves (service np first legal now) (by number conn) (link_view p.pass calls p.clock (traffic begun)) (link_view p'.pass calls' p'.clock (traffic s.link)) s.report → conn ≡ 1 + length served → GivesFirst p.door p'.door begun → IsFresh (traffic begun)
+      → Serves (service np first legal now) (by number conn) (link_view p.pass calls p.clock (traffic begun)) (link_view p'.pass calls' p'.clock (traffic s.link)) s.report → conn ≡ 1 + length served → GivesFirst p.door.links p'.door.links begun → IsFresh (traffic begun)
       → (tales' : List (Tale L)) × Worked traffic (service np first legal now) number o p' (served ++ s ∷ []) tales'
   link_done o p p' served tales s begun conn calls calls' w v at door fresh =
       let x : Tale L = record { begun = begun; taken = v.taken; given = v.given; readings = v.readings; own = v.own; acted = v.acted; draws = p'.pass.draws } in
@@ -109,12 +109,12 @@ module _ {M L : Type 0} (traffic : L → Traffic) (np : NamedPolicy) (first : Li
           links = served_push traffic np first legal now number p'.pass.seen o.pass.own 1 conn served tales s x at (served_longer traffic np first legal now number p.pass.seen p'.pass.seen o.pass.own 1 served tales v.grows.seen w.links) one;
           grows = record {
             seen = g.seen;
-            after_is = g.after_is ∙ ap (λ (es : List Entry). record o.pass { draws = p'.pass.draws; seen = p'.pass.seen; own = o.pass.own ++ es }) (sym owns);
+            after_is = g.after_is ∙ ap (λ (es : List Entry). record o.pass { draws = p'.pass.draws; seen = p'.pass.seen; own = o.pass.own ++ es; stays = p'.pass.stays; keeps = p'.pass.keeps }) (sym owns);
             draws_low = g.draws_low;
             draws_high = let d = g.draws_high in let e = ap (λ (es : List Entry). length es) owns in omega (arith, d, e, hours_long, hours_both);
           };
           reads = subst (λ (rs : List ℕ). Reads o.clock p'.clock rs) (sym hours) (Reads-trans o.clock p.clock p'.clock (hours_of tales) v.readings w.reads v.reads);
-          door = subst (λ (ls : List L). Gives o.door p'.door ls) (sym (begun_push tales x)) (gives_more o.door p.door p'.door (begun_of tales) begun w.door door);
+          door = subst (λ (ls : List L). Gives o.door.links p'.door.links ls) (sym (begun_push tales x)) (gives_more o.door.links p.door.links p'.door.links (begun_of tales) begun w.door door);
         },
       )
 
@@ -122,34 +122,42 @@ all_push : {L : Type 0} (ss : List (Served L)) (s : Served L) → AllUnworn ss �
 all_push {L} ss s all one = each-append (λ (t : Served L). is_worn_out t.report.outcome ≡ false) ss (s ∷ []) all (one, tt)
 
 -- how a worker goes on behind one more link
-pub ends_of : {L : Type 0} (links : Option (List L)) (f f' draws : ℕ) (ss served : List (Served L)) (s : Served L) (result : Option WorkEnd) → f' ≡ f → served ≡ ss ++ s ∷ [] → AllUnworn ss → ((n : ℕ) → s.report.outcome ≡ LinkWorn n → (n ≡ 2 ^ 40) × (draws ≡ 2 ^ 40))
-    → MatchOption result (is_worn_out s.report.outcome ≡ false) (λ worn. (n : ℕ) × (s.report.outcome ≡ LinkWorn n) × (worn ≡ Worn n)) → MatchOption result (AllUnworn served × (f' ≡ f)) (λ end. WorksTo links f f' draws served end)
-ends_of {L} links f f' draws ss served s None kept is all wears w = (subst (λ (l : List (Served L)). AllUnworn l) (sym is) (all_push ss s all w), kept)
-ends_of {L} links f f' draws ss served s (Some end) kept is all wears w =
+pub ends_of : {L : Type 0} (links : Option (List L)) (t t' : Tally) (draws : ℕ) (ss served : List (Served L)) (s : Served L) (result : Option WorkEnd) → t' ≡ t → served ≡ ss ++ s ∷ [] → AllUnworn ss → ((n : ℕ) → s.report.outcome ≡ LinkWorn n → (n ≡ 2 ^ 40) × (draws ≡ 2 ^ 40))
+    → MatchOption result (is_worn_out s.report.outcome ≡ false) (λ worn. (n : ℕ) × (s.report.outcome ≡ LinkWorn n) × (worn ≡ Worn n)) → MatchOption result (AllUnworn served × (t' ≡ t)) (λ end. WorksTo links t t' draws served end)
+ends_of {L} links t t' draws ss served s None kept is all wears w = (subst (λ (l : List (Served L)). AllUnworn l) (sym is) (all_push ss s all w), kept)
+ends_of {L} links t t' draws ss served s (Some end) kept is all wears w =
     let facts = wears w.0 w.1 in
-    subst (λ (e : WorkEnd). WorksTo links f f' draws served e) (sym w.2) (ss, s, is, all, w.1, facts.0, facts.1, kept)
-
-works_earlier : {L : Type 0} (links : Option (List L)) (f f' f'' draws : ℕ) (served : List (Served L)) (end : WorkEnd) → f' ≡ f → WorksTo links f' f'' draws served end → WorksTo links f f'' draws served end
-works_earlier links f f' f'' draws served end kept w = subst (λ (n : ℕ). WorksTo links n f'' draws served end) kept w
+    subst (λ (e : WorkEnd). WorksTo links t t' draws served e) (sym w.2) (ss, s, is, all, w.1, facts.0, facts.1, kept)
 
 module _ {M L : Type 0} (traffic : L → Traffic) (np : NamedPolicy) (first : List Entry) (legal : List Entry → Type 0) (now : List Entry → ℕ) where
   pub no_links : (number : ℕ) (o : WorkerSpot M L) (served : List (Served L)) → served ≡ [] → Worked traffic (service np first legal now) number o o served []
   no_links number o served is =
       subst (λ (ss : List (Served L)). Worked traffic (service np first legal now) number o o ss []) (sym is)
-      (record { links = tt; grows = grown_none o.pass; reads = Reads-nil o.clock; door = gives_none o.door })
+      (record { links = tt; grows = grown_none o.pass; reads = Reads-nil o.clock; door = gives_none o.door.links })
 
   -- the next link, told from the begin of the work
-  pub next_done : (number number' : ℕ) (o p p' : WorkerSpot M L) (f f' f'' : ℕ) (items items' served : List (Served L)) (tales : List (Tale L)) (end : WorkEnd) → number' ≡ number → items' ≡ items → f' ≡ f
-      → Worked traffic (service np first legal now) number o p items tales → AllUnworn items → WorksOn traffic (service np first legal now) number' p p' f' f'' items' served (Some end)
-      → Works traffic (service np first legal now) number o p' f f'' served end
-  next_done number number' o p p' f f' f'' items items' served tales end same kept low w u on =
-      let on' = subst (λ (n : ℕ). WorksOn traffic (service np first legal now) n p p' f' f'' items' served (Some end)) same on in
+  pub next_done : (number number' : ℕ) (o p p' : WorkerSpot M L) (items items' served : List (Served L)) (tales : List (Tale L)) (end : WorkEnd) → number' ≡ number → items' ≡ items → p.door.tally ≡ o.door.tally
+      → Worked traffic (service np first legal now) number o p items tales → AllUnworn items → WorksOn traffic (service np first legal now) number' p p' items' served (Some end)
+      → Works traffic (service np first legal now) number o p' served end
+  next_done number number' o p p' items items' served tales end same kept low w u on =
+      let on' = subst (λ (n : ℕ). WorksOn traffic (service np first legal now) n p p' items' served (Some end)) same on in
       let d = on' o tales (subst (λ (ss : List (Served L)). Worked traffic (service np first legal now) number o p ss tales) (sym kept) w) (subst (λ (ss : List (Served L)). AllUnworn ss) (sym kept) u) in
-      record { tales = d.0; worked = d.1; cause = works_earlier p'.door f f' f'' p'.pass.draws served end low d.2 }
+      record { tales = d.0; worked = d.1; cause = subst (λ (t : Tally). WorksTo p'.door.links t p'.door.tally p'.pass.draws served end) low d.2 }
 
-  pub goes_on : (number number' : ℕ) (o p p' : WorkerSpot M L) (f' f'' : ℕ) (items items' served : List (Served L)) (tales : List (Tale L)) → number' ≡ number → items' ≡ items
-      → Worked traffic (service np first legal now) number o p items tales → AllUnworn items → WorksOn traffic (service np first legal now) number' p p' f' f'' items' served None
-      → (tales' : List (Tale L)) × Worked traffic (service np first legal now) number o p' served tales' × (AllUnworn served × (f'' ≡ f'))
-  goes_on number number' o p p' f' f'' items items' served tales same kept w u on =
-      let on' = subst (λ (n : ℕ). WorksOn traffic (service np first legal now) n p p' f' f'' items' served None) same on in
+  pub goes_on : (number number' : ℕ) (o p p' : WorkerSpot M L) (items items' served : List (Served L)) (tales : List (Tale L)) → number' ≡ number → items' ≡ items
+      → Worked traffic (service np first legal now) number o p items tales → AllUnworn items → WorksOn traffic (service np first legal now) number' p p' items' served None
+      → (tales' : List (Tale L)) × Worked traffic (service np first legal now) number o p' served tales' × (AllUnworn served × (p'.door.tally ≡ p.door.tally))
+  goes_on number number' o p p' items items' served tales same kept w u on =
+      let on' = subst (λ (n : ℕ). WorksOn traffic (service np first legal now) n p p' items' served None) same on in
       on' o tales (subst (λ (ss : List (Served L)). Worked traffic (service np first legal now) number o p ss tales) (sym kept) w) (subst (λ (ss : List (Served L)). AllUnworn ss) (sym kept) u)
+
+module _ {M L : Type 0} (traffic : L → Traffic) (v : Service) (number : ℕ) (o p : WorkerSpot M L) where
+  -- the links stand while the door rests
+  pub at_rest : (d : Doorway L) (served : List (Served L)) (tales : List (Tale L)) → p.door ≡ d → Worked traffic v number o (record p { door = d }) served tales → Worked traffic v number o p served tales
+  at_rest d served tales is w = subst (λ (e : Doorway L). Worked traffic v number o (record p { door = e }) served tales) (sym is) w
+
+  -- and as it is closed
+  pub works_closed : (d : Doorway L) (served : List (Served L)) (end : WorkEnd) → d ≡ record p.door { closed = true } → Works traffic v number o p served end → Works traffic v number o (record p { door = d }) served end
+  works_closed d served end is w =
+      subst (λ (e : Doorway L). Works traffic v number o (record p { door = e }) served end) (sym is)
+      (record { tales = w.tales; worked = record { links = w.worked.links; grows = w.worked.grows; reads = w.worked.reads; door = w.worked.door }; cause = w.cause })

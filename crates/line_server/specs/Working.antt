@@ -3,8 +3,8 @@ use Rattle.std.specs.Prelude.{◌≡◌, ℕ, ◌+◌, ◌*◌, ◌^◌, ◌<◌
 use Rattle.std.specs.declared.option.Option.{Option}
 use Rattle.gt_base.specs.declared.requests.Entry.{Entry}
 use Rattle.gt_base.specs.declared.limits.TheConstants.{MAX_LINKS}
-use Rattle.gt_io.specs.Causes.{Rose}
-use Rattle.gt_io.specs.Links.{Traffic, IsFresh, Reads}
+use Rattle.gt_io.specs.Memory.{one_more}
+use Rattle.gt_io.specs.Links.{Traffic, Tally, Doorway, IsFresh, Reads}
 use Rattle.turn_lock.specs.Turns.{Each, part}
 use Rattle.turn_lock.specs.Holders.{Site, Holder, IsToldBy}
 use Rattle.locked_history.specs.Fronts.{by}
@@ -48,57 +48,53 @@ owns_of (x ∷ xs) = x.own ++ owns_of xs
 abbrev pub AllUnworn : {L : Type 0} → List (Served L) → Type 0
 AllUnworn {L} served = Each (λ (s : Served L). is_worn_out s.report.outcome ≡ false) served
 
--- a moment of a worker: its pass, its clock and its door
+-- a moment of a worker: its pass, the readings of its clock that are to come, where they are told,
+-- and its door
 pub record WorkerSpot (M L : Type 0) : Type 0 where
   pub pass : Holder M
   pub clock : Option (ℕ → ℕ)
-  pub door : Option (List L)
+  pub door : Doorway L
 
-abbrev pub spot : {M L : Type 0} → Holder M → Option (ℕ → ℕ) → Option (List L) → WorkerSpot M L
+abbrev pub spot : {M L : Type 0} → Holder M → Option (ℕ → ℕ) → Doorway L → WorkerSpot M L
 spot pass clock door = record { pass = pass; clock = clock; door = door }
 
--- a worker at its post: its pass, the readings of its clock and the links of its door that are to
--- come, where they are told, how often its door failed, its served links, and how it ended
+-- a worker at its post, its served links, and how it ended
 pub record PostView (M L : Type 0) : Type 0 where
-  pub pass : Holder M
-  pub clock : Option (ℕ → ℕ)
-  pub door : Option (List L)
-  pub faults : ℕ
+  pub spot : WorkerSpot M L
   pub served : List (Served L)
   pub outcome : WorkEnd
 
-abbrev pub post_view : {M D C G L : Type 0} → (C → Option (ℕ → ℕ)) → (D → Option (List L)) → (D → ℕ)
-    → Holder M → Worker D C G L → PostView M L
-post_view readings links faults pass w =
+abbrev pub post_view : {M D C G L : Type 0} → (C → Option (ℕ → ℕ)) → (D → Doorway L) → Holder M
+    → Worker D C G L → PostView M L
+post_view readings doorway pass w =
     record {
-      pass = pass;
-      clock = readings w.clock;
-      door = links w.door;
-      faults = faults w.door;
+      spot = spot pass (readings w.clock) (doorway w.door);
       served = w.served.items;
       outcome = w.outcome;
     }
 
-abbrev pub at_post : {M D C G L : Type 0} → (C → Option (ℕ → ℕ)) → (D → Option (List L)) → (D → ℕ)
-    → Post M D C G L → PostView M L
-at_post readings links faults p = post_view readings links faults p.pass p.worker
+abbrev pub at_post : {M D C G L : Type 0} → (C → Option (ℕ → ℕ)) → (D → Doorway L) → Post M D C G L
+    → PostView M L
+at_post readings doorway p = post_view readings doorway p.pass p.worker
 
--- each end has its cause; a door that has failed is asked no more, and that ends the work
-abbrev pub WorksTo : {L : Type 0} → Option (List L) → ℕ → ℕ → ℕ → List (Served L) → WorkEnd
+-- Each end has its cause. A door that gave none or has failed is asked no more, and that ends the
+-- work
+abbrev pub WorksTo : {L : Type 0} → Option (List L) → Tally → Tally → ℕ → List (Served L) → WorkEnd
     → Type 0
-WorksTo {L} links faults faults' draws served Done =
+WorksTo {L} links t t' draws served Done =
     AllUnworn served × (length served < MAX_LINKS) × IfSome links (λ ls. ls ≡ [])
-    × (faults' ≡ faults)
-WorksTo {L} links faults faults' draws served DoorFault =
-    AllUnworn served × (length served < MAX_LINKS) × Rose faults faults'
-WorksTo {L} links faults faults' draws served Enough =
-    AllUnworn served × (length served ≡ MAX_LINKS) × (faults' ≡ faults)
-WorksTo {L} links faults faults' draws served (Worn n) =
+    × (t' ≡ record t { ends = one_more t.ends })
+WorksTo {L} links t t' draws served DoorFault =
+    AllUnworn served × (length served < MAX_LINKS)
+    × (t' ≡ record t { faults = one_more t.faults })
+WorksTo {L} links t t' draws served Enough =
+    AllUnworn served × (length served ≡ MAX_LINKS) × (t' ≡ t)
+WorksTo {L} links t t' draws served (Worn n) =
     (front : List (Served L)) × (last : Served L) × (served ≡ front ++ last ∷ []) × AllUnworn front
-    × (last.report.outcome ≡ LinkWorn n) × (n ≡ 2 ^ 40) × (draws ≡ 2 ^ 40) × (faults' ≡ faults)
-WorksTo {L} links faults faults' draws served Memory =
-    AllUnworn served × (length served < MAX_LINKS) × (faults' ≡ faults)
-WorksTo {L} links faults faults' draws served Fresh = ⊥
+    × (last.report.outcome ≡ LinkWorn n) × (n ≡ 2 ^ 40) × (draws ≡ 2 ^ 40) × (t' ≡ t)
+WorksTo {L} links t t' draws served Memory =
+    AllUnworn served × (length served < MAX_LINKS) × (t' ≡ t)
+WorksTo {L} links t t' draws served Fresh = ⊥
 
 module _ {L : Type 0} (traffic : L → Traffic) (v : Service) (number : ℕ) where
   -- link c of the worker was served as this is told, over a history; own are the entries that its
@@ -130,32 +126,30 @@ module _ {M L : Type 0} (traffic : L → Traffic) (v : Service) (number : ℕ) w
     pub links : AreServed traffic v number p.pass.seen o.pass.own 1 served tales
     pub grows : Grows o.pass p.pass (owns_of tales) (2 * length (hours_of tales))
     pub reads : Reads o.clock p.clock (hours_of tales)
-    pub door : Gives o.door p.door (begun_of tales)
+    pub door : Gives o.door.links p.door.links (begun_of tales)
 
   -- what one more link comes to
-  abbrev pub WorksOn : WorkerSpot M L → WorkerSpot M L → ℕ → ℕ → List (Served L) → List (Served L)
+  abbrev pub WorksOn : WorkerSpot M L → WorkerSpot M L → List (Served L) → List (Served L)
       → Option WorkEnd → Type 0
-  WorksOn p p' faults faults' served served' result =
+  WorksOn p p' served served' result =
       (o : WorkerSpot M L) (tales : List (Tale L)) → Worked o p served tales → AllUnworn served
       → (tales' : List (Tale L)) × Worked o p' served' tales'
-      × MatchOption result (AllUnworn served' × (faults' ≡ faults))
-      (λ end. WorksTo p'.door faults faults' p'.pass.draws served' end)
+      × MatchOption result (AllUnworn served' × (p'.door.tally ≡ p.door.tally))
+      (λ end. WorksTo p'.door.links p.door.tally p'.door.tally p'.pass.draws served' end)
 
   -- all the work of a worker
-  pub record Works (o p : WorkerSpot M L) (faults faults' : ℕ) (served : List (Served L))
-      (end : WorkEnd)
-      : Type 0 where
+  pub record Works (o p : WorkerSpot M L) (served : List (Served L)) (end : WorkEnd) : Type 0 where
     pub tales : List (Tale L)
     pub worked : Worked o p served tales
-    pub cause : WorksTo p.door faults faults' p.pass.draws served end
+    pub cause : WorksTo p.door.links o.door.tally p.door.tally p.pass.draws served end
 
 module _ {M L : Type 0} (traffic : L → Traffic) (v : Service) where
-  -- what a worker and its pass come to, and that the pass is idle again
+  -- What a worker and its pass come to. The pass is idle again, and the door was closed
   pub record HasWorked (site : Site M) (a b : PostView M L) : Type 0 where
-    pub works : Works traffic v a.pass.number (spot a.pass a.clock a.door)
-        (spot b.pass b.clock b.door) a.faults b.faults b.served b.outcome
-    pub idle : IsIdle site b.pass
-    pub number_is : b.pass.number ≡ a.pass.number
+    pub works : Works traffic v a.spot.pass.number a.spot b.spot b.served b.outcome
+    pub idle : IsIdle site b.spot.pass
+    pub number_is : b.spot.pass.number ≡ a.spot.pass.number
+    pub closed : b.spot.door.closed ≡ true
 
 -- the own entries of each link are the part of its connection
 abbrev pub AreOwnParts : {L : Type 0} → List Entry → ℕ → ℕ → List (Tale L) → Type 0
@@ -167,10 +161,9 @@ AreOwnParts es w c (x ∷ xs) = (part_of (by w c) es ≡ x.own) × AreOwnParts e
 -- own entries of each link are the part of its connection
 abbrev pub IsTellingOfWorkers : (M : Type 0) {L : Type 0} → (L → Traffic) → Service → Type 0
 IsTellingOfWorkers M {L} traffic v =
-    (w : ℕ) (o p : WorkerSpot M L) (f f' : ℕ) (served : List (Served L)) (end : WorkEnd)
-    (h : List Entry)
+    (w : ℕ) (o p : WorkerSpot M L) (served : List (Served L)) (end : WorkEnd) (h : List Entry)
     → o.pass.own ≡ [] → p.pass.number ≡ w
-    → Works traffic v w o p f f' served end → IsToldBy v.first h p.pass
+    → Works traffic v w o p served end → IsToldBy v.first h p.pass
     → (tales : List (Tale L)) × AreServed traffic v w h [] 1 served tales
     × (part w (drop (length v.first) h) ≡ owns_of tales)
-    × AreOwnParts (drop (length v.first) h) w 1 tales × Gives o.door p.door (begun_of tales)
+    × AreOwnParts (drop (length v.first) h) w 1 tales × Gives o.door.links p.door.links (begun_of tales)

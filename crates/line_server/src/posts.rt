@@ -38,8 +38,8 @@ pub fn work_at<M: Machine, R: Wait, D: Door, C: Clock, G: Gate>(
     requires fresh { (post.old.worker.outcome ≡ WorkEnd.Fresh)
         × (post.old.worker.served.items ≡ []) }
     ensures { HasWorked D.L.traffic (service_at M.list M.legal M.now_of desk.now policy.now)
-        (site_of desk.now) (at_post C.readings D.links D.faults post.old)
-        (at_post C.readings D.links D.faults post.new) }
+        (site_of desk.now) (at_post C.readings D.doorway post.old)
+        (at_post C.readings D.doorway post.new) }
 {
     work(rt, alloc, desk, policy, &mut post.pass, &mut post.worker);
 }
@@ -63,8 +63,8 @@ where
     ensures { (i : ℕ) (d : _) → i < length posts.old
         → HasWorked D.L.traffic (service_at M.list M.legal M.now_of desk.now policy.now)
         (site_of desk.now)
-        (at_post C.readings D.links D.faults (slice_index_or posts.old i d))
-        (at_post C.readings D.links D.faults (slice_index_or posts.new i d)) }
+        (at_post C.readings D.doorway (slice_index_or posts.old i d))
+        (at_post C.readings D.doorway (slice_index_or posts.new i d)) }
 {
     thread::for_each_mut(
         rt,
@@ -94,8 +94,8 @@ where
     ensures works { (i : ℕ) (d : _) → i < length posts.old.items
         → HasWorked D.L.traffic (service_at M.list M.legal M.now_of desk.now policy.now)
         (site_of desk.now)
-        (at_post C.readings D.links D.faults (slice_index_or posts.old.items i d))
-        (at_post C.readings D.links D.faults (slice_index_or posts.new.items i d)) }
+        (at_post C.readings D.doorway (slice_index_or posts.old.items i d))
+        (at_post C.readings D.doorway (slice_index_or posts.new.items i d)) }
 {
     work_at_all(rt, alloc, desk, policy, posts.as_mut_slice());
 }

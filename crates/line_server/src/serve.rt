@@ -6,7 +6,7 @@ ghost use Rattle.turn_lock.specs.Holders.{site_of};
 ghost use Rattle.locked_history.specs.Fronts.{by};
 ghost use Rattle.connection_laws.specs.Desks.{MayBeAsked, RepliesCanBeTold};
 ghost use Rattle.connection_laws.specs.Services.{service_at};
-ghost use Rattle.connection_laws.specs.Turns.{IsIdle};
+ghost use Rattle.connection_laws.specs.Turns.{IsIdle, IsRested};
 ghost use Rattle.connection_laws.specs.Attending.{IsStart, spot, Attends};
 ghost use Rattle.connection_laws.specs.Clerks.{clerk_view, WearsClerk, ClerkAsks};
 ghost use Rattle.line_server.specs.Serving.{link_view, Serves};
@@ -48,6 +48,7 @@ fn attend_at<M: Machine, R: Wait, L: Link, C: Clock, G: Gate>(
         × (pass.new.number ≡ pass.old.number) }
     ensures calls { hearing.new.talk.calls ≤ hearing.old.talk.calls + MAX_BYTES }
     ensures finished { (L.traffic link.new).finished ≡ true }
+    ensures rests { IsRested pass.old → IsRested pass.new }
 {
     let mut clerk = Clerk {
         server,
@@ -61,8 +62,9 @@ fn attend_at<M: Machine, R: Wait, L: Link, C: Clock, G: Gate>(
 /// Serves one link of a connection, whose number is `conn`: line by line it passes the gate, reads
 /// the clock, brings the history to that minute and asks. After the first read or write that fails
 /// it makes no further one, nor a read behind the one that told the end. At the end it lets the
-/// link go, which is the last call on it. `calls` counts the request lines of the worker. Want of
-/// memory shows in the reply to a line.
+/// link go, which is the last call on it. A pass that was at rest is so again then: it keeps no turn
+/// of the lock. `calls` counts the request lines of the worker. Want of memory shows in the reply to
+/// a line.
 pub fn serve_link<M: Machine, R: Wait, L: Link, C: Clock, G: Gate>(
     rt: &R,
     alloc: Global,
@@ -86,6 +88,7 @@ pub fn serve_link<M: Machine, R: Wait, L: Link, C: Clock, G: Gate>(
         (link_view pass.new calls.new (C.readings clock.new) (L.traffic link.new)) result }
     ensures pass { IsIdle (site_of desk.now) pass.new × (pass.new.number ≡ pass.old.number) }
     ensures few { calls.new ≤ calls.old + MAX_BYTES }
+    ensures rests { IsRested pass.old → IsRested pass.new }
 {
     let server = Server {
         rt,

@@ -12,7 +12,7 @@ use crate::ended::{Served, WorkEnd};
 use crate::serve::serve_link;
 use connection_laws::LinkEnd;
 use gt_base::{List, MAX_LINKS, Machine};
-use gt_io::{Clock, Door, Gate};
+use gt_io::{Clock, Door, Gate, make_room};
 use locked_history::Desk;
 use policy_book::Policy;
 use std::alloc::Global;
@@ -57,9 +57,9 @@ fn serve_next<M: Machine, R: Wait, D: Door, C: Clock, G: Gate>(
     requires few { length w.old.served.items < MAX_LINKS }
     ensures works { WorksOn D.L.traffic (service_at M.list M.legal M.now_of desk.now policy.now)
         pass.old.number
-        (spot pass.old (C.readings w.old.clock) (D.links w.old.door))
-        (spot pass.new (C.readings w.new.clock) (D.links w.new.door))
-        (D.faults w.old.door) (D.faults w.new.door) w.old.served.items w.new.served.items result }
+        (spot pass.old (C.readings w.old.clock) (D.doorway w.old.door))
+        (spot pass.new (C.readings w.new.clock) (D.doorway w.new.door))
+        w.old.served.items w.new.served.items result }
     ensures pass { IsIdle (site_of desk.now) pass.new × (pass.new.number ≡ pass.old.number) }
     ensures calls { calls.new ≤ calls.old + MAX_BYTES }
     ensures one { result ≡ None → length w.new.served.items ≡ length w.old.served.items + 1 }
@@ -102,14 +102,14 @@ fn work_on<M: Machine, R: Wait, D: Door, C: Clock, G: Gate>(
     requires empty { w.old.served.items ≡ [] }
     ensures works { Works D.L.traffic (service_at M.list M.legal M.now_of desk.now policy.now)
         pass.old.number
-        (spot pass.old (C.readings w.old.clock) (D.links w.old.door))
-        (spot pass.new (C.readings w.new.clock) (D.links w.new.door))
-        (D.faults w.old.door) (D.faults w.new.door) w.new.served.items result }
+        (spot pass.old (C.readings w.old.clock) (D.doorway w.old.door))
+        (spot pass.new (C.readings w.new.clock) (D.doorway w.new.door))
+        w.new.served.items result }
     ensures pass { IsIdle (site_of desk.now) pass.new × (pass.new.number ≡ pass.old.number) }
 {
     let mut calls = 0;
     while w.served.len() < MAX_LINKS {
-        if w.served.reserve(1).is_err() {
+        if make_room(&mut w.door, &mut w.served).is_err() {
             return WorkEnd::Memory;
         }
         if let Some(end) = serve_next(rt, alloc, desk, policy, pass, w, &mut calls) {
@@ -121,7 +121,7 @@ fn work_on<M: Machine, R: Wait, D: Door, C: Clock, G: Gate>(
 
 /// Serves the links of the worker's door one after the other, numbered from 1, until the door has
 /// none left or fails, 100,000 were served, the pass is worn, or there is no memory for a further
-/// link.
+/// link. Then the door is closed.
 pub fn work<M: Machine, R: Wait, D: Door, C: Clock, G: Gate>(
     rt: &R,
     alloc: Global,
@@ -135,8 +135,9 @@ pub fn work<M: Machine, R: Wait, D: Door, C: Clock, G: Gate>(
     requires replies { RepliesCanBeTold policy.now (M.legal desk.now.root) }
     requires fresh { (w.old.outcome ≡ WorkEnd.Fresh) × (w.old.served.items ≡ []) }
     ensures { HasWorked D.L.traffic (service_at M.list M.legal M.now_of desk.now policy.now)
-        (site_of desk.now) (post_view C.readings D.links D.faults pass.old w.old)
-        (post_view C.readings D.links D.faults pass.new w.new) }
+        (site_of desk.now) (post_view C.readings D.doorway pass.old w.old)
+        (post_view C.readings D.doorway pass.new w.new) }
 {
     w.outcome = work_on(rt, alloc, desk, policy, pass, w);
+    w.door.close();
 }

@@ -1,5 +1,5 @@
 -- A turn at the lock, from its draw to its end.
-use Rattle.std.proofs.Common.{◌≡◌, ◌⊎◌, ℕ, ◌+◌, ◌^◌, ◌<◌, ◌≤◌, List, [], ◌∷◌, ◌++◌, length, drop, None, Some, sym, ap, subst, ◌∙◌, arith, append_assoc, append-nil, Option, inl, inr}
+use Rattle.std.proofs.Common.{◌≡◌, ◌⊎◌, ℕ, ◌+◌, ◌^◌, ◌<◌, ◌≤◌, List, [], ◌∷◌, ◌++◌, length, drop, false, None, Some, sym, ap, subst, ◌∙◌, arith, append_assoc, append-nil, Option, inl, inr}
 use mathlib.Core.List.{IsPrefix}
 use Rattle.gt_base.specs.declared.requests.Entry.{Entry}
 use Rattle.gt_base.specs.declared.limits.TheConstants.{MAX_STEPS}
@@ -26,13 +26,13 @@ prefix_grown seen known front e begins grown =
 
 module _ {M : Type 0} where
   -- what the turn left of the pass
-  pub drawn_site : (a b : Holder M) (known : List Entry) → b ≡ record a { draws = a.draws + 1; turn = Some known } → b.site ≡ a.site
+  pub drawn_site : (a b : Holder M) (known : List Entry) → b ≡ record a { draws = a.draws + 1; turn = Some known; keeps = false } → b.site ≡ a.site
   drawn_site a b known drawn = ap (λ (p : Holder M). p.site) drawn
 
-  pub drawn_number : (a b : Holder M) (known : List Entry) → b ≡ record a { draws = a.draws + 1; turn = Some known } → b.number ≡ a.number
+  pub drawn_number : (a b : Holder M) (known : List Entry) → b ≡ record a { draws = a.draws + 1; turn = Some known; keeps = false } → b.number ≡ a.number
   drawn_number a b known drawn = ap (λ (p : Holder M). p.number) drawn
 
-  pub drawn_turn : (a b : Holder M) (known : List Entry) → b ≡ record a { draws = a.draws + 1; turn = Some known } → b.turn ≡ Some known
+  pub drawn_turn : (a b : Holder M) (known : List Entry) → b ≡ record a { draws = a.draws + 1; turn = Some known; keeps = false } → b.turn ≡ Some known
   drawn_turn a b known drawn = ap (λ (p : Holder M). p.turn) drawn
 
   -- what the step left of the pass
@@ -43,12 +43,12 @@ module _ {M : Type 0} where
   stepped_turn b c front e stepped = ap (λ (p : Holder M). p.turn) stepped
 
   -- the pass with the turn drawn, and left again
-  left_is : (a b d : Holder M) (known : List Entry) → b ≡ record a { draws = a.draws + 1; turn = Some known } → d ≡ record b { seen = known; turn = None }
-      → d ≡ record a { draws = a.draws + 1; seen = known; turn = None }
-  left_is a b d known drawn left = left ∙ ap (λ (p : Holder M). record p { seen = known; turn = None }) drawn
+  left_is : (a b d : Holder M) (known : List Entry) → b ≡ record a { draws = a.draws + 1; turn = Some known; keeps = false } → d ≡ record b { seen = known; turn = None; keeps = d.keeps }
+      → d ≡ record a { draws = a.draws + 1; seen = known; turn = None; keeps = d.keeps }
+  left_is a b d known drawn left = left ∙ ap (λ (p : Holder M). record p { seen = known; turn = None; keeps = d.keeps }) drawn
 
-  pub idle : (first : List Entry) (a b d : Holder M) (known : List Entry) → a.turn ≡ None → a.draws < 2 ^ 40 → b ≡ record a { draws = a.draws + 1; turn = Some known } → IsPrefix a.seen known
-      → d ≡ record b { seen = known; turn = None } → IsPrefix first known → d.own ≡ part d.number (drop (length first) known) → Lands first a d known []
+  pub idle : (first : List Entry) (a b d : Holder M) (known : List Entry) → a.turn ≡ None → a.draws < 2 ^ 40 → b ≡ record a { draws = a.draws + 1; turn = Some known; keeps = false } → IsPrefix a.seen known
+      → d ≡ record b { seen = known; turn = None; keeps = d.keeps } → IsPrefix first known → d.own ≡ part d.number (drop (length first) known) → Lands first a d known []
   idle first a b d known free room drawn seen left first_is own =
       let whole = left_is a b d known drawn left in
       let draws = ap (λ (p : Holder M). p.draws) whole in
@@ -57,30 +57,30 @@ module _ {M : Type 0} where
         seen = seen;
         first_is = first_is;
         part_is = ap (λ (n : ℕ). part n (drop (length first) known)) (sym number) ∙ sym own ∙ ap (λ (p : Holder M). p.own) whole ∙ sym (append-nil a.own);
-        after_is = whole ∙ ap (λ (n : ℕ). record a { draws = n; seen = known; turn = None }) (sym draws)
-            ∙ ap (λ (t : Option (List Entry)). record a { draws = d.draws; seen = known; turn = t }) (sym free)
-            ∙ ap (λ (own : List Entry). record a { draws = d.draws; seen = known; own = own }) (sym (append-nil a.own));
+        after_is = whole ∙ ap (λ (n : ℕ). record a { draws = n; seen = known; turn = None; keeps = d.keeps }) (sym draws)
+            ∙ ap (λ (t : Option (List Entry)). record a { draws = d.draws; seen = known; turn = t; keeps = d.keeps }) (sym free)
+            ∙ ap (λ (own : List Entry). record a { draws = d.draws; seen = known; own = own; keeps = d.keeps }) (sym (append-nil a.own));
         draws = (room, draws);
       }
 
-  pub landed : (first : List Entry) (a b c d : Holder M) (known front : List Entry) (e : Entry) → a.turn ≡ None → a.draws < 2 ^ 40 → b ≡ record a { draws = a.draws + 1; turn = Some known } → IsPrefix a.seen front
-      → c ≡ record b { seen = front; own = b.own ++ e ∷ []; turn = Some front } → d ≡ record c { seen = front; turn = None } → IsPrefix first front → d.own ≡ part d.number (drop (length first) front) → Lands first a d front (e ∷ [])
+  pub landed : (first : List Entry) (a b c d : Holder M) (known front : List Entry) (e : Entry) → a.turn ≡ None → a.draws < 2 ^ 40 → b ≡ record a { draws = a.draws + 1; turn = Some known; keeps = false } → IsPrefix a.seen front
+      → c ≡ record b { seen = front; own = b.own ++ e ∷ []; turn = Some front } → d ≡ record c { seen = front; turn = None; keeps = d.keeps } → IsPrefix first front → d.own ≡ part d.number (drop (length first) front) → Lands first a d front (e ∷ [])
   landed first a b c d known front e free room drawn seen stepped left first_is own =
-      let whole : d ≡ record a { draws = a.draws + 1; seen = front; own = a.own ++ e ∷ []; turn = None } = left ∙ ap (λ (p : Holder M). record p { seen = front; turn = None }) stepped
-      ∙ ap (λ (p : Holder M). record p { seen = front; own = p.own ++ e ∷ []; turn = None }) drawn in
+      let whole : d ≡ record a { draws = a.draws + 1; seen = front; own = a.own ++ e ∷ []; turn = None; keeps = d.keeps } = left ∙ ap (λ (p : Holder M). record p { seen = front; turn = None; keeps = d.keeps }) stepped
+      ∙ ap (λ (p : Holder M). record p { seen = front; own = p.own ++ e ∷ []; turn = None; keeps = d.keeps }) drawn in
       let draws = ap (λ (p : Holder M). p.draws) whole in
       let number = ap (λ (p : Holder M). p.number) whole in
       record {
         seen = seen;
         first_is = first_is;
         part_is = ap (λ (n : ℕ). part n (drop (length first) front)) (sym number) ∙ sym own ∙ ap (λ (p : Holder M). p.own) whole;
-        after_is = whole ∙ ap (λ (n : ℕ). record a { draws = n; seen = front; own = a.own ++ e ∷ []; turn = None }) (sym draws)
-            ∙ ap (λ (t : Option (List Entry)). record a { draws = d.draws; seen = front; own = a.own ++ e ∷ []; turn = t }) (sym free);
+        after_is = whole ∙ ap (λ (n : ℕ). record a { draws = n; seen = front; own = a.own ++ e ∷ []; turn = None; keeps = d.keeps }) (sym draws)
+            ∙ ap (λ (t : Option (List Entry)). record a { draws = d.draws; seen = front; own = a.own ++ e ∷ []; turn = t; keeps = d.keeps }) (sym free);
         draws = (room, draws);
       }
 
-  pub refused : (a b d : Holder M) (known : List Entry) → a.turn ≡ None → b ≡ record a { draws = a.draws + 1; turn = Some known } → IsPrefix a.seen known → length known ≤ MAX_STEPS
-      → d ≡ record b { seen = known; turn = None } → Refuses a d
+  pub refused : (a b d : Holder M) (known : List Entry) → a.turn ≡ None → b ≡ record a { draws = a.draws + 1; turn = Some known; keeps = false } → IsPrefix a.seen known → length known ≤ MAX_STEPS
+      → d ≡ record b { seen = known; turn = None; keeps = d.keeps } → Refuses a d
   refused a b d known free drawn seen short left =
       let whole = left_is a b d known drawn left in
       let draws = ap (λ (p : Holder M). p.draws) whole in
@@ -88,8 +88,8 @@ module _ {M : Type 0} where
       record {
         seen = subst (IsPrefix a.seen) (sym seen_is) seen;
         long = inr (subst (λ (l : List Entry). length l ≤ MAX_STEPS) (sym seen_is) short);
-        after_is = whole ∙ ap (λ (n : ℕ). record a { draws = n; seen = known; turn = None }) (sym draws)
-            ∙ ap (λ (l : List Entry). record a { draws = d.draws; seen = l; turn = None }) (sym seen_is)
-            ∙ ap (λ (t : Option (List Entry)). record a { draws = d.draws; seen = d.seen; turn = t }) (sym free);
+        after_is = whole ∙ ap (λ (n : ℕ). record a { draws = n; seen = known; turn = None; keeps = d.keeps }) (sym draws)
+            ∙ ap (λ (l : List Entry). record a { draws = d.draws; seen = l; turn = None; keeps = d.keeps }) (sym seen_is)
+            ∙ ap (λ (t : Option (List Entry)). record a { draws = d.draws; seen = d.seen; turn = t; keeps = d.keeps }) (sym free);
         draws = (omega (arith, draws), omega (arith, draws));
       }

@@ -5,7 +5,7 @@ ghost use Rattle.gt_base.specs.Machines.{ticked, asked};
 ghost use Rattle.gt_base.specs.declared.requests.Entry.{Entry};
 ghost use Rattle.gt_base.specs.declared.limits.TheConstants.{MAX_STEPS};
 ghost use Rattle.turn_lock.specs.Turns.{Each, part};
-ghost use Rattle.turn_lock.specs.Holders.{site_of, newcomers, AreIdle, HasNumber, IsToldBy};
+ghost use Rattle.turn_lock.specs.Holders.{site_of, rested, newcomers, AreIdle, HasNumber, IsToldBy};
 ghost use Rattle.locked_history.specs.Fronts.{by, Lands, Refuses};
 
 use crate::faults::DeskFault;
@@ -165,7 +165,7 @@ impl<M: Machine> Desk<M> {
     /// now on. A pass that stays is to rest before its thread waits for anything but the desk.
     pub fn rest(&self, pass: &mut Pass<M>)
         requires pass { (pass.old.site ≡ site_of self.now) × (pass.old.turn ≡ None) }
-        ensures { pass.new ≡ pass.old }
+        ensures { pass.new ≡ rested pass.old }
     {
         self.lock.rest(pass);
     }

@@ -2,6 +2,7 @@ use super::*;
 use gt_base::{List, Memory};
 use gt_io::MemEvent;
 use std::alloc::Global;
+use std::io::Write;
 use std::sync::Wait;
 use std::test::Fail;
 
@@ -64,6 +65,50 @@ fn a_failed_next_ends_the_run(rt: HostRuntime) -> Result<(), Fail> {
     assert_eq!(rt;
         text.as_slice(),
         b"born 2026-01-05T10:00\nstatus 10\n".as_slice()
+    );
+    Ok(())
+}
+
+/// Plays three links, each over before the next one comes. bench/fail_alloc_poll.py refuses the
+/// allocations of this test one at a time, and reads what it writes.
+#[test]
+fn each_link_begins_as_nobody(rt: HostRuntime) -> Result<(), Fail> {
+    let asks = Wire {
+        sends: b"as u\nopen\n",
+        marks: &[10],
+        ends: true,
+        ..SMOOTH
+    };
+    let wires = [
+        asks,
+        Wire {
+            sends: b"now\n",
+            marks: &[4],
+            ..asks
+        },
+        asks,
+    ];
+    let events = [
+        MemEvent::Open,
+        MemEvent::Ready(1),
+        MemEvent::Ready(1),
+        MemEvent::Open,
+        MemEvent::Ready(2),
+        MemEvent::Ready(2),
+        MemEvent::Open,
+        MemEvent::Ready(3),
+        MemEvent::Ready(3),
+    ];
+    let poll = Poll {
+        wires: &wires,
+        events: &events,
+        ..TWO
+    };
+    let text = play(&rt, rt.alloc(), &poll)?;
+    rt.stdout().write_all(text.as_slice())?;
+    assert_eq!(rt;
+        text.as_slice(),
+        b"ok\nsession 1\n| ended\nrefused no-user\n| ended\nok\nsession 2\n| ended\nborn 2026-01-05T10:00\ntick 0.1 to 2026-01-05T10:05 bound 2026-01-05T10:05\nask 0.1 u open = session 1\nask 0.2 - now = refused no-user\nask 0.3 u open = session 2\nstatus 0\n".as_slice()
     );
     Ok(())
 }

@@ -1,5 +1,5 @@
 -- A run to its end.
-use Rattle.std.proofs.Common.{◌≡◌, ◌⊎◌, ℕ, ◌+◌, ◌-◌, ◌≤◌, false, List, length, slice_get, sym, ap, subst, ◌∙◌, arith, ⊎_elim, Option, Some}
+use Rattle.std.proofs.Common.{◌≡◌, ℕ, ◌+◌, ◌-◌, ◌≤◌, false, List, length, slice_get, refl, sym, ap, subst, ◌∙◌, arith, ⊎_elim, inl, Option, Some}
 use Rattle.std.proofs.lemmas.Option.{slice_get_cases, slice_get_within}
 use Rattle.gt_base.specs.declared.requests.Entry.{Entry}
 use Rattle.gt_io.specs.Ports.{Port, Harbour}
@@ -14,11 +14,11 @@ use Rattle.poll_front.specs.declared.ends.PollEnd.{PollEnd}
 use Rattle.poll_front.specs.declared.ends.PollEnd.TheVariants.{Ended, ReadFault, WriteFault, Spent, Full, Stopped, Worn}
 use Rattle.poll_front.specs.declared.parties.Pace.{Pace}
 use Rattle.poll_front.specs.declared.seats.Seat.{Seat}
-use Rattle.poll_front.specs.declared.seats.Seat.TheVariants.{Open, Over}
+use Rattle.poll_front.specs.declared.seats.Seat.TheVariants.{New, Open, Over}
 use Rattle.poll_front.specs.Fronts.{Turn, acted_of, faults_by, faults_of, ended_by, ended_of, EndsLink, HasOwnEnd}
 use Rattle.poll_front.specs.Tables.{Sits, IsLetIn, IsLetGo, EndsSeatAt, LetsGo, Went, Ran, MayGoOn, GoesTo, RunsTo, IsUnwornSeat, AreUnwornSeats, AreUnwornEnds, FaultsAreLast, EndsAreLast, count_among, faults_told, is_worn_end, first_spot}
 use Rattle.poll_front.proofs.Counting.{shown_same}
-use Rattle.poll_front.proofs.Seating.{ends_stopped}
+use Rattle.poll_front.proofs.Seating.{ends_blank, ends_stopped}
 
 let_go_by : (nexts : ℕ) (q : Port) (end : PollEnd) → HasOwnEnd end → (n : ℕ) × (q.finished ≡ Some n) → IsLetGo nexts q end
 let_go_by nexts q Ended own f = f
@@ -33,6 +33,11 @@ abbrev Has : NamedPolicy → Port → Port → ℕ → List Acted → Polled →
 Has np start q nexts acted e = EndsLink np start q e.asked e.denied acted e.outcome × IsLetIn q e.outcome × IsLetGo nexts q e.outcome
 
 link_ended : (np : NamedPolicy) (start q q' : Port) (nexts : ℕ) (acted : List Acted) (s : Seat) (e : Polled) → Sits np start q acted s → EndsSeatAt q q' nexts s e → Has np start q' nexts acted e
+link_ended np start q q' nexts acted New e x at =
+    let few = x.4 in
+    let r : Port = record q { owed = false; finished = Some nexts } in
+    subst (λ (z : Polled). Has np start q' nexts acted z) (sym at.0) (subst (λ (z : Port). Has np start z nexts acted (record { asked = 0; denied = 0; outcome = Stopped })) (sym at.1)
+    (subst (λ (l : List Acted). EndsLink np start r 0 0 l Stopped) (sym x.0) (ends_blank np start r Stopped (record { left = x.1.left; taken = x.1.taken; given = x.1.given }) (inl (refl, tt, refl)) x.2), few, refl))
 link_ended np start q q' nexts acted (Open b) e x at =
     let few = x.2 in
     let others = ap (λ (r : Port). r.others) at.1 in
@@ -43,10 +48,12 @@ link_ended np start q q' nexts acted (Over polled) e x at =
     (subst (λ (r : Port). Has np start r nexts acted polled) (sym at.1) (x.0, x.2, let_go_by nexts q polled.outcome x.3 x.1))
 
 calm_end : (q q' : Port) (nexts : ℕ) (s : Seat) (e : Polled) → IsUnwornSeat s → EndsSeatAt q q' nexts s e → is_worn_end e.outcome ≡ false
+calm_end q q' nexts New e u at = ap (λ (z : Polled). is_worn_end z.outcome) at.0
 calm_end q q' nexts (Open b) e u at = ap (λ (z : Polled). is_worn_end z.outcome) at.0
 calm_end q q' nexts (Over polled) e u at = ap (λ (z : Polled). is_worn_end z.outcome) at.0 ∙ u
 
 same_last : (q q' : Port) (nexts : ℕ) (s : Seat) (e : Polled) → EndsSeatAt q q' nexts s e → q'.last ≡ q.last
+same_last q q' nexts New e at = ap (λ (r : Port). r.last) at.1
 same_last q q' nexts (Open b) e at = ap (λ (r : Port). r.last) at.1
 same_last q q' nexts (Over polled) e at = ap (λ (r : Port). r.last) at.1
 

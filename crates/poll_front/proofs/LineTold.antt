@@ -96,7 +96,7 @@ long_heard {M} np first legal now number c p talk line named long =
     let k : ClerkView M = clerk_view p.pass p.clock in
     let heard : Talk = record talk { calls = p.pace.calls } in
     let a = acts_bad np (ClerkAsks v (by number c)) (WearsClerk k) line heard k Long (long_read np Nobody false line long) named in
-    let x = hears_acts v (by number c) k k talk heard heard (counted_talk heard a.acted.answer) p.pace p.pace line (Bad Long) refl a refl refl in
+    let x = hears_acts v (by number c) p.pass p.pass p.clock p.clock talk heard heard (counted_talk heard a.acted.answer) p.pace p.pace line (Bad Long) refl a refl refl in
     let no_ask = ap (λ (y : Answer). one_where (is_replied y)) x.told_is in
     let no_denial = ap (λ (y : Answer). one_where (is_denied y)) x.told_is in
     record {

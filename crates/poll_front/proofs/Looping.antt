@@ -1,10 +1,10 @@
 -- One event after another.
-use Rattle.std.proofs.Common.{◌≡◌, ◌≢◌, ◌⊎◌, ℕ, ◌+◌, ◌-◌, ◌^◌, ◌<◌, ◌≤◌, Bool, true, false, List, [], ◌∷◌, ◌++◌, length, set, slice_get, refl, sym, ap, subst, ◌∙◌, arith, length-append, ⊎_elim, Option, Some, None, Result, Ok, Err, OnOk, is_err, MatchOption}
-use Rattle.std.proofs.lemmas.List.{length-set, get_or-set_same}
+use Rattle.std.proofs.Common.{◌≡◌, ◌≢◌, ℕ, ◌+◌, ◌-◌, ◌^◌, ◌<◌, ◌≤◌, Bool, true, false, List, [], ◌∷◌, ◌++◌, length, set, get_or, slice_get, refl, sym, ap, subst, ◌∙◌, arith, length-append, ⊎_elim, Option, Some, None, Result, Ok, Err, MatchOption}
+use Rattle.std.proofs.lemmas.List.{length-set, get_or-set_same, set-get_or}
 use Rattle.std.proofs.lemmas.Option.{slice_get-get_or}
 use Rattle.std.specs.Prelude.{if◌then◌else◌}
 use mathlib.Core.Logic.{dite}
-use native.Mathlib.Decide.{ℕ_discrete}
+use native.Mathlib.Decide.{ℕ_discrete, dec_lt}
 use Rattle.gt_base.specs.declared.requests.Entry.{Entry}
 use Rattle.gt_io.specs.declared.port.PortEvent.TheVariants.{Opened, Ready, Stop}
 use Rattle.gt_io.specs.declared.port.PortEvent.{PortEvent}
@@ -15,12 +15,14 @@ use Rattle.poll_front.specs.declared.ends.Polled.{Polled}
 use Rattle.poll_front.specs.declared.ends.PollEnd.{PollEnd}
 use Rattle.poll_front.specs.declared.ends.PollEnd.TheVariants.{Ended, ReadFault, WriteFault, Spent, Full, Stopped, Worn}
 use Rattle.poll_front.specs.declared.seats.Seat.{Seat}
-use Rattle.poll_front.specs.declared.seats.Seat.TheVariants.{Open, Over}
+use Rattle.poll_front.specs.declared.seats.Seat.TheVariants.{New, Over}
 use Rattle.poll_front.specs.Fronts.{Turn, FrontSpot, acted_of}
-use Rattle.poll_front.specs.Tables.{IsBlank, Sits, IsFreshSeat, SameBytes, SeatGone, SeatServed, Tabled, IsUnwornSeat, AreUnwornSeats, MayGoOn, faults_told, is_worn_end}
+use Rattle.poll_front.specs.Tables.{CanServe, TakesParty, IsBlank, Sits, SeatGone, SeatServed, Tabled, IsUnwornSeat, AreUnwornSeats, MayGoOn, faults_told, is_worn_end}
 use Rattle.poll_front.proofs.Counting.{count_less}
-use Rattle.poll_front.proofs.Seating.{sits_first, ends_full}
+use Rattle.poll_front.proofs.Seating.{ends_blank}
 use Rattle.poll_front.proofs.ListSteps.{set_cases, push_cases}
+use Rattle.poll_front.proofs.SeatSteps.{served_from}
+use Rattle.poll_front.proofs.Serving.{can_serve, pace_few}
 use Rattle.poll_front.proofs.Tabling.{tabled_owed, tabled_served, tabled_seated, ready_owed, ready_away, opened_away, opened_here}
 use Rattle.poll_front.specs.declared.front.TheConstants.{MAX_OPEN}
 
@@ -31,30 +33,42 @@ unworn_push seats s all one = λ i z at. ⊎_elim (λ here. subst IsUnwornSeat (
 unworn_set : (seats : List Seat) (i : ℕ) (s : Seat) → i < length seats → AreUnwornSeats seats → IsUnwornSeat s → AreUnwornSeats (set seats i s)
 unworn_set seats i s low all one = λ j z at. ⊎_elim (λ here. subst IsUnwornSeat (sym here.1) one) (λ away. all j z away.1) (set_cases seats i j s z low at)
 
-fresh_unworn : (s : Seat) → IsFreshSeat s → IsUnwornSeat s
-fresh_unworn (Open b) f = tt
-fresh_unworn (Over e) f = absurd f
-
-fresh_sits : (np : NamedPolicy) (start p : Port) (others : ℕ) (s : Seat) → IsFreshSeat s → SameBytes start p → others < MAX_OPEN → Sits np start (newly others p) [] s
-fresh_sits np start p others (Open b) f same few = (sits_first np start p others b.value f same few, refl, few)
-fresh_sits np start p others (Over e) f same few = absurd f
-
 false_true : false ≡ true → ⊥
 false_true e = absurd cc
 
-pub over_unworn : (s : Seat) (e : Polled) (end : PollEnd) → s ≡ Over e → e.outcome ≡ end → is_worn_end end ≡ false → IsUnwornSeat s
-over_unworn s e end is ends calm = subst IsUnwornSeat (sym is) (ap is_worn_end ends ∙ calm)
+-- where a run may go on, no fault was told
+told_sound : (o : Option (Result PortEvent Failed)) → MayGoOn o → faults_told o ≡ 0
+told_sound None m = refl
+told_sound (Some (Ok (Opened c))) m = refl
+told_sound (Some (Ok (Ready c))) m = refl
+told_sound (Some (Ok Stop)) m = absurd m
+told_sound (Some (Err f)) m = absurd m
 
-module _ {M : Type 0} (np : NamedPolicy) (first : List Entry) (legal : List Entry → Type 0) (now : List Entry → ℕ) (number : ℕ) (o p : FrontSpot M) (start a b : Harbour) (seats : List Seat) (busy : ℕ) (turns : List Turn)
-    (x : Tabled np first legal now number o p start a seats busy turns) (unowed_all : NoneOwed a) (unworn_all : AreUnwornSeats seats) (sound : faults_told a.told ≡ 0) where
-  -- the table behind the opening of a link
-  pub record Seated (d : Harbour) (seats' : List Seat) (busy' : ℕ) : Type 0 where
-    pub tabled : Tabled np first legal now number o p start d seats' busy' turns
-    pub unworn : AreUnwornSeats seats'
-    pub unowed : NoneOwed d
-    pub low : busy' ≤ 1024
-    pub long : length seats' ≡ length seats + 1
-    pub told : d.told ≡ b.told
+same_owed : (p q : Port) → q ≡ p → q ≡ record p { owed = q.owed }
+same_owed p q is = is ∙ ap (λ (o : Bool). record p { owed = o }) (sym (ap (λ (r : Port). r.owed) is))
+
+worn_of : (end : PollEnd) → is_worn_end end ≡ true → (n : ℕ) × (end ≡ Worn n)
+worn_of (Worn n) e = (n, refl)
+worn_of Ended e = absurd (false_true e)
+worn_of ReadFault e = absurd (false_true e)
+worn_of WriteFault e = absurd (false_true e)
+worn_of Spent e = absurd (false_true e)
+worn_of Full e = absurd (false_true e)
+worn_of Stopped e = absurd (false_true e)
+
+over_at : (seats : List Seat) (i : ℕ) (s : Seat) (e : Polled) → i < length seats → s ≡ Over e → slice_get (set seats i s) i ≡ Some (Over e)
+over_at seats i s e low is =
+    let long = length-set seats i s in
+    slice_get-get_or (set seats i s) i s (omega (arith, low, long)) ∙ ap Some (get_or-set_same seats i s s low ∙ is)
+
+module _ {M : Type 0} {np : NamedPolicy} {first : List Entry} {legal : List Entry → Type 0} {now : List Entry → ℕ} {number : ℕ} {o p : FrontSpot M} {start a : Harbour} {seats : List Seat} {busy : ℕ} {turns : List Turn}
+    (x : Tabled np first legal now number o p start a seats busy turns) (unowed_all : NoneOwed a) (unworn_all : AreUnwornSeats seats) (may : MayGoOn a.told) where
+  sound : faults_told a.told ≡ 0
+  sound = told_sound a.told may
+
+  -- the table behind an event that opens no link and makes none ready
+  pub tabled_told : {b : Harbour} {result : Result PortEvent Failed} → Happens a b result → b.opened ≡ a.opened → b.faults ≤ a.faults + faults_told b.told → ((k : ℕ) → b.port k ≡ a.port k) → Tabled np first legal now number o p start b seats busy turns
+  tabled_told {b} h opened few same = tabled_owed np first legal now number o p start a b seats busy turns x opened h.cause.later sound few h.ends (λ k. same_owed (a.port k) (b.port k) (same k))
 
   unowed_next : (d : Harbour) (c : ℕ) → c ≡ a.opened + 1 → d.opened ≡ a.opened + 1 → (d.port c).owed ≡ false → ((k : ℕ) → k ≢ c → d.port k ≡ a.port k) → NoneOwed d
   unowed_next d c is opened here away = λ k q.
@@ -64,14 +78,26 @@ module _ {M : Type 0} (np : NamedPolicy) (first : List Entry) (legal : List Entr
       let first_one = q.first in
       ap (λ (r : Port). r.owed) e ∙ unowed_all k (record { first = first_one; last = omega (arith, last, opened, is, other); unfinished = sym (ap (λ (r : Port). r.finished) e) ∙ q.unfinished }))
 
-  module _ (c : ℕ) (is : c ≡ a.opened + 1) (h : Happens a b (Ok (Opened c))) where
+  -- the table behind the opening of a link
+  module _ {b : Harbour} (c : ℕ) (h : Happens a b (Ok (Opened c))) where
+    pub record Seated (d : Harbour) (seats' : List Seat) (busy' : ℕ) : Type 0 where
+      pub tabled : Tabled np first legal now number o p start d seats' busy' turns
+      pub unworn : AreUnwornSeats seats'
+      pub unowed : NoneOwed d
+      pub low : busy' ≤ 1024
+      pub long : length seats' ≡ length seats + 1
+      pub told : d.told ≡ b.told
+
+    is : c ≡ a.opened + 1
+    is = h.number c refl
+
     here_is : b.port (a.opened + 1) ≡ newly (open_among a.port a.opened) (a.port (a.opened + 1))
     here_is = subst (λ (j : ℕ). b.port j ≡ newly (open_among a.port a.opened) (a.port j)) is (opened_here a b c h)
 
     blank_is : IsBlank (a.port (a.opened + 1))
     blank_is = subst (λ (j : ℕ). IsBlank (a.port j)) is (h.fresh c refl)
 
-    pub opened_full : (d : Harbour) (seats' : List Seat) (busy' : ℕ) → MAX_OPEN ≤ busy → busy ≤ 1024 → Finishes b d c → busy' ≡ busy → seats' ≡ seats ++ Over (record { asked = 0; denied = 0; outcome = Full }) ∷ []
+    opened_full : (d : Harbour) (seats' : List Seat) (busy' : ℕ) → MAX_OPEN ≤ busy → busy ≤ 1024 → Finishes b d c → busy' ≡ busy → seats' ≡ seats ++ Over (record { asked = 0; denied = 0; outcome = Full }) ∷ []
         → Seated d seats' busy'
     opened_full d seats' busy' many low f busy_is seats_are =
         let s : Seat = Over (record { asked = 0; denied = 0; outcome = Full }) in
@@ -88,7 +114,7 @@ module _ {M : Type 0} (np : NamedPolicy) (first : List Entry) (legal : List Entr
         let none : (if is_none (d.port (a.opened + 1)).finished then 1 else 0) ≡ 0 = ap {B = ℕ} (λ (q : Port). if is_none q.finished then 1 else 0) port in
         let t : Tabled np first legal now number o p start d (seats ++ s ∷ []) busy' turns =
         tabled_seated np first legal now number o p start a d seats busy busy' turns s x opened (omega (arith, l1, l2)) sound (omega (arith, l2, l3)) (f.ends ∙ h.ends) blank_is (λ k other. away k (λ e. other (e ∙ is)))
-        (subst (λ (q : Port). Sits np (start.port (a.opened + 1)) q [] s) (sym port) (ends_full np (start.port (a.opened + 1)) (a.port (a.opened + 1)) n b.nexts same (omega (arith, many, count)), (b.nexts, refl), omega (arith, many, low, count), tt))
+        (subst (λ (q : Port). Sits np (start.port (a.opened + 1)) q [] s) (sym port) (ends_blank np (start.port (a.opened + 1)) (record (newly n (a.port (a.opened + 1))) { owed = false; finished = Some b.nexts }) Full (record { left = same.left; taken = same.taken; given = same.given }) (refl, refl, refl) (refl, omega (arith, many, count)), (b.nexts, refl), omega (arith, many, low, count), tt))
         (omega (arith, busy_is, count, none)) in
         record {
           tabled = subst (λ (l : List Seat). Tabled np first legal now number o p start d l busy' turns) (sym seats_are) t;
@@ -99,8 +125,9 @@ module _ {M : Type 0} (np : NamedPolicy) (first : List Entry) (legal : List Entr
           told = f.rest.told;
         }
 
-    pub opened_seated : (d : Harbour) (seats' : List Seat) (busy' : ℕ) (s : Seat) → busy < MAX_OPEN → d ≡ b → busy' ≡ busy + 1 → IsFreshSeat s → seats' ≡ seats ++ s ∷ [] → Seated d seats' busy'
-    opened_seated d seats' busy' s few d_is busy_is fresh seats_are =
+    opened_seated : (d : Harbour) (seats' : List Seat) (busy' : ℕ) → busy < MAX_OPEN → d ≡ b → busy' ≡ busy + 1 → seats' ≡ seats ++ New ∷ [] → Seated d seats' busy'
+    opened_seated d seats' busy' few d_is busy_is seats_are =
+        let s : Seat = New in
         let n = open_among a.port a.opened in
         let count = x.count in
         let same = x.ahead (a.opened + 1) (omega arith) in
@@ -109,11 +136,11 @@ module _ {M : Type 0} (np : NamedPolicy) (first : List Entry) (legal : List Entr
         let one : (if is_none (b.port (a.opened + 1)).finished then 1 else 0) ≡ 1 = ap {B = ℕ} (λ (q : Port). if is_none q.finished then 1 else 0) here_is in
         let t : Tabled np first legal now number o p start b (seats ++ s ∷ []) busy' turns =
         tabled_seated np first legal now number o p start a b seats busy busy' turns s x opened h.cause.later sound (let kept = h.cause.kept in omega (arith, kept)) h.ends blank_is (λ k other. away k (λ e. other (e ∙ is)))
-        (subst (λ (q : Port). Sits np (start.port (a.opened + 1)) q [] s) (sym here_is) (fresh_sits np (start.port (a.opened + 1)) (a.port (a.opened + 1)) n s fresh same (omega (arith, few, count))))
+        (subst (λ (q : Port). Sits np (start.port (a.opened + 1)) q [] s) (sym here_is) (refl, record { left = same.left; taken = same.taken; given = same.given }, refl, refl, omega (arith, few, count)))
         (omega (arith, busy_is, count, one)) in
         let r : Seated b seats' busy' = record {
           tabled = subst (λ (l : List Seat). Tabled np first legal now number o p start b l busy' turns) (sym seats_are) t;
-          unworn = subst AreUnwornSeats (sym seats_are) (unworn_push seats s unworn_all (fresh_unworn s fresh));
+          unworn = subst AreUnwornSeats (sym seats_are) (unworn_push seats s unworn_all tt);
           unowed = unowed_next b c is opened (ap (λ (q : Port). q.owed) (opened_here a b c h)) away;
           low = omega (arith, busy_is, few);
           long = ap (λ (l : List Seat). length l) seats_are ∙ length-append seats (s ∷ []);
@@ -121,15 +148,18 @@ module _ {M : Type 0} (np : NamedPolicy) (first : List Entry) (legal : List Entr
         } in
         subst (λ (z : Harbour). Seated z seats' busy') (sym d_is) r
 
+    pub opened_next : (d : Harbour) (seats' : List Seat) (busy' : ℕ) → busy ≤ 1024
+        → (MAX_OPEN ≤ busy → Finishes b d c × (busy' ≡ busy) × (seats' ≡ seats ++ Over (record { asked = 0; denied = 0; outcome = Full }) ∷ []))
+        → (busy < MAX_OPEN → (d ≡ b) × (busy' ≡ busy + 1) × (seats' ≡ seats ++ New ∷ [])) → Seated d seats' busy'
+    opened_next d seats' busy' low full seated =
+        dite (dec_lt busy 1024) (λ few. let q = seated few in opened_seated d seats' busy' few q.0 q.1 q.2) (λ many.
+        let high : MAX_OPEN ≤ busy = omega (arith, many) in
+        let q = full high in opened_full d seats' busy' high low q.0 q.1 q.2)
+
   -- the table behind the service of a link that was ready
-  module _ (c : ℕ) (h : Happens a b (Ok (Ready c))) where
+  module _ {b : Harbour} (c : ℕ) (h : Happens a b (Ok (Ready c))) where
     pub tabled_ready : Tabled np first legal now number o p start b seats busy turns
     tabled_ready = tabled_owed np first legal now number o p start a b seats busy turns x h.opened h.cause.later sound (let kept = h.cause.kept in omega (arith, kept)) h.ends (λ k. ready_owed a b c k h)
-
-    pub ready_sits : (seat : Seat) → 1 ≤ c → slice_get seats (c - 1) ≡ Some seat → Sits np (start.port c) (b.port c) (acted_of c turns) seat
-    ready_sits seat one at =
-        let e : c - 1 + 1 ≡ c = omega (arith, one) in
-        subst (λ (j : ℕ). Sits np (start.port j) (b.port j) (acted_of j turns) seat) e (tabled_ready.sits (c - 1) seat at)
 
     pub record Served (p' : FrontSpot M) (d : Harbour) (seat' : Seat) (busy' : ℕ) : Type 0 where
       pub turns' : List Turn
@@ -139,74 +169,77 @@ module _ {M : Type 0} (np : NamedPolicy) (first : List Entry) (legal : List Entr
       pub long : length (set seats (c - 1) seat') ≡ length seats
       pub told : d.told ≡ b.told
 
-    module _ (p' : FrontSpot M) (d : Harbour) (seat seat' : Seat) (result : Option PollEnd) (low : c - 1 < length seats) (one : 1 ≤ c) (at : slice_get seats (c - 1) ≡ Some seat) (v : SeatServed np first legal now number p p' b d c seat seat' result) where
+    module _ {seat : Seat} (value : seat ≡ get_or seats (c - 1) seat) where
+      first_one : 1 ≤ c
+      first_one = (h.known c refl).0
+
+      low : c - 1 < length seats
+      low = let one = first_one in let last = (h.known c refl).1 in let opened = x.opened in omega (arith, one, last, opened)
+
+      at : slice_get seats (c - 1) ≡ Some seat
+      at = slice_get-get_or seats (c - 1) seat low ∙ ap Some (sym value)
+
       back : c - 1 + 1 ≡ c
-      back = omega (arith, one)
+      back = let one = first_one in omega (arith, one)
 
-      gone_at : SeatServed np first legal now number p p' b d (c - 1 + 1) seat seat' result
-      gone_at = subst (λ (j : ℕ). SeatServed np first legal now number p p' b d j seat seat' result) (sym back) v
+      pub ready_served : (mid : Seat) → TakesParty seat mid → o.pace.calls ≡ 0 → length seats < 100_000 → CanServe np b c p.pace mid
+      ready_served mid taken none few =
+          let last = (h.known c refl).1 in
+          let opened = h.opened in
+          can_serve np (start.port c) b c p.pace (acted_of c turns) seat mid taken first_one (omega (arith, last, opened)) (subst (λ (j : ℕ). Sits np (start.port j) (b.port j) (acted_of j turns) seat) back (tabled_ready.sits (c - 1) seat at))
+          (pace_few x (omega (arith, few)) none)
 
-      gone : SeatGone np first legal now number o p' (start.port (c - 1 + 1)) (d.port (c - 1 + 1)) (c - 1 + 1) turns seat' result
-      gone = gone_at.served o (start.port (c - 1 + 1)) turns tabled_ready.running (tabled_ready.sits (c - 1) seat at) (unworn_all (c - 1) seat at)
+      pub kept_seats : (seat' : Seat) → seat' ≡ seat → set seats (c - 1) seat' ≡ seats
+      kept_seats seat' same = ap (set seats (c - 1)) (same ∙ value) ∙ set-get_or seats (c - 1) seat
 
-      pub served_next : (busy' : ℕ) → MatchOption result (busy' ≡ busy) (λ end. busy' + 1 ≡ busy) → Served p' d seat' busy'
-      served_next busy' count =
-          record {
-            turns' = gone.more ++ turns;
-            tabled = tabled_served np first legal now number o p p' start b d seats busy busy' (c - 1) turns seat seat' result tabled_ready at low gone_at.rest gone_at.later (gone_at.faults (start.port (c - 1 + 1)) (acted_of (c - 1 + 1) turns) (tabled_ready.sits (c - 1) seat at)) (gone_at.ends (start.port (c - 1 + 1)) (acted_of (c - 1 + 1) turns) (tabled_ready.sits (c - 1) seat at)) gone_at.ended count gone;
-            unworn = λ one_more. unworn_set seats (c - 1) seat' low unworn_all one_more;
-            unowed = λ k q.
-                let opened = v.rest.opened in
-                dite (ℕ_discrete k c) (λ same.
-                let e : k ≡ c - 1 + 1 = same ∙ sym back in
-                subst (λ (j : ℕ). (d.port j).owed ≡ false) (sym e) (gone.unowed (subst (λ (j : ℕ). (d.port j).finished ≡ None) e q.unfinished))) (λ other.
-                let e = v.rest.others k other ∙ ready_away a b c k h other in
-                let last = q.last in
-                let same = h.opened in
-                ap (λ (r : Port). r.owed) e ∙ unowed_all k (record { first = q.first; last = omega (arith, last, opened, same); unfinished = sym (ap (λ (r : Port). r.finished) e) ∙ q.unfinished }));
-            long = length-set seats (c - 1) seat';
-            told = v.rest.told;
-          }
+      module _ {p' : FrontSpot M} {d : Harbour} {mid seat' : Seat} {result : Option PollEnd} {number' : ℕ} (taken : TakesParty seat mid) (same : number' ≡ number) (v' : SeatServed np first legal now number' p p' b d c mid seat' result) where
+        v : SeatServed np first legal now number p p' b d c seat seat' result
+        v = served_from np first legal now number p p' b d c seat mid seat' result taken (subst (λ (j : ℕ). SeatServed np first legal now j p p' b d c mid seat' result) same v')
 
-      pub worn_draws : (n : ℕ) → result ≡ Some (Worn n) → p'.pass.draws ≡ 2 ^ 40
-      worn_draws n is = gone.worn_out n is
+        gone_at : SeatServed np first legal now number p p' b d (c - 1 + 1) seat seat' result
+        gone_at = subst (λ (j : ℕ). SeatServed np first legal now number p p' b d j seat seat' result) (sym back) v
 
-      pub still_unworn : result ≡ None → IsUnwornSeat seat'
-      still_unworn is = gone.unworn is
+        gone : SeatGone np first legal now number o p' (start.port (c - 1 + 1)) (d.port (c - 1 + 1)) (c - 1 + 1) turns seat' result
+        gone = gone_at.served o (start.port (c - 1 + 1)) turns tabled_ready.running (tabled_ready.sits (c - 1) seat at) (unworn_all (c - 1) seat at)
 
-      pub some_busy : (end : PollEnd) → result ≡ Some end → 1 ≤ busy
-      some_busy end is =
-          let e : MatchOption (Some end) ((d.port c).finished ≡ (b.port c).finished) (λ z. ((b.port c).finished ≡ None) × ((n : ℕ) × ((d.port c).finished ≡ Some n))) = subst (λ (r : Option PollEnd). MatchOption r ((d.port c).finished ≡ (b.port c).finished) (λ z. ((b.port c).finished ≡ None) × ((n : ℕ) × ((d.port c).finished ≡ Some n)))) is v.ended in
-          let opened = tabled_ready.opened in
-          let less = count_less b.port d.port c e.1.0 b.opened one (omega (arith, opened, low, one)) e.0 e.1.1 (λ k other. ap (λ (q : Port). q.finished) (v.rest.others k other)) in
-          let count = tabled_ready.count in
-          omega (arith, less, count)
+        pub served_next : (busy' : ℕ) → MatchOption result (busy' ≡ busy) (λ end. busy' + 1 ≡ busy) → Served p' d seat' busy'
+        served_next busy' count =
+            record {
+              turns' = gone.more ++ turns;
+              tabled = tabled_served np first legal now number o p p' start b d seats busy busy' (c - 1) turns seat seat' result tabled_ready at low gone_at.rest gone_at.later (gone_at.faults (start.port (c - 1 + 1)) (acted_of (c - 1 + 1) turns) (tabled_ready.sits (c - 1) seat at)) (gone_at.ends (start.port (c - 1 + 1)) (acted_of (c - 1 + 1) turns) (tabled_ready.sits (c - 1) seat at)) gone_at.ended count gone;
+              unworn = λ one_more. unworn_set seats (c - 1) seat' low unworn_all one_more;
+              unowed = λ k q.
+                  let opened = v.rest.opened in
+                  dite (ℕ_discrete k c) (λ same.
+                  let e : k ≡ c - 1 + 1 = same ∙ sym back in
+                  subst (λ (j : ℕ). (d.port j).owed ≡ false) (sym e) (gone.unowed (subst (λ (j : ℕ). (d.port j).finished ≡ None) e q.unfinished))) (λ other.
+                  let e = v.rest.others k other ∙ ready_away a b c k h other in
+                  let last = q.last in
+                  let same = h.opened in
+                  ap (λ (r : Port). r.owed) e ∙ unowed_all k (record { first = q.first; last = omega (arith, last, opened, same); unfinished = sym (ap (λ (r : Port). r.finished) e) ∙ q.unfinished }));
+              long = length-set seats (c - 1) seat';
+              told = v.rest.told;
+            }
 
--- where a run may go on, no fault was told
-pub told_sound : (o : Option (Result PortEvent Failed)) → MayGoOn o → faults_told o ≡ 0
-told_sound None m = refl
-told_sound (Some (Ok (Opened c))) m = refl
-told_sound (Some (Ok (Ready c))) m = refl
-told_sound (Some (Ok Stop)) m = absurd m
-told_sound (Some (Err f)) m = absurd m
+        pub worn_next : (end : PollEnd) → result ≡ Some end → is_worn_end end ≡ true
+            → (p'.pass.draws ≡ 2 ^ 40) × ((i : ℕ) × ((e : Polled) × (slice_get (set seats (c - 1) seat') i ≡ Some (Over e)) × (is_worn_end e.outcome ≡ true)))
+        worn_next end is worn =
+            let w = worn_of end worn in
+            let over = v.over end is in
+            (gone.worn_out w.0 (is ∙ ap Some w.1), (c - 1, (over.0, over_at seats (c - 1) seat' over.0 low over.1, ap is_worn_end over.2 ∙ worn)))
 
-pub worn_of : (end : PollEnd) → is_worn_end end ≡ true → (n : ℕ) × (end ≡ Worn n)
-worn_of (Worn n) e = (n, refl)
-worn_of Ended e = absurd (false_true e)
-worn_of ReadFault e = absurd (false_true e)
-worn_of WriteFault e = absurd (false_true e)
-worn_of Spent e = absurd (false_true e)
-worn_of Full e = absurd (false_true e)
-worn_of Stopped e = absurd (false_true e)
+        pub over_unworn : (end : PollEnd) → result ≡ Some end → is_worn_end end ≡ false → IsUnwornSeat seat'
+        over_unworn end is calm = let over = v.over end is in subst IsUnwornSeat (sym over.1) (ap is_worn_end over.2 ∙ calm)
 
-pub over_at : (seats : List Seat) (i : ℕ) (s : Seat) (e : Polled) → i < length seats → s ≡ Over e → slice_get (set seats i s) i ≡ Some (Over e)
-over_at seats i s e low is =
-    let long = length-set seats i s in
-    slice_get-get_or (set seats i s) i s (omega (arith, low, long)) ∙ ap Some (get_or-set_same seats i s s low ∙ is)
+        pub still_unworn : result ≡ None → IsUnwornSeat seat'
+        still_unworn is = gone.unworn is
 
-pub same_owed : (p q : Port) → q ≡ p → q ≡ record p { owed = q.owed }
-same_owed p q is = is ∙ ap (λ (o : Bool). record p { owed = o }) (sym (ap (λ (r : Port). r.owed) is))
-
-pub ok_by : {T E : Type 0} (r : Result T E) (P : Type 0) → is_err r ≡ false → OnOk r P → P
-ok_by (Ok x) P e p = p
-ok_by (Err x) P e p = absurd (false_true (sym e))
+        pub some_busy : (end : PollEnd) → result ≡ Some end → 1 ≤ busy
+        some_busy end is =
+            let e : MatchOption (Some end) ((d.port c).finished ≡ (b.port c).finished) (λ z. ((b.port c).finished ≡ None) × ((n : ℕ) × ((d.port c).finished ≡ Some n))) = subst (λ (r : Option PollEnd). MatchOption r ((d.port c).finished ≡ (b.port c).finished) (λ z. ((b.port c).finished ≡ None) × ((n : ℕ) × ((d.port c).finished ≡ Some n)))) is v.ended in
+            let opened = tabled_ready.opened in
+            let one = first_one in
+            let within = low in
+            let less = count_less b.port d.port c e.1.0 b.opened one (omega (arith, opened, within, one)) e.0 e.1.1 (λ k other. ap (λ (q : Port). q.finished) (v.rest.others k other)) in
+            let count = tabled_ready.count in
+            omega (arith, less, count)

@@ -1,5 +1,5 @@
 -- The service of a link in its seat.
-use Rattle.std.proofs.Common.{◌≡◌, ℕ, ◌+◌, ◌<◌, false, List, [], ◌++◌, refl, sym, ap, subst, ◌∙◌, arith, Option, Some, None, Result, Err}
+use Rattle.std.proofs.Common.{◌≡◌, ℕ, ◌<◌, false, List, [], ◌++◌, refl, sym, ap, subst, ◌∙◌, arith, Option, Some, None, Result, Err}
 use Rattle.gt_base.specs.declared.requests.Entry.{Entry}
 use Rattle.gt_io.specs.Ports.{Port, Harbour, IsOpen, Finishes}
 use Rattle.policy_words.specs.Naming.{NamedPolicy}
@@ -10,12 +10,22 @@ use Rattle.poll_front.specs.declared.ends.PollEnd.TheVariants.{Ended, ReadFault,
 use Rattle.poll_front.specs.declared.parties.Party.{Party}
 use Rattle.poll_front.specs.declared.parties.Pause.{Pause}
 use Rattle.poll_front.specs.declared.parties.Pause.TheVariants.{Later, End}
-use Rattle.poll_front.specs.declared.seats.Seat.TheVariants.{Open, Over}
+use Rattle.poll_front.specs.declared.seats.Seat.TheVariants.{New, Open, Over}
 use Rattle.std.specs.Global.{Box}
 use Rattle.poll_front.specs.Fronts.{FrontSpot, acted_of, EndsLink, PollsBy, Tends, StopsLast, Attends, faults_by, ended_by}
-use Rattle.poll_front.specs.Tables.{Sits, IsLetIn, SeatServed}
+use Rattle.poll_front.specs.Tables.{Sits, IsLetIn, CanServe, TakesParty, IsUnwornSeat, SeatServed}
+use Rattle.poll_front.specs.declared.parties.Pace.{Pace}
+use Rattle.poll_front.specs.declared.seats.Seat.{Seat}
+use Rattle.poll_front.proofs.Seating.{takes_sits}
 use Rattle.poll_front.proofs.Pushing.{rest_twice, tends_none, live_sound, live_open}
 use Rattle.poll_front.specs.declared.front.TheConstants.{MAX_OPEN}
+
+takes_calm : (s s' : Seat) → TakesParty s s' → IsUnwornSeat s → IsUnwornSeat s'
+takes_calm New (Open b) t x = tt
+takes_calm New New t x = tt
+takes_calm New (Over e) t x = absurd t
+takes_calm (Open b) s' t x = subst IsUnwornSeat (sym t) x
+takes_calm (Over e) s' t x = subst IsUnwornSeat (sym t) x
 
 done_polls : (q : Port) (n : ℕ) (taken : List ℕ) (end : PollEnd) → PollsBy q taken end → PollsBy (record q { owed = false; finished = Some n }) taken end
 done_polls q n taken Ended x = x
@@ -67,7 +77,7 @@ some_none x e = absurd cc
 
 module _ {M : Type 0} (np : NamedPolicy) (first : List Entry) (legal : List Entry → Type 0) (now : List Entry → ℕ) (number : ℕ) where
   -- the link had ended before
-  pub seat_over : (p : FrontSpot M) (a : Harbour) (c : ℕ) (e : Polled) → SeatServed np first legal now number p p a a c (Over e) (Over e) None
+  seat_over : (p : FrontSpot M) (a : Harbour) (c : ℕ) (e : Polled) → SeatServed np first legal now number p p a a c (Over e) (Over e) None
   seat_over p a c e =
       let t = tends_none a c in
       record {
@@ -88,6 +98,26 @@ module _ {M : Type 0} (np : NamedPolicy) (first : List Entry) (legal : List Entr
               unworn = λ same. u;
               unowed = λ unfinished. absurd (some_none (s.1.0) (sym s.1.1 ∙ unfinished));
             };
+      }
+
+  pub seat_none : (p : FrontSpot M) (a : Harbour) (c : ℕ) (pace : Pace) (seat : Seat) → CanServe np a c pace seat → ((b : Box Party) → seat ≡ Open b → ⊥) → SeatServed np first legal now number p p a a c seat seat None
+  seat_none p a c pace New can closed = absurd can
+  seat_none p a c pace (Open b) can closed = absurd (closed b refl)
+  seat_none p a c pace (Over e) can closed = seat_over p a c e
+
+  -- it got its party before
+  pub served_from : (p p' : FrontSpot M) (a b : Harbour) (c : ℕ) (seat mid seat' : Seat) (result : Option PollEnd) → TakesParty seat mid → SeatServed np first legal now number p p' a b c mid seat' result
+      → SeatServed np first legal now number p p' a b c seat seat' result
+  served_from p p' a b c seat mid seat' result t v =
+      record {
+        rest = v.rest;
+        others = v.others;
+        later = v.later;
+        faults = λ start acted s. v.faults start acted (takes_sits np start (a.port c) acted seat mid t s);
+        ends = λ start acted s. v.ends start acted (takes_sits np start (a.port c) acted seat mid t s);
+        ended = v.ended;
+        over = v.over;
+        served = λ o start turns r s u. v.served o start turns r (takes_sits np start (a.port c) (acted_of c turns) seat mid t s) (takes_calm seat mid t u);
       }
 
   -- there is nothing to do for it yet

@@ -1,8 +1,8 @@
 -- What stands in the place of a link, from its begin to its end.
-use Rattle.std.proofs.Common.{◌≡◌, ◌⊎◌, ℕ, ◌+◌, ◌<◌, ◌≤◌, Bool, false, List, [], ◌∷◌, ◌++◌, length, refl, sym, ap, subst, ◌∙◌, arith, length-append, ⊎_elim, inl, inr, Option, Some}
+use Rattle.std.proofs.Common.{◌≡◌, ℕ, ◌<◌, ◌≤◌, Bool, false, List, [], ◌∷◌, ◌++◌, length, refl, sym, ap, subst, ◌∙◌, arith, length-append, ⊎_elim, inl, inr, Option, Some}
 use Rattle.std.specs.Io.KnownBytes.{Appends, Consumes}
 use Rattle.std.proofs.KnownBytes.{Appends-nil, Consumes-nil}
-use Rattle.gt_io.specs.Ports.{Port, newly}
+use Rattle.gt_io.specs.Ports.{Port, is_over}
 use Rattle.turn_lock.specs.Turns.{Each}
 use Rattle.policy_words.specs.Naming.{NamedPolicy}
 use Rattle.gt_base.specs.declared.requests.Actor.{Actor}
@@ -15,12 +15,11 @@ use Rattle.poll_front.specs.declared.ends.PollEnd.{PollEnd}
 use Rattle.poll_front.specs.declared.ends.PollEnd.TheVariants.{Ended, ReadFault, WriteFault, Spent, Full, Stopped, Worn}
 use Rattle.poll_front.specs.declared.parties.Party.{Party}
 use Rattle.poll_front.specs.declared.seats.Seat.{Seat}
-use Rattle.poll_front.specs.declared.seats.Seat.TheVariants.{Open, Over}
-use Rattle.poll_front.specs.Fronts.{Turn, acted_of, waiting_bytes, PartyStands, Rests, EndsLink, PollsBy, given_text}
-use Rattle.poll_front.specs.Tables.{IsFreshParty, Sits, IsLetIn, SameBytes}
+use Rattle.poll_front.specs.declared.seats.Seat.TheVariants.{New, Open, Over}
+use Rattle.poll_front.specs.Fronts.{Turn, acted_of, waiting_bytes, PartyStands, Rests, EndsLink, IsPolled, PollsBy, given_text}
+use Rattle.poll_front.specs.Tables.{IsFreshParty, TakesParty, Sits, IsLetIn, SameBytes}
 use Rattle.poll_front.proofs.Standing.{waits_none, ends_whole, part_given}
 use Rattle.poll_front.proofs.Turning.{acted_apart}
-use Rattle.poll_front.specs.declared.front.TheConstants.{MAX_OPEN}
 
 -- a link whose number is behind those of all turns has no line
 pub acted_none : (c n : ℕ) (turns : List Turn) → Each (λ (t : Turn). (1 ≤ t.link) × (t.link ≤ n)) turns → n < c → acted_of c turns ≡ []
@@ -85,6 +84,8 @@ owed_ends np start q o asked denied acted end x =
     }
 
 owed_sits : (np : NamedPolicy) (start q : Port) (o : Bool) (acted : List Acted) (s : Seat) → Sits np start q acted s → Sits np start (record q { owed = o }) acted s
+owed_sits np start q o acted New x =
+    (x.0, record { left = x.1.left; taken = x.1.taken; given = x.1.given }, x.2, x.3, x.4)
 owed_sits np start q o acted (Open b) x =
     (record { fed = x.0.fed; stands = owed_stands np start q o b.value x.0.fed acted x.0.stands; waits = x.0.waits }, x.1, x.2)
 owed_sits np start q o acted (Over e) x =
@@ -93,10 +94,9 @@ owed_sits np start q o acted (Over e) x =
 pub sits_owed : (np : NamedPolicy) (start q r : Port) (o : Bool) (acted : List Acted) (s : Seat) → r ≡ record q { owed = o } → Sits np start q acted s → Sits np start r acted s
 sits_owed np start q r o acted s is x = subst (λ (z : Port). Sits np start z acted s) (sym is) (owed_sits np start q o acted s x)
 
--- a link that was just opened, in its seat
-pub sits_first : (np : NamedPolicy) (start p : Port) (others : ℕ) (s : Party) → IsFreshParty s → SameBytes start p → others < MAX_OPEN
-    → Rests np start (newly others p) s []
-sits_first np start p others s f same few =
+-- a link over which nothing went, with its party
+rests_first : (np : NamedPolicy) (start q : Port) (s : Party) → IsFreshParty s → SameBytes start q → is_over q.last ≡ false → Rests np start q s []
+rests_first np start q s f same live =
     let none : waiting_bytes s ≡ [] = waits_none s (f.waits.0 ∙ sym f.waits.1) in
     let left = f.left in
     let upto = f.waits.1 in
@@ -119,20 +119,27 @@ sits_first np start p others s f same few =
         left = subst (λ (o : Option (List ℕ)). Consumes start.left o (waiting_bytes s)) (sym same.left) (subst (λ (l : List ℕ). Consumes start.left start.left l) (sym none) (Consumes-nil start.left));
         counted = omega (arith, left, l1);
         within = (omega (arith, upto, from), omega (arith, upto), omega (arith, upto));
-        live = refl;
+        live = live;
       };
       waits = inl (tt, from ∙ sym upto);
     }
 
--- a link that was let go at once
-pub ends_full : (np : NamedPolicy) (start p : Port) (others nexts : ℕ) → SameBytes start p → MAX_OPEN ≤ others
-    → EndsLink np start (record (newly others p) { owed = false; finished = Some nexts }) 0 0 [] Full
-ends_full np start p others nexts same many =
+pub takes_sits : (np : NamedPolicy) (start q : Port) (acted : List Acted) (s s' : Seat) → TakesParty s s' → Sits np start q acted s → Sits np start q acted s'
+takes_sits np start q acted New (Open b) t x =
+    (subst (λ (l : List Acted). Rests np start q b.value l) (sym x.0) (rests_first np start q b.value t x.1 x.2), x.3, x.4)
+takes_sits np start q acted New New t x = absurd t
+takes_sits np start q acted New (Over e) t x = absurd t
+takes_sits np start q acted (Open b) s' t x = subst (λ (z : Seat). Sits np start q acted z) (sym t) x
+takes_sits np start q acted (Over e) s' t x = subst (λ (z : Seat). Sits np start q acted z) (sym t) x
+
+-- a link over which nothing went has ended
+pub ends_blank : (np : NamedPolicy) (start q : Port) (end : PollEnd) → SameBytes start q → IsPolled np [] [] [] q.last end → PollsBy q [] end → EndsLink np start q 0 0 [] end
+ends_blank np start q end same polled cause =
     record {
       taken = [];
       given = [];
       lines = ([], refl);
-      polled = (refl, refl, refl);
+      polled = polled;
       taken_is = subst (λ (o : Option (List ℕ)). Appends start.taken o []) (sym same.taken) (Appends-nil start.taken);
       left_is = subst (λ (o : Option (List ℕ)). Consumes start.left o []) (sym same.left) (Consumes-nil start.left);
       given_is = subst (λ (o : Option (List ℕ)). Appends start.given o []) (sym same.given) (Appends-nil start.given);
@@ -140,7 +147,7 @@ ends_full np start p others nexts same many =
       denied_is = refl;
       few = omega arith;
       bounded = omega arith;
-      cause = (refl, many);
+      cause = cause;
     }
 
 -- a link that is open at the end

@@ -1,16 +1,17 @@
 -- What the loop over events keeps.
-use Rattle.std.proofs.Common.{◌≡◌, ◌⊎◌, ℕ, ◌+◌, ◌-◌, ◌*◌, ◌≤◌, Bool, true, false, List, [], ◌∷◌, length, sym, subst, ◌∙◌, arith, length-append, ⊎_elim, Some, None}
+use Rattle.std.proofs.Common.{◌≡◌, ℕ, ◌+◌, ◌-◌, ◌*◌, ◌≤◌, Bool, true, false, List, [], ◌∷◌, length, refl, sym, ap, subst, ◌∙◌, arith, length-append, ⊎_elim, Some, None}
 use Rattle.std.proofs.lemmas.Option.{slice_get_within, slice_get_cases}
 use Rattle.gt_base.specs.declared.requests.Entry.{Entry}
 use Rattle.gt_io.specs.Ports.{Port, Harbour, is_over, AreFinished}
 use Rattle.policy_words.specs.Naming.{NamedPolicy}
 use Rattle.connection_laws.specs.Lines.{Acted, asked_in, denied_in, is_replied, is_denied, one_where}
 use Rattle.poll_front.specs.declared.seats.Seat.{Seat}
-use Rattle.poll_front.specs.declared.seats.Seat.TheVariants.{Open, Over}
+use Rattle.poll_front.specs.declared.seats.Seat.TheVariants.{New, Open, Over}
 use Rattle.poll_front.specs.declared.parties.Pace.{Pace}
 use Rattle.poll_front.specs.Fronts.{Turn, FrontSpot, acted_of, waiting_bytes}
-use Rattle.poll_front.specs.Tables.{Sits, CanServe, Tabled, IsOpenSeat, AreOpenSeats}
+use Rattle.poll_front.specs.Tables.{Sits, CanServe, TakesParty, Tabled, IsOpenSeat, AreOpenSeats}
 use Rattle.poll_front.proofs.Standing.{last_within, waits_long}
+use Rattle.poll_front.proofs.Seating.{takes_sits}
 use Rattle.poll_front.proofs.Sums.{calls_few}
 
 one_few : (b : Bool) → one_where b ≤ 1
@@ -30,6 +31,7 @@ denied_few (a ∷ before) = let x = denied_few before in let y = one_few (is_den
 
 -- no link has more lines than bytes
 pub lines_few : (np : NamedPolicy) (start q : Port) (acted : List Acted) (s : Seat) → Sits np start q acted s → length acted ≤ 67_108_864
+lines_few np start q acted New x = let none = ap (λ (l : List Acted). length l) x.0 in omega (arith, none)
 lines_few np start q acted (Open b) x =
     let y = x.0.stands in
     let few = y.few in
@@ -39,8 +41,9 @@ lines_few np start q acted (Open b) x =
 lines_few np start q acted (Over e) x = let few = x.0.few in let bounded = x.0.bounded in omega (arith, few, bounded)
 
 -- a link that is open can be served
-pub can_serve : (np : NamedPolicy) (start : Port) (a : Harbour) (c : ℕ) (pace : Pace) (acted : List Acted) (s : Seat) → 1 ≤ c → c ≤ a.opened → Sits np start (a.port c) acted s → pace.calls ≤ 100_000 * 67_108_864 → CanServe np a c pace s
-can_serve np start a c pace acted (Open b) first last x calls =
+can_serve_seat : (np : NamedPolicy) (start : Port) (a : Harbour) (c : ℕ) (pace : Pace) (acted : List Acted) (s : Seat) → (s ≡ New → ⊥) → 1 ≤ c → c ≤ a.opened → Sits np start (a.port c) acted s → pace.calls ≤ 100_000 * 67_108_864 → CanServe np a c pace s
+can_serve_seat np start a c pace acted New old first last x calls = absurd (old refl)
+can_serve_seat np start a c pace acted (Open b) old first last x calls =
     let s = b.value in
     let y = x.0.stands in
     let few = y.few in
@@ -59,17 +62,28 @@ can_serve np start a c pace acted (Open b) first last x calls =
       within.1,
       (omega (arith, few, counted, long, waits, asked, a1), omega (arith, few, counted, long, waits, denied, d1), omega (arith, counted, long, waits, calls)),
     )
-can_serve np start a c pace acted (Over e) first last x calls = tt
+can_serve_seat np start a c pace acted (Over e) old first last x calls = tt
+
+takes_not_new : (s : Seat) → TakesParty s New → ⊥
+takes_not_new New t = t
+takes_not_new (Open b) t = absurd cc
+takes_not_new (Over e) t = absurd cc
+
+pub can_serve : (np : NamedPolicy) (start : Port) (a : Harbour) (c : ℕ) (pace : Pace) (acted : List Acted) (s s' : Seat) → TakesParty s s' → 1 ≤ c → c ≤ a.opened → Sits np start (a.port c) acted s → pace.calls ≤ 100_000 * 67_108_864 → CanServe np a c pace s'
+can_serve np start a c pace acted s s' t first last x calls =
+    can_serve_seat np start a c pace acted s' (λ is. takes_not_new s (subst (TakesParty s) is t)) first last (takes_sits np start (a.port c) acted s s' t x) calls
 
 live_seat : (np : NamedPolicy) (start q : Port) (acted : List Acted) (s : Seat) → Sits np start q acted s → q.finished ≡ None → is_over q.last ≡ false
+live_seat np start q acted New x unfinished = x.2
 live_seat np start q acted (Open b) x unfinished = x.0.stands.live
 live_seat np start q acted (Over e) x unfinished = absurd (some_not_none x.1.0 (sym x.1.1 ∙ unfinished))
 
 open_seat : (np : NamedPolicy) (start q : Port) (acted : List Acted) (s : Seat) → Sits np start q acted s → IsOpenSeat s → q.finished ≡ None
+open_seat np start q acted New x is = x.3
 open_seat np start q acted (Open b) x is = x.1
 open_seat np start q acted (Over e) x is = absurd is
 
-module _ {M : Type 0} (np : NamedPolicy) (first : List Entry) (legal : List Entry → Type 0) (now : List Entry → ℕ) (number : ℕ) (o p : FrontSpot M) (start a : Harbour) (seats : List Seat) (busy : ℕ) (turns : List Turn) (x : Tabled np first legal now number o p start a seats busy turns) where
+module _ {M : Type 0} {np : NamedPolicy} {first : List Entry} {legal : List Entry → Type 0} {now : List Entry → ℕ} {number : ℕ} {o p : FrontSpot M} {start a : Harbour} {seats : List Seat} {busy : ℕ} {turns : List Turn} (x : Tabled np first legal now number o p start a seats busy turns) where
   sits_at : (k : ℕ) → 1 ≤ k → k ≤ a.opened → (s : Seat) × Sits np (start.port k) (a.port k) (acted_of k turns) s
   sits_at k first last =
       let opened = x.opened in

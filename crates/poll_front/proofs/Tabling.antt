@@ -1,5 +1,5 @@
 -- The table from event to event.
-use Rattle.std.proofs.Common.{◌≡◌, ◌≢◌, ◌⊎◌, ℕ, suc, ◌+◌, ◌<◌, ◌≤◌, Bool, true, false, ◌==◌, List, [], ◌∷◌, ◌++◌, length, set, slice_get, refl, sym, ap, subst, ◌∙◌, arith, eq-eqb, ne_eqb, length-append, ⊎_elim, Option, Some, None, Ok, MatchOption}
+use Rattle.std.proofs.Common.{◌≡◌, ◌≢◌, ℕ, suc, ◌+◌, ◌<◌, ◌≤◌, Bool, true, false, ◌==◌, List, [], ◌∷◌, ◌++◌, length, set, slice_get, refl, sym, ap, subst, ◌∙◌, arith, eq-eqb, ne_eqb, length-append, ⊎_elim, Option, Some, None, Ok, MatchOption}
 use Rattle.std.proofs.lemmas.List.{length-set}
 use Rattle.gt_base.specs.declared.requests.Entry.{Entry}
 use Rattle.std.specs.Prelude.{if◌then◌else◌}

@@ -1,5 +1,5 @@
 -- The table of links.
-use Rattle.std.specs.Prelude.{◌≡◌, ℕ, zero, suc, ◌+◌, ◌-◌, ◌^◌, ◌<◌, ◌≤◌, Bool, true, false, List, ◌++◌, length, slice_get, Some, None, Ok, Err, MatchOption}
+use Rattle.std.specs.Prelude.{◌≡◌, ℕ, zero, suc, ◌+◌, ◌-◌, ◌^◌, ◌<◌, ◌≤◌, Bool, true, false, List, [], ◌++◌, length, slice_get, Some, None, Ok, Err, MatchOption}
 use Rattle.std.specs.declared.option.Option.{Option}
 use Rattle.std.specs.declared.result.Result.{Result}
 use Rattle.gt_base.specs.declared.requests.Entry.{Entry}
@@ -24,10 +24,10 @@ use Rattle.poll_front.specs.declared.front.RunEnd.TheVariants.{Stopped as EndSto
 use Rattle.poll_front.specs.declared.parties.Party.{Party}
 use Rattle.poll_front.specs.declared.parties.Pace.{Pace}
 use Rattle.poll_front.specs.declared.seats.Seat.{Seat}
-use Rattle.poll_front.specs.declared.seats.Seat.TheVariants.{Open, Over}
+use Rattle.poll_front.specs.declared.seats.Seat.TheVariants.{New, Open, Over}
 use Rattle.gt_io.specs.declared.port.PortEvent.{PortEvent}
 use Rattle.gt_io.specs.declared.port.PortEvent.TheVariants.{Opened, Ready, Stop}
-use Rattle.gt_io.specs.Ports.{Port, Harbour, IsOpen, KeepsRest, open_among}
+use Rattle.gt_io.specs.Ports.{Port, Harbour, IsOpen, is_over, KeepsRest, open_among}
 use Rattle.poll_front.specs.Fronts.{Turn, FrontSpot, acted_of, faults_of, ended_of, Rests, EndsLink, HasOwnEnd, HasPlaces, Running}
 use Rattle.poll_front.specs.declared.front.TheConstants.{MAX_OPEN}
 use Rattle.poll_front.specs.declared.parties.TheConstants.{MAX_READ}
@@ -41,12 +41,15 @@ pub record IsFreshParty (s : Party) : Type 0 where
   pub left : s.left ≡ MAX_BYTES
   pub waits : (s.from ≡ 0) × (s.upto ≡ 0)
 
-abbrev pub IsFreshSeat : Seat → Type 0
-IsFreshSeat (Open b) = IsFreshParty b.value
-IsFreshSeat (Over e) = ⊥
+-- a place that was not served yet gets what is kept of its link
+abbrev pub TakesParty : Seat → Seat → Type 0
+TakesParty New (Open b) = IsFreshParty b.value
+TakesParty New _ = ⊥
+TakesParty s s' = s' ≡ s
 
 -- what the service of a link asks of its place
 abbrev pub CanServe : NamedPolicy → Harbour → ℕ → Pace → Seat → Type 0
+CanServe np a c pace New = ⊥
 CanServe np a c pace (Open b) =
     let s =
     b.value in IsOpen a c × IsNamedActor np s.talk.actor × (s.at ≤ length (told_bytes s.told))
@@ -58,8 +61,17 @@ abbrev pub IsLetIn : Port → PollEnd → Type 0
 IsLetIn q Full = q.others ≡ MAX_OPEN
 IsLetIn q _ = q.others < MAX_OPEN
 
+-- nothing went over the link
+pub record SameBytes (start q : Port) : Type 0 where
+  pub left : q.left ≡ start.left
+  pub taken : q.taken ≡ start.taken
+  pub given : q.given ≡ start.given
+
 -- what stands in the place of a link
 abbrev pub Sits : NamedPolicy → Port → Port → List Acted → Seat → Type 0
+Sits np start q acted New =
+    (acted ≡ []) × SameBytes start q × (is_over q.last ≡ false) × (q.finished ≡ None)
+    × (q.others < MAX_OPEN)
 Sits np start q acted (Open b) =
     Rests np start q b.value acted × (q.finished ≡ None) × (q.others < MAX_OPEN)
 Sits np start q acted (Over e) =
@@ -72,14 +84,9 @@ is_worn_end _ = false
 
 -- the pass is not worn in it
 abbrev pub IsUnwornSeat : Seat → Type 0
+IsUnwornSeat New = Unit {0}
 IsUnwornSeat (Open b) = Unit {0}
 IsUnwornSeat (Over e) = is_worn_end e.outcome ≡ false
-
--- nothing went over the link
-pub record SameBytes (start q : Port) : Type 0 where
-  pub left : q.left ≡ start.left
-  pub taken : q.taken ≡ start.taken
-  pub given : q.given ≡ start.given
 
 -- nothing has gone over the link yet
 abbrev pub IsBlank : Port → Type 0
@@ -146,12 +153,16 @@ EndsAreLast start b = b.ends ≤ start.ends + count_among ended_of b.port b.open
 
 -- how a link that is open is let go; one that has ended stays as it is
 abbrev pub EndsSeatAt : Port → Port → ℕ → Seat → Polled → Type 0
+EndsSeatAt q q' nexts New e =
+    (e ≡ record { asked = 0; denied = 0; outcome = Stopped })
+    × (q' ≡ record q { owed = false; finished = Some nexts })
 EndsSeatAt q q' nexts (Open b) e =
     (e ≡ record { asked = b.value.talk.asked; denied = b.value.talk.denied; outcome = Stopped })
     × (q' ≡ record q { owed = false; finished = Some nexts })
 EndsSeatAt q q' nexts (Over polled) e = (e ≡ polled) × (q' ≡ q)
 
 abbrev pub IsOpenSeat : Seat → Type 0
+IsOpenSeat New = Unit {0}
 IsOpenSeat (Open b) = Unit {0}
 IsOpenSeat (Over e) = ⊥
 

@@ -1,21 +1,21 @@
 //! The links of a front: what happens next is told by the ports, and each link that is ready is
 //! served until it is left for another.
-ghost use Rattle.std.specs.Prelude.{◌≡◌, ◌≤◌, ◌<◌, ◌+◌, ◌-◌, ◌++◌, ◌∷◌, [], length, vec_len, vec_capacity, OnOk, Some, None, IfSome, IsSomeAnd};
+ghost use Rattle.std.specs.Prelude.{◌≡◌, ◌≤◌, ◌<◌, ◌+◌, ◌-◌, ◌++◌, ◌∷◌, [], length, vec_len, vec_capacity, OnOk, None};
 ghost use Rattle.turn_lock.specs.Holders.{site_of};
 ghost use Rattle.connection_laws.specs.Desks.{MayBeAsked, RepliesCanBeTold};
 ghost use Rattle.connection_laws.specs.Turns.{IsIdle, IsReached};
 ghost use Rattle.gt_io.specs.Ports.{IsOpen, IsUncalled, Finishes};
 ghost use Rattle.poll_front.specs.declared.seats.Seat.{Seat};
-ghost use Rattle.poll_front.specs.Tables.{CanServe, IsFreshParty, IsFreshSeat, SeatServed, Went, Ran, IsOpenSeat, EndsSeat, AreOpenSeats, LetsGo, is_worn_end};
+ghost use Rattle.poll_front.specs.Tables.{CanServe, SeatServed, Went, Ran, IsOpenSeat, EndsSeat, AreOpenSeats, LetsGo, is_worn_end};
 
 use crate::ends::{PollEnd, Polled};
 use crate::parties::{Pace, Party, Pause};
-use crate::seats::Seat;
+use crate::seats::{Seat, fill_seat};
 use crate::serve::attend;
 use connection_laws::Server;
 use gt_base::{List, MAX_LINKS, Machine, Memory};
 use gt_io::{Clock, Gate, PortEvent, Ports};
-use std::alloc::Global;
+use std::mem::replace;
 use std::sync::Wait;
 use turn_lock::Pass;
 
@@ -45,6 +45,7 @@ fn serve_seat<M: Machine, R: Wait, P: Ports, C: Clock, G: Gate>(
     ports: &mut P,
     clock: &mut C,
     pace: &mut Pace,
+    spares: &mut Vec<Box<Party>>,
     seat: &mut Seat,
 ) -> Option<PollEnd>
     requires idle { IsIdle (site_of server.now.desk.now) pass.old }
@@ -76,34 +77,28 @@ fn serve_seat<M: Machine, R: Wait, P: Ports, C: Clock, G: Gate>(
                 outcome,
             };
             ports.finish(server.conn);
-            *seat = Seat::Over(polled);
+            if let Seat::Open(spare) = replace(seat, Seat::Over(polled)) {
+                let _ = spares.push(spare);
+            }
             Some(outcome)
         }
     }
 }
 
 /// Gives a link that was just opened its seat; lets it go at once where as many are open as may be.
-fn seat_next<P: Ports>(
-    link: u32,
-    ports: &mut P,
-    seats: &mut Vec<Seat>,
-    busy: &mut usize,
-    spare: &mut Option<Box<Party>>,
-)
+fn seat_next<P: Ports>(link: u32, ports: &mut P, seats: &mut Vec<Seat>, busy: &mut usize)
     requires open { IsOpen (P.harbour ports.old) link }
     requires room { vec_len seats.old < vec_capacity seats.old }
-    requires spare { IsSomeAnd spare.old (λ b. IsFreshParty b.value) }
     requires few { busy.old ≤ MAX_OPEN }
-    ensures fresh { IfSome spare.new (λ b. IsFreshParty b.value) }
+    ensures room { vec_capacity seats.new ≡ vec_capacity seats.old }
     ensures full { MAX_OPEN ≤ busy.old
         → Finishes (P.harbour ports.old) (P.harbour ports.new) link × (busy.new ≡ busy.old)
-        × (spare.new ≡ spare.old)
         × (seats.new.items
         ≡ seats.old.items
         ++ Seat.Over (record { asked = 0; denied = 0; outcome = PollEnd.Full })
         ∷ []) }
     ensures seated { busy.old < MAX_OPEN → (ports.new ≡ ports.old) × (busy.new ≡ busy.old + 1)
-        × ((s : Seat) × IsFreshSeat s × (seats.new.items ≡ seats.old.items ++ s ∷ [])) }
+        × (seats.new.items ≡ seats.old.items ++ Seat.New ∷ []) }
 {
     if *busy >= MAX_OPEN {
         ports.finish(link);
@@ -114,36 +109,24 @@ fn seat_next<P: Ports>(
         }));
         return;
     }
-    let Some(party) = spare.take() else {
-        unreachable!();
-    };
-    seats.push_reserved(Seat::Open(party));
+    seats.push_reserved(Seat::New);
     *busy += 1;
 }
 
-/// Takes the memory that the next event may need.
+/// Takes the memory of the lists that grow with the links.
 fn make_room(
-    alloc: Global,
     seats: &mut Vec<Seat>,
+    spares: &mut Vec<Box<Party>>,
     ends: &mut List<Polled>,
-    spare: &mut Option<Box<Party>>,
 ) -> Result<(), Memory>
-    requires { IfSome spare.old (λ b. IsFreshParty b.value) }
     ensures seats { seats.new.items ≡ seats.old.items }
     ensures ends { ends.new.items ≡ ends.old.items }
     ensures room { OnOk result
-        ((vec_len seats.new < vec_capacity seats.new)
-        × (vec_len seats.new + 1 ≤ ends.new.spare)) }
-    ensures kept { ends.old.spare ≤ ends.new.spare }
-    ensures spare { OnOk result (IsSomeAnd spare.new (λ b. IsFreshParty b.value)) }
-    ensures fresh { IfSome spare.new (λ b. IsFreshParty b.value) }
+        ((MAX_LINKS ≤ vec_capacity seats.new) × (MAX_LINKS ≤ ends.new.spare)) }
 {
-    seats.reserve(1)?;
-    ends.reserve(seats.len() + 1)?;
-    if spare.is_none() {
-        *spare = Some(Box::new(alloc, Party::new(alloc))?);
-    }
-    Ok(())
+    seats.reserve(MAX_LINKS)?;
+    spares.reserve(MAX_OPEN)?;
+    ends.reserve(MAX_LINKS)
 }
 
 /// How a link ended, or that it is let go now.
@@ -152,6 +135,14 @@ fn end_of<P: Ports>(link: u32, ports: &mut P, seat: &Seat) -> Polled
     ensures { EndsSeat (P.harbour ports.old) (P.harbour ports.new) link seat.now result }
 {
     match seat {
+        Seat::New => {
+            ports.finish(link);
+            Polled {
+                asked: 0,
+                denied: 0,
+                outcome: PollEnd::Stopped,
+            }
+        }
         Seat::Open(party) => {
             ports.finish(link);
             Polled {
@@ -179,12 +170,13 @@ fn serve_all<M: Machine, R: Wait, P: Ports, C: Clock, G: Gate>(
     clock: &mut C,
     pace: &mut Pace,
     seats: &mut Vec<Seat>,
-    ends: &mut List<Polled>,
+    spares: &mut Vec<Box<Party>>,
 ) -> RunEnd
     requires idle { IsIdle (site_of server.now.desk.now) pass.old }
     requires named { MayBeAsked server.now.policy.now (M.named server.now.desk.now.root) }
     requires replies { RepliesCanBeTold server.now.policy.now (M.legal server.now.desk.now.root) }
-    requires none { (seats.old.items ≡ []) × (ends.old.items ≡ []) }
+    requires none { seats.old.items ≡ [] }
+    requires room { MAX_LINKS ≤ vec_capacity seats.old }
     requires ports { IsUncalled (P.harbour ports.old) }
     requires pace { (pace.old.calls ≡ 0) × (pace.old.reached ≡ None) }
     ensures went { Went server.now.policy.now (M.list server.now.desk.now.root)
@@ -193,20 +185,14 @@ fn serve_all<M: Machine, R: Wait, P: Ports, C: Clock, G: Gate>(
         (record { pass = pass.new; clock = C.readings clock.new; pace = pace.new })
         (P.harbour ports.old) (P.harbour ports.new) seats.new.items result }
     ensures few { length seats.new.items ≤ MAX_LINKS }
-    ensures room { length seats.new.items ≤ ends.new.spare }
-    ensures ends { ends.new.items ≡ [] }
     ensures pass { IsIdle (site_of server.now.desk.now) pass.new
         × (pass.new.number ≡ pass.old.number) }
 {
     let mut busy = 0;
-    let mut spare = None;
     for _ in server.rt.forever() {
-        if make_room(server.alloc, seats, ends, &mut spare).is_err() {
-            return RunEnd::Memory;
-        }
         match ports.next() {
             Ok(PortEvent::Opened(link)) => {
-                seat_next(link, ports, seats, &mut busy, &mut spare);
+                seat_next(link, ports, seats, &mut busy);
                 if seats.len() == MAX_LINKS {
                     return RunEnd::Enough;
                 }
@@ -221,7 +207,10 @@ fn serve_all<M: Machine, R: Wait, P: Ports, C: Clock, G: Gate>(
                     gate: server.gate,
                 };
                 let seat = &mut seats[link as usize - 1];
-                if let Some(end) = serve_seat(&of, pass, ports, clock, pace, seat) {
+                if let Err(_) = fill_seat(server.alloc, spares, seat) {
+                    return RunEnd::Memory;
+                }
+                if let Some(end) = serve_seat(&of, pass, ports, clock, pace, spares, seat) {
                     busy -= 1;
                     if is_worn(end) {
                         return RunEnd::Worn;
@@ -273,11 +262,23 @@ pub fn run<M: Machine, R: Wait, P: Ports, C: Clock, G: Gate>(
         × (pass.new.number ≡ pass.old.number) }
 {
     let mut seats = Vec::new(server.alloc);
+    let mut spares = Vec::new(server.alloc);
+    if make_room(&mut seats, &mut spares, ends).is_err() {
+        return RunEnd::Memory;
+    }
     let mut pace = Pace {
         calls: 0,
         reached: None,
     };
-    let end = serve_all(server, pass, ports, clock, &mut pace, &mut seats, ends);
+    let end = serve_all(
+        server,
+        pass,
+        ports,
+        clock,
+        &mut pace,
+        &mut seats,
+        &mut spares,
+    );
     let_go(ports, &seats, ends);
     end
 }

@@ -2,10 +2,11 @@
 ghost use Rattle.poll_front.specs.Tables.{IsFreshParty};
 
 use crate::ends::PollEnd;
-use connection_laws::{LineAnswer, Talk};
+use connection_laws::{LineAnswer, Talk, take_back};
 use gt_base::{Actor, Instant, List, MAX_BYTES};
 use gt_io::Framer;
 use std::alloc::Global;
+use std::mem::replace;
 
 /// How many bytes one read takes at most.
 pub(crate) const MAX_READ: usize = 4096;
@@ -47,8 +48,8 @@ pub enum Pause {
 }
 
 impl Party {
-    /// Before the first byte.
-    pub(crate) fn new(alloc: Global) -> Party
+    /// Before the first byte, with a buffer for its replies.
+    pub(crate) fn new(room: List<u8>) -> Party
         ensures { IsFreshParty result }
     {
         Party {
@@ -61,11 +62,20 @@ impl Party {
             },
             told: LineAnswer::Silence,
             at: 0,
-            room: List::new(alloc),
+            room,
             left: MAX_BYTES,
             chunk: [0; MAX_READ],
             from: 0,
             upto: 0,
         }
+    }
+
+    /// Makes it that of a further link, with the buffer for its replies.
+    pub(crate) fn renew(&mut self, alloc: Global)
+        ensures { IsFreshParty self.new }
+    {
+        let mut room = replace(&mut self.room, List::new(alloc));
+        take_back(&mut room, replace(&mut self.told, LineAnswer::Silence));
+        *self = Party::new(room);
     }
 }

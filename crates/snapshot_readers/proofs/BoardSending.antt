@@ -51,7 +51,7 @@ board_inside_send a R s =
       search (sendable, crosses) depth 40,
       (
         ledger_send,
-        (search (copies_send, copy_send, copy_sync) depth 40, tt),
+        (search (copies_send, copy_send, copy_sync) depth 40, (search (sendable, crosses) depth 40, tt)),
       ),
     ))
 

@@ -1,8 +1,8 @@
 -- A link behind those that were served.
-use Rattle.std.proofs.Common.{◌≡◌, ℕ, ◌≤◌, List, [], ◌∷◌, ◌++◌, length, refl, sym, ap, subst, ◌∙◌, arith, append-nil, append_assoc, length-append, Option, Some, None}
+use Rattle.std.proofs.Common.{◌≡◌, ℕ, ◌≤◌, List, [], ◌∷◌, ◌++◌, length, refl, sym, ap, subst, ◌∙◌, arith, append-nil, append_assoc, Some, None, true}
 use mathlib.Core.List.{IsPrefix}
 use Rattle.gt_base.specs.declared.requests.Entry.{Entry}
-use Rattle.gt_io.specs.Links.{Traffic, IsFresh, GivesFirst}
+use Rattle.gt_io.specs.Links.{Traffic, Tally, Doorway, IsFresh, GivesFirst}
 use Rattle.policy_words.specs.Naming.{NamedPolicy}
 use Rattle.connection_laws.proofs.Prefixes.{prefix_self, prefix_trans}
 use Rattle.snapshot_readers.specs.declared.ends.Viewed.{Viewed}
@@ -12,7 +12,7 @@ use Rattle.snapshot_readers.specs.Viewed.{link_end, AscendBetween, Sees}
 use Rattle.snapshot_readers.specs.Viewing.{Views}
 use Rattle.snapshot_readers.specs.Crew.{ViewTale, views_begun, all_lens, ViewerSpot, ViewsTo, IsViewed, AreViewed, Worked, WorksOn, Works}
 use Rattle.connection_laws.specs.Doors.{Gives, AddUp}
-use Rattle.connection_laws.proofs.Giving.{gives_none, gives_more}
+use Rattle.connection_laws.proofs.Giving.{gives_none, gives_more, add_up}
 use Rattle.snapshot_readers.proofs.Ascending.{ascend_on}
 use Rattle.snapshot_readers.proofs.GuideSteps.{sees_longer}
 
@@ -24,9 +24,6 @@ module _ {L : Type 0} where
   lens_push : (ss : List (Viewed L)) (s : Viewed L) → all_lens (ss ++ s ∷ []) ≡ all_lens ss ++ s.lens.items
   lens_push [] s = append-nil s.lens.items
   lens_push (t ∷ ts) s = ap (λ (ns : List ℕ). t.lens.items ++ ns) (lens_push ts s) ∙ sym (append_assoc t.lens.items (all_lens ts) s.lens.items)
-
-  some_is : (xs ys : List L) → Some xs ≡ Some ys → xs ≡ ys
-  some_is xs ys e = cc e
 
   module _ (traffic : L → Traffic) (np : NamedPolicy) (birth : ℕ) where
     pub viewed_longer : (h h' : List Entry) (ss : List (Viewed L)) (xs : List (ViewTale L)) → IsPrefix h h' → AreViewed traffic np birth h ss xs → AreViewed traffic np birth h' ss xs
@@ -59,7 +56,7 @@ module _ {L : Type 0} where
 
     -- one more link was served
     pub link_done : (o p p' : ViewerSpot L) (served : List (Viewed L)) (tales : List (ViewTale L)) (s : Viewed L) (begun : L) (calls calls' : ℕ) → Worked traffic np birth o p served tales
-        → Views np birth p.seen p'.seen s.lens.items s.denied calls calls' (traffic begun) (traffic s.link) s.outcome → GivesFirst p.door p'.door begun → IsFresh (traffic begun)
+        → Views np birth p.seen p'.seen s.lens.items s.denied calls calls' (traffic begun) (traffic s.link) s.outcome → GivesFirst p.door.links p'.door.links begun → IsFresh (traffic begun)
         → (tales' : List (ViewTale L)) × Worked traffic np birth o p' (served ++ s ∷ []) tales'
     link_done o p p' served tales s begun calls calls' w v door fresh =
         let x : ViewTale L = record { begun = begun; taken = v.taken; given = v.given; acted = v.acted } in
@@ -74,14 +71,14 @@ module _ {L : Type 0} where
             links = viewed_push p'.seen served tales s x (viewed_longer p.seen p'.seen served tales v.grows w.links) one;
             grows = prefix_trans o.seen p.seen p'.seen w.grows v.grows;
             ascends = subst (λ (ns : List ℕ). AscendBetween (length o.seen) ns (length p'.seen)) (sym (lens_push served s)) (ascend_on (length o.seen) (all_lens served) s.lens.items (length p.seen) (length p'.seen) w.ascends v.ascends);
-            door = subst (λ (ls : List L). Gives o.door p'.door ls) (sym (begun_push tales x)) (gives_more o.door p.door p'.door (views_begun tales) begun w.door door);
+            door = subst (λ (ls : List L). Gives o.door.links p'.door.links ls) (sym (begun_push tales x)) (gives_more o.door.links p.door.links p'.door.links (views_begun tales) begun w.door door);
           },
         )
 
     pub no_links : (o : ViewerSpot L) (served : List (Viewed L)) → served ≡ [] → Worked traffic np birth o o served []
     no_links o served is =
         let low : length o.seen ≤ length o.seen = omega arith in
-        subst (λ (ss : List (Viewed L)). Worked traffic np birth o o ss []) (sym is) (record { links = tt; grows = prefix_self o.seen; ascends = low; door = gives_none o.door })
+        subst (λ (ss : List (Viewed L)). Worked traffic np birth o o ss []) (sym is) (record { links = tt; grows = prefix_self o.seen; ascends = low; door = gives_none o.door.links })
 
     lengths_agree : (h : List Entry) (ss : List (Viewed L)) (xs : List (ViewTale L)) → AreViewed traffic np birth h ss xs → length (views_begun xs) ≡ length ss
     lengths_agree h [] [] all = refl
@@ -89,31 +86,27 @@ module _ {L : Type 0} where
     lengths_agree h (s ∷ ss) [] all = absurd all
     lengths_agree h (s ∷ ss) (x ∷ xs) all = let rest = lengths_agree h ss xs all.1 in omega (arith, rest)
 
-    -- what was served, and what the door has left
-    add_up : (old new : Option (List L)) (served : List (Viewed L)) (begun : List L) → length begun ≡ length served → Gives old new begun → AddUp old new served
-    add_up (Some had) (Some left) served begun same g =
-        let e : length had ≡ length (begun ++ g.0) = ap length g.1 in
-        let more = length-append begun g.0 in
-        let rest : left ≡ g.0 = some_is left g.0 g.2 in
-        let short = ap length rest in
-        omega (arith, e, more, same, short)
-    add_up (Some had) None served begun same g = tt
-    add_up None left served begun same g = tt
-
-    pub counted_by : (o p : ViewerSpot L) (served : List (Viewed L)) (tales : List (ViewTale L)) → Worked traffic np birth o p served tales → AddUp o.door p.door served
-    counted_by o p served tales w = add_up o.door p.door served (views_begun tales) (lengths_agree p.seen served tales w.links) w.door
-
-    views_earlier : (links : Option (List L)) (f f' f'' : ℕ) (served : List (Viewed L)) (end : ViewerEnd) → f' ≡ f → ViewsTo links f' f'' served end → ViewsTo links f f'' served end
-    views_earlier links f f' f'' served end kept w = subst (λ (n : ℕ). ViewsTo links n f'' served end) kept w
+    pub counted_by : (o p : ViewerSpot L) (served : List (Viewed L)) (tales : List (ViewTale L)) → Worked traffic np birth o p served tales → AddUp o.door.links p.door.links served
+    counted_by o p served tales w = add_up o.door.links p.door.links served (views_begun tales) (lengths_agree p.seen served tales w.links) w.door
 
     -- the next link, told from the begin of the work
-    pub next_done : (o p p' : ViewerSpot L) (f f' f'' : ℕ) (items items' served : List (Viewed L)) (tales : List (ViewTale L)) (end : ViewerEnd) → items' ≡ items → f' ≡ f → Worked traffic np birth o p items tales
-        → WorksOn traffic np birth p p' f' f'' items' served (Some end) → Works traffic np birth o p' f f'' served end
-    next_done o p p' f f' f'' items items' served tales end kept low w on =
+    pub next_done : (o p p' : ViewerSpot L) (items items' served : List (Viewed L)) (tales : List (ViewTale L)) (end : ViewerEnd) → items' ≡ items → p.door.tally ≡ o.door.tally → Worked traffic np birth o p items tales
+        → WorksOn traffic np birth p p' items' served (Some end) → Works traffic np birth o p' served end
+    next_done o p p' items items' served tales end kept low w on =
         let d = on o tales (subst (λ (ss : List (Viewed L)). Worked traffic np birth o p ss tales) (sym kept) w) in
-        record { tales = d.0; worked = d.1; counted = counted_by o p' served d.0 d.1; cause = views_earlier p'.door f f' f'' served end low d.2 }
+        record { tales = d.0; worked = d.1; counted = counted_by o p' served d.0 d.1; cause = subst (λ (t : Tally). ViewsTo p'.door.links t p'.door.tally served end) low d.2 }
 
-    pub goes_on : (o p p' : ViewerSpot L) (f' f'' : ℕ) (items items' served : List (Viewed L)) (tales : List (ViewTale L)) → items' ≡ items → Worked traffic np birth o p items tales
-        → WorksOn traffic np birth p p' f' f'' items' served None → (tales' : List (ViewTale L)) × Worked traffic np birth o p' served tales' × (f'' ≡ f')
-    goes_on o p p' f' f'' items items' served tales kept w on =
+    pub goes_on : (o p p' : ViewerSpot L) (items items' served : List (Viewed L)) (tales : List (ViewTale L)) → items' ≡ items → Worked traffic np birth o p items tales
+        → WorksOn traffic np birth p p' items' served None → (tales' : List (ViewTale L)) × Worked traffic np birth o p' served tales' × (p'.door.tally ≡ p.door.tally)
+    goes_on o p p' items items' served tales kept w on =
         on o tales (subst (λ (ss : List (Viewed L)). Worked traffic np birth o p ss tales) (sym kept) w)
+
+    -- the links stand while the door rests
+    pub at_rest : (o p : ViewerSpot L) (d : Doorway L) (served : List (Viewed L)) (tales : List (ViewTale L)) → p.door ≡ d → Worked traffic np birth o (record p { door = d }) served tales → Worked traffic np birth o p served tales
+    at_rest o p d served tales is w = subst (λ (e : Doorway L). Worked traffic np birth o (record p { door = e }) served tales) (sym is) w
+
+    -- and the work as it is closed
+    pub works_closed : (o p : ViewerSpot L) (d : Doorway L) (served : List (Viewed L)) (end : ViewerEnd) → d ≡ record p.door { closed = true } → Works traffic np birth o p served end → Works traffic np birth o (record p { door = d }) served end
+    works_closed o p d served end is w =
+        subst (λ (e : Doorway L). Works traffic np birth o (record p { door = e }) served end) (sym is)
+        (record { tales = w.tales; worked = record { links = w.worked.links; grows = w.worked.grows; ascends = w.worked.ascends; door = w.worked.door }; counted = w.counted; cause = w.cause })

@@ -6,7 +6,7 @@ use mathlib.Core.List.{IsPrefix, reverse-cons, map-append}
 use Rattle.gt_base.specs.declared.requests.Actor.{Actor}
 use Rattle.gt_base.specs.declared.requests.Request.{Request}
 use Rattle.gt_base.specs.declared.requests.Entry.{Entry}
-use Rattle.gt_io.specs.Links.{Traffic}
+use Rattle.gt_io.specs.Links.{Traffic, Doorway}
 use Rattle.turn_lock.specs.Turns.{Each}
 use Rattle.turn_lock.proofs.PassLists.{each_reverse, each_unreverse}
 use Rattle.policy_words.specs.Naming.{NamedPolicy}
@@ -83,6 +83,7 @@ viewed_on traffic np birth a b seen seen' more v =
       ascends = ascend_to 0 (all_lens b.served) (length seen) (length seen') (longer seen seen' more) v.ascends;
       door = v.door;
       cause = v.cause;
+      closed = v.closed;
     }
 
 module _ {D G L : Type 0} where
@@ -106,29 +107,30 @@ module _ {D G L : Type 0} where
       let Q : Viewer D G L → Type 0 = λ (v : Viewer D G L). IsNewViewer v in
       ready_at P Q xs (each_unreverse P (glasses_of xs) (subst (Each P) (sym (glasses ∙ all)) (each_copy P n (fresh_glass np birth) refl))) (each_unreverse Q (viewers_of xs) (subst (Each Q) (sym is) (all_each Q viewers new)))
 
-  module _ (links : D → Option (List L)) (faults : D → ℕ) (traffic : L → Traffic) (np : NamedPolicy) (birth : ℕ) (h : List Entry) where
+  module _ (doorway : D → Doorway L) (traffic : L → Traffic) (np : NamedPolicy) (birth : ℕ) (h : List Entry) where
     -- all that a seat goes through
     pub record IsDone (x u : Seat D G L) : Type 0 where
       pub fresh : x.glass ≡ fresh_glass np birth
       pub mid : Seat D G L
-      pub looked : HasLooked links faults traffic np x mid
+      pub looked : HasLooked doorway traffic np x mid
       pub settled : HasSettled h mid u
 
     abbrev W : Viewer D G L → Watcher L
-    W = watcher links faults
+    W = watcher doorway
 
-    viewed_in : (x z : Seat D G L) → x.glass ≡ fresh_glass np birth → HasLooked links faults traffic np x z → HasViewed traffic np birth (W x.viewer) (W z.viewer) z.glass.seen
+    viewed_in : (x z : Seat D G L) → x.glass ≡ fresh_glass np birth → HasLooked doorway traffic np x z → HasViewed traffic np birth (W x.viewer) (W z.viewer) z.glass.seen
     viewed_in x z fresh k =
         let born : x.glass.birth ≡ birth = ap (λ (g : Glazed). g.birth) fresh in
         let seen : x.glass.seen ≡ [] = ap (λ (g : Glazed). g.seen) fresh in
-        let w : Works traffic np birth (record { seen = x.glass.seen; door = links x.viewer.door }) (record { seen = z.glass.seen; door = links z.viewer.door }) (faults x.viewer.door) (faults z.viewer.door) z.viewer.served.items z.viewer.outcome =
-        subst (λ (b : ℕ). Works traffic np b (record { seen = x.glass.seen; door = links x.viewer.door }) (record { seen = z.glass.seen; door = links z.viewer.door }) (faults x.viewer.door) (faults z.viewer.door) z.viewer.served.items z.viewer.outcome) born k.works in
+        let w : Works traffic np birth (record { seen = x.glass.seen; door = doorway x.viewer.door }) (record { seen = z.glass.seen; door = doorway z.viewer.door }) z.viewer.served.items z.viewer.outcome =
+        subst (λ (b : ℕ). Works traffic np b (record { seen = x.glass.seen; door = doorway x.viewer.door }) (record { seen = z.glass.seen; door = doorway z.viewer.door }) z.viewer.served.items z.viewer.outcome) born k.works in
         record {
           tales = w.tales;
           links = w.worked.links;
           ascends = subst (λ (es : List Entry). AscendBetween (length es) (all_lens z.viewer.served.items) (length z.glass.seen)) seen w.worked.ascends;
           door = w.worked.door;
           cause = w.cause;
+          closed = k.closed;
         }
 
     -- over the history that the glass has then seen
@@ -182,7 +184,7 @@ module _ {D G L : Type 0} where
         (subst (λ (l : List (Seat D G L)). AllDone (reverse xs ++ x ∷ []) l) (sym (reverse-cons y ys)) (done_append (reverse xs) (reverse ys) (x ∷ []) (y ∷ []) (done_reversed xs ys a.1) (a.0, tt)))
 
     abbrev WS : List (Viewer D G L) → List (Watcher L)
-    WS = watchers links faults
+    WS = watchers doorway
 
     all_viewed : (xs ys : List (Seat D G L)) → AllDone xs ys → HaveViewed traffic np birth (WS (viewers_of xs)) (WS (viewers_of ys))
     all_viewed [] [] a = tt

@@ -1,11 +1,11 @@
 -- What a viewer keeps from link to link.
-use Rattle.std.specs.Prelude.{◌≡◌, ℕ, ◌+◌, ◌<◌, List, [], ◌∷◌, ◌++◌, length, IfSome, MatchOption}
+use Rattle.std.specs.Prelude.{◌≡◌, ℕ, ◌<◌, List, [], ◌∷◌, ◌++◌, length, IfSome, MatchOption}
 use Rattle.std.specs.declared.option.Option.{Option}
 use mathlib.Core.List.{IsPrefix}
 use Rattle.gt_base.specs.declared.requests.Entry.{Entry}
 use Rattle.gt_base.specs.declared.limits.TheConstants.{MAX_LINKS}
-use Rattle.gt_io.specs.Causes.{Rose}
-use Rattle.gt_io.specs.Links.{Traffic}
+use Rattle.gt_io.specs.Memory.{one_more}
+use Rattle.gt_io.specs.Links.{Traffic, Tally, Doorway}
 use Rattle.policy_words.specs.Naming.{NamedPolicy}
 use Rattle.connection_laws.specs.Lines.{Acted, denied_in}
 use Rattle.connection_laws.specs.Doors.{Gives, AddUp}
@@ -30,22 +30,23 @@ abbrev pub all_lens : {L : Type 0} → List (Viewed L) → List ℕ
 all_lens [] = []
 all_lens (s ∷ ss) = s.lens.items ++ all_lens ss
 
--- each end has its cause; a door that has failed is asked no more, and that ends the work
-abbrev pub ViewsTo : {L : Type 0} → Option (List L) → ℕ → ℕ → List (Viewed L) → ViewerEnd → Type 0
-ViewsTo {L} links faults faults' served Done =
-    (length served < MAX_LINKS) × IfSome links (λ ls. ls ≡ []) × (faults' ≡ faults)
-ViewsTo {L} links faults faults' served DoorFault =
-    (length served < MAX_LINKS) × Rose faults faults'
-ViewsTo {L} links faults faults' served Enough =
-    (length served ≡ MAX_LINKS) × (faults' ≡ faults)
-ViewsTo {L} links faults faults' served Memory =
-    (length served < MAX_LINKS) × (faults' ≡ faults)
-ViewsTo {L} links faults faults' served Fresh = ⊥
+-- Each end has its cause. A door that gave none or has failed is asked no more, and that ends the
+-- work
+abbrev pub ViewsTo : {L : Type 0} → Option (List L) → Tally → Tally → List (Viewed L) → ViewerEnd
+    → Type 0
+ViewsTo {L} links t t' served Done =
+    (length served < MAX_LINKS) × IfSome links (λ ls. ls ≡ [])
+    × (t' ≡ record t { ends = one_more t.ends })
+ViewsTo {L} links t t' served DoorFault =
+    (length served < MAX_LINKS) × (t' ≡ record t { faults = one_more t.faults })
+ViewsTo {L} links t t' served Enough = (length served ≡ MAX_LINKS) × (t' ≡ t)
+ViewsTo {L} links t t' served Memory = (length served < MAX_LINKS) × (t' ≡ t)
+ViewsTo {L} links t t' served Fresh = ⊥
 
 -- a moment of a viewer: the history that its glass has seen, and its door
 pub record ViewerSpot (L : Type 0) : Type 0 where
   pub seen : List Entry
-  pub door : Option (List L)
+  pub door : Doorway L
 
 module _ {L : Type 0} (traffic : L → Traffic) (np : NamedPolicy) (birth : ℕ) where
   -- A link was served as this is told, over a history, and its numbers and its count of denied
@@ -67,22 +68,20 @@ module _ {L : Type 0} (traffic : L → Traffic) (np : NamedPolicy) (birth : ℕ)
     pub links : AreViewed p.seen served tales
     pub grows : IsPrefix o.seen p.seen
     pub ascends : AscendBetween (length o.seen) (all_lens served) (length p.seen)
-    pub door : Gives o.door p.door (views_begun tales)
+    pub door : Gives o.door.links p.door.links (views_begun tales)
 
   -- what one more link comes to
-  abbrev pub WorksOn : ViewerSpot L → ViewerSpot L → ℕ → ℕ → List (Viewed L) → List (Viewed L)
+  abbrev pub WorksOn : ViewerSpot L → ViewerSpot L → List (Viewed L) → List (Viewed L)
       → Option ViewerEnd → Type 0
-  WorksOn p p' faults faults' served served' result =
+  WorksOn p p' served served' result =
       (o : ViewerSpot L) (tales : List (ViewTale L)) → Worked o p served tales
       → (tales' : List (ViewTale L)) × Worked o p' served' tales'
-      × MatchOption result (faults' ≡ faults)
-      (λ end. ViewsTo p'.door faults faults' served' end)
+      × MatchOption result (p'.door.tally ≡ p.door.tally)
+      (λ end. ViewsTo p'.door.links p.door.tally p'.door.tally served' end)
 
   -- all the work of a viewer
-  pub record Works (o p : ViewerSpot L) (faults faults' : ℕ) (served : List (Viewed L))
-      (end : ViewerEnd)
-      : Type 0 where
+  pub record Works (o p : ViewerSpot L) (served : List (Viewed L)) (end : ViewerEnd) : Type 0 where
     pub tales : List (ViewTale L)
     pub worked : Worked o p served tales
-    pub counted : AddUp o.door p.door served
-    pub cause : ViewsTo p.door faults faults' served end
+    pub counted : AddUp o.door.links p.door.links served
+    pub cause : ViewsTo p.door.links o.door.tally p.door.tally served end

@@ -6,7 +6,7 @@ use Rattle.gt_base.specs.declared.requests.Actor.{Actor}
 use Rattle.gt_base.specs.declared.requests.Actor.TheVariants.{Nobody}
 use Rattle.gt_base.specs.declared.requests.Entry.{Entry}
 use Rattle.gt_base.specs.declared.requests.Request.{Request}
-use Rattle.gt_io.specs.Links.{Traffic}
+use Rattle.gt_io.specs.Links.{Traffic, Doorway}
 use Rattle.gtrbac_model.specs.Policy.{Policy}
 use Rattle.gtrbac_model.specs.Status.{Model}
 use Rattle.gtrbac_model.specs.History.{Legal}
@@ -28,34 +28,28 @@ use Rattle.connection_laws.specs.Desks.{GlancesCanBeTold}
 use Rattle.snapshot_readers.specs.Viewing.{SameGlass}
 use Rattle.snapshot_readers.specs.declared.seats.Seat.{Seat}
 
--- a viewer as it is seen: the links of its door that are to come, where they are told, how often
--- its door failed, its served links, and how it ended
+-- a viewer as it is seen: its door, its served links, and how it ended
 pub record Watcher (L : Type 0) : Type 0 where
-  pub door : Option (List L)
-  pub faults : ℕ
+  pub door : Doorway L
   pub served : List (Viewed L)
   pub outcome : ViewerEnd
 
-module _ {D G L : Type 0} (links : D → Option (List L)) (faults : D → ℕ) where
+module _ {D G L : Type 0} (doorway : D → Doorway L) where
   abbrev pub watcher : Viewer D G L → Watcher L
-  watcher v =
-      record {
-        door = links v.door;
-        faults = faults v.door;
-        served = v.served.items;
-        outcome = v.outcome;
-      }
+  watcher v = record { door = doorway v.door; served = v.served.items; outcome = v.outcome }
 
   abbrev pub watchers : List (Viewer D G L) → List (Watcher L)
   watchers vs = map watcher vs
 
-  -- what a viewer at its seat did, with the history that its glass has seen before and after
+  -- what a viewer at its seat did, with the history that its glass has seen before and after; its
+  -- door was closed
   pub record HasLooked (traffic : L → Traffic) (np : NamedPolicy) (x y : Seat D G L) : Type 0 where
     pub same : SameGlass x.glass y.glass
     pub works : Works traffic np x.glass.birth
-        (record { seen = x.glass.seen; door = links x.viewer.door })
-        (record { seen = y.glass.seen; door = links y.viewer.door })
-        (faults x.viewer.door) (faults y.viewer.door) y.viewer.served.items y.viewer.outcome
+        (record { seen = x.glass.seen; door = doorway x.viewer.door })
+        (record { seen = y.glass.seen; door = doorway y.viewer.door }) y.viewer.served.items
+        y.viewer.outcome
+    pub closed : (doorway y.viewer.door).closed ≡ true
 
 -- it has not begun, and has served nothing
 abbrev pub IsNewViewer : {D G L : Type 0} → Viewer D G L → Type 0
@@ -116,8 +110,9 @@ module _ {L : Type 0} (traffic : L → Traffic) (np : NamedPolicy) (birth : ℕ)
     pub tales : List (ViewTale L)
     pub links : AreViewed traffic np birth seen b.served tales
     pub ascends : AscendBetween 0 (all_lens b.served) (length seen)
-    pub door : Gives a.door b.door (views_begun tales)
-    pub cause : ViewsTo b.door a.faults b.faults b.served b.outcome
+    pub door : Gives a.door.links b.door.links (views_begun tales)
+    pub cause : ViewsTo b.door.links a.door.tally b.door.tally b.served b.outcome
+    pub closed : b.door.closed ≡ true
 
   -- The list has the history as its beginning and is legal itself; so the replies of numbers that
   -- are not above the length of the history are those of its beginnings

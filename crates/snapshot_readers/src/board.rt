@@ -8,7 +8,7 @@ use crate::book_copy::BookCopy;
 use crate::glasses::Glasses;
 use core::mem::replace_with;
 use core_machine::{Book, Ledger};
-use gt_base::{Entry, Memory};
+use gt_base::{Entry, MAX_STEPS, Memory};
 use policy_book::Policy;
 use published_copies::Copies;
 use std::alloc::Global;
@@ -22,7 +22,12 @@ pub struct Board<'a, R: Wait> {
     pub(crate) rt: &'a R,
     pub(crate) ledger: Ledger,
     pub(crate) copies: Copies<BookCopy>,
+    /// How many ticks have come since it last published.
+    ticks: u32,
 }
+
+/// How many ticks of one line come before the board publishes them.
+const MAX_TICKS: u32 = 1024;
 
 impl<'a, R: Wait> Model for Board<'a, R> {
     ghost use Rattle.snapshot_readers.specs.Boards.{BoardView, board_code};
@@ -46,6 +51,7 @@ impl<'a, R: Wait> Drop for Board<'a, R> {
             rt,
             ledger: _,
             copies,
+            ticks: _,
         } = self;
         copies.end(rt);
     }
@@ -77,7 +83,15 @@ impl<'a, R: Wait> Board<'a, R> {
         ensures err { IfErr result (λ e. e.ledger ≡ ledger) }
     {
         match set_up(rt, alloc, left, right, viewers, ledger.book().policy()) {
-            Ok((copies, glasses)) => Ok((Board { rt, ledger, copies }, glasses)),
+            Ok((copies, glasses)) => Ok((
+                Board {
+                    rt,
+                    ledger,
+                    copies,
+                    ticks: 0,
+                },
+                glasses,
+            )),
             Err(_) => Err(BoardFault { ledger }),
         }
     }
@@ -94,6 +108,7 @@ impl<'a, R: Wait> Board<'a, R> {
         ensures ledger { self.new.ledger ≡ self.old.ledger }
         ensures all { OnOk result (self.new.shown ≡ self.new.ledger.entries) }
     {
+        self.ticks = 0;
         let entries = self.ledger.book().entries().as_slice();
         replace_with(&mut self.copies, (self.rt, entries), brought_up)
     }
@@ -105,11 +120,27 @@ impl<'a, R: Wait> Board<'a, R> {
         let _ = self.catch_up();
     }
 
+    /// Counts a tick. Behind the last of a line, each 1,024th and one that fills the history it
+    /// publishes what there is memory for.
+    pub(crate) fn follow_tick(&mut self, last: bool)
+        ensures { self.new.ledger ≡ self.old.ledger }
+    {
+        self.ticks = self.ticks.saturating_add(1);
+        if last || self.ticks >= MAX_TICKS || self.book().entries().len() >= MAX_STEPS {
+            self.follow();
+        }
+    }
+
     /// The ledger alone.
     pub fn into_ledger(self) -> Ledger
         ensures { result ≡ self.entry.ledger }
     {
-        let Board { rt, ledger, copies } = self;
+        let Board {
+            rt,
+            ledger,
+            copies,
+            ticks: _,
+        } = self;
         copies.end(rt);
         ledger
     }

@@ -85,6 +85,8 @@ impl<'a, G: Gate> Answerer for Guide<'a, G> {
 
     ghost asks = { GuideGets };
 
+    ghost rested = { λ k. k };
+
     ghost wears = { λ k n. ⊥ };
 
     ghost use Rattle.std.proofs.Common.{refl, ◌∙◌};
@@ -97,6 +99,8 @@ impl<'a, G: Gate> Answerer for Guide<'a, G> {
     ghost keeps_trans = { λ i j k x y. (y.0 ∙ x.0, y.1 ∙ x.1, y.2 ∙ x.2) };
 
     ghost asks_keep = { λ j k actor request answer readings entries x. x.keeps };
+
+    ghost rested_keep = { λ j k x. x };
 
     fn policy(&self) -> &Policy {
         self.policy

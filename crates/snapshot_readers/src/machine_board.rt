@@ -1,4 +1,5 @@
-//! A board as a machine: its steps are those of its ledger, and what they add is published.
+//! A board as a machine: its steps are those of its ledger. What they add is published behind each
+//! request, behind the last of the ticks that bring a line to its minute, and behind many of them.
 
 use crate::board::Board;
 use gt_base::{Actor, Instant, Keeps, Machine, Reply, Request, StepFault, Who};
@@ -47,7 +48,7 @@ impl<'a, R: Wait> Machine for Board<'a, R> {
         match Machine::tick(&mut self.ledger, who, upto) {
             Ok(to) => {
                 if later {
-                    self.follow();
+                    self.follow_tick(to >= upto);
                 }
                 Ok(to)
             }

@@ -1,5 +1,5 @@
 //! Whether a request is named for a policy.
-ghost use Rattle.std.specs.Prelude.{◌≡◌, ◌<◌, ◌^◌, true};
+ghost use Rattle.std.specs.Prelude.{◌≡◌, ◌<◌, ◌^◌, ◌↔◌, true};
 ghost use Rattle.gt_base.specs.declared.requests.Actor.TheVariants.{Operator};
 ghost use Rattle.gt_base.specs.declared.requests.Request.TheVariants.{Now, Status};
 ghost use Rattle.gtrbac_model.specs.History.{IsNamedWish, ask};
@@ -9,7 +9,7 @@ use policy_book::Policy;
 
 /// Whether the policy has the user who acts; the operator and nobody need none.
 fn names_actor(policy: &Policy, actor: Actor) -> bool
-    ensures { result ≡ true → IsNamedWish policy.now.policy (ask actor Now) }
+    ensures { result ≡ true ↔ IsNamedWish policy.now.policy (ask actor Now) }
 {
     match actor {
         Actor::User(user) => user.0 < policy.user_count(),
@@ -21,7 +21,7 @@ fn names_actor(policy: &Policy, actor: Actor) -> bool
 /// Whether the policy has what a fluent names.
 fn names_fluent(policy: &Policy, fluent: Fluent) -> bool
     ensures { result ≡ true
-        → IsNamedWish policy.now.policy
+        ↔ IsNamedWish policy.now.policy
         (ask Operator (Status (record { on = true; fluent = fluent }))) }
 {
     let roles = policy.role_count();
@@ -36,14 +36,14 @@ fn names_fluent(policy: &Policy, fluent: Fluent) -> bool
 
 /// Whether the number of a session is in range.
 fn is_session(session: SessionId) -> bool
-    ensures { result ≡ true → session.0 < 2 ^ 32 }
+    ensures { result ≡ true ↔ session.0 < 2 ^ 32 }
 {
     session.0 <= u32::MAX
 }
 
 /// Whether the policy has what a request names, and its numbers are in range.
 fn names_request(policy: &Policy, request: &Request) -> bool
-    ensures { result ≡ true → IsNamedWish policy.now.policy (ask Operator request.now) }
+    ensures { result ≡ true ↔ IsNamedWish policy.now.policy (ask Operator request.now) }
 {
     let roles = policy.role_count();
     match request {
@@ -66,7 +66,7 @@ fn names_request(policy: &Policy, request: &Request) -> bool
 
 /// Whether actor and request are of the policy.
 pub(crate) fn names(policy: &Policy, actor: Actor, request: &Request) -> bool
-    ensures { result ≡ true → IsNamedWish policy.now.policy (ask actor request.now) }
+    ensures { result ≡ true ↔ IsNamedWish policy.now.policy (ask actor request.now) }
 {
     names_actor(policy, actor) && names_request(policy, request)
 }

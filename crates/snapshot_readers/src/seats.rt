@@ -74,7 +74,7 @@ pub fn leave_seats<D: Door, G: Gate>(viewers: &mut Vec<Viewer<D, G>>, mut seats:
 /// Serves the links of the viewer of one seat.
 fn look_at<D: Door, G: Gate>(alloc: Global, policy: &Policy, seat: &mut Seat<D, G>)
     requires ready { IsReadySeat policy.now seat.old }
-    ensures { HasLooked D.links D.faults D.L.traffic policy.now seat.old seat.new }
+    ensures { HasLooked D.doorway D.L.traffic policy.now seat.old seat.new }
 {
     view(
         alloc,
@@ -96,7 +96,7 @@ where
     D::L: Send,
     requires ready { All (λ s. IsReadySeat policy.now s) seats.old }
     ensures { (i : ℕ) (d : _) → i < length seats.old
-        → HasLooked D.links D.faults D.L.traffic policy.now (slice_index_or seats.old i d)
+        → HasLooked D.doorway D.L.traffic policy.now (slice_index_or seats.old i d)
         (slice_index_or seats.new i d) }
 {
     thread::for_each_mut(rt, seats, 8, &|_, seat| { look_at(alloc, policy, seat) });
@@ -115,7 +115,7 @@ where
     requires ready { All (λ s. IsReadySeat policy.now s) seats.old.items }
     ensures length { length seats.new.items ≡ length seats.old.items }
     ensures looked { (i : ℕ) (d : _) → i < length seats.old.items
-        → HasLooked D.links D.faults D.L.traffic policy.now (slice_index_or seats.old.items i d)
+        → HasLooked D.doorway D.L.traffic policy.now (slice_index_or seats.old.items i d)
         (slice_index_or seats.new.items i d) }
 {
     look_at_all(rt, alloc, policy, seats.as_mut_slice());

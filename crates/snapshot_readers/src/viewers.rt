@@ -1,5 +1,5 @@
 //! The links of a viewer's door, one after the other.
-ghost use Rattle.std.specs.Prelude.{◌≡◌, ◌+◌, ◌<◌, ◌≤◌, ◌^◌, [], length, None};
+ghost use Rattle.std.specs.Prelude.{◌≡◌, ◌+◌, ◌<◌, ◌≤◌, ◌^◌, [], length, None, true};
 ghost use Rattle.gt_base.specs.declared.limits.TheConstants.{MAX_BYTES};
 ghost use Rattle.snapshot_readers.specs.Crew.{WorksOn, Works};
 ghost use Rattle.connection_laws.specs.Desks.{GlancesCanBeTold};
@@ -10,7 +10,7 @@ use crate::glass::Glass;
 use crate::serve::view_link;
 use crate::station::Station;
 use gt_base::{List, MAX_LINKS};
-use gt_io::{Door, Gate};
+use gt_io::{Door, Gate, make_room};
 use policy_book::Policy;
 use std::alloc::Global;
 
@@ -38,9 +38,9 @@ fn view_next<D: Door, G: Gate>(
     requires few { length served.old.items < MAX_LINKS }
     ensures glass { SameGlass glass.old glass.new }
     ensures works { WorksOn D.L.traffic policy.now glass.old.birth
-        (record { seen = glass.old.seen; door = D.links door.old })
-        (record { seen = glass.new.seen; door = D.links door.new })
-        (D.faults door.old) (D.faults door.new) served.old.items served.new.items result }
+        (record { seen = glass.old.seen; door = D.doorway door.old })
+        (record { seen = glass.new.seen; door = D.doorway door.new })
+        served.old.items served.new.items result }
     ensures calls { calls.new ≤ calls.old + MAX_BYTES }
     ensures one { result ≡ None → length served.new.items ≡ length served.old.items + 1 }
 {
@@ -67,13 +67,12 @@ fn view_on<D: Door, G: Gate>(
     requires empty { served.old.items ≡ [] }
     ensures glass { SameGlass glass.old glass.new }
     ensures works { Works D.L.traffic policy.now glass.old.birth
-        (record { seen = glass.old.seen; door = D.links door.old })
-        (record { seen = glass.new.seen; door = D.links door.new })
-        (D.faults door.old) (D.faults door.new) served.new.items result }
+        (record { seen = glass.old.seen; door = D.doorway door.old })
+        (record { seen = glass.new.seen; door = D.doorway door.new }) served.new.items result }
 {
     let mut calls = 0;
     while served.len() < MAX_LINKS {
-        if served.reserve(1).is_err() {
+        if make_room(door, served).is_err() {
             return ViewerEnd::Memory;
         }
         if let Some(end) = view_next(glass, policy, station, door, served, &mut calls) {
@@ -84,8 +83,8 @@ fn view_on<D: Door, G: Gate>(
 }
 
 /// Serves the links of the viewer's door one after the other, until the door has none left or
-/// fails, 100,000 were served, or there is no memory for a further link. The viewer `v` passes its
-/// gate as worker 8 + v.
+/// fails, 100,000 were served, or there is no memory for a further link. Then the door is closed.
+/// The viewer `v` passes its gate as worker 8 + v.
 pub fn view<D: Door, G: Gate>(
     alloc: Global,
     glass: &mut Glass,
@@ -99,10 +98,10 @@ pub fn view<D: Door, G: Gate>(
     requires fresh { (viewer.old.outcome ≡ ViewerEnd.Fresh) × (viewer.old.served.items ≡ []) }
     ensures glass { SameGlass glass.old glass.new }
     ensures works { Works D.L.traffic policy.now glass.old.birth
-        (record { seen = glass.old.seen; door = D.links viewer.old.door })
-        (record { seen = glass.new.seen; door = D.links viewer.new.door })
-        (D.faults viewer.old.door) (D.faults viewer.new.door) viewer.new.served.items
-        viewer.new.outcome }
+        (record { seen = glass.old.seen; door = D.doorway viewer.old.door })
+        (record { seen = glass.new.seen; door = D.doorway viewer.new.door })
+        viewer.new.served.items viewer.new.outcome }
+    ensures closed { (D.doorway viewer.new.door).closed ≡ true }
 {
     let station = Station {
         alloc,
@@ -116,4 +115,5 @@ pub fn view<D: Door, G: Gate>(
         &mut viewer.door,
         &mut viewer.served,
     );
+    viewer.door.close();
 }

@@ -1,5 +1,5 @@
 -- The passes that a lock begins with.
-use Rattle.std.proofs.Common.{◌≡◌, ℕ, zero, suc, ◌+◌, ◌-◌, ◌≤◌, List, [], ◌∷◌, ◌++◌, ap, ◌∙◌, arith, add-zero}
+use Rattle.std.proofs.Common.{◌≡◌, ℕ, zero, suc, ◌+◌, ◌-◌, ◌≤◌, List, [], ◌∷◌, ◌++◌, false, ap, ◌∙◌, arith, add-zero}
 use Rattle.std.specs.List.{insert}
 use Rattle.atomic_table.specs.Table.{Me}
 use Rattle.atomic_table.specs.Seated.{TableId}
@@ -16,7 +16,7 @@ Standing M = Me (Spot M) (View M)
 module _ {M : Type 0} where
   -- what is seen of a pass with these fields
   abbrev pub seen_as : TableId → Standing M → ℕ → ℕ → Holder M
-  seen_as t me k draws = record { site = record { table = t; root = me.0.root }; number = k; draws = draws; seen = (account_in me.0).seen; own = (account_in me.0).own; turn = turn_of me.0.stage }
+  seen_as t me k draws = record { site = record { table = t; root = me.0.root }; number = k; draws = draws; seen = (account_in me.0).seen; own = (account_in me.0).own; turn = turn_of me.0.stage; stays = false; keeps = false }
 
   pub new_pass : (l : Lock M) (first : List Entry) (k next : ℕ) (t : TableId) (me : Standing M) → t ≡ l.table → me ≡ (plain l.root (account k first) next Idle, []) → seen_as t me k 0 ≡ newcomer l first k
   new_pass l first k next t me is_table is = λ i. seen_as (is_table i) (is i) k 0

@@ -24,7 +24,8 @@ abbrev pub site_of : {M : Type 0} → Lock M → Site M
 site_of l = record { table = l.table; root = Some l.root }
 
 -- draws counts its turns; one that it had kept took no ticket. turn is the list that the pass knows
--- while it holds the turn
+-- while it holds the turn. stays tells whether it is to keep its turn when it gives the value back,
+-- and keeps whether it has kept it since
 pub record Holder (M : Type 0) : Type 0 where
   pub site : Site M
   pub number : ℕ
@@ -32,6 +33,12 @@ pub record Holder (M : Type 0) : Type 0 where
   pub seen : List Entry
   pub own : List Entry
   pub turn : Option (List Entry)
+  pub stays : Bool
+  pub keeps : Bool
+
+-- the pass at rest: it keeps no turn, and is to keep none
+abbrev pub rested : {M : Type 0} → Holder M → Holder M
+rested p = record p { stays = false; keeps = false }
 
 abbrev pub turn_of : Stage → Option (List Entry)
 turn_of Idle = None
@@ -69,7 +76,16 @@ module _ {M : Type 0} where
   -- a pass that has drawn nothing
   abbrev pub newcomer : Lock M → List Entry → ℕ → Holder M
   newcomer l first n =
-      record { site = site_of l; number = n; draws = 0; seen = first; own = []; turn = None }
+      record {
+        site = site_of l;
+        number = n;
+        draws = 0;
+        seen = first;
+        own = [];
+        turn = None;
+        stays = false;
+        keeps = false;
+      }
 
   -- the passes of the numbers from k on, n of them
   abbrev pub newcomers : Lock M → List Entry → ℕ → ℕ → List (Holder M)

@@ -1,9 +1,9 @@
 //! The lock, and what a pass does with it.
-ghost use Rattle.std.specs.Prelude.{◌≡◌, ◌+◌, ◌^◌, ◌<◌, ◌≤◌, ◌++◌, [], ◌∷◌, length, drop, IfOk, IfErr, Some, None};
+ghost use Rattle.std.specs.Prelude.{◌≡◌, ◌+◌, ◌^◌, ◌<◌, ◌≤◌, ◌++◌, [], ◌∷◌, length, drop, false, IfOk, IfErr, Some, None};
 ghost use mathlib.Core.List.{IsPrefix};
 ghost use Rattle.gt_base.specs.declared.requests.Entry.{Entry};
 ghost use Rattle.turn_lock.specs.Turns.{part};
-ghost use Rattle.turn_lock.specs.Holders.{site_of};
+ghost use Rattle.turn_lock.specs.Holders.{site_of, rested};
 
 use crate::front::Front;
 use crate::pass::{MAX_DRAWS, Pass};
@@ -56,6 +56,7 @@ impl<M: Keeps> TurnLock<M> {
             ≡ record pass.old {
               draws = pass.old.draws + 1;
               turn = Some (M.list value);
+              keeps = false;
             })) }
         ensures seen { IfOk result (λ value. IsPrefix pass.old.seen (M.list value)) }
         ensures root { IfOk result (λ value. M.same_root self.now.root value) }
@@ -100,7 +101,9 @@ impl<M: Keeps> TurnLock<M> {
         requires pass { (pass.old.site ≡ site_of self.now) × (pass.old.turn ≡ Some (M.list value)) }
         requires root { M.same_root self.now.root value }
         ensures front { result ≡ M.list value }
-        ensures pass { pass.new ≡ record pass.old { seen = M.list value; turn = None } }
+        ensures pass { pass.new
+            ≡ record pass.old { seen = M.list value; turn = None; keeps = pass.new.keeps } }
+        ensures kept { pass.old.stays ≡ false → pass.new.keeps ≡ false }
         ensures first { IsPrefix (M.list self.now.root) (M.list value) }
         ensures own { pass.new.own
             ≡ part pass.new.number (drop (length (M.list self.now.root)) (M.list value)) }
@@ -120,7 +123,7 @@ impl<M: Keeps> TurnLock<M> {
     /// Gives the turn on where the pass has kept it, and has it keep none from now on.
     pub fn rest(&self, pass: &mut Pass<M>)
         requires pass { (pass.old.site ≡ site_of self.now) × (pass.old.turn ≡ None) }
-        ensures { pass.new ≡ pass.old }
+        ensures { pass.new ≡ rested pass.old }
     {
         pass.stays = false;
         pass.run = 0;

@@ -1,5 +1,5 @@
 //! A pass of the lock, as its holder sees it.
-ghost use Rattle.std.specs.Prelude.{◌≡◌, [], ◌∷◌};
+ghost use Rattle.std.specs.Prelude.{◌≡◌, true, [], ◌∷◌};
 ghost use Rattle.turn_lock.specs.Turns.{undrawn};
 ghost use Rattle.turn_lock.specs.Holders.{account_of, turn_of, HandFits, is_kept};
 ghost use Rattle.turn_lock.specs.Seats.{mine};
@@ -40,6 +40,8 @@ impl<M> Model for Pass<M> {
       seen = (mine p.seat).seen;
       own = (mine p.seat).own;
       turn = turn_of p.seat.me.0.stage;
+      stays = p.stays;
+      keeps = p.kept;
     } };
 
     ghost invariant = { λ p. (p.seat.me.0.accounts
@@ -66,7 +68,7 @@ impl<M> Pass<M> {
     /// it rests. Others wait meanwhile, so whoever says so has it rest before waiting for anything
     /// else.
     pub fn stay(&mut self)
-        ensures { self.new ≡ self.old }
+        ensures { self.new ≡ record self.old { stays = true } }
     {
         self.stays = true;
     }

@@ -10,11 +10,11 @@ use Rattle.gtrbac_model.specs.Sessions.{Table}
 use Rattle.why_check.specs.Kept.{joins_at, with_signals}
 
 -- the heads that join are those of the set and of the triggers that these are
-pub joined : {T E : Type 0} (r : Result T E) (new old : ℕ → List Prioritised) (before : Status) (x y : HappenedView) (at : ℕ) (rs qs : List TriggerView)
-    → OnOk r ((k : ℕ) → k ≤ LAST_MINUTE → new k ≡ old k ++ flat_map (joins_at before x at k) rs) → x ≡ y → rs ≡ qs
-    → OnOk r ((k : ℕ) → k ≤ LAST_MINUTE → new k ≡ old k ++ flat_map (joins_at before y at k) qs)
-joined (Ok v) new old before x y at rs qs e f g = λ k within. e k within ∙ (λ i. old k ++ flat_map (joins_at before (f i) at k) (g i))
-joined (Err w) new old before x y at rs qs e f g = tt
+pub joined : {T E : Type 0} (r : Result T E) (new old : ℕ → List Prioritised) (before : Status) (x : HappenedView) (at : ℕ) (rs qs : List TriggerView)
+    → OnOk r ((k : ℕ) → k ≤ LAST_MINUTE → new k ≡ old k ++ flat_map (joins_at before x at k) rs) → rs ≡ qs
+    → OnOk r ((k : ℕ) → k ≤ LAST_MINUTE → new k ≡ old k ++ flat_map (joins_at before x at k) qs)
+joined (Ok v) new old before x at rs qs e g = λ k within. e k within ∙ (λ i. old k ++ flat_map (joins_at before x at k) (g i))
+joined (Err w) new old before x at rs qs e g = tt
 
 -- the signals that wait are these
 pub waiting_so : {T E : Type 0} (items : T → List Signal) (r : Result T E) (table closed : Table) (waiting : List Signal) → IfOk r (λ v. items v ≡ waiting) → with_signals table waiting ≡ closed

@@ -1,21 +1,19 @@
 -- Sets and orders as the code tests them.
-use Rattle.std.proofs.Common.{◌≡◌, ◌↔◌, ℕ, ◌+◌, Bool, true, false, not, ◌&&◌, ◌||◌, List, [], ◌∷◌, drop, IsTrue, refl, sym, ◌∙◌, ap, subst}
+use Rattle.std.proofs.Common.{◌≡◌, ◌↔◌, ℕ, ◌+◌, Bool, true, false, not, ◌&&◌, ◌||◌, List, [], ◌∷◌, drop, IsTrue, IsPermutation, refl, sym, ◌∙◌, ap, subst}
 use Rattle.std.specs.List.{list_all, list_any}
 use Rattle.std.specs.Ordering.{eq_by_cmp}
-use Rattle.std.specs.Cmp.{eq_by_cmp_equiv}
+use Rattle.std.proofs.lemmas.List.Sorted.{list_any-IsPermutation}
 use Rattle.gt_base.specs.Held.{TriggerView}
 use Rattle.gt_base.specs.Happening.{HappenedView, nothing}
-use Rattle.gt_base.specs.Orders.{event_cmp, prioritised_cmp, signal_cmp}
-use Rattle.gt_base.specs.Sets.{SetOf, has, members, none, set_of, with_member}
-use Rattle.gt_base.specs.declared.events.Event.{Event}
+use Rattle.gt_base.specs.Orders.{prioritised_cmp, signal_cmp}
+use Rattle.gt_base.specs.Sets.{SetOf, has, members, none, set_of}
 use Rattle.gt_base.specs.declared.events.Prioritised.{Prioritised}
 use Rattle.gt_base.specs.declared.events.Signal.{Signal}
 use Rattle.gt_base.proofs.OrderLaws.{prioritised_cmp-IsAntisymmetric, signal_cmp-IsAntisymmetric}
-use Rattle.gt_base.proofs.SetLaws.{same_sets, has-set_of, has-with_member, has-none}
-use Rattle.gt_base.proofs.SetSteps.{event_cmp_total, prioritised_cmp_total, signal_cmp_total}
+use Rattle.gt_base.proofs.SetLaws.{same_sets, has-set_of, has-none}
+use Rattle.gt_base.proofs.SetSteps.{prioritised_cmp_total, signal_cmp_total}
 use Rattle.gtrbac_model.specs.Conflict.{Status}
 use Rattle.gtrbac_model.specs.Instant.{closed, supported, grounded_after}
-use Rattle.gtrbac_model.specs.Same.{same_event}
 use Rattle.gtrbac_model.proofs.Elements.{both_true, and_true, all_elim, all_intro, elem_of_has, has_of_elem}
 use Rattle.time_engine.specs.Traces.{is_something}
 use Rattle.time_engine.proofs.Booleans.{both}
@@ -57,20 +55,21 @@ empty_by_test x some answer is of = (to, from)
     from e = is ∙ ap not (of ∙ ap is_something e)
 
 -- the set that was filled with the lists
-pub filled_events : (s t : SetOf prioritised_cmp) (es xs : List Prioritised) → s ≡ none → xs ≡ es → ((e : Prioritised) → has t e ≡ (has s e || list_any (eq_by_cmp prioritised_cmp e) xs)) → t ≡ set_of es
-filled_events s t es xs empty same is =
+pub filled_events : (s t : SetOf prioritised_cmp) (es ys xs : List Prioritised) → s ≡ none → xs ≡ ys → IsPermutation es ys → ((e : Prioritised) → has t e ≡ (has s e || list_any (eq_by_cmp prioritised_cmp e) xs)) → t ≡ set_of es
+filled_events s t es ys xs empty same turned is =
     same_sets prioritised_cmp_total prioritised_cmp-IsAntisymmetric t (set_of es) (λ e.
-    is e ∙ (λ i. (ap (λ u. has u e) empty ∙ has-none prioritised_cmp e) i || list_any (eq_by_cmp prioritised_cmp e) (same i)) ∙ sym (has-set_of prioritised_cmp_total es e))
+    is e
+    ∙ (λ i. (ap (λ u. has u e) empty ∙ has-none prioritised_cmp e) i || (ap (list_any (eq_by_cmp prioritised_cmp e)) same ∙ sym (list_any-IsPermutation (eq_by_cmp prioritised_cmp e) es ys turned)) i)
+    ∙ sym (has-set_of prioritised_cmp_total es e))
 
-pub filled_signals : (s t : SetOf signal_cmp) (es xs : List Signal) → s ≡ none → xs ≡ es → ((e : Signal) → has t e ≡ (has s e || list_any (eq_by_cmp signal_cmp e) xs)) → t ≡ set_of es
-filled_signals s t es xs empty same is =
+pub filled_signals : (s t : SetOf signal_cmp) (es ys xs : List Signal) → s ≡ none → xs ≡ ys → IsPermutation es ys → ((e : Signal) → has t e ≡ (has s e || list_any (eq_by_cmp signal_cmp e) xs)) → t ≡ set_of es
+filled_signals s t es ys xs empty same turned is =
     same_sets signal_cmp_total signal_cmp-IsAntisymmetric t (set_of es) (λ e.
-    is e ∙ (λ i. (ap (λ u. has u e) empty ∙ has-none signal_cmp e) i || list_any (eq_by_cmp signal_cmp e) (same i)) ∙ sym (has-set_of signal_cmp_total es e))
+    is e
+    ∙ (λ i. (ap (λ u. has u e) empty ∙ has-none signal_cmp e) i || (ap (list_any (eq_by_cmp signal_cmp e)) same ∙ sym (list_any-IsPermutation (eq_by_cmp signal_cmp e) es ys turned)) i)
+    ∙ sym (has-set_of signal_cmp_total es e))
 
 -- one event more that may stand
-pub added_event : (s : SetOf event_cmp) (e f : Event) → has (with_member s e) f ≡ (same_event e f || has s f)
-added_event s e f = has-with_member event_cmp_total s e f ∙ ap (λ b. b || has s f) ((eq_by_cmp_equiv event_cmp_total).symm f e)
-
 pub noted : (same b there : Bool) → b ≡ false → (same || there) ≡ ((same && not b) || there)
 noted true b there e = ap (λ c. not c || there) (sym e)
 noted false b there e = refl

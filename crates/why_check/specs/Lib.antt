@@ -5,3 +5,4 @@ pub mod Kept
 pub mod Steps
 pub mod Heads
 pub mod Peaks
+pub mod Standing

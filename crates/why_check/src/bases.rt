@@ -5,7 +5,7 @@ ghost use Rattle.gt_base.specs.declared.limits.TheConstants.{LAST_MINUTE};
 ghost use Rattle.duration_limits.specs.Aged.{minute_after};
 ghost use Rattle.gtrbac_model.specs.Base.{queued_at};
 ghost use Rattle.indexmap.specs.IndexMap.{get};
-ghost use Rattle.why_check.specs.Kept.{under, due_in, waiting_for, raised_in, base_in, joins_at};
+ghost use Rattle.why_check.specs.Kept.{under, waiting_for, raised_in, base_in, joins_at};
 
 use crate::periods::{is_next, push_limited, push_periodic};
 use crate::replays::Replay;

@@ -1,12 +1,12 @@
 //! Checking a certificate: the entries are played once, and at each instant at which a tick stopped
 //! the listed set is held against the definitions.
-ghost use Rattle.std.specs.Prelude.{Option as OptionOf, ◌≡◌, ◌<◌, ◌≤◌, ◌↔◌, IsTrue, length, slice_get, Some, IfOk, OnOk};
+ghost use Rattle.std.specs.Prelude.{Option as OptionOf, ◌≡◌, ◌<◌, ◌≤◌, ◌↔◌, IsTrue, length, slice_get, Some, IfOk};
 ghost use Rattle.gt_base.specs.Sets.{has};
 ghost use Rattle.gt_base.specs.declared.limits.TheConstants.{MAX_STEPS};
 ghost use Rattle.gtrbac_model.specs.Safety.{IsSafe};
 ghost use Rattle.session_table.specs.Tables.{NotBefore};
 ghost use Rattle.why_check.specs.Certificates.{Listed as ListedOf, Accepts, IsLegal, set_in, says_something};
-ghost use Rattle.why_check.specs.Kept.{base_in, IsBegun, IsClosed, IsGood, IsLater};
+ghost use Rattle.why_check.specs.Kept.{base_in, IsBegun, IsGood, IsLater};
 ghost use Rattle.why_check.specs.Steps.{IsReadyStep, IsHeld, IsPlayed, held_count};
 
 use crate::bases::base;
@@ -19,6 +19,7 @@ use duration_limits::Ages;
 use gt_base::{Entry, Happened, Instant, List, Memory, Step};
 use indexmap::IndexMap;
 use policy_book::Policy;
+use priority_conflict::Contest;
 use session_table::Sessions;
 use std::alloc::Global;
 
@@ -192,38 +193,33 @@ fn hold_here(
     ensures { IfOk result (λ held. IsHeld by.now.policy.now.policy s.old to
         (Some listing.now) held s.new) }
 {
-    if is_good(s, by, base, listing)? {
-        close_listed(s, by.policy, to, listing)?;
+    let set = set_listed(s.alloc, listing)?;
+    let x = Contest::new(s.alloc, &set)?;
+    if is_good(s, by, base, &x, listing)? {
+        close(s, by.policy, to, &x)?;
         Ok(Held::Listed)
     } else {
         Ok(Held::Wrong)
     }
 }
 
-/// Closes the instant with the set of the listing.
-fn close_listed(
-    s: &mut Replay,
-    policy: &Policy,
-    to: Instant,
+/// Whether the listing, which is of the instant of this base and has this set, says something and
+/// is shown.
+fn is_good(
+    s: &Replay,
+    by: &Judging,
+    base: &Happened,
+    x: &Contest,
     listing: &Listing,
-) -> Result<(), Memory>
-    requires later { s.old.present < to }
-    requires charged { NotBefore s.old.table.charged_to s.old.present }
-    ensures { OnOk result (IsClosed policy.now.policy s.old (set_in listing.now) to s.new) }
-{
-    let set = set_listed(s.alloc, listing)?;
-    close(s, policy, to, &set)
-}
-
-/// Whether the listing, which is of the instant of this base, says something and is shown.
-fn is_good(s: &Replay, by: &Judging, base: &Happened, listing: &Listing) -> Result<bool, Memory>
+) -> Result<bool, Memory>
+    requires { x.now ≡ set_in listing.now }
     ensures { IfOk result (λ yes. IsTrue yes ↔ IsGood by.now.policy.now.policy base.now.set
         (has s.now.status.set) listing.now.at listing.now) }
 {
     if !says_something(listing) {
         return Ok(false);
     }
-    is_shown(s.alloc, by.rules, base, &s.status, listing)
+    is_shown(s.alloc, by.rules, base, &s.status, x, listing)
 }
 
 /// Whether the listing has an event or a signal.
@@ -244,6 +240,7 @@ fn pass(s: &mut Replay, policy: &Policy, to: Instant, base: &Happened) -> Result
     if !is_empty(base) {
         return Ok(Held::Wrong);
     }
-    close(s, policy, to, base)?;
+    let x = Contest::new(s.alloc, base)?;
+    close(s, policy, to, &x)?;
     Ok(Held::Passed)
 }

@@ -3,7 +3,7 @@ ghost use Rattle.std.specs.Prelude.{◌≡◌, ℕ, ◌<◌, ◌≤◌, ◌+◌,
 ghost use Rattle.std.specs.List.{list_any};
 ghost use Rattle.gt_base.specs.declared.events.Event.{Event as EventOf};
 ghost use Rattle.gt_base.specs.declared.events.Fluent.{Fluent as FluentOf};
-ghost use Rattle.gt_base.specs.Sets.{has, members};
+ghost use Rattle.gt_base.specs.Sets.{has};
 ghost use Rattle.gt_base.specs.declared.limits.TheConstants.{LAST_MINUTE};
 ghost use Rattle.gtrbac_model.specs.Conflict.{won as is_won, after};
 ghost use Rattle.gtrbac_model.specs.Same.{same_fluent};
@@ -52,18 +52,13 @@ pub(crate) fn ask(
 }
 
 /// Closes the instant with its set.
-pub(crate) fn close(
-    s: &mut Replay,
-    policy: &Policy,
-    to: Instant,
-    set: &Happened,
-) -> Result<(), Memory>
+pub(crate) fn close(s: &mut Replay, policy: &Policy, to: Instant, x: &Contest) -> Result<(), Memory>
     requires later { s.old.present < to }
     requires charged { NotBefore s.old.table.charged_to s.old.present }
-    ensures { OnOk result (IsClosed policy.now.policy s.old set.now.set to s.new) }
+    ensures { OnOk result (IsClosed policy.now.policy s.old x.now to s.new) }
 {
-    put_delayed(s.alloc, &mut s.due, policy, set, &s.status, to)?;
-    let status = changed(s.alloc, &mut s.ages, &s.status, set, to)?;
+    put_delayed(s.alloc, &mut s.due, policy, x, &s.status, to)?;
+    let status = changed(s.alloc, &mut s.ages, &s.status, x.set(), to)?;
     s.waiting = ended(s.alloc, &mut s.table, policy, s.present, to, &status)?;
     s.status = status;
     s.present = to;
@@ -75,16 +70,15 @@ fn put_delayed(
     alloc: Global,
     due: &mut IndexMap<u32, Vec<Prioritised>>,
     policy: &Policy,
-    set: &Happened,
+    x: &Contest,
     before: &Status,
     at: Instant,
 ) -> Result<(), Memory>
     ensures { OnOk result ((k : ℕ) → k ≤ LAST_MINUTE
         → under (get nat_eq due.new k) (λ v. v.items) ≡ under (get nat_eq due.old k) (λ v. v.items)
-        ++ flat_map (joins_at (has before.now.set) set.now.set at k) policy.now.policy.triggers) }
+        ++ flat_map (joins_at (has before.now.set) x.now at k) policy.now.policy.triggers) }
 {
-    let x = Contest::new(alloc, set)?;
-    put_heads(alloc, due, policy.triggers().as_slice(), &x, before, at)
+    put_heads(alloc, due, policy.triggers().as_slice(), x, before, at)
 }
 
 /// The status after the set, where the instant is noted for the fluents that are not as they were.

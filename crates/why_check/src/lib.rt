@@ -13,8 +13,10 @@ mod periods;
 mod replays;
 mod sessions;
 mod showing;
+mod standing;
 
 pub use blocking::Peaks;
 pub use certificates::{Cert, Listing};
 pub use checking::accept;
 pub use laws::{accepted_is_the_model, priorities_are_low};
+pub use standing::Standing;

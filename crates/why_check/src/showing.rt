@@ -1,29 +1,28 @@
 //! Whether the set that a certificate lists at an instant is closed and in an order that supports
 //! it.
-ghost use Rattle.std.specs.Prelude.{◌≡◌, ◌≤◌, ◌+◌, ◌&&◌, ◌||◌, not, [], length, IsTrue, ◌↔◌, IfOk, OnOk};
+ghost use Rattle.std.specs.Prelude.{◌≡◌, ◌≤◌, ◌&&◌, ◌||◌, not, [], length, IsTrue, ◌↔◌, IfOk, IsPermutation};
 ghost use Rattle.std.specs.List.{list_all, list_any};
 ghost use Rattle.std.specs.Ordering.{eq_by_cmp};
-ghost use Rattle.gt_base.specs.Happening.{HappenedView, nothing};
+ghost use Rattle.gt_base.specs.Happening.{nothing};
 ghost use Rattle.gt_base.specs.Orders.{prioritised_cmp, signal_cmp};
-ghost use Rattle.gt_base.specs.Sets.{has, members, set_of};
-ghost use Rattle.gt_base.specs.declared.events.Event.{Event as EventOf};
+ghost use Rattle.gt_base.specs.Sets.{has, set_of};
 ghost use Rattle.gt_base.specs.declared.events.Prioritised.{Prioritised as PrioritisedOf};
 ghost use Rattle.gt_base.specs.declared.events.Signal.{Signal as SignalOf};
-ghost use Rattle.gtrbac_model.specs.Conflict.{blocked};
 ghost use Rattle.gtrbac_model.specs.Graph.{item_at};
 ghost use Rattle.gtrbac_model.specs.History.{is_some_item};
 ghost use Rattle.gtrbac_model.specs.Instant.{closed, grounded_after};
-ghost use Rattle.gtrbac_model.specs.Same.{same_event, same_prioritised};
+ghost use Rattle.gtrbac_model.specs.Same.{same_prioritised};
 ghost use Rattle.gtrbac_model.specs.Trigger.{met, immediate};
 ghost use Rattle.time_engine.specs.Traces.{is_something};
 ghost use Rattle.why_check.specs.Certificates.{IsShown, set_in};
 ghost use Rattle.why_check.specs.Heads.{passes};
-ghost use Rattle.why_check.specs.Peaks.{ArePeaks};
+ghost use Rattle.why_check.specs.Standing.{stands_in};
 
 use crate::blocking::Peaks;
 use crate::certificates::Listing;
 use crate::heads::Headed;
-use gt_base::{Event, EventSet, Happened, Memory, Prioritised, Signal, Status, Trigger};
+use crate::standing::Standing;
+use gt_base::{Event, Happened, Memory, Prioritised, Signal, Status, Trigger};
 use priority_conflict::Contest;
 use std::alloc::Global;
 use trigger_rules::met_in;
@@ -37,12 +36,23 @@ pub(crate) fn set_of_lists(
     ensures events { IfOk result (λ x. x.set.events ≡ set_of events.now) }
     ensures signals { IfOk result (λ x. x.set.signals ≡ set_of signals.now) }
 {
+    let events = ascending(alloc, events)?;
+    let signals = ascending(alloc, signals)?;
     let mut set = Happened::new(alloc);
     set.reserve(events.len())?;
-    add_events(&mut set, events);
+    add_events(&mut set, &events);
     set.reserve(signals.len())?;
-    add_signals(&mut set, signals);
+    add_signals(&mut set, &signals);
     Ok(set)
+}
+
+/// The items in ascending order, in which a set takes them without moving any.
+fn ascending<K: Ord + Copy + Drop>(alloc: Global, items: &[K]) -> Result<Vec<K>, Memory>
+    ensures { IfOk result (λ sorted. IsPermutation items.now sorted.items) }
+{
+    let mut sorted = Vec::from_slice(alloc, items)?;
+    sorted.sort_unstable();
+    Ok(sorted)
 }
 
 /// Adds the events, into room that was made before.
@@ -71,23 +81,6 @@ fn add_signals(into: &mut Happened, signals: &[Signal])
     }
 }
 
-/// Whether the set of the listing is closed over the base and the status before it, has the signals
-/// of the base, and is listed in an order that supports it.
-pub(crate) fn is_shown(
-    alloc: Global,
-    rules: &Headed,
-    base: &Happened,
-    before: &Status,
-    listing: &Listing,
-) -> Result<bool, Memory>
-    ensures { IfOk result (λ yes. IsTrue yes ↔ IsShown rules.now base.now.set
-        (has before.now.set) listing.now) }
-{
-    let set = set_listed(alloc, listing)?;
-    let x = Contest::new(alloc, &set)?;
-    is_shown_as(alloc, rules, base, before, &x, listing)
-}
-
 /// The set of the listing.
 pub(crate) fn set_listed(alloc: Global, listing: &Listing) -> Result<Happened, Memory>
     ensures { IfOk result (λ x. x.set ≡ set_in listing.now) }
@@ -95,8 +88,9 @@ pub(crate) fn set_listed(alloc: Global, listing: &Listing) -> Result<Happened, M
     set_of_lists(alloc, listing.events.as_slice(), listing.signals.as_slice())
 }
 
-/// Whether the listing is shown, where this is its set.
-fn is_shown_as(
+/// Whether the set of the listing, which is this one, is closed over the base and the status before
+/// it, has the signals of the base, and is listed in an order that supports it.
+pub(crate) fn is_shown(
     alloc: Global,
     rules: &Headed,
     base: &Happened,
@@ -183,29 +177,14 @@ fn is_supported(
         (has before.now.set) x.now [] order.now) }
 {
     let peaks = Peaks::new(alloc, x)?;
-    let mut standing = EventSet::new(alloc);
-    standing.reserve(order.len())?;
+    let mut standing = Standing::new(alloc);
     for e in order {
         if !has_support(rules, base, before, x, &standing, e) {
             return Ok(false);
         }
-        note(&mut standing, &peaks, e);
+        standing.note(&peaks, e)?;
     }
     Ok(true)
-}
-
-/// Adds the event, into room that was made before, where it is not blocked at its priority in the
-/// sets whose events have these peaks.
-fn note(standing: &mut EventSet, peaks: &Peaks, e: &Prioritised)
-    requires { 1 ≤ standing.old.spare }
-    ensures events { (x : HappenedView) → ArePeaks (members x.events) peaks.now
-        → (f : EventOf) → has standing.new.set f
-        ≡ ((same_event e.now.event f && not (blocked x e.now)) || has standing.old.set f) }
-    ensures spare { standing.old.spare ≤ standing.new.spare + 1 }
-{
-    if !peaks.blocks(e) {
-        standing.add(e.event);
-    }
 }
 
 /// Whether the event is in the base, or the head of an immediate trigger that is met in the set and
@@ -215,12 +194,12 @@ fn has_support(
     base: &Happened,
     before: &Status,
     x: &Contest,
-    standing: &EventSet,
+    standing: &Standing,
     e: &Prioritised,
 ) -> bool
     ensures { result ≡ (has base.now.set.events e.now
         || list_any (λ r. immediate r && same_prioritised r.head e.now
-        && met r x.now (has before.now.set) && list_all (has standing.now.set) r.events)
+        && met r x.now (has before.now.set) && list_all (stands_in standing.now) r.events)
         rules.now) }
 {
     base.has(*e) || is_head(rules, before, x, standing, e)
@@ -231,11 +210,11 @@ fn is_head(
     rules: &Headed,
     before: &Status,
     x: &Contest,
-    standing: &EventSet,
+    standing: &Standing,
     e: &Prioritised,
 ) -> bool
     ensures { result ≡ list_any (λ r. immediate r && same_prioritised r.head e.now
-        && met r x.now (has before.now.set) && list_all (has standing.now.set) r.events)
+        && met r x.now (has before.now.set) && list_all (stands_in standing.now) r.events)
         rules.now }
 {
     let numbers = rules.by_head(e.event);
@@ -248,11 +227,11 @@ fn is_headed_by(
     numbers: &[u32],
     before: &Status,
     x: &Contest,
-    standing: &EventSet,
+    standing: &Standing,
     e: Prioritised,
 ) -> bool
     ensures { result ≡ list_any (λ n. passes (λ r. immediate r && same_prioritised r.head e
-        && met r x.now (has before.now.set) && list_all (has standing.now.set) r.events)
+        && met r x.now (has before.now.set) && list_all (stands_in standing.now) r.events)
         (item_at rules.now n)) numbers.now }
 {
     numbers
@@ -266,11 +245,11 @@ fn supports_at(
     n: u32,
     before: &Status,
     x: &Contest,
-    standing: &EventSet,
+    standing: &Standing,
     e: Prioritised,
 ) -> bool
     ensures { result ≡ passes (λ r. immediate r && same_prioritised r.head e
-        && met r x.now (has before.now.set) && list_all (has standing.now.set) r.events)
+        && met r x.now (has before.now.set) && list_all (stands_in standing.now) r.events)
         (item_at rules.now n) }
 {
     match rules.at(n) {
@@ -280,10 +259,10 @@ fn supports_at(
 }
 
 /// Whether the trigger supports the event.
-fn supports(r: &Trigger, before: &Status, x: &Contest, standing: &EventSet, e: Prioritised) -> bool
+fn supports(r: &Trigger, before: &Status, x: &Contest, standing: &Standing, e: Prioritised) -> bool
     ensures { result ≡ (immediate r.now && same_prioritised r.now.head e
         && met r.now x.now (has before.now.set)
-        && list_all (has standing.now.set) r.now.events) }
+        && list_all (stands_in standing.now) r.now.events) }
 {
     if r.delay != 0 || !r.head.cmp(&e).is_eq() {
         return false;
@@ -292,8 +271,8 @@ fn supports(r: &Trigger, before: &Status, x: &Contest, standing: &EventSet, e: P
 }
 
 /// Whether each of the events is there.
-fn all_stand(events: &[Event], standing: &EventSet) -> bool
-    ensures { result ≡ list_all (has standing.now.set) events.now }
+fn all_stand(events: &[Event], standing: &Standing) -> bool
+    ensures { result ≡ list_all (stands_in standing.now) events.now }
 {
     events.iter().all(|e| standing.has(*e))
 }

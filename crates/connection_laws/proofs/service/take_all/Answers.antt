@@ -12,7 +12,7 @@ pub loop-left-init : goal.loop-left-init
 loop-left-init g c =
     let v = g.A.Answerer in
     let t = g.L.Link.traffic c.args.link.now in
-    let s = begins (v.named c.args.answerer.now) v.asks v.wears c.args.answerer.now c.args.hearing.now.talk t.given c.args.hearing.now.framer c.requires.start c.requires.frame in
+    let s = begins (v.named c.args.answerer.now) v.asks v.wears (v.rested c.args.answerer.now) c.args.hearing.now.talk t.given c.args.hearing.now.framer c.requires.start c.requires.frame in
     record {
       fed = [];
       acted = [];
@@ -28,6 +28,7 @@ loop-left-init g c =
       writes = refl;
       ends = refl;
       held = refl;
+      rests = λ is. is;
     }
 
 pub loop-left-preserved : goal.loop-left-preserved
@@ -45,10 +46,10 @@ loop-left-preserved g c =
     let old = t.traffic c.loop-left.link in
     let mid = t.traffic c.read_some.new.link in
     let end = t.traffic c.take_bytes.new.link in
-    let origin = spot c.args.answerer.now c.args.hearing.now.talk start.given in
-    let s = subst (λ (x : Option (List ℕ)). Serving np v.asks origin (spot c.loop-left.answerer c.loop-left.hearing.talk x) c.loop-left.hearing.framer inv.fed inv.acted) (sym r.writes.given_kept) inv.serving in
-    let last = spot c.take_bytes.new.answerer c.take_bytes.new.hearing.talk end.given in
-    let goes = subst (λ (j : NamedPolicy). TakesBytes j v.asks v.wears (spot c.loop-left.answerer c.loop-left.hearing.talk mid.given) last
+    let origin = spot (v.rested c.args.answerer.now) c.args.hearing.now.talk start.given in
+    let s = subst (λ (x : Option (List ℕ)). Serving np v.asks origin (spot (v.rested c.loop-left.answerer) c.loop-left.hearing.talk x) c.loop-left.hearing.framer inv.fed inv.acted) (sym r.writes.given_kept) inv.serving in
+    let last = spot (v.rested c.take_bytes.new.answerer) c.take_bytes.new.hearing.talk end.given in
+    let goes = subst (λ (j : NamedPolicy). TakesBytes j v.asks v.wears (spot (v.rested c.loop-left.answerer) c.loop-left.hearing.talk mid.given) last
     c.loop-left.hearing.framer c.take_bytes.new.hearing.framer chunk mid.write_faults end.write_faults {T = Unit {0}} (Ok c.in_default-take_bytes.field-0)) inv.named c.in_default-take_bytes.ensures.goes in
     let y = goes origin inv.fed inv.acted s in
     let long : length chunk ≡ n = length-take-le n buf r.bound.1 in
@@ -72,6 +73,7 @@ loop-left-preserved g c =
       writes = c.in_default-take_bytes.ensures.faults ∙ r.writes.write_faults_are ∙ inv.writes;
       ends = after.reads.ends_are ∙ r.ends.1 c.if-n-eq0.false ∙ inv.ends;
       held = after.held ∙ c.read_some.ensures.held ∙ inv.held;
+      rests = λ is. after.rests;
     }
 
 pub returns-in-Err-clause-attends : goal.returns-in-Err-clause-attends
@@ -89,10 +91,10 @@ returns-in-Err-clause-attends g c =
     let old = t.traffic c.loop-left.link in
     let mid = t.traffic c.read_some.new.link in
     let end = t.traffic c.take_bytes.new.link in
-    let origin = spot c.args.answerer.now c.args.hearing.now.talk start.given in
-    let s = subst (λ (x : Option (List ℕ)). Serving np v.asks origin (spot c.loop-left.answerer c.loop-left.hearing.talk x) c.loop-left.hearing.framer inv.fed inv.acted) (sym r.writes.given_kept) inv.serving in
-    let last = spot c.take_bytes.new.answerer c.take_bytes.new.hearing.talk end.given in
-    let goes = subst (λ (j : NamedPolicy). TakesBytes j v.asks v.wears (spot c.loop-left.answerer c.loop-left.hearing.talk mid.given) last
+    let origin = spot (v.rested c.args.answerer.now) c.args.hearing.now.talk start.given in
+    let s = subst (λ (x : Option (List ℕ)). Serving np v.asks origin (spot (v.rested c.loop-left.answerer) c.loop-left.hearing.talk x) c.loop-left.hearing.framer inv.fed inv.acted) (sym r.writes.given_kept) inv.serving in
+    let last = spot (v.rested c.take_bytes.new.answerer) c.take_bytes.new.hearing.talk end.given in
+    let goes = subst (λ (j : NamedPolicy). TakesBytes j v.asks v.wears (spot (v.rested c.loop-left.answerer) c.loop-left.hearing.talk mid.given) last
     c.loop-left.hearing.framer c.take_bytes.new.hearing.framer chunk mid.write_faults end.write_faults {T = Unit {0}} (Err c.in-Err.end)) inv.named c.in-Err.ensures.goes in
     let y = goes origin inv.fed inv.acted s in
     let long : length chunk ≡ n = length-take-le n buf r.bound.1 in

@@ -16,7 +16,7 @@ invariant-loop-left g l =
     record {
       fed : List ℕ;
       acted : List Acted;
-      serving : Serving np v.asks (spot l.fn.answerer l.fn.hearing.talk a.given) (spot l.answerer l.hearing.talk b.given) l.hearing.framer fed acted;
+      serving : Serving np v.asks (spot (v.rested l.fn.answerer) l.fn.hearing.talk a.given) (spot (v.rested l.answerer) l.hearing.talk b.given) l.hearing.framer fed acted;
       taken : Appends a.taken b.taken fed;
       consumed : Consumes a.left b.left fed;
       counted : length fed + l.left ≡ 67_108_864;
@@ -28,6 +28,7 @@ invariant-loop-left g l =
       writes : b.write_faults ≡ a.write_faults;
       ends : b.ends ≡ a.ends;
       held : b.finished ≡ a.finished;
+      rests : v.rested l.fn.answerer ≡ l.fn.answerer → v.rested l.answerer ≡ l.answerer;
     }
 
 abbrev pub decreases-loop-left : goal.decreases-loop-left

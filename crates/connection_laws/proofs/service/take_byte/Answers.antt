@@ -30,7 +30,7 @@ returns-in-More-clause-goes g c =
     let w = g.A.Answerer in
     λ o fed acted s. (
       acted,
-      byte_more (w.named c.args.answerer.now) w.asks w.wears o (spot c.args.answerer.now c.args.hearing.now.talk (g.L.Link.traffic c.args.link.now).given)
+      byte_more (w.named c.args.answerer.now) w.asks w.wears o (spot (w.rested c.args.answerer.now) c.args.hearing.now.talk (g.L.Link.traffic c.args.link.now).given)
           c.args.hearing.now.framer c.push.new.self fed c.args.byte acted s (more_is c.args.hearing.now.framer c.args.byte (sym c.push.ensures.answer ∙ c.in-More.is)) c.push.ensures.frame,
     )
 
@@ -38,10 +38,10 @@ pub returns-in-Whole-clause-goes : goal.returns-in-Whole-clause-goes
 returns-in-Whole-clause-goes g c =
     let v = g.A.Answerer in
     let np = v.named c.args.answerer.now in
-    let x = subst (λ (k : g.row.A.Denot). ActsBy np v.asks (v.wears k) c.args.answerer.now k c.args.hearing.now.talk c.act_by-told.new.talk c.line.result.now c.act_by-told.result) (sym c.before_reply.ensures) c.act_by-told.ensures.acts in
+    let x = subst (λ (k : g.row.A.Denot). ActsBy np v.asks (v.wears k) (v.rested c.args.answerer.now) k c.args.hearing.now.talk c.act_by-told.new.talk c.line.result.now c.act_by-told.result) (sym c.before_reply.ensures.same) c.act_by-told.ensures.acts in
     λ o fed acted s.
     let w = whole_is c.args.hearing.now.framer fed c.args.byte s.frame_fits (sym c.push.ensures.answer ∙ c.in-Whole.is) in
-    line_done np v.asks v.wears o c.args.answerer.now c.before_reply.new.self c.args.hearing.now.talk c.act_by-told.new.talk c.settle.new.talk
+    line_done np v.asks v.wears o (v.rested c.args.answerer.now) (v.rested c.before_reply.new.self) c.args.hearing.now.talk c.act_by-told.new.talk c.settle.new.talk
     (g.L.Link.traffic c.args.link.now) (g.L.Link.traffic c.settle.new.link) c.args.hearing.now.framer c.push.new.self fed c.line.result.now c.args.byte acted c.act_by-told.result c.settle.result
     s w.0 (c.line.ensures ∙ ap (λ (f : Frame). f.bytes) c.push.ensures.frame ∙ w.1) c.push.ensures.frame x (c.settle.ensures.talk np x.acted.answer x.told_is) (c.settle.ensures.sent np x.acted.answer x.told_is) c.settle.ensures.worn
 
@@ -51,8 +51,8 @@ returns-in-Long-clause-goes g c =
     let np = v.named c.args.answerer.now in
     λ o fed acted s.
     let w = long_is c.args.hearing.now.framer fed c.args.byte s.frame_fits (sym c.push.ensures.answer ∙ c.in-Long.is) in
-    let x = acts_bad np v.asks (v.wears c.args.answerer.now) (open_line fed) c.args.hearing.now.talk c.args.answerer.now Long (long_read np Nobody false (open_line fed) w.1) c.requires.actor in
-    line_done np v.asks v.wears o c.args.answerer.now c.args.answerer.now c.args.hearing.now.talk c.args.hearing.now.talk c.settle-in-Long.new.talk
+    let x = acts_bad np v.asks (v.wears (v.rested c.args.answerer.now)) (open_line fed) c.args.hearing.now.talk (v.rested c.args.answerer.now) Long (long_read np Nobody false (open_line fed) w.1) c.requires.actor in
+    line_done np v.asks v.wears o (v.rested c.args.answerer.now) (v.rested c.args.answerer.now) c.args.hearing.now.talk c.args.hearing.now.talk c.settle-in-Long.new.talk
     (g.L.Link.traffic c.args.link.now) (g.L.Link.traffic c.settle-in-Long.new.link) c.args.hearing.now.framer c.push.new.self fed (open_line fed) c.args.byte acted (Bad Long) c.settle-in-Long.result
     s w.0 refl c.push.ensures.frame x (c.settle-in-Long.ensures.talk np x.acted.answer x.told_is) (c.settle-in-Long.ensures.sent np x.acted.answer x.told_is) c.settle-in-Long.ensures.worn
 

@@ -1,7 +1,11 @@
-use Rattle.std.proofs.Common.{ℕ, [], Option, sym, ap, subst, ◌∙◌}
+use Rattle.std.proofs.Common.{ℕ, List, [], Option, sym, ap, subst, ◌∙◌}
+use Rattle.gt_base.specs.declared.policies.HierEdge.{HierEdge}
 use Rattle.gtrbac_model.specs.Sessions.{Table}
 use Rattle.history_laws.proofs.Reading.{legal_onward, reaches}
+use Rattle.hybrid_hierarchy.specs.Nets.{IsHierarchy}
+use Rattle.hybrid_hierarchy.proofs.PolicyEdges.{hierarchy_of}
 use Rattle.instant_bases.specs.Timelines.{TimelineView}
+use Rattle.policy_words.specs.Naming.{NamedPolicy}
 use Rattle.session_table.specs.Tables.{NotBefore}
 use Rattle.core_machine.specs.Books.{IsTableIn, model_in, now_in}
 use Rattle.forecast.specs.Going.{IsOnWay}
@@ -15,6 +19,13 @@ returns-in_err-line-clause-one c = let b = c.args.book.now in ahead_is_one b.nam
 
 pub returns-in_err-table-clause-one : goal.returns-in_err-table-clause-one
 returns-in_err-table-clause-one c = let b = c.args.book.now in ahead_is_one b.named.policy c.keeps.ensures.safe b.birth b.entries c.args.upto
+
+pub returns-in_err-hierarchy-clause-one : goal.returns-in_err-hierarchy-clause-one
+returns-in_err-hierarchy-clause-one c = let b = c.args.book.now in ahead_is_one b.named.policy c.keeps.ensures.safe b.birth b.entries c.args.upto
+
+pub new-requires : goal.new-requires
+new-requires c =
+    subst (λ (es : List HierEdge). IsHierarchy es) (sym (c.edges.ensures ∙ ap (λ (g : NamedPolicy). g.policy.edges) c.policy.ensures.value)) (hierarchy_of c.args.book.now.named.policy c.keeps.ensures.kept.well.policy)
 
 pub walk-requires-clause-way : goal.walk-requires-clause-way
 walk-requires-clause-way c =

@@ -30,8 +30,8 @@ returns-in-Ok-new-clause-root g c = subst (λ (b : BookView). SameRoot b c.work_
 
 pub returns-in-Ok-new-clause-worked : goal.returns-in-Ok-new-clause-worked
 returns-in-Ok-new-clause-worked g c =
-    subst (λ (b : BookView). HaveWorked g.D.L.Link.traffic b.named b.birth c.work_and_close.result.entries 0 (crewmen g.C.Clock.readings g.D.Door.links g.D.Door.faults c.args.crew.now.items)
-    (crewmen g.C.Clock.readings g.D.Door.links g.D.Door.faults c.work_and_close.new.crew.items)) c.in-Ok-new.ensures.desk.0 c.work_and_close.ensures.worked
+    subst (λ (b : BookView). HaveWorked g.D.L.Link.traffic b.named b.birth c.work_and_close.result.entries 0 (crewmen g.C.Clock.readings g.D.Door.doorway c.args.crew.now.items)
+    (crewmen g.C.Clock.readings g.D.Door.doorway c.work_and_close.new.crew.items)) c.in-Ok-new.ensures.desk.0 c.work_and_close.ensures.worked
 
 pub returns-in-Ok-new-clause-others : goal.returns-in-Ok-new-clause-others
 returns-in-Ok-new-clause-others g c = c.work_and_close.ensures.others

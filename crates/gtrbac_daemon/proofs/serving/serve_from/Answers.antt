@@ -18,7 +18,7 @@ returns-in-Ok-serve_crew-clause-root g c =
 
 pub returns-in-Ok-serve_crew-clause-headline : goal.returns-in-Ok-serve_crew-clause-headline
 returns-in-Ok-serve_crew-clause-headline g c =
-    let K = crewmen g.C.Clock.readings g.D.Door.links g.D.Door.faults in
+    let K = crewmen g.C.Clock.readings g.D.Door.doorway in
     headline_of g.D.L.Link.traffic c.args.safe c.args.birth (K c.args.crew.now.items) (K c.serve_crew.new.crew.items) c.in-Ok-open.ledger c.in-Ok-serve_crew.closed c.keeps.ensures
     c.in-Ok-open.ensures.root.0 c.in-Ok-open.ensures.root.1 c.in-Ok-serve_crew.ensures.root c.keeps-in-Ok-serve_crew.ensures.kept c.keeps-in-Ok-serve_crew.ensures.only c.in-Ok-serve_crew.ensures.worked
-    (λ n low. c.in-Ok-serve_crew.ensures.others n (subst (λ (k : ℕ). k ≤ n) (as_long g.C.Clock.readings g.D.Door.links g.D.Door.faults c.args.crew.now.items) low))
+    (λ n low. c.in-Ok-serve_crew.ensures.others n (subst (λ (k : ℕ). k ≤ n) (as_long g.C.Clock.readings g.D.Door.doorway c.args.crew.now.items) low))

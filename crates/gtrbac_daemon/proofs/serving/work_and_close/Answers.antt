@@ -26,21 +26,21 @@ run_posts-requires-clause-replies g c κs within = subst (λ (p : NamedPolicy). 
 pub close-requires-clause-idle : goal.close-requires-clause-idle
 close-requires-clause-idle g c =
     let root = c.args.desk.root in
-    let o = in_order g.D.L.Link.traffic g.C.Clock.readings g.D.Door.links g.D.Door.faults c.args.policy.now root.entries (IsLegalLedger root) (now_after root) (site_of c.args.desk)
+    let o = in_order g.D.L.Link.traffic g.C.Clock.readings g.D.Door.doorway c.args.policy.now root.entries (IsLegalLedger root) (now_after root) (site_of c.args.desk)
     c.args.passes.items c.relieve.new.passes.items c.args.crew.now.items c.relieve.new.crew.items c.man.new.posts.items c.run_posts.new.posts.items
     c.man.ensures.passes_are c.man.ensures.workers_are c.relieve.ensures.passes_are c.relieve.ensures.crew_is c.run_posts.ensures.length c.run_posts.ensures.works in
-    all_idle g.D.L.Link.traffic g.C.Clock.readings g.D.Door.links g.D.Door.faults c.args.policy.now root.entries (IsLegalLedger root) (now_after root) (site_of c.args.desk)
+    all_idle g.D.L.Link.traffic g.C.Clock.readings g.D.Door.doorway c.args.policy.now root.entries (IsLegalLedger root) (now_after root) (site_of c.args.desk)
     c.args.passes.items c.relieve.new.passes.items c.args.crew.now.items c.relieve.new.crew.items o
 
 pub close-requires-clause-all : goal.close-requires-clause-all
 close-requires-clause-all g c =
     let root = c.args.desk.root in
     let new = new_all c.args.desk [] (length c.args.crew.now.items) c.args.passes.items c.requires.passes in
-    let o = in_order g.D.L.Link.traffic g.C.Clock.readings g.D.Door.links g.D.Door.faults c.args.policy.now root.entries (IsLegalLedger root) (now_after root) (site_of c.args.desk)
+    let o = in_order g.D.L.Link.traffic g.C.Clock.readings g.D.Door.doorway c.args.policy.now root.entries (IsLegalLedger root) (now_after root) (site_of c.args.desk)
     c.args.passes.items c.relieve.new.passes.items c.args.crew.now.items c.relieve.new.crew.items c.man.new.posts.items c.run_posts.new.posts.items
     c.man.ensures.passes_are c.man.ensures.workers_are c.relieve.ensures.passes_are c.relieve.ensures.crew_is c.run_posts.ensures.length c.run_posts.ensures.works in
     λ m low.
-    none_missing g.D.L.Link.traffic g.C.Clock.readings g.D.Door.links g.D.Door.faults c.args.policy.now root.entries (IsLegalLedger root) (now_after root) (site_of c.args.desk)
+    none_missing g.D.L.Link.traffic g.C.Clock.readings g.D.Door.doorway c.args.policy.now root.entries (IsLegalLedger root) (now_after root) (site_of c.args.desk)
     c.args.passes.items c.relieve.new.passes.items c.args.crew.now.items c.relieve.new.crew.items o m (new.1 m (subst (λ (k : ℕ). m < k) c.requires.count low))
 
 pub returns-clause-worked : goal.returns-clause-worked
@@ -49,16 +49,16 @@ returns-clause-worked g c =
     let n = length c.args.crew.now.items in
     let qs = c.relieve.new.passes.items in
     let h = c.close.result.entries in
-    let o = in_order g.D.L.Link.traffic g.C.Clock.readings g.D.Door.links g.D.Door.faults c.args.policy.now root.entries (IsLegalLedger root) (now_after root) (site_of c.args.desk)
+    let o = in_order g.D.L.Link.traffic g.C.Clock.readings g.D.Door.doorway c.args.policy.now root.entries (IsLegalLedger root) (now_after root) (site_of c.args.desk)
     c.args.passes.items qs c.args.crew.now.items c.relieve.new.crew.items c.man.new.posts.items c.run_posts.new.posts.items
     c.man.ensures.passes_are c.man.ensures.workers_are c.relieve.ensures.passes_are c.relieve.ensures.crew_is c.run_posts.ensures.length c.run_posts.ensures.works in
     let P : NamedPolicy → List Entry → List (Holder BookView) → Type 0 = λ (p : NamedPolicy) (es : List Entry) (ps : List (Holder BookView)).
-    InOrder g.D.L.Link.traffic g.C.Clock.readings g.D.Door.links g.D.Door.faults p es (IsLegalLedger root) (now_after root) (site_of c.args.desk) ps qs c.args.crew.now.items c.relieve.new.crew.items in
+    InOrder g.D.L.Link.traffic g.C.Clock.readings g.D.Door.doorway p es (IsLegalLedger root) (now_after root) (site_of c.args.desk) ps qs c.args.crew.now.items c.relieve.new.crew.items in
     let o1 : P root.named root.entries c.args.passes.items = subst (λ (p : NamedPolicy). P p root.entries c.args.passes.items) c.requires.policy o in
     let o2 : P root.named [] c.args.passes.items = subst (λ (es : List Entry). P root.named es c.args.passes.items) c.requires.empty o1 in
     let o3 : P root.named [] (newcomers c.args.desk [] 0 n) = subst (λ (ps : List (Holder BookView)). P root.named [] ps) c.requires.passes o2 in
     let told : Each (IsToldBy [] h) qs = subst (λ (es : List Entry). Each (IsToldBy es h) qs) c.requires.empty c.close.ensures.each in
-    crew_is_told g.D.L.Link.traffic g.C.Clock.readings g.D.Door.links g.D.Door.faults root.named (IsLegalLedger root) (now_after root) (site_of c.args.desk) root.birth c.requires.served.timed h
+    crew_is_told g.D.L.Link.traffic g.C.Clock.readings g.D.Door.doorway root.named (IsLegalLedger root) (now_after root) (site_of c.args.desk) root.birth c.requires.served.timed h
     c.args.desk n qs c.args.crew.now.items c.relieve.new.crew.items o3 told
 
 pub returns-clause-others : goal.returns-clause-others

@@ -10,7 +10,7 @@ returns-in-Some-clause-runs g c =
     let k = g.C.Clock in
     let d = g.D.Door in
     let ws = c.args.crew.now.items in
-    runs_named g.D.L.Link.traffic (map string_bytes c.args.words.now) _ _ _ (some_crew k.readings d.links d.faults ws c.requires.size.0) (all_fresh k.readings d.links d.faults ws c.requires.fresh)
+    runs_named g.D.L.Link.traffic (map string_bytes c.args.words.now) _ _ _ (some_crew k.readings d.doorway ws c.requires.size.0) (all_fresh k.readings d.doorway ws c.requires.fresh)
     c.in-Some.name.now c.in-Some.ensures c.serve_named.ensures.answers c.serve_named.ensures.same
 
 pub returns-in-Some-clause-unread : goal.returns-in-Some-clause-unread
@@ -21,5 +21,5 @@ returns-in-None-clause-runs g c =
     let k = g.C.Clock in
     let d = g.D.Door in
     let ws = c.args.crew.now.items in
-    runs_unnamed g.D.L.Link.traffic (map string_bytes c.args.words.now) _ _ _ (some_crew k.readings d.links d.faults ws c.requires.size.0) (all_fresh k.readings d.links d.faults ws c.requires.fresh)
+    runs_unnamed g.D.L.Link.traffic (map string_bytes c.args.words.now) _ _ _ (some_crew k.readings d.doorway ws c.requires.size.0) (all_fresh k.readings d.doorway ws c.requires.fresh)
     c.in-None.ensures c.print.ensures refl refl refl refl

@@ -19,7 +19,7 @@ pub returns-in-Ok-serve_from : goal.returns-in-Ok-serve_from
 returns-in-Ok-serve_from g c = λ stock stock'.
     let k = g.C.Clock in
     let d = g.D.Door in
-    let K = crewmen k.readings d.links d.faults in
+    let K = crewmen k.readings d.doorway in
     let o = g.K.Sink in
     record {
       birth = c.now-minute.result;
@@ -29,13 +29,13 @@ returns-in-Ok-serve_from g c = λ stock stock'.
           (scene stock (g.B.Clock.readings c.args.birth.now) (K c.args.crew.now.items) (o.output c.args.out.now))
           (scene stock' (g.B.Clock.readings c.now-minute.new.self) (K c.serve_from.new.crew.items) (o.output c.write_up.new.out))
           c.in-Ok-serve_from.closed c.in-Ok-serve_from.ensures.root.0 c.in-Ok-serve_from.ensures.root.1 c.in-Ok-serve_from.ensures.headline
-          (c.crew_status-due.ensures ∙ (ap (λ (ws : List (Worker g.row.D.Denot g.row.C.Denot g.row.G.Denot g.row.D-L.Denot)). status_among ws) c.as_slice.ensures.value ∙ same_status k.readings d.links d.faults c.serve_from.new.crew.items))
+          (c.crew_status-due.ensures ∙ (ap (λ (ws : List (Worker g.row.D.Denot g.row.C.Denot g.row.G.Denot g.row.D-L.Denot)). status_among ws) c.as_slice.ensures.value ∙ same_status k.readings d.doorway c.serve_from.new.crew.items))
           c.write_up.ensures);
     }
 
 pub returns : goal.returns
 returns g c = λ stock stock'.
-    let K = crewmen g.C.Clock.readings g.D.Door.links g.D.Door.faults in
+    let K = crewmen g.C.Clock.readings g.D.Door.doorway in
     record {
       birth = c.now-minute.result;
       reads = c.now-minute.ensures;

@@ -14,22 +14,20 @@ use Rattle.gtrbac_daemon.proofs.views.daemon_views.Goals as goal
 pub returns-in_default-clause-runs : goal.returns-in_default-clause-runs
 returns-in_default-clause-runs g c =
     let k = g.C.Clock.readings in
-    let l = g.D.Door.links in
-    let f = g.D.Door.faults in
-    runs_unnamed g.D.L.Link.traffic (map string_bytes c.args.words.now) _ _ _ (all_fresh k l f c.args.crew.now.items c.requires.fresh) (some_crew k l f c.args.crew.now.items c.requires.size.0)
-    (fresh_viewers k l f c.args.viewers.now.items c.requires.new) c.in_default.ensures c.print.ensures refl refl refl refl
+    let d = g.D.Door.doorway in
+    runs_unnamed g.D.L.Link.traffic (map string_bytes c.args.words.now) _ _ _ (all_fresh k d c.args.crew.now.items c.requires.fresh) (some_crew k d c.args.crew.now.items c.requires.size.0)
+    (fresh_viewers k d c.args.viewers.now.items c.requires.new) c.in_default.ensures c.print.ensures refl refl refl refl
 
 pub returns-in-Ok-Safe-clause-runs : goal.returns-in-Ok-Safe-clause-runs
 returns-in-Ok-Safe-clause-runs g c =
     let k = g.C.Clock.readings in
-    let l = g.D.Door.links in
-    let f = g.D.Door.faults in
+    let d = g.D.Door.doorway in
     let s = g.S.Shelf in
     let old = c.args.shelf.now in
     let new = c.find_policy.new.shelf in
     let hard = Rose (s.stock old).hard_faults (s.stock new).hard_faults in
-    runs_named g.D.L.Link.traffic (map string_bytes c.args.words.now) _ _ _ (all_fresh k l f c.args.crew.now.items c.requires.fresh) (some_crew k l f c.args.crew.now.items c.requires.size.0)
-    (fresh_viewers k l f c.args.viewers.now.items c.requires.new) c.in-Some.name.now c.in-Some.ensures
+    runs_named g.D.L.Link.traffic (map string_bytes c.args.words.now) _ _ _ (all_fresh k d c.args.crew.now.items c.requires.fresh) (some_crew k d c.args.crew.now.items c.requires.size.0)
+    (fresh_viewers k d c.args.viewers.now.items c.requires.new) c.in-Some.name.now c.in-Some.ensures
     (view_served _ _ _ _ (Some c.in-Some.name.now) c.in-Ok-Safe.safe
     (subst (λ (a : Admitted). IsFound hard (s.stock old).contents c.in-Some.name.now a) c.in-Ok-Safe.field-0-is c.in-Ok-Safe.ensures.found)
     (subst (λ (a : Admitted). IsSteadyFor ((s.stock new).hard_faults ≡ (s.stock old).hard_faults) a) c.in-Ok-Safe.field-0-is c.in-Ok-Safe.ensures.steady)
@@ -39,8 +37,7 @@ returns-in-Ok-Safe-clause-runs g c =
 pub returns-in-Ok-Ended-clause-runs : goal.returns-in-Ok-Ended-clause-runs
 returns-in-Ok-Ended-clause-runs g c =
     let k = g.C.Clock.readings in
-    let l = g.D.Door.links in
-    let f = g.D.Door.faults in
+    let d = g.D.Door.doorway in
     let s = g.S.Shelf in
     let old = c.args.shelf.now in
     let new = c.find_policy.new.shelf in
@@ -49,8 +46,8 @@ returns-in-Ok-Ended-clause-runs g c =
     let o = g.K.Sink in
     let end = c.in-Ok-Ended.end in
     let failed : IsAdmitFailure rose (Ended end) = subst (λ (a : Admitted). IsAdmitFailure rose a) c.in-Ok-Ended.field-0-is c.in-Ok-Ended.ensures.failed in
-    runs_named g.D.L.Link.traffic (map string_bytes c.args.words.now) _ _ _ (all_fresh k l f c.args.crew.now.items c.requires.fresh) (some_crew k l f c.args.crew.now.items c.requires.size.0)
-    (fresh_viewers k l f c.args.viewers.now.items c.requires.new) c.in-Some.name.now c.in-Some.ensures
+    runs_named g.D.L.Link.traffic (map string_bytes c.args.words.now) _ _ _ (all_fresh k d c.args.crew.now.items c.requires.fresh) (some_crew k d c.args.crew.now.items c.requires.size.0)
+    (fresh_viewers k d c.args.viewers.now.items c.requires.new) c.in-Some.name.now c.in-Some.ensures
     (view_kept _ _ _ _ (Some c.in-Some.name.now) (seen_end end)
     (subst (λ (a : Admitted). IsFound hard (s.stock old).contents c.in-Some.name.now a) c.in-Ok-Ended.field-0-is c.in-Ok-Ended.ensures.found) failed
     (subst (λ (a : Admitted). IsSteadyFor ((s.stock new).hard_faults ≡ (s.stock old).hard_faults) a) c.in-Ok-Ended.field-0-is c.in-Ok-Ended.ensures.steady)
@@ -60,7 +57,6 @@ returns-in-Ok-Ended-clause-runs g c =
 pub returns-in-Err-clause-runs : goal.returns-in-Err-clause-runs
 returns-in-Err-clause-runs g c =
     let k = g.C.Clock.readings in
-    let l = g.D.Door.links in
-    let f = g.D.Door.faults in
-    runs_named g.D.L.Link.traffic (map string_bytes c.args.words.now) _ _ _ (all_fresh k l f c.args.crew.now.items c.requires.fresh) (some_crew k l f c.args.crew.now.items c.requires.size.0)
-    (fresh_viewers k l f c.args.viewers.now.items c.requires.new) c.in-Some.name.now c.in-Some.ensures (view_starved _ _ _ _ (Some c.in-Some.name.now) refl refl refl refl refl) c.find_policy.ensures.same
+    let d = g.D.Door.doorway in
+    runs_named g.D.L.Link.traffic (map string_bytes c.args.words.now) _ _ _ (all_fresh k d c.args.crew.now.items c.requires.fresh) (some_crew k d c.args.crew.now.items c.requires.size.0)
+    (fresh_viewers k d c.args.viewers.now.items c.requires.new) c.in-Some.name.now c.in-Some.ensures (view_starved _ _ _ _ (Some c.in-Some.name.now) refl refl refl refl refl) c.find_policy.ensures.same

@@ -17,8 +17,7 @@ use Rattle.gtrbac_daemon.proofs.views.serve_views.Goals as goal
 pub returns-in-Ok-serve_views_from : goal.returns-in-Ok-serve_views_from
 returns-in-Ok-serve_views_from g c = λ stock stock'.
     let k = g.C.Clock.readings in
-    let l = g.D.Door.links in
-    let f = g.D.Door.faults in
+    let d = g.D.Door.doorway in
     let ws = c.serve_views_from.new.crew.items in
     let vs = c.serve_views_from.new.viewers.items in
     let ledger = c.in-Ok-serve_views_from.ledger in
@@ -28,18 +27,18 @@ returns-in-Ok-serve_views_from g c = λ stock stock'.
     let V = Viewer g.row.D.Denot g.row.G.Denot g.row.D-L.Denot in
     let len : c.len-len.result ≡ length es = c.len-len.ensures ∙ (ap (λ (xs : List Entry). length xs) c.entries.ensures.value ∙ ap (λ (b : BookView). length b.entries) c.book.ensures) in
     let looked : c.as_slice.result.now ≡ vs = c.as_slice.ensures.value in
-    let late_is : late ≡ first_late es (watchers l f vs) =
-    c.first_of_viewers-late.ensures ∙ ((λ i. first_above (len i) (numbers_among (looked i))) ∙ ap (λ (ns : List ℕ). first_above (length es) ns) (numbers_same k l f vs)) in
+    let late_is : late ≡ first_late es (watchers d vs) =
+    c.first_of_viewers-late.ensures ∙ ((λ i. first_above (len i) (numbers_among (looked i))) ∙ ap (λ (ns : List ℕ). first_above (length es) ns) (numbers_same k d vs)) in
     let crew : c.as_slice-in-Ok-serve_views_from.result.now ≡ ws = c.as_slice-in-Ok-serve_views_from.ensures.value in
     let seen : c.as_slice-in-Ok-serve_views_from-2.result.now ≡ vs = c.as_slice-in-Ok-serve_views_from-2.ensures.value in
-    let said : c.in-Ok-serve_views_from.told ≡ true → c.due_of_all-due.result ≡ views_status es (crewmen k l f ws) (watchers l f vs) = λ yes.
+    let said : c.in-Ok-serve_views_from.told ≡ true → c.due_of_all-due.result ≡ views_status es (crewmen k d ws) (watchers d vs) = λ yes.
     c.due_of_all-due.ensures.told yes
     ∙ ((λ i. status_by
     (list_any (λ (w : W). is_memory w.outcome) (crew i) || list_any (λ (v : V). is_viewer_memory v.outcome) (seen i))
     (list_any (λ (w : W). is_door_fault w.outcome) (crew i) || list_any (λ (v : V). is_viewer_fault v.outcome) (seen i))
     (list_any (λ (w : W). is_spent w.outcome) (crew i) || list_any (λ (v : V). is_viewer_spent v.outcome) (seen i))
     (is_some late))
-    ∙ status_same k l f es ws vs late late_is) in (
+    ∙ status_same k d es ws vs late late_is) in (
       es,
       record {
         birth = c.now-minute.result;
@@ -65,8 +64,8 @@ returns-in_default g c = λ stock stock'. (
 pub returns : goal.returns
 returns g c = λ stock stock'.
     let err = c.in-Err.ensures.err in
-    let K = crewmen g.C.Clock.readings g.D.Door.links g.D.Door.faults in
-    let V = watchers g.D.Door.links g.D.Door.faults in (
+    let K = crewmen g.C.Clock.readings g.D.Door.doorway in
+    let V = watchers g.D.Door.doorway in (
       [],
       record {
         birth = c.now-minute.result;

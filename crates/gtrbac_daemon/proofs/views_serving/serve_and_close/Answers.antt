@@ -19,21 +19,21 @@ run_both-requires-clause-idle g c κs within =
 pub close-requires-clause-idle : goal.close-requires-clause-idle
 close-requires-clause-idle g c =
     let root = c.args.opened.0.root in
-    let o = in_order g.D.L.Link.traffic g.C.Clock.readings g.D.Door.links g.D.Door.faults c.args.policy.now (g.M.Keeps.list root) (g.M.Machine.legal root) (g.M.Machine.now_of root) (site_of c.args.opened.0)
+    let o = in_order g.D.L.Link.traffic g.C.Clock.readings g.D.Door.doorway c.args.policy.now (g.M.Keeps.list root) (g.M.Machine.legal root) (g.M.Machine.now_of root) (site_of c.args.opened.0)
     c.args.opened.1.items c.relieve.new.passes.items c.args.crew.now.items c.relieve.new.crew.items c.man.new.posts.items c.run_both.new.posts.items
     c.man.ensures.passes_are c.man.ensures.workers_are c.relieve.ensures.passes_are c.relieve.ensures.crew_is c.run_both.ensures.posts c.run_both.ensures.works in
-    all_idle g.D.L.Link.traffic g.C.Clock.readings g.D.Door.links g.D.Door.faults c.args.policy.now (g.M.Keeps.list root) (g.M.Machine.legal root) (g.M.Machine.now_of root) (site_of c.args.opened.0)
+    all_idle g.D.L.Link.traffic g.C.Clock.readings g.D.Door.doorway c.args.policy.now (g.M.Keeps.list root) (g.M.Machine.legal root) (g.M.Machine.now_of root) (site_of c.args.opened.0)
     c.args.opened.1.items c.relieve.new.passes.items c.args.crew.now.items c.relieve.new.crew.items o
 
 pub close-requires-clause-all : goal.close-requires-clause-all
 close-requires-clause-all g c =
     let root = c.args.opened.0.root in
     let new = new_all c.args.opened.0 [] (length c.args.crew.now.items) c.args.opened.1.items c.requires.passes in
-    let o = in_order g.D.L.Link.traffic g.C.Clock.readings g.D.Door.links g.D.Door.faults c.args.policy.now (g.M.Keeps.list root) (g.M.Machine.legal root) (g.M.Machine.now_of root) (site_of c.args.opened.0)
+    let o = in_order g.D.L.Link.traffic g.C.Clock.readings g.D.Door.doorway c.args.policy.now (g.M.Keeps.list root) (g.M.Machine.legal root) (g.M.Machine.now_of root) (site_of c.args.opened.0)
     c.args.opened.1.items c.relieve.new.passes.items c.args.crew.now.items c.relieve.new.crew.items c.man.new.posts.items c.run_both.new.posts.items
     c.man.ensures.passes_are c.man.ensures.workers_are c.relieve.ensures.passes_are c.relieve.ensures.crew_is c.run_both.ensures.posts c.run_both.ensures.works in
     λ m low.
-    none_missing g.D.L.Link.traffic g.C.Clock.readings g.D.Door.links g.D.Door.faults c.args.policy.now (g.M.Keeps.list root) (g.M.Machine.legal root) (g.M.Machine.now_of root) (site_of c.args.opened.0)
+    none_missing g.D.L.Link.traffic g.C.Clock.readings g.D.Door.doorway c.args.policy.now (g.M.Keeps.list root) (g.M.Machine.legal root) (g.M.Machine.now_of root) (site_of c.args.opened.0)
     c.args.opened.1.items c.relieve.new.passes.items c.args.crew.now.items c.relieve.new.crew.items o m (new.1 m (subst (λ (k : ℕ). m < k) c.requires.count low))
 
 pub returns-clause-worked : goal.returns-clause-worked
@@ -46,15 +46,15 @@ returns-clause-worked g c =
     let qs = c.relieve.new.passes.items in
     let h = list c.close.result in
     let P : List Entry → List (Holder g.row.M.Denot) → Type 0 = λ (es : List Entry) (ps : List (Holder g.row.M.Denot)).
-    InOrder g.D.L.Link.traffic g.C.Clock.readings g.D.Door.links g.D.Door.faults c.args.policy.now es legal now (site_of c.args.opened.0) ps qs c.args.crew.now.items c.relieve.new.crew.items in
-    let o : P (list root) c.args.opened.1.items = in_order g.D.L.Link.traffic g.C.Clock.readings g.D.Door.links g.D.Door.faults c.args.policy.now (list root) legal now (site_of c.args.opened.0)
+    InOrder g.D.L.Link.traffic g.C.Clock.readings g.D.Door.doorway c.args.policy.now es legal now (site_of c.args.opened.0) ps qs c.args.crew.now.items c.relieve.new.crew.items in
+    let o : P (list root) c.args.opened.1.items = in_order g.D.L.Link.traffic g.C.Clock.readings g.D.Door.doorway c.args.policy.now (list root) legal now (site_of c.args.opened.0)
     c.args.opened.1.items qs c.args.crew.now.items c.relieve.new.crew.items c.man.new.posts.items c.run_both.new.posts.items
     c.man.ensures.passes_are c.man.ensures.workers_are c.relieve.ensures.passes_are c.relieve.ensures.crew_is c.run_both.ensures.posts c.run_both.ensures.works in
     let o2 : P [] c.args.opened.1.items = subst (λ (es : List Entry). P es c.args.opened.1.items) c.requires.empty o in
     let o3 : P [] (newcomers c.args.opened.0 [] 0 n) = subst (λ (ps : List (Holder g.row.M.Denot)). P [] ps) c.requires.passes o2 in
     let told : Each (IsToldBy [] h) qs = subst (λ (es : List Entry). Each (IsToldBy es h) qs) c.requires.empty c.close.ensures.each in
     λ birth timed.
-    crew_is_told g.D.L.Link.traffic g.C.Clock.readings g.D.Door.links g.D.Door.faults c.args.policy.now legal now (site_of c.args.opened.0) birth timed h
+    crew_is_told g.D.L.Link.traffic g.C.Clock.readings g.D.Door.doorway c.args.policy.now legal now (site_of c.args.opened.0) birth timed h
     c.args.opened.0 n qs c.args.crew.now.items c.relieve.new.crew.items o3 told
 
 pub returns-clause-others : goal.returns-clause-others

@@ -70,7 +70,7 @@ returns-in-Ok-new-clause-root g c =
 
 pub returns-in-Ok-new-clause-worked : goal.returns-in-Ok-new-clause-worked
 returns-in-Ok-new-clause-worked g c =
-    let K = crewmen g.C.Clock.readings g.D.Door.links g.D.Door.faults in
+    let K = crewmen g.C.Clock.readings g.D.Door.doorway in
     let same : c.into_ledger.result ≡ c.serve_and_close-board.result.ledger = c.into_ledger.ensures ∙ c.settle_up-told.ensures.board in
     let timed = subst (λ (b : BoardView). CanBeServed b.ledger) (sym c.in-Ok-new.ensures.desk.0) c.requires.served in
     let born : c.in-Ok-new.opened.0.root.ledger.birth ≡ c.args.board.ledger.birth = ap (λ (b : BoardView). b.ledger.birth) c.in-Ok-new.ensures.desk.0 in
@@ -86,16 +86,16 @@ returns-in-Ok-new-clause-others g c =
 pub returns-in-Ok-new-clause-viewed : goal.returns-in-Ok-new-clause-viewed
 returns-in-Ok-new-clause-viewed g c =
     (all_served c.args.policy.now c.args.board.ledger.birth (length c.args.viewers.now.items) c.args.glasses.items c.args.viewers.now.items c.take_seats.new.seats.items c.requires.glasses
-    c.take_seats.ensures.glasses_are c.take_seats.ensures.viewers_are c.requires.new g.D.Door.links g.D.Door.faults g.D.L.Link.traffic c.serve_and_close-board.result.ledger.entries c.leave_seats.new.viewers.items
+    c.take_seats.ensures.glasses_are c.take_seats.ensures.viewers_are c.requires.new g.D.Door.doorway g.D.L.Link.traffic c.serve_and_close-board.result.ledger.entries c.leave_seats.new.viewers.items
     c.serve_and_close-board.new.seats.items c.settle_up-told.new.seats.items c.leave_seats.ensures c.serve_and_close-board.ensures.seats c.settle_up-told.ensures.seats c.serve_and_close-board.ensures.looked c.settle_up-told.ensures.settled).0
 
 pub returns-in-Ok-new-clause-told : goal.returns-in-Ok-new-clause-told
 returns-in-Ok-new-clause-told g c =
-    let V = watchers g.D.Door.links g.D.Door.faults in
+    let V = watchers g.D.Door.doorway in
     let same : c.into_ledger.result ≡ c.serve_and_close-board.result.ledger = c.into_ledger.ensures ∙ c.settle_up-told.ensures.board in
     λ yes.
     subst (λ (b : BookView). AreTold g.D.L.Link.traffic c.args.policy.now c.args.board.ledger.birth b.entries (V c.args.viewers.now.items) (V c.leave_seats.new.viewers.items)) (sym same)
     ((all_served c.args.policy.now c.args.board.ledger.birth (length c.args.viewers.now.items) c.args.glasses.items c.args.viewers.now.items c.take_seats.new.seats.items c.requires.glasses
-    c.take_seats.ensures.glasses_are c.take_seats.ensures.viewers_are c.requires.new g.D.Door.links g.D.Door.faults g.D.L.Link.traffic c.serve_and_close-board.result.ledger.entries c.leave_seats.new.viewers.items
+    c.take_seats.ensures.glasses_are c.take_seats.ensures.viewers_are c.requires.new g.D.Door.doorway g.D.L.Link.traffic c.serve_and_close-board.result.ledger.entries c.leave_seats.new.viewers.items
     c.serve_and_close-board.new.seats.items c.settle_up-told.new.seats.items c.leave_seats.ensures c.serve_and_close-board.ensures.seats c.settle_up-told.ensures.seats c.serve_and_close-board.ensures.looked c.settle_up-told.ensures.settled).1
     (sym c.settle_up-told.ensures.told ∙ yes))

@@ -15,7 +15,7 @@ serve_at-requires-clause-replies g c κs within =
 
 pub returns-in-Ok-serve_at-clause-headline : goal.returns-in-Ok-serve_at-clause-headline
 returns-in-Ok-serve_at-clause-headline g c =
-    let K = crewmen g.C.Clock.readings g.D.Door.links g.D.Door.faults in
+    let K = crewmen g.C.Clock.readings g.D.Door.doorway in
     let board = c.in_ok-board.board.ledger in
     let closed = c.in-Ok-serve_at.ledger in
     let named : c.in-Ok.policy ≡ board.named = (c.in-Ok.ensures ∙ c.policy.ensures.value) ∙ sym c.in_ok-board.ensures.root.0 in
@@ -23,11 +23,11 @@ returns-in-Ok-serve_at-clause-headline g c =
     subst (λ (p : NamedPolicy). HaveWorked g.D.L.Link.traffic p board.birth closed.entries 0 (K c.args.crew.now.items) (K c.serve_at.new.crew.items)) named c.in-Ok-serve_at.ensures.worked in
     headline_of g.D.L.Link.traffic c.args.safe c.args.birth (K c.args.crew.now.items) (K c.serve_at.new.crew.items) board closed c.keeps.ensures
     c.in_ok-board.ensures.root.0 c.in_ok-board.ensures.root.1 c.in-Ok-serve_at.ensures.root c.keeps-in-Ok-serve_at.ensures.kept c.keeps-in-Ok-serve_at.ensures.only worked
-    (λ n low. c.in-Ok-serve_at.ensures.others n (subst (λ (k : ℕ). k ≤ n) (as_long g.C.Clock.readings g.D.Door.links g.D.Door.faults c.args.crew.now.items) low))
+    (λ n low. c.in-Ok-serve_at.ensures.others n (subst (λ (k : ℕ). k ≤ n) (as_long g.C.Clock.readings g.D.Door.doorway c.args.crew.now.items) low))
 
 pub returns-in-Ok-serve_at-clause-told : goal.returns-in-Ok-serve_at-clause-told
 returns-in-Ok-serve_at-clause-told g c = λ yes.
-    let V = watchers g.D.Door.links g.D.Door.faults in
+    let V = watchers g.D.Door.doorway in
     let es = c.in-Ok-serve_at.ledger.entries in
     let same : c.in-Ok.policy ≡ c.args.safe = c.in-Ok.ensures ∙ c.policy.ensures.value in
     subst (λ (p : NamedPolicy). AreTold g.D.L.Link.traffic p c.args.birth es (V c.args.viewers.now.items) (V c.serve_at.new.viewers.items)) same

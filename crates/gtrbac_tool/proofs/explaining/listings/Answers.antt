@@ -15,7 +15,7 @@ loop-closed-init c =
     let rules = c.args.rules.now in
     let trace = c.args.trace.now in
     record {
-      settled = subst (λ (z : Fluents). AreSettled rules (has z) trace) (sym c.in_ok-status.ensures) c.requires;
+      settled = subst (λ (z : Fluents). AreSettled rules (has z) trace) (sym c.in_ok-status.ensures) c.requires.settled;
       so_far = λ ls a.
           subst (λ (cert : List Listed). AreListings rules (has c.args.opening.now.set) trace (cert ++ ls)) (sym c.new-cert.ensures)
           (subst (λ (z : Fluents). AreListings rules (has z) trace ls) c.in_ok-status.ensures a);
@@ -28,8 +28,8 @@ left c =
     let trace : List ClosedSet = c.args.trace.now in
     drop_more trace i c.closed-item.result c.loop-closed-test.true ∙ ap (λ y. y ∷ drop (i + 1) trace) (sym c.closed-item.is)
 
-pub add-requires : goal.add-requires
-add-requires c = (subst (AreSettled c.args.rules.now (has c.loop-closed.status.set)) (left (goal.at.add-requires c).After-closed-item) c.loop-closed.invariant.settled).0
+pub add-requires-clause-settled : goal.add-requires-clause-settled
+add-requires-clause-settled c = (subst (AreSettled c.args.rules.now (has c.loop-closed.status.set)) (left (goal.at.add-requires-clause-settled c).After-closed-item) c.loop-closed.invariant.settled).0
 
 pub loop-closed-preserved : goal.loop-closed-preserved
 loop-closed-preserved c =

@@ -1,17 +1,34 @@
-use Rattle.std.proofs.Common.{subst}
+use Rattle.std.proofs.Common.{inl}
 use Rattle.gt_text.specs.Lines.{lines_of}
-use Rattle.gtrbac_tool.specs.declared.starting.Ran.{Ran}
+use Rattle.gtrbac_tool.specs.declared.script.Ran.TheVariants.{Unborn, Born}
 use Rattle.gtrbac_tool.specs.Script.{start_of}
-use Rattle.gtrbac_tool.specs.Started.{RanFrom}
+use Rattle.gtrbac_tool.specs.Late.{AnswersFrom}
 use Rattle.gtrbac_tool.proofs.Asking.{unborn_answers, born_answers}
+use Rattle.gtrbac_tool.proofs.Pieces.{unsent}
+use Rattle.gtrbac_tool.proofs.Writing.{shown, prints_from}
 use Rattle.gtrbac_tool.proofs.starting.play_and_answer.Goals as goal
 
-pub returns-in-Unborn : goal.returns-in-Unborn
-returns-in-Unborn c =
+pub returns-in-Ok-Unborn : goal.returns-in-Ok-Unborn
+returns-in-Ok-Unborn g c =
     let start = start_of c.args.safe 1 (lines_of c.args.script.now) in
-    unborn_answers c.args.safe c.args.asked (lines_of c.args.script.now) c.in-Unborn.end c.unborn.result (subst (λ (ran : Ran). RanFrom c.args.safe start ran) c.in-Unborn.is c.in-Ok.ensures) c.unborn.ensures
+    let a = g.K.Sink.output c.args.out.now in
+    let b = g.K.Sink.output c.begin.new.out in
+    let d = g.K.Sink.output c.show.new.out in
+    let ran = c.in-Ok-Unborn.ensures in
+    shown c.show.result a d ⊥ (AnswersFrom c.args.safe c.args.asked start) c.unborn.result (prints_from c.unborn.result c.show.result a b d ran.0 ran.2 c.show.ensures)
+    (unborn_answers c.args.safe c.args.asked (lines_of c.args.script.now) c.in-Ok-Unborn.end c.unborn.result
+    (unsent c.args.safe start c.in-Ok-Unborn.field-0 (Unborn c.in-Ok-Unborn.end) a b c.in-Ok-Unborn.field-0-is ran) c.unborn.ensures)
 
-pub returns-in-Born : goal.returns-in-Born
-returns-in-Born c =
+pub returns-in-Ok-Born : goal.returns-in-Ok-Born
+returns-in-Ok-Born g c =
     let start = start_of c.args.safe 1 (lines_of c.args.script.now) in
-    born_answers c.args.safe c.args.asked start c.in-Born.outcome c.answered.result (subst (λ (ran : Ran). RanFrom c.args.safe start ran) c.in-Born.is c.in-Ok.ensures) c.answered.ensures
+    let a = g.K.Sink.output c.args.out.now in
+    let b = g.K.Sink.output c.begin.new.out in
+    let d = g.K.Sink.output c.show-in-Ok-Born.new.out in
+    let ran = c.in-Ok-Born.ensures in
+    shown c.show-in-Ok-Born.result a d ⊥ (AnswersFrom c.args.safe c.args.asked start) c.answered.result (prints_from c.answered.result c.show-in-Ok-Born.result a b d ran.0 ran.2 c.show-in-Ok-Born.ensures)
+    (born_answers c.args.safe c.args.asked start c.in-Ok-Born.book c.in-Ok-Born.end c.answered.result
+    (unsent c.args.safe start c.in-Ok-Born.field-0 (Born c.in-Ok-Born.book c.in-Ok-Born.end) a b c.in-Ok-Born.field-0-is ran) c.answered.ensures)
+
+pub returns-in-Err : goal.returns-in-Err
+returns-in-Err g c = inl c.in-Err.ensures

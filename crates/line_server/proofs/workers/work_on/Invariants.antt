@@ -15,13 +15,13 @@ invariant-loop-alloc g l =
     record {
       tales : List (Tale g.row.D-L.Denot);
       worked : Worked g.D.L.Link.traffic (service l.policy (g.M.Keeps.list root) (m.legal root) (m.now_of root)) l.fn.pass.number
-          (record { pass = l.fn.pass; clock = k.readings l.fn.w.clock; door = d.links l.fn.w.door }) (record { pass = l.pass; clock = k.readings l.w.clock; door = d.links l.w.door }) l.w.served.items tales;
+          (record { pass = l.fn.pass; clock = k.readings l.fn.w.clock; door = d.doorway l.fn.w.door }) (record { pass = l.pass; clock = k.readings l.w.clock; door = d.doorway l.w.door }) l.w.served.items tales;
       unworn : AllUnworn l.w.served.items;
       idle : IsIdle (site_of l.desk) l.pass;
       number : l.pass.number ≡ l.fn.pass.number;
       calls : l.calls ≤ 67_108_864 * length l.w.served.items;
       few : length l.w.served.items ≤ MAX_LINKS;
-      faults : d.faults l.w.door ≡ d.faults l.fn.w.door;
+      tally : (d.doorway l.w.door).tally ≡ (d.doorway l.fn.w.door).tally;
     }
 
 abbrev pub decreases-loop-alloc : goal.decreases-loop-alloc

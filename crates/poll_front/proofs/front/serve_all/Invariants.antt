@@ -1,9 +1,9 @@
-use Rattle.std.proofs.Common.{◌≡◌, ◌≤◌, ◌<◌, List, [], length, IfSome}
+use Rattle.std.proofs.Common.{◌≡◌, ◌≤◌, ◌<◌, List, length, vec_capacity}
 use Rattle.gt_io.specs.Ports.{NoneOwed}
 use Rattle.turn_lock.specs.Holders.{site_of}
 use Rattle.connection_laws.specs.Turns.{IsIdle, IsReached}
 use Rattle.poll_front.specs.Fronts.{Turn}
-use Rattle.poll_front.specs.Tables.{Tabled, AreUnwornSeats, IsFreshParty, MayGoOn}
+use Rattle.poll_front.specs.Tables.{Tabled, AreUnwornSeats, MayGoOn}
 use Rattle.poll_front.proofs.front.serve_all.Given as goal
 
 abbrev pub invariant-loop : goal.invariant-loop
@@ -23,7 +23,5 @@ invariant-loop g l =
       number : l.pass.number ≡ l.fn.pass.number;
       reached : IsReached (m.legal root) (m.now_of root) l.pass.seen l.pace.reached;
       low : l.busy ≤ 1024;
-      none : l.ends.items ≡ [];
-      room : length l.seats.items ≤ l.ends.spare;
-      fresh : IfSome l.spare (λ b. IsFreshParty b.value);
+      room : 100_000 ≤ vec_capacity l.seats;
     }

@@ -4,7 +4,7 @@ use Rattle.locked_history.specs.Fronts.{by}
 use Rattle.connection_laws.specs.Services.{service_at}
 use Rattle.connection_laws.specs.Turns.{IsReached}
 use Rattle.connection_laws.specs.Attending.{ActsBy}
-use Rattle.connection_laws.specs.Clerks.{WearsAt, ClerkAsks, clerk_view}
+use Rattle.connection_laws.specs.Clerks.{WearsAt, ClerkAsks, rested_clerk, clerk_view}
 use Rattle.connection_laws.proofs.Lent.{lent_acts}
 use Rattle.poll_front.proofs.hear.act_at.Goals as goal
 
@@ -18,7 +18,7 @@ returns-clause-acts g c =
     let clerk = c.act_by.new.answerer in
     let asks = ClerkAsks {M = g.row.M.Denot} (service_at g.M.Keeps.list m.legal m.now_of s.desk.now s.policy.now) (by c.args.pass.now.number s.conn) in
     let o = clerk_view c.args.pass.now (k.readings c.args.clock.now) in
-    let x = lent_acts g.M.Keeps.list m.legal m.now_of k.readings s.policy.now _ clerk c.args.talk.now c.act_by.new.talk c.args.line.now c.act_by.result c.act_by.ensures.acts in
+    let x = lent_acts g.M.Keeps.list m.legal m.now_of k.readings s.policy.now _ (rested_clerk clerk) c.args.talk.now c.act_by.new.talk c.args.line.now c.act_by.result c.act_by.ensures.acts in
     subst (λ (p : Holder g.row.M.Denot). ActsBy s.policy.now asks (WearsAt p.draws) o (clerk_view p (k.readings c.clock-1.given.0)) c.args.talk.now c.act_by.new.talk c.args.line.now c.act_by.result) pass_is
     (subst (λ (q : g.row.C.Denot). ActsBy s.policy.now asks (WearsAt clerk.pass.now.draws) o (clerk_view clerk.pass.now (k.readings q)) c.args.talk.now c.act_by.new.talk c.args.line.now c.act_by.result) clock_is x)
 

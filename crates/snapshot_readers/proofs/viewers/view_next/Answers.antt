@@ -12,11 +12,11 @@ returns-in-Ok-Some-clause-works g c =
     let door = rw c.in-Ok-Some.field-0-is at c.in-Ok-Some.ensures.links in
     let fresh = rw c.in-Ok-Some.field-0-is at c.in-Ok-Some.ensures.fresh in
     let old = c.args.served.now.items in
-    let p : ViewerSpot g.row.D-L.Denot = record { seen = c.args.glass.now.seen; door = g.D.Door.links c.args.door.now } in
-    let p' : ViewerSpot g.row.D-L.Denot = record { seen = c.view_link.new.glass.seen; door = g.D.Door.links c.next.new.self } in
+    let p : ViewerSpot g.row.D-L.Denot = record { seen = c.args.glass.now.seen; door = g.D.Door.doorway c.args.door.now } in
+    let p' : ViewerSpot g.row.D-L.Denot = record { seen = c.view_link.new.glass.seen; door = g.D.Door.doorway c.next.new.self } in
     λ o tales worked.
     let d = link_done traffic np birth o p p' old tales c.view_link.result c.in-Ok-Some.link c.args.calls.now c.view_link.new.calls worked c.view_link.ensures.views door fresh in (
       d.0,
       subst (λ (items : List (Viewed g.row.D-L.Denot)). Worked traffic np birth o p' items d.0) (sym c.push.ensures.items) d.1,
-      c.in-Ok-Some.ensures.cause.kept,
+      rw c.in-Ok-Some.field-0-is at c.in-Ok-Some.ensures.tally,
     )

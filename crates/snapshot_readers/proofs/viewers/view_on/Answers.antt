@@ -1,15 +1,18 @@
-use Rattle.std.proofs.Common.{ℕ, List, [], length, sym, ap, subst, ◌∙◌, refl, arith, Some, None}
+use Rattle.std.proofs.Common.{ℕ, ◌≡◌, ◌<◌, List, [], length, sym, ap, subst, ◌∙◌, refl, arith, Some, None}
 use Rattle.snapshot_readers.specs.declared.ends.Viewed.{Viewed}
-use Rattle.snapshot_readers.specs.Crew.{ViewerSpot, WorksOn}
+use Rattle.snapshot_readers.specs.declared.ends.ViewerEnd.TheVariants.{Memory}
+use Rattle.gt_base.specs.declared.limits.TheConstants.{MAX_LINKS}
+use Rattle.gt_io.specs.Links.{Doorway}
+use Rattle.snapshot_readers.specs.Crew.{ViewerSpot, WorksOn, Works}
 use Rattle.connection_laws.specs.Desks.{GlancesCanBeTold}
-use Rattle.snapshot_readers.proofs.Linking.{no_links, counted_by, next_done, goes_on}
+use Rattle.snapshot_readers.proofs.Linking.{no_links, counted_by, next_done, goes_on, at_rest}
 use Rattle.snapshot_readers.proofs.viewers.view_on.Goals as goal
 
-pub loop-served-init : goal.loop-served-init
-loop-served-init g c =
+pub loop-door-init : goal.loop-door-init
+loop-door-init g c =
     let empty = c.requires.empty in
     let none = ap (λ (ss : List (Viewed g.row.D-L.Denot)). length ss) empty in
-    let o : ViewerSpot g.row.D-L.Denot = record { seen = c.args.glass.now.seen; door = g.D.Door.links c.args.door.now } in
+    let o : ViewerSpot g.row.D-L.Denot = record { seen = c.args.glass.now.seen; door = g.D.Door.doorway c.args.door.now } in
     let none_yet = no_links g.D.L.Link.traffic c.args.policy.now c.args.glass.now.birth o c.args.served.now.items empty in
     record {
       tales = [];
@@ -18,44 +21,48 @@ loop-served-init g c =
       glass = (refl, refl);
       calls = omega arith;
       few = omega (arith, none);
-      faults = refl;
+      tally = refl;
     }
 
 pub view_next-requires-clause-replies : goal.view_next-requires-clause-replies
-view_next-requires-clause-replies g c = subst (λ (b : ℕ). GlancesCanBeTold c.args.policy.now b) (sym c.loop-served.invariant.glass.1) c.requires.replies
+view_next-requires-clause-replies g c = subst (λ (b : ℕ). GlancesCanBeTold c.args.policy.now b) (sym c.loop-door.invariant.glass.1) c.requires.replies
 
 pub returns-in-Some-clause-works : goal.returns-in-Some-clause-works
 returns-in-Some-clause-works g c =
     let traffic = g.D.L.Link.traffic in
     let np = c.args.policy.now in
     let birth = c.args.glass.now.birth in
-    let inv = c.loop-served.invariant in
+    let inv = c.loop-door.invariant in
     let d = g.D.Door in
-    let o : ViewerSpot g.row.D-L.Denot = record { seen = c.args.glass.now.seen; door = d.links c.args.door.now } in
-    let p : ViewerSpot g.row.D-L.Denot = record { seen = c.loop-served.glass.seen; door = d.links c.loop-served.door } in
-    let p' : ViewerSpot g.row.D-L.Denot = record { seen = c.view_next.new.glass.seen; door = d.links c.view_next.new.door } in
-    let on = subst (λ (b : ℕ). WorksOn traffic np b p p' (d.faults c.loop-served.door) (d.faults c.view_next.new.door) c.reserve.new.self.items c.view_next.new.served.items (Some c.in-Some.end)) inv.glass.1 c.in-Some.ensures.works in
-    next_done traffic np birth o p p' (d.faults c.args.door.now) (d.faults c.loop-served.door) (d.faults c.view_next.new.door) c.loop-served.served.items c.reserve.new.self.items c.view_next.new.served.items inv.tales c.in-Some.end
-    c.reserve.ensures.items inv.faults inv.worked on
+    let o : ViewerSpot g.row.D-L.Denot = record { seen = c.args.glass.now.seen; door = d.doorway c.args.door.now } in
+    let p : ViewerSpot g.row.D-L.Denot = record { seen = c.loop-door.glass.seen; door = d.doorway c.make_room.new.door } in
+    let worked = at_rest traffic np birth o p (d.doorway c.loop-door.door) c.loop-door.served.items inv.tales c.make_room.ensures.door inv.worked in
+    let tally : p.door.tally ≡ o.door.tally = ap (λ (e : Doorway g.row.D-L.Denot). e.tally) c.make_room.ensures.door ∙ inv.tally in
+    let p' : ViewerSpot g.row.D-L.Denot = record { seen = c.view_next.new.glass.seen; door = d.doorway c.view_next.new.door } in
+    let on = subst (λ (b : ℕ). WorksOn traffic np b p p' c.make_room.new.list.items c.view_next.new.served.items (Some c.in-Some.end)) inv.glass.1 c.in-Some.ensures.works in
+    next_done traffic np birth o p p' c.loop-door.served.items c.make_room.new.list.items c.view_next.new.served.items inv.tales c.in-Some.end
+    c.make_room.ensures.items tally worked on
 
-pub loop-served-preserved : goal.loop-served-preserved
-loop-served-preserved g c =
+pub loop-door-preserved : goal.loop-door-preserved
+loop-door-preserved g c =
     let traffic = g.D.L.Link.traffic in
     let np = c.args.policy.now in
     let birth = c.args.glass.now.birth in
-    let inv = c.loop-served.invariant in
+    let inv = c.loop-door.invariant in
     let d = g.D.Door in
-    let o : ViewerSpot g.row.D-L.Denot = record { seen = c.args.glass.now.seen; door = d.links c.args.door.now } in
-    let p : ViewerSpot g.row.D-L.Denot = record { seen = c.loop-served.glass.seen; door = d.links c.loop-served.door } in
-    let p' : ViewerSpot g.row.D-L.Denot = record { seen = c.view_next.new.glass.seen; door = d.links c.view_next.new.door } in
-    let on = subst (λ (b : ℕ). WorksOn traffic np b p p' (d.faults c.loop-served.door) (d.faults c.view_next.new.door) c.reserve.new.self.items c.view_next.new.served.items None) inv.glass.1 c.in_default.ensures.works in
-    let y = goes_on traffic np birth o p p' (d.faults c.loop-served.door) (d.faults c.view_next.new.door) c.loop-served.served.items c.reserve.new.self.items c.view_next.new.served.items inv.tales c.reserve.ensures.items inv.worked on in
+    let o : ViewerSpot g.row.D-L.Denot = record { seen = c.args.glass.now.seen; door = d.doorway c.args.door.now } in
+    let p : ViewerSpot g.row.D-L.Denot = record { seen = c.loop-door.glass.seen; door = d.doorway c.make_room.new.door } in
+    let worked = at_rest traffic np birth o p (d.doorway c.loop-door.door) c.loop-door.served.items inv.tales c.make_room.ensures.door inv.worked in
+    let tally : p.door.tally ≡ o.door.tally = ap (λ (e : Doorway g.row.D-L.Denot). e.tally) c.make_room.ensures.door ∙ inv.tally in
+    let p' : ViewerSpot g.row.D-L.Denot = record { seen = c.view_next.new.glass.seen; door = d.doorway c.view_next.new.door } in
+    let on = subst (λ (b : ℕ). WorksOn traffic np b p p' c.make_room.new.list.items c.view_next.new.served.items None) inv.glass.1 c.in_default.ensures.works in
+    let y = goes_on traffic np birth o p p' c.loop-door.served.items c.make_room.new.list.items c.view_next.new.served.items inv.tales c.make_room.ensures.items worked on in
     let one = c.in_default.ensures.one refl in
-    let kept = ap (λ (ss : List (Viewed g.row.D-L.Denot)). length ss) c.reserve.ensures.items in
+    let kept = ap (λ (ss : List (Viewed g.row.D-L.Denot)). length ss) c.make_room.ensures.items in
     let calls = inv.calls in
     let more = c.in_default.ensures.calls in
     let count = c.len.ensures in
-    let low = c.loop-served-test.true in
+    let low = c.loop-door-test.true in
     record {
       tales = y.0;
       worked = y.1;
@@ -63,5 +70,20 @@ loop-served-preserved g c =
       glass = (c.in_default.ensures.glass.0 ∙ inv.glass.0, c.in_default.ensures.glass.1 ∙ inv.glass.1);
       calls = omega (arith, one, kept, calls, more);
       few = omega (arith, one, kept, count, low);
-      faults = y.2 ∙ inv.faults;
+      tally = y.2 ∙ tally;
     }
+
+pub returns-then-is_err-clause-works : goal.returns-then-is_err-clause-works
+returns-then-is_err-clause-works g c =
+    let traffic = g.D.L.Link.traffic in
+    let np = c.args.policy.now in
+    let birth = c.args.glass.now.birth in
+    let inv = c.loop-door.invariant in
+    let d = g.D.Door in
+    let o : ViewerSpot g.row.D-L.Denot = record { seen = c.args.glass.now.seen; door = d.doorway c.args.door.now } in
+    let p : ViewerSpot g.row.D-L.Denot = record { seen = c.loop-door.glass.seen; door = d.doorway c.make_room.new.door } in
+    let worked = at_rest traffic np birth o p (d.doorway c.loop-door.door) c.loop-door.served.items inv.tales c.make_room.ensures.door inv.worked in
+    let tally : p.door.tally ≡ o.door.tally = ap (λ (e : Doorway g.row.D-L.Denot). e.tally) c.make_room.ensures.door ∙ inv.tally in
+    let few : length c.loop-door.served.items < MAX_LINKS = let len = c.len.ensures in let low = c.loop-door-test.true in omega (arith, len, low) in
+    subst (λ (ss : List (Viewed g.row.D-L.Denot)). Works traffic np birth o p ss Memory) (sym c.make_room.ensures.items)
+    (record { tales = inv.tales; worked = worked; counted = counted_by traffic np birth o p c.loop-door.served.items inv.tales worked; cause = (few, tally) })

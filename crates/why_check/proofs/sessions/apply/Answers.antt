@@ -1,4 +1,4 @@
-use Rattle.std.proofs.Common.{◌≡◌, ◌∙◌, ap}
+use Rattle.std.proofs.Common.{◌∙◌, ap}
 use Rattle.gt_base.specs.Sets.{has}
 use Rattle.gt_base.specs.declared.requests.Request.{Request}
 use Rattle.gtrbac_model.specs.Policy.{Policy}

@@ -1,12 +1,10 @@
-use Rattle.std.proofs.Common.{◌≡◌, ◌+◌, Bool, ◌&&◌, ◌||◌, not, List, [], ◌∷◌, drop, sym, refl, ◌∙◌, ap, arith}
+use Rattle.std.proofs.Common.{◌≡◌, ◌+◌, Bool, ◌&&◌, ◌||◌, not, List, [], ◌∷◌, drop, sym, refl, ◌∙◌, ap}
 use Rattle.std.specs.List.{list_all, list_any}
 use Rattle.std.proofs.lemmas.List.{drop_more}
 use Rattle.gt_base.specs.Held.{TriggerView}
-use Rattle.gt_base.specs.Orders.{event_cmp}
 use Rattle.gt_base.specs.Sets.{has}
 use Rattle.gt_base.specs.declared.events.Event.{Event}
 use Rattle.gt_base.specs.declared.events.Prioritised.{Prioritised}
-use Rattle.gt_base.proofs.SetLaws.{has-none}
 use Rattle.gtrbac_model.specs.Conflict.{blocked}
 use Rattle.gtrbac_model.specs.Instant.{grounded_after}
 use Rattle.gtrbac_model.specs.Same.{same_event, same_prioritised}
@@ -18,8 +16,7 @@ use Rattle.why_check.proofs.showing.is_supported.Goals.{After-has_support}
 pub loop-e-init : goal.loop-e-init
 loop-e-init c = record {
   earlier = [];
-  room = omega (arith, c.in_ok-reserve.ensures.room);
-  standing = λ f. ap (λ s. has s f) (c.in_ok-reserve.ensures.set ∙ c.new-standing.ensures) ∙ has-none event_cmp f;
+  standing = λ f. c.new-standing.ensures f;
   rest = refl;
 }
 
@@ -47,9 +44,8 @@ returns-then-not-has_support c =
 pub loop-e-preserved : goal.loop-e-preserved
 loop-e-preserved c = record {
   earlier = c.e-item.result ∷ c.loop-e.invariant.earlier;
-  room = omega arith;
   standing = λ f.
-      c.note.ensures.events c.args.x.now c.in_ok-peaks.ensures f
+      c.in_ok-note.ensures c.args.x.now c.in_ok-peaks.ensures f
       ∙ ap (λ b. (same_event c.e-item.result.event f && not (blocked c.args.x.now c.e-item.result)) || b) (c.loop-e.invariant.standing f);
   rest =
       next (goal.at.loop-e-preserved c).After-has_support

@@ -3,7 +3,8 @@ use Rattle.gt_io.specs.declared.port.Called.TheVariants.{Nothing}
 use Rattle.gt_io.specs.Ports.{open_among}
 use Rattle.gt_host.specs.declared.port.HostPort.{HostPort}
 use Rattle.gt_host.specs.HostPorts.{host_port_in}
-use Rattle.gt_host.proofs.HostLists.{count_most, count_push, opens}
+use Rattle.gt_io.proofs.Counting.{count_most}
+use Rattle.gt_host.proofs.HostLists.{count_push, opens}
 use Rattle.gt_host.proofs.ports.HostPorts.begin.Goals as goal
 
 pub invariant_of-self-clause-counted : goal.invariant_of-self-clause-counted

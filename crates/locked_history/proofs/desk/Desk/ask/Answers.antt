@@ -85,4 +85,4 @@ returns-in-Ok-ask-clause-legal g c =
 pub returns-in-Err-ask-clause-refused : goal.returns-in-Err-ask-clause-refused
 returns-in-Err-ask-clause-refused g c =
     refused c.args.pass.now c.turn.new.pass c.leave.new.pass (g.M.Keeps.list c.in-Ok.machine) c.requires.pass.1 c.in-Ok.ensures.ok.1 c.in-Ok.ensures.seen c.now.ensures.bound
-    (c.leave.ensures.pass ∙ ap (λ (m : g.row.M.Denot). record c.turn.new.pass { seen = g.M.Keeps.list m; turn = None }) c.in-Err-ask.ensures.err)
+    (c.leave.ensures.pass ∙ ap (λ (m : g.row.M.Denot). record c.turn.new.pass { seen = g.M.Keeps.list m; turn = None; keeps = c.leave.new.pass.keeps }) c.in-Err-ask.ensures.err)

@@ -1,4 +1,4 @@
-use Rattle.std.proofs.Common.{◌≡◌, ◌≤◌, ◌+◌, ℕ, List, [], ◌∷◌, ◌++◌, length, ap, sym, subst, ◌∙◌, None, Some, inl, inr}
+use Rattle.std.proofs.Common.{◌≡◌, ◌≤◌, ◌+◌, ℕ, List, [], ◌∷◌, ◌++◌, length, ap, sym, subst, ◌∙◌, false, None, Some, inl, inr}
 use mathlib.Core.List.{IsPrefix}
 use Rattle.gt_base.specs.Machines.{ticked}
 use Rattle.gt_base.specs.declared.requests.Entry.{Entry}
@@ -80,15 +80,15 @@ returns-after-minute-clause-ok g c =
           ∙ ap (λ (t : ℕ). known ++ ticked (by before.number c.args.conn) c.args.upto t ∷ []) (told.0 ∙ sym c.now-now.ensures.now) in
           let stepped = w.step.ensures known e (drawn_turn before c.turn.new.pass known drawn.1) grown in
           let t = landed (list c.self.inside.lock.root) before c.turn.new.pass w.step.new.pass after known front e c.requires.pass.1 drawn.0 drawn.1
-          (prefix_grown before.seen known front e c.in-Ok.ensures.seen grown) stepped (left.pass ∙ ap (λ (p : Holder g.row.M.Denot). record p { seen = front; turn = None }) w.pass-is) left.first left.own in
+          (prefix_grown before.seen known front e c.in-Ok.ensures.seen grown) stepped (left.pass ∙ ap (λ (p : Holder g.row.M.Denot). record p { seen = front; turn = None; keeps = after.keeps }) w.pass-is) left.first left.own in
           inr (subst (λ (first : List Entry). Lands first before after c.leave-front.result (e ∷ [])) first_is
           (subst (λ (l : List Entry). Lands (list c.self.inside.lock.root) before after l (e ∷ [])) (sym left.front) t))
       | else-minute w ↦
           let same = same_when c.minute.result c.minute-in-Ok-tick.result c.now-before.result now c.args.upto _ _ w.if-minute.false c.minute.ensures.value c.now-before.ensures.now c.minute-in-Ok-tick.ensures.value told.1 in
           let back = sym same.1 in
           let t = idle (list c.self.inside.lock.root) before c.turn.new.pass after front c.requires.pass.1 drawn.0
-          (drawn.1 ∙ ap (λ (m : g.row.M.Denot). record before { draws = before.draws + 1; turn = Some (list m) }) back) (subst (λ (m : g.row.M.Denot). IsPrefix before.seen (list m)) back c.in-Ok.ensures.seen)
-          (left.pass ∙ ap (λ (p : Holder g.row.M.Denot). record p { seen = front; turn = None }) w.pass-is) left.first left.own in
+          (drawn.1 ∙ ap (λ (m : g.row.M.Denot). record before { draws = before.draws + 1; turn = Some (list m); keeps = false }) back) (subst (λ (m : g.row.M.Denot). IsPrefix before.seen (list m)) back c.in-Ok.ensures.seen)
+          (left.pass ∙ ap (λ (p : Holder g.row.M.Denot). record p { seen = front; turn = None; keeps = after.keeps }) w.pass-is) left.first left.own in
           inl (
             subst (λ (n : ℕ). c.args.upto ≤ n) (ap (λ (m : g.row.M.Denot). g.M.Machine.now_of m (list m)) back ∙ sym c.now-now.ensures.now) same.0,
             subst (λ (first : List Entry). Lands first before after c.leave-front.result []) first_is
@@ -141,4 +141,4 @@ returns-after-minute-clause-legal g c =
 pub returns-in-Err-tick-clause-refused : goal.returns-in-Err-tick-clause-refused
 returns-in-Err-tick-clause-refused g c =
     refused c.args.pass.now c.turn.new.pass c.leave.new.pass (g.M.Keeps.list c.in-Ok.machine) c.requires.pass.1 c.in-Ok.ensures.ok.1 c.in-Ok.ensures.seen c.now-before.ensures.bound
-    (c.leave.ensures.pass ∙ ap (λ (m : g.row.M.Denot). record c.turn.new.pass { seen = g.M.Keeps.list m; turn = None }) c.in-Err-tick.ensures.err)
+    (c.leave.ensures.pass ∙ ap (λ (m : g.row.M.Denot). record c.turn.new.pass { seen = g.M.Keeps.list m; turn = None; keeps = c.leave.new.pass.keeps }) c.in-Err-tick.ensures.err)
