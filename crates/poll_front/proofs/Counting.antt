@@ -1,36 +1,10 @@
--- How many links are open, and how many faults links have shown.
-use Rattle.std.proofs.Common.{◌≡◌, ◌≢◌, ℕ, zero, suc, ◌+◌, ◌≤◌, refl, sym, ap, subst, ◌∙◌, arith, Some, None}
-use Rattle.std.specs.Prelude.{if◌then◌else◌}
+-- How many faults links have shown.
+use Rattle.std.proofs.Common.{◌≡◌, ◌≢◌, ℕ, zero, suc, ◌+◌, ◌≤◌, refl, sym, ap, ◌∙◌, arith}
 use mathlib.Core.Logic.{dite}
 use native.Mathlib.Decide.{ℕ_discrete}
-use Rattle.gt_io.specs.Ports.{Port, is_none, open_among}
+use Rattle.gt_io.specs.Ports.{Port}
 use Rattle.gt_io.specs.declared.port.Called.{Called}
 use Rattle.poll_front.specs.Tables.{count_among}
-
-abbrev one : Port → ℕ
-one p = if is_none p.finished then 1 else 0
-
--- whether each of the first n links is open, and nothing else, is counted
-pub count_same : (f g : ℕ → Port) (n : ℕ) → ((k : ℕ) → k ≤ n → (g k).finished ≡ (f k).finished) → open_among g n ≡ open_among f n
-count_same f g zero same = refl
-count_same f g (suc n) same =
-    let before = count_same f g n (λ k low. same k (omega (arith, low))) in
-    let last : one (g (n + 1)) ≡ one (f (n + 1)) = ap (λ o. if is_none o then 1 else 0) (same (n + 1) (omega arith)) in
-    omega (arith, before, last)
-
--- one fewer where an open link is finished
-pub count_less : (f g : ℕ → Port) (c m n : ℕ) → 1 ≤ c → c ≤ n → (f c).finished ≡ None → (g c).finished ≡ Some m → ((k : ℕ) → k ≢ c → (g k).finished ≡ (f k).finished) → open_among g n + 1 ≡ open_among f n
-count_less f g c m zero first within unfinished over same = absurd (omega (arith, first, within))
-count_less f g c m (suc n) first within unfinished over same =
-    dite (ℕ_discrete c (n + 1)) (λ here.
-    let before = count_same f g n (λ k low. same k (λ is. let e = is ∙ here in absurd (omega (arith, low, e)))) in
-    let f1 : one (f (n + 1)) ≡ 1 = ap (λ o. if is_none o then 1 else 0) (subst (λ (k : ℕ). (f k).finished ≡ None) here unfinished) in
-    let g1 : one (g (n + 1)) ≡ 0 = ap (λ o. if is_none o then 1 else 0) (subst (λ (k : ℕ). (g k).finished ≡ Some m) here over) in
-    omega (arith, before, f1, g1)) (λ away.
-    let low : c ≤ n = omega (arith, within, away) in
-    let before = count_less f g c m n first low unfinished over same in
-    let last : one (g (n + 1)) ≡ one (f (n + 1)) = ap (λ o. if is_none o then 1 else 0) (same (n + 1) (λ is. away (sym is))) in
-    omega (arith, before, last))
 
 -- what the first n links have shown is told by their last calls
 pub shown_same : (by : Called → ℕ) (f g : ℕ → Port) (n : ℕ) → ((k : ℕ) → 1 ≤ k → k ≤ n → (g k).last ≡ (f k).last) → count_among (λ q. by q.last) g n ≡ count_among (λ q. by q.last) f n

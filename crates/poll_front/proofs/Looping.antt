@@ -18,7 +18,7 @@ use Rattle.poll_front.specs.declared.seats.Seat.{Seat}
 use Rattle.poll_front.specs.declared.seats.Seat.TheVariants.{New, Over}
 use Rattle.poll_front.specs.Fronts.{Turn, FrontSpot, acted_of}
 use Rattle.poll_front.specs.Tables.{CanServe, TakesParty, IsBlank, Sits, SeatGone, SeatServed, Tabled, IsUnwornSeat, AreUnwornSeats, MayGoOn, faults_told, is_worn_end}
-use Rattle.poll_front.proofs.Counting.{count_less}
+use Rattle.gt_io.proofs.Counting.{count_less}
 use Rattle.poll_front.proofs.Seating.{ends_blank}
 use Rattle.poll_front.proofs.ListSteps.{set_cases, push_cases}
 use Rattle.poll_front.proofs.SeatSteps.{served_from}

@@ -17,7 +17,8 @@ use Rattle.poll_front.specs.Fronts.{Turn, FrontSpot, acted_of, faults_by, faults
 use Rattle.poll_front.specs.Tables.{Sits, SameBytes, IsBlank, SeatGone, Tabled, count_among, faults_told}
 use mathlib.Core.Logic.{dite}
 use native.Mathlib.Decide.{ℕ_discrete}
-use Rattle.poll_front.proofs.Counting.{count_same, count_less, shown_same, shown_moved}
+use Rattle.gt_io.proofs.Counting.{count_same, count_less}
+use Rattle.poll_front.proofs.Counting.{shown_same, shown_moved}
 use Rattle.poll_front.proofs.Turning.{apart_all, running_none}
 use Rattle.poll_front.proofs.Seating.{sits_owed, acted_none}
 use Rattle.poll_front.proofs.ListSteps.{set_cases, push_cases}
