@@ -25,8 +25,8 @@ pub trait Answerer {
     /// It may be asked. This holds between two requests.
     ghost ready: { Self → Type 0 };
 
-    /// What one request makes of it at rest, from before to after: by whom, which, what it got, with these
-    /// readings of a clock and as these entries.
+    /// What one request makes of it at rest, from before to after: by whom, which, what it got,
+    /// with these readings of a clock and as these entries.
     ghost asks: { Self → Self → Actor → Request → Answer → List ℕ → List Entry → Type 0 };
 
     /// It, at rest: it keeps no turn of the lock, and is to keep none.

@@ -16,8 +16,8 @@ use session_table::Sessions;
 use time_engine::{Ground, Timeline};
 
 /// Goes on to the least instant after now and up to the horizon at which something is raised or a
-/// cap ends an activation, or to the horizon. The trace and the charges of past days are let go. The
-/// hierarchy is that of the policy's edges.
+/// cap ends an activation, or to the horizon. The trace and the charges of past days are let go.
+/// The hierarchy is that of the policy's edges.
 pub(crate) fn go_on(
     book: &Book,
     hierarchy: &Hierarchy,

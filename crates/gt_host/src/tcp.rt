@@ -322,8 +322,8 @@ fn accept<R: Files + rt::Clock>(rt: &R, listener: &TcpListener) -> io::Result<Op
 /// first asked, so a door that nobody asks has no clients. It gives none where the stop file stands
 /// as it begins to wait, as it waits, or as a connection has come, which is then dropped. Where the
 /// listener could not be made, it fails. A door that gave none, has failed, gave its 100,000th
-/// connection or was closed listens no more, so that clients are refused. It rests for 50 ms, or not
-/// at all where the stop file stands.
+/// connection or was closed listens no more, so that clients are refused. It rests for 50 ms, or
+/// not at all where the stop file stands.
 #[derive(Drop)]
 pub struct HostDoor<'a, R> {
     rt: &'a R,

@@ -62,9 +62,9 @@ fn attend_at<M: Machine, R: Wait, L: Link, C: Clock, G: Gate>(
 /// Serves one link of a connection, whose number is `conn`: line by line it passes the gate, reads
 /// the clock, brings the history to that minute and asks. After the first read or write that fails
 /// it makes no further one, nor a read behind the one that told the end. At the end it lets the
-/// link go, which is the last call on it. A pass that was at rest is so again then: it keeps no turn
-/// of the lock. `calls` counts the request lines of the worker. Want of memory shows in the reply to
-/// a line.
+/// link go, which is the last call on it. A pass that was at rest is so again then: it keeps no
+/// turn of the lock. `calls` counts the request lines of the worker. Want of memory shows in the
+/// reply to a line.
 pub fn serve_link<M: Machine, R: Wait, L: Link, C: Clock, G: Gate>(
     rt: &R,
     alloc: Global,
