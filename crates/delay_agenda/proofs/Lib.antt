@@ -3,3 +3,4 @@ pub mod ListParts
 pub mod MergeLaws
 pub mod PendingLaws
 pub mod RowLaws
+pub mod TrioLaws

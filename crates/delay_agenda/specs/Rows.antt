@@ -1,9 +1,9 @@
--- Two rows of pairs: a long one, and a short one of those that came last.
+-- Rows of pairs: a far one, a long one, and a short one of those that came last.
 use Rattle.std.specs.Prelude.{◌≡◌, ◌≤◌, ◌<◌, ◌++◌, ℕ, true, false, List, [], ◌∷◌, length, drop}
 use Rattle.std.specs.List.{AllWithin, HoldsAt, list_any}
 use Rattle.std.specs.Ordering.{eq_by_cmp}
 use Rattle.std.specs.declared.cmp.Ordering.TheVariants.{Less, Equal, Greater}
-use Rattle.gt_base.specs.Sets.{has, set_of_rising, with_member, Rises}
+use Rattle.gt_base.specs.Sets.{has, members, set_of_rising, with_member, Rises}
 use Rattle.delay_agenda.specs.declared.pairs.Pending.{Pending}
 use Rattle.delay_agenda.specs.Due.{pending_cmp, Pendings}
 
@@ -22,6 +22,15 @@ pub record AreRows (long short : List Pending) : Type 0 where
   pub short_rises : Rises pending_cmp short
   pub apart : (q : Pending) → list_any (eq_by_cmp pending_cmp q) short ≡ true
       → has (set_of_rising {R = pending_cmp} long) q ≡ false
+
+-- the pairs of all three rows
+abbrev pub trio_of : List Pending → List Pending → List Pending → Pendings
+trio_of far long short = pairs_of far (members (pairs_of long short))
+
+-- all three rows rise, and no pair stands in two of them
+pub record AreTrio (far long short : List Pending) : Type 0 where
+  pub near : AreRows long short
+  pub all : AreRows far (members (pairs_of long short))
 
 -- the pair, or one that ties with it, is the i-th
 pub record PairStandsAt (k : Pending) (ks : List Pending) (i : ℕ) : Type 0 where

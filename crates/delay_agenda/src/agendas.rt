@@ -5,7 +5,9 @@ ghost use Rattle.gt_base.specs.Sets.{has, members, none, those, with_member};
 ghost use Rattle.delay_agenda.specs.Due.{pending_at, is_due_at, count_due, IsLeastDue};
 
 use crate::pairs::Pending;
-use crate::twins::{count_all, count_both, forget_both, least_due, put_new, settle, tell_both};
+use crate::trios::{
+    count_due_trio, count_trio, forget_trio, least_of_trio, put_third, settle_all, tell_trio,
+};
 use gt_base::{Happened, Instant, Memory, Prioritised};
 use std::alloc::Global;
 use std::marker::Model;
@@ -13,6 +15,7 @@ use std::marker::Model;
 /// A set of events with their due instants, seen as the set of the pairs and the number of further
 /// pairs that it has room for.
 pub struct Agenda {
+    far: Vec<Pending>,
     long: Vec<Pending>,
     short: Vec<Pending>,
 }
@@ -21,23 +24,27 @@ impl Model for Agenda {
     ghost use Rattle.std.specs.Prelude.{◌-◌, vec_capacity, vec_len};
     ghost use Rattle.gt_base.specs.Happening.{Roomier, roomier_code};
     ghost use Rattle.delay_agenda.specs.Due.{Pendings, pendings_code};
-    ghost use Rattle.delay_agenda.specs.Rows.{AreRows, pairs_of};
+    ghost use Rattle.delay_agenda.specs.Rows.{AreTrio, trio_of};
 
     ghost Value = { Roomier Pendings };
 
     ghost coded = { roomier_code pendings_code };
 
     ghost view = { λ a. record {
-      set = pairs_of a.long.items a.short.items;
+      set = trio_of a.far.items a.long.items a.short.items;
       spare = vec_capacity a.short - vec_len a.short;
     } };
 
-    ghost invariant = { λ a. AreRows a.long.items a.short.items };
+    ghost invariant = { λ a. AreTrio a.far.items a.long.items a.short.items };
 }
 
 impl Drop for Agenda {
     fn drop(self) {
-        let Agenda { long: _, short: _ } = self;
+        let Agenda {
+            far: _,
+            long: _,
+            short: _,
+        } = self;
     }
 }
 
@@ -48,6 +55,7 @@ impl Agenda {
         ensures spare { result.spare ≡ 0 }
     {
         Agenda {
+            far: Vec::new(alloc),
             long: Vec::new(alloc),
             short: Vec::new(alloc),
         }
@@ -60,7 +68,7 @@ impl Agenda {
         ensures spare { self.old.spare ≤ self.new.spare }
         ensures room { OnOk result (n ≤ self.new.spare) }
     {
-        settle(&mut self.long, &mut self.short)?;
+        settle_all(&mut self.far, &mut self.long, &mut self.short)?;
         self.short.reserve(n)
     }
 
@@ -69,6 +77,7 @@ impl Agenda {
         ensures { IfOk result (λ copy. copy.set ≡ self.now.set) }
     {
         Ok(Agenda {
+            far: Vec::from_slice(*self.far.allocator(), &self.far)?,
             long: Vec::from_slice(*self.long.allocator(), &self.long)?,
             short: Vec::from_slice(*self.short.allocator(), &self.short)?,
         })
@@ -78,7 +87,7 @@ impl Agenda {
     pub fn len(&self) -> usize
         ensures { result ≡ length (members self.now.set) }
     {
-        count_all(&self.long, &self.short)
+        count_trio(&self.far, &self.long, &self.short)
     }
 
     /// Adds an event that is due at the instant, into room that was made before. At most one of the
@@ -88,7 +97,8 @@ impl Agenda {
         ensures set { self.new.set ≡ with_member self.old.set (pending_at due p) }
         ensures spare { self.old.spare ≤ self.new.spare + 1 }
     {
-        put_new(&self.long, &mut self.short, Pending { due, event: p });
+        let pair = Pending { due, event: p };
+        put_third(&self.far, &self.long, &mut self.short, pair);
     }
 
     /// The least instant at which something is due; none exactly where nothing is.
@@ -96,14 +106,14 @@ impl Agenda {
         ensures none { IsNone result ↔ (self.now.set ≡ none) }
         ensures some { IfSome result (IsLeastDue self.now.set) }
     {
-        least_due(&self.long, &self.short)
+        least_of_trio(&self.far, &self.long, &self.short)
     }
 
     /// How many pairs are due at the instant, so for how many `take` wants room.
     pub fn due_count(&self, t: Instant) -> usize
         ensures { result ≡ count_due self.now.set t }
     {
-        count_both(&self.long, &self.short, t)
+        count_due_trio(&self.far, &self.long, &self.short, t)
     }
 
     /// Adds the events that are due at the instant to a set of an instant, where room was made
@@ -116,7 +126,7 @@ impl Agenda {
         ensures signals { into.new.set.signals ≡ into.old.set.signals }
         ensures spare { into.old.spare ≤ into.new.spare + count_due self.now.set t }
     {
-        tell_both(&self.long, &self.short, t, into);
+        tell_trio(&self.far, &self.long, &self.short, t, into);
     }
 
     /// Takes out the pairs that are due at the instant, and keeps the others.
@@ -124,7 +134,7 @@ impl Agenda {
         ensures set { self.new.set ≡ those self.old.set (λ p. not (is_due_at t p)) }
         ensures spare { self.old.spare ≤ self.new.spare }
     {
-        forget_both(&mut self.long, &mut self.short, t);
+        forget_trio(&mut self.far, &mut self.long, &mut self.short, t);
     }
 
     /// Moves the events that are due at the instant into a set of an instant, where room was made
@@ -140,7 +150,7 @@ impl Agenda {
         ensures set { self.new.set ≡ those self.old.set (λ p. not (is_due_at t p)) }
         ensures room { self.old.spare ≤ self.new.spare }
     {
-        tell_both(&self.long, &self.short, t, into);
-        forget_both(&mut self.long, &mut self.short, t);
+        tell_trio(&self.far, &self.long, &self.short, t, into);
+        forget_trio(&mut self.far, &mut self.long, &mut self.short, t);
     }
 }

@@ -6,6 +6,7 @@ mod laws;
 mod merging;
 mod pairs;
 mod rows;
+mod trios;
 mod twins;
 
 pub use agendas::Agenda;

@@ -13,7 +13,7 @@ use crate::rows::{count_due, forget_due, last_due, put, stands_in, tell_due};
 use gt_base::{Happened, Instant, Memory};
 
 /// How many pairs the short row has when it is merged into the long one.
-const MANY: usize = 1024;
+const MANY: usize = 512;
 
 /// Merges the short row into the long one, if it has grown. For want of memory it may refuse;
 /// nothing is changed then.
@@ -50,13 +50,14 @@ pub(crate) fn put_new(long: &[Pending], short: &mut Vec<Pending>, k: Pending)
 /// How many pairs both have.
 pub(crate) fn count_all(long: &[Pending], short: &[Pending]) -> usize
     requires { AreRows long.now short.now }
-    ensures { result ≡ length (members (pairs_of long.now short.now)) }
+    ensures count { result ≡ length (members (pairs_of long.now short.now)) }
+    ensures sum { result ≡ length long.now + length short.now }
 {
     long.len() + short.len()
 }
 
 /// The lesser of the two.
-fn lesser(t: Instant, u: Instant) -> Instant
+pub(crate) fn lesser(t: Instant, u: Instant) -> Instant
     ensures { ((t ≤ u) × (result ≡ t)) ⊎ ((u < t) × (result ≡ u)) }
 {
     if t <= u { t } else { u }
@@ -79,7 +80,8 @@ pub(crate) fn least_due(long: &[Pending], short: &[Pending]) -> Option<Instant>
 /// How many pairs of both are due at the instant.
 pub(crate) fn count_both(long: &[Pending], short: &[Pending], t: Instant) -> usize
     requires { AreRows long.now short.now }
-    ensures { result ≡ count_due (pairs_of long.now short.now) t }
+    ensures count { result ≡ count_due (pairs_of long.now short.now) t }
+    ensures bound { result ≤ length long.now + length short.now }
 {
     count_due(long, t) + count_due(short, t)
 }
