@@ -1,5 +1,5 @@
 -- Winners of a set, and who leads a fluent in it.
-use Rattle.std.specs.Prelude.{◌≡◌, Bool, true, false, ◌||◌, not, nat_le, nat_lt, Option, Some, None, if◌then◌else◌}
+use Rattle.std.specs.Prelude.{◌≡◌, ◌≤◌, ℕ, Bool, true, false, ◌||◌, not, nat_le, nat_lt, Option, Some, None, if◌then◌else◌}
 use Rattle.gt_base.specs.declared.events.Event.{Event}
 use Rattle.gt_base.specs.declared.events.Fluent.{Fluent}
 use Rattle.gt_base.specs.declared.events.Prioritised.{Prioritised}
@@ -17,6 +17,16 @@ turned_by wins before f = if wins (turns_on f) then true else if wins (turns_off
 -- no event stands beside its converse, as winners never do
 abbrev pub IsApart : Events → Type 0
 IsApart s = (e : Event) → has s e ≡ true → has s (converse e) ≡ false
+
+-- the event stands there at the priority, and at none above it
+pub record StandsTop (there : Prioritised → Bool) (e : Event) (q : ℕ) : Type 0 where
+  pub stands : there (record { prio = q; event = e }) ≡ true
+  pub top : (o : ℕ) → there (record { prio = o; event = e }) ≡ true → o ≤ q
+
+-- the greatest priority at which the event stands there, if it stands there
+abbrev pub IsStrongest : (Prioritised → Bool) → Event → Option ℕ → Type 0
+IsStrongest there e None = (o : ℕ) → there (record { prio = o; event = e }) ≡ false
+IsStrongest there e (Some q) = StandsTop there e q
 
 -- of two events of one fluent the first is not above the second; at equal priority the off event is
 -- above the on event

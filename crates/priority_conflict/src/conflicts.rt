@@ -5,8 +5,7 @@ ghost use Rattle.gt_base.specs.declared.events.Fluent.{Fluent};
 ghost use Rattle.gt_base.specs.Events.{converse};
 ghost use Rattle.gt_base.specs.Sets.{has, members};
 ghost use Rattle.gtrbac_model.specs.Conflict.{beats, blocked, won, won_at, stands_at, greatest_below, seen};
-ghost use Rattle.gtrbac_model.specs.Same.{same_event};
-ghost use Rattle.priority_conflict.specs.Winning.{IsApart, turned_by};
+ghost use Rattle.priority_conflict.specs.Winning.{IsApart, IsStrongest, turned_by};
 
 use gt_base::{Event, EventSet, Happened, MAX_PRIO, Prio, Prioritised, Seen, Status};
 
@@ -17,11 +16,32 @@ pub(crate) fn beats(on: bool, q: u8, p: u8) -> bool
     if on { p <= q } else { p < q }
 }
 
-/// Whether `o` blocks `p`, whose converse is given.
-fn blocks(o: Prioritised, converse: Event, p: Prioritised) -> bool
-    ensures { result ≡ (same_event o.event converse && beats p.event.on o.prio p.prio) }
+/// The greatest priority below a number at which the event stands in the set, blocked or not. It
+/// takes no memory.
+pub fn greatest(x: &Happened, e: Event, below: u8) -> Option<Prio>
+    requires { below ≤ MAX_PRIO + 1 }
+    ensures { result ≡ greatest_below (stands_at x.now.set e) below }
 {
-    o.event.cmp(&converse).is_eq() && beats(p.event.on, o.prio.get(), p.prio.get())
+    let mut above = below;
+    while above > 0 {
+        above -= 1;
+        let prio = Prio::new(above).unwrap();
+        if x.has(Prioritised { prio, event: e }) {
+            return Some(prio);
+        }
+    }
+    None
+}
+
+/// The greatest priority at which the event stands in the set, if it stands there. The events rise
+/// by priority, so that none stands above that of the last.
+fn strongest(x: &Happened, e: Event) -> Option<Prio>
+    ensures { IsStrongest (has x.now.set.events) e result }
+{
+    match x.events().last() {
+        Some(last) => greatest(x, e, last.prio.get() + 1),
+        None => None,
+    }
 }
 
 /// Whether the event, at its priority, is blocked in the set: an on event by its converse at its
@@ -29,8 +49,10 @@ fn blocks(o: Prioritised, converse: Event, p: Prioritised) -> bool
 pub fn blocked(x: &Happened, p: Prioritised) -> bool
     ensures { result ≡ blocked x.now.set p }
 {
-    let converse = p.event.converse();
-    x.events().iter().any(|o| blocks(*o, converse, p))
+    match strongest(x, p.event.converse()) {
+        Some(q) => beats(p.event.on, q.get(), p.prio.get()),
+        None => false,
+    }
 }
 
 /// Sets each fluent as its winner says; the others stay. It takes no memory.
@@ -63,23 +85,6 @@ fn greatest_free(x: &Happened, e: Event, below: u8) -> Option<Prio>
         above -= 1;
         let prio = Prio::new(above).unwrap();
         if is_free(x, e, prio) {
-            return Some(prio);
-        }
-    }
-    None
-}
-
-/// The greatest priority below a number at which the event stands in the set, blocked or not. It
-/// takes no memory.
-pub fn greatest(x: &Happened, e: Event, below: u8) -> Option<Prio>
-    requires { below ≤ MAX_PRIO + 1 }
-    ensures { result ≡ greatest_below (stands_at x.now.set e) below }
-{
-    let mut above = below;
-    while above > 0 {
-        above -= 1;
-        let prio = Prio::new(above).unwrap();
-        if x.has(Prioritised { prio, event: e }) {
             return Some(prio);
         }
     }
