@@ -1,14 +1,14 @@
 -- Three rows: a far one beside the set of the other two, whose members rise.
-use Rattle.std.proofs.Common.{◌≡◌, ℕ, ◌+◌, ◌≤◌, Bool, true, false, ◌||◌, not, map, T, List, [], ◌∷◌, length, refl, sym, ◌∙◌, ap, subst, arith}
+use Rattle.std.proofs.Common.{◌≡◌, ℕ, ◌+◌, false, not, map, T, List, [], ◌∷◌, refl, sym, ◌∙◌, ap, subst}
 use Rattle.std.specs.FinMap.Entries.{is_sorted}
 use Rattle.gt_base.specs.Sets.{pairs, set_of_rising, has, members, those, with_member, none, Rises}
 use Rattle.gt_base.proofs.Rising.{has-set_of_rising, set_of_nothing}
 use Rattle.gt_base.proofs.SetLaws.{same_sets, has-members, members-none, members-set_of_rising}
 use Rattle.delay_agenda.specs.declared.pairs.Pending.{Pending}
-use Rattle.delay_agenda.specs.Due.{pending_cmp, pending_at, is_due_at, count_due, IsLeastDue, Pendings}
+use Rattle.delay_agenda.specs.Due.{pending_cmp, is_due_at, count_due, IsLeastDue, Pendings}
 use Rattle.delay_agenda.specs.Rows.{pairs_of, trio_of, AreRows, AreTrio}
 use Rattle.delay_agenda.proofs.PendingLaws.{pending_cmp_total, pending_cmp-IsAntisymmetric}
-use Rattle.delay_agenda.proofs.RowLaws.{count_both_due, count_pairs, forgot_rows, forgot_set, in_long, no_pairs, one_row, put_rows, put_set, then_empty}
+use Rattle.delay_agenda.proofs.RowLaws.{count_both_due, forgot_rows, forgot_set, no_pairs, one_row, put_rows, put_set, then_empty}
 
 keys_paired : (es : List (Pending × Unit {0})) → es ≡ pairs (map (λ e. e.0) es)
 keys_paired [] = refl

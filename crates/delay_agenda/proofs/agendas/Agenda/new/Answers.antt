@@ -1,4 +1,3 @@
-use Rattle.delay_agenda.specs.Rows.{AreTrio}
 use Rattle.delay_agenda.proofs.TrioLaws.{empty_trio, no_trio}
 use Rattle.delay_agenda.proofs.agendas.Agenda.new.Goals as goal
 
