@@ -1,6 +1,7 @@
 pub mod RoleOrder
 pub mod Numbering
 pub mod Charging
+pub mod Counts
 pub mod Finding
 pub mod Gaps
 pub mod Indexing

@@ -9,4 +9,4 @@ use Rattle.session_table.specs.declared.closings.Closing.{Closing}
 abbrev pub drops_at : Closing → Activation → Bool
 drops_at at a =
     is_dropped at.hierarchy.now at.caps.now.items (has at.status.now.set)
-    at.stretch.charges.now.charged at.stretch.active.now at.stretch.after at.stretch.to a
+    at.stretch.charges.now.charged at.stretch.active.now.items at.stretch.after at.stretch.to a

@@ -31,7 +31,7 @@ use std::alloc::Global;
 #[derive(Clone, Copy)]
 pub(crate) struct Permitting<'a> {
     pub(crate) alloc: Global,
-    pub(crate) active: &'a [Activation],
+    pub(crate) active: &'a ActiveRow,
     pub(crate) charges: &'a Ledger,
     pub(crate) hierarchy: &'a Hierarchy,
     pub(crate) caps: &'a List<Caps>,
@@ -50,17 +50,17 @@ pub(crate) fn permitted(
 ) -> Result<(usize, UserId, Walk), SessionFault>
     requires numbered { AreNumbered (map opened sessions.now) }
     requires kept { (to : Option ℕ)
-        × AreKeptRows sessions.now by.now.active.now by.now.charges.now.charged to }
+        × AreKeptRows sessions.now by.now.active.now.items by.now.charges.now.charged to }
     ensures ok { IfOk result
         (λ r. IsPermitted by.now.hierarchy.now by.now.caps.now.items
         (has by.now.status.now.set) by.now.instant actor session role sessions.now
-        by.now.active.now by.now.charges.now.charged r.0 r.1 r.2) }
+        by.now.active.now.items by.now.charges.now.charged r.0 r.1 r.2) }
     ensures err { IfErr result
         (λ fault. (begun : ℕ)
         → OrRefused fault
         (AnswersAt by.now.hierarchy.now by.now.caps.now.items (has by.now.status.now.set)
         by.now.instant
-        (rows_table sessions.now by.now.active.now by.now.charges.now.charged begun) actor
+        (rows_table sessions.now by.now.active.now.items by.now.charges.now.charged begun) actor
         (Activate session role))) }
 {
     let (at, user) = match ready(sessions, by.status, actor, session, role) {
@@ -98,15 +98,15 @@ fn ready(
 
 /// The walk that allows the user the role, where no cap refuses it.
 fn allowing(by: &Permitting, user: UserId, role: RoleId) -> Result<Walk, SessionFault>
-    requires all { count_by (λ a. same_role a.role role) by.now.active.now ≤ MAX_SESSIONS }
-    requires own { count_by (is_of user role) by.now.active.now ≤ MAX_SESSIONS }
+    requires all { count_by (λ a. same_role a.role role) by.now.active.now.items ≤ MAX_SESSIONS }
+    requires own { count_by (is_of user role) by.now.active.now.items ≤ MAX_SESSIONS }
     ensures ok { IfOk result
         (Lets by.now.hierarchy.now by.now.caps.now.items (has by.now.status.now.set)
-        by.now.instant by.now.active.now by.now.charges.now.charged user role) }
+        by.now.instant by.now.active.now.items by.now.charges.now.charged user role) }
     ensures err { IfErr result
         (λ fault. IsCauseOf fault
         (walk_causes by.now.hierarchy.now by.now.caps.now.items (has by.now.status.now.set)
-        by.now.instant by.now.active.now by.now.charges.now.charged user role)) }
+        by.now.instant by.now.active.now.items by.now.charges.now.charged user role)) }
 {
     let hierarchy = by.hierarchy;
     let Some(walk) = hierarchy.may_activate(by.alloc, by.status, user, role)? else {

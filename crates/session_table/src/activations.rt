@@ -1,7 +1,5 @@
 //! Activations, in the order in which they were made.
 ghost use Rattle.std.specs.Prelude.{◌≡◌, ◌+◌, ◌<◌, ◌≤◌, [], ◌∷◌, ◌++◌, not, map, filter, find, length, count_by, slice_get, take, true, false, Some, vec_len, vec_capacity};
-ghost use Rattle.std.specs.List.{list_any};
-ghost use Rattle.gtrbac_model.specs.Same.{same_role};
 ghost use Rattle.gtrbac_model.specs.Sessions.{is_of, is_active_in, signal_of};
 ghost use Rattle.session_table.specs.Opened.{in_session};
 
@@ -71,20 +69,6 @@ pub(crate) fn signal_of(start: bool, a: &Activation) -> Signal
     }
 }
 
-/// How many are of the role.
-pub(crate) fn count_role(active: &[Activation], role: RoleId) -> usize
-    ensures { result ≡ count_by (λ a. same_role a.role role) active.now }
-{
-    active.iter().filter(|a| a.role.0 == role.0).count()
-}
-
-/// How many are of the user and the role.
-pub(crate) fn count_of(active: &[Activation], user: UserId, role: RoleId) -> usize
-    ensures { result ≡ count_by (is_of user role) active.now }
-{
-    active.iter().filter(|a| is_of(a, user, role)).count()
-}
-
 /// How many are of the session.
 pub(crate) fn count_in(active: &[Activation], session: SessionId) -> usize
     ensures { result ≡ count_by (in_session session) active.now }
@@ -100,7 +84,7 @@ pub(crate) fn end_role(active: &mut Vec<Activation>, session: SessionId, role: R
 }
 
 /// The activation at the place.
-fn activation_at(active: &[Activation], at: usize) -> Activation
+pub(crate) fn activation_at(active: &[Activation], at: usize) -> Activation
     requires { at < length active.now }
     ensures { slice_get active.now at ≡ Some result }
 {

@@ -1,41 +1,54 @@
 //! The row of activations, which closes up from whichever end is nearer.
-ghost use Rattle.std.specs.Prelude.{◌≡◌, ◌+◌, ◌<◌, ◌≤◌, [], ◌∷◌, ◌++◌, not, drop, filter, map, length, OnOk, IfOk, vec_len, vec_capacity};
+ghost use Rattle.std.specs.Prelude.{◌≡◌, ◌+◌, ◌<◌, ◌≤◌, [], ◌∷◌, ◌++◌, not, count_by, drop, filter, map, length, OnOk, IfOk, vec_len, vec_capacity};
 ghost use Rattle.std.specs.List.{remove};
-ghost use Rattle.gtrbac_model.specs.Sessions.{is_active_in};
+ghost use Rattle.gtrbac_model.specs.Same.{same_role};
+ghost use Rattle.gtrbac_model.specs.Sessions.{is_active_in, is_of};
 ghost use Rattle.session_table.specs.Opened.{opened, role_in, AreNumbered};
 
 use crate::activations::{Activation, end_role};
+use crate::counting::{
+    Holder, copied as copied_counts, count_one, counted, uncount_at, uncount_role, uncount_unlisted,
+};
 use crate::dropping::keep_listed;
 use crate::opened::Open;
-use gt_base::{Memory, RoleId, SessionId};
+use gt_base::{Memory, RoleId, SessionId, UserId};
+use indexmap::IndexMap;
 use std::alloc::Global;
 use std::marker::Model;
 
 /// Activations in the order in which they were made, behind a gap at the front that those taken out
-/// there left. It is seen as the activations and the number of further ones that it has room for.
+/// there left, with the number of those of each role and user. It is seen as the activations and
+/// the number of further ones that it has room for.
 pub(crate) struct ActiveRow {
     rows: Vec<Activation>,
     gap: usize,
+    counts: IndexMap<Holder, u64>,
 }
 
 impl Model for ActiveRow {
-    ghost use Rattle.std.specs.Prelude.{◌-◌, ◌≤◌, drop, length, vec_capacity, vec_len};
+    ghost use Rattle.std.specs.Prelude.{◌-◌, ◌/◌, drop, min, vec_capacity, vec_len};
+    ghost use Rattle.indexmap.specs.IndexMap.{spare};
     ghost use Rattle.gt_base.specs.Roomy.{Roomy};
     ghost use Rattle.gtrbac_model.specs.Sessions.{Activation};
+    ghost use Rattle.session_table.specs.Counting.{IsActiveRow};
 
     ghost Value = { Roomy Activation };
 
     ghost view = { λ s. record {
       items = drop s.gap s.rows.items;
-      spare = vec_capacity s.rows - vec_len s.rows;
+      spare = min (vec_capacity s.rows - vec_len s.rows) (spare s.counts / 2);
     } };
 
-    ghost invariant = { λ s. s.gap ≤ length s.rows.items };
+    ghost invariant = { λ s. IsActiveRow s.rows.items s.gap s.counts.entries };
 }
 
 impl Drop for ActiveRow {
     fn drop(self) {
-        let ActiveRow { rows: _, gap: _ } = self;
+        let ActiveRow {
+            rows: _,
+            gap: _,
+            counts: _,
+        } = self;
     }
 }
 
@@ -47,6 +60,7 @@ impl ActiveRow {
         ActiveRow {
             rows: Vec::new(alloc),
             gap: 0,
+            counts: IndexMap::new(alloc),
         }
     }
 
@@ -57,6 +71,7 @@ impl ActiveRow {
         Ok(ActiveRow {
             rows: Vec::from_slice(alloc, behind(&self.rows, self.gap))?,
             gap: 0,
+            counts: copied_counts(&self.counts)?,
         })
     }
 
@@ -74,6 +89,21 @@ impl ActiveRow {
         behind(&self.rows, self.gap)
     }
 
+    /// How many are of the role.
+    pub(crate) fn count_role(&self, role: RoleId) -> u64
+        ensures { result ≡ count_by (λ a. same_role a.role role) self.now.items }
+    {
+        counted(&self.counts, Holder { user: None, role })
+    }
+
+    /// How many are of the user and the role.
+    pub(crate) fn count_of(&self, user: UserId, role: RoleId) -> u64
+        ensures { result ≡ count_by (is_of user role) self.now.items }
+    {
+        let user = Some(user);
+        counted(&self.counts, Holder { user, role })
+    }
+
     /// Makes room for one more. Where the gap is more than the rest, the row is closed up first.
     pub(crate) fn reserve_one(&mut self) -> Result<(), Memory>
         ensures items { self.new.items ≡ self.old.items }
@@ -83,6 +113,7 @@ impl ActiveRow {
             drop_front(&mut self.rows, self.gap);
             self.gap = 0;
         }
+        self.counts.reserve(2)?;
         self.rows.reserve(1)
     }
 
@@ -91,6 +122,7 @@ impl ActiveRow {
         requires { 1 ≤ self.old.spare }
         ensures { self.new.items ≡ self.old.items ++ a ∷ [] }
     {
+        count_one(&mut self.counts, behind(&self.rows, self.gap), &a);
         put(&mut self.rows, a);
     }
 
@@ -99,6 +131,7 @@ impl ActiveRow {
         requires { at < length self.old.items }
         ensures items { self.new.items ≡ remove self.old.items at }
     {
+        uncount_at(&mut self.counts, behind(&self.rows, self.gap), at);
         if at < (self.rows.len() - self.gap) / 2 {
             move_up(&mut self.rows, self.gap, at);
             self.gap += 1;
@@ -113,6 +146,7 @@ impl ActiveRow {
     {
         drop_front(&mut self.rows, self.gap);
         self.gap = 0;
+        uncount_role(&mut self.counts, &self.rows, session, role);
         end_role(&mut self.rows, session, role);
     }
 
@@ -124,6 +158,7 @@ impl ActiveRow {
     {
         drop_front(&mut self.rows, self.gap);
         self.gap = 0;
+        uncount_unlisted(&mut self.counts, &self.rows, sessions);
         keep_listed(&mut self.rows, sessions);
     }
 }

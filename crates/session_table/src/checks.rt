@@ -1,11 +1,10 @@
 //! Causes of refusals, in their order.
-ghost use Rattle.std.specs.Prelude.{◌≡◌, ◌<◌, ◌≤◌, ◌^◌, [], ◌∷◌, not, map, length, count_by, Some, None, IfOk, IfErr, IfSome, slice_get, slice_index};
+ghost use Rattle.std.specs.Prelude.{◌≡◌, ◌<◌, ◌≤◌, map, length, count_by, Some, None, IfOk, IfErr};
 ghost use Rattle.std.specs.List.{list_any};
 ghost use Rattle.gt_base.specs.Sets.{has};
 ghost use Rattle.gt_base.specs.declared.requests.Refusal.TheVariants.{Already, Disabled, RoleFull, UserFull, DaySpent};
 ghost use Rattle.gt_base.specs.declared.events.Fluent.TheVariants.{Enabled};
 ghost use Rattle.gtrbac_model.specs.Same.{same_role};
-ghost use Rattle.gtrbac_model.specs.Calendar.{day_of};
 ghost use Rattle.gtrbac_model.specs.Sessions.{Table, caps_of, reached, is_of};
 ghost use Rattle.gtrbac_model.specs.Reply.{session_causes};
 ghost use Rattle.session_table.specs.Opened.{opened, AreNumbered};
@@ -14,7 +13,7 @@ ghost use Rattle.session_table.specs.NextDrops.{limits_minutes};
 ghost use Rattle.session_table.specs.Causes.{first_cause, is_foreign, StandsAt, with_sessions, early_causes, late_causes, full_at};
 ghost use Rattle.gt_base.specs.declared.limits.TheConstants.{MAX_SESSIONS};
 
-use crate::activations::{Activation, count_of, count_role};
+use crate::active::ActiveRow;
 use crate::ledgers::{Ledger, charged};
 use crate::opened::{Open, owner_at, place};
 use civil_time::day;
@@ -102,18 +101,18 @@ pub(crate) fn limit_minutes(caps: &[Caps]) -> bool
 /// is not counted.
 pub(crate) fn late_refusal(
     caps: Caps,
-    active: &[Activation],
+    active: &ActiveRow,
     charges: &Ledger,
     user: UserId,
     role: RoleId,
     today: u32,
 ) -> Option<Refusal>
-    requires all { count_by (λ a. same_role a.role role) active.now ≤ MAX_SESSIONS }
-    requires own { count_by (is_of user role) active.now ≤ MAX_SESSIONS }
+    requires all { count_by (λ a. same_role a.role role) active.now.items ≤ MAX_SESSIONS }
+    requires own { count_by (is_of user role) active.now.items ≤ MAX_SESSIONS }
     ensures { result
         ≡ first_cause
-        (late_causes caps (count_by (λ a. same_role a.role role) active.now)
-        (count_by (is_of user role) active.now)
+        (late_causes caps (count_by (λ a. same_role a.role role) active.now.items)
+        (count_by (is_of user role) active.now.items)
         (charged_in charges.now.charged user role today)) }
 {
     if let Some(n) = full_role(caps.total, active, role) {
@@ -129,23 +128,23 @@ pub(crate) fn late_refusal(
 }
 
 /// How many activations of the role stand, if they are as many as the cap allows.
-fn full_role(cap: Option<u32>, active: &[Activation], role: RoleId) -> Option<u32>
-    requires { count_by (λ a. same_role a.role role) active.now ≤ MAX_SESSIONS }
-    ensures { result ≡ full_at cap (count_by (λ a. same_role a.role role) active.now) }
+fn full_role(cap: Option<u32>, active: &ActiveRow, role: RoleId) -> Option<u32>
+    requires { count_by (λ a. same_role a.role role) active.now.items ≤ MAX_SESSIONS }
+    ensures { result ≡ full_at cap (count_by (λ a. same_role a.role role) active.now.items) }
 {
     match cap {
-        Some(_) => if_reached(cap, count_role(active, role) as u32),
+        Some(_) => if_reached(cap, active.count_role(role) as u32),
         None => None,
     }
 }
 
 /// How many activations of the user and the role stand, if they are as many as the cap allows.
-fn full_user(cap: Option<u32>, active: &[Activation], user: UserId, role: RoleId) -> Option<u32>
-    requires { count_by (is_of user role) active.now ≤ MAX_SESSIONS }
-    ensures { result ≡ full_at cap (count_by (is_of user role) active.now) }
+fn full_user(cap: Option<u32>, active: &ActiveRow, user: UserId, role: RoleId) -> Option<u32>
+    requires { count_by (is_of user role) active.now.items ≤ MAX_SESSIONS }
+    ensures { result ≡ full_at cap (count_by (is_of user role) active.now.items) }
 {
     match cap {
-        Some(_) => if_reached(cap, count_of(active, user, role) as u32),
+        Some(_) => if_reached(cap, active.count_of(user, role) as u32),
         None => None,
     }
 }

@@ -5,7 +5,7 @@ ghost use Rattle.gt_base.specs.declared.events.RoleId.{RoleId as RoleView};
 ghost use Rattle.gt_base.specs.declared.events.UserId.{UserId};
 ghost use Rattle.gtrbac_model.specs.Sessions.{is_of};
 
-use crate::activations::Activation;
+use crate::active::ActiveRow;
 use crate::ledgers::Ledger;
 use gt_base::{Caps, Instant, List, Status};
 use hybrid_hierarchy::Hierarchy;
@@ -16,10 +16,11 @@ use std::alloc::Global;
 #[derive(Clone, Copy)]
 pub(crate) struct Stretch<'a> {
     pub(crate) charges: &'a Ledger,
-    pub(crate) active: &'a [Activation],
+    pub(crate) active: &'a ActiveRow,
     pub(crate) after: Instant,
     pub(crate) to: Instant,
-    ghost few: { (u : UserId) (r : RoleView) → count_by (is_of u r) active.now ≤ MAX_SESSIONS },
+    ghost few: { (u : UserId) (r : RoleView)
+        → count_by (is_of u r) active.now.items ≤ MAX_SESSIONS },
 }
 
 /// The close of the last instant of a stretch: what decides on each activation there.

@@ -1,5 +1,5 @@
 //! Which activations the close of an instant drops, and how they are taken out.
-ghost use Rattle.std.specs.Prelude.{◌≡◌, ℕ, ◌+◌, ◌-◌, ◌*◌, ◌<◌, ◌≤◌, ◌&&◌, ◌||◌, [], ◌∷◌, ◌++◌, if◌then◌else◌, OnOk, not, true, false, Some, map, filter, length, count_by, is_none, nat_lt, IfOk, IfSome};
+ghost use Rattle.std.specs.Prelude.{◌≡◌, ℕ, ◌+◌, ◌-◌, ◌*◌, ◌<◌, ◌&&◌, ◌||◌, [], ◌∷◌, ◌++◌, if◌then◌else◌, OnOk, not, true, false, Some, map, filter, length, count_by, is_none, nat_lt, IfOk, IfSome};
 ghost use Rattle.std.specs.List.{list_any};
 ghost use Rattle.gt_base.specs.Sets.{has};
 ghost use Rattle.gt_base.specs.declared.events.RoleId.{RoleId};
@@ -7,14 +7,10 @@ ghost use Rattle.gt_base.specs.declared.events.UserId.{UserId};
 ghost use Rattle.gt_base.specs.declared.events.SessionId.{SessionId};
 ghost use Rattle.gt_base.specs.declared.events.Fluent.TheVariants.{Enabled, Assigned};
 ghost use Rattle.gtrbac_model.specs.Same.{same_role, same_session};
-ghost use Rattle.gtrbac_model.specs.Calendar.{day_of};
 ghost use Rattle.gtrbac_model.specs.Graph.{item_at};
 ghost use Rattle.gtrbac_model.specs.Hierarchy.{activation_walk};
-ghost use Rattle.gtrbac_model.specs.Sessions.{Activation as ActivationView, caps_of, reached, is_of, is_active_in, signal_of};
-ghost use Rattle.history_laws.specs.Tables.{minutes_of_day};
-ghost use Rattle.session_table.specs.Charges.{charged_in};
+ghost use Rattle.gtrbac_model.specs.Sessions.{Activation as ActivationView, caps_of, reached, is_active_in, signal_of};
 ghost use Rattle.session_table.specs.Opened.{opened, still_open, role_in, AreNumbered};
-ghost use Rattle.session_table.specs.Counting.{AreCounted};
 ghost use Rattle.session_table.specs.Dropping.{spent_by, AreBarred};
 ghost use Rattle.session_table.specs.Closings.{drops_at};
 ghost use Rattle.session_table.specs.NextDrops.{capped_in};
@@ -24,7 +20,6 @@ use crate::active::ActiveRow;
 use crate::charges::minutes_on;
 use crate::checks::{caps_of, is_reached, limit_minutes};
 use crate::closings::{Closing, Stretch};
-use crate::counting::{count_of_one, nothing_seen};
 use crate::ledgers::charged;
 use crate::opened::{Open, has_role, place, remove_role};
 use civil_time::day;
@@ -44,30 +39,28 @@ pub(crate) struct AskedWalk {
 
 /// How many minutes are charged to the user's role on the civil day of the last instant, where the
 /// minutes of the stretch are charged to each activation.
-fn spent_by(over: &Stretch, user: UserId, role: RoleId, count: u64) -> u64
-    requires { count ≡ count_by (is_of user role) over.now.active.now }
+fn spent_by(over: &Stretch, user: UserId, role: RoleId) -> u64
     ensures { result
-        ≡ spent_by over.now.charges.now.charged over.now.active.now over.now.after over.now.to
+        ≡ spent_by over.now.charges.now.charged over.now.active.now.items over.now.after over.now.to
         user role }
 {
     over.to.keeps();
     let today = day(over.to);
     let before = u64::from(charged(over.charges, user, role, today));
     let minutes = u64::from(minutes_on(over.after, over.to, today));
-    before + minutes * count
+    before + minutes * over.active.count_of(user, role)
 }
 
 /// Whether the cap on the minutes of a day, if there is one, is reached at the close.
-fn is_day_spent(cap: Option<u32>, over: &Stretch, user: UserId, role: RoleId, count: u64) -> bool
-    requires { IfSome cap (λ _. count ≡ count_by (is_of user role) over.now.active.now) }
+fn is_day_spent(cap: Option<u32>, over: &Stretch, user: UserId, role: RoleId) -> bool
     ensures { result
         ≡ reached cap
-        (spent_by over.now.charges.now.charged over.now.active.now over.now.after over.now.to
+        (spent_by over.now.charges.now.charged over.now.active.now.items over.now.after over.now.to
         user role) }
 {
     match cap {
         Some(most) => {
-            let spent = spent_by(over, user, role, count);
+            let spent = spent_by(over, user, role);
             u64::from(most) <= spent
         }
         None => false,
@@ -203,15 +196,13 @@ fn ask(
 }
 
 /// Whether a cap of its role ends the activation at the close.
-fn is_capped(a: &Activation, caps: Caps, over: &Stretch, count: u64) -> bool
-    requires { IfSome caps.day
-        (λ _. count ≡ count_by (is_of a.now.user a.now.role) over.now.active.now) }
+fn is_capped(a: &Activation, caps: Caps, over: &Stretch) -> bool
     ensures { result
         ≡ (reached caps.length (over.now.to - a.now.begun) || reached caps.day
-        (spent_by over.now.charges.now.charged over.now.active.now over.now.after over.now.to
+        (spent_by over.now.charges.now.charged over.now.active.now.items over.now.after over.now.to
         a.now.user a.now.role)) }
 {
-    is_too_long(caps.length, a, over.to) || is_day_spent(caps.day, over, a.user, a.role, count)
+    is_too_long(caps.length, a, over.to) || is_day_spent(caps.day, over, a.user, a.role)
 }
 
 /// Whether the role is on. Where it is the one that was found on before, the status is not asked.
@@ -240,12 +231,9 @@ fn is_dropped(
     known: &mut IndexMap<AskedWalk, bool>,
     before: Option<RoleId>,
     a: &Activation,
-    count: u64,
 ) -> Result<bool, Memory>
     requires known { AreBarred at.now.hierarchy.now (has at.now.status.now.set) known.old.entries }
     requires before { IfSome before (λ r. has at.now.status.now.set (Enabled r) ≡ true) }
-    requires count { IfSome (caps_of at.now.caps.now.items a.now.role).day
-        (λ _. count ≡ count_by (is_of a.now.user a.now.role) at.now.stretch.active.now) }
     ensures known { OnOk result
         (AreBarred at.now.hierarchy.now (has at.now.status.now.set) known.new.entries) }
     ensures dropped { IfOk result (λ b. b ≡ drops_at at.now a.now) }
@@ -255,7 +243,7 @@ fn is_dropped(
         return Ok(true);
     }
     let of_role = caps_of(at.caps.as_slice(), role);
-    if is_capped(a, of_role, &at.stretch, count) {
+    if is_capped(a, of_role, &at.stretch) {
         return Ok(true);
     }
     is_barred(
@@ -288,7 +276,7 @@ pub(crate) fn dropped(
     walks: &mut IndexMap<AskedWalk, Walk>,
 ) -> Result<Vec<Activation>, Memory>
     ensures { IfOk result
-        (λ gone. gone.items ≡ filter (drops_at at.now) at.now.stretch.active.now) }
+        (λ gone. gone.items ≡ filter (drops_at at.now) at.now.stretch.active.now.items) }
 {
     let mut known = IndexMap::new(at.alloc);
     let mut gone = Vec::new(at.alloc);
@@ -305,14 +293,13 @@ fn drop_each(
 ) -> Result<(), Memory>
     requires known { AreBarred at.now.hierarchy.now (has at.now.status.now.set) known.old.entries }
     requires none { gone.old.items ≡ [] }
-    ensures { OnOk result (gone.new.items ≡ filter (drops_at at.now) at.now.stretch.active.now) }
+    ensures { OnOk result
+        (gone.new.items ≡ filter (drops_at at.now) at.now.stretch.active.now.items) }
 {
-    let active = at.stretch.active;
+    let active = at.stretch.active.as_slice();
     let mut before = None;
-    let mut seen = nothing_seen(active);
     for a in active {
-        let count = count_of_one(&mut seen, at.caps.as_slice(), active, a);
-        before = drop_one(at, walks, known, gone, before, a, count)?;
+        before = drop_one(at, walks, known, gone, before, a)?;
     }
     Ok(())
 }
@@ -325,12 +312,9 @@ fn drop_one(
     gone: &mut Vec<Activation>,
     before: Option<RoleId>,
     a: &Activation,
-    count: u64,
 ) -> Result<Option<RoleId>, Memory>
     requires known { AreBarred at.now.hierarchy.now (has at.now.status.now.set) known.old.entries }
     requires before { IfSome before (λ r. has at.now.status.now.set (Enabled r) ≡ true) }
-    requires count { IfSome (caps_of at.now.caps.now.items a.now.role).day
-        (λ _. count ≡ count_by (is_of a.now.user a.now.role) at.now.stretch.active.now) }
     ensures known { OnOk result
         (AreBarred at.now.hierarchy.now (has at.now.status.now.set) known.new.entries) }
     ensures gone { OnOk result
@@ -339,7 +323,7 @@ fn drop_one(
     ensures on { IfOk result
         (λ before. IfSome before (λ r. has at.now.status.now.set (Enabled r) ≡ true)) }
 {
-    let is_gone = is_dropped(at, walks, known, before, a, count)?;
+    let is_gone = is_dropped(at, walks, known, before, a)?;
     push_if(gone, a, is_gone)?;
     Ok(found_on(before, a, is_gone))
 }
@@ -354,19 +338,17 @@ pub(crate) fn capped(
     ensures { IfOk result
         (λ gone. gone.items
         ≡ filter
-        (capped_in caps.now over.now.charges.now.charged over.now.active.now
+        (capped_in caps.now over.now.charges.now.charged over.now.active.now.items
         over.now.after over.now.to)
-        over.now.active.now) }
+        over.now.active.now.items) }
 {
     let mut gone = Vec::new(alloc);
     if !limit_minutes(caps) {
         return Ok(gone);
     }
-    let active = over.active;
-    let mut seen = nothing_seen(active);
+    let active = over.active.as_slice();
     for a in active {
-        let count = count_of_one(&mut seen, caps, active, a);
-        let is_gone = is_capped(a, caps_of(caps, a.role), over, count);
+        let is_gone = is_capped(a, caps_of(caps, a.role), over);
         push_if(&mut gone, a, is_gone)?;
     }
     Ok(gone)
@@ -408,7 +390,7 @@ fn forget(sessions: &mut Vec<Open>, gone: &[Activation])
 }
 
 /// Whether its role still stands in its session.
-fn is_listed(sessions: &[Open], a: &Activation) -> bool
+pub(crate) fn is_listed(sessions: &[Open], a: &Activation) -> bool
     requires { AreNumbered (map opened sessions.now) }
     ensures { result ≡ role_in sessions.now a.now.session a.now.role }
 {

@@ -11,8 +11,8 @@ ghost use Rattle.session_table.specs.Charges.{charged_in};
 ghost use Rattle.gt_base.specs.declared.limits.TheConstants.{MAX_SESSIONS};
 
 use crate::activations::Activation;
+use crate::active::ActiveRow;
 use crate::checks::{caps_of, limit_minutes};
-use crate::counting::{count_of_one, nothing_seen};
 use crate::ledgers::{Ledger, charged};
 use gt_base::{Caps, Instant, LAST_MINUTE, RoleId, UserId};
 
@@ -112,26 +112,23 @@ fn next_reached(most: u32, spent: u32, n: u64, now: Instant) -> Option<Instant>
 fn next_for(
     a: &Activation,
     charges: &Ledger,
-    active: &[Activation],
+    active: &ActiveRow,
     caps: Caps,
     now: Instant,
-    count: u64,
 ) -> Option<Instant>
-    requires count { IfSome caps.day
-        (λ _. count ≡ count_by (is_of a.now.user a.now.role) active.now) }
-    requires some { 1 ≤ count_by (is_of a.now.user a.now.role) active.now }
-    requires few { count_by (is_of a.now.user a.now.role) active.now ≤ MAX_SESSIONS }
+    requires some { 1 ≤ count_by (is_of a.now.user a.now.role) active.now.items }
+    requires few { count_by (is_of a.now.user a.now.role) active.now.items ≤ MAX_SESSIONS }
     requires later { (d : ℕ) → day_of (now + 1) < d
         → charged_in charges.now.charged a.now.user a.now.role d ≡ 0 }
     ensures { IsFirstOrNone
         (λ t. reached caps.length (t - a.now.begun) || reached caps.day
         (charged_in charges.now.charged a.now.user a.now.role (day_of t)
         + minutes_of_day now (t - now) (day_of t)
-        * count_by (is_of a.now.user a.now.role) active.now))
+        * count_by (is_of a.now.user a.now.role) active.now.items))
         now result }
 {
     let long = next_too_long(caps.length, a.begun, now);
-    let full = next_spent(caps.day, a.user, a.role, charges, active, now, count);
+    let full = next_spent(caps.day, a.user, a.role, charges, active, now);
     earlier(long, full)
 }
 
@@ -143,27 +140,24 @@ fn next_spent(
     user: UserId,
     role: RoleId,
     charges: &Ledger,
-    active: &[Activation],
+    active: &ActiveRow,
     now: Instant,
-    count: u64,
 ) -> Option<Instant>
-    requires count { IfSome cap (λ _. count ≡ count_by (is_of user role) active.now) }
-    requires some { 1 ≤ count_by (is_of user role) active.now }
-    requires few { count_by (is_of user role) active.now ≤ MAX_SESSIONS }
+    requires some { 1 ≤ count_by (is_of user role) active.now.items }
+    requires few { count_by (is_of user role) active.now.items ≤ MAX_SESSIONS }
     requires later { (d : ℕ) → day_of (now + 1) < d
         → charged_in charges.now.charged user role d ≡ 0 }
     ensures { IsFirstOrNone
         (λ t. reached cap
         (charged_in charges.now.charged user role (day_of t) + minutes_of_day now (t - now)
-        (day_of t) * count_by (is_of user role) active.now))
+        (day_of t) * count_by (is_of user role) active.now.items))
         now result }
 {
     match cap {
         Some(most) => {
             let today = (now.minute() + 1) / 1_440;
             let spent = charged(charges, user, role, today);
-            let _ = active;
-            next_reached(most, spent, count, now)
+            next_reached(most, spent, active.count_of(user, role), now)
         }
         None => None,
     }
@@ -173,26 +167,27 @@ fn next_spent(
 /// at.
 pub(crate) fn next_capped(
     charges: &Ledger,
-    active: &[Activation],
+    active: &ActiveRow,
     caps: &[Caps],
     now: Instant,
 ) -> Option<Instant>
-    requires few { (u : UserId) (r : RoleId) → count_by (is_of u r) active.now ≤ MAX_SESSIONS }
+    requires few { (u : UserId) (r : RoleId)
+        → count_by (is_of u r) active.now.items ≤ MAX_SESSIONS }
     requires later { (u : UserId) (r : RoleId) (d : ℕ) → day_of (now + 1) < d
         → charged_in charges.now.charged u r d ≡ 0 }
     ensures { IsFirstOrNone
-        (λ t. list_any (capped_in caps.now charges.now.charged active.now now t) active.now) now
-        result }
+        (λ t. list_any (capped_in caps.now charges.now.charged active.now.items now t)
+        active.now.items)
+        now result }
 {
     if !limit_minutes(caps) {
         return None;
     }
     let mut next = None;
-    let mut seen = nothing_seen(active);
-    for a in active {
+    let rows = active.as_slice();
+    for a in rows {
         let of_role = caps_of(caps, a.role);
-        let count = count_of_one(&mut seen, caps, active, a);
-        let one = next_for(a, charges, active, of_role, now, count);
+        let one = next_for(a, charges, active, of_role, now);
         next = earlier(next, one);
     }
     next

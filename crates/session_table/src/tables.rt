@@ -1,6 +1,5 @@
 //! The table of sessions.
-ghost use Rattle.std.specs.Prelude.{◌≡◌, ℕ, ◌+◌, ◌-◌, ◌*◌, ◌<◌, ◌≤◌, ◌↔◌, [], ◌∷◌, true, false, not, map, filter, length, count_by, find, slice_get, Some, None, OnOk, OnErr, IfOk, IfErr, IfSome, IfNone};
-ghost use Rattle.std.specs.List.{list_any};
+ghost use Rattle.std.specs.Prelude.{◌≡◌, ◌+◌, ◌-◌, ◌<◌, ◌≤◌, [], ◌∷◌, true, false, map, filter, count_by, Some, None, OnOk, OnErr, IfOk, IfErr};
 ghost use Rattle.gt_base.specs.Sets.{has, Rises};
 ghost use Rattle.gtrbac_model.specs.Same.{same_role, lists};
 ghost use Rattle.session_table.specs.RoleSets.{role_cmp};
@@ -9,11 +8,10 @@ ghost use Rattle.gt_base.specs.declared.events.RoleId.{RoleId};
 ghost use Rattle.gt_base.specs.declared.requests.Actor.TheVariants.{User};
 ghost use Rattle.gt_base.specs.declared.requests.Request.TheVariants.{OpenSession, CloseSession, Activate, Deactivate, Active as AskActive, Check};
 ghost use Rattle.gt_base.specs.declared.requests.Reply.TheVariants.{Session, Done, Active, Truth, Refused as IsRefused};
-ghost use Rattle.gt_base.specs.declared.limits.TheConstants.{LAST_MINUTE};
 ghost use Rattle.gtrbac_model.specs.Calendar.{day_of};
-ghost use Rattle.gtrbac_model.specs.Sessions.{applied, empty_table, is_active_in, signal_of};
+ghost use Rattle.gtrbac_model.specs.Sessions.{applied, empty_table, signal_of};
 ghost use Rattle.hybrid_hierarchy.specs.Nets.{IsHierarchy};
-ghost use Rattle.session_table.specs.Opened.{in_session, numbered, opened, role_in};
+ghost use Rattle.session_table.specs.Opened.{in_session, opened};
 ghost use Rattle.session_table.specs.Tables.{table_of, ForgetsDays, NotBefore, closed_at, is_capped};
 ghost use Rattle.session_table.specs.NextDrops.{IsFirstOrNone, is_any_capped};
 ghost use Rattle.session_table.specs.Plans.{need_of, IsDropPlan, IsPlanWhereAllStand, IsPlanned, ClosesTable};
@@ -332,7 +330,7 @@ impl Sessions {
     {
         let by = Permitting {
             alloc: self.alloc,
-            active: self.active.as_slice(),
+            active: &self.active,
             charges: &self.charges,
             hierarchy,
             caps,
@@ -414,7 +412,7 @@ impl Sessions {
             status,
             stretch: Stretch {
                 charges: &self.charges,
-                active: self.active.as_slice(),
+                active: &self.active,
                 after: now,
                 to,
             },
@@ -447,7 +445,7 @@ impl Sessions {
         reserve_charges(&mut self.charges, self.active.len())?;
         let over = Stretch {
             charges: &self.charges,
-            active: self.active.as_slice(),
+            active: &self.active,
             after: now,
             to,
         };
@@ -513,6 +511,6 @@ impl Sessions {
         requires { NotBefore self.now.charged_to now }
         ensures { IsFirstOrNone (is_any_capped caps.now.items now (table_of self.now)) now result }
     {
-        next_capped(&self.charges, self.active.as_slice(), caps.as_slice(), now)
+        next_capped(&self.charges, &self.active, caps.as_slice(), now)
     }
 }

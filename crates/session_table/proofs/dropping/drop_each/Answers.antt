@@ -15,14 +15,13 @@ one_more test xs i x old new added so_far is inside =
 
 pub loop-a-preserved : goal.loop-a-preserved
 loop-a-preserved c = record {
-  gone = one_more (drops_at c.args.at.now) c.args.at.now.stretch.active.now c.loop-a.a-index c.a-item.result
+  gone = one_more (drops_at c.args.at.now) c.as_slice-active.result.now c.loop-a.a-index c.a-item.result
       _ _ c.in_ok-before.ensures.gone c.loop-a.invariant.gone c.a-item.is c.loop-a-test.true;
   known = c.in_ok-before.ensures.known;
-  seen = c.count_of_one-count.ensures.seen;
   on = c.in_ok-before.ensures.on;
 }
 
 pub returns : goal.returns
 returns c =
     c.loop-a.invariant.gone
-    ∙ ap (filter (drops_at c.args.at.now)) (take_all c.loop-a.a-index c.args.at.now.stretch.active.now c.loop-a-test.false)
+    ∙ ap (filter (drops_at c.args.at.now)) (take_all c.loop-a.a-index c.as_slice-active.result.now c.loop-a-test.false ∙ c.as_slice-active.ensures)

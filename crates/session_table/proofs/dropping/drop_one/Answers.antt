@@ -30,7 +30,7 @@ returns-clause-on c =
     let a : Activation = c.args.a.now in
     subst (λ o. IfSome o (λ r. s (Enabled r) ≡ true)) (sym c.found_on.ensures)
     (stays_on s c.args.before a.role (is_none (activation_walk c.args.at.now.hierarchy.now s a.user a.role)) (reached (caps_of c.args.at.now.caps.now.items a.role).length (c.args.at.now.stretch.to - a.begun))
-    (reached (caps_of c.args.at.now.caps.now.items a.role).day (spent_by c.args.at.now.stretch.charges.now.charged c.args.at.now.stretch.active.now c.args.at.now.stretch.after c.args.at.now.stretch.to a.user a.role)) c.in_ok-is_gone.is_gone c.in_ok-is_gone.ensures.dropped c.requires.before)
+    (reached (caps_of c.args.at.now.caps.now.items a.role).day (spent_by c.args.at.now.stretch.charges.now.charged c.args.at.now.stretch.active.now.items c.args.at.now.stretch.after c.args.at.now.stretch.to a.user a.role)) c.in_ok-is_gone.is_gone c.in_ok-is_gone.ensures.dropped c.requires.before)
 
 pub is_dropped-requires-clause-known : goal.is_dropped-requires-clause-known
 is_dropped-requires-clause-known c = c.requires.known

@@ -1,9 +1,8 @@
-use Rattle.std.proofs.Common.{◌≡◌, ◌<◌, false, length, map, [], ◌∷◌, ◌++◌, sym, ap, subst, ◌∙◌}
-use Rattle.std.specs.List.{list_any}
+use Rattle.std.proofs.Common.{◌≡◌, ◌<◌, length, map, [], ◌∷◌, ◌++◌, sym, ap, subst, ◌∙◌}
 use Rattle.gt_base.specs.Sets.{has}
 use Rattle.gt_base.specs.declared.requests.Request.TheVariants.{Activate}
 use Rattle.gt_base.specs.declared.requests.Reply.TheVariants.{Active}
-use Rattle.gtrbac_model.specs.Sessions.{Table, is_active_in, owner_of}
+use Rattle.gtrbac_model.specs.Sessions.{Table, owner_of}
 use Rattle.session_table.specs.Causes.{StandsAt}
 use Rattle.session_table.specs.Charges.{charged_in}
 use Rattle.session_table.specs.Kept.{AreKeptRows, IsTable}
@@ -18,23 +17,22 @@ use Rattle.session_table.proofs.tables.Sessions.activate_over.Goals as goal
 
 pub returns-in-Err-clause-refused : goal.returns-in-Err-clause-refused
 returns-in-Err-clause-refused c =
-    let same : rows_table c.deref.result.now c.as_slice.result.now c.self.inside.charges.charged c.self.inside.begun ≡ table_of c.args.self.now =
-    (λ i. rows_table (c.deref.ensures.value i) (c.as_slice.ensures i) c.self.inside.charges.charged c.self.inside.begun) ∙ ap table_of c.self.view_is in
+    let same : rows_table c.deref.result.now c.self.inside.active.items c.self.inside.charges.charged c.self.inside.begun ≡ table_of c.args.self.now =
+    ap (λ os. rows_table os c.self.inside.active.items c.self.inside.charges.charged c.self.inside.begun) c.deref.ensures.value ∙ ap table_of c.self.view_is in
     subst (λ tb. OrRefused c.in-Err.fault (AnswersAt c.args.hierarchy.now c.args.caps.now.items (has c.args.status.now.set) c.args.now tb c.args.actor (Activate c.args.session c.args.role))) same
     (c.in-Err.ensures.err c.self.inside.begun)
 
 pub invariant_of-self-2 : goal.invariant_of-self-2
 invariant_of-self-2 c =
     let stands : StandsAt c.self.inside.sessions.items c.args.session c.in-Ok.permit.0 = subst (λ os. StandsAt os c.args.session c.in-Ok.permit.0) c.deref.ensures.value c.in-Ok.ensures.ok.stands in
-    let fresh : list_any (is_active_in c.args.session c.args.role) c.self.inside.active.items ≡ false = subst (λ xs. list_any (is_active_in c.args.session c.args.role) xs ≡ false) c.as_slice.ensures c.in-Ok.ensures.ok.fresh in
     subst (λ xs. IsTable c.enter.new.sessions.items c.self.inside.standing xs c.self.inside.charges.charged c.self.inside.charged_to c.self.inside.begun) (sym c.in-Ok-enter.ensures.active)
     (enters c.self.inside.sessions.items c.enter.new.sessions.items c.args.session c.in-Ok.permit.0 stands c.args.role c.in-Ok-enter.ensures.sessions
-    c.self.inside.standing c.self.inside.active.items c.self.inside.charges.charged c.self.inside.charged_to c.self.inside.begun c.self.invariant c.in-Ok.permit.1 c.args.now fresh)
+    c.self.inside.standing c.self.inside.active.items c.self.inside.charges.charged c.self.inside.charged_to c.self.inside.begun c.self.invariant c.in-Ok.permit.1 c.args.now c.in-Ok.ensures.ok.fresh)
 
 pub returns-clause-answer : goal.returns-clause-answer
 returns-clause-answer c =
-    let same : rows_table c.deref.result.now c.as_slice.result.now c.self.inside.charges.charged c.self.inside.begun ≡ table_of c.args.self.now =
-    (λ i. rows_table (c.deref.ensures.value i) (c.as_slice.ensures i) c.self.inside.charges.charged c.self.inside.begun) ∙ ap table_of c.self.view_is in
+    let same : rows_table c.deref.result.now c.self.inside.active.items c.self.inside.charges.charged c.self.inside.begun ≡ table_of c.args.self.now =
+    ap (λ os. rows_table os c.self.inside.active.items c.self.inside.charges.charged c.self.inside.begun) c.deref.ensures.value ∙ ap table_of c.self.view_is in
     subst (λ tb. AnswersAt c.args.hierarchy.now c.args.caps.now.items (has c.args.status.now.set) c.args.now tb c.args.actor (Activate c.args.session c.args.role) (Active c.in-Ok.permit.2)) same
     (c.in-Ok.ensures.ok.answer c.self.inside.begun)
 
@@ -42,10 +40,10 @@ pub returns-clause-table : goal.returns-clause-table
 returns-clause-table c =
     let tv : Table = table_of c.args.self.now in
     let stands : StandsAt c.self.inside.sessions.items c.args.session c.in-Ok.permit.0 = subst (λ os. StandsAt os c.args.session c.in-Ok.permit.0) c.deref.ensures.value c.in-Ok.ensures.ok.stands in
-    let same : rows_table c.deref.result.now c.as_slice.result.now c.self.inside.charges.charged c.self.inside.begun ≡ table_of c.args.self.now =
-    (λ i. rows_table (c.deref.ensures.value i) (c.as_slice.ensures i) c.self.inside.charges.charged c.self.inside.begun) ∙ ap table_of c.self.view_is in
+    let same : rows_table c.deref.result.now c.self.inside.active.items c.self.inside.charges.charged c.self.inside.begun ≡ table_of c.args.self.now =
+    ap (λ os. rows_table os c.self.inside.active.items c.self.inside.charges.charged c.self.inside.begun) c.deref.ensures.value ∙ ap table_of c.self.view_is in
     entered_is c.args.now c.args.session c.args.role tv c.args.actor c.in-Ok.permit.2 c.in-Ok.permit.1
-    (ap (λ tb. owner_of tb c.args.session) (sym same) ∙ c.in-Ok.ensures.ok.owner (rows_table c.deref.result.now c.as_slice.result.now c.self.inside.charges.charged c.self.inside.begun))
+    (ap (λ tb. owner_of tb c.args.session) (sym same) ∙ c.in-Ok.ensures.ok.owner (rows_table c.deref.result.now c.self.inside.active.items c.self.inside.charges.charged c.self.inside.begun))
     ∙ same_table _ _
     (ap (λ v. v.sessions) (sym c.self.view_is) ∙ sym (stay_open c.self.inside.sessions.items c.enter.new.sessions.items c.args.session c.in-Ok.permit.0 stands c.args.role c.in-Ok-enter.ensures.sessions))
     (ap (λ v. v.active ++ activation c.args.session c.in-Ok.permit.1 c.args.role c.args.now ∷ []) (sym c.self.view_is) ∙ sym c.in-Ok-enter.ensures.active)
@@ -59,8 +57,7 @@ permitted-requires-clause-numbered c = (c.self.inside.begun, subst (λ os. Numbe
 pub permitted-requires-clause-kept : goal.permitted-requires-clause-kept
 permitted-requires-clause-kept c = (
   c.self.inside.charged_to,
-  subst (λ os. AreKeptRows os c.as_slice.result.now c.self.inside.charges.charged c.self.inside.charged_to) (sym c.deref.ensures.value)
-      (subst (λ xs. AreKeptRows c.self.inside.sessions.items xs c.self.inside.charges.charged c.self.inside.charged_to) (sym c.as_slice.ensures) c.self.invariant.kept),
+  subst (λ os. AreKeptRows os c.self.inside.active.items c.self.inside.charges.charged c.self.inside.charged_to) (sym c.deref.ensures.value) c.self.invariant.kept,
 )
 
 pub enter-requires : goal.enter-requires

@@ -1,4 +1,4 @@
-use Rattle.std.proofs.Common.{◌≡◌, ℕ, ◌≤◌, sym, ap, subst, ◌∙◌, arith}
+use Rattle.std.proofs.Common.{ap, ◌∙◌, arith}
 use Rattle.session_table.specs.Charges.{charged_in}
 use Rattle.session_table.specs.Tables.{TableView}
 use Rattle.session_table.proofs.tables.Sessions.forget_days_before.Goals as goal

@@ -13,7 +13,7 @@ use Rattle.session_table.proofs.tables.Sessions.plan_end_over.Goals as goal
 pub invariant_of-at : goal.invariant_of-at
 invariant_of-at c = record {
   few = λ u r.
-      rw c.as_slice.ensures (few_of c.self.inside.sessions.items c.self.inside.active.items c.self.inside.charges.charged c.self.inside.charged_to c.self.invariant.kept u r);
+      few_of c.self.inside.sessions.items c.self.inside.active.items c.self.inside.charges.charged c.self.inside.charged_to c.self.invariant.kept u r;
 }
 
 pub returns-clause-plan : goal.returns-clause-plan
@@ -24,8 +24,7 @@ returns-clause-plan c =
       from = refl;
       upto = refl;
       gone = c.in_ok-gone.ensures
-          ∙ ap (λ rows. filter (is_dropped c.args.hierarchy.now c.args.caps.now.items s rows c.as_slice.result.now c.args.now c.args.to) c.as_slice.result.now) c.reserve_charges.ensures.same
-          ∙ ap (λ xs. filter (is_dropped c.args.hierarchy.now c.args.caps.now.items s c.self.inside.charges.charged xs c.args.now c.args.to) xs) c.as_slice.ensures
+          ∙ ap (λ rows. filter (is_dropped c.args.hierarchy.now c.args.caps.now.items s rows c.self.inside.active.items c.args.now c.args.to) c.self.inside.active.items) c.reserve_charges.ensures.same
           ∙ ap (λ v. dropped_at c.args.hierarchy.now c.args.caps.now.items s c.args.now c.args.to (table_of v)) c.self.view_is;
       signals = refl;
     }))

@@ -13,15 +13,14 @@ use Rattle.session_table.proofs.tables.Sessions.plan_end_still.Goals.{In_ok-gone
 pub invariant_of-over : goal.invariant_of-over
 invariant_of-over c = record {
   few = λ u r.
-      rw c.as_slice.ensures (few_of c.self.inside.sessions.items c.self.inside.active.items c.self.inside.charges.charged c.self.inside.charged_to c.self.invariant.kept u r);
+      few_of c.self.inside.sessions.items c.self.inside.active.items c.self.inside.charges.charged c.self.inside.charged_to c.self.invariant.kept u r;
 }
 
 gone_is : (c : In_ok-gone) → c.in_ok-gone.gone.items ≡ filter (is_capped c.args.caps.now.items c.args.now (table_of c.args.self.now) c.args.to) c.args.self.now.active
 gone_is c =
     c.in_ok-gone.ensures
-    ∙ ap (λ rows. filter (capped_in c.as_slice-2.result.now rows c.as_slice.result.now c.args.now c.args.to) c.as_slice.result.now) c.reserve_charges.ensures.same
-    ∙ ap (λ ks. filter (capped_in ks c.self.inside.charges.charged c.as_slice.result.now c.args.now c.args.to) c.as_slice.result.now) c.as_slice-2.ensures
-    ∙ ap (λ xs. filter (capped_in c.args.caps.now.items c.self.inside.charges.charged xs c.args.now c.args.to) xs) c.as_slice.ensures
+    ∙ ap (λ rows. filter (capped_in c.as_slice.result.now rows c.self.inside.active.items c.args.now c.args.to) c.self.inside.active.items) c.reserve_charges.ensures.same
+    ∙ ap (λ ks. filter (capped_in ks c.self.inside.charges.charged c.self.inside.active.items c.args.now c.args.to) c.self.inside.active.items) c.as_slice.ensures
     ∙ ap (λ (v : TableView). filter (is_capped c.args.caps.now.items c.args.now (table_of v) c.args.to) v.active) c.self.view_is
 
 pub returns-clause-gone : goal.returns-clause-gone
