@@ -8,7 +8,7 @@ use Rattle.gt_base.specs.declared.events.Signal.{Signal}
 use Rattle.gt_base.specs.declared.requests.Who.{Who}
 use Rattle.gt_base.specs.declared.requests.Actor.{Actor}
 use Rattle.gt_base.specs.declared.requests.Request.{Request}
-use Rattle.gt_base.specs.declared.requests.Request.TheVariants.{Raise}
+use Rattle.gt_base.specs.declared.requests.Request.TheVariants.{Now, Status, Seen, Raise, OpenSession, CloseSession, Activate, Deactivate, Active, Check}
 use Rattle.gt_base.specs.declared.requests.Reply.{Reply}
 use Rattle.gt_base.specs.declared.requests.Reply.TheVariants.{Queued}
 use Rattle.gtrbac_model.specs.Base.{queued_at}
@@ -19,6 +19,7 @@ use Rattle.session_table.specs.Tables.{table_of}
 use Rattle.time_engine.specs.Plans.{IsTimeline, with_pending}
 use Rattle.core_machine.specs.Books.{reply_in}
 use Rattle.core_machine.specs.Kept.{Kept, IsKept, IsReady, IsReply, Same, point_of, view_of}
+use Rattle.core_machine.specs.Looks.{is_look}
 use Rattle.core_machine.specs.Steps.{IsStep, IsStill, MayAsk, is_nobody, with_signals}
 use Rattle.core_machine.specs.declared.states.State.{State}
 use Rattle.core_machine.proofs.Asks.{Adds, kept_still, kept_changed, kept_raised, passes, replied, signals_only}
@@ -48,6 +49,19 @@ may_after s t actor request same may = record { ready = same_ready s t actor req
 pub told : (s : State) (actor : Actor) (request : Request) (reply : Reply) → is_nobody actor ≡ false → answer s.ground.policy (point_of s.line.line (table_of s.table)) actor request ≡ reply
     → IsReply s actor request reply
 told s actor request reply somebody is = record { is = passes actor (answer s.ground.policy (point_of s.line.line (table_of s.table)) actor request) somebody ∙ is }
+
+-- a request that only looks queues nothing and leaves the table
+pub still_look : (actor : Actor) (request : Request) (reply : Reply) → is_look request ≡ true → IsStill actor request reply
+still_look actor Now reply is = record { queues = λ t. refl; leaves = λ now tb. refl }
+still_look actor (Status cond) reply is = record { queues = λ t. refl; leaves = λ now tb. refl }
+still_look actor (Seen event) reply is = record { queues = λ t. refl; leaves = λ now tb. refl }
+still_look actor (Active session role) reply is = record { queues = λ t. refl; leaves = λ now tb. refl }
+still_look actor (Check session perm) reply is = record { queues = λ t. refl; leaves = λ now tb. refl }
+still_look actor (Raise head delay) reply is = absurd (cc is)
+still_look actor OpenSession reply is = absurd (cc is)
+still_look actor (CloseSession session) reply is = absurd (cc is)
+still_look actor (Activate session role) reply is = absurd (cc is)
+still_look actor (Deactivate session role) reply is = absurd (cc is)
 
 -- policy and birth stay, and the entry came
 pub record Entered (s t : State) (who : Who) (actor : Actor) (request : Request) (reply : Reply) : Type 0 where

@@ -11,6 +11,7 @@ ghost use Rattle.core_machine.specs.Looks.{is_look};
 ghost use Rattle.core_machine.specs.Steps.{as_step};
 
 use crate::asking::answer;
+use crate::entering::note;
 use crate::looking::look;
 use crate::prepared::Prepared;
 use crate::states::State;
@@ -227,6 +228,25 @@ impl Book {
         ensures { IfOk result (λ reply. reply ≡ reply_in self.now actor request) }
     {
         look(&self.state, actor, request)
+    }
+
+    /// Adds the entry of a request that only looks, with the reply that it gets at now. For want of
+    /// memory the book is as it was.
+    pub fn note(
+        &mut self,
+        who: Who,
+        actor: Actor,
+        request: Request,
+        reply: Reply,
+    ) -> Result<(), Memory>
+        requires looks { is_look request ≡ true }
+        requires named { IsNamedFor self.old actor request }
+        requires room { length self.old.entries < MAX_STEPS }
+        requires told { reply ≡ reply_in self.old actor request }
+        ensures ok { OnOk result (Asks self.old who actor request reply self.new) }
+        ensures err { OnErr result (self.new ≡ self.old) }
+    {
+        note(&mut self.state, who, actor, request, reply)
     }
 }
 

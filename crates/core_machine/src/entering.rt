@@ -1,11 +1,13 @@
 //! Entries of answers, and events that are queued.
-ghost use Rattle.std.specs.Prelude.{◌≡◌, ◌<◌, ◌≤◌, ◌+◌, ◌++◌, ◌∷◌, [], true, length, OnOk};
+ghost use Rattle.std.specs.Prelude.{◌≡◌, ◌<◌, ◌≤◌, ◌+◌, ◌++◌, ◌∷◌, [], true, length, OnOk, OnErr};
 ghost use Rattle.gt_base.specs.Machines.{asked};
 ghost use Rattle.gt_base.specs.declared.events.UserId.{UserId};
 ghost use Rattle.gt_base.specs.declared.requests.Actor.TheVariants.{User};
 ghost use Rattle.gt_base.specs.declared.requests.Request.TheVariants.{Raise};
 ghost use Rattle.gtrbac_model.specs.Reply.{is_admin};
-ghost use Rattle.core_machine.specs.Kept.{IsReady, IsReply, Same};
+ghost use Rattle.core_machine.specs.Books.{Asks, reply_in};
+ghost use Rattle.core_machine.specs.Kept.{IsKept, IsReady, IsReply, Same, view_of};
+ghost use Rattle.core_machine.specs.Looks.{is_look};
 ghost use Rattle.core_machine.specs.Steps.{IsStep, IsStill, MayAsk, with_signals};
 
 use crate::states::State;
@@ -35,6 +37,28 @@ pub(crate) fn tell(
     s.entries.reserve(1)?;
     add_entry(&mut s.entries, who, actor, request, reply);
     Ok(answer)
+}
+
+/// Adds the entry of a request that only looks, with the reply that it gets at now. For want of
+/// memory the book is as it was.
+pub(crate) fn note(
+    s: &mut State,
+    who: Who,
+    actor: Actor,
+    request: Request,
+    reply: Reply,
+) -> Result<(), Memory>
+    requires ready { IsReady s.old actor request }
+    requires looks { is_look request ≡ true }
+    requires told { reply ≡ reply_in (view_of s.old) actor request }
+    ensures kept { IsKept s.new }
+    ensures ok { OnOk result (Asks (view_of s.old) who actor request reply (view_of s.new)) }
+    ensures err { OnErr result (view_of s.new ≡ view_of s.old) }
+{
+    s.line.keeps();
+    s.entries.reserve(1)?;
+    add_entry(&mut s.entries, who, actor, request, reply);
+    Ok(())
 }
 
 /// Adds the entry of an answered request, into room that was made before.
