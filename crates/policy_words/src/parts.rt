@@ -17,7 +17,7 @@ pub enum NamedFluent {
 }
 
 /// The sorts of fluents.
-#[derive(Clone, Copy, PartialEq, Eq, Debug)]
+#[derive(Clone, Copy)]
 pub enum Sort {
     Enabling,
     Assigning,

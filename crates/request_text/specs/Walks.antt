@@ -28,6 +28,10 @@ module _ (np : NamedPolicy) where
   abbrev pub walk_led : RoleWalk → List ℕ
   walk_led w = role_name np.names w.start ++ flat_map (step_name) w.edges
 
+  -- who asks, up to what is asked
+  abbrev pub asker_text : Who → Actor → List ℕ
+  asker_text who actor = codes "ask " ++ who_text who ++ codes " " ++ actor_text np actor ++ codes " "
+
   -- who asked what, up to the reply
   abbrev pub asked_text : Who → Actor → Request → List ℕ
   asked_text who actor request =

@@ -1,9 +1,8 @@
 //! The lines of requests, written.
-ghost use Rattle.std.specs.Prelude.{◌≡◌, ◌++◌, ◌∷◌, [], codes, decimal, IsTrue, OnOk, IfOk, length, ◌<◌};
+ghost use Rattle.std.specs.Prelude.{◌≡◌, ◌++◌, ◌∷◌, [], decimal, IsTrue, OnOk, IfOk, length, ◌<◌};
 ghost use Rattle.gt_text.specs.Words.{spaced};
 ghost use Rattle.gtrbac_model.specs.WholePolicy.{is_fluent};
-ghost use Rattle.policy_words.specs.Wording.{head_words, delay_words};
-ghost use Rattle.policy_words.specs.Naming.{head_named, role_name};
+ghost use Rattle.policy_words.specs.Naming.{role_name};
 ghost use Rattle.request_text.specs.Replies.{request_text};
 ghost use Rattle.request_text.specs.Named.{has_request};
 

@@ -10,12 +10,14 @@ ghost use Rattle.request_text.specs.Phrases.{request_words};
 ghost use Rattle.request_text.specs.Replies.{actor_text, request_named, request_text, who_text, entry_text, entry_line};
 ghost use Rattle.request_text.specs.Rooms.{Puts};
 ghost use Rattle.request_text.specs.Tellable.{IsSmallWho};
-ghost use Rattle.request_text.specs.Walks.{tick_text, asked_text};
+ghost use Rattle.request_text.specs.Walks.{tick_text, asker_text, asked_text};
 
 use crate::replies::{put_instant, put_number, put_text};
 use crate::rooms::{Page, Room};
 use crate::sizes::{small, small_number};
-use gt_base::{Actor, Entry, Instant, Name, Request, SessionId, Step, Who};
+use gt_base::{
+    Actor, Cond, Entry, Event, Instant, Name, Prioritised, Request, SessionId, Step, Who,
+};
 use policy_book::{
     NamedCond, NamedEvent, NamedFluent, NamedHead, Policy, named_cond, named_event, named_head,
 };
@@ -183,6 +185,42 @@ fn put_use(into: &mut Page, verb: &[u8], session: SessionId, name: &Name)
     put_name(into, name);
 }
 
+/// Adds the words of the question whether a condition holds.
+fn put_status(into: &mut Page, p: &Policy, c: Cond)
+    requires named { IsTrue (is_fluent p.now.policy c.fluent) }
+    requires room { length (led (request_words (request_named p.now (Request.Status c))))
+        ≤ into.old.spare }
+    ensures { Puts into.old into.new (led (request_words (request_named p.now
+        (Request.Status c)))) }
+{
+    into.put(b"status");
+    put_cond(into, &named_cond(p, c));
+}
+
+/// Adds the words of the question what an event was.
+fn put_seen(into: &mut Page, p: &Policy, e: Event)
+    requires named { IsTrue (is_fluent p.now.policy e.fluent) }
+    requires room { length (led (request_words (request_named p.now (Request.Seen e))))
+        ≤ into.old.spare }
+    ensures { Puts into.old into.new (led (request_words (request_named p.now (Request.Seen e)))) }
+{
+    into.put(b"event");
+    put_event(into, &named_event(p, e));
+}
+
+/// Adds the words of a request to raise an event.
+fn put_raise(into: &mut Page, p: &Policy, head: Prioritised, delay: u32)
+    requires named { IsTrue (is_fluent p.now.policy head.event.fluent) }
+    requires room { length (led (request_words (request_named p.now (Request.Raise head delay))))
+        ≤ into.old.spare }
+    ensures { Puts into.old into.new (led (request_words (request_named p.now
+        (Request.Raise head delay)))) }
+{
+    into.put(b"request");
+    put_head(into, &named_head(p, head));
+    put_delay(into, delay);
+}
+
 /// Adds the words of a request, with one space between two of them.
 fn put_words(into: &mut Page, p: &Policy, request: Request)
     requires named { IsTrue (has_request p.now.policy request) }
@@ -192,19 +230,9 @@ fn put_words(into: &mut Page, p: &Policy, request: Request)
     p.keeps();
     match request {
         Request::Now => into.put(b"now"),
-        Request::Status(c) => {
-            into.put(b"status");
-            put_cond(into, &named_cond(p, c));
-        }
-        Request::Seen(e) => {
-            into.put(b"event");
-            put_event(into, &named_event(p, e));
-        }
-        Request::Raise { head, delay } => {
-            into.put(b"request");
-            put_head(into, &named_head(p, head));
-            put_delay(into, delay);
-        }
+        Request::Status(c) => put_status(into, p, c),
+        Request::Seen(e) => put_seen(into, p, e),
+        Request::Raise { head, delay } => put_raise(into, p, head, delay),
         Request::OpenSession => into.put(b"open"),
         Request::CloseSession(s) => {
             into.put(b"close");
@@ -226,6 +254,19 @@ fn put_request(into: &mut Page, p: &Policy, request: Request)
     put_words(into, p, request);
 }
 
+/// Adds who asks, up to what is asked.
+fn put_asker(into: &mut Page, p: &Policy, who: Who, actor: Actor)
+    requires actor { IsTrue (has_actor p.now.policy actor) }
+    requires room { length (asker_text p.now who actor) ≤ into.old.spare }
+    ensures { Puts into.old into.new (asker_text p.now who actor) }
+{
+    into.put(b"ask ");
+    put_who(into, who);
+    into.put(b" ");
+    put_actor(into, p, actor);
+    into.put(b" ");
+}
+
 /// Adds who asked what, up to the reply.
 fn put_asked(into: &mut Page, p: &Policy, who: Who, actor: Actor, request: Request)
     requires actor { IsTrue (has_actor p.now.policy actor) }
@@ -233,11 +274,7 @@ fn put_asked(into: &mut Page, p: &Policy, who: Who, actor: Actor, request: Reque
     requires room { length (asked_text p.now who actor request) ≤ into.old.spare }
     ensures { Puts into.old into.new (asked_text p.now who actor request) }
 {
-    into.put(b"ask ");
-    put_who(into, who);
-    into.put(b" ");
-    put_actor(into, p, actor);
-    into.put(b" ");
+    put_asker(into, p, who, actor);
     put_request(into, p, request);
     into.put(b" = ");
 }

@@ -3,7 +3,7 @@ use gt_base::{Instant, Name, SessionId};
 use policy_words::{NamedCond, NamedEvent, NamedHead};
 
 /// A request by names. A delay is in minutes, 0 to 52,595,999.
-#[derive(Clone, Copy, PartialEq, Eq, Debug)]
+#[derive(Clone, Copy)]
 pub enum NamedRequest {
     Now,
     Status(NamedCond),
@@ -19,7 +19,7 @@ pub enum NamedRequest {
 
 /// What a line says that is not silent: a minute, an actor, where no name is the opening actor, or
 /// a request.
-#[derive(Clone, Copy, PartialEq, Eq, Debug)]
+#[derive(Clone, Copy)]
 pub enum Phrase {
     At(Instant),
     Be(Option<Name>),

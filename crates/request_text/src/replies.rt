@@ -145,11 +145,8 @@ fn put_shut<R: Room>(into: &mut R, p: &Policy, n: u32)
     requires room { length (codes "deny shut " ++ edge_text p.now n) ≤ (R.room into.old).spare }
     ensures { Puts (R.room into.old) (R.room into.new) (codes "deny shut " ++ edge_text p.now n) }
 {
-    let edge = edge(p, n);
-    into.put(b"deny shut ");
-    into.put(p.role_name(edge.senior).bytes());
-    into.put(b">");
-    into.put(p.role_name(edge.junior).bytes());
+    put_start(into, p, b"deny shut ", edge(p, n).senior);
+    put_junior(into, p, n);
 }
 
 /// Adds the answer to `check`.

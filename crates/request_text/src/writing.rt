@@ -2,9 +2,9 @@
 ghost use Rattle.std.specs.Prelude.{◌≡◌, ◌++◌, codes, decimal, flat_map, IsTrue, OnOk, OnErr, IfOk};
 ghost use Rattle.std.specs.List.{list_all};
 ghost use Rattle.civil_time.specs.Text.{civil_text};
-ghost use Rattle.request_text.specs.Replies.{reply_text, reply_line, actor_text, request_text, who_text, step_text, entry_text, entry_line, log_text};
+ghost use Rattle.request_text.specs.Replies.{reply_text, reply_line, actor_text, who_text, entry_text, entry_line, log_text};
 ghost use Rattle.request_text.specs.Named.{has_reply, has_actor, has_request, has_entry};
-ghost use Rattle.request_text.specs.Walks.{tick_text, asked_text};
+ghost use Rattle.request_text.specs.Walks.{tick_text, asker_text, asked_text};
 
 use crate::asked::write_request;
 use crate::replies::{put_reply, put_text};
@@ -94,6 +94,18 @@ fn push_tick(into: &mut List<u8>, who: Who, to: Instant, upto: Instant) -> Resul
     push_instant(into, b" bound ", upto)
 }
 
+/// Adds who asks, up to what is asked.
+fn push_asker(into: &mut List<u8>, p: &Policy, who: Who, actor: Actor) -> Result<(), Memory>
+    requires { IsTrue (has_actor p.now.policy actor) }
+    ensures { OnOk result (into.new.items ≡ into.old.items ++ asker_text p.now who actor) }
+{
+    into.push_all(b"ask ")?;
+    push_who(into, who)?;
+    into.push_all(b" ")?;
+    push_actor(into, p, actor)?;
+    into.push_all(b" ")
+}
+
 /// Adds who asked what, up to the reply.
 fn push_asked(
     alloc: Global,
@@ -107,12 +119,8 @@ fn push_asked(
     requires request { IsTrue (has_request p.now.policy request) }
     ensures { OnOk result (into.new.items ≡ into.old.items ++ asked_text p.now who actor request) }
 {
+    push_asker(into, p, who, actor)?;
     let request = write_request(alloc, p, request)?;
-    into.push_all(b"ask ")?;
-    push_who(into, who)?;
-    into.push_all(b" ")?;
-    push_actor(into, p, actor)?;
-    into.push_all(b" ")?;
     into.push_all(request.as_slice())?;
     into.push_all(b" = ")
 }
