@@ -25,7 +25,7 @@ use std::alloc::Global;
 
 /// What a step has to do with the next listing: it is of the instant that the step closed, or it is
 /// not looked at, or the certificate is wrong.
-#[derive(Clone, Copy, PartialEq, Eq)]
+#[derive(Clone, Copy)]
 pub(crate) enum Held {
     Listed,
     Passed,
@@ -195,12 +195,31 @@ fn hold_here(
 {
     let set = set_listed(s.alloc, listing)?;
     let x = Contest::new(s.alloc, &set)?;
-    if is_good(s, by, base, &x, listing)? {
-        close(s, by.policy, to, &x)?;
-        Ok(Held::Listed)
-    } else {
-        Ok(Held::Wrong)
+    hold_set(s, by, to, base, &x, listing)
+}
+
+/// The same, with the set of the listing.
+fn hold_set(
+    s: &mut Replay,
+    by: &Judging,
+    to: Instant,
+    base: &Happened,
+    x: &Contest,
+    listing: &Listing,
+) -> Result<Held, Memory>
+    requires later { s.old.present < to }
+    requires charged { NotBefore s.old.table.charged_to s.old.present }
+    requires base { base.now.set ≡ base_in by.now.policy.now.policy s.old to }
+    requires here { listing.now.at ≡ to }
+    requires set { x.now ≡ set_in listing.now }
+    ensures { IfOk result (λ held. IsHeld by.now.policy.now.policy s.old to
+        (Some listing.now) held s.new) }
+{
+    if !is_good(s, by, base, x, listing)? {
+        return Ok(Held::Wrong);
     }
+    close(s, by.policy, to, x)?;
+    Ok(Held::Listed)
 }
 
 /// Whether the listing, which is of the instant of this base and has this set, says something and
