@@ -12,14 +12,14 @@ use Rattle.gt_base.specs.declared.limits.TheConstants.{MAX_STEPS}
 use Rattle.turn_lock.specs.Turns.{Each}
 use Rattle.turn_lock.specs.Holders.{Holder}
 use Rattle.turn_lock.proofs.Totals.{each-append}
-use Rattle.locked_history.specs.Fronts.{by, Lands, Refuses}
+use Rattle.locked_history.specs.Fronts.{by, Lands}
 use Rattle.locked_history.specs.declared.faults.DeskFault.{DeskFault}
 use Rattle.locked_history.specs.declared.faults.DeskFault.TheVariants.{Worn, StepsFull, Memory}
 use Rattle.connection_laws.specs.Connection.{is_who, part_of, IsTick, Answers, placed}
 use Rattle.connection_laws.proofs.Places.{own_entry, placed_more, stands_at}
 use Rattle.connection_laws.proofs.Timing.{asked_in_time}
 use Rattle.connection_laws.specs.Turns.{answer_of, Grows, AreMine, AskedTurn}
-use Rattle.connection_laws.proofs.Growing.{grown_twice, grown_landed, grown_still, grown_within, grown_refused}
+use Rattle.connection_laws.proofs.Growing.{grown_twice, grown_landed, grown_still, grown_within}
 
 ticks_mine : (who : Who) (reading : ℕ) (ticks : List Entry) → Each (IsTick who reading) ticks → AreMine who ticks
 ticks_mine who reading [] all = tt
@@ -71,7 +71,7 @@ module _ {M : Type 0} (first : List Entry) (legal : List Entry → Type 0) (now 
   answers_refused StepsFull birth n ticks full = (refl, full refl)
   answers_refused Memory birth n ticks full = refl
 
-  pub is_refused : (ticks : List Entry) (fault : DeskFault) → Each (IsTick (by a.number conn) reading) ticks → Grows a b ticks 1 → Refuses b c
+  pub is_refused : (ticks : List Entry) (fault : DeskFault) → Each (IsTick (by a.number conn) reading) ticks → Grows a b ticks 1 → Grows b c [] 1
       → (fault ≡ StepsFull → MAX_STEPS ≤ length c.seen) → ((n : ℕ) → fault ≡ Worn n → (n ≡ 2 ^ 40) × (c.draws ≡ 2 ^ 40))
       → Told a.number (Err fault)
   is_refused ticks fault each g r full worn =
@@ -79,7 +79,7 @@ module _ {M : Type 0} (first : List Entry) (legal : List Entry → Type 0) (now 
         entries = ticks;
         asks = λ birth timed. (reading, ticks, refl, each, answers_refused fault birth _ ticks full);
         mine = ticks_mine (by a.number conn) reading ticks each;
-        grows = grown_still a b c ticks 1 1 g (grown_refused b c r);
+        grows = grown_still a b c ticks 1 1 g r;
         ends = λ r same. absurd cc;
         worn_out = λ n same. worn n (cc);
       }

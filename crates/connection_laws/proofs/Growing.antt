@@ -89,9 +89,9 @@ module _ {M : Type 0} where
       each-append (IsTick (by a.number conn) reading) ticks (ticked (by b.number conn) reading now ∷ []) each
       ((now, ap (λ (n : ℕ). ticked (by n conn) reading now) (ap (λ (p : Holder M). p.number) g.after_is)), tt)
 
-  pub reaches : (first : List Entry) (legal : List Entry → Type 0) (now_of : List Entry → ℕ) (who : Who) (reading : ℕ) (a c : Holder M) (ticks front : List Entry) (now : ℕ)
-      → Each (IsTick who reading) ticks → Grows a c ticks 1 → c.seen ≡ front → legal front → reading ≤ now → now ≡ now_of front → Reaches first legal now_of who reading a c {T = Unit {0}} (Ok tt)
-  reaches first legal now_of who reading a c ticks front now each grows seen_is is_legal late now_is =
+  pub reaches : (legal : List Entry → Type 0) (now_of : List Entry → ℕ) (who : Who) (reading : ℕ) (a c : Holder M) (ticks front : List Entry) (now : ℕ)
+      → Each (IsTick who reading) ticks → Grows a c ticks 1 → c.seen ≡ front → legal front → reading ≤ now → now ≡ now_of front → Reaches legal now_of who reading a c {T = Unit {0}} (Ok tt)
+  reaches legal now_of who reading a c ticks front now each grows seen_is is_legal late now_is =
       record {
         ticks = ticks;
         each = each;

@@ -78,7 +78,7 @@ module _ {M : Type 0} where
     pub draws_high : after.draws ≤ before.draws + length more + extra
 
   -- the ticks that bring the history to a reading
-  pub record Reaches (first : List Entry) (legal : List Entry → Type 0) (now : List Entry → ℕ)
+  pub record Reaches (legal : List Entry → Type 0) (now : List Entry → ℕ)
       (who : Who) (reading : ℕ) (before after : Holder M) {T : Type 0} (result : Result T DeskFault)
       : Type 0 where
     pub ticks : List Entry

@@ -1,5 +1,5 @@
 //! Who answers the requests of a link, and what one of its lines comes to.
-ghost use Rattle.std.specs.Prelude.{◌≡◌, ◌<◌, ◌+◌, ℕ, List};
+ghost use Rattle.std.specs.Prelude.{◌≡◌, ℕ, List};
 ghost use Rattle.gt_base.specs.declared.requests.Actor.{Actor};
 ghost use Rattle.gt_base.specs.declared.requests.Request.{Request};
 ghost use Rattle.gt_base.specs.declared.requests.Entry.{Entry};

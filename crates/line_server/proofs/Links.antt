@@ -119,13 +119,10 @@ module _ {M L : Type 0} (traffic : L → Traffic) (np : NamedPolicy) (first : Li
         },
       )
 
-all_push : {L : Type 0} (ss : List (Served L)) (s : Served L) → AllUnworn ss → is_worn_out s.report.outcome ≡ false → AllUnworn (ss ++ s ∷ [])
-all_push {L} ss s all one = each-append (λ (t : Served L). is_worn_out t.report.outcome ≡ false) ss (s ∷ []) all (one, tt)
-
 -- how a worker goes on behind one more link
 pub ends_of : {L : Type 0} (links : Option (List L)) (t t' : Tally) (draws : ℕ) (ss served : List (Served L)) (s : Served L) (result : Option WorkEnd) → t' ≡ t → served ≡ ss ++ s ∷ [] → AllUnworn ss → ((n : ℕ) → s.report.outcome ≡ LinkWorn n → (n ≡ 2 ^ 40) × (draws ≡ 2 ^ 40))
     → MatchOption result (is_worn_out s.report.outcome ≡ false) (λ worn. (n : ℕ) × (s.report.outcome ≡ LinkWorn n) × (worn ≡ Worn n)) → MatchOption result (AllUnworn served × (t' ≡ t)) (λ end. WorksTo links t t' draws served end)
-ends_of {L} links t t' draws ss served s None kept is all wears w = (subst (λ (l : List (Served L)). AllUnworn l) (sym is) (all_push ss s all w), kept)
+ends_of {L} links t t' draws ss served s None kept is all wears w = (subst (λ (l : List (Served L)). AllUnworn l) (sym is) (each-append (λ (t : Served L). is_worn_out t.report.outcome ≡ false) ss (s ∷ []) all (w, tt)), kept)
 ends_of {L} links t t' draws ss served s (Some end) kept is all wears w =
     let facts = wears w.0 w.1 in
     subst (λ (e : WorkEnd). WorksTo links t t' draws served e) (sym w.2) (ss, s, is, all, w.1, facts.0, facts.1, kept)

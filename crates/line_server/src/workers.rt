@@ -1,11 +1,11 @@
 //! The links of a door, one after the other.
-ghost use Rattle.std.specs.Prelude.{◌≡◌, ◌+◌, ◌<◌, ◌≤◌, ℕ, false, [], length, None, MatchOption};
+ghost use Rattle.std.specs.Prelude.{◌≡◌, ◌+◌, ◌<◌, ◌≤◌, ◌^◌, ℕ, false, [], length, None, MatchOption};
 ghost use Rattle.gt_base.specs.declared.limits.TheConstants.{MAX_BYTES};
 ghost use Rattle.turn_lock.specs.Holders.{site_of};
 ghost use Rattle.connection_laws.specs.Services.{service_at};
 ghost use Rattle.connection_laws.specs.Turns.{CanAsk, StaysIdle};
 ghost use Rattle.connection_laws.specs.Attending.{is_worn_out};
-ghost use Rattle.line_server.specs.Working.{spot, CanServeNext, post_view, WorksOn, Works, HasWorked};
+ghost use Rattle.line_server.specs.Working.{spot, post_view, WorksOn, Works, HasWorked};
 
 use crate::ended::{Served, WorkEnd};
 use crate::serve::serve_link;
@@ -48,8 +48,9 @@ fn serve_next<M: Machine, R: Wait, D: Door, C: Clock, G: Gate>(
     w: &mut Worker<D, C, G>,
     calls: &mut u64,
 ) -> Option<WorkEnd>
-    requires can { CanServeNext M.named M.legal desk.now policy.now pass.old w.old.served
-        calls.old }
+    requires ready { CanAsk M.named M.legal desk.now policy.now pass.old × (calls.old < 2 ^ 63) }
+    requires room { 1 ≤ w.old.served.spare }
+    requires few { length w.old.served.items < MAX_LINKS }
     ensures works { WorksOn D.L.traffic (service_at M.list M.legal M.now_of desk.now policy.now)
         pass.old.number
         (spot pass.old (C.readings w.old.clock) (D.doorway w.old.door))

@@ -79,10 +79,10 @@ returns-then-minute-2 g c =
     let late : c.args.reading ≤ now = omega (arith, early, told, asked) in
     elim c.in-Ok.ensures.ok [
       | inl l ↦
-          reaches first (g.M.Machine.legal root) (g.M.Machine.now_of root) (by a.number c.args.server.now.conn) c.args.reading a d i.ticks front now i.each (grown_still a b d i.ticks 0 1 i.grows (grown_landed first b d front [] 1 (omega arith) l.1))
+          reaches (g.M.Machine.legal root) (g.M.Machine.now_of root) (by a.number c.args.server.now.conn) c.args.reading a d i.ticks front now i.each (grown_still a b d i.ticks 0 1 i.grows (grown_landed first b d front [] 1 (omega arith) l.1))
           (ap (λ (p : Holder g.row.M.Denot). p.seen) l.1.after_is) legal.0 late legal.2
       | inr l ↦
-          reaches first (g.M.Machine.legal root) (g.M.Machine.now_of root) (by a.number c.args.server.now.conn) c.args.reading a d (i.ticks ++ e ∷ []) front now
+          reaches (g.M.Machine.legal root) (g.M.Machine.now_of root) (by a.number c.args.server.now.conn) c.args.reading a d (i.ticks ++ e ∷ []) front now
           (each_more a b c.args.server.now.conn c.args.reading now i.ticks i.grows i.each) (grown_within a d (i.ticks ++ e ∷ []) 0 1 (omega arith) (ticks_more first a b d i.ticks front e i.grows l))
           (ap (λ (p : Holder g.row.M.Denot). p.seen) l.after_is) legal.0 late legal.2
     ]

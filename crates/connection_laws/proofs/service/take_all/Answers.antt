@@ -1,10 +1,10 @@
-use Rattle.std.proofs.Common.{◌≡◌, ◌+◌, ℕ, List, [], ◌++◌, length, take, refl, subst, sym, ◌∙◌, arith, Option, Ok, Err, length-append}
+use Rattle.std.proofs.Common.{◌≡◌, ℕ, List, [], ◌++◌, length, take, refl, subst, sym, ◌∙◌, arith, Option, Ok, Err, length-append}
 use Rattle.std.proofs.lemmas.List.{length-take-le}
 use Rattle.std.specs.Io.KnownBytes.{Appends, Consumes}
 use Rattle.std.proofs.KnownBytes.{Appends-nil, Consumes-nil, Appends-trans, Consumes-trans}
 use Rattle.policy_words.specs.Naming.{NamedPolicy}
 use Rattle.connection_laws.specs.Desks.{IsNamedActor}
-use Rattle.connection_laws.specs.Attending.{spot, Serving, TakesBytes}
+use Rattle.connection_laws.specs.Attending.{spot, HasReplied, TakesBytes}
 use Rattle.connection_laws.proofs.EndsBy.{begins, cut_off}
 use Rattle.connection_laws.proofs.service.take_all.Goals as goal
 
@@ -47,7 +47,7 @@ loop-left-preserved g c =
     let mid = t.traffic c.read_some.new.link in
     let end = t.traffic c.take_bytes.new.link in
     let origin = spot (v.rested c.args.answerer.now) c.args.hearing.now.talk start.given in
-    let s = subst (λ (x : Option (List ℕ)). Serving np v.asks origin (spot (v.rested c.loop-left.answerer) c.loop-left.hearing.talk x) c.loop-left.hearing.framer inv.fed inv.acted) (sym r.writes.given_kept) inv.serving in
+    let s = subst (λ (x : Option (List ℕ)). HasReplied np v.asks origin (spot (v.rested c.loop-left.answerer) c.loop-left.hearing.talk x) c.loop-left.hearing.framer inv.fed inv.acted) (sym r.writes.given_kept) inv.serving in
     let last = spot (v.rested c.take_bytes.new.answerer) c.take_bytes.new.hearing.talk end.given in
     let goes = subst (λ (j : NamedPolicy). TakesBytes j v.asks v.wears (spot (v.rested c.loop-left.answerer) c.loop-left.hearing.talk mid.given) last
     c.loop-left.hearing.framer c.take_bytes.new.hearing.framer chunk mid.write_faults end.write_faults {T = Unit {0}} (Ok c.in_default-take_bytes.field-0)) inv.named c.in_default-take_bytes.ensures.goes in
@@ -92,7 +92,7 @@ returns-in-Err-clause-attends g c =
     let mid = t.traffic c.read_some.new.link in
     let end = t.traffic c.take_bytes.new.link in
     let origin = spot (v.rested c.args.answerer.now) c.args.hearing.now.talk start.given in
-    let s = subst (λ (x : Option (List ℕ)). Serving np v.asks origin (spot (v.rested c.loop-left.answerer) c.loop-left.hearing.talk x) c.loop-left.hearing.framer inv.fed inv.acted) (sym r.writes.given_kept) inv.serving in
+    let s = subst (λ (x : Option (List ℕ)). HasReplied np v.asks origin (spot (v.rested c.loop-left.answerer) c.loop-left.hearing.talk x) c.loop-left.hearing.framer inv.fed inv.acted) (sym r.writes.given_kept) inv.serving in
     let last = spot (v.rested c.take_bytes.new.answerer) c.take_bytes.new.hearing.talk end.given in
     let goes = subst (λ (j : NamedPolicy). TakesBytes j v.asks v.wears (spot (v.rested c.loop-left.answerer) c.loop-left.hearing.talk mid.given) last
     c.loop-left.hearing.framer c.take_bytes.new.hearing.framer chunk mid.write_faults end.write_faults {T = Unit {0}} (Err c.in-Err.end)) inv.named c.in-Err.ensures.goes in
