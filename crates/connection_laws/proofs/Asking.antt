@@ -26,15 +26,9 @@ ticks_mine who reading [] all = tt
 ticks_mine who reading (e ∷ es) all =
     (ap (is_who who) all.0.1 ∙ own_entry who (Tick reading all.0.0), ticks_mine who reading es all.1)
 
-same_reply : (x y : Reply) → ◌≡◌ {A = Result Reply DeskFault} (Ok x) (Ok y) → x ≡ y
-same_reply x y same = cc
-
 module _ {M : Type 0} (first : List Entry) (legal : List Entry → Type 0) (now : List Entry → ℕ) (conn reading : ℕ) (actor : Actor) (request : Request) (a b c : Holder M) where
   abbrev Told : ℕ → Result Reply DeskFault → Type 0
   Told n result = AskedTurn first legal now (by n conn) reading actor request a c result
-
-  same_number : (ticks : List Entry) → Grows a b ticks 1 → b.number ≡ a.number
-  same_number ticks g = ap (λ (p : Holder M). p.number) g.after_is
 
   accepted_here : (ticks : List Entry) (reply : Reply) (front before : List Entry) → Each (IsTick (by b.number conn) reading) ticks → Grows a b ticks 1 → legal b.seen → reading ≤ now b.seen
       → Lands first b c front (asked (by b.number conn) actor request reply ∷ []) → front ≡ before ++ asked (by b.number conn) actor request reply ∷ [] → legal front
@@ -54,7 +48,7 @@ module _ {M : Type 0} (first : List Entry) (legal : List Entry → Type 0) (now 
         asks = λ birth timed. (reading, ticks, refl, each, (refl, (before, whole, count, asked_in_time birth legal now reading b.seen before front who actor request reply timed fair late good l.seen last)));
         mine = each-append (λ (x : Entry). is_who who x ≡ true) ticks (e ∷ []) all_ticks (is_mine, tt);
         grows = grown_within a c (ticks ++ e ∷ []) (1 + 0) 2 (omega arith) (grown_twice a b c ticks (e ∷ []) 1 0 g (grown_landed first b c front (e ∷ []) 0 (omega arith) l));
-        ends = λ r same. (before, subst (λ (q : Reply). legal (before ++ asked who actor request q ∷ [])) (same_reply reply r same) (subst legal last good));
+        ends = λ r same. let is : reply ≡ r = cc same in (before, subst (λ (q : Reply). legal (before ++ asked who actor request q ∷ [])) is (subst legal last good));
         worn_out = λ n same. absurd cc;
       }
 
@@ -62,7 +56,7 @@ module _ {M : Type 0} (first : List Entry) (legal : List Entry → Type 0) (now 
       → Lands first b c front (asked (by b.number conn) actor request reply ∷ []) → front ≡ before ++ asked (by b.number conn) actor request reply ∷ [] → legal front
       → Told a.number (Ok reply)
   is_replied ticks reply front before each g fair late l last good =
-      let same = same_number ticks g in
+      let same = ap (λ (p : Holder M). p.number) g.after_is in
       subst (λ (n : ℕ). Told n (Ok reply)) same
       (accepted_here ticks reply front before (subst (λ (n : ℕ). Each (IsTick (by n conn) reading) ticks) (sym same) each) g fair late l last good)
 

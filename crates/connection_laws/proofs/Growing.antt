@@ -80,9 +80,6 @@ module _ {M : Type 0} where
         draws_high = g.draws_high;
       }
 
-  pub ticks_more : (first : List Entry) (a b c : Holder M) (ticks front : List Entry) (e : Entry) → Grows a b ticks 0 → Lands first b c front (e ∷ []) → Grows a c (ticks ++ e ∷ []) 0
-  ticks_more first a b c ticks front e g l = grown_twice a b c ticks (e ∷ []) 0 0 g (grown_landed first b c front (e ∷ []) 0 (omega arith) l)
-
   pub each_more : (a b : Holder M) (conn reading now : ℕ) (ticks : List Entry) → Grows a b ticks 0 → Each (IsTick (by a.number conn) reading) ticks
       → Each (IsTick (by a.number conn) reading) (ticks ++ ticked (by b.number conn) reading now ∷ [])
   each_more a b conn reading now ticks g each =

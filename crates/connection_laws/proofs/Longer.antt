@@ -5,20 +5,19 @@ use Rattle.gt_base.specs.declared.requests.Who.{Who}
 use Rattle.gt_base.specs.declared.requests.Actor.{Actor}
 use Rattle.gt_base.specs.declared.requests.Request.{Request}
 use Rattle.gt_base.specs.declared.requests.Entry.{Entry}
+use Rattle.gt_base.specs.Machines.{asked}
 use Rattle.policy_words.specs.Naming.{NamedPolicy}
 use Rattle.connection_laws.specs.declared.ends.LinkEnd.{LinkEnd}
 use Rattle.connection_laws.specs.Lines.{Answer, shown, view_only, silence, agreed, bad, accepted, no_memory, no_steps, worn, Acted}
-use Rattle.connection_laws.specs.Connection.{Stands, Answers, Asks, AreActed, Conn}
+use Rattle.connection_laws.specs.Connection.{Answers, Asks, AreActed, Conn}
 use Rattle.connection_laws.proofs.Linking.{acted_so, link_so}
 use Rattle.connection_laws.proofs.Prefixes.{prefix_trans, prefix_length}
 
 module _ (np : NamedPolicy) (birth : ℕ) (who : Who) (h h' : List Entry) (more : IsPrefix h h') where
-  stands_longer : (reading n : ℕ) (e : Entry) → Stands birth who h reading n e → Stands birth who h' reading n e
-  stands_longer reading n e s = (s.0, prefix_trans (s.0 ++ e ∷ []) h h' s.1 more, s.2, s.3)
-
   answers_longer : (reading : ℕ) (actor : Actor) (request : Request) (answer : Answer) (n : ℕ) (ticks entries : List Entry)
       → Answers birth who h reading actor request answer n ticks entries → Answers birth who h' reading actor request answer n ticks entries
-  answers_longer reading actor request (accepted reply) n ticks entries a = (a.0, stands_longer reading _ _ a.1)
+  answers_longer reading actor request (accepted reply) n ticks entries a =
+      let s = a.1 in (a.0, (s.0, prefix_trans (s.0 ++ asked who actor request reply ∷ []) h h' s.1 more, s.2, s.3))
   answers_longer reading actor request no_memory n ticks entries a = a
   answers_longer reading actor request no_steps n ticks entries a = (a.0, let few = prefix_length h h' more in omega arith)
   answers_longer reading actor request worn n ticks entries a = a

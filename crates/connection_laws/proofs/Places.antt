@@ -34,9 +34,6 @@ part_of-part who (e ∷ es) = by_test who e es (e.who.worker == who.worker) refl
 pub part_of-append : (who : Who) (xs ys : List Entry) → part_of who (xs ++ ys) ≡ part_of who xs ++ part_of who ys
 part_of-append who xs ys = filter-append (is_who who) xs ys
 
-pub mine_one : (who : Who) (e : Entry) → is_who who e ≡ true → part_of who (e ∷ []) ≡ e ∷ []
-mine_one who e is = ap (λ b. cond b (e ∷ []) []) is
-
 pub all_mine : (who : Who) (es : List Entry) → Each (λ (e : Entry). is_who who e ≡ true) es → part_of who es ≡ es
 all_mine who [] all = refl
 all_mine who (e ∷ es) all = ap (λ b. cond b (e ∷ part_of who es) (part_of who es)) all.0 ∙ ap (λ (l : List Entry). e ∷ l) (all_mine who es all.1)
@@ -55,8 +52,8 @@ stands_at who first own before front e begins part_is last mine =
     let rest : drop (length first) front ≡ begins.0 = ap (drop (length first)) (sym begins.1) ∙ drop-append_seam first begins.0 in
     let split : part_of who front ≡ part_of who first ++ part_of who begins.0 = ap (part_of who) (sym begins.1) ∙ part_of-append who first begins.0 in
     let own_is : part_of who begins.0 ≡ part_of who own ++ e ∷ [] = sym (part_of-part who begins.0) ∙ ap (part_of who) (ap (part who.worker) (sym rest) ∙ part_is)
-    ∙ part_of-append who own (e ∷ []) ∙ ap (λ (l : List Entry). part_of who own ++ l) (mine_one who e mine) in
-    let other : part_of who front ≡ part_of who before ++ e ∷ [] = ap (part_of who) last ∙ part_of-append who before (e ∷ []) ∙ ap (λ (l : List Entry). part_of who before ++ l) (mine_one who e mine) in
+    ∙ part_of-append who own (e ∷ []) ∙ ap (λ (l : List Entry). part_of who own ++ l) (all_mine who (e ∷ []) (mine, tt)) in
+    let other : part_of who front ≡ part_of who before ++ e ∷ [] = ap (part_of who) last ∙ part_of-append who before (e ∷ []) ∙ ap (λ (l : List Entry). part_of who before ++ l) (all_mine who (e ∷ []) (mine, tt)) in
     let n1 = ap (λ (l : List Entry). length l) (split ∙ ap (λ (l : List Entry). part_of who first ++ l) own_is) in
     let n2 = ap (λ (l : List Entry). length l) other in
     let l1 = length-append (part_of who first) (part_of who own ++ e ∷ []) in

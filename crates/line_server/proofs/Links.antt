@@ -37,9 +37,6 @@ module _ {L : Type 0} where
   owns_push (y ∷ ys) x = ap (λ (es : List Entry). y.own ++ es) (owns_push ys x) ∙ sym (append_assoc y.own (owns_of ys) x.own)
 
   module _ (traffic : L → Traffic) (np : NamedPolicy) (first : List Entry) (legal : List Entry → Type 0) (now : List Entry → ℕ) (number : ℕ) where
-    abbrev Is : List Entry → List Entry → ℕ → Served L → Tale L → Type 0
-    Is h own c s x = IsServed traffic (service np first legal now) number h own c s x
-
     abbrev Are : List Entry → List Entry → ℕ → List (Served L) → List (Tale L) → Type 0
     Are h own c ss xs = AreServed traffic (service np first legal now) number h own c ss xs
 
@@ -62,8 +59,8 @@ module _ {L : Type 0} where
           served_longer h h' own (c + 1) ss xs more all.1,
         )
 
-    served_push : (h own : List Entry) (c k : ℕ) (ss : List (Served L)) (xs : List (Tale L)) (s : Served L) (x : Tale L) → k ≡ c + length ss → Are h own c ss xs → Is h own k s x → Are h own c (ss ++ s ∷ []) (xs ++ x ∷ [])
-    served_push h own c k [] [] s x at all one = (subst (λ (n : ℕ). Is h own n s x) (let e : k ≡ c = omega (arith, at) in e) one, tt)
+    served_push : (h own : List Entry) (c k : ℕ) (ss : List (Served L)) (xs : List (Tale L)) (s : Served L) (x : Tale L) → k ≡ c + length ss → Are h own c ss xs → IsServed traffic (service np first legal now) number h own k s x → Are h own c (ss ++ s ∷ []) (xs ++ x ∷ [])
+    served_push h own c k [] [] s x at all one = (subst (λ (n : ℕ). IsServed traffic (service np first legal now) number h own n s x) (let e : k ≡ c = omega (arith, at) in e) one, tt)
     served_push h own c k [] (y ∷ ys) s x at all one = absurd all
     served_push h own c k (t ∷ ts) [] s x at all one = absurd all
     served_push h own c k (t ∷ ts) (y ∷ ys) s x at all one = (all.0, served_push h own (c + 1) k ts ys s x (omega (arith, at)) all.1 one)

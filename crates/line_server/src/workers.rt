@@ -5,7 +5,7 @@ ghost use Rattle.turn_lock.specs.Holders.{site_of};
 ghost use Rattle.connection_laws.specs.Services.{service_at};
 ghost use Rattle.connection_laws.specs.Turns.{CanAsk, StaysIdle};
 ghost use Rattle.connection_laws.specs.Attending.{is_worn_out};
-ghost use Rattle.line_server.specs.Working.{spot, post_view, WorksOn, Works, HasWorked};
+ghost use Rattle.line_server.specs.Working.{worker_spot, post_view, WorksOn, Works, HasWorked};
 
 use crate::ended::{Served, WorkEnd};
 use crate::serve::serve_link;
@@ -53,8 +53,8 @@ fn serve_next<M: Machine, R: Wait, D: Door, C: Clock, G: Gate>(
     requires few { length w.old.served.items < MAX_LINKS }
     ensures works { WorksOn D.L.traffic (service_at M.list M.legal M.now_of desk.now policy.now)
         pass.old.number
-        (spot pass.old (C.readings w.old.clock) (D.doorway w.old.door))
-        (spot pass.new (C.readings w.new.clock) (D.doorway w.new.door))
+        (worker_spot pass.old (C.readings w.old.clock) (D.doorway w.old.door))
+        (worker_spot pass.new (C.readings w.new.clock) (D.doorway w.new.door))
         w.old.served.items w.new.served.items result }
     ensures pass { StaysIdle (site_of desk.now) pass.old pass.new }
     ensures calls { calls.new ≤ calls.old + MAX_BYTES }
@@ -96,8 +96,8 @@ fn work_on<M: Machine, R: Wait, D: Door, C: Clock, G: Gate>(
     requires empty { w.old.served.items ≡ [] }
     ensures works { Works D.L.traffic (service_at M.list M.legal M.now_of desk.now policy.now)
         pass.old.number
-        (spot pass.old (C.readings w.old.clock) (D.doorway w.old.door))
-        (spot pass.new (C.readings w.new.clock) (D.doorway w.new.door))
+        (worker_spot pass.old (C.readings w.old.clock) (D.doorway w.old.door))
+        (worker_spot pass.new (C.readings w.new.clock) (D.doorway w.new.door))
         w.new.served.items result }
     ensures pass { StaysIdle (site_of desk.now) pass.old pass.new }
 {

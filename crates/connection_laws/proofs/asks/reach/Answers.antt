@@ -3,7 +3,7 @@ use Rattle.gt_base.specs.Machines.{ticked}
 use Rattle.turn_lock.specs.Holders.{Holder}
 use Rattle.locked_history.specs.Fronts.{by}
 use Rattle.locked_history.specs.declared.faults.DeskFault.TheVariants.{StepsFull, Worn}
-use Rattle.connection_laws.proofs.Growing.{grown_none, grown_landed, grown_refused, grown_still, grown_within, ticks_more, each_more, reaches}
+use Rattle.connection_laws.proofs.Growing.{grown_none, grown_landed, grown_refused, grown_still, grown_within, grown_twice, each_more, reaches}
 use Rattle.connection_laws.proofs.asks.reach.Goals as goal
 
 -- the pass has seen that now is the reading or behind it
@@ -44,7 +44,7 @@ loop-preserved g c =
             idle = (ap (λ (p : Holder g.row.M.Denot). p.site) l.after_is ∙ i.idle.0, ap (λ (p : Holder g.row.M.Denot). p.turn) l.after_is ∙ i.idle.1);
             ticks = i.ticks ++ e ∷ [];
             each = each_more a b c.args.server.now.conn c.args.reading c.in-Ok.ticked.now i.ticks i.grows i.each;
-            grows = ticks_more first a b d i.ticks c.in-Ok.ticked.front e i.grows l;
+            grows = grown_twice a b d i.ticks (e ∷ []) 0 0 i.grows (grown_landed first b d c.in-Ok.ticked.front (e ∷ []) 0 (omega arith) l);
           }
     ]
 
@@ -83,6 +83,6 @@ returns-then-minute-2 g c =
           (ap (λ (p : Holder g.row.M.Denot). p.seen) l.1.after_is) legal.0 late legal.2
       | inr l ↦
           reaches (g.M.Machine.legal root) (g.M.Machine.now_of root) (by a.number c.args.server.now.conn) c.args.reading a d (i.ticks ++ e ∷ []) front now
-          (each_more a b c.args.server.now.conn c.args.reading now i.ticks i.grows i.each) (grown_within a d (i.ticks ++ e ∷ []) 0 1 (omega arith) (ticks_more first a b d i.ticks front e i.grows l))
+          (each_more a b c.args.server.now.conn c.args.reading now i.ticks i.grows i.each) (grown_within a d (i.ticks ++ e ∷ []) 0 1 (omega arith) (grown_twice a b d i.ticks (e ∷ []) 0 0 i.grows (grown_landed first b d front (e ∷ []) 0 (omega arith) l)))
           (ap (λ (p : Holder g.row.M.Denot). p.seen) l.after_is) legal.0 late legal.2
     ]
