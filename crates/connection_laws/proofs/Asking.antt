@@ -12,29 +12,23 @@ use Rattle.gt_base.specs.declared.limits.TheConstants.{MAX_STEPS}
 use Rattle.turn_lock.specs.Turns.{Each}
 use Rattle.turn_lock.specs.Holders.{Holder}
 use Rattle.turn_lock.proofs.Totals.{each-append}
-use Rattle.locked_history.specs.Fronts.{by, Lands, Refuses}
+use Rattle.locked_history.specs.Fronts.{by, Lands}
 use Rattle.locked_history.specs.declared.faults.DeskFault.{DeskFault}
 use Rattle.locked_history.specs.declared.faults.DeskFault.TheVariants.{Worn, StepsFull, Memory}
 use Rattle.connection_laws.specs.Connection.{is_who, part_of, IsTick, Answers, placed}
 use Rattle.connection_laws.proofs.Places.{own_entry, placed_more, stands_at}
 use Rattle.connection_laws.proofs.Timing.{asked_in_time}
 use Rattle.connection_laws.specs.Turns.{answer_of, Grows, AreMine, AskedTurn}
-use Rattle.connection_laws.proofs.Growing.{grown_twice, grown_one, grown_refused}
+use Rattle.connection_laws.proofs.Growing.{grown_twice, grown_landed, grown_still, grown_within}
 
 ticks_mine : (who : Who) (reading : ℕ) (ticks : List Entry) → Each (IsTick who reading) ticks → AreMine who ticks
 ticks_mine who reading [] all = tt
 ticks_mine who reading (e ∷ es) all =
     (ap (is_who who) all.0.1 ∙ own_entry who (Tick reading all.0.0), ticks_mine who reading es all.1)
 
-same_reply : (x y : Reply) → ◌≡◌ {A = Result Reply DeskFault} (Ok x) (Ok y) → x ≡ y
-same_reply x y same = cc
-
 module _ {M : Type 0} (first : List Entry) (legal : List Entry → Type 0) (now : List Entry → ℕ) (conn reading : ℕ) (actor : Actor) (request : Request) (a b c : Holder M) where
   abbrev Told : ℕ → Result Reply DeskFault → Type 0
   Told n result = AskedTurn first legal now (by n conn) reading actor request a c result
-
-  same_number : (ticks : List Entry) → Grows a b ticks 1 → b.number ≡ a.number
-  same_number ticks g = ap (λ (p : Holder M). p.number) g.after_is
 
   accepted_here : (ticks : List Entry) (reply : Reply) (front before : List Entry) → Each (IsTick (by b.number conn) reading) ticks → Grows a b ticks 1 → legal b.seen → reading ≤ now b.seen
       → Lands first b c front (asked (by b.number conn) actor request reply ∷ []) → front ≡ before ++ asked (by b.number conn) actor request reply ∷ [] → legal front
@@ -53,8 +47,8 @@ module _ {M : Type 0} (first : List Entry) (legal : List Entry → Type 0) (now 
         entries = ticks ++ e ∷ [];
         asks = λ birth timed. (reading, ticks, refl, each, (refl, (before, whole, count, asked_in_time birth legal now reading b.seen before front who actor request reply timed fair late good l.seen last)));
         mine = each-append (λ (x : Entry). is_who who x ≡ true) ticks (e ∷ []) all_ticks (is_mine, tt);
-        grows = let h = grown_twice a b c ticks (e ∷ []) 1 0 g (grown_one first b c front e l) in record { seen = h.seen; after_is = h.after_is; draws_low = h.draws_low; draws_high = let x = h.draws_high in omega (arith, x) };
-        ends = λ r same. (before, subst (λ (q : Reply). legal (before ++ asked who actor request q ∷ [])) (same_reply reply r same) (subst legal last good));
+        grows = grown_within a c (ticks ++ e ∷ []) (1 + 0) 2 (omega arith) (grown_twice a b c ticks (e ∷ []) 1 0 g (grown_landed first b c front (e ∷ []) 0 (omega arith) l));
+        ends = λ r same. let is : reply ≡ r = cc same in (before, subst (λ (q : Reply). legal (before ++ asked who actor request q ∷ [])) is (subst legal last good));
         worn_out = λ n same. absurd cc;
       }
 
@@ -62,7 +56,7 @@ module _ {M : Type 0} (first : List Entry) (legal : List Entry → Type 0) (now 
       → Lands first b c front (asked (by b.number conn) actor request reply ∷ []) → front ≡ before ++ asked (by b.number conn) actor request reply ∷ [] → legal front
       → Told a.number (Ok reply)
   is_replied ticks reply front before each g fair late l last good =
-      let same = same_number ticks g in
+      let same = ap (λ (p : Holder M). p.number) g.after_is in
       subst (λ (n : ℕ). Told n (Ok reply)) same
       (accepted_here ticks reply front before (subst (λ (n : ℕ). Each (IsTick (by n conn) reading) ticks) (sym same) each) g fair late l last good)
 
@@ -71,16 +65,15 @@ module _ {M : Type 0} (first : List Entry) (legal : List Entry → Type 0) (now 
   answers_refused StepsFull birth n ticks full = (refl, full refl)
   answers_refused Memory birth n ticks full = refl
 
-  pub is_refused : (ticks : List Entry) (fault : DeskFault) → Each (IsTick (by a.number conn) reading) ticks → Grows a b ticks 1 → Refuses b c
+  pub is_refused : (ticks : List Entry) (fault : DeskFault) → Each (IsTick (by a.number conn) reading) ticks → Grows a b ticks 1 → Grows b c [] 1
       → (fault ≡ StepsFull → MAX_STEPS ≤ length c.seen) → ((n : ℕ) → fault ≡ Worn n → (n ≡ 2 ^ 40) × (c.draws ≡ 2 ^ 40))
       → Told a.number (Err fault)
   is_refused ticks fault each g r full worn =
-      let h = grown_twice a b c ticks [] 1 1 g (grown_refused b c r) in
       record {
         entries = ticks;
         asks = λ birth timed. (reading, ticks, refl, each, answers_refused fault birth _ ticks full);
         mine = ticks_mine (by a.number conn) reading ticks each;
-        grows = subst (λ (l : List Entry). Grows a c l 2) (append-nil ticks) h;
+        grows = grown_still a b c ticks 1 1 g r;
         ends = λ r same. absurd cc;
         worn_out = λ n same. worn n (cc);
       }

@@ -1,5 +1,5 @@
 -- How a service begins and ends, whoever answers.
-use Rattle.std.proofs.Common.{◌≡◌, ℕ, ◌+◌, ◌≤◌, List, [], ◌++◌, length, refl, sym, ap, subst, ◌∙◌, append_assoc, add-zero, Option}
+use Rattle.std.proofs.Common.{◌≡◌, ℕ, ◌≤◌, List, [], ◌++◌, length, refl, sym, ap, subst, ◌∙◌, append_assoc, add-zero, Option}
 use Rattle.std.specs.Io.KnownBytes.{Appends, Consumes, IsAtEnd}
 use Rattle.std.proofs.KnownBytes.{Appends-nil}
 use mathlib.Core.List.{IsPrefix}
@@ -18,7 +18,7 @@ use Rattle.connection_laws.specs.declared.talk.Talk.{Talk}
 use Rattle.connection_laws.specs.Cuts.{whole_lines}
 use Rattle.connection_laws.specs.Doors.{HaveFailed, none_more}
 use Rattle.connection_laws.specs.Lines.{Answer, Acted, IsGiven}
-use Rattle.connection_laws.specs.Attending.{IsStart, Spot, spot, Serving, HaltsBy, Halted, EndsBy, Attends}
+use Rattle.connection_laws.specs.Attending.{IsStart, Spot, spot, HasReplied, HaltsBy, Halted, EndsBy, Attends}
 use Rattle.connection_laws.proofs.Cutting.{lines_more}
 
 given_same : (np : NamedPolicy) (xs ys text : List ℕ) (acted : List Acted) (Wears : ℕ → Type 0) (f f' : ℕ) (end : LinkEnd) → HaltsBy Wears f f' end → IsGiven np xs text acted end → IsGiven np ys text acted end
@@ -46,9 +46,9 @@ cause_kept Wears a b c taken Spent r w h = (h.0, failed_kept a b c none_more non
 cause_kept Wears a b c taken (Worn n) r w h = (h.0, failed_kept a b c none_more none_more none_more r w h.1)
 
 module _ {S : Type 0} (np : NamedPolicy) (Asks : S → S → Actor → Request → Answer → List ℕ → List Entry → Type 0) (Wears : S → ℕ → Type 0) where
-  pub begins : (a : S) (talk : Talk) (given : Option (List ℕ)) (frame : Frame) → IsStart talk → frame ≡ blank_frame → Serving np Asks (spot a talk given) (spot a talk given) frame [] []
+  pub begins : (a : S) (talk : Talk) (given : Option (List ℕ)) (frame : Frame) → IsStart talk → frame ≡ blank_frame → HasReplied np Asks (spot a talk given) (spot a talk given) frame [] []
   begins a talk given frame start is =
-      subst (λ (f : Frame). Serving np Asks (spot a talk given) (spot a talk given) f [] []) (sym is)
+      subst (λ (f : Frame). HasReplied np Asks (spot a talk given) (spot a talk given) f [] []) (sym is)
       (record {
         going = record {
           steps = refl;

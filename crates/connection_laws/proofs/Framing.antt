@@ -44,28 +44,24 @@ abbrev of_number : ℕ → Framed
 of_number n = if nat_le n 512 then Whole else Long
 
 -- what the answer to a byte says of it
-pub more_is : (f : Frame) (b : ℕ) → framed f b ≡ More → is_feed b ≡ false
-more_is f b h =
-    elim (is_feed b) as (λ c. (if c then of_number (begun f).number else More) ≡ More → c ≡ false) [
-      | true ↦ λ e. elim (nat_le (begun f).number 512) as (λ d. (if d then Whole else Long) ≡ More → true ≡ false) [ true ↦ λ e2. cc | false ↦ λ e2. cc ] e
-      | false ↦ λ e. refl
-    ] h
-
-whole_or_long : (f : Frame) (b : ℕ) → (framed f b ≡ Whole → (is_feed b ≡ true) × (nat_le (begun f).number 512 ≡ true)) × (framed f b ≡ Long → (is_feed b ≡ true) × (nat_le (begun f).number 512 ≡ false))
-whole_or_long f b =
-    elim (is_feed b) as (λ c. ((if c then of_number (begun f).number else More) ≡ Whole → (c ≡ true) × (nat_le (begun f).number 512 ≡ true))
+answer_is : (f : Frame) (b : ℕ) → (framed f b ≡ More → is_feed b ≡ false) × (framed f b ≡ Whole → (is_feed b ≡ true) × (nat_le (begun f).number 512 ≡ true)) × (framed f b ≡ Long → (is_feed b ≡ true) × (nat_le (begun f).number 512 ≡ false))
+answer_is f b =
+    elim (is_feed b) as (λ c. ((if c then of_number (begun f).number else More) ≡ More → c ≡ false) × ((if c then of_number (begun f).number else More) ≡ Whole → (c ≡ true) × (nat_le (begun f).number 512 ≡ true))
     × ((if c then of_number (begun f).number else More) ≡ Long → (c ≡ true) × (nat_le (begun f).number 512 ≡ false))) [
-      | true ↦ elim (nat_le (begun f).number 512) as (λ d. ((if d then Whole else Long) ≡ Whole → (true ≡ true) × (d ≡ true)) × ((if d then Whole else Long) ≡ Long → (true ≡ true) × (d ≡ false))) [
-        | true ↦ (λ e. (refl, refl), λ e. absurd cc)
-        | false ↦ (λ e. absurd cc, λ e. (refl, refl))
+      | true ↦ elim (nat_le (begun f).number 512) as (λ d. ((if d then Whole else Long) ≡ More → true ≡ false) × ((if d then Whole else Long) ≡ Whole → (true ≡ true) × (d ≡ true)) × ((if d then Whole else Long) ≡ Long → (true ≡ true) × (d ≡ false))) [
+        | true ↦ (λ e. absurd cc, λ e. (refl, refl), λ e. absurd cc)
+        | false ↦ (λ e. absurd cc, λ e. absurd cc, λ e. (refl, refl))
       ]
-      | false ↦ (λ e. absurd cc, λ e. absurd cc)
+      | false ↦ (λ e. refl, λ e. absurd cc, λ e. absurd cc)
     ]
+
+pub more_is : (f : Frame) (b : ℕ) → framed f b ≡ More → is_feed b ≡ false
+more_is f b = (answer_is f b).0
 
 -- a whole line is the one that was open
 pub whole_is : (f : Frame) (text : List ℕ) (b : ℕ) → FrameFits f text → framed f b ≡ Whole → (is_feed b ≡ true) × ((pushed f b).bytes ≡ open_line text) × (length (open_line text) ≤ 512)
 whole_is f text b fits h =
-    let w = (whole_or_long f b).0 h in
+    let w = (answer_is f b).1 h in
     let low : (begun f).number ≤ 512 = leb-true (begun f).number 512 w.1 in
     let number = ap (λ (g : Frame). g.number) fits in
     let short : length (open_line text) ≤ 512 = omega (arith, low, number) in
@@ -74,7 +70,7 @@ whole_is f text b fits h =
 -- a long one has more bytes than a line may have
 pub long_is : (f : Frame) (text : List ℕ) (b : ℕ) → FrameFits f text → framed f b ≡ Long → (is_feed b ≡ true) × (512 < length (open_line text))
 long_is f text b fits h =
-    let w = (whole_or_long f b).1 h in
+    let w = (answer_is f b).2 h in
     let high : 512 < (begun f).number = leb-false (begun f).number 512 w.1 in
     let number = ap (λ (g : Frame). g.number) fits in
     (w.0, omega (arith, high, number))

@@ -15,9 +15,3 @@ back_with a b (Some text) back =
     let long = ap (λ (l : List ℕ). length l) back.0 in
     let spare = back.1 in
     omega (arith, long, spare)
-
-pub lent_and_back : (a b c : Roomy ℕ) (text : Option (Roomy ℕ)) → LendsRoom a b text → TakesBack b c text → room_in a ≤ room_in c
-lent_and_back a b c text lends back =
-    let out = lent_with a b text lends in
-    let home = back_with b c text back in
-    omega (arith, out, home)

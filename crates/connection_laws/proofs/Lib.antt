@@ -8,7 +8,6 @@ pub mod Fronts
 pub mod Growing
 pub mod Giving
 pub mod Asking
-pub mod Deciding
 pub mod NoMinutes
 pub mod Lending
 pub mod Telling

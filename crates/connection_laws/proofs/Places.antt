@@ -1,6 +1,8 @@
 -- Which entry of its connection an entry is.
 use Rattle.std.proofs.Common.{◌≡◌, ℕ, ◌+◌, Bool, true, false, cond, ◌==◌, ◌&&◌, List, [], ◌∷◌, ◌++◌, length, drop, refl, sym, ap, ◌∙◌, arith, eq-eqb, length-append, ◌≢◌, ne_eqb}
 use Rattle.std.proofs.lemmas.Bool.{eqb-true}
+use Rattle.std.proofs.Math.Bool.{and-false}
+use Rattle.gtrbac_model.proofs.Elements.{both_true}
 use Rattle.locked_history.specs.Fronts.{by}
 use Rattle.connection_laws.specs.Turns.{AreMine}
 use Rattle.std.proofs.lemmas.List.Elements.{filter-append}
@@ -32,9 +34,6 @@ part_of-part who (e ∷ es) = by_test who e es (e.who.worker == who.worker) refl
 pub part_of-append : (who : Who) (xs ys : List Entry) → part_of who (xs ++ ys) ≡ part_of who xs ++ part_of who ys
 part_of-append who xs ys = filter-append (is_who who) xs ys
 
-pub mine_one : (who : Who) (e : Entry) → is_who who e ≡ true → part_of who (e ∷ []) ≡ e ∷ []
-mine_one who e is = ap (λ b. cond b (e ∷ []) []) is
-
 pub all_mine : (who : Who) (es : List Entry) → Each (λ (e : Entry). is_who who e ≡ true) es → part_of who es ≡ es
 all_mine who [] all = refl
 all_mine who (e ∷ es) all = ap (λ b. cond b (e ∷ part_of who es) (part_of who es)) all.0 ∙ ap (λ (l : List Entry). e ∷ l) (all_mine who es all.1)
@@ -53,8 +52,8 @@ stands_at who first own before front e begins part_is last mine =
     let rest : drop (length first) front ≡ begins.0 = ap (drop (length first)) (sym begins.1) ∙ drop-append_seam first begins.0 in
     let split : part_of who front ≡ part_of who first ++ part_of who begins.0 = ap (part_of who) (sym begins.1) ∙ part_of-append who first begins.0 in
     let own_is : part_of who begins.0 ≡ part_of who own ++ e ∷ [] = sym (part_of-part who begins.0) ∙ ap (part_of who) (ap (part who.worker) (sym rest) ∙ part_is)
-    ∙ part_of-append who own (e ∷ []) ∙ ap (λ (l : List Entry). part_of who own ++ l) (mine_one who e mine) in
-    let other : part_of who front ≡ part_of who before ++ e ∷ [] = ap (part_of who) last ∙ part_of-append who before (e ∷ []) ∙ ap (λ (l : List Entry). part_of who before ++ l) (mine_one who e mine) in
+    ∙ part_of-append who own (e ∷ []) ∙ ap (λ (l : List Entry). part_of who own ++ l) (all_mine who (e ∷ []) (mine, tt)) in
+    let other : part_of who front ≡ part_of who before ++ e ∷ [] = ap (part_of who) last ∙ part_of-append who before (e ∷ []) ∙ ap (λ (l : List Entry). part_of who before ++ l) (all_mine who (e ∷ []) (mine, tt)) in
     let n1 = ap (λ (l : List Entry). length l) (split ∙ ap (λ (l : List Entry). part_of who first ++ l) own_is) in
     let n2 = ap (λ (l : List Entry). length l) other in
     let l1 = length-append (part_of who first) (part_of who own ++ e ∷ []) in
@@ -62,19 +61,11 @@ stands_at who first own before front e begins part_is last mine =
     let l3 = length-append (part_of who before) (e ∷ []) in
     omega (arith, n1, n2, l1, l2, l3)
 
-right_is : (a b : Bool) → (a && b) ≡ true → b ≡ true
-right_is true b e = e
-right_is false b e = absurd (cc)
-
-never_both : (a : Bool) → (a && false) ≡ false
-never_both true = refl
-never_both false = refl
-
 -- entries of another connection are none of this one
 pub none_mine : (n c k : ℕ) (es : List Entry) → c ≢ k → AreMine (by n c) es → part_of (by n k) es ≡ []
 none_mine n c k [] other mine = refl
 none_mine n c k (e ∷ es) other mine =
-    let at : e.who.conn ≡ c = eqb-true e.who.conn c (right_is (e.who.worker == n) (e.who.conn == c) mine.0) in
+    let at : e.who.conn ≡ c = eqb-true e.who.conn c (both_true (e.who.worker == n) (e.who.conn == c) mine.0).1 in
     let away : (e.who.conn == k) ≡ false = ne_eqb e.who.conn k (λ same. other (sym at ∙ same)) in
-    let no : is_who (by n k) e ≡ false = ap (λ b. (e.who.worker == n) && b) away ∙ never_both (e.who.worker == n) in
+    let no : is_who (by n k) e ≡ false = ap (λ b. (e.who.worker == n) && b) away ∙ and-false (e.who.worker == n) in
     ap (λ b. cond b (e ∷ part_of (by n k) es) (part_of (by n k) es)) no ∙ none_mine n c k es other mine.1

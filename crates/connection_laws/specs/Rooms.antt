@@ -4,18 +4,12 @@ use Rattle.std.specs.declared.option.Option.{Option}
 use Rattle.gt_base.specs.Roomy.{Roomy}
 use Rattle.request_text.specs.declared.sizes.TheConstants.{LONGEST_REPLY}
 use Rattle.connection_laws.specs.declared.talk.LineAnswer.{LineAnswer}
-use Rattle.connection_laws.specs.declared.talk.LineAnswer.TheVariants.{Silence, Agreed, Bad, Reply as ToldReply, NoMemory, NoSteps, ViewOnly, Worn as ToldWorn}
+use Rattle.connection_laws.specs.declared.talk.LineAnswer.TheVariants.{Reply as ToldReply}
 
 -- the buffer that an answer has taken along, where it has one
 abbrev pub text_in : LineAnswer → Option (Roomy ℕ)
-text_in Silence = None
-text_in Agreed = None
-text_in (Bad f) = None
 text_in (ToldReply text) = Some text
-text_in NoMemory = None
-text_in NoSteps = None
-text_in ViewOnly = None
-text_in (ToldWorn draws) = None
+text_in _ = None
 
 -- all the room of a buffer, full or not
 abbrev pub room_in : Roomy ℕ → ℕ

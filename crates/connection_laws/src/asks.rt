@@ -19,9 +19,8 @@ pub(crate) fn reach<M: Machine, R: Wait, G>(
     requires idle { IsIdle (site_of server.now.desk.now) pass.old }
     requires reached { IsReached (M.legal server.now.desk.now.root)
         (M.now_of server.now.desk.now.root) pass.old.seen reached }
-    ensures { Reaches (M.list server.now.desk.now.root) (M.legal server.now.desk.now.root)
-        (M.now_of server.now.desk.now.root) (by pass.old.number server.now.conn) reading pass.old
-        pass.new result }
+    ensures { Reaches (M.legal server.now.desk.now.root) (M.now_of server.now.desk.now.root)
+        (by pass.old.number server.now.conn) reading pass.old pass.new result }
 {
     if let Some(minute) = reached {
         if reading.minute() <= minute.minute() {

@@ -14,11 +14,8 @@ use Rattle.line_server.specs.contracts.posts.Post as post
 pub heap_sync : IsSync heap.the_row
 heap_sync = heap_crosses.the_sync
 
-served_send : (L : RattleType) → IsSend L → IsSend (served.the_row L)
-served_send L s = search sendable depth 30
-
 worker_send : (D C G L : RattleType) → IsSend D → IsSend C → IsSend G → IsSend L → IsSend (Struct (shape (worker.the_type D C G L)))
-worker_send D C G L d k h l = struct_send (shape (worker.the_type D C G L)) (d, (k, (h, (list_send (served.the_row L) (served_send L l), (search sendable depth 30, tt)))))
+worker_send D C G L d k h l = struct_send (shape (worker.the_type D C G L)) (d, (k, (h, (list_send (served.the_row L) (search sendable depth 30), (search sendable depth 30, tt)))))
 
 -- a post may go to another thread, where its parts may
 pub post_send : (M D C G L : RattleType) → IsSend M → IsSend D → IsSend C → IsSend G → IsSend L → IsSend (Struct (shape (post.the_type M D C G L)))

@@ -1,5 +1,5 @@
 -- A link behind those that were served.
-use Rattle.std.proofs.Common.{◌≡◌, ℕ, ◌+◌, ◌*◌, ◌^◌, ◌≤◌, true, false, List, [], ◌∷◌, ◌++◌, length, refl, sym, ap, subst, ◌∙◌, arith, append-nil, append_assoc, length-append, Option, Some, None, MatchOption}
+use Rattle.std.proofs.Common.{◌≡◌, ◌≢◌, ℕ, ◌+◌, ◌*◌, ◌^◌, ◌≤◌, ◌<◌, true, false, List, [], ◌∷◌, ◌++◌, length, refl, sym, ap, subst, ◌∙◌, arith, append-nil, append_assoc, length-append, Option, Some, None, MatchOption}
 use mathlib.Core.List.{IsPrefix}
 use Rattle.gt_base.specs.declared.requests.Entry.{Entry}
 use Rattle.gt_io.specs.Links.{Traffic, Tally, Doorway, IsFresh, GivesFirst, Reads}
@@ -37,9 +37,6 @@ module _ {L : Type 0} where
   owns_push (y ∷ ys) x = ap (λ (es : List Entry). y.own ++ es) (owns_push ys x) ∙ sym (append_assoc y.own (owns_of ys) x.own)
 
   module _ (traffic : L → Traffic) (np : NamedPolicy) (first : List Entry) (legal : List Entry → Type 0) (now : List Entry → ℕ) (number : ℕ) where
-    abbrev Is : List Entry → List Entry → ℕ → Served L → Tale L → Type 0
-    Is h own c s x = IsServed traffic (service np first legal now) number h own c s x
-
     abbrev Are : List Entry → List Entry → ℕ → List (Served L) → List (Tale L) → Type 0
     Are h own c ss xs = AreServed traffic (service np first legal now) number h own c ss xs
 
@@ -62,20 +59,21 @@ module _ {L : Type 0} where
           served_longer h h' own (c + 1) ss xs more all.1,
         )
 
-    served_push : (h own : List Entry) (c k : ℕ) (ss : List (Served L)) (xs : List (Tale L)) (s : Served L) (x : Tale L) → k ≡ c + length ss → Are h own c ss xs → Is h own k s x → Are h own c (ss ++ s ∷ []) (xs ++ x ∷ [])
-    served_push h own c k [] [] s x at all one = (subst (λ (n : ℕ). Is h own n s x) (let e : k ≡ c = omega (arith, at) in e) one, tt)
+    served_push : (h own : List Entry) (c k : ℕ) (ss : List (Served L)) (xs : List (Tale L)) (s : Served L) (x : Tale L) → k ≡ c + length ss → Are h own c ss xs → IsServed traffic (service np first legal now) number h own k s x → Are h own c (ss ++ s ∷ []) (xs ++ x ∷ [])
+    served_push h own c k [] [] s x at all one = (subst (λ (n : ℕ). IsServed traffic (service np first legal now) number h own n s x) (let e : k ≡ c = omega (arith, at) in e) one, tt)
     served_push h own c k [] (y ∷ ys) s x at all one = absurd all
     served_push h own c k (t ∷ ts) [] s x at all one = absurd all
     served_push h own c k (t ∷ ts) (y ∷ ys) s x at all one = (all.0, served_push h own (c + 1) k ts ys s x (omega (arith, at)) all.1 one)
 
-    others_none : (h own : List Entry) (c k : ℕ) (ss : List (Served L)) (xs : List (Tale L)) → c + length ss ≤ k → Are h own c ss xs → part_of (by number k) (owns_of xs) ≡ []
-    others_none h own c k [] [] far all = refl
-    others_none h own c k [] (x ∷ xs) far all = absurd all
-    others_none h own c k (s ∷ ss) [] far all = absurd all
-    others_none h own c k (s ∷ ss) (x ∷ xs) far all =
+    -- a connection that is none of these links has no entry among theirs
+    pub others_none : (h own : List Entry) (c k : ℕ) (ss : List (Served L)) (xs : List (Tale L)) → ((j : ℕ) → c ≤ j → j < c + length ss → j ≢ k) → Are h own c ss xs → part_of (by number k) (owns_of xs) ≡ []
+    others_none h own c k [] [] others all = refl
+    others_none h own c k [] (x ∷ xs) others all = absurd all
+    others_none h own c k (s ∷ ss) [] others all = absurd all
+    others_none h own c k (s ∷ ss) (x ∷ xs) others all =
         part_of-append (by number k) x.own (owns_of xs)
-        ∙ ap (λ (es : List Entry). es ++ part_of (by number k) (owns_of xs)) (none_mine number c k x.own (λ same. absurd (omega (arith, same, far))) all.0.mine)
-        ∙ others_none h own (c + 1) k ss xs (omega (arith, far)) all.1
+        ∙ ap (λ (es : List Entry). es ++ part_of (by number k) (owns_of xs)) (none_mine number c k x.own (others c (omega arith) (omega arith)) all.0.mine)
+        ∙ others_none h own (c + 1) k ss xs (λ j low high. others j (omega (arith, low)) (omega (arith, high))) all.1
 
 module _ {M L : Type 0} (traffic : L → Traffic) (np : NamedPolicy) (first : List Entry) (legal : List Entry → Type 0) (now : List Entry → ℕ) (number : ℕ) where
   -- one more link was served
@@ -85,7 +83,7 @@ module _ {M L : Type 0} (traffic : L → Traffic) (np : NamedPolicy) (first : Li
   link_done o p p' served tales s begun conn calls calls' w v at door fresh =
       let x : Tale L = record { begun = begun; taken = v.taken; given = v.given; readings = v.readings; own = v.own; acted = v.acted; draws = p'.pass.draws } in
       let own_is : p.pass.own ≡ o.pass.own ++ owns_of tales = ap (λ (q : Holder M). q.own) w.grows.after_is in
-      let none = others_none traffic np first legal now number p.pass.seen o.pass.own 1 conn served tales (omega (arith, at)) w.links in
+      let none = others_none traffic np first legal now number p.pass.seen o.pass.own 1 conn served tales (λ j low high same. absurd (omega (arith, at, high, same))) w.links in
       let same : placed (by number conn) first p.pass.own ≡ placed (by number conn) first o.pass.own =
       ap (placed (by number conn) first) own_is ∙ ap (λ (es : List Entry). length (part_of (by number conn) first) + length es) (part_of-append (by number conn) o.pass.own (owns_of tales) ∙ ap (λ (es : List Entry). part_of (by number conn) o.pass.own ++ es) none ∙ append-nil (part_of (by number conn) o.pass.own)) in
       let one : IsServed traffic (service np first legal now) number p'.pass.seen o.pass.own conn s x =
@@ -118,13 +116,10 @@ module _ {M L : Type 0} (traffic : L → Traffic) (np : NamedPolicy) (first : Li
         },
       )
 
-all_push : {L : Type 0} (ss : List (Served L)) (s : Served L) → AllUnworn ss → is_worn_out s.report.outcome ≡ false → AllUnworn (ss ++ s ∷ [])
-all_push {L} ss s all one = each-append (λ (t : Served L). is_worn_out t.report.outcome ≡ false) ss (s ∷ []) all (one, tt)
-
 -- how a worker goes on behind one more link
 pub ends_of : {L : Type 0} (links : Option (List L)) (t t' : Tally) (draws : ℕ) (ss served : List (Served L)) (s : Served L) (result : Option WorkEnd) → t' ≡ t → served ≡ ss ++ s ∷ [] → AllUnworn ss → ((n : ℕ) → s.report.outcome ≡ LinkWorn n → (n ≡ 2 ^ 40) × (draws ≡ 2 ^ 40))
     → MatchOption result (is_worn_out s.report.outcome ≡ false) (λ worn. (n : ℕ) × (s.report.outcome ≡ LinkWorn n) × (worn ≡ Worn n)) → MatchOption result (AllUnworn served × (t' ≡ t)) (λ end. WorksTo links t t' draws served end)
-ends_of {L} links t t' draws ss served s None kept is all wears w = (subst (λ (l : List (Served L)). AllUnworn l) (sym is) (all_push ss s all w), kept)
+ends_of {L} links t t' draws ss served s None kept is all wears w = (subst (λ (l : List (Served L)). AllUnworn l) (sym is) (each-append (λ (t : Served L). is_worn_out t.report.outcome ≡ false) ss (s ∷ []) all (w, tt)), kept)
 ends_of {L} links t t' draws ss served s (Some end) kept is all wears w =
     let facts = wears w.0 w.1 in
     subst (λ (e : WorkEnd). WorksTo links t t' draws served e) (sym w.2) (ss, s, is, all, w.1, facts.0, facts.1, kept)
@@ -136,20 +131,20 @@ module _ {M L : Type 0} (traffic : L → Traffic) (np : NamedPolicy) (first : Li
       (record { links = tt; grows = grown_none o.pass; reads = Reads-nil o.clock; door = gives_none o.door.links })
 
   -- the next link, told from the begin of the work
+  pub goes_on : (number number' : ℕ) (o p p' : WorkerSpot M L) (items items' served : List (Served L)) (tales : List (Tale L)) (result : Option WorkEnd) → number' ≡ number → items' ≡ items
+      → Worked traffic (service np first legal now) number o p items tales → AllUnworn items → WorksOn traffic (service np first legal now) number' p p' items' served result
+      → (tales' : List (Tale L)) × Worked traffic (service np first legal now) number o p' served tales'
+      × MatchOption result (AllUnworn served × (p'.door.tally ≡ p.door.tally)) (λ end. WorksTo p'.door.links p.door.tally p'.door.tally p'.pass.draws served end)
+  goes_on number number' o p p' items items' served tales result same kept w u on =
+      let on' = subst (λ (n : ℕ). WorksOn traffic (service np first legal now) n p p' items' served result) same on in
+      on' o tales (subst (λ (ss : List (Served L)). Worked traffic (service np first legal now) number o p ss tales) (sym kept) w) (subst (λ (ss : List (Served L)). AllUnworn ss) (sym kept) u)
+
   pub next_done : (number number' : ℕ) (o p p' : WorkerSpot M L) (items items' served : List (Served L)) (tales : List (Tale L)) (end : WorkEnd) → number' ≡ number → items' ≡ items → p.door.tally ≡ o.door.tally
       → Worked traffic (service np first legal now) number o p items tales → AllUnworn items → WorksOn traffic (service np first legal now) number' p p' items' served (Some end)
       → Works traffic (service np first legal now) number o p' served end
   next_done number number' o p p' items items' served tales end same kept low w u on =
-      let on' = subst (λ (n : ℕ). WorksOn traffic (service np first legal now) n p p' items' served (Some end)) same on in
-      let d = on' o tales (subst (λ (ss : List (Served L)). Worked traffic (service np first legal now) number o p ss tales) (sym kept) w) (subst (λ (ss : List (Served L)). AllUnworn ss) (sym kept) u) in
+      let d = goes_on number number' o p p' items items' served tales (Some end) same kept w u on in
       record { tales = d.0; worked = d.1; cause = subst (λ (t : Tally). WorksTo p'.door.links t p'.door.tally p'.pass.draws served end) low d.2 }
-
-  pub goes_on : (number number' : ℕ) (o p p' : WorkerSpot M L) (items items' served : List (Served L)) (tales : List (Tale L)) → number' ≡ number → items' ≡ items
-      → Worked traffic (service np first legal now) number o p items tales → AllUnworn items → WorksOn traffic (service np first legal now) number' p p' items' served None
-      → (tales' : List (Tale L)) × Worked traffic (service np first legal now) number o p' served tales' × (AllUnworn served × (p'.door.tally ≡ p.door.tally))
-  goes_on number number' o p p' items items' served tales same kept w u on =
-      let on' = subst (λ (n : ℕ). WorksOn traffic (service np first legal now) n p p' items' served None) same on in
-      on' o tales (subst (λ (ss : List (Served L)). Worked traffic (service np first legal now) number o p ss tales) (sym kept) w) (subst (λ (ss : List (Served L)). AllUnworn ss) (sym kept) u)
 
 module _ {M L : Type 0} (traffic : L → Traffic) (v : Service) (number : ℕ) (o p : WorkerSpot M L) where
   -- the links stand while the door rests

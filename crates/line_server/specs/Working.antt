@@ -55,8 +55,8 @@ pub record WorkerSpot (M L : Type 0) : Type 0 where
   pub clock : Option (ℕ → ℕ)
   pub door : Doorway L
 
-abbrev pub spot : {M L : Type 0} → Holder M → Option (ℕ → ℕ) → Doorway L → WorkerSpot M L
-spot pass clock door = record { pass = pass; clock = clock; door = door }
+abbrev pub worker_spot : {M L : Type 0} → Holder M → Option (ℕ → ℕ) → Doorway L → WorkerSpot M L
+worker_spot pass clock door = record { pass = pass; clock = clock; door = door }
 
 -- a worker at its post, its served links, and how it ended
 pub record PostView (M L : Type 0) : Type 0 where
@@ -68,7 +68,7 @@ abbrev pub post_view : {M D C G L : Type 0} → (C → Option (ℕ → ℕ)) →
     → Worker D C G L → PostView M L
 post_view readings doorway pass w =
     record {
-      spot = spot pass (readings w.clock) (doorway w.door);
+      spot = worker_spot pass (readings w.clock) (doorway w.door);
       served = w.served.items;
       outcome = w.outcome;
     }

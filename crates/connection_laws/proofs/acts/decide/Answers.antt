@@ -1,7 +1,8 @@
-use Rattle.std.proofs.Common.{◌∙◌, ◌++◌, ap, refl, List, ℕ}
+use Rattle.std.proofs.Common.{◌∙◌, ◌++◌, [], ap, refl, arith, List, ℕ}
 use Rattle.request_text.specs.Replies.{reply_line}
 use Rattle.gt_base.specs.Roomy.{Roomy}
-use Rattle.connection_laws.proofs.Deciding.{decides_nothing, decides_reply}
+use Rattle.connection_laws.specs.Lines.{accepted, no_memory}
+use Rattle.connection_laws.proofs.Growing.{grown_none, grown_within}
 use Rattle.locked_history.specs.Fronts.{by}
 use Rattle.connection_laws.proofs.acts.decide.Goals as goal
 
@@ -18,12 +19,27 @@ put_reply-requires-clause-named g c =
 
 pub returns-then-is_err-clause-decides : goal.returns-then-is_err-clause-decides
 returns-then-is_err-clause-decides g c =
-    let m = g.M.Machine in
-    decides_nothing c.args.server.now.policy.now (g.M.Keeps.list c.args.server.now.desk.now.root) (m.legal c.args.server.now.desk.now.root) (m.now_of c.args.server.now.desk.now.root) (by c.args.pass.now.number c.args.server.now.conn) c.args.reading c.args.actor c.args.request c.args.pass.now
+    let p = c.args.pass.now in
+    record {
+      answer = no_memory;
+      entries = [];
+      told_is = refl;
+      asks = λ birth timed. (c.args.reading, [], refl, tt, refl);
+      mine = tt;
+      grows = grown_within p p [] 0 2 (omega arith) (grown_none p);
+      worn_out = λ n same. absurd cc;
+    }
 
 pub returns-in-Ok-clause-decides : goal.returns-in-Ok-clause-decides
 returns-in-Ok-clause-decides g c =
-    let m = g.M.Machine in
-    decides_reply c.args.server.now.policy.now (g.M.Keeps.list c.args.server.now.desk.now.root) (m.legal c.args.server.now.desk.now.root) (m.now_of c.args.server.now.desk.now.root) (by c.args.pass.now.number c.args.server.now.conn) c.args.reading c.args.actor c.args.request
-    c.args.pass.now c.ask_at.new.pass c.in-Ok.reply c.replace.result c.in-Ok.ensures.asked
-    (ap (λ (r : Roomy ℕ). r.items) c.replace.ensures.value ∙ c.put_reply.ensures.items ∙ ap (λ (l : List ℕ). l ++ reply_line c.args.server.now.policy.now c.in-Ok.reply) (c.reserve.ensures.items ∙ c.clear.ensures.items))
+    let r = c.in-Ok.ensures.asked in
+    let text = ap (λ (r : Roomy ℕ). r.items) c.replace.ensures.value ∙ c.put_reply.ensures.items ∙ ap (λ (l : List ℕ). l ++ reply_line c.args.server.now.policy.now c.in-Ok.reply) (c.reserve.ensures.items ∙ c.clear.ensures.items) in
+    record {
+      answer = accepted c.in-Ok.reply;
+      entries = r.entries;
+      told_is = (record { replied = refl; granted = refl; unworn = refl }, text);
+      asks = r.asks;
+      mine = r.mine;
+      grows = r.grows;
+      worn_out = λ n same. absurd cc;
+    }

@@ -1,19 +1,8 @@
-use Rattle.std.proofs.Common.{◌∙◌, arith, ap, refl, inl, Err}
+use Rattle.std.proofs.Common.{◌∙◌, [], arith, ap, Err}
 use Rattle.turn_lock.specs.Holders.{Holder}
-use Rattle.locked_history.specs.Fronts.{Refuses}
-use Rattle.connection_laws.proofs.Prefixes.{prefix_self}
 use Rattle.connection_laws.proofs.Asking.{is_replied, is_refused}
+use Rattle.connection_laws.proofs.Growing.{grown_none, grown_within, grown_refused}
 use Rattle.connection_laws.proofs.asks.ask_at.Goals as goal
-
--- no call at all is as good as one that was refused
-refuses_none : {M : Type 0} (p : Holder M) → Refuses p p
-refuses_none p =
-    record {
-      seen = prefix_self p.seen;
-      long = inl refl;
-      after_is = refl;
-      draws = (omega arith, omega arith);
-    }
 
 pub ask-requires-clause-pass : goal.ask-requires-clause-pass
 ask-requires-clause-pass g c =
@@ -26,7 +15,7 @@ returns-in-Err-clause-asked g c =
     let m = g.M.Machine in
     let p = c.reach.new.pass in
     is_refused (g.M.Keeps.list c.args.server.now.desk.now.root) (m.legal c.args.server.now.desk.now.root) (m.now_of c.args.server.now.desk.now.root) c.args.server.now.conn c.args.reading c.args.actor c.args.request
-    c.args.pass.now p p r.ticks c.in-Err.fault r.each r.grows (refuses_none p) (λ is. r.full (ap Err is)) (λ n is. r.worn_out n (ap Err is))
+    c.args.pass.now p p r.ticks c.in-Err.fault r.each r.grows (grown_within p p [] 0 1 (omega arith) (grown_none p)) (λ is. r.full (ap Err is)) (λ n is. r.worn_out n (ap Err is))
 
 pub returns-in-Ok-clause-asked : goal.returns-in-Ok-clause-asked
 returns-in-Ok-clause-asked g c =
@@ -43,5 +32,5 @@ returns-in-Err-ask-clause-asked g c =
     let a = c.in-Err-ask.ensures in
     let m = g.M.Machine in
     is_refused (g.M.Keeps.list c.args.server.now.desk.now.root) (m.legal c.args.server.now.desk.now.root) (m.now_of c.args.server.now.desk.now.root) c.args.server.now.conn c.args.reading c.args.actor c.args.request
-    c.args.pass.now c.reach.new.pass c.ask.new.pass r.ticks c.in-Err-ask.fault r.each r.grows a.refused
+    c.args.pass.now c.reach.new.pass c.ask.new.pass r.ticks c.in-Err-ask.fault r.each r.grows (grown_refused c.reach.new.pass c.ask.new.pass a.refused)
     (λ is. let f = a.full (ap Err is) in omega (arith, f.0)) (λ n is. let w = a.worn n (ap Err is) in (w.0, ap (λ (p : Holder g.row.M.Denot). p.draws) w.2 ∙ w.1))

@@ -1,10 +1,10 @@
-use Rattle.std.proofs.Common.{◌≡◌, ◌+◌, ℕ, List, [], ◌++◌, length, take, refl, subst, sym, ◌∙◌, arith, Option, Ok, Err, length-append}
+use Rattle.std.proofs.Common.{◌≡◌, ℕ, List, [], ◌++◌, length, take, refl, subst, sym, ◌∙◌, arith, Option, Ok, Err, length-append}
 use Rattle.std.proofs.lemmas.List.{length-take-le}
 use Rattle.std.specs.Io.KnownBytes.{Appends, Consumes}
 use Rattle.std.proofs.KnownBytes.{Appends-nil, Consumes-nil, Appends-trans, Consumes-trans}
 use Rattle.policy_words.specs.Naming.{NamedPolicy}
 use Rattle.connection_laws.specs.Desks.{IsNamedActor}
-use Rattle.connection_laws.specs.Attending.{spot, Serving, TakesBytes}
+use Rattle.connection_laws.specs.Attending.{spot, HasReplied, TakesBytes}
 use Rattle.connection_laws.proofs.EndsBy.{begins, cut_off}
 use Rattle.connection_laws.proofs.service.take_all.Goals as goal
 
@@ -12,7 +12,7 @@ pub loop-left-init : goal.loop-left-init
 loop-left-init g c =
     let v = g.A.Answerer in
     let t = g.L.Link.traffic c.args.link.now in
-    let s = begins (v.named c.args.answerer.now) v.asks v.wears (v.rested c.args.answerer.now) c.args.hearing.now.talk t.given c.args.hearing.now.framer c.requires.start c.requires.frame in
+    let s = begins (v.named c.args.answerer.now) v.asks v.wears (v.rested c.args.answerer.now) c.args.hearing.now.talk t.given c.args.hearing.now.framer c.requires.unheard.start c.requires.unheard.frame in
     record {
       fed = [];
       acted = [];
@@ -38,7 +38,7 @@ loop-left-preserved g c =
     let t = g.L.Link in
     let inv = c.loop-left.invariant in
     let r = c.in-Ok.ensures in
-    let after = c.take_bytes.ensures in
+    let after = c.take_bytes.ensures.stays in
     let buf = c.read_some.new.buf in
     let n = c.in-Ok.n in
     let chunk : List ℕ = take n buf in
@@ -47,7 +47,7 @@ loop-left-preserved g c =
     let mid = t.traffic c.read_some.new.link in
     let end = t.traffic c.take_bytes.new.link in
     let origin = spot (v.rested c.args.answerer.now) c.args.hearing.now.talk start.given in
-    let s = subst (λ (x : Option (List ℕ)). Serving np v.asks origin (spot (v.rested c.loop-left.answerer) c.loop-left.hearing.talk x) c.loop-left.hearing.framer inv.fed inv.acted) (sym r.writes.given_kept) inv.serving in
+    let s = subst (λ (x : Option (List ℕ)). HasReplied np v.asks origin (spot (v.rested c.loop-left.answerer) c.loop-left.hearing.talk x) c.loop-left.hearing.framer inv.fed inv.acted) (sym r.writes.given_kept) inv.serving in
     let last = spot (v.rested c.take_bytes.new.answerer) c.take_bytes.new.hearing.talk end.given in
     let goes = subst (λ (j : NamedPolicy). TakesBytes j v.asks v.wears (spot (v.rested c.loop-left.answerer) c.loop-left.hearing.talk mid.given) last
     c.loop-left.hearing.framer c.take_bytes.new.hearing.framer chunk mid.write_faults end.write_faults {T = Unit {0}} (Ok c.in_default-take_bytes.field-0)) inv.named c.in_default-take_bytes.ensures.goes in
@@ -70,10 +70,10 @@ loop-left-preserved g c =
       actor = subst (λ (j : NamedPolicy). IsNamedActor j c.take_bytes.new.hearing.talk.actor) inv.named after.actor;
       counts = (omega (arith, up, up', both), omega (arith, up, up', both), omega (arith, up, up', both));
       reads = after.reads.read_faults_are ∙ r.cause.kept ∙ inv.reads;
-      writes = c.in_default-take_bytes.ensures.faults ∙ r.writes.write_faults_are ∙ inv.writes;
+      writes = c.in_default-take_bytes.ensures.stays.faults ∙ r.writes.write_faults_are ∙ inv.writes;
       ends = after.reads.ends_are ∙ r.ends.1 c.if-n-eq0.false ∙ inv.ends;
       held = after.held ∙ c.read_some.ensures.held ∙ inv.held;
-      rests = λ is. after.rests;
+      rests = λ is. c.take_bytes.ensures.rests;
     }
 
 pub returns-in-Err-clause-attends : goal.returns-in-Err-clause-attends
@@ -83,7 +83,7 @@ returns-in-Err-clause-attends g c =
     let t = g.L.Link in
     let inv = c.loop-left.invariant in
     let r = c.in-Ok.ensures in
-    let after = c.take_bytes.ensures in
+    let after = c.take_bytes.ensures.stays in
     let buf = c.read_some.new.buf in
     let n = c.in-Ok.n in
     let chunk : List ℕ = take n buf in
@@ -92,7 +92,7 @@ returns-in-Err-clause-attends g c =
     let mid = t.traffic c.read_some.new.link in
     let end = t.traffic c.take_bytes.new.link in
     let origin = spot (v.rested c.args.answerer.now) c.args.hearing.now.talk start.given in
-    let s = subst (λ (x : Option (List ℕ)). Serving np v.asks origin (spot (v.rested c.loop-left.answerer) c.loop-left.hearing.talk x) c.loop-left.hearing.framer inv.fed inv.acted) (sym r.writes.given_kept) inv.serving in
+    let s = subst (λ (x : Option (List ℕ)). HasReplied np v.asks origin (spot (v.rested c.loop-left.answerer) c.loop-left.hearing.talk x) c.loop-left.hearing.framer inv.fed inv.acted) (sym r.writes.given_kept) inv.serving in
     let last = spot (v.rested c.take_bytes.new.answerer) c.take_bytes.new.hearing.talk end.given in
     let goes = subst (λ (j : NamedPolicy). TakesBytes j v.asks v.wears (spot (v.rested c.loop-left.answerer) c.loop-left.hearing.talk mid.given) last
     c.loop-left.hearing.framer c.take_bytes.new.hearing.framer chunk mid.write_faults end.write_faults {T = Unit {0}} (Err c.in-Err.end)) inv.named c.in-Err.ensures.goes in

@@ -3,7 +3,7 @@ use Rattle.std.specs.Io.KnownBytes.{Appends, Consumes}
 use Rattle.connection_laws.specs.Desks.{IsNamedActor}
 use Rattle.connection_laws.specs.Lines.{Acted}
 use Rattle.connection_laws.specs.Acting.{CountsUp}
-use Rattle.connection_laws.specs.Attending.{spot, Serving}
+use Rattle.connection_laws.specs.Attending.{spot, HasReplied}
 use Rattle.connection_laws.proofs.service.take_all.Given as goal
 
 abbrev pub invariant-loop-left : goal.invariant-loop-left
@@ -16,7 +16,7 @@ invariant-loop-left g l =
     record {
       fed : List ℕ;
       acted : List Acted;
-      serving : Serving np v.asks (spot (v.rested l.fn.answerer) l.fn.hearing.talk a.given) (spot (v.rested l.answerer) l.hearing.talk b.given) l.hearing.framer fed acted;
+      serving : HasReplied np v.asks (spot (v.rested l.fn.answerer) l.fn.hearing.talk a.given) (spot (v.rested l.answerer) l.hearing.talk b.given) l.hearing.framer fed acted;
       taken : Appends a.taken b.taken fed;
       consumed : Consumes a.left b.left fed;
       counted : length fed + l.left ≡ 67_108_864;
