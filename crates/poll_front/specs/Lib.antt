@@ -1,3 +1,4 @@
+pub mod Ready
 pub mod Fronts
 pub mod Tables
 pub mod Polling

@@ -1,9 +1,8 @@
-//! One open link: its bytes are read, its lines are acted on one by one, and each reply is written
-//! before the next line is acted on.
-ghost use Rattle.std.specs.Prelude.{◌≡◌, ◌<◌, ◌≤◌, ◌+◌, ℕ, length, Ok, Err};
+//! The reads and writes of an open link.
+ghost use Rattle.std.specs.Prelude.{◌≡◌, ◌<◌, ◌≤◌, ℕ, length, Ok};
 ghost use Rattle.connection_laws.specs.Acting.{told_bytes};
 ghost use Rattle.gt_io.specs.Ports.{IsOpen, ReadsPort};
-ghost use Rattle.poll_front.specs.Fronts.{StopsLast, PushesOut, FillsUp};
+ghost use Rattle.poll_front.specs.Fronts.{IsLive, PushesOut, FillsUp};
 
 use crate::ends::PollEnd;
 use crate::parties::{MAX_READ, Pace, Party, Pause};
@@ -12,11 +11,10 @@ use gt_io::{Failed, Got, Ports, Took};
 
 /// Writes the text from the byte `at` on, as far as the link takes it now.
 fn push_out<P: Ports>(ports: &mut P, link: u32, text: &[u8], at: &mut usize) -> Result<(), Pause>
-    requires open { IsOpen (P.harbour ports.old) link }
+    requires live { IsLive (P.harbour ports.old) link }
     requires within { at.old ≤ length text.now }
-    ensures pushes { PushesOut (P.harbour ports.old) (P.harbour ports.new) link text.now at.old
-        at.new result }
-    ensures stops { StopsLast (P.harbour ports.old) (P.harbour ports.new) link }
+    ensures { PushesOut (P.harbour ports.old) (P.harbour ports.new) link text.now at.old at.new
+        result }
 {
     while *at < text.len() {
         let (_, rest) = text.split_at(*at);
@@ -31,12 +29,11 @@ fn push_out<P: Ports>(ports: &mut P, link: u32, text: &[u8], at: &mut usize) -> 
 
 /// Writes what is left of the reply to the last line.
 pub(crate) fn write_out<P: Ports>(ports: &mut P, link: u32, party: &mut Party) -> Result<(), Pause>
-    requires open { IsOpen (P.harbour ports.old) link }
-    requires within { party.old.at ≤ length (told_bytes party.old.told) }
+    requires { IsLive (P.harbour ports.old) link
+        × (party.old.at ≤ length (told_bytes party.old.told)) }
     ensures same { party.new ≡ record party.old { at = party.new.at } }
     ensures pushes { PushesOut (P.harbour ports.old) (P.harbour ports.new) link
         (told_bytes party.old.told) party.old.at party.new.at result }
-    ensures stops { StopsLast (P.harbour ports.old) (P.harbour ports.new) link }
 {
     push_out(ports, link, reply_of(&party.told), &mut party.at)
 }
@@ -55,13 +52,12 @@ fn read_some<P: Ports>(ports: &mut P, link: u32, buf: &mut [u8], left: usize) ->
 
 /// Reads the bytes that are to be acted on next.
 pub(crate) fn fill<P: Ports>(ports: &mut P, link: u32, party: &mut Party) -> Result<(), Pause>
-    requires open { IsOpen (P.harbour ports.old) link }
+    requires live { IsLive (P.harbour ports.old) link }
     requires left { 0 < party.old.left }
     requires none { party.old.from ≡ party.old.upto }
     requires within { party.old.upto ≤ MAX_READ }
     ensures fills { FillsUp (P.harbour ports.old) (P.harbour ports.new) link party.old party.new
         result }
-    ensures stops { StopsLast (P.harbour ports.old) (P.harbour ports.new) link }
     ensures size { length party.new.chunk ≡ MAX_READ }
 {
     match read_some(ports, link, &mut party.chunk, party.left) {

@@ -5,9 +5,7 @@
 mod attend;
 mod ends;
 mod front;
-mod hear;
 mod laws;
-mod lines;
 mod parties;
 mod seats;
 mod serve;

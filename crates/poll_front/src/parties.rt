@@ -1,7 +1,9 @@
 //! What a front keeps of an open link.
+ghost use Rattle.std.specs.Prelude.{◌≡◌};
+ghost use Rattle.poll_front.specs.Fronts.{polled_as};
 ghost use Rattle.poll_front.specs.Tables.{IsFreshParty};
 
-use crate::ends::PollEnd;
+use crate::ends::{PollEnd, Polled};
 use connection_laws::{LineAnswer, Talk, take_back};
 use gt_base::{Actor, Instant, List, MAX_BYTES};
 use gt_io::Framer;
@@ -77,5 +79,16 @@ impl Party {
         let mut room = replace(&mut self.room, List::new(alloc));
         take_back(&mut room, replace(&mut self.told, LineAnswer::Silence));
         *self = Party::new(room);
+    }
+
+    /// What the link has come to that ends so.
+    pub(crate) fn polled(&self, outcome: PollEnd) -> Polled
+        ensures { result ≡ polled_as self.now outcome }
+    {
+        Polled {
+            asked: self.talk.asked,
+            denied: self.talk.denied,
+            outcome,
+        }
     }
 }

@@ -1,41 +1,38 @@
-use Rattle.std.proofs.Common.{ap, refl, sym, subst, List, ℕ, Ok, Err}
-use Rattle.std.specs.Io.KnownBytes.{Appends, Consumes}
-use Rattle.gt_io.specs.declared.port.Got.TheVariants.{Bytes, Finished, NotYet}
-use Rattle.gt_io.specs.Ports.{Port}
-use Rattle.poll_front.proofs.Pushing.{tends_read, fails_read}
+use Rattle.std.proofs.Common.{◌-◌, ap, refl, sym, arith, Ok, Err}
+use Rattle.gt_io.specs.Ports.{Port, is_over}
+use Rattle.poll_front.specs.declared.ends.PollEnd.TheVariants.{Ended, ReadFault}
+use Rattle.poll_front.specs.declared.parties.Party.{Party}
+use Rattle.poll_front.specs.declared.parties.Pause.TheVariants.{Later, End}
+use Rattle.poll_front.proofs.Calls.{fills_up}
 use Rattle.poll_front.proofs.Standing.{waits_none}
 use Rattle.poll_front.proofs.attend.fill.Goals as goal
 
+pub returns-in-Ok-Bytes-clause-fills : goal.returns-in-Ok-Bytes-clause-fills
+returns-in-Ok-Bytes-clause-fills g c =
+    let r = rw c.in-Ok-Bytes.field-0-is at c.in-Ok-Bytes.ensures.reads in
+    let s : Party = c.args.party.now in
+    let n = c.in-Ok-Bytes.n in
+    let few = c.in-Ok-Bytes.ensures.few n (ap Ok c.in-Ok-Bytes.field-0-is) in
+    let high = r.bound.1 in
+    fills_up s (record s { chunk = c.read_some.new.buf; from = 0; upto = n; left = s.left - n }) (Ok tt) r (ap (λ (q : Port). is_over q.last) r.port.rest) (λ is. absurd cc) refl (n, r.bound.0, few, omega (arith, high), refl)
+
 pub returns-in-Ok-Finished-clause-fills : goal.returns-in-Ok-Finished-clause-fills
 returns-in-Ok-Finished-clause-fills g c =
-    let a = g.P.Ports.harbour c.args.ports.now in
-    let b = g.P.Ports.harbour c.read_some.new.ports in
     let r = rw c.in-Ok-Finished.field-0-is at c.in-Ok-Finished.ensures.reads in
-    let s = c.args.party.now in
-    let none = waits_none (record s { chunk = c.read_some.new.buf }) c.requires.none in
-    record {
-      tends = tends_read a b c.args.link c.read_some.new.buf (Ok Finished) r;
-      given = ap (λ (q : Port). q.given) r.port.rest;
-      taken = subst (λ (l : List ℕ). Appends (a.port c.args.link).taken (b.port c.args.link).taken l) (sym none) r.port.taken;
-      left = subst (λ (l : List ℕ). Consumes (a.port c.args.link).left (b.port c.args.link).left l) (sym none) r.port.left;
-      filled = (refl, ap (λ (q : Port). q.last) r.port.rest, r.port.end refl);
-    }
+    let s : Party = c.args.party.now in
+    let s' : Party = record s { chunk = c.read_some.new.buf } in
+    fills_up s s' (Err (End Ended)) r tt (λ is. absurd cc) (sym (waits_none s' c.requires.none)) (refl, ap (λ (q : Port). q.last) r.port.rest, r.port.end refl)
 
-pub returns-in-Ok-Bytes-clause-stops : goal.returns-in-Ok-Bytes-clause-stops
-returns-in-Ok-Bytes-clause-stops g c =
-    let r = rw c.in-Ok-Bytes.field-0-is at c.in-Ok-Bytes.ensures.reads in
-    fails_read (g.P.Ports.harbour c.args.ports.now) (g.P.Ports.harbour c.read_some.new.ports) c.args.link c.read_some.new.buf (Ok (Bytes c.in-Ok-Bytes.n)) r
-
-pub returns-in-Ok-Finished-clause-stops : goal.returns-in-Ok-Finished-clause-stops
-returns-in-Ok-Finished-clause-stops g c =
-    let r = rw c.in-Ok-Finished.field-0-is at c.in-Ok-Finished.ensures.reads in
-    fails_read (g.P.Ports.harbour c.args.ports.now) (g.P.Ports.harbour c.read_some.new.ports) c.args.link c.read_some.new.buf (Ok Finished) r
-
-pub returns-in-Ok-NotYet-clause-stops : goal.returns-in-Ok-NotYet-clause-stops
-returns-in-Ok-NotYet-clause-stops g c =
+pub returns-in-Ok-NotYet-clause-fills : goal.returns-in-Ok-NotYet-clause-fills
+returns-in-Ok-NotYet-clause-fills g c =
     let r = rw c.in-Ok-NotYet.field-0-is at c.in-Ok-NotYet.ensures.reads in
-    fails_read (g.P.Ports.harbour c.args.ports.now) (g.P.Ports.harbour c.read_some.new.ports) c.args.link c.read_some.new.buf (Ok NotYet) r
+    let s : Party = c.args.party.now in
+    let s' : Party = record s { chunk = c.read_some.new.buf } in
+    fills_up s s' (Err Later) r tt (λ is. ap (λ (q : Port). q.owed) r.port.rest) (sym (waits_none s' c.requires.none)) (refl, ap (λ (q : Port). is_over q.last) r.port.rest)
 
-pub returns-in-Err-clause-stops : goal.returns-in-Err-clause-stops
-returns-in-Err-clause-stops g c =
-    fails_read (g.P.Ports.harbour c.args.ports.now) (g.P.Ports.harbour c.read_some.new.ports) c.args.link c.read_some.new.buf (Err _) c.in-Err.ensures.reads
+pub returns-in-Err-clause-fills : goal.returns-in-Err-clause-fills
+returns-in-Err-clause-fills g c =
+    let r = c.in-Err.ensures.reads in
+    let s : Party = c.args.party.now in
+    let s' : Party = record s { chunk = c.read_some.new.buf } in
+    fills_up s s' (Err (End ReadFault)) r tt (λ is. absurd cc) (sym (waits_none s' c.requires.none)) (refl, (_, ap (λ (q : Port). q.last) r.port.rest))

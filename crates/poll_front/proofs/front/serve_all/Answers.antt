@@ -1,33 +1,30 @@
-use Rattle.std.proofs.Common.{◌≡◌, ◌∙◌, ◌-◌, ℕ, List, [], length, sym, ap, subst, refl, arith, Option}
-use Rattle.connection_laws.specs.Turns.{IsReached}
+use Rattle.std.proofs.Common.{◌≡◌, ◌∙◌, ◌-◌, ℕ, List, [], length, sym, ap, subst, refl, arith}
+use Rattle.connection_laws.specs.Services.{service_at}
 use Rattle.std.proofs.lemmas.Option.{slice_get_within}
 use Rattle.poll_front.specs.declared.seats.Seat.{Seat}
 use Rattle.poll_front.specs.Fronts.{FrontSpot}
-use Rattle.poll_front.specs.Tables.{MayGoOn, faults_told}
+use Rattle.poll_front.specs.Tables.{first_spot, MayGoOn, faults_told}
 use Rattle.poll_front.proofs.Serving.{are_finished}
 use Rattle.poll_front.proofs.Tabling.{tabled_none}
-use Rattle.poll_front.proofs.Looping.{tabled_told, opened_next, tabled_ready, ready_served, kept_seats, served_next, worn_next, over_unworn, still_unworn, some_busy}
+use Rattle.poll_front.proofs.Looping.{tabled_told, opened_next, tabled_ready, ready_served, kept_seats, served_next, unworn_ends, worn_next, over_unworn, still_unworn, some_busy}
 use Rattle.poll_front.proofs.front.serve_all.Goals as goal
 
 pub loop-init : goal.loop-init
 loop-init g c =
     let m = g.M.Machine in
-    let k = g.C.Clock in
-    let root = c.args.server.now.desk.now.root in
+    let sv = c.args.server.now in
     let start = g.P.Ports.harbour c.args.ports.now in
-    let o : FrontSpot g.row.M.Denot = record { pass = c.args.pass.now; clock = k.readings c.args.clock.now; pace = c.args.pace.now } in
+    let o : FrontSpot g.row.M.Denot = first_spot c.args.pass.now (g.C.Clock.readings c.args.clock.now) in
     let empty = c.requires.none in
     let none = ap (λ (l : List Seat). length l) empty in
     let opened = c.requires.ports.1 in
     record {
       turns = [];
-      tabled = tabled_none c.args.server.now.policy.now (g.M.Keeps.list root) (m.legal root) (m.now_of root) c.args.pass.now.number o start c.args.seats.now.items opened empty;
+      tabled = tabled_none (service_at g.M.Keeps.list m.legal m.now_of sv.desk.now sv.policy.now) o start c.args.seats.now.items opened empty;
       unworn = λ i s at. let within = slice_get_within c.args.seats.now.items i s at in absurd (omega (arith, within, none));
       few = omega (arith, none);
       unowed = λ j q. let last = q.last in let one = q.first in absurd (omega (arith, last, one, opened));
-      idle = c.requires.idle;
-      number = refl;
-      reached = subst (λ (t : Option ℕ). IsReached (m.legal root) (m.now_of root) c.args.pass.now.seen t) (sym c.requires.pace.1) tt;
+      ready = ((c.requires.ready.idle, refl), tt);
       low = omega arith;
       room = c.requires.room;
       sound = subst MayGoOn (sym c.requires.ports.0) tt;
@@ -46,7 +43,8 @@ returns-then-len-eq-MAX_LINKS-clause-went g c =
     let count = c.len.ensures in
     let ok = c.seat_next.new.seats.ok.0 in
     let all = c.if-len-eq-MAX_LINKS.true in
-    record { busy = c.seat_next.new.busy; turns = inv.turns; tabled = t.tabled; goes = ((c.in-Ok-Opened.link, t.told ∙ n.told), omega (arith, all, count, ok), t.unworn) }
+    let opened = t.tabled.opened in
+    record { pace = c.loop.pace; busy = c.seat_next.new.busy; turns = inv.turns; tabled = t.tabled; runs = ((c.in-Ok-Opened.link, t.told ∙ n.told), omega (arith, all, count, ok, opened), unworn_ends c.seat_next.new.seats.items t.unworn) }
 
 pub loop-preserved-else-len-eq-MAX_LINKS : goal.loop-preserved-else-len-eq-MAX_LINKS
 loop-preserved-else-len-eq-MAX_LINKS g c =
@@ -67,9 +65,7 @@ loop-preserved-else-len-eq-MAX_LINKS g c =
       few = omega (arith, all, count, ok, long, few);
       unowed = t.unowed;
       sound = subst MayGoOn (sym (t.told ∙ n.told)) tt;
-      idle = inv.idle;
-      number = inv.number;
-      reached = inv.reached;
+      ready = inv.ready;
       low = t.low;
       room = let same = c.seat_next.ensures.room in let room = inv.room in omega (arith, same, room);
     }
@@ -81,7 +77,7 @@ serve_seat-requires-clause-seat g c =
     let link = c.in-Ok-Ready.link in
     let value = c.index_mut-seat.ensures.value in
     let taken = c.in_default.ensures.taken in
-    ready_served inv.tabled inv.unowed inv.unworn inv.sound link n.happens value c.fill_seat.new.seat taken c.requires.pace.0 inv.few
+    ready_served inv.tabled inv.unowed inv.unworn inv.sound link n.happens value c.fill_seat.new.seat taken refl inv.few
 
 pub overflow_sub-busy : goal.overflow_sub-busy
 overflow_sub-busy g c =
@@ -90,7 +86,7 @@ overflow_sub-busy g c =
     let link = c.in-Ok-Ready.link in
     let value = c.index_mut-seat.ensures.value in
     let taken = c.in_default.ensures.taken in
-    some_busy inv.tabled inv.unowed inv.unworn inv.sound link n.happens value taken inv.number c.in-Some-serve_seat.ensures.served c.in-Some-serve_seat.end refl
+    some_busy inv.tabled inv.unowed inv.unworn inv.sound link n.happens value taken c.in-Some-serve_seat.ensures.served c.in-Some-serve_seat.end refl
 
 pub returns-then-is_worn-clause-went : goal.returns-then-is_worn-clause-went
 returns-then-is_worn-clause-went g c =
@@ -101,10 +97,10 @@ returns-then-is_worn-clause-went g c =
     let taken = c.in_default.ensures.taken in
     let end = c.in-Some-serve_seat.end in
     let v = c.in-Some-serve_seat.ensures.served in
-    let some = some_busy inv.tabled inv.unowed inv.unworn inv.sound link n.happens value taken inv.number v end refl in
-    let s = served_next inv.tabled inv.unowed inv.unworn inv.sound link n.happens value taken inv.number v (c.loop.busy - 1) (omega (arith, some)) in
-    let worn = worn_next inv.tabled inv.unowed inv.unworn inv.sound link n.happens value taken inv.number v end refl (sym c.is_worn.ensures ∙ c.if-is_worn.true) in
-    record { busy = c.loop.busy - 1; turns = s.turns'; tabled = s.tabled; goes = ((link, s.told ∙ n.told), worn.0, worn.1) }
+    let some = some_busy inv.tabled inv.unowed inv.unworn inv.sound link n.happens value taken v end refl in
+    let s = served_next inv.tabled inv.unowed inv.unworn inv.sound link n.happens value taken v (c.loop.busy - 1) (omega (arith, some)) in
+    let worn = worn_next inv.tabled inv.unowed inv.unworn inv.sound link n.happens value taken v end refl (sym c.is_worn.ensures ∙ c.if-is_worn.true) in
+    record { pace = c.serve_seat.new.pace; busy = c.loop.busy - 1; turns = s.turns'; tabled = s.tabled; runs = ((link, s.told ∙ n.told), worn.0, worn.1) }
 
 pub loop-preserved-else-is_worn : goal.loop-preserved-else-is_worn
 loop-preserved-else-is_worn g c =
@@ -115,21 +111,19 @@ loop-preserved-else-is_worn g c =
     let taken = c.in_default.ensures.taken in
     let end = c.in-Some-serve_seat.end in
     let v = c.in-Some-serve_seat.ensures.served in
-    let some = some_busy inv.tabled inv.unowed inv.unworn inv.sound link n.happens value taken inv.number v end refl in
-    let s = served_next inv.tabled inv.unowed inv.unworn inv.sound link n.happens value taken inv.number v (c.loop.busy - 1) (omega (arith, some)) in
+    let some = some_busy inv.tabled inv.unowed inv.unworn inv.sound link n.happens value taken v end refl in
+    let s = served_next inv.tabled inv.unowed inv.unworn inv.sound link n.happens value taken v (c.loop.busy - 1) (omega (arith, some)) in
     let long = s.long in
     let few = inv.few in
     let low = inv.low in
     record {
       turns = s.turns';
       tabled = s.tabled;
-      unworn = s.unworn (over_unworn inv.tabled inv.unowed inv.unworn inv.sound link n.happens value taken inv.number v end refl (sym c.is_worn.ensures ∙ c.if-is_worn.false));
+      unworn = s.unworn (over_unworn inv.tabled inv.unowed inv.unworn inv.sound link n.happens value taken v end refl (sym c.is_worn.ensures ∙ c.if-is_worn.false));
       few = omega (arith, long, few);
       unowed = s.unowed;
       sound = subst MayGoOn (sym (s.told ∙ n.told)) tt;
-      idle = c.in-Some-serve_seat.ensures.pass.0;
-      number = c.in-Some-serve_seat.ensures.pass.1 ∙ inv.number;
-      reached = c.in-Some-serve_seat.ensures.reached;
+      ready = let e = c.in-Some-serve_seat.ensures.ready in ((e.0.0, e.0.1 ∙ inv.ready.0.1), e.1);
       low = omega (arith, low);
       room = inv.room;
     }
@@ -142,19 +136,17 @@ loop-preserved g c =
     let value = c.index_mut-seat.ensures.value in
     let taken = c.in_default.ensures.taken in
     let v = c.in_default-serve_seat.ensures.served in
-    let s = served_next inv.tabled inv.unowed inv.unworn inv.sound link n.happens value taken inv.number v c.loop.busy refl in
+    let s = served_next inv.tabled inv.unowed inv.unworn inv.sound link n.happens value taken v c.loop.busy refl in
     let long = s.long in
     let few = inv.few in
     record {
       turns = s.turns';
       tabled = s.tabled;
-      unworn = s.unworn (still_unworn inv.tabled inv.unowed inv.unworn inv.sound link n.happens value taken inv.number v refl);
+      unworn = s.unworn (still_unworn inv.tabled inv.unowed inv.unworn inv.sound link n.happens value taken v refl);
       few = omega (arith, long, few);
       unowed = s.unowed;
       sound = subst MayGoOn (sym (s.told ∙ n.told)) tt;
-      idle = c.in_default-serve_seat.ensures.pass.0;
-      number = c.in_default-serve_seat.ensures.pass.1 ∙ inv.number;
-      reached = c.in_default-serve_seat.ensures.reached;
+      ready = let e = c.in_default-serve_seat.ensures.ready in ((e.0.0, e.0.1 ∙ inv.ready.0.1), e.1);
       low = inv.low;
       room = inv.room;
     }
@@ -164,7 +156,10 @@ returns-in-Ok-Stop-clause-went g c =
     let inv = c.loop.invariant in
     let n = rw c.in-Ok-Stop.field-0-is at c.in-Ok-Stop.ensures in
     let kept = n.happens.cause.kept in
-    record { busy = c.loop.busy; turns = inv.turns; tabled = tabled_told inv.tabled inv.unowed inv.unworn inv.sound n.happens n.happens.opened (omega (arith, kept)) n.happens.ports; goes = (n.told, inv.few, inv.unworn) }
+    let opened = n.happens.opened in
+    let seats = inv.tabled.opened in
+    let few = inv.few in
+    record { pace = c.loop.pace; busy = c.loop.busy; turns = inv.turns; tabled = tabled_told inv.tabled inv.unowed inv.unworn inv.sound n.happens n.happens.opened (omega (arith, kept)) n.happens.ports; runs = (n.told, omega (arith, opened, seats, few), unworn_ends c.loop.seats.items inv.unworn) }
 
 pub returns-in-Err-clause-went : goal.returns-in-Err-clause-went
 returns-in-Err-clause-went g c =
@@ -173,11 +168,15 @@ returns-in-Err-clause-went g c =
     let once = n.happens.cause.once in
     let one : faults_told (g.P.Ports.harbour c.next-in-loop.new.self).told ≡ 1 = ap faults_told n.told in
     let later = inv.tabled.later in
+    let opened = n.happens.opened in
+    let seats = inv.tabled.opened in
+    let few = inv.few in
     record {
+      pace = c.loop.pace;
       busy = c.loop.busy;
       turns = inv.turns;
       tabled = tabled_told inv.tabled inv.unowed inv.unworn inv.sound n.happens n.happens.opened (omega (arith, once, one)) n.happens.ports;
-      goes = ((_, n.told), omega (arith, once, later), inv.few, inv.unworn);
+      runs = ((_, n.told), omega (arith, once, later), omega (arith, opened, seats, few), unworn_ends c.loop.seats.items inv.unworn);
     }
 
 pub returns-in-Err-fill_seat-clause-went : goal.returns-in-Err-fill_seat-clause-went
@@ -185,6 +184,8 @@ returns-in-Err-fill_seat-clause-went g c =
     let inv = c.loop.invariant in
     let n = rw c.in-Ok-Ready.field-0-is at c.in-Ok-Ready.ensures in
     let link = c.in-Ok-Ready.link in
-    let b = g.P.Ports.harbour c.next-in-loop.new.self in
+    let opened = n.happens.opened in
+    let seats = inv.tabled.opened in
+    let few = inv.few in
     rw (kept_seats inv.tabled inv.unowed inv.unworn inv.sound link n.happens c.index_mut-seat.ensures.value c.fill_seat.new.seat c.in-Err-fill_seat.ensures.same)
-    (record { busy = c.loop.busy; turns = inv.turns; tabled = tabled_ready inv.tabled inv.unowed inv.unworn inv.sound link n.happens; goes = (subst MayGoOn (sym n.told) tt, inv.few, inv.unworn) })
+    (record { pace = c.loop.pace; busy = c.loop.busy; turns = inv.turns; tabled = tabled_ready inv.tabled inv.unowed inv.unworn inv.sound link n.happens; runs = (subst MayGoOn (sym n.told) tt, omega (arith, opened, seats, few), unworn_ends c.loop.seats.items inv.unworn) })

@@ -6,7 +6,7 @@ use Rattle.connection_laws.specs.Turns.{IsReached}
 use Rattle.connection_laws.specs.Attending.{ActsBy}
 use Rattle.connection_laws.specs.Clerks.{WearsAt, ClerkAsks, rested_clerk, clerk_view}
 use Rattle.connection_laws.proofs.Lent.{lent_acts}
-use Rattle.poll_front.proofs.hear.act_at.Goals as goal
+use Rattle.poll_front.proofs.serve.act_at.Goals as goal
 
 pub returns-clause-acts : goal.returns-clause-acts
 returns-clause-acts g c =
