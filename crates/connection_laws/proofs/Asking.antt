@@ -19,7 +19,7 @@ use Rattle.connection_laws.specs.Connection.{is_who, part_of, IsTick, Answers, p
 use Rattle.connection_laws.proofs.Places.{own_entry, placed_more, stands_at}
 use Rattle.connection_laws.proofs.Timing.{asked_in_time}
 use Rattle.connection_laws.specs.Turns.{answer_of, Grows, AreMine, AskedTurn}
-use Rattle.connection_laws.proofs.Growing.{grown_twice, grown_one, grown_refused}
+use Rattle.connection_laws.proofs.Growing.{grown_twice, grown_landed, grown_still, grown_within, grown_refused}
 
 ticks_mine : (who : Who) (reading : ℕ) (ticks : List Entry) → Each (IsTick who reading) ticks → AreMine who ticks
 ticks_mine who reading [] all = tt
@@ -53,7 +53,7 @@ module _ {M : Type 0} (first : List Entry) (legal : List Entry → Type 0) (now 
         entries = ticks ++ e ∷ [];
         asks = λ birth timed. (reading, ticks, refl, each, (refl, (before, whole, count, asked_in_time birth legal now reading b.seen before front who actor request reply timed fair late good l.seen last)));
         mine = each-append (λ (x : Entry). is_who who x ≡ true) ticks (e ∷ []) all_ticks (is_mine, tt);
-        grows = let h = grown_twice a b c ticks (e ∷ []) 1 0 g (grown_one first b c front e l) in record { seen = h.seen; after_is = h.after_is; draws_low = h.draws_low; draws_high = let x = h.draws_high in omega (arith, x) };
+        grows = grown_within a c (ticks ++ e ∷ []) (1 + 0) 2 (omega arith) (grown_twice a b c ticks (e ∷ []) 1 0 g (grown_landed first b c front (e ∷ []) 0 (omega arith) l));
         ends = λ r same. (before, subst (λ (q : Reply). legal (before ++ asked who actor request q ∷ [])) (same_reply reply r same) (subst legal last good));
         worn_out = λ n same. absurd cc;
       }
@@ -75,12 +75,11 @@ module _ {M : Type 0} (first : List Entry) (legal : List Entry → Type 0) (now 
       → (fault ≡ StepsFull → MAX_STEPS ≤ length c.seen) → ((n : ℕ) → fault ≡ Worn n → (n ≡ 2 ^ 40) × (c.draws ≡ 2 ^ 40))
       → Told a.number (Err fault)
   is_refused ticks fault each g r full worn =
-      let h = grown_twice a b c ticks [] 1 1 g (grown_refused b c r) in
       record {
         entries = ticks;
         asks = λ birth timed. (reading, ticks, refl, each, answers_refused fault birth _ ticks full);
         mine = ticks_mine (by a.number conn) reading ticks each;
-        grows = subst (λ (l : List Entry). Grows a c l 2) (append-nil ticks) h;
+        grows = grown_still a b c ticks 1 1 g (grown_refused b c r);
         ends = λ r same. absurd cc;
         worn_out = λ n same. worn n (cc);
       }

@@ -19,7 +19,7 @@ use Rattle.connection_laws.specs.Services.{Service}
 use Rattle.connection_laws.specs.Turns.{Grows, AreMine}
 use Rattle.connection_laws.specs.Attending.{StepsBy, Steps}
 use Rattle.connection_laws.specs.Clerks.{ClerkView, ClerkAsks}
-use Rattle.connection_laws.proofs.Growing.{grown_none, grown_twice}
+use Rattle.connection_laws.proofs.Growing.{grown_none, grown_twice, grown_within}
 use Rattle.connection_laws.proofs.Longer.{acted_longer}
 use Rattle.connection_laws.proofs.Places.{placed_more}
 
@@ -43,7 +43,7 @@ module _ {M : Type 0} (v : Service) (who : Who) where
             subst (λ (es : List Entry). Grows a.pass b.pass es (2 * length x.readings)) (sym empty)
             (subst (λ (rs : List ℕ). Grows a.pass b.pass [] (2 * length rs)) (sym none)
             (subst (λ (k : ClerkView M). Grows a.pass k.pass [] (2 * length {A = ℕ} [])) (sym same)
-            (let g = grown_none a.pass in record { seen = g.seen; after_is = g.after_is; draws_low = g.draws_low; draws_high = let d = g.draws_high in omega (arith, d) })));
+            (grown_within a.pass a.pass [] 0 (2 * length {A = ℕ} []) (omega arith) (grown_none a.pass))));
         reads = subst (λ (rs : List ℕ). Reads a.clock b.clock rs) (sym none) (subst (λ (k : ClerkView M). Reads a.clock k.clock []) (sym same) (Reads-nil a.clock));
         calls = calls ∙ sym (ap (λ (rs : List ℕ). length rs) none);
       }
@@ -65,9 +65,8 @@ module _ {M : Type 0} (v : Service) (who : Who) where
 
   goes_none : (np : NamedPolicy) (o : ClerkView M) → ClerkGoes np o o []
   goes_none np o =
-      let g = grown_none o.pass in
       record {
-        grows = record { seen = g.seen; after_is = g.after_is; draws_low = g.draws_low; draws_high = let d = g.draws_high in omega (arith, d) };
+        grows = grown_within o.pass o.pass [] 0 (2 * length {A = ℕ} []) (omega arith) (grown_none o.pass);
         fits = λ birth timed. tt;
         mine = tt;
         reads = Reads-nil o.clock;
@@ -82,7 +81,7 @@ module _ {M : Type 0} (v : Service) (who : Who) where
       let h = grown_twice o.pass m.pass p.pass (entries_of before) x.entries (2 * length (readings_of before)) (2 * length x.readings) g.grows s.grows in
       let lengths = length-append (readings_of before) x.readings in
       record {
-        grows = record { seen = h.seen; after_is = h.after_is; draws_low = h.draws_low; draws_high = let d = h.draws_high in omega (arith, d, lengths) };
+        grows = grown_within o.pass p.pass (entries_of before ++ x.entries) (2 * length (readings_of before) + 2 * length x.readings) (2 * length (readings_of before ++ x.readings)) (omega (arith, lengths)) h;
         fits = λ birth timed. (
           acted_longer np birth who m.pass.seen p.pass.seen s.grows.seen (placed who v.first o.pass.own) before (g.fits birth timed),
           subst (λ (n : ℕ). Gets birth who p.pass.seen said (actor_after np before) n x) place (s.gets birth timed),

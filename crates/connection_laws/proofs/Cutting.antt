@@ -1,9 +1,8 @@
--- A text that is longer by a byte.
-use Rattle.std.proofs.Common.{◌≡◌, ℕ, Bool, true, false, cond, List, [], ◌∷◌, ◌++◌, refl, sym, ap, subst, ◌∙◌, append-nil, append_assoc}
+-- A text that is longer.
+use Rattle.std.proofs.Common.{◌≡◌, ℕ, true, false, cond, List, [], ◌∷◌, ◌++◌, refl, sym, ap, subst, ◌∙◌, append-nil}
 use mathlib.Core.List.{IsPrefix}
-use Rattle.std.proofs.lemmas.Bool.{eqb-true}
+use Rattle.std.proofs.lemmas.List.Splits.{slice_split-cons_yes, slice_split-cons_no}
 use Rattle.std.specs.List.{slice_split, onto_first}
-use Rattle.connection_laws.proofs.Prefixes.{prefix_trans}
 use Rattle.connection_laws.specs.Cuts.{but_last, last_of, whole_lines, open_line}
 use Rattle.gt_text.specs.Lines.{is_feed}
 
@@ -18,88 +17,65 @@ nonempty (x ∷ xs) =
       | false ↦ let n = nonempty xs in (x ∷ n.0, n.1, ap (onto_first x) n.2)
     ]
 
--- b behind the last part
-abbrev onto_last : ℕ → List (List ℕ) → List (List ℕ)
-onto_last b parts = but_last parts ++ (last_of parts ++ b ∷ []) ∷ []
+abbrev onto_part : List ℕ → List (List ℕ) → List (List ℕ)
+onto_part part [] = []
+onto_part part (next ∷ more) = (part ++ next) ∷ more
 
-first_behind : (x : ℕ) (text : List ℕ) → onto_first x (cut text ++ [] ∷ []) ≡ onto_first x (cut text) ++ [] ∷ []
-first_behind x text =
-    let n = nonempty text in
-    subst (λ (s : List (List ℕ)). onto_first x (s ++ [] ∷ []) ≡ onto_first x s ++ [] ∷ []) (sym n.2) refl
+-- the last part goes on in the first of the others
+abbrev joined : List (List ℕ) → List (List ℕ) → List (List ℕ)
+joined parts others = but_last parts ++ onto_part (last_of parts) others
 
-feed_behind : (text : List ℕ) → cut (text ++ 10 ∷ []) ≡ cut text ++ [] ∷ []
-feed_behind [] = refl
-feed_behind (x ∷ xs) =
-    elim (is_feed x) as (λ c. cond c ([] ∷ cut (xs ++ 10 ∷ [])) (onto_first x (cut (xs ++ 10 ∷ []))) ≡ cond c ([] ∷ cut xs) (onto_first x (cut xs)) ++ [] ∷ []) [
-      | true ↦ ap (λ (s : List (List ℕ)). [] ∷ s) (feed_behind xs)
-      | false ↦ ap (onto_first x) (feed_behind xs) ∙ first_behind x xs
+joined_first : (x : ℕ) (first : List ℕ) (rest : List (List ℕ)) (next : List ℕ) (more : List (List ℕ)) → onto_first x (joined (first ∷ rest) (next ∷ more)) ≡ joined (onto_first x (first ∷ rest)) (next ∷ more)
+joined_first x first [] next more = refl
+joined_first x first (second ∷ rest) next more = refl
+
+cut_on : (text more : List ℕ) → cut (text ++ more) ≡ joined (cut text) (cut more)
+cut_on [] more = let k = nonempty more in subst (λ (s : List (List ℕ)). s ≡ joined ([] ∷ []) s) (sym k.2) refl
+cut_on (x ∷ xs) more =
+    let n = nonempty xs in
+    let k = nonempty more in
+    elim (is_feed x) as (λ c. cond c ([] ∷ cut (xs ++ more)) (onto_first x (cut (xs ++ more))) ≡ joined (cond c ([] ∷ cut xs) (onto_first x (cut xs))) (cut more)) [
+      | true ↦
+          ap (λ (s : List (List ℕ)). [] ∷ s) (cut_on xs more) ∙ subst (λ (s : List (List ℕ)). [] ∷ joined s (cut more) ≡ joined ([] ∷ s) (cut more)) (sym n.2) refl
+      | false ↦
+          ap (onto_first x) (cut_on xs more)
+          ∙ subst (λ (s : List (List ℕ)). onto_first x (joined s (cut more)) ≡ joined (onto_first x s) (cut more)) (sym n.2)
+          (subst (λ (s : List (List ℕ)). onto_first x (joined (n.0 ∷ n.1) s) ≡ joined (onto_first x (n.0 ∷ n.1)) s) (sym k.2) (joined_first x n.0 n.1 k.0 k.1))
     ]
 
-one_later : (b : ℕ) (text : List ℕ) → [] ∷ onto_last b (cut text) ≡ onto_last b ([] ∷ cut text)
-one_later b text =
-    let n = nonempty text in
-    subst (λ (s : List (List ℕ)). [] ∷ onto_last b s ≡ onto_last b ([] ∷ s)) (sym n.2) refl
+but_last_behind : (parts : List (List ℕ)) (part : List ℕ) (more : List (List ℕ)) → but_last (parts ++ part ∷ more) ≡ parts ++ but_last (part ∷ more)
+but_last_behind [] part more = refl
+but_last_behind (p ∷ []) part more = refl
+but_last_behind (p ∷ q ∷ rest) part more = ap (λ (s : List (List ℕ)). p ∷ s) (but_last_behind (q ∷ rest) part more)
 
-both_of : (x b : ℕ) (first : List ℕ) (rest : List (List ℕ)) → onto_first x (onto_last b (first ∷ rest)) ≡ onto_last b (onto_first x (first ∷ rest))
-both_of x b first [] = refl
-both_of x b first (next ∷ more) = refl
+last_behind : (parts : List (List ℕ)) (part : List ℕ) (more : List (List ℕ)) → last_of (parts ++ part ∷ more) ≡ last_of (part ∷ more)
+last_behind [] part more = refl
+last_behind (p ∷ []) part more = refl
+last_behind (p ∷ q ∷ rest) part more = last_behind (q ∷ rest) part more
 
-both_ends : (x b : ℕ) (text : List ℕ) → onto_first x (onto_last b (cut text)) ≡ onto_last b (onto_first x (cut text))
-both_ends x b text =
-    let n = nonempty text in
-    subst (λ (s : List (List ℕ)). onto_first x (onto_last b s) ≡ onto_last b (onto_first x s)) (sym n.2) (both_of x b n.0 n.1)
+cut_feed : (text : List ℕ) (b : ℕ) → is_feed b ≡ true → cut (text ++ b ∷ []) ≡ whole_lines text ++ (open_line text ++ []) ∷ [] ∷ []
+cut_feed text b e = cut_on text (b ∷ []) ∙ ap (joined (cut text)) (slice_split-cons_yes is_feed b [] e)
 
-byte_behind : (text : List ℕ) (b : ℕ) → is_feed b ≡ false → cut (text ++ b ∷ []) ≡ onto_last b (cut text)
-byte_behind [] b e = ap (λ c. cond c ([] ∷ [] ∷ []) (onto_first b ([] ∷ []))) e
-byte_behind (x ∷ xs) b e =
-    elim (is_feed x) as (λ c. cond c ([] ∷ cut (xs ++ b ∷ [])) (onto_first x (cut (xs ++ b ∷ []))) ≡ onto_last b (cond c ([] ∷ cut xs) (onto_first x (cut xs)))) [
-      | true ↦ ap (λ (s : List (List ℕ)). [] ∷ s) (byte_behind xs b e) ∙ one_later b xs
-      | false ↦ ap (onto_first x) (byte_behind xs b e) ∙ both_ends x b xs
-    ]
-
-but_last_behind : (parts : List (List ℕ)) (part : List ℕ) → but_last (parts ++ part ∷ []) ≡ parts
-but_last_behind [] part = refl
-but_last_behind (p ∷ []) part = refl
-but_last_behind (p ∷ q ∷ more) part = ap (λ (s : List (List ℕ)). p ∷ s) (but_last_behind (q ∷ more) part)
-
-last_behind : (parts : List (List ℕ)) (part : List ℕ) → last_of (parts ++ part ∷ []) ≡ part
-last_behind [] part = refl
-last_behind (p ∷ []) part = refl
-last_behind (p ∷ q ∷ more) part = last_behind (q ∷ more) part
-
-in_two : (first : List ℕ) (rest : List (List ℕ)) → first ∷ rest ≡ but_last (first ∷ rest) ++ last_of (first ∷ rest) ∷ []
-in_two first [] = refl
-in_two first (next ∷ more) = ap (λ (s : List (List ℕ)). first ∷ s) (in_two next more)
+cut_byte : (text : List ℕ) (b : ℕ) → is_feed b ≡ false → cut (text ++ b ∷ []) ≡ whole_lines text ++ (open_line text ++ b ∷ []) ∷ []
+cut_byte text b e = cut_on text (b ∷ []) ∙ ap (joined (cut text)) (slice_split-cons_no is_feed b [] e)
 
 -- a line feed ends the line
 pub lines_feed : (text : List ℕ) (b : ℕ) → is_feed b ≡ true → whole_lines (text ++ b ∷ []) ≡ whole_lines text ++ open_line text ∷ []
 lines_feed text b e =
-    let n = nonempty text in
-    let is : b ≡ 10 = eqb-true b 10 e in
-    ap (λ (c : ℕ). whole_lines (text ++ c ∷ [])) is ∙ ap but_last (feed_behind text) ∙ but_last_behind (cut text) []
-    ∙ subst (λ (s : List (List ℕ)). s ≡ but_last s ++ last_of s ∷ []) (sym n.2) (in_two n.0 n.1)
+    ap but_last (cut_feed text b e) ∙ but_last_behind (whole_lines text) (open_line text ++ []) ([] ∷ []) ∙ ap (λ (l : List ℕ). whole_lines text ++ l ∷ []) (append-nil (open_line text))
 
 pub open_feed : (text : List ℕ) (b : ℕ) → is_feed b ≡ true → open_line (text ++ b ∷ []) ≡ []
-open_feed text b e =
-    let is : b ≡ 10 = eqb-true b 10 e in
-    ap (λ (c : ℕ). open_line (text ++ c ∷ [])) is ∙ ap last_of (feed_behind text) ∙ last_behind (cut text) []
+open_feed text b e = ap last_of (cut_feed text b e) ∙ last_behind (whole_lines text) (open_line text ++ []) ([] ∷ [])
 
 -- another byte makes it longer
 pub lines_byte : (text : List ℕ) (b : ℕ) → is_feed b ≡ false → whole_lines (text ++ b ∷ []) ≡ whole_lines text
-lines_byte text b e = ap but_last (byte_behind text b e) ∙ but_last_behind (but_last (cut text)) (last_of (cut text) ++ b ∷ [])
+lines_byte text b e = ap but_last (cut_byte text b e) ∙ but_last_behind (whole_lines text) (open_line text ++ b ∷ []) [] ∙ append-nil (whole_lines text)
 
 pub open_byte : (text : List ℕ) (b : ℕ) → is_feed b ≡ false → open_line (text ++ b ∷ []) ≡ open_line text ++ b ∷ []
-open_byte text b e = ap last_of (byte_behind text b e) ∙ last_behind (but_last (cut text)) (last_of (cut text) ++ b ∷ [])
-
-one_byte_more : (text : List ℕ) (b : ℕ) (c : Bool) → is_feed b ≡ c → IsPrefix (whole_lines text) (whole_lines (text ++ b ∷ []))
-one_byte_more text b true e = (open_line text ∷ [], sym (lines_feed text b e))
-one_byte_more text b false e = ([], append-nil (whole_lines text) ∙ sym (lines_byte text b e))
+open_byte text b e = ap last_of (cut_byte text b e) ∙ last_behind (whole_lines text) (open_line text ++ b ∷ []) []
 
 -- the lines of a text begin those of a longer one
 pub lines_more : (text more : List ℕ) → IsPrefix (whole_lines text) (whole_lines (text ++ more))
-lines_more text [] = ([], append-nil (whole_lines text) ∙ ap whole_lines (sym (append-nil text)))
-lines_more text (b ∷ more) =
-    let one = one_byte_more text b (is_feed b) refl in
-    let rest = lines_more (text ++ b ∷ []) more in
-    let both = prefix_trans (whole_lines text) (whole_lines (text ++ b ∷ [])) (whole_lines ((text ++ b ∷ []) ++ more)) one rest in
-    subst (λ (l : List ℕ). IsPrefix (whole_lines text) (whole_lines l)) (append_assoc text (b ∷ []) more) both
+lines_more text more =
+    let k = nonempty more in
+    (but_last ((open_line text ++ k.0) ∷ k.1), sym (ap but_last (cut_on text more ∙ ap (joined (cut text)) k.2) ∙ but_last_behind (whole_lines text) (open_line text ++ k.0) k.1))

@@ -13,19 +13,18 @@ use Rattle.connection_laws.specs.declared.talk.LineAnswer.TheVariants.{Reply as 
 use Rattle.connection_laws.specs.Services.{service}
 use Rattle.connection_laws.specs.Turns.{AskedTurn}
 use Rattle.connection_laws.specs.Acting.{Decides}
-use Rattle.connection_laws.proofs.Growing.{grown_none}
+use Rattle.connection_laws.proofs.Growing.{grown_none, grown_within}
 
 module _ {M : Type 0} (np : NamedPolicy) (first : List Entry) (legal : List Entry → Type 0) (now : List Entry → ℕ) (who : Who) (reading : ℕ) (actor : Actor) (request : Request) where
   pub decides_nothing : (p : Holder M) → Decides (service np first legal now) who reading actor request p p NoMemory
   decides_nothing p =
-      let g = grown_none p in
       record {
         answer = no_memory;
         entries = [];
         told_is = refl;
         asks = λ birth timed. (reading, [], refl, tt, refl);
         mine = tt;
-        grows = record { seen = g.seen; after_is = g.after_is; draws_low = g.draws_low; draws_high = let x = g.draws_high in omega (arith, x) };
+        grows = grown_within p p [] 0 2 (omega arith) (grown_none p);
         worn_out = λ n same. absurd cc;
       }
 

@@ -14,15 +14,13 @@ module _ {L : Type 0} where
       let f' : IfSome (Some g.0) (λ ys. (rest : List L) × (ys ≡ x ∷ rest) × (new ≡ Some rest)) = subst (λ (m : Option (List L)). IfSome m (λ ys. (rest : List L) × (ys ≡ x ∷ rest) × (new ≡ Some rest))) g.2 f in
       (f'.0, g.1 ∙ ap (λ (l : List L). xs ++ l) f'.1 ∙ sym (append_assoc xs (x ∷ []) f'.0), f'.2)
 
-  some_is : (xs ys : List L) → Some xs ≡ Some ys → xs ≡ ys
-  some_is xs ys e = cc e
-
   -- what was served, and what the door has left
   pub add_up : {S : Type 0} (old new : Option (List L)) (served : List S) (begun : List L) → length begun ≡ length served → Gives old new begun → AddUp old new served
   add_up (Some had) (Some left) served begun same g =
       let e : length had ≡ length (begun ++ g.0) = ap length g.1 in
       let more = length-append begun g.0 in
-      let short = ap length (some_is left g.0 g.2) in
+      let same_left : left ≡ g.0 = cc g.2 in
+      let short = ap length same_left in
       omega (arith, e, more, same, short)
   add_up (Some had) None served begun same g = tt
   add_up None left served begun same g = tt

@@ -1,5 +1,5 @@
 -- Calls at the desk one after another.
-use Rattle.std.proofs.Common.{◌≡◌, ℕ, ◌+◌, ◌≤◌, Bool, List, [], ◌∷◌, ◌++◌, sym, ap, subst, ◌∙◌, arith, append_assoc, append-nil, length-append, Ok}
+use Rattle.std.proofs.Common.{◌≡◌, ℕ, ◌+◌, ◌≤◌, List, [], ◌∷◌, ◌++◌, length, sym, ap, subst, ◌∙◌, arith, append_assoc, append-nil, length-append, Ok}
 use mathlib.Core.List.{IsPrefix}
 use Rattle.gt_base.specs.declared.requests.Entry.{Entry}
 use Rattle.gt_base.specs.declared.requests.Who.{Who}
@@ -37,30 +37,28 @@ module _ {M : Type 0} where
       record {
         seen = r.seen;
         after_is = r.after_is ∙ ap (λ (own : List Entry). record b { draws = c.draws; seen = c.seen; own = own; keeps = c.keeps }) (sym (append-nil b.own))
-            ∙ ap (λ (stays : Bool). record b { draws = c.draws; seen = c.seen; own = b.own ++ []; stays = stays; keeps = c.keeps }) (sym (ap (λ (p : Holder M). p.stays) r.after_is));
+            ∙ ap (λ (p : Holder M). record b { draws = c.draws; seen = c.seen; own = b.own ++ []; stays = p.stays; keeps = c.keeps }) (sym r.after_is);
         draws_low = r.draws.0;
         draws_high = let x = r.draws.1 in omega (arith, x);
       }
 
-  pub grown_idle : (first : List Entry) (b c : Holder M) (front : List Entry) → Lands first b c front [] → Grows b c [] 1
-  grown_idle first b c front l =
+  -- a call that landed
+  pub grown_landed : (first : List Entry) (b c : Holder M) (front more : List Entry) (extra : ℕ) → 1 ≤ length more + extra → Lands first b c front more → Grows b c more extra
+  grown_landed first b c front more extra some l =
       record {
         seen = subst (IsPrefix b.seen) (sym (ap (λ (p : Holder M). p.seen) l.after_is)) l.seen;
-        after_is = l.after_is ∙ ap (λ (seen : List Entry). record b { draws = c.draws; seen = seen; own = b.own ++ []; keeps = c.keeps }) (sym (ap (λ (p : Holder M). p.seen) l.after_is))
-            ∙ ap (λ (stays : Bool). record b { draws = c.draws; seen = c.seen; own = b.own ++ []; stays = stays; keeps = c.keeps }) (sym (ap (λ (p : Holder M). p.stays) l.after_is));
+        after_is = l.after_is ∙ ap (λ (p : Holder M). record b { draws = c.draws; seen = p.seen; own = b.own ++ more; stays = p.stays; keeps = c.keeps }) (sym l.after_is);
         draws_low = let x = l.draws.1 in omega (arith, x);
-        draws_high = let x = l.draws.1 in omega (arith, x);
+        draws_high = let x = l.draws.1 in omega (arith, x, some);
       }
 
-  pub grown_one : (first : List Entry) (b c : Holder M) (front : List Entry) (e : Entry) → Lands first b c front (e ∷ []) → Grows b c (e ∷ []) 0
-  grown_one first b c front e l =
-      record {
-        seen = subst (IsPrefix b.seen) (sym (ap (λ (p : Holder M). p.seen) l.after_is)) l.seen;
-        after_is = l.after_is ∙ ap (λ (seen : List Entry). record b { draws = c.draws; seen = seen; own = b.own ++ e ∷ []; keeps = c.keeps }) (sym (ap (λ (p : Holder M). p.seen) l.after_is))
-            ∙ ap (λ (stays : Bool). record b { draws = c.draws; seen = c.seen; own = b.own ++ e ∷ []; stays = stays; keeps = c.keeps }) (sym (ap (λ (p : Holder M). p.stays) l.after_is));
-        draws_low = let x = l.draws.1 in omega (arith, x);
-        draws_high = let x = l.draws.1 in omega (arith, x);
-      }
+  -- a last call that adds nothing
+  pub grown_still : (a b c : Holder M) (ticks : List Entry) (k l : ℕ) → Grows a b ticks k → Grows b c [] l → Grows a c ticks (k + l)
+  grown_still a b c ticks k l g h = subst (λ (m : List Entry). Grows a c m (k + l)) (append-nil ticks) (grown_twice a b c ticks [] k l g h)
+
+  pub grown_within : (a b : Holder M) (more : List Entry) (k l : ℕ) → k ≤ l → Grows a b more k → Grows a b more l
+  grown_within a b more k l low g =
+      record { seen = g.seen; after_is = g.after_is; draws_low = g.draws_low; draws_high = let x = g.draws_high in omega (arith, x, low) }
 
   -- told of the pass at rest
   pub rested_grows : (a b : Holder M) (more : List Entry) (extra : ℕ) → Grows a b more extra → Grows (rested a) (rested b) more extra
@@ -82,30 +80,14 @@ module _ {M : Type 0} where
         draws_high = g.draws_high;
       }
 
-  -- ticks that go on, and a last call that adds nothing
-  pub ticks_refused : (a b c : Holder M) (ticks : List Entry) → Grows a b ticks 0 → Refuses b c → Grows a c ticks 1
-  ticks_refused a b c ticks g r = subst (λ (l : List Entry). Grows a c l 1) (append-nil ticks) (grown_twice a b c ticks [] 0 1 g (grown_refused b c r))
-
-  pub ticks_idle : (first : List Entry) (a b c : Holder M) (ticks front : List Entry) → Grows a b ticks 0 → Lands first b c front [] → Grows a c ticks 1
-  ticks_idle first a b c ticks front g l = subst (λ (m : List Entry). Grows a c m 1) (append-nil ticks) (grown_twice a b c ticks [] 0 1 g (grown_idle first b c front l))
-
   pub ticks_more : (first : List Entry) (a b c : Holder M) (ticks front : List Entry) (e : Entry) → Grows a b ticks 0 → Lands first b c front (e ∷ []) → Grows a c (ticks ++ e ∷ []) 0
-  ticks_more first a b c ticks front e g l = grown_twice a b c ticks (e ∷ []) 0 0 g (grown_one first b c front e l)
+  ticks_more first a b c ticks front e g l = grown_twice a b c ticks (e ∷ []) 0 0 g (grown_landed first b c front (e ∷ []) 0 (omega arith) l)
 
   pub each_more : (a b : Holder M) (conn reading now : ℕ) (ticks : List Entry) → Grows a b ticks 0 → Each (IsTick (by a.number conn) reading) ticks
       → Each (IsTick (by a.number conn) reading) (ticks ++ ticked (by b.number conn) reading now ∷ [])
   each_more a b conn reading now ticks g each =
       each-append (IsTick (by a.number conn) reading) ticks (ticked (by b.number conn) reading now ∷ []) each
       ((now, ap (λ (n : ℕ). ticked (by n conn) reading now) (ap (λ (p : Holder M). p.number) g.after_is)), tt)
-
-  pub with_room : (a c : Holder M) (ticks : List Entry) → Grows a c ticks 0 → Grows a c ticks 1
-  with_room a c ticks g =
-      record {
-        seen = g.seen;
-        after_is = g.after_is;
-        draws_low = g.draws_low;
-        draws_high = let x = g.draws_high in omega (arith, x);
-      }
 
   pub reaches : (first : List Entry) (legal : List Entry → Type 0) (now_of : List Entry → ℕ) (who : Who) (reading : ℕ) (a c : Holder M) (ticks front : List Entry) (now : ℕ)
       → Each (IsTick who reading) ticks → Grows a c ticks 1 → c.seen ≡ front → legal front → reading ≤ now → now ≡ now_of front → Reaches first legal now_of who reading a c {T = Unit {0}} (Ok tt)

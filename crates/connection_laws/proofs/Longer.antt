@@ -1,19 +1,15 @@
 -- What is told over a history is told over each longer one.
-use Rattle.std.proofs.Common.{ℕ, ◌+◌, false, List, [], ◌∷◌, ◌++◌, length, arith, Result, Ok, Err}
+use Rattle.std.proofs.Common.{ℕ, List, [], ◌∷◌, ◌++◌, arith}
 use mathlib.Core.List.{IsPrefix}
 use Rattle.gt_base.specs.declared.requests.Who.{Who}
 use Rattle.gt_base.specs.declared.requests.Actor.{Actor}
-use Rattle.gt_base.specs.declared.requests.Actor.TheVariants.{Nobody}
 use Rattle.gt_base.specs.declared.requests.Request.{Request}
 use Rattle.gt_base.specs.declared.requests.Entry.{Entry}
 use Rattle.policy_words.specs.Naming.{NamedPolicy}
-use Rattle.request_text.specs.declared.lines.Line.{Line}
-use Rattle.request_text.specs.declared.lines.Line.TheVariants.{Silent, At, Be, Ask}
-use Rattle.request_text.specs.declared.lines.LineFault.{LineFault}
-use Rattle.request_text.specs.Phrases.{read_line}
 use Rattle.connection_laws.specs.declared.ends.LinkEnd.{LinkEnd}
-use Rattle.connection_laws.specs.Lines.{Answer, shown, view_only, silence, agreed, bad, accepted, no_memory, no_steps, worn, Acted, actor_after, entries_of}
-use Rattle.connection_laws.specs.Connection.{Stands, Answers, Asks, Gets, AreActed, Conn}
+use Rattle.connection_laws.specs.Lines.{Answer, shown, view_only, silence, agreed, bad, accepted, no_memory, no_steps, worn, Acted}
+use Rattle.connection_laws.specs.Connection.{Stands, Answers, Asks, AreActed, Conn}
+use Rattle.connection_laws.proofs.Linking.{acted_so, link_so}
 use Rattle.connection_laws.proofs.Prefixes.{prefix_trans, prefix_length}
 
 module _ (np : NamedPolicy) (birth : ℕ) (who : Who) (h h' : List Entry) (more : IsPrefix h h') where
@@ -36,20 +32,10 @@ module _ (np : NamedPolicy) (birth : ℕ) (who : Who) (h h' : List Entry) (more 
       → Asks birth who h actor request answer n readings entries → Asks birth who h' actor request answer n readings entries
   asks_longer actor request answer n readings entries a = (a.0, a.1, a.2, a.3, answers_longer a.0 actor request answer n a.1 entries a.4)
 
-  pub gets_longer : (said : Result Line LineFault) (actor : Actor) (n : ℕ) (a : Acted) → Gets birth who h said actor n a → Gets birth who h' said actor n a
-  gets_longer (Ok Silent) actor n a g = g
-  gets_longer (Ok (Be x)) actor n a g = g
-  gets_longer (Ok (Ask request)) actor n a g = asks_longer actor request a.answer n a.readings a.entries g
-  gets_longer (Ok (At t)) actor n a g = g
-  gets_longer (Err f) actor n a g = g
-
   pub acted_longer : (older : ℕ) (acted : List Acted) → AreActed np birth who h older acted → AreActed np birth who h' older acted
-  acted_longer older [] all = tt
-  acted_longer older (a ∷ before) all =
-      (acted_longer older before all.0, gets_longer (read_line np Nobody false a.line) (actor_after np before) (older + length (entries_of before)) a all.1)
+  acted_longer = acted_so (Asks birth who h) (Asks birth who h') asks_longer np
 
   -- a connection over a front is one over a longer history
   pub conn_longer : (older : ℕ) (taken readings : List ℕ) (own : List Entry) (given : List ℕ) (acted : List Acted) (end : LinkEnd)
       → Conn np birth who h older taken readings own given acted end → Conn np birth who h' older taken readings own given acted end
-  conn_longer older taken readings own given acted end c =
-      record { lines = c.lines; readings_are = c.readings_are; own_are = c.own_are; fit = acted_longer older acted c.fit; given_is = c.given_is }
+  conn_longer = link_so (Asks birth who h) (Asks birth who h') asks_longer np

@@ -1,9 +1,7 @@
 -- A line of a connection never says a minute: `@` stands in scripts alone.
 use Rattle.std.proofs.Common.{◌≡◌, ℕ, true, false, List, [], ◌∷◌, Option, Some, None, Result, Ok, Err, subst, if◌then◌else◌}
 use Rattle.std.specs.Prelude.{codes, bytes_eq}
-use Rattle.gt_base.specs.declared.requests.Actor.{Actor}
 use Rattle.gt_base.specs.declared.requests.Actor.TheVariants.{Nobody}
-use Rattle.gt_base.specs.declared.requests.Request.{Request}
 use Rattle.gt_text.specs.Lines.{is_longer}
 use Rattle.gt_text.specs.Words.{words_of, are_silent}
 use Rattle.policy_words.specs.Naming.{NamedPolicy}
@@ -15,29 +13,22 @@ use Rattle.request_text.specs.declared.lines.LineFault.TheVariants.{Long}
 use Rattle.request_text.specs.declared.phrases.NamedRequest.{NamedRequest}
 use Rattle.request_text.specs.Phrases.{actor_in, request_in, be_actor, ask_request, phrase_in, request_of, actor_of, meant, said, read_line}
 
-abbrev pub HasNoMinute : Result Line LineFault → Type 0
+abbrev HasNoMinute : Result Line LineFault → Type 0
 HasNoMinute (Ok (At t)) = ⊥
-HasNoMinute (Ok Silent) = Unit {0}
-HasNoMinute (Ok (Be actor)) = Unit {0}
-HasNoMinute (Ok (Ask request)) = Unit {0}
-HasNoMinute (Err fault) = Unit {0}
+HasNoMinute _ = Unit {0}
 
 module _ (np : NamedPolicy) where
-  of_actor : (o : Option Actor) → HasNoMinute (meant np (o >>= (λ a. Some (Be a))))
-  of_actor None = tt
-  of_actor (Some a) = tt
-
-  of_request : (o : Option Request) → HasNoMinute (meant np (o >>= (λ q. Some (Ask q))))
-  of_request None = tt
-  of_request (Some q) = tt
+  of_some : {A : Type 0} (line : A → Line) → ((a : A) → HasNoMinute (Ok (line a))) → (o : Option A) → HasNoMinute (meant np (o >>= (λ a. Some (line a))))
+  of_some {A} line fine None = tt
+  of_some {A} line fine (Some a) = fine a
 
   of_be : (o : Option (Option (List ℕ))) → HasNoMinute (said np Nobody (be_actor o))
   of_be None = tt
-  of_be (Some user) = of_actor (actor_of np Nobody user)
+  of_be (Some user) = of_some Be (λ a. tt) (actor_of np Nobody user)
 
   of_ask : (o : Option NamedRequest) → HasNoMinute (said np Nobody (ask_request o))
   of_ask None = tt
-  of_ask (Some request) = of_request (request_of np request)
+  of_ask (Some request) = of_some Ask (λ q. tt) (request_of np request)
 
   of_words : (ws : List (List ℕ)) → HasNoMinute (said np Nobody (phrase_in false ws))
   of_words [] = tt

@@ -1,6 +1,8 @@
 -- Which entry of its connection an entry is.
 use Rattle.std.proofs.Common.{◌≡◌, ℕ, ◌+◌, Bool, true, false, cond, ◌==◌, ◌&&◌, List, [], ◌∷◌, ◌++◌, length, drop, refl, sym, ap, ◌∙◌, arith, eq-eqb, length-append, ◌≢◌, ne_eqb}
 use Rattle.std.proofs.lemmas.Bool.{eqb-true}
+use Rattle.std.proofs.Math.Bool.{and-false}
+use Rattle.gtrbac_model.proofs.Elements.{both_true}
 use Rattle.locked_history.specs.Fronts.{by}
 use Rattle.connection_laws.specs.Turns.{AreMine}
 use Rattle.std.proofs.lemmas.List.Elements.{filter-append}
@@ -62,19 +64,11 @@ stands_at who first own before front e begins part_is last mine =
     let l3 = length-append (part_of who before) (e ∷ []) in
     omega (arith, n1, n2, l1, l2, l3)
 
-right_is : (a b : Bool) → (a && b) ≡ true → b ≡ true
-right_is true b e = e
-right_is false b e = absurd (cc)
-
-never_both : (a : Bool) → (a && false) ≡ false
-never_both true = refl
-never_both false = refl
-
 -- entries of another connection are none of this one
 pub none_mine : (n c k : ℕ) (es : List Entry) → c ≢ k → AreMine (by n c) es → part_of (by n k) es ≡ []
 none_mine n c k [] other mine = refl
 none_mine n c k (e ∷ es) other mine =
-    let at : e.who.conn ≡ c = eqb-true e.who.conn c (right_is (e.who.worker == n) (e.who.conn == c) mine.0) in
+    let at : e.who.conn ≡ c = eqb-true e.who.conn c (both_true (e.who.worker == n) (e.who.conn == c) mine.0).1 in
     let away : (e.who.conn == k) ≡ false = ne_eqb e.who.conn k (λ same. other (sym at ∙ same)) in
-    let no : is_who (by n k) e ≡ false = ap (λ b. (e.who.worker == n) && b) away ∙ never_both (e.who.worker == n) in
+    let no : is_who (by n k) e ≡ false = ap (λ b. (e.who.worker == n) && b) away ∙ and-false (e.who.worker == n) in
     ap (λ b. cond b (e ∷ part_of (by n k) es) (part_of (by n k) es)) no ∙ none_mine n c k es other mine.1

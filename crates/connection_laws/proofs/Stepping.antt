@@ -74,14 +74,6 @@ module _ {S T : Type 0} (view : S → T) (Same : S → S → Type 0) (self : (o 
 -- what each request keeps, all of them keep
 module _ {S : Type 0} (Keeps : S → S → Type 0) (self : (a : S) → Keeps a a) (twice : (a b c : S) → Keeps a b → Keeps b c → Keeps a c) (np : NamedPolicy) (P : S → S → Actor → Request → Answer → List ℕ → List Entry → Type 0)
     (one : (a b : S) (actor : Actor) (request : Request) (answer : Answer) (readings : List ℕ) (entries : List Entry) → P a b actor request answer readings entries → Keeps a b) where
-  pub step_keeps : (a b : S) (said : Result Line LineFault) (actor : Actor) (x : Acted) → StepsBy np P a b said actor x → Keeps a b
-  step_keeps a b (Ok Silent) actor x s = subst (λ (k : S). Keeps a k) (sym s.0) (self a)
-  step_keeps a b (Ok (Be y)) actor x s = subst (λ (k : S). Keeps a k) (sym s.0) (self a)
-  step_keeps a b (Ok (Ask request)) actor x s = one a b actor request x.answer x.readings x.entries s
-  step_keeps a b (Ok (At t)) actor x s = absurd s
-  step_keeps a b (Err f) actor x s = subst (λ (k : S). Keeps a k) (sym s.0) (self a)
-
   pub steps_keep : (o p : S) (acted : List Acted) → Steps np P o p acted → Keeps o p
-  steps_keep o p [] s = subst (λ (k : S). Keeps o k) (sym s) (self o)
-  steps_keep o p (x ∷ before) s =
-      twice o s.0 p (steps_keep o s.0 before s.1) (step_keeps s.0 p (read_line np Nobody false x.line) (actor_after np before) x s.2)
+  steps_keep o p acted s =
+      (steps_so (λ k. k) Keeps self np P P o (λ m p actor request answer readings entries same x. (twice o m p same (one m p actor request answer readings entries x), x)) p acted s).0

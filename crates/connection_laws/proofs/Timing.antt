@@ -1,5 +1,5 @@
 -- Instants of the fronts of a history.
-use Rattle.std.proofs.Common.{◌≡◌, ℕ, ◌≤◌, List, [], ◌∷◌, ◌++◌, refl, sym, ap, subst, ◌∙◌, arith}
+use Rattle.std.proofs.Common.{◌≡◌, ℕ, ◌≤◌, List, [], ◌∷◌, ◌++◌, sym, ap, subst, ◌∙◌, arith}
 use mathlib.Core.List.{IsPrefix}
 use Rattle.gt_base.specs.declared.requests.Who.{Who}
 use Rattle.gt_base.specs.declared.requests.Actor.{Actor}
@@ -8,6 +8,7 @@ use Rattle.gt_base.specs.declared.requests.Reply.{Reply}
 use Rattle.gt_base.specs.declared.requests.Entry.{Entry}
 use Rattle.gt_base.specs.Machines.{asked}
 use Rattle.gtrbac_model.specs.History.{moved, now_of}
+use Rattle.gtrbac_model.proofs.Playing.{now_snoc}
 use Rattle.connection_laws.specs.Connection.{Rises, IsTimed}
 
 rises_all : (now : ℕ) (es : List Entry) → Rises now es → now ≤ now_of now es
@@ -18,10 +19,6 @@ rises_on : (now : ℕ) (xs ys : List Entry) → Rises now (xs ++ ys) → now_of 
 rises_on now [] ys r = rises_all now ys r
 rises_on now (x ∷ xs) ys r = rises_on (moved now x.what) xs ys r.1
 
-now_asked : (now : ℕ) (xs : List Entry) (who : Who) (actor : Actor) (request : Request) (reply : Reply) → now_of now (xs ++ asked who actor request reply ∷ []) ≡ now_of now xs
-now_asked now [] who actor request reply = refl
-now_asked now (x ∷ xs) who actor request reply = now_asked (moved now x.what) xs who actor request reply
-
 -- what was asked behind a list that has come to the reading was asked in time
 pub asked_in_time : (birth : ℕ) (legal : List Entry → Type 0) (now : List Entry → ℕ) (reading : ℕ) (seen before front : List Entry) (who : Who) (actor : Actor) (request : Request) (reply : Reply)
     → IsTimed birth legal now → legal seen → reading ≤ now seen → legal front → IsPrefix seen front → front ≡ before ++ asked who actor request reply ∷ [] → reading ≤ now_of birth before
@@ -29,5 +26,5 @@ asked_in_time birth legal now reading seen before front who actor request reply 
     let later : now_of birth seen ≤ now_of birth front =
     subst (λ (l : List Entry). now_of birth seen ≤ now_of birth l) begins.1 (rises_on birth seen begins.0 (subst (Rises birth) (sym begins.1) (timed.rises front good))) in
     let at = timed.now_is seen fair in
-    let same = ap (now_of birth) last ∙ now_asked birth before who actor request reply in
+    let same = ap (now_of birth) last ∙ now_snoc birth before (asked who actor request reply) in
     omega (arith, later, at, same, late)

@@ -47,6 +47,12 @@ module _ {M : Type 0} (v : Service) (who : Who) where
 abbrev pub rested_clerk : {M R C G : Type 0} → Clerk M R C G → Clerk M R C G
 rested_clerk k = record k { pass = record k.pass { now = rested k.pass.now } }
 
+-- what it was lent is the same
+abbrev pub KeepsLent : {M R C G : Type 0} → Clerk M R C G → Clerk M R C G → Type 0
+KeepsLent j k =
+    (k.server ≡ j.server) × (k.pass.ghost_name ≡ j.pass.ghost_name)
+    × (k.clock.ghost_name ≡ j.clock.ghost_name) × (k.reached.ghost_name ≡ j.reached.ghost_name)
+
 -- over what the machine of its desk tells, and the readings of its clock
 module _ {M R C G : Type 0} (list : M → List Entry) (legal : M → List Entry → Type 0)
     (now_of : M → List Entry → ℕ) (readings_by : C → Option (ℕ → ℕ)) where
@@ -58,13 +64,6 @@ module _ {M R C G : Type 0} (list : M → List Entry) (legal : M → List Entry 
 
   abbrev pub who_of : Clerk M R C G → Who
   who_of k = by k.pass.now.number k.server.now.conn
-
-  -- what it was lent is the same
-  abbrev pub KeepsLent : Clerk M R C G → Clerk M R C G → Type 0
-  KeepsLent j k =
-      (k.server ≡ j.server) × (k.pass.ghost_name ≡ j.pass.ghost_name)
-      × (k.clock.ghost_name ≡ j.clock.ghost_name)
-      × (k.reached.ghost_name ≡ j.reached.ghost_name)
 
   -- so it is behind a request, which got what it gets at the desk
   pub record ClerkGets (j k : Clerk M R C G) (actor : Actor) (request : Request) (answer : Answer)

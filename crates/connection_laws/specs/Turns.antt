@@ -10,15 +10,21 @@ use Rattle.gt_base.specs.declared.requests.Entry.{Entry}
 use Rattle.gt_base.specs.Machines.{asked}
 use Rattle.gt_base.specs.declared.limits.TheConstants.{MAX_STEPS}
 use Rattle.turn_lock.specs.Turns.{Each}
-use Rattle.turn_lock.specs.Holders.{Site, Holder}
+use Rattle.turn_lock.specs.Holders.{Site, Lock, Holder, site_of}
+use Rattle.policy_words.specs.Naming.{NamedPolicy}
 use Rattle.locked_history.specs.declared.faults.DeskFault.{DeskFault}
 use Rattle.locked_history.specs.declared.faults.DeskFault.TheVariants.{Worn, StepsFull, Memory}
+use Rattle.connection_laws.specs.Desks.{MayBeAsked, RepliesCanBeTold}
 use Rattle.connection_laws.specs.Lines.{Answer, accepted, no_memory, no_steps, worn}
 use Rattle.connection_laws.specs.Connection.{is_who, IsTick, Asks, IsTimed, placed}
 
 -- a pass of this desk that holds no turn
 abbrev pub IsIdle : {M : Type 0} → Site M → Holder M → Type 0
 IsIdle site p = (p.site ≡ site) × (p.turn ≡ None)
+
+-- the pass is idle again, and of the same number
+abbrev pub StaysIdle : {M : Type 0} → Site M → Holder M → Holder M → Type 0
+StaysIdle site a b = IsIdle site b × (b.number ≡ a.number)
 
 -- a pass that keeps no turn, and is to keep none
 abbrev pub IsRested : {M : Type 0} → Holder M → Type 0
@@ -34,6 +40,22 @@ answer_of (Err Memory) = no_memory
 -- the pass has seen a legal history that has come to this minute, where one is told
 abbrev pub IsReached : (List Entry → Type 0) → (List Entry → ℕ) → List Entry → Option ℕ → Type 0
 IsReached legal now seen reached = IfSome reached (λ t. legal seen × (t ≤ now seen))
+
+-- over what a machine tells of its root
+module _ {M : Type 0} (IsNamed : M → Actor → Request → Type 0) (legal : M → List Entry → Type 0)
+  where
+    -- With this pass the connections of a policy can ask at the desk: it is idle there, what the
+    -- policy names may be asked, and each reply can be told
+    pub record CanAsk (desk : Lock M) (np : NamedPolicy) (pass : Holder M) : Type 0 where
+      pub idle : IsIdle (site_of desk) pass
+      pub named : MayBeAsked np (IsNamed desk.root)
+      pub replies : RepliesCanBeTold np (legal desk.root)
+
+    -- they can, and the pass has seen a history that has come to this minute, where one is known
+    pub record CanAskFrom (now_of : M → List Entry → ℕ) (desk : Lock M) (np : NamedPolicy)
+        (pass : Holder M) (minute : Option ℕ) : Type 0 where
+      pub asks : CanAsk desk np pass
+      pub reached : IsReached (legal desk.root) (now_of desk.root) pass.seen minute
 
 -- all entries are of this connection
 abbrev pub AreMine : Who → List Entry → Type 0

@@ -9,7 +9,7 @@ ghost use Rattle.connection_laws.specs.Lines.{Answer};
 ghost use Rattle.connection_laws.specs.Desks.{IsNamedActor};
 ghost use Rattle.connection_laws.specs.Acting.{HasRoom};
 ghost use Rattle.connection_laws.specs.Rooms.{text_in, LendsRoom};
-ghost use Rattle.connection_laws.specs.Attending.{AnswersOne, ActsBy};
+ghost use Rattle.connection_laws.specs.Attending.{IsPaced, AnswersOne, ActsBy};
 
 use crate::talk::{LineAnswer, Talk};
 use gt_base::{Actor, List, Request};
@@ -61,8 +61,7 @@ pub trait Answerer {
         request: Request,
         room: &mut List<u8>,
     ) -> LineAnswer
-        requires ready { ready self.old }
-        requires wish { IsNamedWish (named self.old).policy (ask actor request) }
+        requires asked { ready self.old × IsNamedWish (named self.old).policy (ask actor request) }
         ensures ready { ready self.new }
         ensures named { named self.new ≡ named self.old }
         ensures answers { AnswersOne (named self.old) (wears (rested self.new))
@@ -72,23 +71,17 @@ pub trait Answerer {
     /// A piece of lines begins, whose replies go out one after the other.
     fn begin_piece(&mut self)
         requires { ready self.old }
-        ensures ready { ready self.new }
-        ensures named { named self.new ≡ named self.old }
-        ensures same { rested self.new ≡ rested self.old };
+        ensures paced { IsPaced ready named rested self.old self.new };
 
     /// This is written next, which may wait for the peer.
     fn before_reply(&mut self, told: &LineAnswer)
         requires { ready self.old }
-        ensures ready { ready self.new }
-        ensures named { named self.new ≡ named self.old }
-        ensures same { rested self.new ≡ rested self.old };
+        ensures paced { IsPaced ready named rested self.old self.new };
 
     /// The piece is at its end, and the peer is waited for.
     fn end_piece(&mut self)
         requires { ready self.old }
-        ensures ready { ready self.new }
-        ensures named { named self.new ≡ named self.old }
-        ensures same { rested self.new ≡ rested self.old }
+        ensures paced { IsPaced ready named rested self.old self.new }
         ensures rests { rested self.new ≡ self.new };
 }
 

@@ -1,9 +1,6 @@
 //! A worker that answers the requests of a link at the desk.
-ghost use Rattle.std.specs.Prelude.{◌≡◌};
-ghost use Rattle.turn_lock.specs.Holders.{site_of};
-ghost use Rattle.connection_laws.specs.Desks.{MayBeAsked, RepliesCanBeTold};
-ghost use Rattle.connection_laws.specs.Turns.{IsIdle, IsReached};
-ghost use Rattle.connection_laws.specs.Clerks.{WearsAt, ClerkGets, rested_clerk};
+ghost use Rattle.connection_laws.specs.Turns.{CanAskFrom};
+ghost use Rattle.connection_laws.specs.Clerks.{WearsAt, KeepsLent, ClerkGets, rested_clerk};
 
 use crate::acts::{decide, reply_of};
 use crate::answerer::Answerer;
@@ -34,11 +31,8 @@ pub struct Clerk<'a, M: Machine, R, C, G> {
 impl<'a, M: Machine, R: Wait, C: Clock, G: Gate> Answerer for Clerk<'a, M, R, C, G> {
     ghost named = { λ k. k.server.now.policy.now };
 
-    ghost ready = { λ k. IsIdle (site_of k.server.now.desk.now) k.pass.now
-        × MayBeAsked k.server.now.policy.now (M.named k.server.now.desk.now.root)
-        × RepliesCanBeTold k.server.now.policy.now (M.legal k.server.now.desk.now.root)
-        × IsReached (M.legal k.server.now.desk.now.root) (M.now_of k.server.now.desk.now.root)
-        k.pass.now.seen k.reached.now };
+    ghost ready = { λ k. CanAskFrom M.named M.legal M.now_of k.server.now.desk.now
+        k.server.now.policy.now k.pass.now k.reached.now };
 
     ghost asks = { ClerkGets M.list M.legal M.now_of C.readings };
 
@@ -48,9 +42,7 @@ impl<'a, M: Machine, R: Wait, C: Clock, G: Gate> Answerer for Clerk<'a, M, R, C,
 
     ghost use Rattle.std.proofs.Common.{refl, ◌∙◌};
 
-    ghost keeps = { λ j k. (k.server ≡ j.server) × (k.pass.ghost_name ≡ j.pass.ghost_name)
-        × (k.clock.ghost_name ≡ j.clock.ghost_name)
-        × (k.reached.ghost_name ≡ j.reached.ghost_name) };
+    ghost keeps = { KeepsLent };
 
     ghost keeps_refl = { λ k. (refl, refl, refl, refl) };
 

@@ -1,7 +1,7 @@
 //! How the service of a link ended, and what it came to.
 
 /// Why the service of a link ended.
-#[derive(Clone, Copy, PartialEq, Eq, Debug)]
+#[derive(Clone, Copy, PartialEq)]
 pub enum LinkEnd {
     /// The link has no bytes left.
     Ended,
@@ -17,7 +17,7 @@ pub enum LinkEnd {
 
 /// What the service of a link came to: how many entries of requests it has, how many request lines
 /// were answered by `no memory` or `no steps`, and how it ended.
-#[derive(Clone, Copy, PartialEq, Eq, Debug)]
+#[derive(Clone, Copy)]
 pub struct Report {
     pub asked: u64,
     pub denied: u64,

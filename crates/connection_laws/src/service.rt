@@ -1,15 +1,14 @@
 //! What one byte of a link comes to, whoever answers its requests.
-ghost use Rattle.std.specs.Prelude.{◌≡◌, ◌+◌, ◌<◌, ◌≤◌, ◌^◌, ℕ, true, false, [], ◌∷◌, length, Err, IfOk, OnOk};
+ghost use Rattle.std.specs.Prelude.{◌≡◌, ◌+◌, ◌<◌, ◌≤◌, ◌^◌, ℕ, true, false, [], ◌∷◌, length, Err, IfOk};
 ghost use Rattle.std.specs.Io.KnownBytes.{ReadConsumes, WriteAppends};
 ghost use Rattle.gt_io.specs.Causes.{CountsEnd, HasCause, RisesOnce};
 ghost use Rattle.gt_io.specs.Frames.{blank_frame};
-ghost use Rattle.gt_io.specs.Links.{ReadsNothing, WritesNothing};
+ghost use Rattle.gt_io.specs.Links.{WritesNothing};
 ghost use Rattle.policy_words.specs.Naming.{NamedPolicy};
 ghost use Rattle.connection_laws.specs.Lines.{Answer};
-ghost use Rattle.connection_laws.specs.Desks.{IsNamedActor};
-ghost use Rattle.connection_laws.specs.Rooms.{text_in, room_in, TakesBack};
-ghost use Rattle.connection_laws.specs.Acting.{IsTold, counted_talk, CanCount, HasRoom, CountsUp};
-ghost use Rattle.connection_laws.specs.Attending.{IsStart, Sent, spot, TakesBytes, Attends};
+ghost use Rattle.connection_laws.specs.Rooms.{text_in, TakesBack};
+ghost use Rattle.connection_laws.specs.Acting.{IsTold, counted_talk, CanCount};
+ghost use Rattle.connection_laws.specs.Attending.{IsStart, IsUnheard, CanTake, StaysReady, Sent, spot, TakesBytes, Attends};
 
 use crate::acts::{count, reply_of, take_back};
 use crate::answerer::{Answerer, act_by};
@@ -50,24 +49,8 @@ impl Hearing {
     }
 }
 
-/// Writes the reply of a line.
-fn send<L: Link>(link: &mut L, told: &LineAnswer) -> Result<(), LinkEnd>
-    requires { (L.traffic link.old).finished ≡ false }
-    ensures sent { (np : NamedPolicy) (answer : Answer) → IsTold np told.now answer
-        → Sent np answer (L.traffic link.old) (L.traffic link.new) result }
-    ensures worn { (n : ℕ) → result ≡ Err (LinkEnd.Worn n) → told.now ≡ LineAnswer.Worn n }
-    ensures held { (L.traffic link.new).finished ≡ (L.traffic link.old).finished }
-{
-    if let LineAnswer::Worn { draws } = told {
-        return Err(LinkEnd::Worn { draws: *draws });
-    }
-    match send_all(link, reply_of(told)) {
-        Ok(()) => Ok(()),
-        Err(_) => Err(LinkEnd::WriteFault),
-    }
-}
-
-/// Counts what a line got, writes its reply, and takes the buffer of it back.
+/// Counts what a line got, writes its reply, and takes the buffer of it back. A line at which the
+/// pass is worn gets none.
 fn settle<L: Link>(
     link: &mut L,
     talk: &mut Talk,
@@ -85,9 +68,15 @@ fn settle<L: Link>(
     ensures back { TakesBack room.old room.new (text_in told) }
 {
     count(talk, &told);
-    let sent = send(link, &told);
+    if let LineAnswer::Worn { draws } = &told {
+        return Err(LinkEnd::Worn { draws: *draws });
+    }
+    let sent = send_all(link, reply_of(&told));
     take_back(room, told);
-    sent
+    match sent {
+        Ok(()) => Ok(()),
+        Err(_) => Err(LinkEnd::WriteFault),
+    }
 }
 
 /// Takes one more byte, and acts on the line that it ends.
@@ -97,24 +86,15 @@ pub fn take_byte<A: Answerer, L: Link>(
     hearing: &mut Hearing,
     byte: u8,
 ) -> Result<(), LinkEnd>
-    requires ready { A.ready answerer.old }
-    requires actor { IsNamedActor (A.named answerer.old) hearing.old.talk.actor }
-    requires room { HasRoom hearing.old.talk 1 }
-    requires open { (L.traffic link.old).finished ≡ false }
+    requires can { CanTake A.ready A.named answerer.old hearing.old.talk (L.traffic link.old)
+        1 }
     ensures goes { TakesBytes (A.named answerer.old) A.asks A.wears
         (spot (A.rested answerer.old) hearing.old.talk (L.traffic link.old).given)
         (spot (A.rested answerer.new) hearing.new.talk (L.traffic link.new).given)
         hearing.old.framer hearing.new.framer (byte ∷ []) (L.traffic link.old).write_faults
         (L.traffic link.new).write_faults result }
-    ensures ready { A.ready answerer.new }
-    ensures named { A.named answerer.new ≡ A.named answerer.old }
-    ensures actor { IsNamedActor (A.named answerer.old) hearing.new.talk.actor }
-    ensures counts { CountsUp hearing.old.talk hearing.new.talk 1 }
-    ensures reads { ReadsNothing (L.traffic link.old) (L.traffic link.new) }
-    ensures held { (L.traffic link.new).finished ≡ (L.traffic link.old).finished }
-    ensures faults { OnOk result
-        ((L.traffic link.new).write_faults ≡ (L.traffic link.old).write_faults) }
-    ensures kept { room_in hearing.old.room ≤ room_in hearing.new.room }
+    ensures stays { StaysReady A.ready A.named answerer.old answerer.new hearing.old hearing.new
+        (L.traffic link.old) (L.traffic link.new) 1 result }
 {
     match hearing.framer.push(byte) {
         Framed::More => Ok(()),
@@ -142,24 +122,15 @@ pub fn take_bytes<A: Answerer, L: Link>(
     hearing: &mut Hearing,
     piece: &[u8],
 ) -> Result<(), LinkEnd>
-    requires ready { A.ready answerer.old }
-    requires actor { IsNamedActor (A.named answerer.old) hearing.old.talk.actor }
-    requires room { HasRoom hearing.old.talk (length piece.now) }
-    requires open { (L.traffic link.old).finished ≡ false }
+    requires can { CanTake A.ready A.named answerer.old hearing.old.talk (L.traffic link.old)
+        (length piece.now) }
     ensures goes { TakesBytes (A.named answerer.old) A.asks A.wears
         (spot (A.rested answerer.old) hearing.old.talk (L.traffic link.old).given)
         (spot (A.rested answerer.new) hearing.new.talk (L.traffic link.new).given)
         hearing.old.framer hearing.new.framer piece.now (L.traffic link.old).write_faults
         (L.traffic link.new).write_faults result }
-    ensures ready { A.ready answerer.new }
-    ensures named { A.named answerer.new ≡ A.named answerer.old }
-    ensures actor { IsNamedActor (A.named answerer.old) hearing.new.talk.actor }
-    ensures counts { CountsUp hearing.old.talk hearing.new.talk (length piece.now) }
-    ensures reads { ReadsNothing (L.traffic link.old) (L.traffic link.new) }
-    ensures held { (L.traffic link.new).finished ≡ (L.traffic link.old).finished }
-    ensures faults { OnOk result
-        ((L.traffic link.new).write_faults ≡ (L.traffic link.old).write_faults) }
-    ensures kept { room_in hearing.old.room ≤ room_in hearing.new.room }
+    ensures stays { StaysReady A.ready A.named answerer.old answerer.new hearing.old hearing.new
+        (L.traffic link.old) (L.traffic link.new) (length piece.now) result }
     ensures rests { A.rested answerer.new ≡ answerer.new }
 {
     answerer.begin_piece();
@@ -198,9 +169,7 @@ fn read_some<L: Link>(link: &mut L, buf: &mut [u8], left: usize) -> Result<usize
 /// Takes the bytes of a link to its end.
 fn take_all<A: Answerer, L: Link>(answerer: &mut A, link: &mut L, hearing: &mut Hearing) -> LinkEnd
     requires ready { A.ready answerer.old }
-    requires start { IsStart hearing.old.talk }
-    requires frame { hearing.old.framer ≡ blank_frame }
-    requires open { (L.traffic link.old).finished ≡ false }
+    requires unheard { IsUnheard hearing.old (L.traffic link.old) }
     ensures attends { Attends (A.named answerer.old) A.asks A.wears
         (spot (A.rested answerer.old) hearing.old.talk (L.traffic link.old).given)
         (spot (A.rested answerer.new) hearing.new.talk (L.traffic link.new).given)
@@ -237,9 +206,7 @@ pub fn attend<A: Answerer, L: Link>(
     hearing: &mut Hearing,
 ) -> LinkEnd
     requires ready { A.ready answerer.old }
-    requires start { IsStart hearing.old.talk }
-    requires frame { hearing.old.framer ≡ blank_frame }
-    requires open { (L.traffic link.old).finished ≡ false }
+    requires unheard { IsUnheard hearing.old (L.traffic link.old) }
     ensures keeps { A.keeps answerer.old answerer.new }
     ensures attends { Attends (A.named answerer.old) A.asks A.wears
         (spot (A.rested answerer.old) hearing.old.talk (L.traffic link.old).given)

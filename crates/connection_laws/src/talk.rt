@@ -4,7 +4,7 @@ use request_text::LineFault;
 
 /// The actor of the lines that follow, how many entries of requests there are, how many request
 /// lines got none, and how many request lines the worker had.
-#[derive(Clone, Copy, PartialEq, Eq, Debug)]
+#[derive(Clone, Copy)]
 pub struct Talk {
     pub actor: Actor,
     pub asked: u64,

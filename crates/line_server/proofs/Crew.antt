@@ -1,5 +1,5 @@
 -- What the closed desk tells of a worker: its links over the whole history, and their parts of it one after the other.
-use Rattle.std.proofs.Common.{◌≡◌, ℕ, ◌+◌, ◌<◌, ◌≤◌, List, [], ◌∷◌, ◌++◌, length, drop, refl, sym, ap, subst, ◌∙◌, arith, append-nil}
+use Rattle.std.proofs.Common.{◌≡◌, ℕ, ◌+◌, ◌≤◌, List, [], ◌∷◌, ◌++◌, length, drop, sym, ap, subst, ◌∙◌, arith, append-nil}
 use Rattle.gt_base.specs.declared.requests.Entry.{Entry}
 use Rattle.gt_io.specs.Links.{Traffic}
 use Rattle.turn_lock.specs.Turns.{part}
@@ -10,19 +10,10 @@ use Rattle.connection_laws.specs.Connection.{part_of}
 use Rattle.connection_laws.proofs.Places.{part_of-append, part_of-part, all_mine, none_mine}
 use Rattle.line_server.specs.declared.ended.Served.{Served}
 use Rattle.line_server.specs.Working.{Tale, owns_of, AreServed, AreOwnParts, IsTellingOfWorkers}
-use Rattle.line_server.proofs.Links.{served_longer}
+use Rattle.line_server.proofs.Links.{served_longer, others_none}
 use Rattle.connection_laws.specs.Services.{service}
 
 module _ {L : Type 0} (traffic : L → Traffic) (np : NamedPolicy) (first : List Entry) (legal : List Entry → Type 0) (now : List Entry → ℕ) (w : ℕ) where
-  later_none : (h own : List Entry) (c k : ℕ) (ss : List (Served L)) (xs : List (Tale L)) → k < c → AreServed traffic (service np first legal now) w h own c ss xs → part_of (by w k) (owns_of xs) ≡ []
-  later_none h own c k [] [] far all = refl
-  later_none h own c k [] (x ∷ xs) far all = absurd all
-  later_none h own c k (s ∷ ss) [] far all = absurd all
-  later_none h own c k (s ∷ ss) (x ∷ xs) far all =
-      part_of-append (by w k) x.own (owns_of xs)
-      ∙ ap (λ (es : List Entry). es ++ part_of (by w k) (owns_of xs)) (none_mine w c k x.own (λ same. absurd (omega (arith, same, far))) all.0.mine)
-      ∙ later_none h own (c + 1) k ss xs (omega (arith, far)) all.1
-
   parts_from : (es h own : List Entry) (c : ℕ) (ss : List (Served L)) (xs : List (Tale L)) → AreServed traffic (service np first legal now) w h own c ss xs
       → ((k : ℕ) → c ≤ k → part_of (by w k) es ≡ part_of (by w k) (owns_of xs)) → AreOwnParts es w c xs
   parts_from es h own c [] [] all same = tt
@@ -31,7 +22,7 @@ module _ {L : Type 0} (traffic : L → Traffic) (np : NamedPolicy) (first : List
   parts_from es h own c (s ∷ ss) (x ∷ xs) all same = (
     same c (omega arith) ∙ part_of-append (by w c) x.own (owns_of xs)
         ∙ ap (λ (l : List Entry). l ++ part_of (by w c) (owns_of xs)) (all_mine (by w c) x.own all.0.mine)
-        ∙ ap (λ (l : List Entry). x.own ++ l) (later_none h own (c + 1) c ss xs (omega arith) all.1) ∙ append-nil x.own,
+        ∙ ap (λ (l : List Entry). x.own ++ l) (others_none traffic np first legal now w h own (c + 1) c ss xs (λ j low high same. absurd (omega (arith, low, same))) all.1) ∙ append-nil x.own,
     parts_from es h own (c + 1) ss xs all.1 (λ k far. same k (omega (arith, far)) ∙ part_of-append (by w k) x.own (owns_of xs)
         ∙ ap (λ (l : List Entry). l ++ part_of (by w k) (owns_of xs)) (none_mine w c k x.own (λ e. absurd (omega (arith, e, far))) all.0.mine)),
   )

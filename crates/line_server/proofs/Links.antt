@@ -1,5 +1,5 @@
 -- A link behind those that were served.
-use Rattle.std.proofs.Common.{◌≡◌, ℕ, ◌+◌, ◌*◌, ◌^◌, ◌≤◌, true, false, List, [], ◌∷◌, ◌++◌, length, refl, sym, ap, subst, ◌∙◌, arith, append-nil, append_assoc, length-append, Option, Some, None, MatchOption}
+use Rattle.std.proofs.Common.{◌≡◌, ◌≢◌, ℕ, ◌+◌, ◌*◌, ◌^◌, ◌≤◌, ◌<◌, true, false, List, [], ◌∷◌, ◌++◌, length, refl, sym, ap, subst, ◌∙◌, arith, append-nil, append_assoc, length-append, Option, Some, None, MatchOption}
 use mathlib.Core.List.{IsPrefix}
 use Rattle.gt_base.specs.declared.requests.Entry.{Entry}
 use Rattle.gt_io.specs.Links.{Traffic, Tally, Doorway, IsFresh, GivesFirst, Reads}
@@ -68,14 +68,15 @@ module _ {L : Type 0} where
     served_push h own c k (t ∷ ts) [] s x at all one = absurd all
     served_push h own c k (t ∷ ts) (y ∷ ys) s x at all one = (all.0, served_push h own (c + 1) k ts ys s x (omega (arith, at)) all.1 one)
 
-    others_none : (h own : List Entry) (c k : ℕ) (ss : List (Served L)) (xs : List (Tale L)) → c + length ss ≤ k → Are h own c ss xs → part_of (by number k) (owns_of xs) ≡ []
-    others_none h own c k [] [] far all = refl
-    others_none h own c k [] (x ∷ xs) far all = absurd all
-    others_none h own c k (s ∷ ss) [] far all = absurd all
-    others_none h own c k (s ∷ ss) (x ∷ xs) far all =
+    -- a connection that is none of these links has no entry among theirs
+    pub others_none : (h own : List Entry) (c k : ℕ) (ss : List (Served L)) (xs : List (Tale L)) → ((j : ℕ) → c ≤ j → j < c + length ss → j ≢ k) → Are h own c ss xs → part_of (by number k) (owns_of xs) ≡ []
+    others_none h own c k [] [] others all = refl
+    others_none h own c k [] (x ∷ xs) others all = absurd all
+    others_none h own c k (s ∷ ss) [] others all = absurd all
+    others_none h own c k (s ∷ ss) (x ∷ xs) others all =
         part_of-append (by number k) x.own (owns_of xs)
-        ∙ ap (λ (es : List Entry). es ++ part_of (by number k) (owns_of xs)) (none_mine number c k x.own (λ same. absurd (omega (arith, same, far))) all.0.mine)
-        ∙ others_none h own (c + 1) k ss xs (omega (arith, far)) all.1
+        ∙ ap (λ (es : List Entry). es ++ part_of (by number k) (owns_of xs)) (none_mine number c k x.own (others c (omega arith) (omega arith)) all.0.mine)
+        ∙ others_none h own (c + 1) k ss xs (λ j low high. others j (omega (arith, low)) (omega (arith, high))) all.1
 
 module _ {M L : Type 0} (traffic : L → Traffic) (np : NamedPolicy) (first : List Entry) (legal : List Entry → Type 0) (now : List Entry → ℕ) (number : ℕ) where
   -- one more link was served
@@ -85,7 +86,7 @@ module _ {M L : Type 0} (traffic : L → Traffic) (np : NamedPolicy) (first : Li
   link_done o p p' served tales s begun conn calls calls' w v at door fresh =
       let x : Tale L = record { begun = begun; taken = v.taken; given = v.given; readings = v.readings; own = v.own; acted = v.acted; draws = p'.pass.draws } in
       let own_is : p.pass.own ≡ o.pass.own ++ owns_of tales = ap (λ (q : Holder M). q.own) w.grows.after_is in
-      let none = others_none traffic np first legal now number p.pass.seen o.pass.own 1 conn served tales (omega (arith, at)) w.links in
+      let none = others_none traffic np first legal now number p.pass.seen o.pass.own 1 conn served tales (λ j low high same. absurd (omega (arith, at, high, same))) w.links in
       let same : placed (by number conn) first p.pass.own ≡ placed (by number conn) first o.pass.own =
       ap (placed (by number conn) first) own_is ∙ ap (λ (es : List Entry). length (part_of (by number conn) first) + length es) (part_of-append (by number conn) o.pass.own (owns_of tales) ∙ ap (λ (es : List Entry). part_of (by number conn) o.pass.own ++ es) none ∙ append-nil (part_of (by number conn) o.pass.own)) in
       let one : IsServed traffic (service np first legal now) number p'.pass.seen o.pass.own conn s x =
@@ -136,20 +137,20 @@ module _ {M L : Type 0} (traffic : L → Traffic) (np : NamedPolicy) (first : Li
       (record { links = tt; grows = grown_none o.pass; reads = Reads-nil o.clock; door = gives_none o.door.links })
 
   -- the next link, told from the begin of the work
+  pub goes_on : (number number' : ℕ) (o p p' : WorkerSpot M L) (items items' served : List (Served L)) (tales : List (Tale L)) (result : Option WorkEnd) → number' ≡ number → items' ≡ items
+      → Worked traffic (service np first legal now) number o p items tales → AllUnworn items → WorksOn traffic (service np first legal now) number' p p' items' served result
+      → (tales' : List (Tale L)) × Worked traffic (service np first legal now) number o p' served tales'
+      × MatchOption result (AllUnworn served × (p'.door.tally ≡ p.door.tally)) (λ end. WorksTo p'.door.links p.door.tally p'.door.tally p'.pass.draws served end)
+  goes_on number number' o p p' items items' served tales result same kept w u on =
+      let on' = subst (λ (n : ℕ). WorksOn traffic (service np first legal now) n p p' items' served result) same on in
+      on' o tales (subst (λ (ss : List (Served L)). Worked traffic (service np first legal now) number o p ss tales) (sym kept) w) (subst (λ (ss : List (Served L)). AllUnworn ss) (sym kept) u)
+
   pub next_done : (number number' : ℕ) (o p p' : WorkerSpot M L) (items items' served : List (Served L)) (tales : List (Tale L)) (end : WorkEnd) → number' ≡ number → items' ≡ items → p.door.tally ≡ o.door.tally
       → Worked traffic (service np first legal now) number o p items tales → AllUnworn items → WorksOn traffic (service np first legal now) number' p p' items' served (Some end)
       → Works traffic (service np first legal now) number o p' served end
   next_done number number' o p p' items items' served tales end same kept low w u on =
-      let on' = subst (λ (n : ℕ). WorksOn traffic (service np first legal now) n p p' items' served (Some end)) same on in
-      let d = on' o tales (subst (λ (ss : List (Served L)). Worked traffic (service np first legal now) number o p ss tales) (sym kept) w) (subst (λ (ss : List (Served L)). AllUnworn ss) (sym kept) u) in
+      let d = goes_on number number' o p p' items items' served tales (Some end) same kept w u on in
       record { tales = d.0; worked = d.1; cause = subst (λ (t : Tally). WorksTo p'.door.links t p'.door.tally p'.pass.draws served end) low d.2 }
-
-  pub goes_on : (number number' : ℕ) (o p p' : WorkerSpot M L) (items items' served : List (Served L)) (tales : List (Tale L)) → number' ≡ number → items' ≡ items
-      → Worked traffic (service np first legal now) number o p items tales → AllUnworn items → WorksOn traffic (service np first legal now) number' p p' items' served None
-      → (tales' : List (Tale L)) × Worked traffic (service np first legal now) number o p' served tales' × (AllUnworn served × (p'.door.tally ≡ p.door.tally))
-  goes_on number number' o p p' items items' served tales same kept w u on =
-      let on' = subst (λ (n : ℕ). WorksOn traffic (service np first legal now) n p p' items' served None) same on in
-      on' o tales (subst (λ (ss : List (Served L)). Worked traffic (service np first legal now) number o p ss tales) (sym kept) w) (subst (λ (ss : List (Served L)). AllUnworn ss) (sym kept) u)
 
 module _ {M L : Type 0} (traffic : L → Traffic) (v : Service) (number : ℕ) (o p : WorkerSpot M L) where
   -- the links stand while the door rests

@@ -1,13 +1,17 @@
 -- What a worker keeps from link to link.
-use Rattle.std.specs.Prelude.{◌≡◌, ℕ, ◌+◌, ◌*◌, ◌^◌, ◌<◌, true, false, List, [], ◌∷◌, ◌++◌, length, drop, IfSome, MatchOption}
+use Rattle.std.specs.Prelude.{◌≡◌, ℕ, ◌+◌, ◌*◌, ◌^◌, ◌<◌, ◌≤◌, true, false, List, [], ◌∷◌, ◌++◌, length, drop, IfSome, MatchOption}
 use Rattle.std.specs.declared.option.Option.{Option}
+use Rattle.gt_base.specs.declared.requests.Actor.{Actor}
+use Rattle.gt_base.specs.declared.requests.Request.{Request}
 use Rattle.gt_base.specs.declared.requests.Entry.{Entry}
+use Rattle.gt_base.specs.Roomy.{Roomy}
 use Rattle.gt_base.specs.declared.limits.TheConstants.{MAX_LINKS}
 use Rattle.gt_io.specs.Memory.{one_more}
 use Rattle.gt_io.specs.Links.{Traffic, Tally, Doorway, IsFresh, Reads}
 use Rattle.turn_lock.specs.Turns.{Each, part}
-use Rattle.turn_lock.specs.Holders.{Site, Holder, IsToldBy}
+use Rattle.turn_lock.specs.Holders.{Site, Lock, Holder, IsToldBy}
 use Rattle.locked_history.specs.Fronts.{by}
+use Rattle.policy_words.specs.Naming.{NamedPolicy}
 use Rattle.connection_laws.specs.declared.ends.LinkEnd.TheVariants.{Worn as LinkWorn}
 use Rattle.connection_laws.specs.Doors.{Gives}
 use Rattle.connection_laws.specs.Lines.{Acted, asked_in, denied_in}
@@ -18,7 +22,7 @@ use Rattle.line_server.specs.declared.ended.WorkEnd.{WorkEnd}
 use Rattle.line_server.specs.declared.ended.WorkEnd.TheVariants.{Fresh, Done, DoorFault, Enough, Worn, Memory}
 use Rattle.line_server.specs.declared.posts.Post.{Post}
 use Rattle.line_server.specs.declared.workers.Worker.{Worker}
-use Rattle.connection_laws.specs.Turns.{IsIdle, Grows, AreMine}
+use Rattle.connection_laws.specs.Turns.{IsIdle, CanAsk, Grows, AreMine}
 use Rattle.connection_laws.specs.Attending.{bytes_of, Carries, EndsBy, is_worn_out}
 use Rattle.connection_laws.specs.Clerks.{WearsAt}
 
@@ -57,6 +61,15 @@ pub record WorkerSpot (M L : Type 0) : Type 0 where
 
 abbrev pub spot : {M L : Type 0} → Holder M → Option (ℕ → ℕ) → Doorway L → WorkerSpot M L
 spot pass clock door = record { pass = pass; clock = clock; door = door }
+
+-- one more link can be served: there is room for it, and its request lines can be counted
+pub record CanServeNext {M L : Type 0} (IsNamed : M → Actor → Request → Type 0)
+    (legal : M → List Entry → Type 0) (desk : Lock M) (np : NamedPolicy) (pass : Holder M)
+    (served : Roomy (Served L)) (calls : ℕ) : Type 0 where
+  pub asks : CanAsk IsNamed legal desk np pass
+  pub room : 1 ≤ served.spare
+  pub few : length served.items < MAX_LINKS
+  pub count : calls < 2 ^ 63
 
 -- a worker at its post, its served links, and how it ended
 pub record PostView (M L : Type 0) : Type 0 where

@@ -9,7 +9,7 @@ pub struct Served<L> {
 }
 
 /// Why a worker ended.
-#[derive(Clone, Copy, PartialEq, Eq, Debug)]
+#[derive(Clone, Copy)]
 pub enum WorkEnd {
     /// It has not begun.
     Fresh,

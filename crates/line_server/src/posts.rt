@@ -2,7 +2,7 @@
 ghost use Rattle.std.specs.Prelude.{◌≡◌, ◌<◌, ℕ, [], length, All, slice_index_or};
 ghost use Rattle.turn_lock.specs.Holders.{site_of};
 ghost use Rattle.connection_laws.specs.Services.{service_at};
-ghost use Rattle.connection_laws.specs.Turns.{IsIdle};
+ghost use Rattle.connection_laws.specs.Turns.{IsIdle, CanAsk};
 ghost use Rattle.connection_laws.specs.Desks.{MayBeAsked, RepliesCanBeTold};
 ghost use Rattle.line_server.specs.Working.{at_post, HasWorked};
 
@@ -32,9 +32,7 @@ pub fn work_at<M: Machine, R: Wait, D: Door, C: Clock, G: Gate>(
     policy: &Policy,
     post: &mut Post<M, D, C, G>,
 )
-    requires idle { IsIdle (site_of desk.now) post.old.pass }
-    requires named { MayBeAsked policy.now (M.named desk.now.root) }
-    requires replies { RepliesCanBeTold policy.now (M.legal desk.now.root) }
+    requires ready { CanAsk M.named M.legal desk.now policy.now post.old.pass }
     requires fresh { (post.old.worker.outcome ≡ WorkEnd.Fresh)
         × (post.old.worker.served.items ≡ []) }
     ensures { HasWorked D.L.traffic (service_at M.list M.legal M.now_of desk.now policy.now)
@@ -42,36 +40,6 @@ pub fn work_at<M: Machine, R: Wait, D: Door, C: Clock, G: Gate>(
         (at_post C.readings D.doorway post.new) }
 {
     work(rt, alloc, desk, policy, &mut post.pass, &mut post.worker);
-}
-
-/// Works at all posts at the same time.
-fn work_at_all<
-    R: Threads + Wait + Sync,
-    M: Machine + Send,
-    D: Door + Send,
-    C: Clock + Send,
-    G: Gate + Send,
->(rt: &R, alloc: Global, desk: &Desk<M>, policy: &Policy, posts: &mut [Post<M, D, C, G>])
-where
-    D::L: Send,
-    requires idle { All
-        (λ p. IsIdle (site_of desk.now) p.pass × (p.worker.outcome ≡ WorkEnd.Fresh)
-        × (p.worker.served.items ≡ []))
-        posts.old }
-    requires named { MayBeAsked policy.now (M.named desk.now.root) }
-    requires replies { RepliesCanBeTold policy.now (M.legal desk.now.root) }
-    ensures { (i : ℕ) (d : _) → i < length posts.old
-        → HasWorked D.L.traffic (service_at M.list M.legal M.now_of desk.now policy.now)
-        (site_of desk.now)
-        (at_post C.readings D.doorway (slice_index_or posts.old i d))
-        (at_post C.readings D.doorway (slice_index_or posts.new i d)) }
-{
-    thread::for_each_mut(
-        rt,
-        posts,
-        8,
-        &|_, post| { work_at(rt, alloc, desk, policy, post) },
-    );
 }
 
 /// Works at all posts at the same time. What `work` tells holds of the post at each place.
@@ -97,5 +65,10 @@ where
         (at_post C.readings D.doorway (slice_index_or posts.old.items i d))
         (at_post C.readings D.doorway (slice_index_or posts.new.items i d)) }
 {
-    work_at_all(rt, alloc, desk, policy, posts.as_mut_slice());
+    thread::for_each_mut(
+        rt,
+        posts.as_mut_slice(),
+        8,
+        &|_, post| { work_at(rt, alloc, desk, policy, post) },
+    );
 }

@@ -1,13 +1,11 @@
 //! A link, from its first byte to its end.
 ghost use Rattle.std.specs.Prelude.{◌≡◌, ◌+◌, ◌<◌, ◌≤◌, ◌^◌, true, false, None};
 ghost use Rattle.gt_base.specs.declared.limits.TheConstants.{MAX_BYTES};
-ghost use Rattle.gt_io.specs.Frames.{blank_frame};
 ghost use Rattle.turn_lock.specs.Holders.{site_of};
 ghost use Rattle.locked_history.specs.Fronts.{by};
-ghost use Rattle.connection_laws.specs.Desks.{MayBeAsked, RepliesCanBeTold};
 ghost use Rattle.connection_laws.specs.Services.{service_at};
-ghost use Rattle.connection_laws.specs.Turns.{IsIdle, IsRested};
-ghost use Rattle.connection_laws.specs.Attending.{IsStart, spot, Attends};
+ghost use Rattle.connection_laws.specs.Turns.{CanAsk, StaysIdle, IsRested};
+ghost use Rattle.connection_laws.specs.Attending.{IsUnheard, spot, Attends};
 ghost use Rattle.connection_laws.specs.Clerks.{clerk_view, WearsClerk, ClerkAsks};
 ghost use Rattle.line_server.specs.Serving.{link_view, Serves};
 
@@ -29,13 +27,9 @@ fn attend_at<M: Machine, R: Wait, L: Link, C: Clock, G: Gate>(
     link: &mut L,
     hearing: &mut Hearing,
 ) -> LinkEnd
-    requires idle { IsIdle (site_of server.now.desk.now) pass.old }
-    requires named { MayBeAsked server.now.policy.now (M.named server.now.desk.now.root) }
-    requires replies { RepliesCanBeTold server.now.policy.now (M.legal server.now.desk.now.root) }
+    requires ready { CanAsk M.named M.legal server.now.desk.now server.now.policy.now pass.old }
     requires reached { reached.old ≡ None }
-    requires start { IsStart hearing.old.talk }
-    requires frame { hearing.old.framer ≡ blank_frame }
-    requires open { (L.traffic link.old).finished ≡ false }
+    requires unheard { IsUnheard hearing.old (L.traffic link.old) }
     ensures attends { Attends server.now.policy.now
         (ClerkAsks
         (service_at M.list M.legal M.now_of server.now.desk.now server.now.policy.now)
@@ -44,8 +38,7 @@ fn attend_at<M: Machine, R: Wait, L: Link, C: Clock, G: Gate>(
         (L.traffic link.old).given)
         (spot (clerk_view pass.new (C.readings clock.new)) hearing.new.talk
         (L.traffic link.new).given) (L.traffic link.old) (L.traffic link.new) result }
-    ensures pass { IsIdle (site_of server.now.desk.now) pass.new
-        × (pass.new.number ≡ pass.old.number) }
+    ensures pass { StaysIdle (site_of server.now.desk.now) pass.old pass.new }
     ensures calls { hearing.new.talk.calls ≤ hearing.old.talk.calls + MAX_BYTES }
     ensures finished { (L.traffic link.new).finished ≡ true }
     ensures rests { IsRested pass.old → IsRested pass.new }
@@ -77,16 +70,14 @@ pub fn serve_link<M: Machine, R: Wait, L: Link, C: Clock, G: Gate>(
     gate: &G,
     calls: &mut u64,
 ) -> Report
-    requires idle { IsIdle (site_of desk.now) pass.old }
-    requires named { MayBeAsked policy.now (M.named desk.now.root) }
-    requires replies { RepliesCanBeTold policy.now (M.legal desk.now.root) }
+    requires ready { CanAsk M.named M.legal desk.now policy.now pass.old }
     requires calls { calls.old < 2 ^ 63 }
     requires open { (L.traffic link.old).finished ≡ false }
     ensures serves { Serves (service_at M.list M.legal M.now_of desk.now policy.now)
         (by pass.old.number conn)
         (link_view pass.old calls.old (C.readings clock.old) (L.traffic link.old))
         (link_view pass.new calls.new (C.readings clock.new) (L.traffic link.new)) result }
-    ensures pass { IsIdle (site_of desk.now) pass.new × (pass.new.number ≡ pass.old.number) }
+    ensures pass { StaysIdle (site_of desk.now) pass.old pass.new }
     ensures few { calls.new ≤ calls.old + MAX_BYTES }
     ensures rests { IsRested pass.old → IsRested pass.new }
 {

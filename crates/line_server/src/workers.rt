@@ -1,12 +1,11 @@
 //! The links of a door, one after the other.
-ghost use Rattle.std.specs.Prelude.{◌≡◌, ◌+◌, ◌<◌, ◌≤◌, ◌^◌, ℕ, false, [], length, None, MatchOption};
+ghost use Rattle.std.specs.Prelude.{◌≡◌, ◌+◌, ◌<◌, ◌≤◌, ℕ, false, [], length, None, MatchOption};
 ghost use Rattle.gt_base.specs.declared.limits.TheConstants.{MAX_BYTES};
 ghost use Rattle.turn_lock.specs.Holders.{site_of};
 ghost use Rattle.connection_laws.specs.Services.{service_at};
-ghost use Rattle.connection_laws.specs.Turns.{IsIdle};
-ghost use Rattle.connection_laws.specs.Desks.{MayBeAsked, RepliesCanBeTold};
+ghost use Rattle.connection_laws.specs.Turns.{CanAsk, StaysIdle};
 ghost use Rattle.connection_laws.specs.Attending.{is_worn_out};
-ghost use Rattle.line_server.specs.Working.{spot, post_view, WorksOn, Works, HasWorked};
+ghost use Rattle.line_server.specs.Working.{spot, CanServeNext, post_view, WorksOn, Works, HasWorked};
 
 use crate::ended::{Served, WorkEnd};
 use crate::serve::serve_link;
@@ -49,18 +48,14 @@ fn serve_next<M: Machine, R: Wait, D: Door, C: Clock, G: Gate>(
     w: &mut Worker<D, C, G>,
     calls: &mut u64,
 ) -> Option<WorkEnd>
-    requires idle { IsIdle (site_of desk.now) pass.old }
-    requires named { MayBeAsked policy.now (M.named desk.now.root) }
-    requires replies { RepliesCanBeTold policy.now (M.legal desk.now.root) }
-    requires calls { calls.old < 2 ^ 63 }
-    requires room { 1 ≤ w.old.served.spare }
-    requires few { length w.old.served.items < MAX_LINKS }
+    requires can { CanServeNext M.named M.legal desk.now policy.now pass.old w.old.served
+        calls.old }
     ensures works { WorksOn D.L.traffic (service_at M.list M.legal M.now_of desk.now policy.now)
         pass.old.number
         (spot pass.old (C.readings w.old.clock) (D.doorway w.old.door))
         (spot pass.new (C.readings w.new.clock) (D.doorway w.new.door))
         w.old.served.items w.new.served.items result }
-    ensures pass { IsIdle (site_of desk.now) pass.new × (pass.new.number ≡ pass.old.number) }
+    ensures pass { StaysIdle (site_of desk.now) pass.old pass.new }
     ensures calls { calls.new ≤ calls.old + MAX_BYTES }
     ensures one { result ≡ None → length w.new.served.items ≡ length w.old.served.items + 1 }
 {
@@ -96,16 +91,14 @@ fn work_on<M: Machine, R: Wait, D: Door, C: Clock, G: Gate>(
     pass: &mut Pass<M>,
     w: &mut Worker<D, C, G>,
 ) -> WorkEnd
-    requires idle { IsIdle (site_of desk.now) pass.old }
-    requires named { MayBeAsked policy.now (M.named desk.now.root) }
-    requires replies { RepliesCanBeTold policy.now (M.legal desk.now.root) }
+    requires ready { CanAsk M.named M.legal desk.now policy.now pass.old }
     requires empty { w.old.served.items ≡ [] }
     ensures works { Works D.L.traffic (service_at M.list M.legal M.now_of desk.now policy.now)
         pass.old.number
         (spot pass.old (C.readings w.old.clock) (D.doorway w.old.door))
         (spot pass.new (C.readings w.new.clock) (D.doorway w.new.door))
         w.new.served.items result }
-    ensures pass { IsIdle (site_of desk.now) pass.new × (pass.new.number ≡ pass.old.number) }
+    ensures pass { StaysIdle (site_of desk.now) pass.old pass.new }
 {
     let mut calls = 0;
     while w.served.len() < MAX_LINKS {
@@ -130,9 +123,7 @@ pub fn work<M: Machine, R: Wait, D: Door, C: Clock, G: Gate>(
     pass: &mut Pass<M>,
     w: &mut Worker<D, C, G>,
 )
-    requires idle { IsIdle (site_of desk.now) pass.old }
-    requires named { MayBeAsked policy.now (M.named desk.now.root) }
-    requires replies { RepliesCanBeTold policy.now (M.legal desk.now.root) }
+    requires ready { CanAsk M.named M.legal desk.now policy.now pass.old }
     requires fresh { (w.old.outcome ≡ WorkEnd.Fresh) × (w.old.served.items ≡ []) }
     ensures { HasWorked D.L.traffic (service_at M.list M.legal M.now_of desk.now policy.now)
         (site_of desk.now) (post_view C.readings D.doorway pass.old w.old)

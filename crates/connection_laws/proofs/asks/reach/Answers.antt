@@ -3,13 +3,12 @@ use Rattle.gt_base.specs.Machines.{ticked}
 use Rattle.turn_lock.specs.Holders.{Holder}
 use Rattle.locked_history.specs.Fronts.{by}
 use Rattle.locked_history.specs.declared.faults.DeskFault.TheVariants.{StepsFull, Worn}
-use Rattle.connection_laws.proofs.Growing.{grown_none, ticks_refused, ticks_idle, ticks_more, each_more, with_room, reaches}
+use Rattle.connection_laws.proofs.Growing.{grown_none, grown_landed, grown_refused, grown_still, grown_within, ticks_more, each_more, reaches}
 use Rattle.connection_laws.proofs.asks.reach.Goals as goal
 
 -- the pass has seen that now is the reading or behind it
 pub returns-then-minute : goal.returns-then-minute
 returns-then-minute g c =
-    let p = grown_none c.args.pass.now in
     let known = rw c.in-Some.is at c.requires.reached in
     let late = known.1 in
     let early = c.if-minute.true in
@@ -18,7 +17,7 @@ returns-then-minute g c =
     record {
       ticks = [];
       each = tt;
-      grows = record { seen = p.seen; after_is = p.after_is; draws_low = p.draws_low; draws_high = let x = p.draws_high in omega (arith, x) };
+      grows = grown_within c.args.pass.now c.args.pass.now [] 0 1 (omega arith) (grown_none c.args.pass.now);
       reached = (known.0, omega (arith, late, early, asked, told));
       full = λ is. absurd cc;
       worn_out = λ n is. absurd cc;
@@ -56,7 +55,7 @@ returns-in-Err g c =
     record {
       ticks = i.ticks;
       each = i.each;
-      grows = ticks_refused c.args.pass.now c.loop.pass c.tick.new.pass i.ticks i.grows t.refused;
+      grows = grown_still c.args.pass.now c.loop.pass c.tick.new.pass i.ticks 0 1 i.grows (grown_refused c.loop.pass c.tick.new.pass t.refused);
       reached = tt;
       full = λ is. let e : c.in-Err.fault ≡ StepsFull = cc in let f = t.full (ap Err e) in let n = f.0 in omega (arith, n);
       worn_out = λ n is. let e : c.in-Err.fault ≡ Worn n = cc in let w = t.worn n (ap Err e) in (w.0, ap (λ (p : Holder g.row.M.Denot). p.draws) w.2 ∙ w.1);
@@ -80,10 +79,10 @@ returns-then-minute-2 g c =
     let late : c.args.reading ≤ now = omega (arith, early, told, asked) in
     elim c.in-Ok.ensures.ok [
       | inl l ↦
-          reaches first (g.M.Machine.legal root) (g.M.Machine.now_of root) (by a.number c.args.server.now.conn) c.args.reading a d i.ticks front now i.each (ticks_idle first a b d i.ticks front i.grows l.1)
+          reaches first (g.M.Machine.legal root) (g.M.Machine.now_of root) (by a.number c.args.server.now.conn) c.args.reading a d i.ticks front now i.each (grown_still a b d i.ticks 0 1 i.grows (grown_landed first b d front [] 1 (omega arith) l.1))
           (ap (λ (p : Holder g.row.M.Denot). p.seen) l.1.after_is) legal.0 late legal.2
       | inr l ↦
           reaches first (g.M.Machine.legal root) (g.M.Machine.now_of root) (by a.number c.args.server.now.conn) c.args.reading a d (i.ticks ++ e ∷ []) front now
-          (each_more a b c.args.server.now.conn c.args.reading now i.ticks i.grows i.each) (with_room a d (i.ticks ++ e ∷ []) (ticks_more first a b d i.ticks front e i.grows l))
+          (each_more a b c.args.server.now.conn c.args.reading now i.ticks i.grows i.each) (grown_within a d (i.ticks ++ e ∷ []) 0 1 (omega arith) (ticks_more first a b d i.ticks front e i.grows l))
           (ap (λ (p : Holder g.row.M.Denot). p.seen) l.after_is) legal.0 late legal.2
     ]

@@ -12,7 +12,7 @@ pub loop-left-init : goal.loop-left-init
 loop-left-init g c =
     let v = g.A.Answerer in
     let t = g.L.Link.traffic c.args.link.now in
-    let s = begins (v.named c.args.answerer.now) v.asks v.wears (v.rested c.args.answerer.now) c.args.hearing.now.talk t.given c.args.hearing.now.framer c.requires.start c.requires.frame in
+    let s = begins (v.named c.args.answerer.now) v.asks v.wears (v.rested c.args.answerer.now) c.args.hearing.now.talk t.given c.args.hearing.now.framer c.requires.unheard.start c.requires.unheard.frame in
     record {
       fed = [];
       acted = [];
@@ -38,7 +38,7 @@ loop-left-preserved g c =
     let t = g.L.Link in
     let inv = c.loop-left.invariant in
     let r = c.in-Ok.ensures in
-    let after = c.take_bytes.ensures in
+    let after = c.take_bytes.ensures.stays in
     let buf = c.read_some.new.buf in
     let n = c.in-Ok.n in
     let chunk : List ℕ = take n buf in
@@ -70,10 +70,10 @@ loop-left-preserved g c =
       actor = subst (λ (j : NamedPolicy). IsNamedActor j c.take_bytes.new.hearing.talk.actor) inv.named after.actor;
       counts = (omega (arith, up, up', both), omega (arith, up, up', both), omega (arith, up, up', both));
       reads = after.reads.read_faults_are ∙ r.cause.kept ∙ inv.reads;
-      writes = c.in_default-take_bytes.ensures.faults ∙ r.writes.write_faults_are ∙ inv.writes;
+      writes = c.in_default-take_bytes.ensures.stays.faults ∙ r.writes.write_faults_are ∙ inv.writes;
       ends = after.reads.ends_are ∙ r.ends.1 c.if-n-eq0.false ∙ inv.ends;
       held = after.held ∙ c.read_some.ensures.held ∙ inv.held;
-      rests = λ is. after.rests;
+      rests = λ is. c.take_bytes.ensures.rests;
     }
 
 pub returns-in-Err-clause-attends : goal.returns-in-Err-clause-attends
@@ -83,7 +83,7 @@ returns-in-Err-clause-attends g c =
     let t = g.L.Link in
     let inv = c.loop-left.invariant in
     let r = c.in-Ok.ensures in
-    let after = c.take_bytes.ensures in
+    let after = c.take_bytes.ensures.stays in
     let buf = c.read_some.new.buf in
     let n = c.in-Ok.n in
     let chunk : List ℕ = take n buf in

@@ -18,6 +18,6 @@ returns-in-Err-clause-goes g c =
     let byte_goes = subst (λ (n : NamedPolicy). TakesBytes n v.asks v.wears mid after c.loop-byte.hearing.framer c.take_byte.new.hearing.framer (get_or piece i 0 ∷ [])
     (t.traffic c.loop-byte.link).write_faults (t.traffic c.take_byte.new.link).write_faults {T = Unit {0}} (Err c.in-Err.end)) inv.named c.in-Err.ensures.goes in
     subst (λ (k : g.row.A.Denot). TakesBytes np v.asks v.wears before (spot k c.take_byte.new.hearing.talk (t.traffic c.take_byte.new.link).given) c.args.hearing.now.framer c.take_byte.new.hearing.framer piece
-    (t.traffic c.args.link.now).write_faults (t.traffic c.take_byte.new.link).write_faults {T = Unit {0}} (Err c.in-Err.end)) (sym c.end_piece.ensures.same) (cut_behind np v.asks v.wears before mid after c.args.hearing.now.framer c.loop-byte.hearing.framer c.take_byte.new.hearing.framer
+    (t.traffic c.args.link.now).write_faults (t.traffic c.take_byte.new.link).write_faults {T = Unit {0}} (Err c.in-Err.end)) (sym c.end_piece.ensures.paced.same) (cut_behind np v.asks v.wears before mid after c.args.hearing.now.framer c.loop-byte.hearing.framer c.take_byte.new.hearing.framer
     (take i piece) (get_or piece i 0 ∷ []) piece (t.traffic c.args.link.now).write_faults (t.traffic c.loop-byte.link).write_faults (t.traffic c.take_byte.new.link).write_faults
     (Unit {0}) c.in-Err.end (next_within piece i c.loop-byte-test.true) inv.faults inv.goes byte_goes)

@@ -33,7 +33,7 @@ returns-clause-pass g c =
     let clerk = c.attend.new.answerer in
     let same = (lent_attends g.M.Keeps.list m.legal m.now_of k.readings s.policy.now _ (rested_clerk clerk) c.args.hearing.now.talk c.attend.new.hearing.talk (t.traffic c.args.link.now).given (t.traffic c.attend.new.link).given (t.traffic c.args.link.now) (t.traffic c.attend.new.link) c.attend.result c.attend.ensures.attends).0 in
     subst (λ (p : Holder g.row.M.Denot). IsIdle (site_of s.desk.now) p × (p.number ≡ c.args.pass.now.number)) pass_is
-    (subst (λ v. IsIdle (site_of v.now.desk.now) clerk.pass.now) same.0 c.attend.ensures.ready.0, same.1)
+    (subst (λ v. IsIdle (site_of v.now.desk.now) clerk.pass.now) same.0 c.attend.ensures.ready.asks.idle, same.1)
 
 pub returns-clause-rests : goal.returns-clause-rests
 returns-clause-rests g c =

@@ -1,4 +1,4 @@
-use Rattle.std.proofs.Common.{◌<◌, List, [], length, sym, ap, subst, ◌∙◌, refl, arith}
+use Rattle.std.proofs.Common.{None, ◌<◌, List, [], length, sym, ap, subst, ◌∙◌, refl, arith}
 use Rattle.gt_base.specs.declared.limits.TheConstants.{MAX_LINKS}
 use Rattle.line_server.specs.declared.ended.Served.{Served}
 use Rattle.line_server.specs.declared.ended.WorkEnd.TheVariants.{Memory}
@@ -19,7 +19,7 @@ loop-alloc-init g c =
       tales = [];
       worked = no_links g.D.L.Link.traffic c.args.policy.now (g.M.Keeps.list root) (m.legal root) (m.now_of root) c.args.pass.now.number o c.args.w.now.served.items empty;
       unworn = subst (λ (ss : List (Served g.row.D-L.Denot)). AllUnworn ss) (sym empty) tt;
-      idle = c.requires.idle;
+      idle = c.requires.ready.idle;
       number = refl;
       calls = omega arith;
       few = omega (arith, none);
@@ -57,7 +57,7 @@ loop-alloc-preserved g c =
     let worked = at_rest traffic v c.args.pass.now.number o p (d.doorway c.loop-alloc.w.door) c.loop-alloc.w.served.items inv.tales c.make_room.ensures.door inv.worked in
     let p' : WorkerSpot g.row.M.Denot g.row.D-L.Denot = record { pass = c.serve_next.new.pass; clock = k.readings c.serve_next.new.w.clock; door = d.doorway c.serve_next.new.w.door } in
     let y = goes_on g.D.L.Link.traffic c.args.policy.now (g.M.Keeps.list root) (m.legal root) (m.now_of root) c.args.pass.now.number c.loop-alloc.pass.number o p p'
-    c.loop-alloc.w.served.items c.make_room.new.list.items c.serve_next.new.w.served.items inv.tales
+    c.loop-alloc.w.served.items c.make_room.new.list.items c.serve_next.new.w.served.items inv.tales None
     inv.number c.make_room.ensures.items worked inv.unworn c.in_default.ensures.works in
     let one = c.in_default.ensures.one refl in
     let kept = ap (λ (ss : List (Served g.row.D-L.Denot)). length ss) c.make_room.ensures.items in
