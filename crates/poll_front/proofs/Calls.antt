@@ -13,9 +13,9 @@ use Rattle.gt_io.specs.Causes.{FailsOnce}
 use Rattle.gt_io.specs.Memory.{one_more}
 use Rattle.gt_io.specs.Ports.{Port, Harbour, KeepsRest, ReadsPort, WritesPort, is_over, ends_by, got_bytes}
 use Rattle.poll_front.specs.declared.ends.PollEnd.{PollEnd}
-use Rattle.poll_front.specs.declared.parties.Party.{Party}
-use Rattle.poll_front.specs.declared.parties.Pause.{Pause}
-use Rattle.poll_front.specs.declared.parties.Pause.TheVariants.{Later, End}
+use Rattle.poll_front.specs.declared.states.LinkState.{LinkState}
+use Rattle.poll_front.specs.declared.states.Yield.{Yield}
+use Rattle.poll_front.specs.declared.states.Yield.TheVariants.{Later, End}
 use Rattle.poll_front.specs.Fronts.{IsLive, CallsOn, faults_by, faults_of, ended_by, ended_of, waiting_bytes, Pushed, Filled, FillsUp}
 
 pub rest_twice : {a b d : Harbour} {c : ℕ} → KeepsRest a b c → KeepsRest b d c → KeepsRest a d c
@@ -56,7 +56,7 @@ pub calls_end : {a b : Harbour} {c : ℕ} (e : PollEnd) → CallsOn a b c (Ok tt
 calls_end e x =
     record { rest = x.rest; finished = x.finished; others = x.others; later = x.later; faults = x.faults; ends = x.ends; live = tt; unowed = λ is. absurd cc }
 
-pub calls_twice : {a b d : Harbour} {c : ℕ} {result : Result (Unit {0}) Pause} → CallsOn a b c (Ok tt) → CallsOn b d c result → CallsOn a d c result
+pub calls_twice : {a b d : Harbour} {c : ℕ} {result : Result (Unit {0}) Yield} → CallsOn a b c (Ok tt) → CallsOn b d c result → CallsOn a d c result
 calls_twice {a} {b} {d} {c} x y =
     let none = live_sound (b.port c).last x.live in
     let opened = live_open (b.port c).last x.live in
@@ -103,7 +103,7 @@ read_ends before now q (Ok Finished) is x = let one : ended_of q ≡ 1 = ap ende
 read_ends before now q (Ok GotNotYet) is x = omega (arith, x)
 read_ends before now q (Err f) is x = omega (arith, x)
 
-pub calls_write : {b d : Harbour} {c : ℕ} {piece : List ℕ} {took : Result Took Failed} (result : Result (Unit {0}) Pause) → WritesPort b d c piece took → OnOk result (is_over (d.port c).last ≡ false) → (result ≡ Err Later → (d.port c).owed ≡ false)
+pub calls_write : {b d : Harbour} {c : ℕ} {piece : List ℕ} {took : Result Took Failed} (result : Result (Unit {0}) Yield) → WritesPort b d c piece took → OnOk result (is_over (d.port c).last ≡ false) → (result ≡ Err Later → (d.port c).owed ≡ false)
     → CallsOn b d c result
 calls_write {b} {d} {c} {piece} {took} result w live unowed =
     record {
@@ -117,7 +117,7 @@ calls_write {b} {d} {c} {piece} {took} result w live unowed =
       unowed = unowed;
     }
 
-calls_read : {b d : Harbour} {c : ℕ} {buf : List ℕ} {got : Result Got Failed} (result : Result (Unit {0}) Pause) → ReadsPort b d c buf got → OnOk result (is_over (d.port c).last ≡ false) → (result ≡ Err Later → (d.port c).owed ≡ false) → CallsOn b d c result
+calls_read : {b d : Harbour} {c : ℕ} {buf : List ℕ} {got : Result Got Failed} (result : Result (Unit {0}) Yield) → ReadsPort b d c buf got → OnOk result (is_over (d.port c).last ≡ false) → (result ≡ Err Later → (d.port c).owed ≡ false) → CallsOn b d c result
 calls_read {b} {d} {c} {buf} {got} result r live unowed =
     record {
       rest = r.rest;
@@ -131,7 +131,7 @@ calls_read {b} {d} {c} {buf} {got} result r live unowed =
     }
 
 -- what a read makes of the bytes that wait
-pub fills_up : {a b : Harbour} {c : ℕ} {buf : List ℕ} {got : Result Got Failed} (s s' : Party) (result : Result (Unit {0}) Pause) → ReadsPort a b c buf got → OnOk result (is_over (b.port c).last ≡ false) → (result ≡ Err Later → (b.port c).owed ≡ false)
+pub fills_up : {a b : Harbour} {c : ℕ} {buf : List ℕ} {got : Result Got Failed} (s s' : LinkState) (result : Result (Unit {0}) Yield) → ReadsPort a b c buf got → OnOk result (is_over (b.port c).last ≡ false) → (result ≡ Err Later → (b.port c).owed ≡ false)
     → got_bytes got buf ≡ waiting_bytes s' → Filled (b.port c) s s' result → FillsUp a b c s s' result
 fills_up {a} {b} {c} {buf} {got} s s' result r live unowed bytes filled =
     record {
@@ -142,6 +142,6 @@ fills_up {a} {b} {c} {buf} {got} s s' result r live unowed bytes filled =
       filled = filled;
     }
 
-pub pushed_whole : (q : Port) (text : List ℕ) (at : ℕ) (result : Result (Unit {0}) Pause) → Pushed q text at result → OnOk result (at ≡ length text)
+pub pushed_whole : (q : Port) (text : List ℕ) (at : ℕ) (result : Result (Unit {0}) Yield) → Pushed q text at result → OnOk result (at ≡ length text)
 pushed_whole q text at (Ok u) x = x
 pushed_whole q text at (Err e) x = tt

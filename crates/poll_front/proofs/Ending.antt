@@ -1,5 +1,5 @@
 -- A run to its end.
-use Rattle.std.proofs.Common.{◌≡◌, ◌≢◌, ℕ, ◌+◌, ◌-◌, ◌<◌, ◌≤◌, List, [], ◌∷◌, ◌++◌, map, take, length, get_or, slice_get, refl, sym, ap, subst, ◌∙◌, arith, ⊎_elim, inl, Option, Some}
+use Rattle.std.proofs.Common.{◌≡◌, ℕ, ◌+◌, ◌-◌, ◌<◌, ◌≤◌, List, [], ◌∷◌, ◌++◌, map, take, length, get_or, slice_get, refl, sym, ap, subst, ◌∙◌, arith, ⊎_elim, inl, Option, Some}
 use Rattle.std.proofs.lemmas.Option.{slice_get_cases, slice_get_within, get_or_from_slice_get}
 use Rattle.std.proofs.lemmas.List.{take_all, take_more, map-append, length-map}
 use mathlib.Core.Logic.{dite}
@@ -121,7 +121,7 @@ ran_of {np = np} {after = after} {start = start} {a = a} {b = b} {seats = seats}
     let same = l.opened in
     let is = polled_is l in
     record {
-      pace = w.pace;
+      counters = w.counters;
       turns = w.turns;
       number_is = refl;
       running = t.running;

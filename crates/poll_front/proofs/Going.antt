@@ -1,7 +1,7 @@
 -- Steps of a link one after another.
-use Rattle.std.proofs.Common.{◌≡◌, ℕ, ◌+◌, ◌-◌, ◌<◌, ◌≤◌, true, false, List, [], ◌∷◌, ◌++◌, length, get_or, refl, sym, ap, subst, ◌∙◌, arith, append_assoc, Result, Ok, Err}
+use Rattle.std.proofs.Common.{◌≡◌, ℕ, ◌+◌, ◌<◌, true, false, List, [], ◌∷◌, ◌++◌, length, get_or, refl, sym, subst, arith, append_assoc, Result, Ok, Err}
 use Rattle.gt_base.specs.Roomy.{Roomy}
-use Rattle.gt_io.specs.Frames.{Frame, pushed}
+use Rattle.gt_io.specs.Frames.{pushed}
 use Rattle.gt_io.specs.Ports.{Port, Harbour, is_over}
 use Rattle.gt_text.specs.Lines.{is_feed}
 use Rattle.turn_lock.proofs.Totals.{each-append}
@@ -18,11 +18,11 @@ use Rattle.connection_laws.specs.declared.talk.LineAnswer.{LineAnswer}
 use Rattle.connection_laws.specs.declared.talk.LineAnswer.TheVariants.{Silence, Agreed, Bad, Reply as ToldReply, NoMemory, NoSteps, ViewOnly, Worn as ToldWorn}
 use Rattle.connection_laws.proofs.Telling.{IsUnwornTold, told_unworn}
 use Rattle.poll_front.specs.declared.ends.PollEnd.TheVariants.{Spent, Worn}
-use Rattle.poll_front.specs.declared.parties.Party.{Party}
-use Rattle.poll_front.specs.declared.parties.Pause.{Pause}
-use Rattle.poll_front.specs.declared.parties.Pause.TheVariants.{End}
-use Rattle.poll_front.specs.declared.parties.Pace.{Pace}
-use Rattle.poll_front.specs.Fronts.{Turn, FrontSpot, acted_of, course, Running, Serves, Comes, IsWritten, CallsOn, CanServe, CountsOne, Pushed, PushesOut, Filled, FillsUp, TellsLine}
+use Rattle.poll_front.specs.declared.states.LinkState.{LinkState}
+use Rattle.poll_front.specs.declared.states.Yield.{Yield}
+use Rattle.poll_front.specs.declared.states.Yield.TheVariants.{End}
+use Rattle.poll_front.specs.declared.states.RunCounters.{RunCounters}
+use Rattle.poll_front.specs.Fronts.{Turn, FrontSpot, acted_of, course, Running, StepsTo, Comes, IsWritten, CallsOn, CanServe, CountsOne, Pushed, PushesOut, Filled, FillsUp, TellsLine}
 use Rattle.poll_front.proofs.Calls.{live_kept}
 use Rattle.poll_front.proofs.Hearing.{Hears}
 use Rattle.poll_front.proofs.Turning.{running_on, acted_here}
@@ -30,12 +30,12 @@ use Rattle.poll_front.proofs.Standing.{stands_byte, stands_line, heard_line, com
 
 module _ {M : Type 0} (v : Service) where
   -- what goes on behind a step that went on
-  pub serves_then : {p p' p'' : FrontSpot M} {a b d : Harbour} {c : ℕ} {s s' s'' : Party} {result : Result (Unit {0}) Pause} → Serves v p p' a b c s s' (Ok tt) → Serves v p' p'' b d c s' s'' result → Serves v p p'' a d c s s'' result
-  serves_then {p} {p'} {p''} {a} {b} {d} {c} {s} {s'} {s''} {result} f g =
+  pub steps_then : {p p' p'' : FrontSpot M} {a b d : Harbour} {c : ℕ} {s s' s'' : LinkState} {result : Result (Unit {0}) Yield} → StepsTo v p p' a b c s s' (Ok tt) → StepsTo v p' p'' b d c s' s'' result → StepsTo v p p'' a d c s s'' result
+  steps_then {p} {p'} {p''} {a} {b} {d} {c} {s} {s'} {s''} {result} f g =
       record {
-        serves = λ o start turns fed r x.
-            let y = f.serves o start turns fed r x in
-            let z = g.serves o start (y.more ++ turns) y.comes.0 y.running y.comes.1 in
+        steps = λ o start turns fed r x.
+            let y = f.steps o start turns fed r x in
+            let z = g.steps o start (y.more ++ turns) y.comes.0 y.running y.comes.1 in
             let same : z.more ++ (y.more ++ turns) ≡ (z.more ++ y.more) ++ turns = sym (append_assoc z.more y.more turns) in
             record {
               more = z.more ++ y.more;
@@ -47,44 +47,44 @@ module _ {M : Type 0} (v : Service) where
       }
 
   -- the reply of the last line is written on
-  pub serves_push : (p : FrontSpot M) {a b : Harbour} {c : ℕ} {s : Party} {at : ℕ} {result : Result (Unit {0}) Pause} → PushesOut a b c (told_bytes s.told) s.at at result → Serves v p p a b c s (record s { at = at }) result
-  serves_push p {a} {b} {c} {s} {at} {result} x =
+  pub steps_push : (p : FrontSpot M) {a b : Harbour} {c : ℕ} {s : LinkState} {at : ℕ} {result : Result (Unit {0}) Yield} → PushesOut a b c (told_bytes s.told) s.at at result → StepsTo v p p a b c s (record s { at = at }) result
+  steps_push p {a} {b} {c} {s} {at} {result} x =
       record {
-        serves = λ o start turns fed r stands.
-            record { more = []; own = tt; running = r; comes = comes_pushed stands at result x; worn_out = λ n e. absurd (subst (λ (r : Result (Unit {0}) Pause). Pushed (b.port c) (told_bytes s.told) at r) e x.pushed) };
+        steps = λ o start turns fed r stands.
+            record { more = []; own = tt; running = r; comes = comes_pushed stands at result x; worn_out = λ n e. absurd (subst (λ (r : Result (Unit {0}) Yield). Pushed (b.port c) (told_bytes s.told) at r) e x.pushed) };
       }
 
   -- bytes are read
-  pub serves_fill : (p : FrontSpot M) {a b : Harbour} {c : ℕ} {s s' : Party} {result : Result (Unit {0}) Pause} → FillsUp a b c s s' result → IsWritten s → s.from ≡ s.upto → 0 < s.left → length s'.chunk ≡ 4096 → Serves v p p a b c s s' result
-  serves_fill p {a} {b} {c} {s} {s'} {result} x wrote none some size =
+  pub steps_fill : (p : FrontSpot M) {a b : Harbour} {c : ℕ} {s s' : LinkState} {result : Result (Unit {0}) Yield} → FillsUp a b c s s' result → IsWritten s → s.from ≡ s.upto → 0 < s.left → length s'.chunk ≡ 4096 → StepsTo v p p a b c s s' result
+  steps_fill p {a} {b} {c} {s} {s'} {result} x wrote none some size =
       record {
-        serves = λ o start turns fed r stands.
-            record { more = []; own = tt; running = r; comes = comes_filled stands s' wrote none some size result x; worn_out = λ n e. absurd (subst (λ (r : Result (Unit {0}) Pause). Filled (b.port c) s s' r) e x.filled) };
+        steps = λ o start turns fed r stands.
+            record { more = []; own = tt; running = r; comes = comes_filled stands s' wrote none some size result x; worn_out = λ n e. absurd (subst (λ (r : Result (Unit {0}) Yield). Filled (b.port c) s s' r) e x.filled) };
       }
 
   -- as many bytes were taken as a link may send
-  pub serves_spent : (p : FrontSpot M) (a : Harbour) (c : ℕ) (s : Party) → is_over (a.port c).last ≡ false → IsWritten s → s.from ≡ s.upto → s.left ≡ 0 → Serves v p p a a c s s (Err (End Spent))
-  serves_spent p a c s live wrote none spent =
-      record { serves = λ o start turns fed r stands. record { more = []; own = tt; running = r; comes = (ends_spent (course (a.port c)) stands live wrote none spent, tt); worn_out = λ n e. absurd cc } }
+  pub steps_spent : (p : FrontSpot M) (a : Harbour) (c : ℕ) (s : LinkState) → is_over (a.port c).last ≡ false → IsWritten s → s.from ≡ s.upto → s.left ≡ 0 → StepsTo v p p a a c s s (Err (End Spent))
+  steps_spent p a c s live wrote none spent =
+      record { steps = λ o start turns fed r stands. record { more = []; own = tt; running = r; comes = (ends_spent (course (a.port c)) stands live wrote none spent, tt); worn_out = λ n e. absurd cc } }
 
   -- a byte is taken within a line
-  pub serves_byte : (p : FrontSpot M) (a : Harbour) (c : ℕ) (s : Party) (byte : ℕ) → s.from < s.upto → byte ≡ get_or s.chunk s.from 0 → is_feed byte ≡ false → Serves v p p a a c s (record s { framer = pushed s.framer byte; from = s.from + 1 }) (Ok tt)
-  serves_byte p a c s byte some is other =
-      record { serves = λ o start turns fed r stands. record { more = []; own = tt; running = r; comes = (fed ++ byte ∷ [], stands_byte stands byte some is other); worn_out = λ n e. absurd cc } }
+  pub steps_byte : (p : FrontSpot M) (a : Harbour) (c : ℕ) (s : LinkState) (byte : ℕ) → s.from < s.upto → byte ≡ get_or s.chunk s.from 0 → is_feed byte ≡ false → StepsTo v p p a a c s (record s { framer = pushed s.framer byte; from = s.from + 1 }) (Ok tt)
+  steps_byte p a c s byte some is other =
+      record { steps = λ o start turns fed r stands. record { more = []; own = tt; running = r; comes = (fed ++ byte ∷ [], stands_byte stands byte some is other); worn_out = λ n e. absurd cc } }
 
   -- a line is heard, and told what it is told
-  module _ (p p' : FrontSpot M) (a b : Harbour) (c : ℕ) (s : Party) (byte : ℕ) (talk : Talk) (room : Roomy ℕ) (live : is_over (a.port c).last ≡ false) (wrote : IsWritten s) (some : s.from < s.upto) (is : byte ≡ get_or s.chunk s.from 0) where
+  module _ (p p' : FrontSpot M) (a b : Harbour) (c : ℕ) (s : LinkState) (byte : ℕ) (talk : Talk) (room : Roomy ℕ) (live : is_over (a.port c).last ≡ false) (wrote : IsWritten s) (some : s.from < s.upto) (is : byte ≡ get_or s.chunk s.from 0) where
     -- the line of each text with whose open line the frame fits
     abbrev pub Heard : LineAnswer → Type 0
     Heard told = (fed : List ℕ) → FrameFits s.framer fed → (is_feed byte ≡ true) × Hears v (by p.pass.number c) p p' s.talk talk (open_line fed) told
 
-    abbrev after : LineAnswer → ℕ → Party
+    abbrev after : LineAnswer → ℕ → LinkState
     after told at = record s { framer = pushed s.framer byte; from = s.from + 1; talk = talk; told = told; at = at; room = room }
 
-    line_unworn : (told : LineAnswer) (at : ℕ) (result : Result (Unit {0}) Pause) → IsUnwornTold told → Heard told → PushesOut a b c (told_bytes told) 0 at result → Serves v p p' a b c s (after told at) result
+    line_unworn : (told : LineAnswer) (at : ℕ) (result : Result (Unit {0}) Yield) → IsUnwornTold told → Heard told → PushesOut a b c (told_bytes told) 0 at result → StepsTo v p p' a b c s (after told at) result
     line_unworn told at result unworn hears push =
         record {
-          serves = λ o start turns fed g stands.
+          steps = λ o start turns fed g stands.
               let h = hears fed stands.heard.frame_fits in
               let x = h.1 in
               let turn : Turn = record { link = c; acted = x.acted } in
@@ -96,14 +96,14 @@ module _ {M : Type 0} (v : Service) where
                 own = (refl, tt);
                 running = running_on v c o p p' turns g stands.heard.actor x;
                 comes = subst (λ (l : List Acted). Comes v.policy start (course (b.port c)) (after told at) l result) (sym here) (comes_pushed y at result push);
-                worn_out = λ n e. absurd (subst (λ (r : Result (Unit {0}) Pause). Pushed (b.port c) (told_bytes told) at r) e push.pushed);
+                worn_out = λ n e. absurd (subst (λ (r : Result (Unit {0}) Yield). Pushed (b.port c) (told_bytes told) at r) e push.pushed);
               };
         }
 
-    line_worn : (m at : ℕ) (result : Result (Unit {0}) Pause) → Heard (ToldWorn m) → b ≡ a → result ≡ Err (End (Worn m)) → Serves v p p' a b c s (after (ToldWorn m) at) result
+    line_worn : (m at : ℕ) (result : Result (Unit {0}) Yield) → Heard (ToldWorn m) → b ≡ a → result ≡ Err (End (Worn m)) → StepsTo v p p' a b c s (after (ToldWorn m) at) result
     line_worn m at result hears same ended =
         record {
-          serves = λ o start turns fed g stands.
+          steps = λ o start turns fed g stands.
               let h = hears fed stands.heard.frame_fits in
               let x = h.1 in
               let turn : Turn = record { link = c; acted = x.acted } in
@@ -118,24 +118,24 @@ module _ {M : Type 0} (v : Service) where
                 running = running_on v c o p p' turns g stands.heard.actor x;
                 comes = subst (λ (l : List Acted). Comes v.policy start (course (b.port c)) (after (ToldWorn m) at) l result) (sym here)
                     (subst (λ (d : Harbour). Comes v.policy start (course (d.port c)) (after (ToldWorn m) at) (x.acted ∷ acted_of c turns) result) (sym same)
-                    (subst (λ (r : Result (Unit {0}) Pause). Comes v.policy start (course (a.port c)) (after (ToldWorn m) at) (x.acted ∷ acted_of c turns) r) (sym ended) comes));
+                    (subst (λ (r : Result (Unit {0}) Yield). Comes v.policy start (course (a.port c)) (after (ToldWorn m) at) (x.acted ∷ acted_of c turns) r) (sym ended) comes));
                 worn_out = λ n e. full.1;
               };
         }
 
-    pub serves_line : (told : LineAnswer) (at : ℕ) (result : Result (Unit {0}) Pause) → Heard told → TellsLine a b c told at result → Serves v p p' a b c s (after told at) result
-    serves_line Silence at result x t = line_unworn Silence at result tt x t
-    serves_line Agreed at result x t = line_unworn Agreed at result tt x t
-    serves_line (Bad f) at result x t = line_unworn (Bad f) at result tt x t
-    serves_line (ToldReply text) at result x t = line_unworn (ToldReply text) at result tt x t
-    serves_line NoMemory at result x t = line_unworn NoMemory at result tt x t
-    serves_line NoSteps at result x t = line_unworn NoSteps at result tt x t
-    serves_line ViewOnly at result x t = line_unworn ViewOnly at result tt x t
-    serves_line (ToldWorn m) at result x t = line_worn m at result x t.0 t.2
+    pub steps_line : (told : LineAnswer) (at : ℕ) (result : Result (Unit {0}) Yield) → Heard told → TellsLine a b c told at result → StepsTo v p p' a b c s (after told at) result
+    steps_line Silence at result x t = line_unworn Silence at result tt x t
+    steps_line Agreed at result x t = line_unworn Agreed at result tt x t
+    steps_line (Bad f) at result x t = line_unworn (Bad f) at result tt x t
+    steps_line (ToldReply text) at result x t = line_unworn (ToldReply text) at result tt x t
+    steps_line NoMemory at result x t = line_unworn NoMemory at result tt x t
+    steps_line NoSteps at result x t = line_unworn NoSteps at result tt x t
+    steps_line ViewOnly at result x t = line_unworn ViewOnly at result tt x t
+    steps_line (ToldWorn m) at result x t = line_worn m at result x t.0 t.2
 
 -- it may be served on
-pub can_next : {np : NamedPolicy} {a b : Harbour} {c : ℕ} {pace pace' : Pace} {s s' : Party} → CanServe np a c pace s → CallsOn a b c (Ok tt) → s.from < s.upto → IsNamedActor np s'.talk.actor → CountsOne s.talk s'.talk pace pace' → IsWritten s' → (s'.from ≡ s.from + 1) × (s'.upto ≡ s.upto) × (s'.left ≡ s.left)
-    → CanServe np b c pace' s'
+pub can_next : {np : NamedPolicy} {a b : Harbour} {c : ℕ} {counters counters' : RunCounters} {s s' : LinkState} → CanServe np a c counters s → CallsOn a b c (Ok tt) → s.from < s.upto → IsNamedActor np s'.talk.actor → CountsOne s.talk s'.talk counters counters' → IsWritten s' → (s'.from ≡ s.from + 1) × (s'.upto ≡ s.upto) × (s'.left ≡ s.left)
+    → CanServe np b c counters' s'
 can_next x calls some actor counts wrote one =
     let w = x.waits in
     let asked = x.talk.asked in
@@ -148,15 +148,15 @@ can_next x calls some actor counts wrote one =
       talk = record { actor = actor; asked = omega (arith, asked, counts, one, some); denied = omega (arith, denied, counts, one, some); calls = omega (arith, all, counts, one, some) };
     }
 
-pub can_fill : {np : NamedPolicy} {a b : Harbour} {c : ℕ} {pace : Pace} {s s' : Party} (q : Port) → CanServe np a c pace s → CallsOn a b c (Ok tt) → s.from ≡ s.upto → Filled q s s' (Ok tt) → CanServe np b c pace s'
-can_fill {np} {a} {b} {c} {pace} {s} {s'} q x calls none f =
+pub can_fill : {np : NamedPolicy} {a b : Harbour} {c : ℕ} {counters : RunCounters} {s s' : LinkState} (q : Port) → CanServe np a c counters s → CallsOn a b c (Ok tt) → s.from ≡ s.upto → Filled q s s' (Ok tt) → CanServe np b c counters s'
+can_fill {np} {a} {b} {c} {counters} {s} {s'} q x calls none f =
     let n = f.0 in
     let few = f.2 in
     let low = f.3 in
     let asked = x.talk.asked in
     let denied = x.talk.denied in
     let all = x.talk.calls in
-    subst (λ (z : Party). CanServe np b c pace z) (sym f.4)
+    subst (λ (z : LinkState). CanServe np b c counters z) (sym f.4)
     (record {
       live = live_kept calls x.live;
       told = x.told;

@@ -1,5 +1,5 @@
 -- A line that was acted on, with the counts of its link.
-use Rattle.std.proofs.Common.{◌≡◌, ℕ, ◌+◌, ◌*◌, ◌^◌, ◌<◌, ◌≤◌, Bool, true, false, List, [], length, refl, sym, ap, subst, ◌∙◌, arith, Result, Err}
+use Rattle.std.proofs.Common.{◌≡◌, ℕ, ◌+◌, ◌*◌, ◌^◌, ◌<◌, ◌≤◌, Bool, true, false, List, [], length, refl, sym, ap, subst, ◌∙◌, arith, Result}
 use Rattle.gt_base.specs.declared.requests.Who.{Who}
 use Rattle.gt_base.specs.declared.requests.Actor.{Actor}
 use Rattle.gt_base.specs.declared.requests.Actor.TheVariants.{Nobody}
@@ -14,8 +14,7 @@ use Rattle.request_text.proofs.ReadBySpelling.{long_read}
 use Rattle.connection_laws.specs.Lines.{Acted, bad, actor_by, one_where, is_replied, is_denied, says_request}
 use Rattle.connection_laws.specs.Connection.{Gets, IsTimed, placed}
 use Rattle.connection_laws.specs.Desks.{IsNamedActor}
-use Rattle.connection_laws.specs.Turns.{Grows, AreMine, IsIdle}
-use Rattle.poll_front.specs.Ready.{StaysIdle}
+use Rattle.connection_laws.specs.Turns.{Grows, AreMine, IsIdle, StaysIdle}
 use Rattle.connection_laws.specs.Services.{Service}
 use Rattle.connection_laws.specs.Acting.{IsTold, counted_talk}
 use Rattle.connection_laws.specs.Attending.{ActsBy}
@@ -38,7 +37,7 @@ pub record Hears {M : Type 0} (v : Service) (who : Who) (p p' : FrontSpot M) (ta
   pub actor : talk'.actor ≡ actor_by (read_line v.policy Nobody false line) talk.actor
   pub asked : talk'.asked ≡ talk.asked + one_where (is_replied acted.answer)
   pub denied : talk'.denied ≡ talk.denied + one_where (is_denied acted.answer)
-  pub calls : p'.pace.calls ≡ p.pace.calls + length acted.readings
+  pub calls : p'.counters.calls ≡ p.counters.calls + length acted.readings
   pub few : length acted.readings ≤ 1
   pub named : IsNamedActor v.policy talk'.actor
   pub reads : Reads p.clock p'.clock acted.readings
@@ -49,7 +48,7 @@ one_at_most true = omega arith
 one_at_most false = omega arith
 
 pub hears_acts : {M : Type 0} (v : Service) (who : Who) (p p' : FrontSpot M) (talk talk1 talk2 : Talk) (line : List ℕ) (told : LineAnswer)
-    → (x : ActsBy v.policy (ClerkAsks v who) (WearsClerk (clerk_view p'.pass p'.clock)) (clerk_view p.pass p.clock) (clerk_view p'.pass p'.clock) (record talk { calls = p.pace.calls }) talk1 line told) → p'.pace.calls ≡ talk1.calls → talk2 ≡ counted_talk talk1 x.acted.answer
+    → (x : ActsBy v.policy (ClerkAsks v who) (WearsClerk (clerk_view p'.pass p'.clock)) (clerk_view p.pass p.clock) (clerk_view p'.pass p'.clock) (record talk { calls = p.counters.calls }) talk1 line told) → p'.counters.calls ≡ talk1.calls → talk2 ≡ counted_talk talk1 x.acted.answer
     → Hears v who p p' talk talk2 line told
 hears_acts v who p p' talk talk1 talk2 line told x calls is =
     let y = x.acted in
@@ -67,7 +66,7 @@ hears_acts v who p p' talk talk1 talk2 line told x calls is =
       actor = ap (λ (t : Talk). t.actor) is ∙ ap (λ (t : Talk). t.actor) x.talk_is;
       asked = ap (λ (t : Talk). t.asked) is ∙ ap (λ (t : Talk). t.asked + one_where (is_replied y.answer)) x.talk_is;
       denied = ap (λ (t : Talk). t.denied) is ∙ ap (λ (t : Talk). t.denied + one_where (is_denied y.answer)) x.talk_is;
-      calls = calls ∙ ap (λ (t : Talk). t.calls) x.talk_is ∙ ap (λ (n : ℕ). p.pace.calls + n) s.calls;
+      calls = calls ∙ ap (λ (t : Talk). t.calls) x.talk_is ∙ ap (λ (n : ℕ). p.counters.calls + n) s.calls;
       few = omega (arith, one, counted);
       named = subst (λ (z : Actor). IsNamedActor v.policy z) (sym (ap (λ (t : Talk). t.actor) is)) x.named;
       reads = s.reads;
@@ -101,7 +100,7 @@ module _ {M : Type 0} {v : Service} {who : Who} {p p' : FrontSpot M} {talk talk'
   heard_idle site idle =
       let is = x.grows.after_is in ((ap (λ (h : Holder M). h.site) is ∙ idle.0, ap (λ (h : Holder M). h.turn) is ∙ idle.1), ap (λ (h : Holder M). h.number) is)
 
-  pub heard_counts : CountsOne talk talk' p.pace p'.pace
+  pub heard_counts : CountsOne talk talk' p.counters p'.counters
   heard_counts =
       let a = x.asked in
       let d = x.denied in

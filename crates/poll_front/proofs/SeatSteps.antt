@@ -1,27 +1,27 @@
 -- The service of a link in its seat.
-use Rattle.std.proofs.Common.{◌≡◌, ℕ, ◌+◌, ◌<◌, false, List, [], ◌++◌, refl, sym, ap, subst, ◌∙◌, arith, Option, Some, None, Err}
+use Rattle.std.proofs.Common.{◌≡◌, ℕ, ◌<◌, false, List, [], ◌++◌, refl, sym, ap, subst, ◌∙◌, arith, Option, Some, None, Err}
 use Rattle.gt_io.specs.Ports.{Port, Harbour, Finishes}
 use Rattle.connection_laws.specs.Services.{Service}
 use Rattle.poll_front.specs.declared.ends.Polled.{Polled}
 use Rattle.poll_front.specs.declared.ends.PollEnd.{PollEnd}
 use Rattle.poll_front.specs.declared.ends.PollEnd.TheVariants.{Ended, ReadFault, WriteFault, Spent, Full, Stopped, Worn}
-use Rattle.poll_front.specs.declared.parties.Party.{Party}
-use Rattle.poll_front.specs.declared.parties.Pause.TheVariants.{Later, End}
+use Rattle.poll_front.specs.declared.states.LinkState.{LinkState}
+use Rattle.poll_front.specs.declared.states.Yield.TheVariants.{Later, End}
 use Rattle.poll_front.specs.declared.seats.Seat.TheVariants.{New, Open, Over}
 use Rattle.std.specs.Global.{Box}
-use Rattle.poll_front.specs.Fronts.{FrontSpot, Course, course, acted_of, faults_by, ended_by, polled_as, PollsBy, IsLive, CallsOn, Serves}
-use Rattle.poll_front.specs.Tables.{Sits, IsLetIn, CanServeSeat, TakesParty, SeatServed, polled_in, is_worn_end}
-use Rattle.poll_front.specs.declared.parties.Pace.{Pace}
+use Rattle.poll_front.specs.Fronts.{FrontSpot, Course, course, acted_of, faults_by, ended_by, polled_as, PollsBy, IsLive, CallsOn, StepsTo}
+use Rattle.poll_front.specs.Tables.{Sits, IsLetIn, CanServeSeat, TakesState, SeatServed, polled_in, is_worn_end}
+use Rattle.poll_front.specs.declared.states.RunCounters.{RunCounters}
 use Rattle.poll_front.specs.declared.seats.Seat.{Seat}
 use Rattle.poll_front.proofs.Seating.{takes_sits}
-use Rattle.poll_front.proofs.Calls.{rest_twice, calls_none, live_sound, live_open}
+use Rattle.poll_front.proofs.Calls.{rest_twice, live_sound, live_open}
 use Rattle.poll_front.specs.declared.front.TheConstants.{MAX_OPEN}
 use Rattle.policy_words.specs.Naming.{NamedPolicy}
 
 abbrev pub IsCalm : Seat → Type 0
 IsCalm s = is_worn_end (polled_in s).outcome ≡ false
 
-takes_calm : (s s' : Seat) → TakesParty s s' → IsCalm s → IsCalm s'
+takes_calm : (s s' : Seat) → TakesState s s' → IsCalm s → IsCalm s'
 takes_calm New (Open b) t x = refl
 takes_calm New New t x = refl
 takes_calm New (Over e) t x = absurd t
@@ -53,13 +53,13 @@ module _ {M : Type 0} (v : Service) where
             record { more = []; own = tt; running = r; sits = s; worn_out = λ n same. absurd cc; unworn = λ same. u; unowed = λ unfinished. let e : Some s.1.0 ≡ None = sym s.1.1 ∙ unfinished in absurd cc };
       }
 
-  pub seat_none : (p : FrontSpot M) (np : NamedPolicy) (a : Harbour) (c : ℕ) (pace : Pace) (seat : Seat) → CanServeSeat np a c pace seat → ((b : Box Party) → seat ≡ Open b → ⊥) → SeatServed v p p a a c seat seat None
-  seat_none p np a c pace New can closed = absurd can
-  seat_none p np a c pace (Open b) can closed = absurd (closed b refl)
-  seat_none p np a c pace (Over e) can closed = seat_over p a c e
+  pub seat_none : (p : FrontSpot M) (np : NamedPolicy) (a : Harbour) (c : ℕ) (counters : RunCounters) (seat : Seat) → CanServeSeat np a c counters seat → ((b : Box LinkState) → seat ≡ Open b → ⊥) → SeatServed v p p a a c seat seat None
+  seat_none p np a c counters New can closed = absurd can
+  seat_none p np a c counters (Open b) can closed = absurd (closed b refl)
+  seat_none p np a c counters (Over e) can closed = seat_over p a c e
 
-  -- it got its party before
-  pub served_from : (p p' : FrontSpot M) (a b : Harbour) (c : ℕ) (seat mid seat' : Seat) (result : Option PollEnd) → TakesParty seat mid → SeatServed v p p' a b c mid seat' result → SeatServed v p p' a b c seat seat' result
+  -- it got its state before
+  pub served_from : (p p' : FrontSpot M) (a b : Harbour) (c : ℕ) (seat mid seat' : Seat) (result : Option PollEnd) → TakesState seat mid → SeatServed v p p' a b c mid seat' result → SeatServed v p p' a b c seat seat' result
   served_from p p' a b c seat mid seat' result t w =
       record {
         rest = w.rest;
@@ -72,10 +72,10 @@ module _ {M : Type 0} (v : Service) where
         served = λ o start turns r s u. w.served o start turns r (takes_sits v.policy start (a.port c) (acted_of c turns) seat mid t s) (takes_calm seat mid t u);
       }
 
-  module _ {p p' : FrontSpot M} {a b : Harbour} {c : ℕ} (s s' : Box Party) (live : IsLive a c) where
+  module _ {p p' : FrontSpot M} {a b : Harbour} {c : ℕ} (s s' : Box LinkState) (live : IsLive a c) where
     -- there is nothing to do for it yet
-    pub seat_later : CallsOn a b c (Err Later) → Serves v p p' a b c s.value s'.value (Err Later) → SeatServed v p p' a b c (Open s) (Open s') None
-    seat_later t serves =
+    pub seat_later : CallsOn a b c (Err Later) → StepsTo v p p' a b c s.value s'.value (Err Later) → SeatServed v p p' a b c (Open s) (Open s') None
+    seat_later t steps =
         let none = live_sound (a.port c).last live.live in
         let opened = live_open (a.port c).last live.live in
         let f = t.faults in
@@ -89,7 +89,7 @@ module _ {M : Type 0} (v : Service) where
           ended = t.finished;
           over = λ end same. absurd cc;
           served = λ o start turns r x u.
-              let y = serves.serves o start turns x.0.fed r x.0.stands in
+              let y = steps.steps o start turns x.0.fed r x.0.stands in
               let others = t.others in
               let few = x.2 in
               record {
@@ -104,8 +104,8 @@ module _ {M : Type 0} (v : Service) where
         }
 
     -- it has ended, and is let go
-    pub seat_ended : (d : Harbour) (end : PollEnd) (e : Polled) → CallsOn a b c (Err (End end)) → Serves v p p' a b c s.value s'.value (Err (End end)) → Finishes b d c → e ≡ polled_as s'.value end → SeatServed v p p' a d c (Open s) (Over e) (Some end)
-    seat_ended d end e t serves f is =
+    pub seat_ended : (d : Harbour) (end : PollEnd) (e : Polled) → CallsOn a b c (Err (End end)) → StepsTo v p p' a b c s.value s'.value (Err (End end)) → Finishes b d c → e ≡ polled_as s'.value end → SeatServed v p p' a d c (Open s) (Over e) (Some end)
+    seat_ended d end e t steps f is =
         let none = live_sound (a.port c).last live.live in
         let opened = live_open (a.port c).last live.live in
         let other = ap (λ (q : Port). q.others) f.port in
@@ -126,7 +126,7 @@ module _ {M : Type 0} (v : Service) where
           ended = (live.opened.unfinished, (b.nexts, ap (λ (q : Port). q.finished) f.port));
           over = λ end' same. (e, refl, ap (λ (x : Polled). x.outcome) is ∙ cc same);
           served = λ o start turns r x u.
-              let y = serves.serves o start turns x.0.fed r x.0.stands in
+              let y = steps.steps o start turns x.0.fed r x.0.stands in
               let few = x.2 in
               let others = t.others in
               let ends = y.comes.0 in

@@ -1,5 +1,5 @@
 -- What stands in the place of a link, from its begin to its end.
-use Rattle.std.proofs.Common.{◌≡◌, ℕ, ◌<◌, ◌≤◌, Bool, false, List, [], length, refl, sym, ap, subst, ◌∙◌, arith, ⊎_elim, inl, inr}
+use Rattle.std.proofs.Common.{◌≡◌, ℕ, Bool, false, List, [], length, refl, sym, ap, subst, ◌∙◌, arith, ⊎_elim, inl, inr}
 use Rattle.std.proofs.KnownBytes.{Appends-nil, Consumes-nil}
 use Rattle.gt_base.specs.declared.requests.Actor.{Actor}
 use Rattle.gt_io.specs.Frames.{Frame}
@@ -13,11 +13,11 @@ use Rattle.connection_laws.specs.Attending.{Bytes, Carries}
 use Rattle.connection_laws.specs.declared.ends.LinkEnd.TheVariants.{Ended as LinkEnded}
 use Rattle.poll_front.specs.declared.ends.PollEnd.{PollEnd}
 use Rattle.poll_front.specs.declared.ends.PollEnd.TheVariants.{Stopped}
-use Rattle.poll_front.specs.declared.parties.Party.{Party}
+use Rattle.poll_front.specs.declared.states.LinkState.{LinkState}
 use Rattle.poll_front.specs.declared.seats.Seat.{Seat}
 use Rattle.poll_front.specs.declared.seats.Seat.TheVariants.{New, Open, Over}
-use Rattle.poll_front.specs.Fronts.{Course, port_bytes, course, waiting_bytes, Rests, EndsLink, EndsAs, PollsBy, polled_as}
-use Rattle.poll_front.specs.Tables.{IsFreshParty, TakesParty, Sits}
+use Rattle.poll_front.specs.Fronts.{Course, course, waiting_bytes, Rests, EndsLink, EndsAs, PollsBy, polled_as}
+use Rattle.poll_front.specs.Tables.{IsFreshState, TakesState, Sits}
 use Rattle.poll_front.proofs.Standing.{waits_none, ends_whole, ends_cut}
 
 -- whether it is owed is no part of what stands in a seat
@@ -33,8 +33,8 @@ carries_none : (a b : Bytes) → b ≡ a → Carries a b [] []
 carries_none a b same =
     subst (λ (d : Bytes). Carries a d [] []) (sym same) (record { taken_is = Appends-nil a.taken; left_is = Consumes-nil a.left; given_is = Appends-nil a.given; bounded = omega arith })
 
--- a link over which nothing went, with its party
-rests_first : (np : NamedPolicy) (start : Bytes) (q : Course) (s : Party) → IsFreshParty s → q.bytes ≡ start → is_over q.last ≡ false → Rests np start q s []
+-- a link over which nothing went, with its state
+rests_first : (np : NamedPolicy) (start : Bytes) (q : Course) (s : LinkState) → IsFreshState s → q.bytes ≡ start → is_over q.last ≡ false → Rests np start q s []
 rests_first np start q s f same live =
     let none : waiting_bytes s ≡ [] = waits_none s (f.waits.0 ∙ sym f.waits.1) in
     let left = f.left in
@@ -63,7 +63,7 @@ rests_first np start q s f same live =
       live = live;
     }
 
-pub takes_sits : (np : NamedPolicy) (start : Bytes) (q : Port) (acted : List Acted) (s s' : Seat) → TakesParty s s' → Sits np start q acted s → Sits np start q acted s'
+pub takes_sits : (np : NamedPolicy) (start : Bytes) (q : Port) (acted : List Acted) (s s' : Seat) → TakesState s s' → Sits np start q acted s → Sits np start q acted s'
 takes_sits np start q acted New (Open b) t x =
     (subst (λ (l : List Acted). Rests np start (course q) b.value l) (sym x.0) (rests_first np start (course q) b.value t x.1 x.2), x.3, x.4)
 takes_sits np start q acted New New t x = absurd t
@@ -89,6 +89,6 @@ ends_blank np start q end same ends_as cause =
     }
 
 -- a link that is open at the end
-pub ends_stopped : (np : NamedPolicy) (start : Bytes) (q : Course) (s : Party) (acted : List Acted) → Rests np start q s acted → EndsLink np start q acted (polled_as s Stopped)
+pub ends_stopped : (np : NamedPolicy) (start : Bytes) (q : Course) (s : LinkState) (acted : List Acted) → Rests np start q s acted → EndsLink np start q acted (polled_as s Stopped)
 ends_stopped np start q s acted x =
     ⊎_elim (λ done. ends_whole x.stands q Stopped LinkEnded refl done.0 done.1 (λ g. g) (inl refl) x.live) (λ cut. ends_cut x.stands q Stopped refl cut.0 (inr (refl, cut.1)) x.live) x.waits

@@ -8,9 +8,9 @@ use Rattle.connection_laws.specs.Attending.{Bytes}
 use Rattle.connection_laws.specs.Services.{Service}
 use Rattle.poll_front.specs.declared.seats.Seat.{Seat}
 use Rattle.poll_front.specs.declared.seats.Seat.TheVariants.{New, Open, Over}
-use Rattle.poll_front.specs.declared.parties.Pace.{Pace}
+use Rattle.poll_front.specs.declared.states.RunCounters.{RunCounters}
 use Rattle.poll_front.specs.Fronts.{Turn, FrontSpot, acted_of, port_bytes, waiting_bytes}
-use Rattle.poll_front.specs.Tables.{Sits, CanServeSeat, TakesParty, Tabled, IsOpenSeat, AreOpenSeats}
+use Rattle.poll_front.specs.Tables.{Sits, CanServeSeat, TakesState, Tabled, IsOpenSeat, AreOpenSeats}
 use Rattle.poll_front.proofs.Hearing.{one_at_most}
 use Rattle.poll_front.proofs.Standing.{last_within, waits_long}
 use Rattle.poll_front.proofs.Seating.{takes_sits}
@@ -36,9 +36,9 @@ lines_few np start q acted (Open b) x =
 lines_few np start q acted (Over e) x = let few = x.0.few in let bounded = x.0.carries.bounded in omega (arith, few, bounded)
 
 -- a link that is open can be served
-can_serve_seat : (np : NamedPolicy) (start : Bytes) (a : Harbour) (c : ℕ) (pace : Pace) (acted : List Acted) (s : Seat) → (s ≡ New → ⊥) → 1 ≤ c → c ≤ a.opened → Sits np start (a.port c) acted s → pace.calls ≤ 100_000 * 67_108_864 → CanServeSeat np a c pace s
-can_serve_seat np start a c pace acted New old first last x calls = absurd (old refl)
-can_serve_seat np start a c pace acted (Open b) old first last x calls =
+can_serve_seat : (np : NamedPolicy) (start : Bytes) (a : Harbour) (c : ℕ) (counters : RunCounters) (acted : List Acted) (s : Seat) → (s ≡ New → ⊥) → 1 ≤ c → c ≤ a.opened → Sits np start (a.port c) acted s → counters.calls ≤ 100_000 * 67_108_864 → CanServeSeat np a c counters s
+can_serve_seat np start a c counters acted New old first last x calls = absurd (old refl)
+can_serve_seat np start a c counters acted (Open b) old first last x calls =
     let s = b.value in
     let y = x.0.stands in
     let few = y.heard.few in
@@ -56,16 +56,16 @@ can_serve_seat np start a c pace acted (Open b) old first last x calls =
       waits = (within.0, within.1);
       talk = record { actor = y.heard.named; asked = omega (arith, few, counted, long, waits, asked, a1); denied = omega (arith, few, counted, long, waits, denied, d1); calls = omega (arith, counted, long, waits, calls) };
     }
-can_serve_seat np start a c pace acted (Over e) old first last x calls = tt
+can_serve_seat np start a c counters acted (Over e) old first last x calls = tt
 
-takes_not_new : (s : Seat) → TakesParty s New → ⊥
+takes_not_new : (s : Seat) → TakesState s New → ⊥
 takes_not_new New t = t
 takes_not_new (Open b) t = absurd cc
 takes_not_new (Over e) t = absurd cc
 
-pub can_serve : (np : NamedPolicy) (start : Bytes) (a : Harbour) (c : ℕ) (pace : Pace) (acted : List Acted) (s s' : Seat) → TakesParty s s' → 1 ≤ c → c ≤ a.opened → Sits np start (a.port c) acted s → pace.calls ≤ 100_000 * 67_108_864 → CanServeSeat np a c pace s'
-can_serve np start a c pace acted s s' t first last x calls =
-    can_serve_seat np start a c pace acted s' (λ is. takes_not_new s (subst (TakesParty s) is t)) first last (takes_sits np start (a.port c) acted s s' t x) calls
+pub can_serve : (np : NamedPolicy) (start : Bytes) (a : Harbour) (c : ℕ) (counters : RunCounters) (acted : List Acted) (s s' : Seat) → TakesState s s' → 1 ≤ c → c ≤ a.opened → Sits np start (a.port c) acted s → counters.calls ≤ 100_000 * 67_108_864 → CanServeSeat np a c counters s'
+can_serve np start a c counters acted s s' t first last x calls =
+    can_serve_seat np start a c counters acted s' (λ is. takes_not_new s (subst (TakesState s) is t)) first last (takes_sits np start (a.port c) acted s s' t x) calls
 
 live_seat : (np : NamedPolicy) (start : Bytes) (q : Port) (acted : List Acted) (s : Seat) → Sits np start q acted s → q.finished ≡ None → is_over q.last ≡ false
 live_seat np start q acted New x unfinished = x.2
@@ -96,8 +96,8 @@ module _ {M : Type 0} {v : Service} {o p : FrontSpot M} {start a : Harbour} {sea
       let opened = x.opened in
       record { first = omega arith; last = omega (arith, within, opened); unfinished = open_seat v.policy (port_bytes (start.port (i + 1))) (a.port (i + 1)) (acted_of (i + 1) turns) s (x.sits i s at) is }
 
-  pub pace_few : length seats ≤ 100_000 → o.pace.calls ≡ 0 → p.pace.calls ≤ 100_000 * 67_108_864
-  pace_few few none =
+  pub counters_few : length seats ≤ 100_000 → o.counters.calls ≡ 0 → p.counters.calls ≤ 100_000 * 67_108_864
+  counters_few few none =
       let calls = x.running.calls in
       let opened = x.opened in
       let all = calls_few a.opened turns x.running.brief x.range (λ k first last. let s = sits_at k first last in lines_few v.policy (port_bytes (start.port k)) (a.port k) (acted_of k turns) s.0 s.1) in

@@ -5,7 +5,7 @@ use Rattle.std.specs.Io.KnownBytes.{Appends, Consumes}
 use Rattle.std.proofs.KnownBytes.{Appends-trans, Consumes-trans}
 use mathlib.Core.List.{IsPrefix}
 use Rattle.gt_io.specs.Frames.{Frame, pushed}
-use Rattle.gt_io.specs.Ports.{Port, Harbour, is_over}
+use Rattle.gt_io.specs.Ports.{Harbour, is_over}
 use Rattle.policy_words.specs.Naming.{NamedPolicy}
 use Rattle.request_text.specs.Phrases.{read_line}
 use Rattle.gt_base.specs.Roomy.{Roomy}
@@ -14,7 +14,6 @@ use Rattle.gt_base.specs.declared.requests.Actor.TheVariants.{Nobody}
 use Rattle.gt_base.specs.declared.limits.TheConstants.{MAX_BYTES}
 use Rattle.gt_text.specs.Lines.{is_feed}
 use Rattle.connection_laws.specs.Cuts.{whole_lines, open_line}
-use Rattle.connection_laws.specs.Fits.{FrameFits}
 use Rattle.connection_laws.specs.Lines.{worn, Acted, is_replied, is_denied, one_where, answer_text, actor_by, actor_after, reply_lines, replies_text, AreUnworn, GivenAll, GivenPart, IsGiven}
 use Rattle.connection_laws.specs.Acting.{told_bytes}
 use Rattle.connection_laws.specs.Attending.{Bytes, Carries}
@@ -26,33 +25,32 @@ use Rattle.connection_laws.specs.declared.talk.LineAnswer.{LineAnswer}
 use Rattle.connection_laws.proofs.Telling.{told_text}
 use Rattle.connection_laws.proofs.Cutting.{lines_feed, lines_byte, lines_more}
 use Rattle.connection_laws.proofs.Framing.{fits_feed, fits_byte}
-use Rattle.poll_front.specs.declared.ends.Polled.{Polled}
 use Rattle.poll_front.specs.declared.ends.PollEnd.{PollEnd}
 use Rattle.poll_front.specs.declared.ends.PollEnd.TheVariants.{Ended, ReadFault, WriteFault, Spent, Full, Stopped, Worn}
-use Rattle.poll_front.specs.declared.parties.Party.{Party}
-use Rattle.poll_front.specs.declared.parties.Pause.{Pause}
-use Rattle.poll_front.specs.declared.parties.Pause.TheVariants.{Later, End}
-use Rattle.poll_front.specs.Fronts.{FrontSpot, Course, port_bytes, course, HasHeard, PartyStands, EndsLink, Comes, TellsLast, IsWritten, given_text, waiting_bytes, polled_as, PushesOut, FillsUp, EndsAs, PollsBy}
+use Rattle.poll_front.specs.declared.states.LinkState.{LinkState}
+use Rattle.poll_front.specs.declared.states.Yield.{Yield}
+use Rattle.poll_front.specs.declared.states.Yield.TheVariants.{Later, End}
+use Rattle.poll_front.specs.Fronts.{FrontSpot, Course, port_bytes, course, HasHeard, LinkStands, EndsLink, Comes, TellsLast, IsWritten, given_text, waiting_bytes, polled_as, PushesOut, FillsUp, EndsAs, PollsBy}
 use Rattle.poll_front.proofs.Hearing.{Hears}
 
 -- the byte that waits next, and the others
-waits_next : (s : Party) → s.from < s.upto → s.upto ≤ length s.chunk → waiting_bytes s ≡ get_or s.chunk s.from 0 ∷ drop (s.from + 1) (take s.upto s.chunk)
+waits_next : (s : LinkState) → s.from < s.upto → s.upto ≤ length s.chunk → waiting_bytes s ≡ get_or s.chunk s.from 0 ∷ drop (s.from + 1) (take s.upto s.chunk)
 waits_next s some within =
     let long = length-take-le s.upto s.chunk within in
     drop_more (take s.upto s.chunk) s.from 0 (omega (arith, some, long)) ∙ ap (λ (b : ℕ). b ∷ drop (s.from + 1) (take s.upto s.chunk)) (get_or-take s.upto s.chunk s.from 0 some)
 
-waits_after : (s : Party) (fed : List ℕ) (byte : ℕ) → s.from < s.upto → s.upto ≤ length s.chunk → byte ≡ get_or s.chunk s.from 0 → fed ++ waiting_bytes s ≡ (fed ++ byte ∷ []) ++ drop (s.from + 1) (take s.upto s.chunk)
+waits_after : (s : LinkState) (fed : List ℕ) (byte : ℕ) → s.from < s.upto → s.upto ≤ length s.chunk → byte ≡ get_or s.chunk s.from 0 → fed ++ waiting_bytes s ≡ (fed ++ byte ∷ []) ++ drop (s.from + 1) (take s.upto s.chunk)
 waits_after s fed byte some within is =
     let rest = drop (s.from + 1) (take s.upto s.chunk) in
     ap (λ (l : List ℕ). fed ++ l) (waits_next s some within ∙ ap (λ (b : ℕ). b ∷ rest) (sym is)) ∙ sym (append_assoc fed (byte ∷ []) rest)
 
 -- so many bytes wait
-pub waits_long : (s : Party) → s.from ≤ s.upto → s.upto ≤ length s.chunk → length (waiting_bytes s) ≡ s.upto - s.from
+pub waits_long : (s : LinkState) → s.from ≤ s.upto → s.upto ≤ length s.chunk → length (waiting_bytes s) ≡ s.upto - s.from
 waits_long s some within =
     let long = length-take-le s.upto s.chunk within in
     length-drop s.from (take s.upto s.chunk) ∙ ap (λ (n : ℕ). n - s.from) long
 
-pub waits_none : (s : Party) → s.from ≡ s.upto → waiting_bytes s ≡ []
+pub waits_none : (s : LinkState) → s.from ≡ s.upto → waiting_bytes s ≡ []
 waits_none s none = drop_all s.from (take s.upto s.chunk) (let l = length-take s.upto s.chunk in omega (arith, l, none))
 
 told_long : (np : NamedPolicy) (told : LineAnswer) (a : Acted) (before : List Acted) (at : ℕ) → TellsLast np (a ∷ before) told at → length (told_bytes told) ≡ length (answer_text np a.answer)
@@ -127,7 +125,7 @@ heard_line {v = v} {fed = fed} h frame acted byte x feed =
       denied = h.denied ∙ ap (λ (n : ℕ). n + one_where (is_denied h.acted.answer)) x.denied;
     }
 
-module _ {np : NamedPolicy} {start now : Bytes} {s : Party} {fed : List ℕ} {acted : List Acted} (x : PartyStands np start now s fed acted) where
+module _ {np : NamedPolicy} {start now : Bytes} {s : LinkState} {fed : List ℕ} {acted : List Acted} (x : LinkStands np start now s fed acted) where
   text_is : IsWritten s → given_text np acted s.at ≡ replies_text np acted
   text_is wrote = whole_text np acted s.told s.at x.told wrote
 
@@ -143,7 +141,7 @@ module _ {np : NamedPolicy} {start now : Bytes} {s : Party} {fed : List ℕ} {ac
     same = waits_after s fed byte some x.within.2 is
 
     stands_next : (frame : Frame) (talk : Talk) (told : LineAnswer) (at : ℕ) (room : Roomy ℕ) (acted' : List Acted) → HasHeard np frame talk (fed ++ byte ∷ []) acted' → AreUnworn acted' → TellsLast np acted' told at
-        → given_text np acted' at ≡ given_text np acted s.at → PartyStands np start now (record s { framer = frame; talk = talk; told = told; at = at; room = room; from = s.from + 1 }) (fed ++ byte ∷ []) acted'
+        → given_text np acted' at ≡ given_text np acted s.at → LinkStands np start now (record s { framer = frame; talk = talk; told = told; at = at; room = room; from = s.from + 1 }) (fed ++ byte ∷ []) acted'
     stands_next frame talk told at room acted' heard unworn tells text =
         let w = x.within in
         record {
@@ -155,12 +153,12 @@ module _ {np : NamedPolicy} {start now : Bytes} {s : Party} {fed : List ℕ} {ac
           within = (omega (arith, some), w.1, w.2);
         }
 
-    pub stands_byte : is_feed byte ≡ false → PartyStands np start now (record s { framer = pushed s.framer byte; from = s.from + 1 }) (fed ++ byte ∷ []) acted
+    pub stands_byte : is_feed byte ≡ false → LinkStands np start now (record s { framer = pushed s.framer byte; from = s.from + 1 }) (fed ++ byte ∷ []) acted
     stands_byte other = stands_next (pushed s.framer byte) s.talk s.told s.at s.room acted (heard_byte byte x.heard other) x.unworn x.told refl
 
     -- a line was acted on, and nothing of its reply is written yet
     pub stands_line : (frame : Frame) (talk : Talk) (told : LineAnswer) (room : Roomy ℕ) (a : Acted) → IsWritten s → HasHeard np frame talk (fed ++ byte ∷ []) (a ∷ acted) → AreUnworn (a ∷ acted) → TellsLast np (a ∷ acted) told 0
-        → PartyStands np start now (record s { framer = frame; talk = talk; told = told; at = 0; room = room; from = s.from + 1 }) (fed ++ byte ∷ []) (a ∷ acted)
+        → LinkStands np start now (record s { framer = frame; talk = talk; told = told; at = 0; room = room; from = s.from + 1 }) (fed ++ byte ∷ []) (a ∷ acted)
     stands_line frame talk told room a wrote heard unworn tells = stands_next frame talk told 0 room (a ∷ acted) heard unworn tells (append-nil (replies_text np acted) ∙ sym (text_is wrote))
 
     -- the line wore the pass out: nothing of it was told
@@ -185,7 +183,7 @@ module _ {np : NamedPolicy} {start now : Bytes} {s : Party} {fed : List ℕ} {ac
         }
 
   -- so much of its last reply was written
-  stands_pushed : (a b : Harbour) (c at : ℕ) {result : Result (Unit {0}) Pause} → now ≡ port_bytes (a.port c) → PushesOut a b c (told_bytes s.told) s.at at result → PartyStands np start (port_bytes (b.port c)) (record s { at = at }) fed acted
+  stands_pushed : (a b : Harbour) (c at : ℕ) {result : Result (Unit {0}) Yield} → now ≡ port_bytes (a.port c) → PushesOut a b c (told_bytes s.told) s.at at result → LinkStands np start (port_bytes (b.port c)) (record s { at = at }) fed acted
   stands_pushed a b c at bytes p =
       record {
         heard = x.heard;
@@ -204,7 +202,7 @@ module _ {np : NamedPolicy} {start now : Bytes} {s : Party} {fed : List ℕ} {ac
   -- these bytes were read behind those that were acted on
   stands_read : (a b : Harbour) (c : ℕ) (chunk : List ℕ) (from upto left : ℕ) → now ≡ port_bytes (a.port c) → s.from ≡ s.upto → from ≤ upto → upto ≤ 4096 → length chunk ≡ 4096 → upto - from + left ≡ s.left
       → (b.port c).given ≡ (a.port c).given → Appends (a.port c).taken (b.port c).taken (drop from (take upto chunk)) → Consumes (a.port c).left (b.port c).left (drop from (take upto chunk))
-      → PartyStands np start (port_bytes (b.port c)) (record s { chunk = chunk; from = from; upto = upto; left = left }) fed acted
+      → LinkStands np start (port_bytes (b.port c)) (record s { chunk = chunk; from = from; upto = upto; left = left }) fed acted
   stands_read a b c chunk from upto left bytes none some within size sum given taken left_is =
       let w = drop from (take upto chunk) in
       let long = waits_long (record s { chunk = chunk; from = from; upto = upto; left = left }) some (omega (arith, within, size)) in
@@ -262,12 +260,12 @@ module _ {np : NamedPolicy} {start now : Bytes} {s : Party} {fed : List ℕ} {ac
       }
 
 -- as many bytes as a link may send were acted on
-pub ends_spent : {np : NamedPolicy} {start : Bytes} {s : Party} {fed : List ℕ} {acted : List Acted} (q : Course) → PartyStands np start q.bytes s fed acted → is_over q.last ≡ false → IsWritten s → s.from ≡ s.upto → s.left ≡ 0 → EndsLink np start q acted (polled_as s Spent)
+pub ends_spent : {np : NamedPolicy} {start : Bytes} {s : LinkState} {fed : List ℕ} {acted : List Acted} (q : Course) → LinkStands np start q.bytes s fed acted → is_over q.last ≡ false → IsWritten s → s.from ≡ s.upto → s.left ≡ 0 → EndsLink np start q acted (polled_as s Spent)
 ends_spent q x live wrote none spent = let had = fed_long x none in ends_whole x q Spent LinkSpent refl wrote none (λ g. g) refl (live, omega (arith, had, spent))
 
-module _ {np : NamedPolicy} {start : Bytes} {a b : Harbour} {c : ℕ} {s : Party} {fed : List ℕ} {acted : List Acted} (x : PartyStands np start (port_bytes (a.port c)) s fed acted) where
+module _ {np : NamedPolicy} {start : Bytes} {a b : Harbour} {c : ℕ} {s : LinkState} {fed : List ℕ} {acted : List Acted} (x : LinkStands np start (port_bytes (a.port c)) s fed acted) where
   -- how the writing of a reply ends
-  pub comes_pushed : (at : ℕ) (result : Result (Unit {0}) Pause) → PushesOut a b c (told_bytes s.told) s.at at result → Comes np start (course (b.port c)) (record s { at = at }) acted result
+  pub comes_pushed : (at : ℕ) (result : Result (Unit {0}) Yield) → PushesOut a b c (told_bytes s.told) s.at at result → Comes np start (course (b.port c)) (record s { at = at }) acted result
   comes_pushed at (Ok u) p = (fed, stands_pushed x a b c at refl p)
   comes_pushed at (Err Later) p = record { fed = fed; stands = stands_pushed x a b c at refl p; waits = inr p.pushed; live = ap is_over p.pushed.1 }
   comes_pushed at (Err (End WriteFault)) p = (ends_cut (stands_pushed x a b c at refl p) (course (b.port c)) WriteFault refl p.pushed.0 refl p.pushed.1, tt)
@@ -279,35 +277,35 @@ module _ {np : NamedPolicy} {start : Bytes} {a b : Harbour} {c : ℕ} {s : Party
   comes_pushed at (Err (End (Worn n))) p = absurd p.pushed
 
   -- how a read ends; there was room for a byte
-  module _ (s' : Party) (wrote : IsWritten s) (none : s.from ≡ s.upto) (some : 0 < s.left) (size : length s'.chunk ≡ 4096) where
+  module _ (s' : LinkState) (wrote : IsWritten s) (none : s.from ≡ s.upto) (some : 0 < s.left) (size : length s'.chunk ≡ 4096) where
     -- nothing was read
-    stands_idle : s.upto ≤ 4096 → s' ≡ record s { chunk = s'.chunk } → {result : Result (Unit {0}) Pause} → FillsUp a b c s s' result → PartyStands np start (port_bytes (b.port c)) (record s { chunk = s'.chunk }) fed acted
+    stands_idle : s.upto ≤ 4096 → s' ≡ record s { chunk = s'.chunk } → {result : Result (Unit {0}) Yield} → FillsUp a b c s s' result → LinkStands np start (port_bytes (b.port c)) (record s { chunk = s'.chunk }) fed acted
     stands_idle within is f =
         stands_read x a b c s'.chunk s.from s.upto s.left refl none (omega (arith, none)) within size (omega (arith, none)) f.given (subst (λ (l : List ℕ). Appends (a.port c).taken (b.port c).taken l) (ap waiting_bytes is) f.taken)
         (subst (λ (l : List ℕ). Consumes (a.port c).left (b.port c).left l) (ap waiting_bytes is) f.left)
 
-    pub comes_filled : (result : Result (Unit {0}) Pause) → FillsUp a b c s s' result → Comes np start (course (b.port c)) s' acted result
+    pub comes_filled : (result : Result (Unit {0}) Yield) → FillsUp a b c s s' result → Comes np start (course (b.port c)) s' acted result
     comes_filled (Ok u) f =
         let r = f.filled in
         let n = r.0 in
         let few = r.2 in
-        subst (λ (z : Party). Comes np start (course (b.port c)) z acted (Ok u)) (sym r.4) (
+        subst (λ (z : LinkState). Comes np start (course (b.port c)) z acted (Ok u)) (sym r.4) (
           fed,
           stands_read x a b c s'.chunk 0 n (s.left - n) refl none (omega arith) r.3 size (omega (arith, few)) f.given (subst (λ (l : List ℕ). Appends (a.port c).taken (b.port c).taken l) (ap waiting_bytes r.4) f.taken)
               (subst (λ (l : List ℕ). Consumes (a.port c).left (b.port c).left l) (ap waiting_bytes r.4) f.left),
         )
     comes_filled (Err Later) f =
         let r = f.filled in
-        subst (λ (z : Party). Comes np start (course (b.port c)) z acted (Err Later)) (sym r.0) (record { fed = fed; stands = stands_idle x.within.1 r.0 f; waits = inl (wrote, none); live = r.1 })
+        subst (λ (z : LinkState). Comes np start (course (b.port c)) z acted (Err Later)) (sym r.0) (record { fed = fed; stands = stands_idle x.within.1 r.0 f; waits = inl (wrote, none); live = r.1 })
     comes_filled (Err (End Ended)) f =
         let r = f.filled in
         let had = fed_long x none in
-        subst (λ (z : Party). Comes np start (course (b.port c)) z acted (Err (End Ended))) (sym r.0)
+        subst (λ (z : LinkState). Comes np start (course (b.port c)) z acted (Err (End Ended))) (sym r.0)
         (ends_whole (stands_idle x.within.1 r.0 f) (course (b.port c)) Ended LinkEnded refl wrote none (λ g. g) refl (r.1, r.2, omega (arith, had, some)), tt)
     comes_filled (Err (End ReadFault)) f =
         let r = f.filled in
         let had = fed_long x none in
-        subst (λ (z : Party). Comes np start (course (b.port c)) z acted (Err (End ReadFault))) (sym r.0)
+        subst (λ (z : LinkState). Comes np start (course (b.port c)) z acted (Err (End ReadFault))) (sym r.0)
         (ends_whole (stands_idle x.within.1 r.0 f) (course (b.port c)) ReadFault LinkReadFault refl wrote none (λ g. g) refl (r.1.0, r.1.1, omega (arith, had, some)), tt)
     comes_filled (Err (End WriteFault)) f = absurd f.filled
     comes_filled (Err (End Spent)) f = absurd f.filled

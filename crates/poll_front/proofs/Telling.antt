@@ -7,7 +7,7 @@ use Rattle.turn_lock.specs.Turns.{part}
 use Rattle.turn_lock.specs.Holders.{Holder, IsToldBy}
 use Rattle.locked_history.specs.Fronts.{by}
 use Rattle.policy_words.specs.Naming.{NamedPolicy}
-use Rattle.connection_laws.specs.Lines.{Acted, entries_of}
+use Rattle.connection_laws.specs.Lines.{entries_of}
 use Rattle.connection_laws.specs.Connection.{part_of, AreActed, IsTimed, placed}
 use Rattle.connection_laws.specs.Services.{service}
 use Rattle.connection_laws.proofs.Longer.{acted_longer}
@@ -59,7 +59,7 @@ pub front_with : {M : Type 0} (np : NamedPolicy) (legal : List Entry → Type 0)
     → (r : Ran np [] legal now 0 before after clock clock' start b ends end) → before.own ≡ [] → after.number ≡ 0 → IsToldBy [] h after → (f : IsPolledFront np birth h clock clock' start b ends) × (f.turns ≡ r.turns)
 front_with np legal now birth timed h before after clock clock' start b ends end r fresh number told =
     let o = first_spot before clock in
-    let p = front_spot after clock' r.pace in (
+    let p = front_spot after clock' r.counters in (
       record {
         turns = r.turns;
         count = r.count;

@@ -110,5 +110,5 @@ running_none v o =
       brief = tt;
       fits = λ k birth timed. tt;
       reads = Reads-nil o.clock;
-      calls = sym (add-zero o.pace.calls);
+      calls = sym (add-zero o.counters.calls);
     }

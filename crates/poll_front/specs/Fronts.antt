@@ -22,19 +22,18 @@ use Rattle.connection_laws.specs.Lines.{Acted, answer_text, actor_after, reply_l
 use Rattle.connection_laws.specs.Connection.{AreActed, IsTimed, placed}
 use Rattle.connection_laws.specs.Fits.{FrameFits}
 use Rattle.connection_laws.specs.Desks.{IsNamedActor}
-use Rattle.connection_laws.specs.Turns.{Grows, AreMine, IsReached}
-use Rattle.poll_front.specs.Ready.{StaysIdle}
+use Rattle.connection_laws.specs.Turns.{Grows, AreMine, IsReached, StaysIdle}
 use Rattle.connection_laws.specs.Services.{Service}
 use Rattle.connection_laws.specs.Acting.{IsTold, told_bytes}
 use Rattle.connection_laws.specs.Attending.{Bytes, Carries}
 use Rattle.poll_front.specs.declared.ends.Polled.{Polled}
 use Rattle.poll_front.specs.declared.ends.PollEnd.{PollEnd}
 use Rattle.poll_front.specs.declared.ends.PollEnd.TheVariants.{Ended, ReadFault, WriteFault, Spent, Full, Stopped, Worn}
-use Rattle.poll_front.specs.declared.parties.Party.{Party}
-use Rattle.poll_front.specs.declared.parties.Pace.{Pace}
-use Rattle.poll_front.specs.declared.parties.Pause.{Pause}
-use Rattle.poll_front.specs.declared.parties.Pause.TheVariants.{Later, End}
-use Rattle.poll_front.specs.declared.parties.TheConstants.{MAX_READ}
+use Rattle.poll_front.specs.declared.states.LinkState.{LinkState}
+use Rattle.poll_front.specs.declared.states.RunCounters.{RunCounters}
+use Rattle.poll_front.specs.declared.states.Yield.{Yield}
+use Rattle.poll_front.specs.declared.states.Yield.TheVariants.{Later, End}
+use Rattle.poll_front.specs.declared.states.TheConstants.{MAX_READ}
 use Rattle.poll_front.specs.declared.front.TheConstants.{MAX_OPEN}
 use Rattle.gt_io.specs.declared.port.Got.TheVariants.{Bytes as GotBytes, Finished, NotYet as GotNotYet}
 use Rattle.gt_io.specs.declared.port.Took.TheVariants.{NotYet}
@@ -60,14 +59,14 @@ abbrev pub all_acted : List Turn → List Acted
 all_acted [] = []
 all_acted (t ∷ before) = t.acted ∷ all_acted before
 
--- a moment of a front: its pass, its clock, and its pace
+-- a moment of a front: its pass, its clock, and its counters
 pub record FrontSpot (M : Type 0) : Type 0 where
   pub pass : Holder M
   pub clock : Option (ℕ → ℕ)
-  pub pace : Pace
+  pub counters : RunCounters
 
-abbrev pub front_spot : {M : Type 0} → Holder M → Option (ℕ → ℕ) → Pace → FrontSpot M
-front_spot pass clock pace = record { pass = pass; clock = clock; pace = pace }
+abbrev pub front_spot : {M : Type 0} → Holder M → Option (ℕ → ℕ) → RunCounters → FrontSpot M
+front_spot pass clock counters = record { pass = pass; clock = clock; counters = counters }
 
 -- what shows of a link's way: the bytes that went over it, its last read or write, and how many
 -- other links were open as it was opened
@@ -112,7 +111,7 @@ pub record IsLive (a : Harbour) (c : ℕ) : Type 0 where
 
 -- Calls on one link that was live: it stays open, and the others as they are. At most the last call
 -- failed or told the end, none where it goes on; and it is not owed where it is left for another
-pub record CallsOn (a b : Harbour) (c : ℕ) (result : Result (Unit {0}) Pause) : Type 0 where
+pub record CallsOn (a b : Harbour) (c : ℕ) (result : Result (Unit {0}) Yield) : Type 0 where
   pub rest : KeepsRest a b c
   pub finished : (b.port c).finished ≡ (a.port c).finished
   pub others : (b.port c).others ≡ (a.port c).others
@@ -123,11 +122,11 @@ pub record CallsOn (a b : Harbour) (c : ℕ) (result : Result (Unit {0}) Pause) 
   pub unowed : result ≡ Err Later → (b.port c).owed ≡ false
 
 -- the last reply is written
-abbrev pub IsWritten : Party → Type 0
+abbrev pub IsWritten : LinkState → Type 0
 IsWritten s = s.at ≡ length (told_bytes s.told)
 
 -- the bytes that wait to be acted on
-abbrev pub waiting_bytes : Party → List ℕ
+abbrev pub waiting_bytes : LinkState → List ℕ
 waiting_bytes s = drop s.from (take s.upto s.chunk)
 
 -- what was given where so many bytes of the last reply were written
@@ -154,7 +153,7 @@ pub record HasHeard (np : NamedPolicy) (frame : Frame) (talk : Talk) (fed : List
 
 -- An open link: fed are its bytes that were acted on, and these are its acted lines. It began as
 -- start, before anything was taken from it
-pub record PartyStands (np : NamedPolicy) (start now : Bytes) (s : Party) (fed : List ℕ)
+pub record LinkStands (np : NamedPolicy) (start now : Bytes) (s : LinkState) (fed : List ℕ)
     (acted : List Acted) : Type 0 where
   pub heard : HasHeard np s.framer s.talk fed acted
   pub unworn : AreUnworn acted
@@ -164,10 +163,10 @@ pub record PartyStands (np : NamedPolicy) (start now : Bytes) (s : Party) (fed :
   pub within : (s.from ≤ s.upto) × (s.upto ≤ MAX_READ) × (s.upto ≤ length s.chunk)
 
 -- it is left for another: all of its bytes were acted on and told, or its last reply waits for room
-pub record Rests (np : NamedPolicy) (start : Bytes) (now : Course) (s : Party) (acted : List Acted)
+pub record Rests (np : NamedPolicy) (start : Bytes) (now : Course) (s : LinkState) (acted : List Acted)
     : Type 0 where
   pub fed : List ℕ
-  pub stands : PartyStands np start now.bytes s fed acted
+  pub stands : LinkStands np start now.bytes s fed acted
   pub waits : (IsWritten s × (s.from ≡ s.upto))
       ⊎ ((s.at < length (told_bytes s.told)) × (now.last ≡ Wrote (Ok NotYet)))
   pub live : is_over now.last ≡ false
@@ -218,13 +217,13 @@ HasOwnEnd Stopped = ⊥
 HasOwnEnd _ = Unit {0}
 
 -- what a link has come to that ends so
-abbrev pub polled_as : Party → PollEnd → Polled
+abbrev pub polled_as : LinkState → PollEnd → Polled
 polled_as s end = record { asked = s.talk.asked; denied = s.talk.denied; outcome = end }
 
 -- a link goes on, is left for another, or has ended
-abbrev pub Comes : NamedPolicy → Bytes → Course → Party → List Acted → Result (Unit {0}) Pause
+abbrev pub Comes : NamedPolicy → Bytes → Course → LinkState → List Acted → Result (Unit {0}) Yield
     → Type 0
-Comes np start now s acted (Ok _) = (fed : List ℕ) × PartyStands np start now.bytes s fed acted
+Comes np start now s acted (Ok _) = (fed : List ℕ) × LinkStands np start now.bytes s fed acted
 Comes np start now s acted (Err Later) = Rests np start now s acted
 Comes np start now s acted (Err (End e)) =
     EndsLink np start now acted (polled_as s e) × HasOwnEnd e
@@ -240,11 +239,11 @@ module _ {M : Type 0} (v : Service) where
         → AreActed v.policy birth (by o.pass.number k) p.pass.seen
         (placed (by o.pass.number k) v.first o.pass.own) (acted_of k turns)
     pub reads : Reads o.clock p.clock (readings_of (all_acted turns))
-    pub calls : p.pace.calls ≡ o.pace.calls + length (readings_of (all_acted turns))
+    pub calls : p.counters.calls ≡ o.counters.calls + length (readings_of (all_acted turns))
 
   -- some lines of this link were acted on, and this is what it came to
   pub record Gone (o p : FrontSpot M) (start : Bytes) (now : Course) (c : ℕ) (turns : List Turn)
-      (s : Party) (result : Result (Unit {0}) Pause) : Type 0 where
+      (s : LinkState) (result : Result (Unit {0}) Yield) : Type 0 where
     pub more : List Turn
     pub own : Each (λ (t : Turn). t.link ≡ c) more
     pub running : Running o p (more ++ turns)
@@ -252,15 +251,15 @@ module _ {M : Type 0} (v : Service) where
     pub worn_out : (n : ℕ) → result ≡ Err (End (Worn n)) → p.pass.draws ≡ 2 ^ 40
 
   -- whatever went before, a link that stands comes to this
-  pub record Serves (p p' : FrontSpot M) (a b : Harbour) (c : ℕ) (s s' : Party)
-      (result : Result (Unit {0}) Pause) : Type 0 where
-    pub serves : (o : FrontSpot M) (start : Bytes) (turns : List Turn) (fed : List ℕ)
+  pub record StepsTo (p p' : FrontSpot M) (a b : Harbour) (c : ℕ) (s s' : LinkState)
+      (result : Result (Unit {0}) Yield) : Type 0 where
+    pub steps : (o : FrontSpot M) (start : Bytes) (turns : List Turn) (fed : List ℕ)
         → Running o p turns
-        → PartyStands v.policy start (port_bytes (a.port c)) s fed (acted_of c turns)
+        → LinkStands v.policy start (port_bytes (a.port c)) s fed (acted_of c turns)
         → Gone o p' start (course (b.port c)) c turns s' result
 
 -- Writing goes on with the reply, from the bytes at which it stands
-abbrev pub Pushed : Port → List ℕ → ℕ → Result (Unit {0}) Pause → Type 0
+abbrev pub Pushed : Port → List ℕ → ℕ → Result (Unit {0}) Yield → Type 0
 Pushed q text at (Ok _) = at ≡ length text
 Pushed q text at (Err Later) = (at < length text) × (q.last ≡ Wrote (Ok NotYet))
 Pushed q text at (Err (End WriteFault)) =
@@ -268,7 +267,7 @@ Pushed q text at (Err (End WriteFault)) =
 Pushed q text at (Err (End e)) = ⊥
 
 pub record PushesOut (a b : Harbour) (c : ℕ) (text : List ℕ) (at at' : ℕ)
-    (result : Result (Unit {0}) Pause) : Type 0 where
+    (result : Result (Unit {0}) Yield) : Type 0 where
   pub calls : CallsOn a b c result
   pub taken : (b.port c).taken ≡ (a.port c).taken
   pub left : (b.port c).left ≡ (a.port c).left
@@ -279,12 +278,12 @@ pub record PushesOut (a b : Harbour) (c : ℕ) (text : List ℕ) (at at' : ℕ)
   pub pushed : Pushed (b.port c) text at' result
 
 -- how the telling of a line went
-abbrev pub TellsLine : Harbour → Harbour → ℕ → LineAnswer → ℕ → Result (Unit {0}) Pause → Type 0
+abbrev pub TellsLine : Harbour → Harbour → ℕ → LineAnswer → ℕ → Result (Unit {0}) Yield → Type 0
 TellsLine a b c (ToldWorn n) at result = (b ≡ a) × (at ≡ 0) × (result ≡ Err (End (Worn n)))
 TellsLine a b c told at result = PushesOut a b c (told_bytes told) 0 at result
 
 -- A read gives the bytes that wait next
-abbrev pub Filled : Port → Party → Party → Result (Unit {0}) Pause → Type 0
+abbrev pub Filled : Port → LinkState → LinkState → Result (Unit {0}) Yield → Type 0
 Filled q s s' (Ok _) =
     (n : ℕ) × (0 < n) × (n ≤ s.left) × (n ≤ MAX_READ)
     × (s' ≡ record s { chunk = s'.chunk; from = 0; upto = n; left = s.left - n })
@@ -295,7 +294,7 @@ Filled q s s' (Err (End ReadFault)) =
     (s' ≡ record s { chunk = s'.chunk }) × ((f : Failed) × (q.last ≡ Read (Err f)))
 Filled q s s' (Err (End e)) = ⊥
 
-pub record FillsUp (a b : Harbour) (c : ℕ) (s s' : Party) (result : Result (Unit {0}) Pause)
+pub record FillsUp (a b : Harbour) (c : ℕ) (s s' : LinkState) (result : Result (Unit {0}) Yield)
     : Type 0 where
   pub calls : CallsOn a b c result
   pub given : (b.port c).given ≡ (a.port c).given
@@ -304,30 +303,30 @@ pub record FillsUp (a b : Harbour) (c : ℕ) (s s' : Party) (result : Result (Un
   pub filled : Filled (b.port c) s s' result
 
 -- so many more lines may be acted on
-pub record CanTalk (np : NamedPolicy) (talk : Talk) (pace : Pace) (n : ℕ) : Type 0 where
+pub record CanTalk (np : NamedPolicy) (talk : Talk) (counters : RunCounters) (n : ℕ) : Type 0 where
   pub actor : IsNamedActor np talk.actor
   pub asked : talk.asked + n < 2 ^ 63
   pub denied : talk.denied + n < 2 ^ 63
-  pub calls : pace.calls + n < 2 ^ 64
+  pub calls : counters.calls + n < 2 ^ 64
 
 -- one more line may have been acted on
-abbrev pub CountsOne : Talk → Talk → Pace → Pace → Type 0
-CountsOne talk talk' pace pace' =
+abbrev pub CountsOne : Talk → Talk → RunCounters → RunCounters → Type 0
+CountsOne talk talk' counters counters' =
     (talk'.asked ≤ talk.asked + 1) × (talk'.denied ≤ talk.denied + 1)
-    × (pace'.calls ≤ pace.calls + 1)
+    × (counters'.calls ≤ counters.calls + 1)
 
 -- a live link may be served: there is room to count a line for each of its bytes
-pub record CanServe (np : NamedPolicy) (a : Harbour) (c : ℕ) (pace : Pace) (s : Party) : Type 0
+pub record CanServe (np : NamedPolicy) (a : Harbour) (c : ℕ) (counters : RunCounters) (s : LinkState) : Type 0
   where
     pub live : IsLive a c
     pub told : s.at ≤ length (told_bytes s.told)
     pub waits : (s.from ≤ s.upto) × (s.upto ≤ MAX_READ)
-    pub talk : CanTalk np s.talk pace (s.upto - s.from + s.left)
+    pub talk : CanTalk np s.talk counters (s.upto - s.from + s.left)
 
 -- The pass is idle again and of the same number, and has seen a history that has come to this
 -- minute, where one is known
-abbrev pub StaysReady : {M : Type 0} → (M → List Entry → Type 0) → (M → List Entry → ℕ) → Lock M
+abbrev pub StaysIdleFrom : {M : Type 0} → (M → List Entry → Type 0) → (M → List Entry → ℕ) → Lock M
     → Holder M → Holder M → Option ℕ → Type 0
-StaysReady legal now_of desk before pass minute =
+StaysIdleFrom legal now_of desk before pass minute =
     StaysIdle (site_of desk) before pass
     × IsReached (legal desk.root) (now_of desk.root) pass.seen minute

@@ -1,4 +1,3 @@
-pub mod Ready
 pub mod Fronts
 pub mod Tables
 pub mod Polling

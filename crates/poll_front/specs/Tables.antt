@@ -21,8 +21,8 @@ use Rattle.poll_front.specs.declared.ends.PollEnd.{PollEnd}
 use Rattle.poll_front.specs.declared.ends.PollEnd.TheVariants.{Full, Stopped, Worn}
 use Rattle.poll_front.specs.declared.front.RunEnd.{RunEnd}
 use Rattle.poll_front.specs.declared.front.RunEnd.TheVariants.{Stopped as EndStopped, PortFault, Enough, Worn as EndWorn, Memory}
-use Rattle.poll_front.specs.declared.parties.Party.{Party}
-use Rattle.poll_front.specs.declared.parties.Pace.{Pace}
+use Rattle.poll_front.specs.declared.states.LinkState.{LinkState}
+use Rattle.poll_front.specs.declared.states.RunCounters.{RunCounters}
 use Rattle.poll_front.specs.declared.seats.Seat.{Seat}
 use Rattle.poll_front.specs.declared.seats.Seat.TheVariants.{New, Open, Over}
 use Rattle.gt_io.specs.declared.port.PortEvent.{PortEvent}
@@ -31,8 +31,8 @@ use Rattle.gt_io.specs.Ports.{Port, Harbour, IsOpen, is_over, KeepsRest, open_am
 use Rattle.poll_front.specs.Fronts.{Turn, FrontSpot, front_spot, acted_of, faults_of, ended_of, port_bytes, course, Rests, EndsLink, HasOwnEnd, polled_as, CanServe, Running}
 use Rattle.poll_front.specs.declared.front.TheConstants.{MAX_OPEN}
 
--- a party before its first byte
-pub record IsFreshParty (s : Party) : Type 0 where
+-- the state of a link before its first byte
+pub record IsFreshState (s : LinkState) : Type 0 where
   pub framer : s.framer ≡ blank_frame
   pub actor : s.talk.actor ≡ Nobody
   pub counts : (s.talk.asked ≡ 0) × (s.talk.denied ≡ 0)
@@ -41,16 +41,16 @@ pub record IsFreshParty (s : Party) : Type 0 where
   pub waits : (s.from ≡ 0) × (s.upto ≡ 0)
 
 -- a place that was not served yet gets what is kept of its link
-abbrev pub TakesParty : Seat → Seat → Type 0
-TakesParty New (Open b) = IsFreshParty b.value
-TakesParty New _ = ⊥
-TakesParty s s' = s' ≡ s
+abbrev pub TakesState : Seat → Seat → Type 0
+TakesState New (Open b) = IsFreshState b.value
+TakesState New _ = ⊥
+TakesState s s' = s' ≡ s
 
 -- what the service of a link asks of its place
-abbrev pub CanServeSeat : NamedPolicy → Harbour → ℕ → Pace → Seat → Type 0
-CanServeSeat np a c pace New = ⊥
-CanServeSeat np a c pace (Open b) = CanServe np a c pace b.value
-CanServeSeat np a c pace (Over e) = Unit {0}
+abbrev pub CanServeSeat : NamedPolicy → Harbour → ℕ → RunCounters → Seat → Type 0
+CanServeSeat np a c counters New = ⊥
+CanServeSeat np a c counters (Open b) = CanServe np a c counters b.value
+CanServeSeat np a c counters (Over e) = Unit {0}
 
 -- a link is let go at once exactly where as many others were open as may be
 abbrev pub IsLetIn : ℕ → PollEnd → Type 0
@@ -221,10 +221,10 @@ module _ {M : Type 0} (v : Service) where
   -- what a run comes to, before its open links are let go
   pub record Went (before after : Holder M) (clock clock' : Option (ℕ → ℕ)) (start b : Harbour)
       (seats : List Seat) (end : RunEnd) : Type 0 where
-    pub pace : Pace
+    pub counters : RunCounters
     pub busy : ℕ
     pub turns : List Turn
-    pub tabled : Tabled (first_spot before clock) (front_spot after clock' pace) start b seats busy
+    pub tabled : Tabled (first_spot before clock) (front_spot after clock' counters) start b seats busy
         turns
     pub runs : RunsTo start b after.draws (map polled_in seats) end
 
@@ -233,11 +233,11 @@ pub record Ran {M : Type 0} (np : NamedPolicy) (first : List Entry)
     (legal : List Entry → Type 0) (now : List Entry → ℕ) (number : ℕ) (before after : Holder M)
     (clock clock' : Option (ℕ → ℕ)) (start b : Harbour) (polled : List Polled) (end : RunEnd)
     : Type 0 where
-  pub pace : Pace
+  pub counters : RunCounters
   pub turns : List Turn
   pub number_is : before.number ≡ number
   pub running : Running (service np first legal now) (first_spot before clock)
-      (front_spot after clock' pace) turns
+      (front_spot after clock' counters) turns
   pub count : length polled ≡ b.opened
   pub links : (i : ℕ) (e : Polled) → slice_get polled i ≡ Some e
       → EndsLink np (port_bytes (start.port (i + 1))) (course (b.port (i + 1)))

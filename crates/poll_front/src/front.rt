@@ -3,18 +3,17 @@
 ghost use Rattle.std.specs.Prelude.{◌≡◌, ◌≤◌, ◌<◌, ◌+◌, ◌++◌, ◌∷◌, [], length, vec_len, vec_capacity, OnOk};
 ghost use Rattle.turn_lock.specs.Holders.{site_of};
 ghost use Rattle.connection_laws.specs.Desks.{MayBeAsked, RepliesCanBeTold};
-ghost use Rattle.poll_front.specs.Ready.{CanAsk, CanAskFrom, StaysIdle};
 ghost use Rattle.connection_laws.specs.Services.{service_at};
-ghost use Rattle.connection_laws.specs.Turns.{IsIdle};
+ghost use Rattle.connection_laws.specs.Turns.{IsIdle, CanAsk, CanAskFrom, StaysIdle};
 ghost use Rattle.gt_io.specs.Ports.{IsOpen, IsUncalled, Finishes};
 ghost use Rattle.poll_front.specs.declared.seats.Seat.{Seat};
-ghost use Rattle.poll_front.specs.Fronts.{front_spot, StaysReady};
+ghost use Rattle.poll_front.specs.Fronts.{front_spot, StaysIdleFrom};
 ghost use Rattle.poll_front.specs.Tables.{CanServeSeat, SeatServed, Went, Ran, IsOpenSeat, EndsSeat, AreOpenSeats, LetsGo, is_worn_end};
 
 use crate::ends::{PollEnd, Polled};
-use crate::parties::{Pace, Party, Pause};
 use crate::seats::{Seat, fill_seat};
-use crate::serve::attend;
+use crate::serve::serve_ready;
+use crate::states::{LinkState, RunCounters, Yield};
 use connection_laws::Server;
 use gt_base::{List, MAX_LINKS, Machine, Memory};
 use gt_io::{Clock, Gate, PortEvent, Ports};
@@ -47,29 +46,29 @@ fn serve_seat<M: Machine, R: Wait, P: Ports, C: Clock, G: Gate>(
     pass: &mut Pass<M>,
     ports: &mut P,
     clock: &mut C,
-    pace: &mut Pace,
-    spares: &mut Vec<Box<Party>>,
+    counters: &mut RunCounters,
+    spares: &mut Vec<Box<LinkState>>,
     seat: &mut Seat,
 ) -> Option<PollEnd>
     requires ready { CanAskFrom M.named M.legal M.now_of server.now.desk.now server.now.policy.now
-        pass.old pace.old.reached }
+        pass.old counters.old.reached }
     requires seat { CanServeSeat server.now.policy.now (P.harbour ports.old) server.now.conn
-        pace.old seat.old }
+        counters.old seat.old }
     ensures served { SeatServed
         (service_at M.list M.legal M.now_of server.now.desk.now server.now.policy.now)
-        (front_spot pass.old (C.readings clock.old) pace.old)
-        (front_spot pass.new (C.readings clock.new) pace.new) (P.harbour ports.old)
+        (front_spot pass.old (C.readings clock.old) counters.old)
+        (front_spot pass.new (C.readings clock.new) counters.new) (P.harbour ports.old)
         (P.harbour ports.new) server.now.conn seat.old seat.new result }
-    ensures ready { StaysReady M.legal M.now_of server.now.desk.now pass.old pass.new
-        pace.new.reached }
+    ensures ready { StaysIdleFrom M.legal M.now_of server.now.desk.now pass.old pass.new
+        counters.new.reached }
 {
-    let Seat::Open(party) = seat else {
+    let Seat::Open(state) = seat else {
         return None;
     };
-    match attend(server, pass, ports, clock, pace, party) {
-        Pause::Later => None,
-        Pause::End(outcome) => {
-            let polled = party.polled(outcome);
+    match serve_ready(server, pass, ports, clock, counters, state) {
+        Yield::Later => None,
+        Yield::End(outcome) => {
+            let polled = state.polled(outcome);
             ports.finish(server.conn);
             if let Seat::Open(spare) = replace(seat, Seat::Over(polled)) {
                 let _ = spares.push(spare);
@@ -110,7 +109,7 @@ fn seat_next<P: Ports>(link: u32, ports: &mut P, seats: &mut Vec<Seat>, busy: &m
 /// Takes the memory of the lists that grow with the links.
 fn make_room(
     seats: &mut Vec<Seat>,
-    spares: &mut Vec<Box<Party>>,
+    spares: &mut Vec<Box<LinkState>>,
     ends: &mut List<Polled>,
 ) -> Result<(), Memory>
     ensures seats { seats.new.items ≡ seats.old.items }
@@ -137,9 +136,9 @@ fn end_of<P: Ports>(link: u32, ports: &mut P, seat: &Seat) -> Polled
                 outcome: PollEnd::Stopped,
             }
         }
-        Seat::Open(party) => {
+        Seat::Open(state) => {
             ports.finish(link);
-            party.polled(PollEnd::Stopped)
+            state.polled(PollEnd::Stopped)
         }
         Seat::Over(polled) => *polled,
     }
@@ -159,7 +158,7 @@ fn serve_all<M: Machine, R: Wait, P: Ports, C: Clock, G: Gate>(
     ports: &mut P,
     clock: &mut C,
     seats: &mut Vec<Seat>,
-    spares: &mut Vec<Box<Party>>,
+    spares: &mut Vec<Box<LinkState>>,
 ) -> RunEnd
     requires ready { CanAsk M.named M.legal server.now.desk.now server.now.policy.now pass.old }
     requires none { seats.old.items ≡ [] }
@@ -172,7 +171,7 @@ fn serve_all<M: Machine, R: Wait, P: Ports, C: Clock, G: Gate>(
     ensures few { length seats.new.items ≤ MAX_LINKS }
     ensures idle { StaysIdle (site_of server.now.desk.now) pass.old pass.new }
 {
-    let mut pace = Pace {
+    let mut counters = RunCounters {
         calls: 0,
         reached: None,
     };
@@ -198,7 +197,15 @@ fn serve_all<M: Machine, R: Wait, P: Ports, C: Clock, G: Gate>(
                 if let Err(_) = fill_seat(server.alloc, spares, seat) {
                     return RunEnd::Memory;
                 }
-                if let Some(end) = serve_seat(&of, pass, ports, clock, &mut pace, spares, seat) {
+                if let Some(end) = serve_seat(
+                    &of,
+                    pass,
+                    ports,
+                    clock,
+                    &mut counters,
+                    spares,
+                    seat,
+                ) {
                     busy -= 1;
                     if is_worn(end) {
                         return RunEnd::Worn;

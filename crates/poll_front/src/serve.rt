@@ -2,19 +2,18 @@
 ghost use Rattle.std.specs.Prelude.{◌≡◌, ◌<◌, ◌≤◌, ◌+◌, OnOk, Err};
 ghost use Rattle.locked_history.specs.Fronts.{by};
 ghost use Rattle.connection_laws.specs.Desks.{IsNamedActor};
-ghost use Rattle.poll_front.specs.Ready.{CanAskFrom};
-ghost use Rattle.connection_laws.specs.Turns.{IsReached};
+ghost use Rattle.connection_laws.specs.Turns.{IsReached, CanAskFrom};
 ghost use Rattle.connection_laws.specs.Rooms.{text_in, room_with, LendsRoom, TakesBack};
 ghost use Rattle.connection_laws.specs.Services.{service_at};
 ghost use Rattle.connection_laws.specs.Acting.{HasRoom};
 ghost use Rattle.connection_laws.specs.Attending.{ActsBy};
 ghost use Rattle.connection_laws.specs.Clerks.{WearsAt, ClerkAsks, clerk_view};
-ghost use Rattle.poll_front.specs.Fronts.{front_spot, IsLive, CallsOn, IsWritten, TellsLine, Serves, CanTalk, CountsOne, CanServe, StaysReady};
-ghost use Rattle.poll_front.specs.declared.parties.TheConstants.{MAX_READ};
+ghost use Rattle.poll_front.specs.Fronts.{front_spot, IsLive, CallsOn, IsWritten, TellsLine, StepsTo, CanTalk, CountsOne, CanServe, StaysIdleFrom};
+ghost use Rattle.poll_front.specs.declared.states.TheConstants.{MAX_READ};
 
-use crate::attend::{fill, write_out};
+use crate::bytes::{fill, write_out};
 use crate::ends::PollEnd;
-use crate::parties::{Pace, Party, Pause};
+use crate::states::{LinkState, RunCounters, Yield};
 use connection_laws::{Clerk, LineAnswer, Server, Talk, act_by, count, take_back};
 use gt_base::{Instant, List, Machine};
 use gt_io::{Clock, Framed, Gate, Ports};
@@ -73,22 +72,22 @@ fn act_at<M: Machine, R: Wait, C: Clock, G: Gate>(
 fn tell<P: Ports>(
     ports: &mut P,
     link: u32,
-    party: &mut Party,
+    state: &mut LinkState,
     told: LineAnswer,
-) -> Result<(), Pause>
+) -> Result<(), Yield>
     requires live { IsLive (P.harbour ports.old) link }
-    ensures same { party.new ≡ record party.old { told = told; at = party.new.at } }
-    ensures tells { TellsLine (P.harbour ports.old) (P.harbour ports.new) link told party.new.at
+    ensures same { state.new ≡ record state.old { told = told; at = state.new.at } }
+    ensures tells { TellsLine (P.harbour ports.old) (P.harbour ports.new) link told state.new.at
         result }
     ensures calls { CallsOn (P.harbour ports.old) (P.harbour ports.new) link result }
-    ensures told { OnOk result (IsWritten party.new) }
+    ensures told { OnOk result (IsWritten state.new) }
 {
-    party.told = told;
-    party.at = 0;
-    if let LineAnswer::Worn { draws } = party.told {
-        return Err(Pause::End(PollEnd::Worn { draws }));
+    state.told = told;
+    state.at = 0;
+    if let LineAnswer::Worn { draws } = state.told {
+        return Err(Yield::End(PollEnd::Worn { draws }));
     }
-    write_out(ports, link, party)
+    write_out(ports, link, state)
 }
 
 /// Takes the next byte, and acts on the line that it ends.
@@ -97,96 +96,96 @@ fn take_next<M: Machine, R: Wait, P: Ports, C: Clock, G: Gate>(
     pass: &mut Pass<M>,
     ports: &mut P,
     clock: &mut C,
-    pace: &mut Pace,
-    party: &mut Party,
-) -> Result<(), Pause>
+    counters: &mut RunCounters,
+    state: &mut LinkState,
+) -> Result<(), Yield>
     requires ready { CanAskFrom M.named M.legal M.now_of server.now.desk.now server.now.policy.now
-        pass.old pace.old.reached }
+        pass.old counters.old.reached }
     requires live { IsLive (P.harbour ports.old) server.now.conn }
-    requires talk { CanTalk server.now.policy.now party.old.talk pace.old 1 }
-    requires told { IsWritten party.old }
-    requires some { (party.old.from < party.old.upto) × (party.old.upto ≤ MAX_READ) }
-    ensures serves { Serves
+    requires talk { CanTalk server.now.policy.now state.old.talk counters.old 1 }
+    requires told { IsWritten state.old }
+    requires some { (state.old.from < state.old.upto) × (state.old.upto ≤ MAX_READ) }
+    ensures steps { StepsTo
         (service_at M.list M.legal M.now_of server.now.desk.now server.now.policy.now)
-        (front_spot pass.old (C.readings clock.old) pace.old)
-        (front_spot pass.new (C.readings clock.new) pace.new) (P.harbour ports.old)
-        (P.harbour ports.new) server.now.conn party.old party.new result }
-    ensures ready { StaysReady M.legal M.now_of server.now.desk.now pass.old pass.new
-        pace.new.reached }
-    ensures actor { IsNamedActor server.now.policy.now party.new.talk.actor }
-    ensures counts { CountsOne party.old.talk party.new.talk pace.old pace.new }
+        (front_spot pass.old (C.readings clock.old) counters.old)
+        (front_spot pass.new (C.readings clock.new) counters.new) (P.harbour ports.old)
+        (P.harbour ports.new) server.now.conn state.old state.new result }
+    ensures ready { StaysIdleFrom M.legal M.now_of server.now.desk.now pass.old pass.new
+        counters.new.reached }
+    ensures actor { IsNamedActor server.now.policy.now state.new.talk.actor }
+    ensures counts { CountsOne state.old.talk state.new.talk counters.old counters.new }
     ensures calls { CallsOn (P.harbour ports.old) (P.harbour ports.new) server.now.conn result }
-    ensures told { OnOk result (IsWritten party.new) }
-    ensures one { (party.new.from ≡ party.old.from + 1) × (party.new.upto ≡ party.old.upto)
-        × (party.new.left ≡ party.old.left) }
-    ensures kept { room_with (text_in party.old.told) party.old.room
-        ≤ room_with (text_in party.new.told) party.new.room }
+    ensures told { OnOk result (IsWritten state.new) }
+    ensures one { (state.new.from ≡ state.old.from + 1) × (state.new.upto ≡ state.old.upto)
+        × (state.new.left ≡ state.old.left) }
+    ensures kept { room_with (text_in state.old.told) state.old.room
+        ≤ room_with (text_in state.new.told) state.new.room }
 {
-    let byte = party.chunk[party.from];
-    party.from += 1;
-    match party.framer.push(byte) {
+    let byte = state.chunk[state.from];
+    state.from += 1;
+    match state.framer.push(byte) {
         Framed::More => Ok(()),
         Framed::Whole => {
-            free_room(&mut party.room, &mut party.told);
-            party.talk.calls = pace.calls;
+            free_room(&mut state.room, &mut state.told);
+            state.talk.calls = counters.calls;
             let told = act_at(
                 server,
                 pass,
                 clock,
-                &mut pace.reached,
-                &mut party.talk,
-                &mut party.room,
-                party.framer.line(),
+                &mut counters.reached,
+                &mut state.talk,
+                &mut state.room,
+                state.framer.line(),
             );
-            pace.calls = party.talk.calls;
-            count(&mut party.talk, &told);
-            tell(ports, server.conn, party, told)
+            counters.calls = state.talk.calls;
+            count(&mut state.talk, &told);
+            tell(ports, server.conn, state, told)
         }
         Framed::Long => {
-            free_room(&mut party.room, &mut party.told);
-            tell(ports, server.conn, party, LineAnswer::Bad(LineFault::Long))
+            free_room(&mut state.room, &mut state.told);
+            tell(ports, server.conn, state, LineAnswer::Bad(LineFault::Long))
         }
     }
 }
 
 /// Serves a link that is ready: writes what is left of its last reply, acts on the bytes that wait,
 /// and reads on, until there is nothing to do for it yet or it has ended.
-pub(crate) fn attend<M: Machine, R: Wait, P: Ports, C: Clock, G: Gate>(
+pub(crate) fn serve_ready<M: Machine, R: Wait, P: Ports, C: Clock, G: Gate>(
     server: &Server<M, R, G>,
     pass: &mut Pass<M>,
     ports: &mut P,
     clock: &mut C,
-    pace: &mut Pace,
-    party: &mut Party,
-) -> Pause
+    counters: &mut RunCounters,
+    state: &mut LinkState,
+) -> Yield
     requires ready { CanAskFrom M.named M.legal M.now_of server.now.desk.now server.now.policy.now
-        pass.old pace.old.reached }
-    requires party { CanServe server.now.policy.now (P.harbour ports.old) server.now.conn pace.old
-        party.old }
-    ensures serves { Serves
+        pass.old counters.old.reached }
+    requires state { CanServe server.now.policy.now (P.harbour ports.old) server.now.conn counters.old
+        state.old }
+    ensures steps { StepsTo
         (service_at M.list M.legal M.now_of server.now.desk.now server.now.policy.now)
-        (front_spot pass.old (C.readings clock.old) pace.old)
-        (front_spot pass.new (C.readings clock.new) pace.new) (P.harbour ports.old)
-        (P.harbour ports.new) server.now.conn party.old party.new (Err result) }
-    ensures ready { StaysReady M.legal M.now_of server.now.desk.now pass.old pass.new
-        pace.new.reached }
+        (front_spot pass.old (C.readings clock.old) counters.old)
+        (front_spot pass.new (C.readings clock.new) counters.new) (P.harbour ports.old)
+        (P.harbour ports.new) server.now.conn state.old state.new (Err result) }
+    ensures ready { StaysIdleFrom M.legal M.now_of server.now.desk.now pass.old pass.new
+        counters.new.reached }
     ensures calls { CallsOn (P.harbour ports.old) (P.harbour ports.new) server.now.conn
         (Err result) }
 {
-    if let Err(pause) = write_out(ports, server.conn, party) {
-        return pause;
+    if let Err(why) = write_out(ports, server.conn, state) {
+        return why;
     }
     loop {
-        if party.from < party.upto {
-            if let Err(pause) = take_next(server, pass, ports, clock, pace, party) {
-                return pause;
+        if state.from < state.upto {
+            if let Err(why) = take_next(server, pass, ports, clock, counters, state) {
+                return why;
             }
-        } else if party.left > 0 {
-            if let Err(pause) = fill(ports, server.conn, party) {
-                return pause;
+        } else if state.left > 0 {
+            if let Err(why) = fill(ports, server.conn, state) {
+                return why;
             }
         } else {
-            return Pause::End(PollEnd::Spent);
+            return Yield::End(PollEnd::Spent);
         }
     }
 }

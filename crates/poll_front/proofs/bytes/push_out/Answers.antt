@@ -3,9 +3,9 @@ use Rattle.std.specs.Io.KnownBytes.{Appends}
 use Rattle.std.proofs.KnownBytes.{Appends-trans}
 use Rattle.gt_io.specs.Ports.{Port, is_over}
 use Rattle.poll_front.specs.declared.ends.PollEnd.TheVariants.{WriteFault}
-use Rattle.poll_front.specs.declared.parties.Pause.TheVariants.{Later, End}
+use Rattle.poll_front.specs.declared.states.Yield.TheVariants.{Later, End}
 use Rattle.poll_front.proofs.Calls.{calls_none, calls_twice, calls_write, live_kept, given_grows}
-use Rattle.poll_front.proofs.attend.push_out.Goals as goal
+use Rattle.poll_front.proofs.bytes.push_out.Goals as goal
 
 pub loop-at-init : goal.loop-at-init
 loop-at-init g c =

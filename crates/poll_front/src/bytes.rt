@@ -5,12 +5,12 @@ ghost use Rattle.gt_io.specs.Ports.{IsOpen, ReadsPort};
 ghost use Rattle.poll_front.specs.Fronts.{IsLive, PushesOut, FillsUp};
 
 use crate::ends::PollEnd;
-use crate::parties::{MAX_READ, Pace, Party, Pause};
+use crate::states::{LinkState, MAX_READ, RunCounters, Yield};
 use connection_laws::reply_of;
 use gt_io::{Failed, Got, Ports, Took};
 
 /// Writes the text from the byte `at` on, as far as the link takes it now.
-fn push_out<P: Ports>(ports: &mut P, link: u32, text: &[u8], at: &mut usize) -> Result<(), Pause>
+fn push_out<P: Ports>(ports: &mut P, link: u32, text: &[u8], at: &mut usize) -> Result<(), Yield>
     requires live { IsLive (P.harbour ports.old) link }
     requires within { at.old ≤ length text.now }
     ensures { PushesOut (P.harbour ports.old) (P.harbour ports.new) link text.now at.old at.new
@@ -20,22 +20,26 @@ fn push_out<P: Ports>(ports: &mut P, link: u32, text: &[u8], at: &mut usize) -> 
         let (_, rest) = text.split_at(*at);
         match ports.write(link, rest) {
             Ok(Took::Bytes(n)) => *at += n,
-            Ok(Took::NotYet) => return Err(Pause::Later),
-            Err(_) => return Err(Pause::End(PollEnd::WriteFault)),
+            Ok(Took::NotYet) => return Err(Yield::Later),
+            Err(_) => return Err(Yield::End(PollEnd::WriteFault)),
         }
     }
     Ok(())
 }
 
 /// Writes what is left of the reply to the last line.
-pub(crate) fn write_out<P: Ports>(ports: &mut P, link: u32, party: &mut Party) -> Result<(), Pause>
+pub(crate) fn write_out<P: Ports>(
+    ports: &mut P,
+    link: u32,
+    state: &mut LinkState,
+) -> Result<(), Yield>
     requires { IsLive (P.harbour ports.old) link
-        × (party.old.at ≤ length (told_bytes party.old.told)) }
-    ensures same { party.new ≡ record party.old { at = party.new.at } }
+        × (state.old.at ≤ length (told_bytes state.old.told)) }
+    ensures same { state.new ≡ record state.old { at = state.new.at } }
     ensures pushes { PushesOut (P.harbour ports.old) (P.harbour ports.new) link
-        (told_bytes party.old.told) party.old.at party.new.at result }
+        (told_bytes state.old.told) state.old.at state.new.at result }
 {
-    push_out(ports, link, reply_of(&party.told), &mut party.at)
+    push_out(ports, link, reply_of(&state.told), &mut state.at)
 }
 
 /// Reads some bytes, `left` at most.
@@ -51,24 +55,24 @@ fn read_some<P: Ports>(ports: &mut P, link: u32, buf: &mut [u8], left: usize) ->
 }
 
 /// Reads the bytes that are to be acted on next.
-pub(crate) fn fill<P: Ports>(ports: &mut P, link: u32, party: &mut Party) -> Result<(), Pause>
+pub(crate) fn fill<P: Ports>(ports: &mut P, link: u32, state: &mut LinkState) -> Result<(), Yield>
     requires live { IsLive (P.harbour ports.old) link }
-    requires left { 0 < party.old.left }
-    requires none { party.old.from ≡ party.old.upto }
-    requires within { party.old.upto ≤ MAX_READ }
-    ensures fills { FillsUp (P.harbour ports.old) (P.harbour ports.new) link party.old party.new
+    requires left { 0 < state.old.left }
+    requires none { state.old.from ≡ state.old.upto }
+    requires within { state.old.upto ≤ MAX_READ }
+    ensures fills { FillsUp (P.harbour ports.old) (P.harbour ports.new) link state.old state.new
         result }
-    ensures size { length party.new.chunk ≡ MAX_READ }
+    ensures size { length state.new.chunk ≡ MAX_READ }
 {
-    match read_some(ports, link, &mut party.chunk, party.left) {
+    match read_some(ports, link, &mut state.chunk, state.left) {
         Ok(Got::Bytes(n)) => {
-            party.left -= n;
-            party.from = 0;
-            party.upto = n;
+            state.left -= n;
+            state.from = 0;
+            state.upto = n;
             Ok(())
         }
-        Ok(Got::Finished) => Err(Pause::End(PollEnd::Ended)),
-        Ok(Got::NotYet) => Err(Pause::Later),
-        Err(_) => Err(Pause::End(PollEnd::ReadFault)),
+        Ok(Got::Finished) => Err(Yield::End(PollEnd::Ended)),
+        Ok(Got::NotYet) => Err(Yield::Later),
+        Err(_) => Err(Yield::End(PollEnd::ReadFault)),
     }
 }

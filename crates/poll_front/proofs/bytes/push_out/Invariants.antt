@@ -2,7 +2,7 @@ use Rattle.std.proofs.Common.{◌≡◌, ◌≤◌, ◌-◌, ◌++◌, ℕ, List
 use Rattle.std.specs.declared.option.Option.{Option}
 use Rattle.std.specs.Io.KnownBytes.{Appends}
 use Rattle.poll_front.specs.Fronts.{IsLive, CallsOn}
-use Rattle.poll_front.proofs.attend.push_out.Given as goal
+use Rattle.poll_front.proofs.bytes.push_out.Given as goal
 
 abbrev pub invariant-loop-at : goal.invariant-loop-at
 invariant-loop-at g l =
