@@ -1,26 +1,63 @@
 -- A run to its end.
-use Rattle.std.proofs.Common.{◌≡◌, ℕ, ◌+◌, ◌-◌, ◌≤◌, false, List, length, slice_get, refl, sym, ap, subst, ◌∙◌, arith, ⊎_elim, inl, Option, Some}
-use Rattle.std.proofs.lemmas.Option.{slice_get_cases, slice_get_within}
+use Rattle.std.proofs.Common.{◌≡◌, ℕ, ◌+◌, ◌-◌, ◌<◌, ◌≤◌, List, [], ◌∷◌, ◌++◌, map, take, length, get_or, slice_get, refl, sym, ap, subst, ◌∙◌, arith, ⊎_elim, inl, Option, Some}
+use Rattle.std.proofs.lemmas.Option.{slice_get_cases, slice_get_within, get_or_from_slice_get}
+use Rattle.std.proofs.lemmas.List.{take_all, take_more, map-append, length-map}
+use mathlib.Core.Logic.{dite}
+use native.Mathlib.Decide.{ℕ_discrete}
 use Rattle.gt_base.specs.declared.requests.Entry.{Entry}
-use Rattle.gt_io.specs.Ports.{Port, Harbour}
+use Rattle.gt_io.specs.Ports.{Port, Harbour, KeepsRest}
 use Rattle.turn_lock.specs.Turns.{Each}
 use Rattle.turn_lock.specs.Holders.{Holder}
 use Rattle.policy_words.specs.Naming.{NamedPolicy}
 use Rattle.connection_laws.specs.Lines.{Acted}
+use Rattle.connection_laws.specs.Services.{service}
+use Rattle.connection_laws.specs.Attending.{Bytes}
 use Rattle.poll_front.specs.declared.front.RunEnd.{RunEnd}
 use Rattle.poll_front.specs.declared.front.RunEnd.TheVariants.{Stopped as EndStopped, PortFault, Enough, Worn as EndWorn, Memory}
 use Rattle.poll_front.specs.declared.ends.Polled.{Polled}
 use Rattle.poll_front.specs.declared.ends.PollEnd.{PollEnd}
 use Rattle.poll_front.specs.declared.ends.PollEnd.TheVariants.{Ended, ReadFault, WriteFault, Spent, Full, Stopped, Worn}
-use Rattle.poll_front.specs.declared.parties.Pace.{Pace}
 use Rattle.poll_front.specs.declared.seats.Seat.{Seat}
 use Rattle.poll_front.specs.declared.seats.Seat.TheVariants.{New, Open, Over}
-use Rattle.poll_front.specs.Fronts.{Turn, acted_of, faults_by, faults_of, ended_by, ended_of, EndsLink, HasOwnEnd}
-use Rattle.poll_front.specs.Tables.{Sits, IsLetIn, IsLetGo, EndsSeatAt, LetsGo, Went, Ran, MayGoOn, GoesTo, RunsTo, IsUnwornSeat, AreUnwornSeats, AreUnwornEnds, FaultsAreLast, EndsAreLast, count_among, faults_told, is_worn_end, first_spot}
+use Rattle.poll_front.specs.Fronts.{Turn, acted_of, port_bytes, course, faults_by, faults_of, ended_by, ended_of, EndsLink, HasOwnEnd}
+use Rattle.poll_front.specs.Tables.{Sits, IsLetIn, IsLetGo, LetsGo, EndsSeat, AreOpenSeats, Went, Ran, MayGoOn, RunsTo, FaultsAreLast, EndsAreLast, count_among, faults_told, polled_in, port_behind}
 use Rattle.poll_front.proofs.Counting.{shown_same}
+use Rattle.poll_front.proofs.Looping.{seat_of}
 use Rattle.poll_front.proofs.Seating.{ends_blank, ends_stopped}
 
-let_go_by : (nexts : ℕ) (q : Port) (end : PollEnd) → HasOwnEnd end → (n : ℕ) × (q.finished ≡ Some n) → IsLetGo nexts q end
+-- the links that are open at the end are let go one after the other
+pub lets_none : (a : Harbour) (seats : List Seat) (ends : List Polled) → ends ≡ [] → LetsGo a a seats 0 ends
+lets_none a seats ends none =
+    record { told = refl; nexts = refl; opened = refl; faults = refl; told_ends = refl; polled = none; each = λ i s low at. absurd (omega (arith, low)); ahead = λ k high. refl }
+
+pub lets_next : (a b d : Harbour) (seats : List Seat) (ends : List Polled) (n : ℕ) (seat : Seat) (e : Polled) → LetsGo a b seats n ends → n < length seats → seat ≡ get_or seats n seat → EndsSeat b d (n + 1) seat e
+    → LetsGo a d seats (n + 1) (ends ++ e ∷ [])
+lets_next a b d seats ends n seat e x low is y =
+    record {
+      told = y.rest.told ∙ x.told;
+      nexts = y.rest.nexts ∙ x.nexts;
+      opened = y.rest.opened ∙ x.opened;
+      faults = y.faults ∙ x.faults;
+      told_ends = y.ends ∙ x.told_ends;
+      polled = ap (λ (l : List Polled). l ++ e ∷ []) x.polled ∙ ap (λ (z : Polled). map polled_in (take n seats) ++ z ∷ []) (y.polled ∙ ap polled_in is) ∙ sym (ap (map polled_in) (take_more seats n seat low) ∙ map-append polled_in (take n seats) (get_or seats n seat ∷ []));
+      each = λ i s under at.
+          dite (ℕ_discrete i n) (λ here.
+          let s_is : s ≡ seat = sym (get_or_from_slice_get seats i s seat at) ∙ ap (λ (j : ℕ). get_or seats j seat) here ∙ sym is in
+          let p : d.port (n + 1) ≡ port_behind seat a.nexts (a.port (n + 1)) = y.port ∙ ap (λ (m : ℕ). port_behind seat m (b.port (n + 1))) x.nexts ∙ ap (port_behind seat a.nexts) (x.ahead (n + 1) (omega arith)) in
+          subst (λ (j : ℕ). d.port (j + 1) ≡ port_behind s a.nexts (a.port (j + 1))) (sym here) (subst (λ (w : Seat). d.port (n + 1) ≡ port_behind w a.nexts (a.port (n + 1))) (sym s_is) p)) (λ other.
+          y.rest.others (i + 1) (λ same. other (omega (arith, same))) ∙ x.each i s (omega (arith, under, other)) at);
+      ahead = λ k high. y.rest.others k (λ same. absurd (omega (arith, same, high))) ∙ x.ahead k (omega (arith, high));
+    }
+
+-- the seats behind stay open
+pub open_next : (b d : Harbour) (seats : List Seat) (n : ℕ) → AreOpenSeats b n seats → KeepsRest b d (n + 1) → AreOpenSeats d (n + 1) seats
+open_next b d seats n x r = λ i s high at is.
+    let o = x i s (omega (arith, high)) at is in
+    let last = o.last in
+    let same = r.opened in
+    record { first = o.first; last = omega (arith, last, same); unfinished = ap (λ (q : Port). q.finished) (r.others (i + 1) (λ e. absurd (omega (arith, e, high)))) ∙ o.unfinished }
+
+let_go_by : (nexts : ℕ) (finished : Option ℕ) (end : PollEnd) → HasOwnEnd end → (n : ℕ) × (finished ≡ Some n) → IsLetGo nexts finished end
 let_go_by nexts q Ended own f = f
 let_go_by nexts q ReadFault own f = f
 let_go_by nexts q WriteFault own f = f
@@ -29,53 +66,30 @@ let_go_by nexts q Full own f = f
 let_go_by nexts q (Worn n) own f = f
 let_go_by nexts q Stopped own f = absurd own
 
-abbrev Has : NamedPolicy → Port → Port → ℕ → List Acted → Polled → Type 0
-Has np start q nexts acted e = EndsLink np start q e.asked e.denied acted e.outcome × IsLetIn q e.outcome × IsLetGo nexts q e.outcome
+abbrev Has : NamedPolicy → Bytes → Port → ℕ → List Acted → Polled → Type 0
+Has np start q nexts acted e = EndsLink np start (course q) acted e × IsLetIn q.others e.outcome × IsLetGo nexts q.finished e.outcome
 
-link_ended : (np : NamedPolicy) (start q q' : Port) (nexts : ℕ) (acted : List Acted) (s : Seat) (e : Polled) → Sits np start q acted s → EndsSeatAt q q' nexts s e → Has np start q' nexts acted e
-link_ended np start q q' nexts acted New e x at =
+link_ended : (np : NamedPolicy) (start : Bytes) (q : Port) (nexts : ℕ) (acted : List Acted) (s : Seat) → Sits np start q acted s → Has np start (port_behind s nexts q) nexts acted (polled_in s)
+link_ended np start q nexts acted New x =
     let few = x.4 in
-    let r : Port = record q { owed = false; finished = Some nexts } in
-    subst (λ (z : Polled). Has np start q' nexts acted z) (sym at.0) (subst (λ (z : Port). Has np start z nexts acted (record { asked = 0; denied = 0; outcome = Stopped })) (sym at.1)
-    (subst (λ (l : List Acted). EndsLink np start r 0 0 l Stopped) (sym x.0) (ends_blank np start r Stopped (record { left = x.1.left; taken = x.1.taken; given = x.1.given }) (inl (refl, tt, refl)) x.2), few, refl))
-link_ended np start q q' nexts acted (Open b) e x at =
-    let few = x.2 in
-    let others = ap (λ (r : Port). r.others) at.1 in
-    subst (λ (z : Polled). Has np start q' nexts acted z) (sym at.0)
-    (ends_stopped np start q q' nexts b.value acted x.0 at.1, omega (arith, few, others), ap (λ (r : Port). r.finished) at.1)
-link_ended np start q q' nexts acted (Over polled) e x at =
-    subst (λ (z : Polled). Has np start q' nexts acted z) (sym at.0)
-    (subst (λ (r : Port). Has np start r nexts acted polled) (sym at.1) (x.0, x.2, let_go_by nexts q polled.outcome x.3 x.1))
+    (subst (λ (l : List Acted). EndsLink np start (course q) l (polled_in New)) (sym x.0) (ends_blank np start (course q) Stopped x.1 (inl refl) x.2), few, refl)
+link_ended np start q nexts acted (Open b) x = (ends_stopped np start (course q) b.value acted x.0, x.2, refl)
+link_ended np start q nexts acted (Over e) x = (x.0, x.2, let_go_by nexts q.finished e.outcome x.3 x.1)
 
-calm_end : (q q' : Port) (nexts : ℕ) (s : Seat) (e : Polled) → IsUnwornSeat s → EndsSeatAt q q' nexts s e → is_worn_end e.outcome ≡ false
-calm_end q q' nexts New e u at = ap (λ (z : Polled). is_worn_end z.outcome) at.0
-calm_end q q' nexts (Open b) e u at = ap (λ (z : Polled). is_worn_end z.outcome) at.0
-calm_end q q' nexts (Over polled) e u at = ap (λ (z : Polled). is_worn_end z.outcome) at.0 ∙ u
+same_last : (s : Seat) (nexts : ℕ) (q : Port) → (port_behind s nexts q).last ≡ q.last
+same_last New nexts q = refl
+same_last (Open b) nexts q = refl
+same_last (Over e) nexts q = refl
 
-same_last : (q q' : Port) (nexts : ℕ) (s : Seat) (e : Polled) → EndsSeatAt q q' nexts s e → q'.last ≡ q.last
-same_last q q' nexts New e at = ap (λ (r : Port). r.last) at.1
-same_last q q' nexts (Open b) e at = ap (λ (r : Port). r.last) at.1
-same_last q q' nexts (Over polled) e at = ap (λ (r : Port). r.last) at.1
-
-module _ (a b : Harbour) (seats : List Seat) (ends : List Polled) (l : LetsGo a b seats ends) where
-  seat_of : (i : ℕ) (e : Polled) → slice_get ends i ≡ Some e → (s : Seat) × (slice_get seats i ≡ Some s)
-  seat_of i e at =
-      let within = slice_get_within ends i e at in
-      let count = l.count in
-      ⊎_elim (λ some. (some.0, some.2)) (λ none. let past = none.0 in absurd (omega (arith, within, count, past))) (slice_get_cases seats i).1
-
-  end_of_seat : (i : ℕ) (s : Seat) → slice_get seats i ≡ Some s → (e : Polled) × (slice_get ends i ≡ Some e)
-  end_of_seat i s at =
-      let within = slice_get_within seats i s at in
-      let count = l.count in
-      ⊎_elim (λ some. (some.0, some.2)) (λ none. let past = none.0 in absurd (omega (arith, within, count, past))) (slice_get_cases ends i).1
+module _ {a b : Harbour} {seats : List Seat} {ends : List Polled} (l : LetsGo a b seats (length seats) ends) where
+  polled_is : ends ≡ map polled_in seats
+  polled_is = l.polled ∙ ap (map polled_in) (take_all (length seats) seats (omega arith))
 
   last_kept : (k : ℕ) → 1 ≤ k → k ≤ length seats → (b.port k).last ≡ (a.port k).last
   last_kept k first low =
       let back : k - 1 + 1 ≡ k = omega (arith, first) in
       ⊎_elim (λ some.
-      let e = end_of_seat (k - 1) some.0 some.2 in
-      subst (λ (j : ℕ). (b.port j).last ≡ (a.port j).last) back (same_last (a.port (k - 1 + 1)) (b.port (k - 1 + 1)) a.nexts some.0 e.0 (l.each (k - 1) some.0 e.0 some.2 e.1))) (λ none.
+      subst (λ (j : ℕ). (b.port j).last ≡ (a.port j).last) back (ap (λ (q : Port). q.last) (l.each (k - 1) some.0 some.1 some.2) ∙ same_last some.0 a.nexts (a.port (k - 1 + 1)))) (λ none.
       let past = none.0 in absurd (omega (arith, past, first, low))) (slice_get_cases seats (k - 1)).1
 
   faults_last : (start : Harbour) → a.opened ≡ length seats → FaultsAreLast start a → FaultsAreLast start b
@@ -88,43 +102,40 @@ module _ (a b : Harbour) (seats : List Seat) (ends : List Polled) (l : LetsGo a 
 
   ends_last : (start : Harbour) → a.opened ≡ length seats → EndsAreLast start a → EndsAreLast start b
   ends_last start opened f =
-      let same = l.ends in
+      let same = l.told_ends in
       let all = ap (count_among ended_of b.port) l.opened in
       let shown = shown_same ended_by a.port b.port a.opened (λ k first low. last_kept k first (omega (arith, low, opened))) in
       omega (arith, f, same, all, shown)
 
-  calm_ends : AreUnwornSeats seats → AreUnwornEnds ends
-  calm_ends calm = λ i e at. let s = seat_of i e at in calm_end (a.port (i + 1)) (b.port (i + 1)) a.nexts s.0 e (calm i s.0 s.1) (l.each i s.0 e s.1 at)
+  runs_to : (start : Harbour) (draws : ℕ) (end : RunEnd) → RunsTo start a draws ends end → RunsTo start b draws ends end
+  runs_to start draws EndStopped g = let few = g.1 in let same = l.opened in (l.told ∙ g.0, omega (arith, few, same), g.2)
+  runs_to start draws PortFault g = let few = g.2 in let same = l.opened in let rose = g.1 in let faults = l.faults in ((g.0.0, l.told ∙ g.0.1), omega (arith, rose, faults), omega (arith, few, same), g.3)
+  runs_to start draws Enough g = ((g.0.0, l.told ∙ g.0.1), l.opened ∙ g.1, g.2)
+  runs_to start draws EndWorn g = ((g.0.0, l.told ∙ g.0.1), g.1, g.2)
+  runs_to start draws Memory g = let few = g.1 in let same = l.opened in (subst MayGoOn (sym l.told) g.0, omega (arith, few, same), g.2)
 
-  runs_to : (start : Harbour) (draws : ℕ) (end : RunEnd) → a.opened ≡ length seats → GoesTo start a draws seats end → RunsTo start b draws ends end
-  runs_to start draws EndStopped opened g = let few = g.1 in let same = l.opened in (l.told ∙ g.0, omega (arith, few, same, opened), calm_ends g.2)
-  runs_to start draws PortFault opened g = let few = g.2 in let same = l.opened in let rose = g.1 in let faults = l.faults in ((g.0.0, l.told ∙ g.0.1), omega (arith, rose, faults), omega (arith, few, same, opened), calm_ends g.3)
-  runs_to start draws Enough opened g = ((g.0.0, l.told ∙ g.0.1), l.opened ∙ opened ∙ g.1, calm_ends g.2)
-  runs_to start draws EndWorn opened g =
-      let i = g.2.0 in
-      let polled = g.2.1.0 in
-      let e = end_of_seat i (Over polled) g.2.1.1 in
-      let at = l.each i (Over polled) e.0 g.2.1.1 e.1 in
-      ((g.0.0, l.told ∙ g.0.1), g.1, (i, (e.0, e.1, ap (λ (z : Polled). is_worn_end z.outcome) at.0 ∙ g.2.1.2)))
-  runs_to start draws Memory opened g = let few = g.1 in let same = l.opened in (subst MayGoOn (sym l.told) g.0, omega (arith, few, same, opened), calm_ends g.2)
-
-pub ran_of : {M : Type 0} (np : NamedPolicy) (first : List Entry) (legal : List Entry → Type 0) (now : List Entry → ℕ) (number : ℕ) (before after : Holder M) (clock clock' : Option (ℕ → ℕ)) (pace : Pace) (start a b : Harbour) (seats : List Seat) (ends : List Polled) (end : RunEnd)
-    → Went np first legal now number (first_spot before clock) (record { pass = after; clock = clock'; pace = pace }) start a seats end → LetsGo a b seats ends → Ran np first legal now number before after clock clock' start b ends end
-ran_of np first legal now number before after clock clock' pace start a b seats ends end w l =
+pub ran_of : {M : Type 0} {np : NamedPolicy} {first : List Entry} {legal : List Entry → Type 0} {now : List Entry → ℕ} {before after : Holder M} {clock clock' : Option (ℕ → ℕ)} {start a b : Harbour} {seats : List Seat} {ends : List Polled} {end : RunEnd}
+    → Went (service np first legal now) before after clock clock' start a seats end → LetsGo a b seats (length seats) ends → Ran np first legal now before.number before after clock clock' start b ends end
+ran_of {np = np} {after = after} {start = start} {a = a} {b = b} {seats = seats} {ends = ends} {end = end} w l =
     let t = w.tabled in
     let same = l.opened in
+    let is = polled_is l in
     record {
-      pace = pace;
+      counters = w.counters;
       turns = w.turns;
+      number_is = refl;
       running = t.running;
-      count = l.count ∙ sym t.opened ∙ sym same;
+      count = ap (λ (es : List Polled). length es) is ∙ length-map seats polled_in ∙ sym t.opened ∙ sym same;
       links = λ i e at.
-          let s = seat_of a b seats ends l i e at in
-          subst (λ (n : ℕ). Has np (start.port (i + 1)) (b.port (i + 1)) n (acted_of (i + 1) w.turns) e) (sym l.nexts)
-          (link_ended np (start.port (i + 1)) (a.port (i + 1)) (b.port (i + 1)) a.nexts (acted_of (i + 1) w.turns) s.0 e (t.sits i s.0 s.1) (l.each i s.0 e s.1 at));
+          let s = seat_of seats i e (subst (λ (es : List Polled). slice_get es i ≡ Some e) is at) in
+          let low = slice_get_within seats i s.0 s.1 in
+          let start_is = port_bytes (start.port (i + 1)) in
+          subst (λ (n : ℕ). Has np start_is (b.port (i + 1)) n (acted_of (i + 1) w.turns) e) (sym l.nexts)
+          (subst (λ (q : Port). Has np start_is q a.nexts (acted_of (i + 1) w.turns) e) (sym (l.each i s.0 low s.1))
+          (subst (λ (z : Polled). Has np start_is (port_behind s.0 a.nexts (a.port (i + 1))) a.nexts (acted_of (i + 1) w.turns) z) (sym s.2) (link_ended np start_is (a.port (i + 1)) a.nexts (acted_of (i + 1) w.turns) s.0 (t.sits i s.0 s.1))));
       fresh = λ k one low. t.fresh k one (omega (arith, low, same));
       range = subst (λ (n : ℕ). Each (λ (z : Turn). (1 ≤ z.link) × (z.link ≤ n)) w.turns) (sym same) t.range;
-      runs = runs_to a b seats ends l start after.draws end t.opened w.goes;
-      faults = faults_last a b seats ends l start t.opened t.faults;
-      ends = ends_last a b seats ends l start t.opened t.ends;
+      runs = runs_to l start after.draws end (subst (λ (es : List Polled). RunsTo start a after.draws es end) (sym is) w.runs);
+      faults = faults_last l start t.opened t.faults;
+      ends = ends_last l start t.opened t.ends;
     }

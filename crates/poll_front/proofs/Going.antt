@@ -1,54 +1,165 @@
 -- Steps of a link one after another.
-use Rattle.std.proofs.Common.{◌≡◌, ℕ, ◌^◌, List, [], ◌++◌, sym, subst, append_assoc, Result, Ok, Err}
-use Rattle.gt_base.specs.declared.requests.Entry.{Entry}
+use Rattle.std.proofs.Common.{◌≡◌, ℕ, ◌+◌, ◌<◌, true, false, List, [], ◌∷◌, ◌++◌, length, get_or, refl, sym, subst, arith, append_assoc, Result, Ok, Err}
+use Rattle.gt_base.specs.Roomy.{Roomy}
+use Rattle.gt_io.specs.Frames.{pushed}
+use Rattle.gt_io.specs.Ports.{Port, Harbour, is_over}
+use Rattle.gt_text.specs.Lines.{is_feed}
 use Rattle.turn_lock.proofs.Totals.{each-append}
+use Rattle.locked_history.specs.Fronts.{by}
+use Rattle.connection_laws.specs.Cuts.{open_line}
+use Rattle.connection_laws.specs.Fits.{FrameFits}
 use Rattle.policy_words.specs.Naming.{NamedPolicy}
-use Rattle.poll_front.specs.declared.ends.PollEnd.TheVariants.{Worn}
-use Rattle.poll_front.specs.declared.parties.Party.{Party}
-use Rattle.poll_front.specs.declared.parties.Pause.{Pause}
-use Rattle.poll_front.specs.declared.parties.Pause.TheVariants.{End}
-use Rattle.gt_io.specs.Ports.{Port}
-use Rattle.poll_front.specs.Fronts.{Turn, FrontSpot, acted_of, Running, PartyStands, IsWrittenWhole, Comes, Gone, Goes}
+use Rattle.connection_laws.specs.Desks.{IsNamedActor}
+use Rattle.connection_laws.specs.Lines.{Acted}
+use Rattle.connection_laws.specs.Acting.{told_bytes}
+use Rattle.connection_laws.specs.Services.{Service}
+use Rattle.connection_laws.specs.declared.talk.Talk.{Talk}
+use Rattle.connection_laws.specs.declared.talk.LineAnswer.{LineAnswer}
+use Rattle.connection_laws.specs.declared.talk.LineAnswer.TheVariants.{Silence, Agreed, Bad, Reply as ToldReply, NoMemory, NoSteps, ViewOnly, Worn as ToldWorn}
+use Rattle.connection_laws.proofs.Telling.{IsUnwornTold, told_unworn}
+use Rattle.poll_front.specs.declared.ends.PollEnd.TheVariants.{Spent, Worn}
+use Rattle.poll_front.specs.declared.states.LinkState.{LinkState}
+use Rattle.poll_front.specs.declared.states.Yield.{Yield}
+use Rattle.poll_front.specs.declared.states.Yield.TheVariants.{End}
+use Rattle.poll_front.specs.declared.states.RunCounters.{RunCounters}
+use Rattle.poll_front.specs.Fronts.{Turn, FrontSpot, acted_of, course, Running, StepsTo, Comes, IsWritten, CallsOn, CanServe, CountsOne, Pushed, PushesOut, Filled, FillsUp, TellsLine}
+use Rattle.poll_front.proofs.Calls.{live_kept}
+use Rattle.poll_front.proofs.Hearing.{Hears}
+use Rattle.poll_front.proofs.Turning.{running_on, acted_here}
+use Rattle.poll_front.proofs.Standing.{stands_byte, stands_line, heard_line, comes_pushed, comes_filled, ends_spent, ends_worn}
 
-ok_not_err : {T E : Type 0} (u : T) (x : E) → ◌≡◌ {A = Result T E} (Ok u) (Err x) → ⊥
-ok_not_err u x e = absurd (cc)
-
-module _ {M : Type 0} (np : NamedPolicy) (first : List Entry) (legal : List Entry → Type 0) (now : List Entry → ℕ) (number : ℕ) where
-  abbrev Is : FrontSpot M → FrontSpot M → List Turn → Type 0
-  Is o p turns = Running np first legal now number o p turns
-
-  -- nothing was acted on
-  pub gone_none : (o p : FrontSpot M) (start q : Port) (c : ℕ) (turns : List Turn) (s : Party) {T : Type 0} (result : Result T Pause) → Is o p turns → Comes np start q s (acted_of c turns) result
-      → ((n : ℕ) → result ≡ Err (End (Worn n)) → p.pass.draws ≡ 2 ^ 40) → Gone np first legal now number o p start q c turns s result
-  gone_none o p start q c turns s {T} result g comes worn = record { more = []; own = tt; running = g; comes = comes; worn_out = worn }
-
-  pub gone_ok : (o p : FrontSpot M) (start q : Port) (c : ℕ) (turns : List Turn) (s : Party) {T : Type 0} (u : T) → Is o p turns → Comes np start q s (acted_of c turns) {T = T} (Ok u)
-      → Gone np first legal now number o p start q c turns s {T = T} (Ok u)
-  gone_ok o p start q c turns s {T} u g comes = record { more = []; own = tt; running = g; comes = comes; worn_out = λ n e. absurd (ok_not_err u (End (Worn n)) e) }
-
+module _ {M : Type 0} (v : Service) where
   -- what goes on behind a step that went on
-  pub gone_then : (o p p' : FrontSpot M) (start q q' : Port) (c : ℕ) (turns : List Turn) (s s' : Party) {T U : Type 0} (u : U) (result : Result T Pause)
-      → (x : Gone np first legal now number o p start q c turns s {T = U} (Ok u))
-      → ((fed : List ℕ) → Is o p (x.more ++ turns) → PartyStands np start q s fed (acted_of c (x.more ++ turns)) → IsWrittenWhole np (acted_of c (x.more ++ turns)) s.at
-      → Gone np first legal now number o p' start q' c (x.more ++ turns) s' result)
-      → Gone np first legal now number o p' start q' c turns s' result
-  gone_then o p p' start q q' c turns s s' {T} {U} u result x next =
-      let y = next x.comes.0 x.running x.comes.1 x.comes.2 in
-      let same : y.more ++ (x.more ++ turns) ≡ (y.more ++ x.more) ++ turns = sym (append_assoc y.more x.more turns) in
+  pub steps_then : {p p' p'' : FrontSpot M} {a b d : Harbour} {c : ℕ} {s s' s'' : LinkState} {result : Result (Unit {0}) Yield} → StepsTo v p p' a b c s s' (Ok tt) → StepsTo v p' p'' b d c s' s'' result → StepsTo v p p'' a d c s s'' result
+  steps_then {p} {p'} {p''} {a} {b} {d} {c} {s} {s'} {s''} {result} f g =
       record {
-        more = y.more ++ x.more;
-        own = each-append (λ (t : Turn). t.link ≡ c) y.more x.more y.own x.own;
-        running = subst (λ (ts : List Turn). Is o p' ts) same y.running;
-        comes = subst (λ (ts : List Turn). Comes np start q' s' (acted_of c ts) result) same y.comes;
-        worn_out = y.worn_out;
+        steps = λ o start turns fed r x.
+            let y = f.steps o start turns fed r x in
+            let z = g.steps o start (y.more ++ turns) y.comes.0 y.running y.comes.1 in
+            let same : z.more ++ (y.more ++ turns) ≡ (z.more ++ y.more) ++ turns = sym (append_assoc z.more y.more turns) in
+            record {
+              more = z.more ++ y.more;
+              own = each-append (λ (t : Turn). t.link ≡ c) z.more y.more z.own y.own;
+              running = subst (λ (ts : List Turn). Running v o p'' ts) same z.running;
+              comes = subst (λ (ts : List Turn). Comes v.policy start (course (d.port c)) s'' (acted_of c ts) result) same z.comes;
+              worn_out = z.worn_out;
+            };
       }
 
-  -- a step behind a step that went on, whatever went before
-  pub goes_then : (p p' p'' : FrontSpot M) (q q' q'' : Port) (c : ℕ) (s s' s'' : Party) {T U : Type 0} (u : U) (result : Result T Pause) → Goes np first legal now number p p' q q' c s s' {T = U} (Ok u)
-      → Goes np first legal now number p' p'' q' q'' c s' s'' result → Goes np first legal now number p p'' q q'' c s s'' result
-  goes_then p p' p'' q q' q'' c s s' s'' {T} {U} u result a b = λ o start turns fed r x w.
-      let y = a o start turns fed r x w in
-      gone_then o p' p'' start q' q'' c turns s' s'' u result y (λ fed' r' x' w'. b o start (y.more ++ turns) fed' r' x' w')
+  -- the reply of the last line is written on
+  pub steps_push : (p : FrontSpot M) {a b : Harbour} {c : ℕ} {s : LinkState} {at : ℕ} {result : Result (Unit {0}) Yield} → PushesOut a b c (told_bytes s.told) s.at at result → StepsTo v p p a b c s (record s { at = at }) result
+  steps_push p {a} {b} {c} {s} {at} {result} x =
+      record {
+        steps = λ o start turns fed r stands.
+            record { more = []; own = tt; running = r; comes = comes_pushed stands at result x; worn_out = λ n e. absurd (subst (λ (r : Result (Unit {0}) Yield). Pushed (b.port c) (told_bytes s.told) at r) e x.pushed) };
+      }
 
-  pub goes_none : (p : FrontSpot M) (q : Port) (c : ℕ) (s : Party) {T : Type 0} (u : T) → Goes np first legal now number p p q q c s s {T = T} (Ok u)
-  goes_none p q c s {T} u = λ o start turns fed r x w. gone_ok o p start q c turns s u r (fed, x, w)
+  -- bytes are read
+  pub steps_fill : (p : FrontSpot M) {a b : Harbour} {c : ℕ} {s s' : LinkState} {result : Result (Unit {0}) Yield} → FillsUp a b c s s' result → IsWritten s → s.from ≡ s.upto → 0 < s.left → length s'.chunk ≡ 4096 → StepsTo v p p a b c s s' result
+  steps_fill p {a} {b} {c} {s} {s'} {result} x wrote none some size =
+      record {
+        steps = λ o start turns fed r stands.
+            record { more = []; own = tt; running = r; comes = comes_filled stands s' wrote none some size result x; worn_out = λ n e. absurd (subst (λ (r : Result (Unit {0}) Yield). Filled (b.port c) s s' r) e x.filled) };
+      }
+
+  -- as many bytes were taken as a link may send
+  pub steps_spent : (p : FrontSpot M) (a : Harbour) (c : ℕ) (s : LinkState) → is_over (a.port c).last ≡ false → IsWritten s → s.from ≡ s.upto → s.left ≡ 0 → StepsTo v p p a a c s s (Err (End Spent))
+  steps_spent p a c s live wrote none spent =
+      record { steps = λ o start turns fed r stands. record { more = []; own = tt; running = r; comes = (ends_spent (course (a.port c)) stands live wrote none spent, tt); worn_out = λ n e. absurd cc } }
+
+  -- a byte is taken within a line
+  pub steps_byte : (p : FrontSpot M) (a : Harbour) (c : ℕ) (s : LinkState) (byte : ℕ) → s.from < s.upto → byte ≡ get_or s.chunk s.from 0 → is_feed byte ≡ false → StepsTo v p p a a c s (record s { framer = pushed s.framer byte; from = s.from + 1 }) (Ok tt)
+  steps_byte p a c s byte some is other =
+      record { steps = λ o start turns fed r stands. record { more = []; own = tt; running = r; comes = (fed ++ byte ∷ [], stands_byte stands byte some is other); worn_out = λ n e. absurd cc } }
+
+  -- a line is heard, and told what it is told
+  module _ (p p' : FrontSpot M) (a b : Harbour) (c : ℕ) (s : LinkState) (byte : ℕ) (talk : Talk) (room : Roomy ℕ) (live : is_over (a.port c).last ≡ false) (wrote : IsWritten s) (some : s.from < s.upto) (is : byte ≡ get_or s.chunk s.from 0) where
+    -- the line of each text with whose open line the frame fits
+    abbrev pub Heard : LineAnswer → Type 0
+    Heard told = (fed : List ℕ) → FrameFits s.framer fed → (is_feed byte ≡ true) × Hears v (by p.pass.number c) p p' s.talk talk (open_line fed) told
+
+    abbrev after : LineAnswer → ℕ → LinkState
+    after told at = record s { framer = pushed s.framer byte; from = s.from + 1; talk = talk; told = told; at = at; room = room }
+
+    line_unworn : (told : LineAnswer) (at : ℕ) (result : Result (Unit {0}) Yield) → IsUnwornTold told → Heard told → PushesOut a b c (told_bytes told) 0 at result → StepsTo v p p' a b c s (after told at) result
+    line_unworn told at result unworn hears push =
+        record {
+          steps = λ o start turns fed g stands.
+              let h = hears fed stands.heard.frame_fits in
+              let x = h.1 in
+              let turn : Turn = record { link = c; acted = x.acted } in
+              let here : acted_of c (turn ∷ turns) ≡ x.acted ∷ acted_of c turns = acted_here c turn turns refl in
+              let heard = heard_line x s.framer (acted_of c turns) byte stands.heard h.0 in
+              let y = stands_line stands byte some is (pushed s.framer byte) talk told room x.acted wrote heard (told_unworn v.policy told x.acted.answer x.told_is unworn, stands.unworn) (x.told_is, omega arith) in
+              record {
+                more = turn ∷ [];
+                own = (refl, tt);
+                running = running_on v c o p p' turns g stands.heard.actor x;
+                comes = subst (λ (l : List Acted). Comes v.policy start (course (b.port c)) (after told at) l result) (sym here) (comes_pushed y at result push);
+                worn_out = λ n e. absurd (subst (λ (r : Result (Unit {0}) Yield). Pushed (b.port c) (told_bytes told) at r) e push.pushed);
+              };
+        }
+
+    line_worn : (m at : ℕ) (result : Result (Unit {0}) Yield) → Heard (ToldWorn m) → b ≡ a → result ≡ Err (End (Worn m)) → StepsTo v p p' a b c s (after (ToldWorn m) at) result
+    line_worn m at result hears same ended =
+        record {
+          steps = λ o start turns fed g stands.
+              let h = hears fed stands.heard.frame_fits in
+              let x = h.1 in
+              let turn : Turn = record { link = c; acted = x.acted } in
+              let here : acted_of c (turn ∷ turns) ≡ x.acted ∷ acted_of c turns = acted_here c turn turns refl in
+              let full = x.worn_out m refl in
+              let heard = heard_line x s.framer (acted_of c turns) byte stands.heard h.0 in
+              let comes : Comes v.policy start (course (a.port c)) (after (ToldWorn m) at) (x.acted ∷ acted_of c turns) (Err (End (Worn m))) =
+              (ends_worn stands byte some is (course (a.port c)) (pushed s.framer byte) talk x.acted m refl wrote heard x.told_is full.0 live, tt) in
+              record {
+                more = turn ∷ [];
+                own = (refl, tt);
+                running = running_on v c o p p' turns g stands.heard.actor x;
+                comes = subst (λ (l : List Acted). Comes v.policy start (course (b.port c)) (after (ToldWorn m) at) l result) (sym here)
+                    (subst (λ (d : Harbour). Comes v.policy start (course (d.port c)) (after (ToldWorn m) at) (x.acted ∷ acted_of c turns) result) (sym same)
+                    (subst (λ (r : Result (Unit {0}) Yield). Comes v.policy start (course (a.port c)) (after (ToldWorn m) at) (x.acted ∷ acted_of c turns) r) (sym ended) comes));
+                worn_out = λ n e. full.1;
+              };
+        }
+
+    pub steps_line : (told : LineAnswer) (at : ℕ) (result : Result (Unit {0}) Yield) → Heard told → TellsLine a b c told at result → StepsTo v p p' a b c s (after told at) result
+    steps_line Silence at result x t = line_unworn Silence at result tt x t
+    steps_line Agreed at result x t = line_unworn Agreed at result tt x t
+    steps_line (Bad f) at result x t = line_unworn (Bad f) at result tt x t
+    steps_line (ToldReply text) at result x t = line_unworn (ToldReply text) at result tt x t
+    steps_line NoMemory at result x t = line_unworn NoMemory at result tt x t
+    steps_line NoSteps at result x t = line_unworn NoSteps at result tt x t
+    steps_line ViewOnly at result x t = line_unworn ViewOnly at result tt x t
+    steps_line (ToldWorn m) at result x t = line_worn m at result x t.0 t.2
+
+-- it may be served on
+pub can_next : {np : NamedPolicy} {a b : Harbour} {c : ℕ} {counters counters' : RunCounters} {s s' : LinkState} → CanServe np a c counters s → CallsOn a b c (Ok tt) → s.from < s.upto → IsNamedActor np s'.talk.actor → CountsOne s.talk s'.talk counters counters' → IsWritten s' → (s'.from ≡ s.from + 1) × (s'.upto ≡ s.upto) × (s'.left ≡ s.left)
+    → CanServe np b c counters' s'
+can_next x calls some actor counts wrote one =
+    let w = x.waits in
+    let asked = x.talk.asked in
+    let denied = x.talk.denied in
+    let all = x.talk.calls in
+    record {
+      live = live_kept calls x.live;
+      told = omega (arith, wrote);
+      waits = (omega (arith, one, some), omega (arith, one, w));
+      talk = record { actor = actor; asked = omega (arith, asked, counts, one, some); denied = omega (arith, denied, counts, one, some); calls = omega (arith, all, counts, one, some) };
+    }
+
+pub can_fill : {np : NamedPolicy} {a b : Harbour} {c : ℕ} {counters : RunCounters} {s s' : LinkState} (q : Port) → CanServe np a c counters s → CallsOn a b c (Ok tt) → s.from ≡ s.upto → Filled q s s' (Ok tt) → CanServe np b c counters s'
+can_fill {np} {a} {b} {c} {counters} {s} {s'} q x calls none f =
+    let n = f.0 in
+    let few = f.2 in
+    let low = f.3 in
+    let asked = x.talk.asked in
+    let denied = x.talk.denied in
+    let all = x.talk.calls in
+    subst (λ (z : LinkState). CanServe np b c counters z) (sym f.4)
+    (record {
+      live = live_kept calls x.live;
+      told = x.told;
+      waits = (omega arith, low);
+      talk = record { actor = x.talk.actor; asked = omega (arith, asked, few, none); denied = omega (arith, denied, few, none); calls = omega (arith, all, few, none) };
+    })

@@ -1,7 +1,6 @@
 -- The table from event to event.
 use Rattle.std.proofs.Common.{◌≡◌, ◌≢◌, ℕ, suc, ◌+◌, ◌<◌, ◌≤◌, Bool, true, false, ◌==◌, List, [], ◌∷◌, ◌++◌, length, set, slice_get, refl, sym, ap, subst, ◌∙◌, arith, eq-eqb, ne_eqb, length-append, ⊎_elim, Option, Some, None, Ok, MatchOption}
 use Rattle.std.proofs.lemmas.List.{length-set}
-use Rattle.gt_base.specs.declared.requests.Entry.{Entry}
 use Rattle.std.specs.Prelude.{if◌then◌else◌}
 use Rattle.std.proofs.lemmas.Option.{slice_get_within}
 use Rattle.gt_io.specs.declared.port.PortEvent.TheVariants.{Opened, Ready}
@@ -9,19 +8,26 @@ use Rattle.gt_io.specs.Links.{IsNothing}
 use Rattle.gt_io.specs.Ports.{Port, Harbour, KeepsRest, Happens, is_none, open_among, newly, readied}
 use Rattle.turn_lock.specs.Turns.{Each}
 use Rattle.turn_lock.proofs.Totals.{each-append}
-use Rattle.policy_words.specs.Naming.{NamedPolicy}
+use Rattle.connection_laws.specs.Attending.{Bytes}
+use Rattle.connection_laws.specs.Services.{Service}
 use Rattle.connection_laws.specs.Lines.{Acted}
 use Rattle.poll_front.specs.declared.ends.PollEnd.{PollEnd}
 use Rattle.poll_front.specs.declared.seats.Seat.{Seat}
-use Rattle.poll_front.specs.Fronts.{Turn, FrontSpot, acted_of, faults_by, faults_of, ended_by, ended_of}
-use Rattle.poll_front.specs.Tables.{Sits, SameBytes, IsBlank, SeatGone, Tabled, count_among, faults_told}
+use Rattle.poll_front.specs.Fronts.{Turn, FrontSpot, acted_of, port_bytes, faults_by, faults_of, ended_by, ended_of}
+use Rattle.poll_front.specs.Tables.{Sits, IsBlank, SeatGone, Tabled, count_among, faults_told}
 use mathlib.Core.Logic.{dite}
 use native.Mathlib.Decide.{ℕ_discrete}
 use Rattle.gt_io.proofs.Counting.{count_same, count_less}
 use Rattle.poll_front.proofs.Counting.{shown_same, shown_moved}
-use Rattle.poll_front.proofs.Turning.{apart_all, running_none}
-use Rattle.poll_front.proofs.Seating.{sits_owed, acted_none}
+use Rattle.poll_front.proofs.Turning.{acted_apart, apart_all, running_none}
+use Rattle.poll_front.proofs.Seating.{sits_owed}
 use Rattle.poll_front.proofs.ListSteps.{set_cases, push_cases}
+
+-- a link whose number is behind those of all turns has no line
+acted_none : (c n : ℕ) (turns : List Turn) → Each (λ (t : Turn). (1 ≤ t.link) × (t.link ≤ n)) turns → n < c → acted_of c turns ≡ []
+acted_none c n [] range ahead = refl
+acted_none c n (t ∷ ts) range ahead =
+    acted_apart c t ts (λ same. let high = range.0.1 in absurd (omega (arith, same, high, ahead))) ∙ acted_none c n ts range.1 ahead
 
 own_range : (c n : ℕ) (more : List Turn) → Each (λ (t : Turn). t.link ≡ c) more → 1 ≤ c → c ≤ n → Each (λ (t : Turn). (1 ≤ t.link) × (t.link ≤ n)) more
 own_range c n [] own first last = tt
@@ -42,9 +48,9 @@ counted_by a b c busy busy' count first last rest (Some end) ends is =
     let e : busy' ≡ open_among b.port a.opened = omega (arith, less, count, is) in
     e ∙ ap (open_among b.port) (sym rest.opened)
 
-module _ {M : Type 0} (np : NamedPolicy) (first : List Entry) (legal : List Entry → Type 0) (now : List Entry → ℕ) (number : ℕ) where
+module _ {M : Type 0} (v : Service) where
   abbrev Is : FrontSpot M → FrontSpot M → Harbour → Harbour → List Seat → ℕ → List Turn → Type 0
-  Is o p start a seats busy turns = Tabled np first legal now number o p start a seats busy turns
+  Is o p start a seats busy turns = Tabled v o p start a seats busy turns
 
   -- an event that opens no link changes at most who is owed
   pub tabled_owed : (o p : FrontSpot M) (start a b : Harbour) (seats : List Seat) (busy : ℕ) (turns : List Turn) → Is o p start a seats busy turns → b.opened ≡ a.opened → a.faults ≤ b.faults → faults_told a.told ≡ 0 → b.faults ≤ a.faults + faults_told b.told → b.ends ≡ a.ends
@@ -54,14 +60,8 @@ module _ {M : Type 0} (np : NamedPolicy) (first : List Entry) (legal : List Entr
         running = x.running;
         opened = opened ∙ x.opened;
         count = x.count ∙ sym (ap (λ (n : ℕ). open_among b.port n) opened ∙ count_same a.port b.port a.opened (λ k low. ap (λ (q : Port). q.finished) (same k)));
-        sits = λ i s is. sits_owed np (start.port (i + 1)) (a.port (i + 1)) (b.port (i + 1)) (b.port (i + 1)).owed (acted_of (i + 1) turns) s (same (i + 1)) (x.sits i s is);
-        ahead = λ k high.
-            let y = x.ahead k (let e = opened in omega (arith, e, high)) in
-            record {
-              left = ap (λ (q : Port). q.left) (same k) ∙ y.left;
-              taken = ap (λ (q : Port). q.taken) (same k) ∙ y.taken;
-              given = ap (λ (q : Port). q.given) (same k) ∙ y.given;
-            };
+        sits = λ i s is. sits_owed v.policy (port_bytes (start.port (i + 1))) (a.port (i + 1)) (b.port (i + 1)) (b.port (i + 1)).owed (acted_of (i + 1) turns) s (same (i + 1)) (x.sits i s is);
+        ahead = λ k high. ap port_bytes (same k) ∙ x.ahead k (omega (arith, opened, high));
         fresh = λ k one low. x.fresh k one (omega (arith, low, opened));
         range = subst (λ (n : ℕ). Each (λ (t : Turn). (1 ≤ t.link) × (t.link ≤ n)) turns) (sym opened) x.range;
         later = let l = x.later in omega (arith, l, later);
@@ -83,7 +83,7 @@ module _ {M : Type 0} (np : NamedPolicy) (first : List Entry) (legal : List Entr
       → b.ends + ended_of (a.port (i + 1)) ≤ a.ends + ended_of (b.port (i + 1))
       → MatchOption result ((b.port (i + 1)).finished ≡ (a.port (i + 1)).finished) (λ end. ((a.port (i + 1)).finished ≡ None) × ((n : ℕ) × ((b.port (i + 1)).finished ≡ Some n)))
       → MatchOption result (busy' ≡ busy) (λ end. busy' + 1 ≡ busy)
-      → (g : SeatGone np first legal now number o p' (start.port (i + 1)) (b.port (i + 1)) (i + 1) turns seat' result) → Is o p' start b (set seats i seat') busy' (g.more ++ turns)
+      → (g : SeatGone v o p' (port_bytes (start.port (i + 1))) (b.port (i + 1)) (i + 1) turns seat' result) → Is o p' start b (set seats i seat') busy' (g.more ++ turns)
   tabled_served o p p' start a b seats busy busy' i turns seat seat' result x at low rest later shown told_ends ends count g =
       let opened = rest.opened in
       let seats_are = x.opened in
@@ -92,14 +92,14 @@ module _ {M : Type 0} (np : NamedPolicy) (first : List Entry) (legal : List Entr
         opened = rest.opened ∙ x.opened ∙ sym (length-set seats i seat');
         count = counted_by a b (i + 1) busy busy' x.count (omega arith) (omega (arith, seats_are, low)) rest result ends count;
         sits = λ j s is. ⊎_elim (λ here.
-            subst (λ (k : ℕ). Sits np (start.port (k + 1)) (b.port (k + 1)) (acted_of (k + 1) (g.more ++ turns)) s) (sym here.0)
-            (subst (λ (z : Seat). Sits np (start.port (i + 1)) (b.port (i + 1)) (acted_of (i + 1) (g.more ++ turns)) z) (sym here.1) g.sits)) (λ away.
+            subst (λ (k : ℕ). Sits v.policy (port_bytes (start.port (k + 1))) (b.port (k + 1)) (acted_of (k + 1) (g.more ++ turns)) s) (sym here.0)
+            (subst (λ (z : Seat). Sits v.policy (port_bytes (start.port (i + 1))) (b.port (i + 1)) (acted_of (i + 1) (g.more ++ turns)) z) (sym here.1) g.sits)) (λ away.
             let other : j + 1 ≢ i + 1 = λ e. away.0 (omega (arith, e)) in
-            subst (λ (q : Port). Sits np (start.port (j + 1)) q (acted_of (j + 1) (g.more ++ turns)) s) (sym (rest.others (j + 1) other))
-            (subst (λ (l : List Acted). Sits np (start.port (j + 1)) (a.port (j + 1)) l s) (sym (apart_all (i + 1) (j + 1) g.more turns g.own other)) (x.sits j s away.1))) (set_cases seats i j seat' s low is);
+            subst (λ (q : Port). Sits v.policy (port_bytes (start.port (j + 1))) q (acted_of (j + 1) (g.more ++ turns)) s) (sym (rest.others (j + 1) other))
+            (subst (λ (l : List Acted). Sits v.policy (port_bytes (start.port (j + 1))) (a.port (j + 1)) l s) (sym (apart_all (i + 1) (j + 1) g.more turns g.own other)) (x.sits j s away.1))) (set_cases seats i j seat' s low is);
         ahead = λ k high.
             let e : k ≢ i + 1 = λ same. absurd (omega (arith, same, high, opened, seats_are, low)) in
-            subst (λ (q : Port). SameBytes (start.port k) q) (sym (rest.others k e)) (x.ahead k (omega (arith, high, opened)));
+            ap port_bytes (rest.others k e) ∙ x.ahead k (omega (arith, high, opened));
         fresh = λ k one below. x.fresh k one (omega (arith, below, opened));
         range =
             let r = x.range in
@@ -121,7 +121,7 @@ module _ {M : Type 0} (np : NamedPolicy) (first : List Entry) (legal : List Entr
 
   -- a link that was just opened has its seat
   pub tabled_seated : (o p : FrontSpot M) (start a d : Harbour) (seats : List Seat) (busy busy' : ℕ) (turns : List Turn) (s : Seat) → Is o p start a seats busy turns → d.opened ≡ a.opened + 1 → a.faults ≤ d.faults → faults_told a.told ≡ 0 → d.faults ≤ a.faults → d.ends ≡ a.ends → IsBlank (a.port (a.opened + 1))
-      → ((k : ℕ) → k ≢ a.opened + 1 → d.port k ≡ a.port k) → Sits np (start.port (a.opened + 1)) (d.port (a.opened + 1)) [] s → busy' ≡ open_among a.port a.opened + (if is_none (d.port (a.opened + 1)).finished then 1 else 0)
+      → ((k : ℕ) → k ≢ a.opened + 1 → d.port k ≡ a.port k) → Sits v.policy (port_bytes (start.port (a.opened + 1))) (d.port (a.opened + 1)) [] s → busy' ≡ open_among a.port a.opened + (if is_none (d.port (a.opened + 1)).finished then 1 else 0)
       → Is o p start d (seats ++ s ∷ []) busy' turns
   tabled_seated o p start a d seats busy busy' turns s x opened later calm kept ends blank others sits count =
       let n = x.opened in
@@ -137,14 +137,14 @@ module _ {M : Type 0} (np : NamedPolicy) (first : List Entry) (legal : List Entr
             ⊎_elim (λ here.
             let c_is : i + 1 ≡ a.opened + 1 = let e = here.0 in omega (arith, e, n) in
             let none : acted_of (i + 1) turns ≡ [] = acted_none (i + 1) a.opened turns x.range (omega (arith, c_is)) in
-            subst (λ (l : List Acted). Sits np (start.port (i + 1)) (d.port (i + 1)) l z) (sym none)
-            (subst (λ (k : ℕ). Sits np (start.port k) (d.port k) [] z) (sym c_is) (subst (λ (w : Seat). Sits np (start.port (a.opened + 1)) (d.port (a.opened + 1)) [] w) (sym here.1) sits))) (λ before.
+            subst (λ (l : List Acted). Sits v.policy (port_bytes (start.port (i + 1))) (d.port (i + 1)) l z) (sym none)
+            (subst (λ (k : ℕ). Sits v.policy (port_bytes (start.port k)) (d.port k) [] z) (sym c_is) (subst (λ (w : Seat). Sits v.policy (port_bytes (start.port (a.opened + 1))) (d.port (a.opened + 1)) [] w) (sym here.1) sits))) (λ before.
             let under = before.0 in
-            subst (λ (q : Port). Sits np (start.port (i + 1)) q (acted_of (i + 1) turns) z) (sym (others (i + 1) (λ same. absurd (omega (arith, same, under, n))))) (x.sits i z before.1)) (push_cases seats i s z at);
-        ahead = λ k high. subst (λ (q : Port). SameBytes (start.port k) q) (sym (others k (λ same. absurd (omega (arith, same, high, opened))))) (x.ahead k (omega (arith, high, opened)));
+            subst (λ (q : Port). Sits v.policy (port_bytes (start.port (i + 1))) q (acted_of (i + 1) turns) z) (sym (others (i + 1) (λ same. absurd (omega (arith, same, under, n))))) (x.sits i z before.1)) (push_cases seats i s z at);
+        ahead = λ k high. ap port_bytes (others k (λ same. absurd (omega (arith, same, high, opened)))) ∙ x.ahead k (omega (arith, high, opened));
         fresh = λ k one low.
             let bytes = x.ahead (a.opened + 1) (omega arith) in
-            let here : IsBlank (start.port (a.opened + 1)) = (subst IsNothing bytes.taken blank.0, subst IsNothing bytes.given blank.1) in
+            let here : IsBlank (start.port (a.opened + 1)) = (subst IsNothing (ap (λ (d : Bytes). d.taken) bytes) blank.0, subst IsNothing (ap (λ (d : Bytes). d.given) bytes) blank.1) in
             dite (ℕ_discrete k (a.opened + 1)) (λ is. subst (λ (j : ℕ). IsBlank (start.port j)) (sym is) here) (λ other. x.fresh k one (omega (arith, low, opened, other)));
         range = range_wider a.opened d.opened turns (omega (arith, opened)) x.range;
         later = let l = x.later in omega (arith, l, later);
@@ -167,11 +167,11 @@ module _ {M : Type 0} (np : NamedPolicy) (first : List Entry) (legal : List Entr
   tabled_none o start seats none empty =
       let e : start.opened ≡ length seats = none ∙ sym (ap (λ (l : List Seat). length l) empty) in
       record {
-        running = running_none np first legal now number o;
+        running = running_none v o;
         opened = e;
         count = sym (ap (open_among start.port) none);
         sits = λ i s at. let within = slice_get_within seats i s at in absurd (omega (arith, within, e, none));
-        ahead = λ k high. record { left = refl; taken = refl; given = refl };
+        ahead = λ k high. refl;
         fresh = λ k one low. absurd (omega (arith, one, low, none));
         range = tt;
         later = omega arith;

@@ -8,19 +8,20 @@ use Rattle.gt_io.proofs.Readings.{Reads-trans, Reads-nil}
 use Rattle.turn_lock.specs.Turns.{Each}
 use Rattle.turn_lock.specs.Holders.{Holder}
 use Rattle.locked_history.specs.Fronts.{by}
-use Rattle.policy_words.specs.Naming.{NamedPolicy}
 use Rattle.request_text.specs.declared.lines.Line.{Line}
 use Rattle.request_text.specs.declared.lines.LineFault.{LineFault}
 use Rattle.request_text.specs.Phrases.{read_line}
 use Rattle.connection_laws.specs.Lines.{Acted, actor_after, readings_of, entries_of}
 use Rattle.connection_laws.specs.Connection.{Gets, part_of, AreActed, IsTimed, placed}
-use Rattle.connection_laws.proofs.Longer.{acted_longer}
-use Rattle.connection_laws.proofs.Places.{part_of-append, all_mine, none_mine}
+use Rattle.connection_laws.specs.Services.{Service}
 use Rattle.connection_laws.specs.Turns.{AreMine}
-use Rattle.connection_laws.proofs.Growing.{grown_none, grown_twice}
 use Rattle.connection_laws.specs.declared.talk.Talk.{Talk}
 use Rattle.connection_laws.specs.declared.talk.LineAnswer.{LineAnswer}
-use Rattle.poll_front.specs.Fronts.{Turn, FrontSpot, acted_of, all_acted, Running, Hears}
+use Rattle.connection_laws.proofs.Longer.{acted_longer}
+use Rattle.connection_laws.proofs.Places.{part_of-append, all_mine, none_mine}
+use Rattle.connection_laws.proofs.Growing.{grown_none, grown_twice}
+use Rattle.poll_front.specs.Fronts.{Turn, FrontSpot, acted_of, all_acted, Running}
+use Rattle.poll_front.proofs.Hearing.{Hears}
 
 part_here : (n k : ℕ) (t : Turn) (before : List Acted) (b : Bool) → (t.link == k) ≡ b → AreMine (by n t.link) t.acted.entries
     → entries_of before ++ part_of (by n k) t.acted.entries ≡ entries_of (cond b (t.acted ∷ before) before)
@@ -39,7 +40,7 @@ part_turns n k (t ∷ ts) mine =
     ∙ part_here n k t (acted_of k ts) (t.link == k) refl mine.0
 
 -- so many entries of the link stand before its next line
-pub placed_turns : (n k : ℕ) (first own own' : List Entry) (turns : List Turn) → own' ≡ own ++ entries_of (all_acted turns) → Each (λ (t : Turn). AreMine (by n t.link) t.acted.entries) turns
+placed_turns : (n k : ℕ) (first own own' : List Entry) (turns : List Turn) → own' ≡ own ++ entries_of (all_acted turns) → Each (λ (t : Turn). AreMine (by n t.link) t.acted.entries) turns
     → placed (by n k) first own' ≡ placed (by n k) first own + length (entries_of (acted_of k turns))
 placed_turns n k first own own' turns is mine =
     let a = ap (λ (l : List Entry). length l)
@@ -59,35 +60,33 @@ apart_all c k [] turns own other = refl
 apart_all c k (t ∷ ts) turns own other =
     acted_apart k t (ts ++ turns) (λ same. other (sym same ∙ own.0)) ∙ apart_all c k ts turns own.1 other
 
-module _ {M : Type 0} (np : NamedPolicy) (first : List Entry) (legal : List Entry → Type 0) (now : List Entry → ℕ) (number : ℕ) where
-  fits_next : (k c : ℕ) (o p p' : FrontSpot M) (turns : List Turn) (talk talk' : Talk) (line : List ℕ) (told : LineAnswer) (b : Bool) → (c == k) ≡ b
-      → (g : Running np first legal now number o p turns) → talk.actor ≡ actor_after np (acted_of c turns)
-      → (x : Hears np first legal now (by number c) p.pass p'.pass talk talk' p.pace p'.pace p.clock p'.clock line told)
-      → (birth : ℕ) → IsTimed birth legal now
-      → AreActed np birth (by number k) p'.pass.seen (placed (by number k) first o.pass.own) (cond b (x.acted ∷ acted_of k turns) (acted_of k turns))
-  fits_next k c o p p' turns talk talk' line told true same g speaks x birth timed =
-      let a = x.acted in
-      let said : Result Line LineFault = read_line np Nobody false line in
-      let said_is : read_line np Nobody false line ≡ read_line np Nobody false a.line = ap (read_line np Nobody false) (sym x.line_is) in
-      let is : c ≡ k = eqb-true c k same in
-      let own_is : p.pass.own ≡ o.pass.own ++ entries_of (all_acted turns) = ap (λ (q : Holder M). q.own) g.grows.after_is in
-      let place = placed_turns number c first o.pass.own p.pass.own turns own_is g.mine in
-      let here : AreActed np birth (by number c) p'.pass.seen (placed (by number c) first o.pass.own) (a ∷ acted_of c turns) = (
-        acted_longer np birth (by number c) p.pass.seen p'.pass.seen x.grows.seen (placed (by number c) first o.pass.own) (acted_of c turns) (g.fits c birth timed),
-        subst (λ (s : Result Line LineFault). Gets birth (by number c) p'.pass.seen s (actor_after np (acted_of c turns)) (placed (by number c) first o.pass.own + length (entries_of (acted_of c turns))) a) said_is
-            (subst (λ (n : ℕ). Gets birth (by number c) p'.pass.seen said (actor_after np (acted_of c turns)) n a) place
-            (subst (λ (y : Actor). Gets birth (by number c) p'.pass.seen said y (placed (by number c) first p.pass.own) a) speaks (x.gets birth timed))),
-      ) in
-      subst (λ (j : ℕ). AreActed np birth (by number j) p'.pass.seen (placed (by number j) first o.pass.own) (a ∷ acted_of j turns)) is here
-  fits_next k c o p p' turns talk talk' line told false other g speaks x birth timed =
-      acted_longer np birth (by number k) p.pass.seen p'.pass.seen x.grows.seen (placed (by number k) first o.pass.own) (acted_of k turns) (g.fits k birth timed)
+-- a line of link c behind the lines so far
+module _ {M : Type 0} (v : Service) (c : ℕ) (o p p' : FrontSpot M) (turns : List Turn) {talk talk' : Talk} {line : List ℕ} {told : LineAnswer} (g : Running v o p turns) (speaks : talk.actor ≡ actor_after v.policy (acted_of c turns))
+    (x : Hears v (by p.pass.number c) p p' talk talk' line told) where
+  number : p.pass.number ≡ o.pass.number
+  number = ap (λ (q : Holder M). q.number) g.grows.after_is
 
-  -- a line of link c behind the lines so far
-  pub running_on : (c : ℕ) (o p p' : FrontSpot M) (turns : List Turn) (talk talk' : Talk) (line : List ℕ) (told : LineAnswer)
-      → (g : Running np first legal now number o p turns) → talk.actor ≡ actor_after np (acted_of c turns)
-      → (x : Hears np first legal now (by number c) p.pass p'.pass talk talk' p.pace p'.pace p.clock p'.clock line told)
-      → Running np first legal now number o p' (record { link = c; acted = x.acted } ∷ turns)
-  running_on c o p p' turns talk talk' line told g speaks x =
+  abbrev Fits : ℕ → ℕ → List Acted → Type 0
+  Fits birth k acted = AreActed v.policy birth (by o.pass.number k) p'.pass.seen (placed (by o.pass.number k) v.first o.pass.own) acted
+
+  fits_next : (k : ℕ) (b : Bool) → (c == k) ≡ b → (birth : ℕ) → IsTimed birth v.legal v.now → Fits birth k (cond b (x.acted ∷ acted_of k turns) (acted_of k turns))
+  fits_next k true same birth timed =
+      let a = x.acted in
+      let said : Result Line LineFault = read_line v.policy Nobody false line in
+      let own_is : p.pass.own ≡ o.pass.own ++ entries_of (all_acted turns) = ap (λ (q : Holder M). q.own) g.grows.after_is in
+      let gets : Gets birth (by o.pass.number c) p'.pass.seen said talk.actor (placed (by o.pass.number c) v.first p.pass.own) a =
+      subst (λ (n : ℕ). Gets birth (by n c) p'.pass.seen said talk.actor (placed (by n c) v.first p.pass.own) a) number (x.gets birth timed) in
+      let here : Fits birth c (a ∷ acted_of c turns) = (
+        acted_longer v.policy birth (by o.pass.number c) p.pass.seen p'.pass.seen x.grows.seen (placed (by o.pass.number c) v.first o.pass.own) (acted_of c turns) (g.fits c birth timed),
+        subst (λ (s : Result Line LineFault). Gets birth (by o.pass.number c) p'.pass.seen s (actor_after v.policy (acted_of c turns)) (placed (by o.pass.number c) v.first o.pass.own + length (entries_of (acted_of c turns))) a) (ap (read_line v.policy Nobody false) (sym x.line_is))
+            (subst (λ (n : ℕ). Gets birth (by o.pass.number c) p'.pass.seen said (actor_after v.policy (acted_of c turns)) n a) (placed_turns o.pass.number c v.first o.pass.own p.pass.own turns own_is g.mine)
+            (subst (λ (y : Actor). Gets birth (by o.pass.number c) p'.pass.seen said y (placed (by o.pass.number c) v.first p.pass.own) a) speaks gets)),
+      ) in
+      subst (λ (j : ℕ). Fits birth j (a ∷ acted_of j turns)) (eqb-true c k same) here
+  fits_next k false other birth timed = acted_longer v.policy birth (by o.pass.number k) p.pass.seen p'.pass.seen x.grows.seen (placed (by o.pass.number k) v.first o.pass.own) (acted_of k turns) (g.fits k birth timed)
+
+  pub running_on : Running v o p' (record { link = c; acted = x.acted } ∷ turns)
+  running_on =
       let a = x.acted in
       let es = entries_of (all_acted turns) in
       let rs = readings_of (all_acted turns) in
@@ -95,21 +94,21 @@ module _ {M : Type 0} (np : NamedPolicy) (first : List Entry) (legal : List Entr
       let lengths = length-append rs a.readings in
       record {
         grows = record { seen = h.seen; after_is = h.after_is; draws_low = h.draws_low; draws_high = let d = h.draws_high in omega (arith, d, lengths) };
-        mine = (x.mine, g.mine);
+        mine = (subst (λ (n : ℕ). AreMine (by n c) a.entries) number x.mine, g.mine);
         brief = (x.few, g.brief);
-        fits = λ k birth timed. fits_next k c o p p' turns talk talk' line told (c == k) refl g speaks x birth timed;
+        fits = λ k birth timed. fits_next k (c == k) refl birth timed;
         reads = Reads-trans o.clock p.clock p'.clock rs a.readings g.reads x.reads;
         calls = let c1 = x.calls in let c2 = g.calls in omega (arith, c1, c2, lengths);
       }
 
-  -- before the first event
-  pub running_none : (o : FrontSpot M) → Running np first legal now number o o []
-  running_none o =
-      record {
-        grows = grown_none o.pass;
-        mine = tt;
-        brief = tt;
-        fits = λ k birth timed. tt;
-        reads = Reads-nil o.clock;
-        calls = sym (add-zero o.pace.calls);
-      }
+-- before the first event
+pub running_none : {M : Type 0} (v : Service) (o : FrontSpot M) → Running v o o []
+running_none v o =
+    record {
+      grows = grown_none o.pass;
+      mine = tt;
+      brief = tt;
+      fits = λ k birth timed. tt;
+      reads = Reads-nil o.clock;
+      calls = sym (add-zero o.counters.calls);
+    }

@@ -3,40 +3,43 @@ use Rattle.std.specs.Prelude.{◌≡◌, ◌⊎◌, ℕ, ◌+◌, ◌*◌, ◌^�
 use Rattle.std.specs.declared.option.Option.{Option}
 use Rattle.std.specs.Io.KnownBytes.{Appends, Consumes, IsAtEnd}
 use mathlib.Core.List.{IsPrefix}
-use Rattle.gt_base.specs.declared.requests.Who.{Who}
-use Rattle.gt_base.specs.declared.requests.Actor.TheVariants.{Nobody}
 use Rattle.gt_base.specs.declared.requests.Entry.{Entry}
 use Rattle.gt_base.specs.declared.limits.TheConstants.{MAX_BYTES}
+use Rattle.gt_io.specs.Frames.{Frame}
 use Rattle.gt_io.specs.Links.{Reads}
 use Rattle.gt_io.specs.declared.source.Failed.{Failed}
 use Rattle.turn_lock.specs.Turns.{Each}
-use Rattle.turn_lock.specs.Holders.{Holder}
+use Rattle.turn_lock.specs.Holders.{Lock, Holder, site_of}
 use Rattle.locked_history.specs.Fronts.{by}
 use Rattle.policy_words.specs.Naming.{NamedPolicy}
-use Rattle.request_text.specs.Phrases.{read_line}
 use Rattle.connection_laws.specs.declared.talk.LineAnswer.{LineAnswer}
 use Rattle.connection_laws.specs.declared.talk.Talk.{Talk}
 use Rattle.connection_laws.specs.declared.talk.LineAnswer.TheVariants.{Silence, Worn as ToldWorn}
+use Rattle.connection_laws.specs.declared.ends.LinkEnd.{LinkEnd}
+use Rattle.connection_laws.specs.declared.ends.LinkEnd.TheVariants.{Ended as LinkEnded, ReadFault as LinkReadFault, WriteFault as LinkWriteFault, Spent as LinkSpent, Worn as LinkWorn}
 use Rattle.connection_laws.specs.Cuts.{whole_lines}
-use Rattle.connection_laws.specs.Lines.{Acted, is_replied, is_denied, one_where, answer_text, actor_by, actor_after, reply_lines, readings_of, entries_of, replies_text, asked_in, denied_in, AreUnworn, GivenAll, GivenPart, GivenBefore}
-use Rattle.connection_laws.specs.Connection.{Gets, AreActed, IsTimed, placed}
+use Rattle.connection_laws.specs.Lines.{Acted, answer_text, actor_after, reply_lines, readings_of, entries_of, replies_text, asked_in, denied_in, AreUnworn, IsGiven}
+use Rattle.connection_laws.specs.Connection.{AreActed, IsTimed, placed}
 use Rattle.connection_laws.specs.Fits.{FrameFits}
 use Rattle.connection_laws.specs.Desks.{IsNamedActor}
-use Rattle.connection_laws.specs.Turns.{Grows, AreMine}
+use Rattle.connection_laws.specs.Turns.{Grows, AreMine, IsReached, StaysIdle}
+use Rattle.connection_laws.specs.Services.{Service}
 use Rattle.connection_laws.specs.Acting.{IsTold, told_bytes}
+use Rattle.connection_laws.specs.Attending.{Bytes, Carries}
+use Rattle.poll_front.specs.declared.ends.Polled.{Polled}
 use Rattle.poll_front.specs.declared.ends.PollEnd.{PollEnd}
 use Rattle.poll_front.specs.declared.ends.PollEnd.TheVariants.{Ended, ReadFault, WriteFault, Spent, Full, Stopped, Worn}
-use Rattle.poll_front.specs.declared.parties.Party.{Party}
-use Rattle.poll_front.specs.declared.parties.Pace.{Pace}
-use Rattle.poll_front.specs.declared.parties.Pause.{Pause}
-use Rattle.poll_front.specs.declared.parties.Pause.TheVariants.{Later, End}
-use Rattle.poll_front.specs.declared.parties.TheConstants.{MAX_READ}
+use Rattle.poll_front.specs.declared.states.LinkState.{LinkState}
+use Rattle.poll_front.specs.declared.states.RunCounters.{RunCounters}
+use Rattle.poll_front.specs.declared.states.Yield.{Yield}
+use Rattle.poll_front.specs.declared.states.Yield.TheVariants.{Later, End}
+use Rattle.poll_front.specs.declared.states.TheConstants.{MAX_READ}
 use Rattle.poll_front.specs.declared.front.TheConstants.{MAX_OPEN}
 use Rattle.gt_io.specs.declared.port.Got.TheVariants.{Bytes as GotBytes, Finished, NotYet as GotNotYet}
 use Rattle.gt_io.specs.declared.port.Took.TheVariants.{NotYet}
 use Rattle.gt_io.specs.declared.port.Called.{Called}
 use Rattle.gt_io.specs.declared.port.Called.TheVariants.{Nothing, Read, Wrote}
-use Rattle.gt_io.specs.Ports.{Port, Harbour, KeepsRest, is_over}
+use Rattle.gt_io.specs.Ports.{Port, Harbour, IsOpen, KeepsRest, is_over}
 
 -- a line that was acted on, and the link that it came from
 pub record Turn : Type 0 where
@@ -56,11 +59,27 @@ abbrev pub all_acted : List Turn → List Acted
 all_acted [] = []
 all_acted (t ∷ before) = t.acted ∷ all_acted before
 
--- a moment of a front: its pass, its clock, and its pace
+-- a moment of a front: its pass, its clock, and its counters
 pub record FrontSpot (M : Type 0) : Type 0 where
   pub pass : Holder M
   pub clock : Option (ℕ → ℕ)
-  pub pace : Pace
+  pub counters : RunCounters
+
+abbrev pub front_spot : {M : Type 0} → Holder M → Option (ℕ → ℕ) → RunCounters → FrontSpot M
+front_spot pass clock counters = record { pass = pass; clock = clock; counters = counters }
+
+-- what shows of a link's way: the bytes that went over it, its last read or write, and how many
+-- other links were open as it was opened
+pub record Course : Type 0 where
+  pub bytes : Bytes
+  pub last : Called
+  pub others : ℕ
+
+abbrev pub port_bytes : Port → Bytes
+port_bytes q = record { left = q.left; taken = q.taken; given = q.given }
+
+abbrev pub course : Port → Course
+course q = record { bytes = port_bytes q; last = q.last; others = q.others }
 
 -- how many faults a link has shown: one where its last call failed
 abbrev pub faults_by : Called → ℕ
@@ -85,26 +104,29 @@ ended_by (Wrote t) = 0
 abbrev pub ended_of : Port → ℕ
 ended_of q = ended_by q.last
 
--- a call on one link that is open before and after it
-pub record Tends (a b : Harbour) (c : ℕ) : Type 0 where
+-- the link is open, and has not come to its end
+pub record IsLive (a : Harbour) (c : ℕ) : Type 0 where
+  pub opened : IsOpen a c
+  pub live : is_over (a.port c).last ≡ false
+
+-- Calls on one link that was live: it stays open, and the others as they are. At most the last call
+-- failed or told the end, none where it goes on; and it is not owed where it is left for another
+pub record CallsOn (a b : Harbour) (c : ℕ) (result : Result (Unit {0}) Yield) : Type 0 where
   pub rest : KeepsRest a b c
   pub finished : (b.port c).finished ≡ (a.port c).finished
   pub others : (b.port c).others ≡ (a.port c).others
   pub later : a.faults ≤ b.faults
+  pub faults : b.faults ≤ a.faults + faults_of (b.port c)
+  pub ends : b.ends ≤ a.ends + ended_of (b.port c)
+  pub live : OnOk result (is_over (b.port c).last ≡ false)
+  pub unowed : result ≡ Err Later → (b.port c).owed ≡ false
 
--- Of calls on one link that had not come to its end before, at most the last one failed or told the
--- end
-abbrev pub StopsLast : Harbour → Harbour → ℕ → Type 0
-StopsLast a b c =
-    is_over (a.port c).last ≡ false
-    → (b.faults ≤ a.faults + faults_of (b.port c)) × (b.ends ≤ a.ends + ended_of (b.port c))
-
--- and where it goes on, it has not come to its end
-abbrev pub StaysLive : Port → Port → {T : Type 0} → Result T Pause → Type 0
-StaysLive p q result = OnOk result (is_over p.last ≡ false → is_over q.last ≡ false)
+-- the last reply is written
+abbrev pub IsWritten : LinkState → Type 0
+IsWritten s = s.at ≡ length (told_bytes s.told)
 
 -- the bytes that wait to be acted on
-abbrev pub waiting_bytes : Party → List ℕ
+abbrev pub waiting_bytes : LinkState → List ℕ
 waiting_bytes s = drop s.from (take s.upto s.chunk)
 
 -- what was given where so many bytes of the last reply were written
@@ -118,58 +140,55 @@ TellsLast np [] told at = (told ≡ Silence) × (at ≡ 0)
 TellsLast np (a ∷ before) told at =
     IsTold np told a.answer × (at ≤ length (answer_text np a.answer))
 
--- the last reply was written whole
-abbrev pub IsWrittenWhole : NamedPolicy → List Acted → ℕ → Type 0
-IsWrittenWhole np [] at = Unit {0}
-IsWrittenWhole np (a ∷ before) at = at ≡ length (answer_text np a.answer)
-
--- it was not
-abbrev pub IsCut : NamedPolicy → List Acted → ℕ → Type 0
-IsCut np [] at = ⊥
-IsCut np (a ∷ before) at = at < length (answer_text np a.answer)
+-- these bytes were cut into these lines, and the lines were acted on
+pub record HasHeard (np : NamedPolicy) (frame : Frame) (talk : Talk) (fed : List ℕ)
+    (acted : List Acted) : Type 0 where
+  pub frame_fits : FrameFits frame fed
+  pub lines : reply_lines acted ≡ whole_lines fed
+  pub few : length acted ≤ length fed
+  pub actor : talk.actor ≡ actor_after np acted
+  pub named : IsNamedActor np talk.actor
+  pub asked : talk.asked ≡ asked_in acted
+  pub denied : talk.denied ≡ denied_in acted
 
 -- An open link: fed are its bytes that were acted on, and these are its acted lines. It began as
 -- start, before anything was taken from it
-pub record PartyStands (np : NamedPolicy) (start now : Port) (s : Party) (fed : List ℕ)
+pub record LinkStands (np : NamedPolicy) (start now : Bytes) (s : LinkState) (fed : List ℕ)
     (acted : List Acted) : Type 0 where
-  pub frame_fits : FrameFits s.framer fed
-  pub lines : reply_lines acted ≡ whole_lines fed
-  pub few : length acted ≤ length fed
+  pub heard : HasHeard np s.framer s.talk fed acted
   pub unworn : AreUnworn acted
-  pub actor : s.talk.actor ≡ actor_after np acted
-  pub named : IsNamedActor np s.talk.actor
-  pub asked : s.talk.asked ≡ asked_in acted
-  pub denied : s.talk.denied ≡ denied_in acted
   pub told : TellsLast np acted s.told s.at
-  pub given : Appends start.given now.given (given_text np acted s.at)
-  pub taken : Appends start.taken now.taken (fed ++ waiting_bytes s)
-  pub left : Consumes start.left now.left (fed ++ waiting_bytes s)
+  pub carries : Carries start now (fed ++ waiting_bytes s) (given_text np acted s.at)
   pub counted : length (fed ++ waiting_bytes s) + s.left ≡ MAX_BYTES
   pub within : (s.from ≤ s.upto) × (s.upto ≤ MAX_READ) × (s.upto ≤ length s.chunk)
-  pub live : is_over now.last ≡ false
 
 -- it is left for another: all of its bytes were acted on and told, or its last reply waits for room
-pub record Rests (np : NamedPolicy) (start now : Port) (s : Party) (acted : List Acted)
+pub record Rests (np : NamedPolicy) (start : Bytes) (now : Course) (s : LinkState) (acted : List Acted)
     : Type 0 where
   pub fed : List ℕ
-  pub stands : PartyStands np start now s fed acted
-  pub waits : (IsWrittenWhole np acted s.at × (s.from ≡ s.upto))
-      ⊎ (IsCut np acted s.at × (now.last ≡ Wrote (Ok NotYet)))
+  pub stands : LinkStands np start now.bytes s fed acted
+  pub waits : (IsWritten s × (s.from ≡ s.upto))
+      ⊎ ((s.at < length (told_bytes s.told)) × (now.last ≡ Wrote (Ok NotYet)))
+  pub live : is_over now.last ≡ false
 
--- what was given by the end of a link
-abbrev pub IsPolled : NamedPolicy → List ℕ → List ℕ → List Acted → Called → PollEnd → Type 0
-IsPolled np taken given acted last Ended = GivenAll np taken given acted
-IsPolled np taken given acted last ReadFault = GivenAll np taken given acted
-IsPolled np taken given acted last Spent = GivenAll np taken given acted
-IsPolled np taken given acted last WriteFault = GivenPart np given acted
-IsPolled np taken given acted last (Worn draws) = GivenBefore np given acted
-IsPolled np taken given acted last Stopped =
-    GivenAll np taken given acted ⊎ (GivenPart np given acted × (last ≡ Wrote (Ok NotYet)))
-IsPolled np taken given acted last Full = (taken ≡ []) × (given ≡ []) × (acted ≡ [])
+-- It ends as a connection. One that is open as the run ends has the text of all its whole lines, or
+-- its last write found no room and the last reply is given in part. One that was let go at once has
+-- nothing
+abbrev pub EndsAs : PollEnd → List ℕ → List ℕ → List Acted → Called → LinkEnd → Type 0
+EndsAs Ended taken given acted last end = end ≡ LinkEnded
+EndsAs ReadFault taken given acted last end = end ≡ LinkReadFault
+EndsAs WriteFault taken given acted last end = end ≡ LinkWriteFault
+EndsAs Spent taken given acted last end = end ≡ LinkSpent
+EndsAs (Worn draws) taken given acted last end = end ≡ LinkWorn draws
+EndsAs Stopped taken given acted last end =
+    (end ≡ LinkEnded) ⊎ ((end ≡ LinkWriteFault) × (last ≡ Wrote (Ok NotYet)))
+EndsAs Full taken given acted last end =
+    (end ≡ LinkEnded) × (taken ≡ []) × (given ≡ []) × (acted ≡ [])
 
 -- each end has its cause
-abbrev pub PollsBy : Port → List ℕ → PollEnd → Type 0
-PollsBy q taken Ended = (q.last ≡ Read (Ok Finished)) × IsAtEnd q.left × (length taken < MAX_BYTES)
+abbrev pub PollsBy : Course → List ℕ → PollEnd → Type 0
+PollsBy q taken Ended =
+    (q.last ≡ Read (Ok Finished)) × IsAtEnd q.bytes.left × (length taken < MAX_BYTES)
 PollsBy q taken ReadFault = (f : Failed) × (q.last ≡ Read (Err f)) × (length taken < MAX_BYTES)
 PollsBy q taken WriteFault = (f : Failed) × (q.last ≡ Wrote (Err f))
 PollsBy q taken Spent = (is_over q.last ≡ false) × (length taken ≡ MAX_BYTES)
@@ -178,152 +197,136 @@ PollsBy q taken Stopped = is_over q.last ≡ false
 PollsBy q taken (Worn n) = (is_over q.last ≡ false) × (n ≡ 2 ^ 40)
 
 -- what a link came to
-pub record EndsLink (np : NamedPolicy) (start now : Port) (asked denied : ℕ) (acted : List Acted)
-    (end : PollEnd) : Type 0 where
+pub record EndsLink (np : NamedPolicy) (start : Bytes) (now : Course) (acted : List Acted)
+    (e : Polled) : Type 0 where
   pub taken : List ℕ
   pub given : List ℕ
+  pub end : LinkEnd
+  pub ends_as : EndsAs e.outcome taken given acted now.last end
+  pub given_is : IsGiven np taken given acted end
   pub lines : IsPrefix (reply_lines acted) (whole_lines taken)
-  pub polled : IsPolled np taken given acted now.last end
-  pub taken_is : Appends start.taken now.taken taken
-  pub left_is : Consumes start.left now.left taken
-  pub given_is : Appends start.given now.given given
-  pub asked_is : asked ≡ asked_in acted
-  pub denied_is : denied ≡ denied_in acted
+  pub carries : Carries start now.bytes taken given
+  pub asked_is : e.asked ≡ asked_in acted
+  pub denied_is : e.denied ≡ denied_in acted
   pub few : length acted ≤ length taken
-  pub bounded : length taken ≤ MAX_BYTES
-  pub cause : PollsBy now taken end
+  pub cause : PollsBy now taken e.outcome
 
 -- the run has not ended for it
 abbrev pub HasOwnEnd : PollEnd → Type 0
 HasOwnEnd Stopped = ⊥
 HasOwnEnd _ = Unit {0}
 
--- a link goes on, is left for another, or has ended
-abbrev pub Comes : NamedPolicy → Port → Port → Party → List Acted → {T : Type 0} → Result T Pause
-    → Type 0
-Comes np start now s acted (Ok t) =
-    (fed : List ℕ) × PartyStands np start now s fed acted × IsWrittenWhole np acted s.at
-Comes np start now s acted (Err Later) = Rests np start now s acted × (now.owed ≡ false)
-Comes np start now s acted (Err (End e)) =
-    EndsLink np start now s.talk.asked s.talk.denied acted e × HasOwnEnd e
+-- what a link has come to that ends so
+abbrev pub polled_as : LinkState → PollEnd → Polled
+polled_as s end = record { asked = s.talk.asked; denied = s.talk.denied; outcome = end }
 
-module _ {M : Type 0} (np : NamedPolicy) (first : List Entry) (legal : List Entry → Type 0)
-    (now : List Entry → ℕ) (number : ℕ) where
+-- a link goes on, is left for another, or has ended
+abbrev pub Comes : NamedPolicy → Bytes → Course → LinkState → List Acted → Result (Unit {0}) Yield
+    → Type 0
+Comes np start now s acted (Ok _) = (fed : List ℕ) × LinkStands np start now.bytes s fed acted
+Comes np start now s acted (Err Later) = Rests np start now s acted
+Comes np start now s acted (Err (End e)) =
+    EndsLink np start now acted (polled_as s e) × HasOwnEnd e
+
+module _ {M : Type 0} (v : Service) where
   -- the lines so far, of all links
   pub record Running (o p : FrontSpot M) (turns : List Turn) : Type 0 where
     pub grows : Grows o.pass p.pass (entries_of (all_acted turns))
         (2 * length (readings_of (all_acted turns)))
-    pub mine : Each (λ (t : Turn). AreMine (by number t.link) t.acted.entries) turns
+    pub mine : Each (λ (t : Turn). AreMine (by o.pass.number t.link) t.acted.entries) turns
     pub brief : Each (λ (t : Turn). length t.acted.readings ≤ 1) turns
-    pub fits : (k birth : ℕ) → IsTimed birth legal now
-        → AreActed np birth (by number k) p.pass.seen (placed (by number k) first o.pass.own)
-        (acted_of k turns)
+    pub fits : (k birth : ℕ) → IsTimed birth v.legal v.now
+        → AreActed v.policy birth (by o.pass.number k) p.pass.seen
+        (placed (by o.pass.number k) v.first o.pass.own) (acted_of k turns)
     pub reads : Reads o.clock p.clock (readings_of (all_acted turns))
-    pub calls : p.pace.calls ≡ o.pace.calls + length (readings_of (all_acted turns))
+    pub calls : p.counters.calls ≡ o.counters.calls + length (readings_of (all_acted turns))
 
   -- some lines of this link were acted on, and this is what it came to
-  pub record Gone (o p : FrontSpot M) (start q : Port) (c : ℕ) (turns : List Turn) (s : Party)
-      {T : Type 0} (result : Result T Pause) : Type 0 where
+  pub record Gone (o p : FrontSpot M) (start : Bytes) (now : Course) (c : ℕ) (turns : List Turn)
+      (s : LinkState) (result : Result (Unit {0}) Yield) : Type 0 where
     pub more : List Turn
     pub own : Each (λ (t : Turn). t.link ≡ c) more
     pub running : Running o p (more ++ turns)
-    pub comes : Comes np start q s (acted_of c (more ++ turns)) result
+    pub comes : Comes v.policy start now s (acted_of c (more ++ turns)) result
     pub worn_out : (n : ℕ) → result ≡ Err (End (Worn n)) → p.pass.draws ≡ 2 ^ 40
 
-  -- whatever went before, the link goes on behind it
-  abbrev pub Goes : FrontSpot M → FrontSpot M → Port → Port → ℕ → Party → Party → {T : Type 0}
-      → Result T Pause → Type 0
-  Goes p p' q q' c s s' result =
-      (o : FrontSpot M) (start : Port) (turns : List Turn) (fed : List ℕ) → Running o p turns
-      → PartyStands np start q s fed (acted_of c turns) → IsWrittenWhole np (acted_of c turns) s.at
-      → Gone o p' start q' c turns s' result
+  -- whatever went before, a link that stands comes to this
+  pub record StepsTo (p p' : FrontSpot M) (a b : Harbour) (c : ℕ) (s s' : LinkState)
+      (result : Result (Unit {0}) Yield) : Type 0 where
+    pub steps : (o : FrontSpot M) (start : Bytes) (turns : List Turn) (fed : List ℕ)
+        → Running o p turns
+        → LinkStands v.policy start (port_bytes (a.port c)) s fed (acted_of c turns)
+        → Gone o p' start (course (b.port c)) c turns s' result
 
 -- Writing goes on with the reply, from the bytes at which it stands
-abbrev pub Pushed : Port → Port → List ℕ → ℕ → {T : Type 0} → Result T Pause → Type 0
-Pushed p q text at (Ok t) = (at ≡ length text) × (is_over p.last ≡ false → is_over q.last ≡ false)
-Pushed p q text at (Err Later) =
-    (at < length text) × (q.last ≡ Wrote (Ok NotYet)) × (q.owed ≡ false)
-Pushed p q text at (Err (End WriteFault)) =
+abbrev pub Pushed : Port → List ℕ → ℕ → Result (Unit {0}) Yield → Type 0
+Pushed q text at (Ok _) = at ≡ length text
+Pushed q text at (Err Later) = (at < length text) × (q.last ≡ Wrote (Ok NotYet))
+Pushed q text at (Err (End WriteFault)) =
     (at < length text) × ((f : Failed) × (q.last ≡ Wrote (Err f)))
-Pushed p q text at (Err (End e)) = ⊥
+Pushed q text at (Err (End e)) = ⊥
 
-pub record PushesOut (a b : Harbour) (c : ℕ) (text : List ℕ) (at at' : ℕ) {T : Type 0}
-    (result : Result T Pause) : Type 0 where
-  pub tends : Tends a b c
+pub record PushesOut (a b : Harbour) (c : ℕ) (text : List ℕ) (at at' : ℕ)
+    (result : Result (Unit {0}) Yield) : Type 0 where
+  pub calls : CallsOn a b c result
   pub taken : (b.port c).taken ≡ (a.port c).taken
   pub left : (b.port c).left ≡ (a.port c).left
   pub within : (at ≤ at') × (at' ≤ length text)
   pub given : (start : Option (List ℕ)) (front : List ℕ)
       → Appends start (a.port c).given (front ++ take at text)
       → Appends start (b.port c).given (front ++ take at' text)
-  pub pushed : Pushed (a.port c) (b.port c) text at' result
+  pub pushed : Pushed (b.port c) text at' result
+
+-- how the telling of a line went
+abbrev pub TellsLine : Harbour → Harbour → ℕ → LineAnswer → ℕ → Result (Unit {0}) Yield → Type 0
+TellsLine a b c (ToldWorn n) at result = (b ≡ a) × (at ≡ 0) × (result ≡ Err (End (Worn n)))
+TellsLine a b c told at result = PushesOut a b c (told_bytes told) 0 at result
 
 -- A read gives the bytes that wait next
-abbrev pub Filled : Port → Party → Party → {T : Type 0} → Result T Pause → Type 0
-Filled q s s' (Ok t) =
-    (n : ℕ) × (n ≤ s.left) × (n ≤ MAX_READ)
+abbrev pub Filled : Port → LinkState → LinkState → Result (Unit {0}) Yield → Type 0
+Filled q s s' (Ok _) =
+    (n : ℕ) × (0 < n) × (n ≤ s.left) × (n ≤ MAX_READ)
     × (s' ≡ record s { chunk = s'.chunk; from = 0; upto = n; left = s.left - n })
-    × (is_over q.last ≡ false) × (0 < n)
-Filled q s s' (Err Later) =
-    (s' ≡ record s { chunk = s'.chunk }) × (is_over q.last ≡ false) × (q.owed ≡ false)
+Filled q s s' (Err Later) = (s' ≡ record s { chunk = s'.chunk }) × (is_over q.last ≡ false)
 Filled q s s' (Err (End Ended)) =
     (s' ≡ record s { chunk = s'.chunk }) × (q.last ≡ Read (Ok Finished)) × IsAtEnd q.left
 Filled q s s' (Err (End ReadFault)) =
     (s' ≡ record s { chunk = s'.chunk }) × ((f : Failed) × (q.last ≡ Read (Err f)))
 Filled q s s' (Err (End e)) = ⊥
 
-pub record FillsUp (a b : Harbour) (c : ℕ) (s s' : Party) {T : Type 0} (result : Result T Pause)
+pub record FillsUp (a b : Harbour) (c : ℕ) (s s' : LinkState) (result : Result (Unit {0}) Yield)
     : Type 0 where
-  pub tends : Tends a b c
+  pub calls : CallsOn a b c result
   pub given : (b.port c).given ≡ (a.port c).given
   pub taken : Appends (a.port c).taken (b.port c).taken (waiting_bytes s')
   pub left : Consumes (a.port c).left (b.port c).left (waiting_bytes s')
   pub filled : Filled (b.port c) s s' result
 
--- What acting on a line does, but for its reply
-pub record Hears {M : Type 0} (np : NamedPolicy) (first : List Entry) (legal : List Entry → Type 0)
-    (now : List Entry → ℕ) (who : Who) (before after : Holder M) (talk talk' : Talk)
-    (pace pace' : Pace) (clock clock' : Option (ℕ → ℕ)) (line : List ℕ)
-    (told : LineAnswer) : Type 0 where
-  pub acted : Acted
-  pub line_is : acted.line ≡ line
-  pub told_is : IsTold np told acted.answer
-  pub gets : (birth : ℕ) → IsTimed birth legal now
-      → Gets birth who after.seen (read_line np Nobody false line) talk.actor
-      (placed who first before.own) acted
-  pub mine : AreMine who acted.entries
-  pub grows : Grows before after acted.entries (2 * length acted.readings)
-  pub actor : talk'.actor ≡ actor_by (read_line np Nobody false line) talk.actor
-  pub asked : talk'.asked ≡ talk.asked + one_where (is_replied acted.answer)
-  pub denied : talk'.denied ≡ talk.denied + one_where (is_denied acted.answer)
-  pub calls : pace'.calls ≡ pace.calls + length acted.readings
-  pub few : length acted.readings ≤ 1
-  pub named : IsNamedActor np talk'.actor
-  pub reads : Reads clock clock' acted.readings
-  pub worn_out : (n : ℕ) → told ≡ ToldWorn n → (n ≡ 2 ^ 40) × (after.draws ≡ 2 ^ 40)
+-- so many more lines may be acted on
+pub record CanTalk (np : NamedPolicy) (talk : Talk) (counters : RunCounters) (n : ℕ) : Type 0 where
+  pub actor : IsNamedActor np talk.actor
+  pub asked : talk.asked + n < 2 ^ 63
+  pub denied : talk.denied + n < 2 ^ 63
+  pub calls : counters.calls + n < 2 ^ 64
 
--- so many more lines
-abbrev pub HasPlaces : Talk → Pace → ℕ → Type 0
-HasPlaces talk pace n =
-    (talk.asked + n < 2 ^ 63) × (talk.denied + n < 2 ^ 63) × (pace.calls + n < 2 ^ 64)
+-- one more line may have been acted on
+abbrev pub CountsOne : Talk → Talk → RunCounters → RunCounters → Type 0
+CountsOne talk talk' counters counters' =
+    (talk'.asked ≤ talk.asked + 1) × (talk'.denied ≤ talk.denied + 1)
+    × (counters'.calls ≤ counters.calls + 1)
 
-abbrev pub Counts : Talk → Talk → Pace → Pace → ℕ → Type 0
-Counts talk talk' pace pace' n =
-    (talk'.asked ≤ talk.asked + n) × (talk'.denied ≤ talk.denied + n)
-    × (pace'.calls ≤ pace.calls + n)
+-- a live link may be served: there is room to count a line for each of its bytes
+pub record CanServe (np : NamedPolicy) (a : Harbour) (c : ℕ) (counters : RunCounters) (s : LinkState) : Type 0
+  where
+    pub live : IsLive a c
+    pub told : s.at ≤ length (told_bytes s.told)
+    pub waits : (s.from ≤ s.upto) × (s.upto ≤ MAX_READ)
+    pub talk : CanTalk np s.talk counters (s.upto - s.from + s.left)
 
--- how the telling of a line went
-abbrev pub TellsLine : Harbour → Harbour → ℕ → LineAnswer → ℕ → {T : Type 0} → Result T Pause
-    → Type 0
-TellsLine a b c (ToldWorn n) at result = (b ≡ a) × (at ≡ 0) × (result ≡ Err (End (Worn n)))
-TellsLine a b c told at result = PushesOut a b c (told_bytes told) 0 at result
-
-module _ {M : Type 0} (np : NamedPolicy) (first : List Entry) (legal : List Entry → Type 0)
-    (now : List Entry → ℕ) (number : ℕ) where
-  -- whatever went before, a link that stands is served until it is left for another
-  abbrev pub Attends : FrontSpot M → FrontSpot M → Port → Port → ℕ → Party → Party → Pause → Type 0
-  Attends p p' q q' c s s' pause =
-      (o : FrontSpot M) (start : Port) (turns : List Turn) (fed : List ℕ)
-      → Running np first legal now number o p turns
-      → PartyStands np start q s fed (acted_of c turns)
-      → Gone np first legal now number o p' start q' c turns s' {T = Unit {0}} (Err pause)
+-- The pass is idle again and of the same number, and has seen a history that has come to this
+-- minute, where one is known
+abbrev pub StaysIdleFrom : {M : Type 0} → (M → List Entry → Type 0) → (M → List Entry → ℕ) → Lock M
+    → Holder M → Holder M → Option ℕ → Type 0
+StaysIdleFrom legal now_of desk before pass minute =
+    StaysIdle (site_of desk) before pass
+    × IsReached (legal desk.root) (now_of desk.root) pass.seen minute

@@ -1,50 +1,31 @@
 -- What each link of a front is told over the history of its closed desk.
-use Rattle.std.specs.Prelude.{◌≡◌, ◌⊎◌, ℕ, ◌+◌, ◌≤◌, List, [], length, slice_get, Some, Ok}
+use Rattle.std.specs.Prelude.{◌≡◌, ℕ, ◌+◌, ◌≤◌, List, [], length, slice_get, Some}
 use Rattle.std.specs.declared.option.Option.{Option}
-use Rattle.std.specs.Io.KnownBytes.{Appends, Consumes}
 use Rattle.gt_base.specs.declared.requests.Who.{Who}
 use Rattle.gt_base.specs.declared.requests.Entry.{Entry}
-use Rattle.gt_base.specs.declared.limits.TheConstants.{MAX_BYTES}
 use Rattle.gt_io.specs.Links.{Reads}
-use Rattle.gt_io.specs.declared.port.Took.TheVariants.{NotYet}
 use Rattle.gt_io.specs.declared.port.Called.{Called}
-use Rattle.gt_io.specs.declared.port.Called.TheVariants.{Wrote}
 use Rattle.gt_io.specs.Ports.{Port, Harbour}
 use Rattle.turn_lock.specs.Turns.{Each, part}
 use Rattle.turn_lock.specs.Holders.{Holder, IsToldBy}
 use Rattle.locked_history.specs.Fronts.{by}
 use Rattle.policy_words.specs.Naming.{NamedPolicy}
-use Rattle.connection_laws.specs.declared.ends.LinkEnd.TheVariants.{Ended as LinkEnded, ReadFault as LinkReadFault, WriteFault as LinkWriteFault, Spent as LinkSpent, Worn as LinkWorn}
+use Rattle.connection_laws.specs.declared.ends.LinkEnd.{LinkEnd}
 use Rattle.connection_laws.specs.Lines.{Acted, readings_of, entries_of, asked_in, denied_in}
 use Rattle.connection_laws.specs.Connection.{part_of, IsTimed, Conn}
+use Rattle.connection_laws.specs.Attending.{Carries}
 use Rattle.poll_front.specs.declared.ends.Polled.{Polled}
 use Rattle.poll_front.specs.declared.ends.PollEnd.{PollEnd}
-use Rattle.poll_front.specs.declared.ends.PollEnd.TheVariants.{Ended, ReadFault, WriteFault, Spent, Full, Stopped, Worn}
-use Rattle.poll_front.specs.Fronts.{Turn, acted_of, all_acted, PollsBy}
+use Rattle.poll_front.specs.Fronts.{Turn, acted_of, all_acted, port_bytes, course, EndsAs, PollsBy}
 use Rattle.poll_front.specs.declared.front.RunEnd.{RunEnd}
 use Rattle.poll_front.specs.Tables.{IsBlank, IsLetIn, IsLetGo, Ran}
 
--- The link is a connection over the history, with its part of it as its own entries. One that was
--- open at the end has the text of all its whole lines, or its last write found no room and the last
--- reply is given in part. One that was let go at once has nothing
+-- the link is a connection over the history, with its part of it as its own entries, that ends so
 abbrev pub PollConn : NamedPolicy → ℕ → Who → List Entry → List ℕ → List ℕ → List Acted → Called
     → PollEnd → Type 0
-PollConn np birth who h taken given acted last Ended =
-    Conn np birth who h 0 taken (readings_of acted) (part_of who h) given acted LinkEnded
-PollConn np birth who h taken given acted last ReadFault =
-    Conn np birth who h 0 taken (readings_of acted) (part_of who h) given acted LinkReadFault
-PollConn np birth who h taken given acted last WriteFault =
-    Conn np birth who h 0 taken (readings_of acted) (part_of who h) given acted LinkWriteFault
-PollConn np birth who h taken given acted last Spent =
-    Conn np birth who h 0 taken (readings_of acted) (part_of who h) given acted LinkSpent
-PollConn np birth who h taken given acted last (Worn n) =
-    Conn np birth who h 0 taken (readings_of acted) (part_of who h) given acted (LinkWorn n)
-PollConn np birth who h taken given acted last Stopped =
-    Conn np birth who h 0 taken (readings_of acted) (part_of who h) given acted LinkEnded
-    ⊎ (Conn np birth who h 0 taken (readings_of acted) (part_of who h) given acted
-    LinkWriteFault × (last ≡ Wrote (Ok NotYet)))
-PollConn np birth who h taken given acted last Full =
-    (taken ≡ []) × (given ≡ []) × (acted ≡ []) × (part_of who h ≡ [])
+PollConn np birth who h taken given acted last outcome =
+    (end : LinkEnd) × EndsAs outcome taken given acted last end
+    × Conn np birth who h 0 taken (readings_of acted) (part_of who h) given acted end
 
 -- link c came to this, from its begin as `start` to its end as `now`
 pub record IsPolledLink (np : NamedPolicy) (birth : ℕ) (h : List Entry) (nexts c : ℕ)
@@ -55,13 +36,10 @@ pub record IsPolledLink (np : NamedPolicy) (birth : ℕ) (h : List Entry) (nexts
   pub conn : PollConn np birth (by 0 c) h taken given acted now.last e.outcome
   pub asked : e.asked ≡ asked_in acted
   pub denied : e.denied ≡ denied_in acted
-  pub taken_is : Appends start.taken now.taken taken
-  pub left_is : Consumes start.left now.left taken
-  pub given_is : Appends start.given now.given given
-  pub bounded : length taken ≤ MAX_BYTES
-  pub cause : PollsBy now taken e.outcome
-  pub let_in : IsLetIn now e.outcome
-  pub let_go : IsLetGo nexts now e.outcome
+  pub carries : Carries (port_bytes start) (port_bytes now) taken given
+  pub cause : PollsBy (course now) taken e.outcome
+  pub let_in : IsLetIn now.others e.outcome
+  pub let_go : IsLetGo nexts now.finished e.outcome
 
 -- All links: their lines were acted on in the order of these turns, which have the latest first;
 -- the readings of the clock and the history's entries are those of the turns, one after the other

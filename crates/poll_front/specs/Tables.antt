@@ -1,5 +1,5 @@
 -- The table of links.
-use Rattle.std.specs.Prelude.{◌≡◌, ℕ, zero, suc, ◌+◌, ◌-◌, ◌^◌, ◌<◌, ◌≤◌, Bool, true, false, List, [], ◌++◌, length, slice_get, Some, None, Ok, Err, MatchOption}
+use Rattle.std.specs.Prelude.{◌≡◌, ℕ, zero, suc, ◌+◌, ◌^◌, ◌<◌, ◌≤◌, Bool, true, false, List, [], ◌++◌, map, length, take, slice_get, Some, None, Ok, Err, MatchOption}
 use Rattle.std.specs.declared.option.Option.{Option}
 use Rattle.std.specs.declared.result.Result.{Result}
 use Rattle.gt_base.specs.declared.requests.Entry.{Entry}
@@ -14,26 +14,25 @@ use Rattle.gt_io.specs.Links.{IsNothing}
 use Rattle.gt_io.specs.declared.source.Failed.{Failed}
 use Rattle.connection_laws.specs.declared.talk.LineAnswer.TheVariants.{Silence}
 use Rattle.connection_laws.specs.Lines.{Acted}
-use Rattle.connection_laws.specs.Desks.{IsNamedActor}
-use Rattle.connection_laws.specs.Acting.{told_bytes}
+use Rattle.connection_laws.specs.Services.{Service, service}
+use Rattle.connection_laws.specs.Attending.{Bytes}
 use Rattle.poll_front.specs.declared.ends.Polled.{Polled}
 use Rattle.poll_front.specs.declared.ends.PollEnd.{PollEnd}
 use Rattle.poll_front.specs.declared.ends.PollEnd.TheVariants.{Full, Stopped, Worn}
 use Rattle.poll_front.specs.declared.front.RunEnd.{RunEnd}
 use Rattle.poll_front.specs.declared.front.RunEnd.TheVariants.{Stopped as EndStopped, PortFault, Enough, Worn as EndWorn, Memory}
-use Rattle.poll_front.specs.declared.parties.Party.{Party}
-use Rattle.poll_front.specs.declared.parties.Pace.{Pace}
+use Rattle.poll_front.specs.declared.states.LinkState.{LinkState}
+use Rattle.poll_front.specs.declared.states.RunCounters.{RunCounters}
 use Rattle.poll_front.specs.declared.seats.Seat.{Seat}
 use Rattle.poll_front.specs.declared.seats.Seat.TheVariants.{New, Open, Over}
 use Rattle.gt_io.specs.declared.port.PortEvent.{PortEvent}
 use Rattle.gt_io.specs.declared.port.PortEvent.TheVariants.{Opened, Ready, Stop}
 use Rattle.gt_io.specs.Ports.{Port, Harbour, IsOpen, is_over, KeepsRest, open_among}
-use Rattle.poll_front.specs.Fronts.{Turn, FrontSpot, acted_of, faults_of, ended_of, Rests, EndsLink, HasOwnEnd, HasPlaces, Running}
+use Rattle.poll_front.specs.Fronts.{Turn, FrontSpot, front_spot, acted_of, faults_of, ended_of, port_bytes, course, Rests, EndsLink, HasOwnEnd, polled_as, CanServe, Running}
 use Rattle.poll_front.specs.declared.front.TheConstants.{MAX_OPEN}
-use Rattle.poll_front.specs.declared.parties.TheConstants.{MAX_READ}
 
--- a party before its first byte
-pub record IsFreshParty (s : Party) : Type 0 where
+-- the state of a link before its first byte
+pub record IsFreshState (s : LinkState) : Type 0 where
   pub framer : s.framer ≡ blank_frame
   pub actor : s.talk.actor ≡ Nobody
   pub counts : (s.talk.asked ≡ 0) × (s.talk.denied ≡ 0)
@@ -42,69 +41,45 @@ pub record IsFreshParty (s : Party) : Type 0 where
   pub waits : (s.from ≡ 0) × (s.upto ≡ 0)
 
 -- a place that was not served yet gets what is kept of its link
-abbrev pub TakesParty : Seat → Seat → Type 0
-TakesParty New (Open b) = IsFreshParty b.value
-TakesParty New _ = ⊥
-TakesParty s s' = s' ≡ s
+abbrev pub TakesState : Seat → Seat → Type 0
+TakesState New (Open b) = IsFreshState b.value
+TakesState New _ = ⊥
+TakesState s s' = s' ≡ s
 
 -- what the service of a link asks of its place
-abbrev pub CanServe : NamedPolicy → Harbour → ℕ → Pace → Seat → Type 0
-CanServe np a c pace New = ⊥
-CanServe np a c pace (Open b) =
-    let s =
-    b.value in IsOpen a c × IsNamedActor np s.talk.actor × (s.at ≤ length (told_bytes s.told))
-    × (s.from ≤ s.upto) × (s.upto ≤ MAX_READ) × HasPlaces s.talk pace (s.upto - s.from + s.left)
-CanServe np a c pace (Over polled) = Unit {0}
+abbrev pub CanServeSeat : NamedPolicy → Harbour → ℕ → RunCounters → Seat → Type 0
+CanServeSeat np a c counters New = ⊥
+CanServeSeat np a c counters (Open b) = CanServe np a c counters b.value
+CanServeSeat np a c counters (Over e) = Unit {0}
 
 -- a link is let go at once exactly where as many others were open as may be
-abbrev pub IsLetIn : Port → PollEnd → Type 0
-IsLetIn q Full = q.others ≡ MAX_OPEN
-IsLetIn q _ = q.others < MAX_OPEN
-
--- nothing went over the link
-pub record SameBytes (start q : Port) : Type 0 where
-  pub left : q.left ≡ start.left
-  pub taken : q.taken ≡ start.taken
-  pub given : q.given ≡ start.given
+abbrev pub IsLetIn : ℕ → PollEnd → Type 0
+IsLetIn others Full = others ≡ MAX_OPEN
+IsLetIn others _ = others < MAX_OPEN
 
 -- what stands in the place of a link
-abbrev pub Sits : NamedPolicy → Port → Port → List Acted → Seat → Type 0
+abbrev pub Sits : NamedPolicy → Bytes → Port → List Acted → Seat → Type 0
 Sits np start q acted New =
-    (acted ≡ []) × SameBytes start q × (is_over q.last ≡ false) × (q.finished ≡ None)
+    (acted ≡ []) × (port_bytes q ≡ start) × (is_over q.last ≡ false) × (q.finished ≡ None)
     × (q.others < MAX_OPEN)
 Sits np start q acted (Open b) =
-    Rests np start q b.value acted × (q.finished ≡ None) × (q.others < MAX_OPEN)
+    Rests np start (course q) b.value acted × (q.finished ≡ None) × (q.others < MAX_OPEN)
 Sits np start q acted (Over e) =
-    EndsLink np start q e.asked e.denied acted e.outcome × ((n : ℕ) × (q.finished ≡ Some n))
-    × IsLetIn q e.outcome × HasOwnEnd e.outcome
-
-abbrev pub is_worn_end : PollEnd → Bool
-is_worn_end (Worn n) = true
-is_worn_end _ = false
-
--- the pass is not worn in it
-abbrev pub IsUnwornSeat : Seat → Type 0
-IsUnwornSeat New = Unit {0}
-IsUnwornSeat (Open b) = Unit {0}
-IsUnwornSeat (Over e) = is_worn_end e.outcome ≡ false
+    EndsLink np start (course q) acted e × ((n : ℕ) × (q.finished ≡ Some n))
+    × IsLetIn q.others e.outcome × HasOwnEnd e.outcome
 
 -- nothing has gone over the link yet
 abbrev pub IsBlank : Port → Type 0
 IsBlank q = IsNothing q.taken × IsNothing q.given
 
 -- when a link was finished: one that was open at the end was so behind the last call of `next`
-abbrev pub IsLetGo : ℕ → Port → PollEnd → Type 0
-IsLetGo nexts q Stopped = q.finished ≡ Some nexts
-IsLetGo nexts q _ = (n : ℕ) × (q.finished ≡ Some n)
-
--- no seat has an end by which the pass is worn
-abbrev pub AreUnwornSeats : List Seat → Type 0
-AreUnwornSeats seats = (i : ℕ) (s : Seat) → slice_get seats i ≡ Some s → IsUnwornSeat s
+abbrev pub IsLetGo : ℕ → Option ℕ → PollEnd → Type 0
+IsLetGo nexts finished Stopped = finished ≡ Some nexts
+IsLetGo nexts finished _ = (n : ℕ) × (finished ≡ Some n)
 
 -- before the first event
 abbrev pub first_spot : {M : Type 0} → Holder M → Option (ℕ → ℕ) → FrontSpot M
-first_spot pass clock =
-    record { pass = pass; clock = clock; pace = record { calls = 0; reached = None } }
+first_spot pass clock = front_spot pass clock (record { calls = 0; reached = None })
 
 -- `next` was not called yet, or told last that a link was opened or is ready
 abbrev pub MayGoOn : Option (Result PortEvent Failed) → Type 0
@@ -113,22 +88,6 @@ MayGoOn (Some (Ok (Opened c))) = Unit {0}
 MayGoOn (Some (Ok (Ready c))) = Unit {0}
 MayGoOn (Some (Ok Stop)) = ⊥
 MayGoOn (Some (Err f)) = ⊥
-
-abbrev pub GoesTo : Harbour → Harbour → ℕ → List Seat → RunEnd → Type 0
-GoesTo start b draws seats EndStopped =
-    (b.told ≡ Some (Ok Stop)) × (length seats < MAX_LINKS) × AreUnwornSeats seats
-GoesTo start b draws seats PortFault =
-    ((f : Failed) × (b.told ≡ Some (Err f))) × Rose start.faults b.faults
-    × (length seats < MAX_LINKS) × AreUnwornSeats seats
-GoesTo start b draws seats Enough =
-    ((c : ℕ) × (b.told ≡ Some (Ok (Opened c)))) × (length seats ≡ MAX_LINKS)
-    × AreUnwornSeats seats
-GoesTo start b draws seats EndWorn =
-    ((c : ℕ) × (b.told ≡ Some (Ok (Ready c)))) × (draws ≡ 2 ^ 40)
-    × ((i : ℕ)
-    × ((e : Polled) × (slice_get seats i ≡ Some (Over e)) × (is_worn_end e.outcome ≡ true)))
-GoesTo start b draws seats Memory =
-    MayGoOn b.told × (length seats < MAX_LINKS) × AreUnwornSeats seats
 
 -- how many of these the first n links have shown
 abbrev pub count_among : (Port → ℕ) → (ℕ → Port) → ℕ → ℕ
@@ -151,41 +110,9 @@ FaultsAreLast start b =
 abbrev pub EndsAreLast : Harbour → Harbour → Type 0
 EndsAreLast start b = b.ends ≤ start.ends + count_among ended_of b.port b.opened
 
--- how a link that is open is let go; one that has ended stays as it is
-abbrev pub EndsSeatAt : Port → Port → ℕ → Seat → Polled → Type 0
-EndsSeatAt q q' nexts New e =
-    (e ≡ record { asked = 0; denied = 0; outcome = Stopped })
-    × (q' ≡ record q { owed = false; finished = Some nexts })
-EndsSeatAt q q' nexts (Open b) e =
-    (e ≡ record { asked = b.value.talk.asked; denied = b.value.talk.denied; outcome = Stopped })
-    × (q' ≡ record q { owed = false; finished = Some nexts })
-EndsSeatAt q q' nexts (Over polled) e = (e ≡ polled) × (q' ≡ q)
-
-abbrev pub IsOpenSeat : Seat → Type 0
-IsOpenSeat New = Unit {0}
-IsOpenSeat (Open b) = Unit {0}
-IsOpenSeat (Over e) = ⊥
-
-pub record EndsSeat (a b : Harbour) (c : ℕ) (seat : Seat) (e : Polled) : Type 0 where
-  pub at : EndsSeatAt (a.port c) (b.port c) a.nexts seat e
-  pub rest : KeepsRest a b c
-  pub faults : b.faults ≡ a.faults
-  pub ends : b.ends ≡ a.ends
-
--- the links of the seats from number c on are open where their seats are
-abbrev pub AreOpenSeats : Harbour → ℕ → List Seat → Type 0
-AreOpenSeats a n seats =
-    (i : ℕ) (s : Seat) → n ≤ i → slice_get seats i ≡ Some s → IsOpenSeat s → IsOpen a (i + 1)
-
-pub record LetsGo (a b : Harbour) (seats : List Seat) (polled : List Polled) : Type 0 where
-  pub told : b.told ≡ a.told
-  pub nexts : b.nexts ≡ a.nexts
-  pub opened : b.opened ≡ a.opened
-  pub faults : b.faults ≡ a.faults
-  pub ends : b.ends ≡ a.ends
-  pub count : length polled ≡ length seats
-  pub each : (i : ℕ) (s : Seat) (e : Polled) → slice_get seats i ≡ Some s
-      → slice_get polled i ≡ Some e → EndsSeatAt (a.port (i + 1)) (b.port (i + 1)) a.nexts s e
+abbrev pub is_worn_end : PollEnd → Bool
+is_worn_end (Worn n) = true
+is_worn_end _ = false
 
 abbrev pub AreUnwornEnds : List Polled → Type 0
 AreUnwornEnds ends =
@@ -206,17 +133,57 @@ RunsTo start b draws ends EndWorn =
 RunsTo start b draws ends Memory =
     MayGoOn b.told × (b.opened < MAX_LINKS) × AreUnwornEnds ends
 
-module _ {M : Type 0} (np : NamedPolicy) (first : List Entry) (legal : List Entry → Type 0)
-    (now : List Entry → ℕ) (number : ℕ) where
+-- what a link has come to; one that is open is let go now
+abbrev pub polled_in : Seat → Polled
+polled_in New = record { asked = 0; denied = 0; outcome = Stopped }
+polled_in (Open b) = polled_as b.value Stopped
+polled_in (Over e) = e
+
+-- what it makes of the link
+abbrev pub port_behind : Seat → ℕ → Port → Port
+port_behind New nexts q = record q { owed = false; finished = Some nexts }
+port_behind (Open b) nexts q = record q { owed = false; finished = Some nexts }
+port_behind (Over e) nexts q = q
+
+abbrev pub IsOpenSeat : Seat → Type 0
+IsOpenSeat New = Unit {0}
+IsOpenSeat (Open b) = Unit {0}
+IsOpenSeat (Over e) = ⊥
+
+pub record EndsSeat (a b : Harbour) (c : ℕ) (seat : Seat) (e : Polled) : Type 0 where
+  pub polled : e ≡ polled_in seat
+  pub port : b.port c ≡ port_behind seat a.nexts (a.port c)
+  pub rest : KeepsRest a b c
+  pub faults : b.faults ≡ a.faults
+  pub ends : b.ends ≡ a.ends
+
+-- the links of the seats from number c on are open where their seats are
+abbrev pub AreOpenSeats : Harbour → ℕ → List Seat → Type 0
+AreOpenSeats a n seats =
+    (i : ℕ) (s : Seat) → n ≤ i → slice_get seats i ≡ Some s → IsOpenSeat s → IsOpen a (i + 1)
+
+-- the links of the first n seats were let go where they were open
+pub record LetsGo (a b : Harbour) (seats : List Seat) (n : ℕ) (ends : List Polled) : Type 0 where
+  pub told : b.told ≡ a.told
+  pub nexts : b.nexts ≡ a.nexts
+  pub opened : b.opened ≡ a.opened
+  pub faults : b.faults ≡ a.faults
+  pub told_ends : b.ends ≡ a.ends
+  pub polled : ends ≡ map polled_in (take n seats)
+  pub each : (i : ℕ) (s : Seat) → i < n → slice_get seats i ≡ Some s
+      → b.port (i + 1) ≡ port_behind s a.nexts (a.port (i + 1))
+  pub ahead : (k : ℕ) → n < k → b.port k ≡ a.port k
+
+module _ {M : Type 0} (v : Service) where
   -- a link was served in its place, or had ended before
-  pub record SeatGone (o p : FrontSpot M) (start q : Port) (c : ℕ) (turns : List Turn) (seat : Seat)
-      (result : Option PollEnd) : Type 0 where
+  pub record SeatGone (o p : FrontSpot M) (start : Bytes) (q : Port) (c : ℕ) (turns : List Turn)
+      (seat : Seat) (result : Option PollEnd) : Type 0 where
     pub more : List Turn
     pub own : Each (λ (t : Turn). t.link ≡ c) more
-    pub running : Running np first legal now number o p (more ++ turns)
-    pub sits : Sits np start q (acted_of c (more ++ turns)) seat
+    pub running : Running v o p (more ++ turns)
+    pub sits : Sits v.policy start q (acted_of c (more ++ turns)) seat
     pub worn_out : (n : ℕ) → result ≡ Some (Worn n) → p.pass.draws ≡ 2 ^ 40
-    pub unworn : result ≡ None → IsUnwornSeat seat
+    pub unworn : result ≡ None → is_worn_end (polled_in seat).outcome ≡ false
     pub unowed : q.finished ≡ None → q.owed ≡ false
 
   pub record SeatServed (p p' : FrontSpot M) (a b : Harbour) (c : ℕ) (seat seat' : Seat)
@@ -224,28 +191,27 @@ module _ {M : Type 0} (np : NamedPolicy) (first : List Entry) (legal : List Entr
     pub rest : KeepsRest a b c
     pub others : (b.port c).others ≡ (a.port c).others
     pub later : a.faults ≤ b.faults
-    pub faults : (start : Port) (acted : List Acted) → Sits np start (a.port c) acted seat
-        → b.faults + faults_of (a.port c) ≤ a.faults + faults_of (b.port c)
-    pub ends : (start : Port) (acted : List Acted) → Sits np start (a.port c) acted seat
-        → b.ends + ended_of (a.port c) ≤ a.ends + ended_of (b.port c)
+    pub faults : b.faults + faults_of (a.port c) ≤ a.faults + faults_of (b.port c)
+    pub ends : b.ends + ended_of (a.port c) ≤ a.ends + ended_of (b.port c)
     pub ended : MatchOption result ((b.port c).finished ≡ (a.port c).finished)
         (λ end. ((a.port c).finished ≡ None) × ((n : ℕ) × ((b.port c).finished ≡ Some n)))
     pub over : (end : PollEnd) → result ≡ Some end
         → (e : Polled) × (seat' ≡ Over e) × (e.outcome ≡ end)
-    pub served : (o : FrontSpot M) (start : Port) (turns : List Turn)
-        → Running np first legal now number o p turns
-        → Sits np start (a.port c) (acted_of c turns) seat → IsUnwornSeat seat
+    pub served : (o : FrontSpot M) (start : Bytes) (turns : List Turn) → Running v o p turns
+        → Sits v.policy start (a.port c) (acted_of c turns) seat
+        → is_worn_end (polled_in seat).outcome ≡ false
         → SeatGone o p' start (b.port c) c turns seat' result
 
   -- the table between two events
   pub record Tabled (o p : FrontSpot M) (start a : Harbour) (seats : List Seat) (busy : ℕ)
       (turns : List Turn) : Type 0 where
-    pub running : Running np first legal now number o p turns
+    pub running : Running v o p turns
     pub opened : a.opened ≡ length seats
     pub count : busy ≡ open_among a.port a.opened
     pub sits : (i : ℕ) (s : Seat) → slice_get seats i ≡ Some s
-        → Sits np (start.port (i + 1)) (a.port (i + 1)) (acted_of (i + 1) turns) s
-    pub ahead : (k : ℕ) → a.opened < k → SameBytes (start.port k) (a.port k)
+        → Sits v.policy (port_bytes (start.port (i + 1))) (a.port (i + 1))
+        (acted_of (i + 1) turns) s
+    pub ahead : (k : ℕ) → a.opened < k → port_bytes (a.port k) ≡ port_bytes (start.port k)
     pub fresh : (k : ℕ) → 1 ≤ k → k ≤ a.opened → IsBlank (start.port k)
     pub range : Each (λ (t : Turn). (1 ≤ t.link) × (t.link ≤ a.opened)) turns
     pub later : start.faults ≤ a.faults
@@ -253,28 +219,33 @@ module _ {M : Type 0} (np : NamedPolicy) (first : List Entry) (legal : List Entr
     pub ends : EndsAreLast start a
 
   -- what a run comes to, before its open links are let go
-  pub record Went (o p : FrontSpot M) (start b : Harbour) (seats : List Seat) (end : RunEnd)
-      : Type 0 where
+  pub record Went (before after : Holder M) (clock clock' : Option (ℕ → ℕ)) (start b : Harbour)
+      (seats : List Seat) (end : RunEnd) : Type 0 where
+    pub counters : RunCounters
     pub busy : ℕ
     pub turns : List Turn
-    pub tabled : Tabled o p start b seats busy turns
-    pub goes : GoesTo start b p.pass.draws seats end
+    pub tabled : Tabled (first_spot before clock) (front_spot after clock' counters) start b seats busy
+        turns
+    pub runs : RunsTo start b after.draws (map polled_in seats) end
 
-  -- a run to its end
-  pub record Ran (before after : Holder M) (clock clock' : Option (ℕ → ℕ)) (start b : Harbour)
-      (polled : List Polled) (end : RunEnd) : Type 0 where
-    pub pace : Pace
-    pub turns : List Turn
-    pub running : Running np first legal now number (first_spot before clock)
-        (record { pass = after; clock = clock'; pace = pace }) turns
-    pub count : length polled ≡ b.opened
-    pub links : (i : ℕ) (e : Polled) → slice_get polled i ≡ Some e
-        → EndsLink np (start.port (i + 1)) (b.port (i + 1)) e.asked e.denied
-        (acted_of (i + 1) turns)
-        e.outcome
-        × IsLetIn (b.port (i + 1)) e.outcome × IsLetGo b.nexts (b.port (i + 1)) e.outcome
-    pub fresh : (k : ℕ) → 1 ≤ k → k ≤ b.opened → IsBlank (start.port k)
-    pub range : Each (λ (t : Turn). (1 ≤ t.link) × (t.link ≤ b.opened)) turns
-    pub runs : RunsTo start b after.draws polled end
-    pub faults : FaultsAreLast start b
-    pub ends : EndsAreLast start b
+-- a run to its end
+pub record Ran {M : Type 0} (np : NamedPolicy) (first : List Entry)
+    (legal : List Entry → Type 0) (now : List Entry → ℕ) (number : ℕ) (before after : Holder M)
+    (clock clock' : Option (ℕ → ℕ)) (start b : Harbour) (polled : List Polled) (end : RunEnd)
+    : Type 0 where
+  pub counters : RunCounters
+  pub turns : List Turn
+  pub number_is : before.number ≡ number
+  pub running : Running (service np first legal now) (first_spot before clock)
+      (front_spot after clock' counters) turns
+  pub count : length polled ≡ b.opened
+  pub links : (i : ℕ) (e : Polled) → slice_get polled i ≡ Some e
+      → EndsLink np (port_bytes (start.port (i + 1))) (course (b.port (i + 1)))
+      (acted_of (i + 1) turns) e
+      × IsLetIn (b.port (i + 1)).others e.outcome
+      × IsLetGo b.nexts (b.port (i + 1)).finished e.outcome
+  pub fresh : (k : ℕ) → 1 ≤ k → k ≤ b.opened → IsBlank (start.port k)
+  pub range : Each (λ (t : Turn). (1 ≤ t.link) × (t.link ≤ b.opened)) turns
+  pub runs : RunsTo start b after.draws polled end
+  pub faults : FaultsAreLast start b
+  pub ends : EndsAreLast start b

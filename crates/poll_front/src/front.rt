@@ -1,17 +1,19 @@
 //! The links of a front: what happens next is told by the ports, and each link that is ready is
 //! served until it is left for another.
-ghost use Rattle.std.specs.Prelude.{◌≡◌, ◌≤◌, ◌<◌, ◌+◌, ◌-◌, ◌++◌, ◌∷◌, [], length, vec_len, vec_capacity, OnOk, None};
+ghost use Rattle.std.specs.Prelude.{◌≡◌, ◌≤◌, ◌<◌, ◌+◌, ◌++◌, ◌∷◌, [], length, vec_len, vec_capacity, OnOk};
 ghost use Rattle.turn_lock.specs.Holders.{site_of};
 ghost use Rattle.connection_laws.specs.Desks.{MayBeAsked, RepliesCanBeTold};
-ghost use Rattle.connection_laws.specs.Turns.{IsIdle, IsReached};
+ghost use Rattle.connection_laws.specs.Services.{service_at};
+ghost use Rattle.connection_laws.specs.Turns.{IsIdle, CanAsk, CanAskFrom, StaysIdle};
 ghost use Rattle.gt_io.specs.Ports.{IsOpen, IsUncalled, Finishes};
 ghost use Rattle.poll_front.specs.declared.seats.Seat.{Seat};
-ghost use Rattle.poll_front.specs.Tables.{CanServe, SeatServed, Went, Ran, IsOpenSeat, EndsSeat, AreOpenSeats, LetsGo, is_worn_end};
+ghost use Rattle.poll_front.specs.Fronts.{front_spot, StaysIdleFrom};
+ghost use Rattle.poll_front.specs.Tables.{CanServeSeat, SeatServed, Went, Ran, IsOpenSeat, EndsSeat, AreOpenSeats, LetsGo, is_worn_end};
 
 use crate::ends::{PollEnd, Polled};
-use crate::parties::{Pace, Party, Pause};
 use crate::seats::{Seat, fill_seat};
-use crate::serve::attend;
+use crate::serve::serve_ready;
+use crate::states::{LinkState, RunCounters, Yield};
 use connection_laws::Server;
 use gt_base::{List, MAX_LINKS, Machine, Memory};
 use gt_io::{Clock, Gate, PortEvent, Ports};
@@ -44,38 +46,29 @@ fn serve_seat<M: Machine, R: Wait, P: Ports, C: Clock, G: Gate>(
     pass: &mut Pass<M>,
     ports: &mut P,
     clock: &mut C,
-    pace: &mut Pace,
-    spares: &mut Vec<Box<Party>>,
+    counters: &mut RunCounters,
+    spares: &mut Vec<Box<LinkState>>,
     seat: &mut Seat,
 ) -> Option<PollEnd>
-    requires idle { IsIdle (site_of server.now.desk.now) pass.old }
-    requires named { MayBeAsked server.now.policy.now (M.named server.now.desk.now.root) }
-    requires replies { RepliesCanBeTold server.now.policy.now (M.legal server.now.desk.now.root) }
-    requires reached { IsReached (M.legal server.now.desk.now.root)
-        (M.now_of server.now.desk.now.root) pass.old.seen pace.old.reached }
-    requires seat { CanServe server.now.policy.now (P.harbour ports.old) server.now.conn pace.old
-        seat.old }
-    ensures served { SeatServed server.now.policy.now (M.list server.now.desk.now.root)
-        (M.legal server.now.desk.now.root) (M.now_of server.now.desk.now.root) pass.old.number
-        (record { pass = pass.old; clock = C.readings clock.old; pace = pace.old })
-        (record { pass = pass.new; clock = C.readings clock.new; pace = pace.new })
-        (P.harbour ports.old) (P.harbour ports.new) server.now.conn seat.old seat.new result }
-    ensures pass { IsIdle (site_of server.now.desk.now) pass.new
-        × (pass.new.number ≡ pass.old.number) }
-    ensures reached { IsReached (M.legal server.now.desk.now.root)
-        (M.now_of server.now.desk.now.root) pass.new.seen pace.new.reached }
+    requires ready { CanAskFrom M.named M.legal M.now_of server.now.desk.now server.now.policy.now
+        pass.old counters.old.reached }
+    requires seat { CanServeSeat server.now.policy.now (P.harbour ports.old) server.now.conn
+        counters.old seat.old }
+    ensures served { SeatServed
+        (service_at M.list M.legal M.now_of server.now.desk.now server.now.policy.now)
+        (front_spot pass.old (C.readings clock.old) counters.old)
+        (front_spot pass.new (C.readings clock.new) counters.new) (P.harbour ports.old)
+        (P.harbour ports.new) server.now.conn seat.old seat.new result }
+    ensures ready { StaysIdleFrom M.legal M.now_of server.now.desk.now pass.old pass.new
+        counters.new.reached }
 {
-    let Seat::Open(party) = seat else {
+    let Seat::Open(state) = seat else {
         return None;
     };
-    match attend(server, pass, ports, clock, pace, party) {
-        Pause::Later => None,
-        Pause::End(outcome) => {
-            let polled = Polled {
-                asked: party.talk.asked,
-                denied: party.talk.denied,
-                outcome,
-            };
+    match serve_ready(server, pass, ports, clock, counters, state) {
+        Yield::Later => None,
+        Yield::End(outcome) => {
+            let polled = state.polled(outcome);
             ports.finish(server.conn);
             if let Seat::Open(spare) = replace(seat, Seat::Over(polled)) {
                 let _ = spares.push(spare);
@@ -116,7 +109,7 @@ fn seat_next<P: Ports>(link: u32, ports: &mut P, seats: &mut Vec<Seat>, busy: &m
 /// Takes the memory of the lists that grow with the links.
 fn make_room(
     seats: &mut Vec<Seat>,
-    spares: &mut Vec<Box<Party>>,
+    spares: &mut Vec<Box<LinkState>>,
     ends: &mut List<Polled>,
 ) -> Result<(), Memory>
     ensures seats { seats.new.items ≡ seats.old.items }
@@ -143,13 +136,9 @@ fn end_of<P: Ports>(link: u32, ports: &mut P, seat: &Seat) -> Polled
                 outcome: PollEnd::Stopped,
             }
         }
-        Seat::Open(party) => {
+        Seat::Open(state) => {
             ports.finish(link);
-            Polled {
-                asked: party.talk.asked,
-                denied: party.talk.denied,
-                outcome: PollEnd::Stopped,
-            }
+            state.polled(PollEnd::Stopped)
         }
         Seat::Over(polled) => *polled,
     }
@@ -168,26 +157,24 @@ fn serve_all<M: Machine, R: Wait, P: Ports, C: Clock, G: Gate>(
     pass: &mut Pass<M>,
     ports: &mut P,
     clock: &mut C,
-    pace: &mut Pace,
     seats: &mut Vec<Seat>,
-    spares: &mut Vec<Box<Party>>,
+    spares: &mut Vec<Box<LinkState>>,
 ) -> RunEnd
-    requires idle { IsIdle (site_of server.now.desk.now) pass.old }
-    requires named { MayBeAsked server.now.policy.now (M.named server.now.desk.now.root) }
-    requires replies { RepliesCanBeTold server.now.policy.now (M.legal server.now.desk.now.root) }
+    requires ready { CanAsk M.named M.legal server.now.desk.now server.now.policy.now pass.old }
     requires none { seats.old.items ≡ [] }
     requires room { MAX_LINKS ≤ vec_capacity seats.old }
     requires ports { IsUncalled (P.harbour ports.old) }
-    requires pace { (pace.old.calls ≡ 0) × (pace.old.reached ≡ None) }
-    ensures went { Went server.now.policy.now (M.list server.now.desk.now.root)
-        (M.legal server.now.desk.now.root) (M.now_of server.now.desk.now.root) pass.old.number
-        (record { pass = pass.old; clock = C.readings clock.old; pace = pace.old })
-        (record { pass = pass.new; clock = C.readings clock.new; pace = pace.new })
-        (P.harbour ports.old) (P.harbour ports.new) seats.new.items result }
+    ensures went { Went
+        (service_at M.list M.legal M.now_of server.now.desk.now server.now.policy.now)
+        pass.old pass.new (C.readings clock.old) (C.readings clock.new) (P.harbour ports.old)
+        (P.harbour ports.new) seats.new.items result }
     ensures few { length seats.new.items ≤ MAX_LINKS }
-    ensures pass { IsIdle (site_of server.now.desk.now) pass.new
-        × (pass.new.number ≡ pass.old.number) }
+    ensures idle { StaysIdle (site_of server.now.desk.now) pass.old pass.new }
 {
+    let mut counters = RunCounters {
+        calls: 0,
+        reached: None,
+    };
     let mut busy = 0;
     for _ in server.rt.forever() {
         match ports.next() {
@@ -210,7 +197,15 @@ fn serve_all<M: Machine, R: Wait, P: Ports, C: Clock, G: Gate>(
                 if let Err(_) = fill_seat(server.alloc, spares, seat) {
                     return RunEnd::Memory;
                 }
-                if let Some(end) = serve_seat(&of, pass, ports, clock, pace, spares, seat) {
+                if let Some(end) = serve_seat(
+                    &of,
+                    pass,
+                    ports,
+                    clock,
+                    &mut counters,
+                    spares,
+                    seat,
+                ) {
                     busy -= 1;
                     if is_worn(end) {
                         return RunEnd::Worn;
@@ -230,7 +225,8 @@ fn let_go<P: Ports>(ports: &mut P, seats: &[Seat], ends: &mut List<Polled>)
     requires none { ends.old.items ≡ [] }
     requires few { length seats.now ≤ MAX_LINKS }
     requires open { AreOpenSeats (P.harbour ports.old) 0 seats.now }
-    ensures { LetsGo (P.harbour ports.old) (P.harbour ports.new) seats.now ends.new.items }
+    ensures { LetsGo (P.harbour ports.old) (P.harbour ports.new) seats.now (length seats.now)
+        ends.new.items }
 {
     for i in 0..seats.len() {
         let polled = end_of(i as u32 + 1, ports, &seats[i]);
@@ -266,19 +262,7 @@ pub fn run<M: Machine, R: Wait, P: Ports, C: Clock, G: Gate>(
     if make_room(&mut seats, &mut spares, ends).is_err() {
         return RunEnd::Memory;
     }
-    let mut pace = Pace {
-        calls: 0,
-        reached: None,
-    };
-    let end = serve_all(
-        server,
-        pass,
-        ports,
-        clock,
-        &mut pace,
-        &mut seats,
-        &mut spares,
-    );
+    let end = serve_all(server, pass, ports, clock, &mut seats, &mut spares);
     let_go(ports, &seats, ends);
     end
 }

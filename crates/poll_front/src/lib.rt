@@ -2,15 +2,13 @@
 //! served until there is nothing to do for it yet, so no link waits for another.
 #![tactic(auto)]
 
-mod attend;
+mod bytes;
 mod ends;
 mod front;
-mod hear;
 mod laws;
-mod lines;
-mod parties;
 mod seats;
 mod serve;
+mod states;
 
 pub use ends::{PollEnd, Polled};
 pub use front::{RunEnd, run};

@@ -1,72 +1,191 @@
-//! A link that is ready, until it is left for another.
-ghost use Rattle.std.specs.Prelude.{◌≡◌, ◌≤◌, ◌+◌, ◌-◌, length};
-ghost use Rattle.turn_lock.specs.Holders.{site_of};
-ghost use Rattle.connection_laws.specs.Desks.{IsNamedActor, MayBeAsked, RepliesCanBeTold};
-ghost use Rattle.connection_laws.specs.Turns.{IsIdle, IsReached};
-ghost use Rattle.connection_laws.specs.Acting.{told_bytes};
-ghost use Rattle.gt_io.specs.Ports.{IsOpen};
-ghost use Rattle.poll_front.specs.Fronts.{Tends, StopsLast, Attends, HasPlaces, Counts};
-ghost use Rattle.poll_front.specs.declared.parties.TheConstants.{MAX_READ};
+//! A link that is ready, until it is left for another: its bytes one by one, and its lines.
+ghost use Rattle.std.specs.Prelude.{◌≡◌, ◌<◌, ◌≤◌, ◌+◌, OnOk, Err};
+ghost use Rattle.locked_history.specs.Fronts.{by};
+ghost use Rattle.connection_laws.specs.Desks.{IsNamedActor};
+ghost use Rattle.connection_laws.specs.Turns.{IsReached, CanAskFrom};
+ghost use Rattle.connection_laws.specs.Rooms.{text_in, room_with, LendsRoom, TakesBack};
+ghost use Rattle.connection_laws.specs.Services.{service_at};
+ghost use Rattle.connection_laws.specs.Acting.{HasRoom};
+ghost use Rattle.connection_laws.specs.Attending.{ActsBy};
+ghost use Rattle.connection_laws.specs.Clerks.{WearsAt, ClerkAsks, clerk_view};
+ghost use Rattle.poll_front.specs.Fronts.{front_spot, IsLive, CallsOn, IsWritten, TellsLine, StepsTo, CanTalk, CountsOne, CanServe, StaysIdleFrom};
+ghost use Rattle.poll_front.specs.declared.states.TheConstants.{MAX_READ};
 
-use crate::attend::{fill, write_out};
+use crate::bytes::{fill, write_out};
 use crate::ends::PollEnd;
-use crate::lines::take_rest;
-use crate::parties::{Pace, Party, Pause};
-use connection_laws::Server;
-use gt_base::Machine;
-use gt_io::{Clock, Gate, Ports};
+use crate::states::{LinkState, RunCounters, Yield};
+use connection_laws::{Clerk, LineAnswer, Server, Talk, act_by, count, take_back};
+use gt_base::{Instant, List, Machine};
+use gt_io::{Clock, Framed, Gate, Ports};
+use request_text::LineFault;
+use std::mem::replace;
 use std::sync::Wait;
 use turn_lock::Pass;
 
-/// Serves a link that is ready: writes what is left of its last reply, acts on the bytes that wait,
-/// and reads on, until there is nothing to do for it yet or it has ended.
-pub(crate) fn attend<M: Machine, R: Wait, P: Ports, C: Clock, G: Gate>(
+/// Takes the buffer of a link back from its last reply, which was written.
+fn free_room(room: &mut List<u8>, last: &mut LineAnswer)
+    ensures last { last.new ≡ LineAnswer.Silence }
+    ensures back { TakesBack room.old room.new (text_in last.old) }
+{
+    take_back(room, replace(last, LineAnswer::Silence));
+}
+
+/// Acts on a line at the desk, but for its reply.
+///
+/// `room` is the buffer of the link, whatever it holds. A line that asks needs room there for the
+/// longest reply, which the first one takes and later ones find. The reply goes out in it, and
+/// `take_back` brings it home. Every other answer leaves it where it is, with all of its room. For
+/// want of room the line is told `NoMemory` and is not accepted, and the next one tries again.
+fn act_at<M: Machine, R: Wait, C: Clock, G: Gate>(
+    server: &Server<M, R, G>,
+    pass: &mut Pass<M>,
+    clock: &mut C,
+    reached: &mut Option<Instant>,
+    talk: &mut Talk,
+    room: &mut List<u8>,
+    line: &[u8],
+) -> LineAnswer
+    requires ready { CanAskFrom M.named M.legal M.now_of server.now.desk.now server.now.policy.now
+        pass.old reached.old }
+    requires actor { IsNamedActor server.now.policy.now talk.old.actor }
+    requires room { HasRoom talk.old 1 }
+    ensures reached { IsReached (M.legal server.now.desk.now.root)
+        (M.now_of server.now.desk.now.root) pass.new.seen reached.new }
+    ensures acts { ActsBy server.now.policy.now
+        (ClerkAsks
+        (service_at M.list M.legal M.now_of server.now.desk.now server.now.policy.now)
+        (by pass.old.number server.now.conn))
+        (WearsAt pass.new.draws) (clerk_view pass.old (C.readings clock.old))
+        (clerk_view pass.new (C.readings clock.new)) talk.old talk.new line.now result }
+    ensures lends { LendsRoom room.old room.new (text_in result) }
+{
+    let mut clerk = Clerk {
+        server,
+        pass,
+        clock,
+        reached,
+    };
+    act_by(&mut clerk, talk, room, line)
+}
+
+/// Tells a link what its last line is told.
+fn tell<P: Ports>(
+    ports: &mut P,
+    link: u32,
+    state: &mut LinkState,
+    told: LineAnswer,
+) -> Result<(), Yield>
+    requires live { IsLive (P.harbour ports.old) link }
+    ensures same { state.new ≡ record state.old { told = told; at = state.new.at } }
+    ensures tells { TellsLine (P.harbour ports.old) (P.harbour ports.new) link told state.new.at
+        result }
+    ensures calls { CallsOn (P.harbour ports.old) (P.harbour ports.new) link result }
+    ensures told { OnOk result (IsWritten state.new) }
+{
+    state.told = told;
+    state.at = 0;
+    if let LineAnswer::Worn { draws } = state.told {
+        return Err(Yield::End(PollEnd::Worn { draws }));
+    }
+    write_out(ports, link, state)
+}
+
+/// Takes the next byte, and acts on the line that it ends.
+fn take_next<M: Machine, R: Wait, P: Ports, C: Clock, G: Gate>(
     server: &Server<M, R, G>,
     pass: &mut Pass<M>,
     ports: &mut P,
     clock: &mut C,
-    pace: &mut Pace,
-    party: &mut Party,
-) -> Pause
-    requires idle { IsIdle (site_of server.now.desk.now) pass.old }
-    requires named { MayBeAsked server.now.policy.now (M.named server.now.desk.now.root) }
-    requires replies { RepliesCanBeTold server.now.policy.now (M.legal server.now.desk.now.root) }
-    requires actor { IsNamedActor server.now.policy.now party.old.talk.actor }
-    requires reached { IsReached (M.legal server.now.desk.now.root)
-        (M.now_of server.now.desk.now.root) pass.old.seen pace.old.reached }
-    requires open { IsOpen (P.harbour ports.old) server.now.conn }
-    requires within { party.old.at ≤ length (told_bytes party.old.told) }
-    requires waits { (party.old.from ≤ party.old.upto) × (party.old.upto ≤ MAX_READ) }
-    requires room { HasPlaces party.old.talk pace.old
-        (party.old.upto - party.old.from + party.old.left) }
-    ensures attends { Attends server.now.policy.now (M.list server.now.desk.now.root)
-        (M.legal server.now.desk.now.root) (M.now_of server.now.desk.now.root) pass.old.number
-        (record { pass = pass.old; clock = C.readings clock.old; pace = pace.old })
-        (record { pass = pass.new; clock = C.readings clock.new; pace = pace.new })
-        ((P.harbour ports.old).port server.now.conn) ((P.harbour ports.new).port server.now.conn)
-        server.now.conn party.old party.new result }
-    ensures pass { IsIdle (site_of server.now.desk.now) pass.new
-        × (pass.new.number ≡ pass.old.number) }
-    ensures counts { Counts party.old.talk party.new.talk pace.old pace.new
-        (party.old.upto - party.old.from + party.old.left) }
-    ensures reached { IsReached (M.legal server.now.desk.now.root)
-        (M.now_of server.now.desk.now.root) pass.new.seen pace.new.reached }
-    ensures tends { Tends (P.harbour ports.old) (P.harbour ports.new) server.now.conn }
-    ensures stops { StopsLast (P.harbour ports.old) (P.harbour ports.new) server.now.conn }
+    counters: &mut RunCounters,
+    state: &mut LinkState,
+) -> Result<(), Yield>
+    requires ready { CanAskFrom M.named M.legal M.now_of server.now.desk.now server.now.policy.now
+        pass.old counters.old.reached }
+    requires live { IsLive (P.harbour ports.old) server.now.conn }
+    requires talk { CanTalk server.now.policy.now state.old.talk counters.old 1 }
+    requires told { IsWritten state.old }
+    requires some { (state.old.from < state.old.upto) × (state.old.upto ≤ MAX_READ) }
+    ensures steps { StepsTo
+        (service_at M.list M.legal M.now_of server.now.desk.now server.now.policy.now)
+        (front_spot pass.old (C.readings clock.old) counters.old)
+        (front_spot pass.new (C.readings clock.new) counters.new) (P.harbour ports.old)
+        (P.harbour ports.new) server.now.conn state.old state.new result }
+    ensures ready { StaysIdleFrom M.legal M.now_of server.now.desk.now pass.old pass.new
+        counters.new.reached }
+    ensures actor { IsNamedActor server.now.policy.now state.new.talk.actor }
+    ensures counts { CountsOne state.old.talk state.new.talk counters.old counters.new }
+    ensures calls { CallsOn (P.harbour ports.old) (P.harbour ports.new) server.now.conn result }
+    ensures told { OnOk result (IsWritten state.new) }
+    ensures one { (state.new.from ≡ state.old.from + 1) × (state.new.upto ≡ state.old.upto)
+        × (state.new.left ≡ state.old.left) }
+    ensures kept { room_with (text_in state.old.told) state.old.room
+        ≤ room_with (text_in state.new.told) state.new.room }
 {
-    if let Err(pause) = write_out(ports, server.conn, party) {
-        return pause;
-    }
-    if let Err(pause) = take_rest(server, pass, ports, clock, pace, party) {
-        return pause;
-    }
-    while party.left > 0 {
-        if let Err(pause) = fill(ports, server.conn, party) {
-            return pause;
+    let byte = state.chunk[state.from];
+    state.from += 1;
+    match state.framer.push(byte) {
+        Framed::More => Ok(()),
+        Framed::Whole => {
+            free_room(&mut state.room, &mut state.told);
+            state.talk.calls = counters.calls;
+            let told = act_at(
+                server,
+                pass,
+                clock,
+                &mut counters.reached,
+                &mut state.talk,
+                &mut state.room,
+                state.framer.line(),
+            );
+            counters.calls = state.talk.calls;
+            count(&mut state.talk, &told);
+            tell(ports, server.conn, state, told)
         }
-        if let Err(pause) = take_rest(server, pass, ports, clock, pace, party) {
-            return pause;
+        Framed::Long => {
+            free_room(&mut state.room, &mut state.told);
+            tell(ports, server.conn, state, LineAnswer::Bad(LineFault::Long))
         }
     }
-    Pause::End(PollEnd::Spent)
+}
+
+/// Serves a link that is ready: writes what is left of its last reply, acts on the bytes that wait,
+/// and reads on, until there is nothing to do for it yet or it has ended.
+pub(crate) fn serve_ready<M: Machine, R: Wait, P: Ports, C: Clock, G: Gate>(
+    server: &Server<M, R, G>,
+    pass: &mut Pass<M>,
+    ports: &mut P,
+    clock: &mut C,
+    counters: &mut RunCounters,
+    state: &mut LinkState,
+) -> Yield
+    requires ready { CanAskFrom M.named M.legal M.now_of server.now.desk.now server.now.policy.now
+        pass.old counters.old.reached }
+    requires state { CanServe server.now.policy.now (P.harbour ports.old) server.now.conn counters.old
+        state.old }
+    ensures steps { StepsTo
+        (service_at M.list M.legal M.now_of server.now.desk.now server.now.policy.now)
+        (front_spot pass.old (C.readings clock.old) counters.old)
+        (front_spot pass.new (C.readings clock.new) counters.new) (P.harbour ports.old)
+        (P.harbour ports.new) server.now.conn state.old state.new (Err result) }
+    ensures ready { StaysIdleFrom M.legal M.now_of server.now.desk.now pass.old pass.new
+        counters.new.reached }
+    ensures calls { CallsOn (P.harbour ports.old) (P.harbour ports.new) server.now.conn
+        (Err result) }
+{
+    if let Err(why) = write_out(ports, server.conn, state) {
+        return why;
+    }
+    loop {
+        if state.from < state.upto {
+            if let Err(why) = take_next(server, pass, ports, clock, counters, state) {
+                return why;
+            }
+        } else if state.left > 0 {
+            if let Err(why) = fill(ports, server.conn, state) {
+                return why;
+            }
+        } else {
+            return Yield::End(PollEnd::Spent);
+        }
+    }
 }

@@ -1,6 +1,5 @@
 use Rattle.std.proofs.Common.{◌≤◌, ◌+◌, length}
-use Rattle.poll_front.specs.Tables.{AreOpenSeats}
-use Rattle.poll_front.proofs.Letting.{Letting}
+use Rattle.poll_front.specs.Tables.{AreOpenSeats, LetsGo}
 use Rattle.poll_front.proofs.front.let_go.Given as goal
 
 abbrev pub invariant-loop-i : goal.invariant-loop-i
@@ -8,7 +7,7 @@ invariant-loop-i g l =
     let a = g.P.Ports.harbour l.fn.ports in
     let b = g.P.Ports.harbour l.ports in
     record {
-      letting : Letting a b l.seats l.ends.items l.i;
+      lets : LetsGo a b l.seats l.i l.ends.items;
       behind : AreOpenSeats b l.i l.seats;
       room : length l.seats ≤ l.ends.spare + l.i;
     }

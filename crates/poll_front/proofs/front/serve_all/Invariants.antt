@@ -1,27 +1,18 @@
-use Rattle.std.proofs.Common.{◌≡◌, ◌≤◌, ◌<◌, List, length, vec_capacity}
-use Rattle.gt_io.specs.Ports.{NoneOwed}
-use Rattle.turn_lock.specs.Holders.{site_of}
-use Rattle.connection_laws.specs.Turns.{IsIdle, IsReached}
-use Rattle.poll_front.specs.Fronts.{Turn}
-use Rattle.poll_front.specs.Tables.{Tabled, AreUnwornSeats, MayGoOn}
+use Rattle.std.proofs.Common.{◌≤◌, ◌<◌, length, vec_capacity}
+use Rattle.connection_laws.specs.Services.{service_at}
+use Rattle.poll_front.specs.Fronts.{front_spot, StaysIdleFrom}
+use Rattle.poll_front.specs.Tables.{first_spot}
+use Rattle.poll_front.proofs.Looping.{Held}
 use Rattle.poll_front.proofs.front.serve_all.Given as goal
 
 abbrev pub invariant-loop : goal.invariant-loop
 invariant-loop g l =
-    let root = l.server.desk.now.root in
     let m = g.M.Machine in
     let k = g.C.Clock in
+    let h = g.P.Ports.harbour in
     record {
-      turns : List Turn;
-      tabled : Tabled l.server.policy.now (g.M.Keeps.list root) (m.legal root) (m.now_of root) l.fn.pass.number (record { pass = l.fn.pass; clock = k.readings l.fn.clock; pace = l.fn.pace }) (record { pass = l.pass; clock = k.readings l.clock; pace = l.pace })
-          (g.P.Ports.harbour l.fn.ports) (g.P.Ports.harbour l.ports) l.seats.items l.busy turns;
-      unworn : AreUnwornSeats l.seats.items;
+      held : Held (service_at g.M.Keeps.list m.legal m.now_of l.server.desk.now l.server.policy.now) (first_spot l.fn.pass (k.readings l.fn.clock)) (front_spot l.pass (k.readings l.clock) l.counters) (h l.fn.ports) (h l.ports) l.seats.items l.busy;
       few : length l.seats.items < 100_000;
-      unowed : NoneOwed (g.P.Ports.harbour l.ports);
-      sound : MayGoOn (g.P.Ports.harbour l.ports).told;
-      idle : IsIdle (site_of l.server.desk.now) l.pass;
-      number : l.pass.number ≡ l.fn.pass.number;
-      reached : IsReached (m.legal root) (m.now_of root) l.pass.seen l.pace.reached;
-      low : l.busy ≤ 1024;
+      ready : StaysIdleFrom m.legal m.now_of l.server.desk.now l.fn.pass l.pass l.counters.reached;
       room : 100_000 ≤ vec_capacity l.seats;
     }

@@ -6,7 +6,7 @@ use Rattle.connection_laws.specs.Turns.{IsReached}
 use Rattle.connection_laws.specs.Attending.{ActsBy}
 use Rattle.connection_laws.specs.Clerks.{WearsAt, ClerkAsks, rested_clerk, clerk_view}
 use Rattle.connection_laws.proofs.Lent.{lent_acts}
-use Rattle.poll_front.proofs.hear.act_at.Goals as goal
+use Rattle.poll_front.proofs.serve.act_at.Goals as goal
 
 pub returns-clause-acts : goal.returns-clause-acts
 returns-clause-acts g c =
@@ -31,4 +31,4 @@ returns-clause-reached g c =
     let clerk = c.act_by.new.answerer in
     subst (λ (p : Holder g.row.M.Denot). IsReached (m.legal root) (m.now_of root) p.seen c.reached-1.given.0) pass_is
     (subst (λ r. IsReached (m.legal root) (m.now_of root) clerk.pass.now.seen r) reached_is
-    (subst (λ s. IsReached (m.legal s.now.desk.now.root) (m.now_of s.now.desk.now.root) clerk.pass.now.seen clerk.reached.now) c.act_by.ensures.keeps.0 c.act_by.ensures.ready.3))
+    (subst (λ s. IsReached (m.legal s.now.desk.now.root) (m.now_of s.now.desk.now.root) clerk.pass.now.seen clerk.reached.now) c.act_by.ensures.keeps.0 c.act_by.ensures.ready.reached))

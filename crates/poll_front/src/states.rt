@@ -1,7 +1,9 @@
 //! What a front keeps of an open link.
-ghost use Rattle.poll_front.specs.Tables.{IsFreshParty};
+ghost use Rattle.std.specs.Prelude.{◌≡◌};
+ghost use Rattle.poll_front.specs.Fronts.{polled_as};
+ghost use Rattle.poll_front.specs.Tables.{IsFreshState};
 
-use crate::ends::PollEnd;
+use crate::ends::{PollEnd, Polled};
 use connection_laws::{LineAnswer, Talk, take_back};
 use gt_base::{Actor, Instant, List, MAX_BYTES};
 use gt_io::Framer;
@@ -13,7 +15,7 @@ pub(crate) const MAX_READ: usize = 4096;
 
 /// What is kept of an open link.
 #[derive(Drop)]
-pub struct Party {
+pub struct LinkState {
     pub framer: Framer,
     pub talk: Talk,
     /// What its last line is told, and how many bytes of that were written.
@@ -32,27 +34,27 @@ pub struct Party {
 
 /// How many request lines there were over all links, and a minute that the history has come to as
 /// far as the pass has seen it, where one is known.
-#[derive(Clone, Copy, PartialEq, Eq, Debug)]
-pub struct Pace {
+#[derive(Clone, Copy)]
+pub struct RunCounters {
     pub calls: u64,
     pub reached: Option<Instant>,
 }
 
 /// Why a link is left for another.
-#[derive(Clone, Copy, PartialEq, Eq, Debug)]
-pub enum Pause {
+#[derive(Clone, Copy)]
+pub enum Yield {
     /// There is nothing to do for it yet.
     Later,
     /// It has ended.
     End(PollEnd),
 }
 
-impl Party {
+impl LinkState {
     /// Before the first byte, with a buffer for its replies.
-    pub(crate) fn new(room: List<u8>) -> Party
-        ensures { IsFreshParty result }
+    pub(crate) fn new(room: List<u8>) -> LinkState
+        ensures { IsFreshState result }
     {
-        Party {
+        LinkState {
             framer: Framer::new(),
             talk: Talk {
                 actor: Actor::Nobody,
@@ -72,10 +74,21 @@ impl Party {
 
     /// Makes it that of a further link, with the buffer for its replies.
     pub(crate) fn renew(&mut self, alloc: Global)
-        ensures { IsFreshParty self.new }
+        ensures { IsFreshState self.new }
     {
         let mut room = replace(&mut self.room, List::new(alloc));
         take_back(&mut room, replace(&mut self.told, LineAnswer::Silence));
-        *self = Party::new(room);
+        *self = LinkState::new(room);
+    }
+
+    /// What the link has come to that ends so.
+    pub(crate) fn polled(&self, outcome: PollEnd) -> Polled
+        ensures { result ≡ polled_as self.now outcome }
+    {
+        Polled {
+            asked: self.talk.asked,
+            denied: self.talk.denied,
+            outcome,
+        }
     }
 }
