@@ -7,23 +7,16 @@ use Rattle.gt_base.specs.declared.requests.Entry.{Entry}
 use Rattle.gt_io.specs.Links.{Traffic}
 use Rattle.policy_words.specs.Naming.{NamedPolicy}
 use Rattle.core_machine.specs.Looks.{is_look}
-use Rattle.connection_laws.specs.Lines.{Answer, silence, agreed, bad, accepted, shown, no_memory, no_steps, view_only, worn, Acted}
+use Rattle.connection_laws.specs.Lines.{Answer, view_only, Acted}
 use Rattle.connection_laws.specs.Attending.{EndsBy, IsUnhindered, IsComplete}
 use Rattle.connection_laws.proofs.Linking as Link
 use Rattle.snapshot_readers.specs.declared.ends.ViewEnd.{ViewEnd}
+use Rattle.snapshot_readers.proofs.Looking.{look_by}
 use Rattle.snapshot_readers.specs.Viewed.{link_end, Looks, Sees, View, IsViewAnswered}
 
 module _ (np : NamedPolicy) (birth : ℕ) (h : List Entry) where
   looked : (actor : Actor) (request : Request) (answer : Answer) → is_look request ≡ true → Looks np birth h actor request answer → IsViewAnswered request answer
-  looked actor request (shown n reply) is l = is
-  looked actor request no_memory is l = is
-  looked actor request view_only is l = absurd l
-  looked actor request silence is l = absurd l
-  looked actor request agreed is l = absurd l
-  looked actor request (bad f) is l = absurd l
-  looked actor request (accepted reply) is l = absurd l
-  looked actor request no_steps is l = absurd l
-  looked actor request worn is l = absurd l
+  looked actor request answer is l = look_by np birth h actor request (λ (a : Answer). IsViewAnswered request a) (λ n reply s. is) is answer l
 
   by_look : (b : Bool) (actor : Actor) (request : Request) (answer : Answer) → is_look request ≡ b → MatchBool b (Looks np birth h actor request answer) (answer ≡ view_only) → IsViewAnswered request answer
   by_look true actor request answer is l = looked actor request answer is l

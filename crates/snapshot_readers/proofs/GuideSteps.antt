@@ -12,7 +12,7 @@ use Rattle.request_text.specs.declared.lines.Line.TheVariants.{Silent, At, Be, A
 use Rattle.request_text.specs.declared.lines.LineFault.{LineFault}
 use Rattle.request_text.specs.Phrases.{read_line}
 use Rattle.core_machine.specs.Looks.{is_look}
-use Rattle.connection_laws.specs.Lines.{Answer, silence, agreed, bad, accepted, shown, no_memory, no_steps, view_only, worn, Acted, actor_after, readings_of, entries_of, GetsBy, AreActedBy}
+use Rattle.connection_laws.specs.Lines.{Answer, silence, agreed, bad, view_only, Acted, actor_after, readings_of, entries_of, GetsBy, AreActedBy}
 use Rattle.connection_laws.specs.Attending.{StepsBy, Steps}
 use Rattle.connection_laws.specs.declared.talk.LineAnswer.{LineAnswer}
 use Rattle.connection_laws.proofs.Linking.{acted_so}
@@ -23,22 +23,15 @@ use Rattle.snapshot_readers.specs.Guides.{GuideView, GuideAsks}
 use Rattle.snapshot_readers.specs.Viewing.{Shows}
 use Rattle.snapshot_readers.proofs.Ascending.{ascend_on}
 use Rattle.snapshot_readers.proofs.Longer.{take_longer, longer}
+use Rattle.snapshot_readers.proofs.Looking.{look_by}
 
 module _ (np : NamedPolicy) (birth : ℕ) where
   -- what was seen over a history is seen over a longer one
   looks_longer : (h h' : List Entry) → IsPrefix h h' → (actor : Actor) (request : Request) (answer : Answer) → Looks np birth h actor request answer → Looks np birth h' actor request answer
-  looks_longer h h' more actor request (shown n reply) l =
+  looks_longer h h' more actor request answer l =
       let le = longer h h' more in
-      let low = l.0 in
-      (omega (arith, low, le), subst (λ (g : List Entry). IsReplyAt np.policy birth g actor request reply) (sym (take_longer n h h' more l.0)) l.1)
-  looks_longer h h' more actor request no_memory l = tt
-  looks_longer h h' more actor request silence l = l
-  looks_longer h h' more actor request agreed l = l
-  looks_longer h h' more actor request (bad f) l = l
-  looks_longer h h' more actor request (accepted r) l = l
-  looks_longer h h' more actor request no_steps l = l
-  looks_longer h h' more actor request view_only l = l
-  looks_longer h h' more actor request worn l = l
+      look_by np birth h actor request (λ (a : Answer). Looks np birth h' actor request a)
+      (λ n reply s. let low = s.0 in (omega (arith, low, le), subst (λ (g : List Entry). IsReplyAt np.policy birth g actor request reply) (sym (take_longer n h h' more low)) s.1)) tt answer l
 
   by_look : (b : Bool) (h h' : List Entry) → IsPrefix h h' → (actor : Actor) (request : Request) (answer : Answer) → MatchBool b (Looks np birth h actor request answer) (answer ≡ view_only) → MatchBool b (Looks np birth h' actor request answer) (answer ≡ view_only)
   by_look true h h' more actor request answer l = looks_longer h h' more actor request answer l

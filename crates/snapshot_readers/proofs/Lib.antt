@@ -3,6 +3,7 @@ pub mod GlassSending
 pub mod BoardSending
 pub mod Ascending
 pub mod Longer
+pub mod Looking
 pub mod GuideSteps
 pub mod Lent
 pub mod Glancing

@@ -1,12 +1,13 @@
 -- From the seats of viewers, in their reversed order, to what the viewers have served.
-use Rattle.std.proofs.Common.{◌≡◌, ℕ, zero, suc, ◌+◌, ◌<◌, Bool, true, false, List, [], ◌∷◌, ◌++◌, reverse, length, get_or, refl, sym, ap, subst, ◌∙◌, arith, Option, Result}
-use Rattle.std.specs.Prelude.{All, MatchBool, replicate, ◌&&◌}
+use Rattle.std.proofs.Common.{◌≡◌, ℕ, zero, suc, ◌+◌, ◌<◌, Bool, true, false, List, [], ◌∷◌, ◌++◌, reverse, length, get_or, refl, sym, ap, subst, ◌∙◌, arith, Result}
+use Rattle.std.specs.Prelude.{All, MatchBool, replicate}
 use Rattle.std.specs.List.{list_all}
 use mathlib.Core.List.{IsPrefix, reverse-cons, map-append}
 use Rattle.gt_base.specs.declared.requests.Actor.{Actor}
 use Rattle.gt_base.specs.declared.requests.Request.{Request}
 use Rattle.gt_base.specs.declared.requests.Entry.{Entry}
 use Rattle.gt_io.specs.Links.{Traffic, Doorway}
+use Rattle.gtrbac_model.proofs.Elements.{both_true}
 use Rattle.turn_lock.specs.Turns.{Each}
 use Rattle.turn_lock.proofs.PassLists.{each_reverse, each_unreverse}
 use Rattle.policy_words.specs.Naming.{NamedPolicy}
@@ -18,10 +19,11 @@ use Rattle.snapshot_readers.specs.Glazed.{Glazed, fresh_glass}
 use Rattle.snapshot_readers.specs.declared.viewers.Viewer.{Viewer}
 use Rattle.snapshot_readers.specs.declared.ends.Viewed.{Viewed}
 use Rattle.snapshot_readers.specs.Crew.{ViewTale, Works, AreViewed, all_lens}
-use Rattle.connection_laws.specs.Lines.{Answer, silence, agreed, bad, accepted, shown, no_memory, no_steps, view_only, worn, Acted, actor_after, entries_of, GetsBy, AreActedBy}
+use Rattle.connection_laws.specs.Lines.{Answer, view_only, Acted, actor_after, entries_of, GetsBy, AreActedBy}
 use Rattle.snapshot_readers.specs.Viewed.{Looks, Sees, AscendBetween}
 use Rattle.snapshot_readers.proofs.Ascending.{ascend_to}
 use Rattle.snapshot_readers.proofs.Longer.{take_longer, longer}
+use Rattle.snapshot_readers.proofs.Looking.{look_by}
 use Rattle.snapshot_readers.proofs.Linking.{viewed_longer}
 use Rattle.snapshot_readers.specs.declared.seats.Seat.{Seat}
 use Rattle.snapshot_readers.specs.Seats.{Watcher, watcher, watchers, HasLooked, IsNewViewer, glasses_of, viewers_of, IsHistory, HasSettled, IsOf, AreOf, AllAreOf, HasViewed, IsToldOf, AreTold, HaveViewed}
@@ -29,10 +31,6 @@ use Rattle.snapshot_readers.specs.Seats.{Watcher, watcher, watchers, HasLooked, 
 all_each : {A : Type 0} (P : A → Type 0) (xs : List A) → All P xs → Each P xs
 all_each P [] h = tt
 all_each P (x ∷ xs) h = (h 0 x (omega arith), all_each P xs (λ k d low. h (suc k) d (omega (arith, low))))
-
-both_true : (a b : Bool) → (a && b) ≡ true → (a ≡ true) × (b ≡ true)
-both_true true b e = (refl, e)
-both_true false b e = absurd (cc e)
 
 each_copy : {A : Type 0} (P : A → Type 0) (n : ℕ) (x : A) → P x → Each P (replicate n x)
 each_copy P zero x p = tt
@@ -45,15 +43,9 @@ length_copies (suc n) x = ap suc (length_copies n x)
 -- what is shown of a longer list is, up to the length of its beginning, of that
 module _ (np : NamedPolicy) (birth : ℕ) (h seen : List Entry) (more : IsPrefix h seen) where
   of_looks : (actor : Actor) (request : Request) (answer : Answer) → Looks np birth seen actor request answer → IsOf np birth h actor request answer
-  of_looks actor request (shown n reply) l = λ low. subst (λ (g : List Entry). IsReplyAt np.policy birth g actor request reply) (take_longer n h seen more low) l.1
-  of_looks actor request no_memory l = tt
-  of_looks actor request silence l = tt
-  of_looks actor request agreed l = tt
-  of_looks actor request (bad f) l = tt
-  of_looks actor request view_only l = tt
-  of_looks actor request (accepted reply) l = tt
-  of_looks actor request no_steps l = tt
-  of_looks actor request worn l = tt
+  of_looks actor request answer l =
+      look_by np birth seen actor request (λ (a : Answer). IsOf np birth h actor request a)
+      (λ n reply s low. subst (λ (g : List Entry). IsReplyAt np.policy birth g actor request reply) (take_longer n h seen more low) s.1) tt answer l
 
   by_look : (b : Bool) (actor : Actor) (request : Request) (answer : Answer) → MatchBool b (Looks np birth seen actor request answer) (answer ≡ view_only) → IsOf np birth h actor request answer
   by_look true actor request answer l = of_looks actor request answer l

@@ -22,12 +22,12 @@ pub struct Board<'a, R: Wait> {
     pub(crate) rt: &'a R,
     pub(crate) ledger: Ledger,
     pub(crate) copies: Copies<BookCopy>,
-    /// How many ticks have come since it last published.
-    ticks: u32,
+    /// How many steps have come since it last published.
+    steps: u32,
 }
 
-/// How many ticks of one line come before the board publishes them.
-const MAX_TICKS: u32 = 1024;
+/// How many steps come before the board publishes them, where viewers need see none of them.
+const MAX_STILL: u32 = 64;
 
 impl<'a, R: Wait> Model for Board<'a, R> {
     ghost use Rattle.snapshot_readers.specs.Boards.{BoardView, board_code};
@@ -51,7 +51,7 @@ impl<'a, R: Wait> Drop for Board<'a, R> {
             rt,
             ledger: _,
             copies,
-            ticks: _,
+            steps: _,
         } = self;
         copies.end(rt);
     }
@@ -88,7 +88,7 @@ impl<'a, R: Wait> Board<'a, R> {
                     rt,
                     ledger,
                     copies,
-                    ticks: 0,
+                    steps: 0,
                 },
                 glasses,
             )),
@@ -108,26 +108,20 @@ impl<'a, R: Wait> Board<'a, R> {
         ensures ledger { self.new.ledger ≡ self.old.ledger }
         ensures all { OnOk result (self.new.shown ≡ self.new.ledger.entries) }
     {
-        self.ticks = 0;
         let entries = self.ledger.book().entries().as_slice();
-        replace_with(&mut self.copies, (self.rt, entries), brought_up)
+        let done = replace_with(&mut self.copies, (self.rt, entries), brought_up);
+        self.steps = if done.is_ok() { 0 } else { MAX_STILL };
+        done
     }
 
-    /// Publishes what there is memory for.
-    pub(crate) fn follow(&mut self)
+    /// Counts a step. Behind one that viewers are to see, each 64th and one that fills the history
+    /// it publishes what there is memory for.
+    pub(crate) fn follow(&mut self, seen: bool)
         ensures { self.new.ledger ≡ self.old.ledger }
     {
-        let _ = self.catch_up();
-    }
-
-    /// Counts a tick. Behind the last of a line, each 1,024th and one that fills the history it
-    /// publishes what there is memory for.
-    pub(crate) fn follow_tick(&mut self, last: bool)
-        ensures { self.new.ledger ≡ self.old.ledger }
-    {
-        self.ticks = self.ticks.saturating_add(1);
-        if last || self.ticks >= MAX_TICKS || self.book().entries().len() >= MAX_STEPS {
-            self.follow();
+        self.steps = self.steps.saturating_add(1);
+        if seen || self.steps >= MAX_STILL || self.book().entries().len() >= MAX_STEPS {
+            let _ = self.catch_up();
         }
     }
 
@@ -139,7 +133,7 @@ impl<'a, R: Wait> Board<'a, R> {
             rt,
             ledger,
             copies,
-            ticks: _,
+            steps: _,
         } = self;
         copies.end(rt);
         ledger

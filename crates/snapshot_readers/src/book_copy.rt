@@ -5,9 +5,10 @@ ghost use mathlib.Core.List.{IsPrefix};
 ghost use Rattle.gt_base.specs.Machines.{ticked, asked};
 ghost use Rattle.core_machine.specs.Books.{SameRoot};
 
+use crate::guide::only_looks;
 use crate::named::names;
 use core_machine::Book;
-use gt_base::{Actor, Entry, Instant, Reply, Request, Step, Who};
+use gt_base::{Actor, Entry, Instant, MAX_STEPS, Reply, Request, Step, Who};
 use left_right::Absorb;
 use policy_book::Policy;
 use published_copies::Replica;
@@ -85,7 +86,7 @@ fn tick_again(book: &mut Book, who: Who, upto: Instant, to: Instant) -> bool
     }
 }
 
-/// Asks again, and says whether the reply was the same.
+/// Asks again, and says whether the reply was the same. What only looks is added where it is.
 fn ask_again(book: &mut Book, who: Who, actor: Actor, request: Request, reply: &Reply) -> bool
     ensures root { SameRoot book.old book.new }
     ensures front { IsPrefix book.old.entries book.new.entries }
@@ -95,8 +96,24 @@ fn ask_again(book: &mut Book, who: Who, actor: Actor, request: Request, reply: &
     if !names(book.policy(), actor, &request) {
         return false;
     }
-    match book.ask(who, actor, request) {
-        Ok(answer) => same_reply(&answer, reply),
+    if !only_looks(&request) {
+        return match book.ask(who, actor, request) {
+            Ok(answer) => same_reply(&answer, reply),
+            Err(_) => false,
+        };
+    }
+    if book.entries().len() >= MAX_STEPS {
+        return false;
+    }
+    let wish = request;
+    let Ok(answer) = book.peek(actor, wish) else {
+        return false;
+    };
+    if !same_reply(&answer, reply) {
+        return false;
+    }
+    match book.note(who, actor, request, answer) {
+        Ok(()) => true,
         Err(_) => false,
     }
 }

@@ -18,7 +18,7 @@ use std::alloc::Global;
 use std::mem::replace;
 
 /// Whether a request only looks.
-fn only_looks(request: &Request) -> bool
+pub(crate) fn only_looks(request: &Request) -> bool
     ensures { result ≡ is_look request.now }
 {
     match request {

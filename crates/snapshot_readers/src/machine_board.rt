@@ -2,6 +2,7 @@
 //! request, behind the last of the ticks that bring a line to its minute, and behind many of them.
 
 use crate::board::Board;
+use crate::guide::only_looks;
 use gt_base::{Actor, Instant, Keeps, Machine, Reply, Request, StepFault, Who};
 use std::sync::Wait;
 
@@ -48,7 +49,7 @@ impl<'a, R: Wait> Machine for Board<'a, R> {
         match Machine::tick(&mut self.ledger, who, upto) {
             Ok(to) => {
                 if later {
-                    self.follow_tick(to >= upto);
+                    self.follow(to >= upto);
                 }
                 Ok(to)
             }
@@ -57,9 +58,10 @@ impl<'a, R: Wait> Machine for Board<'a, R> {
     }
 
     fn ask(&mut self, who: Who, actor: Actor, request: Request) -> Result<Reply, StepFault> {
+        let still = only_looks(&request);
         match Machine::ask(&mut self.ledger, who, actor, request) {
             Ok(reply) => {
-                self.follow();
+                self.follow(!still);
                 Ok(reply)
             }
             Err(fault) => Err(fault),

@@ -1,8 +1,7 @@
 //! A viewer's link, from its first byte to its end.
 ghost use Rattle.std.specs.Prelude.{◌≡◌, ◌+◌, ◌<◌, ◌≤◌, ◌^◌, ℕ, true, false};
 ghost use Rattle.gt_base.specs.declared.limits.TheConstants.{MAX_BYTES};
-ghost use Rattle.gt_io.specs.Frames.{blank_frame};
-ghost use Rattle.connection_laws.specs.Attending.{IsStart, spot, Attends};
+ghost use Rattle.connection_laws.specs.Attending.{IsUnheard, spot, Attends};
 ghost use Rattle.snapshot_readers.specs.Viewed.{link_end};
 ghost use Rattle.snapshot_readers.specs.Guides.{guide_view, GuideAsks};
 ghost use Rattle.connection_laws.specs.Desks.{GlancesCanBeTold};
@@ -28,9 +27,7 @@ fn attend_by<L: Link, G: Gate>(
 ) -> LinkEnd
     requires policy { glass.old.named ≡ policy.now }
     requires replies { GlancesCanBeTold policy.now glass.old.birth }
-    requires start { IsStart hearing.old.talk }
-    requires frame { hearing.old.framer ≡ blank_frame }
-    requires open { (L.traffic link.old).finished ≡ false }
+    requires unheard { IsUnheard hearing.old (L.traffic link.old) }
     ensures glass { SameGlass glass.old glass.new }
     ensures attends { Attends policy.now (GuideAsks policy.now glass.old.birth) (λ g n. ⊥)
         (spot (guide_view glass.old.seen lens.old.items) hearing.old.talk

@@ -24,7 +24,7 @@ returns-then-not-only_looks-clause-answers g c =
 pub returns-clause-ready : goal.returns-clause-ready
 returns-clause-ready g c =
     let same = c.show.ensures.glass in
-    (same.0 ∙ c.requires.ready.0, subst (λ (b : ℕ). GlancesCanBeTold c.args.self.now.policy.now b) (sym same.1) c.requires.ready.1)
+    (same.0 ∙ c.requires.asked.0.0, subst (λ (b : ℕ). GlancesCanBeTold c.args.self.now.policy.now b) (sym same.1) c.requires.asked.0.1)
 
 pub returns-clause-answers : goal.returns-clause-answers
 returns-clause-answers g c =
