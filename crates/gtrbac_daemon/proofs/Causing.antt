@@ -1,14 +1,11 @@
 -- What a text that was found, and a text that was written, say of a status.
 use Rattle.std.proofs.Common.{◌≡◌, ◌⊎◌, ℕ, Bool, true, false, List, Option, Some, None, inl, inr, refl, sym, ap, subst, ◌∙◌, eq-eqb, eqb-true}
-use Rattle.std.specs.Prelude.{◌==◌, if◌then◌else◌, Result, Ok, Err, IfOk, IfSome, IsSomeAnd}
+use Rattle.std.specs.Prelude.{◌==◌, if◌then◌else◌, IfSome, IsSomeAnd}
 use Rattle.gt_io.specs.Causes.{Rose}
 use Rattle.gt_io.specs.Shelf.{Contents}
-use Rattle.policy_commands.specs.Admitting.{IsAdmitted}
-use Rattle.policy_commands.specs.declared.judging.Admitted.{Admitted}
-use Rattle.policy_commands.specs.declared.judging.Admitted.TheVariants.{Safe, Ended}
 use Rattle.policy_commands.specs.Ends.{EndView}
 use Rattle.policy_commands.specs.Finding.{IsLongPolicy}
-use Rattle.gtrbac_daemon.specs.Words.{HasText, IsAdmitFailure, IsSteadyFor}
+use Rattle.gtrbac_daemon.specs.Words.{HasText}
 use Rattle.gtrbac_daemon.specs.Runs.{or_failed, IsWritten}
 
 -- a number is not two
@@ -39,24 +36,3 @@ text_told n (Some text_of) text Holds found h = subst (λ (t : Option (List ℕ)
 pub long_told : (n : List ℕ) (o : Contents) → IfSome o (λ text_of. IsSomeAnd (text_of n) IsLongPolicy) → HasText (Some n) o IsLongPolicy
 long_told n None far = tt
 long_told n (Some text_of) far = far
-
-pub some_not_none : {A : Type 0} (o : Option A) (x : A) → Some x ≡ o → o ≡ None → ⊥
-some_not_none o x e n = let no : Some x ≡ None = e ∙ n in absurd (cc no)
-
--- no text is judged to end with 4
-judged_fine : (text : List ℕ) (holds : Type 0) (x : Admitted) → IsAdmitted text x → IsAdmitFailure holds x
-judged_fine text holds (Safe np) h = tt
-judged_fine text holds (Ended end) h = λ is. elim h.cause [ inl c ↦ absurd (apart end.status 2 4 refl c.0 is) | inr c ↦ absurd (apart end.status 3 4 refl c.0 is) ]
-
-pub admitted_fine : {E : Type 0} (text : List ℕ) (holds : Type 0) (r : Result Admitted E) → IfOk r (IsAdmitted text) → IfOk r (IsAdmitFailure holds)
-admitted_fine text holds (Ok x) h = judged_fine text holds x h
-admitted_fine text holds (Err e) h = tt
-
--- what holds at all holds of each policy that was judged
-judged_steady : (holds : Type 0) → holds → (x : Admitted) → IsSteadyFor holds x
-judged_steady holds h (Safe np) = h
-judged_steady holds h (Ended end) = inr h
-
-pub admitted_steady : {E : Type 0} (holds : Type 0) → holds → (r : Result Admitted E) → IfOk r (IsSteadyFor holds)
-admitted_steady holds h (Ok x) = judged_steady holds h x
-admitted_steady holds h (Err e) = tt

@@ -1,9 +1,7 @@
 pub mod Somebody
-pub mod CrewStatus
 pub mod Causing
 pub mod AnyRuns
-pub mod Reasons
-pub mod Dues
+pub mod Endings
 pub mod Running
 pub mod Written
 pub mod Paging
@@ -13,7 +11,6 @@ pub mod Found
 pub mod Served
 pub mod Polled
 pub mod Telling
-pub mod ViewStatus
 pub mod ViewTelling
 pub mod ViewWriting
 pub mod ViewSeats

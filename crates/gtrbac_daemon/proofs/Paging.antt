@@ -1,8 +1,8 @@
 -- A log that leaves page after page.
-use Rattle.std.proofs.Common.{◌≡◌, ℕ, suc, ◌+◌, ◌<◌, ◌≤◌, List, [], ◌∷◌, ◌++◌, length, take, flat_map, Option, inl, inr, sym, ap, subst, ◌∙◌, arith, append_assoc, length-append}
-use Rattle.std.specs.Prelude.{Result, Ok, Err, OnErr}
+use Rattle.std.proofs.Common.{◌≡◌, ℕ, ◌+◌, ◌<◌, ◌≤◌, List, [], ◌++◌, length, take, flat_map, Option, inl, inr, sym, ap, subst, ◌∙◌, arith, append_assoc, length-append}
 use Rattle.std.specs.Io.KnownBytes.{Appends}
 use Rattle.std.proofs.KnownBytes.{Appends-trans}
+use Rattle.std.proofs.Math.Seq.{take-append-add}
 use Rattle.std.proofs.lemmas.List.{take-append-le}
 use Rattle.gt_base.specs.Roomy.{Roomy}
 use Rattle.gt_base.specs.declared.requests.Entry.{Entry}
@@ -13,12 +13,6 @@ use Rattle.request_text.specs.Rooms.{Puts}
 use Rattle.core_machine.specs.Books.{BookView}
 use Rattle.gtrbac_daemon.specs.Runs.{or_failed, IsWritten}
 use Rattle.gtrbac_daemon.specs.Pages.{text_from}
-
-take_past : (w r : List ℕ) (n : ℕ) → take (length w + n) (w ++ r) ≡ w ++ take n r
-take_past [] r n = let e : 0 + n ≡ n = omega arith in ap (λ k. take k r) e
-take_past (x ∷ w) r n =
-    let e : suc (length w) + n ≡ suc (length w + n) = omega arith in
-    ap (λ k. take k (x ∷ (w ++ r))) e ∙ ap (λ (l : List ℕ). x ∷ l) (take_past w r n)
 
 -- a proper prefix of the first text is one of both
 pub part_first : (a b : Option (List ℕ)) (w r : List ℕ) → AppendsPart a b w → AppendsPart a b (w ++ r)
@@ -31,11 +25,7 @@ part_first a b w r p =
 pub part_second : (a b c : Option (List ℕ)) (w r : List ℕ) → Appends a b w → AppendsPart b c r → AppendsPart a c (w ++ r)
 part_second a b c w r first p =
     let low : p.0 < length r = p.1 in
-    (length w + p.0, omega (arith, low, length-append w r), subst (Appends a c) (sym (take_past w r p.0)) (Appends-trans a b c w (take p.0 r) first p.2))
-
-pub on_err : {T E P : Type 0} (r : Result T E) → P → OnErr r P
-on_err (Ok x) p = tt
-on_err (Err e) p = p
+    (length w + p.0, omega (arith, low, length-append w r), subst (Appends a c) (sym (take-append-add w r p.0)) (Appends-trans a b c w (take p.0 r) first p.2))
 
 -- behind the birth's line there is room for the line of an entry
 pub spare_left : (old new : Roomy ℕ) (line : List ℕ) → Puts old new line → old.spare ≡ 65_536 → length line ≡ 22 → 33_584 ≤ new.spare

@@ -1,5 +1,5 @@
 -- From the posts of a crew, in their reversed order, to what the crew has served.
-use Rattle.std.proofs.Common.{◌≡◌, ℕ, zero, suc, ◌+◌, ◌<◌, List, [], ◌∷◌, ◌++◌, reverse, length, drop, get_or, refl, sym, ap, subst, ◌∙◌, arith, Option, None}
+use Rattle.std.proofs.Common.{◌≡◌, ℕ, zero, suc, ◌+◌, ◌<◌, List, [], ◌∷◌, ◌++◌, reverse, map, length, drop, get_or, refl, sym, ap, subst, ◌∙◌, arith, Option, None}
 use Rattle.std.specs.Prelude.{All}
 use mathlib.Core.List.{reverse-cons, map-append}
 use Rattle.gt_base.specs.declared.requests.Entry.{Entry}
@@ -23,17 +23,12 @@ all_each : {A : Type 0} (P : A → Type 0) (xs : List A) → All P xs → Each P
 all_each P [] h = tt
 all_each P (x ∷ xs) h = (h 0 x (omega arith), all_each P xs (λ k d low. h (suc k) d (omega (arith, low))))
 
+map_reversed : {A B : Type 0} (f : A → B) (xs : List A) → map f (reverse xs) ≡ reverse (map f xs)
+map_reversed f [] = refl
+map_reversed f (x ∷ xs) =
+    ap (map f) (reverse-cons x xs) ∙ (map-append f (reverse xs) (x ∷ []) ∙ (ap (λ ys. ys ++ f x ∷ []) (map_reversed f xs) ∙ sym (reverse-cons (f x) (map f xs))))
+
 module _ {M D C G L : Type 0} where
-  passes_reversed : (ps : List (Post M D C G L)) → passes_of (reverse ps) ≡ reverse (passes_of ps)
-  passes_reversed [] = refl
-  passes_reversed (p ∷ ps) =
-      ap (λ (l : List (Post M D C G L)). passes_of l) (reverse-cons p ps) ∙ (map-append (λ (q : Post M D C G L). q.pass) (reverse ps) (p ∷ []) ∙ (ap (λ (l : List (Holder M)). l ++ p.pass ∷ []) (passes_reversed ps) ∙ sym (reverse-cons p.pass (passes_of ps))))
-
-  workers_reversed : (ps : List (Post M D C G L)) → workers_of (reverse ps) ≡ reverse (workers_of ps)
-  workers_reversed [] = refl
-  workers_reversed (p ∷ ps) =
-      ap (λ (l : List (Post M D C G L)). workers_of l) (reverse-cons p ps) ∙ (map-append (λ (q : Post M D C G L). q.worker) (reverse ps) (p ∷ []) ∙ (ap (λ (l : List (Worker D C G L)). l ++ p.worker ∷ []) (workers_reversed ps) ∙ sym (reverse-cons p.worker (workers_of ps))))
-
   -- what holds of passes and workers holds of the posts
   ready_at : (P : Holder M → Type 0) (Q : Worker D C G L → Type 0) (xs : List (Post M D C G L)) → Each P (passes_of xs) → Each Q (workers_of xs) → (k : ℕ) (d : Post M D C G L) → k < length xs
       → P (get_or xs k d).pass × Q (get_or xs k d).worker
@@ -110,10 +105,10 @@ module _ {M D C G L : Type 0} where
           before = reverse xs;
           after = reverse ys;
           worked = all_reversed xs ys (all_worked xs ys long h);
-          passes = passes_reversed xs ∙ p;
-          passes' = passes_reversed ys ∙ sym p';
-          workers = workers_reversed xs ∙ w;
-          workers' = workers_reversed ys ∙ sym w';
+          passes = map_reversed (λ (q : Post M D C G L). q.pass) xs ∙ p;
+          passes' = map_reversed (λ (q : Post M D C G L). q.pass) ys ∙ sym p';
+          workers = map_reversed (λ (q : Post M D C G L). q.worker) xs ∙ w;
+          workers' = map_reversed (λ (q : Post M D C G L). q.worker) ys ∙ sym w';
         }
 
     pub all_idle : (ps qs : List (Holder M)) (crew crew' : List (Worker D C G L)) → InOrder ps qs crew crew' → AreIdle site qs

@@ -1,6 +1,7 @@
 -- What the status of a run over ports tells.
 use Rattle.std.proofs.Common.{◌≡◌, ◌⊎◌, ℕ, ◌<◌, true, false, List, [], Option, Some, None, inl, inr, refl, sym, ap, ◌∙◌, arith, slice_get}
 use Rattle.std.specs.Prelude.{Result, Ok, Err}
+use Rattle.std.proofs.lemmas.Option.{none-some}
 use Rattle.gt_base.specs.declared.limits.TheConstants.{MAX_LINKS}
 use Rattle.gt_io.specs.declared.port.PortEvent.{PortEvent}
 use Rattle.gt_io.specs.declared.port.PortEvent.TheVariants.{Opened, Ready, Stop}
@@ -10,10 +11,8 @@ use Rattle.poll_front.specs.declared.ends.Polled.{Polled}
 use Rattle.poll_front.specs.declared.front.RunEnd.{RunEnd}
 use Rattle.poll_front.specs.declared.front.RunEnd.TheVariants.{Stopped, PortFault, Enough, Worn, Memory}
 use Rattle.poll_front.specs.Tables.{RunsTo, AreUnwornEnds}
-use Rattle.policy_commands.specs.Printing.{IsPrinted}
-use Rattle.gtrbac_daemon.specs.Words.{usage, poll_named}
-use Rattle.gtrbac_daemon.specs.Runs.{Scene, Starves, IsDue, IsWell, Serves, Answers, Cause, unwritten, own}
-use Rattle.gtrbac_daemon.specs.Polls.{Polling, poll_status, PollHasServed, LacksLinkMemory, HasStopped, HasFailedToTell, IsUsedUp, PollCause, stopped, memory, failed, used_up, PollDues, poll_way, RunsPoll}
+use Rattle.gtrbac_daemon.specs.Runs.{Scene, IsDue, IsWell, Answers, Cause, unwritten, own, Runs}
+use Rattle.gtrbac_daemon.specs.Polls.{Polling, poll_status, PollHasServed, LacksLinkMemory, HasStopped, HasFailedToTell, IsUsedUp, PollCause, stopped, memory, failed, used_up, PollDues, poll_way}
 use Rattle.gtrbac_daemon.proofs.Causing.{written_says, eight_says}
 use Rattle.gtrbac_daemon.proofs.AnyRuns as Any
 
@@ -26,9 +25,6 @@ opened_apart {E} o c e n = let no : ◌≡◌ {A = Option (Result PortEvent E)} 
 
 ready_apart : {E : Type 0} (o : Option (Result PortEvent E)) (c : ℕ) → o ≡ Some (Ok (Ready c)) → o ≡ Some (Ok Stop) → ⊥
 ready_apart {E} o c e n = let no : ◌≡◌ {A = Option (Result PortEvent E)} (Some (Ok (Ready c))) (Some (Ok Stop)) = sym e ∙ n in absurd (cc no)
-
-none_apart : {A : Type 0} (o : Option A) (x : A) → o ≡ None → o ≡ Some x → ⊥
-none_apart o x e n = let no : ◌≡◌ {A = Option _} None (Some x) = sym e ∙ n in absurd (cc no)
 
 -- nothing is used up where the run has stopped or failed
 module _ (q : Polling) (few : q.ports.opened < MAX_LINKS) (calm : AreUnwornEnds q.ends) where
@@ -50,12 +46,6 @@ module _ (name : Option (List ℕ)) (s : ℕ) (a b : Scene Polling) where
         | inl due ↦ own (of_end k.headline.worked.draws k.end k.headline.worked.runs due (λ e. (np, (birth, (k, e)))))
         | inr f ↦ unwritten f.0 f.1
       ]
-
-  of_starved : Starves s a b → Cause poll_way name s a b
-  of_starved k = own (memory k.0.0 (inr k))
-
-  of_serving : (np : NamedPolicy) → Serves poll_way np s a b → Cause poll_way name s a b
-  of_serving np x = elim x.ends [ inl k ↦ of_served np x.birth k | inr k ↦ of_starved k ]
 
   -- how a served run is due, by how it ended
   due_by : (n : ℕ) (np : NamedPolicy) (birth : ℕ) (k : PollHasServed np birth s a b) → (poll_status k.end ≡ n) ⊎ (k.end ≡ Memory) → IsDue (LacksLinkMemory s a b) s a b n
@@ -91,10 +81,10 @@ module _ (name : Option (List ℕ)) (s : ℕ) (a b : Scene Polling) where
     still same = ap (λ (p : Polling). p.ports.told) same ∙ new.0
 
     idle_stop : b.server ≡ a.server → HasStopped b.server → ⊥
-    idle_stop same h = none_apart b.server.ports.told (Ok Stop) (still same) h
+    idle_stop same h = none-some (Ok Stop) (sym (still same) ∙ h)
 
     idle_fault : b.server ≡ a.server → HasFailedToTell b.server → ⊥
-    idle_fault same h = none_apart b.server.ports.told (Err h.0) (still same) h.1
+    idle_fault same h = none-some (Err h.0) (sym (still same) ∙ h.1)
 
     idle_used : b.server ≡ a.server → IsUsedUp b.server → ⊥
     idle_used same (inl all) = let opened = ap (λ (p : Polling). p.ports.opened) same ∙ new.1 in absurd (omega (arith, opened, all))
@@ -120,14 +110,5 @@ module _ (name : Option (List ℕ)) (s : ℕ) (a b : Scene Polling) where
     complete_of answers w =
         elim (due 0 (HasStopped b.server) idle_stop stops_by w.server answers) [ inl (inl zero_is) ↦ inl zero_is | inl (inr f) ↦ absurd (w.output f.1) | inr e ↦ inr e.0 ]
 
-module _ (words : List (List ℕ)) (s : ℕ) (a b : Scene Polling) (new : IsUncalled a.server.ports) (none : a.server.ends ≡ []) where
-  pub runs_named : (name : List ℕ) → Some name ≡ poll_named words → Answers poll_way (Some name) s a b → b.texts ≡ a.texts → RunsPoll words s a b
-  runs_named name e answers texts =
-      Any.runs_named poll_way (poll_named words) s a b (of_serving (poll_named words) s a b) (of_starved (poll_named words) s a b)
-      (dues_of (poll_named words) s a b new none) (complete_of (poll_named words) s a b new none) name e answers texts
-
-  pub runs_unnamed : None ≡ poll_named words → IsPrinted s usage a.written b.written a.faults b.faults → b.texts ≡ a.texts → b.birth ≡ a.birth → b.server ≡ a.server
-      → b ≡ record a { written = b.written; faults = b.faults } → RunsPoll words s a b
-  runs_unnamed e printed texts birth server same =
-      Any.runs_unnamed poll_way (poll_named words) s a b (of_serving (poll_named words) s a b) (of_starved (poll_named words) s a b)
-      (dues_of (poll_named words) s a b new none) (complete_of (poll_named words) s a b new none) e printed texts birth server same
+    pub runs : Answers poll_way name s a b → b.texts ≡ a.texts → (name ≡ None → b ≡ record a { written = b.written; faults = b.faults }) → Runs poll_way name s a b
+    runs = Any.runs poll_way name s a b of_served (λ k. memory k.0.0 (inr k)) dues_of complete_of

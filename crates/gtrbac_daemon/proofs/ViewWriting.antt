@@ -1,16 +1,15 @@
 -- The first number above a length, and the log with a line after it.
-use Rattle.std.proofs.Common.{◌≡◌, ℕ, zero, suc, ◌+◌, ◌<◌, Bool, true, false, List, [], ◌∷◌, ◌++◌, length, take, Option, Some, None, inl, inr, refl, sym, ap, subst, ◌∙◌, arith, length-append, append-nil}
+use Rattle.std.proofs.Common.{◌≡◌, ℕ, ◌+◌, Bool, true, false, List, [], ◌∷◌, ◌++◌, length, Option, Some, None, inl, inr, refl, sym, ap, subst, ◌∙◌, append-nil}
 use Rattle.std.specs.Prelude.{◌==◌, nat_lt, if◌then◌else◌}
-use Rattle.std.specs.Io.KnownBytes.{Appends}
 use Rattle.std.proofs.KnownBytes.{Appends-trans}
-use Rattle.std.proofs.lemmas.List.{take-append-le}
 use Rattle.gt_base.specs.declared.requests.Entry.{Entry}
-use Rattle.gt_io.specs.Causes.{Rose, AppendsPart}
+use Rattle.gt_io.specs.Causes.{Rose}
 use Rattle.policy_words.specs.Naming.{NamedPolicy}
 use Rattle.policy_commands.specs.Ends.{told}
 use Rattle.request_text.specs.Replies.{log_text}
 use Rattle.policy_commands.specs.Printing.{IsPrinted}
 use Rattle.gtrbac_daemon.specs.Runs.{IsWritten}
+use Rattle.gtrbac_daemon.proofs.Paging.{part_first, part_second}
 use Rattle.gtrbac_daemon.specs.Views.{first_above, late_line, views_text}
 
 -- an option that is not Some is None
@@ -38,21 +37,6 @@ found_here len n whole xs ys all e = (ap (λ (o : Option ℕ). or_else o (first_
 pub found_later : (len : ℕ) (whole xs ys : List ℕ) → first_above len whole ≡ first_above len (xs ++ ys) → first_above len xs ≡ None → first_above len whole ≡ first_above len ys
 found_later len whole xs ys all e = all ∙ (above-append len xs ys ∙ ap (λ (o : Option ℕ). or_else o (first_above len ys)) e)
 
-part_front : (old new : Option (List ℕ)) (log line : List ℕ) → AppendsPart old new log → AppendsPart old new (log ++ line)
-part_front old new log line p =
-    let far : p.0 < length (log ++ line) = omega (arith, p.1, length-append log line) in
-    (p.0, far, subst (Appends old new) (sym (take-append-le p.0 log line (omega (arith, p.1)))) p.2)
-
-take_add : (log line : List ℕ) (m n : ℕ) → m ≡ length log + n → take m (log ++ line) ≡ log ++ take n line
-take_add [] line m n e = ap (λ (k : ℕ). take k line) (omega (arith, e))
-take_add (x ∷ xs) line zero n e = absurd (omega (arith, e))
-take_add (x ∷ xs) line (suc m) n e = ap (λ (t : List ℕ). x ∷ t) (take_add xs line m n (omega (arith, e)))
-
-part_after : (old mid new : Option (List ℕ)) (log line : List ℕ) → Appends old mid log → AppendsPart mid new line → AppendsPart old new (log ++ line)
-part_after old mid new log line p q =
-    let far : length log + q.0 < length (log ++ line) = omega (arith, q.1, length-append log line) in
-    (length log + q.0, far, subst (Appends old new) (sym (take_add log line (length log + q.0) q.0 refl)) (Appends-trans old mid new log (take q.0 line) p q.2))
-
 fourteen_not : (s n : ℕ) → (n == 14) ≡ false → s ≡ n → s ≡ 14 → ⊥
 fourteen_not s n d e is = let no : true ≡ false = ap (λ (k : ℕ). k == 14) (sym is ∙ e) ∙ d in absurd (cc no)
 
@@ -60,13 +44,13 @@ module _ (log line : List ℕ) (s t : ℕ) (old mid new : Option (List ℕ)) (f0
   -- the line after a log that was written whole
   pub written_on : s ≡ 14 → IsWritten 14 log s old mid f0 f1 → IsPrinted t (told 14 line) mid new f1 f2 → IsWritten 14 (log ++ line) t old new f0 f2
   written_on is (inl w) (inl p) = inl (p.0, Appends-trans old mid new log line w.1 p.1, p.2 ∙ w.2)
-  written_on is (inl w) (inr p) = inr (p.0, subst (λ (f : ℕ). Rose f f2) w.2 p.1, part_after old mid new log line w.1 p.2)
+  written_on is (inl w) (inr p) = inr (p.0, subst (λ (f : ℕ). Rose f f2) w.2 p.1, part_second old mid new log line w.1 p.2)
   written_on is (inr w) p = absurd (fourteen_not s 5 refl w.0 is)
 
   -- no line after one that was not
   pub written_short : (s ≡ 14 → ⊥) → IsWritten 14 log s old mid f0 f1 → IsWritten 14 (log ++ line) s old mid f0 f1
   written_short not (inl w) = absurd (not w.0)
-  written_short not (inr w) = inr (w.0, w.1, part_front old mid log line w.2)
+  written_short not (inr w) = inr (w.0, w.1, part_first old mid log line w.2)
 
 module _ (np : NamedPolicy) (birth : ℕ) (h : List Entry) where
   -- the text by whether 14 is due, and by the number

@@ -60,12 +60,6 @@ abbrev pub status_of : List WorkEnd → ℕ
 status_of ends =
     status_by (list_any is_memory ends) (list_any is_door_fault ends) (list_any is_spent ends)
 
--- the same of the workers themselves
-abbrev pub status_among : {D C G L : Type 0} → List (Worker D C G L) → ℕ
-status_among ws =
-    status_by (list_any (λ w. is_memory w.outcome) ws) (list_any (λ w. is_door_fault w.outcome) ws)
-    (list_any (λ w. is_spent w.outcome) ws)
-
 module _ {A : Type 0} (P : A → A → Type 0) where
   -- of some of those who serve, before and after
   abbrev pub SomeOf : List A → List A → Type 0

@@ -1,5 +1,6 @@
 pub mod Words
 pub mod Crew
+pub mod Begins
 pub mod PostLists
 pub mod Runs
 pub mod Headline
@@ -7,5 +8,4 @@ pub mod Pages
 pub mod Daemon
 pub mod Polls
 pub mod Views
-pub mod ViewLists
 pub mod Tasks

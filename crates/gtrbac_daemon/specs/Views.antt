@@ -1,34 +1,21 @@
 -- What a run of the server with viewers leaves, and how it ends.
-use Rattle.std.specs.Prelude.{◌≡◌, ◌⊎◌, ℕ, ◌==◌, ◌++◌, ◌||◌, Bool, true, false, List, [], ◌∷◌, map, length, None, Some, is_some, nat_lt, codes, decimal, if◌then◌else◌}
+use Rattle.std.specs.Prelude.{◌≡◌, ◌⊎◌, ℕ, ◌==◌, ◌++◌, Bool, List, [], ◌∷◌, map, flat_map, length, None, Some, is_some, nat_lt, codes, decimal, if◌then◌else◌}
 use Rattle.std.specs.List.{list_any}
 use Rattle.std.specs.declared.option.Option.{Option}
 use Rattle.gt_base.specs.declared.requests.Entry.{Entry}
 use Rattle.gt_io.specs.Links.{Traffic}
 use Rattle.policy_words.specs.Naming.{NamedPolicy}
 use Rattle.request_text.specs.Replies.{log_text}
+use Rattle.line_server.specs.declared.ended.WorkEnd.{WorkEnd}
+use Rattle.line_server.specs.declared.ended.WorkEnd.TheVariants.{Fresh, Done, DoorFault, Enough, Memory}
 use Rattle.snapshot_readers.specs.declared.ends.ViewerEnd.{ViewerEnd}
-use Rattle.snapshot_readers.specs.declared.ends.ViewerEnd.TheVariants.{Done, DoorFault, Enough, Memory}
+use Rattle.snapshot_readers.specs.declared.ends.ViewerEnd.TheVariants as viewer
 use Rattle.snapshot_readers.specs.Crew.{all_lens}
 use Rattle.snapshot_readers.specs.Seats.{Watcher, AreTold, HaveViewed}
 use Rattle.gtrbac_daemon.specs.Words.{views_named}
-use Rattle.gtrbac_daemon.specs.Crew.{Crewman, is_memory, is_door_fault, is_spent, ends_of, SomeOf, EachOf, HasFailed, LacksMemory, IsSpent, IsSound, IsDone, IsUnharmed, DoorRose}
+use Rattle.gtrbac_daemon.specs.Crew.{Crewman, is_memory, is_door_fault, is_spent, ends_of, SomeOf, EachOf, HasFailed, LacksMemory, IsSpent, IsSound, IsDone, IsUnharmed}
 use Rattle.gtrbac_daemon.specs.Headline.{CrewHeadline}
 use Rattle.gtrbac_daemon.specs.Runs.{Scene, IsWritten, Starves, IsDue, Way, Runs}
-
--- how a viewer ended, as of a worker
-
-abbrev pub is_viewer_memory : ViewerEnd → Bool
-is_viewer_memory Memory = true
-is_viewer_memory _ = false
-
-abbrev pub is_viewer_fault : ViewerEnd → Bool
-is_viewer_fault DoorFault = true
-is_viewer_fault _ = false
-
--- it has served as many links as a viewer may
-abbrev pub is_viewer_spent : ViewerEnd → Bool
-is_viewer_spent Enough = true
-is_viewer_spent _ = false
 
 -- the first number that is above this length
 abbrev pub first_above : ℕ → List ℕ → Option ℕ
@@ -40,28 +27,6 @@ first_above len (n ∷ ns) = if nat_lt len n then Some n else first_above len ns
 abbrev pub status_by : Bool → Bool → Bool → Bool → ℕ
 status_by wanting failed spent above =
     if wanting then 8 else if failed then 10 else if spent then 11 else if above then 14 else 0
-
-module _ {L : Type 0} where
-  abbrev pub viewer_ends : List (Watcher L) → List ViewerEnd
-  viewer_ends ws = map (λ (w : Watcher L). w.outcome) ws
-
-  -- the numbers of entries that the replies are of, by viewer, link and line
-  abbrev pub numbers_of : List (Watcher L) → List ℕ
-  numbers_of [] = []
-  numbers_of (w ∷ ws) = all_lens w.served ++ numbers_of ws
-
-  -- the first of them that is above the length of the history
-  abbrev pub first_late : List Entry → List (Watcher L) → Option ℕ
-  first_late h viewers = first_above (length h) (numbers_of viewers)
-
-  -- the status of a crew and viewers that have served up to this history
-  abbrev pub views_status : List Entry → List (Crewman L) → List (Watcher L) → ℕ
-  views_status h crew viewers =
-      status_by
-      (list_any is_memory (ends_of crew) || list_any is_viewer_memory (viewer_ends viewers))
-      (list_any is_door_fault (ends_of crew) || list_any is_viewer_fault (viewer_ends viewers))
-      (list_any is_spent (ends_of crew) || list_any is_viewer_spent (viewer_ends viewers))
-      (is_some (first_late h viewers))
 
 -- the line that names a number above the length
 abbrev pub late_line : Option ℕ → ℕ → List ℕ
@@ -82,62 +47,63 @@ pub record Company (L : Type 0) : Type 0 where
 abbrev pub company : {L : Type 0} → List (Crewman L) → List (Watcher L) → Company L
 company crew viewers = record { crew = crew; viewers = viewers }
 
+-- how a viewer ended, as of a worker
+abbrev pub as_work : ViewerEnd → WorkEnd
+as_work viewer.Fresh = Fresh
+as_work viewer.Done = Done
+as_work viewer.DoorFault = DoorFault
+as_work viewer.Enough = Enough
+as_work viewer.Memory = Memory
+
 module _ {L : Type 0} where
-  abbrev pub IsDoneViewer : Watcher L → Watcher L → Type 0
-  IsDoneViewer v w = w.outcome ≡ Done
+  -- a viewer as the statuses see it, which ask of its door and how it ended alone
+  abbrev pub as_worker : Watcher L → Crewman L
+  as_worker w =
+      record { clock = None; door = w.door; served = []; outcome = as_work w.outcome }
 
-  abbrev pub HasFailedViewer : Watcher L → Watcher L → Type 0
-  HasFailedViewer v w = (w.outcome ≡ DoorFault) × DoorRose v.door w.door
+  -- all who serve
+  abbrev pub everybody : Company L → List (Crewman L)
+  everybody c = c.crew ++ map as_worker c.viewers
 
-  abbrev pub IsSoundViewer : Watcher L → Watcher L → Type 0
-  IsSoundViewer v w = is_viewer_fault w.outcome ≡ false
+  -- the numbers of entries that the replies are of, by viewer, link and line
+  abbrev pub numbers_of : List (Watcher L) → List ℕ
+  numbers_of viewers = flat_map (λ w. all_lens w.served) viewers
 
-  abbrev pub IsSpentViewer : Watcher L → Watcher L → Type 0
-  IsSpentViewer v w = w.outcome ≡ Enough
+  -- the first of them that is above the length of the history
+  abbrev pub first_late : List Entry → List (Watcher L) → Option ℕ
+  first_late h viewers = first_above (length h) (numbers_of viewers)
 
-  -- neither its door failed nor has it served as many links as it may
-  abbrev pub IsUnharmedViewer : Watcher L → Watcher L → Type 0
-  IsUnharmedViewer v w = (DoorRose v.door w.door → ⊥) × (is_viewer_spent w.outcome ≡ false)
-
-  -- there was no memory for it
-  abbrev pub LacksViewerMemory : Watcher L → Watcher L → Type 0
-  LacksViewerMemory v w = w.outcome ≡ Memory
-
-  -- of somebody, before and after
-  abbrev pub AnyOf : (Crewman L → Crewman L → Type 0) → (Watcher L → Watcher L → Type 0)
-      → Company L → Company L → Type 0
-  AnyOf P Q c d = SomeOf P c.crew d.crew ⊎ SomeOf Q c.viewers d.viewers
-
-  -- of everybody
-  pub record AllOf (P : Crewman L → Crewman L → Type 0) (Q : Watcher L → Watcher L → Type 0)
-      (c d : Company L) : Type 0 where
-    pub crew : EachOf P c.crew d.crew
-    pub viewers : EachOf Q c.viewers d.viewers
+  -- the status of a company that has served up to this history
+  abbrev pub views_status : List Entry → Company L → ℕ
+  views_status h c =
+      status_by (list_any is_memory (ends_of (everybody c)))
+      (list_any is_door_fault (ends_of (everybody c))) (list_any is_spent (ends_of (everybody c)))
+      (is_some (first_late h c.viewers))
 
   -- the doors of all were read to their ends
   abbrev pub AreDone : Company L → Company L → Type 0
-  AreDone = AllOf IsDone IsDoneViewer
+  AreDone c d = EachOf IsDone (everybody c) (everybody d)
 
   -- no door failed
   abbrev pub AreSound : Company L → Company L → Type 0
-  AreSound = AllOf IsSound IsSoundViewer
+  AreSound c d = EachOf IsSound (everybody c) (everybody d)
 
   -- a door failed
   abbrev pub SomeFailed : Company L → Company L → Type 0
-  SomeFailed = AnyOf HasFailed HasFailedViewer
+  SomeFailed c d = SomeOf HasFailed (everybody c) (everybody d)
 
   -- somebody has served as many links as it may, or a pass is worn
   abbrev pub SomeSpent : Company L → Company L → Type 0
-  SomeSpent = AnyOf IsSpent IsSpentViewer
+  SomeSpent c d = SomeOf IsSpent (everybody c) (everybody d)
 
 module _ {L : Type 0} (traffic : L → Traffic) (h : List Entry) where
   -- What was told of the viewers, and which status is due. Each viewer's replies are of beginnings
   -- of one history that goes on from the crew's, and the status is that of all; or there was no
   -- memory to name the number that is above the length; or none to see to the replies
   pub data Compared (np : NamedPolicy) (birth due : ℕ) (c d : Company L) : Type 0 where
-    seen : due ≡ views_status h d.crew d.viewers → AreTold traffic np birth h c.viewers d.viewers
+    seen : due ≡ views_status h d → AreTold traffic np birth h c.viewers d.viewers
         → Compared np birth due c d
-    unnamed : due ≡ 8 → views_status h d.crew d.viewers ≡ 14
+    unnamed : due ≡ 8 → views_status h d ≡ 14
         → AreTold traffic np birth h c.viewers d.viewers → Compared np birth due c d
     unseen : due ≡ 8 → HaveViewed traffic np birth c.viewers d.viewers → Compared np birth due c d
 
@@ -154,7 +120,7 @@ module _ {L : Type 0} (traffic : L → Traffic) (h : List Entry) where
   -- There was no memory: for a worker or a viewer, to name a number that is above the length, or to
   -- see to the replies of the viewers
   pub data Lacks (c d : Company L) : Type 0 where
-    for_somebody : AnyOf LacksMemory LacksViewerMemory c d → Lacks c d
+    for_somebody : SomeOf LacksMemory (everybody c) (everybody d) → Lacks c d
     to_name : (n : ℕ) → AreDone c d → first_late h d.viewers ≡ Some n → Lacks c d
     to_compare : (np : NamedPolicy) (birth : ℕ) → HaveViewed traffic np birth c.viewers d.viewers
         → Lacks c d
@@ -187,7 +153,7 @@ module _ {L : Type 0} (traffic : L → Traffic) (h : List Entry) where
         HasServed = ViewHasServed;
         OwnCause = ViewCause;
         OwnDues = ViewDues;
-        IsUnharmed = AllOf IsUnharmed IsUnharmedViewer;
+        IsUnharmed = λ c d. EachOf IsUnharmed (everybody c) (everybody d);
         IsGood = λ status. (status ≡ 0) ⊎ (status ≡ 8) ⊎ (status ≡ 14);
       }
 

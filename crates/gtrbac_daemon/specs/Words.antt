@@ -1,11 +1,9 @@
 -- What the words of the server say, and what keeps it from serving.
-use Rattle.std.specs.Prelude.{◌≡◌, ◌⊎◌, ⊤, ℕ, Bool, true, false, List, [], ◌∷◌, Option, Some, None, Ok, Err, IfSome, IsSomeAnd, codes, bytes_eq, if◌then◌else◌}
-use Rattle.gt_io.specs.Shelf.{Contents, Lacks}
+use Rattle.std.specs.Prelude.{◌≡◌, ◌⊎◌, ℕ, List, [], ◌∷◌, Option, Some, None, Ok, Err, IfSome, IsSomeAnd, codes, bytes_eq, if◌then◌else◌}
+use Rattle.gt_io.specs.Shelf.{Contents, Stock, Lacks, AsksOnce}
 use Rattle.gt_text.specs.Words.{begins_with}
 use Rattle.policy_words.specs.Naming.{NamedPolicy}
-use Rattle.policy_commands.specs.declared.judging.Admitted.{Admitted}
-use Rattle.policy_commands.specs.declared.judging.Admitted.TheVariants.{Safe, Ended}
-use Rattle.policy_commands.specs.Ends.{EndView, told, seen_end}
+use Rattle.policy_commands.specs.Ends.{EndView, told}
 use Rattle.policy_commands.specs.Finding.{IsStoredText, MissesText}
 use Rattle.policy_commands.specs.Policies.{safe_in, HasTextFault, IsUnsafeText}
 use Rattle.gtrbac_daemon.specs.declared.words.Mode.{Mode}
@@ -26,14 +24,10 @@ poll_named (verb ∷ name ∷ []) =
 poll_named _ = None
 
 -- how the program serves: the mode of two words of which the first names one, else the plain one
-abbrev pub mode_by : Bool → Bool → Mode
-mode_by true poll = Views
-mode_by false true = Poll
-mode_by false false = Plain
-
 abbrev pub mode_named : List (List ℕ) → Mode
 mode_named (verb ∷ name ∷ []) =
-    mode_by (bytes_eq verb (codes "views")) (bytes_eq verb (codes "poll"))
+    if bytes_eq verb (codes "views") then Views
+    else if bytes_eq verb (codes "poll") then Poll else Plain
 mode_named _ = Plain
 
 -- the text has a fault, with status 2, or is of a policy that is not safe, with status 3
@@ -41,40 +35,24 @@ pub record IsTextRefused (text : List ℕ) (t : EndView) : Type 0 where
   pub told_is : safe_in text ≡ Err t
   pub cause : ((t.status ≡ 2) × HasTextFault text) ⊎ ((t.status ≡ 3) × IsUnsafeText text)
 
--- the shelf failed or has no such text, or the text is too long; or the text is refused
-abbrev pub RefusesText : Type 0 → Contents → List ℕ → EndView → Type 0
-RefusesText hard contents name t =
+-- What keeps the server from serving. The words come first; then the shelf failed or has no such
+-- text, or the text is too long; or the text is refused
+abbrev pub Refuses : Type 0 → Contents → Option (List ℕ) → EndView → Type 0
+Refuses hard contents None t = t ≡ usage
+Refuses hard contents (Some name) t =
     MissesText hard contents name t
     ⊎ ((text : List ℕ) × IsStoredText contents name text × IsTextRefused text t)
 
--- what keeps the server from serving: the words come first
-abbrev pub Refuses : Type 0 → Contents → Option (List ℕ) → EndView → Type 0
-Refuses hard contents None t = t ≡ usage
-Refuses hard contents (Some name) t = RefusesText hard contents name t
-
 -- the text of the name is of a safe policy
-abbrev pub AdmitsText : Contents → List ℕ → NamedPolicy → Type 0
-AdmitsText contents name np =
-    (text : List ℕ) × IsStoredText contents name text × (safe_in text ≡ Ok np)
-
 abbrev pub Admits : Contents → Option (List ℕ) → NamedPolicy → Type 0
 Admits contents None np = ⊥
-Admits contents (Some name) np = AdmitsText contents name np
+Admits contents (Some name) np =
+    (text : List ℕ) × IsStoredText contents name text × (safe_in text ≡ Ok np)
 
--- what is found by a name
-abbrev pub IsFound : Type 0 → Contents → List ℕ → Admitted → Type 0
-IsFound hard contents name (Safe np) = AdmitsText contents name np
-IsFound hard contents name (Ended end) = RefusesText hard contents name (seen_end end)
-
--- what was found ends with 4 only where this holds
-abbrev pub IsAdmitFailure : Type 0 → Admitted → Type 0
-IsAdmitFailure holds (Safe np) = ⊤
-IsAdmitFailure holds (Ended end) = end.status ≡ 4 → holds
-
--- this holds but where what was found ends with 4
-abbrev pub IsSteadyFor : Type 0 → Admitted → Type 0
-IsSteadyFor holds (Safe np) = holds
-IsSteadyFor holds (Ended end) = (end.status ≡ 4) ⊎ holds
+-- the shelf was asked for one text, and its texts stay
+pub record IsSearched (a b : Stock) : Type 0 where
+  pub texts : b.contents ≡ a.contents
+  pub once : AsksOnce a b
 
 -- where the shelf tells its texts, it has one of the name that is said, and this holds of it
 abbrev pub HasText : Option (List ℕ) → Contents → (List ℕ → Type 0) → Type 0

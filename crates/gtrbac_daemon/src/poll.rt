@@ -1,30 +1,26 @@
 //! The one call of the polling server: from words, policy, clocks and ports to the log and the exit
 //! status.
-ghost use Rattle.std.specs.Prelude.{◌≡◌, ◌≤◌, [], ℕ, List, Some, None, map, string_bytes, IfOk, OnErr};
+ghost use Rattle.std.specs.Prelude.{◌≡◌, [], map, string_bytes};
 ghost use Rattle.gt_io.specs.Shelf.{AsksOnce, Stock};
-ghost use Rattle.turn_lock.specs.Holders.{newcomers};
-ghost use Rattle.turn_lock.specs.Turns.{part};
-ghost use Rattle.core_machine.specs.Books.{SameRoot};
-ghost use Rattle.ledger_laws.specs.Serving.{CanBeServed};
 ghost use Rattle.gt_io.specs.Ports.{IsUncalled};
-ghost use Rattle.gtrbac_daemon.specs.Runs.{scene, Headline, Serves, AnswersFound};
+ghost use Rattle.gtrbac_daemon.specs.Begins.{IsNewDesk};
+ghost use Rattle.gtrbac_daemon.specs.Runs.{scene, Headline, Serves};
 ghost use Rattle.gtrbac_daemon.specs.Polls.{poll_status, polling, HasPolled, poll_way, RunsPoll};
 
-use crate::finding::find_policy;
-use crate::printing::{USAGE, write_up};
-use crate::serving::open;
+use crate::finding::find_safe;
+use crate::printing::write_up;
+use crate::serving::open_desk;
 use crate::words::poll_word;
 use connection_laws::Server;
 use core_machine::Ledger;
-use gt_base::{Instant, List, Memory};
+use gt_base::List;
 use gt_io::{Clock, Gate, Ports, Shelf, Sink};
 use locked_history::Desk;
 use policy_book::Policy;
-use policy_commands::{Admitted, print};
 use policy_safety::Safe;
 use poll_front::{Polled, RunEnd, run};
 use request_text::Page;
-use std::alloc::{AllocError, Global};
+use std::alloc::Global;
 use std::sync::Wait;
 use turn_lock::Passes;
 
@@ -47,18 +43,14 @@ fn poll_and_close<R: Wait, P: Ports, C: Clock, G: Gate>(
     clock: &mut C,
     ends: &mut List<Polled>,
 ) -> (Ledger, RunEnd)
-    requires policy { policy.now ≡ desk.root.named }
-    requires served { CanBeServed desk.root }
-    requires empty { desk.root.entries ≡ [] }
-    requires count { desk.passes ≡ 1 }
-    requires passes { passes.items ≡ newcomers desk [] 0 1 }
+    requires desk { IsNewDesk policy.now 1 desk passes.items }
     requires none { ends.old.items ≡ [] }
     requires ports { IsUncalled (P.harbour ports.old) }
-    ensures root { SameRoot desk.root result.0 }
-    ensures polled { HasPolled desk.root.named desk.root.birth result.0.entries
+    ensures root { (result.0.named ≡ policy.now) × (result.0.birth ≡ desk.root.birth) }
+    ensures headline { Headline policy.now desk.root.birth result.0.entries 1
+        (HasPolled policy.now desk.root.birth result.0.entries
         (polling (C.readings clock.old) (P.harbour ports.old) ends.old.items)
-        (polling (C.readings clock.new) (P.harbour ports.new) ends.new.items) result.1 }
-    ensures others { (n : ℕ) → 1 ≤ n → part n result.0.entries ≡ [] }
+        (polling (C.readings clock.new) (P.harbour ports.new) ends.new.items) result.1) }
 {
     let last = passes.take();
     let Some(mut pass) = last else {
@@ -74,44 +66,9 @@ fn poll_and_close<R: Wait, P: Ports, C: Clock, G: Gate>(
     };
     let end = run(&server, &mut pass, ports, clock, ends);
     passes.put(pass);
-    (desk.close(passes), end)
-}
-
-/// Serves a safe policy from its birth on over the ports. An error is want of memory before anybody
-/// was served.
-fn poll_from<R: Wait, P: Ports, C: Clock, G: Gate>(
-    means: &Means<R, G>,
-    safe: Safe,
-    birth: Instant,
-    ports: &mut P,
-    clock: &mut C,
-    ends: &mut List<Polled>,
-) -> Result<(Ledger, RunEnd), Memory>
-    requires none { ends.old.items ≡ [] }
-    requires ports { IsUncalled (P.harbour ports.old) }
-    ensures err { OnErr result ((ports.new ≡ ports.old) × (ends.new ≡ ends.old)
-        × (clock.new ≡ clock.old)) }
-    ensures root { IfOk result (λ t. (t.0.named ≡ safe) × (t.0.birth ≡ birth)) }
-    ensures headline { IfOk result
-        (λ t. Headline safe birth t.0.entries 1 (HasPolled safe birth t.0.entries
-        (polling (C.readings clock.old) (P.harbour ports.old) ends.old.items)
-        (polling (C.readings clock.new) (P.harbour ports.new) ends.new.items) t.1)) }
-{
-    safe.keeps();
-    let Ok(policy) = safe.policy().copied() else {
-        return Err(AllocError);
-    };
-    let Ok(ledger) = open(means.alloc, safe, birth) else {
-        return Err(AllocError);
-    };
-    match Desk::new(means.alloc, ledger, 1) {
-        Ok((desk, passes)) => {
-            let (closed, end) = poll_and_close(means, &policy, desk, passes, ports, clock, ends);
-            closed.keeps();
-            Ok((closed, end))
-        }
-        Err(_) => Err(AllocError),
-    }
+    let closed = desk.close(passes);
+    closed.book().keeps();
+    (closed, end)
 }
 
 /// The status of a run.
@@ -149,34 +106,12 @@ fn poll_serve<R: Wait, B: Clock, P: Ports, C: Clock, G: Gate, K: Sink>(
     let Ok(mut page) = Page::new(means.alloc) else {
         return 8;
     };
-    match poll_from(means, safe, minute, ports, clock, ends) {
-        Ok((closed, end)) => write_up(&mut page, &closed, status_of_run(end), out),
+    match open_desk(means.alloc, safe, minute, 1) {
+        Ok((policy, desk, passes)) => {
+            let (closed, end) = poll_and_close(means, &policy, desk, passes, ports, clock, ends);
+            write_up(&mut page, &closed, status_of_run(end), out)
+        }
         Err(_) => 8,
-    }
-}
-
-/// Serves what was found by a name over the ports, where it is a safe policy; else prints why it is
-/// none.
-fn poll_found<R: Wait, B: Clock, P: Ports, C: Clock, G: Gate, K: Sink>(
-    means: &Means<R, G>,
-    found: Admitted,
-    birth: &mut B,
-    ports: &mut P,
-    clock: &mut C,
-    ends: &mut List<Polled>,
-    out: &mut K,
-) -> u8
-    requires none { ends.old.items ≡ [] }
-    requires ports { IsUncalled (P.harbour ports.old) }
-    ensures { (stock stock' : Stock) → AnswersFound poll_way found result
-        (scene stock (B.readings birth.old)
-        (polling (C.readings clock.old) (P.harbour ports.old) ends.old.items) (K.output out.old))
-        (scene stock' (B.readings birth.new)
-        (polling (C.readings clock.new) (P.harbour ports.new) ends.new.items) (K.output out.new)) }
-{
-    match found {
-        Admitted::Safe(safe) => poll_serve(means, safe, birth, ports, clock, ends, out),
-        Admitted::Ended(end) => print(out, end.status, end.text.as_slice()),
     }
 }
 
@@ -214,14 +149,11 @@ pub fn daemon_poll<R: Wait, S: Shelf, B: Clock, P: Ports, C: Clock, G: Gate, K: 
         (polling (C.readings clock.new) (P.harbour ports.new) ends.new.items) (K.output out.new)) }
     ensures once { AsksOnce (S.stock shelf.old) (S.stock shelf.new) }
 {
-    match poll_word(words) {
-        Some(name) => match find_policy(alloc, name, shelf) {
-            Ok(found) => {
-                let means = Means { rt, alloc, gate };
-                poll_found(&means, found, birth, ports, clock, ends, out)
-            }
-            Err(_) => 8,
-        },
-        None => print(out, 1, USAGE),
+    match find_safe(alloc, poll_word(words), shelf, out) {
+        Ok(safe) => {
+            let means = Means { rt, alloc, gate };
+            poll_serve(&means, safe, birth, ports, clock, ends, out)
+        }
+        Err(status) => status,
     }
 }

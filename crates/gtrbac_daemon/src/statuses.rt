@@ -1,31 +1,10 @@
 //! The status of a crew.
 ghost use Rattle.std.specs.Prelude.{◌≡◌};
 ghost use Rattle.std.specs.List.{list_any};
-ghost use Rattle.gtrbac_daemon.specs.Crew.{is_memory, is_door_fault, is_spent, status_among};
+ghost use Rattle.gtrbac_daemon.specs.Crew.{is_memory, is_door_fault, is_spent, status_by};
 
 use gt_io::{Clock, Door, Gate};
 use line_server::{WorkEnd, Worker};
-
-/// Whether a worker ended for want of memory.
-fn is_out_of_memory(end: WorkEnd) -> bool
-    ensures { result ≡ is_memory end }
-{
-    matches!(end, WorkEnd::Memory)
-}
-
-/// Whether a worker ended since its door failed.
-fn has_failed(end: WorkEnd) -> bool
-    ensures { result ≡ is_door_fault end }
-{
-    matches!(end, WorkEnd::DoorFault)
-}
-
-/// Whether a worker has served as many links as it may, or its pass is worn.
-fn has_enough(end: WorkEnd) -> bool
-    ensures { result ≡ is_spent end }
-{
-    matches!(end, WorkEnd::Enough | WorkEnd::Worn { .. })
-}
 
 /// Whether a worker ended for want of memory: status 8.
 pub(crate) fn some_out_of_memory<D: Door, C: Clock, G: Gate>(crew: &[Worker<D, C, G>]) -> bool
@@ -34,7 +13,7 @@ pub(crate) fn some_out_of_memory<D: Door, C: Clock, G: Gate>(crew: &[Worker<D, C
     crew.iter().any(
         |w: &Worker<D, C, G>| -> bool
             ensures { result ≡ is_memory w.now.outcome }
-        { is_out_of_memory(w.outcome) },
+        { matches!(w.outcome, WorkEnd::Memory) },
     )
 }
 
@@ -45,7 +24,7 @@ pub(crate) fn some_failed<D: Door, C: Clock, G: Gate>(crew: &[Worker<D, C, G>]) 
     crew.iter().any(
         |w: &Worker<D, C, G>| -> bool
             ensures { result ≡ is_door_fault w.now.outcome }
-        { has_failed(w.outcome) },
+        { matches!(w.outcome, WorkEnd::DoorFault) },
     )
 }
 
@@ -56,14 +35,16 @@ pub(crate) fn some_spent<D: Door, C: Clock, G: Gate>(crew: &[Worker<D, C, G>]) -
     crew.iter().any(
         |w: &Worker<D, C, G>| -> bool
             ensures { result ≡ is_spent w.now.outcome }
-        { has_enough(w.outcome) },
+        { matches!(w.outcome, WorkEnd::Enough | WorkEnd::Worn { .. }) },
     )
 }
 
 /// The status of a crew: 8 where a worker lacked memory, else 10 where a door failed, else 11 where
 /// a worker is spent, else 0.
 pub(crate) fn crew_status<D: Door, C: Clock, G: Gate>(crew: &[Worker<D, C, G>]) -> u8
-    ensures { result ≡ status_among crew.now }
+    ensures { result ≡ status_by (list_any (λ w. is_memory w.outcome) crew.now)
+        (list_any (λ w. is_door_fault w.outcome) crew.now)
+        (list_any (λ w. is_spent w.outcome) crew.now) }
 {
     if some_out_of_memory(crew) {
         8

@@ -1,19 +1,19 @@
 //! The one call of the server: from words, policy, clocks and links to the log and the exit status.
-ghost use Rattle.std.specs.Prelude.{◌≡◌, ◌≤◌, Some, None, map, string_bytes, length, All};
+ghost use Rattle.std.specs.Prelude.{◌≡◌, ◌≤◌, None, map, string_bytes, length, All};
 ghost use Rattle.gt_io.specs.Shelf.{AsksOnce, Stock};
 ghost use Rattle.gtrbac_daemon.specs.Words.{policy_named};
 ghost use Rattle.gtrbac_daemon.specs.Crew.{IsNew, crewmen};
-ghost use Rattle.gtrbac_daemon.specs.Runs.{scene, Serves, Answers};
+ghost use Rattle.gtrbac_daemon.specs.Begins.{IsNewCrew};
+ghost use Rattle.gtrbac_daemon.specs.Runs.{scene, Serves};
 ghost use Rattle.gtrbac_daemon.specs.Daemon.{crew_way, RunsServer};
 
-use crate::finding::find_policy;
-use crate::printing::{USAGE, write_up};
-use crate::serving::serve_from;
+use crate::finding::find_safe;
+use crate::printing::write_up;
+use crate::serving::{open_desk, work_and_close};
 use crate::statuses::crew_status;
 use crate::words::policy_word;
 use gt_io::{Clock, Door, Gate, Shelf, Sink};
 use line_server::Worker;
-use policy_commands::{Admitted, print};
 use policy_safety::Safe;
 use request_text::Page;
 use std::alloc::Global;
@@ -38,8 +38,7 @@ fn serve<
 ) -> u8
 where
     D::L: Send,
-    requires size { (1 ≤ length crew.old.items) × (length crew.old.items ≤ 8) }
-    requires fresh { All (λ w. IsNew w) crew.old.items }
+    requires { IsNewCrew crew.old.items }
     ensures { (stock stock' : Stock) → Serves (crew_way D.L.traffic) safe result
         (scene stock (B.readings birth.old)
         (crewmen C.readings D.doorway crew.old.items) (K.output out.old))
@@ -50,51 +49,19 @@ where
     let Ok(mut page) = Page::new(alloc) else {
         return 8;
     };
-    match serve_from(rt, alloc, safe, minute, crew) {
-        Ok(closed) => {
+    let Ok(posts) = Vec::with_capacity(alloc, crew.len()) else {
+        return 8;
+    };
+    match open_desk(alloc, safe, minute, crew.len() as u32) {
+        Ok((policy, desk, passes)) => {
+            let closed = work_and_close(rt, alloc, &policy, desk, passes, crew, posts);
             let due = crew_status(crew.as_slice());
             write_up(&mut page, &closed, due, out)
         }
-        Err(_) => 8,
-    }
-}
-
-/// Serves the policy of a name, where the shelf has it and it is safe; else prints why it does not.
-fn serve_named<
-    R: Threads + Wait + Sync,
-    S: Shelf,
-    B: Clock,
-    D: Door + Send,
-    C: Clock + Send,
-    G: Gate + Send,
-    K: Sink,
->(
-    rt: &R,
-    alloc: Global,
-    name: &str,
-    shelf: &mut S,
-    birth: &mut B,
-    crew: &mut Vec<Worker<D, C, G>>,
-    out: &mut K,
-) -> u8
-where
-    D::L: Send,
-    requires size { (1 ≤ length crew.old.items) × (length crew.old.items ≤ 8) }
-    requires fresh { All (λ w. IsNew w) crew.old.items }
-    ensures answers { Answers (crew_way D.L.traffic) (Some name.now) result
-        (scene (S.stock shelf.old) (B.readings birth.old)
-        (crewmen C.readings D.doorway crew.old.items) (K.output out.old))
-        (scene (S.stock shelf.new) (B.readings birth.new)
-        (crewmen C.readings D.doorway crew.new.items) (K.output out.new)) }
-    ensures same { (S.stock shelf.new).contents ≡ (S.stock shelf.old).contents }
-    ensures once { AsksOnce (S.stock shelf.old) (S.stock shelf.new) }
-{
-    match find_policy(alloc, name, shelf) {
-        Ok(found) => match found {
-            Admitted::Safe(safe) => serve(rt, alloc, safe, birth, crew, out),
-            Admitted::Ended(end) => print(out, end.status, end.text.as_slice()),
-        },
-        Err(_) => 8,
+        Err(_) => {
+            posts.destroy_empty();
+            8
+        }
     }
 }
 
@@ -146,8 +113,8 @@ where
         → (shelf.new ≡ shelf.old) × (birth.new ≡ birth.old) × (crew.new ≡ crew.old) }
     ensures once { AsksOnce (S.stock shelf.old) (S.stock shelf.new) }
 {
-    match policy_word(words) {
-        Some(name) => serve_named(rt, alloc, name, shelf, birth, crew, out),
-        None => print(out, 1, USAGE),
+    match find_safe(alloc, policy_word(words), shelf, out) {
+        Ok(safe) => serve(rt, alloc, safe, birth, crew, out),
+        Err(status) => status,
     }
 }

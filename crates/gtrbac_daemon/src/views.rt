@@ -5,19 +5,18 @@ ghost use Rattle.gt_base.specs.declared.requests.Entry.{Entry};
 ghost use Rattle.gt_io.specs.Shelf.{AsksOnce, Stock};
 ghost use Rattle.snapshot_readers.specs.Seats.{watchers, IsNewViewer};
 ghost use Rattle.gtrbac_daemon.specs.Crew.{IsNew, crewmen};
+ghost use Rattle.gtrbac_daemon.specs.Begins.{IsNewCompany};
 ghost use Rattle.gtrbac_daemon.specs.Runs.{scene, Serves};
 ghost use Rattle.gtrbac_daemon.specs.Views.{company, view_way, RunsViews};
 ghost use Rattle.gtrbac_daemon.specs.Words.{views_named};
 
-use crate::finding::find_policy;
-use crate::printing::USAGE;
-use crate::views_serving::serve_views_from;
+use crate::finding::find_safe;
+use crate::views_serving::{open_board, serve_at};
 use crate::views_status::{due_of_all, first_of_viewers};
 use crate::views_writing::write_views;
 use crate::words::views_word;
 use gt_io::{Clock, Door, Gate, Shelf, Sink};
 use line_server::Worker;
-use policy_commands::{Admitted, print};
 use policy_safety::Safe;
 use request_text::Page;
 use snapshot_readers::Viewer;
@@ -44,10 +43,7 @@ fn serve_views<
 ) -> u8
 where
     D::L: Send,
-    requires size { (1 ≤ length crew.old.items) × (length crew.old.items ≤ 8) }
-    requires fresh { All (λ w. IsNew w) crew.old.items }
-    requires few { (1 ≤ length viewers.old.items) × (length viewers.old.items ≤ 8) }
-    requires new { All (λ v. IsNewViewer v) viewers.old.items }
+    requires { IsNewCompany crew.old.items viewers.old.items }
     ensures { (stock stock' : Stock) → (h : List Entry)
         × Serves (view_way D.L.traffic h) safe result
         (scene stock (B.readings birth.old)
@@ -61,7 +57,11 @@ where
     let Ok(mut page) = Page::new(alloc) else {
         return 8;
     };
-    match serve_views_from(rt, alloc, safe, minute, crew, viewers) {
+    let Ok((policy, board, glasses)) = open_board(rt, alloc, safe, minute, viewers.len() as u32)
+    else {
+        return 8;
+    };
+    match serve_at(rt, alloc, &policy, board, glasses, crew, viewers) {
         Ok((ledger, told)) => {
             let len = ledger.book().entries().len() as u64;
             let late = first_of_viewers(len, viewers.as_slice());
@@ -126,12 +126,8 @@ where
         × (viewers.new ≡ viewers.old) }
     ensures once { AsksOnce (S.stock shelf.old) (S.stock shelf.new) }
 {
-    let Some(name) = views_word(words) else {
-        return print(out, 1, USAGE);
-    };
-    match find_policy(alloc, name, shelf) {
-        Ok(Admitted::Safe(safe)) => serve_views(rt, alloc, safe, birth, crew, viewers, out),
-        Ok(Admitted::Ended(end)) => print(out, end.status, end.text.as_slice()),
-        Err(_) => 8,
+    match find_safe(alloc, views_word(words), shelf, out) {
+        Ok(safe) => serve_views(rt, alloc, safe, birth, crew, viewers, out),
+        Err(status) => status,
     }
 }

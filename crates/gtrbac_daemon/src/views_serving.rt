@@ -1,18 +1,16 @@
 //! The service of a crew and of viewers, who look at what it does without a turn.
-ghost use Rattle.std.specs.Prelude.{◌≡◌, ◌<◌, ◌≤◌, ℕ, [], true, length, replicate, vec_capacity, All, IfOk, OnErr, slice_index_or};
+ghost use Rattle.std.specs.Prelude.{◌≡◌, ◌<◌, ◌≤◌, ℕ, [], true, length, vec_capacity, All, IfOk, OnErr, slice_index_or};
 ghost use Rattle.std.specs.List.{list_all};
 ghost use Rattle.turn_lock.specs.Holders.{site_of, newcomers};
 ghost use Rattle.turn_lock.specs.Turns.{part};
 ghost use Rattle.connection_laws.specs.Turns.{IsIdle};
 ghost use Rattle.connection_laws.specs.Connection.{IsTimed};
-ghost use Rattle.connection_laws.specs.Desks.{MayBeAsked, RepliesCanBeTold, GlancesCanBeTold};
-ghost use Rattle.core_machine.specs.Books.{SameRoot};
-ghost use Rattle.ledger_laws.specs.Serving.{CanBeServed};
-ghost use Rattle.snapshot_readers.specs.Glazed.{fresh_glass};
+ghost use Rattle.connection_laws.specs.Desks.{MayBeAsked, RepliesCanBeTold};
 ghost use Rattle.connection_laws.specs.Services.{service_at};
 ghost use Rattle.line_server.specs.Working.{at_post, HasWorked};
-ghost use Rattle.snapshot_readers.specs.Seats.{watchers, AreTold, HasLooked, HasSettled, HaveViewed, IsNewViewer, IsReadySeat};
-ghost use Rattle.gtrbac_daemon.specs.Crew.{IsNew, crewmen};
+ghost use Rattle.snapshot_readers.specs.Seats.{watchers, AreTold, HasLooked, HasSettled, HaveViewed, IsReadySeat};
+ghost use Rattle.gtrbac_daemon.specs.Crew.{crewmen};
+ghost use Rattle.gtrbac_daemon.specs.Begins.{IsNewCrew, IsNewCompany, IsNewBoard};
 ghost use Rattle.gtrbac_daemon.specs.Headline.{HaveWorked, CrewHeadline};
 
 use crate::crews::{man, relieve};
@@ -50,28 +48,25 @@ fn copy_of(alloc: Global, safe: &Safe, birth: Instant) -> Result<Book, Memory>
     Ok(book)
 }
 
-/// The board of a safe policy at its birth, with a glass for each viewer.
-fn open_board<'a, R: Wait>(
+/// A safe policy, a board over its ledger at its birth, and a glass for each viewer.
+pub(crate) fn open_board<'a, R: Wait>(
     rt: &'a R,
     alloc: Global,
     safe: Safe,
     birth: Instant,
     viewers: u32,
-) -> Result<(Board<'a, R>, Glasses), Memory>
+) -> Result<(Policy, Board<'a, R>, Glasses), Memory>
     requires viewers { (1 ≤ viewers) × (viewers ≤ 8) }
-    ensures root { IfOk result
-        (λ t. (t.0.ledger.named ≡ safe) × (t.0.ledger.birth ≡ birth)
-        × (t.0.ledger.entries ≡ [])) }
-    ensures glasses { IfOk result (λ t. t.1.items ≡ replicate viewers (fresh_glass safe birth)) }
-    ensures served { IfOk result (λ t. CanBeServed t.0.ledger) }
-    ensures told { IfOk result (λ t. GlancesCanBeTold safe birth) }
+    ensures root { IfOk result (λ t. (t.0 ≡ safe) × (t.1.ledger.birth ≡ birth)) }
+    ensures new { IfOk result (λ t. IsNewBoard t.0 viewers t.1.ledger t.2.items) }
 {
+    let policy = safe.policy().copied()?;
     let left = copy_of(alloc, &safe, birth)?;
     let right = copy_of(alloc, &safe, birth)?;
     let ledger = open(alloc, safe, birth)?;
     glances_can_be_told(&ledger);
     match Board::new(rt, alloc, ledger, left, right, viewers) {
-        Ok(pair) => Ok(pair),
+        Ok((board, glasses)) => Ok((policy, board, glasses)),
         Err(_) => Err(AllocError),
     }
 }
@@ -163,7 +158,7 @@ where
     requires count { opened.0.passes ≡ length crew.old.items }
     requires passes { opened.1.items ≡ newcomers opened.0 [] 0 (length crew.old.items) }
     requires posts { (posts.items ≡ []) × (length crew.old.items ≤ vec_capacity posts) }
-    requires fresh { All (λ w. IsNew w) crew.old.items }
+    requires crew { IsNewCrew crew.old.items }
     requires ready { All (λ s. IsReadySeat policy.now s) seats.old.items }
     ensures root { M.same_root opened.0.root result }
     ensures worked { (birth : ℕ) → IsTimed birth (M.legal opened.0.root) (M.now_of opened.0.root)
@@ -206,7 +201,13 @@ where
 /// Lets a crew and viewers serve at the board, which has no entries, each viewer with one of its
 /// glasses. It answers the ledger, and whether each glass was told its entries. An error is want of
 /// memory before anybody was served.
-fn serve_at<'a, R: Threads + Wait + Sync, D: Door + Send, C: Clock + Send, G: Gate + Send>(
+pub(crate) fn serve_at<
+    'a,
+    R: Threads + Wait + Sync,
+    D: Door + Send,
+    C: Clock + Send,
+    G: Gate + Send,
+>(
     rt: &'a R,
     alloc: Global,
     policy: &Policy,
@@ -217,24 +218,15 @@ fn serve_at<'a, R: Threads + Wait + Sync, D: Door + Send, C: Clock + Send, G: Ga
 ) -> Result<(Ledger, bool), Memory>
 where
     D::L: Send,
-    requires policy { policy.now ≡ board.ledger.named }
-    requires served { CanBeServed board.ledger }
-    requires empty { board.ledger.entries ≡ [] }
-    requires replies { GlancesCanBeTold policy.now board.ledger.birth }
-    requires glasses { glasses.items
-        ≡ replicate (length viewers.old.items) (fresh_glass policy.now board.ledger.birth) }
-    requires size { (1 ≤ length crew.old.items) × (length crew.old.items ≤ 8) }
-    requires fresh { All (λ w. IsNew w) crew.old.items }
-    requires few { length viewers.old.items ≤ 8 }
-    requires new { All (λ v. IsNewViewer v) viewers.old.items }
+    requires board { IsNewBoard policy.now (length viewers.old.items) board.ledger glasses.items }
+    requires company { IsNewCompany crew.old.items viewers.old.items }
     ensures err { OnErr result ((crew.new ≡ crew.old) × (viewers.new ≡ viewers.old)) }
-    ensures root { IfOk result (λ t. SameRoot board.entry.ledger t.0) }
-    ensures worked { IfOk result
-        (λ t. HaveWorked D.L.traffic policy.now board.entry.ledger.birth t.0.entries 0
+    ensures root { IfOk result
+        (λ t. (t.0.named ≡ policy.now) × (t.0.birth ≡ board.entry.ledger.birth)) }
+    ensures headline { IfOk result
+        (λ t. CrewHeadline D.L.traffic policy.now board.entry.ledger.birth
         (crewmen C.readings D.doorway crew.old.items)
-        (crewmen C.readings D.doorway crew.new.items)) }
-    ensures others { IfOk result
-        (λ t. (n : ℕ) → length crew.old.items ≤ n → part n t.0.entries ≡ []) }
+        (crewmen C.readings D.doorway crew.new.items) t.0.entries) }
     ensures viewed { IfOk result
         (λ t. HaveViewed D.L.traffic policy.now board.entry.ledger.birth
         (watchers D.doorway viewers.old.items)
@@ -257,62 +249,14 @@ where
             let mut board = serve_and_close(rt, alloc, policy, opened, crew, posts, &mut seats);
             let told = settle_up(rt, &mut board, &mut seats);
             leave_seats(viewers, seats);
-            Ok((board.into_ledger(), told))
+            let ledger = board.into_ledger();
+            ledger.book().keeps();
+            Ok((ledger, told))
         }
         Err(_) => {
             posts.destroy_empty();
             seats.destroy_empty();
             Err(AllocError)
         }
-    }
-}
-
-/// Lets a crew and viewers serve a safe policy from its birth on. It answers the ledger, and
-/// whether each viewer's glass was told its entries. An error is want of memory before anybody was
-/// served.
-pub(crate) fn serve_views_from<
-    R: Threads + Wait + Sync,
-    D: Door + Send,
-    C: Clock + Send,
-    G: Gate + Send,
->(
-    rt: &R,
-    alloc: Global,
-    safe: Safe,
-    birth: Instant,
-    crew: &mut Vec<Worker<D, C, G>>,
-    viewers: &mut Vec<Viewer<D, G>>,
-) -> Result<(Ledger, bool), Memory>
-where
-    D::L: Send,
-    requires size { (1 ≤ length crew.old.items) × (length crew.old.items ≤ 8) }
-    requires fresh { All (λ w. IsNew w) crew.old.items }
-    requires few { (1 ≤ length viewers.old.items) × (length viewers.old.items ≤ 8) }
-    requires new { All (λ v. IsNewViewer v) viewers.old.items }
-    ensures err { OnErr result ((crew.new ≡ crew.old) × (viewers.new ≡ viewers.old)) }
-    ensures root { IfOk result (λ t. (t.0.named ≡ safe) × (t.0.birth ≡ birth)) }
-    ensures headline { IfOk result
-        (λ t. CrewHeadline D.L.traffic safe birth
-        (crewmen C.readings D.doorway crew.old.items)
-        (crewmen C.readings D.doorway crew.new.items) t.0.entries) }
-    ensures viewed { IfOk result
-        (λ t. HaveViewed D.L.traffic safe birth (watchers D.doorway viewers.old.items)
-        (watchers D.doorway viewers.new.items)) }
-    ensures told { IfOk result
-        (λ t. t.1 ≡ true → AreTold D.L.traffic safe birth t.0.entries
-        (watchers D.doorway viewers.old.items)
-        (watchers D.doorway viewers.new.items)) }
-{
-    safe.keeps();
-    let Ok(policy) = safe.policy().copied() else {
-        return Err(AllocError);
-    };
-    let (board, glasses) = open_board(rt, alloc, safe, birth, viewers.len() as u32)?;
-    match serve_at(rt, alloc, &policy, board, glasses, crew, viewers) {
-        Ok((ledger, told)) => {
-            ledger.keeps();
-            Ok((ledger, told))
-        }
-        Err(fault) => Err(fault),
     }
 }

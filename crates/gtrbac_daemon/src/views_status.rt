@@ -2,66 +2,45 @@
 ghost use Rattle.std.specs.Prelude.{◌≡◌, ◌||◌, true, false, is_some};
 ghost use Rattle.std.specs.List.{list_any};
 ghost use Rattle.snapshot_readers.specs.Crew.{all_lens};
+ghost use Rattle.snapshot_readers.specs.Seats.{watchers};
 ghost use Rattle.gtrbac_daemon.specs.Crew.{is_memory, is_door_fault, is_spent};
-ghost use Rattle.gtrbac_daemon.specs.Views.{is_viewer_memory, is_viewer_fault, is_viewer_spent, first_above, status_by};
-ghost use Rattle.gtrbac_daemon.specs.ViewLists.{numbers_among};
+ghost use Rattle.gtrbac_daemon.specs.Views.{as_work, first_above, numbers_of, status_by};
 
 use crate::statuses::{some_failed, some_out_of_memory, some_spent};
 use gt_io::{Clock, Door, Gate};
 use line_server::Worker;
 use snapshot_readers::{Viewed, Viewer, ViewerEnd};
 
-/// Whether a viewer ended for want of memory.
-fn is_out_of_memory(end: ViewerEnd) -> bool
-    ensures { result ≡ is_viewer_memory end }
-{
-    matches!(end, ViewerEnd::Memory)
-}
-
-/// Whether a viewer ended since its door failed.
-fn has_failed(end: ViewerEnd) -> bool
-    ensures { result ≡ is_viewer_fault end }
-{
-    matches!(end, ViewerEnd::DoorFault)
-}
-
-/// Whether a viewer has served as many links as it may.
-fn has_enough(end: ViewerEnd) -> bool
-    ensures { result ≡ is_viewer_spent end }
-{
-    matches!(end, ViewerEnd::Enough)
-}
-
 /// Whether a viewer ended for want of memory: status 8.
 fn some_viewer_out_of_memory<D: Door, G: Gate>(viewers: &[Viewer<D, G>]) -> bool
-    ensures { result ≡ list_any (λ v. is_viewer_memory v.outcome) viewers.now }
+    ensures { result ≡ list_any (λ v. is_memory (as_work v.outcome)) viewers.now }
 {
     viewers.iter().any(
         |v: &Viewer<D, G>| -> bool
-            ensures { result ≡ is_viewer_memory v.now.outcome }
-        { is_out_of_memory(v.outcome) },
+            ensures { result ≡ is_memory (as_work v.now.outcome) }
+        { matches!(v.outcome, ViewerEnd::Memory) },
     )
 }
 
 /// Whether a viewer's port failed: status 10.
 fn some_viewer_failed<D: Door, G: Gate>(viewers: &[Viewer<D, G>]) -> bool
-    ensures { result ≡ list_any (λ v. is_viewer_fault v.outcome) viewers.now }
+    ensures { result ≡ list_any (λ v. is_door_fault (as_work v.outcome)) viewers.now }
 {
     viewers.iter().any(
         |v: &Viewer<D, G>| -> bool
-            ensures { result ≡ is_viewer_fault v.now.outcome }
-        { has_failed(v.outcome) },
+            ensures { result ≡ is_door_fault (as_work v.now.outcome) }
+        { matches!(v.outcome, ViewerEnd::DoorFault) },
     )
 }
 
 /// Whether a viewer served as many connections as it may: status 11.
 fn some_viewer_spent<D: Door, G: Gate>(viewers: &[Viewer<D, G>]) -> bool
-    ensures { result ≡ list_any (λ v. is_viewer_spent v.outcome) viewers.now }
+    ensures { result ≡ list_any (λ v. is_spent (as_work v.outcome)) viewers.now }
 {
     viewers.iter().any(
         |v: &Viewer<D, G>| -> bool
-            ensures { result ≡ is_viewer_spent v.now.outcome }
-        { has_enough(v.outcome) },
+            ensures { result ≡ is_spent (as_work v.now.outcome) }
+        { matches!(v.outcome, ViewerEnd::Enough) },
     )
 }
 
@@ -74,11 +53,11 @@ fn status_of_all<D: Door, C: Clock, G: Gate>(
 ) -> u8
     ensures { result ≡ status_by
         (list_any (λ w. is_memory w.outcome) crew.now
-        || list_any (λ v. is_viewer_memory v.outcome) viewers.now)
+        || list_any (λ v. is_memory (as_work v.outcome)) viewers.now)
         (list_any (λ w. is_door_fault w.outcome) crew.now
-        || list_any (λ v. is_viewer_fault v.outcome) viewers.now)
+        || list_any (λ v. is_door_fault (as_work v.outcome)) viewers.now)
         (list_any (λ w. is_spent w.outcome) crew.now
-        || list_any (λ v. is_viewer_spent v.outcome) viewers.now)
+        || list_any (λ v. is_spent (as_work v.outcome)) viewers.now)
         (is_some late) }
 {
     if some_out_of_memory(crew) || some_viewer_out_of_memory(viewers) {
@@ -104,11 +83,11 @@ pub(crate) fn due_of_all<D: Door, C: Clock, G: Gate>(
 ) -> u8
     ensures told { told ≡ true → result ≡ status_by
         (list_any (λ w. is_memory w.outcome) crew.now
-        || list_any (λ v. is_viewer_memory v.outcome) viewers.now)
+        || list_any (λ v. is_memory (as_work v.outcome)) viewers.now)
         (list_any (λ w. is_door_fault w.outcome) crew.now
-        || list_any (λ v. is_viewer_fault v.outcome) viewers.now)
+        || list_any (λ v. is_door_fault (as_work v.outcome)) viewers.now)
         (list_any (λ w. is_spent w.outcome) crew.now
-        || list_any (λ v. is_viewer_spent v.outcome) viewers.now)
+        || list_any (λ v. is_spent (as_work v.outcome)) viewers.now)
         (is_some late) }
     ensures untold { told ≡ false → result ≡ 8 }
 {
@@ -145,7 +124,7 @@ fn first_of_links<L>(len: u64, served: &[Viewed<L>]) -> Option<u64>
 
 /// The first number, by viewer, link and line, that is above a length.
 pub(crate) fn first_of_viewers<D: Door, G: Gate>(len: u64, viewers: &[Viewer<D, G>]) -> Option<u64>
-    ensures { result ≡ first_above len (numbers_among viewers.now) }
+    ensures { result ≡ first_above len (numbers_of (watchers D.doorway viewers.now)) }
 {
     for viewer in viewers {
         if let Some(n) = first_of_links(len, viewer.served.as_slice()) {

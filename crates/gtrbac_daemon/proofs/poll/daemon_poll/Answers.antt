@@ -1,23 +1,24 @@
-use Rattle.std.proofs.Common.{Some, refl, map}
-use Rattle.std.specs.Prelude.{string_bytes}
-use Rattle.gtrbac_daemon.specs.Polls.{poll_way}
-use Rattle.gtrbac_daemon.proofs.AnyRuns.{starved_as}
-use Rattle.gtrbac_daemon.proofs.Telling.{runs_named, runs_unnamed}
+use Rattle.std.proofs.Common.{ap, ◌∙◌}
+use Rattle.gtrbac_daemon.specs.Polls.{polling, poll_way}
+use Rattle.gtrbac_daemon.proofs.AnyRuns.{admits_none, answers_served, answers_unserved, untouched}
+use Rattle.gtrbac_daemon.proofs.Telling.{runs}
 use Rattle.gtrbac_daemon.proofs.poll.daemon_poll.Goals as goal
 
 pub returns-in-Ok-clause-runs : goal.returns-in-Ok-clause-runs
 returns-in-Ok-clause-runs g c =
-    let s = g.S.Shelf in
-    let old = c.args.shelf.now in
-    let new = c.find_policy.new.shelf in
-    runs_named (map string_bytes c.args.words.now) _ _ _ c.requires.ports c.requires.none c.in-Some.name.now c.in-Some.ensures
-    (c.poll_found.ensures (s.stock old) (s.stock new) c.in-Some.name.now c.in-Ok.ensures.found c.in-Ok.ensures.failed c.in-Ok.ensures.steady)
-    c.find_policy.ensures.same
+    let old = g.S.Shelf.stock c.args.shelf.now in
+    let found = c.in-Ok.ensures in
+    runs _ _ _ _ c.requires.ports c.requires.none
+    (answers_served poll_way _ _ c.poll_word.ensures c.poll_serve.result old (g.B.Clock.readings c.args.birth.now) (polling (g.C.Clock.readings c.args.clock.now) (g.P.Ports.harbour c.args.ports.now) c.args.ends.now.items)
+    (g.K.Sink.output c.args.out.now) (g.K.Sink.output c.find_safe.new.out) _ c.in-Ok.safe found.admitted found.kept.0 (ap g.K.Sink.output found.kept.1) (c.poll_serve.ensures old (g.S.Shelf.stock c.find_safe.new.shelf)))
+    c.find_safe.ensures.searched.texts (λ none. admits_none _ old.contents _ c.in-Ok.safe found.admitted (c.poll_word.ensures ∙ none))
 
 pub returns-in-Err-clause-runs : goal.returns-in-Err-clause-runs
 returns-in-Err-clause-runs g c =
-    runs_named (map string_bytes c.args.words.now) _ _ _ c.requires.ports c.requires.none c.in-Some.name.now c.in-Some.ensures
-    (starved_as poll_way (Some c.in-Some.name.now) _ _ _ refl refl refl refl refl) c.find_policy.ensures.same
-
-pub returns-in-None-clause-runs : goal.returns-in-None-clause-runs
-returns-in-None-clause-runs g c = runs_unnamed (map string_bytes c.args.words.now) _ _ _ c.requires.ports c.requires.none c.in-None.ensures c.print.ensures refl refl refl refl
+    let s = g.S.Shelf.stock in
+    let o = g.K.Sink.output in
+    let birth = g.B.Clock.readings c.args.birth.now in
+    let server = polling (g.C.Clock.readings c.args.clock.now) (g.P.Ports.harbour c.args.ports.now) c.args.ends.now.items in
+    runs _ _ _ _ c.requires.ports c.requires.none
+    (answers_unserved poll_way _ _ c.poll_word.ensures c.in-Err.status (s c.args.shelf.now) birth server (o c.args.out.now) (o c.find_safe.new.out) (s c.find_safe.new.shelf) c.in-Err.ensures.ended) c.find_safe.ensures.searched.texts
+    (λ none. untouched poll_way _ _ c.poll_word.ensures c.in-Err.status (s c.args.shelf.now) birth server (o c.args.out.now) (o c.find_safe.new.out) (s c.find_safe.new.shelf) (ap s (c.find_safe.ensures.unread (c.poll_word.ensures ∙ none))))

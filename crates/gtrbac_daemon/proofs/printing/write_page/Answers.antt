@@ -2,7 +2,8 @@ use Rattle.std.proofs.Common.{flat_map, arith, sym, subst}
 use Rattle.std.specs.Io.KnownBytes.{Appends}
 use Rattle.gt_io.specs.Causes.{AppendsPart}
 use Rattle.request_text.specs.Replies.{entry_line}
-use Rattle.gtrbac_daemon.proofs.Paging.{part_first, on_err}
+use Rattle.core_machine.proofs.Sames.{on_err}
+use Rattle.gtrbac_daemon.proofs.Paging.{part_first}
 use Rattle.gtrbac_daemon.proofs.printing.write_page.Goals as goal
 
 pub returns-in_err-write_all-clause-part : goal.returns-in_err-write_all-clause-part

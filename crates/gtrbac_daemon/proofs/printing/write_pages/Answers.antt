@@ -1,7 +1,8 @@
 use Rattle.std.proofs.Common.{◌++◌, ◌∙◌, arith}
 use Rattle.std.proofs.KnownBytes.{Appends-trans}
 use Rattle.gtrbac_daemon.specs.Pages.{text_from}
-use Rattle.gtrbac_daemon.proofs.Paging.{page_more, page_part, on_err}
+use Rattle.core_machine.proofs.Sames.{on_err}
+use Rattle.gtrbac_daemon.proofs.Paging.{page_more, page_part}
 use Rattle.gtrbac_daemon.proofs.printing.write_pages.Goals as goal
 
 pub loop-left-init : goal.loop-left-init

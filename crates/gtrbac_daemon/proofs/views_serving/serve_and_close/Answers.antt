@@ -13,7 +13,7 @@ pub run_both-requires-clause-idle : goal.run_both-requires-clause-idle
 run_both-requires-clause-idle g c κs within =
     let new = new_all c.args.opened.0 [] (length c.args.crew.now.items) c.args.opened.1.items c.requires.passes in
     λ k d low.
-    let r = ready (site_of c.args.opened.0) c.args.opened.1.items c.args.crew.now.items c.man.new.posts.items c.man.ensures.passes_are c.man.ensures.workers_are new.0 c.requires.fresh k d low in
+    let r = ready (site_of c.args.opened.0) c.args.opened.1.items c.args.crew.now.items c.man.new.posts.items c.man.ensures.passes_are c.man.ensures.workers_are new.0 c.requires.crew.new k d low in
     (r.0, r.1.0, r.1.1)
 
 pub close-requires-clause-idle : goal.close-requires-clause-idle
