@@ -163,8 +163,8 @@ pub record LinkStands (np : NamedPolicy) (start now : Bytes) (s : LinkState) (fe
   pub within : (s.from ≤ s.upto) × (s.upto ≤ MAX_READ) × (s.upto ≤ length s.chunk)
 
 -- it is left for another: all of its bytes were acted on and told, or its last reply waits for room
-pub record Rests (np : NamedPolicy) (start : Bytes) (now : Course) (s : LinkState) (acted : List Acted)
-    : Type 0 where
+pub record Rests (np : NamedPolicy) (start : Bytes) (now : Course) (s : LinkState)
+    (acted : List Acted) : Type 0 where
   pub fed : List ℕ
   pub stands : LinkStands np start now.bytes s fed acted
   pub waits : (IsWritten s × (s.from ≡ s.upto))
@@ -316,12 +316,12 @@ CountsOne talk talk' counters counters' =
     × (counters'.calls ≤ counters.calls + 1)
 
 -- a live link may be served: there is room to count a line for each of its bytes
-pub record CanServe (np : NamedPolicy) (a : Harbour) (c : ℕ) (counters : RunCounters) (s : LinkState) : Type 0
-  where
-    pub live : IsLive a c
-    pub told : s.at ≤ length (told_bytes s.told)
-    pub waits : (s.from ≤ s.upto) × (s.upto ≤ MAX_READ)
-    pub talk : CanTalk np s.talk counters (s.upto - s.from + s.left)
+pub record CanServe (np : NamedPolicy) (a : Harbour) (c : ℕ) (counters : RunCounters)
+    (s : LinkState) : Type 0 where
+  pub live : IsLive a c
+  pub told : s.at ≤ length (told_bytes s.told)
+  pub waits : (s.from ≤ s.upto) × (s.upto ≤ MAX_READ)
+  pub talk : CanTalk np s.talk counters (s.upto - s.from + s.left)
 
 -- The pass is idle again and of the same number, and has seen a history that has come to this
 -- minute, where one is known

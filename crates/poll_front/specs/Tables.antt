@@ -224,8 +224,8 @@ module _ {M : Type 0} (v : Service) where
     pub counters : RunCounters
     pub busy : ℕ
     pub turns : List Turn
-    pub tabled : Tabled (first_spot before clock) (front_spot after clock' counters) start b seats busy
-        turns
+    pub tabled : Tabled (first_spot before clock) (front_spot after clock' counters) start b seats
+        busy turns
     pub runs : RunsTo start b after.draws (map polled_in seats) end
 
 -- a run to its end

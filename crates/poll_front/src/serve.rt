@@ -160,8 +160,8 @@ pub(crate) fn serve_ready<M: Machine, R: Wait, P: Ports, C: Clock, G: Gate>(
 ) -> Yield
     requires ready { CanAskFrom M.named M.legal M.now_of server.now.desk.now server.now.policy.now
         pass.old counters.old.reached }
-    requires state { CanServe server.now.policy.now (P.harbour ports.old) server.now.conn counters.old
-        state.old }
+    requires state { CanServe server.now.policy.now (P.harbour ports.old) server.now.conn
+        counters.old state.old }
     ensures steps { StepsTo
         (service_at M.list M.legal M.now_of server.now.desk.now server.now.policy.now)
         (front_spot pass.old (C.readings clock.old) counters.old)
