@@ -1,5 +1,5 @@
 //! What may be asked behind a script, read from words.
-ghost use Rattle.std.specs.Prelude.{◌≡◌, ◌∷◌, map, string_bytes};
+ghost use Rattle.std.specs.Prelude.{◌≡◌, ◌∷◌, [], map, string_bytes};
 ghost use Rattle.gtrbac_tool.specs.Late.{one_said, two_said, fluent_said, cond_said, event_said, forecast_in, why_in};
 
 use gt_base::Name;
@@ -26,16 +26,19 @@ fn one(names: &[String]) -> Option<Name>
     }
 }
 
+/// The names that two words are.
+fn both(first: &[u8], second: &[u8]) -> Option<(Name, Name)>
+    ensures { result ≡ two_said (first.now ∷ second.now ∷ []) }
+{
+    Some((read_name(first)?, read_name(second)?))
+}
+
 /// The two names that the words are.
 fn two(names: &[String]) -> Option<(Name, Name)>
     ensures { result ≡ two_said (map string_bytes names.now) }
 {
     match names {
-        [first, second] => {
-            let first = read_name(first.as_bytes())?;
-            let second = read_name(second.as_bytes())?;
-            Some((first, second))
-        }
+        [first, second] => both(first.as_bytes(), second.as_bytes()),
         _ => None,
     }
 }
