@@ -1,5 +1,0 @@
-use Rattle.instant_bases.specs.Timelines.{StandsFor}
-use Rattle.time_checks.proofs.comparing.agree_for.Given as goal
-
-abbrev pub invariant-loop : goal.invariant-loop
-invariant-loop l = StandsFor l.g.policy l.jumps.line × StandsFor l.g.policy l.steps.line
