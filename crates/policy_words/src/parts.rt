@@ -17,7 +17,7 @@ pub enum NamedFluent {
 }
 
 /// The sorts of fluents.
-#[derive(Clone, Copy)]
+#[derive(Clone, Copy, PartialEq, Eq, Debug)]
 pub enum Sort {
     Enabling,
     Assigning,
