@@ -1,10 +1,10 @@
 #!/usr/bin/env python3
 """Refuses the allocations of a run of the polling server one at a time: bench/fail_alloc_poll.py
 
-The run is the test `each_link_begins_as_nobody` of poll_checks: three links, each over before the next one comes. It is run
+The run is the test `each_link_begins_as_nobody` of daemon_checks: three links, each over before the next one comes. It is run
 with the Nth allocation refused, for each N. Each run must end with the status 0 or 8; with 8 at one N alone where a link has
 come, that of the first one, since the others have its memory. Runs in which the test itself lacked memory tell nothing. Needs
-cc, and `rt test` in crates/poll_checks before.
+cc, and `rt test` in crates/daemon_checks before.
 """
 import collections
 import os
@@ -14,7 +14,7 @@ import tempfile
 
 from fail_alloc_daemon import TOP, run
 
-TEST = os.path.join(TOP, 'crates', 'poll_checks', 'out', 'poll_checks_tests'), 'tests::each_link_begins_as_nobody'
+TEST = os.path.join(TOP, 'crates', 'daemon_checks', 'out', 'daemon_checks_tests'), 'poll_tests::each_link_begins_as_nobody'
 
 
 def end_of(text):

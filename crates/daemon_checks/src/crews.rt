@@ -1,97 +1,36 @@
-//! Crews of one worker or two, over links in memory.
-ghost use Rattle.std.specs.Prelude.{◌≡◌, ◌≤◌, length, All, IfOk};
-ghost use Rattle.gt_io.specs.Links.{IsFresh};
+//! Runs of a worker or two, and of a viewer beside them.
+ghost use Rattle.std.specs.Prelude.{◌≤◌, length, All, IfOk};
+ghost use Rattle.snapshot_readers.specs.Seats.{IsNewViewer};
 ghost use Rattle.gtrbac_daemon.specs.Crew.{IsNew};
 
-use gt_base::{Instant, List, Memory};
-use gt_io::{Clock, Gate, Link, MemClock, MemDoor, MemLink};
+use crate::fakes::{Man, Scene, Stage, clock, door, stage_of};
+use crate::gates::{Turns, Watch};
+use crate::telling::tell;
+use gt_base::{List, Memory};
+use gt_io::MemDoor;
+use gtrbac_daemon::{daemon, daemon_views};
 use line_server::{WorkEnd, Worker};
+use snapshot_readers::{Viewer, ViewerEnd};
 use std::alloc::{AllocError, Global};
-use std::collections::VecDeque;
+use std::sync::Wait;
+use std::thread::Threads;
 
-/// How much is written to a link at most.
-const ROOM: usize = 400;
-
-/// What a link sends, the most that one read gives and one write takes, and the number of the read
-/// and of the write that fails, 0 where none is to.
+/// A run: what surrounds it, one worker, or two, and a viewer, or none.
 #[derive(Clone, Copy)]
-pub struct Wire<'a> {
-    pub sends: &'a [u8],
-    pub read_piece: usize,
-    pub write_piece: usize,
-    pub bad_read: u64,
-    pub bad_write: u64,
+pub(crate) struct Run<'a> {
+    pub scene: Scene<'a>,
+    pub zero: Man<'a>,
+    pub one: Option<Man<'a>>,
+    pub viewer: Option<Man<'a>>,
 }
 
-/// The links of a worker, the minutes that its clock reads, and the number of the call of its door
-/// that fails, 0 where none is to.
-#[derive(Clone, Copy)]
-pub struct Man<'a> {
-    pub wires: &'a [Wire<'a>],
-    pub readings: &'a [u32],
-    pub bad_call: u64,
-}
-
-/// The number of the one call that is to fail.
-pub(crate) fn call(alloc: Global, failing: u64) -> Result<List<u64>, Memory> {
-    Ok(vec![in alloc; failing]?.into())
-}
-
-/// A link of which nothing was read and to which nothing was written, and that was not let go.
-fn link(alloc: Global, wire: &Wire<'_>) -> Result<MemLink, Memory>
-    ensures { IfOk result (λ link. IsFresh (⟦<MemLink as Link>⟧.traffic link)) }
-{
-    MemLink::new(
-        alloc,
-        wire.sends.to_vec(alloc)?.into(),
-        ROOM,
-        wire.read_piece.max(1),
-        wire.write_piece.max(1),
-        call(alloc, wire.bad_read)?,
-        call(alloc, wire.bad_write)?,
-    )
-}
-
-fn links(alloc: Global, wires: &[Wire<'_>]) -> Result<VecDeque<MemLink>, Memory>
-    ensures { IfOk result (λ links. All (λ link. IsFresh
-        (⟦<MemLink as Link>⟧.traffic link)) links.items) }
-{
-    let mut links = VecDeque::new(alloc);
-    for wire in wires {
-        let link = link(alloc, wire)?;
-        links.push_back(link)?;
-    }
-    Ok(links)
-}
-
-/// The door of a worker.
-pub(crate) fn door(alloc: Global, man: &Man<'_>) -> Result<MemDoor, Memory> {
-    Ok(MemDoor::new(links(alloc, man.wires)?, call(alloc, man.bad_call)?))
-}
-
-/// A clock that reads these minutes; one with no readings, and one past the last instant, count as
-/// want of memory.
-pub(crate) fn clock(alloc: Global, minutes: &[u32]) -> Result<MemClock, Memory> {
-    let mut readings = List::new(alloc);
-    for minute in minutes {
-        let Some(reading) = Instant::new(*minute) else {
-            return Err(AllocError);
-        };
-        readings.reserve(1)?;
-        readings.push(reading);
-    }
-    if readings.len() == 0 {
-        return Err(AllocError);
-    }
-    Ok(MemClock::new(readings))
-}
-
-fn worker<C: Clock, G: Gate>(
+/// A worker that has not begun.
+fn worker<'a>(
     alloc: Global,
     door: MemDoor,
-    clock: C,
-    gate: G,
-) -> Worker<MemDoor, C, G>
+    clock: Watch<'a>,
+    gate: Turns<'a>,
+) -> Worker<MemDoor, Watch<'a>, Turns<'a>>
     ensures { IsNew result }
 {
     Worker {
@@ -103,58 +42,92 @@ fn worker<C: Clock, G: Gate>(
     }
 }
 
-/// A crew of one worker.
-pub(crate) fn one_of<C: Clock + Drop, G: Gate + Copy>(
+/// A viewer that has not begun.
+fn viewer<'a>(alloc: Global, door: MemDoor, gate: Turns<'a>) -> Viewer<MemDoor, Turns<'a>>
+    ensures { IsNewViewer result }
+{
+    Viewer {
+        door,
+        gate,
+        served: List::new(alloc),
+        outcome: ViewerEnd::Fresh,
+    }
+}
+
+/// The door and the clock of the worker of this number.
+fn recruit<'a>(
     alloc: Global,
-    door: MemDoor,
-    clock: C,
-    gate: G,
-) -> Result<Vec<Worker<MemDoor, C, G>>, Memory>
-    ensures size { IfOk result (λ crew. length crew.items ≡ 1) }
+    man: &Man<'_>,
+    worker: u32,
+    gate: Turns<'a>,
+) -> Result<(MemDoor, Watch<'a>), Memory> {
+    let clock = clock(alloc, man.readings)?;
+    let watch = Watch {
+        clock,
+        gate,
+        worker,
+        read: 0,
+    };
+    let door = door(alloc, man)?;
+    Ok((door, watch))
+}
+
+/// A crew of one worker, or of two.
+fn hire<'a>(
+    alloc: Global,
+    first: (MemDoor, Watch<'a>),
+    second: Option<(MemDoor, Watch<'a>)>,
+    gate: Turns<'a>,
+) -> Result<Vec<Worker<MemDoor, Watch<'a>, Turns<'a>>>, Memory>
+    ensures size { IfOk result (λ crew. (1 ≤ length crew.items) × (length crew.items ≤ 2)) }
     ensures fresh { IfOk result (λ crew. All (λ w. IsNew w) crew.items) }
 {
-    let mut crew = Vec::with_capacity(alloc, 1)?;
+    let mut crew = Vec::with_capacity(alloc, 2)?;
+    crew.push_reserved(worker(alloc, first.0, first.1, gate));
+    let Some((door, clock)) = second else {
+        return Ok(crew);
+    };
     crew.push_reserved(worker(alloc, door, clock, gate));
     Ok(crew)
 }
 
-fn two_of<G: Gate + Copy>(
+/// The crew of a run.
+fn crew_of<'a>(
     alloc: Global,
-    zero: (MemDoor, MemClock),
-    one: (MemDoor, MemClock),
-    gate: G,
-) -> Result<Vec<Worker<MemDoor, MemClock, G>>, Memory>
-    ensures size { IfOk result (λ crew. length crew.items ≡ 2) }
+    run: &Run<'_>,
+    gate: Turns<'a>,
+) -> Result<Vec<Worker<MemDoor, Watch<'a>, Turns<'a>>>, Memory>
+    ensures size { IfOk result (λ crew. (1 ≤ length crew.items) × (length crew.items ≤ 2)) }
     ensures fresh { IfOk result (λ crew. All (λ w. IsNew w) crew.items) }
 {
-    let mut crew = Vec::with_capacity(alloc, 2)?;
-    crew.push_reserved(worker(alloc, zero.0, zero.1, gate));
-    crew.push_reserved(worker(alloc, one.0, one.1, gate));
-    Ok(crew)
+    let first = recruit(alloc, &run.zero, 0, gate)?;
+    let second = match &run.one {
+        Some(man) => Some(recruit(alloc, man, 1, gate)?),
+        None => None,
+    };
+    hire(alloc, first, second, gate)
 }
 
-/// A crew of one worker, or of two.
-pub(crate) fn hire<G: Gate + Copy>(
+/// The viewer of a run, if there is one.
+fn seat<'a>(
     alloc: Global,
-    zero: &Man<'_>,
-    one: Option<&Man<'_>>,
-    gate: G,
-) -> Result<Vec<Worker<MemDoor, MemClock, G>>, Memory>
-    ensures size { IfOk result (λ crew. (1 ≤ length crew.items) × (length crew.items ≤ 8)) }
-    ensures fresh { IfOk result (λ crew. All (λ w. IsNew w) crew.items) }
+    man: Option<&Man<'_>>,
+    gate: Turns<'a>,
+) -> Result<Vec<Viewer<MemDoor, Turns<'a>>>, Memory>
+    ensures few { IfOk result (λ viewers. length viewers.items ≤ 1) }
+    ensures new { IfOk result (λ viewers. All (λ v. IsNewViewer v) viewers.items) }
 {
-    let first = (door(alloc, zero)?, clock(alloc, zero.readings)?);
-    match one {
-        Some(man) => {
-            let second = (door(alloc, man)?, clock(alloc, man.readings)?);
-            two_of(alloc, first, second, gate)
-        }
-        None => one_of(alloc, first.0, first.1, gate),
-    }
+    let Some(man) = man else {
+        return Ok(Vec::new(alloc));
+    };
+    let door = door(alloc, man)?;
+    let mut viewers = Vec::with_capacity(alloc, 1)?;
+    viewers.push_reserved(viewer(alloc, door, gate));
+    Ok(viewers)
 }
 
 /// Lets the workers go.
-pub(crate) fn let_go<C: Clock + Drop, G: Gate + Copy>(mut crew: Vec<Worker<MemDoor, C, G>>) {
+fn let_go<'a>(mut crew: Vec<Worker<MemDoor, Watch<'a>, Turns<'a>>>) {
     while let Some(worker) = crew.pop() {
         let Worker {
             door: _,
@@ -165,4 +138,90 @@ pub(crate) fn let_go<C: Clock + Drop, G: Gate + Copy>(mut crew: Vec<Worker<MemDo
         } = worker;
     }
     crew.destroy_empty();
+}
+
+/// Lets the viewers go.
+fn dismiss<'a>(mut viewers: Vec<Viewer<MemDoor, Turns<'a>>>) {
+    while let Some(viewer) = viewers.pop() {
+        let Viewer {
+            door: _,
+            gate: _,
+            served: _,
+            outcome: _,
+        } = viewer;
+    }
+    viewers.destroy_empty();
+}
+
+/// Serves with a crew, and where there are viewers, with them beside it.
+fn serve<'a, R: Threads + Wait + Sync>(
+    rt: &R,
+    alloc: Global,
+    stage: &mut Stage,
+    crew: &mut Vec<Worker<MemDoor, Watch<'a>, Turns<'a>>>,
+    viewers: &mut Vec<Viewer<MemDoor, Turns<'a>>>,
+) -> u8
+    requires size { (1 ≤ length crew.old.items) × (length crew.old.items ≤ 2) }
+    requires fresh { All (λ w. IsNew w) crew.old.items }
+    requires few { length viewers.old.items ≤ 1 }
+    requires new { All (λ v. IsNewViewer v) viewers.old.items }
+{
+    if viewers.len() == 0 {
+        daemon(
+            rt,
+            alloc,
+            &stage.words,
+            &mut stage.shelf,
+            &mut stage.birth,
+            crew,
+            &mut stage.out,
+        )
+    } else {
+        daemon_views(
+            rt,
+            alloc,
+            &stage.words,
+            &mut stage.shelf,
+            &mut stage.birth,
+            crew,
+            viewers,
+            &mut stage.out,
+        )
+    }
+}
+
+/// Serves, tells what came of it, and lets workers and viewers go.
+fn serve_told<'a, R: Threads + Wait + Sync>(
+    rt: &R,
+    alloc: Global,
+    stage: &mut Stage,
+    mut crew: Vec<Worker<MemDoor, Watch<'a>, Turns<'a>>>,
+    mut viewers: Vec<Viewer<MemDoor, Turns<'a>>>,
+) -> Result<List<u8>, Memory>
+    requires size { (1 ≤ length crew.items) × (length crew.items ≤ 2) }
+    requires fresh { All (λ w. IsNew w) crew.items }
+    requires few { length viewers.items ≤ 1 }
+    requires new { All (λ v. IsNewViewer v) viewers.items }
+{
+    let status = serve(rt, alloc, stage, &mut crew, &mut viewers);
+    let text = tell(alloc, &crew, &viewers, stage.out.written(), status);
+    let_go(crew);
+    dismiss(viewers);
+    text
+}
+
+/// Plays a run, with this gate for workers and viewer.
+pub(crate) fn play<'a, R: Threads + Wait + Sync>(
+    rt: &R,
+    alloc: Global,
+    run: &Run<'_>,
+    gate: Turns<'a>,
+) -> Result<List<u8>, Memory> {
+    let mut stage = stage_of(alloc, &run.scene)?;
+    let crew = crew_of(alloc, run, gate)?;
+    let Ok(viewers) = seat(alloc, run.viewer.as_ref(), gate) else {
+        let_go(crew);
+        return Err(AllocError);
+    };
+    serve_told(rt, alloc, &mut stage, crew, viewers)
 }

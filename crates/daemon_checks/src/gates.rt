@@ -1,33 +1,102 @@
-//! What each request line passes before the clock is read.
+//! A gate at which the request lines of workers and viewers wait for one another, and clocks that
+//! see whether each line passed the gate before they were read.
 ghost use Rattle.std.specs.Prelude.{None};
 
-use super::*;
 use gt_base::Instant;
-use gt_io::{Clock, Gate};
+use gt_io::{Clock, Gate, MemClock};
 use std::sync::atomic::{AtomicBool, AtomicU64, Ordering};
-use std::test::Fail;
 
-/// A gate that counts the request lines of worker 0, and sees whether each is told its number.
+/// A worker's or a viewer's call with this number waits until another one has come to so many
+/// calls. The first viewer passes the gate as 8.
 #[derive(Clone, Copy)]
-struct Counting<'a> {
-    passed: &'a AtomicU64,
-    is_wrong: &'a AtomicBool,
+pub(crate) struct Rule {
+    pub worker: u32,
+    pub call: u64,
+    pub other: u32,
+    pub calls: u64,
 }
 
-impl Gate for Counting<'_> {
-    fn pass(&self, worker: u32, call: u64) {
-        let before = self.passed.fetch_add(1, Ordering::SeqCst);
-        if worker != 0 || call != before.saturating_add(1) {
-            self.is_wrong.store(true, Ordering::SeqCst);
+/// How many calls each of three has passed. Where a call is numbered otherwise, or waits for more
+/// than so many looks, that is seen.
+#[derive(Clone, Copy)]
+pub(crate) struct Turns<'a> {
+    pub rules: &'a [Rule],
+    pub zero: &'a AtomicU64,
+    pub one: &'a AtomicU64,
+    pub two: &'a AtomicU64,
+    pub is_wrong: &'a AtomicBool,
+}
+
+const LOOKS: u32 = 400_000_000;
+
+impl<'a> Turns<'a> {
+    fn calls(&self, worker: u32) -> &'a AtomicU64 {
+        match worker {
+            0 => self.zero,
+            1 => self.one,
+            _ => self.two,
         }
+    }
+
+    /// Looks until a rule is met.
+    fn wait(&self, rule: &Rule) {
+        for _ in 0..LOOKS {
+            if self.calls(rule.other).load(Ordering::SeqCst) >= rule.calls {
+                return;
+            }
+        }
+        self.is_wrong.store(true, Ordering::SeqCst);
     }
 }
 
-/// A clock that sees whether one line more has passed the gate at each reading.
-#[derive(Drop)]
-struct Watch<'a> {
-    gate: Counting<'a>,
-    read: u64,
+impl Gate for Turns<'_> {
+    fn pass(&self, worker: u32, call: u64) {
+        if self
+            .calls(worker)
+            .swap(call, Ordering::SeqCst)
+            .saturating_add(1)
+            != call
+        {
+            self.is_wrong.store(true, Ordering::SeqCst);
+        }
+        for rule in self.rules {
+            if rule.worker == worker && rule.call == call {
+                self.wait(rule);
+            }
+        }
+    }
+
+    fn may_wait(&self) -> bool {
+        !self.rules.is_empty()
+    }
+}
+
+/// A worker's clock. It sees whether one line more has passed the gate at each reading.
+pub(crate) struct Watch<'a> {
+    pub clock: MemClock,
+    pub gate: Turns<'a>,
+    pub worker: u32,
+    pub read: u64,
+}
+
+impl Drop for Watch<'_> {
+    fn drop(self) {
+        let Watch {
+            clock: _,
+            gate: _,
+            worker: _,
+            read: _,
+        } = self;
+    }
+}
+
+impl Watch<'_> {
+    /// Sees whether as many lines have passed the gate as there were readings.
+    pub fn compare(&self) {
+        if self.gate.calls(self.worker).load(Ordering::SeqCst) != self.read {
+            self.gate.is_wrong.store(true, Ordering::SeqCst);
+        }
+    }
 }
 
 impl Clock for Watch<'_> {
@@ -35,69 +104,7 @@ impl Clock for Watch<'_> {
 
     fn now(&mut self) -> Instant {
         self.read = self.read.saturating_add(1);
-        if self.gate.passed.load(Ordering::SeqCst) != self.read {
-            self.gate.is_wrong.store(true, Ordering::SeqCst);
-        }
-        Instant::new(13_682_040).unwrap()
+        self.compare();
+        self.clock.now()
     }
-}
-
-#[test]
-fn each_request_line_passes_the_gate_and_then_the_clock_is_read(
-    rt: HostRuntime,
-) -> Result<(), Fail> {
-    let passed = AtomicU64::new(0);
-    let is_wrong = AtomicBool::new(false);
-    let gate = Counting {
-        passed: &passed,
-        is_wrong: &is_wrong,
-    };
-    let wire = Wire {
-        sends: b"as u\nnow\n\nfrob\nnow\n",
-        read_piece: 1_000,
-        write_piece: 1_000,
-        bad_read: 0,
-        bad_write: 0,
-    };
-    let run = Run {
-        words: &["P"],
-        policy: b"role a\nuser u\n",
-        bad_find: 0,
-        birth: 13_682_040,
-        zero: Man {
-            wires: &[wire, wire],
-            readings: &[13_682_040],
-            bad_call: 0,
-        },
-        one: None,
-        room: 2_000,
-        bad_write: 0,
-    };
-    let watch = Watch { gate, read: 0 };
-    let text = play_by(&rt, rt.alloc(), &run, watch, gate)?;
-    assert_eq!(rt;
-        text.as_slice(),
-        b"ok
-now 2026-01-05T10:00
-bad syntax
-now 2026-01-05T10:00
-| ended, asked 2, denied 0
-ok
-now 2026-01-05T10:00
-bad syntax
-now 2026-01-05T10:00
-| ended, asked 2, denied 0
-2 links, done
-born 2026-01-05T10:00
-ask 0.1 u now = now 2026-01-05T10:00
-ask 0.1 u now = now 2026-01-05T10:00
-ask 0.2 u now = now 2026-01-05T10:00
-ask 0.2 u now = now 2026-01-05T10:00
-status 0
-"
-            .as_slice()
-    );
-    assert_eq!(rt; passed.load(Ordering::SeqCst), 4);
-    assert!(rt; !is_wrong.load(Ordering::SeqCst));
-    Ok(())
 }

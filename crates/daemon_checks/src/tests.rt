@@ -1,19 +1,26 @@
-use super::*;
+//! Runs with workers, and what is told of each.
+use crate::crews::{Run, play};
+use crate::fakes::{Man, Scene, Wire};
+use crate::gates::{Rule, Turns};
+use crate::view_tests::{
+    A_VIEWER_IS_TOLD_WHAT_TWO_WORKERS_HAVE_DONE, A_VIEWER_SEES_WHAT_A_WORKER_HAS_DONE,
+    A_VIEWER_SHOWS_AND_CHANGES_NOTHING, A_VIEWERS_DOOR_THAT_FAILS, FAULTY_WITH_A_VIEWER,
+    WRONG_WORD_WITH_A_VIEWER,
+};
 use gt_base::{List, Memory};
-use gt_io::{Gate, OpenGate};
 use std::alloc::Global;
 use std::io::Write;
 use std::sync::Wait;
-use std::sync::atomic::{AtomicBool, Ordering};
+use std::sync::atomic::{AtomicBool, AtomicU64, Ordering};
 use std::test::Fail;
 use std::thread::Threads;
 
 /// 2026-01-05T10:00
-const TEN: u32 = 13_682_040;
+pub(crate) const TEN: u32 = 13_682_040;
 
 const DAY: u32 = 1_440;
 
-const WIRE: Wire<'static> = Wire {
+pub(crate) const WIRE: Wire<'static> = Wire {
     sends: b"",
     read_piece: 1_000,
     write_piece: 1_000,
@@ -21,182 +28,287 @@ const WIRE: Wire<'static> = Wire {
     bad_write: 0,
 };
 
-const MAN: Man<'static> = Man {
+pub(crate) const MAN: Man<'static> = Man {
     wires: &[],
     readings: &[TEN],
     bad_call: 0,
 };
 
-const RUN: Run<'static> = Run {
+pub(crate) const SCENE: Scene<'static> = Scene {
     words: &["P"],
     policy: b"role a\nuser u\n",
     bad_find: 0,
     birth: TEN,
-    zero: MAN,
-    one: None,
     room: 2_000,
     bad_write: 0,
 };
 
-/// A link that sends these bytes.
-fn wire(sends: &[u8]) -> Wire<'_> {
-    Wire { sends, ..WIRE }
+pub(crate) const RUN: Run<'static> = Run {
+    scene: SCENE,
+    zero: MAN,
+    one: None,
+    viewer: None,
+};
+
+/// A run by its name, the rules of its gate, and the texts of which one is told, each in parts.
+#[derive(Clone, Copy)]
+pub(crate) struct Row<'a> {
+    pub name: &'a str,
+    pub run: Run<'a>,
+    pub rules: &'a [Rule],
+    pub told: &'a [&'a [&'a [u8]]],
 }
 
-/// The run of one worker.
-fn alone(zero: Man<'_>) -> Run<'_> {
-    Run { zero, ..RUN }
-}
+pub(crate) const ROW: Row<'static> = Row {
+    name: "",
+    run: RUN,
+    rules: &[],
+    told: &[],
+};
 
-/// The run of one worker with these links.
-fn serving<'a>(wires: &'a [Wire<'a>]) -> Run<'a> {
-    alone(Man { wires, ..MAN })
-}
-
-/// The run of two workers with these links.
-fn both<'a>(zero: &'a [Wire<'a>], one: &'a [Wire<'a>]) -> Run<'a> {
-    Run {
-        one: Some(Man { wires: one, ..MAN }),
-        ..serving(zero)
+/// Whether the text is these parts one after the other.
+fn is_joined(text: &[u8], parts: &[&[u8]]) -> bool {
+    let mut rest = text;
+    for part in parts {
+        match rest.strip_prefix(*part) {
+            Some(more) => rest = more,
+            None => return false,
+        }
     }
+    rest.is_empty()
 }
 
-/// The run over these words.
-fn named<'a>(words: &'a [&'a str]) -> Run<'a> {
-    Run { words, ..RUN }
+/// Whether the text is one of these.
+fn is_one(text: &[u8], told: &[&[&[u8]]]) -> bool {
+    for parts in told {
+        if is_joined(text, parts) {
+            return true;
+        }
+    }
+    false
 }
 
-/// Plays a run with open gates.
-fn told<R: Threads + Wait + Sync>(
+/// Plays a run, and sees whether a line is numbered otherwise, waits too long or does not pass the
+/// gate before a clock is read.
+fn played<R: Threads + Wait + Sync>(
     rt: &R,
     alloc: Global,
     run: &Run<'_>,
+    rules: &[Rule],
+    is_wrong: &AtomicBool,
 ) -> Result<List<u8>, Memory> {
-    play(rt, alloc, run, OpenGate)
+    let zero = AtomicU64::new(0);
+    let one = AtomicU64::new(0);
+    let two = AtomicU64::new(0);
+    let gate = Turns {
+        rules,
+        zero: &zero,
+        one: &one,
+        two: &two,
+        is_wrong,
+    };
+    play(rt, alloc, run, gate)
 }
 
-/// The parts one after the other.
-fn joined(alloc: Global, parts: &[&[u8]]) -> Result<Vec<u8>, Memory> {
-    let mut text = Vec::new(alloc);
-    for part in parts {
-        text.extend_from_slice(part)?;
+/// Whether a run is told by these parts one after the other.
+pub(crate) fn is_told<R: Threads + Wait + Sync>(
+    rt: &R,
+    alloc: Global,
+    run: &Run<'_>,
+    parts: &[&[u8]],
+) -> Result<bool, Memory> {
+    let is_wrong = AtomicBool::new(false);
+    let text = played(rt, alloc, run, &[], &is_wrong)?;
+    Ok(is_joined(text.as_slice(), parts) && !is_wrong.load(Ordering::SeqCst))
+}
+
+/// Whether the run of a row is told as it is to be.
+fn is_row_told<R: Threads + Wait + Sync>(
+    rt: &R,
+    alloc: Global,
+    row: &Row<'_>,
+) -> Result<bool, Memory> {
+    let is_wrong = AtomicBool::new(false);
+    let text = played(rt, alloc, &row.run, row.rules, &is_wrong)?;
+    Ok(is_one(text.as_slice(), row.told) && !is_wrong.load(Ordering::SeqCst))
+}
+
+/// The name of the first of these rows that is told otherwise, empty where each is told as it is
+/// to be.
+fn first_wrong<'a, R: Threads + Wait + Sync>(
+    rt: &R,
+    alloc: Global,
+    rows: &[&Row<'a>],
+) -> Result<&'a str, Memory> {
+    for row in rows {
+        if !is_row_told(rt, alloc, row)? {
+            return Ok(row.name);
+        }
     }
-    Ok(text)
+    Ok("")
 }
 
-/// The lines `as u`, `now` in 512 bytes and `now` in 513, and `now` without its end.
-fn long_lines(alloc: Global) -> Result<Vec<u8>, Memory> {
-    let spaces = [b' '; 509];
-    joined(
-        alloc,
-        &[b"as u\nnow", &spaces, b"\nnow ", &spaces, b"\nnow"],
-    )
-}
-
-const REPLIES: &[u8] = b"ok\nnow 2026-01-05T10:00\nbad long\n";
+const LINKS: [&Row<'static>; 7] = [
+    &LINES_PASS_THE_GATE,
+    &A_REPLY_IS_CUT_AT_THE_SIXTH_WRITE,
+    &A_LINE_WITHOUT_ITS_END_SAYS_NOTHING,
+    &FAULTY_LINES_LEAVE_NO_ENTRY,
+    &A_CONNECTION_HAS_NO_MINUTES,
+    &A_DOOR_THAT_GAVE_NONE_IS_NOT_ASKED_AGAIN,
+    &A_DOOR_THAT_FAILS_AT_ONCE,
+];
 
 #[test]
-fn lines_are_told_whatever_the_pieces(rt: HostRuntime) -> Result<(), Fail> {
-    let sends = long_lines(rt.alloc())?;
-    for piece in [1, 2, 511, 2_000] {
-        let wire = Wire {
-            read_piece: piece,
-            write_piece: piece,
-            ..wire(&sends)
-        };
-        let text = told(&rt, rt.alloc(), &serving(&[wire]))?;
-        assert_eq!(rt;
-            text.as_slice(),
-            b"ok
+fn links_are_told(rt: HostRuntime) -> Result<(), Fail> {
+    let name = first_wrong(&rt, rt.alloc(), &LINKS)?;
+    assert!(rt; name.is_empty(), "{name}");
+    Ok(())
+}
+
+const HISTORIES: [&Row<'static>; 6] = [
+    &A_DOOR_THAT_FAILS_ENDS_ITS_WORKER,
+    &TIME_STAYS_WHERE_THE_CLOCK_FALLS,
+    &TIME_STAYS_WHERE_THE_CLOCK_FALLS_BY_A_DAY,
+    &TWO_WORKERS_RUN_BESIDE_EACH_OTHER,
+    &A_FULL_HISTORY_TAKES_NO_STEP,
+    &EACH_REQUEST_IS_LOGGED,
+];
+
+#[test]
+fn histories_are_told(rt: HostRuntime) -> Result<(), Fail> {
+    let name = first_wrong(&rt, rt.alloc(), &HISTORIES)?;
+    assert!(rt; name.is_empty(), "{name}");
+    Ok(())
+}
+
+const STATUSES: [&Row<'static>; 10] = [
+    &NO_WORD,
+    &A_FLAG,
+    &TWO_WORDS,
+    &A_USAGE_THAT_IS_CUT,
+    &A_FAULTY_POLICY,
+    &A_POLICY_THAT_IS_NOT_SAFE,
+    &NO_SUCH_FILE,
+    &A_SHELF_THAT_FAILS,
+    &A_LOG_THAT_FINDS_NO_ROOM,
+    &A_LOG_WHOSE_FIRST_WRITE_FAILS,
+];
+
+#[test]
+fn statuses_are_told(rt: HostRuntime) -> Result<(), Fail> {
+    let name = first_wrong(&rt, rt.alloc(), &STATUSES)?;
+    assert!(rt; name.is_empty(), "{name}");
+    Ok(())
+}
+
+const VIEWED: [&Row<'static>; 6] = [
+    &A_VIEWER_SHOWS_AND_CHANGES_NOTHING,
+    &A_VIEWER_SEES_WHAT_A_WORKER_HAS_DONE,
+    &A_VIEWER_IS_TOLD_WHAT_TWO_WORKERS_HAVE_DONE,
+    &A_VIEWERS_DOOR_THAT_FAILS,
+    &WRONG_WORD_WITH_A_VIEWER,
+    &FAULTY_WITH_A_VIEWER,
+];
+
+#[test]
+fn viewers_are_told(rt: HostRuntime) -> Result<(), Fail> {
+    let name = first_wrong(&rt, rt.alloc(), &VIEWED)?;
+    assert!(rt; name.is_empty(), "{name}");
+    Ok(())
+}
+
+#[test]
+fn two_workers_share_a_history(rt: HostRuntime) -> Result<(), Fail> {
+    for _ in 0..100 {
+        assert!(rt; is_row_told(&rt, rt.alloc(), &SHARED)?);
+    }
+    Ok(())
+}
+
+/// bench/fail_alloc_daemon.py refuses the allocations of this test one at a time, and reads what it
+/// writes.
+#[test]
+fn two_workers_are_told(rt: HostRuntime) -> Result<(), Fail> {
+    let is_wrong = AtomicBool::new(false);
+    let text = played(&rt, rt.alloc(), &SHARED.run, &[], &is_wrong)?;
+    rt.stdout().write_all(text.as_slice())?;
+    assert!(rt; is_one(text.as_slice(), SHARED.told));
+    Ok(())
+}
+
+/// Each reading of the clock is another minute. The gate may wait, and has nothing to wait for.
+const LINES_PASS_THE_GATE: Row<'static> = Row {
+    name: "each request line passes the gate, and then the clock is read",
+    run: Run {
+        zero: Man {
+            wires: &[
+                Wire {
+                    sends: b"as u\nnow\n\nfrob\nnow\n",
+                    ..WIRE
+                },
+                Wire {
+                    sends: b"as u\nnow\n\nfrob\nnow\n",
+                    ..WIRE
+                },
+            ],
+            readings: &[TEN, TEN + 1, TEN + 2, TEN + 3],
+            bad_call: 0,
+        },
+        ..RUN
+    },
+    rules: &[Rule {
+        worker: 0,
+        call: 1,
+        other: 0,
+        calls: 1,
+    }],
+    told: &[&[
+        b"ok
 now 2026-01-05T10:00
-bad long
-| ended, asked 1, denied 0
-1 links, done
+bad syntax
+now 2026-01-05T10:01
+| ended, asked 2, denied 0
+ok
+now 2026-01-05T10:02
+bad syntax
+now 2026-01-05T10:03
+| ended, asked 2, denied 0
+2 links, done
 born 2026-01-05T10:00
 ask 0.1 u now = now 2026-01-05T10:00
+tick 0.1 to 2026-01-05T10:01 bound 2026-01-05T10:01
+ask 0.1 u now = now 2026-01-05T10:01
+tick 0.2 to 2026-01-05T10:02 bound 2026-01-05T10:02
+ask 0.2 u now = now 2026-01-05T10:02
+tick 0.2 to 2026-01-05T10:03 bound 2026-01-05T10:03
+ask 0.2 u now = now 2026-01-05T10:03
 status 0
-"
-                .as_slice()
-        );
-    }
-    Ok(())
-}
+",
+    ]],
+    ..ROW
+};
 
-/// What is told of the long lines, of which replies so many bytes were given, where the first link
-/// ended so.
-fn cut(alloc: Global, given: usize, end: &[u8], is_asked: bool) -> Result<Vec<u8>, Memory> {
-    let asked: &[u8] = if is_asked { b"1" } else { b"0" };
-    let entry: &[u8] = if is_asked {
-        b"ask 0.1 u now = now 2026-01-05T10:00\n"
-    } else {
-        b""
-    };
-    joined(
-        alloc,
-        &[
-            &REPLIES[..given.min(REPLIES.len())],
-            b"| ",
-            end,
-            b", asked ",
-            asked,
-            b", denied 0\nok\nnow 2026-01-05T10:00\n| ended, asked 1, denied 0\n2 links, done\nborn 2026-01-05T10:00\n",
-            entry,
-            b"ask 0.2 u now = now 2026-01-05T10:00\nstatus 0\n",
-        ],
-    )
-}
-
-#[test]
-fn nothing_is_done_after_a_read_that_failed(rt: HostRuntime) -> Result<(), Fail> {
-    let sends = long_lines(rt.alloc())?;
-    for taken in 0..=sends.len() {
-        let bad = Wire {
-            read_piece: 1,
-            bad_read: taken as u64 + 1,
-            ..wire(&sends)
-        };
-        let text = told(&rt, rt.alloc(), &serving(&[bad, wire(b"as u\nnow\n")]))?;
-        let given = if taken < 5 {
-            0
-        } else if taken < 518 {
-            3
-        } else if taken < 1_032 {
-            24
-        } else {
-            33
-        };
-        let wanted = cut(rt.alloc(), given, b"read fault", 518 <= taken)?;
-        assert_eq!(rt; text.as_slice(), wanted.as_slice(), "after {taken} bytes");
-    }
-    Ok(())
-}
-
-#[test]
-fn nothing_is_done_after_a_write_that_failed(rt: HostRuntime) -> Result<(), Fail> {
-    let sends = long_lines(rt.alloc())?;
-    for given in 0..REPLIES.len() {
-        let bad = Wire {
-            write_piece: 1,
-            bad_write: given as u64 + 1,
-            ..wire(&sends)
-        };
-        let text = told(&rt, rt.alloc(), &serving(&[bad, wire(b"as u\nnow\n")]))?;
-        let wanted = cut(rt.alloc(), given, b"write fault", 3 <= given)?;
-        assert_eq!(rt; text.as_slice(), wanted.as_slice(), "after {given} bytes");
-    }
-    Ok(())
-}
-
-#[test]
-fn a_reply_is_cut_at_the_sixth_write(rt: HostRuntime) -> Result<(), Fail> {
-    let slow = Wire {
-        write_piece: 1,
-        bad_write: 6,
-        ..wire(b"as u\nopen\n")
-    };
-    let text = told(&rt, rt.alloc(), &serving(&[slow, wire(b"as u\nopen\n")]))?;
-    assert_eq!(rt;
-        text.as_slice(),
+const A_REPLY_IS_CUT_AT_THE_SIXTH_WRITE: Row<'static> = Row {
+    name: "a reply is cut at the sixth write",
+    run: Run {
+        zero: Man {
+            wires: &[
+                Wire {
+                    sends: b"as u\nopen\n",
+                    write_piece: 1,
+                    bad_write: 6,
+                    ..WIRE
+                },
+                Wire {
+                    sends: b"as u\nopen\n",
+                    ..WIRE
+                },
+            ],
+            ..MAN
+        },
+        ..RUN
+    },
+    told: &[&[
         b"ok
 se| write fault, asked 1, denied 0
 ok
@@ -207,37 +319,50 @@ born 2026-01-05T10:00
 ask 0.1 u open = session 1
 ask 0.2 u open = session 2
 status 0
-"
-            .as_slice()
-    );
-    Ok(())
-}
+",
+    ]],
+    ..ROW
+};
 
-#[test]
-fn a_line_without_its_end_says_nothing(rt: HostRuntime) -> Result<(), Fail> {
-    let text = told(&rt, rt.alloc(), &serving(&[wire(b""), wire(b"as u\nopen")]))?;
-    assert_eq!(rt;
-        text.as_slice(),
+const A_LINE_WITHOUT_ITS_END_SAYS_NOTHING: Row<'static> = Row {
+    name: "a line without its end says nothing",
+    run: Run {
+        zero: Man {
+            wires: &[
+                WIRE,
+                Wire {
+                    sends: b"as u\nopen",
+                    ..WIRE
+                },
+            ],
+            ..MAN
+        },
+        ..RUN
+    },
+    told: &[&[
         b"ok
 | ended, asked 0, denied 0
 2 links, done
 born 2026-01-05T10:00
 status 0
-"
-            .as_slice()
-    );
-    Ok(())
-}
+",
+    ]],
+    ..ROW
+};
 
-#[test]
-fn faulty_lines_leave_no_entry(rt: HostRuntime) -> Result<(), Fail> {
-    let text = told(
-        &rt,
-        rt.alloc(),
-        &serving(&[wire(b"now\nfrob\nstatus enabled nobody\n\n# silent\n")]),
-    )?;
-    assert_eq!(rt;
-        text.as_slice(),
+const FAULTY_LINES_LEAVE_NO_ENTRY: Row<'static> = Row {
+    name: "faulty lines leave no entry",
+    run: Run {
+        zero: Man {
+            wires: &[Wire {
+                sends: b"now\nfrob\nstatus enabled nobody\n\n# silent\n",
+                ..WIRE
+            }],
+            ..MAN
+        },
+        ..RUN
+    },
+    told: &[&[
         b"refused no-user
 bad syntax
 bad name
@@ -246,75 +371,122 @@ bad name
 born 2026-01-05T10:00
 ask 0.1 - now = refused no-user
 status 0
-"
-            .as_slice()
-    );
-    Ok(())
-}
+",
+    ]],
+    ..ROW
+};
 
-#[test]
-fn a_door_that_gave_none_is_not_asked_again(rt: HostRuntime) -> Result<(), Fail> {
-    let text = told(&rt, rt.alloc(), &alone(Man { bad_call: 2, ..MAN }))?;
-    assert_eq!(rt;
-        text.as_slice(),
+const A_CONNECTION_HAS_NO_MINUTES: Row<'static> = Row {
+    name: "a connection has no minutes, and its dash is nobody",
+    run: Run {
+        zero: Man {
+            wires: &[Wire {
+                sends: b"@ 2026-01-05T10:00\nas u\nnow\nas -\nnow\n",
+                ..WIRE
+            }],
+            ..MAN
+        },
+        ..RUN
+    },
+    told: &[&[
+        b"bad syntax
+ok
+now 2026-01-05T10:00
+ok
+refused no-user
+| ended, asked 2, denied 0
+1 links, done
+born 2026-01-05T10:00
+ask 0.1 u now = now 2026-01-05T10:00
+ask 0.1 - now = refused no-user
+status 0
+",
+    ]],
+    ..ROW
+};
+
+const A_DOOR_THAT_GAVE_NONE_IS_NOT_ASKED_AGAIN: Row<'static> = Row {
+    name: "a door that gave none is not asked again",
+    run: Run {
+        zero: Man { bad_call: 2, ..MAN },
+        ..RUN
+    },
+    told: &[&[
         b"0 links, done
 born 2026-01-05T10:00
 status 0
-"
-            .as_slice()
-    );
-    Ok(())
-}
+",
+    ]],
+    ..ROW
+};
 
-#[test]
-fn a_door_that_fails_ends_its_worker(rt: HostRuntime) -> Result<(), Fail> {
-    let wires = [wire(b"frob\n"), wire(b"frob\n")];
-    let broken = Man {
-        wires: &wires,
-        bad_call: 1,
-        ..MAN
-    };
-    let text = told(&rt, rt.alloc(), &alone(broken))?;
-    assert_eq!(rt;
-        text.as_slice(),
+const TWO_FAULTY: &[Wire<'static>] = &[
+    Wire {
+        sends: b"frob\n",
+        ..WIRE
+    },
+    Wire {
+        sends: b"frob\n",
+        ..WIRE
+    },
+];
+
+const A_DOOR_THAT_FAILS_AT_ONCE: Row<'static> = Row {
+    name: "a door that fails at once",
+    run: Run {
+        zero: Man {
+            wires: TWO_FAULTY,
+            bad_call: 1,
+            ..MAN
+        },
+        ..RUN
+    },
+    told: &[&[
         b"0 links, door fault
 born 2026-01-05T10:00
 status 10
-"
-            .as_slice()
-    );
-    let text = told(
-        &rt,
-        rt.alloc(),
-        &alone(Man {
+",
+    ]],
+    ..ROW
+};
+
+const A_DOOR_THAT_FAILS_ENDS_ITS_WORKER: Row<'static> = Row {
+    name: "a door that fails ends its worker",
+    run: Run {
+        zero: Man {
+            wires: TWO_FAULTY,
             bad_call: 2,
-            ..broken
-        }),
-    )?;
-    assert_eq!(rt;
-        text.as_slice(),
+            ..MAN
+        },
+        ..RUN
+    },
+    told: &[&[
         b"bad syntax
 | ended, asked 0, denied 0
 1 links, door fault
 born 2026-01-05T10:00
 status 10
-"
-            .as_slice()
-    );
-    Ok(())
-}
+",
+    ]],
+    ..ROW
+};
 
-#[test]
-fn time_stays_where_the_clock_falls(rt: HostRuntime) -> Result<(), Fail> {
-    let wires = [wire(b"as u\nnow\nnow\n")];
-    let man = Man {
-        wires: &wires,
-        readings: &[TEN + 5, TEN - 60],
-        bad_call: 0,
-    };
-    let text = told(&rt, rt.alloc(), &alone(man))?;
-    assert_eq!(rt;
-        text.as_slice(),
+const ASKS_TWICE: &[Wire<'static>] = &[Wire {
+    sends: b"as u\nnow\nnow\n",
+    ..WIRE
+}];
+
+const TIME_STAYS_WHERE_THE_CLOCK_FALLS: Row<'static> = Row {
+    name: "time stays where the clock falls",
+    run: Run {
+        zero: Man {
+            wires: ASKS_TWICE,
+            readings: &[TEN + 5, TEN - 60],
+            bad_call: 0,
+        },
+        ..RUN
+    },
+    told: &[&[
         b"ok
 now 2026-01-05T10:05
 now 2026-01-05T10:05
@@ -325,19 +497,22 @@ tick 0.1 to 2026-01-05T10:05 bound 2026-01-05T10:05
 ask 0.1 u now = now 2026-01-05T10:05
 ask 0.1 u now = now 2026-01-05T10:05
 status 0
-"
-            .as_slice()
-    );
-    let text = told(
-        &rt,
-        rt.alloc(),
-        &alone(Man {
+",
+    ]],
+    ..ROW
+};
+
+const TIME_STAYS_WHERE_THE_CLOCK_FALLS_BY_A_DAY: Row<'static> = Row {
+    name: "time stays where the clock falls by a day",
+    run: Run {
+        zero: Man {
+            wires: ASKS_TWICE,
             readings: &[TEN + DAY, TEN],
-            ..man
-        }),
-    )?;
-    assert_eq!(rt;
-        text.as_slice(),
+            bad_call: 0,
+        },
+        ..RUN
+    },
+    told: &[&[
         b"ok
 now 2026-01-06T10:00
 now 2026-01-06T10:00
@@ -348,127 +523,103 @@ tick 0.1 to 2026-01-06T10:00 bound 2026-01-06T10:00
 ask 0.1 u now = now 2026-01-06T10:00
 ask 0.1 u now = now 2026-01-06T10:00
 status 0
-"
-            .as_slice()
-    );
-    Ok(())
-}
-
-/// What two workers are told where so many entries of worker 1, its tick and its two asks, stand
-/// before the ask of connection 0.1, and so many before that of 0.2.
-fn two_told(alloc: Global, open: usize, now: usize) -> Result<Vec<u8>, Memory> {
-    let minute: &[u8] = if now == 0 { b"0\n" } else { b"5\n" };
-    let others: [&[u8]; 3] = [
-        b"tick 1.1 to 2026-01-05T10:05 bound 2026-01-05T10:05\n",
-        b"ask 1.1 u now = now 2026-01-05T10:05\n",
-        b"ask 1.1 u now = now 2026-01-05T10:05\n",
-    ];
-    let mut text = joined(
-        alloc,
-        &[
-            b"ok\nsession 1\n| ended, asked 1, denied 0\nok\nnow 2026-01-05T10:0",
-            minute,
-            b"| ended, asked 1, denied 0\n2 links, done\nok\nnow 2026-01-05T10:05\nnow 2026-01-05T10:05\n| ended, asked 2, denied 0\n1 links, done\nborn 2026-01-05T10:00\n",
-        ],
-    )?;
-    for place in 0..=others.len() {
-        if place == open {
-            text.extend_from_slice(b"ask 0.1 u open = session 1\n")?;
-        }
-        if place == now {
-            text.extend_from_slice(b"ask 0.2 u now = now 2026-01-05T10:0")?;
-            text.extend_from_slice(minute)?;
-        }
-        if place < others.len() {
-            text.extend_from_slice(others[place])?;
-        }
-    }
-    text.extend_from_slice(b"status 0\n")?;
-    Ok(text)
-}
-
-/// Whether this is what two workers are told, in whatever order their entries stand.
-fn is_two_told(alloc: Global, text: &[u8]) -> Result<bool, Memory> {
-    for now in 0..=3 {
-        for open in 0..=now {
-            if text == two_told(alloc, open, now)?.as_slice() {
-                return Ok(true);
-            }
-        }
-    }
-    Ok(false)
-}
-
-/// Two workers, of which the second is five minutes ahead at its first line.
-const SHARED: Run<'static> = Run {
-    zero: Man {
-        wires: &[
-            Wire {
-                sends: b"as u\nopen\n",
-                ..WIRE
-            },
-            Wire {
-                sends: b"as u\nnow\n",
-                ..WIRE
-            },
-        ],
-        ..MAN
-    },
-    one: Some(Man {
-        wires: &[Wire {
-            sends: b"as u\nnow\nnow\n",
-            ..WIRE
-        }],
-        readings: &[TEN + 5, TEN],
-        bad_call: 0,
-    }),
-    ..RUN
+",
+    ]],
+    ..ROW
 };
 
-#[test]
-fn two_workers_share_a_history(rt: HostRuntime) -> Result<(), Fail> {
-    for _ in 0..100 {
-        let text = told(&rt, rt.alloc(), &SHARED)?;
-        assert!(rt; is_two_told(rt.alloc(), text.as_slice())?);
-    }
-    Ok(())
-}
+const BEFORE: &[u8] = b"ok
+session 1
+| ended, asked 1, denied 0
+ok
+now 2026-01-05T10:0";
 
-/// bench/fail_alloc_daemon.py refuses the allocations of this test one at a time, and reads what it
-/// writes.
-#[test]
-fn two_workers_are_told(rt: HostRuntime) -> Result<(), Fail> {
-    let text = told(&rt, rt.alloc(), &SHARED)?;
-    rt.stdout().write_all(text.as_slice())?;
-    assert!(rt; is_two_told(rt.alloc(), text.as_slice())?);
-    Ok(())
-}
+const BETWEEN: &[u8] = b"
+| ended, asked 1, denied 0
+2 links, done
+ok
+now 2026-01-05T10:05
+now 2026-01-05T10:05
+| ended, asked 2, denied 0
+1 links, done
+born 2026-01-05T10:00
+";
 
-/// A gate that holds worker 0's first request line until worker 1 passes it for its third, and at
-/// most for so many looks.
-#[derive(Clone, Copy)]
-struct Turnstile<'a> {
-    is_passed: &'a AtomicBool,
-    is_late: &'a AtomicBool,
-}
+const TICK: &[u8] = b"tick 1.1 to 2026-01-05T10:05 bound 2026-01-05T10:05\n";
 
-const LOOKS: u32 = 400_000_000;
+const OTHER: &[u8] = b"ask 1.1 u now = now 2026-01-05T10:05\n";
 
-impl Gate for Turnstile<'_> {
-    fn pass(&self, worker: u32, call: u64) {
-        if worker == 1 && call == 3 {
-            self.is_passed.store(true, Ordering::SeqCst);
-        }
-        if worker == 0 && call == 1 {
-            for _ in 0..LOOKS {
-                if self.is_passed.load(Ordering::SeqCst) {
-                    return;
-                }
-            }
-            self.is_late.store(true, Ordering::SeqCst);
-        }
-    }
-}
+const OPEN: &[u8] = b"ask 0.1 u open = session 1\n";
+
+const NOW_BEFORE: &[u8] = b"ask 0.2 u now = now 2026-01-05T10:00\n";
+
+const NOW: &[u8] = b"ask 0.2 u now = now 2026-01-05T10:05\n";
+
+const STATUS_0: &[u8] = b"status 0\n";
+
+const ZERO: &[u8] = b"0";
+
+const FIVE: &[u8] = b"5";
+
+/// Two workers, of which the second is five minutes ahead at its first line: its tick and its two
+/// asks stand before, between or behind those of the first one's connections.
+const SHARED: Row<'static> = Row {
+    name: "two workers share a history",
+    run: Run {
+        zero: Man {
+            wires: &[
+                Wire {
+                    sends: b"as u\nopen\n",
+                    ..WIRE
+                },
+                Wire {
+                    sends: b"as u\nnow\n",
+                    ..WIRE
+                },
+            ],
+            ..MAN
+        },
+        one: Some(Man {
+            wires: ASKS_TWICE,
+            readings: &[TEN + 5, TEN],
+            bad_call: 0,
+        }),
+        ..RUN
+    },
+    told: &[
+        &[
+            BEFORE, ZERO, BETWEEN, OPEN, NOW_BEFORE, TICK, OTHER, OTHER, STATUS_0,
+        ],
+        &[
+            BEFORE, FIVE, BETWEEN, OPEN, TICK, NOW, OTHER, OTHER, STATUS_0,
+        ],
+        &[
+            BEFORE, FIVE, BETWEEN, TICK, OPEN, NOW, OTHER, OTHER, STATUS_0,
+        ],
+        &[
+            BEFORE, FIVE, BETWEEN, OPEN, TICK, OTHER, NOW, OTHER, STATUS_0,
+        ],
+        &[
+            BEFORE, FIVE, BETWEEN, TICK, OPEN, OTHER, NOW, OTHER, STATUS_0,
+        ],
+        &[
+            BEFORE, FIVE, BETWEEN, TICK, OTHER, OPEN, NOW, OTHER, STATUS_0,
+        ],
+        &[
+            BEFORE, FIVE, BETWEEN, OPEN, TICK, OTHER, OTHER, NOW, STATUS_0,
+        ],
+        &[
+            BEFORE, FIVE, BETWEEN, TICK, OPEN, OTHER, OTHER, NOW, STATUS_0,
+        ],
+        &[
+            BEFORE, FIVE, BETWEEN, TICK, OTHER, OPEN, OTHER, NOW, STATUS_0,
+        ],
+        &[
+            BEFORE, FIVE, BETWEEN, TICK, OTHER, OTHER, OPEN, NOW, STATUS_0,
+        ],
+    ],
+    ..ROW
+};
 
 const BESIDE: &[u8] = b"ok
 session 1
@@ -485,91 +636,62 @@ ask 1.1 u now = now 2026-01-05T10:00
 ask 1.1 u now = now 2026-01-05T10:00
 ";
 
-const OPEN: &[u8] = b"ask 0.1 u open = session 1\n";
+const THIRD: &[u8] = b"ask 1.1 u now = now 2026-01-05T10:00\n";
 
-const NOW: &[u8] = b"ask 1.1 u now = now 2026-01-05T10:00\n";
-
-const STATUS_0: &[u8] = b"status 0\n";
-
-#[test]
-fn two_workers_run_beside_each_other(rt: HostRuntime) -> Result<(), Fail> {
-    let is_passed = AtomicBool::new(false);
-    let is_late = AtomicBool::new(false);
-    let gate = Turnstile {
-        is_passed: &is_passed,
-        is_late: &is_late,
-    };
-    let opens = [wire(b"as u\nopen\n")];
-    let asks = [wire(b"as u\nnow\nnow\nnow\n")];
-    let run = both(&opens, &asks);
-    let text = play(&rt, rt.alloc(), &run, gate)?;
-    let before = joined(rt.alloc(), &[BESIDE, OPEN, NOW, STATUS_0])?;
-    let after = joined(rt.alloc(), &[BESIDE, NOW, OPEN, STATUS_0])?;
-    assert!(rt; text.as_slice() == before.as_slice() || text.as_slice() == after.as_slice());
-    assert!(rt; is_passed.load(Ordering::SeqCst));
-    assert!(rt; !is_late.load(Ordering::SeqCst));
-    Ok(())
-}
-
-#[test]
-fn a_link_is_cut_at_its_last_byte(rt: HostRuntime) -> Result<(), Fail> {
-    let mut sends = vec![in rt.alloc(); b'\n'; 67_108_865]?;
-    let text = told(&rt, rt.alloc(), &serving(&[wire(&sends)]))?;
-    assert_eq!(rt;
-        text.as_slice(),
-        b"| spent, asked 0, denied 0
-1 links, done
-born 2026-01-05T10:00
-status 0
-"
-            .as_slice()
-    );
-    sends.truncate(67_108_863);
-    let text = told(&rt, rt.alloc(), &serving(&[wire(&sends)]))?;
-    assert_eq!(rt;
-        text.as_slice(),
-        b"1 links, done
-born 2026-01-05T10:00
-status 0
-"
-            .as_slice()
-    );
-    Ok(())
-}
-
-#[test]
-fn a_worker_serves_so_many_links_and_no_more(rt: HostRuntime) -> Result<(), Fail> {
-    let wires = vec![in rt.alloc(); WIRE; 100_001]?;
-    let text = told(&rt, rt.alloc(), &serving(&wires))?;
-    assert_eq!(rt;
-        text.as_slice(),
-        b"100000 links, enough
-born 2026-01-05T10:00
-status 11
-"
-            .as_slice()
-    );
-    Ok(())
-}
-
-#[test]
-fn a_full_history_takes_no_step(rt: HostRuntime) -> Result<(), Fail> {
-    let wires = [wire(b"now\nnow\nnow\n")];
-    let run = Run {
-        policy: b"role a\nperiod always * * all.Days\neach always 50:enable a\n",
-        birth: 0,
-        room: 178,
-        // 2001-11-25T10:39, after 999,999 minutes
+/// Worker 0's first request line is held until worker 1 comes to its third.
+const TWO_WORKERS_RUN_BESIDE_EACH_OTHER: Row<'static> = Row {
+    name: "two workers run beside each other",
+    run: Run {
         zero: Man {
-            wires: &wires,
+            wires: &[Wire {
+                sends: b"as u\nopen\n",
+                ..WIRE
+            }],
+            ..MAN
+        },
+        one: Some(Man {
+            wires: &[Wire {
+                sends: b"as u\nnow\nnow\nnow\n",
+                ..WIRE
+            }],
+            ..MAN
+        }),
+        ..RUN
+    },
+    rules: &[Rule {
+        worker: 0,
+        call: 1,
+        other: 1,
+        calls: 3,
+    }],
+    told: &[
+        &[BESIDE, OPEN, THIRD, STATUS_0],
+        &[BESIDE, THIRD, OPEN, STATUS_0],
+    ],
+    ..ROW
+};
+
+/// The clock reads 2001-11-25T10:39, after 999,999 minutes.
+const A_FULL_HISTORY_TAKES_NO_STEP: Row<'static> = Row {
+    name: "a full history takes no step",
+    run: Run {
+        scene: Scene {
+            policy: b"role a\nperiod always * * all.Days\neach always 50:enable a\n",
+            birth: 0,
+            room: 178,
+            ..SCENE
+        },
+        zero: Man {
+            wires: &[Wire {
+                sends: b"now\nnow\nnow\n",
+                ..WIRE
+            }],
             readings: &[999_999],
             bad_call: 0,
         },
         ..RUN
-    };
-    let text = told(&rt, rt.alloc(), &run)?;
-    assert_eq!(rt;
-        text.as_slice(),
+    },
+    told: &[&[
         b"refused no-user
 no steps
 no steps
@@ -580,115 +702,253 @@ tick 0.1 to 2000-01-01T00:01 bound 2001-11-25T10:39
 tick 0.1 to 2000-01-01T00:02 bound 2001-11-25T10:39
 tick 0.1 to 2000-01-01T00:03 bound 2001-11-25T10:39
 status 5
-"
-            .as_slice()
-    );
-    Ok(())
-}
+",
+    ]],
+    ..ROW
+};
 
-/// Whether a run that serves nobody prints this with this status.
-fn is_kept<R: Threads + Wait + Sync>(
-    rt: &R,
-    alloc: Global,
-    run: &Run<'_>,
-    printed: &[u8],
-    status: &[u8],
-) -> Result<bool, Memory> {
-    let text = told(rt, alloc, run)?;
-    let wanted = joined(
-        alloc,
-        &[b"0 links, fresh\n", printed, b"status ", status, b"\n"],
-    )?;
-    Ok(text.as_slice() == wanted.as_slice())
-}
+const NOBODY: &[u8] = b"0 links, fresh\n";
 
 const USAGE: &[u8] = b"usage: gtrbacd POLICY | views POLICY | poll POLICY\n";
 
-#[test]
-fn words_are_one_policy(rt: HostRuntime) -> Result<(), Fail> {
-    let alloc = rt.alloc();
-    assert!(rt; is_kept(&rt, alloc, &named(&[]), USAGE, b"1")?);
-    assert!(rt; is_kept(&rt, alloc, &named(&["-P"]), USAGE, b"1")?);
-    assert!(rt; is_kept(&rt, alloc, &named(&["P", "P"]), USAGE, b"1")?);
-    let cut = Run {
-        room: 5,
-        ..named(&[])
-    };
-    assert!(rt; is_kept(&rt, alloc, &cut, b"usage", b"5")?);
-    Ok(())
-}
+const STATUS_1: &[u8] = b"status 1\n";
 
-const CONFLICT: &[u8] =
-    b"role a\nrole b\nwhen enable b then 50:enable a\nwhen enable a then 50:disable b\n";
-
-const CYCLE: &[u8] = b"unsafe\nconflict 1.1 disable b > enable a\nplain 2.1 enable a > disable b\n";
-
-#[test]
-fn policies_are_whole_and_safe(rt: HostRuntime) -> Result<(), Fail> {
-    let alloc = rt.alloc();
-    let faulty = Run {
-        policy: b"frob\n",
+const NO_WORD: Row<'static> = Row {
+    name: "no word",
+    run: Run {
+        scene: Scene {
+            words: &[],
+            ..SCENE
+        },
         ..RUN
-    };
-    assert!(rt; is_kept(&rt, alloc, &faulty, b"policy 1: word\n", b"2")?);
-    let not_safe = Run {
-        policy: CONFLICT,
-        ..RUN
-    };
-    assert!(rt; is_kept(&rt, alloc, &not_safe, CYCLE, b"3")?);
-    assert!(rt; is_kept(&rt, alloc, &named(&["Q"]), b"read fault\n", b"4")?);
-    let failing = Run { bad_find: 2, ..RUN };
-    assert!(rt; is_kept(&rt, alloc, &failing, b"read fault\n", b"4")?);
-    Ok(())
-}
+    },
+    told: &[&[NOBODY, USAGE, STATUS_1]],
+    ..ROW
+};
 
-#[test]
-fn a_long_policy_is_told(rt: HostRuntime) -> Result<(), Fail> {
-    let text = vec![in rt.alloc(); b'\n'; 4_194_305]?;
-    let run = Run {
-        policy: &text,
+const A_FLAG: Row<'static> = Row {
+    name: "a flag",
+    run: Run {
+        scene: Scene {
+            words: &["-P"],
+            ..SCENE
+        },
         ..RUN
-    };
-    assert!(rt; is_kept(&rt, rt.alloc(), &run, b"too long: policy\n", b"6")?);
-    Ok(())
-}
+    },
+    told: &[&[NOBODY, USAGE, STATUS_1]],
+    ..ROW
+};
 
-#[test]
-fn a_failed_output_has_a_front_of_the_log(rt: HostRuntime) -> Result<(), Fail> {
-    let wires = [wire(b"as u\nnow\n")];
-    let run = Run {
-        room: 29,
-        ..serving(&wires)
-    };
-    let text = told(&rt, rt.alloc(), &run)?;
-    assert_eq!(rt;
-        text.as_slice(),
-        b"ok
+const TWO_WORDS: Row<'static> = Row {
+    name: "two words",
+    run: Run {
+        scene: Scene {
+            words: &["P", "P"],
+            ..SCENE
+        },
+        ..RUN
+    },
+    told: &[&[NOBODY, USAGE, STATUS_1]],
+    ..ROW
+};
+
+const A_USAGE_THAT_IS_CUT: Row<'static> = Row {
+    name: "a usage that is cut",
+    run: Run {
+        scene: Scene {
+            words: &[],
+            room: 5,
+            ..SCENE
+        },
+        ..RUN
+    },
+    told: &[&[NOBODY, b"usagestatus 5\n"]],
+    ..ROW
+};
+
+const A_FAULTY_POLICY: Row<'static> = Row {
+    name: "a faulty policy",
+    run: Run {
+        scene: Scene {
+            policy: b"frob\n",
+            ..SCENE
+        },
+        ..RUN
+    },
+    told: &[&[NOBODY, b"policy 1: word\nstatus 2\n"]],
+    ..ROW
+};
+
+const A_POLICY_THAT_IS_NOT_SAFE: Row<'static> = Row {
+    name: "a policy that is not safe",
+    run: Run {
+        scene: Scene {
+            policy: b"role a
+role b
+when enable b then 50:enable a
+when enable a then 50:disable b
+",
+            ..SCENE
+        },
+        ..RUN
+    },
+    told: &[&[
+        NOBODY,
+        b"unsafe
+conflict 1.1 disable b > enable a
+plain 2.1 enable a > disable b
+status 3
+",
+    ]],
+    ..ROW
+};
+
+const NO_SUCH_FILE: Row<'static> = Row {
+    name: "no such file",
+    run: Run {
+        scene: Scene {
+            words: &["Q"],
+            ..SCENE
+        },
+        ..RUN
+    },
+    told: &[&[NOBODY, b"read fault\nstatus 4\n"]],
+    ..ROW
+};
+
+const A_SHELF_THAT_FAILS: Row<'static> = Row {
+    name: "a shelf that fails",
+    run: Run {
+        scene: Scene {
+            bad_find: 2,
+            ..SCENE
+        },
+        ..RUN
+    },
+    told: &[&[NOBODY, b"read fault\nstatus 4\n"]],
+    ..ROW
+};
+
+const ASKS_ONCE: Man<'static> = Man {
+    wires: &[Wire {
+        sends: b"as u\nnow\n",
+        ..WIRE
+    }],
+    ..MAN
+};
+
+const ASKED_ONCE: &[u8] = b"ok
 now 2026-01-05T10:00
 | ended, asked 1, denied 0
+1 links, done
+";
+
+const A_LOG_THAT_FINDS_NO_ROOM: Row<'static> = Row {
+    name: "a log that finds no room",
+    run: Run {
+        scene: Scene { room: 29, ..SCENE },
+        zero: ASKS_ONCE,
+        ..RUN
+    },
+    told: &[&[ASKED_ONCE, b"born 2026-01-05T10:00\nask 0.1status 5\n"]],
+    ..ROW
+};
+
+const A_LOG_WHOSE_FIRST_WRITE_FAILS: Row<'static> = Row {
+    name: "a log whose first write fails",
+    run: Run {
+        scene: Scene {
+            bad_write: 1,
+            ..SCENE
+        },
+        zero: ASKS_ONCE,
+        ..RUN
+    },
+    told: &[&[ASKED_ONCE, b"status 5\n"]],
+    ..ROW
+};
+
+/// One request of each kind, by the user of the session.
+const EACH_REQUEST_IS_LOGGED: Row<'static> = Row {
+    name: "each request is logged",
+    run: Run {
+        scene: Scene {
+            policy: b"policy 2
+role s
+role j
+user u
+perm p
+perm q
+edge i weak s j
+linked s j
+admin u
+enabled s
+enabled j
+assigned u s
+granted p j
+granted q s
+",
+            ..SCENE
+        },
+        zero: Man {
+            wires: &[Wire {
+                sends: b"as u
+now
+open
+activate 1 s
+check 1 p
+check 1 q
+active 1 s
+active 1 j
+status linked s j
+status deassigned u s
+event enable s
+request 50:unlink s j
+request 60:disable j after 7
+deactivate 1 s
+close 1
+",
+                ..WIRE
+            }],
+            ..MAN
+        },
+        ..RUN
+    },
+    told: &[&[
+        b"ok
+now 2026-01-05T10:00
+session 1
+ok by s
+permit by s>j
+permit by s
+yes
+no
+yes
+no
+no
+queued 2026-01-05T10:01
+queued 2026-01-05T10:08
+ok
+ok
+| ended, asked 14, denied 0
 1 links, done
 born 2026-01-05T10:00
-ask 0.1status 5
-"
-            .as_slice()
-    );
-    let text = told(
-        &rt,
-        rt.alloc(),
-        &Run {
-            bad_write: 1,
-            ..run
-        },
-    )?;
-    assert_eq!(rt;
-        text.as_slice(),
-        b"ok
-now 2026-01-05T10:00
-| ended, asked 1, denied 0
-1 links, done
-status 5
-"
-            .as_slice()
-    );
-    Ok(())
-}
+ask 0.1 u now = now 2026-01-05T10:00
+ask 0.1 u open = session 1
+ask 0.1 u activate 1 s = ok by s
+ask 0.1 u check 1 p = permit by s>j
+ask 0.1 u check 1 q = permit by s
+ask 0.1 u active 1 s = yes
+ask 0.1 u active 1 j = no
+ask 0.1 u status linked s j = yes
+ask 0.1 u status deassigned u s = no
+ask 0.1 u event enable s = no
+ask 0.1 u request 50:unlink s j = queued 2026-01-05T10:01
+ask 0.1 u request 60:disable j after 7 = queued 2026-01-05T10:08
+ask 0.1 u deactivate 1 s = ok
+ask 0.1 u close 1 = ok
+status 0
+",
+    ]],
+    ..ROW
+};

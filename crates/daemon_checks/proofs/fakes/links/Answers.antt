@@ -1,6 +1,6 @@
 use Rattle.std.proofs.Common.{◌≡◌, [], false}
 use Rattle.std.proofs.lemmas.List.Elements.{All-push}
-use Rattle.daemon_checks.proofs.crews.links.Goals as goal
+use Rattle.daemon_checks.proofs.fakes.links.Goals as goal
 
 pub loop-wire-preserved : goal.loop-wire-preserved
 loop-wire-preserved c =

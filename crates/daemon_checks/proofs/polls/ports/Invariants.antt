@@ -1,9 +1,9 @@
 use Rattle.std.proofs.Common.{All}
 use Rattle.gt_io.specs.MemoryPorts.{IsUnused}
-use Rattle.poll_checks.proofs.runs.ports.Given as goal
+use Rattle.daemon_checks.proofs.polls.ports.Given as goal
 
-abbrev pub invariant-loop-wire : goal.invariant-loop-wire
-invariant-loop-wire l =
+abbrev pub invariant-loop-cable : goal.invariant-loop-cable
+invariant-loop-cable l =
     record {
       unused : All IsUnused l.ports.items;
     }

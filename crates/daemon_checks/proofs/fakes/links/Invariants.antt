@@ -1,5 +1,5 @@
 use Rattle.std.proofs.Common.{◌≡◌, [], false, All}
-use Rattle.daemon_checks.proofs.crews.links.Given as goal
+use Rattle.daemon_checks.proofs.fakes.links.Given as goal
 
 abbrev pub invariant-loop-wire : goal.invariant-loop-wire
 invariant-loop-wire l = All (λ link. (link.source.taken ≡ []) × (link.sink.written ≡ []) × (link.finished ≡ false)) l.links.items
