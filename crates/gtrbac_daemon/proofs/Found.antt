@@ -25,7 +25,7 @@ none_said f o e = ap (option_map f) e
 
 -- why a text that the shelf has is not served
 pub text_refused : (hard : Type 0) (contents : Contents) (name text : List ℕ) (end : End) → IsStoredText contents name text → IsEnded text end → Refuses hard contents (Some name) (seen_end end)
-text_refused hard contents name text end is h = inr (text, is, record { told_is = h.told; cause = h.cause })
+text_refused hard contents name text end is h = inr (text, is, h.told, h.cause)
 
 -- no text is judged to end with 4
 pub judged_fine : (text : List ℕ) (end : End) → IsEnded text end → end.status ≡ 4 → ⊥

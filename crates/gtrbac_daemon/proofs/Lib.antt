@@ -6,6 +6,7 @@ pub mod Running
 pub mod Written
 pub mod Paging
 pub mod Told
+pub mod PostLists
 pub mod Posted
 pub mod Found
 pub mod Served

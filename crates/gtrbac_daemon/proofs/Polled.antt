@@ -10,8 +10,7 @@ use Rattle.poll_front.specs.declared.front.RunEnd.{RunEnd}
 use Rattle.connection_laws.specs.Lines.{readings_of, entries_of}
 use Rattle.connection_laws.specs.Connection.{IsTimed}
 use Rattle.poll_front.specs.Fronts.{Turn, all_acted}
-use Rattle.poll_front.specs.Polling.{IsPolledFront}
-use Rattle.poll_front.specs.Tables.{Ran}
+use Rattle.poll_front.specs.Tables.{Ran, IsPolledFront}
 use Rattle.poll_front.proofs.Telling.{front_with}
 use Rattle.gtrbac_daemon.specs.Polls.{polling, HasPolled}
 

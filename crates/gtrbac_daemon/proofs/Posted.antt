@@ -15,7 +15,7 @@ use Rattle.line_server.specs.declared.workers.Worker.{Worker}
 use Rattle.connection_laws.specs.Turns.{IsIdle}
 use Rattle.line_server.specs.Working.{at_post, Works, HasWorked as HasWorkedAt}
 use Rattle.gtrbac_daemon.specs.Crew.{Crewman, crewman, crewmen, IsNew}
-use Rattle.gtrbac_daemon.specs.PostLists.{passes_of, workers_of}
+use Rattle.gtrbac_daemon.proofs.PostLists.{passes_of, workers_of}
 use Rattle.gtrbac_daemon.specs.Headline.{HasWorked, HaveWorked}
 use Rattle.gtrbac_daemon.proofs.Told.{has_worked}
 

@@ -10,7 +10,7 @@ use Rattle.snapshot_readers.specs.Seats.{HaveViewed}
 use Rattle.gtrbac_daemon.specs.Words.{views_named}
 use Rattle.gtrbac_daemon.specs.Crew.{Crewman, is_memory, is_door_fault, is_spent, ends_of, EachOf, SomeOf, IsUnharmed, IsDone, HasFailed, IsSpent}
 use Rattle.gtrbac_daemon.specs.Runs.{Scene, IsDue, IsWell, Answers, Cause, unwritten, own}
-use Rattle.gtrbac_daemon.specs.Views.{Company, as_worker, everybody, status_by, first_late, views_status, AreDone, Compared, seen, unnamed, unseen, ViewHasServed, Lacks, for_somebody, to_name, to_compare, ViewCause, done, memory, failed, spent, late, ViewDues, view_way, RunsViews}
+use Rattle.gtrbac_daemon.specs.Views.{Company, as_worker, everybody, status_by, first_late, views_status, OfAll, Compared, seen, unnamed, unseen, ViewHasServed, Lacks, for_somebody, to_name, to_compare, ViewCause, done, memory, failed, spent, late, ViewDues, view_way, RunsViews}
 use Rattle.gtrbac_daemon.proofs.AnyRuns as Any
 use Rattle.gtrbac_daemon.proofs.Causing.{written_says}
 use Rattle.gtrbac_daemon.proofs.Somebody.{each_both}
@@ -102,7 +102,7 @@ module _ {L : Type 0} (traffic : L → Traffic) (words : List (List ℕ)) (h : L
         Any.by_served (view_way traffic h) (views_named words) s a b (Due n) (λ same. idle (subst (λ (c : Company L). Has (everybody c)) same has)) (λ np birth k. due_at np birth k n by) answers
 
     -- where all are done, a number above the length decides
-    done_at : AreDone a.server b.server → (o : Option ℕ) → above ≡ o → (n : ℕ) → status_by false false false (is_some o) ≡ n → Answers (view_way traffic h) (views_named words) s a b → Due n
+    done_at : OfAll IsDone a.server b.server → (o : Option ℕ) → above ≡ o → (n : ℕ) → status_by false false false (is_some o) ≡ n → Answers (view_way traffic h) (views_named words) s a b → Due n
     done_at x o e n is answers =
         due (EachOf IsDone js) (idle_done js js fresh some) x n (inl (done_told js ks x (is_some above) ∙ ((λ i. status_by false false false (is_some (e i))) ∙ is))) answers
 

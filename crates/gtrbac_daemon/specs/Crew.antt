@@ -1,7 +1,6 @@
 -- Workers before and after a service, and the status of a crew.
-use Rattle.std.specs.Prelude.{◌≡◌, ◌⊎◌, ℕ, Bool, true, false, List, [], ◌∷◌, map}
+use Rattle.std.specs.Prelude.{◌≡◌, ◌⊎◌, ℕ, Bool, true, false, List, [], ◌∷◌, map, Option}
 use Rattle.std.specs.List.{list_any}
-use Rattle.std.specs.declared.option.Option.{Option}
 use Rattle.gt_io.specs.Links.{Doorway}
 use Rattle.gt_io.specs.Causes.{Rose}
 use Rattle.line_server.specs.declared.ended.Served.{Served}

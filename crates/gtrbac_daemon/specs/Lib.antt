@@ -1,7 +1,6 @@
 pub mod Words
 pub mod Crew
 pub mod Begins
-pub mod PostLists
 pub mod Runs
 pub mod Headline
 pub mod Pages

@@ -1,6 +1,5 @@
 -- What a run of the polling server leaves, and how it ends.
-use Rattle.std.specs.Prelude.{◌≡◌, ◌⊎◌, ◌≤◌, ◌<◌, ◌+◌, ◌*◌, ℕ, List, length, slice_get, true, Some, Ok, Err}
-use Rattle.std.specs.declared.option.Option.{Option}
+use Rattle.std.specs.Prelude.{◌≡◌, ◌⊎◌, ◌≤◌, ◌<◌, ◌+◌, ◌*◌, ℕ, List, length, slice_get, true, Some, Ok, Err, Option}
 use Rattle.gt_base.specs.declared.requests.Entry.{Entry}
 use Rattle.gt_base.specs.declared.limits.TheConstants.{MAX_LINKS}
 use Rattle.gt_io.specs.Causes.{Rose}
@@ -15,8 +14,7 @@ use Rattle.poll_front.specs.declared.ends.Polled.{Polled}
 use Rattle.poll_front.specs.declared.front.RunEnd.{RunEnd}
 use Rattle.poll_front.specs.declared.front.RunEnd.TheVariants.{Stopped, PortFault, Enough, Worn, Memory}
 use Rattle.poll_front.specs.Fronts.{all_acted}
-use Rattle.poll_front.specs.Tables.{RunsTo, FaultsAreLast, EndsAreLast, is_worn_end, AreUnwornEnds}
-use Rattle.poll_front.specs.Polling.{IsPolledFront}
+use Rattle.poll_front.specs.Tables.{RunsTo, FaultsAreLast, EndsAreLast, is_worn_end, AreUnwornEnds, IsPolledFront}
 use Rattle.gtrbac_daemon.specs.Words.{poll_named}
 use Rattle.gtrbac_daemon.specs.Runs.{Scene, Headline, IsWritten, Starves, IsDue, Way, Runs}
 

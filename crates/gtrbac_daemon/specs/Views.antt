@@ -1,7 +1,6 @@
 -- What a run of the server with viewers leaves, and how it ends.
-use Rattle.std.specs.Prelude.{◌≡◌, ◌⊎◌, ℕ, ◌==◌, ◌++◌, Bool, List, [], ◌∷◌, map, flat_map, length, None, Some, is_some, nat_lt, codes, decimal, if◌then◌else◌}
+use Rattle.std.specs.Prelude.{◌≡◌, ◌⊎◌, ℕ, ◌==◌, ◌++◌, Bool, List, [], ◌∷◌, map, flat_map, length, None, Some, is_some, nat_lt, codes, decimal, if◌then◌else◌, Option}
 use Rattle.std.specs.List.{list_any}
-use Rattle.std.specs.declared.option.Option.{Option}
 use Rattle.gt_base.specs.declared.requests.Entry.{Entry}
 use Rattle.gt_io.specs.Links.{Traffic}
 use Rattle.policy_words.specs.Naming.{NamedPolicy}
@@ -80,21 +79,13 @@ module _ {L : Type 0} where
       (list_any is_door_fault (ends_of (everybody c))) (list_any is_spent (ends_of (everybody c)))
       (is_some (first_late h c.viewers))
 
-  -- the doors of all were read to their ends
-  abbrev pub AreDone : Company L → Company L → Type 0
-  AreDone c d = EachOf IsDone (everybody c) (everybody d)
+  -- of some of them, before and after
+  abbrev pub OfSome : (Crewman L → Crewman L → Type 0) → Company L → Company L → Type 0
+  OfSome P c d = SomeOf P (everybody c) (everybody d)
 
-  -- no door failed
-  abbrev pub AreSound : Company L → Company L → Type 0
-  AreSound c d = EachOf IsSound (everybody c) (everybody d)
-
-  -- a door failed
-  abbrev pub SomeFailed : Company L → Company L → Type 0
-  SomeFailed c d = SomeOf HasFailed (everybody c) (everybody d)
-
-  -- somebody has served as many links as it may, or a pass is worn
-  abbrev pub SomeSpent : Company L → Company L → Type 0
-  SomeSpent c d = SomeOf IsSpent (everybody c) (everybody d)
+  -- of all of them
+  abbrev pub OfAll : (Crewman L → Crewman L → Type 0) → Company L → Company L → Type 0
+  OfAll P c d = EachOf P (everybody c) (everybody d)
 
 module _ {L : Type 0} (traffic : L → Traffic) (h : List Entry) where
   -- What was told of the viewers, and which status is due. Each viewer's replies are of beginnings
@@ -120,30 +111,32 @@ module _ {L : Type 0} (traffic : L → Traffic) (h : List Entry) where
   -- There was no memory: for a worker or a viewer, to name a number that is above the length, or to
   -- see to the replies of the viewers
   pub data Lacks (c d : Company L) : Type 0 where
-    for_somebody : SomeOf LacksMemory (everybody c) (everybody d) → Lacks c d
-    to_name : (n : ℕ) → AreDone c d → first_late h d.viewers ≡ Some n → Lacks c d
+    for_somebody : OfSome LacksMemory c d → Lacks c d
+    to_name : (n : ℕ) → OfAll IsDone c d → first_late h d.viewers ≡ Some n → Lacks c d
     to_compare : (np : NamedPolicy) (birth : ℕ) → HaveViewed traffic np birth c.viewers d.viewers
         → Lacks c d
 
   module _ (status : ℕ) (a b : Scene (Company L)) where
     -- the statuses of a crew and its viewers, each with its cause
     pub data ViewCause : Type 0 where
-      done : status ≡ 0 → AreDone a.server b.server → first_late h b.server.viewers ≡ None
+      done : status ≡ 0 → OfAll IsDone a.server b.server → first_late h b.server.viewers ≡ None
           → ViewCause
       memory : status ≡ 8 → Lacks a.server b.server ⊎ Starves status a b → ViewCause
-      failed : status ≡ 10 → SomeFailed a.server b.server → ViewCause
-      spent : status ≡ 11 → SomeSpent a.server b.server → AreSound a.server b.server → ViewCause
-      late : (n : ℕ) → status ≡ 14 → AreDone a.server b.server
+      failed : status ≡ 10 → OfSome HasFailed a.server b.server → ViewCause
+      spent : status ≡ 11 → OfSome IsSpent a.server b.server → OfAll IsSound a.server b.server
+          → ViewCause
+      late : (n : ℕ) → status ≡ 14 → OfAll IsDone a.server b.server
           → first_late h b.server.viewers ≡ Some n → ViewCause
 
     -- and each cause with its status; but for an output that failed, and want of memory
     pub record ViewDues : Type 0 where
-      pub failed_is : SomeFailed a.server b.server → IsDue (Lacks a.server b.server) status a b 10
-      pub spent_is : SomeSpent a.server b.server → AreSound a.server b.server
+      pub failed_is : OfSome HasFailed a.server b.server
+          → IsDue (Lacks a.server b.server) status a b 10
+      pub spent_is : OfSome IsSpent a.server b.server → OfAll IsSound a.server b.server
           → IsDue (Lacks a.server b.server) status a b 11
-      pub late_is : (n : ℕ) → AreDone a.server b.server → first_late h b.server.viewers ≡ Some n
-          → IsDue (Lacks a.server b.server) status a b 14
-      pub done_is : AreDone a.server b.server → first_late h b.server.viewers ≡ None
+      pub late_is : (n : ℕ) → OfAll IsDone a.server b.server
+          → first_late h b.server.viewers ≡ Some n → IsDue (Lacks a.server b.server) status a b 14
+      pub done_is : OfAll IsDone a.server b.server → first_late h b.server.viewers ≡ None
           → IsDue (Lacks a.server b.server) status a b 0
 
   -- no door failed, nor is a worker or a viewer spent, in a run that goes well
@@ -153,7 +146,7 @@ module _ {L : Type 0} (traffic : L → Traffic) (h : List Entry) where
         HasServed = ViewHasServed;
         OwnCause = ViewCause;
         OwnDues = ViewDues;
-        IsUnharmed = λ c d. EachOf IsUnharmed (everybody c) (everybody d);
+        IsUnharmed = OfAll IsUnharmed;
         IsGood = λ status. (status ≡ 0) ⊎ (status ≡ 8) ⊎ (status ≡ 14);
       }
 

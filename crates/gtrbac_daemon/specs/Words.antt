@@ -1,6 +1,6 @@
 -- What the words of the server say, and what keeps it from serving.
 use Rattle.std.specs.Prelude.{◌≡◌, ◌⊎◌, ℕ, List, [], ◌∷◌, Option, Some, None, Ok, Err, IfSome, IsSomeAnd, codes, bytes_eq, if◌then◌else◌}
-use Rattle.gt_io.specs.Shelf.{Contents, Stock, Lacks, AsksOnce}
+use Rattle.gt_io.specs.Shelf.{Contents, Stock, AsksOnce}
 use Rattle.gt_text.specs.Words.{begins_with}
 use Rattle.policy_words.specs.Naming.{NamedPolicy}
 use Rattle.policy_commands.specs.Ends.{EndView, told}
@@ -30,18 +30,15 @@ mode_named (verb ∷ name ∷ []) =
     else if bytes_eq verb (codes "poll") then Poll else Plain
 mode_named _ = Plain
 
--- the text has a fault, with status 2, or is of a policy that is not safe, with status 3
-pub record IsTextRefused (text : List ℕ) (t : EndView) : Type 0 where
-  pub told_is : safe_in text ≡ Err t
-  pub cause : ((t.status ≡ 2) × HasTextFault text) ⊎ ((t.status ≡ 3) × IsUnsafeText text)
-
 -- What keeps the server from serving. The words come first; then the shelf failed or has no such
--- text, or the text is too long; or the text is refused
+-- text, or the text is too long; or the text has a fault, with status 2, or is of a policy that is
+-- not safe, with status 3
 abbrev pub Refuses : Type 0 → Contents → Option (List ℕ) → EndView → Type 0
 Refuses hard contents None t = t ≡ usage
 Refuses hard contents (Some name) t =
     MissesText hard contents name t
-    ⊎ ((text : List ℕ) × IsStoredText contents name text × IsTextRefused text t)
+    ⊎ ((text : List ℕ) × IsStoredText contents name text × (safe_in text ≡ Err t)
+    × (((t.status ≡ 2) × HasTextFault text) ⊎ ((t.status ≡ 3) × IsUnsafeText text)))
 
 -- the text of the name is of a safe policy
 abbrev pub Admits : Contents → Option (List ℕ) → NamedPolicy → Type 0
@@ -58,15 +55,6 @@ pub record IsSearched (a b : Stock) : Type 0 where
 abbrev pub HasText : Option (List ℕ) → Contents → (List ℕ → Type 0) → Type 0
 HasText name contents Holds =
     IfSome contents (λ text_of. IsSomeAnd name (λ n. IsSomeAnd (text_of n) Holds))
-
--- the shelf tells its texts, and this one has the name that is said
-abbrev pub TellsText : Option (List ℕ) → Contents → List ℕ → Type 0
-TellsText name contents text =
-    IsSomeAnd contents (λ text_of. IsSomeAnd name (λ n. text_of n ≡ Some text))
-
--- the shelf tells that it has no text of the name that is said
-abbrev pub LacksText : Option (List ℕ) → Contents → Type 0
-LacksText name contents = IsSomeAnd name (λ n. Lacks contents n)
 
 -- the words are `views` and the name of a policy, which does not begin with `-`
 abbrev pub views_named : List (List ℕ) → Option (List ℕ)

@@ -1,6 +1,5 @@
 //! Workers and passes, to their posts and back.
-ghost use Rattle.std.specs.Prelude.{◌≡◌, ◌+◌, ◌<◌, ◌≤◌, [], length, reverse, vec_len, vec_capacity};
-ghost use Rattle.gtrbac_daemon.specs.PostLists.{passes_of, workers_of};
+ghost use Rattle.std.specs.Prelude.{◌≡◌, ◌+◌, ◌<◌, ◌≤◌, [], length, map, reverse, vec_len, vec_capacity};
 
 use gt_io::{Clock, Door, Gate};
 use line_server::{Post, Worker};
@@ -15,8 +14,8 @@ pub(crate) fn man<M, D: Door, C: Clock, G: Gate>(
     requires empty { posts.old.items ≡ [] }
     requires pairs { length passes.old.items ≡ length crew.old.items }
     requires room { length crew.old.items ≤ vec_capacity posts.old }
-    ensures passes_are { reverse (passes_of posts.new.items) ≡ passes.old.items }
-    ensures workers_are { reverse (workers_of posts.new.items) ≡ crew.old.items }
+    ensures passes_are { reverse (map (λ p. p.pass) posts.new.items) ≡ passes.old.items }
+    ensures workers_are { reverse (map (λ p. p.worker) posts.new.items) ≡ crew.old.items }
     ensures passes_left { (passes.new.items ≡ [])
         × (passes.new.spare ≡ passes.old.spare + length passes.old.items) }
     ensures crew_left { (crew.new.items ≡ []) × (vec_capacity crew.new ≡ vec_capacity crew.old) }
@@ -37,8 +36,8 @@ pub(crate) fn relieve<M, D: Door, C: Clock, G: Gate>(
     requires empty { (passes.old.items ≡ []) × (crew.old.items ≡ []) }
     requires passes_room { vec_len posts ≤ passes.old.spare }
     requires crew_room { vec_len posts ≤ vec_capacity crew.old }
-    ensures passes_are { passes.new.items ≡ reverse (passes_of posts.items) }
-    ensures crew_is { crew.new.items ≡ reverse (workers_of posts.items) }
+    ensures passes_are { passes.new.items ≡ reverse (map (λ p. p.pass) posts.items) }
+    ensures crew_is { crew.new.items ≡ reverse (map (λ p. p.worker) posts.items) }
 {
     while let Some(post) = posts.pop() {
         let Post { worker, pass } = post;

@@ -44,8 +44,7 @@ fn poll_and_close<R: Wait, P: Ports, C: Clock, G: Gate>(
     ends: &mut List<Polled>,
 ) -> (Ledger, RunEnd)
     requires desk { IsNewDesk policy.now 1 desk passes.items }
-    requires none { ends.old.items ≡ [] }
-    requires ports { IsUncalled (P.harbour ports.old) }
+    requires fresh { IsUncalled (P.harbour ports.old) × (ends.old.items ≡ []) }
     ensures root { (result.0.named ≡ policy.now) × (result.0.birth ≡ desk.root.birth) }
     ensures headline { Headline policy.now desk.root.birth result.0.entries 1
         (HasPolled policy.now desk.root.birth result.0.entries
@@ -94,8 +93,7 @@ fn poll_serve<R: Wait, B: Clock, P: Ports, C: Clock, G: Gate, K: Sink>(
     ends: &mut List<Polled>,
     out: &mut K,
 ) -> u8
-    requires none { ends.old.items ≡ [] }
-    requires ports { IsUncalled (P.harbour ports.old) }
+    requires fresh { IsUncalled (P.harbour ports.old) × (ends.old.items ≡ []) }
     ensures { (stock stock' : Stock) → Serves poll_way safe result
         (scene stock (B.readings birth.old)
         (polling (C.readings clock.old) (P.harbour ports.old) ends.old.items) (K.output out.old))

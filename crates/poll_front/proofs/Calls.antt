@@ -16,7 +16,7 @@ use Rattle.poll_front.specs.declared.ends.PollEnd.{PollEnd}
 use Rattle.poll_front.specs.declared.states.LinkState.{LinkState}
 use Rattle.poll_front.specs.declared.states.Yield.{Yield}
 use Rattle.poll_front.specs.declared.states.Yield.TheVariants.{Later, End}
-use Rattle.poll_front.specs.Fronts.{IsLive, CallsOn, faults_by, faults_of, ended_by, ended_of, waiting_bytes, Pushed, Filled, FillsUp}
+use Rattle.poll_front.specs.Fronts.{IsLive, CallsOn, faults_by, ended_by, waiting_bytes, Pushed, Filled, FillsUp}
 
 pub rest_twice : {a b d : Harbour} {c : ℕ} → KeepsRest a b c → KeepsRest b d c → KeepsRest a d c
 rest_twice x y =
@@ -89,17 +89,17 @@ given_grows start p q front text at n given more =
     subst (λ (l : List ℕ). Appends start q l) (append_assoc front (take at text) (take n (drop at text)) ∙ ap (λ (l : List ℕ). front ++ l) (sym (take-add at n text)))
     (Appends-trans start p q (front ++ take at text) (take n (drop at text)) given more)
 
-write_faults : (before now : ℕ) (q : Port) (result : Result Took Failed) → q.last ≡ Wrote result → FailsOnce before now result → now ≤ before + faults_of q
+write_faults : (before now : ℕ) (q : Port) (result : Result Took Failed) → q.last ≡ Wrote result → FailsOnce before now result → now ≤ before + faults_by q.last
 write_faults before now q (Ok t) is x = let kept : now ≡ before = x.kept in omega (arith, kept)
-write_faults before now q (Err f) is x = let once : now ≡ one_more before = x.once in let one : faults_of q ≡ 1 = ap faults_by is in omega (arith, once, one)
+write_faults before now q (Err f) is x = let once : now ≡ one_more before = x.once in let one : faults_by q.last ≡ 1 = ap faults_by is in omega (arith, once, one)
 
-read_faults : (before now : ℕ) (q : Port) (result : Result Got Failed) → q.last ≡ Read result → FailsOnce before now result → now ≤ before + faults_of q
+read_faults : (before now : ℕ) (q : Port) (result : Result Got Failed) → q.last ≡ Read result → FailsOnce before now result → now ≤ before + faults_by q.last
 read_faults before now q (Ok t) is x = let kept : now ≡ before = x.kept in omega (arith, kept)
-read_faults before now q (Err f) is x = let once : now ≡ one_more before = x.once in let one : faults_of q ≡ 1 = ap faults_by is in omega (arith, once, one)
+read_faults before now q (Err f) is x = let once : now ≡ one_more before = x.once in let one : faults_by q.last ≡ 1 = ap faults_by is in omega (arith, once, one)
 
-read_ends : (before now : ℕ) (q : Port) (result : Result Got Failed) → q.last ≡ Read result → now ≡ ends_by result before → now ≤ before + ended_of q
+read_ends : (before now : ℕ) (q : Port) (result : Result Got Failed) → q.last ≡ Read result → now ≡ ends_by result before → now ≤ before + ended_by q.last
 read_ends before now q (Ok (GotBytes n)) is x = omega (arith, x)
-read_ends before now q (Ok Finished) is x = let one : ended_of q ≡ 1 = ap ended_by is in omega (arith, x, one)
+read_ends before now q (Ok Finished) is x = let one : ended_by q.last ≡ 1 = ap ended_by is in omega (arith, x, one)
 read_ends before now q (Ok GotNotYet) is x = omega (arith, x)
 read_ends before now q (Err f) is x = omega (arith, x)
 

@@ -7,7 +7,7 @@ use Rattle.gt_io.specs.declared.port.Called.{Called}
 use Rattle.poll_front.specs.Tables.{count_among}
 
 -- what the first n links have shown is told by their last calls
-pub shown_same : (by : Called → ℕ) (f g : ℕ → Port) (n : ℕ) → ((k : ℕ) → 1 ≤ k → k ≤ n → (g k).last ≡ (f k).last) → count_among (λ q. by q.last) g n ≡ count_among (λ q. by q.last) f n
+pub shown_same : (by : Called → ℕ) (f g : ℕ → Port) (n : ℕ) → ((k : ℕ) → 1 ≤ k → k ≤ n → (g k).last ≡ (f k).last) → count_among by g n ≡ count_among by f n
 shown_same by f g zero same = refl
 shown_same by f g (suc n) same =
     let before = shown_same by f g n (λ k first low. same k first (omega (arith, low))) in
@@ -16,7 +16,7 @@ shown_same by f g (suc n) same =
 
 -- and where one link had calls, by those of that link
 pub shown_moved : (by : Called → ℕ) (f g : ℕ → Port) (c n : ℕ) → 1 ≤ c → c ≤ n → ((k : ℕ) → k ≢ c → (g k).last ≡ (f k).last)
-    → count_among (λ q. by q.last) g n + by (f c).last ≡ count_among (λ q. by q.last) f n + by (g c).last
+    → count_among by g n + by (f c).last ≡ count_among by f n + by (g c).last
 shown_moved by f g c zero first within same = absurd (omega (arith, first, within))
 shown_moved by f g c (suc n) first within same =
     dite (ℕ_discrete c (n + 1)) (λ here.

@@ -15,8 +15,7 @@ use Rattle.connection_laws.proofs.Places.{part_of-part}
 use Rattle.poll_front.specs.declared.ends.Polled.{Polled}
 use Rattle.poll_front.specs.Fronts.{Turn, FrontSpot, front_spot, acted_of, all_acted, port_bytes, course, EndsLink, Running}
 use Rattle.poll_front.specs.declared.front.RunEnd.{RunEnd}
-use Rattle.poll_front.specs.Tables.{IsBlank, IsLetIn, IsLetGo, Ran, first_spot}
-use Rattle.poll_front.specs.Polling.{IsPolledLink, IsPolledFront}
+use Rattle.poll_front.specs.Tables.{IsBlank, IsLetIn, IsLetGo, Ran, first_spot, IsPolledLink, IsPolledFront}
 use Rattle.poll_front.proofs.Turning.{part_turns}
 
 module _ {M : Type 0} (np : NamedPolicy) (legal : List Entry → Type 0) (now : List Entry → ℕ) (birth : ℕ) (timed : IsTimed birth legal now) (h : List Entry) (o p : FrontSpot M) (turns : List Turn) (g : Running (service np [] legal now) o p turns) (fresh : o.pass.own ≡ [])

@@ -1,6 +1,5 @@
 -- What a front keeps from line to line.
-use Rattle.std.specs.Prelude.{◌≡◌, ◌⊎◌, ℕ, ◌+◌, ◌*◌, ◌^◌, ◌<◌, ◌≤◌, ◌==◌, false, List, [], ◌∷◌, ◌++◌, ◌-◌, length, take, drop, OnOk, Result, Ok, Err, if◌then◌else◌}
-use Rattle.std.specs.declared.option.Option.{Option}
+use Rattle.std.specs.Prelude.{◌≡◌, ◌⊎◌, ℕ, ◌+◌, ◌*◌, ◌^◌, ◌<◌, ◌≤◌, ◌==◌, false, List, [], ◌∷◌, ◌++◌, ◌-◌, length, take, drop, OnOk, Option, Result, Ok, Err, if◌then◌else◌}
 use Rattle.std.specs.Io.KnownBytes.{Appends, Consumes, IsAtEnd}
 use mathlib.Core.List.{IsPrefix}
 use Rattle.gt_base.specs.declared.requests.Entry.{Entry}
@@ -81,7 +80,7 @@ port_bytes q = record { left = q.left; taken = q.taken; given = q.given }
 abbrev pub course : Port → Course
 course q = record { bytes = port_bytes q; last = q.last; others = q.others }
 
--- how many faults a link has shown: one where its last call failed
+-- how many faults a link has shown, by its last call: one where that failed
 abbrev pub faults_by : Called → ℕ
 faults_by Nothing = 0
 faults_by (Read (Ok g)) = 0
@@ -89,10 +88,7 @@ faults_by (Read (Err f)) = 1
 faults_by (Wrote (Ok t)) = 0
 faults_by (Wrote (Err f)) = 1
 
-abbrev pub faults_of : Port → ℕ
-faults_of q = faults_by q.last
-
--- how many ends a link has told: one where its last call told it
+-- how many ends a link has told, by its last call: one where that told it
 abbrev pub ended_by : Called → ℕ
 ended_by Nothing = 0
 ended_by (Read (Ok (GotBytes n))) = 0
@@ -100,9 +96,6 @@ ended_by (Read (Ok Finished)) = 1
 ended_by (Read (Ok GotNotYet)) = 0
 ended_by (Read (Err f)) = 0
 ended_by (Wrote t) = 0
-
-abbrev pub ended_of : Port → ℕ
-ended_of q = ended_by q.last
 
 -- the link is open, and has not come to its end
 pub record IsLive (a : Harbour) (c : ℕ) : Type 0 where
@@ -116,8 +109,8 @@ pub record CallsOn (a b : Harbour) (c : ℕ) (result : Result (Unit {0}) Yield) 
   pub finished : (b.port c).finished ≡ (a.port c).finished
   pub others : (b.port c).others ≡ (a.port c).others
   pub later : a.faults ≤ b.faults
-  pub faults : b.faults ≤ a.faults + faults_of (b.port c)
-  pub ends : b.ends ≤ a.ends + ended_of (b.port c)
+  pub faults : b.faults ≤ a.faults + faults_by (b.port c).last
+  pub ends : b.ends ≤ a.ends + ended_by (b.port c).last
   pub live : OnOk result (is_over (b.port c).last ≡ false)
   pub unowed : result ≡ Err Later → (b.port c).owed ≡ false
 

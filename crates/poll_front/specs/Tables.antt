@@ -1,21 +1,19 @@
--- The table of links.
-use Rattle.std.specs.Prelude.{◌≡◌, ℕ, zero, suc, ◌+◌, ◌^◌, ◌<◌, ◌≤◌, Bool, true, false, List, [], ◌++◌, map, length, take, slice_get, Some, None, Ok, Err, MatchOption}
-use Rattle.std.specs.declared.option.Option.{Option}
-use Rattle.std.specs.declared.result.Result.{Result}
+-- The table of links, and what each link is told over the history of its closed desk.
+use Rattle.std.specs.Prelude.{◌≡◌, ℕ, zero, suc, ◌+◌, ◌^◌, ◌<◌, ◌≤◌, Bool, true, false, List, [], ◌++◌, map, length, take, slice_get, Option, Some, None, Result, Ok, Err, MatchOption}
 use Rattle.gt_base.specs.declared.requests.Entry.{Entry}
 use Rattle.gt_base.specs.declared.requests.Actor.TheVariants.{Nobody}
 use Rattle.gt_base.specs.declared.limits.TheConstants.{MAX_BYTES, MAX_LINKS}
-use Rattle.turn_lock.specs.Turns.{Each}
-use Rattle.turn_lock.specs.Holders.{Holder}
+use Rattle.turn_lock.specs.Turns.{Each, part}
+use Rattle.turn_lock.specs.Holders.{Holder, IsToldBy}
 use Rattle.policy_words.specs.Naming.{NamedPolicy}
 use Rattle.gt_io.specs.Frames.{blank_frame}
 use Rattle.gt_io.specs.Causes.{Rose}
-use Rattle.gt_io.specs.Links.{IsNothing}
+use Rattle.gt_io.specs.Links.{IsNothing, Reads}
 use Rattle.gt_io.specs.declared.source.Failed.{Failed}
 use Rattle.connection_laws.specs.declared.talk.LineAnswer.TheVariants.{Silence}
-use Rattle.connection_laws.specs.Lines.{Acted}
+use Rattle.connection_laws.specs.Lines.{Acted, readings_of, entries_of, asked_in, denied_in}
 use Rattle.connection_laws.specs.Services.{Service, service}
-use Rattle.connection_laws.specs.Attending.{Bytes}
+use Rattle.connection_laws.specs.Attending.{Bytes, Carries}
 use Rattle.poll_front.specs.declared.ends.Polled.{Polled}
 use Rattle.poll_front.specs.declared.ends.PollEnd.{PollEnd}
 use Rattle.poll_front.specs.declared.ends.PollEnd.TheVariants.{Full, Stopped, Worn}
@@ -28,8 +26,13 @@ use Rattle.poll_front.specs.declared.seats.Seat.TheVariants.{New, Open, Over}
 use Rattle.gt_io.specs.declared.port.PortEvent.{PortEvent}
 use Rattle.gt_io.specs.declared.port.PortEvent.TheVariants.{Opened, Ready, Stop}
 use Rattle.gt_io.specs.Ports.{Port, Harbour, IsOpen, is_over, KeepsRest, open_among}
-use Rattle.poll_front.specs.Fronts.{Turn, FrontSpot, front_spot, acted_of, faults_of, ended_of, port_bytes, course, Rests, EndsLink, HasOwnEnd, polled_as, CanServe, Running}
+use Rattle.poll_front.specs.Fronts.{Turn, FrontSpot, front_spot, acted_of, faults_by, ended_by, port_bytes, course, Rests, EndsLink, HasOwnEnd, polled_as, CanServe, Running, all_acted, EndsAs, PollsBy}
 use Rattle.poll_front.specs.declared.front.TheConstants.{MAX_OPEN}
+use Rattle.gt_base.specs.declared.requests.Who.{Who}
+use Rattle.gt_io.specs.declared.port.Called.{Called}
+use Rattle.locked_history.specs.Fronts.{by}
+use Rattle.connection_laws.specs.declared.ends.LinkEnd.{LinkEnd}
+use Rattle.connection_laws.specs.Connection.{part_of, IsTimed, Conn}
 
 -- the state of a link before its first byte
 pub record IsFreshState (s : LinkState) : Type 0 where
@@ -89,10 +92,10 @@ MayGoOn (Some (Ok (Ready c))) = Unit {0}
 MayGoOn (Some (Ok Stop)) = ⊥
 MayGoOn (Some (Err f)) = ⊥
 
--- how many of these the first n links have shown
-abbrev pub count_among : (Port → ℕ) → (ℕ → Port) → ℕ → ℕ
+-- how many of these the first n links have shown, each by its last call
+abbrev pub count_among : (Called → ℕ) → (ℕ → Port) → ℕ → ℕ
 count_among one port zero = 0
-count_among one port (suc n) = count_among one port n + one (port (n + 1))
+count_among one port (suc n) = count_among one port n + one (port (n + 1)).last
 
 -- and `next`, as it was last called
 abbrev pub faults_told : Option (Result PortEvent Failed) → ℕ
@@ -104,11 +107,11 @@ faults_told (Some (Err f)) = 1
 -- count rose by no more than these
 abbrev pub FaultsAreLast : Harbour → Harbour → Type 0
 FaultsAreLast start b =
-    b.faults ≤ start.faults + (count_among faults_of b.port b.opened + faults_told b.told)
+    b.faults ≤ start.faults + (count_among faults_by b.port b.opened + faults_told b.told)
 
 -- Each read that told the end of a link is its last call: the count rose by no more than these
 abbrev pub EndsAreLast : Harbour → Harbour → Type 0
-EndsAreLast start b = b.ends ≤ start.ends + count_among ended_of b.port b.opened
+EndsAreLast start b = b.ends ≤ start.ends + count_among ended_by b.port b.opened
 
 abbrev pub is_worn_end : PollEnd → Bool
 is_worn_end (Worn n) = true
@@ -191,8 +194,8 @@ module _ {M : Type 0} (v : Service) where
     pub rest : KeepsRest a b c
     pub others : (b.port c).others ≡ (a.port c).others
     pub later : a.faults ≤ b.faults
-    pub faults : b.faults + faults_of (a.port c) ≤ a.faults + faults_of (b.port c)
-    pub ends : b.ends + ended_of (a.port c) ≤ a.ends + ended_of (b.port c)
+    pub faults : b.faults + faults_by (a.port c).last ≤ a.faults + faults_by (b.port c).last
+    pub ends : b.ends + ended_by (a.port c).last ≤ a.ends + ended_by (b.port c).last
     pub ended : MatchOption result ((b.port c).finished ≡ (a.port c).finished)
         (λ end. ((a.port c).finished ≡ None) × ((n : ℕ) × ((b.port c).finished ≡ Some n)))
     pub over : (end : PollEnd) → result ≡ Some end
@@ -249,3 +252,47 @@ pub record Ran {M : Type 0} (np : NamedPolicy) (first : List Entry)
   pub runs : RunsTo start b after.draws polled end
   pub faults : FaultsAreLast start b
   pub ends : EndsAreLast start b
+
+-- the link is a connection over the history, with its part of it as its own entries, that ends so
+abbrev pub PollConn : NamedPolicy → ℕ → Who → List Entry → List ℕ → List ℕ → List Acted → Called
+    → PollEnd → Type 0
+PollConn np birth who h taken given acted last outcome =
+    (end : LinkEnd) × EndsAs outcome taken given acted last end
+    × Conn np birth who h 0 taken (readings_of acted) (part_of who h) given acted end
+
+-- link c came to this, from its begin as `start` to its end as `now`
+pub record IsPolledLink (np : NamedPolicy) (birth : ℕ) (h : List Entry) (nexts c : ℕ)
+    (start now : Port) (e : Polled) (acted : List Acted) : Type 0 where
+  pub taken : List ℕ
+  pub given : List ℕ
+  pub fresh : IsBlank start
+  pub conn : PollConn np birth (by 0 c) h taken given acted now.last e.outcome
+  pub asked : e.asked ≡ asked_in acted
+  pub denied : e.denied ≡ denied_in acted
+  pub carries : Carries (port_bytes start) (port_bytes now) taken given
+  pub cause : PollsBy (course now) taken e.outcome
+  pub let_in : IsLetIn now.others e.outcome
+  pub let_go : IsLetGo nexts now.finished e.outcome
+
+-- All links: their lines were acted on in the order of these turns, which have the latest first;
+-- the readings of the clock and the history's entries are those of the turns, one after the other
+pub record IsPolledFront (np : NamedPolicy) (birth : ℕ) (h : List Entry)
+    (clock clock' : Option (ℕ → ℕ)) (start now : Harbour) (ends : List Polled) : Type 0 where
+  pub turns : List Turn
+  pub count : length ends ≡ now.opened
+  pub links : (i : ℕ) (e : Polled) → slice_get ends i ≡ Some e
+      → IsPolledLink np birth h now.nexts (i + 1) (start.port (i + 1)) (now.port (i + 1)) e
+      (acted_of (i + 1) turns)
+  pub range : Each (λ (t : Turn). (1 ≤ t.link) × (t.link ≤ now.opened)) turns
+  pub readings : Reads clock clock' (readings_of (all_acted turns))
+  pub entries : part 0 h ≡ entries_of (all_acted turns)
+
+-- what a front has come to is told over each history of which its pass knows the part
+abbrev pub IsTellingOfFronts : (M : Type 0) → NamedPolicy → (List Entry → Type 0) → (List Entry → ℕ)
+    → Type 0
+IsTellingOfFronts M np legal now =
+    (birth : ℕ) → IsTimed birth legal now
+    → (h : List Entry) (before after : Holder M) (clock clock' : Option (ℕ → ℕ))
+    (start b : Harbour) (ends : List Polled) (end : RunEnd)
+    → Ran np [] legal now 0 before after clock clock' start b ends end → before.own ≡ []
+    → after.number ≡ 0 → IsToldBy [] h after → IsPolledFront np birth h clock clock' start b ends

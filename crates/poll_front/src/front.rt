@@ -2,7 +2,6 @@
 //! served until it is left for another.
 ghost use Rattle.std.specs.Prelude.{◌≡◌, ◌≤◌, ◌<◌, ◌+◌, ◌++◌, ◌∷◌, [], length, vec_len, vec_capacity, OnOk};
 ghost use Rattle.turn_lock.specs.Holders.{site_of};
-ghost use Rattle.connection_laws.specs.Desks.{MayBeAsked, RepliesCanBeTold};
 ghost use Rattle.connection_laws.specs.Services.{service_at};
 ghost use Rattle.connection_laws.specs.Turns.{IsIdle, CanAsk, CanAskFrom, StaysIdle};
 ghost use Rattle.gt_io.specs.Ports.{IsOpen, IsUncalled, Finishes};
@@ -245,9 +244,7 @@ pub fn run<M: Machine, R: Wait, P: Ports, C: Clock, G: Gate>(
     clock: &mut C,
     ends: &mut List<Polled>,
 ) -> RunEnd
-    requires idle { IsIdle (site_of server.now.desk.now) pass.old }
-    requires named { MayBeAsked server.now.policy.now (M.named server.now.desk.now.root) }
-    requires replies { RepliesCanBeTold server.now.policy.now (M.legal server.now.desk.now.root) }
+    requires ready { CanAsk M.named M.legal server.now.desk.now server.now.policy.now pass.old }
     requires none { ends.old.items ≡ [] }
     requires ports { IsUncalled (P.harbour ports.old) }
     ensures ran { Ran server.now.policy.now (M.list server.now.desk.now.root)

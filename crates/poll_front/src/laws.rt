@@ -1,6 +1,6 @@
 //! The law that the links of a front are told over the whole history.
 ghost use Rattle.policy_words.specs.Naming.{NamedPolicy};
-ghost use Rattle.poll_front.specs.Polling.{IsTellingOfFronts};
+ghost use Rattle.poll_front.specs.Tables.{IsTellingOfFronts};
 
 use gt_base::Machine;
 

@@ -1,5 +1,5 @@
 use Rattle.std.proofs.Common.{◌≡◌, ◌+◌, ◌≤◌, ◌++◌, length, reverse, vec_len, vec_capacity}
-use Rattle.gtrbac_daemon.specs.PostLists.{passes_of, workers_of}
+use Rattle.gtrbac_daemon.proofs.PostLists.{passes_of, workers_of}
 use Rattle.gtrbac_daemon.proofs.crews.man.Given as goal
 
 abbrev pub invariant-loop-pass : goal.invariant-loop-pass

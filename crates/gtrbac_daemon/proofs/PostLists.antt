@@ -1,5 +1,5 @@
 -- The passes and the workers of a list of posts.
-use Rattle.std.specs.Prelude.{List, map}
+use Rattle.std.proofs.Common.{List, map}
 use Rattle.turn_lock.specs.Holders.{Holder}
 use Rattle.line_server.specs.declared.posts.Post.{Post}
 use Rattle.line_server.specs.declared.workers.Worker.{Worker}
