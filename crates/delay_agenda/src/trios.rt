@@ -15,7 +15,7 @@ use crate::twins::{
 use gt_base::{Happened, Instant, Memory};
 
 /// How many pairs the long row has at least when it is merged into the far one.
-const MORE: usize = 16_384;
+const MORE: usize = 2_048;
 
 /// Merges the long and the short row into the far one, if the long one has grown: past a number,
 /// and past a part of the far one. For want of memory it may refuse; nothing is changed then.
@@ -31,7 +31,7 @@ fn gather(
     ensures capacity { vec_capacity short.old ≤ vec_capacity short.new }
     ensures len { vec_len short.new ≤ vec_len short.old }
 {
-    if long.len() >= MORE && long.len() >= far.len() / 32 {
+    if long.len() >= MORE && long.len() >= far.len() / 512 {
         let near = merged(*far.allocator(), long, short)?;
         *far = merged(*far.allocator(), far, &near)?;
         long.clear();
