@@ -1,5 +1,5 @@
-//! A board as a machine: its steps are those of its ledger. What they add is published behind each
-//! request, behind the last of the ticks that bring a line to its minute, and behind many of them.
+//! A board as a machine: its steps are those of its ledger. What they add is published behind what
+//! may change an answer, behind the last tick of a line, and behind many other steps.
 
 use crate::board::Board;
 use crate::guide::only_looks;
