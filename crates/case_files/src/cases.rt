@@ -38,7 +38,7 @@ impl From<AllocError> for Fault {
 
 /// The text of a case to which lines are added.
 #[derive(Clone, Copy)]
-pub(crate) enum Part {
+pub(crate) enum CasePart {
     Policy,
     Script,
     Replies,
@@ -54,13 +54,13 @@ pub(crate) enum Failing {
 
 /// What a line says.
 #[derive(Clone, Copy)]
-pub(crate) enum Said<'a> {
+pub(crate) enum CaseLine<'a> {
     Nothing,
     Unread,
     Case(&'a [u8]),
     Words(&'a [u8]),
     Status(u8),
-    Of(Part),
+    Of(CasePart),
     Text(&'a [u8]),
     Repeated(Repeated<'a>),
     Room(u32),
@@ -80,7 +80,7 @@ pub struct Case {
     pub shelf_fails: u32,
     pub input_fails: u32,
     pub output_fails: u32,
-    part: Part,
+    part: CasePart,
 }
 
 /// The room of an output where none is said.
@@ -104,7 +104,7 @@ impl Case {
             shelf_fails: 0,
             input_fails: 0,
             output_fails: 0,
-            part: Part::Policy,
+            part: CasePart::Policy,
         })
     }
 }
@@ -123,71 +123,71 @@ fn cut(line: &[u8]) -> (&[u8], &[u8]) {
 }
 
 /// The status that is wanted, 0 to 255.
-fn read_status(text: &[u8]) -> Said<'_> {
+fn read_status(text: &[u8]) -> CaseLine<'_> {
     match read_between(0, 255, text) {
-        Some(n) => Said::Status(n as u8),
-        None => Said::Unread,
+        Some(n) => CaseLine::Status(n as u8),
+        None => CaseLine::Unread,
     }
 }
 
 /// A line that stands for lines: the two bounds of its `{i}`, and its text behind them.
-fn read_repeated<'a>(text: &'a [u8], end: &'a [u8]) -> Said<'a> {
+fn read_repeated<'a>(text: &'a [u8], end: &'a [u8]) -> CaseLine<'a> {
     let (from, rest) = cut(text);
     let (to, text) = cut(rest);
     match (
         read_between(0, 20_000_000, from),
         read_between(0, 20_000_000, to),
     ) {
-        (Some(from), Some(to)) => Said::Repeated(Repeated {
+        (Some(from), Some(to)) => CaseLine::Repeated(Repeated {
             from,
             to,
             text,
             end,
         }),
-        _ => Said::Unread,
+        _ => CaseLine::Unread,
     }
 }
 
 /// `fails N`: the call of this side that is to fail, from 1; 0 is none.
-fn read_fails(failing: Failing, text: &[u8]) -> Said<'_> {
+fn read_fails(failing: Failing, text: &[u8]) -> CaseLine<'_> {
     match cut(text) {
         (b"fails", number) => match read_between(0, 20_000_000, number) {
-            Some(n) => Said::Fails(failing, n),
-            None => Said::Unread,
+            Some(n) => CaseLine::Fails(failing, n),
+            None => CaseLine::Unread,
         },
-        _ => Said::Unread,
+        _ => CaseLine::Unread,
     }
 }
 
 /// How many bytes the output takes before it fails.
-fn read_room(text: &[u8]) -> Said<'_> {
+fn read_room(text: &[u8]) -> CaseLine<'_> {
     match read_between(0, ROOM, text) {
-        Some(n) => Said::Room(n),
-        None => Said::Unread,
+        Some(n) => CaseLine::Room(n),
+        None => CaseLine::Unread,
     }
 }
 
 /// The head of a part, which stands alone on its line.
-fn read_part(part: Part, rest: &[u8]) -> Said<'_> {
+fn read_part(part: CasePart, rest: &[u8]) -> CaseLine<'_> {
     if rest.is_empty() {
-        Said::Of(part)
+        CaseLine::Of(part)
     } else {
-        Said::Unread
+        CaseLine::Unread
     }
 }
 
 /// What a line with a first word says.
-fn read_words<'a>(word: &'a [u8], rest: &'a [u8]) -> Said<'a> {
+fn read_words<'a>(word: &'a [u8], rest: &'a [u8]) -> CaseLine<'a> {
     match word {
-        b"case" => Said::Case(rest),
-        b"words" => Said::Words(rest),
+        b"case" => CaseLine::Case(rest),
+        b"words" => CaseLine::Words(rest),
         b"status" => read_status(rest),
-        b"policy" => read_part(Part::Policy, rest),
-        b"script" => read_part(Part::Script, rest),
-        b"replies" => read_part(Part::Replies, rest),
+        b"policy" => read_part(CasePart::Policy, rest),
+        b"script" => read_part(CasePart::Script, rest),
+        b"replies" => read_part(CasePart::Replies, rest),
         b"lines" => read_repeated(rest, b"\n"),
         b"joined" => read_repeated(rest, b""),
-        b"text" => Said::Repeated(Repeated {
+        b"text" => CaseLine::Repeated(Repeated {
             from: 1,
             to: 1,
             text: rest,
@@ -197,15 +197,15 @@ fn read_words<'a>(word: &'a [u8], rest: &'a [u8]) -> Said<'a> {
         b"shelf" => read_fails(Failing::Shelf, rest),
         b"input" => read_fails(Failing::Input, rest),
         b"output" => read_fails(Failing::Output, rest),
-        _ => Said::Unread,
+        _ => CaseLine::Unread,
     }
 }
 
 /// What a line says.
-pub(crate) fn read_line(line: &[u8]) -> Said<'_> {
+pub(crate) fn read_line(line: &[u8]) -> CaseLine<'_> {
     match line {
-        [] | [b'#', ..] => Said::Nothing,
-        [b' ', b' ', b' ', b' ', text @ ..] => Said::Text(text),
+        [] | [b'#', ..] => CaseLine::Nothing,
+        [b' ', b' ', b' ', b' ', text @ ..] => CaseLine::Text(text),
         _ => {
             let (word, rest) = cut(line);
             read_words(word, rest)
@@ -217,9 +217,9 @@ impl Case {
     /// The text that the lines at hand are added to.
     fn text(&mut self) -> &mut Vec<u8> {
         match self.part {
-            Part::Policy => &mut self.policy,
-            Part::Script => &mut self.script,
-            Part::Replies => &mut self.replies,
+            CasePart::Policy => &mut self.policy,
+            CasePart::Script => &mut self.script,
+            CasePart::Replies => &mut self.replies,
         }
     }
 
@@ -257,20 +257,20 @@ fn words_of(alloc: Global, text: &[u8]) -> Result<Vec<String>, Fault> {
 }
 
 /// Takes in what a line says of a case.
-pub(crate) fn take_in(case: &mut Case, said: Said<'_>) -> Result<(), Fault> {
+pub(crate) fn take_in(case: &mut Case, said: CaseLine<'_>) -> Result<(), Fault> {
     match said {
-        Said::Nothing => {}
-        Said::Unread | Said::Case(_) => return Err(Fault::Line),
-        Said::Words(text) => case.words = words_of(*case.name.allocator(), text)?,
-        Said::Status(n) => case.status = n,
-        Said::Of(part) => case.part = part,
-        Said::Text(text) => {
+        CaseLine::Nothing => {}
+        CaseLine::Unread | CaseLine::Case(_) => return Err(Fault::Line),
+        CaseLine::Words(text) => case.words = words_of(*case.name.allocator(), text)?,
+        CaseLine::Status(n) => case.status = n,
+        CaseLine::Of(part) => case.part = part,
+        CaseLine::Text(text) => {
             add_text(case.text(), text)?;
             case.text().extend_from_slice(b"\n")?;
         }
-        Said::Repeated(repeated) => add_repeated(case.text(), &repeated)?,
-        Said::Room(n) => case.room = n,
-        Said::Fails(failing, call) => case.fail(failing, call),
+        CaseLine::Repeated(repeated) => add_repeated(case.text(), &repeated)?,
+        CaseLine::Room(n) => case.room = n,
+        CaseLine::Fails(failing, call) => case.fail(failing, call),
     }
     Ok(())
 }

@@ -8,4 +8,4 @@ mod reports;
 mod texts;
 
 pub use cases::Case;
-pub use reports::{Ended, Player, Report};
+pub use reports::{CaseReport, Ended, Player};

@@ -1,7 +1,7 @@
 //! Playing the cases of a text, and the report on them.
 ghost use Rattle.std.specs.Prelude.{◌≡◌, ◌↔◌, IsTrue};
 
-use crate::cases::{Case, Fault, Said, read_line, take_in};
+use crate::cases::{Case, CaseLine, Fault, read_line, take_in};
 use gt_text::{Lines, push_number};
 use std::alloc::{AllocError, Global};
 
@@ -24,7 +24,7 @@ pub trait Player {
 /// What was said so far, how many cases were played, and how many of them did not end as they were
 /// to.
 #[derive(Drop)]
-pub struct Report {
+pub struct CaseReport {
     pub text: Vec<u8>,
     pub played: u64,
     pub failed: u64,
@@ -71,10 +71,10 @@ fn put_verdict(
     put_end(into, b"  got status ", ended.status, &ended.text)
 }
 
-impl Report {
+impl CaseReport {
     /// A report on nothing.
-    pub fn new(alloc: Global) -> Report {
-        Report {
+    pub fn new(alloc: Global) -> CaseReport {
+        CaseReport {
             text: Vec::new(alloc),
             played: 0,
             failed: 0,
@@ -115,7 +115,7 @@ impl Report {
         line: &[u8],
     ) -> Result<(), Fault> {
         match read_line(line) {
-            Said::Case(name) => {
+            CaseLine::Case(name) => {
                 self.close(alloc, player, case)?;
                 *case = Case::new(alloc, name)?;
                 Ok(())

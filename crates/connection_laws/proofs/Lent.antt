@@ -51,7 +51,7 @@ module _ {M R C G : Type 0} (list : M → List Entry) (legal : M → List Entry 
       (acts_so seen Same (λ k. (refl, refl)) np (ClerkGets list legal now_of readings_by) Asked o asked_so (λ k. WearsAt k.pass.now.draws) WearsClerk (λ k n w. w) p talk talk' line told x).1
 
   -- where it is at rest again, so is its pass
-  pub lent_rests : (p : Clerk M R C G) → (rested_clerk o ≡ o → rested_clerk p ≡ p) → IsRested o.pass.now → IsRested p.pass.now
-  lent_rests p back rests =
-      let is = back (λ i. record o { pass = record o.pass { now = record o.pass.now { stays = (sym rests.0) i; keeps = (sym rests.1) i } } }) in
+  pub lent_rests : (p : Clerk M R C G) → (rested_clerk o ≡ o → rested_clerk p ≡ p) → o.held ≡ 0 → IsRested o.pass.now → IsRested p.pass.now
+  lent_rests p back none rests =
+      let is = back (λ i. record o { pass = record o.pass { now = record o.pass.now { stays = (sym rests.0) i; keeps = (sym rests.1) i } }; held = (sym none) i }) in
       (sym (ap (λ (k : Clerk M R C G). k.pass.now.stays) is), sym (ap (λ (k : Clerk M R C G). k.pass.now.keeps) is))

@@ -43,9 +43,9 @@ module _ {M : Type 0} (v : Service) (who : Who) where
     pub reads : Reads a.clock b.clock readings
     pub one : length readings ≡ 1
 
--- it, with its pass at rest
+-- it, with its pass at rest and nothing held back
 abbrev pub rested_clerk : {M R C G : Type 0} → Clerk M R C G → Clerk M R C G
-rested_clerk k = record k { pass = record k.pass { now = rested k.pass.now } }
+rested_clerk k = record k { pass = record k.pass { now = rested k.pass.now }; held = 0 }
 
 -- what it was lent is the same
 abbrev pub KeepsLent : {M R C G : Type 0} → Clerk M R C G → Clerk M R C G → Type 0

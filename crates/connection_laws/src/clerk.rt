@@ -7,15 +7,10 @@ use crate::answerer::Answerer;
 use crate::server::Server;
 use crate::talk::LineAnswer;
 use gt_base::{Actor, Instant, List, Machine, Request};
-use gt_io::{Clock, Gate};
+use gt_io::{Clock, Gate, MAX_HELD};
 use policy_book::Policy;
 use std::sync::Wait;
 use turn_lock::Pass;
-
-/// The longest reply, in bytes, before which a turn is kept. A link of the host holds 4,096 bytes
-/// before it waits for its peer, and a piece of 512 bytes has at most 128 lines that are replied
-/// so, so no write waits for a peer while a turn is kept.
-const SHORT_REPLY: usize = 32;
 
 /// A worker that answers at the desk: it passes the gate, reads the clock, brings the history to
 /// that minute and asks.
@@ -26,6 +21,8 @@ pub struct Clerk<'a, M: Machine, R, C, G> {
     pub clock: &'a mut C,
     /// A minute that the history has come to as far as the pass has seen it, where one is known.
     pub reached: &'a mut Option<Instant>,
+    /// How many bytes of replies its link holds back.
+    pub held: usize,
 }
 
 impl<'a, M: Machine, R: Wait, C: Clock, G: Gate> Answerer for Clerk<'a, M, R, C, G> {
@@ -76,22 +73,26 @@ impl<'a, M: Machine, R: Wait, C: Clock, G: Gate> Answerer for Clerk<'a, M, R, C,
         )
     }
 
-    /// Has the pass keep its turn from now on, unless its gate may wait for another worker.
+    /// Has the pass keep its turn from now on, unless its gate may wait for another worker. The link
+    /// holds nothing back yet.
     fn begin_piece(&mut self) {
         if !self.server.gate.may_wait() {
             self.pass.stay();
         }
     }
 
-    /// Gives a kept turn on where the reply is long, since writing it may wait for the peer.
+    /// Gives a kept turn on where writing the reply may wait for the peer.
     fn before_reply(&mut self, told: &LineAnswer) {
-        if reply_of(told).len() > SHORT_REPLY {
-            self.server.desk.rest(self.pass);
+        if self.held >= MAX_HELD {
+            self.end_piece();
+            self.begin_piece();
         }
+        self.held = self.held.saturating_add(reply_of(told).len());
     }
 
-    /// Gives a kept turn on.
+    /// Gives a kept turn on; the link hands over what it holds back before it reads on.
     fn end_piece(&mut self) {
         self.server.desk.rest(self.pass);
+        self.held = 0;
     }
 }

@@ -15,7 +15,7 @@ use crate::answerer::{Answerer, act_by};
 use crate::ends::LinkEnd;
 use crate::talk::{LineAnswer, Talk};
 use gt_base::{Actor, List, MAX_BYTES};
-use gt_io::{Failed, Framed, Framer, Link, send_all};
+use gt_io::{Failed, Framed, Framer, Link, READ_PIECE, send_all};
 use request_text::LineFault;
 use std::alloc::Global;
 
@@ -134,10 +134,16 @@ pub fn take_bytes<A: Answerer, L: Link>(
     ensures rests { A.rested answerer.new ≡ answerer.new }
 {
     answerer.begin_piece();
-    for byte in piece {
-        if let Err(end) = take_byte(answerer, link, hearing, *byte) {
-            answerer.end_piece();
-            return Err(end);
+    let mut at = 0;
+    while at < piece.len() {
+        let (_, rest) = piece.split_at(at);
+        at += hearing.framer.push_front(rest);
+        if at < piece.len() {
+            if let Err(end) = take_byte(answerer, link, hearing, piece[at]) {
+                answerer.end_piece();
+                return Err(end);
+            }
+            at += 1;
         }
     }
     answerer.end_piece();
@@ -180,7 +186,7 @@ fn take_all<A: Answerer, L: Link>(answerer: &mut A, link: &mut L, hearing: &mut 
     ensures held { (L.traffic link.new).finished ≡ (L.traffic link.old).finished }
     ensures rests { A.rested answerer.old ≡ answerer.old → A.rested answerer.new ≡ answerer.new }
 {
-    let mut buf = [0u8; 512];
+    let mut buf = [0u8; READ_PIECE];
     let mut left = MAX_BYTES;
     while left > 0 {
         let Ok(n) = read_some(link, &mut buf, left) else {

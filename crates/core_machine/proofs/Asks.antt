@@ -46,7 +46,7 @@ use Rattle.time_engine.specs.Plans.{IsTimeline, with_pending, with_signal}
 use Rattle.time_engine.specs.Traces.{model_of}
 use Rattle.time_engine.proofs.HistoryLaws.{asks_follow}
 use Rattle.core_machine.specs.Books.{Asks}
-use Rattle.core_machine.specs.Kept.{Kept, point_of}
+use Rattle.core_machine.specs.Coherent.{Coherent, point_of}
 use Rattle.core_machine.specs.Steps.{IsStill, is_nobody, with_signals}
 use Rattle.core_machine.proofs.Growing.{named_more, none_at_birth, one_more, bases_stay}
 use Rattle.core_machine.proofs.Closes.{follows_signals}
@@ -112,7 +112,7 @@ activate_adds now actor n r w tb sg = by (owner_of tb n) refl
     by None e = rw e (λ i. record tb { signals = sym (append-nil sg) i })
     by (Some u) e = rw e refl
 
-module _ (p : Policy) (birth : ℕ) (h : List Entry) (v : TimelineView) (tb : Table) (charged : Option ℕ) (k : Kept p birth h v tb charged) (line : IsTimeline v) where
+module _ (p : Policy) (birth : ℕ) (h : List Entry) (v : TimelineView) (tb : Table) (charged : Option ℕ) (k : Coherent p birth h v tb charged) (line : IsTimeline v) where
   abbrev m : Model
   m = model_of v.trace
 
@@ -163,7 +163,7 @@ module _ (p : Policy) (birth : ℕ) (h : List Entry) (v : TimelineView) (tb : Ta
     kept_asked : (q : Pendings) (sg : Signals) (tb' : Table) (told : List Signal) → Follows p birth (h ++ e ∷ []) m (record v { pending = q; signals = sg })
         → record tb' { signals = told } ≡ applied v.now actor request reply (record tb { signals = k.waiting })
         → (v.now < LAST_MINUTE → (x : Signal) → list_any (eq_by_cmp signal_cmp x) told ≡ has sg x) → tb'.begun ≤ length h + 1
-        → Kept p birth (h ++ e ∷ []) (record v { pending = q; signals = sg }) tb' charged
+        → Coherent p birth (h ++ e ∷ []) (record v { pending = q; signals = sg }) tb' charged
     kept_asked q sg tb' told follows table waits few = record {
       is_policy = k.is_policy;
       safe = k.safe;
@@ -180,7 +180,7 @@ module _ (p : Policy) (birth : ℕ) (h : List Entry) (v : TimelineView) (tb : Ta
     }
 
     -- where the answer changes nothing
-    pub kept_still : IsStill actor request reply → Kept p birth (h ++ e ∷ []) v tb charged
+    pub kept_still : IsStill actor request reply → Coherent p birth (h ++ e ∷ []) v tb charged
     kept_still still =
         kept_asked v.pending v.signals tb k.waiting ((asks_follow p birth h m v k.follows who actor).others request reply still.queues)
         (sym (still.leaves v.now (record tb { signals = k.waiting }))) k.signals (omega (arith, k.few))
@@ -188,9 +188,9 @@ module _ (p : Policy) (birth : ℕ) (h : List Entry) (v : TimelineView) (tb : Ta
     -- where it changes the table, and these signals come
     pub kept_changed : (tb' : Table) (xs : List Signal) → ((t : ℕ) → queued_at t request reply ≡ []) → Adds v.now actor request reply
         → applied v.now actor request reply (record tb { signals = [] }) ≡ record tb' { signals = xs } → tb'.begun ≤ length h + 1
-        → Kept p birth (h ++ e ∷ []) (with_signals v xs) tb' charged
+        → Coherent p birth (h ++ e ∷ []) (with_signals v xs) tb' charged
     kept_changed tb' xs queues adds change few =
-        subst (λ w. Kept p birth (h ++ e ∷ []) w tb' charged) (sym (signals_only v xs))
+        subst (λ w. Coherent p birth (h ++ e ∷ []) w tb' charged) (sym (signals_only v xs))
         (kept_asked v.pending (with_signals v xs).signals tb' (k.waiting ++ xs)
         (follows_signals p birth (h ++ e ∷ []) m v (with_signals v xs).signals ((asks_follow p birth h m v k.follows who actor).others request reply queues))
         (sym (adds tb k.waiting ∙ ap (λ (t : Table). record t { signals = k.waiting ++ t.signals }) change))
@@ -207,7 +207,7 @@ module _ (p : Policy) (birth : ℕ) (h : List Entry) (v : TimelineView) (tb : Ta
   -- where it queues an event
   pub kept_raised : (who : Who) (actor : Actor) (head : Prioritised) (delay due : ℕ) → IsNamedWish p (ask actor (Raise head delay)) → length h < MAX_STEPS
       → Queued due ≡ reply_of p (point_after p birth m h) actor (Raise head delay)
-      → Kept p birth (h ++ asked who actor (Raise head delay) (Queued due) ∷ []) (with_pending v due head) tb charged
+      → Coherent p birth (h ++ asked who actor (Raise head delay) (Queued due) ∷ []) (with_pending v due head) tb charged
   kept_raised who actor head delay due named room is =
       kept_asked who actor (Raise head delay) (Queued due) named room is (with_pending v due head).pending v.signals tb k.waiting
       ((asks_follow p birth h m v k.follows who actor).raises head delay due) refl k.signals (omega (arith, k.few))
@@ -225,14 +225,14 @@ pub nobody : (actor : Actor) (reply : Reply) → is_nobody actor ≡ true → un
 nobody actor reply e = λ i. if e i then Refused NoUser else reply
 
 -- the table is the history's at now, but for the signals that wait
-pub table_is : (p : Policy) (birth : ℕ) (h : List Entry) (v : TimelineView) (tb : Table) (charged : Option ℕ) (k : Kept p birth h v tb charged)
+pub table_is : (p : Policy) (birth : ℕ) (h : List Entry) (v : TimelineView) (tb : Table) (charged : Option ℕ) (k : Coherent p birth h v tb charged)
     → record tb { signals = (table_at p birth (model_of v.trace) h (now_of birth h)).signals } ≡ table_at p birth (model_of v.trace) h (now_of birth h)
 table_is p birth h v tb charged k =
     let now : record tb { signals = k.waiting } ≡ table_at p birth (model_of v.trace) h (now_of birth h) = k.table ∙ ap (table_at p birth (model_of v.trace) h) k.follows.now in
     (λ i. record tb { signals = (sym now i).signals }) ∙ now
 
 -- the signals of the table at now are those that wait in the timeline
-pub waiting_is : (p : Policy) (birth : ℕ) (h : List Entry) (v : TimelineView) (tb : Table) (charged : Option ℕ) (k : Kept p birth h v tb charged)
+pub waiting_is : (p : Policy) (birth : ℕ) (h : List Entry) (v : TimelineView) (tb : Table) (charged : Option ℕ) (k : Coherent p birth h v tb charged)
     → now_of birth h < LAST_MINUTE → (x : Signal) → list_any (eq_by_cmp signal_cmp x) (table_at p birth (model_of v.trace) h (now_of birth h)).signals ≡ has v.signals x
 waiting_is p birth h v tb charged k lt x =
     ap (λ (t : Table). list_any (eq_by_cmp signal_cmp x) t.signals) (sym (k.table ∙ ap (table_at p birth (model_of v.trace) h) k.follows.now))

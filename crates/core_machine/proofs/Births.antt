@@ -20,17 +20,17 @@ use Rattle.instant_bases.specs.Timelines.{TimelineView, Signals, ClosedSet, Stan
 use Rattle.time_engine.specs.Traces.{model_of}
 use Rattle.time_engine.proofs.HistoryLaws.{born_follows}
 use Rattle.core_machine.specs.Books.{HasBases}
-use Rattle.core_machine.specs.Kept.{Kept}
+use Rattle.core_machine.specs.Coherent.{Coherent}
 
 pub born : (p : Policy) → IsPolicy p → IsSafe p.triggers → (birth : ℕ) (v : TimelineView) (tb : Table) (h : List Entry) (to : Option ℕ)
-    → StandsFor p v → v.birth ≡ birth → v.now ≡ birth → v.status ≡ p.opening → ((f : Fluent) → since_of v f ≡ birth) → v.trace ≡ [] → v.pending ≡ none → v.signals ≡ none → tb ≡ empty_table → h ≡ [] → to ≡ None → Kept p birth h v tb to
+    → StandsFor p v → v.birth ≡ birth → v.now ≡ birth → v.status ≡ p.opening → ((f : Fluent) → since_of v f ≡ birth) → v.trace ≡ [] → v.pending ≡ none → v.signals ≡ none → tb ≡ empty_table → h ≡ [] → to ≡ None → Coherent p birth h v tb to
 born p is safe birth v tb h to stands b n st ages tr pend sig table none_yet charged =
-    subst (λ o. Kept p birth h v tb o) (sym charged) (subst (λ k. Kept p birth k v tb None) (sym none_yet) (subst (λ t. Kept p birth [] v t None) (sym table) first))
+    subst (λ o. Coherent p birth h v tb o) (sym charged) (subst (λ k. Coherent p birth k v tb None) (sym none_yet) (subst (λ t. Coherent p birth [] v t None) (sym table) first))
   where
     none_passed : v.now - birth ≡ 0
     none_passed = omega (arith, n)
 
-    first : Kept p birth [] v empty_table None
+    first : Coherent p birth [] v empty_table None
     first = record {
       is_policy = is;
       safe = safe;

@@ -41,7 +41,7 @@ use Rattle.time_engine.specs.Traces.{model_of}
 use Rattle.time_engine.proofs.Following.{after_kept, plan_fits}
 use Rattle.time_engine.proofs.HistoryLaws.{quiet_more, more_before, close_is_legal, close_follows}
 use Rattle.time_engine.proofs.WaitingLaws.{table_later, waiting_follow}
-use Rattle.core_machine.specs.Kept.{Abreast}
+use Rattle.core_machine.specs.Coherent.{Abreast}
 use Rattle.core_machine.specs.Steps.{moves}
 use Rattle.core_machine.proofs.Growing.{both_false, not_none, some_pass, model_grows}
 

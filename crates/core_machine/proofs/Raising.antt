@@ -26,7 +26,7 @@ use Rattle.instant_bases.specs.Timelines.{TimelineView}
 use Rattle.session_table.specs.Opened.{in_session}
 use Rattle.session_table.specs.Replies.{AnswersAt}
 use Rattle.time_engine.specs.Traces.{model_of}
-use Rattle.core_machine.specs.Kept.{point_of}
+use Rattle.core_machine.specs.Coherent.{point_of}
 
 module _ (p : Policy) (pt : Point) (actor : Actor) (head : Prioritised) (delay : ℕ) where
   pub raise_unentitled : is_admin p actor ≡ false → answer p pt actor (Raise head delay) ≡ Refused NotAdmin

@@ -14,17 +14,17 @@ use Rattle.gtrbac_model.specs.Reply.{reply_of}
 use Rattle.session_table.specs.Tables.{table_of}
 use Rattle.session_table.specs.declared.tables.Sessions.{Sessions}
 use Rattle.core_machine.specs.Books.{Asks, BookView}
-use Rattle.core_machine.specs.Kept.{Kept, IsKept, IsReady, IsReply, Same, point_of, view_of}
+use Rattle.core_machine.specs.Coherent.{Coherent, IsCoherent, IsReady, IsReply, Same, point_of, view_of}
 use Rattle.session_table.specs.Plans.{DropsView}
 use Rattle.time_engine.specs.Plans.{PlanView}
 use Rattle.core_machine.specs.Steps.{IsClosing, as_step}
 use Rattle.core_machine.specs.declared.states.State.{State}
 use Rattle.core_machine.proofs.Ticks.{kept_again}
 
-pub same_kept : (s t : State) → Same s t → IsKept s → IsKept t
+pub same_kept : (s t : State) → Same s t → IsCoherent s → IsCoherent t
 same_kept s t same k =
-    subst (λ g. Kept g.policy t.birth t.entries.items t.line.line (table_of t.table) t.table.charged_to) (sym same.ground)
-    (subst (λ b. Kept s.ground.policy b t.entries.items t.line.line (table_of t.table) t.table.charged_to) (sym same.birth)
+    subst (λ g. Coherent g.policy t.birth t.entries.items t.line.line (table_of t.table) t.table.charged_to) (sym same.ground)
+    (subst (λ b. Coherent s.ground.policy b t.entries.items t.line.line (table_of t.table) t.table.charged_to) (sym same.birth)
     (kept_again s.ground.policy s.birth s.entries.items t.entries.items s.line.line t.line.line (table_of s.table) (table_of t.table) s.table.charged_to t.table.charged_to same.entries same.line same.table same.charged_to k))
 
 pub same_view : (s t : State) → Same s t → view_of t ≡ view_of s

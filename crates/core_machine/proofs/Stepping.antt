@@ -18,7 +18,7 @@ use Rattle.instant_bases.specs.Timelines.{TimelineView}
 use Rattle.session_table.specs.Tables.{table_of}
 use Rattle.time_engine.specs.Plans.{IsTimeline, with_pending}
 use Rattle.core_machine.specs.Books.{reply_in}
-use Rattle.core_machine.specs.Kept.{Kept, IsKept, IsReady, IsReply, Same, point_of, view_of}
+use Rattle.core_machine.specs.Coherent.{Coherent, IsCoherent, IsReady, IsReply, Same, point_of, view_of}
 use Rattle.core_machine.specs.Looks.{is_look}
 use Rattle.core_machine.specs.Steps.{IsStep, IsStill, MayAsk, is_nobody, with_signals}
 use Rattle.core_machine.specs.declared.states.State.{State}
@@ -30,7 +30,7 @@ clash : false ≡ true → ⊥
 clash e = cc
 
 -- for want of memory nothing but the room changed
-pub no_step : (s t : State) (who : Who) (actor : Actor) (request : Request) (r : Result Reply AllocError) → IsErr r → Same s t → IsKept s → IsStep s t who actor request r
+pub no_step : (s t : State) (who : Who) (actor : Actor) (request : Request) (r : Result Reply AllocError) → IsErr r → Same s t → IsCoherent s → IsStep s t who actor request r
 no_step s t who actor request (Ok reply) failed same k = absurd (clash failed)
 no_step s t who actor request (Err e) failed same k = record { kept = same_kept s t same k; ok = tt; err = same_view s t same }
 
@@ -84,12 +84,12 @@ module _ (s t : State) (who : Who) (actor : Actor) (request : Request) (reply : 
   is = replied s.ground.policy s.birth s.entries.items s.line.line (table_of s.table) s.table.charged_to ready.kept line actor request reply is_told.is
 
   entered_step : t.line.line.trace ≡ s.line.line.trace
-      → Kept s.ground.policy s.birth (s.entries.items ++ asked who actor request reply ∷ []) t.line.line (table_of t.table) t.table.charged_to
+      → Coherent s.ground.policy s.birth (s.entries.items ++ asked who actor request reply ∷ []) t.line.line (table_of t.table) t.table.charged_to
       → IsStep s t who actor request (Ok reply)
   entered_step trace k = record {
-    kept = subst (λ g. Kept g.policy t.birth t.entries.items t.line.line (table_of t.table) t.table.charged_to) (sym entered.ground)
-        (subst (λ b. Kept s.ground.policy b t.entries.items t.line.line (table_of t.table) t.table.charged_to) (sym entered.birth)
-        (subst (λ h. Kept s.ground.policy s.birth h t.line.line (table_of t.table) t.table.charged_to) (sym entered.entries) k));
+    kept = subst (λ g. Coherent g.policy t.birth t.entries.items t.line.line (table_of t.table) t.table.charged_to) (sym entered.ground)
+        (subst (λ b. Coherent s.ground.policy b t.entries.items t.line.line (table_of t.table) t.table.charged_to) (sym entered.birth)
+        (subst (λ h. Coherent s.ground.policy s.birth h t.line.line (table_of t.table) t.table.charged_to) (sym entered.entries) k));
     ok = record {
       gains = record { named = entered.ground; birth = entered.birth; entries = entered.entries };
       trace = trace;

@@ -23,7 +23,7 @@ use Rattle.session_table.specs.Plans.{AllStand}
 use Rattle.session_table.proofs.Charging.{split}
 use Rattle.time_engine.specs.Plans.{PlanView, IsPlan, IsTimeline}
 use Rattle.time_engine.specs.Traces.{model_of}
-use Rattle.core_machine.specs.Kept.{Kept}
+use Rattle.core_machine.specs.Coherent.{Coherent}
 use Rattle.core_machine.specs.Agreeing.{agrees}
 use Rattle.core_machine.proofs.Growing.{not_none}
 
@@ -55,7 +55,7 @@ module _ (x : HappenedView) (before : Status) (alike : list_all (agrees before) 
       (λ n. ap (λ b. cond b true (cond (won x (turns_off f)) false (before f))) n
       ∙ split (won x (turns_off f)) (λ e. ap (λ b. cond b false (before f)) e ∙ not_on (before f) (says (turns_off f) e)) (λ m. ap (λ b. cond b false (before f)) m))
 
-pub still_stand : (p : Policy) (birth : ℕ) (h : List Entry) (v : TimelineView) (tb : Table) (charged : Option ℕ) → Kept p birth h v tb charged → IsTimeline v
+pub still_stand : (p : Policy) (birth : ℕ) (h : List Entry) (v : TimelineView) (tb : Table) (charged : Option ℕ) → Coherent p birth h v tb charged → IsTimeline v
     → (plan : PlanView) → IsPlan p v plan → list_all (agrees (has v.status)) (members plan.set.events) ≡ true → AllStand p.edges (has plan.status) tb
 still_stand p birth h v tb charged k line plan plans alike i a is =
     let now : Status = status p birth (model_of v.trace) v.now in

@@ -25,12 +25,12 @@ use Rattle.time_engine.specs.Plans.{PlanView, IsPlan, IsAfter, IsTimeline}
 use Rattle.time_engine.specs.Traces.{model_of, traced}
 use Rattle.policy_words.specs.Naming.{NamedPolicy}
 use Rattle.core_machine.specs.Books.{GoesOn, HasBases}
-use Rattle.core_machine.specs.Kept.{Abreast, Kept}
+use Rattle.core_machine.specs.Coherent.{Abreast, Coherent}
 use Rattle.core_machine.specs.Steps.{moves}
 use Rattle.core_machine.proofs.Closes.{agree, closes, model_is, abreast_after}
 use Rattle.core_machine.proofs.Growing.{named_more, one_more, bases_more, bases_traced, bases_stay}
 
-module _ (p : Policy) (birth : ℕ) (h : List Entry) (v : TimelineView) (tb : Table) (charged : Option ℕ) (k : Kept p birth h v tb charged) (line : IsTimeline v)
+module _ (p : Policy) (birth : ℕ) (h : List Entry) (v : TimelineView) (tb : Table) (charged : Option ℕ) (k : Coherent p birth h v tb charged) (line : IsTimeline v)
     (who : Who) (upto : ℕ) (within : upto ≤ LAST_MINUTE) (plan : PlanView) (plans : IsPlan p v plan) (stop : IsNextStop (moves p v tb) v.now upto plan.at) where
   abbrev m : Model
   m = model_of v.trace
@@ -68,7 +68,7 @@ module _ (p : Policy) (birth : ℕ) (h : List Entry) (v : TimelineView) (tb : Ta
 
     module _ (sg : Signals) (tb' : Table) (told : List Signal) (closed : record tb' { signals = told } ≡ closed_at p.edges p.caps (has plan.status) v.now plan.at tb)
         (waits : plan.at < LAST_MINUTE → (x : Signal) → list_any (eq_by_cmp signal_cmp x) told ≡ has sg x) (room : length h < MAX_STEPS) where
-      pub kept_tick : Kept p birth (h ++ e ∷ []) (record w { signals = sg }) tb' (Some plan.at)
+      pub kept_tick : Coherent p birth (h ++ e ∷ []) (record w { signals = sg }) tb' (Some plan.at)
       kept_tick =
           let a : Abreast p birth (h ++ e ∷ []) (record w { signals = sg }) tb' = abreast_after p k.is_policy birth h v tb abreast who upto within plan plans stop w after sg tb' told closed waits in
           record {
@@ -101,6 +101,6 @@ module _ (p : Policy) (birth : ℕ) (h : List Entry) (v : TimelineView) (tb : Ta
           stop_is = (steps_after p birth n [] h (e ∷ []) legally.legal.steps).0
 
 -- what holds between parts holds between parts that are the same
-pub kept_again : (p : Policy) (birth : ℕ) (h h' : List Entry) (v v' : TimelineView) (tb tb' : Table) (to to' : Option ℕ) → h' ≡ h → v' ≡ v → tb' ≡ tb → to' ≡ to → Kept p birth h v tb to → Kept p birth h' v' tb' to'
+pub kept_again : (p : Policy) (birth : ℕ) (h h' : List Entry) (v v' : TimelineView) (tb tb' : Table) (to to' : Option ℕ) → h' ≡ h → v' ≡ v → tb' ≡ tb → to' ≡ to → Coherent p birth h v tb to → Coherent p birth h' v' tb' to'
 kept_again p birth h h' v v' tb tb' to to' eh ev et ec k =
-    subst (λ x. Kept p birth x v' tb' to') (sym eh) (subst (λ x. Kept p birth h x tb' to') (sym ev) (subst (λ x. Kept p birth h v x to') (sym et) (subst (λ x. Kept p birth h v tb x) (sym ec) k)))
+    subst (λ x. Coherent p birth x v' tb' to') (sym eh) (subst (λ x. Coherent p birth h x tb' to') (sym ev) (subst (λ x. Coherent p birth h v x to') (sym et) (subst (λ x. Coherent p birth h v tb x) (sym ec) k)))

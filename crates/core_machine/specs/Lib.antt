@@ -1,5 +1,5 @@
 pub mod Books
-pub mod Kept
+pub mod Coherent
 pub mod Steps
 pub mod Agreeing
 pub mod Looks

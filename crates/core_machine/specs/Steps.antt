@@ -19,7 +19,7 @@ use Rattle.session_table.specs.NextDrops.{is_any_capped}
 use Rattle.session_table.specs.Plans.{DropsView, IsDropPlan}
 use Rattle.time_engine.specs.Plans.{Fits, IsPlan, PlanView, with_signal}
 use Rattle.core_machine.specs.Books.{Asks}
-use Rattle.core_machine.specs.Kept.{IsKept, IsReady, view_of}
+use Rattle.core_machine.specs.Coherent.{IsCoherent, IsReady, view_of}
 use Rattle.core_machine.specs.declared.states.State.{State}
 
 abbrev pub is_nobody : Actor → Bool
@@ -35,7 +35,7 @@ pub record MayAsk (s : State) (actor : Actor) (request : Request) : Type 0 where
 -- the book is as it was
 pub record IsStep (old new : State) (who : Who) (actor : Actor) (request : Request)
     (result : Result Reply AllocError) : Type 0 where
-  pub kept : IsKept new
+  pub kept : IsCoherent new
   pub ok : IfOk result (λ reply. Asks (view_of old) who actor request reply (view_of new))
   pub err : OnErr result (view_of new ≡ view_of old)
 

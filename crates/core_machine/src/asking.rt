@@ -1,7 +1,7 @@
 //! Answers a request by its kind; nobody is refused.
 ghost use Rattle.std.specs.Prelude.{◌≡◌};
 ghost use Rattle.gt_base.specs.declared.requests.Request.TheVariants.{Raise, OpenSession, CloseSession, Activate, Deactivate, Check};
-ghost use Rattle.core_machine.specs.Kept.{IsReady};
+ghost use Rattle.core_machine.specs.Coherent.{IsReady};
 ghost use Rattle.core_machine.specs.Steps.{IsStep, MayAsk, is_nobody};
 
 use crate::entering::{raise, tell};

@@ -49,11 +49,11 @@ impl Model for Book {
 
     ghost coded = { book_code };
 
-    ghost use Rattle.core_machine.specs.Kept.{IsKept, view_of};
+    ghost use Rattle.core_machine.specs.Coherent.{IsCoherent, view_of};
 
     ghost view = { λ b. view_of b.state };
 
-    ghost invariant = { λ b. IsKept b.state };
+    ghost invariant = { λ b. IsCoherent b.state };
 }
 
 impl Book {

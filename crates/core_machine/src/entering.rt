@@ -6,7 +6,7 @@ ghost use Rattle.gt_base.specs.declared.requests.Actor.TheVariants.{User};
 ghost use Rattle.gt_base.specs.declared.requests.Request.TheVariants.{Raise};
 ghost use Rattle.gtrbac_model.specs.Reply.{is_admin};
 ghost use Rattle.core_machine.specs.Books.{Asks, reply_in};
-ghost use Rattle.core_machine.specs.Kept.{IsKept, IsReady, IsReply, Same, view_of};
+ghost use Rattle.core_machine.specs.Coherent.{IsCoherent, IsReady, IsReply, Same, view_of};
 ghost use Rattle.core_machine.specs.Looks.{is_look};
 ghost use Rattle.core_machine.specs.Steps.{IsStep, IsStill, MayAsk, with_signals};
 
@@ -51,7 +51,7 @@ pub(crate) fn note(
     requires ready { IsReady s.old actor request }
     requires looks { is_look request ≡ true }
     requires told { reply ≡ reply_in (view_of s.old) actor request }
-    ensures kept { IsKept s.new }
+    ensures kept { IsCoherent s.new }
     ensures ok { OnOk result (Asks (view_of s.old) who actor request reply (view_of s.new)) }
     ensures err { OnErr result (view_of s.new ≡ view_of s.old) }
 {

@@ -1,7 +1,7 @@
 //! Requests that only look, answered without an entry.
 ghost use Rattle.std.specs.Prelude.{◌≡◌, true, false, IfOk};
 ghost use Rattle.core_machine.specs.Books.{reply_in};
-ghost use Rattle.core_machine.specs.Kept.{IsAnswer, IsKept, view_of};
+ghost use Rattle.core_machine.specs.Coherent.{IsAnswer, IsCoherent, view_of};
 ghost use Rattle.core_machine.specs.Looks.{is_look};
 ghost use Rattle.core_machine.specs.Steps.{is_nobody};
 
@@ -13,7 +13,7 @@ use priority_conflict::seen;
 
 /// Answers a request that only looks. For want of memory it may refuse.
 pub(crate) fn look(s: &State, actor: Actor, request: Request) -> Result<Reply, Memory>
-    requires kept { IsKept s.now }
+    requires kept { IsCoherent s.now }
     requires looks { is_look request ≡ true }
     ensures { IfOk result (λ reply. reply ≡ reply_in (view_of s.now) actor request) }
 {
@@ -26,7 +26,7 @@ pub(crate) fn look(s: &State, actor: Actor, request: Request) -> Result<Reply, M
 
 /// Answers a user or the operator.
 fn look_of_somebody(s: &State, actor: Actor, request: Request) -> Result<Reply, Memory>
-    requires kept { IsKept s.now }
+    requires kept { IsCoherent s.now }
     requires looks { is_look request ≡ true }
     requires somebody { is_nobody actor ≡ false }
     ensures { IfOk result (λ reply. reply ≡ reply_in (view_of s.now) actor request) }

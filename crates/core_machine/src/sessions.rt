@@ -8,7 +8,7 @@ ghost use Rattle.gtrbac_model.specs.Sessions.{applied};
 ghost use Rattle.session_table.specs.Opened.{in_session};
 ghost use Rattle.session_table.specs.Replies.{OrRefused};
 ghost use Rattle.session_table.specs.Tables.{table_of};
-ghost use Rattle.core_machine.specs.Kept.{point_of};
+ghost use Rattle.core_machine.specs.Coherent.{point_of};
 ghost use Rattle.core_machine.specs.Steps.{IsStep, MayAsk};
 
 use crate::entering::{add_entry, add_signals, make_room, tell};

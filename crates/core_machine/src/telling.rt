@@ -6,7 +6,7 @@ ghost use Rattle.gtrbac_model.specs.Same.{same_role, lists};
 ghost use Rattle.gtrbac_model.specs.Trigger.{holds};
 ghost use Rattle.session_table.specs.Replies.{Answers};
 ghost use Rattle.session_table.specs.Tables.{table_of};
-ghost use Rattle.core_machine.specs.Kept.{IsAnswer};
+ghost use Rattle.core_machine.specs.Coherent.{IsAnswer};
 ghost use Rattle.core_machine.specs.Steps.{IsStep, MayAsk};
 
 use crate::entering::tell;

@@ -11,7 +11,7 @@ ghost use Rattle.session_table.specs.Tables.{table_of};
 ghost use Rattle.time_engine.specs.Plans.{Fits, IsPlan, NoneStirs};
 ghost use Rattle.core_machine.specs.Agreeing.{agrees};
 ghost use Rattle.core_machine.specs.Books.{GoesOn};
-ghost use Rattle.core_machine.specs.Kept.{IsKept, Same, view_of};
+ghost use Rattle.core_machine.specs.Coherent.{IsCoherent, Same, view_of};
 ghost use Rattle.core_machine.specs.Steps.{IsClosing, moves};
 
 use crate::entering::{add_signals, make_room};
@@ -25,10 +25,10 @@ use time_engine::Plan;
 /// activation ends, or to the bound, and adds one entry. It takes its memory first: a refused tick
 /// leaves the book as it was.
 pub(crate) fn go_on(s: &mut State, who: Who, upto: Instant) -> Result<Instant, Memory>
-    requires kept { IsKept s.old }
+    requires kept { IsCoherent s.old }
     requires later { s.old.line.line.now < upto }
     requires room { length s.old.entries.items < MAX_STEPS }
-    ensures kept { IsKept s.new }
+    ensures kept { IsCoherent s.new }
     ensures ok { IfOk result (λ to. GoesOn (view_of s.old) (view_of s.new) who upto to) }
     ensures err { OnErr result (view_of s.new ≡ view_of s.old) }
 {
@@ -42,7 +42,7 @@ pub(crate) fn go_on(s: &mut State, who: Who, upto: Instant) -> Result<Instant, M
 /// The plans of the timeline and of the end of its minutes, for an instant that is not after the
 /// next one at which something is raised, with the room for them made.
 fn planned(s: &mut State, to: Instant) -> Result<(Plan, Drops), Memory>
-    requires kept { IsKept s.old }
+    requires kept { IsCoherent s.old }
     requires later { s.old.line.line.now < to }
     requires skipped { NoneStirs s.old.ground.policy s.old.line.line to }
     ensures same { Same s.old s.new }
@@ -121,7 +121,7 @@ fn end_of(
 
 /// Where a tick with this bound stops.
 fn stop(s: &State, upto: Instant) -> Instant
-    requires kept { IsKept s.now }
+    requires kept { IsCoherent s.now }
     requires later { s.now.line.line.now < upto }
     ensures { IsNextStop (moves s.now.ground.policy s.now.line.line (table_of s.now.table))
         s.now.line.line.now upto result }
@@ -148,7 +148,7 @@ fn first_of(next: Option<Instant>, upto: Instant) -> Instant
 
 /// Goes to the stop by the plans, into room that was made before.
 fn close(s: &mut State, who: Who, upto: Instant, plan: Plan, drops: Drops)
-    requires kept { IsKept s.old }
+    requires kept { IsCoherent s.old }
     requires room { length s.old.entries.items < MAX_STEPS }
     requires closing { IsClosing s.old.ground.policy s.old.line.line (table_of s.old.table) upto
         plan drops }
@@ -156,7 +156,7 @@ fn close(s: &mut State, who: Who, upto: Instant, plan: Plan, drops: Drops)
     requires drops_room { need_of s.old.line.line.now plan.at s.old.table ≤ s.old.table.room }
     requires signals_room { length drops.signals ≤ s.old.line.spare }
     requires entry_room { 1 ≤ s.old.entries.spare }
-    ensures kept { IsKept s.new }
+    ensures kept { IsCoherent s.new }
     ensures ok { GoesOn (view_of s.old) (view_of s.new) who upto plan.at }
 {
     s.line.keeps();

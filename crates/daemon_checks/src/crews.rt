@@ -3,8 +3,8 @@ ghost use Rattle.std.specs.Prelude.{◌≤◌, length, All, IfOk};
 ghost use Rattle.snapshot_readers.specs.Seats.{IsNewViewer};
 ghost use Rattle.gtrbac_daemon.specs.Crew.{IsNew};
 
-use crate::fakes::{Man, Scene, Stage, clock, door, stage_of};
-use crate::gates::{Turns, Watch};
+use crate::fakes::{Man, Scene, Surroundings, clock, door, stage_of};
+use crate::gates::{GateTurns, Watch};
 use crate::telling::tell;
 use gt_base::{List, Memory};
 use gt_io::MemDoor;
@@ -17,7 +17,7 @@ use std::thread::Threads;
 
 /// A run: what surrounds it, one worker, or two, and a viewer, or none.
 #[derive(Clone, Copy)]
-pub(crate) struct Run<'a> {
+pub(crate) struct CrewRun<'a> {
     pub scene: Scene<'a>,
     pub zero: Man<'a>,
     pub one: Option<Man<'a>>,
@@ -29,8 +29,8 @@ fn worker<'a>(
     alloc: Global,
     door: MemDoor,
     clock: Watch<'a>,
-    gate: Turns<'a>,
-) -> Worker<MemDoor, Watch<'a>, Turns<'a>>
+    gate: GateTurns<'a>,
+) -> Worker<MemDoor, Watch<'a>, GateTurns<'a>>
     ensures { IsNew result }
 {
     Worker {
@@ -43,7 +43,7 @@ fn worker<'a>(
 }
 
 /// A viewer that has not begun.
-fn viewer<'a>(alloc: Global, door: MemDoor, gate: Turns<'a>) -> Viewer<MemDoor, Turns<'a>>
+fn viewer<'a>(alloc: Global, door: MemDoor, gate: GateTurns<'a>) -> Viewer<MemDoor, GateTurns<'a>>
     ensures { IsNewViewer result }
 {
     Viewer {
@@ -59,7 +59,7 @@ fn recruit<'a>(
     alloc: Global,
     man: &Man<'_>,
     worker: u32,
-    gate: Turns<'a>,
+    gate: GateTurns<'a>,
 ) -> Result<(MemDoor, Watch<'a>), Memory> {
     let clock = clock(alloc, man.readings)?;
     let watch = Watch {
@@ -77,8 +77,8 @@ fn hire<'a>(
     alloc: Global,
     first: (MemDoor, Watch<'a>),
     second: Option<(MemDoor, Watch<'a>)>,
-    gate: Turns<'a>,
-) -> Result<Vec<Worker<MemDoor, Watch<'a>, Turns<'a>>>, Memory>
+    gate: GateTurns<'a>,
+) -> Result<Vec<Worker<MemDoor, Watch<'a>, GateTurns<'a>>>, Memory>
     ensures size { IfOk result (λ crew. (1 ≤ length crew.items) × (length crew.items ≤ 2)) }
     ensures fresh { IfOk result (λ crew. All (λ w. IsNew w) crew.items) }
 {
@@ -94,9 +94,9 @@ fn hire<'a>(
 /// The crew of a run.
 fn crew_of<'a>(
     alloc: Global,
-    run: &Run<'_>,
-    gate: Turns<'a>,
-) -> Result<Vec<Worker<MemDoor, Watch<'a>, Turns<'a>>>, Memory>
+    run: &CrewRun<'_>,
+    gate: GateTurns<'a>,
+) -> Result<Vec<Worker<MemDoor, Watch<'a>, GateTurns<'a>>>, Memory>
     ensures size { IfOk result (λ crew. (1 ≤ length crew.items) × (length crew.items ≤ 2)) }
     ensures fresh { IfOk result (λ crew. All (λ w. IsNew w) crew.items) }
 {
@@ -112,8 +112,8 @@ fn crew_of<'a>(
 fn seat<'a>(
     alloc: Global,
     man: Option<&Man<'_>>,
-    gate: Turns<'a>,
-) -> Result<Vec<Viewer<MemDoor, Turns<'a>>>, Memory>
+    gate: GateTurns<'a>,
+) -> Result<Vec<Viewer<MemDoor, GateTurns<'a>>>, Memory>
     ensures few { IfOk result (λ viewers. length viewers.items ≤ 1) }
     ensures new { IfOk result (λ viewers. All (λ v. IsNewViewer v) viewers.items) }
 {
@@ -127,7 +127,7 @@ fn seat<'a>(
 }
 
 /// Lets the workers go.
-fn let_go<'a>(mut crew: Vec<Worker<MemDoor, Watch<'a>, Turns<'a>>>) {
+fn let_go<'a>(mut crew: Vec<Worker<MemDoor, Watch<'a>, GateTurns<'a>>>) {
     while let Some(worker) = crew.pop() {
         let Worker {
             door: _,
@@ -141,7 +141,7 @@ fn let_go<'a>(mut crew: Vec<Worker<MemDoor, Watch<'a>, Turns<'a>>>) {
 }
 
 /// Lets the viewers go.
-fn dismiss<'a>(mut viewers: Vec<Viewer<MemDoor, Turns<'a>>>) {
+fn dismiss<'a>(mut viewers: Vec<Viewer<MemDoor, GateTurns<'a>>>) {
     while let Some(viewer) = viewers.pop() {
         let Viewer {
             door: _,
@@ -157,9 +157,9 @@ fn dismiss<'a>(mut viewers: Vec<Viewer<MemDoor, Turns<'a>>>) {
 fn serve<'a, R: Threads + Wait + Sync>(
     rt: &R,
     alloc: Global,
-    stage: &mut Stage,
-    crew: &mut Vec<Worker<MemDoor, Watch<'a>, Turns<'a>>>,
-    viewers: &mut Vec<Viewer<MemDoor, Turns<'a>>>,
+    stage: &mut Surroundings,
+    crew: &mut Vec<Worker<MemDoor, Watch<'a>, GateTurns<'a>>>,
+    viewers: &mut Vec<Viewer<MemDoor, GateTurns<'a>>>,
 ) -> u8
     requires size { (1 ≤ length crew.old.items) × (length crew.old.items ≤ 2) }
     requires fresh { All (λ w. IsNew w) crew.old.items }
@@ -194,9 +194,9 @@ fn serve<'a, R: Threads + Wait + Sync>(
 fn serve_told<'a, R: Threads + Wait + Sync>(
     rt: &R,
     alloc: Global,
-    stage: &mut Stage,
-    mut crew: Vec<Worker<MemDoor, Watch<'a>, Turns<'a>>>,
-    mut viewers: Vec<Viewer<MemDoor, Turns<'a>>>,
+    stage: &mut Surroundings,
+    mut crew: Vec<Worker<MemDoor, Watch<'a>, GateTurns<'a>>>,
+    mut viewers: Vec<Viewer<MemDoor, GateTurns<'a>>>,
 ) -> Result<List<u8>, Memory>
     requires size { (1 ≤ length crew.items) × (length crew.items ≤ 2) }
     requires fresh { All (λ w. IsNew w) crew.items }
@@ -214,8 +214,8 @@ fn serve_told<'a, R: Threads + Wait + Sync>(
 pub(crate) fn play<'a, R: Threads + Wait + Sync>(
     rt: &R,
     alloc: Global,
-    run: &Run<'_>,
-    gate: Turns<'a>,
+    run: &CrewRun<'_>,
+    gate: GateTurns<'a>,
 ) -> Result<List<u8>, Memory> {
     let mut stage = stage_of(alloc, &run.scene)?;
     let crew = crew_of(alloc, run, gate)?;

@@ -1,5 +1,5 @@
 //! Lines of 512 bytes and more in pieces, and each of their reads and writes failing in turn.
-use crate::crews::Run;
+use crate::crews::CrewRun;
 use crate::fakes::{Man, Wire};
 use crate::tests::{MAN, RUN, WIRE, is_told};
 use gt_base::Memory;
@@ -65,8 +65,8 @@ const OTHER: Wire<'static> = Wire {
 };
 
 /// The run of one worker with these links.
-pub(crate) fn serving<'a>(wires: &'a [Wire<'a>]) -> Run<'a> {
-    Run {
+pub(crate) fn serving<'a>(wires: &'a [Wire<'a>]) -> CrewRun<'a> {
+    CrewRun {
         zero: Man { wires, ..MAN },
         ..RUN
     }

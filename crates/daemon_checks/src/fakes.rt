@@ -44,16 +44,16 @@ pub(crate) struct Scene<'a> {
 }
 
 /// What surrounds a run.
-pub(crate) struct Stage {
+pub(crate) struct Surroundings {
     pub words: Vec<String>,
     pub shelf: MemShelf,
     pub birth: MemClock,
     pub out: MemSink,
 }
 
-impl Drop for Stage {
+impl Drop for Surroundings {
     fn drop(self) {
-        let Stage {
+        let Surroundings {
             words: _,
             shelf: _,
             birth: _,
@@ -135,12 +135,12 @@ fn shelf_of(alloc: Global, scene: &Scene<'_>) -> Result<MemShelf, Memory> {
 }
 
 /// What surrounds the run of a scene.
-pub(crate) fn stage_of(alloc: Global, scene: &Scene<'_>) -> Result<Stage, Memory> {
+pub(crate) fn stage_of(alloc: Global, scene: &Scene<'_>) -> Result<Surroundings, Memory> {
     let words = words_of(alloc, scene.words)?;
     let shelf = shelf_of(alloc, scene)?;
     let birth = clock(alloc, &[scene.birth])?;
     let out = MemSink::new(alloc, scene.room, 1_000, call(alloc, scene.bad_write)?)?;
-    Ok(Stage {
+    Ok(Surroundings {
         words,
         shelf,
         birth,

@@ -19,7 +19,7 @@ pub(crate) struct Rule {
 /// How many calls each of three has passed. Where a call is numbered otherwise, or waits for more
 /// than so many looks, that is seen.
 #[derive(Clone, Copy)]
-pub(crate) struct Turns<'a> {
+pub(crate) struct GateTurns<'a> {
     pub rules: &'a [Rule],
     pub zero: &'a AtomicU64,
     pub one: &'a AtomicU64,
@@ -29,7 +29,7 @@ pub(crate) struct Turns<'a> {
 
 const LOOKS: u32 = 400_000_000;
 
-impl<'a> Turns<'a> {
+impl<'a> GateTurns<'a> {
     fn calls(&self, worker: u32) -> &'a AtomicU64 {
         match worker {
             0 => self.zero,
@@ -49,7 +49,7 @@ impl<'a> Turns<'a> {
     }
 }
 
-impl Gate for Turns<'_> {
+impl Gate for GateTurns<'_> {
     fn pass(&self, worker: u32, call: u64) {
         if self
             .calls(worker)
@@ -74,7 +74,7 @@ impl Gate for Turns<'_> {
 /// A worker's clock. It sees whether one line more has passed the gate at each reading.
 pub(crate) struct Watch<'a> {
     pub clock: MemClock,
-    pub gate: Turns<'a>,
+    pub gate: GateTurns<'a>,
     pub worker: u32,
     pub read: u64,
 }

@@ -1,5 +1,5 @@
 //! Runs of the greatest lengths.
-use crate::crews::Run;
+use crate::crews::CrewRun;
 use crate::cut_tests::serving;
 use crate::fakes::{Scene, Wire};
 use crate::tests::{RUN, SCENE, WIRE, is_told};
@@ -65,7 +65,7 @@ fn a_long_policy_is_told(rt: HostRuntime) -> Result<(), Fail> {
         policy: &policy,
         ..SCENE
     };
-    let run = Run { scene, ..RUN };
+    let run = CrewRun { scene, ..RUN };
     assert!(rt; is_told(&rt, rt.alloc(), &run, &[TOO_LONG])?);
     Ok(())
 }

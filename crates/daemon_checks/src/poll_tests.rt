@@ -57,7 +57,7 @@ const TWO: Poll<'static> = Poll {
 
 /// A run by its name, and what is told of it.
 #[derive(Clone, Copy)]
-struct Row<'a> {
+struct PollRow<'a> {
     name: &'a str,
     poll: Poll<'a>,
     told: &'a [u8],
@@ -76,7 +76,7 @@ ask 0.1 u now = now 2026-01-05T10:05
 status 0
 ";
 
-const SIDE_BY_SIDE: Row<'static> = Row {
+const SIDE_BY_SIDE: PollRow<'static> = PollRow {
     name: "two links side by side",
     poll: Poll {
         events: &[
@@ -93,13 +93,13 @@ const SIDE_BY_SIDE: Row<'static> = Row {
     told: TOLD,
 };
 
-const FAILED_NEXT: Row<'static> = Row {
+const FAILED_NEXT: PollRow<'static> = PollRow {
     name: "a failed next ends the run",
     poll: Poll { bad_next: 1, ..TWO },
     told: b"born 2026-01-05T10:00\nstatus 10\n",
 };
 
-const LATE_FIRST_WRITE: Row<'static> = Row {
+const LATE_FIRST_WRITE: PollRow<'static> = PollRow {
     name: "a first reply that finds no room holds back the next line",
     poll: Poll {
         cables: &[
@@ -114,7 +114,7 @@ const LATE_FIRST_WRITE: Row<'static> = Row {
     told: TOLD,
 };
 
-const LATE_WRITE: Row<'static> = Row {
+const LATE_WRITE: PollRow<'static> = PollRow {
     name: "a reply that finds no room holds back the next line",
     poll: Poll {
         cables: &[
@@ -129,7 +129,7 @@ const LATE_WRITE: Row<'static> = Row {
     told: TOLD,
 };
 
-const LATE_FIRST_READ: Row<'static> = Row {
+const LATE_FIRST_READ: PollRow<'static> = PollRow {
     name: "a first read that finds nothing changes nothing",
     poll: Poll {
         cables: &[
@@ -144,7 +144,7 @@ const LATE_FIRST_READ: Row<'static> = Row {
     told: TOLD,
 };
 
-const LATE_READ: Row<'static> = Row {
+const LATE_READ: PollRow<'static> = PollRow {
     name: "a read that finds nothing changes nothing",
     poll: Poll {
         cables: &[
@@ -159,7 +159,7 @@ const LATE_READ: Row<'static> = Row {
     told: TOLD,
 };
 
-const BAD_FIRST_READ: Row<'static> = Row {
+const BAD_FIRST_READ: PollRow<'static> = PollRow {
     name: "a first read that fails ends its link alone",
     poll: Poll {
         cables: &[
@@ -182,7 +182,7 @@ status 0
 ",
 };
 
-const BAD_READ: Row<'static> = Row {
+const BAD_READ: PollRow<'static> = PollRow {
     name: "a read that fails ends its link alone",
     poll: Poll {
         cables: &[
@@ -206,7 +206,7 @@ status 0
 ",
 };
 
-const BAD_FIRST_WRITE: Row<'static> = Row {
+const BAD_FIRST_WRITE: PollRow<'static> = PollRow {
     name: "a first write that fails ends its link alone",
     poll: Poll {
         cables: &[
@@ -229,7 +229,7 @@ status 0
 ",
 };
 
-const BAD_WRITE: Row<'static> = Row {
+const BAD_WRITE: PollRow<'static> = PollRow {
     name: "a write that fails ends its link alone",
     poll: Poll {
         cables: &[
@@ -254,7 +254,7 @@ status 0
 ",
 };
 
-const ROWS: [&Row<'static>; 10] = [
+const ROWS: [&PollRow<'static>; 10] = [
     &SIDE_BY_SIDE,
     &FAILED_NEXT,
     &LATE_FIRST_WRITE,

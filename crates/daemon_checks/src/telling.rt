@@ -1,5 +1,5 @@
 //! How a run of workers and viewers is told.
-use crate::gates::{Turns, Watch};
+use crate::gates::{GateTurns, Watch};
 use gt_base::{List, Memory};
 use gt_io::{MemDoor, MemLink};
 use gt_text::push_number;
@@ -93,7 +93,7 @@ fn tell_link(text: &mut Vec<u8>, served: &Served<MemLink>) -> Result<(), Memory>
 /// The links of a worker, how many they are and how it ended.
 fn tell_worker(
     text: &mut Vec<u8>,
-    worker: &Worker<MemDoor, Watch<'_>, Turns<'_>>,
+    worker: &Worker<MemDoor, Watch<'_>, GateTurns<'_>>,
 ) -> Result<(), Memory> {
     worker.clock.compare();
     for served in worker.served.as_slice() {
@@ -117,7 +117,7 @@ fn tell_view(text: &mut Vec<u8>, view: &Viewed<MemLink>) -> Result<(), Memory> {
 }
 
 /// The links of a viewer and how it ended.
-fn tell_viewer(text: &mut Vec<u8>, viewer: &Viewer<MemDoor, Turns<'_>>) -> Result<(), Memory> {
+fn tell_viewer(text: &mut Vec<u8>, viewer: &Viewer<MemDoor, GateTurns<'_>>) -> Result<(), Memory> {
     for view in viewer.served.as_slice() {
         tell_view(text, view)?;
     }
@@ -136,8 +136,8 @@ pub(crate) fn tell_end(text: &mut Vec<u8>, written: &List<u8>, status: u8) -> Re
 /// The workers one after the other, the viewers, what was written, and the status.
 pub(crate) fn tell(
     alloc: Global,
-    crew: &[Worker<MemDoor, Watch<'_>, Turns<'_>>],
-    viewers: &[Viewer<MemDoor, Turns<'_>>],
+    crew: &[Worker<MemDoor, Watch<'_>, GateTurns<'_>>],
+    viewers: &[Viewer<MemDoor, GateTurns<'_>>],
     written: &List<u8>,
     status: u8,
 ) -> Result<List<u8>, Memory> {

@@ -1,7 +1,7 @@
 //! Runs with workers, and what is told of each.
-use crate::crews::{Run, play};
+use crate::crews::{CrewRun, play};
 use crate::fakes::{Man, Scene, Wire};
-use crate::gates::{Rule, Turns};
+use crate::gates::{GateTurns, Rule};
 use crate::view_tests::{
     A_VIEWER_IS_TOLD_WHAT_TWO_WORKERS_HAVE_DONE, A_VIEWER_SEES_WHAT_A_WORKER_HAS_DONE,
     A_VIEWER_SHOWS_AND_CHANGES_NOTHING, A_VIEWERS_DOOR_THAT_FAILS, FAULTY_WITH_A_VIEWER,
@@ -43,7 +43,7 @@ pub(crate) const SCENE: Scene<'static> = Scene {
     bad_write: 0,
 };
 
-pub(crate) const RUN: Run<'static> = Run {
+pub(crate) const RUN: CrewRun<'static> = CrewRun {
     scene: SCENE,
     zero: MAN,
     one: None,
@@ -52,14 +52,14 @@ pub(crate) const RUN: Run<'static> = Run {
 
 /// A run by its name, the rules of its gate, and the texts of which one is told, each in parts.
 #[derive(Clone, Copy)]
-pub(crate) struct Row<'a> {
+pub(crate) struct CrewRow<'a> {
     pub name: &'a str,
-    pub run: Run<'a>,
+    pub run: CrewRun<'a>,
     pub rules: &'a [Rule],
     pub told: &'a [&'a [&'a [u8]]],
 }
 
-pub(crate) const ROW: Row<'static> = Row {
+pub(crate) const ROW: CrewRow<'static> = CrewRow {
     name: "",
     run: RUN,
     rules: &[],
@@ -93,14 +93,14 @@ fn is_one(text: &[u8], told: &[&[&[u8]]]) -> bool {
 fn played<R: Threads + Wait + Sync>(
     rt: &R,
     alloc: Global,
-    run: &Run<'_>,
+    run: &CrewRun<'_>,
     rules: &[Rule],
     is_wrong: &AtomicBool,
 ) -> Result<List<u8>, Memory> {
     let zero = AtomicU64::new(0);
     let one = AtomicU64::new(0);
     let two = AtomicU64::new(0);
-    let gate = Turns {
+    let gate = GateTurns {
         rules,
         zero: &zero,
         one: &one,
@@ -114,7 +114,7 @@ fn played<R: Threads + Wait + Sync>(
 pub(crate) fn is_told<R: Threads + Wait + Sync>(
     rt: &R,
     alloc: Global,
-    run: &Run<'_>,
+    run: &CrewRun<'_>,
     parts: &[&[u8]],
 ) -> Result<bool, Memory> {
     let is_wrong = AtomicBool::new(false);
@@ -126,7 +126,7 @@ pub(crate) fn is_told<R: Threads + Wait + Sync>(
 fn is_row_told<R: Threads + Wait + Sync>(
     rt: &R,
     alloc: Global,
-    row: &Row<'_>,
+    row: &CrewRow<'_>,
 ) -> Result<bool, Memory> {
     let is_wrong = AtomicBool::new(false);
     let text = played(rt, alloc, &row.run, row.rules, &is_wrong)?;
@@ -138,7 +138,7 @@ fn is_row_told<R: Threads + Wait + Sync>(
 fn first_wrong<'a, R: Threads + Wait + Sync>(
     rt: &R,
     alloc: Global,
-    rows: &[&Row<'a>],
+    rows: &[&CrewRow<'a>],
 ) -> Result<&'a str, Memory> {
     for row in rows {
         if !is_row_told(rt, alloc, row)? {
@@ -148,7 +148,7 @@ fn first_wrong<'a, R: Threads + Wait + Sync>(
     Ok("")
 }
 
-const LINKS: [&Row<'static>; 7] = [
+const LINKS: [&CrewRow<'static>; 7] = [
     &LINES_PASS_THE_GATE,
     &A_REPLY_IS_CUT_AT_THE_SIXTH_WRITE,
     &A_LINE_WITHOUT_ITS_END_SAYS_NOTHING,
@@ -165,7 +165,7 @@ fn links_are_told(rt: HostRuntime) -> Result<(), Fail> {
     Ok(())
 }
 
-const HISTORIES: [&Row<'static>; 6] = [
+const HISTORIES: [&CrewRow<'static>; 6] = [
     &A_DOOR_THAT_FAILS_ENDS_ITS_WORKER,
     &TIME_STAYS_WHERE_THE_CLOCK_FALLS,
     &TIME_STAYS_WHERE_THE_CLOCK_FALLS_BY_A_DAY,
@@ -181,7 +181,7 @@ fn histories_are_told(rt: HostRuntime) -> Result<(), Fail> {
     Ok(())
 }
 
-const STATUSES: [&Row<'static>; 10] = [
+const STATUSES: [&CrewRow<'static>; 10] = [
     &NO_WORD,
     &A_FLAG,
     &TWO_WORDS,
@@ -201,7 +201,7 @@ fn statuses_are_told(rt: HostRuntime) -> Result<(), Fail> {
     Ok(())
 }
 
-const VIEWED: [&Row<'static>; 6] = [
+const VIEWED: [&CrewRow<'static>; 6] = [
     &A_VIEWER_SHOWS_AND_CHANGES_NOTHING,
     &A_VIEWER_SEES_WHAT_A_WORKER_HAS_DONE,
     &A_VIEWER_IS_TOLD_WHAT_TWO_WORKERS_HAVE_DONE,
@@ -237,9 +237,9 @@ fn two_workers_are_told(rt: HostRuntime) -> Result<(), Fail> {
 }
 
 /// Each reading of the clock is another minute. The gate may wait, and has nothing to wait for.
-const LINES_PASS_THE_GATE: Row<'static> = Row {
+const LINES_PASS_THE_GATE: CrewRow<'static> = CrewRow {
     name: "each request line passes the gate, and then the clock is read",
-    run: Run {
+    run: CrewRun {
         zero: Man {
             wires: &[
                 Wire {
@@ -288,9 +288,9 @@ status 0
     ..ROW
 };
 
-const A_REPLY_IS_CUT_AT_THE_SIXTH_WRITE: Row<'static> = Row {
+const A_REPLY_IS_CUT_AT_THE_SIXTH_WRITE: CrewRow<'static> = CrewRow {
     name: "a reply is cut at the sixth write",
-    run: Run {
+    run: CrewRun {
         zero: Man {
             wires: &[
                 Wire {
@@ -324,9 +324,9 @@ status 0
     ..ROW
 };
 
-const A_LINE_WITHOUT_ITS_END_SAYS_NOTHING: Row<'static> = Row {
+const A_LINE_WITHOUT_ITS_END_SAYS_NOTHING: CrewRow<'static> = CrewRow {
     name: "a line without its end says nothing",
-    run: Run {
+    run: CrewRun {
         zero: Man {
             wires: &[
                 WIRE,
@@ -350,9 +350,9 @@ status 0
     ..ROW
 };
 
-const FAULTY_LINES_LEAVE_NO_ENTRY: Row<'static> = Row {
+const FAULTY_LINES_LEAVE_NO_ENTRY: CrewRow<'static> = CrewRow {
     name: "faulty lines leave no entry",
-    run: Run {
+    run: CrewRun {
         zero: Man {
             wires: &[Wire {
                 sends: b"now\nfrob\nstatus enabled nobody\n\n# silent\n",
@@ -376,9 +376,9 @@ status 0
     ..ROW
 };
 
-const A_CONNECTION_HAS_NO_MINUTES: Row<'static> = Row {
+const A_CONNECTION_HAS_NO_MINUTES: CrewRow<'static> = CrewRow {
     name: "a connection has no minutes, and its dash is nobody",
-    run: Run {
+    run: CrewRun {
         zero: Man {
             wires: &[Wire {
                 sends: b"@ 2026-01-05T10:00\nas u\nnow\nas -\nnow\n",
@@ -405,9 +405,9 @@ status 0
     ..ROW
 };
 
-const A_DOOR_THAT_GAVE_NONE_IS_NOT_ASKED_AGAIN: Row<'static> = Row {
+const A_DOOR_THAT_GAVE_NONE_IS_NOT_ASKED_AGAIN: CrewRow<'static> = CrewRow {
     name: "a door that gave none is not asked again",
-    run: Run {
+    run: CrewRun {
         zero: Man { bad_call: 2, ..MAN },
         ..RUN
     },
@@ -431,9 +431,9 @@ const TWO_FAULTY: &[Wire<'static>] = &[
     },
 ];
 
-const A_DOOR_THAT_FAILS_AT_ONCE: Row<'static> = Row {
+const A_DOOR_THAT_FAILS_AT_ONCE: CrewRow<'static> = CrewRow {
     name: "a door that fails at once",
-    run: Run {
+    run: CrewRun {
         zero: Man {
             wires: TWO_FAULTY,
             bad_call: 1,
@@ -450,9 +450,9 @@ status 10
     ..ROW
 };
 
-const A_DOOR_THAT_FAILS_ENDS_ITS_WORKER: Row<'static> = Row {
+const A_DOOR_THAT_FAILS_ENDS_ITS_WORKER: CrewRow<'static> = CrewRow {
     name: "a door that fails ends its worker",
-    run: Run {
+    run: CrewRun {
         zero: Man {
             wires: TWO_FAULTY,
             bad_call: 2,
@@ -476,9 +476,9 @@ const ASKS_TWICE: &[Wire<'static>] = &[Wire {
     ..WIRE
 }];
 
-const TIME_STAYS_WHERE_THE_CLOCK_FALLS: Row<'static> = Row {
+const TIME_STAYS_WHERE_THE_CLOCK_FALLS: CrewRow<'static> = CrewRow {
     name: "time stays where the clock falls",
-    run: Run {
+    run: CrewRun {
         zero: Man {
             wires: ASKS_TWICE,
             readings: &[TEN + 5, TEN - 60],
@@ -502,9 +502,9 @@ status 0
     ..ROW
 };
 
-const TIME_STAYS_WHERE_THE_CLOCK_FALLS_BY_A_DAY: Row<'static> = Row {
+const TIME_STAYS_WHERE_THE_CLOCK_FALLS_BY_A_DAY: CrewRow<'static> = CrewRow {
     name: "time stays where the clock falls by a day",
-    run: Run {
+    run: CrewRun {
         zero: Man {
             wires: ASKS_TWICE,
             readings: &[TEN + DAY, TEN],
@@ -563,9 +563,9 @@ const FIVE: &[u8] = b"5";
 
 /// Two workers, of which the second is five minutes ahead at its first line: its tick and its two
 /// asks stand before, between or behind those of the first one's connections.
-const SHARED: Row<'static> = Row {
+const SHARED: CrewRow<'static> = CrewRow {
     name: "two workers share a history",
-    run: Run {
+    run: CrewRun {
         zero: Man {
             wires: &[
                 Wire {
@@ -639,9 +639,9 @@ ask 1.1 u now = now 2026-01-05T10:00
 const THIRD: &[u8] = b"ask 1.1 u now = now 2026-01-05T10:00\n";
 
 /// Worker 0's first request line is held until worker 1 comes to its third.
-const TWO_WORKERS_RUN_BESIDE_EACH_OTHER: Row<'static> = Row {
+const TWO_WORKERS_RUN_BESIDE_EACH_OTHER: CrewRow<'static> = CrewRow {
     name: "two workers run beside each other",
-    run: Run {
+    run: CrewRun {
         zero: Man {
             wires: &[Wire {
                 sends: b"as u\nopen\n",
@@ -672,9 +672,9 @@ const TWO_WORKERS_RUN_BESIDE_EACH_OTHER: Row<'static> = Row {
 };
 
 /// The clock reads 2001-11-25T10:39, after 999,999 minutes.
-const A_FULL_HISTORY_TAKES_NO_STEP: Row<'static> = Row {
+const A_FULL_HISTORY_TAKES_NO_STEP: CrewRow<'static> = CrewRow {
     name: "a full history takes no step",
-    run: Run {
+    run: CrewRun {
         scene: Scene {
             policy: b"role a\nperiod always * * all.Days\neach always 50:enable a\n",
             birth: 0,
@@ -713,9 +713,9 @@ const USAGE: &[u8] = b"usage: gtrbacd POLICY | views POLICY | poll POLICY\n";
 
 const STATUS_1: &[u8] = b"status 1\n";
 
-const NO_WORD: Row<'static> = Row {
+const NO_WORD: CrewRow<'static> = CrewRow {
     name: "no word",
-    run: Run {
+    run: CrewRun {
         scene: Scene {
             words: &[],
             ..SCENE
@@ -726,9 +726,9 @@ const NO_WORD: Row<'static> = Row {
     ..ROW
 };
 
-const A_FLAG: Row<'static> = Row {
+const A_FLAG: CrewRow<'static> = CrewRow {
     name: "a flag",
-    run: Run {
+    run: CrewRun {
         scene: Scene {
             words: &["-P"],
             ..SCENE
@@ -739,9 +739,9 @@ const A_FLAG: Row<'static> = Row {
     ..ROW
 };
 
-const TWO_WORDS: Row<'static> = Row {
+const TWO_WORDS: CrewRow<'static> = CrewRow {
     name: "two words",
-    run: Run {
+    run: CrewRun {
         scene: Scene {
             words: &["P", "P"],
             ..SCENE
@@ -752,9 +752,9 @@ const TWO_WORDS: Row<'static> = Row {
     ..ROW
 };
 
-const A_USAGE_THAT_IS_CUT: Row<'static> = Row {
+const A_USAGE_THAT_IS_CUT: CrewRow<'static> = CrewRow {
     name: "a usage that is cut",
-    run: Run {
+    run: CrewRun {
         scene: Scene {
             words: &[],
             room: 5,
@@ -766,9 +766,9 @@ const A_USAGE_THAT_IS_CUT: Row<'static> = Row {
     ..ROW
 };
 
-const A_FAULTY_POLICY: Row<'static> = Row {
+const A_FAULTY_POLICY: CrewRow<'static> = CrewRow {
     name: "a faulty policy",
-    run: Run {
+    run: CrewRun {
         scene: Scene {
             policy: b"frob\n",
             ..SCENE
@@ -779,9 +779,9 @@ const A_FAULTY_POLICY: Row<'static> = Row {
     ..ROW
 };
 
-const A_POLICY_THAT_IS_NOT_SAFE: Row<'static> = Row {
+const A_POLICY_THAT_IS_NOT_SAFE: CrewRow<'static> = CrewRow {
     name: "a policy that is not safe",
-    run: Run {
+    run: CrewRun {
         scene: Scene {
             policy: b"role a
 role b
@@ -803,9 +803,9 @@ status 3
     ..ROW
 };
 
-const NO_SUCH_FILE: Row<'static> = Row {
+const NO_SUCH_FILE: CrewRow<'static> = CrewRow {
     name: "no such file",
-    run: Run {
+    run: CrewRun {
         scene: Scene {
             words: &["Q"],
             ..SCENE
@@ -816,9 +816,9 @@ const NO_SUCH_FILE: Row<'static> = Row {
     ..ROW
 };
 
-const A_SHELF_THAT_FAILS: Row<'static> = Row {
+const A_SHELF_THAT_FAILS: CrewRow<'static> = CrewRow {
     name: "a shelf that fails",
-    run: Run {
+    run: CrewRun {
         scene: Scene {
             bad_find: 2,
             ..SCENE
@@ -843,9 +843,9 @@ now 2026-01-05T10:00
 1 links, done
 ";
 
-const A_LOG_THAT_FINDS_NO_ROOM: Row<'static> = Row {
+const A_LOG_THAT_FINDS_NO_ROOM: CrewRow<'static> = CrewRow {
     name: "a log that finds no room",
-    run: Run {
+    run: CrewRun {
         scene: Scene { room: 29, ..SCENE },
         zero: ASKS_ONCE,
         ..RUN
@@ -854,9 +854,9 @@ const A_LOG_THAT_FINDS_NO_ROOM: Row<'static> = Row {
     ..ROW
 };
 
-const A_LOG_WHOSE_FIRST_WRITE_FAILS: Row<'static> = Row {
+const A_LOG_WHOSE_FIRST_WRITE_FAILS: CrewRow<'static> = CrewRow {
     name: "a log whose first write fails",
-    run: Run {
+    run: CrewRun {
         scene: Scene {
             bad_write: 1,
             ..SCENE
@@ -869,9 +869,9 @@ const A_LOG_WHOSE_FIRST_WRITE_FAILS: Row<'static> = Row {
 };
 
 /// One request of each kind, by the user of the session.
-const EACH_REQUEST_IS_LOGGED: Row<'static> = Row {
+const EACH_REQUEST_IS_LOGGED: CrewRow<'static> = CrewRow {
     name: "each request is logged",
-    run: Run {
+    run: CrewRun {
         scene: Scene {
             policy: b"policy 2
 role s

@@ -1,8 +1,8 @@
 //! Runs with a viewer, and what is told of each. The test that plays them stands with the others.
-use crate::crews::Run;
+use crate::crews::CrewRun;
 use crate::fakes::{Man, Scene, Wire};
 use crate::gates::Rule;
-use crate::tests::{MAN, ROW, RUN, Row, SCENE, TEN, WIRE};
+use crate::tests::{CrewRow, MAN, ROW, RUN, SCENE, TEN, WIRE};
 
 /// What surrounds a run with a viewer.
 const VIEWS: Scene<'static> = Scene {
@@ -11,7 +11,7 @@ const VIEWS: Scene<'static> = Scene {
 };
 
 /// A worker without links, and a viewer without links.
-const WATCHED: Run<'static> = Run {
+const WATCHED: CrewRun<'static> = CrewRun {
     scene: VIEWS,
     viewer: Some(MAN),
     ..RUN
@@ -20,9 +20,9 @@ const WATCHED: Run<'static> = Run {
 /// Five minutes after the birth.
 const LATER: &[u32] = &[TEN + 5];
 
-pub(crate) const A_VIEWER_SHOWS_AND_CHANGES_NOTHING: Row<'static> = Row {
+pub(crate) const A_VIEWER_SHOWS_AND_CHANGES_NOTHING: CrewRow<'static> = CrewRow {
     name: "a viewer shows and changes nothing",
-    run: Run {
+    run: CrewRun {
         viewer: Some(Man {
             wires: &[Wire {
                 sends: b"as u\nnow\nopen\ncheck 1 x\n",
@@ -67,9 +67,9 @@ status 0
 
 /// The viewer's first line is held until the worker comes to its second, so that it sees the tick of
 /// the first. What only looks is published later.
-pub(crate) const A_VIEWER_SEES_WHAT_A_WORKER_HAS_DONE: Row<'static> = Row {
+pub(crate) const A_VIEWER_SEES_WHAT_A_WORKER_HAS_DONE: CrewRow<'static> = CrewRow {
     name: "a viewer sees what a worker has done",
-    run: Run {
+    run: CrewRun {
         zero: Man {
             wires: &[Wire {
                 sends: b"as u\nnow\nnow\n",
@@ -148,9 +148,9 @@ const STATUS_0: &[u8] = b"status 0\n";
 
 /// Worker 0 makes three requests, then worker 1 three, and then the viewer five; the fourth request
 /// of either worker waits for that.
-pub(crate) const A_VIEWER_IS_TOLD_WHAT_TWO_WORKERS_HAVE_DONE: Row<'static> = Row {
+pub(crate) const A_VIEWER_IS_TOLD_WHAT_TWO_WORKERS_HAVE_DONE: CrewRow<'static> = CrewRow {
     name: "a viewer is told what two workers have done",
-    run: Run {
+    run: CrewRun {
         scene: Scene {
             policy: TEAM,
             ..VIEWS
@@ -218,9 +218,9 @@ open
     ..ROW
 };
 
-pub(crate) const A_VIEWERS_DOOR_THAT_FAILS: Row<'static> = Row {
+pub(crate) const A_VIEWERS_DOOR_THAT_FAILS: CrewRow<'static> = CrewRow {
     name: "a viewer's door that fails is told with the log",
-    run: Run {
+    run: CrewRun {
         zero: Man {
             wires: &[Wire {
                 sends: b"as u\nnow\n",
@@ -245,9 +245,9 @@ status 10
     ..ROW
 };
 
-pub(crate) const WRONG_WORD_WITH_A_VIEWER: Row<'static> = Row {
+pub(crate) const WRONG_WORD_WITH_A_VIEWER: CrewRow<'static> = CrewRow {
     name: "a wrong word with a viewer",
-    run: Run {
+    run: CrewRun {
         scene: Scene {
             words: &["views", "-P"],
             ..SCENE
@@ -264,9 +264,9 @@ status 1
     ..ROW
 };
 
-pub(crate) const FAULTY_WITH_A_VIEWER: Row<'static> = Row {
+pub(crate) const FAULTY_WITH_A_VIEWER: CrewRow<'static> = CrewRow {
     name: "a faulty policy with a viewer",
-    run: Run {
+    run: CrewRun {
         scene: Scene {
             policy: b"frob\n",
             ..VIEWS

@@ -1,35 +1,27 @@
--- What is due when, in a rising row of pairs.
-use Rattle.std.proofs.Common.{◌≡◌, ℕ, zero, suc, ◌+◌, ◌-◌, ◌<◌, ◌≤◌, Bool, true, false, ◌&&◌, ◌||◌, not, T, List, [], ◌∷◌, length, take, filter, get_or, refl, sym, ◌∙◌, ap, subst, arith, ltb, leb, inl, inr, length-take, length-drop}
-use Rattle.std.specs.List.{list_any, AllWithin, slice_range, remove_range}
-use Rattle.std.specs.List.Sorted.{IsPartitionedBy}
-use Rattle.std.specs.Prelude.{slice_get, Some}
-use Rattle.std.proofs.lemmas.Bool.{eq-eqb, eqb-false, ne_eqb, le-leb, lt-ltb, leb-true, ltb-true, cases_lt}
-use Rattle.std.proofs.lemmas.List.Folds.{list_any_at, list_any_more}
-use Rattle.std.proofs.lemmas.Option.{slice_get_within, get_or_from_slice_get}
+-- What is due when, in a list of pairs.
+use Rattle.std.proofs.Common.{◌≡◌, ℕ, zero, suc, ◌+◌, ◌-◌, ◌<◌, ◌≤◌, Bool, true, false, cond, ◌&&◌, ◌||◌, not, T, List, [], ◌∷◌, length, filter, get_or, refl, sym, ◌∙◌, ap, subst, arith, length-append}
+use Rattle.std.specs.List.{list_any}
+use Rattle.std.specs.Prelude.{slice_get, Option, Some, None, IsSome, ◌++◌}
+use Rattle.std.specs.Option.{option_to_list}
+use Rattle.std.proofs.lemmas.Bool.{eqb-false}
+use Rattle.std.proofs.lemmas.List.{get_or_push}
+use Rattle.std.proofs.lemmas.List.Folds.{list_any_at}
+use Rattle.std.proofs.lemmas.Option.{slice_get_within, get_or_from_slice_get, slice_get-get_or}
 use Rattle.std.specs.Cmp.{ranks, unsigned_ties, both_tied, tied_itself, Equal-is}
 use Rattle.std.specs.Ordering.{nat_cmp, ordering_then, eq_by_cmp, is_eq, is_lt, MatchOrdering}
 use Rattle.std.specs.declared.cmp.Ordering.{Ordering}
 use Rattle.std.specs.declared.cmp.Ordering.TheVariants.{Less, Equal, Greater}
+use Rattle.std.specs.FinMap.Entries.{below_all}
 use Rattle.gt_base.specs.declared.events.Prioritised.{Prioritised}
 use Rattle.gt_base.specs.Orders.{prioritised_cmp}
-use Rattle.gt_base.specs.Sets.{SetOf, set_of_rising, pairs, has, members, those, with_member, none, Rises}
-use Rattle.gt_base.proofs.Rising.{has-set_of_rising, filter_rises, set_of_filtered}
-use Rattle.gt_base.proofs.SetLaws.{members-set_of_rising, members-none, has-with_member}
+use Rattle.gt_base.specs.Sets.{SetOf, pairs, has, with_member, Rises}
+use Rattle.gt_base.proofs.Rising.{left_of, right_of}
+use Rattle.gt_base.proofs.SetLaws.{has-with_member}
 use Rattle.gt_base.proofs.SetSteps.{prioritised_cmp_total}
-use Rattle.std.specs.FinMap.Entries.{below_all}
 use Rattle.delay_agenda.specs.declared.pairs.Pending.{Pending}
-use Rattle.delay_agenda.specs.Due.{pending_cmp, pending_at, is_due_at, count_due, IsLeastDue, Pendings}
-use Rattle.delay_agenda.specs.Places.{AfterAreFirst, FromAreFirst, lists_event}
-use Rattle.delay_agenda.proofs.ListParts.{filter_parts, list_any_both}
+use Rattle.delay_agenda.specs.Due.{pending_cmp, pending_at, is_due_at, IsLeastDue, Pendings}
+use Rattle.delay_agenda.specs.Rows.{due_in, lists_event, stands_in}
 use Rattle.delay_agenda.proofs.PendingLaws.{pending_cmp_total, pending_cmp-IsAntisymmetric}
-
-left_of : (a b : Bool) → T (a && b) → T a
-left_of true b h = tt
-left_of false b h = absurd h
-
-right_of : (a b : Bool) → T (a && b) → T b
-right_of true b h = h
-right_of false b h = absurd h
 
 -- who stands before another is not due before it
 not_before : (x y : Pending) → T (is_lt (pending_cmp x y)) → y.due ≤ x.due
@@ -57,110 +49,51 @@ dues_fall (x ∷ xs) h (suc i) (suc j) d le lt = dues_fall xs (right_of (below_a
 pub tied_at : (t : ℕ) (e : Prioritised) (k : Pending) → (is_due_at t k && eq_by_cmp prioritised_cmp e k.event) ≡ eq_by_cmp pending_cmp (pending_at t e) k
 tied_at t e k = both_tied _ _ (nat_cmp k.due t) (prioritised_cmp e k.event) (unsigned_ties k.due t) refl
 
--- those that are due after an instant stand first
-pub after_first : (t : ℕ) (ks : List Pending) → Rises pending_cmp ks → IsPartitionedBy (λ p. ltb t p.due) ks
-after_first t ks h i j d le lt e =
-    let a : t < (get_or ks j d).due = ltb-true _ _ e in
-    let b : (get_or ks j d).due ≤ (get_or ks i d).due = dues_fall ks h i j d le lt in
-    lt-ltb _ _ (omega arith)
-
--- those that are due at an instant or after it stand first
-pub from_first : (t : ℕ) (ks : List Pending) → Rises pending_cmp ks → IsPartitionedBy (λ p. leb t p.due) ks
-from_first t ks h i j d le lt e =
-    let a : t ≤ (get_or ks j d).due = leb-true _ _ e in
-    let b : (get_or ks j d).due ≤ (get_or ks i d).due = dues_fall ks h i j d le lt in
-    le-leb _ _ (omega arith)
-
--- those due after the instant end before those due before it begin
-pub after_ends : (t : ℕ) (ks : List Pending) (a b : ℕ) → AfterAreFirst t ks a → FromAreFirst t ks b → a ≤ b
-after_ends t [] a b f g = let bound : a ≤ 0 = f.bound in omega arith
-after_ends t (x ∷ xs) a b f g =
-    elim (cases_lt b a) [
-      | inl lt ↦ absurd (omega (arith, f.first b x (omega arith) lt, g.others b x (omega arith) (omega (arith, f.bound, lt))))
-      | inr le ↦ le
+-- to look among those that pass is to look for one that passes both tests
+list_any_both : (p q : Pending → Bool) (ks : List Pending) → list_any q (filter p ks) ≡ list_any (λ k. p k && q k) ks
+list_any_both p q [] = refl
+list_any_both p q (k ∷ ks) =
+    elim (p k) as (λ b. list_any q (cond b (k ∷ filter p ks) (filter p ks)) ≡ ((b && q k) || list_any (λ x. p x && q x) ks)) [
+      | true ↦ ap (λ b. q k || b) (list_any_both p q ks)
+      | false ↦ list_any_both p q ks
     ]
 
--- what stands between the places is what is due at the instant
-module _ (t : ℕ) (ks : List Pending) (a b : ℕ) (f : AfterAreFirst t ks a) (g : FromAreFirst t ks b) where
-  front : AllWithin (λ p. is_due_at t p ≡ false) ks 0 a
-  front k d low high = ne_eqb (get_or ks k d).due t (λ e. absurd (omega (arith, f.first k d low high, e)))
+-- an event is due at the instant where its pair stands
+pub stands_due : (t : ℕ) (e : Prioritised) (ks : List Pending) → stands_in ks (pending_at t e) ≡ lists_event (due_in ks t) e
+stands_due t e ks = sym (list_any_both (is_due_at t) (λ p. eq_by_cmp prioritised_cmp e p.event) ks ∙ ap (λ test. list_any test ks) (λ i k. tied_at t e k i))
 
-  middle : AllWithin (λ p. is_due_at t p ≡ true) ks a b
-  middle k d low high = eq-eqb _ _ (omega (arith, f.others k d low (omega (arith, high, g.bound)), g.first k d (omega arith) high))
+-- one event is told, and others are left
+pub told_more : (s u : SetOf prioritised_cmp) (p : Pending) (left ks : List Pending) (e : Prioritised) (b : Bool) → left ≡ p ∷ ks → u ≡ with_member s p.event
+    → (has s e || lists_event left e) ≡ b → (has u e || lists_event ks e) ≡ b
+told_more s u p left ks e b next is so_far =
+    ap (λ v. has v e || lists_event ks e) is ∙ ap (λ c. c || lists_event ks e) (has-with_member prioritised_cmp_total s p.event e)
+    ∙ around (eq_by_cmp prioritised_cmp e p.event) (has s e) (lists_event ks e) ∙ ap (λ l. has s e || lists_event l e) (sym next) ∙ so_far
+  where
+    around : (a h l : Bool) → ((a || h) || l) ≡ (h || (a || l))
+    around true true l = refl
+    around true false l = refl
+    around false h l = refl
 
-  back : AllWithin (λ p. is_due_at t p ≡ false) ks b (length ks)
-  back k d low high = ne_eqb (get_or ks k d).due t (λ e. absurd (omega (arith, g.others k d low high, e)))
-
-  parts : (slice_range ks a b ≡ filter (is_due_at t) ks) × (remove_range ks a b ≡ filter (λ p. not (is_due_at t p)) ks)
-  parts = filter_parts (is_due_at t) ks a b (after_ends t ks a b f g) g.bound front middle back
-
-  -- how many are due
-  pub count_between : Rises pending_cmp ks → b - a ≡ count_due (set_of_rising ks) t
-  count_between h =
-      let order : a ≤ b = after_ends t ks a b f g in
-      let long : length (slice_range ks a b) ≡ b - a = simp (length-take, length-drop) (omega (arith, g.bound)) in
-      sym long ∙ ap length parts.0
-      ∙ ap length (sym (members-set_of_rising pending_cmp (filter (is_due_at t) ks) (filter_rises pending_cmp_total (is_due_at t) ks h)))
-      ∙ ap (λ s. length (members s)) (set_of_filtered pending_cmp_total (is_due_at t) ks h)
-
-  -- their events are those that the set has at the instant
-  pub events_between : Rises pending_cmp ks → (e : Prioritised) → lists_event (slice_range ks a b) e ≡ has (set_of_rising {R = pending_cmp} ks) (pending_at t e)
-  events_between h e =
-      ap (λ xs. lists_event xs e) parts.0 ∙ list_any_both (is_due_at t) (λ p. eq_by_cmp prioritised_cmp e p.event) ks
-      ∙ ap (λ test. list_any test ks) (λ i k. tied_at t e k i)
-      ∙ sym (has-set_of_rising pending_cmp_total ks (pending_at t e) h)
-
-  pub others_rise : Rises pending_cmp ks → Rises pending_cmp (remove_range ks a b)
-  others_rise h = subst (Rises pending_cmp) (sym parts.1) (filter_rises pending_cmp_total _ ks h)
-
-  pub others_stay : Rises pending_cmp ks → set_of_rising {R = pending_cmp} (remove_range ks a b) ≡ those (set_of_rising ks) (λ p. not (is_due_at t p))
-  others_stay h = ap (λ xs. set_of_rising {R = pending_cmp} xs) parts.1 ∙ set_of_filtered pending_cmp_total _ ks h
-
--- no pair of the row is due before n where none that is read there is
-none_before : (ks : List Pending) (n : ℕ) → ((i : ℕ) (d : Pending) → i < length ks → n ≤ (get_or ks i d).due) → (q : Pending) → list_any (eq_by_cmp pending_cmp q) ks ≡ true → n ≤ q.due
+-- no pair of the list is due before n where none that is read there is
+none_before : (ks : List Pending) (n : ℕ) → ((i : ℕ) (d : Pending) → i < length ks → n ≤ (get_or ks i d).due) → (q : Pending) → stands_in ks q ≡ true → n ≤ q.due
 none_before [] n h q e = cc
 none_before (x ∷ xs) n h q e =
-    elim (eq_by_cmp pending_cmp q x) as (λ b. eq_by_cmp pending_cmp q x ≡ b → (b || list_any (eq_by_cmp pending_cmp q) xs) ≡ true → n ≤ q.due) [
+    elim (eq_by_cmp pending_cmp q x) as (λ b. eq_by_cmp pending_cmp q x ≡ b → (b || stands_in xs q) ≡ true → n ≤ q.due) [
       | true ↦ λ tie _. subst (λ y. n ≤ y.due) (sym (pending_cmp-IsAntisymmetric q x ((Equal-is (pending_cmp q x)).0 tie))) (h 0 x (omega arith))
       | false ↦ λ _ e. none_before xs n (λ i d lt. h (suc i) d (omega (arith, lt))) q e
     ] refl e
 
 -- what stands last is due next
-pub last_is_least : (ks : List Pending) (p : Pending) → Rises pending_cmp ks → slice_get ks (length ks - 1) ≡ Some p → IsLeastDue (set_of_rising ks) p.due
+pub last_is_least : (ks : List Pending) (p : Pending) → Rises pending_cmp ks → slice_get ks (length ks - 1) ≡ Some p
+    → (stands_in ks p ≡ true) × ((q : Pending) → stands_in ks q ≡ true → p.due ≤ q.due)
 last_is_least ks p h e =
     let lt : length ks - 1 < length ks = slice_get_within ks _ p e in
-    let is : (d : Pending) → get_or ks (length ks - 1) d ≡ p = λ d. get_or_from_slice_get ks _ p d e in
-    record {
-      event = p.event;
-      is_due =
-          has-set_of_rising pending_cmp_total ks p h
-          ∙ list_any_at (eq_by_cmp pending_cmp p) ks (length ks - 1) p lt (ap (eq_by_cmp pending_cmp p) (is p) ∙ ap is_eq (tied_itself pending_cmp_total p));
-      least = λ q there.
-          none_before ks p.due (λ i d below. subst (λ x. x.due ≤ (get_or ks i d).due) (is d) (dues_fall ks h i (length ks - 1) d (omega (arith, below)) lt)) q
-          (sym (has-set_of_rising pending_cmp_total ks q h) ∙ there);
-    }
+    let is : (d : Pending) → get_or ks (length ks - 1) d ≡ p = λ d. get_or_from_slice_get ks _ p d e in (
+      list_any_at (eq_by_cmp pending_cmp p) ks (length ks - 1) p lt (ap (eq_by_cmp pending_cmp p) (is p) ∙ ap is_eq (tied_itself pending_cmp_total p)),
+      none_before ks p.due (λ i d below. subst (λ x. x.due ≤ (get_or ks i d).due) (is d) (dues_fall ks h i (length ks - 1) d (omega (arith, below)) lt)),
+    )
 
-at_end : (x b l : Bool) → (x || (b || l)) ≡ (b || (l || x))
-at_end true true l = refl
-at_end true false true = refl
-at_end true false false = refl
-at_end false true l = refl
-at_end false false true = refl
-at_end false false false = refl
-
--- one event more among those that joined
-pub joined_more : (s u : SetOf prioritised_cmp) (ks : List Pending) (i : ℕ) (d : Pending) (e : Prioritised) (b : Bool) → u ≡ with_member s (get_or ks i d).event → i < length ks
-    → has s e ≡ (b || lists_event (take i ks) e) → has u e ≡ (b || lists_event (take (i + 1) ks) e)
-joined_more s u ks i d e b is lt so_far =
-    let tie : Bool = eq_by_cmp prioritised_cmp e (get_or ks i d).event in
-    ap (λ v. has v e) is ∙ has-with_member prioritised_cmp_total s (get_or ks i d).event e ∙ ap (λ c. tie || c) so_far
-    ∙ at_end tie b _ ∙ ap (λ c. b || c) (sym (list_any_more (λ p. eq_by_cmp prioritised_cmp e p.event) ks i d lt))
-
--- only the empty row has no pair
-pub empty_row : (ks : List Pending) → Rises pending_cmp ks → set_of_rising {R = pending_cmp} ks ≡ none → ks ≡ []
-empty_row ks h e = sym (members-set_of_rising pending_cmp ks h) ∙ ap members e ∙ members-none pending_cmp
-
-and_left : (a b : Bool) → (a && b) ≡ true → a ≡ true
+pub and_left : (a b : Bool) → (a && b) ≡ true → a ≡ true
 and_left true b e = refl
 and_left false b e = e
 
@@ -182,3 +115,20 @@ later_stay s t p f e =
     let ne : p.due ≡ t → ⊥ = eqb-false p.due t (not_true _ (and_right (has s p) _ e)) in
     let le : t ≤ p.due = f.least p (and_left (has s p) _ e) in
     omega (arith, ne, le)
+
+-- ---- the ends of a list
+pub no_last : (ks : List Pending) → None ≡ slice_get ks (length ks - 1) → ks ≡ []
+no_last [] e = refl
+no_last (x ∷ xs) e = let there = slice_get-get_or (x ∷ xs) (length (x ∷ xs) - 1) x (omega arith) in cc
+
+pub some_last : (ks : List Pending) (p : Pending) → slice_get ks (length ks - 1) ≡ Some p → 1 ≤ length ks
+some_last ks p e = let lt = slice_get_within ks _ p e in omega (arith, lt)
+
+-- what is popped is what stood last
+pub popped : (ks rest : List Pending) (o : Option Pending) (p : Pending) → ks ≡ rest ++ option_to_list o → Some p ≡ slice_get ks (length ks - 1) → (0 < length ks → IsSome o) → ks ≡ rest ++ p ∷ []
+popped ks rest (Some k) p e there some =
+    let long : length ks ≡ length rest + 1 = ap length e ∙ length-append rest (k ∷ []) in
+    let at : get_or ks (length ks - 1) k ≡ p = get_or_from_slice_get ks _ p k (sym there) in
+    let is : k ≡ p = sym (get_or_push rest k k (length ks - 1) (omega (arith, long))) ∙ ap (λ xs. get_or xs (length ks - 1) k) (sym e) ∙ at in
+    e ∙ ap (λ x. rest ++ x ∷ []) is
+popped ks rest None p e there some = let lt = slice_get_within ks _ p (sym there) in let is = some (omega (arith, lt)) in cc

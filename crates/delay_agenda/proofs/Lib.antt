@@ -1,6 +1,5 @@
+pub mod Crossing
 pub mod DueLaws
-pub mod ListParts
-pub mod MergeLaws
 pub mod PendingLaws
 pub mod RowLaws
-pub mod TrioLaws
+pub mod TreeLaws

@@ -1,17 +1,12 @@
--- The order of pairs is total, and only equal pairs tie in it.
+-- Only equal pairs tie in their order.
+pub use Rattle.delay_agenda.specs.Order.{pending_cmp_total}
 use Rattle.std.proofs.Common.{◌≡◌, sym}
-use Rattle.std.specs.Cmp.{IsTotalOrder, then_total, back_total, on_total, nat_cmp_total}
 use Rattle.std.specs.FinMap.{IsAntisymmetric, nat_cmp-IsAntisymmetric}
 use Rattle.std.specs.Ordering.{nat_cmp}
 use Rattle.std.specs.declared.cmp.Ordering.TheVariants.{Equal}
 use Rattle.gt_base.specs.Orders.{prioritised_cmp}
 use Rattle.gt_base.proofs.OrderLaws.{both_tie, prioritised_cmp-IsAntisymmetric}
-use Rattle.gt_base.proofs.SetSteps.{prioritised_cmp_total}
-use Rattle.delay_agenda.specs.declared.pairs.Pending.{Pending}
 use Rattle.delay_agenda.specs.Due.{pending_cmp}
-
-pub pending_cmp_total : IsTotalOrder pending_cmp
-pending_cmp_total = then_total (back_total (on_total (λ (p : Pending). p.due) nat_cmp_total)) (on_total (λ (p : Pending). p.event) prioritised_cmp_total)
 
 pub pending_cmp-IsAntisymmetric : IsAntisymmetric pending_cmp
 pending_cmp-IsAntisymmetric a b e =

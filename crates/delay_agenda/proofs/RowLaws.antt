@@ -1,152 +1,121 @@
--- A long row of pairs with a short one, and the set of both.
-use Rattle.std.proofs.Common.{◌≡◌, ℕ, ◌+◌, ◌≤◌, Bool, true, false, cond, ◌&&◌, ◌||◌, not, T, List, [], ◌∷◌, length, filter, refl, sym, ◌∙◌, ap, arith}
-use Rattle.std.proofs.lemmas.List.{length-map}
-use Rattle.std.specs.List.{list_any}
-use Rattle.std.specs.Cmp.{Equal-is}
+-- Pairs in a tree and in a row, and the set of both.
+use Rattle.std.proofs.Common.{◌≡◌, ℕ, ◌+◌, ◌<◌, ◌≤◌, ◌⊎◌, inl, inr, ◌++◌, Bool, true, false, cond, ◌&&◌, ◌||◌, T, List, [], ◌∷◌, length, filter, refl, sym, ◌∙◌, ap, subst, arith, get_or, length-append}
+use Rattle.std.proofs.lemmas.List.{get_or_push, length-map}
+use Rattle.std.proofs.lemmas.List.Folds.{list_any-append}
+use Rattle.std.specs.List.{AllByRecursion}
+use Rattle.std.specs.List.Sorted.{IsStrictlySortedBy}
+use Rattle.std.specs.Cmp.{Equal-is, eq_by_cmp_equiv}
 use Rattle.std.specs.Ordering.{eq_by_cmp, is_eq, is_lt}
+use Rattle.std.specs.declared.cmp.Ordering.TheVariants.{Less, Equal}
 use Rattle.std.specs.FinMap.Entries.{below_all, is_sorted-put, length-put}
 use Rattle.gt_base.specs.declared.events.Prioritised.{Prioritised}
-use Rattle.gt_base.specs.Sets.{set_of_rising, pairs, has, members, those, with_member, none, Rises}
-use Rattle.gt_base.proofs.Rising.{has-set_of_rising, filter_rises, set_of_filtered, set_of_nothing, left_of, right_of, less_of}
-use Rattle.gt_base.proofs.SetLaws.{same_sets, entries-checked, members-set_of_rising, members-none, eq_itself, has-none, has-with_member, has-those}
+use Rattle.gt_base.specs.Sets.{set_of, set_of_rising, pairs, has, members, those, with_member, none, Rises}
+use Rattle.gt_base.proofs.Rising.{below_at, has-set_of_rising, filter_rises, set_of_filtered, left_of, right_of, less_of}
+use Rattle.gt_base.proofs.SetLaws.{same_sets, entries-checked, members-set_of_rising, members-none, eq_itself, has-set_of, has-with_member, has-those}
 use Rattle.delay_agenda.specs.declared.pairs.Pending.{Pending}
 use Rattle.delay_agenda.specs.Due.{pending_cmp, pending_at, is_due_at, count_due, IsLeastDue, Pendings}
-use Rattle.delay_agenda.specs.Rows.{pairs_joined, pairs_of, AreRows}
+use Rattle.delay_agenda.specs.Rows.{due_in, lists_event, stands_in, pairs_of, AreApart}
+use Rattle.delay_agenda.proofs.DueLaws.{and_left, stands_due}
 use Rattle.delay_agenda.proofs.PendingLaws.{pending_cmp_total, pending_cmp-IsAntisymmetric}
 
-or_or : (a b c : Bool) → (a || (b || c)) ≡ ((a || b) || c)
+or_or : (a b c : Bool) → ((a || b) || c) ≡ (a || (b || c))
 or_or true b c = refl
 or_or false b c = refl
 
-or_true : (a b : Bool) → b ≡ true → (a || b) ≡ true
+pub or_true : (a b : Bool) → b ≡ true → (a || b) ≡ true
 or_true true b e = refl
 or_true false b e = e
-
-or_left : (a b : Bool) → (a || b) ≡ false → a ≡ false
-or_left true b e = cc
-or_left false b e = refl
-
-or_right : (a b : Bool) → (a || b) ≡ false → b ≡ false
-or_right true b e = cc
-or_right false b e = e
-
-and_left : (a b : Bool) → (a && b) ≡ true → a ≡ true
-and_left true b e = refl
-and_left false b e = e
 
 or_and : (a b f : Bool) → ((a && f) || (b && f)) ≡ ((a || b) && f)
 or_and true true f = elim f as (λ f. (f || f) ≡ f) [ true ↦ refl | false ↦ refl ]
 or_and true false f = elim f as (λ f. (f || false) ≡ f) [ true ↦ refl | false ↦ refl ]
 or_and false b f = refl
 
-around : (x a b : Bool) → ((x || a) || b) ≡ (x || (b || a))
-around true a b = refl
-around false true true = refl
-around false true false = refl
-around false false true = refl
-around false false false = refl
+both : (a b : Bool) → T a → T b → T (a && b)
+both true b g h = h
+both false b g h = absurd g
 
 -- a pair that ties with another is that
-tied : (q k : Pending) → eq_by_cmp pending_cmp q k ≡ true → q ≡ k
+pub tied : (q k : Pending) → eq_by_cmp pending_cmp q k ≡ true → q ≡ k
 tied q k e = pending_cmp-IsAntisymmetric q k ((Equal-is (pending_cmp q k)).0 e)
-
-pub has-joined : (s : Pendings) (ks : List Pending) (q : Pending) → has (pairs_joined s ks) q ≡ (list_any (eq_by_cmp pending_cmp q) ks || has s q)
-unfolding pairs_joined
-has-joined s [] q = refl
-has-joined s (k ∷ ks) q =
-    has-with_member pending_cmp_total (pairs_joined s ks) k q ∙ ap (λ c. eq_by_cmp pending_cmp q k || c) (has-joined s ks q)
-    ∙ or_or (eq_by_cmp pending_cmp q k) (list_any (eq_by_cmp pending_cmp q) ks) (has s q)
-
-joined-none : (s : Pendings) → pairs_joined s [] ≡ s
-unfolding pairs_joined
-joined-none s = refl
-
-pub one_row : (ks : List Pending) → pairs_of ks [] ≡ set_of_rising ks
-one_row ks = joined-none (set_of_rising ks)
-
-pub no_pairs : pairs_of [] [] ≡ none
-no_pairs = one_row [] ∙ set_of_nothing
 
 same : (s t : Pendings) → ((q : Pending) → has s q ≡ has t q) → s ≡ t
 same = same_sets pending_cmp_total pending_cmp-IsAntisymmetric
 
--- who stands there already changes nothing
-pub already : (s : Pendings) (k : Pending) → has s k ≡ true → with_member s k ≡ s
-already s k there = same (with_member s k) s (λ q. has-with_member pending_cmp_total s k q ∙ by q (eq_by_cmp pending_cmp q k) refl)
-  where
-    by : (q : Pending) (b : Bool) → eq_by_cmp pending_cmp q k ≡ b → (b || has s q) ≡ has s q
-    by q true e = sym (ap (has s) (tied q k e) ∙ there)
-    by q false e = refl
+-- in one of both
+pub has-pairs : (tree row : List Pending) (q : Pending) → has (pairs_of tree row) q ≡ (stands_in row q || stands_in tree q)
+unfolding pairs_of
+has-pairs tree row q = has-set_of pending_cmp_total (row ++ tree) q ∙ list_any-append (eq_by_cmp pending_cmp q) row tree
 
--- in either row
-pub has-pairs : (long short : List Pending) (q : Pending) → AreRows long short → has (pairs_of long short) q ≡ (has (set_of_rising {R = pending_cmp} short) q || has (set_of_rising {R = pending_cmp} long) q)
-has-pairs long short q r =
-    has-joined (set_of_rising long) short q
-    ∙ ap (λ b. b || has (set_of_rising {R = pending_cmp} long) q) (sym (has-set_of_rising pending_cmp_total short q r.short_rises))
+pub none_apart : AreApart [] []
+none_apart = record { tree_rises = tt; row_rises = tt; apart = λ q e. cc }
 
--- a pair of the long row is in both
-pub in_long : (long short : List Pending) (k : Pending) → has (set_of_rising {R = pending_cmp} long) k ≡ true → with_member (pairs_of long short) k ≡ pairs_of long short
-in_long long short k there = already (pairs_of long short) k (has-joined (set_of_rising long) short k ∙ or_true (list_any (eq_by_cmp pending_cmp k) short) _ there)
+pub none_of_none : pairs_of [] [] ≡ none
+unfolding pairs_of
+none_of_none = refl
 
--- a pair that is put into the short row
-module _ (long short new : List Pending) (k : Pending) (r : AreRows long short) (h : Rises pending_cmp new) (put : set_of_rising {R = pending_cmp} new ≡ with_member (set_of_rising short) k) where
-  listed : (q : Pending) → list_any (eq_by_cmp pending_cmp q) new ≡ (eq_by_cmp pending_cmp q k || list_any (eq_by_cmp pending_cmp q) short)
-  listed q =
-      sym (has-set_of_rising pending_cmp_total new q h) ∙ ap (λ s. has s q) put ∙ has-with_member pending_cmp_total (set_of_rising short) k q
-      ∙ ap (λ b. eq_by_cmp pending_cmp q k || b) (has-set_of_rising pending_cmp_total short q r.short_rises)
+-- ---- in order
+below_by : (k : Pending) (ks : List Pending) → AllByRecursion (λ y. pending_cmp k y ≡ Less) ks → T (below_all pending_cmp k (pairs ks))
+below_by k [] h = tt
+below_by k (x ∷ xs) h = both (is_lt (pending_cmp k x)) _ (subst (λ r. T (is_lt r)) (sym h.0) tt) (below_by k xs h.1)
 
-  pub put_set : pairs_of long new ≡ with_member (pairs_of long short) k
-  put_set = same (pairs_of long new) (with_member (pairs_of long short) k) (λ q.
-      has-joined (set_of_rising long) new q ∙ ap (λ b. b || has (set_of_rising {R = pending_cmp} long) q) (listed q)
-      ∙ sym (or_or (eq_by_cmp pending_cmp q k) (list_any (eq_by_cmp pending_cmp q) short) (has (set_of_rising {R = pending_cmp} long) q))
-      ∙ ap (λ b. eq_by_cmp pending_cmp q k || b) (sym (has-joined (set_of_rising long) short q))
-      ∙ sym (has-with_member pending_cmp_total (pairs_of long short) k q))
+-- the keys of a tree
+pub tree_rises : (ks : List Pending) → IsStrictlySortedBy pending_cmp ks → Rises pending_cmp ks
+unfolding IsStrictlySortedBy
+tree_rises [] h = tt
+tree_rises (k ∷ ks) h = both (below_all pending_cmp k (pairs ks)) _ (below_by k ks h.0) (tree_rises ks h.1)
 
-  apart_still : (q : Pending) (b : Bool) → has (set_of_rising {R = pending_cmp} long) k ≡ false → eq_by_cmp pending_cmp q k ≡ b
-      → (b || list_any (eq_by_cmp pending_cmp q) short) ≡ true → has (set_of_rising {R = pending_cmp} long) q ≡ false
-  apart_still q true absent tie there = ap (has (set_of_rising {R = pending_cmp} long)) (tied q k tie) ∙ absent
-  apart_still q false absent tie there = r.apart q there
+-- who stands before all of a list does not stand in it
+first_absent : (k : Pending) (ks : List Pending) → T (below_all pending_cmp k (pairs ks)) → stands_in ks k ≡ false
+first_absent k [] h = refl
+first_absent k (x ∷ xs) h =
+    ap (λ o. is_eq o || stands_in xs k) (less_of (pending_cmp k x) (left_of (is_lt (pending_cmp k x)) _ h))
+    ∙ first_absent k xs (right_of (is_lt (pending_cmp k x)) _ h)
 
-  pub put_rows : has (set_of_rising {R = pending_cmp} long) k ≡ false → AreRows long new
-  put_rows absent = record {
-    long_rises = r.long_rises;
-    short_rises = h;
-    apart = λ q there. apart_still q (eq_by_cmp pending_cmp q k) absent refl (sym (listed q) ∙ there);
+below_front : (x : Pending) (ks : List Pending) (k : Pending) → T (below_all pending_cmp x (pairs (ks ++ k ∷ []))) → T (below_all pending_cmp x (pairs ks))
+below_front x [] k h = tt
+below_front x (y ∷ ys) k h = both (is_lt (pending_cmp x y)) _ (left_of (is_lt (pending_cmp x y)) _ h) (below_front x ys k (right_of (is_lt (pending_cmp x y)) _ h))
+
+front_rises : (ks : List Pending) (k : Pending) → Rises pending_cmp (ks ++ k ∷ []) → Rises pending_cmp ks
+front_rises [] k h = tt
+front_rises (x ∷ xs) k h = both (below_all pending_cmp x (pairs xs)) _ (below_front x xs k (left_of (below_all pending_cmp x (pairs (xs ++ k ∷ []))) _ h)) (front_rises xs k (right_of (below_all pending_cmp x (pairs (xs ++ k ∷ []))) _ h))
+
+-- the last of a list stands once
+last_absent : (ks : List Pending) (k : Pending) → Rises pending_cmp (ks ++ k ∷ []) → (q : Pending) → stands_in ks q ≡ true → eq_by_cmp pending_cmp q k ≡ false
+last_absent [] k h q e = cc
+last_absent (x ∷ xs) k h q e =
+    elim (eq_by_cmp pending_cmp q x) as (λ b. eq_by_cmp pending_cmp q x ≡ b → (b || stands_in xs q) ≡ true → eq_by_cmp pending_cmp q k ≡ false) [
+      | true ↦ λ tie _.
+          let below : pending_cmp x (get_or (xs ++ k ∷ []) (length xs) k) ≡ Less =
+          below_at pending_cmp_total x (xs ++ k ∷ []) (left_of (below_all pending_cmp x (pairs (xs ++ k ∷ []))) _ h) (length xs) k (let n = length-append xs (k ∷ []) in omega (arith, n)) in
+          ap (λ y. eq_by_cmp pending_cmp y k) (tied q x tie) ∙ ap (λ y. eq_by_cmp pending_cmp x y) (sym (get_or_push xs k k (length xs) refl)) ∙ ap is_eq below
+      | false ↦ λ _ e. last_absent xs k (right_of (below_all pending_cmp x (pairs (xs ++ k ∷ []))) _ h) q e
+    ] refl e
+
+-- ---- those that pass a test
+module _ (p : Pending → Bool) (tree row : List Pending) (r : AreApart tree row) where
+  alike : (q y : Pending) → pending_cmp q y ≡ Equal → p y ≡ p q
+  alike q y e = ap p (sym (pending_cmp-IsAntisymmetric q y e))
+
+  kept : (ks : List Pending) (q : Pending) → Rises pending_cmp ks → stands_in (filter p ks) q ≡ (stands_in ks q && p q)
+  kept ks q h =
+      sym (has-set_of_rising pending_cmp_total (filter p ks) q (filter_rises pending_cmp_total p ks h)) ∙ ap (λ s. has s q) (set_of_filtered pending_cmp_total p ks h)
+      ∙ has-those pending_cmp_total (set_of_rising ks) p q (alike q) ∙ ap (λ b. b && p q) (has-set_of_rising pending_cmp_total ks q h)
+
+  pub kept_apart : AreApart (filter p tree) (filter p row)
+  kept_apart = record {
+    tree_rises = filter_rises pending_cmp_total p tree r.tree_rises;
+    row_rises = filter_rises pending_cmp_total p row r.row_rises;
+    apart = λ q there. kept tree q r.tree_rises ∙ ap (λ b. b && p q) (r.apart q (and_left _ _ (sym (kept row q r.row_rises) ∙ there)));
   }
 
-has-not_due : (s : Pendings) (t : ℕ) (p : Pending) → has (those s (λ q. not (is_due_at t q))) p ≡ (has s p && not (is_due_at t p))
-has-not_due s t p = has-those pending_cmp_total s (λ q. not (is_due_at t q)) p (λ q e. ap (λ x. not (is_due_at t x)) (sym (pending_cmp-IsAntisymmetric p q e)))
+  pub kept_set : pairs_of (filter p tree) (filter p row) ≡ those (pairs_of tree row) p
+  kept_set = same _ _ (λ q.
+      has-pairs (filter p tree) (filter p row) q ∙ ap (λ b. b || stands_in (filter p tree) q) (kept row q r.row_rises)
+      ∙ ap (λ b. (stands_in row q && p q) || b) (kept tree q r.tree_rises) ∙ or_and (stands_in row q) (stands_in tree q) (p q)
+      ∙ ap (λ b. b && p q) (sym (has-pairs tree row q)) ∙ sym (has-those pending_cmp_total (pairs_of tree row) p q (alike q)))
 
-has-due : (s : Pendings) (t : ℕ) (p : Pending) → has (those s (is_due_at t)) p ≡ (has s p && is_due_at t p)
-has-due s t p = has-those pending_cmp_total s (is_due_at t) p (λ q e. ap (is_due_at t) (sym (pending_cmp-IsAntisymmetric p q e)))
-
--- both rows without what is due at an instant
-module _ (long short long' short' : List Pending) (t : ℕ) (r : AreRows long short) (hl : Rises pending_cmp long') (hs : Rises pending_cmp short') (el : set_of_rising {R = pending_cmp} long' ≡ those (set_of_rising long) (λ p. not (is_due_at t p))) (es : set_of_rising {R = pending_cmp} short' ≡ those (set_of_rising short) (λ p. not (is_due_at t p))) where
-  in_left : (q : Pending) → has (set_of_rising {R = pending_cmp} long') q ≡ (has (set_of_rising {R = pending_cmp} long) q && not (is_due_at t q))
-  in_left q = ap (λ s. has s q) el ∙ has-not_due (set_of_rising long) t q
-
-  in_short : (q : Pending) → has (set_of_rising {R = pending_cmp} short') q ≡ (has (set_of_rising {R = pending_cmp} short) q && not (is_due_at t q))
-  in_short q = ap (λ s. has s q) es ∙ has-not_due (set_of_rising short) t q
-
-  pub forgot_rows : AreRows long' short'
-  forgot_rows = record {
-    long_rises = hl;
-    short_rises = hs;
-    apart = λ q there.
-        let was : (has (set_of_rising {R = pending_cmp} short) q && not (is_due_at t q)) ≡ true = sym (in_short q) ∙ has-set_of_rising pending_cmp_total short' q hs ∙ there in
-        let stood : has (set_of_rising {R = pending_cmp} short) q ≡ true = and_left _ _ was in
-        in_left q ∙ ap (λ b. b && not (is_due_at t q)) (r.apart q (sym (has-set_of_rising pending_cmp_total short q r.short_rises) ∙ stood));
-  }
-
-  pub forgot_set : pairs_of long' short' ≡ those (pairs_of long short) (λ p. not (is_due_at t p))
-  forgot_set = same (pairs_of long' short') (those (pairs_of long short) (λ p. not (is_due_at t p))) (λ q.
-      has-pairs long' short' q forgot_rows ∙ ap (λ b. b || has (set_of_rising {R = pending_cmp} long') q) (in_short q)
-      ∙ ap (λ b. (has (set_of_rising {R = pending_cmp} short) q && not (is_due_at t q)) || b) (in_left q)
-      ∙ or_and (has (set_of_rising {R = pending_cmp} short) q) (has (set_of_rising {R = pending_cmp} long) q) (not (is_due_at t q))
-      ∙ ap (λ b. b && not (is_due_at t q)) (sym (has-pairs long short q r))
-      ∙ sym (has-not_due (pairs_of long short) t q))
-
--- one pair more
+-- ---- how many
 length-with : (s : Pendings) (k : Pending) → has s k ≡ false → length (members (with_member s k)) ≡ length (members s) + 1
 unfolding has members with_member
 length-with s k e =
@@ -155,126 +124,144 @@ length-with s k e =
     ∙ ap (λ b. cond b (length s.entries) (length s.entries + 1)) e
     ∙ ap (λ n. n + 1) (sym (length-map s.entries (λ x. x.0)))
 
--- who stands before all of a row does not stand in it
-first_absent : (k : Pending) (ks : List Pending) → T (below_all pending_cmp k (pairs ks)) → list_any (eq_by_cmp pending_cmp k) ks ≡ false
-first_absent k [] h = refl
-first_absent k (x ∷ xs) h =
-    ap (λ o. is_eq o || list_any (eq_by_cmp pending_cmp k) xs) (less_of (pending_cmp k x) (left_of (is_lt (pending_cmp k x)) _ h))
-    ∙ first_absent k xs (right_of (is_lt (pending_cmp k x)) _ h)
+pub count_pairs : (tree row : List Pending) → AreApart tree row → length (members (pairs_of tree row)) ≡ length tree + length row
+unfolding pairs_of
+count_pairs tree [] r =
+    ap (λ s. length (members s)) (same (set_of tree) (set_of_rising tree) (λ q. has-set_of pending_cmp_total tree q ∙ sym (has-set_of_rising pending_cmp_total tree q r.tree_rises)))
+    ∙ ap length (members-set_of_rising pending_cmp tree r.tree_rises) ∙ omega arith
+count_pairs tree (k ∷ row) r =
+    let below : T (below_all pending_cmp k (pairs row)) = left_of (below_all pending_cmp k (pairs row)) _ r.row_rises in
+    let absent : has (pairs_of tree row) k ≡ false =
+    has-pairs tree row k ∙ ap (λ b. b || stands_in tree k) (first_absent k row below) ∙ r.apart k (ap (λ b. b || stands_in row k) (eq_itself pending_cmp_total k)) in
+    let rest : AreApart tree row =
+    record {
+      tree_rises = r.tree_rises;
+      row_rises = right_of (below_all pending_cmp k (pairs row)) _ r.row_rises;
+      apart = λ q there. r.apart q (or_true (eq_by_cmp pending_cmp q k) _ there);
+    } in
+    let fewer = count_pairs tree row rest in
+    let more = length-with (pairs_of tree row) k absent in
+    omega (arith, fewer, more)
 
-length-joined : (s : Pendings) (ks : List Pending) → Rises pending_cmp ks → ((q : Pending) → list_any (eq_by_cmp pending_cmp q) ks ≡ true → has s q ≡ false)
-    → length (members (pairs_joined s ks)) ≡ length (members s) + length ks
-unfolding pairs_joined
-length-joined s [] h apart = omega arith
-length-joined s (k ∷ ks) h apart =
-    let below : T (below_all pending_cmp k (pairs ks)) = left_of (below_all pending_cmp k (pairs ks)) _ h in
-    let absent : has (pairs_joined s ks) k ≡ false =
-    has-joined s ks k ∙ ap (λ b. b || has s k) (first_absent k ks below)
-    ∙ apart k (ap (λ b. b || list_any (eq_by_cmp pending_cmp k) ks) (eq_itself pending_cmp_total k)) in
-    let rest : length (members (pairs_joined s ks)) ≡ length (members s) + length ks =
-    length-joined s ks (right_of (below_all pending_cmp k (pairs ks)) _ h) (λ q there. apart q (or_true (eq_by_cmp pending_cmp q k) _ there)) in
-    let more : length (members (with_member (pairs_joined s ks) k)) ≡ length (members (pairs_joined s ks)) + 1 = length-with (pairs_joined s ks) k absent in
-    omega (arith, rest, more)
+pub count_due_pairs : (tree row : List Pending) (t : ℕ) → AreApart tree row → count_due (pairs_of tree row) t ≡ length (due_in tree t) + length (due_in row t)
+count_due_pairs tree row t r =
+    ap (λ s. length (members s)) (sym (kept_set (is_due_at t) tree row r)) ∙ count_pairs _ _ (kept_apart (is_due_at t) tree row r)
 
--- how many stand in both rows
-pub count_pairs : (long short : List Pending) → AreRows long short → length (members (pairs_of long short)) ≡ length long + length short
-count_pairs long short r =
-    length-joined (set_of_rising long) short r.short_rises r.apart
-    ∙ ap (λ ks. length ks + length short) (members-set_of_rising pending_cmp long r.long_rises)
+pub then_empty : (tree row : List Pending) → AreApart tree row → pairs_of tree row ≡ none → length tree + length row ≡ 0
+then_empty tree row r e = sym (count_pairs tree row r) ∙ ap (λ s. length (members s)) e ∙ ap length (members-none pending_cmp)
 
--- the rows of what is due
-module _ (long short : List Pending) (t : ℕ) (r : AreRows long short) where
-  due_long : set_of_rising {R = pending_cmp} (filter (is_due_at t) long) ≡ those (set_of_rising long) (is_due_at t)
-  due_long = set_of_filtered pending_cmp_total (is_due_at t) long r.long_rises
+-- ---- what is due
+-- an event that the tree and the row told is one that the set has
+pub told_both : (tree row : List Pending) (t : ℕ) (e : Prioritised) (x y z : Bool)
+    → y ≡ (x || lists_event (due_in tree t) e) → z ≡ (y || lists_event (due_in row t) e) → z ≡ (x || has (pairs_of tree row) (pending_at t e))
+told_both tree row t e x y z first second =
+    second ∙ ap (λ b. b || lists_event (due_in row t) e) first ∙ around x (lists_event (due_in tree t) e) (lists_event (due_in row t) e)
+    ∙ ap (λ b. x || (lists_event (due_in row t) e || b)) (sym (stands_due t e tree)) ∙ ap (λ b. x || (b || stands_in tree (pending_at t e))) (sym (stands_due t e row))
+    ∙ ap (λ b. x || b) (sym (has-pairs tree row (pending_at t e)))
+  where
+    around : (x a b : Bool) → ((x || a) || b) ≡ (x || (b || a))
+    around true a b = refl
+    around false true true = refl
+    around false true false = refl
+    around false false true = refl
+    around false false false = refl
 
-  due_short : set_of_rising {R = pending_cmp} (filter (is_due_at t) short) ≡ those (set_of_rising short) (is_due_at t)
-  due_short = set_of_filtered pending_cmp_total (is_due_at t) short r.short_rises
+-- a pair of one that is due no later than any of both is due first
+pub least_of : (tree row : List Pending) (p : Pending) → (stands_in row p || stands_in tree p) ≡ true
+    → ((q : Pending) → stands_in row q ≡ true → p.due ≤ q.due) → ((q : Pending) → stands_in tree q ≡ true → p.due ≤ q.due) → IsLeastDue (pairs_of tree row) p.due
+least_of tree row p there f g = record {
+  event = p.event;
+  is_due = has-pairs tree row p ∙ there;
+  least = λ q h. either q (stands_in row q) (stands_in tree q) (f q) (g q) (sym (has-pairs tree row q) ∙ h);
+}
+  where
+    either : (q : Pending) (a b : Bool) → ((a ≡ true) → p.due ≤ q.due) → ((b ≡ true) → p.due ≤ q.due) → (a || b) ≡ true → p.due ≤ q.due
+    either q true b f g e = f refl
+    either q false b f g e = g e
 
-  has-long : (q : Pending) → has (set_of_rising {R = pending_cmp} (filter (is_due_at t) long)) q ≡ (has (set_of_rising {R = pending_cmp} long) q && is_due_at t q)
-  has-long q = ap (λ s. has s q) due_long ∙ has-due (set_of_rising long) t q
+abbrev IsLeastIn : List Pending → Pending → Type 0
+IsLeastIn ks p = (stands_in ks p ≡ true) × ((q : Pending) → stands_in ks q ≡ true → p.due ≤ q.due)
 
-  has-short : (q : Pending) → has (set_of_rising {R = pending_cmp} (filter (is_due_at t) short)) q ≡ (has (set_of_rising {R = pending_cmp} short) q && is_due_at t q)
-  has-short q = ap (λ s. has s q) due_short ∙ has-due (set_of_rising short) t q
+pub least_of_tree : (tree row : List Pending) (p : Pending) → IsLeastIn tree p → row ≡ [] → IsLeastDue (pairs_of tree row) p.due
+least_of_tree tree row p a e = rw e (least_of tree [] p a.0 (λ q h. cc) a.1)
 
-  short_rises : Rises pending_cmp (filter (is_due_at t) short)
-  short_rises = filter_rises pending_cmp_total (is_due_at t) short r.short_rises
+pub least_of_row : (tree row : List Pending) (p : Pending) → IsLeastIn row p → tree ≡ [] → IsLeastDue (pairs_of tree row) p.due
+least_of_row tree row p a e = rw e (least_of [] row p (ap (λ b. b || false) a.0) a.1 (λ q h. cc))
 
-  due_rows : AreRows (filter (is_due_at t) long) (filter (is_due_at t) short)
-  due_rows = record {
-    long_rises = filter_rises pending_cmp_total (is_due_at t) long r.long_rises;
-    short_rises = short_rises;
+pub least_of_both : (tree row : List Pending) (p q : Pending) (n : ℕ) → IsLeastIn tree p → IsLeastIn row q → ((p.due ≤ q.due) × (n ≡ p.due)) ⊎ ((q.due < p.due) × (n ≡ q.due)) → IsLeastDue (pairs_of tree row) n
+least_of_both tree row p q n a b (inl h) = rw h.1 (least_of tree row p (or_true (stands_in row p) _ a.0) (λ x there. omega (arith, h.0, b.1 x there)) a.1)
+least_of_both tree row p q n a b (inr h) = rw h.1 (least_of tree row q (ap (λ c. c || stands_in tree q) b.0) b.1 (λ x there. omega (arith, h.0, a.1 x there)))
+
+pub no_items : (ks : List Pending) → (0 < length ks → false ≡ true) → ks ≡ []
+no_items [] e = refl
+no_items (x ∷ xs) e = let there = e (omega arith) in cc
+
+pub both_empty : (tree row : List Pending) → tree ≡ [] → row ≡ [] → pairs_of tree row ≡ none
+both_empty tree row t r = rw (t, r) none_of_none
+
+-- ---- a pair is put in
+-- who stands there already changes nothing
+pub in_tree : (tree row : List Pending) (k : Pending) → stands_in tree k ≡ true → with_member (pairs_of tree row) k ≡ pairs_of tree row
+in_tree tree row k there = same _ _ (λ q. has-with_member pending_cmp_total (pairs_of tree row) k q ∙ by q (eq_by_cmp pending_cmp q k) refl)
+  where
+    by : (q : Pending) (b : Bool) → eq_by_cmp pending_cmp q k ≡ b → (b || has (pairs_of tree row) q) ≡ has (pairs_of tree row) q
+    by q true e = sym (ap (has (pairs_of tree row)) (tied q k e) ∙ has-pairs tree row k ∙ or_true (stands_in row k) _ there)
+    by q false e = refl
+
+-- into the row
+module _ (tree row new : List Pending) (k : Pending) (r : AreApart tree row) (h : Rises pending_cmp new) (put : set_of_rising {R = pending_cmp} new ≡ with_member (set_of_rising row) k) where
+  listed : (q : Pending) → stands_in new q ≡ (eq_by_cmp pending_cmp q k || stands_in row q)
+  listed q =
+      sym (has-set_of_rising pending_cmp_total new q h) ∙ ap (λ s. has s q) put ∙ has-with_member pending_cmp_total (set_of_rising row) k q
+      ∙ ap (λ b. eq_by_cmp pending_cmp q k || b) (has-set_of_rising pending_cmp_total row q r.row_rises)
+
+  pub put_set : pairs_of tree new ≡ with_member (pairs_of tree row) k
+  put_set = same _ _ (λ q.
+      has-pairs tree new q ∙ ap (λ b. b || stands_in tree q) (listed q) ∙ or_or (eq_by_cmp pending_cmp q k) (stands_in row q) (stands_in tree q)
+      ∙ ap (λ b. eq_by_cmp pending_cmp q k || b) (sym (has-pairs tree row q)) ∙ sym (has-with_member pending_cmp_total (pairs_of tree row) k q))
+
+  apart_still : (q : Pending) (b : Bool) → stands_in tree k ≡ false → eq_by_cmp pending_cmp q k ≡ b → (b || stands_in row q) ≡ true → stands_in tree q ≡ false
+  apart_still q true absent tie there = ap (stands_in tree) (tied q k tie) ∙ absent
+  apart_still q false absent tie there = r.apart q there
+
+  pub put_apart : stands_in tree k ≡ false → AreApart tree new
+  put_apart absent = record {
+    tree_rises = r.tree_rises;
+    row_rises = h;
+    apart = λ q there. apart_still q (eq_by_cmp pending_cmp q k) absent refl (sym (listed q) ∙ there);
+  }
+
+-- the last of the row moves to the tree
+module _ (tree row tree' row' : List Pending) (k : Pending) (r : AreApart tree row) (last : row ≡ row' ++ k ∷ []) (h : Rises pending_cmp tree')
+    (put : (q : Pending) → stands_in tree' q ≡ cond (eq_by_cmp pending_cmp k q) true (stands_in tree q)) where
+  rises : Rises pending_cmp (row' ++ k ∷ [])
+  rises = subst (Rises pending_cmp) last r.row_rises
+
+  in_row : (q : Pending) → stands_in row q ≡ (stands_in row' q || (eq_by_cmp pending_cmp q k || false))
+  in_row q = ap (λ ks. stands_in ks q) last ∙ list_any-append (eq_by_cmp pending_cmp q) row' (k ∷ [])
+
+  in_new : (q : Pending) → stands_in tree' q ≡ (eq_by_cmp pending_cmp q k || stands_in tree q)
+  in_new q = put q ∙ ap (λ b. cond b true (stands_in tree q)) ((eq_by_cmp_equiv pending_cmp_total).symm k q) ∙ by (eq_by_cmp pending_cmp q k) (stands_in tree q)
+    where
+      by : (a b : Bool) → cond a true b ≡ (a || b)
+      by true b = refl
+      by false b = refl
+
+  pub moved_apart : AreApart tree' row'
+  moved_apart = record {
+    tree_rises = h;
+    row_rises = front_rises row' k rises;
     apart = λ q there.
-        let was : (has (set_of_rising {R = pending_cmp} short) q && is_due_at t q) ≡ true = sym (has-short q) ∙ has-set_of_rising pending_cmp_total (filter (is_due_at t) short) q short_rises ∙ there in
-        let stood : has (set_of_rising {R = pending_cmp} short) q ≡ true = and_left _ _ was in
-        has-long q ∙ ap (λ b. b && is_due_at t q) (r.apart q (sym (has-set_of_rising pending_cmp_total short q r.short_rises) ∙ stood));
+        in_new q ∙ ap (λ b. b || stands_in tree q) (last_absent row' k rises q there)
+        ∙ r.apart q (in_row q ∙ ap (λ b. b || (eq_by_cmp pending_cmp q k || false)) there);
   }
 
-  due_pairs : pairs_of (filter (is_due_at t) long) (filter (is_due_at t) short) ≡ those (pairs_of long short) (is_due_at t)
-  due_pairs = same (pairs_of (filter (is_due_at t) long) (filter (is_due_at t) short)) (those (pairs_of long short) (is_due_at t)) (λ q.
-      has-pairs _ _ q due_rows ∙ ap (λ b. b || has (set_of_rising {R = pending_cmp} (filter (is_due_at t) long)) q) (has-short q)
-      ∙ ap (λ b. (has (set_of_rising {R = pending_cmp} short) q && is_due_at t q) || b) (has-long q)
-      ∙ or_and (has (set_of_rising {R = pending_cmp} short) q) (has (set_of_rising {R = pending_cmp} long) q) (is_due_at t q)
-      ∙ ap (λ b. b && is_due_at t q) (sym (has-pairs long short q r))
-      ∙ sym (has-due (pairs_of long short) t q))
-
-  -- how many are due in both
-  pub count_both_due : count_due (pairs_of long short) t ≡ count_due (set_of_rising long) t + count_due (set_of_rising short) t
-  count_both_due =
-      let here : count_due (set_of_rising long) t ≡ length (filter (is_due_at t) long) =
-      ap (λ s. length (members s)) (sym due_long) ∙ ap length (members-set_of_rising pending_cmp _ due_rows.long_rises) in
-      let there : count_due (set_of_rising short) t ≡ length (filter (is_due_at t) short) =
-      ap (λ s. length (members s)) (sym due_short) ∙ ap length (members-set_of_rising pending_cmp _ short_rises) in
-      let both : count_due (pairs_of long short) t ≡ length (filter (is_due_at t) long) + length (filter (is_due_at t) short) =
-      ap (λ s. length (members s)) (sym due_pairs) ∙ count_pairs _ _ due_rows in
-      omega (arith, here, there, both)
-
--- an event that both rows told is one that the set has
-pub told_both : (long short : List Pending) (t : ℕ) (e : Prioritised) (x y z : Bool) → AreRows long short
-    → y ≡ (x || has (set_of_rising {R = pending_cmp} long) (pending_at t e)) → z ≡ (y || has (set_of_rising {R = pending_cmp} short) (pending_at t e))
-    → z ≡ (x || has (pairs_of long short) (pending_at t e))
-told_both long short t e x y z r first second =
-    second ∙ ap (λ b. b || has (set_of_rising {R = pending_cmp} short) (pending_at t e)) first
-    ∙ around x (has (set_of_rising {R = pending_cmp} long) (pending_at t e)) (has (set_of_rising {R = pending_cmp} short) (pending_at t e))
-    ∙ ap (λ b. x || b) (sym (has-pairs long short (pending_at t e) r))
-
--- who is due first in a row, and no later than any of the other, is due first of all
-module _ (long short : List Pending) (r : AreRows long short) where
-  either : (q : Pending) (n : ℕ) (a b : Bool) → ((a ≡ true) → n ≤ q.due) → ((b ≡ true) → n ≤ q.due) → (a || b) ≡ true → n ≤ q.due
-  either q n true b f g e = f refl
-  either q n false b f g e = g e
-
-  pub least_of_long : (n : ℕ) → IsLeastDue (set_of_rising long) n → ((q : Pending) → has (set_of_rising {R = pending_cmp} short) q ≡ true → n ≤ q.due) → IsLeastDue (pairs_of long short) n
-  least_of_long n l later = record {
-    event = l.event;
-    is_due = has-pairs long short (pending_at n l.event) r ∙ or_true _ _ l.is_due;
-    least = λ q there. either q n (has (set_of_rising {R = pending_cmp} short) q) (has (set_of_rising {R = pending_cmp} long) q) (later q) (l.least q) (sym (has-pairs long short q r) ∙ there);
-  }
-
-  pub least_of_short : (n : ℕ) → IsLeastDue (set_of_rising short) n → ((q : Pending) → has (set_of_rising {R = pending_cmp} long) q ≡ true → n ≤ q.due) → IsLeastDue (pairs_of long short) n
-  least_of_short n l later = record {
-    event = l.event;
-    is_due = has-pairs long short (pending_at n l.event) r ∙ ap (λ b. b || has (set_of_rising {R = pending_cmp} long) (pending_at n l.event)) l.is_due;
-    least = λ q there. either q n (has (set_of_rising {R = pending_cmp} short) q) (has (set_of_rising {R = pending_cmp} long) q) (l.least q) (later q) (sym (has-pairs long short q r) ∙ there);
-  }
-
-  pub least_of_both : (n m : ℕ) → IsLeastDue (set_of_rising long) n → IsLeastDue (set_of_rising short) m → (n ≤ m → IsLeastDue (pairs_of long short) n) × (m ≤ n → IsLeastDue (pairs_of long short) m)
-  least_of_both n m l s =
-      (λ le. least_of_long n l (λ q there. let here : m ≤ q.due = s.least q there in omega arith), λ le. least_of_short m s (λ q there. let here : n ≤ q.due = l.least q there in omega arith))
-
-  -- nothing is in an empty row
-  pub in_nothing : (ks : List Pending) (q : Pending) (n : ℕ) → ks ≡ [] → has (set_of_rising {R = pending_cmp} ks) q ≡ true → n ≤ q.due
-  in_nothing ks q n e there =
-      let none_there : has (set_of_rising {R = pending_cmp} ks) q ≡ false = ap (λ xs. has (set_of_rising {R = pending_cmp} xs) q) e ∙ ap (λ s. has s q) set_of_nothing ∙ has-none pending_cmp q in
-      cc
-
-  pub both_empty : long ≡ [] → short ≡ [] → pairs_of long short ≡ none
-  both_empty l s = ap (λ xs. pairs_of xs short) l ∙ ap (λ xs. pairs_of [] xs) s ∙ no_pairs
-
-  no_items : (ks : List Pending) → length ks ≡ 0 → ks ≡ []
-  no_items [] e = refl
-  no_items (x ∷ xs) e = absurd (omega (arith, e))
-
-  pub then_empty : pairs_of long short ≡ none → (long ≡ []) × (short ≡ [])
-  then_empty e =
-      let n : length long + length short ≡ 0 = sym (count_pairs long short r) ∙ ap (λ s. length (members s)) e ∙ ap length (members-none pending_cmp) in
-      (no_items long (omega arith), no_items short (omega arith))
+  pub moved_set : pairs_of tree' row' ≡ pairs_of tree row
+  moved_set = same _ _ (λ q.
+      has-pairs tree' row' q ∙ ap (λ b. stands_in row' q || b) (in_new q) ∙ around (stands_in row' q) (eq_by_cmp pending_cmp q k) (stands_in tree q)
+      ∙ ap (λ b. b || stands_in tree q) (sym (in_row q)) ∙ sym (has-pairs tree row q))
+    where
+      around : (a b c : Bool) → (a || (b || c)) ≡ ((a || (b || false)) || c)
+      around true b c = refl
+      around false true c = refl
+      around false false c = refl

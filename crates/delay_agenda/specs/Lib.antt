@@ -1,3 +1,3 @@
 pub mod Due
-pub mod Places
+pub mod Order
 pub mod Rows

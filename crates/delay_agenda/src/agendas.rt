@@ -1,50 +1,46 @@
 //! The agenda of a server: the events that are due at later instants.
-ghost use Rattle.std.specs.Prelude.{◌≡◌, ◌≤◌, ◌+◌, ◌||◌, not, length, ◌↔◌, OnOk, IfOk, IsNone, IfSome};
+ghost use Rattle.std.specs.Prelude.{◌≡◌, ◌≤◌, ◌+◌, ◌||◌, not, length, ◌↔◌, ◌<◌, ◌⊎◌, OnOk, IfOk, IsNone, IfSome};
 ghost use Rattle.gt_base.specs.declared.events.Prioritised.{Prioritised};
 ghost use Rattle.gt_base.specs.Sets.{has, members, none, those, with_member};
 ghost use Rattle.delay_agenda.specs.Due.{pending_at, is_due_at, count_due, IsLeastDue};
 
 use crate::pairs::Pending;
-use crate::trios::{
-    count_due_trio, count_trio, forget_trio, least_of_trio, put_third, settle_all, tell_trio,
-};
+use crate::{rows, trees};
 use gt_base::{Happened, Instant, Memory, Prioritised};
 use std::alloc::Global;
+use std::collections::BTreeSet;
 use std::marker::Model;
 
 /// A set of events with their due instants, seen as the set of the pairs and the number of further
-/// pairs that it has room for.
+/// pairs that it has room for. The pairs stand in a tree, and those that were put since room was
+/// last made in a row beside it. A question about an instant looks at the pairs that are due then,
+/// at few others on the way to them, and at the row.
 pub struct Agenda {
-    far: Vec<Pending>,
-    long: Vec<Pending>,
-    short: Vec<Pending>,
+    tree: BTreeSet<Pending>,
+    row: Vec<Pending>,
 }
 
 impl Model for Agenda {
     ghost use Rattle.std.specs.Prelude.{◌-◌, vec_capacity, vec_len};
     ghost use Rattle.gt_base.specs.Happening.{Roomier, roomier_code};
     ghost use Rattle.delay_agenda.specs.Due.{Pendings, pendings_code};
-    ghost use Rattle.delay_agenda.specs.Rows.{AreTrio, trio_of};
+    ghost use Rattle.delay_agenda.specs.Rows.{AreApart, pairs_of};
 
     ghost Value = { Roomier Pendings };
 
     ghost coded = { roomier_code pendings_code };
 
     ghost view = { λ a. record {
-      set = trio_of a.far.items a.long.items a.short.items;
-      spare = vec_capacity a.short - vec_len a.short;
+      set = pairs_of a.tree.keys a.row.items;
+      spare = vec_capacity a.row - vec_len a.row;
     } };
 
-    ghost invariant = { λ a. AreTrio a.far.items a.long.items a.short.items };
+    ghost invariant = { λ a. AreApart a.tree.keys a.row.items };
 }
 
 impl Drop for Agenda {
     fn drop(self) {
-        let Agenda {
-            far: _,
-            long: _,
-            short: _,
-        } = self;
+        let Agenda { tree: _, row: _ } = self;
     }
 }
 
@@ -55,21 +51,20 @@ impl Agenda {
         ensures spare { result.spare ≡ 0 }
     {
         Agenda {
-            far: Vec::new(alloc),
-            long: Vec::new(alloc),
-            short: Vec::new(alloc),
+            tree: BTreeSet::new(alloc),
+            row: Vec::new(alloc),
         }
     }
 
-    /// Makes room for n more pairs. For want of memory it may refuse; the set is then as it was,
-    /// and the room no less.
+    /// Makes room for n more pairs; those of the row move to the tree. For want of memory it may
+    /// refuse; the set is then as it was, and the room no less.
     pub fn reserve(&mut self, n: usize) -> Result<(), Memory>
         ensures set { self.new.set ≡ self.old.set }
         ensures spare { self.old.spare ≤ self.new.spare }
         ensures room { OnOk result (n ≤ self.new.spare) }
     {
-        settle_all(&mut self.far, &mut self.long, &mut self.short)?;
-        self.short.reserve(n)
+        trees::move_all(&mut self.tree, &mut self.row)?;
+        self.row.reserve(n)
     }
 
     /// An agenda with the same pairs. For want of memory it may refuse.
@@ -77,9 +72,8 @@ impl Agenda {
         ensures { IfOk result (λ copy. copy.set ≡ self.now.set) }
     {
         Ok(Agenda {
-            far: Vec::from_slice(*self.far.allocator(), &self.far)?,
-            long: Vec::from_slice(*self.long.allocator(), &self.long)?,
-            short: Vec::from_slice(*self.short.allocator(), &self.short)?,
+            tree: self.tree.clone()?,
+            row: Vec::from_slice(*self.row.allocator(), &self.row)?,
         })
     }
 
@@ -87,7 +81,7 @@ impl Agenda {
     pub fn len(&self) -> usize
         ensures { result ≡ length (members self.now.set) }
     {
-        count_trio(&self.far, &self.long, &self.short)
+        self.tree.len() + self.row.len()
     }
 
     /// Adds an event that is due at the instant, into room that was made before. At most one of the
@@ -98,7 +92,9 @@ impl Agenda {
         ensures spare { self.old.spare ≤ self.new.spare + 1 }
     {
         let pair = Pending { due, event: p };
-        put_third(&self.far, &self.long, &mut self.short, pair);
+        if !self.tree.contains(&pair) {
+            rows::put(&mut self.row, pair);
+        }
     }
 
     /// The least instant at which something is due; none exactly where nothing is.
@@ -106,14 +102,19 @@ impl Agenda {
         ensures none { IsNone result ↔ (self.now.set ≡ none) }
         ensures some { IfSome result (IsLeastDue self.now.set) }
     {
-        least_of_trio(&self.far, &self.long, &self.short)
+        match (self.tree.last(), self.row.last()) {
+            (Some(p), Some(q)) => Some(lesser(p.due, q.due)),
+            (Some(p), None) => Some(p.due),
+            (None, Some(q)) => Some(q.due),
+            (None, None) => None,
+        }
     }
 
     /// How many pairs are due at the instant, so for how many `take` wants room.
     pub fn due_count(&self, t: Instant) -> usize
         ensures { result ≡ count_due self.now.set t }
     {
-        count_due_trio(&self.far, &self.long, &self.short, t)
+        trees::count_due(&self.tree, t) + rows::count_due(&self.row, t)
     }
 
     /// Adds the events that are due at the instant to a set of an instant, where room was made
@@ -126,7 +127,8 @@ impl Agenda {
         ensures signals { into.new.set.signals ≡ into.old.set.signals }
         ensures spare { into.old.spare ≤ into.new.spare + count_due self.now.set t }
     {
-        tell_trio(&self.far, &self.long, &self.short, t, into);
+        trees::tell_due(&self.tree, t, into);
+        rows::tell_due(&self.row, t, into);
     }
 
     /// Takes out the pairs that are due at the instant, and keeps the others.
@@ -134,12 +136,12 @@ impl Agenda {
         ensures set { self.new.set ≡ those self.old.set (λ p. not (is_due_at t p)) }
         ensures spare { self.old.spare ≤ self.new.spare }
     {
-        forget_trio(&mut self.far, &mut self.long, &mut self.short, t);
+        trees::forget_due(&mut self.tree, t);
+        rows::forget_due(&mut self.row, t);
     }
 
     /// Moves the events that are due at the instant into a set of an instant, where room was made
-    /// before. The agenda keeps the other pairs; of those only the ones that are due before the
-    /// instant move, so none at the least due.
+    /// before. The agenda keeps the other pairs.
     pub fn take(&mut self, t: Instant, into: &mut Happened)
         requires { count_due self.old.set t ≤ into.old.spare }
         ensures events { (e : Prioritised)
@@ -150,7 +152,16 @@ impl Agenda {
         ensures set { self.new.set ≡ those self.old.set (λ p. not (is_due_at t p)) }
         ensures room { self.old.spare ≤ self.new.spare }
     {
-        tell_trio(&self.far, &self.long, &self.short, t, into);
-        forget_trio(&mut self.far, &mut self.long, &mut self.short, t);
+        trees::tell_due(&self.tree, t, into);
+        rows::tell_due(&self.row, t, into);
+        trees::forget_due(&mut self.tree, t);
+        rows::forget_due(&mut self.row, t);
     }
+}
+
+/// The lesser of the two.
+fn lesser(t: Instant, u: Instant) -> Instant
+    ensures { ((t ≤ u) × (result ≡ t)) ⊎ ((u < t) × (result ≡ u)) }
+{
+    if t <= u { t } else { u }
 }

@@ -3,11 +3,9 @@
 
 mod agendas;
 mod laws;
-mod merging;
 mod pairs;
 mod rows;
-mod trios;
-mod twins;
+mod trees;
 
 pub use agendas::Agenda;
 pub use laws::agendas_are_sets;

@@ -72,3 +72,43 @@ fn many_come_in_any_order(rt: HostRuntime) {
     assert!(&rt; into.len() == 2);
     assert!(&rt; agenda.next_due().is_none());
 }
+
+/// Pairs in the tree and in the row: one that stands in the tree is put no second time, what is due
+/// at a later instant is told and forgotten, and what is due before it stays.
+#[test]
+fn both_are_one_agenda(rt: HostRuntime) {
+    let prio = Prio::new(50).expect(&rt, "a priority");
+    let first = Instant::new(0).expect(&rt, "an instant");
+    let soon = Instant::new(10).expect(&rt, "an instant");
+    let later = Instant::new(20).expect(&rt, "an instant");
+    let mut agenda = Agenda::new(rt.alloc());
+    let Ok(()) = agenda.reserve(3) else {
+        panic!(&rt; "memory");
+    };
+    agenda.put(later, enable(1, prio));
+    agenda.put(first, enable(0, prio));
+    agenda.put(soon, enable(0, prio));
+    let Ok(()) = agenda.reserve(3) else {
+        panic!(&rt; "memory");
+    };
+    agenda.put(later, enable(1, prio));
+    agenda.put(later, enable(0, prio));
+    agenda.put(soon, enable(1, prio));
+    assert!(&rt; agenda.len() == 5);
+    assert!(&rt; agenda.due_count(later) == 2);
+    let Ok(copy) = agenda.copied() else {
+        panic!(&rt; "memory");
+    };
+    let mut into = Happened::new(rt.alloc());
+    let Ok(()) = into.reserve(2) else {
+        panic!(&rt; "memory");
+    };
+    agenda.tell(later, &mut into);
+    assert!(&rt; into.len() == 2);
+    agenda.forget(later);
+    assert!(&rt; agenda.len() == 3);
+    assert!(&rt; agenda.due_count(soon) == 2);
+    assert!(&rt; agenda.next_due() == Some(first));
+    assert!(&rt; copy.len() == 5);
+    assert!(&rt; copy.due_count(later) == 2);
+}

@@ -5,7 +5,7 @@
 mod mutex;
 
 use crate::mutex::under_mutex;
-use desk_checks::{Tally, many};
+use desk_checks::{CountingBook, many};
 use gt_base::{Instant, Keeps};
 use std::alloc::{AllocError, Global};
 use std::env;
@@ -36,7 +36,7 @@ fn asked<R: Threads + Wait + Sync>(rt: &R, alloc: Global, words: &[String]) -> O
     if threads < 1 || threads > 8 {
         return None;
     }
-    let machine = Tally::new(alloc, Instant::new(0)?, 0);
+    let machine = CountingBook::new(alloc, Instant::new(0)?, 0);
     match kind.as_str() {
         "desk" | "stay" => match many(
             rt,

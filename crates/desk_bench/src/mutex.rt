@@ -1,12 +1,12 @@
 //! The same asks under a plain mutex.
-use desk_checks::Tally;
+use desk_checks::CountingBook;
 use gt_base::{Actor, Keeps, Machine, Request, Who};
 use std::alloc::Global;
 use std::sync::{Mutex, Wait};
 use std::thread;
 use std::thread::Threads;
 
-fn ask_all<R: Wait>(rt: &R, shared: &Mutex<Tally>, worker: u32, asks: u32) {
+fn ask_all<R: Wait>(rt: &R, shared: &Mutex<CountingBook>, worker: u32, asks: u32) {
     for _ in 0..asks {
         let mut machine = shared.lock(rt);
         let who = Who { worker, conn: 1 };
@@ -18,7 +18,7 @@ fn ask_all<R: Wait>(rt: &R, shared: &Mutex<Tally>, worker: u32, asks: u32) {
 pub fn under_mutex<R: Threads + Wait + Sync>(
     rt: &R,
     alloc: Global,
-    machine: Tally,
+    machine: CountingBook,
     threads: u32,
     asks: u32,
 ) -> Option<u64> {

@@ -17,6 +17,6 @@ mod thread_tests;
 pub use books::{book_of_a_role, role_status};
 pub use desks::{close_two, go, hear_no};
 pub use pair::{ask_all, two};
-pub use posts::{Post, run, serve};
+pub use posts::{DeskPost, run, serve};
 pub use shifts::many;
-pub use tally::Tally;
+pub use tally::CountingBook;

@@ -14,7 +14,7 @@ use turn_lock::Pass;
 
 /// A pass, whether it is to keep its turn between its asks, how often it is to ask, and how often
 /// it was told.
-pub struct Post<M> {
+pub struct DeskPost<M> {
     pub pass: Pass<M>,
     pub stays: bool,
     pub asks: u32,
@@ -22,7 +22,7 @@ pub struct Post<M> {
 }
 
 /// Asks for the instant as often as the post says, and counts how often it was told.
-pub fn serve<M: Machine, R: Wait>(rt: &R, desk: &Desk<M>, post: &mut Post<M>)
+pub fn serve<M: Machine, R: Wait>(rt: &R, desk: &Desk<M>, post: &mut DeskPost<M>)
     requires pass { IsFree (site_of desk.now) post.old.pass }
     requires named { M.named desk.now.root Nobody Now }
     ensures pass { IsBack (site_of desk.now) post.old.pass post.new.pass }
@@ -48,7 +48,7 @@ pub fn serve<M: Machine, R: Wait>(rt: &R, desk: &Desk<M>, post: &mut Post<M>)
 pub fn run<M: Machine + Send, R: Threads + Wait + Sync>(
     rt: &R,
     desk: &Desk<M>,
-    posts: &mut Vec<Post<M>>,
+    posts: &mut Vec<DeskPost<M>>,
 )
     requires free { All (λ p. IsFree (site_of desk.now) p.pass) posts.old.items }
     requires named { M.named desk.now.root Nobody Now }

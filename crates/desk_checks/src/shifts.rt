@@ -6,7 +6,7 @@ ghost use Rattle.gt_base.specs.declared.requests.Request.TheVariants.{Now};
 ghost use Rattle.turn_lock.specs.Turns.{part};
 ghost use Rattle.desk_checks.specs.PostLists.{passes_of};
 
-use crate::posts::{Post, run};
+use crate::posts::{DeskPost, run};
 use gt_base::Machine;
 use locked_history::Desk;
 use std::alloc::Global;
@@ -15,7 +15,7 @@ use std::thread::Threads;
 use turn_lock::{NewFault, Passes};
 
 /// Each pass gets a post, the last one first. The post of pass w is to ask `asks + w * more` times.
-fn man<M>(passes: &mut Passes<M>, posts: &mut Vec<Post<M>>, stays: bool, asks: u32, more: u32)
+fn man<M>(passes: &mut Passes<M>, posts: &mut Vec<DeskPost<M>>, stays: bool, asks: u32, more: u32)
     requires empty { posts.old.items ≡ [] }
     requires room { length passes.old.items ≤ vec_capacity posts.old }
     ensures posts { reverse (passes_of posts.new.items) ≡ passes.old.items }
@@ -24,7 +24,7 @@ fn man<M>(passes: &mut Passes<M>, posts: &mut Vec<Post<M>>, stays: bool, asks: u
 {
     while let Some(pass) = passes.take() {
         let asks = asks.saturating_add(more.saturating_mul(pass.number()));
-        posts.push_reserved(Post {
+        posts.push_reserved(DeskPost {
             pass,
             stays,
             asks,
@@ -34,13 +34,13 @@ fn man<M>(passes: &mut Passes<M>, posts: &mut Vec<Post<M>>, stays: bool, asks: u
 }
 
 /// The passes come back, the first one first.
-fn relieve<M>(passes: &mut Passes<M>, mut posts: Vec<Post<M>>)
+fn relieve<M>(passes: &mut Passes<M>, mut posts: Vec<DeskPost<M>>)
     requires empty { passes.old.items ≡ [] }
     requires room { vec_len posts ≤ passes.old.spare }
     ensures { passes.new.items ≡ reverse (passes_of posts.items) }
 {
     while let Some(post) = posts.pop() {
-        let Post {
+        let DeskPost {
             pass,
             stays: _,
             asks: _,

@@ -10,14 +10,14 @@ use std::marker::Model;
 
 /// It is seen as its birth, the number of its users and its entries.
 #[derive(Drop)]
-pub struct Tally {
+pub struct CountingBook {
     birth: Instant,
     users: u32,
     instant: Instant,
     entries: Vec<Entry>,
 }
 
-impl Model for Tally {
+impl Model for CountingBook {
     ghost use Rattle.desk_checks.specs.Tallies.{Held};
 
     ghost Value = { Held };
@@ -32,12 +32,12 @@ impl Model for Tally {
         × LegalFrom t.birth 0 t.entries.items × (length t.entries.items ≤ MAX_STEPS) };
 }
 
-impl Tally {
+impl CountingBook {
     /// A machine with so many users and no entry.
-    pub fn new(alloc: Global, birth: Instant, users: u32) -> Tally
+    pub fn new(alloc: Global, birth: Instant, users: u32) -> CountingBook
         ensures { result ≡ record { birth = birth; users = users; entries = [] } }
     {
-        Tally {
+        CountingBook {
             birth,
             users,
             instant: birth,
@@ -53,7 +53,7 @@ impl Tally {
     }
 }
 
-impl Keeps for Tally {
+impl Keeps for CountingBook {
     ghost use Rattle.std.specs.Prelude.{◌≡◌, refl};
     ghost use Rattle.std.proofs.Common.{sym, ◌∙◌};
     ghost use Rattle.desk_checks.specs.Tallies.{SameTallyRoot};
@@ -73,7 +73,7 @@ impl Keeps for Tally {
     ghost same_trans = { λ x y z h k. (h.0 ∙ k.0, h.1 ∙ k.1) };
 }
 
-impl Machine for Tally {
+impl Machine for CountingBook {
     ghost use Rattle.std.specs.Prelude.{◌≡◌, ℕ, List, ◌<◌};
     ghost use Rattle.std.proofs.Common.{subst, ap};
     ghost use Rattle.gt_base.specs.declared.requests.Entry.{Entry};

@@ -1,6 +1,6 @@
 use crate::pair::two;
 use crate::shifts::many;
-use crate::tally::Tally;
+use crate::tally::CountingBook;
 use gt_base::{Actor, Entry, Instant, Keeps, Reply, Request, SessionId, UserId};
 use locked_history::Desk;
 use std::alloc::Global;
@@ -34,7 +34,8 @@ fn two_passes_in_one_thread(rt: HostRuntime) {
     let ten = Instant::new(13_689_240).expect(&rt, "2026-01-10T10:00");
     let later = Instant::new(13_689_245).expect(&rt, "five minutes later");
     let u = Actor::User(UserId(0));
-    let Ok((desk, mut passes)) = Desk::new(rt.alloc(), Tally::new(rt.alloc(), ten, 1), 2) else {
+    let Ok((desk, mut passes)) = Desk::new(rt.alloc(), CountingBook::new(rt.alloc(), ten, 1), 2)
+    else {
         panic!(&rt; "memory");
     };
     let mut one = passes.take().expect(&rt, "a pass");
@@ -72,7 +73,12 @@ fn two_passes_in_one_thread(rt: HostRuntime) {
 #[test]
 fn two_threads_ask(rt: HostRuntime) {
     let birth = Instant::new(7).expect(&rt, "an instant");
-    let Ok((machine, a, b)) = two(&rt, rt.alloc(), Tally::new(rt.alloc(), birth, 0), 100) else {
+    let Ok((machine, a, b)) = two(
+        &rt,
+        rt.alloc(),
+        CountingBook::new(rt.alloc(), birth, 0),
+        100,
+    ) else {
         panic!(&rt; "memory");
     };
     assert!(&rt; a == 100);
@@ -83,13 +89,17 @@ fn two_threads_ask(rt: HostRuntime) {
 }
 
 /// The machine that eight threads asked 50 to 57 times.
-fn asked_by_eight<R: Threads + Wait + Sync>(rt: &R, alloc: Global, stays: bool) -> Option<Tally> {
-    let tally = Tally::new(alloc, Instant::new(7)?, 0);
+fn asked_by_eight<R: Threads + Wait + Sync>(
+    rt: &R,
+    alloc: Global,
+    stays: bool,
+) -> Option<CountingBook> {
+    let tally = CountingBook::new(alloc, Instant::new(7)?, 0);
     many(rt, alloc, tally, 8, stays, 50, 1).ok()
 }
 
 /// Whether each of the eight has its asks.
-fn is_whole(machine: &Tally) -> bool {
+fn is_whole(machine: &CountingBook) -> bool {
     let entries = machine.entries();
     machine.kept() == 428 && count_of(entries, 0) == 50 && count_of(entries, 7) == 57
 }
@@ -109,7 +119,8 @@ fn eight_threads_keep_their_turns(rt: HostRuntime) {
 #[test]
 fn a_desk_is_closed_while_a_turn_is_kept(rt: HostRuntime) {
     let birth = Instant::new(7).expect(&rt, "an instant");
-    let Ok((desk, mut passes)) = Desk::new(rt.alloc(), Tally::new(rt.alloc(), birth, 0), 1) else {
+    let Ok((desk, mut passes)) = Desk::new(rt.alloc(), CountingBook::new(rt.alloc(), birth, 0), 1)
+    else {
         panic!(&rt; "memory");
     };
     let mut only = passes.take().expect(&rt, "a pass");

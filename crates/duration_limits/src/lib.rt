@@ -4,8 +4,6 @@
 
 mod ages;
 mod laws;
-#[cfg(test)]
-mod tests;
 
 pub use ages::Ages;
 pub use laws::{ages_follow_changes, ages_read_rows, ripe_is_aged};

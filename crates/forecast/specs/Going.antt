@@ -14,7 +14,7 @@ use Rattle.session_table.specs.Tables.{TableView, NotBefore, table_of}
 use Rattle.time_engine.specs.Plans.{with_trace}
 use Rattle.time_engine.specs.Traces.{model_of}
 use Rattle.core_machine.specs.Books.{BookView}
-use Rattle.core_machine.specs.Kept.{Abreast}
+use Rattle.core_machine.specs.Coherent.{Abreast}
 
 -- the walk has come to this timeline and this table: with these sets as its trace, and with these
 -- charges, of which those of this day and of later ones are kept, both are abreast of the entries

@@ -1,3 +1,3 @@
 pub mod HostPorts
 pub mod Lookouts
-pub mod Sights
+pub mod LastLooks

@@ -1,10 +1,10 @@
 //! What many links wait for together: connections, bytes, room for bytes, and the stop file.
 ghost use Rattle.std.specs.Prelude.{◌≡◌, ◌<◌, ◌≤◌, true, false, length, Some, IfOk, IfSome};
-ghost use Rattle.gt_host.specs.Lookouts.{FitsFound};
+ghost use Rattle.gt_host.specs.Lookouts.{FitsTask};
 
 use crate::conn::{Conn, Sign, all_ways};
 use crate::port::HostPort;
-use crate::stop::{WAIT_MILLIS, Watch, is_lasting, is_stopped};
+use crate::stop::{StopWatcher, WAIT_MILLIS, is_lasting, is_stopped};
 use gt_base::MAX_LINKS;
 use mio::net::{TcpListener, TcpStream};
 use mio::{Events, Interest, Poll, Registry, Token};
@@ -64,7 +64,7 @@ fn wait_millis(queue: Queue, free: bool) -> u64
 
 /// What is to be done next.
 #[derive(Drop)]
-pub(crate) enum Found {
+pub(crate) enum NextTask {
     /// A link is to be opened over this.
     Fresh(Box<Conn>),
     /// A link has something to do.
@@ -77,7 +77,7 @@ pub(crate) enum Found {
 /// links. It begins to listen as it is first asked, and listens no more once the stop file stands
 /// or 100,000 links were opened.
 pub(crate) struct Lookout<'a, R> {
-    watch: Watch<'a, R>,
+    watch: StopWatcher<'a, R>,
     alloc: Global,
     /// The port, before it listens.
     pub(crate) port: Option<u16>,
@@ -121,7 +121,7 @@ impl<'a, R: Files + rt::Clock + Net> Lookout<'a, R> {
         ensures { result.port ≡ Some port }
     {
         Lookout {
-            watch: Watch::new(rt),
+            watch: StopWatcher::new(rt),
             alloc,
             port: Some(port),
             poll: None,
@@ -267,9 +267,9 @@ impl<'a, R: Files + rt::Clock + Net> Lookout<'a, R> {
 
     /// Opens the link of a connection that waits, where it can be opened and the stop file does not
     /// stand. Where it can't, the connection waits on.
-    fn next_fresh(&mut self, opened: usize, free: bool) -> io::Result<Option<Found>>
+    fn next_fresh(&mut self, opened: usize, free: bool) -> io::Result<Option<NextTask>>
         requires { free ≡ true → opened < MAX_LINKS }
-        ensures { IfOk result (λ found. IfSome found (FitsFound (free ≡ true) opened)) }
+        ensures { IfOk result (λ found. IfSome found (FitsTask (free ≡ true) opened)) }
     {
         if !free {
             return Ok(None);
@@ -278,12 +278,12 @@ impl<'a, R: Files + rt::Clock + Net> Lookout<'a, R> {
             return Ok(None);
         };
         if is_stopped(self.watch.rt)? {
-            return Ok(Some(Found::Stop));
+            return Ok(Some(NextTask::Stop));
         }
         if opened + 1 == MAX_LINKS {
             self.listener = None;
         }
-        Ok(Some(Found::Fresh(conn)))
+        Ok(Some(NextTask::Fresh(conn)))
     }
 
     /// Waits for events, for a moment at most.
@@ -303,15 +303,15 @@ impl<'a, R: Files + rt::Clock + Net> Lookout<'a, R> {
 
     /// One step: a look for the stop file where it is time, a link that was silent for too long, an
     /// event of the last wait, a connection where a link can be opened, or a wait.
-    pub(crate) fn step(&mut self, ports: &[HostPort], free: bool) -> io::Result<Option<Found>>
+    pub(crate) fn step(&mut self, ports: &[HostPort], free: bool) -> io::Result<Option<NextTask>>
         requires few { length ports.now ≤ MAX_LINKS }
         requires free { free ≡ true → length ports.now < MAX_LINKS }
         ensures { IfOk result
-            (λ found. IfSome found (FitsFound (free ≡ true) (length ports.now))) }
+            (λ found. IfSome found (FitsTask (free ≡ true) (length ports.now))) }
     {
         if self.watch.is_due() {
             if is_stopped(self.watch.rt)? {
-                return Ok(Some(Found::Stop));
+                return Ok(Some(NextTask::Stop));
             }
             self.looks = self.looks.saturating_add(1);
             self.unswept = ports.len().min(MAX_SWEPT);
@@ -323,11 +323,11 @@ impl<'a, R: Files + rt::Clock + Net> Lookout<'a, R> {
                 late: true,
                 looks: self.looks,
             };
-            return Ok(Some(Found::Link(link, sign)));
+            return Ok(Some(NextTask::Link(link, sign)));
         }
         if let Some(told) = self.take_event() {
             return match self.told_by(told, ports) {
-                Some((link, sign)) => Ok(Some(Found::Link(link, sign))),
+                Some((link, sign)) => Ok(Some(NextTask::Link(link, sign))),
                 None => Ok(None),
             };
         }

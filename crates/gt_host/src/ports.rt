@@ -6,10 +6,10 @@ ghost use Rattle.gt_host.specs.declared.ports.TheConstants.{MAX_OPEN};
 ghost use Rattle.gt_io.specs.Ports.{PortReads, PortWrites, FitsGot, FitsTook, readied};
 ghost use Rattle.gt_io.specs.Ports.{open_among, Happens, IsUncalled};
 ghost use Rattle.gt_host.specs.HostPorts.{host_port, host_port_in, host_harbour};
-ghost use Rattle.gt_host.specs.Lookouts.{FitsFound, MayOpen};
+ghost use Rattle.gt_host.specs.Lookouts.{FitsTask, MayOpen};
 
 use crate::conn::{Conn, Sign};
-use crate::lookout::{Found, Lookout};
+use crate::lookout::{Lookout, NextTask};
 use crate::port::HostPort;
 use gt_base::MAX_LINKS;
 use gt_io::{Called, Failed, Got, PortEvent, Ports, Took, count_fault, count_finished};
@@ -234,10 +234,10 @@ impl<'a, R: Files + rt::Clock + Net> HostPorts<'a, R> {
     }
 
     /// One step, which opens a link where it can be opened.
-    fn step(&mut self) -> io::Result<Option<Found>>
+    fn step(&mut self) -> io::Result<Option<NextTask>>
         ensures same { ⟦<HostPorts<'a, R> as Ports>⟧.harbour self.new
             ≡ ⟦<HostPorts<'a, R> as Ports>⟧.harbour self.old }
-        ensures fits { IfOk result (λ found. IfSome found (FitsFound
+        ensures fits { IfOk result (λ found. IfSome found (FitsTask
             (MayOpen (length self.new.ports.items) self.new.busy (vec_capacity self.new.ports))
             (length self.new.ports.items))) }
     {
@@ -246,10 +246,10 @@ impl<'a, R: Files + rt::Clock + Net> HostPorts<'a, R> {
     }
 
     /// What is to be done next.
-    fn found(&mut self) -> io::Result<Found>
+    fn found(&mut self) -> io::Result<NextTask>
         ensures same { ⟦<HostPorts<'a, R> as Ports>⟧.harbour self.new
             ≡ ⟦<HostPorts<'a, R> as Ports>⟧.harbour self.old }
-        ensures fits { IfOk result (FitsFound
+        ensures fits { IfOk result (FitsTask
             (MayOpen (length self.new.ports.items) self.new.busy (vec_capacity self.new.ports))
             (length self.new.ports.items)) }
     {
@@ -259,7 +259,7 @@ impl<'a, R: Files + rt::Clock + Net> HostPorts<'a, R> {
                 return Ok(found);
             }
         }
-        Ok(Found::Stop)
+        Ok(NextTask::Stop)
     }
 
     /// The answer to a call that was counted.
@@ -269,9 +269,9 @@ impl<'a, R: Files + rt::Clock + Net> HostPorts<'a, R> {
             (⟦<HostPorts<'a, R> as Ports>⟧.harbour self.new) result }
     {
         match self.found() {
-            Ok(Found::Fresh(conn)) => Ok(self.begin(conn)),
-            Ok(Found::Link(link, sign)) => Ok(self.wake(link, sign)),
-            Ok(Found::Stop) => {
+            Ok(NextTask::Fresh(conn)) => Ok(self.begin(conn)),
+            Ok(NextTask::Link(link, sign)) => Ok(self.wake(link, sign)),
+            Ok(NextTask::Stop) => {
                 self.lookout.close();
                 Ok(PortEvent::Stop)
             }

@@ -1,7 +1,7 @@
 //! The file by which the server is stopped, and how long the waits of the edge last, so that each
 //! of them sees it soon.
 ghost use Rattle.std.specs.Prelude.{◌≡◌, ◌≤◌, IfOk, OnErr};
-ghost use Rattle.gt_host.specs.Sights.{Sight, seen_by};
+ghost use Rattle.gt_host.specs.LastLooks.{LastLook, seen_by};
 
 use std::rt::{self, Files};
 use std::time::Duration;
@@ -28,23 +28,23 @@ pub(crate) fn one_wait() -> Duration {
 /// A file that is looked for. Looks can fail.
 pub(crate) trait Sought {
     /// What the last look that did not fail has told, and how many have failed since.
-    ghost sight: { Self → Sight };
+    ghost last_look: { Self → LastLook };
 
     /// Whether it stands.
     fn look(&mut self) -> io::Result<bool>
-        ensures { sight self.new ≡ seen_by result (sight self.old) };
+        ensures { last_look self.new ≡ seen_by result (last_look self.old) };
 
     /// Lets a moment pass.
     fn pause(&mut self)
-        ensures { sight self.new ≡ sight self.old };
+        ensures { last_look self.new ≡ last_look self.old };
 }
 
 /// Whether a file stands. A look that fails is tried again, since its cause may pass, and is
 /// believed where 20 in a row have failed.
 pub(crate) fn look_again<S: Sought>(file: &mut S) -> io::Result<bool>
     ensures stands { IfOk result
-        (λ stands. S.sight file.new ≡ record { stands = stands; failed = 0 }) }
-    ensures failed { OnErr result (MAX_FAILED ≤ (S.sight file.new).failed) }
+        (λ stands. S.last_look file.new ≡ record { stands = stands; failed = 0 }) }
+    ensures failed { OnErr result (MAX_FAILED ≤ (S.last_look file.new).failed) }
 {
     for _ in 1..MAX_FAILED {
         match file.look() {
@@ -64,7 +64,7 @@ struct StopFile<'a, R> {
 }
 
 impl<'a, R: Files + rt::Clock> Sought for StopFile<'a, R> {
-    ghost sight = { λ f. record { stands = f.stands; failed = f.failed } };
+    ghost last_look = { λ f. record { stands = f.stands; failed = f.failed } };
 
     fn look(&mut self) -> io::Result<bool> {
         match fs::exists(self.rt, STOP_FILE) {
@@ -116,15 +116,15 @@ pub(crate) fn is_lasting(fault: &io::Error) -> bool {
 
 /// Looks at the clock often, and for the stop file, which is dearer, now and then.
 #[derive(Drop)]
-pub(crate) struct Watch<'a, R> {
+pub(crate) struct StopWatcher<'a, R> {
     pub(crate) rt: &'a R,
     looked: Duration,
 }
 
-impl<'a, R: Files + rt::Clock> Watch<'a, R> {
+impl<'a, R: Files + rt::Clock> StopWatcher<'a, R> {
     /// A watch that is due.
     pub(crate) fn new(rt: &'a R) -> Self {
-        Watch {
+        StopWatcher {
             rt,
             looked: Duration::ZERO,
         }

@@ -3,9 +3,9 @@ ghost use Rattle.std.specs.Prelude.{◌≡◌, ◌<◌, ◌≤◌, None, Some, t
 ghost use Rattle.std.specs.Io.{ReadsAtMost};
 ghost use Rattle.gt_io.specs.Links.{ReadsNothing, WritesNothing};
 
-use crate::stop::{Watch, is_lasting, is_over, is_stopped, must_stop, one_wait};
+use crate::stop::{StopWatcher, is_lasting, is_over, is_stopped, must_stop, one_wait};
 use gt_base::MAX_LINKS;
-use gt_io::{Door, Failed, Link, count_end};
+use gt_io::{Door, Failed, Link, MAX_HELD, count_end};
 use std::alloc::Global;
 use std::io;
 use std::io::{ErrorKind, Read, Write};
@@ -13,9 +13,6 @@ use std::net::{Ipv4Addr, Net, Shutdown, TcpListener, TcpStream};
 use std::os::fd::OwnedFd;
 use std::rt::{self, Files};
 use std::time::Duration;
-
-/// How many bytes of replies are held back at most.
-const MAX_HELD: usize = 4096;
 
 /// How many waits in a row may bring no byte: the link of a client that is silent for ten minutes
 /// is at its end.
@@ -100,7 +97,7 @@ fn write_text<R: Files + rt::Clock>(rt: &R, stream: &mut TcpStream, text: &[u8])
 /// stands, is let go, which is a fault of the call that found it; what is left of a link that was
 /// let go is nothing, and a write to it is a fault.
 pub struct HostLink<'a, R> {
-    watch: Watch<'a, R>,
+    watch: StopWatcher<'a, R>,
     stream: Option<TcpStream>,
     held: Vec<u8>,
     read_faults: u64,
@@ -137,7 +134,7 @@ impl<'a, R: Files + rt::Clock> HostLink<'a, R> {
         ensures open { result.finished ≡ false }
     {
         HostLink {
-            watch: Watch::new(rt),
+            watch: StopWatcher::new(rt),
             stream: Some(stream),
             held: Vec::new(alloc),
             read_faults: 0,

@@ -1,11 +1,11 @@
 ghost use Rattle.std.specs.Prelude.{◌≡◌, ◌<◌, length, true, false};
 ghost use Rattle.gt_io.specs.Ports.{IsOpen};
-ghost use Rattle.gt_host.specs.Sights.{seen_by};
+ghost use Rattle.gt_host.specs.LastLooks.{seen_by};
 
 use super::*;
 use crate::clock::minute_at;
 use crate::conn::{Conn, Sign};
-use crate::lookout::{Found, Lookout};
+use crate::lookout::{Lookout, NextTask};
 use crate::stop::{MAX_FAILED, Sought, look_again};
 use gt_io::{
     Clock, Door, Failed, Got, Link, PortEvent, Ports, ReadFault, Took, find_all, read_all,
@@ -98,7 +98,7 @@ struct Hazy {
 }
 
 impl Sought for Hazy {
-    ghost sight = { λ f. record { stands = f.stands; failed = f.failed } };
+    ghost last_look = { λ f. record { stands = f.stands; failed = f.failed } };
 
     fn look(&mut self) -> io::Result<bool> {
         if self.fails > 0 {
@@ -150,7 +150,7 @@ fn next_of<R: Files + rt::Clock + Net>(
 ) -> Result<Option<Box<Conn>>, Fail> {
     for _ in 0..steps {
         match lookout.step(&[], free)? {
-            Some(Found::Fresh(conn)) => return Ok(Some(conn)),
+            Some(NextTask::Fresh(conn)) => return Ok(Some(conn)),
             Some(_) => return Err("no connection".into()),
             None => {}
         }

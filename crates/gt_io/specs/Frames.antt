@@ -1,5 +1,5 @@
 -- What a framer knows of the line that it is in.
-use Rattle.std.specs.Prelude.{ℕ, ◌+◌, ◌==◌, List, [], ◌∷◌, ◌++◌, length, take, min, nat_le, Bool, true, false, if◌then◌else◌}
+use Rattle.std.specs.Prelude.{◌≡◌, ℕ, zero, suc, ◌+◌, ◌==◌, List, [], ◌∷◌, ◌++◌, length, take, slice_index_or, min, nat_le, Bool, true, false, if◌then◌else◌}
 use Rattle.gt_io.specs.declared.framer.Framed.{Framed}
 use Rattle.gt_io.specs.declared.framer.Framed.TheVariants.{More, Whole, Long}
 use Rattle.gt_base.specs.declared.limits.TheConstants.{LONGEST_LINE}
@@ -29,6 +29,13 @@ longer f b =
 
 abbrev pub pushed : Frame → ℕ → Frame
 pushed f b = if b == 10 then record (begun f) { ended = true } else longer (begun f) b
+
+-- the frame behind the first n of these bytes, of which none is a line feed
+unfoldable pub PushesFront : Frame → List ℕ → ℕ → Frame → Type 0
+PushesFront f bytes zero f' = f' ≡ f
+PushesFront f bytes (suc n) f' =
+    (m : Frame) × PushesFront f bytes n m × ((slice_index_or bytes n 0 == 10) ≡ false)
+    × (f' ≡ pushed m (slice_index_or bytes n 0))
 
 -- what the framer answers to a byte
 abbrev pub framed : Frame → ℕ → Framed

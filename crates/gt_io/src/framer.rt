@@ -1,6 +1,6 @@
 //! Cutting bytes into lines.
 ghost use Rattle.std.specs.Prelude.{◌≡◌, ◌+◌, ◌≤◌, ◌++◌, ◌∷◌, [], length, take, min};
-ghost use Rattle.gt_io.specs.Frames.{blank_frame, begun, pushed, framed};
+ghost use Rattle.gt_io.specs.Frames.{blank_frame, begun, pushed, framed, PushesFront};
 
 use gt_base::LONGEST_LINE;
 use std::marker::Model;
@@ -96,6 +96,19 @@ impl Framer {
         } else {
             Framed::Long
         }
+    }
+
+    /// Takes the bytes up to the first line feed, which is left, and answers how many these are.
+    pub fn push_front(&mut self, bytes: &[u8]) -> usize
+        ensures within { result ≤ length bytes.now }
+        ensures frame { PushesFront self.old bytes.now result self.new }
+    {
+        let mut n = 0;
+        while n < bytes.len() && bytes[n] != b'\n' {
+            self.push(bytes[n]);
+            n += 1;
+        }
+        n
     }
 
     /// The bytes of the line so far, without its line feed, the first 512 of them.

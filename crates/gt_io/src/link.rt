@@ -9,6 +9,10 @@ ghost use Rattle.gt_io.specs.Links.{Traffic, Doorway, tallied, ReadsNothing, Wri
 use crate::source::Failed;
 use gt_base::{Instant, List, Memory};
 
+/// How many bytes a link holds back before a write waits for the peer: one behind as many may wait,
+/// and one behind fewer does not.
+pub const MAX_HELD: usize = 4096;
+
 /// A connection. It has two counts, of the reads and of the writes that failed; each call raises
 /// its own by one where it fails, and nothing else does. `finish`, and no other call, lets it go,
 /// and is the last call on it.

@@ -9,38 +9,35 @@ use Rattle.policy_words.specs.Naming.{NamedPolicy}
 use Rattle.snapshot_readers.specs.Glazed.{Glazed, fresh_glass}
 use Rattle.snapshot_readers.specs.declared.viewers.Viewer.{Viewer}
 use Rattle.connection_laws.specs.Desks.{GlancesCanBeTold}
-use Rattle.snapshot_readers.specs.declared.seats.Seat.{Seat}
-use Rattle.snapshot_readers.specs.Seats.{watchers, HasLooked, IsNewViewer, IsReadySeat, glasses_of, viewers_of, HasSettled, AreTold, HaveViewed}
+use Rattle.snapshot_readers.specs.declared.seats.ViewerSeat.{ViewerSeat}
+use Rattle.snapshot_readers.specs.Seats.{watchers, HasLooked, IsNewViewer, IsReadySeat, glasses_of, viewers_of, HasSettled, SeatBySeat, AreTold, HaveViewed}
 use Rattle.snapshot_readers.proofs.Seated.{ready, seats_done}
 
 -- there are as many seats as viewers
-pub as_many : {D G L : Type 0} (xs : List (Seat D G L)) (vs : List (Viewer D G L)) → reverse (viewers_of xs) ≡ vs → length xs ≡ length vs
+pub as_many : {D G L : Type 0} (xs : List (ViewerSeat D G L)) (vs : List (Viewer D G L)) → reverse (viewers_of xs) ≡ vs → length xs ≡ length vs
 as_many {D} {G} {L} xs vs is =
-    sym (length-map xs (λ (s : Seat D G L). s.viewer)) ∙ (sym (length-reverse (viewers_of xs)) ∙ ap (λ (l : List (Viewer D G L)). length l) is)
+    sym (length-map xs (λ (s : ViewerSeat D G L). s.viewer)) ∙ (sym (length-reverse (viewers_of xs)) ∙ ap (λ (l : List (Viewer D G L)). length l) is)
 
-module _ {D G L : Type 0} (np : NamedPolicy) (birth n : ℕ) (gs : List Glazed) (viewers : List (Viewer D G L)) (xs : List (Seat D G L)) (all : gs ≡ replicate n (fresh_glass np birth)) (glasses : reverse (glasses_of xs) ≡ gs)
+module _ {D G L : Type 0} (np : NamedPolicy) (birth n : ℕ) (gs : List Glazed) (viewers : List (Viewer D G L)) (xs : List (ViewerSeat D G L)) (all : gs ≡ replicate n (fresh_glass np birth)) (glasses : reverse (glasses_of xs) ≡ gs)
     (is : reverse (viewers_of xs) ≡ viewers) (new : All (λ (v : Viewer D G L). IsNewViewer v) viewers) where
-  pub all_ready : All (λ (s : Seat D G L). s.number ≤ 7) xs → GlancesCanBeTold np birth → All (λ (s : Seat D G L). IsReadySeat np s) xs
+  pub all_ready : All (λ (s : ViewerSeat D G L). s.number ≤ 7) xs → GlancesCanBeTold np birth → All (λ (s : ViewerSeat D G L). IsReadySeat np s) xs
   all_ready numbers told = λ k d low.
       let r = ready np birth n gs viewers xs all glasses is new k d low in
       record {
-        named = ap (λ (g : Glazed). g.named) r.0;
-        replies = subst (λ (b : ℕ). GlancesCanBeTold np b) (sym (ap (λ (g : Glazed). g.birth) r.0)) told;
+        shows = (ap (λ (g : Glazed). g.named) r.0, subst (λ (b : ℕ). GlancesCanBeTold np b) (sym (ap (λ (g : Glazed). g.birth) r.0)) told);
         number = numbers k d low;
         fresh = r.1;
       }
 
-  pub all_served : (doorway : D → Doorway L) (traffic : L → Traffic) (h : List Entry) (viewers' : List (Viewer D G L)) (ys us : List (Seat D G L))
-      → viewers' ≡ reverse (viewers_of us) → length ys ≡ length xs → length us ≡ length ys
-      → ((i : ℕ) (d : Seat D G L) → i < length xs → HasLooked doorway traffic np (get_or xs i d) (get_or ys i d))
-      → ((i : ℕ) (d : Seat D G L) → i < length ys → HasSettled h (get_or ys i d) (get_or us i d))
+  pub all_served : (doorway : D → Doorway L) (traffic : L → Traffic) (h : List Entry) (viewers' : List (Viewer D G L)) (ys us : List (ViewerSeat D G L))
+      → viewers' ≡ reverse (viewers_of us) → SeatBySeat (HasLooked doorway traffic np) xs ys → SeatBySeat (HasSettled h) ys us
       → HaveViewed traffic np birth (watchers doorway viewers) (watchers doorway viewers')
-      × (list_all (λ (s : Seat D G L). s.told) us ≡ true → AreTold traffic np birth h (watchers doorway viewers) (watchers doorway viewers'))
-  all_served doorway traffic h viewers' ys us is' long more looked settled =
-      seats_done doorway traffic np birth h viewers viewers' xs us is is' (more ∙ long)
+      × (list_all (λ (s : ViewerSeat D G L). s.told) us ≡ true → AreTold traffic np birth h (watchers doorway viewers) (watchers doorway viewers'))
+  all_served doorway traffic h viewers' ys us is' looked settled =
+      seats_done doorway traffic np birth h viewers viewers' xs us is is' (settled.0 ∙ looked.0)
       (λ i d low. record {
         fresh = (ready np birth n gs viewers xs all glasses is new i d low).0;
         mid = get_or ys i d;
-        looked = looked i d low;
-        settled = settled i d (subst (λ (m : ℕ). i < m) (sym long) low);
+        looked = looked.1 i d low;
+        settled = settled.1 i d (subst (λ (m : ℕ). i < m) (sym looked.0) low);
       })

@@ -5,7 +5,7 @@ use Rattle.std.proofs.KnownBytes.{Appends-trans}
 use Rattle.gt_base.specs.declared.requests.Entry.{Entry}
 use Rattle.gt_io.specs.Causes.{Rose}
 use Rattle.policy_words.specs.Naming.{NamedPolicy}
-use Rattle.policy_commands.specs.Ends.{told}
+use Rattle.policy_commands.specs.Ends.{ending}
 use Rattle.request_text.specs.Replies.{log_text}
 use Rattle.policy_commands.specs.Printing.{IsPrinted}
 use Rattle.gtrbac_daemon.specs.Runs.{IsWritten}
@@ -42,7 +42,7 @@ fourteen_not s n d e is = let no : true ≡ false = ap (λ (k : ℕ). k == 14) (
 
 module _ (log line : List ℕ) (s t : ℕ) (old mid new : Option (List ℕ)) (f0 f1 f2 : ℕ) where
   -- the line after a log that was written whole
-  pub written_on : s ≡ 14 → IsWritten 14 log s old mid f0 f1 → IsPrinted t (told 14 line) mid new f1 f2 → IsWritten 14 (log ++ line) t old new f0 f2
+  pub written_on : s ≡ 14 → IsWritten 14 log s old mid f0 f1 → IsPrinted t (ending 14 line) mid new f1 f2 → IsWritten 14 (log ++ line) t old new f0 f2
   written_on is (inl w) (inl p) = inl (p.0, Appends-trans old mid new log line w.1 p.1, p.2 ∙ w.2)
   written_on is (inl w) (inr p) = inr (p.0, subst (λ (f : ℕ). Rose f f2) w.2 p.1, part_second old mid new log line w.1 p.2)
   written_on is (inr w) p = absurd (fourteen_not s 5 refl w.0 is)

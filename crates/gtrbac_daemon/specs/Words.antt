@@ -3,14 +3,14 @@ use Rattle.std.specs.Prelude.{◌≡◌, ◌⊎◌, ℕ, List, [], ◌∷◌, Op
 use Rattle.gt_io.specs.Shelf.{Contents, Stock, AsksOnce}
 use Rattle.gt_text.specs.Words.{begins_with}
 use Rattle.policy_words.specs.Naming.{NamedPolicy}
-use Rattle.policy_commands.specs.Ends.{EndView, told}
+use Rattle.policy_commands.specs.Ends.{EndView, ending}
 use Rattle.policy_commands.specs.Finding.{IsStoredText, MissesText}
 use Rattle.policy_commands.specs.Policies.{safe_in, HasTextFault, IsUnsafeText}
 use Rattle.gtrbac_daemon.specs.declared.words.Mode.{Mode}
 use Rattle.gtrbac_daemon.specs.declared.words.Mode.TheVariants.{Plain, Views, Poll}
 
 abbrev pub usage : EndView
-usage = told 1 (codes "usage: gtrbacd POLICY | views POLICY | poll POLICY\n")
+usage = ending 1 (codes "usage: gtrbacd POLICY | views POLICY | poll POLICY\n")
 
 -- the words are one, the name of a policy, which does not begin with `-`
 abbrev pub policy_named : List (List ℕ) → Option (List ℕ)

@@ -5,7 +5,7 @@ ghost use Rattle.gtrbac_daemon.specs.Runs.{bare, IsUnserved};
 
 use crate::printing::USAGE;
 use gt_io::{Shelf, Sink};
-use policy_commands::{Admitted, Found, admit, find_text, print};
+use policy_commands::{Admitted, FoundText, admit, find_text, print};
 use policy_safety::Safe;
 use std::alloc::Global;
 
@@ -33,12 +33,12 @@ pub(crate) fn find_safe<S: Shelf, K: Sink>(
         return Err(print(out, 1, USAGE));
     };
     match find_text(alloc, shelf, name) {
-        Ok(Found::Text(text)) => match admit(alloc, &text) {
+        Ok(FoundText::Text(text)) => match admit(alloc, &text) {
             Ok(Admitted::Safe(safe)) => Ok(safe),
             Ok(Admitted::Ended(end)) => Err(print(out, end.status, end.text.as_slice())),
             Err(_) => Err(8),
         },
-        Ok(Found::Ended(end)) => Err(print(out, end.status, end.text.as_slice())),
+        Ok(FoundText::Ended(end)) => Err(print(out, end.status, end.text.as_slice())),
         Err(_) => Err(8),
     }
 }

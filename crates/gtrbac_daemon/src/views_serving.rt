@@ -8,7 +8,7 @@ ghost use Rattle.connection_laws.specs.Connection.{IsTimed};
 ghost use Rattle.connection_laws.specs.Desks.{MayBeAsked, RepliesCanBeTold};
 ghost use Rattle.connection_laws.specs.Services.{service_at};
 ghost use Rattle.line_server.specs.Working.{at_post, HasWorked};
-ghost use Rattle.snapshot_readers.specs.Seats.{watchers, AreTold, HasLooked, HasSettled, HaveViewed, IsReadySeat};
+ghost use Rattle.snapshot_readers.specs.Seats.{watchers, AreTold, HasLooked, HasSettled, HaveViewed, IsReadySeat, SeatBySeat};
 ghost use Rattle.gtrbac_daemon.specs.Crew.{crewmen};
 ghost use Rattle.gtrbac_daemon.specs.Begins.{IsNewCrew, IsNewCompany, IsNewBoard};
 ghost use Rattle.gtrbac_daemon.specs.Headline.{HaveWorked, CrewHeadline};
@@ -25,7 +25,7 @@ use locked_history::Desk;
 use policy_book::Policy;
 use policy_safety::Safe;
 use snapshot_readers::{
-    Board, Glasses, Seat, Viewer, all_told, leave_seats, run_seats, settle_all, take_seats,
+    Board, Glasses, Viewer, ViewerSeat, all_told, leave_seats, run_seats, settle_all, take_seats,
 };
 use std::alloc::{AllocError, Global};
 use std::sync::Wait;
@@ -85,7 +85,7 @@ fn run_both<
     desk: &Desk<M>,
     policy: &Policy,
     posts: &mut Vec<Post<M, D, C, G>>,
-    seats: &mut Vec<Seat<D, G>>,
+    seats: &mut Vec<ViewerSeat<D, G>>,
 )
 where
     D::L: Send,
@@ -102,10 +102,8 @@ where
         (site_of desk.now)
         (at_post C.readings D.doorway (slice_index_or posts.old.items i d))
         (at_post C.readings D.doorway (slice_index_or posts.new.items i d)) }
-    ensures seats { length seats.new.items ≡ length seats.old.items }
-    ensures looked { (i : ℕ) (d : _) → i < length seats.old.items
-        → HasLooked D.doorway D.L.traffic policy.now (slice_index_or seats.old.items i d)
-        (slice_index_or seats.new.items i d) }
+    ensures looked { SeatBySeat (HasLooked D.doorway D.L.traffic policy.now) seats.old.items
+        seats.new.items }
 {
     let work = |posts: &mut Vec<Post<M, D, C, G>>|
         requires { All
@@ -122,13 +120,10 @@ where
             (at_post C.readings D.doorway (slice_index_or posts.entry.now.items i d))
             (at_post C.readings D.doorway (slice_index_or posts.exit.now.items i d))) }
     { run_posts(rt, alloc, desk, policy, posts) };
-    let look = |seats: &mut Vec<Seat<D, G>>|
+    let look = |seats: &mut Vec<ViewerSeat<D, G>>|
         requires { All (λ s. IsReadySeat policy.now s) seats.now.items }
-        ensures { (length seats.exit.now.items ≡ length seats.entry.now.items)
-            × ((i : ℕ) (d : _) → i < length seats.entry.now.items
-            → HasLooked D.doorway D.L.traffic policy.entry.now
-            (slice_index_or seats.entry.now.items i d)
-            (slice_index_or seats.exit.now.items i d)) }
+        ensures { SeatBySeat (HasLooked D.doorway D.L.traffic policy.entry.now)
+            seats.entry.now.items seats.exit.now.items }
     { run_seats(rt, alloc, policy, seats) };
     both(rt, &work, posts, &look, seats);
 }
@@ -148,7 +143,7 @@ fn serve_and_close<
     opened: (Desk<M>, Passes<M>),
     crew: &mut Vec<Worker<D, C, G>>,
     mut posts: Vec<Post<M, D, C, G>>,
-    seats: &mut Vec<Seat<D, G>>,
+    seats: &mut Vec<ViewerSeat<D, G>>,
 ) -> M
 where
     D::L: Send,
@@ -166,10 +161,8 @@ where
         (crewmen C.readings D.doorway crew.old.items)
         (crewmen C.readings D.doorway crew.new.items) }
     ensures others { (n : ℕ) → length crew.old.items ≤ n → part n (M.list result) ≡ [] }
-    ensures seats { length seats.new.items ≡ length seats.old.items }
-    ensures looked { (i : ℕ) (d : _) → i < length seats.old.items
-        → HasLooked D.doorway D.L.traffic policy.now (slice_index_or seats.old.items i d)
-        (slice_index_or seats.new.items i d) }
+    ensures looked { SeatBySeat (HasLooked D.doorway D.L.traffic policy.now) seats.old.items
+        seats.new.items }
 {
     let (desk, mut passes) = opened;
     man(&mut passes, crew, &mut posts);
@@ -182,15 +175,13 @@ where
 fn settle_up<'a, R: Threads + Wait + Sync, D: Door + Send, G: Gate + Send>(
     rt: &R,
     board: &mut Board<'a, R>,
-    seats: &mut Vec<Seat<D, G>>,
+    seats: &mut Vec<ViewerSeat<D, G>>,
 ) -> bool
 where
     D::L: Send,
     ensures board { board.new.ledger ≡ board.old.ledger }
-    ensures seats { length seats.new.items ≡ length seats.old.items }
-    ensures settled { (i : ℕ) (d : _) → i < length seats.old.items
-        → HasSettled board.old.ledger.entries (slice_index_or seats.old.items i d)
-        (slice_index_or seats.new.items i d) }
+    ensures settled { SeatBySeat (HasSettled board.old.ledger.entries) seats.old.items
+        seats.new.items }
     ensures told { result ≡ list_all (λ s. s.told) seats.new.items }
 {
     let _ = board.catch_up();

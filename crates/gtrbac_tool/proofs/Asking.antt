@@ -6,7 +6,7 @@ use Rattle.gtrbac_model.specs.Policy.{Policy}
 use Rattle.policy_words.specs.Naming.{NamedPolicy}
 use Rattle.core_machine.specs.Books.{BookView}
 use Rattle.policy_commands.specs.declared.ends.End.{End}
-use Rattle.policy_commands.specs.Ends.{EndView, told, seen_end}
+use Rattle.policy_commands.specs.Ends.{EndView, ending, seen_end}
 use Rattle.gtrbac_tool.specs.declared.ahead.Inquiry.{Inquiry}
 use Rattle.gtrbac_tool.specs.declared.script.Ran.TheVariants.{Unborn, Born}
 use Rattle.gtrbac_tool.specs.EndTexts.{no_birth}
@@ -21,7 +21,7 @@ followed p asked birth h ran end (inl x) = status_of end _ x.1.2 ∙ sym x.0
 followed p asked birth h ran end (inr x) = status_of end ran x.1
 
 pub ran_of : (np : NamedPolicy) (asked : Inquiry) (start : ScriptStart) (end : EndView) → AnswersFrom np asked start end → (ran : EndView) × EndsFrom np start ran × (end.status ≡ ran.status)
-ran_of np asked never end is = (told 0 [], refl, status_of end no_birth is)
+ran_of np asked never end is = (ending 0 [], refl, status_of end no_birth is)
 ran_of np asked (born birth n lines) end a = (a.ran, (a.history, a.run), followed np.policy asked birth a.history a.ran end a.follows)
 ran_of np asked (failed t) end is = (t, refl, status_of end t is)
 

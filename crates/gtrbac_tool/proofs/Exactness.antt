@@ -8,7 +8,7 @@ use Rattle.gtrbac_model.specs.Safety.{IsSafe, the_cycle}
 use Rattle.walk_laws.proofs.Closing.{tells}
 use Rattle.policy_words.specs.Naming.{NamedPolicy}
 use Rattle.policy_words.specs.PolicyRead.{PolicyFault, policy_read}
-use Rattle.policy_commands.specs.Ends.{EndView, told}
+use Rattle.policy_commands.specs.Ends.{EndView, ending}
 use Rattle.policy_commands.specs.Finding.{IsLongPolicy, IsStoredText, MissesText}
 use Rattle.policy_commands.specs.Printing.{IsPrinted}
 use Rattle.policy_commands.specs.Policies.{read_or_told, policy_in, safe_or_told, judged, judged_or_told, safe_in, HasTextFault, IsUnsafeText}
@@ -78,7 +78,7 @@ module _ (text : List ℕ) where
   pub sort : HasTextFault text ⊎ IsUnsafeText text ⊎ ((np : NamedPolicy) × IsSafeOf text np)
   sort = sort_of (policy_read text) refl
 
-  check_safe : (np : NamedPolicy) → safe_in text ≡ Ok np → check_end text ≡ told 0 (codes "safe\n")
+  check_safe : (np : NamedPolicy) → safe_in text ≡ Ok np → check_end text ≡ ending 0 (codes "safe\n")
   unfolding check_end
   check_safe np e = ap safe_or_end e
 
@@ -326,15 +326,15 @@ module _ {S I : Type 0} (words : List (List ℕ)) (a b : Scene S I) where
     of_found (inl m) = missed m
     of_found (inr m) = over_it m.0 m.1 m.2
 
-    ending : WordsEnd Hard Lost words a.texts a.script end → Ending
-    ending (generated g is ends) = absurd (none_apart (command_of words) t.command (gen_no_command words g is) t.is)
-    ending (unspoken none ends) = absurd (none_apart (command_of words) t.command none.0 t.is)
-    ending (spoken c is ends) = of_found (subst (λ (k : Command). FoundEnds Hard Lost k a.texts a.script end) (one_some (command_of words) c t.command is t.is) ends)
+    of_words : WordsEnd Hard Lost words a.texts a.script end → Ending
+    of_words (generated g is ends) = absurd (none_apart (command_of words) t.command (gen_no_command words g is) t.is)
+    of_words (unspoken none ends) = absurd (none_apart (command_of words) t.command none.0 t.is)
+    of_words (spoken c is ends) = of_found (subst (λ (k : Command). FoundEnds Hard Lost k a.texts a.script end) (one_some (command_of words) c t.command is t.is) ends)
 
   module _ (end : EndView) (ends : WordsEnd Hard Lost words a.texts a.script end) where
     -- of a text that is not too long
     pub text_fits : (s : ℕ) (Holds : Command → List ℕ → Type 0) → ((c : Command) (text : List ℕ) → Holds c text → TextEnds Lost c text a.script end → Fits s end) → Text surely words a.texts Holds → Fits s end
-    text_fits s Holds so h = by (ending (Short Holds) t end ends)
+    text_fits s Holds so h = by (of_words (Short Holds) t end ends)
       where
         t : At (Short Holds)
         t = at (Short Holds) h
@@ -345,7 +345,7 @@ module _ {S I : Type 0} (words : List (List ℕ)) (a b : Scene S I) where
         by (inr (inr over)) = so t.command t.text t.holds.1 over.1
 
     long_fits : Over surely words a.texts IsTooLong → Fits 6 end
-    long_fits h = by (ending IsTooLong t end ends)
+    long_fits h = by (of_words IsTooLong t end ends)
       where
         t : At IsTooLong
         t = at IsTooLong h

@@ -22,3 +22,4 @@ pub mod Writing
 pub mod Pieces
 pub mod Reading
 pub mod Calls
+pub mod Joining

@@ -7,13 +7,12 @@ use Rattle.std.proofs.lemmas.List.Folds.{list_any-append}
 use Rattle.std.proofs.Math.Nat.{mul-le-mul_right, suc-mul}
 use Rattle.gt_base.specs.Held.{TriggerView}
 use Rattle.gt_base.specs.Happening.{HappenedView}
-use Rattle.gt_base.specs.Orders.{prioritised_cmp}
-use Rattle.gt_base.specs.Sets.{SetOf, has, members, set_of, with_member}
+use Rattle.gt_base.specs.Sets.{has, members, set_of}
 use Rattle.gt_base.specs.declared.events.Event.{Event}
 use Rattle.gt_base.specs.declared.events.Prioritised.{Prioritised}
 use Rattle.gt_base.specs.declared.events.Signal.{Signal}
 use Rattle.gt_base.proofs.OrderLaws.{prioritised_cmp-IsAntisymmetric, signal_cmp-IsAntisymmetric}
-use Rattle.gt_base.proofs.SetLaws.{has-set_of, has-with_member, same_sets}
+use Rattle.gt_base.proofs.SetLaws.{has-set_of, same_sets}
 use Rattle.gt_base.proofs.SetSteps.{prioritised_cmp_total, signal_cmp_total}
 use Rattle.gtrbac_model.specs.Conflict.{Status, blocked}
 use Rattle.gtrbac_model.specs.Graph.{item_at}
@@ -89,9 +88,10 @@ any_last p es e = list_any-append p es (e ∷ []) ∙ swap (list_any p es) (p e)
     swap false true = refl
     swap false false = refl
 
-pub there_more : (es fs : List Prioritised) (s t : SetOf prioritised_cmp) (e : Prioritised) → fs ≡ es ++ e ∷ [] → t ≡ with_member s e → ((o : Prioritised) → has s o ≡ lists same_prioritised es o) → (o : Prioritised) → has t o ≡ lists same_prioritised fs o
-there_more es fs s t e is add so_far o =
-    ap (λ z. has z o) add ∙ has-with_member prioritised_cmp_total s e o ∙ ap (λ b. same_prioritised o e || b) (so_far o) ∙ sym (ap (λ z. lists same_prioritised z o) is ∙ any_last (same_prioritised o) es e)
+pub there_more : (es fs : List Prioritised) (there then_there : Prioritised → Bool) (e : Prioritised) → fs ≡ es ++ e ∷ [] → ((o : Prioritised) → then_there o ≡ (same_prioritised o e || there o))
+    → ((o : Prioritised) → there o ≡ lists same_prioritised es o) → (o : Prioritised) → then_there o ≡ lists same_prioritised fs o
+there_more es fs there then_there e is more so_far o =
+    more o ∙ ap (λ b. same_prioritised o e || b) (so_far o) ∙ sym (ap (λ z. lists same_prioritised z o) is ∙ any_last (same_prioritised o) es e)
 
 stands_last : (x : HappenedView) (es : List Prioritised) (e : Prioritised) (f : Event) → stands x (es ++ e ∷ []) f ≡ ((same_event e.event f && not (blocked x e)) || stands x es f)
 stands_last x es e f = any_last (λ o. same_event o.event f && not (blocked x o)) es e

@@ -20,7 +20,7 @@ use Rattle.walk_laws.proofs.Climbing.{safe_is_levelled}
 use Rattle.gt_text.specs.Lines.{lines_of, is_longer}
 use Rattle.policy_words.specs.Naming.{NamedPolicy}
 use Rattle.policy_words.specs.declared.parts.NamedEvent.{NamedEvent}
-use Rattle.policy_commands.specs.Ends.{EndView, told}
+use Rattle.policy_commands.specs.Ends.{EndView, ending}
 use Rattle.forecast.proofs.Answering.{change_is_one}
 use Rattle.why_check.specs.Certificates.{Listed, listed_at, says_something, ListedAscend, Accepts}
 use Rattle.why_check.proofs.Ascending.{at_first, past_first, none_before}
@@ -105,7 +105,7 @@ module _ (p : Policy) (is : IsPolicy p) (safe : IsSafe p.triggers) (birth : ℕ)
   tells_one (Standing named e) text other x y = why_one named e text other x y
 
   follows_one : (asked : Inquiry) (ran end other : EndView) → FollowsRun p asked birth h ran end → FollowsRun p asked birth h ran other → end ≡ other
-  follows_one asked ran end other (inl x) (inl y) = x.1.2 ∙ ap (λ (t : List ℕ). told 0 (ran.text ++ t)) (tells_one asked x.1.0 y.1.0 x.1.1 y.1.1) ∙ sym y.1.2
+  follows_one asked ran end other (inl x) (inl y) = x.1.2 ∙ ap (λ (t : List ℕ). ending 0 (ran.text ++ t)) (tells_one asked x.1.0 y.1.0 x.1.1 y.1.1) ∙ sym y.1.2
   follows_one asked ran end other (inl x) (inr y) = absurd (y.0 x.0)
   follows_one asked ran end other (inr x) (inl y) = absurd (x.0 y.0)
   follows_one asked ran end other (inr x) (inr y) = x.1 ∙ sym y.1

@@ -16,7 +16,7 @@ use Rattle.gtrbac_model.specs.Status.{Model}
 use Rattle.gtrbac_model.specs.History.{Legal, now_of}
 use Rattle.gt_text.specs.Lines.{lines_of, is_longer}
 use Rattle.policy_words.specs.Naming.{NamedPolicy}
-use Rattle.policy_commands.specs.Ends.{EndView, told}
+use Rattle.policy_commands.specs.Ends.{EndView, ending}
 use Rattle.request_text.specs.Replies.{reply_line, fault_word}
 use Rattle.request_text.specs.declared.lines.Line.{Line}
 use Rattle.request_text.specs.declared.lines.Line.TheVariants.{Silent, At, Be, Ask}
@@ -38,14 +38,14 @@ same_reply actor request a b h = ap (λ (e : Entry). reply_at a e.what) h
 -- a run as lines move it, one after another, until one stops it
 module _ (np : NamedPolicy) (birth : ℕ) where
   abbrev Goes : ℕ → List (List ℕ) → Going → List Entry → EndView → Type 0
-  Goes n [] s h end = (h ≡ s.history) × (end ≡ told 0 s.text)
+  Goes n [] s h end = (h ≡ s.history) × (end ≡ ending 0 s.text)
   Goes n (line ∷ lines) s h end = ((m : Going) × Moves np birth (said np line) s m × Goes (n + 1) lines m h end) ⊎ Stops np birth (said np line) n s h end
 
   abbrev Way : Result Line LineFault → ℕ → List (List ℕ) → Going → List Entry → EndView → Type 0
   Way r n lines s h end = ((m : Going) × Moves np birth r s m × Goes (n + 1) lines m h end) ⊎ Stops np birth r n s h end
 
-  played_goes : (n : ℕ) (lines : List (List ℕ)) (s t : Going) (h : List Entry) (end : EndView) → Plays np birth lines s t → h ≡ t.history → end ≡ told 0 t.text → Goes n lines s h end
-  played_goes n [] s t h end plays is ends = (is ∙ ap (λ (g : Going). g.history) plays, ends ∙ ap (λ (g : Going). told 0 g.text) plays)
+  played_goes : (n : ℕ) (lines : List (List ℕ)) (s t : Going) (h : List Entry) (end : EndView) → Plays np birth lines s t → h ≡ t.history → end ≡ ending 0 t.text → Goes n lines s h end
+  played_goes n [] s t h end plays is ends = (is ∙ ap (λ (g : Going). g.history) plays, ends ∙ ap (λ (g : Going). ending 0 g.text) plays)
   played_goes n (line ∷ lines) s t h end plays is ends = inl (plays.0, plays.1, played_goes (n + 1) lines plays.0 t h end plays.2 is ends)
 
   stopped_goes : (n : ℕ) (front : List (List ℕ)) (line : List ℕ) (rest : List (List ℕ)) (s t : Going) (h : List Entry) (end : EndView) → Plays np birth front s t
@@ -293,11 +293,11 @@ module _ (np : NamedPolicy) (script : List ℕ) where
   full_end c = comes_end IsFullAt 9 full_stop c
 
   whole_end : IsWhole np script → HasEnd 0
-  whole_end (inl e) = (told 0 [], subst (λ (start : ScriptStart). EndsFrom np start (told 0 [])) (sym e) refl, refl)
+  whole_end (inl e) = (ending 0 [], subst (λ (start : ScriptStart). EndsFrom np start (ending 0 [])) (sym e) refl, refl)
   whole_end (inr out) =
-      let run : Run np out.birth out.number out.lines (told 0 out.last.text) =
+      let run : Run np out.birth out.number out.lines (ending 0 out.last.text) =
       (out.last.history, record { model = out.model; legal = out.legal; ends = inl (record { last = out.last; plays = out.plays; history = refl; end_is = refl }) }) in
-      (told 0 out.last.text, subst (λ (start : ScriptStart). EndsFrom np start (told 0 out.last.text)) (sym out.begins) run, refl)
+      (ending 0 out.last.text, subst (λ (start : ScriptStart). EndsFrom np start (ending 0 out.last.text)) (sym out.begins) run, refl)
 
   pub means_so : IsSafe np.policy.triggers → (end : EndView) → EndsFrom np (start_of np 1 (lines_of script)) end → RunMeans np script end
   means_so safe end is = record { fault = (to_fault (cause_of end is), λ c. same 7 (fault_end c)); full = (to_full (cause_of end is), λ c. same 9 (full_end c)); whole = (to_whole (cause_of end is), λ c. same 0 (whole_end c)) }

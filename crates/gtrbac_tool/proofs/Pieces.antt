@@ -11,7 +11,7 @@ use Rattle.gtrbac_model.specs.Safety.{IsSafe}
 use Rattle.gt_base.specs.declared.requests.Entry.{Entry}
 use Rattle.policy_words.specs.Naming.{NamedPolicy}
 use Rattle.policy_commands.specs.declared.ends.End.{End}
-use Rattle.policy_commands.specs.Ends.{EndView, told, seen_end}
+use Rattle.policy_commands.specs.Ends.{EndView, ending, seen_end}
 use Rattle.policy_commands.specs.Printing.{IsPrinted, WantsMemory}
 use Rattle.core_machine.specs.Books.{BookView, IsLegalBook, SameRoot, model_in}
 use Rattle.request_text.specs.declared.lines.Line.{Line}
@@ -114,7 +114,7 @@ module _ (b0 b : BookView) (root : SameRoot b0 b) (legal : IsLegalBook b) (befor
         ))
 
   -- the rest waits
-  pub finishes : (end : End) → later ≡ [] → seen_end end ≡ told 0 page → Comes (Ok (Born b end)) w
+  pub finishes : (end : End) → later ≡ [] → seen_end end ≡ ending 0 page → Comes (Ok (Born b end)) w
   finishes end none is = (
     sent,
     outcome b0 b (before + 1) lines (behind sent (seen_end end)) root

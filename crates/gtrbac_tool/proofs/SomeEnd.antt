@@ -12,7 +12,7 @@ use Rattle.gtrbac_model.specs.History.{Legal, now_of}
 use Rattle.gtrbac_model.proofs.Elements.{split}
 use Rattle.gt_text.specs.Lines.{lines_of, is_longer}
 use Rattle.policy_words.specs.Naming.{NamedPolicy}
-use Rattle.policy_commands.specs.Ends.{EndView, told}
+use Rattle.policy_commands.specs.Ends.{EndView, ending}
 use Rattle.policy_commands.specs.Finding.{too_long}
 use Rattle.request_text.specs.declared.lines.Line.{Line}
 use Rattle.request_text.specs.declared.lines.Line.TheVariants.{Silent, At, Be, Ask}
@@ -39,7 +39,7 @@ module _ (np : NamedPolicy) (birth n : ℕ) (safe : IsSafe np.policy.triggers) w
   all_played : (front : List (List ℕ)) (s : Going) (m : Model) → Stands front s m → EndsOn np birth n (front ++ []) s
   all_played front s m is =
       record {
-        end = told 0 s.text;
+        end = ending 0 s.text;
         run = (
           s.history,
           record {
@@ -136,7 +136,7 @@ module _ (np : NamedPolicy) (birth n : ℕ) (safe : IsSafe np.policy.triggers) w
   ends_born lines = ends_on lines [] (at_birth np birth) (λ t. nothing) (refl, record { model = λ t a b. absurd (omega (arith, a, b)); steps = tt }, omega arith)
 
 from_start : (np : NamedPolicy) → IsSafe np.policy.triggers → (start : ScriptStart) → (end : EndView) × EndsFrom np start end
-from_start np safe never = (told 0 [], refl)
+from_start np safe never = (ending 0 [], refl)
 from_start np safe (born birth n lines) = let on = ends_born np birth n safe lines in (on.end, on.run)
 from_start np safe (failed t) = (t, refl)
 

@@ -13,7 +13,7 @@ use Rattle.gtrbac_model.specs.Policy.{Policy}
 use Rattle.history_laws.specs.Named.{AreNamed}
 use Rattle.history_laws.proofs.NamedPoints.{points_are_named}
 use Rattle.policy_words.specs.Naming.{NamedPolicy}
-use Rattle.policy_commands.specs.Ends.{EndView, told}
+use Rattle.policy_commands.specs.Ends.{EndView, ending}
 use Rattle.core_machine.specs.Books.{BookView, IsBook, IsLegalBook, SameRoot, SameRoot-refl, SameRoot-trans, GoesOn, Asks, now_in, model_in, point_in, reply_in}
 use Rattle.request_text.specs.Laws.{CanBeWritten}
 use Rattle.request_text.specs.Replies.{reply_line}
@@ -133,7 +133,7 @@ stop_out b0 b before text number at lines later rest front line kind end root le
 
 -- behind the last line
 pub last_out : (b0 b : BookView) (actor : Actor) (text : List ℕ) (number : ℕ) (lines later front : List (List ℕ)) (end : EndView)
-    → SameRoot b0 b → IsLegalBook b → lines ≡ front ++ later → later ≡ [] → Plays b0.named b0.birth front (at_birth b0.named b0.birth) (going_of b actor text) → end ≡ told 0 text
+    → SameRoot b0 b → IsLegalBook b → lines ≡ front ++ later → later ≡ [] → Plays b0.named b0.birth front (at_birth b0.named b0.birth) (going_of b actor text) → end ≡ ending 0 text
     → RunOver b0.named b0.birth (number + 1) lines b.entries end
 last_out b0 b actor text number lines later front end root legal parts none plays is =
     let all : front ≡ lines = sym (parts ∙ ap (λ (ls : List (List ℕ)). front ++ ls) none ∙ append-nil front) in

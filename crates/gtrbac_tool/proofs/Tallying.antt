@@ -12,7 +12,7 @@ use Rattle.gt_base.specs.declared.requests.Step.TheVariants.{Tick, Ask}
 use Rattle.gt_base.specs.declared.requests.Entry.{Entry}
 use Rattle.policy_words.specs.Naming.{NamedPolicy}
 use Rattle.policy_commands.specs.declared.ends.End.{End}
-use Rattle.policy_commands.specs.Ends.{EndView, told, seen_end}
+use Rattle.policy_commands.specs.Ends.{EndView, ending, seen_end}
 use Rattle.request_text.specs.Replies.{reply_text}
 use Rattle.gtrbac_tool.specs.declared.summing.ReplyWord.{ReplyWord}
 use Rattle.gtrbac_tool.specs.declared.summing.ReplyWord.TheVariants.{Ok, Permit, Deny, Refused}
@@ -98,12 +98,12 @@ tally_is np g birth h = λ i. gen_line g ++ steps_line h ++ line_is np Ok h i ++
 
 -- the run's own end
 pub sums_otherwise : (np : NamedPolicy) (g : Gen) (birth : ℕ) (h : List Entry) (ran : EndView) → nat_eq ran.status 0 ≡ false → ran ≡ summed np g birth h ran
-sums_otherwise np g birth h ran off = sym (ap (λ (b : Bool). if b then told 0 (summary np g birth h) else ran) off)
+sums_otherwise np g birth h ran off = sym (ap (λ (b : Bool). if b then ending 0 (summary np g birth h) else ran) off)
 
 -- the summary in its place
-pub sums : (np : NamedPolicy) (g : Gen) (birth : ℕ) (h : List Entry) (ran : EndView) (text : List ℕ) → nat_eq ran.status 0 ≡ true → text ≡ tally g birth h → told 0 text ≡ summed np g birth h ran
+pub sums : (np : NamedPolicy) (g : Gen) (birth : ℕ) (h : List Entry) (ran : EndView) (text : List ℕ) → nat_eq ran.status 0 ≡ true → text ≡ tally g birth h → ending 0 text ≡ summed np g birth h ran
 sums np g birth h ran text on is =
-    ap (λ (t : List ℕ). told 0 t) (is ∙ tally_is np g birth h) ∙ sym (ap (λ (b : Bool). if b then told 0 (summary np g birth h) else ran) on)
+    ap (λ (t : List ℕ). ending 0 t) (is ∙ tally_is np g birth h) ∙ sym (ap (λ (b : Bool). if b then ending 0 (summary np g birth h) else ran) on)
 
 pub other_status : (s : ℕ) → (s ≡ 0 → ⊥) → nat_eq s 0 ≡ false
 other_status s h = ne_eqb s 0 h

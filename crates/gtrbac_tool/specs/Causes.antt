@@ -20,15 +20,15 @@ use Rattle.gtrbac_tool.specs.declared.top.TheConstants.{MAX_SCRIPT}
 
 -- Causes are seen surely, or perhaps: what shelf or input do not tell they may have, and a count of
 -- faults at the end of its type may have risen
-pub data Sight : Type 0 where
-  perhaps : Sight
-  surely : Sight
+pub data Certainty : Type 0 where
+  perhaps : Certainty
+  surely : Certainty
 
-abbrev pub Sees : {A : Type 0} → Sight → Option A → (A → Type 0) → Type 0
+abbrev pub Sees : {A : Type 0} → Certainty → Option A → (A → Type 0) → Type 0
 Sees perhaps told Holds = IfSome told Holds
 Sees surely told Holds = IsSomeAnd told Holds
 
-abbrev pub Fails : Sight → ℕ → ℕ → Type 0
+abbrev pub Fails : Certainty → ℕ → ℕ → Type 0
 Fails perhaps before now = Rose before now
 Fails surely before now = before < now
 
@@ -80,23 +80,23 @@ abbrev pub Short : (Command → List ℕ → Type 0) → Command → List ℕ �
 Short Holds c text = (length text ≤ MAX_POLICY) × Holds c text
 
 -- the shelf has the text of the command's policy, and this holds of both
-abbrev pub OnShelf : Sight → Contents → (Command → List ℕ → Type 0) → Command → Type 0
-OnShelf sight texts Holds c =
-    Sees sight texts (λ text_of. IsSomeAnd (text_of (named_by c)) (Holds c))
+abbrev pub OnShelf : Certainty → Contents → (Command → List ℕ → Type 0) → Command → Type 0
+OnShelf sure texts Holds c =
+    Sees sure texts (λ text_of. IsSomeAnd (text_of (named_by c)) (Holds c))
 
 -- the words are a command over a policy, of which the shelf has the text, and this holds of both
-abbrev pub Over : Sight → List (List ℕ) → Contents → (Command → List ℕ → Type 0) → Type 0
-Over sight words texts Holds = IsSomeAnd (command_of words) (OnShelf sight texts Holds)
+abbrev pub Over : Certainty → List (List ℕ) → Contents → (Command → List ℕ → Type 0) → Type 0
+Over sure words texts Holds = IsSomeAnd (command_of words) (OnShelf sure texts Holds)
 
 -- .. a text that is not too long
-abbrev pub Text : Sight → List (List ℕ) → Contents → (Command → List ℕ → Type 0) → Type 0
-Text sight words texts Holds = Over sight words texts (Short Holds)
+abbrev pub Text : Certainty → List (List ℕ) → Contents → (Command → List ℕ → Type 0) → Type 0
+Text sure words texts Holds = Over sure words texts (Short Holds)
 
 -- .. over which the script is asked for, and this holds of policy and script
-abbrev pub Script : Sight → List (List ℕ) → Contents → Option (List ℕ)
+abbrev pub Script : Certainty → List (List ℕ) → Contents → Option (List ℕ)
     → (NamedPolicy → List ℕ → Type 0) → Type 0
-Script sight words texts input Holds =
-    Text sight words texts (Plays (λ np asked. IsSome asked × Sees sight input (Holds np)))
+Script sure words texts input Holds =
+    Text sure words texts (Plays (λ np asked. IsSome asked × Sees sure input (Holds np)))
 
 abbrev pub IsMissing : List (List ℕ) → Contents → Type 0
 IsMissing words texts = IsSomeAnd (command_of words) (λ c. Lacks texts (named_by c))
@@ -111,24 +111,25 @@ IsLongScript np script = MAX_SCRIPT < length script
 abbrev pub Within : (NamedPolicy → List ℕ → Type 0) → NamedPolicy → List ℕ → Type 0
 Within Holds np script = (length script ≤ MAX_SCRIPT) × Holds np script
 
-module _ {S I : Type 0} (sight : Sight) (words : List (List ℕ)) (status : ℕ) (a b : Scene S I) where
+module _ {S I : Type 0} (sure : Certainty) (words : List (List ℕ)) (status : ℕ)
+    (a b : Scene S I) where
   -- Each status and its cause. These are all statuses
   pub data Cause : Type 0 where
-    safe : status ≡ 0 → Text sight words a.texts (Checks IsSafeText) → Cause
-    laid : status ≡ 0 → Text sight words a.texts (Lays HasPolicy) → Cause
-    played : status ≡ 0 → Script sight words a.texts a.script (Within IsWhole) → Cause
+    safe : status ≡ 0 → Text sure words a.texts (Checks IsSafeText) → Cause
+    laid : status ≡ 0 → Text sure words a.texts (Lays HasPolicy) → Cause
+    played : status ≡ 0 → Script sure words a.texts a.script (Within IsWhole) → Cause
     made : status ≡ 0 → (g : Gen) → IsGen words g → Cause
     no_command : status ≡ 1 → IsNoCommand words → Cause
-    faulty : status ≡ 2 → Text sight words a.texts (λ c text. HasTextFault text) → Cause
-    unsafe : status ≡ 3 → Text sight words a.texts (Judges IsUnsafeText) → Cause
+    faulty : status ≡ 2 → Text sure words a.texts (λ c text. HasTextFault text) → Cause
+    unsafe : status ≡ 3 → Text sure words a.texts (Judges IsUnsafeText) → Cause
     missing : status ≡ 4 → IsMissing words a.texts → Cause
     unread : status ≡ 4 → IsSome (command_of words)
-        → Fails sight a.hard_faults b.hard_faults ⊎ Fails sight a.input_faults b.input_faults
+        → Fails sure a.hard_faults b.hard_faults ⊎ Fails sure a.input_faults b.input_faults
         → Cause
-    unwritten : status ≡ 5 → Fails sight a.written_faults b.written_faults → Cause
-    long_policy : status ≡ 6 → Over sight words a.texts IsTooLong → Cause
-    long_script : status ≡ 6 → Script sight words a.texts a.script IsLongScript → Cause
-    bad_line : status ≡ 7 → Script sight words a.texts a.script (Within MeetsFault) → Cause
-    no_memory : status ≡ 8 → (IsNoCommand words → ⊥) → sight ≡ perhaps → Cause
-    full : status ≡ 9 → Script sight words a.texts a.script (Within MeetsFull) → Cause
-    unknown : status ≡ 13 → Text sight words a.texts (Plays (λ np asked. asked ≡ None)) → Cause
+    unwritten : status ≡ 5 → Fails sure a.written_faults b.written_faults → Cause
+    long_policy : status ≡ 6 → Over sure words a.texts IsTooLong → Cause
+    long_script : status ≡ 6 → Script sure words a.texts a.script IsLongScript → Cause
+    bad_line : status ≡ 7 → Script sure words a.texts a.script (Within MeetsFault) → Cause
+    no_memory : status ≡ 8 → (IsNoCommand words → ⊥) → sure ≡ perhaps → Cause
+    full : status ≡ 9 → Script sure words a.texts a.script (Within MeetsFull) → Cause
+    unknown : status ≡ 13 → Text sure words a.texts (Plays (λ np asked. asked ≡ None)) → Cause

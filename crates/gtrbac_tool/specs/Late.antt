@@ -17,7 +17,7 @@ use Rattle.policy_words.specs.declared.parts.Sort.{Sort}
 use Rattle.policy_words.specs.declared.parts.Sort.TheVariants.{Enabling, Assigning, Granting, Arming, Linking}
 use Rattle.policy_words.specs.Wording.{◌>>=◌, verb_in, cond_verb, event_verb}
 use Rattle.policy_words.specs.Naming.{NamedPolicy, cond_of, event_of}
-use Rattle.policy_commands.specs.Ends.{EndView, told}
+use Rattle.policy_commands.specs.Ends.{EndView, ending}
 use Rattle.forecast.specs.Ahead.{IsFirstChange}
 use Rattle.forecast.specs.declared.changes.Change.{Change}
 use Rattle.gtrbac_tool.specs.declared.questions.Question.{Question}
@@ -136,7 +136,7 @@ TellsAsked p (Standing named e) birth h text = TellsWhy p birth h named e text
 abbrev pub FollowsRun : Policy → Inquiry → ℕ → List Entry → EndView → EndView → Type 0
 FollowsRun p asked birth h ran end =
     ((ran.status ≡ 0)
-    × ((text : List ℕ) × TellsAsked p asked birth h text × (end ≡ told 0 (ran.text ++ text))))
+    × ((text : List ℕ) × TellsAsked p asked birth h text × (end ≡ ending 0 (ran.text ++ text))))
     ⊎ ((ran.status ≡ 0 → ⊥) × (end ≡ ran))
 
 pub record Answered (np : NamedPolicy) (asked : Inquiry) (birth n : ℕ) (lines : List (List ℕ))

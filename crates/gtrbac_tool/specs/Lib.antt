@@ -7,6 +7,7 @@ pub mod Summary
 pub mod Counted
 pub mod Standing
 pub mod Reasons
+pub mod Joined
 pub mod Listing
 pub mod Late
 pub mod Commands

@@ -3,7 +3,6 @@ use Rattle.std.specs.Prelude.{◌≡◌, ℕ, Bool, ◌&&◌, not, List, [], ◌
 use Rattle.std.specs.List.{list_all}
 use Rattle.gt_base.specs.Held.{TriggerView}
 use Rattle.gt_base.specs.Happening.{HappenedView}
-use Rattle.gt_base.specs.Sets.{has}
 use Rattle.gt_base.specs.declared.events.Event.{Event}
 use Rattle.gt_base.specs.declared.events.Prioritised.{Prioritised}
 use Rattle.gtrbac_model.specs.Conflict.{Status, after}
@@ -14,11 +13,12 @@ use Rattle.instant_bases.specs.Timelines.{ClosedSet}
 use Rattle.trigger_rules.specs.Indexed.{with_event}
 use Rattle.why_check.specs.Certificates.{Listed, set_in}
 use Rattle.why_check.specs.Standing.{stands_in}
+use Rattle.gtrbac_tool.specs.Joined.{has_joined}
 use Rattle.gtrbac_tool.specs.declared.explaining.Order.{Order}
 
 -- what is there is what is listed, and what stands is what stands of it in the set
 pub record Tracks (x : HappenedView) (o : Order) : Type 0 where
-  pub there : (e : Prioritised) → has o.there.set.events e ≡ lists same_prioritised o.events.items e
+  pub there : (e : Prioritised) → has_joined o.there e ≡ lists same_prioritised o.events.items e
   pub standing : (f : Event) → stands_in o.standing f ≡ stands x o.events.items f
 
 -- the trigger is immediate, its head is not listed, it is met in the set, and its body events stand

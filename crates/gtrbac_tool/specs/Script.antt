@@ -12,7 +12,7 @@ use Rattle.gtrbac_model.specs.Status.{Model}
 use Rattle.gtrbac_model.specs.History.{Legal, now_of}
 use Rattle.gt_text.specs.Lines.{lines_of, is_longer}
 use Rattle.policy_words.specs.Naming.{NamedPolicy}
-use Rattle.policy_commands.specs.Ends.{EndView, told}
+use Rattle.policy_commands.specs.Ends.{EndView, ending}
 use Rattle.request_text.specs.declared.lines.Line.{Line}
 use Rattle.request_text.specs.declared.lines.Line.TheVariants.{Silent, At, Be, Ask}
 use Rattle.request_text.specs.declared.lines.LineFault.{LineFault}
@@ -101,7 +101,7 @@ module _ (np : NamedPolicy) (birth : ℕ) where
     pub last : Going
     pub plays : Plays lines at_birth last
     pub history : h ≡ last.history
-    pub end_is : end ≡ told 0 last.text
+    pub end_is : end ≡ ending 0 last.text
 
   -- a line ended the run; the lines are numbered from n
   pub record StoppedAt (n : ℕ) (lines : List (List ℕ)) (h : List Entry)
@@ -146,7 +146,7 @@ module _ (np : NamedPolicy) where
   start_of n (line ∷ lines) = begun (said np line) n lines (start_of (n + 1) lines)
 
 abbrev pub EndsFrom : NamedPolicy → ScriptStart → EndView → Type 0
-EndsFrom np never end = end ≡ told 0 []
+EndsFrom np never end = end ≡ ending 0 []
 EndsFrom np (born birth n lines) end = Run np birth n lines end
 EndsFrom np (failed t) end = end ≡ t
 

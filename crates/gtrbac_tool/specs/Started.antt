@@ -2,7 +2,7 @@
 use Rattle.std.specs.Prelude.{ℕ, ◌≡◌, ◌⊎◌, ◌+◌, ⊤, Bool, List, [], codes, Result, Ok, Err, MatchBool}
 use Rattle.gt_io.specs.Streams.{Output}
 use Rattle.policy_words.specs.Naming.{NamedPolicy}
-use Rattle.policy_commands.specs.Ends.{EndView, told, seen_end}
+use Rattle.policy_commands.specs.Ends.{EndView, ending, seen_end}
 use Rattle.policy_commands.specs.Printing.{WantsMemory}
 use Rattle.request_text.specs.Replies.{fault_word}
 use Rattle.gtrbac_tool.specs.declared.starting.Start.{Start as Found}
@@ -28,7 +28,7 @@ number_of (found.Unborn number) = number
 
 -- how a script was run from where it begins, of whose text this was handed out
 abbrev pub RanFrom : NamedPolicy → ScriptStart → List ℕ → Ran → Type 0
-RanFrom np never sent (Unborn end) = behind sent (seen_end end) ≡ told 0 []
+RanFrom np never sent (Unborn end) = behind sent (seen_end end) ≡ ending 0 []
 RanFrom np (failed t) sent (Unborn end) = behind sent (seen_end end) ≡ t
 RanFrom np (born birth n lines) sent (Born book end) =
     IsOutcome np birth n lines book (behind sent (seen_end end))

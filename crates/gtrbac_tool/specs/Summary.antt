@@ -8,7 +8,7 @@ use Rattle.gtrbac_model.specs.History.{now_of}
 use Rattle.gt_text.specs.Lines.{lines_of}
 use Rattle.civil_time.specs.Text.{civil_text}
 use Rattle.policy_words.specs.Naming.{NamedPolicy}
-use Rattle.policy_commands.specs.Ends.{EndView, told}
+use Rattle.policy_commands.specs.Ends.{EndView, ending}
 use Rattle.policy_commands.specs.Policies.{safe_in}
 use Rattle.policy_gen.specs.declared.made.TheConstants.{MAX_SIZE}
 use Rattle.policy_gen.specs.Texts.{policy_text, script_text}
@@ -63,7 +63,7 @@ module _ (np : NamedPolicy) where
   -- the summary in place of the replies where the script was played to its end, and else the run's
   -- own end
   abbrev pub summed : Gen → ℕ → List Entry → EndView → EndView
-  summed g birth h ran = if nat_eq ran.status 0 then told 0 (summary g birth h) else ran
+  summed g birth h ran = if nat_eq ran.status 0 then ending 0 (summary g birth h) else ran
 
 -- the run of the made script over the made policy, summed up
 pub record Summed (np : NamedPolicy) (g : Gen) (birth n : ℕ) (lines : List (List ℕ)) (end : EndView)
@@ -74,7 +74,7 @@ pub record Summed (np : NamedPolicy) (g : Gen) (birth n : ℕ) (lines : List (Li
   pub end_is : end ≡ summed np g birth history ran
 
 abbrev pub SummedFrom : NamedPolicy → Gen → ScriptStart → EndView → Type 0
-SummedFrom np g never end = end ≡ told 0 []
+SummedFrom np g never end = end ≡ ending 0 []
 SummedFrom np g (born birth n lines) end = Summed np g birth n lines end
 SummedFrom np g (failed t) end = end ≡ t
 

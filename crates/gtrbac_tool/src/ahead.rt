@@ -1,6 +1,6 @@
 //! What is asked behind a script, as it is told.
 ghost use Rattle.std.specs.Prelude.{◌≡◌, ◌≤◌, ◌++◌, IfOk};
-ghost use Rattle.policy_commands.specs.Ends.{seen_end, told};
+ghost use Rattle.policy_commands.specs.Ends.{seen_end, ending};
 ghost use Rattle.gtrbac_tool.specs.Late.{asked_of, asks_of, horizon, answer_word, change_line, TellsAhead, TellsAsked, FollowsRun};
 
 use crate::questions::Question;
@@ -114,7 +114,7 @@ fn asked_text(alloc: Global, book: &Book, asked: Inquiry) -> Result<Vec<u8>, Mem
 
 /// An end with status 0 and a text of two parts.
 fn joined(alloc: Global, first: &List<u8>, more: &Vec<u8>) -> Result<End, Memory>
-    ensures { IfOk result (λ end. seen_end end ≡ told 0 (first.now.items ++ more.now.items)) }
+    ensures { IfOk result (λ end. seen_end end ≡ ending 0 (first.now.items ++ more.now.items)) }
 {
     let mut text = first.as_slice().to_vec(alloc)?;
     text.extend_from_slice(more)?;

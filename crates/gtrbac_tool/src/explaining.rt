@@ -1,26 +1,24 @@
 //! Certificates of what happened in a book's history.
 ghost use Rattle.std.specs.Prelude.{◌≡◌, ◌++◌, [], ◌∷◌, flat_map, true, IfOk, OnOk};
 ghost use Rattle.std.specs.List.{list_all};
-ghost use Rattle.gt_base.specs.declared.events.Event.{Event as EventOf};
 ghost use Rattle.gt_base.specs.declared.events.Fluent.{Fluent as FluentOf};
 ghost use Rattle.gt_base.specs.Happening.{HappenedView};
 ghost use Rattle.gt_base.specs.Sets.{has, members};
-ghost use Rattle.gtrbac_model.specs.Conflict.{won as is_won, after};
+ghost use Rattle.gtrbac_model.specs.Conflict.{after};
 ghost use Rattle.gtrbac_model.specs.Graph.{item_at};
 ghost use Rattle.gtrbac_model.specs.Instant.{IsGrounding, Settled};
 ghost use Rattle.gtrbac_model.specs.WholePolicy.{has_cause};
 ghost use Rattle.trigger_rules.specs.Indexed.{with_event, with_signal};
 ghost use Rattle.why_check.specs.Certificates.{Accepts};
-ghost use Rattle.why_check.specs.Peaks.{ArePeaks};
 ghost use Rattle.why_check.specs.Standing.{stands_in};
 ghost use Rattle.gtrbac_tool.specs.Listing.{AddsListing, AreListings, AreSettled, Tracks, raises_next, next_head, with_head, waiting_with};
 
+use crate::joined::Joined;
 use core_machine::{Book, Closed};
-use gt_base::{Event, EventSet, Happened, List, Memory, Prioritised, Signal, Status, Trigger};
-use priority_conflict::{Contest, next_status, winners};
+use gt_base::{Event, Happened, List, Memory, Prioritised, Signal, Status, Trigger};
 use std::alloc::Global;
-use trigger_rules::{Rules, met_in};
-use why_check::{Cert, Peaks, Standing, accept};
+use trigger_rules::Rules;
+use why_check::{Cert, Peaks, Standing, accept, met_in, turn};
 
 /// A certificate of the book's history. Each set of the trace is listed in an order that supports
 /// it: its base, and then head after head whose trigger is met and whose body events stand already.
@@ -67,73 +65,39 @@ fn listings(
     let mut cert = Cert::new(alloc);
     let mut status = opening.copied()?;
     for closed in trace {
-        add(alloc, &mut cert, rules, closed, &status)?;
-        status = status_after(alloc, &status, &closed.set)?;
+        add(alloc, &mut cert, rules, closed, &mut status)?;
     }
     Ok(cert)
 }
 
-/// Adds the set of an instant in its order.
+/// Adds the set of an instant in its order, and turns the status to that after it.
 fn add(
     alloc: Global,
     cert: &mut Cert,
     rules: &Rules,
     closed: &Closed,
-    before: &Status,
+    status: &mut Status,
 ) -> Result<(), Memory>
     requires caused { list_all has_cause rules.now ≡ true }
-    requires settled { Settled rules.now closed.now.base (has before.now.set) closed.now.set }
-    ensures { OnOk result (AddsListing rules.now (has before.now.set) closed.now cert.old
+    requires settled { Settled rules.now closed.now.base (has status.old.set) closed.now.set }
+    ensures added { OnOk result (AddsListing rules.now (has status.old.set) closed.now cert.old
         cert.new) }
+    ensures turned { OnOk result ((f : FluentOf)
+        → has status.new.set f ≡ after closed.now.set (has status.old.set) f) }
 {
-    let events = ordered(alloc, rules, closed, before)?;
+    let x = Peaks::new(alloc, closed.set.copied()?)?;
+    let events = support_order(alloc, rules, &closed.base, status, &x)?;
     let signals = Vec::from_slice(alloc, closed.set.signals())?;
-    cert.add(closed.at, events, List::from(signals))
-}
-
-/// The events of the set in an order that supports them.
-fn ordered(
-    alloc: Global,
-    rules: &Rules,
-    closed: &Closed,
-    before: &Status,
-) -> Result<List<Prioritised>, Memory>
-    requires caused { list_all has_cause rules.now ≡ true }
-    requires settled { Settled rules.now closed.now.base (has before.now.set) closed.now.set }
-    ensures { IfOk result
-        (λ es. IsGrounding rules.now closed.now.base (has before.now.set) closed.now.set
-        es.items) }
-{
-    let x = Contest::new(alloc, &closed.set)?;
-    support_order(alloc, rules, &closed.base, before, &x)
-}
-
-/// The status after the set.
-pub(crate) fn status_after(alloc: Global, before: &Status, set: &Happened) -> Result<Status, Memory>
-    ensures { IfOk result (λ s. (f : FluentOf) → has s.set f
-        ≡ after set.now.set (has before.now.set) f) }
-{
-    let won = winners(alloc, set)?;
-    turned(before, &won, set)
-}
-
-/// The status after the set, whose winners these are.
-fn turned(before: &Status, won: &EventSet, set: &Happened) -> Result<Status, Memory>
-    requires { (e : EventOf) → has won.now.set e ≡ is_won set.now.set e }
-    ensures { IfOk result (λ s. (f : FluentOf) → has s.set f
-        ≡ after set.now.set (has before.now.set) f) }
-{
-    let mut status = before.copied()?;
-    status.reserve(won.len())?;
-    next_status(&mut status, won);
-    Ok(status)
+    cert.add(closed.at, events, List::from(signals))?;
+    turn(status, &x)?;
+    Ok(())
 }
 
 /// The events in an order that supports them.
 #[derive(Drop)]
 struct Order {
     events: Vec<Prioritised>,
-    there: Happened,
+    there: Joined,
     standing: Standing,
 }
 
@@ -145,27 +109,37 @@ fn support_order(
     rules: &Rules,
     base: &Happened,
     before: &Status,
-    x: &Contest,
+    x: &Peaks,
 ) -> Result<List<Prioritised>, Memory>
     requires caused { list_all has_cause rules.now ≡ true }
     requires settled { Settled rules.now base.now.set (has before.now.set) x.now }
     ensures { IfOk result (λ es. IsGrounding rules.now base.now.set
         (has before.now.set) x.now es.items) }
 {
-    let peaks = Peaks::new(alloc, x)?;
-    let mut order = Order {
-        events: Vec::new(alloc),
-        there: Happened::new(alloc),
-        standing: Standing::new(alloc),
-    };
+    let mut order = no_order(alloc, x.set().len())?;
     let mut pending = Vec::new(alloc);
     wake_by_signals(&mut pending, rules, base.signals())?;
-    join_all(&mut order, &mut pending, rules, &peaks, base.events())?;
+    join_all(&mut order, &mut pending, rules, x, base.events())?;
     while let Some(t) = pending.pop() {
         let head = head_next(&order, rules, t, before, x);
-        join_head(&mut order, &mut pending, rules, &peaks, head)?;
+        join_head(&mut order, &mut pending, rules, x, head)?;
     }
     Ok(listed_in(order))
+}
+
+/// None yet, with room for so many.
+fn no_order(alloc: Global, many: usize) -> Result<Order, Memory>
+    ensures events { IfOk result (λ o. o.events.items ≡ []) }
+    ensures tracks { (x : HappenedView) → IfOk result (Tracks x) }
+{
+    let events = Vec::with_capacity(alloc, many)?;
+    let there = Joined::new(alloc, many)?;
+    let standing = Standing::new(alloc, many)?;
+    Ok(Order {
+        events,
+        there,
+        standing,
+    })
 }
 
 /// The events of the order.
@@ -196,17 +170,16 @@ fn join_all(
     order: &mut Order,
     pending: &mut Vec<u32>,
     rules: &Rules,
-    peaks: &Peaks,
+    x: &Peaks,
     events: &[Prioritised],
 ) -> Result<(), Memory>
-    ensures tracks { OnOk result ((x : HappenedView) → ArePeaks (members x.events) peaks.now
-        → Tracks x order.old → Tracks x order.new) }
+    ensures tracks { OnOk result (Tracks x.now order.old → Tracks x.now order.new) }
     ensures events { OnOk result (order.new.events.items ≡ order.old.events.items ++ events.now) }
     ensures pending { OnOk result (pending.new.items ≡ pending.old.items
         ++ flat_map (λ o. with_event rules.now o.event) events.now) }
 {
     for e in events {
-        join(order, pending, rules, peaks, e)?;
+        join(order, pending, rules, x, e)?;
     }
     Ok(())
 }
@@ -216,17 +189,16 @@ fn join_head(
     order: &mut Order,
     pending: &mut Vec<u32>,
     rules: &Rules,
-    peaks: &Peaks,
+    x: &Peaks,
     head: Option<Prioritised>,
 ) -> Result<(), Memory>
-    ensures tracks { OnOk result ((x : HappenedView) → ArePeaks (members x.events) peaks.now
-        → Tracks x order.old → Tracks x order.new) }
+    ensures tracks { OnOk result (Tracks x.now order.old → Tracks x.now order.new) }
     ensures events { OnOk result (order.new.events.items ≡ with_head order.old.events.items head) }
     ensures pending { OnOk result (pending.new.items
         ≡ waiting_with rules.now pending.old.items head) }
 {
     if let Some(head) = head {
-        join(order, pending, rules, peaks, &head)?;
+        join(order, pending, rules, x, &head)?;
     }
     Ok(())
 }
@@ -236,16 +208,15 @@ fn join(
     order: &mut Order,
     pending: &mut Vec<u32>,
     rules: &Rules,
-    peaks: &Peaks,
+    x: &Peaks,
     e: &Prioritised,
 ) -> Result<(), Memory>
-    ensures tracks { OnOk result ((x : HappenedView) → ArePeaks (members x.events) peaks.now
-        → Tracks x order.old → Tracks x order.new) }
+    ensures tracks { OnOk result (Tracks x.now order.old → Tracks x.now order.new) }
     ensures events { OnOk result (order.new.events.items ≡ order.old.events.items ++ e.now ∷ []) }
     ensures pending { OnOk result (pending.new.items
         ≡ pending.old.items ++ with_event rules.now e.now.event) }
 {
-    push(order, peaks, e)?;
+    push(order, x, e)?;
     pending.extend_from_slice(rules.by_event(e.event))
 }
 
@@ -255,7 +226,7 @@ fn head_next(
     rules: &Rules,
     t: u32,
     before: &Status,
-    x: &Contest,
+    x: &Peaks,
 ) -> Option<Prioritised>
     requires { Tracks x.now order.now }
     ensures { result ≡ next_head (has before.now.set) x.now order.now.events.items
@@ -270,7 +241,7 @@ fn head_next(
 }
 
 /// Whether the head of the trigger stands by those before and is not there yet.
-fn is_next(order: &Order, r: &Trigger, before: &Status, x: &Contest) -> bool
+fn is_next(order: &Order, r: &Trigger, before: &Status, x: &Peaks) -> bool
     requires { Tracks x.now order.now }
     ensures { result ≡ raises_next (has before.now.set) x.now order.now.events.items r.now }
 {
@@ -288,13 +259,11 @@ fn all_stand(events: &[Event], standing: &Standing) -> bool
 }
 
 /// Adds the event.
-fn push(order: &mut Order, peaks: &Peaks, e: &Prioritised) -> Result<(), Memory>
-    ensures tracks { OnOk result ((x : HappenedView) → ArePeaks (members x.events) peaks.now
-        → Tracks x order.old → Tracks x order.new) }
+fn push(order: &mut Order, x: &Peaks, e: &Prioritised) -> Result<(), Memory>
+    ensures tracks { OnOk result (Tracks x.now order.old → Tracks x.now order.new) }
     ensures events { OnOk result (order.new.events.items ≡ order.old.events.items ++ e.now ∷ []) }
 {
     order.events.push(*e)?;
-    order.there.reserve(1)?;
-    order.there.add(*e);
-    order.standing.note(peaks, e)
+    order.there.add(*e)?;
+    order.standing.note(x, e)
 }

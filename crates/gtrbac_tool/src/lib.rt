@@ -4,6 +4,7 @@
 mod ahead;
 mod commands;
 mod explaining;
+mod joined;
 mod laws;
 mod questions;
 mod replying;

@@ -5,7 +5,7 @@ ghost use Rattle.request_text.specs.declared.lines.Line.TheVariants.{Ask};
 ghost use Rattle.request_text.specs.Replies.{fault_word};
 ghost use Rattle.gtrbac_model.specs.Safety.{IsSafe};
 ghost use Rattle.policy_commands.specs.declared.ends.End.{End as EndOf};
-ghost use Rattle.policy_commands.specs.Ends.{seen_end, told};
+ghost use Rattle.policy_commands.specs.Ends.{seen_end, ending};
 ghost use Rattle.gtrbac_tool.specs.declared.script.Ran.TheVariants.{Born};
 ghost use Rattle.gtrbac_tool.specs.EndTexts.{behind, script_line};
 ghost use Rattle.gtrbac_tool.specs.Script.{Arrives, IsFilled, born, said};
@@ -151,7 +151,7 @@ pub(crate) fn stopped(
     what: &[u8],
 ) -> Result<End, Memory>
     ensures { IfOk result
-        (λ end. seen_end end ≡ behind text.items (told status (script_line number what.now))) }
+        (λ end. seen_end end ≡ behind text.items (ending status (script_line number what.now))) }
 {
     let line = stop_line(alloc, number, what)?;
     text.push_all(line.as_slice())?;
@@ -170,7 +170,7 @@ pub(crate) enum Ran {
 fn ended(run: Run, status: u8, number: u32, what: &[u8]) -> Result<Ran, u8>
     ensures { MatchResult result
         (λ ran. (end : EndOf) × (ran ≡ Born run.book end)
-        × (seen_end end ≡ behind run.text.items (told status (script_line number what.now))))
+        × (seen_end end ≡ behind run.text.items (ending status (script_line number what.now))))
         (λ s. s ≡ 8) }
 {
     let Run {

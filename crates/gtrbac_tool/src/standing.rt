@@ -5,7 +5,7 @@ ghost use Rattle.gtrbac_model.specs.Conflict.{after, seen as seen_in};
 ghost use Rattle.gt_base.specs.declared.events.Fluent.{Fluent as FluentOf};
 ghost use Rattle.gtrbac_tool.specs.Standing.{raises, first_raising, reason, by_word, standing_line, certificate_line, TellsWhy, closed_at, made_before};
 
-use crate::explaining::{explain, status_after};
+use crate::explaining::explain;
 use core_machine::{Book, Closed};
 use gt_base::{
     Event, Happened, Instant, MAX_PRIO, Memory, Prio, Prioritised, Seen, Status, Trigger,
@@ -17,7 +17,7 @@ use policy_words::NamedEvent;
 use priority_conflict::{Contest, greatest, seen};
 use std::alloc::Global;
 use trigger_rules::met_in;
-use why_check::Cert;
+use why_check::{Cert, Peaks, turn};
 
 /// The instant of a set.
 fn at_of(closed: &Closed) -> Instant
@@ -80,8 +80,8 @@ fn take_in(alloc: Global, status: &mut Status, set: &Happened) -> Result<(), Mem
     ensures { OnOk result
         ((f : FluentOf) → has status.new.set f ≡ after set.now.set (has status.old.set) f) }
 {
-    *status = status_after(alloc, status, set)?;
-    Ok(())
+    let x = Peaks::new(alloc, set.copied()?)?;
+    turn(status, &x)
 }
 
 /// Whether the trigger is immediate, has the event as its head and is met in the set.

@@ -18,7 +18,7 @@ use crate::replying::show;
 use crate::starting::play;
 use crate::summing::{generate, recipe_of};
 use gt_io::{ReadFault, Shelf, Sink, Source, read_all};
-use policy_commands::{Admitted, Found, admit, check, find_text, lay_out, print};
+use policy_commands::{Admitted, FoundText, admit, check, find_text, lay_out, print};
 use policy_safety::Safe;
 use std::alloc::Global;
 
@@ -126,8 +126,8 @@ fn run_command<S: Shelf, I: Source, K: Sink>(
         );
     };
     match find_text(alloc, shelf, command.name()) {
-        Ok(Found::Text(text)) => run_over(alloc, &command, &text, input, out),
-        Ok(Found::Ended(end)) => show(Ok(end), out),
+        Ok(FoundText::Text(text)) => run_over(alloc, &command, &text, input, out),
+        Ok(FoundText::Ended(end)) => show(Ok(end), out),
         Err(_) => 8,
     }
 }

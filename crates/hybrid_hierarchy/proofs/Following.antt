@@ -7,7 +7,7 @@ use Rattle.gt_base.specs.declared.events.RoleId.{RoleId}
 use Rattle.gt_base.specs.declared.policies.HierEdge.{HierEdge}
 use Rattle.gtrbac_model.specs.Graph.{item_at}
 use Rattle.least_walk.proofs.Items.{item_within, item_read, item_front, one_item}
-use Rattle.hybrid_hierarchy.specs.declared.searching.Found.{Found}
+use Rattle.hybrid_hierarchy.specs.declared.searching.FoundRole.{FoundRole}
 use Rattle.hybrid_hierarchy.specs.Searches.{IsFirstEdge, IsOutgoing, is_seen, HasSearched, Following, IsGoalBy}
 use Rattle.walk_laws.proofs.Roles.{one_role}
 use Rattle.hybrid_hierarchy.proofs.Seeking.{search_first, search_shut, search_skip, search_found, search_on}
@@ -47,10 +47,10 @@ none_seen (suc n) zero h = cc
 none_seen (suc n) (suc v) h = none_seen n v h
 
 module _ (ok : ℕ → HierEdge → Bool) (goal : RoleId → Bool) (es : List HierEdge) (starts : List ℕ) (first next : List ℕ) (few : length es ≤ 4_000) (out : IsOutgoing es first next) where
-  pub following_start : (seen : List Bool) (queue : List Found) (head v n : ℕ) (d : Found) → head < length queue → v ≡ (slice_index_or queue head d).role → n ≡ slice_index_or first v NO_EDGE
+  pub following_start : (seen : List Bool) (queue : List FoundRole) (head v n : ℕ) (d : FoundRole) → head < length queue → v ≡ (slice_index_or queue head d).role → n ≡ slice_index_or first v NO_EDGE
       → HasSearched ok goal es starts (length starts) seen queue head 0 → Following ok goal es starts seen queue head v n
   following_start seen queue head v n d low role is (ws, w) =
-      let f : Found = slice_index_or queue head d in
+      let f : FoundRole = slice_index_or queue head d in
       let (s, here, told) = w.tells.told head f (item_read queue head d low) in
       let node : s.node ≡ v = told.0 ∙ sym role in
       let at : IsFirstEdge es s.node 0 n = subst (IsFirstEdge es s.node 0) (ap (λ v. slice_index_or first v NO_EDGE) node ∙ sym is) (out.firsts s.node) in
@@ -82,7 +82,7 @@ module _ (ok : ℕ → HierEdge → Bool) (goal : RoleId → Bool) (es : List Hi
   pub goes_up : (v n n' d : ℕ) → IsEdgeOf es v n → n' ≡ slice_index_or next n d → (n < n') × (n < NO_EDGE)
   goes_up v n n' d e is = (elim (next_of v n n' d e is).is [ inl h ↦ omega (arith, h, e.low, few) | inr h ↦ omega (arith, h.0) ], omega (arith, e.low, few))
 
-  module _ (seen : List Bool) (queue : List Found) (head v n n' d : ℕ) (ne : n ≡ NO_EDGE → ⊥) (is : n' ≡ slice_index_or next n d) (w : Following ok goal es starts seen queue head v n) where
+  module _ (seen : List Bool) (queue : List FoundRole) (head v n n' d : ℕ) (ne : n ≡ NO_EDGE → ⊥) (is : n' ≡ slice_index_or next n d) (w : Following ok goal es starts seen queue head v n) where
     pub here : IsEdgeOf es w.stop.node n
     here = edge_of es w.stop.node n w.link ne
 
@@ -106,11 +106,11 @@ module _ (ok : ℕ → HierEdge → Bool) (goal : RoleId → Bool) (es : List Hi
       searched = search_found ok goal es starts (length starts) seen queue w.walks head n n' w.stop (edge_at es n) few w.here here.is here.from (next_of w.stop.node n n' d here is) w.searched on inside off;
     }
 
-  pub following_end : (seen : List Bool) (queue : List Found) (head v n : ℕ) → n ≡ NO_EDGE → Following ok goal es starts seen queue head v n → HasSearched ok goal es starts (length starts) seen queue (head + 1) 0
+  pub following_end : (seen : List Bool) (queue : List FoundRole) (head v n : ℕ) → n ≡ NO_EDGE → Following ok goal es starts seen queue head v n → HasSearched ok goal es starts (length starts) seen queue (head + 1) 0
   following_end seen queue head v n whole w = (w.walks, search_on ok goal es starts (length starts) seen queue w.walks head n few whole w.searched)
 
   -- the edge n of the head leads to a goal
-  pub following_goal : (seen : List Bool) (queue : List Found) (head v n : ℕ) → (n ≡ NO_EDGE → ⊥) → (w : Following ok goal es starts seen queue head v n) → ok n (edge_at es n) ≡ true → goal (edge_at es n).junior ≡ true → IsGoalBy ok goal es starts queue head n
+  pub following_goal : (seen : List Bool) (queue : List FoundRole) (head v n : ℕ) → (n ≡ NO_EDGE → ⊥) → (w : Following ok goal es starts seen queue head v n) → ok n (edge_at es n) ≡ true → goal (edge_at es n).junior ≡ true → IsGoalBy ok goal es starts queue head n
   following_goal seen queue head v n ne w on reaches =
       let e = edge_of es w.stop.node n w.link ne in
       record {
@@ -122,10 +122,10 @@ module _ (ok : ℕ → HierEdge → Bool) (goal : RoleId → Bool) (es : List Hi
       }
 
   -- where no edge from the head may be open
-  pub following_none : (seen : List Bool) (queue : List Found) (head v : ℕ) (d : Found) → head < length queue → v ≡ (slice_index_or queue head d).role → ((n : ℕ) (e : HierEdge) → e.senior ≡ record { 0 = v } → ok n e ≡ false)
+  pub following_none : (seen : List Bool) (queue : List FoundRole) (head v : ℕ) (d : FoundRole) → head < length queue → v ≡ (slice_index_or queue head d).role → ((n : ℕ) (e : HierEdge) → e.senior ≡ record { 0 = v } → ok n e ≡ false)
       → HasSearched ok goal es starts (length starts) seen queue head 0 → HasSearched ok goal es starts (length starts) seen queue (head + 1) 0
   following_none seen queue head v d low role shut (ws, w) =
-      let f : Found = slice_index_or queue head d in
+      let f : FoundRole = slice_index_or queue head d in
       let (s, here, told) = w.tells.told head f (item_read queue head d low) in
       let node : s.node ≡ v = told.0 ∙ sym role in
       (ws, search_on ok goal es starts (length starts) seen queue ws head NO_EDGE few refl (search_shut ok goal es starts (length starts) seen queue ws head NO_EDGE s here (λ m e is from on h. off m e (from ∙ node) on) w))

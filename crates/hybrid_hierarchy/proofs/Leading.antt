@@ -7,7 +7,7 @@ use Rattle.gtrbac_model.specs.Graph.{Arc, Path, LeadsAlong, IsWalk, NotAfter, Is
 use Rattle.gtrbac_model.specs.Hierarchy.{role_arcs}
 use Rattle.walk_laws.specs.Laws.{HasNoWalk}
 use Rattle.least_walk.proofs.Items.{item_within, one_item, item_map, item_of_map, item_numbered}
-use Rattle.hybrid_hierarchy.specs.declared.searching.Found.{Found}
+use Rattle.hybrid_hierarchy.specs.declared.searching.FoundRole.{FoundRole}
 use Rattle.hybrid_hierarchy.specs.Searches.{Stop, NotLater, Earlier, IsFound, Searched, roles_of}
 use Rattle.hybrid_hierarchy.proofs.Roles.{role}
 use Rattle.hybrid_hierarchy.proofs.Ranks.{before_push, before_own, not_later_through, not_later_push, not_later_rest, in_order}
@@ -72,7 +72,7 @@ module _ (ok : ℕ → HierEdge → Bool) (goal : RoleId → Bool) (es : List Hi
         ],
       )
 
-  module _ (seen : List Bool) (queue : List Found) (ws : List Stop) (head lim : ℕ) (w : Searched ok goal es starts (length starts) seen queue ws head lim) where
+  module _ (seen : List Bool) (queue : List FoundRole) (ws : List Stop) (head lim : ℕ) (w : Searched ok goal es starts (length starts) seen queue ws head lim) where
     -- a walk to a goal leads past the head
     ahead : (place : ℕ) (pre ms : List ℕ) (v end : RoleId) → IsFound ws v.0 place pre → LeadsAlong (role_arcs ok es) v ms end → goal end ≡ true → IsAhead ws head lim place (pre ++ ms)
     ahead place pre [] v end h leads on = absurd (false≢true (sym (w.passed h.at h.stop h.is) ∙ ap goal (ap role h.ends ∙ leads) ∙ on))
@@ -117,7 +117,7 @@ module _ (ok : ℕ → HierEdge → Bool) (goal : RoleId → Bool) (es : List Hi
         below i h = omega (arith, h, w.tells.size, all)
 
   -- the edge n of the head s leads to a goal
-  pub reached_is_least : (seen : List Bool) (queue : List Found) (ws : List Stop) (head n : ℕ) → Searched ok goal es starts (length starts) seen queue ws head n → (s : Stop) (e : HierEdge)
+  pub reached_is_least : (seen : List Bool) (queue : List FoundRole) (ws : List Stop) (head n : ℕ) → Searched ok goal es starts (length starts) seen queue ws head n → (s : Stop) (e : HierEdge)
       → item_at ws head ≡ Some s → item_at es n ≡ Some e → e.senior.0 ≡ s.node → ok n e ≡ true → goal e.junior ≡ true
       → IsLeastWalk (role_arcs ok es) goal (roles_of starts) (record { start = role s.start; arcs = s.arcs ++ n ∷ [] })
   reached_is_least seen queue ws head n w s e here is from on reaches = record {

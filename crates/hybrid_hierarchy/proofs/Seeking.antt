@@ -7,7 +7,7 @@ use Rattle.gt_base.specs.declared.policies.HierEdge.{HierEdge}
 use Rattle.gtrbac_model.specs.Graph.{Arc, LeadsAlong, item_at}
 use Rattle.gtrbac_model.specs.Hierarchy.{role_arcs}
 use Rattle.least_walk.proofs.Items.{item_within, one_item, item_front, item_last, item_pushed, item_of_numbered}
-use Rattle.hybrid_hierarchy.specs.declared.searching.Found.{Found}
+use Rattle.hybrid_hierarchy.specs.declared.searching.FoundRole.{FoundRole}
 use Rattle.hybrid_hierarchy.specs.Searches.{IsFirstEdge, Stop, Before, IsStop, TellsWalks, Earlier, IsFound, is_seen, Searched}
 use Rattle.hybrid_hierarchy.proofs.Roles.{role}
 use Rattle.hybrid_hierarchy.proofs.Ranks.{before_push, before_own, before_more}
@@ -26,7 +26,7 @@ open_arc ok es n e is on =
     ∙ ap (λ b. Some (record { from = e.senior; to = e.junior; is_open = b })) on
 
 -- what was told stays told
-told_front : (ws : List Stop) (x : Stop) (i : ℕ) (f : Found) (s : Stop) → IsStop ws i f s → IsStop (ws ++ x ∷ []) i f s
+told_front : (ws : List Stop) (x : Stop) (i : ℕ) (f : FoundRole) (s : Stop) → IsStop ws i f s → IsStop (ws ++ x ∷ []) i f s
 told_front ws x i f s (node, inl h) = (node, inl h)
 told_front ws x i f s (node, inr (p, low, lt, is, start, place, arcs)) = (node, inr (p, low, lt, item_front ws (x ∷ []) f.before p is, start, place, arcs))
 
@@ -37,7 +37,7 @@ pub grown : {A : Type 0} (xs : List A) (y : A) → length (xs ++ y ∷ []) ≡ l
 grown [] y = refl
 grown (x ∷ xs) y = let k : length (xs ++ y ∷ []) ≡ length xs + 1 = grown xs y in omega (arith, k)
 
-tells_push : (queue : List Found) (ws : List Stop) (f : Found) (x : Stop) → TellsWalks queue ws → IsStop ws (length queue) f x → TellsWalks (queue ++ f ∷ []) (ws ++ x ∷ [])
+tells_push : (queue : List FoundRole) (ws : List Stop) (f : FoundRole) (x : Stop) → TellsWalks queue ws → IsStop ws (length queue) f x → TellsWalks (queue ++ f ∷ []) (ws ++ x ∷ [])
 tells_push queue ws f x t is = record {
   size = grown ws x ∙ ap (λ k. k + 1) t.size ∙ sym (grown queue f);
   told = λ i g at. elim (item_pushed queue f i g at) [
@@ -80,7 +80,7 @@ module _ (ok : ℕ → HierEdge → Bool) (goal : RoleId → Bool) (es : List Hi
       below : (p : ℕ) → p < 0 → ⊥
       below p h = omega (arith, h)
 
-  module _ (begun : ℕ) (seen : List Bool) (queue : List Found) (ws : List Stop) (v : ℕ) (is : item_at starts begun ≡ Some v) (low : v < length seen) (off : goal (role v) ≡ false) (w : Searched ok goal es starts begun seen queue ws 0 0) where
+  module _ (begun : ℕ) (seen : List Bool) (queue : List FoundRole) (ws : List Stop) (v : ℕ) (is : item_at starts begun ≡ Some v) (low : v < length seen) (off : goal (role v) ≡ false) (w : Searched ok goal es starts begun seen queue ws 0 0) where
     abbrev new : Stop
     new = record { node = v; start = v; place = begun; arcs = [] }
 
@@ -92,15 +92,15 @@ module _ (ok : ℕ → HierEdge → Bool) (goal : RoleId → Bool) (es : List Hi
         let e : t ≡ s = one_item ws i t s att at in
         ap (λ z. z.arcs) (sym e) ∙ by f.0 t told.1 (w.older i f.0 f.1)
       where
-        item_of : (i : ℕ) → i < length queue → (f : Found) × (item_at queue i ≡ Some f)
+        item_of : (i : ℕ) → i < length queue → (f : FoundRole) × (item_at queue i ≡ Some f)
         item_of i h = go queue i h
           where
-            go : (xs : List Found) (i : ℕ) → i < length xs → (f : Found) × (item_at xs i ≡ Some f)
+            go : (xs : List FoundRole) (i : ℕ) → i < length xs → (f : FoundRole) × (item_at xs i ≡ Some f)
             go [] i h = absurd (omega (arith, h))
             go (x ∷ xs) zero h = (x, refl)
             go (x ∷ xs) (suc i) h = go xs i (omega (arith, h))
 
-        by : (f : Found) (t : Stop)
+        by : (f : FoundRole) (t : Stop)
             → (((f.by ≡ NO_EDGE) × (t.start ≡ f.role) × (t.place ≡ f.before) × (t.arcs ≡ []))
             ⊎ ((p : Stop) × (f.by < NO_EDGE) × (f.before < i) × (item_at ws f.before ≡ Some p) × (t.start ≡ p.start) × (t.place ≡ p.place) × (t.arcs ≡ p.arcs ++ f.by ∷ [])))
             → (f.by ≡ NO_EDGE) ⊎ Earlier f.before f.by 0 0 → t.arcs ≡ []
@@ -176,7 +176,7 @@ module _ (ok : ℕ → HierEdge → Bool) (goal : RoleId → Bool) (es : List Hi
         }
 
   -- the edge n of the head s
-  module _ (begun : ℕ) (seen : List Bool) (queue : List Found) (ws : List Stop) (head n n' : ℕ) (s : Stop) (e : HierEdge)
+  module _ (begun : ℕ) (seen : List Bool) (queue : List FoundRole) (ws : List Stop) (head n n' : ℕ) (s : Stop) (e : HierEdge)
       (few : length es ≤ 4_000) (here : item_at ws head ≡ Some s) (is : item_at es n ≡ Some e) (from : e.senior.0 ≡ s.node) (next : IsFirstEdge es s.node (n + 1) n')
       (w : Searched ok goal es starts begun seen queue ws head n) where
     low : n < 4_000
@@ -185,7 +185,7 @@ module _ (ok : ℕ → HierEdge → Bool) (goal : RoleId → Bool) (es : List Hi
     beyond : n < n'
     beyond = elim next.is [ inl h ↦ omega (arith, low, h) | inr h ↦ omega (arith, h.0) ]
 
-    by_edge : (i : ℕ) (f : Found) (t : Stop) → IsStop ws i f t → (f.by ≡ NO_EDGE) ⊎ Earlier f.before f.by head n → Before t.place t.arcs s.place (s.arcs ++ n ∷ [])
+    by_edge : (i : ℕ) (f : FoundRole) (t : Stop) → IsStop ws i f t → (f.by ≡ NO_EDGE) ⊎ Earlier f.before f.by head n → Before t.place t.arcs s.place (s.arcs ++ n ∷ [])
     by_edge i f t (node, inl h) o = subst (λ xs. Before t.place xs s.place (s.arcs ++ n ∷ [])) (sym h.3) (before_more t.place s.place n s.arcs)
     by_edge i f t (node, inr h) (inl o) = absurd (omega (arith, o, h.1))
     by_edge i f t (node, inr (p, lowby, lt, isp, start, place, arcs)) (inr (inl o)) =
@@ -195,10 +195,10 @@ module _ (ok : ℕ → HierEdge → Bool) (goal : RoleId → Bool) (es : List Hi
         subst (λ k. Before k t.arcs s.place (s.arcs ++ n ∷ [])) (sym (place ∙ ap (λ z. z.place) same))
         (subst (λ xs. Before s.place xs s.place (s.arcs ++ n ∷ [])) (sym (arcs ∙ ap (λ z. z.arcs ++ f.by ∷ []) same)) (before_own s.place f.by n s.arcs lesser))
 
-    found_at : (i : ℕ) → i < length queue → (f : Found) × (item_at queue i ≡ Some f)
+    found_at : (i : ℕ) → i < length queue → (f : FoundRole) × (item_at queue i ≡ Some f)
     found_at i h = go queue i h
       where
-        go : (xs : List Found) (i : ℕ) → i < length xs → (f : Found) × (item_at xs i ≡ Some f)
+        go : (xs : List FoundRole) (i : ℕ) → i < length xs → (f : FoundRole) × (item_at xs i ≡ Some f)
         go [] i h = absurd (omega (arith, h))
         go (x ∷ xs) zero h = (x, refl)
         go (x ∷ xs) (suc i) h = go xs i (omega (arith, h))
@@ -253,7 +253,7 @@ module _ (ok : ℕ → HierEdge → Bool) (goal : RoleId → Bool) (es : List Hi
             (subst (λ z. IsFound ws f.junior.0 s.place (s.arcs ++ z ∷ [])) (sym k)
             (record { at = j; stop = u; is = at; ends = ends ∙ ap (λ g. g.junior.0) edge; rank = inr (all_before j u at) }))
 
-    abbrev found : Found
+    abbrev found : FoundRole
     found = record { role = e.junior.0; by = n; before = head }
 
     abbrev reached : Stop
@@ -334,7 +334,7 @@ module _ (ok : ℕ → HierEdge → Bool) (goal : RoleId → Bool) (es : List Hi
             (record { at = length ws; stop = reached; is = item_last ws reached; ends = ap (λ g. g.junior.0) edge; rank = inl (refl, refl) }))
 
   -- the edges of the head are followed
-  pub search_on : (begun : ℕ) (seen : List Bool) (queue : List Found) (ws : List Stop) (head n : ℕ) → length es ≤ 4_000 → n ≡ NO_EDGE → Searched ok goal es starts begun seen queue ws head n → Searched ok goal es starts begun seen queue ws (head + 1) 0
+  pub search_on : (begun : ℕ) (seen : List Bool) (queue : List FoundRole) (ws : List Stop) (head n : ℕ) → length es ≤ 4_000 → n ≡ NO_EDGE → Searched ok goal es starts begun seen queue ws head n → Searched ok goal es starts begun seen queue ws (head + 1) 0
   search_on begun seen queue ws head n few whole w = record {
     tells = w.tells;
     leads = w.leads;
@@ -360,7 +360,7 @@ module _ (ok : ℕ → HierEdge → Bool) (goal : RoleId → Bool) (es : List Hi
       down i m k (inr (q, h)) = absurd (omega (arith, h))
 
   -- no edge from the head is open up to the limit
-  pub search_shut : (begun : ℕ) (seen : List Bool) (queue : List Found) (ws : List Stop) (head n : ℕ) (s : Stop) → item_at ws head ≡ Some s
+  pub search_shut : (begun : ℕ) (seen : List Bool) (queue : List FoundRole) (ws : List Stop) (head n : ℕ) (s : Stop) → item_at ws head ≡ Some s
       → ((m : ℕ) (e : HierEdge) → item_at es m ≡ Some e → e.senior.0 ≡ s.node → ok m e ≡ true → m < n → ⊥)
       → Searched ok goal es starts begun seen queue ws head 0 → Searched ok goal es starts begun seen queue ws head n
   search_shut begun seen queue ws head n s here shut w = record {
@@ -384,7 +384,7 @@ module _ (ok : ℕ → HierEdge → Bool) (goal : RoleId → Bool) (es : List Hi
       up i m (inr (q, h)) = absurd (omega (arith, h))
 
   -- the edges of the head from its first one on
-  pub search_first : (begun : ℕ) (seen : List Bool) (queue : List Found) (ws : List Stop) (head n : ℕ) (s : Stop) → item_at ws head ≡ Some s → IsFirstEdge es s.node 0 n → Searched ok goal es starts begun seen queue ws head 0 → Searched ok goal es starts begun seen queue ws head n
+  pub search_first : (begun : ℕ) (seen : List Bool) (queue : List FoundRole) (ws : List Stop) (head n : ℕ) (s : Stop) → item_at ws head ≡ Some s → IsFirstEdge es s.node 0 n → Searched ok goal es starts begun seen queue ws head 0 → Searched ok goal es starts begun seen queue ws head n
   search_first begun seen queue ws head n s here first w =
       search_shut begun seen queue ws head n s here (λ m e is from on h. first.nothing m e (low m) h is from) w
     where

@@ -7,7 +7,7 @@ use Rattle.gt_base.specs.declared.limits.TheConstants.{MAX_ROLES}
 use Rattle.gtrbac_model.specs.Graph.{LeadsAlong, IsLeastWalk, item_at}
 use Rattle.gtrbac_model.specs.Hierarchy.{role_arcs}
 use Rattle.gtrbac_model.specs.Same.{same_role, lists}
-use Rattle.hybrid_hierarchy.specs.declared.searching.Found.{Found}
+use Rattle.hybrid_hierarchy.specs.declared.searching.FoundRole.{FoundRole}
 use Rattle.hybrid_hierarchy.specs.declared.outgoing.TheConstants.{NO_EDGE}
 
 -- the first edge of the role from number b on, or none
@@ -54,7 +54,7 @@ NotLater i xs j ys = ((i ≡ j) × (xs ≡ ys)) ⊎ Before i xs j ys
 
 -- the walk of what was found at place i: it stays at a start, or goes on by one edge from what was
 -- found before
-abbrev pub IsStop : List Stop → ℕ → Found → Stop → Type 0
+abbrev pub IsStop : List Stop → ℕ → FoundRole → Stop → Type 0
 IsStop ws i f s =
     (s.node ≡ f.role)
     × (((f.by ≡ NO_EDGE) × (s.start ≡ f.role) × (s.place ≡ f.before) × (s.arcs ≡ []))
@@ -62,16 +62,16 @@ IsStop ws i f s =
     × (s.start ≡ p.start) × (s.place ≡ p.place) × (s.arcs ≡ p.arcs ++ f.by ∷ [])))
 
 -- the walks of what was found
-pub record TellsWalks (queue : List Found) (ws : List Stop) : Type 0 where
+pub record TellsWalks (queue : List FoundRole) (ws : List Stop) : Type 0 where
   pub size : length ws ≡ length queue
-  pub told : (i : ℕ) (f : Found) → item_at queue i ≡ Some f
+  pub told : (i : ℕ) (f : FoundRole) → item_at queue i ≡ Some f
       → (s : Stop) × (item_at ws i ≡ Some s) × IsStop ws i f s
 
-abbrev pub HasStops : List Found → Type 0
+abbrev pub HasStops : List FoundRole → Type 0
 HasStops queue = (ws : List Stop) × TellsWalks queue ws
 
 -- the walk of what was found at this place, and on by an edge
-abbrev pub IsWalkBy : List Found → ℕ → ℕ → ℕ → List ℕ → Type 0
+abbrev pub IsWalkBy : List FoundRole → ℕ → ℕ → ℕ → List ℕ → Type 0
 IsWalkBy queue at last start arcs = (ws : List Stop) (s : Stop) → TellsWalks queue ws
     → item_at ws at ≡ Some s → (start ≡ s.start) × (arcs ≡ s.arcs ++ last ∷ [])
 
@@ -93,7 +93,7 @@ is_seen seen v = slice_index_or seen v false
 -- what was found stands in the order of its walks, and none of it is a goal; of what was found
 -- before the head the open edges are followed, and of the head those below lim
 pub record Searched (ok : ℕ → HierEdge → Bool) (goal : RoleId → Bool) (es : List HierEdge)
-    (starts : List ℕ) (begun : ℕ) (seen : List Bool) (queue : List Found) (ws : List Stop)
+    (starts : List ℕ) (begun : ℕ) (seen : List Bool) (queue : List FoundRole) (ws : List Stop)
     (head lim : ℕ) : Type 0 where
   pub tells : TellsWalks queue ws
   pub leads : (i : ℕ) (s : Stop) → item_at ws i ≡ Some s
@@ -106,7 +106,7 @@ pub record Searched (ok : ℕ → HierEdge → Bool) (goal : RoleId → Bool) (e
   pub marked : (v : ℕ) → is_seen seen v ≡ true
       → (j : ℕ) × (t : Stop) × (item_at ws j ≡ Some t) × (t.node ≡ v)
   pub begins : (p v : ℕ) → p < begun → item_at starts p ≡ Some v → IsFound ws v p []
-  pub older : (k : ℕ) (f : Found) → item_at queue k ≡ Some f
+  pub older : (k : ℕ) (f : FoundRole) → item_at queue k ≡ Some f
       → (f.by ≡ NO_EDGE) ⊎ Earlier f.before f.by head lim
   pub done : (i n : ℕ) (s : Stop) (e : HierEdge) → item_at ws i ≡ Some s → item_at es n ≡ Some e
       → ok n e ≡ true → e.senior.0 ≡ s.node → Earlier i n head lim
@@ -114,7 +114,7 @@ pub record Searched (ok : ℕ → HierEdge → Bool) (goal : RoleId → Bool) (e
   pub passed : (i : ℕ) (s : Stop) → item_at ws i ≡ Some s → goal (record { 0 = s.node }) ≡ false
 
 abbrev pub HasSearched : (ℕ → HierEdge → Bool) → (RoleId → Bool) → List HierEdge → List ℕ → ℕ
-    → List Bool → List Found → ℕ → ℕ → Type 0
+    → List Bool → List FoundRole → ℕ → ℕ → Type 0
 HasSearched ok goal es starts begun seen queue head lim = (ws : List Stop)
     × Searched ok goal es starts begun seen queue ws head lim
 
@@ -124,7 +124,7 @@ roles_of ns = map (λ n. record { 0 = n }) ns
 
 -- the same while the edges of the head are followed, which is role v, and of which the next is n
 pub record Following (ok : ℕ → HierEdge → Bool) (goal : RoleId → Bool) (es : List HierEdge)
-    (starts : List ℕ) (seen : List Bool) (queue : List Found) (head v n : ℕ) : Type 0 where
+    (starts : List ℕ) (seen : List Bool) (queue : List FoundRole) (head v n : ℕ) : Type 0 where
   pub walks : List Stop
   pub stop : Stop
   pub here : item_at walks head ≡ Some stop
@@ -138,7 +138,7 @@ AreNoGoals goal starts = (i s : ℕ) → item_at starts i ≡ Some s → goal (r
 
 -- the walk of the head, and on by the edge n, is the least one to a goal
 pub record IsGoalBy (ok : ℕ → HierEdge → Bool) (goal : RoleId → Bool) (es : List HierEdge)
-    (starts : List ℕ) (queue : List Found) (head n : ℕ) : Type 0 where
+    (starts : List ℕ) (queue : List FoundRole) (head n : ℕ) : Type 0 where
   pub walks : List Stop
   pub stop : Stop
   pub tells : TellsWalks queue walks

@@ -7,8 +7,6 @@ mod lasting;
 mod outgoing;
 mod questions;
 mod searching;
-#[cfg(test)]
-mod tests;
 mod walks;
 
 pub use hierarchies::Hierarchy;

@@ -22,7 +22,7 @@ const FEW: usize = 16;
 /// A role that was found: by the edge of this number from what was found at the place before, or,
 /// where that is no edge, as the start of this place.
 #[derive(Clone, Copy)]
-pub(crate) struct Found {
+pub(crate) struct FoundRole {
     pub(crate) role: u32,
     pub(crate) by: u32,
     pub(crate) before: usize,
@@ -107,7 +107,7 @@ fn begun<Q: WalkQuestion>(
     asked: &Q,
     from: &[u32],
     seen: &mut [bool],
-) -> Result<Vec<Found>, Memory>
+) -> Result<Vec<FoundRole>, Memory>
     requires unmarked { (v : ℕ) → is_seen seen.old v ≡ true → ⊥ }
     requires starts { (i s : ℕ) → item_at from.now i ≡ Some s → s < length seen.old }
     requires no_goals { AreNoGoals (Q.goals asked.now) from.now }
@@ -118,7 +118,7 @@ fn begun<Q: WalkQuestion>(
     let mut queue = Vec::with_capacity(alloc, MANY)?;
     for (place, role) in from.iter().enumerate() {
         seen[*role as usize] = true;
-        queue.push(Found {
+        queue.push(FoundRole {
             role: *role,
             by: NO_EDGE,
             before: place,
@@ -136,7 +136,7 @@ fn follow<Q: WalkQuestion>(
     asked: &Q,
     head: usize,
     seen: &mut [bool],
-    queue: &mut Vec<Found>,
+    queue: &mut Vec<FoundRole>,
 ) -> Result<Option<u32>, Memory>
     requires hierarchy { (length edges.now ≤ MAX_EDGES) × AreWithin (length seen.old) edges.now }
     requires outgoing { IsOutgoing edges.now out.now.first.items out.now.next.items }
@@ -165,7 +165,7 @@ fn follow<Q: WalkQuestion>(
                 return Ok(Some(n));
             }
             seen[junior as usize] = true;
-            queue.push(Found {
+            queue.push(FoundRole {
                 role: junior,
                 by: n,
                 before: head,
@@ -177,7 +177,7 @@ fn follow<Q: WalkQuestion>(
 }
 
 /// The walk by which the role at this place was found, and on by the last edge.
-fn walk_by(alloc: Global, queue: &[Found], at: usize, last: u32) -> Result<Walk, Memory>
+fn walk_by(alloc: Global, queue: &[FoundRole], at: usize, last: u32) -> Result<Walk, Memory>
     requires inside { at < length queue.now }
     requires tells { HasStops queue.now }
     ensures { IfOk result (λ walk. IsWalkBy queue.now at last walk.start.0 walk.edges) }

@@ -1,3 +1,3 @@
 pub mod Timelines
 pub mod Nexts
-pub mod Kept
+pub mod Remembered

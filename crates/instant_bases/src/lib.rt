@@ -2,11 +2,11 @@
 //! entries and its duration limits.
 #![tactic(auto)]
 
-mod kept;
 mod least;
 mod limits;
 mod periods;
 mod raising;
+mod remembered;
 mod sets;
 mod watches;
 
@@ -14,4 +14,4 @@ pub use least::{earlier, minute_after};
 pub use limits::{next_limited_in_looks, push_limited};
 pub use raising::{next_periodic_in_looks, push_periodic};
 pub use sets::{add_events, add_signals};
-pub use watches::{Watch, ask_all, copied_watches, pass_all, watch_all};
+pub use watches::{WatchedPeriod, ask_all, copied_watches, pass_all, watch_all};

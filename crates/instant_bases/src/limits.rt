@@ -13,7 +13,7 @@ ghost use Rattle.instant_bases.specs.Nexts.{IsNextOf, ending};
 use crate::least::{earlier, known, minute_after, minute_before};
 use crate::periods::{is_inside, next_within};
 use crate::raising::push_if;
-use crate::watches::Watch;
+use crate::watches::WatchedPeriod;
 use duration_limits::Ages;
 use gt_base::{Event, Instant, LimitId, LimitRule, Looks, Memory, PeriodId, Prioritised, Status};
 use std::sync::ledger::Ledger;
@@ -21,7 +21,7 @@ use std::sync::ledger::Ledger;
 /// Adds what the duration limits raise at t, on the status before it, in their order.
 pub fn push_limited(
     raised: &mut Vec<Prioritised>,
-    periods: &[Watch],
+    periods: &[WatchedPeriod],
     limits: &[LimitRule],
     status: &Status,
     ages: &Ages,
@@ -41,7 +41,7 @@ pub fn push_limited(
 
 /// Whether the limit of this number ends its condition at t.
 fn is_ripe(
-    periods: &[Watch],
+    periods: &[WatchedPeriod],
     id: LimitId,
     limit: &LimitRule,
     status: &Status,
@@ -55,7 +55,7 @@ fn is_ripe(
 }
 
 /// Whether the instant is in the period, if there is one.
-fn is_there(periods: &[Watch], period: Option<PeriodId>, t: Instant) -> bool
+fn is_there(periods: &[WatchedPeriod], period: Option<PeriodId>, t: Instant) -> bool
     ensures { (l : LimitRuleOf) → l.period ≡ period → result ≡ in_period periods.now l t }
 {
     match period {
@@ -82,7 +82,7 @@ fn ended(limit: &LimitRule) -> Prioritised
 /// status stays, none exactly where there is none, and how often limits are asked for their age and
 /// periods for their minutes: at most each limit once and its period once. It takes no memory.
 pub fn next_limited_in_looks<L: Ledger>(
-    periods: &[Watch],
+    periods: &[WatchedPeriod],
     limits: &[LimitRule],
     status: &Status,
     ages: &Ages,
@@ -106,7 +106,7 @@ pub fn next_limited_in_looks<L: Ledger>(
 
 /// The least instant after now at which the limit of this number ends its condition.
 fn next_ripe<L: Ledger>(
-    periods: &[Watch],
+    periods: &[WatchedPeriod],
     id: LimitId,
     limit: &LimitRule,
     status: &Status,
@@ -135,7 +135,7 @@ fn later_start(from: Instant, now: Instant) -> Instant
 
 /// The least instant after this one that is in the period, if there is one.
 fn next_there<L: Ledger>(
-    periods: &[Watch],
+    periods: &[WatchedPeriod],
     period: Option<PeriodId>,
     after: Instant,
     looks: &mut Looks<L>,

@@ -5,12 +5,12 @@ ghost use Rattle.gtrbac_model.specs.Graph.{item_at};
 ghost use Rattle.gtrbac_model.specs.Period.{inside, starts};
 ghost use Rattle.instant_bases.specs.Nexts.{IsNextOf};
 
-use crate::watches::Watch;
+use crate::watches::WatchedPeriod;
 use gt_base::{Instant, Looks, PeriodId};
 use std::sync::ledger::Ledger;
 
 /// The period of this number, if there is one.
-pub(crate) fn period_at(periods: &[Watch], id: PeriodId) -> Option<&Watch>
+pub(crate) fn period_at(periods: &[WatchedPeriod], id: PeriodId) -> Option<&WatchedPeriod>
     ensures { MatchOption result (item_at periods.now id.0 ≡ None) (λ p. item_at periods.now id.0
         ≡ Some p.now) }
 {
@@ -18,7 +18,7 @@ pub(crate) fn period_at(periods: &[Watch], id: PeriodId) -> Option<&Watch>
 }
 
 /// Whether the period of this number is there at the instant.
-pub(crate) fn is_inside(periods: &[Watch], id: PeriodId, t: Instant) -> bool
+pub(crate) fn is_inside(periods: &[WatchedPeriod], id: PeriodId, t: Instant) -> bool
     ensures { result ≡ period_test inside periods.now id t }
 {
     match period_at(periods, id) {
@@ -28,7 +28,7 @@ pub(crate) fn is_inside(periods: &[Watch], id: PeriodId, t: Instant) -> bool
 }
 
 /// Whether the period of this number starts at the instant.
-pub(crate) fn is_start(periods: &[Watch], id: PeriodId, t: Instant) -> bool
+pub(crate) fn is_start(periods: &[WatchedPeriod], id: PeriodId, t: Instant) -> bool
     ensures { result ≡ period_test starts periods.now id t }
 {
     match period_at(periods, id) {
@@ -39,7 +39,7 @@ pub(crate) fn is_start(periods: &[Watch], id: PeriodId, t: Instant) -> bool
 
 /// Whether it is known that the period of this number is there exactly where it is the minute
 /// before.
-pub(crate) fn keeps_on(periods: &[Watch], id: PeriodId, t: Instant) -> bool
+pub(crate) fn keeps_on(periods: &[WatchedPeriod], id: PeriodId, t: Instant) -> bool
     ensures { result ≡ true → period_test inside periods.now id t
         ≡ period_test inside periods.now id (t - 1) }
 {
@@ -51,7 +51,7 @@ pub(crate) fn keeps_on(periods: &[Watch], id: PeriodId, t: Instant) -> bool
 
 /// The least instant after this one that is in the period of this number.
 pub(crate) fn next_within<L: Ledger>(
-    periods: &[Watch],
+    periods: &[WatchedPeriod],
     id: PeriodId,
     after: Instant,
     looks: &mut Looks<L>,
@@ -67,7 +67,7 @@ pub(crate) fn next_within<L: Ledger>(
 
 /// The least instant after this one at which the period of this number starts.
 pub(crate) fn next_begin<L: Ledger>(
-    periods: &[Watch],
+    periods: &[WatchedPeriod],
     id: PeriodId,
     after: Instant,
     looks: &mut Looks<L>,

@@ -7,7 +7,7 @@ ghost use Rattle.instant_bases.specs.Nexts.{IsNextOf, raises};
 
 use crate::least::{earlier, minute_after, minute_before};
 use crate::periods::{is_inside, is_start, keeps_on, next_begin, next_within, period_at};
-use crate::watches::Watch;
+use crate::watches::WatchedPeriod;
 use gt_base::{Form, Instant, Looks, Memory, PeriodId, PeriodicEntry, Prioritised};
 use std::sync::ledger::Ledger;
 
@@ -38,7 +38,7 @@ fn turned(e: Prioritised) -> Prioritised
 /// Adds what the periodic entries raise at t, after the birth, in their order.
 pub fn push_periodic(
     raised: &mut Vec<Prioritised>,
-    periods: &[Watch],
+    periods: &[WatchedPeriod],
     entries: &[PeriodicEntry],
     birth: Instant,
     t: Instant,
@@ -56,7 +56,7 @@ pub fn push_periodic(
 /// Adds what one entry raises.
 fn push_entry(
     raised: &mut Vec<Prioritised>,
-    periods: &[Watch],
+    periods: &[WatchedPeriod],
     e: PeriodicEntry,
     birth: Instant,
     t: Instant,
@@ -74,7 +74,7 @@ fn push_entry(
 /// Adds the event where a span begins, and its converse where it ends.
 fn push_span(
     raised: &mut Vec<Prioritised>,
-    periods: &[Watch],
+    periods: &[WatchedPeriod],
     e: PeriodicEntry,
     birth: Instant,
     t: Instant,
@@ -103,7 +103,7 @@ fn is_next(birth: Instant, t: Instant) -> bool
 /// where there is none, and how often periods are asked for it: at most twice for each entry. It
 /// takes no memory.
 pub fn next_periodic_in_looks<L: Ledger>(
-    periods: &[Watch],
+    periods: &[WatchedPeriod],
     entries: &[PeriodicEntry],
     birth: Instant,
     now: Instant,
@@ -123,7 +123,7 @@ pub fn next_periodic_in_looks<L: Ledger>(
 
 /// The least instant after now at which the entry raises something.
 fn next_entry<L: Ledger>(
-    periods: &[Watch],
+    periods: &[WatchedPeriod],
     e: PeriodicEntry,
     birth: Instant,
     now: Instant,
@@ -142,7 +142,7 @@ fn next_entry<L: Ledger>(
 
 /// The least instant after now at which a span begins or ends.
 fn next_span<L: Ledger>(
-    periods: &[Watch],
+    periods: &[WatchedPeriod],
     e: PeriodicEntry,
     birth: Instant,
     now: Instant,
@@ -164,7 +164,7 @@ fn next_span<L: Ledger>(
 
 /// The minute after the birth where now is the birth and the period is there.
 fn first_minute<L: Ledger>(
-    p: &Watch,
+    p: &WatchedPeriod,
     birth: Instant,
     now: Instant,
     looks: &mut Looks<L>,

@@ -2,10 +2,10 @@
 ghost use Rattle.std.specs.Prelude.{◌≡◌, ◌+◌, true, false, IfOk};
 ghost use Rattle.calendar_match.specs.Next.{turns as turned};
 ghost use Rattle.gtrbac_model.specs.Period.{inside as insides, starts};
-ghost use Rattle.instant_bases.specs.Kept.{IsNextKept};
+ghost use Rattle.instant_bases.specs.Remembered.{IsNextAsked};
 ghost use Rattle.instant_bases.specs.Nexts.{IsNextOf};
 
-use crate::kept::{Kept, recalled, told};
+use crate::remembered::{Remembered, recalled, so_at};
 use calendar_match::{inside, next_edge, next_inside, next_start, starts};
 use gt_base::{Form, Instant, LimitRule, Looks, Memory, PeriodId, PeriodicEntry};
 use periodic_expr::Period;
@@ -15,18 +15,18 @@ use std::sync::ledger::Ledger;
 
 /// A period with the next instants that were asked of it, each kept until it is past. It is seen as
 /// the period.
-pub struct Watch {
+pub struct WatchedPeriod {
     period: Period,
     at: Instant,
-    inside: Kept,
-    start: Kept,
-    edge: Kept,
+    inside: Remembered,
+    start: Remembered,
+    edge: Remembered,
 }
 
-impl Model for Watch {
+impl Model for WatchedPeriod {
     ghost use Rattle.calendar_match.specs.Next.{turns as turned};
     ghost use Rattle.gtrbac_model.specs.Period.{Period as Bounded, period_code, inside as insides, starts};
-    ghost use Rattle.instant_bases.specs.Kept.{IsNextKept};
+    ghost use Rattle.instant_bases.specs.Remembered.{IsNextAsked};
 
     ghost Value = { Bounded };
 
@@ -34,13 +34,13 @@ impl Model for Watch {
 
     ghost view = { λ w. w.period };
 
-    ghost invariant = { λ w. IsNextKept (insides w.period) w.at w.inside
-        × IsNextKept (starts w.period) w.at w.start × IsNextKept (turned w.period) w.at w.edge };
+    ghost invariant = { λ w. IsNextAsked (insides w.period) w.at w.inside
+        × IsNextAsked (starts w.period) w.at w.start × IsNextAsked (turned w.period) w.at w.edge };
 }
 
-impl Drop for Watch {
+impl Drop for WatchedPeriod {
     fn drop(self) {
-        let Watch {
+        let WatchedPeriod {
             period: _,
             at: _,
             inside: _,
@@ -50,25 +50,25 @@ impl Drop for Watch {
     }
 }
 
-impl Watch {
+impl WatchedPeriod {
     /// The period, of which nothing was asked.
-    fn new(period: Period, at: Instant) -> Watch
+    fn new(period: Period, at: Instant) -> WatchedPeriod
         ensures { result ≡ period }
     {
-        Watch {
+        WatchedPeriod {
             period,
             at,
-            inside: Kept::Unasked,
-            start: Kept::Unasked,
-            edge: Kept::Unasked,
+            inside: Remembered::Unasked,
+            start: Remembered::Unasked,
+            edge: Remembered::Unasked,
         }
     }
 
     /// An equal period, with what was asked of it.
-    fn copied(&self, alloc: Global) -> Result<Watch, Memory>
+    fn copied(&self, alloc: Global) -> Result<WatchedPeriod, Memory>
         ensures { IfOk result (λ copy. copy ≡ self.now) }
     {
-        Ok(Watch {
+        Ok(WatchedPeriod {
             period: self.period.copied(alloc)?,
             at: self.at,
             inside: self.inside,
@@ -82,8 +82,8 @@ impl Watch {
         ensures { IsNextOf (insides self.now) after result }
     {
         match recalled(self.inside, self.at, after) {
-            Kept::Next(t) => t,
-            Kept::Unasked => next_inside(&self.period, after),
+            Remembered::Next(t) => t,
+            Remembered::Unasked => next_inside(&self.period, after),
         }
     }
 
@@ -92,8 +92,8 @@ impl Watch {
         ensures { IsNextOf (starts self.now) after result }
     {
         match recalled(self.start, self.at, after) {
-            Kept::Next(t) => t,
-            Kept::Unasked => next_start(&self.period, after),
+            Remembered::Next(t) => t,
+            Remembered::Unasked => next_start(&self.period, after),
         }
     }
 
@@ -103,8 +103,8 @@ impl Watch {
         ensures { IsNextOf (turned self.now) after result }
     {
         match recalled(self.edge, self.at, after) {
-            Kept::Next(t) => t,
-            Kept::Unasked => next_edge(&self.period, after),
+            Remembered::Next(t) => t,
+            Remembered::Unasked => next_edge(&self.period, after),
         }
     }
 
@@ -112,7 +112,7 @@ impl Watch {
     pub(crate) fn inside(&self, t: Instant) -> bool
         ensures { result ≡ insides self.now t }
     {
-        match told(self.inside, self.at, t) {
+        match so_at(self.inside, self.at, t) {
             Some(holds) => holds,
             None => inside(&self.period, t),
         }
@@ -122,7 +122,7 @@ impl Watch {
     pub(crate) fn starts(&self, t: Instant) -> bool
         ensures { result ≡ starts self.now t }
     {
-        match told(self.start, self.at, t) {
+        match so_at(self.start, self.at, t) {
             Some(holds) => holds,
             None => starts(&self.period, t),
         }
@@ -181,7 +181,7 @@ impl Watch {
     pub(crate) fn keeps_on(&self, t: Instant) -> bool
         ensures { result ≡ true → turned self.now t ≡ false }
     {
-        match told(self.edge, self.at, t) {
+        match so_at(self.edge, self.at, t) {
             Some(turns) => !turns,
             None => false,
         }
@@ -192,39 +192,39 @@ impl Watch {
         ensures { self.new ≡ self.old }
     {
         match form {
-            Form::Each => self.inside = Kept::Next(self.next_inside(self.at)),
-            Form::Start => self.start = Kept::Next(self.next_start(self.at)),
-            Form::Span => self.edge = Kept::Next(self.next_edge(self.at)),
+            Form::Each => self.inside = Remembered::Next(self.next_inside(self.at)),
+            Form::Start => self.start = Remembered::Next(self.next_start(self.at)),
+            Form::Span => self.edge = Remembered::Next(self.next_edge(self.at)),
         }
     }
 
     /// What is kept of the next minute inside, looked for anew; what nobody asks stays unasked.
-    fn inside_from(&self, now: Instant) -> Kept
-        ensures { IsNextKept (insides self.now) now result }
+    fn inside_from(&self, now: Instant) -> Remembered
+        ensures { IsNextAsked (insides self.now) now result }
     {
         match self.inside {
-            Kept::Next(_) => Kept::Next(self.next_inside(now)),
-            Kept::Unasked => Kept::Unasked,
+            Remembered::Next(_) => Remembered::Next(self.next_inside(now)),
+            Remembered::Unasked => Remembered::Unasked,
         }
     }
 
     /// What is kept of the next start, looked for anew; what nobody asks stays unasked.
-    fn start_from(&self, now: Instant) -> Kept
-        ensures { IsNextKept (starts self.now) now result }
+    fn start_from(&self, now: Instant) -> Remembered
+        ensures { IsNextAsked (starts self.now) now result }
     {
         match self.start {
-            Kept::Next(_) => Kept::Next(self.next_start(now)),
-            Kept::Unasked => Kept::Unasked,
+            Remembered::Next(_) => Remembered::Next(self.next_start(now)),
+            Remembered::Unasked => Remembered::Unasked,
         }
     }
 
     /// What is kept of the next edge, looked for anew; what nobody asks stays unasked.
-    fn edge_from(&self, now: Instant) -> Kept
-        ensures { IsNextKept (turned self.now) now result }
+    fn edge_from(&self, now: Instant) -> Remembered
+        ensures { IsNextAsked (turned self.now) now result }
     {
         match self.edge {
-            Kept::Next(_) => Kept::Next(self.next_edge(now)),
-            Kept::Unasked => Kept::Unasked,
+            Remembered::Next(_) => Remembered::Next(self.next_edge(now)),
+            Remembered::Unasked => Remembered::Unasked,
         }
     }
 
@@ -243,18 +243,25 @@ impl Watch {
 }
 
 /// Copies of the periods, of which nothing was asked.
-pub fn watch_all(alloc: Global, periods: &[Period], at: Instant) -> Result<Vec<Watch>, Memory>
+pub fn watch_all(
+    alloc: Global,
+    periods: &[Period],
+    at: Instant,
+) -> Result<Vec<WatchedPeriod>, Memory>
     ensures { IfOk result (λ watches. watches.items ≡ periods.now) }
 {
     let mut watches = Vec::new(alloc);
     for p in periods {
-        watches.push(Watch::new(p.copied(alloc)?, at))?;
+        watches.push(WatchedPeriod::new(p.copied(alloc)?, at))?;
     }
     Ok(watches)
 }
 
 /// Equal periods, with what was asked of them.
-pub fn copied_watches(alloc: Global, watches: &[Watch]) -> Result<Vec<Watch>, Memory>
+pub fn copied_watches(
+    alloc: Global,
+    watches: &[WatchedPeriod],
+) -> Result<Vec<WatchedPeriod>, Memory>
     ensures { IfOk result (λ copies. copies.items ≡ watches.now) }
 {
     let mut copies = Vec::new(alloc);
@@ -266,7 +273,7 @@ pub fn copied_watches(alloc: Global, watches: &[Watch]) -> Result<Vec<Watch>, Me
 
 /// Asks what the entries and the limits want to know of their periods, once of each. It takes no
 /// memory.
-pub fn ask_all(watches: &mut [Watch], entries: &[PeriodicEntry], limits: &[LimitRule])
+pub fn ask_all(watches: &mut [WatchedPeriod], entries: &[PeriodicEntry], limits: &[LimitRule])
     ensures { watches.new ≡ watches.old }
 {
     ask_entries(watches, entries);
@@ -274,7 +281,7 @@ pub fn ask_all(watches: &mut [Watch], entries: &[PeriodicEntry], limits: &[Limit
 }
 
 /// Has the watches keep what the periodic entries ask of their periods.
-fn ask_entries(watches: &mut [Watch], entries: &[PeriodicEntry])
+fn ask_entries(watches: &mut [WatchedPeriod], entries: &[PeriodicEntry])
     ensures { watches.new ≡ watches.old }
 {
     for e in entries {
@@ -283,7 +290,7 @@ fn ask_entries(watches: &mut [Watch], entries: &[PeriodicEntry])
 }
 
 /// Has the watches keep what the limits ask: the next minute inside, where a limit has a period.
-fn ask_limits(watches: &mut [Watch], limits: &[LimitRule])
+fn ask_limits(watches: &mut [WatchedPeriod], limits: &[LimitRule])
     ensures { watches.new ≡ watches.old }
 {
     for limit in limits {
@@ -294,7 +301,7 @@ fn ask_limits(watches: &mut [Watch], limits: &[LimitRule])
 }
 
 /// Has one watch keep what a form asks; a number that is no period's changes nothing.
-fn ask_one(watches: &mut [Watch], id: PeriodId, form: Form)
+fn ask_one(watches: &mut [WatchedPeriod], id: PeriodId, form: Form)
     ensures { watches.new ≡ watches.old }
 {
     let n = id.0 as usize;
@@ -304,7 +311,7 @@ fn ask_one(watches: &mut [Watch], id: PeriodId, form: Form)
 }
 
 /// Asks again what is past at the instant. It takes no memory.
-pub fn pass_all(watches: &mut Vec<Watch>, now: Instant)
+pub fn pass_all(watches: &mut Vec<WatchedPeriod>, now: Instant)
     ensures { watches.new.items ≡ watches.old.items }
 {
     for w in watches.iter_mut() {

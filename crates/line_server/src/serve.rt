@@ -48,6 +48,7 @@ fn attend_at<M: Machine, R: Wait, L: Link, C: Clock, G: Gate>(
         pass,
         clock,
         reached,
+        held: 0,
     };
     attend(&mut clerk, link, hearing)
 }

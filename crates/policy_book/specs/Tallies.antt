@@ -11,7 +11,7 @@ use Rattle.policy_words.specs.Naming.{Names}
 use Rattle.policy_words.specs.Making.{with_new}
 use Rattle.policy_words.specs.LinesTogether.{LinesFault, unknown, twice, many, is_known, claim_of, same_claim, may_be_again, kind_of, most_of}
 use Rattle.policy_book.specs.declared.tallies.Counts.{Counts}
-use Rattle.policy_book.specs.declared.tallies.Tally.{Tally}
+use Rattle.policy_book.specs.declared.tallies.ClaimTally.{ClaimTally}
 use Rattle.policy_book.specs.declared.tallies.TallyFault.{TallyFault}
 use Rattle.policy_book.specs.declared.tallies.TallyFault.TheVariants.{Unknown, Twice, TooMany}
 
@@ -19,7 +19,7 @@ pub record Tallied : Type 0 where
   pub claims : List Claim
   pub counts : Counts
 
-abbrev pub seen_tally : Tally → Tallied
+abbrev pub seen_tally : ClaimTally → Tallied
 seen_tally t = record { claims = t.claims.keys; counts = t.counts }
 
 abbrev pub no_counts : Counts

@@ -8,7 +8,7 @@ ghost use Rattle.policy_book.specs.Faults.{IsLineFault};
 use crate::faults::BookFault;
 use crate::lines::Part;
 use crate::names::NameTables;
-use crate::tallies::{Tally, TallyFault};
+use crate::tallies::{ClaimTally, TallyFault};
 use std::alloc::Global;
 
 /// A fault of a line beside the others, with the line's number, from 1.
@@ -32,7 +32,7 @@ pub(crate) fn check_lines(
     ensures ok { OnOk result (first_fault (seen_names names.now) [] parts.now ≡ None) }
     ensures fault { IfErr result (IsLineFault (first_fault (seen_names names.now) [] parts.now)) }
 {
-    let mut tally = Tally::new(alloc);
+    let mut tally = ClaimTally::new(alloc);
     for part in parts {
         if let Some(fault) = tally.fault(names, &part.said) {
             return Err(fault_at(part.line, fault));

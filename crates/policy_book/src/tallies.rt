@@ -187,14 +187,14 @@ fn kind_of(said: &Said) -> Option<Kind>
 }
 
 /// What the lines before claim, and how many of each kind they have.
-pub(crate) struct Tally {
+pub(crate) struct ClaimTally {
     claims: IndexSet<Claim>,
     counts: Counts,
 }
 
-impl Drop for Tally {
+impl Drop for ClaimTally {
     fn drop(self) {
-        let Tally {
+        let ClaimTally {
             claims: _,
             counts: _,
         } = self;
@@ -219,12 +219,12 @@ fn put(claims: &mut IndexSet<Claim>, claim: Option<Claim>) -> Result<(), Memory>
     Ok(())
 }
 
-impl Tally {
+impl ClaimTally {
     /// Of no line, which takes no memory yet.
-    pub(crate) fn new(alloc: Global) -> Tally
+    pub(crate) fn new(alloc: Global) -> ClaimTally
         ensures { seen_tally result ≡ nothing_told }
     {
-        Tally {
+        ClaimTally {
             claims: IndexSet::new(alloc),
             counts: Counts::none(),
         }

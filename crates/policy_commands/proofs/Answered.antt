@@ -25,7 +25,7 @@ use Rattle.policy_words.specs.PolicyRead.{PolicyFault, built, by_lines, policy_r
 use Rattle.policy_words.specs.Valid.{IsWellFormed}
 use Rattle.policy_book.proofs.WellFormed.{build_is_well_formed}
 use Rattle.policy_text.proofs.CanonicalText.{canonical_is_read}
-use Rattle.policy_commands.specs.Ends.{EndView, told}
+use Rattle.policy_commands.specs.Ends.{EndView, ending}
 use Rattle.policy_commands.specs.Policies.{read_or_told, policy_in, safe_or_told, judged, judged_or_told, safe_in, HasTextFault, IsUnsafeText}
 use Rattle.policy_commands.specs.Commands.{laid_or_told, fmt_end, safe_or_end, check_end}
 use Rattle.policy_commands.specs.Meanings.{IsSafeText, SafeMeans, UnsafeMeans, FaultMeans, FmtFaultMeans, FmtKeeps}
@@ -49,7 +49,7 @@ module _ (text : List ℕ) where
   unfolding fmt_end policy_in
   fmt_is r e = ap (λ x. laid_or_told (read_or_told x)) e
 
-  to_safe : check_end text ≡ told 0 (codes "safe\n") → (r : Result NamedPolicy PolicyFault) → policy_read text ≡ r → IsSafeText text
+  to_safe : check_end text ≡ ending 0 (codes "safe\n") → (r : Result NamedPolicy PolicyFault) → policy_read text ≡ r → IsSafeText text
   to_safe h (Ok np) e = by (the_cycle np.policy.triggers) refl
     where
       by : (c : Option (List ℕ)) → the_cycle np.policy.triggers ≡ c → IsSafeText text
@@ -57,7 +57,7 @@ module _ (text : List ℕ) where
       by (Some es) c = let is : 0 ≡ 3 = sym (ap (λ (t : EndView). t.status) h) ∙ ap (λ (t : EndView). t.status) (check_read np (Some es) e c) in absurd (cc is)
   to_safe h (Err f) e = let is : 0 ≡ 2 = sym (ap (λ (t : EndView). t.status) h) ∙ ap (λ (t : EndView). t.status) (check_is (Err f) e) in absurd (cc is)
 
-  from_safe : IsSafeText text → check_end text ≡ told 0 (codes "safe\n")
+  from_safe : IsSafeText text → check_end text ≡ ending 0 (codes "safe\n")
   from_safe s = check_read s.policy None s.is ((tells s.policy.policy.triggers).0 s.safe)
 
   to_unsafe : (check_end text).status ≡ 3 → (r : Result NamedPolicy PolicyFault) → policy_read text ≡ r → IsUnsafeText text
@@ -144,9 +144,9 @@ module _ (text : List ℕ) (np : NamedPolicy) where
 pub fmt_keeps : FmtKeeps
 fmt_keeps text out h short = by (policy_read text) refl
   where
-    by : (r : Result NamedPolicy PolicyFault) → policy_read text ≡ r → (policy_read out ≡ policy_read text) × (fmt_end out ≡ told 0 out)
+    by : (r : Result NamedPolicy PolicyFault) → policy_read text ≡ r → (policy_read out ≡ policy_read text) × (fmt_end out ≡ ending 0 out)
     by (Ok np) e =
         let same : canonical_text np ≡ out = ap (λ (t : EndView). t.text) (sym (fmt_is text (Ok np) e) ∙ h) in
         let read : policy_read out ≡ Ok np = subst (λ (t : List ℕ). policy_read t ≡ Ok np) same (canonical_is_read np (well_formed text np e) (subst (λ (t : List ℕ). All (λ line. length line ≤ 4_096) (lines_of t)) (sym same) short)) in
-        (read ∙ sym e, fmt_is out (Ok np) read ∙ ap (λ (t : List ℕ). told 0 t) same)
+        (read ∙ sym e, fmt_is out (Ok np) read ∙ ap (λ (t : List ℕ). ending 0 t) same)
     by (Err f) e = let is : 2 ≡ 0 = ap (λ (t : EndView). t.status) (sym (fmt_is text (Err f) e) ∙ h) in absurd (cc is)

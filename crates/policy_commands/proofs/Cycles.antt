@@ -8,7 +8,7 @@ use Rattle.policy_words.specs.Naming.{NamedPolicy}
 use Rattle.policy_words.specs.PolicyRead.{edge_text, numbered_edge}
 use Rattle.policy_safety.specs.declared.admitting.CycleEdge.{CycleEdge}
 use Rattle.policy_safety.specs.Cycles.{seen_edge, dependencies_at, IsCycleOf}
-use Rattle.policy_commands.specs.Ends.{told}
+use Rattle.policy_commands.specs.Ends.{ending}
 use Rattle.policy_commands.specs.Policies.{judged, safe_or_told}
 
 told_edges : (np : NamedPolicy) (es : List CycleEdge) → flat_map (λ e. edge_text np.names (seen_edge e)) es ≡ flat_map (edge_text np.names) (map seen_edge es)
@@ -30,17 +30,17 @@ module _ (np : NamedPolicy) where
   numbered_edges [] = refl
   numbered_edges (n ∷ ns) = one_edge (item_at (dependencies np.policy.triggers) n) (dependencies_at np.policy.triggers ns) (flat_map (numbered_edge np) ns) (numbered_edges ns)
 
-unsafe_told : (np : NamedPolicy) (es : List CycleEdge) → IsCycleOf np.policy.triggers es → judged np ≡ Err (told 3 (codes "unsafe\n" ++ flat_map (λ e. edge_text np.names (seen_edge e)) es))
+unsafe_told : (np : NamedPolicy) (es : List CycleEdge) → IsCycleOf np.policy.triggers es → judged np ≡ Err (ending 3 (codes "unsafe\n" ++ flat_map (λ e. edge_text np.names (seen_edge e)) es))
 unfolding judged
 unsafe_told np es cycle =
     ap (safe_or_told np) cycle.cycle
-    ∙ ap (λ (t : List ℕ). Err (told 3 (codes "unsafe\n" ++ t))) (sym (told_edges np es ∙ ap (flat_map (edge_text np.names)) cycle.edges_are ∙ numbered_edges np cycle.numbers))
+    ∙ ap (λ (t : List ℕ). Err (ending 3 (codes "unsafe\n" ++ t))) (sym (told_edges np es ∙ ap (flat_map (edge_text np.names)) cycle.edges_are ∙ numbered_edges np cycle.numbers))
 
 -- a text that began with nothing
 pub unsafe_is : (np : NamedPolicy) (es : List CycleEdge) (start text : List ℕ) → IsCycleOf np.policy.triggers es → start ≡ [] → text ≡ start ++ (codes "unsafe\n" ++ flat_map (λ e. edge_text np.names (seen_edge e)) es)
-    → judged np ≡ Err (told 3 text)
+    → judged np ≡ Err (ending 3 text)
 unsafe_is np es start text cycle none is =
-    unsafe_told np es cycle ∙ ap (λ (t : List ℕ). Err (told 3 t)) (sym (is ∙ ap (λ (t : List ℕ). t ++ (codes "unsafe\n" ++ flat_map (λ e. edge_text np.names (seen_edge e)) es)) none))
+    unsafe_told np es cycle ∙ ap (λ (t : List ℕ). Err (ending 3 t)) (sym (is ∙ ap (λ (t : List ℕ). t ++ (codes "unsafe\n" ++ flat_map (λ e. edge_text np.names (seen_edge e)) es)) none))
 
 pub safe_told : (np : NamedPolicy) → IsSafe np.policy.triggers → judged np ≡ Ok np
 unfolding judged

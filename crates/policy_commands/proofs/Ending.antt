@@ -8,7 +8,7 @@ use Rattle.policy_text.specs.Texts.{IsToldFault}
 use Rattle.policy_commands.specs.declared.ends.End.{End}
 use Rattle.policy_commands.specs.declared.judging.Admitted.{Admitted}
 use Rattle.policy_commands.specs.declared.judging.Admitted.TheVariants.{Safe, Ended}
-use Rattle.policy_commands.specs.Ends.{EndView, told, seen_end}
+use Rattle.policy_commands.specs.Ends.{EndView, ending, seen_end}
 use Rattle.policy_commands.specs.Policies.{read_or_told, policy_in, judged, safe_or_told, judged_or_told, safe_in, HasTextFault, IsUnsafeText}
 use Rattle.policy_commands.specs.Commands.{laid_or_told, fmt_end, safe_or_end, check_end, IsLaid}
 use Rattle.policy_commands.specs.Admitting.{IsJudged, IsEnded, IsAdmitted}
@@ -18,16 +18,16 @@ module _ (text : List ℕ) where
   unfolding policy_in
   in_built np r = ap read_or_told r
 
-  pub in_faulty : (t : List ℕ) → IsToldFault text t → policy_in text ≡ Err (told 2 t)
+  pub in_faulty : (t : List ℕ) → IsToldFault text t → policy_in text ≡ Err (ending 2 t)
   unfolding policy_in
-  in_faulty t f = ap read_or_told f.is ∙ ap (λ (s : List ℕ). Err (told 2 s)) (sym f.told_so)
+  in_faulty t f = ap read_or_told f.is ∙ ap (λ (s : List ℕ). Err (ending 2 s)) (sym f.told_so)
 
   pub has_fault : (t : List ℕ) → IsToldFault text t → HasTextFault text
   has_fault t f = record { fault = f.fault; is = f.is }
 
   laid_is : (np : NamedPolicy) (end : End) → policy_read text ≡ Ok np → IsLaid np end → seen_end end ≡ fmt_end text
   unfolding fmt_end
-  laid_is np end r h = (λ i. told (h.zero i) (h.text i)) ∙ ap laid_or_told (sym (in_built np r))
+  laid_is np end r h = (λ i. ending (h.zero i) (h.text i)) ∙ ap laid_or_told (sym (in_built np r))
 
   module _ {E : Type 0} (np : NamedPolicy) (read : policy_read text ≡ Ok np) where
     pub laid_end : (r : Result End E) → IfOk r (IsLaid np) → IfOk r (λ end. seen_end end ≡ fmt_end text)
@@ -45,7 +45,7 @@ module _ (text : List ℕ) where
         zero_two a b = cc (a, b)
     laid_fault (Err e) h = tt
 
-  pub told_end : (t : List ℕ) → IsToldFault text t → told 2 t ≡ fmt_end text
+  pub told_end : (t : List ℕ) → IsToldFault text t → ending 2 t ≡ fmt_end text
   unfolding fmt_end
   told_end t f = ap laid_or_told (sym (in_faulty t f))
 
@@ -65,15 +65,15 @@ module _ (text : List ℕ) where
   unfolding safe_in
   ended_of end two f =
       record {
-        told = ap judged_or_told (in_faulty end.text.items f) ∙ ap (λ (n : ℕ). Err (told n end.text.items)) (sym two);
+        told = ap judged_or_told (in_faulty end.text.items f) ∙ ap (λ (n : ℕ). Err (ending n end.text.items)) (sym two);
         cause = inl (two, has_fault end.text.items f);
       }
 
-  check_safe : (np : NamedPolicy) → safe_in text ≡ Ok np → told 0 (codes "safe\n") ≡ check_end text
+  check_safe : (np : NamedPolicy) → safe_in text ≡ Ok np → ending 0 (codes "safe\n") ≡ check_end text
   unfolding check_end
   check_safe np s = ap safe_or_end (sym s)
 
-  pub check_all : {E : Type 0} (np : NamedPolicy) → safe_in text ≡ Ok np → (r : Result End E) → IfOk r (λ end. seen_end end ≡ told 0 (codes "safe\n")) → IfOk r (λ end. seen_end end ≡ check_end text)
+  pub check_all : {E : Type 0} (np : NamedPolicy) → safe_in text ≡ Ok np → (r : Result End E) → IfOk r (λ end. seen_end end ≡ ending 0 (codes "safe\n")) → IfOk r (λ end. seen_end end ≡ check_end text)
   check_all np safe (Ok end) e = e ∙ check_safe np safe
   check_all np safe (Err f) e = tt
 

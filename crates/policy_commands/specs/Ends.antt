@@ -6,8 +6,8 @@ pub record EndView : Type 0 where
   pub status : ℕ
   pub text : List ℕ
 
-abbrev pub told : ℕ → List ℕ → EndView
-told s t = record { status = s; text = t }
+abbrev pub ending : ℕ → List ℕ → EndView
+ending s t = record { status = s; text = t }
 
 abbrev pub seen_end : End → EndView
-seen_end e = told e.status e.text.items
+seen_end e = ending e.status e.text.items

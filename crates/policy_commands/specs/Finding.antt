@@ -3,16 +3,16 @@ use Rattle.std.specs.Prelude.{◌≡◌, ◌⊎◌, ◌<◌, ◌≤◌, ℕ, ⊤
 use Rattle.std.specs.declared.option.Option.{Option}
 use Rattle.gt_io.specs.Causes.{Rose}
 use Rattle.gt_io.specs.Shelf.{Contents, Lacks}
-use Rattle.policy_commands.specs.Ends.{EndView, told, seen_end}
-use Rattle.policy_commands.specs.declared.finding.Found.{Found}
-use Rattle.policy_commands.specs.declared.finding.Found.TheVariants.{Text, Ended}
+use Rattle.policy_commands.specs.Ends.{EndView, ending, seen_end}
+use Rattle.policy_commands.specs.declared.finding.FoundText.{FoundText}
+use Rattle.policy_commands.specs.declared.finding.FoundText.TheVariants.{Text, Ended}
 use Rattle.policy_commands.specs.declared.finding.TheConstants.{MAX_POLICY}
 
 abbrev pub read_fault : EndView
-read_fault = told 4 (codes "read fault\n")
+read_fault = ending 4 (codes "read fault\n")
 
 abbrev pub too_long : List ℕ → EndView
-too_long what = told 6 (codes "too long: " ++ what ++ codes "\n")
+too_long what = ending 6 (codes "too long: " ++ what ++ codes "\n")
 
 abbrev pub IsLongPolicy : List ℕ → Type 0
 IsLongPolicy text = MAX_POLICY < length text
@@ -30,16 +30,16 @@ MissesText hard contents name t =
     × IfSome contents (λ text_of. IsSomeAnd (text_of name) IsLongPolicy))
 
 -- what is found by a name; `hard` says that the shelf failed
-abbrev pub IsFoundText : Type 0 → Contents → List ℕ → Found → Type 0
+abbrev pub IsFoundText : Type 0 → Contents → List ℕ → FoundText → Type 0
 IsFoundText hard contents name (Text text) = IsStoredText contents name text.items
 IsFoundText hard contents name (Ended end) = MissesText hard contents name (seen_end end)
 
 -- what was found ends with 4 only where this holds
-abbrev pub IsFailure : Type 0 → Found → Type 0
+abbrev pub IsFailure : Type 0 → FoundText → Type 0
 IsFailure holds (Text text) = ⊤
 IsFailure holds (Ended end) = end.status ≡ 4 → holds
 
 -- this holds but where what was found ends with 4
-abbrev pub IsSteady : Type 0 → Found → Type 0
+abbrev pub IsSteady : Type 0 → FoundText → Type 0
 IsSteady holds (Text text) = holds
 IsSteady holds (Ended end) = (end.status ≡ 4) ⊎ holds

@@ -8,7 +8,7 @@ use Rattle.policy_words.specs.Canonical.{canonical_text}
 use Rattle.policy_words.specs.Naming.{NamedPolicy}
 use Rattle.policy_words.specs.PolicyRead.{policy_read}
 use Rattle.policy_words.specs.Spelling.{BeginsWith}
-use Rattle.policy_commands.specs.Ends.{told}
+use Rattle.policy_commands.specs.Ends.{ending}
 use Rattle.policy_commands.specs.Policies.{HasTextFault, IsUnsafeText}
 use Rattle.policy_commands.specs.Commands.{fmt_end, check_end}
 
@@ -20,7 +20,7 @@ pub record IsSafeText (text : List ℕ) : Type 0 where
   pub one : HasOneModel policy.policy
 
 abbrev pub SafeMeans : Type 0
-SafeMeans = (text : List ℕ) → (check_end text ≡ told 0 (codes "safe\n")) ↔ IsSafeText text
+SafeMeans = (text : List ℕ) → (check_end text ≡ ending 0 (codes "safe\n")) ↔ IsSafeText text
 
 abbrev pub UnsafeMeans : Type 0
 UnsafeMeans = (text : List ℕ) → ((check_end text).status ≡ 3) ↔ IsUnsafeText text
@@ -34,9 +34,9 @@ FmtFaultMeans = (text : List ℕ) → ((fmt_end text).status ≡ 2) ↔ HasTextF
 -- what was written stands for the same policy and is written again
 abbrev pub FmtKeeps : Type 0
 FmtKeeps =
-    (text out : List ℕ) → fmt_end text ≡ told 0 out
+    (text out : List ℕ) → fmt_end text ≡ ending 0 out
     → All (λ line. length line ≤ LONGEST_POLICY_LINE) (lines_of out)
-    → (policy_read out ≡ policy_read text) × (fmt_end out ≡ told 0 out)
+    → (policy_read out ≡ policy_read text) × (fmt_end out ≡ ending 0 out)
 
 -- each period line has at most 4,040 bytes
 abbrev pub HasBriefPeriods : List ℕ → Type 0
@@ -52,5 +52,5 @@ CanonicalLinesFit =
 -- and so what was written stands for the same policy and is written again
 abbrev pub FmtKeepsBrief : Type 0
 FmtKeepsBrief =
-    (text out : List ℕ) → fmt_end text ≡ told 0 out → HasBriefPeriods text
-    → (policy_read out ≡ policy_read text) × (fmt_end out ≡ told 0 out)
+    (text out : List ℕ) → fmt_end text ≡ ending 0 out → HasBriefPeriods text
+    → (policy_read out ≡ policy_read text) × (fmt_end out ≡ ending 0 out)

@@ -3,11 +3,11 @@ use Rattle.std.specs.Prelude.{◌≡◌, ℕ, List, Option, Some, None, Result, 
 use Rattle.gtrbac_model.specs.Safety.{the_cycle, IsSafe}
 use Rattle.policy_words.specs.Naming.{NamedPolicy}
 use Rattle.policy_words.specs.PolicyRead.{PolicyFault, policy_read, fault_text, unsafe_text}
-use Rattle.policy_commands.specs.Ends.{EndView, told}
+use Rattle.policy_commands.specs.Ends.{EndView, ending}
 
 abbrev pub read_or_told : Result NamedPolicy PolicyFault → Result NamedPolicy EndView
 read_or_told (Ok np) = Ok np
-read_or_told (Err f) = Err (told 2 (fault_text f))
+read_or_told (Err f) = Err (ending 2 (fault_text f))
 
 -- the policy, or its fault with status 2
 unfoldable pub policy_in : List ℕ → Result NamedPolicy EndView
@@ -15,7 +15,7 @@ policy_in text = read_or_told (policy_read text)
 
 abbrev pub safe_or_told : NamedPolicy → Option (List ℕ) → Result NamedPolicy EndView
 safe_or_told np None = Ok np
-safe_or_told np (Some edges) = Err (told 3 (unsafe_text np edges))
+safe_or_told np (Some edges) = Err (ending 3 (unsafe_text np edges))
 
 -- the policy where it is safe, or its least conflict cycle with status 3
 unfoldable pub judged : NamedPolicy → Result NamedPolicy EndView

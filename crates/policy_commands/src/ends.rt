@@ -1,6 +1,6 @@
 //! What a command prints, with its exit status.
 ghost use Rattle.std.specs.Prelude.{◌≡◌, IfOk};
-ghost use Rattle.policy_commands.specs.Ends.{seen_end, told};
+ghost use Rattle.policy_commands.specs.Ends.{seen_end, ending};
 
 use gt_base::{List, Memory};
 use std::alloc::Global;
@@ -14,7 +14,7 @@ pub struct End {
 
 /// An end with this text. Only want of memory is free.
 pub fn end_with(alloc: Global, status: u8, text: &[u8]) -> Result<End, Memory>
-    ensures { IfOk result (λ end. seen_end end ≡ told status text.now) }
+    ensures { IfOk result (λ end. seen_end end ≡ ending status text.now) }
 {
     Ok(End {
         status,

@@ -25,7 +25,7 @@ pub fn is_dashed(name: &str) -> bool
 
 /// The text of a policy that is not too long, or how a program ends without it.
 #[derive(Drop)]
-pub enum Found {
+pub enum FoundText {
     Text(Vec<u8>),
     Ended(End),
 }
@@ -34,7 +34,7 @@ pub enum Found {
 /// failed or has no such text, `too long: policy` with status 6 where that has more than 4,194,304
 /// bytes. Only want of memory is free. The shelf is asked for one text, and behind a call that
 /// failed or told the end for nothing.
-pub fn find_text<S: Shelf>(alloc: Global, shelf: &mut S, name: &str) -> Result<Found, Memory>
+pub fn find_text<S: Shelf>(alloc: Global, shelf: &mut S, name: &str) -> Result<FoundText, Memory>
     ensures found { IfOk result
         (IsFoundText (Rose (S.stock shelf.old).hard_faults (S.stock shelf.new).hard_faults)
         (S.stock shelf.old).contents name.now) }
@@ -46,9 +46,9 @@ pub fn find_text<S: Shelf>(alloc: Global, shelf: &mut S, name: &str) -> Result<F
     ensures once { AsksOnce (S.stock shelf.old) (S.stock shelf.new) }
 {
     match find_all(alloc, shelf, name, MAX_POLICY) {
-        Ok(text) => Ok(Found::Text(text)),
+        Ok(text) => Ok(FoundText::Text(text)),
         Err(ReadFault::Memory) => Err(AllocError),
-        Err(ReadFault::Failed) => Ok(Found::Ended(end_with(alloc, 4, b"read fault\n")?)),
-        Err(ReadFault::TooLong) => Ok(Found::Ended(end_with(alloc, 6, b"too long: policy\n")?)),
+        Err(ReadFault::Failed) => Ok(FoundText::Ended(end_with(alloc, 4, b"read fault\n")?)),
+        Err(ReadFault::TooLong) => Ok(FoundText::Ended(end_with(alloc, 6, b"too long: policy\n")?)),
     }
 }

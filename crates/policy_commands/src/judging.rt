@@ -1,7 +1,7 @@
 //! A policy as it is judged.
 ghost use Rattle.std.specs.Prelude.{◌≡◌, ◌<◌, ◌^◌, ◌⊎◌, length, codes, IfOk};
 ghost use Rattle.policy_safety.specs.Cycles.{IsCycleOf};
-ghost use Rattle.policy_commands.specs.Ends.{seen_end, told};
+ghost use Rattle.policy_commands.specs.Ends.{seen_end, ending};
 ghost use Rattle.policy_commands.specs.Policies.{HasTextFault, IsUnsafeText};
 ghost use Rattle.policy_commands.specs.Commands.{check_end};
 ghost use Rattle.policy_commands.specs.Admitting.{IsAdmitted, IsJudged, IsUnsafeEnd};
@@ -65,7 +65,7 @@ pub fn admit(alloc: Global, text: &[u8]) -> Result<Admitted, Memory>
 
 /// The end at a safe policy.
 fn safe_end(alloc: Global) -> Result<End, Memory>
-    ensures { IfOk result (λ end. seen_end end ≡ told 0 (codes "safe\n")) }
+    ensures { IfOk result (λ end. seen_end end ≡ ending 0 (codes "safe\n")) }
 {
     Ok(End {
         status: 0,

@@ -11,7 +11,7 @@ mod laying;
 mod printing;
 
 pub use ends::{End, end_with};
-pub use finding::{Found, MAX_POLICY, find_text, is_dashed};
+pub use finding::{FoundText, MAX_POLICY, find_text, is_dashed};
 pub use judging::{Admitted, admit, check};
 pub use laws::{check_means, fmt_means};
 pub use laying::lay_out;

@@ -8,6 +8,3 @@ mod scripts;
 
 pub use made::{MAX_SIZE, Made, make};
 pub use scripts::FIRST_MINUTE;
-
-#[cfg(test)]
-mod tests;

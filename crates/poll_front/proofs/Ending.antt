@@ -17,8 +17,8 @@ use Rattle.poll_front.specs.declared.front.RunEnd.TheVariants.{Stopped as EndSto
 use Rattle.poll_front.specs.declared.ends.Polled.{Polled}
 use Rattle.poll_front.specs.declared.ends.PollEnd.{PollEnd}
 use Rattle.poll_front.specs.declared.ends.PollEnd.TheVariants.{Ended, ReadFault, WriteFault, Spent, Full, Stopped, Worn}
-use Rattle.poll_front.specs.declared.seats.Seat.{Seat}
-use Rattle.poll_front.specs.declared.seats.Seat.TheVariants.{New, Open, Over}
+use Rattle.poll_front.specs.declared.seats.LinkRow.{LinkRow}
+use Rattle.poll_front.specs.declared.seats.LinkRow.TheVariants.{New, Open, Over}
 use Rattle.poll_front.specs.Fronts.{Turn, acted_of, port_bytes, course, faults_by, ended_by, EndsLink, HasOwnEnd}
 use Rattle.poll_front.specs.Tables.{Sits, IsLetIn, IsLetGo, LetsGo, EndsSeat, AreOpenSeats, Went, Ran, MayGoOn, RunsTo, FaultsAreLast, EndsAreLast, count_among, faults_told, polled_in, port_behind}
 use Rattle.poll_front.proofs.Counting.{shown_same}
@@ -26,11 +26,11 @@ use Rattle.poll_front.proofs.Looping.{seat_of}
 use Rattle.poll_front.proofs.Seating.{ends_blank, ends_stopped}
 
 -- the links that are open at the end are let go one after the other
-pub lets_none : (a : Harbour) (seats : List Seat) (ends : List Polled) → ends ≡ [] → LetsGo a a seats 0 ends
+pub lets_none : (a : Harbour) (seats : List LinkRow) (ends : List Polled) → ends ≡ [] → LetsGo a a seats 0 ends
 lets_none a seats ends none =
     record { told = refl; nexts = refl; opened = refl; faults = refl; told_ends = refl; polled = none; each = λ i s low at. absurd (omega (arith, low)); ahead = λ k high. refl }
 
-pub lets_next : (a b d : Harbour) (seats : List Seat) (ends : List Polled) (n : ℕ) (seat : Seat) (e : Polled) → LetsGo a b seats n ends → n < length seats → seat ≡ get_or seats n seat → EndsSeat b d (n + 1) seat e
+pub lets_next : (a b d : Harbour) (seats : List LinkRow) (ends : List Polled) (n : ℕ) (seat : LinkRow) (e : Polled) → LetsGo a b seats n ends → n < length seats → seat ≡ get_or seats n seat → EndsSeat b d (n + 1) seat e
     → LetsGo a d seats (n + 1) (ends ++ e ∷ [])
 lets_next a b d seats ends n seat e x low is y =
     record {
@@ -44,13 +44,13 @@ lets_next a b d seats ends n seat e x low is y =
           dite (ℕ_discrete i n) (λ here.
           let s_is : s ≡ seat = sym (get_or_from_slice_get seats i s seat at) ∙ ap (λ (j : ℕ). get_or seats j seat) here ∙ sym is in
           let p : d.port (n + 1) ≡ port_behind seat a.nexts (a.port (n + 1)) = y.port ∙ ap (λ (m : ℕ). port_behind seat m (b.port (n + 1))) x.nexts ∙ ap (port_behind seat a.nexts) (x.ahead (n + 1) (omega arith)) in
-          subst (λ (j : ℕ). d.port (j + 1) ≡ port_behind s a.nexts (a.port (j + 1))) (sym here) (subst (λ (w : Seat). d.port (n + 1) ≡ port_behind w a.nexts (a.port (n + 1))) (sym s_is) p)) (λ other.
+          subst (λ (j : ℕ). d.port (j + 1) ≡ port_behind s a.nexts (a.port (j + 1))) (sym here) (subst (λ (w : LinkRow). d.port (n + 1) ≡ port_behind w a.nexts (a.port (n + 1))) (sym s_is) p)) (λ other.
           y.rest.others (i + 1) (λ same. other (omega (arith, same))) ∙ x.each i s (omega (arith, under, other)) at);
       ahead = λ k high. y.rest.others k (λ same. absurd (omega (arith, same, high))) ∙ x.ahead k (omega (arith, high));
     }
 
 -- the seats behind stay open
-pub open_next : (b d : Harbour) (seats : List Seat) (n : ℕ) → AreOpenSeats b n seats → KeepsRest b d (n + 1) → AreOpenSeats d (n + 1) seats
+pub open_next : (b d : Harbour) (seats : List LinkRow) (n : ℕ) → AreOpenSeats b n seats → KeepsRest b d (n + 1) → AreOpenSeats d (n + 1) seats
 open_next b d seats n x r = λ i s high at is.
     let o = x i s (omega (arith, high)) at is in
     let last = o.last in
@@ -69,19 +69,19 @@ let_go_by nexts q Stopped own f = absurd own
 abbrev Has : NamedPolicy → Bytes → Port → ℕ → List Acted → Polled → Type 0
 Has np start q nexts acted e = EndsLink np start (course q) acted e × IsLetIn q.others e.outcome × IsLetGo nexts q.finished e.outcome
 
-link_ended : (np : NamedPolicy) (start : Bytes) (q : Port) (nexts : ℕ) (acted : List Acted) (s : Seat) → Sits np start q acted s → Has np start (port_behind s nexts q) nexts acted (polled_in s)
+link_ended : (np : NamedPolicy) (start : Bytes) (q : Port) (nexts : ℕ) (acted : List Acted) (s : LinkRow) → Sits np start q acted s → Has np start (port_behind s nexts q) nexts acted (polled_in s)
 link_ended np start q nexts acted New x =
     let few = x.4 in
     (subst (λ (l : List Acted). EndsLink np start (course q) l (polled_in New)) (sym x.0) (ends_blank np start (course q) Stopped x.1 (inl refl) x.2), few, refl)
 link_ended np start q nexts acted (Open b) x = (ends_stopped np start (course q) b.value acted x.0, x.2, refl)
 link_ended np start q nexts acted (Over e) x = (x.0, x.2, let_go_by nexts q.finished e.outcome x.3 x.1)
 
-same_last : (s : Seat) (nexts : ℕ) (q : Port) → (port_behind s nexts q).last ≡ q.last
+same_last : (s : LinkRow) (nexts : ℕ) (q : Port) → (port_behind s nexts q).last ≡ q.last
 same_last New nexts q = refl
 same_last (Open b) nexts q = refl
 same_last (Over e) nexts q = refl
 
-module _ {a b : Harbour} {seats : List Seat} {ends : List Polled} (l : LetsGo a b seats (length seats) ends) where
+module _ {a b : Harbour} {seats : List LinkRow} {ends : List Polled} (l : LetsGo a b seats (length seats) ends) where
   polled_is : ends ≡ map polled_in seats
   polled_is = l.polled ∙ ap (map polled_in) (take_all (length seats) seats (omega arith))
 
@@ -114,7 +114,7 @@ module _ {a b : Harbour} {seats : List Seat} {ends : List Polled} (l : LetsGo a 
   runs_to start draws EndWorn g = ((g.0.0, l.told ∙ g.0.1), g.1, g.2)
   runs_to start draws Memory g = let few = g.1 in let same = l.opened in (subst MayGoOn (sym l.told) g.0, omega (arith, few, same), g.2)
 
-pub ran_of : {M : Type 0} {np : NamedPolicy} {first : List Entry} {legal : List Entry → Type 0} {now : List Entry → ℕ} {before after : Holder M} {clock clock' : Option (ℕ → ℕ)} {start a b : Harbour} {seats : List Seat} {ends : List Polled} {end : RunEnd}
+pub ran_of : {M : Type 0} {np : NamedPolicy} {first : List Entry} {legal : List Entry → Type 0} {now : List Entry → ℕ} {before after : Holder M} {clock clock' : Option (ℕ → ℕ)} {start a b : Harbour} {seats : List LinkRow} {ends : List Polled} {end : RunEnd}
     → Went (service np first legal now) before after clock clock' start a seats end → LetsGo a b seats (length seats) ends → Ran np first legal now before.number before after clock clock' start b ends end
 ran_of {np = np} {after = after} {start = start} {a = a} {b = b} {seats = seats} {ends = ends} {end = end} w l =
     let t = w.tabled in

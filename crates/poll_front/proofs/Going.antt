@@ -1,7 +1,8 @@
 -- Steps of a link one after another.
-use Rattle.std.proofs.Common.{◌≡◌, ℕ, ◌+◌, ◌<◌, true, false, List, [], ◌∷◌, ◌++◌, length, get_or, refl, sym, subst, arith, append_assoc, Result, Ok, Err}
+use Rattle.std.proofs.Common.{◌≡◌, ℕ, zero, suc, ◌+◌, ◌<◌, ◌≤◌, true, false, List, [], ◌∷◌, ◌++◌, length, take, get_or, refl, sym, subst, ◌∙◌, arith, append_assoc, Result, Ok, Err}
+use Rattle.std.proofs.lemmas.List.{get_or-drop, get_or-take}
 use Rattle.gt_base.specs.Roomy.{Roomy}
-use Rattle.gt_io.specs.Frames.{pushed}
+use Rattle.gt_io.specs.Frames.{Frame, pushed, PushesFront}
 use Rattle.gt_io.specs.Ports.{Port, Harbour, is_over}
 use Rattle.gt_text.specs.Lines.{is_feed}
 use Rattle.turn_lock.proofs.Totals.{each-append}
@@ -22,7 +23,7 @@ use Rattle.poll_front.specs.declared.states.LinkState.{LinkState}
 use Rattle.poll_front.specs.declared.states.Yield.{Yield}
 use Rattle.poll_front.specs.declared.states.Yield.TheVariants.{End}
 use Rattle.poll_front.specs.declared.states.RunCounters.{RunCounters}
-use Rattle.poll_front.specs.Fronts.{Turn, FrontSpot, acted_of, course, Running, StepsTo, Comes, IsWritten, CallsOn, CanServe, CountsOne, Pushed, PushesOut, Filled, FillsUp, TellsLine}
+use Rattle.poll_front.specs.Fronts.{Turn, FrontSpot, acted_of, course, port_bytes, waiting_bytes, LinkStands, Running, TakesFront, StepsTo, Comes, IsWritten, CallsOn, CanServe, CountsOne, Pushed, PushesOut, Filled, FillsUp, TellsLine}
 use Rattle.poll_front.proofs.Calls.{live_kept}
 use Rattle.poll_front.proofs.Hearing.{Hears}
 use Rattle.poll_front.proofs.Turning.{running_on, acted_here}
@@ -71,6 +72,23 @@ module _ {M : Type 0} (v : Service) where
   pub steps_byte : (p : FrontSpot M) (a : Harbour) (c : ℕ) (s : LinkState) (byte : ℕ) → s.from < s.upto → byte ≡ get_or s.chunk s.from 0 → is_feed byte ≡ false → StepsTo v p p a a c s (record s { framer = pushed s.framer byte; from = s.from + 1 }) (Ok tt)
   steps_byte p a c s byte some is other =
       record { steps = λ o start turns fed r stands. record { more = []; own = tt; running = r; comes = (fed ++ byte ∷ [], stands_byte stands byte some is other); worn_out = λ n e. absurd cc } }
+
+  -- and so do the bytes up to a line feed
+  steps_many : (p : FrontSpot M) (a : Harbour) (c : ℕ) (s : LinkState) (n : ℕ) (frame : Frame) → s.from + n ≤ s.upto → PushesFront s.framer (waiting_bytes s) n frame → StepsTo v p p a a c s (record s { framer = frame; from = s.from + n }) (Ok tt)
+  unfolding PushesFront
+  steps_many p a c s zero frame within front =
+      subst (λ (f : Frame). StepsTo v p p a a c s (record s { framer = f; from = s.from + 0 }) (Ok tt)) (sym front)
+      (record { steps = λ o start turns fed r stands. record { more = []; own = tt; running = r; comes = (fed, subst (λ (k : ℕ). LinkStands v.policy start (port_bytes (a.port c)) (record s { from = k }) fed (acted_of c turns)) (omega arith) stands); worn_out = λ n e. absurd cc } })
+  steps_many p a c s (suc n) frame within (m, front, other, is) =
+      let one : (s.from + n) + 1 ≡ s.from + suc n = omega arith in
+      let byte = get_or (waiting_bytes s) n 0 in
+      let at : byte ≡ get_or s.chunk (s.from + n) 0 = get_or-drop s.from (take s.upto s.chunk) n 0 ∙ get_or-take s.upto s.chunk (s.from + n) 0 (omega (arith, within)) in
+      subst (λ (f : Frame). StepsTo v p p a a c s (record s { framer = f; from = s.from + suc n }) (Ok tt)) (sym is)
+      (subst (λ (k : ℕ). StepsTo v p p a a c s (record s { framer = pushed m byte; from = k }) (Ok tt)) one
+      (steps_then (steps_many p a c s n m (omega (arith, within)) front) (steps_byte p a c (record s { framer = m; from = s.from + n }) byte (omega (arith, within)) at other)))
+
+  pub steps_front : (p : FrontSpot M) (a : Harbour) (c : ℕ) (s s' : LinkState) → TakesFront s s' → StepsTo v p p a a c s s' (Ok tt)
+  steps_front p a c s s' f = subst (λ (z : LinkState). StepsTo v p p a a c s z (Ok tt)) (sym f.rest) (steps_many p a c s f.many s'.framer f.within f.front)
 
   -- a line is heard, and told what it is told
   module _ (p p' : FrontSpot M) (a b : Harbour) (c : ℕ) (s : LinkState) (byte : ℕ) (talk : Talk) (room : Roomy ℕ) (live : is_over (a.port c).last ≡ false) (wrote : IsWritten s) (some : s.from < s.upto) (is : byte ≡ get_or s.chunk s.from 0) where
@@ -162,4 +180,20 @@ can_fill {np} {a} {b} {c} {counters} {s} {s'} q x calls none f =
       told = x.told;
       waits = (omega arith, low);
       talk = record { actor = x.talk.actor; asked = omega (arith, asked, few, none); denied = omega (arith, denied, few, none); calls = omega (arith, all, few, none) };
+    })
+
+pub can_front : {np : NamedPolicy} {a : Harbour} {c : ℕ} {counters : RunCounters} {s s' : LinkState} → CanServe np a c counters s → TakesFront s s' → CanServe np a c counters s'
+can_front {np} {a} {c} {counters} {s} {s'} x f =
+    let n = f.many in
+    let within = f.within in
+    let w = x.waits in
+    let asked = x.talk.asked in
+    let denied = x.talk.denied in
+    let all = x.talk.calls in
+    subst (λ (z : LinkState). CanServe np a c counters z) (sym f.rest)
+    (record {
+      live = x.live;
+      told = x.told;
+      waits = (within, w.1);
+      talk = record { actor = x.talk.actor; asked = omega (arith, asked, within); denied = omega (arith, denied, within); calls = omega (arith, all, within) };
     })

@@ -14,8 +14,8 @@ use Rattle.poll_front.specs.declared.ends.Polled.{Polled}
 use Rattle.poll_front.specs.declared.ends.PollEnd.{PollEnd}
 use Rattle.poll_front.specs.declared.ends.PollEnd.TheVariants.{Ended, ReadFault, WriteFault, Spent, Full, Stopped, Worn}
 use Rattle.poll_front.specs.declared.front.RunEnd.TheVariants.{Worn as EndWorn}
-use Rattle.poll_front.specs.declared.seats.Seat.{Seat}
-use Rattle.poll_front.specs.declared.seats.Seat.TheVariants.{New, Over}
+use Rattle.poll_front.specs.declared.seats.LinkRow.{LinkRow}
+use Rattle.poll_front.specs.declared.seats.LinkRow.TheVariants.{New, Over}
 use Rattle.poll_front.specs.Fronts.{Turn, FrontSpot, acted_of, port_bytes, course}
 use Rattle.poll_front.specs.Tables.{CanServeSeat, TakesState, IsBlank, Sits, SeatGone, SeatServed, Tabled, AreUnwornEnds, MayGoOn, RunsTo, faults_told, is_worn_end, polled_in}
 use Rattle.gt_io.proofs.Counting.{count_less}
@@ -27,14 +27,14 @@ use Rattle.poll_front.proofs.Tabling.{tabled_owed, tabled_served, tabled_seated,
 use Rattle.poll_front.specs.declared.front.TheConstants.{MAX_OPEN}
 
 -- no seat has an end by which the pass is worn
-abbrev pub AreUnwornSeats : List Seat → Type 0
-AreUnwornSeats seats = (i : ℕ) (s : Seat) → slice_get seats i ≡ Some s → IsCalm s
+abbrev pub AreUnwornSeats : List LinkRow → Type 0
+AreUnwornSeats seats = (i : ℕ) (s : LinkRow) → slice_get seats i ≡ Some s → IsCalm s
 
 -- the last seat is not worn, nor were the others
-unworn_push : (seats : List Seat) (s : Seat) → AreUnwornSeats seats → IsCalm s → AreUnwornSeats (seats ++ s ∷ [])
+unworn_push : (seats : List LinkRow) (s : LinkRow) → AreUnwornSeats seats → IsCalm s → AreUnwornSeats (seats ++ s ∷ [])
 unworn_push seats s all one = λ i z at. ⊎_elim (λ here. subst IsCalm (sym here.1) one) (λ before. all i z before.1) (push_cases seats i s z at)
 
-unworn_set : (seats : List Seat) (i : ℕ) (s : Seat) → i < length seats → AreUnwornSeats seats → IsCalm s → AreUnwornSeats (set seats i s)
+unworn_set : (seats : List LinkRow) (i : ℕ) (s : LinkRow) → i < length seats → AreUnwornSeats seats → IsCalm s → AreUnwornSeats (set seats i s)
 unworn_set seats i s low all one = λ j z at. ⊎_elim (λ here. subst IsCalm (sym here.1) one) (λ away. all j z away.1) (set_cases seats i j s z low at)
 
 false_true : false ≡ true → ⊥
@@ -61,21 +61,21 @@ worn_of Full e = absurd (false_true e)
 worn_of Stopped e = absurd (false_true e)
 
 -- what the links of these seats come to
-pub seat_of : (seats : List Seat) (i : ℕ) (e : Polled) → slice_get (map polled_in seats) i ≡ Some e → (s : Seat) × (slice_get seats i ≡ Some s) × (e ≡ polled_in s)
+pub seat_of : (seats : List LinkRow) (i : ℕ) (e : Polled) → slice_get (map polled_in seats) i ≡ Some e → (s : LinkRow) × (slice_get seats i ≡ Some s) × (e ≡ polled_in s)
 seat_of seats i e at =
     let mapped : option_map polled_in (slice_get seats i) ≡ Some e = sym (slice_get-map polled_in seats i) ∙ at in
     ⊎_elim (λ some. let is : Some (polled_in some.0) ≡ Some e = sym (ap (option_map polled_in) some.2) ∙ mapped in (some.0, some.2, cc)) (λ none. let no : None ≡ Some e = sym (ap (option_map polled_in) none.1) ∙ mapped in absurd cc) (slice_get_cases seats i).1
 
-pub unworn_ends : (seats : List Seat) → AreUnwornSeats seats → AreUnwornEnds (map polled_in seats)
+pub unworn_ends : (seats : List LinkRow) → AreUnwornSeats seats → AreUnwornEnds (map polled_in seats)
 unworn_ends seats calm = λ i e at. let s = seat_of seats i e at in ap (λ (z : Polled). is_worn_end z.outcome) s.2 ∙ calm i s.0 s.1
 
-over_at : (seats : List Seat) (i : ℕ) (s : Seat) (e : Polled) → i < length seats → s ≡ Over e → slice_get (map polled_in (set seats i s)) i ≡ Some e
+over_at : (seats : List LinkRow) (i : ℕ) (s : LinkRow) (e : Polled) → i < length seats → s ≡ Over e → slice_get (map polled_in (set seats i s)) i ≡ Some e
 over_at seats i s e low is =
     let long = length-set seats i s in
     slice_get-map polled_in (set seats i s) i ∙ ap (option_map polled_in) (slice_get-get_or (set seats i s) i s (omega (arith, low, long)) ∙ ap Some (get_or-set_same seats i s s low ∙ is))
 
 -- the table as the loop over events has it
-pub record Held {M : Type 0} (v : Service) (o p : FrontSpot M) (start a : Harbour) (seats : List Seat) (busy : ℕ) : Type 0 where
+pub record Held {M : Type 0} (v : Service) (o p : FrontSpot M) (start a : Harbour) (seats : List LinkRow) (busy : ℕ) : Type 0 where
   pub turns : List Turn
   pub tabled : Tabled v o p start a seats busy turns
   pub unworn : AreUnwornSeats seats
@@ -83,7 +83,7 @@ pub record Held {M : Type 0} (v : Service) (o p : FrontSpot M) (start a : Harbou
   pub sound : MayGoOn a.told
   pub low : busy ≤ 1024
 
-module _ {M : Type 0} {v : Service} {o p : FrontSpot M} {start a : Harbour} {seats : List Seat} {busy : ℕ} (x : Held v o p start a seats busy) where
+module _ {M : Type 0} {v : Service} {o p : FrontSpot M} {start a : Harbour} {seats : List LinkRow} {busy : ℕ} (x : Held v o p start a seats busy) where
   -- the table behind an event that opens no link and makes none ready
   pub tabled_told : {b : Harbour} {result : Result PortEvent Failed} → Happens a b result → b.opened ≡ a.opened → b.faults ≤ a.faults + faults_told b.told → ((k : ℕ) → b.port k ≡ a.port k) → Tabled v o p start b seats busy x.turns
   tabled_told {b} h opened few same = tabled_owed v o p start a b seats busy x.turns x.tabled opened h.cause.later (told_sound a.told x.sound) few h.ends (λ k. same_owed (a.port k) (b.port k) (same k))
@@ -97,13 +97,13 @@ module _ {M : Type 0} {v : Service} {o p : FrontSpot M} {start a : Harbour} {sea
 
   -- the table behind the opening of a link
   module _ {b : Harbour} {c : ℕ} (n : Nexts a b (Ok (Opened c))) where
-    abbrev Seated : Harbour → List Seat → ℕ → Type 0
+    abbrev Seated : Harbour → List LinkRow → ℕ → Type 0
     Seated d seats' busy' = Held v o p start d seats' busy' × (length seats' ≡ length seats + 1) × (d.told ≡ Some (Ok (Opened c)))
 
-    seated : (d : Harbour) (s : Seat) (seats' : List Seat) (busy' : ℕ) → Tabled v o p start d (seats ++ s ∷ []) busy' x.turns → IsCalm s → d.opened ≡ a.opened + 1 → (d.port c).owed ≡ false → ((k : ℕ) → k ≢ c → d.port k ≡ a.port k) → busy' ≤ 1024 → d.told ≡ b.told → seats' ≡ seats ++ s ∷ [] → Seated d seats' busy'
+    seated : (d : Harbour) (s : LinkRow) (seats' : List LinkRow) (busy' : ℕ) → Tabled v o p start d (seats ++ s ∷ []) busy' x.turns → IsCalm s → d.opened ≡ a.opened + 1 → (d.port c).owed ≡ false → ((k : ℕ) → k ≢ c → d.port k ≡ a.port k) → busy' ≤ 1024 → d.told ≡ b.told → seats' ≡ seats ++ s ∷ [] → Seated d seats' busy'
     seated d s seats' busy' t calm opened unowed away low told is =
         let told_is : d.told ≡ Some (Ok (Opened c)) = told ∙ n.told in
-        subst (λ (l : List Seat). Seated d l busy') (sym is)
+        subst (λ (l : List LinkRow). Seated d l busy') (sym is)
         (record { turns = x.turns; tabled = t; unworn = unworn_push seats s x.unworn calm; unowed = unowed_next d c (n.happens.number c refl) opened unowed away; sound = subst MayGoOn (sym told_is) tt; low = low }, length-append seats (s ∷ []), told_is)
 
     is : c ≡ a.opened + 1
@@ -115,10 +115,10 @@ module _ {M : Type 0} {v : Service} {o p : FrontSpot M} {start a : Harbour} {sea
     blank_is : IsBlank (a.port (a.opened + 1))
     blank_is = subst (λ (j : ℕ). IsBlank (a.port j)) is (n.happens.fresh c refl)
 
-    opened_full : (d : Harbour) (seats' : List Seat) (busy' : ℕ) → MAX_OPEN ≤ busy → Finishes b d c → busy' ≡ busy → seats' ≡ seats ++ Over (record { asked = 0; denied = 0; outcome = Full }) ∷ [] → Seated d seats' busy'
+    opened_full : (d : Harbour) (seats' : List LinkRow) (busy' : ℕ) → MAX_OPEN ≤ busy → Finishes b d c → busy' ≡ busy → seats' ≡ seats ++ Over (record { asked = 0; denied = 0; outcome = Full }) ∷ [] → Seated d seats' busy'
     opened_full d seats' busy' many f busy_is seats_are =
         let h = n.happens in
-        let s : Seat = Over (record { asked = 0; denied = 0; outcome = Full }) in
+        let s : LinkRow = Over (record { asked = 0; denied = 0; outcome = Full }) in
         let others = open_among a.port a.opened in
         let done : Port = record (newly others (a.port (a.opened + 1))) { owed = false; finished = Some b.nexts } in
         let begun = port_bytes (start.port (a.opened + 1)) in
@@ -138,10 +138,10 @@ module _ {M : Type 0} {v : Service} {o p : FrontSpot M} {start a : Harbour} {sea
         (subst (λ (q : Port). Sits v.policy begun q [] s) (sym port) (ends_blank v.policy begun (course done) Full same (refl, refl, refl, refl) (refl, omega (arith, many, count)), (b.nexts, refl), omega (arith, many, low, count), tt)) (omega (arith, busy_is, count, none)) in
         seated d s seats' busy' t refl opened (ap (λ (q : Port). q.owed) f.port) away (omega (arith, busy_is, low)) f.rest.told seats_are
 
-    opened_seated : (seats' : List Seat) (busy' : ℕ) → busy < MAX_OPEN → busy' ≡ busy + 1 → seats' ≡ seats ++ New ∷ [] → Seated b seats' busy'
+    opened_seated : (seats' : List LinkRow) (busy' : ℕ) → busy < MAX_OPEN → busy' ≡ busy + 1 → seats' ≡ seats ++ New ∷ [] → Seated b seats' busy'
     opened_seated seats' busy' few busy_is seats_are =
         let h = n.happens in
-        let s : Seat = New in
+        let s : LinkRow = New in
         let count = x.tabled.count in
         let kept = h.cause.kept in
         let opened : b.opened ≡ a.opened + 1 = h.opened in
@@ -152,7 +152,7 @@ module _ {M : Type 0} {v : Service} {o p : FrontSpot M} {start a : Harbour} {sea
         (subst (λ (q : Port). Sits v.policy (port_bytes (start.port (a.opened + 1))) q [] s) (sym here_is) (refl, x.tabled.ahead (a.opened + 1) (omega arith), refl, refl, omega (arith, few, count))) (omega (arith, busy_is, count, one)) in
         seated b s seats' busy' t refl opened (ap (λ (q : Port). q.owed) (opened_here a b c h)) away (omega (arith, busy_is, few)) refl seats_are
 
-    pub opened_next : (d : Harbour) (seats' : List Seat) (busy' : ℕ) → (MAX_OPEN ≤ busy → Finishes b d c × (busy' ≡ busy) × (seats' ≡ seats ++ Over (record { asked = 0; denied = 0; outcome = Full }) ∷ []))
+    pub opened_next : (d : Harbour) (seats' : List LinkRow) (busy' : ℕ) → (MAX_OPEN ≤ busy → Finishes b d c × (busy' ≡ busy) × (seats' ≡ seats ++ Over (record { asked = 0; denied = 0; outcome = Full }) ∷ []))
         → (busy < MAX_OPEN → (d ≡ b) × (busy' ≡ busy + 1) × (seats' ≡ seats ++ New ∷ [])) → Seated d seats' busy'
     opened_next d seats' busy' full free =
         dite (dec_lt busy 1024) (λ few. let q = free few in subst (λ (z : Harbour). Seated z seats' busy') (sym q.0) (opened_seated seats' busy' few q.1 q.2)) (λ many.
@@ -167,7 +167,7 @@ module _ {M : Type 0} {v : Service} {o p : FrontSpot M} {start a : Harbour} {sea
         let kept = h.cause.kept in
         tabled_owed v o p start a b seats busy x.turns x.tabled h.opened h.cause.later (told_sound a.told x.sound) (omega (arith, kept)) h.ends (λ k. ready_owed a b c k h)
 
-    module _ {seat : Seat} (value : seat ≡ get_or seats (c - 1) seat) where
+    module _ {seat : LinkRow} (value : seat ≡ get_or seats (c - 1) seat) where
       first_one : 1 ≤ c
       first_one = (n.happens.known c refl).0
 
@@ -180,17 +180,17 @@ module _ {M : Type 0} {v : Service} {o p : FrontSpot M} {start a : Harbour} {sea
       back : c - 1 + 1 ≡ c
       back = let one = first_one in omega (arith, one)
 
-      pub ready_served : (mid : Seat) → TakesState seat mid → o.counters.calls ≡ 0 → length seats < 100_000 → CanServeSeat v.policy b c p.counters mid
+      pub ready_served : (mid : LinkRow) → TakesState seat mid → o.counters.calls ≡ 0 → length seats < 100_000 → CanServeSeat v.policy b c p.counters mid
       ready_served mid taken none few =
           let last = (n.happens.known c refl).1 in
           let opened = n.happens.opened in
           can_serve v.policy (port_bytes (start.port c)) b c p.counters (acted_of c x.turns) seat mid taken first_one (omega (arith, last, opened)) (subst (λ (j : ℕ). Sits v.policy (port_bytes (start.port j)) (b.port j) (acted_of j x.turns) seat) back (tabled_ready.sits (c - 1) seat at))
           (counters_few x.tabled (omega (arith, few)) none)
 
-      pub kept_seats : (seat' : Seat) → seat' ≡ seat → set seats (c - 1) seat' ≡ seats
+      pub kept_seats : (seat' : LinkRow) → seat' ≡ seat → set seats (c - 1) seat' ≡ seats
       kept_seats seat' same = ap (set seats (c - 1)) (same ∙ value) ∙ set-get_or seats (c - 1) seat
 
-      module _ {p' : FrontSpot M} {d : Harbour} {mid seat' : Seat} {result : Option PollEnd} (taken : TakesState seat mid) (w : SeatServed v p p' b d c mid seat' result) where
+      module _ {p' : FrontSpot M} {d : Harbour} {mid seat' : LinkRow} {result : Option PollEnd} (taken : TakesState seat mid) (w : SeatServed v p p' b d c mid seat' result) where
         served : SeatServed v p p' b d c seat seat' result
         served = served_from v p p' b d c seat mid seat' result taken w
 

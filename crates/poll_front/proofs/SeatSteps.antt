@@ -7,21 +7,21 @@ use Rattle.poll_front.specs.declared.ends.PollEnd.{PollEnd}
 use Rattle.poll_front.specs.declared.ends.PollEnd.TheVariants.{Ended, ReadFault, WriteFault, Spent, Full, Stopped, Worn}
 use Rattle.poll_front.specs.declared.states.LinkState.{LinkState}
 use Rattle.poll_front.specs.declared.states.Yield.TheVariants.{Later, End}
-use Rattle.poll_front.specs.declared.seats.Seat.TheVariants.{New, Open, Over}
+use Rattle.poll_front.specs.declared.seats.LinkRow.TheVariants.{New, Open, Over}
 use Rattle.std.specs.Global.{Box}
 use Rattle.poll_front.specs.Fronts.{FrontSpot, Course, course, acted_of, faults_by, ended_by, polled_as, PollsBy, IsLive, CallsOn, StepsTo}
 use Rattle.poll_front.specs.Tables.{Sits, IsLetIn, CanServeSeat, TakesState, SeatServed, polled_in, is_worn_end}
 use Rattle.poll_front.specs.declared.states.RunCounters.{RunCounters}
-use Rattle.poll_front.specs.declared.seats.Seat.{Seat}
+use Rattle.poll_front.specs.declared.seats.LinkRow.{LinkRow}
 use Rattle.poll_front.proofs.Seating.{takes_sits}
 use Rattle.poll_front.proofs.Calls.{rest_twice, live_sound, live_open}
 use Rattle.poll_front.specs.declared.front.TheConstants.{MAX_OPEN}
 use Rattle.policy_words.specs.Naming.{NamedPolicy}
 
-abbrev pub IsCalm : Seat → Type 0
+abbrev pub IsCalm : LinkRow → Type 0
 IsCalm s = is_worn_end (polled_in s).outcome ≡ false
 
-takes_calm : (s s' : Seat) → TakesState s s' → IsCalm s → IsCalm s'
+takes_calm : (s s' : LinkRow) → TakesState s s' → IsCalm s → IsCalm s'
 takes_calm New (Open b) t x = refl
 takes_calm New New t x = refl
 takes_calm New (Over e) t x = absurd t
@@ -53,13 +53,13 @@ module _ {M : Type 0} (v : Service) where
             record { more = []; own = tt; running = r; sits = s; worn_out = λ n same. absurd cc; unworn = λ same. u; unowed = λ unfinished. let e : Some s.1.0 ≡ None = sym s.1.1 ∙ unfinished in absurd cc };
       }
 
-  pub seat_none : (p : FrontSpot M) (np : NamedPolicy) (a : Harbour) (c : ℕ) (counters : RunCounters) (seat : Seat) → CanServeSeat np a c counters seat → ((b : Box LinkState) → seat ≡ Open b → ⊥) → SeatServed v p p a a c seat seat None
+  pub seat_none : (p : FrontSpot M) (np : NamedPolicy) (a : Harbour) (c : ℕ) (counters : RunCounters) (seat : LinkRow) → CanServeSeat np a c counters seat → ((b : Box LinkState) → seat ≡ Open b → ⊥) → SeatServed v p p a a c seat seat None
   seat_none p np a c counters New can closed = absurd can
   seat_none p np a c counters (Open b) can closed = absurd (closed b refl)
   seat_none p np a c counters (Over e) can closed = seat_over p a c e
 
   -- it got its state before
-  pub served_from : (p p' : FrontSpot M) (a b : Harbour) (c : ℕ) (seat mid seat' : Seat) (result : Option PollEnd) → TakesState seat mid → SeatServed v p p' a b c mid seat' result → SeatServed v p p' a b c seat seat' result
+  pub served_from : (p p' : FrontSpot M) (a b : Harbour) (c : ℕ) (seat mid seat' : LinkRow) (result : Option PollEnd) → TakesState seat mid → SeatServed v p p' a b c mid seat' result → SeatServed v p p' a b c seat seat' result
   served_from p p' a b c seat mid seat' result t w =
       record {
         rest = w.rest;

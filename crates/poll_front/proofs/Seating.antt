@@ -14,19 +14,19 @@ use Rattle.connection_laws.specs.declared.ends.LinkEnd.TheVariants.{Ended as Lin
 use Rattle.poll_front.specs.declared.ends.PollEnd.{PollEnd}
 use Rattle.poll_front.specs.declared.ends.PollEnd.TheVariants.{Stopped}
 use Rattle.poll_front.specs.declared.states.LinkState.{LinkState}
-use Rattle.poll_front.specs.declared.seats.Seat.{Seat}
-use Rattle.poll_front.specs.declared.seats.Seat.TheVariants.{New, Open, Over}
+use Rattle.poll_front.specs.declared.seats.LinkRow.{LinkRow}
+use Rattle.poll_front.specs.declared.seats.LinkRow.TheVariants.{New, Open, Over}
 use Rattle.poll_front.specs.Fronts.{Course, course, waiting_bytes, Rests, EndsLink, EndsAs, PollsBy, polled_as}
 use Rattle.poll_front.specs.Tables.{IsFreshState, TakesState, Sits}
 use Rattle.poll_front.proofs.Standing.{waits_none, ends_whole, ends_cut}
 
 -- whether it is owed is no part of what stands in a seat
-owed_sits : (np : NamedPolicy) (start : Bytes) (q : Port) (o : Bool) (acted : List Acted) (s : Seat) → Sits np start q acted s → Sits np start (record q { owed = o }) acted s
+owed_sits : (np : NamedPolicy) (start : Bytes) (q : Port) (o : Bool) (acted : List Acted) (s : LinkRow) → Sits np start q acted s → Sits np start (record q { owed = o }) acted s
 owed_sits np start q o acted New x = x
 owed_sits np start q o acted (Open b) x = x
 owed_sits np start q o acted (Over e) x = x
 
-pub sits_owed : (np : NamedPolicy) (start : Bytes) (q r : Port) (o : Bool) (acted : List Acted) (s : Seat) → r ≡ record q { owed = o } → Sits np start q acted s → Sits np start r acted s
+pub sits_owed : (np : NamedPolicy) (start : Bytes) (q r : Port) (o : Bool) (acted : List Acted) (s : LinkRow) → r ≡ record q { owed = o } → Sits np start q acted s → Sits np start r acted s
 sits_owed np start q r o acted s is x = subst (λ (z : Port). Sits np start z acted s) (sym is) (owed_sits np start q o acted s x)
 
 carries_none : (a b : Bytes) → b ≡ a → Carries a b [] []
@@ -63,13 +63,13 @@ rests_first np start q s f same live =
       live = live;
     }
 
-pub takes_sits : (np : NamedPolicy) (start : Bytes) (q : Port) (acted : List Acted) (s s' : Seat) → TakesState s s' → Sits np start q acted s → Sits np start q acted s'
+pub takes_sits : (np : NamedPolicy) (start : Bytes) (q : Port) (acted : List Acted) (s s' : LinkRow) → TakesState s s' → Sits np start q acted s → Sits np start q acted s'
 takes_sits np start q acted New (Open b) t x =
     (subst (λ (l : List Acted). Rests np start (course q) b.value l) (sym x.0) (rests_first np start (course q) b.value t x.1 x.2), x.3, x.4)
 takes_sits np start q acted New New t x = absurd t
 takes_sits np start q acted New (Over e) t x = absurd t
-takes_sits np start q acted (Open b) s' t x = subst (λ (z : Seat). Sits np start q acted z) (sym t) x
-takes_sits np start q acted (Over e) s' t x = subst (λ (z : Seat). Sits np start q acted z) (sym t) x
+takes_sits np start q acted (Open b) s' t x = subst (λ (z : LinkRow). Sits np start q acted z) (sym t) x
+takes_sits np start q acted (Over e) s' t x = subst (λ (z : LinkRow). Sits np start q acted z) (sym t) x
 
 -- a link over which nothing went has ended
 pub ends_blank : (np : NamedPolicy) (start : Bytes) (q : Course) (end : PollEnd) → q.bytes ≡ start → EndsAs end [] [] [] q.last LinkEnded → PollsBy q [] end → EndsLink np start q [] (record { asked = 0; denied = 0; outcome = end })

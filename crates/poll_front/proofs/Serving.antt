@@ -6,8 +6,8 @@ use Rattle.policy_words.specs.Naming.{NamedPolicy}
 use Rattle.connection_laws.specs.Lines.{Acted, asked_in, denied_in, is_replied, is_denied}
 use Rattle.connection_laws.specs.Attending.{Bytes}
 use Rattle.connection_laws.specs.Services.{Service}
-use Rattle.poll_front.specs.declared.seats.Seat.{Seat}
-use Rattle.poll_front.specs.declared.seats.Seat.TheVariants.{New, Open, Over}
+use Rattle.poll_front.specs.declared.seats.LinkRow.{LinkRow}
+use Rattle.poll_front.specs.declared.seats.LinkRow.TheVariants.{New, Open, Over}
 use Rattle.poll_front.specs.declared.states.RunCounters.{RunCounters}
 use Rattle.poll_front.specs.Fronts.{Turn, FrontSpot, acted_of, port_bytes, waiting_bytes}
 use Rattle.poll_front.specs.Tables.{Sits, CanServeSeat, TakesState, Tabled, IsOpenSeat, AreOpenSeats}
@@ -25,7 +25,7 @@ denied_few [] = omega arith
 denied_few (a ∷ before) = let x = denied_few before in let y = one_at_most (is_denied a.answer) in omega (arith, x, y)
 
 -- no link has more lines than bytes
-lines_few : (np : NamedPolicy) (start : Bytes) (q : Port) (acted : List Acted) (s : Seat) → Sits np start q acted s → length acted ≤ 67_108_864
+lines_few : (np : NamedPolicy) (start : Bytes) (q : Port) (acted : List Acted) (s : LinkRow) → Sits np start q acted s → length acted ≤ 67_108_864
 lines_few np start q acted New x = let none = ap (λ (l : List Acted). length l) x.0 in omega (arith, none)
 lines_few np start q acted (Open b) x =
     let y = x.0.stands in
@@ -36,7 +36,7 @@ lines_few np start q acted (Open b) x =
 lines_few np start q acted (Over e) x = let few = x.0.few in let bounded = x.0.carries.bounded in omega (arith, few, bounded)
 
 -- a link that is open can be served
-can_serve_seat : (np : NamedPolicy) (start : Bytes) (a : Harbour) (c : ℕ) (counters : RunCounters) (acted : List Acted) (s : Seat) → (s ≡ New → ⊥) → 1 ≤ c → c ≤ a.opened → Sits np start (a.port c) acted s → counters.calls ≤ 100_000 * 67_108_864 → CanServeSeat np a c counters s
+can_serve_seat : (np : NamedPolicy) (start : Bytes) (a : Harbour) (c : ℕ) (counters : RunCounters) (acted : List Acted) (s : LinkRow) → (s ≡ New → ⊥) → 1 ≤ c → c ≤ a.opened → Sits np start (a.port c) acted s → counters.calls ≤ 100_000 * 67_108_864 → CanServeSeat np a c counters s
 can_serve_seat np start a c counters acted New old first last x calls = absurd (old refl)
 can_serve_seat np start a c counters acted (Open b) old first last x calls =
     let s = b.value in
@@ -58,27 +58,27 @@ can_serve_seat np start a c counters acted (Open b) old first last x calls =
     }
 can_serve_seat np start a c counters acted (Over e) old first last x calls = tt
 
-takes_not_new : (s : Seat) → TakesState s New → ⊥
+takes_not_new : (s : LinkRow) → TakesState s New → ⊥
 takes_not_new New t = t
 takes_not_new (Open b) t = absurd cc
 takes_not_new (Over e) t = absurd cc
 
-pub can_serve : (np : NamedPolicy) (start : Bytes) (a : Harbour) (c : ℕ) (counters : RunCounters) (acted : List Acted) (s s' : Seat) → TakesState s s' → 1 ≤ c → c ≤ a.opened → Sits np start (a.port c) acted s → counters.calls ≤ 100_000 * 67_108_864 → CanServeSeat np a c counters s'
+pub can_serve : (np : NamedPolicy) (start : Bytes) (a : Harbour) (c : ℕ) (counters : RunCounters) (acted : List Acted) (s s' : LinkRow) → TakesState s s' → 1 ≤ c → c ≤ a.opened → Sits np start (a.port c) acted s → counters.calls ≤ 100_000 * 67_108_864 → CanServeSeat np a c counters s'
 can_serve np start a c counters acted s s' t first last x calls =
     can_serve_seat np start a c counters acted s' (λ is. takes_not_new s (subst (TakesState s) is t)) first last (takes_sits np start (a.port c) acted s s' t x) calls
 
-live_seat : (np : NamedPolicy) (start : Bytes) (q : Port) (acted : List Acted) (s : Seat) → Sits np start q acted s → q.finished ≡ None → is_over q.last ≡ false
+live_seat : (np : NamedPolicy) (start : Bytes) (q : Port) (acted : List Acted) (s : LinkRow) → Sits np start q acted s → q.finished ≡ None → is_over q.last ≡ false
 live_seat np start q acted New x unfinished = x.2
 live_seat np start q acted (Open b) x unfinished = x.0.live
 live_seat np start q acted (Over e) x unfinished = let no : Some x.1.0 ≡ None = sym x.1.1 ∙ unfinished in absurd cc
 
-open_seat : (np : NamedPolicy) (start : Bytes) (q : Port) (acted : List Acted) (s : Seat) → Sits np start q acted s → IsOpenSeat s → q.finished ≡ None
+open_seat : (np : NamedPolicy) (start : Bytes) (q : Port) (acted : List Acted) (s : LinkRow) → Sits np start q acted s → IsOpenSeat s → q.finished ≡ None
 open_seat np start q acted New x is = x.3
 open_seat np start q acted (Open b) x is = x.1
 open_seat np start q acted (Over e) x is = absurd is
 
-module _ {M : Type 0} {v : Service} {o p : FrontSpot M} {start a : Harbour} {seats : List Seat} {busy : ℕ} {turns : List Turn} (x : Tabled v o p start a seats busy turns) where
-  sits_at : (k : ℕ) → 1 ≤ k → k ≤ a.opened → (s : Seat) × Sits v.policy (port_bytes (start.port k)) (a.port k) (acted_of k turns) s
+module _ {M : Type 0} {v : Service} {o p : FrontSpot M} {start a : Harbour} {seats : List LinkRow} {busy : ℕ} {turns : List Turn} (x : Tabled v o p start a seats busy turns) where
+  sits_at : (k : ℕ) → 1 ≤ k → k ≤ a.opened → (s : LinkRow) × Sits v.policy (port_bytes (start.port k)) (a.port k) (acted_of k turns) s
   sits_at k first last =
       let opened = x.opened in
       let e : k - 1 + 1 ≡ k = omega (arith, first) in

@@ -12,7 +12,7 @@ use Rattle.connection_laws.specs.Attending.{Bytes}
 use Rattle.connection_laws.specs.Services.{Service}
 use Rattle.connection_laws.specs.Lines.{Acted}
 use Rattle.poll_front.specs.declared.ends.PollEnd.{PollEnd}
-use Rattle.poll_front.specs.declared.seats.Seat.{Seat}
+use Rattle.poll_front.specs.declared.seats.LinkRow.{LinkRow}
 use Rattle.poll_front.specs.Fronts.{Turn, FrontSpot, acted_of, port_bytes, faults_by, ended_by}
 use Rattle.poll_front.specs.Tables.{Sits, IsBlank, SeatGone, Tabled, count_among, faults_told}
 use mathlib.Core.Logic.{dite}
@@ -49,11 +49,11 @@ counted_by a b c busy busy' count first last rest (Some end) ends is =
     e ∙ ap (open_among b.port) (sym rest.opened)
 
 module _ {M : Type 0} (v : Service) where
-  abbrev Is : FrontSpot M → FrontSpot M → Harbour → Harbour → List Seat → ℕ → List Turn → Type 0
+  abbrev Is : FrontSpot M → FrontSpot M → Harbour → Harbour → List LinkRow → ℕ → List Turn → Type 0
   Is o p start a seats busy turns = Tabled v o p start a seats busy turns
 
   -- an event that opens no link changes at most who is owed
-  pub tabled_owed : (o p : FrontSpot M) (start a b : Harbour) (seats : List Seat) (busy : ℕ) (turns : List Turn) → Is o p start a seats busy turns → b.opened ≡ a.opened → a.faults ≤ b.faults → faults_told a.told ≡ 0 → b.faults ≤ a.faults + faults_told b.told → b.ends ≡ a.ends
+  pub tabled_owed : (o p : FrontSpot M) (start a b : Harbour) (seats : List LinkRow) (busy : ℕ) (turns : List Turn) → Is o p start a seats busy turns → b.opened ≡ a.opened → a.faults ≤ b.faults → faults_told a.told ≡ 0 → b.faults ≤ a.faults + faults_told b.told → b.ends ≡ a.ends
       → ((k : ℕ) → b.port k ≡ record (a.port k) { owed = (b.port k).owed }) → Is o p start b seats busy turns
   tabled_owed o p start a b seats busy turns x opened later calm few ends same =
       record {
@@ -78,7 +78,7 @@ module _ {M : Type 0} (v : Service) where
       }
 
   -- a link was served in its seat
-  pub tabled_served : (o p p' : FrontSpot M) (start a b : Harbour) (seats : List Seat) (busy busy' i : ℕ) (turns : List Turn) (seat seat' : Seat) (result : Option PollEnd) → Is o p start a seats busy turns
+  pub tabled_served : (o p p' : FrontSpot M) (start a b : Harbour) (seats : List LinkRow) (busy busy' i : ℕ) (turns : List Turn) (seat seat' : LinkRow) (result : Option PollEnd) → Is o p start a seats busy turns
       → slice_get seats i ≡ Some seat → i < length seats → KeepsRest a b (i + 1) → a.faults ≤ b.faults → b.faults + faults_by (a.port (i + 1)).last ≤ a.faults + faults_by (b.port (i + 1)).last
       → b.ends + ended_by (a.port (i + 1)).last ≤ a.ends + ended_by (b.port (i + 1)).last
       → MatchOption result ((b.port (i + 1)).finished ≡ (a.port (i + 1)).finished) (λ end. ((a.port (i + 1)).finished ≡ None) × ((n : ℕ) × ((b.port (i + 1)).finished ≡ Some n)))
@@ -93,7 +93,7 @@ module _ {M : Type 0} (v : Service) where
         count = counted_by a b (i + 1) busy busy' x.count (omega arith) (omega (arith, seats_are, low)) rest result ends count;
         sits = λ j s is. ⊎_elim (λ here.
             subst (λ (k : ℕ). Sits v.policy (port_bytes (start.port (k + 1))) (b.port (k + 1)) (acted_of (k + 1) (g.more ++ turns)) s) (sym here.0)
-            (subst (λ (z : Seat). Sits v.policy (port_bytes (start.port (i + 1))) (b.port (i + 1)) (acted_of (i + 1) (g.more ++ turns)) z) (sym here.1) g.sits)) (λ away.
+            (subst (λ (z : LinkRow). Sits v.policy (port_bytes (start.port (i + 1))) (b.port (i + 1)) (acted_of (i + 1) (g.more ++ turns)) z) (sym here.1) g.sits)) (λ away.
             let other : j + 1 ≢ i + 1 = λ e. away.0 (omega (arith, e)) in
             subst (λ (q : Port). Sits v.policy (port_bytes (start.port (j + 1))) q (acted_of (j + 1) (g.more ++ turns)) s) (sym (rest.others (j + 1) other))
             (subst (λ (l : List Acted). Sits v.policy (port_bytes (start.port (j + 1))) (a.port (j + 1)) l s) (sym (apart_all (i + 1) (j + 1) g.more turns g.own other)) (x.sits j s away.1))) (set_cases seats i j seat' s low is);
@@ -120,7 +120,7 @@ module _ {M : Type 0} (v : Service) where
       }
 
   -- a link that was just opened has its seat
-  pub tabled_seated : (o p : FrontSpot M) (start a d : Harbour) (seats : List Seat) (busy busy' : ℕ) (turns : List Turn) (s : Seat) → Is o p start a seats busy turns → d.opened ≡ a.opened + 1 → a.faults ≤ d.faults → faults_told a.told ≡ 0 → d.faults ≤ a.faults → d.ends ≡ a.ends → IsBlank (a.port (a.opened + 1))
+  pub tabled_seated : (o p : FrontSpot M) (start a d : Harbour) (seats : List LinkRow) (busy busy' : ℕ) (turns : List Turn) (s : LinkRow) → Is o p start a seats busy turns → d.opened ≡ a.opened + 1 → a.faults ≤ d.faults → faults_told a.told ≡ 0 → d.faults ≤ a.faults → d.ends ≡ a.ends → IsBlank (a.port (a.opened + 1))
       → ((k : ℕ) → k ≢ a.opened + 1 → d.port k ≡ a.port k) → Sits v.policy (port_bytes (start.port (a.opened + 1))) (d.port (a.opened + 1)) [] s → busy' ≡ open_among a.port a.opened + (if is_none (d.port (a.opened + 1)).finished then 1 else 0)
       → Is o p start d (seats ++ s ∷ []) busy' turns
   tabled_seated o p start a d seats busy busy' turns s x opened later calm kept ends blank others sits count =
@@ -138,7 +138,7 @@ module _ {M : Type 0} (v : Service) where
             let c_is : i + 1 ≡ a.opened + 1 = let e = here.0 in omega (arith, e, n) in
             let none : acted_of (i + 1) turns ≡ [] = acted_none (i + 1) a.opened turns x.range (omega (arith, c_is)) in
             subst (λ (l : List Acted). Sits v.policy (port_bytes (start.port (i + 1))) (d.port (i + 1)) l z) (sym none)
-            (subst (λ (k : ℕ). Sits v.policy (port_bytes (start.port k)) (d.port k) [] z) (sym c_is) (subst (λ (w : Seat). Sits v.policy (port_bytes (start.port (a.opened + 1))) (d.port (a.opened + 1)) [] w) (sym here.1) sits))) (λ before.
+            (subst (λ (k : ℕ). Sits v.policy (port_bytes (start.port k)) (d.port k) [] z) (sym c_is) (subst (λ (w : LinkRow). Sits v.policy (port_bytes (start.port (a.opened + 1))) (d.port (a.opened + 1)) [] w) (sym here.1) sits))) (λ before.
             let under = before.0 in
             subst (λ (q : Port). Sits v.policy (port_bytes (start.port (i + 1))) q (acted_of (i + 1) turns) z) (sym (others (i + 1) (λ same. absurd (omega (arith, same, under, n))))) (x.sits i z before.1)) (push_cases seats i s z at);
         ahead = λ k high. ap port_bytes (others k (λ same. absurd (omega (arith, same, high, opened)))) ∙ x.ahead k (omega (arith, high, opened));
@@ -163,9 +163,9 @@ module _ {M : Type 0} (v : Service) where
       }
 
   -- before the first event
-  pub tabled_none : (o : FrontSpot M) (start : Harbour) (seats : List Seat) → start.opened ≡ 0 → seats ≡ [] → Is o o start start seats 0 []
+  pub tabled_none : (o : FrontSpot M) (start : Harbour) (seats : List LinkRow) → start.opened ≡ 0 → seats ≡ [] → Is o o start start seats 0 []
   tabled_none o start seats none empty =
-      let e : start.opened ≡ length seats = none ∙ sym (ap (λ (l : List Seat). length l) empty) in
+      let e : start.opened ≡ length seats = none ∙ sym (ap (λ (l : List LinkRow). length l) empty) in
       record {
         running = running_none v o;
         opened = e;

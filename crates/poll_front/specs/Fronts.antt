@@ -4,7 +4,7 @@ use Rattle.std.specs.Io.KnownBytes.{Appends, Consumes, IsAtEnd}
 use mathlib.Core.List.{IsPrefix}
 use Rattle.gt_base.specs.declared.requests.Entry.{Entry}
 use Rattle.gt_base.specs.declared.limits.TheConstants.{MAX_BYTES}
-use Rattle.gt_io.specs.Frames.{Frame}
+use Rattle.gt_io.specs.Frames.{Frame, PushesFront}
 use Rattle.gt_io.specs.Links.{Reads}
 use Rattle.gt_io.specs.declared.source.Failed.{Failed}
 use Rattle.turn_lock.specs.Turns.{Each}
@@ -121,6 +121,13 @@ IsWritten s = s.at ≡ length (told_bytes s.told)
 -- the bytes that wait to be acted on
 abbrev pub waiting_bytes : LinkState → List ℕ
 waiting_bytes s = drop s.from (take s.upto s.chunk)
+
+-- the bytes that wait are taken up to a line feed, which is left
+pub record TakesFront (s s' : LinkState) : Type 0 where
+  pub many : ℕ
+  pub within : s.from + many ≤ s.upto
+  pub front : PushesFront s.framer (waiting_bytes s) many s'.framer
+  pub rest : s' ≡ record s { framer = s'.framer; from = s.from + many }
 
 -- what was given where so many bytes of the last reply were written
 abbrev pub given_text : NamedPolicy → List Acted → ℕ → List ℕ

@@ -21,8 +21,8 @@ use Rattle.poll_front.specs.declared.front.RunEnd.{RunEnd}
 use Rattle.poll_front.specs.declared.front.RunEnd.TheVariants.{Stopped as EndStopped, PortFault, Enough, Worn as EndWorn, Memory}
 use Rattle.poll_front.specs.declared.states.LinkState.{LinkState}
 use Rattle.poll_front.specs.declared.states.RunCounters.{RunCounters}
-use Rattle.poll_front.specs.declared.seats.Seat.{Seat}
-use Rattle.poll_front.specs.declared.seats.Seat.TheVariants.{New, Open, Over}
+use Rattle.poll_front.specs.declared.seats.LinkRow.{LinkRow}
+use Rattle.poll_front.specs.declared.seats.LinkRow.TheVariants.{New, Open, Over}
 use Rattle.gt_io.specs.declared.port.PortEvent.{PortEvent}
 use Rattle.gt_io.specs.declared.port.PortEvent.TheVariants.{Opened, Ready, Stop}
 use Rattle.gt_io.specs.Ports.{Port, Harbour, IsOpen, is_over, KeepsRest, open_among}
@@ -44,13 +44,13 @@ pub record IsFreshState (s : LinkState) : Type 0 where
   pub waits : (s.from ≡ 0) × (s.upto ≡ 0)
 
 -- a place that was not served yet gets what is kept of its link
-abbrev pub TakesState : Seat → Seat → Type 0
+abbrev pub TakesState : LinkRow → LinkRow → Type 0
 TakesState New (Open b) = IsFreshState b.value
 TakesState New _ = ⊥
 TakesState s s' = s' ≡ s
 
 -- what the service of a link asks of its place
-abbrev pub CanServeSeat : NamedPolicy → Harbour → ℕ → RunCounters → Seat → Type 0
+abbrev pub CanServeSeat : NamedPolicy → Harbour → ℕ → RunCounters → LinkRow → Type 0
 CanServeSeat np a c counters New = ⊥
 CanServeSeat np a c counters (Open b) = CanServe np a c counters b.value
 CanServeSeat np a c counters (Over e) = Unit {0}
@@ -61,7 +61,7 @@ IsLetIn others Full = others ≡ MAX_OPEN
 IsLetIn others _ = others < MAX_OPEN
 
 -- what stands in the place of a link
-abbrev pub Sits : NamedPolicy → Bytes → Port → List Acted → Seat → Type 0
+abbrev pub Sits : NamedPolicy → Bytes → Port → List Acted → LinkRow → Type 0
 Sits np start q acted New =
     (acted ≡ []) × (port_bytes q ≡ start) × (is_over q.last ≡ false) × (q.finished ≡ None)
     × (q.others < MAX_OPEN)
@@ -137,23 +137,23 @@ RunsTo start b draws ends Memory =
     MayGoOn b.told × (b.opened < MAX_LINKS) × AreUnwornEnds ends
 
 -- what a link has come to; one that is open is let go now
-abbrev pub polled_in : Seat → Polled
+abbrev pub polled_in : LinkRow → Polled
 polled_in New = record { asked = 0; denied = 0; outcome = Stopped }
 polled_in (Open b) = polled_as b.value Stopped
 polled_in (Over e) = e
 
 -- what it makes of the link
-abbrev pub port_behind : Seat → ℕ → Port → Port
+abbrev pub port_behind : LinkRow → ℕ → Port → Port
 port_behind New nexts q = record q { owed = false; finished = Some nexts }
 port_behind (Open b) nexts q = record q { owed = false; finished = Some nexts }
 port_behind (Over e) nexts q = q
 
-abbrev pub IsOpenSeat : Seat → Type 0
+abbrev pub IsOpenSeat : LinkRow → Type 0
 IsOpenSeat New = Unit {0}
 IsOpenSeat (Open b) = Unit {0}
 IsOpenSeat (Over e) = ⊥
 
-pub record EndsSeat (a b : Harbour) (c : ℕ) (seat : Seat) (e : Polled) : Type 0 where
+pub record EndsSeat (a b : Harbour) (c : ℕ) (seat : LinkRow) (e : Polled) : Type 0 where
   pub polled : e ≡ polled_in seat
   pub port : b.port c ≡ port_behind seat a.nexts (a.port c)
   pub rest : KeepsRest a b c
@@ -161,26 +161,26 @@ pub record EndsSeat (a b : Harbour) (c : ℕ) (seat : Seat) (e : Polled) : Type 
   pub ends : b.ends ≡ a.ends
 
 -- the links of the seats from number c on are open where their seats are
-abbrev pub AreOpenSeats : Harbour → ℕ → List Seat → Type 0
+abbrev pub AreOpenSeats : Harbour → ℕ → List LinkRow → Type 0
 AreOpenSeats a n seats =
-    (i : ℕ) (s : Seat) → n ≤ i → slice_get seats i ≡ Some s → IsOpenSeat s → IsOpen a (i + 1)
+    (i : ℕ) (s : LinkRow) → n ≤ i → slice_get seats i ≡ Some s → IsOpenSeat s → IsOpen a (i + 1)
 
 -- the links of the first n seats were let go where they were open
-pub record LetsGo (a b : Harbour) (seats : List Seat) (n : ℕ) (ends : List Polled) : Type 0 where
+pub record LetsGo (a b : Harbour) (seats : List LinkRow) (n : ℕ) (ends : List Polled) : Type 0 where
   pub told : b.told ≡ a.told
   pub nexts : b.nexts ≡ a.nexts
   pub opened : b.opened ≡ a.opened
   pub faults : b.faults ≡ a.faults
   pub told_ends : b.ends ≡ a.ends
   pub polled : ends ≡ map polled_in (take n seats)
-  pub each : (i : ℕ) (s : Seat) → i < n → slice_get seats i ≡ Some s
+  pub each : (i : ℕ) (s : LinkRow) → i < n → slice_get seats i ≡ Some s
       → b.port (i + 1) ≡ port_behind s a.nexts (a.port (i + 1))
   pub ahead : (k : ℕ) → n < k → b.port k ≡ a.port k
 
 module _ {M : Type 0} (v : Service) where
   -- a link was served in its place, or had ended before
   pub record SeatGone (o p : FrontSpot M) (start : Bytes) (q : Port) (c : ℕ) (turns : List Turn)
-      (seat : Seat) (result : Option PollEnd) : Type 0 where
+      (seat : LinkRow) (result : Option PollEnd) : Type 0 where
     pub more : List Turn
     pub own : Each (λ (t : Turn). t.link ≡ c) more
     pub running : Running v o p (more ++ turns)
@@ -189,7 +189,7 @@ module _ {M : Type 0} (v : Service) where
     pub unworn : result ≡ None → is_worn_end (polled_in seat).outcome ≡ false
     pub unowed : q.finished ≡ None → q.owed ≡ false
 
-  pub record SeatServed (p p' : FrontSpot M) (a b : Harbour) (c : ℕ) (seat seat' : Seat)
+  pub record SeatServed (p p' : FrontSpot M) (a b : Harbour) (c : ℕ) (seat seat' : LinkRow)
       (result : Option PollEnd) : Type 0 where
     pub rest : KeepsRest a b c
     pub others : (b.port c).others ≡ (a.port c).others
@@ -206,12 +206,12 @@ module _ {M : Type 0} (v : Service) where
         → SeatGone o p' start (b.port c) c turns seat' result
 
   -- the table between two events
-  pub record Tabled (o p : FrontSpot M) (start a : Harbour) (seats : List Seat) (busy : ℕ)
+  pub record Tabled (o p : FrontSpot M) (start a : Harbour) (seats : List LinkRow) (busy : ℕ)
       (turns : List Turn) : Type 0 where
     pub running : Running v o p turns
     pub opened : a.opened ≡ length seats
     pub count : busy ≡ open_among a.port a.opened
-    pub sits : (i : ℕ) (s : Seat) → slice_get seats i ≡ Some s
+    pub sits : (i : ℕ) (s : LinkRow) → slice_get seats i ≡ Some s
         → Sits v.policy (port_bytes (start.port (i + 1))) (a.port (i + 1))
         (acted_of (i + 1) turns) s
     pub ahead : (k : ℕ) → a.opened < k → port_bytes (a.port k) ≡ port_bytes (start.port k)
@@ -223,7 +223,7 @@ module _ {M : Type 0} (v : Service) where
 
   -- what a run comes to, before its open links are let go
   pub record Went (before after : Holder M) (clock clock' : Option (ℕ → ℕ)) (start b : Harbour)
-      (seats : List Seat) (end : RunEnd) : Type 0 where
+      (seats : List LinkRow) (end : RunEnd) : Type 0 where
     pub counters : RunCounters
     pub busy : ℕ
     pub turns : List Turn

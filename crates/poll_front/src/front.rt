@@ -5,12 +5,12 @@ ghost use Rattle.turn_lock.specs.Holders.{site_of};
 ghost use Rattle.connection_laws.specs.Services.{service_at};
 ghost use Rattle.connection_laws.specs.Turns.{IsIdle, CanAsk, CanAskFrom, StaysIdle};
 ghost use Rattle.gt_io.specs.Ports.{IsOpen, IsUncalled, Finishes};
-ghost use Rattle.poll_front.specs.declared.seats.Seat.{Seat};
+ghost use Rattle.poll_front.specs.declared.seats.LinkRow.{LinkRow};
 ghost use Rattle.poll_front.specs.Fronts.{front_spot, StaysIdleFrom};
 ghost use Rattle.poll_front.specs.Tables.{CanServeSeat, SeatServed, Went, Ran, IsOpenSeat, EndsSeat, AreOpenSeats, LetsGo, is_worn_end};
 
 use crate::ends::{PollEnd, Polled};
-use crate::seats::{Seat, fill_seat};
+use crate::seats::{LinkRow, fill_seat};
 use crate::serve::serve_ready;
 use crate::states::{LinkState, RunCounters, Yield};
 use connection_laws::Server;
@@ -47,7 +47,7 @@ fn serve_seat<M: Machine, R: Wait, P: Ports, C: Clock, G: Gate>(
     clock: &mut C,
     counters: &mut RunCounters,
     spares: &mut Vec<Box<LinkState>>,
-    seat: &mut Seat,
+    seat: &mut LinkRow,
 ) -> Option<PollEnd>
     requires ready { CanAskFrom M.named M.legal M.now_of server.now.desk.now server.now.policy.now
         pass.old counters.old.reached }
@@ -61,7 +61,7 @@ fn serve_seat<M: Machine, R: Wait, P: Ports, C: Clock, G: Gate>(
     ensures ready { StaysIdleFrom M.legal M.now_of server.now.desk.now pass.old pass.new
         counters.new.reached }
 {
-    let Seat::Open(state) = seat else {
+    let LinkRow::Open(state) = seat else {
         return None;
     };
     match serve_ready(server, pass, ports, clock, counters, state) {
@@ -69,7 +69,7 @@ fn serve_seat<M: Machine, R: Wait, P: Ports, C: Clock, G: Gate>(
         Yield::End(outcome) => {
             let polled = state.polled(outcome);
             ports.finish(server.conn);
-            if let Seat::Open(spare) = replace(seat, Seat::Over(polled)) {
+            if let LinkRow::Open(spare) = replace(seat, LinkRow::Over(polled)) {
                 let _ = spares.push(spare);
             }
             Some(outcome)
@@ -78,7 +78,7 @@ fn serve_seat<M: Machine, R: Wait, P: Ports, C: Clock, G: Gate>(
 }
 
 /// Gives a link that was just opened its seat; lets it go at once where as many are open as may be.
-fn seat_next<P: Ports>(link: u32, ports: &mut P, seats: &mut Vec<Seat>, busy: &mut usize)
+fn seat_next<P: Ports>(link: u32, ports: &mut P, seats: &mut Vec<LinkRow>, busy: &mut usize)
     requires open { IsOpen (P.harbour ports.old) link }
     requires room { vec_len seats.old < vec_capacity seats.old }
     requires few { busy.old ≤ MAX_OPEN }
@@ -87,27 +87,27 @@ fn seat_next<P: Ports>(link: u32, ports: &mut P, seats: &mut Vec<Seat>, busy: &m
         → Finishes (P.harbour ports.old) (P.harbour ports.new) link × (busy.new ≡ busy.old)
         × (seats.new.items
         ≡ seats.old.items
-        ++ Seat.Over (record { asked = 0; denied = 0; outcome = PollEnd.Full })
+        ++ LinkRow.Over (record { asked = 0; denied = 0; outcome = PollEnd.Full })
         ∷ []) }
     ensures seated { busy.old < MAX_OPEN → (ports.new ≡ ports.old) × (busy.new ≡ busy.old + 1)
-        × (seats.new.items ≡ seats.old.items ++ Seat.New ∷ []) }
+        × (seats.new.items ≡ seats.old.items ++ LinkRow.New ∷ []) }
 {
     if *busy >= MAX_OPEN {
         ports.finish(link);
-        seats.push_reserved(Seat::Over(Polled {
+        seats.push_reserved(LinkRow::Over(Polled {
             asked: 0,
             denied: 0,
             outcome: PollEnd::Full,
         }));
         return;
     }
-    seats.push_reserved(Seat::New);
+    seats.push_reserved(LinkRow::New);
     *busy += 1;
 }
 
 /// Takes the memory of the lists that grow with the links.
 fn make_room(
-    seats: &mut Vec<Seat>,
+    seats: &mut Vec<LinkRow>,
     spares: &mut Vec<Box<LinkState>>,
     ends: &mut List<Polled>,
 ) -> Result<(), Memory>
@@ -122,12 +122,12 @@ fn make_room(
 }
 
 /// How a link ended, or that it is let go now.
-fn end_of<P: Ports>(link: u32, ports: &mut P, seat: &Seat) -> Polled
+fn end_of<P: Ports>(link: u32, ports: &mut P, seat: &LinkRow) -> Polled
     requires { IsOpenSeat seat.now → IsOpen (P.harbour ports.old) link }
     ensures { EndsSeat (P.harbour ports.old) (P.harbour ports.new) link seat.now result }
 {
     match seat {
-        Seat::New => {
+        LinkRow::New => {
             ports.finish(link);
             Polled {
                 asked: 0,
@@ -135,11 +135,11 @@ fn end_of<P: Ports>(link: u32, ports: &mut P, seat: &Seat) -> Polled
                 outcome: PollEnd::Stopped,
             }
         }
-        Seat::Open(state) => {
+        LinkRow::Open(state) => {
             ports.finish(link);
             state.polled(PollEnd::Stopped)
         }
-        Seat::Over(polled) => *polled,
+        LinkRow::Over(polled) => *polled,
     }
 }
 
@@ -156,7 +156,7 @@ fn serve_all<M: Machine, R: Wait, P: Ports, C: Clock, G: Gate>(
     pass: &mut Pass<M>,
     ports: &mut P,
     clock: &mut C,
-    seats: &mut Vec<Seat>,
+    seats: &mut Vec<LinkRow>,
     spares: &mut Vec<Box<LinkState>>,
 ) -> RunEnd
     requires ready { CanAsk M.named M.legal server.now.desk.now server.now.policy.now pass.old }
@@ -219,7 +219,7 @@ fn serve_all<M: Machine, R: Wait, P: Ports, C: Clock, G: Gate>(
 }
 
 /// Lets the links go that are open, and tells how each link ended.
-fn let_go<P: Ports>(ports: &mut P, seats: &[Seat], ends: &mut List<Polled>)
+fn let_go<P: Ports>(ports: &mut P, seats: &[LinkRow], ends: &mut List<Polled>)
     requires room { length seats.now ≤ ends.old.spare }
     requires none { ends.old.items ≡ [] }
     requires few { length seats.now ≤ MAX_LINKS }

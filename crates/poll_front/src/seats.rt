@@ -9,7 +9,7 @@ use std::alloc::Global;
 
 /// The place of a link, by its number.
 #[derive(Drop)]
-pub enum Seat {
+pub enum LinkRow {
     /// It is open, and has not been ready yet.
     New,
     /// It is open.
@@ -35,13 +35,13 @@ fn take_state(alloc: Global, spares: &mut Vec<Box<LinkState>>) -> Result<Box<Lin
 pub(crate) fn fill_seat(
     alloc: Global,
     spares: &mut Vec<Box<LinkState>>,
-    seat: &mut Seat,
+    seat: &mut LinkRow,
 ) -> Result<(), Memory>
     ensures taken { OnOk result (TakesState seat.old seat.new) }
     ensures same { OnErr result (seat.new ≡ seat.old) }
 {
-    if let Seat::New = seat {
-        *seat = Seat::Open(take_state(alloc, spares)?);
+    if let LinkRow::New = seat {
+        *seat = LinkRow::Open(take_state(alloc, spares)?);
     }
     Ok(())
 }

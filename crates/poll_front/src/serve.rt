@@ -1,21 +1,17 @@
 //! A link that is ready, until it is left for another: its bytes one by one, and its lines.
 ghost use Rattle.std.specs.Prelude.{◌≡◌, ◌<◌, ◌≤◌, ◌+◌, OnOk, Err};
-ghost use Rattle.locked_history.specs.Fronts.{by};
 ghost use Rattle.connection_laws.specs.Desks.{IsNamedActor};
-ghost use Rattle.connection_laws.specs.Turns.{IsReached, CanAskFrom};
-ghost use Rattle.connection_laws.specs.Rooms.{text_in, room_with, LendsRoom, TakesBack};
+ghost use Rattle.connection_laws.specs.Turns.{CanAskFrom};
+ghost use Rattle.connection_laws.specs.Rooms.{text_in, room_with, TakesBack};
 ghost use Rattle.connection_laws.specs.Services.{service_at};
-ghost use Rattle.connection_laws.specs.Acting.{HasRoom};
-ghost use Rattle.connection_laws.specs.Attending.{ActsBy};
-ghost use Rattle.connection_laws.specs.Clerks.{WearsAt, ClerkAsks, clerk_view};
-ghost use Rattle.poll_front.specs.Fronts.{front_spot, IsLive, CallsOn, IsWritten, TellsLine, StepsTo, CanTalk, CountsOne, CanServe, StaysIdleFrom};
+ghost use Rattle.poll_front.specs.Fronts.{front_spot, IsLive, CallsOn, IsWritten, TellsLine, TakesFront, StepsTo, CanTalk, CountsOne, CanServe, StaysIdleFrom};
 ghost use Rattle.poll_front.specs.declared.states.TheConstants.{MAX_READ};
 
 use crate::bytes::{fill, write_out};
 use crate::ends::PollEnd;
 use crate::states::{LinkState, RunCounters, Yield};
-use connection_laws::{Clerk, LineAnswer, Server, Talk, act_by, count, take_back};
-use gt_base::{Instant, List, Machine};
+use connection_laws::{Clerk, LineAnswer, Server, act_by, count, take_back};
+use gt_base::{List, Machine};
 use gt_io::{Clock, Framed, Gate, Ports};
 use request_text::LineFault;
 use std::mem::replace;
@@ -28,44 +24,6 @@ fn free_room(room: &mut List<u8>, last: &mut LineAnswer)
     ensures back { TakesBack room.old room.new (text_in last.old) }
 {
     take_back(room, replace(last, LineAnswer::Silence));
-}
-
-/// Acts on a line at the desk, but for its reply.
-///
-/// `room` is the buffer of the link, whatever it holds. A line that asks needs room there for the
-/// longest reply, which the first one takes and later ones find. The reply goes out in it, and
-/// `take_back` brings it home. Every other answer leaves it where it is, with all of its room. For
-/// want of room the line is told `NoMemory` and is not accepted, and the next one tries again.
-fn act_at<M: Machine, R: Wait, C: Clock, G: Gate>(
-    server: &Server<M, R, G>,
-    pass: &mut Pass<M>,
-    clock: &mut C,
-    reached: &mut Option<Instant>,
-    talk: &mut Talk,
-    room: &mut List<u8>,
-    line: &[u8],
-) -> LineAnswer
-    requires ready { CanAskFrom M.named M.legal M.now_of server.now.desk.now server.now.policy.now
-        pass.old reached.old }
-    requires actor { IsNamedActor server.now.policy.now talk.old.actor }
-    requires room { HasRoom talk.old 1 }
-    ensures reached { IsReached (M.legal server.now.desk.now.root)
-        (M.now_of server.now.desk.now.root) pass.new.seen reached.new }
-    ensures acts { ActsBy server.now.policy.now
-        (ClerkAsks
-        (service_at M.list M.legal M.now_of server.now.desk.now server.now.policy.now)
-        (by pass.old.number server.now.conn))
-        (WearsAt pass.new.draws) (clerk_view pass.old (C.readings clock.old))
-        (clerk_view pass.new (C.readings clock.new)) talk.old talk.new line.now result }
-    ensures lends { LendsRoom room.old room.new (text_in result) }
-{
-    let mut clerk = Clerk {
-        server,
-        pass,
-        clock,
-        reached,
-    };
-    act_by(&mut clerk, talk, room, line)
 }
 
 /// Tells a link what its last line is told.
@@ -91,6 +49,10 @@ fn tell<P: Ports>(
 }
 
 /// Takes the next byte, and acts on the line that it ends.
+///
+/// A line that asks needs room in the buffer of the link for the longest reply, which the first one
+/// takes and later ones find. The reply goes out in it, and comes back before the next line. For
+/// want of room the line is told `NoMemory` and is not accepted, and the next one tries again.
 fn take_next<M: Machine, R: Wait, P: Ports, C: Clock, G: Gate>(
     server: &Server<M, R, G>,
     pass: &mut Pass<M>,
@@ -128,15 +90,15 @@ fn take_next<M: Machine, R: Wait, P: Ports, C: Clock, G: Gate>(
         Framed::Whole => {
             free_room(&mut state.room, &mut state.told);
             state.talk.calls = counters.calls;
-            let told = act_at(
-                server,
+            let mut clerk = Clerk {
+                server: &*server,
                 pass,
                 clock,
-                &mut counters.reached,
-                &mut state.talk,
-                &mut state.room,
-                state.framer.line(),
-            );
+                reached: &mut counters.reached,
+                held: 0,
+            };
+            let line = state.framer.line();
+            let told = act_by(&mut clerk, &mut state.talk, &mut state.room, line);
             counters.calls = state.talk.calls;
             count(&mut state.talk, &told);
             tell(ports, server.conn, state, told)
@@ -146,6 +108,16 @@ fn take_next<M: Machine, R: Wait, P: Ports, C: Clock, G: Gate>(
             tell(ports, server.conn, state, LineAnswer::Bad(LineFault::Long))
         }
     }
+}
+
+/// Takes the bytes that wait up to a line feed, which is left.
+fn take_front(state: &mut LinkState)
+    requires { (state.old.from ≤ state.old.upto) × (state.old.upto ≤ MAX_READ) }
+    ensures { TakesFront state.old state.new }
+{
+    let (some, _) = state.chunk.split_at(state.upto);
+    let (_, rest) = some.split_at(state.from);
+    state.from += state.framer.push_front(rest);
 }
 
 /// Serves a link that is ready: writes what is left of its last reply, acts on the bytes that wait,
@@ -176,6 +148,7 @@ pub(crate) fn serve_ready<M: Machine, R: Wait, P: Ports, C: Clock, G: Gate>(
         return why;
     }
     loop {
+        take_front(state);
         if state.from < state.upto {
             if let Err(why) = take_next(server, pass, ports, clock, counters, state) {
                 return why;

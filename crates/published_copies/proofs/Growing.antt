@@ -7,8 +7,8 @@ use lib.ListN.{get_elem?}
 use Rattle.crossbeam_utils.specs.Register.{Admits, TurnsAt, Forks, Merges}
 use Rattle.atomic_table.proofs.Lists.{at_set, at_snoc}
 use Rattle.gt_base.specs.declared.requests.Entry.{Entry}
-use Rattle.published_copies.specs.declared.views.View.{View}
-use Rattle.published_copies.specs.Views.{blank, sight, Fits, Keeps, Sighted}
+use Rattle.published_copies.specs.declared.views.ReaderView.{ReaderView}
+use Rattle.published_copies.specs.Views.{blank, sight, Fits, AllFit, Sighted}
 
 pub prefix_self : {A : Type 0} (xs : List A) → IsPrefix xs xs
 prefix_self xs = ([], append-nil xs)
@@ -40,35 +40,35 @@ module _ {R : Type 0} where
   pub sight_fits : (root : R) (list : List Entry) → Fits root list (sight root list)
   sight_fits root list = record { root_is = λ r e. cc; seen = prefix_self list }
 
-  pub fits_more : (root root' : R) (list list' : List Entry) (v : View R) → root' ≡ root → IsPrefix list list' → Fits root list v → Fits root' list' v
+  pub fits_more : (root root' : R) (list list' : List Entry) (v : ReaderView R) → root' ≡ root → IsPrefix list list' → Fits root list v → Fits root' list' v
   fits_more root root' list list' v same more f =
       record { root_is = λ r e. f.root_is r e ∙ sym same; seen = prefix_trans v.seen list list' f.seen more }
 
-  pub all_fit : (root : R) (list : List Entry) (views : List (View R)) (seat : ℕ) (w : View R) → Keeps root list views → Fits root list w → Keeps root list (set views seat w)
+  pub all_fit : (root : R) (list : List Entry) (views : List (ReaderView R)) (seat : ℕ) (w : ReaderView R) → AllFit root list views → Fits root list w → AllFit root list (set views seat w)
   all_fit root list views seat w h f j u e =
       ⊎_elim (λ (t : (j ≡ seat) × (w ≡ u)). subst (λ z. Fits root list z) t.1 f) (λ (t : (j ≢ seat) × (get_elem? views j ≡ some u)). h j u t.1) (at_set views seat j w u e)
 
-  pub all_more : (root root' : R) (list list' : List Entry) (views : List (View R)) → root' ≡ root → IsPrefix list list' → Keeps root list views → Keeps root' list' views
+  pub all_more : (root root' : R) (list list' : List Entry) (views : List (ReaderView R)) → root' ≡ root → IsPrefix list list' → AllFit root list views → AllFit root' list' views
   all_more root root' list list' views same more h j u e = fits_more root root' list list' u same more (h j u e)
 
   -- a step whose entries go on
-  pub grows : (T : Type 0) (root_of : T → R) (list_of : T → List Entry) (seat : ℕ) (v : View R) (x y : T) → root_of y ≡ root_of x → IsPrefix (list_of x) (list_of y)
-      → TurnsAt (λ (p : T). Keeps (root_of p) (list_of p)) seat v x y (λ v x y w. Sighted (root_of x) (list_of x) (root_of y) (list_of y) v w)
+  pub grows : (T : Type 0) (root_of : T → R) (list_of : T → List Entry) (seat : ℕ) (v : ReaderView R) (x y : T) → root_of y ≡ root_of x → IsPrefix (list_of x) (list_of y)
+      → TurnsAt (λ (p : T). AllFit (root_of p) (list_of p)) seat v x y (λ v x y w. Sighted (root_of x) (list_of x) (root_of y) (list_of y) v w)
   grows T root_of list_of seat v x y same more views h at = (
     sight (root_of y) (list_of y),
     all_fit (root_of y) (list_of y) views seat (sight (root_of y) (list_of y)) (all_more (root_of x) (root_of y) (list_of x) (list_of y) views same more h) (sight_fits (root_of y) (list_of y)),
     (h seat v at, refl),
   )
 
-  pub admits : (T : Type 0) (root_of : T → R) (list_of : T → List Entry) → Admits (λ (p : T). Keeps (root_of p) (list_of p)) blank
+  pub admits : (T : Type 0) (root_of : T → R) (list_of : T → List Entry) → Admits (λ (p : T). AllFit (root_of p) (list_of p)) blank
   admits T root_of list_of x views h seat v at =
       ⊎_elim (h seat v) (λ (e : blank ≡ v). subst (λ z. Fits (root_of x) (list_of x) z) e (blank_fits (root_of x) (list_of x))) (at_snoc views blank v seat at)
 
-  pub forks : (T : Type 0) (root_of : T → R) (list_of : T → List Entry) (seat : ℕ) (v : View R) → Forks (λ (p : T). Keeps (root_of p) (list_of p)) seat v v v
+  pub forks : (T : Type 0) (root_of : T → R) (list_of : T → List Entry) (seat : ℕ) (v : ReaderView R) → Forks (λ (p : T). AllFit (root_of p) (list_of p)) seat v v v
   forks T root_of list_of seat v x views h at j u e =
       ⊎_elim (all_fit (root_of x) (list_of x) views seat v h (h seat v at) j u) (λ (same : v ≡ u). subst (λ z. Fits (root_of x) (list_of x) z) same (h seat v at)) (at_snoc (set views seat v) v u j e)
 
-  pub merges : (T : Type 0) (root_of : T → R) (list_of : T → List Entry) (seat : ℕ) (v : View R) (other : ℕ) (w : View R) → Merges (λ (p : T). Keeps (root_of p) (list_of p)) seat v other w w blank
+  pub merges : (T : Type 0) (root_of : T → R) (list_of : T → List Entry) (seat : ℕ) (v : ReaderView R) (other : ℕ) (w : ReaderView R) → Merges (λ (p : T). AllFit (root_of p) (list_of p)) seat v other w w blank
   merges T root_of list_of seat v other w x views h at apart there =
       let told : Fits (root_of x) (list_of x) w =
       ⊎_elim (λ (t : (other ≡ seat) × (w ≡ w)). absurd (apart t.0)) (λ (t : (other ≢ seat) × (get_elem? views other ≡ some w)). h other w t.1) (at_set views seat other w w there) in
@@ -92,8 +92,8 @@ module _ {S R : Type 0} (applied : S → Entry → S) (root_of : S → R) (list_
   next_list s next es is = ap list_of is ∙ list_fold s es
 
   -- it may be published
-  pub may_show : {T : Type 0} (state_of : T → S) (seat : ℕ) (v : View R) (x y : T) (es : List Entry) → state_of y ≡ fold applied (state_of x) es
-      → TurnsAt (λ (p : T). Keeps (root_of (state_of p)) (list_of (state_of p))) seat v x y
+  pub may_show : {T : Type 0} (state_of : T → S) (seat : ℕ) (v : ReaderView R) (x y : T) (es : List Entry) → state_of y ≡ fold applied (state_of x) es
+      → TurnsAt (λ (p : T). AllFit (root_of (state_of p)) (list_of (state_of p))) seat v x y
       (λ v x y w. Sighted (root_of (state_of x)) (list_of (state_of x)) (root_of (state_of y)) (list_of (state_of y)) v w)
   may_show {T} state_of seat v x y es is =
       grows T (λ p. root_of (state_of p)) (λ p. list_of (state_of p)) seat v x y (next_root (state_of x) (state_of y) es is) (es, sym (next_list (state_of x) (state_of y) es is))

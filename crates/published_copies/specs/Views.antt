@@ -4,31 +4,32 @@ use mathlib.Core.Option.{some}
 use mathlib.Core.List.{IsPrefix}
 use lib.ListN.{get_elem?}
 use Rattle.gt_base.specs.declared.requests.Entry.{Entry}
-use Rattle.published_copies.specs.declared.views.View.{View}
+use Rattle.published_copies.specs.declared.views.ReaderView.{ReaderView}
 
 module _ {R : Type 0} where
   -- before anything was told or seen
-  abbrev pub blank : View R
+  abbrev pub blank : ReaderView R
   blank = record { root = None; seen = [] }
 
   -- the root and the published entries
-  abbrev pub sight : R → List Entry → View R
+  abbrev pub sight : R → List Entry → ReaderView R
   sight root list = record { root = Some root; seen = list }
 
   -- a root that was told is the root, and what was seen begins the published entries
-  pub record Fits (root : R) (list : List Entry) (v : View R) : Type 0 where
+  pub record Fits (root : R) (list : List Entry) (v : ReaderView R) : Type 0 where
     pub root_is : (r : R) → v.root ≡ Some r → r ≡ root
     pub seen : IsPrefix v.seen list
 
   -- so of each view
-  abbrev pub Keeps : R → List Entry → List (View R) → Type 0
-  Keeps root list views = (seat : ℕ) (v : View R) → get_elem? views seat ≡ some v → Fits root list v
+  abbrev pub AllFit : R → List Entry → List (ReaderView R) → Type 0
+  AllFit root list views =
+      (seat : ℕ) (v : ReaderView R) → get_elem? views seat ≡ some v → Fits root list v
 
   -- where the view v fits before, the view w is of the root and the entries after
-  abbrev pub Sighted : R → List Entry → R → List Entry → View R → View R → Type 0
+  abbrev pub Sighted : R → List Entry → R → List Entry → ReaderView R → ReaderView R → Type 0
   Sighted root list root' list' v w = Fits root list v × (w ≡ sight root' list')
 
 -- what a look has: what the reader then knows, and the replica
 pub record Looked (T R : Type 0) : Type 0 where
-  pub view : View R
+  pub view : ReaderView R
   pub replica : T

@@ -6,7 +6,7 @@ ghost use Rattle.published_copies.specs.Views.{sight};
 use crate::looking::Sight;
 use crate::notes::{Learning, Telling};
 use crate::replica::Replica;
-use crate::views::{Growing, Sees, View};
+use crate::views::{Growing, ReaderView, Sees};
 use gt_base::{Entry, Memory, Step};
 use left_right::writer::Writer;
 use std::alloc::{AllocError, Global};
@@ -16,7 +16,7 @@ use std::sync::Wait;
 /// Two copies of a replica, of which readers look at one. They are seen as their root, the entries
 /// that are published, and those that were sent and are not published yet. End them by `end`.
 pub struct Copies<T: Replica> {
-    writer: Writer<T, Entry, View<T::Root>, Growing>,
+    writer: Writer<T, Entry, ReaderView<T::Root>, Growing>,
     sent: usize,
 }
 

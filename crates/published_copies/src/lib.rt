@@ -11,7 +11,7 @@ mod views;
 pub use copies::Copies;
 pub use looking::{Looking, Sight};
 pub use replica::Replica;
-pub use views::View;
+pub use views::ReaderView;
 
 #[cfg(test)]
 mod tests;

@@ -3,19 +3,19 @@ ghost use Rattle.std.specs.Prelude.{◌≡◌, MatchResult};
 ghost use Rattle.published_copies.specs.Views.{Sighted};
 
 use crate::replica::Replica;
-use crate::views::{Growing, Sees, View};
+use crate::views::{Growing, ReaderView, Sees};
 use left_right::reader::{Reader, Reading};
 use std::marker::Model;
 
 /// A reader that is not looking. It is seen as what it knows.
 pub struct Sight<T: Replica> {
-    pub(crate) reader: Reader<T, View<T::Root>, Growing>,
+    pub(crate) reader: Reader<T, ReaderView<T::Root>, Growing>,
 }
 
 impl<T: Replica> Model for Sight<T> {
-    ghost use Rattle.published_copies.specs.declared.views.View.{View};
+    ghost use Rattle.published_copies.specs.declared.views.ReaderView.{ReaderView};
 
-    ghost Value = { View T.Root };
+    ghost Value = { ReaderView T.Root };
 
     ghost use Rattle.left_right.specs.Sides.{view as known};
 
@@ -30,7 +30,7 @@ impl<T: Replica> Drop for Sight<T> {
 
 /// A reader with the replica that it looks at. End it by `leave`.
 pub struct Looking<T: Replica> {
-    reading: Reading<T, View<T::Root>, Growing>,
+    reading: Reading<T, ReaderView<T::Root>, Growing>,
 }
 
 impl<T: Replica> Model for Looking<T> {

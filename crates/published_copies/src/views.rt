@@ -5,7 +5,7 @@ use gt_base::Entry;
 use std::collections::LinkedList;
 
 /// The root, where it was told, and the entries that were seen.
-pub struct View<R> {
+pub struct ReaderView<R> {
     pub root: Option<R>,
     pub seen: LinkedList<Entry>,
 }
@@ -13,10 +13,10 @@ pub struct View<R> {
 /// The published entries only grow, over one root.
 pub struct Growing;
 
-impl<T: Replica> Protocol<T, View<T::Root>> for Growing {
-    ghost use Rattle.published_copies.specs.Views.{Keeps, blank};
+impl<T: Replica> Protocol<T, ReaderView<T::Root>> for Growing {
+    ghost use Rattle.published_copies.specs.Views.{AllFit, blank};
 
-    ghost holds = { λ p. Keeps (T.root (T.state p)) (T.list (T.state p)) };
+    ghost holds = { λ p. AllFit (T.root (T.state p)) (T.list (T.state p)) };
 
     ghost first = { blank };
 }
@@ -24,7 +24,7 @@ impl<T: Replica> Protocol<T, View<T::Root>> for Growing {
 /// A look at the published entries, or their change.
 pub struct Sees;
 
-impl<T: Replica> Outcome<T, View<T::Root>> for Sees {
+impl<T: Replica> Outcome<T, ReaderView<T::Root>> for Sees {
     ghost use Rattle.published_copies.specs.Views.{Sighted};
 
     ghost then = { λ v x y w.

@@ -175,15 +175,15 @@ fn agreed(g: &Ground, state: &mut u64, alloc: Global) -> Result<Option<usize>, M
 
 /// How many policies were safe, and how many sets happened in all.
 #[derive(Clone, Copy)]
-struct Count {
+struct SafeCount {
     policies: u32,
     sets: usize,
 }
 
 /// So many random policies; none where the timelines of one differ.
-fn counted(alloc: Global, policies: u32) -> Result<Option<Count>, Memory> {
+fn counted(alloc: Global, policies: u32) -> Result<Option<SafeCount>, Memory> {
     let mut state = 2026;
-    let mut count = Count {
+    let mut count = SafeCount {
         policies: 0,
         sets: 0,
     };

@@ -100,12 +100,12 @@ pub(crate) fn draw(state: &mut u64, limit: u32) -> u32
 
 /// A text and the state of the generator.
 #[derive(Drop)]
-struct Draft {
+struct DrawnText {
     text: Vec<u8>,
     state: u64,
 }
 
-impl Draft {
+impl DrawnText {
     fn chance(&mut self, of: u32) -> bool
         requires { 0 < of }
     {
@@ -216,7 +216,7 @@ impl Draft {
 
 /// A random policy, which may be unsafe.
 pub(crate) fn drawn_policy(alloc: Global, state: &mut u64) -> Result<Vec<u8>, Memory> {
-    let mut draft = Draft {
+    let mut draft = DrawnText {
         text: Vec::new(alloc),
         state: *state,
     };

@@ -5,7 +5,7 @@
 mod runs;
 
 use crate::runs::Runs;
-use case_files::Report;
+use case_files::CaseReport;
 use gt_host::HostShelf;
 use gt_io::{ReadFault, find_all};
 use std::alloc::AllocError;
@@ -25,7 +25,7 @@ fn names(rt: &HostRuntime) -> Result<Vec<String>, AllocError> {
 }
 
 /// Plays the cases of a file.
-fn play_file(rt: &HostRuntime, report: &mut Report, name: &str) -> Result<(), AllocError> {
+fn play_file(rt: &HostRuntime, report: &mut CaseReport, name: &str) -> Result<(), AllocError> {
     let mut shelf = HostShelf::new(rt);
     match find_all(rt.alloc(), &mut shelf, name, MAX_FILE) {
         Ok(text) => report.play_text(rt.alloc(), &mut Runs, name.as_bytes(), &text),
@@ -35,7 +35,7 @@ fn play_file(rt: &HostRuntime, report: &mut Report, name: &str) -> Result<(), Al
 }
 
 /// Plays the cases of all files.
-fn play_all(rt: &HostRuntime, report: &mut Report) -> Result<(), AllocError> {
+fn play_all(rt: &HostRuntime, report: &mut CaseReport) -> Result<(), AllocError> {
     let names = names(rt)?;
     for name in names.iter() {
         play_file(rt, report, name.as_str())?;
@@ -45,7 +45,7 @@ fn play_all(rt: &HostRuntime, report: &mut Report) -> Result<(), AllocError> {
 
 /// Status 0 where each case was told and none failed, else 1.
 fn main(rt: HostRuntime) -> ExitCode {
-    let mut report = Report::new(rt.alloc());
+    let mut report = CaseReport::new(rt.alloc());
     let told = play_all(&rt, &mut report).is_ok();
     let written = rt.stdout().write_all(report.text.as_slice()).is_ok();
     if told && written && report.failed == 0 {

@@ -10,7 +10,7 @@ use Rattle.gtrbac_model.specs.Same.{same_role, same_user}
 use Rattle.session_table.specs.declared.charges.Charge.{Charge}
 use Rattle.session_table.specs.declared.whole.Whole.{Whole}
 use Rattle.session_table.specs.Charges.{charge_eq, charged_by_rows, covering, covers}
-use Rattle.session_table.specs.Ledgers.{AllBefore}
+use Rattle.session_table.specs.ChargedDays.{AllBefore}
 use Rattle.session_table.proofs.Indexing.{count_cons}
 use Rattle.session_table.proofs.Writing.{key_is}
 

@@ -8,7 +8,7 @@ use Rattle.gtrbac_model.specs.Calendar.{day_of}
 use Rattle.history_laws.specs.Tables.{minutes_of_day}
 use Rattle.session_table.specs.declared.whole.Whole.{Whole}
 use Rattle.session_table.specs.Charges.{covers, covering}
-use Rattle.session_table.specs.Ledgers.{AllBefore}
+use Rattle.session_table.specs.ChargedDays.{AllBefore}
 use Rattle.session_table.proofs.Indexing.{count_cons}
 
 -- no stretch that ended has the day

@@ -6,7 +6,7 @@ pub mod Tables
 pub mod Replies
 pub mod Causes
 pub mod Kept
-pub mod Ledgers
+pub mod ChargedDays
 pub mod Permits
 pub mod Plans
 pub mod Dropping

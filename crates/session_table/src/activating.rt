@@ -13,10 +13,10 @@ ghost use Rattle.gt_base.specs.declared.limits.TheConstants.{MAX_SESSIONS};
 
 use crate::activations::Activation;
 use crate::active::ActiveRow;
+use crate::charged_days::ChargedDays;
 use crate::checks::{caps_of, early_refusal, late_refusal, owned};
 use crate::dropping::{AskedWalk, remember};
 use crate::faults::SessionFault;
-use crate::ledgers::Ledger;
 use crate::opened::{Open, add_role, has_role, owner_at};
 use civil_time::day;
 use gt_base::{
@@ -32,7 +32,7 @@ use std::alloc::Global;
 pub(crate) struct Permitting<'a> {
     pub(crate) alloc: Global,
     pub(crate) active: &'a ActiveRow,
-    pub(crate) charges: &'a Ledger,
+    pub(crate) charges: &'a ChargedDays,
     pub(crate) hierarchy: &'a Hierarchy,
     pub(crate) caps: &'a List<Caps>,
     pub(crate) status: &'a Status,

@@ -14,7 +14,7 @@ ghost use Rattle.session_table.specs.Causes.{first_cause, is_foreign, StandsAt, 
 ghost use Rattle.gt_base.specs.declared.limits.TheConstants.{MAX_SESSIONS};
 
 use crate::active::ActiveRow;
-use crate::ledgers::{Ledger, charged};
+use crate::charged_days::{ChargedDays, charged};
 use crate::opened::{Open, owner_at, place};
 use civil_time::day;
 use gt_base::{Actor, Caps, Fluent, Instant, Refusal, RoleId, SessionId, Status, UserId};
@@ -102,7 +102,7 @@ pub(crate) fn limit_minutes(caps: &[Caps]) -> bool
 pub(crate) fn late_refusal(
     caps: Caps,
     active: &ActiveRow,
-    charges: &Ledger,
+    charges: &ChargedDays,
     user: UserId,
     role: RoleId,
     today: u32,
@@ -153,7 +153,7 @@ fn full_user(cap: Option<u32>, active: &ActiveRow, user: UserId, role: RoleId) -
 /// allows.
 fn spent_day(
     cap: Option<u32>,
-    charges: &Ledger,
+    charges: &ChargedDays,
     user: UserId,
     role: RoleId,
     today: u32,

@@ -6,7 +6,7 @@ ghost use Rattle.gt_base.specs.declared.events.UserId.{UserId};
 ghost use Rattle.gtrbac_model.specs.Sessions.{is_of};
 
 use crate::active::ActiveRow;
-use crate::ledgers::Ledger;
+use crate::charged_days::ChargedDays;
 use gt_base::{Caps, Instant, List, Status};
 use hybrid_hierarchy::Hierarchy;
 use std::alloc::Global;
@@ -15,7 +15,7 @@ use std::alloc::Global;
 /// and what was charged before.
 #[derive(Clone, Copy)]
 pub(crate) struct Stretch<'a> {
-    pub(crate) charges: &'a Ledger,
+    pub(crate) charges: &'a ChargedDays,
     pub(crate) active: &'a ActiveRow,
     pub(crate) after: Instant,
     pub(crate) to: Instant,

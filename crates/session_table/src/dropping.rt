@@ -17,10 +17,10 @@ ghost use Rattle.session_table.specs.NextDrops.{capped_in};
 
 use crate::activations::{Activation, signal_of};
 use crate::active::ActiveRow;
+use crate::charged_days::charged;
 use crate::charges::minutes_on;
 use crate::checks::{caps_of, is_reached, limit_minutes};
 use crate::closings::{Closing, Stretch};
-use crate::ledgers::charged;
 use crate::opened::{Open, has_role, place, remove_role};
 use civil_time::day;
 use gt_base::{

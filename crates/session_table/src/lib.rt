@@ -5,6 +5,7 @@
 mod activating;
 mod activations;
 mod active;
+mod charged_days;
 mod charges;
 mod checks;
 mod closings;
@@ -12,7 +13,6 @@ mod counting;
 mod dropping;
 mod faults;
 mod laws;
-mod ledgers;
 mod nearing;
 mod opened;
 mod plans;

@@ -12,8 +12,8 @@ ghost use Rattle.gt_base.specs.declared.limits.TheConstants.{MAX_SESSIONS};
 
 use crate::activations::Activation;
 use crate::active::ActiveRow;
+use crate::charged_days::{ChargedDays, charged};
 use crate::checks::{caps_of, limit_minutes};
-use crate::ledgers::{Ledger, charged};
 use gt_base::{Caps, Instant, LAST_MINUTE, RoleId, UserId};
 
 /// The earlier of the two instants, if there are any.
@@ -111,7 +111,7 @@ fn next_reached(most: u32, spent: u32, n: u64, now: Instant) -> Option<Instant>
 /// each activation.
 fn next_for(
     a: &Activation,
-    charges: &Ledger,
+    charges: &ChargedDays,
     active: &ActiveRow,
     caps: Caps,
     now: Instant,
@@ -139,7 +139,7 @@ fn next_spent(
     cap: Option<u32>,
     user: UserId,
     role: RoleId,
-    charges: &Ledger,
+    charges: &ChargedDays,
     active: &ActiveRow,
     now: Instant,
 ) -> Option<Instant>
@@ -166,7 +166,7 @@ fn next_spent(
 /// When a cap next ends one of the activations. Where no role has a cap on minutes, none is looked
 /// at.
 pub(crate) fn next_capped(
-    charges: &Ledger,
+    charges: &ChargedDays,
     active: &ActiveRow,
     caps: &[Caps],
     now: Instant,

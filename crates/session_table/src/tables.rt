@@ -20,13 +20,13 @@ ghost use Rattle.session_table.specs.Replies.{Answers, AnswersAt, OrRefused, IsR
 use crate::activating::{Permitting, enter, permitted};
 use crate::activations::{Activation, count_in, end_session, find_active, signal_of};
 use crate::active::ActiveRow;
+use crate::charged_days::{
+    ChargedDays, charge_stretch, copied as copied_charges, forget_days, no_charges, reserve_charges,
+};
 use crate::checks::{caps_of, early_refusal, late_refusal, owned};
 use crate::closings::{Closing, Stretch};
 use crate::dropping::{AskedWalk, capped, dropped, prune, remember, signals_of, take_out};
 use crate::faults::SessionFault;
-use crate::ledgers::{
-    Ledger, charge_stretch, copied as copied_charges, forget_days, no_charges, reserve_charges,
-};
 use crate::nearing::next_capped;
 use crate::opened::{
     Open, add_role, close_up, copied as copied_sessions, has_role, owner_at, place, push,
@@ -54,7 +54,7 @@ pub struct Sessions {
     sessions: Vec<Open>,
     standing: usize,
     active: ActiveRow,
-    charges: Ledger,
+    charges: ChargedDays,
     begun: u32,
     charged_to: Option<Instant>,
     walks: IndexMap<AskedWalk, Walk>,

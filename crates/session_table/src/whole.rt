@@ -4,7 +4,7 @@ ghost use Rattle.gt_base.specs.declared.events.RoleId.{RoleId};
 ghost use Rattle.gt_base.specs.declared.events.UserId.{UserId};
 ghost use Rattle.gtrbac_model.specs.Sessions.{is_of};
 ghost use Rattle.session_table.specs.Charges.{covering, covers};
-ghost use Rattle.session_table.specs.Ledgers.{AllBefore};
+ghost use Rattle.session_table.specs.ChargedDays.{AllBefore};
 
 use crate::activations::Activation;
 use gt_base::{RoleId, UserId};

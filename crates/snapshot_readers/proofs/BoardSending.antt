@@ -11,12 +11,12 @@ use Rattle.std.specs.contracts.impls.GlobalAllocator.TheImpl as heap_impl
 use Rattle.gt_base.specs.contracts.requests.Entry as entry
 use Rattle.gt_base.specs.declared.requests.Entry.{Entry}
 use Rattle.left_right.specs.declared.Absorb as absorb
-use Rattle.published_copies.specs.contracts.views.View as view
+use Rattle.published_copies.specs.contracts.views.ReaderView as view
 use Rattle.published_copies.specs.contracts.views.Growing as growing
 use Rattle.published_copies.specs.contracts.copies.Copies as copies
 use Rattle.published_copies.specs.contracts.copies.Copies.TheInside as copies_inside
 use Rattle.published_copies.specs.declared.replica.Replica as replica
-use Rattle.published_copies.specs.Views.{Keeps, blank}
+use Rattle.published_copies.specs.Views.{AllFit, blank}
 use Rattle.snapshot_readers.specs.contracts.book_copy.BookCopy as copy
 use Rattle.snapshot_readers.proofs.GlassSending.{copy_sync}
 use Rattle.gt_base.proofs.Crossing.{entry_send}
@@ -34,7 +34,7 @@ copies_inside_send T R S a r s y =
     recorded_send (copies_inside.the_field T R S a r).row _ _ (copies_inside.the_type T R S a r).to_one
     (struct_send (shape (copies_inside.the_type T R S a r)) (
       writer.the_field_send T entry.the_row (view.the_row R) growing.the_row heap.the_row S a
-          (record { holds = λ p. Keeps (r.root (a.state p)) (r.list (a.state p)); first = blank })
+          (record { holds = λ p. AllFit (r.root (a.state p)) (r.list (a.state p)); first = blank })
           heap_impl.ghosts s entry_send heap_crosses.the_send y heap_crosses.the_sync frees,
       (search (sendable, crosses) depth 40, tt),
     ))

@@ -3,6 +3,7 @@ use denote.Param.Send.{IsSend, IsSync, sendable, view_send, view_sync, recorded_
 use denote.Struct.Declared.{shape}
 use Rattle.std.proofs.Crossing.{crosses}
 use Rattle.gt_base.proofs.Crossing.{base_send, base_sync, happened_send, happened_sync}
+use Rattle.delay_agenda.proofs.Crossing.{agenda_send, agenda_sync}
 use Rattle.policy_book.proofs.Crossing.{period_send, period_sync, policy_send, policy_sync}
 use Rattle.dependency_graph.specs.contracts.event_graphs.EventGraph as graph
 use Rattle.safety_cycle.specs.contracts.strata.Strata as strata
@@ -16,9 +17,8 @@ use Rattle.time_engine.specs.contracts.traces.Closed.TheInside as closed_inside
 use Rattle.time_engine.specs.contracts.timelines.Timeline as timeline
 use Rattle.time_engine.specs.contracts.timelines.Timeline.TheInside as timeline_inside
 use Rattle.duration_limits.specs.contracts.ages.Ages as ages
-use Rattle.delay_agenda.specs.contracts.agendas.Agenda as agenda
-use Rattle.instant_bases.specs.contracts.watches.Watch as watch
-use Rattle.instant_bases.specs.contracts.watches.Watch.TheInside as watch_inside
+use Rattle.instant_bases.specs.contracts.watches.WatchedPeriod as watch
+use Rattle.instant_bases.specs.contracts.watches.WatchedPeriod.TheInside as watch_inside
 use Rattle.session_table.specs.contracts.tables.Sessions as sessions
 use Rattle.core_machine.specs.contracts.books.Book as book
 use Rattle.core_machine.specs.contracts.books.Book.TheInside as book_inside
@@ -63,9 +63,6 @@ closed_send = view_send closed_inside.the_row _ _ _ _ closed_inside_send
 
 ages_send : IsSend ages.the_row
 ages_send = search (sendable, crosses) depth 60
-
-agenda_send : IsSend agenda.the_row
-agenda_send = search (sendable, crosses) depth 40
 
 watch_inside_send : IsSend watch_inside.the_row
 watch_inside_send = search (period_send, sendable, crosses) depth 40
@@ -132,9 +129,6 @@ closed_sync = view_sync closed_inside.the_row _ _ _ _ closed_inside_sync
 
 ages_sync : IsSync ages.the_row
 ages_sync = search (sendable, crosses) depth 60
-
-agenda_sync : IsSync agenda.the_row
-agenda_sync = search (sendable, crosses) depth 40
 
 watch_inside_sync : IsSync watch_inside.the_row
 watch_inside_sync = search (period_sync, sendable, crosses) depth 40

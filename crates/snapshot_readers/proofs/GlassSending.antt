@@ -7,9 +7,9 @@ use Rattle.std.proofs.alloc.Global.TheSendSync as heap_crosses
 use Rattle.left_right.proofs.reader.Reader.TheSendSync as reader
 use Rattle.std.specs.contracts.alloc.Global as heap
 use Rattle.std.specs.contracts.impls.GlobalAllocator.TheImpl as heap_impl
-use Rattle.published_copies.specs.contracts.views.View as view
+use Rattle.published_copies.specs.contracts.views.ReaderView as view
 use Rattle.published_copies.specs.contracts.views.Growing as growing
-use Rattle.published_copies.specs.Views.{Keeps, blank}
+use Rattle.published_copies.specs.Views.{AllFit, blank}
 use Rattle.snapshot_readers.specs.contracts.book_copy.BookCopy as copy
 use Rattle.snapshot_readers.specs.contracts.glass.Glass as glass
 use Rattle.snapshot_readers.specs.contracts.glass.Glass.TheInside as glass_inside
@@ -25,7 +25,7 @@ copy_sync = search (book_sync, sendable, crosses) depth 40
 
 sight_inside_send : (T R S : RattleType) (r : replica.Ghosts T.Denot R.Denot S.Denot) (a : absorb.Ghosts T.Denot Entry S.Denot) → IsSync T → IsSend (sight_inside.the_row T R S r a)
 sight_inside_send T R S r a s =
-    recorded_send (sight_inside.the_field T R S r a).row _ _ (sight_inside.the_type T R S r a).to_one (struct_send (shape (sight_inside.the_type T R S r a)) (reader.the_field_send T (view.the_row R) growing.the_row heap.the_row (record { holds = λ p. Keeps (r.root (a.state p)) (r.list (a.state p)); first = blank }) heap_impl.ghosts heap_crosses.the_send s heap_crosses.the_sync frees, tt))
+    recorded_send (sight_inside.the_field T R S r a).row _ _ (sight_inside.the_type T R S r a).to_one (struct_send (shape (sight_inside.the_type T R S r a)) (reader.the_field_send T (view.the_row R) growing.the_row heap.the_row (record { holds = λ p. AllFit (r.root (a.state p)) (r.list (a.state p)); first = blank }) heap_impl.ghosts heap_crosses.the_send s heap_crosses.the_sync frees, tt))
 
 sight_send : (T R S : RattleType) (r : replica.Ghosts T.Denot R.Denot S.Denot) (a : absorb.Ghosts T.Denot Entry S.Denot) → IsSync T → IsSend (sight.the_row T R S r a)
 sight_send T R S r a s = view_send (sight_inside.the_row T R S r a) _ _ _ _ (sight_inside_send T R S r a s)

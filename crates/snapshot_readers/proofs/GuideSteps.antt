@@ -1,6 +1,7 @@
 -- What the steps of a viewer, line by line, come to.
-use Rattle.std.proofs.Common.{◌≡◌, ℕ, ◌+◌, ◌≤◌, Bool, true, false, List, [], ◌∷◌, ◌++◌, length, refl, sym, ap, subst, ◌∙◌, arith, append-nil, append_assoc, Result, Ok, Err}
+use Rattle.std.proofs.Common.{◌≡◌, ℕ, ◌+◌, ◌≤◌, Bool, true, false, List, [], ◌∷◌, ◌++◌, length, take, refl, sym, ap, subst, ◌∙◌, arith, append-nil, append_assoc, Result, Ok, Err}
 use Rattle.std.specs.Prelude.{MatchBool}
+use Rattle.std.proofs.lemmas.List.{take_all}
 use mathlib.Core.List.{IsPrefix}
 use Rattle.gt_base.specs.declared.requests.Actor.{Actor}
 use Rattle.gt_base.specs.declared.requests.Actor.TheVariants.{Nobody}
@@ -12,15 +13,15 @@ use Rattle.request_text.specs.declared.lines.Line.TheVariants.{Silent, At, Be, A
 use Rattle.request_text.specs.declared.lines.LineFault.{LineFault}
 use Rattle.request_text.specs.Phrases.{read_line}
 use Rattle.core_machine.specs.Looks.{is_look}
-use Rattle.connection_laws.specs.Lines.{Answer, silence, agreed, bad, view_only, Acted, actor_after, readings_of, entries_of, GetsBy, AreActedBy}
+use Rattle.connection_laws.specs.Lines.{Answer, silence, agreed, bad, shown, no_memory, view_only, Acted, actor_after, readings_of, entries_of, GetsBy, AreActedBy}
 use Rattle.connection_laws.specs.Attending.{StepsBy, Steps}
-use Rattle.connection_laws.specs.declared.talk.LineAnswer.{LineAnswer}
 use Rattle.connection_laws.proofs.Linking.{acted_so}
 use Rattle.connection_laws.proofs.Prefixes.{prefix_self, prefix_trans}
 use Rattle.connection_laws.specs.Desks.{IsReplyAt}
 use Rattle.snapshot_readers.specs.Viewed.{lens_in, lens_of, AscendBetween, Looks, Sees}
 use Rattle.snapshot_readers.specs.Guides.{GuideView, GuideAsks}
-use Rattle.snapshot_readers.specs.Viewing.{Shows}
+use Rattle.snapshot_readers.specs.Glances.{IsGlance}
+use Rattle.snapshot_readers.specs.declared.glass.Glanced.{Glanced}
 use Rattle.snapshot_readers.proofs.Ascending.{ascend_on}
 use Rattle.snapshot_readers.proofs.Longer.{take_longer, longer}
 use Rattle.snapshot_readers.proofs.Looking.{look_by}
@@ -104,15 +105,28 @@ module _ (np : NamedPolicy) (birth : ℕ) where
         ascends = omega arith;
       }
 
-  -- and one that only looks
-  pub asks_shown : (a b : GuideView) (actor : Actor) (request : Request) (told : LineAnswer) → true ≡ is_look request → (x : Shows np birth a.seen b.seen a.lens b.lens actor request told) → GuideAsks np birth a b actor request x.answer [] []
-  asks_shown a b actor request told e x =
-      record {
-        sees = λ n. (subst (λ (t : Bool). MatchBool t (Looks np birth b.seen actor request x.answer) (x.answer ≡ view_only)) e x.looks, refl, refl);
-        grows = x.grows;
-        lens = x.lens;
-        ascends = x.ascends;
-      }
+  asks_look : (a b : GuideView) (actor : Actor) (request : Request) (answer : Answer) → true ≡ is_look request → Looks np birth b.seen actor request answer → IsPrefix a.seen b.seen → b.lens ≡ a.lens ++ lens_in answer
+      → AscendBetween (length a.seen) (lens_in answer) (length b.seen) → GuideAsks np birth a b actor request answer [] []
+  asks_look a b actor request answer e looks grows lens ascends =
+      record { sees = λ n. (subst (λ (t : Bool). MatchBool t (Looks np birth b.seen actor request answer) (answer ≡ view_only)) e looks, refl, refl); grows = grows; lens = lens; ascends = ascends }
+
+  -- one that only looks, for which there was no memory
+  pub asks_short : (a b : GuideView) (actor : Actor) (request : Request) → true ≡ is_look request → IsPrefix a.seen b.seen → b.lens ≡ a.lens → GuideAsks np birth a b actor request no_memory [] []
+  asks_short a b actor request e more same =
+      asks_look a b actor request no_memory e tt more (same ∙ sym (append-nil a.lens)) (longer a.seen b.seen more)
+
+  -- and one that a glance answers
+  pub asks_glance : (np' : NamedPolicy) (birth' : ℕ) (a b : GuideView) (actor : Actor) (request : Request) (g : Glanced) → true ≡ is_look request → np' ≡ np → birth' ≡ birth → IsPrefix a.seen b.seen
+      → IsGlance np'.policy birth' b.seen actor request g → b.lens ≡ a.lens ++ g.len ∷ [] → GuideAsks np birth a b actor request (shown g.len g.reply) [] []
+  asks_glance np' birth' a b actor request g e same same' more is lens =
+      let len = is.len in
+      let low = longer a.seen b.seen more in
+      let whole : take g.len b.seen ≡ b.seen = take_all g.len b.seen (omega (arith, len)) in
+      let here : IsReplyAt np.policy birth b.seen actor request g.reply =
+      subst (λ (p : NamedPolicy). IsReplyAt p.policy birth b.seen actor request g.reply) same (subst (λ (t : ℕ). IsReplyAt np'.policy t b.seen actor request g.reply) same' is.reply) in
+      asks_look a b actor request (shown g.len g.reply) e
+      (omega (arith, len), subst (λ (h : List Entry). IsReplyAt np.policy birth h actor request g.reply) (sym whole) here)
+      more lens (omega (arith, len, low), omega (arith, len))
 
   -- no line takes a reading or adds an entry
   line_quiet : (h : List Entry) (said : Result Line LineFault) (actor : Actor) (n : ℕ) (a : Acted) → GetsBy (Sees np birth h) said actor n a → (a.readings ≡ []) × (a.entries ≡ [])

@@ -1,8 +1,8 @@
 -- A link behind those that were served.
-use Rattle.std.proofs.Common.{◌≡◌, ℕ, ◌≤◌, List, [], ◌∷◌, ◌++◌, length, refl, sym, ap, subst, ◌∙◌, arith, append-nil, append_assoc, Some, None, true}
+use Rattle.std.proofs.Common.{◌≡◌, ℕ, ◌≤◌, List, [], ◌∷◌, ◌++◌, length, refl, sym, ap, subst, ◌∙◌, arith, append-nil, append_assoc, true}
 use mathlib.Core.List.{IsPrefix}
 use Rattle.gt_base.specs.declared.requests.Entry.{Entry}
-use Rattle.gt_io.specs.Links.{Traffic, Tally, Doorway, IsFresh, GivesFirst}
+use Rattle.gt_io.specs.Links.{Traffic, Doorway, IsFresh, GivesFirst}
 use Rattle.policy_words.specs.Naming.{NamedPolicy}
 use Rattle.connection_laws.proofs.Prefixes.{prefix_self, prefix_trans}
 use Rattle.snapshot_readers.specs.declared.ends.Viewed.{Viewed}
@@ -10,7 +10,7 @@ use Rattle.snapshot_readers.specs.declared.ends.ViewerEnd.{ViewerEnd}
 use Rattle.connection_laws.proofs.Linking.{link_so}
 use Rattle.snapshot_readers.specs.Viewed.{link_end, AscendBetween, Sees}
 use Rattle.snapshot_readers.specs.Viewing.{Views}
-use Rattle.snapshot_readers.specs.Crew.{ViewTale, views_begun, all_lens, ViewerSpot, ViewsTo, IsViewed, AreViewed, Worked, WorksOn, Works}
+use Rattle.snapshot_readers.specs.Crew.{ViewTale, views_begun, all_lens, ViewerSpot, ViewsTo, IsViewed, AreViewed, Worked, Works}
 use Rattle.connection_laws.specs.Doors.{Gives, AddUp}
 use Rattle.connection_laws.proofs.Giving.{gives_none, gives_more, add_up}
 use Rattle.snapshot_readers.proofs.Ascending.{ascend_on}
@@ -89,17 +89,15 @@ module _ {L : Type 0} where
     pub counted_by : (o p : ViewerSpot L) (served : List (Viewed L)) (tales : List (ViewTale L)) → Worked traffic np birth o p served tales → AddUp o.door.links p.door.links served
     counted_by o p served tales w = add_up o.door.links p.door.links served (views_begun tales) (lengths_agree p.seen served tales w.links) w.door
 
-    -- the next link, told from the begin of the work
-    pub next_done : (o p p' : ViewerSpot L) (items items' served : List (Viewed L)) (tales : List (ViewTale L)) (end : ViewerEnd) → items' ≡ items → p.door.tally ≡ o.door.tally → Worked traffic np birth o p items tales
-        → WorksOn traffic np birth p p' items' served (Some end) → Works traffic np birth o p' served end
-    next_done o p p' items items' served tales end kept low w on =
-        let d = on o tales (subst (λ (ss : List (Viewed L)). Worked traffic np birth o p ss tales) (sym kept) w) in
-        record { tales = d.0; worked = d.1; counted = counted_by o p' served d.0 d.1; cause = subst (λ (t : Tally). ViewsTo p'.door.links t p'.door.tally served end) low d.2 }
-
-    pub goes_on : (o p p' : ViewerSpot L) (items items' served : List (Viewed L)) (tales : List (ViewTale L)) → items' ≡ items → Worked traffic np birth o p items tales
-        → WorksOn traffic np birth p p' items' served None → (tales' : List (ViewTale L)) × Worked traffic np birth o p' served tales' × (p'.door.tally ≡ p.door.tally)
-    goes_on o p p' items items' served tales kept w on =
-        on o tales (subst (λ (ss : List (Viewed L)). Worked traffic np birth o p ss tales) (sym kept) w)
+    -- the work at its end, where the door has no other links to come than before
+    pub works_ended : (o p : ViewerSpot L) (d : Doorway L) (items served : List (Viewed L)) (tales : List (ViewTale L)) (end : ViewerEnd) → served ≡ items → Worked traffic np birth o p items tales → d.links ≡ p.door.links
+        → ViewsTo d.links o.door.tally d.tally served end → Works traffic np birth o (record p { door = d }) served end
+    works_ended o p d items served tales end kept w links cause =
+        let p' : ViewerSpot L = record p { door = d } in
+        let w' : Worked traffic np birth o p' served tales =
+        subst (λ (ss : List (Viewed L)). Worked traffic np birth o p' ss tales) (sym kept)
+        (record { links = w.links; grows = w.grows; ascends = w.ascends; door = subst (λ ls. Gives o.door.links ls (views_begun tales)) (sym links) w.door }) in
+        record { tales = tales; worked = w'; counted = counted_by o p' served tales w'; cause = cause }
 
     -- the links stand while the door rests
     pub at_rest : (o p : ViewerSpot L) (d : Doorway L) (served : List (Viewed L)) (tales : List (ViewTale L)) → p.door ≡ d → Worked traffic np birth o (record p { door = d }) served tales → Worked traffic np birth o p served tales

@@ -8,7 +8,7 @@ use Rattle.gt_base.proofs.Crossing.{list_send}
 use Rattle.snapshot_readers.specs.contracts.ends.Viewed as viewed
 use Rattle.snapshot_readers.specs.contracts.viewers.Viewer as viewer
 use Rattle.snapshot_readers.proofs.GlassSending.{glass_send}
-use Rattle.snapshot_readers.specs.contracts.seats.Seat as seat
+use Rattle.snapshot_readers.specs.contracts.seats.ViewerSeat as seat
 use Rattle.gt_base.specs.contracts.lists.List as list
 
 numbers_send : IsSend (list.the_row u64)

@@ -25,7 +25,7 @@ use Rattle.snapshot_readers.proofs.Ascending.{ascend_to}
 use Rattle.snapshot_readers.proofs.Longer.{take_longer, longer}
 use Rattle.snapshot_readers.proofs.Looking.{look_by}
 use Rattle.snapshot_readers.proofs.Linking.{viewed_longer}
-use Rattle.snapshot_readers.specs.declared.seats.Seat.{Seat}
+use Rattle.snapshot_readers.specs.declared.seats.ViewerSeat.{ViewerSeat}
 use Rattle.snapshot_readers.specs.Seats.{Watcher, watcher, watchers, HasLooked, IsNewViewer, glasses_of, viewers_of, IsHistory, HasSettled, IsOf, AreOf, AllAreOf, HasViewed, IsToldOf, AreTold, HaveViewed}
 
 all_each : {A : Type 0} (P : A → Type 0) (xs : List A) → All P xs → Each P xs
@@ -79,21 +79,21 @@ viewed_on traffic np birth a b seen seen' more v =
     }
 
 module _ {D G L : Type 0} where
-  viewers_reversed : (ss : List (Seat D G L)) → viewers_of (reverse ss) ≡ reverse (viewers_of ss)
+  viewers_reversed : (ss : List (ViewerSeat D G L)) → viewers_of (reverse ss) ≡ reverse (viewers_of ss)
   viewers_reversed [] = refl
   viewers_reversed (s ∷ ss) =
-      ap (λ (l : List (Seat D G L)). viewers_of l) (reverse-cons s ss) ∙ (map-append (λ (q : Seat D G L). q.viewer) (reverse ss) (s ∷ []) ∙ (ap (λ (l : List (Viewer D G L)). l ++ s.viewer ∷ []) (viewers_reversed ss) ∙ sym (reverse-cons s.viewer (viewers_of ss))))
+      ap (λ (l : List (ViewerSeat D G L)). viewers_of l) (reverse-cons s ss) ∙ (map-append (λ (q : ViewerSeat D G L). q.viewer) (reverse ss) (s ∷ []) ∙ (ap (λ (l : List (Viewer D G L)). l ++ s.viewer ∷ []) (viewers_reversed ss) ∙ sym (reverse-cons s.viewer (viewers_of ss))))
 
-  ready_at : (P : Glazed → Type 0) (Q : Viewer D G L → Type 0) (xs : List (Seat D G L)) → Each P (glasses_of xs) → Each Q (viewers_of xs) → (k : ℕ) (d : Seat D G L) → k < length xs
+  ready_at : (P : Glazed → Type 0) (Q : Viewer D G L → Type 0) (xs : List (ViewerSeat D G L)) → Each P (glasses_of xs) → Each Q (viewers_of xs) → (k : ℕ) (d : ViewerSeat D G L) → k < length xs
       → P (get_or xs k d).glass × Q (get_or xs k d).viewer
   ready_at P Q [] p q k d low = absurd (omega arith)
   ready_at P Q (x ∷ xs) p q zero d low = (p.0, q.0)
   ready_at P Q (x ∷ xs) p q (suc k) d low = ready_at P Q xs p.1 q.1 k d (omega (arith, low))
 
   -- each seat has a glass that has seen nothing, and a viewer that has not begun
-  pub ready : (np : NamedPolicy) (birth n : ℕ) (gs : List Glazed) (viewers : List (Viewer D G L)) (xs : List (Seat D G L)) → gs ≡ replicate n (fresh_glass np birth)
+  pub ready : (np : NamedPolicy) (birth n : ℕ) (gs : List Glazed) (viewers : List (Viewer D G L)) (xs : List (ViewerSeat D G L)) → gs ≡ replicate n (fresh_glass np birth)
       → reverse (glasses_of xs) ≡ gs → reverse (viewers_of xs) ≡ viewers
-      → All (λ (v : Viewer D G L). IsNewViewer v) viewers → (k : ℕ) (d : Seat D G L) → k < length xs → ((get_or xs k d).glass ≡ fresh_glass np birth) × IsNewViewer (get_or xs k d).viewer
+      → All (λ (v : Viewer D G L). IsNewViewer v) viewers → (k : ℕ) (d : ViewerSeat D G L) → k < length xs → ((get_or xs k d).glass ≡ fresh_glass np birth) × IsNewViewer (get_or xs k d).viewer
   ready np birth n gs viewers xs all glasses is new =
       let P : Glazed → Type 0 = λ (g : Glazed). g ≡ fresh_glass np birth in
       let Q : Viewer D G L → Type 0 = λ (v : Viewer D G L). IsNewViewer v in
@@ -101,16 +101,16 @@ module _ {D G L : Type 0} where
 
   module _ (doorway : D → Doorway L) (traffic : L → Traffic) (np : NamedPolicy) (birth : ℕ) (h : List Entry) where
     -- all that a seat goes through
-    pub record IsDone (x u : Seat D G L) : Type 0 where
+    pub record IsDone (x u : ViewerSeat D G L) : Type 0 where
       pub fresh : x.glass ≡ fresh_glass np birth
-      pub mid : Seat D G L
+      pub mid : ViewerSeat D G L
       pub looked : HasLooked doorway traffic np x mid
       pub settled : HasSettled h mid u
 
     abbrev W : Viewer D G L → Watcher L
     W = watcher doorway
 
-    viewed_in : (x z : Seat D G L) → x.glass ≡ fresh_glass np birth → HasLooked doorway traffic np x z → HasViewed traffic np birth (W x.viewer) (W z.viewer) z.glass.seen
+    viewed_in : (x z : ViewerSeat D G L) → x.glass ≡ fresh_glass np birth → HasLooked doorway traffic np x z → HasViewed traffic np birth (W x.viewer) (W z.viewer) z.glass.seen
     viewed_in x z fresh k =
         let born : x.glass.birth ≡ birth = ap (λ (g : Glazed). g.birth) fresh in
         let seen : x.glass.seen ≡ [] = ap (λ (g : Glazed). g.seen) fresh in
@@ -126,14 +126,14 @@ module _ {D G L : Type 0} where
         }
 
     -- over the history that the glass has then seen
-    viewed_mid : (x u : Seat D G L) → (d : IsDone x u) → HasViewed traffic np birth (W x.viewer) (W u.viewer) d.mid.glass.seen
+    viewed_mid : (x u : ViewerSeat D G L) → (d : IsDone x u) → HasViewed traffic np birth (W x.viewer) (W u.viewer) d.mid.glass.seen
     viewed_mid x u d = subst (λ (v : Viewer D G L). HasViewed traffic np birth (W x.viewer) (W v) d.mid.glass.seen) (sym d.settled.viewer) (viewed_in x d.mid d.fresh d.looked)
 
-    has_viewed : (x u : Seat D G L) → IsDone x u → (seen : List Entry) × HasViewed traffic np birth (W x.viewer) (W u.viewer) seen
+    has_viewed : (x u : ViewerSeat D G L) → IsDone x u → (seen : List Entry) × HasViewed traffic np birth (W x.viewer) (W u.viewer) seen
     has_viewed x u d = (d.mid.glass.seen, viewed_mid x u d)
 
     -- and where the glass was told, over a list that begins with the history
-    is_told : (x u : Seat D G L) → IsDone x u → u.told ≡ true → IsToldOf traffic np birth h (W x.viewer) (W u.viewer)
+    is_told : (x u : ViewerSeat D G L) → IsDone x u → u.told ≡ true → IsToldOf traffic np birth h (W x.viewer) (W u.viewer)
     is_told x u d told =
         let t = d.settled.told told in
         let v = viewed_on traffic np birth (W x.viewer) (W u.viewer) d.mid.glass.seen u.glass.seen d.settled.grows (viewed_mid x u d) in
@@ -149,56 +149,56 @@ module _ {D G L : Type 0} where
           of = tales_of np birth h u.glass.seen t.0 traffic u.viewer.served.items v.tales v.links;
         }
 
-    abbrev AllDone : List (Seat D G L) → List (Seat D G L) → Type 0
+    abbrev AllDone : List (ViewerSeat D G L) → List (ViewerSeat D G L) → Type 0
     AllDone [] [] = Unit {0}
     AllDone [] (y ∷ ys) = ⊥
     AllDone (x ∷ xs) [] = ⊥
     AllDone (x ∷ xs) (y ∷ ys) = IsDone x y × AllDone xs ys
 
-    all_done : (xs ys : List (Seat D G L)) → length ys ≡ length xs → ((i : ℕ) (d : Seat D G L) → i < length xs → IsDone (get_or xs i d) (get_or ys i d)) → AllDone xs ys
+    all_done : (xs ys : List (ViewerSeat D G L)) → length ys ≡ length xs → ((i : ℕ) (d : ViewerSeat D G L) → i < length xs → IsDone (get_or xs i d) (get_or ys i d)) → AllDone xs ys
     all_done [] [] e f = tt
     all_done [] (y ∷ ys) e f = absurd (omega arith)
     all_done (x ∷ xs) [] e f = absurd (omega arith)
     all_done (x ∷ xs) (y ∷ ys) e f = (f 0 x (omega arith), all_done xs ys (omega arith) (λ i d low. f (suc i) d (omega arith)))
 
-    done_append : (xs ys us vs : List (Seat D G L)) → AllDone xs ys → AllDone us vs → AllDone (xs ++ us) (ys ++ vs)
+    done_append : (xs ys us vs : List (ViewerSeat D G L)) → AllDone xs ys → AllDone us vs → AllDone (xs ++ us) (ys ++ vs)
     done_append [] [] us vs a b = b
     done_append [] (y ∷ ys) us vs a b = absurd a
     done_append (x ∷ xs) [] us vs a b = absurd a
     done_append (x ∷ xs) (y ∷ ys) us vs a b = (a.0, done_append xs ys us vs a.1 b)
 
-    done_reversed : (xs ys : List (Seat D G L)) → AllDone xs ys → AllDone (reverse xs) (reverse ys)
+    done_reversed : (xs ys : List (ViewerSeat D G L)) → AllDone xs ys → AllDone (reverse xs) (reverse ys)
     done_reversed [] [] a = tt
     done_reversed [] (y ∷ ys) a = absurd a
     done_reversed (x ∷ xs) [] a = absurd a
     done_reversed (x ∷ xs) (y ∷ ys) a =
-        subst (λ (l : List (Seat D G L)). AllDone l (reverse (y ∷ ys))) (sym (reverse-cons x xs))
-        (subst (λ (l : List (Seat D G L)). AllDone (reverse xs ++ x ∷ []) l) (sym (reverse-cons y ys)) (done_append (reverse xs) (reverse ys) (x ∷ []) (y ∷ []) (done_reversed xs ys a.1) (a.0, tt)))
+        subst (λ (l : List (ViewerSeat D G L)). AllDone l (reverse (y ∷ ys))) (sym (reverse-cons x xs))
+        (subst (λ (l : List (ViewerSeat D G L)). AllDone (reverse xs ++ x ∷ []) l) (sym (reverse-cons y ys)) (done_append (reverse xs) (reverse ys) (x ∷ []) (y ∷ []) (done_reversed xs ys a.1) (a.0, tt)))
 
     abbrev WS : List (Viewer D G L) → List (Watcher L)
     WS = watchers doorway
 
-    all_viewed : (xs ys : List (Seat D G L)) → AllDone xs ys → HaveViewed traffic np birth (WS (viewers_of xs)) (WS (viewers_of ys))
+    all_viewed : (xs ys : List (ViewerSeat D G L)) → AllDone xs ys → HaveViewed traffic np birth (WS (viewers_of xs)) (WS (viewers_of ys))
     all_viewed [] [] a = tt
     all_viewed [] (y ∷ ys) a = absurd a
     all_viewed (x ∷ xs) [] a = absurd a
     all_viewed (x ∷ xs) (y ∷ ys) a = (has_viewed x y a.0, all_viewed xs ys a.1)
 
-    all_told : (xs ys : List (Seat D G L)) → AllDone xs ys → Each (λ (s : Seat D G L). s.told ≡ true) ys → AreTold traffic np birth h (WS (viewers_of xs)) (WS (viewers_of ys))
+    all_told : (xs ys : List (ViewerSeat D G L)) → AllDone xs ys → Each (λ (s : ViewerSeat D G L). s.told ≡ true) ys → AreTold traffic np birth h (WS (viewers_of xs)) (WS (viewers_of ys))
     all_told [] [] a t = tt
     all_told [] (y ∷ ys) a t = absurd a
     all_told (x ∷ xs) [] a t = absurd a
     all_told (x ∷ xs) (y ∷ ys) a t = (is_told x y a.0 t.0, all_told xs ys a.1 t.1)
 
-    each_told : (ys : List (Seat D G L)) → list_all (λ (s : Seat D G L). s.told) ys ≡ true → Each (λ (s : Seat D G L). s.told ≡ true) ys
+    each_told : (ys : List (ViewerSeat D G L)) → list_all (λ (s : ViewerSeat D G L). s.told) ys ≡ true → Each (λ (s : ViewerSeat D G L). s.told ≡ true) ys
     each_told [] e = tt
-    each_told (y ∷ ys) e = let both = both_true y.told (list_all (λ (s : Seat D G L). s.told) ys) e in (both.0, each_told ys both.1)
+    each_told (y ∷ ys) e = let both = both_true y.told (list_all (λ (s : ViewerSeat D G L). s.told) ys) e in (both.0, each_told ys both.1)
 
     -- what the viewers have served, in their order, where each seat went through all
-    pub seats_done : (viewers viewers' : List (Viewer D G L)) (xs us : List (Seat D G L)) → reverse (viewers_of xs) ≡ viewers → viewers' ≡ reverse (viewers_of us) → length us ≡ length xs
-        → ((i : ℕ) (d : Seat D G L) → i < length xs → IsDone (get_or xs i d) (get_or us i d))
+    pub seats_done : (viewers viewers' : List (Viewer D G L)) (xs us : List (ViewerSeat D G L)) → reverse (viewers_of xs) ≡ viewers → viewers' ≡ reverse (viewers_of us) → length us ≡ length xs
+        → ((i : ℕ) (d : ViewerSeat D G L) → i < length xs → IsDone (get_or xs i d) (get_or us i d))
         → HaveViewed traffic np birth (WS viewers) (WS viewers')
-        × (list_all (λ (s : Seat D G L). s.told) us ≡ true → AreTold traffic np birth h (WS viewers) (WS viewers'))
+        × (list_all (λ (s : ViewerSeat D G L). s.told) us ≡ true → AreTold traffic np birth h (WS viewers) (WS viewers'))
     seats_done viewers viewers' xs us is is' long f =
         let all = done_reversed xs us (all_done xs us long f) in
         let before : viewers_of (reverse xs) ≡ viewers = viewers_reversed xs ∙ is in
@@ -208,5 +208,5 @@ module _ {D G L : Type 0} where
           λ told.
               subst (λ (vs : List (Viewer D G L)). AreTold traffic np birth h (WS viewers) (WS vs)) after
               (subst (λ (vs : List (Viewer D G L)). AreTold traffic np birth h (WS vs) (WS (viewers_of (reverse us)))) before
-              (all_told (reverse xs) (reverse us) all (each_reverse (λ (s : Seat D G L). s.told ≡ true) us (each_told us told)))),
+              (all_told (reverse xs) (reverse us) all (each_reverse (λ (s : ViewerSeat D G L). s.told ≡ true) us (each_told us told)))),
         )

@@ -1,5 +1,5 @@
 -- What a viewer keeps from link to link.
-use Rattle.std.specs.Prelude.{◌≡◌, ℕ, ◌<◌, List, [], ◌∷◌, ◌++◌, length, IfSome, MatchOption}
+use Rattle.std.specs.Prelude.{◌≡◌, ℕ, ◌<◌, List, [], ◌∷◌, ◌++◌, length, IfSome}
 use Rattle.std.specs.declared.option.Option.{Option}
 use mathlib.Core.List.{IsPrefix}
 use Rattle.gt_base.specs.declared.requests.Entry.{Entry}
@@ -69,15 +69,6 @@ module _ {L : Type 0} (traffic : L → Traffic) (np : NamedPolicy) (birth : ℕ)
     pub grows : IsPrefix o.seen p.seen
     pub ascends : AscendBetween (length o.seen) (all_lens served) (length p.seen)
     pub door : Gives o.door.links p.door.links (views_begun tales)
-
-  -- what one more link comes to
-  abbrev pub WorksOn : ViewerSpot L → ViewerSpot L → List (Viewed L) → List (Viewed L)
-      → Option ViewerEnd → Type 0
-  WorksOn p p' served served' result =
-      (o : ViewerSpot L) (tales : List (ViewTale L)) → Worked o p served tales
-      → (tales' : List (ViewTale L)) × Worked o p' served' tales'
-      × MatchOption result (p'.door.tally ≡ p.door.tally)
-      (λ end. ViewsTo p'.door.links p.door.tally p'.door.tally served' end)
 
   -- all the work of a viewer
   pub record Works (o p : ViewerSpot L) (served : List (Viewed L)) (end : ViewerEnd) : Type 0 where

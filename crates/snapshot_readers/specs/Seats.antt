@@ -1,5 +1,5 @@
 -- Viewers at their seats, and what they are told.
-use Rattle.std.specs.Prelude.{◌≡◌, ◌≤◌, ℕ, true, false, ⊤, List, [], ◌∷◌, map, length, take, Ok}
+use Rattle.std.specs.Prelude.{◌≡◌, ◌<◌, ◌≤◌, ℕ, true, false, ⊤, List, [], ◌∷◌, map, length, take, Ok, slice_index_or}
 use mathlib.Core.List.{IsPrefix}
 use Rattle.gt_base.specs.declared.requests.Actor.{Actor}
 use Rattle.gt_base.specs.declared.requests.Actor.TheVariants.{Nobody}
@@ -23,9 +23,8 @@ use Rattle.snapshot_readers.specs.Crew.{ViewTale, Works, AreViewed, ViewsTo, vie
 use Rattle.connection_laws.specs.Doors.{Gives}
 use Rattle.connection_laws.specs.Lines.{Answer, shown, Acted, actor_after}
 use Rattle.snapshot_readers.specs.Viewed.{AscendBetween}
-use Rattle.connection_laws.specs.Desks.{GlancesCanBeTold}
-use Rattle.snapshot_readers.specs.Viewing.{SameGlass}
-use Rattle.snapshot_readers.specs.declared.seats.Seat.{Seat}
+use Rattle.snapshot_readers.specs.Viewing.{CanShow, SameGlass}
+use Rattle.snapshot_readers.specs.declared.seats.ViewerSeat.{ViewerSeat}
 
 -- a viewer as it is seen: its door, its served links, and how it ended
 pub record Watcher (L : Type 0) : Type 0 where
@@ -42,7 +41,8 @@ module _ {D G L : Type 0} (doorway : D → Doorway L) where
 
   -- what a viewer at its seat did, with the history that its glass has seen before and after; its
   -- door was closed
-  pub record HasLooked (traffic : L → Traffic) (np : NamedPolicy) (x y : Seat D G L) : Type 0 where
+  pub record HasLooked (traffic : L → Traffic) (np : NamedPolicy) (x y : ViewerSeat D G L)
+      : Type 0 where
     pub same : SameGlass x.glass y.glass
     pub works : Works traffic np x.glass.birth
         (record { seen = x.glass.seen; door = doorway x.viewer.door })
@@ -50,23 +50,28 @@ module _ {D G L : Type 0} (doorway : D → Doorway L) where
         y.viewer.outcome
     pub closed : (doorway y.viewer.door).closed ≡ true
 
+-- there are as many as before, and this holds of each, from before to after
+abbrev pub SeatBySeat : {A : Type 0} → (A → A → Type 0) → List A → List A → Type 0
+SeatBySeat {A} Holds xs ys =
+    (length ys ≡ length xs)
+    × ((i : ℕ) (d : A) → i < length xs → Holds (slice_index_or xs i d) (slice_index_or ys i d))
+
 -- it has not begun, and has served nothing
 abbrev pub IsNewViewer : {D G L : Type 0} → Viewer D G L → Type 0
 IsNewViewer v = (v.outcome ≡ Fresh) × (v.served.items ≡ [])
 
--- the viewer has not begun, and the glass is one of this policy, whose glances can be told
-pub record IsReadySeat {D G L : Type 0} (np : NamedPolicy) (s : Seat D G L) : Type 0 where
-  pub named : s.glass.named ≡ np
-  pub replies : GlancesCanBeTold np s.glass.birth
+-- the viewer has not begun, and its glass can show
+pub record IsReadySeat {D G L : Type 0} (np : NamedPolicy) (s : ViewerSeat D G L) : Type 0 where
+  pub shows : CanShow np s.glass
   pub number : s.number ≤ 7
   pub fresh : IsNewViewer s.viewer
 
 module _ {D G L : Type 0} where
-  abbrev pub glasses_of : List (Seat D G L) → List Glazed
-  glasses_of seats = map (λ (s : Seat D G L). s.glass) seats
+  abbrev pub glasses_of : List (ViewerSeat D G L) → List Glazed
+  glasses_of seats = map (λ (s : ViewerSeat D G L). s.glass) seats
 
-  abbrev pub viewers_of : List (Seat D G L) → List (Viewer D G L)
-  viewers_of seats = map (λ (s : Seat D G L). s.viewer) seats
+  abbrev pub viewers_of : List (ViewerSeat D G L) → List (Viewer D G L)
+  viewers_of seats = map (λ (s : ViewerSeat D G L). s.viewer) seats
 
 -- the list is legal with some model, and its moves are the policy's
 pub record IsHistory (p : Policy) (birth : ℕ) (h : List Entry) : Type 0 where
@@ -75,7 +80,7 @@ pub record IsHistory (p : Policy) (birth : ℕ) (h : List Entry) : Type 0 where
   pub named : AreNamed p h
 
 -- a glass looked whether this history begins what was published last
-pub record HasSettled {D G L : Type 0} (h : List Entry) (x y : Seat D G L) : Type 0 where
+pub record HasSettled {D G L : Type 0} (h : List Entry) (x y : ViewerSeat D G L) : Type 0 where
   pub viewer : y.viewer ≡ x.viewer
   pub same : SameGlass x.glass y.glass
   pub grows : IsPrefix x.glass.seen y.glass.seen

@@ -1,32 +1,23 @@
 -- What the service of a viewer's link comes to.
-use Rattle.std.specs.Prelude.{◌≡◌, ℕ, ◌+◌, true, List, ◌++◌, length}
+use Rattle.std.specs.Prelude.{◌≡◌, ℕ, ◌+◌, true, List, length}
 use mathlib.Core.List.{IsPrefix}
-use Rattle.gt_base.specs.declared.requests.Actor.{Actor}
-use Rattle.gt_base.specs.declared.requests.Request.{Request}
 use Rattle.gt_base.specs.declared.requests.Entry.{Entry}
 use Rattle.gt_io.specs.Links.{Traffic}
 use Rattle.policy_words.specs.Naming.{NamedPolicy}
-use Rattle.connection_laws.specs.declared.talk.LineAnswer.{LineAnswer}
-use Rattle.connection_laws.specs.Lines.{Answer, Acted, denied_in, requests_in}
-use Rattle.connection_laws.specs.Acting.{IsTold}
+use Rattle.connection_laws.specs.Desks.{GlancesCanBeTold}
+use Rattle.connection_laws.specs.Lines.{Acted, denied_in, requests_in}
 use Rattle.connection_laws.specs.Attending.{bytes_of, Carries, EndsBy, IsUnhindered, IsComplete}
 use Rattle.snapshot_readers.specs.Glazed.{Glazed}
 use Rattle.snapshot_readers.specs.declared.ends.ViewEnd.{ViewEnd}
-use Rattle.snapshot_readers.specs.Viewed.{link_end, lens_in, lens_of, AscendBetween, Looks, View, IsViewAnswered}
+use Rattle.snapshot_readers.specs.Viewed.{link_end, lens_of, AscendBetween, View, IsViewAnswered}
+
+-- a glass of this policy, each reply of which can be told
+abbrev pub CanShow : NamedPolicy → Glazed → Type 0
+CanShow np g = (g.named ≡ np) × GlancesCanBeTold np g.birth
 
 -- of the same board
 abbrev pub SameGlass : Glazed → Glazed → Type 0
 SameGlass a b = (b.named ≡ a.named) × (b.birth ≡ a.birth)
-
--- what a glance, or want of memory for it, does to the numbers, and what is told
-pub record Shows (np : NamedPolicy) (birth : ℕ) (seen seen' : List Entry) (ns ns' : List ℕ)
-    (actor : Actor) (request : Request) (told : LineAnswer) : Type 0 where
-  pub answer : Answer
-  pub told_is : IsTold np told answer
-  pub looks : Looks np birth seen' actor request answer
-  pub grows : IsPrefix seen seen'
-  pub lens : ns' ≡ ns ++ lens_in answer
-  pub ascends : AscendBetween (length seen) (lens_in answer) (length seen')
 
 -- What the service of a link comes to, over the history that the glass has then seen: the bytes
 -- taken and given, the acted lines, and how many of them are requests. The link was let go

@@ -1,11 +1,8 @@
 //! A viewer that answers the requests of a link by glances.
-ghost use Rattle.std.specs.Prelude.{◌≡◌, ℕ, true};
-ghost use Rattle.gtrbac_model.specs.History.{IsNamedWish, ask};
-ghost use Rattle.connection_laws.specs.Rooms.{text_in, LendsRoom};
+ghost use Rattle.std.specs.Prelude.{◌≡◌};
 ghost use Rattle.core_machine.specs.Looks.{is_look};
 ghost use Rattle.snapshot_readers.specs.Guides.{GuideGets};
-ghost use Rattle.connection_laws.specs.Desks.{GlancesCanBeTold};
-ghost use Rattle.snapshot_readers.specs.Viewing.{SameGlass, Shows};
+ghost use Rattle.snapshot_readers.specs.Viewing.{CanShow};
 
 use crate::glass::Glass;
 use crate::station::Station;
@@ -14,7 +11,6 @@ use gt_base::{Actor, List, Request};
 use gt_io::Gate;
 use policy_book::Policy;
 use request_text::{LONGEST_REPLY, put_reply, reply_fits};
-use std::alloc::Global;
 use std::mem::replace;
 
 /// Whether a request only looks.
@@ -31,42 +27,6 @@ pub(crate) fn only_looks(request: &Request) -> bool
     }
 }
 
-/// Answers a request that only looks, with room for the reply and for its number made before. A
-/// reply goes out in the buffer, and one without room is left in its place.
-fn show(
-    alloc: Global,
-    glass: &mut Glass,
-    policy: &Policy,
-    actor: Actor,
-    request: Request,
-    lens: &mut List<u64>,
-    room: &mut List<u8>,
-) -> LineAnswer
-    requires policy { glass.old.named ≡ policy.now }
-    requires looks { is_look request ≡ true }
-    requires named { IsNamedWish policy.now.policy (ask actor request) }
-    requires replies { GlancesCanBeTold policy.now glass.old.birth }
-    ensures glass { SameGlass glass.old glass.new }
-    ensures shows { Shows policy.now glass.old.birth glass.old.seen glass.new.seen lens.old.items
-        lens.new.items actor request result }
-    ensures lends { LendsRoom room.old room.new (text_in result) }
-    ensures reply { (n : ℕ) → result ≡ LineAnswer.Worn n → ⊥ }
-{
-    room.clear();
-    if room.reserve(LONGEST_REPLY).is_err() || lens.reserve(1).is_err() {
-        return LineAnswer::NoMemory;
-    }
-    match glass.glance(actor, request) {
-        Ok(glanced) => {
-            reply_fits(policy, &glanced.reply);
-            put_reply(policy, &glanced.reply, room);
-            lens.push(glanced.len);
-            LineAnswer::Reply(replace(room, List::new(alloc)))
-        }
-        Err(_) => LineAnswer::NoMemory,
-    }
-}
-
 /// A viewer that answers by its glass: it passes its gate, and answers what only looks. It records
 /// of how many entries the history is that each reply is of.
 #[derive(Drop)]
@@ -80,8 +40,7 @@ pub(crate) struct Guide<'a, G: Gate> {
 impl<'a, G: Gate> Answerer for Guide<'a, G> {
     ghost named = { λ k. k.policy.now };
 
-    ghost ready = { λ k. (k.glass.now.named ≡ k.policy.now)
-        × GlancesCanBeTold k.policy.now k.glass.now.birth };
+    ghost ready = { λ k. CanShow k.policy.now k.glass.now };
 
     ghost asks = { GuideGets };
 
@@ -106,6 +65,8 @@ impl<'a, G: Gate> Answerer for Guide<'a, G> {
         self.policy
     }
 
+    /// A request that only looks is answered by a glance, with room for the reply and its number
+    /// made before. A reply goes out in the buffer, and one without room is left in its place.
     fn answer(
         &mut self,
         call: u64,
@@ -117,15 +78,19 @@ impl<'a, G: Gate> Answerer for Guide<'a, G> {
         if !only_looks(&request) {
             return LineAnswer::ViewOnly;
         }
-        show(
-            self.station.alloc,
-            self.glass,
-            self.policy,
-            actor,
-            request,
-            self.lens,
-            room,
-        )
+        room.clear();
+        if room.reserve(LONGEST_REPLY).is_err() || self.lens.reserve(1).is_err() {
+            return LineAnswer::NoMemory;
+        }
+        match self.glass.glance(actor, request) {
+            Ok(glanced) => {
+                reply_fits(self.policy, &glanced.reply);
+                put_reply(self.policy, &glanced.reply, room);
+                self.lens.push(glanced.len);
+                LineAnswer::Reply(replace(room, List::new(self.station.alloc)))
+            }
+            Err(_) => LineAnswer::NoMemory,
+        }
     }
 
     /// Holds no turn.

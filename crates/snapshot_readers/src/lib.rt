@@ -21,7 +21,7 @@ pub use book_copy::BookCopy;
 pub use ends::{ViewEnd, Viewed, ViewerEnd};
 pub use glass::{Glanced, Glass};
 pub use glasses::Glasses;
-pub use seats::{Seat, all_told, leave_seats, run_seats, settle_all, take_seats};
+pub use seats::{ViewerSeat, all_told, leave_seats, run_seats, settle_all, take_seats};
 pub use serve::view_link;
 pub use station::Station;
 pub use viewers::{Viewer, view};

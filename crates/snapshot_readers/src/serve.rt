@@ -1,11 +1,8 @@
 //! A viewer's link, from its first byte to its end.
-ghost use Rattle.std.specs.Prelude.{◌≡◌, ◌+◌, ◌<◌, ◌≤◌, ◌^◌, ℕ, true, false};
+ghost use Rattle.std.specs.Prelude.{◌≡◌, ◌+◌, ◌<◌, ◌≤◌, ◌^◌, ℕ, false};
 ghost use Rattle.gt_base.specs.declared.limits.TheConstants.{MAX_BYTES};
-ghost use Rattle.connection_laws.specs.Attending.{IsUnheard, spot, Attends};
 ghost use Rattle.snapshot_readers.specs.Viewed.{link_end};
-ghost use Rattle.snapshot_readers.specs.Guides.{guide_view, GuideAsks};
-ghost use Rattle.connection_laws.specs.Desks.{GlancesCanBeTold};
-ghost use Rattle.snapshot_readers.specs.Viewing.{SameGlass, Views};
+ghost use Rattle.snapshot_readers.specs.Viewing.{CanShow, SameGlass, Views};
 
 use crate::ends::{ViewEnd, Viewed};
 use crate::glass::Glass;
@@ -15,36 +12,6 @@ use connection_laws::{Hearing, LinkEnd, attend};
 use gt_base::List;
 use gt_io::{Gate, Link};
 use policy_book::Policy;
-
-/// Serves a link to its end by glances, and lets it go.
-fn attend_by<L: Link, G: Gate>(
-    glass: &mut Glass,
-    policy: &Policy,
-    station: &Station<'_, G>,
-    link: &mut L,
-    hearing: &mut Hearing,
-    lens: &mut List<u64>,
-) -> LinkEnd
-    requires policy { glass.old.named ≡ policy.now }
-    requires replies { GlancesCanBeTold policy.now glass.old.birth }
-    requires unheard { IsUnheard hearing.old (L.traffic link.old) }
-    ensures glass { SameGlass glass.old glass.new }
-    ensures attends { Attends policy.now (GuideAsks policy.now glass.old.birth) (λ g n. ⊥)
-        (spot (guide_view glass.old.seen lens.old.items) hearing.old.talk
-        (L.traffic link.old).given)
-        (spot (guide_view glass.new.seen lens.new.items) hearing.new.talk
-        (L.traffic link.new).given) (L.traffic link.old) (L.traffic link.new) result }
-    ensures calls { hearing.new.talk.calls ≤ hearing.old.talk.calls + MAX_BYTES }
-    ensures finished { (L.traffic link.new).finished ≡ true }
-{
-    let mut guide = Guide {
-        station,
-        policy,
-        glass,
-        lens,
-    };
-    attend(&mut guide, link, hearing)
-}
 
 /// The end of a viewer's link, which has no pass to be worn.
 fn view_end(end: LinkEnd) -> ViewEnd
@@ -71,8 +38,7 @@ pub fn view_link<L: Link, G: Gate>(
     mut link: L,
     calls: &mut u64,
 ) -> Viewed<L>
-    requires policy { glass.old.named ≡ policy.now }
-    requires replies { GlancesCanBeTold policy.now glass.old.birth }
+    requires shows { CanShow policy.now glass.old }
     requires calls { calls.old < 2 ^ 63 }
     requires open { (L.traffic link).finished ≡ false }
     ensures glass { SameGlass glass.old glass.new }
@@ -83,7 +49,16 @@ pub fn view_link<L: Link, G: Gate>(
 {
     let mut hearing = Hearing::new(station.alloc, *calls);
     let mut lens = List::new(station.alloc);
-    let end = attend_by(glass, policy, station, &mut link, &mut hearing, &mut lens);
+    let end = attend(
+        &mut Guide {
+            station: &*station,
+            policy: &*policy,
+            glass,
+            lens: &mut lens,
+        },
+        &mut link,
+        &mut hearing,
+    );
     *calls = hearing.talk.calls;
     Viewed {
         link,

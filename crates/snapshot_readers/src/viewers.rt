@@ -1,9 +1,7 @@
 //! The links of a viewer's door, one after the other.
-ghost use Rattle.std.specs.Prelude.{◌≡◌, ◌+◌, ◌<◌, ◌≤◌, ◌^◌, [], length, None, true};
-ghost use Rattle.gt_base.specs.declared.limits.TheConstants.{MAX_BYTES};
-ghost use Rattle.snapshot_readers.specs.Crew.{WorksOn, Works};
-ghost use Rattle.connection_laws.specs.Desks.{GlancesCanBeTold};
-ghost use Rattle.snapshot_readers.specs.Viewing.{SameGlass};
+ghost use Rattle.std.specs.Prelude.{◌≡◌, ◌≤◌, [], true};
+ghost use Rattle.snapshot_readers.specs.Crew.{Works};
+ghost use Rattle.snapshot_readers.specs.Viewing.{CanShow, SameGlass};
 
 use crate::ends::{Viewed, ViewerEnd};
 use crate::glass::Glass;
@@ -22,38 +20,6 @@ pub struct Viewer<D: Door, G: Gate> {
     pub outcome: ViewerEnd,
 }
 
-/// Serves the next link of the door, for which there is room.
-fn view_next<D: Door, G: Gate>(
-    glass: &mut Glass,
-    policy: &Policy,
-    station: &Station<'_, G>,
-    door: &mut D,
-    served: &mut List<Viewed<D::L>>,
-    calls: &mut u64,
-) -> Option<ViewerEnd>
-    requires policy { glass.old.named ≡ policy.now }
-    requires replies { GlancesCanBeTold policy.now glass.old.birth }
-    requires calls { calls.old < 2 ^ 63 }
-    requires room { 1 ≤ served.old.spare }
-    requires few { length served.old.items < MAX_LINKS }
-    ensures glass { SameGlass glass.old glass.new }
-    ensures works { WorksOn D.L.traffic policy.now glass.old.birth
-        (record { seen = glass.old.seen; door = D.doorway door.old })
-        (record { seen = glass.new.seen; door = D.doorway door.new })
-        served.old.items served.new.items result }
-    ensures calls { calls.new ≤ calls.old + MAX_BYTES }
-    ensures one { result ≡ None → length served.new.items ≡ length served.old.items + 1 }
-{
-    match door.next() {
-        Err(_) => Some(ViewerEnd::DoorFault),
-        Ok(None) => Some(ViewerEnd::Done),
-        Ok(Some(link)) => {
-            served.push(view_link(glass, policy, station, link, calls));
-            None
-        }
-    }
-}
-
 /// Serves the links of the door until it ends.
 fn view_on<D: Door, G: Gate>(
     glass: &mut Glass,
@@ -62,8 +28,7 @@ fn view_on<D: Door, G: Gate>(
     door: &mut D,
     served: &mut List<Viewed<D::L>>,
 ) -> ViewerEnd
-    requires policy { glass.old.named ≡ policy.now }
-    requires replies { GlancesCanBeTold policy.now glass.old.birth }
+    requires shows { CanShow policy.now glass.old }
     requires empty { served.old.items ≡ [] }
     ensures glass { SameGlass glass.old glass.new }
     ensures works { Works D.L.traffic policy.now glass.old.birth
@@ -75,8 +40,10 @@ fn view_on<D: Door, G: Gate>(
         if make_room(door, served).is_err() {
             return ViewerEnd::Memory;
         }
-        if let Some(end) = view_next(glass, policy, station, door, served, &mut calls) {
-            return end;
+        match door.next() {
+            Err(_) => return ViewerEnd::DoorFault,
+            Ok(None) => return ViewerEnd::Done,
+            Ok(Some(link)) => served.push(view_link(glass, policy, station, link, &mut calls)),
         }
     }
     ViewerEnd::Enough
@@ -92,8 +59,7 @@ pub fn view<D: Door, G: Gate>(
     v: u32,
     viewer: &mut Viewer<D, G>,
 )
-    requires policy { glass.old.named ≡ policy.now }
-    requires replies { GlancesCanBeTold policy.now glass.old.birth }
+    requires shows { CanShow policy.now glass.old }
     requires number { v ≤ 7 }
     requires fresh { (viewer.old.outcome ≡ ViewerEnd.Fresh) × (viewer.old.served.items ≡ []) }
     ensures glass { SameGlass glass.old glass.new }

@@ -4,14 +4,14 @@ use crate::waiting::Waiting;
 use delay_agenda::Agenda;
 use duration_limits::Ages;
 use gt_base::{Happened, Instant, Status};
-use instant_bases::Watch;
+use instant_bases::WatchedPeriod;
 use std::alloc::Global;
 
 /// The periods, the instant now, the status after it and when its fluents changed, the sets so far,
 /// what is due later, the signals of the next minute, and the empty set.
 pub(crate) struct TimelineState {
     pub alloc: Global,
-    pub watches: Vec<Watch>,
+    pub watches: Vec<WatchedPeriod>,
     pub present: Instant,
     pub status: Status,
     pub ages: Ages,

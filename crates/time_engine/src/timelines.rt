@@ -21,7 +21,7 @@ use crate::waiting::Waiting;
 use delay_agenda::Agenda;
 use duration_limits::Ages;
 use gt_base::{Happened, Instant, LAST_MINUTE, List, Looks, Memory, Prioritised, Signal, Status};
-use instant_bases::{Watch, ask_all, copied_watches, watch_all};
+use instant_bases::{WatchedPeriod, ask_all, copied_watches, watch_all};
 use policy_book::Policy;
 use std::alloc::Global;
 use std::marker::Model;
@@ -298,7 +298,7 @@ fn copied_over(s: &TimelineState, trace: Trace) -> Result<TimelineState, Memory>
 }
 
 /// The periods of the policy, asked for what its entries and limits want to know.
-fn asked(alloc: Global, policy: &Policy, birth: Instant) -> Result<Vec<Watch>, Memory>
+fn asked(alloc: Global, policy: &Policy, birth: Instant) -> Result<Vec<WatchedPeriod>, Memory>
     ensures { IfOk result (λ watches. watches.items ≡ policy.now.policy.periods) }
 {
     let mut watches = watch_all(alloc, policy.periods().as_slice(), birth)?;

@@ -8,10 +8,10 @@ use Rattle.turn_lock.specs.contracts.pass.Pass.TheInside as pass_inside
 use Rattle.turn_lock.specs.contracts.lock.TurnLock as lock
 use Rattle.turn_lock.specs.contracts.lock.TurnLock.TheInside as lock_inside
 use Rattle.turn_lock.specs.contracts.view.Spot as spot
-use Rattle.turn_lock.specs.contracts.view.View as view
+use Rattle.turn_lock.specs.contracts.view.SeatView as view
 use Rattle.turn_lock.specs.contracts.view.Origin as origin
 use Rattle.turn_lock.specs.contracts.rule.Turns as turns
-use Rattle.turn_lock.specs.contracts.rule.TurnsTableRuleSpotViewOrigin.TheImpl as rule
+use Rattle.turn_lock.specs.contracts.rule.TurnsTableRuleSpotSeatViewOrigin.TheImpl as rule
 use Rattle.std.specs.contracts.alloc.Global as heap
 use Rattle.std.specs.contracts.impls.GlobalAllocator.TheImpl as heap_impl
 use Rattle.atomic_table.proofs.shared.Seat.TheSendSync as seat

@@ -14,7 +14,7 @@ use Rattle.gt_base.specs.declared.requests.Entry.{Entry}
 use Rattle.turn_lock.specs.declared.view.Account.{Account}
 use Rattle.turn_lock.specs.declared.view.Stage.{Stage}
 use Rattle.turn_lock.specs.declared.view.Stage.TheVariants.{Idle, Waits, Keeps, Holds}
-use Rattle.turn_lock.specs.declared.view.View.{View}
+use Rattle.turn_lock.specs.declared.view.SeatView.{SeatView}
 use Rattle.turn_lock.specs.declared.view.Spot.{Spot}
 use Rattle.turn_lock.specs.declared.view.Spot.TheVariants.{Home, Told}
 use Rattle.turn_lock.specs.declared.view.Origin.{Origin}
@@ -73,7 +73,7 @@ joined_live next next' xs ys f g h =
 
 module _ {M : Type 0} (list : M → List Entry) (same : M → M → Type 0) (o : Origin M) where
   abbrev St : Type 0
-  St = State (Spot M) (View M)
+  St = State (Spot M) (SeatView M)
 
   abbrev Rule : St → Type 0
   Rule = KeptRule list same o
@@ -94,7 +94,7 @@ module _ {M : Type 0} (list : M → List Entry) (same : M → M → Type 0) (o :
   pub draws : (slots id : ℕ) (rt : M) (a : Account) (next : ℕ) → a.draws < 2 ^ 40
       → Allows Rule slots id (plain rt a next Idle, []) 1 (λ n. (n + 1) % 2 ^ 64) (drawn (step slots 1 1 0 none) (plain rt a next Idle, []))
   draws slots id rt a next some_left s r deep at fits =
-      let v : View M = plain rt a next Idle in let n : ℕ = get_or s.words 1 0 in let w : View M = with_ticket n v in
+      let v : SeatView M = plain rt a next Idle in let n : ℕ = get_or s.words 1 0 in let w : SeatView M = with_ticket n v in
       let is : n ≡ r.tickets = word_is s r in let more = low s r in
       let log : List Entry = list root ++ r.added in
       let f = r.each id v at in
@@ -139,27 +139,27 @@ module _ {M : Type 0} (list : M → List Entry) (same : M → M → Type 0) (o :
         refl,
       )
 
-  unmoved : (s : St) (r : Rule s) (id i : ℕ) (v : View M) → get_elem? s.views id ≡ some v → set s.words i (get_or s.words i 0) ≡ s.words
+  unmoved : (s : St) (r : Rule s) (id i : ℕ) (v : SeatView M) → get_elem? s.views id ≡ some v → set s.words i (get_or s.words i 0) ≡ s.words
       → Rule record { words = set s.words i (get_or s.words i 0); homes = s.homes; views = set s.views id v }
-  unmoved s r id i v at words = subst (λ (z : List ℕ × List (View M)). Rule record { words = z.0; homes = s.homes; views = z.1 }) (λ k. (sym words k, sym (set_again s.views id v at) k)) r
+  unmoved s r id i v at words = subst (λ (z : List ℕ × List (SeatView M)). Rule record { words = z.0; homes = s.homes; views = z.1 }) (λ k. (sym words k, sym (set_again s.views id v at) k)) r
 
   serving_is : (s : St) (r : Rule s) → get_or s.words 2 0 ≡ r.serving
   serving_is s r = ap (λ ws. get_or ws 2 0) r.words
 
   -- who has a ticket that is served is the only one who may hold the slot
-  only_holder : (s : St) (r : Rule s) (id t : ℕ) (v : View M) → get_elem? s.views id ≡ some v → r.drawer t ≡ id → t ≡ r.serving → 0 < total holds_slot s.views → 0 < holds_slot v
+  only_holder : (s : St) (r : Rule s) (id t : ℕ) (v : SeatView M) → get_elem? s.views id ≡ some v → r.drawer t ≡ id → t ≡ r.serving → 0 < total holds_slot s.views → 0 < holds_slot v
   only_holder s r id t v at mine now some_held =
       let found = total_finds holds_slot s.views some_held in let j = found.0 in let u = found.1 in
       let f = r.each j u found.2 in
       let theirs = holder_of (list root ++ r.added) r.tickets r.serving r.drawer j u.stage f.stage found.3 in
       let here : j ≡ id = sym theirs ∙ (ap r.drawer (sym now) ∙ mine) in
       let one : u ≡ v = some-injective u v (sym found.2 ∙ (ap (get_elem? s.views) here ∙ at)) in
-      subst (λ (z : View M). 0 < holds_slot z) one found.3
+      subst (λ (z : SeatView M). 0 < holds_slot z) one found.3
 
   pub looks : (slots id : ℕ) (rt : M) (a : Account) (next t : ℕ)
       → Allows Rule slots id (plain rt a next (Waits t), []) 2 (λ n. n) (looked list same (step slots 2 0 0 none) (plain rt a next (Waits t), []))
   looks slots id rt a next t s r deep at fits =
-      let v : View M = plain rt a next (Waits t) in let n : ℕ = get_or s.words 2 0 in
+      let v : SeatView M = plain rt a next (Waits t) in let n : ℕ = get_or s.words 2 0 in
       let is : n ≡ r.serving = serving_is s r in
       let log : List Entry = list root ++ r.added in
       let f = r.each id v at in let mine = f.stage.2 in let below = f.stage.1 in
@@ -168,7 +168,7 @@ module _ {M : Type 0} (list : M → List Entry) (same : M → M → Type 0) (o :
       dite (ℕ_discrete n t)
       (λ now. ⊎_elim
       (λ (h : (total holds_slot s.views ≡ 0) × AtHome list same root log s.homes).
-      let x = h.1.0 in let none_held = h.0 in let w : View M = with_turn (list x) v in (
+      let x = h.1.0 in let none_held = h.0 in let w : SeatView M = with_turn (list x) v in (
         w,
         takes 0 (Home x),
         h.1.1,
@@ -213,7 +213,7 @@ module _ {M : Type 0} (list : M → List Entry) (same : M → M → Type 0) (o :
       r.slot)
       (λ other. (v, keeps, tt, unmoved s r id 2 v at words, ((λ e. absurd (other e)), λ _. refl)))
 
-  pub counts : (slots id : ℕ) (v : View M) → Allows Rule slots id (v, []) 1 (λ n. n) (counted (step slots 1 0 0 none) (v, []))
+  pub counts : (slots id : ℕ) (v : SeatView M) → Allows Rule slots id (v, []) 1 (λ n. n) (counted (step slots 1 0 0 none) (v, []))
   counts slots id v s r deep at fits =
       let words : set s.words 1 (get_or s.words 1 0) ≡ s.words = ap (λ ws. set ws 1 (get_or ws 1 0)) r.words ∙ sym r.words in (v, keeps, tt, unmoved s r id 1 v at words, refl)
 
@@ -227,7 +227,7 @@ module _ {M : Type 0} (list : M → List Entry) (same : M → M → Type 0) (o :
   pub adds : (slots id : ℕ) (rt : M) (a : Account) (next t : ℕ) (known : List Entry) (y : M) (q : ℕ) (e : Entry) (z : Rattle.std.specs.declared.snapshot.Snapshot.Snapshot M) → z.value ≡ y → list y ≡ known ++ e ∷ [] → e.who.worker ≡ a.number → length (list y) < 2 ^ 64
       → Allows Rule slots id (plain rt a next (Holds t known), (q, Told z) ∷ []) 0 (λ n. (n + 1) % 2 ^ 64) (added list (step slots 0 1 0 none) (plain rt a next (Holds t known), (q, Told z) ∷ []))
   adds slots id rt a next t known y q e z told_is longer by fits_word s r deep at fits =
-      let v : View M = plain rt a next (Holds t known) in
+      let v : SeatView M = plain rt a next (Holds t known) in
       let f = r.each id v at in let mine = f.stage.2 in let now = f.stage.0 in let below = f.stage.1 in let knows = f.stage.3 in
       let log : List Entry = list root ++ r.added in let added' : List Entry = r.added ++ e ∷ [] in let log' : List Entry = list root ++ added' in
       let long : log' ≡ log ++ e ∷ [] = sym (append_assoc (list root) r.added (e ∷ [])) in
@@ -235,7 +235,7 @@ module _ {M : Type 0} (list : M → List Entry) (same : M → M → Type 0) (o :
       let xs_is : xs ≡ known ++ e ∷ [] = ap list told_is ∙ longer in
       let xs_log : xs ≡ log' = xs_is ∙ (ap (λ (l : List Entry). l ++ e ∷ []) knows ∙ sym long) in
       let more : drop (length known) xs ≡ e ∷ [] = ap (drop (length known)) xs_is ∙ drop-append_seam known (e ∷ []) in
-      let w : View M = grown xs v in
+      let w : SeatView M = grown xs v in
       let len : length log' ≡ length log + 1 = ap length long ∙ length-append log (e ∷ []) in
       let len_y : length (list y) ≡ length log + 1 = ap length longer ∙ (length-append known (e ∷ []) ∙ ap (λ (l : List Entry). length l + 1) knows) in
       let one : part a.number (e ∷ []) ≡ e ∷ [] = ap (λ b. cond b (e ∷ []) []) (eq-eqb e.who.worker a.number by) in
@@ -298,9 +298,9 @@ module _ {M : Type 0} (list : M → List Entry) (same : M → M → Type 0) (o :
   pub passes_on : (slots id : ℕ) (rt : M) (a : Account) (next t : ℕ) (known : List Entry) (x : M) → 0 < slots → list x ≡ known → same rt x
       → Allows Rule slots id (plain rt a next (Holds t known), (0, Home x) ∷ []) 2 (λ n. (n + 1) % 2 ^ 64) (passed list (step slots 2 1 0 none) (plain rt a next (Holds t known), (0, Home x) ∷ []))
   passes_on slots id rt a next t known x room keeps_known same_rt s r deep at fits =
-      let v : View M = plain rt a next (Holds t known) in
+      let v : SeatView M = plain rt a next (Holds t known) in
       let f = r.each id v at in let mine = f.stage.2 in let now = f.stage.0 in let below = f.stage.1 in let knows = f.stage.3 in
-      let log : List Entry = list root ++ r.added in let w : View M = rested v in let lo = low s r in
+      let log : List Entry = list root ++ r.added in let w : SeatView M = rested v in let lo = low s r in
       let holds_now = total_at holds_slot s.views id v at in (
         w,
         gives,
@@ -349,9 +349,9 @@ module _ {M : Type 0} (list : M → List Entry) (same : M → M → Type 0) (o :
   pub stays : (slots id : ℕ) (rt : M) (a : Account) (next t : ℕ) (known : List Entry) (x : M) → 0 < slots → list x ≡ known → same rt x
       → Allows Rule slots id (plain rt a next (Holds t known), (0, Home x) ∷ []) 0 (λ n. n) (stayed list (step slots 0 0 0 none) (plain rt a next (Holds t known), (0, Home x) ∷ []))
   stays slots id rt a next t known x room keeps_known same_rt s r deep at fits =
-      let v : View M = plain rt a next (Holds t known) in
+      let v : SeatView M = plain rt a next (Holds t known) in
       let f = r.each id v at in let mine = f.stage.2 in let now = f.stage.0 in let below = f.stage.1 in let knows = f.stage.3 in
-      let log : List Entry = list root ++ r.added in let w : View M = staying v in let n : ℕ = get_or s.words 0 0 in
+      let log : List Entry = list root ++ r.added in let w : SeatView M = staying v in let n : ℕ = get_or s.words 0 0 in
       let words : set s.words 0 n ≡ s.words = ap (λ ws. set ws 0 (get_or ws 0 0)) r.words ∙ sym r.words in
       let holds_now = total_at holds_slot s.views id v at in (
         w,
@@ -395,14 +395,14 @@ module _ {M : Type 0} (list : M → List Entry) (same : M → M → Type 0) (o :
   pub resumes : (slots id : ℕ) (rt : M) (a : Account) (next t : ℕ)
       → Allows Rule slots id (plain rt a next (Keeps t), []) 0 (λ n. n) (resumed list same (step slots 0 0 0 none) (plain rt a next (Keeps t), []))
   resumes slots id rt a next t s r deep at fits =
-      let v : View M = plain rt a next (Keeps t) in let n : ℕ = get_or s.words 0 0 in
+      let v : SeatView M = plain rt a next (Keeps t) in let n : ℕ = get_or s.words 0 0 in
       let log : List Entry = list root ++ r.added in
       let f = r.each id v at in let now = f.stage.0 in let mine = f.stage.2 in let below = f.stage.1 in
       let words : set s.words 0 n ≡ s.words = ap (λ ws. set ws 0 (get_or ws 0 0)) r.words ∙ sym r.words in
       let same_root : rt ≡ root = f.root_is rt refl in
       ⊎_elim
       (λ (h : (total holds_slot s.views ≡ 0) × AtHome list same root log s.homes).
-      let x = h.1.0 in let none_held = h.0 in let w : View M = with_turn (list x) v in (
+      let x = h.1.0 in let none_held = h.0 in let w : SeatView M = with_turn (list x) v in (
         w,
         takes 0 (Home x),
         h.1.1,
@@ -446,9 +446,9 @@ module _ {M : Type 0} (list : M → List Entry) (same : M → M → Type 0) (o :
   pub releases : (slots id : ℕ) (rt : M) (a : Account) (next t : ℕ)
       → Allows Rule slots id (plain rt a next (Keeps t), []) 2 (λ n. (n + 1) % 2 ^ 64) (released (step slots 2 1 0 none) (plain rt a next (Keeps t), []))
   releases slots id rt a next t s r deep at fits =
-      let v : View M = plain rt a next (Keeps t) in
+      let v : SeatView M = plain rt a next (Keeps t) in
       let f = r.each id v at in let mine = f.stage.2 in let now = f.stage.0 in let below = f.stage.1 in
-      let log : List Entry = list root ++ r.added in let w : View M = plain rt a next Idle in let lo = low s r in (
+      let log : List Entry = list root ++ r.added in let w : SeatView M = plain rt a next Idle in let lo = low s r in (
         w,
         keeps,
         tt,
@@ -490,11 +490,11 @@ module _ {M : Type 0} (list : M → List Entry) (same : M → M → Type 0) (o :
 
   pub splits : (id : ℕ) (rt : M) (a : Account) (next : ℕ) → 0 < next → next < o.passes → Splits Rule id (plain rt a next Idle) (split_left (plain rt a next Idle)) (split_right (plain rt a next Idle))
   splits id rt a next live room s r at =
-      let v : View M = plain rt a next Idle in let left : View M = split_left v in let right : View M = split_right v in
+      let v : SeatView M = plain rt a next Idle in let left : SeatView M = split_left v in let right : SeatView M = split_right v in
       let log : List Entry = list root ++ r.added in
       let f = r.each id v at in let is = (f.next live).0 in let makes = (f.next live).1 in
       let owner' : ℕ → ℕ = put r.owner r.given (length s.views) in
-      let cut : List (View M) = set s.views id left in
+      let cut : List (SeatView M) = set s.views id left in
       let kept_accounts : (k : ℕ) (xs : List Account) → Each (FitsAccount log r.added r.given r.owner k) xs → Each (FitsAccount log r.added (r.given + 1) owner' k) xs
       = λ k xs. each_maps (FitsAccount log r.added r.given r.owner k) (FitsAccount log r.added (r.given + 1) owner' k)
       (λ b h. let below = h.below in record { below = omega arith; owned = put_else r.owner r.given (length s.views) b.number (λ e. omega arith) ∙ h.owned; few = h.few; seen = h.seen; own = h.own }) xs in
@@ -531,7 +531,7 @@ module _ {M : Type 0} (list : M → List Entry) (same : M → M → Type 0) (o :
               accounts = kept_accounts j z.accounts g.accounts;
             })
             k u)
-            (λ (t : (right ≡ u) × (k ≡ length cut)). subst (λ (z : ℕ × View M). FitsView root log r.added (r.given + 1) r.maker r.tickets r.serving owner' r.drawer z.0 z.1) (λ i. (sym t.1 i, t.0 i))
+            (λ (t : (right ≡ u) × (k ≡ length cut)). subst (λ (z : ℕ × SeatView M). FitsView root log r.added (r.given + 1) r.maker r.tickets r.serving owner' r.drawer z.0 z.1) (λ i. (sym t.1 i, t.0 i))
             record {
               root_is = f.root_is;
               next = λ h. absurd (omega arith);
@@ -553,20 +553,20 @@ module _ {M : Type 0} (list : M → List Entry) (same : M → M → Type 0) (o :
       }
 
   -- the view of a seat that joins others
-  abbrev many : M → List Account → ℕ → View M
+  abbrev many : M → List Account → ℕ → SeatView M
   many rt xs next = record { root = Some rt; next = next; stage = Idle; accounts = xs }
 
   pub joins : (id other : ℕ) (rt rt' : M) (xs ys : List Account) (next next' : ℕ) → Joins Rule id (many rt xs next) other (many rt' ys next') (joined (many rt xs next) (many rt' ys next')) spent_view
   joins id other rt rt' xs ys next next' s r at ne at_other =
-      let v : View M = many rt xs next in let w : View M = many rt' ys next' in let both : View M = joined v w in let spent : View M = spent_view in
+      let v : SeatView M = many rt xs next in let w : SeatView M = many rt' ys next' in let both : SeatView M = joined v w in let spent : SeatView M = spent_view in
       let log : List Entry = list root ++ r.added in
       let f = r.each id v at in
       let there : get_elem? s.views other ≡ some w = sym (set_else s.views id other both ne) ∙ at_other in
       let g = r.each other w there in
       let owner' : ℕ → ℕ = λ n. cond (eqb (r.owner n) other) id (r.owner n) in
       let m = joined_maker next next' r.given r.maker id other (dec_le 1 next') ne f.next g.next in
-      let cut : List (View M) = set s.views id both in let end : List (View M) = set cut other spent in
-      let sum_is : (h : View M → ℕ) → h both ≡ h v + h w → h spent ≡ 0 → total h end ≡ total h s.views
+      let cut : List (SeatView M) = set s.views id both in let end : List (SeatView M) = set cut other spent in
+      let sum_is : (h : SeatView M → ℕ) → h both ≡ h v + h w → h spent ≡ 0 → total h end ≡ total h s.views
       = λ h whole none_left. let p = total_set h s.views id v both at in let q = total_set h cut other w spent at_other in omega arith in
       let stays : (k : ℕ) (zs : List Account) → k ≢ other → Each (FitsAccount log r.added r.given r.owner k) zs → Each (FitsAccount log r.added r.given owner' k) zs
       = λ k zs apart_k. each_maps (FitsAccount log r.added r.given r.owner k) (FitsAccount log r.added r.given owner' k)
@@ -598,7 +598,7 @@ module _ {M : Type 0} (list : M → List Entry) (same : M → M → Type 0) (o :
               stage = tt;
               accounts = tt;
             }
-            (λ k u away at_k. each_set (λ (j : ℕ) (z : View M). j ≢ other → FitsView root log r.added r.given m.0 r.tickets r.serving owner' r.drawer j z) s.views id both
+            (λ k u away at_k. each_set (λ (j : ℕ) (z : SeatView M). j ≢ other → FitsView root log r.added r.given m.0 r.tickets r.serving owner' r.drawer j z) s.views id both
             (λ _. record {
               root_is = f.root_is;
               next = m.1;
@@ -618,7 +618,7 @@ module _ {M : Type 0} (list : M → List Entry) (same : M → M → Type 0) (o :
       }
 
   pub starts : (x : M) → root ≡ x → same root x → 1 ≤ o.passes → o.passes ≤ 8 → Rule (opening (length (list x) ∷ 0 ∷ 0 ∷ []) (Home x ∷ []) (first_view list o))
-  starts x is same_root some_pass few = let v : View M = first_view list o in let all : list root ++ [] ≡ list x = append-nil (list root) ∙ ap list is in record {
+  starts x is same_root some_pass few = let v : SeatView M = first_view list o in let all : list root ++ [] ≡ list x = append-nil (list root) ∙ ap list is in record {
     added = [];
     tickets = 0;
     serving = 0;
@@ -635,7 +635,7 @@ module _ {M : Type 0} (list : M → List Entry) (same : M → M → Type 0) (o :
     kept_next = refl;
     waiting = refl;
     each = λ k u e. ⊎_elim (λ (z : get_elem? [] k ≡ some u). absurd (some-ne-none u (sym z)))
-        (λ (z : (v ≡ u) × (k ≡ 0)). subst (λ (y : ℕ × View M). FitsView root (list root ++ []) [] 1 0 0 0 (λ _. 0) (λ _. 0) y.0 y.1) (λ i. (sym z.1 i, z.0 i))
+        (λ (z : (v ≡ u) × (k ≡ 0)). subst (λ (y : ℕ × SeatView M). FitsView root (list root ++ []) [] 1 0 0 0 (λ _. 0) (λ _. 0) y.0 y.1) (λ i. (sym z.1 i, z.0 i))
         record {
           root_is = λ r e. sym (ap (λ (q : Option M). unwrap_or q root) e);
           next = λ _. (refl, refl);
@@ -661,7 +661,7 @@ module _ {M : Type 0} (list : M → List Entry) (same : M → M → Type 0) (o :
   holding_waits (Keeps t) h = omega arith
   holding_waits (Holds t known) h = h
 
-  pub ends : (s : St) (r : Rule s) (id : ℕ) (v : View M) → get_elem? s.views id ≡ some v → v.stage ≡ Idle → ((n : ℕ) → n < o.passes → Has n v.accounts)
+  pub ends : (s : St) (r : Rule s) (id : ℕ) (v : SeatView M) → get_elem? s.views id ≡ some v → v.stage ≡ Idle → ((n : ℕ) → n < o.passes → Has n v.accounts)
       → (x : M) × (get_elem? s.homes 0 ≡ some (some (Home x))) × EndsPasses list same root o.passes v.accounts x
   ends s r id v at idle covers =
       let f = r.each id v at in let log : List Entry = list root ++ r.added in

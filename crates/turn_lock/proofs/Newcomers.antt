@@ -4,14 +4,14 @@ use Rattle.std.specs.List.{insert}
 use Rattle.atomic_table.specs.Table.{Me}
 use Rattle.atomic_table.specs.Seated.{TableId}
 use Rattle.gt_base.specs.declared.requests.Entry.{Entry}
-use Rattle.turn_lock.specs.declared.view.View.{View}
+use Rattle.turn_lock.specs.declared.view.SeatView.{SeatView}
 use Rattle.turn_lock.specs.declared.view.Spot.{Spot}
 use Rattle.turn_lock.specs.declared.view.Stage.TheVariants.{Idle}
 use Rattle.turn_lock.specs.Turns.{plain, account, account_in}
 use Rattle.turn_lock.specs.Holders.{Lock, Holder, newcomer, newcomers, turn_of}
 
 abbrev pub Standing : Type 0 → Type 0
-Standing M = Me (Spot M) (View M)
+Standing M = Me (Spot M) (SeatView M)
 
 module _ {M : Type 0} where
   -- what is seen of a pass with these fields

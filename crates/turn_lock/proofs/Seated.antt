@@ -8,7 +8,7 @@ use Rattle.atomic_table.specs.Table.{Me, step, Allows, Splits, Joins, Final, See
 use Rattle.gt_base.specs.declared.requests.Entry.{Entry}
 use Rattle.turn_lock.specs.declared.view.Account.{Account}
 use Rattle.turn_lock.specs.declared.view.Stage.TheVariants.{Idle, Waits, Keeps, Holds}
-use Rattle.turn_lock.specs.declared.view.View.{View}
+use Rattle.turn_lock.specs.declared.view.SeatView.{SeatView}
 use Rattle.turn_lock.specs.declared.view.Spot.{Spot}
 use Rattle.turn_lock.specs.declared.view.Spot.TheVariants.{Home, Told}
 use Rattle.turn_lock.specs.declared.view.Origin.{Origin}
@@ -18,7 +18,7 @@ use Rattle.std.specs.declared.snapshot.Snapshot.{Snapshot}
 
 module _ {M : Type 0} (list : M → List Entry) (same : M → M → Type 0) (o : Origin M) where
   abbrev S : Type 0
-  S = Me (Spot M) (View M)
+  S = Me (Spot M) (SeatView M)
 
   pub draws_at : (slots id : ℕ) (me : S) (rt : M) (a : Account) (next : ℕ) → me ≡ (plain rt a next Idle, []) → a.draws < 2 ^ 40
       → Allows (KeptRule list same o) slots id me 1 (λ n. (n + 1) % 2 ^ 64) (drawn (step slots 1 1 0 none) me)
@@ -28,7 +28,7 @@ module _ {M : Type 0} (list : M → List Entry) (same : M → M → Type 0) (o :
       → Allows (KeptRule list same o) slots id me 2 (λ n. n) (looked list same (step slots 2 0 0 none) me)
   looks_at slots id me rt a next t is = subst (λ (m : S). Allows (KeptRule list same o) slots id m 2 (λ n. n) (looked list same (step slots 2 0 0 none) m)) (sym is) (looks list same o slots id rt a next t)
 
-  pub counts_at : (slots id : ℕ) (me : S) (v : View M) → me ≡ (v, []) → Allows (KeptRule list same o) slots id me 1 (λ n. n) (counted (step slots 1 0 0 none) me)
+  pub counts_at : (slots id : ℕ) (me : S) (v : SeatView M) → me ≡ (v, []) → Allows (KeptRule list same o) slots id me 1 (λ n. n) (counted (step slots 1 0 0 none) me)
   counts_at slots id me v is = subst (λ (m : S). Allows (KeptRule list same o) slots id m 1 (λ n. n) (counted (step slots 1 0 0 none) m)) (sym is) (counts list same o slots id v)
 
   pub adds_at : (slots id : ℕ) (me : S) (rt : M) (a : Account) (next t : ℕ) (known : List Entry) (y : M) (q : ℕ) (e : Entry) (z : Snapshot M) → me ≡ (plain rt a next (Holds t known), (q, Told z) ∷ []) → z.value ≡ y → list y ≡ known ++ e ∷ []
@@ -89,18 +89,18 @@ module _ {M : Type 0} (list : M → List Entry) (same : M → M → Type 0) (o :
   pub exchanged_is : (me m' : S) (k : ℕ) (old new : Spot M) → me.1 ≡ (k, old) ∷ [] → m' ≡ (me.0, (k, new) ∷ rest me.1) → m' ≡ (me.0, (k, new) ∷ [])
   exchanged_is me m' k old new is now = now ∙ ap (λ cs. (me.0, (k, new) ∷ rest cs)) is
 
-  pub splits_at : (id : ℕ) (v : View M) (rt : M) (a : Account) (next : ℕ) → v ≡ plain rt a next Idle → 0 < next → next < o.passes → Splits (KeptRule list same o) id v (split_left v) (split_right v)
-  splits_at id v rt a next is live room = subst (λ (z : View M). Splits (KeptRule list same o) id z (split_left z) (split_right z)) (sym is) (splits list same o id rt a next live room)
+  pub splits_at : (id : ℕ) (v : SeatView M) (rt : M) (a : Account) (next : ℕ) → v ≡ plain rt a next Idle → 0 < next → next < o.passes → Splits (KeptRule list same o) id v (split_left v) (split_right v)
+  splits_at id v rt a next is live room = subst (λ (z : SeatView M). Splits (KeptRule list same o) id z (split_left z) (split_right z)) (sym is) (splits list same o id rt a next live room)
 
   pub starts_at : (x : M) (n : ℕ) (slots : List (Spot M)) → o.value.value ≡ x → same x x → 1 ≤ o.passes → o.passes ≤ 8 → n ≡ length (list x) → slots ≡ Home x ∷ []
       → KeptRule list same o (opening (n ∷ 0 ∷ 0 ∷ []) slots (first_view list o))
   starts_at x n slots is same_root some_pass few len_is slots_is = subst (λ (z : ℕ × List (Spot M)). KeptRule list same o (opening (z.0 ∷ 0 ∷ 0 ∷ []) z.1 (first_view list o))) (λ i. (sym len_is i, sym slots_is i))
       (starts list same o x is (subst (λ (z : M). same z x) (sym is) same_root) some_pass few)
 
-  pub joins_at : (id other : ℕ) (v w : View M) (rt rt' : M) (xs ys : List Account) (next next' : ℕ) → v ≡ many rt xs next → w ≡ many rt' ys next' → Joins (KeptRule list same o) id v other w (joined v w) spent_view
-  joins_at id other v w rt rt' xs ys next next' is is' = subst (λ (z : View M × View M). Joins (KeptRule list same o) id z.0 other z.1 (joined z.0 z.1) spent_view) (λ i. (sym is i, sym is' i)) (joins list same o id other rt rt' xs ys next next')
+  pub joins_at : (id other : ℕ) (v w : SeatView M) (rt rt' : M) (xs ys : List Account) (next next' : ℕ) → v ≡ many rt xs next → w ≡ many rt' ys next' → Joins (KeptRule list same o) id v other w (joined v w) spent_view
+  joins_at id other v w rt rt' xs ys next next' is is' = subst (λ (z : SeatView M × SeatView M). Joins (KeptRule list same o) id z.0 other z.1 (joined z.0 z.1) spent_view) (λ i. (sym is i, sym is' i)) (joins list same o id other rt rt' xs ys next next')
 
-  pub final_home : (ws : List ℕ) (xs : List (Spot M)) (id : ℕ) (v : View M) (y : Spot M) → Final (Seen (KeptRule list same o) id v) ws xs → v.stage ≡ Idle → ((n : ℕ) → n < o.passes → Has n v.accounts) → get_elem? xs 0 ≡ some y
+  pub final_home : (ws : List ℕ) (xs : List (Spot M)) (id : ℕ) (v : SeatView M) (y : Spot M) → Final (Seen (KeptRule list same o) id v) ws xs → v.stage ≡ Idle → ((n : ℕ) → n < o.passes → Has n v.accounts) → get_elem? xs 0 ≡ some y
       → (x : M) × (y ≡ Home x) × EndsPasses list same o.value.value o.passes v.accounts x
   final_home ws xs id v y fin idle covers at = let e = ends list same o fin.0 fin.1.0 id v fin.1.1 idle covers in (e.0, some-injective y (Home e.0) (sym at ∙ fin.4 0 (Home e.0) e.1), e.2)
 

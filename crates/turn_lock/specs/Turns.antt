@@ -10,7 +10,7 @@ use Rattle.gt_base.specs.declared.requests.Entry.{Entry}
 use Rattle.turn_lock.specs.declared.view.Account.{Account}
 use Rattle.turn_lock.specs.declared.view.Stage.{Stage}
 use Rattle.turn_lock.specs.declared.view.Stage.TheVariants.{Idle, Waits, Keeps, Holds}
-use Rattle.turn_lock.specs.declared.view.View.{View}
+use Rattle.turn_lock.specs.declared.view.SeatView.{SeatView}
 use Rattle.turn_lock.specs.declared.view.Spot.{Spot}
 use Rattle.turn_lock.specs.declared.view.Spot.TheVariants.{Home, Told}
 use Rattle.turn_lock.specs.declared.view.Origin.{Origin}
@@ -65,7 +65,8 @@ FitsStage log tickets serving drawer seat (Holds t known) =
 
 -- What one seat knows. The seat that keeps the next number is the maker
 pub record FitsView {M : Type 0} (root : M) (log added : List Entry)
-    (given maker tickets serving : ℕ) (owner drawer : ℕ → ℕ) (seat : ℕ) (v : View M) : Type 0 where
+    (given maker tickets serving : ℕ) (owner drawer : ℕ → ℕ) (seat : ℕ) (v : SeatView M)
+    : Type 0 where
   pub root_is : (r : M) → v.root ≡ Some r → r ≡ root
   pub next : 0 < v.next → (v.next ≡ given) × (seat ≡ maker)
   -- it is not spent where it keeps the next number or has a ticket
@@ -74,19 +75,19 @@ pub record FitsView {M : Type 0} (root : M) (log added : List Entry)
   pub accounts : Each (FitsAccount log added given owner seat) v.accounts
 
 module _ {M : Type 0} where
-  abbrev pub draws_of : View M → ℕ
+  abbrev pub draws_of : SeatView M → ℕ
   draws_of v = total (λ (a : Account). a.draws) v.accounts
 
-  abbrev pub accounts_of : View M → ℕ
+  abbrev pub accounts_of : SeatView M → ℕ
   accounts_of v = length v.accounts
 
-  abbrev pub next_of : View M → ℕ
+  abbrev pub next_of : SeatView M → ℕ
   next_of v = v.next
 
-  abbrev pub waits : View M → ℕ
+  abbrev pub waits : SeatView M → ℕ
   waits v = is_waiting v.stage
 
-  abbrev pub holds_slot : View M → ℕ
+  abbrev pub holds_slot : SeatView M → ℕ
   holds_slot v = is_holding v.stage
 
 -- the slot is home, with a value that keeps this history
@@ -97,7 +98,7 @@ AtHome {M} list same root log homes =
 
 -- The rule, which holds between any two steps
 pub record KeptRule {M : Type 0} (list : M → List Entry) (same : M → M → Type 0) (o : Origin M)
-    (s : State (Spot M) (View M)) : Type 0 where
+    (s : State (Spot M) (SeatView M)) : Type 0 where
   -- the entries after the first front, and what the words and the views come to
   pub added : List Entry
   pub tickets : ℕ
@@ -119,7 +120,7 @@ pub record KeptRule {M : Type 0} (list : M → List Entry) (same : M → M → T
   pub kept_next : total next_of s.views ≡ given
   pub waiting : serving + total waits s.views ≡ tickets
   -- each view fits, and at most one seat holds the slot, which is home otherwise
-  pub each : (seat : ℕ) (v : View M) → get_elem? s.views seat ≡ some v
+  pub each : (seat : ℕ) (v : SeatView M) → get_elem? s.views seat ≡ some v
       → FitsView o.value.value (list o.value.value ++ added) added given maker tickets serving owner
       drawer seat v
   pub slot : ((total holds_slot s.views ≡ 0)
@@ -128,7 +129,7 @@ pub record KeptRule {M : Type 0} (list : M → List Entry) (same : M → M → T
 
 -- a view, and the slots in hand
 abbrev Standing : Type 0 → Type 0
-Standing M = Me (Spot M) (View M)
+Standing M = Me (Spot M) (SeatView M)
 
 abbrev pub drawn_one : List Account → List Account
 drawn_one [] = []
@@ -168,23 +169,23 @@ module _ {M : Type 0} where
   told list [] = []
   told list (x ∷ xs) = elim x.1 [ Told y ↦ list y.value | _ ↦ [] ]
 
-  abbrev pub with_ticket : ℕ → View M → View M
+  abbrev pub with_ticket : ℕ → SeatView M → SeatView M
   with_ticket t v = record v { stage = Waits t; accounts = drawn_one v.accounts }
 
-  abbrev pub with_turn : List Entry → View M → View M
+  abbrev pub with_turn : List Entry → SeatView M → SeatView M
   with_turn xs v = record v { stage = Holds (ticket_in v.stage) xs }
 
-  abbrev pub grown : List Entry → View M → View M
+  abbrev pub grown : List Entry → SeatView M → SeatView M
   grown xs v =
       record v {
         stage = Holds (ticket_in v.stage) xs;
         accounts = gained xs (drop (length (known_in v.stage)) xs) v.accounts;
       }
 
-  abbrev pub rested : View M → View M
+  abbrev pub rested : SeatView M → SeatView M
   rested v = record v { stage = Idle; accounts = saw (known_in v.stage) v.accounts }
 
-  abbrev pub staying : View M → View M
+  abbrev pub staying : SeatView M → SeatView M
   staying v =
       record v { stage = Keeps (ticket_in v.stage); accounts = saw (known_in v.stage) v.accounts }
 
@@ -239,10 +240,10 @@ module _ {M : Type 0} where
   released st m n m' = m' ≡ (record m.0 { stage = Idle }, m.1)
 
   -- split: the next number goes to a new seat
-  abbrev pub split_left : View M → View M
+  abbrev pub split_left : SeatView M → SeatView M
   split_left v = record v { next = v.next + 1 }
 
-  abbrev pub split_right : View M → View M
+  abbrev pub split_right : SeatView M → SeatView M
   split_right v =
       record {
         root = v.root;
@@ -252,14 +253,14 @@ module _ {M : Type 0} where
       }
 
   -- join: the accounts of both, and none is left at the other seat
-  abbrev pub joined : View M → View M → View M
+  abbrev pub joined : SeatView M → SeatView M → SeatView M
   joined v w = record v { next = v.next + w.next; accounts = w.accounts ++ v.accounts }
 
-  abbrev pub spent_view : View M
+  abbrev pub spent_view : SeatView M
   spent_view = record { root = None; next = 0; stage = Idle; accounts = [] }
 
   -- what the first seat knows
-  abbrev pub first_view : (M → List Entry) → Origin M → View M
+  abbrev pub first_view : (M → List Entry) → Origin M → SeatView M
   first_view list o =
       record {
         root = Some o.value.value;
@@ -269,10 +270,10 @@ module _ {M : Type 0} where
       }
 
   -- the view of a pass with one account
-  abbrev pub plain : M → Account → ℕ → Stage → View M
+  abbrev pub plain : M → Account → ℕ → Stage → SeatView M
   plain r a next st = record { root = Some r; next = next; stage = st; accounts = a ∷ [] }
 
-  abbrev pub account_in : View M → Account
+  abbrev pub account_in : SeatView M → Account
   account_in v = elim v.accounts [ [] ↦ account 0 [] | a ∷ _ ↦ a ]
 
 -- an account, but for the tickets that were drawn under it

@@ -9,7 +9,7 @@ ghost use Rattle.turn_lock.specs.Seats.{IsSized, IsAt, IsSameSeat, mine};
 
 use crate::plays::{Add, Count, Draw, Look, PassOn, Release, Resume, Stay};
 use crate::rule::{Place, Turns};
-use crate::view::{Origin, Spot, View};
+use crate::view::{Origin, SeatView, Spot};
 use atomic_table::Shared;
 use gt_base::Keeps;
 use std::hint;
@@ -17,7 +17,7 @@ use std::snapshot::Snapshot;
 use std::sync::Wait;
 
 /// What all seats share of the table.
-pub type Tabletop<M> = Shared<Spot<M>, View<M>, Origin<M>, Turns<M>>;
+pub type Tabletop<M> = Shared<Spot<M>, SeatView<M>, Origin<M>, Turns<M>>;
 
 /// Draws a ticket.
 pub fn draw<M: Keeps>(top: &Tabletop<M>, seat: &mut Place<M>) -> u64

@@ -1,5 +1,5 @@
 //! What a seat at the table knows, and what lies in the slot. No value of `Account`, `Stage` or
-//! `View` is made.
+//! `SeatView` is made.
 use gt_base::Entry;
 use std::collections::LinkedList;
 use std::snapshot::Snapshot;
@@ -25,7 +25,7 @@ pub enum Stage {
 }
 
 /// What a seat knows.
-pub struct View<M> {
+pub struct SeatView<M> {
     /// The value that the lock began with.
     pub root: Option<M>,
     /// The next number that a pass can have, or 0.

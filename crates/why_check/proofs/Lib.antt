@@ -12,3 +12,4 @@ pub mod Deciding
 pub mod Priorities
 pub mod Heading
 pub mod Peaking
+pub mod Turned

@@ -7,15 +7,15 @@ ghost use Rattle.gtrbac_model.specs.Base.{queued_at};
 ghost use Rattle.indexmap.specs.IndexMap.{get};
 ghost use Rattle.why_check.specs.Kept.{under, waiting_for, raised_in, base_in, joins_at};
 
+use crate::blocking::Peaks;
+use crate::meeting::met_in;
 use crate::periods::{is_next, push_limited, push_periodic};
 use crate::replays::Replay;
 use crate::showing::set_of_lists;
 use gt_base::{Happened, Instant, Memory, Prioritised, Reply, Request, Signal, Status, Trigger};
 use indexmap::IndexMap;
 use policy_book::Policy;
-use priority_conflict::Contest;
 use std::alloc::Global;
-use trigger_rules::met_in;
 
 /// The base at an instant after now and before which nothing happens.
 pub(crate) fn base(s: &Replay, policy: &Policy, t: Instant) -> Result<Happened, Memory>
@@ -117,7 +117,7 @@ pub(crate) fn put_heads(
     alloc: Global,
     due: &mut IndexMap<u32, Vec<Prioritised>>,
     rules: &[Trigger],
-    x: &Contest,
+    x: &Peaks,
     before: &Status,
     at: Instant,
 ) -> Result<(), Memory>
@@ -136,7 +136,7 @@ fn put_head(
     alloc: Global,
     due: &mut IndexMap<u32, Vec<Prioritised>>,
     r: &Trigger,
-    x: &Contest,
+    x: &Peaks,
     before: &Status,
     at: Instant,
 ) -> Result<(), Memory>

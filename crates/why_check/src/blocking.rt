@@ -1,68 +1,147 @@
-//! The greatest priority of each event of a set, by which it is told at once what is blocked.
-ghost use Rattle.std.specs.Prelude.{◌≡◌, cond, Some, IfOk, OnOk};
-ghost use Rattle.gt_base.specs.declared.events.Event.{Event as EventOf};
-ghost use Rattle.gt_base.specs.Happening.{HappenedView};
-ghost use Rattle.gt_base.specs.Sets.{members};
-ghost use Rattle.gtrbac_model.specs.Conflict.{blocked};
+//! A set with the greatest priorities at which each fluent is set on and off, by which it is told at
+//! once what is blocked and what wins.
+ghost use Rattle.std.specs.Prelude.{◌≡◌, cond, not, true, Some, IfOk, OnOk};
+ghost use Rattle.gt_base.specs.declared.events.Fluent.{Fluent as FluentOf};
+ghost use Rattle.gt_base.specs.Orders.{fluent_eq};
+ghost use Rattle.gt_base.specs.Sets.{has};
+ghost use Rattle.gtrbac_model.specs.Conflict.{blocked, won, after};
 ghost use Rattle.indexmap.specs.IndexMap.{get};
-ghost use Rattle.trigger_rules.specs.Indexed.{event_eq};
-ghost use Rattle.why_check.specs.Peaks.{ArePeaks, peak_with, beaten_from};
+ghost use Rattle.why_check.specs.Peaks.{ArePeaks, peak_with, peak_in, side, sides_with, beaten_from, wins_from};
 
-use gt_base::{Event, Memory, Prioritised};
+use gt_base::{Event, Fluent, Happened, Memory, Prioritised, Status};
 use indexmap::IndexMap;
-use priority_conflict::Contest;
 use std::alloc::Global;
+use std::marker::Model;
 
-/// The greatest priority of each event of a set.
+/// The greatest priorities at which a fluent is set on and off.
+#[derive(Clone, Copy)]
+pub(crate) struct Sides {
+    on: Option<u8>,
+    off: Option<u8>,
+}
+
+/// What happens at an instant, with the greatest priority of each event. It is seen as the set.
 pub struct Peaks {
-    greatest: IndexMap<Event, u8>,
+    set: Happened,
+    sides: IndexMap<Fluent, Sides>,
 }
 
 impl Drop for Peaks {
     fn drop(self) {
-        let Peaks { greatest: _ } = self;
+        let Peaks { set: _, sides: _ } = self;
     }
+}
+
+impl Model for Peaks {
+    ghost use Rattle.gt_base.specs.Happening.{HappenedView, happening_code};
+    ghost use Rattle.gt_base.specs.Orders.{fluent_eq};
+    ghost use Rattle.gt_base.specs.Sets.{members};
+    ghost use Rattle.indexmap.specs.IndexMap.{get};
+    ghost use Rattle.why_check.specs.Peaks.{ArePeaks, peak_in};
+
+    ghost Value = { HappenedView };
+
+    ghost coded = { happening_code };
+
+    ghost view = { λ p. p.set.set };
+
+    ghost invariant = { λ p. ArePeaks (members p.set.set.events)
+        (peak_in (get fluent_eq p.sides)) };
 }
 
 impl Peaks {
     /// Those of the set.
-    pub fn new(alloc: Global, x: &Contest) -> Result<Peaks, Memory>
-        ensures { IfOk result (ArePeaks (members x.now.events)) }
+    pub fn new(alloc: Global, set: Happened) -> Result<Peaks, Memory>
+        ensures { IfOk result (λ x. x ≡ set.set) }
     {
-        peaks_of(alloc, x.set().events())
+        let sides = sides_of(alloc, set.events())?;
+        Ok(Peaks { set, sides })
     }
 
-    /// Whether the event, at its priority, is blocked in each set whose events have these peaks.
-    pub fn blocks(&self, e: &Prioritised) -> bool
-        ensures { (x : HappenedView) → ArePeaks (members x.events) self.now
-            → result ≡ blocked x e.now }
+    /// The set.
+    pub fn set(&self) -> &Happened
+        ensures { result.now.set ≡ self.now }
     {
-        let against = self.greatest.get(&e.event.converse()).copied();
+        &self.set
+    }
+
+    /// Whether the event, at its priority, is blocked in the set.
+    pub fn blocks(&self, e: &Prioritised) -> bool
+        ensures { result ≡ blocked self.now e.now }
+    {
+        let against = side(self.sides.get(&e.event.fluent).copied(), !e.event.on);
         is_beaten(e.event.on, e.prio.get(), against)
+    }
+
+    /// Whether the event stands in the set at some priority at which it is not blocked.
+    pub fn is_won(&self, e: Event) -> bool
+        ensures { result ≡ won self.now e }
+    {
+        wins(self.sides.get(&e.fluent).copied(), e.on)
+    }
+
+    /// Whether the fluent is on in the status after the set, given the status before it.
+    pub fn is_on_after(&self, f: Fluent, before: &Status) -> bool
+        ensures { result ≡ after self.now (has before.now.set) f }
+    {
+        let sides = self.sides.get(&f).copied();
+        if wins(sides, true) {
+            return true;
+        }
+        !wins(sides, false) && before.is_on(f)
+    }
+
+    /// Whether the set has the event at this priority.
+    pub fn has(&self, e: Prioritised) -> bool
+        ensures { result ≡ has self.now.events e }
+    {
+        let peak = side(self.sides.get(&e.event.fluent).copied(), e.event.on);
+        if is_peak(peak, e.prio.get()) {
+            return true;
+        }
+        self.set.has(e)
     }
 }
 
-/// The greatest priority of each of the events.
-fn peaks_of(alloc: Global, events: &[Prioritised]) -> Result<Peaks, Memory>
-    ensures { IfOk result (ArePeaks events.now) }
+/// The greatest priorities at which the events set each fluent on and off.
+fn sides_of(alloc: Global, events: &[Prioritised]) -> Result<IndexMap<Fluent, Sides>, Memory>
+    ensures { IfOk result (λ m. ArePeaks events.now (peak_in (get fluent_eq m))) }
 {
-    let mut greatest = IndexMap::new(alloc);
+    let mut sides = IndexMap::with_capacity(alloc, events.len())?;
     for o in events {
-        note_peak(&mut greatest, o)?;
+        note_peak(&mut sides, o)?;
     }
-    Ok(Peaks { greatest })
+    Ok(sides)
 }
 
 /// Notes the priority of the event, unless a greater one is noted.
-fn note_peak(greatest: &mut IndexMap<Event, u8>, o: &Prioritised) -> Result<(), Memory>
-    ensures { OnOk result ((e : EventOf) → get event_eq greatest.new e
-        ≡ cond (event_eq o.now.event e)
-        (Some (peak_with (get event_eq greatest.old o.now.event) o.now.prio))
-        (get event_eq greatest.old e)) }
+fn note_peak(sides: &mut IndexMap<Fluent, Sides>, o: &Prioritised) -> Result<(), Memory>
+    ensures { OnOk result ((f : FluentOf) → get fluent_eq sides.new f
+        ≡ cond (fluent_eq o.now.event.fluent f)
+        (Some (sides_with (get fluent_eq sides.old o.now.event.fluent) o.now.event.on o.now.prio))
+        (get fluent_eq sides.old f)) }
 {
-    let peak = greater(greatest.get(&o.event).copied(), o.prio.get());
-    greatest.insert(o.event, peak)?;
+    let none = Sides {
+        on: None,
+        off: None,
+    };
+    raise(
+        sides.entry(o.event.fluent)?.or_insert(none),
+        o.event.on,
+        o.prio.get(),
+    );
     Ok(())
+}
+
+/// Raises the side to the priority, unless it is a greater one.
+fn raise(sides: &mut Sides, on: bool, prio: u8)
+    ensures { sides.new ≡ sides_with (Some sides.old) on prio }
+{
+    if on {
+        sides.on = Some(greater(sides.on, prio));
+    } else {
+        sides.off = Some(greater(sides.off, prio));
+    }
 }
 
 /// The greater of the peak so far, if there is one, and one priority more.
@@ -72,6 +151,36 @@ fn greater(peak: Option<u8>, prio: u8) -> u8
     match peak {
         Some(q) => { if prio < q { q } else { prio } }
         None => prio,
+    }
+}
+
+/// The greatest priority at which the fluent of the sides is set so.
+fn side(sides: Option<Sides>, on: bool) -> Option<u8>
+    ensures { result ≡ side on sides }
+{
+    match sides {
+        Some(s) => { if on { s.on } else { s.off } }
+        None => None,
+    }
+}
+
+/// Whether the peak is this priority.
+fn is_peak(peak: Option<u8>, prio: u8) -> bool
+    ensures { result ≡ true → peak ≡ Some prio }
+{
+    match peak {
+        Some(p) => p == prio,
+        None => false,
+    }
+}
+
+/// Whether the fluent of the sides is set so at some priority at which that is not blocked.
+fn wins(sides: Option<Sides>, on: bool) -> bool
+    ensures { result ≡ wins_from on (side on sides) (side (not on) sides) }
+{
+    match side(sides, on) {
+        Some(p) => !is_beaten(on, p, side(sides, !on)),
+        None => false,
     }
 }
 

@@ -10,6 +10,7 @@ ghost use Rattle.why_check.specs.Kept.{base_in, IsBegun, IsGood, IsLater};
 ghost use Rattle.why_check.specs.Steps.{IsReadyStep, IsHeld, IsPlayed, held_count};
 
 use crate::bases::base;
+use crate::blocking::Peaks;
 use crate::certificates::{Cert, Listing};
 use crate::closing::{ask, close};
 use crate::heads::Headed;
@@ -19,7 +20,6 @@ use duration_limits::Ages;
 use gt_base::{Entry, Happened, Instant, List, Memory, Step};
 use indexmap::IndexMap;
 use policy_book::Policy;
-use priority_conflict::Contest;
 use session_table::Sessions;
 use std::alloc::Global;
 
@@ -194,7 +194,7 @@ fn hold_here(
         (Some listing.now) held s.new) }
 {
     let set = set_listed(s.alloc, listing)?;
-    let x = Contest::new(s.alloc, &set)?;
+    let x = Peaks::new(s.alloc, set)?;
     hold_set(s, by, to, base, &x, listing)
 }
 
@@ -204,7 +204,7 @@ fn hold_set(
     by: &Judging,
     to: Instant,
     base: &Happened,
-    x: &Contest,
+    x: &Peaks,
     listing: &Listing,
 ) -> Result<Held, Memory>
     requires later { s.old.present < to }
@@ -228,7 +228,7 @@ fn is_good(
     s: &Replay,
     by: &Judging,
     base: &Happened,
-    x: &Contest,
+    x: &Peaks,
     listing: &Listing,
 ) -> Result<bool, Memory>
     requires { x.now ≡ set_in listing.now }
@@ -259,7 +259,7 @@ fn pass(s: &mut Replay, policy: &Policy, to: Instant, base: &Happened) -> Result
     if !is_empty(base) {
         return Ok(Held::Wrong);
     }
-    let x = Contest::new(s.alloc, base)?;
+    let x = Peaks::new(s.alloc, Happened::new(s.alloc))?;
     close(s, policy, to, &x)?;
     Ok(Held::Passed)
 }

@@ -1,11 +1,10 @@
 //! The running state after an instant is closed with its set, and after a request.
-ghost use Rattle.std.specs.Prelude.{◌≡◌, ℕ, ◌<◌, ◌≤◌, ◌+◌, ◌-◌, ◌^◌, ◌++◌, ◌&&◌, cond, flat_map, nat_eq, length, Some, IfOk, OnOk};
+ghost use Rattle.std.specs.Prelude.{◌≡◌, ℕ, ◌<◌, ◌≤◌, ◌+◌, ◌-◌, ◌^◌, ◌++◌, cond, flat_map, nat_eq, length, Some, IfOk, OnOk};
 ghost use Rattle.std.specs.List.{list_any};
-ghost use Rattle.gt_base.specs.declared.events.Event.{Event as EventOf};
 ghost use Rattle.gt_base.specs.declared.events.Fluent.{Fluent as FluentOf};
 ghost use Rattle.gt_base.specs.Sets.{has};
 ghost use Rattle.gt_base.specs.declared.limits.TheConstants.{LAST_MINUTE};
-ghost use Rattle.gtrbac_model.specs.Conflict.{won as is_won, after};
+ghost use Rattle.gtrbac_model.specs.Conflict.{after};
 ghost use Rattle.gtrbac_model.specs.Same.{same_fluent};
 ghost use Rattle.gtrbac_model.specs.Status.{differ};
 ghost use Rattle.duration_limits.specs.Since.{since_in};
@@ -14,16 +13,13 @@ ghost use Rattle.session_table.specs.Tables.{NotBefore, table_of, closed_at};
 ghost use Rattle.why_check.specs.Kept.{IsAnsweredAt, IsClosed, IsAsked, under, joins_at, with_signals};
 
 use crate::bases::{put_heads, queue};
+use crate::blocking::Peaks;
 use crate::replays::Replay;
 use crate::sessions::{Answering, apply};
 use duration_limits::Ages;
-use gt_base::{
-    Actor, Event, EventSet, Fluent, Happened, Instant, Memory, Prioritised, Reply, Request, Signal,
-    Status,
-};
+use gt_base::{Actor, Fluent, Instant, Memory, Prioritised, Reply, Request, Signal, Status};
 use indexmap::IndexMap;
 use policy_book::Policy;
-use priority_conflict::{Contest, next_status, winners};
 use session_table::Sessions;
 use std::alloc::Global;
 
@@ -52,15 +48,14 @@ pub(crate) fn ask(
 }
 
 /// Closes the instant with its set.
-pub(crate) fn close(s: &mut Replay, policy: &Policy, to: Instant, x: &Contest) -> Result<(), Memory>
+pub(crate) fn close(s: &mut Replay, policy: &Policy, to: Instant, x: &Peaks) -> Result<(), Memory>
     requires later { s.old.present < to }
     requires charged { NotBefore s.old.table.charged_to s.old.present }
     ensures { OnOk result (IsClosed policy.now.policy s.old x.now to s.new) }
 {
     put_delayed(s.alloc, &mut s.due, policy, x, &s.status, to)?;
-    let status = changed(s.alloc, &mut s.ages, &s.status, x.set(), to)?;
-    s.waiting = ended(s.alloc, &mut s.table, policy, s.present, to, &status)?;
-    s.status = status;
+    turn(&mut s.ages, &mut s.status, x, to)?;
+    s.waiting = ended(s.alloc, &mut s.table, policy, s.present, to, &s.status)?;
     s.present = to;
     Ok(())
 }
@@ -70,7 +65,7 @@ fn put_delayed(
     alloc: Global,
     due: &mut IndexMap<u32, Vec<Prioritised>>,
     policy: &Policy,
-    x: &Contest,
+    x: &Peaks,
     before: &Status,
     at: Instant,
 ) -> Result<(), Memory>
@@ -81,26 +76,61 @@ fn put_delayed(
     put_heads(alloc, due, policy.triggers().as_slice(), x, before, at)
 }
 
-/// The status after the set, where the instant is noted for the fluents that are not as they were.
-fn changed(
-    alloc: Global,
-    ages: &mut Ages,
-    before: &Status,
-    set: &Happened,
-    at: Instant,
-) -> Result<Status, Memory>
-    ensures status { IfOk result (λ s. (f : FluentOf)
-        → has s.set f ≡ after set.now.set (has before.now.set) f) }
-    ensures birth { IfOk result (λ s. ages.new.birth ≡ ages.old.birth) }
-    ensures since { IfOk result (λ s. (f : FluentOf)
-        → since_in ages.new f ≡ cond (differ (has s.set f) (has before.now.set f)) at
-        (since_in ages.old f)) }
+/// Turns the status to that after the set, and notes the instant for the fluents that it changes.
+fn turn(ages: &mut Ages, status: &mut Status, x: &Peaks, at: Instant) -> Result<(), Memory>
+    ensures status { OnOk result ((f : FluentOf)
+        → has status.new.set f ≡ after x.now (has status.old.set) f) }
+    ensures birth { OnOk result (ages.new.birth ≡ ages.old.birth) }
+    ensures since { OnOk result ((f : FluentOf) → since_in ages.new f
+        ≡ cond (differ (has status.new.set f) (has status.old.set f)) at (since_in ages.old f)) }
 {
-    let won = winners(alloc, set)?;
-    ages.reserve(won.len())?;
-    let status = status_after(before, &won, set)?;
-    note_changes(ages, before, &status, won.as_slice(), at);
-    Ok(status)
+    let events = x.set().events();
+    ages.reserve(events.len())?;
+    status.reserve(events.len())?;
+    turn_all(ages, status, x, events, at);
+    Ok(())
+}
+
+/// Turns the fluents of these events, into room that was made before.
+fn turn_all(ages: &mut Ages, status: &mut Status, x: &Peaks, events: &[Prioritised], at: Instant)
+    requires ages { length events.now ≤ ages.old.spare }
+    requires status { length events.now ≤ status.old.spare }
+    ensures status { (f : FluentOf) → has status.new.set f
+        ≡ cond (list_any (λ o. same_fluent o.event.fluent f) events.now)
+        (after x.now (has status.old.set) f) (has status.old.set f) }
+    ensures birth { ages.new.birth ≡ ages.old.birth }
+    ensures since { (f : FluentOf) → since_in ages.new f
+        ≡ cond (differ (has status.new.set f) (has status.old.set f)) at (since_in ages.old f) }
+{
+    for e in events {
+        turn_fluent(ages, status, x, e.event.fluent, at);
+    }
+}
+
+/// Turns the fluent to what it is after the set, and notes the instant where that changes it.
+fn turn_fluent(ages: &mut Ages, status: &mut Status, x: &Peaks, f: Fluent, at: Instant)
+    requires ages { 1 ≤ ages.old.spare }
+    requires status { 1 ≤ status.old.spare }
+    ensures status { (g : FluentOf) → has status.new.set g
+        ≡ cond (same_fluent f g) (after x.now (has status.old.set) g) (has status.old.set g) }
+    ensures birth { ages.new.birth ≡ ages.old.birth }
+    ensures since { (g : FluentOf) → since_in ages.new g
+        ≡ cond (differ (has status.new.set g) (has status.old.set g)) at (since_in ages.old g) }
+    ensures room { ages.old.spare ≤ ages.new.spare + 1 }
+    ensures spare { status.old.spare ≤ status.new.spare + 1 }
+{
+    let on = x.is_on_after(f, status);
+    if are_apart(on, status.is_on(f)) {
+        status.set(f, on);
+        ages.changed(f, at);
+    }
+}
+
+/// Whether the two are not the same.
+fn are_apart(a: bool, b: bool) -> bool
+    ensures { result ≡ differ a b }
+{
+    if a { !b } else { b }
 }
 
 /// Ends the instants of the table before this one: the signals that then wait.
@@ -122,50 +152,4 @@ fn ended(
     policy.keeps();
     let ended = table.end_instants(policy.edges(), policy.caps(), present, to, status)?;
     Vec::from_slice(alloc, ended.as_slice())
-}
-
-/// The status after the set, whose winners these are.
-fn status_after(before: &Status, won: &EventSet, set: &Happened) -> Result<Status, Memory>
-    requires { (e : EventOf) → has won.now.set e ≡ is_won set.now.set e }
-    ensures { IfOk result (λ s. (f : FluentOf) → has s.set f
-        ≡ after set.now.set (has before.now.set) f) }
-{
-    let mut status = before.copied()?;
-    status.reserve(won.len())?;
-    next_status(&mut status, won);
-    Ok(status)
-}
-
-/// Notes the instant for the fluents of these events that are not as they were.
-fn note_changes(ages: &mut Ages, before: &Status, status: &Status, won: &[Event], at: Instant)
-    requires { length won.now ≤ ages.old.spare }
-    ensures birth { ages.new.birth ≡ ages.old.birth }
-    ensures since { (f : FluentOf) → since_in ages.new f
-        ≡ cond (differ (has status.now.set f) (has before.now.set f)
-        && list_any (λ e. same_fluent e.fluent f) won.now) at (since_in ages.old f) }
-{
-    for e in won {
-        let changed = are_apart(status.is_on(e.fluent), before.is_on(e.fluent));
-        note_change(ages, e.fluent, changed, at);
-    }
-}
-
-/// Whether the two are not the same.
-fn are_apart(a: bool, b: bool) -> bool
-    ensures { result ≡ differ a b }
-{
-    if a { !b } else { b }
-}
-
-/// Notes the instant for the fluent, if it changed.
-fn note_change(ages: &mut Ages, f: Fluent, changed: bool, at: Instant)
-    requires { 1 ≤ ages.old.spare }
-    ensures birth { ages.new.birth ≡ ages.old.birth }
-    ensures since { (g : FluentOf) → since_in ages.new g
-        ≡ cond (changed && same_fluent f g) at (since_in ages.old g) }
-    ensures spare { ages.old.spare ≤ ages.new.spare + 1 }
-{
-    if changed {
-        ages.changed(f, at);
-    }
 }

@@ -9,14 +9,18 @@ mod checking;
 mod closing;
 mod heads;
 mod laws;
+mod meeting;
 mod periods;
 mod replays;
 mod sessions;
 mod showing;
 mod standing;
+mod turning;
 
 pub use blocking::Peaks;
 pub use certificates::{Cert, Listing};
 pub use checking::accept;
 pub use laws::{accepted_is_the_model, priorities_are_low};
+pub use meeting::met_in;
 pub use standing::Standing;
+pub use turning::turn;

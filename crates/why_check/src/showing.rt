@@ -21,11 +21,10 @@ ghost use Rattle.why_check.specs.Standing.{stands_in};
 use crate::blocking::Peaks;
 use crate::certificates::Listing;
 use crate::heads::Headed;
+use crate::meeting::met_in;
 use crate::standing::Standing;
 use gt_base::{Event, Happened, Memory, Prioritised, Signal, Status, Trigger};
-use priority_conflict::Contest;
 use std::alloc::Global;
-use trigger_rules::met_in;
 
 /// The set of the events and signals.
 pub(crate) fn set_of_lists(
@@ -95,7 +94,7 @@ pub(crate) fn is_shown(
     rules: &Headed,
     base: &Happened,
     before: &Status,
-    x: &Contest,
+    x: &Peaks,
     listing: &Listing,
 ) -> Result<bool, Memory>
     requires { x.now ≡ set_in listing.now }
@@ -128,14 +127,14 @@ fn all_signalled(x: &Happened, signals: &[Signal]) -> bool
 }
 
 /// Whether the set has the base and the head of each immediate trigger that is met in it.
-fn is_closed(rules: &Headed, base: &Happened, before: &Status, x: &Contest) -> bool
+fn is_closed(rules: &Headed, base: &Happened, before: &Status, x: &Peaks) -> bool
     ensures { result ≡ closed rules.now base.now.set (has before.now.set) x.now }
 {
     has_all(x.set(), base.events()) && has_heads(rules, before, x)
 }
 
 /// Whether the set has the head of each immediate trigger that is met in it.
-fn has_heads(rules: &Headed, before: &Status, x: &Contest) -> bool
+fn has_heads(rules: &Headed, before: &Status, x: &Peaks) -> bool
     ensures { result ≡ list_all (λ r. not (immediate r && met r x.now (has before.now.set))
         || has x.now.events r.head) rules.now }
 {
@@ -143,11 +142,11 @@ fn has_heads(rules: &Headed, before: &Status, x: &Contest) -> bool
 }
 
 /// Whether the set has the head of the trigger, if that is immediate and met in it.
-fn has_head(r: &Trigger, before: &Status, x: &Contest) -> bool
+fn has_head(r: &Trigger, before: &Status, x: &Peaks) -> bool
     ensures { result ≡ (not (immediate r.now && met r.now x.now (has before.now.set))
         || has x.now.events r.now.head) }
 {
-    !fires(r, x, before) || x.set().has(r.head)
+    !fires(r, x, before) || x.has(r.head)
 }
 
 /// Whether the set has all of the events.
@@ -158,7 +157,7 @@ fn has_all(x: &Happened, events: &[Prioritised]) -> bool
 }
 
 /// Whether the trigger is immediate and met in the set.
-fn fires(r: &Trigger, x: &Contest, before: &Status) -> bool
+fn fires(r: &Trigger, x: &Peaks, before: &Status) -> bool
     ensures { result ≡ (immediate r.now && met r.now x.now (has before.now.set)) }
 {
     r.delay == 0 && met_in(r, x, before)
@@ -170,19 +169,18 @@ fn is_supported(
     rules: &Headed,
     base: &Happened,
     before: &Status,
-    x: &Contest,
+    x: &Peaks,
     order: &[Prioritised],
 ) -> Result<bool, Memory>
     ensures { IfOk result (λ yes. yes ≡ grounded_after rules.now base.now.set
         (has before.now.set) x.now [] order.now) }
 {
-    let peaks = Peaks::new(alloc, x)?;
-    let mut standing = Standing::new(alloc);
+    let mut standing = Standing::new(alloc, order.len())?;
     for e in order {
         if !has_support(rules, base, before, x, &standing, e) {
             return Ok(false);
         }
-        standing.note(&peaks, e)?;
+        standing.note(x, e)?;
     }
     Ok(true)
 }
@@ -193,7 +191,7 @@ fn has_support(
     rules: &Headed,
     base: &Happened,
     before: &Status,
-    x: &Contest,
+    x: &Peaks,
     standing: &Standing,
     e: &Prioritised,
 ) -> bool
@@ -206,13 +204,7 @@ fn has_support(
 }
 
 /// Whether the event is the head of such a trigger.
-fn is_head(
-    rules: &Headed,
-    before: &Status,
-    x: &Contest,
-    standing: &Standing,
-    e: &Prioritised,
-) -> bool
+fn is_head(rules: &Headed, before: &Status, x: &Peaks, standing: &Standing, e: &Prioritised) -> bool
     ensures { result ≡ list_any (λ r. immediate r && same_prioritised r.head e.now
         && met r x.now (has before.now.set) && list_all (stands_in standing.now) r.events)
         rules.now }
@@ -226,7 +218,7 @@ fn is_headed_by(
     rules: &Headed,
     numbers: &[u32],
     before: &Status,
-    x: &Contest,
+    x: &Peaks,
     standing: &Standing,
     e: Prioritised,
 ) -> bool
@@ -244,7 +236,7 @@ fn supports_at(
     rules: &Headed,
     n: u32,
     before: &Status,
-    x: &Contest,
+    x: &Peaks,
     standing: &Standing,
     e: Prioritised,
 ) -> bool
@@ -259,7 +251,7 @@ fn supports_at(
 }
 
 /// Whether the trigger supports the event.
-fn supports(r: &Trigger, before: &Status, x: &Contest, standing: &Standing, e: Prioritised) -> bool
+fn supports(r: &Trigger, before: &Status, x: &Peaks, standing: &Standing, e: Prioritised) -> bool
     ensures { result ≡ (immediate r.now && same_prioritised r.now.head e
         && met r.now x.now (has before.now.set)
         && list_all (stands_in standing.now) r.now.events) }

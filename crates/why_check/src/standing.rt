@@ -1,11 +1,8 @@
 //! The events that stand among those listed so far.
-ghost use Rattle.std.specs.Prelude.{◌≡◌, ◌&&◌, ◌||◌, false, not, OnOk};
+ghost use Rattle.std.specs.Prelude.{◌≡◌, ◌&&◌, ◌||◌, false, not, IfOk, OnOk};
 ghost use Rattle.gt_base.specs.declared.events.Event.{Event as EventOf};
-ghost use Rattle.gt_base.specs.Happening.{HappenedView};
-ghost use Rattle.gt_base.specs.Sets.{members};
 ghost use Rattle.gtrbac_model.specs.Conflict.{blocked};
 ghost use Rattle.gtrbac_model.specs.Same.{same_event};
-ghost use Rattle.why_check.specs.Peaks.{ArePeaks};
 ghost use Rattle.why_check.specs.Standing.{stands_in};
 
 use crate::blocking::Peaks;
@@ -25,13 +22,13 @@ impl Drop for Standing {
 }
 
 impl Standing {
-    /// None, which takes no memory yet.
-    pub fn new(alloc: Global) -> Standing
-        ensures { (e : EventOf) → stands_in result e ≡ false }
+    /// None, with room for so many.
+    pub fn new(alloc: Global, many: usize) -> Result<Standing, Memory>
+        ensures { IfOk result (λ s. (e : EventOf) → stands_in s e ≡ false) }
     {
-        Standing {
-            events: IndexMap::new(alloc),
-        }
+        Ok(Standing {
+            events: IndexMap::with_capacity(alloc, many)?,
+        })
     }
 
     /// Whether the event stands.
@@ -41,14 +38,12 @@ impl Standing {
         self.events.contains_key(&e)
     }
 
-    /// Adds the event, where it is not blocked at its priority in the sets whose events have these
-    /// peaks.
-    pub fn note(&mut self, peaks: &Peaks, e: &Prioritised) -> Result<(), Memory>
-        ensures { OnOk result ((x : HappenedView) → ArePeaks (members x.events) peaks.now
-            → (f : EventOf) → stands_in self.new f
-            ≡ ((same_event e.now.event f && not (blocked x e.now)) || stands_in self.old f)) }
+    /// Adds the event, where it is not blocked at its priority in the set.
+    pub fn note(&mut self, x: &Peaks, e: &Prioritised) -> Result<(), Memory>
+        ensures { OnOk result ((f : EventOf) → stands_in self.new f
+            ≡ ((same_event e.now.event f && not (blocked x.now e.now)) || stands_in self.old f)) }
     {
-        if !peaks.blocks(e) {
+        if !x.blocks(e) {
             self.events.insert(e.event, ())?;
         }
         Ok(())

@@ -1,7 +1,7 @@
 use Rattle.std.proofs.Common.{true, false, sym, ◌∙◌}
 use Rattle.gtrbac_model.specs.Reply.{answer}
 use Rattle.session_table.specs.Tables.{table_of}
-use Rattle.core_machine.specs.Kept.{point_of}
+use Rattle.core_machine.specs.Coherent.{point_of}
 use Rattle.core_machine.proofs.Asks.{refused_still, nobody}
 use Rattle.core_machine.proofs.asking.answer.Goals as goal
 

@@ -3,7 +3,7 @@ use Rattle.gt_base.specs.declared.requests.Refusal.TheVariants.{Beyond}
 use Rattle.gt_base.specs.declared.requests.Reply.TheVariants.{Queued, Refused}
 use Rattle.gt_base.specs.declared.requests.Request.TheVariants.{Raise}
 use Rattle.session_table.specs.Tables.{table_of}
-use Rattle.core_machine.specs.Kept.{point_of}
+use Rattle.core_machine.specs.Coherent.{point_of}
 use Rattle.core_machine.proofs.Asks.{refused_still}
 use Rattle.core_machine.proofs.Raising.{raise_in_time, raise_beyond}
 use Rattle.core_machine.proofs.Sames.{same_ready, same_reply}

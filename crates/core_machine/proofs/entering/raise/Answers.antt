@@ -7,7 +7,7 @@ use Rattle.gtrbac_model.specs.History.{IsNamedWish, ask}
 use Rattle.gtrbac_model.specs.Reply.{is_admin}
 use Rattle.session_table.specs.Tables.{table_of}
 use Rattle.policy_words.specs.Naming.{NamedPolicy}
-use Rattle.core_machine.specs.Kept.{point_of}
+use Rattle.core_machine.specs.Coherent.{point_of}
 use Rattle.core_machine.proofs.Asks.{refused_still}
 use Rattle.core_machine.proofs.Raising.{raise_unentitled}
 use Rattle.core_machine.proofs.Stepping.{may_after, no_step, step_after, told}

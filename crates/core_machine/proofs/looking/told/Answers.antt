@@ -4,7 +4,7 @@ use Rattle.gt_base.specs.declared.requests.Request.{Request}
 use Rattle.gt_base.specs.declared.requests.Reply.TheVariants.{Event}
 use Rattle.gtrbac_model.specs.Conflict.{seen}
 use Rattle.session_table.specs.Tables.{table_of}
-use Rattle.core_machine.specs.Kept.{IsAnswer, point_of}
+use Rattle.core_machine.specs.Coherent.{IsAnswer, point_of}
 use Rattle.core_machine.proofs.looking.told.Goals as goal
 
 pub returns-in-Seen : goal.returns-in-Seen

@@ -4,7 +4,7 @@ use Rattle.gt_base.specs.declared.requests.Reply.TheVariants.{Session}
 use Rattle.gt_base.specs.declared.requests.Request.TheVariants.{OpenSession}
 use Rattle.gtrbac_model.specs.Sessions.{Table}
 use Rattle.session_table.specs.Tables.{table_of}
-use Rattle.core_machine.specs.Kept.{point_of}
+use Rattle.core_machine.specs.Coherent.{point_of}
 use Rattle.core_machine.proofs.Asks.{begin_adds, refused_still}
 use Rattle.core_machine.proofs.Sames.{same_ready, same_reply, same_table}
 use Rattle.core_machine.proofs.Stepping.{changed_step, no_step, step_after, told}

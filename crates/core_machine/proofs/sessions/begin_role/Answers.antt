@@ -5,7 +5,7 @@ use Rattle.gt_base.specs.declared.requests.Reply.TheVariants.{Active}
 use Rattle.gt_base.specs.declared.requests.Request.TheVariants.{Activate}
 use Rattle.gtrbac_model.specs.Sessions.{Table}
 use Rattle.session_table.specs.Tables.{table_of}
-use Rattle.core_machine.specs.Kept.{point_of}
+use Rattle.core_machine.specs.Coherent.{point_of}
 use Rattle.core_machine.specs.Steps.{IsStep}
 use Rattle.core_machine.specs.declared.states.State.{State}
 use Rattle.core_machine.proofs.Asks.{activate_adds, activate_begins, refused_still}

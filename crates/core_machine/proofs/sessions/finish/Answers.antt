@@ -4,7 +4,7 @@ use Rattle.gt_base.specs.declared.requests.Reply.TheVariants.{Done}
 use Rattle.gt_base.specs.declared.requests.Request.TheVariants.{CloseSession}
 use Rattle.gtrbac_model.specs.Sessions.{Table, applied}
 use Rattle.session_table.specs.Tables.{table_of}
-use Rattle.core_machine.specs.Kept.{point_of}
+use Rattle.core_machine.specs.Coherent.{point_of}
 use Rattle.core_machine.proofs.Asks.{finish_adds, refused_still}
 use Rattle.core_machine.proofs.Raising.{close_ends}
 use Rattle.core_machine.proofs.Sames.{same_ready, same_reply, same_table}

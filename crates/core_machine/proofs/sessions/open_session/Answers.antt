@@ -5,7 +5,7 @@ use Rattle.gt_base.specs.declared.requests.Refusal.TheVariants.{NoUser}
 use Rattle.gt_base.specs.declared.requests.Reply.TheVariants.{Refused}
 use Rattle.gt_base.specs.declared.requests.Request.TheVariants.{OpenSession}
 use Rattle.session_table.specs.Tables.{table_of}
-use Rattle.core_machine.specs.Kept.{point_of}
+use Rattle.core_machine.specs.Coherent.{point_of}
 use Rattle.core_machine.specs.Steps.{IsStep, MayAsk}
 use Rattle.core_machine.proofs.Asks.{refused_still}
 use Rattle.core_machine.proofs.Raising.{open_for_none}

@@ -11,7 +11,7 @@ use Rattle.session_table.specs.declared.faults.SessionFault.{SessionFault}
 use Rattle.session_table.specs.declared.faults.SessionFault.TheVariants.{Refused, Memory}
 use Rattle.policy_words.specs.Naming.{NamedPolicy}
 use Rattle.std.proofs.lemmas.Result.{IfOk-weaker, MatchResult-weaker}
-use Rattle.core_machine.specs.Kept.{point_of}
+use Rattle.core_machine.specs.Coherent.{point_of}
 use Rattle.core_machine.proofs.Raising.{at_here}
 use Rattle.core_machine.proofs.sessions.start.Goals as goal
 use Rattle.core_machine.proofs.sessions.start.Goals.{After-activate_over}

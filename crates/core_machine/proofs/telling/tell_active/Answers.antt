@@ -1,7 +1,7 @@
 use Rattle.std.proofs.Common.{refl}
 use Rattle.gt_base.specs.declared.requests.Request.TheVariants.{Active}
 use Rattle.session_table.specs.Tables.{table_of}
-use Rattle.core_machine.specs.Kept.{point_of}
+use Rattle.core_machine.specs.Coherent.{point_of}
 use Rattle.core_machine.proofs.Stepping.{told}
 use Rattle.core_machine.proofs.telling.tell_active.Goals as goal
 

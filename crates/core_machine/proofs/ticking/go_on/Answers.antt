@@ -10,7 +10,7 @@ use Rattle.session_table.specs.Plans.{IsDropPlan, need_of}
 use Rattle.session_table.specs.Tables.{table_of}
 use Rattle.session_table.specs.declared.tables.Sessions.{Sessions}
 use Rattle.core_machine.specs.Books.{BookView, GoesOn}
-use Rattle.core_machine.specs.Kept.{Same, view_of}
+use Rattle.core_machine.specs.Coherent.{Same, view_of}
 use Rattle.core_machine.specs.Steps.{moves}
 use Rattle.core_machine.proofs.Growing.{both_false}
 use Rattle.core_machine.proofs.Sames.{on_err, same_closing, same_kept, same_trans, same_view}

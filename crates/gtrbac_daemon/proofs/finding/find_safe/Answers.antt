@@ -3,7 +3,7 @@ use Rattle.std.proofs.KnownBytes.{Keeps-refl}
 use Rattle.std.proofs.lemmas.Option.{none-some}
 use Rattle.gt_io.specs.Causes.{Rose}
 use Rattle.policy_commands.specs.Admitting.{IsAdmitted}
-use Rattle.policy_commands.specs.Ends.{told, seen_end}
+use Rattle.policy_commands.specs.Ends.{ending, seen_end}
 use Rattle.policy_commands.specs.Finding.{IsStoredText, IsFoundText, IsFailure, IsSteady}
 use Rattle.policy_commands.specs.Printing.{IsPrinted}
 use Rattle.gtrbac_daemon.specs.Words.{usage, Admits}
@@ -52,7 +52,7 @@ returns-in-Ok-Ended-admit-clause-ended g c =
     refused_as _ (Some c.in-Some.name.now) (some_said _ _ _ c.in-Some.is) c.print-in-Ok-Ended-admit.result old new o o' (seen_end end)
     (text_refused (Rose old.hard_faults new.hard_faults) old.contents c.in-Some.name.now text end stored ended) (λ four. absurd (judged_fine text end ended four))
     (inr (subst (IsSteady (new.hard_faults ≡ old.hard_faults)) c.in-Ok-Text.field-0-is c.in-Ok-Text.ensures.steady))
-    (subst (λ (t : List ℕ). IsPrinted c.print-in-Ok-Ended-admit.result (told end.status t) o.written o'.written o.faults o'.faults) c.as_slice.ensures c.print-in-Ok-Ended-admit.ensures)
+    (subst (λ (t : List ℕ). IsPrinted c.print-in-Ok-Ended-admit.result (ending end.status t) o.written o'.written o.faults o'.faults) c.as_slice.ensures c.print-in-Ok-Ended-admit.ensures)
 
 pub returns-in-Ok-Ended-clause-ended : goal.returns-in-Ok-Ended-clause-ended
 returns-in-Ok-Ended-clause-ended g c =
@@ -65,7 +65,7 @@ returns-in-Ok-Ended-clause-ended g c =
     (inl (subst (IsFoundText (Rose old.hard_faults new.hard_faults) old.contents c.in-Some.name.now) c.in-Ok-Ended.field-0-is c.in-Ok-Ended.ensures.found))
     (subst (IsFailure (Rose old.faults new.faults)) c.in-Ok-Ended.field-0-is c.in-Ok-Ended.ensures.failed)
     (subst (IsSteady (new.hard_faults ≡ old.hard_faults)) c.in-Ok-Ended.field-0-is c.in-Ok-Ended.ensures.steady)
-    (subst (λ (t : List ℕ). IsPrinted c.print-in-Ok-Ended.result (told end.status t) o.written o'.written o.faults o'.faults) c.as_slice-in-Ok-Ended.ensures c.print-in-Ok-Ended.ensures)
+    (subst (λ (t : List ℕ). IsPrinted c.print-in-Ok-Ended.result (ending end.status t) o.written o'.written o.faults o'.faults) c.as_slice-in-Ok-Ended.ensures c.print-in-Ok-Ended.ensures)
 
 pub returns-in-Ok-Ended-clause-unread : goal.returns-in-Ok-Ended-clause-unread
 returns-in-Ok-Ended-clause-unread g c = λ none. absurd (none-some c.in-Some.name.now (sym none ∙ some_said _ _ _ c.in-Some.is))

@@ -58,7 +58,7 @@ serve_and_close-board-requires-clause-ready g c κs within =
 pub leave_seats-requires-clause-room : goal.leave_seats-requires-clause-room
 leave_seats-requires-clause-room g c =
     let own = c.settle_up-told.new.seats.ok.0 in
-    let same : length c.settle_up-told.new.seats.items ≡ length c.take_seats.new.seats.items = c.settle_up-told.ensures.seats ∙ c.serve_and_close-board.ensures.seats in
+    let same : length c.settle_up-told.new.seats.items ≡ length c.take_seats.new.seats.items = c.settle_up-told.ensures.settled.0 ∙ c.serve_and_close-board.ensures.looked.0 in
     let many : length c.take_seats.new.seats.items ≡ length c.args.viewers.now.items = as_many c.take_seats.new.seats.items c.args.viewers.now.items c.take_seats.ensures.viewers_are in
     let were = c.args.viewers.now.ok.0 in
     let fits = c.args.viewers.now.ok.1 in
@@ -96,7 +96,7 @@ pub returns-in-Ok-new-clause-viewed : goal.returns-in-Ok-new-clause-viewed
 returns-in-Ok-new-clause-viewed g c =
     (all_served c.args.policy.now c.args.board.ledger.birth (length c.args.viewers.now.items) c.args.glasses.items c.args.viewers.now.items c.take_seats.new.seats.items c.requires.board.glasses_are
     c.take_seats.ensures.glasses_are c.take_seats.ensures.viewers_are c.requires.company.new g.D.Door.doorway g.D.L.Link.traffic c.serve_and_close-board.result.ledger.entries c.leave_seats.new.viewers.items
-    c.serve_and_close-board.new.seats.items c.settle_up-told.new.seats.items c.leave_seats.ensures c.serve_and_close-board.ensures.seats c.settle_up-told.ensures.seats c.serve_and_close-board.ensures.looked c.settle_up-told.ensures.settled).0
+    c.serve_and_close-board.new.seats.items c.settle_up-told.new.seats.items c.leave_seats.ensures c.serve_and_close-board.ensures.looked c.settle_up-told.ensures.settled).0
 
 pub returns-in-Ok-new-clause-told : goal.returns-in-Ok-new-clause-told
 returns-in-Ok-new-clause-told g c =
@@ -106,5 +106,5 @@ returns-in-Ok-new-clause-told g c =
     subst (λ (b : BookView). AreTold g.D.L.Link.traffic c.args.policy.now c.args.board.ledger.birth b.entries (V c.args.viewers.now.items) (V c.leave_seats.new.viewers.items)) (sym same)
     ((all_served c.args.policy.now c.args.board.ledger.birth (length c.args.viewers.now.items) c.args.glasses.items c.args.viewers.now.items c.take_seats.new.seats.items c.requires.board.glasses_are
     c.take_seats.ensures.glasses_are c.take_seats.ensures.viewers_are c.requires.company.new g.D.Door.doorway g.D.L.Link.traffic c.serve_and_close-board.result.ledger.entries c.leave_seats.new.viewers.items
-    c.serve_and_close-board.new.seats.items c.settle_up-told.new.seats.items c.leave_seats.ensures c.serve_and_close-board.ensures.seats c.settle_up-told.ensures.seats c.serve_and_close-board.ensures.looked c.settle_up-told.ensures.settled).1
+    c.serve_and_close-board.new.seats.items c.settle_up-told.new.seats.items c.leave_seats.ensures c.serve_and_close-board.ensures.looked c.settle_up-told.ensures.settled).1
     (sym c.settle_up-told.ensures.told ∙ yes))

@@ -10,7 +10,7 @@ loop-e-preserved c =
     let e : Prioritised = c.e-item.result in
     let init : List Prioritised = c.args.order.now.events.items in
     record {
-      tracks = λ x are t. c.in_ok-join.ensures.tracks x are (c.loop-e.invariant.tracks x are t);
+      tracks = λ t. c.in_ok-join.ensures.tracks (c.loop-e.invariant.tracks t);
       events =
           c.in_ok-join.ensures.events
           ∙ ap (λ (es : List Prioritised). es ++ e ∷ []) c.loop-e.invariant.events

@@ -1,9 +1,6 @@
 use Rattle.std.proofs.Common.{◌≡◌, ◌++◌, take, flat_map}
-use Rattle.gt_base.specs.Happening.{HappenedView}
-use Rattle.gt_base.specs.Sets.{members}
 use Rattle.gt_base.specs.declared.events.Prioritised.{Prioritised}
 use Rattle.trigger_rules.specs.Indexed.{with_event}
-use Rattle.why_check.specs.Peaks.{ArePeaks}
 use Rattle.gtrbac_tool.specs.Listing.{Tracks}
 use Rattle.gtrbac_tool.proofs.explaining.join_all.Given as goal
 
@@ -11,7 +8,7 @@ use Rattle.gtrbac_tool.proofs.explaining.join_all.Given as goal
 abbrev pub invariant-loop-e : goal.invariant-loop-e
 invariant-loop-e l =
     record {
-      tracks : (x : HappenedView) → ArePeaks (members x.events) l.peaks → Tracks x l.initial.order → Tracks x l.order;
+      tracks : Tracks l.x l.initial.order → Tracks l.x l.order;
       events : l.order.events.items ≡ l.initial.order.events.items ++ take l.e-index l.events;
       pending : l.pending.items ≡ l.initial.pending.items ++ flat_map (λ (o : Prioritised). with_event l.rules o.event) (take l.e-index l.events);
     }

@@ -39,11 +39,11 @@ loop-closed-preserved c =
     let s : Status = has c.loop-closed.status.set in
     let item : ClosedSet = c.closed-item.result in
     let is_left : drop c.loop-closed.closed-index trace ≡ item ∷ rest = left (goal.at.loop-closed-preserved c).After-closed-item in
-    let then_is : has c.in_ok-status-2.status.set ≡ after item.set s = λ i f. (c.in_ok-status-2.ensures f ∙ ap (λ (d : ClosedSet). after d.set s f) c.closed.view_is) i in
+    let then_is : has c.add.new.status.set ≡ after item.set s = λ i f. c.in_ok-add.ensures.turned f i in
     record {
       settled = subst (λ (z : Status). AreSettled rules z rest) (sym then_is) (subst (AreSettled rules s) is_left c.loop-closed.invariant.settled).1;
       so_far = λ ls a.
-          goes_on_from rules s (has c.args.opening.now.set) item rest trace c.loop-closed.cert c.add.new.cert c.in_ok-add.ensures
+          goes_on_from rules s (has c.args.opening.now.set) item rest trace c.loop-closed.cert c.add.new.cert c.in_ok-add.ensures.added
           (λ xs b. c.loop-closed.invariant.so_far xs (subst (λ cs. AreListings rules s cs xs) (sym is_left) b)) ls (subst (λ (z : Status). AreListings rules z rest ls) then_is a);
     }
 

@@ -1,11 +1,7 @@
 use Rattle.std.proofs.Common.{◌≡◌, ℕ, ◌+◌, ◌*◌, ◌<◌, ◌-◌, List, ◌++◌, [], length, take, flat_map, sym, ◌∙◌, ap, subst}
-use Rattle.gt_base.specs.Happening.{HappenedView}
-use Rattle.gt_base.specs.Orders.{prioritised_cmp}
 use Rattle.gt_base.specs.Sets.{has, members}
 use Rattle.gt_base.specs.declared.events.Prioritised.{Prioritised}
-use Rattle.gt_base.proofs.SetLaws.{has-none}
-use Rattle.gtrbac_model.specs.Instant.{IsGrounding, stands}
-use Rattle.gtrbac_model.specs.Same.{lists, same_prioritised}
+use Rattle.gtrbac_model.specs.Instant.{IsGrounding}
 use Rattle.trigger_rules.specs.Indexed.{with_event, with_signal}
 use Rattle.gtrbac_tool.specs.Listing.{with_head, waiting_with}
 use Rattle.gtrbac_tool.proofs.ListingOrder.{IsOnWay, Waits, unlisted, began, first_wait, goes_on, still_wait, less_left, grounds_all}
@@ -17,14 +13,11 @@ loop-t-init c =
     let base = c.args.base.now.set in
     let s = has c.args.before.now.set in
     let x = c.args.x.now in
-    let listed : c.join_all.new.order.events.items ≡ members base.events = c.in_ok-join_all.ensures.events ∙ (λ i. c.new-2.ensures.items i ++ c.events.ensures i) in
+    let listed : c.join_all.new.order.events.items ≡ members base.events = c.in_ok-join_all.ensures.events ∙ (λ i. c.in_ok-order.ensures.events i ++ c.events.ensures i) in
     let woken = c.in_ok-wake_by_signals.ensures ∙ (λ i. c.new-pending.ensures.items i ++ flat_map (with_signal rules) (c.signals.ensures i)) in
     let waiting = c.in_ok-join_all.ensures.pending ∙ (λ i. woken i ++ flat_map (λ (o : Prioritised). with_event rules o.event) (c.events.ensures i)) in
     record {
-      tracks = c.in_ok-join_all.ensures.tracks x c.in_ok-peaks.ensures (record {
-        there = λ e. ap (λ (z : HappenedView). has z.events e) c.new-3.ensures ∙ has-none prioritised_cmp e ∙ sym (ap (λ es. lists same_prioritised es e) c.new-2.ensures.items);
-        standing = λ f. c.new-4.ensures f ∙ sym (ap (λ es. stands x es f) c.new-2.ensures.items);
-      });
+      tracks = c.in_ok-join_all.ensures.tracks (c.in_ok-order.ensures.tracks x);
       on_way = subst (IsOnWay rules base s x) (sym listed) (began rules base s x c.requires.settled.is_closed);
       waits = subst (λ (es : List Prioritised). Waits rules base s x es c.join_all.new.pending.items) (sym listed)
           (subst (λ (ts : List ℕ). Waits rules base s x (members base.events) ts) (sym waiting) (first_wait rules base s x c.requires.caused c.requires.settled.signals));
@@ -51,7 +44,7 @@ loop-t-preserved c =
     let es = c.loop-t.order.events.items in
     let head = c.head_next-head.result in
     record {
-      tracks = c.in_ok-join_head.ensures.tracks x c.in_ok-peaks.ensures c.loop-t.invariant.tracks;
+      tracks = c.in_ok-join_head.ensures.tracks c.loop-t.invariant.tracks;
       on_way = subst (IsOnWay rules base s x) (sym c.in_ok-join_head.ensures.events) (goes_on rules base s x c.requires.settled.is_closed es c.in-Some.t head c.head_next-head.ensures c.loop-t.invariant.on_way);
       waits = subst (λ (fs : List Prioritised). Waits rules base s x fs c.join_head.new.pending.items) (sym c.in_ok-join_head.ensures.events)
           (subst (λ (ts : List ℕ). Waits rules base s x (with_head es head) ts) (sym c.in_ok-join_head.ensures.pending)

@@ -2,7 +2,7 @@ use Rattle.std.proofs.Common.{◌≡◌, ℕ, List, [], sym, ◌∙◌, ap, subs
 use Rattle.std.specs.Prelude.{MatchResult, codes}
 use Rattle.gt_text.specs.Lines.{lines_of}
 use Rattle.policy_commands.specs.declared.ends.End.{End}
-use Rattle.policy_commands.specs.Ends.{told, seen_end}
+use Rattle.policy_commands.specs.Ends.{ending, seen_end}
 use Rattle.request_text.specs.Replies.{fault_word}
 use Rattle.gtrbac_tool.specs.declared.starting.Start.{Start as Found}
 use Rattle.gtrbac_tool.specs.declared.script.Ran.TheVariants.{Unborn}
@@ -16,7 +16,7 @@ use Rattle.gtrbac_tool.proofs.starting.begin.Goals as goal
 pub returns-in-Never : goal.returns-in-Never
 returns-in-Never g c =
     let is = ((λ i. start_of (sym c.policy.ensures.value i) 1 (sym c.new-lines.ensures.value i)) ∙ c.find_start.ensures.start ∙ ap (λ (f : Found). started_so f c.find_start.new.lines) c.in-Never.is) in
-    ([], subst (λ (s : ScriptStart). RanFrom c.args.safe s [] (Unborn (record { status = 0; text = c.new.result }))) (sym is) (ap (told 0) c.new.ensures), hands_none c.args.pieces (g.K.Sink.output c.args.out.now))
+    ([], subst (λ (s : ScriptStart). RanFrom c.args.safe s [] (Unborn (record { status = 0; text = c.new.result }))) (sym is) (ap (ending 0) c.new.ensures), hands_none c.args.pieces (g.K.Sink.output c.args.out.now))
 
 pub returns-in-Born : goal.returns-in-Born
 returns-in-Born g c =

@@ -1,7 +1,7 @@
 use Rattle.std.proofs.Common.{◌≡◌, List, ℕ, map, sym, refl, subst}
 use Rattle.std.specs.Prelude.{string_bytes}
 use Rattle.gt_io.specs.Causes.{Rose}
-use Rattle.policy_commands.specs.declared.finding.Found.{Found}
+use Rattle.policy_commands.specs.declared.finding.FoundText.{FoundText}
 use Rattle.policy_commands.specs.Ends.{seen_end}
 use Rattle.policy_commands.specs.Finding.{IsStoredText, IsFoundText, IsFailure, IsSteady}
 use Rattle.gtrbac_tool.specs.Commands.{seen_command}
@@ -23,8 +23,8 @@ returns-in-Ok-Text g c =
     let new = c.find_text.new.shelf in
     let status = c.run_over.result in
     let stored = subst (λ (t : List ℕ). IsStoredText (s old).contents c.name.result.now t) (sym c.deref.ensures.value)
-    (subst (λ (f : Found). IsFoundText (Rose (s old).hard_faults (s new).hard_faults) (s old).contents c.name.result.now f) c.in-Ok-Text.field-0-is c.in-Ok-Text.ensures.found) in
-    let hard = subst (λ (f : Found). IsSteady ((s new).hard_faults ≡ (s old).hard_faults) f) c.in-Ok-Text.field-0-is c.in-Ok-Text.ensures.steady in
+    (subst (λ (f : FoundText). IsFoundText (Rose (s old).hard_faults (s new).hard_faults) (s old).contents c.name.result.now f) c.in-Ok-Text.field-0-is c.in-Ok-Text.ensures.found) in
+    let hard = subst (λ (f : FoundText). IsSteady ((s new).hard_faults ≡ (s old).hard_faults) f) c.in-Ok-Text.field-0-is c.in-Ok-Text.ensures.steady in
     over_text s i o words status old new c.args.input.now c.run_over.new.input c.args.out.now c.run_over.new.out k (sym c.in-Some.ensures) c.name.result.now c.name.ensures c.deref.result.now stored hard
     c.find_text.ensures.once c.find_text.ensures.same c.run_over.ensures
 
@@ -40,9 +40,9 @@ returns-in-Ok-Ended g c =
     let input = c.args.input.now in
     let status = c.show.result in
     missed s i o words status old new input input c.args.out.now c.show.new.out k (sym c.in-Some.ensures) c.name.result.now c.name.ensures c.find_text.ensures.once c.find_text.ensures.same refl (seen_end c.in-Ok-Ended.end)
-    (subst (λ (f : Found). IsFoundText (Rose (s old).hard_faults (s new).hard_faults) (s old).contents c.name.result.now f) c.in-Ok-Ended.field-0-is c.in-Ok-Ended.ensures.found)
-    (subst (λ (f : Found). IsSteady ((s new).hard_faults ≡ (s old).hard_faults) f) c.in-Ok-Ended.field-0-is c.in-Ok-Ended.ensures.steady)
-    (subst (λ (f : Found). IsFailure (Rose (s old).faults (s new).faults) f) c.in-Ok-Ended.field-0-is c.in-Ok-Ended.ensures.failed) c.show.ensures
+    (subst (λ (f : FoundText). IsFoundText (Rose (s old).hard_faults (s new).hard_faults) (s old).contents c.name.result.now f) c.in-Ok-Ended.field-0-is c.in-Ok-Ended.ensures.found)
+    (subst (λ (f : FoundText). IsSteady ((s new).hard_faults ≡ (s old).hard_faults) f) c.in-Ok-Ended.field-0-is c.in-Ok-Ended.ensures.steady)
+    (subst (λ (f : FoundText). IsFailure (Rose (s old).faults (s new).faults) f) c.in-Ok-Ended.field-0-is c.in-Ok-Ended.ensures.failed) c.show.ensures
 
 pub returns-in-Err : goal.returns-in-Err
 returns-in-Err g c =

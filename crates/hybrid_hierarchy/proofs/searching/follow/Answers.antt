@@ -4,7 +4,7 @@ use Rattle.std.proofs.lemmas.Bool.{false≢true}
 use Rattle.std.proofs.lemmas.List.{length-set}
 use Rattle.gt_base.specs.declared.events.RoleId.{RoleId}
 use Rattle.gt_base.specs.declared.policies.HierEdge.{HierEdge}
-use Rattle.hybrid_hierarchy.specs.declared.searching.Found.{Found}
+use Rattle.hybrid_hierarchy.specs.declared.searching.FoundRole.{FoundRole}
 use Rattle.hybrid_hierarchy.specs.Searches.{is_seen, Following}
 use Rattle.walk_laws.proofs.Roles.{one_role}
 use Rattle.hybrid_hierarchy.proofs.Seeking.{grown}
@@ -63,7 +63,7 @@ loop-n-smaller g c =
     omega (arith, up.0, up.1)
 
 -- what an edge of the head leaves
-record Kept (ok : ℕ → HierEdge → Bool) (goals : RoleId → Bool) (es : List HierEdge) (starts : List ℕ) (seen : List Bool) (queue : List Found) (head n role many total : ℕ) : Type 0 where
+record Kept (ok : ℕ → HierEdge → Bool) (goals : RoleId → Bool) (es : List HierEdge) (starts : List ℕ) (seen : List Bool) (queue : List FoundRole) (head n role many total : ℕ) : Type 0 where
   size : length seen ≡ many
   fewer : length queue + count_by not seen ≤ total
   following : Following ok goals es starts seen queue head role n
@@ -79,7 +79,7 @@ loop-n-preserved g c =
     let n : ℕ = c.loop-n.n in
     let w = c.loop-n.invariant.following in
     let e = edge_of edges w.stop.node n w.link c.loop-n-test.true in
-    let After : List Bool → List Found → Type 0 = λ seen queue. Kept ok goals edges starts seen queue c.args.head c.index-n.result.now c.index.result.now.role (length c.args.seen.now) (length c.args.queue.now.items + count_by not c.args.seen.now) in
+    let After : List Bool → List FoundRole → Type 0 = λ seen queue. Kept ok goals edges starts seen queue c.args.head c.index-n.result.now c.index.result.now.role (length c.args.seen.now) (length c.args.queue.now.items + count_by not c.args.seen.now) in
     let kept : After c.if-not-seen-junior.seen c.if-not-seen-junior.queue.items =
     elim c.if-not-seen-junior.branch [
       | then-not-seen-junior+then-may_pass+else-is_goal+in_ok-push b ↦

@@ -5,7 +5,7 @@ use Rattle.gt_base.specs.declared.policies.HierEdge.{HierEdge}
 use Rattle.gtrbac_model.specs.Graph.{Path, IsLeastWalk}
 use Rattle.gtrbac_model.specs.Hierarchy.{role_arcs}
 use Rattle.least_walk.proofs.Items.{item_within}
-use Rattle.hybrid_hierarchy.specs.declared.searching.Found.{Found}
+use Rattle.hybrid_hierarchy.specs.declared.searching.FoundRole.{FoundRole}
 use Rattle.hybrid_hierarchy.specs.Nets.{AreWithin}
 use Rattle.hybrid_hierarchy.specs.Searches.{TellsWalks, IsWalkBy, IsGoalBy, roles_of}
 use Rattle.hybrid_hierarchy.proofs.Leading.{none_ahead}
@@ -19,7 +19,7 @@ the_none : (o : Option ℕ) (P : Type 0) (Q : ℕ → Type 0) → o ≡ None →
 the_none o P Q is told = subst (λ o. MatchOption o P Q) is told
 
 -- the walk that was told is the least
-found_by : (ok : ℕ → HierEdge → Bool) (goals : RoleId → Bool) (es : List HierEdge) (starts : List ℕ) (queue : List Found) (at n : ℕ) (start : RoleId) (edges : List ℕ) → IsGoalBy ok goals es starts queue at n → IsWalkBy queue at n start.0 edges
+found_by : (ok : ℕ → HierEdge → Bool) (goals : RoleId → Bool) (es : List HierEdge) (starts : List ℕ) (queue : List FoundRole) (at n : ℕ) (start : RoleId) (edges : List ℕ) → IsGoalBy ok goals es starts queue at n → IsWalkBy queue at n start.0 edges
     → IsLeastWalk (role_arcs ok es) goals (roles_of starts) (record { start = start; arcs = edges })
 found_by ok goals es starts queue at n start edges by told =
     let (begin, on) = told by.walks by.stop by.tells by.here in
@@ -49,19 +49,19 @@ follow-requires-clause-searched g c = c.loop-head.invariant.searched
 pub walk_by-requires-clause-tells : goal.walk_by-requires-clause-tells
 walk_by-requires-clause-tells g c =
     let by : IsGoalBy (g.Q.WalkQuestion.passes c.args.asked.now) (g.Q.WalkQuestion.goals c.args.asked.now) c.args.edges.now c.args.from.now c.follow.new.queue.items c.loop-head.head c.in-Some.n = the_some _ _ _ c.in-Some.n c.in-Some.is c.in_ok-n.ensures.found in
-    (by.walks, subst (λ (q : List Found). TellsWalks q by.walks) (sym c.deref.ensures.value) by.tells)
+    (by.walks, subst (λ (q : List FoundRole). TellsWalks q by.walks) (sym c.deref.ensures.value) by.tells)
 
 pub walk_by-requires-clause-inside : goal.walk_by-requires-clause-inside
 walk_by-requires-clause-inside g c =
     let by : IsGoalBy (g.Q.WalkQuestion.passes c.args.asked.now) (g.Q.WalkQuestion.goals c.args.asked.now) c.args.edges.now c.args.from.now c.follow.new.queue.items c.loop-head.head c.in-Some.n = the_some _ _ _ c.in-Some.n c.in-Some.is c.in_ok-n.ensures.found in
-    subst (λ (q : List Found). c.loop-head.head < length q) (sym c.deref.ensures.value) (omega (arith, item_within by.walks c.loop-head.head by.stop by.here, by.tells.size))
+    subst (λ (q : List FoundRole). c.loop-head.head < length q) (sym c.deref.ensures.value) (omega (arith, item_within by.walks c.loop-head.head by.stop by.here, by.tells.size))
 
 pub returns-in-Some : goal.returns-in-Some
 returns-in-Some g c =
     let walk = c.in_ok-walk_by.field-0 in
     found_by (g.Q.WalkQuestion.passes c.args.asked.now) (g.Q.WalkQuestion.goals c.args.asked.now) c.args.edges.now c.args.from.now c.follow.new.queue.items c.loop-head.head c.in-Some.n walk.start walk.edges
     (the_some _ _ _ c.in-Some.n c.in-Some.is c.in_ok-n.ensures.found)
-    (subst (λ (q : List Found). IsWalkBy q c.loop-head.head c.in-Some.n walk.start.0 walk.edges) c.deref.ensures.value c.in_ok-walk_by.ensures)
+    (subst (λ (q : List FoundRole). IsWalkBy q c.loop-head.head c.in-Some.n walk.start.0 walk.edges) c.deref.ensures.value c.in_ok-walk_by.ensures)
 
 pub loop-head-smaller : goal.loop-head-smaller
 loop-head-smaller g c =

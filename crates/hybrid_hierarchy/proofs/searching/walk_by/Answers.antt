@@ -2,11 +2,11 @@ use Rattle.std.proofs.Common.{ℕ, ◌<◌, [], ◌∷◌, ◌++◌, List, slice
 use Rattle.std.specs.Prelude.{reverse}
 use Rattle.std.proofs.lemmas.List.{reverse-append}
 use Rattle.least_walk.proofs.Items.{item_read}
-use Rattle.hybrid_hierarchy.specs.declared.searching.Found.{Found}
+use Rattle.hybrid_hierarchy.specs.declared.searching.FoundRole.{FoundRole}
 use Rattle.hybrid_hierarchy.proofs.Tracing.{IsBack, back_step, back_start}
 use Rattle.hybrid_hierarchy.proofs.searching.walk_by.Goals as goal
 
-abbrev found_at : List Found → ℕ → Found
+abbrev found_at : List FoundRole → ℕ → FoundRole
 found_at queue i = slice_index_or queue i (record { role = 0; by = 0; before = 0 })
 
 pub loop-i-init : goal.loop-i-init
@@ -17,9 +17,9 @@ loop-i-init c = record {
 
 pub loop-i-preserved : goal.loop-i-preserved
 loop-i-preserved c =
-    let queue : List Found = c.args.queue.now in
+    let queue : List FoundRole = c.args.queue.now in
     let i : ℕ = c.loop-i.i in
-    let f : Found = found_at queue i in
+    let f : FoundRole = found_at queue i in
     let isf = item_read queue i (record { role = 0; by = 0; before = 0 }) c.loop-i.invariant.inside in
     let (us, tells) = c.requires.tells in
     let (u, isu, told) = tells.told i f isf in
@@ -42,9 +42,9 @@ loop-i-preserved c =
 
 pub returns : goal.returns
 returns c = λ ws s w at.
-    let queue : List Found = c.args.queue.now in
+    let queue : List FoundRole = c.args.queue.now in
     let i : ℕ = c.loop-i.i in
-    let f : Found = found_at queue i in
+    let f : FoundRole = found_at queue i in
     let isf = item_read queue i (record { role = 0; by = 0; before = 0 }) c.loop-i.invariant.inside in
     let (t, ist, start, arcs) = c.loop-i.invariant.back ws s w at in
     let begin = back_start queue ws i f t w isf ist c.loop-i-test.false in (

@@ -1,4 +1,4 @@
-use Rattle.std.proofs.Common.{◌≡◌, subst, sym}
+use Rattle.std.proofs.Common.{◌≡◌, refl, subst, sym}
 use Rattle.turn_lock.specs.Holders.{Holder, site_of}
 use Rattle.locked_history.specs.Fronts.{by}
 use Rattle.connection_laws.specs.Services.{service_at}
@@ -40,4 +40,4 @@ returns-clause-rests g c =
     let pass_is = sym (c.pass-1.given.1 (sym c.attend.ensures.keeps.1)) in
     let m = g.M.Machine in
     λ rests. subst (λ (p : Holder g.row.M.Denot). IsRested p) pass_is
-    (lent_rests g.M.Keeps.list m.legal m.now_of g.C.Clock.readings c.args.server.now.policy.now _ c.attend.new.answerer c.attend.ensures.rests rests)
+    (lent_rests g.M.Keeps.list m.legal m.now_of g.C.Clock.readings c.args.server.now.policy.now _ c.attend.new.answerer c.attend.ensures.rests refl rests)

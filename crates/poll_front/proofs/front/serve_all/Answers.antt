@@ -2,7 +2,7 @@ use Rattle.std.proofs.Common.{◌≡◌, ◌∙◌, ◌-◌, List, [], length, s
 use Rattle.connection_laws.specs.Services.{service_at}
 use Rattle.std.proofs.lemmas.List.{length-set}
 use Rattle.std.proofs.lemmas.Option.{slice_get_within}
-use Rattle.poll_front.specs.declared.seats.Seat.{Seat}
+use Rattle.poll_front.specs.declared.seats.LinkRow.{LinkRow}
 use Rattle.poll_front.specs.Fronts.{FrontSpot}
 use Rattle.poll_front.specs.Tables.{first_spot, MayGoOn, faults_told}
 use Rattle.poll_front.proofs.Serving.{are_finished}
@@ -17,7 +17,7 @@ loop-init g c =
     let start = g.P.Ports.harbour c.args.ports.now in
     let o : FrontSpot g.row.M.Denot = first_spot c.args.pass.now (g.C.Clock.readings c.args.clock.now) in
     let empty = c.requires.none in
-    let none = ap (λ (l : List Seat). length l) empty in
+    let none = ap (λ (l : List LinkRow). length l) empty in
     let opened = c.requires.ports.1 in
     record {
       held = record {

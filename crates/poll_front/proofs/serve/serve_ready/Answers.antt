@@ -4,7 +4,7 @@ use Rattle.poll_front.specs.declared.ends.PollEnd.TheVariants.{Spent}
 use Rattle.poll_front.specs.declared.states.LinkState.{LinkState}
 use Rattle.poll_front.specs.Fronts.{FrontSpot, front_spot, StepsTo, CanServe, IsWritten}
 use Rattle.poll_front.proofs.Calls.{calls_twice, calls_end, live_kept}
-use Rattle.poll_front.proofs.Going.{steps_then, steps_push, steps_fill, steps_spent, can_next, can_fill}
+use Rattle.poll_front.proofs.Going.{steps_then, steps_push, steps_front, steps_fill, steps_spent, can_next, can_fill, can_front}
 use Rattle.poll_front.proofs.serve.serve_ready.Goals as goal
 
 pub returns-in-Err : goal.returns-in-Err
@@ -45,22 +45,26 @@ returns-in-Err-take_next g c =
     let m = g.M.Machine in
     let sv = c.args.server.now in
     let v : Service = service_at g.M.Keeps.list m.legal m.now_of sv.desk.now sv.policy.now in
+    let p : FrontSpot g.row.M.Denot = front_spot c.loop-state.pass (g.C.Clock.readings c.loop-state.clock) c.loop-state.counters in
     let inv = c.loop-state.invariant in
+    let steps = steps_then v inv.steps (steps_front v p (g.P.Ports.harbour c.loop-state.ports) sv.conn c.loop-state.state c.take_front.new.state c.take_front.ensures) in
     let e = c.in-Err-take_next.ensures in
-    record { steps = steps_then v inv.steps e.steps; ready = ((e.ready.0.0, e.ready.0.1 ∙ inv.ready.0.1), e.ready.1); calls = calls_twice inv.calls e.calls }
+    record { steps = steps_then v steps e.steps; ready = ((e.ready.0.0, e.ready.0.1 ∙ inv.ready.0.1), e.ready.1); calls = calls_twice inv.calls e.calls }
 
 pub loop-state-preserved-in_default-take_next : goal.loop-state-preserved-in_default-take_next
 loop-state-preserved-in_default-take_next g c =
     let m = g.M.Machine in
     let sv = c.args.server.now in
     let v : Service = service_at g.M.Keeps.list m.legal m.now_of sv.desk.now sv.policy.now in
+    let p : FrontSpot g.row.M.Denot = front_spot c.loop-state.pass (g.C.Clock.readings c.loop-state.clock) c.loop-state.counters in
     let inv = c.loop-state.invariant in
+    let steps = steps_then v inv.steps (steps_front v p (g.P.Ports.harbour c.loop-state.ports) sv.conn c.loop-state.state c.take_front.new.state c.take_front.ensures) in
     let e = c.in_default-take_next.ensures in
     record {
-      steps = steps_then v inv.steps e.steps;
+      steps = steps_then v steps e.steps;
       ready = ((e.ready.0.0, e.ready.0.1 ∙ inv.ready.0.1), e.ready.1);
       calls = calls_twice inv.calls e.calls;
-      can = can_next inv.can e.calls c.if-state.true e.actor e.counts e.told e.one;
+      can = can_next (can_front inv.can c.take_front.ensures) e.calls c.if-state.true e.actor e.counts e.told e.one;
       written = e.told;
     }
 
@@ -72,17 +76,21 @@ loop-state-preserved g c =
     let v : Service = service_at g.M.Keeps.list m.legal m.now_of sv.desk.now sv.policy.now in
     let p : FrontSpot g.row.M.Denot = front_spot c.loop-state.pass (g.C.Clock.readings c.loop-state.clock) c.loop-state.counters in
     let inv = c.loop-state.invariant in
+    let s : LinkState = c.take_front.new.state in
+    let steps = steps_then v inv.steps (steps_front v p (h c.loop-state.ports) sv.conn c.loop-state.state s c.take_front.ensures) in
+    let can = can_front inv.can c.take_front.ensures in
+    let written = subst IsWritten (sym c.take_front.ensures.rest) inv.written in
     let e = c.in_default-fill.ensures in
-    let waits = inv.can.waits in
+    let waits = can.waits in
     let left = c.if-state-gt0.true in
     let past = c.if-state.false in
-    let none : c.loop-state.state.from ≡ c.loop-state.state.upto = omega (arith, waits, past) in
+    let none : s.from ≡ s.upto = omega (arith, waits, past) in
     record {
-      steps = steps_then v inv.steps (steps_fill v p e.fills inv.written none (omega (arith, left)) e.size);
+      steps = steps_then v steps (steps_fill v p e.fills written none (omega (arith, left)) e.size);
       ready = inv.ready;
       calls = calls_twice inv.calls e.fills.calls;
-      can = can_fill ((h c.fill.new.ports).port sv.conn) inv.can e.fills.calls none e.fills.filled;
-      written = subst IsWritten (sym e.fills.filled.4) inv.written;
+      can = can_fill ((h c.fill.new.ports).port sv.conn) can e.fills.calls none e.fills.filled;
+      written = subst IsWritten (sym e.fills.filled.4) written;
     }
 
 pub returns-in-Err-fill : goal.returns-in-Err-fill
@@ -92,11 +100,12 @@ returns-in-Err-fill g c =
     let v : Service = service_at g.M.Keeps.list m.legal m.now_of sv.desk.now sv.policy.now in
     let p : FrontSpot g.row.M.Denot = front_spot c.loop-state.pass (g.C.Clock.readings c.loop-state.clock) c.loop-state.counters in
     let inv = c.loop-state.invariant in
+    let steps = steps_then v inv.steps (steps_front v p (g.P.Ports.harbour c.loop-state.ports) sv.conn c.loop-state.state c.take_front.new.state c.take_front.ensures) in
     let e = c.in-Err-fill.ensures in
-    let waits = inv.can.waits in
+    let waits = (can_front inv.can c.take_front.ensures).waits in
     let left = c.if-state-gt0.true in
     let past = c.if-state.false in
-    record { steps = steps_then v inv.steps (steps_fill v p e.fills inv.written (omega (arith, waits, past)) (omega (arith, left)) e.size); ready = inv.ready; calls = calls_twice inv.calls e.fills.calls }
+    record { steps = steps_then v steps (steps_fill v p e.fills (subst IsWritten (sym c.take_front.ensures.rest) inv.written) (omega (arith, waits, past)) (omega (arith, left)) e.size); ready = inv.ready; calls = calls_twice inv.calls e.fills.calls }
 
 pub returns-else-state-gt0 : goal.returns-else-state-gt0
 returns-else-state-gt0 g c =
@@ -105,11 +114,14 @@ returns-else-state-gt0 g c =
     let v : Service = service_at g.M.Keeps.list m.legal m.now_of sv.desk.now sv.policy.now in
     let p : FrontSpot g.row.M.Denot = front_spot c.loop-state.pass (g.C.Clock.readings c.loop-state.clock) c.loop-state.counters in
     let inv = c.loop-state.invariant in
-    let waits = inv.can.waits in
+    let s : LinkState = c.take_front.new.state in
+    let a = g.P.Ports.harbour c.loop-state.ports in
+    let steps = steps_then v inv.steps (steps_front v p a sv.conn c.loop-state.state s c.take_front.ensures) in
+    let waits = (can_front inv.can c.take_front.ensures).waits in
     let left = c.if-state-gt0.false in
     let past = c.if-state.false in
     record {
-      steps = steps_then v inv.steps (steps_spent v p (g.P.Ports.harbour c.loop-state.ports) sv.conn c.loop-state.state inv.calls.live inv.written (omega (arith, waits, past)) (omega (arith, left)));
+      steps = steps_then v steps (steps_spent v p a sv.conn s inv.calls.live (subst IsWritten (sym c.take_front.ensures.rest) inv.written) (omega (arith, waits, past)) (omega (arith, left)));
       ready = inv.ready;
       calls = calls_end Spent inv.calls;
     }

@@ -4,7 +4,7 @@ use Rattle.gt_base.specs.declared.events.RoleId.{RoleId}
 use Rattle.gt_base.specs.declared.events.UserId.{UserId}
 use Rattle.gtrbac_model.specs.Sessions.{is_of}
 use Rattle.session_table.specs.Charges.{covering}
-use Rattle.session_table.specs.Ledgers.{AllBefore}
+use Rattle.session_table.specs.ChargedDays.{AllBefore}
 use Rattle.session_table.proofs.whole.charge_whole.Given as goal
 
 abbrev pub invariant-loop-a : goal.invariant-loop-a

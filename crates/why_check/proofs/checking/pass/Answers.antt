@@ -23,4 +23,4 @@ returns-then-not-is_empty c = λ next later.
 pub returns : goal.returns
 returns c = λ next later.
     let is : c.args.base.now.set ≡ nothing = c.is_empty.ensures.0 c.if-not-is_empty.false in
-    (later, sym c.requires.base ∙ is, subst (λ (x : HappenedView). IsClosed c.args.policy.now.policy c.args.s.now x c.args.to c.close.new.s) (c.in_ok-x.ensures ∙ is) c.in_ok-close.ensures)
+    (later, sym c.requires.base ∙ is, subst (λ (x : HappenedView). IsClosed c.args.policy.now.policy c.args.s.now x c.args.to c.close.new.s) (c.in_ok-x.ensures ∙ c.new.ensures) c.in_ok-close.ensures)

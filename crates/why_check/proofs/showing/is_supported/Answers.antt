@@ -16,7 +16,7 @@ use Rattle.why_check.proofs.showing.is_supported.Goals.{After-has_support}
 pub loop-e-init : goal.loop-e-init
 loop-e-init c = record {
   earlier = [];
-  standing = λ f. c.new-standing.ensures f;
+  standing = λ f. c.in_ok-standing.ensures f;
   rest = refl;
 }
 
@@ -45,7 +45,7 @@ pub loop-e-preserved : goal.loop-e-preserved
 loop-e-preserved c = record {
   earlier = c.e-item.result ∷ c.loop-e.invariant.earlier;
   standing = λ f.
-      c.in_ok-note.ensures c.args.x.now c.in_ok-peaks.ensures f
+      c.in_ok-note.ensures f
       ∙ ap (λ b. (same_event c.e-item.result.event f && not (blocked c.args.x.now c.e-item.result)) || b) (c.loop-e.invariant.standing f);
   rest =
       next (goal.at.loop-e-preserved c).After-has_support

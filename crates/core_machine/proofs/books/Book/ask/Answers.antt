@@ -4,7 +4,7 @@ use Rattle.std.proofs.lemmas.Result.{on_err_weaker}
 use Rattle.gt_base.specs.declared.limits.TheConstants.{MAX_STEPS}
 use Rattle.gtrbac_model.specs.History.{IsNamedWish, ask}
 use Rattle.core_machine.specs.Books.{Asks, BookView, IsLegalBook}
-use Rattle.core_machine.specs.Kept.{view_of}
+use Rattle.core_machine.specs.Coherent.{view_of}
 use Rattle.core_machine.proofs.Sames.{on_ok, step_err, step_not_full, step_ok}
 use Rattle.core_machine.proofs.books.Book.ask.Goals as goal
 

@@ -1,7 +1,7 @@
 use Rattle.std.proofs.Common.{◌≡◌, ◌<◌, ◌≤◌, ◌⊎◌, inl, inr, length, refl, sym, ap, subst, ◌∙◌, arith}
 use Rattle.std.proofs.lemmas.Result.{IfOk-weaker, on_err_weaker}
 use Rattle.core_machine.specs.Books.{BookView, GoesOn, IsLegalBook, Ticks, now_in}
-use Rattle.core_machine.specs.Kept.{view_of}
+use Rattle.core_machine.specs.Coherent.{view_of}
 use Rattle.std.proofs.lemmas.Map.Keys.{le_from_is_le}
 use Rattle.gt_base.specs.declared.limits.TheConstants.{MAX_STEPS}
 use Rattle.core_machine.proofs.Stops.{past}

@@ -1,9 +1,8 @@
-use Rattle.std.proofs.Common.{◌∙◌, ap, subst}
-use Rattle.std.specs.Prelude.{IfOk}
-use Rattle.gt_base.specs.Happening.{HappenedView}
-use Rattle.gt_base.specs.Sets.{members}
-use Rattle.why_check.specs.Peaks.{ArePeaks}
+use Rattle.std.proofs.Common.{subst}
+use Rattle.gt_base.specs.Orders.{fluent_eq}
+use Rattle.indexmap.specs.IndexMap.{get}
+use Rattle.why_check.specs.Peaks.{ArePeaks, peak_in}
 use Rattle.why_check.proofs.blocking.Peaks.new.Goals as goal
 
-pub returns : goal.returns
-returns c = subst (λ es. IfOk c.peaks_of.result (ArePeaks es)) (c.events.ensures ∙ ap (λ (z : HappenedView). members z.events) c.set.ensures) c.peaks_of.ensures
+pub invariant_of-result : goal.invariant_of-result
+invariant_of-result c = subst (λ es. ArePeaks es (peak_in (get fluent_eq c.in_ok-sides.sides))) c.events.ensures c.in_ok-sides.ensures

@@ -13,16 +13,16 @@ put_in true v o = refl
 put_in false v o = refl
 
 pub returns-in_ok-insert : goal.returns-in_ok-insert
-returns-in_ok-insert c = λ x are f.
+returns-in_ok-insert c = λ f.
     let e = c.args.e.now in
-    let free : blocked x e ≡ false = sym (c.blocks-2.ensures x are) ∙ c.if-not-blocks.true in
+    let free : blocked c.args.x.now e ≡ false = sym c.blocks-2.ensures ∙ c.if-not-blocks.true in
     ap is_some (c.in_ok-insert.ensures.updates.0 f)
     ∙ put_in (event_eq e.event f) _ (get event_eq c.args.self.now.events f)
     ∙ ap (λ b. b || stands_in c.args.self.now f) (event_law e.event f)
-    ∙ noted (same_event e.event f) (blocked x e) (stands_in c.args.self.now f) free
+    ∙ noted (same_event e.event f) (blocked c.args.x.now e) (stands_in c.args.self.now f) free
 
 pub returns-else-not-blocks : goal.returns-else-not-blocks
-returns-else-not-blocks c = λ x are f.
+returns-else-not-blocks c = λ f.
     let e = c.args.e.now in
-    let stuck : blocked x e ≡ true = sym (c.blocks-2.ensures x are) ∙ c.if-not-blocks.false in
-    left_out (same_event e.event f) (blocked x e) (stands_in c.args.self.now f) stuck
+    let stuck : blocked c.args.x.now e ≡ true = sym c.blocks-2.ensures ∙ c.if-not-blocks.false in
+    left_out (same_event e.event f) (blocked c.args.x.now e) (stands_in c.args.self.now f) stuck

@@ -1,0 +1,8 @@
+use Rattle.std.proofs.Common.{subst}
+use Rattle.gtrbac_model.specs.Period.{Period, starts}
+use Rattle.instant_bases.specs.Nexts.{IsNextOf}
+use Rattle.instant_bases.proofs.watches.WatchedPeriod.next_start.Goals as goal
+
+pub returns-in-Next : goal.returns-in-Next
+returns-in-Next c =
+    subst (λ (p : Period). IsNextOf (starts p) c.args.after c.in-Next.t) c.self.view_is (c.in-Next.ensures (starts c.self.inside.period) c.self.invariant.1)

@@ -1,0 +1,36 @@
+use Rattle.std.proofs.Common.{cond, take, arith, sym, ◌∙◌, ap}
+use Rattle.std.specs.List.{list_any}
+use Rattle.std.proofs.lemmas.List.{take_all}
+use Rattle.gt_base.specs.Sets.{has}
+use Rattle.gtrbac_model.specs.Conflict.{after, won, turns_on, turns_off}
+use Rattle.gtrbac_model.specs.Same.{same_fluent}
+use Rattle.gtrbac_model.specs.Status.{differ}
+use Rattle.priority_conflict.proofs.OverLaws.{any_more, read_more}
+use Rattle.duration_limits.specs.Since.{since_in}
+use Rattle.why_check.proofs.Turned.{turned_more, since_more}
+use Rattle.why_check.proofs.closing.turn_all.Goals as goal
+
+pub loop-e-preserved : goal.loop-e-preserved
+loop-e-preserved c =
+    let inv = c.loop-e.invariant in
+    let before = has c.args.status.now.set in
+    record {
+      room = omega arith;
+      spare = omega arith;
+      birth = c.turn_fluent.ensures.birth ∙ inv.birth;
+      status = λ f.
+          turned_more (won c.args.x.now (turns_on f)) (won c.args.x.now (turns_off f)) (before f) (list_any (λ o. same_fluent o.event.fluent f) (take c.loop-e.e-index c.args.events.now)) (same_fluent c.e-item.result.event.fluent f)
+          (has c.loop-e.status.set f) (has c.turn_fluent.new.status.set f) (inv.status f) (c.turn_fluent.ensures.status f)
+          ∙ ap (λ b. cond b (after c.args.x.now before f) (before f))
+          (sym (any_more (λ o. same_fluent o.event.fluent f) c.args.events.now c.loop-e.e-index c.e-item.result (read_more _ _ c.e-item.result c.loop-e-test.true c.e-item.is)));
+      since = λ f.
+          c.turn_fluent.ensures.since f
+          ∙ ap (cond (differ (has c.turn_fluent.new.status.set f) (has c.loop-e.status.set f)) c.args.at) (inv.since f)
+          ∙ since_more (won c.args.x.now (turns_on f)) (won c.args.x.now (turns_off f)) (before f) (list_any (λ o. same_fluent o.event.fluent f) (take c.loop-e.e-index c.args.events.now)) (same_fluent c.e-item.result.event.fluent f)
+          (has c.loop-e.status.set f) (has c.turn_fluent.new.status.set f) c.args.at (since_in c.args.ages.now f) (inv.status f) (c.turn_fluent.ensures.status f);
+    }
+
+pub returns-clause-status : goal.returns-clause-status
+returns-clause-status c = λ f.
+    c.loop-e.invariant.status f
+    ∙ ap (λ es. cond (list_any (λ o. same_fluent o.event.fluent f) es) (after c.args.x.now (has c.args.status.now.set) f) (has c.args.status.now.set f)) (take_all c.loop-e.e-index c.args.events.now c.loop-e-test.false)
