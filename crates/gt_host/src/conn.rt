@@ -12,7 +12,7 @@ use std::io::{ErrorKind, Read, Write};
 use std::net::Shutdown;
 
 /// How many bytes of replies are held back at most, but for the last one.
-const MAX_HELD: usize = 16_384;
+const MOST_HELD: usize = 16_384;
 
 /// How many bytes are read from a link before the others have their turn.
 const MAX_AT_ONCE: usize = 4096;
@@ -191,7 +191,7 @@ impl Conn {
         requires { 0 < length piece.now }
         ensures { IfOk result (FitsTook (length piece.now)) }
     {
-        if self.held.len() >= MAX_HELD && !self.hand_over()? {
+        if self.held.len() >= MOST_HELD && !self.hand_over()? {
             return self.not_yet();
         }
         match self.held.extend_from_slice(piece) {
