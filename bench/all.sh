@@ -1,9 +1,9 @@
 #!/bin/sh
 # Writes the tables of docs/PERFORMANCE.md, but for that of proofs: bench/all.sh [--short] [SCRIPT..]
 # Each SCRIPT is a name here without `.sh`; without any all are run, within half an hour. Only what is
-# built is measured: `make` builds gtrbac and gtrbacd, and `rt run` in crates/part_bench, line_bench,
-# desk_bench and calendar_probe the programs of the parts. A script that can't run is named at the end,
-# and the status is then 1. With --short each measure is of a small size, to see that it runs.
+# built is measured: `make` builds gtrbac and gtrbacd, and `rt run` in crates/calendar_probe the program
+# that bench/calendar.sh asks. A script that can't run is named at the end, and the status is then 1.
+# With --short each measure is of a small size, to see that it runs.
 # MACHINE is the letter of this machine in the last column of each row, A where it is not given.
 # The server's scripts need the ports 7743 to 7746, 7753, 7754 and 7799.
 set -eu
@@ -13,8 +13,7 @@ if [ "${1:-}" = --short ]; then
     shift
     export SHORT=1
 fi
-[ $# -gt 0 ] || set -- serve poll sessions time ward run late agenda charges edges policies lines status \
-    calendar walks desk
+[ $# -gt 0 ] || set -- serve poll sessions time ward run late agenda charges edges policies calendar
 
 model=$(sed -n 's/^model name[^:]*: //p' /proc/cpuinfo | head -n 1)
 memory=$(awk '/^MemTotal/ { printf "%.0f GB", $2 / 1048576 }' /proc/meminfo)

@@ -82,12 +82,6 @@ def best(words, rounds=3, given=None, into=None):
     return min(once(words, given, into) for _ in range(sized(rounds, 1)))
 
 
-def each(words, times, rounds=3):
-    """The processor time of one of so many, by a program whose last word is how many it does."""
-    least = best(words + ['1'], rounds).seconds
-    return max(best(words + [str(times + 1)], rounds).seconds - least, 0) / times
-
-
 def run(policy, lines, rounds=3, words='run policy'):
     """The best of some runs of gtrbac; the lines stand in the files `policy` and `script` here."""
     with open('policy', 'w', encoding='utf-8') as file:
