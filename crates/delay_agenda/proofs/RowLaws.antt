@@ -1,5 +1,5 @@
 -- Pairs in a tree and in a row, and the set of both.
-use Rattle.std.proofs.Common.{◌≡◌, ℕ, ◌+◌, ◌<◌, ◌≤◌, ◌⊎◌, inl, inr, ◌++◌, Bool, true, false, cond, ◌&&◌, ◌||◌, T, List, [], ◌∷◌, length, filter, refl, sym, ◌∙◌, ap, subst, arith, get_or, length-append}
+use Rattle.std.proofs.Common.{◌≡◌, ℕ, ◌+◌, ◌<◌, ◌≤◌, ◌⊎◌, inl, inr, ◌++◌, Bool, true, false, cond, ◌&&◌, ◌||◌, not, T, List, [], ◌∷◌, length, filter, refl, sym, ◌∙◌, ap, subst, arith, get_or, length-append}
 use Rattle.std.proofs.lemmas.List.{get_or_push, length-map}
 use Rattle.std.proofs.lemmas.List.Folds.{list_any-append}
 use Rattle.std.specs.List.{AllByRecursion}
@@ -11,10 +11,10 @@ use Rattle.std.specs.FinMap.Entries.{below_all, is_sorted-put, length-put}
 use Rattle.gt_base.specs.declared.events.Prioritised.{Prioritised}
 use Rattle.gt_base.specs.Sets.{set_of, set_of_rising, pairs, has, members, those, with_member, none, Rises}
 use Rattle.gt_base.proofs.Rising.{below_at, has-set_of_rising, filter_rises, set_of_filtered, left_of, right_of, less_of}
-use Rattle.gt_base.proofs.SetLaws.{same_sets, entries-checked, members-set_of_rising, members-none, eq_itself, has-set_of, has-with_member, has-those}
+use Rattle.gt_base.proofs.SetLaws.{same_sets, entries-checked, members-set_of_rising, members-none, has-none, eq_itself, has-set_of, has-with_member, has-those}
 use Rattle.delay_agenda.specs.declared.pairs.Pending.{Pending}
 use Rattle.delay_agenda.specs.Due.{pending_cmp, pending_at, is_due_at, count_due, IsLeastDue, Pendings}
-use Rattle.delay_agenda.specs.Rows.{due_in, lists_event, stands_in, pairs_of, AreApart}
+use Rattle.delay_agenda.specs.Rows.{due_in, lists_event, new_in, new_due_in, stands_in, pairs_of, BothRise}
 use Rattle.delay_agenda.proofs.DueLaws.{and_left, stands_due}
 use Rattle.delay_agenda.proofs.PendingLaws.{pending_cmp_total, pending_cmp-IsAntisymmetric}
 
@@ -25,6 +25,17 @@ or_or false b c = refl
 pub or_true : (a b : Bool) → b ≡ true → (a || b) ≡ true
 or_true true b e = refl
 or_true false b e = e
+
+and_true : (a : Bool) → (a && true) ≡ a
+and_true true = refl
+and_true false = refl
+
+and_false : (a : Bool) → (a && false) ≡ false
+and_false true = refl
+and_false false = refl
+
+true-not-false : true ≡ false → ⊥
+true-not-false e = cc
 
 or_and : (a b f : Bool) → ((a && f) || (b && f)) ≡ ((a || b) && f)
 or_and true true f = elim f as (λ f. (f || f) ≡ f) [ true ↦ refl | false ↦ refl ]
@@ -47,8 +58,8 @@ pub has-pairs : (tree row : List Pending) (q : Pending) → has (pairs_of tree r
 unfolding pairs_of
 has-pairs tree row q = has-set_of pending_cmp_total (row ++ tree) q ∙ list_any-append (eq_by_cmp pending_cmp q) row tree
 
-pub none_apart : AreApart [] []
-none_apart = record { tree_rises = tt; row_rises = tt; apart = λ q e. cc }
+pub none_rise : BothRise [] []
+none_rise = record { tree_rises = tt; row_rises = tt }
 
 pub none_of_none : pairs_of [] [] ≡ none
 unfolding pairs_of
@@ -80,20 +91,8 @@ front_rises : (ks : List Pending) (k : Pending) → Rises pending_cmp (ks ++ k �
 front_rises [] k h = tt
 front_rises (x ∷ xs) k h = both (below_all pending_cmp x (pairs xs)) _ (below_front x xs k (left_of (below_all pending_cmp x (pairs (xs ++ k ∷ []))) _ h)) (front_rises xs k (right_of (below_all pending_cmp x (pairs (xs ++ k ∷ []))) _ h))
 
--- the last of a list stands once
-last_absent : (ks : List Pending) (k : Pending) → Rises pending_cmp (ks ++ k ∷ []) → (q : Pending) → stands_in ks q ≡ true → eq_by_cmp pending_cmp q k ≡ false
-last_absent [] k h q e = cc
-last_absent (x ∷ xs) k h q e =
-    elim (eq_by_cmp pending_cmp q x) as (λ b. eq_by_cmp pending_cmp q x ≡ b → (b || stands_in xs q) ≡ true → eq_by_cmp pending_cmp q k ≡ false) [
-      | true ↦ λ tie _.
-          let below : pending_cmp x (get_or (xs ++ k ∷ []) (length xs) k) ≡ Less =
-          below_at pending_cmp_total x (xs ++ k ∷ []) (left_of (below_all pending_cmp x (pairs (xs ++ k ∷ []))) _ h) (length xs) k (let n = length-append xs (k ∷ []) in omega (arith, n)) in
-          ap (λ y. eq_by_cmp pending_cmp y k) (tied q x tie) ∙ ap (λ y. eq_by_cmp pending_cmp x y) (sym (get_or_push xs k k (length xs) refl)) ∙ ap is_eq below
-      | false ↦ λ _ e. last_absent xs k (right_of (below_all pending_cmp x (pairs (xs ++ k ∷ []))) _ h) q e
-    ] refl e
-
 -- ---- those that pass a test
-module _ (p : Pending → Bool) (tree row : List Pending) (r : AreApart tree row) where
+module _ (p : Pending → Bool) where
   alike : (q y : Pending) → pending_cmp q y ≡ Equal → p y ≡ p q
   alike q y e = ap p (sym (pending_cmp-IsAntisymmetric q y e))
 
@@ -102,15 +101,14 @@ module _ (p : Pending → Bool) (tree row : List Pending) (r : AreApart tree row
       sym (has-set_of_rising pending_cmp_total (filter p ks) q (filter_rises pending_cmp_total p ks h)) ∙ ap (λ s. has s q) (set_of_filtered pending_cmp_total p ks h)
       ∙ has-those pending_cmp_total (set_of_rising ks) p q (alike q) ∙ ap (λ b. b && p q) (has-set_of_rising pending_cmp_total ks q h)
 
-  pub kept_apart : AreApart (filter p tree) (filter p row)
-  kept_apart = record {
+  pub kept_rise : (tree row : List Pending) → BothRise tree row → BothRise (filter p tree) (filter p row)
+  kept_rise tree row r = record {
     tree_rises = filter_rises pending_cmp_total p tree r.tree_rises;
     row_rises = filter_rises pending_cmp_total p row r.row_rises;
-    apart = λ q there. kept tree q r.tree_rises ∙ ap (λ b. b && p q) (r.apart q (and_left _ _ (sym (kept row q r.row_rises) ∙ there)));
   }
 
-  pub kept_set : pairs_of (filter p tree) (filter p row) ≡ those (pairs_of tree row) p
-  kept_set = same _ _ (λ q.
+  pub kept_set : (tree row : List Pending) → BothRise tree row → pairs_of (filter p tree) (filter p row) ≡ those (pairs_of tree row) p
+  kept_set tree row r = same _ _ (λ q.
       has-pairs (filter p tree) (filter p row) q ∙ ap (λ b. b || stands_in (filter p tree) q) (kept row q r.row_rises)
       ∙ ap (λ b. (stands_in row q && p q) || b) (kept tree q r.tree_rises) ∙ or_and (stands_in row q) (stands_in tree q) (p q)
       ∙ ap (λ b. b && p q) (sym (has-pairs tree row q)) ∙ sym (has-those pending_cmp_total (pairs_of tree row) p q (alike q)))
@@ -124,42 +122,79 @@ length-with s k e =
     ∙ ap (λ b. cond b (length s.entries) (length s.entries + 1)) e
     ∙ ap (λ n. n + 1) (sym (length-map s.entries (λ x. x.0)))
 
-pub count_pairs : (tree row : List Pending) → AreApart tree row → length (members (pairs_of tree row)) ≡ length tree + length row
+-- who stands there already changes nothing
+pub in_tree : (tree row : List Pending) (k : Pending) → stands_in tree k ≡ true → with_member (pairs_of tree row) k ≡ pairs_of tree row
+in_tree tree row k there = same _ _ (λ q. has-with_member pending_cmp_total (pairs_of tree row) k q ∙ by q (eq_by_cmp pending_cmp q k) refl)
+  where
+    by : (q : Pending) (b : Bool) → eq_by_cmp pending_cmp q k ≡ b → (b || has (pairs_of tree row) q) ≡ has (pairs_of tree row) q
+    by q true e = sym (ap (has (pairs_of tree row)) (tied q k e) ∙ has-pairs tree row k ∙ or_true (stands_in row k) _ there)
+    by q false e = refl
+
+pub count_pairs : (tree row : List Pending) → BothRise tree row → length (members (pairs_of tree row)) ≡ length tree + length (new_in tree row)
 unfolding pairs_of
 count_pairs tree [] r =
     ap (λ s. length (members s)) (same (set_of tree) (set_of_rising tree) (λ q. has-set_of pending_cmp_total tree q ∙ sym (has-set_of_rising pending_cmp_total tree q r.tree_rises)))
     ∙ ap length (members-set_of_rising pending_cmp tree r.tree_rises) ∙ omega arith
 count_pairs tree (k ∷ row) r =
     let below : T (below_all pending_cmp k (pairs row)) = left_of (below_all pending_cmp k (pairs row)) _ r.row_rises in
-    let absent : has (pairs_of tree row) k ≡ false =
-    has-pairs tree row k ∙ ap (λ b. b || stands_in tree k) (first_absent k row below) ∙ r.apart k (ap (λ b. b || stands_in row k) (eq_itself pending_cmp_total k)) in
-    let rest : AreApart tree row =
-    record {
-      tree_rises = r.tree_rises;
-      row_rises = right_of (below_all pending_cmp k (pairs row)) _ r.row_rises;
-      apart = λ q there. r.apart q (or_true (eq_by_cmp pending_cmp q k) _ there);
-    } in
+    let rest : BothRise tree row = record { tree_rises = r.tree_rises; row_rises = right_of (below_all pending_cmp k (pairs row)) _ r.row_rises } in
     let fewer = count_pairs tree row rest in
-    let more = length-with (pairs_of tree row) k absent in
-    omega (arith, fewer, more)
+    elim (stands_in tree k) as (λ b. stands_in tree k ≡ b → length (members (with_member (pairs_of tree row) k)) ≡ length tree + length (cond (not b) (k ∷ new_in tree row) (new_in tree row))) [
+      | true ↦ λ there. ap (λ s. length (members s)) (in_tree tree row k there) ∙ fewer
+      | false ↦ λ there.
+          let more = length-with (pairs_of tree row) k (has-pairs tree row k ∙ ap (λ b. b || stands_in tree k) (first_absent k row below) ∙ there) in
+          omega (arith, fewer, more)
+    ] refl
 
-pub count_due_pairs : (tree row : List Pending) (t : ℕ) → AreApart tree row → count_due (pairs_of tree row) t ≡ length (due_in tree t) + length (due_in row t)
+-- of those that are due, the tree lacks the same
+new_due : (tree row : List Pending) (t : ℕ) → Rises pending_cmp tree → new_in (due_in tree t) (due_in row t) ≡ new_due_in tree row t
+new_due tree [] t h = refl
+new_due tree (x ∷ xs) t h =
+    elim (is_due_at t x) as (λ b. is_due_at t x ≡ b → new_in (due_in tree t) (cond b (x ∷ due_in xs t) (due_in xs t)) ≡ cond (b && not (stands_in tree x)) (x ∷ new_due_in tree xs t) (new_due_in tree xs t)) [
+      | true ↦ λ due.
+          ap (λ b. cond (not b) (x ∷ new_in (due_in tree t) (due_in xs t)) (new_in (due_in tree t) (due_in xs t))) (kept (is_due_at t) tree x h ∙ ap (λ b. stands_in tree x && b) due ∙ and_true (stands_in tree x))
+          ∙ ap (λ ks. cond (not (stands_in tree x)) (x ∷ ks) ks) (new_due tree xs t h)
+      | false ↦ λ _. new_due tree xs t h
+    ] refl
+
+pub count_due_pairs : (tree row : List Pending) (t : ℕ) → BothRise tree row → count_due (pairs_of tree row) t ≡ length (due_in tree t) + length (new_due_in tree row t)
 count_due_pairs tree row t r =
-    ap (λ s. length (members s)) (sym (kept_set (is_due_at t) tree row r)) ∙ count_pairs _ _ (kept_apart (is_due_at t) tree row r)
+    ap (λ s. length (members s)) (sym (kept_set (is_due_at t) tree row r)) ∙ count_pairs _ _ (kept_rise (is_due_at t) tree row r)
+    ∙ ap (λ ks. length (due_in tree t) + length ks) (new_due tree row t r.tree_rises)
 
-pub then_empty : (tree row : List Pending) → AreApart tree row → pairs_of tree row ≡ none → length tree + length row ≡ 0
-then_empty tree row r e = sym (count_pairs tree row r) ∙ ap (λ s. length (members s)) e ∙ ap length (members-none pending_cmp)
+pub then_empty : (tree row : List Pending) → pairs_of tree row ≡ none → length tree + length row ≡ 0
+then_empty [] [] e = refl
+then_empty (x ∷ xs) row e =
+    let there : has (pairs_of (x ∷ xs) row) x ≡ true = has-pairs (x ∷ xs) row x ∙ or_true (stands_in row x) _ (ap (λ b. b || stands_in xs x) (eq_itself pending_cmp_total x)) in
+    let absent : has (pairs_of (x ∷ xs) row) x ≡ false = ap (λ s. has s x) e ∙ has-none pending_cmp x in
+    absurd (true-not-false (sym there ∙ absent))
+then_empty [] (x ∷ xs) e =
+    let there : has (pairs_of [] (x ∷ xs)) x ≡ true = has-pairs [] (x ∷ xs) x ∙ ap (λ b. (b || stands_in xs x) || false) (eq_itself pending_cmp_total x) in
+    let absent : has (pairs_of [] (x ∷ xs)) x ≡ false = ap (λ s. has s x) e ∙ has-none pending_cmp x in
+    absurd (true-not-false (sym there ∙ absent))
 
 -- ---- what is due
+-- an event that is told of the row is due then, and the tree lacks its pair
+new_told : (tree row : List Pending) (t : ℕ) (e : Prioritised) → Rises pending_cmp row → lists_event (new_due_in tree row t) e ≡ (stands_in row (pending_at t e) && not (stands_in tree (pending_at t e)))
+new_told tree row t e h = ap (λ ks. lists_event ks e) (sym (due_new row)) ∙ sym (stands_due t e (new_in tree row)) ∙ kept (λ p. not (stands_in tree p)) row (pending_at t e) h
+  where
+    due_new : (ks : List Pending) → due_in (new_in tree ks) t ≡ new_due_in tree ks t
+    due_new [] = refl
+    due_new (x ∷ xs) =
+        elim (stands_in tree x) as (λ b. due_in (cond (not b) (x ∷ new_in tree xs) (new_in tree xs)) t ≡ cond (is_due_at t x && not b) (x ∷ new_due_in tree xs t) (new_due_in tree xs t)) [
+          | true ↦ due_new xs ∙ ap (λ b. cond b (x ∷ new_due_in tree xs t) (new_due_in tree xs t)) (sym (and_false (is_due_at t x)))
+          | false ↦ ap (λ ks. cond (is_due_at t x) (x ∷ ks) ks) (due_new xs) ∙ ap (λ b. cond b (x ∷ new_due_in tree xs t) (new_due_in tree xs t)) (sym (and_true (is_due_at t x)))
+        ]
+
 -- an event that the tree and the row told is one that the set has
-pub told_both : (tree row : List Pending) (t : ℕ) (e : Prioritised) (x y z : Bool)
-    → y ≡ (x || lists_event (due_in tree t) e) → z ≡ (y || lists_event (due_in row t) e) → z ≡ (x || has (pairs_of tree row) (pending_at t e))
-told_both tree row t e x y z first second =
-    second ∙ ap (λ b. b || lists_event (due_in row t) e) first ∙ around x (lists_event (due_in tree t) e) (lists_event (due_in row t) e)
-    ∙ ap (λ b. x || (lists_event (due_in row t) e || b)) (sym (stands_due t e tree)) ∙ ap (λ b. x || (b || stands_in tree (pending_at t e))) (sym (stands_due t e row))
+pub told_both : (tree row : List Pending) (t : ℕ) (e : Prioritised) (x y z : Bool) → Rises pending_cmp row
+    → y ≡ (x || lists_event (due_in tree t) e) → z ≡ (y || lists_event (new_due_in tree row t) e) → z ≡ (x || has (pairs_of tree row) (pending_at t e))
+told_both tree row t e x y z h first second =
+    second ∙ ap (λ b. b || lists_event (new_due_in tree row t) e) (first ∙ ap (λ b. x || b) (sym (stands_due t e tree)))
+    ∙ ap (λ b. (x || stands_in tree (pending_at t e)) || b) (new_told tree row t e h) ∙ around x (stands_in tree (pending_at t e)) (stands_in row (pending_at t e))
     ∙ ap (λ b. x || b) (sym (has-pairs tree row (pending_at t e)))
   where
-    around : (x a b : Bool) → ((x || a) || b) ≡ (x || (b || a))
+    around : (x a b : Bool) → ((x || a) || (b && not a)) ≡ (x || (b || a))
     around true a b = refl
     around false true true = refl
     around false true false = refl
@@ -200,16 +235,8 @@ pub both_empty : (tree row : List Pending) → tree ≡ [] → row ≡ [] → pa
 both_empty tree row t r = rw (t, r) none_of_none
 
 -- ---- a pair is put in
--- who stands there already changes nothing
-pub in_tree : (tree row : List Pending) (k : Pending) → stands_in tree k ≡ true → with_member (pairs_of tree row) k ≡ pairs_of tree row
-in_tree tree row k there = same _ _ (λ q. has-with_member pending_cmp_total (pairs_of tree row) k q ∙ by q (eq_by_cmp pending_cmp q k) refl)
-  where
-    by : (q : Pending) (b : Bool) → eq_by_cmp pending_cmp q k ≡ b → (b || has (pairs_of tree row) q) ≡ has (pairs_of tree row) q
-    by q true e = sym (ap (has (pairs_of tree row)) (tied q k e) ∙ has-pairs tree row k ∙ or_true (stands_in row k) _ there)
-    by q false e = refl
-
 -- into the row
-module _ (tree row new : List Pending) (k : Pending) (r : AreApart tree row) (h : Rises pending_cmp new) (put : set_of_rising {R = pending_cmp} new ≡ with_member (set_of_rising row) k) where
+module _ (tree row new : List Pending) (k : Pending) (r : BothRise tree row) (h : Rises pending_cmp new) (put : set_of_rising {R = pending_cmp} new ≡ with_member (set_of_rising row) k) where
   listed : (q : Pending) → stands_in new q ≡ (eq_by_cmp pending_cmp q k || stands_in row q)
   listed q =
       sym (has-set_of_rising pending_cmp_total new q h) ∙ ap (λ s. has s q) put ∙ has-with_member pending_cmp_total (set_of_rising row) k q
@@ -220,23 +247,9 @@ module _ (tree row new : List Pending) (k : Pending) (r : AreApart tree row) (h 
       has-pairs tree new q ∙ ap (λ b. b || stands_in tree q) (listed q) ∙ or_or (eq_by_cmp pending_cmp q k) (stands_in row q) (stands_in tree q)
       ∙ ap (λ b. eq_by_cmp pending_cmp q k || b) (sym (has-pairs tree row q)) ∙ sym (has-with_member pending_cmp_total (pairs_of tree row) k q))
 
-  apart_still : (q : Pending) (b : Bool) → stands_in tree k ≡ false → eq_by_cmp pending_cmp q k ≡ b → (b || stands_in row q) ≡ true → stands_in tree q ≡ false
-  apart_still q true absent tie there = ap (stands_in tree) (tied q k tie) ∙ absent
-  apart_still q false absent tie there = r.apart q there
-
-  pub put_apart : stands_in tree k ≡ false → AreApart tree new
-  put_apart absent = record {
-    tree_rises = r.tree_rises;
-    row_rises = h;
-    apart = λ q there. apart_still q (eq_by_cmp pending_cmp q k) absent refl (sym (listed q) ∙ there);
-  }
-
 -- the last of the row moves to the tree
-module _ (tree row tree' row' : List Pending) (k : Pending) (r : AreApart tree row) (last : row ≡ row' ++ k ∷ []) (h : Rises pending_cmp tree')
+module _ (tree row tree' row' : List Pending) (k : Pending) (r : BothRise tree row) (last : row ≡ row' ++ k ∷ []) (h : Rises pending_cmp tree')
     (put : (q : Pending) → stands_in tree' q ≡ cond (eq_by_cmp pending_cmp k q) true (stands_in tree q)) where
-  rises : Rises pending_cmp (row' ++ k ∷ [])
-  rises = subst (Rises pending_cmp) last r.row_rises
-
   in_row : (q : Pending) → stands_in row q ≡ (stands_in row' q || (eq_by_cmp pending_cmp q k || false))
   in_row q = ap (λ ks. stands_in ks q) last ∙ list_any-append (eq_by_cmp pending_cmp q) row' (k ∷ [])
 
@@ -247,13 +260,10 @@ module _ (tree row tree' row' : List Pending) (k : Pending) (r : AreApart tree r
       by true b = refl
       by false b = refl
 
-  pub moved_apart : AreApart tree' row'
-  moved_apart = record {
+  pub moved_rise : BothRise tree' row'
+  moved_rise = record {
     tree_rises = h;
-    row_rises = front_rises row' k rises;
-    apart = λ q there.
-        in_new q ∙ ap (λ b. b || stands_in tree q) (last_absent row' k rises q there)
-        ∙ r.apart q (in_row q ∙ ap (λ b. b || (eq_by_cmp pending_cmp q k || false)) there);
+    row_rises = front_rises row' k (subst (Rises pending_cmp) last r.row_rises);
   }
 
   pub moved_set : pairs_of tree' row' ≡ pairs_of tree row

@@ -1,10 +1,10 @@
 -- What of a tree of pairs is due at an instant.
-use Rattle.std.proofs.Common.{◌≡◌, ℕ, ◌<◌, ◌≤◌, Bool, true, false, cond, ◌&&◌, ◌||◌, not, get_or, List, [], ◌∷◌, filter, refl, sym, ◌∙◌, ap, arith}
+use Rattle.std.proofs.Common.{◌≡◌, ℕ, ◌<◌, ◌≤◌, Bool, true, false, cond, ◌&&◌, ◌||◌, not, get_or, List, [], ◌∷◌, ◌++◌, filter, refl, sym, ◌∙◌, ap, arith}
 use Rattle.std.proofs.lemmas.Bool.{eq-eqb, eqb-true, ne_eqb}
 use Rattle.std.specs.BTreeMap.{is_at}
 use Rattle.std.specs.BTreeMap.Range.{range_contains, is_past_end}
 use Rattle.std.specs.Cmp.{ranks}
-use Rattle.std.specs.Ordering.{eq_by_cmp, nat_cmp, ordering_then, is_le, MatchOrdering}
+use Rattle.std.specs.Ordering.{eq_by_cmp, nat_cmp, ordering_then, is_le, is_lt, MatchOrdering}
 use Rattle.std.specs.Set.{remove_key}
 use Rattle.std.specs.declared.cmp.Ordering.{Ordering}
 use Rattle.std.specs.declared.cmp.Ordering.TheVariants.{Less, Equal, Greater}
@@ -91,3 +91,24 @@ one_due t (x ∷ xs) p rest e =
           (ap (λ y. y.due) (sym is) ∙ eqb-true x.due t due, ap (λ y. eq_by_cmp pending_cmp p y || stands_in xs p) is ∙ ap (λ b. b || stands_in xs p) (eq_itself pending_cmp_total p))
       | false ↦ λ _ e. let there = one_due t xs p rest e in (there.0, or_true (eq_by_cmp pending_cmp p x) _ there.1)
     ] refl e
+
+-- none is due at an instant before one that is due next
+not_later : (p x : Pending) → is_lt (pending_cmp p x) ≡ false → p.due ≤ x.due
+not_later p x e = by (nat_cmp x.due p.due) (ranks x.due p.due) e
+  where
+    by : (r : Ordering) → MatchOrdering r (x.due < p.due) (x.due ≡ p.due) (p.due < x.due) → is_lt (ordering_then r (prioritised_cmp p.event x.event)) ≡ false → p.due ≤ x.due
+    by Less h e = cc
+    by Equal h e = omega (arith, h)
+    by Greater h e = omega (arith, h)
+
+pub none_reached : (t : ℕ) (p : Pending) (ks : List Pending) → t < p.due → ((q : Pending) → stands_in ks q ≡ true → is_lt (pending_cmp p q) ≡ false) → due_in ks t ≡ []
+none_reached t p [] lt last = refl
+none_reached t p (x ∷ xs) lt last =
+    let le : p.due ≤ x.due = not_later p x (last x (ap (λ b. b || stands_in xs x) (eq_itself pending_cmp_total x))) in
+    ap (λ b. cond b (x ∷ due_in xs t) (due_in xs t)) (ne_eqb x.due t (λ e. absurd (omega (arith, lt, le, e))))
+    ∙ none_reached t p xs lt (λ q there. last q (or_true (eq_by_cmp pending_cmp q x) _ there))
+
+-- the last is taken out, which is due
+pub last_goes : (t : ℕ) (ks : List Pending) (p : Pending) → p.due ≡ t → others_in (ks ++ p ∷ []) t ≡ others_in ks t
+last_goes t [] p due = ap (λ b. cond (not b) (p ∷ []) []) (eq-eqb p.due t due)
+last_goes t (x ∷ xs) p due = ap (λ ks. cond (not (is_due_at t x)) (x ∷ ks) ks) (last_goes t xs p due)

@@ -1,5 +1,5 @@
 -- Lists of pairs, and the set of those in a tree and in a row beside it.
-use Rattle.std.specs.Prelude.{◌≡◌, ◌++◌, ℕ, Bool, true, false, not, List}
+use Rattle.std.specs.Prelude.{◌++◌, ◌&&◌, ℕ, Bool, false, not, List}
 use Rattle.std.specs.List.{filter, list_any}
 use Rattle.std.specs.Ordering.{eq_by_cmp}
 use Rattle.gt_base.specs.declared.events.Prioritised.{Prioritised}
@@ -36,8 +36,15 @@ first_event = record {
 unfoldable pub pairs_of : List Pending → List Pending → Pendings
 pairs_of tree row = set_of (row ++ tree)
 
--- both rise, and no pair stands in both
-pub record AreApart (tree row : List Pending) : Type 0 where
+-- those of the row that the tree lacks
+abbrev pub new_in : List Pending → List Pending → List Pending
+new_in tree row = filter (λ p. not (stands_in tree p)) row
+
+-- and those of them that are due at the instant
+abbrev pub new_due_in : List Pending → List Pending → ℕ → List Pending
+new_due_in tree row t = filter (λ p. is_due_at t p && not (stands_in tree p)) row
+
+-- each of them rises
+pub record BothRise (tree row : List Pending) : Type 0 where
   pub tree_rises : Rises pending_cmp tree
   pub row_rises : Rises pending_cmp row
-  pub apart : (q : Pending) → stands_in row q ≡ true → stands_in tree q ≡ false

@@ -13,8 +13,8 @@ use std::marker::Model;
 
 /// A set of events with their due instants, seen as the set of the pairs and the number of further
 /// pairs that it has room for. The pairs stand in a tree, and those that were put since room was
-/// last made in a row beside it. A question about an instant looks at the pairs that are due then,
-/// at few others on the way to them, and at the row.
+/// last made in a row beside it; a pair may stand in both. A question about an instant looks at the
+/// pairs that are due then, at few others on the way to them, and at the row.
 pub struct Agenda {
     tree: BTreeSet<Pending>,
     row: Vec<Pending>,
@@ -24,7 +24,7 @@ impl Model for Agenda {
     ghost use Rattle.std.specs.Prelude.{◌-◌, vec_capacity, vec_len};
     ghost use Rattle.gt_base.specs.Happening.{Roomier, roomier_code};
     ghost use Rattle.delay_agenda.specs.Due.{Pendings, pendings_code};
-    ghost use Rattle.delay_agenda.specs.Rows.{AreApart, pairs_of};
+    ghost use Rattle.delay_agenda.specs.Rows.{BothRise, pairs_of};
 
     ghost Value = { Roomier Pendings };
 
@@ -35,7 +35,7 @@ impl Model for Agenda {
       spare = vec_capacity a.row - vec_len a.row;
     } };
 
-    ghost invariant = { λ a. AreApart a.tree.keys a.row.items };
+    ghost invariant = { λ a. BothRise a.tree.keys a.row.items };
 }
 
 impl Drop for Agenda {
@@ -81,7 +81,7 @@ impl Agenda {
     pub fn len(&self) -> usize
         ensures { result ≡ length (members self.now.set) }
     {
-        self.tree.len() + self.row.len()
+        self.tree.len() + rows::count_new(&self.row, &self.tree)
     }
 
     /// Adds an event that is due at the instant, into room that was made before. At most one of the
@@ -91,10 +91,7 @@ impl Agenda {
         ensures set { self.new.set ≡ with_member self.old.set (pending_at due p) }
         ensures spare { self.old.spare ≤ self.new.spare + 1 }
     {
-        let pair = Pending { due, event: p };
-        if !self.tree.contains(&pair) {
-            rows::put(&mut self.row, pair);
-        }
+        rows::put(&mut self.row, Pending { due, event: p });
     }
 
     /// The least instant at which something is due; none exactly where nothing is.
@@ -114,7 +111,7 @@ impl Agenda {
     pub fn due_count(&self, t: Instant) -> usize
         ensures { result ≡ count_due self.now.set t }
     {
-        trees::count_due(&self.tree, t) + rows::count_due(&self.row, t)
+        trees::count_due(&self.tree, t) + rows::count_due(&self.row, &self.tree, t)
     }
 
     /// Adds the events that are due at the instant to a set of an instant, where room was made
@@ -128,7 +125,7 @@ impl Agenda {
         ensures spare { into.old.spare ≤ into.new.spare + count_due self.now.set t }
     {
         trees::tell_due(&self.tree, t, into);
-        rows::tell_due(&self.row, t, into);
+        rows::tell_due(&self.row, &self.tree, t, into);
     }
 
     /// Takes out the pairs that are due at the instant, and keeps the others.
@@ -153,7 +150,7 @@ impl Agenda {
         ensures room { self.old.spare ≤ self.new.spare }
     {
         trees::tell_due(&self.tree, t, into);
-        rows::tell_due(&self.row, t, into);
+        rows::tell_due(&self.row, &self.tree, t, into);
         trees::forget_due(&mut self.tree, t);
         rows::forget_due(&mut self.row, t);
     }

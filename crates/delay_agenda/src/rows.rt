@@ -1,12 +1,13 @@
 //! Rising rows of pairs. What is due next stands last.
-ghost use Rattle.std.specs.Prelude.{◌≡◌, ◌≤◌, ◌<◌, ◌+◌, ◌||◌, true, length, IfOk, IfErr, vec_capacity, vec_len};
+ghost use Rattle.std.specs.Prelude.{◌≡◌, ◌≤◌, ◌<◌, ◌+◌, ◌&&◌, ◌||◌, true, not, length, IfOk, IfErr, vec_capacity, vec_len};
 ghost use Rattle.gt_base.specs.declared.events.Prioritised.{Prioritised};
 ghost use Rattle.gt_base.specs.Sets.{has, set_of_rising, with_member, Rises, GoesIn};
-ghost use Rattle.delay_agenda.specs.Due.{pending_cmp};
-ghost use Rattle.delay_agenda.specs.Rows.{due_in, lists_event, others_in};
+ghost use Rattle.delay_agenda.specs.Due.{pending_cmp, is_due_at};
+ghost use Rattle.delay_agenda.specs.Rows.{lists_event, new_due_in, new_in, others_in, stands_in};
 
 use crate::pairs::Pending;
 use gt_base::{Happened, Instant};
+use std::collections::BTreeSet;
 
 /// Where the pair stands, or where it goes in.
 fn find(items: &[Pending], k: &Pending) -> Result<usize, usize>
@@ -39,24 +40,48 @@ pub(crate) fn put(items: &mut Vec<Pending>, k: Pending)
     }
 }
 
-/// How many pairs are due at the instant.
-pub(crate) fn count_due(row: &[Pending], t: Instant) -> usize
-    ensures count { result ≡ length (due_in row.now t) }
-    ensures bound { result ≤ length row.now }
+/// Whether the tree lacks the pair.
+fn is_new(tree: &BTreeSet<Pending>, p: &Pending) -> bool
+    ensures { result ≡ not (stands_in tree.now.keys p.now) }
 {
-    row.iter().filter(|p| p.due == t).count()
+    !tree.contains(p)
 }
 
-/// Adds the events that are due at the instant to the set, where room was made before.
-pub(crate) fn tell_due(row: &[Pending], t: Instant, into: &mut Happened)
-    requires { length (due_in row.now t) ≤ into.old.spare }
+/// Whether the pair is due at the instant and the tree lacks it.
+fn is_new_at(tree: &BTreeSet<Pending>, p: &Pending, t: Instant) -> bool
+    ensures { result ≡ (is_due_at t p.now && not (stands_in tree.now.keys p.now)) }
+{
+    p.due == t && is_new(tree, p)
+}
+
+/// How many pairs the tree lacks.
+pub(crate) fn count_new(row: &[Pending], tree: &BTreeSet<Pending>) -> usize
+    ensures count { result ≡ length (new_in tree.now.keys row.now) }
+    ensures bound { result ≤ length row.now }
+{
+    row.iter().filter(|p| is_new(tree, p)).count()
+}
+
+/// How many pairs that the tree lacks are due at the instant.
+pub(crate) fn count_due(row: &[Pending], tree: &BTreeSet<Pending>, t: Instant) -> usize
+    ensures count { result ≡ length (new_due_in tree.now.keys row.now t) }
+    ensures bound { result ≤ length row.now }
+{
+    row.iter().filter(|p| is_new_at(tree, p, t)).count()
+}
+
+/// Adds the events that are due at the instant to the set, but for those that the tree has, where
+/// room was made before.
+pub(crate) fn tell_due(row: &[Pending], tree: &BTreeSet<Pending>, t: Instant, into: &mut Happened)
+    requires { length (new_due_in tree.now.keys row.now t) ≤ into.old.spare }
     ensures events { (e : Prioritised) → has into.new.set.events e
-        ≡ (has into.old.set.events e || lists_event (due_in row.now t) e) }
+        ≡ (has into.old.set.events e || lists_event (new_due_in tree.now.keys row.now t) e) }
     ensures signals { into.new.set.signals ≡ into.old.set.signals }
-    ensures spare { into.old.spare ≤ into.new.spare + length (due_in row.now t) }
+    ensures spare { into.old.spare ≤ into.new.spare
+        + length (new_due_in tree.now.keys row.now t) }
 {
     for p in row {
-        if p.due == t {
+        if is_new_at(tree, p, t) {
             into.add(p.event);
         }
     }

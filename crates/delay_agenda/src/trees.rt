@@ -9,7 +9,7 @@ ghost use Rattle.gt_base.specs.declared.events.Prioritised.{Prioritised};
 ghost use Rattle.gt_base.specs.Sets.{has};
 ghost use Rattle.delay_agenda.specs.declared.pairs.Pending.{Pending as Pair};
 ghost use Rattle.delay_agenda.specs.Due.{pending_at, pending_cmp};
-ghost use Rattle.delay_agenda.specs.Rows.{due_in, first_event, lists_event, others_in, AreApart, pairs_of};
+ghost use Rattle.delay_agenda.specs.Rows.{due_in, first_event, lists_event, others_in, BothRise, pairs_of};
 
 use crate::pairs::Pending;
 use gt_base::{Event, Fluent, Happened, Instant, Memory, Prio, Prioritised, RoleId};
@@ -61,12 +61,26 @@ fn due_in(tree: &BTreeSet<Pending>, t: Instant) -> Range<'_, Pending>
     tree.range((Bound::Included(first_at(t)), end_at(t)))
 }
 
+/// Whether a pair may be due at the instant: the one that is due next is so then or before it.
+fn reaches(tree: &BTreeSet<Pending>, t: Instant) -> bool
+    ensures { result ≡ false → due_in tree.now.keys t ≡ [] }
+{
+    match tree.last() {
+        Some(p) => p.due <= t,
+        None => false,
+    }
+}
+
 /// How many pairs are due at the instant.
 pub(crate) fn count_due(tree: &BTreeSet<Pending>, t: Instant) -> usize
     ensures count { result ≡ length (due_in tree.now.keys t) }
     ensures fits { result < 2 ^ 63 }
 {
-    due_in(tree, t).count()
+    if reaches(tree, t) {
+        due_in(tree, t).count()
+    } else {
+        0
+    }
 }
 
 /// Adds the events that are due at the instant to the set, where room was made before.
@@ -77,8 +91,10 @@ pub(crate) fn tell_due(tree: &BTreeSet<Pending>, t: Instant, into: &mut Happened
     ensures signals { into.new.set.signals ≡ into.old.set.signals }
     ensures spare { into.old.spare ≤ into.new.spare + length (due_in tree.now.keys t) }
 {
-    for p in due_in(tree, t) {
-        into.add(p.event);
+    if reaches(tree, t) {
+        for p in due_in(tree, t) {
+            into.add(p.event);
+        }
     }
 }
 
@@ -87,16 +103,33 @@ fn some_due(tree: &BTreeSet<Pending>, t: Instant) -> Option<Pending>
     ensures none { IsNone result ↔ (due_in tree.now.keys t ≡ []) }
     ensures some { IfSome result (λ p. (p.due ≡ t) × (contains pending_cmp tree.now p ≡ true)) }
 {
+    if !reaches(tree, t) {
+        return None;
+    }
     match due_in(tree, t).next() {
         Some(p) => Some(*p),
         None => None,
     }
 }
 
-/// Takes out the pairs that are due at the instant.
+/// Takes out the pair that is due next, where it is due at the instant. Answers whether one is
+/// taken out.
+fn pop_due(tree: &mut BTreeSet<Pending>, t: Instant) -> bool
+    ensures others { others_in tree.new.keys t ≡ others_in tree.old.keys t }
+    ensures less { result ≡ true → length tree.new.keys < length tree.old.keys }
+{
+    let is_due = match tree.last() {
+        Some(p) => p.due == t,
+        None => false,
+    };
+    is_due && tree.pop_last().is_some()
+}
+
+/// Takes out the pairs that are due at the instant. They stand last, where none is due before it.
 pub(crate) fn forget_due(tree: &mut BTreeSet<Pending>, t: Instant)
     ensures { tree.new.keys ≡ others_in tree.old.keys t }
 {
+    while pop_due(tree, t) {}
     while let Some(p) = some_due(tree, t) {
         tree.remove(&p);
     }
@@ -105,8 +138,8 @@ pub(crate) fn forget_due(tree: &mut BTreeSet<Pending>, t: Instant)
 /// Moves the last pair of the row to the tree. For want of memory it may refuse; nothing is changed
 /// then.
 fn move_last(tree: &mut BTreeSet<Pending>, row: &mut Vec<Pending>) -> Result<(), Memory>
-    requires { AreApart tree.old.keys row.old.items }
-    ensures apart { AreApart tree.new.keys row.new.items }
+    requires { BothRise tree.old.keys row.old.items }
+    ensures rise { BothRise tree.new.keys row.new.items }
     ensures set { pairs_of tree.new.keys row.new.items ≡ pairs_of tree.old.keys row.old.items }
     ensures capacity { vec_capacity row.new ≡ vec_capacity row.old }
     ensures len { vec_len row.new ≤ vec_len row.old }
@@ -123,8 +156,8 @@ fn move_last(tree: &mut BTreeSet<Pending>, row: &mut Vec<Pending>) -> Result<(),
 /// Moves the pairs of the row to the tree. For want of memory it may refuse; those that have not
 /// moved stand in the row then.
 pub(crate) fn move_all(tree: &mut BTreeSet<Pending>, row: &mut Vec<Pending>) -> Result<(), Memory>
-    requires { AreApart tree.old.keys row.old.items }
-    ensures apart { AreApart tree.new.keys row.new.items }
+    requires { BothRise tree.old.keys row.old.items }
+    ensures rise { BothRise tree.new.keys row.new.items }
     ensures set { pairs_of tree.new.keys row.new.items ≡ pairs_of tree.old.keys row.old.items }
     ensures capacity { vec_capacity row.new ≡ vec_capacity row.old }
     ensures len { vec_len row.new ≤ vec_len row.old }

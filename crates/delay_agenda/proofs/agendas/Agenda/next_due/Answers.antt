@@ -4,7 +4,7 @@ use Rattle.delay_agenda.proofs.RowLaws.{least_of_both, least_of_row, least_of_tr
 use Rattle.delay_agenda.proofs.agendas.Agenda.next_due.Goals as goal
 
 pub returns-in-Some-Some-clause-none : goal.returns-in-Some-Some-clause-none
-returns-in-Some-Some-clause-none c = (λ e. cc, λ e. absurd (omega (arith, then_empty _ _ c.self.invariant (ap (λ v. v.set) c.self.view_is ∙ e), c.in-Some-Some.ensures.variant.0 refl)))
+returns-in-Some-Some-clause-none c = (λ e. cc, λ e. absurd (omega (arith, then_empty _ _ (ap (λ v. v.set) c.self.view_is ∙ e), c.in-Some-Some.ensures.variant.0 refl)))
 
 pub returns-in-Some-Some-clause-some : goal.returns-in-Some-Some-clause-some
 returns-in-Some-Some-clause-some c =
@@ -12,7 +12,7 @@ returns-in-Some-Some-clause-some c =
     (least_of_both _ _ _ _ _ (last_is_least _ _ c.self.invariant.tree_rises c.in-Some-Some.ensures.last) (last_is_least _ _ (rw c.deref.ensures.value c.self.invariant.row_rises) (sym c.in-Some-Some.ensures'.value)) c.lesser.ensures)
 
 pub returns-in-Some-None-clause-none : goal.returns-in-Some-None-clause-none
-returns-in-Some-None-clause-none c = (λ e. cc, λ e. absurd (omega (arith, then_empty _ _ c.self.invariant (ap (λ v. v.set) c.self.view_is ∙ e), c.in-Some-None.ensures.variant.0 refl)))
+returns-in-Some-None-clause-none c = (λ e. cc, λ e. absurd (omega (arith, then_empty _ _ (ap (λ v. v.set) c.self.view_is ∙ e), c.in-Some-None.ensures.variant.0 refl)))
 
 pub returns-in-Some-None-clause-some : goal.returns-in-Some-None-clause-some
 returns-in-Some-None-clause-some c =
@@ -21,7 +21,7 @@ returns-in-Some-None-clause-some c =
 
 pub returns-in-None-Some-clause-none : goal.returns-in-None-Some-clause-none
 returns-in-None-Some-clause-none c =
-    (λ e. cc, λ e. absurd (omega (arith, then_empty _ _ c.self.invariant (ap (λ v. v.set) c.self.view_is ∙ e), some_last c.deref.result.now c.in-None-Some.q.now (sym c.in-None-Some.ensures'.value), c.deref.ensures.len)))
+    (λ e. cc, λ e. absurd (omega (arith, then_empty _ _ (ap (λ v. v.set) c.self.view_is ∙ e), some_last c.deref.result.now c.in-None-Some.q.now (sym c.in-None-Some.ensures'.value), c.deref.ensures.len)))
 
 pub returns-in-None-Some-clause-some : goal.returns-in-None-Some-clause-some
 returns-in-None-Some-clause-some c =
