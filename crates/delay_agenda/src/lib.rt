@@ -10,6 +10,3 @@ mod trees;
 pub use agendas::Agenda;
 pub use laws::agendas_are_sets;
 pub use pairs::Pending;
-
-#[cfg(test)]
-mod tests;

@@ -3,6 +3,8 @@
 #![tactic(auto)]
 
 #[cfg(test)]
+mod agendas;
+#[cfg(test)]
 mod ages;
 #[cfg(test)]
 mod making;

@@ -1,4 +1,5 @@
-use super::*;
+//! What is due later.
+use delay_agenda::Agenda;
 use gt_base::{Event, Fluent, Happened, Instant, Prio, Prioritised, RoleId};
 
 /// The event that enables a role, at a priority.
