@@ -17,7 +17,7 @@ use Rattle.gt_base.specs.declared.requests.Who.{Who}
 use Rattle.gt_base.specs.declared.requests.Actor.{Actor}
 use Rattle.gt_base.specs.declared.requests.Actor.TheVariants.{User}
 use Rattle.gt_base.specs.declared.requests.Request.{Request}
-use Rattle.gt_base.specs.declared.requests.Request.TheVariants.{Raise, OpenSession, CloseSession, Activate, Deactivate}
+use Rattle.gt_base.specs.declared.requests.Request.TheVariants.{Now, Status, Seen, Raise, OpenSession, CloseSession, Activate, Deactivate, Active as AskActive, Check}
 use Rattle.gt_base.specs.declared.requests.Refusal.{Refusal}
 use Rattle.gt_base.specs.declared.requests.Refusal.TheVariants.{NoUser}
 use Rattle.gt_base.specs.declared.requests.Reply.{Reply}
@@ -40,23 +40,30 @@ use Rattle.history_laws.proofs.Continuing.{tables_go_on}
 use Rattle.history_laws.proofs.Refusing.{refused_leaves, refused_raises}
 use Rattle.delay_agenda.specs.Due.{Pendings}
 use Rattle.instant_bases.specs.Timelines.{TimelineView, Signals}
-use Rattle.policy_words.specs.Naming.{NamedPolicy}
 use Rattle.time_engine.specs.Histories.{Follows}
 use Rattle.time_engine.specs.Plans.{IsTimeline, with_pending, with_signal}
 use Rattle.time_engine.specs.Traces.{model_of}
 use Rattle.time_engine.proofs.HistoryLaws.{asks_follow}
-use Rattle.core_machine.specs.Books.{Asks}
 use Rattle.core_machine.specs.Coherent.{Coherent, point_of}
+use Rattle.core_machine.specs.Looks.{is_look}
 use Rattle.core_machine.specs.Steps.{IsStill, is_nobody, with_signals}
 use Rattle.core_machine.proofs.Growing.{named_more, none_at_birth, one_more, bases_stay}
 use Rattle.core_machine.proofs.Closes.{follows_signals}
 
 -- somebody is not refused as nobody
-pub passes : (actor : Actor) (reply : Reply) → is_nobody actor ≡ false → unless (actor_causes actor) reply ≡ reply
-passes actor reply e = λ i. if e i then Refused NoUser else reply
+pub is_replied : (p : Policy) (pt : Point) (actor : Actor) (request : Request) (reply : Reply) → is_nobody actor ≡ false → answer p pt actor request ≡ reply → reply ≡ reply_of p pt actor request
+is_replied p pt actor request reply e is = sym ((λ i. if e i then Refused NoUser else answer p pt actor request) ∙ is)
 
 pub refused_still : (actor : Actor) (request : Request) (why : Refusal) → IsStill actor request (Refused why)
 refused_still actor request why = record { queues = λ t. refused_raises t request why; leaves = λ now tb. refused_leaves now actor request why tb }
+
+pub still_look : (actor : Actor) (request : Request) (reply : Reply) → is_look request ≡ true → IsStill actor request reply
+still_look actor Now reply is = record { queues = λ t. refl; leaves = λ now tb. refl }
+still_look actor (Status cond) reply is = record { queues = λ t. refl; leaves = λ now tb. refl }
+still_look actor (Seen event) reply is = record { queues = λ t. refl; leaves = λ now tb. refl }
+still_look actor (AskActive session role) reply is = record { queues = λ t. refl; leaves = λ now tb. refl }
+still_look actor (Check session perm) reply is = record { queues = λ t. refl; leaves = λ now tb. refl }
+still_look actor _ reply is = absurd (cc is)
 
 -- no answer asks which signals wait
 unsignalled : (p : Policy) (pt : Point) (sg : List Signal) (actor : Actor) (request : Request) → answer p (record pt { table = record pt.table { signals = sg } }) actor request ≡ answer p pt actor request
@@ -129,18 +136,13 @@ module _ (p : Policy) (birth : ℕ) (h : List Entry) (v : TimelineView) (tb : Ta
       by true e = refl
       by false e = none_at_birth v.birth v.trace (now_of birth h) (omega (arith, k.follows.born, ltb-false birth (now_of birth h) e)) line.ascends
 
-  -- what the timeline and the table reply, the history does
-  pub replied : (actor : Actor) (request : Request) (reply : Reply) → reply_of p (point_of v tb) actor request ≡ reply
-      → reply ≡ reply_of p (point_after p birth m h) actor request
-  replied actor request reply told =
-      sym told
-      ∙ ap (unless (actor_causes actor)) (sym (unsignalled p (point_of v tb) k.waiting actor request))
-      ∙ (λ i. reply_of p (record { now = k.follows.now i; status = status_now i; set = set_now i; table = table_now i }) actor request)
-
+  -- what somebody is answered from the timeline and the table, the history replies
   pub answered : (actor : Actor) (request : Request) (reply : Reply) → is_nobody actor ≡ false → answer p (point_of v tb) actor request ≡ reply
       → reply ≡ reply_of p (point_after p birth m h) actor request
-  answered actor request reply somebody answers =
-      replied actor request reply (passes actor (answer p (point_of v tb) actor request) somebody ∙ answers)
+  answered actor request reply somebody is =
+      is_replied p (point_of v tb) actor request reply somebody is
+      ∙ ap (unless (actor_causes actor)) (sym (unsignalled p (point_of v tb) k.waiting actor request))
+      ∙ (λ i. reply_of p (record { now = k.follows.now i; status = status_now i; set = set_now i; table = table_now i }) actor request)
 
   module _ (who : Who) (actor : Actor) (request : Request) (reply : Reply) (named : IsNamedWish p (ask actor request)) (room : length h < MAX_STEPS)
       (is : reply ≡ reply_of p (point_after p birth m h) actor request) where
@@ -197,13 +199,6 @@ module _ (p : Policy) (birth : ℕ) (h : List Entry) (v : TimelineView) (tb : Ta
         (λ lt x. list_any-append (eq_by_cmp signal_cmp x) k.waiting xs ∙ ap (λ b. b || list_any (eq_by_cmp signal_cmp x) xs) (k.signals lt x) ∙ sym (signals_told v xs lt x))
         few)
 
-    pub asks_so : (np : NamedPolicy) → np.policy ≡ p → Asks (record { named = np; birth = birth; entries = h; trace = v.trace }) who actor request reply (record { named = np; birth = birth; entries = h ++ e ∷ []; trace = v.trace })
-    asks_so np of = record {
-      gains = record { named = refl; birth = refl; entries = refl };
-      trace = refl;
-      reply_is = subst (λ r. reply ≡ reply_of r (point_after r birth m h) actor request) (sym of) is;
-    }
-
   -- where it queues an event
   pub kept_raised : (who : Who) (actor : Actor) (head : Prioritised) (delay due : ℕ) → IsNamedWish p (ask actor (Raise head delay)) → length h < MAX_STEPS
       → Queued due ≡ reply_of p (point_after p birth m h) actor (Raise head delay)
@@ -219,10 +214,6 @@ activate_begins now actor n r w tb = by (owner_of tb n) refl
     by : (o : Option UserId) → owner_of tb n ≡ o → (applied now actor (Activate n r) (Active w) tb).begun ≡ tb.begun
     by None e = rw e refl
     by (Some u) e = rw e refl
-
--- and nobody is
-pub nobody : (actor : Actor) (reply : Reply) → is_nobody actor ≡ true → unless (actor_causes actor) reply ≡ Refused NoUser
-nobody actor reply e = λ i. if e i then Refused NoUser else reply
 
 -- the table is the history's at now, but for the signals that wait
 pub table_is : (p : Policy) (birth : ℕ) (h : List Entry) (v : TimelineView) (tb : Table) (charged : Option ℕ) (k : Coherent p birth h v tb charged)

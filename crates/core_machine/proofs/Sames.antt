@@ -10,11 +10,10 @@ use Rattle.gt_base.specs.declared.requests.Request.{Request}
 use Rattle.gt_base.specs.declared.requests.Reply.{Reply}
 use Rattle.gt_base.specs.declared.limits.TheConstants.{MAX_STEPS}
 use Rattle.gtrbac_model.specs.History.{IsNamedWish, ask}
-use Rattle.gtrbac_model.specs.Reply.{reply_of}
 use Rattle.session_table.specs.Tables.{table_of}
 use Rattle.session_table.specs.declared.tables.Sessions.{Sessions}
 use Rattle.core_machine.specs.Books.{Asks, BookView}
-use Rattle.core_machine.specs.Coherent.{Coherent, IsCoherent, IsReady, IsReply, Same, point_of, view_of}
+use Rattle.core_machine.specs.Coherent.{Coherent, IsCoherent, IsReady, Same, view_of}
 use Rattle.session_table.specs.Plans.{DropsView}
 use Rattle.time_engine.specs.Plans.{PlanView}
 use Rattle.core_machine.specs.Steps.{IsClosing, as_step}
@@ -46,10 +45,6 @@ pub on_err : {T E P : Type 0} (r : Result T E) → P → OnErr r P
 on_err (Ok x) h = tt
 on_err (Err e) h = h
 
-pub if_ok : {T E : Type 0} (r : Result T E) (P : T → Type 0) → ((x : T) → r ≡ Ok x → P x) → IfOk r P
-if_ok (Ok x) P h = h x refl
-if_ok (Err e) P h = tt
-
 pub same_answered : {E : Type 0} (r : Result Reply E) (s t : State) (who : Who) (actor : Actor) (request : Request) (new : BookView) → Same s t
     → IfOk r (λ reply. Asks (view_of t) who actor request reply new) → IfOk r (λ reply. Asks (view_of s) who actor request reply new)
 same_answered r s t who actor request new same h =
@@ -57,10 +52,6 @@ same_answered r s t who actor request new same h =
 
 pub same_refused : {T E : Type 0} (r : Result T E) (s t : State) (new : BookView) → Same s t → OnErr r (new ≡ view_of t) → OnErr r (new ≡ view_of s)
 same_refused r s t new same h = on_err_weaker r (λ e. e ∙ same_view s t same) h
-
--- the reply is the same
-pub same_reply : (s t : State) (actor : Actor) (request : Request) (reply : Reply) → Same s t → IsReply s actor request reply → IsReply t actor request reply
-same_reply s t actor request reply same r = record { is = (λ i. reply_of (same.ground i).policy (point_of (same.line i) (same.table i)) actor request) ∙ r.is }
 
 -- a table that a refused request left
 pub same_table : (s : State) (table : Sessions) → table_of table ≡ table_of s.table → table.charged_to ≡ s.table.charged_to → Same s (record s { table = table })

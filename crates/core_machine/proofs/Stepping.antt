@@ -8,7 +8,7 @@ use Rattle.gt_base.specs.declared.events.Signal.{Signal}
 use Rattle.gt_base.specs.declared.requests.Who.{Who}
 use Rattle.gt_base.specs.declared.requests.Actor.{Actor}
 use Rattle.gt_base.specs.declared.requests.Request.{Request}
-use Rattle.gt_base.specs.declared.requests.Request.TheVariants.{Now, Status, Seen, Raise, OpenSession, CloseSession, Activate, Deactivate, Active, Check}
+use Rattle.gt_base.specs.declared.requests.Request.TheVariants.{Raise}
 use Rattle.gt_base.specs.declared.requests.Reply.{Reply}
 use Rattle.gt_base.specs.declared.requests.Reply.TheVariants.{Queued}
 use Rattle.gtrbac_model.specs.Base.{queued_at}
@@ -18,11 +18,10 @@ use Rattle.instant_bases.specs.Timelines.{TimelineView}
 use Rattle.session_table.specs.Tables.{table_of}
 use Rattle.time_engine.specs.Plans.{IsTimeline, with_pending}
 use Rattle.core_machine.specs.Books.{reply_in}
-use Rattle.core_machine.specs.Coherent.{Coherent, IsCoherent, IsReady, IsReply, Same, point_of, view_of}
-use Rattle.core_machine.specs.Looks.{is_look}
-use Rattle.core_machine.specs.Steps.{IsStep, IsStill, MayAsk, is_nobody, with_signals}
+use Rattle.core_machine.specs.Coherent.{Coherent, IsCoherent, IsReady, Same, point_of, view_of}
+use Rattle.core_machine.specs.Steps.{IsStep, MayAsk, with_signals}
 use Rattle.core_machine.specs.declared.states.State.{State}
-use Rattle.core_machine.proofs.Asks.{Adds, kept_still, kept_changed, kept_raised, passes, replied, signals_only}
+use Rattle.core_machine.proofs.Asks.{Adds, answered, kept_changed, kept_raised, signals_only}
 use Rattle.core_machine.proofs.Sames.{same_answered, same_kept, same_ready, same_refused, same_view}
 use Rattle.core_machine.proofs.Ticks.{kept_again}
 
@@ -45,23 +44,16 @@ step_after s t u who actor request r same a = record {
 pub may_after : (s t : State) (actor : Actor) (request : Request) → Same s t → MayAsk s actor request → MayAsk t actor request
 may_after s t actor request same may = record { ready = same_ready s t actor request same may.ready; somebody = may.somebody }
 
--- what somebody is answered is the reply
-pub told : (s : State) (actor : Actor) (request : Request) (reply : Reply) → is_nobody actor ≡ false → answer s.ground.policy (point_of s.line.line (table_of s.table)) actor request ≡ reply
-    → IsReply s actor request reply
-told s actor request reply somebody is = record { is = passes actor (answer s.ground.policy (point_of s.line.line (table_of s.table)) actor request) somebody ∙ is }
+-- what somebody is answered from the timeline and the table is the reply
+told : (s : State) (actor : Actor) (request : Request) (reply : Reply) → MayAsk s actor request → IsTimeline s.line.line
+    → answer s.ground.policy (point_of s.line.line (table_of s.table)) actor request ≡ reply → reply ≡ reply_in (view_of s) actor request
+told s actor request reply may line is =
+    answered s.ground.policy s.birth s.entries.items s.line.line (table_of s.table) s.table.charged_to may.ready.kept line actor request reply may.somebody is
 
--- a request that only looks queues nothing and leaves the table
-pub still_look : (actor : Actor) (request : Request) (reply : Reply) → is_look request ≡ true → IsStill actor request reply
-still_look actor Now reply is = record { queues = λ t. refl; leaves = λ now tb. refl }
-still_look actor (Status cond) reply is = record { queues = λ t. refl; leaves = λ now tb. refl }
-still_look actor (Seen event) reply is = record { queues = λ t. refl; leaves = λ now tb. refl }
-still_look actor (Active session role) reply is = record { queues = λ t. refl; leaves = λ now tb. refl }
-still_look actor (Check session perm) reply is = record { queues = λ t. refl; leaves = λ now tb. refl }
-still_look actor (Raise head delay) reply is = absurd (cc is)
-still_look actor OpenSession reply is = absurd (cc is)
-still_look actor (CloseSession session) reply is = absurd (cc is)
-still_look actor (Activate session role) reply is = absurd (cc is)
-still_look actor (Deactivate session role) reply is = absurd (cc is)
+-- also where only the room is another
+pub told_after : (s t : State) (actor : Actor) (request : Request) (reply : Reply) → Same s t → MayAsk s actor request → IsTimeline s.line.line
+    → answer s.ground.policy (point_of s.line.line (table_of s.table)) actor request ≡ reply → reply ≡ reply_in (view_of t) actor request
+told_after s t actor request reply same may line is = subst (λ b. reply ≡ reply_in b actor request) (sym (same_view s t same)) (told s actor request reply may line is)
 
 -- policy and birth stay, and the entry came
 pub record Entered (s t : State) (who : Who) (actor : Actor) (request : Request) (reply : Reply) : Type 0 where
@@ -78,10 +70,13 @@ pub record Changed (s t : State) (actor : Actor) (request : Request) (reply : Re
   pub table : applied s.line.line.now actor request reply (record (table_of s.table) { signals = [] }) ≡ record (table_of t.table) { signals = xs }
   pub begun : (table_of t.table).begun ≤ length s.entries.items + 1
 
-module _ (s t : State) (who : Who) (actor : Actor) (request : Request) (reply : Reply) (ready : IsReady s actor request) (line : IsTimeline s.line.line)
-    (is_told : IsReply s actor request reply) (entered : Entered s t who actor request reply) where
+module _ (s t : State) (who : Who) (actor : Actor) (request : Request) (reply : Reply) (may : MayAsk s actor request) (line : IsTimeline s.line.line)
+    (answers : answer s.ground.policy (point_of s.line.line (table_of s.table)) actor request ≡ reply) (entered : Entered s t who actor request reply) where
+  abbrev ready : IsReady s actor request
+  ready = may.ready
+
   is : reply ≡ reply_in (view_of s) actor request
-  is = replied s.ground.policy s.birth s.entries.items s.line.line (table_of s.table) s.table.charged_to ready.kept line actor request reply is_told.is
+  is = told s actor request reply may line answers
 
   entered_step : t.line.line.trace ≡ s.line.line.trace
       → Coherent s.ground.policy s.birth (s.entries.items ++ asked who actor request reply ∷ []) t.line.line (table_of t.table) t.table.charged_to
@@ -98,14 +93,6 @@ module _ (s t : State) (who : Who) (actor : Actor) (request : Request) (reply : 
     err = tt;
   }
 
-  -- where nothing else changed
-  pub still_step : t.line.line ≡ s.line.line → table_of t.table ≡ table_of s.table → t.table.charged_to ≡ s.table.charged_to → IsStill actor request reply
-      → IsStep s t who actor request (Ok reply)
-  still_step same_line same_table same_charged still =
-      entered_step (ap (λ (v : TimelineView). v.trace) same_line)
-      (kept_again _ _ _ _ _ _ _ _ _ _ refl same_line same_table same_charged
-      (kept_still s.ground.policy s.birth s.entries.items s.line.line (table_of s.table) s.table.charged_to ready.kept line who actor request reply ready.named ready.room is still))
-
   pub changed_step : (xs : List Signal) → Changed s t actor request reply xs → IsStep s t who actor request (Ok reply)
   changed_step xs c =
       entered_step (ap (λ (v : TimelineView). v.trace) (c.line ∙ signals_only s.line.line xs))
@@ -114,12 +101,12 @@ module _ (s t : State) (who : Who) (actor : Actor) (request : Request) (reply : 
       (table_of t.table) xs c.queues c.adds c.table c.begun))
 
 -- where it queued an event
-pub raised_step : (s t : State) (who : Who) (actor : Actor) (head : Prioritised) (delay due : ℕ) → IsReady s actor (Raise head delay) → IsTimeline s.line.line
-    → IsReply s actor (Raise head delay) (Queued due) → Entered s t who actor (Raise head delay) (Queued due)
+pub raised_step : (s t : State) (who : Who) (actor : Actor) (head : Prioritised) (delay due : ℕ) → MayAsk s actor (Raise head delay) → IsTimeline s.line.line
+    → answer s.ground.policy (point_of s.line.line (table_of s.table)) actor (Raise head delay) ≡ Queued due → Entered s t who actor (Raise head delay) (Queued due)
     → t.line.line ≡ with_pending s.line.line due head → table_of t.table ≡ table_of s.table → t.table.charged_to ≡ s.table.charged_to
     → IsStep s t who actor (Raise head delay) (Ok (Queued due))
-raised_step s t who actor head delay due ready line is_told entered new_line same_table same_charged =
-    entered_step s t who actor (Raise head delay) (Queued due) ready line is_told entered (ap (λ (v : TimelineView). v.trace) new_line)
+raised_step s t who actor head delay due may line answers entered new_line same_table same_charged =
+    entered_step s t who actor (Raise head delay) (Queued due) may line answers entered (ap (λ (v : TimelineView). v.trace) new_line)
     (kept_again _ _ _ _ _ _ _ _ _ _ refl new_line same_table same_charged
-    (kept_raised s.ground.policy s.birth s.entries.items s.line.line (table_of s.table) s.table.charged_to ready.kept line who actor head delay due ready.named ready.room
-    (is s t who actor (Raise head delay) (Queued due) ready line is_told entered)))
+    (kept_raised s.ground.policy s.birth s.entries.items s.line.line (table_of s.table) s.table.charged_to may.ready.kept line who actor head delay due may.ready.named may.ready.room
+    (is s t who actor (Raise head delay) (Queued due) may line answers entered)))

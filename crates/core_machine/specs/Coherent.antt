@@ -13,7 +13,7 @@ use Rattle.gt_base.specs.declared.limits.TheConstants.{LAST_MINUTE, MAX_STEPS}
 use Rattle.gtrbac_model.specs.Policy.{Policy}
 use Rattle.gtrbac_model.specs.Base.{table_at}
 use Rattle.gtrbac_model.specs.History.{Legal, IsNamedWish, ask}
-use Rattle.gtrbac_model.specs.Reply.{Point, answer, reply_of}
+use Rattle.gtrbac_model.specs.Reply.{Point, answer}
 use Rattle.gtrbac_model.specs.Safety.{IsSafe}
 use Rattle.gtrbac_model.specs.Sessions.{Table}
 use Rattle.gtrbac_model.specs.WholePolicy.{IsPolicy}
@@ -93,7 +93,3 @@ point_of v tb =
 -- somebody's request is answered so from them
 pub record IsAnswer (s : State) (actor : Actor) (request : Request) (reply : Reply) : Type 0 where
   pub is : answer s.ground.policy (point_of s.line.line (table_of s.table)) actor request ≡ reply
-
--- anybody's is replied to so, and nobody is refused
-pub record IsReply (s : State) (actor : Actor) (request : Request) (reply : Reply) : Type 0 where
-  pub is : reply_of s.ground.policy (point_of s.line.line (table_of s.table)) actor request ≡ reply

@@ -1,13 +1,13 @@
 //! Answers a request by its kind; nobody is refused.
-ghost use Rattle.std.specs.Prelude.{◌≡◌};
-ghost use Rattle.gt_base.specs.declared.requests.Request.TheVariants.{Raise, OpenSession, CloseSession, Activate, Deactivate, Check};
+ghost use Rattle.std.specs.Prelude.{◌≡◌, false};
 ghost use Rattle.core_machine.specs.Coherent.{IsReady};
+ghost use Rattle.core_machine.specs.Looks.{is_look};
 ghost use Rattle.core_machine.specs.Steps.{IsStep, MayAsk, is_nobody};
 
 use crate::entering::{raise, tell};
+use crate::looking::{look, only_looks};
 use crate::sessions::{activate, close_session, deactivate, open_session};
 use crate::states::State;
-use crate::telling::{tell_active, tell_decision, tell_now, tell_seen, tell_status};
 use gt_base::{Actor, Memory, Refusal, Reply, Request, Who};
 
 /// Answers a request at now, and adds its entry. For want of memory it may refuse; the book is then
@@ -21,10 +21,13 @@ pub(crate) fn answer(
     requires { IsReady s.old actor request }
     ensures { IsStep s.old s.new who actor request result }
 {
-    if is_nobody(actor) {
+    if only_looks(&request) {
+        let reply = look(s, actor, &request)?;
+        tell(s, who, actor, request, reply)
+    } else if is_nobody(actor) {
         tell(s, who, actor, request, Reply::Refused(Refusal::NoUser))
     } else {
-        answer_somebody(s, who, actor, request)
+        change(s, who, actor, request)
     }
 }
 
@@ -35,21 +38,18 @@ pub(crate) fn is_nobody(actor: Actor) -> bool
     matches!(actor, Actor::Nobody)
 }
 
-/// Answers a request of a user or the operator.
-fn answer_somebody(s: &mut State, who: Who, actor: Actor, request: Request) -> Result<Reply, Memory>
-    requires { MayAsk s.old actor request }
+/// Answers a request of a user or the operator that does not only look.
+fn change(s: &mut State, who: Who, actor: Actor, request: Request) -> Result<Reply, Memory>
+    requires asks { MayAsk s.old actor request }
+    requires changes { is_look request ≡ false }
     ensures { IsStep s.old s.new who actor request result }
 {
     match request {
-        Request::Now => tell_now(s, who, actor),
-        Request::Status(cond) => tell_status(s, who, actor, cond),
-        Request::Seen(event) => tell_seen(s, who, actor, event),
         Request::Raise { head, delay } => raise(s, who, actor, head, delay),
         Request::OpenSession => open_session(s, who, actor),
         Request::CloseSession(session) => close_session(s, who, actor, session),
         Request::Activate(session, role) => activate(s, who, actor, session, role),
         Request::Deactivate(session, role) => deactivate(s, who, actor, session, role),
-        Request::Active(session, role) => tell_active(s, who, actor, session, role),
-        Request::Check(session, perm) => tell_decision(s, who, actor, session, perm),
+        _ => unreachable!(),
     }
 }

@@ -227,7 +227,7 @@ impl Book {
         requires { is_look request ≡ true }
         ensures { IfOk result (λ reply. reply ≡ reply_in self.now actor request) }
     {
-        look(&self.state, actor, request)
+        look(&self.state, actor, &request)
     }
 
     /// Adds the entry of a request that only looks, with the reply that it gets at now. For want of

@@ -6,8 +6,7 @@ ghost use Rattle.gt_base.specs.declared.requests.Actor.TheVariants.{User};
 ghost use Rattle.gt_base.specs.declared.requests.Request.TheVariants.{Raise};
 ghost use Rattle.gtrbac_model.specs.Reply.{is_admin};
 ghost use Rattle.core_machine.specs.Books.{Asks, reply_in};
-ghost use Rattle.core_machine.specs.Coherent.{IsCoherent, IsReady, IsReply, Same, view_of};
-ghost use Rattle.core_machine.specs.Looks.{is_look};
+ghost use Rattle.core_machine.specs.Coherent.{IsCoherent, IsReady, Same, view_of};
 ghost use Rattle.core_machine.specs.Steps.{IsStep, IsStill, MayAsk, with_signals};
 
 use crate::states::State;
@@ -18,29 +17,8 @@ use policy_book::Policy;
 use std::alloc::AllocError;
 use time_engine::{RequestFault, Timeline};
 
-/// Adds the reply that the timeline and the table give, where it changes nothing, and gives it
-/// back.
-pub(crate) fn tell(
-    s: &mut State,
-    who: Who,
-    actor: Actor,
-    request: Request,
-    reply: Reply,
-) -> Result<Reply, Memory>
-    requires ready { IsReady s.old actor request }
-    requires told { IsReply s.old actor request reply }
-    requires still { IsStill actor request reply }
-    ensures { IsStep s.old s.new who actor request result }
-{
-    s.line.keeps();
-    let answer = reply.copied()?;
-    s.entries.reserve(1)?;
-    add_entry(&mut s.entries, who, actor, request, reply);
-    Ok(answer)
-}
-
-/// Adds the entry of a request that only looks, with the reply that it gets at now. For want of
-/// memory the book is as it was.
+/// Adds the entry of a request with the reply that it gets at now, where it changes nothing else.
+/// For want of memory the book is as it was.
 pub(crate) fn note(
     s: &mut State,
     who: Who,
@@ -49,8 +27,8 @@ pub(crate) fn note(
     reply: Reply,
 ) -> Result<(), Memory>
     requires ready { IsReady s.old actor request }
-    requires looks { is_look request ≡ true }
     requires told { reply ≡ reply_in (view_of s.old) actor request }
+    requires still { IsStill actor request reply }
     ensures kept { IsCoherent s.new }
     ensures ok { OnOk result (Asks (view_of s.old) who actor request reply (view_of s.new)) }
     ensures err { OnErr result (view_of s.new ≡ view_of s.old) }
@@ -59,6 +37,24 @@ pub(crate) fn note(
     s.entries.reserve(1)?;
     add_entry(&mut s.entries, who, actor, request, reply);
     Ok(())
+}
+
+/// Notes the reply, and gives it back.
+pub(crate) fn tell(
+    s: &mut State,
+    who: Who,
+    actor: Actor,
+    request: Request,
+    reply: Reply,
+) -> Result<Reply, Memory>
+    requires ready { IsReady s.old actor request }
+    requires told { reply ≡ reply_in (view_of s.old) actor request }
+    requires still { IsStill actor request reply }
+    ensures { IsStep s.old s.new who actor request result }
+{
+    let answer = reply.copied()?;
+    note(s, who, actor, request, reply)?;
+    Ok(answer)
 }
 
 /// Adds the entry of an answered request, into room that was made before.

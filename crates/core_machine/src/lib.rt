@@ -12,10 +12,10 @@ mod machine_ledger;
 mod prepared;
 mod sessions;
 mod states;
-mod telling;
 mod ticking;
 
 pub use books::{Book, BookMemory};
 pub use ledgers::Ledger;
+pub use looking::only_looks;
 pub use policy_safety::{AdmitFault, CycleEdge, Safe};
 pub use time_engine::{Closed, Trace};

@@ -4,7 +4,6 @@ use Rattle.gt_base.specs.declared.requests.Entry.{Entry}
 use Rattle.session_table.specs.Tables.{table_of}
 use Rattle.core_machine.specs.Coherent.{Coherent}
 use Rattle.core_machine.proofs.Asks.{kept_still}
-use Rattle.core_machine.proofs.Stepping.{still_look}
 use Rattle.core_machine.proofs.entering.note.Goals as goal
 
 pub returns-clause-kept : goal.returns-clause-kept
@@ -14,5 +13,4 @@ returns-clause-kept c =
     let e = asked c.args.who c.args.actor c.args.request c.args.reply in
     let entries : c.add_entry.new.entries.items ≡ s.entries.items ++ e ∷ [] = c.add_entry.ensures ∙ ap (λ (xs : List Entry). xs ++ e ∷ []) c.in_ok-reserve.ensures.items in
     subst (λ (h : List Entry). Coherent s.ground.policy s.birth h s.line.line (table_of s.table) s.table.charged_to) (sym entries)
-    (kept_still s.ground.policy s.birth s.entries.items s.line.line (table_of s.table) s.table.charged_to ready.kept c.keeps.ensures c.args.who c.args.actor c.args.request c.args.reply ready.named ready.room c.requires.told
-    (still_look c.args.actor c.args.request c.args.reply c.requires.looks))
+    (kept_still s.ground.policy s.birth s.entries.items s.line.line (table_of s.table) s.table.charged_to ready.kept c.keeps.ensures c.args.who c.args.actor c.args.request c.args.reply ready.named ready.room c.requires.told c.requires.still)

@@ -1,16 +1,14 @@
 use Rattle.std.proofs.Common.{◌<◌, sym, ap, subst, ◌∙◌}
 use Rattle.gt_base.specs.declared.requests.Actor.{Actor}
-use Rattle.gt_base.specs.declared.requests.Refusal.TheVariants.{NotAdmin}
-use Rattle.gt_base.specs.declared.requests.Reply.TheVariants.{Refused}
 use Rattle.gt_base.specs.declared.requests.Request.TheVariants.{Raise}
 use Rattle.gtrbac_model.specs.History.{IsNamedWish, ask}
 use Rattle.gtrbac_model.specs.Reply.{is_admin}
-use Rattle.session_table.specs.Tables.{table_of}
 use Rattle.policy_words.specs.Naming.{NamedPolicy}
-use Rattle.core_machine.specs.Coherent.{point_of}
-use Rattle.core_machine.proofs.Asks.{refused_still}
+use Rattle.core_machine.specs.Books.{point_in}
+use Rattle.core_machine.specs.Coherent.{view_of}
+use Rattle.core_machine.proofs.Asks.{is_replied, refused_still}
 use Rattle.core_machine.proofs.Raising.{raise_unentitled}
-use Rattle.core_machine.proofs.Stepping.{may_after, no_step, step_after, told}
+use Rattle.core_machine.proofs.Stepping.{may_after, no_step, step_after}
 use Rattle.core_machine.proofs.entering.raise.Goals as goal
 
 pub returns-in_err-make_room : goal.returns-in_err-make_room
@@ -31,8 +29,8 @@ queue-requires-clause-admin c =
 pub tell-requires-clause-told : goal.tell-requires-clause-told
 tell-requires-clause-told c =
     let s = c.args.s.now in
-    told s c.args.actor (Raise c.args.head c.args.delay) (Refused NotAdmin) c.requires.somebody
-    (raise_unentitled s.ground.policy (point_of s.line.line (table_of s.table)) c.args.actor c.args.head c.args.delay
+    is_replied s.ground.policy (point_in (view_of s)) c.args.actor (Raise c.args.head c.args.delay) _ c.requires.somebody
+    (raise_unentitled s.ground.policy (point_in (view_of s)) c.args.actor c.args.head c.args.delay
     (ap (λ (g : NamedPolicy). is_admin g.policy c.args.actor) (sym c.policy.ensures) ∙ sym c.is_admin.ensures ∙ c.if-is_admin.false))
 
 pub tell-requires-clause-still : goal.tell-requires-clause-still

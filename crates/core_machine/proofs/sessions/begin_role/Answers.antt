@@ -9,8 +9,8 @@ use Rattle.core_machine.specs.Coherent.{point_of}
 use Rattle.core_machine.specs.Steps.{IsStep}
 use Rattle.core_machine.specs.declared.states.State.{State}
 use Rattle.core_machine.proofs.Asks.{activate_adds, activate_begins, refused_still}
-use Rattle.core_machine.proofs.Sames.{same_ready, same_reply, same_table}
-use Rattle.core_machine.proofs.Stepping.{changed_step, no_step, step_after, told}
+use Rattle.core_machine.proofs.Sames.{same_ready, same_table}
+use Rattle.core_machine.proofs.Stepping.{changed_step, no_step, step_after, told_after}
 use Rattle.core_machine.proofs.Walks.{walk_is_short}
 use Rattle.core_machine.proofs.sessions.begin_role.Goals as goal
 
@@ -28,8 +28,8 @@ returns-in-Ok c =
     let s = c.args.s.now in
     let t : State = record s { line = c.add_signals.new.line; table = c.start.new.table; entries = c.add_entry.new.entries } in
     subst (λ (w : RoleWalk). IsStep s t c.args.who c.args.actor (Activate c.args.session c.args.role) (Ok (Active w))) (sym c.copy_into-answer.ensures)
-    (changed_step s t c.args.who c.args.actor (Activate c.args.session c.args.role) (Active c.in-Ok.walk) c.requires.asks.ready c.keeps.ensures
-    (told s c.args.actor (Activate c.args.session c.args.role) (Active c.in-Ok.walk) c.requires.asks.somebody c.in-Ok.ensures.answer)
+    (changed_step s t c.args.who c.args.actor (Activate c.args.session c.args.role) (Active c.in-Ok.walk) c.requires.asks c.keeps.ensures
+    c.in-Ok.ensures.answer
     (record { ground = refl; birth = refl; entries = c.add_entry.ensures }) (c.in-Ok.signal ∷ [])
     (record {
       line = c.add_signals.ensures;
@@ -47,8 +47,8 @@ pub tell-requires-clause-told : goal.tell-requires-clause-told
 tell-requires-clause-told c =
     let s = c.args.s.now in
     let refused = rw c.in-Err-Refused.field-0-is at c.in-Err-Refused.ensures.refused in
-    rw c.in-Err-Refused.field-0-is (same_reply s _ c.args.actor (Activate c.args.session c.args.role) _ (same_table c.args.s.now c.start.new.table c.in-Err-Refused.ensures.same c.in-Err-Refused.ensures.charged_to)
-    (told s c.args.actor (Activate c.args.session c.args.role) _ c.requires.asks.somebody refused))
+    rw c.in-Err-Refused.field-0-is (told_after s _ c.args.actor (Activate c.args.session c.args.role) _ (same_table c.args.s.now c.start.new.table c.in-Err-Refused.ensures.same c.in-Err-Refused.ensures.charged_to) c.requires.asks c.keeps.ensures
+    refused)
 
 pub tell-requires-clause-still : goal.tell-requires-clause-still
 tell-requires-clause-still c = refused_still _ _ _

@@ -5,15 +5,15 @@ use Rattle.gtrbac_model.specs.Sessions.{Table}
 use Rattle.session_table.specs.Tables.{table_of}
 use Rattle.core_machine.specs.Coherent.{point_of}
 use Rattle.core_machine.proofs.Asks.{deactivate_adds, refused_still}
-use Rattle.core_machine.proofs.Sames.{same_ready, same_reply, same_table}
-use Rattle.core_machine.proofs.Stepping.{changed_step, step_after, told}
+use Rattle.core_machine.proofs.Sames.{same_ready, same_table}
+use Rattle.core_machine.proofs.Stepping.{changed_step, step_after, told_after}
 use Rattle.core_machine.proofs.sessions.end_role.Goals as goal
 
 pub returns-in-Ok : goal.returns-in-Ok
 returns-in-Ok c =
     let s = c.args.s.now in
-    changed_step s _ c.args.who c.args.actor (Deactivate c.args.session c.args.role) Done c.requires.asks.ready c.keeps.ensures
-    (told s c.args.actor (Deactivate c.args.session c.args.role) Done c.requires.asks.somebody (c.in-Ok.ensures.answer s.ground.policy (point_of s.line.line (table_of s.table))))
+    changed_step s _ c.args.who c.args.actor (Deactivate c.args.session c.args.role) Done c.requires.asks c.keeps.ensures
+    (c.in-Ok.ensures.answer s.ground.policy (point_of s.line.line (table_of s.table)))
     (record { ground = refl; birth = refl; entries = c.add_entry.ensures }) (c.in-Ok.signal ∷ [])
     (record {
       line = c.add_signals.ensures;
@@ -31,8 +31,8 @@ pub tell-requires-clause-told : goal.tell-requires-clause-told
 tell-requires-clause-told c =
     let s = c.args.s.now in
     let refused = rw c.in-Err-Refused.field-0-is at c.in-Err-Refused.ensures.refused in
-    same_reply s _ c.args.actor (Deactivate c.args.session c.args.role) _ (same_table c.args.s.now c.deactivate.new.self c.in-Err-Refused.ensures.same c.in-Err-Refused.ensures.charged_to)
-    (told s c.args.actor (Deactivate c.args.session c.args.role) _ c.requires.asks.somebody (refused s.ground.policy (point_of s.line.line (table_of s.table))))
+    told_after s _ c.args.actor (Deactivate c.args.session c.args.role) _ (same_table c.args.s.now c.deactivate.new.self c.in-Err-Refused.ensures.same c.in-Err-Refused.ensures.charged_to) c.requires.asks c.keeps.ensures
+    (refused s.ground.policy (point_of s.line.line (table_of s.table)))
 
 pub tell-requires-clause-still : goal.tell-requires-clause-still
 tell-requires-clause-still c = refused_still _ _ _

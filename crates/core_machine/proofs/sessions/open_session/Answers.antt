@@ -1,15 +1,13 @@
 use Rattle.std.proofs.Common.{sym, subst}
 use Rattle.gt_base.specs.declared.requests.Actor.{Actor}
 use Rattle.gt_base.specs.declared.requests.Actor.TheVariants.{User}
-use Rattle.gt_base.specs.declared.requests.Refusal.TheVariants.{NoUser}
-use Rattle.gt_base.specs.declared.requests.Reply.TheVariants.{Refused}
 use Rattle.gt_base.specs.declared.requests.Request.TheVariants.{OpenSession}
-use Rattle.session_table.specs.Tables.{table_of}
-use Rattle.core_machine.specs.Coherent.{point_of}
+use Rattle.core_machine.specs.Books.{point_in}
+use Rattle.core_machine.specs.Coherent.{view_of}
 use Rattle.core_machine.specs.Steps.{IsStep, MayAsk}
-use Rattle.core_machine.proofs.Asks.{refused_still}
+use Rattle.core_machine.proofs.Asks.{is_replied, refused_still}
 use Rattle.core_machine.proofs.Raising.{open_for_none}
-use Rattle.core_machine.proofs.Stepping.{may_after, no_step, step_after, told}
+use Rattle.core_machine.proofs.Stepping.{may_after, no_step, step_after}
 use Rattle.core_machine.proofs.sessions.open_session.Goals as goal
 
 pub returns-in_err-make_room-in-User : goal.returns-in_err-make_room-in-User
@@ -27,7 +25,8 @@ returns-in_ok-make_room-in-User c =
 pub tell-requires-clause-told : goal.tell-requires-clause-told
 tell-requires-clause-told c =
     let s = c.args.s.now in
-    told s c.args.actor OpenSession (Refused NoUser) c.requires.somebody (open_for_none s.ground.policy (point_of s.line.line (table_of s.table)) c.args.actor c.in_default.not-User)
+    is_replied s.ground.policy (point_in (view_of s)) c.args.actor OpenSession _ c.requires.somebody
+    (open_for_none s.ground.policy (point_in (view_of s)) c.args.actor c.in_default.not-User)
 
 pub tell-requires-clause-still : goal.tell-requires-clause-still
 tell-requires-clause-still c = refused_still _ _ _

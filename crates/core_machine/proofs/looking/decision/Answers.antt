@@ -5,7 +5,7 @@ use Rattle.gt_base.specs.declared.requests.Reply.TheVariants.{Decided}
 use Rattle.gtrbac_model.specs.Decision.{decide}
 use Rattle.session_table.specs.Tables.{table_of}
 use Rattle.core_machine.specs.Coherent.{point_of}
-use Rattle.core_machine.proofs.telling.decision.Goals as goal
+use Rattle.core_machine.proofs.looking.decision.Goals as goal
 
 pub returns-in_ok-answer-in-Ok : goal.returns-in_ok-answer-in-Ok
 returns-in_ok-answer-in-Ok c =
