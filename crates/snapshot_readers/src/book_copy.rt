@@ -5,9 +5,8 @@ ghost use mathlib.Core.List.{IsPrefix};
 ghost use Rattle.gt_base.specs.Machines.{ticked, asked};
 ghost use Rattle.core_machine.specs.Books.{SameRoot};
 
-use crate::guide::only_looks;
 use crate::named::names;
-use core_machine::Book;
+use core_machine::{Book, only_looks};
 use gt_base::{Actor, Entry, Instant, MAX_STEPS, Reply, Request, Step, Who};
 use left_right::Absorb;
 use policy_book::Policy;

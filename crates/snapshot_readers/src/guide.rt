@@ -1,31 +1,16 @@
 //! A viewer that answers the requests of a link by glances.
-ghost use Rattle.std.specs.Prelude.{◌≡◌};
-ghost use Rattle.core_machine.specs.Looks.{is_look};
 ghost use Rattle.snapshot_readers.specs.Guides.{GuideGets};
 ghost use Rattle.snapshot_readers.specs.Viewing.{CanShow};
 
 use crate::glass::Glass;
 use crate::station::Station;
 use connection_laws::{Answerer, LineAnswer};
+use core_machine::only_looks;
 use gt_base::{Actor, List, Request};
 use gt_io::Gate;
 use policy_book::Policy;
 use request_text::{LONGEST_REPLY, put_reply, reply_fits};
 use std::mem::replace;
-
-/// Whether a request only looks.
-pub(crate) fn only_looks(request: &Request) -> bool
-    ensures { result ≡ is_look request.now }
-{
-    match request {
-        Request::Now => true,
-        Request::Status(_) => true,
-        Request::Seen(_) => true,
-        Request::Active(_, _) => true,
-        Request::Check(_, _) => true,
-        _ => false,
-    }
-}
 
 /// A viewer that answers by its glass: it passes its gate, and answers what only looks. It records
 /// of how many entries the history is that each reply is of.

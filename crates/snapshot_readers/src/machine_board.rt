@@ -2,7 +2,7 @@
 //! may change an answer, behind the last tick of a line, and behind many other steps.
 
 use crate::board::Board;
-use crate::guide::only_looks;
+use core_machine::only_looks;
 use gt_base::{Actor, Instant, Keeps, Machine, Reply, Request, StepFault, Who};
 use std::sync::Wait;
 
