@@ -1,5 +1,5 @@
 -- What a book's trace says of its last instant, and of the status before it.
-use Rattle.std.proofs.Common.{◌≡◌, ℕ, suc, ◌+◌, ◌-◌, ◌<◌, ◌≤◌, true, false, nat_eq, nat_lt, List, [], ◌∷◌, ◌++◌, codes, Some, None, refl, sym, ◌∙◌, ap, arith, if◌then◌else◌}
+use Rattle.std.proofs.Common.{◌≡◌, ◌⊎◌, inl, inr, ⊎_elim, ℕ, suc, ◌+◌, ◌-◌, ◌<◌, ◌≤◌, true, false, cond, nat_eq, nat_lt, List, [], ◌∷◌, ◌++◌, codes, Some, None, refl, sym, ◌∙◌, ap, subst, arith, if◌then◌else◌}
 use Rattle.std.proofs.lemmas.Bool.{ne_eqb, eq-eqb, eqb-true, ltb-true, ltb-false, lt-ltb, le-ltb}
 use Rattle.gtrbac_model.proofs.Elements.{split}
 use Rattle.gt_base.specs.Held.{TriggerView}
@@ -17,10 +17,11 @@ use Rattle.gtrbac_model.specs.Status.{Model, status_after}
 use Rattle.history_laws.specs.Pending.{NothingBetween}
 use Rattle.history_laws.proofs.OnItsWay.{stretch_stays}
 use Rattle.instant_bases.specs.Timelines.{ClosedSet}
-use Rattle.time_engine.specs.Traces.{model_of, Ascends}
+use Rattle.time_engine.specs.Traces.{model_of, Ascends, AreClosedBy}
 use Rattle.core_machine.specs.Books.{HasBases}
 use Rattle.policy_words.specs.declared.parts.NamedEvent.{NamedEvent}
 use Rattle.why_check.specs.Certificates.{Listed, Accepts}
+use Rattle.gtrbac_tool.specs.Listing.{AreListings, AreSettled, EndsBy}
 use Rattle.gtrbac_tool.specs.Standing.{closed_at, made_before, standing_line, certificate_line, TellsWhy}
 
 -- the set of an instant that the trace has
@@ -114,16 +115,57 @@ status_made p birth t cs later a =
     made_from p birth (model_of cs) t cs birth (omega arith) later a (λ u x. refl) ∙ ap (made_before t cs) (ap (status_after p birth (model_of cs)) zero_is)
 
 -- a set before the instant is taken into the status
-pub step_before : (t : ℕ) (c : ClosedSet) (cs : List ClosedSet) (s s' : Status) → c.at < t → ((f : Fluent) → s' f ≡ after c.set s f) → made_before t cs s' ≡ made_before t (c ∷ cs) s
+step_before : (t : ℕ) (c : ClosedSet) (cs : List ClosedSet) (s s' : Status) → c.at < t → ((f : Fluent) → s' f ≡ after c.set s f) → made_before t cs s' ≡ made_before t (c ∷ cs) s
 step_before t c cs s s' lt h =
     let before : nat_lt c.at t ≡ true = lt-ltb c.at t lt in
     ap (made_before t cs) (λ i f. h f i) ∙ sym (λ i. if before i then made_before t cs (after c.set s) else s)
 
 -- nothing of the trace is before the instant
-pub past_all : (t : ℕ) (c : ClosedSet) (cs : List ClosedSet) (s : Status) → t ≤ c.at → made_before t (c ∷ cs) s ≡ s
+past_all : (t : ℕ) (c : ClosedSet) (cs : List ClosedSet) (s : Status) → t ≤ c.at → made_before t (c ∷ cs) s ≡ s
 past_all t c cs s le =
     let past : nat_lt c.at t ≡ false = le-ltb c.at t le in
     λ i. if past i then made_before t cs (after c.set s) else s
+
+-- where a trace ascends up to an instant, all but its last set are before it
+pub ends_by : (cs : List ClosedSet) (low t : ℕ) → Ascends low cs → AreClosedBy t cs → EndsBy t cs
+ends_by [] low t a ends = tt
+ends_by (c ∷ cs) low t a ends = (none_left cs a.1 ends.1, ends_by cs c.at t a.1 ends.1)
+  where
+    none_left : (ds : List ClosedSet) → Ascends c.at ds → AreClosedBy t ds → t ≤ c.at → ds ≡ []
+    none_left [] up by le = refl
+    none_left (d ∷ ds) up by le = absurd (omega (arith, up.0, by.0, le))
+
+-- a set of such a trace, and the status that is turned to that after it where it is before the instant
+module _ (rules : List TriggerView) (t : ℕ) (c : ClosedSet) (cs : List ClosedSet) (s s' : Status) (ends : EndsBy t (c ∷ cs))
+    (turned : (f : Fluent) → s' f ≡ cond (nat_lt c.at t) (after c.set s f) (s f)) where
+  pub still_made : made_before t cs s' ≡ made_before t (c ∷ cs) s
+  still_made =
+      split (nat_lt c.at t)
+      (λ before. step_before t c cs s s' (ltb-true c.at t before) (λ f. turned f ∙ ap (λ b. cond b (after c.set s f) (s f)) before))
+      (λ past.
+      let le : t ≤ c.at = ltb-false c.at t past in
+      let same : s' ≡ s = λ i f. (turned f ∙ ap (λ b. cond b (after c.set s f) (s f)) past) i in
+      (λ i. made_before t (ends.0 le i) (same i)) ∙ sym (past_all t c cs s le))
+
+  taken : (s' ≡ after c.set s) ⊎ (cs ≡ [])
+  taken =
+      split (nat_lt c.at t)
+      (λ before. inl (λ i f. (turned f ∙ ap (λ b. cond b (after c.set s f) (s f)) before) i))
+      (λ past. inr (ends.0 (ltb-false c.at t past)))
+
+  pub then_settled : AreSettled rules (after c.set s) cs → AreSettled rules s' cs
+  then_settled a = ⊎_elim (λ is. subst (λ z. AreSettled rules z cs) (sym is) a) (λ is. subst (AreSettled rules s') (sym is) tt) taken
+
+  pub then_listings : (ls : List Listed) → AreListings rules s' cs ls → AreListings rules (after c.set s) cs ls
+  then_listings ls a = ⊎_elim (λ is. subst (λ z. AreListings rules z cs ls) is a) (λ is. of_none cs ls is a) taken
+    where
+      no_cons : (d : ClosedSet) (ds : List ClosedSet) → d ∷ ds ≡ [] → ⊥
+      no_cons d ds h = cc
+
+      of_none : (ds : List ClosedSet) (ls : List Listed) → ds ≡ [] → AreListings rules s' ds ls → AreListings rules (after c.set s) ds ls
+      of_none [] [] is a = tt
+      of_none [] (l ∷ ls) is a = a
+      of_none (d ∷ ds) ls is a = absurd (no_cons d ds is)
 
 -- an instant that the trace has is after the birth
 later_there : (cs : List ClosedSet) (low t : ℕ) (c : ClosedSet) → Ascends low cs → closed_at cs t ≡ Some c → low < t

@@ -1,5 +1,5 @@
 -- Certificates made of a trace: each set is listed in an order that supports it.
-use Rattle.std.specs.Prelude.{◌≡◌, ℕ, Bool, ◌&&◌, not, List, [], ◌∷◌, ◌++◌, Option, Some, None, IsTrue, if◌then◌else◌}
+use Rattle.std.specs.Prelude.{◌≡◌, ℕ, ◌≤◌, Bool, ◌&&◌, not, List, [], ◌∷◌, ◌++◌, Option, Some, None, IsTrue, if◌then◌else◌}
 use Rattle.std.specs.List.{list_all}
 use Rattle.gt_base.specs.Held.{TriggerView}
 use Rattle.gt_base.specs.Happening.{HappenedView}
@@ -48,6 +48,11 @@ waiting_with rules ts (Some h) = ts ++ with_event rules h.event
 abbrev pub AreSettled : List TriggerView → Status → List ClosedSet → Type 0
 AreSettled rules s [] = Unit {0}
 AreSettled rules s (c ∷ cs) = Settled rules c.base s c.set × AreSettled rules (after c.set s) cs
+
+-- all but the last are before the instant
+abbrev pub EndsBy : ℕ → List ClosedSet → Type 0
+EndsBy t [] = Unit {0}
+EndsBy t (c ∷ cs) = (t ≤ c.at → cs ≡ []) × EndsBy t cs
 
 -- the listing is of the instant and of the set, and each of its events is supported by those before
 -- it

@@ -1,95 +1,142 @@
 //! Certificates of what happened in a book's history.
-ghost use Rattle.std.specs.Prelude.{◌≡◌, ◌++◌, [], ◌∷◌, flat_map, true, IfOk, OnOk};
+ghost use Rattle.std.specs.Prelude.{◌≡◌, ◌++◌, [], ◌∷◌, cond, flat_map, nat_lt, true, IfOk, OnOk};
 ghost use Rattle.std.specs.List.{list_all};
 ghost use Rattle.gt_base.specs.declared.events.Fluent.{Fluent as FluentOf};
 ghost use Rattle.gt_base.specs.Happening.{HappenedView};
 ghost use Rattle.gt_base.specs.Sets.{has, members};
 ghost use Rattle.gtrbac_model.specs.Conflict.{after};
 ghost use Rattle.gtrbac_model.specs.Graph.{item_at};
+ghost use Rattle.gtrbac_model.specs.History.{now_of};
 ghost use Rattle.gtrbac_model.specs.Instant.{IsGrounding, Settled};
 ghost use Rattle.gtrbac_model.specs.WholePolicy.{has_cause};
 ghost use Rattle.trigger_rules.specs.Indexed.{with_event, with_signal};
 ghost use Rattle.why_check.specs.Certificates.{Accepts};
 ghost use Rattle.why_check.specs.Standing.{stands_in};
-ghost use Rattle.gtrbac_tool.specs.Listing.{AddsListing, AreListings, AreSettled, Tracks, raises_next, next_head, with_head, waiting_with};
+ghost use Rattle.gtrbac_tool.specs.Listing.{AddsListing, AreListings, AreSettled, EndsBy, Tracks, raises_next, next_head, with_head, waiting_with};
+ghost use Rattle.gtrbac_tool.specs.Standing.{made_before};
 
 use crate::joined::Joined;
 use core_machine::{Book, Closed};
-use gt_base::{Event, Happened, List, Memory, Prioritised, Signal, Status, Trigger};
+use gt_base::{Event, Happened, Instant, List, Memory, Prioritised, Signal, Status, Trigger};
 use std::alloc::Global;
 use trigger_rules::Rules;
 use why_check::{Cert, Peaks, Standing, accept, met_in, turn};
 
+/// A certificate of a history, and the status before the history's last instant.
+pub struct Explained {
+    pub cert: Cert,
+    pub before: Status,
+}
+
+impl Drop for Explained {
+    fn drop(self) {
+        let Explained { cert: _, before: _ } = self;
+    }
+}
+
 /// A certificate of the book's history. Each set of the trace is listed in an order that supports
 /// it: its base, and then head after head whose trigger is met and whose body events stand already.
 /// The certificate is given out after it was accepted, which it always is: only want of memory is
-/// free.
-pub fn explain(alloc: Global, book: &Book) -> Result<Cert, Memory>
-    ensures { IfOk result (λ cert. Accepts book.now.named.policy book.now.birth book.now.entries
-        cert) }
+/// free. With it comes the status that the sets before the last instant make.
+pub fn explain(alloc: Global, book: &Book) -> Result<Explained, Memory>
+    ensures cert { IfOk result (λ it. Accepts book.now.named.policy book.now.birth
+        book.now.entries it.cert) }
+    ensures before { IfOk result (λ it. (f : FluentOf) → has it.before.set f
+        ≡ made_before (now_of book.now.birth book.now.entries) book.now.trace
+        (has book.now.named.policy.opening) f) }
 {
     book.keeps();
-    let cert = listed(alloc, book)?;
+    let explained = listed(alloc, book)?;
     let policy = book.ground().policy();
-    if accept(policy, book.birth(), book.entries(), &cert)? {
-        Ok(cert)
+    if accept(policy, book.birth(), book.entries(), &explained.cert)? {
+        Ok(explained)
     } else {
         unreachable!()
     }
 }
 
-/// The sets of the trace in their orders.
-fn listed(alloc: Global, book: &Book) -> Result<Cert, Memory>
-    ensures { IfOk result (λ cert. Accepts book.now.named.policy book.now.birth book.now.entries
-        cert) }
+/// The sets of the trace in their orders, and the status before the last instant.
+fn listed(alloc: Global, book: &Book) -> Result<Explained, Memory>
+    ensures cert { IfOk result (λ it. Accepts book.now.named.policy book.now.birth
+        book.now.entries it.cert) }
+    ensures before { IfOk result (λ it. (f : FluentOf) → has it.before.set f
+        ≡ made_before (now_of book.now.birth book.now.entries) book.now.trace
+        (has book.now.named.policy.opening) f) }
 {
     book.keeps();
     book.timeline().keeps();
     let policy = book.policy();
     policy.keeps();
     let rules = Rules::new(alloc, policy.triggers())?;
-    listings(alloc, &rules, policy.opening(), book.trace().as_slice())
+    let now = book.now();
+    listings(
+        alloc,
+        &rules,
+        policy.opening(),
+        book.trace().as_slice(),
+        now,
+    )
 }
 
-/// The sets in their orders, over the status before the first.
+/// The sets in their orders, over the status before the first, and the status that those before an
+/// instant make, which all but the last are.
 fn listings(
     alloc: Global,
     rules: &Rules,
     opening: &Status,
     trace: &[Closed],
-) -> Result<Cert, Memory>
+    now: Instant,
+) -> Result<Explained, Memory>
     requires caused { list_all has_cause rules.now ≡ true }
     requires settled { AreSettled rules.now (has opening.now.set) trace.now }
-    ensures { IfOk result (λ cert. AreListings rules.now (has opening.now.set) trace.now cert) }
+    requires ends { EndsBy now trace.now }
+    ensures cert { IfOk result
+        (λ it. AreListings rules.now (has opening.now.set) trace.now it.cert) }
+    ensures before { IfOk result (λ it. (f : FluentOf) → has it.before.set f
+        ≡ made_before now trace.now (has opening.now.set) f) }
 {
     let mut cert = Cert::new(alloc);
-    let mut status = opening.copied()?;
+    let mut before = opening.copied()?;
     for closed in trace {
-        add(alloc, &mut cert, rules, closed, &mut status)?;
+        add(alloc, &mut cert, rules, closed, &mut before, now)?;
     }
-    Ok(cert)
+    Ok(Explained { cert, before })
 }
 
-/// Adds the set of an instant in its order, and turns the status to that after it.
+/// Adds the set of an instant in its order, and turns the status to that after it, where it is
+/// before now.
 fn add(
     alloc: Global,
     cert: &mut Cert,
     rules: &Rules,
     closed: &Closed,
     status: &mut Status,
+    now: Instant,
 ) -> Result<(), Memory>
     requires caused { list_all has_cause rules.now ≡ true }
     requires settled { Settled rules.now closed.now.base (has status.old.set) closed.now.set }
     ensures added { OnOk result (AddsListing rules.now (has status.old.set) closed.now cert.old
         cert.new) }
-    ensures turned { OnOk result ((f : FluentOf)
-        → has status.new.set f ≡ after closed.now.set (has status.old.set) f) }
+    ensures turned { OnOk result ((f : FluentOf) → has status.new.set f
+        ≡ cond (nat_lt closed.now.at now) (after closed.now.set (has status.old.set) f)
+        (has status.old.set f)) }
 {
     let x = Peaks::new(alloc, closed.set.copied()?)?;
     let events = support_order(alloc, rules, &closed.base, status, &x)?;
     let signals = Vec::from_slice(alloc, closed.set.signals())?;
     cert.add(closed.at, events, List::from(signals))?;
-    turn(status, &x)?;
+    turn_before(status, &x, closed.at, now)?;
+    Ok(())
+}
+
+/// Turns the status to that after the set of an instant, where that is before now.
+fn turn_before(status: &mut Status, x: &Peaks, at: Instant, now: Instant) -> Result<(), Memory>
+    ensures { OnOk result ((f : FluentOf) → has status.new.set f
+        ≡ cond (nat_lt at now) (after x.now (has status.old.set) f) (has status.old.set f)) }
+{
+    if at < now {
+        turn(status, x)?;
+    }
     Ok(())
 }
 

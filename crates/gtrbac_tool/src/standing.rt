@@ -1,9 +1,8 @@
 //! Why an event is in force or blocked at the end of a script, as it is told.
 ghost use Rattle.std.specs.Prelude.{◌≡◌, ◌++◌, IfOk, OnOk, option_map};
 ghost use Rattle.gt_base.specs.Sets.{has};
-ghost use Rattle.gtrbac_model.specs.Conflict.{after, seen as seen_in};
-ghost use Rattle.gt_base.specs.declared.events.Fluent.{Fluent as FluentOf};
-ghost use Rattle.gtrbac_tool.specs.Standing.{raises, first_raising, reason, by_word, standing_line, certificate_line, TellsWhy, closed_at, made_before};
+ghost use Rattle.gtrbac_model.specs.Conflict.{seen as seen_in};
+ghost use Rattle.gtrbac_tool.specs.Standing.{raises, first_raising, reason, by_word, standing_line, certificate_line, TellsWhy, closed_at};
 
 use crate::explaining::explain;
 use core_machine::{Book, Closed};
@@ -17,7 +16,7 @@ use policy_words::NamedEvent;
 use priority_conflict::{Contest, greatest, seen};
 use std::alloc::Global;
 use trigger_rules::met_in;
-use why_check::{Cert, Peaks, turn};
+use why_check::Cert;
 
 /// The instant of a set.
 fn at_of(closed: &Closed) -> Instant
@@ -51,37 +50,6 @@ fn closed_at(mut trace: &[Closed], t: Instant) -> Option<&Closed>
         trace = rest;
     }
     None
-}
-
-/// The status that the sets of the trace before the instant make of one.
-#[tactic(auto, using(crate::proofs::LastInstant::step_before, crate::proofs::LastInstant::past_all))]
-fn status_before(
-    alloc: Global,
-    opening: &Status,
-    mut trace: &[Closed],
-    t: Instant,
-) -> Result<Status, Memory>
-    ensures { IfOk result
-        (λ s. (f : FluentOf) → has s.set f ≡ made_before t trace.now (has opening.now.set) f) }
-{
-    let mut status = opening.copied()?;
-    while let [first, rest @ ..] = trace {
-        if at_of(first) >= t {
-            break;
-        }
-        take_in(alloc, &mut status, set_of(first))?;
-        trace = rest;
-    }
-    Ok(status)
-}
-
-/// Takes a set into the status: what was on before it becomes what is on after it.
-fn take_in(alloc: Global, status: &mut Status, set: &Happened) -> Result<(), Memory>
-    ensures { OnOk result
-        ((f : FluentOf) → has status.new.set f ≡ after set.now.set (has status.old.set) f) }
-{
-    let x = Peaks::new(alloc, set.copied()?)?;
-    turn(status, &x)
 }
 
 /// Whether the trigger is immediate, has the event as its head and is met in the set.
@@ -201,30 +169,27 @@ fn add_standing(
     }
 }
 
-/// Adds how the event stands in the set of an instant, over the status that the sets before it
-/// make.
+/// Adds how the event stands in the set of an instant, over the status before it.
 fn add_at(
     alloc: Global,
     text: &mut Vec<u8>,
     policy: &Policy,
-    trace: &[Closed],
     closed: &Closed,
-    t: Instant,
+    before: &Status,
     subject: &Subject,
 ) -> Result<(), Memory>
     ensures { OnOk result
         (text.new.items
         ≡ text.old.items
         ++ standing_line policy.now.policy.triggers closed.now.base
-        (made_before t trace.now (has policy.now.policy.opening)) closed.now.set
+        (has before.now.set) closed.now.set
         subject.now.named subject.now.event (seen_in closed.now.set subject.now.event)) }
 {
-    let before = status_before(alloc, policy.opening(), trace, t)?;
     let rules = policy.triggers().as_slice();
     let x = Contest::new(alloc, set_of(closed))?;
     let base = base_of(closed);
     let seen = seen(x.set(), subject.event);
-    add_standing(text, rules, base, &before, &x, subject, seen)
+    add_standing(text, rules, base, before, &x, subject, seen)
 }
 
 /// The line that tells how many instants the certificate lists.
@@ -252,14 +217,21 @@ pub(crate) fn standing_text(
 {
     book.keeps();
     let policy = book.ground().policy();
-    let cert = explain(alloc, book)?;
-    let mut text = certificate_text(alloc, &cert)?;
+    let explained = explain(alloc, book)?;
+    let mut text = certificate_text(alloc, &explained.cert)?;
     let trace = book.trace().as_slice();
     let now = book.now();
     match closed_at(trace, now) {
         Some(closed) => {
             let subject = Subject { named, event: e };
-            add_at(alloc, &mut text, policy, trace, closed, now, &subject)?;
+            add_at(
+                alloc,
+                &mut text,
+                policy,
+                closed,
+                &explained.before,
+                &subject,
+            )?;
             Ok(text)
         }
         None => {

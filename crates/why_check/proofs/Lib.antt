@@ -12,4 +12,5 @@ pub mod Deciding
 pub mod Priorities
 pub mod Heading
 pub mod Peaking
+pub mod Noting
 pub mod Turned

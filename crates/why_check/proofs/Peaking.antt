@@ -18,10 +18,9 @@ use Rattle.gt_base.specs.contracts.events.FluentEq.TheImpl.Laws.{laws-law}
 use Rattle.gtrbac_model.specs.Conflict.{blocked, won}
 use Rattle.gtrbac_model.proofs.Elements.{Elem, both_true, and_true, split, any_elim, any_intro}
 use Rattle.gtrbac_model.proofs.Uniqueness.{of_elem, is_same_event, same_event_of}
-use Rattle.indexmap.specs.IndexMap.{IndexMap, get, get_by}
 use Rattle.priority_conflict.proofs.WhoLeads.{one_fluent}
 use Rattle.why_check.specs.Peaks.{ArePeaks, peak_with, beaten_from, wins_from, side, sides_with, peak_in}
-use Rattle.why_check.specs.declared.blocking.Sides.{Sides}
+use Rattle.why_check.specs.declared.sides.Sides.{Sides}
 
 -- what a priority blocks, a greater one blocks
 beats_more : (on : Bool) (q r p : ℕ) → q ≤ r → beats on q p ≡ true → beats on r p ≡ true
@@ -45,7 +44,8 @@ beaten_more on p (Some r) q = by (nat_lt q r) (ltb-true q r) (ltb-false q r)
     by true lt le = left_does (beats on r p) (beats on q p) (beats_more on q r p (omega (arith, lt refl)))
     by false lt le = right_does (beats on r p) (beats on q p) (beats_more on r q p (le refl))
 
-peaks_more : (e : Event) (on : Bool) (p : ℕ) (es : List Prioritised) (i : ℕ) (o : Prioritised) (old new : Option ℕ) → take (i + 1) es ≡ take i es ++ o ∷ []
+-- the peaks of the events so far, and of one more
+pub peaks_more : (e : Event) (on : Bool) (p : ℕ) (es : List Prioritised) (i : ℕ) (o : Prioritised) (old new : Option ℕ) → take (i + 1) es ≡ take i es ++ o ∷ []
     → new ≡ cond (same_event o.event e) (Some (peak_with old o.prio)) old
     → beaten_from on p old ≡ list_any (λ o. same_event o.event e && beats on o.prio p) (take i es)
     → beaten_from on p new ≡ list_any (λ o. same_event o.event e && beats on o.prio p) (take (i + 1) es)
@@ -62,16 +62,12 @@ peaks_more e on p es i o old new more is so_far =
     by true = beaten_more on p old o.prio
     by false = no_more (beaten_from on p old)
 
--- equal fluents have the same sides
-same_key : {S : Type 0} (m : IndexMap Fluent Sides S) (k q : Fluent) → fluent_eq k q ≡ true → get fluent_eq m k ≡ get fluent_eq m q
-same_key m k q h = ap (λ t. get_by t m) (λ i z. laws-law.congr k q z h i)
-
 not_so : (b : Bool) → (b ≡ true → ⊥) → b ≡ false
 not_so true f = absurd (f refl)
 not_so false f = refl
 
 -- the peak of an event after one event more
-peak_more : (d e : Event) (p : ℕ) (old new : Fluent → Option Sides) → new e.fluent ≡ cond (fluent_eq d.fluent e.fluent) (Some (sides_with (old d.fluent) d.on p)) (old e.fluent)
+pub peak_more : (d e : Event) (p : ℕ) (old new : Fluent → Option Sides) → new e.fluent ≡ cond (fluent_eq d.fluent e.fluent) (Some (sides_with (old d.fluent) d.on p)) (old e.fluent)
     → (fluent_eq d.fluent e.fluent ≡ true → old d.fluent ≡ old e.fluent) → peak_in new e ≡ cond (same_event d e) (Some (peak_with (peak_in old e) p)) (peak_in old e)
 peak_more d e p old new is same =
     ap (side e.on) is ∙ split (fluent_eq d.fluent e.fluent)
@@ -91,13 +87,6 @@ peak_more d e p old new is same =
     by false false h k = sym (ap (λ c. cond c (Some (peak_with (side false g) p)) (side false g)) (h refl))
     by true false h k = sym (ap (λ c. cond c (Some (peak_with (side false g) p)) (side false g)) (k (λ q. false≢true (sym q))))
     by false true h k = sym (ap (λ c. cond c (Some (peak_with (side true g) p)) (side true g)) (k (λ q. false≢true q)))
-
-pub sides_more : {S : Type 0} (es : List Prioritised) (i : ℕ) (o : Prioritised) (old new : IndexMap Fluent Sides S) → take (i + 1) es ≡ take i es ++ o ∷ []
-    → ((f : Fluent) → get fluent_eq new f ≡ cond (fluent_eq o.event.fluent f) (Some (sides_with (get fluent_eq old o.event.fluent) o.event.on o.prio)) (get fluent_eq old f))
-    → ArePeaks (take i es) (peak_in (get fluent_eq old)) → ArePeaks (take (i + 1) es) (peak_in (get fluent_eq new))
-sides_more es i o old new more is so_far e on p =
-    peaks_more e on p es i o (peak_in (get fluent_eq old) e) (peak_in (get fluent_eq new) e) more
-    (peak_more o.event e o.prio (get fluent_eq old) (get fluent_eq new) (is e.fluent) (same_key old o.event.fluent e.fluent)) (so_far e on p)
 
 beaten_lower : (on : Bool) (p r : ℕ) (against : Option ℕ) → p ≤ r → beaten_from on r against ≡ true → beaten_from on p against ≡ true
 beaten_lower on p r None le h = cc

@@ -1,12 +1,16 @@
 -- The greatest priority of each event of a set.
-use Rattle.std.specs.Prelude.{◌≡◌, ℕ, Bool, false, not, ◌&&◌, nat_lt, List, Option, Some, None, if◌then◌else◌}
+use Rattle.std.specs.Prelude.{◌≡◌, ℕ, Bool, false, not, ◌&&◌, nat_lt, List, length, slice_get, Option, Some, None, if◌then◌else◌}
 use Rattle.std.specs.List.{list_any}
 use Rattle.gt_base.specs.declared.events.Event.{Event}
 use Rattle.gt_base.specs.declared.events.Fluent.{Fluent}
+use Rattle.gt_base.specs.declared.events.Fluent.TheVariants.{Enabled, Assigned, Granted, Limit, Edge}
 use Rattle.gt_base.specs.declared.events.Prioritised.{Prioritised}
+use Rattle.gt_base.specs.Orders.{fluent_eq}
 use Rattle.gtrbac_model.specs.Conflict.{beats}
 use Rattle.gtrbac_model.specs.Same.{same_event}
-use Rattle.why_check.specs.declared.blocking.Sides.{Sides}
+use Rattle.indexmap.specs.IndexMap.{get}
+use Rattle.why_check.specs.declared.sides.Sides.{Sides}
+use Rattle.why_check.specs.declared.sides.SideTable.{SideTable}
 
 -- the peak with one priority more
 abbrev pub peak_with : Option ℕ → ℕ → ℕ
@@ -27,6 +31,23 @@ sides_with sides on p =
 -- the peak of an event, by the sides of each fluent
 abbrev pub peak_in : (Fluent → Option Sides) → Event → Option ℕ
 peak_in sides e = side e.on (sides e.fluent)
+
+-- where a fluent stands among the first so many roles, if it stands there
+abbrev pub place_of : ℕ → Fluent → Option ℕ
+place_of many (Enabled r) = if nat_lt r.0 many then Some r.0 else None
+place_of many (Assigned u r) = None
+place_of many (Granted p r) = None
+place_of many (Limit l) = None
+place_of many (Edge n) = None
+
+-- the sides at the place in the row, where there is one, and else those beside the row
+abbrev pub sides_at : List Sides → Option Sides → Option ℕ → Option Sides
+sides_at row beside None = beside
+sides_at row beside (Some n) = slice_get row n
+
+-- the sides that the table has of a fluent
+abbrev pub sides_in : SideTable → Fluent → Option Sides
+sides_in t f = sides_at t.roles.items (get fluent_eq t.others f) (place_of (length t.roles.items) f)
 
 -- whether the converse with this peak, or none, blocks an event at priority p
 abbrev pub beaten_from : Bool → ℕ → Option ℕ → Bool

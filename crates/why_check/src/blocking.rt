@@ -1,29 +1,19 @@
 //! A set with the greatest priorities at which each fluent is set on and off, by which it is told at
 //! once what is blocked and what wins.
-ghost use Rattle.std.specs.Prelude.{◌≡◌, cond, not, true, Some, IfOk, OnOk};
-ghost use Rattle.gt_base.specs.declared.events.Fluent.{Fluent as FluentOf};
-ghost use Rattle.gt_base.specs.Orders.{fluent_eq};
+ghost use Rattle.std.specs.Prelude.{◌≡◌, not, true, Some, IfOk};
 ghost use Rattle.gt_base.specs.Sets.{has};
 ghost use Rattle.gtrbac_model.specs.Conflict.{blocked, won, after};
-ghost use Rattle.indexmap.specs.IndexMap.{get};
-ghost use Rattle.why_check.specs.Peaks.{ArePeaks, peak_with, peak_in, side, sides_with, beaten_from, wins_from};
+ghost use Rattle.why_check.specs.Peaks.{ArePeaks, peak_in, side, sides_in, beaten_from, wins_from};
 
+use crate::sides::{SideTable, Sides, side};
 use gt_base::{Event, Fluent, Happened, Memory, Prioritised, Status};
-use indexmap::IndexMap;
 use std::alloc::Global;
 use std::marker::Model;
-
-/// The greatest priorities at which a fluent is set on and off.
-#[derive(Clone, Copy)]
-pub(crate) struct Sides {
-    on: Option<u8>,
-    off: Option<u8>,
-}
 
 /// What happens at an instant, with the greatest priority of each event. It is seen as the set.
 pub struct Peaks {
     set: Happened,
-    sides: IndexMap<Fluent, Sides>,
+    sides: SideTable,
 }
 
 impl Drop for Peaks {
@@ -34,10 +24,8 @@ impl Drop for Peaks {
 
 impl Model for Peaks {
     ghost use Rattle.gt_base.specs.Happening.{HappenedView, happening_code};
-    ghost use Rattle.gt_base.specs.Orders.{fluent_eq};
     ghost use Rattle.gt_base.specs.Sets.{members};
-    ghost use Rattle.indexmap.specs.IndexMap.{get};
-    ghost use Rattle.why_check.specs.Peaks.{ArePeaks, peak_in};
+    ghost use Rattle.why_check.specs.Peaks.{ArePeaks, peak_in, sides_in};
 
     ghost Value = { HappenedView };
 
@@ -45,8 +33,7 @@ impl Model for Peaks {
 
     ghost view = { λ p. p.set.set };
 
-    ghost invariant = { λ p. ArePeaks (members p.set.set.events)
-        (peak_in (get fluent_eq p.sides)) };
+    ghost invariant = { λ p. ArePeaks (members p.set.set.events) (peak_in (sides_in p.sides)) };
 }
 
 impl Peaks {
@@ -69,7 +56,7 @@ impl Peaks {
     pub fn blocks(&self, e: &Prioritised) -> bool
         ensures { result ≡ blocked self.now e.now }
     {
-        let against = side(self.sides.get(&e.event.fluent).copied(), !e.event.on);
+        let against = side(self.sides.of(e.event.fluent), !e.event.on);
         is_beaten(e.event.on, e.prio.get(), against)
     }
 
@@ -77,14 +64,14 @@ impl Peaks {
     pub fn is_won(&self, e: Event) -> bool
         ensures { result ≡ won self.now e }
     {
-        wins(self.sides.get(&e.fluent).copied(), e.on)
+        wins(self.sides.of(e.fluent), e.on)
     }
 
     /// Whether the fluent is on in the status after the set, given the status before it.
     pub fn is_on_after(&self, f: Fluent, before: &Status) -> bool
         ensures { result ≡ after self.now (has before.now.set) f }
     {
-        let sides = self.sides.get(&f).copied();
+        let sides = self.sides.of(f);
         if wins(sides, true) {
             return true;
         }
@@ -95,7 +82,7 @@ impl Peaks {
     pub fn has(&self, e: Prioritised) -> bool
         ensures { result ≡ has self.now.events e }
     {
-        let peak = side(self.sides.get(&e.event.fluent).copied(), e.event.on);
+        let peak = side(self.sides.of(e.event.fluent), e.event.on);
         if is_peak(peak, e.prio.get()) {
             return true;
         }
@@ -104,64 +91,14 @@ impl Peaks {
 }
 
 /// The greatest priorities at which the events set each fluent on and off.
-fn sides_of(alloc: Global, events: &[Prioritised]) -> Result<IndexMap<Fluent, Sides>, Memory>
-    ensures { IfOk result (λ m. ArePeaks events.now (peak_in (get fluent_eq m))) }
+fn sides_of(alloc: Global, events: &[Prioritised]) -> Result<SideTable, Memory>
+    ensures { IfOk result (λ t. ArePeaks events.now (peak_in (sides_in t))) }
 {
-    let mut sides = IndexMap::with_capacity(alloc, events.len())?;
+    let mut sides = SideTable::new(alloc, events.len())?;
     for o in events {
-        note_peak(&mut sides, o)?;
+        sides.note(o.event, o.prio.get())?;
     }
     Ok(sides)
-}
-
-/// Notes the priority of the event, unless a greater one is noted.
-fn note_peak(sides: &mut IndexMap<Fluent, Sides>, o: &Prioritised) -> Result<(), Memory>
-    ensures { OnOk result ((f : FluentOf) → get fluent_eq sides.new f
-        ≡ cond (fluent_eq o.now.event.fluent f)
-        (Some (sides_with (get fluent_eq sides.old o.now.event.fluent) o.now.event.on o.now.prio))
-        (get fluent_eq sides.old f)) }
-{
-    let none = Sides {
-        on: None,
-        off: None,
-    };
-    raise(
-        sides.entry(o.event.fluent)?.or_insert(none),
-        o.event.on,
-        o.prio.get(),
-    );
-    Ok(())
-}
-
-/// Raises the side to the priority, unless it is a greater one.
-fn raise(sides: &mut Sides, on: bool, prio: u8)
-    ensures { sides.new ≡ sides_with (Some sides.old) on prio }
-{
-    if on {
-        sides.on = Some(greater(sides.on, prio));
-    } else {
-        sides.off = Some(greater(sides.off, prio));
-    }
-}
-
-/// The greater of the peak so far, if there is one, and one priority more.
-fn greater(peak: Option<u8>, prio: u8) -> u8
-    ensures { result ≡ peak_with peak prio }
-{
-    match peak {
-        Some(q) => { if prio < q { q } else { prio } }
-        None => prio,
-    }
-}
-
-/// The greatest priority at which the fluent of the sides is set so.
-fn side(sides: Option<Sides>, on: bool) -> Option<u8>
-    ensures { result ≡ side on sides }
-{
-    match sides {
-        Some(s) => { if on { s.on } else { s.off } }
-        None => None,
-    }
 }
 
 /// Whether the peak is this priority.

@@ -14,6 +14,7 @@ mod periods;
 mod replays;
 mod sessions;
 mod showing;
+mod sides;
 mod standing;
 mod turning;
 

@@ -6,18 +6,18 @@ ghost use Rattle.gtrbac_model.specs.Same.{same_event};
 ghost use Rattle.why_check.specs.Standing.{stands_in};
 
 use crate::blocking::Peaks;
+use crate::sides::{SideTable, side};
 use gt_base::{Event, Memory, Prioritised};
-use indexmap::IndexMap;
 use std::alloc::Global;
 
-/// Events that stand, found by what they are: one more moves none of them.
+/// Events that stand, with the greatest priority at which each was noted.
 pub struct Standing {
-    events: IndexMap<Event, ()>,
+    noted: SideTable,
 }
 
 impl Drop for Standing {
     fn drop(self) {
-        let Standing { events: _ } = self;
+        let Standing { noted: _ } = self;
     }
 }
 
@@ -27,7 +27,7 @@ impl Standing {
         ensures { IfOk result (λ s. (e : EventOf) → stands_in s e ≡ false) }
     {
         Ok(Standing {
-            events: IndexMap::with_capacity(alloc, many)?,
+            noted: SideTable::new(alloc, many)?,
         })
     }
 
@@ -35,7 +35,7 @@ impl Standing {
     pub fn has(&self, e: Event) -> bool
         ensures { result ≡ stands_in self.now e }
     {
-        self.events.contains_key(&e)
+        side(self.noted.of(e.fluent), e.on).is_some()
     }
 
     /// Adds the event, where it is not blocked at its priority in the set.
@@ -44,7 +44,7 @@ impl Standing {
             ≡ ((same_event e.now.event f && not (blocked x.now e.now)) || stands_in self.old f)) }
     {
         if !x.blocks(e) {
-            self.events.insert(e.event, ())?;
+            self.noted.note(e.event, e.prio.get())?;
         }
         Ok(())
     }

@@ -1,4 +1,4 @@
-use Rattle.std.proofs.Common.{◌∙◌, ap, subst}
+use Rattle.std.proofs.Common.{cond, nat_lt, ◌∙◌, ap, subst}
 use Rattle.gt_base.specs.Happening.{HappenedView}
 use Rattle.gt_base.specs.Sets.{has}
 use Rattle.gtrbac_model.specs.Conflict.{after}
@@ -24,6 +24,7 @@ returns-clause-added c =
 
 pub returns-clause-turned : goal.returns-clause-turned
 returns-clause-turned c = λ f.
-    c.in_ok-turn.ensures f
-    ∙ ap (λ (y : HappenedView). after y (has c.args.status.now.set) f) (c.in_ok-x.ensures ∙ c.in_ok-copied.ensures)
-    ∙ ap (λ (d : ClosedSet). after d.set (has c.args.status.now.set) f) c.closed.view_is
+    let s = has c.args.status.now.set in
+    c.in_ok-turn_before.ensures f
+    ∙ ap (λ (y : HappenedView). cond (nat_lt c.closed.inside.at c.args.now) (after y s f) (s f)) (c.in_ok-x.ensures ∙ c.in_ok-copied.ensures)
+    ∙ ap (λ (d : ClosedSet). cond (nat_lt d.at c.args.now) (after d.set s f) (s f)) c.closed.view_is

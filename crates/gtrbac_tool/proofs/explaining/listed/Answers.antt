@@ -8,8 +8,9 @@ use Rattle.gtrbac_model.specs.WholePolicy.{has_cause}
 use Rattle.instant_bases.specs.Timelines.{ClosedSet}
 use Rattle.policy_words.specs.Naming.{NamedPolicy}
 use Rattle.time_engine.specs.Traces.{AreClosedBy}
-use Rattle.why_check.specs.Certificates.{Listed}
-use Rattle.gtrbac_tool.specs.Listing.{AreListings, AreSettled}
+use Rattle.gtrbac_tool.specs.Listing.{AreListings, AreSettled, EndsBy}
+use Rattle.gtrbac_tool.specs.Standing.{made_before}
+use Rattle.gtrbac_tool.proofs.LastInstant.{ends_by}
 use Rattle.gtrbac_tool.proofs.ListingTrace.{accepts_listings, all_settled, if_ok}
 use Rattle.gtrbac_tool.proofs.explaining.listed.Goals as goal
 use Rattle.gtrbac_tool.proofs.explaining.listed.Goals.{After-as_slice}
@@ -42,14 +43,27 @@ listings-requires-clause-settled c =
     (subst (λ (trace : List ClosedSet). AreSettled b.named.policy.triggers (has b.named.policy.opening) trace) (sym (trace_is at))
     (all_settled b.named.policy b.birth b.entries b.trace c.keeps.ensures.kept.legal.model c.trace.ensures.bases c.trace.ensures.ascends (ends at))))
 
-pub returns : goal.returns
-returns c =
-    let at : After-as_slice = (goal.at.returns c).After-as_slice in
+pub listings-requires-clause-ends : goal.listings-requires-clause-ends
+listings-requires-clause-ends c =
+    let at : After-as_slice = (goal.at.listings-requires-clause-ends c).After-as_slice in
+    let b = c.args.book.now in
+    subst (λ n. EndsBy n c.as_slice.result.now) (sym c.now-now.ensures)
+    (subst (λ (trace : List ClosedSet). EndsBy (now_of b.birth b.entries) trace) (sym (trace_is at))
+    (ends_by b.trace b.birth (now_of b.birth b.entries) c.trace.ensures.ascends (ends at)))
+
+pub returns-clause-cert : goal.returns-clause-cert
+returns-clause-cert c =
+    let at : After-as_slice = (goal.at.returns-clause-cert c).After-as_slice in
     let b = c.args.book.now in
     if_ok c.listings.result
-    (λ (cert : List Listed) a.
-    accepts_listings b.named.policy b.birth b.entries b.trace cert c.keeps.ensures.kept.legal.model c.trace.ensures.bases c.trace.ensures.ascends (ends at) c.trace.ensures.some
-    (subst (λ (rules : List TriggerView). AreListings rules (has b.named.policy.opening) b.trace cert) (rules_are at)
-    (subst (λ (opening : Fluents). AreListings c.in_ok-rules.rules (has opening) b.trace cert) (opening_is at)
-    (subst (λ (trace : List ClosedSet). AreListings c.in_ok-rules.rules (has c.opening.result.now.set) trace cert) (trace_is at) a))))
-    c.listings.ensures
+    (λ it a.
+    accepts_listings b.named.policy b.birth b.entries b.trace it.cert c.keeps.ensures.kept.legal.model c.trace.ensures.bases c.trace.ensures.ascends (ends at) c.trace.ensures.some
+    (subst (λ (rules : List TriggerView). AreListings rules (has b.named.policy.opening) b.trace it.cert) (rules_are at)
+    (subst (λ (opening : Fluents). AreListings c.in_ok-rules.rules (has opening) b.trace it.cert) (opening_is at)
+    (subst (λ (trace : List ClosedSet). AreListings c.in_ok-rules.rules (has c.opening.result.now.set) trace it.cert) (trace_is at) a))))
+    c.listings.ensures.cert
+
+pub returns-clause-before : goal.returns-clause-before
+returns-clause-before c =
+    let at : After-as_slice = (goal.at.returns-clause-before c).After-as_slice in
+    if_ok c.listings.result (λ it a f. a f ∙ (λ i. made_before (c.now-now.ensures i) (trace_is at i) (has (opening_is at i)) f)) c.listings.ensures.before

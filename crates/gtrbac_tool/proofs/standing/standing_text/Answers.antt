@@ -12,10 +12,11 @@ returns-in-Some c =
     let there : closed_at b.trace c.now-now.result ≡ Some c.in-Some.closed.now =
     ap (λ l. closed_at l c.now-now.result) (sym trace_is) ∙ sym c.closed_at.ensures ∙ ap (option_map (λ x. x.now)) c.in-Some.is in
     let p = c.policy-policy.result.now.policy in
-    let before_is : made_before c.now-now.result c.as_slice-trace.result.now (has p.opening) ≡ made_before c.now-now.result b.trace (has b.named.policy.opening) =
-    λ i. made_before c.now-now.result (trace_is i) (has ((policy_is i).policy.opening)) in
-    tells_there b.named.policy b.birth b.entries b.trace c.keeps.ensures.kept.legal c.in_ok-cert.cert c.in_ok-cert.ensures c.args.named c.args.e c.now-now.result c.now-now.ensures c.in_ok-text.text.items c.add_at.new.text.items
-    c.in_ok-text.ensures c.in-Some.closed.now p.triggers c.in-Some.closed.now.base c.in-Some.closed.now.set (made_before c.now-now.result c.as_slice-trace.result.now (has p.opening)) c.trace.ensures.bases c.trace.ensures.ascends there
+    let before = has c.in_ok-explained.explained.before.set in
+    let before_is : before ≡ made_before c.now-now.result b.trace (has b.named.policy.opening) =
+    (λ i f. c.in_ok-explained.ensures.before f i) ∙ ap (λ t. made_before t b.trace (has b.named.policy.opening)) (sym c.now-now.ensures) in
+    tells_there b.named.policy b.birth b.entries b.trace c.keeps.ensures.kept.legal c.in_ok-explained.explained.cert c.in_ok-explained.ensures.cert c.args.named c.args.e c.now-now.result c.now-now.ensures c.in_ok-text.text.items c.add_at.new.text.items
+    c.in_ok-text.ensures c.in-Some.closed.now p.triggers c.in-Some.closed.now.base c.in-Some.closed.now.set before c.trace.ensures.bases c.trace.ensures.ascends there
     (ap (λ q. q.policy.triggers) policy_is) refl before_is refl c.in_ok-add_at-in-Some.ensures
 
 pub returns : goal.returns
@@ -25,5 +26,5 @@ returns c =
     let nowhere : closed_at b.trace c.now-now.result ≡ None =
     ap (λ l. closed_at l c.now-now.result) (sym trace_is) ∙ sym c.closed_at.ensures ∙ ap (option_map (λ x. x.now)) c.in-None.is in
     let text_is : c.extend_from_slice.new.self.items ≡ c.in_ok-text.text.items ++ codes "absent\n" = c.in_ok-extend_from_slice-in-None.ensures.items in
-    tells_nowhere b.named.policy b.birth b.entries b.trace c.keeps.ensures.kept.legal c.in_ok-cert.cert c.in_ok-cert.ensures c.args.named c.args.e c.now-now.result c.now-now.ensures c.in_ok-text.text.items c.extend_from_slice.new.self.items
+    tells_nowhere b.named.policy b.birth b.entries b.trace c.keeps.ensures.kept.legal c.in_ok-explained.explained.cert c.in_ok-explained.ensures.cert c.args.named c.args.e c.now-now.result c.now-now.ensures c.in_ok-text.text.items c.extend_from_slice.new.self.items
     c.in_ok-text.ensures nowhere text_is

@@ -1,9 +1,6 @@
 use Rattle.std.proofs.Common.{◌≡◌, Bool, true, false, cond, ◌||◌, Option, Some, is_some, refl, sym, ◌∙◌, ap}
 use Rattle.gtrbac_model.specs.Conflict.{blocked}
 use Rattle.gtrbac_model.specs.Same.{same_event}
-use Rattle.indexmap.specs.IndexMap.{get}
-use Rattle.trigger_rules.specs.Indexed.{event_eq}
-use Rattle.trigger_rules.proofs.Keys.{event_law}
 use Rattle.why_check.specs.Standing.{stands_in}
 use Rattle.why_check.proofs.Shown.{noted, left_out}
 use Rattle.why_check.proofs.standing.Standing.note.Goals as goal
@@ -12,13 +9,12 @@ put_in : {A : Type 0} (b : Bool) (v : A) (o : Option A) → is_some (cond b (Som
 put_in true v o = refl
 put_in false v o = refl
 
-pub returns-in_ok-insert : goal.returns-in_ok-insert
-returns-in_ok-insert c = λ f.
+pub returns-in_ok-note : goal.returns-in_ok-note
+returns-in_ok-note c = λ f.
     let e = c.args.e.now in
     let free : blocked c.args.x.now e ≡ false = sym c.blocks-2.ensures ∙ c.if-not-blocks.true in
-    ap is_some (c.in_ok-insert.ensures.updates.0 f)
-    ∙ put_in (event_eq e.event f) _ (get event_eq c.args.self.now.events f)
-    ∙ ap (λ b. b || stands_in c.args.self.now f) (event_law e.event f)
+    ap is_some (c.in_ok-note.ensures f)
+    ∙ put_in (same_event e.event f) _ _
     ∙ noted (same_event e.event f) (blocked c.args.x.now e) (stands_in c.args.self.now f) free
 
 pub returns-else-not-blocks : goal.returns-else-not-blocks
