@@ -23,22 +23,26 @@ use trigger_rules::Rules;
 use why_check::{Cert, Peaks, Standing, accept, met_in, turn};
 
 /// A certificate of a history, and the status before the history's last instant.
-pub struct Explained {
-    pub cert: Cert,
-    pub before: Status,
-}
-
-impl Drop for Explained {
-    fn drop(self) {
-        let Explained { cert: _, before: _ } = self;
-    }
+#[derive(Drop)]
+pub(crate) struct Explanation {
+    pub(crate) cert: Cert,
+    pub(crate) before: Status,
 }
 
 /// A certificate of the book's history. Each set of the trace is listed in an order that supports
 /// it: its base, and then head after head whose trigger is met and whose body events stand already.
 /// The certificate is given out after it was accepted, which it always is: only want of memory is
-/// free. With it comes the status that the sets before the last instant make.
-pub fn explain(alloc: Global, book: &Book) -> Result<Explained, Memory>
+/// free.
+pub fn explain(alloc: Global, book: &Book) -> Result<Cert, Memory>
+    ensures { IfOk result (λ cert. Accepts book.now.named.policy book.now.birth book.now.entries
+        cert) }
+{
+    let Explanation { cert, before: _ } = explained(alloc, book)?;
+    Ok(cert)
+}
+
+/// A certificate that was accepted, and the status that the sets before the last instant make.
+pub(crate) fn explained(alloc: Global, book: &Book) -> Result<Explanation, Memory>
     ensures cert { IfOk result (λ it. Accepts book.now.named.policy book.now.birth
         book.now.entries it.cert) }
     ensures before { IfOk result (λ it. (f : FluentOf) → has it.before.set f
@@ -46,17 +50,17 @@ pub fn explain(alloc: Global, book: &Book) -> Result<Explained, Memory>
         (has book.now.named.policy.opening) f) }
 {
     book.keeps();
-    let explained = listed(alloc, book)?;
+    let made = listed(alloc, book)?;
     let policy = book.ground().policy();
-    if accept(policy, book.birth(), book.entries(), &explained.cert)? {
-        Ok(explained)
+    if accept(policy, book.birth(), book.entries(), &made.cert)? {
+        Ok(made)
     } else {
         unreachable!()
     }
 }
 
 /// The sets of the trace in their orders, and the status before the last instant.
-fn listed(alloc: Global, book: &Book) -> Result<Explained, Memory>
+fn listed(alloc: Global, book: &Book) -> Result<Explanation, Memory>
     ensures cert { IfOk result (λ it. Accepts book.now.named.policy book.now.birth
         book.now.entries it.cert) }
     ensures before { IfOk result (λ it. (f : FluentOf) → has it.before.set f
@@ -86,7 +90,7 @@ fn listings(
     opening: &Status,
     trace: &[Closed],
     now: Instant,
-) -> Result<Explained, Memory>
+) -> Result<Explanation, Memory>
     requires caused { list_all has_cause rules.now ≡ true }
     requires settled { AreSettled rules.now (has opening.now.set) trace.now }
     requires ends { EndsBy now trace.now }
@@ -100,7 +104,7 @@ fn listings(
     for closed in trace {
         add(alloc, &mut cert, rules, closed, &mut before, now)?;
     }
-    Ok(Explained { cert, before })
+    Ok(Explanation { cert, before })
 }
 
 /// Adds the set of an instant in its order, and turns the status to that after it, where it is

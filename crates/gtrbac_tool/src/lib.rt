@@ -14,6 +14,6 @@ mod starting;
 mod summing;
 mod top;
 
-pub use explaining::{Explained, explain};
+pub use explaining::explain;
 pub use laws::{reasons_exist, run_means};
 pub use top::tool;

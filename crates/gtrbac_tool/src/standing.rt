@@ -4,7 +4,7 @@ ghost use Rattle.gt_base.specs.Sets.{has};
 ghost use Rattle.gtrbac_model.specs.Conflict.{seen as seen_in};
 ghost use Rattle.gtrbac_tool.specs.Standing.{raises, first_raising, reason, by_word, standing_line, certificate_line, TellsWhy, closed_at};
 
-use crate::explaining::explain;
+use crate::explaining::explained;
 use core_machine::{Book, Closed};
 use gt_base::{
     Event, Happened, Instant, MAX_PRIO, Memory, Prio, Prioritised, Seen, Status, Trigger,
@@ -217,7 +217,7 @@ pub(crate) fn standing_text(
 {
     book.keeps();
     let policy = book.ground().policy();
-    let explained = explain(alloc, book)?;
+    let explained = explained(alloc, book)?;
     let mut text = certificate_text(alloc, &explained.cert)?;
     let trace = book.trace().as_slice();
     let now = book.now();

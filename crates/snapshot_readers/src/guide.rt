@@ -1,4 +1,5 @@
 //! A viewer that answers the requests of a link by glances.
+ghost use Rattle.std.specs.Prelude.{◌≡◌};
 ghost use Rattle.snapshot_readers.specs.Guides.{GuideGets};
 ghost use Rattle.snapshot_readers.specs.Viewing.{CanShow};
 

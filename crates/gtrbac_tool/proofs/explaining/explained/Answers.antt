@@ -3,7 +3,7 @@ use Rattle.gtrbac_model.specs.History.{Legal}
 use Rattle.gtrbac_model.specs.Safety.{IsSafe}
 use Rattle.policy_words.specs.Naming.{NamedPolicy}
 use Rattle.core_machine.specs.Books.{model_in}
-use Rattle.gtrbac_tool.proofs.explaining.explain.Goals as goal
+use Rattle.gtrbac_tool.proofs.explaining.explained.Goals as goal
 
 pub accept-requires-clause-legal : goal.accept-requires-clause-legal
 accept-requires-clause-legal c =
