@@ -21,7 +21,7 @@ use Rattle.time_engine.specs.Traces.{model_of, Ascends, AreClosedBy}
 use Rattle.core_machine.specs.Books.{HasBases}
 use Rattle.policy_words.specs.declared.parts.NamedEvent.{NamedEvent}
 use Rattle.why_check.specs.Certificates.{Listed, Accepts}
-use Rattle.gtrbac_tool.specs.Listing.{AreListings, AreSettled, EndsBy}
+use Rattle.gtrbac_tool.specs.Listing.{AreListings, AreSettled, OnlyLastReaches}
 use Rattle.gtrbac_tool.specs.Standing.{closed_at, made_before, standing_line, certificate_line, TellsWhy}
 
 -- the set of an instant that the trace has
@@ -127,7 +127,7 @@ past_all t c cs s le =
     λ i. if past i then made_before t cs (after c.set s) else s
 
 -- where a trace ascends up to an instant, all but its last set are before it
-pub ends_by : (cs : List ClosedSet) (low t : ℕ) → Ascends low cs → AreClosedBy t cs → EndsBy t cs
+pub ends_by : (cs : List ClosedSet) (low t : ℕ) → Ascends low cs → AreClosedBy t cs → OnlyLastReaches t cs
 ends_by [] low t a ends = tt
 ends_by (c ∷ cs) low t a ends = (none_left cs a.1 ends.1, ends_by cs c.at t a.1 ends.1)
   where
@@ -136,7 +136,7 @@ ends_by (c ∷ cs) low t a ends = (none_left cs a.1 ends.1, ends_by cs c.at t a.
     none_left (d ∷ ds) up by le = absurd (omega (arith, up.0, by.0, le))
 
 -- a set of such a trace, and the status that is turned to that after it where it is before the instant
-module _ (rules : List TriggerView) (t : ℕ) (c : ClosedSet) (cs : List ClosedSet) (s s' : Status) (ends : EndsBy t (c ∷ cs))
+module _ (rules : List TriggerView) (t : ℕ) (c : ClosedSet) (cs : List ClosedSet) (s s' : Status) (ends : OnlyLastReaches t (c ∷ cs))
     (turned : (f : Fluent) → s' f ≡ cond (nat_lt c.at t) (after c.set s f) (s f)) where
   pub still_made : made_before t cs s' ≡ made_before t (c ∷ cs) s
   still_made =

@@ -50,9 +50,9 @@ AreSettled rules s [] = Unit {0}
 AreSettled rules s (c ∷ cs) = Settled rules c.base s c.set × AreSettled rules (after c.set s) cs
 
 -- all but the last are before the instant
-abbrev pub EndsBy : ℕ → List ClosedSet → Type 0
-EndsBy t [] = Unit {0}
-EndsBy t (c ∷ cs) = (t ≤ c.at → cs ≡ []) × EndsBy t cs
+abbrev pub OnlyLastReaches : ℕ → List ClosedSet → Type 0
+OnlyLastReaches t [] = Unit {0}
+OnlyLastReaches t (c ∷ cs) = (t ≤ c.at → cs ≡ []) × OnlyLastReaches t cs
 
 -- the listing is of the instant and of the set, and each of its events is supported by those before
 -- it

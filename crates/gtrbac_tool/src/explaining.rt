@@ -12,7 +12,7 @@ ghost use Rattle.gtrbac_model.specs.WholePolicy.{has_cause};
 ghost use Rattle.trigger_rules.specs.Indexed.{with_event, with_signal};
 ghost use Rattle.why_check.specs.Certificates.{Accepts};
 ghost use Rattle.why_check.specs.Standing.{stands_in};
-ghost use Rattle.gtrbac_tool.specs.Listing.{AddsListing, AreListings, AreSettled, EndsBy, Tracks, raises_next, next_head, with_head, waiting_with};
+ghost use Rattle.gtrbac_tool.specs.Listing.{AddsListing, AreListings, AreSettled, OnlyLastReaches, Tracks, raises_next, next_head, with_head, waiting_with};
 ghost use Rattle.gtrbac_tool.specs.Standing.{made_before};
 
 use crate::joined::Joined;
@@ -93,7 +93,7 @@ fn listings(
 ) -> Result<Explanation, Memory>
     requires caused { list_all has_cause rules.now ≡ true }
     requires settled { AreSettled rules.now (has opening.now.set) trace.now }
-    requires ends { EndsBy now trace.now }
+    requires ends { OnlyLastReaches now trace.now }
     ensures cert { IfOk result
         (λ it. AreListings rules.now (has opening.now.set) trace.now it.cert) }
     ensures before { IfOk result (λ it. (f : FluentOf) → has it.before.set f

@@ -33,12 +33,12 @@ abbrev pub peak_in : (Fluent → Option Sides) → Event → Option ℕ
 peak_in sides e = side e.on (sides e.fluent)
 
 -- where a fluent stands among the first so many roles, if it stands there
-abbrev pub place_of : ℕ → Fluent → Option ℕ
-place_of many (Enabled r) = if nat_lt r.0 many then Some r.0 else None
-place_of many (Assigned u r) = None
-place_of many (Granted p r) = None
-place_of many (Limit l) = None
-place_of many (Edge n) = None
+abbrev pub role_place : ℕ → Fluent → Option ℕ
+role_place many (Enabled r) = if nat_lt r.0 many then Some r.0 else None
+role_place many (Assigned u r) = None
+role_place many (Granted p r) = None
+role_place many (Limit l) = None
+role_place many (Edge n) = None
 
 -- the sides at the place in the row, where there is one, and else those beside the row
 abbrev pub sides_at : List Sides → Option Sides → Option ℕ → Option Sides
@@ -47,7 +47,7 @@ sides_at row beside (Some n) = slice_get row n
 
 -- the sides that the table has of a fluent
 abbrev pub sides_in : SideTable → Fluent → Option Sides
-sides_in t f = sides_at t.roles.items (get fluent_eq t.others f) (place_of (length t.roles.items) f)
+sides_in t f = sides_at t.roles.items (get fluent_eq t.others f) (role_place (length t.roles.items) f)
 
 -- whether the converse with this peak, or none, blocks an event at priority p
 abbrev pub beaten_from : Bool → ℕ → Option ℕ → Bool

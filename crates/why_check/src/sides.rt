@@ -6,7 +6,7 @@ ghost use Rattle.gt_base.specs.declared.events.Fluent.{Fluent as FluentOf};
 ghost use Rattle.gt_base.specs.Orders.{fluent_eq};
 ghost use Rattle.gtrbac_model.specs.Same.{same_event};
 ghost use Rattle.indexmap.specs.IndexMap.{get};
-ghost use Rattle.why_check.specs.Peaks.{peak_with, peak_in, place_of, side, sides_in, sides_with};
+ghost use Rattle.why_check.specs.Peaks.{peak_with, peak_in, role_place, side, sides_in, sides_with};
 
 use gt_base::{Event, Fluent, MAX_ROLES, Memory};
 use indexmap::IndexMap;
@@ -95,7 +95,7 @@ fn no_others(alloc: Global, many: usize) -> Result<IndexMap<Fluent, Sides>, Memo
 
 /// Where the fluent stands in the row of the roles, if it stands there.
 fn place(roles: &[Sides], f: Fluent) -> Option<usize>
-    ensures place { result ≡ place_of (length roles.now) f }
+    ensures place { result ≡ role_place (length roles.now) f }
     ensures within { IfSome result (λ n. n < length roles.now) }
 {
     match f {

@@ -8,7 +8,7 @@ use Rattle.gtrbac_model.specs.WholePolicy.{has_cause}
 use Rattle.instant_bases.specs.Timelines.{ClosedSet}
 use Rattle.policy_words.specs.Naming.{NamedPolicy}
 use Rattle.time_engine.specs.Traces.{AreClosedBy}
-use Rattle.gtrbac_tool.specs.Listing.{AreListings, AreSettled, EndsBy}
+use Rattle.gtrbac_tool.specs.Listing.{AreListings, AreSettled, OnlyLastReaches}
 use Rattle.gtrbac_tool.specs.Standing.{made_before}
 use Rattle.gtrbac_tool.proofs.LastInstant.{ends_by}
 use Rattle.gtrbac_tool.proofs.ListingTrace.{accepts_listings, all_settled, if_ok}
@@ -47,8 +47,8 @@ pub listings-requires-clause-ends : goal.listings-requires-clause-ends
 listings-requires-clause-ends c =
     let at : After-as_slice = (goal.at.listings-requires-clause-ends c).After-as_slice in
     let b = c.args.book.now in
-    subst (λ n. EndsBy n c.as_slice.result.now) (sym c.now-now.ensures)
-    (subst (λ (trace : List ClosedSet). EndsBy (now_of b.birth b.entries) trace) (sym (trace_is at))
+    subst (λ n. OnlyLastReaches n c.as_slice.result.now) (sym c.now-now.ensures)
+    (subst (λ (trace : List ClosedSet). OnlyLastReaches (now_of b.birth b.entries) trace) (sym (trace_is at))
     (ends_by b.trace b.birth (now_of b.birth b.entries) c.trace.ensures.ascends (ends at)))
 
 pub returns-clause-cert : goal.returns-clause-cert

@@ -5,7 +5,7 @@ use Rattle.gt_base.specs.Sets.{has}
 use Rattle.gtrbac_model.specs.Conflict.{Status}
 use Rattle.instant_bases.specs.Timelines.{ClosedSet}
 use Rattle.why_check.specs.Certificates.{Listed}
-use Rattle.gtrbac_tool.specs.Listing.{AreListings, AreSettled, EndsBy}
+use Rattle.gtrbac_tool.specs.Listing.{AreListings, AreSettled, OnlyLastReaches}
 use Rattle.gtrbac_tool.specs.Standing.{made_before}
 use Rattle.gtrbac_tool.proofs.LastInstant.{still_made, then_listings, then_settled}
 use Rattle.gtrbac_tool.proofs.ListingTrace.{goes_on_from}
@@ -45,7 +45,7 @@ loop-closed-preserved c =
     let is_left : drop c.loop-closed.closed-index trace ≡ item ∷ rest = left (goal.at.loop-closed-preserved c).After-closed-item in
     let s' : Status = has c.add.new.status.set in
     let turned = c.in_ok-add.ensures.turned in
-    let ends : EndsBy c.args.now (item ∷ rest) = subst (EndsBy c.args.now) is_left c.loop-closed.invariant.ends in
+    let ends : OnlyLastReaches c.args.now (item ∷ rest) = subst (OnlyLastReaches c.args.now) is_left c.loop-closed.invariant.ends in
     record {
       settled = then_settled rules c.args.now item rest s s' ends turned (subst (AreSettled rules s) is_left c.loop-closed.invariant.settled).1;
       so_far = λ ls a.

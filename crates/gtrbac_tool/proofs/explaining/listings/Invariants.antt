@@ -1,7 +1,7 @@
 use Rattle.std.proofs.Common.{◌≡◌, List, ◌++◌, drop}
 use Rattle.gt_base.specs.Sets.{has}
 use Rattle.why_check.specs.Certificates.{Listed}
-use Rattle.gtrbac_tool.specs.Listing.{AreListings, AreSettled, EndsBy}
+use Rattle.gtrbac_tool.specs.Listing.{AreListings, AreSettled, OnlyLastReaches}
 use Rattle.gtrbac_tool.specs.Standing.{made_before}
 use Rattle.gtrbac_tool.proofs.explaining.listings.Given as goal
 
@@ -12,6 +12,6 @@ invariant-loop-closed l =
     record {
       settled : AreSettled l.rules (has l.before.set) (drop l.closed-index l.trace);
       so_far : (ls : List Listed) → AreListings l.rules (has l.before.set) (drop l.closed-index l.trace) ls → AreListings l.rules (has l.opening.set) l.trace (l.cert ++ ls);
-      ends : EndsBy l.now (drop l.closed-index l.trace);
+      ends : OnlyLastReaches l.now (drop l.closed-index l.trace);
       made : made_before l.now (drop l.closed-index l.trace) (has l.before.set) ≡ made_before l.now l.trace (has l.opening.set);
     }
