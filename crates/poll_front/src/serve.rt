@@ -98,7 +98,7 @@ fn take_next<M: Machine, R: Wait, P: Ports, C: Clock, G: Gate>(
                 held: 0,
             };
             let line = state.framer.line();
-            let told = act_by(&mut clerk, &mut state.talk, &mut state.room, line);
+            let told = act_by(&mut clerk, &mut state.talk, &mut state.room, &[], 0, line);
             counters.calls = state.talk.calls;
             count(&mut state.talk, &told);
             tell(ports, server.conn, state, told)
