@@ -1,4 +1,4 @@
-use Rattle.std.proofs.Common.{◌≡◌, ◌<◌, ℕ, zero, suc, List, [], ◌∷◌, ◌++◌, length, slice_index_or, sym, subst, All, arith}
+use Rattle.std.proofs.Common.{zero, suc, [], ◌∷◌, sym, subst, All, arith}
 use Rattle.std.proofs.lemmas.List.Elements.{All-append}
 use Rattle.connection_laws.specs.declared.ahead.ReadLine.{ReadLine}
 use Rattle.connection_laws.specs.Ahead.{IsRead}

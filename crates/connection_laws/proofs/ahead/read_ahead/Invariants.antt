@@ -1,4 +1,4 @@
-use Rattle.std.proofs.Common.{◌-◌, ◌≤◌, length}
+use Rattle.std.proofs.Common.{◌-◌, length}
 use Rattle.connection_laws.specs.Ahead.{AreRead}
 use Rattle.connection_laws.proofs.ahead.read_ahead.Given as goal
 
