@@ -15,7 +15,7 @@ use Rattle.turn_lock.proofs.Totals.{each-append}
 use Rattle.locked_history.specs.Fronts.{by, Lands}
 use Rattle.locked_history.specs.declared.faults.DeskFault.{DeskFault}
 use Rattle.locked_history.specs.declared.faults.DeskFault.TheVariants.{Worn, StepsFull, Memory}
-use Rattle.connection_laws.specs.Connection.{is_who, part_of, IsTick, Answers, placed}
+use Rattle.connection_laws.specs.Connection.{is_who, part_of, IsTick, AnswersAfterTicks, placed}
 use Rattle.connection_laws.proofs.Places.{own_entry, placed_more, stands_at}
 use Rattle.connection_laws.proofs.Timing.{asked_in_time}
 use Rattle.connection_laws.specs.Turns.{answer_of, Grows, AreMine, AskedTurn}
@@ -60,7 +60,7 @@ module _ {M : Type 0} (first : List Entry) (legal : List Entry → Type 0) (now 
       subst (λ (n : ℕ). Told n (Ok reply)) same
       (accepted_here ticks reply front before (subst (λ (n : ℕ). Each (IsTick (by n conn) reading) ticks) (sym same) each) g fair late l last good)
 
-  answers_refused : (fault : DeskFault) (birth n : ℕ) (ticks : List Entry) → (fault ≡ StepsFull → MAX_STEPS ≤ length c.seen) → Answers birth (by a.number conn) c.seen reading actor request (answer_of (Err fault)) n ticks ticks
+  answers_refused : (fault : DeskFault) (birth n : ℕ) (ticks : List Entry) → (fault ≡ StepsFull → MAX_STEPS ≤ length c.seen) → AnswersAfterTicks birth (by a.number conn) c.seen reading actor request (answer_of (Err fault)) n ticks ticks
   answers_refused (Worn draws) birth n ticks full = refl
   answers_refused StepsFull birth n ticks full = (refl, full refl)
   answers_refused Memory birth n ticks full = refl

@@ -13,11 +13,11 @@ use Rattle.request_text.specs.declared.lines.Line.{Line}
 use Rattle.request_text.specs.declared.lines.Line.TheVariants.{Silent, At, Be, Ask}
 use Rattle.request_text.specs.declared.lines.LineFault.{LineFault}
 use Rattle.request_text.specs.Phrases.{read_line}
-use Rattle.connection_laws.specs.Lines.{Acted, actor_after, readings_of, entries_of, says_request, one_where, requests_in}
-use Rattle.connection_laws.specs.Connection.{is_who, Gets, AreActed, IsTimed, placed}
+use Rattle.connection_laws.specs.Lines.{Acted, actor_after, readings_of, entries_of, says_request, one_where, requests_in, GetsBy}
+use Rattle.connection_laws.specs.Connection.{is_who, Asks, AreActed, IsTimed, placed}
 use Rattle.connection_laws.specs.Services.{Service}
 use Rattle.connection_laws.specs.Turns.{Grows, AreMine}
-use Rattle.connection_laws.specs.Attending.{StepsBy, Steps}
+use Rattle.connection_laws.specs.Attending.{StepsBy, StepsThrough}
 use Rattle.connection_laws.specs.Clerks.{ClerkView, ClerkAsks}
 use Rattle.connection_laws.proofs.Growing.{grown_none, grown_twice, grown_within}
 use Rattle.connection_laws.proofs.Longer.{acted_longer}
@@ -26,7 +26,7 @@ use Rattle.connection_laws.proofs.Places.{placed_more}
 module _ {M : Type 0} (v : Service) (who : Who) where
   -- what one line comes to
   pub record ClerkStep (a b : ClerkView M) (said : Result Line LineFault) (actor : Actor) (x : Acted) : Type 0 where
-    pub gets : (birth : ℕ) → IsTimed birth v.legal v.now → Gets birth who b.pass.seen said actor (placed who v.first a.pass.own) x
+    pub gets : (birth : ℕ) → IsTimed birth v.legal v.now → GetsBy (Asks birth who b.pass.seen) said actor (placed who v.first a.pass.own) x
     pub mine : AreMine who x.entries
     pub grows : Grows a.pass b.pass x.entries (2 * length x.readings)
     pub reads : Reads a.clock b.clock x.readings
@@ -34,7 +34,7 @@ module _ {M : Type 0} (v : Service) (who : Who) where
 
   -- a line that asks nothing leaves the worker as it is
   aside : (a b : ClerkView M) (said : Result Line LineFault) (actor : Actor) (x : Acted) → b ≡ a → x.readings ≡ [] → x.entries ≡ [] → one_where (says_request said) ≡ 0
-      → ((birth : ℕ) → Gets birth who b.pass.seen said actor (placed who v.first a.pass.own) x) → ClerkStep a b said actor x
+      → ((birth : ℕ) → GetsBy (Asks birth who b.pass.seen) said actor (placed who v.first a.pass.own) x) → ClerkStep a b said actor x
   aside a b said actor x same none empty calls gets =
       record {
         gets = λ birth timed. gets birth;
@@ -84,7 +84,7 @@ module _ {M : Type 0} (v : Service) (who : Who) where
         grows = grown_within o.pass p.pass (entries_of before ++ x.entries) (2 * length (readings_of before) + 2 * length x.readings) (2 * length (readings_of before ++ x.readings)) (omega (arith, lengths)) h;
         fits = λ birth timed. (
           acted_longer np birth who m.pass.seen p.pass.seen s.grows.seen (placed who v.first o.pass.own) before (g.fits birth timed),
-          subst (λ (n : ℕ). Gets birth who p.pass.seen said (actor_after np before) n x) place (s.gets birth timed),
+          subst (λ (n : ℕ). GetsBy (Asks birth who p.pass.seen) said (actor_after np before) n x) place (s.gets birth timed),
         );
         mine = each-append (λ (e : Entry). is_who who e ≡ true) (entries_of before) x.entries g.mine s.mine;
         reads = Reads-trans o.clock m.clock p.clock (readings_of before) x.readings g.reads s.reads;
@@ -92,7 +92,7 @@ module _ {M : Type 0} (v : Service) (who : Who) where
       }
 
   -- a worker whose steps these are
-  pub goes_of : (np : NamedPolicy) (o p : ClerkView M) (acted : List Acted) → Steps np (ClerkAsks v who) o p acted → ClerkGoes np o p acted
+  pub goes_of : (np : NamedPolicy) (o p : ClerkView M) (acted : List Acted) → StepsThrough np (ClerkAsks v who) o p acted → ClerkGoes np o p acted
   goes_of np o p [] steps = subst (λ (k : ClerkView M). ClerkGoes np o k []) (sym steps) (goes_none np o)
   goes_of np o p (x ∷ before) steps =
       goes_next np o steps.0 p x before (goes_of np o steps.0 before steps.1) (step_of np steps.0 p (read_line np Nobody false x.line) (actor_after np before) x steps.2)

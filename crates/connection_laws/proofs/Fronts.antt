@@ -13,9 +13,9 @@ use Rattle.request_text.specs.declared.lines.Line.{Line}
 use Rattle.request_text.specs.declared.lines.Line.TheVariants.{Silent, At, Be, Ask}
 use Rattle.request_text.specs.declared.lines.LineFault.{LineFault}
 use Rattle.request_text.specs.Phrases.{read_line}
-use Rattle.connection_laws.specs.Lines.{Answer, shown, view_only, silence, agreed, bad, accepted, no_memory, no_steps, worn, Acted, actor_by, actor_after, reply_lines, readings_of, entries_of}
-use Rattle.connection_laws.specs.Connection.{is_who, part_of, IsTick, Answers, Gets, AreActed}
-use Rattle.connection_laws.specs.Front.{before_own, answers_of, AfterTicks, Answered, Requested, LineGets, Get}
+use Rattle.connection_laws.specs.Lines.{Answer, shown, view_only, silence, agreed, bad, accepted, no_memory, no_steps, worn, Acted, actor_by, actor_after, reply_lines, readings_of, entries_of, GetsBy}
+use Rattle.connection_laws.specs.Connection.{is_who, part_of, IsTick, AnswersAfterTicks, Asks, AreActed}
+use Rattle.connection_laws.specs.Front.{before_own, answers_of, AfterTicks, AnsweredAndThen, Requested, LineGets, Get}
 use Rattle.connection_laws.proofs.Places.{own_entry}
 
 abbrev step_of : Who → Entry → List Entry → ℕ → Bool → List Entry
@@ -48,8 +48,8 @@ after_ticks who bound P n (t ∷ ts) xs all p = inr (all.0.0, all.0.1, after_tic
 
 module _ (np : NamedPolicy) (birth : ℕ) (who : Who) (h : List Entry) where
   -- what follows the ticks of a request
-  answered : (reading : ℕ) (actor : Actor) (request : Request) (answer : Answer) (n : ℕ) (ticks entries more : List Entry) (next : ℕ → List Entry → Type 0) → Answers birth who h reading actor request answer n ticks entries
-      → next (n + length entries) more → (rest : List Entry) × (entries ≡ ticks ++ rest) × Answered np birth who h reading actor request answer next (n + length ticks) (rest ++ more)
+  answered : (reading : ℕ) (actor : Actor) (request : Request) (answer : Answer) (n : ℕ) (ticks entries more : List Entry) (next : ℕ → List Entry → Type 0) → AnswersAfterTicks birth who h reading actor request answer n ticks entries
+      → next (n + length entries) more → (rest : List Entry) × (entries ≡ ticks ++ rest) × AnsweredAndThen np birth who h reading actor request answer next (n + length ticks) (rest ++ more)
   answered reading actor request (accepted reply) n ticks entries more next a go_on =
       let e : Entry = asked who actor request reply in
       let s = a.1 in
@@ -80,7 +80,7 @@ module _ (np : NamedPolicy) (birth : ℕ) (who : Who) (h : List Entry) where
   bare next actor a readings n more empty go_on = subst (λ (k : ℕ). next actor readings k more) (ap (λ (es : List Entry). n + length es) empty ∙ add-zero n) go_on
 
   -- one line and those behind it
-  line_gets : (said : Result Line LineFault) (next : Actor → List ℕ → ℕ → List Entry → Type 0) (actor : Actor) (a : Acted) (readings : List ℕ) (n : ℕ) (more : List Entry) → Gets birth who h said actor n a
+  line_gets : (said : Result Line LineFault) (next : Actor → List ℕ → ℕ → List Entry → Type 0) (actor : Actor) (a : Acted) (readings : List ℕ) (n : ℕ) (more : List Entry) → GetsBy (Asks birth who h) said actor n a
       → next (actor_by said actor) readings (n + length a.entries) more → LineGets np birth who h said a.answer next actor (a.readings ++ readings) n (a.entries ++ more)
   line_gets (Ok Silent) next actor a readings n more g go_on = quiet (Ok Silent) silence next actor a readings n more g.0 g.1 g.2 (bare next actor a readings n more g.2 go_on)
   line_gets (Ok (Be x)) next actor a readings n more g go_on = quiet (Ok (Be x)) agreed next actor a readings n more g.0 g.1 g.2 (bare next x a readings n more g.2 go_on)
@@ -88,9 +88,9 @@ module _ (np : NamedPolicy) (birth : ℕ) (who : Who) (h : List Entry) where
   line_gets (Err f) next actor a readings n more g go_on = quiet (Err f) (bad f) next actor a readings n more g.0 g.1 g.2 (refl, bare next actor a readings n more g.2 go_on)
   line_gets (Ok (Ask request)) next actor a readings n more g go_on =
       let r = answered g.0 actor request a.answer n g.1 a.entries more (next actor readings) g.4 go_on in
-      let there = after_ticks who g.0 (Answered np birth who h g.0 actor request a.answer (next actor readings)) n g.1 (r.0 ++ more) g.3 r.2 in
+      let there = after_ticks who g.0 (AnsweredAndThen np birth who h g.0 actor request a.answer (next actor readings)) n g.1 (r.0 ++ more) g.3 r.2 in
       subst (λ (rs : List ℕ). Requested np birth who h request a.answer (next actor) actor (rs ++ readings) n (a.entries ++ more)) (sym g.2)
-      (subst (λ (es : List Entry). AfterTicks who g.0 (Answered np birth who h g.0 actor request a.answer (next actor readings)) n es) (sym (append_assoc g.1 r.0 more) ∙ ap (λ (l : List Entry). l ++ more) (sym r.1)) there)
+      (subst (λ (es : List Entry). AfterTicks who g.0 (AnsweredAndThen np birth who h g.0 actor request a.answer (next actor readings)) n es) (sym (append_assoc g.1 r.0 more) ∙ ap (λ (l : List Entry). l ++ more) (sym r.1)) there)
 
   -- the acted lines and those behind them
   all_get : (older : ℕ) (acted : List Acted) (ls : List (List ℕ)) (as' : List Answer) (readings : List ℕ) (more : List Entry) → AreActed np birth who h older acted

@@ -9,13 +9,13 @@ use Rattle.gt_base.specs.Machines.{asked}
 use Rattle.policy_words.specs.Naming.{NamedPolicy}
 use Rattle.connection_laws.specs.declared.ends.LinkEnd.{LinkEnd}
 use Rattle.connection_laws.specs.Lines.{Answer, shown, view_only, silence, agreed, bad, accepted, no_memory, no_steps, worn, Acted}
-use Rattle.connection_laws.specs.Connection.{Answers, Asks, AreActed, Conn}
+use Rattle.connection_laws.specs.Connection.{AnswersAfterTicks, Asks, AreActed, Conn}
 use Rattle.connection_laws.proofs.Linking.{acted_so, link_so}
 use Rattle.connection_laws.proofs.Prefixes.{prefix_trans, prefix_length}
 
 module _ (np : NamedPolicy) (birth : ℕ) (who : Who) (h h' : List Entry) (more : IsPrefix h h') where
   answers_longer : (reading : ℕ) (actor : Actor) (request : Request) (answer : Answer) (n : ℕ) (ticks entries : List Entry)
-      → Answers birth who h reading actor request answer n ticks entries → Answers birth who h' reading actor request answer n ticks entries
+      → AnswersAfterTicks birth who h reading actor request answer n ticks entries → AnswersAfterTicks birth who h' reading actor request answer n ticks entries
   answers_longer reading actor request (accepted reply) n ticks entries a =
       let s = a.1 in (a.0, (s.0, prefix_trans (s.0 ++ asked who actor request reply ∷ []) h h' s.1 more, s.2, s.3))
   answers_longer reading actor request no_memory n ticks entries a = a

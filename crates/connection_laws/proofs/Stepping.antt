@@ -15,7 +15,7 @@ use Rattle.connection_laws.specs.declared.talk.LineAnswer.{LineAnswer}
 use Rattle.connection_laws.specs.declared.ends.LinkEnd.{LinkEnd}
 use Rattle.connection_laws.specs.declared.ends.LinkEnd.TheVariants.{Ended, ReadFault, WriteFault, Spent, Worn}
 use Rattle.connection_laws.specs.Lines.{Answer, Acted, actor_after}
-use Rattle.connection_laws.specs.Attending.{EndsBy, spot, StepsBy, Steps, Attends, ActsBy}
+use Rattle.connection_laws.specs.Attending.{EndsBy, spot, StepsBy, StepsThrough, Attends, ActsBy}
 
 -- Over what is seen of who answers, what of it stays, and that a request which leaves it so makes
 -- this of what is seen
@@ -32,7 +32,7 @@ module _ {S T : Type 0} (view : S → T) (Same : S → S → Type 0) (self : (o 
   step_so m p (Ok (At t)) actor a same s = absurd s
   step_so m p (Err f) actor a same s = let x = aside m p same s.0 in (x.0, (x.1, s.1, s.2, s.3))
 
-  pub steps_so : (p : S) (acted : List Acted) → Steps np P o p acted → Same o p × Steps np Q (view o) (view p) acted
+  pub steps_so : (p : S) (acted : List Acted) → StepsThrough np P o p acted → Same o p × StepsThrough np Q (view o) (view p) acted
   steps_so p [] s = (subst (λ (x : S). Same o x) (sym s) (self o), ap view s)
   steps_so p (a ∷ before) s =
       let x = steps_so s.0 before s.1 in
@@ -74,6 +74,6 @@ module _ {S T : Type 0} (view : S → T) (Same : S → S → Type 0) (self : (o 
 -- what each request keeps, all of them keep
 module _ {S : Type 0} (Keeps : S → S → Type 0) (self : (a : S) → Keeps a a) (twice : (a b c : S) → Keeps a b → Keeps b c → Keeps a c) (np : NamedPolicy) (P : S → S → Actor → Request → Answer → List ℕ → List Entry → Type 0)
     (one : (a b : S) (actor : Actor) (request : Request) (answer : Answer) (readings : List ℕ) (entries : List Entry) → P a b actor request answer readings entries → Keeps a b) where
-  pub steps_keep : (o p : S) (acted : List Acted) → Steps np P o p acted → Keeps o p
+  pub steps_keep : (o p : S) (acted : List Acted) → StepsThrough np P o p acted → Keeps o p
   steps_keep o p acted s =
       (steps_so (λ k. k) Keeps self np P P o (λ m p actor request answer readings entries same x. (twice o m p same (one m p actor request answer readings entries x), x)) p acted s).0

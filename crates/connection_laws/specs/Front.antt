@@ -37,22 +37,22 @@ AfterTicks who bound next n (e ∷ es) =
     next n (e ∷ es) ⊎ ((to : ℕ) × (e ≡ ticked who bound to) × AfterTicks who bound next (n + 1) es)
 
 module _ (np : NamedPolicy) (birth : ℕ) (who : Who) (h : List Entry) where
-  abbrev pub Answered : ℕ → Actor → Request → Answer → (ℕ → List Entry → Type 0) → ℕ → List Entry
-      → Type 0
-  Answered reading actor request (accepted reply) next n [] = ⊥
-  Answered reading actor request (accepted reply) next n (e ∷ es) =
+  abbrev pub AnsweredAndThen : ℕ → Actor → Request → Answer → (ℕ → List Entry → Type 0) → ℕ
+      → List Entry → Type 0
+  AnsweredAndThen reading actor request (accepted reply) next n [] = ⊥
+  AnsweredAndThen reading actor request (accepted reply) next n (e ∷ es) =
       (e ≡ asked who actor request reply) × (reading ≤ now_of birth (before_own who h n))
       × next (n + 1) es
-  Answered reading actor request no_memory next n es = next n es
-  Answered reading actor request no_steps next n es = (MAX_STEPS ≤ length h) × next n es
-  Answered reading actor request worn next n es = next n es
-  Answered reading actor request _ next n es = ⊥
+  AnsweredAndThen reading actor request no_memory next n es = next n es
+  AnsweredAndThen reading actor request no_steps next n es = (MAX_STEPS ≤ length h) × next n es
+  AnsweredAndThen reading actor request worn next n es = next n es
+  AnsweredAndThen reading actor request _ next n es = ⊥
 
   abbrev pub Requested : Request → Answer → (List ℕ → ℕ → List Entry → Type 0) → Actor → List ℕ → ℕ
       → List Entry → Type 0
   Requested request answer next actor [] n own = ⊥
   Requested request answer next actor (reading ∷ readings) n own =
-      AfterTicks who reading (Answered reading actor request answer (next readings)) n own
+      AfterTicks who reading (AnsweredAndThen reading actor request answer (next readings)) n own
 
   abbrev pub LineGets : Result Line LineFault → Answer → (Actor → List ℕ → ℕ → List Entry → Type 0)
       → Actor → List ℕ → ℕ → List Entry → Type 0

@@ -9,5 +9,6 @@ pub mod Services
 pub mod Turns
 pub mod Acting
 pub mod Rooms
+pub mod Ahead
 pub mod Attending
 pub mod Clerks

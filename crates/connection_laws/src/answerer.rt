@@ -9,12 +9,14 @@ ghost use Rattle.connection_laws.specs.Lines.{Answer};
 ghost use Rattle.connection_laws.specs.Desks.{IsNamedActor};
 ghost use Rattle.connection_laws.specs.Acting.{HasRoom};
 ghost use Rattle.connection_laws.specs.Rooms.{text_in, LendsRoom};
+ghost use Rattle.connection_laws.specs.Ahead.{AreRead};
 ghost use Rattle.connection_laws.specs.Attending.{IsPaced, AnswersOne, ActsBy};
 
+use crate::ahead::{ReadLine, line_at};
 use crate::talk::{LineAnswer, Talk};
 use gt_base::{Actor, List, Request};
 use policy_book::Policy;
-use request_text::{Line, read_line};
+use request_text::Line;
 
 /// Who answers the requests of a link, one after the other: a worker at the desk, or a viewer at
 /// its glass.
@@ -85,13 +87,17 @@ pub trait Answerer {
         ensures rests { rested self.new ≡ self.new };
 }
 
-/// Acts on a line, but for its reply: a line that asks is answered.
+/// Acts on a line, but for its reply: a line that asks is answered. Where it is the line at this
+/// place among those that were read ahead, it is not read again.
 pub fn act_by<A: Answerer>(
     answerer: &mut A,
     talk: &mut Talk,
     room: &mut List<u8>,
+    ahead: &[ReadLine<'_>],
+    place: usize,
     line: &[u8],
 ) -> LineAnswer
+    requires read { AreRead (A.named answerer.old) ahead.now }
     requires ready { A.ready answerer.old }
     requires actor { IsNamedActor (A.named answerer.old) talk.old.actor }
     requires room { HasRoom talk.old 1 }
@@ -102,7 +108,7 @@ pub fn act_by<A: Answerer>(
         (A.rested answerer.old) (A.rested answerer.new) talk.old talk.new line.now result }
     ensures lends { LendsRoom room.old room.new (text_in result) }
 {
-    match read_line(answerer.policy(), Actor::Nobody, false, line) {
+    match line_at(answerer.policy(), ahead, place, line) {
         Ok(Line::Ask(request)) => {
             talk.calls += 1;
             answerer.answer(talk.calls, talk.actor, request, room)

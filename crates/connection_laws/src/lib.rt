@@ -3,6 +3,7 @@
 #![tactic(auto)]
 
 mod acts;
+mod ahead;
 mod answerer;
 mod asks;
 mod clerk;
@@ -13,6 +14,7 @@ mod service;
 mod talk;
 
 pub use acts::{count, reply_of, take_back};
+pub use ahead::ReadLine;
 pub use answerer::{Answerer, act_by};
 pub use clerk::Clerk;
 pub use ends::{LinkEnd, Report};

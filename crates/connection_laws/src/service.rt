@@ -7,10 +7,12 @@ ghost use Rattle.gt_io.specs.Links.{WritesNothing};
 ghost use Rattle.policy_words.specs.Naming.{NamedPolicy};
 ghost use Rattle.connection_laws.specs.Lines.{Answer};
 ghost use Rattle.connection_laws.specs.Rooms.{text_in, TakesBack};
+ghost use Rattle.connection_laws.specs.Ahead.{AreRead};
 ghost use Rattle.connection_laws.specs.Acting.{IsTold, counted_talk, CanCount};
 ghost use Rattle.connection_laws.specs.Attending.{IsStart, IsUnheard, CanTake, StaysReady, Sent, spot, TakesBytes, Attends};
 
 use crate::acts::{count, reply_of, take_back};
+use crate::ahead::{ReadLine, read_ahead};
 use crate::answerer::{Answerer, act_by};
 use crate::ends::LinkEnd;
 use crate::talk::{LineAnswer, Talk};
@@ -26,6 +28,7 @@ pub struct Hearing {
     pub framer: Framer,
     pub talk: Talk,
     pub room: List<u8>,
+    alloc: Global,
 }
 
 impl Hearing {
@@ -45,6 +48,7 @@ impl Hearing {
                 calls,
             },
             room: List::new(alloc),
+            alloc,
         }
     }
 }
@@ -79,13 +83,17 @@ fn settle<L: Link>(
     }
 }
 
-/// Takes one more byte, and acts on the line that it ends.
-pub fn take_byte<A: Answerer, L: Link>(
+/// Takes one more byte, and acts on the line that it ends, the one at this place if it was read
+/// ahead.
+fn take_byte<A: Answerer, L: Link>(
     answerer: &mut A,
     link: &mut L,
     hearing: &mut Hearing,
+    ahead: &[ReadLine<'_>],
+    place: usize,
     byte: u8,
 ) -> Result<(), LinkEnd>
+    requires read { AreRead (A.named answerer.old) ahead.now }
     requires can { CanTake A.ready A.named answerer.old hearing.old.talk (L.traffic link.old)
         1 }
     ensures goes { TakesBytes (A.named answerer.old) A.asks A.wears
@@ -103,6 +111,8 @@ pub fn take_byte<A: Answerer, L: Link>(
                 answerer,
                 &mut hearing.talk,
                 &mut hearing.room,
+                ahead,
+                place,
                 hearing.framer.line(),
             );
             answerer.before_reply(&told);
@@ -116,7 +126,7 @@ pub fn take_byte<A: Answerer, L: Link>(
 }
 
 /// Takes on a piece of bytes, up to the line in which the service is cut off.
-pub fn take_bytes<A: Answerer, L: Link>(
+fn take_bytes<A: Answerer, L: Link>(
     answerer: &mut A,
     link: &mut L,
     hearing: &mut Hearing,
@@ -133,17 +143,20 @@ pub fn take_bytes<A: Answerer, L: Link>(
         (L.traffic link.old) (L.traffic link.new) (length piece.now) result }
     ensures rests { A.rested answerer.new ≡ answerer.new }
 {
+    let ahead = read_ahead(hearing.alloc, answerer.policy(), piece);
     answerer.begin_piece();
+    let mut place = 0usize;
     let mut at = 0;
     while at < piece.len() {
         let (_, rest) = piece.split_at(at);
         at += hearing.framer.push_front(rest);
         if at < piece.len() {
-            if let Err(end) = take_byte(answerer, link, hearing, piece[at]) {
+            if let Err(end) = take_byte(answerer, link, hearing, &ahead, place, piece[at]) {
                 answerer.end_piece();
                 return Err(end);
             }
             at += 1;
+            place = place.saturating_add(1);
         }
     }
     answerer.end_piece();

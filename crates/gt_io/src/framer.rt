@@ -1,7 +1,8 @@
 //! Cutting bytes into lines.
-ghost use Rattle.std.specs.Prelude.{◌≡◌, ◌+◌, ◌≤◌, ◌++◌, ◌∷◌, [], length, take, min};
+ghost use Rattle.std.specs.Prelude.{◌≡◌, ℕ, ◌+◌, ◌<◌, ◌≤◌, ◌==◌, ◌++◌, ◌∷◌, [], false, length, take, min, slice_index_or};
 ghost use Rattle.gt_io.specs.Frames.{blank_frame, begun, pushed, framed, PushesFront};
 
+use bstr::ByteSlice;
 use gt_base::LONGEST_LINE;
 use std::marker::Model;
 
@@ -58,6 +59,31 @@ fn put(line: &mut [u8], number: usize, b: u8) -> usize
     LONGEST_LINE + 1
 }
 
+/// Puts bytes behind the first `number` ones, as far as there is room, and answers how many there
+/// are now, up to 513.
+fn put_all(line: &mut [u8], number: usize, front: &[u8]) -> usize
+    requires number { number ≤ LONGEST_LINE + 1 }
+    requires room { length line.old ≡ LONGEST_LINE }
+    ensures number { result ≡ min (number + length front.now) (LONGEST_LINE + 1) }
+    ensures bytes { take result line.new ≡ take LONGEST_LINE (take number line.old ++ front.now) }
+{
+    let start = number.min(LONGEST_LINE);
+    let kept = front.len().min(LONGEST_LINE - start);
+    line[start..start + kept].copy_from_slice(&front[..kept]);
+    (number + front.len()).min(LONGEST_LINE + 1)
+}
+
+/// How many bytes stand in front of the first line feed.
+fn front_len(bytes: &[u8]) -> usize
+    ensures within { result ≤ length bytes.now }
+    ensures front { (k : ℕ) → k < result → (slice_index_or bytes.now k 0 == 10) ≡ false }
+{
+    match bytes.find_byte(b'\n') {
+        Some(end) => end,
+        None => bytes.len(),
+    }
+}
+
 impl Framer {
     /// A framer before the first byte.
     pub fn new() -> Framer
@@ -103,10 +129,10 @@ impl Framer {
         ensures within { result ≤ length bytes.now }
         ensures frame { PushesFront self.old bytes.now result self.new }
     {
-        let mut n = 0;
-        while n < bytes.len() && bytes[n] != b'\n' {
-            self.push(bytes[n]);
-            n += 1;
+        let n = front_len(bytes);
+        if n > 0 {
+            self.begin();
+            self.number = put_all(&mut self.line, self.number, &bytes[..n]);
         }
         n
     }

@@ -16,35 +16,35 @@ use Rattle.snapshot_readers.specs.declared.ends.Viewed.{Viewed}
 use Rattle.snapshot_readers.specs.declared.ends.ViewerEnd.{ViewerEnd}
 use Rattle.snapshot_readers.specs.declared.ends.ViewerEnd.TheVariants as viewer
 use Rattle.snapshot_readers.specs.Crew.{ViewsTo}
-use Rattle.snapshot_readers.specs.Seats.{Watcher, AreTold, HaveViewed}
+use Rattle.snapshot_readers.specs.Seats.{Watcher, AreToldOf, HaveViewed}
 use Rattle.gtrbac_daemon.specs.Crew.{Crewman, is_memory, is_door_fault, is_spent, ends_of, SomeOf, EachOf, DoorRose, HasFailed, LacksMemory, IsSpent, IsUnharmed, IsDone, IsSound}
 use Rattle.gtrbac_daemon.specs.Crew as crew
 use Rattle.gtrbac_daemon.specs.Headline.{HaveWorked}
-use Rattle.gtrbac_daemon.specs.Views.{status_by, as_work, as_worker}
+use Rattle.gtrbac_daemon.specs.Views.{views_status_by, as_work, as_worker}
 use Rattle.gtrbac_daemon.proofs.Somebody.{some_by, each_by, any_by, none_by, both_of, some_idle, each_idle}
 
 -- a crew's status is that without a number above the length
-pub plain : (m d p : Bool) → crew.status_by m d p ≡ status_by m d p false
+pub plain : (m d p : Bool) → crew.status_by m d p ≡ views_status_by m d p false
 plain true d p = refl
 plain false true p = refl
 plain false false true = refl
 plain false false false = refl
 
 -- the statuses that may be due where a door failed, where somebody is spent, and where neither is
-pub fails_by : (m d p l : Bool) → d ≡ true → (status_by m d p l ≡ 10) ⊎ (m ≡ true)
+pub fails_by : (m d p l : Bool) → d ≡ true → (views_status_by m d p l ≡ 10) ⊎ (m ≡ true)
 fails_by true d p l e = inr refl
-fails_by false d p l e = inl (λ i. status_by false (e i) p l)
+fails_by false d p l e = inl (λ i. views_status_by false (e i) p l)
 
-pub spends_by : (m d p l : Bool) → d ≡ false → p ≡ true → (status_by m d p l ≡ 11) ⊎ (m ≡ true)
+pub spends_by : (m d p l : Bool) → d ≡ false → p ≡ true → (views_status_by m d p l ≡ 11) ⊎ (m ≡ true)
 spends_by true d p l e f = inr refl
-spends_by false d p l e f = inl (λ i. status_by false (e i) (f i) l)
+spends_by false d p l e f = inl (λ i. views_status_by false (e i) (f i) l)
 
-pub well_by : (m d p l : Bool) → d ≡ false → p ≡ false → (status_by m d p l ≡ 8) ⊎ (status_by m d p l ≡ status_by false false false l)
+pub well_by : (m d p l : Bool) → d ≡ false → p ≡ false → (views_status_by m d p l ≡ 8) ⊎ (views_status_by m d p l ≡ views_status_by false false false l)
 well_by true d p l e f = inl refl
-well_by false d p l e f = inr (λ i. status_by false (e i) (f i) l)
+well_by false d p l e f = inr (λ i. views_status_by false (e i) (f i) l)
 
 -- 14 is that of a number above the length alone
-pub fourteen_says : (m d p l : Bool) → status_by m d p l ≡ 14 → (m ≡ false) × (d ≡ false) × (p ≡ false) × (l ≡ true)
+pub fourteen_says : (m d p l : Bool) → views_status_by m d p l ≡ 14 → (m ≡ false) × (d ≡ false) × (p ≡ false) × (l ≡ true)
 fourteen_says true d p l e = absurd (cc e)
 fourteen_says false true p l e = absurd (cc e)
 fourteen_says false false true l e = absurd (cc e)
@@ -131,7 +131,7 @@ module _ {L : Type 0} (traffic : L → Traffic) (np : NamedPolicy) (birth : ℕ)
   viewers_ended (v ∷ vs) [] all = absurd all
   viewers_ended (v ∷ vs) (w ∷ ws) all = (viewer_ended w.door.links v.door.tally w.door.tally w.served w.outcome all.0.1.cause, viewers_ended vs ws all.1)
 
-  pub told_viewed : (vs ws : List (Watcher L)) → AreTold traffic np birth h vs ws → HaveViewed traffic np birth vs ws
+  pub told_viewed : (vs ws : List (Watcher L)) → AreToldOf traffic np birth h vs ws → HaveViewed traffic np birth vs ws
   told_viewed [] [] t = tt
   told_viewed [] (w ∷ ws) t = absurd t
   told_viewed (v ∷ vs) [] t = absurd t
@@ -167,12 +167,12 @@ module _ {L : Type 0} (js ks : List (Crewman L)) where
   sound_told = none_by outcome is_door_fault IsSound (λ j k e. e) js ks
 
   -- where all are done, the status is told by a number above the length
-  pub done_told : EachOf IsDone js ks → (l : Bool) → status_by wants fails spends l ≡ status_by false false false l
+  pub done_told : EachOf IsDone js ks → (l : Bool) → views_status_by wants fails spends l ≡ views_status_by false false false l
   done_told all l =
       let m = none_by outcome is_memory IsDone (λ j k e. ap is_memory e) js ks all in
       let d = none_by outcome is_door_fault IsDone (λ j k e. ap is_door_fault e) js ks all in
       let p = none_by outcome is_spent IsDone (λ j k e. ap is_spent e) js ks all in
-      λ i. status_by (m i) (d i) (p i) l
+      λ i. views_status_by (m i) (d i) (p i) l
 
   -- those who have not begun are neither done nor failed nor spent, nor did one lack memory
   module _ (fresh : Each IsFresh ks) where
@@ -206,11 +206,11 @@ module _ {L : Type 0} (js ks : List (Crewman L)) where
 
     -- the cause of a status, each of five
     pub cause_by : (late : Option ℕ) (s : ℕ) (C : Type 0) → (s ≡ 0 → EachOf IsDone js ks → late ≡ None → C) → (s ≡ 8 → SomeOf LacksMemory js ks → C) → (s ≡ 10 → SomeOf HasFailed js ks → C)
-        → (s ≡ 11 → SomeOf IsSpent js ks → EachOf IsSound js ks → C) → ((n : ℕ) → s ≡ 14 → EachOf IsDone js ks → late ≡ Some n → C) → s ≡ status_by wants fails spends (is_some late) → C
+        → (s ≡ 11 → SomeOf IsSpent js ks → EachOf IsSound js ks → C) → ((n : ℕ) → s ≡ 14 → EachOf IsDone js ks → late ≡ Some n → C) → s ≡ views_status_by wants fails spends (is_some late) → C
     cause_by late s C done memory failed spent above =
         go wants fails spends late refl refl refl refl
       where
-        go : (m d p : Bool) (o : Option ℕ) → wants ≡ m → fails ≡ d → spends ≡ p → late ≡ o → s ≡ status_by m d p (is_some o) → C
+        go : (m d p : Bool) (o : Option ℕ) → wants ≡ m → fails ≡ d → spends ≡ p → late ≡ o → s ≡ views_status_by m d p (is_some o) → C
         go true d p o em ed ep eo is = memory is (memory_some em)
         go false true p o em ed ep eo is = failed is (some_by outcome is_door_fault HasEnded HasFailed (λ j k a e. failed_one (DoorRose j.door k.door) k.outcome a e) js ks all ed)
         go false false true o em ed ep eo is = spent is (some_by outcome is_spent HasEnded IsSpent (λ j k a e. e) js ks all ep) (each_by outcome is_door_fault HasEnded IsSound (λ j k a e. e) js ks all ed)

@@ -9,7 +9,7 @@ use Rattle.policy_commands.specs.Admitting.{IsEnded}
 use Rattle.policy_commands.specs.Ends.{EndView, seen_end}
 use Rattle.policy_commands.specs.Finding.{IsStoredText}
 use Rattle.policy_commands.specs.Printing.{IsPrinted}
-use Rattle.gtrbac_daemon.specs.Words.{Refuses}
+use Rattle.gtrbac_daemon.specs.Words.{KeepsFromServing}
 use Rattle.gtrbac_daemon.specs.Runs.{bare, IsUnserved, refused}
 use Rattle.gtrbac_daemon.proofs.Causing.{apart}
 
@@ -24,7 +24,7 @@ pub none_said : {A : Type 0} (f : A → List ℕ) (o : Option A) → o ≡ None 
 none_said f o e = ap (option_map f) e
 
 -- why a text that the shelf has is not served
-pub text_refused : (hard : Type 0) (contents : Contents) (name text : List ℕ) (end : End) → IsStoredText contents name text → IsEnded text end → Refuses hard contents (Some name) (seen_end end)
+pub text_refused : (hard : Type 0) (contents : Contents) (name text : List ℕ) (end : End) → IsStoredText contents name text → IsEnded text end → KeepsFromServing hard contents (Some name) (seen_end end)
 text_refused hard contents name text end is h = inr (text, is, h.told, h.cause)
 
 -- no text is judged to end with 4
@@ -32,7 +32,7 @@ pub judged_fine : (text : List ℕ) (end : End) → IsEnded text end → end.sta
 judged_fine text end h four = elim h.cause [ inl c ↦ apart end.status 2 4 refl c.0 four | inr c ↦ apart end.status 3 4 refl c.0 four ]
 
 -- what keeps the server from serving, by what the words say
-pub refused_as : (said name : Option (List ℕ)) → said ≡ name → (s : ℕ) (old new : Stock) (out out' : Output) (t : EndView) → Refuses (Rose old.hard_faults new.hard_faults) old.contents name t → (t.status ≡ 4 → Rose old.faults new.faults)
+pub refused_as : (said name : Option (List ℕ)) → said ≡ name → (s : ℕ) (old new : Stock) (out out' : Output) (t : EndView) → KeepsFromServing (Rose old.hard_faults new.hard_faults) old.contents name t → (t.status ≡ 4 → Rose old.faults new.faults)
     → (t.status ≡ 4) ⊎ (new.hard_faults ≡ old.hard_faults) → IsPrinted s t out.written out'.written out.faults out'.faults → IsUnserved said s (bare old out) (bare new out')
 refused_as said name e s old new out out' t cause failed steady printed =
     subst (λ (m : Option (List ℕ)). IsUnserved m s (bare old out) (bare new out')) (sym e)

@@ -13,7 +13,7 @@ use Rattle.connection_laws.specs.Services.{service}
 use Rattle.line_server.specs.declared.posts.Post.{Post}
 use Rattle.line_server.specs.declared.workers.Worker.{Worker}
 use Rattle.connection_laws.specs.Turns.{IsIdle}
-use Rattle.line_server.specs.Working.{at_post, Works, HasWorked as HasWorkedAt}
+use Rattle.line_server.specs.Working.{at_post, WorksThrough, HasWorkedAtPost}
 use Rattle.gtrbac_daemon.specs.Crew.{Crewman, crewman, crewmen, IsNew}
 use Rattle.gtrbac_daemon.proofs.PostLists.{passes_of, workers_of}
 use Rattle.gtrbac_daemon.specs.Headline.{HasWorked, HaveWorked}
@@ -46,7 +46,7 @@ module _ {M D C G L : Type 0} where
   module _ (traffic : L → Traffic) (readings : C → Option (ℕ → ℕ)) (doorway : D → Doorway L)
       (np : NamedPolicy) (first : List Entry) (legal : List Entry → Type 0) (now : List Entry → ℕ) (site : Site M) where
     abbrev pub PostWorked : Post M D C G L → Post M D C G L → Type 0
-    PostWorked x y = HasWorkedAt traffic (service np first legal now) site (at_post readings doorway x) (at_post readings doorway y)
+    PostWorked x y = HasWorkedAtPost traffic (service np first legal now) site (at_post readings doorway x) (at_post readings doorway y)
 
     abbrev pub AllWorked : List (Post M D C G L) → List (Post M D C G L) → Type 0
     AllWorked [] [] = Unit {0}
@@ -127,7 +127,7 @@ module _ {M D C G L : Type 0} where
         let X = crewman readings doorway x.worker in
         let Y = crewman readings doorway y.worker in
         has_worked traffic np legal now k h birth timed x.pass y.pass X Y (ap (λ (q : Holder M). q.own) is) (ap (λ (q : Holder M). q.draws) is) (a.number_is ∙ number)
-        (subst (λ (n : ℕ). Works traffic (service np [] legal now) n (record { pass = x.pass; clock = X.clock; door = X.door }) (record { pass = y.pass; clock = Y.clock; door = Y.door }) Y.served Y.outcome) number a.works) a.closed told
+        (subst (λ (n : ℕ). WorksThrough traffic (service np [] legal now) n (record { pass = x.pass; clock = X.clock; door = X.door }) (record { pass = y.pass; clock = Y.clock; door = Y.door }) Y.served Y.outcome) number a.works) a.closed told
 
     crew_told : (l : Lock M) (k n : ℕ) (zs zs' : List (Post M D C G L)) → passes_of zs ≡ newcomers l [] k n → AllWorked traffic readings doorway np [] legal now site zs zs' → Each (IsToldBy [] h) (passes_of zs')
         → HaveWorked traffic np birth h k (crewmen readings doorway (workers_of zs)) (crewmen readings doorway (workers_of zs'))

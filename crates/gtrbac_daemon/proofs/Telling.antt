@@ -11,7 +11,7 @@ use Rattle.poll_front.specs.declared.ends.Polled.{Polled}
 use Rattle.poll_front.specs.declared.front.RunEnd.{RunEnd}
 use Rattle.poll_front.specs.declared.front.RunEnd.TheVariants.{Stopped, PortFault, Enough, Worn, Memory}
 use Rattle.poll_front.specs.Tables.{RunsTo, AreUnwornEnds}
-use Rattle.gtrbac_daemon.specs.Runs.{Scene, IsDue, IsWell, Answers, Cause, unwritten, own, Runs}
+use Rattle.gtrbac_daemon.specs.Runs.{ServerScene, IsDueButFor, IsWell, ServerAnswers, ServerCause, unwritten, own, Runs}
 use Rattle.gtrbac_daemon.specs.Polls.{Polling, poll_status, PollHasServed, LacksLinkMemory, HasStopped, HasFailedToTell, IsUsedUp, PollCause, stopped, memory, failed, used_up, PollDues, poll_way}
 use Rattle.gtrbac_daemon.proofs.Causing.{written_says, eight_says}
 use Rattle.gtrbac_daemon.proofs.AnyRuns as Any
@@ -32,7 +32,7 @@ module _ (q : Polling) (few : q.ports.opened < MAX_LINKS) (calm : AreUnwornEnds 
   not_used_up (inl all) = absurd (omega (arith, few, all))
   not_used_up (inr x) = let off = calm x.0 x.1.0 x.1.1 in let no : true ≡ false = sym x.1.2 ∙ off in absurd (cc no)
 
-module _ (name : Option (List ℕ)) (s : ℕ) (a b : Scene Polling) where
+module _ (name : Option (List ℕ)) (s : ℕ) (a b : ServerScene Polling) where
   of_end : (draws : ℕ) (end : RunEnd) → RunsTo a.server.ports b.server.ports draws b.server.ends end → s ≡ poll_status end → (end ≡ Memory → LacksLinkMemory s a b) → PollCause s a b
   of_end draws Stopped r is lacks = stopped is r.0 r.1 r.2
   of_end draws PortFault r is lacks = failed is r.0 r.1
@@ -40,7 +40,7 @@ module _ (name : Option (List ℕ)) (s : ℕ) (a b : Scene Polling) where
   of_end draws Worn r is lacks = used_up is (inr r.2)
   of_end draws Memory r is lacks = memory is (inl (lacks refl))
 
-  of_served : (np : NamedPolicy) (birth : ℕ) → PollHasServed np birth s a b → Cause poll_way name s a b
+  of_served : (np : NamedPolicy) (birth : ℕ) → PollHasServed np birth s a b → ServerCause poll_way name s a b
   of_served np birth k =
       elim (written_says (poll_status k.end) _ s a.written b.written a.faults b.faults k.written) [
         | inl due ↦ own (of_end k.headline.worked.draws k.end k.headline.worked.runs due (λ e. (np, (birth, (k, e)))))
@@ -48,7 +48,7 @@ module _ (name : Option (List ℕ)) (s : ℕ) (a b : Scene Polling) where
       ]
 
   -- how a served run is due, by how it ended
-  due_by : (n : ℕ) (np : NamedPolicy) (birth : ℕ) (k : PollHasServed np birth s a b) → (poll_status k.end ≡ n) ⊎ (k.end ≡ Memory) → IsDue (LacksLinkMemory s a b) s a b n
+  due_by : (n : ℕ) (np : NamedPolicy) (birth : ℕ) (k : PollHasServed np birth s a b) → (poll_status k.end ≡ n) ⊎ (k.end ≡ Memory) → IsDueButFor (LacksLinkMemory s a b) s a b n
   due_by n np birth k (inl e) =
       elim (written_says (poll_status k.end) _ s a.written b.written a.faults b.faults k.written) [ inl due ↦ inl (inl (due ∙ e)) | inr f ↦ inl (inr f) ]
   due_by n np birth k (inr e) =
@@ -92,13 +92,13 @@ module _ (name : Option (List ℕ)) (s : ℕ) (a b : Scene Polling) where
         let at : slice_get [] x.0 ≡ Some x.1.0 = ap (λ (es : List Polled). slice_get es x.0) (sym (ap (λ (p : Polling). p.ends) same ∙ none)) ∙ x.1.1 in absurd (cc at)
 
     -- a cause that only a served run has
-    due : (n : ℕ) (Has : Type 0) → (b.server ≡ a.server → Has → ⊥) → ((draws : ℕ) (end : RunEnd) → RunsTo a.server.ports b.server.ports draws b.server.ends end → Has → (poll_status end ≡ n) ⊎ (end ≡ Memory)) → Has → Answers poll_way name s a b
-        → IsDue (LacksLinkMemory s a b) s a b n
+    due : (n : ℕ) (Has : Type 0) → (b.server ≡ a.server → Has → ⊥) → ((draws : ℕ) (end : RunEnd) → RunsTo a.server.ports b.server.ports draws b.server.ends end → Has → (poll_status end ≡ n) ⊎ (end ≡ Memory)) → Has → ServerAnswers poll_way name s a b
+        → IsDueButFor (LacksLinkMemory s a b) s a b n
     due n Has idle by h answers =
-        Any.by_served poll_way name s a b (IsDue (LacksLinkMemory s a b) s a b n) (λ same. idle same h)
+        Any.by_served poll_way name s a b (IsDueButFor (LacksLinkMemory s a b) s a b n) (λ same. idle same h)
         (λ np birth k. due_by n np birth k (by k.headline.worked.draws k.end k.headline.worked.runs h)) answers
 
-    dues_of : Answers poll_way name s a b → PollDues s a b
+    dues_of : ServerAnswers poll_way name s a b → PollDues s a b
     dues_of answers =
         record {
           stopped_is = λ h. due 0 (HasStopped b.server) idle_stop stops_by h answers;
@@ -106,9 +106,9 @@ module _ (name : Option (List ℕ)) (s : ℕ) (a b : Scene Polling) where
           used_up_is = λ h. due 11 (IsUsedUp b.server) idle_used uses_by h answers;
         }
 
-    complete_of : Answers poll_way name s a b → IsWell (λ p q. HasStopped q) name a b → (s ≡ 0) ⊎ (s ≡ 8)
+    complete_of : ServerAnswers poll_way name s a b → IsWell (λ p q. HasStopped q) name a b → (s ≡ 0) ⊎ (s ≡ 8)
     complete_of answers w =
         elim (due 0 (HasStopped b.server) idle_stop stops_by w.server answers) [ inl (inl zero_is) ↦ inl zero_is | inl (inr f) ↦ absurd (w.output f.1) | inr e ↦ inr e.0 ]
 
-    pub runs : Answers poll_way name s a b → b.texts ≡ a.texts → (name ≡ None → b ≡ record a { written = b.written; faults = b.faults }) → Runs poll_way name s a b
+    pub runs : ServerAnswers poll_way name s a b → b.texts ≡ a.texts → (name ≡ None → b ≡ record a { written = b.written; faults = b.faults }) → Runs poll_way name s a b
     runs = Any.runs poll_way name s a b of_served (λ k. memory k.0.0 (inr k)) dues_of complete_of

@@ -10,7 +10,7 @@ use Rattle.connection_laws.specs.Connection.{part_of, IsTimed}
 use Rattle.connection_laws.proofs.Places.{part_of-append, part_of-part, all_mine, none_mine}
 use Rattle.connection_laws.specs.Services.{service}
 use Rattle.line_server.specs.declared.ended.Served.{Served}
-use Rattle.line_server.specs.Working.{Tale, begun_of, owns_of, Works, AreServed as AreServedAt}
+use Rattle.line_server.specs.Working.{Tale, begun_of, owns_of, WorksThrough, AreServedSoFar}
 use Rattle.line_server.proofs.Completing.{complete_by}
 use Rattle.line_server.proofs.Links.{served_longer}
 use Rattle.connection_laws.proofs.Giving.{add_up}
@@ -19,7 +19,7 @@ use Rattle.gtrbac_daemon.specs.Headline.{AreServed, parts_from, HasWorked}
 
 module _ {L : Type 0} (traffic : L → Traffic) (np : NamedPolicy) (legal : List Entry → Type 0) (now : List Entry → ℕ) (w : ℕ) (h : List Entry) where
   abbrev At : ℕ → List (Served L) → List (Tale L) → Type 0
-  At c ss xs = AreServedAt traffic (service np [] legal now) w h [] c ss xs
+  At c ss xs = AreServedSoFar traffic (service np [] legal now) w h [] c ss xs
 
   -- links after the first c have no entry of connection k
   later_none : (c k : ℕ) (ss : List (Served L)) (xs : List (Tale L)) → k < c → At c ss xs → part_of (by w k) (owns_of xs) ≡ []
@@ -75,13 +75,13 @@ module _ {L : Type 0} (traffic : L → Traffic) (np : NamedPolicy) (legal : List
     as_many c (s ∷ ss) (x ∷ xs) all = let e = as_many (c + 1) ss xs all.1 in omega (arith, e)
 
     pub has_worked : {M : Type 0} (before after : Holder M) (a b : Crewman L) → before.own ≡ [] → before.draws ≡ 0 → after.number ≡ w
-        → Works traffic (service np [] legal now) w (record { pass = before; clock = a.clock; door = a.door }) (record { pass = after; clock = b.clock; door = b.door }) b.served b.outcome
+        → WorksThrough traffic (service np [] legal now) w (record { pass = before; clock = a.clock; door = a.door }) (record { pass = after; clock = b.clock; door = b.door }) b.served b.outcome
         → b.door.closed ≡ true → IsToldBy [] h after → HasWorked traffic np birth h w a b
     has_worked {M} before after a b fresh zero number k shut told =
         let xs : List (Tale L) = k.tales in
         let own_is : after.own ≡ owns_of xs = ap (λ (q : Holder M). q.own) k.worked.grows.after_is ∙ ap (λ (es : List Entry). es ++ owns_of xs) fresh in
         let whole : part w h ≡ owns_of xs = ap (λ (n : ℕ). part n h) (sym number) ∙ sym told.1 ∙ own_is in
-        let at : At 1 b.served xs = subst (λ (own : List Entry). AreServedAt traffic (service np [] legal now) w h own 1 b.served xs) fresh (served_longer traffic np [] legal now w after.seen h before.own 1 b.served xs told.0 k.worked.links) in
+        let at : At 1 b.served xs = subst (λ (own : List Entry). AreServedSoFar traffic (service np [] legal now) w h own 1 b.served xs) fresh (served_longer traffic np [] legal now w after.seen h before.own 1 b.served xs told.0 k.worked.links) in
         let links = links_told 1 b.served xs at (λ j far. sym (part_of-part (by w j) h) ∙ ap (part_of (by w j)) whole) in
         let high = k.worked.grows.draws_high in
         let long = ap (λ (es : List Entry). length es) whole in

@@ -10,7 +10,7 @@ use Rattle.snapshot_readers.specs.Glazed.{Glazed, fresh_glass}
 use Rattle.snapshot_readers.specs.declared.viewers.Viewer.{Viewer}
 use Rattle.connection_laws.specs.Desks.{GlancesCanBeTold}
 use Rattle.snapshot_readers.specs.declared.seats.ViewerSeat.{ViewerSeat}
-use Rattle.snapshot_readers.specs.Seats.{watchers, HasLooked, IsNewViewer, IsReadySeat, glasses_of, viewers_of, HasSettled, SeatBySeat, AreTold, HaveViewed}
+use Rattle.snapshot_readers.specs.Seats.{watchers, HasLooked, IsNewViewer, IsReadySeat, glasses_of, viewers_of, HasSettled, SeatBySeat, AreToldOf, HaveViewed}
 use Rattle.snapshot_readers.proofs.Seated.{ready, seats_done}
 
 -- there are as many seats as viewers
@@ -32,7 +32,7 @@ module _ {D G L : Type 0} (np : NamedPolicy) (birth n : ℕ) (gs : List Glazed) 
   pub all_served : (doorway : D → Doorway L) (traffic : L → Traffic) (h : List Entry) (viewers' : List (Viewer D G L)) (ys us : List (ViewerSeat D G L))
       → viewers' ≡ reverse (viewers_of us) → SeatBySeat (HasLooked doorway traffic np) xs ys → SeatBySeat (HasSettled h) ys us
       → HaveViewed traffic np birth (watchers doorway viewers) (watchers doorway viewers')
-      × (list_all (λ (s : ViewerSeat D G L). s.told) us ≡ true → AreTold traffic np birth h (watchers doorway viewers) (watchers doorway viewers'))
+      × (list_all (λ (s : ViewerSeat D G L). s.told) us ≡ true → AreToldOf traffic np birth h (watchers doorway viewers) (watchers doorway viewers'))
   all_served doorway traffic h viewers' ys us is' looked settled =
       seats_done doorway traffic np birth h viewers viewers' xs us is is' (settled.0 ∙ looked.0)
       (λ i d low. record {

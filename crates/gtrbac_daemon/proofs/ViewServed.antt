@@ -12,11 +12,11 @@ use Rattle.core_machine.specs.Books.{BookView}
 use Rattle.line_server.specs.declared.ended.WorkEnd.{WorkEnd}
 use Rattle.line_server.specs.declared.workers.Worker.{Worker}
 use Rattle.snapshot_readers.specs.declared.viewers.Viewer.{Viewer}
-use Rattle.snapshot_readers.specs.Seats.{watchers, AreTold, HaveViewed, IsNewViewer}
+use Rattle.snapshot_readers.specs.Seats.{watchers, AreToldOf, HaveViewed, IsNewViewer}
 use Rattle.gtrbac_daemon.specs.Crew.{Crewman, crewmen, IsNew, is_memory, is_door_fault, is_spent, ends_of}
 use Rattle.gtrbac_daemon.specs.Headline.{CrewHeadline}
-use Rattle.gtrbac_daemon.specs.Runs.{Scene, IsWritten}
-use Rattle.gtrbac_daemon.specs.Views.{Company, company, as_work, as_worker, everybody, status_by, first_late, views_status, views_text, seen, unnamed, unseen, ViewHasServed}
+use Rattle.gtrbac_daemon.specs.Runs.{ServerScene, IsWritten}
+use Rattle.gtrbac_daemon.specs.Views.{Company, company, as_work, as_worker, everybody, views_status_by, first_late, views_status, views_text, seen, unnamed, unseen, ViewHasServed}
 use Rattle.gtrbac_daemon.proofs.Running.{all_fresh, some_crew, crew_says}
 use Rattle.gtrbac_daemon.proofs.Endings.{IsFresh}
 
@@ -42,11 +42,11 @@ module _ {D C G L : Type 0} (readings : C → Option (ℕ → ℕ)) (doorway : D
       ends_append p js ks = ap (list_any p) (map-append (λ (k : Crewman L). k.outcome) js ks) ∙ list_any-append p (ends_of js) (ends_of ks)
 
   pub status_same : (h : List Entry) (ws : List (Worker D C G L)) (vs : List (Viewer D G L)) (late : Option ℕ) → late ≡ first_late h (watchers doorway vs)
-      → status_by (list_any (λ (w : Worker D C G L). is_memory w.outcome) ws || list_any (λ (v : Viewer D G L). is_memory (as_work v.outcome)) vs)
+      → views_status_by (list_any (λ (w : Worker D C G L). is_memory w.outcome) ws || list_any (λ (v : Viewer D G L). is_memory (as_work v.outcome)) vs)
       (list_any (λ (w : Worker D C G L). is_door_fault w.outcome) ws || list_any (λ (v : Viewer D G L). is_door_fault (as_work v.outcome)) vs)
       (list_any (λ (w : Worker D C G L). is_spent w.outcome) ws || list_any (λ (v : Viewer D G L). is_spent (as_work v.outcome)) vs) (is_some late)
       ≡ views_status h (company (crewmen readings doorway ws) (watchers doorway vs))
-  status_same h ws vs late is = λ i. status_by (all_say is_memory ws vs i) (all_say is_door_fault ws vs i) (all_say is_spent ws vs i) (is_some (is i))
+  status_same h ws vs late is = λ i. views_status_by (all_say is_memory ws vs i) (all_say is_door_fault ws vs i) (all_say is_spent ws vs i) (is_some (is i))
 
   fresh_viewers : (vs : List (Viewer D G L)) → All (λ (v : Viewer D G L). IsNewViewer v) vs → Each (λ (j : Crewman L). IsFresh j) (map as_worker (watchers doorway vs))
   fresh_viewers [] all = tt
@@ -67,10 +67,10 @@ written_as np birth l named born d late late' same s old new before now w =
     (subst (λ (p : NamedPolicy). IsWritten d (views_text p birth l.entries d late) s old new before now) named
     (subst (λ (t : ℕ). IsWritten d (views_text l.named t l.entries d late) s old new before now) born w))
 
-module _ {L : Type 0} (traffic : L → Traffic) (np : NamedPolicy) (birth : ℕ) (s due : ℕ) (late : Option ℕ) (a b : Scene (Company L)) (l : BookView) where
+module _ {L : Type 0} (traffic : L → Traffic) (np : NamedPolicy) (birth : ℕ) (s due : ℕ) (late : Option ℕ) (a b : ServerScene (Company L)) (l : BookView) where
   -- by whether each glass was told
   pub has_served : (told : Bool) → l.named ≡ np → l.birth ≡ birth → CrewHeadline traffic np birth a.server.crew b.server.crew l.entries → HaveViewed traffic np birth a.server.viewers b.server.viewers
-      → (told ≡ true → AreTold traffic np birth l.entries a.server.viewers b.server.viewers) → late ≡ first_late l.entries b.server.viewers
+      → (told ≡ true → AreToldOf traffic np birth l.entries a.server.viewers b.server.viewers) → late ≡ first_late l.entries b.server.viewers
       → (told ≡ true → due ≡ views_status l.entries b.server) → (told ≡ false → due ≡ 8)
       → (d : ℕ) × ((d ≡ due) ⊎ ((d ≡ 8) × (due ≡ 14))) × IsWritten d (views_text l.named l.birth l.entries d late) s a.written b.written a.faults b.faults
       → ViewHasServed traffic l.entries np birth s a b

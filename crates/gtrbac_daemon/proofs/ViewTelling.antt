@@ -9,16 +9,16 @@ use Rattle.policy_words.specs.Naming.{NamedPolicy}
 use Rattle.snapshot_readers.specs.Seats.{HaveViewed}
 use Rattle.gtrbac_daemon.specs.Words.{views_named}
 use Rattle.gtrbac_daemon.specs.Crew.{Crewman, is_memory, is_door_fault, is_spent, ends_of, EachOf, SomeOf, IsUnharmed, IsDone, HasFailed, IsSpent}
-use Rattle.gtrbac_daemon.specs.Runs.{Scene, IsDue, IsWell, Answers, Cause, unwritten, own}
-use Rattle.gtrbac_daemon.specs.Views.{Company, as_worker, everybody, status_by, first_late, views_status, OfAll, Compared, seen, unnamed, unseen, ViewHasServed, Lacks, for_somebody, to_name, to_compare, ViewCause, done, memory, failed, spent, late, ViewDues, view_way, RunsViews}
+use Rattle.gtrbac_daemon.specs.Runs.{ServerScene, IsDueButFor, IsWell, ServerAnswers, ServerCause, unwritten, own}
+use Rattle.gtrbac_daemon.specs.Views.{Company, as_worker, everybody, views_status_by, first_late, views_status, OfAll, Compared, seen, unnamed, unseen, ViewHasServed, LacksViewMemory, for_somebody, to_name, to_compare, ViewCause, done, memory, failed, spent, late, ViewDues, view_way, RunsViews}
 use Rattle.gtrbac_daemon.proofs.AnyRuns as Any
 use Rattle.gtrbac_daemon.proofs.Causing.{written_says}
 use Rattle.gtrbac_daemon.proofs.Somebody.{each_both}
 use Rattle.gtrbac_daemon.proofs.Endings.{fails_by, spends_by, well_by, fourteen_says, some_of, IsFresh, HasEnded, crew_ended, viewers_ended, told_viewed, failed_told, spent_told, sound_told, done_told, idle_done, idle_failed, idle_spent, memory_some, done_all, unharmed, cause_by}
 
-module _ {L : Type 0} (traffic : L → Traffic) (words : List (List ℕ)) (h : List Entry) (s : ℕ) (a b : Scene (Company L)) where
+module _ {L : Type 0} (traffic : L → Traffic) (words : List (List ℕ)) (h : List Entry) (s : ℕ) (a b : ServerScene (Company L)) where
   abbrev Due : ℕ → Type 0
-  Due n = IsDue (Lacks traffic h a.server b.server) s a b n
+  Due n = IsDueButFor (LacksViewMemory traffic h a.server b.server) s a b n
 
   -- everybody before and after, and what the ends say
   abbrev js : List (Crewman L)
@@ -54,7 +54,7 @@ module _ {L : Type 0} (traffic : L → Traffic) (words : List (List ℕ)) (h : L
         (crew_ended traffic np birth h 0 a.server.crew b.server.crew k.headline.worked) (viewers_ended traffic np birth h a.server.viewers b.server.viewers viewed)
 
     -- a number above the length, where 14 is due
-    not_named : views_status h b.server ≡ 14 → Lacks traffic h a.server b.server
+    not_named : views_status h b.server ≡ 14 → LacksViewMemory traffic h a.server b.server
     not_named e =
         let o = fourteen_says wants fails spends (is_some above) e in
         let n = some_of above o.3 in
@@ -65,14 +65,14 @@ module _ {L : Type 0} (traffic : L → Traffic) (words : List (List ℕ)) (h : L
     own_by (unnamed e fourteen t) is = memory (is ∙ e) (inl (not_named fourteen))
     own_by (unseen e v) is = memory (is ∙ e) (inl (to_compare np birth v))
 
-    of_served : Cause (view_way traffic h) (views_named words) s a b
+    of_served : ServerCause (view_way traffic h) (views_named words) s a b
     of_served =
         elim (written_says k.due _ s a.written b.written a.faults b.faults k.written) [ inl is ↦ own (own_by k.compared is) | inr f ↦ unwritten f.0 f.1 ]
 
     -- how a served run is due
     due_by : (n : ℕ) → (views_status h b.server ≡ n) ⊎ (wants ≡ true) → Compared traffic h np birth k.due a.server b.server → s ≡ k.due → Due n
     due_by n (inl x) (seen e t) is = inl (inl (is ∙ (e ∙ x)))
-    due_by n (inr x) (seen e t) is = inr (is ∙ (e ∙ λ i. status_by (x i) fails spends (is_some above)), for_somebody (memory_some js ks ended x))
+    due_by n (inr x) (seen e t) is = inr (is ∙ (e ∙ λ i. views_status_by (x i) fails spends (is_some above)), for_somebody (memory_some js ks ended x))
     due_by n by (unnamed e fourteen t) is = inr (is ∙ e, not_named fourteen)
     due_by n by (unseen e v) is = inr (is ∙ e, to_compare np birth v)
 
@@ -80,7 +80,7 @@ module _ {L : Type 0} (traffic : L → Traffic) (words : List (List ℕ)) (h : L
     due_at n by =
         elim (written_says k.due _ s a.written b.written a.faults b.faults k.written) [ inl is ↦ due_by n by k.compared is | inr f ↦ inl (inr f) ]
 
-    zero_or : (l : Bool) → s ≡ status_by false false false l → (s ≡ 0) ⊎ (s ≡ 8) ⊎ (s ≡ 14)
+    zero_or : (l : Bool) → s ≡ views_status_by false false false l → (s ≡ 0) ⊎ (s ≡ 8) ⊎ (s ≡ 14)
     zero_or true is = inr (inr is)
     zero_or false is = inl is
 
@@ -97,16 +97,16 @@ module _ {L : Type 0} (traffic : L → Traffic) (words : List (List ℕ)) (h : L
 
   module _ (some : 1 ≤ length js) (fresh : Each IsFresh js) where
     -- a cause that only a company has that has served
-    due : (Has : List (Crewman L) → Type 0) → (Has js → ⊥) → Has ks → (n : ℕ) → (views_status h b.server ≡ n) ⊎ (wants ≡ true) → Answers (view_way traffic h) (views_named words) s a b → Due n
+    due : (Has : List (Crewman L) → Type 0) → (Has js → ⊥) → Has ks → (n : ℕ) → (views_status h b.server ≡ n) ⊎ (wants ≡ true) → ServerAnswers (view_way traffic h) (views_named words) s a b → Due n
     due Has idle has n by answers =
         Any.by_served (view_way traffic h) (views_named words) s a b (Due n) (λ same. idle (subst (λ (c : Company L). Has (everybody c)) same has)) (λ np birth k. due_at np birth k n by) answers
 
     -- where all are done, a number above the length decides
-    done_at : OfAll IsDone a.server b.server → (o : Option ℕ) → above ≡ o → (n : ℕ) → status_by false false false (is_some o) ≡ n → Answers (view_way traffic h) (views_named words) s a b → Due n
+    done_at : OfAll IsDone a.server b.server → (o : Option ℕ) → above ≡ o → (n : ℕ) → views_status_by false false false (is_some o) ≡ n → ServerAnswers (view_way traffic h) (views_named words) s a b → Due n
     done_at x o e n is answers =
-        due (EachOf IsDone js) (idle_done js js fresh some) x n (inl (done_told js ks x (is_some above) ∙ ((λ i. status_by false false false (is_some (e i))) ∙ is))) answers
+        due (EachOf IsDone js) (idle_done js js fresh some) x n (inl (done_told js ks x (is_some above) ∙ ((λ i. views_status_by false false false (is_some (e i))) ∙ is))) answers
 
-    dues_of : Answers (view_way traffic h) (views_named words) s a b → ViewDues traffic h s a b
+    dues_of : ServerAnswers (view_way traffic h) (views_named words) s a b → ViewDues traffic h s a b
     dues_of answers =
         record {
           failed_is = λ x. due (SomeOf HasFailed js) (idle_failed js js fresh) x 10 (fails_by wants fails spends (is_some above) (failed_told js ks x)) answers;
@@ -115,7 +115,7 @@ module _ {L : Type 0} (traffic : L → Traffic) (words : List (List ℕ)) (h : L
           done_is = λ x e. done_at x None e 0 refl answers;
         }
 
-    pub runs : Answers (view_way traffic h) (views_named words) s a b → b.texts ≡ a.texts → (views_named words ≡ None → b ≡ record a { written = b.written; faults = b.faults }) → RunsViews traffic words s a b
+    pub runs : ServerAnswers (view_way traffic h) (views_named words) s a b → b.texts ≡ a.texts → (views_named words ≡ None → b ≡ record a { written = b.written; faults = b.faults }) → RunsViews traffic words s a b
     runs answers texts untouched =
         record {
           history = h;

@@ -9,8 +9,8 @@ use Rattle.request_text.specs.Replies.{entry_line}
 use Rattle.request_text.specs.declared.rooms.TheConstants.{PAGE_SIZE}
 
 -- an empty page, as it is made
-abbrev pub IsBlank : Roomy ℕ → Type 0
-IsBlank page = (page.items ≡ []) × (page.spare ≡ PAGE_SIZE)
+abbrev pub IsBlankPage : Roomy ℕ → Type 0
+IsBlankPage page = (page.items ≡ []) × (page.spare ≡ PAGE_SIZE)
 
 module _ (np : NamedPolicy) where
   -- what stands on a page, and the lines of the entries

@@ -16,7 +16,7 @@ use Rattle.poll_front.specs.declared.front.RunEnd.TheVariants.{Stopped, PortFaul
 use Rattle.poll_front.specs.Fronts.{all_acted}
 use Rattle.poll_front.specs.Tables.{RunsTo, FaultsAreLast, EndsAreLast, is_worn_end, AreUnwornEnds, IsPolledFront}
 use Rattle.gtrbac_daemon.specs.Words.{poll_named}
-use Rattle.gtrbac_daemon.specs.Runs.{Scene, Headline, IsWritten, Starves, IsDue, Way, Runs}
+use Rattle.gtrbac_daemon.specs.Runs.{ServerScene, Headline, IsWritten, Starves, IsDueButFor, Way, Runs}
 
 -- who serves: the readings of the requests' clock, the ports, and how links ended
 pub record Polling : Type 0 where
@@ -50,7 +50,8 @@ pub record HasPolled (np : NamedPolicy) (birth : ℕ) (h : List Entry) (p q : Po
 
 -- the links were served from this birth, and the log of the history is written with the run's
 -- status
-pub record PollHasServed (np : NamedPolicy) (birth status : ℕ) (a b : Scene Polling) : Type 0 where
+pub record PollHasServed (np : NamedPolicy) (birth status : ℕ) (a b : ServerScene Polling)
+    : Type 0 where
   pub history : List Entry
   pub end : RunEnd
   pub headline : Headline np birth history 1 (HasPolled np birth history a.server b.server end)
@@ -58,7 +59,7 @@ pub record PollHasServed (np : NamedPolicy) (birth status : ℕ) (a b : Scene Po
       a.written b.written a.faults b.faults
 
 -- and there was no memory for a further link
-abbrev pub LacksLinkMemory : ℕ → Scene Polling → Scene Polling → Type 0
+abbrev pub LacksLinkMemory : ℕ → ServerScene Polling → ServerScene Polling → Type 0
 LacksLinkMemory status a b =
     (np : NamedPolicy) × ((birth : ℕ)
     × ((k : PollHasServed np birth status a b) × (k.end ≡ Memory)))
@@ -76,7 +77,7 @@ abbrev pub IsUsedUp : Polling → Type 0
 IsUsedUp q = (q.ports.opened ≡ MAX_LINKS)
     ⊎ ((i : ℕ) × ((e : Polled) × (slice_get q.ends i ≡ Some e) × (is_worn_end e.outcome ≡ true)))
 
-module _ (status : ℕ) (a b : Scene Polling) where
+module _ (status : ℕ) (a b : ServerScene Polling) where
   -- the statuses of a polling run, each with its cause
   pub data PollCause : Type 0 where
     stopped : status ≡ 0 → HasStopped b.server → b.server.ports.opened < MAX_LINKS
@@ -89,9 +90,10 @@ module _ (status : ℕ) (a b : Scene Polling) where
   -- and each cause with its status; but for an output that failed, and a further link that there
   -- was no memory for
   pub record PollDues : Type 0 where
-    pub stopped_is : HasStopped b.server → IsDue (LacksLinkMemory status a b) status a b 0
-    pub failed_is : HasFailedToTell b.server → IsDue (LacksLinkMemory status a b) status a b 10
-    pub used_up_is : IsUsedUp b.server → IsDue (LacksLinkMemory status a b) status a b 11
+    pub stopped_is : HasStopped b.server → IsDueButFor (LacksLinkMemory status a b) status a b 0
+    pub failed_is : HasFailedToTell b.server
+        → IsDueButFor (LacksLinkMemory status a b) status a b 10
+    pub used_up_is : IsUsedUp b.server → IsDueButFor (LacksLinkMemory status a b) status a b 11
 
 -- the ports have stopped, in a run that goes well
 abbrev pub poll_way : Way Polling
@@ -105,5 +107,5 @@ poll_way =
     }
 
 -- what `daemon_poll` promises
-abbrev pub RunsPoll : List (List ℕ) → ℕ → Scene Polling → Scene Polling → Type 0
+abbrev pub RunsPoll : List (List ℕ) → ℕ → ServerScene Polling → ServerScene Polling → Type 0
 RunsPoll words = Runs poll_way (poll_named words)

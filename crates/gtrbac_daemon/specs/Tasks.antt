@@ -6,8 +6,8 @@ use denote.Param.Members.{Shared}
 module _ {F T : Type 0} (g : Shared F (MutBor T × Unit {0}) (Unit {0} × (MutBor T × Unit {0})))
     (f : F) where
   -- f may be called with a `&mut` to x
-  abbrev pub Accepts : T → Type 0
-  Accepts x = (p : MutBor T) → p.now ≡ x → g.pre f (p, tt)
+  abbrev pub MayBeGiven : T → Type 0
+  MayBeGiven x = (p : MutBor T) → p.now ≡ x → g.pre f (p, tt)
 
   -- a call of f with a `&mut` to x may leave y there
   pub record Changes (x y : T) : Type 0 where

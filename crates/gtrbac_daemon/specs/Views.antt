@@ -10,11 +10,11 @@ use Rattle.line_server.specs.declared.ended.WorkEnd.TheVariants.{Fresh, Done, Do
 use Rattle.snapshot_readers.specs.declared.ends.ViewerEnd.{ViewerEnd}
 use Rattle.snapshot_readers.specs.declared.ends.ViewerEnd.TheVariants as viewer
 use Rattle.snapshot_readers.specs.Crew.{all_lens}
-use Rattle.snapshot_readers.specs.Seats.{Watcher, AreTold, HaveViewed}
+use Rattle.snapshot_readers.specs.Seats.{Watcher, AreToldOf, HaveViewed}
 use Rattle.gtrbac_daemon.specs.Words.{views_named}
 use Rattle.gtrbac_daemon.specs.Crew.{Crewman, is_memory, is_door_fault, is_spent, ends_of, SomeOf, EachOf, HasFailed, LacksMemory, IsSpent, IsSound, IsDone, IsUnharmed}
 use Rattle.gtrbac_daemon.specs.Headline.{CrewHeadline}
-use Rattle.gtrbac_daemon.specs.Runs.{Scene, IsWritten, Starves, IsDue, Way, Runs}
+use Rattle.gtrbac_daemon.specs.Runs.{ServerScene, IsWritten, Starves, IsDueButFor, Way, Runs}
 
 -- the first number that is above this length
 abbrev pub first_above : ℕ → List ℕ → Option ℕ
@@ -23,8 +23,8 @@ first_above len (n ∷ ns) = if nat_lt len n then Some n else first_above len ns
 
 -- the status by whether memory was wanting, whether a door failed, whether somebody is spent, and
 -- whether a number is above the length: the first of these decides
-abbrev pub status_by : Bool → Bool → Bool → Bool → ℕ
-status_by wanting failed spent above =
+abbrev pub views_status_by : Bool → Bool → Bool → Bool → ℕ
+views_status_by wanting failed spent above =
     if wanting then 8 else if failed then 10 else if spent then 11 else if above then 14 else 0
 
 -- the line that names a number above the length
@@ -75,7 +75,7 @@ module _ {L : Type 0} where
   -- the status of a company that has served up to this history
   abbrev pub views_status : List Entry → Company L → ℕ
   views_status h c =
-      status_by (list_any is_memory (ends_of (everybody c)))
+      views_status_by (list_any is_memory (ends_of (everybody c)))
       (list_any is_door_fault (ends_of (everybody c))) (list_any is_spent (ends_of (everybody c)))
       (is_some (first_late h c.viewers))
 
@@ -92,36 +92,36 @@ module _ {L : Type 0} (traffic : L → Traffic) (h : List Entry) where
   -- of one history that goes on from the crew's, and the status is that of all; or there was no
   -- memory to name the number that is above the length; or none to see to the replies
   pub data Compared (np : NamedPolicy) (birth due : ℕ) (c d : Company L) : Type 0 where
-    seen : due ≡ views_status h d → AreTold traffic np birth h c.viewers d.viewers
+    seen : due ≡ views_status h d → AreToldOf traffic np birth h c.viewers d.viewers
         → Compared np birth due c d
     unnamed : due ≡ 8 → views_status h d ≡ 14
-        → AreTold traffic np birth h c.viewers d.viewers → Compared np birth due c d
+        → AreToldOf traffic np birth h c.viewers d.viewers → Compared np birth due c d
     unseen : due ≡ 8 → HaveViewed traffic np birth c.viewers d.viewers → Compared np birth due c d
 
   -- crew and viewers have served from this birth, and the log of the crew's history is written with
   -- its status
-  pub record ViewHasServed (np : NamedPolicy) (birth status : ℕ) (a b : Scene (Company L)) : Type 0
-    where
-      pub headline : CrewHeadline traffic np birth a.server.crew b.server.crew h
-      pub due : ℕ
-      pub compared : Compared np birth due a.server b.server
-      pub written : IsWritten due (views_text np birth h due (first_late h b.server.viewers)) status
-          a.written b.written a.faults b.faults
+  pub record ViewHasServed (np : NamedPolicy) (birth status : ℕ) (a b : ServerScene (Company L))
+      : Type 0 where
+    pub headline : CrewHeadline traffic np birth a.server.crew b.server.crew h
+    pub due : ℕ
+    pub compared : Compared np birth due a.server b.server
+    pub written : IsWritten due (views_text np birth h due (first_late h b.server.viewers)) status
+        a.written b.written a.faults b.faults
 
   -- There was no memory: for a worker or a viewer, to name a number that is above the length, or to
   -- see to the replies of the viewers
-  pub data Lacks (c d : Company L) : Type 0 where
-    for_somebody : OfSome LacksMemory c d → Lacks c d
-    to_name : (n : ℕ) → OfAll IsDone c d → first_late h d.viewers ≡ Some n → Lacks c d
+  pub data LacksViewMemory (c d : Company L) : Type 0 where
+    for_somebody : OfSome LacksMemory c d → LacksViewMemory c d
+    to_name : (n : ℕ) → OfAll IsDone c d → first_late h d.viewers ≡ Some n → LacksViewMemory c d
     to_compare : (np : NamedPolicy) (birth : ℕ) → HaveViewed traffic np birth c.viewers d.viewers
-        → Lacks c d
+        → LacksViewMemory c d
 
-  module _ (status : ℕ) (a b : Scene (Company L)) where
+  module _ (status : ℕ) (a b : ServerScene (Company L)) where
     -- the statuses of a crew and its viewers, each with its cause
     pub data ViewCause : Type 0 where
       done : status ≡ 0 → OfAll IsDone a.server b.server → first_late h b.server.viewers ≡ None
           → ViewCause
-      memory : status ≡ 8 → Lacks a.server b.server ⊎ Starves status a b → ViewCause
+      memory : status ≡ 8 → LacksViewMemory a.server b.server ⊎ Starves status a b → ViewCause
       failed : status ≡ 10 → OfSome HasFailed a.server b.server → ViewCause
       spent : status ≡ 11 → OfSome IsSpent a.server b.server → OfAll IsSound a.server b.server
           → ViewCause
@@ -131,13 +131,14 @@ module _ {L : Type 0} (traffic : L → Traffic) (h : List Entry) where
     -- and each cause with its status; but for an output that failed, and want of memory
     pub record ViewDues : Type 0 where
       pub failed_is : OfSome HasFailed a.server b.server
-          → IsDue (Lacks a.server b.server) status a b 10
+          → IsDueButFor (LacksViewMemory a.server b.server) status a b 10
       pub spent_is : OfSome IsSpent a.server b.server → OfAll IsSound a.server b.server
-          → IsDue (Lacks a.server b.server) status a b 11
+          → IsDueButFor (LacksViewMemory a.server b.server) status a b 11
       pub late_is : (n : ℕ) → OfAll IsDone a.server b.server
-          → first_late h b.server.viewers ≡ Some n → IsDue (Lacks a.server b.server) status a b 14
+          → first_late h b.server.viewers ≡ Some n
+          → IsDueButFor (LacksViewMemory a.server b.server) status a b 14
       pub done_is : OfAll IsDone a.server b.server → first_late h b.server.viewers ≡ None
-          → IsDue (Lacks a.server b.server) status a b 0
+          → IsDueButFor (LacksViewMemory a.server b.server) status a b 0
 
   -- no door failed, nor is a worker or a viewer spent, in a run that goes well
   abbrev pub view_way : Way (Company L)
@@ -152,6 +153,6 @@ module _ {L : Type 0} (traffic : L → Traffic) (h : List Entry) where
 
 -- what `daemon_views` promises, over the history of the crew
 pub record RunsViews {L : Type 0} (traffic : L → Traffic) (words : List (List ℕ)) (status : ℕ)
-    (a b : Scene (Company L)) : Type 0 where
+    (a b : ServerScene (Company L)) : Type 0 where
   pub history : List Entry
   pub runs : Runs (view_way traffic history) (views_named words) status a b

@@ -9,8 +9,8 @@ use Rattle.policy_commands.specs.Policies.{safe_in, HasTextFault, IsUnsafeText}
 use Rattle.gtrbac_daemon.specs.declared.words.Mode.{Mode}
 use Rattle.gtrbac_daemon.specs.declared.words.Mode.TheVariants.{Plain, Views, Poll}
 
-abbrev pub usage : EndView
-usage = ending 1 (codes "usage: gtrbacd POLICY | views POLICY | poll POLICY\n")
+abbrev pub server_usage : EndView
+server_usage = ending 1 (codes "usage: gtrbacd POLICY | views POLICY | poll POLICY\n")
 
 -- the words are one, the name of a policy, which does not begin with `-`
 abbrev pub policy_named : List (List ℕ) → Option (List ℕ)
@@ -33,9 +33,9 @@ mode_named _ = Plain
 -- What keeps the server from serving. The words come first; then the shelf failed or has no such
 -- text, or the text is too long; or the text has a fault, with status 2, or is of a policy that is
 -- not safe, with status 3
-abbrev pub Refuses : Type 0 → Contents → Option (List ℕ) → EndView → Type 0
-Refuses hard contents None t = t ≡ usage
-Refuses hard contents (Some name) t =
+abbrev pub KeepsFromServing : Type 0 → Contents → Option (List ℕ) → EndView → Type 0
+KeepsFromServing hard contents None t = t ≡ server_usage
+KeepsFromServing hard contents (Some name) t =
     MissesText hard contents name t
     ⊎ ((text : List ℕ) × IsStoredText contents name text × (safe_in text ≡ Err t)
     × (((t.status ≡ 2) × HasTextFault text) ⊎ ((t.status ≡ 3) × IsUnsafeText text)))

@@ -4,7 +4,7 @@ ghost use Rattle.std.specs.Prelude.{◌≡◌, [], map, string_bytes};
 ghost use Rattle.gt_io.specs.Shelf.{AsksOnce, Stock};
 ghost use Rattle.gt_io.specs.Ports.{IsUncalled};
 ghost use Rattle.gtrbac_daemon.specs.Begins.{IsNewDesk};
-ghost use Rattle.gtrbac_daemon.specs.Runs.{scene, Headline, Serves};
+ghost use Rattle.gtrbac_daemon.specs.Runs.{server_scene, Headline, ServesPolicy};
 ghost use Rattle.gtrbac_daemon.specs.Polls.{poll_status, polling, HasPolled, poll_way, RunsPoll};
 
 use crate::finding::find_safe;
@@ -94,10 +94,10 @@ fn poll_serve<R: Wait, B: Clock, P: Ports, C: Clock, G: Gate, K: Sink>(
     out: &mut K,
 ) -> u8
     requires fresh { IsUncalled (P.harbour ports.old) × (ends.old.items ≡ []) }
-    ensures { (stock stock' : Stock) → Serves poll_way safe result
-        (scene stock (B.readings birth.old)
+    ensures { (stock stock' : Stock) → ServesPolicy poll_way safe result
+        (server_scene stock (B.readings birth.old)
         (polling (C.readings clock.old) (P.harbour ports.old) ends.old.items) (K.output out.old))
-        (scene stock' (B.readings birth.new)
+        (server_scene stock' (B.readings birth.new)
         (polling (C.readings clock.new) (P.harbour ports.new) ends.new.items) (K.output out.new)) }
 {
     let minute = birth.now();
@@ -141,9 +141,9 @@ pub fn daemon_poll<R: Wait, S: Shelf, B: Clock, P: Ports, C: Clock, G: Gate, K: 
     requires none { ends.old.items ≡ [] }
     requires ports { IsUncalled (P.harbour ports.old) }
     ensures runs { RunsPoll (map string_bytes words.now) result
-        (scene (S.stock shelf.old) (B.readings birth.old)
+        (server_scene (S.stock shelf.old) (B.readings birth.old)
         (polling (C.readings clock.old) (P.harbour ports.old) ends.old.items) (K.output out.old))
-        (scene (S.stock shelf.new) (B.readings birth.new)
+        (server_scene (S.stock shelf.new) (B.readings birth.new)
         (polling (C.readings clock.new) (P.harbour ports.new) ends.new.items) (K.output out.new)) }
     ensures once { AsksOnce (S.stock shelf.old) (S.stock shelf.new) }
 {

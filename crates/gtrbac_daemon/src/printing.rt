@@ -6,7 +6,7 @@ ghost use Rattle.request_text.specs.Fitting.{FitPages};
 ghost use Rattle.request_text.specs.Replies.{log_text};
 ghost use Rattle.request_text.specs.declared.entries.TheConstants.{LONGEST_ENTRY};
 ghost use Rattle.gtrbac_daemon.specs.Runs.{or_failed, IsWritten};
-ghost use Rattle.gtrbac_daemon.specs.Pages.{IsBlank, WritesPage, text_from};
+ghost use Rattle.gtrbac_daemon.specs.Pages.{IsBlankPage, WritesPage, text_from};
 
 use core_machine::Ledger;
 use gt_base::Entry;
@@ -76,7 +76,7 @@ fn write_pages<K: Sink>(
 /// Writes the log of a ledger, at whose end this status is due, by an empty page. It takes no
 /// memory.
 pub(crate) fn write_up<K: Sink>(page: &mut Page, ledger: &Ledger, due: u8, out: &mut K) -> u8
-    requires { IsBlank page.old }
+    requires { IsBlankPage page.old }
     ensures { IsWritten due (log_text ledger.now.named ledger.now.birth ledger.now.entries) result
         (K.output out.old).written (K.output out.new).written (K.output out.old).faults
         (K.output out.new).faults }

@@ -4,7 +4,7 @@ ghost use Rattle.gt_io.specs.Shelf.{AsksOnce, Stock};
 ghost use Rattle.gtrbac_daemon.specs.Words.{policy_named};
 ghost use Rattle.gtrbac_daemon.specs.Crew.{IsNew, crewmen};
 ghost use Rattle.gtrbac_daemon.specs.Begins.{IsNewCrew};
-ghost use Rattle.gtrbac_daemon.specs.Runs.{scene, Serves};
+ghost use Rattle.gtrbac_daemon.specs.Runs.{server_scene, ServesPolicy};
 ghost use Rattle.gtrbac_daemon.specs.Daemon.{crew_way, RunsServer};
 
 use crate::finding::find_safe;
@@ -39,10 +39,10 @@ fn serve<
 where
     D::L: Send,
     requires { IsNewCrew crew.old.items }
-    ensures { (stock stock' : Stock) → Serves (crew_way D.L.traffic) safe result
-        (scene stock (B.readings birth.old)
+    ensures { (stock stock' : Stock) → ServesPolicy (crew_way D.L.traffic) safe result
+        (server_scene stock (B.readings birth.old)
         (crewmen C.readings D.doorway crew.old.items) (K.output out.old))
-        (scene stock' (B.readings birth.new)
+        (server_scene stock' (B.readings birth.new)
         (crewmen C.readings D.doorway crew.new.items) (K.output out.new)) }
 {
     let minute = birth.now();
@@ -105,9 +105,9 @@ where
     requires size { (1 ≤ length crew.old.items) × (length crew.old.items ≤ 8) }
     requires fresh { All (λ w. IsNew w) crew.old.items }
     ensures runs { RunsServer D.L.traffic (map string_bytes words.now) result
-        (scene (S.stock shelf.old) (B.readings birth.old)
+        (server_scene (S.stock shelf.old) (B.readings birth.old)
         (crewmen C.readings D.doorway crew.old.items) (K.output out.old))
-        (scene (S.stock shelf.new) (B.readings birth.new)
+        (server_scene (S.stock shelf.new) (B.readings birth.new)
         (crewmen C.readings D.doorway crew.new.items) (K.output out.new)) }
     ensures unread { policy_named (map string_bytes words.now) ≡ None
         → (shelf.new ≡ shelf.old) × (birth.new ≡ birth.old) × (crew.new ≡ crew.old) }

@@ -6,7 +6,7 @@ ghost use Rattle.gt_io.specs.Shelf.{AsksOnce, Stock};
 ghost use Rattle.snapshot_readers.specs.Seats.{watchers, IsNewViewer};
 ghost use Rattle.gtrbac_daemon.specs.Crew.{IsNew, crewmen};
 ghost use Rattle.gtrbac_daemon.specs.Begins.{IsNewCompany};
-ghost use Rattle.gtrbac_daemon.specs.Runs.{scene, Serves};
+ghost use Rattle.gtrbac_daemon.specs.Runs.{server_scene, ServesPolicy};
 ghost use Rattle.gtrbac_daemon.specs.Views.{company, view_way, RunsViews};
 ghost use Rattle.gtrbac_daemon.specs.Words.{views_named};
 
@@ -45,11 +45,11 @@ where
     D::L: Send,
     requires { IsNewCompany crew.old.items viewers.old.items }
     ensures { (stock stock' : Stock) → (h : List Entry)
-        × Serves (view_way D.L.traffic h) safe result
-        (scene stock (B.readings birth.old)
+        × ServesPolicy (view_way D.L.traffic h) safe result
+        (server_scene stock (B.readings birth.old)
         (company (crewmen C.readings D.doorway crew.old.items)
         (watchers D.doorway viewers.old.items)) (K.output out.old))
-        (scene stock' (B.readings birth.new)
+        (server_scene stock' (B.readings birth.new)
         (company (crewmen C.readings D.doorway crew.new.items)
         (watchers D.doorway viewers.new.items)) (K.output out.new)) }
 {
@@ -115,10 +115,10 @@ where
     requires few { (1 ≤ length viewers.old.items) × (length viewers.old.items ≤ 8) }
     requires new { All (λ v. IsNewViewer v) viewers.old.items }
     ensures runs { RunsViews D.L.traffic (map string_bytes words.now) result
-        (scene (S.stock shelf.old) (B.readings birth.old)
+        (server_scene (S.stock shelf.old) (B.readings birth.old)
         (company (crewmen C.readings D.doorway crew.old.items)
         (watchers D.doorway viewers.old.items)) (K.output out.old))
-        (scene (S.stock shelf.new) (B.readings birth.new)
+        (server_scene (S.stock shelf.new) (B.readings birth.new)
         (company (crewmen C.readings D.doorway crew.new.items)
         (watchers D.doorway viewers.new.items)) (K.output out.new)) }
     ensures unread { views_named (map string_bytes words.now) ≡ None

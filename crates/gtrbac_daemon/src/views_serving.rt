@@ -7,8 +7,8 @@ ghost use Rattle.connection_laws.specs.Turns.{IsIdle};
 ghost use Rattle.connection_laws.specs.Connection.{IsTimed};
 ghost use Rattle.connection_laws.specs.Desks.{MayBeAsked, RepliesCanBeTold};
 ghost use Rattle.connection_laws.specs.Services.{service_at};
-ghost use Rattle.line_server.specs.Working.{at_post, HasWorked};
-ghost use Rattle.snapshot_readers.specs.Seats.{watchers, AreTold, HasLooked, HasSettled, HaveViewed, IsReadySeat, SeatBySeat};
+ghost use Rattle.line_server.specs.Working.{at_post, HasWorkedAtPost};
+ghost use Rattle.snapshot_readers.specs.Seats.{watchers, AreToldOf, HasLooked, HasSettled, HaveViewed, IsReadySeat, SeatBySeat};
 ghost use Rattle.gtrbac_daemon.specs.Crew.{crewmen};
 ghost use Rattle.gtrbac_daemon.specs.Begins.{IsNewCrew, IsNewCompany, IsNewBoard};
 ghost use Rattle.gtrbac_daemon.specs.Headline.{HaveWorked, CrewHeadline};
@@ -98,7 +98,7 @@ where
     requires ready { All (λ s. IsReadySeat policy.now s) seats.old.items }
     ensures posts { length posts.new.items ≡ length posts.old.items }
     ensures works { (i : ℕ) (d : _) → i < length posts.old.items
-        → HasWorked D.L.traffic (service_at M.list M.legal M.now_of desk.now policy.now)
+        → HasWorkedAtPost D.L.traffic (service_at M.list M.legal M.now_of desk.now policy.now)
         (site_of desk.now)
         (at_post C.readings D.doorway (slice_index_or posts.old.items i d))
         (at_post C.readings D.doorway (slice_index_or posts.new.items i d)) }
@@ -114,7 +114,7 @@ where
             × RepliesCanBeTold policy.now (M.legal desk.now.root) }
         ensures { (length posts.exit.now.items ≡ length posts.entry.now.items)
             × ((i : ℕ) (d : _) → i < length posts.entry.now.items
-            → HasWorked D.L.traffic
+            → HasWorkedAtPost D.L.traffic
             (service_at M.list M.legal M.now_of desk.entry.now policy.entry.now)
             (site_of desk.entry.now)
             (at_post C.readings D.doorway (slice_index_or posts.entry.now.items i d))
@@ -223,7 +223,7 @@ where
         (watchers D.doorway viewers.old.items)
         (watchers D.doorway viewers.new.items)) }
     ensures told { IfOk result
-        (λ t. t.1 ≡ true → AreTold D.L.traffic policy.now board.entry.ledger.birth t.0.entries
+        (λ t. t.1 ≡ true → AreToldOf D.L.traffic policy.now board.entry.ledger.birth t.0.entries
         (watchers D.doorway viewers.old.items)
         (watchers D.doorway viewers.new.items)) }
 {

@@ -4,7 +4,7 @@ ghost use Rattle.std.specs.List.{list_any};
 ghost use Rattle.snapshot_readers.specs.Crew.{all_lens};
 ghost use Rattle.snapshot_readers.specs.Seats.{watchers};
 ghost use Rattle.gtrbac_daemon.specs.Crew.{is_memory, is_door_fault, is_spent};
-ghost use Rattle.gtrbac_daemon.specs.Views.{as_work, first_above, numbers_of, status_by};
+ghost use Rattle.gtrbac_daemon.specs.Views.{as_work, first_above, numbers_of, views_status_by};
 
 use crate::statuses::{some_failed, some_out_of_memory, some_spent};
 use gt_io::{Clock, Door, Gate};
@@ -51,7 +51,7 @@ fn status_of_all<D: Door, C: Clock, G: Gate>(
     viewers: &[Viewer<D, G>],
     late: Option<u64>,
 ) -> u8
-    ensures { result ≡ status_by
+    ensures { result ≡ views_status_by
         (list_any (λ w. is_memory w.outcome) crew.now
         || list_any (λ v. is_memory (as_work v.outcome)) viewers.now)
         (list_any (λ w. is_door_fault w.outcome) crew.now
@@ -81,7 +81,7 @@ pub(crate) fn due_of_all<D: Door, C: Clock, G: Gate>(
     told: bool,
     late: Option<u64>,
 ) -> u8
-    ensures told { told ≡ true → result ≡ status_by
+    ensures told { told ≡ true → result ≡ views_status_by
         (list_any (λ w. is_memory w.outcome) crew.now
         || list_any (λ v. is_memory (as_work v.outcome)) viewers.now)
         (list_any (λ w. is_door_fault w.outcome) crew.now

@@ -2,7 +2,7 @@
 ghost use Rattle.std.specs.Prelude.{◌≡◌, ◌⊎◌, ◌++◌, ℕ, Some, IfOk};
 ghost use Rattle.request_text.specs.Replies.{log_text};
 ghost use Rattle.gtrbac_daemon.specs.Runs.{IsWritten};
-ghost use Rattle.gtrbac_daemon.specs.Pages.{IsBlank};
+ghost use Rattle.gtrbac_daemon.specs.Pages.{IsBlankPage};
 ghost use Rattle.gtrbac_daemon.specs.Views.{late_line, views_text};
 
 use crate::printing::write_up;
@@ -29,7 +29,7 @@ fn name_late(alloc: Global, n: u64, len: u64) -> Result<Vec<u8>, Memory>
 
 /// Writes the log of a ledger and then a line, at whose end 14 is due.
 fn write_late<K: Sink>(page: &mut Page, ledger: &Ledger, line: &[u8], out: &mut K) -> u8
-    requires { IsBlank page.old }
+    requires { IsBlankPage page.old }
     ensures { IsWritten 14
         (log_text ledger.now.named ledger.now.birth ledger.now.entries ++ line.now) result
         (K.output out.old).written (K.output out.new).written (K.output out.old).faults
@@ -53,7 +53,7 @@ pub(crate) fn write_views<K: Sink>(
     late: Option<u64>,
     out: &mut K,
 ) -> u8
-    requires { IsBlank page.old }
+    requires { IsBlankPage page.old }
     ensures { (d : ℕ) × ((d ≡ due) ⊎ ((d ≡ 8) × (due ≡ 14)))
         × IsWritten d
         (views_text ledger.now.named ledger.now.birth ledger.now.entries d late) result

@@ -16,7 +16,7 @@ use Rattle.policy_words.specs.Valid.{IsWellFormed}
 use Rattle.core_machine.specs.Books.{BookView, IsBook, now_after}
 use Rattle.request_text.proofs.BriefWalks.{brief_reply}
 use Rattle.request_text.proofs.SoundReplies.{reply_sounds}
-use Rattle.connection_laws.specs.Connection.{Rises, IsTimed}
+use Rattle.connection_laws.specs.Connection.{TicksRise, IsTimed}
 use Rattle.connection_laws.specs.Desks.{CanBeTold, RepliesCanBeTold}
 use Rattle.core_machine.specs.Ledgers.{IsLegalLedger}
 use Rattle.ledger_laws.specs.Serving.{CanBeServed}
@@ -26,10 +26,10 @@ module _ (p : Policy) (birth : ℕ) (m : Model) where
   step_rises g (Tick upto to) l = let x = l.later in omega (arith, x)
   step_rises g (Ask actor request reply) l = omega arith
 
-  rises_from : (g es : List Entry) → AreLegalAfter p birth m g es → Rises (now_of birth g) es
+  rises_from : (g es : List Entry) → AreLegalAfter p birth m g es → TicksRise (now_of birth g) es
   rises_from g [] l = tt
   rises_from g (e ∷ es) l =
-      (step_rises g e.what l.0, subst (λ (n : ℕ). Rises n es) (now_snoc birth g e) (rises_from (g ++ e ∷ []) es l.1))
+      (step_rises g e.what l.0, subst (λ (n : ℕ). TicksRise n es) (now_snoc birth g e) (rises_from (g ++ e ∷ []) es l.1))
 
   -- the last step of a legal list
   last_step : (g before : List Entry) (e : Entry) → AreLegalAfter p birth m g (before ++ e ∷ []) → IsLegalStep p birth m (g ++ before) e.what

@@ -8,7 +8,7 @@ use Rattle.gt_io.specs.Links.{Traffic}
 use Rattle.policy_words.specs.Naming.{NamedPolicy}
 use Rattle.connection_laws.specs.declared.ends.LinkEnd.{LinkEnd}
 use Rattle.connection_laws.specs.Lines.{Answer, shown, view_only, silence, agreed, bad, accepted, no_memory, no_steps, worn, is_worn, Acted}
-use Rattle.connection_laws.specs.Connection.{Answers, Asks, Conn}
+use Rattle.connection_laws.specs.Connection.{AnswersAfterTicks, Asks, Conn}
 use Rattle.connection_laws.specs.Attending.{EndsBy, IsUnhindered, IsComplete}
 use Rattle.connection_laws.specs.Clerks.{WearsAt}
 use Rattle.connection_laws.proofs.Linking as Linking
@@ -16,7 +16,7 @@ use Rattle.line_server.specs.Serving.{IsAnswered}
 
 module _ (np : NamedPolicy) (birth : ℕ) (who : Who) (h : List Entry) where
   answered_by : (reading : ℕ) (actor : Actor) (request : Request) (answer : Answer) (n : ℕ) (ticks entries : List Entry) → is_worn answer ≡ false
-      → Answers birth who h reading actor request answer n ticks entries → IsAnswered h answer
+      → AnswersAfterTicks birth who h reading actor request answer n ticks entries → IsAnswered h answer
   answered_by reading actor request (accepted reply) n ticks entries u x = tt
   answered_by reading actor request no_memory n ticks entries u x = tt
   answered_by reading actor request no_steps n ticks entries u x = x.1

@@ -9,12 +9,12 @@ use Rattle.policy_words.specs.Naming.{NamedPolicy}
 use Rattle.connection_laws.specs.Connection.{part_of}
 use Rattle.connection_laws.proofs.Places.{part_of-append, part_of-part, all_mine, none_mine}
 use Rattle.line_server.specs.declared.ended.Served.{Served}
-use Rattle.line_server.specs.Working.{Tale, owns_of, AreServed, AreOwnParts, IsTellingOfWorkers}
+use Rattle.line_server.specs.Working.{Tale, owns_of, AreServedSoFar, AreOwnParts, IsTellingOfWorkers}
 use Rattle.line_server.proofs.Links.{served_longer, others_none}
 use Rattle.connection_laws.specs.Services.{service}
 
 module _ {L : Type 0} (traffic : L → Traffic) (np : NamedPolicy) (first : List Entry) (legal : List Entry → Type 0) (now : List Entry → ℕ) (w : ℕ) where
-  parts_from : (es h own : List Entry) (c : ℕ) (ss : List (Served L)) (xs : List (Tale L)) → AreServed traffic (service np first legal now) w h own c ss xs
+  parts_from : (es h own : List Entry) (c : ℕ) (ss : List (Served L)) (xs : List (Tale L)) → AreServedSoFar traffic (service np first legal now) w h own c ss xs
       → ((k : ℕ) → c ≤ k → part_of (by w k) es ≡ part_of (by w k) (owns_of xs)) → AreOwnParts es w c xs
   parts_from es h own c [] [] all same = tt
   parts_from es h own c [] (x ∷ xs) all same = absurd all
@@ -34,7 +34,7 @@ module _ {M L : Type 0} (traffic : L → Traffic) (np : NamedPolicy) (first : Li
       let t = k.tales in
       let own_is : p.pass.own ≡ owns_of t = ap (λ (q : Holder M). q.own) k.worked.grows.after_is ∙ ap (λ (es : List Entry). es ++ owns_of t) fresh in
       let whole : part w (drop (length first) h) ≡ owns_of t = ap (λ (n : ℕ). part n (drop (length first) h)) (sym number) ∙ sym told.1 ∙ own_is in
-      let links = subst (λ (own : List Entry). AreServed traffic (service np first legal now) w h own 1 served t) fresh (served_longer traffic np first legal now w p.pass.seen h o.pass.own 1 served t told.0 k.worked.links) in (
+      let links = subst (λ (own : List Entry). AreServedSoFar traffic (service np first legal now) w h own 1 served t) fresh (served_longer traffic np first legal now w p.pass.seen h o.pass.own 1 served t told.0 k.worked.links) in (
         t,
         links,
         whole,

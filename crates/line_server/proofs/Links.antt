@@ -17,7 +17,7 @@ use Rattle.line_server.specs.declared.ended.WorkEnd.{WorkEnd}
 use Rattle.line_server.specs.declared.ended.WorkEnd.TheVariants.{Worn}
 use Rattle.connection_laws.specs.Attending.{is_worn_out}
 use Rattle.line_server.specs.Serving.{link_view, Serves}
-use Rattle.line_server.specs.Working.{Tale, begun_of, hours_of, owns_of, AllUnworn, WorkerSpot, WorksTo, IsServed, AreServed, Worked, WorksOn, Works}
+use Rattle.line_server.specs.Working.{Tale, begun_of, hours_of, owns_of, AllUnworn, WorkerSpot, WorksTo, IsServedSoFar, AreServedSoFar, WorkedSoFar, WorksOn, WorksThrough}
 use Rattle.connection_laws.specs.Doors.{Gives}
 use Rattle.connection_laws.proofs.Giving.{gives_none, gives_more}
 use Rattle.connection_laws.proofs.Growing.{grown_none, grown_twice}
@@ -38,7 +38,7 @@ module _ {L : Type 0} where
 
   module _ (traffic : L → Traffic) (np : NamedPolicy) (first : List Entry) (legal : List Entry → Type 0) (now : List Entry → ℕ) (number : ℕ) where
     abbrev Are : List Entry → List Entry → ℕ → List (Served L) → List (Tale L) → Type 0
-    Are h own c ss xs = AreServed traffic (service np first legal now) number h own c ss xs
+    Are h own c ss xs = AreServedSoFar traffic (service np first legal now) number h own c ss xs
 
     pub served_longer : (h h' own : List Entry) (c : ℕ) (ss : List (Served L)) (xs : List (Tale L)) → IsPrefix h h' → Are h own c ss xs → Are h' own c ss xs
     served_longer h h' own c [] [] more all = tt
@@ -59,8 +59,8 @@ module _ {L : Type 0} where
           served_longer h h' own (c + 1) ss xs more all.1,
         )
 
-    served_push : (h own : List Entry) (c k : ℕ) (ss : List (Served L)) (xs : List (Tale L)) (s : Served L) (x : Tale L) → k ≡ c + length ss → Are h own c ss xs → IsServed traffic (service np first legal now) number h own k s x → Are h own c (ss ++ s ∷ []) (xs ++ x ∷ [])
-    served_push h own c k [] [] s x at all one = (subst (λ (n : ℕ). IsServed traffic (service np first legal now) number h own n s x) (let e : k ≡ c = omega (arith, at) in e) one, tt)
+    served_push : (h own : List Entry) (c k : ℕ) (ss : List (Served L)) (xs : List (Tale L)) (s : Served L) (x : Tale L) → k ≡ c + length ss → Are h own c ss xs → IsServedSoFar traffic (service np first legal now) number h own k s x → Are h own c (ss ++ s ∷ []) (xs ++ x ∷ [])
+    served_push h own c k [] [] s x at all one = (subst (λ (n : ℕ). IsServedSoFar traffic (service np first legal now) number h own n s x) (let e : k ≡ c = omega (arith, at) in e) one, tt)
     served_push h own c k [] (y ∷ ys) s x at all one = absurd all
     served_push h own c k (t ∷ ts) [] s x at all one = absurd all
     served_push h own c k (t ∷ ts) (y ∷ ys) s x at all one = (all.0, served_push h own (c + 1) k ts ys s x (omega (arith, at)) all.1 one)
@@ -77,16 +77,16 @@ module _ {L : Type 0} where
 
 module _ {M L : Type 0} (traffic : L → Traffic) (np : NamedPolicy) (first : List Entry) (legal : List Entry → Type 0) (now : List Entry → ℕ) (number : ℕ) where
   -- one more link was served
-  pub link_done : (o p p' : WorkerSpot M L) (served : List (Served L)) (tales : List (Tale L)) (s : Served L) (begun : L) (conn calls calls' : ℕ) → Worked traffic (service np first legal now) number o p served tales
+  pub link_done : (o p p' : WorkerSpot M L) (served : List (Served L)) (tales : List (Tale L)) (s : Served L) (begun : L) (conn calls calls' : ℕ) → WorkedSoFar traffic (service np first legal now) number o p served tales
       → Serves (service np first legal now) (by number conn) (link_view p.pass calls p.clock (traffic begun)) (link_view p'.pass calls' p'.clock (traffic s.link)) s.report → conn ≡ 1 + length served → GivesFirst p.door.links p'.door.links begun → IsFresh (traffic begun)
-      → (tales' : List (Tale L)) × Worked traffic (service np first legal now) number o p' (served ++ s ∷ []) tales'
+      → (tales' : List (Tale L)) × WorkedSoFar traffic (service np first legal now) number o p' (served ++ s ∷ []) tales'
   link_done o p p' served tales s begun conn calls calls' w v at door fresh =
       let x : Tale L = record { begun = begun; taken = v.taken; given = v.given; readings = v.readings; own = v.own; acted = v.acted; draws = p'.pass.draws } in
       let own_is : p.pass.own ≡ o.pass.own ++ owns_of tales = ap (λ (q : Holder M). q.own) w.grows.after_is in
       let none = others_none traffic np first legal now number p.pass.seen o.pass.own 1 conn served tales (λ j low high same. absurd (omega (arith, at, high, same))) w.links in
       let same : placed (by number conn) first p.pass.own ≡ placed (by number conn) first o.pass.own =
       ap (placed (by number conn) first) own_is ∙ ap (λ (es : List Entry). length (part_of (by number conn) first) + length es) (part_of-append (by number conn) o.pass.own (owns_of tales) ∙ ap (λ (es : List Entry). part_of (by number conn) o.pass.own ++ es) none ∙ append-nil (part_of (by number conn) o.pass.own)) in
-      let one : IsServed traffic (service np first legal now) number p'.pass.seen o.pass.own conn s x =
+      let one : IsServedSoFar traffic (service np first legal now) number p'.pass.seen o.pass.own conn s x =
       record {
         fresh = fresh;
         conn = λ birth timed. subst (λ (older : ℕ). Conn np birth (by number conn) p'.pass.seen older v.taken v.readings v.own v.given v.acted s.report.outcome) same (v.conn birth timed);
@@ -125,34 +125,34 @@ ends_of {L} links t t' draws ss served s (Some end) kept is all wears w =
     subst (λ (e : WorkEnd). WorksTo links t t' draws served e) (sym w.2) (ss, s, is, all, w.1, facts.0, facts.1, kept)
 
 module _ {M L : Type 0} (traffic : L → Traffic) (np : NamedPolicy) (first : List Entry) (legal : List Entry → Type 0) (now : List Entry → ℕ) where
-  pub no_links : (number : ℕ) (o : WorkerSpot M L) (served : List (Served L)) → served ≡ [] → Worked traffic (service np first legal now) number o o served []
+  pub no_links : (number : ℕ) (o : WorkerSpot M L) (served : List (Served L)) → served ≡ [] → WorkedSoFar traffic (service np first legal now) number o o served []
   no_links number o served is =
-      subst (λ (ss : List (Served L)). Worked traffic (service np first legal now) number o o ss []) (sym is)
+      subst (λ (ss : List (Served L)). WorkedSoFar traffic (service np first legal now) number o o ss []) (sym is)
       (record { links = tt; grows = grown_none o.pass; reads = Reads-nil o.clock; door = gives_none o.door.links })
 
   -- the next link, told from the begin of the work
   pub goes_on : (number number' : ℕ) (o p p' : WorkerSpot M L) (items items' served : List (Served L)) (tales : List (Tale L)) (result : Option WorkEnd) → number' ≡ number → items' ≡ items
-      → Worked traffic (service np first legal now) number o p items tales → AllUnworn items → WorksOn traffic (service np first legal now) number' p p' items' served result
-      → (tales' : List (Tale L)) × Worked traffic (service np first legal now) number o p' served tales'
+      → WorkedSoFar traffic (service np first legal now) number o p items tales → AllUnworn items → WorksOn traffic (service np first legal now) number' p p' items' served result
+      → (tales' : List (Tale L)) × WorkedSoFar traffic (service np first legal now) number o p' served tales'
       × MatchOption result (AllUnworn served × (p'.door.tally ≡ p.door.tally)) (λ end. WorksTo p'.door.links p.door.tally p'.door.tally p'.pass.draws served end)
   goes_on number number' o p p' items items' served tales result same kept w u on =
       let on' = subst (λ (n : ℕ). WorksOn traffic (service np first legal now) n p p' items' served result) same on in
-      on' o tales (subst (λ (ss : List (Served L)). Worked traffic (service np first legal now) number o p ss tales) (sym kept) w) (subst (λ (ss : List (Served L)). AllUnworn ss) (sym kept) u)
+      on' o tales (subst (λ (ss : List (Served L)). WorkedSoFar traffic (service np first legal now) number o p ss tales) (sym kept) w) (subst (λ (ss : List (Served L)). AllUnworn ss) (sym kept) u)
 
   pub next_done : (number number' : ℕ) (o p p' : WorkerSpot M L) (items items' served : List (Served L)) (tales : List (Tale L)) (end : WorkEnd) → number' ≡ number → items' ≡ items → p.door.tally ≡ o.door.tally
-      → Worked traffic (service np first legal now) number o p items tales → AllUnworn items → WorksOn traffic (service np first legal now) number' p p' items' served (Some end)
-      → Works traffic (service np first legal now) number o p' served end
+      → WorkedSoFar traffic (service np first legal now) number o p items tales → AllUnworn items → WorksOn traffic (service np first legal now) number' p p' items' served (Some end)
+      → WorksThrough traffic (service np first legal now) number o p' served end
   next_done number number' o p p' items items' served tales end same kept low w u on =
       let d = goes_on number number' o p p' items items' served tales (Some end) same kept w u on in
       record { tales = d.0; worked = d.1; cause = subst (λ (t : Tally). WorksTo p'.door.links t p'.door.tally p'.pass.draws served end) low d.2 }
 
 module _ {M L : Type 0} (traffic : L → Traffic) (v : Service) (number : ℕ) (o p : WorkerSpot M L) where
   -- the links stand while the door rests
-  pub at_rest : (d : Doorway L) (served : List (Served L)) (tales : List (Tale L)) → p.door ≡ d → Worked traffic v number o (record p { door = d }) served tales → Worked traffic v number o p served tales
-  at_rest d served tales is w = subst (λ (e : Doorway L). Worked traffic v number o (record p { door = e }) served tales) (sym is) w
+  pub at_rest : (d : Doorway L) (served : List (Served L)) (tales : List (Tale L)) → p.door ≡ d → WorkedSoFar traffic v number o (record p { door = d }) served tales → WorkedSoFar traffic v number o p served tales
+  at_rest d served tales is w = subst (λ (e : Doorway L). WorkedSoFar traffic v number o (record p { door = e }) served tales) (sym is) w
 
   -- and as it is closed
-  pub works_closed : (d : Doorway L) (served : List (Served L)) (end : WorkEnd) → d ≡ record p.door { closed = true } → Works traffic v number o p served end → Works traffic v number o (record p { door = d }) served end
+  pub works_closed : (d : Doorway L) (served : List (Served L)) (end : WorkEnd) → d ≡ record p.door { closed = true } → WorksThrough traffic v number o p served end → WorksThrough traffic v number o (record p { door = d }) served end
   works_closed d served end is w =
-      subst (λ (e : Doorway L). Works traffic v number o (record p { door = e }) served end) (sym is)
+      subst (λ (e : Doorway L). WorksThrough traffic v number o (record p { door = e }) served end) (sym is)
       (record { tales = w.tales; worked = record { links = w.worked.links; grows = w.worked.grows; reads = w.worked.reads; door = w.worked.door }; cause = w.cause })

@@ -99,7 +99,7 @@ WorksTo {L} links t t' draws served Fresh = ⊥
 module _ {L : Type 0} (traffic : L → Traffic) (v : Service) (number : ℕ) where
   -- link c of the worker was served as this is told, over a history; own are the entries that its
   -- pass had before the first link
-  pub record IsServed (h : List Entry) (own : List Entry) (c : ℕ) (s : Served L) (x : Tale L)
+  pub record IsServedSoFar (h : List Entry) (own : List Entry) (c : ℕ) (s : Served L) (x : Tale L)
       : Type 0 where
     pub fresh : IsFresh (traffic x.begun)
     pub conn : (birth : ℕ) → IsTimed birth v.legal v.now
@@ -114,16 +114,17 @@ module _ {L : Type 0} (traffic : L → Traffic) (v : Service) (number : ℕ) whe
     pub finished : (traffic s.link).finished ≡ true
 
   -- the links from number c on
-  abbrev pub AreServed : List Entry → List Entry → ℕ → List (Served L) → List (Tale L) → Type 0
-  AreServed h own c [] [] = Unit {0}
-  AreServed h own c [] (x ∷ xs) = ⊥
-  AreServed h own c (s ∷ ss) [] = ⊥
-  AreServed h own c (s ∷ ss) (x ∷ xs) = IsServed h own c s x × AreServed h own (c + 1) ss xs
+  abbrev pub AreServedSoFar : List Entry → List Entry → ℕ → List (Served L) → List (Tale L) → Type 0
+  AreServedSoFar h own c [] [] = Unit {0}
+  AreServedSoFar h own c [] (x ∷ xs) = ⊥
+  AreServedSoFar h own c (s ∷ ss) [] = ⊥
+  AreServedSoFar h own c (s ∷ ss) (x ∷ xs) =
+      IsServedSoFar h own c s x × AreServedSoFar h own (c + 1) ss xs
 
 module _ {M L : Type 0} (traffic : L → Traffic) (v : Service) (number : ℕ) where
-  pub record Worked (o p : WorkerSpot M L) (served : List (Served L)) (tales : List (Tale L))
+  pub record WorkedSoFar (o p : WorkerSpot M L) (served : List (Served L)) (tales : List (Tale L))
       : Type 0 where
-    pub links : AreServed traffic v number p.pass.seen o.pass.own 1 served tales
+    pub links : AreServedSoFar traffic v number p.pass.seen o.pass.own 1 served tales
     pub grows : Grows o.pass p.pass (owns_of tales) (2 * length (hours_of tales))
     pub reads : Reads o.clock p.clock (hours_of tales)
     pub door : Gives o.door.links p.door.links (begun_of tales)
@@ -132,21 +133,22 @@ module _ {M L : Type 0} (traffic : L → Traffic) (v : Service) (number : ℕ) w
   abbrev pub WorksOn : WorkerSpot M L → WorkerSpot M L → List (Served L) → List (Served L)
       → Option WorkEnd → Type 0
   WorksOn p p' served served' result =
-      (o : WorkerSpot M L) (tales : List (Tale L)) → Worked o p served tales → AllUnworn served
-      → (tales' : List (Tale L)) × Worked o p' served' tales'
+      (o : WorkerSpot M L) (tales : List (Tale L)) → WorkedSoFar o p served tales → AllUnworn served
+      → (tales' : List (Tale L)) × WorkedSoFar o p' served' tales'
       × MatchOption result (AllUnworn served' × (p'.door.tally ≡ p.door.tally))
       (λ end. WorksTo p'.door.links p.door.tally p'.door.tally p'.pass.draws served' end)
 
   -- all the work of a worker
-  pub record Works (o p : WorkerSpot M L) (served : List (Served L)) (end : WorkEnd) : Type 0 where
+  pub record WorksThrough (o p : WorkerSpot M L) (served : List (Served L)) (end : WorkEnd)
+      : Type 0 where
     pub tales : List (Tale L)
-    pub worked : Worked o p served tales
+    pub worked : WorkedSoFar o p served tales
     pub cause : WorksTo p.door.links o.door.tally p.door.tally p.pass.draws served end
 
 module _ {M L : Type 0} (traffic : L → Traffic) (v : Service) where
   -- What a worker and its pass come to. The pass is idle again, and the door was closed
-  pub record HasWorked (site : Site M) (a b : PostView M L) : Type 0 where
-    pub works : Works traffic v a.spot.pass.number a.spot b.spot b.served b.outcome
+  pub record HasWorkedAtPost (site : Site M) (a b : PostView M L) : Type 0 where
+    pub works : WorksThrough traffic v a.spot.pass.number a.spot b.spot b.served b.outcome
     pub idle : IsIdle site b.spot.pass
     pub number_is : b.spot.pass.number ≡ a.spot.pass.number
     pub closed : b.spot.door.closed ≡ true
@@ -163,7 +165,8 @@ abbrev pub IsTellingOfWorkers : (M : Type 0) {L : Type 0} → (L → Traffic) �
 IsTellingOfWorkers M {L} traffic v =
     (w : ℕ) (o p : WorkerSpot M L) (served : List (Served L)) (end : WorkEnd) (h : List Entry)
     → o.pass.own ≡ [] → p.pass.number ≡ w
-    → Works traffic v w o p served end → IsToldBy v.first h p.pass
-    → (tales : List (Tale L)) × AreServed traffic v w h [] 1 served tales
+    → WorksThrough traffic v w o p served end → IsToldBy v.first h p.pass
+    → (tales : List (Tale L)) × AreServedSoFar traffic v w h [] 1 served tales
     × (part w (drop (length v.first) h) ≡ owns_of tales)
-    × AreOwnParts (drop (length v.first) h) w 1 tales × Gives o.door.links p.door.links (begun_of tales)
+    × AreOwnParts (drop (length v.first) h) w 1 tales
+    × Gives o.door.links p.door.links (begun_of tales)

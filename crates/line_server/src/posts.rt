@@ -4,7 +4,7 @@ ghost use Rattle.turn_lock.specs.Holders.{site_of};
 ghost use Rattle.connection_laws.specs.Services.{service_at};
 ghost use Rattle.connection_laws.specs.Turns.{IsIdle, CanAsk};
 ghost use Rattle.connection_laws.specs.Desks.{MayBeAsked, RepliesCanBeTold};
-ghost use Rattle.line_server.specs.Working.{at_post, HasWorked};
+ghost use Rattle.line_server.specs.Working.{at_post, HasWorkedAtPost};
 
 use crate::ended::WorkEnd;
 use crate::workers::{Worker, work};
@@ -35,7 +35,7 @@ pub fn work_at<M: Machine, R: Wait, D: Door, C: Clock, G: Gate>(
     requires ready { CanAsk M.named M.legal desk.now policy.now post.old.pass }
     requires fresh { (post.old.worker.outcome ≡ WorkEnd.Fresh)
         × (post.old.worker.served.items ≡ []) }
-    ensures { HasWorked D.L.traffic (service_at M.list M.legal M.now_of desk.now policy.now)
+    ensures { HasWorkedAtPost D.L.traffic (service_at M.list M.legal M.now_of desk.now policy.now)
         (site_of desk.now) (at_post C.readings D.doorway post.old)
         (at_post C.readings D.doorway post.new) }
 {
@@ -60,7 +60,7 @@ where
     requires replies { RepliesCanBeTold policy.now (M.legal desk.now.root) }
     ensures length { length posts.new.items ≡ length posts.old.items }
     ensures works { (i : ℕ) (d : _) → i < length posts.old.items
-        → HasWorked D.L.traffic (service_at M.list M.legal M.now_of desk.now policy.now)
+        → HasWorkedAtPost D.L.traffic (service_at M.list M.legal M.now_of desk.now policy.now)
         (site_of desk.now)
         (at_post C.readings D.doorway (slice_index_or posts.old.items i d))
         (at_post C.readings D.doorway (slice_index_or posts.new.items i d)) }

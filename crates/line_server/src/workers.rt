@@ -5,7 +5,7 @@ ghost use Rattle.turn_lock.specs.Holders.{site_of};
 ghost use Rattle.connection_laws.specs.Services.{service_at};
 ghost use Rattle.connection_laws.specs.Turns.{CanAsk, StaysIdle};
 ghost use Rattle.connection_laws.specs.Attending.{is_worn_out};
-ghost use Rattle.line_server.specs.Working.{worker_spot, post_view, WorksOn, Works, HasWorked};
+ghost use Rattle.line_server.specs.Working.{worker_spot, post_view, WorksOn, WorksThrough, HasWorkedAtPost};
 
 use crate::ended::{Served, WorkEnd};
 use crate::serve::serve_link;
@@ -94,8 +94,8 @@ fn work_on<M: Machine, R: Wait, D: Door, C: Clock, G: Gate>(
 ) -> WorkEnd
     requires ready { CanAsk M.named M.legal desk.now policy.now pass.old }
     requires empty { w.old.served.items ≡ [] }
-    ensures works { Works D.L.traffic (service_at M.list M.legal M.now_of desk.now policy.now)
-        pass.old.number
+    ensures works { WorksThrough D.L.traffic
+        (service_at M.list M.legal M.now_of desk.now policy.now) pass.old.number
         (worker_spot pass.old (C.readings w.old.clock) (D.doorway w.old.door))
         (worker_spot pass.new (C.readings w.new.clock) (D.doorway w.new.door))
         w.new.served.items result }
@@ -126,7 +126,7 @@ pub fn work<M: Machine, R: Wait, D: Door, C: Clock, G: Gate>(
 )
     requires ready { CanAsk M.named M.legal desk.now policy.now pass.old }
     requires fresh { (w.old.outcome ≡ WorkEnd.Fresh) × (w.old.served.items ≡ []) }
-    ensures { HasWorked D.L.traffic (service_at M.list M.legal M.now_of desk.now policy.now)
+    ensures { HasWorkedAtPost D.L.traffic (service_at M.list M.legal M.now_of desk.now policy.now)
         (site_of desk.now) (post_view C.readings D.doorway pass.old w.old)
         (post_view C.readings D.doorway pass.new w.new) }
 {

@@ -16,7 +16,7 @@ use Rattle.poll_front.specs.declared.ends.PollEnd.{PollEnd}
 use Rattle.poll_front.specs.declared.states.LinkState.{LinkState}
 use Rattle.poll_front.specs.declared.states.Yield.{Yield}
 use Rattle.poll_front.specs.declared.states.Yield.TheVariants.{Later, End}
-use Rattle.poll_front.specs.Fronts.{IsLive, CallsOn, faults_by, ended_by, waiting_bytes, Pushed, Filled, FillsUp}
+use Rattle.poll_front.specs.Fronts.{IsLive, CallsOn, faults_by, ends_told_by, waiting_bytes, Pushed, Filled, FillsUp}
 
 pub rest_twice : {a b d : Harbour} {c : ℕ} → KeepsRest a b c → KeepsRest b d c → KeepsRest a d c
 rest_twice x y =
@@ -30,7 +30,7 @@ live_sound (Read (Err f)) live = absurd (cc live)
 live_sound (Wrote (Ok t)) live = refl
 live_sound (Wrote (Err f)) live = absurd (cc live)
 
-pub live_open : (last : Called) → is_over last ≡ false → ended_by last ≡ 0
+pub live_open : (last : Called) → is_over last ≡ false → ends_told_by last ≡ 0
 live_open Nothing live = refl
 live_open (Read (Ok (GotBytes n))) live = refl
 live_open (Read (Ok Finished)) live = absurd (cc live)
@@ -97,9 +97,9 @@ read_faults : (before now : ℕ) (q : Port) (result : Result Got Failed) → q.l
 read_faults before now q (Ok t) is x = let kept : now ≡ before = x.kept in omega (arith, kept)
 read_faults before now q (Err f) is x = let once : now ≡ one_more before = x.once in let one : faults_by q.last ≡ 1 = ap faults_by is in omega (arith, once, one)
 
-read_ends : (before now : ℕ) (q : Port) (result : Result Got Failed) → q.last ≡ Read result → now ≡ ends_by result before → now ≤ before + ended_by q.last
+read_ends : (before now : ℕ) (q : Port) (result : Result Got Failed) → q.last ≡ Read result → now ≡ ends_by result before → now ≤ before + ends_told_by q.last
 read_ends before now q (Ok (GotBytes n)) is x = omega (arith, x)
-read_ends before now q (Ok Finished) is x = let one : ended_by q.last ≡ 1 = ap ended_by is in omega (arith, x, one)
+read_ends before now q (Ok Finished) is x = let one : ends_told_by q.last ≡ 1 = ap ends_told_by is in omega (arith, x, one)
 read_ends before now q (Ok GotNotYet) is x = omega (arith, x)
 read_ends before now q (Err f) is x = omega (arith, x)
 

@@ -19,7 +19,7 @@ use Rattle.poll_front.specs.declared.ends.PollEnd.{PollEnd}
 use Rattle.poll_front.specs.declared.ends.PollEnd.TheVariants.{Ended, ReadFault, WriteFault, Spent, Full, Stopped, Worn}
 use Rattle.poll_front.specs.declared.seats.LinkRow.{LinkRow}
 use Rattle.poll_front.specs.declared.seats.LinkRow.TheVariants.{New, Open, Over}
-use Rattle.poll_front.specs.Fronts.{Turn, acted_of, port_bytes, course, faults_by, ended_by, EndsLink, HasOwnEnd}
+use Rattle.poll_front.specs.Fronts.{Turn, acted_of, port_bytes, course, faults_by, ends_told_by, EndsLink, HasOwnEnd}
 use Rattle.poll_front.specs.Tables.{Sits, IsLetIn, IsLetGo, LetsGo, EndsSeat, AreOpenSeats, Went, Ran, MayGoOn, RunsTo, FaultsAreLast, EndsAreLast, count_among, faults_told, polled_in, port_behind}
 use Rattle.poll_front.proofs.Counting.{shown_same}
 use Rattle.poll_front.proofs.Looping.{seat_of}
@@ -103,8 +103,8 @@ module _ {a b : Harbour} {seats : List LinkRow} {ends : List Polled} (l : LetsGo
   ends_last : (start : Harbour) → a.opened ≡ length seats → EndsAreLast start a → EndsAreLast start b
   ends_last start opened f =
       let same = l.told_ends in
-      let all = ap (count_among ended_by b.port) l.opened in
-      let shown = shown_same ended_by a.port b.port a.opened (λ k first low. last_kept k first (omega (arith, low, opened))) in
+      let all = ap (count_among ends_told_by b.port) l.opened in
+      let shown = shown_same ends_told_by a.port b.port a.opened (λ k first low. last_kept k first (omega (arith, low, opened))) in
       omega (arith, f, same, all, shown)
 
   runs_to : (start : Harbour) (draws : ℕ) (end : RunEnd) → RunsTo start a draws ends end → RunsTo start b draws ends end

@@ -23,7 +23,7 @@ use Rattle.poll_front.specs.declared.states.LinkState.{LinkState}
 use Rattle.poll_front.specs.declared.states.Yield.{Yield}
 use Rattle.poll_front.specs.declared.states.Yield.TheVariants.{End}
 use Rattle.poll_front.specs.declared.states.RunCounters.{RunCounters}
-use Rattle.poll_front.specs.Fronts.{Turn, FrontSpot, acted_of, course, port_bytes, waiting_bytes, LinkStands, Running, TakesFront, StepsTo, Comes, IsWritten, CallsOn, CanServe, CountsOne, Pushed, PushesOut, Filled, FillsUp, TellsLine}
+use Rattle.poll_front.specs.Fronts.{Turn, FrontSpot, acted_of, course, port_bytes, waiting_bytes, LinkStands, Running, TakesUpToFeed, LinkComesTo, Comes, IsReplyWritten, CallsOn, CanServe, CountsOne, Pushed, PushesOut, Filled, FillsUp, TellsLine}
 use Rattle.poll_front.proofs.Calls.{live_kept}
 use Rattle.poll_front.proofs.Hearing.{Hears}
 use Rattle.poll_front.proofs.Turning.{running_on, acted_here}
@@ -31,7 +31,7 @@ use Rattle.poll_front.proofs.Standing.{stands_byte, stands_line, heard_line, com
 
 module _ {M : Type 0} (v : Service) where
   -- what goes on behind a step that went on
-  pub steps_then : {p p' p'' : FrontSpot M} {a b d : Harbour} {c : ℕ} {s s' s'' : LinkState} {result : Result (Unit {0}) Yield} → StepsTo v p p' a b c s s' (Ok tt) → StepsTo v p' p'' b d c s' s'' result → StepsTo v p p'' a d c s s'' result
+  pub steps_then : {p p' p'' : FrontSpot M} {a b d : Harbour} {c : ℕ} {s s' s'' : LinkState} {result : Result (Unit {0}) Yield} → LinkComesTo v p p' a b c s s' (Ok tt) → LinkComesTo v p' p'' b d c s' s'' result → LinkComesTo v p p'' a d c s s'' result
   steps_then {p} {p'} {p''} {a} {b} {d} {c} {s} {s'} {s''} {result} f g =
       record {
         steps = λ o start turns fed r x.
@@ -48,7 +48,7 @@ module _ {M : Type 0} (v : Service) where
       }
 
   -- the reply of the last line is written on
-  pub steps_push : (p : FrontSpot M) {a b : Harbour} {c : ℕ} {s : LinkState} {at : ℕ} {result : Result (Unit {0}) Yield} → PushesOut a b c (told_bytes s.told) s.at at result → StepsTo v p p a b c s (record s { at = at }) result
+  pub steps_push : (p : FrontSpot M) {a b : Harbour} {c : ℕ} {s : LinkState} {at : ℕ} {result : Result (Unit {0}) Yield} → PushesOut a b c (told_bytes s.told) s.at at result → LinkComesTo v p p a b c s (record s { at = at }) result
   steps_push p {a} {b} {c} {s} {at} {result} x =
       record {
         steps = λ o start turns fed r stands.
@@ -56,7 +56,7 @@ module _ {M : Type 0} (v : Service) where
       }
 
   -- bytes are read
-  pub steps_fill : (p : FrontSpot M) {a b : Harbour} {c : ℕ} {s s' : LinkState} {result : Result (Unit {0}) Yield} → FillsUp a b c s s' result → IsWritten s → s.from ≡ s.upto → 0 < s.left → length s'.chunk ≡ 4096 → StepsTo v p p a b c s s' result
+  pub steps_fill : (p : FrontSpot M) {a b : Harbour} {c : ℕ} {s s' : LinkState} {result : Result (Unit {0}) Yield} → FillsUp a b c s s' result → IsReplyWritten s → s.from ≡ s.upto → 0 < s.left → length s'.chunk ≡ 4096 → LinkComesTo v p p a b c s s' result
   steps_fill p {a} {b} {c} {s} {s'} {result} x wrote none some size =
       record {
         steps = λ o start turns fed r stands.
@@ -64,34 +64,34 @@ module _ {M : Type 0} (v : Service) where
       }
 
   -- as many bytes were taken as a link may send
-  pub steps_spent : (p : FrontSpot M) (a : Harbour) (c : ℕ) (s : LinkState) → is_over (a.port c).last ≡ false → IsWritten s → s.from ≡ s.upto → s.left ≡ 0 → StepsTo v p p a a c s s (Err (End Spent))
+  pub steps_spent : (p : FrontSpot M) (a : Harbour) (c : ℕ) (s : LinkState) → is_over (a.port c).last ≡ false → IsReplyWritten s → s.from ≡ s.upto → s.left ≡ 0 → LinkComesTo v p p a a c s s (Err (End Spent))
   steps_spent p a c s live wrote none spent =
       record { steps = λ o start turns fed r stands. record { more = []; own = tt; running = r; comes = (ends_spent (course (a.port c)) stands live wrote none spent, tt); worn_out = λ n e. absurd cc } }
 
   -- a byte is taken within a line
-  pub steps_byte : (p : FrontSpot M) (a : Harbour) (c : ℕ) (s : LinkState) (byte : ℕ) → s.from < s.upto → byte ≡ get_or s.chunk s.from 0 → is_feed byte ≡ false → StepsTo v p p a a c s (record s { framer = pushed s.framer byte; from = s.from + 1 }) (Ok tt)
+  pub steps_byte : (p : FrontSpot M) (a : Harbour) (c : ℕ) (s : LinkState) (byte : ℕ) → s.from < s.upto → byte ≡ get_or s.chunk s.from 0 → is_feed byte ≡ false → LinkComesTo v p p a a c s (record s { framer = pushed s.framer byte; from = s.from + 1 }) (Ok tt)
   steps_byte p a c s byte some is other =
       record { steps = λ o start turns fed r stands. record { more = []; own = tt; running = r; comes = (fed ++ byte ∷ [], stands_byte stands byte some is other); worn_out = λ n e. absurd cc } }
 
   -- and so do the bytes up to a line feed
-  steps_many : (p : FrontSpot M) (a : Harbour) (c : ℕ) (s : LinkState) (n : ℕ) (frame : Frame) → s.from + n ≤ s.upto → PushesFront s.framer (waiting_bytes s) n frame → StepsTo v p p a a c s (record s { framer = frame; from = s.from + n }) (Ok tt)
+  steps_many : (p : FrontSpot M) (a : Harbour) (c : ℕ) (s : LinkState) (n : ℕ) (frame : Frame) → s.from + n ≤ s.upto → PushesFront s.framer (waiting_bytes s) n frame → LinkComesTo v p p a a c s (record s { framer = frame; from = s.from + n }) (Ok tt)
   unfolding PushesFront
   steps_many p a c s zero frame within front =
-      subst (λ (f : Frame). StepsTo v p p a a c s (record s { framer = f; from = s.from + 0 }) (Ok tt)) (sym front)
+      subst (λ (f : Frame). LinkComesTo v p p a a c s (record s { framer = f; from = s.from + 0 }) (Ok tt)) (sym front)
       (record { steps = λ o start turns fed r stands. record { more = []; own = tt; running = r; comes = (fed, subst (λ (k : ℕ). LinkStands v.policy start (port_bytes (a.port c)) (record s { from = k }) fed (acted_of c turns)) (omega arith) stands); worn_out = λ n e. absurd cc } })
   steps_many p a c s (suc n) frame within (m, front, other, is) =
       let one : (s.from + n) + 1 ≡ s.from + suc n = omega arith in
       let byte = get_or (waiting_bytes s) n 0 in
       let at : byte ≡ get_or s.chunk (s.from + n) 0 = get_or-drop s.from (take s.upto s.chunk) n 0 ∙ get_or-take s.upto s.chunk (s.from + n) 0 (omega (arith, within)) in
-      subst (λ (f : Frame). StepsTo v p p a a c s (record s { framer = f; from = s.from + suc n }) (Ok tt)) (sym is)
-      (subst (λ (k : ℕ). StepsTo v p p a a c s (record s { framer = pushed m byte; from = k }) (Ok tt)) one
+      subst (λ (f : Frame). LinkComesTo v p p a a c s (record s { framer = f; from = s.from + suc n }) (Ok tt)) (sym is)
+      (subst (λ (k : ℕ). LinkComesTo v p p a a c s (record s { framer = pushed m byte; from = k }) (Ok tt)) one
       (steps_then (steps_many p a c s n m (omega (arith, within)) front) (steps_byte p a c (record s { framer = m; from = s.from + n }) byte (omega (arith, within)) at other)))
 
-  pub steps_front : (p : FrontSpot M) (a : Harbour) (c : ℕ) (s s' : LinkState) → TakesFront s s' → StepsTo v p p a a c s s' (Ok tt)
-  steps_front p a c s s' f = subst (λ (z : LinkState). StepsTo v p p a a c s z (Ok tt)) (sym f.rest) (steps_many p a c s f.many s'.framer f.within f.front)
+  pub steps_front : (p : FrontSpot M) (a : Harbour) (c : ℕ) (s s' : LinkState) → TakesUpToFeed s s' → LinkComesTo v p p a a c s s' (Ok tt)
+  steps_front p a c s s' f = subst (λ (z : LinkState). LinkComesTo v p p a a c s z (Ok tt)) (sym f.rest) (steps_many p a c s f.many s'.framer f.within f.front)
 
   -- a line is heard, and told what it is told
-  module _ (p p' : FrontSpot M) (a b : Harbour) (c : ℕ) (s : LinkState) (byte : ℕ) (talk : Talk) (room : Roomy ℕ) (live : is_over (a.port c).last ≡ false) (wrote : IsWritten s) (some : s.from < s.upto) (is : byte ≡ get_or s.chunk s.from 0) where
+  module _ (p p' : FrontSpot M) (a b : Harbour) (c : ℕ) (s : LinkState) (byte : ℕ) (talk : Talk) (room : Roomy ℕ) (live : is_over (a.port c).last ≡ false) (wrote : IsReplyWritten s) (some : s.from < s.upto) (is : byte ≡ get_or s.chunk s.from 0) where
     -- the line of each text with whose open line the frame fits
     abbrev pub Heard : LineAnswer → Type 0
     Heard told = (fed : List ℕ) → FrameFits s.framer fed → (is_feed byte ≡ true) × Hears v (by p.pass.number c) p p' s.talk talk (open_line fed) told
@@ -99,7 +99,7 @@ module _ {M : Type 0} (v : Service) where
     abbrev after : LineAnswer → ℕ → LinkState
     after told at = record s { framer = pushed s.framer byte; from = s.from + 1; talk = talk; told = told; at = at; room = room }
 
-    line_unworn : (told : LineAnswer) (at : ℕ) (result : Result (Unit {0}) Yield) → IsUnwornTold told → Heard told → PushesOut a b c (told_bytes told) 0 at result → StepsTo v p p' a b c s (after told at) result
+    line_unworn : (told : LineAnswer) (at : ℕ) (result : Result (Unit {0}) Yield) → IsUnwornTold told → Heard told → PushesOut a b c (told_bytes told) 0 at result → LinkComesTo v p p' a b c s (after told at) result
     line_unworn told at result unworn hears push =
         record {
           steps = λ o start turns fed g stands.
@@ -118,7 +118,7 @@ module _ {M : Type 0} (v : Service) where
               };
         }
 
-    line_worn : (m at : ℕ) (result : Result (Unit {0}) Yield) → Heard (ToldWorn m) → b ≡ a → result ≡ Err (End (Worn m)) → StepsTo v p p' a b c s (after (ToldWorn m) at) result
+    line_worn : (m at : ℕ) (result : Result (Unit {0}) Yield) → Heard (ToldWorn m) → b ≡ a → result ≡ Err (End (Worn m)) → LinkComesTo v p p' a b c s (after (ToldWorn m) at) result
     line_worn m at result hears same ended =
         record {
           steps = λ o start turns fed g stands.
@@ -141,7 +141,7 @@ module _ {M : Type 0} (v : Service) where
               };
         }
 
-    pub steps_line : (told : LineAnswer) (at : ℕ) (result : Result (Unit {0}) Yield) → Heard told → TellsLine a b c told at result → StepsTo v p p' a b c s (after told at) result
+    pub steps_line : (told : LineAnswer) (at : ℕ) (result : Result (Unit {0}) Yield) → Heard told → TellsLine a b c told at result → LinkComesTo v p p' a b c s (after told at) result
     steps_line Silence at result x t = line_unworn Silence at result tt x t
     steps_line Agreed at result x t = line_unworn Agreed at result tt x t
     steps_line (Bad f) at result x t = line_unworn (Bad f) at result tt x t
@@ -152,7 +152,7 @@ module _ {M : Type 0} (v : Service) where
     steps_line (ToldWorn m) at result x t = line_worn m at result x t.0 t.2
 
 -- it may be served on
-pub can_next : {np : NamedPolicy} {a b : Harbour} {c : ℕ} {counters counters' : RunCounters} {s s' : LinkState} → CanServe np a c counters s → CallsOn a b c (Ok tt) → s.from < s.upto → IsNamedActor np s'.talk.actor → CountsOne s.talk s'.talk counters counters' → IsWritten s' → (s'.from ≡ s.from + 1) × (s'.upto ≡ s.upto) × (s'.left ≡ s.left)
+pub can_next : {np : NamedPolicy} {a b : Harbour} {c : ℕ} {counters counters' : RunCounters} {s s' : LinkState} → CanServe np a c counters s → CallsOn a b c (Ok tt) → s.from < s.upto → IsNamedActor np s'.talk.actor → CountsOne s.talk s'.talk counters counters' → IsReplyWritten s' → (s'.from ≡ s.from + 1) × (s'.upto ≡ s.upto) × (s'.left ≡ s.left)
     → CanServe np b c counters' s'
 can_next x calls some actor counts wrote one =
     let w = x.waits in
@@ -182,7 +182,7 @@ can_fill {np} {a} {b} {c} {counters} {s} {s'} q x calls none f =
       talk = record { actor = x.talk.actor; asked = omega (arith, asked, few, none); denied = omega (arith, denied, few, none); calls = omega (arith, all, few, none) };
     })
 
-pub can_front : {np : NamedPolicy} {a : Harbour} {c : ℕ} {counters : RunCounters} {s s' : LinkState} → CanServe np a c counters s → TakesFront s s' → CanServe np a c counters s'
+pub can_front : {np : NamedPolicy} {a : Harbour} {c : ℕ} {counters : RunCounters} {s s' : LinkState} → CanServe np a c counters s → TakesUpToFeed s s' → CanServe np a c counters s'
 can_front {np} {a} {c} {counters} {s} {s'} x f =
     let n = f.many in
     let within = f.within in

@@ -11,8 +11,8 @@ use Rattle.request_text.specs.declared.lines.LineFault.{LineFault}
 use Rattle.request_text.specs.declared.lines.LineFault.TheVariants.{Long}
 use Rattle.request_text.specs.Phrases.{read_line}
 use Rattle.request_text.proofs.ReadBySpelling.{long_read}
-use Rattle.connection_laws.specs.Lines.{Acted, bad, actor_by, one_where, is_replied, is_denied, says_request}
-use Rattle.connection_laws.specs.Connection.{Gets, IsTimed, placed}
+use Rattle.connection_laws.specs.Lines.{Acted, bad, actor_by, one_where, is_replied, is_denied, says_request, GetsBy}
+use Rattle.connection_laws.specs.Connection.{Asks, IsTimed, placed}
 use Rattle.connection_laws.specs.Desks.{IsNamedActor}
 use Rattle.connection_laws.specs.Turns.{Grows, AreMine, IsIdle, StaysIdle}
 use Rattle.connection_laws.specs.Services.{Service}
@@ -31,7 +31,7 @@ pub record Hears {M : Type 0} (v : Service) (who : Who) (p p' : FrontSpot M) (ta
   pub acted : Acted
   pub line_is : acted.line ≡ line
   pub told_is : IsTold v.policy told acted.answer
-  pub gets : (birth : ℕ) → IsTimed birth v.legal v.now → Gets birth who p'.pass.seen (read_line v.policy Nobody false line) talk.actor (placed who v.first p.pass.own) acted
+  pub gets : (birth : ℕ) → IsTimed birth v.legal v.now → GetsBy (Asks birth who p'.pass.seen) (read_line v.policy Nobody false line) talk.actor (placed who v.first p.pass.own) acted
   pub mine : AreMine who acted.entries
   pub grows : Grows p.pass p'.pass acted.entries (2 * length acted.readings)
   pub actor : talk'.actor ≡ actor_by (read_line v.policy Nobody false line) talk.actor
@@ -82,7 +82,7 @@ long_heard v who p talk line named long =
       acted = a;
       line_is = refl;
       told_is = refl;
-      gets = λ birth timed. subst (λ (s : Result Line LineFault). Gets birth who p.pass.seen s talk.actor (placed who v.first p.pass.own) a) (sym is) (refl, refl, refl);
+      gets = λ birth timed. subst (λ (s : Result Line LineFault). GetsBy (Asks birth who p.pass.seen) s talk.actor (placed who v.first p.pass.own) a) (sym is) (refl, refl, refl);
       mine = tt;
       grows = grown_none p.pass;
       actor = sym (ap (λ (s : Result Line LineFault). actor_by s talk.actor) is);

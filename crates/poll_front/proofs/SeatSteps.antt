@@ -9,7 +9,7 @@ use Rattle.poll_front.specs.declared.states.LinkState.{LinkState}
 use Rattle.poll_front.specs.declared.states.Yield.TheVariants.{Later, End}
 use Rattle.poll_front.specs.declared.seats.LinkRow.TheVariants.{New, Open, Over}
 use Rattle.std.specs.Global.{Box}
-use Rattle.poll_front.specs.Fronts.{FrontSpot, Course, course, acted_of, faults_by, ended_by, polled_as, PollsBy, IsLive, CallsOn, StepsTo}
+use Rattle.poll_front.specs.Fronts.{FrontSpot, Course, course, acted_of, faults_by, ends_told_by, polled_as, PollsBy, IsLive, CallsOn, LinkComesTo}
 use Rattle.poll_front.specs.Tables.{Sits, IsLetIn, CanServeSeat, TakesState, SeatServed, polled_in, is_worn_end}
 use Rattle.poll_front.specs.declared.states.RunCounters.{RunCounters}
 use Rattle.poll_front.specs.declared.seats.LinkRow.{LinkRow}
@@ -74,7 +74,7 @@ module _ {M : Type 0} (v : Service) where
 
   module _ {p p' : FrontSpot M} {a b : Harbour} {c : ℕ} (s s' : Box LinkState) (live : IsLive a c) where
     -- there is nothing to do for it yet
-    pub seat_later : CallsOn a b c (Err Later) → StepsTo v p p' a b c s.value s'.value (Err Later) → SeatServed v p p' a b c (Open s) (Open s') None
+    pub seat_later : CallsOn a b c (Err Later) → LinkComesTo v p p' a b c s.value s'.value (Err Later) → SeatServed v p p' a b c (Open s) (Open s') None
     seat_later t steps =
         let none = live_sound (a.port c).last live.live in
         let opened = live_open (a.port c).last live.live in
@@ -104,7 +104,7 @@ module _ {M : Type 0} (v : Service) where
         }
 
     -- it has ended, and is let go
-    pub seat_ended : (d : Harbour) (end : PollEnd) (e : Polled) → CallsOn a b c (Err (End end)) → StepsTo v p p' a b c s.value s'.value (Err (End end)) → Finishes b d c → e ≡ polled_as s'.value end → SeatServed v p p' a d c (Open s) (Over e) (Some end)
+    pub seat_ended : (d : Harbour) (end : PollEnd) (e : Polled) → CallsOn a b c (Err (End end)) → LinkComesTo v p p' a b c s.value s'.value (Err (End end)) → Finishes b d c → e ≡ polled_as s'.value end → SeatServed v p p' a d c (Open s) (Over e) (Some end)
     seat_ended d end e t steps f is =
         let none = live_sound (a.port c).last live.live in
         let opened = live_open (a.port c).last live.live in
@@ -115,7 +115,7 @@ module _ {M : Type 0} (v : Service) where
         let kept = ap faults_by last in
         let e1 = t.ends in
         let e2 = f.ends in
-        let told = ap ended_by last in
+        let told = ap ends_told_by last in
         let done : Port = record (b.port c) { owed = false; finished = Some b.nexts } in
         record {
           rest = rest_twice t.rest f.rest;

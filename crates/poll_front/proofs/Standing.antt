@@ -30,7 +30,7 @@ use Rattle.poll_front.specs.declared.ends.PollEnd.TheVariants.{Ended, ReadFault,
 use Rattle.poll_front.specs.declared.states.LinkState.{LinkState}
 use Rattle.poll_front.specs.declared.states.Yield.{Yield}
 use Rattle.poll_front.specs.declared.states.Yield.TheVariants.{Later, End}
-use Rattle.poll_front.specs.Fronts.{FrontSpot, Course, port_bytes, course, HasHeard, LinkStands, EndsLink, Comes, TellsLast, IsWritten, given_text, waiting_bytes, polled_as, PushesOut, FillsUp, EndsAs, PollsBy}
+use Rattle.poll_front.specs.Fronts.{FrontSpot, Course, port_bytes, course, HasHeard, LinkStands, EndsLink, Comes, TellsLast, IsReplyWritten, given_text, waiting_bytes, polled_as, PushesOut, FillsUp, EndsAs, PollsBy}
 use Rattle.poll_front.proofs.Hearing.{Hears}
 
 -- the byte that waits next, and the others
@@ -126,7 +126,7 @@ heard_line {v = v} {fed = fed} h frame acted byte x feed =
     }
 
 module _ {np : NamedPolicy} {start now : Bytes} {s : LinkState} {fed : List ℕ} {acted : List Acted} (x : LinkStands np start now s fed acted) where
-  text_is : IsWritten s → given_text np acted s.at ≡ replies_text np acted
+  text_is : IsReplyWritten s → given_text np acted s.at ≡ replies_text np acted
   text_is wrote = whole_text np acted s.told s.at x.told wrote
 
   all_fed : s.from ≡ s.upto → fed ++ waiting_bytes s ≡ fed
@@ -157,12 +157,12 @@ module _ {np : NamedPolicy} {start now : Bytes} {s : LinkState} {fed : List ℕ}
     stands_byte other = stands_next (pushed s.framer byte) s.talk s.told s.at s.room acted (heard_byte byte x.heard other) x.unworn x.told refl
 
     -- a line was acted on, and nothing of its reply is written yet
-    pub stands_line : (frame : Frame) (talk : Talk) (told : LineAnswer) (room : Roomy ℕ) (a : Acted) → IsWritten s → HasHeard np frame talk (fed ++ byte ∷ []) (a ∷ acted) → AreUnworn (a ∷ acted) → TellsLast np (a ∷ acted) told 0
+    pub stands_line : (frame : Frame) (talk : Talk) (told : LineAnswer) (room : Roomy ℕ) (a : Acted) → IsReplyWritten s → HasHeard np frame talk (fed ++ byte ∷ []) (a ∷ acted) → AreUnworn (a ∷ acted) → TellsLast np (a ∷ acted) told 0
         → LinkStands np start now (record s { framer = frame; talk = talk; told = told; at = 0; room = room; from = s.from + 1 }) (fed ++ byte ∷ []) (a ∷ acted)
     stands_line frame talk told room a wrote heard unworn tells = stands_next frame talk told 0 room (a ∷ acted) heard unworn tells (append-nil (replies_text np acted) ∙ sym (text_is wrote))
 
     -- the line wore the pass out: nothing of it was told
-    pub ends_worn : (q : Course) (frame : Frame) (talk : Talk) (a : Acted) (n : ℕ) → q.bytes ≡ now → IsWritten s → HasHeard np frame talk (fed ++ byte ∷ []) (a ∷ acted) → a.answer ≡ worn → n ≡ 2 ^ 40 → is_over q.last ≡ false
+    pub ends_worn : (q : Course) (frame : Frame) (talk : Talk) (a : Acted) (n : ℕ) → q.bytes ≡ now → IsReplyWritten s → HasHeard np frame talk (fed ++ byte ∷ []) (a ∷ acted) → a.answer ≡ worn → n ≡ 2 ^ 40 → is_over q.last ≡ false
         → EndsLink np start q (a ∷ acted) (record { asked = talk.asked; denied = talk.denied; outcome = Worn n })
     ends_worn q frame talk a n bytes wrote heard wears full live =
         let rest = drop (s.from + 1) (take s.upto s.chunk) in
@@ -223,7 +223,7 @@ module _ {np : NamedPolicy} {start now : Bytes} {s : LinkState} {fed : List ℕ}
       }
 
   -- what it comes to where nothing waits, and all of it was told
-  pub ends_whole : (q : Course) (e : PollEnd) (end : LinkEnd) → q.bytes ≡ now → IsWritten s → s.from ≡ s.upto → (GivenAll np fed (replies_text np acted) acted → IsGiven np fed (replies_text np acted) acted end)
+  pub ends_whole : (q : Course) (e : PollEnd) (end : LinkEnd) → q.bytes ≡ now → IsReplyWritten s → s.from ≡ s.upto → (GivenAll np fed (replies_text np acted) acted → IsGiven np fed (replies_text np acted) acted end)
       → EndsAs e fed (replies_text np acted) acted q.last end → PollsBy q fed e → EndsLink np start q acted (polled_as s e)
   ends_whole q e end bytes wrote none gives ends_as cause =
       record {
@@ -260,7 +260,7 @@ module _ {np : NamedPolicy} {start now : Bytes} {s : LinkState} {fed : List ℕ}
       }
 
 -- as many bytes as a link may send were acted on
-pub ends_spent : {np : NamedPolicy} {start : Bytes} {s : LinkState} {fed : List ℕ} {acted : List Acted} (q : Course) → LinkStands np start q.bytes s fed acted → is_over q.last ≡ false → IsWritten s → s.from ≡ s.upto → s.left ≡ 0 → EndsLink np start q acted (polled_as s Spent)
+pub ends_spent : {np : NamedPolicy} {start : Bytes} {s : LinkState} {fed : List ℕ} {acted : List Acted} (q : Course) → LinkStands np start q.bytes s fed acted → is_over q.last ≡ false → IsReplyWritten s → s.from ≡ s.upto → s.left ≡ 0 → EndsLink np start q acted (polled_as s Spent)
 ends_spent q x live wrote none spent = let had = fed_long x none in ends_whole x q Spent LinkSpent refl wrote none (λ g. g) refl (live, omega (arith, had, spent))
 
 module _ {np : NamedPolicy} {start : Bytes} {a b : Harbour} {c : ℕ} {s : LinkState} {fed : List ℕ} {acted : List Acted} (x : LinkStands np start (port_bytes (a.port c)) s fed acted) where
@@ -277,7 +277,7 @@ module _ {np : NamedPolicy} {start : Bytes} {a b : Harbour} {c : ℕ} {s : LinkS
   comes_pushed at (Err (End (Worn n))) p = absurd p.pushed
 
   -- how a read ends; there was room for a byte
-  module _ (s' : LinkState) (wrote : IsWritten s) (none : s.from ≡ s.upto) (some : 0 < s.left) (size : length s'.chunk ≡ 4096) where
+  module _ (s' : LinkState) (wrote : IsReplyWritten s) (none : s.from ≡ s.upto) (some : 0 < s.left) (size : length s'.chunk ≡ 4096) where
     -- nothing was read
     stands_idle : s.upto ≤ 4096 → s' ≡ record s { chunk = s'.chunk } → {result : Result (Unit {0}) Yield} → FillsUp a b c s s' result → LinkStands np start (port_bytes (b.port c)) (record s { chunk = s'.chunk }) fed acted
     stands_idle within is f =

@@ -13,7 +13,7 @@ use Rattle.connection_laws.specs.Services.{Service}
 use Rattle.connection_laws.specs.Lines.{Acted}
 use Rattle.poll_front.specs.declared.ends.PollEnd.{PollEnd}
 use Rattle.poll_front.specs.declared.seats.LinkRow.{LinkRow}
-use Rattle.poll_front.specs.Fronts.{Turn, FrontSpot, acted_of, port_bytes, faults_by, ended_by}
+use Rattle.poll_front.specs.Fronts.{Turn, FrontSpot, acted_of, port_bytes, faults_by, ends_told_by}
 use Rattle.poll_front.specs.Tables.{Sits, IsBlank, SeatGone, Tabled, count_among, faults_told}
 use mathlib.Core.Logic.{dite}
 use native.Mathlib.Decide.{ℕ_discrete}
@@ -72,15 +72,15 @@ module _ {M : Type 0} (v : Service) where
             omega (arith, f, calm, few, shown, count);
         ends =
             let f = x.ends in
-            let shown = shown_same ended_by a.port b.port a.opened (λ k one low. ap (λ (q : Port). q.last) (same k)) in
-            let count = ap (count_among ended_by b.port) opened in
+            let shown = shown_same ends_told_by a.port b.port a.opened (λ k one low. ap (λ (q : Port). q.last) (same k)) in
+            let count = ap (count_among ends_told_by b.port) opened in
             omega (arith, f, ends, shown, count);
       }
 
   -- a link was served in its seat
   pub tabled_served : (o p p' : FrontSpot M) (start a b : Harbour) (seats : List LinkRow) (busy busy' i : ℕ) (turns : List Turn) (seat seat' : LinkRow) (result : Option PollEnd) → Is o p start a seats busy turns
       → slice_get seats i ≡ Some seat → i < length seats → KeepsRest a b (i + 1) → a.faults ≤ b.faults → b.faults + faults_by (a.port (i + 1)).last ≤ a.faults + faults_by (b.port (i + 1)).last
-      → b.ends + ended_by (a.port (i + 1)).last ≤ a.ends + ended_by (b.port (i + 1)).last
+      → b.ends + ends_told_by (a.port (i + 1)).last ≤ a.ends + ends_told_by (b.port (i + 1)).last
       → MatchOption result ((b.port (i + 1)).finished ≡ (a.port (i + 1)).finished) (λ end. ((a.port (i + 1)).finished ≡ None) × ((n : ℕ) × ((b.port (i + 1)).finished ≡ Some n)))
       → MatchOption result (busy' ≡ busy) (λ end. busy' + 1 ≡ busy)
       → (g : SeatGone v o p' (port_bytes (start.port (i + 1))) (b.port (i + 1)) (i + 1) turns seat' result) → Is o p' start b (set seats i seat') busy' (g.more ++ turns)
@@ -114,8 +114,8 @@ module _ {M : Type 0} (v : Service) where
             omega (arith, f, shown, moved, told, all);
         ends =
             let f = x.ends in
-            let moved = shown_moved ended_by a.port b.port (i + 1) a.opened (omega arith) (omega (arith, seats_are, low)) (λ k away. ap (λ (q : Port). q.last) (rest.others k away)) in
-            let all = ap (count_among ended_by b.port) opened in
+            let moved = shown_moved ends_told_by a.port b.port (i + 1) a.opened (omega arith) (omega (arith, seats_are, low)) (λ k away. ap (λ (q : Port). q.last) (rest.others k away)) in
+            let all = ap (count_among ends_told_by b.port) opened in
             omega (arith, f, told_ends, moved, all);
       }
 
@@ -157,8 +157,8 @@ module _ {M : Type 0} (v : Service) where
         ends =
             let f = x.ends in
             let e : d.opened ≡ suc a.opened = omega (arith, opened) in
-            let all : count_among ended_by d.port d.opened ≡ count_among ended_by d.port a.opened + ended_by (d.port (a.opened + 1)).last = ap (count_among ended_by d.port) e in
-            let shown = shown_same ended_by a.port d.port a.opened (λ k one low. ap (λ (q : Port). q.last) (others k (λ same. absurd (omega (arith, same, low))))) in
+            let all : count_among ends_told_by d.port d.opened ≡ count_among ends_told_by d.port a.opened + ends_told_by (d.port (a.opened + 1)).last = ap (count_among ends_told_by d.port) e in
+            let shown = shown_same ends_told_by a.port d.port a.opened (λ k one low. ap (λ (q : Port). q.last) (others k (λ same. absurd (omega (arith, same, low))))) in
             omega (arith, f, ends, all, shown);
       }
 

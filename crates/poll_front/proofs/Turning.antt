@@ -11,8 +11,8 @@ use Rattle.locked_history.specs.Fronts.{by}
 use Rattle.request_text.specs.declared.lines.Line.{Line}
 use Rattle.request_text.specs.declared.lines.LineFault.{LineFault}
 use Rattle.request_text.specs.Phrases.{read_line}
-use Rattle.connection_laws.specs.Lines.{Acted, actor_after, readings_of, entries_of}
-use Rattle.connection_laws.specs.Connection.{Gets, part_of, AreActed, IsTimed, placed}
+use Rattle.connection_laws.specs.Lines.{Acted, actor_after, readings_of, entries_of, GetsBy}
+use Rattle.connection_laws.specs.Connection.{Asks, part_of, AreActed, IsTimed, placed}
 use Rattle.connection_laws.specs.Services.{Service}
 use Rattle.connection_laws.specs.Turns.{AreMine}
 use Rattle.connection_laws.specs.declared.talk.Talk.{Talk}
@@ -74,13 +74,13 @@ module _ {M : Type 0} (v : Service) (c : ℕ) (o p p' : FrontSpot M) (turns : Li
       let a = x.acted in
       let said : Result Line LineFault = read_line v.policy Nobody false line in
       let own_is : p.pass.own ≡ o.pass.own ++ entries_of (all_acted turns) = ap (λ (q : Holder M). q.own) g.grows.after_is in
-      let gets : Gets birth (by o.pass.number c) p'.pass.seen said talk.actor (placed (by o.pass.number c) v.first p.pass.own) a =
-      subst (λ (n : ℕ). Gets birth (by n c) p'.pass.seen said talk.actor (placed (by n c) v.first p.pass.own) a) number (x.gets birth timed) in
+      let gets : GetsBy (Asks birth (by o.pass.number c) p'.pass.seen) said talk.actor (placed (by o.pass.number c) v.first p.pass.own) a =
+      subst (λ (n : ℕ). GetsBy (Asks birth (by n c) p'.pass.seen) said talk.actor (placed (by n c) v.first p.pass.own) a) number (x.gets birth timed) in
       let here : Fits birth c (a ∷ acted_of c turns) = (
         acted_longer v.policy birth (by o.pass.number c) p.pass.seen p'.pass.seen x.grows.seen (placed (by o.pass.number c) v.first o.pass.own) (acted_of c turns) (g.fits c birth timed),
-        subst (λ (s : Result Line LineFault). Gets birth (by o.pass.number c) p'.pass.seen s (actor_after v.policy (acted_of c turns)) (placed (by o.pass.number c) v.first o.pass.own + length (entries_of (acted_of c turns))) a) (ap (read_line v.policy Nobody false) (sym x.line_is))
-            (subst (λ (n : ℕ). Gets birth (by o.pass.number c) p'.pass.seen said (actor_after v.policy (acted_of c turns)) n a) (placed_turns o.pass.number c v.first o.pass.own p.pass.own turns own_is g.mine)
-            (subst (λ (y : Actor). Gets birth (by o.pass.number c) p'.pass.seen said y (placed (by o.pass.number c) v.first p.pass.own) a) speaks gets)),
+        subst (λ (s : Result Line LineFault). GetsBy (Asks birth (by o.pass.number c) p'.pass.seen) s (actor_after v.policy (acted_of c turns)) (placed (by o.pass.number c) v.first o.pass.own + length (entries_of (acted_of c turns))) a) (ap (read_line v.policy Nobody false) (sym x.line_is))
+            (subst (λ (n : ℕ). GetsBy (Asks birth (by o.pass.number c) p'.pass.seen) said (actor_after v.policy (acted_of c turns)) n a) (placed_turns o.pass.number c v.first o.pass.own p.pass.own turns own_is g.mine)
+            (subst (λ (y : Actor). GetsBy (Asks birth (by o.pass.number c) p'.pass.seen) said y (placed (by o.pass.number c) v.first p.pass.own) a) speaks gets)),
       ) in
       subst (λ (j : ℕ). Fits birth j (a ∷ acted_of j turns)) (eqb-true c k same) here
   fits_next k false other birth timed = acted_longer v.policy birth (by o.pass.number k) p.pass.seen p'.pass.seen x.grows.seen (placed (by o.pass.number k) v.first o.pass.own) (acted_of k turns) (g.fits k birth timed)

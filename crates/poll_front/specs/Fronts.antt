@@ -89,13 +89,13 @@ faults_by (Wrote (Ok t)) = 0
 faults_by (Wrote (Err f)) = 1
 
 -- how many ends a link has told, by its last call: one where that told it
-abbrev pub ended_by : Called → ℕ
-ended_by Nothing = 0
-ended_by (Read (Ok (GotBytes n))) = 0
-ended_by (Read (Ok Finished)) = 1
-ended_by (Read (Ok GotNotYet)) = 0
-ended_by (Read (Err f)) = 0
-ended_by (Wrote t) = 0
+abbrev pub ends_told_by : Called → ℕ
+ends_told_by Nothing = 0
+ends_told_by (Read (Ok (GotBytes n))) = 0
+ends_told_by (Read (Ok Finished)) = 1
+ends_told_by (Read (Ok GotNotYet)) = 0
+ends_told_by (Read (Err f)) = 0
+ends_told_by (Wrote t) = 0
 
 -- the link is open, and has not come to its end
 pub record IsLive (a : Harbour) (c : ℕ) : Type 0 where
@@ -110,20 +110,20 @@ pub record CallsOn (a b : Harbour) (c : ℕ) (result : Result (Unit {0}) Yield) 
   pub others : (b.port c).others ≡ (a.port c).others
   pub later : a.faults ≤ b.faults
   pub faults : b.faults ≤ a.faults + faults_by (b.port c).last
-  pub ends : b.ends ≤ a.ends + ended_by (b.port c).last
+  pub ends : b.ends ≤ a.ends + ends_told_by (b.port c).last
   pub live : OnOk result (is_over (b.port c).last ≡ false)
   pub unowed : result ≡ Err Later → (b.port c).owed ≡ false
 
 -- the last reply is written
-abbrev pub IsWritten : LinkState → Type 0
-IsWritten s = s.at ≡ length (told_bytes s.told)
+abbrev pub IsReplyWritten : LinkState → Type 0
+IsReplyWritten s = s.at ≡ length (told_bytes s.told)
 
 -- the bytes that wait to be acted on
 abbrev pub waiting_bytes : LinkState → List ℕ
 waiting_bytes s = drop s.from (take s.upto s.chunk)
 
 -- the bytes that wait are taken up to a line feed, which is left
-pub record TakesFront (s s' : LinkState) : Type 0 where
+pub record TakesUpToFeed (s s' : LinkState) : Type 0 where
   pub many : ℕ
   pub within : s.from + many ≤ s.upto
   pub front : PushesFront s.framer (waiting_bytes s) many s'.framer
@@ -167,7 +167,7 @@ pub record Rests (np : NamedPolicy) (start : Bytes) (now : Course) (s : LinkStat
     (acted : List Acted) : Type 0 where
   pub fed : List ℕ
   pub stands : LinkStands np start now.bytes s fed acted
-  pub waits : (IsWritten s × (s.from ≡ s.upto))
+  pub waits : (IsReplyWritten s × (s.from ≡ s.upto))
       ⊎ ((s.at < length (told_bytes s.told)) × (now.last ≡ Wrote (Ok NotYet)))
   pub live : is_over now.last ≡ false
 
@@ -251,7 +251,7 @@ module _ {M : Type 0} (v : Service) where
     pub worn_out : (n : ℕ) → result ≡ Err (End (Worn n)) → p.pass.draws ≡ 2 ^ 40
 
   -- whatever went before, a link that stands comes to this
-  pub record StepsTo (p p' : FrontSpot M) (a b : Harbour) (c : ℕ) (s s' : LinkState)
+  pub record LinkComesTo (p p' : FrontSpot M) (a b : Harbour) (c : ℕ) (s s' : LinkState)
       (result : Result (Unit {0}) Yield) : Type 0 where
     pub steps : (o : FrontSpot M) (start : Bytes) (turns : List Turn) (fed : List ℕ)
         → Running o p turns

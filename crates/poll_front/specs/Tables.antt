@@ -26,7 +26,7 @@ use Rattle.poll_front.specs.declared.seats.LinkRow.TheVariants.{New, Open, Over}
 use Rattle.gt_io.specs.declared.port.PortEvent.{PortEvent}
 use Rattle.gt_io.specs.declared.port.PortEvent.TheVariants.{Opened, Ready, Stop}
 use Rattle.gt_io.specs.Ports.{Port, Harbour, IsOpen, is_over, KeepsRest, open_among}
-use Rattle.poll_front.specs.Fronts.{Turn, FrontSpot, front_spot, acted_of, faults_by, ended_by, port_bytes, course, Rests, EndsLink, HasOwnEnd, polled_as, CanServe, Running, all_acted, EndsAs, PollsBy}
+use Rattle.poll_front.specs.Fronts.{Turn, FrontSpot, front_spot, acted_of, faults_by, ends_told_by, port_bytes, course, Rests, EndsLink, HasOwnEnd, polled_as, CanServe, Running, all_acted, EndsAs, PollsBy}
 use Rattle.poll_front.specs.declared.front.TheConstants.{MAX_OPEN}
 use Rattle.gt_base.specs.declared.requests.Who.{Who}
 use Rattle.gt_io.specs.declared.port.Called.{Called}
@@ -111,7 +111,7 @@ FaultsAreLast start b =
 
 -- Each read that told the end of a link is its last call: the count rose by no more than these
 abbrev pub EndsAreLast : Harbour → Harbour → Type 0
-EndsAreLast start b = b.ends ≤ start.ends + count_among ended_by b.port b.opened
+EndsAreLast start b = b.ends ≤ start.ends + count_among ends_told_by b.port b.opened
 
 abbrev pub is_worn_end : PollEnd → Bool
 is_worn_end (Worn n) = true
@@ -195,7 +195,7 @@ module _ {M : Type 0} (v : Service) where
     pub others : (b.port c).others ≡ (a.port c).others
     pub later : a.faults ≤ b.faults
     pub faults : b.faults + faults_by (a.port c).last ≤ a.faults + faults_by (b.port c).last
-    pub ends : b.ends + ended_by (a.port c).last ≤ a.ends + ended_by (b.port c).last
+    pub ends : b.ends + ends_told_by (a.port c).last ≤ a.ends + ends_told_by (b.port c).last
     pub ended : MatchOption result ((b.port c).finished ≡ (a.port c).finished)
         (λ end. ((a.port c).finished ≡ None) × ((n : ℕ) × ((b.port c).finished ≡ Some n)))
     pub over : (end : PollEnd) → result ≡ Some end

@@ -4,7 +4,7 @@ ghost use Rattle.connection_laws.specs.Desks.{IsNamedActor};
 ghost use Rattle.connection_laws.specs.Turns.{CanAskFrom};
 ghost use Rattle.connection_laws.specs.Rooms.{text_in, room_with, TakesBack};
 ghost use Rattle.connection_laws.specs.Services.{service_at};
-ghost use Rattle.poll_front.specs.Fronts.{front_spot, IsLive, CallsOn, IsWritten, TellsLine, TakesFront, StepsTo, CanTalk, CountsOne, CanServe, StaysIdleFrom};
+ghost use Rattle.poll_front.specs.Fronts.{front_spot, IsLive, CallsOn, IsReplyWritten, TellsLine, TakesUpToFeed, LinkComesTo, CanTalk, CountsOne, CanServe, StaysIdleFrom};
 ghost use Rattle.poll_front.specs.declared.states.TheConstants.{MAX_READ};
 
 use crate::bytes::{fill, write_out};
@@ -38,7 +38,7 @@ fn tell<P: Ports>(
     ensures tells { TellsLine (P.harbour ports.old) (P.harbour ports.new) link told state.new.at
         result }
     ensures calls { CallsOn (P.harbour ports.old) (P.harbour ports.new) link result }
-    ensures told { OnOk result (IsWritten state.new) }
+    ensures told { OnOk result (IsReplyWritten state.new) }
 {
     state.told = told;
     state.at = 0;
@@ -65,9 +65,9 @@ fn take_next<M: Machine, R: Wait, P: Ports, C: Clock, G: Gate>(
         pass.old counters.old.reached }
     requires live { IsLive (P.harbour ports.old) server.now.conn }
     requires talk { CanTalk server.now.policy.now state.old.talk counters.old 1 }
-    requires told { IsWritten state.old }
+    requires told { IsReplyWritten state.old }
     requires some { (state.old.from < state.old.upto) × (state.old.upto ≤ MAX_READ) }
-    ensures steps { StepsTo
+    ensures steps { LinkComesTo
         (service_at M.list M.legal M.now_of server.now.desk.now server.now.policy.now)
         (front_spot pass.old (C.readings clock.old) counters.old)
         (front_spot pass.new (C.readings clock.new) counters.new) (P.harbour ports.old)
@@ -77,7 +77,7 @@ fn take_next<M: Machine, R: Wait, P: Ports, C: Clock, G: Gate>(
     ensures actor { IsNamedActor server.now.policy.now state.new.talk.actor }
     ensures counts { CountsOne state.old.talk state.new.talk counters.old counters.new }
     ensures calls { CallsOn (P.harbour ports.old) (P.harbour ports.new) server.now.conn result }
-    ensures told { OnOk result (IsWritten state.new) }
+    ensures told { OnOk result (IsReplyWritten state.new) }
     ensures one { (state.new.from ≡ state.old.from + 1) × (state.new.upto ≡ state.old.upto)
         × (state.new.left ≡ state.old.left) }
     ensures kept { room_with (text_in state.old.told) state.old.room
@@ -98,7 +98,7 @@ fn take_next<M: Machine, R: Wait, P: Ports, C: Clock, G: Gate>(
                 held: 0,
             };
             let line = state.framer.line();
-            let told = act_by(&mut clerk, &mut state.talk, &mut state.room, line);
+            let told = act_by(&mut clerk, &mut state.talk, &mut state.room, &[], 0, line);
             counters.calls = state.talk.calls;
             count(&mut state.talk, &told);
             tell(ports, server.conn, state, told)
@@ -113,7 +113,7 @@ fn take_next<M: Machine, R: Wait, P: Ports, C: Clock, G: Gate>(
 /// Takes the bytes that wait up to a line feed, which is left.
 fn take_front(state: &mut LinkState)
     requires { (state.old.from ≤ state.old.upto) × (state.old.upto ≤ MAX_READ) }
-    ensures { TakesFront state.old state.new }
+    ensures { TakesUpToFeed state.old state.new }
 {
     let (some, _) = state.chunk.split_at(state.upto);
     let (_, rest) = some.split_at(state.from);
@@ -134,7 +134,7 @@ pub(crate) fn serve_ready<M: Machine, R: Wait, P: Ports, C: Clock, G: Gate>(
         pass.old counters.old.reached }
     requires state { CanServe server.now.policy.now (P.harbour ports.old) server.now.conn
         counters.old state.old }
-    ensures steps { StepsTo
+    ensures steps { LinkComesTo
         (service_at M.list M.legal M.now_of server.now.desk.now server.now.policy.now)
         (front_spot pass.old (C.readings clock.old) counters.old)
         (front_spot pass.new (C.readings clock.new) counters.new) (P.harbour ports.old)

@@ -32,7 +32,7 @@ fn session(mut words: Words<'_>) -> Option<SessionId>
 }
 
 /// A session and a name.
-fn session_name(mut words: Words<'_>) -> Option<(SessionId, Name)>
+pub(crate) fn session_name(mut words: Words<'_>) -> Option<(SessionId, Name)>
     ensures { result ≡ session_name_in words.entry }
 {
     let session = next_session(&mut words)?;

@@ -1,9 +1,9 @@
 //! Lines, read over a policy.
 ghost use Rattle.std.specs.Prelude.{◌≡◌, ◌&&◌, bytes_eq, codes, IfOk};
-ghost use Rattle.request_text.specs.Phrases.{request_of, actor_of, line_of, said, ask_request, raise_in, request_in, phrase_by, read_line};
+ghost use Rattle.request_text.specs.Phrases.{request_of, actor_of, line_of, said, ask_request, raise_in, request_in, phrase_by, request_by, read_line};
 ghost use Rattle.request_text.specs.Lines.{IsOpening, IsNamedLine};
 
-use crate::forms::{at, be, raise, request_after};
+use crate::forms::{at, be, raise, request_after, session_name};
 use crate::lines::{Line, LineFault};
 use crate::phrases::{NamedRequest, Phrase};
 use crate::verbs::{RequestVerb, request_verb};
@@ -94,6 +94,20 @@ fn asked_raise(p: &Policy, words: Words<'_>) -> Result<Line, LineFault>
     Ok(Line::Ask(Request::Raise { head, delay }))
 }
 
+/// The same of the words after `check`.
+fn asked_check(p: &Policy, words: Words<'_>) -> Result<Line, LineFault>
+    ensures { (opening : Actor)
+        → result ≡ said p.now opening (ask_request (request_by RequestVerb.Check words.entry)) }
+{
+    let Some((session, name)) = session_name(words) else {
+        return Err(LineFault::Syntax);
+    };
+    let Some(perm) = p.perm(&name) else {
+        return Err(LineFault::Name);
+    };
+    Ok(Line::Ask(Request::Check(session, perm)))
+}
+
 /// What a first word and the words after it ask over a policy, or why they ask nothing.
 fn request_said(p: &Policy, word: &[u8], words: Words<'_>) -> Result<Line, LineFault>
     ensures { (opening : Actor)
@@ -102,6 +116,7 @@ fn request_said(p: &Policy, word: &[u8], words: Words<'_>) -> Result<Line, LineF
     match request_verb(word) {
         None => Err(LineFault::Syntax),
         Some(RequestVerb::Request) => asked_raise(p, words),
+        Some(RequestVerb::Check) => asked_check(p, words),
         Some(verb) => asked(p, request_after(verb, words)),
     }
 }

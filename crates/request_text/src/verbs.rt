@@ -48,10 +48,13 @@ pub(crate) fn verb_text(verb: RequestVerb) -> &'static [u8]
     }
 }
 
-/// The first word of a request that a word is.
+/// The first word of a request that a word is. What is asked most is looked at first.
 pub(crate) fn request_verb(word: &[u8]) -> Option<RequestVerb>
     ensures { result ≡ verb_in word.now }
 {
+    if word == b"check".as_slice() {
+        return Some(RequestVerb::Check);
+    }
     REQUEST_VERBS
         .iter()
         .copied()

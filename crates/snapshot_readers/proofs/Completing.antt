@@ -12,7 +12,7 @@ use Rattle.connection_laws.specs.Attending.{EndsBy, IsUnhindered, IsComplete}
 use Rattle.connection_laws.proofs.Linking as Link
 use Rattle.snapshot_readers.specs.declared.ends.ViewEnd.{ViewEnd}
 use Rattle.snapshot_readers.proofs.Looking.{look_by}
-use Rattle.snapshot_readers.specs.Viewed.{link_end, Looks, Sees, View, IsViewAnswered}
+use Rattle.snapshot_readers.specs.Viewed.{link_end, Looks, AsksView, View, IsViewAnswered}
 
 module _ (np : NamedPolicy) (birth : ℕ) (h : List Entry) where
   looked : (actor : Actor) (request : Request) (answer : Answer) → is_look request ≡ true → Looks np birth h actor request answer → IsViewAnswered request answer
@@ -25,5 +25,5 @@ module _ (np : NamedPolicy) (birth : ℕ) (h : List Entry) where
   pub complete_by : (taken given : List ℕ) (acted : List Acted) (end : ViewEnd) (a b : Traffic) → View np birth h taken given acted end → EndsBy (λ (n : ℕ). ⊥) a b taken (link_end end) → IsUnhindered a b taken (link_end end)
       → IsComplete IsViewAnswered np taken acted (link_end end)
   complete_by taken given acted end a b =
-      Link.complete_by (Sees np birth h) IsViewAnswered
+      Link.complete_by (AsksView np birth h) IsViewAnswered
       (λ actor request answer n readings entries u s. by_look (is_look request) actor request answer refl s.0) np 0 (λ (n : ℕ). ⊥) taken [] [] given acted (link_end end) a b

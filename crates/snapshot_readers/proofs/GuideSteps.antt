@@ -14,11 +14,11 @@ use Rattle.request_text.specs.declared.lines.LineFault.{LineFault}
 use Rattle.request_text.specs.Phrases.{read_line}
 use Rattle.core_machine.specs.Looks.{is_look}
 use Rattle.connection_laws.specs.Lines.{Answer, silence, agreed, bad, shown, no_memory, view_only, Acted, actor_after, readings_of, entries_of, GetsBy, AreActedBy}
-use Rattle.connection_laws.specs.Attending.{StepsBy, Steps}
+use Rattle.connection_laws.specs.Attending.{StepsBy, StepsThrough}
 use Rattle.connection_laws.proofs.Linking.{acted_so}
 use Rattle.connection_laws.proofs.Prefixes.{prefix_self, prefix_trans}
 use Rattle.connection_laws.specs.Desks.{IsReplyAt}
-use Rattle.snapshot_readers.specs.Viewed.{lens_in, lens_of, AscendBetween, Looks, Sees}
+use Rattle.snapshot_readers.specs.Viewed.{lens_in, lens_of, AscendBetween, Looks, AsksView}
 use Rattle.snapshot_readers.specs.Guides.{GuideView, GuideAsks}
 use Rattle.snapshot_readers.specs.Glances.{IsGlance}
 use Rattle.snapshot_readers.specs.declared.glass.Glanced.{Glanced}
@@ -38,18 +38,18 @@ module _ (np : NamedPolicy) (birth : ℕ) where
   by_look true h h' more actor request answer l = looks_longer h h' more actor request answer l
   by_look false h h' more actor request answer l = l
 
-  pub sees_longer : (h h' : List Entry) → IsPrefix h h' → (actor : Actor) (request : Request) (answer : Answer) (n : ℕ) (readings : List ℕ) (entries : List Entry) → Sees np birth h actor request answer n readings entries → Sees np birth h' actor request answer n readings entries
+  pub sees_longer : (h h' : List Entry) → IsPrefix h h' → (actor : Actor) (request : Request) (answer : Answer) (n : ℕ) (readings : List ℕ) (entries : List Entry) → AsksView np birth h actor request answer n readings entries → AsksView np birth h' actor request answer n readings entries
   sees_longer h h' more actor request answer n readings entries s = (by_look (is_look request) h h' more actor request answer s.0, s.1, s.2)
 
   -- what one line comes to
   pub record GuideStep (a b : GuideView) (said : Result Line LineFault) (actor : Actor) (x : Acted) : Type 0 where
-    pub gets : (n : ℕ) → GetsBy (Sees np birth b.seen) said actor n x
+    pub gets : (n : ℕ) → GetsBy (AsksView np birth b.seen) said actor n x
     pub grows : IsPrefix a.seen b.seen
     pub lens : b.lens ≡ a.lens ++ lens_in x.answer
     pub ascends : AscendBetween (length a.seen) (lens_in x.answer) (length b.seen)
 
   aside : (a b : GuideView) (said : Result Line LineFault) (actor : Actor) (x : Acted) (answer : Answer) → b ≡ a → x.answer ≡ answer → lens_in answer ≡ []
-      → ((n : ℕ) → GetsBy (Sees np birth b.seen) said actor n x) → GuideStep a b said actor x
+      → ((n : ℕ) → GetsBy (AsksView np birth b.seen) said actor n x) → GuideStep a b said actor x
   aside a b said actor x answer same is none gets =
       let empty : lens_in x.answer ≡ [] = ap lens_in is ∙ none in
       record {
@@ -70,7 +70,7 @@ module _ (np : NamedPolicy) (birth : ℕ) where
 
   -- what all lines so far come to
   pub record GuideGoes (o p : GuideView) (acted : List Acted) : Type 0 where
-    pub fits : AreActedBy (Sees np birth p.seen) np 0 acted
+    pub fits : AreActedBy (AsksView np birth p.seen) np 0 acted
     pub grows : IsPrefix o.seen p.seen
     pub lens : p.lens ≡ o.lens ++ lens_of acted
     pub ascends : AscendBetween (length o.seen) (lens_of acted) (length p.seen)
@@ -79,7 +79,7 @@ module _ (np : NamedPolicy) (birth : ℕ) where
   goes_next o m p x before g s =
       record {
         fits = (
-          acted_so (Sees np birth m.seen) (Sees np birth p.seen) (sees_longer m.seen p.seen s.grows) np 0 before g.fits,
+          acted_so (AsksView np birth m.seen) (AsksView np birth p.seen) (sees_longer m.seen p.seen s.grows) np 0 before g.fits,
           s.gets (0 + length (entries_of before)),
         );
         grows = prefix_trans o.seen m.seen p.seen g.grows s.grows;
@@ -88,7 +88,7 @@ module _ (np : NamedPolicy) (birth : ℕ) where
       }
 
   -- a viewer whose steps these are
-  pub goes_of : (o p : GuideView) (acted : List Acted) → Steps np (GuideAsks np birth) o p acted → GuideGoes o p acted
+  pub goes_of : (o p : GuideView) (acted : List Acted) → StepsThrough np (GuideAsks np birth) o p acted → GuideGoes o p acted
   goes_of o p [] steps =
       subst (λ (g : GuideView). GuideGoes o g []) (sym steps)
       (record { fits = tt; grows = prefix_self o.seen; lens = sym (append-nil o.lens); ascends = omega arith })
@@ -129,14 +129,14 @@ module _ (np : NamedPolicy) (birth : ℕ) where
       more lens (omega (arith, len, low), omega (arith, len))
 
   -- no line takes a reading or adds an entry
-  line_quiet : (h : List Entry) (said : Result Line LineFault) (actor : Actor) (n : ℕ) (a : Acted) → GetsBy (Sees np birth h) said actor n a → (a.readings ≡ []) × (a.entries ≡ [])
+  line_quiet : (h : List Entry) (said : Result Line LineFault) (actor : Actor) (n : ℕ) (a : Acted) → GetsBy (AsksView np birth h) said actor n a → (a.readings ≡ []) × (a.entries ≡ [])
   line_quiet h (Ok Silent) actor n a g = (g.1, g.2)
   line_quiet h (Ok (Be y)) actor n a g = (g.1, g.2)
   line_quiet h (Ok (Ask request)) actor n a g = (g.1, g.2)
   line_quiet h (Ok (At t)) actor n a g = absurd g
   line_quiet h (Err f) actor n a g = (g.1, g.2)
 
-  pub lines_quiet : (h : List Entry) (acted : List Acted) → AreActedBy (Sees np birth h) np 0 acted → (readings_of acted ≡ []) × (entries_of acted ≡ [])
+  pub lines_quiet : (h : List Entry) (acted : List Acted) → AreActedBy (AsksView np birth h) np 0 acted → (readings_of acted ≡ []) × (entries_of acted ≡ [])
   lines_quiet h [] all = (refl, refl)
   lines_quiet h (a ∷ before) all =
       let more = lines_quiet h before all.0 in

@@ -18,15 +18,15 @@ use Rattle.connection_laws.specs.Desks.{IsReplyAt}
 use Rattle.snapshot_readers.specs.Glazed.{Glazed, fresh_glass}
 use Rattle.snapshot_readers.specs.declared.viewers.Viewer.{Viewer}
 use Rattle.snapshot_readers.specs.declared.ends.Viewed.{Viewed}
-use Rattle.snapshot_readers.specs.Crew.{ViewTale, Works, AreViewed, all_lens}
+use Rattle.snapshot_readers.specs.Crew.{ViewTale, ViewsThrough, AreViewed, all_lens}
 use Rattle.connection_laws.specs.Lines.{Answer, view_only, Acted, actor_after, entries_of, GetsBy, AreActedBy}
-use Rattle.snapshot_readers.specs.Viewed.{Looks, Sees, AscendBetween}
+use Rattle.snapshot_readers.specs.Viewed.{Looks, AsksView, AscendBetween}
 use Rattle.snapshot_readers.proofs.Ascending.{ascend_to}
 use Rattle.snapshot_readers.proofs.Longer.{take_longer, longer}
 use Rattle.snapshot_readers.proofs.Looking.{look_by}
 use Rattle.snapshot_readers.proofs.Linking.{viewed_longer}
 use Rattle.snapshot_readers.specs.declared.seats.ViewerSeat.{ViewerSeat}
-use Rattle.snapshot_readers.specs.Seats.{Watcher, watcher, watchers, HasLooked, IsNewViewer, glasses_of, viewers_of, IsHistory, HasSettled, IsOf, AreOf, AllAreOf, HasViewed, IsToldOf, AreTold, HaveViewed}
+use Rattle.snapshot_readers.specs.Seats.{Watcher, watcher, watchers, HasLooked, IsNewViewer, glasses_of, viewers_of, IsHistory, HasSettled, IsOf, AreOf, AllAreOf, HasViewed, IsToldOf, AreToldOf, HaveViewed}
 
 all_each : {A : Type 0} (P : A → Type 0) (xs : List A) → All P xs → Each P xs
 all_each P [] h = tt
@@ -51,13 +51,13 @@ module _ (np : NamedPolicy) (birth : ℕ) (h seen : List Entry) (more : IsPrefix
   by_look true actor request answer l = of_looks actor request answer l
   by_look false actor request answer l = subst (λ (x : Answer). IsOf np birth h actor request x) (sym l) tt
 
-  acted_of : (acted : List Acted) → AreActedBy (Sees np birth seen) np 0 acted → AreOf np birth h acted
+  acted_of : (acted : List Acted) → AreActedBy (AsksView np birth seen) np 0 acted → AreOf np birth h acted
   acted_of [] all = tt
   acted_of (a ∷ before) all = (
     acted_of before all.0,
     λ request is.
         by_look (is_look request) (actor_after np before) request a.answer
-        (subst (λ (said : Result Line LineFault). GetsBy (Sees np birth seen) said (actor_after np before) (0 + length (entries_of before)) a) is all.1).0,
+        (subst (λ (said : Result Line LineFault). GetsBy (AsksView np birth seen) said (actor_after np before) (0 + length (entries_of before)) a) is all.1).0,
   )
 
   tales_of : {L : Type 0} (traffic : L → Traffic) (ss : List (Viewed L)) (xs : List (ViewTale L)) → AreViewed traffic np birth seen ss xs → AllAreOf np birth h xs
@@ -114,8 +114,8 @@ module _ {D G L : Type 0} where
     viewed_in x z fresh k =
         let born : x.glass.birth ≡ birth = ap (λ (g : Glazed). g.birth) fresh in
         let seen : x.glass.seen ≡ [] = ap (λ (g : Glazed). g.seen) fresh in
-        let w : Works traffic np birth (record { seen = x.glass.seen; door = doorway x.viewer.door }) (record { seen = z.glass.seen; door = doorway z.viewer.door }) z.viewer.served.items z.viewer.outcome =
-        subst (λ (b : ℕ). Works traffic np b (record { seen = x.glass.seen; door = doorway x.viewer.door }) (record { seen = z.glass.seen; door = doorway z.viewer.door }) z.viewer.served.items z.viewer.outcome) born k.works in
+        let w : ViewsThrough traffic np birth (record { seen = x.glass.seen; door = doorway x.viewer.door }) (record { seen = z.glass.seen; door = doorway z.viewer.door }) z.viewer.served.items z.viewer.outcome =
+        subst (λ (b : ℕ). ViewsThrough traffic np b (record { seen = x.glass.seen; door = doorway x.viewer.door }) (record { seen = z.glass.seen; door = doorway z.viewer.door }) z.viewer.served.items z.viewer.outcome) born k.works in
         record {
           tales = w.tales;
           links = w.worked.links;
@@ -184,7 +184,7 @@ module _ {D G L : Type 0} where
     all_viewed (x ∷ xs) [] a = absurd a
     all_viewed (x ∷ xs) (y ∷ ys) a = (has_viewed x y a.0, all_viewed xs ys a.1)
 
-    all_told : (xs ys : List (ViewerSeat D G L)) → AllDone xs ys → Each (λ (s : ViewerSeat D G L). s.told ≡ true) ys → AreTold traffic np birth h (WS (viewers_of xs)) (WS (viewers_of ys))
+    all_told : (xs ys : List (ViewerSeat D G L)) → AllDone xs ys → Each (λ (s : ViewerSeat D G L). s.told ≡ true) ys → AreToldOf traffic np birth h (WS (viewers_of xs)) (WS (viewers_of ys))
     all_told [] [] a t = tt
     all_told [] (y ∷ ys) a t = absurd a
     all_told (x ∷ xs) [] a t = absurd a
@@ -198,7 +198,7 @@ module _ {D G L : Type 0} where
     pub seats_done : (viewers viewers' : List (Viewer D G L)) (xs us : List (ViewerSeat D G L)) → reverse (viewers_of xs) ≡ viewers → viewers' ≡ reverse (viewers_of us) → length us ≡ length xs
         → ((i : ℕ) (d : ViewerSeat D G L) → i < length xs → IsDone (get_or xs i d) (get_or us i d))
         → HaveViewed traffic np birth (WS viewers) (WS viewers')
-        × (list_all (λ (s : ViewerSeat D G L). s.told) us ≡ true → AreTold traffic np birth h (WS viewers) (WS viewers'))
+        × (list_all (λ (s : ViewerSeat D G L). s.told) us ≡ true → AreToldOf traffic np birth h (WS viewers) (WS viewers'))
     seats_done viewers viewers' xs us is is' long f =
         let all = done_reversed xs us (all_done xs us long f) in
         let before : viewers_of (reverse xs) ≡ viewers = viewers_reversed xs ∙ is in
@@ -206,7 +206,7 @@ module _ {D G L : Type 0} where
           subst (λ (vs : List (Viewer D G L)). HaveViewed traffic np birth (WS viewers) (WS vs)) after
               (subst (λ (vs : List (Viewer D G L)). HaveViewed traffic np birth (WS vs) (WS (viewers_of (reverse us)))) before (all_viewed (reverse xs) (reverse us) all)),
           λ told.
-              subst (λ (vs : List (Viewer D G L)). AreTold traffic np birth h (WS viewers) (WS vs)) after
-              (subst (λ (vs : List (Viewer D G L)). AreTold traffic np birth h (WS vs) (WS (viewers_of (reverse us)))) before
+              subst (λ (vs : List (Viewer D G L)). AreToldOf traffic np birth h (WS viewers) (WS vs)) after
+              (subst (λ (vs : List (Viewer D G L)). AreToldOf traffic np birth h (WS vs) (WS (viewers_of (reverse us)))) before
               (all_told (reverse xs) (reverse us) all (each_reverse (λ (s : ViewerSeat D G L). s.told ≡ true) us (each_told us told)))),
         )

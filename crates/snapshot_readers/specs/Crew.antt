@@ -63,7 +63,7 @@ module _ {L : Type 0} (traffic : L → Traffic) (np : NamedPolicy) (birth : ℕ)
   AreViewed h _ _ = ⊥
 
   -- the links so far
-  pub record Worked (o p : ViewerSpot L) (served : List (Viewed L)) (tales : List (ViewTale L))
+  pub record ViewedSoFar (o p : ViewerSpot L) (served : List (Viewed L)) (tales : List (ViewTale L))
       : Type 0 where
     pub links : AreViewed p.seen served tales
     pub grows : IsPrefix o.seen p.seen
@@ -71,8 +71,9 @@ module _ {L : Type 0} (traffic : L → Traffic) (np : NamedPolicy) (birth : ℕ)
     pub door : Gives o.door.links p.door.links (views_begun tales)
 
   -- all the work of a viewer
-  pub record Works (o p : ViewerSpot L) (served : List (Viewed L)) (end : ViewerEnd) : Type 0 where
+  pub record ViewsThrough (o p : ViewerSpot L) (served : List (Viewed L)) (end : ViewerEnd)
+      : Type 0 where
     pub tales : List (ViewTale L)
-    pub worked : Worked o p served tales
+    pub worked : ViewedSoFar o p served tales
     pub counted : AddUp o.door.links p.door.links served
     pub cause : ViewsTo p.door.links o.door.tally p.door.tally served end

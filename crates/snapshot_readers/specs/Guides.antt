@@ -7,7 +7,7 @@ use Rattle.gt_base.specs.declared.requests.Entry.{Entry}
 use Rattle.policy_words.specs.Naming.{NamedPolicy}
 use Rattle.connection_laws.specs.Lines.{Answer}
 use Rattle.snapshot_readers.specs.declared.guide.Guide.{Guide}
-use Rattle.snapshot_readers.specs.Viewed.{lens_in, AscendBetween, Sees}
+use Rattle.snapshot_readers.specs.Viewed.{lens_in, AscendBetween, AsksView}
 use Rattle.snapshot_readers.specs.Viewing.{SameGlass}
 
 -- a viewer as it answers: the history that its glass has seen, and the numbers of entries that its
@@ -24,7 +24,7 @@ module _ (np : NamedPolicy) (birth : ℕ) where
   -- which has grown, and the number was recorded
   pub record GuideAsks (a b : GuideView) (actor : Actor) (request : Request) (answer : Answer)
       (readings : List ℕ) (entries : List Entry) : Type 0 where
-    pub sees : (n : ℕ) → Sees np birth b.seen actor request answer n readings entries
+    pub sees : (n : ℕ) → AsksView np birth b.seen actor request answer n readings entries
     pub grows : IsPrefix a.seen b.seen
     pub lens : b.lens ≡ a.lens ++ lens_in answer
     pub ascends : AscendBetween (length a.seen) (lens_in answer) (length b.seen)

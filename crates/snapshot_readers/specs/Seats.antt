@@ -19,7 +19,7 @@ use Rattle.snapshot_readers.specs.declared.ends.Viewed.{Viewed}
 use Rattle.snapshot_readers.specs.declared.ends.ViewerEnd.{ViewerEnd}
 use Rattle.snapshot_readers.specs.declared.ends.ViewerEnd.TheVariants.{Fresh}
 use Rattle.snapshot_readers.specs.declared.viewers.Viewer.{Viewer}
-use Rattle.snapshot_readers.specs.Crew.{ViewTale, Works, AreViewed, ViewsTo, views_begun, all_lens}
+use Rattle.snapshot_readers.specs.Crew.{ViewTale, ViewsThrough, AreViewed, ViewsTo, views_begun, all_lens}
 use Rattle.connection_laws.specs.Doors.{Gives}
 use Rattle.connection_laws.specs.Lines.{Answer, shown, Acted, actor_after}
 use Rattle.snapshot_readers.specs.Viewed.{AscendBetween}
@@ -44,7 +44,7 @@ module _ {D G L : Type 0} (doorway : D → Doorway L) where
   pub record HasLooked (traffic : L → Traffic) (np : NamedPolicy) (x y : ViewerSeat D G L)
       : Type 0 where
     pub same : SameGlass x.glass y.glass
-    pub works : Works traffic np x.glass.birth
+    pub works : ViewsThrough traffic np x.glass.birth
         (record { seen = x.glass.seen; door = doorway x.viewer.door })
         (record { seen = y.glass.seen; door = doorway y.viewer.door }) y.viewer.served.items
         y.viewer.outcome
@@ -127,10 +127,10 @@ module _ {L : Type 0} (traffic : L → Traffic) (np : NamedPolicy) (birth : ℕ)
     pub history : IsHistory np.policy birth seen
     pub of : AllAreOf np birth h viewed.tales
 
-  abbrev pub AreTold : List Entry → List (Watcher L) → List (Watcher L) → Type 0
-  AreTold h [] [] = ⊤
-  AreTold h (a ∷ as') (b ∷ bs) = IsToldOf h a b × AreTold h as' bs
-  AreTold h _ _ = ⊥
+  abbrev pub AreToldOf : List Entry → List (Watcher L) → List (Watcher L) → Type 0
+  AreToldOf h [] [] = ⊤
+  AreToldOf h (a ∷ as') (b ∷ bs) = IsToldOf h a b × AreToldOf h as' bs
+  AreToldOf h _ _ = ⊥
 
   -- without the history
   abbrev pub HaveViewed : List (Watcher L) → List (Watcher L) → Type 0

@@ -45,15 +45,15 @@ module _ (np : NamedPolicy) (birth : ℕ) (h : List Entry) where
 
   -- what a request gets: a look, or that there is but a view here. It takes no reading of a clock
   -- and adds no entry
-  abbrev pub Sees : Actor → Request → Answer → ℕ → List ℕ → List Entry → Type 0
-  Sees actor request answer n readings entries =
+  abbrev pub AsksView : Actor → Request → Answer → ℕ → List ℕ → List Entry → Type 0
+  AsksView actor request answer n readings entries =
       MatchBool (is_look request) (Looks actor request answer) (answer ≡ view_only)
       × (readings ≡ []) × (entries ≡ [])
 
 -- one link over a history
 abbrev pub View : NamedPolicy → ℕ → List Entry → List ℕ → List ℕ → List Acted → ViewEnd → Type 0
 View np birth h taken given acted end =
-    LinkBy (Sees np birth h) np 0 taken [] [] given acted (link_end end)
+    LinkBy (AsksView np birth h) np 0 taken [] [] given acted (link_end end)
 
 -- a request that only looks is shown a reply, or there was no memory; any other is refused
 abbrev pub IsViewAnswered : Request → Answer → Type 0
@@ -66,5 +66,5 @@ IsViewAnswered request _ = ⊥
 abbrev pub IsViewedLink : NamedPolicy → ℕ → List Entry → Traffic → Traffic → List ℕ → List ℕ
     → List Acted → ViewEnd → Type 0
 IsViewedLink np birth h a b taken given acted end =
-    IsServedBy (Sees np birth h) IsViewAnswered (λ n. ⊥) np 0 a b taken [] [] given acted
+    IsServedBy (AsksView np birth h) IsViewAnswered (λ n. ⊥) np 0 a b taken [] [] given acted
     (link_end end)

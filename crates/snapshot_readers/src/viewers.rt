@@ -1,6 +1,6 @@
 //! The links of a viewer's door, one after the other.
 ghost use Rattle.std.specs.Prelude.{◌≡◌, ◌≤◌, [], true};
-ghost use Rattle.snapshot_readers.specs.Crew.{Works};
+ghost use Rattle.snapshot_readers.specs.Crew.{ViewsThrough};
 ghost use Rattle.snapshot_readers.specs.Viewing.{CanShow, SameGlass};
 
 use crate::ends::{Viewed, ViewerEnd};
@@ -31,7 +31,7 @@ fn view_on<D: Door, G: Gate>(
     requires shows { CanShow policy.now glass.old }
     requires empty { served.old.items ≡ [] }
     ensures glass { SameGlass glass.old glass.new }
-    ensures works { Works D.L.traffic policy.now glass.old.birth
+    ensures works { ViewsThrough D.L.traffic policy.now glass.old.birth
         (record { seen = glass.old.seen; door = D.doorway door.old })
         (record { seen = glass.new.seen; door = D.doorway door.new }) served.new.items result }
 {
@@ -63,7 +63,7 @@ pub fn view<D: Door, G: Gate>(
     requires number { v ≤ 7 }
     requires fresh { (viewer.old.outcome ≡ ViewerEnd.Fresh) × (viewer.old.served.items ≡ []) }
     ensures glass { SameGlass glass.old glass.new }
-    ensures works { Works D.L.traffic policy.now glass.old.birth
+    ensures works { ViewsThrough D.L.traffic policy.now glass.old.birth
         (record { seen = glass.old.seen; door = D.doorway viewer.old.door })
         (record { seen = glass.new.seen; door = D.doorway viewer.new.door })
         viewer.new.served.items viewer.new.outcome }

@@ -6,7 +6,7 @@ use Rattle.policy_commands.specs.Admitting.{IsAdmitted}
 use Rattle.policy_commands.specs.Ends.{ending, seen_end}
 use Rattle.policy_commands.specs.Finding.{IsStoredText, IsFoundText, IsFailure, IsSteady}
 use Rattle.policy_commands.specs.Printing.{IsPrinted}
-use Rattle.gtrbac_daemon.specs.Words.{usage, Admits}
+use Rattle.gtrbac_daemon.specs.Words.{server_usage, Admits}
 use Rattle.gtrbac_daemon.specs.Runs.{starved}
 use Rattle.gtrbac_daemon.proofs.Causing.{apart}
 use Rattle.gtrbac_daemon.proofs.Found.{is_short, some_said, none_said, text_refused, judged_fine, refused_as}
@@ -88,4 +88,4 @@ returns-clause-unread g c = λ none. absurd (none-some c.in-Some.name.now (sym n
 pub returns-in_default-clause-ended : goal.returns-in_default-clause-ended
 returns-in_default-clause-ended g c =
     let old = g.S.Shelf.stock c.args.shelf.now in
-    refused_as _ None (none_said _ _ c.in_default.is) c.print.result old old (g.K.Sink.output c.args.out.now) (g.K.Sink.output c.print.new.out) usage refl (λ four. absurd (apart 1 1 4 refl refl four)) (inr refl) c.print.ensures
+    refused_as _ None (none_said _ _ c.in_default.is) c.print.result old old (g.K.Sink.output c.args.out.now) (g.K.Sink.output c.print.new.out) server_usage refl (λ four. absurd (apart 1 1 4 refl refl four)) (inr refl) c.print.ensures

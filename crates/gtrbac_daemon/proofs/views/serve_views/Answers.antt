@@ -7,7 +7,7 @@ use Rattle.line_server.specs.declared.workers.Worker.{Worker}
 use Rattle.snapshot_readers.specs.declared.viewers.Viewer.{Viewer}
 use Rattle.snapshot_readers.specs.Seats.{watchers}
 use Rattle.gtrbac_daemon.specs.Crew.{crewmen, is_memory, is_door_fault, is_spent}
-use Rattle.gtrbac_daemon.specs.Views.{as_work, status_by, first_above, numbers_of, first_late, views_status, company, view_way}
+use Rattle.gtrbac_daemon.specs.Views.{as_work, views_status_by, first_above, numbers_of, first_late, views_status, company, view_way}
 use Rattle.gtrbac_daemon.proofs.AnyRuns.{none_served, all_served}
 use Rattle.gtrbac_daemon.proofs.ViewServed.{status_same, has_served}
 use Rattle.gtrbac_daemon.proofs.views.serve_views.Goals as goal
@@ -30,7 +30,7 @@ returns-in-Ok-serve_at g c = λ stock stock'.
     let crew : c.as_slice-in-Ok-serve_at.result.now ≡ ws = c.as_slice-in-Ok-serve_at.ensures.value in
     let viewers : c.as_slice-in-Ok-serve_at-2.result.now ≡ vs = c.as_slice-in-Ok-serve_at-2.ensures.value in
     let said : at.told ≡ true → c.due_of_all-due.result ≡ views_status es (company (crewmen k d ws) (watchers d vs)) =
-    λ yes. c.due_of_all-due.ensures.told yes ∙ ((λ i. status_by
+    λ yes. c.due_of_all-due.ensures.told yes ∙ ((λ i. views_status_by
     (list_any (λ (w : W). is_memory w.outcome) (crew i) || list_any (λ (v : V). is_memory (as_work v.outcome)) (viewers i))
     (list_any (λ (w : W). is_door_fault w.outcome) (crew i) || list_any (λ (v : V). is_door_fault (as_work v.outcome)) (viewers i))
     (list_any (λ (w : W). is_spent w.outcome) (crew i) || list_any (λ (v : V). is_spent (as_work v.outcome)) (viewers i)) (is_some late))

@@ -13,7 +13,7 @@ use Rattle.ledger_laws.specs.Serving.{CanBeServed}
 use Rattle.snapshot_readers.specs.Glazed.{Glazed, fresh_glass}
 use Rattle.snapshot_readers.specs.Boards.{BoardView}
 use Rattle.snapshot_readers.proofs.BoardSending.{board_send}
-use Rattle.snapshot_readers.specs.Seats.{watchers, AreTold}
+use Rattle.snapshot_readers.specs.Seats.{watchers, AreToldOf}
 use Rattle.snapshot_readers.proofs.Seated.{length_copies}
 use Rattle.gtrbac_daemon.specs.Crew.{crewman, crewmen}
 use Rattle.gtrbac_daemon.specs.Headline.{HaveWorked}
@@ -103,7 +103,7 @@ returns-in-Ok-new-clause-told g c =
     let V = watchers g.D.Door.doorway in
     let same : c.into_ledger-ledger.result ≡ c.serve_and_close-board.result.ledger = c.into_ledger-ledger.ensures ∙ c.settle_up-told.ensures.board in
     λ yes.
-    subst (λ (b : BookView). AreTold g.D.L.Link.traffic c.args.policy.now c.args.board.ledger.birth b.entries (V c.args.viewers.now.items) (V c.leave_seats.new.viewers.items)) (sym same)
+    subst (λ (b : BookView). AreToldOf g.D.L.Link.traffic c.args.policy.now c.args.board.ledger.birth b.entries (V c.args.viewers.now.items) (V c.leave_seats.new.viewers.items)) (sym same)
     ((all_served c.args.policy.now c.args.board.ledger.birth (length c.args.viewers.now.items) c.args.glasses.items c.args.viewers.now.items c.take_seats.new.seats.items c.requires.board.glasses_are
     c.take_seats.ensures.glasses_are c.take_seats.ensures.viewers_are c.requires.company.new g.D.Door.doorway g.D.L.Link.traffic c.serve_and_close-board.result.ledger.entries c.leave_seats.new.viewers.items
     c.serve_and_close-board.new.seats.items c.settle_up-told.new.seats.items c.leave_seats.ensures c.serve_and_close-board.ensures.looked c.settle_up-told.ensures.settled).1

@@ -3,7 +3,7 @@ use Rattle.connection_laws.specs.declared.ends.LinkEnd.{LinkEnd}
 use Rattle.line_server.specs.declared.ended.Served.{Served}
 use Rattle.connection_laws.specs.Attending.{EndsBy}
 use Rattle.connection_laws.specs.Clerks.{WearsAt}
-use Rattle.line_server.specs.Working.{WorkerSpot, Worked}
+use Rattle.line_server.specs.Working.{WorkerSpot, WorkedSoFar}
 use Rattle.line_server.proofs.Links.{link_done, ends_of}
 use Rattle.connection_laws.specs.Services.{service}
 use Rattle.line_server.proofs.workers.serve_next.Goals as goal
@@ -27,7 +27,7 @@ returns-in-Ok-Some-clause-works g c =
     let d = link_done traffic c.args.policy.now (g.M.Keeps.list root) (m.legal root) (m.now_of root) c.args.pass.now.number o p p' old tales s c.in-Ok-Some.link (c.len.result + 1) c.args.calls.now c.serve_link-report.new.calls
     worked v (omega (arith, count)) door fresh in (
       d.0,
-      subst (λ (items : List (Served g.row.D-L.Denot)). Worked traffic (service c.args.policy.now (g.M.Keeps.list root) (m.legal root) (m.now_of root)) c.args.pass.now.number o p' items d.0) (sym c.push.ensures.items) d.1,
+      subst (λ (items : List (Served g.row.D-L.Denot)). WorkedSoFar traffic (service c.args.policy.now (g.M.Keeps.list root) (m.legal root) (m.now_of root)) c.args.pass.now.number o p' items d.0) (sym c.push.ensures.items) d.1,
       ends_of p'.door.links p.door.tally p'.door.tally c.serve_link-report.new.pass.draws old c.push.new.self.items s c.worn_of.result tally c.push.ensures.items unworn
           (λ n is. let cause = subst (λ (e : LinkEnd). EndsBy (WearsAt c.serve_link-report.new.pass.draws) (traffic c.in-Ok-Some.link) (traffic c.serve_link-report.new.link) v.taken e) is v.cause in cause.0) c.worn_of.ensures,
     )

@@ -2,7 +2,7 @@ use Rattle.std.proofs.Common.{None, ◌<◌, List, [], length, sym, ap, subst, �
 use Rattle.gt_base.specs.declared.limits.TheConstants.{MAX_LINKS}
 use Rattle.line_server.specs.declared.ended.Served.{Served}
 use Rattle.line_server.specs.declared.ended.WorkEnd.TheVariants.{Memory}
-use Rattle.line_server.specs.Working.{WorkerSpot, AllUnworn, Works}
+use Rattle.line_server.specs.Working.{WorkerSpot, AllUnworn, WorksThrough}
 use Rattle.line_server.proofs.Links.{no_links, next_done, goes_on, at_rest}
 use Rattle.connection_laws.specs.Services.{service}
 use Rattle.gt_io.specs.Links.{Doorway}
@@ -89,5 +89,5 @@ returns-then-is_err-clause-works g c =
     let p : WorkerSpot g.row.M.Denot g.row.D-L.Denot = record { pass = c.loop-alloc.pass; clock = k.readings c.loop-alloc.w.clock; door = d.doorway c.make_room.new.door } in
     let worked = at_rest traffic v c.args.pass.now.number o p (d.doorway c.loop-alloc.w.door) c.loop-alloc.w.served.items inv.tales c.make_room.ensures.door inv.worked in
     let few : length c.loop-alloc.w.served.items < MAX_LINKS = let len = c.len.ensures in let low = c.loop-alloc-test.true in omega (arith, len, low) in
-    subst (λ (ss : List (Served g.row.D-L.Denot)). Works traffic v c.args.pass.now.number o p ss Memory) (sym c.make_room.ensures.items)
+    subst (λ (ss : List (Served g.row.D-L.Denot)). WorksThrough traffic v c.args.pass.now.number o p ss Memory) (sym c.make_room.ensures.items)
     (record { tales = inv.tales; worked = worked; cause = (inv.unworn, few, ap (λ (e : Doorway g.row.D-L.Denot). e.tally) c.make_room.ensures.door ∙ inv.tally) })

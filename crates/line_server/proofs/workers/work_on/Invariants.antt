@@ -2,7 +2,7 @@ use Rattle.std.proofs.Common.{◌≡◌, ◌≤◌, ◌-◌, ◌*◌, List, leng
 use Rattle.gt_base.specs.declared.limits.TheConstants.{MAX_LINKS}
 use Rattle.turn_lock.specs.Holders.{site_of}
 use Rattle.connection_laws.specs.Turns.{IsIdle}
-use Rattle.line_server.specs.Working.{Tale, Worked, AllUnworn}
+use Rattle.line_server.specs.Working.{Tale, WorkedSoFar, AllUnworn}
 use Rattle.connection_laws.specs.Services.{service}
 use Rattle.line_server.proofs.workers.work_on.Given as goal
 
@@ -14,7 +14,7 @@ invariant-loop-alloc g l =
     let d = g.D.Door in
     record {
       tales : List (Tale g.row.D-L.Denot);
-      worked : Worked g.D.L.Link.traffic (service l.policy (g.M.Keeps.list root) (m.legal root) (m.now_of root)) l.fn.pass.number
+      worked : WorkedSoFar g.D.L.Link.traffic (service l.policy (g.M.Keeps.list root) (m.legal root) (m.now_of root)) l.fn.pass.number
           (record { pass = l.fn.pass; clock = k.readings l.fn.w.clock; door = d.doorway l.fn.w.door }) (record { pass = l.pass; clock = k.readings l.w.clock; door = d.doorway l.w.door }) l.w.served.items tales;
       unworn : AllUnworn l.w.served.items;
       idle : IsIdle (site_of l.desk) l.pass;

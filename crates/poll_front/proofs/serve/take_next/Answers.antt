@@ -15,7 +15,7 @@ use Rattle.connection_laws.specs.Attending.{ActsBy}
 use Rattle.connection_laws.specs.Clerks.{WearsAt, ClerkAsks, rested_clerk, clerk_view}
 use Rattle.connection_laws.specs.declared.talk.LineAnswer.TheVariants.{Bad}
 use Rattle.poll_front.specs.declared.states.LinkState.{LinkState}
-use Rattle.poll_front.specs.Fronts.{FrontSpot, front_spot, StepsTo, CountsOne}
+use Rattle.poll_front.specs.Fronts.{FrontSpot, front_spot, LinkComesTo, CountsOne}
 use Rattle.poll_front.proofs.Calls.{calls_none}
 use Rattle.poll_front.proofs.Going.{steps_byte, steps_line}
 use Rattle.poll_front.proofs.Hearing.{Hears, hears_acts, long_heard, heard_idle, heard_counts}
@@ -31,7 +31,7 @@ returns-in-More g c =
     let s : LinkState = c.args.state.now in
     let byte : ℕ = get_or s.chunk s.from 0 in
     record {
-      steps = subst (λ (f : Frame). StepsTo v p p a a sv.conn s (record s { framer = f; from = s.from + 1 }) (Ok tt)) (sym c.push.ensures.frame)
+      steps = subst (λ (f : Frame). LinkComesTo v p p a a sv.conn s (record s { framer = f; from = s.from + 1 }) (Ok tt)) (sym c.push.ensures.frame)
           (steps_byte v p a sv.conn s byte c.requires.some.0 refl (more_is s.framer byte (sym c.push.ensures.answer ∙ c.in-More.is)));
       ready = ((c.requires.ready.asks.idle, refl), c.requires.ready.reached);
       actor = c.requires.talk.actor;
@@ -75,7 +75,7 @@ returns-in-Whole g c =
     let lent = lent_with c.free_room.new.room told.new.room (text_in told.result) told.ensures.lends in
     let room = ap (λ (z : LinkState). room_with (text_in z.told) z.room) same in
     record {
-      steps = subst (λ (z : LinkState). StepsTo v p p' a b sv.conn s z c.tell.result)
+      steps = subst (λ (z : LinkState). LinkComesTo v p p' a b sv.conn s z c.tell.result)
           (sym (same ∙ ap (λ (f : Frame). record s { framer = f; from = s.from + 1; talk = talk; told = told.result; at = c.tell.new.state.at; room = told.new.room }) c.push.ensures.frame))
           (steps_line v p p' a b sv.conn s byte talk told.new.room c.requires.live.live c.requires.told c.requires.some.0 refl told.result c.tell.new.state.at c.tell.result
           (λ fed fits.
@@ -105,7 +105,7 @@ returns-in-Long g c =
     let back = back_with s.room room (text_in s.told) c.free_room-in-Long.ensures.back in
     let kept = ap (λ (z : LinkState). room_with (text_in z.told) z.room) same in
     record {
-      steps = subst (λ (z : LinkState). StepsTo v p p a b sv.conn s z c.tell-in-Long.result)
+      steps = subst (λ (z : LinkState). LinkComesTo v p p a b sv.conn s z c.tell-in-Long.result)
           (sym (same ∙ ap (λ (f : Frame). record s { framer = f; from = s.from + 1; told = Bad Long; at = c.tell-in-Long.new.state.at; room = room }) c.push.ensures.frame))
           (steps_line v p p a b sv.conn s byte s.talk room c.requires.live.live c.requires.told c.requires.some.0 refl (Bad Long) c.tell-in-Long.new.state.at c.tell-in-Long.result
           (λ fed fits. let w = long_is s.framer fed byte fits (sym c.push.ensures.answer ∙ c.in-Long.is) in (w.0, long_heard v (by c.args.pass.now.number sv.conn) p s.talk (open_line fed) c.requires.talk.actor w.1)) c.tell-in-Long.ensures.tells);

@@ -4,7 +4,7 @@ use Rattle.snapshot_readers.specs.declared.ends.Viewed.{Viewed}
 use Rattle.snapshot_readers.specs.declared.ends.ViewerEnd.TheVariants.{Done, DoorFault, Memory}
 use Rattle.gt_io.specs.Links.{Tally, Doorway}
 use Rattle.gt_io.specs.Memory.{one_more}
-use Rattle.snapshot_readers.specs.Crew.{ViewerSpot, Worked}
+use Rattle.snapshot_readers.specs.Crew.{ViewerSpot, ViewedSoFar}
 use Rattle.snapshot_readers.specs.Viewing.{Views}
 use Rattle.connection_laws.specs.Desks.{GlancesCanBeTold}
 use Rattle.snapshot_readers.proofs.Linking.{no_links, counted_by, link_done, works_ended, at_rest}
@@ -47,7 +47,7 @@ loop-door-preserved g c =
     let views = subst (λ (b : ℕ). Views np b p.seen p'.seen s.lens.items s.denied c.loop-door.calls c.view_link.new.calls (traffic link) (traffic s.link) s.outcome) inv.glass.1 c.view_link.ensures.views in
     let y = link_done traffic np birth o p p' c.loop-door.served.items inv.tales s link c.loop-door.calls c.view_link.new.calls worked views (rw c.in-Ok-Some.field-0-is at c.in-Ok-Some.ensures.links) (rw c.in-Ok-Some.field-0-is at c.in-Ok-Some.ensures.fresh) in
     let items = c.push.ensures.items ∙ ap (λ (ss : List (Viewed g.row.D-L.Denot)). ss ++ s ∷ []) c.make_room.ensures.items in
-    let done : Worked traffic np birth o p' c.push.new.self.items y.0 = subst (λ (ss : List (Viewed g.row.D-L.Denot)). Worked traffic np birth o p' ss y.0) (sym items) y.1 in
+    let done : ViewedSoFar traffic np birth o p' c.push.new.self.items y.0 = subst (λ (ss : List (Viewed g.row.D-L.Denot)). ViewedSoFar traffic np birth o p' ss y.0) (sym items) y.1 in
     let tally : p'.door.tally ≡ p.door.tally = rw c.in-Ok-Some.field-0-is at c.in-Ok-Some.ensures.tally in
     let one = ap (λ (ss : List (Viewed g.row.D-L.Denot)). length ss) items ∙ length-append c.loop-door.served.items (s ∷ []) in
     let calls = inv.calls in
