@@ -1,16 +1,16 @@
+//! Copies that entries are played on, one of which refuses.
 ghost use Rattle.std.specs.Prelude.{◌≡◌, ◌≤◌, ◌++◌, ◌∷◌, [], length, refl};
 ghost use mathlib.Core.List.{IsPrefix};
 
-use crate::copies::copy_of;
-use crate::{Copies, Replica, Sight};
 use gt_base::{Entry, Instant, Memory, Step, Who};
 use left_right::Absorb;
+use published_copies::{Copies, Replica, Sight};
 use std::alloc::{AllocError, Global};
 use std::collections::LinkedList;
 use std::sync::Wait;
 use std::test::Fail;
 
-/// A list of what was played, which refuses an entry while `refusals` is positive.
+/// A list of the ticks that were played, which refuses an entry while `refusals` is positive.
 #[derive(Drop)]
 struct Fake {
     played: Vec<Entry>,
@@ -29,7 +29,14 @@ impl Absorb<Entry> for Fake {
             self.refusals -= 1;
             return Err(AllocError);
         }
-        match self.played.push(copy_of(operation)?) {
+        let Step::Tick { upto, to } = operation.what else {
+            return Err(AllocError);
+        };
+        let played = Entry {
+            who: operation.who,
+            what: Step::Tick { upto, to },
+        };
+        match self.played.push(played) {
             Ok(()) => Ok(()),
             Err(_) => Err(AllocError),
         }
