@@ -65,8 +65,8 @@ fn a_reader_that_breaks_fails(rt: HostRuntime) -> Result<(), Fail> {
 #[test]
 fn a_writer_that_takes_nothing_fails(rt: HostRuntime) -> Result<(), Fail> {
     let mut sink = Writing::new(Breaking { used: false });
-    assert_eq!(rt; write_all(&mut sink, b"a"), Ok(()));
-    assert_eq!(rt; write_all(&mut sink, b"b"), Err(Failed));
+    assert!(rt; write_all(&mut sink, b"a") == Ok(()));
+    assert!(rt; write_all(&mut sink, b"b") == Err(Failed));
     Ok(())
 }
 
@@ -78,7 +78,7 @@ fn a_file_is_found_and_read(rt: HostRuntime) -> Result<(), Fail> {
     let mut shelf = HostShelf::new(&rt);
     let text = find_all(rt.alloc(), &mut shelf, name, 4);
     fs::remove_file(&rt, name)?;
-    assert_eq!(rt; text?.as_slice(), b"text".as_slice());
+    assert!(rt; text?.as_slice() == b"text".as_slice());
     assert!(rt;
         matches!(
             find_all(rt.alloc(), &mut shelf, name, 4),
@@ -126,10 +126,10 @@ fn a_look_that_fails_is_tried_again(rt: HostRuntime) -> Result<(), Fail> {
         pauses: 0,
     };
     assert!(rt; matches!(look_again(&mut file), Ok(true)));
-    assert_eq!(rt; file.pauses, MAX_FAILED - 1);
+    assert!(rt; file.pauses == MAX_FAILED - 1);
     file.fails = MAX_FAILED;
     assert!(rt; look_again(&mut file).is_err());
-    assert_eq!(rt; file.fails, 0);
+    assert!(rt; file.fails == 0);
     Ok(())
 }
 
@@ -176,19 +176,19 @@ fn a_client_waits_in_the_queue(rt: HostRuntime) -> Result<(), Fail> {
         looks: 0,
     };
     conn.wake(sign);
-    assert_eq!(rt; conn.draw(None, 1, &mut buf)?, Got::Bytes(2));
+    assert!(rt; conn.draw(None, 1, &mut buf)? == Got::Bytes(2));
     client.write(b"c")?;
-    assert_eq!(rt; conn.draw(None, 1, &mut buf)?, Got::Bytes(1));
-    assert_eq!(rt; conn.draw(None, 1, &mut buf)?, Got::NotYet);
+    assert!(rt; conn.draw(None, 1, &mut buf)? == Got::Bytes(1));
+    assert!(rt; conn.draw(None, 1, &mut buf)? == Got::NotYet);
     sign.urgent = false;
     conn.wake(sign);
     client.write(b"d")?;
-    assert_eq!(rt; conn.draw(None, 1, &mut buf)?, Got::Bytes(1));
+    assert!(rt; conn.draw(None, 1, &mut buf)? == Got::Bytes(1));
     client.write(b"e")?;
-    assert_eq!(rt; conn.draw(None, 1, &mut buf)?, Got::NotYet);
+    assert!(rt; conn.draw(None, 1, &mut buf)? == Got::NotYet);
     conn.wake(sign);
-    assert_eq!(rt; conn.draw(None, 1, &mut buf)?, Got::Bytes(1));
-    assert_eq!(rt; buf[0], b'e');
+    assert!(rt; conn.draw(None, 1, &mut buf)? == Got::Bytes(1));
+    assert!(rt; buf[0] == b'e');
     Ok(())
 }
 
@@ -210,19 +210,19 @@ fn serve<R: Files + rt::Clock>(
 {
     client.write(b"ask")?;
     let mut buf = [0u8; 8];
-    assert_eq!(rt; link.read(&mut buf), Ok(3));
-    assert_eq!(rt; &buf[..3], b"ask".as_slice());
-    assert_eq!(rt; send_all(&mut link, b"y"), Ok(()));
-    assert_eq!(rt; send_all(&mut link, b"es"), Ok(()));
+    assert!(rt; link.read(&mut buf) == Ok(3));
+    assert!(rt; &buf[..3] == b"ask".as_slice());
+    assert!(rt; send_all(&mut link, b"y") == Ok(()));
+    assert!(rt; send_all(&mut link, b"es") == Ok(()));
     client.write(b"more")?;
-    assert_eq!(rt; link.read(&mut buf), Ok(4));
-    assert_eq!(rt; client.read(&mut buf)?, 3);
-    assert_eq!(rt; &buf[..3], b"yes".as_slice());
-    assert_eq!(rt; send_all(&mut link, b"no"), Ok(()));
+    assert!(rt; link.read(&mut buf) == Ok(4));
+    assert!(rt; client.read(&mut buf)? == 3);
+    assert!(rt; &buf[..3] == b"yes".as_slice());
+    assert!(rt; send_all(&mut link, b"no") == Ok(()));
     link.finish();
-    assert_eq!(rt; client.read(&mut buf)?, 2);
-    assert_eq!(rt; &buf[..2], b"no".as_slice());
-    assert_eq!(rt; client.read(&mut buf)?, 0);
+    assert!(rt; client.read(&mut buf)? == 2);
+    assert!(rt; &buf[..2] == b"no".as_slice());
+    assert!(rt; client.read(&mut buf)? == 0);
     Ok(())
 }
 
@@ -297,22 +297,22 @@ fn serve_both<R: Files + rt::Clock + Net>(
         ports.answer()?;
     }
     one.write(b"ask")?;
-    assert_eq!(rt; hear(ports, 1, &mut buf)?, 3);
-    assert_eq!(rt; &buf[..3], b"ask".as_slice());
-    assert_eq!(rt; tell(ports, 1, b"y", false)?, Took::Bytes(1));
-    assert_eq!(rt; tell(ports, 1, b"es", false)?, Took::Bytes(2));
+    assert!(rt; hear(ports, 1, &mut buf)? == 3);
+    assert!(rt; &buf[..3] == b"ask".as_slice());
+    assert!(rt; tell(ports, 1, b"y", false)? == Took::Bytes(1));
+    assert!(rt; tell(ports, 1, b"es", false)? == Took::Bytes(2));
     two.write(b"more")?;
-    assert_eq!(rt; hear(ports, 2, &mut buf)?, 4);
+    assert!(rt; hear(ports, 2, &mut buf)? == 4);
     one.write(b"so")?;
-    assert_eq!(rt; hear(ports, 1, &mut buf)?, 2);
-    assert_eq!(rt; one.read(&mut buf)?, 3);
-    assert_eq!(rt; &buf[..3], b"yes".as_slice());
+    assert!(rt; hear(ports, 1, &mut buf)? == 2);
+    assert!(rt; one.read(&mut buf)? == 3);
+    assert!(rt; &buf[..3] == b"yes".as_slice());
     drop(one);
-    assert_eq!(rt; hear(ports, 1, &mut buf)?, 0);
-    assert_eq!(rt; tell(ports, 2, b"no", true)?, Took::Bytes(2));
-    assert_eq!(rt; two.read(&mut buf)?, 2);
-    assert_eq!(rt; &buf[..2], b"no".as_slice());
-    assert_eq!(rt; two.read(&mut buf)?, 0);
+    assert!(rt; hear(ports, 1, &mut buf)? == 0);
+    assert!(rt; tell(ports, 2, b"no", true)? == Took::Bytes(2));
+    assert!(rt; two.read(&mut buf)? == 2);
+    assert!(rt; &buf[..2] == b"no".as_slice());
+    assert!(rt; two.read(&mut buf)? == 0);
     Ok(())
 }
 
@@ -363,9 +363,9 @@ fn clients_are_served_until_the_stop_file_stands(rt: HostRuntime) -> Result<(), 
     let second_closed = matches!(second.next(), Ok(None));
     let stopped = ports.answer();
     fs::remove_file(&rt, "gtrbacd.stop")?;
-    assert_eq!(rt; end, Ok(0));
+    assert!(rt; end == Ok(0));
     assert!(rt; first_closed && second_closed);
-    assert_eq!(rt; stopped, Ok(PortEvent::Stop));
+    assert!(rt; stopped == Ok(PortEvent::Stop));
     assert!(rt; TcpStream::connect(&rt, (Ipv4Addr::LOCALHOST, port)).is_err());
     assert!(rt; TcpStream::connect(&rt, (Ipv4Addr::LOCALHOST, many)).is_err());
     Ok(())
@@ -379,9 +379,9 @@ fn the_clock_tells_the_minute(rt: HostRuntime) -> Result<(), Fail> {
     let now = clock.now();
     let after = SystemTime::now(&rt)?.duration_since(SystemTime::UNIX_EPOCH)?;
     assert!(rt; minute_at(before.as_secs()) <= now && now <= minute_at(after.as_secs()));
-    assert_eq!(rt; minute_at(1_767_607_200).minute(), 13_682_040);
-    assert_eq!(rt; minute_at(1_767_607_259).minute(), 13_682_040);
-    assert_eq!(rt; minute_at(946_684_799).minute(), 0);
-    assert_eq!(rt; minute_at(4_102_444_800).minute(), 52_595_999);
+    assert!(rt; minute_at(1_767_607_200).minute() == 13_682_040);
+    assert!(rt; minute_at(1_767_607_259).minute() == 13_682_040);
+    assert!(rt; minute_at(946_684_799).minute() == 0);
+    assert!(rt; minute_at(4_102_444_800).minute() == 52_595_999);
     Ok(())
 }
