@@ -1,11 +1,14 @@
 #!/usr/bin/env python3
 """Tells where the gate spends its time: bench/gate.py [--anew] [--log FILE] [NAME..], or bench/gate.py --read FILE
 
-Runs `rt ci` with these words and times each of its tasks; FILE gets a line for each, which --read tells again without a
-run. Printed are, behind what `rt ci` says, for each crate the seconds of its proof, of its tests' proof, of the base of
-its edits (the check that they begin with, and the one that ends them) and of the edits; then the longest chain of tasks
-that wait for one another. Seconds stand as ELAPSED/PROCESSOR. A processor's second depends on the load of the machine
-far less than an elapsed one. What an earlier run on this machine passed is not done again without --anew. The status is that of `rt ci`.
+Runs `rt ci` with these words and times each of its tasks; FILE gets a line for each, behind those that stand in it, and
+--read tells FILE again without a run. So a whole run may be put together from runs over parts, a few crates NAME at a
+time: of a task that several runs had, the run counts in which it took the most of a processor, since one that an earlier
+run on this machine passed is not done again without --anew. Printed are, behind what `rt ci` says, for each crate of FILE
+the seconds of its proof, of its tests' proof, of the base of its edits (the check that they begin with, and the one that
+ends them) and of the edits; then the longest chain of tasks that wait for one another. Seconds stand as
+ELAPSED/PROCESSOR. A processor's second depends on the load of the machine far less than an elapsed one. The status is
+that of `rt ci`.
 """
 import concurrent.futures
 import contextvars
@@ -56,8 +59,10 @@ def count_processors(rt):
 
 
 def timed(rt, log):
-    """Has the tasks timed that rt runs, each with those that it waits for."""
-    run, began, turn = rt.in_lanes, time.time(), threading.Lock()
+    """Has the tasks timed that rt runs, each with those that it waits for, from when those in the log have ended."""
+    log.seek(0)
+    began = time.time() - max((it[1] for it in read(log).values()), default=0)
+    run, turn = rt.in_lanes, threading.Lock()
 
     def called(key, waits, call):
         def with_time(given, jobs):
@@ -78,11 +83,13 @@ def timed(rt, log):
 
 
 def read(lines):
-    """The tasks: from when, to when, the processors' seconds, and what each waits for."""
+    """The tasks: from when, to when, the processors' seconds, and what each waits for; those that took most count."""
     tasks = {}
     for line in lines:
         name, since, until, used, _, *waits = line.split()
-        tasks[tuple(name.split('.'))] = float(since), float(until), float(used), [tuple(it.split('.')) for it in waits]
+        key = tuple(name.split('.'))
+        if key not in tasks or tasks[key][2] <= float(used):
+            tasks[key] = float(since), float(until), float(used), [tuple(it.split('.')) for it in waits]
     return tasks
 
 
@@ -115,7 +122,7 @@ def tell(tasks):
         cells = ['%.0f/%.0f' % tuple(row.get(column, (0, 0))) for column in columns]
         print('%-18s %11s %11s %11s %11s %5d' % (crate, *cells, sum(edits.values()) if crate == 'all' else edits[crate]))
     seconds, links = chain(tasks)
-    print('from the first task to the last %.0f s; the longest chain is %.0f s:' % (max((it[1] for it in tasks.values()), default=0), seconds))
+    print('from the first task to the last %.0f s in all; the longest chain is %.0f s:' % (max((it[1] for it in tasks.values()), default=0), seconds))
     print('  ' + ', '.join('%s %s %.0f' % (key[0], ' '.join(key[1:]), tasks[key][1] - tasks[key][0]) for key in links))
 
 
@@ -129,7 +136,7 @@ def main():
         at = words.index('--log')
         path = words[at + 1]
         del words[at:at + 2]
-    with open(path, 'w+', encoding='utf-8') if path else tempfile.TemporaryFile('w+') as log:
+    with open(path, 'a+', encoding='utf-8') if path else tempfile.TemporaryFile('w+') as log:
         rt = loaded(shutil.which('rt'))
         count_processors(rt)
         timed(rt, log)

@@ -1,6 +1,5 @@
 -- What the tests ask a book.
 use Rattle.std.specs.Prelude.{true}
-use Rattle.gt_base.specs.declared.events.Cond.{Cond}
 use Rattle.gt_base.specs.declared.events.Fluent.TheVariants.{Enabled}
 use Rattle.gt_base.specs.declared.requests.Request.{Request}
 use Rattle.gt_base.specs.declared.requests.Request.TheVariants.{Status}

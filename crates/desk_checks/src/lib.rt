@@ -2,21 +2,24 @@
 //! two threads by a join and with as many as there are passes; and over a book.
 #![tactic(auto)]
 
+#[cfg(test)]
 mod answers;
 #[cfg(test)]
 mod book_tests;
+#[cfg(test)]
 mod books;
+#[cfg(test)]
 mod desks;
+#[cfg(test)]
 mod pair;
 mod posts;
+#[cfg(test)]
+mod serving;
+#[cfg(test)]
 mod shifts;
+#[cfg(test)]
 mod tally;
 #[cfg(test)]
 mod thread_tests;
 
-pub use books::{book_of_a_role, role_status};
-pub use desks::{close_two, go, hear_no};
-pub use pair::{ask_all, two};
-pub use posts::{DeskPost, run, serve};
-pub use shifts::many;
-pub use tally::CountingBook;
+pub use posts::DeskPost;

@@ -6,7 +6,8 @@ ghost use Rattle.gt_base.specs.declared.requests.Request.TheVariants.{Now};
 ghost use Rattle.turn_lock.specs.Turns.{part};
 ghost use Rattle.desk_checks.specs.PostLists.{passes_of};
 
-use crate::posts::{DeskPost, run};
+use crate::posts::DeskPost;
+use crate::serving::run;
 use gt_base::Machine;
 use locked_history::Desk;
 use std::alloc::Global;

@@ -1,11 +1,17 @@
+ghost use Rattle.std.specs.Prelude.{◌<◌};
+ghost use Rattle.turn_lock.specs.Holders.{site_of};
+ghost use Rattle.desk_checks.specs.Posts.{IsFree, IsBack};
+
+use crate::desks::{close_two, go, hear};
 use crate::pair::two;
 use crate::shifts::many;
 use crate::tally::CountingBook;
 use gt_base::{Actor, Entry, Instant, Keeps, Reply, Request, SessionId, UserId};
-use locked_history::Desk;
+use locked_history::{Asked, Desk};
 use std::alloc::Global;
 use std::sync::Wait;
 use std::thread::Threads;
+use turn_lock::Pass;
 
 /// How many entries are the worker's.
 fn count_of(entries: &[Entry], worker: u32) -> usize {
@@ -15,25 +21,60 @@ fn count_of(entries: &[Entry], worker: u32) -> usize {
         .count()
 }
 
-fn is_session(reply: &Reply, number: u32) -> bool {
-    match reply {
-        Reply::Session(SessionId(session)) => *session == number,
-        _ => false,
+/// Whether a session of this number was opened at this instant, by so many entries.
+fn is_opened(heard: &Option<Asked<CountingBook>>, number: u32, at: Instant, len: u64) -> bool {
+    match heard {
+        Some(heard) => {
+            matches!(&heard.reply, Reply::Session(SessionId(n)) if *n == number)
+                && heard.at.minute() == at.minute()
+                && heard.front.len() == len
+        }
+        None => false,
     }
 }
 
-fn is_now(reply: &Reply, now: Instant) -> bool {
-    match reply {
-        Reply::Now(t) => t.minute() == now.minute(),
-        _ => false,
+/// Whether this instant was told at it, by so many entries.
+fn is_told(heard: &Option<Asked<CountingBook>>, at: Instant, len: u64) -> bool {
+    match heard {
+        Some(heard) => {
+            matches!(heard.reply, Reply::Now(t) if t.minute() == at.minute())
+                && heard.at.minute() == at.minute()
+                && heard.front.len() == len
+        }
+        None => false,
     }
+}
+
+/// Whether one pass is told what the other has done, which goes on from one instant to the other.
+fn take_turns<R: Wait>(
+    rt: &R,
+    desk: &Desk<CountingBook>,
+    zero: &mut Pass<CountingBook>,
+    one: &mut Pass<CountingBook>,
+    first: Instant,
+    later: Instant,
+) -> bool
+    requires zero { IsFree (site_of desk.now) zero.old }
+    requires one { IsFree (site_of desk.now) one.old }
+    requires user { 0 < desk.now.root.users }
+    ensures zero { IsBack (site_of desk.now) zero.old zero.new }
+    ensures one { IsBack (site_of desk.now) one.old one.new }
+{
+    let user = Actor::User(UserId(0));
+    let opened = hear(rt, desk, zero, user, Request::OpenSession);
+    let gone = go(rt, desk, one, later);
+    let told = hear(rt, desk, zero, user, Request::Now);
+    let idle = go(rt, desk, zero, later);
+    is_opened(&opened, 1, first, 1)
+        && gone == Some(2)
+        && is_told(&told, later, 3)
+        && idle == Some(3)
 }
 
 #[test]
 fn two_passes_in_one_thread(rt: HostRuntime) {
     let ten = Instant::new(13_689_240).expect(&rt, "2026-01-10T10:00");
     let later = Instant::new(13_689_245).expect(&rt, "five minutes later");
-    let u = Actor::User(UserId(0));
     let Ok((desk, mut passes)) = Desk::new(rt.alloc(), CountingBook::new(rt.alloc(), ten, 1), 2)
     else {
         panic!(&rt; "memory");
@@ -41,33 +82,9 @@ fn two_passes_in_one_thread(rt: HostRuntime) {
     let mut one = passes.take().expect(&rt, "a pass");
     let mut zero = passes.take().expect(&rt, "a pass");
     assert!(&rt; passes.take().is_none());
-    assert!(&rt; zero.number() == 0);
-    assert!(&rt; one.number() == 1);
-    let Ok(opened) = desk.ask(&rt, &mut zero, 1, u, Request::OpenSession) else {
-        panic!(&rt; "refused");
-    };
-    assert!(&rt; is_session(&opened.reply, 1));
-    assert!(&rt; opened.at.minute() == ten.minute());
-    assert!(&rt; opened.front.len() == 1);
-    let Ok(ticked) = desk.tick(&rt, &mut one, 1, later) else {
-        panic!(&rt; "refused");
-    };
-    assert!(&rt; ticked.now.minute() == later.minute());
-    assert!(&rt; ticked.front.len() == 2);
-    let Ok(told) = desk.ask(&rt, &mut zero, 1, u, Request::Now) else {
-        panic!(&rt; "refused");
-    };
-    assert!(&rt; is_now(&told.reply, later));
-    assert!(&rt; told.at.minute() == later.minute());
-    assert!(&rt; told.front.len() == 3);
-    let Ok(idle) = desk.tick(&rt, &mut zero, 1, later) else {
-        panic!(&rt; "refused");
-    };
-    assert!(&rt; idle.now.minute() == later.minute());
-    assert!(&rt; idle.front.len() == 3);
-    passes.put(zero);
-    passes.put(one);
-    assert!(&rt; desk.close(passes).kept() == 3);
+    assert!(&rt; zero.number() == 0 && one.number() == 1);
+    assert!(&rt; take_turns(&rt, &desk, &mut zero, &mut one, ten, later));
+    assert!(&rt; close_two(desk, passes, zero, one) == 3);
 }
 
 #[test]
@@ -125,10 +142,8 @@ fn a_desk_is_closed_while_a_turn_is_kept(rt: HostRuntime) {
     };
     let mut only = passes.take().expect(&rt, "a pass");
     only.stay();
-    let Ok(told) = desk.ask(&rt, &mut only, 1, Actor::Nobody, Request::Now) else {
-        panic!(&rt; "refused");
-    };
-    assert!(&rt; told.front.len() == 1);
+    let told = hear(&rt, &desk, &mut only, Actor::Nobody, Request::Now);
+    assert!(&rt; is_told(&told, birth, 1));
     passes.put(only);
     assert!(&rt; desk.close(passes).kept() == 1);
 }

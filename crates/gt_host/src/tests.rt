@@ -13,7 +13,6 @@ use gt_io::{
 };
 use std::io::{Read, Write};
 use std::net::{Ipv4Addr, Net, TcpStream};
-use std::process::Abort;
 use std::rt::{self, Files};
 use std::test::Fail;
 use std::time::SystemTime;
@@ -65,8 +64,8 @@ fn a_reader_that_breaks_fails(rt: HostRuntime) -> Result<(), Fail> {
 #[test]
 fn a_writer_that_takes_nothing_fails(rt: HostRuntime) -> Result<(), Fail> {
     let mut sink = Writing::new(Breaking { used: false });
-    assert_eq!(rt; write_all(&mut sink, b"a"), Ok(()));
-    assert_eq!(rt; write_all(&mut sink, b"b"), Err(Failed));
+    assert!(rt; write_all(&mut sink, b"a") == Ok(()));
+    assert!(rt; write_all(&mut sink, b"b") == Err(Failed));
     Ok(())
 }
 
@@ -78,7 +77,7 @@ fn a_file_is_found_and_read(rt: HostRuntime) -> Result<(), Fail> {
     let mut shelf = HostShelf::new(&rt);
     let text = find_all(rt.alloc(), &mut shelf, name, 4);
     fs::remove_file(&rt, name)?;
-    assert_eq!(rt; text?.as_slice(), b"text".as_slice());
+    assert!(rt; text?.as_slice() == b"text".as_slice());
     assert!(rt;
         matches!(
             find_all(rt.alloc(), &mut shelf, name, 4),
@@ -126,10 +125,10 @@ fn a_look_that_fails_is_tried_again(rt: HostRuntime) -> Result<(), Fail> {
         pauses: 0,
     };
     assert!(rt; matches!(look_again(&mut file), Ok(true)));
-    assert_eq!(rt; file.pauses, MAX_FAILED - 1);
+    assert!(rt; file.pauses == MAX_FAILED - 1);
     file.fails = MAX_FAILED;
     assert!(rt; look_again(&mut file).is_err());
-    assert_eq!(rt; file.fails, 0);
+    assert!(rt; file.fails == 0);
     Ok(())
 }
 
@@ -158,37 +157,56 @@ fn next_of<R: Files + rt::Clock + Net>(
     Ok(None)
 }
 
-/// A client waits where its link can't be opened, and is served once it can. A read that came short
-/// ends its turn, but where an urgent byte was told.
+/// What one more read of a link comes to, and its first byte.
+fn draw_once(conn: &mut Conn) -> io::Result<(Got, u8)> {
+    let mut buf = [0u8; 8];
+    let got = conn.draw(None, 1, &mut buf)?;
+    Ok((got, buf[0]))
+}
+
+/// The sign of a link that is ready, with an urgent byte or without.
+fn ready(urgent: bool) -> Sign {
+    Sign {
+        ended: false,
+        urgent,
+        late: false,
+        looks: 0,
+    }
+}
+
+/// Whether a turn goes on behind reads that come short where an urgent byte was told.
+fn goes_on(client: &mut TcpStream, conn: &mut Conn) -> io::Result<bool> {
+    client.write(b"ab")?;
+    conn.wake(ready(true));
+    let first = draw_once(conn)?.0;
+    client.write(b"c")?;
+    let second = draw_once(conn)?.0;
+    let third = draw_once(conn)?.0;
+    Ok(first == Got::Bytes(2) && second == Got::Bytes(1) && third == Got::NotYet)
+}
+
+/// Whether a read that comes short ends a turn, and the next one brings what has come.
+fn ends_its_turn(client: &mut TcpStream, conn: &mut Conn) -> io::Result<bool> {
+    client.write(b"d")?;
+    conn.wake(ready(false));
+    let first = draw_once(conn)?.0;
+    client.write(b"e")?;
+    let second = draw_once(conn)?.0;
+    conn.wake(ready(false));
+    let (third, byte) = draw_once(conn)?;
+    Ok(first == Got::Bytes(1) && second == Got::NotYet && third == Got::Bytes(1) && byte == b'e')
+}
+
+/// A client waits where its link can't be opened, and is served once it can.
 #[test]
 fn a_client_waits_in_the_queue(rt: HostRuntime) -> Result<(), Fail> {
     let mut lookout = Lookout::new(&rt, rt.alloc(), 0);
     let port = port_of_lookout(&mut lookout)?;
     let mut client = TcpStream::connect(&rt, (Ipv4Addr::LOCALHOST, port))?;
-    client.write(b"ab")?;
     assert!(rt; next_of(&mut lookout, false, 6)?.is_none());
     let mut conn = next_of(&mut lookout, true, 6)?.ok_or("no connection")?;
-    let mut buf = [0u8; 8];
-    let mut sign = Sign {
-        ended: false,
-        urgent: true,
-        late: false,
-        looks: 0,
-    };
-    conn.wake(sign);
-    assert_eq!(rt; conn.draw(None, 1, &mut buf)?, Got::Bytes(2));
-    client.write(b"c")?;
-    assert_eq!(rt; conn.draw(None, 1, &mut buf)?, Got::Bytes(1));
-    assert_eq!(rt; conn.draw(None, 1, &mut buf)?, Got::NotYet);
-    sign.urgent = false;
-    conn.wake(sign);
-    client.write(b"d")?;
-    assert_eq!(rt; conn.draw(None, 1, &mut buf)?, Got::Bytes(1));
-    client.write(b"e")?;
-    assert_eq!(rt; conn.draw(None, 1, &mut buf)?, Got::NotYet);
-    conn.wake(sign);
-    assert_eq!(rt; conn.draw(None, 1, &mut buf)?, Got::Bytes(1));
-    assert_eq!(rt; buf[0], b'e');
+    assert!(rt; goes_on(&mut client, &mut conn)?);
+    assert!(rt; ends_its_turn(&mut client, &mut conn)?);
     Ok(())
 }
 
@@ -200,30 +218,43 @@ fn port_of<R>(door: &HostDoor<'_, R>) -> io::Result<u16> {
     }
 }
 
-/// Serves a client over a link.
-fn serve<R: Files + rt::Clock>(
-    rt: &impl Abort,
-    mut client: TcpStream,
-    mut link: HostLink<'_, R>,
-) -> Result<(), Fail>
+/// Whether a client is told this, at most eight bytes; none at the end.
+fn is_told(client: &mut TcpStream, wanted: &[u8]) -> io::Result<bool> {
+    let mut buf = [0u8; 8];
+    let n = client.read(&mut buf)?;
+    Ok(n == wanted.len() && buf.starts_with(wanted))
+}
+
+/// Whether a link brings what its client writes.
+fn brings<R: Files + rt::Clock>(
+    client: &mut TcpStream,
+    link: &mut HostLink<'_, R>,
+    piece: &[u8],
+) -> io::Result<bool>
+    requires { link.old.finished ≡ false }
+    ensures { link.new.finished ≡ false }
+{
+    client.write(piece)?;
+    let mut buf = [0u8; 8];
+    let read = link.read(&mut buf);
+    Ok(read == Ok(piece.len()) && buf.starts_with(piece))
+}
+
+/// Serves a client over a link; whether both hear what the other says.
+fn serve<R: Files + rt::Clock>(mut client: TcpStream, mut link: HostLink<'_, R>) -> io::Result<bool>
     requires { link.finished ≡ false }
 {
-    client.write(b"ask")?;
-    let mut buf = [0u8; 8];
-    assert_eq!(rt; link.read(&mut buf), Ok(3));
-    assert_eq!(rt; &buf[..3], b"ask".as_slice());
-    assert_eq!(rt; send_all(&mut link, b"y"), Ok(()));
-    assert_eq!(rt; send_all(&mut link, b"es"), Ok(()));
-    client.write(b"more")?;
-    assert_eq!(rt; link.read(&mut buf), Ok(4));
-    assert_eq!(rt; client.read(&mut buf)?, 3);
-    assert_eq!(rt; &buf[..3], b"yes".as_slice());
-    assert_eq!(rt; send_all(&mut link, b"no"), Ok(()));
+    let first = brings(&mut client, &mut link, b"ask")?;
+    let said = send_all(&mut link, b"y").is_ok() & send_all(&mut link, b"es").is_ok();
+    let second = brings(&mut client, &mut link, b"more")?;
+    let heard = is_told(&mut client, b"yes")?;
+    let last = send_all(&mut link, b"no").is_ok();
     link.finish();
-    assert_eq!(rt; client.read(&mut buf)?, 2);
-    assert_eq!(rt; &buf[..2], b"no".as_slice());
-    assert_eq!(rt; client.read(&mut buf)?, 0);
-    Ok(())
+    Ok(
+        first & said & second & heard & last
+            && is_told(&mut client, b"no")?
+            && is_told(&mut client, b"")?,
+    )
 }
 
 /// Whether a link is open.
@@ -282,38 +313,71 @@ fn tell<R: Files + rt::Clock + Net>(
     Ok(took)
 }
 
-/// Serves two clients side by side, of which one ends.
-fn serve_both<R: Files + rt::Clock + Net>(
-    rt: &impl Abort,
-    ports: &mut HostPorts<'_, R>,
-    mut one: TcpStream,
-    mut two: TcpStream,
-) -> Result<(), Fail> {
-    let mut buf = [0u8; 8];
+/// Opens two links.
+fn open_two<R: Files + rt::Clock + Net>(ports: &mut HostPorts<'_, R>) -> Result<(), Fail> {
     for _ in 0..1000 {
         if ports.ports.len() == 2 {
             break;
         }
         ports.answer()?;
     }
-    one.write(b"ask")?;
-    assert_eq!(rt; hear(ports, 1, &mut buf)?, 3);
-    assert_eq!(rt; &buf[..3], b"ask".as_slice());
-    assert_eq!(rt; tell(ports, 1, b"y", false)?, Took::Bytes(1));
-    assert_eq!(rt; tell(ports, 1, b"es", false)?, Took::Bytes(2));
-    two.write(b"more")?;
-    assert_eq!(rt; hear(ports, 2, &mut buf)?, 4);
-    one.write(b"so")?;
-    assert_eq!(rt; hear(ports, 1, &mut buf)?, 2);
-    assert_eq!(rt; one.read(&mut buf)?, 3);
-    assert_eq!(rt; &buf[..3], b"yes".as_slice());
-    drop(one);
-    assert_eq!(rt; hear(ports, 1, &mut buf)?, 0);
-    assert_eq!(rt; tell(ports, 2, b"no", true)?, Took::Bytes(2));
-    assert_eq!(rt; two.read(&mut buf)?, 2);
-    assert_eq!(rt; &buf[..2], b"no".as_slice());
-    assert_eq!(rt; two.read(&mut buf)?, 0);
     Ok(())
+}
+
+/// Whether a link comes to have what its client writes.
+fn is_heard<R: Files + rt::Clock + Net>(
+    ports: &mut HostPorts<'_, R>,
+    link: u32,
+    client: &mut TcpStream,
+    piece: &[u8],
+) -> Result<bool, Fail> {
+    client.write(piece)?;
+    let mut buf = [0u8; 8];
+    let n = hear(ports, link, &mut buf)?;
+    Ok(n == piece.len() && buf.starts_with(piece))
+}
+
+/// Whether two clients are served side by side.
+fn both_speak<R: Files + rt::Clock + Net>(
+    ports: &mut HostPorts<'_, R>,
+    one: &mut TcpStream,
+    two: &mut TcpStream,
+) -> Result<bool, Fail> {
+    Ok(
+        is_heard(ports, 1, one, b"ask")?
+            && tell(ports, 1, b"y", false)? == Took::Bytes(1)
+            && tell(ports, 1, b"es", false)? == Took::Bytes(2)
+            && is_heard(ports, 2, two, b"more")?
+            && is_heard(ports, 1, one, b"so")?
+            && is_told(one, b"yes")?,
+    )
+}
+
+/// Whether the end of the first link is heard, and the second one ended behind its last reply.
+fn both_end<R: Files + rt::Clock + Net>(
+    ports: &mut HostPorts<'_, R>,
+    two: &mut TcpStream,
+) -> Result<bool, Fail> {
+    Ok(
+        hear(ports, 1, &mut [0u8; 8])? == 0
+            && tell(ports, 2, b"no", true)? == Took::Bytes(2)
+            && is_told(two, b"no")?
+            && is_told(two, b"")?,
+    )
+}
+
+/// Serves two clients side by side, of which one ends; whether both are served well.
+fn serve_both<R: Files + rt::Clock + Net>(
+    ports: &mut HostPorts<'_, R>,
+    mut one: TcpStream,
+    mut two: TcpStream,
+) -> Result<bool, Fail> {
+    open_two(ports)?;
+    if !both_speak(ports, &mut one, &mut two)? {
+        return Ok(false);
+    }
+    drop(one);
+    both_end(ports, &mut two)
 }
 
 /// The port that ports listen on.
@@ -334,40 +398,61 @@ fn a_closed_door_refuses_clients(rt: HostRuntime) -> Result<(), Fail> {
     door.rest();
     let _client = TcpStream::connect(&rt, (Ipv4Addr::LOCALHOST, port))?;
     door.close();
-    assert!(rt; TcpStream::connect(&rt, (Ipv4Addr::LOCALHOST, port)).is_err());
+    assert!(rt; refuses(&rt, port));
     assert!(rt; matches!(door.next(), Err(Failed)));
     Ok(())
+}
+
+/// Whether nobody listens at a port.
+fn refuses(rt: &HostRuntime, port: u16) -> bool {
+    TcpStream::connect(rt, (Ipv4Addr::LOCALHOST, port)).is_err()
+}
+
+/// Serves a client of a door; the door's port.
+fn serve_first(rt: &HostRuntime, door: &mut HostDoor<'_, HostRuntime>) -> Result<u16, Fail> {
+    door.listen()?;
+    let port = port_of(door)?;
+    let client = TcpStream::connect(rt, (Ipv4Addr::LOCALHOST, port))?;
+    let link = door.next()?.ok_or("no connection")?;
+    if serve(client, link)? {
+        Ok(port)
+    } else {
+        Err("not served".into())
+    }
+}
+
+/// Serves two clients of ports; their port.
+fn serve_many(rt: &HostRuntime, ports: &mut HostPorts<'_, HostRuntime>) -> Result<u16, Fail> {
+    let port = port_of_ports(ports)?;
+    let one = TcpStream::connect(rt, (Ipv4Addr::LOCALHOST, port))?;
+    let two = TcpStream::connect(rt, (Ipv4Addr::LOCALHOST, port))?;
+    if serve_both(ports, one, two)? {
+        Ok(port)
+    } else {
+        Err("not served".into())
+    }
 }
 
 /// All doors and ports end at the stop file, with links that wait closed.
 #[test]
 fn clients_are_served_until_the_stop_file_stands(rt: HostRuntime) -> Result<(), Fail> {
     let mut door = HostDoor::new(&rt, rt.alloc(), 0);
-    door.listen()?;
-    let port = port_of(&door)?;
-    let client = TcpStream::connect(&rt, (Ipv4Addr::LOCALHOST, port))?;
-    let link = door.next()?.ok_or("no connection")?;
-    serve(&rt, client, link)?;
-    let _silent = TcpStream::connect(&rt, (Ipv4Addr::LOCALHOST, port))?;
-    let mut waiting = door.next()?.ok_or("no connection")?;
+    let port = serve_first(&rt, &mut door)?;
+    let mut ports = HostPorts::new(&rt, rt.alloc(), 0);
+    let many = serve_many(&rt, &mut ports)?;
     let mut second = HostDoor::new(&rt, rt.alloc(), port);
     assert!(rt; matches!(second.next(), Err(Failed)));
-    let mut ports = HostPorts::new(&rt, rt.alloc(), 0);
-    let many = port_of_ports(&mut ports)?;
-    let one = TcpStream::connect(&rt, (Ipv4Addr::LOCALHOST, many))?;
-    let two = TcpStream::connect(&rt, (Ipv4Addr::LOCALHOST, many))?;
-    serve_both(&rt, &mut ports, one, two)?;
+    let _silent = TcpStream::connect(&rt, (Ipv4Addr::LOCALHOST, port))?;
+    let mut waiting = door.next()?.ok_or("no connection")?;
     fs::write(&rt, "gtrbacd.stop", "")?;
     let end = waiting.read(&mut [0u8; 8]);
     let first_closed = matches!(door.next(), Ok(None));
     let second_closed = matches!(second.next(), Ok(None));
     let stopped = ports.answer();
     fs::remove_file(&rt, "gtrbacd.stop")?;
-    assert_eq!(rt; end, Ok(0));
-    assert!(rt; first_closed && second_closed);
-    assert_eq!(rt; stopped, Ok(PortEvent::Stop));
-    assert!(rt; TcpStream::connect(&rt, (Ipv4Addr::LOCALHOST, port)).is_err());
-    assert!(rt; TcpStream::connect(&rt, (Ipv4Addr::LOCALHOST, many)).is_err());
+    assert!(rt; end == Ok(0) && first_closed && second_closed);
+    assert!(rt; stopped == Ok(PortEvent::Stop));
+    assert!(rt; refuses(&rt, port) && refuses(&rt, many));
     Ok(())
 }
 
@@ -379,9 +464,9 @@ fn the_clock_tells_the_minute(rt: HostRuntime) -> Result<(), Fail> {
     let now = clock.now();
     let after = SystemTime::now(&rt)?.duration_since(SystemTime::UNIX_EPOCH)?;
     assert!(rt; minute_at(before.as_secs()) <= now && now <= minute_at(after.as_secs()));
-    assert_eq!(rt; minute_at(1_767_607_200).minute(), 13_682_040);
-    assert_eq!(rt; minute_at(1_767_607_259).minute(), 13_682_040);
-    assert_eq!(rt; minute_at(946_684_799).minute(), 0);
-    assert_eq!(rt; minute_at(4_102_444_800).minute(), 52_595_999);
+    assert!(rt; minute_at(1_767_607_200).minute() == 13_682_040);
+    assert!(rt; minute_at(1_767_607_259).minute() == 13_682_040);
+    assert!(rt; minute_at(946_684_799).minute() == 0);
+    assert!(rt; minute_at(4_102_444_800).minute() == 52_595_999);
     Ok(())
 }

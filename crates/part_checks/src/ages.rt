@@ -5,7 +5,7 @@ use std::alloc::AllocError;
 use std::test::Fail;
 
 /// The instant of a minute; for a minute beyond the last, a test that fails.
-fn at(minute: u32) -> Result<Instant, Memory> {
+pub(crate) fn at(minute: u32) -> Result<Instant, Memory> {
     match Instant::new(minute) {
         Some(t) => Ok(t),
         None => Err(AllocError),

@@ -7,6 +7,8 @@ mod agendas;
 #[cfg(test)]
 mod ages;
 #[cfg(test)]
+mod copies;
+#[cfg(test)]
 mod making;
 #[cfg(test)]
 mod memory;

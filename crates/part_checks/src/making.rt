@@ -16,7 +16,7 @@ assigned u1 r1
 granted p1 r1
 span hours 50:enable r1
 ";
-    assert_eq!(rt; made.policy.as_slice(), policy.as_slice());
+    assert!(rt; made.policy.as_slice() == policy.as_slice());
     let script = b"@ 2026-01-05T08:00
 as u1
 open
@@ -24,7 +24,7 @@ open
 as u1
 activate 1 r1
 ";
-    assert_eq!(rt; made.script.as_slice(), script.as_slice());
+    assert!(rt; made.script.as_slice() == script.as_slice());
     Ok(())
 }
 
@@ -50,7 +50,7 @@ span hours 50:enable r1
 when enable r1 then 50:enable r2
 when disable r1 then 50:disable r2
 ";
-    assert_eq!(rt; made.policy.as_slice(), policy.as_slice());
+    assert!(rt; made.policy.as_slice() == policy.as_slice());
     let script = b"@ 2026-01-05T08:00
 as u1
 open
@@ -63,7 +63,7 @@ activate 2 r2
 as u2
 check 2 p2
 ";
-    assert_eq!(rt; made.script.as_slice(), script.as_slice());
+    assert!(rt; made.script.as_slice() == script.as_slice());
     Ok(())
 }
 
@@ -71,9 +71,9 @@ check 2 p2
 #[test]
 fn sizes_are_those_of_the_largest(rt: HostRuntime) -> Result<(), Fail> {
     let made = make(rt.alloc(), 18_446_744_073_709_551_615, 201)?;
-    assert_eq!(rt; made.policy.len(), 31_793);
+    assert!(rt; made.policy.len() == 31_793);
     let less = make(rt.alloc(), 18_446_744_073_709_551_615, 200)?;
-    assert_eq!(rt; less.policy.as_slice(), made.policy.as_slice());
+    assert!(rt; less.policy.as_slice() == made.policy.as_slice());
     assert!(rt; less.script.len() < made.script.len());
     Ok(())
 }

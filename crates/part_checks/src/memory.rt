@@ -1,137 +1,207 @@
-//! Sources, sinks, files, links, doors and clocks in memory, and the framer.
-use gt_base::{Instant, List};
+//! Sources, sinks, files, links, doors and clocks in memory, and the framer. What a test needs is
+//! made in one function and tried in another, so that few exits drop it.
+ghost use Rattle.std.specs.Prelude.{◌≡◌, false, IfOk};
+ghost use Rattle.gt_io.specs.Links.{IsFresh};
+
+use crate::ages::at;
+use gt_base::{List, Memory};
 use gt_io::{
     Clock, Door, Failed, Framed, Framer, Gate, Link, MemClock, MemDoor, MemFile, MemLink, MemShelf,
     MemSink, MemSource, OpenGate, ReadFault, find_all, read_all, send_all, write_all,
 };
+use std::alloc::Global;
 use std::collections::VecDeque;
 use std::test::Fail;
 
-/// Five bytes, two a call.
+/// The number of the one call that is to fail, 0 where none is to.
+fn call(alloc: Global, failing: u64) -> Result<List<u64>, Memory> {
+    Ok(vec![in alloc; failing]?.into())
+}
+
+/// Whether this was read.
+fn is_read(read: Result<Vec<u8>, ReadFault>, wanted: &[u8]) -> bool {
+    match read {
+        Ok(bytes) => bytes.as_slice() == wanted,
+        Err(_) => false,
+    }
+}
+
+/// Five bytes, two a call, of which one may fail.
+fn source(alloc: Global, failing: u64) -> Result<MemSource, Memory> {
+    let failing = call(alloc, failing)?;
+    Ok(MemSource::new(b"hello".to_vec(alloc)?.into(), 2, failing))
+}
+
 #[test]
 fn a_source_is_read_in_pieces(rt: HostRuntime) -> Result<(), Fail> {
-    let alloc = rt.alloc();
-    let mut source = MemSource::new(b"hello".to_vec(alloc)?.into(), 2, List::new(alloc));
-    let bytes = read_all(alloc, &mut source, 5)?;
-    assert_eq!(rt; bytes.as_slice(), b"hello".as_slice());
+    let mut source = source(rt.alloc(), 0)?;
+    assert!(rt; is_read(read_all(rt.alloc(), &mut source, 5), b"hello"));
     Ok(())
 }
 
-/// The third call fails; a limit of four bytes is exceeded.
 #[test]
-fn a_failing_call_and_a_limit_are_told(rt: HostRuntime) -> Result<(), Fail> {
-    let alloc = rt.alloc();
-    let mut source = MemSource::new(b"hello".to_vec(alloc)?.into(), 2, vec![in alloc; 3]?.into());
-    assert!(rt; matches!(read_all(alloc, &mut source, 5), Err(ReadFault::Failed)));
-    let mut source = MemSource::new(b"hello".to_vec(alloc)?.into(), 2, List::new(alloc));
-    assert!(rt; matches!(read_all(alloc, &mut source, 4), Err(ReadFault::TooLong)));
+fn a_failing_call_is_told(rt: HostRuntime) -> Result<(), Fail> {
+    let mut source = source(rt.alloc(), 3)?;
+    assert!(rt; matches!(read_all(rt.alloc(), &mut source, 5), Err(ReadFault::Failed)));
     Ok(())
+}
+
+#[test]
+fn a_limit_is_told(rt: HostRuntime) -> Result<(), Fail> {
+    let mut source = source(rt.alloc(), 0)?;
+    assert!(rt;
+        matches!(
+            read_all(rt.alloc(), &mut source, 4),
+            Err(ReadFault::TooLong)
+        )
+    );
+    Ok(())
+}
+
+/// Whether a write of five bytes, two a call, fails with this front of them written.
+fn stops_behind(alloc: Global, room: usize, failing: u64, front: &[u8]) -> Result<bool, Memory> {
+    let mut sink = MemSink::new(alloc, room, 2, call(alloc, failing)?)?;
+    Ok(write_all(&mut sink, b"hello").is_err() && sink.written().as_slice() == front)
 }
 
 /// Where a call fails, or no room is left, the bytes before stand.
 #[test]
 fn a_front_is_written_up_to_the_failure(rt: HostRuntime) -> Result<(), Fail> {
-    let alloc = rt.alloc();
-    let mut sink = MemSink::new(alloc, 9, 2, vec![in alloc; 3]?.into())?;
-    assert_eq!(rt; write_all(&mut sink, b"hello"), Err(Failed));
-    assert_eq!(rt; sink.written().as_slice(), b"hell".as_slice());
-    let mut sink = MemSink::new(alloc, 3, 2, List::new(alloc))?;
-    assert_eq!(rt; write_all(&mut sink, b"hello"), Err(Failed));
-    assert_eq!(rt; sink.written().as_slice(), b"hel".as_slice());
+    assert!(rt; stops_behind(rt.alloc(), 9, 3, b"hell")?);
+    assert!(rt; stops_behind(rt.alloc(), 3, 0, b"hel")?);
     Ok(())
+}
+
+/// A shelf with one text.
+fn shelf(alloc: Global) -> Result<MemShelf, Memory> {
+    let file = MemFile {
+        name: b"note".to_vec(alloc)?.into(),
+        bytes: b"text".to_vec(alloc)?.into(),
+    };
+    Ok(MemShelf::new(vec![in alloc; file]?.into(), 3, List::new(alloc)))
 }
 
 /// Another name is not found.
 #[test]
 fn a_text_is_found_by_its_name(rt: HostRuntime) -> Result<(), Fail> {
-    let alloc = rt.alloc();
-    let file = MemFile {
-        name: b"note".to_vec(alloc)?.into(),
-        bytes: b"text".to_vec(alloc)?.into(),
-    };
-    let mut shelf = MemShelf::new(vec![in alloc; file]?.into(), 3, List::new(alloc));
-    assert!(rt;
-        matches!(
-            find_all(alloc, &mut shelf, "other", 9),
-            Err(ReadFault::Failed)
-        )
-    );
-    let text = find_all(alloc, &mut shelf, "note", 9)?;
-    assert_eq!(rt; text.as_slice(), b"text".as_slice());
+    let mut shelf = shelf(rt.alloc())?;
+    assert!(rt; find_all(rt.alloc(), &mut shelf, "other", 9).is_err());
+    assert!(rt; is_read(find_all(rt.alloc(), &mut shelf, "note", 9), b"text"));
     Ok(())
 }
 
-/// Reads and writes that fail at their numbers, and a link that is finished.
-#[test]
-fn a_link_is_read_and_written_in_pieces(rt: HostRuntime) -> Result<(), Fail> {
-    let alloc = rt.alloc();
-    let bytes = b"hello".to_vec(alloc)?.into();
-    let bad_writes = vec![in alloc; 3]?.into();
-    let mut link = MemLink::new(alloc, bytes, 9, 3, 2, vec![in alloc; 2]?.into(), bad_writes)?;
+/// A link that gives five bytes, three a call, and takes two a call; its second read and its third
+/// write fail.
+fn link(alloc: Global) -> Result<MemLink, Memory>
+    ensures { IfOk result (λ link. IsFresh (⟦<MemLink as Link>⟧.traffic link)) }
+{
+    let bad_reads = call(alloc, 2)?;
+    let bad_writes = call(alloc, 3)?;
+    MemLink::new(
+        alloc,
+        b"hello".to_vec(alloc)?.into(),
+        9,
+        3,
+        2,
+        bad_reads,
+        bad_writes,
+    )
+}
+
+/// Whether it is read in pieces, up to its end.
+fn gives(link: &mut MemLink) -> bool {
     let mut buf = [0u8; 8];
-    assert_eq!(rt; link.read(&mut buf), Ok(3));
-    assert_eq!(rt; link.read(&mut buf), Err(Failed));
-    assert_eq!(rt; link.read(&mut buf), Ok(2));
-    assert_eq!(rt; &buf[..2], b"lo".as_slice());
-    assert_eq!(rt; link.read(&mut buf), Ok(0));
-    assert_eq!(rt; send_all(&mut link, b"ok"), Ok(()));
-    assert_eq!(rt; send_all(&mut link, b"yes"), Err(Failed));
+    link.read(&mut buf) == Ok(3)
+        && link.read(&mut buf).is_err()
+        && link.read(&mut buf) == Ok(2)
+        && &buf[..2] == b"lo".as_slice()
+        && link.read(&mut buf) == Ok(0)
+}
+
+/// Whether it takes two bytes, and of three those before the write that fails.
+fn takes(link: &mut MemLink) -> bool
+    requires { (⟦<MemLink as Link>⟧.traffic link.old).finished ≡ false }
+{
+    send_all(link, b"ok").is_ok()
+        && send_all(link, b"yes").is_err()
+        && link.given().as_slice() == b"okye".as_slice()
+}
+
+#[test]
+fn a_link_is_read_in_pieces(rt: HostRuntime) -> Result<(), Fail> {
+    let mut link = link(rt.alloc())?;
+    assert!(rt; gives(&mut link));
+    Ok(())
+}
+
+#[test]
+fn a_link_is_written_in_pieces(rt: HostRuntime) -> Result<(), Fail> {
+    let mut link = link(rt.alloc())?;
+    assert!(rt; takes(&mut link));
     assert!(rt; !link.finished());
     link.finish();
     assert!(rt; link.finished());
-    assert_eq!(rt; link.given().as_slice(), b"okye".as_slice());
     Ok(())
 }
 
-/// One link, a failing call, and then no link.
+/// A door with one link, whose second call fails.
+fn door(alloc: Global) -> Result<MemDoor, Memory> {
+    let failing = call(alloc, 2)?;
+    let mut links = VecDeque::new(alloc);
+    links.push_back(link(alloc)?)?;
+    Ok(MemDoor::new(links, failing))
+}
+
+/// Whether it gives one link, fails at its second call, and then gives none.
+fn gives_one(door: &mut MemDoor) -> bool {
+    matches!(door.next(), Ok(Some(_)))
+        && matches!(door.next(), Err(Failed))
+        && matches!(door.next(), Ok(None))
+}
+
 #[test]
 fn a_door_gives_its_links_in_order(rt: HostRuntime) -> Result<(), Fail> {
-    let alloc = rt.alloc();
-    let mut links = VecDeque::new(alloc);
-    let none = List::new(alloc);
-    links.push_back(MemLink::new(alloc, List::new(alloc), 1, 1, 1, none, List::new(alloc))?)?;
-    let mut door = MemDoor::new(links, vec![in alloc; 2]?.into());
-    assert!(rt; matches!(door.next(), Ok(Some(_))));
-    assert!(rt; matches!(door.next(), Err(Failed)));
-    assert!(rt; matches!(door.next(), Ok(None)));
-    assert!(rt; !door.closed());
+    let mut door = door(rt.alloc())?;
+    assert!(rt; gives_one(&mut door) && !door.closed());
     door.close();
     assert!(rt; door.closed());
     Ok(())
 }
 
+/// A clock that reads five, and then four.
+fn clock(alloc: Global) -> Result<MemClock, Memory> {
+    let readings = [at(5)?, at(4)?];
+    Ok(MemClock::new(Vec::from_slice(alloc, &readings)?.into()))
+}
+
 /// Two readings, the later one earlier, and the last again.
 #[test]
 fn a_clock_repeats_its_last_reading(rt: HostRuntime) -> Result<(), Fail> {
-    let alloc = rt.alloc();
-    let five = Instant::new(5).expect(&rt, "an instant");
-    let four = Instant::new(4).expect(&rt, "an instant");
-    let mut readings = List::from(vec![in alloc; five]?);
-    readings.reserve(1)?;
-    readings.push(four);
-    let mut clock = MemClock::new(readings);
-    assert_eq!(rt; clock.now(), five);
-    assert_eq!(rt; clock.now(), four);
-    assert_eq!(rt; clock.now(), four);
+    let mut clock = clock(rt.alloc())?;
+    for minute in [5, 4, 4] {
+        assert!(rt; clock.now().minute() == minute);
+    }
     OpenGate.pass(0, 1);
     Ok(())
 }
 
+/// What a framer makes of a line feed behind so many bytes, none where the line ends before it.
+fn framed(framer: &mut Framer, bytes: u32) -> Option<Framed> {
+    for _ in 0..bytes {
+        if framer.push(b'a') != Framed::More {
+            return None;
+        }
+    }
+    Some(framer.push(b'\n'))
+}
+
 /// A line of 512 bytes is whole, one of 513 too long, and the next one is whole again.
 #[test]
-fn a_framer_tells_lines_apart(rt: HostRuntime) -> Result<(), Fail> {
+fn a_framer_tells_lines_apart(rt: HostRuntime) {
     let mut framer = Framer::new();
-    for _ in 0..512 {
-        assert_eq!(rt; framer.push(32), Framed::More);
-    }
-    assert_eq!(rt; framer.push(10), Framed::Whole);
-    assert_eq!(rt; framer.line().len(), 512);
-    for _ in 0..513 {
-        assert_eq!(rt; framer.push(32), Framed::More);
-    }
-    assert_eq!(rt; framer.push(10), Framed::Long);
-    assert_eq!(rt; framer.push(97), Framed::More);
-    assert_eq!(rt; framer.push(10), Framed::Whole);
-    assert_eq!(rt; framer.line(), b"a".as_slice());
-    Ok(())
+    assert!(rt; framed(&mut framer, 512) == Some(Framed::Whole));
+    assert!(rt; framer.line().len() == 512);
+    assert!(rt; framed(&mut framer, 513) == Some(Framed::Long));
+    assert!(rt; framed(&mut framer, 1) == Some(Framed::Whole));
+    assert!(rt; framer.line() == b"a".as_slice());
 }

@@ -79,26 +79,45 @@ fn is_walk(found: Option<Walk>, start: u32, numbers: &[u32]) -> bool {
     }
 }
 
-/// Whether the user and the role are led by these edges to the last role, by the list and by its
-/// index.
+/// Whether these edges are the least way to the last role, from the role and for the user, by the
+/// list.
+fn leads_listed(
+    alloc: Global,
+    edges: &List<HierEdge>,
+    status: &Status,
+    numbers: &[u32],
+) -> Result<bool, Memory>
+    requires { IsHierarchy edges.now.items }
+{
+    let found = reaches(alloc, edges, status, &[RoleId(0)], PermId(5))?;
+    let allowed = may_activate(alloc, edges, status, UserId(7), RoleId(999))?;
+    Ok(is_walk(found, 0, numbers) && is_walk(allowed, 0, numbers))
+}
+
+/// The same by its index.
+fn leads_indexed(
+    alloc: Global,
+    index: &Hierarchy,
+    status: &Status,
+    numbers: &[u32],
+) -> Result<bool, Memory> {
+    let found = index.reaches(alloc, status, &[RoleId(0)], PermId(5))?;
+    let allowed = index.may_activate(alloc, status, UserId(7), RoleId(999))?;
+    Ok(is_walk(found, 0, numbers) && is_walk(allowed, 0, numbers))
+}
+
+/// The same by both, with a role off and an edge shut.
 fn leads(alloc: Global, off: u32, shut: u32, numbers: &[u32]) -> Result<bool, Memory> {
     let edges = edges(alloc)?;
     if !is_hierarchy(edges.as_slice()) {
         return Ok(false);
     }
     let status = status(alloc, off, shut)?;
+    if !leads_listed(alloc, &edges, &status, numbers)? {
+        return Ok(false);
+    }
     let index = Hierarchy::new(alloc, &edges)?;
-    let active = [RoleId(0)];
-    let listed = reaches(alloc, &edges, &status, &active, PermId(5))?;
-    let indexed = index.reaches(alloc, &status, &active, PermId(5))?;
-    let allowed = may_activate(alloc, &edges, &status, UserId(7), RoleId(999))?;
-    let by_index = index.may_activate(alloc, &status, UserId(7), RoleId(999))?;
-    Ok(
-        is_walk(listed, 0, numbers)
-            && is_walk(indexed, 0, numbers)
-            && is_walk(allowed, 0, numbers)
-            && is_walk(by_index, 0, numbers),
-    )
+    leads_indexed(alloc, &index, &status, numbers)
 }
 
 /// The fewest edges, then the least numbers, round a role or an edge that is off.
@@ -112,28 +131,45 @@ fn least_walks(rt: HostRuntime) -> Result<(), Fail> {
     Ok(())
 }
 
+const ACTIVE: [RoleId; 3] = [RoleId(2), RoleId(1), RoleId(2)];
+
+/// Whether no walk leads to the permission, and one over any edges does, by the list.
+fn none_listed(alloc: Global, edges: &List<HierEdge>, status: &Status) -> Result<bool, Memory>
+    requires { IsHierarchy edges.now.items }
+{
+    let none = reaches(alloc, edges, status, &ACTIVE, PermId(5))?.is_none();
+    let any = reaches_any(alloc, edges, status, &ACTIVE, PermId(5))?;
+    Ok(none && is_walk(any, 1, &[3, 5]))
+}
+
+/// The same by its index, where the user reaches the own role alone.
+fn none_indexed(alloc: Global, index: &Hierarchy, status: &Status) -> Result<bool, Memory> {
+    let none = index.reaches(alloc, status, &ACTIVE, PermId(5))?.is_none();
+    let any = index.reaches_any(alloc, status, &ACTIVE, PermId(5))?;
+    let far = index
+        .may_activate(alloc, status, UserId(7), RoleId(999))?
+        .is_none();
+    let own = index.may_activate(alloc, status, UserId(7), RoleId(0))?;
+    Ok(none && far && is_walk(any, 1, &[3, 5]) && is_walk(own, 0, &[]))
+}
+
+/// The same by both, where the last edge is shut.
+fn none_leads(alloc: Global) -> Result<bool, Memory> {
+    let edges = edges(alloc)?;
+    if !is_hierarchy(edges.as_slice()) {
+        return Ok(false);
+    }
+    let status = status(alloc, 500, 5)?;
+    if !none_listed(alloc, &edges, &status)? {
+        return Ok(false);
+    }
+    let index = Hierarchy::new(alloc, &edges)?;
+    none_indexed(alloc, &index, &status)
+}
+
 /// Where a shut edge leaves no path, none is told; any path over all edges, shut or not, still is.
 #[test]
 fn none_and_any(rt: HostRuntime) -> Result<(), Fail> {
-    let alloc = rt.alloc();
-    let edges = edges(alloc)?;
-    if is_hierarchy(edges.as_slice()) {
-        let status = status(alloc, 500, 5)?;
-        let index = Hierarchy::new(alloc, &edges)?;
-        let active = [RoleId(2), RoleId(1), RoleId(2)];
-        assert!(rt; index.reaches(alloc, &status, &active, PermId(5))?.is_none());
-        assert!(rt; reaches(alloc, &edges, &status, &active, PermId(5))?.is_none());
-        assert!(rt;
-            index
-                .may_activate(alloc, &status, UserId(7), RoleId(999))?
-                .is_none()
-        );
-        let own = index.may_activate(alloc, &status, UserId(7), RoleId(0))?;
-        assert!(rt; is_walk(own, 0, &[]));
-        let any = index.reaches_any(alloc, &status, &active, PermId(5))?;
-        assert!(rt; is_walk(any, 1, &[3, 5]));
-        let any = reaches_any(alloc, &edges, &status, &active, PermId(5))?;
-        assert!(rt; is_walk(any, 1, &[3, 5]));
-    }
+    assert!(rt; none_leads(rt.alloc())?);
     Ok(())
 }

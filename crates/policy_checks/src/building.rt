@@ -231,7 +231,7 @@ enum AskedOf {
     CycleOfSecond,
 }
 
-#[derive(Clone, Copy, PartialEq, Eq, Debug)]
+#[derive(Clone, Copy, PartialEq, Eq)]
 enum BuildEnd {
     Nothing,
     Unknown(u32),
@@ -287,22 +287,22 @@ fn are_second(names: &[Name]) -> bool {
 fn the_first_fault(rt: HostRuntime) -> Result<(), Fail> {
     // unknown before twice
     let lines = Lines::new(rt.alloc()).role(b"a")?.edge(b"a", b"z")?;
-    assert_eq!(rt; lines.edge(b"a", b"z")?.told(), BuildEnd::Unknown(2));
+    assert!(rt; lines.edge(b"a", b"z")?.told() == BuildEnd::Unknown(2));
     // a later line's fault is not told first
     let lines = Lines::new(rt.alloc()).role(b"a")?.role(b"a")?;
-    assert_eq!(rt; lines.admin(b"u")?.told(), BuildEnd::Twice(2));
+    assert!(rt; lines.admin(b"u")?.told() == BuildEnd::Twice(2));
     Ok(())
 }
 
 #[test]
 fn limits_of_kinds(rt: HostRuntime) -> Result<(), Fail> {
     let lines = Lines::new(rt.alloc()).roles(1_000)?.edges(990)?;
-    assert_eq!(rt; lines.told(), BuildEnd::Nothing);
+    assert!(rt; lines.told() == BuildEnd::Nothing);
     // twice before too many
     let lines = Lines::new(rt.alloc()).roles(1_000)?.role(b"r999")?;
-    assert_eq!(rt; lines.told(), BuildEnd::Twice(1_001));
+    assert!(rt; lines.told() == BuildEnd::Twice(1_001));
     let lines = Lines::new(rt.alloc()).roles(1_001)?.role(b"r999")?;
-    assert_eq!(rt; lines.told(), BuildEnd::TooMany(1_001, Kind::Roles));
+    assert!(rt; lines.told() == BuildEnd::TooMany(1_001, Kind::Roles));
     Ok(())
 }
 

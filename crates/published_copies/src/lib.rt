@@ -12,6 +12,3 @@ pub use copies::Copies;
 pub use looking::{Looking, Sight};
 pub use replica::Replica;
 pub use views::ReaderView;
-
-#[cfg(test)]
-mod tests;

@@ -153,20 +153,33 @@ fn is_stirred(
 }
 
 /// Three stretches of up to 60 minutes, before each of which something is requested or signalled.
-/// The number of sets that happened; none where the timelines differ.
+/// Whether both timelines agree all the way.
+fn agree_thrice(
+    g: &Ground,
+    jumps: &mut Timeline,
+    steps: &mut Timeline,
+    state: &mut u64,
+) -> Result<bool, Memory>
+    requires jumps { StandsFor g.now.policy jumps.old.line }
+    requires steps { StandsFor g.now.policy steps.old.line }
+{
+    for _ in 0..3 {
+        let minutes = draw(state, 60) + 1;
+        if !is_stirred(g, jumps, steps, state)? || !agree_for(g, jumps, steps, minutes)? {
+            return Ok(false);
+        }
+    }
+    Ok(true)
+}
+
+/// The number of sets that happened in these stretches; none where the timelines differ.
 fn agreed(g: &Ground, state: &mut u64, alloc: Global) -> Result<Option<usize>, Memory> {
     let birth = at(NOON)?;
     let mut jumps = Timeline::new(alloc, g, birth)?;
     let mut steps = Timeline::new(alloc, g, birth)?;
-    for _ in 0..3 {
-        let minutes = draw(state, 60) + 1;
-        if !is_stirred(g, &mut jumps, &mut steps, state)?
-            || !agree_for(g, &mut jumps, &mut steps, minutes)?
-        {
-            return Ok(None);
-        }
-    }
-    if are_same_traces(jumps.trace(), steps.trace()) {
+    if agree_thrice(g, &mut jumps, &mut steps, state)?
+        && are_same_traces(jumps.trace(), steps.trace())
+    {
         Ok(Some(jumps.trace().len()))
     } else {
         Ok(None)

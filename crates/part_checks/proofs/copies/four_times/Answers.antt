@@ -1,6 +1,6 @@
 use Rattle.std.proofs.Common.{◌++◌, ap, ◌∙◌}
 use Rattle.published_copies.specs.Copied.{Copied}
-use Rattle.published_copies.proofs.tests.four_times.Goals as goal
+use Rattle.part_checks.proofs.copies.four_times.Goals as goal
 
 pub once-copies-requires : goal.once-copies-requires
 once-copies-requires g c =
