@@ -1,10 +1,11 @@
 //! Blocked events, what is seen of an event, and the status after a set.
-ghost use Rattle.std.specs.Prelude.{◌≡◌, ◌≤◌, ◌+◌, ◌&&◌, ◌||◌, not, true, false, cond, length, IfOk};
+ghost use Rattle.std.specs.Prelude.{◌≡◌, ◌≤◌, ◌<◌, ◌+◌, ◌-◌, true, length, IfSome, IsNone};
+ghost use Rattle.std.specs.List.{HoldsAt};
 ghost use Rattle.gt_base.specs.declared.events.Event.{Event};
 ghost use Rattle.gt_base.specs.declared.events.Fluent.{Fluent};
 ghost use Rattle.gt_base.specs.Events.{converse};
 ghost use Rattle.gt_base.specs.Sets.{has, members};
-ghost use Rattle.gtrbac_model.specs.Conflict.{beats, blocked, won, won_at, stands_at, greatest_below, seen};
+ghost use Rattle.gtrbac_model.specs.Conflict.{beats, blocked, stands_at, greatest_below, seen};
 ghost use Rattle.priority_conflict.specs.Winning.{IsApart, IsStrongest, turned_by};
 
 use gt_base::{Event, EventSet, Happened, MAX_PRIO, Prio, Prioritised, Seen, Status};
@@ -17,20 +18,47 @@ pub(crate) fn beats(on: bool, q: u8, p: u8) -> bool
 }
 
 /// The greatest priority below a number at which the event stands in the set, blocked or not. It
-/// takes no memory.
+/// takes no memory, and passes over the priorities at which nothing stands.
 pub fn greatest(x: &Happened, e: Event, below: u8) -> Option<Prio>
     requires { below ≤ MAX_PRIO + 1 }
     ensures { result ≡ greatest_below (stands_at x.now.set e) below }
 {
     let mut above = below;
     while above > 0 {
-        above -= 1;
-        let prio = Prio::new(above).unwrap();
-        if x.has(Prioritised { prio, event: e }) {
-            return Some(prio);
+        let prio = Prio::new(above - 1).unwrap();
+        match lower(x, e, prio) {
+            Some(next) => above = next,
+            None => return Some(prio),
         }
     }
     None
+}
+
+/// None where the event stands in the set at the priority; else a number no greater than that, such
+/// that the event stands at no priority from the number up to that one.
+fn lower(x: &Happened, e: Event, prio: Prio) -> Option<u8>
+    ensures none { IsNone result → stands_at x.now.set e prio ≡ true }
+    ensures less { IfSome result (λ n. n ≤ prio) }
+    ensures same { IfSome result (λ n. greatest_below (stands_at x.now.set e) (prio + 1)
+        ≡ greatest_below (stands_at x.now.set e) n) }
+{
+    let events = x.events();
+    match events.binary_search(&Prioritised { prio, event: e }) {
+        Ok(_) => None,
+        Err(place) => Some(prio.get().min(past_front(events, place))),
+    }
+}
+
+/// The number after the priority of the event in front of a place, 0 where none is.
+fn past_front(events: &[Prioritised], place: usize) -> u8
+    requires { place ≤ length events.now }
+    ensures none { place ≡ 0 → result ≡ 0 }
+    ensures front { 0 < place → HoldsAt (λ p. result ≡ p.prio + 1) events.now (place - 1) }
+{
+    match place {
+        0 => 0,
+        _ => events[place - 1].prio.get() + 1,
+    }
 }
 
 /// The greatest priority at which the event stands in the set, if it stands there. The events rise
@@ -68,39 +96,18 @@ pub fn next_status(s: &mut Status, won: &EventSet)
     }
 }
 
-/// Whether the event stands in the set at the priority and is not blocked there.
-fn is_free(x: &Happened, e: Event, prio: Prio) -> bool
-    ensures { result ≡ won_at x.now.set e prio }
-{
-    x.has(Prioritised { prio, event: e }) && !blocked(x, Prioritised { prio, event: e })
-}
-
-/// The greatest priority below a number at which the event stands in the set unblocked.
-fn greatest_free(x: &Happened, e: Event, below: u8) -> Option<Prio>
-    requires { below ≤ MAX_PRIO + 1 }
-    ensures { result ≡ greatest_below (won_at x.now.set e) below }
-{
-    let mut above = below;
-    while above > 0 {
-        above -= 1;
-        let prio = Prio::new(above).unwrap();
-        if is_free(x, e, prio) {
-            return Some(prio);
-        }
-    }
-    None
-}
-
 /// The greatest priority below a number at which the event stands in the set unblocked, else the
 /// greatest at which it stands there blocked, else that it is absent. It takes no memory.
 pub fn seen(x: &Happened, e: Event) -> Seen
     ensures { result ≡ seen x.now.set e }
 {
-    if let Some(p) = greatest_free(x, e, MAX_PRIO + 1) {
-        return Seen::Unblocked(p);
-    }
-    match greatest(x, e, MAX_PRIO + 1) {
-        Some(p) => Seen::Blocked(p),
-        None => Seen::Absent,
+    let Some(prio) = greatest(x, e, MAX_PRIO + 1) else {
+        return Seen::Absent;
+    };
+    // what is blocked at a priority is so at each lower one
+    if blocked(x, Prioritised { prio, event: e }) {
+        Seen::Blocked(prio)
+    } else {
+        Seen::Unblocked(prio)
     }
 }
