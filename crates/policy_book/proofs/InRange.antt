@@ -3,6 +3,7 @@ use Rattle.std.proofs.Common.{◌≡◌, ℕ, ◌+◌, ◌≤◌, ◌<◌, Bool,
 use Rattle.std.specs.List.{list_any, list_all, filter_map, cons_option}
 use Rattle.std.specs.Prelude.{position}
 use Rattle.std.proofs.lemmas.List.Quantifiers.{position-Some}
+use Rattle.std.proofs.lemmas.Option.{none-some}
 use Rattle.std.proofs.lemmas.Bool.{lt-ltb, leb-true, le-leb, eqb-true, or_right}
 use Rattle.gt_base.specs.Held.{TriggerView}
 use Rattle.gt_base.specs.Names.{is_name, place_of}
@@ -146,7 +147,7 @@ module _ (ns : Names) (p : Policy) (sized : IsSized ns p) where
 
   pub opening_there : (x : SaidView) (g : Fluent) → opening_said ns x ≡ Some g → is_fluent p g ≡ true
   opening_there (opening f) g e = fluent_in f g e
-  opening_there _ g e = cc
+  opening_there _ g e = absurd (none-some g e)
 
   pub edge_there : (x : SaidView) (g : HierEdge) → edge_said ns x ≡ Some g → is_edge p g ≡ true
   edge_there (edge kind strong s j) g e =
@@ -158,7 +159,7 @@ module _ (ns : Names) (p : Policy) (sized : IsSized ns p) where
       either I = refl
       either A = refl
       either Ia = refl
-  edge_there _ g e = cc
+  edge_there _ g e = absurd (none-some g e)
 
   pub entry_there : (x : SaidView) → is_saying x ≡ true → (g : PeriodicEntry) → entry_said ns x ≡ Some g → is_entry p g ≡ true
   entry_there (entry f n h) said g e =
@@ -166,7 +167,7 @@ module _ (ns : Names) (p : Policy) (sized : IsSized ns p) where
       let (b, k, u) = bound (head_of ns h) _ g t in
       let parts = both_true (is_name n) _ (formed (entry f n h) said) in
       subst (λ z. is_entry p z ≡ true) (some_same _ _ u) (and_true _ _ (period_in n a i) (head_there h b k (both_true (nat_le h.prio 99) _ parts.1).0))
-  entry_there _ said g e = cc
+  entry_there _ said g e = absurd (none-some g e)
 
   pub limit_there : (x : SaidView) → is_saying x ≡ true → (g : LimitRule) → limit_said ns x ≡ Some g → is_limit p g ≡ true
   limit_there (limit n prio c most during) said g e =
@@ -186,7 +187,7 @@ module _ (ns : Names) (p : Policy) (sized : IsSized ns p) where
       within (Some n) o s =
           let (q, i, t) = bound (period_of ns n) _ o s in
           subst (λ z. elim z [ None ↦ true | Some q ↦ nat_lt q.0 (length p.periods) ] ≡ true) (some_same _ _ t) (period_in n q i)
-  limit_there _ said g e = cc
+  limit_there _ said g e = absurd (none-some g e)
 
 pub period_there : (ns : Names) (x : SaidView) → is_saying x ≡ true → (g : Period) → period_said ns x ≡ Some g → is_period g ≡ true
 period_there ns (period n first last ex) said g e =
@@ -194,7 +195,7 @@ period_there ns (period n first last ex) said g e =
     let ends = both_true (is_name n && nat_le first LAST_MINUTE) _ parts.0 in
     let order = (both_true (is_formed (period n first last ex)) _ (both_true (is_formed (period n first last ex) && nat_le first last) _ said).0).1 in
     subst (λ z. is_period z ≡ true) (some_same _ _ e) (and_true (nat_le first last && nat_le last LAST_MINUTE) _ (and_true (nat_le first last) _ order ends.1) parts.1)
-period_there ns _ said g e = cc
+period_there ns _ said g e = absurd (none-some g e)
 
 -- edges of one pair clash
 
@@ -204,22 +205,22 @@ edge_claims ns (edge kind strong s j) g e =
     let (a, i, t) = bound (role_of ns s) _ g e in
     let (b, k, u) = bound (role_of ns j) _ g t in
     (s, j, i ∙ ap (λ z. Some z.senior) (some_same _ _ u), k ∙ ap (λ z. Some z.junior) (some_same _ _ u), refl)
-edge_claims ns _ g e = cc
+edge_claims ns _ g e = absurd (none-some g e)
 
 edge_once : (ns : Names) (x : SaidView) (g : HierEdge) → edge_said ns x ≡ Some g → (may_be_again x ≡ false) × (is_of kinds.Edges x ≡ true)
 edge_once ns (edge kind strong s j) g e = (refl, refl)
-edge_once ns _ g e = cc
+edge_once ns _ g e = absurd (none-some g e)
 
 pub edge_counts : (ns : Names) (x : SaidView) (g : HierEdge) → edge_said ns x ≡ Some g → is_of kinds.Edges x ≡ true
 edge_counts ns x g e = (edge_once ns x g e).1
 
 pub entry_counts : (ns : Names) (x : SaidView) (g : PeriodicEntry) → entry_said ns x ≡ Some g → is_of kinds.Entries x ≡ true
 entry_counts ns (entry f n h) g e = refl
-entry_counts ns _ g e = cc
+entry_counts ns _ g e = absurd (none-some g e)
 
 pub rule_counts : (ns : Names) (x : SaidView) (g : TriggerView) → rule_said ns x ≡ Some g → is_of kinds.Triggers x ≡ true
 rule_counts ns (trigger items h d) g e = refl
-rule_counts ns _ g e = cc
+rule_counts ns _ g e = absurd (none-some g e)
 
 pub edges_clash : (ns : Names) (x y : SaidView) (g h : HierEdge) → edge_said ns x ≡ Some g → edge_said ns y ≡ Some h → joins_same g h ≡ true → clashes x y ≡ true
 edges_clash ns x y g h p q e =
@@ -246,19 +247,19 @@ module _ (ns : Names) (p : Policy) (sized : IsSized ns p) where
 
   event_item : (i : Item) (g : BaseEvent) → event_in ns i ≡ Some g → is_fluent p g.fluent ≡ true
   event_item (Event e) g q = event_fluent ns p sized e g q
-  event_item _ g q = cc
+  event_item _ g q = absurd (none-some g q)
 
   signal_item : (i : Item) (g : BaseSignal) → signal_in ns i ≡ Some g → is_signal p g ≡ true
   signal_item (Signal s) g q = signal_there ns p sized s g q
-  signal_item _ g q = cc
+  signal_item _ g q = absurd (none-some g q)
 
   cond_item : (i : Item) (g : BaseCond) → cond_in ns i ≡ Some g → is_fluent p g.fluent ≡ true
   cond_item (Cond c) g q = cond_fluent ns p sized c g q
-  cond_item _ g q = cc
+  cond_item _ g q = absurd (none-some g q)
 
   settled_item : (i : Item) (g : BaseCond) → settled_in ns i ≡ Some g → is_fluent p g.fluent ≡ true
   settled_item (Settled c) g q = cond_fluent ns p sized c g q
-  settled_item _ g q = cc
+  settled_item _ g q = absurd (none-some g q)
 
   each_kept : {B : Type 0} (decl : Item → Option B) (test : B → Bool) → ((i : Item) (g : B) → decl i ≡ Some g → test g ≡ true) → (items : List Item) → list_all test (filter_map decl items) ≡ true
   each_kept decl test on [] = refl
@@ -301,7 +302,7 @@ module _ (ns : Names) (p : Policy) (sized : IsSized ns p) where
       (head_there ns p sized h b k prio))
       parts.1)
       (le-leb _ _ (omega (arith, no_longer items, few))))
-  rule_there _ said g e = cc
+  rule_there _ said g e = absurd (none-some g e)
 
   caused : (items : List Item) → list_all (is_known_item ns) items ≡ true → list_any is_cause items ≡ true → (is_some_item (events_of items) || is_some_item (signals_of items)) ≡ true
   caused [] known e = cc
@@ -324,4 +325,4 @@ module _ (ns : Names) (p : Policy) (sized : IsSized ns p) where
       let (said, known) = both_true (is_saying (trigger items h d)) _ ok in
       let body = (both_true (nat_le (length items) 16) _ (both_true (is_formed (trigger items h d) && true) _ said).1).1 in
       subst (λ z. has_cause z ≡ true) (some_same _ _ u) (caused items (both_true (list_all (is_known_item ns) items) _ known).0 body)
-  rule_caused _ ok g e = cc
+  rule_caused _ ok g e = absurd (none-some g e)
