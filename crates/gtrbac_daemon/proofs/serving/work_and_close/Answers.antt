@@ -1,4 +1,4 @@
-use Rattle.std.proofs.Common.{◌≡◌, ℕ, ◌<◌, ◌≤◌, List, [], length, drop, sym, ap, subst, ◌∙◌}
+use Rattle.std.proofs.Common.{◌≡◌, ℕ, ◌<◌, ◌≤◌, List, [], length, drop, sym, ap, subst, ◌∙◌, arith}
 use Rattle.std.proofs.lemmas.List.{length-map}
 use Rattle.gt_base.specs.declared.requests.Entry.{Entry}
 use Rattle.turn_lock.specs.Turns.{Each, part}
@@ -11,7 +11,38 @@ use Rattle.core_machine.specs.Ledgers.{IsLegalLedger}
 use Rattle.gtrbac_daemon.specs.Crew.{crewman, crewmen}
 use Rattle.gtrbac_daemon.proofs.Posted.{ready, InOrder, in_order, all_idle, none_missing, crew_is_told}
 use Rattle.gtrbac_daemon.proofs.Served.{headline_of}
+use Rattle.gtrbac_daemon.proofs.PostLists.{reversed_length}
+use Rattle.line_server.specs.declared.posts.Post.{Post}
 use Rattle.gtrbac_daemon.proofs.serving.work_and_close.Goals as goal
+
+pub man-requires-clause-empty : goal.man-requires-clause-empty
+man-requires-clause-empty g c = c.requires.posts.0
+
+pub man-requires-clause-room : goal.man-requires-clause-room
+man-requires-clause-room g c = c.requires.posts.1
+
+pub relieve-requires-clause-empty : goal.relieve-requires-clause-empty
+relieve-requires-clause-empty g c = (c.man.ensures.passes_left.0, c.man.ensures.crew_left.0)
+
+pub relieve-requires-clause-passes_room : goal.relieve-requires-clause-passes_room
+relieve-requires-clause-passes_room g c =
+    let own = c.run_posts.new.posts.ok.0 in
+    let many : length c.man.new.posts.items ≡ length c.args.passes.items =
+    reversed_length (λ (p : Post BookView g.row.D.Denot g.row.C.Denot g.row.G.Denot g.row.D-L.Denot). p.pass) c.man.new.posts.items c.args.passes.items c.man.ensures.passes_are in
+    let same : length c.run_posts.new.posts.items ≡ length c.man.new.posts.items = c.run_posts.ensures.length in
+    let left = c.man.ensures.passes_left.1 in
+    omega (arith, own, many, same, left)
+
+pub relieve-requires-clause-crew_room : goal.relieve-requires-clause-crew_room
+relieve-requires-clause-crew_room g c =
+    let own = c.run_posts.new.posts.ok.0 in
+    let many : length c.man.new.posts.items ≡ length c.args.crew.now.items =
+    reversed_length (λ (p : Post BookView g.row.D.Denot g.row.C.Denot g.row.G.Denot g.row.D-L.Denot). p.worker) c.man.new.posts.items c.args.crew.now.items c.man.ensures.workers_are in
+    let same : length c.run_posts.new.posts.items ≡ length c.man.new.posts.items = c.run_posts.ensures.length in
+    let left = c.man.ensures.crew_left.1 in
+    let had = c.args.crew.now.ok.0 in
+    let fits = c.args.crew.now.ok.1 in
+    omega (arith, own, many, same, left, had, fits)
 
 pub man-requires-clause-pairs : goal.man-requires-clause-pairs
 man-requires-clause-pairs g c = ap (λ (ps : List (Holder BookView)). length ps) c.requires.desk.passes_are ∙ length_new c.args.desk [] 0 (length c.args.crew.now.items)

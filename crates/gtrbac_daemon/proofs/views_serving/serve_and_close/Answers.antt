@@ -1,10 +1,56 @@
-use Rattle.std.proofs.Common.{◌≡◌, ℕ, ◌<◌, ◌≤◌, List, [], length, drop, sym, ap, subst, ◌∙◌}
+use Rattle.std.proofs.Common.{◌≡◌, ℕ, ◌<◌, ◌≤◌, List, [], length, drop, sym, ap, subst, ◌∙◌, arith}
 use Rattle.gt_base.specs.declared.requests.Entry.{Entry}
 use Rattle.turn_lock.specs.Turns.{Each, part}
 use Rattle.turn_lock.specs.Holders.{Holder, site_of, newcomers, IsToldBy}
 use Rattle.turn_lock.proofs.PassLists.{new_all, length_new}
 use Rattle.gtrbac_daemon.proofs.Posted.{ready, InOrder, in_order, all_idle, none_missing, crew_is_told}
+use Rattle.gtrbac_daemon.proofs.PostLists.{reversed_length}
+use Rattle.line_server.specs.declared.posts.Post.{Post}
 use Rattle.gtrbac_daemon.proofs.views_serving.serve_and_close.Goals as goal
+
+pub man-requires-clause-empty : goal.man-requires-clause-empty
+man-requires-clause-empty g c = c.requires.posts.0
+
+pub man-requires-clause-room : goal.man-requires-clause-room
+man-requires-clause-room g c = c.requires.posts.1
+
+pub run_both-requires-clause-named : goal.run_both-requires-clause-named
+run_both-requires-clause-named g c κs within = c.requires.named
+
+pub run_both-requires-clause-replies : goal.run_both-requires-clause-replies
+run_both-requires-clause-replies g c κs within = c.requires.replies
+
+pub run_both-requires-clause-ready : goal.run_both-requires-clause-ready
+run_both-requires-clause-ready g c κs within = c.requires.ready
+
+pub relieve-requires-clause-empty : goal.relieve-requires-clause-empty
+relieve-requires-clause-empty g c = (c.man.ensures.passes_left.0, c.man.ensures.crew_left.0)
+
+pub relieve-requires-clause-passes_room : goal.relieve-requires-clause-passes_room
+relieve-requires-clause-passes_room g c =
+    let own = c.run_both.new.posts.ok.0 in
+    let many : length c.man.new.posts.items ≡ length c.args.opened.1.items =
+    reversed_length (λ (p : Post g.row.M.Denot g.row.D.Denot g.row.C.Denot g.row.G.Denot g.row.D-L.Denot). p.pass) c.man.new.posts.items c.args.opened.1.items c.man.ensures.passes_are in
+    let same : length c.run_both.new.posts.items ≡ length c.man.new.posts.items = c.run_both.ensures.posts in
+    let left = c.man.ensures.passes_left.1 in
+    omega (arith, own, many, same, left)
+
+pub relieve-requires-clause-crew_room : goal.relieve-requires-clause-crew_room
+relieve-requires-clause-crew_room g c =
+    let own = c.run_both.new.posts.ok.0 in
+    let many : length c.man.new.posts.items ≡ length c.args.crew.now.items =
+    reversed_length (λ (p : Post g.row.M.Denot g.row.D.Denot g.row.C.Denot g.row.G.Denot g.row.D-L.Denot). p.worker) c.man.new.posts.items c.args.crew.now.items c.man.ensures.workers_are in
+    let same : length c.run_both.new.posts.items ≡ length c.man.new.posts.items = c.run_both.ensures.posts in
+    let left = c.man.ensures.crew_left.1 in
+    let had = c.args.crew.now.ok.0 in
+    let fits = c.args.crew.now.ok.1 in
+    omega (arith, own, many, same, left, had, fits)
+
+pub returns-clause-root : goal.returns-clause-root
+returns-clause-root g c = c.close.ensures.root
+
+pub returns-clause-looked : goal.returns-clause-looked
+returns-clause-looked g c = c.run_both.ensures.looked
 
 pub man-requires-clause-pairs : goal.man-requires-clause-pairs
 man-requires-clause-pairs g c = ap (λ (ps : List (Holder g.row.M.Denot)). length ps) c.requires.passes ∙ length_new c.args.opened.0 [] 0 (length c.args.crew.now.items)

@@ -108,3 +108,38 @@ returns-in-Ok-new-clause-told g c =
     c.take_seats.ensures.glasses_are c.take_seats.ensures.viewers_are c.requires.company.new g.D.Door.doorway g.D.L.Link.traffic c.serve_and_close-board.result.ledger.entries c.leave_seats.new.viewers.items
     c.serve_and_close-board.new.seats.items c.settle_up-told.new.seats.items c.leave_seats.ensures c.serve_and_close-board.ensures.looked c.settle_up-told.ensures.settled).1
     (sym c.settle_up-told.ensures.told ∙ yes))
+
+pub destroy_empty-requires : goal.destroy_empty-requires
+destroy_empty-requires g c = c.in-Ok.ensures.len
+
+pub destroy_empty-requires-in-Err : goal.destroy_empty-requires-in-Err
+destroy_empty-requires-in-Err g c = c.in-Ok.ensures.len
+
+pub destroy_empty-requires-in-Err-2 : goal.destroy_empty-requires-in-Err-2
+destroy_empty-requires-in-Err-2 g c = c.in-Ok-with_capacity.ensures.len
+
+pub overflow_cast-len : goal.overflow_cast-len
+overflow_cast-len g c = omega (arith, c.len-3.ensures, c.args.crew.now.ok.0, c.requires.company.workers.few)
+
+pub new-requires : goal.new-requires
+new-requires g c =
+    let all : c.len-3.result ≡ length c.args.crew.now.items = c.len-3.ensures ∙ c.args.crew.now.ok.0 in
+    (omega (arith, all, c.requires.company.workers.some), omega (arith, all, c.requires.company.workers.few))
+
+pub take_seats-requires-clause-empty : goal.take_seats-requires-clause-empty
+take_seats-requires-clause-empty g c = c.in-Ok-with_capacity.ensures.items
+
+pub take_seats-requires-clause-few : goal.take_seats-requires-clause-few
+take_seats-requires-clause-few g c = c.requires.company.few
+
+pub take_seats-requires-clause-room : goal.take_seats-requires-clause-room
+take_seats-requires-clause-room g c = omega (arith, c.len-2.ensures, c.args.viewers.now.ok.0, c.in-Ok-with_capacity.ensures.capacity)
+
+pub serve_and_close-board-requires-clause-posts : goal.serve_and_close-board-requires-clause-posts
+serve_and_close-board-requires-clause-posts g c κs within = (c.in-Ok.ensures.items, omega (arith, c.len.ensures, c.args.crew.now.ok.0, c.in-Ok.ensures.capacity))
+
+pub serve_and_close-board-requires-clause-crew : goal.serve_and_close-board-requires-clause-crew
+serve_and_close-board-requires-clause-crew g c κs within = c.requires.company.workers
+
+pub leave_seats-requires-clause-empty : goal.leave_seats-requires-clause-empty
+leave_seats-requires-clause-empty g c = c.take_seats.ensures.left.0
