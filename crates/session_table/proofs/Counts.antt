@@ -6,6 +6,8 @@ use Rattle.std.proofs.lemmas.Bool.{eq-eqb}
 use Rattle.std.proofs.lemmas.List.Elements.{filter_more}
 use Rattle.std.proofs.lemmas.List.Sums.{sum_by-append, sum_by-cons, sum_by-remove}
 use Rattle.gtrbac_model.specs.Sessions.{Activation, is_of}
+use Rattle.session_table.specs.declared.counting.Holder.{Holder}
+use Rattle.session_table.specs.Counting.{AreCounted, counted, is_by}
 
 got : {A : Type 0} (xs : List A) (i : ℕ) (x : A) → slice_get xs i ≡ Some x → get_or xs i x ≡ x
 got [] i x e = cc
@@ -64,3 +66,17 @@ module _ {A : Type 0} (keep : A → Bool) (xs : List A) (i : ℕ) (d : A) (low :
 pub none_left : {A : Type 0} (keep : A → Bool) (xs : List A) (i : ℕ) → length xs ≤ i → rest keep xs i ≡ filter keep xs
 none_left keep xs i le =
     (λ j. filter keep (take_all i xs le j) ++ drop_all i xs le j) ∙ append-nil (filter keep xs)
+
+-- the next one, which fails the test, is counted until it is taken out
+module _ (rows : List (Holder × ℕ)) (keep : Activation → Bool) (xs : List Activation) (i : ℕ) (a : Activation) (low : i < length xs) (is : a ≡ get_or xs i a) (out : keep a ≡ false) (all : AreCounted rows (rest keep xs i)) where
+  gone : (h : Holder) → counted rows h ≡ count_by (is_by h.user h.role) (rest keep xs (i + 1)) + cond (is_by h.user h.role a) 1 0
+  gone h =
+      all h
+      ∙ gone_step keep xs i a low (is_by h.user h.role) (ap keep (sym is) ∙ out)
+      ∙ ap (λ (b : Activation). count_by (is_by h.user h.role) (rest keep xs (i + 1)) + cond (is_by h.user h.role b) 1 0) (sym is)
+
+  pub still_counted : (h : Holder) → is_by h.user h.role a ≡ true → 1 ≤ counted rows h
+  still_counted h by = some_in _ (count_by (is_by h.user h.role) (rest keep xs (i + 1))) (is_by h.user h.role a) (gone h) by
+
+  pub left_counted : (new : List (Holder × ℕ)) → ((h : Holder) → counted rows h ≡ counted new h + cond (is_by h.user h.role a) 1 0) → AreCounted new (rest keep xs (i + 1))
+  left_counted new less h = same_left _ _ _ (cond (is_by h.user h.role a) 1 0) (less h) (gone h)
