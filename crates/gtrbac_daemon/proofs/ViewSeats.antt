@@ -2,7 +2,6 @@
 use Rattle.std.proofs.Common.{◌≡◌, ℕ, ◌<◌, ◌≤◌, true, List, length, reverse, get_or, sym, ap, subst, ◌∙◌}
 use Rattle.std.specs.Prelude.{All, replicate}
 use Rattle.std.specs.List.{list_all}
-use Rattle.std.proofs.lemmas.List.{length-reverse, length-map}
 use Rattle.gt_base.specs.declared.requests.Entry.{Entry}
 use Rattle.gt_io.specs.Links.{Traffic, Doorway}
 use Rattle.policy_words.specs.Naming.{NamedPolicy}
@@ -12,11 +11,11 @@ use Rattle.connection_laws.specs.Desks.{GlancesCanBeTold}
 use Rattle.snapshot_readers.specs.declared.seats.ViewerSeat.{ViewerSeat}
 use Rattle.snapshot_readers.specs.Seats.{watchers, HasLooked, IsNewViewer, IsReadySeat, glasses_of, viewers_of, HasSettled, SeatBySeat, AreToldOf, HaveViewed}
 use Rattle.snapshot_readers.proofs.Seated.{ready, seats_done}
+use Rattle.snapshot_readers.proofs.Moving.{reversed_length}
 
 -- there are as many seats as viewers
 pub as_many : {D G L : Type 0} (xs : List (ViewerSeat D G L)) (vs : List (Viewer D G L)) → reverse (viewers_of xs) ≡ vs → length xs ≡ length vs
-as_many {D} {G} {L} xs vs is =
-    sym (length-map xs (λ (s : ViewerSeat D G L). s.viewer)) ∙ (sym (length-reverse (viewers_of xs)) ∙ ap (λ (l : List (Viewer D G L)). length l) is)
+as_many {D} {G} {L} xs vs is = reversed_length (λ (s : ViewerSeat D G L). s.viewer) xs vs is
 
 module _ {D G L : Type 0} (np : NamedPolicy) (birth n : ℕ) (gs : List Glazed) (viewers : List (Viewer D G L)) (xs : List (ViewerSeat D G L)) (all : gs ≡ replicate n (fresh_glass np birth)) (glasses : reverse (glasses_of xs) ≡ gs)
     (is : reverse (viewers_of xs) ≡ viewers) (new : All (λ (v : Viewer D G L). IsNewViewer v) viewers) where

@@ -10,4 +10,5 @@ pub mod Glancing
 pub mod Completing
 pub mod Linking
 pub mod SeatSending
+pub mod Moving
 pub mod Seated

@@ -1,6 +1,7 @@
 use Rattle.std.proofs.Common.{◌≡◌, ◌++◌, ◌∷◌, [], List, length, reverse, refl, ap, ◌∙◌, arith, append-nil}
 use Rattle.line_server.specs.declared.posts.Post.{Post}
-use Rattle.gtrbac_daemon.proofs.PostLists.{passes_of, workers_of, moved_on, one_longer}
+use Rattle.snapshot_readers.proofs.Moving.{moved_on, one_longer}
+use Rattle.gtrbac_daemon.proofs.PostLists.{passes_of, workers_of}
 use Rattle.gtrbac_daemon.proofs.crews.man.Goals as goal
 
 pub loop-pass-init : goal.loop-pass-init

@@ -1,7 +1,8 @@
 use Rattle.std.proofs.Common.{◌≡◌, ◌++◌, ◌∷◌, [], List, length, reverse, sym, ap, ◌∙◌, arith}
 use Rattle.turn_lock.specs.Holders.{Holder}
 use Rattle.line_server.specs.declared.workers.Worker.{Worker}
-use Rattle.gtrbac_daemon.proofs.PostLists.{passes_of, workers_of, moved_on, one_longer}
+use Rattle.snapshot_readers.proofs.Moving.{moved_on, one_longer}
+use Rattle.gtrbac_daemon.proofs.PostLists.{passes_of, workers_of}
 use Rattle.gtrbac_daemon.proofs.crews.relieve.Goals as goal
 
 pub loop-post-init : goal.loop-post-init

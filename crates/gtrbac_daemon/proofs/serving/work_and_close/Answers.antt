@@ -11,7 +11,7 @@ use Rattle.core_machine.specs.Ledgers.{IsLegalLedger}
 use Rattle.gtrbac_daemon.specs.Crew.{crewman, crewmen}
 use Rattle.gtrbac_daemon.proofs.Posted.{ready, InOrder, in_order, all_idle, none_missing, crew_is_told}
 use Rattle.gtrbac_daemon.proofs.Served.{headline_of}
-use Rattle.gtrbac_daemon.proofs.PostLists.{reversed_length}
+use Rattle.snapshot_readers.proofs.Moving.{reversed_length}
 use Rattle.line_server.specs.declared.posts.Post.{Post}
 use Rattle.gtrbac_daemon.proofs.serving.work_and_close.Goals as goal
 

@@ -4,7 +4,7 @@ use Rattle.turn_lock.specs.Turns.{Each, part}
 use Rattle.turn_lock.specs.Holders.{Holder, site_of, newcomers, IsToldBy}
 use Rattle.turn_lock.proofs.PassLists.{new_all, length_new}
 use Rattle.gtrbac_daemon.proofs.Posted.{ready, InOrder, in_order, all_idle, none_missing, crew_is_told}
-use Rattle.gtrbac_daemon.proofs.PostLists.{reversed_length}
+use Rattle.snapshot_readers.proofs.Moving.{reversed_length}
 use Rattle.line_server.specs.declared.posts.Post.{Post}
 use Rattle.gtrbac_daemon.proofs.views_serving.serve_and_close.Goals as goal
 
