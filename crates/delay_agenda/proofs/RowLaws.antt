@@ -1,6 +1,6 @@
 -- Pairs in a tree and in a row, and the set of both.
-use Rattle.std.proofs.Common.{◌≡◌, ℕ, ◌+◌, ◌<◌, ◌≤◌, ◌⊎◌, inl, inr, ◌++◌, Bool, true, false, cond, ◌&&◌, ◌||◌, not, T, List, [], ◌∷◌, length, filter, refl, sym, ◌∙◌, ap, subst, arith, get_or, length-append}
-use Rattle.std.proofs.lemmas.List.{get_or_push, length-map}
+use Rattle.std.proofs.Common.{◌≡◌, ℕ, ◌+◌, ◌<◌, ◌≤◌, ◌⊎◌, inl, inr, ◌++◌, Bool, true, false, cond, ◌&&◌, ◌||◌, not, T, List, [], ◌∷◌, length, filter, refl, sym, ◌∙◌, ap, subst, arith}
+use Rattle.std.proofs.lemmas.List.{length-map}
 use Rattle.std.proofs.lemmas.List.Folds.{list_any-append}
 use Rattle.std.specs.List.{AllByRecursion}
 use Rattle.std.specs.List.Sorted.{IsStrictlySortedBy}
@@ -10,15 +10,15 @@ use Rattle.std.specs.declared.cmp.Ordering.TheVariants.{Less, Equal}
 use Rattle.std.specs.FinMap.Entries.{below_all, is_sorted-put, length-put}
 use Rattle.gt_base.specs.declared.events.Prioritised.{Prioritised}
 use Rattle.gt_base.specs.Sets.{set_of, set_of_rising, pairs, has, members, those, with_member, none, Rises}
-use Rattle.gt_base.proofs.Rising.{below_at, has-set_of_rising, filter_rises, set_of_filtered, left_of, right_of, less_of}
-use Rattle.gt_base.proofs.SetLaws.{same_sets, entries-checked, members-set_of_rising, members-none, has-none, eq_itself, has-set_of, has-with_member, has-those}
+use Rattle.gt_base.proofs.Rising.{has-set_of_rising, filter_rises, set_of_filtered, left_of, right_of, less_of}
+use Rattle.gt_base.proofs.SetLaws.{same_sets, entries-checked, members-set_of_rising, has-none, eq_itself, has-set_of, has-with_member, has-those}
 use Rattle.delay_agenda.specs.declared.pairs.Pending.{Pending}
 use Rattle.delay_agenda.specs.Due.{pending_cmp, pending_at, is_due_at, count_due, IsLeastDue, Pendings}
 use Rattle.delay_agenda.specs.Rows.{due_in, lists_event, new_in, new_due_in, stands_in, pairs_of, BothRise}
-use Rattle.delay_agenda.proofs.DueLaws.{and_left, stands_due}
+use Rattle.delay_agenda.proofs.DueLaws.{stands_due}
 use Rattle.delay_agenda.proofs.PendingLaws.{pending_cmp_total, pending_cmp-IsAntisymmetric}
 
-or_or : (a b c : Bool) → ((a || b) || c) ≡ (a || (b || c))
+pub or_or : (a b c : Bool) → ((a || b) || c) ≡ (a || (b || c))
 or_or true b c = refl
 or_or false b c = refl
 
@@ -37,7 +37,7 @@ and_false false = refl
 true-not-false : true ≡ false → ⊥
 true-not-false e = cc
 
-or_and : (a b f : Bool) → ((a && f) || (b && f)) ≡ ((a || b) && f)
+pub or_and : (a b f : Bool) → ((a && f) || (b && f)) ≡ ((a || b) && f)
 or_and true true f = elim f as (λ f. (f || f) ≡ f) [ true ↦ refl | false ↦ refl ]
 or_and true false f = elim f as (λ f. (f || false) ≡ f) [ true ↦ refl | false ↦ refl ]
 or_and false b f = refl
@@ -50,7 +50,7 @@ both false b g h = absurd g
 pub tied : (q k : Pending) → eq_by_cmp pending_cmp q k ≡ true → q ≡ k
 tied q k e = pending_cmp-IsAntisymmetric q k ((Equal-is (pending_cmp q k)).0 e)
 
-same : (s t : Pendings) → ((q : Pending) → has s q ≡ has t q) → s ≡ t
+pub same : (s t : Pendings) → ((q : Pending) → has s q ≡ has t q) → s ≡ t
 same = same_sets pending_cmp_total pending_cmp-IsAntisymmetric
 
 -- in one of both
@@ -114,7 +114,7 @@ module _ (p : Pending → Bool) where
       ∙ ap (λ b. b && p q) (sym (has-pairs tree row q)) ∙ sym (has-those pending_cmp_total (pairs_of tree row) p q (alike q)))
 
 -- ---- how many
-length-with : (s : Pendings) (k : Pending) → has s k ≡ false → length (members (with_member s k)) ≡ length (members s) + 1
+pub length-with : (s : Pendings) (k : Pending) → has s k ≡ false → length (members (with_member s k)) ≡ length (members s) + 1
 unfolding has members with_member
 length-with s k e =
     length-map _ _ ∙ ap length (entries-checked _ _ refl s (is_sorted-put pending_cmp pending_cmp_total k tt s.entries s.ascending))
@@ -246,6 +246,35 @@ module _ (tree row new : List Pending) (k : Pending) (r : BothRise tree row) (h 
   put_set = same _ _ (λ q.
       has-pairs tree new q ∙ ap (λ b. b || stands_in tree q) (listed q) ∙ or_or (eq_by_cmp pending_cmp q k) (stands_in row q) (stands_in tree q)
       ∙ ap (λ b. eq_by_cmp pending_cmp q k || b) (sym (has-pairs tree row q)) ∙ sym (has-with_member pending_cmp_total (pairs_of tree row) k q))
+
+-- whether a pair is there
+pub in_tree_or_row : (tree row : List Pending) (k : Pending) (new there : Bool) → Rises pending_cmp row → new ≡ not (stands_in tree k) → new ≡ true → there ≡ has (set_of_rising {R = pending_cmp} row) k → there ≡ has (pairs_of tree row) k
+in_tree_or_row tree row k new there h is fresh found =
+    found ∙ has-set_of_rising pending_cmp_total row k h ∙ sym (has-pairs tree row k ∙ around (stands_in row k) (stands_in tree k) (sym is ∙ fresh))
+  where
+    around : (a b : Bool) → not b ≡ true → (a || b) ≡ a
+    around true b e = refl
+    around false true e = cc
+    around false false e = refl
+
+pub in_the_tree : (tree row : List Pending) (k : Pending) (new : Bool) → new ≡ not (stands_in tree k) → new ≡ false → true ≡ has (pairs_of tree row) k
+in_the_tree tree row k new is out = sym (has-pairs tree row k ∙ or_true (stands_in row k) _ (around (stands_in tree k) (sym is ∙ out)))
+  where
+    around : (b : Bool) → not b ≡ false → b ≡ true
+    around true e = refl
+    around false e = cc
+
+-- a pair goes into the tree
+pub inserted_set : (tree row tree' : List Pending) (k : Pending) → ((q : Pending) → stands_in tree' q ≡ cond (eq_by_cmp pending_cmp k q) true (stands_in tree q)) → pairs_of tree' row ≡ with_member (pairs_of tree row) k
+inserted_set tree row tree' k put = same _ _ (λ q.
+    has-pairs tree' row q ∙ ap (λ b. stands_in row q || b) (put q ∙ ap (λ b. cond b true (stands_in tree q)) ((eq_by_cmp_equiv pending_cmp_total).symm k q))
+    ∙ around (stands_in row q) (eq_by_cmp pending_cmp q k) (stands_in tree q) ∙ ap (λ b. eq_by_cmp pending_cmp q k || b) (sym (has-pairs tree row q)) ∙ sym (has-with_member pending_cmp_total (pairs_of tree row) k q))
+  where
+    around : (r e t : Bool) → (r || cond e true t) ≡ (e || (r || t))
+    around true true t = refl
+    around true false t = refl
+    around false true t = refl
+    around false false t = refl
 
 -- the last of the row moves to the tree
 module _ (tree row tree' row' : List Pending) (k : Pending) (r : BothRise tree row) (last : row ≡ row' ++ k ∷ []) (h : Rises pending_cmp tree')

@@ -1,3 +1,4 @@
 pub mod Due
+pub mod Far
 pub mod Order
 pub mod Rows

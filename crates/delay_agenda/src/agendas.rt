@@ -1,46 +1,50 @@
 //! The agenda of a server: the events that are due at later instants.
-ghost use Rattle.std.specs.Prelude.{◌≡◌, ◌≤◌, ◌+◌, ◌||◌, not, length, ◌↔◌, ◌<◌, ◌⊎◌, OnOk, IfOk, IsNone, IfSome};
+ghost use Rattle.std.specs.Prelude.{◌≡◌, ◌≤◌, ◌+◌, ◌||◌, not, length, ◌↔◌, OnOk, IfOk, IsNone, IfSome};
 ghost use Rattle.gt_base.specs.declared.events.Prioritised.{Prioritised};
 ghost use Rattle.gt_base.specs.Sets.{has, members, none, those, with_member};
 ghost use Rattle.delay_agenda.specs.Due.{pending_at, is_due_at, count_due, IsLeastDue};
 
+use crate::far;
+use crate::near::Near;
 use crate::pairs::Pending;
-use crate::{rows, trees};
 use gt_base::{Happened, Instant, Memory, Prioritised};
 use std::alloc::Global;
-use std::collections::BTreeSet;
 use std::marker::Model;
 
 /// A set of events with their due instants, seen as the set of the pairs and the number of further
-/// pairs that it has room for. The pairs stand in a tree, and those that were put since room was
-/// last made in a row beside it; a pair may stand in both. A question about an instant looks at the
-/// pairs that are due then, at few others on the way to them, and at the row.
+/// pairs that it has room for. Those that are due up to a horizon stand in order; the others, which
+/// may be many and due far ahead, in none, and a pair may stand there twice.
 pub struct Agenda {
-    tree: BTreeSet<Pending>,
-    row: Vec<Pending>,
+    near: Near,
+    far: Vec<Pending>,
+    horizon: u32,
 }
 
 impl Model for Agenda {
-    ghost use Rattle.std.specs.Prelude.{◌-◌, vec_capacity, vec_len};
+    ghost use Rattle.std.specs.Prelude.{◌-◌, min, vec_capacity, vec_len};
     ghost use Rattle.gt_base.specs.Happening.{Roomier, roomier_code};
     ghost use Rattle.delay_agenda.specs.Due.{Pendings, pendings_code};
-    ghost use Rattle.delay_agenda.specs.Rows.{BothRise, pairs_of};
+    ghost use Rattle.delay_agenda.specs.Far.{AreBehind, all_over};
 
     ghost Value = { Roomier Pendings };
 
     ghost coded = { roomier_code pendings_code };
 
     ghost view = { λ a. record {
-      set = pairs_of a.tree.keys a.row.items;
-      spare = vec_capacity a.row - vec_len a.row;
+      set = all_over a.near.set a.far.items;
+      spare = min a.near.spare (vec_capacity a.far - vec_len a.far);
     } };
 
-    ghost invariant = { λ a. BothRise a.tree.keys a.row.items };
+    ghost invariant = { λ a. AreBehind a.horizon a.far.items };
 }
 
 impl Drop for Agenda {
     fn drop(self) {
-        let Agenda { tree: _, row: _ } = self;
+        let Agenda {
+            near: _,
+            far: _,
+            horizon: _,
+        } = self;
     }
 }
 
@@ -51,20 +55,39 @@ impl Agenda {
         ensures spare { result.spare ≡ 0 }
     {
         Agenda {
-            tree: BTreeSet::new(alloc),
-            row: Vec::new(alloc),
+            near: Near::new(alloc),
+            far: Vec::new(alloc),
+            horizon: 0,
         }
     }
 
-    /// Makes room for n more pairs; those of the row move to the tree. For want of memory it may
-    /// refuse; the set is then as it was, and the room no less.
+    /// Makes room for n more pairs; where few stand in order, further ones are put there. For want
+    /// of memory it may refuse; the set is then as it was, and the room no less.
     pub fn reserve(&mut self, n: usize) -> Result<(), Memory>
         ensures set { self.new.set ≡ self.old.set }
         ensures spare { self.old.spare ≤ self.new.spare }
         ensures room { OnOk result (n ≤ self.new.spare) }
     {
-        trees::move_all(&mut self.tree, &mut self.row)?;
-        self.row.reserve(n)
+        self.near.reserve(n)?;
+        self.far.reserve(n)?;
+        if self.near.len() < self.far.len() / 8 {
+            let to = far::further(&self.far);
+            far::bring(&mut self.near, &mut self.far, &mut self.horizon, to)?;
+        }
+        Ok(())
+    }
+
+    /// Puts the pairs that are due up to the instant in order, and some that are due later. For
+    /// want of memory it may refuse. The set stays as it was, and the room is no less.
+    pub fn look_ahead(&mut self, to: Instant) -> Result<(), Memory>
+        ensures set { self.new.set ≡ self.old.set }
+        ensures spare { self.old.spare ≤ self.new.spare }
+    {
+        if to.minute() > self.horizon {
+            let further = far::further(&self.far).max(to.minute());
+            far::bring(&mut self.near, &mut self.far, &mut self.horizon, further)?;
+        }
+        Ok(())
     }
 
     /// An agenda with the same pairs. For want of memory it may refuse.
@@ -72,8 +95,9 @@ impl Agenda {
         ensures { IfOk result (λ copy. copy.set ≡ self.now.set) }
     {
         Ok(Agenda {
-            tree: self.tree.clone()?,
-            row: Vec::from_slice(*self.row.allocator(), &self.row)?,
+            near: self.near.copied()?,
+            far: Vec::from_slice(*self.far.allocator(), &self.far)?,
+            horizon: self.horizon,
         })
     }
 
@@ -81,7 +105,7 @@ impl Agenda {
     pub fn len(&self) -> usize
         ensures { result ≡ length (members self.now.set) }
     {
-        self.tree.len() + rows::count_new(&self.row, &self.tree)
+        self.near.len() + far::count(&self.far, &self.near)
     }
 
     /// Adds an event that is due at the instant, into room that was made before. At most one of the
@@ -91,7 +115,14 @@ impl Agenda {
         ensures set { self.new.set ≡ with_member self.old.set (pending_at due p) }
         ensures spare { self.old.spare ≤ self.new.spare + 1 }
     {
-        rows::put(&mut self.row, Pending { due, event: p });
+        if due.minute() > self.horizon {
+            match self.far.push(Pending { due, event: p }) {
+                Ok(()) => {}
+                Err(_) => unreachable!(),
+            }
+        } else {
+            self.near.put(due, p);
+        }
     }
 
     /// The least instant at which something is due; none exactly where nothing is.
@@ -99,19 +130,14 @@ impl Agenda {
         ensures none { IsNone result ↔ (self.now.set ≡ none) }
         ensures some { IfSome result (IsLeastDue self.now.set) }
     {
-        match (self.tree.last(), self.row.last()) {
-            (Some(p), Some(q)) => Some(lesser(p.due, q.due)),
-            (Some(p), None) => Some(p.due),
-            (None, Some(q)) => Some(q.due),
-            (None, None) => None,
-        }
+        far::next_due(self.near.next_due(), &self.far, self.horizon)
     }
 
     /// How many pairs are due at the instant, so for how many `take` wants room.
     pub fn due_count(&self, t: Instant) -> usize
         ensures { result ≡ count_due self.now.set t }
     {
-        trees::count_due(&self.tree, t) + rows::count_due(&self.row, &self.tree, t)
+        self.near.due_count(t) + far::count_due(&self.far, &self.near, t, self.horizon)
     }
 
     /// Adds the events that are due at the instant to a set of an instant, where room was made
@@ -124,8 +150,8 @@ impl Agenda {
         ensures signals { into.new.set.signals ≡ into.old.set.signals }
         ensures spare { into.old.spare ≤ into.new.spare + count_due self.now.set t }
     {
-        trees::tell_due(&self.tree, t, into);
-        rows::tell_due(&self.row, &self.tree, t, into);
+        far::tell(&self.far, &self.near, t, self.horizon, into);
+        self.near.tell(t, into);
     }
 
     /// Takes out the pairs that are due at the instant, and keeps the others.
@@ -133,8 +159,8 @@ impl Agenda {
         ensures set { self.new.set ≡ those self.old.set (λ p. not (is_due_at t p)) }
         ensures spare { self.old.spare ≤ self.new.spare }
     {
-        trees::forget_due(&mut self.tree, t);
-        rows::forget_due(&mut self.row, t);
+        self.near.forget(t);
+        far::forget(&mut self.far, t, self.horizon);
     }
 
     /// Moves the events that are due at the instant into a set of an instant, where room was made
@@ -149,16 +175,7 @@ impl Agenda {
         ensures set { self.new.set ≡ those self.old.set (λ p. not (is_due_at t p)) }
         ensures room { self.old.spare ≤ self.new.spare }
     {
-        trees::tell_due(&self.tree, t, into);
-        rows::tell_due(&self.row, &self.tree, t, into);
-        trees::forget_due(&mut self.tree, t);
-        rows::forget_due(&mut self.row, t);
+        self.tell(t, into);
+        self.forget(t);
     }
-}
-
-/// The lesser of the two.
-fn lesser(t: Instant, u: Instant) -> Instant
-    ensures { ((t ≤ u) × (result ≡ t)) ⊎ ((u < t) × (result ≡ u)) }
-{
-    if t <= u { t } else { u }
 }

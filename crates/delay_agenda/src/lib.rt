@@ -2,7 +2,9 @@
 #![tactic(auto)]
 
 mod agendas;
+mod far;
 mod laws;
+mod near;
 mod pairs;
 mod rows;
 mod trees;

@@ -22,6 +22,17 @@ fn find(items: &[Pending], k: &Pending) -> Result<usize, usize>
     items.binary_search(k)
 }
 
+/// Whether the pair stands in the row.
+pub(crate) fn is_in(items: &[Pending], k: &Pending) -> bool
+    requires { Rises pending_cmp items.now }
+    ensures { result ≡ has (set_of_rising {R = pending_cmp} items.now) k.now }
+{
+    match find(items, k) {
+        Ok(_) => true,
+        Err(_) => false,
+    }
+}
+
 /// Puts the pair in, unless it is there.
 pub(crate) fn put(items: &mut Vec<Pending>, k: Pending)
     requires rises { Rises pending_cmp items.old.items }
@@ -41,7 +52,7 @@ pub(crate) fn put(items: &mut Vec<Pending>, k: Pending)
 }
 
 /// Whether the tree lacks the pair.
-fn is_new(tree: &BTreeSet<Pending>, p: &Pending) -> bool
+pub(crate) fn is_new(tree: &BTreeSet<Pending>, p: &Pending) -> bool
     ensures { result ≡ not (stands_in tree.now.keys p.now) }
 {
     !tree.contains(p)

@@ -32,7 +32,7 @@ use std::alloc::Global;
 use trigger_rules::met_in;
 
 /// What closing the timeline at the instant would give.
-pub(crate) fn planned(s: &TimelineState, g: &Ground, to: Instant) -> Result<Plan, Memory>
+fn planned(s: &TimelineState, g: &Ground, to: Instant) -> Result<Plan, Memory>
     requires stands { StandsFor g.now.policy (view_of s.now) }
     requires kept { IsTimeline (view_of s.now) }
     requires later { s.now.present < to }
@@ -41,6 +41,38 @@ pub(crate) fn planned(s: &TimelineState, g: &Ground, to: Instant) -> Result<Plan
 {
     let base = base(s, g.policy(), to)?;
     planned_over(s, g, base.copied()?, to)
+}
+
+/// The same, with what is due up to the instant put in order before, and the room for the plan made
+/// after. For want of memory it may refuse. The timeline stays as it is seen.
+pub(crate) fn prepared(s: &mut TimelineState, g: &Ground, to: Instant) -> Result<Plan, Memory>
+    requires stands { StandsFor g.now.policy (view_of s.old) }
+    requires kept { IsTimeline (view_of s.old) }
+    requires later { s.old.present < to }
+    ensures view { view_of s.new ≡ view_of s.old }
+    ensures spare { s.new.signals.spare ≡ s.old.signals.spare }
+    ensures low { room_of s.old ≤ room_of s.new }
+    ensures quiet { s.new.quiet.set ≡ s.old.quiet.set }
+    ensures at { IfOk result (λ plan. plan.at ≡ to) }
+    ensures plan { IfOk result (IsPlan g.now.policy (view_of s.old)) }
+    ensures room { IfOk result (λ plan. plan.need ≤ room_of s.new) }
+{
+    look_ahead(s, to)?;
+    let plan = planned(s, g, to)?;
+    make_room(s, plan.need())?;
+    Ok(plan)
+}
+
+/// Puts what is due up to the instant in order. For want of memory it may refuse. The timeline stays
+/// as it is seen.
+fn look_ahead(s: &mut TimelineState, to: Instant) -> Result<(), Memory>
+    ensures view { view_of s.new ≡ view_of s.old }
+    ensures present { s.new.present ≡ s.old.present }
+    ensures spare { s.new.signals.spare ≡ s.old.signals.spare }
+    ensures low { room_of s.old ≤ room_of s.new }
+    ensures quiet { s.new.quiet.set ≡ s.old.quiet.set }
+{
+    s.pending.look_ahead(to)
 }
 
 /// The same, over its base.
@@ -143,7 +175,7 @@ pub(crate) fn later(t: Instant, minutes: u32) -> Option<Instant>
 }
 
 /// Makes room for a plan that needs this much.
-pub(crate) fn make_room(s: &mut TimelineState, need: usize) -> Result<(), Memory>
+fn make_room(s: &mut TimelineState, need: usize) -> Result<(), Memory>
     ensures view { view_of s.new ≡ view_of s.old }
     ensures spare { s.new.signals.spare ≡ s.old.signals.spare }
     ensures low { room_of s.old ≤ room_of s.new }

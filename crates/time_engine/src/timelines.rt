@@ -10,7 +10,7 @@ ghost use Rattle.time_engine.specs.Kept.{view_of};
 ghost use Rattle.time_engine.specs.Plans.{ClosesTimeline, Fits, IsAfter, IsPlan, IsTimeline, NoneStirs, with_pending, with_signal, with_trace};
 ghost use Rattle.time_engine.specs.Traces.{model_of};
 
-use crate::closing::{follow, later, make_room, planned};
+use crate::closing::{follow, prepared};
 use crate::copying::copied_trace;
 use crate::dues::{due, due_in_looks};
 use crate::grounds::Ground;
@@ -184,8 +184,7 @@ impl Timeline {
         ensures fits { IfOk result (Fits self.old.line) }
         ensures room { IfOk result (λ p. p.need ≤ self.new.room) }
     {
-        let plan = planned(&self.state, g, to)?;
-        make_room(&mut self.state, plan.need())?;
+        let plan = prepared(&mut self.state, g, to)?;
         Ok(plan)
     }
 

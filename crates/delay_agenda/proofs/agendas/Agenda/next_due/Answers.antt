@@ -1,32 +1,15 @@
-use Rattle.std.proofs.Common.{refl, is_some, ap, sym, arith, ◌∙◌}
-use Rattle.delay_agenda.proofs.DueLaws.{last_is_least, no_last, some_last}
-use Rattle.delay_agenda.proofs.RowLaws.{least_of_both, least_of_row, least_of_tree, no_items, both_empty, then_empty}
+use Rattle.std.proofs.Common.{sym, subst}
+use Rattle.gt_base.specs.Sets.{has}
+use Rattle.delay_agenda.proofs.FarLaws.{IsNext, next_over, least_of_next, none_of_next}
 use Rattle.delay_agenda.proofs.agendas.Agenda.next_due.Goals as goal
 
-pub returns-in-Some-Some-clause-none : goal.returns-in-Some-Some-clause-none
-returns-in-Some-Some-clause-none c = (λ e. cc, λ e. absurd (omega (arith, then_empty _ _ (ap (λ v. v.set) c.self.view_is ∙ e), c.in-Some-Some.ensures.variant.0 refl)))
+next : (c : goal.After-next_due-2) → IsNext (has c.args.self.now.set) c.next_due-2.result
+next c =
+    subst (λ o. IsNext (has c.args.self.now.set) o) (sym c.next_due-2.ensures)
+    (rw (← c.self.view_is, c.deref.ensures.value) (next_over c.self.inside.near.set c.next_due.result c.self.inside.far.items c.next_due.ensures.none c.next_due.ensures.some))
 
-pub returns-in-Some-Some-clause-some : goal.returns-in-Some-Some-clause-some
-returns-in-Some-Some-clause-some c =
-    rw (← c.self.view_is, ← c.deref.ensures.value)
-    (least_of_both _ _ _ _ _ (last_is_least _ _ c.self.invariant.tree_rises c.in-Some-Some.ensures.last) (last_is_least _ _ (rw c.deref.ensures.value c.self.invariant.row_rises) (sym c.in-Some-Some.ensures'.value)) c.lesser.ensures)
+pub returns-clause-none : goal.returns-clause-none
+returns-clause-none c = none_of_next _ _ (next c)
 
-pub returns-in-Some-None-clause-none : goal.returns-in-Some-None-clause-none
-returns-in-Some-None-clause-none c = (λ e. cc, λ e. absurd (omega (arith, then_empty _ _ (ap (λ v. v.set) c.self.view_is ∙ e), c.in-Some-None.ensures.variant.0 refl)))
-
-pub returns-in-Some-None-clause-some : goal.returns-in-Some-None-clause-some
-returns-in-Some-None-clause-some c =
-    rw (← c.self.view_is, ← c.deref.ensures.value)
-    (least_of_tree _ _ _ (last_is_least _ _ c.self.invariant.tree_rises c.in-Some-None.ensures.last) (no_last _ c.in-Some-None.ensures'.value))
-
-pub returns-in-None-Some-clause-none : goal.returns-in-None-Some-clause-none
-returns-in-None-Some-clause-none c =
-    (λ e. cc, λ e. absurd (omega (arith, then_empty _ _ (ap (λ v. v.set) c.self.view_is ∙ e), some_last c.deref.result.now c.in-None-Some.q.now (sym c.in-None-Some.ensures'.value), c.deref.ensures.len)))
-
-pub returns-in-None-Some-clause-some : goal.returns-in-None-Some-clause-some
-returns-in-None-Some-clause-some c =
-    rw (← c.self.view_is, ← c.deref.ensures.value)
-    (least_of_row _ _ _ (last_is_least _ _ (rw c.deref.ensures.value c.self.invariant.row_rises) (sym c.in-None-Some.ensures'.value)) (no_items _ (λ lt. sym (ap is_some c.in-None-Some.is-0) ∙ c.last.ensures.variant.1 lt)))
-
-pub returns-in-None-None-clause-none : goal.returns-in-None-None-clause-none
-returns-in-None-None-clause-none c = (λ e. rw (← c.self.view_is, ← c.deref.ensures.value) (both_empty _ _ (no_items _ c.in-None-None.ensures.variant.1) (no_last _ c.in-None-None.ensures'.value)), λ e. refl)
+pub returns-clause-some : goal.returns-clause-some
+returns-clause-some c = least_of_next _ _ (next c)

@@ -2,7 +2,7 @@ use Rattle.std.proofs.Common.{◌≡◌, ◌+◌, length, arith}
 use Rattle.delay_agenda.specs.Due.{count_due}
 use Rattle.delay_agenda.specs.Rows.{due_in, new_due_in}
 use Rattle.delay_agenda.proofs.RowLaws.{count_due_pairs, told_both}
-use Rattle.delay_agenda.proofs.agendas.Agenda.tell.Goals as goal
+use Rattle.delay_agenda.proofs.near.Near.tell.Goals as goal
 
 pub tell_due-requires : goal.tell_due-requires
 tell_due-requires c =
