@@ -42,13 +42,13 @@ def explained(count):
 
 
 def ticked(count):
-    """Twenty minutes that charge an activation each of so many users, beyond what opens them."""
+    """200 minutes that charge an activation each of so many users, beyond what opens them."""
     policy = crowd(1) + 'cap day r0 1440\nenabled r0\n'
     policy += ''.join('assigned %s r0\n' % user for user in USERS)
     lines = ['@ 2026-01-05T00:00']
     for i, user in enumerate(USERS[:count]):
         lines += ['as ' + user, 'open', 'activate %d r0' % (i + 1)]
-    later = ['@ 2026-01-05T00:%02d' % minute for minute in range(1, 21)]
+    later = ['@ 2026-01-05T%02d:%02d' % divmod(minute, 60) for minute in range(1, 201)]
     return run(policy, lines + later).seconds - run(policy, lines).seconds
 
 
@@ -84,7 +84,7 @@ def capped(kind):
 
 CASES = [
     ('`event` lines over as many events', looked_up, 20_000),
-    ('20 ticks under `cap day`, an activation each of users', ticked, 2_500),
+    ('200 ticks under `cap day`, an activation each of users', ticked, 2_500),
     ('`why` behind an instant of events', explained, 20_000),
     ('requests with falling delays', falling, 125_000),
     ('requests with rising delays, all due', rising, 112_500),
