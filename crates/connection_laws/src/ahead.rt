@@ -39,7 +39,8 @@ pub(crate) fn line_at(
     }
 }
 
-/// The first lines of a piece that end in it, as they are read. Without memory they are fewer.
+/// The first lines of a piece, as they are read; the last of a piece may go on. Without memory they
+/// are fewer.
 pub(crate) fn read_ahead<'a>(alloc: Global, policy: &Policy, piece: &'a [u8]) -> Vec<ReadLine<'a>>
     ensures read { AreRead policy.now result.items }
 {
