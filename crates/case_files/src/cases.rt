@@ -24,7 +24,7 @@ use gt_text::{Words, read_between};
 use std::alloc::{AllocError, Global};
 
 /// A line says nothing of a case, or there was no memory.
-#[derive(Clone, Copy, Debug)]
+#[derive(Clone, Copy)]
 pub(crate) enum Fault {
     Memory,
     Line,

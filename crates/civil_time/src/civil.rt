@@ -9,7 +9,7 @@ use gt_base::Instant;
 use jiff_core::civil::Date;
 
 /// A minute by its date and time of day, in the proleptic Gregorian calendar without time zones.
-#[derive(Clone, Copy, Debug, PartialEq, Eq)]
+#[derive(Clone, Copy, PartialEq, Eq)]
 pub struct Civil {
     /// The year, as 2026.
     pub year: u16,
@@ -24,7 +24,7 @@ pub struct Civil {
 }
 
 /// The years 2000 to 2099 have no such minute.
-#[derive(Clone, Copy, Debug, PartialEq, Eq)]
+#[derive(Clone, Copy, PartialEq, Eq)]
 pub struct NoSuchMinute;
 
 /// How many days lie between the first date of jiff's calendar and 2000-01-01.

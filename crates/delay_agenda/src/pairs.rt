@@ -9,7 +9,7 @@ use std::cmp::Ordering;
 
 /// An event with the instant at which it is due. Of two pairs the one that is due later stands
 /// first, and of two that are due together the one with the lesser event.
-#[derive(Clone, Copy, PartialEq, Eq, Debug)]
+#[derive(Clone, Copy, PartialEq, Eq)]
 pub struct Pending {
     pub due: Instant,
     pub event: Prioritised,

@@ -14,7 +14,7 @@ use std::alloc::Global;
 use time_engine::Timeline;
 
 /// An instant at which a fluent is no longer as it was, and whether it is on there.
-#[derive(Clone, Copy, PartialEq, Eq, Debug)]
+#[derive(Clone, Copy, PartialEq, Eq)]
 pub struct Change {
     pub at: Instant,
     pub on: bool,

@@ -392,6 +392,9 @@ no_grants p r ws e = has-set_of fluent_cmp_total (flat_map fluents_of ws) (Grant
     each (w ∷ xs) h = both_off _ _ (other_word p r w (first_off _ _ h)) (each xs (second_off (is_of_perms w.place.row) _ h))
 
 -- what is on and in no word is known
+pub has_lit : (s : Flagged) (ws : List FlagWord) (f : Fluent) → AreApart s ws → is_among s.known f ≡ true → is_lit s f ≡ has (set_of_parts s ws) f
+has_lit s ws f apart known = sym (or_false (is_lit s f)) ∙ ap (λ b. is_lit s f || b) (sym (apart f known)) ∙ sym (has_parts s ws f)
+
 pub known_but_for_words : (s : Flagged) (ws : List FlagWord) (f : Fluent) → has (set_of_words ws) f ≡ false → has (set_of_parts s ws) f ≡ true → is_among s.known f ≡ true
 known_but_for_words s ws f none on = by (is_among s.known f) refl
   where
@@ -405,6 +408,6 @@ pub off_of : (b : Bool) → not b ≡ true → b ≡ false
 off_of true e = cc
 off_of false e = refl
 
-pub some_so : {A : Type 0} {P Q : A → Type 0} (o : Option A) → ((a : A) → P a → Q a) → IfSome o P → IfSome o Q
-some_so None f x = x
-some_so (Some a) f x = f a x
+pub some_so : {A : Type 0} {P Q R : A → Type 0} (o : Option A) → ((a : A) → P a → Q a → R a) → IfSome o P → IfSome o Q → IfSome o R
+some_so None f x y = x
+some_so (Some a) f x y = f a x y

@@ -3,6 +3,9 @@ use Rattle.std.specs.Prelude.{◌≡◌, ℕ, ◌<◌, Bool, true, false, not, �
 use Rattle.std.specs.List.{HoldsAt, flat_map, list_any}
 use Rattle.std.specs.Ordering.{eq_by_cmp}
 use Rattle.gt_base.specs.declared.events.Fluent.{Fluent}
+use Rattle.gt_base.specs.declared.events.Fluent.TheVariants.{Granted}
+use Rattle.gt_base.specs.declared.events.PermId.{PermId}
+use Rattle.gt_base.specs.declared.events.RoleId.{RoleId}
 use Rattle.gt_base.specs.declared.words.FlagWord.{FlagWord}
 use Rattle.gt_base.specs.Orders.{fluent_cmp}
 use Rattle.gt_base.specs.Sets.{SetOf, has, set_of}
@@ -51,3 +54,8 @@ AreApart s ws = (x : Fluent) → is_among s.known x ≡ true → has (set_of_wor
 -- the set of the fluents that are lit and of those that words stand for
 unfoldable pub set_of_parts : Flagged → List FlagWord → SetOf fluent_cmp
 set_of_parts s ws = set_of (flagged s.known s.on ++ flat_map fluents_of ws)
+
+-- no other role has the permission, and this one as it is said
+abbrev pub IsOnlyGrant : (Fluent → Bool) → PermId → RoleId × Bool → Type 0
+IsOnlyGrant has perm (role, on) =
+    (on ≡ has (Granted perm role)) × ((r : RoleId) → has (Granted perm r) ≡ true → r ≡ role)

@@ -1,12 +1,14 @@
 //! Fluents with a flag each: the row of fluents is shared by copies, and the flags are each copy's
 //! own.
 ghost use Rattle.std.specs.Prelude.{◌≡◌, ◌<◌, [], ◌++◌, true, false, map, length, flat_map, slice_index_or, slice_set, IfOk, IfSome, MatchOption};
+ghost use Rattle.std.specs.List.{HoldsAt};
+ghost use Rattle.gt_base.specs.declared.events.Fluent.{Fluent};
 ghost use Rattle.gt_base.specs.declared.events.RoleId.{RoleId};
 ghost use Rattle.gt_base.specs.declared.events.Fluent.TheVariants.{Granted};
 ghost use Rattle.gt_base.specs.Orders.{fluent_cmp};
 ghost use Rattle.gt_base.specs.Sets.{has, members, set_of, Rises};
 ghost use Rattle.gt_base.specs.Words.{fluents_of, AreWords};
-ghost use Rattle.gt_base.specs.Flags.{flagged, is_among, is_lit, IsPlace, IsWith, IsWithout, AreApart, set_of_parts};
+ghost use Rattle.gt_base.specs.Flags.{flagged, is_among, is_lit, IsPlace, IsWith, IsWithout, AreApart, IsOnlyGrant, set_of_parts};
 
 use crate::events::{Fluent, PermId, RoleId};
 use crate::known::Known;
@@ -97,19 +99,34 @@ impl Flags {
             (λ flag. (is_among self.now.known f ≡ true) × (flag ≡ is_lit self.now f)) }
     {
         match self.place(f) {
-            Some(at) => Some(flag_at(&self.on, at)),
+            Some(at) => Some(self.flag_at(at)),
             None => None,
         }
     }
 
-    /// The only role to which a fluent with a flag grants the permission, where it is quickly found
-    /// that there is just one.
-    fn only_known(&self, perm: PermId) -> Option<RoleId>
-        ensures { IfSome result (λ role. (r : RoleId)
+    /// The flag of the fluent that stands at the place.
+    fn flag_at(&self, at: usize) -> bool
+        requires { at < length self.now.known }
+        ensures { (f : Fluent) → HoldsAt (λ k. k ≡ f) self.now.known at
+            → (is_among self.now.known f ≡ true) × (result ≡ is_lit self.now f) }
+    {
+        flag_at(&self.on, at)
+    }
+
+    /// The only role to which a fluent with a flag grants the permission, with the flag, where it
+    /// is quickly found that there is just one.
+    fn only_known(&self, perm: PermId) -> Option<(RoleId, bool)>
+        ensures flag { IfSome result (λ (role, flag).
+            (is_among self.now.known (Granted perm role) ≡ true)
+            × (flag ≡ is_lit self.now (Granted perm role))) }
+        ensures alone { IfSome result (λ (role, flag). (r : RoleId)
             → is_among self.now.known (Granted perm r) ≡ true → r ≡ role) }
     {
         match &self.known {
-            Some(known) => known.only_role(perm),
+            Some(known) => {
+                let (role, at) = known.only_role(perm)?;
+                Some((role, self.flag_at(at)))
+            }
             None => None,
         }
     }
@@ -198,11 +215,12 @@ pub(crate) fn is_on_in(flags: &Flags, more: &[FlagWord], f: Fluent) -> bool
 /// So many words are looked at quickly.
 const FEW: usize = 16;
 
-/// The only role to which a fluent that is on grants the permission, where it is quickly found that
-/// no other is.
-pub(crate) fn only_role_in(flags: &Flags, more: &[FlagWord], perm: PermId) -> Option<RoleId>
-    ensures { IfSome result (λ role. (r : RoleId) → has (set_of_parts flags.now more.now)
-        (Granted perm r) ≡ true → r ≡ role) }
+/// The only role to which a fluent that is on may grant the permission, and whether it does, where
+/// it is quickly found that no other is.
+pub(crate) fn only_role_in(flags: &Flags, more: &[FlagWord], perm: PermId) -> Option<(RoleId, bool)>
+    requires words { AreWords more.now }
+    requires apart { AreApart flags.now more.now }
+    ensures { IfSome result (IsOnlyGrant (has (set_of_parts flags.now more.now)) perm) }
 {
     if more.len() <= FEW && grant_nothing(more) {
         flags.only_known(perm)

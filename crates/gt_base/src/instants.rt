@@ -5,7 +5,7 @@ use crate::limits::{LAST_MINUTE, MAX_PRIO};
 use std::marker::Model;
 
 /// A civil minute of the years 2000 to 2099, seen as its number.
-#[derive(Clone, Copy, PartialEq, Eq, PartialOrd, Ord, Debug)]
+#[derive(Clone, Copy, PartialEq, Eq, PartialOrd, Ord)]
 pub struct Instant {
     minute: u32,
 }
@@ -54,7 +54,7 @@ impl Instant {
 }
 
 /// A priority, 0 to 100, seen as its number.
-#[derive(Clone, Copy, PartialEq, Eq, PartialOrd, Ord, Debug)]
+#[derive(Clone, Copy, PartialEq, Eq, PartialOrd, Ord)]
 pub struct Prio {
     level: u8,
 }

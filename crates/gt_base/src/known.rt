@@ -81,17 +81,17 @@ impl Known {
         place_by(&self.fluents, self.guess(f), f)
     }
 
-    /// The only role to which a known fluent grants the permission, where it is quickly found that
-    /// there is just one.
-    pub(crate) fn only_role(&self, perm: PermId) -> Option<RoleId>
-        ensures { IfSome result (λ role. (r : RoleId) → is_among self.now (Granted perm r) ≡ true
-            → r ≡ role) }
+    /// The only role to which a known fluent grants the permission, and where the fluent stands, if
+    /// it is quickly found that there is just one.
+    pub(crate) fn only_role(&self, perm: PermId) -> Option<(RoleId, usize)>
+        ensures there { IfSome result (λ (role, at). (at < length self.now)
+            × HoldsAt (λ k. k ≡ Granted perm role) self.now at) }
+        ensures alone { IfSome result (λ (role, at). (r : RoleId)
+            → is_among self.now (Granted perm r) ≡ true → r ≡ role) }
     {
-        only_at(
-            &self.fluents,
-            self.guess(Fluent::Granted(perm, RoleId(0))),
-            perm,
-        )
+        let at = self.guess(Fluent::Granted(perm, RoleId(0)));
+        let role = only_at(&self.fluents, at, perm)?;
+        Some((role, at))
     }
 
     /// Where to look for the fluent first.
@@ -248,8 +248,10 @@ fn is_before(fluents: &[Fluent], at: usize, f: Fluent) -> bool
 /// grant it to nobody.
 fn only_at(fluents: &[Fluent], at: usize, perm: PermId) -> Option<RoleId>
     requires { Rises fluent_cmp fluents.now }
-    ensures { IfSome result (λ role. (r : RoleId) → is_among fluents.now (Granted perm r) ≡ true
-        → r ≡ role) }
+    ensures there { IfSome result (λ role. (at < length fluents.now)
+        × HoldsAt (λ k. k ≡ Granted perm role) fluents.now at) }
+    ensures alone { IfSome result (λ role. (r : RoleId)
+        → is_among fluents.now (Granted perm r) ≡ true → r ≡ role) }
 {
     let role = granted_at(fluents, at, perm)?;
     if is_first(fluents, at, perm) && is_last(fluents, at, perm) {

@@ -117,8 +117,12 @@ impl<T: Copy> List<T> {
     pub fn copied(&self) -> Result<List<T>, Memory>
         ensures { IfOk result (λ copy. copy.items ≡ self.now.items) }
     {
+        let alloc = *self.items.allocator();
+        if self.items.is_empty() {
+            return Ok(List::new(alloc));
+        }
         Ok(List {
-            items: Vec::from_slice(*self.items.allocator(), &self.items)?,
+            items: Vec::from_slice(alloc, &self.items)?,
         })
     }
 }

@@ -10,7 +10,7 @@ use crate::instants::Instant;
 use crate::requests::{Actor, Reply, Request, Who};
 
 /// Why a step was refused. A refused step leaves the machine as it was.
-#[derive(Clone, Copy, PartialEq, Eq, Debug)]
+#[derive(Clone, Copy, PartialEq, Eq)]
 pub enum StepFault {
     /// The history has 1,000,000 entries and the step would add one.
     StepsFull,

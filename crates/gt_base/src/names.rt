@@ -8,7 +8,7 @@ use std::marker::Model;
 
 /// A name: 1 to 32 bytes, of which the first is a letter and the others are letters, digits, `_`,
 /// `-` or `.`. It is seen as the list of its bytes.
-#[derive(Clone, Copy, Debug, PartialEq, Eq, Hash)]
+#[derive(Clone, Copy, PartialEq, Eq, Hash)]
 pub struct Name {
     bytes: [u8; LONGEST_NAME],
     len: u8,

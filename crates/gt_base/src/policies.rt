@@ -48,7 +48,7 @@ impl Model for Trigger {
 
 /// When a periodic entry raises its event: at each instant of its period, where the period starts,
 /// or where a span of it begins, with the converse where it ends.
-#[derive(Clone, Copy, PartialEq, Eq, Debug)]
+#[derive(Clone, Copy, PartialEq, Eq)]
 pub enum Form {
     Each,
     Start,
@@ -56,7 +56,7 @@ pub enum Form {
 }
 
 /// A periodic entry: its form, its period and the event that it raises.
-#[derive(Clone, Copy, PartialEq, Eq, Debug)]
+#[derive(Clone, Copy, PartialEq, Eq)]
 pub struct PeriodicEntry {
     pub form: Form,
     pub period: PeriodId,
@@ -64,7 +64,7 @@ pub struct PeriodicEntry {
 }
 
 /// A duration limit: the condition may hold for `most` minutes, within the period if it has one.
-#[derive(Clone, Copy, PartialEq, Eq, Debug)]
+#[derive(Clone, Copy, PartialEq, Eq)]
 pub struct LimitRule {
     pub cond: Cond,
     pub prio: Prio,
@@ -75,7 +75,7 @@ pub struct LimitRule {
 /// An edge of the role hierarchy. It lends the junior's permissions to the senior where it
 /// inherits, and lets who may activate the senior activate the junior where it activates; it does
 /// so while it is linked, and a strong edge needs both roles enabled.
-#[derive(Clone, Copy, PartialEq, Eq, Debug)]
+#[derive(Clone, Copy, PartialEq, Eq)]
 pub struct HierEdge {
     pub senior: RoleId,
     pub junior: RoleId,
@@ -86,7 +86,7 @@ pub struct HierEdge {
 
 /// The caps of one role: activations at once over all sessions and of one user, minutes of one
 /// activation, and charged minutes of a user in a civil day.
-#[derive(Clone, Copy, PartialEq, Eq, Debug)]
+#[derive(Clone, Copy, PartialEq, Eq)]
 pub struct Caps {
     pub total: Option<u32>,
     pub user: Option<u32>,

@@ -7,7 +7,7 @@ use crate::lists::Memory;
 use crate::policies::Walk;
 
 /// Who asks: the operator of a script, a user, or nobody, who opens a connection.
-#[derive(Clone, Copy, PartialEq, Eq, Debug)]
+#[derive(Clone, Copy, PartialEq, Eq)]
 pub enum Actor {
     Operator,
     User(UserId),
@@ -15,14 +15,14 @@ pub enum Actor {
 }
 
 /// The worker, from 0, and its connection, from 1.
-#[derive(Clone, Copy, PartialEq, Eq, Debug)]
+#[derive(Clone, Copy, PartialEq, Eq)]
 pub struct Who {
     pub worker: u32,
     pub conn: u32,
 }
 
 /// What is asked. A delay is in minutes, 0 to 52,595,999.
-#[derive(Clone, Copy, PartialEq, Eq, Debug)]
+#[derive(Clone, Copy, PartialEq, Eq)]
 pub enum Request {
     Now,
     Status(Cond),
@@ -37,7 +37,7 @@ pub enum Request {
 }
 
 /// What an event was at the instant now, with its greatest priority.
-#[derive(Clone, Copy, PartialEq, Eq, Debug)]
+#[derive(Clone, Copy, PartialEq, Eq)]
 pub enum Seen {
     Unblocked(Prio),
     Blocked(Prio),
@@ -65,7 +65,7 @@ impl Drop for Decision {
 }
 
 /// Why a request was refused.
-#[derive(Clone, Copy, PartialEq, Eq, Debug)]
+#[derive(Clone, Copy, PartialEq, Eq)]
 pub enum Refusal {
     NoUser,
     NotAdmin,

@@ -1,12 +1,10 @@
 //! Sets of events, signals and fluents, whose room is taken ahead: events and signals as rising
 //! rows, fluents by flags and as words.
 ghost use Rattle.std.specs.Prelude.{◌≡◌, ◌≤◌, ◌+◌, ◌<◌, if◌then◌else◌, length, slice_get, true, Some, OnOk, IfOk, IfSome, vec_capacity, vec_len};
-ghost use Rattle.gt_base.specs.declared.events.RoleId.{RoleId};
-ghost use Rattle.gt_base.specs.declared.events.Fluent.TheVariants.{Granted};
 ghost use Rattle.gt_base.specs.Sets.{has, members, none, with_member, without};
 ghost use Rattle.gt_base.specs.Happening.{nothing};
 ghost use Rattle.gt_base.specs.Words.{AreWords};
-ghost use Rattle.gt_base.specs.Flags.{AreApart, set_of_parts};
+ghost use Rattle.gt_base.specs.Flags.{AreApart, IsOnlyGrant, set_of_parts};
 
 use crate::events::{Event, Fluent, PermId, Prioritised, RoleId, Signal};
 use crate::flags::{Flags, gathered, is_on_in, only_role_in};
@@ -365,12 +363,11 @@ impl Status {
         is_on_in(&self.flags, &self.words, f)
     }
 
-    /// A role such that the permission is granted to no other, where the status finds one without a
-    /// look at many fluents; it may find none where there is one. Whether the permission is granted
-    /// to it, `is_on` tells. It takes no memory.
-    pub fn only_role(&self, perm: PermId) -> Option<RoleId>
-        ensures { IfSome result (λ role. (r : RoleId) → has self.now.set (Granted perm r) ≡ true
-            → r ≡ role) }
+    /// A role such that the permission is granted to no other, and whether it is granted to it,
+    /// where the status finds one without a look at many fluents; it may find none where there is
+    /// one. It takes no memory.
+    pub fn only_role(&self, perm: PermId) -> Option<(RoleId, bool)>
+        ensures { IfSome result (IsOnlyGrant (has self.now.set) perm) }
     {
         only_role_in(&self.flags, &self.words, perm)
     }

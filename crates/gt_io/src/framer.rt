@@ -7,7 +7,7 @@ use gt_base::LONGEST_LINE;
 use std::marker::Model;
 
 /// What a byte did to the line.
-#[derive(Clone, Copy, PartialEq, Eq, Debug)]
+#[derive(Clone, Copy, PartialEq, Eq)]
 pub enum Framed {
     /// The line goes on.
     More,

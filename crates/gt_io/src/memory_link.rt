@@ -235,7 +235,7 @@ impl Clock for MemClock {
 }
 
 /// A gate that nobody waits at.
-#[derive(Clone, Copy, Debug)]
+#[derive(Clone, Copy)]
 pub struct OpenGate;
 
 impl Gate for OpenGate {

@@ -7,7 +7,7 @@ use crate::source::Failed;
 use gt_base::List;
 
 /// An event that ports in memory are to tell.
-#[derive(Clone, Copy, PartialEq, Eq, Debug)]
+#[derive(Clone, Copy, PartialEq, Eq)]
 pub enum MemEvent {
     /// The next link is opened.
     Open,

@@ -6,7 +6,7 @@ ghost use Rattle.gt_io.specs.Ports.{Harbour, IsOpen, NoneOwed, AreFinished, Next
 use crate::source::Failed;
 
 /// What happens next.
-#[derive(Clone, Copy, PartialEq, Eq, Debug)]
+#[derive(Clone, Copy, PartialEq, Eq)]
 pub enum PortEvent {
     /// A link was opened. Links are numbered from 1 in this order.
     Opened(u32),
@@ -17,7 +17,7 @@ pub enum PortEvent {
 }
 
 /// What a read gave.
-#[derive(Clone, Copy, PartialEq, Eq, Debug)]
+#[derive(Clone, Copy, PartialEq, Eq)]
 pub enum Got {
     /// So many bytes, at least one.
     Bytes(usize),
@@ -28,7 +28,7 @@ pub enum Got {
 }
 
 /// What a write took.
-#[derive(Clone, Copy, PartialEq, Eq, Debug)]
+#[derive(Clone, Copy, PartialEq, Eq)]
 pub enum Took {
     /// So many bytes, at least one.
     Bytes(usize),
@@ -37,7 +37,7 @@ pub enum Took {
 }
 
 /// The last read or write of a link, with its answer.
-#[derive(Clone, Copy, PartialEq, Eq, Debug)]
+#[derive(Clone, Copy, PartialEq, Eq)]
 pub enum Called {
     /// Neither was called.
     Nothing,

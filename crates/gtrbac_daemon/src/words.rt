@@ -21,7 +21,7 @@ pub(crate) fn policy_word(words: &[String]) -> Option<&str>
 }
 
 /// How the program serves a policy.
-#[derive(Clone, Copy, PartialEq, Eq, Debug)]
+#[derive(Clone, Copy, PartialEq, Eq)]
 pub enum Mode {
     /// Workers that each serve one connection after the other.
     Plain,

@@ -1,5 +1,6 @@
 //! What is asked of a hierarchy in a status.
 ghost use Rattle.std.specs.Prelude.{◌≡◌, ℕ, Bool, true, false, Some};
+ghost use Rattle.gt_base.specs.Flags.{IsOnlyGrant};
 ghost use Rattle.gt_base.specs.Sets.{has};
 ghost use Rattle.gt_base.specs.declared.events.Fluent.TheVariants.{Granted};
 ghost use Rattle.gt_base.specs.declared.events.RoleId.{RoleId as RoleView};
@@ -68,14 +69,15 @@ impl<'a> WalkQuestion for Activating<'a> {
 
 /// Whether the permission is granted to the role, where it is granted to no other than the one that
 /// is known, if there is one.
-fn is_granted(status: &Status, perm: PermId, only: Option<RoleId>, role: RoleId) -> bool
-    requires { (known r : RoleView) → only ≡ Some known → has status.now.set (Granted perm r) ≡ true
-        → r ≡ known }
+fn is_granted(status: &Status, perm: PermId, only: Option<(RoleId, bool)>, role: RoleId) -> bool
+    requires { (known : RoleView × Bool) → only ≡ Some known
+        → IsOnlyGrant (has status.now.set) perm known }
     ensures { result ≡ has status.now.set (Granted perm role) }
 {
     match only {
-        Some(known) if known.0 != role.0 => false,
-        _ => status.is_on(Fluent::Granted(perm, role)),
+        Some((known, on)) if known.0 == role.0 => on,
+        Some(_) => false,
+        None => status.is_on(Fluent::Granted(perm, role)),
     }
 }
 
@@ -84,10 +86,10 @@ fn is_granted(status: &Status, perm: PermId, only: Option<RoleId>, role: RoleId)
 pub(crate) struct Lending<'a> {
     pub(crate) status: &'a Status,
     pub(crate) perm: PermId,
-    /// To no other role is it granted.
-    pub(crate) only: Option<RoleId>,
-    ghost alone: { (known r : RoleView) → only ≡ Some known
-        → has status.now.set (Granted perm r) ≡ true → r ≡ known },
+    /// To no other role is it granted, and whether it is to this one.
+    pub(crate) only: Option<(RoleId, bool)>,
+    ghost alone: { (known : RoleView × Bool) → only ≡ Some known
+        → IsOnlyGrant (has status.now.set) perm known },
 }
 
 impl<'a> WalkQuestion for Lending<'a> {
@@ -122,10 +124,10 @@ impl<'a> WalkQuestion for Lending<'a> {
 pub(crate) struct LendingByAny<'a> {
     pub(crate) status: &'a Status,
     pub(crate) perm: PermId,
-    /// To no other role is it granted.
-    pub(crate) only: Option<RoleId>,
-    ghost alone: { (known r : RoleView) → only ≡ Some known
-        → has status.now.set (Granted perm r) ≡ true → r ≡ known },
+    /// To no other role is it granted, and whether it is to this one.
+    pub(crate) only: Option<(RoleId, bool)>,
+    ghost alone: { (known : RoleView × Bool) → only ≡ Some known
+        → IsOnlyGrant (has status.now.set) perm known },
 }
 
 impl<'a> WalkQuestion for LendingByAny<'a> {

@@ -4,7 +4,7 @@ use gt_base::StepFault;
 use turn_lock::Worn;
 
 /// Why a call at the desk was refused. The machine is then as it was.
-#[derive(Clone, Copy, PartialEq, Eq, Debug)]
+#[derive(Clone, Copy, PartialEq, Eq)]
 pub enum DeskFault {
     /// The pass has drawn 2^40 turns.
     Worn { draws: u64 },

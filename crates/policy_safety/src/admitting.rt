@@ -49,7 +49,7 @@ impl Model for Safe {
 /// An edge of the cycle that makes a policy unsafe: whether it is a conflict, its trigger and the
 /// place of the body event among the trigger's body events, both from 0, and the events that it
 /// leads from and to.
-#[derive(Clone, Copy, PartialEq, Eq, Debug)]
+#[derive(Clone, Copy, PartialEq, Eq)]
 pub struct CycleEdge {
     pub conflict: bool,
     pub trigger: u32,

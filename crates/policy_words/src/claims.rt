@@ -5,7 +5,7 @@ use gt_base::Name;
 /// What a line claims for itself: a name that it declares, the ordered pair of an edge, or the kind
 /// and role of a cap, which no other line may claim; or the pair of an assignment or a grant, which
 /// counts once.
-#[derive(Clone, Copy, PartialEq, Eq, Hash, Debug)]
+#[derive(Clone, Copy, PartialEq, Eq, Hash)]
 pub enum Claim {
     Role(Name),
     User(Name),

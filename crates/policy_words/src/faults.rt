@@ -2,7 +2,7 @@
 use periodic_expr::ExprFault;
 
 /// Why a line of a policy says nothing. On one line the first of this order is told.
-#[derive(Clone, Copy, PartialEq, Eq, Debug)]
+#[derive(Clone, Copy, PartialEq, Eq)]
 pub enum TextKind {
     /// It has more than 4,096 bytes.
     Long,

@@ -2,7 +2,7 @@
 use gt_base::{Name, Prio};
 
 /// What is on or off, by names.
-#[derive(Clone, Copy, PartialEq, Eq, Debug)]
+#[derive(Clone, Copy, PartialEq, Eq)]
 pub enum NamedFluent {
     /// The role is enabled.
     Enabled(Name),
@@ -17,7 +17,7 @@ pub enum NamedFluent {
 }
 
 /// The sorts of fluents.
-#[derive(Clone, Copy, PartialEq, Eq, Debug)]
+#[derive(Clone, Copy, PartialEq, Eq)]
 pub enum Sort {
     Enabling,
     Assigning,
@@ -27,21 +27,21 @@ pub enum Sort {
 }
 
 /// It sets one fluent on or off.
-#[derive(Clone, Copy, PartialEq, Eq, Debug)]
+#[derive(Clone, Copy, PartialEq, Eq)]
 pub struct NamedEvent {
     pub on: bool,
     pub fluent: NamedFluent,
 }
 
 /// A condition: the fluent is on, or it is off.
-#[derive(Clone, Copy, PartialEq, Eq, Debug)]
+#[derive(Clone, Copy, PartialEq, Eq)]
 pub struct NamedCond {
     pub on: bool,
     pub fluent: NamedFluent,
 }
 
 /// The start or the end of an activation of a role by a user.
-#[derive(Clone, Copy, PartialEq, Eq, Debug)]
+#[derive(Clone, Copy, PartialEq, Eq)]
 pub struct NamedSignal {
     pub start: bool,
     pub user: Name,
@@ -49,14 +49,14 @@ pub struct NamedSignal {
 }
 
 /// An event with its priority, 0 to 99.
-#[derive(Clone, Copy, PartialEq, Eq, Debug)]
+#[derive(Clone, Copy, PartialEq, Eq)]
 pub struct NamedHead {
     pub prio: Prio,
     pub event: NamedEvent,
 }
 
 /// An item of a trigger's body.
-#[derive(Clone, Copy, PartialEq, Eq, Debug)]
+#[derive(Clone, Copy, PartialEq, Eq)]
 pub enum Item {
     Event(NamedEvent),
     Signal(NamedSignal),

@@ -5,7 +5,7 @@ use periodic_expr::Expr;
 
 /// What an edge of the hierarchy gives: permissions to the senior (I), the junior's activation (A),
 /// or both.
-#[derive(Clone, Copy, PartialEq, Eq, Debug)]
+#[derive(Clone, Copy, PartialEq, Eq)]
 pub enum EdgeKind {
     I,
     A,
@@ -14,7 +14,7 @@ pub enum EdgeKind {
 
 /// What a cap counts: activations at once over all sessions or of one user, the minutes of one
 /// activation, or the charged minutes of a user in a civil day.
-#[derive(Clone, Copy, PartialEq, Eq, Hash, Debug)]
+#[derive(Clone, Copy, PartialEq, Eq, Hash)]
 pub enum CapKind {
     Total,
     User,
@@ -23,7 +23,7 @@ pub enum CapKind {
 }
 
 /// What a policy may have too many of.
-#[derive(Clone, Copy, PartialEq, Eq, Debug)]
+#[derive(Clone, Copy, PartialEq, Eq)]
 pub enum Kind {
     Roles,
     Users,

@@ -6,7 +6,7 @@ ghost use Rattle.policy_words.specs.Versions.{version_after};
 use crate::sayings::Said;
 
 /// The version of a text, as far as the lines before a place tell it.
-#[derive(Clone, Copy, PartialEq, Eq, Debug)]
+#[derive(Clone, Copy, PartialEq, Eq)]
 pub enum TextVersion {
     /// Only silent lines stand before: the next line may be the version's, and without one the text
     /// has version 1.

@@ -1,7 +1,7 @@
 //! How the links of a front end.
 
 /// Why a link ended.
-#[derive(Clone, Copy, PartialEq, Eq, Debug)]
+#[derive(Clone, Copy, PartialEq, Eq)]
 pub enum PollEnd {
     /// It has no bytes left.
     Ended,
@@ -21,7 +21,7 @@ pub enum PollEnd {
 
 /// What a link came to: how many entries of requests it has, how many request lines were answered
 /// by `no memory` or `no steps`, and how it ended.
-#[derive(Clone, Copy, PartialEq, Eq, Debug)]
+#[derive(Clone, Copy, PartialEq, Eq)]
 pub struct Polled {
     pub asked: u64,
     pub denied: u64,

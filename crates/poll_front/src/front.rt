@@ -24,7 +24,7 @@ use turn_lock::Pass;
 pub(crate) const MAX_OPEN: usize = 1024;
 
 /// Why a run ended.
-#[derive(Clone, Copy, PartialEq, Eq, Debug)]
+#[derive(Clone, Copy, PartialEq, Eq)]
 pub enum RunEnd {
     /// The ports have stopped.
     Stopped,

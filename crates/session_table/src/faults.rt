@@ -2,7 +2,7 @@
 use gt_base::{Memory, Refusal};
 
 /// A refusal of the request, or want of memory. After either the table is as it was.
-#[derive(Clone, Copy, PartialEq, Eq, Debug)]
+#[derive(Clone, Copy, PartialEq, Eq)]
 pub enum SessionFault {
     Refused(Refusal),
     Memory,

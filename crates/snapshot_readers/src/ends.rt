@@ -2,7 +2,7 @@
 use gt_base::List;
 
 /// Why the service of a link ended.
-#[derive(Clone, Copy, PartialEq, Eq, Debug)]
+#[derive(Clone, Copy, PartialEq, Eq)]
 pub enum ViewEnd {
     /// The link has no bytes left.
     Ended,
@@ -15,7 +15,7 @@ pub enum ViewEnd {
 }
 
 /// Why a viewer ended.
-#[derive(Clone, Copy, PartialEq, Eq, Debug)]
+#[derive(Clone, Copy, PartialEq, Eq)]
 pub enum ViewerEnd {
     /// It has not begun.
     Fresh,

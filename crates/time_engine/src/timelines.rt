@@ -28,7 +28,7 @@ use std::marker::Model;
 use std::sync::ledger::Ledger;
 
 /// Why an event was not queued. The timeline is then as it was.
-#[derive(Clone, Copy, PartialEq, Eq, Debug)]
+#[derive(Clone, Copy, PartialEq, Eq)]
 pub enum RequestFault {
     /// It would be due at this number of minutes since 2000-01-01T00:00, which is after the last
     /// instant.

@@ -40,7 +40,7 @@ impl<M: Keeps> Model for TurnLock<M> {
 const MAX_KEPT: u32 = 64;
 
 /// The pass has drawn as many turns as a pass may, which is 2^40.
-#[derive(Clone, Copy, PartialEq, Eq, Debug)]
+#[derive(Clone, Copy, PartialEq, Eq)]
 pub struct Worn {
     pub draws: u64,
 }
